@@ -1,0 +1,8 @@
+//! The prime field of P = 2^64 - 2^32 + 1, and what a system of rank-1 constraints over it means.
+//! Contracts above see a field element as a number below P, cite `Holds`, `Sat` and `Extends`, and
+//! never carry "P is prime" as a premise: it is proved here.
+#![tactic(auto)]
+
+mod field;
+
+pub use field::{F, P};
