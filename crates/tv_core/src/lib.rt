@@ -4,5 +4,7 @@
 #![tactic(auto)]
 
 mod field;
+mod prime;
 
 pub use field::{F, P};
+pub use prime::{p_cancels, p_is_prime, p_zero_product};
