@@ -1,1 +1,2 @@
 pub mod Constraints
+pub mod Examples
