@@ -1,7 +1,209 @@
+ghost use Rattle.std.specs.Prelude.{◌≡◌, ℕ, ◌+◌, ◌-◌, ◌*◌, ◌%◌, ◌<◌, ◌≤◌, ◌↔◌, IsNone, IfSome};
+ghost use Rattle.tv_core.specs.declared.field.TheConstants.{P};
+
+use std::marker::Model;
+use std::ops::{Add, Mul, Neg, Sub};
+
 /// The prime of the field, 2^64 - 2^32 + 1.
 pub const P: u64 = 18_446_744_069_414_584_321;
 
-/// A field element.
+/// A field element, an integer modulo `P`. Contracts see it as the number below `P`.
+///
+/// Every operation is exact and takes no memory. A multiplication costs one 64 by 64 bit product and
+/// a few additions, without a division.
+#[derive(Clone, Copy, PartialEq, Eq, Debug)]
 pub struct F {
     word: u64,
+}
+
+impl Model for F {
+    ghost Value = { ℕ };
+
+    ghost view = { λ f. f.word };
+
+    ghost invariant = { λ f. f.word < P };
+
+    ghost inverse = { λ n. record { word = n } };
+}
+
+impl F {
+    /// The field's 0.
+    pub const ZERO: F = F { word: 0 };
+
+    /// The field's 1.
+    pub const ONE: F = F { word: 1 };
+
+    /// The residue of a number modulo `P`.
+    pub fn of(number: u64) -> F
+        ensures { result ≡ number % P }
+    {
+        F {
+            word: if number >= P { number - P } else { number },
+        }
+    }
+
+    /// The element that a number below `P` writes; from `P` up there is none.
+    pub fn canon(number: u64) -> Option<F>
+        ensures none { IsNone result ↔ (P ≤ number) }
+        ensures some { IfSome result (λ f. f ≡ number) }
+    {
+        if number < P {
+            Some(F { word: number })
+        } else {
+            None
+        }
+    }
+
+    /// The element as a number.
+    pub fn number(self) -> u64
+        ensures same { result ≡ self }
+        ensures below { result < P }
+    {
+        self.word
+    }
+
+    /// The sum.
+    pub fn add(self, other: F) -> F
+        ensures { result ≡ (self + other) % P }
+    {
+        let (sum, carry) = self.word.overflowing_add(other.word);
+        F {
+            word: if carry || sum >= P {
+                sum.wrapping_sub(P)
+            } else {
+                sum
+            },
+        }
+    }
+
+    /// The difference.
+    pub fn sub(self, other: F) -> F
+        ensures { result ≡ (self + (P - other)) % P }
+    {
+        let (difference, borrow) = self.word.overflowing_sub(other.word);
+        F {
+            word: if borrow {
+                difference.wrapping_add(P)
+            } else {
+                difference
+            },
+        }
+    }
+
+    /// The additive inverse, 0 for 0.
+    pub fn neg(self) -> F
+        ensures { result ≡ (P - self) % P }
+    {
+        F {
+            word: if self.word == 0 { 0 } else { P - self.word },
+        }
+    }
+
+    /// The product.
+    pub fn mul(self, other: F) -> F
+        ensures { result ≡ (self * other) % P }
+    {
+        F {
+            word: residue(self.word as u128 * other.word as u128),
+        }
+    }
+}
+
+impl Add for F {
+    type Output = F;
+
+    ghost add_gives = { λ x y sum. sum ≡ (x + y) % P };
+
+    fn add(self, other: F) -> F {
+        F::add(self, other)
+    }
+}
+
+impl Sub for F {
+    type Output = F;
+
+    ghost sub_gives = { λ x y difference. difference ≡ (x + (P - y)) % P };
+
+    fn sub(self, other: F) -> F {
+        F::sub(self, other)
+    }
+}
+
+impl Mul for F {
+    type Output = F;
+
+    ghost mul_gives = { λ x y product. product ≡ (x * y) % P };
+
+    fn mul(self, other: F) -> F {
+        F::mul(self, other)
+    }
+}
+
+impl Neg for F {
+    type Output = F;
+
+    ghost neg_gives = { λ x negated. negated ≡ (P - x) % P };
+
+    fn neg(self) -> F {
+        F::neg(self)
+    }
+}
+
+// A product modulo P. Modulo P, 2^64 is 2^32 - 1, and so 2^96 is -1: with the product as
+// low + 2^64 middle + 2^96 top, in parts of 64, 32 and 32 bits, it is low - top + (2^32 - 1) middle.
+fn residue(product: u128) -> u64
+    ensures residue { result ≡ product % P }
+    ensures below { result < P }
+{
+    let low = (product % 18_446_744_073_709_551_616) as u64;
+    let high = (product >> 64) as u64;
+    let middle = high % 4_294_967_296;
+    let top = high >> 32;
+    let (difference, borrow) = low.overflowing_sub(top);
+    let start = if borrow {
+        difference.wrapping_add(P)
+    } else {
+        difference
+    };
+    let (sum, carry) = start.overflowing_add((middle << 32) - middle);
+    if carry || sum >= P {
+        sum.wrapping_sub(P)
+    } else {
+        sum
+    }
+}
+
+#[cfg(test)]
+mod tests {
+    use super::*;
+
+    // Numbers from P up write no element.
+    #[test]
+    fn reads_numbers_below_the_prime(rt: HostRuntime) {
+        assert!(rt; F::canon(P - 1) == Some(-F::ONE));
+        assert!(rt; F::canon(P).is_none());
+    }
+
+    // Products as the division of the whole product gives them.
+    #[test]
+    fn multiplies(rt: HostRuntime) {
+        let products: [(u64, u64, u64); 5] = [
+            (P - 1, P - 1, 1),
+            (P - 1, 2, 18_446_744_069_414_584_319),
+            (4_294_967_296, 4_294_967_296, 4_294_967_295),
+            (
+                9_223_372_036_854_775_808,
+                8_589_934_592,
+                18_446_744_069_414_584_320,
+            ),
+            (
+                18_364_758_544_493_064_720,
+                81_985_529_216_486_895,
+                14_965_091_924_900_821_934,
+            ),
+        ];
+        for (x, y, product) in products {
+            assert_eq!(rt; (F::of(x) * F::of(y)).number(), product, "{x} times {y}");
+        }
+    }
 }

@@ -3,6 +3,8 @@
 //! never carry "P is prime" as a premise: it is proved here.
 #![tactic(auto)]
 
+#[cfg(test)]
+mod examples;
 mod field;
 mod prime;
 
