@@ -1,3 +1,4 @@
+pub mod Euclid
 pub mod Pigeonhole
 pub mod PrimeLaws
 pub mod PrimeProof
