@@ -2,3 +2,4 @@ pub mod Outside
 pub mod Calls
 pub mod Refusals
 pub mod Whole
+pub mod MemFiles

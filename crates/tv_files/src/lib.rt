@@ -4,9 +4,12 @@
 #![tactic(auto)]
 
 mod calls;
+mod mem_files;
 mod outcome;
+mod parts;
 mod whole;
 
 pub use calls::{FileRefusal, Files};
+pub use mem_files::MemFiles;
 pub use outcome::Slurp;
 pub use whole::slurp;
