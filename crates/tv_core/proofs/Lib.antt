@@ -1,3 +1,4 @@
+pub mod Chain
 pub mod Pigeonhole
 pub mod PrimeLaws
 pub mod PrimeProof

@@ -1,3 +1,6 @@
+pub mod Circuits
+pub mod Combinations
 pub mod Constraints
 pub mod Examples
 pub mod Prime
+pub mod Sinks
