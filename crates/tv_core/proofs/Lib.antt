@@ -1,4 +1,5 @@
 pub mod Chain
+pub mod Euclid
 pub mod Pigeonhole
 pub mod PrimeLaws
 pub mod PrimeProof

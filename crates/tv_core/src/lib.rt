@@ -7,6 +7,7 @@ mod combination;
 #[cfg(test)]
 mod examples;
 mod field;
+mod inverse;
 mod prime;
 mod sink;
 mod wire;
