@@ -2,5 +2,6 @@ pub mod Circuits
 pub mod Combinations
 pub mod Constraints
 pub mod Examples
+pub mod Inverse
 pub mod Prime
 pub mod Sinks
