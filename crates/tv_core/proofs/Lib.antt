@@ -1,5 +1,6 @@
 pub mod Chain
 pub mod Euclid
+pub mod GivingChain
 pub mod InverseLaws
 pub mod Pigeonhole
 pub mod PrimeLaws

@@ -1,5 +1,5 @@
 -- Circuits: what a piece of a constraint system makes, as a function of the number of the next wire.
-use Rattle.std.specs.Prelude.{ℕ, ◌+◌, List, [], ◌∷◌, ◌++◌}
+use Rattle.std.specs.Prelude.{ℕ, zero, suc, ◌+◌, List, [], ◌∷◌, ◌++◌}
 use Rattle.tv_core.specs.Constraints.{Combination, Constraint}
 
 -- what a piece makes: its answer, its constraints in order, and the number of the next wire after it
@@ -16,11 +16,15 @@ Circuit A = ℕ → Made A
 unfoldable pub pure : {A : Type 0} → A → Circuit A
 pure answer next = record { answer = answer; list = []; next = next }
 
+-- the number of the next wire, which is not made
+unfoldable pub here : Circuit ℕ
+here next = record { answer = next; list = []; next = next }
+
 -- a new wire
 unfoldable pub fresh : Circuit ℕ
 fresh next = record { answer = next; list = []; next = next + 1 }
 
--- the constraint a * b = c
+-- the constraint that a times b is c
 unfoldable pub put : Combination → Combination → Combination → Circuit (Unit {0})
 put a b c next = record { answer = tt; list = record { a = a; b = b; c = c } ∷ []; next = next }
 
@@ -31,3 +35,8 @@ unfoldable pub ◌>>=◌ : {A B : Type 0} → Circuit A → (A → Circuit B) �
     let before = first next in
     let after = second before.answer before.next in
     record { answer = after.answer; list = before.list ++ after.list; next = after.next }
+
+-- n pieces one after another, the piece number i, from 0, taking the answer of the one before
+unfoldable pub turns : {A : Type 0} → ℕ → (ℕ → A → Circuit A) → A → Circuit A
+turns zero piece x = pure x
+turns (suc n) piece x = turns n piece x >>= piece n

@@ -10,10 +10,12 @@ mod field;
 mod inverse;
 mod prime;
 mod sink;
+mod values;
 mod wire;
 
 pub use combination::{Lc, TERMS};
 pub use field::{F, P};
 pub use prime::{p_cancels, p_is_prime, p_zero_product};
 pub use sink::{Put, Sink, SinkFault};
+pub use values::{Values, give_values};
 pub use wire::Wire;

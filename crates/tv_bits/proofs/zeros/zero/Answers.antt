@@ -18,7 +18,7 @@ returns-in_err-put-clause-puts g c =
 
 pub returns-in_err-put-2-clause-puts : goal.returns-in_err-put-2-clause-puts
 unfolding zero_of
-returns-in_err-put-2-clause-puts g c = 
+returns-in_err-put-2-clause-puts g c =
     let first = rw (c.wire.ensures, c.one_less.ensures) at c.in_ok-put.ensures.puts in
     let second = rw (c.wire-2.ensures, c.empty.ensures) at c.in_err-put-2.ensures.puts in
     refused g.S.Sink.meaning _ _ _ c.from_residual-in_err-put-2.result c.from_residual-in_err-put-2.ensures.1 (search (chain, c.fresh-flag.ensures.puts, c.fresh-hint.ensures.puts, first, second))
