@@ -3,4 +3,4 @@
 
 mod zeros;
 
-pub use zeros::zero;
+pub use zeros::{fill_zero, zero, zero_is_complete, zero_is_sound};

@@ -2,7 +2,7 @@ ghost use Rattle.std.specs.Prelude.{◌≡◌, ◌-◌, ◌≤◌, ◌<◌, [], 
 ghost use Rattle.tv_core.specs.Combinations.{top, wire};
 ghost use Rattle.tv_core.specs.Sinks.{PutsIn, Grows, Room};
 ghost use Rattle.tv_core.specs.Giving.{GivesIn};
-ghost use Rattle.tv_bits.specs.Zero.{one_less, zero_of, zero_values};
+ghost use Rattle.tv_bits.specs.Zero.{one_less, zero_of, zero_values, ZeroIsSound, ZeroIsComplete};
 
 use tv_core::{F, Lc, Put, Sink, Values, Wire, give_values};
 
@@ -39,7 +39,6 @@ pub fn fill_zero<V: Values>(v: &mut V, x: F) -> Put<()>
     give_values(v, &zero_values(x))
 }
 
-#[tactic(auto, using(tv_core::proofs::InverseLaws::inverse_of_zero))]
 fn zero_values(x: F) -> [F; 2]
     ensures { result ≡ zero_values x }
 {
@@ -48,3 +47,15 @@ fn zero_values(x: F) -> [F; 2]
         None => [F::ONE, F::ZERO],
     }
 }
+
+/// Where an assignment meets what `zero` put, its flag is right.
+#[tactic(auto, using(crate::proofs::ZeroLaws::zero_sound))]
+pub fn zero_is_sound()
+    ensures { ZeroIsSound }
+{}
+
+/// Where an assignment has the values that `fill_zero` gives, it meets what `zero` put.
+#[tactic(auto, using(crate::proofs::ZeroLaws::zero_complete))]
+pub fn zero_is_complete()
+    ensures { ZeroIsComplete }
+{}

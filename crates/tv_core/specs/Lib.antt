@@ -4,5 +4,6 @@ pub mod Constraints
 pub mod Examples
 pub mod Giving
 pub mod Inverse
+pub mod Laws
 pub mod Prime
 pub mod Sinks
