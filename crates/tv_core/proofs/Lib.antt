@@ -1,5 +1,9 @@
+pub mod Chain
+pub mod CombinationLaws
 pub mod Euclid
+pub mod GivingChain
 pub mod InverseLaws
+pub mod Meeting
 pub mod Pigeonhole
 pub mod PrimeLaws
 pub mod PrimeProof

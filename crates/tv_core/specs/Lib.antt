@@ -1,4 +1,9 @@
+pub mod Circuits
+pub mod Combinations
 pub mod Constraints
 pub mod Examples
+pub mod Giving
 pub mod Inverse
+pub mod Laws
 pub mod Prime
+pub mod Sinks

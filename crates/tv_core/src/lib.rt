@@ -3,11 +3,19 @@
 //! never carry "P is prime" as a premise: it is proved here.
 #![tactic(auto)]
 
+mod combination;
 #[cfg(test)]
 mod examples;
 mod field;
 mod inverse;
 mod prime;
+mod sink;
+mod values;
+mod wire;
 
+pub use combination::{Lc, TERMS};
 pub use field::{F, P};
 pub use prime::{p_cancels, p_is_prime, p_zero_product};
+pub use sink::{Put, Sink, SinkFault};
+pub use values::{Values, give_values};
+pub use wire::Wire;

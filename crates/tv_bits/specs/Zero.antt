@@ -1,0 +1,39 @@
+-- Whether a combination is 0.
+use Rattle.std.specs.Prelude.{◌≡◌, ℕ, ◌-◌, ◌==◌, if◌then◌else◌, List, [], ◌∷◌, slice_index}
+use Rattle.tv_core.specs.Constraints.{Combination, value}
+use Rattle.tv_core.specs.Combinations.{wire}
+use Rattle.tv_core.specs.Circuits.{Circuit, fresh, put, pure, ◌>>=◌}
+use Rattle.tv_core.specs.Inverse.{inverse_of}
+use Rattle.tv_core.specs.Laws.{Assigns, Meets, HasFrom}
+use Rattle.tv_core.specs.declared.field.TheConstants.{P}
+
+-- 1 for 0, and 0 for any other number
+abbrev pub zero_flag : ℕ → ℕ
+zero_flag x = if x == 0 then 1 else 0
+
+-- 1 less a wire
+abbrev pub one_less : ℕ → Combination
+one_less w = (1, 0) ∷ (P - 1, w) ∷ []
+
+-- a wire that is 1 where x is 0, and else 0: x times a hint is 1 less the flag, and x times the flag is 0
+unfoldable pub zero_of : Combination → Circuit ℕ
+zero_of x = do
+  flag ← fresh
+  hint ← fresh
+  _ ← put x (wire hint) (one_less flag)
+  _ ← put x (wire flag) []
+  pure flag
+
+-- the values of the wires that are made: the flag, and as hint the inverse of x, or 0
+abbrev pub zero_values : ℕ → List ℕ
+zero_values x = zero_flag x ∷ inverse_of x ∷ []
+
+-- an assignment that meets what was put has the flag at the wire that was answered
+abbrev pub ZeroIsSound : Type 0
+ZeroIsSound = (z : List ℕ) (next : ℕ) (x : Combination) → Assigns z → Meets z (zero_of x next).list
+    → slice_index z (zero_of x next).answer ≡ zero_flag (value x z)
+
+-- an assignment that has these values at the wires that were made meets what was put
+abbrev pub ZeroIsComplete : Type 0
+ZeroIsComplete = (z : List ℕ) (next : ℕ) (x : Combination) → Assigns z → HasFrom z next (zero_values (value x z))
+    → Meets z (zero_of x next).list

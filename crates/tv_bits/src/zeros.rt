@@ -1,0 +1,61 @@
+ghost use Rattle.std.specs.Prelude.{◌≡◌, ◌-◌, ◌≤◌, ◌<◌, [], ◌∷◌, false, IfOk, OnOk};
+ghost use Rattle.tv_core.specs.Combinations.{top, wire};
+ghost use Rattle.tv_core.specs.Sinks.{PutsIn, Grows, Room};
+ghost use Rattle.tv_core.specs.Giving.{GivesIn};
+ghost use Rattle.tv_bits.specs.Zero.{one_less, zero_of, zero_values, ZeroIsSound, ZeroIsComplete};
+
+use tv_core::{F, Lc, Put, Sink, Values, Wire, give_values};
+
+// 1 less a wire.
+fn one_less(w: Wire) -> Lc
+    ensures { result ≡ one_less w }
+{
+    let mut lc = Lc::constant(F::ONE);
+    lc.plus(F::ONE.neg(), w);
+    lc
+}
+
+/// A wire that is 1 exactly where `x` is 0, and else 0. It makes 2 wires and 2 constraints.
+pub fn zero<S: Sink>(s: &mut S, x: &Lc) -> Put<Wire>
+    requires room { Room S.meaning s.old 2 2 }
+    requires x_made { top x.now ≤ S.meaning.wires s.old }
+    ensures puts { PutsIn S.meaning s.old s.new (zero_of x.now) result }
+    ensures grows { IfOk result (λ _. Grows S.meaning s.old s.new 2 2) }
+    ensures below { IfOk result (λ flag. flag < S.meaning.wires s.new) }
+{
+    let flag = s.fresh();
+    let hint = s.fresh();
+    s.put(x, &Lc::wire(hint), &one_less(flag))?;
+    s.put(x, &Lc::wire(flag), &Lc::empty())?;
+    Ok(flag)
+}
+
+/// Gives the values of the wires that `zero` makes, `x` being that of its combination.
+pub fn fill_zero<V: Values>(v: &mut V, x: F) -> Put<()>
+    requires { V.giving.broken v.old ≡ false }
+    ensures gives { GivesIn V.giving v.old v.new (zero_values x) result }
+    ensures whole { OnOk result (V.giving.broken v.new ≡ false) }
+{
+    give_values(v, &zero_values(x))
+}
+
+fn zero_values(x: F) -> [F; 2]
+    ensures { result ≡ zero_values x }
+{
+    match x.inv() {
+        Some(inverse) => [F::ZERO, inverse],
+        None => [F::ONE, F::ZERO],
+    }
+}
+
+/// Where an assignment meets what `zero` put, its flag is right.
+#[tactic(auto, using(crate::proofs::ZeroLaws::zero_sound))]
+pub fn zero_is_sound()
+    ensures { ZeroIsSound }
+{}
+
+/// Where an assignment has the values that `fill_zero` gives, it meets what `zero` put.
+#[tactic(auto, using(crate::proofs::ZeroLaws::zero_complete))]
+pub fn zero_is_complete()
+    ensures { ZeroIsComplete }
+{}

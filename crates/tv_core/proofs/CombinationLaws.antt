@@ -1,0 +1,56 @@
+-- The values of combinations, and what an assignment has at a wire.
+use Rattle.std.proofs.Common.{◌≡◌, ℕ, zero, suc, ◌+◌, ◌-◌, ◌*◌, ◌%◌, ◌<◌, ◌≤◌, List, [], ◌∷◌, ◌++◌, All, Some, map, sum_by, length, slice_get, get_or, inl, inr, refl, sym, ◌∙◌, ap, ap₂, arith, mod-lt, one-mul, mul-one, add-zero, zero-add, mod-eq_of_lt}
+use Rattle.std.specs.Prelude.{slice_index}
+use Rattle.std.proofs.Math.Nat.{add-mod, mod-mod, mod-add-mod, add-mod-mod, mul_assoc}
+use Rattle.std.proofs.lemmas.Bool.{cases_lt}
+use Rattle.std.proofs.lemmas.List.{get_or_past}
+use Rattle.std.proofs.lemmas.List.Elements.{All-get_or, recursion_from_All}
+use Rattle.std.proofs.lemmas.List.Sums.{sum_by-cons, sum_by-append}
+use Rattle.std.proofs.lemmas.Nat.{mul-mod_first, mul-mod_second}
+use Rattle.tv_core.proofs.Residues.{sum_by-mod_same, sum_by-mul, sum_by-map}
+use Rattle.tv_core.specs.Constraints.{Combination, value, System, Sat, Holds}
+use Rattle.tv_core.specs.Combinations.{wire, constant, scaled, top}
+use Rattle.tv_core.specs.Laws.{Assigns, Meets}
+use Rattle.tv_core.specs.declared.field.TheConstants.{P}
+
+pub value-below : (x : Combination) (z : List ℕ) → value x z < P
+value-below x z = mod-lt _ (omega arith)
+
+pub value-append : (x y : Combination) (z : List ℕ) → value (x ++ y) z ≡ (value x z + value y z) % P
+value-append x y z = ap (λ n. n % P) (sum_by-append (λ t. t.0 * slice_index z t.1) x y) ∙ add-mod _ _ P
+
+pub value-cons : (c w : ℕ) (x : Combination) (z : List ℕ) → value ((c, w) ∷ x) z ≡ (c * slice_index z w + value x z) % P
+value-cons c w x z = ap (λ n. n % P) (sum_by-cons (λ t. t.0 * slice_index z t.1) (c, w) x) ∙ sym (add-mod-mod _ _ P)
+
+pub value-scaled : (k : ℕ) (x : Combination) (z : List ℕ) → value (scaled k x) z ≡ k * value x z % P
+value-scaled k x z =
+    let term : (ℕ × ℕ) → ℕ = λ t. t.0 * slice_index z t.1 in
+    let each : (t : ℕ × ℕ) → (k * t.0 % P) * slice_index z t.1 % P ≡ k * term t % P = λ t. mul-mod_first (k * t.0) (slice_index z t.1) P ∙ ap (λ n. n % P) (mul_assoc k t.0 (slice_index z t.1)) in
+    ap (λ n. n % P) (sum_by-map term (λ t. (k * t.0 % P, t.1)) x)
+    ∙ sum_by-mod_same (λ t. (k * t.0 % P) * slice_index z t.1) (λ t. k * term t) P x each
+    ∙ ap (λ n. n % P) (sum_by-mul k term x)
+    ∙ sym (mul-mod_second k _ P)
+
+module _ {z : List ℕ} (assigns : Assigns z) where
+  pub wire-below : (w : ℕ) → slice_index z w < P
+  wire-below w = elim (cases_lt w (length z)) [ inl within ↦ All-get_or (λ v. v < P) z w 0 within assigns.below | inr past ↦ omega (arith, get_or_past z w 0 past) ]
+
+  pub value-wire : (w : ℕ) → value (wire w) z ≡ slice_index z w
+  value-wire w = let small = wire-below w in omega arith
+
+  pub value-constant : (c : ℕ) → value (constant c) z ≡ c % P
+  value-constant c = rw (assigns.one) (ap (λ n. n % P) (omega arith))
+
+pub value-empty : (z : List ℕ) → value [] z ≡ 0
+value-empty z = refl
+
+-- a system's satisfying assignment is one
+slice_index_first : (z : List ℕ) → slice_get z 0 ≡ Some 1 → slice_index z 0 ≡ 1
+slice_index_first [] e = cc
+slice_index_first (v ∷ z) e = cc
+
+pub Assigns-from_Sat : (system : System) (z : List ℕ) → Sat system z → Assigns z
+Assigns-from_Sat system z sat = record { below = sat.below; one = slice_index_first z sat.one }
+
+pub Meets-from_Sat : (system : System) (z : List ℕ) → Sat system z → Meets z system.constraints
+Meets-from_Sat system z sat = recursion_from_All _ system.constraints sat.holds

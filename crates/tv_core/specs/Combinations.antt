@@ -1,0 +1,21 @@
+-- Words on combinations.
+use Rattle.std.specs.Prelude.{ℕ, ◌+◌, ◌*◌, ◌%◌, List, [], ◌∷◌, ◌++◌, max, map}
+use Rattle.tv_core.specs.Constraints.{Combination}
+use Rattle.tv_core.specs.declared.field.TheConstants.{P}
+
+-- one wire, once
+abbrev pub wire : ℕ → Combination
+wire w = (1, w) ∷ []
+
+-- a number, as a multiple of the constant wire
+abbrev pub constant : ℕ → Combination
+constant c = (c, 0) ∷ []
+
+-- each coefficient of x, k times
+abbrev pub scaled : ℕ → Combination → Combination
+scaled k x = map (λ t. (k * t.0 % P, t.1)) x
+
+-- one more than the greatest wire of x, and 0 where x has no term
+abbrev pub top : Combination → ℕ
+top [] = 0
+top (t ∷ rest) = max (t.1 + 1) (top rest)

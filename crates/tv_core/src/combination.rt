@@ -1,0 +1,74 @@
+ghost use Rattle.std.specs.Prelude.{◌≡◌, ℕ, ◌+◌, ◌*◌, ◌%◌, ◌<◌, ◌≤◌, List, [], ◌∷◌, ◌++◌, length, max, map};
+ghost use Rattle.tv_core.specs.Constraints.{value};
+ghost use Rattle.tv_core.specs.Combinations.{wire, constant, scaled, top};
+ghost use Rattle.arrayvec.specs.ArrayVec.{array_vec_len};
+
+use crate::field::F;
+use crate::wire::Wire;
+use arrayvec::ArrayVec;
+use std::marker::Model;
+
+/// The most terms that an `Lc` has room for.
+pub const TERMS: usize = 128;
+
+/// A linear combination of wires. Contracts see it as the list of its terms, each a coefficient and
+/// a wire, of which it has at most `TERMS`.
+///
+/// It lies in the value itself, about 2 KB: lend it, and make it where it is used.
+#[derive(Drop)]
+pub struct Lc {
+    terms: ArrayVec<(F, Wire), TERMS>,
+}
+
+impl Model for Lc {
+    ghost Value = { List (ℕ × ℕ) };
+
+    ghost view = { λ l. l.terms.items };
+
+    ghost invariant = { λ l. length l.terms.items ≤ 128 };
+}
+
+impl Lc {
+    /// The combination without terms.
+    pub fn empty() -> Lc
+        ensures { result ≡ [] }
+    {
+        Lc {
+            terms: ArrayVec::new(),
+        }
+    }
+
+    /// A number, as that multiple of the constant wire.
+    pub fn constant(number: F) -> Lc
+        ensures { result ≡ constant number }
+    {
+        let mut lc = Lc::empty();
+        lc.plus(number, Wire(0));
+        lc
+    }
+
+    /// One wire.
+    pub fn wire(wire: Wire) -> Lc
+        ensures { result ≡ (1, wire) ∷ [] }
+    {
+        let mut lc = Lc::empty();
+        lc.plus(F::ONE, wire);
+        lc
+    }
+
+    /// Appends a term.
+    pub fn plus(&mut self, coefficient: F, wire: Wire)
+        requires { length self.old < 128 }
+        ensures { self.new ≡ self.old ++ (coefficient, wire) ∷ [] }
+    {
+        self.terms.push((coefficient, wire));
+    }
+
+    /// The terms, in order.
+    pub fn terms(&self) -> &[(F, Wire)]
+        ensures terms { result.now ≡ self.now }
+        ensures fits { length result.now ≤ 128 }
+    {
+        self.terms.as_slice()
+    }
+}

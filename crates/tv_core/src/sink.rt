@@ -1,0 +1,62 @@
+ghost use Rattle.std.specs.Prelude.{◌≡◌, ℕ, ◌-◌, ◌^◌, ◌<◌, ◌≤◌, IfOk, false, List, length};
+ghost use Rattle.tv_core.specs.Constraints.{Constraint};
+ghost use Rattle.tv_core.specs.Combinations.{top};
+ghost use Rattle.tv_core.specs.Circuits.{fresh, put};
+
+use crate::combination::Lc;
+use crate::wire::Wire;
+use thiserror::Error;
+
+/// Why a sink, or a taker of values, refused.
+#[derive(Clone, Copy, PartialEq, Eq, Debug, Error)]
+pub enum SinkFault {
+    /// What it writes to failed.
+    #[error("the writing failed")]
+    Failed,
+    /// Memory ran out.
+    #[error("out of memory")]
+    Memory,
+}
+
+/// What a call answers that puts constraints, or gives values.
+pub type Put<T> = Result<T, SinkFault>;
+
+/// Takes the wires and constraints of a system, in order.
+///
+/// A sink stands for the list of constraints that were put into it. A refusal breaks it: it stands for
+/// no list any more, what it has tried is known, and no further call is made on it.
+pub trait Sink {
+    ghost use Rattle.tv_core.specs.Sinks.{Meaning, PutsAll, PutsIn, Grows, Quiet};
+
+    ghost meaning: { Meaning Self };
+
+    /// The number of the next wire.
+    fn wires(&self) -> u32
+        ensures { result ≡ meaning.wires self.now };
+
+    /// A new wire, which has the next number.
+    fn fresh(&mut self) -> Wire
+        requires whole { meaning.broken self.old ≡ false }
+        requires room { meaning.wires self.old < 2 ^ 32 - 1 }
+        ensures next { result ≡ meaning.wires self.old }
+        ensures puts { PutsAll meaning self.old self.new fresh result }
+        ensures grows { Grows meaning self.old self.new 1 0 }
+        ensures quiet { Quiet meaning self.old self.new };
+
+    /// Appends the constraint that `a` times `b` is `c`. It refuses by `Failed` only where its count
+    /// of faults rose, and by `Memory` only where its count of wants rose.
+    fn put(&mut self, a: &Lc, b: &Lc, c: &Lc) -> Put<()>
+        requires whole { meaning.broken self.old ≡ false }
+        requires room { meaning.constraints self.old < 2 ^ 32 - 1 }
+        requires a_made { top a.now ≤ meaning.wires self.old }
+        requires b_made { top b.now ≤ meaning.wires self.old }
+        requires c_made { top c.now ≤ meaning.wires self.old }
+        ensures puts { PutsIn meaning self.old self.new (put a.now b.now c.now) result }
+        ensures grows { IfOk result (λ _. Grows meaning self.old self.new 0 1) };
+
+    // the list has as many constraints as were put
+    ghost counted: { (sink : Self) (list : List Constraint) → meaning.stands sink list → meaning.constraints sink ≡ length list };
+
+    // a broken sink stands for no list
+    ghost unbroken: { (sink : Self) (list : List Constraint) → meaning.stands sink list → meaning.broken sink ≡ false };
+}
