@@ -1,5 +1,5 @@
 -- A map from names to bytes, after a change at one name.
-use Rattle.std.proofs.Common.{◌≡◌, ◌≢◌, ◌⊎◌, inl, inr, ℕ, ◌/◌, List, [], ◌++◌, length, take, Result, Ok, Err, OnOk, OnErr, IsTrue, append-nil, Option, Some, None, option_map, Vec, String, Bool, true, false, cond, ap, sym, refl, ◌∙◌}
+use Rattle.std.proofs.Common.{◌≡◌, ◌≢◌, ◌⊎◌, inl, inr, ℕ, ◌/◌, List, [], ◌++◌, length, take, IsTrue, append-nil, Option, Some, None, option_map, Vec, String, Bool, true, false, cond, ap, sym, refl, ◌∙◌}
 use Rattle.std.specs.BTreeMap.{BTreeMap, UpdatesBy, get_by_text}
 use Rattle.std.specs.Cmp.Lexicographic.{slice_cmp}
 use Rattle.std.specs.Global.{Global}
@@ -58,12 +58,3 @@ found_is_there name m had files found told gone =
     let here : names_in m name ≡ Some had.items = ap (option_map (λ bytes. bytes.items)) found in
     let missing : names_in m name ≡ None = ap (λ names. names name) same ∙ gone in
     cc
-
--- what follows in one case of a result
-pub OnErr-map : {T E P Q : Type 0} (result : Result T E) → (P → Q) → OnErr result P → OnErr result Q
-OnErr-map (Ok _) f h = tt
-OnErr-map (Err _) f h = f h
-
-pub OnOk-map : {T E P Q : Type 0} (result : Result T E) → (P → Q) → OnOk result P → OnOk result Q
-OnOk-map (Ok _) f h = f h
-OnOk-map (Err _) f h = tt

@@ -58,3 +58,10 @@ pub record OnlyReads (old new : Outside) : Type 0 where
   pub contents : new.contents ≡ old.contents
   pub said : new.said ≡ old.said
   pub later : NoneFell old new
+
+-- what writers do to the outside, but for its files: words said stay, no count fell, and where contents
+-- are told no name was missed
+pub record OnlyWrites (old new : Outside) : Type 0 where
+  pub said : new.said ≡ old.said
+  pub absent : Told old (λ _. new.absent ≡ old.absent)
+  pub later : NoneFell old new

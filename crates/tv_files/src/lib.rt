@@ -12,4 +12,4 @@ mod whole;
 pub use calls::{FileRefusal, Files};
 pub use mem_files::MemFiles;
 pub use outcome::Slurp;
-pub use whole::slurp;
+pub use whole::{slurp, write_file};

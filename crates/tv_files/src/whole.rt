@@ -1,9 +1,9 @@
 //! Whole files, over any `Files`: read into memory, or written from it.
-ghost use Rattle.std.specs.Prelude.{◌≡◌, ℕ, ◌≤◌, length, Some, IfOk, OnOk};
-ghost use Rattle.tv_files.specs.Outside.{OnlyReads, SameCounts, Told, MissesOnly, Rose};
-ghost use Rattle.tv_files.specs.Whole.{IsLonger};
+ghost use Rattle.std.specs.Prelude.{◌≡◌, ℕ, ◌≤◌, length, Some, IfOk, OnOk, OnErr};
+ghost use Rattle.tv_files.specs.Outside.{OnlyReads, OnlyWrites, SameCounts, Told, MissesOnly, Rose};
+ghost use Rattle.tv_files.specs.Whole.{IsLonger, HasBytes, HasPart};
 
-use crate::calls::Files;
+use crate::calls::{FileRefusal, Files};
 use crate::outcome::Slurp;
 use std::alloc::Global;
 
@@ -45,4 +45,33 @@ pub fn slurp<D: Files>(
         }
         contents.extend_from_slice(&piece[..count])?;
     }
+}
+
+/// Makes the name stand for these bytes: creates it, then appends pieces of 4,096 bytes and one
+/// shorter last piece, and none for no bytes.
+///
+/// After a refusal the name is as it was, or has a first part of the bytes. Nothing else outside is
+/// changed but the counts, and `absent` is not.
+pub fn write_file<D: Files>(files: &mut D, name: &str, bytes: &[u8]) -> Result<(), FileRefusal>
+    ensures whole {
+        OnOk result (HasBytes (D.seen files.old) (D.seen files.new) name.now bytes.now)
+    }
+    ensures part {
+        OnErr result (HasPart (D.seen files.old) (D.seen files.new) name.now bytes.now)
+    }
+    ensures failed {
+        result ≡ Err FileRefusal.Failed →
+            Rose (D.seen files.old).write_faults (D.seen files.new).write_faults
+    }
+    ensures memory {
+        result ≡ Err FileRefusal.Memory → Rose (D.seen files.old).wants (D.seen files.new).wants
+    }
+    ensures only { OnlyWrites (D.seen files.old) (D.seen files.new) }
+    ensures counts { OnOk result (SameCounts (D.seen files.old) (D.seen files.new)) }
+{
+    files.create(name)?;
+    for piece in bytes.chunks(PIECE) {
+        files.append(name, piece)?;
+    }
+    Ok(())
 }

@@ -1,7 +1,8 @@
 use Rattle.std.proofs.Common.{◌≡◌, Some, ap, sym, refl, inl, rules}
 use Rattle.std.specs.BTreeMap.{get_by_text}
 use Rattle.tv_files.specs.MemFiles.{is_due}
-use Rattle.tv_files.proofs.Kept.{Updates, names_in-more, names_in-refused, prefix_added, found_is_there, OnErr-map, OnOk-map}
+use Rattle.tv_files.proofs.Kept.{Updates, names_in-more, names_in-refused, prefix_added, found_is_there}
+use Rattle.tv_files.proofs.Cases.{OnErr-map, OnOk-map}
 use Rattle.tv_files.proofs.mem_files.MemFilesFiles.append.Goals as goal
 
 pub returns-in-Some-clause-appends : goal.returns-in-Some-clause-appends
