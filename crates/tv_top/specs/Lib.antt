@@ -1,0 +1,5 @@
+pub mod Reading
+pub mod PlainSystem
+pub mod PlainWitness
+pub mod PlainTape
+pub mod Verdict

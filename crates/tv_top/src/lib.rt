@@ -1,0 +1,2 @@
+//! The command line as one function over words and files.
+#![tactic(auto)]
