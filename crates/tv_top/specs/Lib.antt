@@ -3,3 +3,4 @@ pub mod PlainSystem
 pub mod PlainWitness
 pub mod PlainTape
 pub mod Verdict
+pub mod Tried

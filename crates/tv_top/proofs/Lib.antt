@@ -1,0 +1,4 @@
+pub mod Chain
+pub mod Terms
+pub mod Rows
+pub mod System
