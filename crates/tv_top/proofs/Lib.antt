@@ -1,4 +1,5 @@
 pub mod Chain
+pub mod Each
 pub mod Terms
 pub mod Rows
 pub mod System

@@ -16,6 +16,14 @@ Reads view (Some x) read = read ≡ Some (view x)
 abbrev pub given : Bool → Option (Unit {0})
 given test = if test then Some tt else None
 
+-- what reading each of a list gives, where there is something at each
+unfoldable pub each : {A B : Type 0} → (A → Option B) → List A → Option (List B)
+each read [] = Some []
+each read (x ∷ xs) = do
+  first ← read x
+  others ← each read xs
+  Some (first ∷ others)
+
 -- the next bytes, so many of them
 abbrev pub bytes_at : ℕ → List ℕ → Option (List ℕ × List ℕ)
 bytes_at size bytes = if nat_le size (length bytes) then Some (take size bytes, drop size bytes) else None

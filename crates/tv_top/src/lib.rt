@@ -3,5 +3,6 @@
 
 mod constraints;
 mod plain_system;
+mod plain_witness;
 mod reading;
 mod verdict;
