@@ -3,6 +3,7 @@
 
 mod constraints;
 mod plain_system;
+mod plain_tape;
 mod plain_witness;
 mod reading;
 mod verdict;
