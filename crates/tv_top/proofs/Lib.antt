@@ -1,4 +1,5 @@
 pub mod Chain
+pub mod Difference
 pub mod Each
 pub mod Tape
 pub mod Terms

@@ -6,7 +6,7 @@ ghost use Rattle.tv_top.specs.PlainSystem.{header_of, system_of};
 use crate::constraints::first_failing;
 use crate::reading::{take_front, take_section, take_u32, take_u64};
 use std::marker::Model;
-use tv_core::P;
+use tv_core::{F, P};
 
 /// The text `r1cs`.
 const MAGIC: u32 = 0x7363_3172;
@@ -37,6 +37,33 @@ impl<'a> Model for PlainSystem<'a> {
     ghost view = { λ s. system_with s.header s.rows.now };
 
     ghost invariant = { λ s. IsRoomy s.header × IsSome (constraints_of s.header.wires s.header.constraints s.rows.now) };
+}
+
+impl PlainSystem<'_> {
+    ghost use Rattle.std.specs.Prelude.{◌+◌, ◌≤◌};
+    ghost use Rattle.tv_top.specs.Verdict.{first_failing};
+
+    /// How many wires there are.
+    pub(crate) fn wires(&self) -> u64
+        ensures { result ≡ self.now.wires }
+    {
+        u64::from(self.header.wires)
+    }
+
+    /// How many wires have the constant 1 or a public number.
+    pub(crate) fn public_wires(&self) -> usize
+        ensures count { result ≡ 1 + self.now.outputs + self.now.inputs }
+        ensures room { result ≤ self.now.wires }
+    {
+        1 + self.header.outputs as usize + self.header.inputs as usize
+    }
+
+    /// The place of the first constraint that fails under the assignment.
+    pub(crate) fn first_failing(&self, z: &[F]) -> Option<u64>
+        ensures { result ≡ first_failing z.now self.now.constraints }
+    {
+        first_failing(self.header.wires, self.header.constraints, self.rows, z).flatten()
+    }
 }
 
 #[tactic(auto, unfolding(crate::specs::PlainSystem::header_of))]
