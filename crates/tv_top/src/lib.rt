@@ -1,0 +1,9 @@
+//! The command line as one function over words and files.
+#![tactic(auto)]
+
+mod constraints;
+mod plain_system;
+mod plain_tape;
+mod plain_witness;
+mod reading;
+mod verdict;
