@@ -8,4 +8,5 @@ pub mod Pigeonhole
 pub mod PrimeLaws
 pub mod PrimeProof
 pub mod Residues
+pub mod RowLaws
 pub mod Testing

@@ -7,4 +7,5 @@ pub mod Inverse
 pub mod Laws
 pub mod Meanings
 pub mod Prime
+pub mod Rows
 pub mod Sinks
