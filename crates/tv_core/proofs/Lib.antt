@@ -3,6 +3,7 @@ pub mod CombinationLaws
 pub mod Euclid
 pub mod GivingChain
 pub mod InverseLaws
+pub mod LineLaws
 pub mod Meeting
 pub mod Pigeonhole
 pub mod PrimeLaws

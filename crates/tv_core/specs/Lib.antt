@@ -5,6 +5,7 @@ pub mod Examples
 pub mod Giving
 pub mod Inverse
 pub mod Laws
+pub mod Lines
 pub mod Meanings
 pub mod Prime
 pub mod Rows
