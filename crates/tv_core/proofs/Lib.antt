@@ -3,8 +3,11 @@ pub mod CombinationLaws
 pub mod Euclid
 pub mod GivingChain
 pub mod InverseLaws
+pub mod LineLaws
 pub mod Meeting
 pub mod Pigeonhole
 pub mod PrimeLaws
 pub mod PrimeProof
 pub mod Residues
+pub mod RowLaws
+pub mod Testing

@@ -5,5 +5,8 @@ pub mod Examples
 pub mod Giving
 pub mod Inverse
 pub mod Laws
+pub mod Lines
+pub mod Meanings
 pub mod Prime
+pub mod Rows
 pub mod Sinks
