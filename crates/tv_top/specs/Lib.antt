@@ -4,3 +4,4 @@ pub mod PlainWitness
 pub mod PlainTape
 pub mod Verdict
 pub mod Tried
+pub mod Meaning

@@ -2,8 +2,11 @@
 #![tactic(auto)]
 
 mod constraints;
+mod meaning;
 mod plain_system;
 mod plain_tape;
 mod plain_witness;
 mod reading;
+#[cfg(test)]
+mod tests;
 mod verdict;
