@@ -3,3 +3,7 @@ pub mod PlainSystem
 pub mod PlainWitness
 pub mod PlainTape
 pub mod Verdict
+pub mod Codes
+pub mod Outcome
+pub mod Ends
+pub mod Claims

@@ -1,2 +1,8 @@
-//! The command line as one function over words and files.
+//! The command line as one function: `command` takes the words and the files, answers a status, and has
+//! said its line. Its contract is the program's promise; the binary only calls it.
 #![tactic(auto)]
+
+mod status;
+mod verdict;
+
+pub use status::{NoWhy, Status};

@@ -1,0 +1,53 @@
+-- How a call of the command may end, given the answer that its words and files call for.
+use Rattle.std.specs.Prelude.{◌≡◌, ℕ, ◌≤◌, ◌<◌, ◌⊎◌, List, [], ◌∷◌, ◌++◌, length, take, Option, Some, None, option_map, slice_get}
+use Rattle.tv_files.specs.Outside.{Names, Outside, with_bytes}
+use Rattle.tv_top.specs.declared.status.Status.{Status}
+use Rattle.tv_top.specs.declared.status.Status.TheVariants.{Done, No, Usage, NotPlain, FileFault, Memory}
+use Rattle.tv_top.specs.Outcome.{Write, Answer}
+
+-- the files once these were written
+abbrev pub written : List Write → Names → Names
+written [] files = files
+written (w ∷ ws) files = written ws (with_bytes w.name w.bytes files)
+
+-- the bytes were added to what is said
+abbrev pub Added : Outside → Outside → List ℕ → Type 0
+Added old new bytes = new.said ≡ option_map (λ said. said ++ bytes) old.said
+
+abbrev pub Said : Outside → Outside → Option (List ℕ) → Type 0
+Said old new None = new.said ≡ old.said
+Said old new (Some bytes) = Added old new bytes
+
+-- the answer happened whole
+pub record IsAnswered (answer : Answer) (files : Names) (old new : Outside) (result : Status) : Type 0 where
+  pub status : result ≡ answer.status
+  pub contents : new.contents ≡ Some (written answer.writes files)
+  pub said : Said old new answer.says
+
+-- nothing outside has changed
+pub record IsUntouched (old new : Outside) : Type 0 where
+  pub contents : new.contents ≡ old.contents
+  pub said : new.said ≡ old.said
+
+-- all was written, and a prefix of the line was said
+pub record IsCutInSaying (answer : Answer) (files : Names) (old new : Outside) : Type 0 where
+  pub contents : new.contents ≡ Some (written answer.writes files)
+  pub said : (line : List ℕ) × (n : ℕ) × (answer.says ≡ Some line) × Added old new (take n line)
+
+-- how far into the words a refusal has looked
+abbrev pub reach : Status → ℕ
+reach Done = 3
+reach (No _) = 3
+reach Usage = 0
+reach (NotPlain word) = word
+reach (FileFault word) = word
+reach Memory = 0
+
+-- The call ended as the answer says, or by a fault of a file that the answer looked at or of saying its
+-- line, or by want of memory; a fault and want of memory leave no more than a prefix.
+abbrev pub Ends : Answer → ℕ → Names → Outside → Outside → Status → Type 0
+Ends answer words files old new result =
+    IsAnswered answer files old new result
+    ⊎ ((word : ℕ) × (result ≡ FileFault word) × (0 < word) × (word ≤ reach answer.status) × IsUntouched old new)
+    ⊎ ((result ≡ FileFault words) × IsCutInSaying answer files old new)
+    ⊎ ((result ≡ Memory) × (IsUntouched old new ⊎ IsCutInSaying answer files old new))
