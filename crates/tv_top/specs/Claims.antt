@@ -1,5 +1,5 @@
 -- What the command promises, in the words of its user.
-use Rattle.std.specs.Prelude.{◌≡◌, ¬, ℕ, ◌+◌, ◌<◌, ◌≤◌, List, ◌∷◌, length, take, Option, Some, Result, Ok, Err, slice_get, EachIndex}
+use Rattle.std.specs.Prelude.{◌≡◌, ℕ, ◌+◌, ◌<◌, ◌≤◌, List, ◌∷◌, length, take, Option, Some, Result, Ok, Err, slice_get}
 use Rattle.tv_core.specs.Constraints.{System, Holds, Sat, Extends}
 use Rattle.tv_files.specs.Outside.{Names}
 use Rattle.tv_top.specs.declared.status.NoWhy.{NoWhy}
@@ -24,9 +24,9 @@ pub record Holding {A : Type 0} (read : List ℕ → Option A) (file : Option (L
 
 -- three plain files hold a system, an assignment and public numbers
 pub record Given (files : Names) (system witness tape : List ℕ) (s : System) (z x : List ℕ) : Type 0 where
-  pub system : Holding system_of (files system) s
-  pub assignment : Holding assignment_of (files witness) z
-  pub publics : Holding tape_of (files tape) x
+  pub in_system : Holding system_of (files system) s
+  pub in_witness : Holding assignment_of (files witness) z
+  pub in_tape : Holding tape_of (files tape) x
 
 -- they hold a system, an assignment that satisfies it, and the public numbers that it extends
 pub record Accepted (files : Names) (system witness tape : List ℕ) : Type 0 where
