@@ -1,2 +1,3 @@
 pub mod Constraints
 pub mod Examples
+pub mod Prime

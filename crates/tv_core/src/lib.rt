@@ -6,5 +6,7 @@
 #[cfg(test)]
 mod examples;
 mod field;
+mod prime;
 
 pub use field::{F, P};
+pub use prime::{p_cancels, p_is_prime, p_zero_product};

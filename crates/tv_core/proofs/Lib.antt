@@ -1,0 +1,4 @@
+pub mod Pigeonhole
+pub mod PrimeLaws
+pub mod PrimeProof
+pub mod Residues

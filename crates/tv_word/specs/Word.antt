@@ -1,0 +1,24 @@
+-- Machine words of w bits, w a multiple of 8, as numbers below 2 ^ w and as bytes.
+use Rattle.std.specs.Prelude.{ℕ, zero, suc, ◌+◌, ◌-◌, ◌*◌, ◌/◌, ◌%◌, ◌^◌, List, [], ◌∷◌, take, drop, ℤ, pos, ◌-ℤ◌, nat_lt, if◌then◌else◌}
+
+-- a word as a signed number, in two's complement
+abbrev pub signed : ℕ → ℕ → ℤ
+signed w v = if nat_lt v (2 ^ (w - 1)) then pos v else pos v -ℤ pos (2 ^ w)
+
+-- the number that bytes spell, the lowest first
+abbrev pub spelled : List ℕ → ℕ
+spelled [] = 0
+spelled (b ∷ bs) = b + 256 * spelled bs
+
+-- the word that stands at a place of bytes
+abbrev pub word_at : ℕ → List ℕ → ℕ → ℕ
+word_at w bytes at = spelled (take (w / 8) (drop at bytes))
+
+-- the n lowest bytes of a number, the lowest first
+abbrev pub low_bytes : ℕ → ℕ → List ℕ
+low_bytes zero v = []
+low_bytes (suc n) v = v % 256 ∷ low_bytes n (v / 256)
+
+-- the bytes that spell a word
+abbrev pub word_bytes : ℕ → ℕ → List ℕ
+word_bytes w v = low_bytes (w / 8) v
