@@ -1,5 +1,5 @@
 -- What a status is to the user: an exit code and a line.
-use Rattle.std.specs.Prelude.{ℕ, List, ◌++◌, Option, Some, None, codes, decimal}
+use Rattle.std.specs.Prelude.{ℕ, List, [], ◌∷◌, ◌++◌, Option, Some, None, option_map, codes, decimal}
 use Rattle.tv_top.specs.declared.status.NoWhy.{NoWhy}
 use Rattle.tv_top.specs.declared.status.NoWhy.TheVariants.{Public, Constraint, Wires}
 use Rattle.tv_top.specs.declared.status.Status.{Status}
@@ -19,12 +19,16 @@ why_text (Public at) = codes "public wire " ++ decimal at
 why_text (Constraint at) = codes "constraint " ++ decimal at
 why_text (Wires has wants) = decimal has ++ codes " wires, " ++ decimal wants ++ codes " wanted"
 
--- the line that is said, without its end, where Done says `done`; nothing is said after a fault or want
+-- the line that is said, without its end, where Done says the report; nothing is said after a fault or want
 -- of memory
 abbrev pub line : Option (List ℕ) → Status → Option (List ℕ)
-line done Done = done
-line done (No why) = Some (codes "no: " ++ why_text why)
-line done Usage = Some (codes "usage: asm, disasm, run, build, witness, check, extract, trial")
-line done (NotPlain word) = Some (codes "not plain: word " ++ decimal word)
-line done (FileFault _) = None
-line done Memory = None
+line report Done = report
+line report (No why) = Some (codes "no: " ++ why_text why)
+line report Usage = Some (codes "usage: asm, disasm, run, build, witness, check, extract, trial")
+line report (NotPlain word) = Some (codes "not plain: word " ++ decimal word)
+line report (FileFault _) = None
+line report Memory = None
+
+-- the bytes that are said: the line and a line feed
+abbrev pub says : Option (List ℕ) → Status → Option (List ℕ)
+says report status = option_map (λ text. text ++ 10 ∷ []) (line report status)

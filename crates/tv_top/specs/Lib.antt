@@ -5,5 +5,7 @@ pub mod PlainTape
 pub mod Verdict
 pub mod Codes
 pub mod Outcome
+pub mod Asked
+pub mod Finds
 pub mod Ends
 pub mod Claims

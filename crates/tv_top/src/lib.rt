@@ -2,7 +2,15 @@
 //! said its line. Its contract is the program's promise; the binary only calls it.
 #![tactic(auto)]
 
+mod checking;
+mod commands;
+mod job;
+mod line;
+mod plain_system;
+mod plain_tape;
+mod plain_witness;
 mod status;
 mod verdict;
 
+pub use commands::command;
 pub use status::{NoWhy, Status};

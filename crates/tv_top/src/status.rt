@@ -1,6 +1,9 @@
 ghost use Rattle.std.specs.Prelude.{◌≡◌};
 ghost use Rattle.tv_top.specs.Codes.{code_of};
 
+use crate::verdict::Verdict;
+use std::alloc::AllocError;
+
 /// Why `check` says no.
 #[derive(Clone, Copy, Debug, PartialEq, Eq)]
 pub enum NoWhy {
@@ -42,6 +45,37 @@ impl Status {
             Status::NotPlain { .. } => 5,
             Status::FileFault { .. } => 8,
             Status::Memory => 9,
+        }
+    }
+}
+
+impl From<AllocError> for Status {
+    ghost use Rattle.tv_top.specs.declared.status.Status.TheVariants.{Memory};
+
+    ghost from_gives = { λ _ status. status ≡ Memory };
+
+    fn from(_: AllocError) -> Status {
+        Status::Memory
+    }
+}
+
+impl From<Verdict> for Status {
+    ghost use Rattle.tv_top.specs.Outcome.{verdict_status};
+
+    ghost from_gives = { λ verdict status. status ≡ verdict_status verdict };
+
+    fn from(verdict: Verdict) -> Status {
+        match verdict {
+            Verdict::Yes => Status::Done,
+            Verdict::WireCount { has, wants } => Status::No {
+                no: NoWhy::Wires { has, wants },
+            },
+            Verdict::NoPublic { at } => Status::No {
+                no: NoWhy::Public { at },
+            },
+            Verdict::NoConstraint { at } => Status::No {
+                no: NoWhy::Constraint { at },
+            },
         }
     }
 }
