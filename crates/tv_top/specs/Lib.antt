@@ -9,3 +9,4 @@ pub mod Asked
 pub mod Finds
 pub mod Ends
 pub mod Claims
+pub mod Tried

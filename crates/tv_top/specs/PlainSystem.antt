@@ -1,16 +1,10 @@
 -- The system that a plain r1cs file holds: the binary format version 1 over this field, with its
 -- sections 1, 2 and 3 in this order and no others.
-use Rattle.std.specs.Prelude.{ℕ, zero, suc, ◌+◌, ◌*◌, List, [], ◌∷◌, length, Option, Some, None, nat_lt, nat_le, ◌==◌, ◌&&◌}
+use Rattle.std.specs.Prelude.{◌≡◌, ℕ, zero, suc, ◌+◌, ◌*◌, ◌≤◌, List, [], ◌∷◌, length, Option, Some, None, nat_lt, nat_le, ◌==◌, ◌&&◌, unwrap_or}
 use Rattle.tv_core.specs.Constraints.{Combination, Constraint, System}
 use Rattle.tv_core.specs.declared.field.TheConstants.{P}
+use Rattle.tv_top.specs.declared.plain_system.Header.{Header}
 use Rattle.tv_top.specs.Reading.{◌>>=◌, given, number_at, contents_of}
-
--- what section 1 counts
-pub record Header : Type 0 where
-  pub wires : ℕ
-  pub outputs : ℕ
-  pub inputs : ℕ
-  pub constraints : ℕ
 
 -- section 1: the size of a field number, which is 8, the prime, the numbers of wires, public outputs,
 -- public inputs, private inputs, labels (eight bytes) and constraints; private inputs and labels aren't
@@ -68,6 +62,19 @@ constraints_of wires (suc n) bytes = do
   first ← constraint_at wires bytes
   others ← constraints_of wires n first.1
   Some (first.0 ∷ others)
+
+-- the system of a header and of the constraints that bytes hold, none where they hold none
+abbrev pub system_with : Header → List ℕ → System
+system_with header rows = record {
+  wires = header.wires;
+  outputs = header.outputs;
+  inputs = header.inputs;
+  constraints = unwrap_or (constraints_of header.wires header.constraints rows) [];
+}
+
+-- there is a wire for the constant 1 and each public number
+abbrev pub IsRoomy : Header → Type 0
+IsRoomy header = 1 + header.outputs + header.inputs ≤ header.wires
 
 -- a system of three sections: what section 1 counts, the constraints of section 2, and in section 3 a
 -- label of eight bytes for each wire, which isn't looked at

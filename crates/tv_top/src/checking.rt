@@ -5,9 +5,9 @@ ghost use Rattle.tv_top.specs.PlainWitness.{assignment_of};
 ghost use Rattle.tv_top.specs.PlainTape.{tape_of};
 ghost use Rattle.tv_top.specs.Finds.{Finds};
 
-use crate::plain_system::{PlainSystem, plain_system};
-use crate::plain_tape::tape_of;
-use crate::plain_witness::assignment_of;
+use crate::plain_system::{PlainSystem, read_system};
+use crate::plain_tape::read_tape;
+use crate::plain_witness::read_assignment;
 use crate::status::Status;
 use crate::verdict::{Verdict, judge};
 use std::alloc::Global;
@@ -34,7 +34,7 @@ fn witness_at<D: Files>(alloc: Global, files: &mut D, name: &str) -> Result<Vec<
     ensures { Finds (λ v. v.items) (λ at. at ≡ 2) (λ held. file_at 2 (held name.now) assignment_of) (D.seen files.old) (D.seen files.new) result }
 {
     let bytes = bytes_at(alloc, files, 2, name)?;
-    assignment_of(alloc, &bytes)?.ok_or(Status::NotPlain { word: 2 })
+    read_assignment(alloc, &bytes)?.ok_or(Status::NotPlain { word: 2 })
 }
 
 /// The public numbers of the tape, whose name stands at word 3.
@@ -42,12 +42,12 @@ fn tape_at<D: Files>(alloc: Global, files: &mut D, name: &str) -> Result<Vec<F>,
     ensures { Finds (λ v. v.items) (λ at. at ≡ 3) (λ held. file_at 3 (held name.now) tape_of) (D.seen files.old) (D.seen files.new) result }
 {
     let bytes = bytes_at(alloc, files, 3, name)?;
-    tape_of(alloc, &bytes)?.ok_or(Status::NotPlain { word: 3 })
+    read_tape(alloc, &bytes)?.ok_or(Status::NotPlain { word: 3 })
 }
 
 /// The verdict on a system by the witness and the tape, whose names stand at words 2 and 3.
 #[tactic(auto, unfolding(crate::specs::Outcome::judged_of))]
-fn judged<D: Files>(alloc: Global, files: &mut D, system: &PlainSystem, witness: &str, tape: &str) -> Result<Verdict, Status>
+fn judged<D: Files>(alloc: Global, files: &mut D, system: &PlainSystem<'_>, witness: &str, tape: &str) -> Result<Verdict, Status>
     ensures { Finds (λ v. v) (λ at. (2 ≤ at) × (at ≤ 3)) (judged_of system.now witness.now tape.now) (D.seen files.old) (D.seen files.new) result }
 {
     let z = witness_at(alloc, files, witness)?;
@@ -61,6 +61,6 @@ pub(crate) fn check<D: Files>(alloc: Global, files: &mut D, system: &str, witnes
     ensures { Finds (λ v. v) (λ at. (0 < at) × (at ≤ 3)) (check_of system.now witness.now tape.now) (D.seen files.old) (D.seen files.new) result }
 {
     let bytes = bytes_at(alloc, files, 1, system)?;
-    let system = plain_system(&bytes).ok_or(Status::NotPlain { word: 1 })?;
+    let system = read_system(&bytes).ok_or(Status::NotPlain { word: 1 })?;
     judged(alloc, files, &system, witness, tape)
 }

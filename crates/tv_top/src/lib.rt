@@ -4,11 +4,13 @@
 
 mod checking;
 mod commands;
+mod constraints;
 mod job;
 mod line;
 mod plain_system;
 mod plain_tape;
 mod plain_witness;
+mod reading;
 mod status;
 mod verdict;
 
