@@ -20,5 +20,5 @@ is_done xs ys at total e so_far =
     let len = length-drop at ys in
     let test : ltb 0 (length (drop at ys)) ≡ ltb (length xs) (length ys) = grind (arith, nat_tests) in
     let one : behind at (first_difference (drop at xs) (drop at ys)) ≡ then_some (ltb (length xs) (length ys)) at
-        = ap (λ l. behind at (first_difference l (drop at ys))) (drop_of_length-le xs (omega arith)) ∙ longer at (drop at ys) ∙ ap (λ b. then_some b at) test in
+    = ap (λ l. behind at (first_difference l (drop at ys))) (drop_of_length-le xs (omega arith)) ∙ longer at (drop at ys) ∙ ap (λ b. then_some b at) test in
     sym so_far ∙ one ∙ ap (λ n. then_some (ltb (length xs) (length ys)) n) e

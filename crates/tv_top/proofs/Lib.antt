@@ -7,3 +7,5 @@ pub mod Tape
 pub mod Terms
 pub mod Rows
 pub mod System
+pub mod Below
+pub mod Verdicts

@@ -62,7 +62,7 @@ pub goes_on : (z : List ℕ) (found : Option ℕ) (wires count at : ℕ) (bytes 
 goes_on z found wires count at bytes after h total lt here so_far =
     let k : count - at ≡ suc (count - (at + 1)) = omega arith in
     let one : with_found found at (all_tried z (constraints_of wires (count - at) bytes)) ≡ with_found (option_or found (then_some (not h) at)) (at + 1) (all_tried z (constraints_of wires (count - (at + 1)) after))
-        = rw (k, step z wires (count - (at + 1)) bytes, here) (passed h at found (all_tried z (constraints_of wires (count - (at + 1)) after))) in
+    = rw (k, step z wires (count - (at + 1)) bytes, here) (passed h at found (all_tried z (constraints_of wires (count - (at + 1)) after))) in
     sym one ∙ so_far
 
 pub stops : (z : List ℕ) (found : Option ℕ) (wires count at : ℕ) (bytes : List ℕ) (total : Option (Option ℕ)) → at < count

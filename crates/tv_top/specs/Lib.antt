@@ -10,3 +10,4 @@ pub mod Finds
 pub mod Ends
 pub mod Claims
 pub mod Tried
+pub mod Meaning

@@ -1,6 +1,6 @@
 -- The system that a plain r1cs file holds: the binary format version 1 over this field, with its
 -- sections 1, 2 and 3 in this order and no others.
-use Rattle.std.specs.Prelude.{◌≡◌, ℕ, zero, suc, ◌+◌, ◌*◌, ◌≤◌, List, [], ◌∷◌, length, Option, Some, None, nat_lt, nat_le, ◌==◌, ◌&&◌, unwrap_or}
+use Rattle.std.specs.Prelude.{◌≡◌, ℕ, zero, suc, ◌+◌, ◌*◌, List, [], ◌∷◌, length, Option, Some, None, nat_lt, nat_le, ◌==◌, ◌&&◌, unwrap_or}
 use Rattle.tv_core.specs.Constraints.{Combination, Constraint, System}
 use Rattle.tv_core.specs.declared.field.TheConstants.{P}
 use Rattle.tv_top.specs.declared.plain_system.Header.{Header}
@@ -71,10 +71,6 @@ system_with header rows = record {
   inputs = header.inputs;
   constraints = unwrap_or (constraints_of header.wires header.constraints rows) [];
 }
-
--- there is a wire for the constant 1 and each public number
-abbrev pub IsRoomy : Header → Type 0
-IsRoomy header = 1 + header.outputs + header.inputs ≤ header.wires
 
 -- a system of three sections: what section 1 counts, the constraints of section 2, and in section 3 a
 -- label of eight bytes for each wire, which isn't looked at

@@ -1,11 +1,15 @@
 -- The verdict on a system, an assignment and the public numbers that it is to extend: the first of
 -- these that is wrong is named: the number of values, a public wire, a constraint.
-use Rattle.std.specs.Prelude.{ℕ, suc, ◌+◌, ◌*◌, ◌%◌, Bool, List, [], ◌∷◌, length, take, Option, Some, None, ◌==◌, if◌then◌else◌}
+use Rattle.std.specs.Prelude.{ℕ, suc, ◌+◌, ◌*◌, ◌%◌, ◌≤◌, Bool, List, [], ◌∷◌, length, take, Option, Some, None, ◌==◌, if◌then◌else◌}
 use Rattle.std.specs.Option.{option_map}
 use Rattle.tv_core.specs.Constraints.{System, Constraint, value}
 use Rattle.tv_core.specs.declared.field.TheConstants.{P}
 use Rattle.tv_top.specs.declared.verdict.Verdict.{Verdict}
 use Rattle.tv_top.specs.declared.verdict.Verdict.TheVariants.{Yes, WireCount, NoPublic, NoConstraint}
+
+-- there is a wire for the constant 1 and each public number
+abbrev pub HasRoom : System → Type 0
+HasRoom system = 1 + system.outputs + system.inputs ≤ system.wires
 
 -- the test of a constraint
 abbrev pub holds : List ℕ → Constraint → Bool
@@ -38,5 +42,5 @@ abbrev pub judge : System → List ℕ → List ℕ → Verdict
 judge system z x =
     if length z == system.wires
     then public_verdict (first_difference (1 ∷ x) (take (1 + system.outputs + system.inputs) z))
-        (constraint_verdict (first_failing z system.constraints))
+    (constraint_verdict (first_failing z system.constraints))
     else WireCount (length z) system.wires

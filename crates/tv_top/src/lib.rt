@@ -7,11 +7,14 @@ mod commands;
 mod constraints;
 mod job;
 mod line;
+mod meaning;
 mod plain_system;
 mod plain_tape;
 mod plain_witness;
 mod reading;
 mod status;
+#[cfg(test)]
+mod tests;
 mod verdict;
 
 pub use commands::command;

@@ -30,13 +30,14 @@ pub(crate) struct PlainSystem<'a> {
 impl<'a> Model for PlainSystem<'a> {
     ghost use Rattle.std.specs.Prelude.{IsSome};
     ghost use Rattle.tv_core.specs.Constraints.{System};
-    ghost use Rattle.tv_top.specs.PlainSystem.{IsRoomy, constraints_of, system_with};
+    ghost use Rattle.tv_top.specs.PlainSystem.{constraints_of, system_with};
+    ghost use Rattle.tv_top.specs.Verdict.{HasRoom};
 
     ghost Value = { System };
 
     ghost view = { λ s. system_with s.header s.rows.now };
 
-    ghost invariant = { λ s. IsRoomy s.header × IsSome (constraints_of s.header.wires s.header.constraints s.rows.now) };
+    ghost invariant = { λ s. HasRoom (system_with s.header s.rows.now) × IsSome (constraints_of s.header.wires s.header.constraints s.rows.now) };
 }
 
 impl PlainSystem<'_> {

@@ -14,5 +14,5 @@ invariant-loop-item l = record {
   items : YieldsList (goal.iterator-loop-item).next_gives (λ item. item.now) l.initial.item-iterator (items_of l.text);
   same : length l.tape.items ≡ length l.yielded;
   few : length l.yielded ≤ 65536;
-  rest : with_front l.tape.items (each (numeral 10 P) (drop (length l.yielded) (items_of l.text))) ≡ each (numeral 10 P) (items_of l.text)
+  rest : with_front l.tape.items (each (numeral 10 P) (drop (length l.yielded) (items_of l.text))) ≡ each (numeral 10 P) (items_of l.text);
 }

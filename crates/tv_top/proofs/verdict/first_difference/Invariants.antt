@@ -6,5 +6,5 @@ use Rattle.tv_top.proofs.verdict.first_difference.Given as goal
 abbrev pub invariant-loop-at : goal.invariant-loop-at
 invariant-loop-at l = record {
   within : l.at ≤ length l.ys;
-  rest : behind l.at (first_difference (drop l.at l.xs) (drop l.at l.ys)) ≡ first_difference l.xs l.ys
+  rest : behind l.at (first_difference (drop l.at l.xs) (drop l.at l.ys)) ≡ first_difference l.xs l.ys;
 }
