@@ -9,3 +9,5 @@ pub mod Rows
 pub mod System
 pub mod Below
 pub mod Verdicts
+pub mod Nos
+pub mod Checked

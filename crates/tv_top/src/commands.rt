@@ -1,6 +1,8 @@
 //! The top call: what the words ask for is done, and one line is said.
-ghost use Rattle.std.specs.Prelude.{◌≡◌, ◌<◌, length, map, string_bytes, codes, Some, Ok};
+ghost use Rattle.std.specs.Prelude.{◌≡◌, ◌<◌, ℕ, List, [], ◌∷◌, length, map, string_bytes, codes};
 ghost use Rattle.std.specs.Option.{ForSome, option_copied};
+ghost use Rattle.tv_files.specs.Outside.{Told};
+ghost use Rattle.tv_top.specs.Claims.{Checks};
 ghost use Rattle.tv_top.specs.Codes.{says};
 ghost use Rattle.tv_top.specs.Outcome.{Check, job};
 ghost use Rattle.tv_top.specs.Ends.{Concludes, Answers};
@@ -41,7 +43,9 @@ fn run_check<D: Files>(alloc: Global, words: usize, files: &mut D, system: &str,
 
 /// Does what the words after the program's name ask for, says one line, and answers the status.
 pub fn command<D: Files>(alloc: Global, words: &[String], files: &mut D) -> Status
-    ensures { Answers (job (map string_bytes words.now)) (length words.now) (D.seen files.old) (D.seen files.new) result }
+    ensures answers { Answers (job (map string_bytes words.now)) (length words.now) (D.seen files.old) (D.seen files.new) result }
+    ensures check { (system witness tape : List ℕ) → map string_bytes words.now ≡ codes "check" ∷ system ∷ witness ∷ tape ∷ []
+        → Told (D.seen files.old) (λ held. Checks held system witness tape (D.seen files.old) (D.seen files.new) result) }
 {
     match job_of(words) {
         Ok(Job::Check { system, witness, tape }) => {
