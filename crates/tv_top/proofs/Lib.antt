@@ -1,3 +1,5 @@
+pub mod Concluding
+pub mod Answering
 pub mod Chain
 pub mod Difference
 pub mod Each
@@ -7,3 +9,5 @@ pub mod Rows
 pub mod System
 pub mod Below
 pub mod Verdicts
+pub mod Nos
+pub mod Checked

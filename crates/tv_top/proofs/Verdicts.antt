@@ -45,7 +45,7 @@ none_fails z (c ∷ cs) h =
     rw (yes, none_fails z cs h.1) refl
 
 -- the first that fails, with what is known of it
-fails_at : (z : List ℕ) (constraints : List Constraint) (at : ℕ) → first_failing z constraints ≡ Some at
+pub fails_at : (z : List ℕ) (constraints : List Constraint) (at : ℕ) → first_failing z constraints ≡ Some at
     → (c : Constraint) × (slice_get constraints at ≡ Some c) × (¬ (Holds c z)) × AllByRecursion (λ constraint. Holds constraint z) (take at constraints)
 fails_at z [] at e = absurd cc
 fails_at z (c ∷ cs) at e =
@@ -58,7 +58,7 @@ fails_at z (c ∷ cs) at e =
 
 -- ---- public numbers
 
-same_lists : (xs ys : List ℕ) → first_difference xs ys ≡ None → xs ≡ ys
+pub same_lists : (xs ys : List ℕ) → first_difference xs ys ≡ None → xs ≡ ys
 same_lists [] [] e = refl
 same_lists [] (y ∷ ys) e = absurd cc
 same_lists (x ∷ xs) [] e = absurd cc
@@ -68,11 +68,11 @@ same_lists (x ∷ xs) (y ∷ ys) e =
     let others = same_lists xs ys both.1 in
     cc
 
-no_difference : (xs : List ℕ) → first_difference xs xs ≡ None
+pub no_difference : (xs : List ℕ) → first_difference xs xs ≡ None
 no_difference [] = refl
 no_difference (x ∷ xs) = let yes : x == x ≡ true = eq-eqb x x refl in rw (yes, no_difference xs) refl
 
-differ : (xs ys : List ℕ) (at : ℕ) → first_difference xs ys ≡ Some at → DifferFirst xs ys at
+pub differ : (xs ys : List ℕ) (at : ℕ) → first_difference xs ys ≡ Some at → DifferFirst xs ys at
 differ [] [] at e = absurd cc
 differ [] (y ∷ ys) at e = let zero-is : at ≡ 0 = cc in rw zero-is (record { before = refl; there = λ h. absurd cc })
 differ (x ∷ xs) [] at e = let zero-is : at ≡ 0 = cc in rw zero-is (record { before = refl; there = λ h. absurd cc })

@@ -3,5 +3,11 @@ pub mod PlainSystem
 pub mod PlainWitness
 pub mod PlainTape
 pub mod Verdict
+pub mod Codes
+pub mod Outcome
+pub mod Asked
+pub mod Finds
+pub mod Ends
+pub mod Claims
 pub mod Tried
 pub mod Meaning

@@ -1,0 +1,14 @@
+use Rattle.std.proofs.Common.{rules, arith, inl, inr, refl, ap}
+use Rattle.std.proofs.lemmas.Grind.{common_steps}
+use Rattle.tv_top.specs.Outcome.{bytes_of}
+use Rattle.tv_top.proofs.checking.bytes_at.Goals as goal
+
+pub returns-in-Err-Memory : goal.returns-in-Err-Memory
+returns-in-Err-Memory g c = record {
+  told = λ _ _. inr (inr refl);
+  absent = λ files told. elim (c.in-Err-Memory.ensures.there files told) [ inl same ↦ inl same | inr none ↦ inr (c.args.word, ap (bytes_of c.args.word) none) ];
+  only = c.in-Err-Memory.ensures.only;
+  caused = λ _ e. cc;
+  counts = tt;
+  usage = λ e. cc;
+}

@@ -1,0 +1,7 @@
+-- The code's jobs as what words ask for.
+use Rattle.tv_top.specs.declared.job.Job.{Job}
+use Rattle.tv_top.specs.declared.job.Job.TheVariants as code
+use Rattle.tv_top.specs.Outcome as outcome
+
+abbrev pub asked : Job → outcome.Job
+asked (code.Check system witness tape) = outcome.Check system.now witness.now tape.now

@@ -1,0 +1,87 @@
+-- How a call of the command may end, given the answer that its words and files call for.
+use Rattle.std.specs.Prelude.{◌≡◌, ℕ, ◌≤◌, ◌<◌, ◌⊎◌, List, [], ◌∷◌, ◌++◌, length, take, Option, Some, None, option_map, Result, Ok, Err}
+use Rattle.tv_files.specs.Outside.{Names, Outside, Told, Rose, NoneFell, with_bytes}
+use Rattle.tv_top.specs.declared.status.Status.{Status}
+use Rattle.tv_top.specs.declared.status.Status.TheVariants.{Usage, FileFault, Memory}
+use Rattle.tv_top.specs.Codes.{says}
+use Rattle.tv_top.specs.Outcome.{Job, Check, Write, Answer, report_of, outcome}
+
+-- the files once these were written
+abbrev pub written : List Write → Names → Names
+written [] files = files
+written (w ∷ ws) files = written ws (with_bytes w.name w.bytes files)
+
+-- the bytes were added to what is said
+abbrev pub Added : Outside → Outside → List ℕ → Type 0
+Added old new bytes = new.said ≡ option_map (λ said. said ++ bytes) old.said
+
+-- this was said, or nothing where there is nothing to say
+abbrev pub Said : Outside → Outside → Option (List ℕ) → Type 0
+Said old new None = new.said ≡ old.said
+Said old new (Some bytes) = Added old new bytes
+
+-- no more than a prefix of this was said
+abbrev pub SaidPart : Outside → Outside → Option (List ℕ) → Type 0
+SaidPart old new says = (bytes : List ℕ) × (n : ℕ) × (says ≡ Some bytes) × Added old new (take n bytes)
+
+-- the answer happened whole
+pub record IsAnswered (answer : Answer) (files : Names) (old new : Outside) (result : Status) : Type 0 where
+  pub status : result ≡ answer.status
+  pub contents : new.contents ≡ Some (written answer.writes files)
+  pub said : Said old new answer.says
+
+-- nothing outside has changed
+pub record IsUntouched (old new : Outside) : Type 0 where
+  pub contents : new.contents ≡ old.contents
+  pub said : new.said ≡ old.said
+
+-- all was written, and a prefix of the line was said
+pub record IsCutInSaying (answer : Answer) (files : Names) (old new : Outside) : Type 0 where
+  pub contents : new.contents ≡ Some (written answer.writes files)
+  pub said : SaidPart old new answer.says
+
+-- The call ended as the answer says, or by a fault of a file that the answer looked at or of saying its
+-- line, or by want of memory; a fault and want of memory leave no more than a prefix.
+abbrev pub Ends : Answer → ℕ → Names → Outside → Outside → Status → Type 0
+Ends answer words files old new result =
+    IsAnswered answer files old new result
+    ⊎ ((word : ℕ) × (result ≡ FileFault word) × (word ≤ answer.looked) × IsUntouched old new)
+    ⊎ ((result ≡ FileFault words) × IsCutInSaying answer files old new)
+    ⊎ ((result ≡ Memory) × (IsUntouched old new ⊎ IsCutInSaying answer files old new))
+
+-- this status was answered and what it says was said; or saying it failed, or wanted memory
+abbrev pub IsConcluded : Status → Option (List ℕ) → ℕ → Outside → Outside → Status → Type 0
+IsConcluded status says words old new result =
+    ((result ≡ status) × Said old new says)
+    ⊎ ((result ≡ FileFault words) × Rose old.say_faults new.say_faults × SaidPart old new says)
+    ⊎ ((result ≡ Memory) × Rose old.wants new.wants × SaidPart old new says)
+
+-- the word is one at which the name of a file to be read stands
+abbrev pub IsRead : Result Job Status → ℕ → Type 0
+IsRead (Ok (Check _ _ _)) word = (0 < word) × (word ≤ 3)
+IsRead (Err _) word = ⊥
+
+-- What every call promises, by what its words ask for. The first two are of files whose contents are
+-- told, the others of any files.
+pub record Answers (asked : Result Job Status) (words : ℕ) (old new : Outside) (result : Status) : Type 0 where
+  -- the answer is that of the words and the files, up to faults and want of memory
+  pub ends : Told old (λ files. Ends (outcome asked files) words files old new result)
+  -- no name was looked for in vain, unless the answer is that one isn't there
+  pub absent : Told old (λ files. (new.absent ≡ old.absent) ⊎ ((word : ℕ) × ((outcome asked files).status ≡ FileFault word)))
+  -- what the words alone refuse is answered so; want of memory then comes of saying it alone
+  pub refused : (status : Status) → asked ≡ Err status → IsConcluded status (says None status) words old new result
+  pub usage : result ≡ Usage → asked ≡ Err Usage
+  -- which word a fault tells, and that the count of its kind rose
+  pub caused : (word : ℕ) → result ≡ FileFault word → (IsRead asked word × Rose old.read_faults new.read_faults) ⊎ ((word ≡ words) × Rose old.say_faults new.say_faults)
+  -- the line of the status was said; a fault of saying and want of memory leave a prefix of a line
+  pub said : Said old new (says (report_of asked) result)
+      ⊎ (((result ≡ FileFault words) ⊎ (result ≡ Memory)) × (status : Status) × SaidPart old new (says (report_of asked) status))
+  pub contents : new.contents ≡ old.contents
+  pub later : NoneFell old new
+
+-- what saying the line of a status does
+pub record Concludes (status : Status) (says : Option (List ℕ)) (words : ℕ) (old new : Outside) (result : Status) : Type 0 where
+  pub ended : IsConcluded status says words old new result
+  pub contents : new.contents ≡ old.contents
+  pub later : NoneFell old new
+  pub absent : new.absent ≡ old.absent

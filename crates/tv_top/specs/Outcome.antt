@@ -1,0 +1,107 @@
+-- What a command answers, by its words and by what the files hold.
+use Rattle.std.specs.Prelude.{ℕ, max, Bool, List, [], ◌∷◌, length, Option, Some, None, Result, Ok, Err, codes, nat_le, if◌then◌else◌}
+use Rattle.std.specs.Str.{bytes_eq}
+use Rattle.tv_core.specs.Constraints.{System}
+use Rattle.tv_files.specs.Outside.{Names}
+use Rattle.tv_top.specs.declared.status.NoWhy.TheVariants.{Public, Constraint, Wires}
+use Rattle.tv_top.specs.declared.status.Status.{Status}
+use Rattle.tv_top.specs.declared.status.Status.TheVariants.{Done, No, Usage, NotPlain, FileFault}
+use Rattle.tv_top.specs.declared.verdict.Verdict.{Verdict}
+use Rattle.tv_top.specs.declared.verdict.Verdict.TheVariants as verdicts
+use Rattle.tv_top.specs.Codes.{says}
+use Rattle.tv_top.specs.PlainSystem.{system_of}
+use Rattle.tv_top.specs.PlainWitness.{assignment_of}
+use Rattle.tv_top.specs.PlainTape.{tape_of}
+use Rattle.tv_top.specs.Verdict.{judge}
+
+-- what words ask for
+pub data Job : Type 0 where
+  Check : List ℕ → List ℕ → List ℕ → Job
+
+-- the job of these words, where they are a command's; else the refusal
+abbrev pub job : List (List ℕ) → Result Job Status
+job (name ∷ system ∷ witness ∷ tape ∷ []) = if bytes_eq name (codes "check") then Ok (Check system witness tape) else Err Usage
+job _ = Err Usage
+
+-- a look at files: the last word whose file was looked at, and what came of it
+pub record Look (A : Type 0) : Type 0 where
+  pub at : ℕ
+  pub gives : Result A Status
+
+-- looks on, unless the first look is refused
+abbrev pub look_on : {A B : Type 0} → ℕ → Result A Status → (A → Look B) → Look B
+look_on at (Ok x) f = record { at = max at (f x).at; gives = (f x).gives }
+look_on at (Err status) f = record { at = at; gives = Err status }
+
+infixl 10 ◌>>=◌
+abbrev pub ◌>>=◌ : {A B : Type 0} → Look A → (A → Look B) → Look B
+look >>= f = look_on look.at look.gives f
+
+-- the bytes of a file: a fault where its name isn't there, not plain beyond 1,048,576 bytes
+abbrev pub bytes_of : ℕ → Option (List ℕ) → Result (List ℕ) Status
+bytes_of word None = Err (FileFault word)
+bytes_of word (Some bytes) = if nat_le (length bytes) 1048576 then Ok bytes else Err (NotPlain word)
+
+-- what a plain reading makes of them
+abbrev pub plain_of : {A : Type 0} → ℕ → Option A → Result A Status
+plain_of word None = Err (NotPlain word)
+plain_of word (Some x) = Ok x
+
+-- a look at the file at a word, by a plain reading
+abbrev pub file_at : {A : Type 0} → ℕ → Option (List ℕ) → (List ℕ → Option A) → Look A
+file_at word file read = do
+  bytes ← record { at = word; gives = bytes_of word file }
+  record { at = word; gives = plain_of word (read bytes) }
+
+-- the witness and the tape, each read and judged before the next, and the verdict on a system by them
+unfoldable pub judged_of : System → List ℕ → List ℕ → Names → Look Verdict
+judged_of s witness tape files = do
+  z ← file_at 2 (files witness) assignment_of
+  x ← file_at 3 (files tape) tape_of
+  record { at = 3; gives = Ok (judge s z x) }
+
+-- the system first, and then the verdict on it
+unfoldable pub check_of : List ℕ → List ℕ → List ℕ → Names → Look Verdict
+check_of system witness tape files = do
+  s ← file_at 1 (files system) system_of
+  judged_of s witness tape files
+
+abbrev pub verdict_status : Verdict → Status
+verdict_status verdicts.Yes = Done
+verdict_status (verdicts.WireCount has wants) = No (Wires has wants)
+verdict_status (verdicts.NoPublic at) = No (Public at)
+verdict_status (verdicts.NoConstraint at) = No (Constraint at)
+
+-- the status of a result, by that of what it gives
+abbrev pub status_of : {A : Type 0} → (A → Status) → Result A Status → Status
+status_of f (Ok x) = f x
+status_of f (Err status) = status
+
+-- a file that is to be written: its name and its bytes
+pub record Write : Type 0 where
+  pub name : List ℕ
+  pub bytes : List ℕ
+
+-- the whole answer: the last word whose file was looked at, the status, the files written, in order, and
+-- what is said
+pub record Answer : Type 0 where
+  pub looked : ℕ
+  pub status : Status
+  pub writes : List Write
+  pub says : Option (List ℕ)
+
+-- what the command of a job says where it is done
+abbrev pub report_of : Result Job Status → Option (List ℕ)
+report_of (Ok (Check _ _ _)) = Some (codes "yes")
+report_of (Err _) = None
+
+-- the answer that only says its line
+abbrev pub said_of : Option (List ℕ) → ℕ → Status → Answer
+said_of report looked status = record { looked = looked; status = status; writes = []; says = says report status }
+
+-- what the words are answered, over files that hold this; FileFault stands for a name that isn't there
+abbrev pub outcome : Result Job Status → Names → Answer
+outcome (Err status) files = said_of None 0 status
+outcome (Ok (Check system witness tape)) files =
+    let look = check_of system witness tape files in
+    said_of (Some (codes "yes")) look.at (status_of verdict_status look.gives)

@@ -1,0 +1,56 @@
+//! The top call: what the words ask for is done, and one line is said.
+ghost use Rattle.std.specs.Prelude.{◌≡◌, ◌<◌, ℕ, List, [], ◌∷◌, length, map, string_bytes, codes};
+ghost use Rattle.std.specs.Option.{ForSome, option_copied};
+ghost use Rattle.tv_files.specs.Outside.{Told};
+ghost use Rattle.tv_top.specs.Claims.{Checks};
+ghost use Rattle.tv_top.specs.Codes.{says};
+ghost use Rattle.tv_top.specs.Outcome.{Check, job};
+ghost use Rattle.tv_top.specs.Ends.{Concludes, Answers};
+
+use crate::checking::check;
+use crate::job::{Job, job_of};
+use crate::line::line_of;
+use crate::status::Status;
+use std::alloc::Global;
+use tv_files::{FileRefusal, Files};
+
+/// Says the line of a status, where it has one, as one `say`; a refusal of it is the answer then.
+/// `words` is the number of words, `report` what Done says.
+fn conclude<D: Files>(files: &mut D, words: usize, report: Option<&str>, status: Status) -> Status
+    requires { ForSome report (λ text. length text.now < 96) }
+    ensures { Concludes status (says (option_copied report.entry) status) words (D.seen files.old) (D.seen files.new) result }
+{
+    let Some(line) = line_of(report, &status) else {
+        return status;
+    };
+    match files.say(line.as_str().as_bytes()) {
+        Ok(()) => status,
+        Err(FileRefusal::Failed) => Status::FileFault { word: words as u64 },
+        Err(FileRefusal::Memory) => Status::Memory,
+    }
+}
+
+/// `check SYSTEM WITNESS TAPE`.
+fn run_check<D: Files>(alloc: Global, words: usize, files: &mut D, system: &str, witness: &str, tape: &str) -> Status
+    ensures { Answers (Ok (Check system.now witness.now tape.now)) words (D.seen files.old) (D.seen files.new) result }
+{
+    let status = match check(alloc, files, system, witness, tape) {
+        Ok(verdict) => Status::from(verdict),
+        Err(status) => status,
+    };
+    conclude(files, words, Some("yes"), status)
+}
+
+/// Does what the words after the program's name ask for, says one line, and answers the status.
+pub fn command<D: Files>(alloc: Global, words: &[String], files: &mut D) -> Status
+    ensures answers { Answers (job (map string_bytes words.now)) (length words.now) (D.seen files.old) (D.seen files.new) result }
+    ensures check { (system witness tape : List ℕ) → map string_bytes words.now ≡ codes "check" ∷ system ∷ witness ∷ tape ∷ []
+        → Told (D.seen files.old) (λ held. Checks held system witness tape (D.seen files.old) (D.seen files.new) result) }
+{
+    match job_of(words) {
+        Ok(Job::Check { system, witness, tape }) => {
+            run_check(alloc, words.len(), files, system, witness, tape)
+        }
+        Err(status) => conclude(files, words.len(), None, status),
+    }
+}
