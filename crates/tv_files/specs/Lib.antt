@@ -1,0 +1,4 @@
+pub mod Outside
+pub mod Calls
+pub mod Refusals
+pub mod Whole
