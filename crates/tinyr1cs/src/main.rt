@@ -1,0 +1,51 @@
+//! The program `tinyr1cs`: `tv_top::command` on the words of the command line and the system's files.
+//! What a command promises is `command`'s contract, over any files. Here stand the edge that isn't proved
+//! beyond its counts, `DiskFiles`, and the ends that come before a command: status 14 for a word that
+//! isn't UTF-8, and 9 for want of memory.
+#![tactic(auto)]
+
+mod complaint;
+mod counts;
+mod disk;
+mod open;
+mod reader;
+mod words;
+
+use complaint::Complaint;
+use disk::DiskFiles;
+use std::io::ErrorKind;
+use std::process::ExitCode;
+use std::rt::Files;
+use tv_top::{Status, command};
+
+/// The exit code where a word isn't UTF-8. The others are those of `Status`.
+const NOT_UTF8: u8 = 14;
+
+fn main(rt: HostRuntime) -> ExitCode {
+    match words::words(&rt) {
+        Ok(words) => run(&rt, &words),
+        Err(error) if error.kind() == ErrorKind::OutOfMemory => {
+            complain(&rt, Complaint::NoMemory);
+            ExitCode::from(Status::Memory.code())
+        }
+        Err(_) => {
+            complain(&rt, Complaint::NotUtf8);
+            ExitCode::from(NOT_UTF8)
+        }
+    }
+}
+
+/// Runs the command, and says on standard error why it said no line where it didn't.
+fn run<R: Files + Print + Eprint + AllocGlobal>(rt: &R, words: &[String]) -> ExitCode {
+    let mut files = DiskFiles::new(rt.alloc(), rt);
+    let status = command(rt.alloc(), words, &mut files);
+    if let Some(complaint) = Complaint::of(&status, words) {
+        complain(rt, complaint);
+    }
+    ExitCode::from(status.code())
+}
+
+/// Where standard error fails too, only the exit code is left.
+fn complain(rt: &impl Eprint, complaint: Complaint<'_>) {
+    let _ = rt.eprintln(complaint);
+}
