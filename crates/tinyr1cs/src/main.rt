@@ -4,6 +4,10 @@
 //! isn't UTF-8, and 9 for want of memory.
 #![tactic(auto)]
 
+ghost use Rattle.std.specs.Prelude.{◌≡◌};
+ghost use Rattle.std.specs.Process.{exit_status};
+ghost use Rattle.tv_top.specs.Codes.{code_of};
+
 mod complaint;
 mod counts;
 mod disk;
@@ -15,7 +19,6 @@ use complaint::Complaint;
 use disk::DiskFiles;
 use std::io::ErrorKind;
 use std::process::ExitCode;
-use std::rt::Files;
 use tv_top::{Status, command};
 
 /// The exit code where a word isn't UTF-8. The others are those of `Status`.
@@ -23,11 +26,12 @@ const NOT_UTF8: u8 = 14;
 
 fn main(rt: HostRuntime) -> ExitCode {
     match words::words(&rt) {
-        Ok(words) => run(&rt, &words),
-        Err(error) if error.kind() == ErrorKind::OutOfMemory => {
-            complain(&rt, Complaint::NoMemory);
-            ExitCode::from(Status::Memory.code())
+        Ok(words) => {
+            let mut files = DiskFiles::new(rt.alloc(), rt);
+            let status = command(rt.alloc(), &words, &mut files);
+            end(&rt, &words, &status)
         }
+        Err(error) if error.kind() == ErrorKind::OutOfMemory => end(&rt, &[], &Status::Memory),
         Err(_) => {
             complain(&rt, Complaint::NotUtf8);
             ExitCode::from(NOT_UTF8)
@@ -35,11 +39,11 @@ fn main(rt: HostRuntime) -> ExitCode {
     }
 }
 
-/// Runs the command, and says on standard error why it said no line where it didn't.
-fn run<R: Files + Print + Eprint + AllocGlobal>(rt: &R, words: &[String]) -> ExitCode {
-    let mut files = DiskFiles::new(rt.alloc(), rt);
-    let status = command(rt.alloc(), words, &mut files);
-    if let Some(complaint) = Complaint::of(&status, words) {
+/// Ends the program by a status, and says on standard error what the command could say nowhere.
+fn end(rt: &impl Eprint, words: &[String], status: &Status) -> ExitCode
+    ensures { exit_status result ≡ code_of status.now }
+{
+    if let Some(complaint) = Complaint::of(status, words) {
         complain(rt, complaint);
     }
     ExitCode::from(status.code())
