@@ -1,0 +1,97 @@
+-- What the counts tell of a call is what such a call may do.
+use Rattle.std.proofs.Common.{◌≡◌, ℕ, ◌≤◌, List, length, Result, Ok, Err, IfOk, OnOk, OnErr, refl, inl, arith}
+use Rattle.std.specs.Result.{result_ok}
+use Rattle.tv_files.specs.Outside.{NoneFell, SameCounts, Rose}
+use Rattle.tv_files.specs.Calls.{Reads, Creates, Appends, Says}
+use Rattle.tv_files.specs.declared.calls.FileRefusal.{FileRefusal}
+use Rattle.tv_files.specs.declared.calls.FileRefusal.TheVariants.{Failed, Memory}
+use Rattle.tinyr1cs.specs.declared.counts.Call.{Call}
+use Rattle.tinyr1cs.specs.declared.counts.Call.TheVariants.{Reading, Writing, Saying}
+use Rattle.tinyr1cs.specs.declared.counts.Counts.{Counts}
+use Rattle.tinyr1cs.specs.Counts.{told_by, after}
+
+abbrev faults : Call → Counts → ℕ
+faults Reading counts = counts.read_faults
+faults Writing counts = counts.write_faults
+faults Saying counts = counts.say_faults
+
+same : {A : Type 0} (call : Call) (result : Result A FileRefusal) (old new : Counts) → new ≡ after call result old → OnOk result (SameCounts (told_by old) (told_by new))
+same call (Ok value) old new is = record { read_faults = cc; write_faults = cc; say_faults = cc; wants = cc; absent = refl }
+same call (Err why) old new is = tt
+
+failed : {A : Type 0} (call : Call) (result : Result A FileRefusal) (old new : Counts) → new ≡ after call result old → result ≡ Err Failed → Rose (faults call old) (faults call new)
+failed Reading (Err Failed) old new is err = grind arith
+failed Writing (Err Failed) old new is err = grind arith
+failed Saying (Err Failed) old new is err = grind arith
+failed call (Ok value) old new is err = cc
+failed call (Err Memory) old new is err = cc
+
+wanted : {A : Type 0} (call : Call) (result : Result A FileRefusal) (old new : Counts) → new ≡ after call result old → result ≡ Err Memory → Rose old.wants new.wants
+wanted call (Err Memory) old new is err = grind arith
+wanted call (Ok value) old new is err = cc
+wanted call (Err Failed) old new is err = cc
+
+within : (outcome result : Result ℕ FileRefusal) (into : List ℕ) → result_ok result ≡ result_ok outcome → IfOk outcome (λ count. count ≤ length into) → IfOk result (λ count. count ≤ length into)
+within (Ok count) (Ok counted) into is most = grind arith
+within (Ok count) (Err why) into is most = tt
+within (Err why) (Ok counted) into is most = cc
+within (Err why) (Err other) into is most = tt
+
+on_ok : {A : Type 0} (result : Result A FileRefusal) (P : A → Type 0) → ((value : A) → P value) → IfOk result P
+on_ok (Ok value) P holds = holds value
+on_ok (Err why) P holds = tt
+
+on_err : {A : Type 0} (result : Result A FileRefusal) (P : Type 0) → P → OnErr result P
+on_err (Ok value) P holds = tt
+on_err (Err why) P holds = holds
+
+pub reads : (old new : Counts) (name : List ℕ) (at : ℕ) (into : List ℕ) (outcome result : Result ℕ FileRefusal) → result_ok result ≡ result_ok outcome → IfOk outcome (λ count. count ≤ length into) → new ≡ after Reading result old → NoneFell (told_by old) (told_by new) → Reads (told_by old) (told_by new) name at into result
+reads old new name at into outcome result value most is later = record {
+  within = within outcome result into value most;
+  bytes = on_ok result _ (λ count files told. cc);
+  contents = refl;
+  said = refl;
+  counts = same Reading result old new is;
+  later = later;
+  failed = failed Reading result old new is;
+  memory = wanted Reading result old new is;
+  missing = λ files told. cc;
+  there = λ files told. cc;
+}
+
+pub creates : (old new : Counts) (name : List ℕ) (result : Result (Unit {0}) FileRefusal) → new ≡ after Writing result old → NoneFell (told_by old) (told_by new) → Creates (told_by old) (told_by new) name result
+creates old new name result is later = record {
+  done = on_ok result _ (λ _. refl);
+  refused = on_err result _ (inl refl);
+  said = refl;
+  counts = same Writing result old new is;
+  later = later;
+  failed = failed Writing result old new is;
+  memory = wanted Writing result old new is;
+  absent = refl;
+}
+
+pub appends : (old new : Counts) (name bytes : List ℕ) (result : Result (Unit {0}) FileRefusal) → new ≡ after Writing result old → NoneFell (told_by old) (told_by new) → Appends (told_by old) (told_by new) name bytes result
+appends old new name bytes result is later = record {
+  done = on_ok result _ (λ _. refl);
+  refused = on_err result _ (0, refl);
+  said = refl;
+  counts = same Writing result old new is;
+  later = later;
+  failed = failed Writing result old new is;
+  memory = wanted Writing result old new is;
+  missing = λ files told. cc;
+  there = λ files told. cc;
+}
+
+pub says : (old new : Counts) (bytes : List ℕ) (result : Result (Unit {0}) FileRefusal) → new ≡ after Saying result old → NoneFell (told_by old) (told_by new) → Says (told_by old) (told_by new) bytes result
+says old new bytes result is later = record {
+  done = on_ok result _ (λ _. refl);
+  refused = on_err result _ (0, refl);
+  contents = refl;
+  counts = same Saying result old new is;
+  later = later;
+  failed = failed Saying result old new is;
+  memory = wanted Saying result old new is;
+  absent = refl;
+}

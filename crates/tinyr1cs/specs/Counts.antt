@@ -1,0 +1,40 @@
+-- What the system's files tell: four counts, and nothing of contents or of what was said.
+use Rattle.std.specs.Prelude.{ℕ, ◌+◌, ◌-◌, ◌^◌, min, None, Result, Ok, Err}
+use Rattle.tv_files.specs.Outside.{Outside}
+use Rattle.tv_files.specs.declared.calls.FileRefusal.{FileRefusal}
+use Rattle.tv_files.specs.declared.calls.FileRefusal.TheVariants.{Failed, Memory}
+use Rattle.tinyr1cs.specs.declared.counts.Call.{Call}
+use Rattle.tinyr1cs.specs.declared.counts.Call.TheVariants.{Reading, Writing, Saying}
+use Rattle.tinyr1cs.specs.declared.counts.Counts.{Counts}
+
+-- the counts as what is told of the outside
+abbrev pub told_by : Counts → Outside
+told_by counts = record {
+  contents = None;
+  said = None;
+  read_faults = counts.read_faults;
+  write_faults = counts.write_faults;
+  say_faults = counts.say_faults;
+  wants = counts.wants;
+  absent = 0;
+}
+
+-- nothing has gone wrong yet
+abbrev pub zeros : Counts
+zeros = record { read_faults = 0; write_faults = 0; say_faults = 0; wants = 0 }
+
+-- one more, up to a counter's last value
+abbrev pub risen : ℕ → ℕ
+risen count = min (count + 1) (2 ^ 64 - 1)
+
+-- the counts once a call of this kind has failed
+abbrev pub failed : Call → Counts → Counts
+failed Reading counts = record counts { read_faults = risen counts.read_faults }
+failed Writing counts = record counts { write_faults = risen counts.write_faults }
+failed Saying counts = record counts { say_faults = risen counts.say_faults }
+
+-- the counts after a call of this kind that answered this: a refusal raises one of them
+abbrev pub after : {A : Type 0} → Call → Result A FileRefusal → Counts → Counts
+after call (Ok _) counts = counts
+after call (Err Failed) counts = failed call counts
+after call (Err Memory) counts = record counts { wants = risen counts.wants }

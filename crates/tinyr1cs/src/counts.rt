@@ -1,0 +1,76 @@
+//! How often calls on the system's files were refused, by cause.
+ghost use Rattle.std.specs.Prelude.{◌≡◌, ◌≤◌};
+ghost use Rattle.std.specs.Result.{result_ok};
+ghost use Rattle.tv_files.specs.Outside.{NoneFell};
+ghost use Rattle.tinyr1cs.specs.Counts.{told_by, after, risen, zeros};
+
+use std::io;
+use std::io::ErrorKind;
+use tv_files::FileRefusal;
+
+/// How many calls were refused, by cause. Each count stays at its last value.
+#[derive(Clone, Copy, Debug, PartialEq, Eq)]
+pub struct Counts {
+    /// Faults of `read`.
+    pub read_faults: u64,
+    /// Faults of `create` and `append`.
+    pub write_faults: u64,
+    /// Faults of `say`.
+    pub say_faults: u64,
+    /// Wants of memory, in any call.
+    pub wants: u64,
+}
+
+/// The kinds of calls, each with a count of its faults.
+#[derive(Clone, Copy, Debug, PartialEq, Eq)]
+pub enum Call {
+    Reading,
+    Writing,
+    Saying,
+}
+
+impl Counts {
+    /// Nothing has gone wrong yet.
+    pub fn new() -> Counts
+        ensures { result ≡ zeros }
+    {
+        Counts {
+            read_faults: 0,
+            write_faults: 0,
+            say_faults: 0,
+            wants: 0,
+        }
+    }
+
+    /// Counts what a call ended with, and turns an error into a refusal: want of memory raises
+    /// `wants`, any other error the count of faults of this kind of call.
+    pub fn settle<T>(&mut self, call: Call, outcome: io::Result<T>) -> Result<T, FileRefusal>
+        ensures value { result_ok result ≡ result_ok outcome }
+        ensures counts { self.new ≡ after call result self.old }
+        ensures later { NoneFell (told_by self.old) (told_by self.new) }
+    {
+        match outcome {
+            Ok(value) => Ok(value),
+            Err(error) if error.kind() == ErrorKind::OutOfMemory => {
+                raise(&mut self.wants);
+                Err(FileRefusal::Memory)
+            }
+            Err(_) => {
+                match call {
+                    Call::Reading => raise(&mut self.read_faults),
+                    Call::Writing => raise(&mut self.write_faults),
+                    Call::Saying => raise(&mut self.say_faults),
+                }
+                Err(FileRefusal::Failed)
+            }
+        }
+    }
+}
+
+/// Adds one to a count that isn't at its last value.
+fn raise(count: &mut u64)
+    ensures value { count.new ≡ risen count.old }
+    ensures later { count.old ≤ count.new }
+{
+    *count = count.saturating_add(1);
+}

@@ -1,0 +1,145 @@
+//! The system's files and standard output as `Files`.
+ghost use Rattle.std.specs.Prelude.{◌≡◌, ◌≤◌, length, IfOk};
+ghost use Rattle.tv_files.specs.Calls.{Reads, Creates, Appends, Says};
+ghost use Rattle.tinyr1cs.specs.Counts.{told_by, zeros, after};
+ghost use Rattle.tinyr1cs.specs.declared.counts.Call.TheVariants.{Reading, Writing, Saying};
+
+use crate::counts::{Call, Counts};
+use crate::open::OpenFiles;
+use std::alloc::Global;
+use std::io::Write;
+use std::{io, rt};
+use tv_files::{FileRefusal, Files};
+
+/// The files of the system, by name, and its standard output.
+///
+/// Of files and of what was said nothing is told but counts: each refusal raises one by 1, and nothing
+/// else does.
+#[derive(Drop)]
+pub struct DiskFiles<R: rt::Files + Drop> {
+    rt: R,
+    open: OpenFiles<R>,
+    counts: Counts,
+}
+
+impl<R: rt::Files + Drop> DiskFiles<R> {
+    /// Opens nothing yet, with all counts 0.
+    pub fn new(alloc: Global, rt: R) -> DiskFiles<R>
+        ensures { result.counts ≡ zeros }
+    {
+        DiskFiles {
+            rt,
+            open: OpenFiles::new(alloc),
+            counts: Counts::new(),
+        }
+    }
+
+    /// How many calls were refused so far, by cause.
+    pub fn counts(&self) -> Counts
+        ensures { result ≡ self.now.counts }
+    {
+        self.counts
+    }
+}
+
+impl<R: rt::Files + Print + Drop> Files for DiskFiles<R> {
+    ghost seen = { λ files. told_by files.counts };
+
+    #[tactic(auto, using(crate::proofs::Told::reads))]
+    fn read(&mut self, name: &str, at: u64, into: &mut [u8]) -> Result<usize, FileRefusal>
+        ensures told { Reads (told_by self.old.counts) (told_by self.new.counts) name.now at into.new result }
+        ensures counts { self.new.counts ≡ after Reading result self.old.counts }
+    {
+        let outcome = self.open.read(&self.rt, name, at, into);
+        self.counts.settle(Call::Reading, outcome)
+    }
+
+    #[tactic(auto, using(crate::proofs::Told::creates))]
+    fn create(&mut self, name: &str) -> Result<(), FileRefusal>
+        ensures told { Creates (told_by self.old.counts) (told_by self.new.counts) name.now result }
+        ensures counts { self.new.counts ≡ after Writing result self.old.counts }
+    {
+        let outcome = self.open.create(&self.rt, name);
+        self.counts.settle(Call::Writing, outcome)
+    }
+
+    #[tactic(auto, using(crate::proofs::Told::appends))]
+    fn append(&mut self, name: &str, bytes: &[u8]) -> Result<(), FileRefusal>
+        ensures told { Appends (told_by self.old.counts) (told_by self.new.counts) name.now bytes.now result }
+        ensures counts { self.new.counts ≡ after Writing result self.old.counts }
+    {
+        let outcome = self.open.append(&self.rt, name, bytes);
+        self.counts.settle(Call::Writing, outcome)
+    }
+
+    #[tactic(auto, using(crate::proofs::Told::says))]
+    fn say(&mut self, bytes: &[u8]) -> Result<(), FileRefusal>
+        ensures told { Says (told_by self.old.counts) (told_by self.new.counts) bytes.now result }
+        ensures counts { self.new.counts ≡ after Saying result self.old.counts }
+    {
+        let outcome = print(&self.rt, bytes);
+        self.counts.settle(Call::Saying, outcome)
+    }
+}
+
+/// Writes all the bytes to standard output.
+fn print(rt: &impl Print, bytes: &[u8]) -> io::Result<()> {
+    let mut output = io::writer(rt);
+    output.write_all(bytes)?;
+    output.flush()
+}
+
+#[cfg(test)]
+mod tests {
+    use super::*;
+    use std::test::Fail;
+    use std::{env, fs, process};
+    use tv_files::slurp;
+
+    #[test]
+    fn keeps_files_as_the_system_does(rt: HostRuntime) -> Result<(), Fail> {
+        let alloc = rt.alloc();
+        let scratch = format!(in alloc; "tinyr1cs-{}", process::id(rt.process()))?;
+        let folder = env::temp_dir(&rt)?.join(alloc, scratch.as_str())?;
+        let file = folder.join(alloc, "file")?;
+        let absent = folder.join(alloc, "absent")?;
+        fs::create_dir_all(&rt, folder.as_path())?;
+        let name = file.as_str();
+        let mut files = DiskFiles::new(alloc, rt);
+
+        // What was appended is read back from any place, also between two appends.
+        files.create(name)?;
+        files.append(name, b"six of ")?;
+        assert_eq!(rt;
+            slurp(alloc, &mut files, name, 99)?.as_slice(),
+            b"six of ".as_slice()
+        );
+        files.append(name, b"one")?;
+        assert_eq!(rt; fs::read_to_string(&rt, name)?.as_str(), "six of one");
+        let mut piece = [0; 32];
+        for (at, rest) in [(7, "one"), (0, "six of one"), (10, ""), (u64::MAX, "")] {
+            let count = files.read(name, at, &mut piece)?;
+            assert_eq!(rt; &piece[..count], rest.as_bytes(), "from {at}");
+        }
+
+        // A file that was put in another's place is the one that is read once it was created.
+        fs::remove_file(&rt, name)?;
+        files.create(name)?;
+        assert!(rt; slurp(alloc, &mut files, name, 99)?.is_empty());
+        files.say(b"")?;
+        assert_eq!(rt; files.counts(), Counts::new());
+
+        // A name that isn't there, and a folder's.
+        for name in [absent.as_str(), folder.as_str()] {
+            assert_eq!(rt; files.read(name, 0, &mut piece), Err(FileRefusal::Failed));
+            assert_eq!(rt; files.append(name, b"one"), Err(FileRefusal::Failed));
+        }
+        assert_eq!(rt; files.create(folder.as_str()), Err(FileRefusal::Failed));
+        assert!(rt; !fs::exists(&rt, absent.as_str())?);
+        let counts = files.counts();
+        assert_eq!(rt; (counts.read_faults, counts.write_faults), (2, 3));
+        assert_eq!(rt; (counts.say_faults, counts.wants), (0, 0));
+        fs::remove_dir_all(&rt, folder.as_path())?;
+        Ok(())
+    }
+}
