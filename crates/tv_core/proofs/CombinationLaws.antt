@@ -1,14 +1,14 @@
 -- The values of combinations, and what an assignment has at a wire.
-use Rattle.std.proofs.Common.{◌≡◌, ℕ, zero, suc, ◌+◌, ◌-◌, ◌*◌, ◌%◌, ◌<◌, ◌≤◌, List, [], ◌∷◌, ◌++◌, max, All, Some, map, sum_by, length, slice_get, get_or, inl, inr, refl, sym, ◌∙◌, ap, ap₂, arith, mod-lt, one-mul, mul-one, add-zero, zero-add, mod-eq_of_lt}
+use Rattle.std.proofs.Common.{◌≡◌, ℕ, ◌+◌, ◌-◌, ◌*◌, ◌%◌, ◌<◌, List, [], ◌∷◌, ◌++◌, max, Some, length, slice_get, inl, inr, refl, sym, ◌∙◌, ap, arith, mod-lt}
 use Rattle.std.specs.Prelude.{slice_index}
-use Rattle.std.proofs.Math.Nat.{add-mod, mod-mod, mod-add-mod, add-mod-mod, mul_assoc}
+use Rattle.std.proofs.Math.Nat.{add-mod, add-mod-mod, mul_assoc}
 use Rattle.std.proofs.lemmas.Bool.{cases_lt}
 use Rattle.std.proofs.lemmas.List.{get_or_past}
 use Rattle.std.proofs.lemmas.List.Elements.{All-get_or, recursion_from_All}
 use Rattle.std.proofs.lemmas.List.Sums.{sum_by-cons, sum_by-append}
 use Rattle.std.proofs.lemmas.Nat.{mul-mod_first, mul-mod_second}
 use Rattle.tv_core.proofs.Residues.{sum_by-mod_same, sum_by-mul, sum_by-map}
-use Rattle.tv_core.specs.Constraints.{Combination, value, System, Sat, Holds}
+use Rattle.tv_core.specs.Constraints.{Combination, value, System, Sat}
 use Rattle.tv_core.specs.Combinations.{wire, constant, one_less, scaled, less, top}
 use Rattle.tv_core.specs.Laws.{Assigns, Meets}
 use Rattle.tv_core.specs.declared.field.TheConstants.{P}

@@ -1,6 +1,6 @@
 -- The two ways to say that lines are honest are one.
-use Rattle.std.proofs.Common.{◌≡◌, ℕ, List, [], ◌∷◌, ◌++◌, fold, refl, sym, ap, subst}
-use Rattle.tv_core.specs.Lines.{Line, written, Honest, HonestFrom}
+use Rattle.std.proofs.Common.{◌≡◌, ℕ, List, [], ◌∷◌, ◌++◌, fold, refl, ap, subst}
+use Rattle.tv_core.specs.Lines.{Line, written, HonestFrom}
 
 pub Honest-from_HonestFrom : (memory : ℕ → ℕ) (lines earlier : List Line) (line : Line) (later : List Line)
     → HonestFrom memory lines → lines ≡ earlier ++ line ∷ later → line.old ≡ fold written memory earlier line.cell

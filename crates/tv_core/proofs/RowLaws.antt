@@ -1,10 +1,10 @@
 -- Rows over terms, to which more terms are appended.
-use Rattle.std.proofs.Common.{◌≡◌, ℕ, ◌+◌, ◌-◌, ◌<◌, ◌≤◌, List, [], ◌∷◌, ◌++◌, All, map, take, drop, length, get_or, slice_range, refl, sym, ◌∙◌, ap, ap₂, subst, append_assoc, arith, length-append, length-drop}
+use Rattle.std.proofs.Common.{◌≡◌, ℕ, ◌+◌, ◌-◌, ◌≤◌, List, [], ◌∷◌, ◌++◌, All, map, take, drop, length, get_or, slice_range, refl, sym, ◌∙◌, ap, ap₂, append_assoc, arith, length-append, length-drop}
 use Rattle.std.proofs.Math.Seq.{drop-append_seam, take-append_seam}
 use Rattle.std.proofs.lemmas.List.{append-nil, take-append-le, drop-append-le, map-append}
-use Rattle.std.proofs.lemmas.List.Elements.{All-push, All-from_recursion, recursion_from_All}
+use Rattle.std.proofs.lemmas.List.Elements.{All-push, recursion_from_All}
 use Rattle.std.specs.List.{AllByRecursion}
-use Rattle.tv_core.specs.Constraints.{Combination, Constraint}
+use Rattle.tv_core.specs.Constraints.{Combination}
 use Rattle.tv_core.specs.Rows.{constraint_at, Within, row_after}
 use Rattle.tv_core.specs.declared.rows.Row.{Row}
 

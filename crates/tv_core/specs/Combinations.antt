@@ -1,5 +1,5 @@
 -- Words on combinations.
-use Rattle.std.specs.Prelude.{ℕ, ◌+◌, ◌-◌, ◌*◌, ◌%◌, List, [], ◌∷◌, ◌++◌, max, map}
+use Rattle.std.specs.Prelude.{ℕ, ◌+◌, ◌-◌, ◌*◌, ◌%◌, [], ◌∷◌, ◌++◌, max, map}
 use Rattle.tv_core.specs.Constraints.{Combination}
 use Rattle.tv_core.specs.declared.field.TheConstants.{P}
 

@@ -1,5 +1,5 @@
 -- Constraints whose terms stand in one list, one after another.
-use Rattle.std.specs.Prelude.{ℕ, ◌+◌, ◌≤◌, List, slice_range, length, map, All}
+use Rattle.std.specs.Prelude.{◌+◌, ◌≤◌, slice_range, length}
 use Rattle.tv_core.specs.Constraints.{Constraint, Combination}
 use Rattle.tv_core.specs.declared.rows.Row.{Row}
 

@@ -1,4 +1,4 @@
-use Rattle.std.proofs.Common.{◌≡◌, false, ◌++◌, ◌∷◌, [], ◌∙◌, map, ap, ap₂, sym, refl, rules, arith}
+use Rattle.std.proofs.Common.{◌≡◌, false, ◌++◌, ◌∷◌, [], ◌∙◌, map, ap, ap₂, sym, refl, arith}
 use Rattle.tv_core.proofs.RowLaws.{constraints-push}
 use Rattle.tv_core.specs.Circuits.{put}
 use Rattle.tv_core.specs.Constraints.{Constraint}
