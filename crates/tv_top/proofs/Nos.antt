@@ -78,9 +78,11 @@ no_is_true s z x (why.Public at) e =
     (eqb-true (length z) s.wires tells.0, differ (1 ∷ x) (take (1 + s.outputs + s.inputs) z) at tells.1)
 no_is_true s z x (why.Constraint at) e =
     let tells = chosen_tells (length z == s.wires) (first_difference (1 ∷ x) (take (1 + s.outputs + s.inputs) z)) (first_failing z s.constraints) (length z) s.wires (why.Constraint at) e in
-    let first = fails_at z s.constraints at tells.2 in
-    (eqb-true (length z) s.wires tells.0, same_lists (1 ∷ x) (take (1 + s.outputs + s.inputs) z) tells.1,
-     record { before = All-from_recursion _ (take at s.constraints) first.3; failing = first.0; there = first.1; fails = first.2 })
+    let first = fails_at z s.constraints at tells.2 in (
+      eqb-true (length z) s.wires tells.0,
+      same_lists (1 ∷ x) (take (1 + s.outputs + s.inputs) z) tells.1,
+      record { before = All-from_recursion _ (take at s.constraints) first.3; failing = first.0; there = first.1; fails = first.2 },
+    )
 
 -- a true no is the verdict
 pub true_no : (s : System) (z x : List ℕ) (told : NoWhy) → IsWrong told s z x → verdict_status (judge s z x) ≡ No told

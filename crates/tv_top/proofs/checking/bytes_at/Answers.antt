@@ -9,6 +9,5 @@ returns-in-Err-Memory g c = record {
   absent = λ files told. elim (c.in-Err-Memory.ensures.there files told) [ inl same ↦ inl same | inr none ↦ inr (c.args.word, ap (bytes_of c.args.word) none) ];
   only = c.in-Err-Memory.ensures.only;
   caused = λ _ e. cc;
-  counts = tt;
   usage = λ e. cc;
 }
