@@ -8,7 +8,7 @@ use Rattle.std.proofs.lemmas.List.Elements.{All-from_recursion}
 use Rattle.tv_core.specs.declared.field.TheConstants.{P}
 use Rattle.tv_word.specs.Word.{spelled}
 use Rattle.tv_word.specs.Numeral.{numeral, is_numeral, positional}
-use Rattle.tv_top.specs.Reading.{◌>>=◌, given, each}
+use Rattle.tv_top.specs.Reading.{each}
 use Rattle.tv_top.specs.PlainWitness.{words_of, element_of, assignment_of}
 use Rattle.tv_top.specs.PlainTape.{items_of, tape_of}
 use Rattle.tv_top.proofs.Chain.{bind_if, given_if}

@@ -1,12 +1,12 @@
 -- Trying constraints one after the other, as a loop does.
-use Rattle.std.proofs.Common.{◌≡◌, ℕ, zero, suc, ◌+◌, ◌-◌, ◌<◌, ◌≤◌, ◌==◌, Bool, true, false, cond, not, List, [], ◌∷◌, length, Option, Some, None, refl, sym, ap, ◌∙◌, arith}
+use Rattle.std.proofs.Common.{◌≡◌, ℕ, suc, ◌+◌, ◌-◌, ◌<◌, ◌≤◌, ◌==◌, Bool, true, false, cond, not, List, [], ◌∷◌, length, Option, Some, None, refl, sym, ap, ◌∙◌, arith}
 use Rattle.std.specs.Bool.{then_some}
 use Rattle.std.specs.Option.{option_map, option_or}
 use Rattle.std.proofs.lemmas.Bool.Decides.{nat_tests}
 use Rattle.tv_core.specs.Constraints.{Constraint}
 use Rattle.tv_top.specs.Reading.{◌>>=◌}
 use Rattle.tv_top.specs.PlainSystem.{constraint_at, constraints_of}
-use Rattle.tv_top.specs.Verdict.{holds, first_failing}
+use Rattle.tv_top.specs.Verdict.{holds}
 use Rattle.tv_top.specs.Tried.{tried, all_tried}
 
 -- the place found before this one, else the place among those from this one on

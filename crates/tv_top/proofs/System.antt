@@ -3,10 +3,10 @@ use Rattle.std.proofs.Common.{◌≡◌, ℕ, ◌+◌, ◌*◌, ◌≤◌, ◌==
 use Rattle.std.specs.Prelude.{IfSome, IsSome}
 use Rattle.std.proofs.lemmas.Bool.{leb-true}
 use Rattle.std.proofs.lemmas.Option.{MatchOption-at_some}
-use Rattle.tv_core.specs.Constraints.{Constraint, System}
+use Rattle.tv_core.specs.Constraints.{Constraint}
 use Rattle.tv_core.specs.declared.field.TheConstants.{P}
 use Rattle.tv_top.specs.declared.plain_system.Header.{Header}
-use Rattle.tv_top.specs.Reading.{◌>>=◌, given, number_at, contents_of}
+use Rattle.tv_top.specs.Reading.{number_at, contents_of}
 use Rattle.tv_top.specs.PlainSystem.{header_of, constraints_of, system_in, system_of}
 use Rattle.tv_top.specs.Verdict.{HasRoom}
 use Rattle.tv_top.specs.Tried.{all_tried}

@@ -1,10 +1,10 @@
 -- The system that a plain r1cs file holds: the binary format version 1 over this field, with its
 -- sections 1, 2 and 3 in this order and no others.
-use Rattle.std.specs.Prelude.{◌≡◌, ℕ, zero, suc, ◌+◌, ◌*◌, List, [], ◌∷◌, length, Option, Some, None, nat_lt, nat_le, ◌==◌, ◌&&◌, unwrap_or}
+use Rattle.std.specs.Prelude.{ℕ, zero, suc, ◌+◌, ◌*◌, List, [], ◌∷◌, length, Option, Some, None, nat_lt, nat_le, ◌==◌, ◌&&◌, unwrap_or}
 use Rattle.tv_core.specs.Constraints.{Combination, Constraint, System}
 use Rattle.tv_core.specs.declared.field.TheConstants.{P}
 use Rattle.tv_top.specs.declared.plain_system.Header.{Header}
-use Rattle.tv_top.specs.Reading.{◌>>=◌, given, number_at, contents_of}
+use Rattle.tv_top.specs.Reading.{◌>>=◌, given, bytes_at, number_at, contents_of}
 
 -- section 1: the size of a field number, which is 8, the prime, the numbers of wires, public outputs,
 -- public inputs, private inputs, labels (eight bytes) and constraints; private inputs and labels aren't
@@ -23,13 +23,14 @@ header_of content = do
   _ ← given (nat_le (1 + outputs.0 + inputs.0) wires.0)
   Some (record { wires = wires.0; outputs = outputs.0; inputs = inputs.0; constraints = constraints.0 })
 
--- one term: the number of a wire, which there is, and a coefficient below P
+-- one term, of twelve bytes: the number of a wire, which there is, and a coefficient below P
 unfoldable pub term_at : ℕ → List ℕ → Option ((ℕ × ℕ) × List ℕ)
 term_at wires bytes = do
-  wire ← number_at 4 bytes
+  term ← bytes_at 12 bytes
+  wire ← number_at 4 term.0
   coefficient ← number_at 8 wire.1
   _ ← given (nat_lt wire.0 wires && nat_lt coefficient.0 P)
-  Some ((coefficient.0, wire.0), coefficient.1)
+  Some ((coefficient.0, wire.0), term.1)
 
 -- so many terms
 unfoldable pub terms_at : ℕ → ℕ → List ℕ → Option (Combination × List ℕ)

@@ -6,7 +6,7 @@ ghost use Rattle.tv_top.specs.Reading.{Reads};
 ghost use Rattle.tv_top.specs.PlainSystem.{term_at, terms_at, combination_at, constraint_at, constraints_of};
 ghost use Rattle.tv_top.specs.Tried.{valued, tried, all_tried};
 
-use crate::reading::{take_u32, take_u64};
+use crate::reading::{take_bytes, take_u32, take_u64};
 use tv_core::F;
 
 /// The most terms of a combination.
@@ -17,8 +17,9 @@ const MOST_TERMS: u32 = 1_048_576;
 fn take_term(wires: u32, bytes: &mut &[u8]) -> Option<(F, u32)>
     ensures { Reads (λ term. (term, bytes.new.now)) result (term_at wires bytes.old.now) }
 {
-    let wire = take_u32(bytes)?;
-    let coefficient = F::canon(take_u64(bytes)?)?;
+    let mut term = take_bytes(12, bytes)?;
+    let wire = take_u32(&mut term)?;
+    let coefficient = F::canon(take_u64(&mut term)?)?;
     (wire < wires).then_some((coefficient, wire))
 }
 

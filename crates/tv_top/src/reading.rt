@@ -20,7 +20,8 @@ pub(crate) fn take_u64(bytes: &mut &[u8]) -> Option<u64>
     Some(u64::from_le_bytes(*front))
 }
 
-fn take_bytes<'a>(size: u64, bytes: &mut &'a [u8]) -> Option<&'a [u8]>
+/// Takes so many bytes.
+pub(crate) fn take_bytes<'a>(size: u64, bytes: &mut &'a [u8]) -> Option<&'a [u8]>
     ensures { Reads (λ taken. (taken.now, bytes.new.now)) result (bytes_at size bytes.old.now) }
 {
     let (front, rest) = bytes.split_at_checked(size as usize)?;

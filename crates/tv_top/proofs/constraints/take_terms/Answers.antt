@@ -1,6 +1,5 @@
-use Rattle.std.proofs.Common.{sym, ◌∙◌, arith}
-use Rattle.tv_top.specs.PlainSystem.{terms_at}
-use Rattle.tv_top.proofs.Terms.{with_sum, with_none, goes_on, stops, is_done}
+use Rattle.std.proofs.Common.{arith}
+use Rattle.tv_top.proofs.Terms.{goes_on, stops, is_done}
 use Rattle.tv_top.proofs.constraints.take_terms.Goals as goal
 
 pub returns-in_err-coefficient : goal.returns-in_err-coefficient
