@@ -1,11 +1,11 @@
 -- What a call promises, from what reading found and from saying a line.
-use Rattle.std.proofs.Common.{◌≡◌, ℕ, ◌≤◌, ◌⊎◌, List, [], ◌∷◌, Bool, true, false, Option, Some, None, Result, Ok, Err, inl, inr, refl, sym, ap, ◌∙◌, arith, rules, codes}
+use Rattle.std.proofs.Common.{◌≡◌, ℕ, ◌⊎◌, List, [], ◌∷◌, Bool, true, false, Option, Some, None, Result, Ok, Err, inl, inr, refl, sym, ap, ◌∙◌, arith, rules, codes}
 use Rattle.std.specs.Str.{bytes_eq}
-use Rattle.tv_files.specs.Outside.{Names, Outside, Told, Rose, NoneFell, OnlyReads}
+use Rattle.tv_files.specs.Outside.{Names, Outside, Rose}
 use Rattle.tv_top.specs.declared.status.Status.{Status}
 use Rattle.tv_top.specs.declared.status.Status.TheVariants.{Usage, FileFault, Memory}
 use Rattle.tv_top.specs.Codes.{says}
-use Rattle.tv_top.specs.Outcome.{Look, Job, Check, job, Answer, status_of, said_of, report_of, outcome}
+use Rattle.tv_top.specs.Outcome.{Look, Job, job, Answer, status_of, said_of, report_of, outcome}
 use Rattle.tv_top.specs.Finds.{IsFound, Finds}
 use Rattle.tv_top.specs.Ends.{Said, SaidPart, Ends, IsConcluded, Concludes}
 use Rattle.tv_top.specs.Answers.{IsRead, Answers}

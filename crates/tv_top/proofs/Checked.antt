@@ -1,7 +1,7 @@
 -- What `check` promises its user, from how its call ends.
-use Rattle.std.proofs.Common.{◌≡◌, ℕ, ◌≤◌, ◌⊎◌, Bool, true, false, leb, List, [], ◌∷◌, length, Option, Some, None, Result, Ok, Err, inl, inr, refl, sym, ap, ◌∙◌, arith, codes}
+use Rattle.std.proofs.Common.{◌≡◌, ℕ, ◌⊎◌, Bool, true, false, leb, List, [], ◌∷◌, length, Option, Some, None, Result, Ok, Err, inl, inr, refl, sym, ◌∙◌, codes}
 use Rattle.std.proofs.lemmas.Bool.{leb-true, le-leb}
-use Rattle.tv_core.specs.Constraints.{System, Sat, Extends}
+use Rattle.tv_core.specs.Constraints.{System}
 use Rattle.tv_files.specs.Outside.{Names, Outside}
 use Rattle.tv_top.specs.declared.status.NoWhy.{NoWhy}
 use Rattle.tv_top.specs.declared.status.Status.{Status}
@@ -12,7 +12,7 @@ use Rattle.tv_top.specs.PlainSystem.{system_of}
 use Rattle.tv_top.specs.PlainWitness.{assignment_of}
 use Rattle.tv_top.specs.PlainTape.{tape_of}
 use Rattle.tv_top.specs.Verdict.{judge}
-use Rattle.tv_top.specs.Outcome.{Look, ◌>>=◌, Job, Check, job, Answer, bytes_of, plain_of, file_at, judged_of, check_of, verdict_status, status_of, outcome}
+use Rattle.tv_top.specs.Outcome.{Look, ◌>>=◌, Job, Check, job, Answer, file_at, judged_of, check_of, verdict_status, status_of, outcome}
 use Rattle.tv_top.specs.Ends.{Ends}
 use Rattle.tv_top.specs.Answers.{Answers}
 use Rattle.tv_top.specs.Claims.{Holding, Given, Accepted, Refuted, IsHindered, Checks}

@@ -1,18 +1,17 @@
 -- A no is the verdict exactly where it is true.
-use Rattle.std.proofs.Common.{◌≡◌, ◌≢◌, ◌↔◌, ℕ, zero, suc, ◌+◌, ◌==◌, Bool, true, false, cond, eqb, List, [], ◌∷◌, length, take, Option, Some, None, All, inl, inr, refl, sym, ap, ◌∙◌, arith}
+use Rattle.std.proofs.Common.{◌≡◌, ℕ, zero, suc, ◌+◌, ◌==◌, Bool, true, false, cond, List, [], ◌∷◌, length, take, Option, Some, None, refl, sym, ap, ◌∙◌}
 use Rattle.std.specs.Prelude.{slice_get}
-use Rattle.std.specs.Option.{option_map}
 use Rattle.std.specs.List.{AllByRecursion}
 use Rattle.std.proofs.lemmas.Bool.{eqb-true, eqb-false, eq-eqb, ne_eqb}
 use Rattle.std.proofs.lemmas.List.Elements.{All-from_recursion, recursion_from_All}
 use Rattle.tv_core.specs.Constraints.{System, Constraint, Holds}
 use Rattle.tv_top.specs.declared.status.NoWhy.{NoWhy}
 use Rattle.tv_top.specs.declared.status.NoWhy.TheVariants as why
-use Rattle.tv_top.specs.declared.status.Status.TheVariants.{Done, No}
+use Rattle.tv_top.specs.declared.status.Status.TheVariants.{No}
 use Rattle.tv_top.specs.declared.verdict.Verdict.{Verdict}
-use Rattle.tv_top.specs.declared.verdict.Verdict.TheVariants.{Yes, WireCount, NoPublic, NoConstraint}
+use Rattle.tv_top.specs.declared.verdict.Verdict.TheVariants.{WireCount}
 use Rattle.tv_top.specs.Verdict.{holds, first_failing, first_difference, constraint_verdict, public_verdict, judge}
-use Rattle.tv_top.specs.Meaning.{DifferFirst, FailsFirst}
+use Rattle.tv_top.specs.Meaning.{DifferFirst}
 use Rattle.tv_top.specs.Outcome.{verdict_status}
 use Rattle.tv_top.specs.Claims.{IsWrong}
 use Rattle.tv_top.proofs.Verdicts.{differ, same_lists, no_difference, fails_at}

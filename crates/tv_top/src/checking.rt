@@ -24,11 +24,9 @@ fn bytes_at<D: Files>(
     word: u32,
     name: &str,
 ) -> Result<Vec<u8>, Status>
-    ensures {
-        Finds (λ v. v.items) (λ at. at ≡ word)
-            (λ held. record { at = word; gives = bytes_of word (held name.now) })
-            (D.seen files.old) (D.seen files.new) result
-    }
+    ensures { Finds (λ v. v.items) (λ at. at ≡ word)
+        (λ held. record { at = word; gives = bytes_of word (held name.now) })
+        (D.seen files.old) (D.seen files.new) result }
 {
     match slurp(alloc, files, name, MOST_BYTES) {
         Ok(bytes) => Ok(bytes),
@@ -42,11 +40,9 @@ fn bytes_at<D: Files>(
 
 /// The assignment of the witness file, whose name stands at word 2.
 fn witness_at<D: Files>(alloc: Global, files: &mut D, name: &str) -> Result<Vec<F>, Status>
-    ensures {
-        Finds (λ v. v.items) (λ at. at ≡ 2)
-            (λ held. file_at 2 (held name.now) assignment_of)
-            (D.seen files.old) (D.seen files.new) result
-    }
+    ensures { Finds (λ v. v.items) (λ at. at ≡ 2)
+        (λ held. file_at 2 (held name.now) assignment_of)
+        (D.seen files.old) (D.seen files.new) result }
 {
     let bytes = bytes_at(alloc, files, 2, name)?;
     read_assignment(alloc, &bytes)?.ok_or(Status::NotPlain { word: 2 })
@@ -54,11 +50,9 @@ fn witness_at<D: Files>(alloc: Global, files: &mut D, name: &str) -> Result<Vec<
 
 /// The public numbers of the tape, whose name stands at word 3.
 fn tape_at<D: Files>(alloc: Global, files: &mut D, name: &str) -> Result<Vec<F>, Status>
-    ensures {
-        Finds (λ v. v.items) (λ at. at ≡ 3)
-            (λ held. file_at 3 (held name.now) tape_of)
-            (D.seen files.old) (D.seen files.new) result
-    }
+    ensures { Finds (λ v. v.items) (λ at. at ≡ 3)
+        (λ held. file_at 3 (held name.now) tape_of)
+        (D.seen files.old) (D.seen files.new) result }
 {
     let bytes = bytes_at(alloc, files, 3, name)?;
     read_tape(alloc, &bytes)?.ok_or(Status::NotPlain { word: 3 })
@@ -73,11 +67,9 @@ fn judged<D: Files>(
     witness: &str,
     tape: &str,
 ) -> Result<Verdict, Status>
-    ensures {
-        Finds (λ v. v) (λ at. (2 ≤ at) × (at ≤ 3))
-            (judged_of system.now witness.now tape.now)
-            (D.seen files.old) (D.seen files.new) result
-    }
+    ensures { Finds (λ v. v) (λ at. (2 ≤ at) × (at ≤ 3))
+        (judged_of system.now witness.now tape.now)
+        (D.seen files.old) (D.seen files.new) result }
 {
     let z = witness_at(alloc, files, witness)?;
     let x = tape_at(alloc, files, tape)?;
@@ -93,11 +85,9 @@ pub(crate) fn check<D: Files>(
     witness: &str,
     tape: &str,
 ) -> Result<Verdict, Status>
-    ensures {
-        Finds (λ v. v) (λ at. (0 < at) × (at ≤ 3))
-            (check_of system.now witness.now tape.now)
-            (D.seen files.old) (D.seen files.new) result
-    }
+    ensures { Finds (λ v. v) (λ at. (0 < at) × (at ≤ 3))
+        (check_of system.now witness.now tape.now)
+        (D.seen files.old) (D.seen files.new) result }
 {
     let bytes = bytes_at(alloc, files, 1, system)?;
     let system = read_system(&bytes).ok_or(Status::NotPlain { word: 1 })?;

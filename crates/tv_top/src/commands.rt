@@ -19,10 +19,8 @@ use tv_files::{FileRefusal, Files};
 /// `words` is the number of words, `report` what Done says.
 fn conclude<D: Files>(files: &mut D, words: usize, report: Option<&str>, status: Status) -> Status
     requires { ForSome report (λ text. length text.now < 96) }
-    ensures {
-        Concludes status (says (option_copied report.entry) status) words
-            (D.seen files.old) (D.seen files.new) result
-    }
+    ensures { Concludes status (says (option_copied report.entry) status) words
+        (D.seen files.old) (D.seen files.new) result }
 {
     let Some(line) = line_of(report, &status) else {
         return status;
@@ -43,10 +41,8 @@ fn run_check<D: Files>(
     witness: &str,
     tape: &str,
 ) -> Status
-    ensures {
-        Answers (Ok (Check system.now witness.now tape.now)) words
-            (D.seen files.old) (D.seen files.new) result
-    }
+    ensures { Answers (Ok (Check system.now witness.now tape.now)) words
+        (D.seen files.old) (D.seen files.new) result }
 {
     let status = match check(alloc, files, system, witness, tape) {
         Ok(verdict) => Status::from(verdict),
@@ -68,16 +64,12 @@ fn run_check<D: Files>(
 /// place of `Usage` only where the files wanted it. After either no further file call is made. No file
 /// is changed.
 pub fn command<D: Files>(alloc: Global, words: &[String], files: &mut D) -> Status
-    ensures answers {
-        Answers (job (map string_bytes words.now)) (length words.now)
-            (D.seen files.old) (D.seen files.new) result
-    }
-    ensures check {
-        (system witness tape : List ℕ)
-            → map string_bytes words.now ≡ codes "check" ∷ system ∷ witness ∷ tape ∷ []
-            → Told (D.seen files.old) (λ held.
-                Checks held system witness tape (D.seen files.old) (D.seen files.new) result)
-    }
+    ensures answers { Answers (job (map string_bytes words.now)) (length words.now)
+        (D.seen files.old) (D.seen files.new) result }
+    ensures check { (system witness tape : List ℕ)
+        → map string_bytes words.now ≡ codes "check" ∷ system ∷ witness ∷ tape ∷ []
+        → Told (D.seen files.old) (λ held.
+        Checks held system witness tape (D.seen files.old) (D.seen files.new) result) }
 {
     let job = match job_of(words) {
         Ok(job) => job,

@@ -1,5 +1,4 @@
-use Rattle.std.proofs.Common.{rules, arith, inl, inr, refl, ap}
-use Rattle.std.proofs.lemmas.Grind.{common_steps}
+use Rattle.std.proofs.Common.{inl, inr, refl, ap}
 use Rattle.tv_top.specs.Outcome.{bytes_of}
 use Rattle.tv_top.proofs.checking.bytes_at.Goals as goal
 
