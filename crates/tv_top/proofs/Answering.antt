@@ -1,13 +1,14 @@
 -- What a call promises, from what reading found and from saying a line.
-use Rattle.std.proofs.Common.{◌≡◌, ℕ, ◌≤◌, ◌⊎◌, List, [], ◌∷◌, Bool, true, false, Option, Some, None, Result, Ok, Err, inl, inr, refl, sym, ap, ◌∙◌, arith, rules, codes}
+use Rattle.std.proofs.Common.{◌≡◌, ℕ, ◌⊎◌, List, [], ◌∷◌, Bool, true, false, Option, Some, None, Result, Ok, Err, inl, inr, refl, sym, ap, ◌∙◌, arith, rules, codes}
 use Rattle.std.specs.Str.{bytes_eq}
-use Rattle.tv_files.specs.Outside.{Names, Outside, Told, Rose, NoneFell, OnlyReads}
+use Rattle.tv_files.specs.Outside.{Names, Outside, Rose}
 use Rattle.tv_top.specs.declared.status.Status.{Status}
 use Rattle.tv_top.specs.declared.status.Status.TheVariants.{Usage, FileFault, Memory}
 use Rattle.tv_top.specs.Codes.{says}
-use Rattle.tv_top.specs.Outcome.{Look, Job, Check, job, Answer, status_of, said_of, report_of, outcome}
+use Rattle.tv_top.specs.Outcome.{Look, Job, job, Answer, status_of, said_of, report_of, outcome}
 use Rattle.tv_top.specs.Finds.{IsFound, Finds}
-use Rattle.tv_top.specs.Ends.{Said, SaidPart, Ends, IsConcluded, Concludes, IsRead, Answers}
+use Rattle.tv_top.specs.Ends.{Said, SaidPart, Ends, IsConcluded, Concludes}
+use Rattle.tv_top.specs.Answers.{IsRead, Answers}
 use Rattle.tv_top.proofs.Concluding.{concluded_since, ends_answered, said_nothing}
 
 -- a status that was concluded was said, or a part of what it says
@@ -26,9 +27,9 @@ job_faultless (a ∷ b ∷ []) word e = cc
 job_faultless (a ∷ b ∷ c ∷ []) word e = cc
 job_faultless (a ∷ b ∷ c ∷ d ∷ []) word e = by_name (bytes_eq a (codes "check")) refl
   where
-  by_name : (test : Bool) → bytes_eq a (codes "check") ≡ test → ⊥
-  by_name true is = let g = rw is at e in cc
-  by_name false is = let g = rw is at e in cc
+    by_name : (test : Bool) → bytes_eq a (codes "check") ≡ test → ⊥
+    by_name true is = let g = rw is at e in cc
+    by_name false is = let g = rw is at e in cc
 job_faultless (a ∷ b ∷ c ∷ d ∷ f ∷ rest) word e = cc
 
 -- the cause of an answer that was concluded: the status had it already, or saying it had
@@ -95,13 +96,13 @@ answers_found asked status report due found count old mid new result is_outcome 
     record {
       ends = λ files told. rw is_outcome (ends_found status report (due files) found count files old new result same told (finds.told files told) concluded);
       absent = λ files told. elim (finds.absent files told) [
-        inl here ↦ inl (concludes.absent ∙ here)
+        | inl here ↦ inl (concludes.absent ∙ here)
         | inr missing ↦ inr (missing.0, ap (λ (answer : Answer). answer.status) (is_outcome files) ∙ ap (status_of status) missing.1)
       ];
       refused = λ other e. cc;
       usage = λ e. absurd (finds.usage (refusal_of status found Usage no_usage (usage_concluded (status_of status found) (says report (status_of status found)) count old new result concluded e)));
       caused = λ word e. elim (caused_concluded (status_of status found) (says report (status_of status found)) count old new result word concluded e) [
-        inl is ↦ let cause = finds.caused word (refusal_of status found (FileFault word) (λ x. no_fault x word) is) in inl (cause.0, omega (arith, cause.1))
+        | inl is ↦ let cause = finds.caused word (refusal_of status found (FileFault word) (λ x. no_fault x word) is) in inl (cause.0, omega (arith, cause.1))
         | inr cause ↦ inr cause
       ];
       said = rw is_report (said_concluded report (status_of status found) count old new result concluded);

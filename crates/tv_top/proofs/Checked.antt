@@ -1,7 +1,7 @@
 -- What `check` promises its user, from how its call ends.
-use Rattle.std.proofs.Common.{◌≡◌, ℕ, ◌≤◌, ◌⊎◌, Bool, true, false, leb, List, [], ◌∷◌, length, Option, Some, None, Result, Ok, Err, inl, inr, refl, sym, ap, ◌∙◌, arith, codes}
+use Rattle.std.proofs.Common.{◌≡◌, ℕ, ◌⊎◌, Bool, true, false, leb, List, [], ◌∷◌, length, Option, Some, None, Result, Ok, Err, inl, inr, refl, sym, ◌∙◌, codes}
 use Rattle.std.proofs.lemmas.Bool.{leb-true, le-leb}
-use Rattle.tv_core.specs.Constraints.{System, Sat, Extends}
+use Rattle.tv_core.specs.Constraints.{System}
 use Rattle.tv_files.specs.Outside.{Names, Outside}
 use Rattle.tv_top.specs.declared.status.NoWhy.{NoWhy}
 use Rattle.tv_top.specs.declared.status.Status.{Status}
@@ -12,8 +12,9 @@ use Rattle.tv_top.specs.PlainSystem.{system_of}
 use Rattle.tv_top.specs.PlainWitness.{assignment_of}
 use Rattle.tv_top.specs.PlainTape.{tape_of}
 use Rattle.tv_top.specs.Verdict.{judge}
-use Rattle.tv_top.specs.Outcome.{Look, ◌>>=◌, Job, Check, job, Answer, bytes_of, plain_of, file_at, judged_of, check_of, verdict_status, status_of, outcome}
-use Rattle.tv_top.specs.Ends.{Ends, Answers}
+use Rattle.tv_top.specs.Outcome.{Look, ◌>>=◌, Job, Check, job, Answer, file_at, judged_of, check_of, verdict_status, status_of, outcome}
+use Rattle.tv_top.specs.Ends.{Ends}
+use Rattle.tv_top.specs.Answers.{Answers}
 use Rattle.tv_top.specs.Claims.{Holding, Given, Accepted, Refuted, IsHindered, Checks}
 use Rattle.tv_top.proofs.Verdicts.{yes_exactly}
 use Rattle.tv_top.proofs.Nos.{no_is_true, true_no}
@@ -67,17 +68,23 @@ judged_tape : (files : Names) (system witness tape : List ℕ) (s : System) (z :
     Seen 3 (files tape) tape_of → Judged files system witness tape
 unfolding check_of judged_of
 judged_tape files system witness tape s z in_system in_witness (inl seen) = inl (s, z, seen.0, record { in_system = in_system; in_witness = in_witness; in_tape = seen.1 })
-judged_tape files system witness tape s z in_system in_witness (inr refused) = inr (refused.0,
-    on (file_at 1 (files system) system_of) _ s (held_at 1 (files system) system_of s in_system)
-    ∙ on (file_at 2 (files witness) assignment_of) _ z (held_at 2 (files witness) assignment_of z in_witness)
-    ∙ stop (file_at 3 (files tape) tape_of) _ refused.0 refused.1, refused.2)
+judged_tape files system witness tape s z in_system in_witness (inr refused) = inr (
+  refused.0,
+  on (file_at 1 (files system) system_of) _ s (held_at 1 (files system) system_of s in_system)
+      ∙ on (file_at 2 (files witness) assignment_of) _ z (held_at 2 (files witness) assignment_of z in_witness)
+      ∙ stop (file_at 3 (files tape) tape_of) _ refused.0 refused.1,
+  refused.2,
+)
 
 judged_witness : (files : Names) (system witness tape : List ℕ) (s : System) → Holding system_of (files system) s → Seen 2 (files witness) assignment_of → Judged files system witness tape
 unfolding check_of judged_of
 judged_witness files system witness tape s in_system (inl seen) = judged_tape files system witness tape s seen.0 in_system seen.1 (seen_at 3 (files tape) tape_of)
-judged_witness files system witness tape s in_system (inr refused) = inr (refused.0,
-    on (file_at 1 (files system) system_of) _ s (held_at 1 (files system) system_of s in_system)
-    ∙ stop (file_at 2 (files witness) assignment_of) _ refused.0 refused.1, refused.2)
+judged_witness files system witness tape s in_system (inr refused) = inr (
+  refused.0,
+  on (file_at 1 (files system) system_of) _ s (held_at 1 (files system) system_of s in_system)
+      ∙ stop (file_at 2 (files witness) assignment_of) _ refused.0 refused.1,
+  refused.2,
+)
 
 judged_system : (files : Names) (system witness tape : List ℕ) → Seen 1 (files system) system_of → Judged files system witness tape
 unfolding check_of
@@ -89,9 +96,9 @@ judged_system files system witness tape (inr refused) = inr (refused.0, stop (fi
 -- a fault has hindered it
 hindered_by : (asked : Result Job Status) (count word : ℕ) (old new : Outside) (result : Status) → Answers asked count old new result → result ≡ FileFault word → IsHindered old new result
 hindered_by asked count word old new result answers is = elim (answers.caused word is) [
-    inl read ↦ inl (word, is, inl read.1)
-    | inr said ↦ inl (word, is, inr said.1)
-  ]
+  | inl read ↦ inl (word, is, inl read.1)
+  | inr said ↦ inl (word, is, inr said.1)
+]
 
 -- a status that is due is the answer, unless something hindered it
 due_or_hindered : (answer : Answer) (asked : Result Job Status) (count : ℕ) (files : Names) (old new : Outside) (result : Status) → Answers asked count old new result →

@@ -1,11 +1,9 @@
 -- What saying the line of a status makes of a call.
-use Rattle.std.proofs.Common.{◌≡◌, ℕ, ◌≤◌, ◌⊎◌, List, ◌++◌, Option, Some, None, option_map, Result, Ok, Err, inl, inr, refl, sym, ap, ◌∙◌, arith, rules}
-use Rattle.tv_files.specs.Outside.{Names, Outside, NoneFell, OnlyReads}
+use Rattle.std.proofs.Common.{◌≡◌, ℕ, List, ◌++◌, Option, Some, None, option_map, inl, inr, ap, ◌∙◌, arith}
+use Rattle.tv_files.specs.Outside.{Names, Outside, OnlyReads}
 use Rattle.tv_top.specs.declared.status.Status.{Status}
-use Rattle.tv_top.specs.declared.status.Status.TheVariants.{FileFault, Memory}
 use Rattle.tv_top.specs.Codes.{says}
-use Rattle.tv_top.specs.Outcome.{Look, Answer, status_of, said_of}
-use Rattle.tv_top.specs.Finds.{IsFound}
+use Rattle.tv_top.specs.Outcome.{said_of}
 use Rattle.tv_top.specs.Ends.{Said, SaidPart, Ends, IsConcluded}
 
 -- reading leaves what was said

@@ -1,18 +1,17 @@
 -- A no is the verdict exactly where it is true.
-use Rattle.std.proofs.Common.{◌≡◌, ◌≢◌, ◌↔◌, ℕ, zero, suc, ◌+◌, ◌==◌, Bool, true, false, cond, eqb, List, [], ◌∷◌, length, take, Option, Some, None, All, inl, inr, refl, sym, ap, ◌∙◌, arith}
+use Rattle.std.proofs.Common.{◌≡◌, ℕ, zero, suc, ◌+◌, ◌==◌, Bool, true, false, cond, List, [], ◌∷◌, length, take, Option, Some, None, refl, sym, ap, ◌∙◌}
 use Rattle.std.specs.Prelude.{slice_get}
-use Rattle.std.specs.Option.{option_map}
 use Rattle.std.specs.List.{AllByRecursion}
 use Rattle.std.proofs.lemmas.Bool.{eqb-true, eqb-false, eq-eqb, ne_eqb}
 use Rattle.std.proofs.lemmas.List.Elements.{All-from_recursion, recursion_from_All}
 use Rattle.tv_core.specs.Constraints.{System, Constraint, Holds}
 use Rattle.tv_top.specs.declared.status.NoWhy.{NoWhy}
 use Rattle.tv_top.specs.declared.status.NoWhy.TheVariants as why
-use Rattle.tv_top.specs.declared.status.Status.TheVariants.{Done, No}
+use Rattle.tv_top.specs.declared.status.Status.TheVariants.{No}
 use Rattle.tv_top.specs.declared.verdict.Verdict.{Verdict}
-use Rattle.tv_top.specs.declared.verdict.Verdict.TheVariants.{Yes, WireCount, NoPublic, NoConstraint}
+use Rattle.tv_top.specs.declared.verdict.Verdict.TheVariants.{WireCount}
 use Rattle.tv_top.specs.Verdict.{holds, first_failing, first_difference, constraint_verdict, public_verdict, judge}
-use Rattle.tv_top.specs.Meaning.{DifferFirst, FailsFirst}
+use Rattle.tv_top.specs.Meaning.{DifferFirst}
 use Rattle.tv_top.specs.Outcome.{verdict_status}
 use Rattle.tv_top.specs.Claims.{IsWrong}
 use Rattle.tv_top.proofs.Verdicts.{differ, same_lists, no_difference, fails_at}
@@ -78,9 +77,11 @@ no_is_true s z x (why.Public at) e =
     (eqb-true (length z) s.wires tells.0, differ (1 ∷ x) (take (1 + s.outputs + s.inputs) z) at tells.1)
 no_is_true s z x (why.Constraint at) e =
     let tells = chosen_tells (length z == s.wires) (first_difference (1 ∷ x) (take (1 + s.outputs + s.inputs) z)) (first_failing z s.constraints) (length z) s.wires (why.Constraint at) e in
-    let first = fails_at z s.constraints at tells.2 in
-    (eqb-true (length z) s.wires tells.0, same_lists (1 ∷ x) (take (1 + s.outputs + s.inputs) z) tells.1,
-     record { before = All-from_recursion _ (take at s.constraints) first.3; failing = first.0; there = first.1; fails = first.2 })
+    let first = fails_at z s.constraints at tells.2 in (
+      eqb-true (length z) s.wires tells.0,
+      same_lists (1 ∷ x) (take (1 + s.outputs + s.inputs) z) tells.1,
+      record { before = All-from_recursion _ (take at s.constraints) first.3; failing = first.0; there = first.1; fails = first.2 },
+    )
 
 -- a true no is the verdict
 pub true_no : (s : System) (z x : List ℕ) (told : NoWhy) → IsWrong told s z x → verdict_status (judge s z x) ≡ No told

@@ -1,6 +1,6 @@
 -- What reading and judging files comes to, against what is due by what they hold.
-use Rattle.std.specs.Prelude.{◌≡◌, ℕ, ◌≤◌, ◌⊎◌, Result, Ok, Err, OnOk}
-use Rattle.tv_files.specs.Outside.{Names, Outside, Told, Rose, OnlyReads, SameCounts}
+use Rattle.std.specs.Prelude.{◌≡◌, ℕ, ◌≤◌, ◌⊎◌, Result, Ok, Err}
+use Rattle.tv_files.specs.Outside.{Names, Outside, Told, Rose, OnlyReads}
 use Rattle.tv_top.specs.declared.status.Status.{Status}
 use Rattle.tv_top.specs.declared.status.Status.TheVariants.{Usage, FileFault, Memory}
 use Rattle.tv_top.specs.Outcome.{Look}
@@ -17,6 +17,5 @@ pub record Finds {X A : Type 0} (view : X → A) (IsRead : ℕ → Type 0) (due 
   pub told : Told old (λ files. IsFound view (due files) found)
   pub absent : Told old (λ files. (new.absent ≡ old.absent) ⊎ ((word : ℕ) × ((due files).gives ≡ Err (FileFault word))))
   pub only : OnlyReads old new
-  pub counts : OnOk found (SameCounts old new)
   pub caused : (word : ℕ) → found ≡ Err (FileFault word) → IsRead word × Rose old.read_faults new.read_faults
   pub usage : ¬ (found ≡ Err Usage)

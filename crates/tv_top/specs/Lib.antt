@@ -8,6 +8,9 @@ pub mod Outcome
 pub mod Asked
 pub mod Finds
 pub mod Ends
+pub mod Answers
 pub mod Claims
 pub mod Tried
 pub mod Meaning
+pub use Rattle.tv_core.specs.Constraints
+pub use Rattle.tv_files.specs.Outside

@@ -1,5 +1,5 @@
 -- What a command answers, by its words and by what the files hold.
-use Rattle.std.specs.Prelude.{ℕ, max, Bool, List, [], ◌∷◌, length, Option, Some, None, Result, Ok, Err, codes, nat_le, if◌then◌else◌}
+use Rattle.std.specs.Prelude.{ℕ, max, List, [], ◌∷◌, length, Option, Some, None, Result, Ok, Err, codes, nat_le, if◌then◌else◌}
 use Rattle.std.specs.Str.{bytes_eq}
 use Rattle.tv_core.specs.Constraints.{System}
 use Rattle.tv_files.specs.Outside.{Names}

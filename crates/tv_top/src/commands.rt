@@ -2,10 +2,11 @@
 ghost use Rattle.std.specs.Prelude.{◌≡◌, ◌<◌, ℕ, List, [], ◌∷◌, length, map, string_bytes, codes};
 ghost use Rattle.std.specs.Option.{ForSome, option_copied};
 ghost use Rattle.tv_files.specs.Outside.{Told};
+ghost use Rattle.tv_top.specs.Answers.{Answers};
 ghost use Rattle.tv_top.specs.Claims.{Checks};
 ghost use Rattle.tv_top.specs.Codes.{says};
+ghost use Rattle.tv_top.specs.Ends.{Concludes};
 ghost use Rattle.tv_top.specs.Outcome.{Check, job};
-ghost use Rattle.tv_top.specs.Ends.{Concludes, Answers};
 
 use crate::checking::check;
 use crate::job::{Job, job_of};
@@ -14,11 +15,12 @@ use crate::status::Status;
 use std::alloc::Global;
 use tv_files::{FileRefusal, Files};
 
-/// Says the line of a status, where it has one, as one `say`; a refusal of it is the answer then.
+/// Says the line of a status, where it has one, by one `say`; a refusal of it is the answer then.
 /// `words` is the number of words, `report` what Done says.
 fn conclude<D: Files>(files: &mut D, words: usize, report: Option<&str>, status: Status) -> Status
     requires { ForSome report (λ text. length text.now < 96) }
-    ensures { Concludes status (says (option_copied report.entry) status) words (D.seen files.old) (D.seen files.new) result }
+    ensures { Concludes status (says (option_copied report.entry) status) words
+        (D.seen files.old) (D.seen files.new) result }
 {
     let Some(line) = line_of(report, &status) else {
         return status;
@@ -31,8 +33,16 @@ fn conclude<D: Files>(files: &mut D, words: usize, report: Option<&str>, status:
 }
 
 /// `check SYSTEM WITNESS TAPE`.
-fn run_check<D: Files>(alloc: Global, words: usize, files: &mut D, system: &str, witness: &str, tape: &str) -> Status
-    ensures { Answers (Ok (Check system.now witness.now tape.now)) words (D.seen files.old) (D.seen files.new) result }
+fn run_check<D: Files>(
+    alloc: Global,
+    words: usize,
+    files: &mut D,
+    system: &str,
+    witness: &str,
+    tape: &str,
+) -> Status
+    ensures { Answers (Ok (Check system.now witness.now tape.now)) words
+        (D.seen files.old) (D.seen files.new) result }
 {
     let status = match check(alloc, files, system, witness, tape) {
         Ok(verdict) => Status::from(verdict),
@@ -41,16 +51,35 @@ fn run_check<D: Files>(alloc: Global, words: usize, files: &mut D, system: &str,
     conclude(files, words, Some("yes"), status)
 }
 
-/// Does what the words after the program's name ask for, says one line, and answers the status.
+/// Does what the words after the program's name ask for, says the line of the status, and answers it.
+///
+/// `check SYSTEM WITNESS TAPE` reads the three files, each whole and judged before the next is read. It
+/// is `Done`, and says `yes`, exactly where the witness holds an assignment that satisfies the system
+/// and extends the numbers of the tape; else `No` tells what is wrong first. `NotPlain` tells the word
+/// of the first file that isn't in the plain form or has more than 1,048,576 bytes. All other words are
+/// `Usage`.
+///
+/// `FileFault` tells the word of the name whose reading failed, as it does where there is no such name,
+/// or the number of words where saying the line failed. `Memory` comes where memory was wanting; in
+/// place of `Usage` only where the files wanted it. After either no further file call is made. No file
+/// is changed.
 pub fn command<D: Files>(alloc: Global, words: &[String], files: &mut D) -> Status
-    ensures answers { Answers (job (map string_bytes words.now)) (length words.now) (D.seen files.old) (D.seen files.new) result }
-    ensures check { (system witness tape : List ℕ) → map string_bytes words.now ≡ codes "check" ∷ system ∷ witness ∷ tape ∷ []
-        → Told (D.seen files.old) (λ held. Checks held system witness tape (D.seen files.old) (D.seen files.new) result) }
+    ensures answers { Answers (job (map string_bytes words.now)) (length words.now)
+        (D.seen files.old) (D.seen files.new) result }
+    ensures check { (system witness tape : List ℕ)
+        → map string_bytes words.now ≡ codes "check" ∷ system ∷ witness ∷ tape ∷ []
+        → Told (D.seen files.old) (λ held.
+        Checks held system witness tape (D.seen files.old) (D.seen files.new) result) }
 {
-    match job_of(words) {
-        Ok(Job::Check { system, witness, tape }) => {
-            run_check(alloc, words.len(), files, system, witness, tape)
-        }
-        Err(status) => conclude(files, words.len(), None, status),
+    let job = match job_of(words) {
+        Ok(job) => job,
+        Err(status) => return conclude(files, words.len(), None, status),
+    };
+    match job {
+        Job::Check {
+            system,
+            witness,
+            tape,
+        } => run_check(alloc, words.len(), files, system, witness, tape),
     }
 }

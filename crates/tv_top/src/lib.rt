@@ -3,6 +3,8 @@
 #![tactic(auto)]
 
 mod checking;
+#[cfg(test)]
+mod command_tests;
 mod commands;
 mod constraints;
 mod job;

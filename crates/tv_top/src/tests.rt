@@ -6,7 +6,7 @@ use std::alloc::Global;
 use std::test::*;
 
 // Four wires, wire 1 public, and the constraint that wire 1 times wire 2 is wire 3.
-const SYSTEM: [u8; 168] = [
+pub(crate) const SYSTEM: [u8; 168] = [
     0x72, 0x31, 0x63, 0x73, 1, 0, 0, 0, 3, 0, 0, 0, // the front
     1, 0, 0, 0, 40, 0, 0, 0, 0, 0, 0, 0, // section 1
     8, 0, 0, 0, 1, 0, 0, 0, 0xff, 0xff, 0xff, 0xff, //
@@ -22,7 +22,7 @@ const SYSTEM: [u8; 168] = [
 ];
 
 // The values 1, 3, 5 and 15.
-const WITNESS: [u8; 84] = [
+pub(crate) const WITNESS: [u8; 84] = [
     0x77, 0x74, 0x6e, 0x73, 2, 0, 0, 0, 2, 0, 0, 0, // the front
     1, 0, 0, 0, 16, 0, 0, 0, 0, 0, 0, 0, // section 1
     8, 0, 0, 0, 1, 0, 0, 0, 0xff, 0xff, 0xff, 0xff, 4, 0, 0, 0, //

@@ -1,5 +1,4 @@
-use Rattle.std.proofs.Common.{rules, arith, inl, inr, refl, ap}
-use Rattle.std.proofs.lemmas.Grind.{common_steps}
+use Rattle.std.proofs.Common.{inl, inr, refl, ap}
 use Rattle.tv_top.specs.Outcome.{bytes_of}
 use Rattle.tv_top.proofs.checking.bytes_at.Goals as goal
 
@@ -9,6 +8,5 @@ returns-in-Err-Memory g c = record {
   absent = λ files told. elim (c.in-Err-Memory.ensures.there files told) [ inl same ↦ inl same | inr none ↦ inr (c.args.word, ap (bytes_of c.args.word) none) ];
   only = c.in-Err-Memory.ensures.only;
   caused = λ _ e. cc;
-  counts = tt;
   usage = λ e. cc;
 }

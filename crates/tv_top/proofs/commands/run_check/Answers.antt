@@ -24,6 +24,6 @@ returns g c =
     let asked = Check c.args.system.now c.args.witness.now c.args.tape.now in
     let due = check_of c.args.system.now c.args.witness.now c.args.tape.now in
     let found : c.match-check.status ≡ status_of verdict_status c.check.result =
-        elim c.match-check.branch [ in-Ok w ↦ search rules | in-Err w ↦ search rules ] in
+    elim c.match-check.branch [ in-Ok w ↦ search rules | in-Err w ↦ search rules ] in
     answers_found asked verdict_status (Some (codes "yes")) due c.check.result c.args.words _ _ _ _
-        (λ _. refl) refl no_usage no_fault c.check.ensures (rw found at c.conclude.ensures)
+    (λ _. refl) refl no_usage no_fault c.check.ensures (rw found at c.conclude.ensures)
