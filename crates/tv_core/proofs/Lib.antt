@@ -8,3 +8,4 @@ pub mod Pigeonhole
 pub mod PrimeLaws
 pub mod PrimeProof
 pub mod Residues
+pub mod Testing

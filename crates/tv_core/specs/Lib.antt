@@ -5,5 +5,6 @@ pub mod Examples
 pub mod Giving
 pub mod Inverse
 pub mod Laws
+pub mod Meanings
 pub mod Prime
 pub mod Sinks

@@ -47,13 +47,32 @@ impl Lc {
         lc
     }
 
-    /// One wire.
-    pub fn wire(wire: Wire) -> Lc
-        ensures { result ≡ (1, wire) ∷ [] }
+    /// One wire, once.
+    pub fn wire(w: Wire) -> Lc
+        ensures { result ≡ wire w }
     {
         let mut lc = Lc::empty();
-        lc.plus(F::ONE, wire);
+        lc.plus(F::ONE, w);
         lc
+    }
+
+    /// The combination with these terms.
+    pub fn from_terms(terms: &[(F, Wire)]) -> Lc
+        requires { length terms.now ≤ 128 }
+        ensures { result ≡ terms.now }
+    {
+        let mut lc = Lc::empty();
+        for (coefficient, wire) in terms {
+            lc.plus(*coefficient, *wire);
+        }
+        lc
+    }
+
+    /// Drops all terms. To reuse a combination costs less than to make one.
+    pub fn clear(&mut self)
+        ensures { self.new ≡ [] }
+    {
+        self.terms.clear();
     }
 
     /// Appends a term.
@@ -64,11 +83,34 @@ impl Lc {
         self.terms.push((coefficient, wire));
     }
 
+    /// Appends `factor` times each term of `other`.
+    pub fn plus_scaled(&mut self, factor: F, other: &Lc)
+        requires { length self.old + length other.now ≤ 128 }
+        ensures { self.new ≡ self.old ++ scaled factor other.now }
+    {
+        for (coefficient, wire) in other.terms() {
+            self.plus(factor * *coefficient, *wire);
+        }
+    }
+
     /// The terms, in order.
     pub fn terms(&self) -> &[(F, Wire)]
         ensures terms { result.now ≡ self.now }
         ensures fits { length result.now ≤ 128 }
     {
         self.terms.as_slice()
+    }
+
+    /// The value under an assignment; a wire past its end counts as 0.
+    pub fn value_in(&self, z: &[F]) -> F
+        ensures { result ≡ value self.now z.now }
+    {
+        let mut sum = F::ZERO;
+        for (coefficient, wire) in self.terms() {
+            if let Some(number) = z.get(wire.0 as usize) {
+                sum = sum + *coefficient * *number;
+            }
+        }
+        sum
     }
 }

@@ -4,18 +4,24 @@
 #![tactic(auto)]
 
 mod combination;
+mod count_sink;
 #[cfg(test)]
 mod examples;
 mod field;
 mod inverse;
+mod list_values;
 mod prime;
 mod sink;
+mod test_sink;
 mod values;
 mod wire;
 
 pub use combination::{Lc, TERMS};
+pub use count_sink::CountSink;
 pub use field::{F, P};
+pub use list_values::ListValues;
 pub use prime::{p_cancels, p_is_prime, p_zero_product};
 pub use sink::{Put, Sink, SinkFault};
+pub use test_sink::TestSink;
 pub use values::{Values, give_values};
 pub use wire::Wire;

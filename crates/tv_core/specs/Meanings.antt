@@ -1,0 +1,107 @@
+-- What the sinks and the taker of values of this crate are seen as, and what they mean.
+use Rattle.std.specs.Prelude.{◌≡◌, ℕ, ◌+◌, ◌*◌, ◌%◌, ◌==◌, Bool, true, false, not, if◌then◌else◌, List, [], ◌∷◌, ◌++◌, length, sum_by, count_by, Option, Some, None, position}
+use Rattle.tv_core.specs.Constraints.{Constraint, value}
+use Rattle.tv_core.specs.Sinks.{Meaning}
+use Rattle.tv_core.specs.Giving.{Giving}
+use Rattle.tv_core.specs.declared.field.TheConstants.{P}
+
+-- how many terms the combinations of a list have
+abbrev pub terms_in : List Constraint → ℕ
+terms_in list = sum_by (λ constraint. length constraint.a + length constraint.b + length constraint.c) list
+
+-- a sink that counts
+pub record Counted : Type 0 where
+  pub wires : ℕ
+  pub constraints : ℕ
+  pub terms : ℕ
+
+-- the counts are those of the list
+pub record IsCounted (sink : Counted) (list : List Constraint) : Type 0 where
+  pub constraints : sink.constraints ≡ length list
+  pub terms : sink.terms ≡ terms_in list
+
+-- it never refuses
+abbrev pub counted_meaning : Meaning Counted
+counted_meaning = record {
+  stands = IsCounted;
+  tried = λ _ _. ⊥;
+  wires = λ sink. sink.wires;
+  constraints = λ sink. sink.constraints;
+  broken = λ _. false;
+  faults = λ _. 0;
+  wants = λ _. 0;
+}
+
+-- a sink that keeps its list, and whether it was refused memory
+pub record Listed : Type 0 where
+  pub wires : ℕ
+  pub list : List Constraint
+  pub broken : Bool
+
+-- the list is the one kept; after a refusal, of which there is one, it tried one constraint more
+abbrev pub listed_meaning : Meaning Listed
+listed_meaning = record {
+  stands = λ sink list. (sink.list ≡ list) × (sink.broken ≡ false);
+  tried = λ sink list. (refused : Constraint) × (list ≡ sink.list ++ refused ∷ []);
+  wires = λ sink. sink.wires;
+  constraints = λ sink. length sink.list;
+  broken = λ sink. sink.broken;
+  faults = λ _. 0;
+  wants = λ sink. if sink.broken then 1 else 0;
+}
+
+-- a sink that tests each constraint against a slice
+pub record Tested : Type 0 where
+  pub z : List ℕ
+  pub wires : ℕ
+  pub tested : ℕ
+  pub held : ℕ
+  pub first_failed : Option ℕ
+  pub sum : ℕ
+
+-- the product of a constraint's first two values
+abbrev pub product_in : List ℕ → Constraint → ℕ
+product_in z constraint = value constraint.a z * value constraint.b z % P
+
+-- whether z meets a constraint; a wire past the end of z counts as 0
+abbrev pub holds : List ℕ → Constraint → Bool
+holds z constraint = product_in z constraint == value constraint.c z
+
+-- the place of the first constraint that z fails, from a place on
+abbrev pub first_failure : List ℕ → ℕ → List Constraint → Option ℕ
+first_failure z at [] = None
+first_failure z at (constraint ∷ rest) = if holds z constraint then first_failure z (at + 1) rest else Some at
+
+-- the numbers are those of the list
+pub record IsTested (sink : Tested) (list : List Constraint) : Type 0 where
+  pub tested : sink.tested ≡ length list
+  pub held : sink.held ≡ count_by (holds sink.z) list
+  pub first_failed : sink.first_failed ≡ first_failure sink.z 0 list
+  pub sum : sink.sum ≡ sum_by (product_in sink.z) list % P
+
+-- it never refuses
+abbrev pub tested_meaning : Meaning Tested
+tested_meaning = record {
+  stands = IsTested;
+  tried = λ _ _. ⊥;
+  wires = λ sink. sink.wires;
+  constraints = λ sink. sink.tested;
+  broken = λ _. false;
+  faults = λ _. 0;
+  wants = λ _. 0;
+}
+
+-- a taker of values that keeps its list, and whether it was refused memory
+pub record Kept : Type 0 where
+  pub list : List ℕ
+  pub broken : Bool
+
+-- the list is the one kept; after a refusal, of which there is one, it tried one number more
+abbrev pub kept_giving : Giving Kept
+kept_giving = record {
+  stands = λ taker list. (taker.list ≡ list) × (taker.broken ≡ false);
+  tried = λ taker list. (refused : ℕ) × (list ≡ taker.list ++ refused ∷ []);
+  broken = λ taker. taker.broken;
+  faults = λ _. 0;
+  wants = λ taker. if taker.broken then 1 else 0;
+}

@@ -1,0 +1,83 @@
+ghost use Rattle.std.specs.Prelude.{◌≡◌, ◌-◌, ◌*◌, ◌^◌, ◌<◌, ◌≤◌, IsOk, IfOk, refl};
+ghost use Rattle.tv_core.specs.Circuits.{fresh, put};
+ghost use Rattle.tv_core.specs.Sinks.{PutsIn, Grows};
+ghost use Rattle.tv_core.specs.Meanings.{Counted, counted_meaning};
+
+use crate::combination::Lc;
+use crate::sink::{Put, Sink};
+use crate::wire::Wire;
+use std::marker::Model;
+
+/// A sink that counts what is put into it. It takes no memory and never refuses.
+#[derive(Drop)]
+pub struct CountSink {
+    wires: u32,
+    constraints: u32,
+    terms: u64,
+}
+
+impl Model for CountSink {
+    ghost Value = { Counted };
+
+    ghost view = { λ s. record { wires = s.wires; constraints = s.constraints; terms = s.terms } };
+
+    ghost invariant = { λ s. s.terms ≤ 384 * s.constraints };
+}
+
+impl CountSink {
+    /// An empty sink, whose next wire has the number `wires`.
+    pub fn new(wires: u32) -> CountSink
+        ensures { result ≡ record { wires = wires; constraints = 0; terms = 0 } }
+    {
+        CountSink {
+            wires,
+            constraints: 0,
+            terms: 0,
+        }
+    }
+
+    /// How many constraints were put.
+    pub fn constraints(&self) -> u32
+        ensures { result ≡ self.now.constraints }
+    {
+        self.constraints
+    }
+
+    /// How many terms their combinations have.
+    pub fn terms(&self) -> u64
+        ensures { result ≡ self.now.terms }
+    {
+        self.terms
+    }
+}
+
+impl Sink for CountSink {
+    ghost meaning = { counted_meaning };
+
+    fn wires(&self) -> u32 {
+        self.wires
+    }
+
+    #[tactic(auto, unfolding(crate::specs::Circuits::fresh))]
+    fn fresh(&mut self) -> Wire {
+        let next = Wire(self.wires);
+        self.wires += 1;
+        next
+    }
+
+    #[tactic(auto, unfolding(crate::specs::Circuits::put))]
+    fn put(&mut self, a: &Lc, b: &Lc, c: &Lc) -> Put<()>
+        requires { self.old.constraints < 2 ^ 32 - 1 }
+        ensures ok { IsOk result }
+        ensures puts { PutsIn counted_meaning self.old self.new (put a.now b.now c.now) result }
+        ensures grows { IfOk result (λ _. Grows counted_meaning self.old self.new 0 1) }
+    {
+        self.constraints += 1;
+        self.terms += (a.terms().len() + b.terms().len() + c.terms().len()) as u64;
+        Ok(())
+    }
+
+    ghost counted = { λ sink list stands. stands.constraints };
+
+    ghost unbroken = { λ _ _ _. refl };
+}

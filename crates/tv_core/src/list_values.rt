@@ -1,0 +1,54 @@
+ghost use Rattle.std.specs.Prelude.{◌≡◌, [], false, refl};
+ghost use Rattle.tv_core.specs.Meanings.{Kept, kept_giving};
+
+use crate::field::F;
+use crate::sink::{Put, SinkFault};
+use crate::values::Values;
+use std::alloc::Global;
+use std::marker::Model;
+
+/// A taker of values that keeps their list. It refuses only where memory runs out.
+#[derive(Drop)]
+pub struct ListValues {
+    list: Vec<F>,
+    broken: bool,
+}
+
+impl Model for ListValues {
+    ghost Value = { Kept };
+
+    ghost view = { λ v. record { list = v.list.items; broken = v.broken } };
+}
+
+impl ListValues {
+    /// An empty list.
+    pub fn new(alloc: Global) -> ListValues
+        ensures { result ≡ record { list = []; broken = false } }
+    {
+        ListValues {
+            list: Vec::new(alloc),
+            broken: false,
+        }
+    }
+
+    /// The values, in order; after a refusal those before the refused one.
+    pub fn as_slice(&self) -> &[F]
+        ensures { result.now ≡ self.now.list }
+    {
+        self.list.as_slice()
+    }
+}
+
+impl Values for ListValues {
+    ghost giving = { kept_giving };
+
+    fn give(&mut self, value: F) -> Put<()> {
+        if self.list.push(value).is_err() {
+            self.broken = true;
+            return Err(SinkFault::Memory);
+        }
+        Ok(())
+    }
+
+    ghost unbroken = { λ taker list stands. stands.1 };
+}
