@@ -1,10 +1,13 @@
+pub mod Below
 pub mod Circuits
 pub mod Combinations
 pub mod Constraints
+pub mod Differences
 pub mod Examples
 pub mod Giving
 pub mod Inverse
 pub mod Laws
+pub mod Loops
 pub mod Meanings
 pub mod Prime
 pub mod Sinks

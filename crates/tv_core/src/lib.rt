@@ -5,6 +5,7 @@
 
 mod combination;
 mod count_sink;
+mod difference;
 #[cfg(test)]
 mod examples;
 mod field;
