@@ -1,18 +1,17 @@
 -- The laws of the test for 0.
-use Rattle.std.proofs.Common.{◌≡◌, ◌≢◌, ℕ, ◌+◌, ◌-◌, ◌*◌, ◌%◌, ◌<◌, ◌==◌, if◌then◌else◌, List, [], ◌∷◌, inl, inr, refl, sym, ◌∙◌, ap, ap₂, arith, mod-eq_of_lt, zero-mul, mul-zero}
+use Rattle.std.proofs.Common.{◌≡◌, ◌≢◌, ℕ, ◌+◌, ◌-◌, ◌*◌, ◌%◌, ◌<◌, List, inl, inr, refl, sym, ◌∙◌, ap, arith, zero-mul, mul-zero}
 use Rattle.std.specs.Prelude.{slice_index}
 use Rattle.std.proofs.lemmas.Bool.{cases_eq}
 use Rattle.std.proofs.lemmas.Bool.Decides.{nat_tests}
 use Rattle.tv_core.proofs.CombinationLaws.{value-below, value-wire, wire-below}
 use Rattle.tv_core.proofs.InverseLaws.{mul-inverse_of}
 use Rattle.tv_core.proofs.PrimeLaws.{p_zero_product_below}
-use Rattle.tv_core.specs.Constraints.{Combination, value}
-use Rattle.tv_core.specs.Combinations.{wire}
+use Rattle.tv_core.specs.Constraints.{value}
 use Rattle.tv_core.specs.Circuits.{fresh, put, pure, ◌>>=◌}
-use Rattle.tv_core.specs.Laws.{Assigns, Meets, HasFrom}
+use Rattle.tv_core.specs.Laws.{Assigns}
 use Rattle.tv_core.specs.declared.field.TheConstants.{P}
 use Rattle.tv_core.specs.Inverse.{inverse_of}
-use Rattle.tv_bits.specs.Zero.{zero_flag, one_less, zero_of, zero_values, ZeroIsSound, ZeroIsComplete}
+use Rattle.tv_bits.specs.Zero.{zero_flag, one_less, zero_of, ZeroIsSound, ZeroIsComplete}
 
 value-one_less : (z : List ℕ) (w : ℕ) → Assigns z → value (one_less w) z ≡ (1 + (P - slice_index z w)) % P
 value-one_less z w assigns = let small = wire-below assigns w in omega (arith, assigns.one)

@@ -11,6 +11,7 @@ mod examples;
 mod field;
 mod inverse;
 mod list_values;
+mod offset;
 mod prime;
 mod sink;
 mod test_sink;

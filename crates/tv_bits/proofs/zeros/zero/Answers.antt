@@ -1,4 +1,3 @@
-use Rattle.std.proofs.Common.{rules}
 use Rattle.tv_core.proofs.Chain.{chain, refused}
 use Rattle.tv_bits.specs.Zero.{zero_of}
 use Rattle.tv_bits.proofs.zeros.zero.Goals as goal
