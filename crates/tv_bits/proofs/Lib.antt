@@ -1,1 +1,4 @@
+pub mod BitLaws
+pub mod SpelledNumbers
+pub mod SpellingLaws
 pub mod ZeroLaws

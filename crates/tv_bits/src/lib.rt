@@ -1,6 +1,16 @@
 //! Gadgets over single bits: a bit, a number spelt by bits, the test for 0, a choice and a one-hot row.
+//! Contracts above cite `Spells`, which says that wires spell a number, and `IsOneHot`, that one wire of a row is 1.
 #![tactic(auto)]
 
+mod bit_wires;
+mod booleans;
+mod spelling;
 mod zeros;
 
+pub use bit_wires::Bits;
+pub use booleans::{bit, bit_is_complete, bit_is_sound, fill_bit};
+pub use spelling::{
+    bits, bits_are_complete, bits_are_sound, fill_bits, new_bits, new_bits_are_complete,
+    new_bits_are_sound,
+};
 pub use zeros::{fill_zero, zero, zero_is_complete, zero_is_sound};

@@ -1,9 +1,13 @@
+pub mod BelowLaws
 pub mod Chain
 pub mod CombinationLaws
+pub mod CombinationShapes
+pub mod DifferenceLaws
 pub mod Euclid
 pub mod GivingChain
 pub mod InverseLaws
 pub mod LineLaws
+pub mod LoopLaws
 pub mod Meeting
 pub mod Pigeonhole
 pub mod PrimeLaws

@@ -5,6 +5,7 @@
 
 mod combination;
 mod count_sink;
+mod difference;
 #[cfg(test)]
 mod examples;
 mod field;
@@ -12,6 +13,7 @@ mod inverse;
 mod lines;
 mod list_sink;
 mod list_values;
+mod offset;
 mod prime;
 mod rows;
 mod sink;

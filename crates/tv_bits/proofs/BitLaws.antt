@@ -1,0 +1,23 @@
+-- The laws of a bit.
+use Rattle.std.proofs.Common.{◌≡◌, ℕ, ◌*◌, ◌%◌, inl, inr, sym, ◌∙◌, ap, arith, eq-zero-or-pos}
+use Rattle.std.specs.Prelude.{slice_index}
+use Rattle.tv_core.proofs.CombinationLaws.{value-wire, wire-below}
+use Rattle.tv_core.proofs.PrimeLaws.{p_bit}
+use Rattle.tv_core.specs.Circuits.{put}
+use Rattle.tv_core.specs.declared.field.TheConstants.{P}
+use Rattle.tv_bits.specs.Bit.{IsBit, bit_of, BitIsSound, BitIsComplete}
+
+square : (b : ℕ) → IsBit b → b * b % P ≡ b
+square b h = elim (eq-zero-or-pos b) [ inl none ↦ ap (λ n. n * n % P) none ∙ sym none | inr some ↦ let one : b ≡ 1 = omega arith in ap (λ n. n * n % P) one ∙ sym one ]
+
+pub bit_sound : BitIsSound
+unfolding bit_of put
+bit_sound z next w assigns meets =
+    let same = value-wire assigns w in
+    elim (p_bit (slice_index z w) (wire-below assigns w) (ap (λ n. n * n % P) (sym same) ∙ meets.0 ∙ same)) [ inl none ↦ omega arith | inr one ↦ omega arith ]
+
+pub bit_complete : BitIsComplete
+unfolding bit_of put
+bit_complete z next w assigns bit =
+    let same = value-wire assigns w in
+    (ap (λ n. n * n % P) same ∙ square (slice_index z w) bit ∙ sym same, tt)

@@ -1,0 +1,128 @@
+-- What wires spell: the number's bits, its parts, and the value of the combination of their powers.
+use Rattle.std.proofs.Common.{◌≡◌, ◌≢◌, ℕ, zero, suc, ◌+◌, ◌-◌, ◌*◌, ◌/◌, ◌%◌, ◌^◌, ◌<◌, ◌≤◌, List, inl, inr, refl, sym, subst, ◌∙◌, ap, ap₂, arith, mod-eq_of_lt, mul_comm, mul_assoc, add_comm}
+use Rattle.std.specs.Int.{bit_at}
+use Rattle.std.specs.Prelude.{slice_index}
+use Rattle.std.proofs.Math.Nat.{pow-suc, pow-le-pow_right, mul-le-mul_left}
+use Rattle.std.proofs.lemmas.Bool.{cases_eq, cases_lt}
+use Rattle.std.proofs.lemmas.Nat.{pow-add, mod-pow-add, mul-mod_first, shr_high, mod_low}
+use Rattle.std.proofs.lemmas.Nat.Bits.{bit_at-lt, bit_at_cat_low}
+use Rattle.tv_core.proofs.BelowLaws.{sum_below-zero, sum_below-suc, sum_below-same, sum_below-mod_same, sum_below-add, sum_below-mul, value-weighted, has_each}
+use Rattle.tv_core.specs.Below.{sum_below}
+use Rattle.tv_core.specs.Constraints.{value}
+use Rattle.tv_core.specs.Laws.{HasFrom}
+use Rattle.tv_core.specs.declared.field.TheConstants.{P}
+use Rattle.tv_bits.specs.Bit.{IsBit}
+use Rattle.tv_bits.specs.Bits.{Spells, spelled, bits_combination, bits_values}
+
+-- the sum of powers of 2 that a function picks by 0 or 1
+abbrev picked : ℕ → (ℕ → ℕ) → ℕ
+picked n b = sum_below n (λ i. 2 ^ i * b i)
+
+picked-suc : (n : ℕ) (b : ℕ → ℕ) → picked (suc n) b ≡ b n * 2 ^ n + picked n b
+picked-suc n b = omega (arith, sum_below-suc n (λ i. 2 ^ i * b i))
+
+-- it is below the next power, and has the bits that were picked
+picked-below : (n : ℕ) (b : ℕ → ℕ) → ((i : ℕ) → i < n → IsBit (b i)) → picked n b < 2 ^ n
+picked-below zero b bits = omega (arith, sum_below-zero (λ i. 2 ^ i * b i))
+picked-below (suc n) b bits =
+    let rest = picked-below n b (λ i h. bits i (omega arith)) in
+    let last = mul-le-mul_left (2 ^ n) (let one : b n ≤ 1 = omega (arith, bits n (omega arith)) in one) in
+    omega (arith, picked-suc n b, pow-suc 2 n)
+
+bit_at-picked : (n i : ℕ) (b : ℕ → ℕ) → ((i : ℕ) → i < n → IsBit (b i)) → i < n → bit_at (picked n b) i ≡ b i
+bit_at-picked zero i b bits h = absurd (omega arith)
+bit_at-picked (suc n) i b bits h =
+    let below : picked n b < 2 ^ n = picked-below n b (λ i h. bits i (omega arith)) in
+    let last : b n < 2 = bits n (omega arith) in
+    let lower : i ≢ n → bit_at (b n * 2 ^ n + picked n b) i ≡ b i =
+    λ apart. bit_at_cat_low (b n) n (picked n b) i (omega arith) ∙ bit_at-picked n i b (λ i h. bits i (omega arith)) (omega arith) in
+    let top : i ≡ n → bit_at (b n * 2 ^ n + picked n b) i ≡ b i =
+    λ same. ap (λ k. bit_at (b n * 2 ^ n + picked n b) k) same ∙ ap (λ q. q % 2) (shr_high (b n) n (picked n b) below) ∙ mod-eq_of_lt last ∙ ap b (sym same) in
+    ap (λ v. bit_at v i) (picked-suc n b) ∙ elim (cases_eq i n) [ inl same ↦ top same | inr apart ↦ lower apart ]
+
+-- the bits of a number pick what is left of it below the power
+picked-bit_at : (n v : ℕ) → picked n (bit_at v) ≡ v % 2 ^ n
+picked-bit_at zero v = omega (arith, sum_below-zero (λ i. 2 ^ i * bit_at v i))
+picked-bit_at (suc n) v =
+    let same : 1 + n ≡ suc n = omega arith in
+    picked-suc n (bit_at v) ∙ ap (λ r. bit_at v n * 2 ^ n + r) (picked-bit_at n v) ∙ sym (ap (λ k. v % 2 ^ k) (sym same) ∙ mod-pow-add v 1 n)
+
+module _ {z : List ℕ} {first n v : ℕ} (s : Spells z first n v) where
+  pub Spells-below : v < 2 ^ n
+  Spells-below = omega (arith, s.number, picked-below n (λ i. slice_index z (first + i)) s.bits)
+
+  -- each wire holds the number's bit
+  pub Spells-bit_at : (i : ℕ) → i < n → slice_index z (first + i) ≡ bit_at v i
+  Spells-bit_at i h = sym (ap (λ k. bit_at k i) s.number ∙ bit_at-picked n i (λ i. slice_index z (first + i)) s.bits h)
+
+  -- the value of the combination
+  pub value-bits : value (bits_combination first n) z ≡ v % P
+  value-bits =
+      value-weighted first n (λ i. 2 ^ i % P) z
+      ∙ sum_below-mod_same n (λ i. 2 ^ i % P * slice_index z (first + i)) (λ i. 2 ^ i * slice_index z (first + i)) P (λ i h. mul-mod_first (2 ^ i) (slice_index z (first + i)) P)
+      ∙ ap (λ k. k % P) (sym s.number)
+
+  pub Spells-small : n ≤ 63 → v < P
+  Spells-small short = let power : 2 ^ n ≤ 2 ^ 63 = pow-le-pow_right (omega arith) short in omega (arith, Spells-below)
+
+  pub value-bits_below : n ≤ 63 → value (bits_combination first n) z ≡ v
+  value-bits_below short = value-bits ∙ mod-eq_of_lt (Spells-small short)
+
+-- wires that hold the bits of a number below 2 ^ n spell it
+pub Spells-from_bits : (z : List ℕ) (first n v : ℕ) → v < 2 ^ n → ((i : ℕ) → i < n → slice_index z (first + i) ≡ bit_at v i) → Spells z first n v
+Spells-from_bits z first n v below each = record {
+  bits = λ i h. omega (arith, each i h, bit_at-lt v i);
+  number = sym (sum_below-same n (λ i. 2 ^ i * slice_index z (first + i)) (λ i. 2 ^ i * bit_at v i) (λ i h. ap (λ b. 2 ^ i * b) (each i h)) ∙ picked-bit_at n v ∙ mod-eq_of_lt below);
+}
+
+pub Spells-from_values : (z : List ℕ) (first n v : ℕ) → v < 2 ^ n → HasFrom z first (bits_values v n) → Spells z first n v
+Spells-from_values z first n v below has = Spells-from_bits z first n v below (has_each z first n (bit_at v) has)
+
+-- a number has one spelling, and a spelling is of one number
+pub spelling_unique : (y z : List ℕ) (first other n v : ℕ) → Spells y first n v → Spells z other n v → (i : ℕ) → i < n → slice_index y (first + i) ≡ slice_index z (other + i)
+spelling_unique y z first other n v p q i h = Spells-bit_at p i h ∙ sym (Spells-bit_at q i h)
+
+pub spelled_unique : (z : List ℕ) (first n v w : ℕ) → Spells z first n v → Spells z first n w → v ≡ w
+spelled_unique z first n v w p q = p.number ∙ sym q.number
+
+-- ---- parts: the low wires spell the remainder and the high wires the quotient by a power of 2, and two parts spell their sum
+spelled-parts : (z : List ℕ) (first m n : ℕ) → spelled z first (m + n) ≡ spelled z (first + m) n * 2 ^ m + spelled z first m
+spelled-parts z first m n =
+    let term : (i : ℕ) → 2 ^ (m + i) * slice_index z (first + (m + i)) ≡ 2 ^ m * (2 ^ i * slice_index z (first + m + i)) =
+    λ i. ap₂ (λ p w. p * slice_index z w) (pow-add 2 m i) (add_assoc' first m i) ∙ mul_assoc (2 ^ m) (2 ^ i) (slice_index z (first + m + i)) in
+    let high = sum_below-same n (λ i. 2 ^ (m + i) * slice_index z (first + (m + i))) (λ i. 2 ^ m * (2 ^ i * slice_index z (first + m + i))) (λ i h. term i) in
+    let factor = sum_below-mul (2 ^ m) n (λ i. 2 ^ i * slice_index z (first + m + i)) in
+    sum_below-add m n (λ i. 2 ^ i * slice_index z (first + i)) ∙ ap (λ k. spelled z first m + k) (high ∙ factor ∙ mul_comm (2 ^ m) (spelled z (first + m) n)) ∙ add_comm (spelled z first m) (spelled z (first + m) n * 2 ^ m)
+  where
+    add_assoc' : (a b c : ℕ) → a + (b + c) ≡ a + b + c
+    add_assoc' a b c = omega arith
+
+low_bits : (z : List ℕ) (first m n : ℕ) → ((i : ℕ) → i < m + n → IsBit (slice_index z (first + i))) → Spells z first m (spelled z first m)
+low_bits z first m n bits = record { bits = λ i h. bits i (omega arith); number = refl }
+
+high_bits : (z : List ℕ) (first m n : ℕ) → ((i : ℕ) → i < m + n → IsBit (slice_index z (first + i))) → Spells z (first + m) n (spelled z (first + m) n)
+high_bits z first m n bits = record {
+  bits = λ i h. let same : first + (m + i) ≡ first + m + i = omega arith in subst (λ k. IsBit (slice_index z k)) same (bits (m + i) (omega arith));
+  number = refl;
+}
+
+pub Spells-low : (z : List ℕ) (first m n v : ℕ) → Spells z first (m + n) v → Spells z first m (v % 2 ^ m)
+Spells-low z first m n v s =
+    let low = low_bits z first m n s.bits in
+    let same : spelled z first m ≡ v % 2 ^ m = sym (ap (λ k. k % 2 ^ m) (s.number ∙ spelled-parts z first m n) ∙ mod_low (spelled z (first + m) n) m (spelled z first m) (Spells-below low)) in
+    rw same at low
+
+pub Spells-high : (z : List ℕ) (first m n v : ℕ) → Spells z first (m + n) v → Spells z (first + m) n (v / 2 ^ m)
+Spells-high z first m n v s =
+    let low = low_bits z first m n s.bits in
+    let same : spelled z (first + m) n ≡ v / 2 ^ m = sym (ap (λ k. k / 2 ^ m) (s.number ∙ spelled-parts z first m n) ∙ shr_high (spelled z (first + m) n) m (spelled z first m) (Spells-below low)) in
+    subst (λ k. Spells z (first + m) n k) same (high_bits z first m n s.bits)
+
+pub Spells-join : (z : List ℕ) (first m n low high : ℕ) → Spells z first m low → Spells z (first + m) n high → Spells z first (m + n) (high * 2 ^ m + low)
+Spells-join z first m n low high p q = record {
+  bits = λ i h. elim (cases_lt i m) [
+    | inl below ↦ p.bits i below
+    | inr above ↦ let same : first + m + (i - m) ≡ first + i = omega arith in subst (λ k. IsBit (slice_index z k)) same (q.bits (i - m) (omega arith))
+  ];
+  number = ap₂ (λ a b. a * 2 ^ m + b) q.number p.number ∙ sym (spelled-parts z first m n);
+}

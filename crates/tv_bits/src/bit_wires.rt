@@ -1,0 +1,31 @@
+ghost use Rattle.std.specs.Prelude.{◌≡◌, ◌+◌, ◌≤◌, ◌<◌, ◌^◌};
+ghost use Rattle.tv_bits.specs.Bits.{bits_combination};
+
+use tv_core::{F, Lc, Wire};
+
+/// Wires that follow each other, as the bits of a number, lowest first. Contracts see the two numbers.
+#[derive(Clone, Copy, PartialEq, Eq, Debug)]
+pub struct Bits {
+    /// The wire of the lowest bit.
+    pub first: Wire,
+    /// How many bits there are.
+    pub n: u32,
+}
+
+impl Bits {
+    /// The number that they spell, as a combination of `n` terms.
+    pub fn lc(&self) -> Lc
+        requires short { self.now.n ≤ 63 }
+        requires within { self.now.first + self.now.n < 2 ^ 32 }
+        ensures { result ≡ bits_combination self.now.first self.now.n }
+    {
+        let Bits { first, n } = *self;
+        let mut lc = Lc::empty();
+        let mut power = F::ONE;
+        for i in 0..n {
+            lc.plus(power, first.offset(i));
+            power = power + power;
+        }
+        lc
+    }
+}

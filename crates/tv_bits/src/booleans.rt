@@ -1,0 +1,38 @@
+ghost use Rattle.std.specs.Prelude.{◌≡◌, ◌<◌, [], false, IfOk, OnOk};
+ghost use Rattle.tv_bits.specs.Bit.{bit_of, BitIsSound, BitIsComplete};
+ghost use Rattle.tv_core.specs.Giving.{GivesIn};
+ghost use Rattle.tv_core.specs.Sinks.{PutsIn, Grows, Room};
+
+use tv_core::{F, Lc, Put, Sink, Values, Wire};
+
+/// Holds a wire to 0 or 1. It makes no wire and 1 constraint.
+pub fn bit<S: Sink>(s: &mut S, w: Wire) -> Put<()>
+    requires room { Room S.meaning s.old 0 1 }
+    requires made { w < S.meaning.wires s.old }
+    ensures puts { PutsIn S.meaning s.old s.new (bit_of w) result }
+    ensures grows { IfOk result (λ _. Grows S.meaning s.old s.new 0 1) }
+{
+    let lc = Lc::wire(w);
+    s.put(&lc, &lc, &lc)
+}
+
+/// Gives nothing, since `bit` makes no wire.
+pub fn fill_bit<V: Values>(v: &mut V, _w: F) -> Put<()>
+    requires { V.giving.broken v.old ≡ false }
+    ensures gives { GivesIn V.giving v.old v.new [] result }
+    ensures whole { OnOk result (V.giving.broken v.new ≡ false) }
+{
+    Ok(())
+}
+
+/// Where an assignment meets what `bit` put, the wire holds 0 or 1.
+#[tactic(auto, using(crate::proofs::BitLaws::bit_sound))]
+pub fn bit_is_sound()
+    ensures { BitIsSound }
+{}
+
+/// Where an assignment has 0 or 1 at the wire, it meets what `bit` put.
+#[tactic(auto, using(crate::proofs::BitLaws::bit_complete))]
+pub fn bit_is_complete()
+    ensures { BitIsComplete }
+{}

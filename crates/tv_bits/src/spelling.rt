@@ -1,0 +1,91 @@
+ghost use Rattle.std.specs.Prelude.{◌≡◌, ◌+◌, ◌≤◌, ◌<◌, ◌^◌, false, IfOk, OnOk};
+ghost use Rattle.std.specs.Int.{bit_at};
+ghost use Rattle.tv_bits.specs.Bits.{bits_values, new_bits_of, bits_of, NewBitsAreSound, NewBitsAreComplete, BitsAreSound, BitsAreComplete};
+ghost use Rattle.tv_core.specs.Combinations.{top};
+ghost use Rattle.tv_core.specs.Giving.{GivesIn};
+ghost use Rattle.tv_core.specs.Sinks.{PutsIn, Grows, Room};
+
+use crate::bit_wires::Bits;
+use crate::booleans::bit;
+use tv_core::{F, Lc, Put, Sink, Values, Wire};
+
+/// New wires, each held to 0 or 1. It makes `n` wires and `n` constraints.
+pub fn new_bits<S: Sink>(s: &mut S, n: u32) -> Put<Bits>
+    requires room { Room S.meaning s.old n n }
+    ensures puts { PutsIn S.meaning s.old s.new (new_bits_of n) result }
+    ensures grows { IfOk result (λ _. Grows S.meaning s.old s.new n n) }
+    ensures size { IfOk result (λ bits. bits.n ≡ n) }
+    ensures below { IfOk result (λ bits. bits.first + bits.n ≤ S.meaning.wires s.new) }
+{
+    let bits = Bits {
+        first: Wire(s.wires()),
+        n,
+    };
+    for _turn in 0..n {
+        let w = s.fresh();
+        bit(s, w)?;
+    }
+    Ok(bits)
+}
+
+/// New wires that spell `x` in `n` bits, of which there are at most 63; so `x` is held below 2^n.
+/// It makes `n` wires and `n + 1` constraints.
+pub fn bits<S: Sink>(s: &mut S, x: &Lc, n: u32) -> Put<Bits>
+    requires room { Room S.meaning s.old n (n + 1) }
+    requires x_made { top x.now ≤ S.meaning.wires s.old }
+    requires short { n ≤ 63 }
+    ensures puts { PutsIn S.meaning s.old s.new (bits_of x.now n) result }
+    ensures grows { IfOk result (λ _. Grows S.meaning s.old s.new n (n + 1)) }
+    ensures size { IfOk result (λ bits. bits.n ≡ n) }
+    ensures below { IfOk result (λ bits. bits.first + bits.n ≤ S.meaning.wires s.new) }
+{
+    let made = new_bits(s, n)?;
+    s.put(&made.lc(), &Lc::constant(F::ONE), x)?;
+    Ok(made)
+}
+
+/// Gives the `n` lowest bits of `x`, lowest first: the values of the wires that `bits` makes for it,
+/// and `new_bits` for any number.
+pub fn fill_bits<V: Values>(v: &mut V, x: F, n: u32) -> Put<()>
+    requires whole { V.giving.broken v.old ≡ false }
+    requires short { n ≤ 63 }
+    ensures gives { GivesIn V.giving v.old v.new (bits_values x n) result }
+    ensures whole { OnOk result (V.giving.broken v.new ≡ false) }
+{
+    for i in 0..n {
+        v.give(bit_at(x, i))?;
+    }
+    Ok(())
+}
+
+// A bit of a number.
+fn bit_at(x: F, i: u32) -> F
+    requires { i < 64 }
+    ensures { result ≡ bit_at x i }
+{
+    F::of((x.number() >> i) % 2)
+}
+
+/// Where an assignment meets what `new_bits` put, the wires hold 0 or 1.
+#[tactic(auto, using(crate::proofs::SpellingLaws::new_bits_sound))]
+pub fn new_bits_are_sound()
+    ensures { NewBitsAreSound }
+{}
+
+/// Where an assignment has the values that `fill_bits` gives for any number, it meets what `new_bits` put.
+#[tactic(auto, using(crate::proofs::SpellingLaws::new_bits_complete))]
+pub fn new_bits_are_complete()
+    ensures { NewBitsAreComplete }
+{}
+
+/// Where an assignment meets what `bits` put, the wires spell the value.
+#[tactic(auto, using(crate::proofs::SpellingLaws::bits_sound))]
+pub fn bits_are_sound()
+    ensures { BitsAreSound }
+{}
+
+/// Where the value is below 2^n and an assignment has the values that `fill_bits` gives, it meets what `bits` put.
+#[tactic(auto, using(crate::proofs::SpellingLaws::bits_complete))]
+pub fn bits_are_complete()
+    ensures { BitsAreComplete }
+{}

@@ -1,0 +1,7 @@
+-- Loops of circuits whose turns answer nothing.
+use Rattle.std.specs.Prelude.{ℕ}
+use Rattle.tv_core.specs.Circuits.{Circuit, turns}
+
+-- n pieces one after another, number i, from 0, being `piece i`
+abbrev pub times : ℕ → (ℕ → Circuit (Unit {0})) → Circuit (Unit {0})
+times n piece = turns n (λ i _. piece i) tt
