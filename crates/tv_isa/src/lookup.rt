@@ -1,4 +1,4 @@
-ghost use Rattle.std.specs.Prelude.{◌≡◌, ◌<◌, map};
+ghost use Rattle.std.specs.Prelude.{◌≡◌, ◌<◌, IfSome, map};
 ghost use Rattle.std.specs.Option.{option_map};
 ghost use Rattle.tv_isa.specs.Table.{row_of, with_opcode, with_name, shape_of, instructions};
 
@@ -23,7 +23,8 @@ pub fn operation_of(op: u8) -> Option<Operation>
 
 /// The instruction with a name in program text.
 pub fn operation_named(name: &[u8]) -> Option<Operation>
-    ensures { option_map row_of result ≡ with_name name.now }
+    ensures row { option_map row_of result ≡ with_name name.now }
+    ensures used { IfSome result (λ operation. operation.op < 32) }
 {
     operations()
         .iter()

@@ -1,0 +1,5 @@
+pub mod AssemblyLemmas
+pub mod FirstLemmas
+pub mod LabelLemmas
+pub mod OperandLemmas
+pub mod TextLemmas

@@ -1,0 +1,50 @@
+-- Lines and pieces of a text.
+use Rattle.std.proofs.Common.{◌≡◌, ℕ, ◌+◌, ◌-◌, ◌<◌, ◌≤◌, ◌==◌, Bool, true, false, not, cond, ltb, List, [], ◌∷◌, length, get_or, take, drop, ◌⊎◌, inl, inr, Option, Some, None, refl, sym, ap, ◌∙◌, arith}
+use Rattle.std.proofs.lemmas.Bool.{lt-ltb, le-ltb, cases_lt}
+use Rattle.std.proofs.lemmas.Bool.Decides.{nat_tests}
+use Rattle.std.proofs.lemmas.List.{take_all, drop_all, length-drop}
+use Rattle.std.proofs.lemmas.List.Sums.{prefix_len-le-length, fails_before_first}
+use Rattle.std.proofs.lemmas.List.Splits.{slice_split_first, slice_split_none, length-slice_split}
+use Rattle.std.specs.List.{position_or_len, before_first, after_first, slice_split, All}
+use Rattle.std.specs.Option.{unwrap_or}
+use Rattle.std.specs.Str.Lines.{strip_carriage_return}
+use Rattle.tv_asm.specs.Text.{lines, lines_of}
+
+-- the first place that passes, as `position` answers it
+pub unwrap_or_place : (p : ℕ → Bool) (text : List ℕ) (r : Option ℕ) → r ≡ cond (ltb (position_or_len p text) (length text)) (Some (position_or_len p text)) None → unwrap_or r (length text) ≡ position_or_len p text
+unwrap_or_place p text r e =
+    let le = prefix_len-le-length (λ c. not (p c)) text in grind (arith, nat_tests)
+
+lines_of-cons : (piece : List ℕ) (pieces : List (List ℕ)) → 0 < length pieces → lines_of (piece ∷ pieces) ≡ strip_carriage_return piece ∷ lines_of pieces
+lines_of-cons piece [] h = absurd (omega arith)
+lines_of-cons piece (next ∷ more) h = refl
+
+-- without a separator, the text is its one piece
+pub slice_split_whole : (p : ℕ → Bool) (text : List ℕ) → length text ≤ position_or_len p text → slice_split p text ≡ text ∷ []
+slice_split_whole p text h = slice_split_none p text (λ k d l. fails_before_first p text k d (omega arith))
+
+whole : (text : List ℕ) → 0 < length text → lines_of (text ∷ []) ≡ strip_carriage_return text ∷ []
+whole [] h = absurd (omega arith)
+whole (c ∷ cs) h = refl
+
+abbrev is_line_feed : ℕ → Bool
+is_line_feed c = c == 10
+
+lines_more_at : (text : List ℕ) → 0 < length text → (position_or_len is_line_feed text < length text) ⊎ (length text ≤ position_or_len is_line_feed text) → lines_of (slice_split is_line_feed text) ≡ strip_carriage_return (before_first is_line_feed text) ∷ lines_of (slice_split is_line_feed (after_first is_line_feed text))
+lines_more_at text h (inl l) =
+    let pieces = slice_split is_line_feed (after_first is_line_feed text) in
+    let some : 0 < length pieces = omega (arith, length-slice_split is_line_feed (after_first is_line_feed text)) in
+    ap lines_of (slice_split_first is_line_feed text 0 l) ∙ lines_of-cons (before_first is_line_feed text) pieces some
+lines_more_at text h (inr l) =
+    let all = take_all (position_or_len is_line_feed text) text l in
+    let none = drop_all (position_or_len is_line_feed text + 1) text (omega arith) in
+    rw (slice_split_whole is_line_feed text l, all, none) (whole text h)
+
+-- a text's first line, and the lines of what stands behind it
+pub lines_more : (text : List ℕ) → 0 < length text → lines text ≡ strip_carriage_return (before_first (λ c. c == 10) text) ∷ lines (after_first (λ c. c == 10) text)
+unfolding lines
+lines_more text h = lines_more_at text h (cases_lt (position_or_len is_line_feed text) (length text))
+
+pub lines-nil : lines [] ≡ []
+unfolding lines
+lines-nil = refl

@@ -1,0 +1,124 @@
+ghost use Rattle.std.specs.Prelude.{◌≡◌, ◌<◌, ◌≤◌, length, drop, IfOk};
+ghost use Rattle.std.specs.List.{position_or_len};
+ghost use Rattle.tv_asm.specs.Instruction.{name_of, operands_in, operand_at, operand_count, fields, counted, raw_words, table_words, words_of};
+ghost use Rattle.tv_asm.specs.Text.{is_blank};
+ghost use Rattle.tv_asm.specs.Views.{address_in};
+ghost use Rattle.tv_isa.specs.Instruction.{IsInstruction};
+
+use crate::fault::AsmWhy;
+use crate::labels::Labels;
+use crate::operand::{Operand, number, register};
+use crate::text::{cut, is_blank, trimmed};
+use tv_isa::{Instr, Operation, Shape, encode, operation_named};
+
+/// The two words of an instruction.
+#[tactic(auto, unfolding(crate::specs::Instruction::words_of))]
+pub(crate) fn words_of(text: &[u8], labels: &Labels<'_>) -> Result<[u32; 2], AsmWhy>
+    ensures { result ≡ words_of 32 (address_in labels.now) text.now }
+{
+    let (name, operands) = text.split_at(name_end(text));
+    if name == b".raw".as_slice() {
+        raw_words(operands)
+    } else {
+        table_words(name, operands, labels)
+    }
+}
+
+/// Where an instruction's name ends.
+fn name_end(text: &[u8]) -> usize
+    ensures end { result ≡ position_or_len is_blank text.now }
+    ensures within { result ≤ length text.now }
+{
+    text.iter().take_while(|byte| !is_blank(**byte)).count()
+}
+
+/// Two numbers, as they are.
+fn raw_words(text: &[u8]) -> Result<[u32; 2], AsmWhy>
+    ensures { result ≡ raw_words 32 (operands_in text.now) }
+{
+    check_count(text, 2)?;
+    let (h, a, _) = operands(text);
+    Ok([number(h)?, number(a)?])
+}
+
+/// The words of an instruction of the table.
+fn table_words(name: &[u8], text: &[u8], labels: &Labels<'_>) -> Result<[u32; 2], AsmWhy>
+    ensures { result ≡ table_words 32 (address_in labels.now) name.now (operands_in text.now) }
+{
+    let operation = operation_named(name).ok_or(AsmWhy::UnknownName)?;
+    check_count(text, operand_count(operation.shape))?;
+    let instr = fields(operation, text, labels)?;
+    Ok(encode(&instr))
+}
+
+fn operand_count(shape: Shape) -> u64
+    ensures { result ≡ operand_count shape }
+{
+    match shape {
+        Shape::DestSourceA => 3,
+        Shape::DestA | Shape::SourceA | Shape::ADest => 2,
+        Shape::OnlyA => 1,
+        Shape::Unused => 0,
+    }
+}
+
+fn check_count(text: &[u8], wants: u64) -> Result<(), AsmWhy>
+    ensures { result ≡ counted (operands_in text.now) wants }
+{
+    let has = count(text);
+    if has == wants {
+        Ok(())
+    } else {
+        Err(AsmWhy::Operands { has, wants })
+    }
+}
+
+/// How many operands stand behind a name.
+fn count(text: &[u8]) -> u64
+    ensures { result ≡ length (operands_in text.now) }
+{
+    if text.is_empty() {
+        return 0;
+    }
+    text.iter().filter(|byte| **byte == b',').count() as u64 + 1
+}
+
+/// The first three operands, empty where there are fewer.
+fn operands(text: &[u8]) -> (&[u8], &[u8], &[u8])
+    ensures first { result.0.now ≡ operand_at (operands_in text.now) 0 }
+    ensures second { result.1.now ≡ operand_at (operands_in text.now) 1 }
+    ensures third { result.2.now ≡ operand_at (operands_in text.now) 2 }
+{
+    let (first, rest) = cut(text, b',');
+    let (second, rest) = cut(rest, b',');
+    let (third, _) = cut(rest, b',');
+    (trimmed(first), trimmed(second), trimmed(third))
+}
+
+/// The fields of an instruction of the table, from its operands.
+fn fields(operation: Operation, text: &[u8], labels: &Labels<'_>) -> Result<Instr, AsmWhy>
+    requires { operation.op < 32 }
+    ensures value { result ≡ fields 32 (address_in labels.now) operation.op operation.shape (operand_at (operands_in text.now)) }
+    ensures range { IfOk result IsInstruction }
+{
+    let op = operation.op;
+    let (first, second, third) = operands(text);
+    let (dest, source, last) = match operation.shape {
+        Shape::DestSourceA => (register(first)?, register(second)?, Operand::of(third, labels)?),
+        Shape::DestA => (register(first)?, 0, Operand::of(second, labels)?),
+        Shape::SourceA => (0, register(first)?, Operand::of(second, labels)?),
+        Shape::OnlyA => (0, 0, Operand::of(first, labels)?),
+        Shape::ADest => {
+            let last = Operand::of(first, labels)?;
+            (register(second)?, 0, last)
+        }
+        Shape::Unused => return Err(AsmWhy::UnknownName),
+    };
+    Ok(Instr {
+        op,
+        imm: last.imm,
+        dest,
+        source,
+        a: last.a,
+    })
+}
