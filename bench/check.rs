@@ -69,11 +69,26 @@ fn add(a: u64, b: u64) -> u64 {
 }
 
 fn slurp(name: &str) -> Result<Option<Vec<u8>>, String> {
-    let fault = |_| format!("file fault: {name}");
-    let mut bytes = Vec::new();
-    let file = File::open(name).map_err(fault)?;
-    file.take(MOST + 1).read_to_end(&mut bytes).map_err(fault)?;
+    let read = || -> std::io::Result<Vec<u8>> {
+        let file = File::open(name)?;
+        let size = file.metadata()?.len().min(MOST) + 1;
+        let mut bytes = Vec::with_capacity(size as usize);
+        file.take(MOST + 1).read_to_end(&mut bytes)?;
+        Ok(bytes)
+    };
+    let bytes = read().map_err(|_| format!("file fault: {name}"))?;
     Ok((bytes.len() as u64 <= MOST).then_some(bytes))
+}
+
+/// The wire and the coefficient of each term.
+fn terms(bytes: &[u8]) -> impl Iterator<Item = (u32, u64)> {
+    bytes.chunks_exact(12).map(|term| {
+        let (wire, coefficient) = term.split_at(4);
+        (
+            u32::from_le_bytes(wire.try_into().unwrap()),
+            u64::from_le_bytes(coefficient.try_into().unwrap()),
+        )
+    })
 }
 
 /// Each term's wire is below `wires` and each coefficient below P; the combinations fill the bytes.
@@ -83,10 +98,9 @@ fn are_rows(mut rows: Bytes<'_>, constraints: u32, wires: u32) -> Option<bool> {
         if count > 1_048_576 {
             return None;
         }
-        for _ in 0..count {
-            if rows.u32()? >= wires || rows.u64()? >= P {
-                return None;
-            }
+        let good = |(wire, coefficient)| wire < wires && coefficient < P;
+        if !terms(rows.take(12 * count as usize)?).all(good) {
+            return None;
         }
     }
     Some(rows.0.is_empty())
@@ -143,12 +157,10 @@ fn tape_of(text: &[u8]) -> Option<Vec<u64>> {
 }
 
 fn value(rows: &mut Bytes<'_>, z: &[u64]) -> Option<u64> {
-    let mut sum = 0;
-    for _ in 0..rows.u32()? {
-        let (wire, coefficient) = (rows.u32()?, rows.u64()?);
-        sum = add(sum, mul(coefficient, z[wire as usize]));
-    }
-    Some(sum)
+    let count = rows.u32()?;
+    let products = terms(rows.take(12 * count as usize)?)
+        .map(|(wire, coefficient)| mul(coefficient, z[wire as usize]));
+    Some(products.fold(0, add))
 }
 
 fn first_failing(system: &System<'_>, z: &[u64]) -> Option<u32> {

@@ -16,7 +16,7 @@ import time
 
 def run(program, words):
     clock = time.perf_counter()
-    process = subprocess.Popen([program, *words], stdout=subprocess.PIPE)
+    process = subprocess.Popen([program, *words], stdout=subprocess.PIPE, stderr=subprocess.DEVNULL)
     printed = process.stdout.read()
     _, status, usage = os.wait4(process.pid, 0)
     clock = time.perf_counter() - clock
