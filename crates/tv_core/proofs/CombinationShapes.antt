@@ -29,3 +29,5 @@ length-difference x y = length-append x (scaled (P - 1) y) ∙ ap (λ n. length 
 pub top-weighted : (first n : ℕ) (c : ℕ → ℕ) → top (weighted first n c) ≤ first + n
 top-weighted first zero c = omega (arith, ap top (weighted-zero first c))
 top-weighted first (suc n) c = omega (arith, ap top (weighted-suc first n c), top-append (weighted first n c) ((c n, first + n) ∷ []), top-weighted first n c)
+
+pub ruleset differences = (top-difference, length-difference)

@@ -12,4 +12,5 @@ pub mod Pigeonhole
 pub mod PrimeLaws
 pub mod PrimeProof
 pub mod Residues
+pub mod TailCalls
 pub mod Testing

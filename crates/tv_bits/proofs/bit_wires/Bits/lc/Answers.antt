@@ -1,6 +1,8 @@
 use Rattle.std.proofs.Common.{◌≡◌, ◌+◌, ◌%◌, ◌^◌, [], ◌∷◌, ◌++◌, length, refl, sym, ◌∙◌, ap, ap₂, arith, add-one}
 use Rattle.std.proofs.Math.Nat.{pow-suc, add-mod}
 use Rattle.tv_core.proofs.BelowLaws.{weighted-zero, weighted-suc, length-weighted}
+use Rattle.tv_core.proofs.CombinationShapes.{top-weighted}
+use Rattle.tv_core.specs.Combinations.{top}
 use Rattle.tv_core.specs.declared.field.TheConstants.{P}
 use Rattle.tv_bits.proofs.bit_wires.Bits.lc.Goals as goal
 
@@ -20,3 +22,9 @@ loop-i-preserved c =
     )
   where
     open c.loop-i use {i, invariant}
+
+pub returns-clause-top : goal.returns-clause-top
+returns-clause-top c = omega (arith, ap top c.loop-i.invariant.0, top-weighted c.args.self.now.first c.loop-i.i (λ i. 2 ^ i % P))
+
+pub returns-clause-len : goal.returns-clause-len
+returns-clause-len c = omega (arith, ap length c.loop-i.invariant.0, length-weighted c.args.self.now.first c.loop-i.i (λ i. 2 ^ i % P))
