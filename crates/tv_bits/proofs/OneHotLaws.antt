@@ -5,16 +5,15 @@ use Rattle.std.proofs.Math.Nat.{pow-le-pow_right}
 use Rattle.std.proofs.lemmas.Bool.{cases_eq}
 use Rattle.std.proofs.lemmas.Bool.Decides.{nat_tests}
 use Rattle.tv_core.proofs.BelowLaws.{sum_below-single, value-weighted, has_each}
-use Rattle.tv_core.proofs.CombinationLaws.{value-below, value-constant, value-wire, wire-below}
-use Rattle.tv_core.proofs.DifferenceLaws.{value-difference, same_of_minus}
+use Rattle.tv_core.proofs.CombinationLaws.{value-less, value-below, value-constant, value-wire, wire-below}
+use Rattle.tv_core.proofs.DifferenceLaws.{same_of_minus}
 use Rattle.tv_core.proofs.LoopLaws.{turn_met, turns_met, turns-next}
 use Rattle.tv_core.proofs.Meeting.{Meets-split, Meets-join}
 use Rattle.tv_core.proofs.PrimeLaws.{p_zero_product_below}
 use Rattle.tv_core.specs.Below.{weighted}
 use Rattle.tv_core.specs.Circuits.{here, fresh, put, pure, ◌>>=◌}
-use Rattle.tv_core.specs.Combinations.{wire, constant}
+use Rattle.tv_core.specs.Combinations.{wire, constant, less}
 use Rattle.tv_core.specs.Constraints.{Combination, value}
-use Rattle.tv_core.specs.Differences.{difference}
 use Rattle.tv_core.specs.Laws.{Assigns, Meets, HasFrom}
 use Rattle.tv_core.specs.Loops.{times}
 use Rattle.tv_core.specs.declared.field.TheConstants.{P}
@@ -42,10 +41,10 @@ mark-next x i at = refl
 turn-next : (x : Combination) (next n : ℕ) → (times n (mark_of x) next).next ≡ next + n
 turn-next x next n = turns-next (λ i _. mark_of x i) tt next 1 n (λ i a at. mark-next x i at) ∙ ap (λ k. next + k) (mul-one n)
 
-mark_value : (z : List ℕ) (x : Combination) (i at : ℕ) → Assigns z → value (wire at) z * value (difference x (constant (i % P))) z % P ≡ slice_index z at * ((value x z + (P - i % P)) % P) % P
+mark_value : (z : List ℕ) (x : Combination) (i at : ℕ) → Assigns z → value (wire at) z * value (less x (constant (i % P))) z % P ≡ slice_index z at * ((value x z + (P - i % P)) % P) % P
 mark_value z x i at assigns =
     let number : value (constant (i % P)) z ≡ i % P = value-constant assigns (i % P) ∙ omega arith in
-    ap₂ (λ m n. m * n % P) (value-wire assigns at) (value-difference x (constant (i % P)) z ∙ ap (λ n. (value x z + (P - n)) % P) number)
+    ap₂ (λ m n. m * n % P) (value-wire assigns at) (value-less x (constant (i % P)) z ∙ ap (λ n. (value x z + (P - n)) % P) number)
 
 pub mark_sound : (z : List ℕ) (x : Combination) (i at : ℕ) → Assigns z → i < P → i ≢ value x z → Meets z (mark_of x i at).list → slice_index z at ≡ 0
 unfolding mark_of fresh put ◌>>=◌

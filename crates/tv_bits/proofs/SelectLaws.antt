@@ -1,12 +1,11 @@
 -- The laws of a choice.
 use Rattle.std.proofs.Common.{◌≡◌, ◌⊎◌, mod-lt, ℕ, ◌+◌, ◌-◌, ◌*◌, ◌%◌, ◌<◌, List, inl, inr, refl, sym, ◌∙◌, ap, ap₂, arith, eq-zero-or-pos}
 use Rattle.std.specs.Prelude.{slice_index}
-use Rattle.tv_core.proofs.CombinationLaws.{value-below, value-wire, wire-below}
-use Rattle.tv_core.proofs.DifferenceLaws.{value-difference, same_of_minus, cancel_minus}
+use Rattle.tv_core.proofs.CombinationLaws.{value-less, value-below, value-wire, wire-below}
+use Rattle.tv_core.proofs.DifferenceLaws.{same_of_minus, cancel_minus}
 use Rattle.tv_core.specs.Circuits.{fresh, put, pure, ◌>>=◌}
-use Rattle.tv_core.specs.Combinations.{wire}
+use Rattle.tv_core.specs.Combinations.{wire, less}
 use Rattle.tv_core.specs.Constraints.{Combination, value}
-use Rattle.tv_core.specs.Differences.{difference}
 use Rattle.tv_core.specs.Laws.{Assigns}
 use Rattle.tv_core.specs.declared.field.TheConstants.{P}
 use Rattle.tv_bits.specs.Bit.{IsBit}
@@ -50,11 +49,11 @@ select_next b x y next = refl
 
 -- the three combinations of the constraint
 module _ (z : List ℕ) (assigns : Assigns z) (b w : ℕ) (x y : Combination) where
-  left : value (wire b) z * value (difference x y) z % P ≡ slice_index z b * ((value x z + (P - value y z)) % P) % P
-  left = ap₂ (λ m n. m * n % P) (value-wire assigns b) (value-difference x y z)
+  left : value (wire b) z * value (less x y) z % P ≡ slice_index z b * ((value x z + (P - value y z)) % P) % P
+  left = ap₂ (λ m n. m * n % P) (value-wire assigns b) (value-less x y z)
 
-  right : value (difference (wire w) y) z ≡ (slice_index z w + (P - value y z)) % P
-  right = value-difference (wire w) y z ∙ ap (λ n. (n + (P - value y z)) % P) (value-wire assigns w)
+  right : value (less (wire w) y) z ≡ (slice_index z w + (P - value y z)) % P
+  right = value-less (wire w) y z ∙ ap (λ n. (n + (P - value y z)) % P) (value-wire assigns w)
 
 pub select_sound : SelectIsSound
 unfolding select_of fresh put pure ◌>>=◌

@@ -1,20 +1,16 @@
 -- The laws of the test for 0.
-use Rattle.std.proofs.Common.{◌≡◌, ◌≢◌, ℕ, ◌+◌, ◌-◌, ◌*◌, ◌%◌, ◌<◌, List, inl, inr, refl, sym, ◌∙◌, ap, arith, zero-mul, mul-zero}
+use Rattle.std.proofs.Common.{◌≡◌, ◌≢◌, ℕ, ◌+◌, ◌-◌, ◌*◌, ◌%◌, ◌<◌, inl, inr, refl, sym, ◌∙◌, ap, arith, zero-mul, mul-zero}
 use Rattle.std.specs.Prelude.{slice_index}
 use Rattle.std.proofs.lemmas.Bool.{cases_eq}
 use Rattle.std.proofs.lemmas.Bool.Decides.{nat_tests}
-use Rattle.tv_core.proofs.CombinationLaws.{value-below, value-wire, wire-below}
+use Rattle.tv_core.proofs.CombinationLaws.{value-below, value-wire, value-one_less, wire-below}
 use Rattle.tv_core.proofs.InverseLaws.{mul-inverse_of}
 use Rattle.tv_core.proofs.PrimeLaws.{p_zero_product_below}
 use Rattle.tv_core.specs.Constraints.{value}
 use Rattle.tv_core.specs.Circuits.{fresh, put, pure, ◌>>=◌}
-use Rattle.tv_core.specs.Laws.{Assigns}
 use Rattle.tv_core.specs.declared.field.TheConstants.{P}
 use Rattle.tv_core.specs.Inverse.{inverse_of}
-use Rattle.tv_bits.specs.Zero.{zero_flag, one_less, zero_of, ZeroIsSound, ZeroIsComplete}
-
-value-one_less : (z : List ℕ) (w : ℕ) → Assigns z → value (one_less w) z ≡ (1 + (P - slice_index z w)) % P
-value-one_less z w assigns = let small = wire-below assigns w in omega (arith, assigns.one)
+use Rattle.tv_bits.specs.Zero.{zero_flag, zero_of, ZeroIsSound, ZeroIsComplete}
 
 zero_flag-zero : (x : ℕ) → x ≡ 0 → zero_flag x ≡ 1
 zero_flag-zero x none = rw none refl
@@ -50,7 +46,7 @@ pub zero_sound : ZeroIsSound
 unfolding zero_of ◌>>=◌ fresh put pure
 zero_sound z next x assigns meets =
     flag_of (value x z) (slice_index z (next + 1)) (slice_index z next) (value-below x z) (wire-below assigns next)
-    (ap (λ h. value x z * h % P) (sym (value-wire assigns (next + 1))) ∙ meets.0 ∙ value-one_less z next assigns)
+    (ap (λ h. value x z * h % P) (sym (value-wire assigns (next + 1))) ∙ meets.0 ∙ value-one_less assigns next)
     (ap (λ f. value x z * f % P) (sym (value-wire assigns next)) ∙ meets.1.0)
 
 pub zero_complete : ZeroIsComplete
@@ -59,5 +55,5 @@ zero_complete z next x assigns has =
     let numbers = flag_meets (value x z) (value-below x z) in
     let hint = ap (λ h. value x z * h % P) (value-wire assigns (next + 1) ∙ has.1.0) in
     let flag = ap (λ f. value x z * f % P) (value-wire assigns next ∙ has.0) in
-    let rest = ap (λ f. (1 + (P - f)) % P) (sym has.0) ∙ sym (value-one_less z next assigns) in
+    let rest = ap (λ f. (1 + (P - f)) % P) (sym has.0) ∙ sym (value-one_less assigns next) in
     (hint ∙ numbers.0 ∙ rest, (flag ∙ numbers.1, tt))

@@ -4,9 +4,8 @@ use Rattle.tv_bits.specs.Bits.{Spells, bits_combination}
 use Rattle.tv_bits.specs.declared.bit_wires.Bits.{Bits}
 use Rattle.tv_core.specs.Below.{each_below, weighted}
 use Rattle.tv_core.specs.Circuits.{Circuit, here, fresh, put, pure, ◌>>=◌}
-use Rattle.tv_core.specs.Combinations.{wire, constant}
+use Rattle.tv_core.specs.Combinations.{wire, constant, less}
 use Rattle.tv_core.specs.Constraints.{Combination}
-use Rattle.tv_core.specs.Differences.{difference}
 use Rattle.tv_core.specs.Laws.{Assigns, Meets, HasFrom}
 use Rattle.tv_core.specs.Loops.{times}
 use Rattle.tv_core.specs.declared.field.TheConstants.{P}
@@ -33,7 +32,7 @@ onehot_values x n = each_below (2 ^ n) (one_at x)
 unfoldable pub mark_of : Combination → ℕ → Circuit (Unit {0})
 mark_of x i = do
   w ← fresh
-  put (wire w) (difference x (constant (i % P))) []
+  put (wire w) (less x (constant (i % P))) []
 
 -- a new wire for each number that the bits may spell, 0 unless they spell it; together the wires are 1
 unfoldable pub onehot_of : Bits → Circuit ℕ

@@ -2,9 +2,8 @@
 use Rattle.std.specs.Prelude.{◌≡◌, ℕ, ◌==◌, if◌then◌else◌, List, [], ◌∷◌, slice_index}
 use Rattle.tv_bits.specs.Bit.{IsBit}
 use Rattle.tv_core.specs.Circuits.{Circuit, fresh, put, pure, ◌>>=◌}
-use Rattle.tv_core.specs.Combinations.{wire}
+use Rattle.tv_core.specs.Combinations.{wire, less}
 use Rattle.tv_core.specs.Constraints.{Combination, value}
-use Rattle.tv_core.specs.Differences.{difference}
 use Rattle.tv_core.specs.Laws.{Assigns, Meets, HasFrom}
 
 -- x where b is 1, else y
@@ -15,7 +14,7 @@ selected b x y = if b == 1 then x else y
 unfoldable pub select_of : ℕ → Combination → Combination → Circuit ℕ
 select_of b x y = do
   w ← fresh
-  _ ← put (wire b) (difference x y) (difference (wire w) y)
+  _ ← put (wire b) (less x y) (less (wire w) y)
   pure w
 
 -- the value of the wire that is made

@@ -1,19 +1,14 @@
 -- Whether a combination is 0.
-use Rattle.std.specs.Prelude.{◌≡◌, ℕ, ◌-◌, ◌==◌, if◌then◌else◌, List, [], ◌∷◌, slice_index}
+use Rattle.std.specs.Prelude.{◌≡◌, ℕ, ◌==◌, if◌then◌else◌, List, [], ◌∷◌, slice_index}
 use Rattle.tv_core.specs.Constraints.{Combination, value}
-use Rattle.tv_core.specs.Combinations.{wire}
+use Rattle.tv_core.specs.Combinations.{wire, one_less}
 use Rattle.tv_core.specs.Circuits.{Circuit, fresh, put, pure, ◌>>=◌}
 use Rattle.tv_core.specs.Inverse.{inverse_of}
 use Rattle.tv_core.specs.Laws.{Assigns, Meets, HasFrom}
-use Rattle.tv_core.specs.declared.field.TheConstants.{P}
 
 -- 1 for 0, and 0 for any other number
 abbrev pub zero_flag : ℕ → ℕ
 zero_flag x = if x == 0 then 1 else 0
-
--- 1 less a wire
-abbrev pub one_less : ℕ → Combination
-one_less w = (1, 0) ∷ (P - 1, w) ∷ []
 
 -- a wire that is 1 where x is 0, and else 0: x times a hint is 1 less the flag, and x times the flag is 0
 unfoldable pub zero_of : Combination → Circuit ℕ

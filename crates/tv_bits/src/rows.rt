@@ -52,7 +52,8 @@ fn mark<S: Sink>(s: &mut S, x: &Lc, i: u32) -> Put<()>
     ensures grows { IfOk result (λ _. Grows S.meaning s.old s.new 1 1) }
 {
     let w = s.fresh();
-    let rest = x.minus(&Lc::constant(F::of(u64::from(i))));
+    let mut rest = Lc::from_terms(x.terms());
+    rest.minus(&Lc::constant(F::of(u64::from(i))));
     s.put(&Lc::wire(w), &rest, &Lc::empty())
 }
 

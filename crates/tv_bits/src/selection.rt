@@ -19,7 +19,11 @@ pub fn select<S: Sink>(s: &mut S, b: Wire, x: &Lc, y: &Lc) -> Put<Wire>
     ensures below { IfOk result (λ chosen. chosen < S.meaning.wires s.new) }
 {
     let chosen = s.fresh();
-    s.put(&Lc::wire(b), &x.minus(y), &Lc::wire(chosen).minus(y))?;
+    let mut difference = Lc::from_terms(x.terms());
+    difference.minus(y);
+    let mut rest = Lc::wire(chosen);
+    rest.minus(y);
+    s.put(&Lc::wire(b), &difference, &rest)?;
     Ok(chosen)
 }
 

@@ -2,18 +2,9 @@ ghost use Rattle.std.specs.Prelude.{◌≡◌, ◌-◌, ◌≤◌, ◌<◌, [], 
 ghost use Rattle.tv_core.specs.Combinations.{top, wire};
 ghost use Rattle.tv_core.specs.Sinks.{PutsIn, Grows, Room};
 ghost use Rattle.tv_core.specs.Giving.{GivesIn};
-ghost use Rattle.tv_bits.specs.Zero.{one_less, zero_of, zero_values, ZeroIsSound, ZeroIsComplete};
+ghost use Rattle.tv_bits.specs.Zero.{zero_of, zero_values, ZeroIsSound, ZeroIsComplete};
 
 use tv_core::{F, Lc, Put, Sink, Values, Wire, give_values};
-
-// 1 less a wire.
-fn one_less(w: Wire) -> Lc
-    ensures { result ≡ one_less w }
-{
-    let mut lc = Lc::constant(F::ONE);
-    lc.plus(F::ONE.neg(), w);
-    lc
-}
 
 /// A wire that is 1 exactly where `x` is 0, and else 0. It makes 2 wires and 2 constraints.
 pub fn zero<S: Sink>(s: &mut S, x: &Lc) -> Put<Wire>
@@ -25,7 +16,7 @@ pub fn zero<S: Sink>(s: &mut S, x: &Lc) -> Put<Wire>
 {
     let flag = s.fresh();
     let hint = s.fresh();
-    s.put(x, &Lc::wire(hint), &one_less(flag))?;
+    s.put(x, &Lc::wire(hint), &Lc::one_less(flag))?;
     s.put(x, &Lc::wire(flag), &Lc::empty())?;
     Ok(flag)
 }

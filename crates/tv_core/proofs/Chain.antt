@@ -1,10 +1,10 @@
 -- Calls one after another put their circuits one after another. `search (chain, ..)` with what each call
 -- did proves what the whole did; at the exit of a `?` it stands behind `refused`.
-use Rattle.std.proofs.Common.{◌≡◌, ℕ, zero, suc, ◌+◌, ◌-◌, ◌^◌, ◌<◌, ◌≤◌, List, [], ◌∷◌, ◌++◌, min, Result, IsErrAnd, inl, inr, refl, sym, ◌∙◌, ap, subst, append_assoc, add-one, eq-or-lt_of_le, arith}
+use Rattle.std.proofs.Common.{◌≡◌, ℕ, zero, suc, ◌+◌, ◌-◌, ◌<◌, ◌≤◌, ◌++◌, Result, IsErrAnd, refl, sym, ◌∙◌, ap, subst, append_assoc, add-one, arith}
 use Rattle.std.proofs.lemmas.List.{append-nil}
 use Rattle.std.proofs.lemmas.Result.{err_from_is_err_and}
-use Rattle.tv_core.specs.Circuits.{Circuit, Made, pure, here, turns, ◌>>=◌}
-use Rattle.tv_core.specs.Sinks.{Meaning, PutsAll, PutsSome, PutsIn, IsCause, Rose}
+use Rattle.tv_core.specs.Circuits.{Circuit, pure, here, turns, ◌>>=◌}
+use Rattle.tv_core.specs.Sinks.{Meaning, PutsAll, PutsSome, PutsIn, IsCause}
 use Rattle.tv_core.specs.declared.sink.SinkFault.{SinkFault}
 use Rattle.tv_core.specs.declared.sink.SinkFault.TheVariants.{Failed, Memory}
 

@@ -1,15 +1,15 @@
 -- The values of combinations, and what an assignment has at a wire.
-use Rattle.std.proofs.Common.{◌≡◌, ℕ, zero, suc, ◌+◌, ◌-◌, ◌*◌, ◌%◌, ◌<◌, ◌≤◌, List, [], ◌∷◌, ◌++◌, All, Some, map, sum_by, length, slice_get, get_or, inl, inr, refl, sym, ◌∙◌, ap, ap₂, arith, mod-lt, one-mul, mul-one, add-zero, zero-add, mod-eq_of_lt}
+use Rattle.std.proofs.Common.{◌≡◌, ℕ, ◌+◌, ◌-◌, ◌*◌, ◌%◌, ◌<◌, List, [], ◌∷◌, ◌++◌, max, Some, length, slice_get, inl, inr, refl, sym, ◌∙◌, ap, arith, mod-lt}
 use Rattle.std.specs.Prelude.{slice_index}
-use Rattle.std.proofs.Math.Nat.{add-mod, mod-mod, mod-add-mod, add-mod-mod, mul_assoc}
+use Rattle.std.proofs.Math.Nat.{add-mod, add-mod-mod, mul_assoc}
 use Rattle.std.proofs.lemmas.Bool.{cases_lt}
 use Rattle.std.proofs.lemmas.List.{get_or_past}
 use Rattle.std.proofs.lemmas.List.Elements.{All-get_or, recursion_from_All}
 use Rattle.std.proofs.lemmas.List.Sums.{sum_by-cons, sum_by-append}
 use Rattle.std.proofs.lemmas.Nat.{mul-mod_first, mul-mod_second}
 use Rattle.tv_core.proofs.Residues.{sum_by-mod_same, sum_by-mul, sum_by-map}
-use Rattle.tv_core.specs.Constraints.{Combination, value, System, Sat, Holds}
-use Rattle.tv_core.specs.Combinations.{wire, constant, scaled, top}
+use Rattle.tv_core.specs.Constraints.{Combination, value, System, Sat}
+use Rattle.tv_core.specs.Combinations.{wire, constant, one_less, scaled, less, top}
 use Rattle.tv_core.specs.Laws.{Assigns, Meets}
 use Rattle.tv_core.specs.declared.field.TheConstants.{P}
 
@@ -31,6 +31,18 @@ value-scaled k x z =
     ∙ ap (λ n. n % P) (sum_by-mul k term x)
     ∙ sym (mul-mod_second k _ P)
 
+negated : (x y : ℕ) → y < P → (x + (P - 1) * y % P) % P ≡ (x + (P - y)) % P
+negated x y small = omega arith
+
+-- the greatest wire
+pub top-append : (x y : Combination) → top (x ++ y) ≡ max (top x) (top y)
+top-append [] y = omega arith
+top-append (t ∷ x) y = omega (arith, top-append x y)
+
+pub top-scaled : (k : ℕ) (x : Combination) → top (scaled k x) ≡ top x
+top-scaled k [] = refl
+top-scaled k (t ∷ x) = ap (λ n. max (t.1 + 1) n) (top-scaled k x)
+
 module _ {z : List ℕ} (assigns : Assigns z) where
   pub wire-below : (w : ℕ) → slice_index z w < P
   wire-below w = elim (cases_lt w (length z)) [ inl within ↦ All-get_or (λ v. v < P) z w 0 within assigns.below | inr past ↦ omega (arith, get_or_past z w 0 past) ]
@@ -38,8 +50,14 @@ module _ {z : List ℕ} (assigns : Assigns z) where
   pub value-wire : (w : ℕ) → value (wire w) z ≡ slice_index z w
   value-wire w = let small = wire-below w in omega arith
 
+  pub value-one_less : (w : ℕ) → value (one_less w) z ≡ (1 + (P - slice_index z w)) % P
+  value-one_less w = let small = wire-below w in omega (arith, assigns.one)
+
   pub value-constant : (c : ℕ) → value (constant c) z ≡ c % P
   value-constant c = rw (assigns.one) (ap (λ n. n % P) (omega arith))
+
+pub value-less : (x y : Combination) (z : List ℕ) → value (less x y) z ≡ (value x z + (P - value y z)) % P
+value-less x y z = value-append x (scaled (P - 1) y) z ∙ ap (λ n. (value x z + n) % P) (value-scaled (P - 1) y z) ∙ negated (value x z) (value y z) (value-below y z)
 
 pub value-empty : (z : List ℕ) → value [] z ≡ 0
 value-empty z = refl
@@ -54,3 +72,5 @@ Assigns-from_Sat system z sat = record { below = sat.below; one = slice_index_fi
 
 pub Meets-from_Sat : (system : System) (z : List ℕ) → Sat system z → Meets z system.constraints
 Meets-from_Sat system z sat = recursion_from_All _ system.constraints sat.holds
+
+pub ruleset tops = (top-append, top-scaled)

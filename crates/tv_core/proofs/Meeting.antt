@@ -1,7 +1,7 @@
 -- What an assignment meets, and what it has, in parts.
-use Rattle.std.proofs.Common.{◌≡◌, ℕ, zero, suc, ◌+◌, List, [], ◌∷◌, ◌++◌, length, refl, sym, ◌∙◌, ap, subst, arith, add-zero}
-use Rattle.tv_core.specs.Constraints.{Constraint, Holds}
-use Rattle.tv_core.specs.Circuits.{Circuit, turns, ◌>>=◌}
+use Rattle.std.proofs.Common.{◌≡◌, ℕ, suc, ◌+◌, List, [], ◌∷◌, ◌++◌, length, arith, add-zero}
+use Rattle.tv_core.specs.Constraints.{Constraint}
+use Rattle.tv_core.specs.Circuits.{Circuit, ◌>>=◌}
 use Rattle.tv_core.specs.Laws.{Meets, HasFrom}
 
 pub Meets-split : (z : List ℕ) (xs ys : List Constraint) → Meets z (xs ++ ys) → Meets z xs × Meets z ys

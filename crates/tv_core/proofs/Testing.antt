@@ -1,11 +1,11 @@
 -- A tested list with one constraint more.
-use Rattle.std.proofs.Common.{◌≡◌, ℕ, ◌+◌, ◌*◌, ◌%◌, ◌==◌, Bool, true, false, not, if◌then◌else◌, List, [], ◌∷◌, ◌++◌, length, Option, Some, None, sum_by, count_by, refl, sym, ◌∙◌, ap, ap₂, arith, length-append, add-zero, zero-add}
+use Rattle.std.proofs.Common.{◌≡◌, ℕ, ◌+◌, ◌%◌, Bool, true, false, not, if◌then◌else◌, List, [], ◌∷◌, ◌++◌, length, Option, Some, None, sum_by, count_by, refl, sym, ◌∙◌, ap, ap₂, arith, length-append, add-zero, zero-add}
 use Rattle.std.specs.Bool.{then_some}
 use Rattle.std.specs.Int.{from_bool}
 use Rattle.std.specs.Option.{option_or}
 use Rattle.std.proofs.lemmas.List.Sums.{sum_by_push}
 use Rattle.std.proofs.Math.Nat.{mod-add-mod}
-use Rattle.tv_core.specs.Constraints.{Constraint, value}
+use Rattle.tv_core.specs.Constraints.{Constraint}
 use Rattle.tv_core.specs.Meanings.{Tested, IsTested, holds, product_in, first_failure}
 use Rattle.tv_core.specs.declared.field.TheConstants.{P}
 

@@ -2,12 +2,13 @@ pub mod Below
 pub mod Circuits
 pub mod Combinations
 pub mod Constraints
-pub mod Differences
 pub mod Examples
 pub mod Giving
 pub mod Inverse
 pub mod Laws
+pub mod Lines
 pub mod Loops
 pub mod Meanings
 pub mod Prime
+pub mod Rows
 pub mod Sinks

@@ -1,5 +1,5 @@
 -- What the sinks and the taker of values of this crate are seen as, and what they mean.
-use Rattle.std.specs.Prelude.{◌≡◌, ℕ, ◌+◌, ◌*◌, ◌%◌, ◌==◌, Bool, true, false, not, if◌then◌else◌, List, [], ◌∷◌, ◌++◌, length, sum_by, count_by, Option, Some, None, position}
+use Rattle.std.specs.Prelude.{◌≡◌, ℕ, ◌+◌, ◌*◌, ◌%◌, ◌==◌, Bool, false, if◌then◌else◌, List, [], ◌∷◌, ◌++◌, length, sum_by, count_by, Option, Some, None}
 use Rattle.tv_core.specs.Constraints.{Constraint, value}
 use Rattle.tv_core.specs.Sinks.{Meaning}
 use Rattle.tv_core.specs.Giving.{Giving}

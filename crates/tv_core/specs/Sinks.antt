@@ -1,7 +1,7 @@
 -- What a sink of constraints means, and what a call that puts constraints into one does.
 use Rattle.std.specs.Prelude.{◌≡◌, ℕ, ◌+◌, ◌-◌, ◌^◌, ◌≤◌, ◌<◌, Bool, true, false, List, [], ◌∷◌, ◌++◌, min, Result, MatchResult}
 use Rattle.tv_core.specs.Constraints.{Constraint}
-use Rattle.tv_core.specs.Circuits.{Circuit, Made}
+use Rattle.tv_core.specs.Circuits.{Circuit}
 use Rattle.tv_core.specs.declared.sink.SinkFault.{SinkFault}
 use Rattle.tv_core.specs.declared.sink.SinkFault.TheVariants.{Failed, Memory}
 

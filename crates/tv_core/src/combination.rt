@@ -1,6 +1,6 @@
 ghost use Rattle.std.specs.Prelude.{◌≡◌, ℕ, ◌+◌, ◌*◌, ◌%◌, ◌<◌, ◌≤◌, List, [], ◌∷◌, ◌++◌, length, max, map};
 ghost use Rattle.tv_core.specs.Constraints.{value};
-ghost use Rattle.tv_core.specs.Combinations.{wire, constant, scaled, top};
+ghost use Rattle.tv_core.specs.Combinations.{wire, constant, one_less, scaled, less, top};
 ghost use Rattle.arrayvec.specs.ArrayVec.{array_vec_len};
 
 use crate::field::F;
@@ -56,6 +56,15 @@ impl Lc {
         lc
     }
 
+    /// 1 less a wire.
+    pub fn one_less(w: Wire) -> Lc
+        ensures { result ≡ one_less w }
+    {
+        let mut lc = Lc::constant(F::ONE);
+        lc.plus(-F::ONE, w);
+        lc
+    }
+
     /// The combination with these terms.
     pub fn from_terms(terms: &[(F, Wire)]) -> Lc
         requires { length terms.now ≤ 128 }
@@ -76,9 +85,12 @@ impl Lc {
     }
 
     /// Appends a term.
+    #[tactic(auto, using(crate::proofs::CombinationLaws::tops))]
     pub fn plus(&mut self, coefficient: F, wire: Wire)
         requires { length self.old < 128 }
-        ensures { self.new ≡ self.old ++ (coefficient, wire) ∷ [] }
+        ensures terms { self.new ≡ self.old ++ (coefficient, wire) ∷ [] }
+        ensures len { length self.new ≡ length self.old + 1 }
+        ensures top { top self.new ≡ max (top self.old) (wire + 1) }
     {
         self.terms.push((coefficient, wire));
     }
@@ -86,11 +98,23 @@ impl Lc {
     /// Appends `factor` times each term of `other`.
     pub fn plus_scaled(&mut self, factor: F, other: &Lc)
         requires { length self.old + length other.now ≤ 128 }
-        ensures { self.new ≡ self.old ++ scaled factor other.now }
+        ensures terms { self.new ≡ self.old ++ scaled factor other.now }
+        ensures len { length self.new ≡ length self.old + length other.now }
+        ensures top { top self.new ≡ max (top self.old) (top other.now) }
     {
         for (coefficient, wire) in other.terms() {
             self.plus(factor * *coefficient, *wire);
         }
+    }
+
+    /// Appends the terms of `other`, negated.
+    pub fn minus(&mut self, other: &Lc)
+        requires { length self.old + length other.now ≤ 128 }
+        ensures terms { self.new ≡ less self.old other.now }
+        ensures len { length self.new ≡ length self.old + length other.now }
+        ensures top { top self.new ≡ max (top self.old) (top other.now) }
+    {
+        self.plus_scaled(-F::ONE, other);
     }
 
     /// The terms, in order.

@@ -5,22 +5,28 @@
 
 mod combination;
 mod count_sink;
-mod difference;
 #[cfg(test)]
 mod examples;
 mod field;
 mod inverse;
+mod lines;
+mod list_sink;
 mod list_values;
 mod offset;
 mod prime;
+mod rows;
 mod sink;
 mod test_sink;
+#[cfg(test)]
+mod tests;
 mod values;
 mod wire;
 
 pub use combination::{Lc, TERMS};
 pub use count_sink::CountSink;
 pub use field::{F, P};
+pub use lines::{Counts, LineLc, LineNum, Pair, PairNum};
+pub use list_sink::ListSink;
 pub use list_values::ListValues;
 pub use prime::{p_cancels, p_is_prime, p_zero_product};
 pub use sink::{Put, Sink, SinkFault};

@@ -1,6 +1,5 @@
 use Rattle.std.proofs.Common.{◌+◌, [], ◌∷◌, ◌++◌, length, sym, ◌∙◌, ap, arith, add-one}
-use Rattle.tv_core.proofs.BelowLaws.{weighted-zero, weighted-suc, length-weighted}
-use Rattle.tv_core.proofs.CombinationShapes.{top-weighted}
+use Rattle.tv_core.proofs.BelowLaws.{weighted-zero, weighted-suc, length-weighted, top-weighted}
 use Rattle.tv_core.specs.Combinations.{top}
 use Rattle.tv_bits.proofs.rows.row_sum.Goals as goal
 
@@ -12,7 +11,7 @@ plus-requires c = omega (arith, ap length c.loop-i.invariant, length-weighted c.
 
 pub loop-i-preserved : goal.loop-i-preserved
 loop-i-preserved c =
-    let term = rw c.offset.ensures at c.plus.ensures in
+    let term = rw c.offset.ensures at c.plus.ensures.terms in
     rw (add-one, weighted-suc) (term ∙ ap (λ l. l ++ (1, c.args.first + c.loop-i.i) ∷ []) c.loop-i.invariant)
 
 pub returns-clause-top : goal.returns-clause-top

@@ -2,7 +2,7 @@ use Rattle.std.proofs.Common.{◌≡◌, ◌+◌, ◌%◌, ◌∙◌, ap, arith,
 use Rattle.std.specs.Option.{option_or}
 use Rattle.tv_core.proofs.Testing.{IsTested-push}
 use Rattle.tv_core.specs.Circuits.{put}
-use Rattle.tv_core.specs.Constraints.{Constraint, value}
+use Rattle.tv_core.specs.Constraints.{Constraint}
 use Rattle.tv_core.specs.Meanings.{holds, product_in}
 use Rattle.tv_core.specs.declared.field.TheConstants.{P}
 use Rattle.tv_core.proofs.test_sink.TestSinkSink.put.Goals as goal

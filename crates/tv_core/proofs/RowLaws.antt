@@ -1,0 +1,77 @@
+-- Rows over terms, to which more terms are appended.
+use Rattle.std.proofs.Common.{◌≡◌, ℕ, ◌+◌, ◌-◌, ◌≤◌, List, [], ◌∷◌, ◌++◌, All, map, take, drop, length, get_or, slice_range, refl, sym, ◌∙◌, ap, ap₂, append_assoc, arith, length-append, length-drop}
+use Rattle.std.proofs.Math.Seq.{drop-append_seam, take-append_seam}
+use Rattle.std.proofs.lemmas.List.{append-nil, take-append-le, drop-append-le, map-append}
+use Rattle.std.proofs.lemmas.List.Elements.{All-push, recursion_from_All}
+use Rattle.std.specs.List.{AllByRecursion}
+use Rattle.tv_core.specs.Constraints.{Combination}
+use Rattle.tv_core.specs.Rows.{constraint_at, Within, row_after}
+use Rattle.tv_core.specs.declared.rows.Row.{Row}
+
+module _ {X : Type 0} where
+  slice_range-append : (xs ys : List X) (i j : ℕ) → i ≤ j → j ≤ length xs → slice_range (xs ++ ys) i j ≡ slice_range xs i j
+  slice_range-append xs ys i j h k =
+      ap (λ l. take (j - i) l) (drop-append-le i xs ys (omega arith)) ∙ take-append-le (j - i) (drop i xs) ys (omega (arith, length-drop i xs))
+
+  slice_range-seam : (xs ys zs : List X) (i j : ℕ) → i ≡ length xs → j ≡ i + length ys → slice_range (xs ++ (ys ++ zs)) i j ≡ ys
+  slice_range-seam xs ys zs i j h k =
+      let size : j - i ≡ length ys = omega arith in
+      ap₂ take size (ap (λ n. drop n (xs ++ (ys ++ zs))) h ∙ drop-append_seam xs (ys ++ zs)) ∙ take-append_seam ys zs
+
+-- more terms leave the constraints of earlier rows
+constraint_at-append : (terms more : Combination) (row : Row) → Within terms row → constraint_at (terms ++ more) row ≡ constraint_at terms row
+constraint_at-append terms more row w =
+    let a = slice_range-append terms more row.start (row.start + row.a_end) (omega arith) (omega (arith, w.b_from, w.c_from, w.within)) in
+    let b = slice_range-append terms more (row.start + row.a_end) (row.start + row.b_end) (omega (arith, w.b_from)) (omega (arith, w.c_from, w.within)) in
+    let c = slice_range-append terms more (row.start + row.b_end) (row.start + row.c_end) (omega (arith, w.c_from)) (omega (arith, w.within)) in
+    rw (a, b, c) refl
+
+constraints-append : (terms more : Combination) (rows : List Row) → AllByRecursion (Within terms) rows → map (constraint_at (terms ++ more)) rows ≡ map (constraint_at terms) rows
+constraints-append terms more [] w = refl
+constraints-append terms more (row ∷ rows) w = ap₂ (λ x xs. x ∷ xs) (constraint_at-append terms more row w.0) (constraints-append terms more rows w.1)
+
+-- the row after the terms has the combinations that are appended
+constraint_at-after : (terms a b c : Combination) → constraint_at (terms ++ (a ++ (b ++ c))) (row_after terms a b c) ≡ record { a = a; b = b; c = c }
+constraint_at-after terms a b c =
+    let all = terms ++ (a ++ (b ++ c)) in
+    let la = length terms + length a in
+    let lb = length terms + (length a + length b) in
+    let lc = length terms + (length a + length b + length c) in
+    let after_a : (terms ++ a) ++ (b ++ c) ≡ all = append_assoc terms a (b ++ c) in
+    let after_b : (terms ++ (a ++ b)) ++ (c ++ []) ≡ all = rw append-nil (append_assoc terms (a ++ b) c ∙ ap (λ l. terms ++ l) (append_assoc a b c)) in
+    let first : slice_range all (length terms) la ≡ a = slice_range-seam terms a (b ++ c) (length terms) la refl refl in
+    let second : slice_range all la lb ≡ b = ap (λ l. slice_range l la lb) (sym after_a) ∙ slice_range-seam (terms ++ a) b c la lb (sym (length-append terms a)) (omega arith) in
+    let third : slice_range all lb lc ≡ c = ap (λ l. slice_range l lb lc) (sym after_b) ∙ slice_range-seam (terms ++ (a ++ b)) c [] lb lc (omega (arith, length-append terms (a ++ b), length-append a b)) (omega arith) in
+    ap₂ (λ x y. record { a = x; b = y; c = slice_range all lb lc }) first second ∙ ap (λ x. record { a = a; b = b; c = x }) third
+
+Within-append : (terms more : Combination) (row : Row) → Within terms row → Within (terms ++ more) row
+Within-append terms more row w = record {
+  a_length = w.a_length;
+  b_from = w.b_from;
+  b_length = w.b_length;
+  c_from = w.c_from;
+  c_length = w.c_length;
+  within = omega (arith, w.within, length-append terms more);
+}
+
+-- one constraint more
+pub constraints-push : (terms a b c : Combination) (rows : List Row) → All (Within terms) rows
+    → map (constraint_at (terms ++ (a ++ (b ++ c)))) (rows ++ row_after terms a b c ∷ []) ≡ map (constraint_at terms) rows ++ (record { a = a; b = b; c = c }) ∷ []
+constraints-push terms a b c rows w =
+    map-append _ rows _ ∙ ap₂ (λ xs x. xs ++ x ∷ []) (constraints-append terms (a ++ (b ++ c)) rows (recursion_from_All _ rows w)) (constraint_at-after terms a b c)
+
+pub Within-push : (terms a b c : Combination) (rows : List Row) → length a ≤ 128 → length b ≤ 128 → length c ≤ 128 → All (Within terms) rows
+    → All (Within (terms ++ (a ++ (b ++ c)))) (rows ++ row_after terms a b c ∷ [])
+Within-push terms a b c rows h k l w =
+    let all = terms ++ (a ++ (b ++ c)) in
+    let size : length all ≡ length terms + (length a + (length b + length c)) = simp length-append in
+    All-push (Within all) rows (row_after terms a b c)
+    (λ i d below. Within-append terms (a ++ (b ++ c)) (get_or rows i d) (w i d below))
+    (record {
+      a_length = h;
+      b_from = omega arith;
+      b_length = omega arith;
+      c_from = omega arith;
+      c_length = omega arith;
+      within = omega arith;
+    })

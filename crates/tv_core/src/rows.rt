@@ -1,0 +1,45 @@
+ghost use Rattle.std.specs.Prelude.{◌≡◌, ◌≤◌, [], ◌∷◌, ◌++◌, length, OnOk, OnErr};
+ghost use Rattle.tv_core.specs.Rows.{row_after};
+
+use crate::combination::Lc;
+use crate::field::F;
+use crate::wire::Wire;
+use std::alloc::AllocError;
+
+// Where the terms of a constraint stand: the first, and the ends of its three combinations from there.
+#[derive(Clone, Copy)]
+pub(crate) struct Row {
+    pub(crate) start: usize,
+    pub(crate) a_end: u16,
+    pub(crate) b_end: u16,
+    pub(crate) c_end: u16,
+}
+
+// Appends three combinations one after another, and their row, or nothing where memory runs out.
+pub(crate) fn append(
+    terms: &mut Vec<(F, Wire)>,
+    rows: &mut Vec<Row>,
+    a: &Lc,
+    b: &Lc,
+    c: &Lc,
+) -> Result<(), AllocError>
+    ensures terms { OnOk result (terms.new.items ≡ terms.old.items ++ (a.now ++ (b.now ++ c.now))) }
+    ensures rows { OnOk result (rows.new.items ≡ rows.old.items ++ row_after terms.old.items a.now b.now c.now ∷ []) }
+    ensures lengths { (length a.now ≤ 128) × (length b.now ≤ 128) × (length c.now ≤ 128) }
+    ensures err { OnErr result ((terms.new.items ≡ terms.old.items) × (rows.new.items ≡ rows.old.items)) }
+{
+    let (a, b, c) = (a.terms(), b.terms(), c.terms());
+    let row = Row {
+        start: terms.len(),
+        a_end: a.len() as u16,
+        b_end: (a.len() + b.len()) as u16,
+        c_end: (a.len() + b.len() + c.len()) as u16,
+    };
+    rows.reserve(1)?;
+    terms.reserve(a.len() + b.len() + c.len())?;
+    terms.extend_from_slice(a)?;
+    terms.extend_from_slice(b)?;
+    terms.extend_from_slice(c)?;
+    rows.push_reserved(row);
+    Ok(())
+}
