@@ -1,4 +1,6 @@
 pub mod BitLaws
+pub mod OneHotLaws
+pub mod SelectLaws
 pub mod SpelledNumbers
 pub mod SpellingLaws
 pub mod ZeroLaws

@@ -1,5 +1,6 @@
-ghost use Rattle.std.specs.Prelude.{◌≡◌, ◌+◌, ◌≤◌, ◌<◌, ◌^◌};
+ghost use Rattle.std.specs.Prelude.{◌≡◌, ◌+◌, ◌≤◌, ◌<◌, ◌^◌, length};
 ghost use Rattle.tv_bits.specs.Bits.{bits_combination};
+ghost use Rattle.tv_core.specs.Combinations.{top};
 
 use tv_core::{F, Lc, Wire};
 
@@ -17,7 +18,9 @@ impl Bits {
     pub fn lc(&self) -> Lc
         requires short { self.now.n ≤ 63 }
         requires within { self.now.first + self.now.n < 2 ^ 32 }
-        ensures { result ≡ bits_combination self.now.first self.now.n }
+        ensures terms { result ≡ bits_combination self.now.first self.now.n }
+        ensures top { top result ≤ self.now.first + self.now.n }
+        ensures len { length result ≡ self.now.n }
     {
         let Bits { first, n } = *self;
         let mut lc = Lc::empty();

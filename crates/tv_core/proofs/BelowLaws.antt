@@ -1,12 +1,14 @@
 -- Laws of sums and lists over the numbers below n, and of combinations of wires in a row.
-use Rattle.std.proofs.Common.{◌≡◌, ◌≢◌, ℕ, zero, suc, ◌+◌, ◌*◌, ◌%◌, ◌<◌, List, [], ◌∷◌, ◌++◌, map, sum_by, length, refl, sym, ◌∙◌, ap, ap₂, arith, inl, inr, add-one, add-zero, zero-add, mul-add, mul-zero}
+use Rattle.std.proofs.Common.{◌≡◌, ◌≢◌, ℕ, zero, suc, ◌+◌, ◌*◌, ◌%◌, ◌<◌, ◌≤◌, List, [], ◌∷◌, ◌++◌, map, sum_by, length, refl, sym, ◌∙◌, ap, ap₂, arith, inl, inr, add-one, add-zero, zero-add, mul-add, mul-zero}
 use Rattle.std.specs.Prelude.{slice_index}
 use Rattle.std.specs.List.{range_with_len}
 use Rattle.std.proofs.lemmas.Bool.{cases_eq}
 use Rattle.std.proofs.lemmas.List.FromFn.{length-map-range_with_len, map-range_with_len_more}
 use Rattle.std.proofs.lemmas.List.Sums.{sum_by_push}
+use Rattle.tv_core.proofs.CombinationLaws.{top-append}
 use Rattle.tv_core.proofs.Residues.{add-mod_same, sum_by-map}
 use Rattle.tv_core.specs.Below.{sum_below, each_below, weighted}
+use Rattle.tv_core.specs.Combinations.{top}
 use Rattle.tv_core.specs.Constraints.{value}
 use Rattle.tv_core.specs.Laws.{HasFrom}
 use Rattle.tv_core.specs.declared.field.TheConstants.{P}
@@ -107,3 +109,8 @@ length-weighted first n c = length-map-range_with_len (λ i. (c i, first + i)) 0
 pub value-weighted : (first n : ℕ) (c : ℕ → ℕ) (z : List ℕ) → value (weighted first n c) z ≡ sum_below n (λ i. c i * slice_index z (first + i)) % P
 unfolding weighted sum_below
 value-weighted first n c z = ap (λ k. k % P) (sum_by-map (λ t. t.0 * slice_index z t.1) (λ i. (c i, first + i)) (range_with_len 0 n))
+
+-- wires in a row end below the sum of the first and their number
+pub top-weighted : (first n : ℕ) (c : ℕ → ℕ) → top (weighted first n c) ≤ first + n
+top-weighted first zero c = omega (arith, ap top (weighted-zero first c))
+top-weighted first (suc n) c = omega (arith, ap top (weighted-suc first n c), top-append (weighted first n c) ((c n, first + n) ∷ []), top-weighted first n c)

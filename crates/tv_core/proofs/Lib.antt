@@ -1,7 +1,6 @@
 pub mod BelowLaws
 pub mod Chain
 pub mod CombinationLaws
-pub mod CombinationShapes
 pub mod DifferenceLaws
 pub mod Euclid
 pub mod GivingChain
@@ -14,4 +13,5 @@ pub mod PrimeLaws
 pub mod PrimeProof
 pub mod Residues
 pub mod RowLaws
+pub mod TailCalls
 pub mod Testing

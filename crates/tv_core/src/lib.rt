@@ -5,7 +5,6 @@
 
 mod combination;
 mod count_sink;
-mod difference;
 #[cfg(test)]
 mod examples;
 mod field;

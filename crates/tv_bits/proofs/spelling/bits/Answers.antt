@@ -1,13 +1,6 @@
-use Rattle.std.proofs.Common.{◌%◌, ◌^◌, ap, arith}
 use Rattle.tv_core.proofs.Chain.{chain, refused}
-use Rattle.tv_core.proofs.CombinationShapes.{top-weighted}
-use Rattle.tv_core.specs.Combinations.{top}
-use Rattle.tv_core.specs.declared.field.TheConstants.{P}
 use Rattle.tv_bits.specs.Bits.{bits_of}
 use Rattle.tv_bits.proofs.spelling.bits.Goals as goal
-
-pub put-requires-clause-a_made : goal.put-requires-clause-a_made
-put-requires-clause-a_made g c = omega (arith, c.in_ok-made.ensures.below, ap top c.lc.ensures, top-weighted c.in_ok-made.made.first c.in_ok-made.made.n (λ i. 2 ^ i % P))
 
 pub returns-in_err-made-clause-puts : goal.returns-in_err-made-clause-puts
 unfolding bits_of
@@ -17,11 +10,11 @@ returns-in_err-made-clause-puts g c =
 pub returns-in_err-put-clause-puts : goal.returns-in_err-put-clause-puts
 unfolding bits_of
 returns-in_err-put-clause-puts g c =
-    let sum = rw (c.lc.ensures, c.constant.ensures) at c.in_err-put.ensures.puts in
+    let sum = rw (c.lc.ensures.terms, c.constant.ensures) at c.in_err-put.ensures.puts in
     refused g.S.Sink.meaning _ _ _ c.from_residual-in_err-put.result c.from_residual-in_err-put.ensures.1 (search (chain, c.in_ok-made.ensures.puts, sum))
 
 pub returns-clause-puts : goal.returns-clause-puts
 unfolding bits_of
 returns-clause-puts g c =
-    let sum = rw (c.lc.ensures, c.constant.ensures) at c.in_ok-put.ensures.puts in
+    let sum = rw (c.lc.ensures.terms, c.constant.ensures) at c.in_ok-put.ensures.puts in
     search (chain, c.in_ok-made.ensures.puts, sum)

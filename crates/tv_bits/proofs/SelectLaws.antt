@@ -1,0 +1,67 @@
+-- The laws of a choice.
+use Rattle.std.proofs.Common.{◌≡◌, ◌⊎◌, mod-lt, ℕ, ◌+◌, ◌-◌, ◌*◌, ◌%◌, ◌<◌, List, inl, inr, refl, sym, ◌∙◌, ap, ap₂, arith, eq-zero-or-pos}
+use Rattle.std.specs.Prelude.{slice_index}
+use Rattle.tv_core.proofs.CombinationLaws.{value-less, value-below, value-wire, wire-below}
+use Rattle.tv_core.proofs.DifferenceLaws.{same_of_minus, cancel_minus}
+use Rattle.tv_core.specs.Circuits.{fresh, put, pure, ◌>>=◌}
+use Rattle.tv_core.specs.Combinations.{wire, less}
+use Rattle.tv_core.specs.Constraints.{Combination, value}
+use Rattle.tv_core.specs.Laws.{Assigns}
+use Rattle.tv_core.specs.declared.field.TheConstants.{P}
+use Rattle.tv_bits.specs.Bit.{IsBit}
+use Rattle.tv_bits.specs.Select.{selected, select_of, SelectIsSound, SelectIsComplete}
+
+-- the constraint, as numbers
+bit_cases : (b : ℕ) → IsBit b → (b ≡ 0) ⊎ (b ≡ 1)
+bit_cases b h = elim (eq-zero-or-pos b) [ inl none ↦ inl none | inr some ↦ inr (omega arith) ]
+
+selected-zero : (b x y : ℕ) → b ≡ 0 → selected b x y ≡ y
+selected-zero b x y none = rw none refl
+
+selected-one : (b x y : ℕ) → b ≡ 1 → selected b x y ≡ x
+selected-one b x y one = rw one refl
+
+times_zero : (b d : ℕ) → b ≡ 0 → b * d % P ≡ 0
+times_zero b d none = rw none (omega arith)
+
+times_one : (b d : ℕ) → b ≡ 1 → d < P → b * d % P ≡ d
+times_one b d one small = rw one (omega arith)
+
+sound_by : (b x y w : ℕ) → x < P → y < P → w < P → IsBit b → b * ((x + (P - y)) % P) % P ≡ (w + (P - y)) % P → w ≡ selected b x y
+sound_by b x y w xs ys ws bit e = elim (bit_cases b bit) [
+  | inl none ↦ same_of_minus w y ws ys (sym e ∙ times_zero b _ none) ∙ sym (selected-zero b x y none)
+  | inr one ↦ cancel_minus w x y ws xs ys (sym e ∙ times_one b _ one (mod-lt _ (omega arith))) ∙ sym (selected-one b x y one)
+]
+
+complete_by : (b x y w : ℕ) → y < P → IsBit b → w ≡ selected b x y → b * ((x + (P - y)) % P) % P ≡ (w + (P - y)) % P
+complete_by b x y w ys bit e = elim (bit_cases b bit) [
+  | inl none ↦ times_zero b _ none ∙ omega (arith, e ∙ selected-zero b x y none)
+  | inr one ↦ times_one b _ one (mod-lt _ (omega arith)) ∙ ap (λ v. (v + (P - y)) % P) (sym (e ∙ selected-one b x y one))
+]
+
+pub select_answer : (b : ℕ) (x y : Combination) (next : ℕ) → (select_of b x y next).answer ≡ next
+unfolding select_of fresh put pure ◌>>=◌
+select_answer b x y next = refl
+
+pub select_next : (b : ℕ) (x y : Combination) (next : ℕ) → (select_of b x y next).next ≡ next + 1
+unfolding select_of fresh put pure ◌>>=◌
+select_next b x y next = refl
+
+-- the three combinations of the constraint
+module _ (z : List ℕ) (assigns : Assigns z) (b w : ℕ) (x y : Combination) where
+  left : value (wire b) z * value (less x y) z % P ≡ slice_index z b * ((value x z + (P - value y z)) % P) % P
+  left = ap₂ (λ m n. m * n % P) (value-wire assigns b) (value-less x y z)
+
+  right : value (less (wire w) y) z ≡ (slice_index z w + (P - value y z)) % P
+  right = value-less (wire w) y z ∙ ap (λ n. (n + (P - value y z)) % P) (value-wire assigns w)
+
+pub select_sound : SelectIsSound
+unfolding select_of fresh put pure ◌>>=◌
+select_sound z next b x y assigns bit meets =
+    sound_by (slice_index z b) (value x z) (value y z) (slice_index z next) (value-below x z) (value-below y z) (wire-below assigns next) bit
+    (sym (left z assigns b next x y) ∙ meets.0 ∙ right z assigns b next x y)
+
+pub select_complete : SelectIsComplete
+unfolding select_of fresh put pure ◌>>=◌
+select_complete z next b x y assigns bit has =
+    (left z assigns b next x y ∙ complete_by (slice_index z b) (value x z) (value y z) (slice_index z next) (value-below y z) bit has.0 ∙ sym (right z assigns b next x y), tt)

@@ -1,0 +1,8 @@
+use Rattle.std.proofs.Common.{◌≡◌, false}
+use Rattle.tv_core.specs.Below.{each_below}
+use Rattle.tv_core.specs.Giving.{GivesAll}
+use Rattle.tv_bits.specs.OneHot.{one_at}
+use Rattle.tv_bits.proofs.rows.fill_onehot.Given as goal
+
+abbrev pub invariant-loop-i : goal.invariant-loop-i
+invariant-loop-i g l = GivesAll g.V.Values.giving l.initial.v l.v (each_below l.i (one_at l.x)) × (g.V.Values.giving.broken l.v ≡ false)

@@ -1,0 +1,32 @@
+-- One of two numbers, by a bit.
+use Rattle.std.specs.Prelude.{◌≡◌, ℕ, ◌==◌, if◌then◌else◌, List, [], ◌∷◌, slice_index}
+use Rattle.tv_bits.specs.Bit.{IsBit}
+use Rattle.tv_core.specs.Circuits.{Circuit, fresh, put, pure, ◌>>=◌}
+use Rattle.tv_core.specs.Combinations.{wire, less}
+use Rattle.tv_core.specs.Constraints.{Combination, value}
+use Rattle.tv_core.specs.Laws.{Assigns, Meets, HasFrom}
+
+-- x where b is 1, else y
+abbrev pub selected : ℕ → ℕ → ℕ → ℕ
+selected b x y = if b == 1 then x else y
+
+-- a wire that is x where wire b is 1, and y where it is 0: b times x less y is the wire less y
+unfoldable pub select_of : ℕ → Combination → Combination → Circuit ℕ
+select_of b x y = do
+  w ← fresh
+  _ ← put (wire b) (less x y) (less (wire w) y)
+  pure w
+
+-- the value of the wire that is made
+abbrev pub select_values : ℕ → ℕ → ℕ → List ℕ
+select_values b x y = selected b x y ∷ []
+
+-- where b is a bit, an assignment that meets what was put has at the wire that was answered the value that b selects
+abbrev pub SelectIsSound : Type 0
+SelectIsSound = (z : List ℕ) (next b : ℕ) (x y : Combination) → Assigns z → IsBit (slice_index z b) → Meets z (select_of b x y next).list
+    → slice_index z (select_of b x y next).answer ≡ selected (slice_index z b) (value x z) (value y z)
+
+-- where b is a bit, an assignment that has that value at the wire that was made meets what was put
+abbrev pub SelectIsComplete : Type 0
+SelectIsComplete = (z : List ℕ) (next b : ℕ) (x y : Combination) → Assigns z → IsBit (slice_index z b)
+    → HasFrom z next (select_values (slice_index z b) (value x z) (value y z)) → Meets z (select_of b x y next).list

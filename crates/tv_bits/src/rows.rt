@@ -1,0 +1,98 @@
+ghost use Rattle.std.specs.Prelude.{◌≡◌, ◌+◌, ◌≤◌, ◌<◌, ◌^◌, false, Bool, if◌then◌else◌, length, IfOk, OnOk};
+ghost use Rattle.tv_bits.specs.OneHot.{row_sum, onehot_values, mark_of, onehot_of, OneHotIsSound, OneHotIsComplete};
+ghost use Rattle.tv_core.specs.Combinations.{top};
+ghost use Rattle.tv_core.specs.Giving.{GivesIn};
+ghost use Rattle.tv_core.specs.Sinks.{PutsIn, Grows, Room};
+
+use crate::bit_wires::Bits;
+use tv_core::{F, Lc, Put, Sink, Values, Wire};
+
+/// The sum of `count` wires that follow each other.
+pub fn row_sum(first: Wire, count: u32) -> Lc
+    requires short { count ≤ 128 }
+    requires within { first + count < 2 ^ 32 }
+    ensures terms { result ≡ row_sum first count }
+    ensures top { top result ≤ first + count }
+    ensures len { length result ≡ count }
+{
+    let mut lc = Lc::empty();
+    for i in 0..count {
+        lc.plus(F::ONE, first.offset(i));
+    }
+    lc
+}
+
+/// The first of 2^n wires of which the one whose number the bits spell is 1, and each other one 0; there
+/// are at most 5 bits. It makes 2^n wires and 2^n + 1 constraints.
+pub fn onehot<S: Sink>(s: &mut S, x: &Bits) -> Put<Wire>
+    requires room { Room S.meaning s.old (2 ^ x.now.n) (2 ^ x.now.n + 1) }
+    requires short { x.now.n ≤ 5 }
+    requires x_made { x.now.first + x.now.n ≤ S.meaning.wires s.old }
+    ensures puts { PutsIn S.meaning s.old s.new (onehot_of x.now) result }
+    ensures grows { IfOk result (λ _. Grows S.meaning s.old s.new (2 ^ x.now.n) (2 ^ x.now.n + 1)) }
+    ensures below { IfOk result (λ first. first + 2 ^ x.now.n ≤ S.meaning.wires s.new) }
+{
+    let first = Wire(s.wires());
+    let count = row_len(x.n);
+    let number = x.lc();
+    for i in 0..count {
+        mark(s, &number, i)?;
+    }
+    let one = Lc::constant(F::ONE);
+    s.put(&row_sum(first, count), &one, &one)?;
+    Ok(first)
+}
+
+// A wire that is 0 unless `x` is `i`.
+fn mark<S: Sink>(s: &mut S, x: &Lc, i: u32) -> Put<()>
+    requires room { Room S.meaning s.old 1 1 }
+    requires x_made { top x.now ≤ S.meaning.wires s.old }
+    requires x_short { length x.now ≤ 64 }
+    ensures puts { PutsIn S.meaning s.old s.new (mark_of x.now i) result }
+    ensures grows { IfOk result (λ _. Grows S.meaning s.old s.new 1 1) }
+{
+    let w = s.fresh();
+    let mut rest = Lc::from_terms(x.terms());
+    rest.minus(&Lc::constant(F::of(u64::from(i))));
+    s.put(&Lc::wire(w), &rest, &Lc::empty())
+}
+
+/// Gives the values of the wires that `onehot` makes for `n` bits that spell `x`.
+pub fn fill_onehot<V: Values>(v: &mut V, x: u32, n: u32) -> Put<()>
+    requires whole { V.giving.broken v.old ≡ false }
+    requires short { n ≤ 5 }
+    ensures gives { GivesIn V.giving v.old v.new (onehot_values x n) result }
+    ensures whole { OnOk result (V.giving.broken v.new ≡ false) }
+{
+    for i in 0..row_len(n) {
+        v.give(flag(i == x))?;
+    }
+    Ok(())
+}
+
+fn row_len(n: u32) -> u32
+    requires { n < 32 }
+    ensures { result ≡ 2 ^ n }
+{
+    1 << n
+}
+
+fn flag(set: bool) -> F
+    ensures { result ≡ (if set then 1 else 0) }
+{
+    if set { F::ONE } else { F::ZERO }
+}
+
+/// Where an assignment meets what `onehot` put for bits that spell a number, that number's wire is 1 and
+/// each other one 0.
+#[tactic(auto, using(crate::proofs::OneHotLaws::onehot_sound))]
+pub fn onehot_is_sound()
+    ensures { OneHotIsSound }
+{}
+
+/// Where bits spell a number and an assignment has the values that `fill_onehot` gives for it, it meets
+/// what `onehot` put.
+#[tactic(auto, using(crate::proofs::OneHotLaws::onehot_complete))]
+pub fn onehot_is_complete()
+    ensures { OneHotIsComplete }
+{}

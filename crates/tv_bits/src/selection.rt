@@ -1,0 +1,55 @@
+ghost use Rattle.std.specs.Prelude.{◌≡◌, ◌≤◌, ◌<◌, false, length, IfOk, OnOk};
+ghost use Rattle.tv_bits.specs.Select.{selected, select_of, select_values, SelectIsSound, SelectIsComplete};
+ghost use Rattle.tv_core.specs.Combinations.{top};
+ghost use Rattle.tv_core.specs.Giving.{GivesIn};
+ghost use Rattle.tv_core.specs.Sinks.{PutsIn, Grows, Room};
+
+use tv_core::{F, Lc, Put, Sink, Values, Wire};
+
+/// A wire that is `x` where the bit `b` is 1, and `y` where it is 0. It makes 1 wire and 1 constraint.
+pub fn select<S: Sink>(s: &mut S, b: Wire, x: &Lc, y: &Lc) -> Put<Wire>
+    requires room { Room S.meaning s.old 1 1 }
+    requires b_made { b < S.meaning.wires s.old }
+    requires x_made { top x.now ≤ S.meaning.wires s.old }
+    requires y_made { top y.now ≤ S.meaning.wires s.old }
+    requires x_short { length x.now ≤ 64 }
+    requires y_short { length y.now ≤ 64 }
+    ensures puts { PutsIn S.meaning s.old s.new (select_of b x.now y.now) result }
+    ensures grows { IfOk result (λ _. Grows S.meaning s.old s.new 1 1) }
+    ensures below { IfOk result (λ chosen. chosen < S.meaning.wires s.new) }
+{
+    let chosen = s.fresh();
+    let mut difference = Lc::from_terms(x.terms());
+    difference.minus(y);
+    let mut rest = Lc::wire(chosen);
+    rest.minus(y);
+    s.put(&Lc::wire(b), &difference, &rest)?;
+    Ok(chosen)
+}
+
+/// Gives the value of the wire that `select` makes, the arguments being the values of its inputs.
+pub fn fill_select<V: Values>(v: &mut V, b: F, x: F, y: F) -> Put<()>
+    requires { V.giving.broken v.old ≡ false }
+    ensures gives { GivesIn V.giving v.old v.new (select_values b x y) result }
+    ensures whole { OnOk result (V.giving.broken v.new ≡ false) }
+{
+    v.give(selected(b, x, y))
+}
+
+fn selected(b: F, x: F, y: F) -> F
+    ensures { result ≡ selected b x y }
+{
+    if b.number() == 1 { x } else { y }
+}
+
+/// Where an assignment has a bit at `b` and meets what `select` put, it has the selected value.
+#[tactic(auto, using(crate::proofs::SelectLaws::select_sound))]
+pub fn select_is_sound()
+    ensures { SelectIsSound }
+{}
+
+/// Where an assignment has a bit at `b` and the value that `fill_select` gives, it meets what `select` put.
+#[tactic(auto, using(crate::proofs::SelectLaws::select_complete))]
+pub fn select_is_complete()
+    ensures { SelectIsComplete }
+{}
