@@ -1,5 +1,5 @@
 -- The laws of a bit.
-use Rattle.std.proofs.Common.{◌≡◌, ℕ, ◌*◌, ◌%◌, inl, inr, sym, ◌∙◌, ap, arith, eq-zero-or-pos}
+use Rattle.std.proofs.Common.{◌≡◌, ℕ, ◌*◌, ◌%◌, inl, inr, refl, sym, ◌∙◌, ap, arith, eq-zero-or-pos}
 use Rattle.std.specs.Prelude.{slice_index}
 use Rattle.tv_core.proofs.CombinationLaws.{value-wire, wire-below}
 use Rattle.tv_core.proofs.PrimeLaws.{p_bit}
@@ -21,3 +21,7 @@ unfolding bit_of put
 bit_complete z next w assigns bit =
     let same = value-wire assigns w in
     (ap (λ n. n * n % P) same ∙ square (slice_index z w) bit ∙ sym same, tt)
+
+pub bit_next : (w next : ℕ) → (bit_of w next).next ≡ next
+unfolding bit_of put
+bit_next w next = refl

@@ -6,7 +6,7 @@ use Rattle.std.proofs.lemmas.Bool.Decides.{nat_tests}
 use Rattle.tv_core.proofs.CombinationLaws.{value-below, value-wire, value-one_less, wire-below}
 use Rattle.tv_core.proofs.InverseLaws.{mul-inverse_of}
 use Rattle.tv_core.proofs.PrimeLaws.{p_zero_product_below}
-use Rattle.tv_core.specs.Constraints.{value}
+use Rattle.tv_core.specs.Constraints.{Combination, value}
 use Rattle.tv_core.specs.Circuits.{fresh, put, pure, ◌>>=◌}
 use Rattle.tv_core.specs.declared.field.TheConstants.{P}
 use Rattle.tv_core.specs.Inverse.{inverse_of}
@@ -57,3 +57,12 @@ zero_complete z next x assigns has =
     let flag = ap (λ f. value x z * f % P) (value-wire assigns next ∙ has.0) in
     let rest = ap (λ f. (1 + (P - f)) % P) (sym has.0) ∙ sym (value-one_less assigns next) in
     (hint ∙ numbers.0 ∙ rest, (flag ∙ numbers.1, tt))
+
+-- what the circuit answers, and where it ends
+pub zero_answer : (x : Combination) (next : ℕ) → (zero_of x next).answer ≡ next
+unfolding zero_of fresh put pure ◌>>=◌
+zero_answer x next = refl
+
+pub zero_next : (x : Combination) (next : ℕ) → (zero_of x next).next ≡ next + 2
+unfolding zero_of fresh put pure ◌>>=◌
+zero_next x next = omega arith

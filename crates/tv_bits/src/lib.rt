@@ -8,6 +8,8 @@ mod booleans;
 mod rows;
 mod selection;
 mod spelling;
+#[cfg(test)]
+mod tests;
 mod zeros;
 
 pub use bit_wires::Bits;

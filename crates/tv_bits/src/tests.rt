@@ -1,0 +1,126 @@
+//! Each gadget over the values of its generator, and over the same with one output altered.
+ghost use Rattle.std.specs.Prelude.{◌≡◌, ◌≤◌, false};
+ghost use Rattle.tv_core.specs.Sinks.{Room};
+
+use crate::{
+    Bits, bit, bits, fill_bit, fill_bits, fill_onehot, fill_select, fill_zero, onehot, select, zero,
+};
+use std::alloc::Global;
+use std::test::Fail;
+use tv_core::{F, Lc, ListSink, ListValues, Put, Sink, TestSink, Values, Wire, give_values};
+
+#[derive(Clone, Copy, Debug)]
+enum Gadget {
+    Bit,
+    Bits { n: u32 },
+    Zero,
+    Select,
+    OneHot { x: u32, n: u32 },
+}
+
+const WORD: u64 = 4_294_967_295;
+const LONG: u64 = 9_223_372_036_854_775_807;
+const LAST: u64 = 18_446_744_069_414_584_320;
+
+const FIRST: Wire = Wire(1);
+
+fn put<S: Sink>(s: &mut S, gadget: Gadget) -> Put<Wire>
+    requires room { Room S.meaning s.old 63 64 }
+    requires inputs { 6 ≤ S.meaning.wires s.old }
+{
+    let x = Lc::wire(FIRST);
+    match gadget {
+        Gadget::Bit => {
+            bit(s, FIRST)?;
+            Ok(FIRST)
+        }
+        Gadget::Bits { n } => Ok(bits(s, &x, n.min(63))?.first),
+        Gadget::Zero => zero(s, &x),
+        Gadget::Select => select(s, FIRST, &Lc::wire(Wire(2)), &Lc::wire(Wire(3))),
+        Gadget::OneHot { n, .. } => onehot(
+            s,
+            &Bits {
+                first: FIRST,
+                n: n.min(5),
+            },
+        ),
+    }
+}
+
+fn fill<V: Values>(v: &mut V, gadget: Gadget, inputs: [u64; 5]) -> Put<()>
+    requires { V.giving.broken v.old ≡ false }
+{
+    let [x, y, z, ..] = inputs;
+    match gadget {
+        Gadget::Bit => fill_bit(v, F::of(x)),
+        Gadget::Bits { n } => fill_bits(v, F::of(x), n.min(63)),
+        Gadget::Zero => fill_zero(v, F::of(x)),
+        Gadget::Select => fill_select(v, F::of(x), F::of(y), F::of(z)),
+        Gadget::OneHot { x, n } => fill_onehot(v, x, n.min(5)),
+    }
+}
+
+// 1, the inputs, and the generator's values.
+fn assignment(alloc: Global, gadget: Gadget, inputs: [u64; 5]) -> Put<ListValues> {
+    let mut values = ListValues::new(alloc);
+    let [a, b, c, d, e] = inputs;
+    let first = [F::ONE, F::of(a), F::of(b), F::of(c), F::of(d), F::of(e)];
+    give_values(&mut values, &first)?;
+    fill(&mut values, gadget, inputs)?;
+    Ok(values)
+}
+
+#[test]
+fn gadgets_hold_over_their_own_values_alone(rt: HostRuntime) -> Result<(), Fail> {
+    // a gadget, what the wires 1 to 5 hold, its first output, and how many constraints it puts
+    let trials = [
+        (Gadget::Bit, [0, 0, 0, 0, 0], 0, 1),
+        (Gadget::Bit, [1, 0, 0, 0, 0], 1, 1),
+        (Gadget::Bits { n: 1 }, [0, 0, 0, 0, 0], 0, 2),
+        (Gadget::Bits { n: 1 }, [1, 0, 0, 0, 0], 1, 2),
+        (Gadget::Bits { n: 32 }, [WORD, 0, 0, 0, 0], 1, 33),
+        (Gadget::Bits { n: 33 }, [WORD + 1, 0, 0, 0, 0], 0, 34),
+        (Gadget::Bits { n: 63 }, [LONG, 0, 0, 0, 0], 1, 64),
+        (Gadget::Zero, [0, 0, 0, 0, 0], 1, 2),
+        (Gadget::Zero, [1, 0, 0, 0, 0], 0, 2),
+        (Gadget::Zero, [WORD, 0, 0, 0, 0], 0, 2),
+        (Gadget::Zero, [LONG, 0, 0, 0, 0], 0, 2),
+        (Gadget::Zero, [LAST, 0, 0, 0, 0], 0, 2),
+        (Gadget::Select, [0, WORD, LAST, 0, 0], LAST, 1),
+        (Gadget::Select, [1, WORD, LAST, 0, 0], WORD, 1),
+        (Gadget::Select, [1, LONG, 0, 0, 0], LONG, 1),
+        (Gadget::OneHot { x: 0, n: 0 }, [0, 0, 0, 0, 0], 1, 2),
+        (Gadget::OneHot { x: 1, n: 1 }, [1, 0, 0, 0, 0], 0, 3),
+        (Gadget::OneHot { x: 0, n: 5 }, [0, 0, 0, 0, 0], 1, 33),
+        (Gadget::OneHot { x: 17, n: 5 }, [1, 0, 0, 0, 1], 0, 33),
+        (Gadget::OneHot { x: 31, n: 5 }, [1, 1, 1, 1, 1], 0, 33),
+    ];
+    for (gadget, inputs, output, constraints) in trials {
+        let values = assignment(rt.alloc(), gadget, inputs)?;
+        let z = values.as_slice();
+        let mut tests = TestSink::over(z, 6);
+        let wire = put(&mut tests, gadget)?;
+        assert_eq!(rt; tests.tested(), constraints, "{gadget:?} {inputs:?}");
+        assert_eq!(rt; tests.held(), constraints, "{gadget:?} {inputs:?}");
+
+        let mut list = ListSink::new(rt.alloc(), 6);
+        assert!(rt; put(&mut list, gadget)? == wire, "{gadget:?} {inputs:?}");
+        assert_eq!(rt; list.len(), constraints, "{gadget:?} {inputs:?}");
+        for i in 0..list.len() {
+            let (a, b, c) = list.row(i);
+            let holds = a.value_in(z) * b.value_in(z) == c.value_in(z);
+            assert!(rt; holds, "{gadget:?} {inputs:?}, row {i}");
+        }
+
+        let mut altered = z.to_vec(rt.alloc())?;
+        let place = wire.0 as usize;
+        assert!(rt; place < altered.len(), "{gadget:?} {inputs:?}");
+        assert!(rt; altered[place] == F::of(output), "{gadget:?} {inputs:?}");
+        // by 2, since a bit that is altered by 1 may be a bit
+        altered[place] = altered[place] + F::of(2);
+        let mut refuses = TestSink::over(&altered, 6);
+        put(&mut refuses, gadget)?;
+        assert!(rt; refuses.held() < constraints, "{gadget:?} {inputs:?}");
+    }
+    Ok(())
+}
