@@ -90,3 +90,6 @@ fn part_words(instruction: &[u8], labels: &Labels<'_>) -> Result<Option<[u32; 2]
     }
     Ok(Some(words_of(instruction, labels)?))
 }
+
+#[cfg(test)]
+mod tests;
