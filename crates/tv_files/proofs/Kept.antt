@@ -21,12 +21,12 @@ pub names_in-update : (name : List ℕ) (m n : BTreeMap (String Global) (Vec ℕ
     names_in n ≡ update bytes_eq (names_in m) name (option_map (λ bytes. bytes.items) w)
 names_in-update name m n w changed = λ i other. at_each other i
   where
-  by_name : (same : Bool) (old : Option (Vec ℕ Global)) → option_map (λ bytes. bytes.items) (cond same w old) ≡ cond same (option_map (λ bytes. bytes.items) w) (option_map (λ bytes. bytes.items) old)
-  by_name true old = refl
-  by_name false old = refl
+    by_name : (same : Bool) (old : Option (Vec ℕ Global)) → option_map (λ bytes. bytes.items) (cond same w old) ≡ cond same (option_map (λ bytes. bytes.items) w) (option_map (λ bytes. bytes.items) old)
+    by_name true old = refl
+    by_name false old = refl
 
-  at_each : (other : List ℕ) → names_in n other ≡ update bytes_eq (names_in m) name (option_map (λ bytes. bytes.items) w) other
-  at_each other = ap (option_map (λ bytes. bytes.items)) (btree_map_updates_text name m n w changed other) ∙ by_name (bytes_eq name other) (get_by_text m other)
+    at_each : (other : List ℕ) → names_in n other ≡ update bytes_eq (names_in m) name (option_map (λ bytes. bytes.items) w) other
+    at_each other = ap (option_map (λ bytes. bytes.items)) (btree_map_updates_text name m n w changed other) ∙ by_name (bytes_eq name other) (get_by_text m other)
 
 -- where bytes were added to what the name had, the names have them
 pub names_in-more : (name more : List ℕ) (m n : BTreeMap (String Global) (Vec ℕ Global)) (had has : Vec ℕ Global) → Updates name m n (Some has) →

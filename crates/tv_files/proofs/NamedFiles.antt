@@ -10,17 +10,17 @@ update-update : (name : List ℕ) (first second : Option (List ℕ)) (files : Na
     update bytes_eq (update bytes_eq files name first) name second ≡ update bytes_eq files name second
 update-update name first second files = λ i other. at_each other (bytes_eq name other) i
   where
-  at_each : (other : List ℕ) (same : Bool) → cond same second (cond same first (files other)) ≡ cond same second (files other)
-  at_each other true = refl
-  at_each other false = refl
+    at_each : (other : List ℕ) (same : Bool) → cond same second (cond same first (files other)) ≡ cond same second (files other)
+    at_each other true = refl
+    at_each other false = refl
 
 -- a change to what was there changes nothing
 update-same : (name : List ℕ) (files : Names) → update bytes_eq files name (files name) ≡ files
 update-same name files = λ i other. at_each other (bytes_eq name other) refl i
   where
-  at_each : (other : List ℕ) (same : Bool) → bytes_eq name other ≡ same → cond same (files name) (files other) ≡ files other
-  at_each other true named = ap files ((bytes_eq-Decides name other).0 named)
-  at_each other false _ = refl
+    at_each : (other : List ℕ) (same : Bool) → bytes_eq name other ≡ same → cond same (files name) (files other) ≡ files other
+    at_each other true named = ap files ((bytes_eq-Decides name other).0 named)
+    at_each other false _ = refl
 
 -- the name stands for what was put there
 pub with_bytes-here : (name bytes : List ℕ) (files : Names) → with_bytes name bytes files name ≡ Some bytes
@@ -42,6 +42,6 @@ told-with_more-with_bytes name bytes more (Some files) = ap Some (with_more-with
 pub with_more-none : (name : List ℕ) (files : Names) → with_more name [] files ≡ files
 with_more-none name files = ap (update bytes_eq files name) (nothing (files name)) ∙ update-same name files
   where
-  nothing : (file : Option (List ℕ)) → option_map (λ bytes. bytes ++ []) file ≡ file
-  nothing None = refl
-  nothing (Some bytes) = ap Some (append-nil bytes)
+    nothing : (file : Option (List ℕ)) → option_map (λ bytes. bytes ++ []) file ≡ file
+    nothing None = refl
+    nothing (Some bytes) = ap Some (append-nil bytes)

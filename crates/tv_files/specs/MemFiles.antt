@@ -42,7 +42,15 @@ told_by files = record {
 
 -- no names, nothing said, and counts of 0
 abbrev pub nothing : Outside
-nothing = record { contents = Some (λ _. None); said = Some []; read_faults = 0; write_faults = 0; say_faults = 0; wants = 0; absent = 0; }
+nothing = record {
+  contents = Some (λ _. None);
+  said = Some [];
+  read_faults = 0;
+  write_faults = 0;
+  say_faults = 0;
+  wants = 0;
+  absent = 0;
+}
 
 -- one more, up to a counter's last value
 abbrev pub one_more : ℕ → ℕ
@@ -60,11 +68,13 @@ is_listed number failing = list_any (λ listed. listed == number) failing
 abbrev pub is_due : MemFiles → Bool
 is_due files = is_listed (one_more (calls_of files)) (failing_of files)
 
+-- the call failed
 abbrev pub is_failed : {T : Type 0} → Result T FileRefusal → Bool
 is_failed (Ok _) = false
 is_failed (Err Failed) = true
 is_failed (Err Memory) = false
 
+-- memory was wanting in the call
 abbrev pub is_wanting : {T : Type 0} → Result T FileRefusal → Bool
 is_wanting (Ok _) = false
 is_wanting (Err Failed) = false

@@ -12,4 +12,5 @@ HasBytes old new name bytes = new.contents ≡ option_map (with_bytes name bytes
 
 -- where contents are told, all is as it was, or the name stands for the first few of these bytes
 abbrev pub HasPart : Outside → Outside → List ℕ → List ℕ → Type 0
-HasPart old new name bytes = (new.contents ≡ old.contents) ⊎ ((n : ℕ) × HasBytes old new name (take n bytes))
+HasPart old new name bytes =
+    (new.contents ≡ old.contents) ⊎ ((n : ℕ) × HasBytes old new name (take n bytes))

@@ -54,11 +54,9 @@ impl MemFiles {
 
     /// Makes the name stand for these bytes. All stays as it was where memory is refused.
     pub fn set(&mut self, name: &str, bytes: &[u8]) -> Result<(), AllocError>
-        ensures ok {
-            OnOk result (told_by self.new ≡ record (told_by self.old) {
-                contents = Some (with_bytes name.now bytes.now (names_of self.old))
-            })
-        }
+        ensures ok { OnOk result (told_by self.new ≡ record (told_by self.old) {
+          contents = Some (with_bytes name.now bytes.now (names_of self.old));
+        }) }
         ensures err { OnErr result (told_by self.new ≡ told_by self.old) }
         ensures calls { calls_of self.new ≡ calls_of self.old }
         ensures failing { failing_of self.new ≡ failing_of self.old }
@@ -104,18 +102,12 @@ impl Files for MemFiles {
 
     fn read(&mut self, name: &str, at: u64, into: &mut [u8]) -> Result<usize, FileRefusal>
         ensures reads { Reads (told_by self.old) (told_by self.new) name.now at into.new result }
-        ensures answer {
-            result ≡ read_answer (is_due self.old) (names_of self.old name.now) at (length into.old)
-        }
-        ensures rest {
-            MatchResult result
-                (λ count. drop count into.new ≡ drop count into.old)
-                (λ _. into.new ≡ into.old)
-        }
-        ensures counted {
-            Counted self.old self.new
-                (is_err result) false false false (is_none (names_of self.old name.now))
-        }
+        ensures answer { result ≡ read_answer (is_due self.old) (names_of self.old name.now) at (length into.old) }
+        ensures rest { MatchResult result
+            (λ count. drop count into.new ≡ drop count into.old)
+            (λ _. into.new ≡ into.old) }
+        ensures counted { Counted self.old self.new
+            (is_err result) false false false (is_none (names_of self.old name.now)) }
     {
         let due = next_is_due(&mut self.calls, &self.failing);
         match self.names.get(name) {
@@ -136,9 +128,7 @@ impl Files for MemFiles {
         ensures creates { Creates (told_by self.old) (told_by self.new) name.now result }
         ensures failed { is_failed result ≡ is_due self.old }
         ensures refused { OnErr result (names_of self.new ≡ names_of self.old) }
-        ensures counted {
-            Counted self.old self.new false (is_failed result) false (is_wanting result) false
-        }
+        ensures counted { Counted self.old self.new false (is_failed result) false (is_wanting result) false }
     {
         if next_is_due(&mut self.calls, &self.failing) {
             raise(&mut self.write_faults);
@@ -153,17 +143,11 @@ impl Files for MemFiles {
 
     fn append(&mut self, name: &str, bytes: &[u8]) -> Result<(), FileRefusal>
         ensures appends { Appends (told_by self.old) (told_by self.new) name.now bytes.now result }
-        ensures failed {
-            is_failed result ≡ (is_due self.old || is_none (names_of self.old name.now))
-        }
-        ensures refused {
-            OnErr result ((names_of self.new ≡ names_of self.old) ⊎ (IsTrue (is_due self.old)
-                × (names_of self.new ≡ with_more name.now (first_half bytes.now) (names_of self.old))))
-        }
-        ensures counted {
-            Counted self.old self.new
-                false (is_failed result) false (is_wanting result) (is_none (names_of self.old name.now))
-        }
+        ensures failed { is_failed result ≡ (is_due self.old || is_none (names_of self.old name.now)) }
+        ensures refused { OnErr result ((names_of self.new ≡ names_of self.old) ⊎ (IsTrue (is_due self.old)
+            × (names_of self.new ≡ with_more name.now (first_half bytes.now) (names_of self.old)))) }
+        ensures counted { Counted self.old self.new
+            false (is_failed result) false (is_wanting result) (is_none (names_of self.old name.now)) }
     {
         let due = next_is_due(&mut self.calls, &self.failing);
         match self.names.get_mut(name) {
@@ -179,15 +163,17 @@ impl Files for MemFiles {
     fn say(&mut self, bytes: &[u8]) -> Result<(), FileRefusal>
         ensures says { Says (told_by self.old) (told_by self.new) bytes.now result }
         ensures failed { is_failed result ≡ is_due self.old }
-        ensures refused {
-            OnErr result ((said_of self.new ≡ said_of self.old) ⊎ (IsTrue (is_due self.old)
-                × (said_of self.new ≡ said_of self.old ++ first_half bytes.now)))
-        }
-        ensures counted {
-            Counted self.old self.new false false (is_failed result) (is_wanting result) false
-        }
+        ensures refused { OnErr result ((said_of self.new ≡ said_of self.old) ⊎ (IsTrue (is_due self.old)
+            × (said_of self.new ≡ said_of self.old ++ first_half bytes.now))) }
+        ensures counted { Counted self.old self.new false false (is_failed result) (is_wanting result) false }
     {
         let due = next_is_due(&mut self.calls, &self.failing);
-        add(&mut self.said, bytes, due, &mut self.say_faults, &mut self.wants)
+        add(
+            &mut self.said,
+            bytes,
+            due,
+            &mut self.say_faults,
+            &mut self.wants,
+        )
     }
 }

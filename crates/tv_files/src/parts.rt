@@ -31,9 +31,7 @@ pub fn put(
     name: &str,
     bytes: &[u8],
 ) -> Result<(), AllocError>
-    ensures ok {
-        OnOk result (names_in names.new ≡ with_bytes name.now bytes.now (names_in names.old))
-    }
+    ensures ok { OnOk result (names_in names.new ≡ with_bytes name.now bytes.now (names_in names.old)) }
     ensures err { OnErr result (names_in names.new ≡ names_in names.old) }
 {
     let key = String::from_str(alloc, name)?;
@@ -66,10 +64,8 @@ pub fn add(
 ) -> Result<(), FileRefusal>
     ensures ok { OnOk result (to.new.items ≡ to.old.items ++ bytes.now) }
     ensures failed { is_failed result ≡ due }
-    ensures refused {
-        OnErr result ((to.new.items ≡ to.old.items)
-            ⊎ (IsTrue due × (to.new.items ≡ to.old.items ++ first_half bytes.now)))
-    }
+    ensures refused { OnErr result ((to.new.items ≡ to.old.items)
+        ⊎ (IsTrue due × (to.new.items ≡ to.old.items ++ first_half bytes.now))) }
     ensures faults { faults.new ≡ raised (is_failed result) faults.old }
     ensures wants { wants.new ≡ raised (is_wanting result) wants.old }
     ensures faults_later { faults.old ≤ faults.new }

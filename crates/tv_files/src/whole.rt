@@ -53,19 +53,11 @@ pub fn slurp<D: Files>(
 /// After a refusal the name is as it was, or has a first part of the bytes. Nothing else outside is
 /// changed but the counts, and `absent` is not.
 pub fn write_file<D: Files>(files: &mut D, name: &str, bytes: &[u8]) -> Result<(), FileRefusal>
-    ensures whole {
-        OnOk result (HasBytes (D.seen files.old) (D.seen files.new) name.now bytes.now)
-    }
-    ensures part {
-        OnErr result (HasPart (D.seen files.old) (D.seen files.new) name.now bytes.now)
-    }
-    ensures failed {
-        result ≡ Err FileRefusal.Failed →
-            Rose (D.seen files.old).write_faults (D.seen files.new).write_faults
-    }
-    ensures memory {
-        result ≡ Err FileRefusal.Memory → Rose (D.seen files.old).wants (D.seen files.new).wants
-    }
+    ensures whole { OnOk result (HasBytes (D.seen files.old) (D.seen files.new) name.now bytes.now) }
+    ensures part { OnErr result (HasPart (D.seen files.old) (D.seen files.new) name.now bytes.now) }
+    ensures failed { result ≡ Err FileRefusal.Failed →
+        Rose (D.seen files.old).write_faults (D.seen files.new).write_faults }
+    ensures memory { result ≡ Err FileRefusal.Memory → Rose (D.seen files.old).wants (D.seen files.new).wants }
     ensures only { OnlyWrites (D.seen files.old) (D.seen files.new) }
     ensures counts { OnOk result (SameCounts (D.seen files.old) (D.seen files.new)) }
 {

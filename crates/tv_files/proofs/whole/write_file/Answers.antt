@@ -7,8 +7,7 @@ pub loop-piece-preserved : goal.loop-piece-preserved
 loop-piece-preserved g c =
     let seen = g.D.Files.seen in
     let before = c.loop-piece.invariant in
-    let next = ap (λ rest. before.0 ++ rest) c.in-Some.ensures.steps.1.0 in
-    (
+    let next = ap (λ rest. before.0 ++ rest) c.in-Some.ensures.steps.1.0 in (
       before.0 ++ c.in-Some.piece.now,
       record {
         split = before.1.split ∙ next ∙ sym (append_assoc before.0 c.in-Some.piece.now c.next.new.self.rest.now);
@@ -24,5 +23,5 @@ returns-in_err-append-clause-part g c =
     let before = c.loop-piece.invariant in
     let next = ap (λ rest. before.0 ++ rest) c.in-Some.ensures.steps.1.0 in
     OnErr-always c.from_residual-in_err-append.result
-      (written_in_part (seen c.args.files.now) (seen c.loop-piece.files) (seen c.append.new.self) c.args.name.now c.args.bytes.now before.0 c.in-Some.piece.now c.next.new.self.rest.now
-        (before.1.split ∙ next) before.1.contents c.in_err-append.ensures.refused)
+    (written_in_part (seen c.args.files.now) (seen c.loop-piece.files) (seen c.append.new.self) c.args.name.now c.args.bytes.now before.0 c.in-Some.piece.now c.next.new.self.rest.now
+    (before.1.split ∙ next) before.1.contents c.in_err-append.ensures.refused)
