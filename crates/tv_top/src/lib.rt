@@ -3,8 +3,6 @@
 #![tactic(auto)]
 
 mod checking;
-#[cfg(test)]
-mod command_tests;
 mod commands;
 mod constraints;
 mod job;
