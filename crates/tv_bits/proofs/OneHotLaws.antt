@@ -65,11 +65,13 @@ less_itself v i same = omega arith
 
 pub mark_complete : (z : List ℕ) (x : Combination) (i at v : ℕ) → Assigns z → value x z ≡ v % P → (i ≢ v → slice_index z at ≡ 0) → Meets z (mark_of x i at).list
 unfolding mark_of fresh put ◌>>=◌
-mark_complete z x i at v assigns is cold =
-    (mark_value z x i at assigns ∙ elim (cases_eq i v) [
-      | inl same ↦ zero_product (slice_index z at) _ (inr (ap (λ n. (n + (P - i % P)) % P) is ∙ less_itself v i (ap (λ n. n % P) (sym same))))
-      | inr apart ↦ zero_product (slice_index z at) _ (inl (cold apart))
-    ], tt)
+mark_complete z x i at v assigns is cold = (
+  mark_value z x i at assigns ∙ elim (cases_eq i v) [
+    | inl same ↦ zero_product (slice_index z at) _ (inr (ap (λ n. (n + (P - i % P)) % P) is ∙ less_itself v i (ap (λ n. n % P) (sym same))))
+    | inr apart ↦ zero_product (slice_index z at) _ (inl (cold apart))
+  ],
+  tt,
+)
 
 -- ---- the row
 pub onehot_answer : (x : Bits) (next : ℕ) → (onehot_of x next).answer ≡ next

@@ -19,7 +19,9 @@ enum Gadget {
 }
 
 const WORD: u64 = 4_294_967_295;
+
 const LONG: u64 = 9_223_372_036_854_775_807;
+
 const LAST: u64 = 18_446_744_069_414_584_320;
 
 const FIRST: Wire = Wire(1);

@@ -14,10 +14,9 @@ plus-requires c = omega (arith, ap length c.loop-i.invariant.0, length-weighted 
 pub loop-i-preserved : goal.loop-i-preserved
 loop-i-preserved c =
     let twice : 2 ^ i + 2 ^ i ≡ 2 ^ (i + 1) = rw add-one (omega (arith, pow-suc 2 i)) in
-    let term = rw c.offset.ensures at c.plus.ensures.terms in
-    (
+    let term = rw c.offset.ensures at c.plus.ensures.terms in (
       rw (add-one, weighted-suc) (term ∙ ap₂ (λ l p. l ++ (p, c.args.self.now.first + i) ∷ []) invariant.0 invariant.1),
-      c.add-power.ensures ∙ ap (λ n. (n + n) % P) invariant.1 ∙ sym (add-mod (2 ^ i) (2 ^ i) P) ∙ ap (λ n. n % P) twice
+      c.add-power.ensures ∙ ap (λ n. (n + n) % P) invariant.1 ∙ sym (add-mod (2 ^ i) (2 ^ i) P) ∙ ap (λ n. n % P) twice,
     )
   where
     open c.loop-i use {i, invariant}
