@@ -1,16 +1,16 @@
 -- The image of a text, line by line.
-use Rattle.std.proofs.Common.{◌≡◌, ℕ, ◌+◌, ◌<◌, ◌≤◌, nat_lt, Bool, true, false, cond, ◌||◌, List, [], ◌∷◌, ◌++◌, length, take, drop, Option, Some, None, Result, Ok, Err, refl, sym, ap, subst, ◌∙◌, arith}
+use Rattle.std.proofs.Common.{◌≡◌, ℕ, ◌+◌, ◌<◌, ◌≤◌, nat_lt, Bool, true, false, List, [], ◌∷◌, ◌++◌, length, take, drop, Option, Result, Ok, Err, refl, sym, ap, ◌∙◌, arith}
 use Rattle.std.proofs.lemmas.Bool.{lt-ltb, le-ltb}
 use Rattle.std.proofs.lemmas.List.{take-append-drop}
 use Rattle.std.proofs.lemmas.List.Folds.{list_any-append}
-use Rattle.std.specs.List.{before_first, list_any}
+use Rattle.std.specs.List.{list_any}
 use Rattle.std.specs.Option.{option_map, option_map_or}
 use Rattle.std.specs.Result.{IsErrAnd}
 use Rattle.tv_asm.specs.Assembly.{assembled, image_of, with_line}
 use Rattle.tv_asm.specs.Labels.{address, defines, is_defined}
 use Rattle.tv_asm.specs.Steps.{◌>>=◌}
 use Rattle.tv_asm.specs.Text.{lines}
-use Rattle.tv_asm.specs.Views.{AreLabelsOf, address_in, first_place, is_earlier, place_in}
+use Rattle.tv_asm.specs.Views.{AreLabelsOf, address_in, first_place, is_earlier}
 use Rattle.tv_asm.specs.declared.fault.AsmFault.{AsmFault}
 use Rattle.tv_asm.specs.declared.labels.Labels.{Labels}
 use Rattle.tv_asm.specs.declared.labels.Place.{Place}
@@ -47,10 +47,10 @@ earlier_at before rest name false false e d = rw (list_any-append (defines name)
 pub is_earlier-is : (labels : Labels) (all : List (List ℕ)) (n : ℕ) → AreLabelsOf labels all → length (take n all) ≡ n → is_earlier labels (n + 1) ≡ is_defined (take n all)
 is_earlier-is labels all n h l =
     same_functions (λ name.
-      ap (λ place. option_map_or (λ p. nat_lt p.line (n + 1)) place false) (h.each name)
-      ∙ ap (λ m. option_map_or (λ p. nat_lt p.line (m + 1)) (first_place 32 all name) false) (sym l)
-      ∙ ap (λ ls. stands_before (take n all) (first_place 32 ls name)) (sym (take-append-drop n all))
-      ∙ earlier_at (take n all) (drop n all) name (list_any (defines name) (take n all)) (list_any (defines name) (drop n all)) refl refl)
+    ap (λ place. option_map_or (λ p. nat_lt p.line (n + 1)) place false) (h.each name)
+    ∙ ap (λ m. option_map_or (λ p. nat_lt p.line (m + 1)) (first_place 32 all name) false) (sym l)
+    ∙ ap (λ ls. stands_before (take n all) (first_place 32 ls name)) (sym (take-append-drop n all))
+    ∙ earlier_at (take n all) (drop n all) name (list_any (defines name) (take n all)) (list_any (defines name) (drop n all)) refl refl)
 
 -- the lines before the rest of a text are assembled
 pub record IsAssembled (labels : Labels) (most number : ℕ) (words rest text : List ℕ) : Type 0 where
@@ -68,10 +68,10 @@ IsAssembled-none labels most text h =
 
 -- what the next line gives decides
 next_is : (labels : Labels) (most number : ℕ) (words rest behind text line : List ℕ)
-  → IsAssembled labels most number words rest text
-  → lines rest ≡ line ∷ lines behind
-  → (with_line 32 most (number + 1) (is_earlier labels (number + 1)) (address_in labels) words line
-     >>= λ next. image_of 32 most (lines text) (take number (lines text) ++ line ∷ []) next (lines behind))
+    → IsAssembled labels most number words rest text
+    → lines rest ≡ line ∷ lines behind
+    → (with_line 32 most (number + 1) (is_earlier labels (number + 1)) (address_in labels) words line
+    >>= λ next. image_of 32 most (lines text) (take number (lines text) ++ line ∷ []) next (lines behind))
     ≡ assembled 32 most text
 next_is labels most number words rest behind text line r first =
     let all = lines text in
@@ -87,12 +87,12 @@ next_is labels most number words rest behind text line r first =
 
 -- one line more is assembled
 pub IsAssembled-more : (labels : Labels) (most number : ℕ) (words after rest behind text line : List ℕ)
-  → IsAssembled labels most number words rest text
-  → lines rest ≡ line ∷ lines behind
-  → length behind < length rest
-  → with_line 32 most (number + 1) (is_earlier labels (number + 1)) (address_in labels) words line ≡ Ok after
-  → length after ≤ most
-  → IsAssembled labels most (number + 1) after behind text
+    → IsAssembled labels most number words rest text
+    → lines rest ≡ line ∷ lines behind
+    → length behind < length rest
+    → with_line 32 most (number + 1) (is_earlier labels (number + 1)) (address_in labels) words line ≡ Ok after
+    → length after ≤ most
+    → IsAssembled labels most (number + 1) after behind text
 IsAssembled-more labels most number words after rest behind text line r first shorter step fits =
     let all = lines text in
     let next : drop number all ≡ line ∷ lines behind = sym r.rest_lines ∙ first in
@@ -104,15 +104,15 @@ IsAssembled-more labels most number words after rest behind text line r first sh
       noted = r.noted;
       so_far = rw (take_next all number line (lines behind) next, drop_next all number line (lines behind) next) ends;
       fits = fits;
-      room = omega (arith, r.room)
+      room = omega (arith, r.room);
     }
 
 -- a line at fault is the fault of the text
 pub IsAssembled-fault : (labels : Labels) (most number : ℕ) (words rest behind text line : List ℕ) (fault : AsmFault)
-  → IsAssembled labels most number words rest text
-  → lines rest ≡ line ∷ lines behind
-  → with_line 32 most (number + 1) (is_earlier labels (number + 1)) (address_in labels) words line ≡ Err fault
-  → Err fault ≡ assembled 32 most text
+    → IsAssembled labels most number words rest text
+    → lines rest ≡ line ∷ lines behind
+    → with_line 32 most (number + 1) (is_earlier labels (number + 1)) (address_in labels) words line ≡ Err fault
+    → Err fault ≡ assembled 32 most text
 IsAssembled-fault labels most number words rest behind text line fault r first step =
     let all = lines text in
     let more = λ (words' : List ℕ). image_of 32 most all (take number all ++ line ∷ []) words' (lines behind) in

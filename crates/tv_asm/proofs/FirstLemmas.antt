@@ -1,6 +1,6 @@
 -- What stands before the first element that passes, and a list that is walked by its places.
-use Rattle.std.proofs.Common.{◌≡◌, ℕ, zero, suc, ◌+◌, ◌<◌, ◌≤◌, ◌==◌, Bool, true, false, not, cond, ◌||◌, List, [], ◌∷◌, ◌++◌, length, take, drop, refl, sym, ap, ◌∙◌, arith, add-one}
-use Rattle.std.specs.List.{before_first, list_any, position_or_len}
+use Rattle.std.proofs.Common.{◌≡◌, ℕ, zero, suc, ◌+◌, ◌<◌, ◌≤◌, Bool, true, false, ◌||◌, List, [], ◌∷◌, ◌++◌, length, take, drop, refl, sym, ap, ◌∙◌, arith, add-one}
+use Rattle.std.specs.List.{before_first, list_any}
 
 one-add : (n : ℕ) → 1 + n ≡ suc n
 one-add n = omega arith

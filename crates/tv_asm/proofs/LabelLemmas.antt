@@ -1,12 +1,11 @@
 -- The labels of lines, one line after another.
-use Rattle.std.proofs.Common.{◌≡◌, ℕ, ◌+◌, ◌*◌, ◌/◌, ◌%◌, ◌^◌, ◌<◌, ◌≤◌, Bool, true, false, cond, ◌||◌, List, [], ◌∷◌, ◌++◌, length, take, drop, Option, Some, None, is_some, refl, sym, ap, ◌∙◌, arith, zero-add, subst}
+use Rattle.std.proofs.Common.{◌≡◌, ℕ, ◌+◌, ◌*◌, ◌/◌, ◌%◌, ◌^◌, ◌<◌, ◌≤◌, Bool, true, false, cond, List, [], ◌∷◌, ◌++◌, length, take, drop, Option, Some, None, is_some, refl, sym, ap, ◌∙◌, arith, zero-add, subst}
 use Rattle.std.proofs.lemmas.List.Folds.{list_any-append}
 use Rattle.std.proofs.lemmas.List.{append-nil, take-append-drop}
 use Rattle.std.proofs.lemmas.List.Sums.{sum_by-append}
-use Rattle.std.specs.List.{before_first, count_by, list_any}
+use Rattle.std.specs.List.{count_by, list_any}
 use Rattle.std.specs.Option.{option_or}
-use Rattle.tv_asm.specs.Labels.{defines, has_instruction, is_defined, says_instruction, says_label}
-use Rattle.tv_asm.specs.Line.{Said, said}
+use Rattle.tv_asm.specs.Labels.{defines, has_instruction}
 use Rattle.tv_asm.specs.Text.{lines}
 use Rattle.tv_asm.specs.Views.{AreLabelsOf, first_place, place_in}
 use Rattle.tv_asm.specs.declared.labels.Labels.{Labels}
@@ -63,25 +62,25 @@ next_address ls line false before after h b a = omega (arith, count_by-push has_
 
 -- one line more is read
 pub IsRead-more : (old new : Labels) (place : Place) (after : ℕ) (rest behind text line : List ℕ) (here : Bool)
-  → IsRead old place rest text
-  → lines rest ≡ line ∷ lines behind
-  → length behind < length rest
-  → ((name : List ℕ) → place_in new name ≡ option_or (place_in old name) (cond (defines name line) (Some (record { line = place.line + 1; address = place.address })) None))
-  → has_instruction line ≡ here
-  → after ≡ cond here ((place.address + 8) % 2 ^ 32) place.address
-  → IsRead new (record { line = place.line + 1; address = after }) behind text
+    → IsRead old place rest text
+    → lines rest ≡ line ∷ lines behind
+    → length behind < length rest
+    → ((name : List ℕ) → place_in new name ≡ option_or (place_in old name) (cond (defines name line) (Some (record { line = place.line + 1; address = place.address })) None))
+    → has_instruction line ≡ here
+    → after ≡ cond here ((place.address + 8) % 2 ^ 32) place.address
+    → IsRead new (record { line = place.line + 1; address = after }) behind text
 IsRead-more old new place after rest behind text line here r first shorter noted h a =
     let all = lines text in
     let next : drop place.line all ≡ line ∷ lines behind = sym r.rest_lines ∙ first in
     let same : take (place.line + 1) all ≡ take place.line all ++ line ∷ [] = take_next all place.line line (lines behind) next in
     let at : place_after 32 (take place.line all) ≡ record { line = place.line + 1; address = place.address } =
-      ap (λ n. record { line = n + 1; address = 2 * (32 / 8) * count_by has_instruction (take place.line all) % 2 ^ 32 }) (length-take_next all place.line line (lines behind) next)
-      ∙ ap (λ n. record { line = place.line + 1; address = n }) (sym r.address) in
+    ap (λ n. record { line = n + 1; address = 2 * (32 / 8) * count_by has_instruction (take place.line all) % 2 ^ 32 }) (length-take_next all place.line line (lines behind) next)
+    ∙ ap (λ n. record { line = place.line + 1; address = n }) (sym r.address) in
     record {
       rest_lines = sym (drop_next all place.line line (lines behind) next);
       noted = rw same (AreLabelsOf-push old new (take place.line all) line r.noted (rw at noted));
       address = rw same (next_address (take place.line all) line here place.address after h r.address a);
-      room = omega (arith, r.room)
+      room = omega (arith, r.room);
     }
 
 -- all lines are read
@@ -89,5 +88,5 @@ pub IsRead-end : (labels : Labels) (place : Place) (rest text : List ℕ) → Is
 IsRead-end labels place rest text r end =
     let none : drop place.line (lines text) ≡ [] = sym r.rest_lines ∙ end in
     let all : take place.line (lines text) ≡ lines text =
-      sym (append-nil (take place.line (lines text))) ∙ ap (λ l. take place.line (lines text) ++ l) (sym none) ∙ take-append-drop place.line (lines text) in
+    sym (append-nil (take place.line (lines text))) ∙ ap (λ l. take place.line (lines text) ++ l) (sym none) ∙ take-append-drop place.line (lines text) in
     subst (AreLabelsOf labels) all r.noted

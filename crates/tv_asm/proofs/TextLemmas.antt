@@ -1,19 +1,12 @@
 -- Lines and pieces of a text.
-use Rattle.std.proofs.Common.{◌≡◌, ℕ, ◌+◌, ◌-◌, ◌<◌, ◌≤◌, ◌==◌, Bool, true, false, not, cond, ltb, List, [], ◌∷◌, length, get_or, take, drop, ◌⊎◌, inl, inr, Option, Some, None, refl, sym, ap, ◌∙◌, arith}
-use Rattle.std.proofs.lemmas.Bool.{lt-ltb, le-ltb, cases_lt}
-use Rattle.std.proofs.lemmas.Bool.Decides.{nat_tests}
-use Rattle.std.proofs.lemmas.List.{take_all, drop_all, length-drop}
-use Rattle.std.proofs.lemmas.List.Sums.{prefix_len-le-length, fails_before_first}
+use Rattle.std.proofs.Common.{◌≡◌, ℕ, ◌+◌, ◌<◌, ◌≤◌, ◌==◌, Bool, List, [], ◌∷◌, length, ◌⊎◌, inl, inr, refl, ap, ◌∙◌, arith}
+use Rattle.std.proofs.lemmas.Bool.{cases_lt}
+use Rattle.std.proofs.lemmas.List.{take_all, drop_all}
+use Rattle.std.proofs.lemmas.List.Sums.{fails_before_first}
 use Rattle.std.proofs.lemmas.List.Splits.{slice_split_first, slice_split_none, length-slice_split}
-use Rattle.std.specs.List.{position_or_len, before_first, after_first, slice_split, All}
-use Rattle.std.specs.Option.{unwrap_or}
+use Rattle.std.specs.List.{position_or_len, before_first, after_first, slice_split}
 use Rattle.std.specs.Str.Lines.{strip_carriage_return}
 use Rattle.tv_asm.specs.Text.{lines, lines_of}
-
--- the first place that passes, as `position` answers it
-pub unwrap_or_place : (p : ℕ → Bool) (text : List ℕ) (r : Option ℕ) → r ≡ cond (ltb (position_or_len p text) (length text)) (Some (position_or_len p text)) None → unwrap_or r (length text) ≡ position_or_len p text
-unwrap_or_place p text r e =
-    let le = prefix_len-le-length (λ c. not (p c)) text in grind (arith, nat_tests)
 
 lines_of-cons : (piece : List ℕ) (pieces : List (List ℕ)) → 0 < length pieces → lines_of (piece ∷ pieces) ≡ strip_carriage_return piece ∷ lines_of pieces
 lines_of-cons piece [] h = absurd (omega arith)

@@ -1,10 +1,10 @@
 -- An instruction in text, and its two words.
-use Rattle.std.specs.Prelude.{ℕ, ◌==◌, Bool, true, false, if◌then◌else◌, List, [], ◌∷◌, length, drop, map, Option, Result, Ok, Err, codes, slice_index_or}
+use Rattle.std.specs.Prelude.{ℕ, ◌==◌, if◌then◌else◌, List, [], ◌∷◌, length, drop, map, Option, Result, Ok, Err, codes, slice_index_or}
 use Rattle.std.specs.List.{before_first, slice_split}
 use Rattle.std.specs.Option.{ok_or}
 use Rattle.std.specs.Str.{bytes_eq}
 use Rattle.tv_isa.specs.Instruction.{encode}
-use Rattle.tv_isa.specs.Table.{Row, with_name}
+use Rattle.tv_isa.specs.Table.{with_name}
 use Rattle.tv_isa.specs.declared.instr.Instr.{Instr}
 use Rattle.tv_isa.specs.declared.operation.Shape.{Shape}
 use Rattle.tv_isa.specs.declared.operation.Shape.TheVariants.{DestSourceA, DestA, SourceA, OnlyA, ADest, Unused}
@@ -13,7 +13,6 @@ use Rattle.tv_asm.specs.Steps.{◌>>=◌, check}
 use Rattle.tv_asm.specs.Text.{is_blank, trimmed}
 use Rattle.tv_asm.specs.declared.fault.AsmWhy.{AsmWhy}
 use Rattle.tv_asm.specs.declared.fault.AsmWhy.TheVariants.{UnknownName, Operands}
-use Rattle.tv_asm.specs.declared.operand.Operand.{Operand}
 
 -- the name ends at the first blank
 abbrev pub name_of : List ℕ → List ℕ

@@ -1,5 +1,5 @@
 -- Operands of an instruction, in text.
-use Rattle.std.specs.Prelude.{ℕ, ◌^◌, ◌==◌, nat_eq, Bool, true, false, not, ◌&&◌, ◌||◌, if◌then◌else◌, List, length, drop, slice_index, Option, Result, Ok, Err, codes}
+use Rattle.std.specs.Prelude.{ℕ, ◌^◌, ◌==◌, nat_eq, true, false, not, ◌&&◌, ◌||◌, if◌then◌else◌, List, length, drop, slice_index, Option, Result, Ok, Err, codes}
 use Rattle.std.specs.List.{starts_with}
 use Rattle.std.specs.Option.{ok_or}
 use Rattle.tv_word.specs.Numeral.{numeral}
@@ -27,6 +27,6 @@ operand w address text =
     if slice_index text 0 == 114
     then (register text >>= λ r. Ok (record { imm = false; a = r }))
     else
-      if slice_index text 0 == 95
-      then (ok_or (address text) UnknownLabel >>= λ a. Ok (record { imm = true; a = a }))
-      else (number w text >>= λ n. Ok (record { imm = true; a = n }))
+    if slice_index text 0 == 95
+    then (ok_or (address text) UnknownLabel >>= λ a. Ok (record { imm = true; a = a }))
+    else (number w text >>= λ n. Ok (record { imm = true; a = n }))

@@ -1,4 +1,4 @@
--- What the code's own types stand for.
+-- What the code's own types stand for, for clauses inside the crate; no public clause cites them.
 use Rattle.std.specs.Prelude.{◌≡◌, ℕ, ◌+◌, ◌*◌, ◌/◌, ◌%◌, ◌^◌, nat_lt, Bool, false, if◌then◌else◌, List, [], length, Option, Some, None, Result, Ok, Err}
 use Rattle.std.specs.BTreeMap.{get_by}
 use Rattle.std.specs.Cmp.Lexicographic.{slice_cmp}
@@ -26,7 +26,7 @@ first_place w lines name =
     if is_defined lines name
     then Some (record {
       line = length (before_first (defines name) lines) + 1;
-      address = 2 * (w / 8) * count_by has_instruction (before_first (defines name) lines) % 2 ^ w
+      address = 2 * (w / 8) * count_by has_instruction (before_first (defines name) lines) % 2 ^ w;
     })
     else None
 

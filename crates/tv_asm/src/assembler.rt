@@ -11,9 +11,13 @@ use crate::text::next_line;
 use std::alloc::Global;
 use tv_word::Words;
 
-/// The image of a program text: the words of its instructions in order, at most `most` of them, or
-/// the first fault by line and reason. The text is walked twice, first for its labels: that takes time
-/// linear in its length, but for the look-ups of labels in an ordered map.
+/// The image of a program text, which is the words of its instructions in order, at most `most` of
+/// them: exactly what its definition gives the whole text, or want of memory.
+///
+/// The first line at fault is told, by its number from 1: `Bad` with the first reason in the order of
+/// `AsmWhy`, or `TooMany` where its words would be more than `most` with those before. The text is
+/// walked twice, first for its labels, in time linear in its length but for the look-ups of labels in
+/// an ordered map.
 pub fn assemble(alloc: Global, text: &[u8], most: u32) -> Result<Words, AsmFault>
     ensures { (result ≡ assembled 32 most text.now) ⊎ (result ≡ Err AsmFault.Memory) }
 {
@@ -30,7 +34,13 @@ pub fn assemble(alloc: Global, text: &[u8], most: u32) -> Result<Words, AsmFault
 }
 
 /// Puts the words of a line behind those of the lines before it.
-fn append(words: &mut Words, line: &[u8], number: u64, labels: &Labels<'_>, most: u32) -> Result<(), AsmFault>
+fn append(
+    words: &mut Words,
+    line: &[u8],
+    number: u64,
+    labels: &Labels<'_>,
+    most: u32,
+) -> Result<(), AsmFault>
     requires { length words.old ≤ most }
     ensures room { OnOk result (length words.new ≤ most) }
     ensures ok { OnOk result

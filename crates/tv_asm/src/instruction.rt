@@ -104,7 +104,11 @@ fn fields(operation: Operation, text: &[u8], labels: &Labels<'_>) -> Result<Inst
     let op = operation.op;
     let (first, second, third) = operands(text);
     let (dest, source, last) = match operation.shape {
-        Shape::DestSourceA => (register(first)?, register(second)?, Operand::of(third, labels)?),
+        Shape::DestSourceA => (
+            register(first)?,
+            register(second)?,
+            Operand::of(third, labels)?,
+        ),
         Shape::DestA => (register(first)?, 0, Operand::of(second, labels)?),
         Shape::SourceA => (0, register(first)?, Operand::of(second, labels)?),
         Shape::OnlyA => (0, 0, Operand::of(first, labels)?),

@@ -54,10 +54,12 @@ impl<'a> Labels<'a> {
             ≡ option_or (place_in self.old name) (if says_label name (option_map said_by statement.entry) then Some place else None)) }
     {
         match statement {
-            Some(Statement {
-                label: Some(label),
-                instruction: _,
-            }) => self.define(label, place),
+            Some(
+                Statement {
+                    label: Some(label),
+                    instruction: _,
+                },
+            ) => self.define(label, place),
             _ => Ok(()),
         }
     }

@@ -64,7 +64,8 @@ pub(crate) fn is_text(line: &[u8]) -> bool
     ensures { result ≡ list_all is_text (code_of line.now) }
 {
     let (code, _) = cut(line, b';');
-    code.iter().all(|byte| *byte == b'\t' || (b' '..=b'~').contains(byte))
+    code.iter()
+        .all(|byte| *byte == b'\t' || (b' '..=b'~').contains(byte))
 }
 
 /// Whether a first line, where it is a header, is one for this machine.

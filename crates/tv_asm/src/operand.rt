@@ -1,5 +1,4 @@
-ghost use Rattle.std.specs.Prelude.{◌≡◌, ◌^◌, ◌<◌, ◌≤◌, IfOk};
-ghost use Rattle.std.specs.Option.{ok_or};
+ghost use Rattle.std.specs.Prelude.{◌≡◌, ◌^◌, ◌<◌, ◌≤◌, IfOk, IfSome};
 ghost use Rattle.tv_word.specs.Numeral.{numeral};
 ghost use Rattle.tv_asm.specs.Operand.{register, number, operand};
 ghost use Rattle.tv_asm.specs.Views.{address_in};
@@ -39,18 +38,18 @@ impl Operand {
     }
 }
 
-/// The number of a register.
+/// The number of a register: `r` and a number below 16 without a leading zero.
 #[tactic(auto, unfolding(crate::specs::Operand::register))]
 pub(crate) fn register(text: &[u8]) -> Result<u8, AsmWhy>
     ensures value { result ≡ register text.now }
     ensures range { IfOk result (λ r. r < 16) }
 {
-    let [b'r', digits @ ..] = text else {
-        return Err(AsmWhy::BadRegister);
-    };
-    match (digits, decimal_of(digits)) {
-        ([b'0', _, ..], _) => Err(AsmWhy::BadRegister),
-        (_, Some(number)) if number < 16 => Ok(number as u8),
+    match text {
+        [b'r', b'0', _, ..] => Err(AsmWhy::BadRegister),
+        [b'r', digits @ ..] => match numeral_below(digits, 10, 16) {
+            Some(number) => Ok(number as u8),
+            None => Err(AsmWhy::BadRegister),
+        },
         _ => Err(AsmWhy::BadRegister),
     }
 }
@@ -60,19 +59,23 @@ pub(crate) fn register(text: &[u8]) -> Result<u8, AsmWhy>
 pub(crate) fn number(text: &[u8]) -> Result<u32, AsmWhy>
     ensures { result ≡ number 32 text.now }
 {
-    match text {
-        [b'0', b'x', digits @ ..] => number_in(digits, 16),
-        _ => number_in(text, 10),
-    }
+    let number = match text {
+        [b'0', b'x', digits @ ..] => numeral_below(digits, 16, 1 << 32),
+        _ => numeral_below(text, 10, 1 << 32),
+    };
+    number.ok_or(AsmWhy::BadNumber)
 }
 
-fn number_in(digits: &[u8], base: u32) -> Result<u32, AsmWhy>
+/// The number that digits spell, where it is below a bound.
+fn numeral_below(digits: &[u8], base: u32, bound: u64) -> Option<u32>
     requires least { 2 ≤ base }
     requires greatest { base ≤ 36 }
-    ensures { result ≡ ok_or (numeral base (2 ^ 32) digits.now) AsmWhy.BadNumber }
+    requires word { bound ≤ 2 ^ 32 }
+    ensures value { result ≡ numeral base bound digits.now }
+    ensures below { IfSome result (λ number. number < bound) }
 {
     match numeral_of(digits, base) {
-        Some(number) if number <= u64::from(u32::MAX) => Ok(number as u32),
-        _ => Err(AsmWhy::BadNumber),
+        Some(number) if number < bound => Some(number as u32),
+        _ => None,
     }
 }

@@ -43,7 +43,7 @@ fn place_of(text: &[u8], separator: u8) -> usize
     ensures place { result ≡ position_or_len (λ c. c == separator) text.now }
     ensures within { result ≤ length text.now }
 {
-    text.iter().position(|byte| *byte == separator).unwrap_or(text.len())
+    text.iter().take_while(|byte| **byte != separator).count()
 }
 
 /// What stands before the first separator, and what stands behind it; all and nothing where there

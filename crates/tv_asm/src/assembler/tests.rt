@@ -40,23 +40,35 @@ const IMAGES: [(&str, &[u32]); 17] = [
     ("", &[]),
     ("; TinyRAM V=2.000 M=vn W=32 K=16\n", &[]),
     ("answer 0\n", &[0xfc00_0000, 0]),
-    ("\tanswer\t0 ; says \u{7f}\u{e9}\r\n\r\n ; nothing\r\n", &[0xfc00_0000, 0]),
+    (
+        "\tanswer\t0 ; says \u{7f}\u{e9}\r\n\r\n ; nothing\r\n",
+        &[0xfc00_0000, 0],
+    ),
     ("answer 7\r", &[0xfc00_0000, 7]),
     ("store.w 16, r1", &[0xe440_0000, 16]),
     (".raw 0xB8000000, 0", &[0xb800_0000, 0]),
     (".raw 0x00000001, 16", &[1, 16]),
     ("jmp _e\n_e:", &[0xa400_0000, 8]),
     ("_0: jmp _0", &[0xa400_0000, 0]),
-    ("_a.B_9: ; here\n answer 1\n _last:answer _a.B_9\ncjmp _last ", &[0xfc00_0000, 1, 0xfc00_0000, 0, 0xac00_0000, 8]),
+    (
+        "_a.B_9: ; here\n answer 1\n _last:answer _a.B_9\ncjmp _last ",
+        &[0xfc00_0000, 1, 0xfc00_0000, 0, 0xac00_0000, 8],
+    ),
     ("mov r0,0xAbCdEf", &[0x9400_0000, 0x00ab_cdef]),
     ("mov r0 , 4294967295", &[0x9400_0000, u32::MAX]),
     (
         "answer 0000000000000000000000000000000000000000000000000000000000000000000000000000000000000000000000000009",
         &[0xfc00_0000, 9],
     ),
-    ("answer 0x0000000000000000000000000000000009", &[0xfc00_0000, 9]),
+    (
+        "answer 0x0000000000000000000000000000000009",
+        &[0xfc00_0000, 9],
+    ),
     ("answer 1\n; TinyRAM W=16", &[0xfc00_0000, 1]),
-    ("answer 1 ;_a:\n;answer 2\n_a: answer _a", &[0xfc00_0000, 1, 0xfc00_0000, 8]),
+    (
+        "answer 1 ;_a:\n;answer 2\n_a: answer _a",
+        &[0xfc00_0000, 1, 0xfc00_0000, 8],
+    ),
 ];
 
 /// Texts that are refused: the first line at fault, and why.
@@ -88,7 +100,11 @@ const FAULTS: [(&str, u64, AsmWhy); 48] = [
     ("add r1, r2", 1, AsmWhy::Operands { has: 2, wants: 3 }),
     ("answer", 1, AsmWhy::Operands { has: 0, wants: 1 }),
     ("answer ,", 1, AsmWhy::Operands { has: 2, wants: 1 }),
-    ("mov r1, 2, 3, 4, 5", 1, AsmWhy::Operands { has: 5, wants: 2 }),
+    (
+        "mov r1, 2, 3, 4, 5",
+        1,
+        AsmWhy::Operands { has: 5, wants: 2 },
+    ),
     (".raw 1", 1, AsmWhy::Operands { has: 1, wants: 2 }),
     ("mov r16, x", 1, AsmWhy::BadRegister),
     ("mov r01, 0", 1, AsmWhy::BadRegister),

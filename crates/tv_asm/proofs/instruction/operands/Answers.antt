@@ -1,7 +1,5 @@
-use Rattle.std.proofs.Common.{◌==◌, ◌∙◌, ap, sym}
-use Rattle.std.specs.List.{after_first, before_first}
-use Rattle.tv_asm.specs.Instruction.{operand_at, operands_in}
-use Rattle.tv_asm.specs.Text.{trimmed}
+use Rattle.std.proofs.Common.{◌==◌, ◌∙◌, sym}
+use Rattle.std.specs.List.{after_first}
 use Rattle.tv_asm.proofs.OperandLemmas.{operand_at-zero, operand_at-suc}
 use Rattle.tv_asm.proofs.instruction.operands.Goals as goal
 

@@ -12,4 +12,4 @@ returns-in_ok-insert c = λ name.
     let absent : is_some (place_in c.args.self.now label) ≡ false = cc in
     btree_map_updates_str label c.args.self.now.places c.insert.new.self (Some c.args.place) c.in_ok-insert.ensures.updates name
     ∙ noted_once (bytes_eq label name) (place_in c.args.self.now name) c.args.place
-      (λ e. ap (λ n. is_some (place_in c.args.self.now n)) (sym ((bytes_eq-Decides label name).0 e)) ∙ absent)
+    (λ e. ap (λ n. is_some (place_in c.args.self.now n)) (sym ((bytes_eq-Decides label name).0 e)) ∙ absent)

@@ -1,6 +1,6 @@
-use Rattle.std.proofs.Common.{◌≡◌, ◌∙◌, Bool, true, false, refl, sym, ap, arith}
-use Rattle.tv_asm.specs.Labels.{has_instruction, says_instruction}
-use Rattle.tv_asm.proofs.LabelLemmas.{IsRead, IsRead-more, IsRead-end, first_place-nil}
+use Rattle.std.proofs.Common.{◌∙◌, true, false, refl, sym, ap, arith}
+use Rattle.tv_asm.specs.Labels.{says_instruction}
+use Rattle.tv_asm.proofs.LabelLemmas.{IsRead-more, IsRead-end, first_place-nil}
 use Rattle.tv_asm.proofs.labels.Labels.of.Goals as goal
 
 pub loop-line-init : goal.loop-line-init
@@ -9,7 +9,7 @@ loop-line-init c =
       rest_lines = refl;
       noted = record { each = λ name. rw (first_place-nil, c.new.ensures.empty) refl };
       address = refl;
-      room = omega arith
+      room = omega arith;
     }
 
 pub loop-line-preserved-then-has_instruction : goal.loop-line-preserved-then-has_instruction
