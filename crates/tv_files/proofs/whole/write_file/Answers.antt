@@ -1,4 +1,4 @@
-use Rattle.std.proofs.Common.{◌≡◌, ◌++◌, append_assoc, arith, ap, sym, ◌∙◌, rules}
+use Rattle.std.proofs.Common.{◌++◌, append_assoc, ap, sym, ◌∙◌, rules}
 use Rattle.tv_files.proofs.Cases.{OnErr-always}
 use Rattle.tv_files.proofs.Written.{written_grows, written_in_part}
 use Rattle.tv_files.proofs.whole.write_file.Goals as goal

@@ -1,4 +1,4 @@
-use Rattle.std.proofs.Common.{◌≡◌, ℕ, List, ◌++◌, length}
+use Rattle.std.proofs.Common.{◌≡◌, ℕ, List, ◌++◌}
 use Rattle.tv_files.specs.Outside.{Outside, SameCounts}
 use Rattle.tv_files.specs.Whole.{HasBytes}
 use Rattle.tv_files.proofs.whole.write_file.Given as goal
