@@ -54,13 +54,16 @@ pub record Refuted (files : Names) (system witness tape : List ℕ) (why : NoWhy
 -- a file couldn't be read or the line not be said, or memory was wanting
 abbrev pub IsHindered : Outside → Outside → Status → Type 0
 IsHindered old new result =
-    ((word : ℕ) × (result ≡ FileFault word) × (Rose old.read_faults new.read_faults ⊎ Rose old.say_faults new.say_faults))
+    ((word : ℕ) × (result ≡ FileFault word)
+    × (Rose old.read_faults new.read_faults ⊎ Rose old.say_faults new.say_faults))
     ⊎ (result ≡ Memory)
 
 -- What `check SYSTEM WITNESS TAPE` promises over files that hold this: it is done exactly where the
 -- assignment satisfies the system and extends the tape, and says no exactly where that is so.
-pub record Checks (files : Names) (system witness tape : List ℕ) (old new : Outside) (result : Status) : Type 0 where
+pub record Checks (files : Names) (system witness tape : List ℕ) (old new : Outside)
+    (result : Status) : Type 0 where
   pub done : result ≡ Done → Accepted files system witness tape
   pub accepted : Accepted files system witness tape → (result ≡ Done) ⊎ IsHindered old new result
   pub says_no : (why : NoWhy) → result ≡ No why → Refuted files system witness tape why
-  pub refuted : (why : NoWhy) → Refuted files system witness tape why → (result ≡ No why) ⊎ IsHindered old new result
+  pub refuted : (why : NoWhy) → Refuted files system witness tape why
+      → (result ≡ No why) ⊎ IsHindered old new result

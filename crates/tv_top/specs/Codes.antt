@@ -19,8 +19,8 @@ why_text (Public at) = codes "public wire " ++ decimal at
 why_text (Constraint at) = codes "constraint " ++ decimal at
 why_text (Wires has wants) = decimal has ++ codes " wires, " ++ decimal wants ++ codes " wanted"
 
--- the line that is said, without its end, where Done says the report; nothing is said after a fault or want
--- of memory
+-- the line that is said, without its end, where Done says the report; nothing is said after a fault or
+-- want of memory
 abbrev pub line : Option (List ℕ) → Status → Option (List ℕ)
 line report Done = report
 line report (No why) = Some (codes "no: " ++ why_text why)

@@ -13,9 +13,12 @@ IsFound view due (Err status) = (due.gives ≡ Err status)
     ⊎ (status ≡ Memory)
 
 -- files were read, those whose names stand at words of this kind, and this was found
-pub record Finds {X A : Type 0} (view : X → A) (IsRead : ℕ → Type 0) (due : Names → Look A) (old new : Outside) (found : Result X Status) : Type 0 where
+pub record Finds {X A : Type 0} (view : X → A) (IsRead : ℕ → Type 0) (due : Names → Look A)
+    (old new : Outside) (found : Result X Status) : Type 0 where
   pub told : Told old (λ files. IsFound view (due files) found)
-  pub absent : Told old (λ files. (new.absent ≡ old.absent) ⊎ ((word : ℕ) × ((due files).gives ≡ Err (FileFault word))))
+  pub absent : Told old (λ files.
+      (new.absent ≡ old.absent) ⊎ ((word : ℕ) × ((due files).gives ≡ Err (FileFault word))))
   pub only : OnlyReads old new
-  pub caused : (word : ℕ) → found ≡ Err (FileFault word) → IsRead word × Rose old.read_faults new.read_faults
+  pub caused : (word : ℕ) → found ≡ Err (FileFault word)
+      → IsRead word × Rose old.read_faults new.read_faults
   pub usage : ¬ (found ≡ Err Usage)

@@ -18,7 +18,8 @@ pub(crate) enum Job<'a> {
 
 /// The job that the words ask for, else the refusal.
 pub(crate) fn job_of(words: &[String]) -> Result<Job<'_>, Status>
-    ensures { MatchResult result (λ found. job (map string_bytes words.now) ≡ Ok (asked found)) (λ status. job (map string_bytes words.now) ≡ Err status) }
+    ensures { let due = job (map string_bytes words.now) in
+        MatchResult result (λ found. due ≡ Ok (asked found)) (λ status. due ≡ Err status) }
 {
     match words {
         [name, system, witness, tape] if name.as_str() == "check" => Ok(Job::Check {

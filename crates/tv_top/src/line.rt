@@ -1,4 +1,4 @@
-//! The lines that commands say. They take no memory.
+//! The lines that commands say.
 ghost use Rattle.std.specs.Prelude.{◌≡◌, ◌+◌, ◌<◌, ◌≤◌, ◌++◌, length, codes, decimal};
 ghost use Rattle.std.specs.Option.{ForSome, option_copied};
 ghost use Rattle.arrayvec.specs.ArrayString.{array_string_len};
@@ -12,12 +12,13 @@ use itoa::Buffer;
 /// The most bytes of a line, its line feed among them.
 const MOST: usize = 96;
 
-/// The line's text begins so.
+/// A line that takes no memory.
 type Line = ArrayString<MOST>;
 
+/// What is said of words that are no command's.
 const USAGE: &str = "usage: asm, disasm, run, build, witness, check, extract, trial";
 
-/// A text as a line.
+/// A line of this text.
 fn text_line(text: &str) -> Line
     requires { length text.now ≤ MOST }
     ensures { result.bytes ≡ text.now }
@@ -37,7 +38,7 @@ fn push_number(line: &mut Line, number: u64)
     line.push_str(digits.format(number));
 }
 
-/// Says a no.
+/// The line of a no, without its end.
 fn no_line(why: NoWhy) -> Line
     ensures text { result.bytes ≡ codes "no: " ++ why_text why }
     ensures room { array_string_len result < MOST }

@@ -1,3 +1,4 @@
+//! What a command answers.
 ghost use Rattle.std.specs.Prelude.{◌≡◌};
 ghost use Rattle.tv_top.specs.Codes.{code_of};
 
