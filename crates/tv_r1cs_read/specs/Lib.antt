@@ -1,0 +1,3 @@
+pub mod Places
+pub mod Sections
+pub mod R1cs

@@ -1,0 +1,7 @@
+//! Reading a constraint system from an r1cs file, of any size and with its sections in any order: one
+//! row at a time, each the next constraint of `system_of` the whole file, or the file's first fault.
+#![tactic(auto)]
+
+mod why;
+
+pub use why::{ReadRefusal, ReadWhy};
