@@ -1,3 +1,5 @@
+pub mod Euclid
+pub mod InverseLaws
 pub mod Pigeonhole
 pub mod PrimeLaws
 pub mod PrimeProof

@@ -1,3 +1,4 @@
 pub mod Constraints
 pub mod Examples
+pub mod Inverse
 pub mod Prime

@@ -6,6 +6,7 @@
 #[cfg(test)]
 mod examples;
 mod field;
+mod inverse;
 mod prime;
 
 pub use field::{F, P};

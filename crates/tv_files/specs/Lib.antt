@@ -1,0 +1,5 @@
+pub mod Outside
+pub mod Calls
+pub mod Refusals
+pub mod Whole
+pub mod MemFiles

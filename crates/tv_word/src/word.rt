@@ -18,7 +18,21 @@ pub fn word_at(bytes: &[u8], at: usize) -> u32
 
 /// The four bytes that spell the word, the lowest first.
 pub fn word_bytes(word: u32) -> [u8; 4]
-    ensures { result ≡ word_bytes 32 word }
+    ensures bytes { result ≡ word_bytes 32 word }
+    ensures back { word_at 32 result 0 ≡ word }
 {
     word.to_le_bytes()
+}
+
+#[cfg(test)]
+mod tests {
+    use super::*;
+
+    #[test]
+    fn a_word_is_spelled_lowest_byte_first(rt: HostRuntime) {
+        let bytes = [0x7f, 0x44, 0x33, 0x22, 0x81, 0x00];
+        assert_eq!(rt; word_at(&bytes, 1), 0x8122_3344);
+        assert_eq!(rt; word_bytes(0x8122_3344), [0x44, 0x33, 0x22, 0x81]);
+        assert_eq!(rt; signed(0x8000_0000), -2_147_483_648);
+    }
 }

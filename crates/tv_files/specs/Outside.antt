@@ -1,0 +1,60 @@
+-- The outside world as a value: which files there are, what was said, and the counts of what went wrong.
+use Rattle.std.specs.Prelude.{◌≡◌, ℕ, ◌+◌, ◌-◌, ◌^◌, ◌≤◌, ◌⊎◌, min, List, ◌++◌, Option, Some, None, option_map}
+use Rattle.std.specs.Map.{update}
+use Rattle.std.specs.Str.{bytes_eq}
+
+-- the files that are there: from a name's bytes to the file's bytes
+abbrev pub Names : Type 0
+Names = List ℕ → Option (List ℕ)
+
+-- the files once the name stands for these bytes
+abbrev pub with_bytes : List ℕ → List ℕ → Names → Names
+with_bytes name bytes files = update bytes_eq files name (Some bytes)
+
+-- the files once these bytes stand behind those that the name had; a name that isn't there stays absent
+abbrev pub with_more : List ℕ → List ℕ → Names → Names
+with_more name more files = update bytes_eq files name (option_map (λ bytes. bytes ++ more) (files name))
+
+-- what is outside: contents and words said, where they are told, and the counts
+pub record Outside : Type 0 where
+  pub contents : Option Names
+  pub said : Option (List ℕ)
+  pub read_faults : ℕ
+  pub write_faults : ℕ
+  pub say_faults : ℕ
+  pub wants : ℕ
+  pub absent : ℕ
+
+-- where contents are told, this is so of them
+abbrev pub Told : Outside → (Names → Type 0) → Type 0
+Told outside P = (files : Names) → outside.contents ≡ Some files → P files
+
+-- the count of absent names changed only where this name isn't there
+abbrev pub MissesOnly : Outside → Outside → List ℕ → Type 0
+MissesOnly old new name = Told old (λ files. (new.absent ≡ old.absent) ⊎ (files name ≡ None))
+
+-- a count rose, or stands at a counter's last value
+abbrev pub Rose : ℕ → ℕ → Type 0
+Rose before now = min (before + 1) (2 ^ 64 - 1) ≤ now
+
+-- no count fell
+pub record NoneFell (old new : Outside) : Type 0 where
+  pub read_faults : old.read_faults ≤ new.read_faults
+  pub write_faults : old.write_faults ≤ new.write_faults
+  pub say_faults : old.say_faults ≤ new.say_faults
+  pub wants : old.wants ≤ new.wants
+  pub absent : old.absent ≤ new.absent
+
+-- each count is as before
+pub record SameCounts (old new : Outside) : Type 0 where
+  pub read_faults : new.read_faults ≡ old.read_faults
+  pub write_faults : new.write_faults ≡ old.write_faults
+  pub say_faults : new.say_faults ≡ old.say_faults
+  pub wants : new.wants ≡ old.wants
+  pub absent : new.absent ≡ old.absent
+
+-- what readers do to the outside: files and words said stay, and no count fell
+pub record OnlyReads (old new : Outside) : Type 0 where
+  pub contents : new.contents ≡ old.contents
+  pub said : new.said ≡ old.said
+  pub later : NoneFell old new

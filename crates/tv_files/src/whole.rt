@@ -1,0 +1,48 @@
+//! Whole files, over any `Files`: read into memory, or written from it.
+ghost use Rattle.std.specs.Prelude.{◌≡◌, ℕ, ◌≤◌, length, Some, IfOk, OnOk};
+ghost use Rattle.tv_files.specs.Outside.{OnlyReads, SameCounts, Told, MissesOnly, Rose};
+ghost use Rattle.tv_files.specs.Whole.{IsLonger};
+
+use crate::calls::Files;
+use crate::outcome::Slurp;
+use std::alloc::Global;
+
+/// The most bytes that one call reads or appends.
+const PIECE: usize = 4096;
+
+/// Reads the whole file, by calls of at most 4,096 bytes, until one gives none or more than `most`
+/// bytes came.
+///
+/// `Ok` is the contents of the name, which are at most `most` bytes. `TooLong` comes exactly where the
+/// name has more than that: byte number `most + 1` was read. `Fault` comes only where the count of
+/// faults of reading rose, and a missing name is such a fault. `Memory` is want of memory, here or
+/// outside. Nothing outside is changed but the counts.
+pub fn slurp<D: Files>(
+    alloc: Global,
+    files: &mut D,
+    name: &str,
+    most: u64,
+) -> Result<Vec<u8>, Slurp>
+    ensures whole { IfOk result (λ v. Told (D.seen files.old) (λ held. held name.now ≡ Some v.items)) }
+    ensures short { IfOk result (λ v. length v.items ≤ most) }
+    ensures longer { (limit : ℕ) → result ≡ Err (Slurp.TooLong limit) →
+        (limit ≡ most) × Told (D.seen files.old) (λ held. IsLonger most (held name.now)) }
+    ensures fault { result ≡ Err Slurp.Fault →
+        Rose (D.seen files.old).read_faults (D.seen files.new).read_faults }
+    ensures only { OnlyReads (D.seen files.old) (D.seen files.new) }
+    ensures counts { OnOk result (SameCounts (D.seen files.old) (D.seen files.new)) }
+    ensures there { MissesOnly (D.seen files.old) (D.seen files.new) name.now }
+{
+    let mut contents = Vec::new(alloc);
+    let mut piece = [0u8; PIECE];
+    loop {
+        let count = files.read(name, contents.len() as u64, &mut piece)?;
+        if count == 0 {
+            return Ok(contents);
+        }
+        if count as u64 > most - contents.len() as u64 {
+            return Err(Slurp::TooLong { most });
+        }
+        contents.extend_from_slice(&piece[..count])?;
+    }
+}

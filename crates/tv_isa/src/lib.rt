@@ -1,0 +1,13 @@
+//! The instructions of the machine: the two words of an instruction and its fields, and one table
+//! of the 29 instructions with opcodes, names and operands. The assembler looks names up in it,
+//! the disassembler and the machine look opcodes up; both rest on `decode` of `encode` being the
+//! instruction.
+#![tactic(auto)]
+
+mod instr;
+mod lookup;
+mod operation;
+
+pub use instr::{Instr, decode, encode};
+pub use lookup::{operation_named, operation_of, operations, shape};
+pub use operation::{Operation, Shape};

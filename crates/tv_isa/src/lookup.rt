@@ -1,0 +1,64 @@
+ghost use Rattle.std.specs.Prelude.{◌≡◌, ◌<◌, map};
+ghost use Rattle.std.specs.Option.{option_map};
+ghost use Rattle.tv_isa.specs.Table.{row_of, with_opcode, with_name, shape_of, instructions};
+
+use crate::operation::{OPERATIONS, Operation, Shape};
+
+/// The 29 instructions, by opcode.
+pub fn operations() -> &'static [Operation]
+    ensures { map row_of result.now ≡ instructions }
+{
+    &OPERATIONS
+}
+
+/// The instruction with an opcode; `None` for an opcode that is not used.
+pub fn operation_of(op: u8) -> Option<Operation>
+    ensures { option_map row_of result ≡ with_opcode op }
+{
+    operations()
+        .iter()
+        .find(|operation| operation.op == op)
+        .copied()
+}
+
+/// The instruction with a name in program text.
+pub fn operation_named(name: &[u8]) -> Option<Operation>
+    ensures { option_map row_of result ≡ with_name name.now }
+{
+    operations()
+        .iter()
+        .find(|operation| operation.name.as_bytes() == name)
+        .copied()
+}
+
+/// The operands of the instruction with an opcode.
+pub fn shape(op: u8) -> Shape
+    requires { op < 32 }
+    ensures { result ≡ shape_of op }
+{
+    match operation_of(op) {
+        Some(operation) => operation.shape,
+        None => Shape::Unused,
+    }
+}
+
+#[cfg(test)]
+mod tests {
+    use super::*;
+
+    #[test]
+    fn the_table_is_searched_by_name_and_by_opcode(rt: HostRuntime) {
+        let load = Operation {
+            op: 27,
+            name: "load.b",
+            shape: Shape::DestA,
+        };
+        assert_eq!(rt; operation_named(b"load.b"), Some(load));
+        assert_eq!(rt; operation_of(27), Some(load));
+        assert_eq!(rt; operation_named(b"Load.b"), None);
+        assert_eq!(rt; operation_of(24), None);
+        assert_eq!(rt; shape(24), Shape::Unused);
+        assert_eq!(rt; shape(26), Shape::ADest);
+        assert_eq!(rt; operations().len(), 29);
+    }
+}
