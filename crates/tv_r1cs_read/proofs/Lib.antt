@@ -1,1 +1,4 @@
+pub mod Chain
+pub mod Pieces
+pub mod SectionLemmas
 pub mod Vectors

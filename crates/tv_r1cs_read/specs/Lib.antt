@@ -1,3 +1,6 @@
 pub mod Places
+pub mod Reading
+pub mod Refusals
 pub mod Sections
+pub mod Found
 pub mod R1cs

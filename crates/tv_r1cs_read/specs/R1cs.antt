@@ -4,7 +4,8 @@ use Rattle.tv_core.specs.Constraints.{Combination, Constraint, System}
 use Rattle.tv_core.specs.declared.field.TheConstants.{P}
 use Rattle.tv_r1cs_read.specs.declared.why.ReadWhy.TheVariants.{OtherPrime, BadCount, WireRange, NotCanonical, Truncated, TooWide}
 use Rattle.tv_r1cs_read.specs.Places.{Fault, ◌>>=◌, wrong, unless, number, fit}
-use Rattle.tv_r1cs_read.specs.Sections.{Section, section_of, sections_of, wanted}
+use Rattle.tv_r1cs_read.specs.declared.sections.Section.{Section}
+use Rattle.tv_r1cs_read.specs.Sections.{section_of, sections_of, wanted}
 
 -- what section 1 counts, and where section 2 stands
 pub record Header : Type 0 where
@@ -30,7 +31,7 @@ labels_fit wires (Some three) = unless (not (three.size == 8 * wires)) three.at 
 -- everything but the constraints
 unfoldable pub header_of : List ℕ → Result Header Fault
 header_of file = do
-  sections ← sections_of (1 ∷ 2 ∷ 3 ∷ []) 0x73633172 1 file
+  sections ← sections_of 3 0x73633172 1 file
   one ← wanted 1 file sections
   two ← wanted 2 file sections
   _ ← this_field file 40 one

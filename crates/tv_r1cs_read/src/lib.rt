@@ -2,6 +2,10 @@
 //! row at a time, each the next constraint of `system_of` the whole file, or the file's first fault.
 #![tactic(auto)]
 
+mod sections;
 mod why;
+mod window;
 
+pub use sections::{Form, Found, Section};
 pub use why::{ReadRefusal, ReadWhy};
+pub use window::Window;

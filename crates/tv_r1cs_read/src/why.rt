@@ -1,4 +1,10 @@
+ghost use Rattle.std.specs.Prelude.{◌≡◌};
+ghost use Rattle.tv_r1cs_read.specs.Refusals.{read_refusal};
+ghost use Rattle.tv_r1cs_read.specs.declared.why.ReadRefusal.TheVariants.{Memory};
+
+use std::alloc::AllocFailed;
 use thiserror::Error;
+use tv_files::FileRefusal;
 
 /// What is wrong with a container, at a place of its bytes.
 #[derive(Clone, Copy, Debug, PartialEq, Eq, Error)]
@@ -50,4 +56,23 @@ pub enum ReadRefusal {
     /// Memory was wanting.
     #[error("out of memory")]
     Memory,
+}
+
+impl From<FileRefusal> for ReadRefusal {
+    ghost from_gives = { λ refusal read. read ≡ read_refusal refusal };
+
+    fn from(refusal: FileRefusal) -> ReadRefusal {
+        match refusal {
+            FileRefusal::Failed => ReadRefusal::Fault,
+            FileRefusal::Memory => ReadRefusal::Memory,
+        }
+    }
+}
+
+impl<T: Drop> From<AllocFailed<T>> for ReadRefusal {
+    ghost from_gives = { λ _ read. read ≡ Memory };
+
+    fn from(_: AllocFailed<T>) -> ReadRefusal {
+        ReadRefusal::Memory
+    }
 }
