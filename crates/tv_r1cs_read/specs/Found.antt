@@ -1,9 +1,9 @@
 -- What is kept of a container's sections.
-use Rattle.std.specs.Prelude.{◌≡◌, ℕ, List, length, Result, Ok, MatchResult}
+use Rattle.std.specs.Prelude.{◌≡◌, ℕ, ◌+◌, ◌≤◌, List, length, Some, Result, Ok, MatchResult}
 use Rattle.tv_r1cs_read.specs.declared.sections.Found.{Found}
 use Rattle.tv_r1cs_read.specs.declared.sections.Section.{Section}
 use Rattle.tv_r1cs_read.specs.declared.why.ReadRefusal.{ReadRefusal}
-use Rattle.tv_r1cs_read.specs.Places.{Fault}
+use Rattle.tv_r1cs_read.specs.Places.{Fault, places}
 use Rattle.tv_r1cs_read.specs.Reading.{Refuses}
 use Rattle.tv_r1cs_read.specs.Sections.{section_of}
 
@@ -16,3 +16,7 @@ abbrev pub FindsIn : Result (Found × ℕ) ReadRefusal → List ℕ → Result (
 FindsIn result file answer = MatchResult result
     (λ found. (sections : List Section) × (answer ≡ Ok sections) × (found.0 ≡ first_of sections) × (found.1 ≡ length file))
     (λ why. Refuses why answer)
+
+-- the content of each section that is looked up by its type fits in the file
+pub record AllFit (file : List ℕ) (sections : List Section) : Type 0 where
+  pub fits : (kind : ℕ) (section : Section) → section_of kind sections ≡ Some section → section.at + section.size ≤ places file

@@ -4,16 +4,9 @@ use Rattle.tv_core.specs.Constraints.{Combination, Constraint, System}
 use Rattle.tv_core.specs.declared.field.TheConstants.{P}
 use Rattle.tv_r1cs_read.specs.declared.why.ReadWhy.TheVariants.{OtherPrime, BadCount, WireRange, NotCanonical, Truncated, TooWide}
 use Rattle.tv_r1cs_read.specs.Places.{Fault, ◌>>=◌, wrong, unless, number, fit}
+use Rattle.tv_r1cs_read.specs.declared.header.Header.{Header}
 use Rattle.tv_r1cs_read.specs.declared.sections.Section.{Section}
 use Rattle.tv_r1cs_read.specs.Sections.{section_of, sections_of, wanted}
-
--- what section 1 counts, and where section 2 stands
-pub record Header : Type 0 where
-  pub wires : ℕ
-  pub outputs : ℕ
-  pub inputs : ℕ
-  pub constraints : ℕ
-  pub rows : Section
 
 -- a section 1 of this size says that the field is this one: the size of a number, 8, and the prime
 unfoldable pub this_field : List ℕ → ℕ → Section → Result (Unit {0}) Fault
@@ -23,28 +16,37 @@ this_field file wants one = do
   _ ← unless (not (one.size == wants)) one.at (BadCount one.size wants)
   unless (not (number file 8 (one.at + 4) == P)) one.at OtherPrime
 
--- section 3, where there is one, has eight bytes for each wire
-abbrev pub labels_fit : ℕ → Option Section → Result (Unit {0}) Fault
-labels_fit wires None = Ok tt
-labels_fit wires (Some three) = unless (not (three.size == 8 * wires)) three.at (BadCount three.size (8 * wires))
+-- what section 1 counts of wires, public outputs and inputs and constraints, and section 2
+abbrev pub counted : List ℕ → Section → Section → Header
+counted file one two = record {
+  wires = number file 4 (one.at + 12);
+  outputs = number file 4 (one.at + 16);
+  inputs = number file 4 (one.at + 20);
+  constraints = number file 4 (one.at + 36);
+  rows = two;
+}
+
+-- there is a wire for the constant 1 and each public number, and section 3, where there is one, has
+-- eight bytes for each wire
+abbrev pub checked : Header → Section → Option Section → Result Header Fault
+checked header one three = do
+  _ ← unless (nat_lt header.wires (1 + header.outputs + header.inputs)) one.at (BadCount header.wires (1 + header.outputs + header.inputs))
+  _ ← elim three [ None ↦ Ok (tt {0}) | Some labels ↦ unless (not (labels.size == 8 * header.wires)) labels.at (BadCount labels.size (8 * header.wires)) ]
+  Ok header
+
+-- everything but the constraints, from the sections
+unfoldable pub header_in : List ℕ → List Section → Result Header Fault
+header_in file sections = do
+  one ← wanted 1 file sections
+  two ← wanted 2 file sections
+  _ ← this_field file 40 one
+  checked (counted file one two) one (section_of 3 sections)
 
 -- everything but the constraints
 unfoldable pub header_of : List ℕ → Result Header Fault
 header_of file = do
   sections ← sections_of 3 0x73633172 1 file
-  one ← wanted 1 file sections
-  two ← wanted 2 file sections
-  _ ← this_field file 40 one
-  _ ← unless (nat_lt (number file 4 (one.at + 12)) (1 + number file 4 (one.at + 16) + number file 4 (one.at + 20)))
-        one.at (BadCount (number file 4 (one.at + 12)) (1 + number file 4 (one.at + 16) + number file 4 (one.at + 20)))
-  _ ← labels_fit (number file 4 (one.at + 12)) (section_of 3 sections)
-  Ok (record {
-    wires = number file 4 (one.at + 12);
-    outputs = number file 4 (one.at + 16);
-    inputs = number file 4 (one.at + 20);
-    constraints = number file 4 (one.at + 36);
-    rows = two;
-  })
+  header_in file sections
 
 -- a value read at a place of the file, and the place behind it
 pub record Read (A : Type 0) : Type 0 where

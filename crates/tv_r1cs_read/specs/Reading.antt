@@ -1,5 +1,5 @@
 -- What reading a file may answer and do, over any files.
-use Rattle.std.specs.Prelude.{◌≡◌, ℕ, ◌+◌, ◌≤◌, List, length, take, drop, Option, Some, None, Result, Ok, Err, MatchResult, option_and_then}
+use Rattle.std.specs.Prelude.{◌≡◌, ◌≢◌, ℕ, ◌+◌, ◌≤◌, List, length, take, drop, Option, Some, None, Result, Ok, Err, MatchResult, option_and_then}
 use Rattle.tv_files.specs.Outside.{Outside, OnlyReads, MissesOnly, Rose}
 use Rattle.tv_r1cs_read.specs.Places.{Fault, wrong}
 use Rattle.tv_r1cs_read.specs.declared.why.ReadRefusal.{ReadRefusal}
@@ -29,6 +29,10 @@ pub record Refuses {A : Type 0} (why : ReadRefusal) (answer : Result A Fault) : 
 -- a reader gives what the definition does, unless a read failed or memory ran out
 abbrev pub Gives : {A : Type 0} → Result A ReadRefusal → Result A Fault → Type 0
 Gives result answer = MatchResult result (λ value. answer ≡ Ok value) (λ why. Refuses why answer)
+
+-- a refusal that isn't a failed read
+pub record IsTold (why : ReadRefusal) : Type 0 where
+  pub told : why ≢ refusal.Fault
 
 -- bytes of a file, from a place on
 pub record Piece : Type 0 where

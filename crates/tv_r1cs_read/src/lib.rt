@@ -2,10 +2,12 @@
 //! row at a time, each the next constraint of `system_of` the whole file, or the file's first fault.
 #![tactic(auto)]
 
+mod header;
 mod sections;
 mod why;
 mod window;
 
-pub use sections::{Form, Found, Section};
+pub use header::{Header, this_field, wanted};
+pub use sections::{Form, Found, Section, find_sections};
 pub use why::{ReadRefusal, ReadWhy};
 pub use window::Window;
