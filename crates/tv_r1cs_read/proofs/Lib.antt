@@ -1,3 +1,4 @@
+pub mod Ahead
 pub mod Chain
 pub mod Pieces
 pub mod SectionLemmas

@@ -4,3 +4,4 @@ pub mod Refusals
 pub mod Sections
 pub mod Found
 pub mod R1cs
+pub mod Rows

@@ -3,11 +3,13 @@
 #![tactic(auto)]
 
 mod header;
+mod rows;
 mod sections;
 mod why;
 mod window;
 
 pub use header::{Header, this_field, wanted};
+pub use rows::{Row, Terms};
 pub use sections::{Form, Found, Section, find_sections};
 pub use why::{ReadRefusal, ReadWhy};
 pub use window::Window;

@@ -1,4 +1,4 @@
-ghost use Rattle.std.specs.Prelude.{◌≡◌, ℕ, ◌+◌, ◌≤◌, ◌<◌, ◌^◌, true, nat_le, Ok, IfOk, OnOk, MatchResult};
+ghost use Rattle.std.specs.Prelude.{◌≡◌, ℕ, ◌+◌, ◌*◌, ◌≤◌, ◌<◌, ◌^◌, true, nat_le, Ok, IfOk, OnOk, MatchResult};
 ghost use Rattle.std.specs.Prelude.{List, length, take, drop, Some};
 ghost use Rattle.tv_r1cs_read.specs.Places.{fit, number, places};
 ghost use Rattle.tv_r1cs_read.specs.Reading.{bytes_of, Looks, Stopped, Gives, Holds, IsPiece};
@@ -59,6 +59,19 @@ impl Window {
         ensures { (file : List ℕ) → IsPiece self.now file → result ≡ number file 8 at }
     {
         long_at(&self.bytes, (at - self.at) as usize)
+    }
+
+    /// How many whole terms of 12 bytes, the first of which it holds, the window holds from a place to
+    /// an end.
+    pub(crate) fn whole_terms(&self, at: u64, end: u64) -> u32
+        requires held { Holds self.now at 12 }
+        requires within { at + 12 ≤ end }
+        ensures some { 0 < result }
+        ensures held { Holds self.now at (12 * result) }
+        ensures within { at + 12 * result ≤ end }
+    {
+        let held = self.held as u64 - (at - self.at);
+        (held.min(end - at) / 12) as u32
     }
 
     // Whether the bytes at a place, so many, are held.
