@@ -5,9 +5,11 @@
 
 #[cfg(test)]
 mod examples;
+mod counts;
 mod field;
 mod inverse;
 mod prime;
 
+pub use counts::Counts;
 pub use field::{F, P};
 pub use prime::{p_cancels, p_is_prime, p_zero_product};

@@ -1,5 +1,6 @@
 pub mod Ahead
 pub mod Chain
+pub mod Constraints
 pub mod Pieces
 pub mod SectionLemmas
 pub mod Vectors

@@ -9,7 +9,7 @@ use Rattle.tv_word.specs.Word.{spelled}
 use Rattle.tv_files.specs.Outside.{Outside, Names}
 use Rattle.tv_files.specs.Calls.{Reads, Gives}
 use Rattle.tv_r1cs_read.specs.Places.{number, places}
-use Rattle.tv_r1cs_read.specs.Reading.{bytes_of, IsPiece, Holds}
+use Rattle.tv_r1cs_read.specs.Reading.{bytes_of, IsMissing, IsPiece, Holds}
 
 -- what a read that was answered put into the buffer, where the file is known
 pub read_gives : (start old new : Outside) (name file : List ℕ) (at : ℕ) (into : List ℕ) (count : ℕ) → Reads old new name at into (Ok count) →
@@ -71,3 +71,11 @@ ends_if_none file into at count gives some =
       (λ (none : count < 1). let zero : count ≡ 0 = omega arith in let past : length file ≤ at = omega (arith, gives.none zero) in grind (arith, nat_tests))
       (λ (more : 1 ≤ count). let here : at < length file = omega (arith, gives.inside) in grind (arith, nat_tests))
       (cases_lt count 1)
+
+-- a name that isn't there is not read
+pub read_there : (start old new : Outside) (name : List ℕ) (at : ℕ) (into : List ℕ) (count : ℕ) → Reads old new name at into (Ok count) →
+    old ≡ start → IsMissing start name → ⊥
+read_there start old new name at into count reads same missing =
+    let told : old.contents ≡ Some missing.files = rw same missing.told in
+    let fails = reads.missing missing.files told missing.none in
+    cc fails.0

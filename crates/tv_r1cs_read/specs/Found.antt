@@ -1,5 +1,5 @@
 -- What is kept of a container's sections.
-use Rattle.std.specs.Prelude.{◌≡◌, ℕ, ◌+◌, ◌≤◌, List, length, Some, Result, Ok, MatchResult}
+use Rattle.std.specs.Prelude.{◌≡◌, ℕ, ◌+◌, ◌^◌, ◌<◌, ◌≤◌, List, length, Some, IfSome, Result, Ok, MatchResult}
 use Rattle.tv_r1cs_read.specs.declared.sections.Found.{Found}
 use Rattle.tv_r1cs_read.specs.declared.sections.Section.{Section}
 use Rattle.tv_r1cs_read.specs.declared.why.ReadRefusal.{ReadRefusal}
@@ -20,3 +20,9 @@ FindsIn result file answer = MatchResult result
 -- the content of each section that is looked up by its type fits in the file
 pub record AllFit (file : List ℕ) (sections : List Section) : Type 0 where
   pub fits : (kind : ℕ) (section : Section) → section_of kind sections ≡ Some section → section.at + section.size ≤ places file
+
+-- the places of each section are below 2^64
+pub record AllEnd (found : Found) : Type 0 where
+  pub one : IfSome found.one (λ section. section.at + section.size < 2 ^ 64)
+  pub two : IfSome found.two (λ section. section.at + section.size < 2 ^ 64)
+  pub three : IfSome found.three (λ section. section.at + section.size < 2 ^ 64)

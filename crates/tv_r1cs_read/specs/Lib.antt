@@ -5,3 +5,4 @@ pub mod Sections
 pub mod Found
 pub mod R1cs
 pub mod Rows
+pub mod Progress

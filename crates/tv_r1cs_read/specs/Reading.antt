@@ -1,6 +1,6 @@
 -- What reading a file may answer and do, over any files.
 use Rattle.std.specs.Prelude.{◌≡◌, ◌≢◌, ℕ, ◌+◌, ◌≤◌, List, length, take, drop, Option, Some, None, Result, Ok, Err, MatchResult, option_and_then}
-use Rattle.tv_files.specs.Outside.{Outside, OnlyReads, MissesOnly, Rose}
+use Rattle.tv_files.specs.Outside.{Names, Outside, OnlyReads, MissesOnly, Rose}
 use Rattle.tv_r1cs_read.specs.Places.{Fault, wrong}
 use Rattle.tv_r1cs_read.specs.declared.why.ReadRefusal.{ReadRefusal}
 use Rattle.tv_r1cs_read.specs.declared.why.ReadRefusal.TheVariants as refusal
@@ -9,6 +9,12 @@ use Rattle.tv_r1cs_read.specs.declared.why.ReadWhy.{ReadWhy}
 -- the bytes that a name stands for, where contents are told and the name is there
 unfoldable pub bytes_of : Outside → List ℕ → Option (List ℕ)
 bytes_of outside name = option_and_then (λ files. files name) outside.contents
+
+-- contents are told, and the name isn't there
+pub record IsMissing (outside : Outside) (name : List ℕ) : Type 0 where
+  pub files : Names
+  pub told : outside.contents ≡ Some files
+  pub none : files name ≡ None
 
 -- reading stopped with this refusal, from the outside before it to the outside after it: files and
 -- words said stay and no count falls, a fault is a fault of a read, and `absent` changes only where this

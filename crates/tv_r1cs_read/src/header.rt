@@ -1,7 +1,7 @@
-ghost use Rattle.std.specs.Prelude.{◌≡◌, ℕ, ◌+◌, ◌*◌, ◌≤◌, ◌<◌, ◌^◌, List, length, Some, Ok, IfOk, IfErr, OnOk, MatchResult};
-ghost use Rattle.tv_r1cs_read.specs.Found.{first_of, AllFit};
+ghost use Rattle.std.specs.Prelude.{◌≡◌, ℕ, ◌+◌, ◌*◌, ◌≤◌, ◌<◌, ◌^◌, List, [], length, Some, Ok, Err, IfOk, IfErr, OnOk, MatchResult};
+ghost use Rattle.tv_r1cs_read.specs.Found.{first_of, AllEnd, AllFit};
 ghost use Rattle.tv_r1cs_read.specs.Places.{places};
-ghost use Rattle.tv_r1cs_read.specs.Reading.{bytes_of, Looks, Refuses, Gives, IsTold, IsPiece};
+ghost use Rattle.tv_r1cs_read.specs.Reading.{bytes_of, Looks, Refuses, Gives, IsMissing, IsTold, IsPiece};
 ghost use Rattle.tv_r1cs_read.specs.R1cs.{this_field, checked, counted, header_in, header_of};
 ghost use Rattle.tv_r1cs_read.specs.Sections.{section_of, wanted};
 ghost use Rattle.tv_r1cs_read.specs.declared.sections.Section.{Section};
@@ -44,7 +44,15 @@ pub(crate) fn read_header<D: Files>(
         (file : List ℕ) → bytes_of (D.seen files.old) name.now ≡ Some file →
             IsPiece window.old file → Gives result (header_of file)
     }
+    ensures within {
+        (file : List ℕ) → bytes_of (D.seen files.old) name.now ≡ Some file → IsPiece window.old file →
+            IfOk result (λ header. header.rows.at + header.rows.size ≤ places file)
+    }
+    ensures ends { IfOk result (λ header. header.rows.at + header.rows.size < 2 ^ 64) }
     ensures looks { Looks (D.seen files.old) (D.seen files.new) name.now result }
+    ensures missing {
+        IsMissing (D.seen files.old) name.now → window.old.bytes ≡ [] → result ≡ Err ReadRefusal.Fault
+    }
 {
     let (found, end) = find_sections(files, name, window, &R1CS)?;
     header_in(files, name, window, &found, end)
@@ -59,6 +67,7 @@ fn header_in<D: Files>(
     found: &Found,
     end: u64,
 ) -> Result<Header, ReadRefusal>
+    requires { AllEnd found.now }
     ensures piece {
         (file : List ℕ) → bytes_of (D.seen files.old) name.now ≡ Some file →
             IsPiece window.old file → OnOk result (IsPiece window.new file)
@@ -68,6 +77,11 @@ fn header_in<D: Files>(
             end ≡ length file → (sections : List Section) → found.now ≡ first_of sections →
                 AllFit file sections → Gives result (header_in file sections)
     }
+    ensures within {
+        (file : List ℕ) → (sections : List Section) → found.now ≡ first_of sections → AllFit file sections →
+            IfOk result (λ header. header.rows.at + header.rows.size ≤ places file)
+    }
+    ensures ends { IfOk result (λ header. header.rows.at + header.rows.size < 2 ^ 64) }
     ensures looks { Looks (D.seen files.old) (D.seen files.new) name.now result }
 {
     let one = wanted(found.one, 1, end)?;
@@ -159,6 +173,7 @@ fn counted<D: Files>(
             one.now.at + 40 ≤ places file →
                 MatchResult result (λ header. counted file one.now rows ≡ header) (λ why. Refuses {A = ℕ} why (Ok 0))
     }
+    ensures rows { IfOk result (λ header. header.rows ≡ rows) }
     ensures looks { Looks (D.seen files.old) (D.seen files.new) name.now result }
 {
     window.fit(files, name, one.at, 40)?;
@@ -175,6 +190,7 @@ fn counted<D: Files>(
 // eight bytes for each wire.
 fn checked(header: Header, one: &Section, three: Option<Section>) -> Result<Header, ReadRefusal>
     ensures gives { Gives result (checked header one.now three) }
+    ensures same { IfOk result (λ checked. checked ≡ header) }
     ensures told { IfErr result IsTold }
 {
     let wires = u64::from(header.wires);

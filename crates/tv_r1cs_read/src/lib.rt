@@ -3,12 +3,16 @@
 #![tactic(auto)]
 
 mod header;
+mod progress;
+mod reader;
 mod rows;
 mod sections;
 mod why;
 mod window;
 
 pub use header::{Header, this_field, wanted};
+pub use progress::Progress;
+pub use reader::{SystemReader, Unread};
 pub use rows::{Row, Terms};
 pub use sections::{Form, Found, Section, find_sections};
 pub use why::{ReadRefusal, ReadWhy};

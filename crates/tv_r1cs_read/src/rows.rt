@@ -93,6 +93,7 @@ impl Row {
 }
 
 /// What bounds the terms: each wire is below `wires`, and section 2 ends at `end`.
+#[derive(Clone, Copy)]
 pub(crate) struct Bounds {
     pub(crate) wires: u32,
     pub(crate) end: u64,

@@ -1,8 +1,8 @@
 ghost use Rattle.std.specs.Prelude.{◌≡◌, ℕ, ◌+◌, ◌≤◌, ◌<◌, ◌^◌, true, nat_le, List, [], ◌∷◌, ◌++◌, length, Some, Ok, IfOk, OnOk, MatchResult};
 ghost use Rattle.tv_r1cs_read.specs.Places.{fit, number, places};
-ghost use Rattle.tv_r1cs_read.specs.Reading.{bytes_of, Looks, Refuses, Gives, Holds, IsPiece};
+ghost use Rattle.tv_r1cs_read.specs.Reading.{bytes_of, Looks, Refuses, Gives, Holds, IsMissing, IsPiece};
 ghost use Rattle.tv_r1cs_read.specs.Sections.{section_at, sections_in, sections_from, sections_of, section_of, stands_already, wanted};
-ghost use Rattle.tv_r1cs_read.specs.Found.{first_of, FindsIn};
+ghost use Rattle.tv_r1cs_read.specs.Found.{first_of, AllEnd, FindsIn};
 ghost use Rattle.tv_r1cs_read.specs.declared.sections.Section.{Section};
 
 use crate::why::{ReadRefusal, ReadWhy};
@@ -45,7 +45,8 @@ pub struct Found {
 impl Found {
     // No sections.
     fn none() -> Found
-        ensures { result ≡ first_of [] }
+        ensures found { result ≡ first_of [] }
+        ensures ends { AllEnd result }
     {
         Found {
             one: None,
@@ -71,8 +72,9 @@ impl Found {
     // These, and a section behind them.
     #[tactic(auto, using(crate::proofs::SectionLemmas::of_appended))]
     fn and(self, section: Section) -> Found
-        ensures { (sections : List Section) → self ≡ first_of sections →
+        ensures found { (sections : List Section) → self ≡ first_of sections →
             result ≡ first_of (sections ++ section ∷ []) }
+        ensures ends { AllEnd self → section.at + section.size < 2 ^ 64 → AllEnd result }
     {
         Found {
             one: self.one.or(section.of_kind(1)),
@@ -102,7 +104,11 @@ pub fn find_sections<D: Files>(
         (file : List ℕ) → bytes_of (D.seen files.old) name.now ≡ Some file → IsPiece window.old file →
             FindsIn result file (sections_of form.now.singles form.now.magic form.now.version file)
     }
+    ensures ends { IfOk result (λ found. AllEnd found.0) }
     ensures looks { Looks (D.seen files.old) (D.seen files.new) name.now result }
+    ensures missing {
+        IsMissing (D.seen files.old) name.now → window.old.bytes ≡ [] → result ≡ Err ReadRefusal.Fault
+    }
 {
     let count = section_count(files, name, window, form)?;
     next_sections(files, name, window, form.singles, count)
@@ -141,6 +147,9 @@ fn section_count<D: Files>(
             OnOk result (12 ≤ places file)
     }
     ensures looks { Looks (D.seen files.old) (D.seen files.new) name.now result }
+    ensures missing {
+        IsMissing (D.seen files.old) name.now → window.old.bytes ≡ [] → result ≡ Err ReadRefusal.Fault
+    }
 {
     window.fit(files, name, 0, 4)?;
     if window.word(0) != form.magic {
@@ -178,6 +187,7 @@ fn next_sections<D: Files>(
         (file : List ℕ) → bytes_of (D.seen files.old) name.now ≡ Some file → IsPiece window.old file →
             12 ≤ places file → FindsIn result file (sections_from singles file count 12 [])
     }
+    ensures ends { IfOk result (λ found. AllEnd found.0) }
     ensures looks { Looks (D.seen files.old) (D.seen files.new) name.now result }
 {
     let mut found = Found::none();

@@ -1,7 +1,7 @@
 ghost use Rattle.std.specs.Prelude.{◌≡◌, ℕ, ◌+◌, ◌*◌, ◌≤◌, ◌<◌, ◌^◌, true, nat_le, Ok, IfOk, OnOk, MatchResult};
-ghost use Rattle.std.specs.Prelude.{List, length, take, drop, Some};
+ghost use Rattle.std.specs.Prelude.{List, [], length, take, drop, Some};
 ghost use Rattle.tv_r1cs_read.specs.Places.{fit, number, places};
-ghost use Rattle.tv_r1cs_read.specs.Reading.{bytes_of, Looks, Stopped, Gives, Holds, IsPiece};
+ghost use Rattle.tv_r1cs_read.specs.Reading.{bytes_of, Looks, Stopped, Gives, Holds, IsMissing, IsPiece};
 ghost use Rattle.tv_r1cs_read.specs.Refusals.{read_refusal};
 ghost use Rattle.tv_word.specs.Word.{spelled};
 
@@ -36,7 +36,8 @@ impl Model for Window {
 impl Window {
     /// Nothing was read.
     pub fn new() -> Window
-        ensures { (file : List ℕ) → IsPiece result file }
+        ensures none { result.bytes ≡ [] }
+        ensures piece { (file : List ℕ) → IsPiece result file }
     {
         Window {
             bytes: [0; PIECE],
@@ -105,6 +106,9 @@ impl Window {
                 IsPiece self.old file → Gives result (Ok (nat_le (at + size) (places file)))
         }
         ensures looks { Looks (D.seen files.old) (D.seen files.new) name.now result }
+        ensures missing {
+            IsMissing (D.seen files.old) name.now → self.old.bytes ≡ [] → at + size < 2 ^ 64 → result ≡ Err ReadRefusal.Fault
+        }
     {
         if size as u64 > u64::MAX - at {
             return Ok(false);
@@ -138,6 +142,9 @@ impl Window {
                 IsPiece self.old file → Gives result (fit size at (places file))
         }
         ensures looks { Looks (D.seen files.old) (D.seen files.new) name.now result }
+        ensures missing {
+            IsMissing (D.seen files.old) name.now → self.old.bytes ≡ [] → at + size < 2 ^ 64 → result ≡ Err ReadRefusal.Fault
+        }
     {
         if self.reach(files, name, at, size)? {
             return Ok(());
@@ -174,6 +181,7 @@ fn fill<D: Files>(
             (λ _. D.seen files.new ≡ D.seen files.old)
             (λ why. Stopped (D.seen files.old) (D.seen files.new) name.now (read_refusal why))
     }
+    ensures missing { IsMissing (D.seen files.old) name.now → result ≡ Err FileRefusal.Failed }
 {
     let mut held = 0;
     while held < size {

@@ -1,6 +1,6 @@
 use Rattle.std.proofs.Common.{◌≤◌, length, arith, rules, refl}
 use Rattle.std.proofs.lemmas.List.{length-take-le}
-use Rattle.tv_r1cs_read.proofs.Pieces.{read_gives, piece_grows}
+use Rattle.tv_r1cs_read.proofs.Pieces.{read_gives, read_there, piece_grows}
 use Rattle.tv_r1cs_read.proofs.window.fill.Goals as goal
 
 pub returns-then-count-eq0-clause-end : goal.returns-then-count-eq0-clause-end
@@ -11,6 +11,7 @@ returns-then-count-eq0-clause-end g c = λ file told below.
 pub loop-held-preserved : goal.loop-held-preserved
 loop-held-preserved g c = record {
     outside = search rules;
+    there = λ missing. absurd (read_there _ _ _ _ _ _ _ c.in_ok-count.ensures c.loop-held.invariant.outside missing);
     within = omega (arith, c.in_ok-count.ensures.within, c.read.auto.into);
     front = λ file told.
         let gives = read_gives _ _ _ _ file _ _ _ c.in_ok-count.ensures c.loop-held.invariant.outside told in
