@@ -12,7 +12,7 @@ use Rattle.tv_r1cs_read.specs.R1cs.{counted, this_field, checked, header_in}
 use Rattle.tv_r1cs_read.specs.Found.{AllFit}
 use Rattle.tv_r1cs_read.specs.Reading.{Refuses}
 use Rattle.tv_r1cs_read.specs.Sections.{section_of, stands_already, section_at, sections_in, sections_from, sections_of, wanted}
-use Rattle.tv_r1cs_read.proofs.Chain.{refuses_first}
+use Rattle.tv_r1cs_read.proofs.Chain.{made, refuses_first}
 
 -- the first section of a type among sections and one behind them
 pub section_of-append : (kind : ℕ) (sections : List Section) (section : Section) →
@@ -95,12 +95,7 @@ AllFit-push file sections section fit more = record { fits = λ kind found e. by
     by_look_up kind found None is true e = let here : Some section ≡ Some found = rw is at e in let one : section ≡ found = cc in rw (← one) more
     by_look_up kind found None is false e = let none : None ≡ Some found = rw is at e in cc
 
--- a step that was made gave what the answer was made of
-made : {A B : Type 0} (first : Result A Fault) (next : A → Result B Fault) (value : B) → first >>= next ≡ Ok value →
-    (part : A) × (first ≡ Ok part) × (next part ≡ Ok value)
-made (Ok part) next value e = (part, refl, e)
-made (Err fault) next value e = cc
-
+-- the sections behind those that fit, fit
 sections_from-fit : (singles n at : ℕ) (file : List ℕ) (sections list : List Section) → AllFit file sections →
     sections_from singles file n at sections ≡ Ok list → AllFit file list
 unfolding sections_from

@@ -6,3 +6,4 @@ pub mod Found
 pub mod R1cs
 pub mod Rows
 pub mod Progress
+pub mod Survey

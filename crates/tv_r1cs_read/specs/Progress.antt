@@ -53,10 +53,10 @@ counts_of reached = record {
   terms = reached.terms;
 }
 
--- reading went on by a row, or nothing was ahead and all stayed
-abbrev pub IsNext : Bool → Row → Reached → Reached → Type 0
-IsNext true row old new = new.terms ≡ old.terms + terms_in row
-IsNext false row old new = new.terms ≡ old.terms
+-- reading went on by a row, or nothing was left
+abbrev pub WentOn : Bool → Row → Reached → Reached → Type 0
+WentOn true row old new = (new.terms ≡ old.terms + terms_in row) × (new.left + 1 ≡ old.left)
+WentOn false row old new = (new.terms ≡ old.terms) × (new.left ≡ old.left)
 
 -- the constraints ahead begin with this row, or there are none
 abbrev pub GivesNext : Bool → Row → Result (List Constraint) Fault → Result (List Constraint) Fault → Type 0
@@ -65,7 +65,11 @@ GivesNext true row before after = before ≡ (do
   Ok (constraint_of row ∷ others))
 GivesNext false row before after = (before ≡ Ok []) × (after ≡ Ok [])
 
--- the constraints ahead begin with this one, or there are none
+-- the same of a row that was given, or none
+abbrev pub WentOnBy : Option Row → Reached → Reached → Type 0
+WentOnBy (Some row) old new = WentOn true row old new
+WentOnBy None old new = (new.terms ≡ old.terms) × (new.left ≡ old.left)
+
 abbrev pub GivesRow : Option Row → Result (List Constraint) Fault → Result (List Constraint) Fault → Type 0
 GivesRow (Some row) before after = GivesNext true row before after
 GivesRow None before after = (before ≡ Ok []) × (after ≡ Ok [])

@@ -12,7 +12,7 @@ mod window;
 
 pub use header::{Header, this_field, wanted};
 pub use progress::Progress;
-pub use reader::{SystemReader, Unread};
+pub use reader::{SystemReader, Unread, survey};
 pub use rows::{Row, Terms};
 pub use sections::{Form, Found, Section, find_sections};
 pub use why::{ReadRefusal, ReadWhy};

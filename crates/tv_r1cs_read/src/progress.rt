@@ -1,5 +1,5 @@
 ghost use Rattle.std.specs.Prelude.{◌≡◌, ℕ, ◌+◌, ◌≤◌, List, [], Some, None, Ok, Err, IfOk, IfErr, OnOk, MatchResult};
-ghost use Rattle.tv_r1cs_read.specs.Progress.{ahead, counts_of, Follows, IsBegun, IsNext, GivesNext};
+ghost use Rattle.tv_r1cs_read.specs.Progress.{ahead, counts_of, Follows, IsBegun, WentOn, GivesNext};
 ghost use Rattle.tv_r1cs_read.specs.R1cs.{header_of};
 ghost use Rattle.tv_r1cs_read.specs.Reading.{bytes_of, Looks, Refuses, IsMissing, IsTold};
 ghost use Rattle.tv_r1cs_read.specs.Rows.{terms_in};
@@ -84,7 +84,7 @@ impl Progress {
                 (λ more. GivesNext more row.new (ahead self.old file) (ahead self.new file) × Follows self.new file)
                 (λ why. Refuses why (ahead self.old file))
         }
-        ensures counts { IfOk result (λ more. IsNext more row.new self.old self.new) }
+        ensures counts { IfOk result (λ more. WentOn more row.new self.old self.new) }
         ensures header { self.new.header ≡ self.old.header }
         ensures again { (why : ReadRefusal) → self.old.stopped ≡ Some why →
             (result ≡ Err why) × (self.new ≡ self.old) × (D.seen files.new ≡ D.seen files.old) }
@@ -115,7 +115,7 @@ impl Progress {
                 (λ more. GivesNext more row.new (ahead self.old file) (ahead self.new file) × Follows self.new file)
                 (λ why. Refuses why (ahead self.old file))
         }
-        ensures counts { IfOk result (λ more. IsNext more row.new self.old self.new) }
+        ensures counts { IfOk result (λ more. WentOn more row.new self.old self.new) }
         ensures header { self.new.header ≡ self.old.header }
         ensures goes { self.new.stopped ≡ self.old.stopped }
         ensures looks { Looks (D.seen files.old) (D.seen files.new) name.now result }

@@ -1,8 +1,8 @@
 ghost use Rattle.std.specs.Prelude.{◌≡◌, ℕ, List, Some, None, Ok, Err, Option, IfOk, IfErr, OnOk, MatchResult};
-ghost use Rattle.tv_files.specs.Outside.{OnlyReads};
-ghost use Rattle.tv_r1cs_read.specs.Progress.{ahead, counts_of, Follows, IsBegun, GivesRow};
-ghost use Rattle.tv_r1cs_read.specs.R1cs.{header_of, system_of};
+ghost use Rattle.tv_r1cs_read.specs.Progress.{ahead, counts_of, Follows, IsBegun, WentOnBy, GivesRow};
+ghost use Rattle.tv_r1cs_read.specs.R1cs.{header_of};
 ghost use Rattle.tv_r1cs_read.specs.Reading.{bytes_of, Looks, Stopped, Gives, Refuses, IsMissing};
+ghost use Rattle.tv_r1cs_read.specs.Survey.{survey_of};
 ghost use Rattle.tv_r1cs_read.specs.declared.why.ReadRefusal.{ReadRefusal};
 
 use crate::progress::Progress;
@@ -89,6 +89,7 @@ impl<'a, D: Files> SystemReader<'a, D> {
                 (λ row. GivesRow row (ahead self.old.progress file) (ahead self.new.progress file) × Follows self.new.progress file)
                 (λ why. Refuses why (ahead self.old.progress file))
         }
+        ensures counts { IfOk result (λ row. WentOnBy row self.old.progress self.new.progress) }
         ensures header { self.new.progress.header ≡ self.old.progress.header }
         ensures again { (why : ReadRefusal) → self.old.progress.stopped ≡ Some why →
             (result ≡ Err why) × (self.new.progress ≡ self.old.progress) × (D.seen self.new.files.now ≡ D.seen self.old.files.now) }
@@ -113,4 +114,26 @@ impl<'a, D: Files> SystemReader<'a, D> {
     {
         self.spare = row;
     }
+}
+
+/// Reads a system's file to its end, and answers what the system counts.
+///
+/// `Ok` comes exactly for a file that holds a system, and `Bad` tells the first fault of another one.
+/// `Fault` comes only where a read failed, and a missing name is such a fault. Takes one pass, and
+/// memory for one constraint.
+pub fn survey<D: Files>(alloc: Global, files: &mut D, name: &str) -> Result<Counts, ReadRefusal>
+    ensures gives {
+        (file : List ℕ) → bytes_of (D.seen files.old) name.now ≡ Some file → Gives result (survey_of file)
+    }
+    ensures looks { Looks (D.seen files.old) (D.seen files.new) name.now result }
+    ensures missing { IsMissing (D.seen files.old) name.now → result ≡ Err ReadRefusal.Fault }
+{
+    let mut reader = match SystemReader::begin(alloc, files, name) {
+        Ok(reader) => reader,
+        Err(unread) => return Err(unread.why),
+    };
+    while let Some(row) = reader.next()? {
+        reader.reuse(row);
+    }
+    Ok(reader.counts())
 }
