@@ -1,0 +1,94 @@
+-- Constraints that were read, and those ahead.
+use Rattle.std.proofs.Common.{◌≡◌, ℕ, ◌+◌, ◌-◌, Bool, true, false, cond, eqb, zero, suc, List, [], ◌∷◌, ◌++◌, length, Result, Ok, Err, append_assoc, append-nil, arith, ap, refl, sym, ◌∙◌}
+use Rattle.std.proofs.lemmas.List.{length-map}
+use Rattle.std.proofs.lemmas.List.Sums.{sum_by-append}
+use Rattle.std.specs.List.{sum_by}
+use Rattle.tv_core.specs.Constraints.{Constraint}
+use Rattle.tv_r1cs_read.specs.declared.rows.Row.{Row}
+use Rattle.tv_r1cs_read.specs.declared.sections.Section.{Section}
+use Rattle.tv_r1cs_read.specs.declared.why.ReadRefusal.{ReadRefusal}
+use Rattle.tv_r1cs_read.specs.declared.why.ReadWhy.TheVariants.{BadCount}
+use Rattle.tv_r1cs_read.specs.Places.{Fault, ◌>>=◌, wrong}
+use Rattle.tv_r1cs_read.specs.Progress.{Reached, IsBegun, ahead, counts_of}
+use Rattle.tv_r1cs_read.specs.R1cs.{constraint_at, constraints_from, header_of, system_of}
+use Rattle.tv_r1cs_read.specs.Reading.{Refuses}
+use Rattle.tv_r1cs_read.specs.Rows.{constraint_of, terms_in}
+use Rattle.tv_r1cs_read.specs.Survey.{HasRead, terms_of, survey_of}
+use Rattle.tv_r1cs_read.proofs.Chain.{made, refuses_first}
+
+-- at first none was read
+pub read_none : (all : Result (List Constraint) Fault) → HasRead [] all all
+read_none (Ok list) = record { same = refl }
+read_none (Err fault) = record { same = refl }
+
+-- the next one goes behind those that were read
+pub read_more : (done : List Constraint) (all before after : Result (List Constraint) Fault) (next : Constraint) → HasRead done all before →
+    before ≡ (do
+      others ← after
+      Ok (next ∷ others)) → HasRead (done ++ next ∷ []) all after
+read_more done all before (Ok others) next read is = record { same = read.same ∙ rw (is, append_assoc done (next ∷ []) others) refl }
+read_more done all before (Err fault) next read is = record { same = read.same ∙ rw is refl }
+
+-- in the end all were read
+pub read_all : (done : List Constraint) (all ahead : Result (List Constraint) Fault) → HasRead done all ahead → ahead ≡ Ok [] → all ≡ Ok done
+read_all done all ahead read none = read.same ∙ rw (none, append-nil) refl
+
+-- a refusal ahead is one of all
+pub read_refused : (done : List Constraint) (all ahead : Result (List Constraint) Fault) (why : ReadRefusal) → HasRead done all ahead →
+    Refuses why ahead → Refuses why all
+read_refused done all ahead why read refuses = rw read.same (refuses_first why _ _ refuses)
+
+-- a system is its header and its constraints
+pub system_of-read : (file : List ℕ) (begun : Reached) (done : List Constraint) → header_of file ≡ Ok begun.header → IsBegun begun →
+    ahead begun file ≡ Ok done →
+    system_of file ≡ Ok (record { wires = begun.header.wires; outputs = begun.header.outputs; inputs = begun.header.inputs; constraints = done })
+unfolding system_of
+system_of-read file begun done header_is start all =
+    let list = rw (start.left, start.at) at all in
+    rw (header_is, list) refl
+
+-- what is refused of the header or of a constraint is refused of the system
+pub system_of-header : (file : List ℕ) (why : ReadRefusal) → Refuses why (header_of file) → Refuses why (system_of file)
+unfolding system_of
+system_of-header file why refuses = refuses_first why _ _ refuses
+
+pub system_of-refuses : (file : List ℕ) (begun : Reached) (why : ReadRefusal) → header_of file ≡ Ok begun.header → IsBegun begun →
+    Refuses why (ahead begun file) → Refuses why (system_of file)
+unfolding system_of
+system_of-refuses file begun why header_is start refuses =
+    let list = rw (start.left, start.at) at refuses in
+    rw header_is (refuses_first why _ _ list)
+
+-- there are as many constraints as are counted
+constraints_from-length : (file : List ℕ) (wires n at : ℕ) (rows : Section) (list : List Constraint) →
+    constraints_from file wires rows n at ≡ Ok list → length list ≡ n
+unfolding constraints_from
+constraints_from-length file wires zero at rows list is = by_test (eqb at (rows.at + rows.size)) is
+  where
+    by_test : (ends : Bool) → cond ends (Ok []) (wrong rows.at (BadCount rows.size (at - rows.at))) ≡ Ok list → length list ≡ 0
+    by_test true e = let none : [] ≡ list = cc in ap length (sym none)
+    by_test false e = cc
+constraints_from-length file wires (suc n) at rows list is =
+    let first = made (constraint_at file wires (rows.at + rows.size) at) (λ first. constraints_from file wires rows n first.next >>= (λ others. Ok (first.value ∷ others))) list is in
+    let rest = made (constraints_from file wires rows n first.0.next) (λ others. Ok (first.0.value ∷ others)) list first.2 in
+    let whole : first.0.value ∷ rest.0 ≡ list = cc in
+    ap length (sym whole) ∙ ap suc (constraints_from-length file wires n first.0.next rows rest.0 rest.1)
+
+-- the terms of the constraints that were read, and of one more
+pub terms_more : (done : List Constraint) (row : Row) → sum_by terms_of (done ++ constraint_of row ∷ []) ≡ sum_by terms_of done + terms_in row
+terms_more done row =
+    sum_by-append terms_of done (constraint_of row ∷ [])
+    ∙ omega (arith, length-map {B = ℕ × ℕ} row.a (λ (t : ℕ × ℕ). (t.1, t.0)), length-map {B = ℕ × ℕ} row.b (λ (t : ℕ × ℕ). (t.1, t.0)), length-map {B = ℕ × ℕ} row.c (λ (t : ℕ × ℕ). (t.1, t.0)))
+
+-- the counts of a system of which all constraints were read
+pub survey_of-read : (file : List ℕ) (begun reached : Reached) (done : List Constraint) → header_of file ≡ Ok begun.header → IsBegun begun →
+    ahead begun file ≡ Ok done → reached.header ≡ begun.header → reached.terms ≡ sum_by terms_of done → survey_of file ≡ Ok (counts_of reached)
+unfolding survey_of
+survey_of-read file begun reached done header_is start all same counted =
+    let count : length done ≡ begun.header.constraints = constraints_from-length file begun.header.wires begun.left begun.at begun.header.rows done all ∙ start.left in
+    rw (system_of-read file begun done header_is start all, count, same, counted) refl
+
+-- what is refused of a system is refused of its counts
+pub survey_of-refuses : (file : List ℕ) (why : ReadRefusal) → Refuses why (system_of file) → Refuses why (survey_of file)
+unfolding survey_of
+survey_of-refuses file why refuses = refuses_first why _ _ refuses

@@ -1,0 +1,75 @@
+-- How far reading of a system has come, and what is ahead.
+use Rattle.std.specs.Prelude.{◌≡◌, ℕ, ◌+◌, ◌-◌, ◌*◌, ◌^◌, ◌<◌, ◌≤◌, Bool, true, false, List, [], ◌∷◌, Option, Some, None, Result, Ok}
+use Rattle.tv_core.specs.Constraints.{Constraint}
+use Rattle.tv_core.specs.declared.lines.Counts.{Counts}
+use Rattle.tv_r1cs_read.specs.declared.header.Header.{Header}
+use Rattle.tv_r1cs_read.specs.declared.rows.Row.{Row}
+use Rattle.tv_r1cs_read.specs.declared.why.ReadRefusal.{ReadRefusal}
+use Rattle.tv_r1cs_read.specs.Places.{Fault, ◌>>=◌, places}
+use Rattle.tv_r1cs_read.specs.Reading.{Piece, IsPiece}
+use Rattle.tv_r1cs_read.specs.R1cs.{constraints_from}
+use Rattle.tv_r1cs_read.specs.Rows.{constraint_of, terms_in}
+
+-- what is known of the file: its header, and the piece of it that was read last; the place of the next
+-- constraint, how many are left, and how many terms those had that were given; and whether reading stopped
+pub record Reached : Type 0 where
+  pub header : Header
+  pub piece : Piece
+  pub at : ℕ
+  pub left : ℕ
+  pub terms : ℕ
+  pub stopped : Option ReadRefusal
+
+-- the next constraint's place is in section 2, whose places are below 2^64
+pub record IsWithin (reached : Reached) : Type 0 where
+  pub within : reached.at ≤ reached.header.rows.at + reached.header.rows.size
+  pub ends : reached.header.rows.at + reached.header.rows.size < 2 ^ 64
+  pub counted : reached.header.rows.at + 12 * reached.terms ≤ reached.at
+
+-- no constraint was read
+pub record IsBegun (reached : Reached) : Type 0 where
+  pub at : reached.at ≡ reached.header.rows.at
+  pub left : reached.left ≡ reached.header.constraints
+  pub terms : reached.terms ≡ 0
+  pub stopped : reached.stopped ≡ None
+
+-- reading is on in this file
+pub record Follows (reached : Reached) (file : List ℕ) : Type 0 where
+  pub piece : IsPiece reached.piece file
+  pub within : reached.header.rows.at + reached.header.rows.size ≤ places file
+  pub on : reached.stopped ≡ None
+
+-- the constraints ahead, or the first fault in them
+abbrev pub ahead : Reached → List ℕ → Result (List Constraint) Fault
+ahead reached file = constraints_from file reached.header.wires reached.header.rows reached.left reached.at
+
+-- what the system counts, and the terms of the rows given
+abbrev pub counts_of : Reached → Counts
+counts_of reached = record {
+  wires = reached.header.wires;
+  outputs = reached.header.outputs;
+  inputs = reached.header.inputs;
+  constraints = reached.header.constraints;
+  terms = reached.terms;
+}
+
+-- reading went on by a row, or nothing was left
+abbrev pub WentOn : Bool → Row → Reached → Reached → Type 0
+WentOn true row old new = (new.terms ≡ old.terms + terms_in row) × (new.left + 1 ≡ old.left)
+WentOn false row old new = (new.terms ≡ old.terms) × (new.left ≡ old.left)
+
+-- the constraints ahead begin with this row, or there are none
+abbrev pub GivesNext : Bool → Row → Result (List Constraint) Fault → Result (List Constraint) Fault → Type 0
+GivesNext true row before after = before ≡ (do
+  others ← after
+  Ok (constraint_of row ∷ others))
+GivesNext false row before after = (before ≡ Ok []) × (after ≡ Ok [])
+
+-- the same of a row that was given, or none
+abbrev pub WentOnBy : Option Row → Reached → Reached → Type 0
+WentOnBy (Some row) old new = WentOn true row old new
+WentOnBy None old new = (new.terms ≡ old.terms) × (new.left ≡ old.left)
+
+abbrev pub GivesRow : Option Row → Result (List Constraint) Fault → Result (List Constraint) Fault → Type 0
+GivesRow (Some row) before after = GivesNext true row before after
+GivesRow None before after = (before ≡ Ok []) × (after ≡ Ok [])

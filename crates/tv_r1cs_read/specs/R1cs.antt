@@ -1,0 +1,96 @@
+-- The constraint system that an r1cs file holds, version 1 of the binary format, or the file's first fault.
+use Rattle.std.specs.Prelude.{ℕ, zero, suc, ◌+◌, ◌-◌, ◌*◌, Bool, not, List, [], ◌∷◌, length, Option, Some, None, Result, Ok, Err, nat_lt, nat_le, ◌==◌, if◌then◌else◌}
+use Rattle.tv_core.specs.Constraints.{Combination, Constraint, System}
+use Rattle.tv_core.specs.declared.field.TheConstants.{P}
+use Rattle.tv_r1cs_read.specs.declared.why.ReadWhy.TheVariants.{OtherPrime, BadCount, WireRange, NotCanonical, Truncated, TooWide}
+use Rattle.tv_r1cs_read.specs.Places.{Fault, ◌>>=◌, wrong, unless, number, fit}
+use Rattle.tv_r1cs_read.specs.declared.header.Header.{Header}
+use Rattle.tv_r1cs_read.specs.declared.sections.Section.{Section}
+use Rattle.tv_r1cs_read.specs.Sections.{section_of, sections_of, wanted}
+
+-- a section 1 of this size says that the field is this one: the size of a number, 8, and the prime
+unfoldable pub this_field : List ℕ → ℕ → Section → Result (Unit {0}) Fault
+this_field file wants one = do
+  _ ← unless (nat_lt one.size 4) one.at (BadCount one.size wants)
+  _ ← unless (not (number file 4 one.at == 8)) one.at OtherPrime
+  _ ← unless (not (one.size == wants)) one.at (BadCount one.size wants)
+  unless (not (number file 8 (one.at + 4) == P)) one.at OtherPrime
+
+-- what section 1 counts of wires, public outputs and inputs and constraints, and section 2
+abbrev pub counted : List ℕ → Section → Section → Header
+counted file one two = record {
+  wires = number file 4 (one.at + 12);
+  outputs = number file 4 (one.at + 16);
+  inputs = number file 4 (one.at + 20);
+  constraints = number file 4 (one.at + 36);
+  rows = two;
+}
+
+-- there is a wire for the constant 1 and each public number, and section 3, where there is one, has
+-- eight bytes for each wire
+abbrev pub checked : Header → Section → Option Section → Result Header Fault
+checked header one three = do
+  _ ← unless (nat_lt header.wires (1 + header.outputs + header.inputs)) one.at (BadCount header.wires (1 + header.outputs + header.inputs))
+  _ ← elim three [ None ↦ Ok (tt {0}) | Some labels ↦ unless (not (labels.size == 8 * header.wires)) labels.at (BadCount labels.size (8 * header.wires)) ]
+  Ok header
+
+-- everything but the constraints, from the sections
+unfoldable pub header_in : List ℕ → List Section → Result Header Fault
+header_in file sections = do
+  one ← wanted 1 file sections
+  two ← wanted 2 file sections
+  _ ← this_field file 40 one
+  checked (counted file one two) one (section_of 3 sections)
+
+-- everything but the constraints
+unfoldable pub header_of : List ℕ → Result Header Fault
+header_of file = do
+  sections ← sections_of 3 0x73633172 1 file
+  header_in file sections
+
+-- a value read at a place of the file, and the place behind it
+pub record Read (A : Type 0) : Type 0 where
+  pub value : A
+  pub next : ℕ
+
+-- the terms at a place, so many, below the end of their section: twelve bytes each, the wire, which is
+-- below `wires`, and the coefficient, which is below P
+unfoldable pub terms_at : List ℕ → ℕ → ℕ → ℕ → ℕ → Result (Read Combination) Fault
+terms_at file wires end zero at = Ok (record { value = []; next = at })
+terms_at file wires end (suc n) at = do
+  _ ← fit 12 at end
+  _ ← unless (not (nat_lt (number file 4 at) wires)) at (WireRange (number file 4 at) wires)
+  _ ← unless (not (nat_lt (number file 8 (at + 4)) P)) (at + 4) NotCanonical
+  others ← terms_at file wires end n (at + 12)
+  Ok (record { value = (number file 8 (at + 4), number file 4 at) ∷ others.value; next = others.next })
+
+-- a combination: four bytes that count its terms, at most 1,048,576, and the terms
+unfoldable pub combination_at : List ℕ → ℕ → ℕ → ℕ → Result (Read Combination) Fault
+combination_at file wires end at = do
+  _ ← fit 4 at end
+  _ ← unless (nat_lt 1048576 (number file 4 at)) at (TooWide (number file 4 at))
+  terms_at file wires end (number file 4 at) (at + 4)
+
+-- a constraint: its three combinations
+unfoldable pub constraint_at : List ℕ → ℕ → ℕ → ℕ → Result (Read Constraint) Fault
+constraint_at file wires end at = do
+  a ← combination_at file wires end at
+  b ← combination_at file wires end a.next
+  c ← combination_at file wires end b.next
+  Ok (record { value = record { a = a.value; b = b.value; c = c.value }; next = c.next })
+
+-- the constraints from a place to the end of section 2, so many
+unfoldable pub constraints_from : List ℕ → ℕ → Section → ℕ → ℕ → Result (List Constraint) Fault
+constraints_from file wires rows zero at =
+    if at == rows.at + rows.size then Ok [] else wrong rows.at (BadCount rows.size (at - rows.at))
+constraints_from file wires rows (suc n) at = do
+  first ← constraint_at file wires (rows.at + rows.size) at
+  others ← constraints_from file wires rows n first.next
+  Ok (first.value ∷ others)
+
+-- the system, or the first fault of the file
+unfoldable pub system_of : List ℕ → Result System Fault
+system_of file = do
+  header ← header_of file
+  list ← constraints_from file header.wires header.rows header.constraints header.rows.at
+  Ok (record { wires = header.wires; outputs = header.outputs; inputs = header.inputs; constraints = list })

@@ -1,0 +1,28 @@
+-- What is kept of a constraint that was read, and of one that is being read.
+use Rattle.std.specs.Prelude.{◌≡◌, ℕ, ◌+◌, List, ◌++◌, length, map, Result, Ok}
+use Rattle.tv_core.specs.Constraints.{Combination, Constraint}
+use Rattle.tv_r1cs_read.specs.declared.rows.Row.{Row}
+use Rattle.tv_r1cs_read.specs.Places.{Fault, ◌>>=◌}
+use Rattle.tv_r1cs_read.specs.R1cs.{Read, terms_at}
+
+-- the combination that terms make: wires before coefficients there, behind them here
+abbrev pub combination_of : List (ℕ × ℕ) → Combination
+combination_of terms = map (λ t. (t.1, t.0)) terms
+
+-- the constraint that a row makes
+abbrev pub constraint_of : Row → Constraint
+constraint_of row = record { a = combination_of row.a; b = combination_of row.b; c = combination_of row.c }
+
+-- how many terms a row has
+abbrev pub terms_in : Row → ℕ
+terms_in row = length row.a + length row.b + length row.c
+
+-- a combination whose first terms were read before the others
+unfoldable pub with_front : Combination → Result (Read Combination) Fault → Result (Read Combination) Fault
+with_front front others = do
+  read ← others
+  Ok (record { value = front ++ read.value; next = read.next })
+
+-- a combination is these terms and, of those at a place, so many
+pub record IsAhead (answer : Result (Read Combination) Fault) (terms : List (ℕ × ℕ)) (file : List ℕ) (wires end n at : ℕ) : Type 0 where
+  pub same : answer ≡ with_front (combination_of terms) (terms_at file wires end n at)

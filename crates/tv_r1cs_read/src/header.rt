@@ -1,0 +1,217 @@
+ghost use Rattle.std.specs.Prelude.{◌≡◌, ℕ, ◌+◌, ◌*◌, ◌≤◌, ◌<◌, ◌^◌, List, [], length, Some, Ok, Err, IfOk, IfErr, OnOk, MatchResult};
+ghost use Rattle.tv_r1cs_read.specs.Found.{first_of, AllEnd, AllFit};
+ghost use Rattle.tv_r1cs_read.specs.Places.{places};
+ghost use Rattle.tv_r1cs_read.specs.Reading.{bytes_of, Looks, Refuses, Gives, IsMissing, IsTold, IsPiece};
+ghost use Rattle.tv_r1cs_read.specs.R1cs.{this_field, checked, counted, header_in, header_of};
+ghost use Rattle.tv_r1cs_read.specs.Sections.{section_of, wanted};
+ghost use Rattle.tv_r1cs_read.specs.declared.sections.Section.{Section};
+
+use crate::sections::{Form, Found, Section, find_sections};
+use crate::why::{ReadRefusal, ReadWhy};
+use crate::window::Window;
+use tv_core::P;
+use tv_files::Files;
+
+/// What section 1 counts, and section 2.
+#[derive(Clone, Copy, Debug, PartialEq, Eq)]
+pub struct Header {
+    pub wires: u32,
+    pub outputs: u32,
+    pub inputs: u32,
+    pub constraints: u32,
+    pub rows: Section,
+}
+
+/// The form of a system's file: the text `r1cs`, version 1, and one section of each type.
+const R1CS: Form = Form {
+    magic: 0x7363_3172,
+    version: 1,
+    singles: 3,
+};
+
+/// Everything of a system's file but its constraints, or the file's first fault before them.
+#[tactic(auto, unfolding(crate::specs::R1cs::header_of))]
+pub(crate) fn read_header<D: Files>(
+    files: &mut D,
+    name: &str,
+    window: &mut Window,
+) -> Result<Header, ReadRefusal>
+    ensures piece {
+        (file : List ℕ) → bytes_of (D.seen files.old) name.now ≡ Some file →
+            IsPiece window.old file → OnOk result (IsPiece window.new file)
+    }
+    ensures gives {
+        (file : List ℕ) → bytes_of (D.seen files.old) name.now ≡ Some file →
+            IsPiece window.old file → Gives result (header_of file)
+    }
+    ensures within {
+        (file : List ℕ) → bytes_of (D.seen files.old) name.now ≡ Some file → IsPiece window.old file →
+            IfOk result (λ header. header.rows.at + header.rows.size ≤ places file)
+    }
+    ensures ends { IfOk result (λ header. header.rows.at + header.rows.size < 2 ^ 64) }
+    ensures looks { Looks (D.seen files.old) (D.seen files.new) name.now result }
+    ensures missing {
+        IsMissing (D.seen files.old) name.now → window.old.bytes ≡ [] → result ≡ Err ReadRefusal.Fault
+    }
+{
+    let (found, end) = find_sections(files, name, window, &R1CS)?;
+    header_in(files, name, window, &found, end)
+}
+
+// The header, from the sections.
+#[tactic(auto, using(crate::proofs::Chain::stopped_here), unfolding(crate::specs::R1cs::header_in))]
+fn header_in<D: Files>(
+    files: &mut D,
+    name: &str,
+    window: &mut Window,
+    found: &Found,
+    end: u64,
+) -> Result<Header, ReadRefusal>
+    requires { AllEnd found.now }
+    ensures piece {
+        (file : List ℕ) → bytes_of (D.seen files.old) name.now ≡ Some file →
+            IsPiece window.old file → OnOk result (IsPiece window.new file)
+    }
+    ensures gives {
+        (file : List ℕ) → bytes_of (D.seen files.old) name.now ≡ Some file → IsPiece window.old file →
+            end ≡ length file → (sections : List Section) → found.now ≡ first_of sections →
+                AllFit file sections → Gives result (header_in file sections)
+    }
+    ensures within {
+        (file : List ℕ) → (sections : List Section) → found.now ≡ first_of sections → AllFit file sections →
+            IfOk result (λ header. header.rows.at + header.rows.size ≤ places file)
+    }
+    ensures ends { IfOk result (λ header. header.rows.at + header.rows.size < 2 ^ 64) }
+    ensures looks { Looks (D.seen files.old) (D.seen files.new) name.now result }
+{
+    let one = wanted(found.one, 1, end)?;
+    let rows = wanted(found.two, 2, end)?;
+    this_field(files, name, window, &one, 40)?;
+    let header = counted(files, name, window, &one, rows)?;
+    checked(header, &one, found.three)
+}
+
+/// The section of a type, where it was found; where there is none it is missing at the file's end.
+pub fn wanted(section: Option<Section>, kind: u32, end: u64) -> Result<Section, ReadRefusal>
+    ensures gives {
+        (file : List ℕ) → end ≡ length file → (sections : List Section) →
+            section ≡ section_of kind sections → Gives result (wanted kind file sections)
+    }
+    ensures same { IfOk result (λ found. section ≡ Some found) }
+    ensures told { IfErr result IsTold }
+{
+    section.ok_or(ReadRefusal::Bad {
+        at: end,
+        why: ReadWhy::Missing { section: kind },
+    })
+}
+
+/// Whether section 1 is of this size, `wants`, and says that numbers are of this field: 8 bytes each,
+/// and the prime.
+#[tactic(auto, unfolding(crate::specs::R1cs::this_field))]
+pub fn this_field<D: Files>(
+    files: &mut D,
+    name: &str,
+    window: &mut Window,
+    one: &Section,
+    wants: u64,
+) -> Result<(), ReadRefusal>
+    requires room { 12 ≤ wants }
+    ensures piece {
+        (file : List ℕ) → bytes_of (D.seen files.old) name.now ≡ Some file →
+            IsPiece window.old file → OnOk result (IsPiece window.new file)
+    }
+    ensures gives {
+        (file : List ℕ) → bytes_of (D.seen files.old) name.now ≡ Some file → IsPiece window.old file →
+            one.now.at + one.now.size ≤ places file → Gives result (this_field file wants one.now)
+    }
+    ensures size { OnOk result (one.now.size ≡ wants) }
+    ensures looks { Looks (D.seen files.old) (D.seen files.new) name.now result }
+{
+    let miscounted = ReadRefusal::Bad {
+        at: one.at,
+        why: ReadWhy::BadCount {
+            has: one.size,
+            wants,
+        },
+    };
+    let other_prime = ReadRefusal::Bad {
+        at: one.at,
+        why: ReadWhy::OtherPrime,
+    };
+    if one.size < 4 {
+        return Err(miscounted);
+    }
+    window.fit(files, name, one.at, 4)?;
+    if window.word(one.at) != 8 {
+        return Err(other_prime);
+    }
+    if one.size != wants {
+        return Err(miscounted);
+    }
+    window.fit(files, name, one.at, 12)?;
+    if window.long(one.at + 4) != P {
+        return Err(other_prime);
+    }
+    Ok(())
+}
+
+// What section 1, of 40 bytes, counts.
+fn counted<D: Files>(
+    files: &mut D,
+    name: &str,
+    window: &mut Window,
+    one: &Section,
+    rows: Section,
+) -> Result<Header, ReadRefusal>
+    ensures piece {
+        (file : List ℕ) → bytes_of (D.seen files.old) name.now ≡ Some file →
+            IsPiece window.old file → OnOk result (IsPiece window.new file)
+    }
+    ensures gives {
+        (file : List ℕ) → bytes_of (D.seen files.old) name.now ≡ Some file → IsPiece window.old file →
+            one.now.at + 40 ≤ places file →
+                MatchResult result (λ header. counted file one.now rows ≡ header) (λ why. Refuses {A = ℕ} why (Ok 0))
+    }
+    ensures rows { IfOk result (λ header. header.rows ≡ rows) }
+    ensures looks { Looks (D.seen files.old) (D.seen files.new) name.now result }
+{
+    window.fit(files, name, one.at, 40)?;
+    Ok(Header {
+        wires: window.word(one.at + 12),
+        outputs: window.word(one.at + 16),
+        inputs: window.word(one.at + 20),
+        constraints: window.word(one.at + 36),
+        rows,
+    })
+}
+
+// There is a wire for the constant 1 and each public number, and section 3, where there is one, has
+// eight bytes for each wire.
+fn checked(header: Header, one: &Section, three: Option<Section>) -> Result<Header, ReadRefusal>
+    ensures gives { Gives result (checked header one.now three) }
+    ensures same { IfOk result (λ checked. checked ≡ header) }
+    ensures told { IfErr result IsTold }
+{
+    let wires = u64::from(header.wires);
+    let public = 1 + u64::from(header.outputs) + u64::from(header.inputs);
+    if wires < public {
+        return Err(ReadRefusal::Bad {
+            at: one.at,
+            why: ReadWhy::BadCount {
+                has: wires,
+                wants: public,
+            },
+        });
+    }
+    match three {
+        Some(labels) if labels.size != 8 * wires => Err(ReadRefusal::Bad {
+            at: labels.at,
+            why: ReadWhy::BadCount {
+                has: labels.size,
+                wants: 8 * wires,
+            },
+        }),
+        _ => Ok(header),
+    }
+}

@@ -1,0 +1,19 @@
+//! Reading a constraint system from an r1cs file, of any size and with its sections in any order: one
+//! row at a time, each the next constraint of `system_of` the whole file, or the file's first fault.
+#![tactic(auto)]
+
+mod header;
+mod progress;
+mod reader;
+mod rows;
+mod sections;
+mod why;
+mod window;
+
+pub use header::{Header, this_field, wanted};
+pub use progress::Progress;
+pub use reader::{SystemReader, Unread, survey};
+pub use rows::{Row, Terms};
+pub use sections::{Form, Found, Section, find_sections};
+pub use why::{ReadRefusal, ReadWhy};
+pub use window::Window;

@@ -1,0 +1,156 @@
+ghost use Rattle.std.specs.Prelude.{◌≡◌, ℕ, ◌+◌, ◌≤◌, List, [], Some, None, Ok, Err, IfOk, IfErr, OnOk, MatchResult};
+ghost use Rattle.tv_r1cs_read.specs.Progress.{ahead, counts_of, Follows, IsBegun, WentOn, GivesNext};
+ghost use Rattle.tv_r1cs_read.specs.R1cs.{header_of};
+ghost use Rattle.tv_r1cs_read.specs.Reading.{bytes_of, Looks, Refuses, IsMissing, IsTold};
+ghost use Rattle.tv_r1cs_read.specs.Rows.{terms_in};
+ghost use Rattle.tv_r1cs_read.specs.declared.why.ReadRefusal.{ReadRefusal};
+
+use crate::header::{Header, read_header};
+use crate::rows::{Bounds, Row, read_row};
+use crate::why::{ReadRefusal, ReadWhy};
+use crate::window::Window;
+use std::marker::Model;
+use tv_core::Counts;
+use tv_files::Files;
+
+/// How far reading of a system has come: what is ahead is `left` constraints from the place `at` on,
+/// unless reading stopped.
+#[derive(Drop)]
+pub struct Progress {
+    header: Header,
+    window: Window,
+    at: u64,
+    left: u32,
+    terms: u64,
+    stopped: Option<ReadRefusal>,
+}
+
+impl Model for Progress {
+    ghost use Rattle.tv_r1cs_read.specs.Progress.{Reached, IsWithin};
+
+    ghost Value = { Reached };
+
+    ghost view = { λ p. record { header = p.header; piece = p.window; at = p.at; left = p.left; terms = p.terms; stopped = p.stopped } };
+
+    ghost invariant = { λ p. IsWithin (record { header = p.header; piece = p.window; at = p.at; left = p.left; terms = p.terms; stopped = p.stopped }) };
+}
+
+impl Progress {
+    /// Reads all but the constraints.
+    pub(crate) fn begin<D: Files>(files: &mut D, name: &str) -> Result<Progress, ReadRefusal>
+        ensures begun { IfOk result IsBegun }
+        ensures gives {
+            (file : List ℕ) → bytes_of (D.seen files.old) name.now ≡ Some file → MatchResult result
+                (λ progress. (header_of file ≡ Ok progress.header) × Follows progress file)
+                (λ why. Refuses why (header_of file))
+        }
+        ensures looks { Looks (D.seen files.old) (D.seen files.new) name.now result }
+        ensures missing { IsMissing (D.seen files.old) name.now → result ≡ Err ReadRefusal.Fault }
+    {
+        let mut window = Window::new();
+        let header = read_header(files, name, &mut window)?;
+        Ok(Progress {
+            header,
+            window,
+            at: header.rows.at,
+            left: header.constraints,
+            terms: 0,
+            stopped: None,
+        })
+    }
+
+    /// What the system counts, and the terms of the rows given so far.
+    pub(crate) fn counts(&self) -> Counts
+        ensures { result ≡ counts_of self.now }
+    {
+        Counts {
+            wires: self.header.wires,
+            outputs: self.header.outputs,
+            inputs: self.header.inputs,
+            constraints: self.header.constraints,
+            terms: self.terms,
+        }
+    }
+
+    /// Reads the next constraint into `row`, and tells whether there was one. A refusal is repeated.
+    pub(crate) fn next<D: Files>(
+        &mut self,
+        files: &mut D,
+        name: &str,
+        row: &mut Row,
+    ) -> Result<bool, ReadRefusal>
+        ensures gives {
+            (file : List ℕ) → bytes_of (D.seen files.old) name.now ≡ Some file → Follows self.old file → MatchResult result
+                (λ more. GivesNext more row.new (ahead self.old file) (ahead self.new file) × Follows self.new file)
+                (λ why. Refuses why (ahead self.old file))
+        }
+        ensures counts { IfOk result (λ more. WentOn more row.new self.old self.new) }
+        ensures header { self.new.header ≡ self.old.header }
+        ensures again { (why : ReadRefusal) → self.old.stopped ≡ Some why →
+            (result ≡ Err why) × (self.new ≡ self.old) × (D.seen files.new ≡ D.seen files.old) }
+        ensures stops { IfErr result (λ why. self.new.stopped ≡ Some why) }
+        ensures goes { OnOk result (self.new.stopped ≡ None) }
+        ensures looks { self.old.stopped ≡ None → Looks (D.seen files.old) (D.seen files.new) name.now result }
+    {
+        if let Some(refusal) = self.stopped {
+            return Err(refusal);
+        }
+        let answer = self.advance(files, name, row);
+        if let Err(refusal) = answer {
+            self.stopped = Some(refusal);
+        }
+        answer
+    }
+
+    // Reads the next constraint.
+    #[tactic(auto, using(crate::proofs::Chain::stopped_here))]
+    fn advance<D: Files>(
+        &mut self,
+        files: &mut D,
+        name: &str,
+        row: &mut Row,
+    ) -> Result<bool, ReadRefusal>
+        ensures gives {
+            (file : List ℕ) → bytes_of (D.seen files.old) name.now ≡ Some file → Follows self.old file → MatchResult result
+                (λ more. GivesNext more row.new (ahead self.old file) (ahead self.new file) × Follows self.new file)
+                (λ why. Refuses why (ahead self.old file))
+        }
+        ensures counts { IfOk result (λ more. WentOn more row.new self.old self.new) }
+        ensures header { self.new.header ≡ self.old.header }
+        ensures goes { self.new.stopped ≡ self.old.stopped }
+        ensures looks { Looks (D.seen files.old) (D.seen files.new) name.now result }
+    {
+        if self.left == 0 {
+            self.at_end()?;
+            return Ok(false);
+        }
+        let bounds = Bounds {
+            wires: self.header.wires,
+            end: self.header.rows.at + self.header.rows.size,
+        };
+        self.at = read_row(files, name, &mut self.window, &bounds, self.at, row)?;
+        self.left -= 1;
+        self.terms += row.terms() as u64;
+        Ok(true)
+    }
+
+    // Behind the counted constraints section 2 ends.
+    fn at_end(&self) -> Result<(), ReadRefusal>
+        ensures gives {
+            (file : List ℕ) → self.now.left ≡ 0 → MatchResult result (λ _. ahead self.now file ≡ Ok []) (λ why. Refuses why (ahead self.now file))
+        }
+        ensures told { IfErr result IsTold }
+    {
+        let rows = self.header.rows;
+        if self.at < rows.at + rows.size {
+            return Err(ReadRefusal::Bad {
+                at: rows.at,
+                why: ReadWhy::BadCount {
+                    has: rows.size,
+                    wants: self.at - rows.at,
+                },
+            });
+        }
+        Ok(())
+    }
+}

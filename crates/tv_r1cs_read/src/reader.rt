@@ -1,0 +1,139 @@
+ghost use Rattle.std.specs.Prelude.{◌≡◌, ℕ, List, Some, None, Ok, Err, Option, IfOk, IfErr, OnOk, MatchResult};
+ghost use Rattle.tv_r1cs_read.specs.Progress.{ahead, counts_of, Follows, IsBegun, WentOnBy, GivesRow};
+ghost use Rattle.tv_r1cs_read.specs.R1cs.{header_of};
+ghost use Rattle.tv_r1cs_read.specs.Reading.{bytes_of, Looks, Stopped, Gives, Refuses, IsMissing};
+ghost use Rattle.tv_r1cs_read.specs.Survey.{survey_of};
+ghost use Rattle.tv_r1cs_read.specs.declared.why.ReadRefusal.{ReadRefusal};
+
+use crate::progress::Progress;
+use crate::rows::Row;
+use crate::why::ReadRefusal;
+use std::alloc::Global;
+use std::mem;
+use tv_core::Counts;
+use tv_files::Files;
+
+/// Reads a system's constraints one after another from a file, which is lent to it.
+pub struct SystemReader<'a, D: Files, R: Drop = Row> {
+    pub(crate) files: &'a mut D,
+    pub(crate) name: &'a str,
+    pub(crate) alloc: Global,
+    pub(crate) progress: Progress,
+    pub(crate) spare: R,
+}
+
+impl<D: Files, R: Drop> Drop for SystemReader<'_, D, R> {
+    fn drop(self)
+        ensures { self.exit.0.now ≡ self.entry.files.now }
+    {
+        let SystemReader { files: _, name: _, alloc: _, progress: _, spare: _ } = self;
+    }
+}
+
+/// A system that was refused at its header: why, and the files again.
+#[derive(Drop)]
+pub struct Unread<'a, D: Files> {
+    pub(crate) files: &'a mut D,
+    pub why: ReadRefusal,
+}
+
+impl<'a, D: Files> SystemReader<'a, D> {
+    /// Reads all of a system's file but its constraints.
+    pub fn begin(
+        alloc: Global,
+        files: &'a mut D,
+        name: &'a str,
+    ) -> Result<SystemReader<'a, D>, Unread<'a, D>>
+        ensures ok_same { IfOk result (λ reader. reader.files.ghost_name ≡ files.entry.ghost_name) }
+        ensures ok_looks { IfOk result (λ reader. D.seen reader.files.now ≡ D.seen files.old) }
+        ensures name { IfOk result (λ reader. reader.name.now ≡ name.now) }
+        ensures begun { IfOk result (λ reader. IsBegun reader.progress) }
+        ensures gives {
+            (file : List ℕ) → bytes_of (D.seen files.old) name.now ≡ Some file → MatchResult result
+                (λ reader. (header_of file ≡ Ok reader.progress.header) × Follows reader.progress file)
+                (λ unread. Refuses unread.why (header_of file))
+        }
+        ensures err_same { IfErr result (λ unread. unread.files.ghost_name ≡ files.entry.ghost_name) }
+        ensures err_stopped {
+            IfErr result (λ unread. Stopped (D.seen files.old) (D.seen unread.files.now) name.now unread.why)
+        }
+        ensures missing {
+            IsMissing (D.seen files.old) name.now → MatchResult result (λ _. ⊥) (λ unread. unread.why ≡ ReadRefusal.Fault)
+        }
+    {
+        match Progress::begin(files, name) {
+            Ok(progress) => Ok(SystemReader {
+                files,
+                name,
+                alloc,
+                progress,
+                spare: Row::new(alloc),
+            }),
+            Err(why) => Err(Unread { files, why }),
+        }
+    }
+
+    /// What the system counts, and the terms of the rows given so far.
+    pub fn counts(&self) -> Counts
+        ensures { result ≡ counts_of self.now.progress }
+    {
+        self.progress.counts()
+    }
+
+    /// The next constraint; `None` after the last.
+    pub fn next(&mut self) -> Result<Option<Row>, ReadRefusal>
+        ensures same { self.new.files.ghost_name ≡ self.old.files.ghost_name }
+        ensures name { self.new.name.now ≡ self.old.name.now }
+        ensures gives {
+            (file : List ℕ) → bytes_of (D.seen self.old.files.now) self.old.name.now ≡ Some file → Follows self.old.progress file → MatchResult result
+                (λ row. GivesRow row (ahead self.old.progress file) (ahead self.new.progress file) × Follows self.new.progress file)
+                (λ why. Refuses why (ahead self.old.progress file))
+        }
+        ensures counts { IfOk result (λ row. WentOnBy row self.old.progress self.new.progress) }
+        ensures header { self.new.progress.header ≡ self.old.progress.header }
+        ensures again { (why : ReadRefusal) → self.old.progress.stopped ≡ Some why →
+            (result ≡ Err why) × (self.new.progress ≡ self.old.progress) × (D.seen self.new.files.now ≡ D.seen self.old.files.now) }
+        ensures stops { IfErr result (λ why. self.new.progress.stopped ≡ Some why) }
+        ensures goes { OnOk result (self.new.progress.stopped ≡ None) }
+        ensures looks { self.old.progress.stopped ≡ None → Looks (D.seen self.old.files.now) (D.seen self.new.files.now) self.old.name.now result }
+    {
+        let mut row = mem::replace(&mut self.spare, Row::new(self.alloc));
+        if self.progress.next(self.files, self.name, &mut row)? {
+            return Ok(Some(row));
+        }
+        self.spare = row;
+        Ok(None)
+    }
+
+    /// Gives a row back, so that the next one is read into its memory.
+    pub fn reuse(&mut self, row: Row)
+        ensures same { self.new.files.ghost_name ≡ self.old.files.ghost_name }
+        ensures files { self.new.files.now ≡ self.old.files.now }
+        ensures name { self.new.name.now ≡ self.old.name.now }
+        ensures progress { self.new.progress ≡ self.old.progress }
+    {
+        self.spare = row;
+    }
+}
+
+/// Reads a system's file to its end, and answers what the system counts.
+///
+/// `Ok` comes exactly for a file that holds a system, and `Bad` tells the first fault of another one.
+/// `Fault` comes only where a read failed, and a missing name is such a fault. Takes one pass, and
+/// memory for one constraint.
+pub fn survey<D: Files>(alloc: Global, files: &mut D, name: &str) -> Result<Counts, ReadRefusal>
+    ensures gives {
+        (file : List ℕ) → bytes_of (D.seen files.old) name.now ≡ Some file → Gives result (survey_of file)
+    }
+    ensures looks { Looks (D.seen files.old) (D.seen files.new) name.now result }
+    ensures missing { IsMissing (D.seen files.old) name.now → result ≡ Err ReadRefusal.Fault }
+{
+    let mut reader = match SystemReader::begin(alloc, files, name) {
+        Ok(reader) => reader,
+        Err(unread) => return Err(unread.why),
+    };
+    while let Some(row) = reader.next()? {
+        reader.reuse(row);
+    }
+    Ok(reader.counts())
+}

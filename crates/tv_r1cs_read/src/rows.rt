@@ -1,0 +1,282 @@
+ghost use Rattle.std.specs.Prelude.{◌≡◌, ℕ, ◌+◌, ◌-◌, ◌*◌, ◌≤◌, ◌<◌, ◌^◌, List, [], ◌∷◌, ◌++◌, length, Some, Ok, Result, IfOk, IfErr, OnOk, MatchResult};
+ghost use Rattle.tv_core.specs.Constraints.{Combination};
+ghost use Rattle.tv_r1cs_read.specs.Places.{Fault, fit, places};
+ghost use Rattle.tv_r1cs_read.specs.Reading.{bytes_of, Looks, Refuses, Gives, Holds, IsTold, IsPiece};
+ghost use Rattle.tv_r1cs_read.specs.R1cs.{Read, combination_at, constraint_at};
+ghost use Rattle.tv_r1cs_read.specs.Rows.{combination_of, constraint_of, terms_in, IsAhead};
+
+use crate::why::{ReadRefusal, ReadWhy};
+use crate::window::Window;
+use std::alloc::{AllocFailed, Global};
+use std::marker::Model;
+use tv_core::F;
+use tv_files::Files;
+
+/// The most terms of a combination.
+const WIDEST: u32 = 1_048_576;
+
+/// The bytes of a term: four of the wire, eight of the coefficient.
+const TERM: u64 = 12;
+
+/// The terms of a combination in order, each a wire and its coefficient.
+#[derive(Drop)]
+pub struct Terms {
+    items: Vec<(u32, F)>,
+}
+
+impl Model for Terms {
+    ghost use Rattle.std.specs.Prelude.{ℕ, List};
+
+    ghost Value = { List (ℕ × ℕ) };
+
+    ghost view = { λ terms. terms.items.items };
+}
+
+impl Terms {
+    // No terms; takes no memory.
+    fn new(alloc: Global) -> Terms
+        ensures { result ≡ [] }
+    {
+        Terms {
+            items: Vec::new(alloc),
+        }
+    }
+
+    /// The terms in order.
+    pub fn as_slice(&self) -> &[(u32, F)]
+        ensures { result.now ≡ self.now }
+    {
+        self.items.as_slice()
+    }
+
+    // No terms; keeps the memory.
+    fn clear(&mut self)
+        ensures { self.new ≡ [] }
+    {
+        self.items.clear();
+    }
+
+    fn push(&mut self, wire: u32, coefficient: F) -> Result<(), AllocFailed<(u32, F)>>
+        ensures { OnOk result (self.new ≡ self.old ++ (wire, coefficient) ∷ []) }
+    {
+        self.items.push((wire, coefficient))
+    }
+}
+
+/// A constraint that was read: the value of `a` times that of `b` is that of `c`.
+#[derive(Drop)]
+pub struct Row {
+    pub a: Terms,
+    pub b: Terms,
+    pub c: Terms,
+}
+
+impl Row {
+    ghost use Rattle.tv_r1cs_read.specs.Rows.{terms_in};
+
+    /// A row without terms; takes no memory.
+    pub fn new(alloc: Global) -> Row {
+        Row {
+            a: Terms::new(alloc),
+            b: Terms::new(alloc),
+            c: Terms::new(alloc),
+        }
+    }
+
+    // How many terms it has.
+    pub(crate) fn terms(&self) -> usize
+        requires { terms_in self.now < 2 ^ 64 }
+        ensures { result ≡ terms_in self.now }
+    {
+        self.a.items.len() + self.b.items.len() + self.c.items.len()
+    }
+}
+
+/// What bounds the terms: each wire is below `wires`, and section 2 ends at `end`.
+#[derive(Clone, Copy)]
+pub(crate) struct Bounds {
+    pub(crate) wires: u32,
+    pub(crate) end: u64,
+}
+
+// Reads the constraint at a place, and answers the place behind it.
+#[tactic(auto, unfolding(crate::specs::R1cs::constraint_at))]
+pub(crate) fn read_row<D: Files>(
+    files: &mut D,
+    name: &str,
+    window: &mut Window,
+    bounds: &Bounds,
+    at: u64,
+    row: &mut Row,
+) -> Result<u64, ReadRefusal>
+    requires { at ≤ bounds.now.end }
+    ensures within { IfOk result (λ next. next ≤ bounds.now.end) }
+    ensures size { IfOk result (λ next. next ≡ at + 12 + 12 * terms_in row.new) }
+    ensures piece {
+        (file : List ℕ) → bytes_of (D.seen files.old) name.now ≡ Some file →
+            IsPiece window.old file → OnOk result (IsPiece window.new file)
+    }
+    ensures gives {
+        (file : List ℕ) → bytes_of (D.seen files.old) name.now ≡ Some file → IsPiece window.old file →
+            bounds.now.end ≤ places file → MatchResult result
+                (λ next. constraint_at file bounds.now.wires bounds.now.end at ≡ Ok (record { value = constraint_of row.new; next = next }))
+                (λ why. Refuses why (constraint_at file bounds.now.wires bounds.now.end at))
+    }
+    ensures looks { Looks (D.seen files.old) (D.seen files.new) name.now result }
+{
+    let at = read_combination(files, name, window, bounds, at, &mut row.a)?;
+    let at = read_combination(files, name, window, bounds, at, &mut row.b)?;
+    read_combination(files, name, window, bounds, at, &mut row.c)
+}
+
+// Reads the combination at a place, and answers the place behind it.
+#[tactic(auto, unfolding(crate::specs::R1cs::combination_at))]
+fn read_combination<D: Files>(
+    files: &mut D,
+    name: &str,
+    window: &mut Window,
+    bounds: &Bounds,
+    at: u64,
+    terms: &mut Terms,
+) -> Result<u64, ReadRefusal>
+    requires { at ≤ bounds.now.end }
+    ensures within { IfOk result (λ next. next ≤ bounds.now.end) }
+    ensures size { IfOk result (λ next. next ≡ at + 4 + 12 * length terms.new) }
+    ensures piece {
+        (file : List ℕ) → bytes_of (D.seen files.old) name.now ≡ Some file →
+            IsPiece window.old file → OnOk result (IsPiece window.new file)
+    }
+    ensures gives {
+        (file : List ℕ) → bytes_of (D.seen files.old) name.now ≡ Some file → IsPiece window.old file →
+            bounds.now.end ≤ places file → MatchResult result
+                (λ next. combination_at file bounds.now.wires bounds.now.end at ≡ Ok (record { value = combination_of terms.new; next = next }))
+                (λ why. Refuses why (combination_at file bounds.now.wires bounds.now.end at))
+    }
+    ensures looks { Looks (D.seen files.old) (D.seen files.new) name.now result }
+{
+    fit_below(files, name, window, at, 4, bounds.end)?;
+    let count = window.word(at);
+    if count > WIDEST {
+        return Err(ReadRefusal::Bad {
+            at,
+            why: ReadWhy::TooWide { terms: count },
+        });
+    }
+    terms.clear();
+    read_terms(files, name, window, bounds, at + 4, count, terms)
+}
+
+// Reads on to a place until the window holds so many bytes there; bytes that pass the end of section 2
+// are `Truncated` at the place.
+fn fit_below<D: Files>(
+    files: &mut D,
+    name: &str,
+    window: &mut Window,
+    at: u64,
+    size: usize,
+    end: u64,
+) -> Result<(), ReadRefusal>
+    requires some { 0 < size }
+    requires small { size ≤ 4096 }
+    requires before { at ≤ end }
+    ensures held { OnOk result (Holds window.new at size) }
+    ensures within { OnOk result (at + size ≤ end) }
+    ensures piece {
+        (file : List ℕ) → bytes_of (D.seen files.old) name.now ≡ Some file →
+            IsPiece window.old file → OnOk result (IsPiece window.new file)
+    }
+    ensures gives {
+        (file : List ℕ) → bytes_of (D.seen files.old) name.now ≡ Some file → IsPiece window.old file →
+            end ≤ places file → Gives result (fit size at end)
+    }
+    ensures looks { Looks (D.seen files.old) (D.seen files.new) name.now result }
+{
+    if end - at < size as u64 {
+        return Err(ReadRefusal::Bad {
+            at,
+            why: ReadWhy::Truncated,
+        });
+    }
+    window.fit(files, name, at, size)
+}
+
+// Reads the terms at a place, so many, behind those at hand, and answers the place behind them.
+fn read_terms<D: Files>(
+    files: &mut D,
+    name: &str,
+    window: &mut Window,
+    bounds: &Bounds,
+    at: u64,
+    count: u32,
+    terms: &mut Terms,
+) -> Result<u64, ReadRefusal>
+    requires { at ≤ bounds.now.end }
+    ensures within { IfOk result (λ next. next ≤ bounds.now.end) }
+    ensures size { IfOk result (λ next. next + 12 * length terms.old ≡ at + 12 * length terms.new) }
+    ensures piece {
+        (file : List ℕ) → bytes_of (D.seen files.old) name.now ≡ Some file →
+            IsPiece window.old file → OnOk result (IsPiece window.new file)
+    }
+    ensures gives {
+        (file : List ℕ) → bytes_of (D.seen files.old) name.now ≡ Some file → IsPiece window.old file →
+            bounds.now.end ≤ places file → (answer : Result (Read Combination) Fault) →
+            IsAhead answer terms.old file bounds.now.wires bounds.now.end count at → MatchResult result
+                (λ next. answer ≡ Ok (record { value = combination_of terms.new; next = next }))
+                (λ why. Refuses why answer)
+    }
+    ensures looks { Looks (D.seen files.old) (D.seen files.new) name.now result }
+{
+    let mut at = at;
+    let mut left = count;
+    while left > 0 {
+        fit_below(files, name, window, at, 12, bounds.end)?;
+        let some = left.min(window.whole_terms(at, bounds.end));
+        take_terms(window, bounds, at, some, terms)?;
+        at += TERM * u64::from(some);
+        left -= some;
+    }
+    Ok(at)
+}
+
+// Takes the terms at a place, so many, all of which the window holds.
+fn take_terms(
+    window: &Window,
+    bounds: &Bounds,
+    at: u64,
+    count: u32,
+    terms: &mut Terms,
+) -> Result<(), ReadRefusal>
+    requires held { Holds window.now at (12 * count) }
+    requires within { at + 12 * count ≤ bounds.now.end }
+    ensures gives {
+        (file : List ℕ) → IsPiece window.now file → (answer : Result (Read Combination) Fault) → (n : ℕ) →
+            count ≤ n → IsAhead answer terms.old file bounds.now.wires bounds.now.end n at → MatchResult result
+                (λ _. IsAhead answer terms.new file bounds.now.wires bounds.now.end (n - count) (at + 12 * count))
+                (λ why. Refuses why answer)
+    }
+    ensures size { OnOk result (length terms.new ≡ length terms.old + count) }
+    ensures told { IfErr result IsTold }
+{
+    let mut at = at;
+    for _ in 0..count {
+        let wire = window.word(at);
+        if wire >= bounds.wires {
+            return Err(ReadRefusal::Bad {
+                at,
+                why: ReadWhy::WireRange {
+                    wire,
+                    wires: bounds.wires,
+                },
+            });
+        }
+        let Some(coefficient) = F::canon(window.long(at + 4)) else {
+            return Err(ReadRefusal::Bad {
+                at: at + 4,
+                why: ReadWhy::NotCanonical,
+            });
+        };
+        terms.push(wire, coefficient)?;
+        at += TERM;
+    }
+    Ok(())
+}
