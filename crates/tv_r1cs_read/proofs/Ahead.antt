@@ -41,13 +41,13 @@ pub goes_on : (answer : Result (Read Combination) Fault) (terms : List (ℕ × �
     number file 8 (at + 4) ≡ coefficient → coefficient < P →
     IsAhead answer (terms ++ (wire, coefficient) ∷ []) file wires end more (at + 12)
 goes_on answer terms file wires end n more at wire coefficient ahead one fits wire_is below coefficient_is canonical = record {
-    same = ahead.same
+  same = ahead.same
       ∙ ap (λ others. with_front (combination_of terms) others)
-          (ap (λ k. terms_at file wires end k at) (one ∙ add-one more)
-          ∙ terms_at-more file wires end more at wire coefficient fits wire_is below coefficient_is canonical)
+      (ap (λ k. terms_at file wires end k at) (one ∙ add-one more)
+      ∙ terms_at-more file wires end more at wire coefficient fits wire_is below coefficient_is canonical)
       ∙ with_front-with_front (combination_of terms) ((coefficient, wire) ∷ []) (terms_at file wires end more (at + 12))
       ∙ ap (λ front. with_front front (terms_at file wires end more (at + 12))) (sym (map-append (λ t. (t.1, t.0)) terms ((wire, coefficient) ∷ [])));
-  }
+}
 
 -- what the next term is refused for is what the combination is
 refused : (answer : Result (Read Combination) Fault) (terms : List (ℕ × ℕ)) (file : List ℕ) (wires end n more at place : ℕ) (why : ReadWhy) →
@@ -77,7 +77,7 @@ pub no_residue : (answer : Result (Read Combination) Fault) (terms : List (ℕ �
     number file 8 (at + 4) ≡ coefficient → P ≤ coefficient → Refuses (Bad (at + 4) NotCanonical) answer
 no_residue answer terms file wires end n more at wire coefficient ahead one fits wire_is below coefficient_is above =
     refused answer terms file wires end n more at (at + 4) NotCanonical ahead one
-      (terms_at-residue file wires end more at wire coefficient fits wire_is below coefficient_is above)
+    (terms_at-residue file wires end more at wire coefficient fits wire_is below coefficient_is above)
 
 -- a term that doesn't fit below the end is told
 pub no_room : (answer : Result (Read Combination) Fault) (terms : List (ℕ × ℕ)) (file : List ℕ) (wires end n more at : ℕ) (why : ReadRefusal) →

@@ -19,6 +19,7 @@ read_gives start old new name file at into count reads same told = by_contents o
   where
     known : option_and_then (λ (files : Names). files name) old.contents ≡ Some file
     known = rw same told
+
     by_contents : (held : Option Names) → old.contents ≡ held → Gives file at count into
     by_contents None e = let none : None ≡ Some file = rw e at known in cc
     by_contents (Some files) e = reads.bytes files e file (rw e at known)
@@ -45,14 +46,14 @@ number_held buffer file held from at size room piece holds =
     let there : from + (at - from) ≡ at = omega (arith, holds.from) in
     let same : take held buffer ≡ take held (drop from file) = rw n at piece.same in
     ap spelled (
-        sym (drop-take (at - from) size buffer)
-        ∙ ap (λ front. drop (at - from) front) (
-            sym (take-take (at - from + size) held buffer k)
-            ∙ ap (λ front. take (at - from + size) front) same
-            ∙ take-take (at - from + size) held (drop from file) k)
-        ∙ drop-take (at - from) size (drop from file)
-        ∙ ap (λ left. take size left) (drop-drop (at - from) from file)
-        ∙ ap (λ p. take size (drop p file)) there)
+    sym (drop-take (at - from) size buffer)
+    ∙ ap (λ front. drop (at - from) front) (
+    sym (take-take (at - from + size) held buffer k)
+    ∙ ap (λ front. take (at - from + size) front) same
+    ∙ take-take (at - from + size) held (drop from file) k)
+    ∙ drop-take (at - from) size (drop from file)
+    ∙ ap (λ left. take size left) (drop-drop (at - from) from file)
+    ∙ ap (λ p. take size (drop p file)) there)
 
 -- the file has the bytes at a place exactly where so many were read there
 pub there_if_read : (buffer file : List ℕ) (at size held : ℕ) → held ≤ length buffer → take held buffer ≡ take held (drop at file) →
@@ -60,17 +61,17 @@ pub there_if_read : (buffer file : List ℕ) (at size held : ℕ) → held ≤ l
 there_if_read buffer file at size held room same end some small =
     let left : held ≤ length file - at = omega (arith, length-take-le held buffer room, ap length same, length-take held (drop at file), length-drop at file) in
     ⊎_elim
-      (λ (short : held < size). let past : length file < at + size = omega (arith, end short) in grind (arith, nat_tests))
-      (λ (enough : size ≤ held). let within : at + size ≤ length file = omega arith in grind (arith, nat_tests))
-      (cases_lt held size)
+    (λ (short : held < size). let past : length file < at + size = omega (arith, end short) in grind (arith, nat_tests))
+    (λ (enough : size ≤ held). let within : at + size ≤ length file = omega arith in grind (arith, nat_tests))
+    (cases_lt held size)
 
 -- a read gives nothing exactly where the file has no byte there
 pub ends_if_none : (file into : List ℕ) (at count : ℕ) → Gives file at count into → 0 < length into → nat_le (length file) at ≡ nat_eq count 0
 ends_if_none file into at count gives some =
     ⊎_elim
-      (λ (none : count < 1). let zero : count ≡ 0 = omega arith in let past : length file ≤ at = omega (arith, gives.none zero) in grind (arith, nat_tests))
-      (λ (more : 1 ≤ count). let here : at < length file = omega (arith, gives.inside) in grind (arith, nat_tests))
-      (cases_lt count 1)
+    (λ (none : count < 1). let zero : count ≡ 0 = omega arith in let past : length file ≤ at = omega (arith, gives.none zero) in grind (arith, nat_tests))
+    (λ (more : 1 ≤ count). let here : at < length file = omega (arith, gives.inside) in grind (arith, nat_tests))
+    (cases_lt count 1)
 
 -- a name that isn't there is not read
 pub read_there : (start old new : Outside) (name : List ℕ) (at : ℕ) (into : List ℕ) (count : ℕ) → Reads old new name at into (Ok count) →

@@ -72,7 +72,7 @@ pub section_at-fits : (singles at : ℕ) (file : List ℕ) (sections : List Sect
 unfolding section_at
 section_at-fits singles at file sections section read =
     let checks = passed (fit 12 at (places file)) (stands_already singles (number file 4 at) sections) (nat_lt (places file) (at + 12 + number file 8 (at + 4)))
-          at (Doubled (number file 4 at)) Truncated (record { kind = number file 4 at; at = at + 12; size = number file 8 (at + 4) }) section read in
+    at (Doubled (number file 4 at)) Truncated (record { kind = number file 4 at; at = at + 12; size = number file 8 (at + 4) }) section read in
     let within : at + 12 + number file 8 (at + 4) ≤ places file = grind (arith, nat_tests, checks.0) in
     rw (← checks.1) within
 
@@ -107,7 +107,7 @@ sections_from-fit singles zero at file sections list fit e = by_test (eqb at (le
 sections_from-fit singles (suc n) at file sections list fit e =
     let step = made (section_at singles file at sections) (λ section. sections_from singles file n (section.at + section.size) (sections ++ section ∷ [])) list e in
     sections_from-fit singles n (step.0.at + step.0.size) file (sections ++ step.0 ∷ []) list
-      (AllFit-push file sections step.0 fit (section_at-fits singles at file sections step.0 step.1)) step.2
+    (AllFit-push file sections step.0 fit (section_at-fits singles at file sections step.0 step.1)) step.2
 
 -- the sections of a file fit in it
 pub sections_of-fit : (singles magic version : ℕ) (file : List ℕ) (sections : List Section) →

@@ -36,23 +36,15 @@ pub(crate) fn read_header<D: Files>(
     name: &str,
     window: &mut Window,
 ) -> Result<Header, ReadRefusal>
-    ensures piece {
-        (file : List ℕ) → bytes_of (D.seen files.old) name.now ≡ Some file →
-            IsPiece window.old file → OnOk result (IsPiece window.new file)
-    }
-    ensures gives {
-        (file : List ℕ) → bytes_of (D.seen files.old) name.now ≡ Some file →
-            IsPiece window.old file → Gives result (header_of file)
-    }
-    ensures within {
-        (file : List ℕ) → bytes_of (D.seen files.old) name.now ≡ Some file → IsPiece window.old file →
-            IfOk result (λ header. header.rows.at + header.rows.size ≤ places file)
-    }
+    ensures piece { (file : List ℕ) → bytes_of (D.seen files.old) name.now ≡ Some file →
+        IsPiece window.old file → OnOk result (IsPiece window.new file) }
+    ensures gives { (file : List ℕ) → bytes_of (D.seen files.old) name.now ≡ Some file →
+        IsPiece window.old file → Gives result (header_of file) }
+    ensures within { (file : List ℕ) → bytes_of (D.seen files.old) name.now ≡ Some file → IsPiece window.old file →
+        IfOk result (λ header. header.rows.at + header.rows.size ≤ places file) }
     ensures ends { IfOk result (λ header. header.rows.at + header.rows.size < 2 ^ 64) }
     ensures looks { Looks (D.seen files.old) (D.seen files.new) name.now result }
-    ensures missing {
-        IsMissing (D.seen files.old) name.now → window.old.bytes ≡ [] → result ≡ Err ReadRefusal.Fault
-    }
+    ensures missing { IsMissing (D.seen files.old) name.now → window.old.bytes ≡ [] → result ≡ Err ReadRefusal.Fault }
 {
     let (found, end) = find_sections(files, name, window, &R1CS)?;
     header_in(files, name, window, &found, end)
@@ -68,19 +60,13 @@ fn header_in<D: Files>(
     end: u64,
 ) -> Result<Header, ReadRefusal>
     requires { AllEnd found.now }
-    ensures piece {
-        (file : List ℕ) → bytes_of (D.seen files.old) name.now ≡ Some file →
-            IsPiece window.old file → OnOk result (IsPiece window.new file)
-    }
-    ensures gives {
-        (file : List ℕ) → bytes_of (D.seen files.old) name.now ≡ Some file → IsPiece window.old file →
-            end ≡ length file → (sections : List Section) → found.now ≡ first_of sections →
-                AllFit file sections → Gives result (header_in file sections)
-    }
-    ensures within {
-        (file : List ℕ) → (sections : List Section) → found.now ≡ first_of sections → AllFit file sections →
-            IfOk result (λ header. header.rows.at + header.rows.size ≤ places file)
-    }
+    ensures piece { (file : List ℕ) → bytes_of (D.seen files.old) name.now ≡ Some file →
+        IsPiece window.old file → OnOk result (IsPiece window.new file) }
+    ensures gives { (file : List ℕ) → bytes_of (D.seen files.old) name.now ≡ Some file → IsPiece window.old file →
+        end ≡ length file → (sections : List Section) → found.now ≡ first_of sections →
+        AllFit file sections → Gives result (header_in file sections) }
+    ensures within { (file : List ℕ) → (sections : List Section) → found.now ≡ first_of sections → AllFit file sections →
+        IfOk result (λ header. header.rows.at + header.rows.size ≤ places file) }
     ensures ends { IfOk result (λ header. header.rows.at + header.rows.size < 2 ^ 64) }
     ensures looks { Looks (D.seen files.old) (D.seen files.new) name.now result }
 {
@@ -93,10 +79,8 @@ fn header_in<D: Files>(
 
 /// The section of a type, where it was found; where there is none it is missing at the file's end.
 pub fn wanted(section: Option<Section>, kind: u32, end: u64) -> Result<Section, ReadRefusal>
-    ensures gives {
-        (file : List ℕ) → end ≡ length file → (sections : List Section) →
-            section ≡ section_of kind sections → Gives result (wanted kind file sections)
-    }
+    ensures gives { (file : List ℕ) → end ≡ length file → (sections : List Section) →
+        section ≡ section_of kind sections → Gives result (wanted kind file sections) }
     ensures same { IfOk result (λ found. section ≡ Some found) }
     ensures told { IfErr result IsTold }
 {
@@ -117,14 +101,10 @@ pub fn this_field<D: Files>(
     wants: u64,
 ) -> Result<(), ReadRefusal>
     requires room { 12 ≤ wants }
-    ensures piece {
-        (file : List ℕ) → bytes_of (D.seen files.old) name.now ≡ Some file →
-            IsPiece window.old file → OnOk result (IsPiece window.new file)
-    }
-    ensures gives {
-        (file : List ℕ) → bytes_of (D.seen files.old) name.now ≡ Some file → IsPiece window.old file →
-            one.now.at + one.now.size ≤ places file → Gives result (this_field file wants one.now)
-    }
+    ensures piece { (file : List ℕ) → bytes_of (D.seen files.old) name.now ≡ Some file →
+        IsPiece window.old file → OnOk result (IsPiece window.new file) }
+    ensures gives { (file : List ℕ) → bytes_of (D.seen files.old) name.now ≡ Some file → IsPiece window.old file →
+        one.now.at + one.now.size ≤ places file → Gives result (this_field file wants one.now) }
     ensures size { OnOk result (one.now.size ≡ wants) }
     ensures looks { Looks (D.seen files.old) (D.seen files.new) name.now result }
 {
@@ -164,15 +144,11 @@ fn counted<D: Files>(
     one: &Section,
     rows: Section,
 ) -> Result<Header, ReadRefusal>
-    ensures piece {
-        (file : List ℕ) → bytes_of (D.seen files.old) name.now ≡ Some file →
-            IsPiece window.old file → OnOk result (IsPiece window.new file)
-    }
-    ensures gives {
-        (file : List ℕ) → bytes_of (D.seen files.old) name.now ≡ Some file → IsPiece window.old file →
-            one.now.at + 40 ≤ places file →
-                MatchResult result (λ header. counted file one.now rows ≡ header) (λ why. Refuses {A = ℕ} why (Ok 0))
-    }
+    ensures piece { (file : List ℕ) → bytes_of (D.seen files.old) name.now ≡ Some file →
+        IsPiece window.old file → OnOk result (IsPiece window.new file) }
+    ensures gives { (file : List ℕ) → bytes_of (D.seen files.old) name.now ≡ Some file → IsPiece window.old file →
+        one.now.at + 40 ≤ places file →
+        MatchResult result (λ header. counted file one.now rows ≡ header) (λ why. Refuses {A = ℕ} why (Ok 0)) }
     ensures rows { IfOk result (λ header. header.rows ≡ rows) }
     ensures looks { Looks (D.seen files.old) (D.seen files.new) name.now result }
 {

@@ -39,11 +39,9 @@ impl Progress {
     /// Reads all but the constraints.
     pub(crate) fn begin<D: Files>(files: &mut D, name: &str) -> Result<Progress, ReadRefusal>
         ensures begun { IfOk result IsBegun }
-        ensures gives {
-            (file : List ℕ) → bytes_of (D.seen files.old) name.now ≡ Some file → MatchResult result
-                (λ progress. (header_of file ≡ Ok progress.header) × Follows progress file)
-                (λ why. Refuses why (header_of file))
-        }
+        ensures gives { (file : List ℕ) → bytes_of (D.seen files.old) name.now ≡ Some file → MatchResult result
+            (λ progress. (header_of file ≡ Ok progress.header) × Follows progress file)
+            (λ why. Refuses why (header_of file)) }
         ensures looks { Looks (D.seen files.old) (D.seen files.new) name.now result }
         ensures missing { IsMissing (D.seen files.old) name.now → result ≡ Err ReadRefusal.Fault }
     {
@@ -79,11 +77,9 @@ impl Progress {
         name: &str,
         row: &mut Row,
     ) -> Result<bool, ReadRefusal>
-        ensures gives {
-            (file : List ℕ) → bytes_of (D.seen files.old) name.now ≡ Some file → Follows self.old file → MatchResult result
-                (λ more. GivesNext more row.new (ahead self.old file) (ahead self.new file) × Follows self.new file)
-                (λ why. Refuses why (ahead self.old file))
-        }
+        ensures gives { (file : List ℕ) → bytes_of (D.seen files.old) name.now ≡ Some file → Follows self.old file → MatchResult result
+            (λ more. GivesNext more row.new (ahead self.old file) (ahead self.new file) × Follows self.new file)
+            (λ why. Refuses why (ahead self.old file)) }
         ensures counts { IfOk result (λ more. WentOn more row.new self.old self.new) }
         ensures header { self.new.header ≡ self.old.header }
         ensures again { (why : ReadRefusal) → self.old.stopped ≡ Some why →
@@ -110,11 +106,9 @@ impl Progress {
         name: &str,
         row: &mut Row,
     ) -> Result<bool, ReadRefusal>
-        ensures gives {
-            (file : List ℕ) → bytes_of (D.seen files.old) name.now ≡ Some file → Follows self.old file → MatchResult result
-                (λ more. GivesNext more row.new (ahead self.old file) (ahead self.new file) × Follows self.new file)
-                (λ why. Refuses why (ahead self.old file))
-        }
+        ensures gives { (file : List ℕ) → bytes_of (D.seen files.old) name.now ≡ Some file → Follows self.old file → MatchResult result
+            (λ more. GivesNext more row.new (ahead self.old file) (ahead self.new file) × Follows self.new file)
+            (λ why. Refuses why (ahead self.old file)) }
         ensures counts { IfOk result (λ more. WentOn more row.new self.old self.new) }
         ensures header { self.new.header ≡ self.old.header }
         ensures goes { self.new.stopped ≡ self.old.stopped }
@@ -136,9 +130,7 @@ impl Progress {
 
     // Behind the counted constraints section 2 ends.
     fn at_end(&self) -> Result<(), ReadRefusal>
-        ensures gives {
-            (file : List ℕ) → self.now.left ≡ 0 → MatchResult result (λ _. ahead self.now file ≡ Ok []) (λ why. Refuses why (ahead self.now file))
-        }
+        ensures gives { (file : List ℕ) → self.now.left ≡ 0 → MatchResult result (λ _. ahead self.now file ≡ Ok []) (λ why. Refuses why (ahead self.now file)) }
         ensures told { IfErr result IsTold }
     {
         let rows = self.header.rows;

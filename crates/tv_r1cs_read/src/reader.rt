@@ -26,7 +26,13 @@ impl<D: Files, R: Drop> Drop for SystemReader<'_, D, R> {
     fn drop(self)
         ensures { self.exit.0.now ≡ self.entry.files.now }
     {
-        let SystemReader { files: _, name: _, alloc: _, progress: _, spare: _ } = self;
+        let SystemReader {
+            files: _,
+            name: _,
+            alloc: _,
+            progress: _,
+            spare: _,
+        } = self;
     }
 }
 
@@ -48,18 +54,12 @@ impl<'a, D: Files> SystemReader<'a, D> {
         ensures ok_looks { IfOk result (λ reader. D.seen reader.files.now ≡ D.seen files.old) }
         ensures name { IfOk result (λ reader. reader.name.now ≡ name.now) }
         ensures begun { IfOk result (λ reader. IsBegun reader.progress) }
-        ensures gives {
-            (file : List ℕ) → bytes_of (D.seen files.old) name.now ≡ Some file → MatchResult result
-                (λ reader. (header_of file ≡ Ok reader.progress.header) × Follows reader.progress file)
-                (λ unread. Refuses unread.why (header_of file))
-        }
+        ensures gives { (file : List ℕ) → bytes_of (D.seen files.old) name.now ≡ Some file → MatchResult result
+            (λ reader. (header_of file ≡ Ok reader.progress.header) × Follows reader.progress file)
+            (λ unread. Refuses unread.why (header_of file)) }
         ensures err_same { IfErr result (λ unread. unread.files.ghost_name ≡ files.entry.ghost_name) }
-        ensures err_stopped {
-            IfErr result (λ unread. Stopped (D.seen files.old) (D.seen unread.files.now) name.now unread.why)
-        }
-        ensures missing {
-            IsMissing (D.seen files.old) name.now → MatchResult result (λ _. ⊥) (λ unread. unread.why ≡ ReadRefusal.Fault)
-        }
+        ensures err_stopped { IfErr result (λ unread. Stopped (D.seen files.old) (D.seen unread.files.now) name.now unread.why) }
+        ensures missing { IsMissing (D.seen files.old) name.now → MatchResult result (λ _. ⊥) (λ unread. unread.why ≡ ReadRefusal.Fault) }
     {
         match Progress::begin(files, name) {
             Ok(progress) => Ok(SystemReader {
@@ -84,11 +84,9 @@ impl<'a, D: Files> SystemReader<'a, D> {
     pub fn next(&mut self) -> Result<Option<Row>, ReadRefusal>
         ensures same { self.new.files.ghost_name ≡ self.old.files.ghost_name }
         ensures name { self.new.name.now ≡ self.old.name.now }
-        ensures gives {
-            (file : List ℕ) → bytes_of (D.seen self.old.files.now) self.old.name.now ≡ Some file → Follows self.old.progress file → MatchResult result
-                (λ row. GivesRow row (ahead self.old.progress file) (ahead self.new.progress file) × Follows self.new.progress file)
-                (λ why. Refuses why (ahead self.old.progress file))
-        }
+        ensures gives { (file : List ℕ) → bytes_of (D.seen self.old.files.now) self.old.name.now ≡ Some file → Follows self.old.progress file → MatchResult result
+            (λ row. GivesRow row (ahead self.old.progress file) (ahead self.new.progress file) × Follows self.new.progress file)
+            (λ why. Refuses why (ahead self.old.progress file)) }
         ensures counts { IfOk result (λ row. WentOnBy row self.old.progress self.new.progress) }
         ensures header { self.new.progress.header ≡ self.old.progress.header }
         ensures again { (why : ReadRefusal) → self.old.progress.stopped ≡ Some why →
@@ -122,9 +120,7 @@ impl<'a, D: Files> SystemReader<'a, D> {
 /// `Fault` comes only where a read failed, and a missing name is such a fault. Takes one pass, and
 /// memory for one constraint.
 pub fn survey<D: Files>(alloc: Global, files: &mut D, name: &str) -> Result<Counts, ReadRefusal>
-    ensures gives {
-        (file : List ℕ) → bytes_of (D.seen files.old) name.now ≡ Some file → Gives result (survey_of file)
-    }
+    ensures gives { (file : List ℕ) → bytes_of (D.seen files.old) name.now ≡ Some file → Gives result (survey_of file) }
     ensures looks { Looks (D.seen files.old) (D.seen files.new) name.now result }
     ensures missing { IsMissing (D.seen files.old) name.now → result ≡ Err ReadRefusal.Fault }
 {

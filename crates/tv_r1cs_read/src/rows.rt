@@ -112,16 +112,12 @@ pub(crate) fn read_row<D: Files>(
     requires { at ≤ bounds.now.end }
     ensures within { IfOk result (λ next. next ≤ bounds.now.end) }
     ensures size { IfOk result (λ next. next ≡ at + 12 + 12 * terms_in row.new) }
-    ensures piece {
-        (file : List ℕ) → bytes_of (D.seen files.old) name.now ≡ Some file →
-            IsPiece window.old file → OnOk result (IsPiece window.new file)
-    }
-    ensures gives {
-        (file : List ℕ) → bytes_of (D.seen files.old) name.now ≡ Some file → IsPiece window.old file →
-            bounds.now.end ≤ places file → MatchResult result
-                (λ next. constraint_at file bounds.now.wires bounds.now.end at ≡ Ok (record { value = constraint_of row.new; next = next }))
-                (λ why. Refuses why (constraint_at file bounds.now.wires bounds.now.end at))
-    }
+    ensures piece { (file : List ℕ) → bytes_of (D.seen files.old) name.now ≡ Some file →
+        IsPiece window.old file → OnOk result (IsPiece window.new file) }
+    ensures gives { (file : List ℕ) → bytes_of (D.seen files.old) name.now ≡ Some file → IsPiece window.old file →
+        bounds.now.end ≤ places file → MatchResult result
+        (λ next. constraint_at file bounds.now.wires bounds.now.end at ≡ Ok (record { value = constraint_of row.new; next = next }))
+        (λ why. Refuses why (constraint_at file bounds.now.wires bounds.now.end at)) }
     ensures looks { Looks (D.seen files.old) (D.seen files.new) name.now result }
 {
     let at = read_combination(files, name, window, bounds, at, &mut row.a)?;
@@ -142,16 +138,12 @@ fn read_combination<D: Files>(
     requires { at ≤ bounds.now.end }
     ensures within { IfOk result (λ next. next ≤ bounds.now.end) }
     ensures size { IfOk result (λ next. next ≡ at + 4 + 12 * length terms.new) }
-    ensures piece {
-        (file : List ℕ) → bytes_of (D.seen files.old) name.now ≡ Some file →
-            IsPiece window.old file → OnOk result (IsPiece window.new file)
-    }
-    ensures gives {
-        (file : List ℕ) → bytes_of (D.seen files.old) name.now ≡ Some file → IsPiece window.old file →
-            bounds.now.end ≤ places file → MatchResult result
-                (λ next. combination_at file bounds.now.wires bounds.now.end at ≡ Ok (record { value = combination_of terms.new; next = next }))
-                (λ why. Refuses why (combination_at file bounds.now.wires bounds.now.end at))
-    }
+    ensures piece { (file : List ℕ) → bytes_of (D.seen files.old) name.now ≡ Some file →
+        IsPiece window.old file → OnOk result (IsPiece window.new file) }
+    ensures gives { (file : List ℕ) → bytes_of (D.seen files.old) name.now ≡ Some file → IsPiece window.old file →
+        bounds.now.end ≤ places file → MatchResult result
+        (λ next. combination_at file bounds.now.wires bounds.now.end at ≡ Ok (record { value = combination_of terms.new; next = next }))
+        (λ why. Refuses why (combination_at file bounds.now.wires bounds.now.end at)) }
     ensures looks { Looks (D.seen files.old) (D.seen files.new) name.now result }
 {
     fit_below(files, name, window, at, 4, bounds.end)?;
@@ -181,14 +173,10 @@ fn fit_below<D: Files>(
     requires before { at ≤ end }
     ensures held { OnOk result (Holds window.new at size) }
     ensures within { OnOk result (at + size ≤ end) }
-    ensures piece {
-        (file : List ℕ) → bytes_of (D.seen files.old) name.now ≡ Some file →
-            IsPiece window.old file → OnOk result (IsPiece window.new file)
-    }
-    ensures gives {
-        (file : List ℕ) → bytes_of (D.seen files.old) name.now ≡ Some file → IsPiece window.old file →
-            end ≤ places file → Gives result (fit size at end)
-    }
+    ensures piece { (file : List ℕ) → bytes_of (D.seen files.old) name.now ≡ Some file →
+        IsPiece window.old file → OnOk result (IsPiece window.new file) }
+    ensures gives { (file : List ℕ) → bytes_of (D.seen files.old) name.now ≡ Some file → IsPiece window.old file →
+        end ≤ places file → Gives result (fit size at end) }
     ensures looks { Looks (D.seen files.old) (D.seen files.new) name.now result }
 {
     if end - at < size as u64 {
@@ -213,17 +201,13 @@ fn read_terms<D: Files>(
     requires { at ≤ bounds.now.end }
     ensures within { IfOk result (λ next. next ≤ bounds.now.end) }
     ensures size { IfOk result (λ next. next + 12 * length terms.old ≡ at + 12 * length terms.new) }
-    ensures piece {
-        (file : List ℕ) → bytes_of (D.seen files.old) name.now ≡ Some file →
-            IsPiece window.old file → OnOk result (IsPiece window.new file)
-    }
-    ensures gives {
-        (file : List ℕ) → bytes_of (D.seen files.old) name.now ≡ Some file → IsPiece window.old file →
-            bounds.now.end ≤ places file → (answer : Result (Read Combination) Fault) →
-            IsAhead answer terms.old file bounds.now.wires bounds.now.end count at → MatchResult result
-                (λ next. answer ≡ Ok (record { value = combination_of terms.new; next = next }))
-                (λ why. Refuses why answer)
-    }
+    ensures piece { (file : List ℕ) → bytes_of (D.seen files.old) name.now ≡ Some file →
+        IsPiece window.old file → OnOk result (IsPiece window.new file) }
+    ensures gives { (file : List ℕ) → bytes_of (D.seen files.old) name.now ≡ Some file → IsPiece window.old file →
+        bounds.now.end ≤ places file → (answer : Result (Read Combination) Fault) →
+        IsAhead answer terms.old file bounds.now.wires bounds.now.end count at → MatchResult result
+        (λ next. answer ≡ Ok (record { value = combination_of terms.new; next = next }))
+        (λ why. Refuses why answer) }
     ensures looks { Looks (D.seen files.old) (D.seen files.new) name.now result }
 {
     let mut at = at;
@@ -248,12 +232,10 @@ fn take_terms(
 ) -> Result<(), ReadRefusal>
     requires held { Holds window.now at (12 * count) }
     requires within { at + 12 * count ≤ bounds.now.end }
-    ensures gives {
-        (file : List ℕ) → IsPiece window.now file → (answer : Result (Read Combination) Fault) → (n : ℕ) →
-            count ≤ n → IsAhead answer terms.old file bounds.now.wires bounds.now.end n at → MatchResult result
-                (λ _. IsAhead answer terms.new file bounds.now.wires bounds.now.end (n - count) (at + 12 * count))
-                (λ why. Refuses why answer)
-    }
+    ensures gives { (file : List ℕ) → IsPiece window.now file → (answer : Result (Read Combination) Fault) → (n : ℕ) →
+        count ≤ n → IsAhead answer terms.old file bounds.now.wires bounds.now.end n at → MatchResult result
+        (λ _. IsAhead answer terms.new file bounds.now.wires bounds.now.end (n - count) (at + 12 * count))
+        (λ why. Refuses why answer) }
     ensures size { OnOk result (length terms.new ≡ length terms.old + count) }
     ensures told { IfErr result IsTold }
 {

@@ -96,19 +96,13 @@ pub fn find_sections<D: Files>(
     form: &Form,
 ) -> Result<(Found, u64), ReadRefusal>
     requires singles { form.now.singles ≤ 3 }
-    ensures piece {
-        (file : List ℕ) → bytes_of (D.seen files.old) name.now ≡ Some file →
-            IsPiece window.old file → OnOk result (IsPiece window.new file)
-    }
-    ensures gives {
-        (file : List ℕ) → bytes_of (D.seen files.old) name.now ≡ Some file → IsPiece window.old file →
-            FindsIn result file (sections_of form.now.singles form.now.magic form.now.version file)
-    }
+    ensures piece { (file : List ℕ) → bytes_of (D.seen files.old) name.now ≡ Some file →
+        IsPiece window.old file → OnOk result (IsPiece window.new file) }
+    ensures gives { (file : List ℕ) → bytes_of (D.seen files.old) name.now ≡ Some file → IsPiece window.old file →
+        FindsIn result file (sections_of form.now.singles form.now.magic form.now.version file) }
     ensures ends { IfOk result (λ found. AllEnd found.0) }
     ensures looks { Looks (D.seen files.old) (D.seen files.new) name.now result }
-    ensures missing {
-        IsMissing (D.seen files.old) name.now → window.old.bytes ≡ [] → result ≡ Err ReadRefusal.Fault
-    }
+    ensures missing { IsMissing (D.seen files.old) name.now → window.old.bytes ≡ [] → result ≡ Err ReadRefusal.Fault }
 {
     let count = section_count(files, name, window, form)?;
     next_sections(files, name, window, form.singles, count)
@@ -116,10 +110,8 @@ pub fn find_sections<D: Files>(
 
 // Whether the file has no byte at a place.
 fn ends<D: Files>(files: &mut D, name: &str, at: u64) -> Result<bool, ReadRefusal>
-    ensures gives {
-        (file : List ℕ) → bytes_of (D.seen files.old) name.now ≡ Some file →
-            Gives result (Ok (nat_le (length file) at))
-    }
+    ensures gives { (file : List ℕ) → bytes_of (D.seen files.old) name.now ≡ Some file →
+        Gives result (Ok (nat_le (length file) at)) }
     ensures looks { Looks (D.seen files.old) (D.seen files.new) name.now result }
 {
     let mut byte = [0];
@@ -134,22 +126,14 @@ fn section_count<D: Files>(
     window: &mut Window,
     form: &Form,
 ) -> Result<u32, ReadRefusal>
-    ensures piece {
-        (file : List ℕ) → bytes_of (D.seen files.old) name.now ≡ Some file →
-            IsPiece window.old file → OnOk result (IsPiece window.new file)
-    }
-    ensures gives {
-        (file : List ℕ) → bytes_of (D.seen files.old) name.now ≡ Some file → IsPiece window.old file →
-            Gives result (sections_in form.now.magic form.now.version file)
-    }
-    ensures start {
-        (file : List ℕ) → bytes_of (D.seen files.old) name.now ≡ Some file → IsPiece window.old file →
-            OnOk result (12 ≤ places file)
-    }
+    ensures piece { (file : List ℕ) → bytes_of (D.seen files.old) name.now ≡ Some file →
+        IsPiece window.old file → OnOk result (IsPiece window.new file) }
+    ensures gives { (file : List ℕ) → bytes_of (D.seen files.old) name.now ≡ Some file → IsPiece window.old file →
+        Gives result (sections_in form.now.magic form.now.version file) }
+    ensures start { (file : List ℕ) → bytes_of (D.seen files.old) name.now ≡ Some file → IsPiece window.old file →
+        OnOk result (12 ≤ places file) }
     ensures looks { Looks (D.seen files.old) (D.seen files.new) name.now result }
-    ensures missing {
-        IsMissing (D.seen files.old) name.now → window.old.bytes ≡ [] → result ≡ Err ReadRefusal.Fault
-    }
+    ensures missing { IsMissing (D.seen files.old) name.now → window.old.bytes ≡ [] → result ≡ Err ReadRefusal.Fault }
 {
     window.fit(files, name, 0, 4)?;
     if window.word(0) != form.magic {
@@ -179,14 +163,10 @@ fn next_sections<D: Files>(
     count: u32,
 ) -> Result<(Found, u64), ReadRefusal>
     requires { singles ≤ 3 }
-    ensures piece {
-        (file : List ℕ) → bytes_of (D.seen files.old) name.now ≡ Some file →
-            IsPiece window.old file → OnOk result (IsPiece window.new file)
-    }
-    ensures gives {
-        (file : List ℕ) → bytes_of (D.seen files.old) name.now ≡ Some file → IsPiece window.old file →
-            12 ≤ places file → FindsIn result file (sections_from singles file count 12 [])
-    }
+    ensures piece { (file : List ℕ) → bytes_of (D.seen files.old) name.now ≡ Some file →
+        IsPiece window.old file → OnOk result (IsPiece window.new file) }
+    ensures gives { (file : List ℕ) → bytes_of (D.seen files.old) name.now ≡ Some file → IsPiece window.old file →
+        12 ≤ places file → FindsIn result file (sections_from singles file count 12 []) }
     ensures ends { IfOk result (λ found. AllEnd found.0) }
     ensures looks { Looks (D.seen files.old) (D.seen files.new) name.now result }
 {
@@ -217,15 +197,11 @@ fn next_section<D: Files>(
     at: u64,
 ) -> Result<Section, ReadRefusal>
     requires { singles ≤ 3 }
-    ensures piece {
-        (file : List ℕ) → bytes_of (D.seen files.old) name.now ≡ Some file →
-            IsPiece window.old file → OnOk result (IsPiece window.new file)
-    }
-    ensures gives {
-        (file : List ℕ) → bytes_of (D.seen files.old) name.now ≡ Some file → IsPiece window.old file →
-            (sections : List Section) → found.now ≡ first_of sections →
-                Gives result (section_at singles file at sections)
-    }
+    ensures piece { (file : List ℕ) → bytes_of (D.seen files.old) name.now ≡ Some file →
+        IsPiece window.old file → OnOk result (IsPiece window.new file) }
+    ensures gives { (file : List ℕ) → bytes_of (D.seen files.old) name.now ≡ Some file → IsPiece window.old file →
+        (sections : List Section) → found.now ≡ first_of sections →
+        Gives result (section_at singles file at sections) }
     ensures place { IfOk result (λ section. section.at + section.size < 2 ^ 64) }
     ensures looks { Looks (D.seen files.old) (D.seen files.new) name.now result }
 {
@@ -259,18 +235,12 @@ fn reaches_end<D: Files>(
     window: &mut Window,
     section: &Section,
 ) -> Result<bool, ReadRefusal>
-    ensures piece {
-        (file : List ℕ) → bytes_of (D.seen files.old) name.now ≡ Some file →
-            IsPiece window.old file → OnOk result (IsPiece window.new file)
-    }
-    ensures gives {
-        (file : List ℕ) → bytes_of (D.seen files.old) name.now ≡ Some file → IsPiece window.old file →
-            section.now.at ≤ places file →
-                Gives result (Ok (nat_le (section.now.at + section.now.size) (places file)))
-    }
-    ensures place {
-        IfOk result (λ there. there ≡ true → section.now.at + section.now.size < 2 ^ 64)
-    }
+    ensures piece { (file : List ℕ) → bytes_of (D.seen files.old) name.now ≡ Some file →
+        IsPiece window.old file → OnOk result (IsPiece window.new file) }
+    ensures gives { (file : List ℕ) → bytes_of (D.seen files.old) name.now ≡ Some file → IsPiece window.old file →
+        section.now.at ≤ places file →
+        Gives result (Ok (nat_le (section.now.at + section.now.size) (places file))) }
+    ensures place { IfOk result (λ there. there ≡ true → section.now.at + section.now.size < 2 ^ 64) }
     ensures looks { Looks (D.seen files.old) (D.seen files.new) name.now result }
 {
     let Some(end) = section.at.checked_add(section.size) else {

@@ -97,18 +97,12 @@ impl Window {
         requires small { size ≤ 4096 }
         ensures held { IfOk result (λ there. there ≡ true → Holds self.new at size) }
         ensures place { IfOk result (λ there. there ≡ true → at + size < 2 ^ 64) }
-        ensures piece {
-            (file : List ℕ) → bytes_of (D.seen files.old) name.now ≡ Some file →
-                IsPiece self.old file → OnOk result (IsPiece self.new file)
-        }
-        ensures gives {
-            (file : List ℕ) → bytes_of (D.seen files.old) name.now ≡ Some file →
-                IsPiece self.old file → Gives result (Ok (nat_le (at + size) (places file)))
-        }
+        ensures piece { (file : List ℕ) → bytes_of (D.seen files.old) name.now ≡ Some file →
+            IsPiece self.old file → OnOk result (IsPiece self.new file) }
+        ensures gives { (file : List ℕ) → bytes_of (D.seen files.old) name.now ≡ Some file →
+            IsPiece self.old file → Gives result (Ok (nat_le (at + size) (places file))) }
         ensures looks { Looks (D.seen files.old) (D.seen files.new) name.now result }
-        ensures missing {
-            IsMissing (D.seen files.old) name.now → self.old.bytes ≡ [] → at + size < 2 ^ 64 → result ≡ Err ReadRefusal.Fault
-        }
+        ensures missing { IsMissing (D.seen files.old) name.now → self.old.bytes ≡ [] → at + size < 2 ^ 64 → result ≡ Err ReadRefusal.Fault }
     {
         if size as u64 > u64::MAX - at {
             return Ok(false);
@@ -133,18 +127,12 @@ impl Window {
         requires small { size ≤ 4096 }
         ensures held { OnOk result (Holds self.new at size) }
         ensures place { OnOk result (at + size < 2 ^ 64) }
-        ensures piece {
-            (file : List ℕ) → bytes_of (D.seen files.old) name.now ≡ Some file →
-                IsPiece self.old file → OnOk result (IsPiece self.new file)
-        }
-        ensures gives {
-            (file : List ℕ) → bytes_of (D.seen files.old) name.now ≡ Some file →
-                IsPiece self.old file → Gives result (fit size at (places file))
-        }
+        ensures piece { (file : List ℕ) → bytes_of (D.seen files.old) name.now ≡ Some file →
+            IsPiece self.old file → OnOk result (IsPiece self.new file) }
+        ensures gives { (file : List ℕ) → bytes_of (D.seen files.old) name.now ≡ Some file →
+            IsPiece self.old file → Gives result (fit size at (places file)) }
         ensures looks { Looks (D.seen files.old) (D.seen files.new) name.now result }
-        ensures missing {
-            IsMissing (D.seen files.old) name.now → self.old.bytes ≡ [] → at + size < 2 ^ 64 → result ≡ Err ReadRefusal.Fault
-        }
+        ensures missing { IsMissing (D.seen files.old) name.now → self.old.bytes ≡ [] → at + size < 2 ^ 64 → result ≡ Err ReadRefusal.Fault }
     {
         if self.reach(files, name, at, size)? {
             return Ok(());
@@ -168,19 +156,13 @@ fn fill<D: Files>(
     requires small { size ≤ 4096 }
     requires place { at + size < 2 ^ 64 }
     ensures within { IfOk result (λ held. held ≤ 4096) }
-    ensures piece {
-        (file : List ℕ) → bytes_of (D.seen files.old) name.now ≡ Some file →
-            IfOk result (λ held. take held bytes.new ≡ take held (drop at file))
-    }
-    ensures end {
-        (file : List ℕ) → bytes_of (D.seen files.old) name.now ≡ Some file →
-            IfOk result (λ held. held < size → length file ≤ at + held)
-    }
-    ensures looks {
-        MatchResult result
-            (λ _. D.seen files.new ≡ D.seen files.old)
-            (λ why. Stopped (D.seen files.old) (D.seen files.new) name.now (read_refusal why))
-    }
+    ensures piece { (file : List ℕ) → bytes_of (D.seen files.old) name.now ≡ Some file →
+        IfOk result (λ held. take held bytes.new ≡ take held (drop at file)) }
+    ensures end { (file : List ℕ) → bytes_of (D.seen files.old) name.now ≡ Some file →
+        IfOk result (λ held. held < size → length file ≤ at + held) }
+    ensures looks { MatchResult result
+        (λ _. D.seen files.new ≡ D.seen files.old)
+        (λ why. Stopped (D.seen files.old) (D.seen files.new) name.now (read_refusal why)) }
     ensures missing { IsMissing (D.seen files.old) name.now → result ≡ Err FileRefusal.Failed }
 {
     let mut held = 0;

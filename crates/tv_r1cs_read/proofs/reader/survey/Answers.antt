@@ -20,20 +20,20 @@ returns-in_err-row-clause-gives g c = λ file told.
 
 pub loop-reader-preserved : goal.loop-reader-preserved
 loop-reader-preserved g c = record {
-    same = search rules;
-    outside = search rules;
-    name = search rules;
-    header = search rules;
-    on = search rules;
-    read = λ file begun follows.
-        let before = c.loop-reader.invariant.read file begun follows in
-        let told = rw (← c.loop-reader.invariant.outside, ← c.loop-reader.invariant.name) at begun in
-        let gives = rw c.in-Some.is at c.in_ok-row.ensures.gives file told before.0 in
-        let counts = rw c.in-Some.is at c.in_ok-row.ensures.counts in
-        let total : c.next.new.self.progress.terms ≡ sum_by terms_of (before.1.0 ++ constraint_of c.in-Some.row ∷ []) = counts.0 ∙ ap (λ n. n + terms_in c.in-Some.row) before.1.2 ∙ sym (terms_more before.1.0 c.in-Some.row) in
-        rw c.reuse.ensures.progress
-        (gives.1, (before.1.0 ++ constraint_of c.in-Some.row ∷ [], read_more before.1.0 _ _ _ _ before.1.1 gives.0, total));
-  }
+  same = search rules;
+  outside = search rules;
+  name = search rules;
+  header = search rules;
+  on = search rules;
+  read = λ file begun follows.
+      let before = c.loop-reader.invariant.read file begun follows in
+      let told = rw (← c.loop-reader.invariant.outside, ← c.loop-reader.invariant.name) at begun in
+      let gives = rw c.in-Some.is at c.in_ok-row.ensures.gives file told before.0 in
+      let counts = rw c.in-Some.is at c.in_ok-row.ensures.counts in
+      let total : c.next.new.self.progress.terms ≡ sum_by terms_of (before.1.0 ++ constraint_of c.in-Some.row ∷ []) = counts.0 ∙ ap (λ n. n + terms_in c.in-Some.row) before.1.2 ∙ sym (terms_more before.1.0 c.in-Some.row) in
+      rw c.reuse.ensures.progress
+      (gives.1, (before.1.0 ++ constraint_of c.in-Some.row ∷ [], read_more before.1.0 _ _ _ _ before.1.1 gives.0, total));
+}
 
 pub returns-clause-gives : goal.returns-clause-gives
 returns-clause-gives g c = λ file told.
@@ -43,4 +43,4 @@ returns-clause-gives g c = λ file told.
     let gives = rw c.in_default.is at c.in_ok-row.ensures.gives file (rw (← c.loop-reader.invariant.outside, ← c.loop-reader.invariant.name) at begun) read.0 in
     let counts = rw c.in_default.is at c.in_ok-row.ensures.counts in
     rw c.counts.ensures (survey_of-read file c.in-Ok.reader.progress c.next.new.self.progress read.1.0 header.0 c.in-Ok.ensures.begun
-      (read_all read.1.0 _ _ read.1.1 gives.0.0) (c.in_ok-row.ensures.header ∙ c.loop-reader.invariant.header) (counts.0 ∙ read.1.2))
+    (read_all read.1.0 _ _ read.1.1 gives.0.0) (c.in_ok-row.ensures.header ∙ c.loop-reader.invariant.header) (counts.0 ∙ read.1.2))

@@ -6,5 +6,5 @@ pub returns-clause-gives : goal.returns-clause-gives
 returns-clause-gives g c = λ file told piece end.
     let held = c.in_ok-fit_below.ensures.piece file told piece in
     let counted = combination_at-counted file c.args.bounds.now.wires c.args.bounds.now.end c.args.at c.word-count.result _
-          (c.in_ok-fit_below.ensures.gives file told piece end) (sym (c.word-count.ensures file held)) c.if-count-gt-WIDEST.false in
+    (c.in_ok-fit_below.ensures.gives file told piece end) (sym (c.word-count.ensures file held)) c.if-count-gt-WIDEST.false in
     rw counted (c.read_terms.ensures.gives file (rw (← c.in_ok-fit_below.ensures.looks) at told) held end _ (rw c.clear.ensures (begins file _ _ _ _)))

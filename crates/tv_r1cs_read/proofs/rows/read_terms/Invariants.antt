@@ -8,14 +8,14 @@ use Rattle.tv_r1cs_read.proofs.rows.read_terms.Given as goal
 
 abbrev pub invariant-loop-left : goal.invariant-loop-left
 invariant-loop-left g l = record {
-    outside : g.D.Files.seen l.files ≡ g.D.Files.seen l.initial.files;
-    within : l.at ≤ l.bounds.end;
-    size : l.at + 12 * length l.initial.terms ≡ l.initial.at + 12 * length l.terms;
-    piece : (file : List ℕ) → bytes_of (g.D.Files.seen l.initial.files) l.name ≡ Some file → IsPiece l.initial.window file → IsPiece l.window file;
-    ahead : (file : List ℕ) → bytes_of (g.D.Files.seen l.initial.files) l.name ≡ Some file → IsPiece l.initial.window file →
+  outside : g.D.Files.seen l.files ≡ g.D.Files.seen l.initial.files;
+  within : l.at ≤ l.bounds.end;
+  size : l.at + 12 * length l.initial.terms ≡ l.initial.at + 12 * length l.terms;
+  piece : (file : List ℕ) → bytes_of (g.D.Files.seen l.initial.files) l.name ≡ Some file → IsPiece l.initial.window file → IsPiece l.window file;
+  ahead : (file : List ℕ) → bytes_of (g.D.Files.seen l.initial.files) l.name ≡ Some file → IsPiece l.initial.window file →
       l.bounds.end ≤ places file → (answer : Result (Read Combination) Fault) →
       IsAhead answer l.initial.terms file l.bounds.wires l.bounds.end l.count l.initial.at → IsAhead answer l.terms file l.bounds.wires l.bounds.end l.left l.at;
-  }
+}
 
 abbrev pub decreases-loop-left : goal.decreases-loop-left
 decreases-loop-left g l = l.left

@@ -10,25 +10,25 @@ returns-then-wire-bounds-clause-gives c = λ file piece answer n enough ahead.
     let left : n - c.loop.counter ≡ n - (c.loop.counter + 1) + 1 = omega (arith, c.loop-test.true) in
     let fits : c.loop.at + 12 ≤ c.args.bounds.now.end = omega (arith, c.loop-test.true, c.loop.invariant.place, c.requires.within) in
     no_wire answer _ file _ _ _ _ _ _ (c.loop.invariant.ahead file piece answer n enough ahead) left fits
-      (sym (c.word-wire.ensures file piece)) c.if-wire-bounds.true
+    (sym (c.word-wire.ensures file piece)) c.if-wire-bounds.true
 
 pub returns-in_default-clause-gives : goal.returns-in_default-clause-gives
 returns-in_default-clause-gives c = λ file piece answer n enough ahead.
     let left : n - c.loop.counter ≡ n - (c.loop.counter + 1) + 1 = omega (arith, c.loop-test.true) in
     let fits : c.loop.at + 12 ≤ c.args.bounds.now.end = omega (arith, c.loop-test.true, c.loop.invariant.place, c.requires.within) in
     no_residue answer _ file _ _ _ _ _ _ _ (c.loop.invariant.ahead file piece answer n enough ahead) left fits
-      (sym (c.word-wire.ensures file piece)) c.if-wire-bounds.false (sym (c.long.ensures file piece)) (c.in_default.ensures.none.0 refl)
+    (sym (c.word-wire.ensures file piece)) c.if-wire-bounds.false (sym (c.long.ensures file piece)) (c.in_default.ensures.none.0 refl)
 
 pub loop-preserved : goal.loop-preserved
 loop-preserved c = record {
-    place = omega (arith, c.loop.invariant.place);
-    size =
-        let grown : length c.push.new.self ≡ length c.loop.terms + 1 = ap length c.in_ok-push.ensures ∙ length_push c.loop.terms (c.word-wire.result, c.in-Some.coefficient) in
-        omega (arith, grown, c.loop.invariant.size);
-    ahead = λ file piece answer n enough ahead.
-        let left : n - c.loop.counter ≡ n - (c.loop.counter + 1) + 1 = omega (arith, c.loop-test.true) in
-        let fits : c.loop.at + 12 ≤ c.args.bounds.now.end = omega (arith, c.loop-test.true, c.loop.invariant.place, c.requires.within) in
-        let canonical : c.long.result < P = ⊎_elim (λ below. below) (λ above. cc (c.in-Some.ensures.none.1 above)) (cases_lt c.long.result P) in
-        rw (c.in_ok-push.ensures, c.in-Some.ensures.some) (goes_on answer _ file _ _ _ _ _ _ _ (c.loop.invariant.ahead file piece answer n enough ahead) left fits
-          (sym (c.word-wire.ensures file piece)) c.if-wire-bounds.false (sym (c.long.ensures file piece)) canonical);
-  }
+  place = omega (arith, c.loop.invariant.place);
+  size =
+      let grown : length c.push.new.self ≡ length c.loop.terms + 1 = ap length c.in_ok-push.ensures ∙ length_push c.loop.terms (c.word-wire.result, c.in-Some.coefficient) in
+      omega (arith, grown, c.loop.invariant.size);
+  ahead = λ file piece answer n enough ahead.
+      let left : n - c.loop.counter ≡ n - (c.loop.counter + 1) + 1 = omega (arith, c.loop-test.true) in
+      let fits : c.loop.at + 12 ≤ c.args.bounds.now.end = omega (arith, c.loop-test.true, c.loop.invariant.place, c.requires.within) in
+      let canonical : c.long.result < P = ⊎_elim (λ below. below) (λ above. cc (c.in-Some.ensures.none.1 above)) (cases_lt c.long.result P) in
+      rw (c.in_ok-push.ensures, c.in-Some.ensures.some) (goes_on answer _ file _ _ _ _ _ _ _ (c.loop.invariant.ahead file piece answer n enough ahead) left fits
+      (sym (c.word-wire.ensures file piece)) c.if-wire-bounds.false (sym (c.long.ensures file piece)) canonical);
+}

@@ -8,8 +8,8 @@ use Rattle.tv_r1cs_read.proofs.rows.take_terms.Given as goal
 
 abbrev pub invariant-loop : goal.invariant-loop
 invariant-loop l = record {
-    place : l.at ≡ l.initial.at + 12 * l.counter;
-    size : length l.terms ≡ length l.initial.terms + l.counter;
-    ahead : (file : List ℕ) → IsPiece l.window file → (answer : Result (Read Combination) Fault) → (n : ℕ) → l.count ≤ n →
+  place : l.at ≡ l.initial.at + 12 * l.counter;
+  size : length l.terms ≡ length l.initial.terms + l.counter;
+  ahead : (file : List ℕ) → IsPiece l.window file → (answer : Result (Read Combination) Fault) → (n : ℕ) → l.count ≤ n →
       IsAhead answer l.initial.terms file l.bounds.wires l.bounds.end n l.initial.at → IsAhead answer l.terms file l.bounds.wires l.bounds.end (n - l.counter) l.at;
-  }
+}

@@ -15,17 +15,21 @@ returns-in_err-section-clause-gives g c = λ file told piece starts.
 
 pub loop-preserved : goal.loop-preserved
 loop-preserved g c = record {
-    outside = c.in_ok-section.ensures.looks ∙ c.loop.invariant.outside;
-    ends = c.and-found.ensures.ends c.loop.invariant.ends c.in_ok-section.ensures.place;
-    piece = λ file told piece. c.in_ok-section.ensures.piece file (rw (← c.loop.invariant.outside) at told) (c.loop.invariant.piece file told piece);
-    known = λ file told piece starts.
-        let known = c.loop.invariant.known file told piece starts in
-        let read = c.in_ok-section.ensures.gives file (rw (← c.loop.invariant.outside) at told) (c.loop.invariant.piece file told piece) known.1.0 known.1.1 in
-        let left : c.args.count - c.loop.counter ≡ c.args.count - (c.loop.counter + 1) + 1 = omega (arith, c.loop-test.true) in
-        (section_at-fits _ _ _ _ _ read,
-        (known.1.0 ++ c.in_ok-section.section ∷ [], c.and-found.ensures.found known.1.0 known.1.1,
-        known.1.2 ∙ sections_from-next _ _ _ _ _ _ _ left read));
-  }
+  outside = c.in_ok-section.ensures.looks ∙ c.loop.invariant.outside;
+  ends = c.and-found.ensures.ends c.loop.invariant.ends c.in_ok-section.ensures.place;
+  piece = λ file told piece. c.in_ok-section.ensures.piece file (rw (← c.loop.invariant.outside) at told) (c.loop.invariant.piece file told piece);
+  known = λ file told piece starts.
+      let known = c.loop.invariant.known file told piece starts in
+      let read = c.in_ok-section.ensures.gives file (rw (← c.loop.invariant.outside) at told) (c.loop.invariant.piece file told piece) known.1.0 known.1.1 in
+      let left : c.args.count - c.loop.counter ≡ c.args.count - (c.loop.counter + 1) + 1 = omega (arith, c.loop-test.true) in (
+        section_at-fits _ _ _ _ _ read,
+        (
+          known.1.0 ++ c.in_ok-section.section ∷ [],
+          c.and-found.ensures.found known.1.0 known.1.1,
+          known.1.2 ∙ sections_from-next _ _ _ _ _ _ _ left read,
+        ),
+      );
+}
 
 pub returns-then-not-branch-clause-gives : goal.returns-then-not-branch-clause-gives
 returns-then-not-branch-clause-gives g c = λ file told piece starts.

@@ -14,6 +14,7 @@ returns-in_err-self-inside-clause-gives g c = λ file told follows.
 pub returns-clause-gives : goal.returns-clause-gives
 returns-clause-gives g c = λ file told follows.
     let on = rw (← c.self.view_is) at follows in
-    let left : c.self.inside.left ≡ c.self.inside.left - 1 + 1 = omega arith in
-    (rw (← c.self.view_is) (constraints_from-next file _ _ _ _ _ _ left (c.in_ok-self-inside.ensures.gives file told on.piece on.within)),
-    record { piece = c.in_ok-self-inside.ensures.piece file told on.piece; within = on.within; on = on.on })
+    let left : c.self.inside.left ≡ c.self.inside.left - 1 + 1 = omega arith in (
+      rw (← c.self.view_is) (constraints_from-next file _ _ _ _ _ _ left (c.in_ok-self-inside.ensures.gives file told on.piece on.within)),
+      record { piece = c.in_ok-self-inside.ensures.piece file told on.piece; within = on.within; on = on.on },
+    )
