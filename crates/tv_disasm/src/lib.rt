@@ -7,8 +7,10 @@
 
 mod disassembler;
 mod fault;
+mod law;
 mod line;
 mod operands;
 
 pub use disassembler::disassemble;
 pub use fault::DisFault;
+pub use law::{disassembly_assembles, words_spell_the_image};
