@@ -1,6 +1,6 @@
 -- Two words and their line: by name, and as they are.
-use Rattle.std.proofs.Common.{◌≡◌, ℕ, ◌+◌, ◌-◌, ◌*◌, ◌/◌, ◌%◌, ◌^◌, ◌<◌, ◌≤◌, ◌==◌, nat_lt, Bool, true, false, not, ◌&&◌, ◌||◌, cond, if◌then◌else◌, List, [], ◌∷◌, ◌++◌, length, map, slice_index, codes, decimal, Option, Some, None, Ok, refl, sym, ap, ◌∙◌, subst, arith}
-use Rattle.std.proofs.lemmas.Bool.{and_parts, eqb-true, lt-ltb, ltb-true, not-true, cases_eq}
+use Rattle.std.proofs.Common.{◌≡◌, ℕ, ◌+◌, ◌*◌, ◌/◌, ◌%◌, ◌^◌, ◌<◌, ◌==◌, nat_lt, Bool, true, false, not, ◌&&◌, ◌||◌, cond, if◌then◌else◌, List, [], ◌∷◌, ◌++◌, length, map, slice_index, codes, decimal, Option, Some, None, Ok, refl, sym, ap, ◌∙◌, arith}
+use Rattle.std.proofs.lemmas.Bool.{and_parts, eqb-true, ltb-true, not-true}
 use Rattle.std.proofs.lemmas.Bool.Decides.{nat_tests}
 use Rattle.std.proofs.lemmas.List.{append-nil, append_assoc}
 use Rattle.std.specs.List.{find, list_all}
@@ -16,7 +16,7 @@ use Rattle.tv_isa.specs.declared.operation.Shape.TheVariants.{DestSourceA, DestA
 use Rattle.tv_disasm.specs.Disassembly.{hexadecimal, instruction_text, last_text, leaves_zero, operand_texts, raw_text, register_text, row_text, tells_all, two_words_text}
 use Rattle.tv_disasm.proofs.LineLemmas.{AreOperands, IsLine, spelled_line, spelled-IsLine, words_of-line}
 use Rattle.tv_disasm.proofs.NumberLemmas.{first-decimal, is_decimal_byte, IsDecimal-decimal, IsDecimal-IsWord, IsHexadecimal-hexadecimal, number-decimal, number-hexadecimal, register-register_text, register-word}
-use Rattle.tv_disasm.proofs.WordLemmas.{apart, AreWords, is_word_byte, IsWord}
+use Rattle.tv_disasm.proofs.WordLemmas.{apart, is_word_byte, IsWord}
 
 step_passes : {A : Type 0} (p : A → Bool) (x y : A) (b : Bool) (rest : Option A) → p y ≡ b → cond b (Some y) rest ≡ Some x → (rest ≡ Some x → p x ≡ true) → p x ≡ true
 step_passes p x y true rest e f more = cc
@@ -169,8 +169,8 @@ instruction-IsLineOf h a row below low r t =
     record {
       line = spelled-IsLine row.name operands r.name are;
       words = λ address.
-        words_of-line 32 address row.name operands r.name are
-        ∙ rw r.not_raw (table_words-told address row i r t ∙ ap (λ words. Ok words) (encode-decode h a below low));
+          words_of-line 32 address row.name operands r.name are
+          ∙ rw r.not_raw (table_words-told address row i r t ∙ ap (λ words. Ok words) (encode-decode h a below low));
     }
 
 -- two words as they are, as a name and operands
@@ -201,7 +201,7 @@ raw-IsLineOf h a high below =
     let whole : IsLineOf h a (spelled_line (codes ".raw") operands) = record {
       line = spelled-IsLine (codes ".raw") operands name are;
       words = λ address.
-        words_of-line 32 address (codes ".raw") operands name are ∙ raw-words h a high below;
+          words_of-line 32 address (codes ".raw") operands name are ∙ raw-words h a high below;
     } in
     rw (raw-spelled h a) whole
 

@@ -1,16 +1,16 @@
 -- A line made of words: how it is cut.
-use Rattle.std.proofs.Common.{◌≡◌, ℕ, suc, ◌+◌, ◌-◌, ◌<◌, ◌≤◌, ◌==◌, nat_le, nat_lt, Bool, true, false, not, ◌&&◌, ◌||◌, cond, if◌then◌else◌, List, [], ◌∷◌, ◌++◌, length, take, drop, map, slice_index, codes, Option, Some, None, refl, sym, ap, ◌∙◌, arith}
+use Rattle.std.proofs.Common.{◌≡◌, ℕ, suc, ◌-◌, ◌<◌, ◌==◌, Bool, true, false, not, ◌||◌, if◌then◌else◌, List, [], ◌∷◌, ◌++◌, length, map, slice_index, codes, Option, Some, None, refl, ap, ◌∙◌, arith}
 use Rattle.std.proofs.Math.Seq.{drop-append_seam}
 use Rattle.std.proofs.lemmas.Bool.{and_parts, and_from, or_right}
 use Rattle.std.proofs.lemmas.List.{append-nil, append_assoc, take_all}
 use Rattle.std.proofs.lemmas.List.Folds.{list_all-append, list_any_none}
 use Rattle.std.proofs.lemmas.List.Splits.{slice_split_at, slice_split_none}
-use Rattle.std.proofs.lemmas.List.Sums.{fails_before_first, position_or_len_is, suffix_len_is}
-use Rattle.std.specs.List.{All, before_first, list_any, flat_map, list_all, position_or_len, prefix_len, slice_split, suffix_len}
+use Rattle.std.proofs.lemmas.List.Sums.{position_or_len_is, suffix_len_is}
+use Rattle.std.specs.List.{All, before_first, list_any, list_all, position_or_len, prefix_len, slice_split, suffix_len}
 use Rattle.std.specs.Str.{bytes_eq}
 use Rattle.tv_asm.proofs.FirstLemmas.{before_first-append_none}
 use Rattle.tv_asm.specs.Assembly.{line_words, part_words}
-use Rattle.tv_asm.specs.Instruction.{operands_in, raw_words, table_words, words_of}
+use Rattle.tv_asm.specs.Instruction.{raw_words, table_words, words_of}
 use Rattle.tv_asm.specs.Line.{code_of, is_good_header, is_text, said}
 use Rattle.tv_asm.specs.Text.{is_blank, trimmed, trimmed_end}
 use Rattle.tv_disasm.specs.Disassembly.{joined}
@@ -140,8 +140,8 @@ spelled-IsLine name (operand ∷ more) n h =
     let whole : IsLine (name ++ 32 ∷ rest) = record {
       first = first-append name (32 ∷ rest) n;
       bytes =
-        list_all-append is_line_byte name (32 ∷ rest)
-        ∙ and_from (list_all is_line_byte name) (list_all is_line_byte rest) front (joined-bytes operand more h.words);
+          list_all-append is_line_byte name (32 ∷ rest)
+          ∙ and_from (list_all is_line_byte name) (list_all is_line_byte rest) front (joined-bytes operand more h.words);
       ended = is_ended-append name (32 ∷ rest) (is_ended-append (32 ∷ []) rest (joined-ended operand more h.words));
     } in
     rw (append_assoc name (codes " ") rest) whole

@@ -1,8 +1,8 @@
 -- Numbers in text, read back: decimals, hexadecimals and registers.
-use Rattle.std.proofs.Common.{◌≡◌, ℕ, zero, suc, ◌+◌, ◌-◌, ◌*◌, ◌/◌, ◌%◌, ◌^◌, ◌<◌, ◌≤◌, ◌==◌, nat_eq, nat_le, nat_lt, Bool, true, false, not, ◌&&◌, ◌||◌, List, [], ◌∷◌, ◌++◌, length, slice_index, codes, decimal, Option, Some, Ok, refl, sym, ap, ◌∙◌, arith}
+use Rattle.std.proofs.Common.{◌≡◌, ℕ, zero, suc, ◌+◌, ◌/◌, ◌%◌, ◌^◌, ◌<◌, ◌≤◌, ◌==◌, nat_eq, nat_le, Bool, true, false, not, ◌&&◌, ◌||◌, List, [], ◌∷◌, ◌++◌, length, slice_index, codes, decimal, Some, Ok, refl, sym, ap, ◌∙◌, arith}
 use Rattle.std.proofs.Math.Arith.{mod-mul}
-use Rattle.std.proofs.Math.Nat.{one-le-pow, pow-zero, pow-succ', mul-one}
-use Rattle.std.proofs.lemmas.Bool.{and_from, and_right, and_parts, lt-ltb, ltb-true, or_right, not_from_false}
+use Rattle.std.proofs.Math.Nat.{one-le-pow, pow-zero, pow-succ'}
+use Rattle.std.proofs.lemmas.Bool.{and_from, and_right, and_parts, lt-ltb, or_right}
 use Rattle.std.proofs.lemmas.Bool.Decides.{nat_tests}
 use Rattle.std.proofs.lemmas.Fmt.{decimal_by_steps, decimal_digit, first_decimal}
 use Rattle.std.proofs.lemmas.List.{length-append}
@@ -61,11 +61,11 @@ IsDecimal-more n front h d =
     record {
       some = omega (arith, length-append front ((48 + n % 10) ∷ []));
       bytes =
-        list_all-append is_decimal_byte front ((48 + n % 10) ∷ [])
-        ∙ and_from (list_all is_decimal_byte front) (is_decimal_byte (48 + n % 10) && true) d.bytes (and_from (is_decimal_byte (48 + n % 10)) true (digit-byte (n % 10) low) refl);
+          list_all-append is_decimal_byte front ((48 + n % 10) ∷ [])
+          ∙ and_from (list_all is_decimal_byte front) (is_decimal_byte (48 + n % 10) && true) d.bytes (and_from (is_decimal_byte (48 + n % 10)) true (digit-byte (n % 10) low) refl);
       value =
-        positional-append 10 front ((48 + n % 10) ∷ [])
-        ∙ rw (d.value, pow-zero, digit-value (n % 10) low) (omega arith);
+          positional-append 10 front ((48 + n % 10) ∷ [])
+          ∙ rw (d.value, pow-zero, digit-value (n % 10) low) (omega arith);
     }
 
 pub IsDecimal-decimal : (n : ℕ) → n < 2 ^ 64 → IsDecimal n (decimal n)
@@ -127,8 +127,8 @@ IsHexadecimal-hexadecimal (suc n) v =
       bytes = and_from (is_word_byte (digit_char d)) (list_all is_word_byte (hexadecimal n v)) (digit_char-word d low) more.bytes;
       digits = and_from (is_digit (digit_char d) 16) (list_all (λ c. is_digit c 16) (hexadecimal n v)) (digit_char-digit d low) more.digits;
       value =
-        rw (more.count, more.value, digit_value-digit_char d (omega arith), pow-succ' 16 n)
-        (sym (mod-mul v {m = 16} {c = 16 ^ n} (omega arith) (one-le-pow n 16 (omega arith))));
+          rw (more.count, more.value, digit_value-digit_char d (omega arith), pow-succ' 16 n)
+          (sym (mod-mul v {m = 16} {c = 16 ^ n} (omega arith) (one-le-pow n 16 (omega arith))));
     }
 
 -- the digits of a whole word are the number that they write

@@ -1,5 +1,5 @@
 -- A text of lines, and the image that it assembles to.
-use Rattle.std.proofs.Common.{◌≡◌, ℕ, zero, suc, ◌+◌, ◌-◌, ◌*◌, ◌/◌, ◌%◌, ◌^◌, ◌<◌, ◌≤◌, ◌==◌, nat_le, Bool, true, false, List, [], ◌∷◌, ◌++◌, length, take, drop, map, slice_index, codes, Option, Ok, refl, sym, ap, ◌∙◌, arith}
+use Rattle.std.proofs.Common.{◌≡◌, ℕ, zero, suc, ◌+◌, ◌-◌, ◌*◌, ◌/◌, ◌%◌, ◌^◌, ◌<◌, ◌≤◌, ◌==◌, Bool, List, [], ◌∷◌, ◌++◌, length, take, drop, map, slice_index, codes, Option, Ok, refl, sym, ap, ◌∙◌, arith}
 use Rattle.std.proofs.Math.Nat.{one-le-pow, pow-succ'}
 use Rattle.std.proofs.lemmas.Bool.{le-leb}
 use Rattle.std.proofs.lemmas.List.{append-nil, append_assoc, drop-drop, drop-take, length-append, length-drop, nil_from_length, take-append-drop, take-take}
@@ -14,7 +14,7 @@ use Rattle.tv_asm.specs.Labels.{address, is_defined}
 use Rattle.tv_asm.specs.Text.{lines, lines_of}
 use Rattle.tv_word.specs.Word.{low_bytes, spelled, word_at, word_bytes}
 use Rattle.tv_disasm.specs.Disassembly.{disassembly_of, two_words_text}
-use Rattle.tv_disasm.specs.Law.{DisassemblyAssembles, WordsSpellImage, words_in}
+use Rattle.tv_disasm.specs.Law.{DisassemblyAssembles, WordsSpellImage}
 use Rattle.tv_disasm.proofs.InstructionLemmas.{IsLineOf, two_words-IsLineOf}
 use Rattle.tv_disasm.proofs.LineLemmas.{IsLine, last-word, line_words-line}
 use Rattle.tv_disasm.proofs.WordLemmas.{apart, is_line_byte, is_word_byte, none_passes}
