@@ -1,6 +1,6 @@
 -- Two words and their line: by name, and as they are.
-use Rattle.std.proofs.Common.{◌≡◌, ℕ, ◌+◌, ◌*◌, ◌/◌, ◌%◌, ◌^◌, ◌<◌, ◌==◌, nat_lt, Bool, true, false, not, ◌&&◌, ◌||◌, cond, if◌then◌else◌, List, [], ◌∷◌, ◌++◌, length, map, slice_index, codes, decimal, Option, Some, None, Ok, refl, sym, ap, ◌∙◌, arith}
-use Rattle.std.proofs.lemmas.Bool.{and_parts, eqb-true, ltb-true, not-true}
+use Rattle.std.proofs.Common.{◌≡◌, ℕ, ◌+◌, ◌*◌, ◌/◌, ◌%◌, ◌^◌, ◌<◌, ◌≤◌, ◌==◌, nat_le, nat_lt, Bool, true, false, not, ◌&&◌, ◌||◌, cond, if◌then◌else◌, List, [], ◌∷◌, ◌++◌, length, map, slice_index, codes, decimal, Option, Some, None, Ok, refl, sym, ap, ◌∙◌, arith}
+use Rattle.std.proofs.lemmas.Bool.{and_parts, eqb-true, leb-true, ltb-true, not-true}
 use Rattle.std.proofs.lemmas.Bool.Decides.{nat_tests}
 use Rattle.std.proofs.lemmas.List.{append-nil, append_assoc}
 use Rattle.std.specs.List.{find, list_all}
@@ -44,6 +44,7 @@ pub record IsRow (opcode : ℕ) (row : Row) : Type 0 where
   pub op : row.op ≡ opcode
   pub found : with_name row.name ≡ Some row
   pub name : IsWord row.name
+  pub short : length row.name ≤ 7
   pub not_raw : bytes_eq row.name (codes ".raw") ≡ false
 
 -- each name is looked up to its own row
@@ -54,6 +55,10 @@ names_found = refl
 names_words : list_all (λ row. nat_lt 0 (length row.name) && list_all is_word_byte row.name) instructions ≡ true
 unfolding instructions
 names_words = refl
+
+names_short : list_all (λ row. nat_le (length row.name) 7) instructions ≡ true
+unfolding instructions
+names_short = refl
 
 names_not_raw : list_all (λ row. not (bytes_eq row.name (codes ".raw"))) instructions ≡ true
 unfolding instructions
@@ -68,6 +73,7 @@ with_opcode-IsRow op row h =
       op = eqb-true row.op op (find-passes p instructions row h);
       found = find-same p (λ r. with_name r.name) (λ r. Some r) instructions row names_found h;
       name = record { some = ltb-true 0 (length row.name) word.0; bytes = word.1 };
+      short = leb-true (length row.name) 7 (find-all p (λ r. nat_le (length r.name) 7) instructions row names_short h);
       not_raw = not-true (bytes_eq row.name (codes ".raw")) (find-all p (λ r. not (bytes_eq r.name (codes ".raw"))) instructions row names_not_raw h);
     }
 

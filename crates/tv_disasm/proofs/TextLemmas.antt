@@ -51,12 +51,12 @@ lines-flat_map f (x ∷ xs) h =
 abbrev two_words : List ℕ → List ℕ
 two_words two = word_at 32 two 0 ∷ word_at 32 two 4 ∷ []
 
-abbrev text_of : List ℕ → List ℕ
+abbrev pub text_of : List ℕ → List ℕ
 text_of two = two_words_text 32 (word_at 32 two 0) (word_at 32 two 4)
 
-record IsTwo (two : List ℕ) : Type 0 where
-  first : word_at 32 two 0 < 2 ^ 32
-  second : word_at 32 two 4 < 2 ^ 32
+pub record IsTwo (two : List ℕ) : Type 0 where
+  pub first : word_at 32 two 0 < 2 ^ 32
+  pub second : word_at 32 two 4 < 2 ^ 32
 
 IsTwo-IsLineOf : (two : List ℕ) → IsTwo two → IsLineOf (word_at 32 two 0) (word_at 32 two 4) (text_of two)
 IsTwo-IsLineOf two h = two_words-IsLineOf (word_at 32 two 0) (word_at 32 two 4) h.first h.second
@@ -96,12 +96,12 @@ take-IsTwo bytes h =
     let two = All-take (λ b. b < 256) 8 bytes h in
     record { first = spelled-below 4 (take 8 bytes) two; second = spelled-below 4 (drop 4 (take 8 bytes)) (All-drop (λ b. b < 256) 4 (take 8 bytes) two) }
 
-chunks-IsTwo : (k : ℕ) (bytes : List ℕ) → All (λ b. b < 256) bytes → AllByRecursion IsTwo (first_chunks 8 k bytes)
+pub chunks-IsTwo : (k : ℕ) (bytes : List ℕ) → All (λ b. b < 256) bytes → AllByRecursion IsTwo (first_chunks 8 k bytes)
 chunks-IsTwo zero bytes h = tt
 chunks-IsTwo (suc k) bytes h =
     (take-IsTwo bytes h, chunks-IsTwo k (drop 8 bytes) (All-drop (λ b. b < 256) 8 bytes h))
 
-length-chunks : (n k : ℕ) (bytes : List ℕ) → length (first_chunks n k bytes) ≡ k
+pub length-chunks : (n k : ℕ) (bytes : List ℕ) → length (first_chunks n k bytes) ≡ k
 length-chunks n zero bytes = refl
 length-chunks n (suc k) bytes = ap suc (length-chunks n k (drop n bytes))
 

@@ -19,3 +19,8 @@ DisassemblyAssembles w =
 abbrev pub WordsSpellImage : ℕ → Type 0
 WordsSpellImage w =
     (image : List ℕ) → All (λ b. b < 256) image → length image % (w / 8) ≡ 0 → flat_map (word_bytes w) (words_in w image) ≡ image
+
+-- the text of an image is at most four times as long as the image
+abbrev pub DisassemblyIsShort : ℕ → Type 0
+DisassemblyIsShort w =
+    (image : List ℕ) → All (λ b. b < 256) image → length (disassembly_of w image) ≤ 4 * length image

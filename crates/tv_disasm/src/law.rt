@@ -1,5 +1,5 @@
 //! What the assembler makes of a text that `disassemble` gives.
-ghost use Rattle.tv_disasm.specs.Law.{DisassemblyAssembles, WordsSpellImage};
+ghost use Rattle.tv_disasm.specs.Law.{DisassemblyAssembles, DisassemblyIsShort, WordsSpellImage};
 
 /// The text of an image assembles to the image's words, by the assembler's own definition: for every
 /// image of whole instructions, where that many words are allowed.
@@ -13,4 +13,10 @@ pub fn disassembly_assembles()
 #[tactic(auto, using(crate::proofs::TextLemmas::words_spell))]
 pub fn words_spell_the_image()
     ensures { WordsSpellImage 32 }
+{}
+
+/// The text of an image is at most four times as long as the image.
+#[tactic(auto, using(crate::proofs::LengthLemmas::text_short))]
+pub fn disassembly_is_short()
+    ensures { DisassemblyIsShort 32 }
 {}
