@@ -18,7 +18,7 @@ use tv_files::{FileRefusal, Files};
 /// Says the line of a status, where it has one, by one `say`; a refusal of it is the answer then.
 /// `words` is the number of words, `report` what Done says.
 fn conclude<D: Files>(files: &mut D, words: usize, report: Option<&str>, status: Status) -> Status
-    requires { ForSome report (λ text. length text.now < 96) }
+    requires { ForSome report (λ text. length text.now < 128) }
     ensures { Concludes status (says (option_copied report.entry) status) words
         (D.seen files.old) (D.seen files.new) result }
 {

@@ -12,10 +12,11 @@ mod plain_system;
 mod plain_tape;
 mod plain_witness;
 mod reading;
+mod reasons;
 mod status;
 #[cfg(test)]
 mod tests;
 mod verdict;
 
 pub use commands::command;
-pub use status::{NoWhy, Status};
+pub use status::{NoWhy, Status, What};
