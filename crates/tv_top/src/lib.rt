@@ -2,10 +2,13 @@
 //! said its line. Its contract is the program's promise; the binary only calls it.
 #![tactic(auto)]
 
+mod assembling;
 mod checking;
 mod commands;
 mod constraints;
+mod inputs;
 mod job;
+mod limits;
 mod line;
 mod meaning;
 mod plain_system;

@@ -4,7 +4,7 @@ ghost use Rattle.tv_top.specs.Codes.{code_of};
 
 use crate::verdict::Verdict;
 use std::alloc::AllocError;
-use tv_asm::AsmWhy;
+use tv_asm::{AsmFault, AsmWhy};
 use tv_r1cs_read::ReadWhy;
 
 /// Why `check` says no.
@@ -92,6 +92,24 @@ impl From<AllocError> for Status {
 
     fn from(_: AllocError) -> Status {
         Status::Memory
+    }
+}
+
+impl From<AsmFault> for Status {
+    ghost use Rattle.tv_top.specs.Outcome.{asm_status};
+
+    ghost from_gives = { λ fault status. status ≡ asm_status fault };
+
+    fn from(fault: AsmFault) -> Status {
+        match fault {
+            AsmFault::Bad { line, why } => Status::BadProgram { line, why },
+            AsmFault::TooMany { most, .. } => Status::Limit {
+                what: What::ImageWords,
+                has: u64::from(most) + 2,
+                most: u64::from(most),
+            },
+            AsmFault::Memory => Status::Memory,
+        }
     }
 }
 
