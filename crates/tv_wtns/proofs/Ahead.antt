@@ -1,13 +1,12 @@
 -- Values that are read piece by piece.
-use Rattle.std.proofs.Common.{◌≡◌, ℕ, ◌+◌, ◌-◌, ◌*◌, ◌<◌, ◌≤◌, zero, suc, List, [], ◌∷◌, ◌++◌, length, take, drop, get_or, ◌/◌, Result, Ok, Err, append_assoc, append-nil, add-one, ap, refl, sym, ◌∙◌, arith}
+use Rattle.std.proofs.Common.{◌≡◌, ℕ, ◌+◌, ◌*◌, ◌<◌, ◌≤◌, zero, suc, List, [], ◌∷◌, ◌++◌, length, take, drop, get_or, ◌/◌, Result, Ok, Err, append_assoc, append-nil, add-one, ap, refl, sym, ◌∙◌, arith}
 use Rattle.std.proofs.lemmas.Bool.Decides.{nat_tests}
 use Rattle.std.proofs.lemmas.List.{take-take, drop-take, drop-drop, get_or-take, length-take}
 use Rattle.std.specs.Simd.{first_chunks}
 use Rattle.tv_core.specs.declared.field.TheConstants.{P}
-use Rattle.tv_r1cs_read.specs.declared.why.ReadRefusal.{ReadRefusal}
 use Rattle.tv_r1cs_read.specs.declared.why.ReadRefusal.TheVariants.{Bad}
 use Rattle.tv_r1cs_read.specs.declared.why.ReadWhy.TheVariants.{NotCanonical}
-use Rattle.tv_r1cs_read.specs.Places.{Fault, number, wrong, fit}
+use Rattle.tv_r1cs_read.specs.Places.{Fault, number, wrong}
 use Rattle.tv_r1cs_read.specs.Reading.{Refuses}
 use Rattle.tv_r1cs_read.proofs.Chain.{refuses_wrong}
 use Rattle.tv_word.specs.Word.{spelled}
@@ -79,10 +78,12 @@ part_of bytes file at a size piece within =
 -- the first words of eight bytes of a piece of the file
 pub are_words : (bytes file : List ℕ) (words : List (List ℕ)) (at some : ℕ) → bytes ≡ take (length bytes) (drop at file) →
     words ≡ first_chunks 8 (length bytes / 8) bytes → some ≤ length bytes / 8 → AreWords (take some words) file at
-are_words bytes file words at some piece is enough = record { spell = λ k d below.
-    let here : k < some = omega (arith, length-take some words) in
-    let counted : k < length bytes / 8 = omega arith in
-    let within : 8 * k + 8 ≤ length bytes = omega arith in
-    let word : get_or (take some words) k d ≡ take 8 (drop (8 * k) bytes) =
-        get_or-take some words k d here ∙ ap (λ all. get_or all k d) is ∙ get_or-first_chunks 8 (length bytes / 8) k (8 * k) bytes d counted refl in
-    ap spelled (word ∙ part_of bytes file at (8 * k) 8 piece within) }
+are_words bytes file words at some piece is enough = record {
+  spell = λ k d below.
+      let here : k < some = omega (arith, length-take some words) in
+      let counted : k < length bytes / 8 = omega arith in
+      let within : 8 * k + 8 ≤ length bytes = omega arith in
+      let word : get_or (take some words) k d ≡ take 8 (drop (8 * k) bytes) =
+      get_or-take some words k d here ∙ ap (λ all. get_or all k d) is ∙ get_or-first_chunks 8 (length bytes / 8) k (8 * k) bytes d counted refl in
+      ap spelled (word ∙ part_of bytes file at (8 * k) 8 piece within);
+}

@@ -1,6 +1,5 @@
 -- An assignment, once what stands before its values is known.
-use Rattle.std.proofs.Common.{◌≡◌, ℕ, List, Result, Ok, refl}
-use Rattle.tv_r1cs_read.specs.Places.{Fault, ◌>>=◌}
+use Rattle.std.proofs.Common.{◌≡◌, ℕ, List, Ok, refl}
 use Rattle.tv_r1cs_read.specs.R1cs.{this_field}
 use Rattle.tv_r1cs_read.specs.Reading.{Refuses}
 use Rattle.tv_r1cs_read.specs.Sections.{wanted}

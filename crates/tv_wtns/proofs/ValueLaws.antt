@@ -1,10 +1,10 @@
 -- What the values of an assignment are.
-use Rattle.std.proofs.Common.{◌≡◌, ℕ, ◌+◌, ◌*◌, ◌<◌, zero, suc, List, [], ◌∷◌, not, Result, Ok, nat_lt, arith}
+use Rattle.std.proofs.Common.{◌≡◌, ℕ, ◌+◌, ◌<◌, zero, suc, List, [], ◌∷◌, not, Ok, nat_lt, arith}
 use Rattle.std.proofs.lemmas.Bool.Decides.{nat_tests}
 use Rattle.std.proofs.lemmas.List.Elements.{All-nil, All-cons}
 use Rattle.std.specs.List.{All}
 use Rattle.tv_core.specs.declared.field.TheConstants.{P}
-use Rattle.tv_r1cs_read.specs.Places.{Fault, ◌>>=◌, number, unless}
+use Rattle.tv_r1cs_read.specs.Places.{◌>>=◌, number, unless}
 use Rattle.tv_r1cs_read.specs.R1cs.{this_field}
 use Rattle.tv_r1cs_read.specs.Sections.{sections_of, wanted}
 use Rattle.tv_r1cs_read.specs.declared.why.ReadWhy.TheVariants.{NotCanonical}

@@ -14,7 +14,9 @@ use crate::values::read_all;
 use std::alloc::Global;
 use tv_core::F;
 use tv_files::Files;
-use tv_r1cs_read::{Form, Found, ReadRefusal, ReadWhy, Section, Window, find_sections, this_field, wanted};
+use tv_r1cs_read::{
+    Form, Found, ReadRefusal, ReadWhy, Section, Window, find_sections, this_field, wanted,
+};
 
 /// The form of an assignment's file: the text `wtns`, version 2, and one section of types 1 and 2.
 const WTNS: Form = Form {

@@ -6,3 +6,6 @@ mod assignment;
 mod values;
 
 pub use assignment::{assignments_are_below_the_prime, read_values};
+
+#[cfg(test)]
+mod tests;
