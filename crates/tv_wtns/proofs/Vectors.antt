@@ -1,6 +1,6 @@
 -- What the definition says of a worked file and of malformed forms of it.
-use Rattle.std.specs.Prelude.{◌≡◌, ℕ, List, [], ◌∷◌, ◌++◌, length, map, take, Ok, refl}
-use Rattle.std.specs.List.{flatten}
+use Rattle.std.specs.Prelude.{◌≡◌, ℕ, List, [], ◌∷◌, ◌++◌, length, take, Ok, refl}
+use Rattle.std.specs.List.{flat_map}
 use Rattle.tv_core.specs.declared.field.TheConstants.{P}
 use Rattle.tv_word.specs.Word.{low_bytes}
 use Rattle.tv_r1cs_read.specs.Places.{wrong}
@@ -18,7 +18,7 @@ witness =
 
 -- a file of this magic, version and number of sections, and these sections
 abbrev file : ℕ → ℕ → ℕ → List (List ℕ) → List ℕ
-file magic version count sections = low_bytes 4 magic ++ (low_bytes 4 version ++ (low_bytes 4 count ++ flatten sections))
+file magic version count sections = low_bytes 4 magic ++ (low_bytes 4 version ++ (low_bytes 4 count ++ flat_map (λ section. section) sections))
 
 -- a file of the magic and the version that are called for
 abbrev wtns : ℕ → List (List ℕ) → List ℕ
@@ -34,7 +34,7 @@ field size prime count = low_bytes 4 size ++ (low_bytes 8 prime ++ low_bytes 4 c
 
 -- the content of section 2
 abbrev numbers : List ℕ → List ℕ
-numbers values = flatten (map (λ value. low_bytes 8 value) values)
+numbers values = flat_map (low_bytes 8) values
 
 pub witness_is : witness ≡ wtns 2 (section 1 (field 8 P 4) ∷ section 2 (numbers (1 ∷ 3 ∷ 5 ∷ 15 ∷ [])) ∷ [])
 witness_is = refl
