@@ -16,7 +16,7 @@ use Rattle.tv_top.specs.Outcome.{Look, ◌>>=◌, Job, Check, job, Answer, file_
 use Rattle.tv_top.specs.Ends.{Ends}
 use Rattle.tv_top.specs.Answers.{Answers}
 use Rattle.tv_top.specs.Claims.{Holding, Given, Accepted, Refuted, IsHindered, Checks}
-use Rattle.tv_top.proofs.Ending.{fault_or_due, was_due}
+use Rattle.tv_top.proofs.Ending.{fault_or_answer, was_answered}
 use Rattle.tv_top.proofs.Verdicts.{yes_exactly}
 use Rattle.tv_top.proofs.Nos.{no_is_true, true_no}
 
@@ -106,8 +106,8 @@ hindered_by system witness tape count word old new result answers is = elim (ans
 -- a status that is due is the answer, unless something hindered it
 due_or_hindered : (answer : Answer) (system witness tape : List ℕ) (count : ℕ) (files : Names) (old new : Outside) (result : Status) → Answers (Ok (Check system witness tape)) count old new result →
     Ends answer count files old new result → (result ≡ answer.status) ⊎ IsHindered old new result
-due_or_hindered answer system witness tape count files old new result answers ends = elim (fault_or_due answer count files old new result ends) [
-  | inl due ↦ inl due
+due_or_hindered answer system witness tape count files old new result answers ends = elim (fault_or_answer answer count files old new result ends) [
+  | inl answered ↦ inl answered.status
   | inr (inl fault) ↦ inr (hindered_by system witness tape count fault.0 old new result answers fault.1)
   | inr (inr memory) ↦ inr (inr memory)
 ]
@@ -159,8 +159,8 @@ checks words system witness tape asked count files old new result are told is an
     let due = outcome (Ok (Check system witness tape)) files in
     let judged = judged_system files system witness tape (seen_at 1 (files system) system_of) in
     record {
-      done = λ e. accepted_by files system witness tape judged (sym (was_due due count files old new result (λ h. cc) (λ word h. cc) ends) ∙ e);
+      done = λ e. accepted_by files system witness tape judged (sym (was_answered due count files old new result (λ h. cc) (λ word h. cc) ends).status ∙ e);
       accepted = λ accepted. rw (accepted_gives files system witness tape accepted) at (due_or_hindered due system witness tape count files old new result promised ends);
-      says_no = λ why e. refuted_by files system witness tape why judged (sym (was_due due count files old new result (λ h. cc) (λ word h. cc) ends) ∙ e);
+      says_no = λ why e. refuted_by files system witness tape why judged (sym (was_answered due count files old new result (λ h. cc) (λ word h. cc) ends).status ∙ e);
       refuted = λ why refuted. rw (refuted_gives files system witness tape why refuted) at (due_or_hindered due system witness tape count files old new result promised ends);
     }

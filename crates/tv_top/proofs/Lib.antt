@@ -14,3 +14,4 @@ pub mod Verdicts
 pub mod Nos
 pub mod Ending
 pub mod Checked
+pub mod Programs

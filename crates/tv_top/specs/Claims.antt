@@ -1,11 +1,18 @@
 -- What the command promises, in the words of its user.
-use Rattle.std.specs.Prelude.{◌≡◌, ◌≢◌, ℕ, ◌+◌, ◌≤◌, ◌⊎◌, List, ◌∷◌, length, take, Option, Some}
+use Rattle.std.specs.Prelude.{◌≡◌, ◌≢◌, ℕ, ◌+◌, ◌%◌, ◌≤◌, ◌⊎◌, List, ◌∷◌, length, take, Option, Some, Result, Ok, Err}
+use Rattle.tv_asm.specs.Assembly.{assembled}
+use Rattle.tv_asm.specs.declared.fault.AsmFault.{AsmFault}
+use Rattle.tv_asm.specs.declared.fault.AsmFault.TheVariants.{Bad}
+use Rattle.tv_asm.specs.declared.fault.AsmWhy.{AsmWhy}
 use Rattle.tv_core.specs.Constraints.{System, Sat, Extends}
-use Rattle.tv_files.specs.Outside.{Names, Outside, Rose}
+use Rattle.tv_disasm.specs.Disassembly.{disassembly_of}
+use Rattle.tv_files.specs.Outside.{Names, Outside, Rose, with_bytes}
+use Rattle.tv_top.specs.declared.limits.TheConstants.{TEXT_BYTES, IMAGE_WORDS, IMAGE_BYTES}
 use Rattle.tv_top.specs.declared.status.NoWhy.{NoWhy}
 use Rattle.tv_top.specs.declared.status.NoWhy.TheVariants.{Public, Constraint, Wires}
 use Rattle.tv_top.specs.declared.status.Status.{Status}
-use Rattle.tv_top.specs.declared.status.Status.TheVariants.{Done, No, FileFault, Memory}
+use Rattle.tv_top.specs.declared.status.Status.TheVariants.{Done, No, BadProgram, FileFault, Memory, BadImage}
+use Rattle.tv_top.specs.Outcome.{image_bytes}
 use Rattle.tv_top.specs.PlainSystem.{system_of}
 use Rattle.tv_top.specs.PlainWitness.{assignment_of}
 use Rattle.tv_top.specs.PlainTape.{tape_of}
@@ -67,3 +74,45 @@ pub record Checks (files : Names) (system witness tape : List ℕ) (old new : Ou
   pub says_no : (why : NoWhy) → result ≡ No why → Refuted files system witness tape why
   pub refuted : (why : NoWhy) → Refuted files system witness tape why
       → (result ≡ No why) ⊎ IsHindered old new result
+
+-- a file couldn't be read or written, or the line not be said; or memory was wanting
+abbrev pub IsStopped : Outside → Outside → Status → Type 0
+IsStopped old new result =
+    ((word : ℕ) × (result ≡ FileFault word)
+    × (Rose old.read_faults new.read_faults ⊎ Rose old.write_faults new.write_faults ⊎ Rose old.say_faults new.say_faults))
+    ⊎ (result ≡ Memory)
+
+-- the file is there, and has at most so many bytes
+pub record IsInput (most : ℕ) (file : Option (List ℕ)) (bytes : List ℕ) : Type 0 where
+  pub there : file ≡ Some bytes
+  pub fits : length bytes ≤ most
+
+-- the file holds a program text of which this comes: its image, or its first fault
+pub record Assembles (file : Option (List ℕ)) (comes : Result (List ℕ) AsmFault) : Type 0 where
+  pub text : List ℕ
+  pub input : IsInput TEXT_BYTES file text
+  pub gives : assembled 32 IMAGE_WORDS text ≡ comes
+
+-- What `asm TEXT IMAGE` promises over files that hold this, the two names being different: it is done
+-- exactly where the text assembles, and then IMAGE holds the image's words, each by its four bytes, and
+-- no other name has changed; and it is a bad program exactly where the text's first fault is this.
+pub record Asms (files : Names) (text image : List ℕ) (old new : Outside) (result : Status) : Type 0 where
+  pub done : result ≡ Done → (words : List ℕ) × Assembles (files text) (Ok words)
+      × (new.contents ≡ Some (with_bytes image (image_bytes words) files))
+  pub assembles : (words : List ℕ) → Assembles (files text) (Ok words) → (result ≡ Done) ⊎ IsStopped old new result
+  pub says_bad : (line : ℕ) (why : AsmWhy) → result ≡ BadProgram line why → Assembles (files text) (Err (Bad line why))
+  pub bad : (line : ℕ) (why : AsmWhy) → Assembles (files text) (Err (Bad line why))
+      → (result ≡ BadProgram line why) ⊎ IsStopped old new result
+
+-- What `disasm IMAGE TEXT` promises over files that hold this, the two names being different: it is done
+-- exactly where the image is whole instructions of 8 bytes, and then TEXT holds its program text, and no
+-- other name has changed; and it is a bad image exactly where there are bytes left.
+pub record Disasms (files : Names) (image text : List ℕ) (old new : Outside) (result : Status) : Type 0 where
+  pub done : result ≡ Done → (bytes : List ℕ) × IsInput IMAGE_BYTES (files image) bytes × (length bytes % 8 ≡ 0)
+      × (new.contents ≡ Some (with_bytes text (disassembly_of 32 bytes) files))
+  pub whole : (bytes : List ℕ) → IsInput IMAGE_BYTES (files image) bytes → length bytes % 8 ≡ 0
+      → (result ≡ Done) ⊎ IsStopped old new result
+  pub says_bad : (len : ℕ) → result ≡ BadImage len
+      → (bytes : List ℕ) × IsInput IMAGE_BYTES (files image) bytes × (length bytes ≡ len) × (len % 8 ≢ 0)
+  pub bad : (bytes : List ℕ) → IsInput IMAGE_BYTES (files image) bytes → length bytes % 8 ≢ 0
+      → (result ≡ BadImage (length bytes)) ⊎ IsStopped old new result

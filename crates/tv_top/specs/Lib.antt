@@ -16,3 +16,4 @@ pub use Rattle.tv_core.specs.Constraints
 pub use Rattle.tv_files.specs.Outside
 pub use Rattle.tv_asm.specs.Assembly
 pub use Rattle.tv_files.specs.Whole
+pub use Rattle.tv_disasm.specs.Disassembly

@@ -6,6 +6,7 @@ mod assembling;
 mod checking;
 mod commands;
 mod constraints;
+mod disassembling;
 mod inputs;
 mod job;
 mod limits;

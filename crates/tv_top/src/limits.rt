@@ -5,3 +5,6 @@ pub(crate) const TEXT_BYTES: u64 = 1_048_576;
 
 /// The most words of an image.
 pub(crate) const IMAGE_WORDS: u32 = 16_384;
+
+/// The most bytes of an image file.
+pub(crate) const IMAGE_BYTES: u64 = 65_536;
