@@ -9,9 +9,15 @@ use crate::status::Status;
 #[derive(Clone, Copy)]
 pub(crate) enum Job<'a> {
     /// The image of a program text.
-    Asm { text: &'a str, image: &'a str },
+    Asm {
+        text: &'a str,
+        image: &'a str,
+    },
     /// The program text of an image.
-    Disasm { image: &'a str, text: &'a str },
+    Disasm {
+        image: &'a str,
+        text: &'a str,
+    },
     /// Whether the assignment of a witness file satisfies a system and extends a tape.
     Check {
         system: &'a str,

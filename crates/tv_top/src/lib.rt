@@ -15,6 +15,8 @@ mod meaning;
 mod plain_system;
 mod plain_tape;
 mod plain_witness;
+#[cfg(test)]
+mod program_tests;
 mod reading;
 mod reasons;
 mod status;
