@@ -27,7 +27,7 @@ use Rattle.tv_top.specs.Outcome.{Look, ◌>>=◌, Job, Check, job, Answer, limit
 use Rattle.tv_top.specs.Ends.{Ends}
 use Rattle.tv_top.specs.Answers.{Answers}
 use Rattle.tv_top.specs.Claims.{Holding, HoldsTape, Given, Accepted, Refuted, no_verdict, IsBadSystem, IsBadWitness, IsHindered, Checks}
-use Rattle.tv_top.proofs.Ending.{fault_or_due, was_due}
+use Rattle.tv_top.proofs.Ending.{fault_or_answer, was_answered}
 use Rattle.tv_wtns.specs.Wtns.{assignment_of}
 use Rattle.tv_wtns.proofs.ValueLaws.{assignments_below}
 
@@ -265,8 +265,8 @@ hindered_by system witness tape count word old new result answers is = elim (ans
 -- a status that is due is the answer, unless something hindered it
 due_or_hindered : (answer : Answer) (system witness tape : List ℕ) (count : ℕ) (files : Names) (old new : Outside) (result : Status) → Answers (Ok (Check system witness tape)) count old new result →
     Ends answer count files old new result → (result ≡ answer.status) ⊎ IsHindered old new result
-due_or_hindered answer system witness tape count files old new result answers ends = elim (fault_or_due answer count files old new result ends) [
-  | inl due ↦ inl due
+due_or_hindered answer system witness tape count files old new result answers ends = elim (fault_or_answer answer count files old new result ends) [
+  | inl answered ↦ inl answered.status
   | inr (inl fault) ↦ inr (hindered_by system witness tape count fault.0 old new result answers fault.1)
   | inr (inr memory) ↦ inr (inr memory)
 ]
@@ -283,12 +283,12 @@ checks words system witness tape asked count files old new result are told is an
     let comes = comes_system files system witness tape (seen system_of (files system)) in
     let hindered = due_or_hindered due system witness tape count files old new result promised ends in
     record {
-      done = λ e. accepted_by files system witness tape comes (sym (was_due due count files old new result (λ h. cc) (λ word h. cc) ends) ∙ e);
+      done = λ e. accepted_by files system witness tape comes (sym (was_answered due count files old new result (λ h. cc) (λ word h. cc) ends).status ∙ e);
       accepted = λ accepted. rw (accepted_gives files system witness tape accepted) at hindered;
-      says_no = λ why e. refuted_by files system witness tape why comes (sym (was_due due count files old new result (λ h. cc) (λ word h. cc) ends) ∙ e);
+      says_no = λ why e. refuted_by files system witness tape why comes (sym (was_answered due count files old new result (λ h. cc) (λ word h. cc) ends).status ∙ e);
       refuted = λ why refuted. rw (refuted_gives files system witness tape why refuted) at hindered;
-      tells_system = λ at why e. system_by files system witness tape at why comes (sym (was_due due count files old new result (λ h. cc) (λ word h. cc) ends) ∙ e);
+      tells_system = λ at why e. system_by files system witness tape at why comes (sym (was_answered due count files old new result (λ h. cc) (λ word h. cc) ends).status ∙ e);
       bad_system = λ at why bad. rw (bad_system_gives files system witness tape at why bad) at hindered;
-      tells_witness = λ at why e. witness_by files system witness tape at why comes (sym (was_due due count files old new result (λ h. cc) (λ word h. cc) ends) ∙ e);
+      tells_witness = λ at why e. witness_by files system witness tape at why comes (sym (was_answered due count files old new result (λ h. cc) (λ word h. cc) ends).status ∙ e);
       bad_witness = λ at why bad. rw (bad_witness_gives files system witness tape at why bad) at hindered;
     }

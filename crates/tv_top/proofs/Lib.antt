@@ -8,3 +8,4 @@ pub mod Answering
 pub mod Storing
 pub mod Ending
 pub mod Checked
+pub mod Programs

@@ -1,21 +1,27 @@
 -- What the command promises, in the words of its user.
-use Rattle.std.specs.Prelude.{◌≡◌, ℕ, ◌≤◌, ◌⊎◌, List, length, Option, Some, Result, Ok, Err}
+use Rattle.std.specs.Prelude.{◌≡◌, ◌≢◌, ℕ, ◌%◌, ◌≤◌, ◌⊎◌, List, length, Option, Some, Result, Ok, Err}
+use Rattle.tv_asm.specs.Assembly.{assembled}
+use Rattle.tv_asm.specs.declared.fault.AsmFault.{AsmFault}
+use Rattle.tv_asm.specs.declared.fault.AsmFault.TheVariants.{Bad}
+use Rattle.tv_asm.specs.declared.fault.AsmWhy.{AsmWhy}
 use Rattle.tv_check.specs.Meaning.{Tells}
 use Rattle.tv_check.specs.declared.verdict.Verdict.{Verdict}
 use Rattle.tv_check.specs.declared.verdict.Verdict.TheVariants.{WireCount, NoPublic, NoConstraint}
 use Rattle.tv_core.specs.Constraints.{System, Sat, Extends}
 use Rattle.tv_core.specs.declared.field.TheConstants.{P}
-use Rattle.tv_files.specs.Outside.{Names, Outside, Rose}
+use Rattle.tv_disasm.specs.Disassembly.{disassembly_of}
+use Rattle.tv_files.specs.Outside.{Names, Outside, Rose, with_bytes}
 use Rattle.tv_r1cs_read.specs.Places.{wrong}
 use Rattle.tv_r1cs_read.specs.R1cs.{system_of}
 use Rattle.tv_r1cs_read.specs.declared.why.ReadWhy.{ReadWhy}
 use Rattle.tv_tape.specs.Tape.{tape_of}
 use Rattle.tv_wtns.specs.Wtns.{assignment_of}
-use Rattle.tv_top.specs.declared.limits.TheConstants.{TEXT_BYTES, CHECK_TAPE_WORDS}
+use Rattle.tv_top.specs.declared.limits.TheConstants.{TEXT_BYTES, IMAGE_WORDS, IMAGE_BYTES, CHECK_TAPE_WORDS}
 use Rattle.tv_top.specs.declared.status.NoWhy.{NoWhy}
 use Rattle.tv_top.specs.declared.status.NoWhy.TheVariants.{Public, Constraint, Wires}
 use Rattle.tv_top.specs.declared.status.Status.{Status}
-use Rattle.tv_top.specs.declared.status.Status.TheVariants.{Done, No, BadSystem, BadWitness, FileFault, Memory}
+use Rattle.tv_top.specs.declared.status.Status.TheVariants.{Done, No, BadProgram, BadSystem, BadWitness, FileFault, Memory, BadImage}
+use Rattle.tv_top.specs.Outcome.{image_bytes}
 
 -- the file is there, and what is read of it is this
 pub record Holding {A F : Type 0} (read : List ℕ → Result A F) (file : Option (List ℕ)) (held : Result A F) : Type 0 where
@@ -92,3 +98,45 @@ pub record Checks (files : Names) (system witness tape : List ℕ) (old new : Ou
   pub tells_witness : (at : ℕ) (why : ReadWhy) → result ≡ BadWitness at why → IsBadWitness files system witness at why
   pub bad_witness : (at : ℕ) (why : ReadWhy) → IsBadWitness files system witness at why
       → (result ≡ BadWitness at why) ⊎ IsHindered old new result
+
+-- a file couldn't be read or written, or the line not be said; or memory was wanting
+abbrev pub IsStopped : Outside → Outside → Status → Type 0
+IsStopped old new result =
+    ((word : ℕ) × (result ≡ FileFault word)
+    × (Rose old.read_faults new.read_faults ⊎ Rose old.write_faults new.write_faults ⊎ Rose old.say_faults new.say_faults))
+    ⊎ (result ≡ Memory)
+
+-- the file is there, and has at most so many bytes
+pub record IsInput (most : ℕ) (file : Option (List ℕ)) (bytes : List ℕ) : Type 0 where
+  pub there : file ≡ Some bytes
+  pub fits : length bytes ≤ most
+
+-- the file holds a program text of which this comes: its image, or its first fault
+pub record Assembles (file : Option (List ℕ)) (comes : Result (List ℕ) AsmFault) : Type 0 where
+  pub text : List ℕ
+  pub input : IsInput TEXT_BYTES file text
+  pub gives : assembled 32 IMAGE_WORDS text ≡ comes
+
+-- What `asm TEXT IMAGE` promises over files that hold this, the two names being different: it is done
+-- exactly where the text assembles, and then IMAGE holds the image's words, each by its four bytes, and
+-- no other name has changed; and it is a bad program exactly where the text's first fault is this.
+pub record Asms (files : Names) (text image : List ℕ) (old new : Outside) (result : Status) : Type 0 where
+  pub done : result ≡ Done → (words : List ℕ) × Assembles (files text) (Ok words)
+      × (new.contents ≡ Some (with_bytes image (image_bytes words) files))
+  pub assembles : (words : List ℕ) → Assembles (files text) (Ok words) → (result ≡ Done) ⊎ IsStopped old new result
+  pub says_bad : (line : ℕ) (why : AsmWhy) → result ≡ BadProgram line why → Assembles (files text) (Err (Bad line why))
+  pub bad : (line : ℕ) (why : AsmWhy) → Assembles (files text) (Err (Bad line why))
+      → (result ≡ BadProgram line why) ⊎ IsStopped old new result
+
+-- What `disasm IMAGE TEXT` promises over files that hold this, the two names being different: it is done
+-- exactly where the image is whole instructions of 8 bytes, and then TEXT holds its program text, and no
+-- other name has changed; and it is a bad image exactly where there are bytes left.
+pub record Disasms (files : Names) (image text : List ℕ) (old new : Outside) (result : Status) : Type 0 where
+  pub done : result ≡ Done → (bytes : List ℕ) × IsInput IMAGE_BYTES (files image) bytes × (length bytes % 8 ≡ 0)
+      × (new.contents ≡ Some (with_bytes text (disassembly_of 32 bytes) files))
+  pub whole : (bytes : List ℕ) → IsInput IMAGE_BYTES (files image) bytes → length bytes % 8 ≡ 0
+      → (result ≡ Done) ⊎ IsStopped old new result
+  pub says_bad : (len : ℕ) → result ≡ BadImage len
+      → (bytes : List ℕ) × IsInput IMAGE_BYTES (files image) bytes × (length bytes ≡ len) × (len % 8 ≢ 0)
+  pub bad : (bytes : List ℕ) → IsInput IMAGE_BYTES (files image) bytes → length bytes % 8 ≢ 0
+      → (result ≡ BadImage (length bytes)) ⊎ IsStopped old new result

@@ -10,3 +10,10 @@ pub use Rattle.tv_core.specs.Constraints
 pub use Rattle.tv_files.specs.Outside
 pub use Rattle.tv_asm.specs.Assembly
 pub use Rattle.tv_files.specs.Whole
+pub use Rattle.tv_disasm.specs.Disassembly
+pub use Rattle.tv_check.specs.Meaning
+pub use Rattle.tv_check.specs.Verdict
+pub use Rattle.tv_r1cs_read.specs.Places
+pub use Rattle.tv_r1cs_read.specs.R1cs
+pub use Rattle.tv_tape.specs.Tape
+pub use Rattle.tv_wtns.specs.Wtns

@@ -1,5 +1,5 @@
 -- What a command answers, by its words and by what the files hold.
-use Rattle.std.specs.Prelude.{ℕ, ◌+◌, max, List, [], ◌∷◌, length, Option, Some, None, Result, Ok, Err, codes, nat_le, if◌then◌else◌}
+use Rattle.std.specs.Prelude.{ℕ, ◌+◌, ◌%◌, ◌==◌, max, List, [], ◌∷◌, length, Option, Some, None, Result, Ok, Err, codes, nat_le, if◌then◌else◌}
 use Rattle.std.specs.List.{flat_map}
 use Rattle.std.specs.Str.{bytes_eq}
 use Rattle.tv_asm.specs.Assembly.{assembled}
@@ -10,6 +10,9 @@ use Rattle.tv_check.specs.declared.verdict.Verdict.{Verdict}
 use Rattle.tv_check.specs.declared.verdict.Verdict.TheVariants as verdicts
 use Rattle.tv_core.specs.declared.field.TheConstants.{P}
 use Rattle.tv_files.specs.Outside.{Names}
+use Rattle.tv_disasm.specs.Disassembly.{disassembly_of}
+use Rattle.tv_disasm.specs.declared.fault.DisFault.{DisFault}
+use Rattle.tv_disasm.specs.declared.fault.DisFault.TheVariants as dis
 use Rattle.tv_r1cs_read.specs.Places.{Fault}
 use Rattle.tv_r1cs_read.specs.R1cs.{system_of}
 use Rattle.tv_tape.specs.Tape.{tape_of}
@@ -17,17 +20,18 @@ use Rattle.tv_tape.specs.declared.items.TapeFault.{TapeFault}
 use Rattle.tv_tape.specs.declared.items.TapeFault.TheVariants as tape
 use Rattle.tv_wtns.specs.Wtns.{assignment_of}
 use Rattle.tv_word.specs.Word.{word_bytes}
-use Rattle.tv_top.specs.declared.limits.TheConstants.{TEXT_BYTES, IMAGE_WORDS, CHECK_TAPE_WORDS}
+use Rattle.tv_top.specs.declared.limits.TheConstants.{TEXT_BYTES, IMAGE_WORDS, IMAGE_BYTES, CHECK_TAPE_WORDS}
 use Rattle.tv_top.specs.declared.status.NoWhy.TheVariants.{Public, Constraint, Wires}
 use Rattle.tv_top.specs.declared.status.Status.{Status}
-use Rattle.tv_top.specs.declared.status.Status.TheVariants.{Done, No, Usage, BadProgram, BadTape, BadSystem, BadWitness, Limit, FileFault, Memory, SameName}
+use Rattle.tv_top.specs.declared.status.Status.TheVariants.{Done, No, Usage, BadProgram, BadTape, BadSystem, BadWitness, Limit, FileFault, Memory, SameName, BadImage}
 use Rattle.tv_top.specs.declared.status.What.{What}
-use Rattle.tv_top.specs.declared.status.What.TheVariants.{ImageWords, TapeWords, TextBytes}
+use Rattle.tv_top.specs.declared.status.What.TheVariants.{ImageWords, ImageBytes, TapeWords, TextBytes}
 use Rattle.tv_top.specs.Codes.{says}
 
 -- what words ask for
 pub data Job : Type 0 where
   Asm : List ℕ → List ℕ → Job
+  Disasm : List ℕ → List ℕ → Job
   Check : List ℕ → List ℕ → List ℕ → Job
 
 -- the job, unless words 1 and 2, of which the second names a file that is to be written, are one name
@@ -36,7 +40,9 @@ apart read written asked = if bytes_eq read written then Err (SameName 1 2) else
 
 -- the job of these words, where they are a command's; else the refusal
 abbrev pub job : List (List ℕ) → Result Job Status
-job (name ∷ text ∷ image ∷ []) = if bytes_eq name (codes "asm") then apart text image (Asm text image) else Err Usage
+job (name ∷ read ∷ written ∷ []) =
+    if bytes_eq name (codes "asm") then apart read written (Asm read written)
+    else (if bytes_eq name (codes "disasm") then apart read written (Disasm read written) else Err Usage)
 job (name ∷ system ∷ witness ∷ tape ∷ []) = if bytes_eq name (codes "check") then Ok (Check system witness tape) else Err Usage
 job _ = Err Usage
 
@@ -127,6 +133,21 @@ asm_of text files = do
   bytes ← record { at = 1; gives = limited_bytes 1 TextBytes TEXT_BYTES (files text) }
   record { at = 1; gives = image_of bytes }
 
+-- the program text of an image, whose bytes are whole instructions of 8
+unfoldable pub text_of : List ℕ → Result (List ℕ) Status
+text_of image = if length image % 8 == 0 then Ok (disassembly_of 32 image) else Err (BadImage (length image))
+
+-- the program text of the image at word 1
+unfoldable pub disasm_of : List ℕ → Names → Look (List ℕ)
+disasm_of image files = do
+  bytes ← record { at = 1; gives = limited_bytes 1 ImageBytes IMAGE_BYTES (files image) }
+  record { at = 1; gives = text_of bytes }
+
+-- what a fault of an image is answered
+abbrev pub dis_status : DisFault → Status
+dis_status (dis.Ragged len) = BadImage len
+dis_status dis.Memory = Memory
+
 abbrev pub verdict_status : Verdict → Status
 verdict_status verdicts.Yes = Done
 verdict_status (verdicts.WireCount has wants) = No (Wires has wants)
@@ -160,6 +181,7 @@ pub record Answer : Type 0 where
 -- what the command of a job says where it is done
 abbrev pub report_of : Result Job Status → Option (List ℕ)
 report_of (Ok (Asm _ _)) = None
+report_of (Ok (Disasm _ _)) = None
 report_of (Ok (Check _ _ _)) = Some (codes "yes")
 report_of (Err _) = None
 
@@ -184,5 +206,6 @@ stored_by word name = answer_by (λ _. Done) (λ bytes. record { word = word; na
 abbrev pub outcome : Result Job Status → Names → Answer
 outcome (Err status) files = said_of None 0 status
 outcome (Ok (Asm text image)) files = stored_by 2 image (asm_of text files)
+outcome (Ok (Disasm image text)) files = stored_by 2 text (disasm_of image files)
 outcome (Ok (Check system witness tape)) files =
     answer_by verdict_status (λ _. []) (Some (codes "yes")) (check_of system witness tape files)

@@ -3,18 +3,21 @@
 #![tactic(auto)]
 
 mod assembling;
+#[cfg(test)]
+mod check_tests;
 mod checking;
-mod containers;
 mod commands;
+mod containers;
+mod disassembling;
 mod inputs;
 mod job;
 mod limits;
 mod line;
+#[cfg(test)]
+mod program_tests;
 mod reasons;
 mod status;
 mod tapes;
-#[cfg(test)]
-mod tests;
 
 pub use commands::command;
 pub use status::{NoWhy, Status, What};

@@ -5,6 +5,7 @@ ghost use Rattle.tv_top.specs.Codes.{code_of};
 use std::alloc::AllocError;
 use tv_asm::{AsmFault, AsmWhy};
 use tv_check::Verdict;
+use tv_disasm::DisFault;
 use tv_r1cs_read::ReadWhy;
 
 /// Why `check` says no.
@@ -107,6 +108,19 @@ impl From<AsmFault> for Status {
                 most: u64::from(most),
             },
             AsmFault::Memory => Status::Memory,
+        }
+    }
+}
+
+impl From<DisFault> for Status {
+    ghost use Rattle.tv_top.specs.Outcome.{dis_status};
+
+    ghost from_gives = { λ fault status. status ≡ dis_status fault };
+
+    fn from(fault: DisFault) -> Status {
+        match fault {
+            DisFault::Ragged { len } => Status::BadImage { len },
+            DisFault::Memory => Status::Memory,
         }
     }
 }
