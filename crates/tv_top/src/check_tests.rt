@@ -245,7 +245,7 @@ fn fails_at_each_call(rt: HostRuntime) -> Result<(), Fail> {
             words.push(word)?;
         }
     }
-    assert_eq!(rt; words.as_slice(), &[1, 2, 3, 1, 4]);
+    assert_eq!(rt; words.as_slice(), [1, 2, 3, 1, 4].as_slice());
     Ok(())
 }
 
