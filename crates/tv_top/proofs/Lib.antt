@@ -15,3 +15,4 @@ pub mod Nos
 pub mod Ending
 pub mod Checked
 pub mod Programs
+mod WorkedLines
