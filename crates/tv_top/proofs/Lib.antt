@@ -9,3 +9,4 @@ pub mod Storing
 pub mod Ending
 pub mod Checked
 pub mod Programs
+mod WorkedLines
