@@ -2,20 +2,22 @@
 //! said its line. Its contract is the program's promise; the binary only calls it.
 #![tactic(auto)]
 
+mod assembling;
+#[cfg(test)]
+mod check_tests;
 mod checking;
 mod commands;
-mod constraints;
+mod containers;
+mod disassembling;
+mod inputs;
 mod job;
+mod limits;
 mod line;
-mod meaning;
-mod plain_system;
-mod plain_tape;
-mod plain_witness;
-mod reading;
-mod status;
 #[cfg(test)]
-mod tests;
-mod verdict;
+mod program_tests;
+mod reasons;
+mod status;
+mod tapes;
 
 pub use commands::command;
-pub use status::{NoWhy, Status};
+pub use status::{NoWhy, Status, What};
