@@ -9,7 +9,7 @@ use tv_bits::{Bits, fill_bits, new_bits};
 use tv_core::{F, Lc, Put, Sink, Values};
 
 /// The difference of two words modulo 2^32, and the borrow, which is 1 where `x` is below `y`. It makes
-/// 33 wires and 34 constraints.
+/// 33 wires and 34 constraints, of 197 terms.
 pub fn sub<S: Sink>(s: &mut S, x: &Bits, y: &Bits) -> Put<Split>
     requires room { Room S.meaning s.old 33 34 }
     requires x_word { x.now.n ≡ 32 }

@@ -10,7 +10,7 @@ use tv_core::{F, Lc, Put, Sink, Values};
 
 /// `x` in two parts, its lowest 32 bits and the `n - 32` above, so that it is the low part plus 2^32
 /// times the high part; `n` is from 33 to 63, and `x` is held below 2^n. It makes `n` wires and `n + 1`
-/// constraints.
+/// constraints, of `4 n + 1` terms beside those of `x`.
 pub fn split<S: Sink>(s: &mut S, x: &Lc, n: u32) -> Put<Split>
     requires room { Room S.meaning s.old n (n + 1) }
     requires x_made { top x.now ≤ S.meaning.wires s.old }

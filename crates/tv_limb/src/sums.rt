@@ -9,7 +9,8 @@ use crate::splitting::split;
 use tv_bits::{Bits, fill_bits};
 use tv_core::{F, Lc, Put, Sink, Values};
 
-/// The sum of two words: its lowest 32 bits, and the carry. It makes 33 wires and 34 constraints.
+/// The sum of two words: its lowest 32 bits, and the carry. It makes 33 wires and 34 constraints,
+/// of 197 terms.
 pub fn add<S: Sink>(s: &mut S, x: &Bits, y: &Bits) -> Put<Split>
     requires room { Room S.meaning s.old 33 34 }
     requires x_word { x.now.n ≡ 32 }

@@ -6,7 +6,7 @@ use crate::{Split, add, fill_add, fill_split, fill_sub, limbs, split, sub};
 use std::alloc::Global;
 use std::test::Fail;
 use tv_bits::{Bits, fill_bits};
-use tv_core::{F, ListSink, ListValues, Put, Sink, TestSink, Values, Wire};
+use tv_core::{CountSink, F, ListSink, ListValues, Put, Sink, TestSink, Values, Wire};
 
 #[derive(Clone, Copy, Debug)]
 enum Gadget {
@@ -118,6 +118,23 @@ fn gadgets_hold_over_their_own_values_alone(rt: HostRuntime) -> Result<(), Fail>
                 }
             }
         }
+    }
+    Ok(())
+}
+
+#[test]
+fn gadgets_have_the_sizes_that_their_texts_say(rt: HostRuntime) -> Result<(), Fail> {
+    // a gadget, the next wire after it, its constraints and terms; the number that is split has 64 terms
+    for (gadget, next, constraints, terms) in [
+        (Gadget::Add, FIRST + 33, 34, 197),
+        (Gadget::Sub, FIRST + 33, 34, 197),
+        (Gadget::Split, FIRST + 63, 64, 253 + 64),
+    ] {
+        let mut counts = CountSink::new(FIRST);
+        put(&mut counts, gadget)?;
+        assert_eq!(rt; counts.wires(), next, "{gadget:?}");
+        assert_eq!(rt; counts.constraints(), constraints, "{gadget:?}");
+        assert_eq!(rt; counts.terms(), terms, "{gadget:?}");
     }
     Ok(())
 }

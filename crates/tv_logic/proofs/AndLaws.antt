@@ -1,5 +1,5 @@
 -- The laws of the word of ands.
-use Rattle.std.proofs.Common.{◌≡◌, ℕ, ◌+◌, ◌-◌, ◌*◌, ◌/◌, ◌%◌, ◌^◌, ◌<◌, List, [], bit_and, refl, sym, subst, ◌∙◌, ap, ap₂, arith, mul-one}
+use Rattle.std.proofs.Common.{◌≡◌, ℕ, ◌+◌, ◌-◌, ◌*◌, ◌%◌, ◌^◌, ◌<◌, List, [], bit_and, refl, sym, ◌∙◌, ap, ap₂, arith, mul-one}
 use Rattle.std.specs.Int.{bit_at}
 use Rattle.std.specs.Prelude.{slice_index}
 use Rattle.std.proofs.lemmas.Nat.{mul-mod_first}
@@ -11,7 +11,7 @@ use Rattle.tv_bits.specs.Bits.{Spells, spelled, bits_combination}
 use Rattle.tv_bits.specs.Pairs.{two_ands, two_ands_of}
 use Rattle.tv_bits.specs.declared.bit_wires.Bits.{Bits}
 use Rattle.tv_core.proofs.BelowLaws.{sum_below-same, sum_below-mod_same, value-weighted, has_each}
-use Rattle.tv_core.proofs.CombinationLaws.{value-append, value-scaled, value-wire, value-below, wire-below}
+use Rattle.tv_core.proofs.CombinationLaws.{value-append, value-scaled, value-wire, wire-below}
 use Rattle.tv_core.proofs.LoopLaws.{turn_met, turns_met, turns-next}
 use Rattle.tv_core.proofs.Meeting.{Meets-split, Meets-join}
 use Rattle.tv_core.specs.Below.{sum_below}
@@ -21,7 +21,7 @@ use Rattle.tv_core.specs.Constraints.{Combination, value}
 use Rattle.tv_core.specs.Laws.{Assigns, Meets, HasFrom}
 use Rattle.tv_core.specs.Loops.{times}
 use Rattle.tv_core.specs.declared.field.TheConstants.{P}
-use Rattle.tv_logic.proofs.PairSums.{word-pairs, pair_in-small, pair-ands, and-below}
+use Rattle.tv_logic.proofs.PairSums.{word-pairs, pair-ands, and-below}
 use Rattle.tv_logic.specs.Ands.{pair_in, pair_of, new_pair_of, lowest_pair, and_of, and_values}
 
 -- ---- where the circuits end, and what they answer

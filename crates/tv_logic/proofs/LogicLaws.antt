@@ -1,5 +1,5 @@
 -- The laws of the bitwise operations.
-use Rattle.std.proofs.Common.{◌≡◌, ℕ, ◌+◌, ◌*◌, ◌∷◌, [], List, bit_and, bit_or, bit_xor, length, length-append, sym, subst, ◌∙◌, ap, ap₂, arith}
+use Rattle.std.proofs.Common.{◌≡◌, ℕ, ◌+◌, ◌∷◌, [], bit_and, bit_or, bit_xor, length, length-append, subst, ◌∙◌, ap₂, arith}
 use Rattle.std.specs.Int.Bits.{or_add_and, xor_add_and}
 use Rattle.tv_bits.specs.declared.bit_wires.Bits.{Bits}
 use Rattle.tv_core.proofs.BelowLaws.{length-each_below}
@@ -10,7 +10,7 @@ use Rattle.tv_logic.proofs.FlagLaws.{flags_sound, flags_complete, flags_answer, 
 use Rattle.tv_logic.proofs.WordLaws.{words_sound, words_complete, words_answer, words_next}
 use Rattle.tv_logic.specs.Ands.{pair_in, pair_values}
 use Rattle.tv_logic.specs.Flags.{flags_of, flag_values}
-use Rattle.tv_logic.specs.Logic.{IsLogic, logic_of, LogicIsSound, LogicIsComplete}
+use Rattle.tv_logic.specs.Logic.{logic_of, LogicIsSound, LogicIsComplete}
 use Rattle.tv_logic.specs.Words.{bits_turned, words_of, word_values}
 use Rattle.tv_logic.specs.declared.answers.Flags.{Flags}
 use Rattle.tv_logic.specs.declared.answers.Logic.{Logic}

@@ -1,22 +1,21 @@
 -- The laws of the words that are linear in the inputs and the word of ands.
-use Rattle.std.proofs.Common.{◌≡◌, ℕ, ◌+◌, ◌-◌, ◌*◌, ◌/◌, ◌%◌, ◌^◌, ◌<◌, List, [], ◌∷◌, ◌++◌, length, bit_and, bit_or, bit_xor, refl, sym, subst, ◌∙◌, ap, ap₂, arith}
+use Rattle.std.proofs.Common.{◌≡◌, ℕ, ◌+◌, ◌-◌, ◌*◌, ◌%◌, ◌^◌, ◌<◌, List, [], ◌∷◌, ◌++◌, length, bit_and, bit_or, bit_xor, refl, sym, subst, ◌∙◌, ap, ap₂, arith}
 use Rattle.std.specs.Int.Bits.{or_add_and, xor_add_and}
 use Rattle.std.specs.Prelude.{slice_index}
-use Rattle.std.proofs.lemmas.Nat.{and_le_l}
 use Rattle.tv_bits.proofs.SpelledNumbers.{Spells-below, value-bits_below}
 use Rattle.tv_bits.specs.Bits.{Spells, bits_combination}
 use Rattle.tv_bits.specs.Pairs.{negative}
 use Rattle.tv_bits.specs.declared.bit_wires.Bits.{Bits}
 use Rattle.tv_core.proofs.BelowLaws.{length-each_below}
-use Rattle.tv_core.proofs.CombinationLaws.{value-append, value-scaled, value-less, value-constant, value-wire, value-below, wire-below}
+use Rattle.tv_core.proofs.CombinationLaws.{value-append, value-scaled, value-less, value-constant, value-wire, value-below}
 use Rattle.tv_core.proofs.Meeting.{Meets-split, Meets-join, HasFrom-split}
 use Rattle.tv_core.specs.Circuits.{fresh, put, pure, ◌>>=◌}
-use Rattle.tv_core.specs.Combinations.{constant, wire, scaled, less}
+use Rattle.tv_core.specs.Combinations.{constant, scaled}
 use Rattle.tv_core.specs.Constraints.{Combination, value}
 use Rattle.tv_core.specs.Laws.{Assigns, Meets, HasFrom}
 use Rattle.tv_core.specs.declared.field.TheConstants.{P}
 use Rattle.tv_logic.proofs.AndLaws.{and_answer, and_next, and_sound, and_complete}
-use Rattle.tv_logic.specs.Ands.{pair_in, pair_values, and_of, and_values}
+use Rattle.tv_logic.specs.Ands.{pair_in, pair_values, and_of}
 use Rattle.tv_logic.specs.Words.{bits_turned, hold_of, sum_less, complement, words_of, word_values}
 use Rattle.tv_logic.specs.declared.answers.Words.{Words}
 

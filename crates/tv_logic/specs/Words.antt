@@ -1,5 +1,5 @@
 -- The words of the bitwise operations: all but the and are linear in the inputs and it.
-use Rattle.std.specs.Prelude.{ℕ, ◌-◌, ◌%◌, ◌^◌, bit_and, bit_or, bit_xor, List, [], ◌∷◌, ◌++◌}
+use Rattle.std.specs.Prelude.{ℕ, ◌-◌, ◌^◌, bit_and, bit_or, bit_xor, List, [], ◌∷◌, ◌++◌}
 use Rattle.tv_bits.specs.Bits.{bits_combination}
 use Rattle.tv_bits.specs.Pairs.{negative}
 use Rattle.tv_bits.specs.declared.bit_wires.Bits.{Bits}

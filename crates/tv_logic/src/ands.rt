@@ -8,7 +8,8 @@ ghost use Rattle.tv_logic.specs.Ands.{pair_in, pair_of, new_pair_of, lowest_pair
 use tv_bits::{Bits, two_ands};
 use tv_core::{F, Lc, Put, Sink, Values, Wire};
 
-/// The word of the ands of two words' bits. It makes 16 wires and 16 constraints.
+/// The word of the ands of two words' bits. It makes 16 wires and 16 constraints, two ands in
+/// each: the bits number `i` and `i + 16`. The lowest pair's is what the others leave of the word.
 pub(crate) fn and_word<S: Sink>(s: &mut S, x: &Bits, y: &Bits) -> Put<Wire>
     requires room { Room S.meaning s.old 16 16 }
     requires x_made { x.now.first + 32 ≤ S.meaning.wires s.old }
