@@ -5,6 +5,7 @@
 
 mod bit_wires;
 mod booleans;
+mod pairs;
 mod rows;
 mod selection;
 mod spelling;
@@ -14,6 +15,7 @@ mod zeros;
 
 pub use bit_wires::Bits;
 pub use booleans::{bit, bit_is_complete, bit_is_sound, fill_bit};
+pub use pairs::{two_ands, two_ands_are_complete, two_ands_are_sound};
 pub use rows::{fill_onehot, onehot, onehot_is_complete, onehot_is_sound, row_sum};
 pub use selection::{fill_select, select, select_is_complete, select_is_sound};
 pub use spelling::{

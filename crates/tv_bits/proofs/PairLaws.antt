@@ -1,0 +1,121 @@
+-- The laws of two ands in one constraint.
+use Rattle.std.proofs.Common.{◌⊎◌, ◌≡◌, ℕ, ◌+◌, ◌-◌, ◌*◌, ◌/◌, ◌%◌, ◌<◌, List, inl, inr, refl, sym, ◌∙◌, ap, ap₂, arith, mod-eq_of_lt, eq-zero-or-pos}
+use Rattle.std.proofs.Math.Nat.{add-mod-mod, mod-add-mod}
+use Rattle.std.proofs.lemmas.Nat.{mul-mod}
+use Rattle.tv_core.proofs.CombinationLaws.{value-append, value-scaled, value-below, value-constant}
+use Rattle.tv_core.proofs.Residues.{add-mod_same, mul-mod_same, add_cancel-mod, add-mul-neg-mod, mul_cancel-mod}
+use Rattle.tv_core.specs.Circuits.{put}
+use Rattle.tv_core.specs.Combinations.{constant}
+use Rattle.tv_core.specs.Constraints.{Combination, value}
+use Rattle.tv_core.specs.Laws.{Assigns}
+use Rattle.tv_core.specs.declared.field.TheConstants.{P}
+use Rattle.tv_bits.specs.Bit.{IsBit}
+use Rattle.tv_bits.specs.Pairs.{plus_times, gap, negative, two_ands_of, TwoAndsAreSound, TwoAndsAreComplete}
+
+-- ---- numbers
+bit_cases : (b : ℕ) → IsBit b → (b ≡ 0) ⊎ (b ≡ 1)
+bit_cases b h = elim (eq-zero-or-pos b) [ inl none ↦ inl none | inr some ↦ inr (omega arith) ]
+
+-- the square of the sum of two bits
+square_sum : (x y : ℕ) → IsBit x → IsBit y → (x + y) * (x + y) ≡ x + y + 2 * (x * y)
+square_sum x y h k = elim (bit_cases x h) [
+  | inl p ↦ elim (bit_cases y k) [ inl q ↦ rw (p, q) refl | inr q ↦ rw (p, q) refl ]
+  | inr p ↦ elim (bit_cases y k) [ inl q ↦ rw (p, q) refl | inr q ↦ rw (p, q) refl ]
+]
+
+-- the square of one more than the difference of two bits
+square_gap : (x y : ℕ) → IsBit x → IsBit y → 1 + 3 * x - y ≡ (1 + x - y) * (1 + x - y) + 2 * (x * y)
+square_gap x y h k = elim (bit_cases x h) [
+  | inl p ↦ elim (bit_cases y k) [ inl q ↦ rw (p, q) refl | inr q ↦ rw (p, q) refl ]
+  | inr p ↦ elim (bit_cases y k) [ inl q ↦ rw (p, q) refl | inr q ↦ rw (p, q) refl ]
+]
+
+-- k times and less k times is nothing
+nothing : (a k x : ℕ) → (a + (k * x + negative k * x)) % P ≡ a % P
+nothing a k x = add-mod_same a a (k * x + negative k * x) 0 P refl (add-mul-neg-mod k x P (omega arith)) ∙ ap (λ n. n % P) (omega arith)
+
+-- u + γ v times u - γ v is the difference of their squares
+squares : (u v γ : ℕ) → ((u + γ * v) * (u + negative γ * v) + γ * γ * (v * v)) % P ≡ u * u % P
+squares u v γ =
+    let regroup : (n : ℕ) → (u + γ * v) * (u + n * v) + γ * γ * (v * v) ≡ u * u + (γ * (u * v + γ * (v * v)) + n * (u * v + γ * (v * v))) = λ n. omega arith in
+    ap (λ k. k % P) (regroup (negative γ)) ∙ nothing (u * u) γ (u * v + γ * (v * v))
+
+-- the two sides of the constraint, each with γ² w added; e and f are the products of the pairs
+module _ (u v w e f γ m : ℕ) (sum : u * u ≡ u + 2 * e) (difference : w ≡ v * v + 2 * f) where
+  left_side : ((u + γ * v) * (u + negative γ * v) + γ * γ * w) % P ≡ (u + 2 * (e + γ * γ * f)) % P
+  left_side =
+      let split : γ * γ * w ≡ γ * γ * (v * v) + 2 * (γ * γ * f) = ap (λ k. γ * γ * k) difference ∙ omega arith in
+      let moved : (a : ℕ) → a + γ * γ * w ≡ a + γ * γ * (v * v) + 2 * (γ * γ * f) = λ a. omega arith in
+      let last : u * u + 2 * (γ * γ * f) ≡ u + 2 * (e + γ * γ * f) = omega arith in
+      ap (λ k. k % P) (moved ((u + γ * v) * (u + negative γ * v)))
+      ∙ add-mod_same ((u + γ * v) * (u + negative γ * v) + γ * γ * (v * v)) (u * u) (2 * (γ * γ * f)) (2 * (γ * γ * f)) P (squares u v γ) refl
+      ∙ ap (λ k. k % P) last
+
+  right_side : ((u + 2 * m + negative (γ * γ) * w) + γ * γ * w) % P ≡ (u + 2 * m) % P
+  right_side =
+      let moved : (n : ℕ) → (u + 2 * m + n) + γ * γ * w ≡ u + 2 * m + (γ * γ * w + n) = λ n. omega arith in
+      ap (λ k. k % P) (moved (negative (γ * γ) * w)) ∙ nothing (u + 2 * m) (γ * γ) w
+
+  -- 2 cancels, by its inverse
+  met_of : (u + γ * v) * (u + negative γ * v) % P ≡ (u + 2 * m + negative (γ * γ) * w) % P → m % P ≡ (e + γ * γ * f) % P
+  met_of h =
+      let both = sym left_side ∙ add-mod_same ((u + γ * v) * (u + negative γ * v)) (u + 2 * m + negative (γ * γ) * w) (γ * γ * w) (γ * γ * w) P h refl ∙ right_side in
+      sym (mul_cancel-mod ((P + 1) / 2) 2 (e + γ * γ * f) m P refl (add_cancel-mod u (2 * (e + γ * γ * f)) (2 * m) P both))
+
+  of_met : m % P ≡ (e + γ * γ * f) % P → (u + γ * v) * (u + negative γ * v) % P ≡ (u + 2 * m + negative (γ * γ) * w) % P
+  of_met h =
+      let twice = add-mod_same u u (2 * m) (2 * (e + γ * γ * f)) P refl (mul-mod_same 2 2 m (e + γ * γ * f) P refl h) in
+      let both = left_side ∙ sym twice ∙ sym right_side in
+      add_cancel-mod (γ * γ * w) ((u + γ * v) * (u + negative γ * v)) (u + 2 * m + negative (γ * γ) * w) P (ap (λ k. k % P) (omega arith) ∙ both ∙ ap (λ k. k % P) (omega arith))
+
+-- ---- the values of the combinations
+module _ {z : List ℕ} (assigns : Assigns z) where
+  value-plus_times : (x : Combination) (k : ℕ) (y : Combination) → value (plus_times x k y) z ≡ (value x z + k * value y z) % P
+  value-plus_times x k y =
+      value-append x _ z ∙ ap (λ n. (value x z + n) % P) (value-scaled k y z) ∙ add-mod-mod (value x z) (k * value y z) P
+
+  value-gap : (k : ℕ) (x y : Combination) → k < 4 → IsBit (value x z) → IsBit (value y z) → value (gap k x y) z ≡ 1 + k * value x z - value y z
+  value-gap k x y few p q =
+      value-plus_times (plus_times (constant 1) k x) (P - 1) y
+      ∙ ap (λ n. (n + (P - 1) * value y z) % P) (value-plus_times (constant 1) k x ∙ ap (λ n. (n + k * value x z) % P) (value-constant assigns 1))
+      ∙ elim (bit_cases (value x z) p) [
+        | inl a ↦ elim (bit_cases (value y z) q) [ inl b ↦ rw (a, b) (omega arith) | inr b ↦ rw (a, b) (omega arith) ]
+        | inr a ↦ elim (bit_cases (value y z) q) [ inl b ↦ rw (a, b) (omega arith) | inr b ↦ rw (a, b) (omega arith) ]
+      ]
+
+module _ (z : List ℕ) (assigns : Assigns z) (x_a y_a x_b y_b : Combination) (γ : ℕ) (m : Combination) (p : IsBit (value x_a z)) (q : IsBit (value y_a z)) (r : IsBit (value x_b z)) (s : IsBit (value y_b z)) where
+  sum : value (plus_times x_a 1 y_a) z ≡ value x_a z + value y_a z
+  sum = value-plus_times assigns x_a 1 y_a ∙ omega arith
+
+  factor : (k : ℕ) → value (plus_times (plus_times x_a 1 y_a) k (gap 1 x_b y_b)) z ≡ (value x_a z + value y_a z + k * (1 + value x_b z - value y_b z)) % P
+  factor k =
+      let plain : value (gap 1 x_b y_b) z ≡ 1 + value x_b z - value y_b z = value-gap assigns 1 x_b y_b (omega arith) r s ∙ omega arith in
+      value-plus_times assigns (plus_times x_a 1 y_a) k (gap 1 x_b y_b) ∙ ap₂ (λ a b. (a + k * b) % P) sum plain
+
+  product : value (plus_times (plus_times x_a 1 y_a) γ (gap 1 x_b y_b)) z * value (plus_times (plus_times x_a 1 y_a) (negative γ) (gap 1 x_b y_b)) z % P
+      ≡ (value x_a z + value y_a z + γ * (1 + value x_b z - value y_b z)) * (value x_a z + value y_a z + negative γ * (1 + value x_b z - value y_b z)) % P
+  product = ap₂ (λ a b. a * b % P) (factor γ) (factor (negative γ)) ∙ sym (mul-mod _ _ P)
+
+  rest : value (plus_times (plus_times (plus_times x_a 1 y_a) 2 m) (negative (γ * γ)) (gap 3 x_b y_b)) z
+      ≡ (value x_a z + value y_a z + 2 * value m z + negative (γ * γ) * (1 + 3 * value x_b z - value y_b z)) % P
+  rest =
+      value-plus_times assigns (plus_times (plus_times x_a 1 y_a) 2 m) (negative (γ * γ)) (gap 3 x_b y_b)
+      ∙ ap₂ (λ a b. (a + negative (γ * γ) * b) % P) (value-plus_times assigns (plus_times x_a 1 y_a) 2 m ∙ ap (λ a. (a + 2 * value m z) % P) sum) (value-gap assigns 3 x_b y_b (omega arith) r s)
+      ∙ mod-add-mod (value x_a z + value y_a z + 2 * value m z) P (negative (γ * γ) * (1 + 3 * value x_b z - value y_b z))
+
+pub two_ands_sound : TwoAndsAreSound
+unfolding two_ands_of put
+two_ands_sound z next x_a y_a x_b y_b γ m assigns p q r s meets =
+    sym (mod-eq_of_lt (value-below m z))
+    ∙ met_of _ _ _ (value x_a z * value y_a z) (value x_b z * value y_b z) γ (value m z) (square_sum (value x_a z) (value y_a z) p q) (square_gap (value x_b z) (value y_b z) r s)
+    (sym (product z assigns x_a y_a x_b y_b γ m p q r s) ∙ meets.0 ∙ rest z assigns x_a y_a x_b y_b γ m p q r s)
+
+pub two_ands_complete : TwoAndsAreComplete
+unfolding two_ands_of put
+two_ands_complete z next x_a y_a x_b y_b γ m assigns p q r s is = (
+  product z assigns x_a y_a x_b y_b γ m p q r s
+      ∙ of_met _ _ _ (value x_a z * value y_a z) (value x_b z * value y_b z) γ (value m z) (square_sum (value x_a z) (value y_a z) p q) (square_gap (value x_b z) (value y_b z) r s)
+      (mod-eq_of_lt (value-below m z) ∙ is)
+      ∙ sym (rest z assigns x_a y_a x_b y_b γ m p q r s),
+  tt,
+)

@@ -1,0 +1,46 @@
+-- Two products of bits in one constraint.
+use Rattle.std.specs.Prelude.{◌≡◌, ℕ, ◌+◌, ◌-◌, ◌*◌, ◌%◌, ◌++◌, List}
+use Rattle.tv_bits.specs.Bit.{IsBit}
+use Rattle.tv_core.specs.Circuits.{Circuit, put}
+use Rattle.tv_core.specs.Combinations.{constant, scaled}
+use Rattle.tv_core.specs.Constraints.{Combination, value}
+use Rattle.tv_core.specs.Laws.{Assigns, Meets}
+use Rattle.tv_core.specs.declared.field.TheConstants.{P}
+
+-- the product of a first pair of bits, and γ² times that of a second pair
+abbrev pub two_ands : ℕ → ℕ → ℕ → ℕ → ℕ → ℕ
+two_ands x_a y_a x_b y_b γ = (x_a * y_a + γ * γ * (x_b * y_b)) % P
+
+-- x + k y
+abbrev pub plus_times : Combination → ℕ → Combination → Combination
+plus_times x k y = x ++ scaled k y
+
+-- 1 + k x - y
+abbrev pub gap : ℕ → Combination → Combination → Combination
+gap k x y = plus_times (plus_times (constant 1) k x) (P - 1) y
+
+-- the coefficient that is k negated
+abbrev pub negative : ℕ → ℕ
+negative k = (P - k % P) % P
+
+-- m is two ands, where the four others are bits: with u = x_a + y_a and v = x_b + 1 - y_b it says that
+-- u + γ v times u - γ v is u + 2 m - γ² (3 x_b + 1 - y_b)
+unfoldable pub two_ands_of : Combination → Combination → Combination → Combination → ℕ → Combination → Circuit (Unit {0})
+two_ands_of x_a y_a x_b y_b γ m =
+    let u = plus_times x_a 1 y_a in
+    let v = gap 1 x_b y_b in
+    put (plus_times u γ v) (plus_times u (negative γ) v) (plus_times (plus_times u 2 m) (negative (γ * γ)) (gap 3 x_b y_b))
+
+-- in an assignment that meets what was put, m is two ands, the four being bits
+abbrev pub TwoAndsAreSound : Type 0
+TwoAndsAreSound = (z : List ℕ) (next : ℕ) (x_a y_a x_b y_b : Combination) (γ : ℕ) (m : Combination) → Assigns z
+    → IsBit (value x_a z) → IsBit (value y_a z) → IsBit (value x_b z) → IsBit (value y_b z)
+    → Meets z (two_ands_of x_a y_a x_b y_b γ m next).list
+    → value m z ≡ two_ands (value x_a z) (value y_a z) (value x_b z) (value y_b z) γ
+
+-- an assignment in which m is two ands meets what was put, the four being bits
+abbrev pub TwoAndsAreComplete : Type 0
+TwoAndsAreComplete = (z : List ℕ) (next : ℕ) (x_a y_a x_b y_b : Combination) (γ : ℕ) (m : Combination) → Assigns z
+    → IsBit (value x_a z) → IsBit (value y_a z) → IsBit (value x_b z) → IsBit (value y_b z)
+    → value m z ≡ two_ands (value x_a z) (value y_a z) (value x_b z) (value y_b z) γ
+    → Meets z (two_ands_of x_a y_a x_b y_b γ m next).list

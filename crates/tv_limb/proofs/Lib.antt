@@ -1,0 +1,4 @@
+pub mod AddLaws
+pub mod LimbLaws
+pub mod SplitLaws
+pub mod SubLaws

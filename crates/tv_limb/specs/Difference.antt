@@ -1,0 +1,48 @@
+-- The difference of two words, with its borrow.
+use Rattle.std.specs.Prelude.{ℕ, ◌+◌, ◌-◌, ◌*◌, ◌%◌, ◌^◌, nat_lt, if◌then◌else◌, List, [], ◌∷◌, ◌++◌}
+use Rattle.tv_bits.specs.Bits.{Spells, bits_combination, bits_values, new_bits_of}
+use Rattle.tv_bits.specs.declared.bit_wires.Bits.{Bits}
+use Rattle.tv_core.specs.Circuits.{Circuit, put, pure, ◌>>=◌}
+use Rattle.tv_core.specs.Combinations.{constant, less}
+use Rattle.tv_core.specs.Constraints.{Combination}
+use Rattle.tv_core.specs.Laws.{Assigns, Meets, HasFrom}
+use Rattle.tv_core.specs.declared.field.TheConstants.{P}
+use Rattle.tv_limb.specs.Split.{SpellsParts, split_at}
+use Rattle.tv_limb.specs.declared.parts.Split.{Split}
+
+-- x less y modulo 2 ^ w
+abbrev pub difference : ℕ → ℕ → ℕ → ℕ
+difference w x y = (x + (2 ^ w - y)) % 2 ^ w
+
+-- 1 where x is below y, else 0
+abbrev pub borrow : ℕ → ℕ → ℕ
+borrow x y = if nat_lt x y then 1 else 0
+
+-- the low part less 2 ^ w times the wire of the borrow
+abbrev pub less_borrow : ℕ → Split → Combination
+less_borrow w parts = bits_combination parts.low.first w ++ ((P - 2 ^ w % P) % P, parts.high.first) ∷ []
+
+-- one word less another, as a combination
+abbrev pub difference_of_words : ℕ → Bits → Bits → Combination
+difference_of_words w x y = less (bits_combination x.first w) (bits_combination y.first w)
+
+-- a new word and a new bit: the word less 2 ^ w times the bit is x less y
+unfoldable pub sub_of : ℕ → Bits → Bits → Circuit Split
+sub_of w x y = do
+  made ← new_bits_of (w + 1)
+  _ ← put (less_borrow w (split_at w made)) (constant 1) (difference_of_words w x y)
+  pure (split_at w made)
+
+-- the values of the wires that are made: the bits of the difference, and then the borrow
+abbrev pub sub_values : ℕ → ℕ → ℕ → List ℕ
+sub_values w x y = bits_values (difference w x y + 2 ^ w * borrow x y) (w + 1)
+
+-- in an assignment that meets what was put the answer spells the difference modulo 2 ^ 32, and the borrow
+abbrev pub SubIsSound : Type 0
+SubIsSound = (z : List ℕ) (next : ℕ) (x y : Bits) (a b : ℕ) → Assigns z → Spells z x.first 32 a → Spells z y.first 32 b
+    → Meets z (sub_of 32 x y next).list → SpellsParts 32 1 z (sub_of 32 x y next).answer (difference 32 a b) (borrow a b)
+
+-- an assignment that has these values at the wires that were made meets what was put
+abbrev pub SubIsComplete : Type 0
+SubIsComplete = (z : List ℕ) (next : ℕ) (x y : Bits) (a b : ℕ) → Assigns z → Spells z x.first 32 a → Spells z y.first 32 b
+    → HasFrom z next (sub_values 32 a b) → Meets z (sub_of 32 x y next).list

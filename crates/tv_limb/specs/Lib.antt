@@ -1,0 +1,4 @@
+pub mod Difference
+pub mod Limbs
+pub mod Split
+pub mod Sum

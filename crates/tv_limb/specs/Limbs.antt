@@ -1,0 +1,18 @@
+-- The halves of a word.
+use Rattle.std.specs.Prelude.{◌≡◌, ℕ, ◌+◌, ◌/◌, ◌%◌, ◌^◌, List}
+use Rattle.tv_bits.specs.Bits.{Spells, bits_combination}
+use Rattle.tv_bits.specs.declared.bit_wires.Bits.{Bits}
+use Rattle.tv_core.specs.Constraints.{Combination, value}
+
+-- the lower half of a word's bits, each times its power of 2
+abbrev pub low_limb : ℕ → Bits → Combination
+low_limb w x = bits_combination x.first (w / 2)
+
+-- the upper half, from the power 1 on
+abbrev pub high_limb : ℕ → Bits → Combination
+high_limb w x = bits_combination (x.first + w / 2) (w / 2)
+
+-- where the bits spell v, the values are its remainder and its quotient by 2 ^ 16
+abbrev pub LimbsAreSound : Type 0
+LimbsAreSound = (z : List ℕ) (x : Bits) (v : ℕ) → Spells z x.first 32 v
+    → (value (low_limb 32 x) z ≡ v % 2 ^ 16) × (value (high_limb 32 x) z ≡ v / 2 ^ 16)

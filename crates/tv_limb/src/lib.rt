@@ -1,0 +1,18 @@
+//! Words in parts: the halves of a word, a number as a word and what is above it, and the sum and the
+//! difference of two words with carry and borrow. Contracts above cite `SpellsParts`, which says which
+//! numbers the two parts of an answer spell.
+#![tactic(auto)]
+
+mod differences;
+mod halves;
+mod parts;
+mod splitting;
+mod sums;
+#[cfg(test)]
+mod tests;
+
+pub use differences::{fill_sub, sub, sub_is_complete, sub_is_sound};
+pub use halves::{limbs, limbs_are_sound};
+pub use parts::Split;
+pub use splitting::{fill_split, split, split_is_complete, split_is_sound};
+pub use sums::{add, add_is_complete, add_is_sound, fill_add};

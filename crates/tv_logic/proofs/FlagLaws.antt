@@ -1,0 +1,143 @@
+-- The laws of the zero flags.
+use Rattle.std.proofs.Common.{◌≡◌, ◌≢◌, ℕ, ◌+◌, ◌*◌, ◌%◌, List, [], ◌∷◌, ◌++◌, inl, inr, refl, sym, subst, ◌∙◌, ap, ap₂, arith}
+use Rattle.std.specs.Prelude.{slice_index}
+use Rattle.std.proofs.lemmas.Bool.{cases_eq}
+use Rattle.std.proofs.lemmas.Bool.Decides.{nat_tests}
+use Rattle.tv_bits.proofs.ZeroLaws.{zero_sound, zero_complete, zero_answer, zero_next}
+use Rattle.tv_bits.specs.Zero.{zero_flag, zero_of, zero_values}
+use Rattle.tv_core.proofs.CombinationLaws.{value-wire}
+use Rattle.tv_core.proofs.Meeting.{Meets-split, Meets-join, HasFrom-split}
+use Rattle.tv_core.specs.Circuits.{fresh, put, pure, ◌>>=◌}
+use Rattle.tv_core.specs.Combinations.{wire}
+use Rattle.tv_core.specs.Laws.{Assigns, Meets, HasFrom}
+use Rattle.tv_core.specs.declared.field.TheConstants.{P}
+use Rattle.tv_logic.specs.Flags.{both_of, flags_of, flag_values}
+use Rattle.tv_logic.specs.declared.answers.Flags.{Flags}
+use Rattle.tv_logic.specs.declared.answers.Words.{Words}
+
+-- a sum is 0 exactly where both numbers are
+flag-zero : (x : ℕ) → x ≡ 0 → zero_flag x ≡ 1
+flag-zero x none = rw none refl
+
+flag-other : (x : ℕ) → x ≢ 0 → zero_flag x ≡ 0
+flag-other x some = grind (arith, nat_tests)
+
+pub flag-sum : (m n sum : ℕ) → sum ≡ m + n → zero_flag m * zero_flag n % P ≡ zero_flag sum
+flag-sum m n sum is = elim (cases_eq m 0) [
+  | inl none ↦ elim (cases_eq n 0) [
+    | inl neither ↦ ap₂ (λ a b. a * b % P) (flag-zero m none) (flag-zero n neither) ∙ sym (flag-zero sum (omega arith))
+    | inr some ↦ ap₂ (λ a b. a * b % P) (flag-zero m none) (flag-other n some) ∙ sym (flag-other sum (λ e. some (omega arith)))
+  ]
+  | inr some ↦ ap (λ a. a * zero_flag n % P) (flag-other m some) ∙ omega arith ∙ sym (flag-other sum (λ e. some (omega arith)))
+]
+
+-- ---- the product of two wires
+both_answer : (a b next : ℕ) → (both_of a b next).answer ≡ next
+unfolding both_of fresh put pure ◌>>=◌
+both_answer a b next = refl
+
+both_next : (a b next : ℕ) → (both_of a b next).next ≡ next + 1
+unfolding both_of fresh put pure ◌>>=◌
+both_next a b next = refl
+
+both_sound : (z : List ℕ) (next a b : ℕ) → Assigns z → Meets z (both_of a b next).list → slice_index z (both_of a b next).answer ≡ slice_index z a * slice_index z b % P
+unfolding both_of fresh put pure ◌>>=◌
+both_sound z next a b assigns meets =
+    sym (value-wire assigns next) ∙ sym meets.0 ∙ ap₂ (λ m n. m * n % P) (value-wire assigns a) (value-wire assigns b)
+
+both_complete : (z : List ℕ) (next a b : ℕ) → Assigns z → slice_index z next ≡ slice_index z a * slice_index z b % P → Meets z (both_of a b next).list
+unfolding both_of fresh put pure ◌>>=◌
+both_complete z next a b assigns is =
+    (ap₂ (λ m n. m * n % P) (value-wire assigns a) (value-wire assigns b) ∙ sym is ∙ sym (value-wire assigns next), tt)
+
+-- ---- a wire's flag
+flag_sound : (z : List ℕ) (next w v : ℕ) → Assigns z → slice_index z w ≡ v → Meets z (zero_of (wire w) next).list → slice_index z (zero_of (wire w) next).answer ≡ zero_flag v
+flag_sound z next w v assigns is meets = zero_sound z next (wire w) assigns meets ∙ ap zero_flag (value-wire assigns w ∙ is)
+
+flag_complete : (z : List ℕ) (next w v : ℕ) → Assigns z → slice_index z w ≡ v → HasFrom z next (zero_values v) → Meets z (zero_of (wire w) next).list
+flag_complete z next w v assigns is has = zero_complete z next (wire w) assigns (subst (λ k. HasFrom z next (zero_values k)) (sym (value-wire assigns w ∙ is)) has)
+
+-- wires that hold the flags of numbers, the second being 0 where the first and the third are
+pub record HoldFlags (z : List ℕ) (flags : Flags) (ands ors xors nots : ℕ) : Type 0 where
+  pub of_and : slice_index z flags.and_zero ≡ zero_flag ands
+  pub of_or : slice_index z flags.or_zero ≡ zero_flag ors
+  pub of_xor : slice_index z flags.xor_zero ≡ zero_flag xors
+  pub of_not : slice_index z flags.not_zero ≡ zero_flag nots
+
+-- where the flags begin
+module _ (words : Words) (next : ℕ) where
+  abbrev xor_from : ℕ
+  xor_from = (zero_of (wire words.and_word) next).next
+
+  abbrev not_from : ℕ
+  not_from = (zero_of (wire words.xor_word) xor_from).next
+
+  abbrev or_from : ℕ
+  or_from = (zero_of (wire words.not_word) not_from).next
+
+  abbrev ands_wire : ℕ
+  ands_wire = (zero_of (wire words.and_word) next).answer
+
+  abbrev xors_wire : ℕ
+  xors_wire = (zero_of (wire words.xor_word) xor_from).answer
+
+  xor_from_is : xor_from ≡ next + 2
+  xor_from_is = zero_next (wire words.and_word) next
+
+  not_from_is : not_from ≡ next + 2 + 2
+  not_from_is = zero_next (wire words.xor_word) xor_from ∙ ap (λ n. n + 2) xor_from_is
+
+  or_from_is : or_from ≡ next + 2 + 2 + 2
+  or_from_is = zero_next (wire words.not_word) not_from ∙ ap (λ n. n + 2) not_from_is
+
+  pub flags_next : (flags_of words next).next ≡ next + 7
+  unfolding flags_of pure ◌>>=◌
+  flags_next = both_next ands_wire xors_wire or_from ∙ omega (arith, or_from_is)
+
+  pub flags_same : (a b c d e f g h : ℕ) → a ≡ e → b ≡ f → c ≡ g → d ≡ h
+      → ◌≡◌ {A = Flags} (record { and_zero = a; or_zero = b; xor_zero = c; not_zero = d }) (record { and_zero = e; or_zero = f; xor_zero = g; not_zero = h })
+  flags_same a b c d e f g h p q r s = cc
+
+  pub flags_answer : (flags_of words next).answer ≡ record { and_zero = next; or_zero = next + 6; xor_zero = next + 2; not_zero = next + 4 }
+  unfolding flags_of pure ◌>>=◌
+  flags_answer =
+      flags_same _ _ _ _ next (next + 6) (next + 2) (next + 4)
+      (zero_answer (wire words.and_word) next)
+      (both_answer ands_wire xors_wire or_from ∙ or_from_is ∙ omega arith)
+      (zero_answer (wire words.xor_word) xor_from ∙ xor_from_is)
+      (zero_answer (wire words.not_word) not_from ∙ not_from_is ∙ omega arith)
+
+module _ (z : List ℕ) (next : ℕ) (words : Words) (ands ors xors nots : ℕ) (assigns : Assigns z) (p : slice_index z words.and_word ≡ ands) (q : slice_index z words.xor_word ≡ xors) (r : slice_index z words.not_word ≡ nots) (sum : ors ≡ ands + xors) where
+  pub flags_sound : Meets z (flags_of words next).list → HoldFlags z (flags_of words next).answer ands ors xors nots
+  unfolding flags_of pure ◌>>=◌
+  flags_sound meets =
+      let ands_met = Meets-split z (zero_of (wire words.and_word) next).list _ meets in
+      let xors_met = Meets-split z (zero_of (wire words.xor_word) (xor_from words next)).list _ ands_met.1 in
+      let nots_met = Meets-split z (zero_of (wire words.not_word) (not_from words next)).list _ xors_met.1 in
+      let ors_met = Meets-split z (both_of (ands_wire words next) (xors_wire words next) (or_from words next)).list [] nots_met.1 in
+      let of_and = flag_sound z next words.and_word ands assigns p ands_met.0 in
+      let of_xor = flag_sound z (xor_from words next) words.xor_word xors assigns q xors_met.0 in
+      record {
+        of_and = of_and;
+        of_or = both_sound z (or_from words next) (ands_wire words next) (xors_wire words next) assigns ors_met.0 ∙ ap₂ (λ m n. m * n % P) of_and of_xor ∙ flag-sum ands xors ors sum;
+        of_xor = of_xor;
+        of_not = flag_sound z (not_from words next) words.not_word nots assigns r nots_met.0;
+      }
+
+  pub flags_complete : HasFrom z next (flag_values ands ors xors nots) → Meets z (flags_of words next).list
+  unfolding flags_of pure ◌>>=◌
+  flags_complete has =
+      let one = HasFrom-split z next (zero_values ands) (zero_values xors ++ (zero_values nots ++ zero_flag ors ∷ [])) has in
+      let two = HasFrom-split z (next + 2) (zero_values xors) (zero_values nots ++ zero_flag ors ∷ []) one.1 in
+      let three = HasFrom-split z (next + 2 + 2) (zero_values nots) (zero_flag ors ∷ []) two.1 in
+      let at : (m n : ℕ) → m ≡ n → (v : ℕ) → HasFrom z n (zero_values v) → HasFrom z m (zero_values v) = λ m n e v h. subst (λ k. HasFrom z k (zero_values v)) (sym e) h in
+      let ands_met = flag_complete z next words.and_word ands assigns p one.0 in
+      let xors_met = flag_complete z (xor_from words next) words.xor_word xors assigns q (at _ _ (xor_from_is words next) xors two.0) in
+      let nots_met = flag_complete z (not_from words next) words.not_word nots assigns r (at _ _ (not_from_is words next) nots three.0) in
+      let of_and = flag_sound z next words.and_word ands assigns p ands_met in
+      let of_xor = flag_sound z (xor_from words next) words.xor_word xors assigns q xors_met in
+      let of_or = ap (λ k. slice_index z k) (or_from_is words next) ∙ three.1.0 ∙ sym (ap₂ (λ m n. m * n % P) of_and of_xor ∙ flag-sum ands xors ors sum) in
+      Meets-join z (zero_of (wire words.and_word) next).list _ ands_met
+      (Meets-join z (zero_of (wire words.xor_word) (xor_from words next)).list _ xors_met
+      (Meets-join z (zero_of (wire words.not_word) (not_from words next)).list _ nots_met
+      (Meets-join z (both_of (ands_wire words next) (xors_wire words next) (or_from words next)).list [] (both_complete z (or_from words next) (ands_wire words next) (xors_wire words next) assigns of_or) tt)))

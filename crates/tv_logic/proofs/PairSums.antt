@@ -1,0 +1,58 @@
+-- A number as the sum of its pairs of bits.
+use Rattle.std.proofs.Common.{◌≡◌, ℕ, zero, suc, ◌+◌, ◌*◌, ◌%◌, ◌^◌, ◌<◌, min, bit_and, sym, ◌∙◌, ap, ap₂, arith, mul_assoc, mod-eq_of_lt}
+use Rattle.std.specs.Int.{bit_at}
+use Rattle.std.proofs.lemmas.Nat.{pow-add, and_le_l}
+use Rattle.std.proofs.lemmas.Nat.Bits.{bit_at-lt, bit_at_and}
+use Rattle.tv_bits.proofs.SpelledNumbers.{picked-bit_at}
+use Rattle.tv_bits.specs.Pairs.{two_ands}
+use Rattle.tv_core.proofs.BelowLaws.{sum_below-zero, sum_below-suc, sum_below-same, sum_below-add, sum_below-mul}
+use Rattle.tv_core.specs.Below.{sum_below}
+use Rattle.tv_core.specs.declared.field.TheConstants.{P}
+use Rattle.tv_logic.specs.Ands.{pair_in}
+
+-- the sum of sums
+sum_below-plus : (n : ℕ) (f g : ℕ → ℕ) → sum_below n (λ i. f i + g i) ≡ sum_below n f + sum_below n g
+sum_below-plus zero f g = omega (arith, sum_below-zero (λ i. f i + g i), sum_below-zero f, sum_below-zero g)
+sum_below-plus (suc n) f g = omega (arith, sum_below-suc n (λ i. f i + g i), sum_below-suc n f, sum_below-suc n g, sum_below-plus n f g)
+
+-- the pairs, each times its power of 2, are the number's bits
+pairs-sum : (h a : ℕ) → sum_below h (λ i. 2 ^ i * (bit_at a i + 2 ^ h * bit_at a (h + i))) ≡ a % 2 ^ (h + h)
+pairs-sum h a =
+    let bit : ℕ → ℕ = λ i. 2 ^ i * bit_at a i in
+    let each : (i : ℕ) → 2 ^ i * (bit_at a i + 2 ^ h * bit_at a (h + i)) ≡ bit i + bit (h + i) = λ i. omega (arith, ap (λ k. k * bit_at a (h + i)) (pow-add 2 h i)) in
+    sum_below-same h (λ i. 2 ^ i * (bit_at a i + 2 ^ h * bit_at a (h + i))) (λ i. bit i + bit (h + i)) (λ i k. each i)
+    ∙ sum_below-plus h bit (λ i. bit (h + i))
+    ∙ sym (sum_below-add h h bit)
+    ∙ picked-bit_at (h + h) a
+
+-- the first term apart, and 2 taken out of the others
+first-apart : (n : ℕ) (p : ℕ → ℕ) → sum_below (1 + n) (λ i. 2 ^ i * p i) ≡ p 0 + 2 * sum_below n (λ i. 2 ^ i * p (i + 1))
+first-apart n p =
+    let f : ℕ → ℕ = λ i. 2 ^ i * p i in
+    let one : (i : ℕ) → 1 + i ≡ i + 1 = λ i. omega arith in
+    let each : (i : ℕ) → f (1 + i) ≡ 2 * (2 ^ i * p (i + 1)) = λ i. ap₂ (λ e k. e * p k) (pow-add 2 1 i) (one i) ∙ mul_assoc 2 (2 ^ i) (p (i + 1)) in
+    let others = sum_below-same n (λ i. f (1 + i)) (λ i. 2 * (2 ^ i * p (i + 1))) (λ i k. each i) ∙ sum_below-mul 2 n (λ i. 2 ^ i * p (i + 1)) in
+    omega (arith, sum_below-add 1 n f, sum_below-suc 0 f, sum_below-zero f, others)
+
+-- a word is its lowest pair and twice the sum of the others
+pub word-pairs : (a : ℕ) → a < 2 ^ 32 → a ≡ pair_in 32 a 0 + 2 * sum_below 15 (λ i. 2 ^ i * pair_in 32 a (i + 1))
+word-pairs a h = sym (mod-eq_of_lt h) ∙ sym (pairs-sum 16 a) ∙ first-apart 15 (pair_in 32 a)
+
+pub pair_in-small : (a i : ℕ) → pair_in 32 a i < 2 ^ 17
+pair_in-small a i = omega (arith, bit_at-lt a i, bit_at-lt a (16 + i))
+
+-- the ands of a pair of bits are the pair of the and
+bit-product : (a b i : ℕ) → bit_at a i * bit_at b i ≡ bit_at (bit_and a b) i
+bit-product a b i = products (bit_at a i) (bit_at b i) (bit_at-lt a i) (bit_at-lt b i) ∙ sym (bit_at_and a b i)
+  where
+    products : (m n : ℕ) → m < 2 → n < 2 → m * n ≡ min m n
+    products zero n h k = omega arith
+    products (suc zero) n h k = omega arith
+    products (suc (suc m)) n h k = absurd (omega arith)
+
+pub pair-ands : (a b i : ℕ) → two_ands (bit_at a i) (bit_at b i) (bit_at a (16 + i)) (bit_at b (16 + i)) 256 ≡ pair_in 32 (bit_and a b) i
+pair-ands a b i =
+    ap₂ (λ m n. (m + 256 * 256 * n) % P) (bit-product a b i) (bit-product a b (16 + i)) ∙ mod-eq_of_lt (omega (arith, bit_at-lt (bit_and a b) i, bit_at-lt (bit_and a b) (16 + i)))
+
+pub and-below : (a b : ℕ) → a < 2 ^ 32 → bit_and a b < 2 ^ 32
+and-below a b h = omega (arith, and_le_l a b)

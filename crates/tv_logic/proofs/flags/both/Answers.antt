@@ -1,0 +1,15 @@
+use Rattle.tv_core.proofs.Chain.{chain, refused}
+use Rattle.tv_logic.specs.Flags.{both_of}
+use Rattle.tv_logic.proofs.flags.both.Goals as goal
+
+pub returns-in_err-put-clause-puts : goal.returns-in_err-put-clause-puts
+unfolding both_of
+returns-in_err-put-clause-puts g c =
+    let product = rw (c.wire.ensures, c.wire-2.ensures, c.wire-3.ensures) at c.in_err-put.ensures.puts in
+    refused g.S.Sink.meaning _ _ _ c.from_residual.result c.from_residual.ensures.1 (search (chain, c.fresh-w.ensures.puts, product))
+
+pub returns-clause-puts : goal.returns-clause-puts
+unfolding both_of
+returns-clause-puts g c =
+    let product = rw (c.wire.ensures, c.wire-2.ensures, c.wire-3.ensures) at c.in_ok-put.ensures.puts in
+    search (chain, c.fresh-w.ensures.puts, product)

@@ -1,0 +1,4 @@
+pub mod Ands
+pub mod Flags
+pub mod Logic
+pub mod Words

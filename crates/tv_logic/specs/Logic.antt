@@ -1,0 +1,62 @@
+-- The bitwise operations of two words, with their zero flags.
+use Rattle.std.specs.Prelude.{◌≡◌, ℕ, ◌<◌, bit_and, bit_or, bit_xor, List, ◌++◌, slice_index}
+use Rattle.tv_bits.specs.Bits.{Spells}
+use Rattle.tv_bits.specs.Zero.{zero_flag}
+use Rattle.tv_bits.specs.declared.bit_wires.Bits.{Bits}
+use Rattle.tv_core.specs.Circuits.{Circuit, pure, ◌>>=◌}
+use Rattle.tv_core.specs.Laws.{Assigns, Meets, HasFrom}
+use Rattle.tv_logic.specs.Flags.{flags_of, flag_values}
+use Rattle.tv_logic.specs.Words.{bits_turned, words_of, word_values}
+use Rattle.tv_logic.specs.declared.answers.Logic.{Logic}
+
+-- the words of the four operations, and then their zero flags
+unfoldable pub logic_of : ℕ → Bits → Bits → Circuit Logic
+logic_of w x y = do
+  words ← words_of w x y
+  flags ← flags_of words
+  pure (record {
+    and_word = words.and_word;
+    or_word = words.or_word;
+    xor_word = words.xor_word;
+    not_word = words.not_word;
+    and_zero = flags.and_zero;
+    or_zero = flags.or_zero;
+    xor_zero = flags.xor_zero;
+    not_zero = flags.not_zero;
+  })
+
+-- the values of the wires that are made
+abbrev pub logic_values : ℕ → ℕ → ℕ → List ℕ
+logic_values w x y = word_values w x y ++ flag_values (bit_and x y) (bit_or x y) (bit_xor x y) (bits_turned w y)
+
+-- the wires hold the words of the operations on x and y, and whether each is 0; `not` is of y
+pub record IsLogic (w : ℕ) (z : List ℕ) (answer : Logic) (x y : ℕ) : Type 0 where
+  pub and_word : slice_index z answer.and_word ≡ bit_and x y
+  pub or_word : slice_index z answer.or_word ≡ bit_or x y
+  pub xor_word : slice_index z answer.xor_word ≡ bit_xor x y
+  pub not_word : slice_index z answer.not_word ≡ bits_turned w y
+  pub and_zero : slice_index z answer.and_zero ≡ zero_flag (bit_and x y)
+  pub or_zero : slice_index z answer.or_zero ≡ zero_flag (bit_or x y)
+  pub xor_zero : slice_index z answer.xor_zero ≡ zero_flag (bit_xor x y)
+  pub not_zero : slice_index z answer.not_zero ≡ zero_flag (bits_turned w y)
+
+-- each wire of an answer is below a number
+pub record AreBelow (wires : ℕ) (answer : Logic) : Type 0 where
+  pub and_word : answer.and_word < wires
+  pub or_word : answer.or_word < wires
+  pub xor_word : answer.xor_word < wires
+  pub not_word : answer.not_word < wires
+  pub and_zero : answer.and_zero < wires
+  pub or_zero : answer.or_zero < wires
+  pub xor_zero : answer.xor_zero < wires
+  pub not_zero : answer.not_zero < wires
+
+-- in an assignment that meets what was put the answer is the operations' words and flags
+abbrev pub LogicIsSound : Type 0
+LogicIsSound = (z : List ℕ) (next : ℕ) (x y : Bits) (a b : ℕ) → Assigns z → Spells z x.first 32 a → Spells z y.first 32 b
+    → Meets z (logic_of 32 x y next).list → IsLogic 32 z (logic_of 32 x y next).answer a b
+
+-- an assignment that has these values at the wires that were made meets what was put
+abbrev pub LogicIsComplete : Type 0
+LogicIsComplete = (z : List ℕ) (next : ℕ) (x y : Bits) (a b : ℕ) → Assigns z → Spells z x.first 32 a → Spells z y.first 32 b
+    → HasFrom z next (logic_values 32 a b) → Meets z (logic_of 32 x y next).list

@@ -1,0 +1,40 @@
+use tv_core::Wire;
+
+/// The wires of the bitwise operations of two words: their numbers, and whether each is 0.
+#[derive(Clone, Copy, PartialEq, Eq, Debug)]
+pub struct Logic {
+    /// The bits that are 1 in both.
+    pub and_word: Wire,
+    /// The bits that are 1 in one at least.
+    pub or_word: Wire,
+    /// The bits that are 1 in one alone.
+    pub xor_word: Wire,
+    /// The bits that are 0 in the second.
+    pub not_word: Wire,
+    /// 1 where `and_word` is 0, else 0.
+    pub and_zero: Wire,
+    /// 1 where `or_word` is 0, else 0.
+    pub or_zero: Wire,
+    /// 1 where `xor_word` is 0, else 0.
+    pub xor_zero: Wire,
+    /// 1 where `not_word` is 0, else 0.
+    pub not_zero: Wire,
+}
+
+/// The words of the four operations.
+#[derive(Clone, Copy)]
+pub(crate) struct Words {
+    pub(crate) and_word: Wire,
+    pub(crate) or_word: Wire,
+    pub(crate) xor_word: Wire,
+    pub(crate) not_word: Wire,
+}
+
+/// The zero flags of the four words.
+#[derive(Clone, Copy)]
+pub(crate) struct Flags {
+    pub(crate) and_zero: Wire,
+    pub(crate) or_zero: Wire,
+    pub(crate) xor_zero: Wire,
+    pub(crate) not_zero: Wire,
+}
