@@ -1,0 +1,4 @@
+pub mod GivingTails
+pub mod HalvesLaws
+pub mod NonzeroLaws
+pub mod ProductLaws

@@ -1,0 +1,3 @@
+pub mod Nonzero
+pub mod Product
+pub mod Weighed

@@ -1,0 +1,12 @@
+//! Gadgets that multiply and divide words: the product of two words, the high word of their signed
+//! product, and their quotient and remainder.
+//! Contracts above cite `IsProduct`, which says what wires hold in whole numbers.
+#![tactic(auto)]
+
+mod nonzero;
+mod products;
+mod records;
+mod weighing;
+
+pub use products::{fill_product, product, product_is_complete, product_is_sound};
+pub use records::Product;
