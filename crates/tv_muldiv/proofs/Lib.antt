@@ -2,3 +2,5 @@ pub mod GivingTails
 pub mod HalvesLaws
 pub mod NonzeroLaws
 pub mod ProductLaws
+pub mod SignedHighLaws
+pub mod SignedNumbers

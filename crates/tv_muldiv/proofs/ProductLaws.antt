@@ -11,7 +11,7 @@ use Rattle.tv_core.proofs.Meeting.{Meets-split, Meets-join, HasFrom-split}
 use Rattle.tv_core.specs.Circuits.{here, fresh, put, pure, ◌>>=◌}
 use Rattle.tv_core.specs.Combinations.{wire}
 use Rattle.tv_core.specs.Constraints.{value}
-use Rattle.tv_core.specs.Laws.{Assigns, Meets, HasFrom}
+use Rattle.tv_core.specs.Laws.{Assigns, Meets}
 use Rattle.tv_core.specs.declared.field.TheConstants.{P}
 use Rattle.tv_bits.proofs.SpelledNumbers.{Spells-below, Spells-bit_at, Spells-low, Spells-high, value-bits, value-bits_below}
 use Rattle.tv_bits.proofs.SpellingLaws.{new_bits_sound, new_bits_next}
@@ -23,7 +23,6 @@ use Rattle.tv_muldiv.proofs.NonzeroLaws.{nonzero_sound, nonzero_complete}
 use Rattle.tv_muldiv.specs.Nonzero.{nonzero_of, nonzero_flag, nonzero_values}
 use Rattle.tv_muldiv.specs.Product.{product_bits_of, product_of, ProductIsSound, ProductIsComplete}
 use Rattle.tv_muldiv.specs.Weighed.{halves_values}
-use Rattle.tv_muldiv.specs.declared.records.Product.{Product}
 
 -- ---- numbers
 -- a number below P, and one below 2 P that is the same modulo P and as odd, are one

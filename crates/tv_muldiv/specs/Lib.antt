@@ -1,3 +1,4 @@
 pub mod Nonzero
 pub mod Product
+pub mod SignedHigh
 pub mod Weighed

@@ -6,7 +6,11 @@
 mod nonzero;
 mod products;
 mod records;
+mod signed_products;
 mod weighing;
 
 pub use products::{fill_product, product, product_is_complete, product_is_sound};
-pub use records::Product;
+pub use records::{High, Product};
+pub use signed_products::{
+    fill_signed_high, signed_high, signed_high_is_complete, signed_high_is_sound,
+};

@@ -1,4 +1,4 @@
-use Rattle.std.proofs.Common.{◌≡◌, ◌*◌, ◌/◌, ◌%◌, ◌^◌, ◌<◌, ◌≤◌, arith}
+use Rattle.std.proofs.Common.{◌≡◌, ◌*◌, ◌/◌, ◌%◌, ◌^◌, ◌≤◌, arith}
 use Rattle.tv_core.proofs.GivingChain.{giving, gives_refused}
 use Rattle.std.proofs.lemmas.Nat.{mul-le}
 use Rattle.tv_core.specs.declared.field.TheConstants.{P}

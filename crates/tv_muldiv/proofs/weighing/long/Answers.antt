@@ -1,4 +1,4 @@
-use Rattle.std.proofs.Common.{◌≡◌, ◌%◌, ◌^◌, ◌∙◌, sym, ap}
+use Rattle.std.proofs.Common.{◌%◌, ◌^◌, ◌∙◌, sym, ap}
 use Rattle.tv_core.proofs.BelowLaws.{weighted-suc}
 use Rattle.tv_core.specs.declared.field.TheConstants.{P}
 use Rattle.tv_muldiv.specs.Weighed.{weighed}
