@@ -1,5 +1,6 @@
 pub mod Bit
 pub mod Bits
 pub mod OneHot
+pub mod Order
 pub mod Select
 pub mod Zero
