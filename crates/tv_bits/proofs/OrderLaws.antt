@@ -26,3 +26,67 @@ IsPrefixDifference-above n c t x y d short few h k some most i =
     let power : 2 ^ c ≤ 2 ^ 62 = pow-le-pow_right (omega arith) few in
     let p = c * i.chunk in
     above_of_prefix x y p (difference_above (x / 2 ^ p) (y / 2 ^ p) d (prefix_small n x p short h) (prefix_small n y p short k) some (omega arith) i.is)
+
+-- ---- the shortest prefix that differs
+first_difference-same : (c t x y : ℕ) → x / 2 ^ (c * t) ≡ y / 2 ^ (c * t) → first_difference c (suc t) x y ≡ first_difference c t x y
+unfolding first_difference
+first_difference-same c t x y same = ap (λ b. if b then first_difference c t x y else x / 2 ^ (c * t) - y / 2 ^ (c * t)) (eq-eqb _ _ same)
+
+first_difference-apart : (c t x y : ℕ) → x / 2 ^ (c * t) ≢ y / 2 ^ (c * t) → first_difference c (suc t) x y ≡ x / 2 ^ (c * t) - y / 2 ^ (c * t)
+unfolding first_difference
+first_difference-apart c t x y apart = ap (λ b. if b then first_difference c t x y else x / 2 ^ (c * t) - y / 2 ^ (c * t)) (ne_eqb _ _ apart)
+
+-- two numbers that are the same without their lowest chunk are less than 2 ^ c apart
+within_chunk : (a b k : ℕ) → 0 < k → a / k ≡ b / k → a - b < k
+within_chunk a b k positive same =
+    let whole : k * (a / k) ≡ k * (b / k) = ap (λ q. k * q) same in
+    omega (arith, div-add-mod a k, div-add-mod b k, mod-lt a positive)
+
+-- where the first number is above, and the prefixes of t chunks less are the same
+record IsFirst (c t x y : ℕ) : Type 0 where
+  chunk : ℕ
+  within : chunk < t
+  above : y / 2 ^ (c * chunk) < x / 2 ^ (c * chunk)
+  is : first_difference c t x y ≡ x / 2 ^ (c * chunk) - y / 2 ^ (c * chunk)
+  below : first_difference c t x y < 2 ^ c
+
+first_is : (c t x y : ℕ) → y < x → x / 2 ^ (c * t) ≡ y / 2 ^ (c * t) → IsFirst c t x y
+first_is c zero x y h same = absurd (let whole : (n : ℕ) → n / 2 ^ (c * 0) ≡ n = λ n. ap (λ k. n / 2 ^ k) (mul-zero c) ∙ ap (λ k. n / k) (pow-zero 2) ∙ div-one n in omega (arith, whole x, whole y))
+first_is c (suc t) x y h same =
+    let p = c * t in
+    let place : p + c ≡ c * suc t = omega arith in
+    let shorter : x / 2 ^ p / 2 ^ c ≡ y / 2 ^ p / 2 ^ c = shr-shr x p c ∙ ap (λ k. x / 2 ^ k) place ∙ same ∙ sym (shr-shr y p c ∙ ap (λ k. y / 2 ^ k) place) in
+    elim (cases_eq (x / 2 ^ p) (y / 2 ^ p)) [
+      | inl none ↦
+          let rest = first_is c t x y h none in
+          let more = first_difference-same c t x y none in
+          record { chunk = rest.chunk; within = omega (arith, rest.within); above = rest.above; is = more ∙ rest.is; below = omega (arith, rest.below) }
+      | inr some ↦
+          let here = first_difference-apart c t x y some in
+          record { chunk = t; within = omega arith; above = omega (arith, prefix_le x y p (omega arith)); is = here; below = omega (arith, within_chunk (x / 2 ^ p) (y / 2 ^ p) (2 ^ c) (pow_pos c) shorter) }
+    ]
+
+difference_of_above : (a b : ℕ) → b < a → a < 2 ^ 63 → (a + (P - b)) % P ≡ a - b
+difference_of_above a b h k = omega arith
+
+-- where a number is above another, by what the shortest prefix that differs is: from 1 to less than 2 ^ c
+module _ (n c t x y : ℕ) (whole : n ≤ c * t) (short : n ≤ 63) (below : x < 2 ^ n) (above : y < x) where
+  first : IsFirst c t x y
+  first =
+      let power : 2 ^ n ≤ 2 ^ (c * t) = pow-le-pow_right (omega arith) whole in
+      first_is c t x y above (div-eq_of_lt (let small : x < 2 ^ (c * t) = omega arith in small) ∙ sym (div-eq_of_lt (let small : y < 2 ^ (c * t) = omega arith in small)))
+
+  pub first_difference-some : 0 < first_difference c t x y
+  first_difference-some = omega (arith, first.is, first.above)
+
+  pub first_difference-below : first_difference c t x y < 2 ^ c
+  first_difference-below = first.below
+
+  pub IsPrefixDifference-first : IsPrefixDifference c t x y (first_difference c t x y)
+  IsPrefixDifference-first =
+      let p = c * first.chunk in
+      record {
+        chunk = first.chunk;
+        within = first.within;
+        is = difference_of_above (x / 2 ^ p) (y / 2 ^ p) first.above (prefix_small n x p short below) ∙ sym first.is;
+      }
