@@ -2,5 +2,6 @@ pub mod Bit
 pub mod Bits
 pub mod OneHot
 pub mod Order
+pub mod Prefixes
 pub mod Select
 pub mod Zero
