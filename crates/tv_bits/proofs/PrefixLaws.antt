@@ -75,21 +75,21 @@ product_below-zero (suc n) i f h none =
       | inr apart ↦ ap (λ k. k * f n) (product_below-zero n i f (omega arith) none) ∙ zero-mul (f n)
     ]
 
-products_complete : (z : List ℕ) (factor : ℕ → Combination) (next k : ℕ) → Assigns z
-    → ((i : ℕ) → i < k → slice_index z (next + i) ≡ product_below (i + 2) (λ j. value (factor j) z) % P)
+products_complete : (z : List ℕ) (factor : ℕ → Combination) (f : ℕ → ℕ) (next k : ℕ) → Assigns z → ((j : ℕ) → j ≤ k → value (factor j) z ≡ f j)
+    → ((i : ℕ) → i < k → slice_index z (next + i) ≡ product_below (i + 2) f % P)
     → Meets z (turns k (next_product factor) (factor 0) next).list
-    × (value (turns k (next_product factor) (factor 0) next).answer z ≡ product_below (k + 1) (λ j. value (factor j) z) % P)
+    × (value (turns k (next_product factor) (factor 0) next).answer z ≡ product_below (k + 1) f % P)
 unfolding turns pure ◌>>=◌
-products_complete z factor next zero assigns has =
-    (tt, sym (mod-eq_of_lt (value-below (factor 0) z)) ∙ ap (λ n. n % P) (sym (one-mul (value (factor 0) z))))
-products_complete z factor next (suc k) assigns has =
-    let f : ℕ → ℕ = λ j. value (factor j) z in
+products_complete z factor f next zero assigns is has =
+    let first = is 0 (omega arith) in
+    (tt, sym (mod-eq_of_lt (value-below (factor 0) z)) ∙ ap (λ n. n % P) (first ∙ sym (one-mul (f 0))))
+products_complete z factor f next (suc k) assigns is has =
     let before = turns k (next_product factor) (factor 0) in
-    let rest = products_complete z factor next k assigns (λ i h. has i (omega arith)) in
+    let rest = products_complete z factor f next k assigns (λ j h. is j (omega arith)) (λ i h. has i (omega arith)) in
     let place : suc k + 1 ≡ suc (k + 1) = omega arith in
     let again : k + 2 ≡ suc k + 1 = omega arith in
-    let product : value (before next).answer z * f (k + 1) % P ≡ product_below (suc k + 1) f % P =
-    ap (λ n. n * f (k + 1) % P) rest.1 ∙ mul-mod_first (product_below (k + 1) f) (f (k + 1)) P ∙ ap (λ n. n % P) (sym (product_below-suc (k + 1) (suc k + 1) f place)) in
+    let product : value (before next).answer z * value (factor (k + 1)) z % P ≡ product_below (suc k + 1) f % P =
+    ap₂ (λ m n. m * n % P) rest.1 (is (k + 1) (omega arith)) ∙ mul-mod_first (product_below (k + 1) f) (f (k + 1)) P ∙ ap (λ n. n % P) (sym (product_below-suc (k + 1) (suc k + 1) f place)) in
     let given : slice_index z (before next).next ≡ product_below (suc k + 1) f % P =
     ap (λ n. slice_index z n) (products-next factor next k) ∙ has k (omega arith) ∙ ap (λ n. product_below n f % P) again in
     let turn = turn_complete z factor k (before next).answer (before next).next assigns (product ∙ sym given) in
@@ -106,17 +106,17 @@ zero_product_sound z factor t next two assigns meets =
       | inr last ↦ (t - 1, omega arith, last)
     ]
 
-pub zero_product_complete : (z : List ℕ) (factor : ℕ → Combination) (t i next : ℕ) → 2 ≤ t → Assigns z → i < t → value (factor i) z ≡ 0
-    → HasFrom z next (products_values (λ j. value (factor j) z) t) → Meets z (zero_product_of factor t next).list
+-- f being the factors' values
+pub zero_product_complete : (z : List ℕ) (factor : ℕ → Combination) (f : ℕ → ℕ) (t i next : ℕ) → 2 ≤ t → Assigns z → ((j : ℕ) → j < t → value (factor j) z ≡ f j)
+    → i < t → f i ≡ 0 → HasFrom z next (products_values f t) → Meets z (zero_product_of factor t next).list
 unfolding zero_product_of put
-zero_product_complete z factor t i next two assigns within none has =
-    let f : ℕ → ℕ = λ j. value (factor j) z in
+zero_product_complete z factor f t i next two assigns is within none has =
     let products = turns (t - 2) (next_product factor) (factor 0) in
-    let rest = products_complete z factor next (t - 2) assigns (has_each z next (t - 2) (λ j. product_below (j + 2) f % P) has) in
+    let rest = products_complete z factor f next (t - 2) assigns (λ j h. is j (omega arith)) (has_each z next (t - 2) (λ j. product_below (j + 2) f % P) has) in
     let place : t ≡ suc (t - 1) = omega arith in
     let again : t - 2 + 1 ≡ t - 1 = omega arith in
-    let product : value (products next).answer z * f (t - 1) % P ≡ 0 =
-    ap (λ n. n * f (t - 1) % P) (rest.1 ∙ ap (λ n. product_below n f % P) again) ∙ mul-mod_first (product_below (t - 1) f) (f (t - 1)) P
+    let product : value (products next).answer z * value (factor (t - 1)) z % P ≡ 0 =
+    ap₂ (λ m n. m * n % P) (rest.1 ∙ ap (λ n. product_below n f % P) again) (is (t - 1) (omega arith)) ∙ mul-mod_first (product_below (t - 1) f) (f (t - 1)) P
     ∙ ap (λ n. n % P) (sym (product_below-suc (t - 1) t f place) ∙ product_below-zero t i f within none) in
     whole z products (λ product. put product (factor (t - 1)) []) next rest.0 (product, tt)
 
@@ -151,3 +151,11 @@ prefix_difference_sound z next x y d c t v w two x_long y_long x_short y_short a
     let p = c * found.0 in
     let none = sym (value-prefix_less z x y d v w x_short y_short s r p (place_within c t x.n found.0 found.1 x_long) (place_within c t y.n found.0 found.1 y_long)) ∙ found.2 in
     record { chunk = found.0; within = found.1; is = same_of_minus (prefix_difference v w p) (value d z) (mod-lt _ (omega arith)) (value-below d z) none }
+
+pub prefix_difference_complete : PrefixDifferenceIsComplete
+unfolding prefix_difference_of
+prefix_difference_complete z next x y d c t v w two x_long y_long x_short y_short assigns s r i has =
+    let is : (j : ℕ) → j < t → value (prefix_less x y d (c * j)) z ≡ prefix_less_in v w (value d z) (c * j) =
+    λ j h. value-prefix_less z x y d v w x_short y_short s r (c * j) (place_within c t x.n j h x_long) (place_within c t y.n j h y_long) in
+    let none = difference_same (prefix_difference v w (c * i.chunk)) (value d z) (mod-lt _ (omega arith)) (value-below d z) i.is in
+    zero_product_complete z (λ j. prefix_less x y d (c * j)) (λ j. prefix_less_in v w (value d z) (c * j)) t i.chunk next two assigns is i.within none has
