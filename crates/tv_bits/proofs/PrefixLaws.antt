@@ -64,7 +64,7 @@ products_sound z factor next (suc k) assigns meets none =
       | inr last ↦ record { place = k + 1; within = omega arith; is = last }
     ]
 
-product_below-suc : (n m : ℕ) (f : ℕ → ℕ) → m ≡ suc n → product_below m f ≡ product_below n f * f n
+pub product_below-suc : (n m : ℕ) (f : ℕ → ℕ) → m ≡ suc n → product_below m f ≡ product_below n f * f n
 product_below-suc n m f e = ap (λ k. product_below k f) e
 
 product_below-zero : (n i : ℕ) (f : ℕ → ℕ) → i < n → f i ≡ 0 → product_below n f ≡ 0
@@ -159,3 +159,13 @@ prefix_difference_complete z next x y d c t v w two x_long y_long x_short y_shor
     λ j h. value-prefix_less z x y d v w x_short y_short s r (c * j) (place_within c t x.n j h x_long) (place_within c t y.n j h y_long) in
     let none = difference_same (prefix_difference v w (c * i.chunk)) (value d z) (mod-lt _ (omega arith)) (value-below d z) i.is in
     zero_product_complete z (λ j. prefix_less x y d (c * j)) (λ j. prefix_less_in v w (value d z) (c * j)) t i.chunk next two assigns is i.within none has
+
+-- ---- the products, one factor after another
+pub first_factor : (x y d c : ℕ) → prefix_less_in x y d 0 ≡ product_below 1 (λ j. prefix_less_in x y d (c * j)) % P
+first_factor x y d c =
+    sym (mod-eq_of_lt (mod-lt _ (omega arith))) ∙ ap (λ n. n % P) (ap (λ p. prefix_less_in x y d p) (sym (mul-zero c)) ∙ sym (one-mul _))
+
+pub next_factor : (i : ℕ) (f : ℕ → ℕ) (product factor : ℕ) → product ≡ product_below (i + 1) f % P → factor ≡ f (i + 1) → product * factor % P ≡ product_below (i + 2) f % P
+next_factor i f product factor is has =
+    let place : i + 2 ≡ suc (i + 1) = omega arith in
+    ap₂ (λ m n. m * n % P) is has ∙ mul-mod_first (product_below (i + 1) f) (f (i + 1)) P ∙ ap (λ n. n % P) (sym (product_below-suc (i + 1) (i + 2) f place))

@@ -1,4 +1,4 @@
-ghost use Rattle.std.specs.Prelude.{◌≡◌, ◌+◌, ◌≤◌, ◌<◌, ◌^◌, length};
+ghost use Rattle.std.specs.Prelude.{◌≡◌, ◌+◌, ◌-◌, ◌≤◌, ◌<◌, ◌^◌, length};
 ghost use Rattle.tv_bits.specs.Bits.{bits_combination};
 ghost use Rattle.tv_core.specs.Combinations.{top};
 
@@ -30,5 +30,18 @@ impl Bits {
             power = power + power;
         }
         lc
+    }
+
+    /// The bits from place `from` on, as bits of their own: those of the number divided by 2^`from`.
+    pub fn above(&self, from: u32) -> Bits
+        requires enough { from ≤ self.now.n }
+        requires within { self.now.first + self.now.n < 2 ^ 32 }
+        ensures first { result.first ≡ self.now.first + from }
+        ensures n { result.n ≡ self.now.n - from }
+    {
+        Bits {
+            first: self.first.offset(from),
+            n: self.n - from,
+        }
     }
 }
