@@ -28,11 +28,15 @@ IsPrefixDifference-above n c t x y d short few h k some most i =
     above_of_prefix x y p (difference_above (x / 2 ^ p) (y / 2 ^ p) d (prefix_small n x p short h) (prefix_small n y p short k) some (omega arith) i.is)
 
 -- ---- the shortest prefix that differs
-first_difference-same : (c t x y : ℕ) → x / 2 ^ (c * t) ≡ y / 2 ^ (c * t) → first_difference c (suc t) x y ≡ first_difference c t x y
+pub first_difference-zero : (c x y : ℕ) → first_difference c 0 x y ≡ 0
+unfolding first_difference
+first_difference-zero c x y = refl
+
+pub first_difference-same : (c t x y : ℕ) → x / 2 ^ (c * t) ≡ y / 2 ^ (c * t) → first_difference c (suc t) x y ≡ first_difference c t x y
 unfolding first_difference
 first_difference-same c t x y same = ap (λ b. if b then first_difference c t x y else x / 2 ^ (c * t) - y / 2 ^ (c * t)) (eq-eqb _ _ same)
 
-first_difference-apart : (c t x y : ℕ) → x / 2 ^ (c * t) ≢ y / 2 ^ (c * t) → first_difference c (suc t) x y ≡ x / 2 ^ (c * t) - y / 2 ^ (c * t)
+pub first_difference-apart : (c t x y : ℕ) → x / 2 ^ (c * t) ≢ y / 2 ^ (c * t) → first_difference c (suc t) x y ≡ x / 2 ^ (c * t) - y / 2 ^ (c * t)
 unfolding first_difference
 first_difference-apart c t x y apart = ap (λ b. if b then first_difference c t x y else x / 2 ^ (c * t) - y / 2 ^ (c * t)) (ne_eqb _ _ apart)
 
@@ -90,3 +94,47 @@ module _ (n c t x y : ℕ) (whole : n ≤ c * t) (short : n ≤ 63) (below : x <
         within = first.within;
         is = difference_of_above (x / 2 ^ p) (y / 2 ^ p) first.above (prefix_small n x p short below) ∙ sym first.is;
       }
+
+-- of two numbers of which neither is above, it is 0
+pub first_difference-none : (c t x y : ℕ) → x ≤ y → first_difference c t x y ≡ 0
+unfolding first_difference
+first_difference-none c zero x y h = refl
+first_difference-none c (suc t) x y h =
+    elim (cases_eq (x / 2 ^ (c * t)) (y / 2 ^ (c * t))) [
+      | inl same ↦ first_difference-same c t x y same ∙ first_difference-none c t x y h
+      | inr apart ↦ omega (arith, first_difference-apart c t x y apart, prefix_le y x (c * t) h)
+    ]
+
+-- the other way round: a difference and its negative, and no difference
+difference_turned : (a b d : ℕ) → a < P → b < P → 0 < d → d < P → (a + (P - b)) % P ≡ P - d → (b + (P - a)) % P ≡ d
+difference_turned a b d h k some small e = omega arith
+
+difference_back : (a b d : ℕ) → a < P → b < P → 0 < d → d < P → (b + (P - a)) % P ≡ d → (a + (P - b)) % P ≡ P - d
+difference_back a b d h k some small e = omega arith
+
+difference_none : (a : ℕ) → a < P → (a + (P - a)) % P ≡ 0
+difference_none a h = omega arith
+
+prefix_residue : (x p : ℕ) → x < P → x / 2 ^ p < P
+prefix_residue x p h = omega (arith, div-le_self x (2 ^ p))
+
+module _ (c t x y d : ℕ) (h : x < P) (k : y < P) (some : 0 < d) (small : d < P) where
+  pub IsPrefixDifference-turned : IsPrefixDifference c t x y (P - d) → IsPrefixDifference c t y x d
+  IsPrefixDifference-turned i = record {
+    chunk = i.chunk;
+    within = i.within;
+    is = let p = c * i.chunk in difference_turned (x / 2 ^ p) (y / 2 ^ p) d (prefix_residue x p h) (prefix_residue y p k) some small i.is;
+  }
+
+  pub IsPrefixDifference-back : IsPrefixDifference c t y x d → IsPrefixDifference c t x y (P - d)
+  IsPrefixDifference-back i = record {
+    chunk = i.chunk;
+    within = i.within;
+    is = let p = c * i.chunk in difference_back (x / 2 ^ p) (y / 2 ^ p) d (prefix_residue x p h) (prefix_residue y p k) some small i.is;
+  }
+
+pub IsPrefixDifference-same : (c t x d : ℕ) → x < P → IsPrefixDifference c t x x d → d ≡ 0
+IsPrefixDifference-same c t x d h i = sym i.is ∙ difference_none (x / 2 ^ (c * i.chunk)) (prefix_residue x (c * i.chunk) h)
+
+pub IsPrefixDifference-none : (c t x : ℕ) → x < P → 0 < t → IsPrefixDifference c t x x 0
+IsPrefixDifference-none c t x h some = record { chunk = 0; within = some; is = difference_none (x / 2 ^ (c * 0)) (prefix_residue x (c * 0) h) }

@@ -16,7 +16,7 @@ mod zeros;
 pub use bit_wires::Bits;
 pub use booleans::{bit, bit_is_complete, bit_is_sound, fill_bit};
 pub use prefixes::{
-    fill_prefix_difference, prefix_difference, prefix_difference_is_complete,
+    fill_prefix_difference, first_difference, prefix_difference, prefix_difference_is_complete,
     prefix_difference_is_sound,
 };
 pub use rows::{fill_onehot, onehot, onehot_is_complete, onehot_is_sound, row_sum};

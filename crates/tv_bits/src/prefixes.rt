@@ -1,4 +1,5 @@
 ghost use Rattle.std.specs.Prelude.{◌≡◌, ◌+◌, ◌-◌, ◌*◌, ◌≤◌, ◌<◌, ◌^◌, false, length, max, IfOk, OnOk};
+ghost use Rattle.tv_bits.specs.Order.{first_difference};
 ghost use Rattle.tv_bits.specs.Prefixes.{prefix_less, prefix_less_in, times_of, prefix_difference_of, prefix_difference_values, PrefixDifferenceIsSound, PrefixDifferenceIsComplete};
 ghost use Rattle.tv_core.specs.Combinations.{top};
 ghost use Rattle.tv_core.specs.Giving.{GivesIn};
@@ -107,6 +108,23 @@ fn prefix_less_in(x: u64, y: u64, d: F, from: u32) -> F
     ensures { result ≡ prefix_less_in x y d from }
 {
     F::of(x >> from) - F::of(y >> from) - d
+}
+
+/// By how much `x` is above `y` in the shortest prefix in which they differ, the two being cut into `count`
+/// chunks of `chunk` bits; 0 where none differs and where `x` is below `y`. It is what `prefix_difference` is
+/// given to hold where `x` is above, and from 1 to 2^`chunk` - 1 there.
+pub fn first_difference(x: u64, y: u64, chunk: u32, count: u32) -> u64
+    requires short { chunk * (count - 1) < 64 }
+    ensures { result ≡ first_difference chunk count x y }
+{
+    let mut difference = 0;
+    for i in 0..count {
+        let (x, y) = (x >> (chunk * i), y >> (chunk * i));
+        if x != y {
+            difference = x.saturating_sub(y);
+        }
+    }
+    difference
 }
 
 /// Where an assignment meets what `prefix_difference` put for bits that spell two numbers, `d` is the
