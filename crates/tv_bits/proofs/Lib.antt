@@ -1,5 +1,8 @@
 pub mod BitLaws
 pub mod OneHotLaws
+pub mod OrderLaws
+pub mod PrefixLaws
+pub mod ProductChain
 pub mod SelectLaws
 pub mod SpelledNumbers
 pub mod SpellingLaws
