@@ -2,5 +2,7 @@ pub mod GivingTails
 pub mod HalvesLaws
 pub mod NonzeroLaws
 pub mod ProductLaws
+pub mod QuotientLaws
+pub mod QuotientNumbers
 pub mod SignedHighLaws
 pub mod SignedNumbers

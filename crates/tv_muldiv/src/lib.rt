@@ -5,12 +5,14 @@
 
 mod nonzero;
 mod products;
+mod quotients;
 mod records;
 mod signed_products;
 mod weighing;
 
 pub use products::{fill_product, product, product_is_complete, product_is_sound};
-pub use records::{High, Product};
+pub use quotients::{fill_quotient, quotient, quotient_is_complete, quotient_is_sound};
+pub use records::{High, Product, Quot};
 pub use signed_products::{
     fill_signed_high, signed_high, signed_high_is_complete, signed_high_is_sound,
 };

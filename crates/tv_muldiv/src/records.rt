@@ -20,3 +20,14 @@ pub struct High {
     /// Whether the product is no signed number of 32 bits.
     pub over: Wire,
 }
+
+/// The quotient and the remainder of two words.
+#[derive(Clone, Copy, PartialEq, Eq, Debug)]
+pub struct Quot {
+    /// The quotient, rounded down, 32 bits; 0 where the divisor is 0.
+    pub quot: Bits,
+    /// The remainder, 32 bits; 0 where the divisor is 0.
+    pub rem: Bits,
+    /// Whether the divisor is 0.
+    pub by_zero: Wire,
+}
