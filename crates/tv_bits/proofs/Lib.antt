@@ -1,4 +1,5 @@
 pub mod BitLaws
+pub mod NewBitsLaws
 pub mod OneHotLaws
 pub mod OrderLaws
 pub mod PrefixLaws

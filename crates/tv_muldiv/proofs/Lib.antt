@@ -1,4 +1,3 @@
-pub mod GivingTails
 pub mod HalvesLaws
 pub mod NonzeroLaws
 pub mod ProductLaws

@@ -14,11 +14,12 @@ use Rattle.tv_core.specs.Constraints.{value}
 use Rattle.tv_core.specs.Laws.{Assigns, Meets}
 use Rattle.tv_core.specs.declared.field.TheConstants.{P}
 use Rattle.tv_bits.proofs.SpelledNumbers.{Spells-below, Spells-bit_at, Spells-low, Spells-high, value-bits, value-bits_below}
-use Rattle.tv_bits.proofs.SpellingLaws.{new_bits_sound, new_bits_next}
+use Rattle.tv_bits.proofs.SpellingLaws.{new_bits_next}
 use Rattle.tv_bits.specs.Bit.{IsBit}
 use Rattle.tv_bits.specs.Bits.{Spells, spelled, bits_combination, new_bits_of}
 use Rattle.tv_bits.specs.declared.bit_wires.Bits.{Bits}
-use Rattle.tv_muldiv.proofs.HalvesLaws.{bits_met, length-halves, halves_spell}
+use Rattle.tv_bits.proofs.NewBitsLaws.{bits_spell, bits_met}
+use Rattle.tv_muldiv.proofs.HalvesLaws.{length-halves, halves_spell}
 use Rattle.tv_muldiv.proofs.NonzeroLaws.{nonzero_sound, nonzero_complete}
 use Rattle.tv_muldiv.specs.Nonzero.{nonzero_of, nonzero_flag, nonzero_values}
 use Rattle.tv_muldiv.specs.Product.{product_bits_of, product_of, ProductIsSound, ProductIsComplete}
@@ -67,7 +68,7 @@ module _ (z : List ℕ) (assigns : Assigns z) where
         let first : bit_at a 0 * bit_at b 0 % P ≡ slice_index z next =
         sym (ap₂ (λ m n. m * n % P) (lowest x.first (omega arith) p) (lowest y.first (omega arith) q)) ∙ both.1.0 ∙ value-wire assigns next in
         let small = bits_product (bit_at a 0) (bit_at b 0) (bit_at-lt a 0) (bit_at-lt b 0) in
-        let rest = (new_bits_sound z (next + 1) 63 assigns both.0).bits in
+        let rest = (bits_spell z 63 (next + 1) assigns both.0).bits in
         let s : Spells z next 64 (spelled z next 64) = record { bits = bits_of_product (omega arith) rest; number = refl } in
         let whole : a * b % P ≡ spelled z next 64 % P =
         sym (ap₂ (λ m n. m * n % P) (value-bits_below p (omega arith)) (value-bits_below q (omega arith))) ∙ both.1.1.0 ∙ value-bits s in
@@ -83,7 +84,7 @@ module _ (z : List ℕ) (assigns : Assigns z) where
         λ i h. let same : next + (1 + i) ≡ next + 1 + i = omega arith in subst (λ k. IsBit (slice_index z k)) same (s.bits (1 + i) (omega arith)) in
         let small = bits_product (bit_at a 0) (bit_at b 0) (bit_at-lt a 0) (bit_at-lt b 0) in
         let first : bit_at a 0 * bit_at b 0 % P ≡ bit_at (a * b) 0 = omega (arith, first_of_product a b) in
-        Meets-join z (new_bits_of 63 (next + 1)).list _ (bits_met z (next + 1) 63 assigns rest) (
+        Meets-join z (new_bits_of 63 (next + 1)).list _ (bits_met z 63 (next + 1) assigns rest) (
           ap₂ (λ m n. m * n % P) (lowest x.first (omega arith) p) (lowest y.first (omega arith) q) ∙ first ∙ sym (lowest next (omega arith) s),
           (ap₂ (λ m n. m * n % P) (value-bits_below p (omega arith)) (value-bits_below q (omega arith)) ∙ sym (value-bits s), tt),
         )

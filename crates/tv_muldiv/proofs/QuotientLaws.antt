@@ -14,14 +14,14 @@ use Rattle.tv_core.specs.declared.field.TheConstants.{P}
 use Rattle.tv_bits.proofs.BitLaws.{bit_sound, bit_complete, bit_next}
 use Rattle.tv_bits.proofs.PrefixLaws.{prefix_difference_sound, prefix_difference_complete, prefix_difference_next}
 use Rattle.tv_bits.proofs.SpelledNumbers.{Spells-below, Spells-from_values, value-bits_below}
-use Rattle.tv_bits.proofs.SpellingLaws.{new_bits_sound, new_bits_answer, new_bits_next}
+use Rattle.tv_bits.proofs.SpellingLaws.{new_bits_answer, new_bits_next}
 use Rattle.tv_bits.specs.Bit.{IsBit, bit_of}
 use Rattle.tv_bits.specs.Bits.{Spells, spelled, bits_combination, new_bits_of}
 use Rattle.tv_bits.specs.Order.{IsPrefixDifference}
 use Rattle.tv_bits.specs.Prefixes.{prefix_difference_values}
 use Rattle.tv_bits.specs.Zero.{zero_flag}
 use Rattle.tv_bits.specs.declared.bit_wires.Bits.{Bits}
-use Rattle.tv_muldiv.proofs.HalvesLaws.{bits_met}
+use Rattle.tv_bits.proofs.NewBitsLaws.{bits_spell, bits_met}
 use Rattle.tv_muldiv.proofs.QuotientNumbers.{Divides, Divides-sound, Divides-complete, quotient-small, remainder-small, above-below, above-difference}
 use Rattle.tv_muldiv.specs.Quotient.{quotient_in, remainder_in, gate_in, above_in, words_values, above_values, zero_divisor_of, quotient_wires_of, gate_of, division_of, remainder_below_of, quotient_of, QuotientIsSound, QuotientIsComplete}
 use Rattle.tv_muldiv.specs.declared.records.Quot.{Quot}
@@ -29,10 +29,6 @@ use Rattle.tv_muldiv.specs.declared.records.Quot.{Quot}
 -- the wires that are answered
 made_at : ℕ → Quot
 made_at next = record { quot = record { first = next; n = 32 }; rem = record { first = next + 32; n = 32 }; by_zero = next + 64 }
-
--- new bits spell some number
-spell_some : (z : List ℕ) (n next : ℕ) → Assigns z → Meets z (new_bits_of n next).list → Spells z next n (spelled z next n)
-spell_some z n next assigns meets = rw new_bits_answer at (new_bits_sound z next n assigns meets)
 
 -- ---- where the parts end, and what they answer
 zero_divisor_answer : (y : Bits) (next : ℕ) → (zero_divisor_of 32 y next).answer ≡ next
@@ -142,7 +138,7 @@ module _ (z : List ℕ) (assigns : Assigns z) (y : Bits) (b rem : ℕ) (q : Spel
   unfolding remainder_below_of ◌>>=◌
   remainder_below_sound meets =
       let both = Meets-split z (new_bits_of 8 next).list _ meets in
-      let s = spell_some z 8 next assigns both.0 in
+      let s = bits_spell z 8 next assigns both.0 in
       let rest = rw (new_bits_answer, new_bits_next) at both.1 in
       let found = prefix_difference_sound z (next + 8) (record { first = y.first; n = 32 }) (record { first = at; n = 32 }) (less (bits_combination next 8 ++ constant 1) (wire flag)) 8 4 b rem
       (omega arith) (omega arith) (omega arith) (omega arith) (omega arith) assigns q t rest in
@@ -155,7 +151,7 @@ module _ (z : List ℕ) (assigns : Assigns z) (y : Bits) (b rem : ℕ) (q : Spel
       let same : d ≡ value (less (bits_combination next 8 ++ constant 1) (wire flag)) z = is ∙ sym (value-above above s) in
       let rest = prefix_difference_complete z (next + 8) (record { first = y.first; n = 32 }) (record { first = at; n = 32 }) (less (bits_combination next 8 ++ constant 1) (wire flag)) 8 4 b rem
       (omega arith) (omega arith) (omega arith) (omega arith) (omega arith) assigns q t (rw same at i) (rw same at has) in
-      Meets-join z (new_bits_of 8 next).list _ (bits_met z next 8 assigns s.bits) (rw (new_bits_answer, new_bits_next) rest)
+      Meets-join z (new_bits_of 8 next).list _ (bits_met z 8 next assigns s.bits) (rw (new_bits_answer, new_bits_next) rest)
 
 -- ---- the quotient
 pub quotient_answer : (x y : Bits) (next : ℕ) → (quotient_of 32 x y next).answer ≡ record { quot = record { first = next; n = 32 }; rem = record { first = next + 32; n = 32 }; by_zero = next + 64 }
@@ -191,8 +187,8 @@ unfolding made_at
 quotient_sound z next x y a b assigns p q meets =
     let all = quotient_parts z x y next meets in
     let wires = quotient_wires_parts z y next all.0 in
-    let s = spell_some z 32 next assigns wires.0 in
-    let t = spell_some z 32 (next + 32) assigns wires.1 in
+    let s = bits_spell z 32 next assigns wires.0 in
+    let t = bits_spell z 32 (next + 32) assigns wires.1 in
     let flag = zero_divisor_sound z assigns y b q (next + 64) wires.2 in
     let whole = division_sound z assigns x y a b (spelled z next 32) (spelled z (next + 32) 32) p q (made_at next) s t (next + 65) all.1 in
     let found = remainder_below_sound z assigns y b (spelled z (next + 32) 32) q (record { first = next; n = 32 }) (next + 32) (next + 64) t (next + 66) all.2 in
@@ -229,7 +225,7 @@ quotient_complete z next x y a b assigns p q has =
     let divides = Divides-complete a b a_small b_small in
     let flag : slice_index z (next + 64) ≡ zero_flag b = both.1.0 in
     let difference = above-difference a b b_small in
-    let wires = quotient_wires_whole z y next (bits_met z next 32 assigns s.bits) (bits_met z (next + 32) 32 assigns t.bits)
+    let wires = quotient_wires_whole z y next (bits_met z 32 next assigns s.bits) (bits_met z 32 (next + 32) assigns t.bits)
     (zero_divisor_complete z assigns y b q (next + 64) (rw flag divides.bit) (rw flag divides.zero)) in
     let division = division_complete z assigns x y a b (quotient_in a b) (remainder_in a b) p q (made_at next) s t (next + 65) (rw (flag, gate) divides.gated) (rw gate divides.whole) in
     let below = remainder_below_complete z assigns y b (remainder_in a b) q (record { first = next; n = 32 }) (next + 32) (next + 64) t (next + 66) (above - 1) above bits

@@ -8,10 +8,11 @@ use Rattle.tv_core.specs.Constraints.{value}
 use Rattle.tv_core.specs.Laws.{Assigns, Meets}
 use Rattle.tv_core.specs.declared.field.TheConstants.{P}
 use Rattle.tv_bits.proofs.SpelledNumbers.{Spells-below, Spells-bit_at, Spells-low, Spells-high, value-bits_below}
-use Rattle.tv_bits.proofs.SpellingLaws.{new_bits_sound, new_bits_answer, new_bits_next}
+use Rattle.tv_bits.proofs.SpellingLaws.{new_bits_answer, new_bits_next}
 use Rattle.tv_bits.specs.Bits.{Spells, spelled, bits_combination, new_bits_of}
 use Rattle.tv_bits.specs.declared.bit_wires.Bits.{Bits}
-use Rattle.tv_muldiv.proofs.HalvesLaws.{bits_met, length-halves, halves_spell}
+use Rattle.tv_bits.proofs.NewBitsLaws.{bits_spell, bits_met}
+use Rattle.tv_muldiv.proofs.HalvesLaws.{length-halves, halves_spell}
 use Rattle.tv_muldiv.proofs.NonzeroLaws.{nonzero_sound, nonzero_complete}
 use Rattle.tv_muldiv.proofs.SignedNumbers.{Stands, Stands-product, Stands-signed, Stands-exact, Stands-meets, twos-below, over_flag}
 use Rattle.tv_muldiv.specs.Nonzero.{nonzero_of, nonzero_flag, nonzero_values}
@@ -68,7 +69,7 @@ module _ (z : List ℕ) (assigns : Assigns z) (next : ℕ) (x y : Bits) (a b : �
   unfolding signed_bits_of put pure ◌>>=◌
   signed_bits_sound meets =
       let both = rw new_bits_answer at (Meets-split z (new_bits_of 64 next).list _ meets) in
-      let s : Spells z next 64 (spelled z next 64) = rw new_bits_answer at (new_bits_sound z next 64 assigns both.0) in
+      let s = bits_spell z 64 next assigns both.0 in
       let same = Stands-exact (value (signed_combination x.first 32) z * value (signed_combination y.first 32) z) (spelled z next 64) (signed_product 32 a b) (product_stands z x y a b p q) (Spells-below s) (both.1.0 ∙ value-long z next (spelled z next 64) s) in
       subst (λ v. Spells z next 64 v) same s
 
@@ -76,7 +77,7 @@ module _ (z : List ℕ) (assigns : Assigns z) (next : ℕ) (x y : Bits) (a b : �
   unfolding signed_bits_of put pure ◌>>=◌
   signed_bits_complete s =
       let product = Stands-meets (value (signed_combination x.first 32) z * value (signed_combination y.first 32) z) (product_twos 32 a b) (signed_product 32 a b) (product_stands z x y a b p q) refl in
-      Meets-join z (new_bits_of 64 next).list _ (bits_met z next 64 assigns s.bits) (rw new_bits_answer (product ∙ sym (value-long z next (product_twos 32 a b) s), tt))
+      Meets-join z (new_bits_of 64 next).list _ (bits_met z 64 next assigns s.bits) (rw new_bits_answer (product ∙ sym (value-long z next (product_twos 32 a b) s), tt))
 
 -- ---- the high word
 pub signed_high_answer : (x y : Bits) (next : ℕ) → (signed_high_of 32 x y next).answer ≡ record { high = record { first = next + 32; n = 32 }; over = next + 64 }

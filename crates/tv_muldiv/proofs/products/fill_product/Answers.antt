@@ -2,7 +2,7 @@ use Rattle.std.proofs.Common.{◌≡◌, ◌*◌, ◌/◌, ◌%◌, ◌^◌, ◌
 use Rattle.tv_core.proofs.GivingChain.{giving, gives_refused}
 use Rattle.std.proofs.lemmas.Nat.{mul-le}
 use Rattle.tv_core.specs.declared.field.TheConstants.{P}
-use Rattle.tv_muldiv.proofs.GivingTails.{gives_in_then}
+use Rattle.tv_core.proofs.GivingTails.{gives_in_then}
 use Rattle.tv_muldiv.proofs.products.fill_product.Goals as goal
 
 pub returns-in_err-fill_halves-clause-gives : goal.returns-in_err-fill_halves-clause-gives

@@ -1,6 +1,6 @@
 use Rattle.std.proofs.Common.{◌≡◌, ◌%◌, arith}
 use Rattle.tv_core.specs.declared.field.TheConstants.{P}
-use Rattle.tv_muldiv.proofs.GivingTails.{gives_in_then}
+use Rattle.tv_core.proofs.GivingTails.{gives_in_then}
 use Rattle.tv_muldiv.proofs.quotients.fill_words.Goals as goal
 
 pub returns-clause-gives : goal.returns-clause-gives
