@@ -1,6 +1,10 @@
 pub mod BitLaws
+pub mod NewBitsLaws
 pub mod OneHotLaws
 pub mod PairLaws
+pub mod OrderLaws
+pub mod PrefixLaws
+pub mod ProductChain
 pub mod SelectLaws
 pub mod SpelledNumbers
 pub mod SpellingLaws

@@ -6,6 +6,7 @@
 mod bit_wires;
 mod booleans;
 mod pairs;
+mod prefixes;
 mod rows;
 mod selection;
 mod spelling;
@@ -16,6 +17,10 @@ mod zeros;
 pub use bit_wires::Bits;
 pub use booleans::{bit, bit_is_complete, bit_is_sound, fill_bit};
 pub use pairs::{two_ands, two_ands_are_complete, two_ands_are_sound};
+pub use prefixes::{
+    fill_prefix_difference, first_difference, prefix_difference, prefix_difference_is_complete,
+    prefix_difference_is_sound,
+};
 pub use rows::{fill_onehot, onehot, onehot_is_complete, onehot_is_sound, row_sum};
 pub use selection::{fill_select, select, select_is_complete, select_is_sound};
 pub use spelling::{

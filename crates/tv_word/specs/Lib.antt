@@ -1,2 +1,3 @@
 pub mod Numeral
+pub mod Twos
 pub mod Word

@@ -1,0 +1,142 @@
+ghost use Rattle.std.specs.Prelude.{◌≡◌, ◌+◌, ◌-◌, ◌*◌, ◌≤◌, ◌<◌, ◌^◌, false, length, max, IfOk, OnOk};
+ghost use Rattle.tv_bits.specs.Order.{first_difference};
+ghost use Rattle.tv_bits.specs.Prefixes.{prefix_less, prefix_less_in, times_of, prefix_difference_of, prefix_difference_values, PrefixDifferenceIsSound, PrefixDifferenceIsComplete};
+ghost use Rattle.tv_core.specs.Combinations.{top};
+ghost use Rattle.tv_core.specs.Giving.{GivesIn};
+ghost use Rattle.tv_core.specs.Sinks.{PutsIn, Grows, Room};
+
+use crate::bit_wires::Bits;
+use tv_core::{F, Lc, Put, Sink, Values, Wire};
+
+/// Holds `d` to the difference of two prefixes: with `x` and `y` cut into `count` chunks of `chunk` bits, at
+/// least 2, to the number of `x` less that of `y`, both without as many of their lowest chunks as one likes,
+/// but not without all. So with `d` from 1 to 2^`chunk` the number of `x` is above that of `y`.
+/// It makes `count - 2` wires and `count - 1` constraints.
+pub fn prefix_difference<S: Sink>(
+    s: &mut S,
+    x: &Bits,
+    y: &Bits,
+    d: &Lc,
+    chunk: u32,
+    count: u32,
+) -> Put<()>
+    requires room { Room S.meaning s.old (count - 2) (count - 1) }
+    requires chunks { 2 ≤ count }
+    requires x_long { chunk * (count - 1) ≤ x.now.n }
+    requires y_long { chunk * (count - 1) ≤ y.now.n }
+    requires x_short { x.now.n ≤ 63 }
+    requires y_short { y.now.n ≤ 63 }
+    requires d_short { x.now.n + y.now.n + length d.now ≤ 128 }
+    requires x_made { x.now.first + x.now.n ≤ S.meaning.wires s.old }
+    requires y_made { y.now.first + y.now.n ≤ S.meaning.wires s.old }
+    requires d_made { top d.now ≤ S.meaning.wires s.old }
+    ensures puts { PutsIn S.meaning s.old s.new (prefix_difference_of x.now y.now d.now chunk count) result }
+    ensures grows { IfOk result (λ _. Grows S.meaning s.old s.new (count - 2) (count - 1)) }
+{
+    let mut product = prefix_less(x, y, d, 0);
+    for i in 0..count - 2 {
+        let factor = prefix_less(x, y, d, chunk * (i + 1));
+        let w = times(s, &product, &factor)?;
+        product = Lc::wire(w);
+    }
+    let factor = prefix_less(x, y, d, chunk * (count - 1));
+    s.put(&product, &factor, &Lc::empty())
+}
+
+// The difference of the prefixes from place `from` on, less `d`.
+fn prefix_less(x: &Bits, y: &Bits, d: &Lc, from: u32) -> Lc
+    requires x_long { from ≤ x.now.n }
+    requires y_long { from ≤ y.now.n }
+    requires x_short { x.now.n ≤ 63 }
+    requires y_short { y.now.n ≤ 63 }
+    requires d_short { x.now.n + y.now.n + length d.now ≤ 128 }
+    requires x_within { x.now.first + x.now.n < 2 ^ 32 }
+    requires y_within { y.now.first + y.now.n < 2 ^ 32 }
+    ensures terms { result ≡ prefix_less x.now y.now d.now from }
+    ensures top { top result ≤ max (max (x.now.first + x.now.n) (y.now.first + y.now.n)) (top d.now) }
+{
+    let mut lc = x.above(from).lc();
+    lc.minus(&y.above(from).lc());
+    lc.minus(d);
+    lc
+}
+
+// A wire that is the product.
+fn times<S: Sink>(s: &mut S, x: &Lc, y: &Lc) -> Put<Wire>
+    requires room { Room S.meaning s.old 1 1 }
+    requires x_made { top x.now ≤ S.meaning.wires s.old }
+    requires y_made { top y.now ≤ S.meaning.wires s.old }
+    ensures puts { PutsIn S.meaning s.old s.new (times_of x.now y.now) result }
+    ensures grows { IfOk result (λ _. Grows S.meaning s.old s.new 1 1) }
+    ensures below { IfOk result (λ product. product < S.meaning.wires s.new) }
+{
+    let product = s.fresh();
+    s.put(x, y, &Lc::wire(product))?;
+    Ok(product)
+}
+
+/// Gives the values of the wires that `prefix_difference` makes for the numbers `x` and `y`, both below
+/// 2^63, and for `d`.
+pub fn fill_prefix_difference<V: Values>(
+    v: &mut V,
+    x: u64,
+    y: u64,
+    d: F,
+    chunk: u32,
+    count: u32,
+) -> Put<()>
+    requires whole { V.giving.broken v.old ≡ false }
+    requires chunks { 2 ≤ count }
+    requires short { chunk * (count - 1) < 64 }
+    requires x_short { x < 2 ^ 63 }
+    requires y_short { y < 2 ^ 63 }
+    ensures gives { GivesIn V.giving v.old v.new (prefix_difference_values x y d chunk count) result }
+    ensures whole { OnOk result (V.giving.broken v.new ≡ false) }
+{
+    let mut product = prefix_less_in(x, y, d, 0);
+    for i in 0..count - 2 {
+        product = product * prefix_less_in(x, y, d, chunk * (i + 1));
+        v.give(product)?;
+    }
+    Ok(())
+}
+
+fn prefix_less_in(x: u64, y: u64, d: F, from: u32) -> F
+    requires within { from < 64 }
+    requires x_short { x < 2 ^ 63 }
+    requires y_short { y < 2 ^ 63 }
+    ensures { result ≡ prefix_less_in x y d from }
+{
+    F::of(x >> from) - F::of(y >> from) - d
+}
+
+/// By how much `x` is above `y` in the shortest prefix in which they differ, the two being cut into `count`
+/// chunks of `chunk` bits; 0 where none differs and where `x` is below `y`. It is what `prefix_difference` is
+/// given to hold where `x` is above, and from 1 to 2^`chunk` - 1 there.
+pub fn first_difference(x: u64, y: u64, chunk: u32, count: u32) -> u64
+    requires short { chunk * (count - 1) < 64 }
+    ensures { result ≡ first_difference chunk count x y }
+{
+    let mut difference = 0;
+    for i in 0..count {
+        let (x, y) = (x >> (chunk * i), y >> (chunk * i));
+        if x != y {
+            difference = x.saturating_sub(y);
+        }
+    }
+    difference
+}
+
+/// Where an assignment meets what `prefix_difference` put for bits that spell two numbers, `d` is the
+/// difference of some prefixes of the two.
+#[tactic(auto, using(crate::proofs::PrefixLaws::prefix_difference_sound))]
+pub fn prefix_difference_is_sound()
+    ensures { PrefixDifferenceIsSound }
+{}
+
+/// Where `d` is the difference of some prefixes, and an assignment has the values that `fill_prefix_difference`
+/// gives, it meets what `prefix_difference` put.
+#[tactic(auto, using(crate::proofs::PrefixLaws::prefix_difference_complete))]
+pub fn prefix_difference_is_complete()
+    ensures { PrefixDifferenceIsComplete }
+{}

@@ -1,0 +1,7 @@
+pub mod HalvesLaws
+pub mod NonzeroLaws
+pub mod ProductLaws
+pub mod QuotientLaws
+pub mod QuotientNumbers
+pub mod SignedHighLaws
+pub mod SignedNumbers

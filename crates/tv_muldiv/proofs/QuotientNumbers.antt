@@ -1,0 +1,166 @@
+-- Division by numbers modulo P.
+use Rattle.std.proofs.Common.{◌≡◌, ◌≢◌, ℕ, ◌+◌, ◌-◌, ◌*◌, ◌/◌, ◌%◌, ◌^◌, ◌<◌, ◌≤◌, inl, inr, refl, sym, ◌∙◌, ap, ap₂, arith, mod-lt, mul_comm, mul-zero, one-mul, zero-mul}
+use Rattle.std.proofs.Math.Nat.{div-add-mod, div-le_self}
+use Rattle.std.proofs.lemmas.Bool.{cases_eq}
+use Rattle.std.proofs.lemmas.Bool.Decides.{nat_tests}
+use Rattle.std.proofs.lemmas.Nat.{mul-le, div-mul-add, mod-mul-add}
+use Rattle.tv_core.specs.declared.field.TheConstants.{P}
+use Rattle.tv_bits.proofs.OrderLaws.{IsPrefixDifference-above, first_difference-some, first_difference-below, IsPrefixDifference-first, first_difference-none, IsPrefixDifference-none}
+use Rattle.tv_bits.specs.Bit.{IsBit}
+use Rattle.tv_bits.specs.Order.{IsPrefixDifference}
+use Rattle.tv_bits.specs.Zero.{zero_flag}
+use Rattle.tv_muldiv.specs.Quotient.{quotient_in, remainder_in, gate_in, above_in}
+
+-- what the constraints say of numbers: of the words a and b, the quotient q, the remainder r, whether b is 0,
+-- the gate, and one less than by how much b is above r
+pub record Divides (a b q r by_zero gate above : ℕ) : Type 0 where
+  pub bit : IsBit by_zero
+  pub zero : by_zero * b % P ≡ 0
+  pub gated : by_zero * ((a + q) % P) % P ≡ gate
+  pub whole : q * b % P ≡ ((a + (P - r)) % P + (P - gate)) % P
+  pub below : IsPrefixDifference 8 4 b r (((above + 1) % P + (P - by_zero)) % P)
+
+-- ---- the two cases of the definitions
+flag-zero : (b : ℕ) → b ≡ 0 → zero_flag b ≡ 1
+flag-zero b none = rw none refl
+
+flag-other : (b : ℕ) → b ≢ 0 → zero_flag b ≡ 0
+flag-other b some = grind (arith, nat_tests)
+
+quotient-zero : (a b : ℕ) → b ≡ 0 → quotient_in a b ≡ 0
+quotient-zero a b none = rw none refl
+
+quotient-other : (a b : ℕ) → b ≢ 0 → quotient_in a b ≡ a / b
+quotient-other a b some = grind (arith, nat_tests)
+
+remainder-zero : (a b : ℕ) → b ≡ 0 → remainder_in a b ≡ 0
+remainder-zero a b none = rw none refl
+
+remainder-other : (a b : ℕ) → b ≢ 0 → remainder_in a b ≡ a % b
+remainder-other a b some = grind (arith, nat_tests)
+
+gate-zero : (a b : ℕ) → b ≡ 0 → gate_in a b ≡ a
+gate-zero a b none = rw none refl
+
+gate-other : (a b : ℕ) → b ≢ 0 → gate_in a b ≡ 0
+gate-other a b some = grind (arith, nat_tests)
+
+pub quotient-small : (a b : ℕ) → a < 2 ^ 32 → quotient_in a b < 2 ^ 32
+quotient-small a b h = elim (cases_eq b 0) [
+  | inl none ↦ omega (arith, quotient-zero a b none)
+  | inr some ↦ omega (arith, quotient-other a b some, div-le_self a b)
+]
+
+pub remainder-small : (a b : ℕ) → b < 2 ^ 32 → remainder_in a b < 2 ^ 32
+remainder-small a b h = elim (cases_eq b 0) [
+  | inl none ↦ omega (arith, remainder-zero a b none)
+  | inr some ↦ let less : a % b < b = mod-lt a (omega arith) in omega (arith, remainder-other a b some)
+]
+
+remainder-below : (a b : ℕ) → b ≢ 0 → remainder_in a b < b
+remainder-below a b some = let less : a % b < b = mod-lt a (omega arith) in omega (arith, remainder-other a b some)
+
+-- ---- by how much the divisor is above the remainder
+module _ (a b : ℕ) where
+  above-zero : b ≡ 0 → above_in 32 a b ≡ 0
+  above-zero none = first_difference-none 8 4 b (remainder_in a b) (omega (arith, none))
+
+  above-some : b < 2 ^ 32 → b ≢ 0 → 0 < above_in 32 a b
+  above-some h some = first_difference-some 32 8 4 b (remainder_in a b) (omega arith) (omega arith) h (remainder-below a b some)
+
+  pub above-below : b < 2 ^ 32 → above_in 32 a b < 2 ^ 8
+  above-below h = elim (cases_eq b 0) [
+    | inl none ↦ omega (arith, above-zero none)
+    | inr some ↦ first_difference-below 32 8 4 b (remainder_in a b) (omega arith) (omega arith) h (remainder-below a b some)
+  ]
+
+  -- the difference that the constraints hold
+  pub above-difference : b < 2 ^ 32 → ((above_in 32 a b - 1 + 1) % P + (P - zero_flag b)) % P ≡ above_in 32 a b
+  above-difference h = elim (cases_eq b 0) [
+    | inl none ↦ omega (arith, above-zero none, flag-zero b none)
+    | inr some ↦ omega (arith, above-some h some, above-below h, flag-other b some)
+  ]
+
+  above-is : b < 2 ^ 32 → IsPrefixDifference 8 4 b (remainder_in a b) (above_in 32 a b)
+  above-is h = elim (cases_eq b 0) [
+    | inl none ↦ rw (above-zero none, remainder-zero a b none, none) (IsPrefixDifference-none 8 4 0 (omega arith) (omega arith))
+    | inr some ↦ IsPrefixDifference-first 32 8 4 b (remainder_in a b) (omega arith) (omega arith) h (remainder-below a b some)
+  ]
+
+-- ---- from the constraints to the division
+no_gate : (flag c gate : ℕ) → flag ≡ 0 → flag * c % P ≡ gate → gate ≡ 0
+no_gate flag c gate none e = sym e ∙ ap (λ n. n * c % P) none ∙ ap (λ n. n % P) (zero-mul c)
+
+gate_is : (flag c gate : ℕ) → flag ≡ 1 → flag * c % P ≡ gate → gate ≡ c % P
+gate_is flag c gate one e = sym e ∙ ap (λ n. n * c % P) one ∙ ap (λ n. n % P) (one-mul c)
+
+whole_of : (a r m gate : ℕ) → a < 2 ^ 32 → r < 2 ^ 32 → m ≤ 4294967295 * 4294967295 → gate ≡ 0 → m % P ≡ ((a + (P - r)) % P + (P - gate)) % P → m + r ≡ a
+whole_of a r m gate h k l none e = omega arith
+
+nothing_of : (a q r m gate : ℕ) → a < 2 ^ 32 → q < 2 ^ 32 → r < 2 ^ 32 → m ≡ 0 → gate ≡ (a + q) % P % P → m % P ≡ ((a + (P - r)) % P + (P - gate)) % P → (q ≡ 0) × (r ≡ 0)
+nothing_of a q r m gate h k l none is e = (omega arith, omega arith)
+
+pub record IsDivided (a b q r by_zero : ℕ) : Type 0 where
+  pub quot : q ≡ quotient_in a b
+  pub rem : r ≡ remainder_in a b
+  pub zero : by_zero ≡ zero_flag b
+
+module _ (a b q r by_zero gate above : ℕ) (h : a < 2 ^ 32) (k : b < 2 ^ 32) (l : q < 2 ^ 32) (m : r < 2 ^ 32) (small : above < 2 ^ 8) (d : Divides a b q r by_zero gate above) where
+  divided_by_some : by_zero ≡ 0 → IsDivided a b q r by_zero
+  divided_by_some none =
+      let difference : ((above + 1) % P + (P - by_zero)) % P ≡ above + 1 = omega arith in
+      let less : r < b = IsPrefixDifference-above 32 8 4 b r (above + 1) (omega arith) (omega arith) k m (omega arith) (omega arith) (rw difference at d.below) in
+      let some : b ≢ 0 = λ zero. omega arith in
+      let whole : q * b + r ≡ a = whole_of a r (q * b) gate h m (mul-le q b 4294967295 4294967295 (omega arith) (omega arith)) (no_gate by_zero ((a + q) % P) gate none d.gated) d.whole in
+      record {
+        quot = sym (quotient-other a b some ∙ ap (λ n. n / b) (sym whole) ∙ div-mul-add q b r less);
+        rem = sym (remainder-other a b some ∙ ap (λ n. n % b) (sym whole) ∙ mod-mul-add q b r less);
+        zero = none ∙ sym (flag-other b some);
+      }
+
+  divided_by_zero : by_zero ≡ 1 → IsDivided a b q r by_zero
+  divided_by_zero one =
+      let zero : b ≡ 0 = let e = gate_is by_zero b 0 one d.zero in omega arith in
+      let nothing = nothing_of a q r (q * b) gate h l m (ap (λ n. q * n) zero ∙ mul-zero q) (gate_is by_zero ((a + q) % P) gate one d.gated) d.whole in
+      record { quot = nothing.0 ∙ sym (quotient-zero a b zero); rem = nothing.1 ∙ sym (remainder-zero a b zero); zero = one ∙ sym (flag-zero b zero) }
+
+  pub Divides-sound : IsDivided a b q r by_zero
+  Divides-sound = elim (cases_eq by_zero 0) [
+    | inl none ↦ divided_by_some none
+    | inr some ↦ divided_by_zero (let bit = d.bit in omega arith)
+  ]
+
+-- ---- and the other way round
+module _ (a b : ℕ) (h : a < 2 ^ 32) (k : b < 2 ^ 32) where
+  flag_bit : IsBit (zero_flag b)
+  flag_bit = elim (cases_eq b 0) [ inl none ↦ omega (arith, flag-zero b none) | inr some ↦ omega (arith, flag-other b some) ]
+
+  no_divisor : zero_flag b * b % P ≡ 0
+  no_divisor = elim (cases_eq b 0) [
+    | inl none ↦ ap (λ n. zero_flag b * n % P) none ∙ ap (λ n. n % P) (mul-zero (zero_flag b))
+    | inr some ↦ ap (λ n. n * b % P) (flag-other b some) ∙ ap (λ n. n % P) (zero-mul b)
+  ]
+
+  gated : zero_flag b * ((a + quotient_in a b) % P) % P ≡ gate_in a b
+  gated = elim (cases_eq b 0) [
+    | inl none ↦ ap (λ n. n * ((a + quotient_in a b) % P) % P) (flag-zero b none) ∙ omega (arith, quotient-zero a b none, gate-zero a b none)
+    | inr some ↦ ap (λ n. n * ((a + quotient_in a b) % P) % P) (flag-other b some) ∙ ap (λ n. n % P) (zero-mul ((a + quotient_in a b) % P)) ∙ sym (gate-other a b some)
+  ]
+
+  whole_some : b ≢ 0 → quotient_in a b * b + remainder_in a b ≡ a
+  whole_some some = ap₂ (λ m n. m * b + n) (quotient-other a b some) (remainder-other a b some) ∙ ap (λ n. n + a % b) (mul_comm (a / b) b) ∙ div-add-mod a b
+
+  whole : quotient_in a b * b % P ≡ ((a + (P - remainder_in a b)) % P + (P - gate_in a b)) % P
+  whole = elim (cases_eq b 0) [
+    | inl none ↦ ap (λ n. quotient_in a b * n % P) none ∙ ap (λ n. n % P) (mul-zero (quotient_in a b)) ∙ omega (arith, remainder-zero a b none, gate-zero a b none)
+    | inr some ↦ omega (arith, whole_some some, gate-other a b some)
+  ]
+
+  pub Divides-complete : Divides a b (quotient_in a b) (remainder_in a b) (zero_flag b) (gate_in a b) (above_in 32 a b - 1)
+  Divides-complete = record {
+    bit = flag_bit;
+    zero = no_divisor;
+    gated = gated;
+    whole = whole;
+    below = let same = above-difference a b k in rw same (above-is a b k);
+  }

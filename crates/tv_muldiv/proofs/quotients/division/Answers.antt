@@ -1,0 +1,15 @@
+use Rattle.tv_core.proofs.Chain.{chain, refused}
+use Rattle.tv_core.proofs.TailCalls.{puts_in_then}
+use Rattle.tv_muldiv.specs.Quotient.{division_of}
+use Rattle.tv_muldiv.proofs.quotients.division.Goals as goal
+
+pub returns-in_err-gate-clause-puts : goal.returns-in_err-gate-clause-puts
+unfolding division_of
+returns-in_err-gate-clause-puts g c =
+    refused g.S.Sink.meaning _ _ _ c.from_residual.result c.from_residual.ensures.1 (search (chain, c.in_err-gate.ensures.puts))
+
+pub returns-clause-puts : goal.returns-clause-puts
+unfolding division_of
+returns-clause-puts g c =
+    let whole = rw (c.minus-2.ensures.terms, c.minus.ensures.terms, c.wire.ensures, c.lc-rest.ensures.terms, c.lc.ensures.terms, c.lc-2.ensures.terms, c.lc-3.ensures.terms, c.requires.x_word, c.requires.rem_word, c.requires.quot_word, c.requires.y_word) at c.put.ensures.puts in
+    puts_in_then g.S.Sink.meaning _ _ _ _ _ _ _ c.in_ok-gate.ensures.puts whole

@@ -1,0 +1,5 @@
+pub mod Nonzero
+pub mod Product
+pub mod Quotient
+pub mod SignedHigh
+pub mod Weighed

@@ -1,0 +1,48 @@
+-- The product of two words, as a low and a high word.
+use Rattle.std.specs.Prelude.{◌≡◌, ℕ, ◌+◌, ◌-◌, ◌*◌, ◌/◌, ◌%◌, ◌^◌, List, ◌++◌, slice_index}
+use Rattle.tv_bits.specs.Bits.{Spells, bits_combination, new_bits_of}
+use Rattle.tv_bits.specs.declared.bit_wires.Bits.{Bits}
+use Rattle.tv_core.specs.Circuits.{Circuit, fresh, put, pure, ◌>>=◌}
+use Rattle.tv_core.specs.Combinations.{wire}
+use Rattle.tv_core.specs.Laws.{Assigns, Meets, HasFrom}
+use Rattle.tv_muldiv.specs.Nonzero.{nonzero_flag, nonzero_of, nonzero_values}
+use Rattle.tv_muldiv.specs.Weighed.{halves_values}
+use Rattle.tv_muldiv.specs.declared.records.Product.{Product}
+
+-- a and b being words of w bits, the wires spell the low and the high word of their product, and one holds 1
+-- exactly where the high word is another than 0
+pub record IsProduct (z : List ℕ) (w a b : ℕ) (made : Product) : Type 0 where
+  pub low : Spells z made.low.first w (a * b % 2 ^ w)
+  pub high : Spells z made.high.first w (a * b / 2 ^ w)
+  pub over : slice_index z made.over ≡ nonzero_flag (a * b / 2 ^ w)
+
+-- 2 w new wires that spell the product of words of w bits: their number is the product modulo P, and the
+-- lowest is the product of the lowest bits, which tells the product from the product plus P, P being odd
+unfoldable pub product_bits_of : ℕ → Bits → Bits → Circuit ℕ
+product_bits_of w x y = do
+  first ← fresh
+  _ ← new_bits_of (2 * w - 1)
+  _ ← put (wire x.first) (wire y.first) (wire first)
+  _ ← put (bits_combination x.first w) (bits_combination y.first w) (bits_combination first (2 * w))
+  pure first
+
+-- these wires as two words, and a wire that tells whether the high one is another than 0
+unfoldable pub product_of : ℕ → Bits → Bits → Circuit Product
+product_of w x y = do
+  first ← product_bits_of w x y
+  over ← nonzero_of (bits_combination (first + w) w)
+  pure (record { low = record { first = first; n = w }; high = record { first = first + w; n = w }; over = over })
+
+-- the values of the wires that are made for words a and b
+abbrev pub product_values : ℕ → ℕ → ℕ → List ℕ
+product_values w a b = halves_values w (a * b) ++ nonzero_values (a * b / 2 ^ w)
+
+-- where x and y spell words, an assignment that meets what was put has their product at the wires that were answered
+abbrev pub ProductIsSound : Type 0
+ProductIsSound = (z : List ℕ) (next : ℕ) (x y : Bits) (a b : ℕ) → Assigns z → Spells z x.first 32 a → Spells z y.first 32 b
+    → Meets z (product_of 32 x y next).list → IsProduct z 32 a b (product_of 32 x y next).answer
+
+-- where x and y spell words, an assignment that has these values at the wires that were made meets what was put
+abbrev pub ProductIsComplete : Type 0
+ProductIsComplete = (z : List ℕ) (next : ℕ) (x y : Bits) (a b : ℕ) → Assigns z → Spells z x.first 32 a → Spells z y.first 32 b
+    → HasFrom z next (product_values 32 a b) → Meets z (product_of 32 x y next).list

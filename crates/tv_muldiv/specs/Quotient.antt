@@ -1,0 +1,98 @@
+-- The quotient and the remainder of two words.
+use Rattle.std.specs.Prelude.{◌≡◌, ℕ, ◌-◌, ◌/◌, ◌%◌, ◌==◌, if◌then◌else◌, List, [], ◌∷◌, ◌++◌, slice_index}
+use Rattle.tv_bits.specs.Bit.{bit_of}
+use Rattle.tv_bits.specs.Bits.{Spells, bits_combination, bits_values, new_bits_of}
+use Rattle.tv_bits.specs.Order.{first_difference}
+use Rattle.tv_bits.specs.Prefixes.{prefix_difference_of, prefix_difference_values}
+use Rattle.tv_bits.specs.Zero.{zero_flag}
+use Rattle.tv_bits.specs.declared.bit_wires.Bits.{Bits}
+use Rattle.tv_core.specs.Circuits.{Circuit, fresh, put, pure, ◌>>=◌}
+use Rattle.tv_core.specs.Combinations.{wire, constant, scaled, less}
+use Rattle.tv_core.specs.Laws.{Assigns, Meets, HasFrom}
+use Rattle.tv_muldiv.specs.declared.records.Quot.{Quot}
+
+-- the quotient, rounded down, and the remainder; both are 0 where the divisor is
+abbrev pub quotient_in : ℕ → ℕ → ℕ
+quotient_in a b = if b == 0 then 0 else a / b
+
+abbrev pub remainder_in : ℕ → ℕ → ℕ
+remainder_in a b = if b == 0 then 0 else a % b
+
+-- a and b being words of w bits, the wires spell the quotient and the remainder of a by b, and one holds 1
+-- exactly where b is 0
+pub record IsQuotient (z : List ℕ) (w a b : ℕ) (made : Quot) : Type 0 where
+  pub quot : Spells z made.quot.first w (quotient_in a b)
+  pub rem : Spells z made.rem.first w (remainder_in a b)
+  pub by_zero : slice_index z made.by_zero ≡ zero_flag b
+
+-- a new bit that is 0 where y isn't
+unfoldable pub zero_divisor_of : ℕ → Bits → Circuit ℕ
+zero_divisor_of w y = do
+  by_zero ← fresh
+  _ ← bit_of by_zero
+  _ ← put (wire by_zero) (bits_combination y.first w) []
+  pure by_zero
+
+-- new bits for the quotient and the remainder, and that bit
+unfoldable pub quotient_wires_of : ℕ → Bits → Circuit Quot
+quotient_wires_of w y = do
+  quot ← new_bits_of w
+  rem ← new_bits_of w
+  by_zero ← zero_divisor_of w y
+  pure (record { quot = quot; rem = rem; by_zero = by_zero })
+
+-- a new wire that is x plus the quotient where the divisor is 0, and else 0
+unfoldable pub gate_of : ℕ → Bits → Quot → Circuit ℕ
+gate_of w x made = do
+  gate ← fresh
+  _ ← put (wire made.by_zero) (bits_combination x.first w ++ scaled 1 (bits_combination made.quot.first w)) (wire gate)
+  pure gate
+
+-- the quotient times y is x less the remainder and the gate: where the divisor is 0, the quotient and the
+-- remainder so add up to 0
+unfoldable pub division_of : ℕ → Bits → Bits → Quot → Circuit (Unit {0})
+division_of w x y made = do
+  gate ← gate_of w x made
+  put (bits_combination made.quot.first w) (bits_combination y.first w) (less (less (bits_combination x.first w) (bits_combination made.rem.first w)) (wire gate))
+
+-- the remainder is below y, or the divisor is 0: one more than some new bits, less the wire that tells
+-- whether the divisor is 0, is a difference of prefixes of y and of the remainder
+unfoldable pub remainder_below_of : ℕ → Bits → Quot → Circuit (Unit {0})
+remainder_below_of w y made = do
+  above ← new_bits_of (w / 4)
+  prefix_difference_of (record { first = y.first; n = w }) made.rem (less (bits_combination above.first (w / 4) ++ constant 1) (wire made.by_zero)) (w / 4) 4
+
+unfoldable pub quotient_of : ℕ → Bits → Bits → Circuit Quot
+quotient_of w x y = do
+  made ← quotient_wires_of w y
+  _ ← division_of w x y made
+  _ ← remainder_below_of w y made
+  pure made
+
+-- what the gate is, and by how much the divisor is above the remainder in the prefix that tells it
+abbrev pub gate_in : ℕ → ℕ → ℕ
+gate_in a b = if b == 0 then a else 0
+
+abbrev pub above_in : ℕ → ℕ → ℕ → ℕ
+above_in w a b = first_difference (w / 4) 4 b (remainder_in a b)
+
+-- the values of the wires that are made for words a and b
+abbrev pub words_values : ℕ → ℕ → ℕ → List ℕ
+words_values w a b = bits_values (quotient_in a b) w ++ bits_values (remainder_in a b) w
+
+abbrev pub above_values : ℕ → ℕ → ℕ → List ℕ
+above_values w a b = bits_values (above_in w a b - 1) (w / 4) ++ prefix_difference_values b (remainder_in a b) (above_in w a b) (w / 4) 4
+
+abbrev pub quotient_values : ℕ → ℕ → ℕ → List ℕ
+quotient_values w a b = words_values w a b ++ (zero_flag b ∷ gate_in a b ∷ above_values w a b)
+
+-- where x and y spell words, an assignment that meets what was put has their quotient and remainder at the
+-- wires that were answered
+abbrev pub QuotientIsSound : Type 0
+QuotientIsSound = (z : List ℕ) (next : ℕ) (x y : Bits) (a b : ℕ) → Assigns z → Spells z x.first 32 a → Spells z y.first 32 b
+    → Meets z (quotient_of 32 x y next).list → IsQuotient z 32 a b (quotient_of 32 x y next).answer
+
+-- where x and y spell words, an assignment that has these values at the wires that were made meets what was put
+abbrev pub QuotientIsComplete : Type 0
+QuotientIsComplete = (z : List ℕ) (next : ℕ) (x y : Bits) (a b : ℕ) → Assigns z → Spells z x.first 32 a → Spells z y.first 32 b
+    → HasFrom z next (quotient_values 32 a b) → Meets z (quotient_of 32 x y next).list

@@ -1,0 +1,65 @@
+-- The high word of the product of two words as signed numbers.
+use Rattle.std.specs.Prelude.{◌≡◌, ℕ, ◌+◌, ◌-◌, ◌*◌, ◌/◌, ◌%◌, ◌^◌, ℤ, ◌*ℤ◌, if◌then◌else◌, List, [], ◌∷◌, ◌++◌, slice_index}
+use Rattle.std.specs.Int.{bit_at}
+use Rattle.tv_bits.specs.Bits.{Spells, bits_combination, new_bits_of}
+use Rattle.tv_bits.specs.declared.bit_wires.Bits.{Bits}
+use Rattle.tv_core.specs.Circuits.{Circuit, put, pure, ◌>>=◌}
+use Rattle.tv_core.specs.Constraints.{Combination}
+use Rattle.tv_core.specs.Laws.{Assigns, Meets, HasFrom}
+use Rattle.tv_core.specs.declared.field.TheConstants.{P}
+use Rattle.tv_muldiv.specs.Nonzero.{nonzero_of, nonzero_values}
+use Rattle.tv_muldiv.specs.Weighed.{signed_combination, halves_values}
+use Rattle.tv_muldiv.specs.declared.records.High.{High}
+use Rattle.tv_word.specs.Twos.{twos, fits}
+use Rattle.tv_word.specs.Word.{signed}
+
+-- the product of two words of w bits as signed numbers, and its 2 w bits in two's complement
+abbrev pub signed_product : ℕ → ℕ → ℕ → ℤ
+signed_product w a b = signed w a *ℤ signed w b
+
+abbrev pub product_twos : ℕ → ℕ → ℕ → ℕ
+product_twos w a b = twos (2 * w) (signed_product w a b)
+
+-- a and b being words of w bits, the wires spell the high word of their signed product, and one holds 1
+-- exactly where that product is no signed number of w bits
+pub record IsSignedHigh (z : List ℕ) (w a b : ℕ) (made : High) : Type 0 where
+  pub high : Spells z made.high.first w (product_twos w a b / 2 ^ w)
+  pub over : slice_index z made.over ≡ (if fits w (signed_product w a b) then 0 else 1)
+
+-- 2 w new bits that spell the product of words of w bits, each in two's complement: both sides are too
+-- small for the sides to differ by P
+unfoldable pub signed_bits_of : ℕ → Bits → Bits → Circuit Bits
+signed_bits_of w x y = do
+  made ← new_bits_of (2 * w)
+  _ ← put (signed_combination x.first w) (signed_combination y.first w) (signed_combination made.first (2 * w))
+  pure made
+
+-- the high word less 2 ^ w - 1 times the highest bit of the low word, which is 0 exactly where the number
+-- of 2 w bits from a first wire on is one of w bits; and the same for numbers
+abbrev pub excess : ℕ → ℕ → Combination
+excess first w = bits_combination (first + w) w ++ (P - (2 ^ w - 1), first + (w - 1)) ∷ []
+
+abbrev pub excess_in : ℕ → ℕ → ℕ
+excess_in w v = (v / 2 ^ w + (P - (2 ^ w - 1)) * bit_at v (w - 1)) % P
+
+-- these bits, and a wire that tells whether the product is no signed number of w bits
+unfoldable pub signed_high_of : ℕ → Bits → Bits → Circuit High
+signed_high_of w x y = do
+  made ← signed_bits_of w x y
+  over ← nonzero_of (excess made.first w)
+  pure (record { high = record { first = made.first + w; n = w }; over = over })
+
+-- the values of the wires that are made for words a and b
+abbrev pub signed_high_values : ℕ → ℕ → ℕ → List ℕ
+signed_high_values w a b = halves_values w (product_twos w a b) ++ nonzero_values (excess_in w (product_twos w a b))
+
+-- where x and y spell words, an assignment that meets what was put has the high word of their signed product
+-- at the wires that were answered
+abbrev pub SignedHighIsSound : Type 0
+SignedHighIsSound = (z : List ℕ) (next : ℕ) (x y : Bits) (a b : ℕ) → Assigns z → Spells z x.first 32 a → Spells z y.first 32 b
+    → Meets z (signed_high_of 32 x y next).list → IsSignedHigh z 32 a b (signed_high_of 32 x y next).answer
+
+-- where x and y spell words, an assignment that has these values at the wires that were made meets what was put
+abbrev pub SignedHighIsComplete : Type 0
+SignedHighIsComplete = (z : List ℕ) (next : ℕ) (x y : Bits) (a b : ℕ) → Assigns z → Spells z x.first 32 a → Spells z y.first 32 b
+    → HasFrom z next (signed_high_values 32 a b) → Meets z (signed_high_of 32 x y next).list

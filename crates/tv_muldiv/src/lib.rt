@@ -1,0 +1,20 @@
+//! Gadgets that multiply and divide words: the product of two words, the high word of their signed
+//! product, and their quotient and remainder.
+//! Contracts above cite `IsProduct`, which says what wires hold in whole numbers.
+#![tactic(auto)]
+
+mod nonzero;
+mod products;
+mod quotients;
+mod records;
+mod signed_products;
+#[cfg(test)]
+mod tests;
+mod weighing;
+
+pub use products::{fill_product, product, product_is_complete, product_is_sound};
+pub use quotients::{fill_quotient, quotient, quotient_is_complete, quotient_is_sound};
+pub use records::{High, Product, Quot};
+pub use signed_products::{
+    fill_signed_high, signed_high, signed_high_is_complete, signed_high_is_sound,
+};

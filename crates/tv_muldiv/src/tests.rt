@@ -1,0 +1,323 @@
+//! Each gadget over the values of its generator, for words at the ends of their range and for cases with
+//! known answers, and over values that fail one constraint alone.
+ghost use Rattle.std.specs.Prelude.{◌≡◌, ◌≤◌, ◌<◌, false, IfOk};
+ghost use Rattle.tv_core.specs.Sinks.{Room};
+
+use crate::{
+    High, Product, Quot, fill_product, fill_quotient, fill_signed_high, product, quotient,
+    signed_high,
+};
+use std::alloc::Global;
+use std::test::Fail;
+use tv_bits::{Bits, fill_bits};
+use tv_core::{CountSink, F, ListSink, ListValues, Put, Sink, TestSink, Values, Wire, give_values};
+
+#[derive(Clone, Copy, Debug, PartialEq, Eq)]
+enum Gadget {
+    Product,
+    SignedHigh,
+    Quotient,
+}
+
+const GADGETS: [Gadget; 3] = [Gadget::Product, Gadget::SignedHigh, Gadget::Quotient];
+
+const WORDS: [u32; 7] = [0, 1, 2, 0x7fff_ffff, 0x8000_0000, 0xffff_fffe, 0xffff_ffff];
+
+// The wire 0 holds 1, the next 64 spell the two words, and each gadget makes two words and a flag first.
+const FIRST: u32 = 65;
+
+const SECOND: u32 = 97;
+
+const FLAG: u32 = 129;
+
+// P - 1, and the inverses of 2^32 - 1 and of its negative.
+const LAST: u64 = 18_446_744_069_414_584_320;
+
+const INVERSE: u64 = 18_446_744_065_119_617_025;
+
+const NEGATIVE: u64 = 4_294_967_296;
+
+fn word_from(first: u32) -> Bits
+    ensures n { result.n ≡ 32 }
+    ensures first { result.first ≡ first }
+{
+    Bits {
+        first: Wire(first),
+        n: 32,
+    }
+}
+
+// Whether the gadget answers the wires that it is to answer.
+fn put<S: Sink>(s: &mut S, gadget: Gadget) -> Put<bool>
+    requires room { Room S.meaning s.old 76 79 }
+    requires inputs { 65 ≤ S.meaning.wires s.old }
+{
+    let (x, y) = (word_from(1), word_from(33));
+    let (first, second, flag) = (word_from(FIRST), word_from(SECOND), Wire(FLAG));
+    match gadget {
+        Gadget::Product => {
+            let Product { low, high, over } = product(s, &x, &y)?;
+            Ok(low == first && high == second && over == flag)
+        }
+        Gadget::SignedHigh => {
+            let High { high, over } = signed_high(s, &x, &y)?;
+            Ok(high == second && over == flag)
+        }
+        Gadget::Quotient => {
+            let Quot { quot, rem, by_zero } = quotient(s, &x, &y)?;
+            Ok(quot == first && rem == second && by_zero == flag)
+        }
+    }
+}
+
+// 1 and the bits of two words.
+fn inputs(alloc: Global, x: u32, y: u32) -> Put<ListValues>
+    ensures whole { IfOk result (λ values. values.broken ≡ false) }
+{
+    let mut values = ListValues::new(alloc);
+    values.give(F::ONE)?;
+    fill_bits(&mut values, F::of(u64::from(x)), 32)?;
+    fill_bits(&mut values, F::of(u64::from(y)), 32)?;
+    Ok(values)
+}
+
+// These and the generator's values.
+fn filled(alloc: Global, gadget: Gadget, x: u32, y: u32) -> Put<ListValues> {
+    let mut values = inputs(alloc, x, y)?;
+    match gadget {
+        Gadget::Product => fill_product(&mut values, x, y)?,
+        Gadget::SignedHigh => fill_signed_high(&mut values, x, y)?,
+        Gadget::Quotient => fill_quotient(&mut values, x, y)?,
+    }
+    Ok(values)
+}
+
+// The number that 32 wires spell, and what one holds.
+fn word_in(z: &[F], first: u32) -> F
+    requires { first < 1000 }
+{
+    word_from(first).lc().value_in(z)
+}
+
+fn flag_in(z: &[F]) -> F {
+    z.get(FLAG as usize).copied().unwrap_or(-F::ONE)
+}
+
+// The words and the flag as arithmetic on wider numbers gives them.
+fn wanted(gadget: Gadget, x: u32, y: u32) -> (u64, u64, bool) {
+    let product = u64::from(x) * u64::from(y);
+    let signed = i64::from(x.cast_signed()) * i64::from(y.cast_signed());
+    let twos = signed.cast_unsigned();
+    match gadget {
+        Gadget::Product => (
+            product % 4_294_967_296,
+            product >> 32,
+            product > 4_294_967_295,
+        ),
+        Gadget::SignedHigh => (
+            twos % 4_294_967_296,
+            twos >> 32,
+            !(-2_147_483_648..2_147_483_648).contains(&signed),
+        ),
+        Gadget::Quotient => match x.checked_div(y) {
+            Some(quot) => (u64::from(quot), u64::from(x % y), false),
+            None => (0, 0, true),
+        },
+    }
+}
+
+#[test]
+fn gadgets_hold_over_their_own_values(rt: HostRuntime) -> Result<(), Fail> {
+    for pair in 0..147 {
+        let gadget = GADGETS[pair / 49];
+        let (x, y) = (WORDS[pair / 7 % 7], WORDS[pair % 7]);
+        let constraints = if gadget == Gadget::Quotient { 79 } else { 67 };
+        let values = filled(rt.alloc(), gadget, x, y)?;
+        let z = values.as_slice();
+
+        let mut tests = TestSink::over(z, FIRST);
+        assert!(rt; put(&mut tests, gadget)?, "{gadget:?} {x} {y}");
+        assert_eq!(rt; tests.tested(), constraints, "{gadget:?} {x} {y}");
+        assert_eq!(rt; tests.held(), constraints, "{gadget:?} {x} {y}");
+
+        let mut list = ListSink::new(rt.alloc(), FIRST);
+        assert!(rt; put(&mut list, gadget)?, "{gadget:?} {x} {y}");
+        assert_eq!(rt; list.len(), constraints, "{gadget:?} {x} {y}");
+        for i in 0..list.len() {
+            let (a, b, c) = list.row(i);
+            let holds = a.value_in(z) * b.value_in(z) == c.value_in(z);
+            assert!(rt; holds, "{gadget:?} {x} {y}, row {i}");
+        }
+
+        let (first, second, flag) = wanted(gadget, x, y);
+        assert!(rt; word_in(z, FIRST) == F::of(first), "{gadget:?} {x} {y}");
+        assert!(rt; word_in(z, SECOND) == F::of(second), "{gadget:?} {x} {y}");
+        assert!(rt; flag_in(z) == F::of(u64::from(flag)), "{gadget:?} {x} {y}");
+    }
+    Ok(())
+}
+
+#[test]
+fn gadgets_have_the_counts_that_they_state(rt: HostRuntime) -> Result<(), Fail> {
+    for (gadget, wires, constraints, terms) in [
+        (Gadget::Product, 66, 67, 388),
+        (Gadget::SignedHigh, 66, 67, 390),
+        (Gadget::Quotient, 76, 79, 651),
+    ] {
+        let mut counts = CountSink::new(FIRST);
+        put(&mut counts, gadget)?;
+        assert_eq!(rt; counts.wires(), FIRST + wires, "{gadget:?}");
+        assert_eq!(rt; counts.constraints(), constraints, "{gadget:?}");
+        assert_eq!(rt; counts.terms(), terms, "{gadget:?}");
+    }
+    Ok(())
+}
+
+#[test]
+fn gadgets_give_known_answers(rt: HostRuntime) -> Result<(), Fail> {
+    // a gadget, its words, and the two words and the flag that it answers
+    for (gadget, x, y, first, second, flag) in [
+        (Gadget::Product, 65_536, 65_536, 0, 1, 1),
+        (Gadget::Product, 0xffff_ffff, 0xffff_ffff, 1, 0xffff_fffe, 1),
+        (
+            Gadget::SignedHigh,
+            0x8000_0000,
+            0x8000_0000,
+            0,
+            0x4000_0000,
+            1,
+        ),
+        (
+            Gadget::SignedHigh,
+            0xffff_ffff,
+            1,
+            0xffff_ffff,
+            0xffff_ffff,
+            0,
+        ),
+        (
+            Gadget::SignedHigh,
+            0x8000_0000,
+            1,
+            0x8000_0000,
+            0xffff_ffff,
+            0,
+        ),
+        (
+            Gadget::SignedHigh,
+            0x8000_0000,
+            0xffff_ffff,
+            0x8000_0000,
+            0,
+            1,
+        ),
+        (Gadget::Quotient, 7, 0, 0, 0, 1),
+        (Gadget::Quotient, 7, 2, 3, 1, 0),
+    ] {
+        let values = filled(rt.alloc(), gadget, x, y)?;
+        let z = values.as_slice();
+        assert!(rt; word_in(z, FIRST) == F::of(first), "{gadget:?} {x} {y}");
+        assert!(rt; word_in(z, SECOND) == F::of(second), "{gadget:?} {x} {y}");
+        assert!(rt; flag_in(z) == F::of(flag), "{gadget:?} {x} {y}");
+    }
+    Ok(())
+}
+
+#[test]
+fn one_constraint_refuses_each_false_answer(rt: HostRuntime) -> Result<(), Fail> {
+    // a gadget, its words, the two words that it makes, and the wires after them
+    let lies: [(Gadget, u32, u32, u32, u32, [u64; 12]); 9] = [
+        // the product 0 spelt by P, which the parity refuses
+        (
+            Gadget::Product,
+            0,
+            0,
+            1,
+            0xffff_ffff,
+            [1, INVERSE, 0, 0, 0, 0, 0, 0, 0, 0, 0, 0],
+        ),
+        // a flag that is 0 for a high word that isn't
+        (
+            Gadget::Product,
+            65_536,
+            65_536,
+            0,
+            1,
+            [0, 0, 0, 0, 0, 0, 0, 0, 0, 0, 0, 0],
+        ),
+        // -1 times 1 without regard to the signs
+        (
+            Gadget::SignedHigh,
+            0xffff_ffff,
+            1,
+            0xffff_ffff,
+            0,
+            [1, NEGATIVE, 0, 0, 0, 0, 0, 0, 0, 0, 0, 0],
+        ),
+        // 7 by 1 as if by 0
+        (
+            Gadget::Quotient,
+            7,
+            1,
+            0,
+            0,
+            [1, 7, 1, 0, 0, 0, 0, 0, 0, 0, 0, 0],
+        ),
+        // 7 by 0 with a quotient
+        (
+            Gadget::Quotient,
+            7,
+            0,
+            0xffff_ffff,
+            1,
+            [1, 4_294_967_302, 0, 0, 0, 0, 0, 0, 0, 0, 0, 0],
+        ),
+        // 7 by 0 with a remainder, as if not by 0
+        (
+            Gadget::Quotient,
+            7,
+            0,
+            0,
+            7,
+            [0, 0, 0, 0, 0, 0, 0, 0, 0, 0, 8, LAST - 7],
+        ),
+        // 7 by 2 with the remainder 3
+        (
+            Gadget::Quotient,
+            7,
+            2,
+            2,
+            3,
+            [0, 0, 0, 0, 0, 0, 0, 0, 0, 0, 2, LAST - 1],
+        ),
+        // 0 by 0 with a flag that is 2
+        (
+            Gadget::Quotient,
+            0,
+            0,
+            0,
+            0,
+            [2, 0, 1, 0, 0, 0, 0, 0, 0, 0, 0, 0],
+        ),
+        // 7 by 0 with a gate of 0
+        (
+            Gadget::Quotient,
+            7,
+            0,
+            0,
+            7,
+            [1, 0, 0, 0, 0, 0, 0, 0, 0, 0, 0, 0],
+        ),
+    ];
+    for (gadget, x, y, first, second, rest) in lies {
+        let mut values = inputs(rt.alloc(), x, y)?;
+        fill_bits(&mut values, F::of(u64::from(first)), 32)?;
+        fill_bits(&mut values, F::of(u64::from(second)), 32)?;
+        give_values(&mut values, &rest.map(F::of))?;
+        let mut tests = TestSink::over(values.as_slice(), FIRST);
+        put(&mut tests, gadget)?;
+        let others = if gadget == Gadget::Quotient { 78 } else { 66 };
+        assert_eq!(rt; tests.held(), others, "{gadget:?} {x} {y}");
+    }
+    Ok(())
+}
