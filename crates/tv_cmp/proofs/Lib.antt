@@ -1,0 +1,2 @@
+pub mod CompareLaws
+pub mod Flags
