@@ -1,2 +1,3 @@
 pub mod CompareLaws
+pub mod Decisions
 pub mod Flags

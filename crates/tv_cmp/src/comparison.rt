@@ -1,12 +1,12 @@
 ghost use Rattle.std.specs.Prelude.{◌≡◌, ◌+◌, ◌-◌, ◌*◌, ◌≤◌, ◌<◌, ◌^◌, false, Bool, if◌then◌else◌, IfOk, OnOk};
-ghost use Rattle.tv_cmp.specs.Compare.{sign, but_for_signs, flags_of, signed_size_of, greater_of, compare_of, compare_values, CompareIsSound, CompareIsComplete};
+ghost use Rattle.tv_cmp.specs.Compare.{sign, but_for_signs, flags_of, signed_size_of, greater_of, compare_of, size, signed_size, compare_values, CompareIsSound, CompareIsComplete};
 ghost use Rattle.tv_core.specs.Giving.{GivesIn};
 ghost use Rattle.tv_core.specs.Sinks.{PutsIn, Grows, Room};
 
 use tv_bits::{
     Bits, bit, fill_bits, fill_prefix_difference, first_difference, new_bits, prefix_difference,
 };
-use tv_core::{F, Lc, Put, Sink, Values, Wire};
+use tv_core::{F, Lc, Put, Sink, Values, Wire, give_values};
 use tv_word::signed;
 
 // Words are cut into this many chunks of this many bits.
@@ -131,16 +131,24 @@ pub fn fill_compare<V: Values>(v: &mut V, x: u32, y: u32) -> Put<()>
     ensures gives { GivesIn V.giving v.old v.new (compare_values 32 x y) result }
     ensures whole { OnOk result (V.giving.broken v.new ≡ false) }
 {
-    let (long_x, long_y) = (u64::from(x), u64::from(y));
-    let above = first_difference(long_x, long_y, CHUNK, CHUNKS);
-    let below = first_difference(long_y, long_x, CHUNK, CHUNKS);
-    let difference = F::of(above) - F::of(below);
-    v.give(flag(x == y))?;
-    v.give(flag(x > y))?;
-    fill_bits(v, F::of((above + below).saturating_sub(1)), CHUNK)?;
+    let (size, difference) = sizes(x, y);
+    give_values(v, &[flag(x == y), flag(x > y)])?;
+    fill_bits(v, size, CHUNK)?;
     v.give(difference)?;
-    fill_prefix_difference(v, long_x, long_y, difference, CHUNK, CHUNKS)?;
+    fill_prefix_difference(v, u64::from(x), u64::from(y), difference, CHUNK, CHUNKS)?;
     v.give(flag(signed(x) > signed(y)))
+}
+
+// How far the shortest prefixes that differ are apart, less 1, and how far the first is above the second.
+fn sizes(x: u32, y: u32) -> (F, F)
+    ensures size { result.0 ≡ size 32 x y - 1 }
+    ensures signed { result.1 ≡ signed_size 32 x y }
+{
+    let (x, y) = (u64::from(x), u64::from(y));
+    let above = first_difference(x, y, CHUNK, CHUNKS);
+    let below = first_difference(y, x, CHUNK, CHUNKS);
+    let size = (above + below).saturating_sub(1);
+    (F::of(size), F::of(above) - F::of(below))
 }
 
 fn flag(set: bool) -> F

@@ -4,6 +4,7 @@ pub mod CombinationLaws
 pub mod DifferenceLaws
 pub mod Euclid
 pub mod GivingChain
+pub mod GivingTails
 pub mod InverseLaws
 pub mod LineLaws
 pub mod LoopLaws
