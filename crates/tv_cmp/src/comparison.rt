@@ -1,7 +1,8 @@
-ghost use Rattle.std.specs.Prelude.{◌≡◌, ◌+◌, ◌-◌, ◌*◌, ◌≤◌, ◌<◌, ◌^◌, false, Bool, if◌then◌else◌, IfOk, OnOk};
+ghost use Rattle.std.specs.Prelude.{◌≡◌, ◌+◌, ◌-◌, ◌*◌, ◌≤◌, ◌<◌, ◌^◌, int_lt, false, Bool, if◌then◌else◌, IfOk, OnOk};
 ghost use Rattle.tv_cmp.specs.Compare.{sign, but_for_signs, flags_of, signed_size_of, greater_of, compare_of, size, signed_size, compare_values, CompareIsSound, CompareIsComplete};
 ghost use Rattle.tv_core.specs.Giving.{GivesIn};
 ghost use Rattle.tv_core.specs.Sinks.{PutsIn, Grows, Room};
+ghost use Rattle.tv_word.specs.Word.{signed};
 
 use tv_bits::{
     Bits, bit, fill_bits, fill_prefix_difference, first_difference, new_bits, prefix_difference,
@@ -136,7 +137,7 @@ pub fn fill_compare<V: Values>(v: &mut V, x: u32, y: u32) -> Put<()>
     fill_bits(v, size, CHUNK)?;
     v.give(difference)?;
     fill_prefix_difference(v, u64::from(x), u64::from(y), difference, CHUNK, CHUNKS)?;
-    v.give(flag(signed(x) > signed(y)))
+    v.give(flag(is_greater(x, y)))
 }
 
 // How far the shortest prefixes that differ are apart, less 1, and how far the first is above the second.
@@ -149,6 +150,12 @@ fn sizes(x: u32, y: u32) -> (F, F)
     let below = first_difference(y, x, CHUNK, CHUNKS);
     let size = (above + below).saturating_sub(1);
     (F::of(size), F::of(above) - F::of(below))
+}
+
+fn is_greater(x: u32, y: u32) -> bool
+    ensures { result ≡ int_lt (signed 32 y) (signed 32 x) }
+{
+    signed(x) > signed(y)
 }
 
 fn flag(set: bool) -> F

@@ -42,5 +42,5 @@ returns-clause-gives g c =
     let size = rw c.sizes-size.ensures.size at c.in_ok-fill_bits.ensures.gives in
     let difference = rw c.sizes-size.ensures.signed at c.in_ok-give.ensures.gives in
     let products = rw (c.sizes-size.ensures.signed, c.from.ensures, c.from-2.ensures) at c.in_ok-fill_prefix_difference.ensures.gives in
-    let greater = rw (c.flag-3.ensures, c.signed.ensures, c.signed-2.ensures) at c.give-2.ensures.gives in
+    let greater = rw (c.flag-3.ensures, c.is_greater.ensures) at c.give-2.ensures.gives in
     gives_in_then m _ _ _ _ _ _ flags (gives_in_then m _ _ _ _ _ _ size (gives_in_then m _ _ _ _ _ _ difference (gives_in_then m _ _ _ _ _ _ products greater)))
