@@ -8,10 +8,11 @@ use Rattle.tv_bits.proofs.SpelledNumbers.{Spells-below, Spells-bit_at, Spells-fr
 use Rattle.tv_bits.proofs.SpellingLaws.{new_bits_sound, new_bits_complete, new_bits_next}
 use Rattle.tv_bits.specs.Bit.{bit_of}
 use Rattle.tv_bits.specs.Bits.{Spells, spelled, bits_combination, bits_values, new_bits_of}
+use Rattle.tv_bits.specs.Order.{IsPrefixDifference}
 use Rattle.tv_bits.specs.Prefixes.{prefix_difference_of, prefix_difference_values}
 use Rattle.tv_bits.specs.declared.bit_wires.Bits.{Bits}
 use Rattle.tv_cmp.proofs.Decisions.{sign_in, Holds, decided, settled}
-use Rattle.tv_cmp.proofs.Flags.{greater_is}
+use Rattle.tv_cmp.proofs.Flags.{greater_is, greater_flag-bit}
 use Rattle.tv_cmp.specs.Compare.{above_flag, greater_flag, sign, but_for_signs, flags_of, signed_size_of, greater_of, compare_of, size, signed_size, CompareIsSound, CompareIsComplete}
 use Rattle.tv_core.proofs.BelowLaws.{length-each_below}
 use Rattle.tv_core.proofs.CombinationLaws.{value-less, value-constant, value-wire, wire-below}
@@ -71,8 +72,8 @@ module _ (z : List ℕ) (assigns : Assigns z) where
       (ap₂ (λ m n. m * n % P) (value-sign e a) number ∙ product ∙ ap (λ k. slice_index z k) (sym place) ∙ sym (value-wire assigns _), tt)
 
   -- ---- whether the first is greater
-  greater_value : (a x y g : ℕ) → value (wire g) z * value (constant 1) z % P ≡ slice_index z g
-  greater_value a x y g = let small = wire-below assigns g in ap₂ (λ m n. m * n % P) (value-wire assigns g) (value-constant assigns 1) ∙ omega arith
+  greater_value : (g : ℕ) → value (wire g) z * value (constant 1) z % P ≡ slice_index z g
+  greater_value g = let small = wire-below assigns g in ap₂ (λ m n. m * n % P) (value-wire assigns g) (value-constant assigns 1) ∙ omega arith
 
 signed_size_next : (c e a at : ℕ) → (signed_size_of c e a at).next ≡ at + c + 1
 unfolding signed_size_of fresh put pure ◌>>=◌
@@ -86,8 +87,84 @@ flags_next : (e a : ℕ) (x y : Bits) (at : ℕ) → (flags_of e a x y at).next 
 unfolding flags_of bit_of put ◌>>=◌
 flags_next e a x y at = refl
 
+-- ---- what the circuit answers, and where it ends
+pub compare_answer : (x y : Bits) (next : ℕ) → (compare_of 32 x y next).answer ≡ record { equal = next; above = next + 1; greater = next + 13 }
+unfolding compare_of greater_of fresh put pure ◌>>=◌
+compare_answer x y next =
+    ap (λ g. record { equal = next; above = next + 1; greater = g }) (last x y next)
+  where
+    last : (x y : Bits) (next : ℕ) → (prefix_difference_of x y (wire (signed_size_of 8 next (next + 1) (flags_of next (next + 1) x y (next + 1 + 1)).next).answer) 8 4 (signed_size_of 8 next (next + 1) (flags_of next (next + 1) x y (next + 1 + 1)).next).next).next ≡ next + 13
+    last x y next = prefix_difference_next x y (wire (signed_size_of 8 next (next + 1) (flags_of next (next + 1) x y (next + 1 + 1)).next).answer) 8 4 _
+      ∙ omega (arith, signed_size_next 8 next (next + 1) (flags_of next (next + 1) x y (next + 1 + 1)).next, flags_next next (next + 1) x y (next + 1 + 1))
+
+pub compare_next : (x y : Bits) (next : ℕ) → (compare_of 32 x y next).next ≡ next + 14
+unfolding compare_of greater_of fresh put pure ◌>>=◌
+compare_next x y next =
+    let size = signed_size_of 8 next (next + 1) (flags_of next (next + 1) x y (next + 1 + 1)).next in
+    omega (arith, prefix_difference_next x y (wire size.answer) 8 4 size.next, signed_size_next 8 next (next + 1) (flags_of next (next + 1) x y (next + 1 + 1)).next, flags_next next (next + 1) x y (next + 1 + 1))
+
+-- ---- the laws
+-- whether the first is greater, from whether it is above and the sign bits
+sign_bits : (g a x y v w : ℕ) → v < 2 ^ 32 → w < 2 ^ 32 → a ≡ above_flag v w → x ≡ bit_at v 31 → y ≡ bit_at w 31 → g < P
+    → g ≡ (a + y + (P - x)) % P → g ≡ greater_flag 32 v w
+sign_bits g a x y v w h k is_a is_x is_y small e = let both = greater_is v w h k in let bit = greater_flag-bit v w in omega arith
+
+but_for_bits : (a x y v w : ℕ) → v < 2 ^ 32 → w < 2 ^ 32 → a ≡ above_flag v w → x ≡ bit_at v 31 → y ≡ bit_at w 31
+    → greater_flag 32 v w ≡ (a + y + (P - x)) % P
+but_for_bits a x y v w h k is_a is_x is_y = let both = greater_is v w h k in let bit = greater_flag-bit v w in omega arith
+
+module _ (z : List ℕ) (next : ℕ) (x y : Bits) (v w : ℕ) (x_word : x.n ≡ 32) (y_word : y.n ≡ 32) (assigns : Assigns z) (s : Spells z x.first 32 v) (r : Spells z y.first 32 w) where
+  is_v : value (bits_combination x.first x.n) z ≡ v
+  is_v = ap (λ n. value (bits_combination x.first n) z) x_word ∙ value-bits_below s (omega arith)
+
+  is_w : value (bits_combination y.first y.n) z ≡ w
+  is_w = ap (λ n. value (bits_combination y.first n) z) y_word ∙ value-bits_below r (omega arith)
+
+  spells_v : Spells z x.first x.n v
+  spells_v = subst (λ n. Spells z x.first n v) (sym x_word) s
+
+  spells_w : Spells z y.first y.n w
+  spells_w = subst (λ n. Spells z y.first n w) (sym y_word) r
+
 pub compare_sound : CompareIsSound
-compare_sound = ?
+unfolding compare_of greater_of fresh put pure ◌>>=◌
+compare_sound z next x y v w x_word y_word assigns s r meets =
+    let e = next in
+    let a = next + 1 in
+    let flags = flags_of e a x y (next + 1 + 1) in
+    let made = signed_size_of 8 e a flags.next in
+    let prefix = prefix_difference_of x y (wire made.answer) 8 4 made.next in
+    let first = Meets-split z flags.list _ meets in
+    let second = Meets-split z made.list _ first.1 in
+    let third = Meets-split z prefix.list _ second.1 in
+    let held = flags_sound z assigns e a x y (next + 1 + 1) v w (is_v z next x y v w x_word y_word assigns s r) (is_w z next x y v w x_word y_word assigns s r) first.0 in
+    let sized = signed_size_sound z assigns 8 e a flags.next (omega arith) second.0 in
+    let difference = prefix_difference_sound z made.next x y (wire made.answer) 8 4 v w (omega arith) (omega arith) (omega arith) (omega arith) (omega arith) assigns
+    (spells_v z next x y v w x_word y_word assigns s r) (spells_w z next x y v w x_word y_word assigns s r) third.0 in
+    let decision = decided v w (slice_index z e) (slice_index z a) sized.0 (slice_index z made.answer) (Spells-below s) (Spells-below r) (wire-below assigns e) sized.1 sized.2 (record {
+      bit = held.0;
+      apart = held.1;
+      one = held.2;
+      signed = sized.3;
+      prefix = subst (λ n. IsPrefixDifference 8 4 v w n) (value-wire assigns made.answer) difference;
+    }) in
+    let signs = sym (greater_value z assigns prefix.next) ∙ third.1.0 ∙ value-but_for_signs z assigns a (x.first + 31) (y.first + 31) in
+    record {
+      equal = decision.0;
+      above = decision.1;
+      greater = sign_bits _ _ _ _ v w (Spells-below s) (Spells-below r) decision.1 (Spells-bit_at s 31 (omega arith)) (Spells-bit_at r 31 (omega arith)) (wire-below assigns prefix.next) signs;
+    }
 
 pub compare_complete : CompareIsComplete
-compare_complete = ?
+unfolding compare_of greater_of fresh put pure ◌>>=◌
+compare_complete z next x y v w x_word y_word assigns s r has =
+    let e = next in
+    let a = next + 1 in
+    let at = next + 1 + 1 in
+    let flags = flags_of e a x y at in
+    let made = signed_size_of 8 e a flags.next in
+    let prefix = prefix_difference_of x y (wire made.answer) 8 4 made.next in
+    let held = settled v w (Spells-below s) (Spells-below r) in
+    let sizes = HasFrom-split z at (bits_values (size 32 v w - 1) 8) _ has.1.1 in
+    let rest = rw length-each_below at sizes.1 in
+    ?

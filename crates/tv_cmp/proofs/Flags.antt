@@ -51,3 +51,10 @@ greater_is x y h k = elim (cases_lt y x) [
   | inl above ↦ greater_above x y (signed 32 x) (signed 32 y) h k (signed_is x h) (signed_is y k) above ∙ ap (λ n. n + y / 2 ^ 31) (sym (above_flag-above x y above))
   | inr not ↦ greater_not x y (signed 32 x) (signed 32 y) h k (signed_is x h) (signed_is y k) not ∙ ap (λ n. n + y / 2 ^ 31) (sym (above_flag-not x y not))
 ]
+
+pub greater_flag-bit : (x y : ℕ) → greater_flag 32 x y < 2
+greater_flag-bit x y = by (int_lt (signed 32 y) (signed 32 x))
+  where
+    by : (b : Bool) → (if b then 1 else 0) < 2
+    by true = omega arith
+    by false = omega arith
