@@ -167,4 +167,21 @@ compare_complete z next x y v w x_word y_word assigns s r has =
     let held = settled v w (Spells-below s) (Spells-below r) in
     let sizes = HasFrom-split z at (bits_values (size 32 v w - 1) 8) _ has.1.1 in
     let rest = rw length-each_below at sizes.1 in
-    ?
+    let products = HasFrom-split z (at + 8 + 1) (prefix_difference_values v w (signed_size 32 v w) 8 4) _ rest.1 in
+    let last = rw length-each_below at products.1 in
+    let flags_end = flags_next e a x y at in
+    let made_end : made.next ≡ at + 8 + 1 = signed_size_next 8 e a flags.next ∙ ap (λ n. n + 8 + 1) flags_end in
+    let made_at : made.answer ≡ at + 8 = signed_size_answer 8 e a flags.next ∙ ap (λ n. n + 8) flags_end in
+    let prefix_end : prefix.next ≡ at + 8 + 1 + 2 = prefix_difference_next x y (wire made.answer) 8 4 made.next ∙ ap (λ n. n + 2) made_end in
+    let difference : value (wire made.answer) z ≡ signed_size 32 v w = value-wire assigns made.answer ∙ ap (λ k. slice_index z k) made_at ∙ rest.0 in
+    let flags_met = flags_complete z assigns e a x y at v w (is_v z next x y v w x_word y_word assigns s r) (is_w z next x y v w x_word y_word assigns s r)
+    (omega (arith, has.1.0, held.1.bit)) (ap (λ n. n * ((v + (P - w)) % P) % P) has.0 ∙ held.1.apart) (ap₂ (λ m n. m * n % P) has.1.0 has.0 ∙ held.1.one) in
+    let made_met = signed_size_complete z assigns 8 e a flags.next (size 32 v w - 1) (omega arith) held.0 (subst (λ n. HasFrom z n (bits_values (size 32 v w - 1) 8)) (sym flags_end) sizes.0)
+    (ap₂ (λ m n. sign_in m n * (size 32 v w - 1 + 1) % P) has.0 has.1.0 ∙ held.1.signed ∙ sym rest.0 ∙ ap (λ n. slice_index z (n + 8)) (sym flags_end)) in
+    let prefix_met = prefix_difference_complete z made.next x y (wire made.answer) 8 4 v w (omega arith) (omega arith) (omega arith) (omega arith) (omega arith) assigns
+    (spells_v z next x y v w x_word y_word assigns s r) (spells_w z next x y v w x_word y_word assigns s r) (subst (λ n. IsPrefixDifference 8 4 v w n) (sym difference) held.1.prefix)
+    (subst (λ n. HasFrom z n (prefix_difference_values v w (value (wire made.answer) z) 8 4)) (sym made_end) (subst (λ n. HasFrom z (at + 8 + 1) (prefix_difference_values v w n 8 4)) (sym difference) products.0)) in
+    let greater : slice_index z prefix.next ≡ greater_flag 32 v w = ap (λ n. slice_index z n) prefix_end ∙ last.0 in
+    let signs = but_for_bits (slice_index z a) (slice_index z (x.first + 31)) (slice_index z (y.first + 31)) v w (Spells-below s) (Spells-below r) has.1.0 (Spells-bit_at s 31 (omega arith)) (Spells-bit_at r 31 (omega arith)) in
+    let greater_met = greater_value z assigns prefix.next ∙ greater ∙ signs ∙ sym (value-but_for_signs z assigns a (x.first + 31) (y.first + 31)) in
+    Meets-join z flags.list _ flags_met (Meets-join z made.list _ made_met (Meets-join z prefix.list _ prefix_met (greater_met, tt)))
