@@ -27,7 +27,7 @@ pub struct Cmp {
 }
 
 /// Compares the words that `x` and `y` spell, each in 32 bits. It makes 14 wires and 16 constraints, with
-/// FIXME terms.
+/// 280 terms.
 pub fn compare<S: Sink>(s: &mut S, x: &Bits, y: &Bits) -> Put<Cmp>
     requires room { Room S.meaning s.old 14 16 }
     requires x_word { x.now.n ≡ 32 }
