@@ -40,6 +40,14 @@ pub first_difference-apart : (c t x y : ℕ) → x / 2 ^ (c * t) ≢ y / 2 ^ (c 
 unfolding first_difference
 first_difference-apart c t x y apart = ap (λ b. if b then first_difference c t x y else x / 2 ^ (c * t) - y / 2 ^ (c * t)) (ne_eqb _ _ apart)
 
+pub first_difference-le : (c t x y : ℕ) → first_difference c t x y ≤ x
+first_difference-le c zero x y = omega (arith, first_difference-zero c x y)
+first_difference-le c (suc t) x y =
+    elim (cases_eq (x / 2 ^ (c * t)) (y / 2 ^ (c * t))) [
+      | inl same ↦ omega (arith, first_difference-same c t x y same, first_difference-le c t x y)
+      | inr apart ↦ omega (arith, first_difference-apart c t x y apart, div-le_self x (2 ^ (c * t)))
+    ]
+
 -- two numbers that are the same without their lowest chunk are less than 2 ^ c apart
 within_chunk : (a b k : ℕ) → 0 < k → a / k ≡ b / k → a - b < k
 within_chunk a b k positive same =

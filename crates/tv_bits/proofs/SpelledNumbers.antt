@@ -1,5 +1,5 @@
 -- What wires spell: the number's bits, its parts, and the value of the combination of their powers.
-use Rattle.std.proofs.Common.{◌≡◌, ◌≢◌, ℕ, zero, suc, ◌+◌, ◌-◌, ◌*◌, ◌/◌, ◌%◌, ◌^◌, ◌<◌, ◌≤◌, List, inl, inr, refl, sym, subst, ◌∙◌, ap, ap₂, arith, mod-eq_of_lt, mul_comm, mul_assoc, add_comm}
+use Rattle.std.proofs.Common.{◌≡◌, ◌≢◌, ℕ, zero, suc, ◌+◌, ◌-◌, ◌*◌, ◌/◌, ◌%◌, ◌^◌, ◌<◌, ◌≤◌, List, ◌++◌, inl, inr, refl, sym, subst, ◌∙◌, ap, ap₂, arith, mod-eq_of_lt, mul_comm, mul_assoc, add_comm}
 use Rattle.std.specs.Int.{bit_at}
 use Rattle.std.specs.Prelude.{slice_index}
 use Rattle.std.proofs.Math.Nat.{pow-suc, pow-le-pow_right, mul-le-mul_left}
@@ -7,9 +7,11 @@ use Rattle.std.proofs.lemmas.Bool.{cases_eq, cases_lt}
 use Rattle.std.proofs.lemmas.Nat.{pow-add, mod-pow-add, mul-mod_first, shr_high, mod_low}
 use Rattle.std.proofs.lemmas.Nat.Bits.{bit_at-lt, bit_at_cat_low}
 use Rattle.tv_core.proofs.BelowLaws.{sum_below-zero, sum_below-suc, sum_below-same, sum_below-mod_same, sum_below-add, sum_below-mul, value-weighted, has_each}
+use Rattle.tv_core.proofs.CombinationLaws.{value-append, value-constant}
 use Rattle.tv_core.specs.Below.{sum_below}
+use Rattle.tv_core.specs.Combinations.{constant}
 use Rattle.tv_core.specs.Constraints.{value}
-use Rattle.tv_core.specs.Laws.{HasFrom}
+use Rattle.tv_core.specs.Laws.{Assigns, HasFrom}
 use Rattle.tv_core.specs.declared.field.TheConstants.{P}
 use Rattle.tv_bits.specs.Bit.{IsBit}
 use Rattle.tv_bits.specs.Bits.{Spells, spelled, bits_combination, bits_values}
@@ -67,6 +69,15 @@ module _ {z : List ℕ} {first n v : ℕ} (s : Spells z first n v) where
 
   pub value-bits_below : n ≤ 63 → value (bits_combination first n) z ≡ v
   value-bits_below short = value-bits ∙ mod-eq_of_lt (Spells-small short)
+
+  -- and of one that is 1 more
+  pub value-plus_one : Assigns z → n ≤ 62 → value (bits_combination first n ++ constant 1) z ≡ v + 1
+  value-plus_one assigns short =
+      let power : 2 ^ n ≤ 2 ^ 62 = pow-le-pow_right (omega arith) short in
+      let below = Spells-below in
+      value-append (bits_combination first n) (constant 1) z
+      ∙ ap₂ (λ a b. (a + b) % P) (value-bits_below (omega arith)) (value-constant assigns 1)
+      ∙ omega arith
 
 -- wires that hold the bits of a number below 2 ^ n spell it
 pub Spells-from_bits : (z : List ℕ) (first n v : ℕ) → v < 2 ^ n → ((i : ℕ) → i < n → slice_index z (first + i) ≡ bit_at v i) → Spells z first n v

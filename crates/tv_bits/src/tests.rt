@@ -1,9 +1,10 @@
 //! Each gadget over the values of its generator, and over the same with one output altered.
-ghost use Rattle.std.specs.Prelude.{◌≡◌, ◌≤◌, false};
+ghost use Rattle.std.specs.Prelude.{◌≡◌, ◌≤◌, false, IfOk};
 ghost use Rattle.tv_core.specs.Sinks.{Room};
 
 use crate::{
-    Bits, bit, bits, fill_bit, fill_bits, fill_onehot, fill_select, fill_zero, onehot, select, zero,
+    Bits, bit, bits, fill_bit, fill_bits, fill_onehot, fill_prefix_difference, fill_select, fill_zero,
+    first_difference, onehot, prefix_difference, select, zero,
 };
 use std::alloc::Global;
 use std::test::Fail;
@@ -125,4 +126,63 @@ fn gadgets_hold_over_their_own_values_alone(rt: HostRuntime) -> Result<(), Fail>
         assert!(rt; refuses.held() < constraints, "{gadget:?} {inputs:?}");
     }
     Ok(())
+}
+
+// 1, the bits of two numbers below 2^6, and a third number.
+fn prefixes(alloc: Global, x: u64, y: u64, d: F) -> Put<ListValues>
+    ensures { IfOk result (λ values. values.broken ≡ false) }
+{
+    let mut values = ListValues::new(alloc);
+    values.give(F::ONE)?;
+    fill_bits(&mut values, F::of(x), 6)?;
+    fill_bits(&mut values, F::of(y), 6)?;
+    values.give(d)?;
+    Ok(values)
+}
+
+// 54 is 110110 and 45 is 101101, whose prefixes differ by 9, by 13 - 11 and by 3 - 2.
+#[test]
+fn a_difference_of_prefixes_is_one_of_them(rt: HostRuntime) -> Result<(), Fail> {
+    let x = Bits { first: FIRST, n: 6 };
+    let y = Bits {
+        first: Wire(7),
+        n: 6,
+    };
+    let trials = [
+        (54, 45, F::of(9), true),
+        (54, 45, F::of(2), true),
+        (54, 45, F::ONE, true),
+        (54, 45, F::of(3), false),
+        (54, 45, F::ZERO, false),
+        (45, 54, F::ONE, false),
+        (45, 54, -F::ONE, true),
+        (45, 45, F::ZERO, true),
+        (45, 45, F::ONE, false),
+    ];
+    for (first, second, d, is_one) in trials {
+        let mut values = prefixes(rt.alloc(), first, second, d)?;
+        fill_prefix_difference(&mut values, first, second, d, 2, 3)?;
+        let mut tests = TestSink::over(values.as_slice(), 14);
+        prefix_difference(&mut tests, &x, &y, &Lc::wire(Wire(13)), 2, 3)?;
+        assert_eq!(rt; tests.tested(), 2, "{first} {second} {d:?}");
+        assert_eq!(rt; tests.held() == 2, is_one, "{first} {second} {d:?}");
+    }
+    Ok(())
+}
+
+#[test]
+fn the_first_difference_is_that_of_the_shortest_prefixes(rt: HostRuntime) {
+    // two numbers, chunks of how many bits, how many, and the difference
+    let trials = [
+        (54, 45, 2, 3, 1),
+        (45, 54, 2, 3, 0),
+        (45, 45, 2, 3, 0),
+        (WORD, 0, 8, 4, 255),
+        (16_777_216, 16_777_215, 8, 4, 1),
+        (5, 3, 8, 4, 2),
+        (281_474_976_710_656, 281_474_976_710_655, 7, 7, 1),
+    ];
+    for (x, y, chunk, count, difference) in trials {
+        assert_eq!(rt; first_difference(x, y, chunk, count), difference, "{x} {y}");
+    }
 }

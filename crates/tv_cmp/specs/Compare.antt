@@ -1,0 +1,101 @@
+-- Two words compared.
+use Rattle.std.specs.Prelude.{◌≡◌, ℕ, ◌+◌, ◌-◌, ◌*◌, ◌/◌, ◌%◌, ◌^◌, ◌==◌, nat_lt, int_lt, if◌then◌else◌, List, [], ◌∷◌, ◌++◌, slice_index}
+use Rattle.tv_bits.specs.Bit.{bit_of}
+use Rattle.tv_bits.specs.Bits.{Spells, bits_combination, bits_values, new_bits_of}
+use Rattle.tv_bits.specs.Order.{first_difference}
+use Rattle.tv_bits.specs.Prefixes.{prefix_difference_of, prefix_difference_values}
+use Rattle.tv_bits.specs.declared.bit_wires.Bits.{Bits}
+use Rattle.tv_cmp.specs.declared.comparison.Cmp.{Cmp}
+use Rattle.tv_core.specs.Circuits.{Circuit, fresh, put, pure, ◌>>=◌}
+use Rattle.tv_core.specs.Combinations.{wire, constant, less}
+use Rattle.tv_core.specs.Constraints.{Combination}
+use Rattle.tv_core.specs.Laws.{Assigns, Meets, HasFrom}
+use Rattle.tv_core.specs.declared.field.TheConstants.{P}
+use Rattle.tv_word.specs.Word.{signed}
+
+-- ---- the relation
+-- 1 where x is y, where x is above y, and where x is greater than y as signed words of w bits; else 0
+abbrev pub equal_flag : ℕ → ℕ → ℕ
+equal_flag x y = if x == y then 1 else 0
+
+abbrev pub above_flag : ℕ → ℕ → ℕ
+above_flag x y = if nat_lt y x then 1 else 0
+
+abbrev pub greater_flag : ℕ → ℕ → ℕ → ℕ
+greater_flag w x y = if int_lt (signed w y) (signed w x) then 1 else 0
+
+-- the three wires hold the flags of x and y
+pub record IsCompared (w : ℕ) (z : List ℕ) (cmp : Cmp) (x y : ℕ) : Type 0 where
+  pub equal : slice_index z cmp.equal ≡ equal_flag x y
+  pub above : slice_index z cmp.above ≡ above_flag x y
+  pub greater : slice_index z cmp.greater ≡ greater_flag w x y
+
+-- ---- the circuit
+-- above is a bit; equal is 0 unless the numbers are the same; one of the two is 0
+unfoldable pub flags_of : ℕ → ℕ → Bits → Bits → Circuit (Unit {0})
+flags_of equal above x y = do
+  _ ← bit_of above
+  _ ← put (wire equal) (less (bits_combination x.first x.n) (bits_combination y.first y.n)) []
+  put (wire above) (wire equal) []
+
+-- 1 where above is 1, 0 where equal is 1, and -1 where both are 0
+abbrev pub sign : ℕ → ℕ → Combination
+sign equal above = (2, above) ∷ (1, equal) ∷ (P - 1, 0) ∷ []
+
+-- a new wire that is from 1 to 2 ^ c, times the sign
+unfoldable pub signed_size_of : ℕ → ℕ → ℕ → Circuit ℕ
+signed_size_of c equal above = do
+  size ← new_bits_of c
+  difference ← fresh
+  _ ← put (sign equal above) (bits_combination size.first size.n ++ constant 1) (wire difference)
+  pure difference
+
+-- above, but where the sign bits x and y of the words differ, whether it is y that is 1
+abbrev pub but_for_signs : ℕ → ℕ → ℕ → Combination
+but_for_signs above x y = (1, above) ∷ (1, y) ∷ (P - 1, x) ∷ []
+
+-- a new wire that is so
+unfoldable pub greater_of : ℕ → ℕ → Bits → Bits → Circuit ℕ
+greater_of w above x y = do
+  greater ← fresh
+  _ ← put (wire greater) (constant 1) (but_for_signs above (x.first + (w - 1)) (y.first + (w - 1)))
+  pure greater
+
+-- words of w bits, cut into four chunks: where x is above, some prefix is so by from 1 to 2 ^ (w / 4);
+-- where y is above, some prefix of y; and where they are the same, each prefix is
+unfoldable pub compare_of : ℕ → Bits → Bits → Circuit Cmp
+compare_of w x y = do
+  equal ← fresh
+  above ← fresh
+  _ ← flags_of equal above x y
+  difference ← signed_size_of (w / 4) equal above
+  _ ← prefix_difference_of x y (wire difference) (w / 4) 4
+  greater ← greater_of w above x y
+  pure (record { equal = equal; above = above; greater = greater })
+
+-- ---- the values
+-- how far the shortest prefixes that differ are apart, and the same with the sign of x less y
+abbrev pub size : ℕ → ℕ → ℕ → ℕ
+size w x y = first_difference (w / 4) 4 x y + first_difference (w / 4) 4 y x
+
+abbrev pub signed_size : ℕ → ℕ → ℕ → ℕ
+signed_size w x y = (first_difference (w / 4) 4 x y + (P - first_difference (w / 4) 4 y x)) % P
+
+-- the values of the wires that are made
+abbrev pub compare_values : ℕ → ℕ → ℕ → List ℕ
+compare_values w x y =
+    equal_flag x y ∷ above_flag x y ∷ (bits_values (size w x y - 1) (w / 4)
+    ++ signed_size w x y ∷ (prefix_difference_values x y (signed_size w x y) (w / 4) 4 ++ greater_flag w x y ∷ []))
+
+-- ---- the laws
+-- an assignment that meets what was put for bits that spell two words has their flags
+abbrev pub CompareIsSound : Type 0
+CompareIsSound = (z : List ℕ) (next : ℕ) (x y : Bits) (v w : ℕ) → x.n ≡ 32 → y.n ≡ 32 → Assigns z
+    → Spells z x.first 32 v → Spells z y.first 32 w → Meets z (compare_of 32 x y next).list
+    → IsCompared 32 z (compare_of 32 x y next).answer v w
+
+-- an assignment that has the values of two words at the wires that were made meets what was put
+abbrev pub CompareIsComplete : Type 0
+CompareIsComplete = (z : List ℕ) (next : ℕ) (x y : Bits) (v w : ℕ) → x.n ≡ 32 → y.n ≡ 32 → Assigns z
+    → Spells z x.first 32 v → Spells z y.first 32 w → HasFrom z next (compare_values 32 v w)
+    → Meets z (compare_of 32 x y next).list

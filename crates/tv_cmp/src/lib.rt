@@ -1,0 +1,9 @@
+//! The gadget that compares two words: whether they are the same, and which is above the other, as
+//! numbers and as signed numbers. Contracts above cite `IsCompared`.
+#![tactic(auto)]
+
+mod comparison;
+#[cfg(test)]
+mod tests;
+
+pub use comparison::{Cmp, compare, compare_is_complete, compare_is_sound, fill_compare};
