@@ -95,7 +95,7 @@ compare_answer x y next =
   where
     last : (x y : Bits) (next : ℕ) → (prefix_difference_of x y (wire (signed_size_of 8 next (next + 1) (flags_of next (next + 1) x y (next + 1 + 1)).next).answer) 8 4 (signed_size_of 8 next (next + 1) (flags_of next (next + 1) x y (next + 1 + 1)).next).next).next ≡ next + 13
     last x y next = prefix_difference_next x y (wire (signed_size_of 8 next (next + 1) (flags_of next (next + 1) x y (next + 1 + 1)).next).answer) 8 4 _
-      ∙ omega (arith, signed_size_next 8 next (next + 1) (flags_of next (next + 1) x y (next + 1 + 1)).next, flags_next next (next + 1) x y (next + 1 + 1))
+        ∙ omega (arith, signed_size_next 8 next (next + 1) (flags_of next (next + 1) x y (next + 1 + 1)).next, flags_next next (next + 1) x y (next + 1 + 1))
 
 pub compare_next : (x y : Bits) (next : ℕ) → (compare_of 32 x y next).next ≡ next + 14
 unfolding compare_of greater_of fresh put pure ◌>>=◌

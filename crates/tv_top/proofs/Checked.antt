@@ -133,17 +133,17 @@ comes_tape : (files : Names) (system witness tape : List ℕ) (s : System) (z : 
 unfolding check_of
 comes_tape files system witness tape s z in_system in_witness (inl found) = Judged s z found.0 (record { in_system = in_system; in_witness = in_witness; in_tape = found.1 })
 comes_tape files system witness tape s z in_system in_witness (inr refused) = Otherwise refused.0 (
-  on (record { at = 1; gives = held_in 1 system_status system_of (files system) }) _ s (held_gives 1 system_status system_of (files system) (Ok s) in_system)
-  ∙ on (record { at = 2; gives = held_in 2 witness_status assignment_of (files witness) }) _ z (held_gives 2 witness_status assignment_of (files witness) (Ok z) in_witness)
-  ∙ stop (tape_at_3 tape files) _ refused.0 refused.1) refused.2
+    on (record { at = 1; gives = held_in 1 system_status system_of (files system) }) _ s (held_gives 1 system_status system_of (files system) (Ok s) in_system)
+    ∙ on (record { at = 2; gives = held_in 2 witness_status assignment_of (files witness) }) _ z (held_gives 2 witness_status assignment_of (files witness) (Ok z) in_witness)
+    ∙ stop (tape_at_3 tape files) _ refused.0 refused.1) refused.2
 
 comes_witness : (files : Names) (system witness tape : List ℕ) (s : System) → Holding system_of (files system) (Ok s) → Seen assignment_of (files witness) → Comes files system witness tape
 unfolding check_of
 comes_witness files system witness tape s in_system (inl (Ok z, in_witness)) = comes_tape files system witness tape s z in_system in_witness (seen_tape tape files (files tape) refl)
 comes_witness files system witness tape s in_system (inl (Err fault, faulty)) = FaultyWitness fault.at fault.why (record { s = s; in_system = in_system; faulty = faulty })
 comes_witness files system witness tape s in_system (inr none) = Otherwise (FileFault 2) (
-  on (record { at = 1; gives = held_in 1 system_status system_of (files system) }) _ s (held_gives 1 system_status system_of (files system) (Ok s) in_system)
-  ∙ stop (record { at = 2; gives = held_in 2 witness_status assignment_of (files witness) }) _ (FileFault 2) (rw none refl)) (no_file 2)
+    on (record { at = 1; gives = held_in 1 system_status system_of (files system) }) _ s (held_gives 1 system_status system_of (files system) (Ok s) in_system)
+    ∙ stop (record { at = 2; gives = held_in 2 witness_status assignment_of (files witness) }) _ (FileFault 2) (rw none refl)) (no_file 2)
 
 comes_system : (files : Names) (system witness tape : List ℕ) → Seen system_of (files system) → Comes files system witness tape
 unfolding check_of
