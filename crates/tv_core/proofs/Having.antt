@@ -10,9 +10,9 @@ has_range_of z first a zero f each = tt
 has_range_of z first a (suc n) f each = (
   ap (λ k. slice_index z k) (sym (add-zero first)) ∙ each 0 (omega arith) ∙ ap f (add-zero a),
   has_range_of z (first + 1) (a + 1) n f (λ i h.
-    let wire : first + 1 + i ≡ first + suc i = omega arith in
-    let place : a + suc i ≡ a + 1 + i = omega arith in
-    ap (λ k. slice_index z k) wire ∙ each (suc i) (omega arith) ∙ ap f place),
+      let wire : first + 1 + i ≡ first + suc i = omega arith in
+      let place : a + suc i ≡ a + 1 + i = omega arith in
+      ap (λ k. slice_index z k) wire ∙ each (suc i) (omega arith) ∙ ap f place),
 )
 
 -- an assignment that has each number of a list has the list
