@@ -12,6 +12,7 @@ use Rattle.tv_core.specs.Constraints.{value}
 use Rattle.tv_core.specs.Laws.{Assigns, Meets, HasFrom}
 use Rattle.tv_core.specs.declared.field.TheConstants.{P}
 use Rattle.tv_bits.proofs.BitLaws.{bit_sound, bit_complete, bit_next}
+use Rattle.tv_bits.proofs.NewBitsLaws.{bits_spell, bits_met}
 use Rattle.tv_bits.proofs.PrefixLaws.{prefix_difference_sound, prefix_difference_complete, prefix_difference_next}
 use Rattle.tv_bits.proofs.SpelledNumbers.{Spells-below, Spells-from_values, value-bits_below}
 use Rattle.tv_bits.proofs.SpellingLaws.{new_bits_answer, new_bits_next}
@@ -21,7 +22,6 @@ use Rattle.tv_bits.specs.Order.{IsPrefixDifference}
 use Rattle.tv_bits.specs.Prefixes.{prefix_difference_values}
 use Rattle.tv_bits.specs.Zero.{zero_flag}
 use Rattle.tv_bits.specs.declared.bit_wires.Bits.{Bits}
-use Rattle.tv_bits.proofs.NewBitsLaws.{bits_spell, bits_met}
 use Rattle.tv_muldiv.proofs.QuotientNumbers.{Divides, Divides-sound, Divides-complete, quotient-small, remainder-small, above-below, above-difference}
 use Rattle.tv_muldiv.specs.Quotient.{quotient_in, remainder_in, gate_in, above_in, words_values, above_values, zero_divisor_of, quotient_wires_of, gate_of, division_of, remainder_below_of, quotient_of, QuotientIsSound, QuotientIsComplete}
 use Rattle.tv_muldiv.specs.declared.records.Quot.{Quot}
@@ -81,7 +81,7 @@ unfolding quotient_wires_of pure ◌>>=◌
 quotient_wires_parts z y next meets =
     let place : next + 32 + 32 ≡ next + 64 = omega arith in
     let first = Meets-split z (new_bits_of 32 next).list _ meets in
-    let second = Meets-split z (new_bits_of 32 (next + 32)).list _ (rw new_bits_next at first.1) in
+    let second = Meets-split z (new_bits_of 32 (next + 32)).list _ (rw (new_bits_next 32 next) at first.1) in
     let third = Meets-split z (zero_divisor_of 32 y (next + 64)).list [] (rw (new_bits_next, place) at second.1) in
     (first.0, second.0, third.0)
 
@@ -91,7 +91,7 @@ unfolding quotient_wires_of pure ◌>>=◌
 quotient_wires_whole z y next p q r =
     let place : next + 32 + 32 ≡ next + 64 = omega arith in
     let last = Meets-join z (zero_divisor_of 32 y (next + 64)).list [] r tt in
-    Meets-join z (new_bits_of 32 next).list _ p (rw new_bits_next (Meets-join z (new_bits_of 32 (next + 32)).list _ q (rw (new_bits_next, place) last)))
+    Meets-join z (new_bits_of 32 next).list _ p (rw (new_bits_next 32 next) (Meets-join z (new_bits_of 32 (next + 32)).list _ q (rw (new_bits_next, place) last)))
 
 -- ---- the division
 module _ (z : List ℕ) (assigns : Assigns z) (x y : Bits) (a b quot rem : ℕ) (p : Spells z x.first 32 a) (q : Spells z y.first 32 b) (made : Quot)
@@ -201,7 +201,7 @@ quotient_sound z next x y a b assigns p q meets =
       by_zero = divided.zero;
     })
 
-length-words : (a b : ℕ) → length (words_values 32 a b) ≡ 64
+pub length-words : (a b : ℕ) → length (words_values 32 a b) ≡ 64
 length-words a b =
     length-append (each_below 32 (bit_at (quotient_in a b))) (each_below 32 (bit_at (remainder_in a b)))
     ∙ omega (arith, length-each_below 32 (bit_at (quotient_in a b)), length-each_below 32 (bit_at (remainder_in a b)))

@@ -7,11 +7,11 @@ use Rattle.tv_core.specs.Circuits.{fresh, put, pure, ◌>>=◌}
 use Rattle.tv_core.specs.Constraints.{value}
 use Rattle.tv_core.specs.Laws.{Assigns, Meets}
 use Rattle.tv_core.specs.declared.field.TheConstants.{P}
+use Rattle.tv_bits.proofs.NewBitsLaws.{bits_spell, bits_met}
 use Rattle.tv_bits.proofs.SpelledNumbers.{Spells-below, Spells-bit_at, Spells-low, Spells-high, value-bits_below}
 use Rattle.tv_bits.proofs.SpellingLaws.{new_bits_answer, new_bits_next}
 use Rattle.tv_bits.specs.Bits.{Spells, spelled, bits_combination, new_bits_of}
 use Rattle.tv_bits.specs.declared.bit_wires.Bits.{Bits}
-use Rattle.tv_bits.proofs.NewBitsLaws.{bits_spell, bits_met}
 use Rattle.tv_muldiv.proofs.HalvesLaws.{length-halves, halves_spell}
 use Rattle.tv_muldiv.proofs.NonzeroLaws.{nonzero_sound, nonzero_complete}
 use Rattle.tv_muldiv.proofs.SignedNumbers.{Stands, Stands-product, Stands-signed, Stands-exact, Stands-meets, twos-below, over_flag}

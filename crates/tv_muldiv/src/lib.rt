@@ -1,6 +1,7 @@
 //! Gadgets that multiply and divide words: the product of two words, the high word of their signed
 //! product, and their quotient and remainder.
-//! Contracts above cite `IsProduct`, which says what wires hold in whole numbers.
+//! Contracts above cite `IsProduct`, `IsSignedHigh` and `IsQuotient`, which say what wires hold in whole
+//! numbers, words being 32 wires that spell them.
 #![tactic(auto)]
 
 mod nonzero;

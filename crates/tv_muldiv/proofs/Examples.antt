@@ -1,0 +1,31 @@
+-- Worked rows of the definitions.
+use Rattle.std.proofs.Common.{◌≡◌, ◌/◌, ◌^◌, true, false, refl}
+use Rattle.tv_muldiv.specs.Quotient.{quotient_in, remainder_in}
+use Rattle.tv_muldiv.specs.SignedHigh.{product_twos, signed_product}
+use Rattle.tv_word.specs.Twos.{fits}
+
+-- 80000000 by 80000000, ffffffff by 1, and 80000000 by ffffffff, as signed numbers
+least_squared : product_twos 32 2147483648 2147483648 / 2 ^ 32 ≡ 1073741824
+least_squared = refl
+
+least_squared_over : fits 32 (signed_product 32 2147483648 2147483648) ≡ false
+least_squared_over = refl
+
+minus_one : product_twos 32 4294967295 1 / 2 ^ 32 ≡ 4294967295
+minus_one = refl
+
+minus_one_fits : fits 32 (signed_product 32 4294967295 1) ≡ true
+minus_one_fits = refl
+
+least_negated_over : fits 32 (signed_product 32 2147483648 4294967295) ≡ false
+least_negated_over = refl
+
+least_fits : fits 32 (signed_product 32 2147483648 1) ≡ true
+least_fits = refl
+
+-- 7 by 2 and by 0
+seven_by_two : (quotient_in 7 2 ≡ 3) × (remainder_in 7 2 ≡ 1)
+seven_by_two = (refl, refl)
+
+seven_by_zero : (quotient_in 7 0 ≡ 0) × (remainder_in 7 0 ≡ 0)
+seven_by_zero = (refl, refl)
