@@ -1,5 +1,6 @@
-//! Reading an assignment from a wtns file, of any size and with its sections in any order: the list of
-//! `assignment_of` the whole file, or the file's first fault.
+//! Reading an assignment from a wtns file, of any size and with its sections in any order. The layers
+//! above use `read_values`, whose clause `gives` says that it answers `assignment_of` the whole file: the
+//! values in order, or the file's first fault.
 #![tactic(auto)]
 
 mod assignment;
