@@ -1,6 +1,7 @@
 pub mod BitLaws
 pub mod OneHotLaws
 pub mod OrderLaws
+pub mod OrderRows
 pub mod PrefixLaws
 pub mod ProductChain
 pub mod SelectLaws
