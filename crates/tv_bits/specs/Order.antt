@@ -1,7 +1,7 @@
 -- The order of two numbers, by the first of their parts that differ. A number of n bits is cut into t chunks
 -- of c bits; without its lowest chunks it is a prefix. Of two numbers one is above the other exactly where
 -- some prefix of it is above the other's by 1 to 2 ^ c, and one by less than 2 ^ c is then the shortest that differs.
-use Rattle.std.specs.Prelude.{◌≡◌, ℕ, zero, suc, ◌+◌, ◌-◌, ◌*◌, ◌/◌, ◌%◌, ◌^◌, ◌<◌, ◌≤◌, ◌==◌, if◌then◌else◌}
+use Rattle.std.specs.Prelude.{◌≡◌, ℕ, zero, suc, ◌+◌, ◌-◌, ◌*◌, ◌/◌, ◌%◌, ◌^◌, ◌<◌, ◌==◌, if◌then◌else◌}
 use Rattle.tv_core.specs.declared.field.TheConstants.{P}
 
 -- x less y, both without their p lowest bits, modulo P

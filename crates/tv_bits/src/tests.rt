@@ -3,8 +3,8 @@ ghost use Rattle.std.specs.Prelude.{◌≡◌, ◌≤◌, false, IfOk};
 ghost use Rattle.tv_core.specs.Sinks.{Room};
 
 use crate::{
-    Bits, bit, bits, fill_bit, fill_bits, fill_onehot, fill_prefix_difference, fill_select, fill_zero,
-    first_difference, onehot, prefix_difference, select, zero,
+    Bits, bit, bits, fill_bit, fill_bits, fill_onehot, fill_prefix_difference, fill_select,
+    fill_zero, first_difference, onehot, prefix_difference, select, zero,
 };
 use std::alloc::Global;
 use std::test::Fail;

@@ -1,5 +1,5 @@
 -- The laws of the comparison.
-use Rattle.std.proofs.Common.{◌≡◌, ℕ, ◌+◌, ◌-◌, ◌*◌, ◌/◌, ◌%◌, ◌^◌, ◌<◌, ◌≤◌, List, [], ◌∷◌, ◌++◌, length, refl, sym, subst, ◌∙◌, ap, ap₂, arith}
+use Rattle.std.proofs.Common.{◌≡◌, ℕ, ◌+◌, ◌-◌, ◌*◌, ◌%◌, ◌^◌, ◌<◌, ◌≤◌, List, refl, sym, subst, ◌∙◌, ap, ap₂, arith}
 use Rattle.std.specs.Int.{bit_at}
 use Rattle.std.specs.Prelude.{slice_index}
 use Rattle.tv_bits.proofs.BitLaws.{bit_sound, bit_complete}
@@ -11,7 +11,7 @@ use Rattle.tv_bits.specs.Bits.{Spells, spelled, bits_combination, bits_values, n
 use Rattle.tv_bits.specs.Order.{IsPrefixDifference}
 use Rattle.tv_bits.specs.Prefixes.{prefix_difference_of, prefix_difference_values}
 use Rattle.tv_bits.specs.declared.bit_wires.Bits.{Bits}
-use Rattle.tv_cmp.proofs.Decisions.{sign_in, Holds, decided, settled}
+use Rattle.tv_cmp.proofs.Decisions.{sign_in, decided, settled}
 use Rattle.tv_cmp.proofs.Flags.{greater_is, greater_flag-bit}
 use Rattle.tv_cmp.specs.Compare.{above_flag, greater_flag, sign, but_for_signs, flags_of, signed_size_of, greater_of, compare_of, size, signed_size, CompareIsSound, CompareIsComplete}
 use Rattle.tv_core.proofs.BelowLaws.{length-each_below}
@@ -95,7 +95,7 @@ compare_answer x y next =
   where
     last : (x y : Bits) (next : ℕ) → (prefix_difference_of x y (wire (signed_size_of 8 next (next + 1) (flags_of next (next + 1) x y (next + 1 + 1)).next).answer) 8 4 (signed_size_of 8 next (next + 1) (flags_of next (next + 1) x y (next + 1 + 1)).next).next).next ≡ next + 13
     last x y next = prefix_difference_next x y (wire (signed_size_of 8 next (next + 1) (flags_of next (next + 1) x y (next + 1 + 1)).next).answer) 8 4 _
-      ∙ omega (arith, signed_size_next 8 next (next + 1) (flags_of next (next + 1) x y (next + 1 + 1)).next, flags_next next (next + 1) x y (next + 1 + 1))
+        ∙ omega (arith, signed_size_next 8 next (next + 1) (flags_of next (next + 1) x y (next + 1 + 1)).next, flags_next next (next + 1) x y (next + 1 + 1))
 
 pub compare_next : (x y : Bits) (next : ℕ) → (compare_of 32 x y next).next ≡ next + 14
 unfolding compare_of greater_of fresh put pure ◌>>=◌

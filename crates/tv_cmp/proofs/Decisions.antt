@@ -1,5 +1,5 @@
 -- What the constraints of the comparison say, as numbers, and that the values have it.
-use Rattle.std.proofs.Common.{◌≡◌, ◌≢◌, ◌⊎◌, ℕ, ◌+◌, ◌-◌, ◌*◌, ◌/◌, ◌%◌, ◌^◌, ◌<◌, ◌≤◌, inl, inr, refl, sym, subst, ◌∙◌, ap, ap₂, arith, mod-lt, mul-zero, zero-mul}
+use Rattle.std.proofs.Common.{◌≡◌, ◌≢◌, ◌⊎◌, ℕ, ◌+◌, ◌-◌, ◌*◌, ◌%◌, ◌^◌, ◌<◌, ◌≤◌, inl, inr, sym, subst, ◌∙◌, ap, ap₂, arith, mod-lt, zero-mul}
 use Rattle.std.proofs.lemmas.Bool.{cases_eq, cases_lt}
 use Rattle.tv_bits.proofs.OrderLaws.{IsPrefixDifference-above, IsPrefixDifference-first, IsPrefixDifference-turned, IsPrefixDifference-back, IsPrefixDifference-same, IsPrefixDifference-none, first_difference-some, first_difference-below, first_difference-none}
 use Rattle.tv_bits.specs.Order.{IsPrefixDifference, first_difference}
@@ -68,11 +68,13 @@ module _ (x y e a d t : ℕ) (h : x < 2 ^ 32) (k : y < 2 ^ 32) (small : e < P) (
     | inl same ↦
         let flags = same_flags same in
         (flags.0 ∙ sym (equal_flag-same x y same), flags.1 ∙ sym (above_flag-not x y (omega arith)))
-    | inr other ↦
-        (equal_none other ∙ sym (equal_flag-apart x y other), elim (cases_bit a holds.bit) [
-          | inl zero ↦ zero ∙ sym (above_flag-not x y (let below = above_zero other zero in omega arith))
-          | inr one ↦ one ∙ sym (above_flag-above x y (above_one other one))
-        ])
+    | inr other ↦ (
+      equal_none other ∙ sym (equal_flag-apart x y other),
+      elim (cases_bit a holds.bit) [
+        | inl zero ↦ zero ∙ sym (above_flag-not x y (let below = above_zero other zero in omega arith))
+        | inr one ↦ one ∙ sym (above_flag-above x y (above_one other one))
+      ],
+    )
   ]
 
 -- ---- the values
@@ -83,14 +85,16 @@ module _ (x y : ℕ) (h : x < 2 ^ 32) (k : y < 2 ^ 32) where
       let down = first_difference-none 8 4 y x (omega arith) in
       let e = equal_flag-same x y same in
       let a = above_flag-not x y (omega arith) in
-      let none : signed_size 32 x y ≡ 0 = ap₂ (λ m n. (m + (P - n)) % P) up down in
-      (omega (arith, up, down), record {
-        bit = omega (arith, a);
-        apart = ap₂ (λ m n. m * n % P) e (let zero : (x + (P - y)) % P ≡ 0 = omega arith in zero);
-        one = ap₂ (λ m n. m * n % P) a e;
-        signed = ap₂ (λ m n. sign_in m n * (size 32 x y - 1 + 1) % P) e a ∙ ap (λ n. n % P) (zero-mul (size 32 x y - 1 + 1)) ∙ sym none;
-        prefix = subst (λ n. IsPrefixDifference 8 4 x y n) (sym none) (subst (λ n. IsPrefixDifference 8 4 x n 0) same (IsPrefixDifference-none 8 4 x (omega arith) (omega arith)));
-      })
+      let none : signed_size 32 x y ≡ 0 = ap₂ (λ m n. (m + (P - n)) % P) up down in (
+        omega (arith, up, down),
+        record {
+          bit = omega (arith, a);
+          apart = ap₂ (λ m n. m * n % P) e (let zero : (x + (P - y)) % P ≡ 0 = omega arith in zero);
+          one = ap₂ (λ m n. m * n % P) a e;
+          signed = ap₂ (λ m n. sign_in m n * (size 32 x y - 1 + 1) % P) e a ∙ ap (λ n. n % P) (zero-mul (size 32 x y - 1 + 1)) ∙ sym none;
+          prefix = subst (λ n. IsPrefixDifference 8 4 x y n) (sym none) (subst (λ n. IsPrefixDifference 8 4 x n 0) same (IsPrefixDifference-none 8 4 x (omega arith) (omega arith)));
+        },
+      )
 
   settled_above : y < x → (size 32 x y - 1 < 2 ^ 8) × Holds x y (equal_flag x y) (above_flag x y) (size 32 x y - 1 + 1) (signed_size 32 x y)
   settled_above above =
@@ -100,14 +104,16 @@ module _ (x y : ℕ) (h : x < 2 ^ 32) (k : y < 2 ^ 32) where
       let e = equal_flag-apart x y (λ same. omega arith) in
       let a = above_flag-above x y above in
       let is : signed_size 32 x y ≡ first_difference 8 4 x y = omega (arith, down, below) in
-      let all : size 32 x y - 1 + 1 ≡ first_difference 8 4 x y = omega (arith, down, some) in
-      (omega (arith, down, below), record {
-        bit = omega (arith, a);
-        apart = ap (λ m. m * ((x + (P - y)) % P) % P) e ∙ ap (λ n. n % P) (zero-mul ((x + (P - y)) % P));
-        one = ap₂ (λ m n. m * n % P) a e;
-        signed = ap₂ (λ m n. sign_in m n * (size 32 x y - 1 + 1) % P) e a ∙ ap (λ n. 1 * n % P) all ∙ omega (arith, below) ∙ sym is;
-        prefix = subst (λ n. IsPrefixDifference 8 4 x y n) (sym is) (IsPrefixDifference-first 32 8 4 x y (omega arith) (omega arith) h above);
-      })
+      let all : size 32 x y - 1 + 1 ≡ first_difference 8 4 x y = omega (arith, down, some) in (
+        omega (arith, down, below),
+        record {
+          bit = omega (arith, a);
+          apart = ap (λ m. m * ((x + (P - y)) % P) % P) e ∙ ap (λ n. n % P) (zero-mul ((x + (P - y)) % P));
+          one = ap₂ (λ m n. m * n % P) a e;
+          signed = ap₂ (λ m n. sign_in m n * (size 32 x y - 1 + 1) % P) e a ∙ ap (λ n. 1 * n % P) all ∙ omega (arith, below) ∙ sym is;
+          prefix = subst (λ n. IsPrefixDifference 8 4 x y n) (sym is) (IsPrefixDifference-first 32 8 4 x y (omega arith) (omega arith) h above);
+        },
+      )
 
   settled_below : x < y → (size 32 x y - 1 < 2 ^ 8) × Holds x y (equal_flag x y) (above_flag x y) (size 32 x y - 1 + 1) (signed_size 32 x y)
   settled_below under =
@@ -117,15 +123,17 @@ module _ (x y : ℕ) (h : x < 2 ^ 32) (k : y < 2 ^ 32) where
       let e = equal_flag-apart x y (λ same. omega arith) in
       let a = above_flag-not x y (omega arith) in
       let is : signed_size 32 x y ≡ P - first_difference 8 4 y x = omega (arith, up, below, some) in
-      let all : size 32 x y - 1 + 1 ≡ first_difference 8 4 y x = omega (arith, up, some) in
-      (omega (arith, up, below), record {
-        bit = omega (arith, a);
-        apart = ap (λ m. m * ((x + (P - y)) % P) % P) e ∙ ap (λ n. n % P) (zero-mul ((x + (P - y)) % P));
-        one = ap₂ (λ m n. m * n % P) a e;
-        signed = ap₂ (λ m n. sign_in m n * (size 32 x y - 1 + 1) % P) e a ∙ ap (λ n. (P - 1) * n % P) all ∙ omega (arith, below, some) ∙ sym is;
-        prefix = subst (λ n. IsPrefixDifference 8 4 x y n) (sym is)
-        (IsPrefixDifference-back 8 4 x y (first_difference 8 4 y x) (omega arith) (omega arith) some (omega (arith, below)) (IsPrefixDifference-first 32 8 4 y x (omega arith) (omega arith) k under));
-      })
+      let all : size 32 x y - 1 + 1 ≡ first_difference 8 4 y x = omega (arith, up, some) in (
+        omega (arith, up, below),
+        record {
+          bit = omega (arith, a);
+          apart = ap (λ m. m * ((x + (P - y)) % P) % P) e ∙ ap (λ n. n % P) (zero-mul ((x + (P - y)) % P));
+          one = ap₂ (λ m n. m * n % P) a e;
+          signed = ap₂ (λ m n. sign_in m n * (size 32 x y - 1 + 1) % P) e a ∙ ap (λ n. (P - 1) * n % P) all ∙ omega (arith, below, some) ∙ sym is;
+          prefix = subst (λ n. IsPrefixDifference 8 4 x y n) (sym is)
+              (IsPrefixDifference-back 8 4 x y (first_difference 8 4 y x) (omega arith) (omega arith) some (omega (arith, below)) (IsPrefixDifference-first 32 8 4 y x (omega arith) (omega arith) k under));
+        },
+      )
 
   pub settled : (size 32 x y - 1 < 2 ^ 8) × Holds x y (equal_flag x y) (above_flag x y) (size 32 x y - 1 + 1) (signed_size 32 x y)
   settled = elim (cases_lt y x) [

@@ -8,15 +8,7 @@ use std::test::Fail;
 use tv_bits::{Bits, fill_bits};
 use tv_core::{CountSink, F, ListSink, ListValues, Put, TestSink, Values, Wire, give_values};
 
-const WORDS: [u32; 7] = [
-    0,
-    1,
-    2,
-    0x7fff_ffff,
-    0x8000_0000,
-    0xffff_fffe,
-    0xffff_ffff,
-];
+const WORDS: [u32; 7] = [0, 1, 2, 0x7fff_ffff, 0x8000_0000, 0xffff_fffe, 0xffff_ffff];
 
 const X: Bits = Bits {
     first: Wire(1),
