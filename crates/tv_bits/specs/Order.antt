@@ -14,7 +14,8 @@ pub record IsPrefixDifference (c t x y d : ℕ) : Type 0 where
   pub within : chunk < t
   pub is : prefix_difference x y (c * chunk) ≡ d
 
--- by how much x is above y in the shortest prefix in which they differ, of t chunks; 0 where none differs
+-- by how much x is above y in the shortest prefix in which they differ, of t chunks; 0 where y is above, and
+-- where none differs
 unfoldable pub first_difference : ℕ → ℕ → ℕ → ℕ → ℕ
 first_difference c zero x y = 0
 first_difference c (suc t) x y = if x / 2 ^ (c * t) == y / 2 ^ (c * t) then first_difference c t x y else x / 2 ^ (c * t) - y / 2 ^ (c * t)
