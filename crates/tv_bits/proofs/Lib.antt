@@ -3,6 +3,7 @@ pub mod NewBitsLaws
 pub mod OneHotLaws
 pub mod PairLaws
 pub mod OrderLaws
+pub mod OrderRows
 pub mod PrefixLaws
 pub mod ProductChain
 pub mod SelectLaws

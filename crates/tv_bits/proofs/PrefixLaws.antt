@@ -1,24 +1,24 @@
 -- The laws of a product that is 0, and of a number that is a difference of prefixes.
-use Rattle.std.proofs.Common.{◌≡◌, ◌⊎◌, ℕ, zero, suc, ◌+◌, ◌-◌, ◌*◌, ◌/◌, ◌%◌, ◌^◌, ◌<◌, ◌≤◌, List, [], inl, inr, refl, sym, subst, ◌∙◌, ap, ap₂, arith, mod-lt, mul-zero, zero-mul, mul-one, one-mul, mod-eq_of_lt}
+use Rattle.std.proofs.Common.{◌≡◌, ℕ, zero, suc, ◌+◌, ◌-◌, ◌*◌, ◌/◌, ◌%◌, ◌^◌, ◌<◌, ◌≤◌, List, [], inl, inr, refl, sym, subst, ◌∙◌, ap, ap₂, arith, mod-lt, mul-zero, zero-mul, mul-one, one-mul, mod-eq_of_lt}
 use Rattle.std.specs.Prelude.{slice_index}
 use Rattle.std.proofs.Math.Nat.{mul-le-mul_left}
 use Rattle.std.proofs.lemmas.Bool.{cases_eq}
 use Rattle.std.proofs.lemmas.Nat.{mul-mod_first}
 use Rattle.tv_core.proofs.BelowLaws.{has_each}
-use Rattle.tv_core.proofs.CombinationLaws.{value-less, value-below, value-wire, wire-below}
+use Rattle.tv_core.proofs.CombinationLaws.{value-less, value-below, value-wire}
 use Rattle.tv_core.proofs.DifferenceLaws.{same_of_minus}
 use Rattle.tv_core.proofs.LoopLaws.{turns-next}
 use Rattle.tv_core.proofs.Meeting.{parts, whole}
 use Rattle.tv_core.proofs.PrimeLaws.{p_zero_product_below}
 use Rattle.tv_core.specs.Circuits.{fresh, put, pure, turns, ◌>>=◌}
-use Rattle.tv_core.specs.Combinations.{wire, less}
+use Rattle.tv_core.specs.Combinations.{less}
 use Rattle.tv_core.specs.Constraints.{Combination, value}
 use Rattle.tv_core.specs.Laws.{Assigns, Meets, HasFrom}
 use Rattle.tv_core.specs.declared.field.TheConstants.{P}
-use Rattle.tv_bits.proofs.SpelledNumbers.{Spells-small, Spells-high, value-bits_below}
-use Rattle.tv_bits.specs.Bits.{Spells, bits_combination}
-use Rattle.tv_bits.specs.Order.{prefix_difference, IsPrefixDifference}
-use Rattle.tv_bits.specs.Prefixes.{times_of, next_product, zero_product_of, product_below, products_values, prefix, prefix_less, prefix_less_in, prefix_difference_of, prefix_difference_values, PrefixDifferenceIsSound, PrefixDifferenceIsComplete}
+use Rattle.tv_bits.proofs.SpelledNumbers.{Spells-high, value-bits_below}
+use Rattle.tv_bits.specs.Bits.{Spells}
+use Rattle.tv_bits.specs.Order.{prefix_difference}
+use Rattle.tv_bits.specs.Prefixes.{times_of, next_product, zero_product_of, product_below, products_values, prefix, prefix_less, prefix_less_in, prefix_difference_of, PrefixDifferenceIsSound, PrefixDifferenceIsComplete}
 use Rattle.tv_bits.specs.declared.bit_wires.Bits.{Bits}
 
 -- ---- a product that is 0

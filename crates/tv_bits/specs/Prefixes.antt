@@ -1,5 +1,5 @@
 -- A product that is 0, and by it a number that is the difference of two prefixes.
-use Rattle.std.specs.Prelude.{◌≡◌, ℕ, zero, suc, ◌+◌, ◌-◌, ◌*◌, ◌%◌, ◌<◌, ◌≤◌, List, []}
+use Rattle.std.specs.Prelude.{ℕ, zero, suc, ◌+◌, ◌-◌, ◌*◌, ◌%◌, ◌≤◌, List, []}
 use Rattle.tv_bits.specs.Bits.{Spells, bits_combination}
 use Rattle.tv_bits.specs.Order.{prefix_difference, IsPrefixDifference}
 use Rattle.tv_bits.specs.declared.bit_wires.Bits.{Bits}

@@ -1,5 +1,5 @@
 -- The laws of the comparison.
-use Rattle.std.proofs.Common.{◌≡◌, ℕ, ◌+◌, ◌-◌, ◌*◌, ◌/◌, ◌%◌, ◌^◌, ◌<◌, ◌≤◌, List, [], ◌∷◌, ◌++◌, length, refl, sym, subst, ◌∙◌, ap, ap₂, arith}
+use Rattle.std.proofs.Common.{◌≡◌, ℕ, ◌+◌, ◌-◌, ◌*◌, ◌%◌, ◌^◌, ◌<◌, ◌≤◌, List, refl, sym, subst, ◌∙◌, ap, ap₂, arith}
 use Rattle.std.specs.Int.{bit_at}
 use Rattle.std.specs.Prelude.{slice_index}
 use Rattle.tv_bits.proofs.BitLaws.{bit_sound, bit_complete}
@@ -11,7 +11,7 @@ use Rattle.tv_bits.specs.Bits.{Spells, spelled, bits_combination, bits_values, n
 use Rattle.tv_bits.specs.Order.{IsPrefixDifference}
 use Rattle.tv_bits.specs.Prefixes.{prefix_difference_of, prefix_difference_values}
 use Rattle.tv_bits.specs.declared.bit_wires.Bits.{Bits}
-use Rattle.tv_cmp.proofs.Decisions.{sign_in, Holds, decided, settled}
+use Rattle.tv_cmp.proofs.Decisions.{sign_in, decided, settled}
 use Rattle.tv_cmp.proofs.Flags.{greater_is, greater_flag-bit}
 use Rattle.tv_cmp.specs.Compare.{above_flag, greater_flag, sign, but_for_signs, flags_of, signed_size_of, greater_of, compare_of, size, signed_size, CompareIsSound, CompareIsComplete}
 use Rattle.tv_core.proofs.BelowLaws.{length-each_below}

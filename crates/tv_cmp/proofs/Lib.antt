@@ -1,3 +1,4 @@
 pub mod CompareLaws
+pub mod CompareRows
 pub mod Decisions
 pub mod Flags

@@ -1,5 +1,4 @@
-use Rattle.std.proofs.Common.{◌≡◌, ℕ, suc, ◌+◌, ◌-◌, ◌*◌, ◌%◌, ◌<◌, sym, ◌∙◌, ap, ap₂, arith, mul-zero, one-mul, mod-eq_of_lt}
-use Rattle.std.proofs.lemmas.Nat.{mul-mod_first}
+use Rattle.std.proofs.Common.{◌≡◌, ℕ, ◌+◌, ◌-◌, ◌*◌, ◌%◌, ◌∙◌, ap, arith}
 use Rattle.tv_core.proofs.GivingChain.{gives_refused}
 use Rattle.tv_core.proofs.LoopLaws.{gives_no_turn, gives_turn, gives_turn_refused}
 use Rattle.tv_core.specs.declared.field.TheConstants.{P}

@@ -1,4 +1,4 @@
-use Rattle.std.proofs.Common.{◌≡◌, ℕ, ◌+◌, ◌-◌, ◌*◌, ◌<◌, ◌≤◌, ap, arith, mul-zero}
+use Rattle.std.proofs.Common.{◌≡◌, ℕ, ◌*◌, ap, arith, mul-zero}
 use Rattle.tv_core.proofs.Chain.{refused}
 use Rattle.tv_core.specs.Combinations.{top}
 use Rattle.tv_core.specs.Constraints.{Combination}

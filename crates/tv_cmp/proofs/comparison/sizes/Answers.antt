@@ -1,6 +1,5 @@
-use Rattle.std.proofs.Common.{◌≡◌, arith}
+use Rattle.std.proofs.Common.{arith}
 use Rattle.tv_bits.proofs.OrderLaws.{first_difference-le}
-use Rattle.tv_bits.specs.Order.{first_difference}
 use Rattle.tv_cmp.proofs.comparison.sizes.Goals as goal
 
 pub overflow_add-above : goal.overflow_add-above
