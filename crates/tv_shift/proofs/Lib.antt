@@ -1,0 +1,3 @@
+pub mod LevelValues
+pub mod MarkTerms
+pub mod ShiftNumbers
