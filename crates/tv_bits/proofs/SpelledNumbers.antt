@@ -15,7 +15,7 @@ use Rattle.tv_bits.specs.Bit.{IsBit}
 use Rattle.tv_bits.specs.Bits.{Spells, spelled, bits_combination, bits_values}
 
 -- the sum of powers of 2 that a function picks by 0 or 1
-abbrev picked : ℕ → (ℕ → ℕ) → ℕ
+abbrev pub picked : ℕ → (ℕ → ℕ) → ℕ
 picked n b = sum_below n (λ i. 2 ^ i * b i)
 
 picked-suc : (n : ℕ) (b : ℕ → ℕ) → picked (suc n) b ≡ b n * 2 ^ n + picked n b
@@ -41,7 +41,7 @@ bit_at-picked (suc n) i b bits h =
     ap (λ v. bit_at v i) (picked-suc n b) ∙ elim (cases_eq i n) [ inl same ↦ top same | inr apart ↦ lower apart ]
 
 -- the bits of a number pick what is left of it below the power
-picked-bit_at : (n v : ℕ) → picked n (bit_at v) ≡ v % 2 ^ n
+pub picked-bit_at : (n v : ℕ) → picked n (bit_at v) ≡ v % 2 ^ n
 picked-bit_at zero v = omega (arith, sum_below-zero (λ i. 2 ^ i * bit_at v i))
 picked-bit_at (suc n) v =
     let same : 1 + n ≡ suc n = omega arith in

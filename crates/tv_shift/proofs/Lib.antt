@@ -1,3 +1,6 @@
+pub mod HalfLaws
 pub mod LevelValues
 pub mod MarkTerms
+pub mod ProductLaws
 pub mod ShiftNumbers
+pub mod ThermometerLaws
