@@ -1,6 +1,7 @@
 pub mod HalfLaws
 pub mod LevelValues
 pub mod MarkTerms
+pub mod MaskLaws
 pub mod ProductLaws
 pub mod ShiftNumbers
 pub mod ThermometerLaws
