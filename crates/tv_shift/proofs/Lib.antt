@@ -3,5 +3,6 @@ pub mod LevelValues
 pub mod MarkTerms
 pub mod MaskLaws
 pub mod ProductLaws
+pub mod ShiftLaws
 pub mod ShiftNumbers
 pub mod ThermometerLaws

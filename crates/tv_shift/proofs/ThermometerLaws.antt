@@ -151,7 +151,7 @@ module _ (z : List ℕ) (assigns : Assigns z) (bits : ℕ) where
         let all = more_marks next k (v % 2 ^ k) (s.bits k (omega arith)) (mod-lt v (pow_pos k)) marks made in
         subst (λ m. Marks z bits next (suc k) m) number all
 
-    length-values : (k : ℕ) → length (thermometer_values k v) ≡ products_below k
+    pub length-values : (k : ℕ) → length (thermometer_values k v) ≡ products_below k
     length-values zero = ap length (values-none v)
     length-values (suc k) =
         let same : k + 1 ≡ suc k = omega arith in

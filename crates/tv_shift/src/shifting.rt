@@ -141,13 +141,11 @@ fn shifted_right(x: u32, y: u32) -> u32
 }
 
 /// In an assignment that meets what `shift` put for bits that spell words, the wires hold the word shifted by the other.
-#[tactic(auto)]
 pub fn shift_is_sound()
     ensures { ShiftIsSound }
 {}
 
 /// Where bits spell words and an assignment has the values that `fill_shift` gives for them, it meets what `shift` put.
-#[tactic(auto)]
 pub fn shift_is_complete()
     ensures { ShiftIsComplete }
 {}
