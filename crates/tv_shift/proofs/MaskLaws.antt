@@ -80,8 +80,8 @@ two_small : (a b c d : ℕ) → IsBit a → IsBit b → IsBit c → IsBit d → 
 two_small a b c d p q r s = omega (arith, product_bit a b p q, product_bit c d r s)
 
 module _ (z : List ℕ) (assigns : Assigns z) (mask digit : ℕ → Combination) (m d : ℕ → ℕ)
-  (mask_is : (i : ℕ) → i < 16 → value (mask i) z ≡ m i) (mask_bit : (i : ℕ) → IsBit (m i))
-  (digit_is : (i : ℕ) → i < 16 → value (digit i) z ≡ d i) (digit_bit : (i : ℕ) → IsBit (d i)) where
+    (mask_is : (i : ℕ) → i < 16 → value (mask i) z ≡ m i) (mask_bit : (i : ℕ) → IsBit (m i))
+    (digit_is : (i : ℕ) → i < 16 → value (digit i) z ≡ d i) (digit_bit : (i : ℕ) → IsBit (d i)) where
   ands : (i : ℕ) → i < 8 → two_ands (value (mask i) z) (value (digit i) z) (value (mask (8 + i)) z) (value (digit (8 + i)) z) 16 ≡ m i * d i + 2 ^ 8 * (m (8 + i) * d (8 + i))
   ands i h =
       ap₂ (λ a b. two_ands a b (value (mask (8 + i)) z) (value (digit (8 + i)) z) 16) (mask_is i (omega arith)) (digit_is i (omega arith))
@@ -97,6 +97,7 @@ module _ (z : List ℕ) (assigns : Assigns z) (mask digit : ℕ → Combination)
     where
       bit_of_mask : (i : ℕ) → i < 16 → IsBit (value (mask i) z)
       bit_of_mask i h = omega (arith, mask_is i h, mask_bit i)
+
       bit_of_digit : (i : ℕ) → i < 16 → IsBit (value (digit i) z)
       bit_of_digit i h = omega (arith, digit_is i h, digit_bit i)
 
@@ -108,6 +109,7 @@ module _ (z : List ℕ) (assigns : Assigns z) (mask digit : ℕ → Combination)
     where
       bit_of_mask : (i : ℕ) → i < 16 → IsBit (value (mask i) z)
       bit_of_mask i h = omega (arith, mask_is i h, mask_bit i)
+
       bit_of_digit : (i : ℕ) → i < 16 → IsBit (value (digit i) z)
       bit_of_digit i h = omega (arith, digit_is i h, digit_bit i)
 
@@ -135,7 +137,7 @@ half_of b v Low = chosen_half 16 b v
 half_of b v High = other_half 16 b v
 
 module _ (z : List ℕ) (assigns : Assigns z) (p : Places) (s b v : ℕ) (small : s < 16) (bit : IsBit b)
-  (marks : Marks z p.distance p.products 4 s) (word : Spells z p.word 32 v) (chosen : Spells z p.chosen 16 (chosen_half 16 b v)) where
+    (marks : Marks z p.distance p.products 4 s) (word : Spells z p.word 32 v) (chosen : Spells z p.chosen 16 (chosen_half 16 b v)) where
   -- the halves have 16 bits
   pub chosen-below : chosen_half 16 b v < 2 ^ 16
   chosen-below = Spells-below chosen

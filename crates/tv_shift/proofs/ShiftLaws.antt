@@ -174,8 +174,7 @@ module _ (z : List ℕ) (assigns : Assigns z) (x y v d : ℕ) (word : Spells z x
   half_sound at meets =
       let left = select_of (y + 4) (scaled (2 ^ 16 % P) (bits_combination x 16)) (bits_combination x 32) at in
       let first = Meets-split z left.list _ meets in
-      let second = Meets-split z (select_of (y + 4) (bits_combination (x + 16) 16) (bits_combination x 32) left.next).list [] first.1 in
-      (
+      let second = Meets-split z (select_of (y + 4) (bits_combination (x + 16) 16) (bits_combination x 32) left.next).list [] first.1 in (
         select_sound z at (y + 4) (scaled (2 ^ 16 % P) (bits_combination x 16)) (bits_combination x 32) assigns b-wire first.0 ∙ left_chosen,
         select_sound z left.next (y + 4) (bits_combination (x + 16) 16) (bits_combination x 32) assigns b-wire second.0 ∙ right_chosen,
       )
@@ -194,7 +193,7 @@ module _ (z : List ℕ) (assigns : Assigns z) (x y v d : ℕ) (word : Spells z x
 
   -- ---- by the rest of the distance
   module _ (p : Parts) (half : Shift) (known : AreParts z p (d % 2 ^ 4) (bit_at d 4) v)
-    (left_is : slice_index z half.left ≡ half_left 16 (bit_at d 4) v) (right_is : slice_index z half.right ≡ half_right 16 (bit_at d 4) v) where
+      (left_is : slice_index z half.left ≡ half_left 16 (bit_at d 4) v) (right_is : slice_index z half.right ≡ half_right 16 (bit_at d 4) v) where
     power : Combination
     power = power_of (mark p.places.distance p.places.products 4) 15
 
@@ -234,8 +233,7 @@ module _ (z : List ℕ) (assigns : Assigns z) (x y v d : ℕ) (word : Spells z x
         let right = quotient_of power (less (wire half.right) (bits_combination p.low 8)) left.next in
         let first = Meets-split z left.list _ meets in
         let second = Meets-split z right.list [] first.1 in
-        let divided = ap (λ n. n * slice_index z right.answer % P) (sym power_value) ∙ quotient_sound z assigns power (less (wire half.right) (bits_combination p.low 8)) left.next second.0 ∙ right_value in
-        (
+        let divided = ap (λ n. n * slice_index z right.answer % P) (sym power_value) ∙ quotient_sound z assigns power (less (wire half.right) (bits_combination p.low 8)) left.next second.0 ∙ right_value in (
           product_sound z assigns power (less (wire half.left) (scaled (2 ^ 16 % P) (bits_combination p.high 8))) at first.0 ∙ left_product,
           right_of (d % 2 ^ 4) s-small (half_right 16 (bit_at d 4) v) (value (bits_combination p.low 8) z) (half_right-below (bit_at d 4) v b-bit (Spells-below word)) low_is (slice_index z right.answer) (wire-below assigns right.answer) divided,
         )
@@ -247,7 +245,7 @@ module _ (z : List ℕ) (assigns : Assigns z) (x y v d : ℕ) (word : Spells z x
         let right = quotient_of power (less (wire half.right) (bits_combination p.low 8)) left.next in
         Meets-join z left.list _ (product_complete z assigns power (less (wire half.left) (scaled (2 ^ 16 % P) (bits_combination p.high 8))) at (l ∙ sym left_product))
         (Meets-join z right.list [] (quotient_complete z assigns power (less (wire half.right) (bits_combination p.low 8)) (at + 1)
-          (ap (λ n. n * slice_index z (at + 1) % P) power_value ∙ of_right (d % 2 ^ 4) s-small (half_right 16 (bit_at d 4) v) (value (bits_combination p.low 8) z) (half_right-below (bit_at d 4) v b-bit (Spells-below word)) low_is (slice_index z (at + 1)) r ∙ sym right_value)) tt)
+        (ap (λ n. n * slice_index z (at + 1) % P) power_value ∙ of_right (d % 2 ^ 4) s-small (half_right 16 (bit_at d 4) v) (value (bits_combination p.low 8) z) (half_right-below (bit_at d 4) v b-bit (Spells-below word)) low_is (slice_index z (at + 1)) r ∙ sym right_value)) tt)
 
   rest_next : (p : Parts) (half : Shift) (at : ℕ) → (by_rest_of 4 p half at).next ≡ at + 1 + 1
   unfolding by_rest_of product_of quotient_of fresh put ◌>>=◌ pure
@@ -279,6 +277,7 @@ module _ (z : List ℕ) (assigns : Assigns z) (x y v d : ℕ) (word : Spells z x
     where
       one_times : (n : ℕ) → n < P → 1 * n % P ≡ n
       one_times n h = omega arith
+
       zero_times : (n : ℕ) → 0 * n % P ≡ 0
       zero_times n = omega arith
 
@@ -299,11 +298,12 @@ module _ (z : List ℕ) (assigns : Assigns z) (x y v d : ℕ) (word : Spells z x
     where
       one_times : (n : ℕ) → n < P → 1 * n % P ≡ n
       one_times n h = omega arith
+
       zero_times : (n : ℕ) → 0 * n % P ≡ 0
       zero_times n = omega arith
 
   module _ (none : ℕ) (near : Shift) (none_is : slice_index z none ≡ zero_flag (d / 2 ^ 5))
-    (left_is : slice_index z near.left ≡ shifted_left 32 (half_left 16 (bit_at d 4) v) (d % 2 ^ 4)) (right_is : slice_index z near.right ≡ shifted_right (half_right 16 (bit_at d 4) v) (d % 2 ^ 4)) where
+      (left_is : slice_index z near.left ≡ shifted_left 32 (half_left 16 (bit_at d 4) v) (d % 2 ^ 4)) (right_is : slice_index z near.right ≡ shifted_right (half_right 16 (bit_at d 4) v) (d % 2 ^ 4)) where
     gate_left : value (wire none) z * value (wire near.left) z % P ≡ shifted_left 32 v d
     gate_left = ap₂ (λ a b. a * b % P) (value-wire assigns none ∙ none_is) (value-wire assigns near.left ∙ left_is) ∙ left_gated
 

@@ -56,11 +56,11 @@ module _ (b v : ℕ) (bit : IsBit b) (word : v < 2 ^ 32) where
   left_whole s small = elim (bit_cases b bit) [
     | inl none ↦ rw none (let same : 16 * 0 + s ≡ s = omega arith in rw same refl)
     | inr one ↦ rw one (
-      let low : 2 ^ 16 * (v % 2 ^ 16) ≡ v * 2 ^ 16 % 2 ^ 32 = sym (left_low 32 16 v (omega arith)) in
-      let power : 2 ^ (16 * 1 + s) ≡ 2 ^ 16 * 2 ^ s = pow-add 2 16 s in
-      let moved : v * 2 ^ 16 * 2 ^ s ≡ v * (2 ^ 16 * 2 ^ s) = omega arith in
-      ap (λ k. k * 2 ^ s % 2 ^ 32) low ∙ mul-mod_first (v * 2 ^ 16) (2 ^ s) (2 ^ 32) ∙ ap (λ k. k % 2 ^ 32) (moved ∙ ap (λ k. v * k) (sym power))
-    )
+        let low : 2 ^ 16 * (v % 2 ^ 16) ≡ v * 2 ^ 16 % 2 ^ 32 = sym (left_low 32 16 v (omega arith)) in
+        let power : 2 ^ (16 * 1 + s) ≡ 2 ^ 16 * 2 ^ s = pow-add 2 16 s in
+        let moved : v * 2 ^ 16 * 2 ^ s ≡ v * (2 ^ 16 * 2 ^ s) = omega arith in
+        ap (λ k. k * 2 ^ s % 2 ^ 32) low ∙ mul-mod_first (v * 2 ^ 16) (2 ^ s) (2 ^ 32) ∙ ap (λ k. k % 2 ^ 32) (moved ∙ ap (λ k. v * k) (sym power))
+        )
   ]
 
   pub right_whole : (s : ℕ) → half_right 16 b v / 2 ^ s ≡ v / 2 ^ (16 * b + s)

@@ -105,7 +105,7 @@ module _ (z : List ℕ) (assigns : Assigns z) (bits : ℕ) where
 
   -- from the marks of k bits to those of one more
   module _ (products k s : ℕ) (bit : IsBit (slice_index z (bits + k))) (small : s < 2 ^ k) (marks : Marks z bits products k s)
-    (made : (j : ℕ) → j < 2 ^ k - 1 → slice_index z (products + (products_below k + j)) ≡ slice_index z (bits + k) * value (mark bits products k j) z % P) where
+      (made : (j : ℕ) → j < 2 ^ k - 1 → slice_index z (products + (products_below k + j)) ≡ slice_index z (bits + k) * value (mark bits products k j) z % P) where
     product-bit : (j : ℕ) → slice_index z (bits + k) * below j s % P ≡ slice_index z (bits + k) * below j s
     product-bit j = elim (bit_cases (below j s) (below-bit j s)) [ inl a ↦ rw a (omega arith) | inr a ↦ rw a (omega (arith, bit)) ]
 

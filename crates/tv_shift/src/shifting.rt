@@ -82,7 +82,10 @@ pub fn fill_shift<V: Values>(v: &mut V, x: u32, y: u32) -> Put<()>
     fill_parts(v, x, y)?;
     give_values(v, &ends_values(x, y))?;
     fill_zero(v, F::of(u64::from(y / 32)))?;
-    give_values(v, &[number(shifted_left(x, y)), number(shifted_right(x, y))])
+    give_values(
+        v,
+        &[number(shifted_left(x, y)), number(shifted_right(x, y))],
+    )
 }
 
 fn fill_parts<V: Values>(v: &mut V, x: u32, y: u32) -> Put<()>
@@ -99,13 +102,21 @@ fn fill_parts<V: Values>(v: &mut V, x: u32, y: u32) -> Put<()>
 fn chosen_half(x: u32, y: u32) -> u32
     ensures { result ≡ chosen_half 16 (bit_at y 4) x }
 {
-    if y / 16 % 2 == 1 { x / 65_536 } else { x % 65_536 }
+    if y / 16 % 2 == 1 {
+        x / 65_536
+    } else {
+        x % 65_536
+    }
 }
 
 fn other_half(x: u32, y: u32) -> u32
     ensures { result ≡ other_half 16 (bit_at y 4) x }
 {
-    if y / 16 % 2 == 1 { x % 65_536 } else { x / 65_536 }
+    if y / 16 % 2 == 1 {
+        x % 65_536
+    } else {
+        x / 65_536
+    }
 }
 
 // The word shifted by the half of a word or by nothing, and then by the distance's low bits too.

@@ -27,7 +27,20 @@ fn assignment(alloc: Global, x: u32, y: u32) -> Put<ListValues> {
 
 #[test]
 fn shifts_hold_over_their_own_values_alone(rt: HostRuntime) -> Result<(), Fail> {
-    let words = [0, 1, 2, 5, 16, 31, 32, 0x7fff_ffff, 0x8000_0000, 0x8000_0001, 0xffff_fffe, 0xffff_ffff];
+    let words = [
+        0,
+        1,
+        2,
+        5,
+        16,
+        31,
+        32,
+        0x7fff_ffff,
+        0x8000_0000,
+        0x8000_0001,
+        0xffff_fffe,
+        0xffff_ffff,
+    ];
     for x in words {
         for y in words {
             let values = assignment(rt.alloc(), x, y)?;
@@ -48,7 +61,10 @@ fn shifts_hold_over_their_own_values_alone(rt: HostRuntime) -> Result<(), Fail> 
             assert_eq!(rt; list.len(), 51, "{x} {y}");
             for i in 0..list.len() {
                 let (a, b, c) = list.row(i);
-                assert!(rt; a.value_in(z) * b.value_in(z) == c.value_in(z), "{x} {y}, row {i}");
+                assert!(rt;
+                    a.value_in(z) * b.value_in(z) == c.value_in(z),
+                    "{x} {y}, row {i}"
+                );
             }
 
             for place in [left, right] {

@@ -160,5 +160,9 @@ fn level_value(y: u32, k: u32, j: u32) -> u64
     ensures value { result ≡ level_value y k j }
     ensures bit { result < 2 }
 {
-    if j < y % power(k) { u64::from((y >> k) % 2) } else { 0 }
+    if j < y % power(k) {
+        u64::from((y >> k) % 2)
+    } else {
+        0
+    }
 }
