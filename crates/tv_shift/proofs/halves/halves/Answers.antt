@@ -1,0 +1,41 @@
+use Rattle.std.proofs.Common.{◌≡◌, ℕ, ◌<◌, arith}
+use Rattle.tv_core.proofs.Chain.{chain, puts_no_turn, puts_turn, turn_refused, refused}
+use Rattle.tv_core.proofs.LoopLaws.{puts_here_as}
+use Rattle.tv_core.specs.Circuits.{Circuit}
+use Rattle.tv_shift.specs.Halves.{half_bit_of, halves_of}
+use Rattle.tv_shift.proofs.halves.halves.Goals as goal
+
+pub loop-i-init : goal.loop-i-init
+loop-i-init g c = record {
+  puts = puts_no_turn g.S.Sink.meaning _ (λ i _. half_bit_of c.args.n c.args.b c.args.word i) tt;
+  grows = record { wires = omega arith; constraints = omega arith; whole = c.requires.room.whole };
+}
+
+pub loop-i-preserved : goal.loop-i-preserved
+unfolding half_bit_of
+loop-i-preserved g c =
+    let piece : ℕ → Unit {0} → Circuit (Unit {0}) = λ i _. half_bit_of c.args.n c.args.b c.args.word i in
+    let grown = c.in_ok-select.ensures.grows in
+    let one = rw (c.wire-high.ensures, c.wire-low.ensures, c.offset.ensures, c.offset-in-loop-i.ensures) at c.in_ok-select.ensures.puts in
+    record {
+      puts = puts_turn g.S.Sink.meaning _ piece tt _ _ _ _ _ c.loop-i.invariant.puts (search (chain, one));
+      grows = record { wires = omega (arith, grown.wires); constraints = omega (arith, grown.constraints); whole = grown.whole };
+    }
+
+pub returns-in_err-select-clause-puts : goal.returns-in_err-select-clause-puts
+unfolding halves_of half_bit_of
+returns-in_err-select-clause-puts g c =
+    let m = g.S.Sink.meaning in
+    let piece : ℕ → Unit {0} → Circuit (Unit {0}) = λ i _. half_bit_of c.args.n c.args.b c.args.word i in
+    let one = rw (c.wire-high.ensures, c.wire-low.ensures, c.offset.ensures, c.offset-in-loop-i.ensures) at c.in_err-select.ensures.puts in
+    let turn = turn_refused m c.args.n c.loop-i.i piece tt tt c.args.s.now c.loop-i.s c.select.new.s c.in_err-select.field-0.0 c.loop-i-test.true c.loop-i.invariant.puts (search (chain, one)) in
+    let first = puts_here_as m c.args.s.now c.wires.result c.wires.ensures in
+    refused m _ _ _ c.from_residual.result c.from_residual.ensures.1 (search (chain, first, turn))
+
+pub returns-clause-puts : goal.returns-clause-puts
+unfolding halves_of
+returns-clause-puts g c =
+    let all : c.loop-i.i ≡ c.args.n = omega arith in
+    let first = puts_here_as g.S.Sink.meaning c.args.s.now c.wires.result c.wires.ensures in
+    let turns = rw all at c.loop-i.invariant.puts in
+    search (chain, first, turns)

@@ -1,0 +1,38 @@
+use Rattle.std.proofs.Common.{◌≡◌, ℕ, ◌-◌, ◌^◌, ◌<◌, arith}
+use Rattle.tv_core.proofs.Chain.{chain, puts_no_turn, puts_turn, turn_refused, refused}
+use Rattle.tv_core.specs.Circuits.{Circuit}
+use Rattle.tv_shift.specs.Thermometer.{level_product_of, level_of}
+use Rattle.tv_shift.proofs.thermometer.level.Goals as goal
+
+pub loop-j-init : goal.loop-j-init
+loop-j-init g c = record {
+  puts = puts_no_turn g.S.Sink.meaning _ (λ j _. level_product_of c.args.marks.now.bits c.args.marks.now.products c.args.k j) tt;
+  grows = record { wires = omega arith; constraints = omega arith; whole = c.requires.room.whole };
+}
+
+pub loop-j-preserved : goal.loop-j-preserved
+unfolding level_product_of
+loop-j-preserved g c =
+    let piece : ℕ → Unit {0} → Circuit (Unit {0}) = λ j _. level_product_of c.args.marks.now.bits c.args.marks.now.products c.args.k j in
+    let grown = c.in_ok-product.ensures.grows in
+    let one = rw (c.wire.ensures, c.offset.ensures, c.mark.ensures.terms) at c.in_ok-product.ensures.puts in
+    record {
+      puts = puts_turn g.S.Sink.meaning _ piece tt _ _ _ _ _ c.loop-j.invariant.puts (search (chain, one));
+      grows = record { wires = omega (arith, grown.wires); constraints = omega (arith, grown.constraints); whole = grown.whole };
+    }
+
+pub returns-in_err-product-clause-puts : goal.returns-in_err-product-clause-puts
+unfolding level_of level_product_of
+returns-in_err-product-clause-puts g c =
+    let m = g.S.Sink.meaning in
+    let piece : ℕ → Unit {0} → Circuit (Unit {0}) = λ j _. level_product_of c.args.marks.now.bits c.args.marks.now.products c.args.k j in
+    let within : c.loop-j.j < 2 ^ c.args.k - 1 = omega arith in
+    let one = rw (c.wire.ensures, c.offset.ensures, c.mark.ensures.terms) at c.in_err-product.ensures.puts in
+    let turn = turn_refused m (2 ^ c.args.k - 1) c.loop-j.j piece tt tt c.args.s.now c.loop-j.s c.product.new.s c.in_err-product.field-0.0 within c.loop-j.invariant.puts (search (chain, one)) in
+    refused m _ _ _ c.from_residual.result c.from_residual.ensures.1 turn
+
+pub returns-clause-puts : goal.returns-clause-puts
+unfolding level_of
+returns-clause-puts g c =
+    let all : c.loop-j.j ≡ 2 ^ c.args.k - 1 = omega arith in
+    rw all at c.loop-j.invariant.puts

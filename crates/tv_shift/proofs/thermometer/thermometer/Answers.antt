@@ -1,0 +1,51 @@
+use Rattle.std.proofs.Common.{◌≡◌, ℕ, ◌+◌, ◌-◌, ◌^◌, ◌<◌, ◌≤◌, arith}
+use Rattle.tv_core.proofs.Chain.{chain, puts_no_turn, puts_turn, turn_refused, refused}
+use Rattle.tv_core.proofs.LoopLaws.{puts_here_as}
+use Rattle.tv_core.specs.Circuits.{Circuit}
+use Rattle.tv_shift.proofs.MarkTerms.{products-more, products-up}
+use Rattle.tv_shift.specs.Thermometer.{products_below, level_of, thermometer_of}
+use Rattle.tv_shift.proofs.thermometer.thermometer.Goals as goal
+
+pub loop-i-init : goal.loop-i-init
+loop-i-init g c = record {
+  puts = puts_no_turn g.S.Sink.meaning _ (λ i _. level_of c.args.bits c.wires.result i) tt;
+  grows = record { wires = omega arith; constraints = omega arith; whole = c.requires.room.whole };
+}
+
+pub loop-i-preserved : goal.loop-i-preserved
+loop-i-preserved g c =
+    let piece : ℕ → Unit {0} → Circuit (Unit {0}) = λ i _. level_of c.args.bits c.wires.result i in
+    let grown = c.in_ok-level.ensures.grows in
+    record {
+      puts = puts_turn g.S.Sink.meaning _ piece tt _ _ _ _ _ c.loop-i.invariant.puts c.in_ok-level.ensures.puts;
+      grows = record { wires = omega (arith, grown.wires, products-more c.loop-i.i); constraints = omega (arith, grown.constraints, products-more c.loop-i.i); whole = grown.whole };
+    }
+
+pub returns-in_err-level-clause-puts : goal.returns-in_err-level-clause-puts
+unfolding thermometer_of
+returns-in_err-level-clause-puts g c =
+    let m = g.S.Sink.meaning in
+    let piece : ℕ → Unit {0} → Circuit (Unit {0}) = λ i _. level_of c.args.bits c.wires.result i in
+    let turn = turn_refused m c.args.k c.loop-i.i piece tt tt c.args.s.now c.loop-i.s c.level.new.s c.in_err-level.field-0.0 c.loop-i-test.true c.loop-i.invariant.puts c.in_err-level.ensures.puts in
+    let first = puts_here_as m c.args.s.now c.wires.result c.wires.ensures in
+    refused m _ _ _ c.from_residual.result c.from_residual.ensures.1 (search (chain, first, turn))
+
+pub returns-clause-puts : goal.returns-clause-puts
+unfolding thermometer_of
+returns-clause-puts g c =
+    let all : c.loop-i.i ≡ c.args.k = omega arith in
+    let first = puts_here_as g.S.Sink.meaning c.args.s.now c.wires.result c.wires.ensures in
+    let turns = rw all at c.loop-i.invariant.puts in
+    search (chain, first, turns)
+
+pub level-requires-clause-room : goal.level-requires-clause-room
+level-requires-clause-room g c =
+    let up = products-up (c.loop-i.i + 1) c.args.k (omega arith) in
+    let more = products-more c.loop-i.i in
+    record { whole = c.loop-i.invariant.grows.whole; constant = omega arith; wires = omega arith; constraints = omega arith }
+
+pub level-requires-clause-bits_made : goal.level-requires-clause-bits_made
+level-requires-clause-bits_made g c = omega arith
+
+pub level-requires-clause-products_made : goal.level-requires-clause-products_made
+level-requires-clause-products_made g c = omega arith

@@ -1,0 +1,26 @@
+ghost use Rattle.std.specs.Prelude.{◌≡◌, ◌+◌, ◌≤◌, ◌<◌, ◌^◌, IfOk};
+ghost use Rattle.tv_core.specs.Sinks.{PutsIn, Grows, Room};
+ghost use Rattle.tv_shift.specs.Halves.{halves_of};
+
+use tv_bits::select;
+use tv_core::{Lc, Put, Sink, Wire};
+
+// The first of `n` wires that are the bits of the half that bit `b` chooses, of the word of 2 `n` bits from
+// `word` on. It makes `n` wires and `n` constraints.
+pub(crate) fn halves<S: Sink>(s: &mut S, n: u32, b: Wire, word: Wire) -> Put<Wire>
+    requires room { Room S.meaning s.old n n }
+    requires b_made { b < S.meaning.wires s.old }
+    requires word_made { word + (n + n) ≤ S.meaning.wires s.old }
+    requires short { n < 64 }
+    ensures puts { PutsIn S.meaning s.old s.new (halves_of n b word) result }
+    ensures grows { IfOk result (λ _. Grows S.meaning s.old s.new n n) }
+    ensures below { IfOk result (λ first. first + n ≤ S.meaning.wires s.new) }
+{
+    let first = Wire(s.wires());
+    for i in 0..n {
+        let high = Lc::wire(word.offset(n + i));
+        let low = Lc::wire(word.offset(i));
+        select(s, b, &high, &low)?;
+    }
+    Ok(first)
+}
