@@ -1,5 +1,5 @@
 -- What `check` promises its user, from how its call ends.
-use Rattle.std.proofs.Common.{◌≡◌, ◌≢◌, ℕ, ◌+◌, ◌⊎◌, ◌<◌, Bool, true, false, leb, List, [], ◌∷◌, length, Option, Some, None, Result, Ok, Err, All, inl, inr, refl, sym, ◌∙◌, codes}
+use Rattle.std.proofs.Common.{◌≡◌, ◌≢◌, ℕ, ◌+◌, ◌⊎◌, Bool, true, false, leb, List, [], ◌∷◌, length, Option, Some, None, Result, Ok, Err, inl, inr, refl, sym, ◌∙◌, codes}
 use Rattle.std.specs.Prelude.{IfOk}
 use Rattle.std.proofs.lemmas.Bool.{leb-true, le-leb}
 use Rattle.tv_check.specs.Meaning.{Tells}
@@ -8,7 +8,7 @@ use Rattle.tv_check.specs.declared.verdict.Verdict.{Verdict}
 use Rattle.tv_check.specs.declared.verdict.Verdict.TheVariants.{Yes, WireCount, NoPublic, NoConstraint}
 use Rattle.tv_check.proofs.Room.{has_room}
 use Rattle.tv_check.proofs.Verdicts.{yes_exactly, no_exactly}
-use Rattle.tv_core.specs.Constraints.{System, Sat, Extends}
+use Rattle.tv_core.specs.Constraints.{System}
 use Rattle.tv_core.specs.declared.field.TheConstants.{P}
 use Rattle.tv_files.specs.Outside.{Names, Outside}
 use Rattle.tv_r1cs_read.specs.Places.{Fault}
@@ -21,9 +21,9 @@ use Rattle.tv_top.specs.declared.limits.TheConstants.{TEXT_BYTES, CHECK_TAPE_WOR
 use Rattle.tv_top.specs.declared.status.NoWhy.{NoWhy}
 use Rattle.tv_top.specs.declared.status.NoWhy.TheVariants as no
 use Rattle.tv_top.specs.declared.status.Status.{Status}
-use Rattle.tv_top.specs.declared.status.Status.TheVariants.{Done, No, BadTape, BadSystem, BadWitness, Limit, FileFault, Memory}
-use Rattle.tv_top.specs.declared.status.What.TheVariants.{TapeWords, TextBytes}
-use Rattle.tv_top.specs.Outcome.{Look, ◌>>=◌, Job, Check, job, Answer, limited_bytes, refused_as, held_in, system_status, witness_status, tape_status, publics_of, tape_at_3, check_of, verdict_status, status_of, outcome}
+use Rattle.tv_top.specs.declared.status.Status.TheVariants.{Done, No, BadSystem, BadWitness, Limit, FileFault}
+use Rattle.tv_top.specs.declared.status.What.TheVariants.{TextBytes}
+use Rattle.tv_top.specs.Outcome.{Look, ◌>>=◌, Job, Check, job, Answer, refused_as, held_in, system_status, witness_status, tape_status, publics_of, tape_at_3, check_of, verdict_status, status_of, outcome}
 use Rattle.tv_top.specs.Ends.{Ends}
 use Rattle.tv_top.specs.Answers.{Answers}
 use Rattle.tv_top.specs.Claims.{Holding, HoldsTape, Given, Accepted, Refuted, no_verdict, IsBadSystem, IsBadWitness, IsHindered, Checks}
@@ -133,17 +133,17 @@ comes_tape : (files : Names) (system witness tape : List ℕ) (s : System) (z : 
 unfolding check_of
 comes_tape files system witness tape s z in_system in_witness (inl found) = Judged s z found.0 (record { in_system = in_system; in_witness = in_witness; in_tape = found.1 })
 comes_tape files system witness tape s z in_system in_witness (inr refused) = Otherwise refused.0 (
-  on (record { at = 1; gives = held_in 1 system_status system_of (files system) }) _ s (held_gives 1 system_status system_of (files system) (Ok s) in_system)
-  ∙ on (record { at = 2; gives = held_in 2 witness_status assignment_of (files witness) }) _ z (held_gives 2 witness_status assignment_of (files witness) (Ok z) in_witness)
-  ∙ stop (tape_at_3 tape files) _ refused.0 refused.1) refused.2
+    on (record { at = 1; gives = held_in 1 system_status system_of (files system) }) _ s (held_gives 1 system_status system_of (files system) (Ok s) in_system)
+    ∙ on (record { at = 2; gives = held_in 2 witness_status assignment_of (files witness) }) _ z (held_gives 2 witness_status assignment_of (files witness) (Ok z) in_witness)
+    ∙ stop (tape_at_3 tape files) _ refused.0 refused.1) refused.2
 
 comes_witness : (files : Names) (system witness tape : List ℕ) (s : System) → Holding system_of (files system) (Ok s) → Seen assignment_of (files witness) → Comes files system witness tape
 unfolding check_of
 comes_witness files system witness tape s in_system (inl (Ok z, in_witness)) = comes_tape files system witness tape s z in_system in_witness (seen_tape tape files (files tape) refl)
 comes_witness files system witness tape s in_system (inl (Err fault, faulty)) = FaultyWitness fault.at fault.why (record { s = s; in_system = in_system; faulty = faulty })
 comes_witness files system witness tape s in_system (inr none) = Otherwise (FileFault 2) (
-  on (record { at = 1; gives = held_in 1 system_status system_of (files system) }) _ s (held_gives 1 system_status system_of (files system) (Ok s) in_system)
-  ∙ stop (record { at = 2; gives = held_in 2 witness_status assignment_of (files witness) }) _ (FileFault 2) (rw none refl)) (no_file 2)
+    on (record { at = 1; gives = held_in 1 system_status system_of (files system) }) _ s (held_gives 1 system_status system_of (files system) (Ok s) in_system)
+    ∙ stop (record { at = 2; gives = held_in 2 witness_status assignment_of (files witness) }) _ (FileFault 2) (rw none refl)) (no_file 2)
 
 comes_system : (files : Names) (system witness tape : List ℕ) → Seen system_of (files system) → Comes files system witness tape
 unfolding check_of
