@@ -5,7 +5,7 @@ use Rattle.tv_core.specs.Constraints.{System}
 use Rattle.tv_files.specs.Outside.{Names, Outside}
 use Rattle.tv_top.specs.declared.status.NoWhy.{NoWhy}
 use Rattle.tv_top.specs.declared.status.Status.{Status}
-use Rattle.tv_top.specs.declared.status.Status.TheVariants.{Done, No, NotPlain, FileFault, Memory}
+use Rattle.tv_top.specs.declared.status.Status.TheVariants.{Done, No, NotPlain, FileFault}
 use Rattle.tv_top.specs.declared.verdict.Verdict.{Verdict}
 use Rattle.tv_top.specs.declared.verdict.Verdict.TheVariants.{Yes, WireCount, NoPublic, NoConstraint}
 use Rattle.tv_top.specs.PlainSystem.{system_of}
