@@ -135,7 +135,6 @@ comes_tape files system witness tape s z in_system in_witness (inl found) = Judg
 comes_tape files system witness tape s z in_system in_witness (inr refused) = Otherwise refused.0 (
     on (record { at = 1; gives = held_in 1 system_status system_of (files system) }) _ s (held_gives 1 system_status system_of (files system) (Ok s) in_system)
     ∙ on (record { at = 2; gives = held_in 2 witness_status assignment_of (files witness) }) _ z (held_gives 2 witness_status assignment_of (files witness) (Ok z) in_witness)
-    ∙ stop (tape_at_3 tape files) _ refused.0 refused.1) refused.2
     ∙ stop (publics_at tape files) _ refused.0 refused.1) refused.2
 
 comes_witness : (files : Names) (system witness tape : List ℕ) (s : System) → Holding system_of (files system) (Ok s) → Seen assignment_of (files witness) → Comes files system witness tape
