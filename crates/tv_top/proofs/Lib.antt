@@ -15,4 +15,5 @@ pub mod Nos
 pub mod Ending
 pub mod Checked
 pub mod Programs
+pub mod ComesBack
 mod WorkedLines

@@ -9,6 +9,7 @@ mod constraints;
 mod disassembling;
 mod inputs;
 mod job;
+mod law;
 mod limits;
 mod line;
 mod meaning;
@@ -25,4 +26,5 @@ mod tests;
 mod verdict;
 
 pub use commands::command;
+pub use law::image_comes_back;
 pub use status::{NoWhy, Status, What};
