@@ -9,4 +9,5 @@ pub mod Storing
 pub mod Ending
 pub mod Checked
 pub mod Programs
+pub mod ComesBack
 mod WorkedLines

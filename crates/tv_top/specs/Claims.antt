@@ -1,5 +1,6 @@
 -- What the command promises, in the words of its user.
 use Rattle.std.specs.Prelude.{◌≡◌, ◌≢◌, ℕ, ◌%◌, ◌≤◌, ◌⊎◌, List, length, Option, Some, Result, Ok, Err}
+use Rattle.std.specs.Prelude.{◌≡◌, ◌≢◌, ℕ, ◌+◌, ◌%◌, ◌<◌, ◌≤◌, ◌⊎◌, List, ◌∷◌, length, take, Option, Some, Result, Ok, Err, All}
 use Rattle.tv_asm.specs.Assembly.{assembled}
 use Rattle.tv_asm.specs.declared.fault.AsmFault.{AsmFault}
 use Rattle.tv_asm.specs.declared.fault.AsmFault.TheVariants.{Bad}
@@ -22,6 +23,12 @@ use Rattle.tv_top.specs.declared.status.NoWhy.TheVariants.{Public, Constraint, W
 use Rattle.tv_top.specs.declared.status.Status.{Status}
 use Rattle.tv_top.specs.declared.status.Status.TheVariants.{Done, No, BadProgram, BadSystem, BadWitness, FileFault, Memory, BadImage}
 use Rattle.tv_top.specs.Outcome.{image_bytes}
+use Rattle.tv_top.specs.declared.status.Status.TheVariants.{Done, No, BadProgram, FileFault, Memory, BadImage}
+use Rattle.tv_top.specs.Outcome.{image_bytes, image_of}
+use Rattle.tv_top.specs.PlainSystem.{system_of}
+use Rattle.tv_top.specs.PlainWitness.{assignment_of}
+use Rattle.tv_top.specs.PlainTape.{tape_of}
+use Rattle.tv_top.specs.Meaning.{DifferFirst, FailsFirst}
 
 -- the file is there, and what is read of it is this
 pub record Holding {A F : Type 0} (read : List ℕ → Result A F) (file : Option (List ℕ)) (held : Result A F) : Type 0 where
@@ -140,3 +147,9 @@ pub record Disasms (files : Names) (image text : List ℕ) (old new : Outside) (
       → (bytes : List ℕ) × IsInput IMAGE_BYTES (files image) bytes × (length bytes ≡ len) × (len % 8 ≢ 0)
   pub bad : (bytes : List ℕ) → IsInput IMAGE_BYTES (files image) bytes → length bytes % 8 ≢ 0
       → (result ≡ BadImage (length bytes)) ⊎ IsStopped old new result
+
+-- what `disasm` writes of an image that it may read is a text that `asm` may read, whose image in bytes is
+-- that image again
+abbrev pub ImageComesBack : Type 0
+ImageComesBack = (image : List ℕ) → All (λ b. b < 256) image → length image % 8 ≡ 0 → length image ≤ IMAGE_BYTES
+    → (length (disassembly_of 32 image) ≤ TEXT_BYTES) × (image_of (disassembly_of 32 image) ≡ Ok image)

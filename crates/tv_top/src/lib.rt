@@ -11,6 +11,7 @@ mod containers;
 mod disassembling;
 mod inputs;
 mod job;
+mod law;
 mod limits;
 mod line;
 #[cfg(test)]
@@ -20,4 +21,5 @@ mod status;
 mod tapes;
 
 pub use commands::command;
+pub use law::image_comes_back;
 pub use status::{NoWhy, Status, What};
