@@ -1,28 +1,40 @@
 -- What the command promises, in the words of its user.
-use Rattle.std.specs.Prelude.{◌≡◌, ◌≢◌, ℕ, ◌+◌, ◌≤◌, ◌⊎◌, List, ◌∷◌, length, take, Option, Some}
+use Rattle.std.specs.Prelude.{◌≡◌, ℕ, ◌≤◌, ◌⊎◌, List, length, Option, Some, Result, Ok, Err}
+use Rattle.tv_check.specs.Meaning.{Tells}
+use Rattle.tv_check.specs.declared.verdict.Verdict.{Verdict}
+use Rattle.tv_check.specs.declared.verdict.Verdict.TheVariants.{WireCount, NoPublic, NoConstraint}
 use Rattle.tv_core.specs.Constraints.{System, Sat, Extends}
+use Rattle.tv_core.specs.declared.field.TheConstants.{P}
 use Rattle.tv_files.specs.Outside.{Names, Outside, Rose}
+use Rattle.tv_r1cs_read.specs.Places.{wrong}
+use Rattle.tv_r1cs_read.specs.R1cs.{system_of}
+use Rattle.tv_r1cs_read.specs.declared.why.ReadWhy.{ReadWhy}
+use Rattle.tv_tape.specs.Tape.{tape_of}
+use Rattle.tv_wtns.specs.Wtns.{assignment_of}
+use Rattle.tv_top.specs.declared.limits.TheConstants.{TEXT_BYTES, CHECK_TAPE_WORDS}
 use Rattle.tv_top.specs.declared.status.NoWhy.{NoWhy}
 use Rattle.tv_top.specs.declared.status.NoWhy.TheVariants.{Public, Constraint, Wires}
 use Rattle.tv_top.specs.declared.status.Status.{Status}
-use Rattle.tv_top.specs.declared.status.Status.TheVariants.{Done, No, FileFault, Memory}
-use Rattle.tv_top.specs.PlainSystem.{system_of}
-use Rattle.tv_top.specs.PlainWitness.{assignment_of}
-use Rattle.tv_top.specs.PlainTape.{tape_of}
-use Rattle.tv_top.specs.Meaning.{DifferFirst, FailsFirst}
+use Rattle.tv_top.specs.declared.status.Status.TheVariants.{Done, No, BadSystem, BadWitness, FileFault, Memory}
 
--- the file is there, is plain, and holds this
-pub record Holding {A : Type 0} (read : List ℕ → Option A) (file : Option (List ℕ)) (held : A) : Type 0 where
+-- the file is there, and what is read of it is this
+pub record Holding {A F : Type 0} (read : List ℕ → Result A F) (file : Option (List ℕ)) (held : Result A F) : Type 0 where
   pub bytes : List ℕ
   pub there : file ≡ Some bytes
-  pub most : length bytes ≤ 1048576
-  pub reads : read bytes ≡ Some held
+  pub reads : read bytes ≡ held
 
--- three plain files hold a system, an assignment and public numbers
+-- the tape is there, is no longer than a text may be, and holds these public numbers
+pub record HoldsTape (file : Option (List ℕ)) (x : List ℕ) : Type 0 where
+  pub bytes : List ℕ
+  pub there : file ≡ Some bytes
+  pub most : length bytes ≤ TEXT_BYTES
+  pub reads : tape_of bytes P CHECK_TAPE_WORDS ≡ Ok x
+
+-- three files hold a system, an assignment and public numbers
 pub record Given (files : Names) (system witness tape : List ℕ) (s : System) (z x : List ℕ) : Type 0 where
-  pub in_system : Holding system_of (files system) s
-  pub in_witness : Holding assignment_of (files witness) z
-  pub in_tape : Holding tape_of (files tape) x
+  pub in_system : Holding system_of (files system) (Ok s)
+  pub in_witness : Holding assignment_of (files witness) (Ok z)
+  pub in_tape : HoldsTape (files tape) x
 
 -- they hold a system, an assignment that satisfies it, and the public numbers that it extends
 pub record Accepted (files : Names) (system witness tape : List ℕ) : Type 0 where
@@ -33,15 +45,11 @@ pub record Accepted (files : Names) (system witness tape : List ℕ) : Type 0 wh
   pub sat : Sat s z
   pub extends : Extends s z x
 
--- what a no says of a system, an assignment and public numbers: there are not as many values as wires;
--- or there are, and this is the first place where the constant 1 and the public numbers differ from the
--- values of the public wires; or they agree, and this is the first constraint that doesn't hold
-abbrev pub IsWrong : NoWhy → System → List ℕ → List ℕ → Type 0
-IsWrong (Wires has wants) s z x = (length z ≡ has) × (s.wires ≡ wants) × (has ≢ wants)
-IsWrong (Public at) s z x =
-    (length z ≡ s.wires) × DifferFirst (1 ∷ x) (take (1 + s.outputs + s.inputs) z) at
-IsWrong (Constraint at) s z x =
-    (length z ≡ s.wires) × (1 ∷ x ≡ take (1 + s.outputs + s.inputs) z) × FailsFirst s z at
+-- the verdict that a no tells
+abbrev pub no_verdict : NoWhy → Verdict
+no_verdict (Wires has wants) = WireCount has wants
+no_verdict (Public at) = NoPublic at
+no_verdict (Constraint at) = NoConstraint at
 
 -- they hold a system, an assignment and public numbers of which the no is true
 pub record Refuted (files : Names) (system witness tape : List ℕ) (why : NoWhy) : Type 0 where
@@ -49,7 +57,17 @@ pub record Refuted (files : Names) (system witness tape : List ℕ) (why : NoWhy
   pub z : List ℕ
   pub x : List ℕ
   pub given : Given files system witness tape s z x
-  pub wrong : IsWrong why s z x
+  pub wrong : Tells (no_verdict why) s z x
+
+-- the system's file holds no system, and this is its first fault
+abbrev pub IsBadSystem : Names → List ℕ → ℕ → ReadWhy → Type 0
+IsBadSystem files system at why = Holding system_of (files system) (wrong at why)
+
+-- the system's file holds a system and the witness no assignment, and this is its first fault
+pub record IsBadWitness (files : Names) (system witness : List ℕ) (at : ℕ) (why : ReadWhy) : Type 0 where
+  pub s : System
+  pub in_system : Holding system_of (files system) (Ok s)
+  pub faulty : Holding assignment_of (files witness) (wrong at why)
 
 -- a file couldn't be read or the line not be said, or memory was wanting
 abbrev pub IsHindered : Outside → Outside → Status → Type 0
@@ -59,7 +77,8 @@ IsHindered old new result =
     ⊎ (result ≡ Memory)
 
 -- What `check SYSTEM WITNESS TAPE` promises over files that hold this: it is done exactly where the
--- assignment satisfies the system and extends the tape, and says no exactly where that is so.
+-- assignment satisfies the system and extends the tape, says no exactly where that is so, and tells the
+-- first fault of the system or the witness exactly where there is one.
 pub record Checks (files : Names) (system witness tape : List ℕ) (old new : Outside)
     (result : Status) : Type 0 where
   pub done : result ≡ Done → Accepted files system witness tape
@@ -67,3 +86,9 @@ pub record Checks (files : Names) (system witness tape : List ℕ) (old new : Ou
   pub says_no : (why : NoWhy) → result ≡ No why → Refuted files system witness tape why
   pub refuted : (why : NoWhy) → Refuted files system witness tape why
       → (result ≡ No why) ⊎ IsHindered old new result
+  pub tells_system : (at : ℕ) (why : ReadWhy) → result ≡ BadSystem at why → IsBadSystem files system at why
+  pub bad_system : (at : ℕ) (why : ReadWhy) → IsBadSystem files system at why
+      → (result ≡ BadSystem at why) ⊎ IsHindered old new result
+  pub tells_witness : (at : ℕ) (why : ReadWhy) → result ≡ BadWitness at why → IsBadWitness files system witness at why
+  pub bad_witness : (at : ℕ) (why : ReadWhy) → IsBadWitness files system witness at why
+      → (result ≡ BadWitness at why) ⊎ IsHindered old new result
