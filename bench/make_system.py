@@ -1,7 +1,7 @@
 #!/usr/bin/env python3
-"""Writes a system whose r1cs file has just under 1 MiB, a witness that satisfies it, and its tape.
+"""Writes a system of so many constraints, a witness that satisfies it, and its tape.
 
-usage: make_system.py FOLDER
+usage: make_system.py FOLDER CONSTRAINTS
 
 Each constraint multiplies two combinations of four earlier wires and gives a wire of its own. The
 numbers are the same at each run.
@@ -13,56 +13,53 @@ import struct
 import sys
 
 P = 2**64 - 2**32 + 1
-MOST = 1_048_576
 INPUTS = 64
-TERMS = 4
+
+# Two combinations of four terms, and one of one term: each a count, and wires with coefficients.
+ROW = struct.Struct("<" + 2 * ("I" + 4 * "IQ") + "IIQ")
 
 
-def section(kind, content):
-    return struct.pack("<IQ", kind, len(content)) + content
+def section(kind, size):
+    return struct.pack("<IQ", kind, size)
 
 
-def container(magic, version, *contents):
-    sections = b"".join(section(i + 1, content) for i, content in enumerate(contents))
-    return magic + struct.pack("<II", version, len(contents)) + sections
+def container(magic, version, header, sections):
+    """The beginning of a file, with all of section 1; the rest is for others to write."""
+    start = magic + struct.pack("<II", version, sections)
+    return start + section(1, len(header)) + header
 
 
-def combination(terms):
-    packed = b"".join(struct.pack("<IQ", wire, coefficient) for coefficient, wire in terms)
-    return struct.pack("<I", len(terms)) + packed
-
-
-def value(terms, values):
-    return sum(coefficient * values[wire] for coefficient, wire in terms) % P
-
-
-def main(folder):
+def rows(count, values):
+    """The bytes of each constraint; the value of its wire is put behind the others."""
     rng = random.Random(1)
-    values = [1] + [rng.randrange(P) for _ in range(INPUTS)]
-    # A constraint takes three counts, its terms and the label of its wire; the rest is what every
-    # file has.
-    count = (MOST - 116 - 8 * len(values)) // (12 + 12 * (2 * TERMS + 1) + 8)
-    rows = []
+    values += [rng.randrange(P) for _ in range(INPUTS)]
+    bits, uniform = rng.getrandbits, rng.random
     for _ in range(count):
-        a, b = (
-            [(rng.randrange(P), rng.randrange(len(values))) for _ in range(TERMS)]
-            for _ in range(2)
-        )
-        rows += [combination(a), combination(b), combination([(1, len(values))])]
-        values.append(value(a, values) * value(b, values) % P)
-    wires = len(values)
-    header = struct.pack("<IQIIIIQI", 8, P, wires, 0, INPUTS, wires - 1 - INPUTS, wires, count)
-    labels = struct.pack(f"<{wires}Q", *range(wires))
-    system = container(b"r1cs", 1, header, b"".join(rows), labels)
-    assert len(system) <= MOST
-    packed = struct.pack(f"<{wires}Q", *values)
-    witness = container(b"wtns", 2, struct.pack("<IQI", 8, P, wires), packed)
-    tape = "".join(f"{number}\n" for number in values[1 : 1 + INPUTS])
-    folder = pathlib.Path(folder)
-    (folder / "system.r1cs").write_bytes(system)
-    (folder / "witness.wtns").write_bytes(witness)
-    (folder / "public.tape").write_text(tape)
-    print(f"{len(system)} bytes, {count} constraints, {wires} wires")
+        wires = len(values)
+        i, j, k, l, m, n, o, p = [int(uniform() * wires) for _ in range(8)]
+        a, b, c, d, e, f, g, h = [bits(64) % P for _ in range(8)]
+        left = a * values[i] + b * values[j] + c * values[k] + d * values[l]
+        right = e * values[m] + f * values[n] + g * values[o] + h * values[p]
+        values.append(left * right % P)
+        yield ROW.pack(4, i, a, j, b, k, c, l, d, 4, m, e, n, f, o, g, p, h, 1, wires, 1)
+
+
+def main(folder, count):
+    folder, count = pathlib.Path(folder), int(count)
+    wires = 1 + INPUTS + count
+    values = [1]
+    with open(folder / "system.r1cs", "wb") as file:
+        header = struct.pack("<IQIIIIQI", 8, P, wires, 0, INPUTS, count, wires, count)
+        file.write(container(b"r1cs", 1, header, 3) + section(2, ROW.size * count))
+        file.writelines(rows(count, values))
+        file.write(section(3, 8 * wires) + struct.pack(f"<{wires}Q", *range(wires)))
+    with open(folder / "witness.wtns", "wb") as file:
+        header = struct.pack("<IQI", 8, P, wires)
+        file.write(container(b"wtns", 2, header, 2) + section(2, 8 * wires))
+        file.write(struct.pack(f"<{wires}Q", *values))
+    (folder / "public.tape").write_text("".join(f"{value}\n" for value in values[1 : 1 + INPUTS]))
+    size = (folder / "system.r1cs").stat().st_size
+    print(f"{size} bytes, {count} constraints, {wires} wires")
 
 
 main(*sys.argv[1:])

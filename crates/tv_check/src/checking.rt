@@ -9,7 +9,7 @@ use crate::verdict::Verdict;
 use std::alloc::Global;
 use tv_core::F;
 use tv_files::Files;
-use tv_r1cs_read::{ReadRefusal, SystemReader};
+use tv_r1cs_read::{ReadRefusal, Row, SystemReader};
 
 /// The verdict on an assignment, `values`, and public numbers, by the system in a file: first on the
 /// number of values, then on the public wires, then on each constraint.
@@ -34,10 +34,10 @@ pub fn check<D: Files>(
         Err(unread) => return Err(unread.why),
     };
     let mut verdict = public_verdict(&reader.counts(), values, publics);
+    let mut row = Row::new(alloc);
     let mut at = 0_u64;
-    while let Some(row) = reader.next()? {
+    while reader.next_into(&mut row)? {
         verdict = tried(verdict, at, &row, values);
-        reader.reuse(row);
         at += 1;
     }
     Ok(verdict)

@@ -1,5 +1,5 @@
 ghost use Rattle.std.specs.Prelude.{◌≡◌, ℕ, List, Some, None, Ok, Err, Option, IfOk, IfErr, OnOk, MatchResult};
-ghost use Rattle.tv_r1cs_read.specs.Progress.{ahead, counts_of, Follows, IsBegun, WentOnBy, GivesRow};
+ghost use Rattle.tv_r1cs_read.specs.Progress.{ahead, counts_of, Follows, IsBegun, WentOn, WentOnBy, GivesNext, GivesRow};
 ghost use Rattle.tv_r1cs_read.specs.R1cs.{header_of};
 ghost use Rattle.tv_r1cs_read.specs.Reading.{bytes_of, Looks, Stopped, Gives, Refuses, IsMissing};
 ghost use Rattle.tv_r1cs_read.specs.Survey.{survey_of};
@@ -9,31 +9,16 @@ use crate::progress::Progress;
 use crate::rows::Row;
 use crate::why::ReadRefusal;
 use std::alloc::Global;
-use std::mem;
 use tv_core::Counts;
 use tv_files::Files;
 
 /// Reads a system's constraints one after another from a file, which is lent to it.
-pub struct SystemReader<'a, D: Files, R: Drop = Row> {
+#[derive(Drop)]
+pub struct SystemReader<'a, D: Files> {
     pub(crate) files: &'a mut D,
     pub(crate) name: &'a str,
     pub(crate) alloc: Global,
     pub(crate) progress: Progress,
-    pub(crate) spare: R,
-}
-
-impl<D: Files, R: Drop> Drop for SystemReader<'_, D, R> {
-    fn drop(self)
-        ensures { self.exit.0.now ≡ self.entry.files.now }
-    {
-        let SystemReader {
-            files: _,
-            name: _,
-            alloc: _,
-            progress: _,
-            spare: _,
-        } = self;
-    }
 }
 
 /// A system that was refused at its header: why, and the files again.
@@ -70,7 +55,6 @@ impl<'a, D: Files> SystemReader<'a, D> {
                 name,
                 alloc,
                 progress,
-                spare: Row::new(alloc),
             }),
             Err(why) => Err(Unread { files, why }),
         }
@@ -87,6 +71,26 @@ impl<'a, D: Files> SystemReader<'a, D> {
     ///
     /// `Bad` tells the first fault ahead, `Fault` comes only where a read failed, and a refusal is told
     /// again by each later call, which reads nothing.
+    /// Reads the next constraint into `row`, whose memory serves again, and tells whether there was one;
+    /// there is none after the last. A refusal is repeated.
+    pub fn next_into(&mut self, row: &mut Row) -> Result<bool, ReadRefusal>
+        ensures same { self.new.files.ghost_name ≡ self.old.files.ghost_name }
+        ensures name { self.new.name.now ≡ self.old.name.now }
+        ensures gives { (file : List ℕ) → bytes_of (D.seen self.old.files.now) self.old.name.now ≡ Some file → Follows self.old.progress file → MatchResult result
+            (λ more. GivesNext more row.new (ahead self.old.progress file) (ahead self.new.progress file) × Follows self.new.progress file)
+            (λ why. Refuses why (ahead self.old.progress file)) }
+        ensures counts { IfOk result (λ more. WentOn more row.new self.old.progress self.new.progress) }
+        ensures header { self.new.progress.header ≡ self.old.progress.header }
+        ensures again { (why : ReadRefusal) → self.old.progress.stopped ≡ Some why →
+            (result ≡ Err why) × (self.new.progress ≡ self.old.progress) × (D.seen self.new.files.now ≡ D.seen self.old.files.now) }
+        ensures stops { IfErr result (λ why. self.new.progress.stopped ≡ Some why) }
+        ensures goes { OnOk result (self.new.progress.stopped ≡ None) }
+        ensures looks { self.old.progress.stopped ≡ None → Looks (D.seen self.old.files.now) (D.seen self.new.files.now) self.old.name.now result }
+    {
+        self.progress.next(self.files, self.name, row)
+    }
+
+    /// The next constraint; `None` after the last.
     pub fn next(&mut self) -> Result<Option<Row>, ReadRefusal>
         ensures same { self.new.files.ghost_name ≡ self.old.files.ghost_name }
         ensures name { self.new.name.now ≡ self.old.name.now }
@@ -101,22 +105,11 @@ impl<'a, D: Files> SystemReader<'a, D> {
         ensures goes { OnOk result (self.new.progress.stopped ≡ None) }
         ensures looks { self.old.progress.stopped ≡ None → Looks (D.seen self.old.files.now) (D.seen self.new.files.now) self.old.name.now result }
     {
-        let mut row = mem::replace(&mut self.spare, Row::new(self.alloc));
-        if self.progress.next(self.files, self.name, &mut row)? {
+        let mut row = Row::new(self.alloc);
+        if self.next_into(&mut row)? {
             return Ok(Some(row));
         }
-        self.spare = row;
         Ok(None)
-    }
-
-    /// Gives a row back, so that the next one is read into its memory.
-    pub fn reuse(&mut self, row: Row)
-        ensures same { self.new.files.ghost_name ≡ self.old.files.ghost_name }
-        ensures files { self.new.files.now ≡ self.old.files.now }
-        ensures name { self.new.name.now ≡ self.old.name.now }
-        ensures progress { self.new.progress ≡ self.old.progress }
-    {
-        self.spare = row;
     }
 }
 
@@ -134,8 +127,7 @@ pub fn survey<D: Files>(alloc: Global, files: &mut D, name: &str) -> Result<Coun
         Ok(reader) => reader,
         Err(unread) => return Err(unread.why),
     };
-    while let Some(row) = reader.next()? {
-        reader.reuse(row);
-    }
+    let mut row = Row::new(alloc);
+    while reader.next_into(&mut row)? {}
     Ok(reader.counts())
 }

@@ -14,18 +14,18 @@ returns-in-Err-clause-gives g c = λ file told.
 pub public_verdict-verdict-requires : goal.public_verdict-verdict-requires
 public_verdict-verdict-requires g c = rw c.counts.ensures c.in-Ok.ensures.begun.room
 
-pub returns-in_err-row-clause-gives : goal.returns-in_err-row-clause-gives
-returns-in_err-row-clause-gives g c = λ file told.
+pub returns-in_err-next_into-clause-gives : goal.returns-in_err-next_into-clause-gives
+returns-in_err-next_into-clause-gives g c = λ file told.
     let begun = rw (← c.in-Ok.ensures.ok_looks, ← c.in-Ok.ensures.name) at told in
     let header = c.in-Ok.ensures.gives file told in
-    let read = c.loop-reader.invariant.read file begun header.1 in
-    let refuses = c.in_err-row.ensures.gives file (rw (← c.loop-reader.invariant.outside, ← c.loop-reader.invariant.name) at begun) read.0 in
+    let read = c.loop-row.invariant.read file begun header.1 in
+    let refuses = c.in_err-next_into.ensures.gives file (rw (← c.loop-row.invariant.outside, ← c.loop-row.invariant.name) at begun) read.0 in
     let p = err_from_is_err_and c.from_residual.result c.from_residual.ensures.1 in
     rw (p.1, p.2) (verdict_of-refuses file c.args.values.now c.args.publics.now _
     (system_of-refuses file c.in-Ok.reader.progress _ header.0 c.in-Ok.ensures.begun (read_refused read.1.0 _ _ _ read.1.1 refuses)))
 
-pub loop-reader-init : goal.loop-reader-init
-loop-reader-init g c = record {
+pub loop-row-init : goal.loop-row-init
+loop-row-init g c = record {
   same = search rules;
   outside = search rules;
   name = search rules;
@@ -34,29 +34,28 @@ loop-reader-init g c = record {
   read = λ file begun follows. (follows, ([], read_none _, refl, rw c.counts.ensures at c.public_verdict-verdict.ensures));
 }
 
-pub loop-reader-preserved : goal.loop-reader-preserved
-loop-reader-preserved g c = record {
+pub loop-row-preserved : goal.loop-row-preserved
+loop-row-preserved g c = record {
   same = search rules;
   outside = search rules;
   name = search rules;
   on = search rules;
-  counted = rw c.reuse.ensures.progress (omega (arith, (rw c.in-Some.is at c.in_ok-row.ensures.counts).1, c.loop-reader.invariant.counted));
+  counted = (omega (arith, (rw c.if-branch.true at c.in_ok-next_into.ensures.counts).1, c.loop-row.invariant.counted));
   read = λ file begun follows.
-      let before = c.loop-reader.invariant.read file begun follows in
-      let told = rw (← c.loop-reader.invariant.outside, ← c.loop-reader.invariant.name) at begun in
-      let gives = rw c.in-Some.is at c.in_ok-row.ensures.gives file told before.0 in
-      let count : c.loop-reader.at + 1 ≡ length (before.1.0 ++ constraint_of c.in-Some.row ∷ []) = omega (arith, before.1.2, length_push before.1.0 (constraint_of c.in-Some.row)) in
-      let verdict : c.tried-verdict.result ≡ judge (so_far c.in-Ok.reader.progress.header (before.1.0 ++ constraint_of c.in-Some.row ∷ [])) c.args.values.now c.args.publics.now
-      = c.tried-verdict.ensures ∙ rw (before.1.3, before.1.2) (sym (judge-more c.in-Ok.reader.progress.header c.args.values.now c.args.publics.now before.1.0 (constraint_of c.in-Some.row))) in
-      rw c.reuse.ensures.progress
-      (gives.1, (before.1.0 ++ constraint_of c.in-Some.row ∷ [], read_more before.1.0 _ _ _ _ before.1.1 gives.0, count, verdict));
+      let before = c.loop-row.invariant.read file begun follows in
+      let told = rw (← c.loop-row.invariant.outside, ← c.loop-row.invariant.name) at begun in
+      let gives = rw c.if-branch.true at c.in_ok-next_into.ensures.gives file told before.0 in
+      let count : c.loop-row.at + 1 ≡ length (before.1.0 ++ constraint_of c.next_into.new.row ∷ []) = omega (arith, before.1.2, length_push before.1.0 (constraint_of c.next_into.new.row)) in
+      let verdict : c.tried-verdict.result ≡ judge (so_far c.in-Ok.reader.progress.header (before.1.0 ++ constraint_of c.next_into.new.row ∷ [])) c.args.values.now c.args.publics.now
+      = c.tried-verdict.ensures ∙ rw (before.1.3, before.1.2) (sym (judge-more c.in-Ok.reader.progress.header c.args.values.now c.args.publics.now before.1.0 (constraint_of c.next_into.new.row))) in
+      (gives.1, (before.1.0 ++ constraint_of c.next_into.new.row ∷ [], read_more before.1.0 _ _ _ _ before.1.1 gives.0, count, verdict));
 }
 
 pub returns-clause-gives : goal.returns-clause-gives
 returns-clause-gives g c = λ file told.
     let begun = rw (← c.in-Ok.ensures.ok_looks, ← c.in-Ok.ensures.name) at told in
     let header = c.in-Ok.ensures.gives file told in
-    let read = c.loop-reader.invariant.read file begun header.1 in
-    let gives = rw c.in_default.is at c.in_ok-row.ensures.gives file (rw (← c.loop-reader.invariant.outside, ← c.loop-reader.invariant.name) at begun) read.0 in
+    let read = c.loop-row.invariant.read file begun header.1 in
+    let gives = rw c.if-branch.false at c.in_ok-next_into.ensures.gives file (rw (← c.loop-row.invariant.outside, ← c.loop-row.invariant.name) at begun) read.0 in
     let system = system_of-read file c.in-Ok.reader.progress read.1.0 header.0 c.in-Ok.ensures.begun (read_all read.1.0 _ _ read.1.1 gives.0.0) in
     verdict_of-read file c.args.values.now c.args.publics.now _ system ∙ rw (← read.1.3) refl

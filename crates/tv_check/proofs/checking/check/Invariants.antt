@@ -7,8 +7,8 @@ use Rattle.tv_check.specs.Verdict.{judge}
 use Rattle.tv_check.proofs.Trying.{so_far}
 use Rattle.tv_check.proofs.checking.check.Given as goal
 
-abbrev pub invariant-loop-reader : goal.invariant-loop-reader
-invariant-loop-reader g l = record {
+abbrev pub invariant-loop-row : goal.invariant-loop-row
+invariant-loop-row g l = record {
   same : l.reader.files.ghost_name ≡ l.initial.reader.files.ghost_name;
   outside : g.D.Files.seen l.reader.files.now ≡ g.D.Files.seen l.initial.reader.files.now;
   name : l.reader.name.now ≡ l.initial.reader.name.now;
@@ -20,5 +20,5 @@ invariant-loop-reader g l = record {
       (l.verdict ≡ judge (so_far l.initial.reader.progress.header done) l.values l.publics));
 }
 
-abbrev pub decreases-loop-reader : goal.decreases-loop-reader
-decreases-loop-reader g l = l.reader.progress.left
+abbrev pub decreases-loop-row : goal.decreases-loop-row
+decreases-loop-row g l = l.reader.progress.left

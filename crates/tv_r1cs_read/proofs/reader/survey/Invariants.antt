@@ -6,8 +6,8 @@ use Rattle.tv_r1cs_read.specs.Reading.{bytes_of}
 use Rattle.tv_r1cs_read.specs.Survey.{HasRead, terms_of}
 use Rattle.tv_r1cs_read.proofs.reader.survey.Given as goal
 
-abbrev pub invariant-loop-reader : goal.invariant-loop-reader
-invariant-loop-reader g l = record {
+abbrev pub invariant-loop-row : goal.invariant-loop-row
+invariant-loop-row g l = record {
   same : l.reader.files.ghost_name ≡ l.initial.reader.files.ghost_name;
   outside : g.D.Files.seen l.reader.files.now ≡ g.D.Files.seen l.initial.reader.files.now;
   name : l.reader.name.now ≡ l.initial.reader.name.now;
@@ -18,5 +18,5 @@ invariant-loop-reader g l = record {
       HasRead done (ahead l.initial.reader.progress file) (ahead l.reader.progress file) × (l.reader.progress.terms ≡ sum_by terms_of done));
 }
 
-abbrev pub decreases-loop-reader : goal.decreases-loop-reader
-decreases-loop-reader g l = l.reader.progress.left
+abbrev pub decreases-loop-row : goal.decreases-loop-row
+decreases-loop-row g l = l.reader.progress.left
