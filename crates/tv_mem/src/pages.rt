@@ -1,0 +1,36 @@
+//! The pages that are held, by their numbers.
+ghost use Rattle.std.specs.Prelude.{◌≡◌, ◌+◌, ◌/◌, ◌%◌, ◌≤◌, IsOk, IsSome, OnOk, OnErr, length};
+ghost use Rattle.std.specs.BTreeMap.{get, IsUnchanged};
+ghost use Rattle.std.specs.Ordering.{nat_cmp};
+ghost use Rattle.tv_mem.specs.Pages.{page_in, page_bytes, page_with, Changes};
+
+use std::alloc::{AllocError, Global};
+use std::collections::BTreeMap;
+
+/// How many bytes a page has.
+pub const PAGE: u32 = 4096;
+
+/// Writes bytes at an address, all in its page. A page that isn't held is made first; where memory for
+/// it is refused, nothing changes.
+#[tactic(auto, using(crate::proofs::PageLaws::changes))]
+pub fn write(
+    alloc: Global,
+    pages: &mut BTreeMap<u32, Box<[u8; 4096]>>,
+    at: u32,
+    bytes: &[u8],
+) -> Result<(), AllocError>
+    requires within { at % 4096 + length bytes.now ≤ 4096 }
+    ensures ok { OnOk result (Changes pages.old pages.new (at / 4096) (page_with (page_bytes (page_in pages.old (at / 4096))) (at % 4096) bytes.now)) }
+    ensures err { OnErr result (IsUnchanged pages.old pages.new) }
+    ensures free { IsSome (get nat_cmp pages.old (at / 4096)) → IsOk result }
+{
+    let place = (at % PAGE) as usize;
+    if let Some(page) = pages.get_mut(&(at / PAGE)) {
+        page[place..place + bytes.len()].copy_from_slice(bytes);
+        return Ok(());
+    }
+    let mut page = Box::new(alloc, [0; 4096])?;
+    page[place..place + bytes.len()].copy_from_slice(bytes);
+    pages.insert(at / PAGE, page)?;
+    Ok(())
+}
