@@ -1,5 +1,6 @@
 //! The pages that are held, by their numbers.
 ghost use Rattle.std.specs.Prelude.{◌≡◌, ◌+◌, ◌/◌, ◌%◌, ◌≤◌, IsOk, IsSome, OnOk, OnErr, length};
+ghost use Rattle.std.specs.Box.{box_value};
 ghost use Rattle.std.specs.BTreeMap.{get, IsUnchanged};
 ghost use Rattle.std.specs.Ordering.{nat_cmp};
 ghost use Rattle.tv_mem.specs.Pages.{page_in, page_bytes, page_with, Changes};
@@ -12,7 +13,6 @@ pub const PAGE: u32 = 4096;
 
 /// Writes bytes at an address, all in its page. A page that isn't held is made first; where memory for
 /// it is refused, nothing changes.
-#[tactic(auto, using(crate::proofs::PageLaws::changes))]
 pub fn write(
     alloc: Global,
     pages: &mut BTreeMap<u32, Box<[u8; 4096]>>,
@@ -26,11 +26,32 @@ pub fn write(
 {
     let place = (at % PAGE) as usize;
     if let Some(page) = pages.get_mut(&(at / PAGE)) {
-        page[place..place + bytes.len()].copy_from_slice(bytes);
+        overwrite(page, place, bytes);
         return Ok(());
     }
     let mut page = Box::new(alloc, [0; 4096])?;
+    overwrite(&mut page, place, bytes);
+    keep(pages, at / PAGE, page)
+}
+
+// Writes bytes at a place of a page.
+fn overwrite(page: &mut [u8; 4096], place: usize, bytes: &[u8])
+    requires within { place + length bytes.now ≤ 4096 }
+    ensures { page.new ≡ page_with page.old place bytes.now }
+{
     page[place..place + bytes.len()].copy_from_slice(bytes);
-    pages.insert(at / PAGE, page)?;
+}
+
+// Keeps a page under its number.
+#[tactic(auto, using(crate::proofs::PageLaws::changes))]
+fn keep(
+    pages: &mut BTreeMap<u32, Box<[u8; 4096]>>,
+    number: u32,
+    page: Box<[u8; 4096]>,
+) -> Result<(), AllocError>
+    ensures ok { OnOk result (Changes pages.old pages.new number (box_value page)) }
+    ensures err { OnErr result (IsUnchanged pages.old pages.new) }
+{
+    pages.insert(number, page)?;
     Ok(())
 }

@@ -1,0 +1,4 @@
+pub mod Machine
+pub mod Ops
+pub mod Rows
+pub mod State
