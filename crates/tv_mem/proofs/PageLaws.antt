@@ -1,5 +1,5 @@
 -- A map of pages after a change at one of them.
-use Rattle.std.proofs.Common.{◌≡◌, ◌≢◌, ◌⊎◌, inl, inr, ℕ, List, Bool, true, false, cond, Box, Option, Some, None, option_map, ap, sym, refl, ◌∙◌, arith}
+use Rattle.std.proofs.Common.{◌≡◌, ℕ, List, Bool, true, false, cond, Box, Option, Some, option_map, ap, refl, ◌∙◌, arith}
 use Rattle.std.specs.Prelude.{nat_eq}
 use Rattle.std.specs.Box.{box_value}
 use Rattle.std.specs.BTreeMap.{BTreeMap, Updates}

@@ -5,6 +5,7 @@ ghost use Rattle.tv_mem.specs.Pages.{bytes_in, is_held};
 use crate::pages::{PAGE, write};
 use std::alloc::{AllocError, Global};
 use std::collections::BTreeMap;
+use tv_word::word_bytes;
 
 /// A memory of 2^32 bytes, all 0 at first. It keeps those pages of 4,096 bytes that were written.
 #[derive(Drop)]
@@ -58,6 +59,7 @@ impl Memory {
 
     /// Writes a byte. It wants memory only for a page that isn't held, and then changes nothing where
     /// memory is refused.
+    #[tactic(auto, using(crate::proofs::StoreLaws::byte_stored, crate::proofs::StoreLaws::page_held, crate::proofs::StoreLaws::bytes_unchanged, crate::proofs::StoreLaws::held_unchanged), unfolding(crate::specs::Pages::bytes_in, crate::specs::Pages::is_held))]
     pub fn store_byte(&mut self, at: u32, value: u8) -> Result<(), AllocError>
         ensures ok { OnOk result (bytes_in self.new ≡ with_byte (bytes_in self.old) at value) }
         ensures err { OnErr result (bytes_in self.new ≡ bytes_in self.old) }
@@ -70,6 +72,7 @@ impl Memory {
 
     /// Writes the word at an address, whose two lowest bits don't count. It wants memory only for a
     /// page that isn't held, and then changes nothing where memory is refused.
+    #[tactic(auto, using(crate::proofs::StoreLaws::word_stored, crate::proofs::StoreLaws::page_held, crate::proofs::StoreLaws::bytes_unchanged, crate::proofs::StoreLaws::held_unchanged), unfolding(crate::specs::Pages::bytes_in, crate::specs::Pages::is_held))]
     pub fn store_word(&mut self, at: u32, word: u32) -> Result<(), AllocError>
         ensures ok { OnOk result (bytes_in self.new ≡ with_word 32 (bytes_in self.old) (at / 4) word) }
         ensures err { OnErr result (bytes_in self.new ≡ bytes_in self.old) }
@@ -77,7 +80,7 @@ impl Memory {
         ensures kept { OnErr result ((page : ℕ) → is_held self.new page ≡ is_held self.old page) }
         ensures free { IsTrue (is_held self.old at) → IsOk result }
     {
-        write(self.alloc, &mut self.pages, at / 4 * 4, &word.to_le_bytes())
+        write(self.alloc, &mut self.pages, at / 4 * 4, &word_bytes(word))
     }
 
     /// Whether the page with this address is held.
@@ -86,5 +89,38 @@ impl Memory {
         ensures { result ≡ is_held self.now at }
     {
         self.pages.contains_key(&(at / PAGE))
+    }
+}
+
+#[cfg(test)]
+mod tests {
+    use super::*;
+    use std::test::Fail;
+
+    #[test]
+    fn a_byte_is_kept_in_its_page_alone(rt: HostRuntime) -> Result<(), Fail> {
+        let mut memory = Memory::new(rt.alloc());
+        assert_eq!(rt; memory.load_word(8191), 0);
+        memory.store_byte(8191, 7)?;
+        assert!(rt; memory.has_page(4096) && memory.has_page(8191));
+        assert!(rt; !memory.has_page(4095) && !memory.has_page(8192));
+        memory.store_byte(8192, 7)?;
+        assert_eq!(rt; memory.load_word(8188), 0x0700_0000);
+        assert_eq!(rt; memory.load_word(8192), 7);
+        assert_eq!(rt; memory.load_byte(8190), 0);
+        Ok(())
+    }
+
+    #[test]
+    fn words_are_aligned_and_bytes_lie_in_them(rt: HostRuntime) -> Result<(), Fail> {
+        let mut memory = Memory::new(rt.alloc());
+        memory.store_word(65_538, 0x1122_3344)?;
+        memory.store_byte(65_537, 0xab)?;
+        assert_eq!(rt; memory.load_word(65_539), 0x1122_ab44);
+        assert_eq!(rt; memory.load_byte(65_536), 0x44);
+        memory.store_word(u32::MAX, u32::MAX)?;
+        assert_eq!(rt; memory.load_byte(4_294_967_292), 255);
+        assert_eq!(rt; memory.load_word(4_294_967_288), 0);
+        Ok(())
     }
 }

@@ -1,9 +1,8 @@
 //! The pages that are held, by their numbers.
-ghost use Rattle.std.specs.Prelude.{◌≡◌, ◌+◌, ◌/◌, ◌%◌, ◌≤◌, IsOk, IsSome, OnOk, OnErr, length};
+ghost use Rattle.std.specs.Prelude.{◌≡◌, ◌+◌, ◌/◌, ◌%◌, ◌≤◌, IsOk, IsTrue, is_some, OnOk, OnErr, length};
 ghost use Rattle.std.specs.Box.{box_value};
-ghost use Rattle.std.specs.BTreeMap.{get, IsUnchanged};
-ghost use Rattle.std.specs.Ordering.{nat_cmp};
-ghost use Rattle.tv_mem.specs.Pages.{page_in, page_bytes, page_with, Changes};
+ghost use Rattle.std.specs.BTreeMap.{IsUnchanged};
+ghost use Rattle.tv_mem.specs.Pages.{page_in, page_with, Changes, Writes};
 
 use std::alloc::{AllocError, Global};
 use std::collections::BTreeMap;
@@ -20,9 +19,9 @@ pub fn write(
     bytes: &[u8],
 ) -> Result<(), AllocError>
     requires within { at % 4096 + length bytes.now ≤ 4096 }
-    ensures ok { OnOk result (Changes pages.old pages.new (at / 4096) (page_with (page_bytes (page_in pages.old (at / 4096))) (at % 4096) bytes.now)) }
+    ensures ok { OnOk result (Writes pages.old pages.new at bytes.now) }
     ensures err { OnErr result (IsUnchanged pages.old pages.new) }
-    ensures free { IsSome (get nat_cmp pages.old (at / 4096)) → IsOk result }
+    ensures free { IsTrue (is_some (page_in pages.old (at / 4096))) → IsOk result }
 {
     let place = (at % PAGE) as usize;
     if let Some(page) = pages.get_mut(&(at / PAGE)) {
@@ -37,7 +36,8 @@ pub fn write(
 // Writes bytes at a place of a page.
 fn overwrite(page: &mut [u8; 4096], place: usize, bytes: &[u8])
     requires within { place + length bytes.now ≤ 4096 }
-    ensures { page.new ≡ page_with page.old place bytes.now }
+    ensures with { page.new ≡ page_with page.old place bytes.now }
+    ensures whole { length page.old ≡ 4096 }
 {
     page[place..place + bytes.len()].copy_from_slice(bytes);
 }
