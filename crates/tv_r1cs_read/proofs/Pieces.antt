@@ -37,15 +37,14 @@ piece_grows front into rest file at held count size fits is_front next =
     ∙ sym (take-add held count (drop at file))
 
 -- the bytes in the buffer at a place that a piece holds are those of the file
-pub number_held : (buffer file : List ℕ) (held from at size : ℕ) → held ≤ length buffer →
+pub bytes_held : (buffer file : List ℕ) (held from at size : ℕ) → held ≤ length buffer →
     IsPiece (record { at = from; bytes = take held buffer }) file → Holds (record { at = from; bytes = take held buffer }) at size →
-    spelled (take size (drop (at - from) buffer)) ≡ number file size at
-number_held buffer file held from at size room piece holds =
+    take size (drop (at - from) buffer) ≡ take size (drop at file)
+bytes_held buffer file held from at size room piece holds =
     let n : length (take held buffer) ≡ held = length-take-le held buffer room in
     let k : at - from + size ≤ held = omega (arith, holds.to, holds.from) in
     let there : from + (at - from) ≡ at = omega (arith, holds.from) in
     let same : take held buffer ≡ take held (drop from file) = rw n at piece.same in
-    ap spelled (
     sym (drop-take (at - from) size buffer)
     ∙ ap (λ front. drop (at - from) front) (
     sym (take-take (at - from + size) held buffer k)
@@ -53,7 +52,24 @@ number_held buffer file held from at size room piece holds =
     ∙ take-take (at - from + size) held (drop from file) k)
     ∙ drop-take (at - from) size (drop from file)
     ∙ ap (λ left. take size left) (drop-drop (at - from) from file)
-    ∙ ap (λ p. take size (drop p file)) there)
+    ∙ ap (λ p. take size (drop p file)) there
+
+-- and so are the numbers that they spell
+pub number_held : (buffer file : List ℕ) (held from at size : ℕ) → held ≤ length buffer →
+    IsPiece (record { at = from; bytes = take held buffer }) file → Holds (record { at = from; bytes = take held buffer }) at size →
+    spelled (take size (drop (at - from) buffer)) ≡ number file size at
+number_held buffer file held from at size room piece holds = ap spelled (bytes_held buffer file held from at size room piece holds)
+
+-- all the bytes from a place on that a piece holds
+pub rest_held : (buffer file : List ℕ) (held from at size : ℕ) → held ≤ length buffer →
+    IsPiece (record { at = from; bytes = take held buffer }) file → Holds (record { at = from; bytes = take held buffer }) at 0 → size ≡ held - (at - from) →
+    take size (drop (at - from) buffer) ≡ take (length (take size (drop (at - from) buffer))) (drop at file)
+rest_held buffer file held from at size room piece holds is =
+    let n : length (take held buffer) ≡ held = length-take-le held buffer room in
+    let some : at + size ≤ from + length (take held buffer) = omega (arith, holds.to, holds.from) in
+    let left : size ≤ length (drop (at - from) buffer) = omega (arith, length-drop (at - from) buffer, holds.to, holds.from) in
+    bytes_held buffer file held from at size room piece (record { from = holds.from; to = some })
+    ∙ ap (λ m. take m (drop at file)) (sym (length-take-le size (drop (at - from) buffer) left))
 
 -- the file has the bytes at a place exactly where so many were read there
 pub there_if_read : (buffer file : List ℕ) (at size held : ℕ) → held ≤ length buffer → take held buffer ≡ take held (drop at file) →

@@ -7,7 +7,7 @@ use Rattle.tv_r1cs_read.specs.declared.rows.Row.{Row}
 use Rattle.tv_r1cs_read.specs.declared.why.ReadRefusal.{ReadRefusal}
 use Rattle.tv_r1cs_read.specs.Places.{Fault, ◌>>=◌, places}
 use Rattle.tv_r1cs_read.specs.Reading.{Piece, IsPiece}
-use Rattle.tv_r1cs_read.specs.R1cs.{constraints_from}
+use Rattle.tv_r1cs_read.specs.R1cs.{HasRoom, constraints_from}
 use Rattle.tv_r1cs_read.specs.Rows.{constraint_of, terms_in}
 
 -- what is known of the file: its header, and the piece of it that was read last; the place of the next
@@ -26,8 +26,9 @@ pub record IsWithin (reached : Reached) : Type 0 where
   pub ends : reached.header.rows.at + reached.header.rows.size < 2 ^ 64
   pub counted : reached.header.rows.at + 12 * reached.terms ≤ reached.at
 
--- no constraint was read
+-- no constraint was read, and there is a wire for the constant 1 and each public number
 pub record IsBegun (reached : Reached) : Type 0 where
+  pub room : HasRoom reached.header
   pub at : reached.at ≡ reached.header.rows.at
   pub left : reached.left ≡ reached.header.constraints
   pub terms : reached.terms ≡ 0

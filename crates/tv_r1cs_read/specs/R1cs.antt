@@ -1,5 +1,5 @@
 -- The constraint system that an r1cs file holds, version 1 of the binary format, or the file's first fault.
-use Rattle.std.specs.Prelude.{ℕ, zero, suc, ◌+◌, ◌-◌, ◌*◌, Bool, not, List, [], ◌∷◌, length, Option, Some, None, Result, Ok, Err, nat_lt, nat_le, ◌==◌, if◌then◌else◌}
+use Rattle.std.specs.Prelude.{ℕ, zero, suc, ◌+◌, ◌-◌, ◌*◌, ◌≤◌, Bool, not, List, [], ◌∷◌, length, Option, Some, None, Result, Ok, Err, nat_lt, nat_le, ◌==◌, if◌then◌else◌}
 use Rattle.tv_core.specs.Constraints.{Combination, Constraint, System}
 use Rattle.tv_core.specs.declared.field.TheConstants.{P}
 use Rattle.tv_r1cs_read.specs.declared.why.ReadWhy.TheVariants.{OtherPrime, BadCount, WireRange, NotCanonical, Truncated, TooWide}
@@ -25,6 +25,10 @@ counted file one two = record {
   constraints = number file 4 (one.at + 36);
   rows = two;
 }
+
+-- there is a wire for the constant 1 and each public number
+abbrev pub HasRoom : Header → Type 0
+HasRoom header = 1 + header.outputs + header.inputs ≤ header.wires
 
 -- there is a wire for the constant 1 and each public number, and section 3, where there is one, has
 -- eight bytes for each wire

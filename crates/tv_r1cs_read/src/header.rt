@@ -2,7 +2,7 @@ ghost use Rattle.std.specs.Prelude.{◌≡◌, ℕ, ◌+◌, ◌*◌, ◌≤◌,
 ghost use Rattle.tv_r1cs_read.specs.Found.{first_of, AllEnd, AllFit};
 ghost use Rattle.tv_r1cs_read.specs.Places.{places};
 ghost use Rattle.tv_r1cs_read.specs.Reading.{bytes_of, Looks, Refuses, Gives, IsMissing, IsTold, IsPiece};
-ghost use Rattle.tv_r1cs_read.specs.R1cs.{this_field, checked, counted, header_in, header_of};
+ghost use Rattle.tv_r1cs_read.specs.R1cs.{HasRoom, this_field, checked, counted, header_in, header_of};
 ghost use Rattle.tv_r1cs_read.specs.Sections.{section_of, wanted};
 ghost use Rattle.tv_r1cs_read.specs.declared.sections.Section.{Section};
 
@@ -43,6 +43,7 @@ pub(crate) fn read_header<D: Files>(
     ensures within { (file : List ℕ) → bytes_of (D.seen files.old) name.now ≡ Some file → IsPiece window.old file →
         IfOk result (λ header. header.rows.at + header.rows.size ≤ places file) }
     ensures ends { IfOk result (λ header. header.rows.at + header.rows.size < 2 ^ 64) }
+    ensures room { IfOk result HasRoom }
     ensures looks { Looks (D.seen files.old) (D.seen files.new) name.now result }
     ensures missing { IsMissing (D.seen files.old) name.now → window.old.bytes ≡ [] → result ≡ Err ReadRefusal.Fault }
 {
@@ -68,6 +69,7 @@ fn header_in<D: Files>(
     ensures within { (file : List ℕ) → (sections : List Section) → found.now ≡ first_of sections → AllFit file sections →
         IfOk result (λ header. header.rows.at + header.rows.size ≤ places file) }
     ensures ends { IfOk result (λ header. header.rows.at + header.rows.size < 2 ^ 64) }
+    ensures room { IfOk result HasRoom }
     ensures looks { Looks (D.seen files.old) (D.seen files.new) name.now result }
 {
     let one = wanted(found.one, 1, end)?;
@@ -167,6 +169,7 @@ fn counted<D: Files>(
 fn checked(header: Header, one: &Section, three: Option<Section>) -> Result<Header, ReadRefusal>
     ensures gives { Gives result (checked header one.now three) }
     ensures same { IfOk result (λ checked. checked ≡ header) }
+    ensures room { OnOk result (HasRoom header) }
     ensures told { IfErr result IsTold }
 {
     let wires = u64::from(header.wires);

@@ -75,6 +75,15 @@ impl Window {
         (held.min(end - at) / 12) as u32
     }
 
+    /// The bytes that the window holds from a place on, which it holds.
+    pub fn bytes_from(&self, at: u64) -> &[u8]
+        requires { Holds self.now at 0 }
+        ensures all { at + length result.now ≡ self.now.at + length self.now.bytes }
+        ensures bytes { (file : List ℕ) → IsPiece self.now file → result.now ≡ take (length result.now) (drop at file) }
+    {
+        &self.bytes[(at - self.at) as usize..self.held]
+    }
+
     // Whether the bytes at a place, so many, are held.
     fn holds(&self, at: u64, size: usize) -> bool
         ensures { result ≡ true → Holds self.now at size }

@@ -16,6 +16,7 @@ use Rattle.tv_top.specs.Outcome.{Look, ◌>>=◌, Job, Check, job, Answer, file_
 use Rattle.tv_top.specs.Ends.{Ends}
 use Rattle.tv_top.specs.Answers.{Answers}
 use Rattle.tv_top.specs.Claims.{Holding, Given, Accepted, Refuted, IsHindered, Checks}
+use Rattle.tv_top.proofs.Ending.{fault_or_due, was_due}
 use Rattle.tv_top.proofs.Verdicts.{yes_exactly}
 use Rattle.tv_top.proofs.Nos.{no_is_true, true_no}
 
@@ -94,27 +95,22 @@ judged_system files system witness tape (inr refused) = inr (refused.0, stop (fi
 -- ---- how the call ended
 
 -- a fault has hindered it
-hindered_by : (asked : Result Job Status) (count word : ℕ) (old new : Outside) (result : Status) → Answers asked count old new result → result ≡ FileFault word → IsHindered old new result
-hindered_by asked count word old new result answers is = elim (answers.caused word is) [
+hindered_by : (system witness tape : List ℕ) (count word : ℕ) (old new : Outside) (result : Status) → Answers (Ok (Check system witness tape)) count old new result → result ≡ FileFault word →
+    IsHindered old new result
+hindered_by system witness tape count word old new result answers is = elim (answers.caused word is) [
   | inl read ↦ inl (word, is, inl read.1)
-  | inr said ↦ inl (word, is, inr said.1)
+  | inr (inl none) ↦ absurd none.0
+  | inr (inr said) ↦ inl (word, is, inr said.1)
 ]
 
 -- a status that is due is the answer, unless something hindered it
-due_or_hindered : (answer : Answer) (asked : Result Job Status) (count : ℕ) (files : Names) (old new : Outside) (result : Status) → Answers asked count old new result →
+due_or_hindered : (answer : Answer) (system witness tape : List ℕ) (count : ℕ) (files : Names) (old new : Outside) (result : Status) → Answers (Ok (Check system witness tape)) count old new result →
     Ends answer count files old new result → (result ≡ answer.status) ⊎ IsHindered old new result
-due_or_hindered answer asked count files old new result answers (inl answered) = inl answered.status
-due_or_hindered answer asked count files old new result answers (inr (inl read)) = inr (hindered_by asked count read.0 old new result answers read.1)
-due_or_hindered answer asked count files old new result answers (inr (inr (inl said))) = inr (hindered_by asked count count old new result answers said.0)
-due_or_hindered answer asked count files old new result answers (inr (inr (inr wanting))) = inr (inr wanting.0)
-
--- an answer that is no fault and no want of memory is due
-was_due : (answer : Answer) (count : ℕ) (files : Names) (old new : Outside) (result : Status) → ¬ (result ≡ Memory) → ((word : ℕ) → ¬ (result ≡ FileFault word)) →
-    Ends answer count files old new result → result ≡ answer.status
-was_due answer count files old new result memory fault (inl answered) = answered.status
-was_due answer count files old new result memory fault (inr (inl read)) = absurd (fault read.0 read.1)
-was_due answer count files old new result memory fault (inr (inr (inl said))) = absurd (fault count said.0)
-was_due answer count files old new result memory fault (inr (inr (inr wanting))) = absurd (memory wanting.0)
+due_or_hindered answer system witness tape count files old new result answers ends = elim (fault_or_due answer count files old new result ends) [
+  | inl due ↦ inl due
+  | inr (inl fault) ↦ inr (hindered_by system witness tape count fault.0 old new result answers fault.1)
+  | inr (inr memory) ↦ inr (inr memory)
+]
 
 yes_of : (verdict : Verdict) → verdict_status verdict ≡ Done → verdict ≡ Yes
 yes_of Yes e = refl
@@ -164,7 +160,7 @@ checks words system witness tape asked count files old new result are told is an
     let judged = judged_system files system witness tape (seen_at 1 (files system) system_of) in
     record {
       done = λ e. accepted_by files system witness tape judged (sym (was_due due count files old new result (λ h. cc) (λ word h. cc) ends) ∙ e);
-      accepted = λ accepted. rw (accepted_gives files system witness tape accepted) at (due_or_hindered due (Ok (Check system witness tape)) count files old new result promised ends);
+      accepted = λ accepted. rw (accepted_gives files system witness tape accepted) at (due_or_hindered due system witness tape count files old new result promised ends);
       says_no = λ why e. refuted_by files system witness tape why judged (sym (was_due due count files old new result (λ h. cc) (λ word h. cc) ends) ∙ e);
-      refuted = λ why refuted. rw (refuted_gives files system witness tape why refuted) at (due_or_hindered due (Ok (Check system witness tape)) count files old new result promised ends);
+      refuted = λ why refuted. rw (refuted_gives files system witness tape why refuted) at (due_or_hindered due system witness tape count files old new result promised ends);
     }

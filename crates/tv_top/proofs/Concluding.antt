@@ -27,8 +27,8 @@ concluded_since status says words old mid new result only (inr (inr memory)) =
 pub ends_answered : (report : Option (List ℕ)) (looked : ℕ) (status : Status) (words : ℕ) (files : Names) (old new : Outside) (result : Status) →
     new.contents ≡ Some files → IsConcluded status (says report status) words old new result → Ends (said_of report looked status) words files old new result
 ends_answered report looked status words files old new result held (inl answered) = inl (record { status = answered.0; contents = held; said = answered.1 })
-ends_answered report looked status words files old new result held (inr (inl fault)) = inr (inr (inl (fault.0, record { contents = held; said = fault.2 })))
-ends_answered report looked status words files old new result held (inr (inr memory)) = inr (inr (inr (memory.0, inr (record { contents = held; said = memory.2 }))))
+ends_answered report looked status words files old new result held (inr (inl fault)) = inr (inr (inr (inl (fault.0, record { contents = held; said = fault.2 }))))
+ends_answered report looked status words files old new result held (inr (inr memory)) = inr (inr (inr (inr (memory.0, inr (inr (record { contents = held; said = memory.2 }))))))
 
 -- where nothing is to be said, the status is the answer, and nothing was said
 pub said_nothing : (status : Status) (says : Option (List ℕ)) (words : ℕ) (old new : Outside) (result : Status) → says ≡ None →

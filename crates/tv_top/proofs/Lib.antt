@@ -1,5 +1,7 @@
 pub mod Concluding
+pub mod Making
 pub mod Answering
+pub mod Storing
 pub mod Chain
 pub mod Difference
 pub mod Each
@@ -10,4 +12,5 @@ pub mod System
 pub mod Below
 pub mod Verdicts
 pub mod Nos
+pub mod Ending
 pub mod Checked

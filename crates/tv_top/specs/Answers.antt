@@ -1,16 +1,35 @@
 -- What every call of the command promises, by what its words ask for.
-use Rattle.std.specs.Prelude.{◌≡◌, ℕ, ◌≤◌, ◌<◌, ◌⊎◌, None, Result, Ok, Err}
-use Rattle.tv_files.specs.Outside.{Outside, Told, Rose, NoneFell}
+use Rattle.std.specs.Prelude.{◌≡◌, ℕ, ◌≤◌, ◌<◌, ◌⊎◌, List, [], ◌∷◌, Option, None, option_map, Result, Ok, Err}
+use Rattle.tv_files.specs.Outside.{Names, Outside, Told, Rose, NoneFell, with_bytes}
 use Rattle.tv_top.specs.declared.status.Status.{Status}
-use Rattle.tv_top.specs.declared.status.Status.TheVariants.{Usage, FileFault, Memory}
+use Rattle.tv_top.specs.declared.status.Status.TheVariants.{Usage, FileFault, Memory, SameName}
 use Rattle.tv_top.specs.Codes.{says}
-use Rattle.tv_top.specs.Outcome.{Job, Check, report_of, outcome}
+use Rattle.tv_top.specs.Outcome.{Job, Asm, Check, report_of, outcome}
 use Rattle.tv_top.specs.Ends.{Said, SaidPart, Ends, IsConcluded}
 
 -- the word is one at which the name of a file to be read stands
 abbrev pub IsRead : Result Job Status → ℕ → Type 0
+IsRead (Ok (Asm _ _)) word = word ≡ 1
 IsRead (Ok (Check _ _ _)) word = (0 < word) × (word ≤ 3)
 IsRead (Err _) word = ⊥
+
+-- the word is one at which the name of a file to be written stands
+abbrev pub IsWritten : Result Job Status → ℕ → Type 0
+IsWritten (Ok (Asm _ _)) word = word ≡ 2
+IsWritten (Ok (Check _ _ _)) word = ⊥
+IsWritten (Err _) word = ⊥
+
+-- the names of the files to be written
+abbrev pub written_names : Result Job Status → List (List ℕ)
+written_names (Ok (Asm _ image)) = image ∷ []
+written_names (Ok (Check _ _ _)) = []
+written_names (Err _) = []
+
+-- the files, where they are told, changed at most at these names
+abbrev pub ChangedAt : List (List ℕ) → Option Names → Option Names → Type 0
+ChangedAt [] old new = new ≡ old
+ChangedAt (name ∷ names) old new =
+    ChangedAt names old new ⊎ ((bytes : List ℕ) × ChangedAt names (option_map (with_bytes name bytes) old) new)
 
 -- What every call promises, by what its words ask for. The first two are of files whose contents are
 -- told, the others of any files.
@@ -25,14 +44,16 @@ pub record Answers (asked : Result Job Status) (words : ℕ) (old new : Outside)
       → IsConcluded status (says None status) words old new result
   -- and nothing else is answered so
   pub usage : result ≡ Usage → asked ≡ Err Usage
+  pub same_name : (first second : ℕ) → result ≡ SameName first second → asked ≡ Err (SameName first second)
   -- which word a fault tells, and that the count of its kind rose
   pub caused : (word : ℕ) → result ≡ FileFault word
       → (IsRead asked word × Rose old.read_faults new.read_faults)
+      ⊎ (IsWritten asked word × Rose old.write_faults new.write_faults)
       ⊎ ((word ≡ words) × Rose old.say_faults new.say_faults)
   -- the line of the status was said; a fault of saying and want of memory leave a prefix of a line
   pub said : Said old new (says (report_of asked) result)
       ⊎ (((result ≡ FileFault words) ⊎ (result ≡ Memory))
       × (status : Status) × SaidPart old new (says (report_of asked) status))
-  -- every file is as it was, and no count fell
-  pub contents : new.contents ≡ old.contents
+  -- every file but those that are to be written is as it was, and no count fell
+  pub contents : ChangedAt (written_names asked) old.contents new.contents
   pub later : NoneFell old new

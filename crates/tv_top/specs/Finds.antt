@@ -2,7 +2,7 @@
 use Rattle.std.specs.Prelude.{◌≡◌, ℕ, ◌≤◌, ◌⊎◌, Result, Ok, Err}
 use Rattle.tv_files.specs.Outside.{Names, Outside, Told, Rose, OnlyReads}
 use Rattle.tv_top.specs.declared.status.Status.{Status}
-use Rattle.tv_top.specs.declared.status.Status.TheVariants.{Usage, FileFault, Memory}
+use Rattle.tv_top.specs.declared.status.Status.TheVariants.{Usage, FileFault, Memory, SameName}
 use Rattle.tv_top.specs.Outcome.{Look}
 
 -- what was found is what is due; or reading failed at a word that was looked at; or memory was wanting
@@ -22,3 +22,9 @@ pub record Finds {X A : Type 0} (view : X → A) (IsRead : ℕ → Type 0) (due 
   pub caused : (word : ℕ) → found ≡ Err (FileFault word)
       → IsRead word × Rose old.read_faults new.read_faults
   pub usage : ¬ (found ≡ Err Usage)
+  pub same_name : (first second : ℕ) → ¬ (found ≡ Err (SameName first second))
+
+-- what was made is what is due, or memory was wanting
+abbrev pub Makes : {X A : Type 0} → (X → A) → Result A Status → Result X Status → Type 0
+Makes view due (Ok x) = due ≡ Ok (view x)
+Makes view due (Err status) = (due ≡ Err status) ⊎ (status ≡ Memory)

@@ -14,3 +14,5 @@ pub mod Tried
 pub mod Meaning
 pub use Rattle.tv_core.specs.Constraints
 pub use Rattle.tv_files.specs.Outside
+pub use Rattle.tv_asm.specs.Assembly
+pub use Rattle.tv_files.specs.Whole

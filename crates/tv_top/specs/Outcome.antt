@@ -1,11 +1,19 @@
 -- What a command answers, by its words and by what the files hold.
-use Rattle.std.specs.Prelude.{ℕ, max, List, [], ◌∷◌, length, Option, Some, None, Result, Ok, Err, codes, nat_le, if◌then◌else◌}
+use Rattle.std.specs.Prelude.{ℕ, ◌+◌, max, List, [], ◌∷◌, length, Option, Some, None, Result, Ok, Err, codes, nat_le, if◌then◌else◌}
+use Rattle.std.specs.List.{flat_map}
 use Rattle.std.specs.Str.{bytes_eq}
+use Rattle.tv_asm.specs.Assembly.{assembled}
+use Rattle.tv_asm.specs.declared.fault.AsmFault.{AsmFault}
+use Rattle.tv_asm.specs.declared.fault.AsmFault.TheVariants as asm
 use Rattle.tv_core.specs.Constraints.{System}
 use Rattle.tv_files.specs.Outside.{Names}
+use Rattle.tv_word.specs.Word.{word_bytes}
+use Rattle.tv_top.specs.declared.limits.TheConstants.{TEXT_BYTES, IMAGE_WORDS}
 use Rattle.tv_top.specs.declared.status.NoWhy.TheVariants.{Public, Constraint, Wires}
 use Rattle.tv_top.specs.declared.status.Status.{Status}
-use Rattle.tv_top.specs.declared.status.Status.TheVariants.{Done, No, Usage, NotPlain, FileFault}
+use Rattle.tv_top.specs.declared.status.Status.TheVariants.{Done, No, Usage, BadProgram, NotPlain, Limit, FileFault, Memory, SameName}
+use Rattle.tv_top.specs.declared.status.What.{What}
+use Rattle.tv_top.specs.declared.status.What.TheVariants.{ImageWords, TextBytes}
 use Rattle.tv_top.specs.declared.verdict.Verdict.{Verdict}
 use Rattle.tv_top.specs.declared.verdict.Verdict.TheVariants as verdicts
 use Rattle.tv_top.specs.Codes.{says}
@@ -16,10 +24,16 @@ use Rattle.tv_top.specs.Verdict.{judge}
 
 -- what words ask for
 pub data Job : Type 0 where
+  Asm : List ℕ → List ℕ → Job
   Check : List ℕ → List ℕ → List ℕ → Job
+
+-- the job, unless words 1 and 2, of which the second names a file that is to be written, are one name
+abbrev pub apart : List ℕ → List ℕ → Job → Result Job Status
+apart read written asked = if bytes_eq read written then Err (SameName 1 2) else Ok asked
 
 -- the job of these words, where they are a command's; else the refusal
 abbrev pub job : List (List ℕ) → Result Job Status
+job (name ∷ text ∷ image ∷ []) = if bytes_eq name (codes "asm") then apart text image (Asm text image) else Err Usage
 job (name ∷ system ∷ witness ∷ tape ∷ []) = if bytes_eq name (codes "check") then Ok (Check system witness tape) else Err Usage
 job _ = Err Usage
 
@@ -66,6 +80,36 @@ check_of system witness tape files = do
   s ← file_at 1 (files system) system_of
   judged_of s witness tape files
 
+-- the bytes of a file that may have so many: a fault where its name isn't there
+abbrev pub limited_bytes : ℕ → What → ℕ → Option (List ℕ) → Result (List ℕ) Status
+limited_bytes word what most None = Err (FileFault word)
+limited_bytes word what most (Some bytes) = if nat_le (length bytes) most then Ok bytes else Err (Limit what (most + 1) most)
+
+-- the bytes of words: of each its four bytes, the lowest first
+abbrev pub image_bytes : List ℕ → List ℕ
+image_bytes words = flat_map (word_bytes 32) words
+
+-- what a fault of a program text is answered; it is two words more that pass the limit
+abbrev pub asm_status : AsmFault → Status
+asm_status (asm.Bad line why) = BadProgram line why
+asm_status (asm.TooMany line most) = Limit ImageWords (most + 2) most
+asm_status asm.Memory = Memory
+
+-- the bytes of an image, or what is answered
+abbrev pub assembly_status : Result (List ℕ) AsmFault → Result (List ℕ) Status
+assembly_status (Ok words) = Ok (image_bytes words)
+assembly_status (Err fault) = Err (asm_status fault)
+
+-- the image of a program text, in bytes
+unfoldable pub image_of : List ℕ → Result (List ℕ) Status
+image_of text = assembly_status (assembled 32 IMAGE_WORDS text)
+
+-- the image of the program text at word 1
+unfoldable pub asm_of : List ℕ → Names → Look (List ℕ)
+asm_of text files = do
+  bytes ← record { at = 1; gives = limited_bytes 1 TextBytes TEXT_BYTES (files text) }
+  record { at = 1; gives = image_of bytes }
+
 abbrev pub verdict_status : Verdict → Status
 verdict_status verdicts.Yes = Done
 verdict_status (verdicts.WireCount has wants) = No (Wires has wants)
@@ -77,10 +121,16 @@ abbrev pub status_of : {A : Type 0} → (A → Status) → Result A Status → S
 status_of f (Ok x) = f x
 status_of f (Err status) = status
 
--- a file that is to be written: its name and its bytes
+-- a file that is to be written: the word that names it, its name and its bytes
 pub record Write : Type 0 where
+  pub word : ℕ
   pub name : List ℕ
   pub bytes : List ℕ
+
+-- the files that are to be written, by those of what a result gives; none where it is refused
+abbrev pub writes_by : {A : Type 0} → (A → List Write) → Result A Status → List Write
+writes_by f (Ok x) = f x
+writes_by f (Err status) = []
 
 -- the whole answer: the last word whose file was looked at, the status, the files written, in order, and
 -- what is said
@@ -92,6 +142,7 @@ pub record Answer : Type 0 where
 
 -- what the command of a job says where it is done
 abbrev pub report_of : Result Job Status → Option (List ℕ)
+report_of (Ok (Asm _ _)) = None
 report_of (Ok (Check _ _ _)) = Some (codes "yes")
 report_of (Err _) = None
 
@@ -99,9 +150,22 @@ report_of (Err _) = None
 abbrev pub said_of : Option (List ℕ) → ℕ → Status → Answer
 said_of report looked status = record { looked = looked; status = status; writes = []; says = says report status }
 
+-- the answer to a look, by the status and the files of what it gives
+abbrev pub answer_by : {A : Type 0} → (A → Status) → (A → List Write) → Option (List ℕ) → Look A → Answer
+answer_by status writes report look = record {
+  looked = look.at;
+  status = status_of status look.gives;
+  writes = writes_by writes look.gives;
+  says = says report (status_of status look.gives);
+}
+
+-- the answer to a look whose bytes are written under the name at a word, and nothing is said
+abbrev pub stored_by : ℕ → List ℕ → Look (List ℕ) → Answer
+stored_by word name = answer_by (λ _. Done) (λ bytes. record { word = word; name = name; bytes = bytes } ∷ []) None
+
 -- what the words are answered, over files that hold this; FileFault stands for a name that isn't there
 abbrev pub outcome : Result Job Status → Names → Answer
 outcome (Err status) files = said_of None 0 status
+outcome (Ok (Asm text image)) files = stored_by 2 image (asm_of text files)
 outcome (Ok (Check system witness tape)) files =
-    let look = check_of system witness tape files in
-    said_of (Some (codes "yes")) look.at (status_of verdict_status look.gives)
+    answer_by verdict_status (λ _. []) (Some (codes "yes")) (check_of system witness tape files)

@@ -3,22 +3,24 @@ ghost use Rattle.std.specs.Prelude.{◌≡◌, ◌<◌, ℕ, List, [], ◌∷◌
 ghost use Rattle.std.specs.Option.{ForSome, option_copied};
 ghost use Rattle.tv_files.specs.Outside.{Told};
 ghost use Rattle.tv_top.specs.Answers.{Answers};
+ghost use Rattle.tv_top.specs.Asked.{asked};
 ghost use Rattle.tv_top.specs.Claims.{Checks};
 ghost use Rattle.tv_top.specs.Codes.{says};
-ghost use Rattle.tv_top.specs.Ends.{Concludes};
-ghost use Rattle.tv_top.specs.Outcome.{Check, job};
+ghost use Rattle.tv_top.specs.Ends.{Concludes, Stores};
+ghost use Rattle.tv_top.specs.Outcome.{Asm, Check, job};
 
+use crate::assembling::asm;
 use crate::checking::check;
 use crate::job::{Job, job_of};
 use crate::line::line_of;
 use crate::status::Status;
 use std::alloc::Global;
-use tv_files::{FileRefusal, Files};
+use tv_files::{FileRefusal, Files, write_file};
 
 /// Says the line of a status, where it has one, by one `say`; a refusal of it is the answer then.
 /// `words` is the number of words, `report` what Done says.
 fn conclude<D: Files>(files: &mut D, words: usize, report: Option<&str>, status: Status) -> Status
-    requires { ForSome report (λ text. length text.now < 96) }
+    requires { ForSome report (λ text. length text.now < 128) }
     ensures { Concludes status (says (option_copied report.entry) status) words
         (D.seen files.old) (D.seen files.new) result }
 {
@@ -29,6 +31,28 @@ fn conclude<D: Files>(files: &mut D, words: usize, report: Option<&str>, status:
         Ok(()) => status,
         Err(FileRefusal::Failed) => Status::FileFault { word: words as u64 },
         Err(FileRefusal::Memory) => Status::Memory,
+    }
+}
+
+/// Writes the one file of a command: these bytes, under the name at this word.
+fn store<D: Files>(files: &mut D, word: u64, name: &str, bytes: &[u8]) -> Status
+    ensures { Stores word name.now bytes.now (D.seen files.old) (D.seen files.new) result }
+{
+    match write_file(files, name, bytes) {
+        Ok(()) => Status::Done,
+        Err(FileRefusal::Failed) => Status::FileFault { word },
+        Err(FileRefusal::Memory) => Status::Memory,
+    }
+}
+
+/// `asm TEXT IMAGE`.
+fn run_asm<D: Files>(alloc: Global, words: usize, files: &mut D, text: &str, image: &str) -> Status
+    ensures { Answers (Ok (Asm text.now image.now)) words
+        (D.seen files.old) (D.seen files.new) result }
+{
+    match asm(alloc, files, text) {
+        Ok(bytes) => store(files, 2, image, &bytes),
+        Err(status) => conclude(files, words, None, status),
     }
 }
 
@@ -51,6 +75,20 @@ fn run_check<D: Files>(
     conclude(files, words, Some("yes"), status)
 }
 
+/// Does a job, given the number of words.
+fn run<D: Files>(alloc: Global, words: usize, files: &mut D, job: Job<'_>) -> Status
+    ensures { Answers (Ok (asked job.entry)) words (D.seen files.old) (D.seen files.new) result }
+{
+    match job {
+        Job::Asm { text, image } => run_asm(alloc, words, files, text, image),
+        Job::Check {
+            system,
+            witness,
+            tape,
+        } => run_check(alloc, words, files, system, witness, tape),
+    }
+}
+
 /// Does what the words after the program's name ask for, says the line of the status, and answers it.
 ///
 /// `check SYSTEM WITNESS TAPE` reads the three files, each whole and judged before the next is read. It
@@ -71,15 +109,8 @@ pub fn command<D: Files>(alloc: Global, words: &[String], files: &mut D) -> Stat
         → Told (D.seen files.old) (λ held.
         Checks held system witness tape (D.seen files.old) (D.seen files.new) result) }
 {
-    let job = match job_of(words) {
-        Ok(job) => job,
-        Err(status) => return conclude(files, words.len(), None, status),
-    };
-    match job {
-        Job::Check {
-            system,
-            witness,
-            tape,
-        } => run_check(alloc, words.len(), files, system, witness, tape),
+    match job_of(words) {
+        Ok(job) => run(alloc, words.len(), files, job),
+        Err(status) => conclude(files, words.len(), None, status),
     }
 }

@@ -4,6 +4,8 @@ ghost use Rattle.tv_top.specs.Codes.{code_of};
 
 use crate::verdict::Verdict;
 use std::alloc::AllocError;
+use tv_asm::{AsmFault, AsmWhy};
+use tv_r1cs_read::ReadWhy;
 
 /// Why `check` says no.
 #[derive(Clone, Copy, Debug, PartialEq, Eq)]
@@ -17,6 +19,19 @@ pub enum NoWhy {
     Wires { has: u64, wants: u64 },
 }
 
+/// The quantities that have a limit.
+#[derive(Clone, Copy, Debug, PartialEq, Eq)]
+pub enum What {
+    /// The words of the image that a program text has.
+    ImageWords,
+    /// The bytes of an image file.
+    ImageBytes,
+    /// The numbers of a tape.
+    TapeWords,
+    /// The bytes of a program text or of a tape.
+    TextBytes,
+}
+
 /// How a command ended.
 #[derive(Clone, Copy, Debug, PartialEq, Eq)]
 pub enum Status {
@@ -26,12 +41,26 @@ pub enum Status {
     No { no: NoWhy },
     /// The words are no command's.
     Usage,
+    /// The program text has no image: its first line at fault, counted from 1, and the reason.
+    BadProgram { line: u64, why: AsmWhy },
+    /// On the tape at this word the item with this number, counted from 0, is none of its numbers.
+    BadTape { word: u32, at: u64 },
+    /// The file holds no system: its first fault, at this byte, and the reason.
+    BadSystem { at: u64, why: ReadWhy },
+    /// The file holds no assignment: its first fault, at this byte, and the reason.
+    BadWitness { at: u64, why: ReadWhy },
     /// The file at this word isn't in the plain form.
     NotPlain { word: u32 },
+    /// There are `has` of a quantity of which there may be `most`.
+    Limit { what: What, has: u64, most: u64 },
     /// A file call failed, on the name at this word, or, at the number of words, in saying the line.
     FileFault { word: u64 },
     /// Memory was wanting.
     Memory,
+    /// Two words name one file, which is to be written.
+    SameName { first: u32, second: u32 },
+    /// An image file of `len` bytes, which isn't a multiple of 8.
+    BadImage { len: u64 },
 }
 
 impl Status {
@@ -43,9 +72,15 @@ impl Status {
             Status::Done => 0,
             Status::No { .. } => 1,
             Status::Usage => 2,
-            Status::NotPlain { .. } => 5,
+            Status::BadProgram { .. } => 3,
+            Status::BadTape { .. } => 4,
+            Status::BadSystem { .. } | Status::NotPlain { .. } => 5,
+            Status::BadWitness { .. } => 6,
+            Status::Limit { .. } => 7,
             Status::FileFault { .. } => 8,
             Status::Memory => 9,
+            Status::SameName { .. } => 12,
+            Status::BadImage { .. } => 13,
         }
     }
 }
@@ -57,6 +92,24 @@ impl From<AllocError> for Status {
 
     fn from(_: AllocError) -> Status {
         Status::Memory
+    }
+}
+
+impl From<AsmFault> for Status {
+    ghost use Rattle.tv_top.specs.Outcome.{asm_status};
+
+    ghost from_gives = { λ fault status. status ≡ asm_status fault };
+
+    fn from(fault: AsmFault) -> Status {
+        match fault {
+            AsmFault::Bad { line, why } => Status::BadProgram { line, why },
+            AsmFault::TooMany { most, .. } => Status::Limit {
+                what: What::ImageWords,
+                has: u64::from(most) + 2,
+                most: u64::from(most),
+            },
+            AsmFault::Memory => Status::Memory,
+        }
     }
 }
 

@@ -9,4 +9,5 @@ returns-in-Err-Memory g c = record {
   only = c.in-Err-Memory.ensures.only;
   caused = λ _ e. cc;
   usage = λ e. cc;
+  same_name = λ _ _ e. cc;
 }

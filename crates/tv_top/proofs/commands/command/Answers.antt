@@ -13,8 +13,8 @@ returns-in-Err-clause-check g c = λ system witness tape are files told.
     checks (map string_bytes c.args.words.now) system witness tape _ _ files _ _ _ are told refl
     (answers_refused (map string_bytes c.args.words.now) _ _ _ _ _ c.in-Err.ensures c.conclude.ensures)
 
-pub returns-clause-check : goal.returns-clause-check
-returns-clause-check g c = λ system witness tape are files told.
+pub returns-in-Ok-clause-check : goal.returns-in-Ok-clause-check
+returns-in-Ok-clause-check g c = λ system witness tape are files told.
     let answers : Answers (job (map string_bytes c.args.words.now)) (length c.args.words.now)
-    (g.D.Files.seen c.args.files.now) (g.D.Files.seen c.run_check.new.files) c.run_check.result = search rules in
+    (g.D.Files.seen c.args.files.now) (g.D.Files.seen c.run.new.files) c.run.result = search rules in
     checks (map string_bytes c.args.words.now) system witness tape _ _ files _ _ _ are told refl answers

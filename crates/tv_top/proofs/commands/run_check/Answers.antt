@@ -1,6 +1,6 @@
 use Rattle.std.proofs.Common.{◌≡◌, ℕ, Some, codes, refl, rules}
 use Rattle.tv_top.specs.Outcome.{Check, check_of, status_of, verdict_status}
-use Rattle.tv_top.specs.declared.status.Status.TheVariants.{Usage, FileFault}
+use Rattle.tv_top.specs.declared.status.Status.TheVariants.{Usage, FileFault, SameName}
 use Rattle.tv_top.specs.declared.verdict.Verdict.{Verdict}
 use Rattle.tv_top.specs.declared.verdict.Verdict.TheVariants.{Yes, WireCount, NoPublic, NoConstraint}
 use Rattle.tv_top.proofs.Answering.{answers_found}
@@ -19,6 +19,12 @@ no_fault (WireCount _ _) word e = cc
 no_fault (NoPublic _) word e = cc
 no_fault (NoConstraint _) word e = cc
 
+no_same_name : (verdict : Verdict) (first second : ℕ) → ¬ (verdict_status verdict ≡ SameName first second)
+no_same_name Yes first second e = cc
+no_same_name (WireCount _ _) first second e = cc
+no_same_name (NoPublic _) first second e = cc
+no_same_name (NoConstraint _) first second e = cc
+
 pub returns : goal.returns
 returns g c =
     let asked = Check c.args.system.now c.args.witness.now c.args.tape.now in
@@ -26,4 +32,4 @@ returns g c =
     let found : c.match-check.status ≡ status_of verdict_status c.check.result =
     elim c.match-check.branch [ in-Ok w ↦ search rules | in-Err w ↦ search rules ] in
     answers_found asked verdict_status (Some (codes "yes")) due c.check.result c.args.words _ _ _ _
-    (λ _. refl) refl no_usage no_fault c.check.ensures (rw found at c.conclude.ensures)
+    (λ _. refl) refl no_usage no_same_name no_fault c.check.ensures (rw found at c.conclude.ensures)

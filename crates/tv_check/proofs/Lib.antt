@@ -1,0 +1,5 @@
+pub mod Difference
+pub mod Firsts
+pub mod Room
+pub mod Verdicts
+pub mod Trying

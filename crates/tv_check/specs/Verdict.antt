@@ -1,0 +1,62 @@
+-- The verdict on a system, an assignment and the public numbers that it is to extend: the first of
+-- these that is wrong is named: the number of values, a public wire, a constraint.
+use Rattle.std.specs.Prelude.{ℕ, suc, ◌+◌, ◌*◌, ◌%◌, ◌≤◌, Bool, true, false, List, [], ◌∷◌, length, take, Option, Some, None, Result, Ok, ◌==◌, if◌then◌else◌}
+use Rattle.std.specs.Option.{option_map}
+use Rattle.tv_core.specs.Constraints.{System, Constraint, value}
+use Rattle.tv_core.specs.declared.field.TheConstants.{P}
+use Rattle.tv_r1cs_read.specs.Places.{Fault, ◌>>=◌}
+use Rattle.tv_r1cs_read.specs.R1cs.{system_of}
+use Rattle.tv_check.specs.declared.verdict.Verdict.{Verdict}
+use Rattle.tv_check.specs.declared.verdict.Verdict.TheVariants.{Yes, WireCount, NoPublic, NoConstraint}
+
+-- there is a wire for the constant 1 and each public number
+abbrev pub HasRoom : System → Type 0
+HasRoom system = 1 + system.outputs + system.inputs ≤ system.wires
+
+-- the test of a constraint
+abbrev pub holds : List ℕ → Constraint → Bool
+holds z constraint = value constraint.a z * value constraint.b z % P == value constraint.c z
+
+-- the place of the first constraint that doesn't hold
+abbrev pub first_failing : List ℕ → List Constraint → Option ℕ
+first_failing z [] = None
+first_failing z (constraint ∷ constraints) =
+    if holds z constraint then option_map suc (first_failing z constraints) else Some 0
+
+-- the least place where two lists differ; a place in one list alone differs
+abbrev pub first_difference : List ℕ → List ℕ → Option ℕ
+first_difference [] [] = None
+first_difference [] (_ ∷ _) = Some 0
+first_difference (_ ∷ _) [] = Some 0
+first_difference (x ∷ xs) (y ∷ ys) = if x == y then option_map suc (first_difference xs ys) else Some 0
+
+abbrev pub constraint_verdict : Option ℕ → Verdict
+constraint_verdict None = Yes
+constraint_verdict (Some at) = NoConstraint at
+
+abbrev pub public_verdict : Option ℕ → Verdict → Verdict
+public_verdict None others = others
+public_verdict (Some at) _ = NoPublic at
+
+-- the values are compared with the wires by number, the list 1, x with the value of wire 0 and the
+-- public values, and then each constraint is tried
+abbrev pub judge : System → List ℕ → List ℕ → Verdict
+judge system z x =
+    if length z == system.wires
+    then public_verdict (first_difference (1 ∷ x) (take (1 + system.outputs + system.inputs) z))
+    (constraint_verdict (first_failing z system.constraints))
+    else WireCount (length z) system.wires
+
+-- the verdict once one more constraint is tried, the one with this number, which holds or not
+abbrev pub tried : Verdict → ℕ → Bool → Verdict
+tried Yes at true = Yes
+tried Yes at false = NoConstraint at
+tried (WireCount has wants) at holds = WireCount has wants
+tried (NoPublic at) next holds = NoPublic at
+tried (NoConstraint at) next holds = NoConstraint at
+
+-- the verdict by the system that a file holds, or the file's first fault
+unfoldable pub verdict_of : List ℕ → List ℕ → List ℕ → Result Verdict Fault
+verdict_of file z x = do
+  system ← system_of file
+  Ok (judge system z x)

@@ -1,0 +1,44 @@
+ghost use Rattle.std.specs.Prelude.{◌≡◌, ℕ, List, Some, Err};
+ghost use Rattle.tv_r1cs_read.specs.Reading.{bytes_of, Looks, Gives, IsMissing};
+ghost use Rattle.tv_r1cs_read.specs.declared.why.ReadRefusal.{ReadRefusal};
+ghost use Rattle.tv_check.specs.Verdict.{verdict_of};
+
+use crate::publics::public_verdict;
+use crate::rows::tried;
+use crate::verdict::Verdict;
+use std::alloc::Global;
+use tv_core::F;
+use tv_files::Files;
+use tv_r1cs_read::{ReadRefusal, SystemReader};
+
+/// The verdict on an assignment, `values`, and public numbers, by the system in a file: first on the
+/// number of values, then on the public wires, then on each constraint.
+///
+/// The file is read to its end whatever the verdict: `Ok` comes exactly for a file that holds a system,
+/// and `Bad` tells the first fault of another one. `Fault` comes only where a read failed, and a missing
+/// name is such a fault. Takes one pass, and memory for one constraint; each term is one product.
+pub fn check<D: Files>(
+    alloc: Global,
+    files: &mut D,
+    system: &str,
+    values: &[F],
+    publics: &[F],
+) -> Result<Verdict, ReadRefusal>
+    ensures gives { (file : List ℕ) → bytes_of (D.seen files.old) system.now ≡ Some file →
+        Gives result (verdict_of file values.now publics.now) }
+    ensures looks { Looks (D.seen files.old) (D.seen files.new) system.now result }
+    ensures missing { IsMissing (D.seen files.old) system.now → result ≡ Err ReadRefusal.Fault }
+{
+    let mut reader = match SystemReader::begin(alloc, files, system) {
+        Ok(reader) => reader,
+        Err(unread) => return Err(unread.why),
+    };
+    let mut verdict = public_verdict(&reader.counts(), values, publics);
+    let mut at = 0_u64;
+    while let Some(row) = reader.next()? {
+        verdict = tried(verdict, at, &row, values);
+        reader.reuse(row);
+        at += 1;
+    }
+    Ok(verdict)
+}

@@ -1,0 +1,16 @@
+//! The verdict on a constraint system, an assignment and public numbers, straight from the system's
+//! file: `check` reads it to its end, one row at a time, and answers as `verdict_of` the whole file
+//! says, or the file's first fault.
+#![tactic(auto)]
+
+mod checking;
+mod laws;
+mod publics;
+mod rows;
+#[cfg(test)]
+mod tests;
+mod verdict;
+
+pub use checking::check;
+pub use laws::{systems_have_room, verdicts_tell};
+pub use verdict::Verdict;

@@ -1,0 +1,24 @@
+ghost use Rattle.std.specs.Prelude.{◌≡◌};
+ghost use Rattle.tv_disasm.specs.declared.fault.DisFault.TheVariants.{Memory};
+
+use std::alloc::AllocError;
+use thiserror::Error;
+
+/// Why an image has no program text.
+#[derive(Debug, Drop, Error)]
+pub enum DisFault {
+    /// The bytes aren't whole instructions of 8 bytes.
+    #[error("{len} bytes, not a multiple of 8")]
+    Ragged { len: u64 },
+    /// Memory was wanting.
+    #[error("no memory")]
+    Memory,
+}
+
+impl From<AllocError> for DisFault {
+    ghost from_gives = { λ _ fault. fault ≡ Memory };
+
+    fn from(_error: AllocError) -> DisFault {
+        DisFault::Memory
+    }
+}

@@ -1,0 +1,40 @@
+ghost use Rattle.std.specs.Prelude.{◌≡◌, [], ◌∷◌, None, IfSome};
+
+use std::marker::Model;
+use tv_word::Words;
+
+/// A tape that is read from its front. Contracts see the words that are left.
+#[derive(Drop)]
+pub struct Tape {
+    words: Words,
+    taken: usize,
+}
+
+impl Model for Tape {
+    ghost use Rattle.std.specs.Prelude.{ℕ, List, drop, length, ◌≤◌};
+
+    ghost Value = { List ℕ };
+
+    ghost view = { λ tape. drop tape.taken tape.words };
+
+    ghost invariant = { λ tape. tape.taken ≤ length tape.words };
+}
+
+impl Tape {
+    /// The tape of these words, none of which is taken.
+    pub fn new(words: Words) -> Tape
+        ensures { result ≡ words }
+    {
+        Tape { words, taken: 0 }
+    }
+
+    /// Takes the next word; `None` exactly at the end, where it stays. Takes constant time.
+    pub fn next(&mut self) -> Option<u32>
+        ensures word { IfSome result (λ word. self.old ≡ word ∷ self.new) }
+        ensures end { result ≡ None → (self.old ≡ []) × (self.new ≡ []) }
+    {
+        let word = *self.words.as_slice().get(self.taken)?;
+        self.taken += 1;
+        Some(word)
+    }
+}

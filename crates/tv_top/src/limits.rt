@@ -1,0 +1,7 @@
+//! How much a file may hold.
+
+/// The most bytes of a program text or of a tape.
+pub(crate) const TEXT_BYTES: u64 = 1_048_576;
+
+/// The most words of an image.
+pub(crate) const IMAGE_WORDS: u32 = 16_384;

@@ -1,0 +1,4 @@
+pub mod Ahead
+pub mod Sections
+pub mod ValueLaws
+pub mod Vectors

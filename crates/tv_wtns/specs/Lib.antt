@@ -1,0 +1,2 @@
+pub mod Wtns
+pub mod Values

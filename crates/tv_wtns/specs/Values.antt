@@ -1,0 +1,19 @@
+-- What is kept of values that are being read.
+use Rattle.std.specs.Prelude.{◌≡◌, ℕ, ◌+◌, ◌*◌, ◌<◌, List, ◌++◌, length, slice_index_or, Result, Ok}
+use Rattle.tv_word.specs.Word.{spelled}
+use Rattle.tv_r1cs_read.specs.Places.{Fault, ◌>>=◌, number}
+use Rattle.tv_wtns.specs.Wtns.{values_at}
+
+-- words of eight bytes spell the numbers that the file has from a place on
+pub record AreWords (words : List (List ℕ)) (file : List ℕ) (at : ℕ) : Type 0 where
+  pub spell : (k : ℕ) (d : List ℕ) → k < length words → spelled (slice_index_or words k d) ≡ number file 8 (at + 8 * k)
+
+-- values of which the first were read before the others
+unfoldable pub with_front : List ℕ → Result (List ℕ) Fault → Result (List ℕ) Fault
+with_front front others = do
+  values ← others
+  Ok (front ++ values)
+
+-- an answer is these values and, of those at a place, so many
+pub record IsAhead (answer : Result (List ℕ) Fault) (values file : List ℕ) (n at : ℕ) : Type 0 where
+  pub same : answer ≡ with_front values (values_at file n at)

@@ -1,0 +1,44 @@
+-- The assignment that a wtns file holds, version 2 of the binary format, or the file's first fault.
+use Rattle.std.specs.Prelude.{◌≡◌, ℕ, zero, suc, ◌+◌, ◌*◌, ◌<◌, not, List, [], ◌∷◌, Result, Ok, nat_lt, ◌==◌}
+use Rattle.std.specs.List.{All}
+use Rattle.tv_core.specs.declared.field.TheConstants.{P}
+use Rattle.tv_r1cs_read.specs.Places.{Fault, ◌>>=◌, unless, number}
+use Rattle.tv_r1cs_read.specs.R1cs.{this_field}
+use Rattle.tv_r1cs_read.specs.Sections.{sections_of, wanted}
+use Rattle.tv_r1cs_read.specs.declared.sections.Section.{Section}
+use Rattle.tv_r1cs_read.specs.declared.why.ReadWhy.TheVariants.{BadCount, NotCanonical}
+
+-- the values at a place, so many: eight bytes each, which spell a number below P
+unfoldable pub values_at : List ℕ → ℕ → ℕ → Result (List ℕ) Fault
+values_at file zero at = Ok []
+values_at file (suc n) at = do
+  _ ← unless (not (nat_lt (number file 8 at) P)) at NotCanonical
+  others ← values_at file n (at + 8)
+  Ok (number file 8 at ∷ others)
+
+-- how many values a section 1 counts
+abbrev pub counted : List ℕ → Section → ℕ
+counted file one = number file 4 (one.at + 12)
+
+-- a section 2 is of the size that so many values have
+abbrev pub fills : ℕ → Section → Result (Unit {0}) Fault
+fills count two = unless (not (two.size == 8 * count)) two.at (BadCount two.size (8 * count))
+
+-- the assignment, from the sections
+unfoldable pub assignment_in : List ℕ → List Section → Result (List ℕ) Fault
+assignment_in file sections = do
+  one ← wanted 1 file sections
+  two ← wanted 2 file sections
+  _ ← this_field file 16 one
+  _ ← fills (counted file one) two
+  values_at file (counted file one) two.at
+
+-- the assignment, or the first fault of the file; its magic is the text `wtns`
+unfoldable pub assignment_of : List ℕ → Result (List ℕ) Fault
+assignment_of file = do
+  sections ← sections_of 2 0x736e7477 2 file
+  assignment_in file sections
+
+-- each value of each assignment is below P
+abbrev pub AssignmentsAreBelow : Type 0
+AssignmentsAreBelow = (file values : List ℕ) → assignment_of file ≡ Ok values → All (λ v. v < P) values

@@ -1,0 +1,119 @@
+//! The assignment of a whole file.
+
+ghost use Rattle.std.specs.Prelude.{◌≡◌, ℕ, ◌+◌, ◌*◌, ◌≤◌, ◌<◌, List, length, Some, Ok, Err, IfOk, IfErr, OnOk, MatchResult};
+ghost use Rattle.std.specs.List.{All};
+ghost use Rattle.tv_core.specs.declared.field.TheConstants.{P};
+ghost use Rattle.tv_r1cs_read.specs.Found.{first_of, AllEnd, AllFit};
+ghost use Rattle.tv_r1cs_read.specs.Places.{places};
+ghost use Rattle.tv_r1cs_read.specs.Reading.{bytes_of, Looks, Refuses, Gives, IsMissing, IsPiece, IsTold};
+ghost use Rattle.tv_r1cs_read.specs.declared.sections.Section.{Section};
+ghost use Rattle.tv_r1cs_read.specs.declared.why.ReadRefusal.{ReadRefusal};
+ghost use Rattle.tv_wtns.specs.Wtns.{assignment_in, assignment_of, counted, fills, AssignmentsAreBelow};
+
+use crate::values::read_all;
+use std::alloc::Global;
+use tv_core::F;
+use tv_files::Files;
+use tv_r1cs_read::{
+    Form, Found, ReadRefusal, ReadWhy, Section, Window, find_sections, this_field, wanted,
+};
+
+/// The form of an assignment's file: the text `wtns`, version 2, and one section of types 1 and 2.
+const WTNS: Form = Form {
+    magic: 0x736e_7477,
+    version: 2,
+    singles: 2,
+};
+
+/// Reads the assignment of a wtns file.
+///
+/// `Ok` comes exactly for a file that holds an assignment, and `Bad` tells the first fault of another
+/// one. `Fault` comes only where a read failed, and a missing name is such a fault. It takes one pass,
+/// in reads of at most 4,096 bytes, and memory for the values alone, as they come: a count without
+/// values behind it takes none.
+#[tactic(auto, unfolding(crate::specs::Wtns::assignment_of))]
+pub fn read_values<D: Files>(
+    alloc: Global,
+    files: &mut D,
+    name: &str,
+) -> Result<Vec<F>, ReadRefusal>
+    ensures gives { (file : List ℕ) → bytes_of (D.seen files.old) name.now ≡ Some file → MatchResult result
+        (λ values. assignment_of file ≡ Ok values.items)
+        (λ why. Refuses why (assignment_of file)) }
+    ensures below { IfOk result (λ values. All (λ v. v < P) values.items) }
+    ensures looks { Looks (D.seen files.old) (D.seen files.new) name.now result }
+    ensures missing { IsMissing (D.seen files.old) name.now → result ≡ Err ReadRefusal.Fault }
+{
+    let mut window = Window::new();
+    let (found, end) = find_sections(files, name, &mut window, &WTNS)?;
+    read_assignment(alloc, files, name, &mut window, &found, end)
+}
+
+/// What a file's bytes give as its assignment are numbers below the prime.
+#[tactic(auto, using(crate::proofs::ValueLaws::assignments_below))]
+pub fn assignments_are_below_the_prime()
+    ensures { AssignmentsAreBelow }
+{}
+
+// The assignment, from the sections.
+#[tactic(auto, unfolding(crate::specs::Wtns::assignment_in))]
+fn read_assignment<D: Files>(
+    alloc: Global,
+    files: &mut D,
+    name: &str,
+    window: &mut Window,
+    found: &Found,
+    end: u64,
+) -> Result<Vec<F>, ReadRefusal>
+    requires { AllEnd found.now }
+    ensures gives { (file : List ℕ) → bytes_of (D.seen files.old) name.now ≡ Some file → IsPiece window.old file →
+        end ≡ length file → (sections : List Section) → found.now ≡ first_of sections → AllFit file sections →
+        MatchResult result
+        (λ values. assignment_in file sections ≡ Ok values.items)
+        (λ why. Refuses why (assignment_in file sections)) }
+    ensures below { IfOk result (λ values. All (λ v. v < P) values.items) }
+    ensures looks { Looks (D.seen files.old) (D.seen files.new) name.now result }
+{
+    let one = wanted(found.one, 1, end)?;
+    let two = wanted(found.two, 2, end)?;
+    this_field(files, name, window, &one, 16)?;
+    let count = read_count(files, name, window, &one)?;
+    fills(count, &two)?;
+    read_all(alloc, files, name, window, two.at, count)
+}
+
+// How many values section 1, of 16 bytes, counts.
+fn read_count<D: Files>(
+    files: &mut D,
+    name: &str,
+    window: &mut Window,
+    one: &Section,
+) -> Result<u32, ReadRefusal>
+    ensures piece { (file : List ℕ) → bytes_of (D.seen files.old) name.now ≡ Some file →
+        IsPiece window.old file → OnOk result (IsPiece window.new file) }
+    ensures gives { (file : List ℕ) → bytes_of (D.seen files.old) name.now ≡ Some file → IsPiece window.old file →
+        one.now.at + 16 ≤ places file → Gives result (Ok (counted file one.now)) }
+    ensures looks { Looks (D.seen files.old) (D.seen files.new) name.now result }
+{
+    window.fit(files, name, one.at, 16)?;
+    Ok(window.word(one.at + 12))
+}
+
+// Section 2 is of the size that so many values have.
+fn fills(count: u32, two: &Section) -> Result<(), ReadRefusal>
+    ensures gives { Gives result (fills count two.now) }
+    ensures size { OnOk result (two.now.size ≡ 8 * count) }
+    ensures told { IfErr result IsTold }
+{
+    let wants = 8 * u64::from(count);
+    if two.size != wants {
+        return Err(ReadRefusal::Bad {
+            at: two.at,
+            why: ReadWhy::BadCount {
+                has: two.size,
+                wants,
+            },
+        });
+    }
+    Ok(())
+}

@@ -1,0 +1,78 @@
+//! The values of section 2.
+
+ghost use Rattle.std.specs.Prelude.{◌≡◌, ℕ, ◌+◌, ◌-◌, ◌*◌, ◌≤◌, ◌<◌, ◌^◌, List, length, Some, Ok, Result, IfOk, IfErr, OnOk, MatchResult};
+ghost use Rattle.std.specs.List.{All};
+ghost use Rattle.tv_core.specs.declared.field.TheConstants.{P};
+ghost use Rattle.tv_r1cs_read.specs.Places.{Fault, places};
+ghost use Rattle.tv_r1cs_read.specs.Reading.{bytes_of, Looks, Refuses, IsPiece, IsTold};
+ghost use Rattle.tv_word.specs.Word.{spelled};
+ghost use Rattle.tv_wtns.specs.Values.{AreWords, IsAhead};
+ghost use Rattle.tv_wtns.specs.Wtns.{values_at};
+
+use std::alloc::Global;
+use tv_core::F;
+use tv_files::Files;
+use tv_r1cs_read::{ReadRefusal, ReadWhy, Window};
+
+/// The bytes of a value.
+const VALUE: u64 = 8;
+
+// Reads the values at a place, so many, a piece of the file at a time.
+pub(crate) fn read_all<D: Files>(
+    alloc: Global,
+    files: &mut D,
+    name: &str,
+    window: &mut Window,
+    at: u64,
+    count: u32,
+) -> Result<Vec<F>, ReadRefusal>
+    requires { at + 8 * count < 2 ^ 64 }
+    ensures gives { (file : List ℕ) → bytes_of (D.seen files.old) name.now ≡ Some file → IsPiece window.old file →
+        at + 8 * count ≤ places file → MatchResult result
+        (λ values. values_at file count at ≡ Ok values.items)
+        (λ why. Refuses why (values_at file count at)) }
+    ensures below { IfOk result (λ values. All (λ v. v < P) values.items) }
+    ensures looks { Looks (D.seen files.old) (D.seen files.new) name.now result }
+{
+    let mut values = Vec::new(alloc);
+    let mut at = at;
+    let mut left = count;
+    while left > 0 {
+        window.fit(files, name, at, 8)?;
+        let (words, _) = window.bytes_from(at).as_chunks::<8>();
+        let some = words.len().min(left as usize);
+        take_values(&words[..some], at, &mut values)?;
+        at += VALUE * some as u64;
+        left -= some as u32;
+    }
+    Ok(values)
+}
+
+// Takes the values that words spell, the first of which stands at a place.
+fn take_values(words: &[[u8; 8]], at: u64, values: &mut Vec<F>) -> Result<(), ReadRefusal>
+    requires { at + 8 * length words.now < 2 ^ 64 }
+    ensures gives { (file : List ℕ) → AreWords words.now file at → (answer : Result (List ℕ) Fault) → (n : ℕ) →
+        length words.now ≤ n → IsAhead answer values.old.items file n at → MatchResult result
+        (λ _. IsAhead answer values.new.items file (n - length words.now) (at + 8 * length words.now))
+        (λ why. Refuses why answer) }
+    ensures below { All (λ v. v < P) values.old.items → OnOk result (All (λ v. v < P) values.new.items) }
+    ensures told { IfErr result IsTold }
+{
+    for (index, word) in words.iter().enumerate() {
+        let Some(value) = F::canon(number_of(word)) else {
+            return Err(ReadRefusal::Bad {
+                at: at + VALUE * index as u64,
+                why: ReadWhy::NotCanonical,
+            });
+        };
+        values.push(value)?;
+    }
+    Ok(())
+}
+
+// The number that eight bytes spell, the lowest first.
+fn number_of(word: &[u8; 8]) -> u64
+    ensures { result ≡ spelled word.now }
+{
+    u64::from_le_bytes(*word)
+}
