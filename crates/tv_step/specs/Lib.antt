@@ -2,3 +2,4 @@ pub mod Machine
 pub mod Ops
 pub mod Rows
 pub mod State
+pub mod Views

@@ -2,6 +2,14 @@
 //! definition `next` and `run` its iteration `end_of`, for every state; the commands above call `run`.
 #![tactic(auto)]
 
+mod arithmetic;
+mod counter;
+mod end;
+mod execute;
+mod image;
+mod machine;
 mod op;
 
+pub use end::{End, Outcome};
+pub use machine::Machine;
 pub use op::{Op, op_of};

@@ -1,0 +1,68 @@
+ghost use Rattle.std.specs.Prelude.{◌≡◌, ◌<◌, ◌≤◌, ◌^◌, ℕ, length, slice_index, IfOk, OnOk, OnErr};
+ghost use Rattle.tv_step.specs.Machine.{next, start, end_of, state_after};
+ghost use Rattle.tv_step.specs.Views.{state_of, CameTo};
+
+use crate::counter::Counter;
+use crate::end::{End, Outcome};
+use crate::image::memory_with;
+use crate::op::op_of;
+use std::alloc::{AllocError, Global};
+use tv_isa::decode;
+use tv_mem::Memory;
+use tv_tape::Tape;
+use tv_word::Words;
+
+/// The machine in a state: a program counter, 16 registers, a flag, memory, and two tapes.
+#[derive(Drop)]
+pub struct Machine {
+    pub(crate) pc: Counter,
+    pub(crate) regs: [u32; 16],
+    pub(crate) flag: bool,
+    pub(crate) memory: Memory,
+    pub(crate) primary: Tape,
+    pub(crate) aux: Tape,
+}
+
+impl Machine {
+    /// The start: all 0, the image in memory from address 0 on, and two whole tapes.
+    pub fn start(
+        alloc: Global,
+        image: &[u32],
+        tape: Words,
+        aux: Words,
+    ) -> Result<Machine, AllocError>
+        requires { length image.now ≤ 2 ^ 30 }
+        ensures { IfOk result (λ machine. state_of machine ≡ start 32 image.now tape aux) }
+    {
+        Ok(Machine {
+            pc: Counter::new(),
+            regs: [0; 16],
+            flag: false,
+            memory: memory_with(alloc, image)?,
+            primary: Tape::new(tape),
+            aux: Tape::new(aux),
+        })
+    }
+
+    /// The program counter.
+    pub fn pc(&self) -> u32
+        ensures { result ≡ (state_of self.now).pc }
+    {
+        self.pc.address()
+    }
+
+    /// The word in a register, whose number is below 16.
+    pub fn reg(&self, i: u32) -> u32
+        requires { i < 16 }
+        ensures { result ≡ slice_index (state_of self.now).regs i }
+    {
+        self.regs[i as usize]
+    }
+
+    /// The flag.
+    pub fn flag(&self) -> bool
+        ensures { result ≡ (state_of self.now).flag }
+    {
+        self.flag
+    }
+}
