@@ -6,6 +6,8 @@ use Rattle.tv_mem.specs.Bytes.{Bytes, byte_of, word_in}
 use Rattle.tv_step.specs.Ops.{op_of}
 use Rattle.tv_step.specs.Rows.{row, word_size}
 use Rattle.tv_step.specs.State.{State, Next}
+use Rattle.tv_step.specs.declared.end.End.{End}
+use Rattle.tv_step.specs.declared.end.End.TheVariants as ends
 
 -- the word in a register
 abbrev pub reg : State → ℕ → ℕ
@@ -27,23 +29,17 @@ executed w st i = row w (op_of i.op) st i.dest (reg st i.dest) (reg st i.source)
 abbrev pub next : ℕ → State → Next
 next w st = executed w st (fetched w st)
 
--- how a run ends: it answers at a step, stops at an opcode that isn't used, or took all its steps
-pub data Ended : Type 0 where
-  Answer : ℕ → ℕ → Ended
-  Undefined : ℕ → ℕ → Ended
-  Silent : ℕ → Ended
-
 -- the end within n more steps, where k were taken; steps count from 1
-abbrev pub end_from : ℕ → ℕ → ℕ → State → Ended
-end_from w k zero st = Ended.Silent k
+abbrev pub end_from : ℕ → ℕ → ℕ → State → End
+end_from w k zero st = ends.Silent k
 end_from w k (suc n) st = elim (next w st) [
     | Next.Gone after ↦ end_from w (k + 1) n after
-    | Next.Answered v ↦ Ended.Answer v (k + 1)
-    | Next.Undefined op ↦ Ended.Undefined op (k + 1)
+    | Next.Answered v ↦ ends.Answer v (k + 1)
+    | Next.Undefined op ↦ ends.Undefined op (k + 1)
   ]
 
 -- the end of a run of n steps
-abbrev pub end_of : ℕ → ℕ → State → Ended
+abbrev pub end_of : ℕ → ℕ → State → End
 end_of w n st = end_from w 0 n st
 
 -- the state after n steps, or the last before an answer or an unused opcode
@@ -72,4 +68,4 @@ start w image primary aux = record {
 
 -- the machine answers 0 within t steps
 abbrev pub Accepts : ℕ → List ℕ → List ℕ → List ℕ → ℕ → Type 0
-Accepts w image primary aux t = (step : ℕ) × (step ≤ t) × (end_of w t (start w image primary aux) ≡ Ended.Answer 0 step)
+Accepts w image primary aux t = (step : ℕ) × (step ≤ t) × (end_of w t (start w image primary aux) ≡ ends.Answer 0 step)

@@ -1,5 +1,6 @@
 ghost use Rattle.std.specs.Prelude.{◌≡◌, ◌<◌, ◌≤◌, ◌^◌, ℕ, length, slice_index, IfOk, OnOk, OnErr};
-ghost use Rattle.tv_step.specs.Machine.{next, start, end_of, state_after};
+ghost use Rattle.tv_isa.specs.Instruction.{IsInstruction};
+ghost use Rattle.tv_step.specs.Machine.{fetched, next, start, end_of, state_after};
 ghost use Rattle.tv_step.specs.Views.{state_of, CameTo};
 
 use crate::counter::Counter;
@@ -7,7 +8,7 @@ use crate::end::{End, Outcome};
 use crate::image::memory_with;
 use crate::op::op_of;
 use std::alloc::{AllocError, Global};
-use tv_isa::decode;
+use tv_isa::{Instr, decode};
 use tv_mem::Memory;
 use tv_tape::Tape;
 use tv_word::Words;
@@ -64,5 +65,41 @@ impl Machine {
         ensures { result ≡ (state_of self.now).flag }
     {
         self.flag
+    }
+
+    // The instruction at the program counter.
+    fn fetched(&self) -> Instr
+        ensures same { result ≡ fetched 32 (state_of self.now) }
+        ensures range { IsInstruction result }
+    {
+        let pc = self.pc.address();
+        decode(self.memory.load_word(pc), self.memory.load_word(pc + 4))
+    }
+
+    /// Takes one step. After an answer, after an opcode that isn't used, and where memory is refused,
+    /// the state is as before.
+    pub fn step(&mut self) -> Result<Outcome, AllocError>
+        ensures ok { IfOk result (λ outcome. CameTo (next 32 (state_of self.old)) outcome (state_of self.old) (state_of self.new)) }
+        ensures err { OnErr result (state_of self.new ≡ state_of self.old) }
+    {
+        let instr = self.fetched();
+        self.executes(&instr)
+    }
+
+    /// Takes at most `t` steps, which count from 1, and stops at an answer or an opcode that isn't used.
+    /// Where memory is refused, the state is one that the run reaches.
+    pub fn run(&mut self, t: u64) -> Result<End, AllocError>
+        ensures end { IfOk result (λ end. end ≡ end_of 32 t (state_of self.old)) }
+        ensures state { OnOk result (state_of self.new ≡ state_after 32 t (state_of self.old)) }
+        ensures err { OnErr result ((n : ℕ) × (n < t) × (state_of self.new ≡ state_after 32 n (state_of self.old))) }
+    {
+        for step in 1..=t {
+            match self.step()? {
+                Outcome::Gone => {}
+                Outcome::Answered { value } => return Ok(End::Answer { value, step }),
+                Outcome::Undefined { op } => return Ok(End::Undefined { op, step }),
+            }
+        }
+        Ok(End::Silent { steps: t })
     }
 }
