@@ -29,27 +29,31 @@ executed w st i = row w (op_of i.op) st i.dest (reg st i.dest) (reg st i.source)
 abbrev pub next : ℕ → State → Next
 next w st = executed w st (fetched w st)
 
+-- the end of a run whose step with this number comes to this; where it goes on, `on` tells the end
+abbrev pub ended : (State → End) → ℕ → Next → End
+ended on step (Next.Gone after) = on after
+ended on step (Next.Answered v) = ends.Answer v step
+ended on step (Next.Undefined op) = ends.Undefined op step
+
 -- the end within n more steps, where k were taken; steps count from 1
 abbrev pub end_from : ℕ → ℕ → ℕ → State → End
 end_from w k zero st = ends.Silent k
-end_from w k (suc n) st = elim (next w st) [
-    | Next.Gone after ↦ end_from w (k + 1) n after
-    | Next.Answered v ↦ ends.Answer v (k + 1)
-    | Next.Undefined op ↦ ends.Undefined op (k + 1)
-  ]
+end_from w k (suc n) st = ended (λ after. end_from w (k + 1) n after) (k + 1) (next w st)
 
--- the end of a run of n steps
+-- the end of a run of at most n steps
 abbrev pub end_of : ℕ → ℕ → State → End
 end_of w n st = end_from w 0 n st
 
--- the state after n steps, or the last before an answer or an unused opcode
+-- the state that a run is left in whose step from `st` comes to this; where it goes on, `on` tells
+abbrev pub left_in : (State → State) → State → Next → State
+left_in on st (Next.Gone after) = on after
+left_in on st (Next.Answered v) = st
+left_in on st (Next.Undefined op) = st
+
+-- the state that a run of at most n steps is left in
 abbrev pub state_after : ℕ → ℕ → State → State
 state_after w zero st = st
-state_after w (suc n) st = elim (next w st) [
-    | Next.Gone after ↦ state_after w n after
-    | Next.Answered v ↦ st
-    | Next.Undefined op ↦ st
-  ]
+state_after w (suc n) st = left_in (λ after. state_after w n after) st (next w st)
 
 -- memory that begins with these words, and has 0 behind
 abbrev pub image_bytes : ℕ → List ℕ → Bytes

@@ -88,16 +88,27 @@ impl Machine {
 
     /// Takes at most `t` steps, which count from 1, and stops at an answer or an opcode that isn't used.
     /// Where memory is refused, the state is one that the run reaches.
+    #[tactic(auto, using(crate::proofs::RunLaws::end_silent, crate::proofs::RunLaws::end_answered, crate::proofs::RunLaws::end_undefined, crate::proofs::RunLaws::state_answered, crate::proofs::RunLaws::state_undefined, crate::proofs::RunLaws::state_reached, crate::proofs::RunLaws::ran_none, crate::proofs::RunLaws::ran_on))]
     pub fn run(&mut self, t: u64) -> Result<End, AllocError>
         ensures end { IfOk result (λ end. end ≡ end_of 32 t (state_of self.old)) }
         ensures state { OnOk result (state_of self.new ≡ state_after 32 t (state_of self.old)) }
         ensures err { OnErr result ((n : ℕ) × (n < t) × (state_of self.new ≡ state_after 32 n (state_of self.old))) }
     {
-        for step in 1..=t {
+        for taken in 0..t {
             match self.step()? {
                 Outcome::Gone => {}
-                Outcome::Answered { value } => return Ok(End::Answer { value, step }),
-                Outcome::Undefined { op } => return Ok(End::Undefined { op, step }),
+                Outcome::Answered { value } => {
+                    return Ok(End::Answer {
+                        value,
+                        step: taken + 1,
+                    });
+                }
+                Outcome::Undefined { op } => {
+                    return Ok(End::Undefined {
+                        op,
+                        step: taken + 1,
+                    });
+                }
             }
         }
         Ok(End::Silent { steps: t })
