@@ -1,5 +1,5 @@
 -- How far reading of a system has come, and what is ahead.
-use Rattle.std.specs.Prelude.{◌≡◌, ℕ, ◌+◌, ◌-◌, ◌*◌, ◌^◌, ◌<◌, ◌≤◌, Bool, true, false, List, [], ◌∷◌, Option, Some, None, Result, Ok}
+use Rattle.std.specs.Prelude.{◌≡◌, ℕ, ◌+◌, ◌*◌, ◌^◌, ◌<◌, ◌≤◌, Bool, true, false, List, [], ◌∷◌, Option, Some, None, Result, Ok}
 use Rattle.tv_core.specs.Constraints.{Constraint}
 use Rattle.tv_core.specs.declared.lines.Counts.{Counts}
 use Rattle.tv_r1cs_read.specs.declared.header.Header.{Header}
@@ -8,7 +8,7 @@ use Rattle.tv_r1cs_read.specs.declared.why.ReadRefusal.{ReadRefusal}
 use Rattle.tv_r1cs_read.specs.Places.{Fault, ◌>>=◌, places}
 use Rattle.tv_r1cs_read.specs.Reading.{Piece, IsPiece}
 use Rattle.tv_r1cs_read.specs.R1cs.{HasRoom, constraints_from}
-use Rattle.tv_r1cs_read.specs.Rows.{constraint_of, terms_in}
+use Rattle.tv_r1cs_read.specs.Rows.{constraint_of, terms_in, IsOver}
 
 -- what is known of the file: its header, and the piece of it that was read last; the place of the next
 -- constraint, how many are left, and how many terms those had that were given; and whether reading stopped
@@ -54,9 +54,9 @@ counts_of reached = record {
   terms = reached.terms;
 }
 
--- reading went on by a row, or nothing was left
+-- reading went on by a row, whose wires are the system's, or nothing was left
 abbrev pub WentOn : Bool → Row → Reached → Reached → Type 0
-WentOn true row old new = (new.terms ≡ old.terms + terms_in row) × (new.left + 1 ≡ old.left)
+WentOn true row old new = (new.terms ≡ old.terms + terms_in row) × (new.left + 1 ≡ old.left) × IsOver old.header.wires row
 WentOn false row old new = (new.terms ≡ old.terms) × (new.left ≡ old.left)
 
 -- the constraints ahead begin with this row, or there are none

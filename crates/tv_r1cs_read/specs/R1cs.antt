@@ -1,8 +1,8 @@
 -- The constraint system that an r1cs file holds, version 1 of the binary format, or the file's first fault.
-use Rattle.std.specs.Prelude.{ℕ, zero, suc, ◌+◌, ◌-◌, ◌*◌, ◌≤◌, Bool, not, List, [], ◌∷◌, length, Option, Some, None, Result, Ok, Err, nat_lt, nat_le, ◌==◌, if◌then◌else◌}
+use Rattle.std.specs.Prelude.{ℕ, zero, suc, ◌+◌, ◌-◌, ◌*◌, ◌≤◌, not, List, [], ◌∷◌, Option, Some, None, Result, Ok, nat_lt, ◌==◌, if◌then◌else◌}
 use Rattle.tv_core.specs.Constraints.{Combination, Constraint, System}
 use Rattle.tv_core.specs.declared.field.TheConstants.{P}
-use Rattle.tv_r1cs_read.specs.declared.why.ReadWhy.TheVariants.{OtherPrime, BadCount, WireRange, NotCanonical, Truncated, TooWide}
+use Rattle.tv_r1cs_read.specs.declared.why.ReadWhy.TheVariants.{OtherPrime, BadCount, WireRange, NotCanonical, TooWide}
 use Rattle.tv_r1cs_read.specs.Places.{Fault, ◌>>=◌, wrong, unless, number, fit}
 use Rattle.tv_r1cs_read.specs.declared.header.Header.{Header}
 use Rattle.tv_r1cs_read.specs.declared.sections.Section.{Section}

@@ -1,5 +1,5 @@
 -- What reading a file may answer and do, over any files.
-use Rattle.std.specs.Prelude.{◌≡◌, ◌≢◌, ℕ, ◌+◌, ◌≤◌, List, length, take, drop, Option, Some, None, Result, Ok, Err, MatchResult, option_and_then}
+use Rattle.std.specs.Prelude.{◌≡◌, ◌≢◌, ℕ, ◌+◌, ◌≤◌, List, length, take, drop, Option, Some, None, Result, Ok, MatchResult, option_and_then}
 use Rattle.tv_files.specs.Outside.{Names, Outside, OnlyReads, MissesOnly, Rose}
 use Rattle.tv_r1cs_read.specs.Places.{Fault, wrong}
 use Rattle.tv_r1cs_read.specs.declared.why.ReadRefusal.{ReadRefusal}

@@ -1,5 +1,6 @@
 -- What is kept of a constraint that was read, and of one that is being read.
-use Rattle.std.specs.Prelude.{◌≡◌, ℕ, ◌+◌, List, ◌++◌, length, map, Result, Ok}
+use Rattle.std.specs.Prelude.{◌≡◌, ℕ, ◌+◌, ◌<◌, List, ◌++◌, length, map, Result, Ok}
+use Rattle.std.specs.List.{All}
 use Rattle.tv_core.specs.Constraints.{Combination, Constraint}
 use Rattle.tv_r1cs_read.specs.declared.rows.Row.{Row}
 use Rattle.tv_r1cs_read.specs.Places.{Fault, ◌>>=◌}
@@ -16,6 +17,12 @@ constraint_of row = record { a = combination_of row.a; b = combination_of row.b;
 -- how many terms a row has
 abbrev pub terms_in : Row → ℕ
 terms_in row = length row.a + length row.b + length row.c
+
+-- each wire of a row is one of a system with so many wires
+pub record IsOver (wires : ℕ) (row : Row) : Type 0 where
+  pub a : All (λ t. t.0 < wires) row.a
+  pub b : All (λ t. t.0 < wires) row.b
+  pub c : All (λ t. t.0 < wires) row.c
 
 -- a combination whose first terms were read before the others
 unfoldable pub with_front : Combination → Result (Read Combination) Fault → Result (Read Combination) Fault

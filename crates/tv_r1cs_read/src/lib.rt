@@ -17,3 +17,6 @@ pub use rows::{Row, Terms};
 pub use sections::{Form, Found, Section, find_sections};
 pub use why::{ReadRefusal, ReadWhy};
 pub use window::Window;
+
+#[cfg(test)]
+mod tests;

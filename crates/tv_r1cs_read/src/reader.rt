@@ -45,6 +45,9 @@ pub struct Unread<'a, D: Files> {
 
 impl<'a, D: Files> SystemReader<'a, D> {
     /// Reads all of a system's file but its constraints.
+    ///
+    /// A refusal gives the files back: `Bad` is the file's first fault before its constraints, and
+    /// `Fault` comes only where a read failed, as of a missing name. Takes no memory.
     pub fn begin(
         alloc: Global,
         files: &'a mut D,
@@ -80,7 +83,10 @@ impl<'a, D: Files> SystemReader<'a, D> {
         self.progress.counts()
     }
 
-    /// The next constraint; `None` after the last.
+    /// The next constraint, each wire of which is below the system's `wires`; `None` after the last.
+    ///
+    /// `Bad` tells the first fault ahead, `Fault` comes only where a read failed, and a refusal is told
+    /// again by each later call, which reads nothing.
     pub fn next(&mut self) -> Result<Option<Row>, ReadRefusal>
         ensures same { self.new.files.ghost_name ≡ self.old.files.ghost_name }
         ensures name { self.new.name.now ≡ self.old.name.now }

@@ -1,9 +1,10 @@
 ghost use Rattle.std.specs.Prelude.{◌≡◌, ℕ, ◌+◌, ◌-◌, ◌*◌, ◌≤◌, ◌<◌, ◌^◌, List, [], ◌∷◌, ◌++◌, length, Some, Ok, Result, IfOk, IfErr, OnOk, MatchResult};
+ghost use Rattle.std.specs.List.{All};
 ghost use Rattle.tv_core.specs.Constraints.{Combination};
 ghost use Rattle.tv_r1cs_read.specs.Places.{Fault, fit, places};
 ghost use Rattle.tv_r1cs_read.specs.Reading.{bytes_of, Looks, Refuses, Gives, Holds, IsTold, IsPiece};
 ghost use Rattle.tv_r1cs_read.specs.R1cs.{Read, combination_at, constraint_at};
-ghost use Rattle.tv_r1cs_read.specs.Rows.{combination_of, constraint_of, terms_in, IsAhead};
+ghost use Rattle.tv_r1cs_read.specs.Rows.{combination_of, constraint_of, terms_in, IsAhead, IsOver};
 
 use crate::why::{ReadRefusal, ReadWhy};
 use crate::window::Window;
@@ -112,6 +113,7 @@ pub(crate) fn read_row<D: Files>(
     requires { at ≤ bounds.now.end }
     ensures within { IfOk result (λ next. next ≤ bounds.now.end) }
     ensures size { IfOk result (λ next. next ≡ at + 12 + 12 * terms_in row.new) }
+    ensures wires { OnOk result (IsOver bounds.now.wires row.new) }
     ensures piece { (file : List ℕ) → bytes_of (D.seen files.old) name.now ≡ Some file →
         IsPiece window.old file → OnOk result (IsPiece window.new file) }
     ensures gives { (file : List ℕ) → bytes_of (D.seen files.old) name.now ≡ Some file → IsPiece window.old file →
@@ -138,6 +140,7 @@ fn read_combination<D: Files>(
     requires { at ≤ bounds.now.end }
     ensures within { IfOk result (λ next. next ≤ bounds.now.end) }
     ensures size { IfOk result (λ next. next ≡ at + 4 + 12 * length terms.new) }
+    ensures wires { OnOk result (All (λ t. t.0 < bounds.now.wires) terms.new) }
     ensures piece { (file : List ℕ) → bytes_of (D.seen files.old) name.now ≡ Some file →
         IsPiece window.old file → OnOk result (IsPiece window.new file) }
     ensures gives { (file : List ℕ) → bytes_of (D.seen files.old) name.now ≡ Some file → IsPiece window.old file →
@@ -201,6 +204,7 @@ fn read_terms<D: Files>(
     requires { at ≤ bounds.now.end }
     ensures within { IfOk result (λ next. next ≤ bounds.now.end) }
     ensures size { IfOk result (λ next. next + 12 * length terms.old ≡ at + 12 * length terms.new) }
+    ensures wires { All (λ t. t.0 < bounds.now.wires) terms.old → OnOk result (All (λ t. t.0 < bounds.now.wires) terms.new) }
     ensures piece { (file : List ℕ) → bytes_of (D.seen files.old) name.now ≡ Some file →
         IsPiece window.old file → OnOk result (IsPiece window.new file) }
     ensures gives { (file : List ℕ) → bytes_of (D.seen files.old) name.now ≡ Some file → IsPiece window.old file →
@@ -237,6 +241,7 @@ fn take_terms(
         (λ _. IsAhead answer terms.new file bounds.now.wires bounds.now.end (n - count) (at + 12 * count))
         (λ why. Refuses why answer) }
     ensures size { OnOk result (length terms.new ≡ length terms.old + count) }
+    ensures wires { All (λ t. t.0 < bounds.now.wires) terms.old → OnOk result (All (λ t. t.0 < bounds.now.wires) terms.new) }
     ensures told { IfErr result IsTold }
 {
     let mut at = at;

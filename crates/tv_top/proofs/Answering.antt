@@ -24,12 +24,14 @@ job_faultless : (words : List (List ℕ)) (word : ℕ) → ¬ (job words ≡ Err
 job_faultless [] word e = cc
 job_faultless (a ∷ []) word e = cc
 job_faultless (a ∷ b ∷ []) word e = cc
-job_faultless (a ∷ b ∷ c ∷ []) word e = by_name (bytes_eq a (codes "asm")) (bytes_eq b c) refl refl
+job_faultless (a ∷ b ∷ c ∷ []) word e = by_name (bytes_eq a (codes "asm")) (bytes_eq a (codes "disasm")) (bytes_eq b c) refl refl refl
   where
-    by_name : (test same : Bool) → bytes_eq a (codes "asm") ≡ test → bytes_eq b c ≡ same → ⊥
-    by_name true true is are = let g = rw (is, are) at e in cc
-    by_name true false is are = let g = rw (is, are) at e in cc
-    by_name false same is are = let g = rw is at e in cc
+    by_name : (asm disasm same : Bool) → bytes_eq a (codes "asm") ≡ asm → bytes_eq a (codes "disasm") ≡ disasm → bytes_eq b c ≡ same → ⊥
+    by_name true disasm true is not are = let g = rw (is, are) at e in cc
+    by_name true disasm false is not are = let g = rw (is, are) at e in cc
+    by_name false true true not is are = let g = rw (not, is, are) at e in cc
+    by_name false true false not is are = let g = rw (not, is, are) at e in cc
+    by_name false false same not neither are = let g = rw (not, neither) at e in cc
 job_faultless (a ∷ b ∷ c ∷ d ∷ []) word e = by_name (bytes_eq a (codes "check")) refl
   where
     by_name : (test : Bool) → bytes_eq a (codes "check") ≡ test → ⊥

@@ -1,13 +1,14 @@
 -- What was made of a file that was found is what is due of it.
-use Rattle.std.proofs.Common.{◌≡◌, ℕ, ◌⊎◌, List, Result, Ok, Err, inl, inr, refl}
+use Rattle.std.proofs.Common.{◌≡◌, ◌==◌, ℕ, ◌%◌, ◌⊎◌, Bool, true, false, cond, List, length, Result, Ok, Err, inl, inr, refl}
 use Rattle.tv_asm.specs.Assembly.{assembled}
 use Rattle.tv_asm.specs.declared.fault.AsmFault.{AsmFault}
 use Rattle.tv_asm.specs.declared.fault.AsmFault.TheVariants.{Bad, TooMany, Memory}
+use Rattle.tv_disasm.specs.Disassembly.{disassembly_of}
 use Rattle.tv_files.specs.Outside.{Names, Outside}
 use Rattle.tv_top.specs.declared.limits.TheConstants.{IMAGE_WORDS}
 use Rattle.tv_top.specs.declared.status.Status.{Status}
 use Rattle.tv_top.specs.declared.status.Status.TheVariants as status
-use Rattle.tv_top.specs.Outcome.{Look, ◌>>=◌, image_of, assembly_status}
+use Rattle.tv_top.specs.Outcome.{Look, ◌>>=◌, image_of, assembly_status, text_of}
 use Rattle.tv_top.specs.Finds.{IsFound, Finds, Makes}
 
 -- a refusal of what a file holds: none of the words, and no fault
@@ -55,3 +56,12 @@ refused_text (Err Memory) why e = record { usage = λ is. cc; same_name = λ fir
 pub image_refused : (text : List ℕ) (why : Status) → image_of text ≡ Err why → IsOfContents why
 unfolding image_of
 image_refused text why e = refused_text (assembled 32 IMAGE_WORDS text) why e
+
+-- so is an image that isn't whole instructions
+refused_bytes : (test : Bool) (text : List ℕ) (len : ℕ) (why : Status) → cond test (Ok text) (Err (status.BadImage len)) ≡ Err why → IsOfContents why
+refused_bytes true text len why e = cc
+refused_bytes false text len why e = record { usage = λ is. cc; same_name = λ first second is. cc; fault = λ word is. cc }
+
+pub text_refused : (image : List ℕ) (why : Status) → text_of image ≡ Err why → IsOfContents why
+unfolding text_of
+text_refused image why e = refused_bytes (length image % 8 == 0) (disassembly_of 32 image) (length image) why e

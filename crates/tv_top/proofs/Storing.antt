@@ -42,10 +42,10 @@ ends_stored word name bytes at count files old mid new result only told stores =
     let said : new.said ≡ old.said = stores.only.said ∙ only.said in
     elim stores.ended [
       | inl done ↦ inl (record {
-          status = done.0;
-          contents = done.1 ∙ ap (option_map (with_bytes name bytes)) (only.contents ∙ told);
-          said = said;
-        })
+        status = done.0;
+        contents = done.1 ∙ ap (option_map (with_bytes name bytes)) (only.contents ∙ told);
+        said = said;
+      })
       | inr (inl fault) ↦ inr (inr (inl (word, fault.0, cut word name bytes at files old mid new only told said fault.2)))
       | inr (inr memory) ↦ inr (inr (inr (inr (memory.0, inr (inl (word, cut word name bytes at files old mid new only told said memory.2))))))
     ]

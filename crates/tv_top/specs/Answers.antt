@@ -4,24 +4,27 @@ use Rattle.tv_files.specs.Outside.{Names, Outside, Told, Rose, NoneFell, with_by
 use Rattle.tv_top.specs.declared.status.Status.{Status}
 use Rattle.tv_top.specs.declared.status.Status.TheVariants.{Usage, FileFault, Memory, SameName}
 use Rattle.tv_top.specs.Codes.{says}
-use Rattle.tv_top.specs.Outcome.{Job, Asm, Check, report_of, outcome}
+use Rattle.tv_top.specs.Outcome.{Job, Asm, Disasm, Check, report_of, outcome}
 use Rattle.tv_top.specs.Ends.{Said, SaidPart, Ends, IsConcluded}
 
 -- the word is one at which the name of a file to be read stands
 abbrev pub IsRead : Result Job Status → ℕ → Type 0
 IsRead (Ok (Asm _ _)) word = word ≡ 1
+IsRead (Ok (Disasm _ _)) word = word ≡ 1
 IsRead (Ok (Check _ _ _)) word = (0 < word) × (word ≤ 3)
 IsRead (Err _) word = ⊥
 
 -- the word is one at which the name of a file to be written stands
 abbrev pub IsWritten : Result Job Status → ℕ → Type 0
 IsWritten (Ok (Asm _ _)) word = word ≡ 2
+IsWritten (Ok (Disasm _ _)) word = word ≡ 2
 IsWritten (Ok (Check _ _ _)) word = ⊥
 IsWritten (Err _) word = ⊥
 
 -- the names of the files to be written
 abbrev pub written_names : Result Job Status → List (List ℕ)
 written_names (Ok (Asm _ image)) = image ∷ []
+written_names (Ok (Disasm _ text)) = text ∷ []
 written_names (Ok (Check _ _ _)) = []
 written_names (Err _) = []
 

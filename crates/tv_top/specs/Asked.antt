@@ -5,4 +5,5 @@ use Rattle.tv_top.specs.Outcome as outcome
 
 abbrev pub asked : Job → outcome.Job
 asked (code.Asm text image) = outcome.Asm text.now image.now
+asked (code.Disasm image text) = outcome.Disasm image.now text.now
 asked (code.Check system witness tape) = outcome.Check system.now witness.now tape.now

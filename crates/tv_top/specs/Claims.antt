@@ -1,28 +1,46 @@
 -- What the command promises, in the words of its user.
-use Rattle.std.specs.Prelude.{◌≡◌, ◌≢◌, ℕ, ◌+◌, ◌≤◌, ◌⊎◌, List, ◌∷◌, length, take, Option, Some}
+use Rattle.std.specs.Prelude.{◌≡◌, ◌≢◌, ℕ, ◌%◌, ◌≤◌, ◌⊎◌, List, length, Option, Some, Result, Ok, Err}
+use Rattle.tv_asm.specs.Assembly.{assembled}
+use Rattle.tv_asm.specs.declared.fault.AsmFault.{AsmFault}
+use Rattle.tv_asm.specs.declared.fault.AsmFault.TheVariants.{Bad}
+use Rattle.tv_asm.specs.declared.fault.AsmWhy.{AsmWhy}
+use Rattle.tv_check.specs.Meaning.{Tells}
+use Rattle.tv_check.specs.declared.verdict.Verdict.{Verdict}
+use Rattle.tv_check.specs.declared.verdict.Verdict.TheVariants.{WireCount, NoPublic, NoConstraint}
 use Rattle.tv_core.specs.Constraints.{System, Sat, Extends}
-use Rattle.tv_files.specs.Outside.{Names, Outside, Rose}
+use Rattle.tv_core.specs.declared.field.TheConstants.{P}
+use Rattle.tv_disasm.specs.Disassembly.{disassembly_of}
+use Rattle.tv_files.specs.Outside.{Names, Outside, Rose, with_bytes}
+use Rattle.tv_r1cs_read.specs.Places.{wrong}
+use Rattle.tv_r1cs_read.specs.R1cs.{system_of}
+use Rattle.tv_r1cs_read.specs.declared.why.ReadWhy.{ReadWhy}
+use Rattle.tv_tape.specs.Tape.{tape_of}
+use Rattle.tv_wtns.specs.Wtns.{assignment_of}
+use Rattle.tv_top.specs.declared.limits.TheConstants.{TEXT_BYTES, IMAGE_WORDS, IMAGE_BYTES, CHECK_TAPE_WORDS}
 use Rattle.tv_top.specs.declared.status.NoWhy.{NoWhy}
 use Rattle.tv_top.specs.declared.status.NoWhy.TheVariants.{Public, Constraint, Wires}
 use Rattle.tv_top.specs.declared.status.Status.{Status}
-use Rattle.tv_top.specs.declared.status.Status.TheVariants.{Done, No, FileFault, Memory}
-use Rattle.tv_top.specs.PlainSystem.{system_of}
-use Rattle.tv_top.specs.PlainWitness.{assignment_of}
-use Rattle.tv_top.specs.PlainTape.{tape_of}
-use Rattle.tv_top.specs.Meaning.{DifferFirst, FailsFirst}
+use Rattle.tv_top.specs.declared.status.Status.TheVariants.{Done, No, BadProgram, BadSystem, BadWitness, FileFault, Memory, BadImage}
+use Rattle.tv_top.specs.Outcome.{image_bytes}
 
--- the file is there, is plain, and holds this
-pub record Holding {A : Type 0} (read : List ℕ → Option A) (file : Option (List ℕ)) (held : A) : Type 0 where
+-- the file is there, and what is read of it is this
+pub record Holding {A F : Type 0} (read : List ℕ → Result A F) (file : Option (List ℕ)) (held : Result A F) : Type 0 where
   pub bytes : List ℕ
   pub there : file ≡ Some bytes
-  pub most : length bytes ≤ 1048576
-  pub reads : read bytes ≡ Some held
+  pub reads : read bytes ≡ held
 
--- three plain files hold a system, an assignment and public numbers
+-- the tape is there, is no longer than a text may be, and holds these public numbers
+pub record HoldsTape (file : Option (List ℕ)) (x : List ℕ) : Type 0 where
+  pub bytes : List ℕ
+  pub there : file ≡ Some bytes
+  pub most : length bytes ≤ TEXT_BYTES
+  pub reads : tape_of bytes P CHECK_TAPE_WORDS ≡ Ok x
+
+-- three files hold a system, an assignment and public numbers
 pub record Given (files : Names) (system witness tape : List ℕ) (s : System) (z x : List ℕ) : Type 0 where
-  pub in_system : Holding system_of (files system) s
-  pub in_witness : Holding assignment_of (files witness) z
-  pub in_tape : Holding tape_of (files tape) x
+  pub in_system : Holding system_of (files system) (Ok s)
+  pub in_witness : Holding assignment_of (files witness) (Ok z)
+  pub in_tape : HoldsTape (files tape) x
 
 -- they hold a system, an assignment that satisfies it, and the public numbers that it extends
 pub record Accepted (files : Names) (system witness tape : List ℕ) : Type 0 where
@@ -33,15 +51,11 @@ pub record Accepted (files : Names) (system witness tape : List ℕ) : Type 0 wh
   pub sat : Sat s z
   pub extends : Extends s z x
 
--- what a no says of a system, an assignment and public numbers: there are not as many values as wires;
--- or there are, and this is the first place where the constant 1 and the public numbers differ from the
--- values of the public wires; or they agree, and this is the first constraint that doesn't hold
-abbrev pub IsWrong : NoWhy → System → List ℕ → List ℕ → Type 0
-IsWrong (Wires has wants) s z x = (length z ≡ has) × (s.wires ≡ wants) × (has ≢ wants)
-IsWrong (Public at) s z x =
-    (length z ≡ s.wires) × DifferFirst (1 ∷ x) (take (1 + s.outputs + s.inputs) z) at
-IsWrong (Constraint at) s z x =
-    (length z ≡ s.wires) × (1 ∷ x ≡ take (1 + s.outputs + s.inputs) z) × FailsFirst s z at
+-- the verdict that a no tells
+abbrev pub no_verdict : NoWhy → Verdict
+no_verdict (Wires has wants) = WireCount has wants
+no_verdict (Public at) = NoPublic at
+no_verdict (Constraint at) = NoConstraint at
 
 -- they hold a system, an assignment and public numbers of which the no is true
 pub record Refuted (files : Names) (system witness tape : List ℕ) (why : NoWhy) : Type 0 where
@@ -49,7 +63,17 @@ pub record Refuted (files : Names) (system witness tape : List ℕ) (why : NoWhy
   pub z : List ℕ
   pub x : List ℕ
   pub given : Given files system witness tape s z x
-  pub wrong : IsWrong why s z x
+  pub wrong : Tells (no_verdict why) s z x
+
+-- the system's file holds no system, and this is its first fault
+abbrev pub IsBadSystem : Names → List ℕ → ℕ → ReadWhy → Type 0
+IsBadSystem files system at why = Holding system_of (files system) (wrong at why)
+
+-- the system's file holds a system and the witness no assignment, and this is its first fault
+pub record IsBadWitness (files : Names) (system witness : List ℕ) (at : ℕ) (why : ReadWhy) : Type 0 where
+  pub s : System
+  pub in_system : Holding system_of (files system) (Ok s)
+  pub faulty : Holding assignment_of (files witness) (wrong at why)
 
 -- a file couldn't be read or the line not be said, or memory was wanting
 abbrev pub IsHindered : Outside → Outside → Status → Type 0
@@ -59,7 +83,8 @@ IsHindered old new result =
     ⊎ (result ≡ Memory)
 
 -- What `check SYSTEM WITNESS TAPE` promises over files that hold this: it is done exactly where the
--- assignment satisfies the system and extends the tape, and says no exactly where that is so.
+-- assignment satisfies the system and extends the tape, says no exactly where that is so, and tells the
+-- first fault of the system or the witness exactly where there is one.
 pub record Checks (files : Names) (system witness tape : List ℕ) (old new : Outside)
     (result : Status) : Type 0 where
   pub done : result ≡ Done → Accepted files system witness tape
@@ -67,3 +92,51 @@ pub record Checks (files : Names) (system witness tape : List ℕ) (old new : Ou
   pub says_no : (why : NoWhy) → result ≡ No why → Refuted files system witness tape why
   pub refuted : (why : NoWhy) → Refuted files system witness tape why
       → (result ≡ No why) ⊎ IsHindered old new result
+  pub tells_system : (at : ℕ) (why : ReadWhy) → result ≡ BadSystem at why → IsBadSystem files system at why
+  pub bad_system : (at : ℕ) (why : ReadWhy) → IsBadSystem files system at why
+      → (result ≡ BadSystem at why) ⊎ IsHindered old new result
+  pub tells_witness : (at : ℕ) (why : ReadWhy) → result ≡ BadWitness at why → IsBadWitness files system witness at why
+  pub bad_witness : (at : ℕ) (why : ReadWhy) → IsBadWitness files system witness at why
+      → (result ≡ BadWitness at why) ⊎ IsHindered old new result
+
+-- a file couldn't be read or written, or the line not be said; or memory was wanting
+abbrev pub IsStopped : Outside → Outside → Status → Type 0
+IsStopped old new result =
+    ((word : ℕ) × (result ≡ FileFault word)
+    × (Rose old.read_faults new.read_faults ⊎ Rose old.write_faults new.write_faults ⊎ Rose old.say_faults new.say_faults))
+    ⊎ (result ≡ Memory)
+
+-- the file is there, and has at most so many bytes
+pub record IsInput (most : ℕ) (file : Option (List ℕ)) (bytes : List ℕ) : Type 0 where
+  pub there : file ≡ Some bytes
+  pub fits : length bytes ≤ most
+
+-- the file holds a program text of which this comes: its image, or its first fault
+pub record Assembles (file : Option (List ℕ)) (comes : Result (List ℕ) AsmFault) : Type 0 where
+  pub text : List ℕ
+  pub input : IsInput TEXT_BYTES file text
+  pub gives : assembled 32 IMAGE_WORDS text ≡ comes
+
+-- What `asm TEXT IMAGE` promises over files that hold this, the two names being different: it is done
+-- exactly where the text assembles, and then IMAGE holds the image's words, each by its four bytes, and
+-- no other name has changed; and it is a bad program exactly where the text's first fault is this.
+pub record Asms (files : Names) (text image : List ℕ) (old new : Outside) (result : Status) : Type 0 where
+  pub done : result ≡ Done → (words : List ℕ) × Assembles (files text) (Ok words)
+      × (new.contents ≡ Some (with_bytes image (image_bytes words) files))
+  pub assembles : (words : List ℕ) → Assembles (files text) (Ok words) → (result ≡ Done) ⊎ IsStopped old new result
+  pub says_bad : (line : ℕ) (why : AsmWhy) → result ≡ BadProgram line why → Assembles (files text) (Err (Bad line why))
+  pub bad : (line : ℕ) (why : AsmWhy) → Assembles (files text) (Err (Bad line why))
+      → (result ≡ BadProgram line why) ⊎ IsStopped old new result
+
+-- What `disasm IMAGE TEXT` promises over files that hold this, the two names being different: it is done
+-- exactly where the image is whole instructions of 8 bytes, and then TEXT holds its program text, and no
+-- other name has changed; and it is a bad image exactly where there are bytes left.
+pub record Disasms (files : Names) (image text : List ℕ) (old new : Outside) (result : Status) : Type 0 where
+  pub done : result ≡ Done → (bytes : List ℕ) × IsInput IMAGE_BYTES (files image) bytes × (length bytes % 8 ≡ 0)
+      × (new.contents ≡ Some (with_bytes text (disassembly_of 32 bytes) files))
+  pub whole : (bytes : List ℕ) → IsInput IMAGE_BYTES (files image) bytes → length bytes % 8 ≡ 0
+      → (result ≡ Done) ⊎ IsStopped old new result
+  pub says_bad : (len : ℕ) → result ≡ BadImage len
+      → (bytes : List ℕ) × IsInput IMAGE_BYTES (files image) bytes × (length bytes ≡ len) × (len % 8 ≢ 0)
+  pub bad : (bytes : List ℕ) → IsInput IMAGE_BYTES (files image) bytes → length bytes % 8 ≢ 0
+      → (result ≡ BadImage (length bytes)) ⊎ IsStopped old new result

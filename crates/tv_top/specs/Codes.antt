@@ -1,5 +1,5 @@
 -- What a status is to the user: an exit code and a line.
-use Rattle.std.specs.Prelude.{ℕ, List, [], ◌∷◌, ◌++◌, Option, Some, None, option_map, codes, decimal}
+use Rattle.std.specs.Prelude.{◌≡◌, ℕ, List, [], ◌∷◌, ◌++◌, Option, Some, None, option_map, codes, decimal}
 use Rattle.tv_asm.specs.declared.fault.AsmWhy.{AsmWhy}
 use Rattle.tv_asm.specs.declared.fault.AsmWhy.TheVariants.{NotText, BadHeader, BadLabel, DoubledLabel, UnknownName, Operands, BadRegister, BadNumber, UnknownLabel}
 use Rattle.tv_r1cs_read.specs.declared.why.ReadWhy.{ReadWhy}
@@ -9,7 +9,7 @@ use Rattle.tv_top.specs.declared.status.NoWhy.TheVariants.{Public, Constraint, W
 use Rattle.tv_top.specs.declared.status.What.{What}
 use Rattle.tv_top.specs.declared.status.What.TheVariants.{ImageWords, ImageBytes, TapeWords, TextBytes}
 use Rattle.tv_top.specs.declared.status.Status.{Status}
-use Rattle.tv_top.specs.declared.status.Status.TheVariants.{Done, No, Usage, BadProgram, BadTape, BadSystem, BadWitness, NotPlain, Limit, FileFault, Memory, SameName, BadImage}
+use Rattle.tv_top.specs.declared.status.Status.TheVariants.{Done, No, Usage, BadProgram, BadTape, BadSystem, BadWitness, Limit, FileFault, Memory, SameName, BadImage}
 
 -- the exit code
 abbrev pub code_of : Status → ℕ
@@ -19,7 +19,6 @@ code_of Usage = 2
 code_of (BadProgram _ _) = 3
 code_of (BadTape _ _) = 4
 code_of (BadSystem _ _) = 5
-code_of (NotPlain _) = 5
 code_of (BadWitness _ _) = 6
 code_of (Limit _ _ _) = 7
 code_of (FileFault _) = 8
@@ -75,12 +74,16 @@ line report (BadProgram number why) = Some (codes "bad program: line " ++ decima
 line report (BadTape word at) = Some (codes "bad tape: word " ++ decimal word ++ codes ", item " ++ decimal at)
 line report (BadSystem at why) = Some (codes "bad system: byte " ++ decimal at ++ codes ": " ++ read_text why)
 line report (BadWitness at why) = Some (codes "bad witness: byte " ++ decimal at ++ codes ": " ++ read_text why)
-line report (NotPlain word) = Some (codes "not plain: word " ++ decimal word)
 line report (Limit what has most) = Some (codes "limit: " ++ what_text what ++ codes " " ++ decimal has ++ codes ", most " ++ decimal most)
 line report (FileFault _) = None
 line report Memory = None
 line report (SameName first second) = Some (codes "same name: words " ++ decimal first ++ codes " and " ++ decimal second)
 line report (BadImage len) = Some (codes "bad image: " ++ decimal len ++ codes " bytes")
+
+-- what a function returned, seen by view, is this
+abbrev pub Reads : {X Y : Type 0} → (X → Y) → Option X → Option Y → Type 0
+Reads view None due = due ≡ None
+Reads view (Some x) due = due ≡ Some (view x)
 
 -- the bytes that are said: the line and a line feed
 abbrev pub says : Option (List ℕ) → Status → Option (List ℕ)

@@ -1,30 +1,37 @@
 -- What a command answers, by its words and by what the files hold.
-use Rattle.std.specs.Prelude.{ℕ, ◌+◌, max, List, [], ◌∷◌, length, Option, Some, None, Result, Ok, Err, codes, nat_le, if◌then◌else◌}
+use Rattle.std.specs.Prelude.{ℕ, ◌+◌, ◌%◌, ◌==◌, max, List, [], ◌∷◌, length, Option, Some, None, Result, Ok, Err, codes, nat_le, if◌then◌else◌}
 use Rattle.std.specs.List.{flat_map}
 use Rattle.std.specs.Str.{bytes_eq}
 use Rattle.tv_asm.specs.Assembly.{assembled}
 use Rattle.tv_asm.specs.declared.fault.AsmFault.{AsmFault}
 use Rattle.tv_asm.specs.declared.fault.AsmFault.TheVariants as asm
-use Rattle.tv_core.specs.Constraints.{System}
+use Rattle.tv_check.specs.Verdict.{judge}
+use Rattle.tv_check.specs.declared.verdict.Verdict.{Verdict}
+use Rattle.tv_check.specs.declared.verdict.Verdict.TheVariants as verdicts
+use Rattle.tv_core.specs.declared.field.TheConstants.{P}
 use Rattle.tv_files.specs.Outside.{Names}
+use Rattle.tv_disasm.specs.Disassembly.{disassembly_of}
+use Rattle.tv_disasm.specs.declared.fault.DisFault.{DisFault}
+use Rattle.tv_disasm.specs.declared.fault.DisFault.TheVariants as dis
+use Rattle.tv_r1cs_read.specs.Places.{Fault}
+use Rattle.tv_r1cs_read.specs.R1cs.{system_of}
+use Rattle.tv_tape.specs.Tape.{tape_of}
+use Rattle.tv_tape.specs.declared.items.TapeFault.{TapeFault}
+use Rattle.tv_tape.specs.declared.items.TapeFault.TheVariants as tape
+use Rattle.tv_wtns.specs.Wtns.{assignment_of}
 use Rattle.tv_word.specs.Word.{word_bytes}
-use Rattle.tv_top.specs.declared.limits.TheConstants.{TEXT_BYTES, IMAGE_WORDS}
+use Rattle.tv_top.specs.declared.limits.TheConstants.{TEXT_BYTES, IMAGE_WORDS, IMAGE_BYTES, CHECK_TAPE_WORDS}
 use Rattle.tv_top.specs.declared.status.NoWhy.TheVariants.{Public, Constraint, Wires}
 use Rattle.tv_top.specs.declared.status.Status.{Status}
-use Rattle.tv_top.specs.declared.status.Status.TheVariants.{Done, No, Usage, BadProgram, NotPlain, Limit, FileFault, Memory, SameName}
+use Rattle.tv_top.specs.declared.status.Status.TheVariants.{Done, No, Usage, BadProgram, BadTape, BadSystem, BadWitness, Limit, FileFault, Memory, SameName, BadImage}
 use Rattle.tv_top.specs.declared.status.What.{What}
-use Rattle.tv_top.specs.declared.status.What.TheVariants.{ImageWords, TextBytes}
-use Rattle.tv_top.specs.declared.verdict.Verdict.{Verdict}
-use Rattle.tv_top.specs.declared.verdict.Verdict.TheVariants as verdicts
+use Rattle.tv_top.specs.declared.status.What.TheVariants.{ImageWords, ImageBytes, TapeWords, TextBytes}
 use Rattle.tv_top.specs.Codes.{says}
-use Rattle.tv_top.specs.PlainSystem.{system_of}
-use Rattle.tv_top.specs.PlainWitness.{assignment_of}
-use Rattle.tv_top.specs.PlainTape.{tape_of}
-use Rattle.tv_top.specs.Verdict.{judge}
 
 -- what words ask for
 pub data Job : Type 0 where
   Asm : List ℕ → List ℕ → Job
+  Disasm : List ℕ → List ℕ → Job
   Check : List ℕ → List ℕ → List ℕ → Job
 
 -- the job, unless words 1 and 2, of which the second names a file that is to be written, are one name
@@ -33,7 +40,9 @@ apart read written asked = if bytes_eq read written then Err (SameName 1 2) else
 
 -- the job of these words, where they are a command's; else the refusal
 abbrev pub job : List (List ℕ) → Result Job Status
-job (name ∷ text ∷ image ∷ []) = if bytes_eq name (codes "asm") then apart text image (Asm text image) else Err Usage
+job (name ∷ read ∷ written ∷ []) =
+    if bytes_eq name (codes "asm") then apart read written (Asm read written)
+    else (if bytes_eq name (codes "disasm") then apart read written (Disasm read written) else Err Usage)
 job (name ∷ system ∷ witness ∷ tape ∷ []) = if bytes_eq name (codes "check") then Ok (Check system witness tape) else Err Usage
 job _ = Err Usage
 
@@ -51,39 +60,53 @@ infixl 10 ◌>>=◌
 abbrev pub ◌>>=◌ : {A B : Type 0} → Look A → (A → Look B) → Look B
 look >>= f = look_on look.at look.gives f
 
--- the bytes of a file: a fault where its name isn't there, not plain beyond 1,048,576 bytes
-abbrev pub bytes_of : ℕ → Option (List ℕ) → Result (List ℕ) Status
-bytes_of word None = Err (FileFault word)
-bytes_of word (Some bytes) = if nat_le (length bytes) 1048576 then Ok bytes else Err (NotPlain word)
-
--- what a plain reading makes of them
-abbrev pub plain_of : {A : Type 0} → ℕ → Option A → Result A Status
-plain_of word None = Err (NotPlain word)
-plain_of word (Some x) = Ok x
-
--- a look at the file at a word, by a plain reading
-abbrev pub file_at : {A : Type 0} → ℕ → Option (List ℕ) → (List ℕ → Option A) → Look A
-file_at word file read = do
-  bytes ← record { at = word; gives = bytes_of word file }
-  record { at = word; gives = plain_of word (read bytes) }
-
--- the witness and the tape, each read and judged before the next, and the verdict on a system by them
-unfoldable pub judged_of : System → List ℕ → List ℕ → Names → Look Verdict
-judged_of s witness tape files = do
-  z ← file_at 2 (files witness) assignment_of
-  x ← file_at 3 (files tape) tape_of
-  record { at = 3; gives = Ok (judge s z x) }
-
--- the system first, and then the verdict on it
-unfoldable pub check_of : List ℕ → List ℕ → List ℕ → Names → Look Verdict
-check_of system witness tape files = do
-  s ← file_at 1 (files system) system_of
-  judged_of s witness tape files
-
 -- the bytes of a file that may have so many: a fault where its name isn't there
 abbrev pub limited_bytes : ℕ → What → ℕ → Option (List ℕ) → Result (List ℕ) Status
 limited_bytes word what most None = Err (FileFault word)
 limited_bytes word what most (Some bytes) = if nat_le (length bytes) most then Ok bytes else Err (Limit what (most + 1) most)
+
+-- what is answered where what a file holds is refused
+abbrev pub refused_as : {A F : Type 0} → (F → Status) → Result A F → Result A Status
+refused_as status (Ok x) = Ok x
+refused_as status (Err fault) = Err (status fault)
+
+-- what the file at a word holds, by a reading and what its fault is answered; a fault where its name
+-- isn't there
+abbrev pub held_in : {A F : Type 0} → ℕ → (F → Status) → (List ℕ → Result A F) → Option (List ℕ) → Result A Status
+held_in word status read None = Err (FileFault word)
+held_in word status read (Some bytes) = refused_as status (read bytes)
+
+-- what a fault of a system's file is answered, and of a witness file
+abbrev pub system_status : Fault → Status
+system_status fault = BadSystem fault.at fault.why
+
+abbrev pub witness_status : Fault → Status
+witness_status fault = BadWitness fault.at fault.why
+
+-- what a fault of the tape at a word is answered; it is one item more that passes the limit
+abbrev pub tape_status : ℕ → TapeFault → Status
+tape_status word (tape.BadItem at) = BadTape word at
+tape_status word (tape.TooBig at) = BadTape word at
+tape_status word (tape.TooMany most) = Limit TapeWords (most + 1) most
+tape_status word tape.Memory = Memory
+
+-- the public numbers of a text: below P each
+unfoldable pub publics_of : List ℕ → Result (List ℕ) Status
+publics_of text = refused_as (tape_status 3) (tape_of text P CHECK_TAPE_WORDS)
+
+-- the public numbers of the tape at word 3
+unfoldable pub tape_at_3 : List ℕ → Names → Look (List ℕ)
+tape_at_3 tape files = do
+  text ← record { at = 3; gives = limited_bytes 3 TextBytes TEXT_BYTES (files tape) }
+  record { at = 3; gives = publics_of text }
+
+-- the system, the witness and the tape, each read to its end and judged before the next, and the verdict
+unfoldable pub check_of : List ℕ → List ℕ → List ℕ → Names → Look Verdict
+check_of system witness tape files = do
+  s ← record { at = 1; gives = held_in 1 system_status system_of (files system) }
+  z ← record { at = 2; gives = held_in 2 witness_status assignment_of (files witness) }
+  x ← tape_at_3 tape files
+  record { at = 3; gives = Ok (judge s z x) }
 
 -- the bytes of words: of each its four bytes, the lowest first
 abbrev pub image_bytes : List ℕ → List ℕ
@@ -109,6 +132,21 @@ unfoldable pub asm_of : List ℕ → Names → Look (List ℕ)
 asm_of text files = do
   bytes ← record { at = 1; gives = limited_bytes 1 TextBytes TEXT_BYTES (files text) }
   record { at = 1; gives = image_of bytes }
+
+-- the program text of an image, whose bytes are whole instructions of 8
+unfoldable pub text_of : List ℕ → Result (List ℕ) Status
+text_of image = if length image % 8 == 0 then Ok (disassembly_of 32 image) else Err (BadImage (length image))
+
+-- the program text of the image at word 1
+unfoldable pub disasm_of : List ℕ → Names → Look (List ℕ)
+disasm_of image files = do
+  bytes ← record { at = 1; gives = limited_bytes 1 ImageBytes IMAGE_BYTES (files image) }
+  record { at = 1; gives = text_of bytes }
+
+-- what a fault of an image is answered
+abbrev pub dis_status : DisFault → Status
+dis_status (dis.Ragged len) = BadImage len
+dis_status dis.Memory = Memory
 
 abbrev pub verdict_status : Verdict → Status
 verdict_status verdicts.Yes = Done
@@ -143,6 +181,7 @@ pub record Answer : Type 0 where
 -- what the command of a job says where it is done
 abbrev pub report_of : Result Job Status → Option (List ℕ)
 report_of (Ok (Asm _ _)) = None
+report_of (Ok (Disasm _ _)) = None
 report_of (Ok (Check _ _ _)) = Some (codes "yes")
 report_of (Err _) = None
 
@@ -167,5 +206,6 @@ stored_by word name = answer_by (λ _. Done) (λ bytes. record { word = word; na
 abbrev pub outcome : Result Job Status → Names → Answer
 outcome (Err status) files = said_of None 0 status
 outcome (Ok (Asm text image)) files = stored_by 2 image (asm_of text files)
+outcome (Ok (Disasm image text)) files = stored_by 2 text (disasm_of image files)
 outcome (Ok (Check system witness tape)) files =
     answer_by verdict_status (λ _. []) (Some (codes "yes")) (check_of system witness tape files)

@@ -15,7 +15,7 @@ use tv_word::word_bytes;
 fn image_bytes(alloc: Global, words: &[u32]) -> Result<Vec<u8>, AllocError>
     ensures { IfOk result (λ v. v.items ≡ image_bytes words.now) }
 {
-    let mut bytes = Vec::new(alloc);
+    let mut bytes = Vec::with_capacity(alloc, 4 * words.len())?;
     for word in words {
         bytes.extend_from_slice(&word_bytes(*word))?;
     }

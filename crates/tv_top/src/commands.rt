@@ -1,16 +1,17 @@
 //! The top call: what the words ask for is done, and one line is said.
-ghost use Rattle.std.specs.Prelude.{◌≡◌, ◌<◌, ℕ, List, [], ◌∷◌, length, map, string_bytes, codes};
+ghost use Rattle.std.specs.Prelude.{◌≡◌, ◌≢◌, ◌<◌, ℕ, List, [], ◌∷◌, length, map, string_bytes, codes};
 ghost use Rattle.std.specs.Option.{ForSome, option_copied};
 ghost use Rattle.tv_files.specs.Outside.{Told};
 ghost use Rattle.tv_top.specs.Answers.{Answers};
 ghost use Rattle.tv_top.specs.Asked.{asked};
-ghost use Rattle.tv_top.specs.Claims.{Checks};
+ghost use Rattle.tv_top.specs.Claims.{Asms, Disasms, Checks};
 ghost use Rattle.tv_top.specs.Codes.{says};
 ghost use Rattle.tv_top.specs.Ends.{Concludes, Stores};
-ghost use Rattle.tv_top.specs.Outcome.{Asm, Check, job};
+ghost use Rattle.tv_top.specs.Outcome.{Asm, Disasm, Check, job};
 
 use crate::assembling::asm;
 use crate::checking::check;
+use crate::disassembling::disasm;
 use crate::job::{Job, job_of};
 use crate::line::line_of;
 use crate::status::Status;
@@ -56,6 +57,23 @@ fn run_asm<D: Files>(alloc: Global, words: usize, files: &mut D, text: &str, ima
     }
 }
 
+/// `disasm IMAGE TEXT`.
+fn run_disasm<D: Files>(
+    alloc: Global,
+    words: usize,
+    files: &mut D,
+    image: &str,
+    text: &str,
+) -> Status
+    ensures { Answers (Ok (Disasm image.now text.now)) words
+        (D.seen files.old) (D.seen files.new) result }
+{
+    match disasm(alloc, files, image) {
+        Ok(bytes) => store(files, 2, text, &bytes),
+        Err(status) => conclude(files, words, None, status),
+    }
+}
+
 /// `check SYSTEM WITNESS TAPE`.
 fn run_check<D: Files>(
     alloc: Global,
@@ -81,6 +99,7 @@ fn run<D: Files>(alloc: Global, words: usize, files: &mut D, job: Job<'_>) -> St
 {
     match job {
         Job::Asm { text, image } => run_asm(alloc, words, files, text, image),
+        Job::Disasm { image, text } => run_disasm(alloc, words, files, image, text),
         Job::Check {
             system,
             witness,
@@ -91,19 +110,37 @@ fn run<D: Files>(alloc: Global, words: usize, files: &mut D, job: Job<'_>) -> St
 
 /// Does what the words after the program's name ask for, says the line of the status, and answers it.
 ///
-/// `check SYSTEM WITNESS TAPE` reads the three files, each whole and judged before the next is read. It
-/// is `Done`, and says `yes`, exactly where the witness holds an assignment that satisfies the system
-/// and extends the numbers of the tape; else `No` tells what is wrong first. `NotPlain` tells the word
-/// of the first file that isn't in the plain form or has more than 1,048,576 bytes. All other words are
-/// `Usage`.
+/// `asm TEXT IMAGE` writes the image of a program text of at most 1,048,576 bytes: its words, of which
+/// there may be 16,384, each by its four bytes. `BadProgram` tells the text's first line at fault.
+/// `disasm IMAGE TEXT` writes the program text of an image of at most 65,536 bytes. `BadImage` tells
+/// their number where it isn't a multiple of 8. Both say nothing where they are `Done`, create the
+/// file they write once, and append pieces of 4,096 bytes and one shorter last piece. `SameName` comes
+/// before any file call where both words are one name, and `Limit` where a limit is passed.
 ///
-/// `FileFault` tells the word of the name whose reading failed, as it does where there is no such name,
-/// or the number of words where saying the line failed. `Memory` comes where memory was wanting; in
-/// place of `Usage` only where the files wanted it. After either no further file call is made. No file
-/// is changed.
+/// `check SYSTEM WITNESS TAPE` reads the three files, each to its end and judged before the next is
+/// read, and then the system again. The first two may have any size. It is `Done`, and says `yes`,
+/// exactly where the witness holds an assignment that satisfies the system and extends the numbers of
+/// the tape; else `No` tells what is wrong first. `BadSystem` and `BadWitness` tell the first fault of
+/// a file, `BadTape` the first item that isn't a number below the prime, and `Limit` comes where the
+/// tape has more than 1,048,576 bytes or 65,536 items. It takes memory for the values and one
+/// constraint. All other words are `Usage`.
+///
+/// `FileFault` tells the word of the name whose reading or writing failed, as reading does where there
+/// is no such name, or the number of words where saying the line failed. `Memory` comes where memory
+/// was wanting; in place of `Usage` and `SameName` only where the files wanted it. After either no
+/// further file call is made, and the name that is written has a prefix of its bytes or is as it was.
+/// No other file is changed.
 pub fn command<D: Files>(alloc: Global, words: &[String], files: &mut D) -> Status
     ensures answers { Answers (job (map string_bytes words.now)) (length words.now)
         (D.seen files.old) (D.seen files.new) result }
+    ensures asm { (text image : List ℕ)
+        → map string_bytes words.now ≡ codes "asm" ∷ text ∷ image ∷ [] → text ≢ image
+        → Told (D.seen files.old) (λ held.
+        Asms held text image (D.seen files.old) (D.seen files.new) result) }
+    ensures disasm { (image text : List ℕ)
+        → map string_bytes words.now ≡ codes "disasm" ∷ image ∷ text ∷ [] → image ≢ text
+        → Told (D.seen files.old) (λ held.
+        Disasms held image text (D.seen files.old) (D.seen files.new) result) }
     ensures check { (system witness tape : List ℕ)
         → map string_bytes words.now ≡ codes "check" ∷ system ∷ witness ∷ tape ∷ []
         → Told (D.seen files.old) (λ held.

@@ -9,7 +9,15 @@ use crate::status::Status;
 #[derive(Clone, Copy)]
 pub(crate) enum Job<'a> {
     /// The image of a program text.
-    Asm { text: &'a str, image: &'a str },
+    Asm {
+        text: &'a str,
+        image: &'a str,
+    },
+    /// The program text of an image.
+    Disasm {
+        image: &'a str,
+        text: &'a str,
+    },
     /// Whether the assignment of a witness file satisfies a system and extends a tape.
     Check {
         system: &'a str,
@@ -41,6 +49,10 @@ pub(crate) fn job_of(words: &[String]) -> Result<Job<'_>, Status>
         [name, text, image] if name.as_str() == "asm" => {
             let (text, image) = (text.as_str(), image.as_str());
             apart(text, image, Job::Asm { text, image })
+        }
+        [name, image, text] if name.as_str() == "disasm" => {
+            let (image, text) = (image.as_str(), text.as_str());
+            apart(image, text, Job::Disasm { image, text })
         }
         [name, system, witness, tape] if name.as_str() == "check" => Ok(Job::Check {
             system: system.as_str(),

@@ -3,23 +3,21 @@
 #![tactic(auto)]
 
 mod assembling;
+#[cfg(test)]
+mod check_tests;
 mod checking;
 mod commands;
-mod constraints;
+mod containers;
+mod disassembling;
 mod inputs;
 mod job;
 mod limits;
 mod line;
-mod meaning;
-mod plain_system;
-mod plain_tape;
-mod plain_witness;
-mod reading;
+#[cfg(test)]
+mod program_tests;
 mod reasons;
 mod status;
-#[cfg(test)]
-mod tests;
-mod verdict;
+mod tapes;
 
 pub use commands::command;
 pub use status::{NoWhy, Status, What};

@@ -2,8 +2,7 @@
 ghost use Rattle.std.specs.Prelude.{◌≡◌, ◌+◌, ◌<◌, ◌≤◌, ◌++◌, length, codes, decimal, IfSome};
 ghost use Rattle.std.specs.Option.{ForSome, option_copied};
 ghost use Rattle.arrayvec.specs.ArrayString.{array_string_len};
-ghost use Rattle.tv_top.specs.Reading.{Reads};
-ghost use Rattle.tv_top.specs.Codes.{line, says, why_text, asm_text, read_text, what_text};
+ghost use Rattle.tv_top.specs.Codes.{Reads, line, says, why_text, asm_text, read_text, what_text};
 
 use crate::reasons::{Line, MOST, push_asm, push_number, push_read, push_what};
 use crate::status::{NoWhy, Status, What};
@@ -122,7 +121,6 @@ fn text_of(report: Option<&str>, status: &Status) -> Option<Line>
         }
         Status::BadSystem { at, why } => Some(container_line("bad system: byte ", at, why)),
         Status::BadWitness { at, why } => Some(container_line("bad witness: byte ", at, why)),
-        Status::NotPlain { word } => Some(number_line("not plain: word ", u64::from(word), "")),
         Status::Limit { what, has, most } => Some(limit_line(what, has, most)),
         Status::FileFault { .. } | Status::Memory => None,
         Status::SameName { first, second } => {

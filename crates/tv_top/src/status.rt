@@ -2,9 +2,10 @@
 ghost use Rattle.std.specs.Prelude.{◌≡◌};
 ghost use Rattle.tv_top.specs.Codes.{code_of};
 
-use crate::verdict::Verdict;
 use std::alloc::AllocError;
 use tv_asm::{AsmFault, AsmWhy};
+use tv_check::Verdict;
+use tv_disasm::DisFault;
 use tv_r1cs_read::ReadWhy;
 
 /// Why `check` says no.
@@ -49,8 +50,6 @@ pub enum Status {
     BadSystem { at: u64, why: ReadWhy },
     /// The file holds no assignment: its first fault, at this byte, and the reason.
     BadWitness { at: u64, why: ReadWhy },
-    /// The file at this word isn't in the plain form.
-    NotPlain { word: u32 },
     /// There are `has` of a quantity of which there may be `most`.
     Limit { what: What, has: u64, most: u64 },
     /// A file call failed, on the name at this word, or, at the number of words, in saying the line.
@@ -74,7 +73,7 @@ impl Status {
             Status::Usage => 2,
             Status::BadProgram { .. } => 3,
             Status::BadTape { .. } => 4,
-            Status::BadSystem { .. } | Status::NotPlain { .. } => 5,
+            Status::BadSystem { .. } => 5,
             Status::BadWitness { .. } => 6,
             Status::Limit { .. } => 7,
             Status::FileFault { .. } => 8,
@@ -109,6 +108,19 @@ impl From<AsmFault> for Status {
                 most: u64::from(most),
             },
             AsmFault::Memory => Status::Memory,
+        }
+    }
+}
+
+impl From<DisFault> for Status {
+    ghost use Rattle.tv_top.specs.Outcome.{dis_status};
+
+    ghost from_gives = { λ fault status. status ≡ dis_status fault };
+
+    fn from(fault: DisFault) -> Status {
+        match fault {
+            DisFault::Ragged { len } => Status::BadImage { len },
+            DisFault::Memory => Status::Memory,
         }
     }
 }

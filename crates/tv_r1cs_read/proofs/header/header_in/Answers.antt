@@ -1,4 +1,4 @@
-use Rattle.std.proofs.Common.{◌≡◌, ◌+◌, ◌≤◌, ap, sym, ◌∙◌, arith}
+use Rattle.std.proofs.Common.{◌+◌, ◌≤◌, ap, sym, ◌∙◌, arith}
 use Rattle.tv_r1cs_read.specs.Places.{places}
 use Rattle.tv_r1cs_read.proofs.SectionLemmas.{header_in-checked}
 use Rattle.tv_r1cs_read.proofs.header.header_in.Goals as goal

@@ -1,4 +1,4 @@
-use Rattle.std.proofs.Common.{◌≡◌, ℕ, ◌+◌, ◌-◌, ◌*◌, ◌<◌, ◌≤◌, arith, ◌∙◌}
+use Rattle.std.proofs.Common.{◌≡◌, ◌+◌, ◌-◌, arith, ◌∙◌}
 use Rattle.std.proofs.lemmas.Result.{err_from_is_err_and}
 use Rattle.tv_r1cs_read.proofs.Ahead.{no_room, ends}
 use Rattle.tv_r1cs_read.proofs.rows.read_terms.Goals as goal
@@ -15,6 +15,7 @@ loop-left-preserved g c = record {
   outside = c.in_ok-fit_below.ensures.looks ∙ c.loop-left.invariant.outside;
   within = omega (arith, c.whole_terms.ensures.within, c.min-some.ensures, c.from.ensures);
   size = omega (arith, c.loop-left.invariant.size, c.in_ok-take_terms.ensures.size, c.from.ensures);
+  wires = λ old. c.in_ok-take_terms.ensures.wires (c.loop-left.invariant.wires old);
   piece = λ file told piece. c.in_ok-fit_below.ensures.piece file (rw (← c.loop-left.invariant.outside) at told) (c.loop-left.invariant.piece file told piece);
   ahead = λ file told piece end answer ahead.
       let before = c.loop-left.invariant.ahead file told piece end answer ahead in

@@ -1,4 +1,5 @@
-use Rattle.std.proofs.Common.{◌≡◌, ℕ, ◌+◌, ◌*◌, ◌≤◌, List, length, Result, Some}
+use Rattle.std.proofs.Common.{◌≡◌, ℕ, ◌+◌, ◌*◌, ◌<◌, ◌≤◌, List, length, Result, Some}
+use Rattle.std.specs.List.{All}
 use Rattle.tv_core.specs.Constraints.{Combination}
 use Rattle.tv_r1cs_read.specs.Places.{Fault, places}
 use Rattle.tv_r1cs_read.specs.Reading.{bytes_of, IsPiece}
@@ -11,6 +12,7 @@ invariant-loop-left g l = record {
   outside : g.D.Files.seen l.files ≡ g.D.Files.seen l.initial.files;
   within : l.at ≤ l.bounds.end;
   size : l.at + 12 * length l.initial.terms ≡ l.initial.at + 12 * length l.terms;
+  wires : All (λ t. t.0 < l.bounds.wires) l.initial.terms → All (λ t. t.0 < l.bounds.wires) l.terms;
   piece : (file : List ℕ) → bytes_of (g.D.Files.seen l.initial.files) l.name ≡ Some file → IsPiece l.initial.window file → IsPiece l.window file;
   ahead : (file : List ℕ) → bytes_of (g.D.Files.seen l.initial.files) l.name ≡ Some file → IsPiece l.initial.window file →
       l.bounds.end ≤ places file → (answer : Result (Read Combination) Fault) →

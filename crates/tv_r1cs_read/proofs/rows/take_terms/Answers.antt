@@ -1,6 +1,7 @@
-use Rattle.std.proofs.Common.{◌≡◌, ℕ, ◌+◌, ◌-◌, ◌*◌, ◌<◌, ◌≤◌, length, arith, ap, sym, refl, ◌∙◌, ⊎_elim}
+use Rattle.std.proofs.Common.{◌≡◌, ℕ, ◌+◌, ◌-◌, ◌<◌, ◌≤◌, length, arith, ap, sym, refl, ◌∙◌, ⊎_elim}
 use Rattle.std.proofs.lemmas.List.{length_push}
 use Rattle.std.proofs.lemmas.Bool.{cases_lt}
+use Rattle.std.proofs.lemmas.List.Elements.{All-push}
 use Rattle.tv_core.specs.declared.field.TheConstants.{P}
 use Rattle.tv_r1cs_read.proofs.Ahead.{goes_on, no_wire, no_residue}
 use Rattle.tv_r1cs_read.proofs.rows.take_terms.Goals as goal
@@ -25,6 +26,7 @@ loop-preserved c = record {
   size =
       let grown : length c.push.new.self ≡ length c.loop.terms + 1 = ap length c.in_ok-push.ensures ∙ length_push c.loop.terms (c.word-wire.result, c.in-Some.coefficient) in
       omega (arith, grown, c.loop.invariant.size);
+  wires = λ old. rw c.in_ok-push.ensures (All-push (λ (t : ℕ × ℕ). t.0 < c.args.bounds.now.wires) _ _ (c.loop.invariant.wires old) c.if-wire-bounds.false);
   ahead = λ file piece answer n enough ahead.
       let left : n - c.loop.counter ≡ n - (c.loop.counter + 1) + 1 = omega (arith, c.loop-test.true) in
       let fits : c.loop.at + 12 ≤ c.args.bounds.now.end = omega (arith, c.loop-test.true, c.loop.invariant.place, c.requires.within) in

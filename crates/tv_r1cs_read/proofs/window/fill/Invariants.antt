@@ -1,5 +1,4 @@
 use Rattle.std.proofs.Common.{◌≡◌, ℕ, ◌≤◌, ◌-◌, List, take, drop, Some}
-use Rattle.tv_files.specs.Outside.{Outside}
 use Rattle.tv_r1cs_read.specs.Reading.{bytes_of, IsMissing}
 use Rattle.tv_r1cs_read.proofs.window.fill.Given as goal
 

@@ -1,9 +1,12 @@
-use Rattle.std.proofs.Common.{◌≡◌, ℕ, Some, codes, refl, rules}
+use Rattle.std.proofs.Common.{◌≡◌, ℕ, Some, Ok, codes, refl, rules}
 use Rattle.tv_top.specs.Outcome.{Check, check_of, status_of, verdict_status}
 use Rattle.tv_top.specs.declared.status.Status.TheVariants.{Usage, FileFault, SameName}
-use Rattle.tv_top.specs.declared.verdict.Verdict.{Verdict}
-use Rattle.tv_top.specs.declared.verdict.Verdict.TheVariants.{Yes, WireCount, NoPublic, NoConstraint}
+use Rattle.tv_check.specs.declared.verdict.Verdict.{Verdict}
+use Rattle.tv_check.specs.declared.verdict.Verdict.TheVariants.{Yes, WireCount, NoPublic, NoConstraint}
+use Rattle.tv_top.specs.Answers.{IsRead}
+use Rattle.tv_top.specs.Containers.{checked_of}
 use Rattle.tv_top.proofs.Answering.{answers_found}
+use Rattle.tv_top.proofs.Twice.{once, finds_same}
 use Rattle.tv_top.proofs.commands.run_check.Goals as goal
 use Rattle.tv_top.proofs.commands.run_check.Goals.{in-Ok, in-Err}
 
@@ -32,4 +35,5 @@ returns g c =
     let found : c.match-check.status ≡ status_of verdict_status c.check.result =
     elim c.match-check.branch [ in-Ok w ↦ search rules | in-Err w ↦ search rules ] in
     answers_found asked verdict_status (Some (codes "yes")) due c.check.result c.args.words _ _ _ _
-    (λ _. refl) refl no_usage no_same_name no_fault c.check.ensures (rw found at c.conclude.ensures)
+    (λ _. refl) refl no_usage no_same_name no_fault (finds_same (λ x. x) (IsRead (Ok asked)) (checked_of c.args.system.now c.args.witness.now c.args.tape.now) due _ _ c.check.result
+    (once c.args.system.now c.args.witness.now c.args.tape.now) c.check.ensures) (rw found at c.conclude.ensures)

@@ -1,4 +1,4 @@
-use Rattle.std.proofs.Common.{◌≤◌, length, arith, ap, Ok}
+use Rattle.std.proofs.Common.{arith, ap, Ok}
 use Rattle.tv_r1cs_read.proofs.Pieces.{there_if_read}
 use Rattle.tv_r1cs_read.proofs.window.Window.reach.Goals as goal
 

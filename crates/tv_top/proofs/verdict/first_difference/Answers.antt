@@ -1,6 +1,0 @@
-use Rattle.std.proofs.Common.{sym, ◌∙◌, arith}
-use Rattle.tv_top.proofs.Difference.{is_done}
-use Rattle.tv_top.proofs.verdict.first_difference.Goals as goal
-
-pub returns-clause-place : goal.returns-clause-place
-returns-clause-place c = c.then_some.ensures ∙ sym (is_done c.args.xs.now c.args.ys.now c.loop-at.at _ (omega arith) c.loop-at.invariant.rest)

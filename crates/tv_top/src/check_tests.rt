@@ -1,0 +1,261 @@
+use crate::command;
+use crate::status::Status;
+use std::alloc::{AllocError, Global};
+use std::process::Abort;
+use std::test::*;
+use tv_files::MemFiles;
+
+// Four wires, wire 1 public, and the constraint that wire 1 times wire 2 is wire 3.
+const SYSTEM: [u8; 168] = [
+    0x72, 0x31, 0x63, 0x73, 1, 0, 0, 0, 3, 0, 0, 0, // the front
+    1, 0, 0, 0, 40, 0, 0, 0, 0, 0, 0, 0, // section 1
+    8, 0, 0, 0, 1, 0, 0, 0, 0xff, 0xff, 0xff, 0xff, //
+    4, 0, 0, 0, 0, 0, 0, 0, 1, 0, 0, 0, 0, 0, 0, 0, //
+    4, 0, 0, 0, 0, 0, 0, 0, 1, 0, 0, 0, //
+    2, 0, 0, 0, 48, 0, 0, 0, 0, 0, 0, 0, // section 2
+    1, 0, 0, 0, 1, 0, 0, 0, 1, 0, 0, 0, 0, 0, 0, 0, //
+    1, 0, 0, 0, 2, 0, 0, 0, 1, 0, 0, 0, 0, 0, 0, 0, //
+    1, 0, 0, 0, 3, 0, 0, 0, 1, 0, 0, 0, 0, 0, 0, 0, //
+    3, 0, 0, 0, 32, 0, 0, 0, 0, 0, 0, 0, // section 3
+    0, 0, 0, 0, 0, 0, 0, 0, 1, 0, 0, 0, 0, 0, 0, 0, //
+    2, 0, 0, 0, 0, 0, 0, 0, 3, 0, 0, 0, 0, 0, 0, 0,
+];
+
+// The values 1, 3, 5 and 15.
+const WITNESS: [u8; 84] = [
+    0x77, 0x74, 0x6e, 0x73, 2, 0, 0, 0, 2, 0, 0, 0, // the front
+    1, 0, 0, 0, 16, 0, 0, 0, 0, 0, 0, 0, // section 1
+    8, 0, 0, 0, 1, 0, 0, 0, 0xff, 0xff, 0xff, 0xff, 4, 0, 0, 0, //
+    2, 0, 0, 0, 32, 0, 0, 0, 0, 0, 0, 0, // section 2
+    1, 0, 0, 0, 0, 0, 0, 0, 3, 0, 0, 0, 0, 0, 0, 0, //
+    5, 0, 0, 0, 0, 0, 0, 0, 15, 0, 0, 0, 0, 0, 0, 0,
+];
+
+// The system with its sections in the order 3, 2, 1.
+fn reversed() -> [u8; 168] {
+    let mut system = SYSTEM;
+    system[12..56].copy_from_slice(&SYSTEM[124..168]);
+    system[56..116].copy_from_slice(&SYSTEM[64..124]);
+    system[116..168].copy_from_slice(&SYSTEM[12..64]);
+    system
+}
+
+// The values 1, 3 and 5.
+const THREE_VALUES: [u8; 76] = [
+    0x77, 0x74, 0x6e, 0x73, 2, 0, 0, 0, 2, 0, 0, 0, // the front
+    1, 0, 0, 0, 16, 0, 0, 0, 0, 0, 0, 0, // section 1
+    8, 0, 0, 0, 1, 0, 0, 0, 0xff, 0xff, 0xff, 0xff, 3, 0, 0, 0, //
+    2, 0, 0, 0, 24, 0, 0, 0, 0, 0, 0, 0, // section 2
+    1, 0, 0, 0, 0, 0, 0, 0, 3, 0, 0, 0, 0, 0, 0, 0, //
+    5, 0, 0, 0, 0, 0, 0, 0,
+];
+
+// A file with these bytes from a place on.
+fn changed(alloc: Global, file: &[u8], at: usize, change: &[u8]) -> Result<Vec<u8>, AllocError> {
+    let mut bytes = Vec::new(alloc);
+    for (i, byte) in file.iter().enumerate() {
+        bytes.push(*change.get(i.wrapping_sub(at)).unwrap_or(byte))?;
+    }
+    Ok(bytes)
+}
+
+// Files of these contents; there is no tape where it is none.
+fn files_of(
+    alloc: Global,
+    system: &[u8],
+    witness: &[u8],
+    tape: Option<&str>,
+) -> Result<MemFiles, Fail> {
+    let mut files = MemFiles::new(alloc);
+    files.set("s.r1cs", system)?;
+    files.set("w.wtns", witness)?;
+    if let Some(text) = tape {
+        files.set("t.txt", text.as_bytes())?;
+    }
+    Ok(files)
+}
+
+// What `check` answers over these files.
+fn check(alloc: Global, files: &mut MemFiles) -> Result<Status, Fail> {
+    let words = [
+        String::from_str(alloc, "check")?,
+        String::from_str(alloc, "s.r1cs")?,
+        String::from_str(alloc, "w.wtns")?,
+        String::from_str(alloc, "t.txt")?,
+    ];
+    Ok(command(alloc, &words, files))
+}
+
+// Sees that `check` answers with this exit code, and says this line.
+fn answers(
+    rt: &impl Abort,
+    alloc: Global,
+    system: &[u8],
+    witness: &[u8],
+    tape: Option<&str>,
+    code: u8,
+    line: &str,
+) -> Result<(), Fail> {
+    let mut files = files_of(alloc, system, witness, tape)?;
+    assert_eq!(rt; check(alloc, &mut files)?.code(), code, "{line}");
+    assert_eq!(rt; files.said_bytes(), line.as_bytes(), "{line}");
+    Ok(())
+}
+
+#[test]
+fn judges_tapes(rt: HostRuntime) -> Result<(), Fail> {
+    let tapes: [(Option<&str>, u8, &str); 8] = [
+        (Some("3"), 0, "yes\n"),
+        (Some("\r\n\t 03 \n"), 0, "yes\n"),
+        (Some("4"), 1, "no: public wire 1\n"),
+        (Some(""), 1, "no: public wire 1\n"),
+        (Some("3 5"), 1, "no: public wire 2\n"),
+        (Some("x"), 4, "bad tape: word 3, item 0\n"),
+        (Some("3 18446744069414584321"), 4, "bad tape: word 3, item 1\n"),
+        (None, 8, ""),
+    ];
+    for (tape, code, line) in tapes {
+        answers(&rt, rt.alloc(), &SYSTEM, &WITNESS, tape, code, line)?;
+    }
+    Ok(())
+}
+
+#[test]
+fn takes_tapes_up_to_the_limits(rt: HostRuntime) -> Result<(), Fail> {
+    let tapes: [(&str, usize, u8, &str); 4] = [
+        ("7 ", 65_536, 1, "no: public wire 1\n"),
+        ("7 ", 65_537, 7, "limit: tape words 65537, most 65536\n"),
+        (" ", 1_048_576, 1, "no: public wire 1\n"),
+        (" ", 1_048_577, 7, "limit: text bytes 1048577, most 1048576\n"),
+    ];
+    for (item, count, code, line) in tapes {
+        let mut tape = String::new(rt.alloc());
+        for _ in 0..count {
+            tape.push_str(item)?;
+        }
+        let tape = Some(tape.as_str());
+        answers(&rt, rt.alloc(), &SYSTEM, &WITNESS, tape, code, line)?;
+    }
+    Ok(())
+}
+
+#[test]
+fn judges_witnesses(rt: HostRuntime) -> Result<(), Fail> {
+    let changes: [(usize, &[u8], u8, &str); 5] = [
+        (52, &[2], 1, "no: public wire 0\n"),
+        (76, &[16], 1, "no: constraint 0\n"),
+        (60, &[4, 0, 0, 0, 0xff, 0xff, 0xff, 0xff], 6, "bad witness: byte 60: not below p\n"),
+        (36, &[3], 6, "bad witness: byte 52: 32 for 24\n"),
+        (4, &[1], 6, "bad witness: byte 4: version 1\n"),
+    ];
+    for (at, change, code, line) in changes {
+        let witness = changed(rt.alloc(), &WITNESS, at, change)?;
+        answers(&rt, rt.alloc(), &SYSTEM, &witness, Some("3"), code, line)?;
+    }
+    let wires = "no: 3 wires, 4 wanted\n";
+    answers(&rt, rt.alloc(), &SYSTEM, &THREE_VALUES, Some("3"), 1, wires)
+}
+
+#[test]
+fn judges_systems(rt: HostRuntime) -> Result<(), Fail> {
+    let prime = [1, 0, 0, 0, 0xff, 0xff, 0xff, 0xff];
+    let changes: [(usize, &[u8], u8, &str); 22] = [
+        (0, &[0], 5, "bad system: byte 0: bad magic\n"),
+        (4, &[2], 5, "bad system: byte 4: version 2\n"),
+        (8, &[2], 5, "bad system: byte 124: bytes after the end\n"),
+        (8, &[4], 5, "bad system: byte 168: truncated\n"),
+        (124, &[1], 5, "bad system: byte 124: section 1 doubled\n"),
+        (124, &[2], 5, "bad system: byte 124: section 2 doubled\n"),
+        (124, &[9], 0, "yes\n"),
+        (12, &[9], 5, "bad system: byte 168: section 1 missing\n"),
+        (64, &[9], 5, "bad system: byte 168: section 2 missing\n"),
+        (16, &[0xff; 8], 5, "bad system: byte 12: truncated\n"),
+        (24, &[32], 5, "bad system: byte 24: another prime\n"),
+        (28, &[2], 5, "bad system: byte 24: another prime\n"),
+        (36, &[1], 5, "bad system: byte 24: 1 for 2\n"),
+        (36, &[3], 5, "bad system: byte 136: 32 for 24\n"),
+        (60, &[0], 5, "bad system: byte 76: 48 for 0\n"),
+        (60, &[2], 5, "bad system: byte 124: truncated\n"),
+        (76, &[1, 0, 16], 5, "bad system: byte 76: 1048577 terms\n"),
+        (76, &[2], 1, "no: constraint 0\n"),
+        (80, &[4], 5, "bad system: byte 80: wire 4 of 4\n"),
+        (84, &prime, 5, "bad system: byte 84: not below p\n"),
+        (48, &[1], 0, "yes\n"),
+        (136, &[7; 32], 0, "yes\n"),
+    ];
+    for (at, change, code, line) in changes {
+        let system = changed(rt.alloc(), &SYSTEM, at, change)?;
+        answers(&rt, rt.alloc(), &system, &WITNESS, Some("3"), code, line)?;
+    }
+    answers(&rt, rt.alloc(), &reversed(), &WITNESS, Some("3"), 0, "yes\n")?;
+    let mut longer = changed(rt.alloc(), &SYSTEM, 0, &[])?;
+    longer.push(0)?;
+    let line = "bad system: byte 168: bytes after the end\n";
+    answers(&rt, rt.alloc(), &longer, &WITNESS, Some("3"), 5, line)
+}
+
+// The line of a file that was cut, where its parts begin at these places: the part in which it ends is
+// the truncated one.
+fn truncated(alloc: Global, file: &str, begins: &[usize], size: usize) -> Result<String, Fail> {
+    let mut at = 0;
+    for begin in begins {
+        if *begin <= size {
+            at = *begin;
+        }
+    }
+    Ok(format!(in alloc; "bad {file}: byte {at}: truncated\n")?)
+}
+
+#[test]
+fn tells_where_a_file_was_cut(rt: HostRuntime) -> Result<(), Fail> {
+    for size in 0..SYSTEM.len() {
+        let line = truncated(rt.alloc(), "system", &[0, 4, 8, 12, 64, 124], size)?;
+        answers(&rt, rt.alloc(), &SYSTEM[..size], &WITNESS, Some("3"), 5, &line)?;
+    }
+    for size in 0..WITNESS.len() {
+        let line = truncated(rt.alloc(), "witness", &[0, 4, 8, 12, 40], size)?;
+        answers(&rt, rt.alloc(), &SYSTEM, &WITNESS[..size], Some("3"), 6, &line)?;
+    }
+    Ok(())
+}
+
+#[test]
+fn names_the_first_file_at_fault(rt: HostRuntime) -> Result<(), Fail> {
+    let system = "bad system: byte 0: truncated\n";
+    answers(&rt, rt.alloc(), &[], &[], Some("x"), 5, system)?;
+    let witness = "bad witness: byte 0: truncated\n";
+    answers(&rt, rt.alloc(), &SYSTEM, &[], Some("x"), 6, witness)?;
+    let tape = "bad tape: word 3, item 0\n";
+    answers(&rt, rt.alloc(), &SYSTEM, &THREE_VALUES, Some("x"), 4, tape)
+}
+
+#[test]
+fn fails_at_each_call(rt: HostRuntime) -> Result<(), Fail> {
+    let mut words: Vec<u64> = Vec::new(rt.alloc());
+    for number in 1..100 {
+        let mut files = files_of(rt.alloc(), &SYSTEM, &WITNESS, Some("3"))?;
+        files.fail_at(number)?;
+        let Status::FileFault { word } = check(rt.alloc(), &mut files)? else {
+            break;
+        };
+        let said = if word == 4 { "ye" } else { "" };
+        assert_eq!(rt; files.said_bytes(), said.as_bytes(), "call {number}");
+        assert_eq!(rt; files.calls(), number, "no call after call {number}");
+        if words.last() != Some(&word) {
+            words.push(word)?;
+        }
+    }
+    assert_eq!(rt; words.as_slice(), [1, 2, 3, 1, 4].as_slice());
+    Ok(())
+}
+
+#[test]
+fn wants_words(rt: HostRuntime) -> Result<(), Fail> {
+    let mut files = MemFiles::new(rt.alloc());
+    let status = command(rt.alloc(), &[], &mut files);
+    assert_eq!(rt; status, Status::Usage);
+    assert_eq!(rt; status.code(), 2);
+    let line = "usage: asm, disasm, run, build, witness, check, extract, trial\n";
+    assert_eq!(rt; files.said_bytes(), line.as_bytes());
+    Ok(())
+}

@@ -1,0 +1,245 @@
+use crate::command;
+use crate::status::{Status, What};
+use std::alloc::Global;
+use std::process::Abort;
+use std::test::*;
+use tv_asm::AsmWhy;
+use tv_files::MemFiles;
+
+// What the name that is written holds before.
+const BEFORE: &[u8] = b"before";
+
+// Files in which one name is to be read and another to be written.
+fn files_of(alloc: Global, read: &[u8]) -> Result<MemFiles, Fail> {
+    let mut files = MemFiles::new(alloc);
+    files.set("in", read)?;
+    files.set("out", BEFORE)?;
+    Ok(files)
+}
+
+// What a command answers over these files.
+fn answer(
+    alloc: Global,
+    files: &mut MemFiles,
+    name: &str,
+    read: &str,
+    written: &str,
+) -> Result<Status, Fail> {
+    let words = [
+        String::from_str(alloc, name)?,
+        String::from_str(alloc, read)?,
+        String::from_str(alloc, written)?,
+    ];
+    Ok(command(alloc, &words, files))
+}
+
+// Sees that a command is done over a file of these bytes, writes those, and says nothing.
+fn writes(
+    rt: &impl Abort,
+    alloc: Global,
+    name: &str,
+    read: &[u8],
+    written: &[u8],
+) -> Result<(), Fail> {
+    let mut files = files_of(alloc, read)?;
+    assert_eq!(rt; answer(alloc, &mut files, name, "in", "out")?, Status::Done);
+    assert_eq!(rt; Status::Done.code(), 0);
+    assert_eq!(rt; files.bytes_of("out"), Some(written));
+    assert_eq!(rt; files.said_bytes(), [].as_slice());
+    Ok(())
+}
+
+// Sees that a command answers so over a file of these bytes, says this, and writes nothing.
+fn refuses(
+    rt: &impl Abort,
+    alloc: Global,
+    name: &str,
+    read: &[u8],
+    status: Status,
+    code: u8,
+    line: &str,
+) -> Result<(), Fail> {
+    let mut files = files_of(alloc, read)?;
+    assert_eq!(rt;
+        answer(alloc, &mut files, name, "in", "out")?,
+        status,
+        "{line}"
+    );
+    assert_eq!(rt; status.code(), code, "{line}");
+    assert_eq!(rt; files.bytes_of("out"), Some(BEFORE), "{line}");
+    assert_eq!(rt; files.said_bytes(), line.as_bytes(), "{line}");
+    Ok(())
+}
+
+#[test]
+fn assembles(rt: HostRuntime) -> Result<(), Fail> {
+    let programs: [(&str, &[u8]); 6] = [
+        ("add r1, r2, 5", &[0, 0, 0x48, 0x24, 5, 0, 0, 0]),
+        ("answer 0", &[0, 0, 0, 0xfc, 0, 0, 0, 0]),
+        ("store.w 65536, r3", &[0, 0, 0xc0, 0xe4, 0, 0, 1, 0]),
+        (".raw 0x00000001, 16", &[1, 0, 0, 0, 16, 0, 0, 0]),
+        ("jmp _e\n_e:", &[0, 0, 0, 0xa4, 8, 0, 0, 0]),
+        ("; TinyRAM V=2.000 M=vn W=32 K=16", &[]),
+    ];
+    for (text, image) in programs {
+        writes(&rt, rt.alloc(), "asm", text.as_bytes(), image)?;
+    }
+    Ok(())
+}
+
+#[test]
+fn refuses_programs(rt: HostRuntime) -> Result<(), Fail> {
+    let operands = AsmWhy::Operands { has: 2, wants: 3 };
+    let programs: [(&str, u64, AsmWhy, &str); 4] = [
+        (
+            "add r1, r2",
+            1,
+            operands,
+            "bad program: line 1: 2 operands, 3 wanted\n",
+        ),
+        (
+            "jmp _x\nfoo",
+            1,
+            AsmWhy::UnknownLabel,
+            "bad program: line 1: unknown label\n",
+        ),
+        (
+            "_a:\n_a:",
+            2,
+            AsmWhy::DoubledLabel,
+            "bad program: line 2: label defined twice\n",
+        ),
+        (
+            "; TinyRAM V=2.000 M=vn W=16 K=16",
+            1,
+            AsmWhy::BadHeader,
+            "bad program: line 1: bad header\n",
+        ),
+    ];
+    for (text, line, why, said) in programs {
+        let status = Status::BadProgram { line, why };
+        refuses(&rt, rt.alloc(), "asm", text.as_bytes(), status, 3, said)?;
+    }
+    Ok(())
+}
+
+#[test]
+fn disassembles(rt: HostRuntime) -> Result<(), Fail> {
+    let images: [([u8; 8], &str); 4] = [
+        ([0; 8], "and r0, r0, r0\n"),
+        ([0, 0, 0xc0, 0xe4, 0, 0, 1, 0], "store.w 65536, r3\n"),
+        ([1, 0, 0, 0, 16, 0, 0, 0], ".raw 0x00000001, 16\n"),
+        ([0, 0, 0, 0xb8, 0, 0, 0, 0], ".raw 0xb8000000, 0\n"),
+    ];
+    for (image, text) in images {
+        writes(&rt, rt.alloc(), "disasm", &image, text.as_bytes())?;
+    }
+    let ragged = Status::BadImage { len: 12 };
+    refuses(
+        &rt,
+        rt.alloc(),
+        "disasm",
+        &[0; 12],
+        ragged,
+        13,
+        "bad image: 12 bytes\n",
+    )
+}
+
+// So many times these bytes.
+fn repeated(alloc: Global, bytes: &[u8], count: u64) -> Result<Vec<u8>, Fail> {
+    let mut all = Vec::new(alloc);
+    for _ in 0..count {
+        all.extend_from_slice(bytes)?;
+    }
+    Ok(all)
+}
+
+// Sees that a command tells a limit over a file of so many times these bytes.
+fn is_limited(
+    rt: &impl Abort,
+    alloc: Global,
+    name: &str,
+    bytes: &[u8],
+    count: u64,
+    limit: (What, u64, u64, &str),
+) -> Result<(), Fail> {
+    let read = repeated(alloc, bytes, count)?;
+    let (what, has, most, line) = limit;
+    refuses(
+        rt,
+        alloc,
+        name,
+        &read,
+        Status::Limit { what, has, most },
+        7,
+        line,
+    )
+}
+
+#[test]
+fn tells_limits(rt: HostRuntime) -> Result<(), Fail> {
+    let words = (
+        What::ImageWords,
+        16_386,
+        16_384,
+        "limit: image words 16386, most 16384\n",
+    );
+    is_limited(&rt, rt.alloc(), "asm", b"answer 0\n", 8_193, words)?;
+    let text = (
+        What::TextBytes,
+        1_048_577,
+        1_048_576,
+        "limit: text bytes 1048577, most 1048576\n",
+    );
+    is_limited(&rt, rt.alloc(), "asm", b" ", 1_048_577, text)?;
+    let image = (
+        What::ImageBytes,
+        65_537,
+        65_536,
+        "limit: image bytes 65537, most 65536\n",
+    );
+    is_limited(&rt, rt.alloc(), "disasm", &[0], 65_537, image)
+}
+
+#[test]
+fn serves_files_at_their_limits(rt: HostRuntime) -> Result<(), Fail> {
+    let image = repeated(rt.alloc(), &[0, 0, 0, 0xfc, 0, 0, 0, 0], 8_192)?;
+    let text = repeated(rt.alloc(), b"answer 0\n", 8_192)?;
+    writes(&rt, rt.alloc(), "asm", &text, &image)?;
+    writes(&rt, rt.alloc(), "disasm", &image, &text)?;
+    let blanks = repeated(rt.alloc(), b" ", 1_048_576)?;
+    writes(&rt, rt.alloc(), "asm", &blanks, b"")
+}
+
+#[test]
+fn refuses_one_name(rt: HostRuntime) -> Result<(), Fail> {
+    for name in ["asm", "disasm"] {
+        let mut files = files_of(rt.alloc(), b"answer 0")?;
+        let status = answer(rt.alloc(), &mut files, name, "in", "in")?;
+        let (first, second) = (1, 2);
+        assert_eq!(rt; status, Status::SameName { first, second });
+        assert_eq!(rt; status.code(), 12);
+        assert_eq!(rt; files.said_bytes(), "same name: words 1 and 2\n".as_bytes());
+        assert_eq!(rt; files.bytes_of("in"), Some("answer 0".as_bytes()));
+        assert_eq!(rt; files.calls(), 1);
+    }
+    Ok(())
+}
+
+#[test]
+fn fails_at_each_call(rt: HostRuntime) -> Result<(), Fail> {
+    // two calls read the text, one creates the image, and one appends its bytes
+    let calls: [(u64, &[u8]); 4] = [(1, BEFORE), (1, BEFORE), (2, BEFORE), (2, &[0, 0, 0, 0xfc])];
+    for (i, (word, image)) in calls.iter().enumerate() {
+        let mut files = files_of(rt.alloc(), b"answer 0")?;
+        let number = i as u64 + 1;
+        files.fail_at(number)?;
+        let status = answer(rt.alloc(), &mut files, "asm", "in", "out")?;
+        assert_eq!(rt; status, Status::FileFault { word: *word }, "call {number}");
+        assert_eq!(rt; files.bytes_of("out"), Some(*image), "call {number}");
+        assert_eq!(rt; files.said_bytes(), [].as_slice(), "call {number}");
+        assert_eq!(rt; files.calls(), number, "no call after call {number}");
+    }
+    Ok(())
+}
