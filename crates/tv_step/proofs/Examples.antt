@@ -1,9 +1,9 @@
 -- Worked runs of the definitions.
-use Rattle.std.proofs.Common.{◌≡◌, ℕ, ◌+◌, List, [], ◌∷◌, refl, Bool, true, false, cond}
+use Rattle.std.proofs.Common.{◌≡◌, ℕ, [], ◌∷◌, refl, Bool, true, false}
 use Rattle.tv_step.specs.Machine.{end_of, start, reg}
 use Rattle.tv_step.specs.Rows.{row}
 use Rattle.tv_step.specs.declared.end.End.TheVariants as ends
-use Rattle.tv_step.specs.State.{State, Next}
+use Rattle.tv_step.specs.State.{Next}
 use Rattle.tv_step.specs.declared.op.Op.{Op}
 use Rattle.tv_step.specs.declared.op.Op.TheVariants.{And, Add, Sub, Mull, Umulh, Smulh, Udiv, Umod, Shl, Shr, Cmpa, Cmpg}
 
@@ -62,10 +62,10 @@ stores_at_the_top = refl
 -- the word in register 1 and the flag after an instruction on s and a
 abbrev result : Op → ℕ → ℕ → ℕ × Bool
 result op s a = elim (row 32 op (start 32 [] [] []) 1 0 s a) as (λ _. ℕ × Bool) [
-    | Next.Gone st ↦ (reg st 1, st.flag)
-    | Next.Answered v ↦ (v, false)
-    | Next.Undefined op ↦ (op, false)
-  ]
+  | Next.Gone st ↦ (reg st 1, st.flag)
+  | Next.Answered v ↦ (v, false)
+  | Next.Undefined op ↦ (op, false)
+]
 
 and_0 : result And 1 2 ≡ (0, true)
 and_0 = refl

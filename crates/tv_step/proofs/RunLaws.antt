@@ -1,5 +1,5 @@
 -- Runs, from where some steps were taken.
-use Rattle.std.proofs.Common.{◌≡◌, ◌<◌, ℕ, zero, suc, ◌+◌, ◌-◌, ap, sym, ◌∙◌, refl, arith}
+use Rattle.std.proofs.Common.{◌≡◌, ◌<◌, ℕ, zero, suc, ◌+◌, ◌-◌, ap, ◌∙◌, refl, arith}
 use Rattle.tv_step.specs.Machine.{next, ended, end_from, end_of, left_in, state_after}
 use Rattle.tv_step.specs.State.{State, Next}
 use Rattle.tv_step.specs.declared.end.End.TheVariants as ends
@@ -46,3 +46,16 @@ module _ (k : ℕ) (first st : State) (ran : Ran k first st) where
 
     pub state_undefined : (op : ℕ) → next 32 st ≡ Next.Undefined op → state_after 32 t first ≡ st
     state_undefined op stops = ap (λ m. state_after 32 m first) more ∙ ran.states (suc (t - (k + 1))) ∙ ap (left_in (λ a. state_after 32 (t - (k + 1)) a) st) stops
+
+-- the state after one more step
+one_more : (k : ℕ) (st : State) → ((after : State) → state_after 32 1 (state_after 32 k after) ≡ state_after 32 (k + 1) after) → (came : Next) → next 32 st ≡ came
+    → state_after 32 1 (left_in (λ after. state_after 32 k after) st came) ≡ left_in (λ after. state_after 32 (k + 1) after) st came
+one_more k st behind (Next.Gone after) same = behind after
+one_more k st behind (Next.Answered v) same = ap (left_in (λ after. after) st) same
+one_more k st behind (Next.Undefined op) same = ap (left_in (λ after. after) st) same
+
+pub state_next : (k : ℕ) (st : State) → state_after 32 1 (state_after 32 k st) ≡ state_after 32 (k + 1) st
+state_next zero st = refl
+state_next (suc k) st =
+    let more : suc (k + 1) ≡ suc k + 1 = omega arith in
+    one_more k st (state_next k) (next 32 st) refl ∙ ap (λ n. state_after 32 n st) more

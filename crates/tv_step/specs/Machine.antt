@@ -1,5 +1,5 @@
 -- One step of the machine, and its runs.
-use Rattle.std.specs.Prelude.{ℕ, zero, suc, ◌+◌, ◌*◌, ◌/◌, ◌%◌, ◌≤◌, ◌≡◌, Bool, false, if◌then◌else◌, List, [], ◌∷◌, replicate, slice_index}
+use Rattle.std.specs.Prelude.{ℕ, zero, suc, ◌+◌, ◌/◌, ◌%◌, ◌≤◌, ◌≡◌, false, if◌then◌else◌, List, replicate, slice_index}
 use Rattle.tv_isa.specs.Instruction.{decode}
 use Rattle.tv_isa.specs.declared.instr.Instr.{Instr}
 use Rattle.tv_mem.specs.Bytes.{Bytes, byte_of, word_in}

@@ -1,5 +1,5 @@
 -- The instructions by their opcodes.
-use Rattle.std.specs.Prelude.{ℕ, ◌==◌, if◌then◌else◌, List, [], ◌∷◌, Option, Some, None}
+use Rattle.std.specs.Prelude.{ℕ, ◌==◌, if◌then◌else◌, List, [], ◌∷◌}
 use Rattle.tv_step.specs.declared.op.Op.{Op}
 use Rattle.tv_step.specs.declared.op.Op.TheVariants.{And, Or, Xor, Not, Add, Sub, Mull, Umulh, Smulh, Udiv, Umod, Shl, Shr, Cmpe, Cmpa, Cmpae, Cmpg, Cmpge, Mov, Cmov, Jmp, Cjmp, Cnjmp, StoreB, LoadB, StoreW, LoadW, Read, Answer, Unused}
 

@@ -1,6 +1,6 @@
 -- The 29 instructions, a row each: what comes of a step of word size w in a state st, where i is the number
 -- of the destination register, d and s are the words in the destination and source registers, and a is the operand.
-use Rattle.std.specs.Prelude.{ℕ, zero, suc, ◌+◌, ◌-◌, ◌*◌, ◌/◌, ◌%◌, ◌^◌, Bool, true, false, not, ◌&&◌, ◌==◌, nat_lt, nat_le, if◌then◌else◌, List, [], ◌∷◌, ℤ, pos, ◌+ℤ◌, ◌-ℤ◌, ◌*ℤ◌, int_lt, int_le, nat_abs, bit_and, bit_or, bit_xor, slice_set}
+use Rattle.std.specs.Prelude.{ℕ, ◌+◌, ◌-◌, ◌*◌, ◌/◌, ◌%◌, ◌^◌, Bool, true, false, not, ◌&&◌, ◌==◌, nat_lt, nat_le, if◌then◌else◌, List, [], ◌∷◌, ℤ, pos, ◌+ℤ◌, ◌-ℤ◌, ◌*ℤ◌, int_lt, int_le, nat_abs, bit_and, bit_or, bit_xor, slice_set}
 use Rattle.tv_mem.specs.Bytes.{Bytes, with_byte, with_word, word_in}
 use Rattle.tv_word.specs.Word.{signed}
 use Rattle.tv_step.specs.State.{State, Next}

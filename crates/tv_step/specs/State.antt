@@ -1,5 +1,5 @@
 -- The machine's state, and what comes of a step.
-use Rattle.std.specs.Prelude.{ℕ, Bool, false, List, replicate}
+use Rattle.std.specs.Prelude.{ℕ, Bool, List}
 use Rattle.tv_mem.specs.Bytes.{Bytes}
 
 -- a program counter, 16 registers, a flag, memory, and what is left of two tapes that are read once

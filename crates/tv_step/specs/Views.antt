@@ -1,5 +1,5 @@
 -- The program's machine as a state, and what its steps come to.
-use Rattle.std.specs.Prelude.{◌≡◌, ℕ}
+use Rattle.std.specs.Prelude.{◌≡◌}
 use Rattle.tv_mem.specs.Pages.{bytes_in}
 use Rattle.tv_step.specs.State.{State, Next}
 use Rattle.tv_step.specs.declared.end.Outcome.{Outcome}

@@ -2,7 +2,7 @@
 ghost use Rattle.std.specs.Prelude.{◌≡◌, ◌<◌, ◌/◌, ◌%◌, ◌==◌, Bool, IfOk, OnOk, OnErr, if◌then◌else◌};
 ghost use Rattle.tv_isa.specs.Instruction.{IsInstruction};
 ghost use Rattle.tv_mem.specs.Bytes.{with_byte, with_word, word_in};
-ghost use Rattle.tv_step.specs.Machine.{executed, reg};
+ghost use Rattle.tv_step.specs.Machine.{executed, operand, reg};
 ghost use Rattle.tv_step.specs.Rows.{row, gives, logic, tests, goes_on, jumps, stores, reads};
 ghost use Rattle.tv_step.specs.State.{Next};
 ghost use Rattle.tv_step.specs.Views.{state_of, CameTo};
@@ -144,7 +144,7 @@ impl Machine {
     }
 
     // The word in which an address lies.
-    fn word_at(&self, at: u32) -> u32
+    pub(crate) fn word_at(&self, at: u32) -> u32
         ensures { result ≡ word_in 32 (state_of self.now).memory (at / 4) }
     {
         self.memory.load_word(at)
@@ -158,6 +158,17 @@ impl Machine {
         self.regs[i as usize]
     }
 
+    // An instruction's operand.
+    pub(crate) fn operand(&self, instr: &Instr) -> u32
+        ensures { result ≡ operand (state_of self.now) instr.now }
+    {
+        if instr.imm {
+            instr.a
+        } else {
+            self.word_in((instr.a % 16) as u8)
+        }
+    }
+
     /// Does what an instruction says. After an answer, after an opcode that isn't used, and where memory
     /// is refused, the state is as before.
     pub fn executes(&mut self, instr: &Instr) -> Result<Outcome, AllocError>
@@ -167,11 +178,7 @@ impl Machine {
     {
         let d = self.word_in(instr.dest);
         let s = self.word_in(instr.source);
-        let a = if instr.imm {
-            instr.a
-        } else {
-            self.word_in((instr.a % 16) as u8)
-        };
+        let a = self.operand(instr);
         self.execute(op_of(instr.op), instr.dest, d, s, a)
     }
 }

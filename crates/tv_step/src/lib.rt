@@ -7,9 +7,16 @@ mod counter;
 mod end;
 mod execute;
 mod image;
+mod lines;
 mod machine;
 mod op;
+mod recorder;
+#[cfg(test)]
+mod tests;
+mod tracing;
 
 pub use end::{End, Outcome};
+pub use lines::{Line, Lines, States, Trace, TraceState};
 pub use machine::Machine;
 pub use op::{Op, op_of};
+pub use tracing::{TraceFault, trace};

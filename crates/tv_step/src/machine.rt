@@ -68,7 +68,7 @@ impl Machine {
     }
 
     // The instruction at the program counter.
-    fn fetched(&self) -> Instr
+    pub(crate) fn fetched(&self) -> Instr
         ensures same { result ≡ fetched 32 (state_of self.now) }
         ensures range { IsInstruction result }
     {
