@@ -1,4 +1,4 @@
-ghost use Rattle.std.specs.Prelude.{◌≡◌, [], ◌∷◌, None, IfSome};
+ghost use Rattle.std.specs.Prelude.{◌≡◌, [], ◌∷◌, None, IfSome, length, slice_get};
 
 use std::marker::Model;
 use tv_word::Words;
@@ -36,5 +36,19 @@ impl Tape {
         let word = *self.words.as_slice().get(self.taken)?;
         self.taken += 1;
         Some(word)
+    }
+
+    /// The next word, which stays; `None` exactly at the end. Takes constant time.
+    pub fn first(&self) -> Option<u32>
+        ensures { result ≡ slice_get self.now 0 }
+    {
+        self.words.as_slice().get(self.taken).copied()
+    }
+
+    /// How many words are left. Takes constant time.
+    pub fn left(&self) -> usize
+        ensures { result ≡ length self.now }
+    {
+        self.words.as_slice().len() - self.taken
     }
 }

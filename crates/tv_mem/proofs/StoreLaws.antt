@@ -1,0 +1,162 @@
+-- Memory after bytes were written into a page.
+use Rattle.std.proofs.Common.{◌≡◌, ◌≢◌, ◌⊎◌, inl, inr, ℕ, ◌+◌, ◌-◌, ◌/◌, ◌%◌, ◌<◌, ◌≤◌, List, [], ◌∷◌, ◌++◌, length, take, drop, replicate, Bool, true, false, cond, nat_eq, Box, Option, Some, None, option_map, ap, sym, refl, ◌∙◌, arith}
+use Rattle.std.specs.Prelude.{◌*◌, ◌||◌, ◌==◌, zero, suc, is_some, slice_index}
+use Rattle.std.proofs.Math.Nat.{eq-or-lt_of_le}
+use Rattle.std.specs.Box.{box_value}
+use Rattle.std.specs.BTreeMap.{BTreeMap, IsUnchanged, is_at}
+use Rattle.std.specs.Map.{lookup}
+use Rattle.std.specs.Ordering.{nat_cmp}
+use Rattle.std.specs.Global.{Global}
+use Rattle.std.proofs.lemmas.Bool.{eq-eqb}
+use Rattle.std.proofs.lemmas.Bool.Decides.{eqb_tells, leb_tells}
+use Rattle.std.proofs.lemmas.List.{get_or_append_left, get_or-append_right, get_or-take, get_or-drop, get_or-replicate, get_or_past, length-take-le, length-append, length-replicate}
+use Rattle.tv_word.specs.Word.{word_bytes}
+use Rattle.tv_mem.specs.Bytes.{byte_of, with_byte, with_word}
+use Rattle.tv_mem.specs.Pages.{page_in, page_bytes, page_with, byte_in, byte_at, Writes}
+
+-- where the parts of a page that was written to begin
+first_length : (page : List ℕ) (place : ℕ) (bytes : List ℕ) → place ≤ length page → length (take place page ++ bytes) ≡ place + length bytes
+first_length page place bytes within = length-append (take place page) bytes ∙ ap (λ n. n + length bytes) (length-take-le place page within)
+
+-- its bytes: before the place, there, and behind
+below : (page : List ℕ) (place : ℕ) (bytes : List ℕ) (i : ℕ) → place ≤ length page → i < place → slice_index (page_with page place bytes) i ≡ slice_index page i
+below page place bytes i within before =
+    let taken : length (take place page) ≡ place = length-take-le place page within in
+    let first : length (take place page ++ bytes) ≡ place + length bytes = first_length page place bytes within in
+    get_or_append_left (take place page ++ bytes) (drop (place + length bytes) page) 0 i (omega (arith, first, before))
+    ∙ get_or_append_left (take place page) bytes 0 i (omega (arith, taken, before))
+    ∙ get_or-take place page i 0 before
+
+there : (page : List ℕ) (place : ℕ) (bytes : List ℕ) (j : ℕ) → place ≤ length page → j < length bytes → slice_index (page_with page place bytes) (place + j) ≡ slice_index bytes j
+there page place bytes j within inside =
+    let taken : length (take place page) ≡ place = length-take-le place page within in
+    let first : length (take place page ++ bytes) ≡ place + length bytes = first_length page place bytes within in
+    get_or_append_left (take place page ++ bytes) (drop (place + length bytes) page) 0 (place + j) (omega (arith, first, inside))
+    ∙ get_or-append_right (take place page) bytes place (place + j) 0 taken (omega arith)
+    ∙ ap (λ n. slice_index bytes n) (omega arith)
+
+above : (page : List ℕ) (place : ℕ) (bytes : List ℕ) (i : ℕ) → place ≤ length page → place + length bytes ≤ i → slice_index (page_with page place bytes) i ≡ slice_index page i
+above page place bytes i within after =
+    get_or-append_right (take place page ++ bytes) (drop (place + length bytes) page) (place + length bytes) i 0 (first_length page place bytes within) after
+    ∙ get_or-drop (place + length bytes) page (i - (place + length bytes)) 0
+    ∙ ap (λ n. slice_index page n) (omega (arith, after))
+
+-- a page's bytes, held or not
+held_bytes : (page : Option (List ℕ)) (i : ℕ) → slice_index (page_bytes page) i ≡ byte_in page i
+held_bytes None i = zero_bytes 4096 i
+  where
+    zero_bytes : (n i : ℕ) → slice_index (replicate n 0) i ≡ 0
+    zero_bytes n i = elim (leb_tells n i) [
+      | inl past ↦ get_or_past (replicate n 0) i 0 (omega (arith, length-replicate {A = ℕ} n 0, past.1))
+      | inr inside ↦ get_or-replicate n i 0 0 inside.1
+    ]
+held_bytes (Some page) i = refl
+
+-- the byte at an address in the page that was written to
+in_page : (old new : BTreeMap ℕ (Box (List ℕ) Global)) (at x : ℕ) (bytes : List ℕ) → Writes old new at bytes → nat_eq (x / 4096) (at / 4096) ≡ true →
+    byte_at new x ≡ slice_index (page_with (page_bytes (page_in old (at / 4096))) (at % 4096) bytes) (x % 4096)
+in_page old new at x bytes writes same =
+    let page : Option (List ℕ) = Some (page_with (page_bytes (page_in old (at / 4096))) (at % 4096) bytes) in
+    ap (λ found. byte_in found (x % 4096)) (writes.changes (x / 4096) ∙ ap (λ here. cond here page (page_in old (x / 4096))) same)
+
+-- in another page
+elsewhere : (old new : BTreeMap ℕ (Box (List ℕ) Global)) (at x : ℕ) (bytes : List ℕ) → Writes old new at bytes → nat_eq (x / 4096) (at / 4096) ≡ false → byte_at new x ≡ byte_at old x
+elsewhere old new at x bytes writes other =
+    let page : Option (List ℕ) = Some (page_with (page_bytes (page_in old (at / 4096))) (at % 4096) bytes) in
+    ap (λ found. byte_in found (x % 4096)) (writes.changes (x / 4096) ∙ ap (λ here. cond here page (page_in old (x / 4096))) other)
+
+-- what was written is there
+pub written_there : (old new : BTreeMap ℕ (Box (List ℕ) Global)) (at j : ℕ) (bytes : List ℕ) → Writes old new at bytes → j < length bytes → byte_at new (at + j) ≡ slice_index bytes j
+written_there old new at j bytes writes inside =
+    let same : (at + j) / 4096 ≡ at / 4096 = omega (arith, writes.within, inside) in
+    let place : (at + j) % 4096 ≡ at % 4096 + j = omega (arith, writes.within, inside) in
+    in_page old new at (at + j) bytes writes (eq-eqb ((at + j) / 4096) (at / 4096) same)
+    ∙ ap (λ n. slice_index (page_with (page_bytes (page_in old (at / 4096))) (at % 4096) bytes) n) place
+    ∙ there (page_bytes (page_in old (at / 4096))) (at % 4096) bytes j (omega (arith, writes.whole, writes.within)) inside
+
+-- and nothing else has changed
+pub kept_elsewhere : (old new : BTreeMap ℕ (Box (List ℕ) Global)) (at x : ℕ) (bytes : List ℕ) → Writes old new at bytes → (x < at) ⊎ (at + length bytes ≤ x) → byte_at new x ≡ byte_at old x
+kept_elsewhere old new at x bytes writes outside =
+    elim (eqb_tells (x / 4096) (at / 4096)) [
+      | inr other ↦ elsewhere old new at x bytes writes other.0
+      | inl same ↦
+          let page : List ℕ = page_bytes (page_in old (at / 4096)) in
+          let fits : at % 4096 ≤ length page = omega (arith, writes.whole, writes.within) in
+          in_page old new at x bytes writes same.0
+          ∙ elim outside [
+            | inl before ↦ below page (at % 4096) bytes (x % 4096) fits (omega (arith, same.1, before))
+            | inr behind ↦ above page (at % 4096) bytes (x % 4096) fits (omega (arith, same.1, behind))
+          ]
+          ∙ held_bytes (page_in old (at / 4096)) (x % 4096)
+          ∙ ap (λ n. byte_in (page_in old n) (x % 4096)) (sym same.1)
+    ]
+
+apart : (a b : ℕ) → a ≢ b → (a < b) ⊎ (b < a)
+apart a b other = elim (leb_tells b a) [
+  | inr before ↦ inl before.1
+  | inl behind ↦ elim (eq-or-lt_of_le behind.1) [
+    | inl same ↦ absurd (other (sym same))
+    | inr after ↦ inr after
+  ]
+]
+
+outside : (x at : ℕ) → x / 4 ≢ at / 4 → (x < at / 4 * 4) ⊎ (at / 4 * 4 + 4 ≤ x)
+outside x at other = elim (apart (x / 4) (at / 4) other) [
+  | inl before ↦ inl (omega (arith, before))
+  | inr behind ↦ inr (omega (arith, behind))
+]
+
+-- the bytes of a word
+byte_of_word : (v i : ℕ) → i < 4 → slice_index (word_bytes 32 v) i ≡ byte_of v i
+byte_of_word v zero small = omega arith
+byte_of_word v (suc zero) small = omega arith
+byte_of_word v (suc (suc zero)) small = omega arith
+byte_of_word v (suc (suc (suc zero))) small = omega arith
+byte_of_word v (suc (suc (suc (suc i)))) small = absurd (omega (arith, small))
+
+-- a byte was written
+pub byte_stored : (old new : BTreeMap ℕ (Box (List ℕ) Global)) (at v : ℕ) → Writes old new at (v ∷ []) → byte_at new ≡ with_byte (byte_at old) at v
+byte_stored old new at v writes = λ i x. at_each x i
+  where
+    at_each : (x : ℕ) → byte_at new x ≡ with_byte (byte_at old) at v x
+    at_each x = elim (eqb_tells x at) [
+      | inl here ↦
+          ap (byte_at new) (here.1 ∙ omega arith)
+          ∙ written_there old new at 0 (v ∷ []) writes (omega arith)
+          ∙ sym (ap (λ found. cond found v (byte_at old x)) here.0)
+      | inr other ↦
+          kept_elsewhere old new at x (v ∷ []) writes (elim (apart x at other.1) [ inl before ↦ inl before | inr behind ↦ inr (omega (arith, behind)) ])
+          ∙ sym (ap (λ found. cond found v (byte_at old x)) other.0)
+    ]
+
+-- a word was written
+pub word_stored : (old new : BTreeMap ℕ (Box (List ℕ) Global)) (at word : ℕ) → Writes old new (at / 4 * 4) (word_bytes 32 word) → byte_at new ≡ with_word 32 (byte_at old) (at / 4) word
+word_stored old new at word writes = λ i x. at_each x i
+  where
+    at_each : (x : ℕ) → byte_at new x ≡ with_word 32 (byte_at old) (at / 4) word x
+    at_each x = elim (eqb_tells (x / 4) (at / 4)) [
+      | inl here ↦
+          let place : x ≡ at / 4 * 4 + x % 4 = omega (arith, here.1) in
+          ap (byte_at new) place
+          ∙ written_there old new (at / 4 * 4) (x % 4) (word_bytes 32 word) writes (omega arith)
+          ∙ byte_of_word word (x % 4) (omega arith)
+          ∙ sym (ap (λ found. cond found (byte_of word (x % 4)) (byte_at old x)) here.0)
+      | inr other ↦
+          kept_elsewhere old new (at / 4 * 4) x (word_bytes 32 word) writes (outside x at other.1)
+          ∙ sym (ap (λ found. cond found (byte_of word (x % 4)) (byte_at old x)) other.0)
+    ]
+
+-- the pages that are held then
+pub page_held : (old new : BTreeMap ℕ (Box (List ℕ) Global)) (at : ℕ) (bytes : List ℕ) → Writes old new at bytes → (q : ℕ) → is_some (page_in new q) ≡ (q == at / 4096 || is_some (page_in old q))
+page_held old new at bytes writes q = ap is_some (writes.changes q) ∙ by_number (q == at / 4096) (page_with (page_bytes (page_in old (at / 4096))) (at % 4096) bytes) (page_in old q)
+  where
+    by_number : (here : Bool) (page : List ℕ) (other : Option (List ℕ)) → is_some (cond here (Some page) other) ≡ (here || is_some other)
+    by_number true page other = refl
+    by_number false page other = refl
+
+-- and where nothing has changed
+pub bytes_unchanged : (old new : BTreeMap ℕ (Box (List ℕ) Global)) → IsUnchanged old new → byte_at new ≡ byte_at old
+bytes_unchanged old new same = λ i x. ap (λ entries. byte_in (option_map box_value (lookup (is_at (nat_cmp (x / 4096))) entries)) (x % 4096)) same i
+
+pub held_unchanged : (old new : BTreeMap ℕ (Box (List ℕ) Global)) → IsUnchanged old new → (q : ℕ) → is_some (page_in new q) ≡ is_some (page_in old q)
+held_unchanged old new same q = ap (λ entries. is_some (option_map box_value (lookup (is_at (nat_cmp q)) entries))) same

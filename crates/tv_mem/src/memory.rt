@@ -1,0 +1,126 @@
+ghost use Rattle.std.specs.Prelude.{◌≡◌, ◌/◌, ◌||◌, ◌==◌, false, OnOk, OnErr, IsOk, IsTrue, ℕ};
+ghost use Rattle.tv_mem.specs.Bytes.{with_byte, with_word, word_in};
+ghost use Rattle.tv_mem.specs.Pages.{bytes_in, is_held};
+
+use crate::pages::{PAGE, write};
+use std::alloc::{AllocError, Global};
+use std::collections::BTreeMap;
+use tv_word::word_bytes;
+
+/// A memory of 2^32 bytes, all 0 at first. It keeps those pages of 4,096 bytes that were written.
+#[derive(Drop)]
+pub struct Memory {
+    alloc: Global,
+    pages: BTreeMap<u32, Box<[u8; 4096]>>,
+}
+
+impl Memory {
+    /// Nothing but zeros; no page is held, and no memory taken.
+    #[tactic(auto, unfolding(crate::specs::Pages::bytes_in, crate::specs::Pages::is_held))]
+    pub fn new(alloc: Global) -> Memory
+        ensures bytes { (at : ℕ) → bytes_in result at ≡ 0 }
+        ensures held { (at : ℕ) → is_held result at ≡ false }
+    {
+        Memory {
+            alloc,
+            pages: BTreeMap::new(alloc),
+        }
+    }
+
+    /// The byte at an address.
+    #[tactic(auto, unfolding(crate::specs::Pages::bytes_in))]
+    pub fn load_byte(&self, at: u32) -> u8
+        ensures { result ≡ bytes_in self.now at }
+    {
+        match self.pages.get(&(at / PAGE)) {
+            Some(page) => page[(at % PAGE) as usize],
+            None => 0,
+        }
+    }
+
+    /// The word at an address, whose two lowest bits don't count: its four bytes, the lowest first.
+    #[tactic(auto, unfolding(crate::specs::Pages::bytes_in))]
+    pub fn load_word(&self, at: u32) -> u32
+        ensures { result ≡ word_in 32 (bytes_in self.now) (at / 4) }
+    {
+        match self.pages.get(&(at / PAGE)) {
+            Some(page) => {
+                let place = (at % PAGE / 4 * 4) as usize;
+                u32::from_le_bytes([
+                    page[place],
+                    page[place + 1],
+                    page[place + 2],
+                    page[place + 3],
+                ])
+            }
+            None => 0,
+        }
+    }
+
+    /// Writes a byte. It wants memory only for a page that isn't held, and then changes nothing where
+    /// memory is refused.
+    #[tactic(auto, using(crate::proofs::StoreLaws::byte_stored, crate::proofs::StoreLaws::page_held, crate::proofs::StoreLaws::bytes_unchanged, crate::proofs::StoreLaws::held_unchanged), unfolding(crate::specs::Pages::bytes_in, crate::specs::Pages::is_held))]
+    pub fn store_byte(&mut self, at: u32, value: u8) -> Result<(), AllocError>
+        ensures ok { OnOk result (bytes_in self.new ≡ with_byte (bytes_in self.old) at value) }
+        ensures err { OnErr result (bytes_in self.new ≡ bytes_in self.old) }
+        ensures held { OnOk result ((page : ℕ) → is_held self.new page ≡ ((page / 4096 == at / 4096) || is_held self.old page)) }
+        ensures kept { OnErr result ((page : ℕ) → is_held self.new page ≡ is_held self.old page) }
+        ensures free { IsTrue (is_held self.old at) → IsOk result }
+    {
+        write(self.alloc, &mut self.pages, at, &[value])
+    }
+
+    /// Writes the word at an address, whose two lowest bits don't count. It wants memory only for a
+    /// page that isn't held, and then changes nothing where memory is refused.
+    #[tactic(auto, using(crate::proofs::StoreLaws::word_stored, crate::proofs::StoreLaws::page_held, crate::proofs::StoreLaws::bytes_unchanged, crate::proofs::StoreLaws::held_unchanged), unfolding(crate::specs::Pages::bytes_in, crate::specs::Pages::is_held))]
+    pub fn store_word(&mut self, at: u32, word: u32) -> Result<(), AllocError>
+        ensures ok { OnOk result (bytes_in self.new ≡ with_word 32 (bytes_in self.old) (at / 4) word) }
+        ensures err { OnErr result (bytes_in self.new ≡ bytes_in self.old) }
+        ensures held { OnOk result ((page : ℕ) → is_held self.new page ≡ ((page / 4096 == at / 4096) || is_held self.old page)) }
+        ensures kept { OnErr result ((page : ℕ) → is_held self.new page ≡ is_held self.old page) }
+        ensures free { IsTrue (is_held self.old at) → IsOk result }
+    {
+        write(self.alloc, &mut self.pages, at / 4 * 4, &word_bytes(word))
+    }
+
+    /// Whether the page with this address is held.
+    #[tactic(auto, unfolding(crate::specs::Pages::is_held))]
+    pub fn has_page(&self, at: u32) -> bool
+        ensures { result ≡ is_held self.now at }
+    {
+        self.pages.contains_key(&(at / PAGE))
+    }
+}
+
+#[cfg(test)]
+mod tests {
+    use super::*;
+    use std::test::Fail;
+
+    #[test]
+    fn a_byte_is_kept_in_its_page_alone(rt: HostRuntime) -> Result<(), Fail> {
+        let mut memory = Memory::new(rt.alloc());
+        assert_eq!(rt; memory.load_word(8191), 0);
+        memory.store_byte(8191, 7)?;
+        assert!(rt; memory.has_page(4096) && memory.has_page(8191));
+        assert!(rt; !memory.has_page(4095) && !memory.has_page(8192));
+        memory.store_byte(8192, 7)?;
+        assert_eq!(rt; memory.load_word(8188), 0x0700_0000);
+        assert_eq!(rt; memory.load_word(8192), 7);
+        assert_eq!(rt; memory.load_byte(8190), 0);
+        Ok(())
+    }
+
+    #[test]
+    fn words_are_aligned_and_bytes_lie_in_them(rt: HostRuntime) -> Result<(), Fail> {
+        let mut memory = Memory::new(rt.alloc());
+        memory.store_word(65_538, 0x1122_3344)?;
+        memory.store_byte(65_537, 0xab)?;
+        assert_eq!(rt; memory.load_word(65_539), 0x1122_ab44);
+        assert_eq!(rt; memory.load_byte(65_536), 0x44);
+        memory.store_word(u32::MAX, u32::MAX)?;
+        assert_eq!(rt; memory.load_byte(4_294_967_292), 255);
+        assert_eq!(rt; memory.load_word(4_294_967_288), 0);
+        Ok(())
+    }
+}

@@ -1,0 +1,61 @@
+-- Runs, from where some steps were taken.
+use Rattle.std.proofs.Common.{◌≡◌, ◌<◌, ℕ, zero, suc, ◌+◌, ◌-◌, ap, ◌∙◌, refl, arith}
+use Rattle.tv_step.specs.Machine.{next, ended, end_from, end_of, left_in, state_after}
+use Rattle.tv_step.specs.State.{State, Next}
+use Rattle.tv_step.specs.declared.end.End.TheVariants as ends
+
+-- k steps went on from one state to another
+pub record Ran (k : ℕ) (first st : State) : Type 0 where
+  pub ends : (n : ℕ) → end_of 32 (k + n) first ≡ end_from 32 k n st
+  pub states : (n : ℕ) → state_after 32 (k + n) first ≡ state_after 32 n st
+
+pub ran_none : (st : State) → Ran 0 st st
+ran_none st = record {
+  ends = λ n. let same : 0 + n ≡ n = omega arith in ap (λ m. end_of 32 m st) same;
+  states = λ n. let same : 0 + n ≡ n = omega arith in ap (λ m. state_after 32 m st) same;
+}
+
+module _ (k : ℕ) (first st : State) (ran : Ran k first st) where
+  pub ran_on : (after : State) → next 32 st ≡ Next.Gone after → Ran (k + 1) first after
+  ran_on after goes = record {
+    ends = λ n. let more : k + 1 + n ≡ k + suc n = omega arith in
+        ap (λ m. end_of 32 m first) more ∙ ran.ends (suc n) ∙ ap (ended (λ a. end_from 32 (k + 1) n a) (k + 1)) goes;
+    states = λ n. let more : k + 1 + n ≡ k + suc n = omega arith in
+        ap (λ m. state_after 32 m first) more ∙ ran.states (suc n) ∙ ap (left_in (λ a. state_after 32 n a) st) goes;
+  }
+
+  -- a run of k steps, and one of more
+  pub end_silent : end_of 32 k first ≡ ends.Silent k
+  end_silent = let same : k ≡ k + 0 = omega arith in ap (λ m. end_of 32 m first) same ∙ ran.ends 0
+
+  pub state_reached : state_after 32 k first ≡ st
+  state_reached = let same : k ≡ k + 0 = omega arith in ap (λ m. state_after 32 m first) same ∙ ran.states 0
+
+  module _ (t : ℕ) (within : k < t) where
+    more : t ≡ k + suc (t - (k + 1))
+    more = omega arith
+
+    pub end_answered : (v : ℕ) → next 32 st ≡ Next.Answered v → end_of 32 t first ≡ ends.Answer v (k + 1)
+    end_answered v stops = ap (λ m. end_of 32 m first) more ∙ ran.ends (suc (t - (k + 1))) ∙ ap (ended (λ a. end_from 32 (k + 1) (t - (k + 1)) a) (k + 1)) stops
+
+    pub state_answered : (v : ℕ) → next 32 st ≡ Next.Answered v → state_after 32 t first ≡ st
+    state_answered v stops = ap (λ m. state_after 32 m first) more ∙ ran.states (suc (t - (k + 1))) ∙ ap (left_in (λ a. state_after 32 (t - (k + 1)) a) st) stops
+
+    pub end_undefined : (op : ℕ) → next 32 st ≡ Next.Undefined op → end_of 32 t first ≡ ends.Undefined op (k + 1)
+    end_undefined op stops = ap (λ m. end_of 32 m first) more ∙ ran.ends (suc (t - (k + 1))) ∙ ap (ended (λ a. end_from 32 (k + 1) (t - (k + 1)) a) (k + 1)) stops
+
+    pub state_undefined : (op : ℕ) → next 32 st ≡ Next.Undefined op → state_after 32 t first ≡ st
+    state_undefined op stops = ap (λ m. state_after 32 m first) more ∙ ran.states (suc (t - (k + 1))) ∙ ap (left_in (λ a. state_after 32 (t - (k + 1)) a) st) stops
+
+-- the state after one more step
+one_more : (k : ℕ) (st : State) → ((after : State) → state_after 32 1 (state_after 32 k after) ≡ state_after 32 (k + 1) after) → (came : Next) → next 32 st ≡ came
+    → state_after 32 1 (left_in (λ after. state_after 32 k after) st came) ≡ left_in (λ after. state_after 32 (k + 1) after) st came
+one_more k st behind (Next.Gone after) same = behind after
+one_more k st behind (Next.Answered v) same = ap (left_in (λ after. after) st) same
+one_more k st behind (Next.Undefined op) same = ap (left_in (λ after. after) st) same
+
+pub state_next : (k : ℕ) (st : State) → state_after 32 1 (state_after 32 k st) ≡ state_after 32 (k + 1) st
+state_next zero st = refl
+state_next (suc k) st =
+    let more : suc (k + 1) ≡ suc k + 1 = omega arith in
+    one_more k st (state_next k) (next 32 st) refl ∙ ap (λ n. state_after 32 n st) more

@@ -1,0 +1,7 @@
+use Rattle.std.proofs.Common.{◌≡◌, take}
+use Rattle.tv_mem.specs.Pages.{bytes_in}
+use Rattle.tv_step.specs.Machine.{image_bytes}
+use Rattle.tv_step.proofs.image.memory_with.Given as goal
+
+abbrev pub invariant-loop-place : goal.invariant-loop-place
+invariant-loop-place l = bytes_in l.memory ≡ image_bytes 32 (take l.place l.image)

@@ -1,0 +1,127 @@
+ghost use Rattle.std.specs.Prelude.{◌≡◌, [], ◌∷◌, ◌++◌, OnOk};
+ghost use Rattle.tv_step.specs.Trace.{looked_at};
+
+use std::alloc::{AllocError, Global};
+use std::marker::Model;
+
+/// A line: at a time a cell holds `old`, and from then on `new`.
+#[derive(Clone, Copy, PartialEq, Eq, Debug)]
+pub struct Line {
+    pub cell: u32,
+    pub time: u32,
+    pub old: u32,
+    pub new: u32,
+}
+
+impl Line {
+    /// A cell that only is looked at.
+    pub(crate) fn looked_at(cell: u32, time: u32, word: u32) -> Line
+        ensures { result ≡ looked_at cell time word }
+    {
+        Line {
+            cell,
+            time,
+            old: word,
+            new: word,
+        }
+    }
+}
+
+/// A state as the trace tells it, with the number of words that were taken of each tape.
+#[derive(Clone, Copy, PartialEq, Eq, Debug)]
+pub struct TraceState {
+    pub pc: u32,
+    pub regs: [u32; 16],
+    pub flag: bool,
+    pub primary: u32,
+    pub aux: u32,
+}
+
+/// A list of lines.
+#[derive(Drop)]
+pub struct Lines {
+    items: Vec<Line>,
+}
+
+impl Model for Lines {
+    ghost use Rattle.std.specs.Prelude.{List};
+    ghost use Rattle.tv_step.specs.declared.lines.Line.{Line};
+
+    ghost Value = { List Line };
+
+    ghost view = { λ lines. lines.items.items };
+}
+
+impl Lines {
+    /// No lines; takes no memory.
+    pub(crate) fn new(alloc: Global) -> Lines
+        ensures { result ≡ [] }
+    {
+        Lines {
+            items: Vec::new(alloc),
+        }
+    }
+
+    /// Puts three lines at the end.
+    pub(crate) fn push_three(&mut self, lines: [Line; 3]) -> Result<(), AllocError>
+        ensures ok { OnOk result (self.new ≡ self.old ++ lines) }
+    {
+        self.items.extend_from_slice(&lines)?;
+        Ok(())
+    }
+
+    /// The lines in order.
+    pub fn as_slice(&self) -> &[Line]
+        ensures { result.now ≡ self.now }
+    {
+        self.items.as_slice()
+    }
+}
+
+/// A list of states.
+#[derive(Drop)]
+pub struct States {
+    items: Vec<TraceState>,
+}
+
+impl Model for States {
+    ghost use Rattle.std.specs.Prelude.{List};
+    ghost use Rattle.tv_step.specs.declared.lines.TraceState.{TraceState};
+
+    ghost Value = { List TraceState };
+
+    ghost view = { λ states. states.items.items };
+}
+
+impl States {
+    /// No states; takes no memory.
+    pub(crate) fn new(alloc: Global) -> States
+        ensures { result ≡ [] }
+    {
+        States {
+            items: Vec::new(alloc),
+        }
+    }
+
+    /// Puts a state at the end.
+    pub(crate) fn push(&mut self, state: TraceState) -> Result<(), AllocError>
+        ensures ok { OnOk result (self.new ≡ self.old ++ state ∷ []) }
+    {
+        self.items.push(state)?;
+        Ok(())
+    }
+
+    /// The states in order.
+    pub fn as_slice(&self) -> &[TraceState]
+        ensures { result.now ≡ self.now }
+    {
+        self.items.as_slice()
+    }
+}
+
+/// The lines of a run's steps, three each, and the states before, between and after them.
+#[derive(Drop)]
+pub struct Trace {
+    pub lines: Lines,
+    pub states: States,
+}
