@@ -1,5 +1,3 @@
-//! `tinyr1cs check` as plain Rust, for comparison: the same files, the same checks, the same verdicts. It
-//! takes sections in order alone, reads whole files of at most 1 MiB, and tells no place of a fault.
 //! `tinyr1cs check` as plain Rust, for comparison: the same reads, the same checks, the same lines.
 //!
 //! The system is read to its end, then the witness, then the tape, then the system once more with the
@@ -319,19 +317,6 @@ impl<'a> Rows<'a> {
     }
 }
 
-fn check(names: &[String]) -> Result<(u8, String), String> {
-    let refused = |word| (5, format!("refused: word {word}"));
-    let bytes = slurp(&names[0])?;
-    let Some(system) = bytes.as_deref().and_then(system_of) else {
-        return Ok(refused(1));
-    };
-    let Some(z) = slurp(&names[1])?.and_then(|bytes| values_of(&bytes)) else {
-        return Ok(refused(2));
-    };
-    let Some(x) = slurp(&names[2])?.and_then(|bytes| tape_of(&bytes)) else {
-        return Ok(refused(3));
-    };
-    Ok(judge(&system, &z, &x))
 fn survey(file: &File) -> Result<(), Refusal> {
     let mut rows = Rows::begin(file)?;
     let mut row = Row::default();
@@ -472,6 +457,7 @@ fn tape_end(file: &str, refusal: TapeRefusal) -> End {
 fn check(names: &[String]) -> Result<Verdict, End> {
     let [system, witness, tape] = names else {
         return Err((2, "usage: check SYSTEM WITNESS TAPE".to_string()));
+    };
     let system_end = |refusal| container_end(5, "system", system, refusal);
     let witness_end = |refusal| container_end(6, "witness", witness, refusal);
     let file = File::open(system).map_err(Refusal::from).map_err(system_end)?;

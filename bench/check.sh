@@ -1,6 +1,4 @@
 #!/bin/sh
-# Times `tinyr1cs check` on a system of just under 1 MiB against check.rs, a hand-written Rust
-# program that reads the same files and makes the same checks. usage: bench/check.sh [ROUNDS]
 # Times `tinyr1cs check` on a system of so many constraints, 200,000 where none are said, against check.rs, a
 # hand-written Rust program that makes the same reads and the same checks; then tells the most memory that
 # each held, there and on a system of twice the size. usage: bench/check.sh [CONSTRAINTS [ROUNDS]]

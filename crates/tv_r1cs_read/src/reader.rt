@@ -67,12 +67,11 @@ impl<'a, D: Files> SystemReader<'a, D> {
         self.progress.counts()
     }
 
-    /// The next constraint, each wire of which is below the system's `wires`; `None` after the last.
+    /// Reads the next constraint, each wire of which is below the system's `wires`, into `row`, whose memory
+    /// serves again, and tells whether there was one; there is none after the last.
     ///
     /// `Bad` tells the first fault ahead, `Fault` comes only where a read failed, and a refusal is told
     /// again by each later call, which reads nothing.
-    /// Reads the next constraint into `row`, whose memory serves again, and tells whether there was one;
-    /// there is none after the last. A refusal is repeated.
     pub fn next_into(&mut self, row: &mut Row) -> Result<bool, ReadRefusal>
         ensures same { self.new.files.ghost_name ≡ self.old.files.ghost_name }
         ensures name { self.new.name.now ≡ self.old.name.now }
@@ -90,7 +89,7 @@ impl<'a, D: Files> SystemReader<'a, D> {
         self.progress.next(self.files, self.name, row)
     }
 
-    /// The next constraint; `None` after the last.
+    /// The next constraint, as a row of its own; `None` after the last. It refuses as `next_into` does.
     pub fn next(&mut self) -> Result<Option<Row>, ReadRefusal>
         ensures same { self.new.files.ghost_name ≡ self.old.files.ghost_name }
         ensures name { self.new.name.now ≡ self.old.name.now }

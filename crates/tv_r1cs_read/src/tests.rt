@@ -124,7 +124,6 @@ fn reads_a_system_row_by_row(rt: HostRuntime) -> Result<(), Fail> {
     assert_eq!(rt; row.a.as_slice(), [(1, F::ONE)].as_slice());
     assert_eq!(rt; row.b.as_slice(), [(2, F::ONE)].as_slice());
     assert_eq!(rt; row.c.as_slice(), [(3, F::ONE)].as_slice());
-    reader.reuse(row);
     assert!(rt; reader.next()?.is_none());
     assert!(rt; reader.next()?.is_none());
     assert_eq!(rt; reader.counts(), COUNTS);
@@ -163,7 +162,6 @@ fn reads_more_than_one_piece(rt: HostRuntime) -> Result<(), Fail> {
             "row {i}"
         );
         assert!(rt; row.c.as_slice().is_empty(), "row {i}");
-        reader.reuse(row);
     }
     assert!(rt; reader.next()?.is_none());
     assert_eq!(rt; reader.counts().terms, 6000);

@@ -1,6 +1,5 @@
 -- What the command promises, in the words of its user.
-use Rattle.std.specs.Prelude.{◌≡◌, ◌≢◌, ℕ, ◌%◌, ◌≤◌, ◌⊎◌, List, length, Option, Some, Result, Ok, Err}
-use Rattle.std.specs.Prelude.{◌≡◌, ◌≢◌, ℕ, ◌+◌, ◌%◌, ◌<◌, ◌≤◌, ◌⊎◌, List, ◌∷◌, length, take, Option, Some, Result, Ok, Err, All}
+use Rattle.std.specs.Prelude.{◌≡◌, ◌≢◌, ℕ, ◌%◌, ◌<◌, ◌≤◌, ◌⊎◌, List, length, Option, Some, Result, Ok, Err, All}
 use Rattle.tv_asm.specs.Assembly.{assembled}
 use Rattle.tv_asm.specs.declared.fault.AsmFault.{AsmFault}
 use Rattle.tv_asm.specs.declared.fault.AsmFault.TheVariants.{Bad}
@@ -22,13 +21,7 @@ use Rattle.tv_top.specs.declared.status.NoWhy.{NoWhy}
 use Rattle.tv_top.specs.declared.status.NoWhy.TheVariants.{Public, Constraint, Wires}
 use Rattle.tv_top.specs.declared.status.Status.{Status}
 use Rattle.tv_top.specs.declared.status.Status.TheVariants.{Done, No, BadProgram, BadSystem, BadWitness, FileFault, Memory, BadImage}
-use Rattle.tv_top.specs.Outcome.{image_bytes}
-use Rattle.tv_top.specs.declared.status.Status.TheVariants.{Done, No, BadProgram, FileFault, Memory, BadImage}
 use Rattle.tv_top.specs.Outcome.{image_bytes, image_of}
-use Rattle.tv_top.specs.PlainSystem.{system_of}
-use Rattle.tv_top.specs.PlainWitness.{assignment_of}
-use Rattle.tv_top.specs.PlainTape.{tape_of}
-use Rattle.tv_top.specs.Meaning.{DifferFirst, FailsFirst}
 
 -- the file is there, and what is read of it is this
 pub record Holding {A F : Type 0} (read : List ℕ → Result A F) (file : Option (List ℕ)) (held : Result A F) : Type 0 where
