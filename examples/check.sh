@@ -1,6 +1,6 @@
 #!/bin/sh
-# For each program here: its image, disassembled and assembled again, is the same image. Run by hand, once
-# `bin/tinyr1cs` has the commands `asm` and `disasm`. The last line counts; the status is 1 where one failed.
+# For each program here: its image, disassembled and assembled again, is the same image. The last line counts;
+# the status is 1 where one failed.
 set -u
 
 examples=$(dirname -- "$(realpath -- "$0")")
