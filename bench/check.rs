@@ -1,4 +1,5 @@
-//! `tinyr1cs check` as plain Rust, for comparison: the same files, the same checks, the same lines.
+//! `tinyr1cs check` as plain Rust, for comparison: the same files, the same checks, the same verdicts. It
+//! takes sections in order alone, reads whole files of at most 1 MiB, and tells no place of a fault.
 
 use std::fs::File;
 use std::io::Read;
@@ -189,16 +190,16 @@ fn judge(system: &System<'_>, z: &[u64], x: &[u64]) -> (u8, String) {
 }
 
 fn check(names: &[String]) -> Result<(u8, String), String> {
-    let plain = |word| (5, format!("not plain: word {word}"));
+    let refused = |word| (5, format!("refused: word {word}"));
     let bytes = slurp(&names[0])?;
     let Some(system) = bytes.as_deref().and_then(system_of) else {
-        return Ok(plain(1));
+        return Ok(refused(1));
     };
     let Some(z) = slurp(&names[1])?.and_then(|bytes| values_of(&bytes)) else {
-        return Ok(plain(2));
+        return Ok(refused(2));
     };
     let Some(x) = slurp(&names[2])?.and_then(|bytes| tape_of(&bytes)) else {
-        return Ok(plain(3));
+        return Ok(refused(3));
     };
     Ok(judge(&system, &z, &x))
 }

@@ -1,5 +1,5 @@
 #!/bin/sh
-# Times `tinyr1cs check` on a plain system of just under 1 MiB against check.rs, a hand-written Rust
+# Times `tinyr1cs check` on a system of just under 1 MiB against check.rs, a hand-written Rust
 # program that reads the same files and makes the same checks. usage: bench/check.sh [ROUNDS]
 set -eu
 

@@ -3,3 +3,4 @@ pub mod Firsts
 pub mod Room
 pub mod Verdicts
 pub mod Trying
+mod Worked

@@ -1,5 +1,5 @@
 -- What `check` promises its user, from how its call ends.
-use Rattle.std.proofs.Common.{◌≡◌, ◌≢◌, ℕ, ◌+◌, ◌⊎◌, ◌<◌, Bool, true, false, leb, List, [], ◌∷◌, length, Option, Some, None, Result, Ok, Err, All, inl, inr, refl, sym, ◌∙◌, codes}
+use Rattle.std.proofs.Common.{◌≡◌, ◌≢◌, ℕ, ◌+◌, ◌⊎◌, Bool, true, false, leb, List, [], ◌∷◌, length, Option, Some, None, Result, Ok, Err, inl, inr, refl, sym, ◌∙◌, codes}
 use Rattle.std.specs.Prelude.{IfOk}
 use Rattle.std.proofs.lemmas.Bool.{leb-true, le-leb}
 use Rattle.tv_check.specs.Meaning.{Tells}
@@ -8,7 +8,7 @@ use Rattle.tv_check.specs.declared.verdict.Verdict.{Verdict}
 use Rattle.tv_check.specs.declared.verdict.Verdict.TheVariants.{Yes, WireCount, NoPublic, NoConstraint}
 use Rattle.tv_check.proofs.Room.{has_room}
 use Rattle.tv_check.proofs.Verdicts.{yes_exactly, no_exactly}
-use Rattle.tv_core.specs.Constraints.{System, Sat, Extends}
+use Rattle.tv_core.specs.Constraints.{System}
 use Rattle.tv_core.specs.declared.field.TheConstants.{P}
 use Rattle.tv_files.specs.Outside.{Names, Outside}
 use Rattle.tv_r1cs_read.specs.Places.{Fault}
@@ -21,9 +21,9 @@ use Rattle.tv_top.specs.declared.limits.TheConstants.{TEXT_BYTES, CHECK_TAPE_WOR
 use Rattle.tv_top.specs.declared.status.NoWhy.{NoWhy}
 use Rattle.tv_top.specs.declared.status.NoWhy.TheVariants as no
 use Rattle.tv_top.specs.declared.status.Status.{Status}
-use Rattle.tv_top.specs.declared.status.Status.TheVariants.{Done, No, BadTape, BadSystem, BadWitness, Limit, FileFault, Memory}
-use Rattle.tv_top.specs.declared.status.What.TheVariants.{TapeWords, TextBytes}
-use Rattle.tv_top.specs.Outcome.{Look, ◌>>=◌, Job, Check, job, Answer, limited_bytes, refused_as, held_in, system_status, witness_status, tape_status, publics_of, tape_at_3, check_of, verdict_status, status_of, outcome}
+use Rattle.tv_top.specs.declared.status.Status.TheVariants.{Done, No, BadSystem, BadWitness, Limit, FileFault}
+use Rattle.tv_top.specs.declared.status.What.TheVariants.{TextBytes}
+use Rattle.tv_top.specs.Outcome.{Look, ◌>>=◌, Job, Check, job, Answer, refused_as, held_in, system_status, witness_status, tape_status, publics_of, publics_at, check_of, verdict_status, status_of, outcome}
 use Rattle.tv_top.specs.Ends.{Ends}
 use Rattle.tv_top.specs.Answers.{Answers}
 use Rattle.tv_top.specs.Claims.{Holding, HoldsTape, Given, Accepted, Refuted, no_verdict, IsBadSystem, IsBadWitness, IsHindered, Checks}
@@ -68,17 +68,17 @@ seen read (Some bytes) = inl (read bytes, record { bytes = bytes; there = refl; 
 
 -- the tape holds numbers, or it is refused
 abbrev SeenTape : List ℕ → Names → Type 0
-SeenTape tape files = ((x : List ℕ) × HoldsTape (files tape) x) ⊎ ((status : Status) × ((tape_at_3 tape files).gives ≡ Err status) × IsOther status)
+SeenTape tape files = ((x : List ℕ) × HoldsTape (files tape) x) ⊎ ((status : Status) × ((publics_at tape files).gives ≡ Err status) × IsOther status)
 
-tape_gives : (tape : List ℕ) (files : Names) (x : List ℕ) → HoldsTape (files tape) x → (tape_at_3 tape files).gives ≡ Ok x
-unfolding tape_at_3 publics_of
+tape_gives : (tape : List ℕ) (files : Names) (x : List ℕ) → HoldsTape (files tape) x → (publics_at tape files).gives ≡ Ok x
+unfolding publics_at publics_of
 tape_gives tape files x holds =
     let fits : leb (length holds.bytes) TEXT_BYTES ≡ true = le-leb _ _ holds.most in
     rw (holds.there, fits, holds.reads) refl
 
 tape_refused : (tape : List ℕ) (files : Names) (bytes : List ℕ) (why : TapeFault) → files tape ≡ Some bytes → leb (length bytes) TEXT_BYTES ≡ true → tape_of bytes P CHECK_TAPE_WORDS ≡ Err why →
-    (tape_at_3 tape files).gives ≡ Err (tape_status 3 why)
-unfolding tape_at_3 publics_of
+    (publics_at tape files).gives ≡ Err (tape_status 3 why)
+unfolding publics_at publics_of
 tape_refused tape files bytes why there fits reads = rw (there, fits, reads) refl
 
 other_tape : (why : TapeFault) → IsOther (tape_status 3 why)
@@ -89,14 +89,14 @@ other_tape fault.Memory = record { done = λ e. cc; no = λ why e. cc; system = 
 
 tape_by : (tape : List ℕ) (files : Names) (bytes : List ℕ) (fits : Bool) (read : Result (List ℕ) TapeFault) → files tape ≡ Some bytes → leb (length bytes) TEXT_BYTES ≡ fits →
     tape_of bytes P CHECK_TAPE_WORDS ≡ read → SeenTape tape files
-unfolding tape_at_3
+unfolding publics_at
 tape_by tape files bytes false read there fits reads =
     inr (Limit TextBytes (TEXT_BYTES + 1) TEXT_BYTES, rw (there, fits) refl, record { done = λ e. cc; no = λ why e. cc; system = λ at why e. cc; witness = λ at why e. cc })
 tape_by tape files bytes true (Ok x) there fits reads = inl (x, record { bytes = bytes; there = there; most = leb-true _ _ fits; reads = reads })
 tape_by tape files bytes true (Err why) there fits reads = inr (tape_status 3 why, tape_refused tape files bytes why there fits reads, other_tape why)
 
 seen_tape : (tape : List ℕ) (files : Names) (file : Option (List ℕ)) → files tape ≡ file → SeenTape tape files
-unfolding tape_at_3
+unfolding publics_at
 seen_tape tape files None none = inr (FileFault 3, rw none refl, no_file 3)
 seen_tape tape files (Some bytes) there = tape_by tape files bytes (leb (length bytes) TEXT_BYTES) (tape_of bytes P CHECK_TAPE_WORDS) there refl refl
 
@@ -107,7 +107,7 @@ unfolding check_of
 given_gives files system witness tape s z x given =
     on (record { at = 1; gives = held_in 1 system_status system_of (files system) }) _ s (held_gives 1 system_status system_of (files system) (Ok s) given.in_system)
     ∙ on (record { at = 2; gives = held_in 2 witness_status assignment_of (files witness) }) _ z (held_gives 2 witness_status assignment_of (files witness) (Ok z) given.in_witness)
-    ∙ on (tape_at_3 tape files) _ x (tape_gives tape files x given.in_tape)
+    ∙ on (publics_at tape files) _ x (tape_gives tape files x given.in_tape)
 
 bad_system_gives : (files : Names) (system witness tape : List ℕ) (at : ℕ) (why : ReadWhy) → IsBadSystem files system at why → (check_of system witness tape files).gives ≡ Err (BadSystem at why)
 unfolding check_of
@@ -133,17 +133,17 @@ comes_tape : (files : Names) (system witness tape : List ℕ) (s : System) (z : 
 unfolding check_of
 comes_tape files system witness tape s z in_system in_witness (inl found) = Judged s z found.0 (record { in_system = in_system; in_witness = in_witness; in_tape = found.1 })
 comes_tape files system witness tape s z in_system in_witness (inr refused) = Otherwise refused.0 (
-  on (record { at = 1; gives = held_in 1 system_status system_of (files system) }) _ s (held_gives 1 system_status system_of (files system) (Ok s) in_system)
-  ∙ on (record { at = 2; gives = held_in 2 witness_status assignment_of (files witness) }) _ z (held_gives 2 witness_status assignment_of (files witness) (Ok z) in_witness)
-  ∙ stop (tape_at_3 tape files) _ refused.0 refused.1) refused.2
+    on (record { at = 1; gives = held_in 1 system_status system_of (files system) }) _ s (held_gives 1 system_status system_of (files system) (Ok s) in_system)
+    ∙ on (record { at = 2; gives = held_in 2 witness_status assignment_of (files witness) }) _ z (held_gives 2 witness_status assignment_of (files witness) (Ok z) in_witness)
+    ∙ stop (publics_at tape files) _ refused.0 refused.1) refused.2
 
 comes_witness : (files : Names) (system witness tape : List ℕ) (s : System) → Holding system_of (files system) (Ok s) → Seen assignment_of (files witness) → Comes files system witness tape
 unfolding check_of
 comes_witness files system witness tape s in_system (inl (Ok z, in_witness)) = comes_tape files system witness tape s z in_system in_witness (seen_tape tape files (files tape) refl)
 comes_witness files system witness tape s in_system (inl (Err fault, faulty)) = FaultyWitness fault.at fault.why (record { s = s; in_system = in_system; faulty = faulty })
 comes_witness files system witness tape s in_system (inr none) = Otherwise (FileFault 2) (
-  on (record { at = 1; gives = held_in 1 system_status system_of (files system) }) _ s (held_gives 1 system_status system_of (files system) (Ok s) in_system)
-  ∙ stop (record { at = 2; gives = held_in 2 witness_status assignment_of (files witness) }) _ (FileFault 2) (rw none refl)) (no_file 2)
+    on (record { at = 1; gives = held_in 1 system_status system_of (files system) }) _ s (held_gives 1 system_status system_of (files system) (Ok s) in_system)
+    ∙ stop (record { at = 2; gives = held_in 2 witness_status assignment_of (files witness) }) _ (FileFault 2) (rw none refl)) (no_file 2)
 
 comes_system : (files : Names) (system witness tape : List ℕ) → Seen system_of (files system) → Comes files system witness tape
 unfolding check_of

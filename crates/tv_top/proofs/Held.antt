@@ -1,15 +1,15 @@
 -- What reading a container comes to, by what its file holds.
 use Rattle.std.proofs.Common.{◌≡◌, ℕ, ◌≤◌, List, Option, Some, None, Result, Ok, Err, inl, inr, refl, ap, rules}
 use Rattle.std.specs.Prelude.{MatchResult}
-use Rattle.tv_files.specs.Outside.{Names, Outside, OnlyReads}
+use Rattle.tv_files.specs.Outside.{Names, Outside}
 use Rattle.tv_r1cs_read.specs.Places.{Fault}
-use Rattle.tv_r1cs_read.specs.Reading.{bytes_of, Looks, Stopped, Refuses, IsMissing}
+use Rattle.tv_r1cs_read.specs.Reading.{bytes_of, Looks, Refuses, IsMissing}
 use Rattle.tv_r1cs_read.specs.declared.why.ReadRefusal.{ReadRefusal}
 use Rattle.tv_r1cs_read.specs.declared.why.ReadRefusal.TheVariants as refusal
 use Rattle.tv_top.specs.declared.status.Status.{Status}
 use Rattle.tv_top.specs.declared.status.Status.TheVariants.{FileFault}
 use Rattle.tv_top.specs.Containers.{refusal_status}
-use Rattle.tv_top.specs.Outcome.{Look, refused_as, held_in, system_status, witness_status}
+use Rattle.tv_top.specs.Outcome.{refused_as, held_in, system_status, witness_status}
 use Rattle.tv_top.specs.Finds.{IsFound, Finds}
 use Rattle.tv_top.proofs.Making.{IsOfContents}
 

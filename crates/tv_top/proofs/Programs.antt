@@ -1,5 +1,5 @@
 -- What `asm` and `disasm` promise their user, from how their calls end.
-use Rattle.std.proofs.Common.{◌≡◌, ◌≢◌, ◌==◌, ◌+◌, ◌%◌, ℕ, ◌⊎◌, Bool, true, false, cond, leb, List, [], ◌∷◌, length, Option, Some, None, Result, Ok, Err, inl, inr, refl, sym, ap, ◌∙◌, codes}
+use Rattle.std.proofs.Common.{◌≡◌, ◌≢◌, ◌==◌, ◌+◌, ◌%◌, ℕ, ◌⊎◌, Bool, true, false, leb, List, [], ◌∷◌, length, Option, Some, None, Result, Ok, Err, inl, inr, refl, sym, ap, ◌∙◌, codes}
 use Rattle.std.proofs.lemmas.Bool.{leb-true, le-leb, eqb-true, eqb-false, eq-eqb, ne_eqb}
 use Rattle.std.proofs.lemmas.Slice.Eq.{bytes_eq-Decides}
 use Rattle.std.specs.Str.{bytes_eq}
@@ -14,7 +14,7 @@ use Rattle.tv_top.specs.declared.status.Status.{Status}
 use Rattle.tv_top.specs.declared.status.Status.TheVariants.{Done, BadProgram, Limit, FileFault, Memory, BadImage}
 use Rattle.tv_top.specs.declared.status.What.{What}
 use Rattle.tv_top.specs.declared.status.What.TheVariants.{ImageWords, ImageBytes, TextBytes}
-use Rattle.tv_top.specs.Outcome.{Look, ◌>>=◌, Job, Asm, Disasm, job, apart, limited_bytes, image_bytes, assembly_status, image_of, asm_of, text_of, disasm_of, status_of, stored_by, outcome}
+use Rattle.tv_top.specs.Outcome.{Look, ◌>>=◌, Job, Asm, Disasm, job, apart, limited_bytes, image_bytes, assembly_status, image_of, asm_of, text_of, disasm_of, stored_by, outcome}
 use Rattle.tv_top.specs.Ends.{IsAnswered}
 use Rattle.tv_top.specs.Answers.{Answers}
 use Rattle.tv_top.specs.Claims.{IsInput, Assembles, Asms, Disasms}

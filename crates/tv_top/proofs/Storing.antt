@@ -1,13 +1,13 @@
 -- What a command that writes one file promises, from what reading found and from the writing.
-use Rattle.std.proofs.Common.{◌≡◌, ℕ, ◌⊎◌, List, [], ◌∷◌, take, Option, Some, None, option_map, Ok, Err, inl, inr, refl, ap, ◌∙◌, arith, rules}
+use Rattle.std.proofs.Common.{◌≡◌, ℕ, List, [], ◌∷◌, take, Some, None, option_map, Ok, inl, inr, refl, ap, ◌∙◌, arith, rules}
 use Rattle.tv_files.specs.Outside.{Names, Outside, Rose, OnlyReads, with_bytes}
 use Rattle.tv_files.specs.Whole.{HasPart}
 use Rattle.tv_top.specs.declared.status.Status.{Status}
-use Rattle.tv_top.specs.declared.status.Status.TheVariants.{Done, Usage, FileFault, Memory, SameName}
+use Rattle.tv_top.specs.declared.status.Status.TheVariants.{Usage, FileFault, SameName}
 use Rattle.tv_top.specs.Codes.{says}
-use Rattle.tv_top.specs.Outcome.{Look, Job, Write, Answer, status_of, stored_by, report_of, outcome}
+use Rattle.tv_top.specs.Outcome.{Look, Job, Answer, stored_by, report_of, outcome}
 use Rattle.tv_top.specs.Finds.{Finds}
-use Rattle.tv_top.specs.Ends.{Said, SaidPart, IsUntouched, IsCutInWriting, IsCutShort, Ends, Stores}
+use Rattle.tv_top.specs.Ends.{IsCutInWriting, Ends, Stores}
 use Rattle.tv_top.specs.Answers.{IsRead, IsWritten, written_names, ChangedAt, Answers}
 
 -- the answer to what was found: it is written

@@ -8,7 +8,7 @@ use Rattle.tv_r1cs_read.specs.R1cs.{system_of}
 use Rattle.tv_r1cs_read.specs.Survey.{survey_of}
 use Rattle.tv_top.specs.declared.status.Status.{Status}
 use Rattle.tv_top.specs.Containers.{checked_of}
-use Rattle.tv_top.specs.Outcome.{Look, ◌>>=◌, held_in, system_status, witness_status, tape_at_3, check_of}
+use Rattle.tv_top.specs.Outcome.{Look, ◌>>=◌, held_in, system_status, witness_status, publics_at, check_of}
 use Rattle.tv_top.specs.Finds.{Finds}
 use Rattle.tv_wtns.specs.Wtns.{assignment_of}
 
@@ -31,7 +31,7 @@ by_file (Some file) witness tape = by_system file witness tape (system_of file) 
 
 pub once : (system witness tape : List ℕ) (files : Names) → checked_of system witness tape files ≡ check_of system witness tape files
 unfolding checked_of check_of
-once system witness tape files = by_file (files system) (record { at = 2; gives = held_in 2 witness_status assignment_of (files witness) }) (tape_at_3 tape files)
+once system witness tape files = by_file (files system) (record { at = 2; gives = held_in 2 witness_status assignment_of (files witness) }) (publics_at tape files)
 
 -- what is due may be said in other words
 pub finds_same : {X A : Type 0} (view : X → A) (IsRead : ℕ → Type 0) (due other : Names → Look A) (old new : Outside) (found : Result X Status) → ((files : Names) → due files ≡ other files) →

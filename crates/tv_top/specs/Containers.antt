@@ -9,7 +9,7 @@ use Rattle.tv_r1cs_read.specs.declared.why.ReadRefusal.{ReadRefusal}
 use Rattle.tv_r1cs_read.specs.declared.why.ReadRefusal.TheVariants as refusal
 use Rattle.tv_top.specs.declared.status.Status.{Status}
 use Rattle.tv_top.specs.declared.status.Status.TheVariants.{FileFault, Memory}
-use Rattle.tv_top.specs.Outcome.{Look, ◌>>=◌, held_in, system_status, witness_status, tape_at_3}
+use Rattle.tv_top.specs.Outcome.{Look, ◌>>=◌, held_in, system_status, witness_status, publics_at}
 use Rattle.tv_wtns.specs.Wtns.{assignment_of}
 
 -- what a refused reading of the container at a word is answered, by what its faults are answered
@@ -24,5 +24,5 @@ unfoldable pub checked_of : List ℕ → List ℕ → List ℕ → Names → Loo
 checked_of system witness tape files = do
   _ ← record { at = 1; gives = held_in 1 system_status survey_of (files system) }
   z ← record { at = 2; gives = held_in 2 witness_status assignment_of (files witness) }
-  x ← tape_at_3 tape files
+  x ← publics_at tape files
   record { at = 3; gives = held_in 1 system_status (λ file. verdict_of file z x) (files system) }

@@ -95,8 +95,8 @@ unfoldable pub publics_of : List ℕ → Result (List ℕ) Status
 publics_of text = refused_as (tape_status 3) (tape_of text P CHECK_TAPE_WORDS)
 
 -- the public numbers of the tape at word 3
-unfoldable pub tape_at_3 : List ℕ → Names → Look (List ℕ)
-tape_at_3 tape files = do
+unfoldable pub publics_at : List ℕ → Names → Look (List ℕ)
+publics_at tape files = do
   text ← record { at = 3; gives = limited_bytes 3 TextBytes TEXT_BYTES (files tape) }
   record { at = 3; gives = publics_of text }
 
@@ -105,7 +105,7 @@ unfoldable pub check_of : List ℕ → List ℕ → List ℕ → Names → Look 
 check_of system witness tape files = do
   s ← record { at = 1; gives = held_in 1 system_status system_of (files system) }
   z ← record { at = 2; gives = held_in 2 witness_status assignment_of (files witness) }
-  x ← tape_at_3 tape files
+  x ← publics_at tape files
   record { at = 3; gives = Ok (judge s z x) }
 
 -- the bytes of words: of each its four bytes, the lowest first

@@ -111,7 +111,11 @@ fn judges_tapes(rt: HostRuntime) -> Result<(), Fail> {
         (Some(""), 1, "no: public wire 1\n"),
         (Some("3 5"), 1, "no: public wire 2\n"),
         (Some("x"), 4, "bad tape: word 3, item 0\n"),
-        (Some("3 18446744069414584321"), 4, "bad tape: word 3, item 1\n"),
+        (
+            Some("3 18446744069414584321"),
+            4,
+            "bad tape: word 3, item 1\n",
+        ),
         (None, 8, ""),
     ];
     for (tape, code, line) in tapes {
@@ -126,7 +130,12 @@ fn takes_tapes_up_to_the_limits(rt: HostRuntime) -> Result<(), Fail> {
         ("7 ", 65_536, 1, "no: public wire 1\n"),
         ("7 ", 65_537, 7, "limit: tape words 65537, most 65536\n"),
         (" ", 1_048_576, 1, "no: public wire 1\n"),
-        (" ", 1_048_577, 7, "limit: text bytes 1048577, most 1048576\n"),
+        (
+            " ",
+            1_048_577,
+            7,
+            "limit: text bytes 1048577, most 1048576\n",
+        ),
     ];
     for (item, count, code, line) in tapes {
         let mut tape = String::new(rt.alloc());
@@ -144,7 +153,12 @@ fn judges_witnesses(rt: HostRuntime) -> Result<(), Fail> {
     let changes: [(usize, &[u8], u8, &str); 5] = [
         (52, &[2], 1, "no: public wire 0\n"),
         (76, &[16], 1, "no: constraint 0\n"),
-        (60, &[4, 0, 0, 0, 0xff, 0xff, 0xff, 0xff], 6, "bad witness: byte 60: not below p\n"),
+        (
+            60,
+            &[4, 0, 0, 0, 0xff, 0xff, 0xff, 0xff],
+            6,
+            "bad witness: byte 60: not below p\n",
+        ),
         (36, &[3], 6, "bad witness: byte 52: 32 for 24\n"),
         (4, &[1], 6, "bad witness: byte 4: version 1\n"),
     ];
@@ -187,7 +201,15 @@ fn judges_systems(rt: HostRuntime) -> Result<(), Fail> {
         let system = changed(rt.alloc(), &SYSTEM, at, change)?;
         answers(&rt, rt.alloc(), &system, &WITNESS, Some("3"), code, line)?;
     }
-    answers(&rt, rt.alloc(), &reversed(), &WITNESS, Some("3"), 0, "yes\n")?;
+    answers(
+        &rt,
+        rt.alloc(),
+        &reversed(),
+        &WITNESS,
+        Some("3"),
+        0,
+        "yes\n",
+    )?;
     let mut longer = changed(rt.alloc(), &SYSTEM, 0, &[])?;
     longer.push(0)?;
     let line = "bad system: byte 168: bytes after the end\n";
@@ -210,11 +232,27 @@ fn truncated(alloc: Global, file: &str, begins: &[usize], size: usize) -> Result
 fn tells_where_a_file_was_cut(rt: HostRuntime) -> Result<(), Fail> {
     for size in 0..SYSTEM.len() {
         let line = truncated(rt.alloc(), "system", &[0, 4, 8, 12, 64, 124], size)?;
-        answers(&rt, rt.alloc(), &SYSTEM[..size], &WITNESS, Some("3"), 5, &line)?;
+        answers(
+            &rt,
+            rt.alloc(),
+            &SYSTEM[..size],
+            &WITNESS,
+            Some("3"),
+            5,
+            &line,
+        )?;
     }
     for size in 0..WITNESS.len() {
         let line = truncated(rt.alloc(), "witness", &[0, 4, 8, 12, 40], size)?;
-        answers(&rt, rt.alloc(), &SYSTEM, &WITNESS[..size], Some("3"), 6, &line)?;
+        answers(
+            &rt,
+            rt.alloc(),
+            &SYSTEM,
+            &WITNESS[..size],
+            Some("3"),
+            6,
+            &line,
+        )?;
     }
     Ok(())
 }

@@ -2,7 +2,7 @@
 ghost use Rattle.std.specs.Prelude.{◌≡◌, ◌%◌, map, IfOk};
 ghost use Rattle.tv_core.specs.declared.field.TheConstants.{P};
 ghost use Rattle.tv_top.specs.Finds.{Finds, Makes};
-ghost use Rattle.tv_top.specs.Outcome.{tape_status, publics_of, tape_at_3};
+ghost use Rattle.tv_top.specs.Outcome.{tape_status, publics_of, publics_at};
 
 use crate::inputs::limited_bytes;
 use crate::limits::{CHECK_TAPE_WORDS, TEXT_BYTES};
@@ -50,13 +50,13 @@ fn publics_of(alloc: Global, text: &[u8]) -> Result<Vec<F>, Status>
 }
 
 /// The public numbers of the tape, whose name stands at word 3.
-#[tactic(auto, unfolding(crate::specs::Outcome::tape_at_3))]
+#[tactic(auto, unfolding(crate::specs::Outcome::publics_at))]
 pub(crate) fn read_publics<D: Files>(
     alloc: Global,
     files: &mut D,
     name: &str,
 ) -> Result<Vec<F>, Status>
-    ensures { Finds (λ v. v.items) (λ at. at ≡ 3) (tape_at_3 name.now)
+    ensures { Finds (λ v. v.items) (λ at. at ≡ 3) (publics_at name.now)
         (D.seen files.old) (D.seen files.new) result }
 {
     let text = limited_bytes(alloc, files, 3, name, What::TextBytes, TEXT_BYTES)?;
