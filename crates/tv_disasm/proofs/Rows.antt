@@ -1,5 +1,5 @@
 -- Images and their texts, worked out.
-use Rattle.std.proofs.Common.{◌≡◌, List, [], ◌∷◌, ◌++◌, codes, refl}
+use Rattle.std.proofs.Common.{◌≡◌, [], ◌∷◌, codes, refl}
 use Rattle.std.specs.Fmt.{digits}
 use Rattle.tv_isa.specs.Table.{instructions, with_opcode}
 use Rattle.tv_disasm.specs.Disassembly.{disassembly_of, hexadecimal, two_words_text}

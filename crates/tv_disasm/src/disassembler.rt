@@ -11,8 +11,8 @@ use tv_word::word_at;
 /// line has the instruction's name and operands, or `.raw` and the two words where these wouldn't
 /// tell all of them.
 ///
-/// `Ragged` comes exactly where the length isn't a multiple of 8, and no memory is taken then. Takes
-/// one vector, and time linear in the image.
+/// `Ragged` comes exactly where the length isn't a multiple of 8, and no memory is taken then. The text
+/// is at most four times as long as the image, and is made in one vector, in time linear in the image.
 #[tactic(auto, unfolding(crate::specs::Disassembly::disassembly_of))]
 pub fn disassemble(alloc: Global, image: &[u8]) -> Result<Vec<u8>, DisFault>
     ensures ok { IfOk result (λ text.

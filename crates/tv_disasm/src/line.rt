@@ -1,4 +1,4 @@
-ghost use Rattle.std.specs.Prelude.{◌≡◌, ◌++◌, ◌<◌, OnOk, codes};
+ghost use Rattle.std.specs.Prelude.{◌≡◌, ◌++◌, ◌<◌, OnOk};
 ghost use Rattle.tv_disasm.specs.Disassembly.{digit_char, hexadecimal, instruction_text, leaves_zero, raw_text, tells_all, two_words_text};
 
 use crate::operands::{push_decimal, push_operands};

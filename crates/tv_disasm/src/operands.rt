@@ -13,21 +13,23 @@ pub(crate) fn push_operands(
 ) -> Result<(), AllocError>
     ensures { OnOk result (text.new.items ≡ text.old.items ++ joined (operand_texts shape instr.now)) }
 {
+    let dest = u32::from(instr.dest);
+    let source = u32::from(instr.source);
     match shape {
         Shape::DestSourceA => {
-            push_register(text, u32::from(instr.dest))?;
+            push_register(text, dest)?;
             push_comma(text)?;
-            push_register(text, u32::from(instr.source))?;
+            push_register(text, source)?;
             push_comma(text)?;
             push_last(text, instr)
         }
         Shape::DestA => {
-            push_register(text, u32::from(instr.dest))?;
+            push_register(text, dest)?;
             push_comma(text)?;
             push_last(text, instr)
         }
         Shape::SourceA => {
-            push_register(text, u32::from(instr.source))?;
+            push_register(text, source)?;
             push_comma(text)?;
             push_last(text, instr)
         }
@@ -35,7 +37,7 @@ pub(crate) fn push_operands(
         Shape::ADest => {
             push_last(text, instr)?;
             push_comma(text)?;
-            push_register(text, u32::from(instr.dest))
+            push_register(text, dest)
         }
         Shape::Unused => Ok(()),
     }

@@ -1,0 +1,159 @@
+-- Numbers in text, read back: decimals, hexadecimals and registers.
+use Rattle.std.proofs.Common.{◌≡◌, ℕ, zero, suc, ◌+◌, ◌/◌, ◌%◌, ◌^◌, ◌<◌, ◌≤◌, ◌==◌, nat_eq, nat_le, Bool, true, false, not, ◌&&◌, ◌||◌, List, [], ◌∷◌, ◌++◌, length, slice_index, codes, decimal, Some, Ok, refl, sym, ap, ◌∙◌, arith}
+use Rattle.std.proofs.Math.Arith.{mod-mul}
+use Rattle.std.proofs.Math.Nat.{one-le-pow, pow-zero, pow-succ'}
+use Rattle.std.proofs.lemmas.Bool.{and_from, and_right, and_parts, lt-ltb, or_right}
+use Rattle.std.proofs.lemmas.Bool.Decides.{nat_tests}
+use Rattle.std.proofs.lemmas.Fmt.{decimal_by_steps, decimal_digit, first_decimal}
+use Rattle.std.proofs.lemmas.List.{length-append}
+use Rattle.std.proofs.lemmas.List.Folds.{list_all-append}
+use Rattle.std.proofs.lemmas.Str.{digit_value-digit_char}
+use Rattle.std.specs.Char.{digit_char, digit_value, is_digit}
+use Rattle.std.specs.List.{list_all, starts_with}
+use Rattle.tv_asm.specs.Operand.{number, register}
+use Rattle.tv_word.proofs.NumeralLemmas.{positional-append}
+use Rattle.tv_word.specs.Numeral.{numeral, positional}
+use Rattle.tv_disasm.specs.Disassembly.{hexadecimal, register_text}
+use Rattle.tv_disasm.proofs.WordLemmas.{is_word_byte, IsWord, all_weaker, apart_from}
+
+-- digits of a base that spell a number
+pub record Spells (base n : ℕ) (text : List ℕ) : Type 0 where
+  pub some : 0 < length text
+  pub digits : list_all (λ c. is_digit c base) text ≡ true
+  pub value : positional base text ≡ n
+
+-- they are read as that number
+pub Spells-numeral : (base bound n : ℕ) (text : List ℕ) → Spells base n text → n < bound → numeral base bound text ≡ Some n
+Spells-numeral base bound n text h below =
+    rw (h.digits, h.value, lt-ltb 0 (length text) h.some, lt-ltb n bound below) refl
+
+-- a decimal digit's byte
+abbrev pub is_decimal_byte : ℕ → Bool
+is_decimal_byte c = nat_le 48 c && nat_le c 57
+
+decimal-word : (c : ℕ) → is_decimal_byte c ≡ true → is_word_byte c ≡ true
+decimal-word c h = grind (arith, nat_tests)
+
+decimal-digit : (c : ℕ) → is_decimal_byte c ≡ true → is_digit c 10 ≡ true
+decimal-digit c h = grind (arith, nat_tests)
+
+pub record IsDecimal (n : ℕ) (text : List ℕ) : Type 0 where
+  pub some : 0 < length text
+  pub bytes : list_all is_decimal_byte text ≡ true
+  pub value : positional 10 text ≡ n
+
+digit-byte : (d : ℕ) → d < 10 → is_decimal_byte (48 + d) ≡ true
+digit-byte d h = grind (arith, nat_tests)
+
+digit-value : (d : ℕ) → d < 10 → digit_value (48 + d) ≡ d
+digit-value d h = grind (arith, nat_tests)
+
+IsDecimal-one : (n : ℕ) → n < 10 → IsDecimal n ((48 + n) ∷ [])
+IsDecimal-one n h = record {
+  some = omega arith;
+  bytes = and_from (is_decimal_byte (48 + n)) true (digit-byte n h) refl;
+  value = rw (pow-zero, digit-value n h) (omega arith);
+}
+
+IsDecimal-more : (n : ℕ) (front : List ℕ) → 10 ≤ n → IsDecimal (n / 10) front → IsDecimal n (front ++ ((48 + n % 10) ∷ []))
+IsDecimal-more n front h d =
+    let low : n % 10 < 10 = omega arith in
+    record {
+      some = omega (arith, length-append front ((48 + n % 10) ∷ []));
+      bytes =
+          list_all-append is_decimal_byte front ((48 + n % 10) ∷ [])
+          ∙ and_from (list_all is_decimal_byte front) (is_decimal_byte (48 + n % 10) && true) d.bytes (and_from (is_decimal_byte (48 + n % 10)) true (digit-byte (n % 10) low) refl);
+      value =
+          positional-append 10 front ((48 + n % 10) ∷ [])
+          ∙ rw (d.value, pow-zero, digit-value (n % 10) low) (omega arith);
+    }
+
+pub IsDecimal-decimal : (n : ℕ) → n < 2 ^ 64 → IsDecimal n (decimal n)
+IsDecimal-decimal n h = decimal_by_steps IsDecimal IsDecimal-one IsDecimal-more n h
+
+pub IsDecimal-IsWord : (n : ℕ) (text : List ℕ) → IsDecimal n text → IsWord text
+IsDecimal-IsWord n text h =
+    record { some = h.some; bytes = all_weaker is_decimal_byte is_word_byte decimal-word text h.bytes }
+
+pub IsDecimal-Spells : (n : ℕ) (text : List ℕ) → IsDecimal n text → Spells 10 n text
+IsDecimal-Spells n text h =
+    record { some = h.some; digits = all_weaker is_decimal_byte (λ c. is_digit c 10) decimal-digit text h.bytes; value = h.value }
+
+pub first-decimal : (n : ℕ) (text : List ℕ) → IsDecimal n text → is_decimal_byte (slice_index text 0) ≡ true
+first-decimal n [] h = absurd (omega (arith, h.some))
+first-decimal n (c ∷ cs) h = (and_parts (is_decimal_byte c) (list_all is_decimal_byte cs) h.bytes).0
+
+-- decimal digits don't begin as a hexadecimal number
+not_hexadecimal : (text : List ℕ) → list_all is_decimal_byte text ≡ true → starts_with nat_eq text (codes "0x") ≡ false
+not_hexadecimal [] h = refl
+not_hexadecimal (c ∷ []) h = and_right (nat_eq 48 c) false refl
+not_hexadecimal (c ∷ d ∷ more) h =
+    let both = and_parts (is_decimal_byte c) (list_all is_decimal_byte (d ∷ more)) h in
+    let second = and_parts (is_decimal_byte d) (list_all is_decimal_byte more) both.1 in
+    rw (apart_from is_decimal_byte d 120 second.0 refl) (and_right (nat_eq 48 c) false refl)
+
+-- a decimal is the number that it writes
+pub number-decimal : (w n : ℕ) → n < 2 ^ w → n < 2 ^ 64 → number w (decimal n) ≡ Ok n
+unfolding number
+number-decimal w n below h =
+    let d = IsDecimal-decimal n h in
+    rw (not_hexadecimal (decimal n) d.bytes, Spells-numeral 10 (2 ^ w) n (decimal n) (IsDecimal-Spells n (decimal n) d) below) refl
+
+digit_char-digit : (d : ℕ) → d < 16 → is_digit (digit_char d) 16 ≡ true
+digit_char-digit d h = rw (digit_value-digit_char d (omega arith)) (lt-ltb d 16 h)
+
+digit_char-word : (d : ℕ) → d < 16 → is_word_byte (digit_char d) ≡ true
+digit_char-word d h = grind (arith, nat_tests)
+
+pub record IsHexadecimal (n v : ℕ) (text : List ℕ) : Type 0 where
+  pub count : length text ≡ n
+  pub bytes : list_all is_word_byte text ≡ true
+  pub digits : list_all (λ c. is_digit c 16) text ≡ true
+  pub value : positional 16 text ≡ v % 16 ^ n
+
+mod-one : (v : ℕ) → 0 ≡ v % 16 ^ 0
+mod-one v = rw (pow-zero) (omega arith)
+
+pub IsHexadecimal-hexadecimal : (n v : ℕ) → IsHexadecimal n v (hexadecimal n v)
+unfolding hexadecimal
+IsHexadecimal-hexadecimal zero v =
+    record { count = refl; bytes = refl; digits = refl; value = mod-one v }
+IsHexadecimal-hexadecimal (suc n) v =
+    let more = IsHexadecimal-hexadecimal n v in
+    let d = v / 16 ^ n % 16 in
+    let low : d < 16 = omega arith in
+    record {
+      count = ap suc more.count;
+      bytes = and_from (is_word_byte (digit_char d)) (list_all is_word_byte (hexadecimal n v)) (digit_char-word d low) more.bytes;
+      digits = and_from (is_digit (digit_char d) 16) (list_all (λ c. is_digit c 16) (hexadecimal n v)) (digit_char-digit d low) more.digits;
+      value =
+          rw (more.count, more.value, digit_value-digit_char d (omega arith), pow-succ' 16 n)
+          (sym (mod-mul v {m = 16} {c = 16 ^ n} (omega arith) (one-le-pow n 16 (omega arith))));
+    }
+
+-- the digits of a whole word are the number that they write
+pub number-hexadecimal : (v : ℕ) → v < 2 ^ 32 → number 32 (codes "0x" ++ hexadecimal 8 v) ≡ Ok v
+unfolding number
+number-hexadecimal v h =
+    let x = IsHexadecimal-hexadecimal 8 v in
+    let spells : Spells 16 v (hexadecimal 8 v) = record { some = omega (arith, x.count); digits = x.digits; value = x.value ∙ omega arith } in
+    rw (Spells-numeral 16 (2 ^ 32) v (hexadecimal 8 v) spells h) refl
+
+no_leading_zero : (n : ℕ) → n < 2 ^ 64 → (length (decimal n) == 1 || not (slice_index (decimal n) 0 == 48)) ≡ true
+no_leading_zero zero h = rw (decimal_digit 0 (omega arith)) refl
+no_leading_zero (suc n) h =
+    let first = first_decimal (suc n) (omega arith) h in
+    or_right (length (decimal (suc n)) == 1) (not (slice_index (decimal (suc n)) 0 == 48)) (grind (arith, nat_tests))
+
+-- a register is the number that it writes
+pub register-register_text : (n : ℕ) → n < 16 → register (register_text n) ≡ Ok n
+unfolding register
+register-register_text n h =
+    let wide : n < 2 ^ 64 = omega arith in
+    let spells = IsDecimal-Spells n (decimal n) (IsDecimal-decimal n wide) in
+    rw (no_leading_zero n wide, Spells-numeral 10 16 n (decimal n) spells h) refl
+
+pub register-word : (n : ℕ) → n < 2 ^ 64 → IsWord (register_text n)
+register-word n h =
+    let d = IsDecimal-IsWord n (decimal n) (IsDecimal-decimal n h) in
+    record { some = omega arith; bytes = d.bytes }
