@@ -9,4 +9,7 @@ pub mod Storing
 pub mod Ending
 pub mod Checked
 pub mod Programs
+pub mod Fitting
+pub mod RunEnds
+pub mod Runs
 mod WorkedLines
