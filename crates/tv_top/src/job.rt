@@ -51,12 +51,7 @@ fn apart<'a>(read: &str, written: &str, job: Job<'a>) -> Result<Job<'a>, Status>
 }
 
 /// The run of as many steps as a word says: from 1 up to the limit.
-fn run_job<'a>(
-    text: &'a str,
-    tape: &'a str,
-    aux: &'a str,
-    steps: &str,
-) -> Result<Job<'a>, Status>
+fn run_job<'a>(text: &'a str, tape: &'a str, aux: &'a str, steps: &str) -> Result<Job<'a>, Status>
     ensures { let due = run_job text.now tape.now aux.now (numeral 10 (2 ^ 64) steps.now) in
         MatchResult result (λ found. due ≡ Ok (asked found)) (λ status. due ≡ Err status) }
 {

@@ -8,9 +8,14 @@ use tv_step::End;
 
 // A program's answer by its two reads.
 const TWO_READS: &str = "read r1, 1\nread r2, 1\nsub r3, r1, r2\nanswer r3";
+
 const THREE_READS: &str = "read r1, 0\nread r2, 0\nread r3, 2\nanswer r1";
+
 const WRAPS: &str = "cjmp 17\njmp 4294967288\nanswer 0";
-const STORES: &str = "mov r1, 0x11223344\nmov r2, 0xab\nstore.w 65536, r1\nstore.b 65537, r2\nload.w r3, 65539\nanswer r3";
+
+const STORES: &str =
+    "mov r1, 0x11223344\nmov r2, 0xab\nstore.w 65536, r1\nstore.b 65537, r2\nload.w r3, 65539\nanswer r3";
+
 const REWRITES: &str = "mov r1, 0xfc000000\nstore.w 16, r1\n.raw 0, 0";
 
 // A run: the three files, the number of steps, and what is answered.
@@ -42,7 +47,14 @@ fn runs(rt: &impl Abort, alloc: Global, case: Case<'_>) -> Result<(Status, u64),
 #[test]
 fn says_how_runs_end(rt: HostRuntime) -> Result<(), Fail> {
     let cases: [Case<'_>; 13] = [
-        (".raw 0xB8000000, 0", "", "", "5", 1, "undefined opcode 23 at step 1\n"),
+        (
+            ".raw 0xB8000000, 0",
+            "",
+            "",
+            "5",
+            1,
+            "undefined opcode 23 at step 1\n",
+        ),
         ("", "", "", "64", 1, "no answer in 64 steps\n"),
         (TWO_READS, "", "9 9", "4", 0, "answer 0 at step 4\n"),
         (TWO_READS, "", "9", "4", 1, "answer 9 at step 4\n"),
@@ -52,7 +64,14 @@ fn says_how_runs_end(rt: HostRuntime) -> Result<(), Fail> {
         (WRAPS, "", "", "5", 0, "answer 0 at step 5\n"),
         (STORES, "", "", "6", 1, "answer 287484740 at step 6\n"),
         (REWRITES, "", "", "3", 0, "answer 0 at step 3\n"),
-        (THREE_READS, "4294967295", "", "4", 1, "answer 4294967295 at step 4\n"),
+        (
+            THREE_READS,
+            "4294967295",
+            "",
+            "4",
+            1,
+            "answer 4294967295 at step 4\n",
+        ),
         ("jmp 0", "", "", "65536", 1, "no answer in 65536 steps\n"),
         ("answer 0", "", "", "1", 0, "answer 0 at step 1\n"),
     ];
@@ -70,12 +89,58 @@ fn refuses_what_is_no_run(rt: HostRuntime) -> Result<(), Fail> {
         ((TWO_READS, "", "", "", 2, usage), 1),
         ((TWO_READS, "", "", "+1", 2, usage), 1),
         ((TWO_READS, "", "", "18446744073709551616", 2, usage), 1),
-        ((TWO_READS, "", "", "0", 7, "limit: steps 0, most 65536\n"), 1),
-        ((TWO_READS, "", "", "65537", 7, "limit: steps 65537, most 65536\n"), 1),
-        (("foo", "x", "x", "1", 3, "bad program: line 1: unknown name\n"), 3),
-        ((THREE_READS, "4294967296", "x", "4", 4, "bad tape: word 2, item 0\n"), 5),
-        ((THREE_READS, "1 x", "", "4", 4, "bad tape: word 2, item 1\n"), 5),
-        ((THREE_READS, "", "1 2 -3", "4", 4, "bad tape: word 3, item 2\n"), 6),
+        (
+            (TWO_READS, "", "", "0", 7, "limit: steps 0, most 65536\n"),
+            1,
+        ),
+        (
+            (
+                TWO_READS,
+                "",
+                "",
+                "65537",
+                7,
+                "limit: steps 65537, most 65536\n",
+            ),
+            1,
+        ),
+        (
+            (
+                "foo",
+                "x",
+                "x",
+                "1",
+                3,
+                "bad program: line 1: unknown name\n",
+            ),
+            3,
+        ),
+        (
+            (
+                THREE_READS,
+                "4294967296",
+                "x",
+                "4",
+                4,
+                "bad tape: word 2, item 0\n",
+            ),
+            5,
+        ),
+        (
+            (THREE_READS, "1 x", "", "4", 4, "bad tape: word 2, item 1\n"),
+            5,
+        ),
+        (
+            (
+                THREE_READS,
+                "",
+                "1 2 -3",
+                "4",
+                4,
+                "bad tape: word 3, item 2\n",
+            ),
+            6,
+        ),
     ];
     for (case, calls) in refused {
         let made = runs(&rt, rt.alloc(), case)?;
@@ -112,16 +177,38 @@ fn ones(alloc: Global, count: u64) -> Result<String, Fail> {
 #[test]
 fn tapes_have_their_limits(rt: HostRuntime) -> Result<(), Fail> {
     let words = ones(rt.alloc(), 16_384)?;
-    let done = ("answer 0", words.as_str(), "", "1", 0, "answer 0 at step 1\n");
+    let done = (
+        "answer 0",
+        words.as_str(),
+        "",
+        "1",
+        0,
+        "answer 0 at step 1\n",
+    );
     runs(&rt, rt.alloc(), done)?;
     let line = "limit: tape words 16385, most 16384\n";
     let words = ones(rt.alloc(), 16_385)?;
-    runs(&rt, rt.alloc(), ("answer 0", words.as_str(), "", "1", 7, line))?;
+    runs(
+        &rt,
+        rt.alloc(),
+        ("answer 0", words.as_str(), "", "1", 7, line),
+    )?;
     let words = ones(rt.alloc(), 65_536)?;
-    let done = ("answer 0", "", words.as_str(), "1", 0, "answer 0 at step 1\n");
+    let done = (
+        "answer 0",
+        "",
+        words.as_str(),
+        "1",
+        0,
+        "answer 0 at step 1\n",
+    );
     runs(&rt, rt.alloc(), done)?;
     let line = "limit: aux words 65537, most 65536\n";
     let words = ones(rt.alloc(), 65_537)?;
-    runs(&rt, rt.alloc(), ("answer 0", "", words.as_str(), "1", 7, line))?;
+    runs(
+        &rt,
+        rt.alloc(),
+        ("answer 0", "", words.as_str(), "1", 7, line),
+    )?;
     Ok(())
 }

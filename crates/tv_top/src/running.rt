@@ -36,13 +36,7 @@ fn read_program<D: Files>(alloc: Global, files: &mut D, name: &str) -> Result<Wo
 }
 
 /// The end of the machine's run on an image and two tapes, of so many steps at most.
-fn end_on(
-    alloc: Global,
-    image: &[u32],
-    tape: Words,
-    aux: Words,
-    steps: u64,
-) -> Result<End, Status>
+fn end_on(alloc: Global, image: &[u32], tape: Words, aux: Words, steps: u64) -> Result<End, Status>
     requires { length image.now ≤ 2 ^ 30 }
     ensures { Makes (λ end. end) (Ok (end_of 32 steps (start 32 image.now tape aux))) result }
 {

@@ -77,13 +77,7 @@ fn narrowed(alloc: Global, numbers: &[u64]) -> Result<Words, AllocError>
 
 /// The words of a tape's text.
 #[tactic(auto, unfolding(crate::specs::Outcome::words_of))]
-fn words_of(
-    alloc: Global,
-    word: u32,
-    what: What,
-    most: u32,
-    text: &[u8],
-) -> Result<Words, Status>
+fn words_of(alloc: Global, word: u32, what: What, most: u32, text: &[u8]) -> Result<Words, Status>
     ensures { Makes (λ words. words) (words_of word what most text.now) result }
 {
     match read_tape(alloc, text, 1 << 32, most) {
