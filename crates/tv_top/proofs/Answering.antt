@@ -1,23 +1,34 @@
 -- What a call promises, from what reading found and from saying a line.
-use Rattle.std.proofs.Common.{◌≡◌, ℕ, ◌⊎◌, List, [], ◌∷◌, Bool, true, false, Option, Some, None, Result, Ok, Err, inl, inr, refl, sym, ap, ◌∙◌, arith, rules, codes}
+use Rattle.std.proofs.Common.{◌≡◌, ℕ, ◌^◌, ◌==◌, ◌||◌, ◌⊎◌, List, [], ◌∷◌, Bool, true, false, ltb, Option, Some, None, Result, Ok, Err, inl, inr, refl, sym, ap, ◌∙◌, arith, rules, codes}
 use Rattle.std.specs.Str.{bytes_eq}
 use Rattle.tv_files.specs.Outside.{Names, Outside, Rose}
+use Rattle.tv_top.specs.declared.limits.TheConstants.{STEPS}
 use Rattle.tv_top.specs.declared.status.Status.{Status}
 use Rattle.tv_top.specs.declared.status.Status.TheVariants.{Usage, FileFault, Memory, SameName}
 use Rattle.tv_top.specs.Codes.{says}
-use Rattle.tv_top.specs.Outcome.{Look, Job, job, Write, Answer, status_of, answer_by, report_of, outcome}
+use Rattle.tv_top.specs.Outcome.{Look, Job, job, Write, Answer, status_of, answer_by, run_job, outcome}
 use Rattle.tv_top.specs.Finds.{IsFound, Finds}
 use Rattle.tv_top.specs.Ends.{Said, SaidPart, Ends, IsConcluded, Concludes}
-use Rattle.tv_top.specs.Answers.{IsRead, written_names, ChangedAt, Answers}
+use Rattle.tv_top.specs.Answers.{IsRead, written_names, IsReport, ChangedAt, IsSaid, Answers}
+use Rattle.tv_word.specs.Numeral.{numeral}
 use Rattle.tv_top.proofs.Concluding.{concluded_since, ends_answered, said_nothing}
 
 -- a status that was concluded was said, or a part of what it says
-said_concluded : (report : Option (List ℕ)) (status : Status) (words : ℕ) (old new : Outside) (result : Status) →
+pub said_concluded : (report : Option (List ℕ)) (status : Status) (words : ℕ) (old new : Outside) (result : Status) →
     IsConcluded status (says report status) words old new result →
-    Said old new (says report result) ⊎ (((result ≡ FileFault words) ⊎ (result ≡ Memory)) × (at : Status) × SaidPart old new (says report at))
+    IsSaid report words old new result
 said_concluded report status words old new result (inl answered) = inl (rw answered.0 answered.1)
 said_concluded report status words old new result (inr (inl fault)) = inr (inl fault.0, status, fault.2)
 said_concluded report status words old new result (inr (inr memory)) = inr (inr memory.0, status, memory.2)
+
+-- a number of steps is refused by no fault of a file
+run_faultless : (text tape aux : List ℕ) (steps : Option ℕ) (word : ℕ) → ¬ (run_job text tape aux steps ≡ Err (FileFault word))
+run_faultless text tape aux None word e = cc
+run_faultless text tape aux (Some steps) word e = by_test ((steps == 0) || ltb STEPS steps) refl
+  where
+    by_test : (test : Bool) → (steps == 0) || ltb STEPS steps ≡ test → ⊥
+    by_test true is = let g = rw is at e in cc
+    by_test false is = let g = rw is at e in cc
 
 -- the words are refused by no fault of a file
 job_faultless : (words : List (List ℕ)) (word : ℕ) → ¬ (job words ≡ Err (FileFault word))
@@ -37,22 +48,27 @@ job_faultless (a ∷ b ∷ c ∷ d ∷ []) word e = by_name (bytes_eq a (codes "
     by_name : (test : Bool) → bytes_eq a (codes "check") ≡ test → ⊥
     by_name true is = let g = rw is at e in cc
     by_name false is = let g = rw is at e in cc
-job_faultless (a ∷ b ∷ c ∷ d ∷ f ∷ rest) word e = cc
+job_faultless (a ∷ b ∷ c ∷ d ∷ f ∷ []) word e = by_name (bytes_eq a (codes "run")) refl
+  where
+    by_name : (test : Bool) → bytes_eq a (codes "run") ≡ test → ⊥
+    by_name true is = let g = rw is at e in run_faultless b c d (numeral 10 (2 ^ 64) f) word g
+    by_name false is = let g = rw is at e in cc
+job_faultless (a ∷ b ∷ c ∷ d ∷ f ∷ g ∷ rest) word e = cc
 
 -- the cause of an answer that was concluded: the status had it already, or saying it had
-caused_concluded : (status : Status) (says : Option (List ℕ)) (words : ℕ) (old new : Outside) (result : Status) (word : ℕ) →
+pub caused_concluded : (status : Status) (says : Option (List ℕ)) (words : ℕ) (old new : Outside) (result : Status) (word : ℕ) →
     IsConcluded status says words old new result → result ≡ FileFault word → (status ≡ FileFault word) ⊎ ((word ≡ words) × Rose old.say_faults new.say_faults)
 caused_concluded status says words old new result word (inl answered) e = inl (sym answered.0 ∙ e)
 caused_concluded status says words old new result word (inr (inl fault)) e = inr (cc, fault.1)
 caused_concluded status says words old new result word (inr (inr memory)) e = cc
 
-usage_concluded : (status : Status) (says : Option (List ℕ)) (words : ℕ) (old new : Outside) (result : Status) →
+pub usage_concluded : (status : Status) (says : Option (List ℕ)) (words : ℕ) (old new : Outside) (result : Status) →
     IsConcluded status says words old new result → result ≡ Usage → status ≡ Usage
 usage_concluded status says words old new result (inl answered) e = sym answered.0 ∙ e
 usage_concluded status says words old new result (inr (inl fault)) e = cc
 usage_concluded status says words old new result (inr (inr memory)) e = cc
 
-same_name_concluded : (status : Status) (says : Option (List ℕ)) (words : ℕ) (old new : Outside) (result : Status) (first second : ℕ) →
+pub same_name_concluded : (status : Status) (says : Option (List ℕ)) (words : ℕ) (old new : Outside) (result : Status) (first second : ℕ) →
     IsConcluded status says words old new result → result ≡ SameName first second → status ≡ SameName first second
 same_name_concluded status says words old new result first second (inl answered) e = sym answered.0 ∙ e
 same_name_concluded status says words old new result first second (inr (inl fault)) e = cc
@@ -64,7 +80,7 @@ other_cause refused P words word e (inl is) = absurd (job_faultless words word (
 other_cause refused P words word e (inr p) = p
 
 -- files that are as they were changed at no name
-unchanged : (names : List (List ℕ)) (old new : Option Names) → new ≡ old → ChangedAt names old new
+pub unchanged : (names : List (List ℕ)) (old new : Option Names) → new ≡ old → ChangedAt names old new
 unchanged [] old new same = same
 unchanged (name ∷ names) old new same = inl (unchanged names old new same)
 
@@ -78,7 +94,7 @@ answers_refused words count status old new result refused concludes = rw refused
   usage = λ e. ap Err (usage_concluded status (says None status) count old new result concludes.ended e);
   same_name = λ first second e. ap Err (same_name_concluded status (says None status) count old new result first second concludes.ended e);
   caused = λ word e. inr (inr (other_cause status _ words word refused (caused_concluded status (says None status) count old new result word concludes.ended e)));
-  said = said_concluded None status count old new result concludes.ended;
+  said = (None, refl, said_concluded None status count old new result concludes.ended);
   contents = concludes.contents;
   later = concludes.later;
 })
@@ -99,7 +115,7 @@ ends_stopped view status writes report due why count files old new result same t
 -- a job whose look was refused
 pub answers_stopped : {X A : Type 0} (asked : Job) (view : X → A) (status : A → Status) (writes : A → List Write) (report : Option (List ℕ)) (due : Names → Look A) (why : Status)
     (count : ℕ) (old mid new : Outside) (result : Status) →
-    ((files : Names) → outcome (Ok asked) files ≡ answer_by status writes report (due files)) → report_of (Ok asked) ≡ report →
+    ((files : Names) → outcome (Ok asked) files ≡ answer_by status writes report (due files)) → IsReport (Ok asked) report →
     Finds view (IsRead (Ok asked)) due old mid (Err why) → Concludes why (says report why) count mid new result → Answers (Ok asked) count old new result
 answers_stopped asked view status writes report due why count old mid new result is_outcome is_report finds concludes =
     let concluded = concluded_since why (says report why) count old mid new result finds.only concludes.ended in
@@ -117,7 +133,7 @@ answers_stopped asked view status writes report due why count old mid new result
         | inl is ↦ let cause = finds.caused word (ap Err is) in inl (cause.0, omega (arith, cause.1))
         | inr cause ↦ inr (inr cause)
       ];
-      said = rw is_report (said_concluded report why count old new result concluded);
+      said = (report, is_report, said_concluded report why count old new result concluded);
       contents = unchanged (written_names (Ok asked)) old.contents new.contents same;
       later = search rules;
     }
@@ -125,7 +141,7 @@ answers_stopped asked view status writes report due why count old mid new result
 -- a job whose files are only read
 pub answers_found : {A : Type 0} (asked : Job) (status : A → Status) (report : Option (List ℕ)) (due : Names → Look A) (found : Result A Status) (count : ℕ)
     (old mid new : Outside) (result : Status) →
-    ((files : Names) → outcome (Ok asked) files ≡ answer_by status (λ _. []) report (due files)) → report_of (Ok asked) ≡ report →
+    ((files : Names) → outcome (Ok asked) files ≡ answer_by status (λ _. []) report (due files)) → IsReport (Ok asked) report →
     ((x : A) → ¬ (status x ≡ Usage)) → ((x : A) (first second : ℕ) → ¬ (status x ≡ SameName first second)) → ((x : A) (word : ℕ) → ¬ (status x ≡ FileFault word)) →
     Finds (λ x. x) (IsRead (Ok asked)) due old mid found → Concludes (status_of status found) (says report (status_of status found)) count mid new result →
     Answers (Ok asked) count old new result
@@ -147,7 +163,7 @@ answers_found asked status report due (Ok x) count old mid new result is_outcome
         | inl is ↦ absurd (no_fault x word is)
         | inr cause ↦ inr (inr cause)
       ];
-      said = rw is_report (said_concluded report (status x) count old new result concluded);
+      said = (report, is_report, said_concluded report (status x) count old new result concluded);
       contents = unchanged (written_names (Ok asked)) old.contents new.contents same;
       later = search rules;
     }

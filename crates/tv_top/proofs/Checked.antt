@@ -22,7 +22,7 @@ use Rattle.tv_top.specs.declared.status.NoWhy.{NoWhy}
 use Rattle.tv_top.specs.declared.status.NoWhy.TheVariants as no
 use Rattle.tv_top.specs.declared.status.Status.{Status}
 use Rattle.tv_top.specs.declared.status.Status.TheVariants.{Done, No, BadSystem, BadWitness, Limit, FileFault}
-use Rattle.tv_top.specs.declared.status.What.TheVariants.{TextBytes}
+use Rattle.tv_top.specs.declared.status.What.TheVariants.{TapeWords, TextBytes}
 use Rattle.tv_top.specs.Outcome.{Look, ◌>>=◌, Job, Check, job, Answer, refused_as, held_in, system_status, witness_status, tape_status, publics_of, publics_at, check_of, verdict_status, status_of, outcome}
 use Rattle.tv_top.specs.Ends.{Ends}
 use Rattle.tv_top.specs.Answers.{Answers}
@@ -77,11 +77,11 @@ tape_gives tape files x holds =
     rw (holds.there, fits, holds.reads) refl
 
 tape_refused : (tape : List ℕ) (files : Names) (bytes : List ℕ) (why : TapeFault) → files tape ≡ Some bytes → leb (length bytes) TEXT_BYTES ≡ true → tape_of bytes P CHECK_TAPE_WORDS ≡ Err why →
-    (publics_at tape files).gives ≡ Err (tape_status 3 why)
+    (publics_at tape files).gives ≡ Err (tape_status 3 TapeWords why)
 unfolding publics_at publics_of
 tape_refused tape files bytes why there fits reads = rw (there, fits, reads) refl
 
-other_tape : (why : TapeFault) → IsOther (tape_status 3 why)
+other_tape : (why : TapeFault) → IsOther (tape_status 3 TapeWords why)
 other_tape (fault.BadItem at) = record { done = λ e. cc; no = λ why e. cc; system = λ at why e. cc; witness = λ at why e. cc }
 other_tape (fault.TooBig at) = record { done = λ e. cc; no = λ why e. cc; system = λ at why e. cc; witness = λ at why e. cc }
 other_tape (fault.TooMany most) = record { done = λ e. cc; no = λ why e. cc; system = λ at why e. cc; witness = λ at why e. cc }
@@ -93,7 +93,7 @@ unfolding publics_at
 tape_by tape files bytes false read there fits reads =
     inr (Limit TextBytes (TEXT_BYTES + 1) TEXT_BYTES, rw (there, fits) refl, record { done = λ e. cc; no = λ why e. cc; system = λ at why e. cc; witness = λ at why e. cc })
 tape_by tape files bytes true (Ok x) there fits reads = inl (x, record { bytes = bytes; there = there; most = leb-true _ _ fits; reads = reads })
-tape_by tape files bytes true (Err why) there fits reads = inr (tape_status 3 why, tape_refused tape files bytes why there fits reads, other_tape why)
+tape_by tape files bytes true (Err why) there fits reads = inr (tape_status 3 TapeWords why, tape_refused tape files bytes why there fits reads, other_tape why)
 
 seen_tape : (tape : List ℕ) (files : Names) (file : Option (List ℕ)) → files tape ≡ file → SeenTape tape files
 unfolding publics_at
@@ -160,21 +160,23 @@ yes_of (WireCount _ _) e = cc
 yes_of (NoPublic _) e = cc
 yes_of (NoConstraint _) e = cc
 
-no_of : (verdict : Verdict) (why : NoWhy) → verdict_status verdict ≡ No why → verdict ≡ no_verdict why
+no_of : (verdict : Verdict) (why : NoWhy) → verdict_status verdict ≡ No why → no_verdict why ≡ Some verdict
 no_of Yes why e = cc
 no_of (WireCount has wants) why e = let same : no.Wires has wants ≡ why = cc in rw (← same) refl
 no_of (NoPublic at) why e = let same : no.Public at ≡ why = cc in rw (← same) refl
 no_of (NoConstraint at) why e = let same : no.Constraint at ≡ why = cc in rw (← same) refl
 
-no_says : (why : NoWhy) → verdict_status (no_verdict why) ≡ No why
-no_says (no.Wires has wants) = refl
-no_says (no.Public at) = refl
-no_says (no.Constraint at) = refl
+no_says : (why : NoWhy) (verdict : Verdict) → no_verdict why ≡ Some verdict → verdict_status verdict ≡ No why
+no_says (no.Wires has wants) verdict e = let same : WireCount has wants ≡ verdict = cc in rw (← same) refl
+no_says (no.Public at) verdict e = let same : NoPublic at ≡ verdict = cc in rw (← same) refl
+no_says (no.Constraint at) verdict e = let same : NoConstraint at ≡ verdict = cc in rw (← same) refl
+no_says (no.End end) verdict e = cc
 
-no_yes : (why : NoWhy) → no_verdict why ≢ Yes
-no_yes (no.Wires has wants) e = cc
-no_yes (no.Public at) e = cc
-no_yes (no.Constraint at) e = cc
+no_yes : (why : NoWhy) (verdict : Verdict) → no_verdict why ≡ Some verdict → verdict ≢ Yes
+no_yes (no.Wires has wants) verdict e is = cc
+no_yes (no.Public at) verdict e is = cc
+no_yes (no.Constraint at) verdict e is = cc
+no_yes (no.End end) verdict e is = cc
 
 no_container : (verdict : Verdict) (at : ℕ) (why : ReadWhy) → (¬ (verdict_status verdict ≡ BadSystem at why)) × (¬ (verdict_status verdict ≡ BadWitness at why))
 no_container Yes at why = (λ e. cc, λ e. cc)
@@ -209,7 +211,7 @@ refuted_by : (files : Names) (system witness tape : List ℕ) (told : NoWhy) →
     Refuted files system witness tape told
 refuted_by files system witness tape told (Judged s z x given) e =
     let is = no_of (judge s z x) told (rw (given_gives files system witness tape s z x given) at e) in
-    record { s = s; z = z; x = x; given = given; wrong = (no_exactly s z x (no_verdict told) (no_yes told)).0 is }
+    record { s = s; z = z; x = x; given = given; verdict = judge s z x; is = is; wrong = (no_exactly s z x (judge s z x) (no_yes told (judge s z x) is)).0 refl }
 refuted_by files system witness tape told (FaultySystem at why bad) e = let h = rw (bad_system_gives files system witness tape at why bad) at e in cc
 refuted_by files system witness tape told (FaultyWitness at why bad) e = let h = rw (bad_witness_gives files system witness tape at why bad) at e in cc
 refuted_by files system witness tape told (Otherwise status is other) e = absurd (other.no told (rw is at e))
@@ -248,8 +250,8 @@ accepted_gives files system witness tape accepted =
 
 refuted_gives : (files : Names) (system witness tape : List ℕ) (why : NoWhy) → Refuted files system witness tape why → status_of verdict_status (check_of system witness tape files).gives ≡ No why
 refuted_gives files system witness tape why refuted =
-    let is = (no_exactly refuted.s refuted.z refuted.x (no_verdict why) (no_yes why)).1 refuted.wrong in
-    rw (given_gives files system witness tape refuted.s refuted.z refuted.x refuted.given, is) (no_says why)
+    let is = (no_exactly refuted.s refuted.z refuted.x refuted.verdict (no_yes why refuted.verdict refuted.is)).1 refuted.wrong in
+    rw (given_gives files system witness tape refuted.s refuted.z refuted.x refuted.given, is) (no_says why refuted.verdict refuted.is)
 
 -- ---- how the call ended
 

@@ -73,6 +73,7 @@ finds_read view word reach name status read old new (Ok y) within contents gives
   absent = λ files told. inl (ap (λ (outside : Outside). outside.absent) looks);
   only = rw looks (record { contents = refl; said = refl; later = search rules });
   caused = λ at e. cc;
+  done = λ e. cc;
   usage = λ e. cc;
   same_name = λ first second e. cc;
 }
@@ -81,12 +82,13 @@ finds_read view word reach name status read old new (Err why) within contents gi
   absent = λ files told. elim (looks.there files told) [ inl same ↦ inl same | inr none ↦ inr (word, ap (held_in word status read) none) ];
   only = looks.only;
   caused = λ at e. let is = fault_only word status why at contents cc in (is.0, looks.fault is.1);
+  done = λ e. of_contents word status why _ (λ fault. (contents fault).done) (λ h. cc) (λ h. cc) cc;
   usage = λ e. of_contents word status why _ (λ fault. (contents fault).usage) (λ h. cc) (λ h. cc) cc;
   same_name = λ first second e. of_contents word status why _ (λ fault. (contents fault).same_name first second) (λ h. cc) (λ h. cc) cc;
 }
 
 pub system_contents : (fault : Fault) → IsOfContents (system_status fault)
-system_contents fault = record { usage = λ e. cc; same_name = λ first second e. cc; fault = λ word e. cc }
+system_contents fault = record { done = λ e. cc; usage = λ e. cc; same_name = λ first second e. cc; fault = λ word e. cc }
 
 pub witness_contents : (fault : Fault) → IsOfContents (witness_status fault)
-witness_contents fault = record { usage = λ e. cc; same_name = λ first second e. cc; fault = λ word e. cc }
+witness_contents fault = record { done = λ e. cc; usage = λ e. cc; same_name = λ first second e. cc; fault = λ word e. cc }

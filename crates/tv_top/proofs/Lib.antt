@@ -10,4 +10,7 @@ pub mod Ending
 pub mod Checked
 pub mod Programs
 pub mod ComesBack
+pub mod Fitting
+pub mod RunEnds
+pub mod Runs
 mod WorkedLines

@@ -34,6 +34,7 @@ finds_on view to First Then Any due f old mid new x found any one two = record {
   ];
   only = record { contents = two.only.contents ∙ one.only.contents; said = two.only.said ∙ one.only.said; later = search rules };
   caused = λ word e. let cause = two.caused word e in (any word cause.0, omega (arith, cause.1));
+  done = two.done;
   usage = two.usage;
   same_name = two.same_name;
 }
@@ -49,6 +50,7 @@ finds_stop view to First Any due f old new why any finds = record {
   ];
   only = finds.only;
   caused = λ word e. let cause = finds.caused word cc in (any word cause.0, cause.1);
+  done = λ e. finds.done cc;
   usage = λ e. finds.usage cc;
   same_name = λ first second e. finds.same_name first second cc;
 }

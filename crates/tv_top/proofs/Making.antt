@@ -8,11 +8,13 @@ use Rattle.tv_files.specs.Outside.{Names, Outside}
 use Rattle.tv_top.specs.declared.limits.TheConstants.{IMAGE_WORDS}
 use Rattle.tv_top.specs.declared.status.Status.{Status}
 use Rattle.tv_top.specs.declared.status.Status.TheVariants as status
-use Rattle.tv_top.specs.Outcome.{Look, ◌>>=◌, image_of, assembly_status, text_of}
+use Rattle.tv_top.specs.Outcome.{Look, ◌>>=◌, image_of, assembly_status, asm_status, program_of, text_of}
+use Rattle.tv_top.specs.Outcome as outcome
 use Rattle.tv_top.specs.Finds.{IsFound, Finds, Makes}
 
 -- a refusal of what a file holds: none of the words, and no fault
 pub record IsOfContents (why : Status) : Type 0 where
+  pub done : ¬ (why ≡ status.Done)
   pub usage : ¬ (why ≡ status.Usage)
   pub same_name : (first second : ℕ) → ¬ (why ≡ status.SameName first second)
   pub fault : (word : ℕ) → ¬ (why ≡ status.FileFault word)
@@ -41,6 +43,7 @@ made_found view of_read IsRead look f at read made old new contents finds makes 
   ];
   only = finds.only;
   caused = λ word e. absurd (elim (refused_as view (f (of_read read)) made (status.FileFault word) makes (contents (of_read read)) e) [ inl is ↦ (is.fault word) refl | inr is ↦ cc ]);
+  done = λ e. elim (refused_as view (f (of_read read)) made status.Done makes (contents (of_read read)) e) [ inl is ↦ is.done refl | inr is ↦ cc ];
   usage = λ e. elim (refused_as view (f (of_read read)) made status.Usage makes (contents (of_read read)) e) [ inl is ↦ is.usage refl | inr is ↦ cc ];
   same_name = λ first second e.
       elim (refused_as view (f (of_read read)) made (status.SameName first second) makes (contents (of_read read)) e) [ inl is ↦ is.same_name first second refl | inr is ↦ cc ];
@@ -49,18 +52,28 @@ made_found view of_read IsRead look f at read made old new contents finds makes 
 -- a program text without an image is refused for its contents
 refused_text : (found : Result (List ℕ) AsmFault) (why : Status) → assembly_status found ≡ Err why → IsOfContents why
 refused_text (Ok words) why e = cc
-refused_text (Err (Bad line reason)) why e = record { usage = λ is. cc; same_name = λ first second is. cc; fault = λ word is. cc }
-refused_text (Err (TooMany line most)) why e = record { usage = λ is. cc; same_name = λ first second is. cc; fault = λ word is. cc }
-refused_text (Err Memory) why e = record { usage = λ is. cc; same_name = λ first second is. cc; fault = λ word is. cc }
+refused_text (Err (Bad line reason)) why e = record { done = λ is. cc; usage = λ is. cc; same_name = λ first second is. cc; fault = λ word is. cc }
+refused_text (Err (TooMany line most)) why e = record { done = λ is. cc; usage = λ is. cc; same_name = λ first second is. cc; fault = λ word is. cc }
+refused_text (Err Memory) why e = record { done = λ is. cc; usage = λ is. cc; same_name = λ first second is. cc; fault = λ word is. cc }
 
 pub image_refused : (text : List ℕ) (why : Status) → image_of text ≡ Err why → IsOfContents why
 unfolding image_of
 image_refused text why e = refused_text (assembled 32 IMAGE_WORDS text) why e
 
+refused_program : (found : Result (List ℕ) AsmFault) (why : Status) → outcome.refused_as asm_status found ≡ Err why → IsOfContents why
+refused_program (Ok words) why e = cc
+refused_program (Err (Bad line reason)) why e = record { done = λ is. cc; usage = λ is. cc; same_name = λ first second is. cc; fault = λ word is. cc }
+refused_program (Err (TooMany line most)) why e = record { done = λ is. cc; usage = λ is. cc; same_name = λ first second is. cc; fault = λ word is. cc }
+refused_program (Err Memory) why e = record { done = λ is. cc; usage = λ is. cc; same_name = λ first second is. cc; fault = λ word is. cc }
+
+pub program_refused : (text : List ℕ) (why : Status) → program_of text ≡ Err why → IsOfContents why
+unfolding program_of
+program_refused text why e = refused_program (assembled 32 IMAGE_WORDS text) why e
+
 -- so is an image that isn't whole instructions
 refused_bytes : (test : Bool) (text : List ℕ) (len : ℕ) (why : Status) → cond test (Ok text) (Err (status.BadImage len)) ≡ Err why → IsOfContents why
 refused_bytes true text len why e = cc
-refused_bytes false text len why e = record { usage = λ is. cc; same_name = λ first second is. cc; fault = λ word is. cc }
+refused_bytes false text len why e = record { done = λ is. cc; usage = λ is. cc; same_name = λ first second is. cc; fault = λ word is. cc }
 
 pub text_refused : (image : List ℕ) (why : Status) → text_of image ≡ Err why → IsOfContents why
 unfolding text_of

@@ -5,10 +5,10 @@ use Rattle.tv_files.specs.Whole.{HasPart}
 use Rattle.tv_top.specs.declared.status.Status.{Status}
 use Rattle.tv_top.specs.declared.status.Status.TheVariants.{Usage, FileFault, SameName}
 use Rattle.tv_top.specs.Codes.{says}
-use Rattle.tv_top.specs.Outcome.{Look, Job, Answer, stored_by, report_of, outcome}
+use Rattle.tv_top.specs.Outcome.{Look, Job, Answer, stored_by, outcome}
 use Rattle.tv_top.specs.Finds.{Finds}
 use Rattle.tv_top.specs.Ends.{IsCutInWriting, Ends, Stores}
-use Rattle.tv_top.specs.Answers.{IsRead, IsWritten, written_names, ChangedAt, Answers}
+use Rattle.tv_top.specs.Answers.{IsRead, IsWritten, IsReport, written_names, ChangedAt, Answers}
 
 -- the answer to what was found: it is written
 abbrev answer : ℕ → List ℕ → ℕ → List ℕ → Answer
@@ -86,7 +86,7 @@ changed word name bytes old mid new result same stores = elim stores.ended [
 -- a job whose one file was written, from bytes that were found
 pub answers_stored : {X : Type 0} (asked : Job) (view : X → List ℕ) (word : ℕ) (name : List ℕ) (due : Names → Look (List ℕ)) (found : X) (count : ℕ)
     (old mid new : Outside) (result : Status) →
-    ((files : Names) → outcome (Ok asked) files ≡ stored_by word name (due files)) → report_of (Ok asked) ≡ None → written_names (Ok asked) ≡ name ∷ [] → IsWritten (Ok asked) word →
+    ((files : Names) → outcome (Ok asked) files ≡ stored_by word name (due files)) → IsReport (Ok asked) None → written_names (Ok asked) ≡ name ∷ [] → IsWritten (Ok asked) word →
     Finds view (IsRead (Ok asked)) due old mid (Ok found) → Stores word name (view found) mid new result → Answers (Ok asked) count old new result
 answers_stored asked view word name due found count old mid new result is_outcome is_report is_named is_word finds stores =
     let bytes = view found in
@@ -102,7 +102,7 @@ answers_stored asked view word name due found count old mid new result is_outcom
       caused = λ told e.
           let cause = stored_cause word name bytes mid new result told stores e in
           inr (inl (rw cause.0 at is_word, omega (arith, cause.1)));
-      said = inl (rw (is_report, stored_says_nothing word name bytes mid new result stores) (stores.only.said ∙ finds.only.said));
+      said = (None, is_report, inl (rw (stored_says_nothing word name bytes mid new result stores) (stores.only.said ∙ finds.only.said)));
       contents = rw is_named (changed word name bytes old mid new result finds.only.contents stores);
       later = search rules;
     }

@@ -41,6 +41,7 @@ finds_same view IsRead due other old new found same finds = record {
   absent = λ files told. rw (← same files) (finds.absent files told);
   only = finds.only;
   caused = finds.caused;
+  done = finds.done;
   usage = finds.usage;
   same_name = finds.same_name;
 }

@@ -3,10 +3,12 @@ use Rattle.std.proofs.Common.{◌≡◌, [], ◌∷◌, Some, None, Ok, Err, ref
 use Rattle.std.specs.Fmt.{digits}
 use Rattle.tv_asm.specs.declared.fault.AsmWhy.TheVariants.{UnknownLabel, Operands}
 use Rattle.tv_r1cs_read.specs.declared.why.ReadWhy.TheVariants.{BadVersion, Missing, Doubled, BadCount, WireRange, NotCanonical, Truncated, TooWide}
-use Rattle.tv_top.specs.declared.status.Status.TheVariants.{Usage, BadProgram, BadTape, BadSystem, BadWitness, Limit, SameName, BadImage}
-use Rattle.tv_top.specs.declared.status.What.TheVariants.{ImageWords, TapeWords}
+use Rattle.tv_step.specs.declared.end.End.TheVariants as ends
+use Rattle.tv_top.specs.declared.status.NoWhy.TheVariants as no
+use Rattle.tv_top.specs.declared.status.Status.TheVariants.{No, Usage, BadProgram, BadTape, BadSystem, BadWitness, Limit, SameName, BadImage}
+use Rattle.tv_top.specs.declared.status.What.TheVariants.{ImageWords, TapeWords, Steps}
 use Rattle.tv_top.specs.Codes.{line}
-use Rattle.tv_top.specs.Outcome.{Asm, job, image_bytes}
+use Rattle.tv_top.specs.Outcome.{Asm, Run, job, image_bytes}
 
 program_line : line None (BadProgram 1 (Operands 2 3)) ≡ Some (codes "bad program: line 1: 2 operands, 3 wanted")
 unfolding digits
@@ -68,7 +70,32 @@ image_line : line None (BadImage 12) ≡ Some (codes "bad image: 12 bytes")
 unfolding digits
 image_line = refl
 
+answer_line : line None (No (no.End (ends.Answer 9 4))) ≡ Some (codes "answer 9 at step 4")
+unfolding digits
+answer_line = refl
+
+undefined_line : line None (No (no.End (ends.Undefined 23 1))) ≡ Some (codes "undefined opcode 23 at step 1")
+unfolding digits
+undefined_line = refl
+
+silent_line : line None (No (no.End (ends.Silent 64))) ≡ Some (codes "no answer in 64 steps")
+unfolding digits
+silent_line = refl
+
+steps_line : line None (Limit Steps 0 65536) ≡ Some (codes "limit: steps 0, most 65536")
+unfolding digits
+steps_line = refl
+
 -- ---- words
+
+least_steps : job (codes "run" ∷ codes "x" ∷ codes "x" ∷ codes "x" ∷ codes "01" ∷ []) ≡ Ok (Run (codes "x") (codes "x") (codes "x") 1)
+least_steps = refl
+
+no_steps : job (codes "run" ∷ codes "x" ∷ codes "y" ∷ codes "z" ∷ codes "0" ∷ []) ≡ Err (Limit Steps 0 65536)
+no_steps = refl
+
+no_number : job (codes "run" ∷ codes "x" ∷ codes "y" ∷ codes "z" ∷ codes "+1" ∷ []) ≡ Err Usage
+no_number = refl
 
 one_name : job (codes "asm" ∷ codes "x" ∷ codes "x" ∷ []) ≡ Err (SameName 1 2)
 one_name = refl

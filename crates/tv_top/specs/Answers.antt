@@ -1,10 +1,11 @@
 -- What every call of the command promises, by what its words ask for.
-use Rattle.std.specs.Prelude.{◌≡◌, ℕ, ◌≤◌, ◌<◌, ◌⊎◌, List, [], ◌∷◌, Option, None, option_map, Result, Ok, Err}
+use Rattle.std.specs.Prelude.{◌≡◌, ℕ, ◌≤◌, ◌<◌, ◌⊎◌, List, [], ◌∷◌, Option, Some, None, option_map, Result, Ok, Err, codes}
 use Rattle.tv_files.specs.Outside.{Names, Outside, Told, Rose, NoneFell, with_bytes}
+use Rattle.tv_step.specs.declared.end.End.TheVariants as ends
 use Rattle.tv_top.specs.declared.status.Status.{Status}
 use Rattle.tv_top.specs.declared.status.Status.TheVariants.{Usage, FileFault, Memory, SameName}
-use Rattle.tv_top.specs.Codes.{says}
-use Rattle.tv_top.specs.Outcome.{Job, Asm, Disasm, Check, report_of, outcome}
+use Rattle.tv_top.specs.Codes.{end_text, says}
+use Rattle.tv_top.specs.Outcome.{Job, Asm, Disasm, Check, Run, outcome}
 use Rattle.tv_top.specs.Ends.{Said, SaidPart, Ends, IsConcluded}
 
 -- the word is one at which the name of a file to be read stands
@@ -12,6 +13,7 @@ abbrev pub IsRead : Result Job Status → ℕ → Type 0
 IsRead (Ok (Asm _ _)) word = word ≡ 1
 IsRead (Ok (Disasm _ _)) word = word ≡ 1
 IsRead (Ok (Check _ _ _)) word = (0 < word) × (word ≤ 3)
+IsRead (Ok (Run _ _ _ _)) word = (0 < word) × (word ≤ 3)
 IsRead (Err _) word = ⊥
 
 -- the word is one at which the name of a file to be written stands
@@ -19,6 +21,7 @@ abbrev pub IsWritten : Result Job Status → ℕ → Type 0
 IsWritten (Ok (Asm _ _)) word = word ≡ 2
 IsWritten (Ok (Disasm _ _)) word = word ≡ 2
 IsWritten (Ok (Check _ _ _)) word = ⊥
+IsWritten (Ok (Run _ _ _ _)) word = ⊥
 IsWritten (Err _) word = ⊥
 
 -- the names of the files to be written
@@ -26,13 +29,28 @@ abbrev pub written_names : Result Job Status → List (List ℕ)
 written_names (Ok (Asm _ image)) = image ∷ []
 written_names (Ok (Disasm _ text)) = text ∷ []
 written_names (Ok (Check _ _ _)) = []
+written_names (Ok (Run _ _ _ _)) = []
 written_names (Err _) = []
+
+-- what the command of a job may say where it is done: for `run` it tells the step of the answer 0
+abbrev pub IsReport : Result Job Status → Option (List ℕ) → Type 0
+IsReport (Ok (Asm _ _)) report = report ≡ None
+IsReport (Ok (Disasm _ _)) report = report ≡ None
+IsReport (Ok (Check _ _ _)) report = report ≡ Some (codes "yes")
+IsReport (Ok (Run _ _ _ _)) report = (step : ℕ) × (report ≡ Some (end_text (ends.Answer 0 step)))
+IsReport (Err _) report = report ≡ None
 
 -- the files, where they are told, changed at most at these names
 abbrev pub ChangedAt : List (List ℕ) → Option Names → Option Names → Type 0
 ChangedAt [] old new = new ≡ old
 ChangedAt (name ∷ names) old new =
     ChangedAt names old new ⊎ ((bytes : List ℕ) × ChangedAt names (option_map (with_bytes name bytes) old) new)
+
+-- the line of the status was said, or, after a fault of saying or want of memory, a prefix of a line
+abbrev pub IsSaid : Option (List ℕ) → ℕ → Outside → Outside → Status → Type 0
+IsSaid report words old new result = Said old new (says report result)
+    ⊎ (((result ≡ FileFault words) ⊎ (result ≡ Memory))
+    × (status : Status) × SaidPart old new (says report status))
 
 -- What every call promises, by what its words ask for. The first two are of files whose contents are
 -- told, the others of any files.
@@ -54,9 +72,7 @@ pub record Answers (asked : Result Job Status) (words : ℕ) (old new : Outside)
       ⊎ (IsWritten asked word × Rose old.write_faults new.write_faults)
       ⊎ ((word ≡ words) × Rose old.say_faults new.say_faults)
   -- the line of the status was said; a fault of saying and want of memory leave a prefix of a line
-  pub said : Said old new (says (report_of asked) result)
-      ⊎ (((result ≡ FileFault words) ⊎ (result ≡ Memory))
-      × (status : Status) × SaidPart old new (says (report_of asked) status))
+  pub said : (report : Option (List ℕ)) × IsReport asked report × IsSaid report words old new result
   -- every file but those that are to be written is as it was, and no count fell
   pub contents : ChangedAt (written_names asked) old.contents new.contents
   pub later : NoneFell old new

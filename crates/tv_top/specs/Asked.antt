@@ -7,3 +7,4 @@ abbrev pub asked : Job → outcome.Job
 asked (code.Asm text image) = outcome.Asm text.now image.now
 asked (code.Disasm image text) = outcome.Disasm image.now text.now
 asked (code.Check system witness tape) = outcome.Check system.now witness.now tape.now
+asked (code.Run text tape aux steps) = outcome.Run text.now tape.now aux.now steps

@@ -1,5 +1,5 @@
 -- What the command promises, in the words of its user.
-use Rattle.std.specs.Prelude.{◌≡◌, ◌≢◌, ℕ, ◌%◌, ◌<◌, ◌≤◌, ◌⊎◌, List, length, Option, Some, Result, Ok, Err, All}
+use Rattle.std.specs.Prelude.{◌≡◌, ◌≢◌, ℕ, ◌%◌, ◌^◌, ◌<◌, ◌≤◌, ◌⊎◌, List, length, Option, Some, None, Result, Ok, Err, All}
 use Rattle.tv_asm.specs.Assembly.{assembled}
 use Rattle.tv_asm.specs.declared.fault.AsmFault.{AsmFault}
 use Rattle.tv_asm.specs.declared.fault.AsmFault.TheVariants.{Bad}
@@ -14,11 +14,14 @@ use Rattle.tv_files.specs.Outside.{Names, Outside, Rose, with_bytes}
 use Rattle.tv_r1cs_read.specs.Places.{wrong}
 use Rattle.tv_r1cs_read.specs.R1cs.{system_of}
 use Rattle.tv_r1cs_read.specs.declared.why.ReadWhy.{ReadWhy}
+use Rattle.tv_step.specs.Machine.{start, end_of, Accepts}
+use Rattle.tv_step.specs.declared.end.End.{End}
+use Rattle.tv_step.specs.declared.end.End.TheVariants as ends
 use Rattle.tv_tape.specs.Tape.{tape_of}
 use Rattle.tv_wtns.specs.Wtns.{assignment_of}
-use Rattle.tv_top.specs.declared.limits.TheConstants.{TEXT_BYTES, IMAGE_WORDS, IMAGE_BYTES, CHECK_TAPE_WORDS}
+use Rattle.tv_top.specs.declared.limits.TheConstants.{TEXT_BYTES, IMAGE_WORDS, IMAGE_BYTES, CHECK_TAPE_WORDS, TAPE_WORDS, AUX_WORDS}
 use Rattle.tv_top.specs.declared.status.NoWhy.{NoWhy}
-use Rattle.tv_top.specs.declared.status.NoWhy.TheVariants.{Public, Constraint, Wires}
+use Rattle.tv_top.specs.declared.status.NoWhy.TheVariants as no
 use Rattle.tv_top.specs.declared.status.Status.{Status}
 use Rattle.tv_top.specs.declared.status.Status.TheVariants.{Done, No, BadProgram, BadSystem, BadWitness, FileFault, Memory, BadImage}
 use Rattle.tv_top.specs.Outcome.{image_bytes, image_of}
@@ -51,11 +54,12 @@ pub record Accepted (files : Names) (system witness tape : List ℕ) : Type 0 wh
   pub sat : Sat s z
   pub extends : Extends s z x
 
--- the verdict that a no tells
-abbrev pub no_verdict : NoWhy → Verdict
-no_verdict (Wires has wants) = WireCount has wants
-no_verdict (Public at) = NoPublic at
-no_verdict (Constraint at) = NoConstraint at
+-- the verdict that a no tells; the end of a run is none
+abbrev pub no_verdict : NoWhy → Option Verdict
+no_verdict (no.Wires has wants) = Some (WireCount has wants)
+no_verdict (no.Public at) = Some (NoPublic at)
+no_verdict (no.Constraint at) = Some (NoConstraint at)
+no_verdict (no.End end) = None
 
 -- they hold a system, an assignment and public numbers of which the no is true
 pub record Refuted (files : Names) (system witness tape : List ℕ) (why : NoWhy) : Type 0 where
@@ -63,7 +67,9 @@ pub record Refuted (files : Names) (system witness tape : List ℕ) (why : NoWhy
   pub z : List ℕ
   pub x : List ℕ
   pub given : Given files system witness tape s z x
-  pub wrong : Tells (no_verdict why) s z x
+  pub verdict : Verdict
+  pub is : no_verdict why ≡ Some verdict
+  pub wrong : Tells verdict s z x
 
 -- the system's file holds no system, and this is its first fault
 abbrev pub IsBadSystem : Names → List ℕ → ℕ → ReadWhy → Type 0
@@ -146,3 +152,42 @@ pub record Disasms (files : Names) (image text : List ℕ) (old new : Outside) (
 abbrev pub ImageComesBack : Type 0
 ImageComesBack = (image : List ℕ) → All (λ b. b < 256) image → length image % 8 ≡ 0 → length image ≤ IMAGE_BYTES
     → (length (disassembly_of 32 image) ≤ TEXT_BYTES) × (image_of (disassembly_of 32 image) ≡ Ok image)
+
+-- the file holds the text of a tape: at most so many words
+pub record HoldsWords (most : ℕ) (file : Option (List ℕ)) (words : List ℕ) : Type 0 where
+  pub bytes : List ℕ
+  pub input : IsInput TEXT_BYTES file bytes
+  pub reads : tape_of bytes (2 ^ 32) most ≡ Ok words
+
+-- three files hold a program text with this image and the words of two tapes
+pub record Loaded (files : Names) (text tape aux image primary auxiliary : List ℕ) : Type 0 where
+  pub program : Assembles (files text) (Ok image)
+  pub in_tape : HoldsWords TAPE_WORDS (files tape) primary
+  pub in_aux : HoldsWords AUX_WORDS (files aux) auxiliary
+
+-- they hold such, and the machine answers 0 on them within the steps
+pub record AcceptedRun (files : Names) (text tape aux : List ℕ) (steps : ℕ) : Type 0 where
+  pub image : List ℕ
+  pub primary : List ℕ
+  pub auxiliary : List ℕ
+  pub loaded : Loaded files text tape aux image primary auxiliary
+  pub accepts : Accepts 32 image primary auxiliary steps
+
+-- they hold such, and so the run on them ends
+pub record Ran (files : Names) (text tape aux : List ℕ) (steps : ℕ) (end : End) : Type 0 where
+  pub image : List ℕ
+  pub primary : List ℕ
+  pub auxiliary : List ℕ
+  pub loaded : Loaded files text tape aux image primary auxiliary
+  pub ends : end_of 32 steps (start 32 image primary auxiliary) ≡ end
+
+-- What `run TEXT TAPE AUX T` promises over files that hold this, T being within its limit: it is done
+-- exactly where the machine answers 0 within T steps, and says no exactly where its run ends otherwise,
+-- with that end.
+pub record Runs (files : Names) (text tape aux : List ℕ) (steps : ℕ) (old new : Outside) (result : Status) : Type 0 where
+  pub done : result ≡ Done → AcceptedRun files text tape aux steps
+  pub accepted : AcceptedRun files text tape aux steps → (result ≡ Done) ⊎ IsHindered old new result
+  pub says_no : (why : NoWhy) → result ≡ No why
+      → (end : End) × (why ≡ no.End end) × Ran files text tape aux steps end × ((step : ℕ) → end ≢ ends.Answer 0 step)
+  pub ended : (end : End) → Ran files text tape aux steps end → ((step : ℕ) → end ≢ ends.Answer 0 step)
+      → (result ≡ No (no.End end)) ⊎ IsHindered old new result

@@ -4,10 +4,12 @@ use Rattle.tv_asm.specs.declared.fault.AsmWhy.{AsmWhy}
 use Rattle.tv_asm.specs.declared.fault.AsmWhy.TheVariants.{NotText, BadHeader, BadLabel, DoubledLabel, UnknownName, Operands, BadRegister, BadNumber, UnknownLabel}
 use Rattle.tv_r1cs_read.specs.declared.why.ReadWhy.{ReadWhy}
 use Rattle.tv_r1cs_read.specs.declared.why.ReadWhy.TheVariants.{BadMagic, BadVersion, Missing, Doubled, OtherPrime, BadCount, WireRange, NotCanonical, Truncated, TooWide, Trailing}
+use Rattle.tv_step.specs.declared.end.End.{End}
+use Rattle.tv_step.specs.declared.end.End.TheVariants as ends
 use Rattle.tv_top.specs.declared.status.NoWhy.{NoWhy}
-use Rattle.tv_top.specs.declared.status.NoWhy.TheVariants.{Public, Constraint, Wires}
+use Rattle.tv_top.specs.declared.status.NoWhy.TheVariants as no
 use Rattle.tv_top.specs.declared.status.What.{What}
-use Rattle.tv_top.specs.declared.status.What.TheVariants.{ImageWords, ImageBytes, TapeWords, TextBytes}
+use Rattle.tv_top.specs.declared.status.What.TheVariants.{ImageWords, ImageBytes, TapeWords, AuxWords, TextBytes, Steps}
 use Rattle.tv_top.specs.declared.status.Status.{Status}
 use Rattle.tv_top.specs.declared.status.Status.TheVariants.{Done, No, Usage, BadProgram, BadTape, BadSystem, BadWitness, Limit, FileFault, Memory, SameName, BadImage}
 
@@ -26,10 +28,18 @@ code_of Memory = 9
 code_of (SameName _ _) = 12
 code_of (BadImage _) = 13
 
-abbrev pub why_text : NoWhy → List ℕ
-why_text (Public at) = codes "public wire " ++ decimal at
-why_text (Constraint at) = codes "constraint " ++ decimal at
-why_text (Wires has wants) = decimal has ++ codes " wires, " ++ decimal wants ++ codes " wanted"
+-- how a run ends
+abbrev pub end_text : End → List ℕ
+end_text (ends.Answer value step) = codes "answer " ++ decimal value ++ codes " at step " ++ decimal step
+end_text (ends.Undefined op step) = codes "undefined opcode " ++ decimal op ++ codes " at step " ++ decimal step
+end_text (ends.Silent steps) = codes "no answer in " ++ decimal steps ++ codes " steps"
+
+-- why the answer is no
+abbrev pub no_text : NoWhy → List ℕ
+no_text (no.Public at) = codes "no: public wire " ++ decimal at
+no_text (no.Constraint at) = codes "no: constraint " ++ decimal at
+no_text (no.Wires has wants) = codes "no: " ++ decimal has ++ codes " wires, " ++ decimal wants ++ codes " wanted"
+no_text (no.End end) = end_text end
 
 -- why a line of a program is refused
 abbrev pub asm_text : AsmWhy → List ℕ
@@ -62,13 +72,15 @@ abbrev pub what_text : What → List ℕ
 what_text ImageWords = codes "image words"
 what_text ImageBytes = codes "image bytes"
 what_text TapeWords = codes "tape words"
+what_text AuxWords = codes "aux words"
 what_text TextBytes = codes "text bytes"
+what_text Steps = codes "steps"
 
 -- the line that is said, without its end, where Done says the report; nothing is said after a fault or
 -- want of memory
 abbrev pub line : Option (List ℕ) → Status → Option (List ℕ)
 line report Done = report
-line report (No why) = Some (codes "no: " ++ why_text why)
+line report (No why) = Some (no_text why)
 line report Usage = Some (codes "usage: asm, disasm, run, build, witness, check, extract, trial")
 line report (BadProgram number why) = Some (codes "bad program: line " ++ decimal number ++ codes ": " ++ asm_text why)
 line report (BadTape word at) = Some (codes "bad tape: word " ++ decimal word ++ codes ", item " ++ decimal at)

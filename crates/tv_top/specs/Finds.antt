@@ -2,7 +2,7 @@
 use Rattle.std.specs.Prelude.{◌≡◌, ℕ, ◌≤◌, ◌⊎◌, Result, Ok, Err}
 use Rattle.tv_files.specs.Outside.{Names, Outside, Told, Rose, OnlyReads}
 use Rattle.tv_top.specs.declared.status.Status.{Status}
-use Rattle.tv_top.specs.declared.status.Status.TheVariants.{Usage, FileFault, Memory, SameName}
+use Rattle.tv_top.specs.declared.status.Status.TheVariants.{Done, Usage, FileFault, Memory, SameName}
 use Rattle.tv_top.specs.Outcome.{Look}
 
 -- what was found is what is due; or reading failed at a word that was looked at; or memory was wanting
@@ -21,6 +21,7 @@ pub record Finds {X A : Type 0} (view : X → A) (IsRead : ℕ → Type 0) (due 
   pub only : OnlyReads old new
   pub caused : (word : ℕ) → found ≡ Err (FileFault word)
       → IsRead word × Rose old.read_faults new.read_faults
+  pub done : ¬ (found ≡ Err Done)
   pub usage : ¬ (found ≡ Err Usage)
   pub same_name : (first second : ℕ) → ¬ (found ≡ Err (SameName first second))
 

@@ -15,5 +15,6 @@ pub use Rattle.tv_check.specs.Meaning
 pub use Rattle.tv_check.specs.Verdict
 pub use Rattle.tv_r1cs_read.specs.Places
 pub use Rattle.tv_r1cs_read.specs.R1cs
+pub use Rattle.tv_step.specs.Machine
 pub use Rattle.tv_tape.specs.Tape
 pub use Rattle.tv_wtns.specs.Wtns

@@ -1,5 +1,5 @@
 -- What a command answers, by its words and by what the files hold.
-use Rattle.std.specs.Prelude.{ℕ, ◌+◌, ◌%◌, ◌==◌, max, List, [], ◌∷◌, length, Option, Some, None, Result, Ok, Err, codes, nat_le, if◌then◌else◌}
+use Rattle.std.specs.Prelude.{ℕ, zero, suc, ◌+◌, ◌%◌, ◌==◌, ◌||◌, ◌^◌, max, List, [], ◌∷◌, length, Option, Some, None, Result, Ok, Err, codes, nat_le, nat_lt, if◌then◌else◌}
 use Rattle.std.specs.List.{flat_map}
 use Rattle.std.specs.Str.{bytes_eq}
 use Rattle.tv_asm.specs.Assembly.{assembled}
@@ -15,28 +15,38 @@ use Rattle.tv_disasm.specs.declared.fault.DisFault.{DisFault}
 use Rattle.tv_disasm.specs.declared.fault.DisFault.TheVariants as dis
 use Rattle.tv_r1cs_read.specs.Places.{Fault}
 use Rattle.tv_r1cs_read.specs.R1cs.{system_of}
+use Rattle.tv_step.specs.Machine.{start, end_of}
+use Rattle.tv_step.specs.declared.end.End.{End}
+use Rattle.tv_step.specs.declared.end.End.TheVariants as ends
 use Rattle.tv_tape.specs.Tape.{tape_of}
 use Rattle.tv_tape.specs.declared.items.TapeFault.{TapeFault}
 use Rattle.tv_tape.specs.declared.items.TapeFault.TheVariants as tape
 use Rattle.tv_wtns.specs.Wtns.{assignment_of}
+use Rattle.tv_word.specs.Numeral.{numeral}
 use Rattle.tv_word.specs.Word.{word_bytes}
-use Rattle.tv_top.specs.declared.limits.TheConstants.{TEXT_BYTES, IMAGE_WORDS, IMAGE_BYTES, CHECK_TAPE_WORDS}
-use Rattle.tv_top.specs.declared.status.NoWhy.TheVariants.{Public, Constraint, Wires}
+use Rattle.tv_top.specs.declared.limits.TheConstants.{TEXT_BYTES, IMAGE_WORDS, IMAGE_BYTES, CHECK_TAPE_WORDS, TAPE_WORDS, AUX_WORDS, STEPS}
+use Rattle.tv_top.specs.declared.status.NoWhy.TheVariants as no
 use Rattle.tv_top.specs.declared.status.Status.{Status}
 use Rattle.tv_top.specs.declared.status.Status.TheVariants.{Done, No, Usage, BadProgram, BadTape, BadSystem, BadWitness, Limit, FileFault, Memory, SameName, BadImage}
 use Rattle.tv_top.specs.declared.status.What.{What}
-use Rattle.tv_top.specs.declared.status.What.TheVariants.{ImageWords, ImageBytes, TapeWords, TextBytes}
-use Rattle.tv_top.specs.Codes.{says}
+use Rattle.tv_top.specs.declared.status.What.TheVariants.{ImageWords, ImageBytes, TapeWords, AuxWords, TextBytes, Steps}
+use Rattle.tv_top.specs.Codes.{end_text, says}
 
 -- what words ask for
 pub data Job : Type 0 where
   Asm : List ℕ → List ℕ → Job
   Disasm : List ℕ → List ℕ → Job
   Check : List ℕ → List ℕ → List ℕ → Job
+  Run : List ℕ → List ℕ → List ℕ → ℕ → Job
 
 -- the job, unless words 1 and 2, of which the second names a file that is to be written, are one name
 abbrev pub apart : List ℕ → List ℕ → Job → Result Job Status
 apart read written asked = if bytes_eq read written then Err (SameName 1 2) else Ok asked
+
+-- the run of a number of steps, where there is one: it may be from 1 up to the limit
+abbrev pub run_job : List ℕ → List ℕ → List ℕ → Option ℕ → Result Job Status
+run_job text tape aux None = Err Usage
+run_job text tape aux (Some steps) = if (steps == 0) || nat_lt STEPS steps then Err (Limit Steps steps STEPS) else Ok (Run text tape aux steps)
 
 -- the job of these words, where they are a command's; else the refusal
 abbrev pub job : List (List ℕ) → Result Job Status
@@ -44,6 +54,7 @@ job (name ∷ read ∷ written ∷ []) =
     if bytes_eq name (codes "asm") then apart read written (Asm read written)
     else (if bytes_eq name (codes "disasm") then apart read written (Disasm read written) else Err Usage)
 job (name ∷ system ∷ witness ∷ tape ∷ []) = if bytes_eq name (codes "check") then Ok (Check system witness tape) else Err Usage
+job (name ∷ text ∷ tape ∷ aux ∷ steps ∷ []) = if bytes_eq name (codes "run") then run_job text tape aux (numeral 10 (2 ^ 64) steps) else Err Usage
 job _ = Err Usage
 
 -- a look at files: the last word whose file was looked at, and what came of it
@@ -84,15 +95,15 @@ abbrev pub witness_status : Fault → Status
 witness_status fault = BadWitness fault.at fault.why
 
 -- what a fault of the tape at a word is answered; it is one item more that passes the limit
-abbrev pub tape_status : ℕ → TapeFault → Status
-tape_status word (tape.BadItem at) = BadTape word at
-tape_status word (tape.TooBig at) = BadTape word at
-tape_status word (tape.TooMany most) = Limit TapeWords (most + 1) most
-tape_status word tape.Memory = Memory
+abbrev pub tape_status : ℕ → What → TapeFault → Status
+tape_status word what (tape.BadItem at) = BadTape word at
+tape_status word what (tape.TooBig at) = BadTape word at
+tape_status word what (tape.TooMany most) = Limit what (most + 1) most
+tape_status word what tape.Memory = Memory
 
 -- the public numbers of a text: below P each
 unfoldable pub publics_of : List ℕ → Result (List ℕ) Status
-publics_of text = refused_as (tape_status 3) (tape_of text P CHECK_TAPE_WORDS)
+publics_of text = refused_as (tape_status 3 TapeWords) (tape_of text P CHECK_TAPE_WORDS)
 
 -- the public numbers of the tape at word 3
 unfoldable pub publics_at : List ℕ → Names → Look (List ℕ)
@@ -148,11 +159,51 @@ abbrev pub dis_status : DisFault → Status
 dis_status (dis.Ragged len) = BadImage len
 dis_status dis.Memory = Memory
 
+-- the words of the image of a program text
+unfoldable pub program_of : List ℕ → Result (List ℕ) Status
+program_of text = refused_as asm_status (assembled 32 IMAGE_WORDS text)
+
+-- the words of the image of the program text at word 1
+unfoldable pub program_at : List ℕ → Names → Look (List ℕ)
+program_at text files = do
+  bytes ← record { at = 1; gives = limited_bytes 1 TextBytes TEXT_BYTES (files text) }
+  record { at = 1; gives = program_of bytes }
+
+-- the words of the text of a tape at a word: below 2^32 each, and at most so many of this quantity
+unfoldable pub words_of : ℕ → What → ℕ → List ℕ → Result (List ℕ) Status
+words_of word what most text = refused_as (tape_status word what) (tape_of text (2 ^ 32) most)
+
+-- the words of the tape at a word
+unfoldable pub words_at : ℕ → What → ℕ → List ℕ → Names → Look (List ℕ)
+words_at word what most tape files = do
+  text ← record { at = word; gives = limited_bytes word TextBytes TEXT_BYTES (files tape) }
+  record { at = word; gives = words_of word what most text }
+
+-- the program and the two tapes, each read and judged before the next, and the end of the machine's run on them
+unfoldable pub run_of : List ℕ → List ℕ → List ℕ → ℕ → Names → Look End
+run_of text tape aux steps files = do
+  image ← program_at text files
+  primary ← words_at 2 TapeWords TAPE_WORDS tape files
+  auxiliary ← words_at 3 AuxWords AUX_WORDS aux files
+  record { at = 3; gives = Ok (end_of 32 steps (start 32 image primary auxiliary)) }
+
+-- what an end is answered: the answer 0 is what the machine accepts by
+abbrev pub end_status : End → Status
+end_status (ends.Answer zero step) = Done
+end_status (ends.Answer (suc value) step) = No (no.End (ends.Answer (suc value) step))
+end_status (ends.Undefined op step) = No (no.End (ends.Undefined op step))
+end_status (ends.Silent steps) = No (no.End (ends.Silent steps))
+
+-- what is said where an end is done
+abbrev pub end_report : Result End Status → Option (List ℕ)
+end_report (Ok end) = Some (end_text end)
+end_report (Err status) = None
+
 abbrev pub verdict_status : Verdict → Status
 verdict_status verdicts.Yes = Done
-verdict_status (verdicts.WireCount has wants) = No (Wires has wants)
-verdict_status (verdicts.NoPublic at) = No (Public at)
-verdict_status (verdicts.NoConstraint at) = No (Constraint at)
+verdict_status (verdicts.WireCount has wants) = No (no.Wires has wants)
+verdict_status (verdicts.NoPublic at) = No (no.Public at)
+verdict_status (verdicts.NoConstraint at) = No (no.Constraint at)
 
 -- the status of a result, by that of what it gives
 abbrev pub status_of : {A : Type 0} → (A → Status) → Result A Status → Status
@@ -178,13 +229,6 @@ pub record Answer : Type 0 where
   pub writes : List Write
   pub says : Option (List ℕ)
 
--- what the command of a job says where it is done
-abbrev pub report_of : Result Job Status → Option (List ℕ)
-report_of (Ok (Asm _ _)) = None
-report_of (Ok (Disasm _ _)) = None
-report_of (Ok (Check _ _ _)) = Some (codes "yes")
-report_of (Err _) = None
-
 -- the answer that only says its line
 abbrev pub said_of : Option (List ℕ) → ℕ → Status → Answer
 said_of report looked status = record { looked = looked; status = status; writes = []; says = says report status }
@@ -209,3 +253,5 @@ outcome (Ok (Asm text image)) files = stored_by 2 image (asm_of text files)
 outcome (Ok (Disasm image text)) files = stored_by 2 text (disasm_of image files)
 outcome (Ok (Check system witness tape)) files =
     answer_by verdict_status (λ _. []) (Some (codes "yes")) (check_of system witness tape files)
+outcome (Ok (Run text tape aux steps)) files =
+    answer_by end_status (λ _. []) (end_report (run_of text tape aux steps files).gives) (run_of text tape aux steps files)

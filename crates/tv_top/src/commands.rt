@@ -1,22 +1,26 @@
 //! The top call: what the words ask for is done, and one line is said.
-ghost use Rattle.std.specs.Prelude.{◌≡◌, ◌≢◌, ◌<◌, ℕ, List, [], ◌∷◌, length, map, string_bytes, codes};
+ghost use Rattle.std.specs.Prelude.{◌≡◌, ◌≢◌, ◌<◌, ◌≤◌, ◌^◌, ℕ, List, [], ◌∷◌, length, map, string_bytes, codes, Some};
 ghost use Rattle.std.specs.Option.{ForSome, option_copied};
 ghost use Rattle.tv_files.specs.Outside.{Told};
+ghost use Rattle.tv_word.specs.Numeral.{numeral};
+ghost use Rattle.tv_top.specs.declared.limits.TheConstants.{STEPS};
 ghost use Rattle.tv_top.specs.Answers.{Answers};
 ghost use Rattle.tv_top.specs.Asked.{asked};
-ghost use Rattle.tv_top.specs.Claims.{Asms, Disasms, Checks};
-ghost use Rattle.tv_top.specs.Codes.{says};
+ghost use Rattle.tv_top.specs.Claims.{Asms, Disasms, Checks, Runs};
+ghost use Rattle.tv_top.specs.Codes.{end_text, says};
 ghost use Rattle.tv_top.specs.Ends.{Concludes, Stores};
-ghost use Rattle.tv_top.specs.Outcome.{Asm, Disasm, Check, job};
+ghost use Rattle.tv_top.specs.Outcome.{Asm, Disasm, Check, Run, end_status, job};
 
 use crate::assembling::asm;
 use crate::checking::check;
 use crate::disassembling::disasm;
 use crate::job::{Job, job_of};
-use crate::line::line_of;
+use crate::line::{end_line, line_of};
+use crate::running::end_of_run;
 use crate::status::Status;
 use std::alloc::Global;
 use tv_files::{FileRefusal, Files, write_file};
+use tv_step::End;
 
 /// Says the line of a status, where it has one, by one `say`; a refusal of it is the answer then.
 /// `words` is the number of words, `report` what Done says.
@@ -93,6 +97,34 @@ fn run_check<D: Files>(
     conclude(files, words, Some("yes"), status)
 }
 
+/// Says how a run ended.
+fn conclude_run<D: Files>(files: &mut D, words: usize, end: End) -> Status
+    ensures { Concludes (end_status end) (says (Some (end_text end)) (end_status end)) words
+        (D.seen files.old) (D.seen files.new) result }
+{
+    let line = end_line(end);
+    conclude(files, words, Some(line.as_str()), Status::from(end))
+}
+
+/// `run TEXT TAPE AUX T`.
+fn run_program<D: Files>(
+    alloc: Global,
+    words: usize,
+    files: &mut D,
+    text: &str,
+    tape: &str,
+    aux: &str,
+    steps: u64,
+) -> Status
+    ensures { Answers (Ok (Run text.now tape.now aux.now steps)) words
+        (D.seen files.old) (D.seen files.new) result }
+{
+    match end_of_run(alloc, files, text, tape, aux, steps) {
+        Ok(end) => conclude_run(files, words, end),
+        Err(status) => conclude(files, words, None, status),
+    }
+}
+
 /// Does a job, given the number of words.
 fn run<D: Files>(alloc: Global, words: usize, files: &mut D, job: Job<'_>) -> Status
     ensures { Answers (Ok (asked job.entry)) words (D.seen files.old) (D.seen files.new) result }
@@ -105,6 +137,12 @@ fn run<D: Files>(alloc: Global, words: usize, files: &mut D, job: Job<'_>) -> St
             witness,
             tape,
         } => run_check(alloc, words, files, system, witness, tape),
+        Job::Run {
+            text,
+            tape,
+            aux,
+            steps,
+        } => run_program(alloc, words, files, text, tape, aux, steps),
     }
 }
 
@@ -123,7 +161,14 @@ fn run<D: Files>(alloc: Global, words: usize, files: &mut D, job: Job<'_>) -> St
 /// the tape; else `No` tells what is wrong first. `BadSystem` and `BadWitness` tell the first fault of
 /// a file, `BadTape` the first item that isn't a number below the prime, and `Limit` comes where the
 /// tape has more than 1,048,576 bytes or 65,536 items. It takes memory for the values and one
-/// constraint. All other words are `Usage`.
+/// constraint.
+///
+/// `run TEXT TAPE AUX T` reads the three files, each judged before the next is read: a program text as
+/// `asm` reads it, at most 16,384 words for the primary tape and at most 65,536 for the auxiliary one.
+/// The machine then takes at most T steps, 1 to 65,536, on them. It is `Done`, and says so with the step,
+/// exactly where the machine answers 0; else `No` tells the run's end. `BadTape` tells the first item
+/// that isn't a number below 2^32, and `Limit` comes where a limit is passed, that of T before any file
+/// call. All other words are `Usage`.
 ///
 /// `FileFault` tells the word of the name whose reading or writing failed, as reading does where there
 /// is no such name, or the number of words where saying the line failed. `Memory` comes where memory
@@ -145,6 +190,11 @@ pub fn command<D: Files>(alloc: Global, words: &[String], files: &mut D) -> Stat
         → map string_bytes words.now ≡ codes "check" ∷ system ∷ witness ∷ tape ∷ []
         → Told (D.seen files.old) (λ held.
         Checks held system witness tape (D.seen files.old) (D.seen files.new) result) }
+    ensures run { (text tape aux number : List ℕ) (steps : ℕ)
+        → map string_bytes words.now ≡ codes "run" ∷ text ∷ tape ∷ aux ∷ number ∷ []
+        → numeral 10 (2 ^ 64) number ≡ Some steps → 0 < steps → steps ≤ STEPS
+        → Told (D.seen files.old) (λ held.
+        Runs held text tape aux steps (D.seen files.old) (D.seen files.new) result) }
 {
     match job_of(words) {
         Ok(job) => run(alloc, words.len(), files, job),

@@ -1,9 +1,12 @@
 //! What words ask for.
-ghost use Rattle.std.specs.Prelude.{◌≡◌, map, string_bytes, Ok, Err, MatchResult};
-ghost use Rattle.tv_top.specs.Outcome.{apart, job};
+ghost use Rattle.std.specs.Prelude.{◌≡◌, ◌^◌, map, string_bytes, Ok, Err, MatchResult};
+ghost use Rattle.tv_word.specs.Numeral.{numeral};
+ghost use Rattle.tv_top.specs.Outcome.{apart, run_job, job};
 ghost use Rattle.tv_top.specs.Asked.{asked};
 
-use crate::status::Status;
+use crate::limits::STEPS;
+use crate::status::{Status, What};
+use tv_word::decimal_of;
 
 /// A command with its words.
 #[derive(Clone, Copy)]
@@ -24,6 +27,13 @@ pub(crate) enum Job<'a> {
         witness: &'a str,
         tape: &'a str,
     },
+    /// The end of a program's run on two tapes, of so many steps at most.
+    Run {
+        text: &'a str,
+        tape: &'a str,
+        aux: &'a str,
+        steps: u64,
+    },
 }
 
 /// The job, unless words 1 and 2, of which the second names a file that is to be written, are one name.
@@ -38,6 +48,27 @@ fn apart<'a>(read: &str, written: &str, job: Job<'a>) -> Result<Job<'a>, Status>
         });
     }
     Ok(job)
+}
+
+/// The run of as many steps as a word says: from 1 up to the limit.
+fn run_job<'a>(text: &'a str, tape: &'a str, aux: &'a str, steps: &str) -> Result<Job<'a>, Status>
+    ensures { let due = run_job text.now tape.now aux.now (numeral 10 (2 ^ 64) steps.now) in
+        MatchResult result (λ found. due ≡ Ok (asked found)) (λ status. due ≡ Err status) }
+{
+    match decimal_of(steps.as_bytes()) {
+        None => Err(Status::Usage),
+        Some(steps) if steps == 0 || steps > STEPS => Err(Status::Limit {
+            what: What::Steps,
+            has: steps,
+            most: STEPS,
+        }),
+        Some(steps) => Ok(Job::Run {
+            text,
+            tape,
+            aux,
+            steps,
+        }),
+    }
 }
 
 /// The job that the words ask for, else the refusal.
@@ -59,6 +90,12 @@ pub(crate) fn job_of(words: &[String]) -> Result<Job<'_>, Status>
             witness: witness.as_str(),
             tape: tape.as_str(),
         }),
+        [name, text, tape, aux, steps] if name.as_str() == "run" => run_job(
+            text.as_str(),
+            tape.as_str(),
+            aux.as_str(),
+            steps.as_str(),
+        ),
         _ => Err(Status::Usage),
     }
 }

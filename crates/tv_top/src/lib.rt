@@ -17,6 +17,9 @@ mod line;
 #[cfg(test)]
 mod program_tests;
 mod reasons;
+#[cfg(test)]
+mod run_tests;
+mod running;
 mod status;
 mod tapes;
 

@@ -2,12 +2,13 @@
 ghost use Rattle.std.specs.Prelude.{◌≡◌, ◌+◌, ◌<◌, ◌≤◌, ◌++◌, length, codes, decimal, IfSome};
 ghost use Rattle.std.specs.Option.{ForSome, option_copied};
 ghost use Rattle.arrayvec.specs.ArrayString.{array_string_len};
-ghost use Rattle.tv_top.specs.Codes.{Reads, line, says, why_text, asm_text, read_text, what_text};
+ghost use Rattle.tv_top.specs.Codes.{Reads, line, says, end_text, no_text, asm_text, read_text, what_text};
 
 use crate::reasons::{Line, MOST, push_asm, push_number, push_read, push_what};
 use crate::status::{NoWhy, Status, What};
 use tv_asm::AsmWhy;
 use tv_r1cs_read::ReadWhy;
+use tv_step::End;
 
 /// What is said of words that are no command's.
 const USAGE: &str = "usage: asm, disasm, run, build, witness, check, extract, trial";
@@ -45,29 +46,35 @@ fn pair_line(text: &str, first: u64, between: &str, second: u64) -> Line
     line
 }
 
-/// The line of a no, without its end.
-fn no_line(why: NoWhy) -> Line
-    ensures text { result.bytes ≡ codes "no: " ++ why_text why }
+/// The line of a run's end, without its own end.
+pub(crate) fn end_line(end: End) -> Line
+    ensures text { result.bytes ≡ end_text end }
     ensures room { array_string_len result < MOST }
 {
-    let mut line = text_line("no: ");
-    match why {
-        NoWhy::Public { at } => {
-            line.push_str("public wire ");
-            push_number(&mut line, at);
+    match end {
+        End::Answer { value, step } => pair_line("answer ", u64::from(value), " at step ", step),
+        End::Undefined { op, step } => {
+            pair_line("undefined opcode ", u64::from(op), " at step ", step)
         }
-        NoWhy::Constraint { at } => {
-            line.push_str("constraint ");
-            push_number(&mut line, at);
-        }
-        NoWhy::Wires { has, wants } => {
-            push_number(&mut line, has);
-            line.push_str(" wires, ");
-            push_number(&mut line, wants);
-            line.push_str(" wanted");
-        }
+        End::Silent { steps } => number_line("no answer in ", steps, " steps"),
     }
-    line
+}
+
+/// The line of a no, without its end.
+fn no_line(why: NoWhy) -> Line
+    ensures text { result.bytes ≡ no_text why }
+    ensures room { array_string_len result < MOST }
+{
+    match why {
+        NoWhy::Public { at } => number_line("no: public wire ", at, ""),
+        NoWhy::Constraint { at } => number_line("no: constraint ", at, ""),
+        NoWhy::Wires { has, wants } => {
+            let mut line = pair_line("no: ", has, " wires, ", wants);
+            line.push_str(" wanted");
+            line
+        }
+        NoWhy::End { end } => end_line(end),
+    }
 }
 
 /// The line of a refused program, without its end.

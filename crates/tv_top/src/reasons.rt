@@ -94,10 +94,12 @@ pub(crate) fn push_what(line: &mut Line, what: What)
     ensures text { line.new.bytes ≡ line.old.bytes ++ what_text what }
     ensures room { array_string_len line.new ≤ array_string_len line.old + 60 }
 {
-    line.push_str(match what {
-        What::ImageWords => "image words",
-        What::ImageBytes => "image bytes",
-        What::TapeWords => "tape words",
-        What::TextBytes => "text bytes",
-    });
+    match what {
+        What::ImageWords => line.push_str("image words"),
+        What::ImageBytes => line.push_str("image bytes"),
+        What::TapeWords => line.push_str("tape words"),
+        What::AuxWords => line.push_str("aux words"),
+        What::TextBytes => line.push_str("text bytes"),
+        What::Steps => line.push_str("steps"),
+    }
 }

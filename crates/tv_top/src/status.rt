@@ -7,8 +7,9 @@ use tv_asm::{AsmFault, AsmWhy};
 use tv_check::Verdict;
 use tv_disasm::DisFault;
 use tv_r1cs_read::ReadWhy;
+use tv_step::End;
 
-/// Why `check` says no.
+/// Why `check` or `run` says no.
 #[derive(Clone, Copy, Debug, PartialEq, Eq)]
 pub enum NoWhy {
     /// The public wire with this number, 0 for the constant 1, has another value than the tape gives,
@@ -18,6 +19,8 @@ pub enum NoWhy {
     Constraint { at: u64 },
     /// The witness has `has` values, the system `wants` wires.
     Wires { has: u64, wants: u64 },
+    /// The run ends otherwise than by the answer 0.
+    End { end: End },
 }
 
 /// The quantities that have a limit.
@@ -29,8 +32,12 @@ pub enum What {
     ImageBytes,
     /// The numbers of a tape.
     TapeWords,
+    /// The words of an auxiliary tape.
+    AuxWords,
     /// The bytes of a program text or of a tape.
     TextBytes,
+    /// The steps of a run.
+    Steps,
 }
 
 /// How a command ended.
@@ -38,7 +45,8 @@ pub enum What {
 pub enum Status {
     /// The command did what its words say.
     Done,
-    /// `check`: the assignment doesn't satisfy the system, or doesn't extend the tape.
+    /// `check`: the assignment doesn't satisfy the system, or doesn't extend the tape. `run`: the machine
+    /// doesn't answer 0 within the steps.
     No { no: NoWhy },
     /// The words are no command's.
     Usage,
@@ -50,7 +58,7 @@ pub enum Status {
     BadSystem { at: u64, why: ReadWhy },
     /// The file holds no assignment: its first fault, at this byte, and the reason.
     BadWitness { at: u64, why: ReadWhy },
-    /// There are `has` of a quantity of which there may be `most`.
+    /// There are `has` of a quantity of which there may be `most`, or 0 of one that begins at 1.
     Limit { what: What, has: u64, most: u64 },
     /// A file call failed, on the name at this word, or, at the number of words, in saying the line.
     FileFault { word: u64 },
@@ -141,6 +149,21 @@ impl From<Verdict> for Status {
             },
             Verdict::NoConstraint { at } => Status::No {
                 no: NoWhy::Constraint { at },
+            },
+        }
+    }
+}
+
+impl From<End> for Status {
+    ghost use Rattle.tv_top.specs.Outcome.{end_status};
+
+    ghost from_gives = { λ end status. status ≡ end_status end };
+
+    fn from(end: End) -> Status {
+        match end {
+            End::Answer { value: 0, .. } => Status::Done,
+            _ => Status::No {
+                no: NoWhy::End { end },
             },
         }
     }

@@ -8,6 +8,7 @@ returns-in-Err-Memory g c = record {
   absent = λ files told. elim (c.in-Err-Memory.ensures.there files told) [ inl same ↦ inl same | inr none ↦ inr (c.args.word, ap (limited_bytes c.args.word c.args.what c.args.most) none) ];
   only = c.in-Err-Memory.ensures.only;
   caused = λ _ e. cc;
+  done = λ e. cc;
   usage = λ e. cc;
   same_name = λ _ _ e. cc;
 }

@@ -1,0 +1,214 @@
+use crate::command;
+use crate::status::{NoWhy, Status, What};
+use std::alloc::Global;
+use std::process::Abort;
+use std::test::*;
+use tv_files::MemFiles;
+use tv_step::End;
+
+// A program's answer by its two reads.
+const TWO_READS: &str = "read r1, 1\nread r2, 1\nsub r3, r1, r2\nanswer r3";
+
+const THREE_READS: &str = "read r1, 0\nread r2, 0\nread r3, 2\nanswer r1";
+
+const WRAPS: &str = "cjmp 17\njmp 4294967288\nanswer 0";
+
+const STORES: &str =
+    "mov r1, 0x11223344\nmov r2, 0xab\nstore.w 65536, r1\nstore.b 65537, r2\nload.w r3, 65539\nanswer r3";
+
+const REWRITES: &str = "mov r1, 0xfc000000\nstore.w 16, r1\n.raw 0, 0";
+
+// A run: the three files, the number of steps, and what is answered.
+type Case<'a> = (&'a str, &'a str, &'a str, &'a str, u8, &'a str);
+
+// What `run` answers over these three files, which stay as they are, and the file calls that it made.
+fn runs(rt: &impl Abort, alloc: Global, case: Case<'_>) -> Result<(Status, u64), Fail> {
+    let (text, tape, aux, steps, code, line) = case;
+    let mut files = MemFiles::new(alloc);
+    files.set("text", text.as_bytes())?;
+    files.set("tape", tape.as_bytes())?;
+    files.set("aux", aux.as_bytes())?;
+    let words = [
+        String::from_str(alloc, "run")?,
+        String::from_str(alloc, "text")?,
+        String::from_str(alloc, "tape")?,
+        String::from_str(alloc, "aux")?,
+        String::from_str(alloc, steps)?,
+    ];
+    let status = command(alloc, &words, &mut files);
+    assert_eq!(rt; files.said_bytes(), line.as_bytes(), "{line}");
+    assert_eq!(rt; status.code(), code, "{line}");
+    assert_eq!(rt; files.bytes_of("text"), Some(text.as_bytes()), "{line}");
+    assert_eq!(rt; files.bytes_of("tape"), Some(tape.as_bytes()), "{line}");
+    assert_eq!(rt; files.bytes_of("aux"), Some(aux.as_bytes()), "{line}");
+    Ok((status, files.calls()))
+}
+
+#[test]
+fn says_how_runs_end(rt: HostRuntime) -> Result<(), Fail> {
+    let cases: [Case<'_>; 13] = [
+        (
+            ".raw 0xB8000000, 0",
+            "",
+            "",
+            "5",
+            1,
+            "undefined opcode 23 at step 1\n",
+        ),
+        ("", "", "", "64", 1, "no answer in 64 steps\n"),
+        (TWO_READS, "", "9 9", "4", 0, "answer 0 at step 4\n"),
+        (TWO_READS, "", "9", "4", 1, "answer 9 at step 4\n"),
+        (TWO_READS, "", "", "4", 0, "answer 0 at step 4\n"),
+        (TWO_READS, "", "9 9", "3", 1, "no answer in 3 steps\n"),
+        (TWO_READS, "7 9", "9 9", "0004", 0, "answer 0 at step 4\n"),
+        (WRAPS, "", "", "5", 0, "answer 0 at step 5\n"),
+        (STORES, "", "", "6", 1, "answer 287484740 at step 6\n"),
+        (REWRITES, "", "", "3", 0, "answer 0 at step 3\n"),
+        (
+            THREE_READS,
+            "4294967295",
+            "",
+            "4",
+            1,
+            "answer 4294967295 at step 4\n",
+        ),
+        ("jmp 0", "", "", "65536", 1, "no answer in 65536 steps\n"),
+        ("answer 0", "", "", "1", 0, "answer 0 at step 1\n"),
+    ];
+    for case in cases {
+        runs(&rt, rt.alloc(), case)?;
+    }
+    Ok(())
+}
+
+#[test]
+fn refuses_what_is_no_run(rt: HostRuntime) -> Result<(), Fail> {
+    let usage = "usage: asm, disasm, run, build, witness, check, extract, trial\n";
+    let refused: [(Case<'_>, u64); 10] = [
+        ((TWO_READS, "", "", "x", 2, usage), 1),
+        ((TWO_READS, "", "", "", 2, usage), 1),
+        ((TWO_READS, "", "", "+1", 2, usage), 1),
+        ((TWO_READS, "", "", "18446744073709551616", 2, usage), 1),
+        (
+            (TWO_READS, "", "", "0", 7, "limit: steps 0, most 65536\n"),
+            1,
+        ),
+        (
+            (
+                TWO_READS,
+                "",
+                "",
+                "65537",
+                7,
+                "limit: steps 65537, most 65536\n",
+            ),
+            1,
+        ),
+        (
+            (
+                "foo",
+                "x",
+                "x",
+                "1",
+                3,
+                "bad program: line 1: unknown name\n",
+            ),
+            3,
+        ),
+        (
+            (
+                THREE_READS,
+                "4294967296",
+                "x",
+                "4",
+                4,
+                "bad tape: word 2, item 0\n",
+            ),
+            5,
+        ),
+        (
+            (THREE_READS, "1 x", "", "4", 4, "bad tape: word 2, item 1\n"),
+            5,
+        ),
+        (
+            (
+                THREE_READS,
+                "",
+                "1 2 -3",
+                "4",
+                4,
+                "bad tape: word 3, item 2\n",
+            ),
+            6,
+        ),
+    ];
+    for (case, calls) in refused {
+        let made = runs(&rt, rt.alloc(), case)?;
+        assert_eq!(rt; made.1, calls, "{}", case.5);
+    }
+    Ok(())
+}
+
+#[test]
+fn tells_the_end(rt: HostRuntime) -> Result<(), Fail> {
+    let nine = (TWO_READS, "", "9", "4", 1, "answer 9 at step 4\n");
+    let end = End::Answer { value: 9, step: 4 };
+    let no = NoWhy::End { end };
+    assert_eq!(rt; runs(&rt, rt.alloc(), nine)?.0, Status::No { no });
+    let none = (TWO_READS, "", "", "0", 7, "limit: steps 0, most 65536\n");
+    let limit = Status::Limit {
+        what: What::Steps,
+        has: 0,
+        most: 65_536,
+    };
+    assert_eq!(rt; runs(&rt, rt.alloc(), none)?.0, limit);
+    Ok(())
+}
+
+// So many times the item 1.
+fn ones(alloc: Global, count: u64) -> Result<String, Fail> {
+    let mut all = String::new(alloc);
+    for _ in 0..count {
+        all.push_str("1 ")?;
+    }
+    Ok(all)
+}
+
+#[test]
+fn tapes_have_their_limits(rt: HostRuntime) -> Result<(), Fail> {
+    let words = ones(rt.alloc(), 16_384)?;
+    let done = (
+        "answer 0",
+        words.as_str(),
+        "",
+        "1",
+        0,
+        "answer 0 at step 1\n",
+    );
+    runs(&rt, rt.alloc(), done)?;
+    let line = "limit: tape words 16385, most 16384\n";
+    let words = ones(rt.alloc(), 16_385)?;
+    runs(
+        &rt,
+        rt.alloc(),
+        ("answer 0", words.as_str(), "", "1", 7, line),
+    )?;
+    let words = ones(rt.alloc(), 65_536)?;
+    let done = (
+        "answer 0",
+        "",
+        words.as_str(),
+        "1",
+        0,
+        "answer 0 at step 1\n",
+    );
+    runs(&rt, rt.alloc(), done)?;
+    let line = "limit: aux words 65537, most 65536\n";
+    let words = ones(rt.alloc(), 65_537)?;
+    runs(
+        &rt,
+        rt.alloc(),
+        ("answer 0", "", words.as_str(), "1", 7, line),
+    )?;
+    Ok(())
+}
