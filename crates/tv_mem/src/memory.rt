@@ -1,8 +1,8 @@
-ghost use Rattle.std.specs.Prelude.{◌≡◌, ◌/◌, ◌||◌, ◌==◌, false, OnOk, OnErr, IsOk, IsTrue, ℕ};
+ghost use Rattle.std.specs.Prelude.{◌≡◌, ◌+◌, ◌*◌, ◌/◌, ◌||◌, ◌==◌, false, OnOk, OnErr, IsOk, IsTrue, ℕ};
 ghost use Rattle.tv_mem.specs.Bytes.{with_byte, with_word, word_in};
 ghost use Rattle.tv_mem.specs.Pages.{bytes_in, is_held};
 
-use crate::pages::{PAGE, write};
+use crate::pages::{PAGE, word_on, write};
 use std::alloc::{AllocError, Global};
 use std::collections::BTreeMap;
 use tv_word::word_bytes;
@@ -44,16 +44,24 @@ impl Memory {
         ensures { result ≡ word_in 32 (bytes_in self.now) (at / 4) }
     {
         match self.pages.get(&(at / PAGE)) {
-            Some(page) => {
-                let place = (at % PAGE / 4 * 4) as usize;
-                u32::from_le_bytes([
-                    page[place],
-                    page[place + 1],
-                    page[place + 2],
-                    page[place + 3],
-                ])
-            }
+            Some(page) => word_on(page, (at % PAGE / 4 * 4) as usize),
             None => 0,
+        }
+    }
+
+    /// The two words of the eight bytes in which an address lies, as an instruction has them. Their page is
+    /// looked up once.
+    #[tactic(auto, unfolding(crate::specs::Pages::bytes_in))]
+    pub fn load_pair(&self, at: u32) -> (u32, u32)
+        ensures first { result.0 ≡ word_in 32 (bytes_in self.now) (at / 8 * 2) }
+        ensures second { result.1 ≡ word_in 32 (bytes_in self.now) (at / 8 * 2 + 1) }
+    {
+        match self.pages.get(&(at / PAGE)) {
+            Some(page) => {
+                let place = (at % PAGE / 8 * 8) as usize;
+                (word_on(page, place), word_on(page, place + 4))
+            }
+            None => (0, 0),
         }
     }
 
@@ -117,6 +125,9 @@ mod tests {
         memory.store_word(65_538, 0x1122_3344)?;
         memory.store_byte(65_537, 0xab)?;
         assert_eq!(rt; memory.load_word(65_539), 0x1122_ab44);
+        memory.store_word(65_540, 5)?;
+        assert_eq!(rt; memory.load_pair(65_543), (0x1122_ab44, 5));
+        assert_eq!(rt; memory.load_pair(65_544), (0, 0));
         assert_eq!(rt; memory.load_byte(65_536), 0x44);
         memory.store_word(u32::MAX, u32::MAX)?;
         assert_eq!(rt; memory.load_byte(4_294_967_292), 255);

@@ -1,7 +1,9 @@
 //! The pages that are held, by their numbers.
-ghost use Rattle.std.specs.Prelude.{◌≡◌, ◌+◌, ◌/◌, ◌%◌, ◌≤◌, IsOk, IsTrue, is_some, OnOk, OnErr, length};
+ghost use Rattle.std.specs.Prelude.{◌≡◌, ◌+◌, ◌/◌, ◌%◌, ◌≤◌, IsOk, IsTrue, is_some, OnOk, OnErr, length, slice_index};
 ghost use Rattle.std.specs.Box.{box_value};
 ghost use Rattle.std.specs.BTreeMap.{IsUnchanged};
+ghost use Rattle.tv_word.specs.Word.{spelled};
+ghost use Rattle.tv_mem.specs.Bytes.{bytes_from};
 ghost use Rattle.tv_mem.specs.Pages.{page_in, page_with, Changes, Writes};
 
 use std::alloc::{AllocError, Global};
@@ -9,6 +11,19 @@ use std::collections::BTreeMap;
 
 /// How many bytes a page has.
 pub const PAGE: u32 = 4096;
+
+/// The word at a place of a page, the lowest byte first.
+pub fn word_on(page: &[u8; 4096], place: usize) -> u32
+    requires within { place + 4 ≤ 4096 }
+    ensures { result ≡ spelled (bytes_from (slice_index page.now) place 4) }
+{
+    u32::from_le_bytes([
+        page[place],
+        page[place + 1],
+        page[place + 2],
+        page[place + 3],
+    ])
+}
 
 /// Writes bytes at an address, all in its page. A page that isn't held is made first; where memory for
 /// it is refused, nothing changes.

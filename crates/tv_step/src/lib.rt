@@ -12,6 +12,8 @@ mod machine;
 mod op;
 mod recorder;
 #[cfg(test)]
+mod step_tests;
+#[cfg(test)]
 mod tests;
 mod tracing;
 

@@ -1,5 +1,6 @@
-ghost use Rattle.std.specs.Prelude.{◌≡◌, ◌<◌, ◌≤◌, ◌^◌, ℕ, length, slice_index, IfOk, OnOk, OnErr};
+ghost use Rattle.std.specs.Prelude.{◌≡◌, ◌<◌, ◌≤◌, ◌+◌, ◌/◌, ◌^◌, ℕ, length, slice_index, IfOk, OnOk, OnErr};
 ghost use Rattle.tv_isa.specs.Instruction.{IsInstruction};
+ghost use Rattle.tv_mem.specs.Bytes.{word_in};
 ghost use Rattle.tv_step.specs.Machine.{fetched, next, start, end_of, state_after};
 ghost use Rattle.tv_step.specs.Views.{state_of, CameTo};
 
@@ -67,13 +68,21 @@ impl Machine {
         self.flag
     }
 
+    // The two words of the instruction at the program counter.
+    pub(crate) fn fetched_words(&self) -> (u32, u32)
+        ensures first { result.0 ≡ word_in 32 (state_of self.now).memory ((state_of self.now).pc / 4) }
+        ensures second { result.1 ≡ word_in 32 (state_of self.now).memory ((state_of self.now).pc / 4 + 1) }
+    {
+        self.memory.load_pair(self.pc.address())
+    }
+
     // The instruction at the program counter.
-    pub(crate) fn fetched(&self) -> Instr
+    fn fetched(&self) -> Instr
         ensures same { result ≡ fetched 32 (state_of self.now) }
         ensures range { IsInstruction result }
     {
-        let pc = self.pc.address();
-        decode(self.memory.load_word(pc), self.memory.load_word(pc + 4))
+        let (h, a) = self.fetched_words();
+        decode(h, a)
     }
 
     /// Takes one step. After an answer, after an opcode that isn't used, and where memory is refused,

@@ -11,7 +11,7 @@ use crate::lines::{Line, TraceState};
 use crate::machine::Machine;
 use crate::op::{Op, op_of};
 use std::alloc::AllocError;
-use tv_isa::Instr;
+use tv_isa::{Instr, decode};
 use tv_tape::Tape;
 
 /// The cell of the first word of the primary tape.
@@ -92,10 +92,9 @@ impl Machine {
         ensures lines { IfOk result (λ lines. lines ≡ step_lines 32 n (state_of self.old) time) }
         ensures state { OnOk result (state_of self.new ≡ state_after 32 1 (state_of self.old)) }
     {
-        let instr = self.fetched();
         let pc = self.pc.address();
-        let (first, second) = (self.word_at(pc), self.word_at(pc + 4));
-        let touched = self.touched(&instr, n);
+        let (first, second) = self.fetched_words();
+        let touched = self.touched(&decode(first, second), n);
         let line = self.line_of(touched, time + 2)?;
         Ok([
             Line::looked_at(pc / 4, time, first),

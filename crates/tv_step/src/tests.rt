@@ -1,76 +1,10 @@
 use super::*;
 use std::alloc::{AllocError, Global};
 use std::test::*;
-use tv_isa::{Instr, encode};
 use tv_word::Words;
 
 fn words(alloc: Global, items: &[u32]) -> Result<Words, AllocError> {
     Ok(Vec::from_slice(alloc, items)?.into())
-}
-
-/// The machine on one instruction on the words `s`, in register 1, and `a`, its destination register 2,
-/// behind two instructions that set the flag and register 1.
-fn after(alloc: Global, op: u8, s: u32, a: u32) -> Result<Machine, AllocError> {
-    let set = |op, dest, a| {
-        encode(&Instr {
-            op: op % 32,
-            imm: true,
-            dest,
-            source: 1,
-            a,
-        })
-    };
-    let (first, second, third) = (set(18, 1, s), set(13, 0, s), set(op, 2, a));
-    let image = [first[0], first[1], second[0], second[1], third[0], third[1]];
-    let mut machine = Machine::start(alloc, &image, words(alloc, &[77])?, words(alloc, &[88])?)?;
-    machine.run(3)?;
-    Ok(machine)
-}
-
-#[test]
-fn each_instruction_gives_its_word_and_its_flag(rt: HostRuntime) -> Result<(), Fail> {
-    let rows: [(u8, u32, u32, u32, bool); 34] = [
-        (0, 1, 2, 0, true),
-        (0, 12, 10, 8, false),
-        (1, 12, 10, 14, false),
-        (2, 12, 10, 6, false),
-        (3, 5, 10, 0xffff_fff5, false),
-        (4, 0xffff_ffff, 1, 0, true),
-        (5, 0, 1, 0xffff_ffff, true),
-        (6, 65_536, 65_536, 0, true),
-        (6, 7, 6, 42, false),
-        (7, 65_536, 65_536, 1, true),
-        (8, 0x8000_0000, 0x8000_0000, 0x4000_0000, true),
-        (8, 0xffff_ffff, 1, 0xffff_ffff, false),
-        (9, 7, 0, 0, true),
-        (9, 7, 2, 3, false),
-        (10, 7, 0, 0, true),
-        (10, 7, 2, 1, false),
-        (11, 0x8000_0001, 1, 2, true),
-        (11, 0x8000_0001, 32, 0, true),
-        (12, 0x8000_0001, 0xffff_ffff, 0, true),
-        (12, 6, 1, 3, false),
-        (13, 7, 7, 0, true),
-        (14, 0xffff_ffff, 0, 0, true),
-        (15, 7, 8, 0, false),
-        (16, 0xffff_ffff, 0, 0, false),
-        (17, 0, 0xffff_ffff, 0, true),
-        (18, 7, 9, 9, true),
-        (19, 7, 9, 9, true),
-        (23, 7, 9, 0, true),
-        (27, 7, 3, 0x94, true),
-        (29, 7, 7, 7, true),
-        (30, 7, 0, 77, false),
-        (30, 7, 1, 88, false),
-        (30, 7, 2, 0, true),
-        (31, 7, 5, 0, true),
-    ];
-    for (op, s, a, word, flag) in rows {
-        let machine = after(rt.alloc(), op, s, a)?;
-        assert_eq!(rt; machine.reg(2), word, "{op} {s} {a}");
-        assert_eq!(rt; machine.flag(), flag, "{op} {s} {a}");
-    }
-    Ok(())
 }
 
 #[test]
