@@ -16,6 +16,13 @@ const WRAPS: &str = "cjmp 17\njmp 4294967288\nanswer 0";
 const STORES: &str =
     "mov r1, 0x11223344\nmov r2, 0xab\nstore.w 65536, r1\nstore.b 65537, r2\nload.w r3, 65539\nanswer r3";
 
+// A store to the last word of memory, and bytes on both sides of a page's end.
+const STORES_AT_THE_TOP: &str =
+    "mov r1, 0xffffffff\nstore.w 4294967295, r1\nload.b r2, 4294967292\nsub r2, r2, 255\nanswer r2";
+
+const CROSSES_PAGES: &str =
+    "mov r1, 7\nstore.b 8191, r1\nstore.b 8192, r1\nload.w r2, 8188\nload.w r3, 8192\nanswer r2";
+
 const REWRITES: &str = "mov r1, 0xfc000000\nstore.w 16, r1\n.raw 0, 0";
 
 // A run: the three files, the number of steps, and what is answered.
@@ -46,7 +53,7 @@ fn runs(rt: &impl Abort, alloc: Global, case: Case<'_>) -> Result<(Status, u64),
 
 #[test]
 fn says_how_runs_end(rt: HostRuntime) -> Result<(), Fail> {
-    let cases: [Case<'_>; 13] = [
+    let cases: [Case<'_>; 15] = [
         (
             ".raw 0xB8000000, 0",
             "",
@@ -63,6 +70,15 @@ fn says_how_runs_end(rt: HostRuntime) -> Result<(), Fail> {
         (TWO_READS, "7 9", "9 9", "0004", 0, "answer 0 at step 4\n"),
         (WRAPS, "", "", "5", 0, "answer 0 at step 5\n"),
         (STORES, "", "", "6", 1, "answer 287484740 at step 6\n"),
+        (STORES_AT_THE_TOP, "", "", "5", 0, "answer 0 at step 5\n"),
+        (
+            CROSSES_PAGES,
+            "",
+            "",
+            "6",
+            1,
+            "answer 117440512 at step 6\n",
+        ),
         (REWRITES, "", "", "3", 0, "answer 0 at step 3\n"),
         (
             THREE_READS,
