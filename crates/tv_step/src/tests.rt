@@ -143,6 +143,24 @@ fn words_taken_are_counted(rt: HostRuntime) -> Result<(), Fail> {
     assert_eq!(rt; trace.lines.as_slice()[5], line(1_610_612_736, 14, 0, 0));
     let last = trace.states.as_slice()[4];
     assert_eq!(rt; (last.primary, last.aux), (1, 1));
+
+    // read r1, 1; read r2, 1; sub r3, r1, r2; answer r3
+    let image = [
+        0xf440_0000,
+        1,
+        0xf480_0000,
+        1,
+        0x28c4_0000,
+        2,
+        0xf800_0000,
+        3,
+    ];
+    let trace = crate::trace(rt.alloc(), &image, &[], &[9, 9, 7], 4)?;
+    let taken = [0, 1, 2, 2, 2];
+    for (state, aux) in trace.states.as_slice().iter().zip(taken) {
+        assert_eq!(rt; (state.primary, state.aux), (0, aux));
+    }
+    assert_eq!(rt; trace.states.as_slice().len(), taken.len());
     Ok(())
 }
 
