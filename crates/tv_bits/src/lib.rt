@@ -10,8 +10,6 @@ mod prefixes;
 mod rows;
 mod selection;
 mod spelling;
-#[cfg(test)]
-mod tests;
 mod zeros;
 
 pub use bit_wires::Bits;

@@ -3,7 +3,5 @@
 #![tactic(auto)]
 
 mod comparison;
-#[cfg(test)]
-mod tests;
 
 pub use comparison::{Cmp, compare, compare_is_complete, compare_is_sound, fill_compare};

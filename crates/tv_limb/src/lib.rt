@@ -8,8 +8,6 @@ mod halves;
 mod parts;
 mod splitting;
 mod sums;
-#[cfg(test)]
-mod tests;
 
 pub use differences::{fill_sub, sub, sub_is_complete, sub_is_sound};
 pub use halves::{limbs, limbs_are_sound};

@@ -6,8 +6,6 @@ mod ands;
 mod answers;
 mod flags;
 mod gadget;
-#[cfg(test)]
-mod tests;
 mod words;
 
 pub use answers::Logic;

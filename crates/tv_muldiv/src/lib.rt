@@ -9,8 +9,6 @@ mod products;
 mod quotients;
 mod records;
 mod signed_products;
-#[cfg(test)]
-mod tests;
 mod weighing;
 
 pub use products::{fill_product, product, product_is_complete, product_is_sound};

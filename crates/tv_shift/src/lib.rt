@@ -7,8 +7,6 @@ mod halves;
 mod masks;
 mod products;
 mod shifting;
-#[cfg(test)]
-mod tests;
 mod thermometer;
 
 pub use ends::Shift;

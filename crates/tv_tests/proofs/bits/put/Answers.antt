@@ -1,6 +1,6 @@
 use Rattle.std.proofs.Common.{◌^◌, ◌≤◌, arith}
 use Rattle.std.proofs.Math.Nat.{pow-le-pow_right}
-use Rattle.tv_bits.proofs.tests.put.Goals as goal
+use Rattle.tv_tests.proofs.bits.put.Goals as goal
 
 pub onehot-requires-clause-room : goal.onehot-requires-clause-room
 onehot-requires-clause-room g c =

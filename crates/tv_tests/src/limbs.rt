@@ -2,11 +2,11 @@
 ghost use Rattle.std.specs.Prelude.{◌≡◌, ◌≤◌, false};
 ghost use Rattle.tv_core.specs.Sinks.{Room};
 
-use crate::{Split, add, fill_add, fill_split, fill_sub, limbs, split, sub};
+use crate::inputs::{FIRST, WORDS, X, Y, all_hold, inputs, spelt};
 use std::alloc::Global;
 use std::test::Fail;
-use tv_bits::{Bits, fill_bits};
-use tv_core::{CountSink, F, ListSink, ListValues, Put, Sink, TestSink, Values, Wire};
+use tv_core::{CountSink, F, ListSink, ListValues, Put, Sink, TestSink, Values};
+use tv_limb::{Split, add, fill_add, fill_split, fill_sub, limbs, split, sub};
 
 #[derive(Clone, Copy, Debug)]
 enum Gadget {
@@ -15,20 +15,6 @@ enum Gadget {
     // the first word plus 2^30 times the second, in 63 bits
     Split,
 }
-
-const X: Bits = Bits {
-    first: Wire(1),
-    n: 32,
-};
-
-const Y: Bits = Bits {
-    first: Wire(33),
-    n: 32,
-};
-
-const FIRST: u32 = 65;
-
-const WORDS: [u32; 7] = [0, 1, 2, 0x7fff_ffff, 0x8000_0000, 0xffff_fffe, 0xffff_ffff];
 
 fn put<S: Sink>(s: &mut S, gadget: Gadget) -> Put<Split>
     requires room { Room S.meaning s.old 63 64 }
@@ -71,26 +57,9 @@ fn expected(gadget: Gadget, x: u32, y: u32) -> (u64, u64, u32) {
 
 // 1, the bits of both words, and the generator's values.
 fn assignment(alloc: Global, gadget: Gadget, x: u32, y: u32) -> Put<ListValues> {
-    let mut values = ListValues::new(alloc);
-    values.give(F::ONE)?;
-    fill_bits(&mut values, F::of(u64::from(x)), 32)?;
-    fill_bits(&mut values, F::of(u64::from(y)), 32)?;
+    let mut values = inputs(alloc, x, y)?;
     fill(&mut values, gadget, x, y)?;
     Ok(values)
-}
-
-// What wires spell.
-fn spelt(z: &[F], bits: &Bits) -> F {
-    let mut sum = F::ZERO;
-    let mut power = F::ONE;
-    for i in 0..bits.n {
-        let place = bits.first.0 as usize + i as usize;
-        if let Some(bit) = z.get(place) {
-            sum = sum + power * *bit;
-        }
-        power = power + power;
-    }
-    sum
 }
 
 #[test]
@@ -111,11 +80,7 @@ fn gadgets_hold_over_their_own_values_alone(rt: HostRuntime) -> Result<(), Fail>
                 let mut list = ListSink::new(rt.alloc(), FIRST);
                 assert!(rt; put(&mut list, gadget)? == parts, "{gadget:?} {x} {y}");
                 assert_eq!(rt; list.len(), constraints, "{gadget:?} {x} {y}");
-                for i in 0..list.len() {
-                    let (a, b, c) = list.row(i);
-                    let holds = a.value_in(z) * b.value_in(z) == c.value_in(z);
-                    assert!(rt; holds, "{gadget:?} {x} {y}, row {i}");
-                }
+                assert!(rt; all_hold(&list, z), "{gadget:?} {x} {y}");
             }
         }
     }

@@ -2,27 +2,13 @@
 ghost use Rattle.std.specs.Prelude.{◌≤◌};
 ghost use Rattle.tv_core.specs.Sinks.{Room};
 
-use crate::{Logic, fill_logic, logic};
+use crate::inputs::{FIRST, WORDS, X, Y, all_hold, holds, inputs};
 use std::alloc::Global;
 use std::test::Fail;
-use tv_bits::{Bits, fill_bits};
-use tv_core::{CountSink, F, ListSink, ListValues, Put, Sink, TestSink, Values, Wire};
-
-const X: Bits = Bits {
-    first: Wire(1),
-    n: 32,
-};
-
-const Y: Bits = Bits {
-    first: Wire(33),
-    n: 32,
-};
-
-const FIRST: u32 = 65;
+use tv_core::{CountSink, F, ListSink, ListValues, Put, Sink, TestSink, Wire};
+use tv_logic::{Logic, fill_logic, logic};
 
 const CONSTRAINTS: u32 = 26;
-
-const WORDS: [u32; 7] = [0, 1, 2, 0x7fff_ffff, 0x8000_0000, 0xffff_fffe, 0xffff_ffff];
 
 fn put<S: Sink>(s: &mut S) -> Put<Logic>
     requires room { Room S.meaning s.old 26 26 }
@@ -33,22 +19,14 @@ fn put<S: Sink>(s: &mut S) -> Put<Logic>
 
 // 1, the bits of both words, and the generator's values.
 fn assignment(alloc: Global, x: u32, y: u32) -> Put<ListValues> {
-    let mut values = ListValues::new(alloc);
-    values.give(F::ONE)?;
-    fill_bits(&mut values, F::of(u64::from(x)), 32)?;
-    fill_bits(&mut values, F::of(u64::from(y)), 32)?;
+    let mut values = inputs(alloc, x, y)?;
     fill_logic(&mut values, x, y)?;
     Ok(values)
 }
 
-// Whether a wire holds a number.
-fn holds(z: &[F], wire: Wire, number: u32) -> bool {
-    z.get(wire.0 as usize) == Some(&F::of(u64::from(number)))
-}
-
 // Whether a wire holds a word, and another whether it is 0.
 fn is_word(z: &[F], word: Wire, flag: Wire, number: u32) -> bool {
-    holds(z, word, number) && holds(z, flag, u32::from(number == 0))
+    holds(z, word, u64::from(number)) && holds(z, flag, u64::from(number == 0))
 }
 
 fn is_logic(z: &[F], answer: &Logic, words: [u32; 4]) -> bool {
@@ -75,11 +53,7 @@ fn logic_holds_over_its_own_values(rt: HostRuntime) -> Result<(), Fail> {
             let mut list = ListSink::new(rt.alloc(), FIRST);
             assert!(rt; put(&mut list)? == answer, "{x} {y}");
             assert_eq!(rt; list.len(), CONSTRAINTS, "{x} {y}");
-            for i in 0..list.len() {
-                let (a, b, c) = list.row(i);
-                let holds = a.value_in(z) * b.value_in(z) == c.value_in(z);
-                assert!(rt; holds, "{x} {y}, row {i}");
-            }
+            assert!(rt; all_hold(&list, z), "{x} {y}");
         }
     }
     Ok(())

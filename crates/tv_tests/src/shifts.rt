@@ -1,26 +1,13 @@
 //! The gadget over the values of its generator, and over the same with one wire altered.
-use crate::{Shift, fill_shift, shift};
+use crate::inputs::{FIRST, X, Y, all_hold, inputs};
 use std::alloc::Global;
 use std::test::Fail;
-use tv_bits::{Bits, fill_bits};
-use tv_core::{F, ListSink, ListValues, Put, TestSink, Values, Wire};
-
-const X: Bits = Bits {
-    first: Wire(1),
-    n: 32,
-};
-
-const Y: Bits = Bits {
-    first: Wire(33),
-    n: 32,
-};
+use tv_core::{F, ListSink, ListValues, Put, TestSink};
+use tv_shift::{Shift, fill_shift, shift};
 
 // 1, the bits of the words, and the generator's values.
 fn assignment(alloc: Global, x: u32, y: u32) -> Put<ListValues> {
-    let mut values = ListValues::new(alloc);
-    values.give(F::ONE)?;
-    fill_bits(&mut values, F::of(u64::from(x)), 32)?;
-    fill_bits(&mut values, F::of(u64::from(y)), 32)?;
+    let mut values = inputs(alloc, x, y)?;
     fill_shift(&mut values, x, y)?;
     Ok(values)
 }
@@ -45,7 +32,7 @@ fn shifts_hold_over_their_own_values_alone(rt: HostRuntime) -> Result<(), Fail> 
         for y in words {
             let values = assignment(rt.alloc(), x, y)?;
             let z = values.as_slice();
-            let mut tests = TestSink::over(z, 65);
+            let mut tests = TestSink::over(z, FIRST);
             let answer = shift(&mut tests, &X, &Y)?;
             assert_eq!(rt; tests.tested(), 51, "{x} {y}");
             assert_eq!(rt; tests.held(), 51, "{x} {y}");
@@ -56,22 +43,16 @@ fn shifts_hold_over_their_own_values_alone(rt: HostRuntime) -> Result<(), Fail> 
             assert!(rt; z[left] == F::of(u64::from(l)), "{x} << {y}");
             assert!(rt; z[right] == F::of(u64::from(r)), "{x} >> {y}");
 
-            let mut list = ListSink::new(rt.alloc(), 65);
+            let mut list = ListSink::new(rt.alloc(), FIRST);
             assert!(rt; shift(&mut list, &X, &Y)? == answer, "{x} {y}");
             assert_eq!(rt; list.len(), 51, "{x} {y}");
-            for i in 0..list.len() {
-                let (a, b, c) = list.row(i);
-                assert!(rt;
-                    a.value_in(z) * b.value_in(z) == c.value_in(z),
-                    "{x} {y}, row {i}"
-                );
-            }
+            assert!(rt; all_hold(&list, z), "{x} {y}");
 
             for place in [left, right] {
                 let mut altered = z.to_vec(rt.alloc())?;
                 assert!(rt; place < altered.len(), "{x} {y}");
                 altered[place] = altered[place] + F::ONE;
-                let mut refuses = TestSink::over(&altered, 65);
+                let mut refuses = TestSink::over(&altered, FIRST);
                 shift(&mut refuses, &X, &Y)?;
                 assert!(rt; refuses.held() < 51, "{x} {y}");
             }

@@ -1,37 +1,10 @@
 //! The comparison of telling words, over the generator's values, over the same with an output altered, and
 //! over false ones.
-ghost use Rattle.std.specs.Prelude.{◌≡◌, false, IfOk};
 
-use crate::{Cmp, compare, fill_compare};
-use std::alloc::Global;
+use crate::inputs::{FIRST, WORDS, X, Y, inputs};
 use std::test::Fail;
-use tv_bits::{Bits, fill_bits};
-use tv_core::{CountSink, F, ListSink, ListValues, Put, TestSink, Values, Wire, give_values};
-
-const WORDS: [u32; 7] = [0, 1, 2, 0x7fff_ffff, 0x8000_0000, 0xffff_fffe, 0xffff_ffff];
-
-const X: Bits = Bits {
-    first: Wire(1),
-    n: 32,
-};
-
-const Y: Bits = Bits {
-    first: Wire(33),
-    n: 32,
-};
-
-const NEXT: u32 = 65;
-
-// 1 and the bits of two words.
-fn inputs(alloc: Global, x: u32, y: u32) -> Put<ListValues>
-    ensures { IfOk result (λ values. values.broken ≡ false) }
-{
-    let mut values = ListValues::new(alloc);
-    values.give(F::ONE)?;
-    fill_bits(&mut values, F::of(u64::from(x)), 32)?;
-    fill_bits(&mut values, F::of(u64::from(y)), 32)?;
-    Ok(values)
-}
+use tv_cmp::{Cmp, compare, fill_compare};
+use tv_core::{CountSink, F, ListSink, TestSink, give_values};
 
 fn residue(number: i64) -> F {
     let size = F::of(number.unsigned_abs());
@@ -45,11 +18,11 @@ fn telling_words_compare_as_numbers_do(rt: HostRuntime) -> Result<(), Fail> {
         let mut values = inputs(rt.alloc(), x, y)?;
         fill_compare(&mut values, x, y)?;
         let z = values.as_slice();
-        let mut tests = TestSink::over(z, NEXT);
+        let mut tests = TestSink::over(z, FIRST);
         let cmp = compare(&mut tests, &X, &Y)?;
         assert_eq!(rt; tests.tested(), 16, "{x:x} {y:x}");
         assert_eq!(rt; tests.held(), 16, "{x:x} {y:x}");
-        let mut list = ListSink::new(rt.alloc(), NEXT);
+        let mut list = ListSink::new(rt.alloc(), FIRST);
         assert_eq!(rt; compare(&mut list, &X, &Y)?, cmp, "{x:x} {y:x}");
 
         let Cmp {
@@ -64,7 +37,7 @@ fn telling_words_compare_as_numbers_do(rt: HostRuntime) -> Result<(), Fail> {
             assert!(rt; place < altered.len(), "{x:x} {y:x}");
             assert_eq!(rt; altered[place].number(), u64::from(set), "{x:x} {y:x}");
             altered[place] = F::ONE - altered[place];
-            let mut refuses = TestSink::over(&altered, NEXT);
+            let mut refuses = TestSink::over(&altered, FIRST);
             compare(&mut refuses, &X, &Y)?;
             assert!(rt; refuses.held() < 16, "{x:x} {y:x}");
         }
@@ -86,7 +59,7 @@ fn each_constraint_refuses_what_no_other_does(rt: HostRuntime) -> Result<(), Fai
     for (x, y, numbers, failed) in falsehoods {
         let mut values = inputs(rt.alloc(), x, y)?;
         give_values(&mut values, &numbers.map(residue))?;
-        let mut tests = TestSink::over(values.as_slice(), NEXT);
+        let mut tests = TestSink::over(values.as_slice(), FIRST);
         compare(&mut tests, &X, &Y)?;
         assert_eq!(rt; tests.first_failed(), Some(failed), "{x} {y}");
         assert_eq!(rt; tests.held(), 15, "{x} {y}");
@@ -96,7 +69,7 @@ fn each_constraint_refuses_what_no_other_does(rt: HostRuntime) -> Result<(), Fai
 
 #[test]
 fn a_comparison_has_280_terms(rt: HostRuntime) -> Result<(), Fail> {
-    let mut count = CountSink::new(NEXT);
+    let mut count = CountSink::new(FIRST);
     compare(&mut count, &X, &Y)?;
     assert_eq!(rt; count.constraints(), 16);
     assert_eq!(rt; count.terms(), 280);

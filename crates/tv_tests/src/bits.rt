@@ -2,12 +2,13 @@
 ghost use Rattle.std.specs.Prelude.{◌≡◌, ◌≤◌, false, IfOk};
 ghost use Rattle.tv_core.specs.Sinks.{Room};
 
-use crate::{
+use crate::inputs::all_hold;
+use std::alloc::Global;
+use std::test::Fail;
+use tv_bits::{
     Bits, bit, bits, fill_bit, fill_bits, fill_onehot, fill_prefix_difference, fill_select,
     fill_zero, first_difference, onehot, prefix_difference, select, zero,
 };
-use std::alloc::Global;
-use std::test::Fail;
 use tv_core::{F, Lc, ListSink, ListValues, Put, Sink, TestSink, Values, Wire, give_values};
 
 #[derive(Clone, Copy, Debug)]
@@ -109,11 +110,7 @@ fn gadgets_hold_over_their_own_values_alone(rt: HostRuntime) -> Result<(), Fail>
         let mut list = ListSink::new(rt.alloc(), 6);
         assert!(rt; put(&mut list, gadget)? == wire, "{gadget:?} {inputs:?}");
         assert_eq!(rt; list.len(), constraints, "{gadget:?} {inputs:?}");
-        for i in 0..list.len() {
-            let (a, b, c) = list.row(i);
-            let holds = a.value_in(z) * b.value_in(z) == c.value_in(z);
-            assert!(rt; holds, "{gadget:?} {inputs:?}, row {i}");
-        }
+        assert!(rt; all_hold(&list, z), "{gadget:?} {inputs:?}");
 
         let mut altered = z.to_vec(rt.alloc())?;
         let place = wire.0 as usize;

@@ -1,16 +1,17 @@
 //! Each gadget over the values of its generator, for words at the ends of their range and for cases with
 //! known answers, and over values that fail one constraint alone.
-ghost use Rattle.std.specs.Prelude.{◌≡◌, ◌≤◌, ◌<◌, false, IfOk};
+ghost use Rattle.std.specs.Prelude.{◌≤◌};
 ghost use Rattle.tv_core.specs.Sinks.{Room};
 
-use crate::{
-    High, Product, Quot, fill_product, fill_quotient, fill_signed_high, product, quotient,
-    signed_high,
-};
+use crate::inputs::{FIRST, WORDS, X, Y, all_hold, holds, inputs, spelt};
 use std::alloc::Global;
 use std::test::Fail;
 use tv_bits::{Bits, fill_bits};
-use tv_core::{CountSink, F, ListSink, ListValues, Put, Sink, TestSink, Values, Wire, give_values};
+use tv_core::{CountSink, F, ListSink, ListValues, Put, Sink, TestSink, Wire, give_values};
+use tv_muldiv::{
+    High, Product, Quot, fill_product, fill_quotient, fill_signed_high, product, quotient,
+    signed_high,
+};
 
 #[derive(Clone, Copy, Debug, PartialEq, Eq)]
 enum Gadget {
@@ -21,11 +22,7 @@ enum Gadget {
 
 const GADGETS: [Gadget; 3] = [Gadget::Product, Gadget::SignedHigh, Gadget::Quotient];
 
-const WORDS: [u32; 7] = [0, 1, 2, 0x7fff_ffff, 0x8000_0000, 0xffff_fffe, 0xffff_ffff];
-
-// The wire 0 holds 1, the next 64 spell the two words, and each gadget makes two words and a flag first.
-const FIRST: u32 = 65;
-
+// Each gadget makes two words and a flag first.
 const SECOND: u32 = 97;
 
 const FLAG: u32 = 129;
@@ -37,10 +34,7 @@ const INVERSE: u64 = 18_446_744_065_119_617_025;
 
 const NEGATIVE: u64 = 4_294_967_296;
 
-fn word_from(first: u32) -> Bits
-    ensures n { result.n ≡ 32 }
-    ensures first { result.first ≡ first }
-{
+fn word_from(first: u32) -> Bits {
     Bits {
         first: Wire(first),
         n: 32,
@@ -52,33 +46,21 @@ fn put<S: Sink>(s: &mut S, gadget: Gadget) -> Put<bool>
     requires room { Room S.meaning s.old 76 79 }
     requires inputs { 65 ≤ S.meaning.wires s.old }
 {
-    let (x, y) = (word_from(1), word_from(33));
     let (first, second, flag) = (word_from(FIRST), word_from(SECOND), Wire(FLAG));
     match gadget {
         Gadget::Product => {
-            let Product { low, high, over } = product(s, &x, &y)?;
+            let Product { low, high, over } = product(s, &X, &Y)?;
             Ok(low == first && high == second && over == flag)
         }
         Gadget::SignedHigh => {
-            let High { high, over } = signed_high(s, &x, &y)?;
+            let High { high, over } = signed_high(s, &X, &Y)?;
             Ok(high == second && over == flag)
         }
         Gadget::Quotient => {
-            let Quot { quot, rem, by_zero } = quotient(s, &x, &y)?;
+            let Quot { quot, rem, by_zero } = quotient(s, &X, &Y)?;
             Ok(quot == first && rem == second && by_zero == flag)
         }
     }
-}
-
-// 1 and the bits of two words.
-fn inputs(alloc: Global, x: u32, y: u32) -> Put<ListValues>
-    ensures whole { IfOk result (λ values. values.broken ≡ false) }
-{
-    let mut values = ListValues::new(alloc);
-    values.give(F::ONE)?;
-    fill_bits(&mut values, F::of(u64::from(x)), 32)?;
-    fill_bits(&mut values, F::of(u64::from(y)), 32)?;
-    Ok(values)
 }
 
 // These and the generator's values.
@@ -90,17 +72,6 @@ fn filled(alloc: Global, gadget: Gadget, x: u32, y: u32) -> Put<ListValues> {
         Gadget::Quotient => fill_quotient(&mut values, x, y)?,
     }
     Ok(values)
-}
-
-// The number that 32 wires spell, and what one holds.
-fn word_in(z: &[F], first: u32) -> F
-    requires { first < 1000 }
-{
-    word_from(first).lc().value_in(z)
-}
-
-fn flag_in(z: &[F]) -> F {
-    z.get(FLAG as usize).copied().unwrap_or(-F::ONE)
 }
 
 // The words and the flag as arithmetic on wider numbers gives them.
@@ -143,16 +114,18 @@ fn gadgets_hold_over_their_own_values(rt: HostRuntime) -> Result<(), Fail> {
         let mut list = ListSink::new(rt.alloc(), FIRST);
         assert!(rt; put(&mut list, gadget)?, "{gadget:?} {x} {y}");
         assert_eq!(rt; list.len(), constraints, "{gadget:?} {x} {y}");
-        for i in 0..list.len() {
-            let (a, b, c) = list.row(i);
-            let holds = a.value_in(z) * b.value_in(z) == c.value_in(z);
-            assert!(rt; holds, "{gadget:?} {x} {y}, row {i}");
-        }
+        assert!(rt; all_hold(&list, z), "{gadget:?} {x} {y}");
 
         let (first, second, flag) = wanted(gadget, x, y);
-        assert!(rt; word_in(z, FIRST) == F::of(first), "{gadget:?} {x} {y}");
-        assert!(rt; word_in(z, SECOND) == F::of(second), "{gadget:?} {x} {y}");
-        assert!(rt; flag_in(z) == F::of(u64::from(flag)), "{gadget:?} {x} {y}");
+        assert!(rt;
+            spelt(z, &word_from(FIRST)) == F::of(first),
+            "{gadget:?} {x} {y}"
+        );
+        assert!(rt;
+            spelt(z, &word_from(SECOND)) == F::of(second),
+            "{gadget:?} {x} {y}"
+        );
+        assert!(rt; holds(z, Wire(FLAG), u64::from(flag)), "{gadget:?} {x} {y}");
     }
     Ok(())
 }
@@ -216,9 +189,15 @@ fn gadgets_give_known_answers(rt: HostRuntime) -> Result<(), Fail> {
     ] {
         let values = filled(rt.alloc(), gadget, x, y)?;
         let z = values.as_slice();
-        assert!(rt; word_in(z, FIRST) == F::of(first), "{gadget:?} {x} {y}");
-        assert!(rt; word_in(z, SECOND) == F::of(second), "{gadget:?} {x} {y}");
-        assert!(rt; flag_in(z) == F::of(flag), "{gadget:?} {x} {y}");
+        assert!(rt;
+            spelt(z, &word_from(FIRST)) == F::of(first),
+            "{gadget:?} {x} {y}"
+        );
+        assert!(rt;
+            spelt(z, &word_from(SECOND)) == F::of(second),
+            "{gadget:?} {x} {y}"
+        );
+        assert!(rt; holds(z, Wire(FLAG), flag), "{gadget:?} {x} {y}");
     }
     Ok(())
 }

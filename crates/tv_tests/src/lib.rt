@@ -1,0 +1,19 @@
+//! Tests of the libraries through their public calls: answers on telling inputs, sizes, and false assignments
+//! that a wrong gadget would admit. They stand in a crate of their own, since a crate with tests is proved
+//! twice; nothing here is for callers.
+#![tactic(auto)]
+
+#[cfg(test)]
+mod bits;
+#[cfg(test)]
+mod comparison;
+#[cfg(test)]
+mod inputs;
+#[cfg(test)]
+mod limbs;
+#[cfg(test)]
+mod logic;
+#[cfg(test)]
+mod products;
+#[cfg(test)]
+mod shifts;
