@@ -1,45 +1,54 @@
 //! The comparison of telling words, over the generator's values, over the same with an output altered, and
 //! over false ones.
-
-use crate::inputs::{FIRST, WORDS, X, Y, inputs};
+use crate::inputs::{FIRST, WORDS, X, Y, all_hold, holds, inputs, with_wire};
+use std::alloc::Global;
 use std::test::Fail;
 use tv_cmp::{Cmp, compare, fill_compare};
-use tv_core::{CountSink, F, ListSink, TestSink, give_values};
+use tv_core::{CountSink, F, ListSink, Put, TestSink, give_values};
+
+const CONSTRAINTS: u32 = 16;
 
 fn residue(number: i64) -> F {
     let size = F::of(number.unsigned_abs());
     if number < 0 { -size } else { size }
 }
 
+// What the gadget answers, and how many of its constraints hold.
+fn tested(z: &[F]) -> Put<(Cmp, u32)> {
+    let mut tests = TestSink::over(z, FIRST);
+    let answer = compare(&mut tests, &X, &Y)?;
+    Ok((answer, tests.held()))
+}
+
+// Whether each constraint holds that the gadget puts into a list.
+fn list_holds(alloc: Global, z: &[F]) -> Put<bool> {
+    let mut list = ListSink::new(alloc, FIRST);
+    compare(&mut list, &X, &Y)?;
+    Ok(list.len() == CONSTRAINTS && all_hold(&list, z))
+}
+
+fn is_comparison(z: &[F], answer: &Cmp, x: u32, y: u32) -> bool {
+    let greater = x.cast_signed() > y.cast_signed();
+    holds(z, answer.equal, u64::from(x == y))
+        && holds(z, answer.above, u64::from(x > y))
+        && holds(z, answer.greater, u64::from(greater))
+}
+
 #[test]
 fn telling_words_compare_as_numbers_do(rt: HostRuntime) -> Result<(), Fail> {
-    for place in 0..49 {
-        let (x, y) = (WORDS[place / 7], WORDS[place % 7]);
-        let mut values = inputs(rt.alloc(), x, y)?;
-        fill_compare(&mut values, x, y)?;
-        let z = values.as_slice();
-        let mut tests = TestSink::over(z, FIRST);
-        let cmp = compare(&mut tests, &X, &Y)?;
-        assert_eq!(rt; tests.tested(), 16, "{x:x} {y:x}");
-        assert_eq!(rt; tests.held(), 16, "{x:x} {y:x}");
-        let mut list = ListSink::new(rt.alloc(), FIRST);
-        assert_eq!(rt; compare(&mut list, &X, &Y)?, cmp, "{x:x} {y:x}");
-
-        let Cmp {
-            equal,
-            above,
-            greater,
-        } = cmp;
-        let signed = x.cast_signed() > y.cast_signed();
-        for (wire, set) in [(equal, x == y), (above, x > y), (greater, signed)] {
-            let mut altered = z.to_vec(rt.alloc())?;
-            let place = wire.0 as usize;
-            assert!(rt; place < altered.len(), "{x:x} {y:x}");
-            assert_eq!(rt; altered[place].number(), u64::from(set), "{x:x} {y:x}");
-            altered[place] = F::ONE - altered[place];
-            let mut refuses = TestSink::over(&altered, FIRST);
-            compare(&mut refuses, &X, &Y)?;
-            assert!(rt; refuses.held() < 16, "{x:x} {y:x}");
+    for x in WORDS {
+        for y in WORDS {
+            let mut values = inputs(rt.alloc(), x, y)?;
+            fill_compare(&mut values, x, y)?;
+            let z = values.as_slice();
+            let (answer, held) = tested(z)?;
+            assert_eq!(rt; held, CONSTRAINTS, "{x:x} {y:x}");
+            assert!(rt; is_comparison(z, &answer, x, y), "{x:x} {y:x}");
+            assert!(rt; list_holds(rt.alloc(), z)?, "{x:x} {y:x}");
+            for wire in [answer.equal, answer.above, answer.greater] {
+                let altered = with_wire(rt.alloc(), z, wire, |bit| F::ONE - bit)?;
+                assert!(rt; tested(&altered)?.1 < CONSTRAINTS, "{x:x} {y:x}");
+            }
         }
     }
     Ok(())

@@ -1,7 +1,7 @@
 //! What the tests share: two words as inputs, and what a list of constraints and a row of bits say.
 ghost use Rattle.std.specs.Prelude.{◌≡◌, false, IfOk};
 
-use std::alloc::Global;
+use std::alloc::{AllocError, Global};
 use tv_bits::{Bits, fill_bits};
 use tv_core::{F, ListSink, ListValues, Put, Values, Wire};
 
@@ -50,6 +50,22 @@ pub fn spelt(z: &[F], bits: &Bits) -> F {
 /// Whether a wire holds a number.
 pub fn holds(z: &[F], wire: Wire, number: u64) -> bool {
     z.get(wire.0 as usize) == Some(&F::of(number))
+}
+
+/// The numbers, of which a wire's is altered.
+pub fn with_wire<A: Fn(F) -> F>(
+    alloc: Global,
+    z: &[F],
+    wire: Wire,
+    alter: A,
+) -> Result<Vec<F>, AllocError>
+    requires { A.IsAlwaysCallable alter }
+{
+    let mut numbers = z.to_vec(alloc)?;
+    if let Some(number) = numbers.get_mut(wire.0 as usize) {
+        *number = alter(*number);
+    }
+    Ok(numbers)
 }
 
 /// Whether each constraint of a list holds.

@@ -74,26 +74,38 @@ fn filled(alloc: Global, gadget: Gadget, x: u32, y: u32) -> Put<ListValues> {
     Ok(values)
 }
 
+// The words of a number of 64 bits, the low one first.
+fn halves(number: u64) -> (u64, u64) {
+    (number % 4_294_967_296, number >> 32)
+}
+
+// The words of the product, and whether the high one is not 0.
+fn product_of(x: u32, y: u32) -> (u64, u64, bool) {
+    let (low, high) = halves(u64::from(x) * u64::from(y));
+    (low, high, high != 0)
+}
+
+// The words of the signed product, and whether it is no signed word.
+fn signed_product_of(x: u32, y: u32) -> (u64, u64, bool) {
+    let product = i64::from(x.cast_signed()) * i64::from(y.cast_signed());
+    let (low, high) = halves(product.cast_unsigned());
+    (low, high, !(-2_147_483_648..2_147_483_648).contains(&product))
+}
+
+// The quotient and the remainder, and whether it is by 0.
+fn quotient_of(x: u32, y: u32) -> (u64, u64, bool) {
+    match x.checked_div(y) {
+        Some(quot) => (u64::from(quot), u64::from(x % y), false),
+        None => (0, 0, true),
+    }
+}
+
 // The words and the flag as arithmetic on wider numbers gives them.
 fn wanted(gadget: Gadget, x: u32, y: u32) -> (u64, u64, bool) {
-    let product = u64::from(x) * u64::from(y);
-    let signed = i64::from(x.cast_signed()) * i64::from(y.cast_signed());
-    let twos = signed.cast_unsigned();
     match gadget {
-        Gadget::Product => (
-            product % 4_294_967_296,
-            product >> 32,
-            product > 4_294_967_295,
-        ),
-        Gadget::SignedHigh => (
-            twos % 4_294_967_296,
-            twos >> 32,
-            !(-2_147_483_648..2_147_483_648).contains(&signed),
-        ),
-        Gadget::Quotient => match x.checked_div(y) {
-            Some(quot) => (u64::from(quot), u64::from(x % y), false),
-            None => (0, 0, true),
-        },
+        Gadget::Product => product_of(x, y),
+        Gadget::SignedHigh => signed_product_of(x, y),
+        Gadget::Quotient => quotient_of(x, y),
     }
 }
 
