@@ -1,5 +1,5 @@
 //! Whole files, over any `Files`: read into memory, or written from it.
-ghost use Rattle.std.specs.Prelude.{◌≡◌, ℕ, ◌≤◌, length, Some, IfOk, OnOk, OnErr};
+ghost use Rattle.std.specs.Prelude.{◌≡◌, ℕ, ◌≤◌, length, Some, None, IfOk, OnOk, OnErr};
 ghost use Rattle.tv_files.specs.Outside.{OnlyReads, OnlyWrites, SameCounts, Told, MissesOnly, Rose};
 ghost use Rattle.tv_files.specs.Whole.{IsLonger, HasBytes, HasPart};
 
@@ -16,7 +16,8 @@ const PIECE: usize = 4096;
 /// `Ok` is the contents of the name, which are at most `most` bytes. `TooLong` comes exactly where the
 /// name has more than that: byte number `most + 1` was read. `Fault` comes only where the count of
 /// faults of reading rose, and a missing name is such a fault. `Memory` is want of memory, here or
-/// outside. Nothing outside is changed but the counts.
+/// outside. Nothing outside is changed but the counts, and these only where it ends by `Fault` or
+/// `Memory`.
 pub fn slurp<D: Files>(
     alloc: Global,
     files: &mut D,
@@ -29,8 +30,11 @@ pub fn slurp<D: Files>(
         (limit ≡ most) × Told (D.seen files.old) (λ held. IsLonger most (held name.now)) }
     ensures fault { result ≡ Err Slurp.Fault →
         Rose (D.seen files.old).read_faults (D.seen files.new).read_faults }
+    ensures missing { Told (D.seen files.old) (λ held. held name.now ≡ None → result ≡ Err Slurp.Fault) }
     ensures only { OnlyReads (D.seen files.old) (D.seen files.new) }
     ensures counts { OnOk result (SameCounts (D.seen files.old) (D.seen files.new)) }
+    ensures longer_counts { (limit : ℕ) → result ≡ Err (Slurp.TooLong limit) →
+        SameCounts (D.seen files.old) (D.seen files.new) }
     ensures there { MissesOnly (D.seen files.old) (D.seen files.new) name.now }
 {
     let mut contents = Vec::new(alloc);
