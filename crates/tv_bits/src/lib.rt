@@ -10,6 +10,7 @@ mod prefixes;
 mod rows;
 mod selection;
 mod spelling;
+mod terms;
 #[cfg(test)]
 mod tests;
 mod zeros;

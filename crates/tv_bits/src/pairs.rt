@@ -3,6 +3,7 @@ ghost use Rattle.tv_bits.specs.Pairs.{plus_times, side, two_ands_of, TwoAndsAreS
 ghost use Rattle.tv_core.specs.Combinations.{top};
 ghost use Rattle.tv_core.specs.Sinks.{PutsIn, Grows, Room};
 
+use crate::terms::plus_terms;
 use tv_core::{F, Lc, Put, Sink, Wire};
 
 /// Holds `m` to the product of `x_a` and `y_a` plus `gamma` squared times that of `x_b` and `y_b`, where
@@ -64,18 +65,6 @@ fn plus_side(
     plus_terms(lc, F::ONE, y_a);
     plus_terms(lc, c * k, x_b);
     plus_terms(lc, -c, y_b);
-}
-
-// Appends `k` times each of these terms.
-fn plus_terms(lc: &mut Lc, k: F, terms: &[(F, Wire)])
-    requires { length lc.old + length terms.now ≤ 128 }
-    ensures terms { lc.new ≡ plus_times lc.old k terms.now }
-    ensures len { length lc.new ≡ length lc.old + length terms.now }
-    ensures top { top lc.new ≡ max (top lc.old) (top terms.now) }
-{
-    for (coefficient, wire) in terms {
-        lc.plus(k * *coefficient, *wire);
-    }
 }
 
 /// In an assignment that meets what `two_ands` put, `m` is the sum of the products, the four being bits.
