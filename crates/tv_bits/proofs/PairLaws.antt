@@ -1,5 +1,5 @@
 -- The laws of two ands in one constraint.
-use Rattle.std.proofs.Common.{◌⊎◌, ◌≡◌, ℕ, ◌+◌, ◌-◌, ◌*◌, ◌/◌, ◌%◌, ◌<◌, List, inl, inr, refl, sym, ◌∙◌, ap, ap₂, arith, mod-eq_of_lt, eq-zero-or-pos}
+use Rattle.std.proofs.Common.{◌⊎◌, ◌≡◌, ℕ, ◌+◌, ◌-◌, ◌*◌, ◌/◌, ◌%◌, ◌++◌, List, inl, inr, refl, sym, ◌∙◌, ap, ap₂, arith, mod-eq_of_lt, eq-zero-or-pos}
 use Rattle.std.proofs.Math.Nat.{add-mod-mod, mod-add-mod}
 use Rattle.std.proofs.lemmas.Nat.{mul-mod, mul-mod_first}
 use Rattle.tv_core.proofs.CombinationLaws.{value-append, value-scaled, value-below, value-constant}
@@ -78,15 +78,14 @@ module _ {z : List ℕ} (assigns : Assigns z) where
   value-side : (x_a y_a x_b y_b : Combination) (c k d : ℕ) → d + value y_b z ≡ 1 + k * value x_b z
       → value (side x_a y_a x_b y_b c k) z ≡ (value x_a z + value y_a z + c * d) % P
   value-side x_a y_a x_b y_b c k d gap =
-      let first : value (plus_times (constant c) 1 x_a) z ≡ (c + value x_a z) % P = value-plus_times (constant c) 1 x_a ∙ ap (λ n. (n + 1 * value x_a z) % P) (value-constant assigns c) ∙ omega arith in
-      let second : value (plus_times (plus_times (constant c) 1 x_a) 1 y_a) z ≡ (c + value x_a z + value y_a z) % P =
-      value-plus_times (plus_times (constant c) 1 x_a) 1 y_a ∙ ap (λ n. (n + 1 * value y_a z) % P) first ∙ omega arith in
-      let third : value (plus_times (plus_times (plus_times (constant c) 1 x_a) 1 y_a) (c * k % P) x_b) z ≡ (c + value x_a z + value y_a z + c * k * value x_b z) % P =
-      value-plus_times (plus_times (plus_times (constant c) 1 x_a) 1 y_a) (c * k % P) x_b
+      let first : value (constant c ++ x_a) z ≡ (c + value x_a z) % P = value-append (constant c) x_a z ∙ ap (λ n. (n + value x_a z) % P) (value-constant assigns c) ∙ omega arith in
+      let second : value ((constant c ++ x_a) ++ y_a) z ≡ (c + value x_a z + value y_a z) % P = value-append (constant c ++ x_a) y_a z ∙ ap (λ n. (n + value y_a z) % P) first ∙ omega arith in
+      let third : value (plus_times ((constant c ++ x_a) ++ y_a) (c * k % P) x_b) z ≡ (c + value x_a z + value y_a z + c * k * value x_b z) % P =
+      value-plus_times ((constant c ++ x_a) ++ y_a) (c * k % P) x_b
       ∙ add-mod_same _ (c + value x_a z + value y_a z) (c * k % P * value x_b z) (c * k * value x_b z) P (ap (λ n. n % P) second ∙ omega arith) (mul-mod_first (c * k) (value x_b z) P) in
       let times : c * (d + value y_b z) ≡ c * (1 + k * value x_b z) = ap (λ n. c * n) gap in
       let regroup : (n : ℕ) → c + value x_a z + value y_a z + c * k * value x_b z + n * value y_b z ≡ value x_a z + value y_a z + c * d + (c * value y_b z + n * value y_b z) = λ n. omega (arith, times) in
-      value-plus_times (plus_times (plus_times (plus_times (constant c) 1 x_a) 1 y_a) (c * k % P) x_b) (negative c) y_b
+      value-plus_times (plus_times ((constant c ++ x_a) ++ y_a) (c * k % P) x_b) (negative c) y_b
       ∙ add-mod_same _ (c + value x_a z + value y_a z + c * k * value x_b z) (negative c * value y_b z) (negative c * value y_b z) P (ap (λ n. n % P) third ∙ omega arith) refl
       ∙ ap (λ n. n % P) (regroup (negative c))
       ∙ nothing (value x_a z + value y_a z + c * d) c (value y_b z)

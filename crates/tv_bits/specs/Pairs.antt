@@ -21,7 +21,7 @@ negative k = (P - k % P) % P
 
 -- x_a + y_a + c (1 + k x_b - y_b)
 abbrev pub side : Combination → Combination → Combination → Combination → ℕ → ℕ → Combination
-side x_a y_a x_b y_b c k = plus_times (plus_times (plus_times (plus_times (constant c) 1 x_a) 1 y_a) (c * k % P) x_b) (negative c) y_b
+side x_a y_a x_b y_b c k = plus_times (plus_times ((constant c ++ x_a) ++ y_a) (c * k % P) x_b) (negative c) y_b
 
 -- m is two ands, where the four others are bits: with u = x_a + y_a and v = x_b + 1 - y_b it says that
 -- u + γ v times u - γ v is u - γ² (3 x_b + 1 - y_b) + 2 m

@@ -3,7 +3,7 @@ ghost use Rattle.tv_bits.specs.Pairs.{plus_times, side, two_ands_of, TwoAndsAreS
 ghost use Rattle.tv_core.specs.Combinations.{top};
 ghost use Rattle.tv_core.specs.Sinks.{PutsIn, Grows, Room};
 
-use crate::terms::plus_terms;
+use crate::terms::{plus_all, plus_terms};
 use tv_core::{F, Lc, Put, Sink, Wire};
 
 /// Holds `m` to the product of `x_a` and `y_a` plus `gamma` squared times that of `x_b` and `y_b`, where
@@ -61,8 +61,8 @@ fn plus_side(
     ensures top { top lc.new ≡ max 1 (max (max (top x_a.now) (top y_a.now)) (max (top x_b.now) (top y_b.now))) }
 {
     lc.plus(c, Wire(0));
-    plus_terms(lc, F::ONE, x_a);
-    plus_terms(lc, F::ONE, y_a);
+    plus_all(lc, x_a);
+    plus_all(lc, y_a);
     plus_terms(lc, c * k, x_b);
     plus_terms(lc, -c, y_b);
 }

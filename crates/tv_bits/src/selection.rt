@@ -4,7 +4,7 @@ ghost use Rattle.tv_core.specs.Combinations.{top};
 ghost use Rattle.tv_core.specs.Giving.{GivesIn};
 ghost use Rattle.tv_core.specs.Sinks.{PutsIn, Grows, Room};
 
-use crate::terms::plus_terms;
+use crate::terms::{plus_all, plus_terms};
 use tv_core::{F, Lc, Put, Sink, Values, Wire};
 
 /// A wire that is `x` where the bit `b` is 1, and `y` where it is 0. It makes 1 wire and 1 constraint.
@@ -20,11 +20,15 @@ pub fn select<S: Sink>(s: &mut S, b: Wire, x: &[(F, Wire)], y: &[(F, Wire)]) -> 
     ensures below { IfOk result (λ chosen. chosen < S.meaning.wires s.new) }
 {
     let chosen = s.fresh();
-    let mut difference = Lc::from_terms(x);
+    let mut bit = Lc::empty();
+    bit.plus(F::ONE, b);
+    let mut difference = Lc::empty();
+    plus_all(&mut difference, x);
     plus_terms(&mut difference, -F::ONE, y);
-    let mut rest = Lc::wire(chosen);
+    let mut rest = Lc::empty();
+    rest.plus(F::ONE, chosen);
     plus_terms(&mut rest, -F::ONE, y);
-    s.put(&Lc::wire(b), &difference, &rest)?;
+    s.put(&bit, &difference, &rest)?;
     Ok(chosen)
 }
 

@@ -1,4 +1,4 @@
-ghost use Rattle.std.specs.Prelude.{◌≡◌, ◌+◌, ◌≤◌, length, max};
+ghost use Rattle.std.specs.Prelude.{◌≡◌, ◌+◌, ◌≤◌, ◌++◌, length, max};
 ghost use Rattle.tv_bits.specs.Pairs.{plus_times};
 ghost use Rattle.tv_core.specs.Combinations.{top};
 
@@ -13,5 +13,17 @@ pub(crate) fn plus_terms(lc: &mut Lc, k: F, terms: &[(F, Wire)])
 {
     for (coefficient, wire) in terms {
         lc.plus(k * *coefficient, *wire);
+    }
+}
+
+// Appends these terms.
+pub(crate) fn plus_all(lc: &mut Lc, terms: &[(F, Wire)])
+    requires { length lc.old + length terms.now ≤ 128 }
+    ensures terms { lc.new ≡ lc.old ++ terms.now }
+    ensures len { length lc.new ≡ length lc.old + length terms.now }
+    ensures top { top lc.new ≡ max (top lc.old) (top terms.now) }
+{
+    for (coefficient, wire) in terms {
+        lc.plus(*coefficient, *wire);
     }
 }
