@@ -78,7 +78,7 @@ fn lowest_pair(word: Wire, first: Wire) -> Lc
     ensures len { length result ≡ 16 }
 {
     let mut lc = Lc::wire(word);
-    lc.plus_scaled(-F::of(2), &Bits { first, n: 15 }.lc());
+    Bits { first, n: 15 }.plus_to(&mut lc, -F::of(2));
     lc
 }
 

@@ -47,7 +47,7 @@ fn times_half(first: Wire, n: u32) -> Lc
     ensures top { top result ≤ first + n }
 {
     let mut lc = Lc::empty();
-    lc.plus_scaled(F::of(65_536), &Bits { first, n }.lc());
+    Bits { first, n }.plus_to(&mut lc, F::of(65_536));
     lc
 }
 
