@@ -9,13 +9,11 @@ use Rattle.tv_core.specs.Combinations.{constant}
 use Rattle.tv_core.specs.Constraints.{Combination, value}
 use Rattle.tv_core.specs.Laws.{Assigns}
 use Rattle.tv_core.specs.declared.field.TheConstants.{P}
+use Rattle.tv_bits.proofs.BitLaws.{bit_cases}
 use Rattle.tv_bits.specs.Bit.{IsBit}
 use Rattle.tv_bits.specs.Pairs.{plus_times, negative, side, two_ands_of, TwoAndsAreSound, TwoAndsAreComplete}
 
 -- ---- numbers
-bit_cases : (b : ℕ) → IsBit b → (b ≡ 0) ⊎ (b ≡ 1)
-bit_cases b h = elim (eq-zero-or-pos b) [ inl none ↦ inl none | inr some ↦ inr (omega arith) ]
-
 -- the square of the sum of two bits
 square_sum : (x y : ℕ) → IsBit x → IsBit y → (x + y) * (x + y) ≡ x + y + 2 * (x * y)
 square_sum x y h k = elim (bit_cases x h) [

@@ -17,6 +17,11 @@ use Rattle.tv_core.specs.declared.field.TheConstants.{P}
 use Rattle.tv_bits.specs.Bit.{IsBit}
 use Rattle.tv_bits.specs.Bits.{Spells, spelled, bits_combination, bits_values}
 
+-- the sum of sums
+pub sum_below-plus : (n : ℕ) (f g : ℕ → ℕ) → sum_below n (λ i. f i + g i) ≡ sum_below n f + sum_below n g
+sum_below-plus zero f g = omega (arith, sum_below-zero (λ i. f i + g i), sum_below-zero f, sum_below-zero g)
+sum_below-plus (suc n) f g = omega (arith, sum_below-suc n (λ i. f i + g i), sum_below-suc n f, sum_below-suc n g, sum_below-plus n f g)
+
 -- a multiple of the combination, bit by bit
 pub scaled-bits-zero : (k first : ℕ) → scaled k (bits_combination first 0) ≡ []
 scaled-bits-zero k first = ap (scaled k) (weighted-zero first (λ i. 2 ^ i % P))

@@ -14,11 +14,6 @@ pub values-more : (k y : ℕ) → thermometer_values (suc k) y ≡ thermometer_v
 unfolding thermometer_values
 values-more k y = refl
 
--- a last call whose result is the whole's
-pub gives_in_then : {V : Type 0} (m : Giving V) (xs ys : List ℕ) (old mid new : V) (result : Result (Unit {0}) SinkFault) → GivesAll m old mid xs → GivesIn m mid new ys result → GivesIn m old new (xs ++ ys) result
-gives_in_then m xs ys old mid new (Ok done) p q = gives_then m xs ys old mid new p q
-gives_in_then m xs ys old mid new (Err fault) p q = gives_then_refused m xs ys old mid new fault p q
-
 module _ {V : Type 0} (m : Giving V) (y : ℕ) where
   pub gives_no_level : (v : V) → GivesAll m v v (thermometer_values 0 y)
   gives_no_level v = rw values-none (gives_nothing m v)

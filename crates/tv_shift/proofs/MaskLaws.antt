@@ -7,7 +7,7 @@ use Rattle.std.proofs.lemmas.Nat.Bits.{bit_at-lt}
 use Rattle.std.specs.Int.{bit_at}
 use Rattle.std.specs.Prelude.{slice_index}
 use Rattle.tv_bits.proofs.PairLaws.{two_ands_sound, two_ands_complete}
-use Rattle.tv_bits.proofs.SpelledNumbers.{Spells-below, Spells-bit_at, Spells-low, Spells-high, picked-bit_at}
+use Rattle.tv_bits.proofs.SpelledNumbers.{sum_below-plus, Spells-below, Spells-bit_at, Spells-low, Spells-high, picked-bit_at}
 use Rattle.tv_bits.specs.Bit.{IsBit}
 use Rattle.tv_bits.specs.Bits.{Spells, bits_combination}
 use Rattle.tv_bits.specs.Pairs.{two_ands, two_ands_of}
@@ -23,7 +23,7 @@ use Rattle.tv_core.specs.Constraints.{Combination, value}
 use Rattle.tv_core.specs.Laws.{Assigns, Meets, HasFrom}
 use Rattle.tv_core.specs.Loops.{times}
 use Rattle.tv_core.specs.declared.field.TheConstants.{P}
-use Rattle.tv_shift.proofs.HalfLaws.{bit_cases}
+use Rattle.tv_bits.proofs.BitLaws.{bit_cases}
 use Rattle.tv_shift.proofs.ThermometerLaws.{below-in, below-out, below-bit, Marks}
 use Rattle.tv_shift.specs.Halves.{chosen_half, other_half}
 use Rattle.tv_shift.specs.Masks.{pair_of, masked_of, masked_value, masked_values, mask_at, mask_value, digit_at}
@@ -33,10 +33,6 @@ use Rattle.tv_shift.specs.declared.masks.Part.TheVariants.{Low, High}
 use Rattle.tv_shift.specs.declared.masks.Places.{Places}
 
 -- ---- sums
-sum_below-plus : (n : ℕ) (f g : ℕ → ℕ) → sum_below n (λ i. f i + g i) ≡ sum_below n f + sum_below n g
-sum_below-plus zero f g = omega (arith, sum_below-zero f, sum_below-zero g, sum_below-zero (λ i. f i + g i))
-sum_below-plus (suc n) f g = omega (arith, sum_below-suc n f, sum_below-suc n g, sum_below-suc n (λ i. f i + g i), sum_below-plus n f g)
-
 -- the s low bits of a number are its remainder
 pub low_part : (n s u : ℕ) → s ≤ n → sum_below n (λ i. 2 ^ i * (below i s * bit_at u i)) ≡ u % 2 ^ s
 low_part n s u short =

@@ -20,7 +20,7 @@ use Rattle.tv_core.specs.Constraints.{Combination, value}
 use Rattle.tv_core.specs.Laws.{Assigns, Meets, HasFrom}
 use Rattle.tv_core.specs.Loops.{times}
 use Rattle.tv_core.specs.declared.field.TheConstants.{P}
-use Rattle.tv_shift.proofs.HalfLaws.{bit_cases}
+use Rattle.tv_bits.proofs.BitLaws.{bit_cases}
 use Rattle.tv_shift.proofs.LevelValues.{values-none, values-more}
 use Rattle.tv_shift.proofs.MarkTerms.{lt-true, lt-false, power-above, products-more, both-in, both-last, mark-none, mark-low, mark-high}
 use Rattle.tv_shift.proofs.ProductLaws.{product_sound, product_complete}
