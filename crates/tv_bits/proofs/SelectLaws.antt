@@ -1,5 +1,5 @@
 -- The laws of a choice.
-use Rattle.std.proofs.Common.{◌≡◌, ◌⊎◌, mod-lt, ℕ, ◌+◌, ◌-◌, ◌*◌, ◌%◌, ◌<◌, List, inl, inr, refl, sym, ◌∙◌, ap, ap₂, arith, eq-zero-or-pos}
+use Rattle.std.proofs.Common.{◌≡◌, mod-lt, ℕ, ◌+◌, ◌-◌, ◌*◌, ◌%◌, ◌<◌, List, inl, inr, refl, sym, ◌∙◌, ap, ap₂, arith}
 use Rattle.std.specs.Prelude.{slice_index}
 use Rattle.tv_core.proofs.CombinationLaws.{value-less, value-below, value-wire, wire-below}
 use Rattle.tv_core.proofs.DifferenceLaws.{same_of_minus, cancel_minus}

@@ -1,7 +1,4 @@
-use Rattle.std.proofs.Common.{◌≡◌, ◌-◌, ◌+◌, ◌++◌, ◌∙◌, ap, ap₂, arith}
-use Rattle.tv_core.specs.Combinations.{scaled, less}
 use Rattle.tv_bits.proofs.SpelledNumbers.{scaled-bits-once}
-use Rattle.tv_bits.specs.Bits.{bits_combination}
 use Rattle.tv_bits.proofs.prefixes.fill_prefix_less.Goals as goal
 
 pub returns-clause-terms : goal.returns-clause-terms
