@@ -3,7 +3,7 @@ ghost use Rattle.tv_bits.specs.Pairs.{plus_times, side, two_ands_of, TwoAndsAreS
 ghost use Rattle.tv_core.specs.Combinations.{top};
 ghost use Rattle.tv_core.specs.Sinks.{PutsIn, Grows, Room};
 
-use crate::terms::{plus_all, plus_terms};
+use crate::terms::{plus_all, plus_scaled};
 use tv_core::{F, Lc, Put, Sink, Wire};
 
 /// Holds `m` to the product of `x_a` and `y_a` plus `gamma` squared times that of `x_b` and `y_b`, where
@@ -37,7 +37,7 @@ pub fn two_ands<S: Sink>(
     plus_side(&mut right, x_a, y_a, x_b, y_b, -gamma, F::ONE);
     let mut rest = Lc::empty();
     plus_side(&mut rest, x_a, y_a, x_b, y_b, -(gamma * gamma), F::of(3));
-    plus_terms(&mut rest, F::of(2), m);
+    plus_scaled(&mut rest, F::of(2), m);
     s.put(&left, &right, &rest)
 }
 
@@ -63,8 +63,8 @@ fn plus_side(
     lc.plus(c, Wire(0));
     plus_all(lc, x_a);
     plus_all(lc, y_a);
-    plus_terms(lc, c * k, x_b);
-    plus_terms(lc, -c, y_b);
+    plus_scaled(lc, c * k, x_b);
+    plus_scaled(lc, -c, y_b);
 }
 
 /// In an assignment that meets what `two_ands` put, `m` is the sum of the products, the four being bits.

@@ -4,7 +4,7 @@ ghost use Rattle.tv_core.specs.Combinations.{top};
 ghost use Rattle.tv_core.specs.Giving.{GivesIn};
 ghost use Rattle.tv_core.specs.Sinks.{PutsIn, Grows, Room};
 
-use crate::terms::{plus_all, plus_terms};
+use crate::terms::{plus_all, plus_scaled};
 use tv_core::{F, Lc, Put, Sink, Values, Wire};
 
 /// A wire that is `x` where the bit `b` is 1, and `y` where it is 0. It makes 1 wire and 1 constraint.
@@ -24,10 +24,10 @@ pub fn select<S: Sink>(s: &mut S, b: Wire, x: &[(F, Wire)], y: &[(F, Wire)]) -> 
     bit.plus(F::ONE, b);
     let mut difference = Lc::empty();
     plus_all(&mut difference, x);
-    plus_terms(&mut difference, -F::ONE, y);
+    plus_scaled(&mut difference, -F::ONE, y);
     let mut rest = Lc::empty();
     rest.plus(F::ONE, chosen);
-    plus_terms(&mut rest, -F::ONE, y);
+    plus_scaled(&mut rest, -F::ONE, y);
     s.put(&bit, &difference, &rest)?;
     Ok(chosen)
 }

@@ -1,13 +1,12 @@
 ghost use Rattle.std.specs.Prelude.{◌≡◌, ◌+◌, ◌≤◌, ◌++◌, length, max};
-ghost use Rattle.tv_bits.specs.Pairs.{plus_times};
-ghost use Rattle.tv_core.specs.Combinations.{top};
+ghost use Rattle.tv_core.specs.Combinations.{scaled, top};
 
 use tv_core::{F, Lc, Wire};
 
 // Appends `k` times each of these terms.
-pub(crate) fn plus_terms(lc: &mut Lc, k: F, terms: &[(F, Wire)])
+pub(crate) fn plus_scaled(lc: &mut Lc, k: F, terms: &[(F, Wire)])
     requires { length lc.old + length terms.now ≤ 128 }
-    ensures terms { lc.new ≡ plus_times lc.old k terms.now }
+    ensures terms { lc.new ≡ lc.old ++ scaled k terms.now }
     ensures len { length lc.new ≡ length lc.old + length terms.now }
     ensures top { top lc.new ≡ max (top lc.old) (top terms.now) }
 {
