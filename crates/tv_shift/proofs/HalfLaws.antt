@@ -1,5 +1,5 @@
 -- The laws of the chosen half of a word.
-use Rattle.std.proofs.Common.{◌⊎◌, ◌≡◌, ℕ, ◌+◌, ◌*◌, ◌/◌, ◌%◌, ◌^◌, ◌<◌, ◌≤◌, List, [], inl, inr, refl, sym, subst, ◌∙◌, ap, ap₂, arith, mul-one, eq-zero-or-pos}
+use Rattle.std.proofs.Common.{◌≡◌, ℕ, ◌+◌, ◌^◌, ◌<◌, List, [], inl, inr, refl, sym, ◌∙◌, ap, ap₂, arith, mul-one}
 use Rattle.std.specs.Int.{bit_at}
 use Rattle.std.specs.Prelude.{slice_index}
 use Rattle.tv_bits.proofs.BitLaws.{bit_cases}
@@ -16,7 +16,7 @@ use Rattle.tv_core.specs.Circuits.{here, fresh, put, pure, ◌>>=◌}
 use Rattle.tv_core.specs.Combinations.{wire}
 use Rattle.tv_core.specs.Laws.{Assigns, Meets, HasFrom}
 use Rattle.tv_core.specs.Loops.{times}
-use Rattle.tv_shift.specs.Halves.{chosen_half, other_half, half_bit_of, halves_of}
+use Rattle.tv_shift.specs.Halves.{chosen_half, half_bit_of, halves_of}
 
 half_bit-next : (n b x i at : ℕ) → (half_bit_of n b x i at).next ≡ at + 1
 unfolding half_bit_of select_of fresh put pure ◌>>=◌

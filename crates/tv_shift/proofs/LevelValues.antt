@@ -1,8 +1,8 @@
 -- The values of the levels of a thermometer, given one level after another.
-use Rattle.std.proofs.Common.{◌≡◌, ℕ, zero, suc, ◌+◌, ◌-◌, ◌<◌, List, [], ◌++◌, Result, Ok, Err, inl, inr, refl, sym, subst, arith, add-one}
+use Rattle.std.proofs.Common.{◌≡◌, ℕ, zero, suc, ◌+◌, ◌<◌, [], ◌++◌, inl, inr, refl, subst, arith, add-one}
 use Rattle.std.proofs.lemmas.Bool.{cases_eq}
 use Rattle.tv_core.proofs.GivingChain.{gives_then, gives_then_refused, gives_refused_then, gives_nothing}
-use Rattle.tv_core.specs.Giving.{Giving, GivesAll, GivesSome, GivesIn}
+use Rattle.tv_core.specs.Giving.{Giving, GivesAll, GivesSome}
 use Rattle.tv_core.specs.declared.sink.SinkFault.{SinkFault}
 use Rattle.tv_shift.specs.Thermometer.{level_values, thermometer_values}
 

@@ -1,5 +1,5 @@
 -- The laws of a part that masks let through.
-use Rattle.std.proofs.Common.{◌⊎◌, ◌≡◌, ℕ, zero, suc, ◌+◌, ◌-◌, ◌*◌, ◌/◌, ◌%◌, ◌^◌, ◌<◌, ◌≤◌, List, [], ◌∷◌, ◌++◌, inl, inr, refl, sym, subst, ◌∙◌, ap, ap₂, arith, mul-one, mod-lt, mod-eq_of_lt}
+use Rattle.std.proofs.Common.{◌≡◌, ℕ, ◌+◌, ◌-◌, ◌*◌, ◌/◌, ◌%◌, ◌^◌, ◌<◌, ◌≤◌, List, [], ◌++◌, inl, inr, refl, sym, ◌∙◌, ap, ap₂, arith, mul-one, mod-eq_of_lt}
 use Rattle.std.proofs.Math.Nat.{mod-le}
 use Rattle.std.proofs.lemmas.Bool.{cases_lt}
 use Rattle.std.proofs.lemmas.Nat.{pow-add, mul-mod_first}
@@ -12,13 +12,13 @@ use Rattle.tv_bits.specs.Bit.{IsBit}
 use Rattle.tv_bits.specs.Bits.{Spells, bits_combination}
 use Rattle.tv_bits.specs.Pairs.{two_ands, two_ands_of}
 use Rattle.tv_bits.specs.Select.{selected}
-use Rattle.tv_core.proofs.BelowLaws.{sum_below-zero, sum_below-suc, sum_below-same, sum_below-mod_same, sum_below-zeros, sum_below-add, value-weighted, has_each}
-use Rattle.tv_core.proofs.CombinationLaws.{value-append, value-less, value-wire, wire-below}
+use Rattle.tv_core.proofs.BelowLaws.{sum_below-same, sum_below-mod_same, sum_below-zeros, sum_below-add, value-weighted, has_each}
+use Rattle.tv_core.proofs.CombinationLaws.{value-append, value-less, value-wire}
 use Rattle.tv_core.proofs.LoopLaws.{turn_met, turns_met, turns-next}
 use Rattle.tv_core.proofs.Meeting.{Meets-split, Meets-join}
 use Rattle.tv_core.specs.Below.{sum_below}
 use Rattle.tv_core.specs.Circuits.{here, fresh, put, pure, ◌>>=◌}
-use Rattle.tv_core.specs.Combinations.{wire, less}
+use Rattle.tv_core.specs.Combinations.{wire}
 use Rattle.tv_core.specs.Constraints.{Combination, value}
 use Rattle.tv_core.specs.Laws.{Assigns, Meets, HasFrom}
 use Rattle.tv_core.specs.Loops.{times}
@@ -27,7 +27,7 @@ use Rattle.tv_bits.proofs.BitLaws.{bit_cases}
 use Rattle.tv_shift.proofs.ThermometerLaws.{below-in, below-out, below-bit, Marks}
 use Rattle.tv_shift.specs.Halves.{chosen_half, other_half}
 use Rattle.tv_shift.specs.Masks.{pair_of, masked_of, masked_value, masked_values, mask_at, mask_value, digit_at}
-use Rattle.tv_shift.specs.Thermometer.{below, mark}
+use Rattle.tv_shift.specs.Thermometer.{below}
 use Rattle.tv_shift.specs.declared.masks.Part.{Part}
 use Rattle.tv_shift.specs.declared.masks.Part.TheVariants.{Low, High}
 use Rattle.tv_shift.specs.declared.masks.Places.{Places}
