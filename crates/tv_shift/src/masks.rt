@@ -96,14 +96,23 @@ pub(crate) fn masked<S: Sink>(s: &mut S, places: &Places, part: Part) -> Put<Wir
     ensures below { IfOk result (λ first. first + 8 ≤ S.meaning.wires s.new) }
 {
     let first = Wire(s.wires());
+    let mut mask = Lc::empty();
+    let mut mask_above = Lc::empty();
     for i in 0..8 {
-        pair(s, places, part, i)?;
+        pair(s, places, part, i, &mut mask, &mut mask_above)?;
     }
     Ok(first)
 }
 
-// A wire that is bit `i` of a part, plus 2^8 times bit 8 + `i`.
-fn pair<S: Sink>(s: &mut S, places: &Places, part: Part, i: u32) -> Put<()>
+// A wire that is bit `i` of a part, plus 2^8 times bit 8 + `i`. The two combinations are filled with their masks.
+fn pair<S: Sink>(
+    s: &mut S,
+    places: &Places,
+    part: Part,
+    i: u32,
+    mask: &mut Lc,
+    mask_above: &mut Lc,
+) -> Put<()>
     requires room { Room S.meaning s.old 1 1 }
     requires there { i < 8 }
     requires made { AreMade places.now (S.meaning.wires s.old) }
@@ -111,10 +120,8 @@ fn pair<S: Sink>(s: &mut S, places: &Places, part: Part, i: u32) -> Put<()>
     ensures grows { IfOk result (λ _. Grows S.meaning s.old s.new 1 1) }
 {
     let m = [(F::ONE, s.fresh())];
-    let mut mask = Lc::empty();
-    places.fill_mask(&mut mask, part, i);
-    let mut mask_above = Lc::empty();
-    places.fill_mask(&mut mask_above, part, 8 + i);
+    places.fill_mask(mask, part, i);
+    places.fill_mask(mask_above, part, 8 + i);
     match part {
         Part::Low => two_ands(
             s,
