@@ -1,11 +1,15 @@
 -- The laws of a bit.
-use Rattle.std.proofs.Common.{◌≡◌, ℕ, ◌*◌, ◌%◌, inl, inr, refl, sym, ◌∙◌, ap, arith, eq-zero-or-pos}
+use Rattle.std.proofs.Common.{◌⊎◌, ◌≡◌, ℕ, ◌*◌, ◌%◌, inl, inr, refl, sym, ◌∙◌, ap, arith, eq-zero-or-pos}
 use Rattle.std.specs.Prelude.{slice_index}
 use Rattle.tv_core.proofs.CombinationLaws.{value-wire, wire-below}
 use Rattle.tv_core.proofs.PrimeLaws.{p_bit}
 use Rattle.tv_core.specs.Circuits.{put}
 use Rattle.tv_core.specs.declared.field.TheConstants.{P}
 use Rattle.tv_bits.specs.Bit.{IsBit, bit_of, BitIsSound, BitIsComplete}
+
+-- a bit is 0 or 1
+pub bit_cases : (b : ℕ) → IsBit b → (b ≡ 0) ⊎ (b ≡ 1)
+bit_cases b h = elim (eq-zero-or-pos b) [ inl none ↦ inl none | inr some ↦ inr (omega arith) ]
 
 square : (b : ℕ) → IsBit b → b * b % P ≡ b
 square b h = elim (eq-zero-or-pos b) [ inl none ↦ ap (λ n. n * n % P) none ∙ sym none | inr some ↦ let one : b ≡ 1 = omega arith in ap (λ n. n * n % P) one ∙ sym one ]

@@ -1,7 +1,7 @@
 -- The laws of two ands in one constraint.
-use Rattle.std.proofs.Common.{◌⊎◌, ◌≡◌, ℕ, ◌+◌, ◌-◌, ◌*◌, ◌/◌, ◌%◌, ◌<◌, List, inl, inr, refl, sym, ◌∙◌, ap, ap₂, arith, mod-eq_of_lt, eq-zero-or-pos}
+use Rattle.std.proofs.Common.{◌≡◌, ℕ, ◌+◌, ◌-◌, ◌*◌, ◌/◌, ◌%◌, ◌++◌, List, inl, inr, refl, sym, ◌∙◌, ap, ap₂, arith, mod-eq_of_lt}
 use Rattle.std.proofs.Math.Nat.{add-mod-mod, mod-add-mod}
-use Rattle.std.proofs.lemmas.Nat.{mul-mod}
+use Rattle.std.proofs.lemmas.Nat.{mul-mod, mul-mod_first}
 use Rattle.tv_core.proofs.CombinationLaws.{value-append, value-scaled, value-below, value-constant}
 use Rattle.tv_core.proofs.Residues.{add-mod_same, mul-mod_same, add_cancel-mod, add-mul-neg-mod, mul_cancel-mod}
 use Rattle.tv_core.specs.Circuits.{put}
@@ -9,13 +9,11 @@ use Rattle.tv_core.specs.Combinations.{constant}
 use Rattle.tv_core.specs.Constraints.{Combination, value}
 use Rattle.tv_core.specs.Laws.{Assigns}
 use Rattle.tv_core.specs.declared.field.TheConstants.{P}
+use Rattle.tv_bits.proofs.BitLaws.{bit_cases}
 use Rattle.tv_bits.specs.Bit.{IsBit}
-use Rattle.tv_bits.specs.Pairs.{plus_times, gap, negative, two_ands_of, TwoAndsAreSound, TwoAndsAreComplete}
+use Rattle.tv_bits.specs.Pairs.{plus_times, negative, side, two_ands_of, TwoAndsAreSound, TwoAndsAreComplete}
 
 -- ---- numbers
-bit_cases : (b : ℕ) → IsBit b → (b ≡ 0) ⊎ (b ≡ 1)
-bit_cases b h = elim (eq-zero-or-pos b) [ inl none ↦ inl none | inr some ↦ inr (omega arith) ]
-
 -- the square of the sum of two bits
 square_sum : (x y : ℕ) → IsBit x → IsBit y → (x + y) * (x + y) ≡ x + y + 2 * (x * y)
 square_sum x y h k = elim (bit_cases x h) [
@@ -74,48 +72,51 @@ module _ {z : List ℕ} (assigns : Assigns z) where
   value-plus_times x k y =
       value-append x _ z ∙ ap (λ n. (value x z + n) % P) (value-scaled k y z) ∙ add-mod-mod (value x z) (k * value y z) P
 
-  value-gap : (k : ℕ) (x y : Combination) → k < 4 → IsBit (value x z) → IsBit (value y z) → value (gap k x y) z ≡ 1 + k * value x z - value y z
-  value-gap k x y few p q =
-      value-plus_times (plus_times (constant 1) k x) (P - 1) y
-      ∙ ap (λ n. (n + (P - 1) * value y z) % P) (value-plus_times (constant 1) k x ∙ ap (λ n. (n + k * value x z) % P) (value-constant assigns 1))
-      ∙ elim (bit_cases (value x z) p) [
-        | inl a ↦ elim (bit_cases (value y z) q) [ inl b ↦ rw (a, b) (omega arith) | inr b ↦ rw (a, b) (omega arith) ]
-        | inr a ↦ elim (bit_cases (value y z) q) [ inl b ↦ rw (a, b) (omega arith) | inr b ↦ rw (a, b) (omega arith) ]
-      ]
+  -- d is what c is multiplied by
+  value-side : (x_a y_a x_b y_b : Combination) (c k d : ℕ) → d + value y_b z ≡ 1 + k * value x_b z
+      → value (side x_a y_a x_b y_b c k) z ≡ (value x_a z + value y_a z + c * d) % P
+  value-side x_a y_a x_b y_b c k d gap =
+      let first : value (constant c ++ x_a) z ≡ (c + value x_a z) % P = value-append (constant c) x_a z ∙ ap (λ n. (n + value x_a z) % P) (value-constant assigns c) ∙ omega arith in
+      let second : value ((constant c ++ x_a) ++ y_a) z ≡ (c + value x_a z + value y_a z) % P = value-append (constant c ++ x_a) y_a z ∙ ap (λ n. (n + value y_a z) % P) first ∙ omega arith in
+      let third : value (plus_times ((constant c ++ x_a) ++ y_a) (c * k % P) x_b) z ≡ (c + value x_a z + value y_a z + c * k * value x_b z) % P =
+      value-plus_times ((constant c ++ x_a) ++ y_a) (c * k % P) x_b
+      ∙ add-mod_same _ (c + value x_a z + value y_a z) (c * k % P * value x_b z) (c * k * value x_b z) P (ap (λ n. n % P) second ∙ omega arith) (mul-mod_first (c * k) (value x_b z) P) in
+      let times : c * (d + value y_b z) ≡ c * (1 + k * value x_b z) = ap (λ n. c * n) gap in
+      let regroup : (n : ℕ) → c + value x_a z + value y_a z + c * k * value x_b z + n * value y_b z ≡ value x_a z + value y_a z + c * d + (c * value y_b z + n * value y_b z) = λ n. omega (arith, times) in
+      value-plus_times (plus_times ((constant c ++ x_a) ++ y_a) (c * k % P) x_b) (negative c) y_b
+      ∙ add-mod_same _ (c + value x_a z + value y_a z + c * k * value x_b z) (negative c * value y_b z) (negative c * value y_b z) P (ap (λ n. n % P) third ∙ omega arith) refl
+      ∙ ap (λ n. n % P) (regroup (negative c))
+      ∙ nothing (value x_a z + value y_a z + c * d) c (value y_b z)
 
-module _ (z : List ℕ) (assigns : Assigns z) (x_a y_a x_b y_b : Combination) (γ : ℕ) (m : Combination) (p : IsBit (value x_a z)) (q : IsBit (value y_a z)) (r : IsBit (value x_b z)) (s : IsBit (value y_b z)) where
-  sum : value (plus_times x_a 1 y_a) z ≡ value x_a z + value y_a z
-  sum = value-plus_times assigns x_a 1 y_a ∙ omega arith
+module _ (z : List ℕ) (assigns : Assigns z) (x_a y_a x_b y_b : Combination) (γ : ℕ) (m : Combination) (r : IsBit (value x_b z)) (s : IsBit (value y_b z)) where
+  factor : (k : ℕ) → value (side x_a y_a x_b y_b k 1) z ≡ (value x_a z + value y_a z + k * (1 + value x_b z - value y_b z)) % P
+  factor k = value-side assigns x_a y_a x_b y_b k 1 (1 + value x_b z - value y_b z) (omega arith)
 
-  factor : (k : ℕ) → value (plus_times (plus_times x_a 1 y_a) k (gap 1 x_b y_b)) z ≡ (value x_a z + value y_a z + k * (1 + value x_b z - value y_b z)) % P
-  factor k =
-      let plain : value (gap 1 x_b y_b) z ≡ 1 + value x_b z - value y_b z = value-gap assigns 1 x_b y_b (omega arith) r s ∙ omega arith in
-      value-plus_times assigns (plus_times x_a 1 y_a) k (gap 1 x_b y_b) ∙ ap₂ (λ a b. (a + k * b) % P) sum plain
-
-  product : value (plus_times (plus_times x_a 1 y_a) γ (gap 1 x_b y_b)) z * value (plus_times (plus_times x_a 1 y_a) (negative γ) (gap 1 x_b y_b)) z % P
+  product : value (side x_a y_a x_b y_b γ 1) z * value (side x_a y_a x_b y_b (negative γ) 1) z % P
       ≡ (value x_a z + value y_a z + γ * (1 + value x_b z - value y_b z)) * (value x_a z + value y_a z + negative γ * (1 + value x_b z - value y_b z)) % P
   product = ap₂ (λ a b. a * b % P) (factor γ) (factor (negative γ)) ∙ sym (mul-mod _ _ P)
 
-  rest : value (plus_times (plus_times (plus_times x_a 1 y_a) 2 m) (negative (γ * γ)) (gap 3 x_b y_b)) z
+  rest : value (plus_times (side x_a y_a x_b y_b (negative (γ * γ)) 3) 2 m) z
       ≡ (value x_a z + value y_a z + 2 * value m z + negative (γ * γ) * (1 + 3 * value x_b z - value y_b z)) % P
   rest =
-      value-plus_times assigns (plus_times (plus_times x_a 1 y_a) 2 m) (negative (γ * γ)) (gap 3 x_b y_b)
-      ∙ ap₂ (λ a b. (a + negative (γ * γ) * b) % P) (value-plus_times assigns (plus_times x_a 1 y_a) 2 m ∙ ap (λ a. (a + 2 * value m z) % P) sum) (value-gap assigns 3 x_b y_b (omega arith) r s)
-      ∙ mod-add-mod (value x_a z + value y_a z + 2 * value m z) P (negative (γ * γ) * (1 + 3 * value x_b z - value y_b z))
+      value-plus_times assigns (side x_a y_a x_b y_b (negative (γ * γ)) 3) 2 m
+      ∙ ap (λ a. (a + 2 * value m z) % P) (value-side assigns x_a y_a x_b y_b (negative (γ * γ)) 3 (1 + 3 * value x_b z - value y_b z) (omega arith))
+      ∙ mod-add-mod (value x_a z + value y_a z + negative (γ * γ) * (1 + 3 * value x_b z - value y_b z)) P (2 * value m z)
+      ∙ ap (λ n. n % P) (omega arith)
 
 pub two_ands_sound : TwoAndsAreSound
 unfolding two_ands_of put
 two_ands_sound z next x_a y_a x_b y_b γ m assigns p q r s meets =
     sym (mod-eq_of_lt (value-below m z))
     ∙ met_of _ _ _ (value x_a z * value y_a z) (value x_b z * value y_b z) γ (value m z) (square_sum (value x_a z) (value y_a z) p q) (square_gap (value x_b z) (value y_b z) r s)
-    (sym (product z assigns x_a y_a x_b y_b γ m p q r s) ∙ meets.0 ∙ rest z assigns x_a y_a x_b y_b γ m p q r s)
+    (sym (product z assigns x_a y_a x_b y_b γ m r s) ∙ meets.0 ∙ rest z assigns x_a y_a x_b y_b γ m r s)
 
 pub two_ands_complete : TwoAndsAreComplete
 unfolding two_ands_of put
 two_ands_complete z next x_a y_a x_b y_b γ m assigns p q r s is = (
-  product z assigns x_a y_a x_b y_b γ m p q r s
+  product z assigns x_a y_a x_b y_b γ m r s
       ∙ of_met _ _ _ (value x_a z * value y_a z) (value x_b z * value y_b z) γ (value m z) (square_sum (value x_a z) (value y_a z) p q) (square_gap (value x_b z) (value y_b z) r s)
       (mod-eq_of_lt (value-below m z) ∙ is)
-      ∙ sym (rest z assigns x_a y_a x_b y_b γ m p q r s),
+      ∙ sym (rest z assigns x_a y_a x_b y_b γ m r s),
   tt,
 )

@@ -1,5 +1,5 @@
 -- The laws of a choice.
-use Rattle.std.proofs.Common.{◌≡◌, ◌⊎◌, mod-lt, ℕ, ◌+◌, ◌-◌, ◌*◌, ◌%◌, ◌<◌, List, inl, inr, refl, sym, ◌∙◌, ap, ap₂, arith, eq-zero-or-pos}
+use Rattle.std.proofs.Common.{◌≡◌, mod-lt, ℕ, ◌+◌, ◌-◌, ◌*◌, ◌%◌, ◌<◌, List, inl, inr, refl, sym, ◌∙◌, ap, ap₂, arith}
 use Rattle.std.specs.Prelude.{slice_index}
 use Rattle.tv_core.proofs.CombinationLaws.{value-less, value-below, value-wire, wire-below}
 use Rattle.tv_core.proofs.DifferenceLaws.{same_of_minus, cancel_minus}
@@ -8,13 +8,11 @@ use Rattle.tv_core.specs.Combinations.{wire, less}
 use Rattle.tv_core.specs.Constraints.{Combination, value}
 use Rattle.tv_core.specs.Laws.{Assigns}
 use Rattle.tv_core.specs.declared.field.TheConstants.{P}
+use Rattle.tv_bits.proofs.BitLaws.{bit_cases}
 use Rattle.tv_bits.specs.Bit.{IsBit}
 use Rattle.tv_bits.specs.Select.{selected, select_of, SelectIsSound, SelectIsComplete}
 
 -- the constraint, as numbers
-bit_cases : (b : ℕ) → IsBit b → (b ≡ 0) ⊎ (b ≡ 1)
-bit_cases b h = elim (eq-zero-or-pos b) [ inl none ↦ inl none | inr some ↦ inr (omega arith) ]
-
 selected-zero : (b x y : ℕ) → b ≡ 0 → selected b x y ≡ y
 selected-zero b x y none = rw none refl
 

@@ -1,20 +1,44 @@
 -- What wires spell: the number's bits, its parts, and the value of the combination of their powers.
-use Rattle.std.proofs.Common.{◌≡◌, ◌≢◌, ℕ, zero, suc, ◌+◌, ◌-◌, ◌*◌, ◌/◌, ◌%◌, ◌^◌, ◌<◌, ◌≤◌, List, ◌++◌, inl, inr, refl, sym, subst, ◌∙◌, ap, ap₂, arith, mod-eq_of_lt, mul_comm, mul_assoc, add_comm}
+use Rattle.std.proofs.Common.{◌≡◌, ◌≢◌, ℕ, zero, suc, ◌+◌, ◌-◌, ◌*◌, ◌/◌, ◌%◌, ◌^◌, ◌<◌, ◌≤◌, List, [], ◌∷◌, ◌++◌, inl, inr, refl, sym, subst, ◌∙◌, ap, ap₂, arith, mod-eq_of_lt, mul_comm, mul_assoc, add_comm}
 use Rattle.std.specs.Int.{bit_at}
 use Rattle.std.specs.Prelude.{slice_index}
 use Rattle.std.proofs.Math.Nat.{pow-suc, pow-le-pow_right, mul-le-mul_left}
 use Rattle.std.proofs.lemmas.Bool.{cases_eq, cases_lt}
-use Rattle.std.proofs.lemmas.Nat.{pow-add, mod-pow-add, mul-mod_first, shr_high, mod_low}
+use Rattle.std.proofs.lemmas.List.{map-append}
+use Rattle.std.proofs.lemmas.Nat.{pow-add, mod-pow-add, mul-mod_first, mul-mod_second, shr_high, mod_low}
 use Rattle.std.proofs.lemmas.Nat.Bits.{bit_at-lt, bit_at_cat_low}
-use Rattle.tv_core.proofs.BelowLaws.{sum_below-zero, sum_below-suc, sum_below-same, sum_below-mod_same, sum_below-add, sum_below-mul, value-weighted, has_each}
+use Rattle.tv_core.proofs.BelowLaws.{sum_below-zero, sum_below-suc, sum_below-same, sum_below-mod_same, sum_below-add, sum_below-mul, weighted-zero, weighted-suc, value-weighted, has_each}
 use Rattle.tv_core.proofs.CombinationLaws.{value-append, value-constant}
 use Rattle.tv_core.specs.Below.{sum_below}
-use Rattle.tv_core.specs.Combinations.{constant}
+use Rattle.tv_core.specs.Combinations.{constant, scaled}
 use Rattle.tv_core.specs.Constraints.{value}
 use Rattle.tv_core.specs.Laws.{Assigns, HasFrom}
 use Rattle.tv_core.specs.declared.field.TheConstants.{P}
 use Rattle.tv_bits.specs.Bit.{IsBit}
 use Rattle.tv_bits.specs.Bits.{Spells, spelled, bits_combination, bits_values}
+
+-- the sum of sums
+pub sum_below-plus : (n : ℕ) (f g : ℕ → ℕ) → sum_below n (λ i. f i + g i) ≡ sum_below n f + sum_below n g
+sum_below-plus zero f g = omega (arith, sum_below-zero (λ i. f i + g i), sum_below-zero f, sum_below-zero g)
+sum_below-plus (suc n) f g = omega (arith, sum_below-suc n (λ i. f i + g i), sum_below-suc n f, sum_below-suc n g, sum_below-plus n f g)
+
+-- a multiple of the combination, bit by bit
+pub scaled-bits-zero : (k first : ℕ) → scaled k (bits_combination first 0) ≡ []
+scaled-bits-zero k first = ap (scaled k) (weighted-zero first (λ i. 2 ^ i % P))
+
+pub scaled-bits-suc : (k first n : ℕ) → scaled k (bits_combination first (suc n)) ≡ scaled k (bits_combination first n) ++ (k * 2 ^ n % P, first + n) ∷ []
+scaled-bits-suc k first n =
+    ap (scaled k) (weighted-suc first n (λ i. 2 ^ i % P))
+    ∙ map-append (λ t. (k * t.0 % P, t.1)) (bits_combination first n) ((2 ^ n % P, first + n) ∷ [])
+    ∙ ap (λ c. scaled k (bits_combination first n) ++ (c, first + n) ∷ []) (mul-mod_second k (2 ^ n) P)
+
+-- once it is it
+pub scaled-bits-once : (first n : ℕ) → scaled 1 (bits_combination first n) ≡ bits_combination first n
+scaled-bits-once first zero = scaled-bits-zero 1 first ∙ sym (weighted-zero first (λ i. 2 ^ i % P))
+scaled-bits-once first (suc n) =
+    scaled-bits-suc 1 first n
+    ∙ ap₂ (λ l c. l ++ (c, first + n) ∷ []) (scaled-bits-once first n) (let once : 1 * 2 ^ n % P ≡ 2 ^ n % P = omega arith in once)
+    ∙ sym (weighted-suc first n (λ i. 2 ^ i % P))
 
 -- the sum of powers of 2 that a function picks by 0 or 1
 abbrev pub picked : ℕ → (ℕ → ℕ) → ℕ

@@ -15,21 +15,19 @@ two_ands x_a y_a x_b y_b γ = (x_a * y_a + γ * γ * (x_b * y_b)) % P
 abbrev pub plus_times : Combination → ℕ → Combination → Combination
 plus_times x k y = x ++ scaled k y
 
--- 1 + k x - y
-abbrev pub gap : ℕ → Combination → Combination → Combination
-gap k x y = plus_times (plus_times (constant 1) k x) (P - 1) y
-
 -- the coefficient that is k negated
 abbrev pub negative : ℕ → ℕ
 negative k = (P - k % P) % P
 
+-- x_a + y_a + c (1 + k x_b - y_b)
+abbrev pub side : Combination → Combination → Combination → Combination → ℕ → ℕ → Combination
+side x_a y_a x_b y_b c k = plus_times (plus_times ((constant c ++ x_a) ++ y_a) (c * k % P) x_b) (negative c) y_b
+
 -- m is two ands, where the four others are bits: with u = x_a + y_a and v = x_b + 1 - y_b it says that
--- u + γ v times u - γ v is u + 2 m - γ² (3 x_b + 1 - y_b)
+-- u + γ v times u - γ v is u - γ² (3 x_b + 1 - y_b) + 2 m
 unfoldable pub two_ands_of : Combination → Combination → Combination → Combination → ℕ → Combination → Circuit (Unit {0})
 two_ands_of x_a y_a x_b y_b γ m =
-    let u = plus_times x_a 1 y_a in
-    let v = gap 1 x_b y_b in
-    put (plus_times u γ v) (plus_times u (negative γ) v) (plus_times (plus_times u 2 m) (negative (γ * γ)) (gap 3 x_b y_b))
+    put (side x_a y_a x_b y_b γ 1) (side x_a y_a x_b y_b (negative γ) 1) (plus_times (side x_a y_a x_b y_b (negative (γ * γ)) 3) 2 m)
 
 -- in an assignment that meets what was put, m is two ands, the four being bits
 abbrev pub TwoAndsAreSound : Type 0

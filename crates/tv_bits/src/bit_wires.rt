@@ -1,6 +1,6 @@
 ghost use Rattle.std.specs.Prelude.{◌≡◌, ◌+◌, ◌-◌, ◌≤◌, ◌<◌, ◌^◌, ◌++◌, length, max};
 ghost use Rattle.tv_bits.specs.Bits.{bits_combination};
-ghost use Rattle.tv_core.specs.Combinations.{constant, top};
+ghost use Rattle.tv_core.specs.Combinations.{constant, scaled, top};
 
 use tv_core::{F, Lc, Wire};
 
@@ -22,14 +22,26 @@ impl Bits {
         ensures top { top result ≤ self.now.first + self.now.n }
         ensures len { length result ≡ self.now.n }
     {
-        let Bits { first, n } = *self;
         let mut lc = Lc::empty();
-        let mut power = F::ONE;
-        for i in 0..n {
-            lc.plus(power, first.offset(i));
-            power = power + power;
-        }
+        self.plus_to(&mut lc, F::ONE);
         lc
+    }
+
+    /// Appends `factor` times the number that they spell, as `n` terms.
+    pub fn plus_to(&self, lc: &mut Lc, factor: F)
+        requires short { self.now.n ≤ 63 }
+        requires within { self.now.first + self.now.n < 2 ^ 32 }
+        requires room { length lc.old + self.now.n ≤ 128 }
+        ensures terms { lc.new ≡ lc.old ++ scaled factor (bits_combination self.now.first self.now.n) }
+        ensures top { top lc.new ≤ max (top lc.old) (self.now.first + self.now.n) }
+        ensures len { length lc.new ≡ length lc.old + self.now.n }
+    {
+        let Bits { first, n } = *self;
+        let mut coefficient = factor;
+        for i in 0..n {
+            lc.plus(coefficient, first.offset(i));
+            coefficient = coefficient + coefficient;
+        }
     }
 
     /// One more than the number that they spell, as a combination of `n + 1` terms.

@@ -10,6 +10,7 @@ mod prefixes;
 mod rows;
 mod selection;
 mod spelling;
+mod terms;
 mod zeros;
 
 pub use bit_wires::Bits;

@@ -33,18 +33,21 @@ pub fn prefix_difference<S: Sink>(
     ensures puts { PutsIn S.meaning s.old s.new (prefix_difference_of x.now y.now d.now chunk count) result }
     ensures grows { IfOk result (λ _. Grows S.meaning s.old s.new (count - 2) (count - 1)) }
 {
-    let mut product = prefix_less(x, y, d, 0);
+    let mut product = Lc::empty();
+    fill_prefix_less(&mut product, x, y, d, 0);
+    let mut factor = Lc::empty();
     for i in 0..count - 2 {
-        let factor = prefix_less(x, y, d, chunk * (i + 1));
+        fill_prefix_less(&mut factor, x, y, d, chunk * (i + 1));
         let w = times(s, &product, &factor)?;
-        product = Lc::wire(w);
+        product.clear();
+        product.plus(F::ONE, w);
     }
-    let factor = prefix_less(x, y, d, chunk * (count - 1));
+    fill_prefix_less(&mut factor, x, y, d, chunk * (count - 1));
     s.put(&product, &factor, &Lc::empty())
 }
 
-// The difference of the prefixes from place `from` on, less `d`.
-fn prefix_less(x: &Bits, y: &Bits, d: &Lc, from: u32) -> Lc
+// Makes `lc` the difference of the prefixes from place `from` on, less `d`.
+fn fill_prefix_less(lc: &mut Lc, x: &Bits, y: &Bits, d: &Lc, from: u32)
     requires x_long { from ≤ x.now.n }
     requires y_long { from ≤ y.now.n }
     requires x_short { x.now.n ≤ 63 }
@@ -52,13 +55,13 @@ fn prefix_less(x: &Bits, y: &Bits, d: &Lc, from: u32) -> Lc
     requires d_short { x.now.n + y.now.n + length d.now ≤ 128 }
     requires x_within { x.now.first + x.now.n < 2 ^ 32 }
     requires y_within { y.now.first + y.now.n < 2 ^ 32 }
-    ensures terms { result ≡ prefix_less x.now y.now d.now from }
-    ensures top { top result ≤ max (max (x.now.first + x.now.n) (y.now.first + y.now.n)) (top d.now) }
+    ensures terms { lc.new ≡ prefix_less x.now y.now d.now from }
+    ensures top { top lc.new ≤ max (max (x.now.first + x.now.n) (y.now.first + y.now.n)) (top d.now) }
 {
-    let mut lc = x.above(from).lc();
-    lc.minus(&y.above(from).lc());
+    lc.clear();
+    x.above(from).plus_to(lc, F::ONE);
+    y.above(from).plus_to(lc, -F::ONE);
     lc.minus(d);
-    lc
 }
 
 // A wire that is the product.
@@ -70,9 +73,11 @@ fn times<S: Sink>(s: &mut S, x: &Lc, y: &Lc) -> Put<Wire>
     ensures grows { IfOk result (λ _. Grows S.meaning s.old s.new 1 1) }
     ensures below { IfOk result (λ product. product < S.meaning.wires s.new) }
 {
-    let product = s.fresh();
-    s.put(x, y, &Lc::wire(product))?;
-    Ok(product)
+    let w = s.fresh();
+    let mut product = Lc::empty();
+    product.plus(F::ONE, w);
+    s.put(x, y, &product)?;
+    Ok(w)
 }
 
 /// Gives the values of the wires that `prefix_difference` makes for the numbers `x` and `y`, both below

@@ -4,10 +4,11 @@ ghost use Rattle.tv_core.specs.Combinations.{top};
 ghost use Rattle.tv_core.specs.Giving.{GivesIn};
 ghost use Rattle.tv_core.specs.Sinks.{PutsIn, Grows, Room};
 
+use crate::terms::{plus_all, plus_scaled};
 use tv_core::{F, Lc, Put, Sink, Values, Wire};
 
 /// A wire that is `x` where the bit `b` is 1, and `y` where it is 0. It makes 1 wire and 1 constraint.
-pub fn select<S: Sink>(s: &mut S, b: Wire, x: &Lc, y: &Lc) -> Put<Wire>
+pub fn select<S: Sink>(s: &mut S, b: Wire, x: &[(F, Wire)], y: &[(F, Wire)]) -> Put<Wire>
     requires room { Room S.meaning s.old 1 1 }
     requires b_made { b < S.meaning.wires s.old }
     requires x_made { top x.now ≤ S.meaning.wires s.old }
@@ -19,11 +20,15 @@ pub fn select<S: Sink>(s: &mut S, b: Wire, x: &Lc, y: &Lc) -> Put<Wire>
     ensures below { IfOk result (λ chosen. chosen < S.meaning.wires s.new) }
 {
     let chosen = s.fresh();
-    let mut difference = Lc::from_terms(x.terms());
-    difference.minus(y);
-    let mut rest = Lc::wire(chosen);
-    rest.minus(y);
-    s.put(&Lc::wire(b), &difference, &rest)?;
+    let mut bit = Lc::empty();
+    bit.plus(F::ONE, b);
+    let mut difference = Lc::empty();
+    plus_all(&mut difference, x);
+    plus_scaled(&mut difference, -F::ONE, y);
+    let mut rest = Lc::empty();
+    rest.plus(F::ONE, chosen);
+    plus_scaled(&mut rest, -F::ONE, y);
+    s.put(&bit, &difference, &rest)?;
     Ok(chosen)
 }
 

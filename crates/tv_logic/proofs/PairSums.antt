@@ -3,17 +3,12 @@ use Rattle.std.proofs.Common.{◌≡◌, ℕ, zero, suc, ◌+◌, ◌*◌, ◌%�
 use Rattle.std.specs.Int.{bit_at}
 use Rattle.std.proofs.lemmas.Nat.{pow-add, and_le_l}
 use Rattle.std.proofs.lemmas.Nat.Bits.{bit_at-lt, bit_at_and}
-use Rattle.tv_bits.proofs.SpelledNumbers.{picked-bit_at}
+use Rattle.tv_bits.proofs.SpelledNumbers.{sum_below-plus, picked-bit_at}
 use Rattle.tv_bits.specs.Pairs.{two_ands}
 use Rattle.tv_core.proofs.BelowLaws.{sum_below-zero, sum_below-suc, sum_below-same, sum_below-add, sum_below-mul}
 use Rattle.tv_core.specs.Below.{sum_below}
 use Rattle.tv_core.specs.declared.field.TheConstants.{P}
 use Rattle.tv_logic.specs.Ands.{pair_in}
-
--- the sum of sums
-sum_below-plus : (n : ℕ) (f g : ℕ → ℕ) → sum_below n (λ i. f i + g i) ≡ sum_below n f + sum_below n g
-sum_below-plus zero f g = omega (arith, sum_below-zero (λ i. f i + g i), sum_below-zero f, sum_below-zero g)
-sum_below-plus (suc n) f g = omega (arith, sum_below-suc n (λ i. f i + g i), sum_below-suc n f, sum_below-suc n g, sum_below-plus n f g)
 
 -- the pairs, each times its power of 2, are the number's bits
 pairs-sum : (h a : ℕ) → sum_below h (λ i. 2 ^ i * (bit_at a i + 2 ^ h * bit_at a (h + i))) ≡ a % 2 ^ (h + h)

@@ -23,7 +23,7 @@ pub(crate) fn and_word<S: Sink>(s: &mut S, x: &Bits, y: &Bits) -> Put<Wire>
     for i in 0..15 {
         new_pair(s, x, y, i)?;
     }
-    pair(s, x, y, 0, &lowest_pair(word, first))?;
+    pair(s, x, y, 0, lowest_pair(word, first).terms())?;
     Ok(word)
 }
 
@@ -37,11 +37,11 @@ fn new_pair<S: Sink>(s: &mut S, x: &Bits, y: &Bits, i: u32) -> Put<()>
     ensures grows { IfOk result (λ _. Grows S.meaning s.old s.new 1 1) }
 {
     let w = s.fresh();
-    pair(s, x, y, i + 1, &Lc::wire(w))
+    pair(s, x, y, i + 1, &[(F::ONE, w)])
 }
 
 // Holds `m` to the and of the bits number `i`, plus 2^16 times that of the bits number `i + 16`.
-fn pair<S: Sink>(s: &mut S, x: &Bits, y: &Bits, i: u32, m: &Lc) -> Put<()>
+fn pair<S: Sink>(s: &mut S, x: &Bits, y: &Bits, i: u32, m: &[(F, Wire)]) -> Put<()>
     requires room { Room S.meaning s.old 0 1 }
     requires within { i < 16 }
     requires x_made { x.now.first + 32 ≤ S.meaning.wires s.old }
@@ -63,13 +63,11 @@ fn pair<S: Sink>(s: &mut S, x: &Bits, y: &Bits, i: u32, m: &Lc) -> Put<()>
 }
 
 // A bit's wire.
-fn bit_wire(x: &Bits, i: u32) -> Lc
+fn bit_wire(x: &Bits, i: u32) -> [(F, Wire); 1]
     requires { x.now.first + i < 2 ^ 32 }
-    ensures terms { result ≡ wire (x.now.first + i) }
-    ensures top { top result ≡ x.now.first + i + 1 }
-    ensures len { length result ≡ 1 }
+    ensures { result ≡ wire (x.now.first + i) }
 {
-    Lc::wire(x.first.offset(i))
+    [(F::ONE, x.first.offset(i))]
 }
 
 // What is left of the word without the pairs from number 1 on, whose wires follow each other.
@@ -80,7 +78,7 @@ fn lowest_pair(word: Wire, first: Wire) -> Lc
     ensures len { length result ≡ 16 }
 {
     let mut lc = Lc::wire(word);
-    lc.plus_scaled(-F::of(2), &Bits { first, n: 15 }.lc());
+    Bits { first, n: 15 }.plus_to(&mut lc, -F::of(2));
     lc
 }
 

@@ -58,7 +58,7 @@ fn sum_less(x: &Bits, y: &Bits, k: F, w: Wire) -> Lc
     ensures top { top result ≤ max (max (x.now.first + 32) (y.now.first + 32)) (w + 1) }
 {
     let mut lc = x.lc();
-    lc.plus_scaled(F::ONE, &y.lc());
+    y.plus_to(&mut lc, F::ONE);
     lc.plus(-k, w);
     lc
 }
@@ -71,7 +71,7 @@ fn complement(y: &Bits) -> Lc
     ensures top { top result ≤ max 1 (y.now.first + 32) }
 {
     let mut lc = Lc::constant(F::of(u64::from(u32::MAX)));
-    lc.minus(&y.lc());
+    y.plus_to(&mut lc, -F::ONE);
     lc
 }
 

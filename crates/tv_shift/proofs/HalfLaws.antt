@@ -1,7 +1,8 @@
 -- The laws of the chosen half of a word.
-use Rattle.std.proofs.Common.{◌⊎◌, ◌≡◌, ℕ, ◌+◌, ◌*◌, ◌/◌, ◌%◌, ◌^◌, ◌<◌, ◌≤◌, List, [], inl, inr, refl, sym, subst, ◌∙◌, ap, ap₂, arith, mul-one, eq-zero-or-pos}
+use Rattle.std.proofs.Common.{◌≡◌, ℕ, ◌+◌, ◌^◌, ◌<◌, List, [], inl, inr, refl, sym, ◌∙◌, ap, ap₂, arith, mul-one}
 use Rattle.std.specs.Int.{bit_at}
 use Rattle.std.specs.Prelude.{slice_index}
+use Rattle.tv_bits.proofs.BitLaws.{bit_cases}
 use Rattle.tv_bits.proofs.SelectLaws.{select_sound, select_complete}
 use Rattle.tv_bits.proofs.SpelledNumbers.{Spells-below, Spells-bit_at, Spells-from_bits, Spells-low, Spells-high}
 use Rattle.tv_bits.specs.Bit.{IsBit}
@@ -15,10 +16,7 @@ use Rattle.tv_core.specs.Circuits.{here, fresh, put, pure, ◌>>=◌}
 use Rattle.tv_core.specs.Combinations.{wire}
 use Rattle.tv_core.specs.Laws.{Assigns, Meets, HasFrom}
 use Rattle.tv_core.specs.Loops.{times}
-use Rattle.tv_shift.specs.Halves.{chosen_half, other_half, half_bit_of, halves_of}
-
-pub bit_cases : (b : ℕ) → IsBit b → (b ≡ 0) ⊎ (b ≡ 1)
-bit_cases b h = elim (eq-zero-or-pos b) [ inl none ↦ inl none | inr some ↦ inr (omega arith) ]
+use Rattle.tv_shift.specs.Halves.{chosen_half, half_bit_of, halves_of}
 
 half_bit-next : (n b x i at : ℕ) → (half_bit_of n b x i at).next ≡ at + 1
 unfolding half_bit_of select_of fresh put pure ◌>>=◌

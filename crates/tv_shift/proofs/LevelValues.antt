@@ -1,8 +1,8 @@
 -- The values of the levels of a thermometer, given one level after another.
-use Rattle.std.proofs.Common.{◌≡◌, ℕ, zero, suc, ◌+◌, ◌-◌, ◌<◌, List, [], ◌++◌, Result, Ok, Err, inl, inr, refl, sym, subst, arith, add-one}
+use Rattle.std.proofs.Common.{◌≡◌, ℕ, zero, suc, ◌+◌, ◌<◌, [], ◌++◌, inl, inr, refl, subst, arith, add-one}
 use Rattle.std.proofs.lemmas.Bool.{cases_eq}
 use Rattle.tv_core.proofs.GivingChain.{gives_then, gives_then_refused, gives_refused_then, gives_nothing}
-use Rattle.tv_core.specs.Giving.{Giving, GivesAll, GivesSome, GivesIn}
+use Rattle.tv_core.specs.Giving.{Giving, GivesAll, GivesSome}
 use Rattle.tv_core.specs.declared.sink.SinkFault.{SinkFault}
 use Rattle.tv_shift.specs.Thermometer.{level_values, thermometer_values}
 
@@ -13,11 +13,6 @@ values-none y = refl
 pub values-more : (k y : ℕ) → thermometer_values (suc k) y ≡ thermometer_values k y ++ level_values y k
 unfolding thermometer_values
 values-more k y = refl
-
--- a last call whose result is the whole's
-pub gives_in_then : {V : Type 0} (m : Giving V) (xs ys : List ℕ) (old mid new : V) (result : Result (Unit {0}) SinkFault) → GivesAll m old mid xs → GivesIn m mid new ys result → GivesIn m old new (xs ++ ys) result
-gives_in_then m xs ys old mid new (Ok done) p q = gives_then m xs ys old mid new p q
-gives_in_then m xs ys old mid new (Err fault) p q = gives_then_refused m xs ys old mid new fault p q
 
 module _ {V : Type 0} (m : Giving V) (y : ℕ) where
   pub gives_no_level : (v : V) → GivesAll m v v (thermometer_values 0 y)

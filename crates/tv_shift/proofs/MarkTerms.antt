@@ -1,9 +1,9 @@
 -- The terms of marks.
-use Rattle.std.proofs.Common.{◌≡◌, ℕ, zero, suc, ◌+◌, ◌-◌, ◌*◌, ◌^◌, ◌<◌, ◌≤◌, List, [], ◌∷◌, ◌++◌, nat_lt, true, false, if◌then◌else◌, inl, inr, eq-or-lt_of_le, refl, sym, ◌∙◌, ap, arith}
+use Rattle.std.proofs.Common.{◌≡◌, ℕ, zero, suc, ◌+◌, ◌-◌, ◌^◌, ◌<◌, ◌≤◌, [], ◌∷◌, ◌++◌, nat_lt, true, false, if◌then◌else◌, inl, inr, eq-or-lt_of_le, refl, ◌∙◌, ap, arith}
 use Rattle.std.proofs.Math.Nat.{pow-suc}
 use Rattle.std.proofs.lemmas.Bool.Decides.{nat_tests}
 use Rattle.tv_core.specs.declared.field.TheConstants.{P}
-use Rattle.tv_shift.specs.Thermometer.{below, products_below, both, mark}
+use Rattle.tv_shift.specs.Thermometer.{products_below, both, mark}
 
 -- the tests
 pub lt-true : (a b : ℕ) → a < b → nat_lt a b ≡ true

@@ -1,5 +1,5 @@
 -- The laws of a part that masks let through.
-use Rattle.std.proofs.Common.{◌⊎◌, ◌≡◌, ℕ, zero, suc, ◌+◌, ◌-◌, ◌*◌, ◌/◌, ◌%◌, ◌^◌, ◌<◌, ◌≤◌, List, [], ◌∷◌, ◌++◌, inl, inr, refl, sym, subst, ◌∙◌, ap, ap₂, arith, mul-one, mod-lt, mod-eq_of_lt}
+use Rattle.std.proofs.Common.{◌≡◌, ℕ, ◌+◌, ◌-◌, ◌*◌, ◌/◌, ◌%◌, ◌^◌, ◌<◌, ◌≤◌, List, [], ◌++◌, inl, inr, refl, sym, ◌∙◌, ap, ap₂, arith, mul-one, mod-eq_of_lt}
 use Rattle.std.proofs.Math.Nat.{mod-le}
 use Rattle.std.proofs.lemmas.Bool.{cases_lt}
 use Rattle.std.proofs.lemmas.Nat.{pow-add, mul-mod_first}
@@ -7,36 +7,32 @@ use Rattle.std.proofs.lemmas.Nat.Bits.{bit_at-lt}
 use Rattle.std.specs.Int.{bit_at}
 use Rattle.std.specs.Prelude.{slice_index}
 use Rattle.tv_bits.proofs.PairLaws.{two_ands_sound, two_ands_complete}
-use Rattle.tv_bits.proofs.SpelledNumbers.{Spells-below, Spells-bit_at, Spells-low, Spells-high, picked-bit_at}
+use Rattle.tv_bits.proofs.SpelledNumbers.{sum_below-plus, Spells-below, Spells-bit_at, Spells-low, Spells-high, picked-bit_at}
 use Rattle.tv_bits.specs.Bit.{IsBit}
 use Rattle.tv_bits.specs.Bits.{Spells, bits_combination}
 use Rattle.tv_bits.specs.Pairs.{two_ands, two_ands_of}
 use Rattle.tv_bits.specs.Select.{selected}
-use Rattle.tv_core.proofs.BelowLaws.{sum_below-zero, sum_below-suc, sum_below-same, sum_below-mod_same, sum_below-zeros, sum_below-add, value-weighted, has_each}
-use Rattle.tv_core.proofs.CombinationLaws.{value-append, value-less, value-wire, wire-below}
+use Rattle.tv_core.proofs.BelowLaws.{sum_below-same, sum_below-mod_same, sum_below-zeros, sum_below-add, value-weighted, has_each}
+use Rattle.tv_core.proofs.CombinationLaws.{value-append, value-less, value-wire}
 use Rattle.tv_core.proofs.LoopLaws.{turn_met, turns_met, turns-next}
 use Rattle.tv_core.proofs.Meeting.{Meets-split, Meets-join}
 use Rattle.tv_core.specs.Below.{sum_below}
 use Rattle.tv_core.specs.Circuits.{here, fresh, put, pure, ◌>>=◌}
-use Rattle.tv_core.specs.Combinations.{wire, less}
+use Rattle.tv_core.specs.Combinations.{wire}
 use Rattle.tv_core.specs.Constraints.{Combination, value}
 use Rattle.tv_core.specs.Laws.{Assigns, Meets, HasFrom}
 use Rattle.tv_core.specs.Loops.{times}
 use Rattle.tv_core.specs.declared.field.TheConstants.{P}
-use Rattle.tv_shift.proofs.HalfLaws.{bit_cases}
+use Rattle.tv_bits.proofs.BitLaws.{bit_cases}
 use Rattle.tv_shift.proofs.ThermometerLaws.{below-in, below-out, below-bit, Marks}
 use Rattle.tv_shift.specs.Halves.{chosen_half, other_half}
 use Rattle.tv_shift.specs.Masks.{pair_of, masked_of, masked_value, masked_values, mask_at, mask_value, digit_at}
-use Rattle.tv_shift.specs.Thermometer.{below, mark}
+use Rattle.tv_shift.specs.Thermometer.{below}
 use Rattle.tv_shift.specs.declared.masks.Part.{Part}
 use Rattle.tv_shift.specs.declared.masks.Part.TheVariants.{Low, High}
 use Rattle.tv_shift.specs.declared.masks.Places.{Places}
 
 -- ---- sums
-sum_below-plus : (n : ℕ) (f g : ℕ → ℕ) → sum_below n (λ i. f i + g i) ≡ sum_below n f + sum_below n g
-sum_below-plus zero f g = omega (arith, sum_below-zero f, sum_below-zero g, sum_below-zero (λ i. f i + g i))
-sum_below-plus (suc n) f g = omega (arith, sum_below-suc n f, sum_below-suc n g, sum_below-suc n (λ i. f i + g i), sum_below-plus n f g)
-
 -- the s low bits of a number are its remainder
 pub low_part : (n s u : ℕ) → s ≤ n → sum_below n (λ i. 2 ^ i * (below i s * bit_at u i)) ≡ u % 2 ^ s
 low_part n s u short =

@@ -1,5 +1,5 @@
 -- The laws of the shift, from those of its parts.
-use Rattle.std.proofs.Common.{◌⊎◌, ◌≡◌, ◌≢◌, ℕ, ◌+◌, ◌-◌, ◌*◌, ◌/◌, ◌%◌, ◌^◌, ◌<◌, ◌≤◌, List, [], ◌∷◌, ◌++◌, length, min, inl, inr, refl, sym, subst, ◌∙◌, ap, ap₂, arith, mod-lt, mod-eq_of_lt}
+use Rattle.std.proofs.Common.{◌≡◌, ◌≢◌, ℕ, ◌+◌, ◌-◌, ◌*◌, ◌/◌, ◌%◌, ◌^◌, ◌<◌, List, [], ◌∷◌, ◌++◌, length, min, inl, inr, refl, sym, subst, ◌∙◌, ap, ap₂, arith, mod-lt, mod-eq_of_lt}
 use Rattle.std.proofs.Math.ListN.{length-append}
 use Rattle.std.proofs.Math.Nat.{div-le_self}
 use Rattle.std.proofs.lemmas.Bool.{cases_eq}
@@ -15,7 +15,6 @@ use Rattle.tv_bits.specs.Bit.{IsBit}
 use Rattle.tv_bits.specs.Bits.{Spells, bits_combination, bits_values}
 use Rattle.tv_bits.specs.Select.{selected, select_of}
 use Rattle.tv_bits.specs.Zero.{zero_flag, zero_of, zero_values}
-use Rattle.tv_bits.specs.declared.bit_wires.Bits.{Bits}
 use Rattle.tv_core.proofs.BelowLaws.{length-each_below}
 use Rattle.tv_core.proofs.CombinationLaws.{value-less, value-scaled, value-wire, wire-below}
 use Rattle.tv_core.proofs.Meeting.{Meets-split, Meets-join, HasFrom-split}
@@ -24,15 +23,15 @@ use Rattle.tv_core.specs.Combinations.{wire, scaled, less}
 use Rattle.tv_core.specs.Constraints.{Combination, value}
 use Rattle.tv_core.specs.Laws.{Assigns, Meets, HasFrom}
 use Rattle.tv_core.specs.declared.field.TheConstants.{P}
-use Rattle.tv_shift.proofs.HalfLaws.{halves_sound, halves_complete, halves_answer, halves_next}
-use Rattle.tv_shift.proofs.MaskLaws.{low_sound, high_sound, part_complete, masked_answer, masked_next, other-below}
+use Rattle.tv_shift.proofs.HalfLaws.{halves_sound, halves_complete, halves_next}
+use Rattle.tv_shift.proofs.MaskLaws.{low_sound, high_sound, part_complete, masked_next}
 use Rattle.tv_shift.proofs.ProductLaws.{product_sound, product_complete, quotient_sound, quotient_complete}
 use Rattle.tv_shift.proofs.ShiftNumbers.{half_left-below, half_right-below, chosen_rest, other_is, left_whole, right_whole, right_of, of_right, rest-left, distance_near, far_left, far_right, power-small}
-use Rattle.tv_shift.proofs.ThermometerLaws.{Marks, thermometer_sound, thermometer_complete, thermometer_answer, thermometer_next, length-values, value-power}
+use Rattle.tv_shift.proofs.ThermometerLaws.{Marks, thermometer_sound, thermometer_complete, thermometer_next, length-values, value-power}
 use Rattle.tv_shift.specs.Halves.{chosen_half, other_half, halves_of}
 use Rattle.tv_shift.specs.Masks.{masked_of, masked_value, masked_values, mask_at, mask_value, digit_at}
 use Rattle.tv_shift.specs.Products.{product_of, quotient_of}
-use Rattle.tv_shift.specs.Shift.{shifted_left, shifted_right, IsShifted, places_of, parts_of, by_half_of, by_rest_of, ends_of, shift_of, places_values, parts_values, half_left, half_right, ends_values, shift_values, ShiftIsSound, ShiftIsComplete}
+use Rattle.tv_shift.specs.Shift.{shifted_left, shifted_right, IsShifted, places_of, parts_of, by_half_of, by_rest_of, ends_of, shift_of, places_values, parts_values, half_left, half_right, ends_values, ShiftIsSound, ShiftIsComplete}
 use Rattle.tv_shift.specs.Thermometer.{mark, thermometer_of, thermometer_values, power_of}
 use Rattle.tv_shift.specs.declared.ends.Shift.{Shift}
 use Rattle.tv_shift.specs.declared.masks.Part.TheVariants.{Low, High}

@@ -1,17 +1,15 @@
 -- Shifts of whole numbers.
-use Rattle.std.proofs.Common.{◌⊎◌, ◌≡◌, ◌≢◌, ℕ, ◌+◌, ◌-◌, ◌*◌, ◌/◌, ◌%◌, ◌^◌, ◌<◌, ◌≤◌, inl, inr, refl, sym, ◌∙◌, ap, ap₂, arith, mod-lt, mod-eq_of_lt, eq-zero-or-pos}
+use Rattle.std.proofs.Common.{◌≡◌, ◌≢◌, ℕ, ◌+◌, ◌-◌, ◌*◌, ◌/◌, ◌%◌, ◌^◌, ◌<◌, ◌≤◌, inl, inr, refl, sym, ◌∙◌, ap, ap₂, arith, mod-lt, mod-eq_of_lt}
 use Rattle.std.proofs.Math.Nat.{mul-mod_right, pow-le-pow_right, div-eq_of_lt, div-add-mod, div-le_self, div-div-eq-div-mul, add-mul-mod_self_left, mul-div_cancel_left, mod-le, mul-lt-mul_of_pos_left}
 use Rattle.std.proofs.Math.Pow.{mod-mod-pow}
 use Rattle.std.specs.Int.{bit_at}
+use Rattle.tv_bits.proofs.BitLaws.{bit_cases}
 use Rattle.tv_bits.specs.Bit.{IsBit}
 use Rattle.tv_core.proofs.PrimeLaws.{p_cancels_below}
 use Rattle.tv_core.specs.declared.field.TheConstants.{P}
 use Rattle.tv_shift.specs.Halves.{chosen_half, other_half}
-use Rattle.tv_shift.specs.Shift.{shifted_left, shifted_right, half_left, half_right}
+use Rattle.tv_shift.specs.Shift.{half_left, half_right}
 use Rattle.std.proofs.lemmas.Nat.{pow-add, pow_pos, mod-pow-add, mul-mod_first}
-
-bit_cases : (b : ℕ) → IsBit b → (b ≡ 0) ⊎ (b ≡ 1)
-bit_cases b h = elim (eq-zero-or-pos b) [ inl none ↦ inl none | inr some ↦ inr (omega arith) ]
 
 -- a shift by a word's width or more is 0
 pub far_left : (w x y : ℕ) → w ≤ y → x * 2 ^ y % 2 ^ w ≡ 0

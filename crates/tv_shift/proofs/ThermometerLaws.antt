@@ -1,11 +1,9 @@
 -- The laws of a thermometer: its marks, and the power of 2 that they add up to.
-use Rattle.std.proofs.Common.{◌⊎◌, ◌≡◌, ℕ, zero, suc, ◌+◌, ◌-◌, ◌*◌, ◌/◌, ◌%◌, ◌^◌, ◌<◌, ◌≤◌, List, [], ◌∷◌, ◌++◌, length, min, if◌then◌else◌, inl, inr, refl, sym, subst, ◌∙◌, ap, ap₂, arith, mul-one, mod-lt, mod-eq_of_lt, mul-zero, zero-mul}
-use Rattle.std.proofs.Math.Nat.{pow-suc, mod-one, add-mod, add-mod-mod, mod-add-mod, mod-mod}
+use Rattle.std.proofs.Common.{◌≡◌, ℕ, zero, suc, ◌+◌, ◌-◌, ◌*◌, ◌%◌, ◌^◌, ◌<◌, ◌≤◌, List, [], ◌++◌, length, min, if◌then◌else◌, inl, inr, refl, sym, subst, ◌∙◌, ap, ap₂, arith, mul-one, mod-lt}
+use Rattle.std.proofs.Math.Nat.{pow-suc, mod-one}
 use Rattle.std.proofs.Math.ListN.{length-append}
 use Rattle.std.proofs.lemmas.Bool.{cases_lt}
-use Rattle.std.proofs.lemmas.Nat.{mod-pow-add, pow_pos, mul-mod}
-use Rattle.std.proofs.lemmas.Nat.Bits.{bit_at-lt}
-use Rattle.std.specs.Int.{bit_at}
+use Rattle.std.proofs.lemmas.Nat.{mod-pow-add, pow_pos}
 use Rattle.std.specs.Prelude.{slice_index}
 use Rattle.tv_bits.proofs.SpelledNumbers.{Spells-bit_at}
 use Rattle.tv_bits.specs.Bit.{IsBit}
@@ -15,15 +13,14 @@ use Rattle.tv_core.proofs.CombinationLaws.{value-append, value-cons, value-scale
 use Rattle.tv_core.proofs.LoopLaws.{turn_met, turns_met, turns-next}
 use Rattle.tv_core.proofs.Meeting.{Meets-split, Meets-join, HasFrom-split, parts, whole}
 use Rattle.tv_core.specs.Circuits.{here, fresh, put, pure, turns, ◌>>=◌}
-use Rattle.tv_core.specs.Combinations.{wire, constant, scaled}
+use Rattle.tv_core.specs.Combinations.{scaled}
 use Rattle.tv_core.specs.Constraints.{Combination, value}
 use Rattle.tv_core.specs.Laws.{Assigns, Meets, HasFrom}
 use Rattle.tv_core.specs.Loops.{times}
 use Rattle.tv_core.specs.declared.field.TheConstants.{P}
-use Rattle.tv_shift.proofs.HalfLaws.{bit_cases}
+use Rattle.tv_bits.proofs.BitLaws.{bit_cases}
 use Rattle.tv_shift.proofs.LevelValues.{values-none, values-more}
-use Rattle.tv_shift.proofs.MarkTerms.{lt-true, lt-false, power-above, products-more, both-in, both-last, mark-none, mark-low, mark-high}
-use Rattle.tv_shift.proofs.ProductLaws.{product_sound, product_complete}
+use Rattle.tv_shift.proofs.MarkTerms.{lt-true, lt-false, products-more, both-in, both-last, mark-none, mark-low, mark-high}
 use Rattle.tv_shift.specs.Products.{product_of}
 use Rattle.tv_shift.specs.Thermometer.{below, products_below, both, mark, level_product_of, level_of, thermometer_of, level_value, level_values, thermometer_values, power_of}
 

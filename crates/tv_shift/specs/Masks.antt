@@ -1,5 +1,5 @@
 -- The part of a row of bits that a row of masks lets through, as a number.
-use Rattle.std.specs.Prelude.{ℕ, ◌+◌, ◌-◌, ◌*◌, ◌/◌, ◌^◌, ◌≤◌, List, [], ◌∷◌, ◌++◌}
+use Rattle.std.specs.Prelude.{ℕ, ◌+◌, ◌-◌, ◌*◌, ◌/◌, ◌^◌, ◌≤◌, List, ◌++◌}
 use Rattle.std.specs.Int.{bit_at}
 use Rattle.tv_bits.specs.Pairs.{two_ands_of}
 use Rattle.tv_core.specs.Below.{each_below}

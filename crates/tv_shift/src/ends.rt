@@ -29,12 +29,12 @@ pub(crate) fn by_half<S: Sink>(s: &mut S, b: Wire, word: Wire) -> Put<Shift>
     ensures right { IfOk result (λ half. half.right < S.meaning.wires s.new) }
 {
     let x = Bits { first: word, n: 32 }.lc();
-    let left = select(s, b, &times_half(word, 16), &x)?;
+    let left = select(s, b, times_half(word, 16).terms(), x.terms())?;
     let high = Bits {
         first: word.offset(16),
         n: 16,
     };
-    let right = select(s, b, &high.lc(), &x)?;
+    let right = select(s, b, high.lc().terms(), x.terms())?;
     Ok(Shift { left, right })
 }
 
@@ -47,7 +47,7 @@ fn times_half(first: Wire, n: u32) -> Lc
     ensures top { top result ≤ first + n }
 {
     let mut lc = Lc::empty();
-    lc.plus_scaled(F::of(65_536), &Bits { first, n }.lc());
+    Bits { first, n }.plus_to(&mut lc, F::of(65_536));
     lc
 }
 

@@ -3,7 +3,7 @@ ghost use Rattle.tv_core.specs.Sinks.{PutsIn, Grows, Room};
 ghost use Rattle.tv_shift.specs.Halves.{halves_of};
 
 use tv_bits::select;
-use tv_core::{Lc, Put, Sink, Wire};
+use tv_core::{F, Put, Sink, Wire};
 
 // The first of `n` wires that are the bits of the half that bit `b` chooses, of the word of 2 `n` bits from
 // `word` on. It makes `n` wires and `n` constraints.
@@ -18,8 +18,8 @@ pub(crate) fn halves<S: Sink>(s: &mut S, n: u32, b: Wire, word: Wire) -> Put<Wir
 {
     let first = Wire(s.wires());
     for i in 0..n {
-        let high = Lc::wire(word.offset(n + i));
-        let low = Lc::wire(word.offset(i));
+        let high = [(F::ONE, word.offset(n + i))];
+        let low = [(F::ONE, word.offset(i))];
         select(s, b, &high, &low)?;
     }
     Ok(first)

@@ -3,6 +3,7 @@ ghost use Rattle.std.specs.Int.{bit_at};
 ghost use Rattle.tv_core.specs.Combinations.{top};
 ghost use Rattle.tv_core.specs.Giving.{GivesIn};
 ghost use Rattle.tv_core.specs.Sinks.{Meaning, PutsIn, Grows, Room};
+ghost use Rattle.tv_shift.specs.declared.masks.Part.TheVariants.{Low, High};
 ghost use Rattle.tv_shift.specs.Masks.{mask_at, mask_value, digit_at, pair_of, masked_of, masked_values, AreMade};
 
 use crate::thermometer::Marks;
@@ -46,40 +47,43 @@ impl Places {
         }
     }
 
-    // The mask of bit `i` of a part.
-    fn mask(&self, part: Part, i: u32) -> Lc
+    // Makes `mask` that of bit `i` of a part.
+    fn fill_mask(&self, mask: &mut Lc, part: Part, i: u32)
         requires there { i < 16 }
         requires distance_made { self.now.distance + 4 < 2 ^ 32 }
         requires products_made { self.now.products + 11 < 2 ^ 32 }
-        ensures terms { result ≡ mask_at 4 self.now part i }
-        ensures len { length result ≤ 8 }
-        ensures top { top result ≤ max (self.now.distance + 4) (self.now.products + 11) }
+        ensures terms { mask.new ≡ mask_at 4 self.now part i }
+        ensures len { length mask.new ≤ 8 }
+        ensures top { top mask.new ≤ max (self.now.distance + 4) (self.now.products + 11) }
     {
         match part {
-            Part::Low => self.marks().mark(4, i),
-            Part::High => self.marks().mark(4, 15 - i),
+            Part::Low => self.marks().fill_mark(mask, 4, i),
+            Part::High => self.marks().fill_mark(mask, 4, 15 - i),
         }
     }
 
-    // Bit `i` of the half of the word that a part is of.
-    fn digit(&self, part: Part, i: u32) -> Lc
+    // Bit `i` of the chosen half.
+    fn chosen_bit(&self, i: u32) -> [(F, Wire); 1]
+        requires { self.now.chosen + i < 2 ^ 32 }
+        ensures terms { result ≡ digit_at 4 self.now Low i }
+        ensures top { top result ≡ self.now.chosen + i + 1 }
+    {
+        [(F::ONE, self.chosen.offset(i))]
+    }
+
+    // Bit `i` of the other half: the sum of both halves' bits less that of the chosen one.
+    fn other_bit(&self, i: u32) -> [(F, Wire); 3]
         requires there { i < 16 }
         requires word_made { self.now.word + 32 < 2 ^ 32 }
         requires chosen_made { self.now.chosen + 16 < 2 ^ 32 }
-        ensures terms { result ≡ digit_at 4 self.now part i }
-        ensures len { length result ≤ 3 }
+        ensures terms { result ≡ digit_at 4 self.now High i }
         ensures top { top result ≤ max (self.now.word + 32) (self.now.chosen + 16) }
     {
-        let chosen = Lc::wire(self.chosen.offset(i));
-        match part {
-            Part::Low => chosen,
-            Part::High => {
-                let mut lc = Lc::wire(self.word.offset(i));
-                lc.plus(F::ONE, self.word.offset(16 + i));
-                lc.minus(&chosen);
-                lc
-            }
-        }
+        [
+            (F::ONE, self.word.offset(i)),
+            (F::ONE, self.word.offset(16 + i)),
+            (-F::ONE, self.chosen.offset(i)),
+        ]
     }
 }
 
@@ -92,26 +96,52 @@ pub(crate) fn masked<S: Sink>(s: &mut S, places: &Places, part: Part) -> Put<Wir
     ensures below { IfOk result (λ first. first + 8 ≤ S.meaning.wires s.new) }
 {
     let first = Wire(s.wires());
+    let mut mask = Lc::empty();
+    let mut mask_above = Lc::empty();
     for i in 0..8 {
-        pair(s, places, part, i)?;
+        pair(s, places, part, i, &mut mask, &mut mask_above)?;
     }
     Ok(first)
 }
 
-// A wire that is bit `i` of a part, plus 2^8 times bit 8 + `i`.
-fn pair<S: Sink>(s: &mut S, places: &Places, part: Part, i: u32) -> Put<()>
+// A wire that is bit `i` of a part, plus 2^8 times bit 8 + `i`. The two combinations are filled with their masks.
+fn pair<S: Sink>(
+    s: &mut S,
+    places: &Places,
+    part: Part,
+    i: u32,
+    mask: &mut Lc,
+    mask_above: &mut Lc,
+) -> Put<()>
     requires room { Room S.meaning s.old 1 1 }
     requires there { i < 8 }
     requires made { AreMade places.now (S.meaning.wires s.old) }
     ensures puts { PutsIn S.meaning s.old s.new (pair_of (mask_at 4 places.now part) (digit_at 4 places.now part) 8 i) result }
     ensures grows { IfOk result (λ _. Grows S.meaning s.old s.new 1 1) }
 {
-    let m = Lc::wire(s.fresh());
-    let mask = places.mask(part, i);
-    let digit = places.digit(part, i);
-    let mask_above = places.mask(part, 8 + i);
-    let digit_above = places.digit(part, 8 + i);
-    two_ands(s, &mask, &digit, &mask_above, &digit_above, F::of(16), &m)
+    let m = [(F::ONE, s.fresh())];
+    places.fill_mask(mask, part, i);
+    places.fill_mask(mask_above, part, 8 + i);
+    match part {
+        Part::Low => two_ands(
+            s,
+            mask.terms(),
+            &places.chosen_bit(i),
+            mask_above.terms(),
+            &places.chosen_bit(8 + i),
+            F::of(16),
+            &m,
+        ),
+        Part::High => two_ands(
+            s,
+            mask.terms(),
+            &places.other_bit(i),
+            mask_above.terms(),
+            &places.other_bit(8 + i),
+            F::of(16),
+            &m,
+        ),
+    }
 }
 
 // Gives the values of the wires that `masked` makes, the half being `x`, and the distance's low bits spelling `s`.

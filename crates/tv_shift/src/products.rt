@@ -3,7 +3,7 @@ ghost use Rattle.tv_core.specs.Combinations.{top};
 ghost use Rattle.tv_core.specs.Sinks.{PutsIn, Grows, Room};
 ghost use Rattle.tv_shift.specs.Products.{product_of, quotient_of};
 
-use tv_core::{Lc, Put, Sink, Wire};
+use tv_core::{F, Lc, Put, Sink, Wire};
 
 // A new wire that is `x` times `y`.
 pub(crate) fn product<S: Sink>(s: &mut S, x: &Lc, y: &Lc) -> Put<Wire>
@@ -15,7 +15,9 @@ pub(crate) fn product<S: Sink>(s: &mut S, x: &Lc, y: &Lc) -> Put<Wire>
     ensures below { IfOk result (λ w. w < S.meaning.wires s.new) }
 {
     let w = s.fresh();
-    s.put(x, y, &Lc::wire(w))?;
+    let mut product = Lc::empty();
+    product.plus(F::ONE, w);
+    s.put(x, y, &product)?;
     Ok(w)
 }
 
@@ -29,6 +31,8 @@ pub(crate) fn quotient<S: Sink>(s: &mut S, x: &Lc, y: &Lc) -> Put<Wire>
     ensures below { IfOk result (λ w. w < S.meaning.wires s.new) }
 {
     let w = s.fresh();
-    s.put(x, &Lc::wire(w), y)?;
+    let mut quotient = Lc::empty();
+    quotient.plus(F::ONE, w);
+    s.put(x, &quotient, y)?;
     Ok(w)
 }

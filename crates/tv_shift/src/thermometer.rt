@@ -15,19 +15,18 @@ pub(crate) struct Marks {
 }
 
 impl Marks {
-    // Mark `j` of the `k` low bits.
-    pub fn mark(&self, k: u32, j: u32) -> Lc
+    // Makes `lc` mark `j` of the `k` low bits.
+    pub fn fill_mark(&self, lc: &mut Lc, k: u32, j: u32)
         requires few { k ≤ 4 }
         requires there { j < 2 ^ k }
         requires bits_made { self.now.bits + k < 2 ^ 32 }
         requires products_made { self.now.products + products_below k < 2 ^ 32 }
-        ensures terms { result ≡ mark self.now.bits self.now.products k j }
-        ensures len { length result ≤ 2 * k }
-        ensures top { top result ≤ max (self.now.bits + k) (self.now.products + products_below k) }
+        ensures terms { lc.new ≡ mark self.now.bits self.now.products k j }
+        ensures len { length lc.new ≤ 2 * k }
+        ensures top { top lc.new ≤ max (self.now.bits + k) (self.now.products + products_below k) }
     {
-        let mut lc = Lc::empty();
-        self.plus_mark(&mut lc, k, j);
-        lc
+        lc.clear();
+        self.plus_mark(lc, k, j);
     }
 
     // Appends mark `j` of the `k` low bits.
@@ -88,9 +87,11 @@ pub(crate) fn power_lc(marks: &Marks, k: u32) -> Lc
     ensures top { top result ≤ max 1 (max (marks.now.bits + k) (marks.now.products + products_below k)) }
 {
     let mut lc = Lc::constant(F::ONE);
+    let mut mark = Lc::empty();
     let mut coefficient = F::ONE;
     for i in 0..power(k) - 1 {
-        lc.plus_scaled(coefficient, &marks.mark(k, i));
+        marks.fill_mark(&mut mark, k, i);
+        lc.plus_scaled(coefficient, &mark);
         coefficient = coefficient + coefficient;
     }
     lc
@@ -124,8 +125,11 @@ fn level<S: Sink>(s: &mut S, marks: &Marks, k: u32) -> Put<()>
     ensures puts { PutsIn S.meaning s.old s.new (level_of marks.now.bits marks.now.products k) result }
     ensures grows { IfOk result (λ _. Grows S.meaning s.old s.new (2 ^ k - 1) (2 ^ k - 1)) }
 {
+    let bit = Lc::wire(marks.bits.offset(k));
+    let mut mark = Lc::empty();
     for j in 0..power(k) - 1 {
-        product(s, &Lc::wire(marks.bits.offset(k)), &marks.mark(k, j))?;
+        marks.fill_mark(&mut mark, k, j);
+        product(s, &bit, &mark)?;
     }
     Ok(())
 }

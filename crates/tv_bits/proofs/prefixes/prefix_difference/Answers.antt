@@ -1,6 +1,6 @@
-use Rattle.std.proofs.Common.{◌≡◌, ℕ, ◌*◌, ap, arith, mul-zero}
+use Rattle.std.proofs.Common.{◌≡◌, ℕ, ◌*◌, ◌++◌, ◌∙◌, ap, arith, mul-zero}
 use Rattle.tv_core.proofs.Chain.{refused}
-use Rattle.tv_core.specs.Combinations.{top}
+use Rattle.tv_core.specs.Combinations.{wire, top}
 use Rattle.tv_core.specs.Constraints.{Combination}
 use Rattle.tv_bits.proofs.ProductChain.{no_product, one_product, product_refused, last_product}
 use Rattle.tv_bits.specs.Prefixes.{prefix_less, prefix_difference_of}
@@ -10,22 +10,23 @@ pub loop-i-init : goal.loop-i-init
 loop-i-init g c =
     let factor : ℕ → Combination = λ j. prefix_less c.args.x.now c.args.y.now c.args.d.now (c.args.chunk * j) in
     let place : c.args.chunk * 0 ≡ 0 = mul-zero c.args.chunk in
-    let first : c.prefix_less-product.result ≡ factor 0 = rw place c.prefix_less-product.ensures.terms in
+    let first : c.fill_prefix_less.new.lc ≡ factor 0 = rw place c.fill_prefix_less.ensures.terms in
     record {
-      puts = no_product g.S.Sink.meaning factor c.args.s.now c.prefix_less-product.result first;
+      puts = no_product g.S.Sink.meaning factor c.args.s.now c.fill_prefix_less.new.lc first;
       grows = record { wires = omega arith; constraints = omega arith; whole = c.requires.room.whole };
-      made = omega (arith, c.prefix_less-product.ensures.top, c.requires);
+      made = omega (arith, c.fill_prefix_less.ensures.top, c.requires);
     }
 
 pub loop-i-preserved : goal.loop-i-preserved
 loop-i-preserved g c =
     let factor : ℕ → Combination = λ j. prefix_less c.args.x.now c.args.y.now c.args.d.now (c.args.chunk * j) in
     let grown = c.in_ok-w.ensures.grows in
-    let product = rw c.prefix_less-factor.ensures.terms at c.in_ok-w.ensures.puts in
+    let product = rw c.fill_prefix_less-in-loop-i.ensures.terms at c.in_ok-w.ensures.puts in
+    let made = c.plus.ensures.terms ∙ ap (λ l. l ++ wire c.in_ok-w.w) c.clear.ensures in
     record {
-      puts = one_product g.S.Sink.meaning factor c.loop-i.i _ _ _ _ _ _ c.loop-i.invariant.puts product c.wire-product.ensures;
+      puts = one_product g.S.Sink.meaning factor c.loop-i.i _ _ _ _ _ _ c.loop-i.invariant.puts product made;
       grows = record { wires = omega (arith, grown.wires); constraints = omega (arith, grown.constraints); whole = grown.whole };
-      made = omega (arith, ap top c.wire-product.ensures, c.in_ok-w.ensures.below);
+      made = omega (arith, ap top made, c.in_ok-w.ensures.below);
     }
 
 pub returns-in_err-w-clause-puts : goal.returns-in_err-w-clause-puts
@@ -33,7 +34,7 @@ unfolding prefix_difference_of
 returns-in_err-w-clause-puts g c =
     let m = g.S.Sink.meaning in
     let factor : ℕ → Combination = λ j. prefix_less c.args.x.now c.args.y.now c.args.d.now (c.args.chunk * j) in
-    let product = rw c.prefix_less-factor.ensures.terms at c.in_err-w.ensures.puts in
+    let product = rw c.fill_prefix_less-in-loop-i.ensures.terms at c.in_err-w.ensures.puts in
     refused m _ _ _ c.from_residual.result c.from_residual.ensures.1
     (product_refused m factor c.args.count c.loop-i.i _ _ _ _ _ (omega arith) c.loop-i.invariant.puts product)
 
@@ -41,5 +42,5 @@ pub returns-clause-puts : goal.returns-clause-puts
 unfolding prefix_difference_of
 returns-clause-puts g c =
     let factor : ℕ → Combination = λ j. prefix_less c.args.x.now c.args.y.now c.args.d.now (c.args.chunk * j) in
-    let last = rw (c.prefix_less-factor-2.ensures.terms, c.empty.ensures) at c.put.ensures.puts in
+    let last = rw (c.fill_prefix_less-2.ensures.terms, c.empty.ensures) at c.put.ensures.puts in
     last_product g.S.Sink.meaning factor c.args.count c.loop-i.i _ _ _ _ _ (omega arith) c.loop-i.invariant.puts last

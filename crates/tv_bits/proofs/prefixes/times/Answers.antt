@@ -5,11 +5,11 @@ use Rattle.tv_bits.proofs.prefixes.times.Goals as goal
 pub returns-in_err-put-clause-puts : goal.returns-in_err-put-clause-puts
 unfolding times_of
 returns-in_err-put-clause-puts g c =
-    let product = rw c.wire.ensures at c.in_err-put.ensures.puts in
-    refused g.S.Sink.meaning _ _ _ c.from_residual.result c.from_residual.ensures.1 (search (chain, c.fresh-product.ensures.puts, product))
+    let product = rw (c.plus.ensures.terms, c.empty-product.ensures) at c.in_err-put.ensures.puts in
+    refused g.S.Sink.meaning _ _ _ c.from_residual.result c.from_residual.ensures.1 (search (chain, c.fresh-w.ensures.puts, product))
 
 pub returns-clause-puts : goal.returns-clause-puts
 unfolding times_of
 returns-clause-puts g c =
-    let product = rw c.wire.ensures at c.in_ok-put.ensures.puts in
-    search (chain, c.fresh-product.ensures.puts, product)
+    let product = rw (c.plus.ensures.terms, c.empty-product.ensures) at c.in_ok-put.ensures.puts in
+    search (chain, c.fresh-w.ensures.puts, product)

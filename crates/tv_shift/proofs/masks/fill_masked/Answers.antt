@@ -1,4 +1,4 @@
-use Rattle.std.proofs.Common.{◌≡◌, ◌+◌, ◌*◌, ◌%◌, arith}
+use Rattle.std.proofs.Common.{◌≡◌, arith}
 use Rattle.tv_core.proofs.GivingChain.{gives_refused}
 use Rattle.tv_core.proofs.LoopLaws.{gives_no_turn, gives_turn, gives_turn_refused}
 use Rattle.tv_shift.specs.Masks.{mask_value, masked_value}

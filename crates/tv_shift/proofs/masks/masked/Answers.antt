@@ -1,8 +1,8 @@
-use Rattle.std.proofs.Common.{◌≡◌, ℕ, ◌<◌, arith}
+use Rattle.std.proofs.Common.{◌≡◌, ℕ, arith}
 use Rattle.tv_core.proofs.Chain.{chain, puts_no_turn, puts_turn, turn_refused, refused}
 use Rattle.tv_core.proofs.LoopLaws.{puts_here_as}
 use Rattle.tv_core.specs.Circuits.{Circuit}
-use Rattle.tv_shift.specs.Masks.{mask_at, digit_at, pair_of, masked_of, AreMade}
+use Rattle.tv_shift.specs.Masks.{mask_at, digit_at, pair_of, masked_of}
 use Rattle.tv_shift.proofs.masks.masked.Goals as goal
 
 pub loop-i-init : goal.loop-i-init

@@ -2,8 +2,14 @@ use Rattle.tv_core.proofs.TailCalls.{puts_in_then}
 use Rattle.tv_shift.specs.Masks.{pair_of}
 use Rattle.tv_shift.proofs.masks.pair.Goals as goal
 
-pub returns-clause-puts : goal.returns-clause-puts
+pub returns-in-Low-clause-puts : goal.returns-in-Low-clause-puts
 unfolding pair_of
-returns-clause-puts g c =
-    let both = rw (c.mask-mask.ensures.terms, c.digit-digit.ensures.terms, c.mask-mask_above.ensures.terms, c.digit-digit_above.ensures.terms, c.of.ensures, c.wire-m.ensures) at c.two_ands.ensures.puts in
-    puts_in_then g.S.Sink.meaning _ _ _ _ _ _ _ c.fresh.ensures.puts both
+returns-in-Low-clause-puts g c =
+    let both = rw (c.terms.ensures.terms, c.fill_mask.ensures.terms, c.chosen_bit.ensures.terms, c.terms-in-Low.ensures.terms, c.fill_mask-2.ensures.terms, c.chosen_bit-in-Low.ensures.terms, c.of.ensures, c.in-Low.is) at c.two_ands.ensures.puts in
+    rw c.in-Low.is (puts_in_then g.S.Sink.meaning _ _ _ _ _ _ _ c.fresh.ensures.puts both)
+
+pub returns-in-High-clause-puts : goal.returns-in-High-clause-puts
+unfolding pair_of
+returns-in-High-clause-puts g c =
+    let both = rw (c.terms-in-High.ensures.terms, c.fill_mask.ensures.terms, c.other_bit.ensures.terms, c.terms-in-High-2.ensures.terms, c.fill_mask-2.ensures.terms, c.other_bit-in-High.ensures.terms, c.of-in-High.ensures, c.in-High.is) at c.two_ands-in-High.ensures.puts in
+    rw c.in-High.is (puts_in_then g.S.Sink.meaning _ _ _ _ _ _ _ c.fresh.ensures.puts both)

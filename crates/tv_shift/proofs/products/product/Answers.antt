@@ -5,11 +5,11 @@ use Rattle.tv_shift.proofs.products.product.Goals as goal
 pub returns-in_err-put-clause-puts : goal.returns-in_err-put-clause-puts
 unfolding product_of
 returns-in_err-put-clause-puts g c =
-    let made = rw c.wire.ensures at c.in_err-put.ensures.puts in
+    let made = rw (c.plus.ensures.terms, c.empty-product.ensures) at c.in_err-put.ensures.puts in
     refused g.S.Sink.meaning _ _ _ c.from_residual.result c.from_residual.ensures.1 (search (chain, c.fresh-w.ensures.puts, made))
 
 pub returns-clause-puts : goal.returns-clause-puts
 unfolding product_of
 returns-clause-puts g c =
-    let made = rw c.wire.ensures at c.in_ok-put.ensures.puts in
+    let made = rw (c.plus.ensures.terms, c.empty-product.ensures) at c.in_ok-put.ensures.puts in
     search (chain, c.fresh-w.ensures.puts, made)

@@ -1,9 +1,9 @@
-use Rattle.std.proofs.Common.{◌≡◌, ℕ, ◌+◌, ◌-◌, ◌^◌, ◌<◌, ◌≤◌, arith}
+use Rattle.std.proofs.Common.{◌≡◌, ℕ, ◌+◌, arith}
 use Rattle.tv_core.proofs.Chain.{chain, puts_no_turn, puts_turn, turn_refused, refused}
 use Rattle.tv_core.proofs.LoopLaws.{puts_here_as}
 use Rattle.tv_core.specs.Circuits.{Circuit}
 use Rattle.tv_shift.proofs.MarkTerms.{products-more, products-up}
-use Rattle.tv_shift.specs.Thermometer.{products_below, level_of, thermometer_of}
+use Rattle.tv_shift.specs.Thermometer.{level_of, thermometer_of}
 use Rattle.tv_shift.proofs.thermometer.thermometer.Goals as goal
 
 pub loop-i-init : goal.loop-i-init

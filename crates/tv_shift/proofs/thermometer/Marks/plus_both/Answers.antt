@@ -1,6 +1,6 @@
-use Rattle.std.proofs.Common.{◌≡◌, ◌+◌, ◌-◌, ◌^◌, ◌≤◌, [], ◌∷◌, ◌++◌, sym, ◌∙◌, ap, arith}
+use Rattle.std.proofs.Common.{◌≡◌, ◌+◌, [], ◌∷◌, ◌++◌, sym, ◌∙◌, ap, arith}
 use Rattle.std.proofs.lemmas.List.{append-nil}
-use Rattle.tv_shift.specs.Thermometer.{products_below, both}
+use Rattle.tv_shift.specs.Thermometer.{products_below}
 use Rattle.tv_shift.proofs.MarkTerms.{power-above, products-more, both-in, both-last}
 use Rattle.tv_shift.proofs.thermometer.Marks.plus_both.Goals as goal
 

@@ -1,0 +1,7 @@
+use Rattle.std.proofs.Common.{refl}
+use Rattle.tv_shift.specs.Masks.{digit_at}
+use Rattle.tv_shift.proofs.masks.Places.chosen_bit.Goals as goal
+
+pub returns-clause-terms : goal.returns-clause-terms
+unfolding digit_at
+returns-clause-terms c = rw c.offset.ensures refl

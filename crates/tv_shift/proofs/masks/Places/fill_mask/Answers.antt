@@ -1,0 +1,10 @@
+use Rattle.tv_shift.specs.Masks.{mask_at}
+use Rattle.tv_shift.proofs.masks.Places.fill_mask.Goals as goal
+
+pub returns-in-Low-clause-terms : goal.returns-in-Low-clause-terms
+unfolding mask_at
+returns-in-Low-clause-terms c = rw c.in-Low.is (rw (c.marks.ensures.bits, c.marks.ensures.products) at c.fill_mark.ensures.terms)
+
+pub returns-in-High-clause-terms : goal.returns-in-High-clause-terms
+unfolding mask_at
+returns-in-High-clause-terms c = rw c.in-High.is (rw (c.marks-in-High.ensures.bits, c.marks-in-High.ensures.products) at c.fill_mark-in-High.ensures.terms)
