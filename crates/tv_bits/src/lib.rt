@@ -21,7 +21,7 @@ pub use prefixes::{
     prefix_difference_is_sound,
 };
 pub use rows::{fill_onehot, onehot, onehot_is_complete, onehot_is_sound, row_sum};
-pub use selection::{fill_select, select, select_is_complete, select_is_sound};
+pub use selection::{fill_select, select, select_is_complete, select_is_sound, select_terms};
 pub use spelling::{
     bits, bits_are_complete, bits_are_sound, fill_bits, new_bits, new_bits_are_complete,
     new_bits_are_sound,

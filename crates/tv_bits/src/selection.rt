@@ -8,7 +8,22 @@ use crate::terms::{plus_all, plus_scaled};
 use tv_core::{F, Lc, Put, Sink, Values, Wire};
 
 /// A wire that is `x` where the bit `b` is 1, and `y` where it is 0. It makes 1 wire and 1 constraint.
-pub fn select<S: Sink>(s: &mut S, b: Wire, x: &[(F, Wire)], y: &[(F, Wire)]) -> Put<Wire>
+pub fn select<S: Sink>(s: &mut S, b: Wire, x: &Lc, y: &Lc) -> Put<Wire>
+    requires room { Room S.meaning s.old 1 1 }
+    requires b_made { b < S.meaning.wires s.old }
+    requires x_made { top x.now ≤ S.meaning.wires s.old }
+    requires y_made { top y.now ≤ S.meaning.wires s.old }
+    requires x_short { length x.now ≤ 64 }
+    requires y_short { length y.now ≤ 64 }
+    ensures puts { PutsIn S.meaning s.old s.new (select_of b x.now y.now) result }
+    ensures grows { IfOk result (λ _. Grows S.meaning s.old s.new 1 1) }
+    ensures below { IfOk result (λ chosen. chosen < S.meaning.wires s.new) }
+{
+    select_terms(s, b, x.terms(), y.terms())
+}
+
+/// The same of two lists of terms, so that a choice between wires needs no combination of its own.
+pub fn select_terms<S: Sink>(s: &mut S, b: Wire, x: &[(F, Wire)], y: &[(F, Wire)]) -> Put<Wire>
     requires room { Room S.meaning s.old 1 1 }
     requires b_made { b < S.meaning.wires s.old }
     requires x_made { top x.now ≤ S.meaning.wires s.old }

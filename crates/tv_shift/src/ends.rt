@@ -29,12 +29,12 @@ pub(crate) fn by_half<S: Sink>(s: &mut S, b: Wire, word: Wire) -> Put<Shift>
     ensures right { IfOk result (λ half. half.right < S.meaning.wires s.new) }
 {
     let x = Bits { first: word, n: 32 }.lc();
-    let left = select(s, b, times_half(word, 16).terms(), x.terms())?;
+    let left = select(s, b, &times_half(word, 16), &x)?;
     let high = Bits {
         first: word.offset(16),
         n: 16,
     };
-    let right = select(s, b, high.lc().terms(), x.terms())?;
+    let right = select(s, b, &high.lc(), &x)?;
     Ok(Shift { left, right })
 }
 

@@ -2,7 +2,7 @@ ghost use Rattle.std.specs.Prelude.{◌≡◌, ◌+◌, ◌≤◌, ◌<◌, ◌^
 ghost use Rattle.tv_core.specs.Sinks.{PutsIn, Grows, Room};
 ghost use Rattle.tv_shift.specs.Halves.{halves_of};
 
-use tv_bits::select;
+use tv_bits::select_terms;
 use tv_core::{F, Put, Sink, Wire};
 
 // The first of `n` wires that are the bits of the half that bit `b` chooses, of the word of 2 `n` bits from
@@ -20,7 +20,7 @@ pub(crate) fn halves<S: Sink>(s: &mut S, n: u32, b: Wire, word: Wire) -> Put<Wir
     for i in 0..n {
         let high = [(F::ONE, word.offset(n + i))];
         let low = [(F::ONE, word.offset(i))];
-        select(s, b, &high, &low)?;
+        select_terms(s, b, &high, &low)?;
     }
     Ok(first)
 }

@@ -40,7 +40,7 @@ fn put<S: Sink>(s: &mut S, gadget: Gadget) -> Put<Wire>
         }
         Gadget::Bits { n } => Ok(bits(s, &x, n.min(63))?.first),
         Gadget::Zero => zero(s, &x),
-        Gadget::Select => select(s, FIRST, &[(F::ONE, Wire(2))], &[(F::ONE, Wire(3))]),
+        Gadget::Select => select(s, FIRST, &Lc::wire(Wire(2)), &Lc::wire(Wire(3))),
         Gadget::OneHot { n, .. } => onehot(
             s,
             &Bits {

@@ -89,7 +89,11 @@ fn product_of(x: u32, y: u32) -> (u64, u64, bool) {
 fn signed_product_of(x: u32, y: u32) -> (u64, u64, bool) {
     let product = i64::from(x.cast_signed()) * i64::from(y.cast_signed());
     let (low, high) = halves(product.cast_unsigned());
-    (low, high, !(-2_147_483_648..2_147_483_648).contains(&product))
+    (
+        low,
+        high,
+        !(-2_147_483_648..2_147_483_648).contains(&product),
+    )
 }
 
 // The quotient and the remainder, and whether it is by 0.
