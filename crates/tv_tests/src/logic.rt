@@ -37,6 +37,13 @@ fn is_logic(z: &[F], answer: &Logic, words: [u32; 4]) -> bool {
         && is_word(z, answer.not_word, answer.not_zero, nots)
 }
 
+// What the gadget answers, and how many of its constraints hold.
+fn tested(z: &[F]) -> Put<(Logic, u32)> {
+    let mut tests = TestSink::over(z, FIRST);
+    let answer = put(&mut tests)?;
+    Ok((answer, tests.held()))
+}
+
 // Whether each constraint holds that the gadget puts into a list.
 fn list_holds(alloc: Global, z: &[F]) -> Put<bool> {
     let mut list = ListSink::new(alloc, FIRST);
@@ -51,10 +58,8 @@ fn logic_holds_over_its_own_values(rt: HostRuntime) -> Result<(), Fail> {
             let values = assignment(rt.alloc(), x, y)?;
             let z = values.as_slice();
             assert_eq!(rt; z.len(), 65 + 26, "{x} {y}");
-            let mut tests = TestSink::over(z, FIRST);
-            let answer = put(&mut tests)?;
-            assert_eq!(rt; tests.tested(), CONSTRAINTS, "{x} {y}");
-            assert_eq!(rt; tests.held(), CONSTRAINTS, "{x} {y}");
+            let (answer, held) = tested(z)?;
+            assert_eq!(rt; held, CONSTRAINTS, "{x} {y}");
             assert!(rt; is_logic(z, &answer, [x & y, x | y, x ^ y, !y]), "{x} {y}");
             assert!(rt; list_holds(rt.alloc(), z)?, "{x} {y}");
         }
@@ -76,7 +81,7 @@ fn logic_has_the_size_that_its_text_says(rt: HostRuntime) -> Result<(), Fail> {
 fn one_and_two_have_no_bit_in_common(rt: HostRuntime) -> Result<(), Fail> {
     let values = assignment(rt.alloc(), 1, 2)?;
     let z = values.as_slice();
-    let answer = put(&mut TestSink::over(z, FIRST))?;
+    let (answer, _) = tested(z)?;
     assert!(rt; is_logic(z, &answer, [0, 3, 3, 0xffff_fffd]));
     Ok(())
 }
@@ -110,9 +115,7 @@ fn false_assignments_fail(rt: HostRuntime) -> Result<(), Fail> {
             assert!(rt; wire < z.len(), "{x} {y}");
             z[wire] = z[wire] + F::of(more);
         }
-        let mut tests = TestSink::over(&z, FIRST);
-        put(&mut tests)?;
-        assert!(rt; tests.held() < tests.tested(), "{x} {y}");
+        assert!(rt; tested(&z)?.1 < CONSTRAINTS, "{x} {y}");
     }
     Ok(())
 }
