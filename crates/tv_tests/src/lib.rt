@@ -8,6 +8,8 @@ mod bits;
 #[cfg(test)]
 mod comparison;
 #[cfg(test)]
+mod false_products;
+#[cfg(test)]
 mod inputs;
 #[cfg(test)]
 mod limbs;
