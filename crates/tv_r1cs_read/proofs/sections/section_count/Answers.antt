@@ -21,8 +21,12 @@ returns-in_err-fit-3-clause-gives g c = λ file told piece.
     let more = c.in_ok-fit-2.ensures.piece file same held in
     let refuses = c.in_err-fit-3.ensures.gives file (rw (← c.in_ok-fit-2.ensures.looks) at same) more in
     let p = err_from_is_err_and c.from_residual-in_err-fit-3.result c.from_residual-in_err-fit-3.ensures.1 in
-    rw (p.1, p.2, sections_in-version _ _ file _ _ fits (sym (c.word.ensures file held) ∙ c.if-word-form.false)
-        too (sym (c.word-found.ensures file more) ∙ c.if-found-form.false)) (refuses_first _ _ _ refuses)
+    rw (
+      p.1,
+      p.2,
+      sections_in-version _ _ file _ _ fits (sym (c.word.ensures file held) ∙ c.if-word-form.false)
+          too (sym (c.word-found.ensures file more) ∙ c.if-found-form.false),
+    ) (refuses_first _ _ _ refuses)
 
 pub returns-clause-gives : goal.returns-clause-gives
 returns-clause-gives g c = λ file told piece.
@@ -34,5 +38,5 @@ returns-clause-gives g c = λ file told piece.
     let still = rw (← c.in_ok-fit-2.ensures.looks) at same in
     let last = c.in_ok-fit-3.ensures.gives file still more in
     sections_in-version _ _ file _ _ fits (sym (c.word.ensures file held) ∙ c.if-word-form.false)
-        too (sym (c.word-found.ensures file more) ∙ c.if-found-form.false)
+    too (sym (c.word-found.ensures file more) ∙ c.if-found-form.false)
     ∙ rw (last, sym (c.word-2.ensures file (c.in_ok-fit-3.ensures.piece file still more))) refl
