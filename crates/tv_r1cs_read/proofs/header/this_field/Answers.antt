@@ -1,7 +1,7 @@
 use Rattle.std.proofs.Common.{◌+◌, ◌≤◌, sym, ◌∙◌, arith}
 use Rattle.std.proofs.lemmas.Bool.Decides.{nat_tests}
 use Rattle.std.proofs.lemmas.Result.{err_from_is_err_and}
-use Rattle.tv_r1cs_read.specs.Places.{places, fit}
+use Rattle.tv_r1cs_read.specs.Places.{places}
 use Rattle.tv_r1cs_read.proofs.Chain.{refuses_any, refuses_wrong}
 use Rattle.tv_r1cs_read.proofs.SectionLemmas.{fit-within, this_field-prime}
 use Rattle.tv_r1cs_read.proofs.header.this_field.Goals as goal

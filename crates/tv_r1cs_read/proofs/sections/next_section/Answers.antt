@@ -1,4 +1,4 @@
-use Rattle.std.proofs.Common.{◌+◌, ◌≤◌, nat_le, true, false, sym, ◌∙◌, arith}
+use Rattle.std.proofs.Common.{true, false, sym, ◌∙◌}
 use Rattle.std.proofs.lemmas.Result.{err_from_is_err_and}
 use Rattle.tv_r1cs_read.specs.Places.{places}
 use Rattle.tv_r1cs_read.proofs.Chain.{refuses_any, refuses_wrong}
