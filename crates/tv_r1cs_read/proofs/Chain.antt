@@ -21,6 +21,10 @@ refuses_first why first next refuses = record { bad = λ at what e. rw (refuses.
 pub refuses_wrong : {A : Type 0} (at : ℕ) (why : ReadWhy) (answer : Result A Fault) → answer ≡ wrong at why → Refuses (Bad at why) answer
 refuses_wrong at why answer is = record { bad = λ there what e. cc }
 
+-- a refusal that tells nothing of what is wrong is one of any answer
+pub refuses_any : {A B : Type 0} (why : ReadRefusal) (value : A) (answer : Result B Fault) → Refuses why (Ok value) → Refuses why answer
+refuses_any why value answer refuses = record { bad = λ at what e. let none : Ok value ≡ wrong at what = refuses.bad at what e in cc }
+
 -- a refusal that isn't a failed read may stop where nothing was read
 pub stopped_here : (outside : Outside) (name : List ℕ) (why : ReadRefusal) → IsTold why → Stopped outside outside name why
 stopped_here outside name why told = record { only = search rules; there = search rules; fault = λ e. absurd (told.told e) }

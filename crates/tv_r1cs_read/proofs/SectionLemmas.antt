@@ -1,11 +1,12 @@
 -- Sections, one behind the others.
-use Rattle.std.proofs.Common.{◌≡◌, ℕ, zero, suc, ◌+◌, ◌≤◌, ◌<◌, List, [], ◌∷◌, ◌++◌, length, Bool, true, false, cond, eqb, Option, Some, None, Result, Ok, Err, refl, ap, ◌∙◌, add-one, nat_lt, arith}
+use Rattle.std.proofs.Common.{◌≡◌, ℕ, zero, suc, ◌+◌, ◌≤◌, ◌<◌, List, [], ◌∷◌, ◌++◌, length, Bool, true, false, cond, eqb, Option, Some, None, Result, Ok, Err, refl, ap, ◌∙◌, add-one, nat_lt, nat_le, not, ◌==◌, arith}
 use Rattle.std.proofs.lemmas.Bool.Decides.{nat_tests}
 use Rattle.std.specs.Option.{option_or}
+use Rattle.tv_core.specs.declared.field.TheConstants.{P}
 use Rattle.tv_r1cs_read.specs.declared.sections.Section.{Section}
 use Rattle.tv_r1cs_read.specs.declared.why.ReadRefusal.{ReadRefusal}
 use Rattle.tv_r1cs_read.specs.declared.why.ReadWhy.{ReadWhy}
-use Rattle.tv_r1cs_read.specs.declared.why.ReadWhy.TheVariants.{Doubled, Truncated, Trailing}
+use Rattle.tv_r1cs_read.specs.declared.why.ReadWhy.TheVariants.{BadVersion, Doubled, OtherPrime, Truncated, Trailing}
 use Rattle.tv_r1cs_read.specs.Places.{Fault, ◌>>=◌, wrong, unless, number, places, fit}
 use Rattle.tv_r1cs_read.specs.declared.header.Header.{Header}
 use Rattle.tv_r1cs_read.specs.R1cs.{counted, this_field, checked, header_in}
@@ -33,6 +34,24 @@ pub sections_of-counted : (singles magic version count : ℕ) (file : List ℕ) 
 unfolding sections_of
 sections_of-counted singles magic version count file counted = rw counted refl
 
+-- once the magic is seen, the version is looked at, and then the count
+pub sections_in-magic : (magic version : ℕ) (file : List ℕ) (done : Unit {0}) → fit 4 0 (places file) ≡ Ok done → number file 4 0 ≡ magic →
+    sections_in magic version file ≡ (do
+      _ ← fit 4 4 (places file)
+      _ ← unless (not (number file 4 4 == version)) 4 (BadVersion (number file 4 4))
+      _ ← fit 4 8 (places file)
+      Ok (number file 4 8))
+unfolding sections_in
+sections_in-magic magic version file done fits is = rw (fits, is) (grind (arith, nat_tests))
+
+pub sections_in-version : (magic version : ℕ) (file : List ℕ) (done also : Unit {0}) → fit 4 0 (places file) ≡ Ok done → number file 4 0 ≡ magic →
+    fit 4 4 (places file) ≡ Ok also → number file 4 4 ≡ version →
+    sections_in magic version file ≡ (do
+      _ ← fit 4 8 (places file)
+      Ok (number file 4 8))
+sections_in-version magic version file done also fits is too version_is =
+    sections_in-magic magic version file done fits is ∙ rw (too, version_is) (grind (arith, nat_tests))
+
 -- one section on
 pub sections_from-next : (singles n more at : ℕ) (file : List ℕ) (sections : List Section) (section : Section) → n ≡ more + 1 →
     section_at singles file at sections ≡ Ok section →
@@ -57,6 +76,28 @@ pub sections_from-trailing : (singles n at : ℕ) (file : List ℕ) (sections : 
     sections_from singles file n at sections ≡ wrong at Trailing
 unfolding sections_from
 sections_from-trailing singles n at file sections none past = rw none (grind (arith, nat_tests))
+
+-- bytes that are there fit, and bytes that fit are there
+pub fit-within : (size at end : ℕ) → at + size ≤ end → fit size at end ≡ Ok (tt {0})
+fit-within size at end within = grind (arith, nat_tests)
+
+pub fit-is : (size at end : ℕ) (done : Unit {0}) → fit size at end ≡ Ok done → at + size ≤ end
+fit-is size at end done fits = grind (arith, nat_tests)
+
+-- a section that may stand is one, where its content is there
+pub section_at-read : (singles at kind size : ℕ) (file : List ℕ) (sections : List Section) (done : Unit {0}) (there : Bool) →
+    fit 12 at (places file) ≡ Ok done → number file 4 at ≡ kind → number file 8 (at + 4) ≡ size → stands_already singles kind sections ≡ false →
+    nat_le (at + 12 + size) (places file) ≡ there →
+    section_at singles file at sections ≡ cond there (Ok (record { kind = kind; at = at + 12; size = size })) (wrong at Truncated)
+unfolding section_at
+section_at-read singles at kind size file sections done true fits kind_is size_is once ends = rw (fits, kind_is, size_is, once) (grind (arith, nat_tests))
+section_at-read singles at kind size file sections done false fits kind_is size_is once ends = rw (fits, kind_is, size_is, once) (grind (arith, nat_tests))
+
+-- once its size and the size of a number are seen, section 1 says which field it is
+pub this_field-prime : (file : List ℕ) (wants : ℕ) (one : Section) → 4 ≤ one.size → number file 4 one.at ≡ 8 → one.size ≡ wants →
+    this_field file wants one ≡ unless (not (number file 8 (one.at + 4) == P)) one.at OtherPrime
+unfolding this_field
+this_field-prime file wants one some of_eight size = rw of_eight (grind (arith, nat_tests))
 
 -- what passed the checks of a section's header
 passed : (fits : Result (Unit {0}) Fault) (doubled past : Bool) (at : ℕ) (doubling passing : ReadWhy) (made section : Section) →
@@ -83,6 +124,22 @@ pub header_in-checked : (file : List ℕ) (sections : List Section) (one two : S
 unfolding header_in
 header_in-checked file sections one two done header one_is two_is field counts =
     rw (one_is, two_is, field) (ap (λ known. checked known one (section_of 3 sections)) counts)
+
+-- what section 1 or section 2 is refused for, or the field, the header is
+pub header_in-one : (file : List ℕ) (sections : List Section) (why : ReadRefusal) →
+    Refuses why (wanted 1 file sections) → Refuses why (header_in file sections)
+unfolding header_in
+header_in-one file sections why refuses = refuses_first why _ _ refuses
+
+pub header_in-two : (file : List ℕ) (sections : List Section) (one : Section) (why : ReadRefusal) → wanted 1 file sections ≡ Ok one →
+    Refuses why (wanted 2 file sections) → Refuses why (header_in file sections)
+unfolding header_in
+header_in-two file sections one why one_is refuses = rw one_is (refuses_first why _ _ refuses)
+
+pub header_in-field : (file : List ℕ) (sections : List Section) (one two : Section) (why : ReadRefusal) → wanted 1 file sections ≡ Ok one →
+    wanted 2 file sections ≡ Ok two → Refuses why (this_field file 40 one) → Refuses why (header_in file sections)
+unfolding header_in
+header_in-field file sections one two why one_is two_is refuses = rw (one_is, two_is) (refuses_first why _ _ refuses)
 
 -- one section more that fits
 AllFit-push : (file : List ℕ) (sections : List Section) (section : Section) → AllFit file sections → section.at + section.size ≤ places file →

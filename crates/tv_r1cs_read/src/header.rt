@@ -52,7 +52,7 @@ pub(crate) fn read_header<D: Files>(
 }
 
 // The header, from the sections.
-#[tactic(auto, using(crate::proofs::Chain::stopped_here), unfolding(crate::specs::R1cs::header_in))]
+#[tactic(auto, using(crate::proofs::Chain::stopped_here))]
 fn header_in<D: Files>(
     files: &mut D,
     name: &str,

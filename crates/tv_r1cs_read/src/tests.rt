@@ -3,8 +3,9 @@
 ghost use Rattle.std.specs.Prelude.{◌≡◌, ◌+◌, ◌≤◌, length};
 ghost use Rattle.tv_files.specs.Outside.{OnlyReads};
 
-use super::*;
-use std::alloc::Global;
+use crate::{ReadRefusal, ReadWhy, Row, SystemReader, Terms, survey};
+use std::alloc::{AllocError, Global};
+use std::process::Abort;
 use std::test::Fail;
 use tv_core::{Counts, F};
 use tv_files::{Files, MemFiles};
@@ -79,25 +80,107 @@ fn reversed() -> [u8; 168] {
     system
 }
 
-// A system of so many constraints: i times wire 1, times the sum of wire 2 and i times wire 3, is 0.
+// The constraint that i times wire 1, times the sum of wire 2 and i times wire 3, is 0.
+fn numbered(i: u16) -> [u8; 48] {
+    let mut row = [
+        1, 0, 0, 0, 1, 0, 0, 0, 0, 0, 0, 0, 0, 0, 0, 0, //
+        2, 0, 0, 0, 2, 0, 0, 0, 1, 0, 0, 0, 0, 0, 0, 0, //
+        3, 0, 0, 0, 0, 0, 0, 0, 0, 0, 0, 0, 0, 0, 0, 0,
+    ];
+    let factor = u64::from(i).to_le_bytes();
+    row[8..16].copy_from_slice(&factor);
+    row[36..44].copy_from_slice(&factor);
+    row
+}
+
+// A system of the constraints of the numbers below `count`.
 fn many(alloc: Global, count: u16) -> Result<Vec<u8>, Fail> {
     let mut bytes = Vec::new(alloc);
+    push_many(&mut bytes, count)?;
+    Ok(bytes)
+}
+
+fn push_many(bytes: &mut Vec<u8>, count: u16) -> Result<(), AllocError> {
     bytes.extend_from_slice(&SYSTEM[..8])?;
     bytes.extend_from_slice(&[2, 0, 0, 0, 2, 0, 0, 0])?;
     bytes.extend_from_slice(&(48 * u64::from(count)).to_le_bytes())?;
     for i in 0..count {
-        let factor = u64::from(i).to_le_bytes();
-        bytes.extend_from_slice(&SYSTEM[76..84])?;
-        bytes.extend_from_slice(&factor)?;
-        bytes.extend_from_slice(&[2, 0, 0, 0])?;
-        bytes.extend_from_slice(&SYSTEM[96..108])?;
-        bytes.extend_from_slice(&[3, 0, 0, 0])?;
-        bytes.extend_from_slice(&factor)?;
-        bytes.extend_from_slice(&[0, 0, 0, 0])?;
+        bytes.extend_from_slice(&numbered(i))?;
     }
     bytes.extend_from_slice(&SYSTEM[12..60])?;
-    bytes.extend_from_slice(&u32::from(count).to_le_bytes())?;
-    Ok(bytes)
+    bytes.extend_from_slice(&u32::from(count).to_le_bytes())
+}
+
+// Sees that a combination has these terms.
+fn has_terms(rt: &impl Abort, combination: &Terms, terms: &[(u32, F)]) {
+    assert_eq!(rt; combination.as_slice(), terms);
+}
+
+// Sees that the next row has these terms.
+fn gives_row(
+    rt: &impl Abort,
+    reader: &mut SystemReader<'_, MemFiles>,
+    a: &[(u32, F)],
+    b: &[(u32, F)],
+    c: &[(u32, F)],
+) -> Result<(), Fail> {
+    let row = row_of(reader)?;
+    has_terms(rt, &row.a, a);
+    has_terms(rt, &row.b, b);
+    has_terms(rt, &row.c, c);
+    Ok(())
+}
+
+// Sees that there is no next row, and that the terms of all rows are so many.
+fn is_over(
+    rt: &impl Abort,
+    reader: &mut SystemReader<'_, MemFiles>,
+    terms: u64,
+) -> Result<(), Fail> {
+    assert!(rt; reader.next()?.is_none());
+    assert_eq!(rt; reader.counts().terms, terms);
+    Ok(())
+}
+
+// What the last of so many calls for the next row is refused for; after a refusal each gives the same.
+fn last_refusal(
+    rt: &impl Abort,
+    reader: &mut SystemReader<'_, MemFiles>,
+    count: u8,
+) -> Option<ReadRefusal> {
+    let mut refused = None;
+    for _ in 0..count {
+        let answer = reader.next().err();
+        assert!(rt; refused.is_none() || answer == refused);
+        refused = answer;
+    }
+    refused
+}
+
+// The same of a file whose call of that number fails, and how many calls are made.
+fn refused_after(
+    rt: &impl Abort,
+    alloc: Global,
+    bytes: &[u8],
+    failing: u64,
+    count: u8,
+) -> Result<(Option<ReadRefusal>, u64), Fail> {
+    let mut files = files_of(alloc, bytes)?;
+    files.fail_at(failing)?;
+    let refused = last_refusal(rt, &mut reader_of(alloc, &mut files)?, count);
+    Ok((refused, files.calls()))
+}
+
+// Why the survey of a file is refused whose call of this number fails, and how many calls it makes.
+fn refused_at(
+    alloc: Global,
+    bytes: &[u8],
+    failing: u64,
+) -> Result<(Option<ReadRefusal>, u64), Fail> {
+    let mut files = files_of(alloc, bytes)?;
+    files.fail_at(failing)?;
+    let refusal = survey(alloc, &mut files, "s.r1cs").err();
+    Ok((refusal, files.calls()))
 }
 
 // Two systems in a row, as the layers above chain them.
@@ -114,58 +197,61 @@ fn both<D: Files>(
     Ok((one, two))
 }
 
+// Sees that the worked system is read from here on.
+fn gives_system(rt: &impl Abort, reader: &mut SystemReader<'_, MemFiles>) -> Result<(), Fail> {
+    assert_eq!(rt; reader.counts(), Counts { terms: 0, ..COUNTS });
+    gives_row(rt, reader, &[(1, F::ONE)], &[(2, F::ONE)], &[(3, F::ONE)])?;
+    is_over(rt, reader, 3)?;
+    is_over(rt, reader, 3)?;
+    assert_eq!(rt; reader.counts(), COUNTS);
+    Ok(())
+}
+
 #[test]
 fn reads_a_system_row_by_row(rt: HostRuntime) -> Result<(), Fail> {
-    let alloc = rt.alloc();
-    let mut files = files_of(alloc, &SYSTEM)?;
-    let mut reader = reader_of(alloc, &mut files)?;
-    assert_eq!(rt; reader.counts(), Counts { terms: 0, ..COUNTS });
-    let row = row_of(&mut reader)?;
-    assert_eq!(rt; row.a.as_slice(), [(1, F::ONE)].as_slice());
-    assert_eq!(rt; row.b.as_slice(), [(2, F::ONE)].as_slice());
-    assert_eq!(rt; row.c.as_slice(), [(3, F::ONE)].as_slice());
-    assert!(rt; reader.next()?.is_none());
-    assert!(rt; reader.next()?.is_none());
-    assert_eq!(rt; reader.counts(), COUNTS);
+    let mut files = files_of(rt.alloc(), &SYSTEM)?;
+    gives_system(&rt, &mut reader_of(rt.alloc(), &mut files)?)
+}
+
+// Sees that a file counts what the worked system does.
+fn surveys(rt: &impl Abort, alloc: Global, bytes: &[u8]) -> Result<(), Fail> {
+    assert_eq!(rt; counts_of(alloc, bytes)?, Ok(COUNTS));
     Ok(())
 }
 
 #[test]
 fn surveys_a_system(rt: HostRuntime) -> Result<(), Fail> {
     let alloc = rt.alloc();
-    let table = [
-        SYSTEM,
-        reversed(),
-        changed(124, &[9]),
-        changed(48, &[7]),
-        changed(76, &[2]),
-    ];
-    for system in table {
-        assert_eq!(rt; counts_of(alloc, &system)?, Ok(COUNTS));
+    surveys(&rt, alloc, &SYSTEM)?;
+    surveys(&rt, alloc, &reversed())?;
+    for (at, to) in [(124, 9), (48, 7), (76, 2)] {
+        assert!(rt; at < 168);
+        surveys(&rt, alloc, &changed(at, &[to]))?;
     }
-    let (one, two) = both(alloc, &mut files_of(alloc, &SYSTEM)?, "s.r1cs", "s.r1cs")?;
-    assert_eq!(rt; one, two);
     Ok(())
 }
 
 #[test]
-fn reads_more_than_one_piece(rt: HostRuntime) -> Result<(), Fail> {
-    let alloc = rt.alloc();
-    let mut files = files_of(alloc, &many(alloc, 2000)?)?;
-    let mut reader = reader_of(alloc, &mut files)?;
-    for i in 0..2000_u64 {
-        let row = row_of(&mut reader)?;
-        assert_eq!(rt; row.a.as_slice(), [(1, F::of(i))].as_slice(), "row {i}");
-        assert_eq!(rt;
-            row.b.as_slice(),
-            [(2, F::ONE), (3, F::of(i))].as_slice(),
-            "row {i}"
-        );
-        assert!(rt; row.c.as_slice().is_empty(), "row {i}");
-    }
-    assert!(rt; reader.next()?.is_none());
-    assert_eq!(rt; reader.counts().terms, 6000);
+fn surveys_two_systems_in_a_row(rt: HostRuntime) -> Result<(), Fail> {
+    let mut files = files_of(rt.alloc(), &SYSTEM)?;
+    let counts = both(rt.alloc(), &mut files, "s.r1cs", "s.r1cs")?;
+    assert_eq!(rt; counts, (COUNTS, COUNTS));
     Ok(())
+}
+
+// Sees that the rows of the numbers below 2000 are read from here on.
+fn gives_many(rt: &impl Abort, reader: &mut SystemReader<'_, MemFiles>) -> Result<(), Fail> {
+    for i in 0..2000_u64 {
+        let factor = F::of(i);
+        gives_row(rt, reader, &[(1, factor)], &[(2, F::ONE), (3, factor)], &[])?;
+    }
+    is_over(rt, reader, 6000)
+}
+
+#[test]
+fn reads_more_than_one_piece(rt: HostRuntime) -> Result<(), Fail> {
+    let mut files = files_of(rt.alloc(), &many(rt.alloc(), 2000)?)?;
+    gives_many(&rt, &mut reader_of(rt.alloc(), &mut files)?)
 }
 
 #[test]
@@ -198,94 +284,95 @@ fn tells_a_byte_behind_the_end(rt: HostRuntime) -> Result<(), Fail> {
     Ok(())
 }
 
+// Other bytes from a place of the worked system on, and the fault that they make.
+const FAULTS: [(usize, &[u8], u64, ReadWhy); 21] = [
+    (0, &[0], 0, ReadWhy::BadMagic),
+    (4, &[2], 4, ReadWhy::BadVersion { found: 2 }),
+    (8, &[2], 124, ReadWhy::Trailing),
+    (8, &[4], 168, ReadWhy::Truncated),
+    (124, &[1], 124, ReadWhy::Doubled { section: 1 }),
+    (124, &[2], 124, ReadWhy::Doubled { section: 2 }),
+    (64, &[3], 124, ReadWhy::Doubled { section: 3 }),
+    (12, &[9], 168, ReadWhy::Missing { section: 1 }),
+    (64, &[9], 168, ReadWhy::Missing { section: 2 }),
+    (16, &[0xff; 8], 12, ReadWhy::Truncated),
+    (24, &[32], 24, ReadWhy::OtherPrime),
+    (28, &[2], 24, ReadWhy::OtherPrime),
+    (36, &[1], 24, ReadWhy::BadCount { has: 1, wants: 2 }),
+    (36, &[3], 136, ReadWhy::BadCount { has: 32, wants: 24 }),
+    (60, &[0], 76, ReadWhy::BadCount { has: 48, wants: 0 }),
+    (60, &[2], 124, ReadWhy::Truncated),
+    (
+        76,
+        &[1, 0, 16, 0],
+        76,
+        ReadWhy::TooWide { terms: 1_048_577 },
+    ),
+    (76, &[0, 0, 16, 0], 116, ReadWhy::Truncated),
+    (80, &[4], 80, ReadWhy::WireRange { wire: 4, wires: 4 }),
+    (
+        84,
+        &[1, 0, 0, 0, 0xff, 0xff, 0xff, 0xff],
+        84,
+        ReadWhy::NotCanonical,
+    ),
+    (116, &[0xff; 8], 116, ReadWhy::NotCanonical),
+];
+
+// Sees that a change of the worked system makes this fault.
+fn faults(
+    rt: &impl Abort,
+    alloc: Global,
+    place: usize,
+    to: &[u8],
+    fault: ReadRefusal,
+) -> Result<(), Fail> {
+    assert!(rt; to.len() <= 168 && place <= 168 - to.len());
+    assert_eq!(rt;
+        counts_of(alloc, &changed(place, to))?,
+        Err(fault),
+        "at {place}"
+    );
+    Ok(())
+}
+
 #[test]
 fn tells_the_first_fault(rt: HostRuntime) -> Result<(), Fail> {
-    let size = |has, wants| ReadWhy::BadCount { has, wants };
-    let table: [(usize, &[u8], u64, ReadWhy); 21] = [
-        (0, &[0], 0, ReadWhy::BadMagic),
-        (4, &[2], 4, ReadWhy::BadVersion { found: 2 }),
-        (8, &[2], 124, ReadWhy::Trailing),
-        (8, &[4], 168, ReadWhy::Truncated),
-        (124, &[1], 124, ReadWhy::Doubled { section: 1 }),
-        (124, &[2], 124, ReadWhy::Doubled { section: 2 }),
-        (64, &[3], 124, ReadWhy::Doubled { section: 3 }),
-        (12, &[9], 168, ReadWhy::Missing { section: 1 }),
-        (64, &[9], 168, ReadWhy::Missing { section: 2 }),
-        (16, &[0xff; 8], 12, ReadWhy::Truncated),
-        (24, &[32], 24, ReadWhy::OtherPrime),
-        (28, &[2], 24, ReadWhy::OtherPrime),
-        (36, &[1], 24, size(1, 2)),
-        (36, &[3], 136, size(32, 24)),
-        (60, &[0], 76, size(48, 0)),
-        (60, &[2], 124, ReadWhy::Truncated),
-        (
-            76,
-            &[1, 0, 16, 0],
-            76,
-            ReadWhy::TooWide { terms: 1_048_577 },
-        ),
-        (76, &[0, 0, 16, 0], 116, ReadWhy::Truncated),
-        (80, &[4], 80, ReadWhy::WireRange { wire: 4, wires: 4 }),
-        (
-            84,
-            &[1, 0, 0, 0, 0xff, 0xff, 0xff, 0xff],
-            84,
-            ReadWhy::NotCanonical,
-        ),
-        (116, &[0xff; 8], 116, ReadWhy::NotCanonical),
-    ];
-    for (place, to, at, why) in table {
-        assert!(rt; to.len() <= 168 && place <= 168 - to.len());
-        let answer = counts_of(rt.alloc(), &changed(place, to))?;
-        assert_eq!(rt; answer, Err(ReadRefusal::Bad { at, why }), "at {place}");
+    for (place, to, at, why) in FAULTS {
+        faults(&rt, rt.alloc(), place, to, ReadRefusal::Bad { at, why })?;
     }
     Ok(())
 }
 
 #[test]
 fn a_fault_of_the_file_is_told_again(rt: HostRuntime) -> Result<(), Fail> {
-    let alloc = rt.alloc();
-    let mut files = files_of(alloc, &changed(80, &[4]))?;
-    let mut reader = reader_of(alloc, &mut files)?;
+    let bytes = changed(80, &[4]);
     let why = ReadWhy::WireRange { wire: 4, wires: 4 };
     let bad = Some(ReadRefusal::Bad { at: 80, why });
-    assert_eq!(rt; reader.next().err(), bad);
-    let calls = reader.files.calls();
-    assert_eq!(rt; reader.next().err(), bad);
-    assert_eq!(rt; reader.files.calls(), calls);
+    let (once, calls) = refused_after(&rt, rt.alloc(), &bytes, 0, 1)?;
+    assert_eq!(rt; once, bad);
+    assert_eq!(rt; refused_after(&rt, rt.alloc(), &bytes, 0, 2)?, (bad, calls));
     Ok(())
 }
 
 #[test]
 fn a_failed_read_is_told_again(rt: HostRuntime) -> Result<(), Fail> {
-    let alloc = rt.alloc();
-    let mut files = files_of(alloc, &many(alloc, 200)?)?;
-    let mut reader = reader_of(alloc, &mut files)?;
-    let failing = reader.files.calls().wrapping_add(2);
-    reader.files.fail_at(failing)?;
-    let mut refused = None;
-    for _ in 0..200 {
-        let answer = reader.next().err();
-        assert!(rt; refused.is_none() || answer == refused);
-        refused = answer;
-    }
-    assert_eq!(rt; refused, Some(ReadRefusal::Fault));
-    assert_eq!(rt; reader.files.calls(), failing);
+    let bytes = many(rt.alloc(), 200)?;
+    let (_, begun) = refused_after(&rt, rt.alloc(), &bytes, 0, 0)?;
+    let failing = begun.wrapping_add(2);
+    let refused = refused_after(&rt, rt.alloc(), &bytes, failing, 200)?;
+    assert_eq!(rt; refused, (Some(ReadRefusal::Fault), failing));
     Ok(())
 }
 
 #[test]
 fn each_failing_read_is_a_fault(rt: HostRuntime) -> Result<(), Fail> {
-    let alloc = rt.alloc();
-    let bytes = many(alloc, 200)?;
-    let mut files = files_of(alloc, &bytes)?;
-    let _ = survey(alloc, &mut files, "s.r1cs")?;
-    for number in 1..=files.calls() {
-        let mut failing = files_of(alloc, &bytes)?;
-        failing.fail_at(number)?;
-        let refusal = survey(alloc, &mut failing, "s.r1cs").err();
-        assert_eq!(rt; refusal, Some(ReadRefusal::Fault), "call {number}");
-        assert_eq!(rt; failing.calls(), number);
+    let bytes = many(rt.alloc(), 200)?;
+    let (none, calls) = refused_at(rt.alloc(), &bytes, 0)?;
+    assert_eq!(rt; none, None);
+    for number in 1..=calls {
+        let refused = refused_at(rt.alloc(), &bytes, number)?;
+        assert_eq!(rt; refused, (Some(ReadRefusal::Fault), number));
     }
     Ok(())
 }
