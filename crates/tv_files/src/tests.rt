@@ -5,6 +5,7 @@ ghost use Rattle.tv_files.specs.Outside.{OnlyReads, MissesOnly, Rose};
 
 use super::*;
 use std::alloc::{AllocError, Global};
+use std::process::Abort;
 use std::test::Fail;
 
 /// Bytes of which no two pieces of a file are alike.
@@ -35,6 +36,30 @@ fn both<D: Files>(alloc: Global, files: &mut D, name: &str, most: u64) -> Result
     Ok(slurp(alloc, files, name, most)?.len())
 }
 
+/// Files of which one is `log` and another is kept, whose call of that number fails.
+fn two_files(alloc: Global, failing: u64) -> Result<MemFiles, AllocError> {
+    let mut files = MemFiles::new(alloc);
+    files.set("log", b"old")?;
+    files.set("other", b"kept")?;
+    files.fail_at(failing)?;
+    Ok(files)
+}
+
+/// Sees that one of each call reads these bytes.
+fn reads(rt: &impl Abort, files: &mut MemFiles, read: Option<&[u8]>) {
+    let mut into = [0; 4];
+    let answer = one_of_each(files, &mut into);
+    assert_eq!(rt; answer.and_then(|count| into.get(..count)), read);
+}
+
+/// Sees that these bytes stand in `log` and were said, and that the other file was kept, after four calls.
+fn holds(rt: &impl Abort, files: &MemFiles, log: &[u8], said: &[u8]) {
+    assert_eq!(rt; files.bytes_of("log"), Some(log));
+    assert_eq!(rt; files.bytes_of("other"), Some(b"kept".as_slice()));
+    assert_eq!(rt; files.said_bytes(), said);
+    assert_eq!(rt; files.calls(), 4);
+}
+
 #[test]
 fn a_listed_call_fails_alone(rt: HostRuntime) -> Result<(), Fail> {
     let table: [(u64, &[u8], &[u8], Option<&[u8]>); 5] = [
@@ -45,27 +70,35 @@ fn a_listed_call_fails_alone(rt: HostRuntime) -> Result<(), Fail> {
         (4, b"abcdefg", b"hello", None),
     ];
     for (number, log, said, read) in table {
-        let mut files = MemFiles::new(rt.alloc());
-        files.set("log", b"old")?;
-        files.set("other", b"kept")?;
-        files.fail_at(number)?;
-        let mut into = [0; 4];
-        let answer = one_of_each(&mut files, &mut into);
-        assert_eq!(rt;
-            answer.and_then(|count| into.get(..count)),
-            read,
-            "read, {number}"
-        );
-        assert_eq!(rt; files.bytes_of("log"), Some(log), "log, {number}");
-        assert_eq!(rt;
-            files.bytes_of("other"),
-            Some(b"kept".as_slice()),
-            "other, {number}"
-        );
-        assert_eq!(rt; files.said_bytes(), said, "said, {number}");
-        assert_eq!(rt; files.calls(), 4);
+        let mut files = two_files(rt.alloc(), number)?;
+        reads(&rt, &mut files, read);
+        holds(&rt, &files, log, said);
     }
     Ok(())
+}
+
+/// Sees what a read of so many bytes, at most 8, answers.
+fn answers(
+    rt: &impl Abort,
+    files: &mut MemFiles,
+    name: &str,
+    at: u64,
+    room: usize,
+    answer: Result<usize, FileRefusal>,
+) {
+    let mut into = [0; 8];
+    assert_eq!(rt;
+        files.read(name, at, &mut into[..room.min(8)]),
+        answer,
+        "{name} {at} {room}"
+    );
+}
+
+/// Sees that nothing is added to a name that isn't there, after so many calls.
+fn adds_to_none(rt: &impl Abort, files: &mut MemFiles, calls: u64) {
+    assert_eq!(rt; files.append("none", b"a"), Err(FileRefusal::Failed));
+    assert!(rt; files.bytes_of("none").is_none());
+    assert_eq!(rt; files.calls(), calls);
 }
 
 #[test]
@@ -82,48 +115,59 @@ fn reads_give_what_fits(rt: HostRuntime) -> Result<(), Fail> {
         ("none", 0, 8, Err(FileRefusal::Failed)),
     ];
     for (name, at, room, answer) in table {
-        let mut into = [0; 8];
-        assert_eq!(rt;
-            files.read(name, at, &mut into[..room.min(8)]),
-            answer,
-            "{name} {at} {room}"
-        );
+        answers(&rt, &mut files, name, at, room, answer);
     }
-    assert_eq!(rt; files.append("none", b"a"), Err(FileRefusal::Failed));
-    assert!(rt; files.bytes_of("none").is_none());
-    assert_eq!(rt; files.calls(), 8);
+    adds_to_none(&rt, &mut files, 8);
     Ok(())
+}
+
+/// Sees that a file of these bytes is written in so many calls, and read in those that make `calls` with them.
+fn comes_and_goes(
+    rt: &impl Abort,
+    alloc: Global,
+    files: &mut MemFiles,
+    bytes: &[u8],
+    writes: u64,
+    calls: u64,
+) -> Result<(), Fail> {
+    let len = bytes.len() as u64;
+    write_file(files, "file", bytes)?;
+    assert_eq!(rt; files.calls(), writes, "{len} written");
+    assert_eq!(rt;
+        slurp(alloc, files, "file", len)?.as_slice(),
+        bytes,
+        "{len}"
+    );
+    assert_eq!(rt; files.calls(), calls, "{len} read");
+    assert_eq!(rt; both(alloc, files, "file", len)?, bytes.len());
+    Ok(())
+}
+
+/// Sees why a file that is read up to so many bytes is refused.
+fn refuses(rt: &impl Abort, alloc: Global, files: &mut MemFiles, most: u64, why: Slurp) {
+    assert_eq!(rt; slurp(alloc, files, "file", most).err(), Some(why));
 }
 
 #[test]
 fn whole_files_come_and_go(rt: HostRuntime) -> Result<(), Fail> {
-    // length, calls to write, calls to read
+    // length, calls to write, calls to write and read
     let table = [
-        (0, 1, 1),
-        (1, 2, 2),
-        (4096, 2, 2),
-        (4097, 3, 3),
-        (8192, 3, 3),
+        (0, 1, 2),
+        (1, 2, 4),
+        (4096, 2, 4),
+        (4097, 3, 6),
+        (8192, 3, 6),
     ];
-    for (len, writes, reads) in table {
+    for (len, writes, calls) in table {
         let bytes = pattern(rt.alloc(), len)?;
         let mut files = MemFiles::new(rt.alloc());
-        write_file(&mut files, "file", &bytes)?;
-        assert_eq!(rt; files.calls(), writes, "{len} written");
-        let read = slurp(rt.alloc(), &mut files, "file", len)?;
-        assert_eq!(rt; files.calls(), writes + reads, "{len} read");
-        assert_eq!(rt; read.as_slice(), bytes.as_slice(), "{len}");
-        assert_eq!(rt; both(rt.alloc(), &mut files, "file", len)?, bytes.len());
-        let most = len.max(1) - 1;
-        if most < len {
-            let longer = slurp(rt.alloc(), &mut files, "file", most).err();
-            assert_eq!(rt; longer, Some(Slurp::TooLong { most }), "{len}");
+        comes_and_goes(&rt, rt.alloc(), &mut files, &bytes, writes, calls)?;
+        if len > 0 {
+            let most = len - 1;
+            refuses(&rt, rt.alloc(), &mut files, most, Slurp::TooLong { most });
         }
     }
     let mut none = MemFiles::new(rt.alloc());
-    assert_eq!(rt;
-        slurp(rt.alloc(), &mut none, "file", 9).err(),
-        Some(Slurp::Fault)
-    );
+    refuses(&rt, rt.alloc(), &mut none, 9, Slurp::Fault);
     Ok(())
 }
