@@ -18,5 +18,3 @@ pub use sections::{Form, Found, Section, find_sections};
 pub use why::{ReadRefusal, ReadWhy};
 pub use window::Window;
 
-#[cfg(test)]
-mod tests;
