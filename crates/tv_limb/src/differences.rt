@@ -54,7 +54,7 @@ fn difference_of_words(x: &Bits, y: &Bits) -> Lc
     ensures top { top result ≤ max (x.now.first + 32) (y.now.first + 32) }
 {
     let mut lc = x.lc();
-    lc.minus(&y.lc());
+    y.plus_to(&mut lc, -F::ONE);
     lc
 }
 

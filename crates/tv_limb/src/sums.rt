@@ -7,7 +7,7 @@ ghost use Rattle.tv_limb.specs.Sum.{sum_of_words, add_of, add_values, AddIsSound
 use crate::parts::Split;
 use crate::splitting::split;
 use tv_bits::{Bits, fill_bits};
-use tv_core::{F, Lc, Put, Sink, Values};
+use tv_core::{F, Put, Sink, Values};
 
 /// The sum of two words: its lowest 32 bits, and the carry. It makes 33 wires and 34 constraints,
 /// of 197 terms.
@@ -25,7 +25,7 @@ pub fn add<S: Sink>(s: &mut S, x: &Bits, y: &Bits) -> Put<Split>
     ensures high_below { IfOk result (λ parts. parts.high.first < S.meaning.wires s.new) }
 {
     let mut sum = x.lc();
-    sum.plus_scaled(F::ONE, &y.lc());
+    y.plus_to(&mut sum, F::ONE);
     split(s, &sum, 33)
 }
 

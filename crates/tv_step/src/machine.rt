@@ -7,7 +7,6 @@ ghost use Rattle.tv_step.specs.Views.{state_of, CameTo};
 use crate::counter::Counter;
 use crate::end::{End, Outcome};
 use crate::image::memory_with;
-use crate::op::op_of;
 use std::alloc::{AllocError, Global};
 use tv_isa::{Instr, decode};
 use tv_mem::Memory;
