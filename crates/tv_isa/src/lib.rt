@@ -1,7 +1,6 @@
 //! The instructions of the machine: the two words of an instruction and its fields, and one table
-//! of the 29 instructions with opcodes, names and operands. The assembler looks names up in it,
-//! the disassembler and the machine look opcodes up; both rest on `decode` of `encode` being the
-//! instruction.
+//! of the 29 instructions with opcodes, names and operands. The assembler looks names up in it and
+//! the disassembler opcodes; both rest on `decode` of `encode` being the instruction.
 #![tactic(auto)]
 
 mod instr;

@@ -17,4 +17,3 @@ pub use rows::{Row, Terms};
 pub use sections::{Form, Found, Section, find_sections};
 pub use why::{ReadRefusal, ReadWhy};
 pub use window::Window;
-

@@ -1,8 +1,8 @@
-//! Single steps: what each instruction does, on inputs on which no other instruction does the same.
+//! Single steps: what the instruction with each name does, on inputs on which no other does the same.
 use crate::{Machine, Outcome};
 use std::alloc::{AllocError, Global};
 use std::test::Fail;
-use tv_isa::{Instr, encode};
+use tv_isa::{Instr, encode, operations};
 use tv_word::Words;
 
 /// The word in register 2 before the step.
@@ -26,91 +26,112 @@ enum Does {
     Stops(Outcome),
 }
 
-/// An opcode, the flag, the words in register 1 and in the operand, and what comes of them.
-type Row = (u8, bool, u32, u32, Does);
+/// A name in program text, the flag, the words in register 1 and in the operand, and what comes of them.
+type Row = (&'static str, bool, u32, u32, Does);
 
-const ROWS: [Row; 69] = [
-    (0, false, 12, 10, Does::Gives(8, false)),
-    (0, true, 1, 2, Does::Gives(0, true)),
-    (1, true, 12, 10, Does::Gives(14, false)),
-    (1, false, 0, 0, Does::Gives(0, true)),
-    (2, true, 12, 10, Does::Gives(6, false)),
-    (2, false, 7, 7, Does::Gives(0, true)),
-    (3, true, 5, 10, Does::Gives(0xffff_fff5, false)),
-    (3, false, 5, 0xffff_ffff, Does::Gives(0, true)),
-    (4, false, 0xffff_ffff, 1, Does::Gives(0, true)),
-    (4, true, 7, 8, Does::Gives(15, false)),
-    (5, false, 0, 1, Does::Gives(0xffff_ffff, true)),
-    (5, true, 9, 7, Does::Gives(2, false)),
-    (6, false, 65_536, 65_536, Does::Gives(0, true)),
-    (6, true, 7, 6, Does::Gives(42, false)),
-    (7, false, 65_536, 65_536, Does::Gives(1, true)),
+const ROWS: [Row; 66] = [
+    ("and", false, 12, 10, Does::Gives(8, false)),
+    ("and", true, 1, 2, Does::Gives(0, true)),
+    ("or", true, 12, 10, Does::Gives(14, false)),
+    ("or", false, 0, 0, Does::Gives(0, true)),
+    ("xor", true, 12, 10, Does::Gives(6, false)),
+    ("xor", false, 7, 7, Does::Gives(0, true)),
+    ("not", true, 5, 10, Does::Gives(0xffff_fff5, false)),
+    ("not", false, 5, 0xffff_ffff, Does::Gives(0, true)),
+    ("add", false, 0xffff_ffff, 1, Does::Gives(0, true)),
+    ("add", true, 7, 8, Does::Gives(15, false)),
+    ("sub", false, 0, 1, Does::Gives(0xffff_ffff, true)),
+    ("sub", true, 9, 7, Does::Gives(2, false)),
+    ("mull", false, 65_536, 65_536, Does::Gives(0, true)),
+    ("mull", true, 7, 6, Does::Gives(42, false)),
+    ("umulh", false, 65_536, 65_536, Does::Gives(1, true)),
     (
-        7,
+        "umulh",
         true,
         0xffff_ffff,
         0xffff_ffff,
         Does::Gives(0xffff_fffe, true),
     ),
     (
-        8,
+        "smulh",
         false,
         0x8000_0000,
         0x8000_0000,
         Does::Gives(0x4000_0000, true),
     ),
-    (8, true, 0xffff_ffff, 1, Does::Gives(0xffff_ffff, false)),
-    (8, false, 0x8000_0000, 1, Does::Gives(0xffff_ffff, false)),
-    (8, false, 0xffff_ffff, 0xffff_ffff, Does::Gives(0, false)),
-    (9, false, 7, 0, Does::Gives(0, true)),
-    (9, true, 29, 4, Does::Gives(7, false)),
-    (10, false, 7, 0, Does::Gives(0, true)),
-    (10, true, 29, 9, Does::Gives(2, false)),
-    (11, false, 0x8000_0001, 1, Does::Gives(2, true)),
-    (11, false, 0x8000_0001, 32, Does::Gives(0, true)),
-    (11, true, 3, 4, Does::Gives(48, false)),
-    (11, true, 3, 0, Does::Gives(3, false)),
-    (12, false, 0x8000_0001, 0xffff_ffff, Does::Gives(0, true)),
-    (12, true, 50, 2, Does::Gives(12, false)),
-    (12, false, 3, 31, Does::Gives(0, true)),
-    (13, false, 5, 5, Does::Tests(true)),
-    (13, true, 6, 5, Does::Tests(false)),
-    (14, true, 5, 5, Does::Tests(false)),
-    (14, false, 6, 5, Does::Tests(true)),
-    (14, false, 0xffff_ffff, 0, Does::Tests(true)),
-    (15, false, 5, 5, Does::Tests(true)),
-    (15, false, 6, 5, Does::Tests(true)),
-    (15, false, 0xffff_ffff, 0, Does::Tests(true)),
-    (15, true, 5, 6, Does::Tests(false)),
-    (16, true, 5, 5, Does::Tests(false)),
-    (16, false, 6, 5, Does::Tests(true)),
-    (16, true, 0xffff_ffff, 0, Does::Tests(false)),
-    (17, false, 5, 5, Does::Tests(true)),
-    (17, false, 6, 5, Does::Tests(true)),
-    (17, true, 0xffff_ffff, 0, Does::Tests(false)),
-    (18, false, 7, 9, Does::Gives(9, false)),
-    (18, true, 7, 9, Does::Gives(9, true)),
-    (19, false, 7, 9, Does::Tests(false)),
-    (19, true, 7, 9, Does::Gives(9, true)),
-    (20, false, 7, 23, Does::Jumps(16)),
-    (20, true, 7, 23, Does::Jumps(16)),
-    (21, false, 7, 23, Does::Tests(false)),
-    (21, true, 7, 23, Does::Jumps(16)),
-    (22, false, 7, 23, Does::Jumps(16)),
-    (22, true, 7, 23, Does::Tests(true)),
-    (23, false, 7, 9, Does::Stops(Outcome::Undefined { op: 23 })),
-    (24, false, 7, 9, Does::Stops(Outcome::Undefined { op: 24 })),
-    (25, true, 7, 9, Does::Stops(Outcome::Undefined { op: 25 })),
-    (26, false, 7, 65_537, Does::Stores(0x8899_abbb)),
-    (26, true, 7, 65_539, Does::Stores(0xab99_aabb)),
-    (27, false, 7, 65_537, Does::Gives(170, false)),
-    (27, true, 7, 65_539, Does::Gives(136, true)),
-    (28, true, 7, 65_537, Does::Stores(0x1122_33ab)),
-    (29, true, 7, 65_539, Does::Gives(0x8899_aabb, true)),
-    (30, true, 7, 0, Does::Gives(77, false)),
-    (30, true, 7, 1, Does::Gives(88, false)),
-    (30, false, 7, 2, Does::Gives(0, true)),
-    (31, true, 7, 5, Does::Stops(Outcome::Answered { value: 5 })),
+    (
+        "smulh",
+        true,
+        0xffff_ffff,
+        1,
+        Does::Gives(0xffff_ffff, false),
+    ),
+    (
+        "smulh",
+        false,
+        0x8000_0000,
+        1,
+        Does::Gives(0xffff_ffff, false),
+    ),
+    (
+        "smulh",
+        false,
+        0xffff_ffff,
+        0xffff_ffff,
+        Does::Gives(0, false),
+    ),
+    ("udiv", false, 7, 0, Does::Gives(0, true)),
+    ("udiv", true, 29, 4, Does::Gives(7, false)),
+    ("umod", false, 7, 0, Does::Gives(0, true)),
+    ("umod", true, 29, 9, Does::Gives(2, false)),
+    ("shl", false, 0x8000_0001, 1, Does::Gives(2, true)),
+    ("shl", false, 0x8000_0001, 32, Does::Gives(0, true)),
+    ("shl", true, 3, 4, Does::Gives(48, false)),
+    ("shl", true, 3, 0, Does::Gives(3, false)),
+    ("shr", false, 0x8000_0001, 0xffff_ffff, Does::Gives(0, true)),
+    ("shr", true, 50, 2, Does::Gives(12, false)),
+    ("shr", false, 3, 31, Does::Gives(0, true)),
+    ("cmpe", false, 5, 5, Does::Tests(true)),
+    ("cmpe", true, 6, 5, Does::Tests(false)),
+    ("cmpa", true, 5, 5, Does::Tests(false)),
+    ("cmpa", false, 6, 5, Does::Tests(true)),
+    ("cmpa", false, 0xffff_ffff, 0, Does::Tests(true)),
+    ("cmpae", false, 5, 5, Does::Tests(true)),
+    ("cmpae", false, 6, 5, Does::Tests(true)),
+    ("cmpae", false, 0xffff_ffff, 0, Does::Tests(true)),
+    ("cmpae", true, 5, 6, Does::Tests(false)),
+    ("cmpg", true, 5, 5, Does::Tests(false)),
+    ("cmpg", false, 6, 5, Does::Tests(true)),
+    ("cmpg", true, 0xffff_ffff, 0, Does::Tests(false)),
+    ("cmpge", false, 5, 5, Does::Tests(true)),
+    ("cmpge", false, 6, 5, Does::Tests(true)),
+    ("cmpge", true, 0xffff_ffff, 0, Does::Tests(false)),
+    ("mov", false, 7, 9, Does::Gives(9, false)),
+    ("mov", true, 7, 9, Does::Gives(9, true)),
+    ("cmov", false, 7, 9, Does::Tests(false)),
+    ("cmov", true, 7, 9, Does::Gives(9, true)),
+    ("jmp", false, 7, 23, Does::Jumps(16)),
+    ("jmp", true, 7, 23, Does::Jumps(16)),
+    ("cjmp", false, 7, 23, Does::Tests(false)),
+    ("cjmp", true, 7, 23, Does::Jumps(16)),
+    ("cnjmp", false, 7, 23, Does::Jumps(16)),
+    ("cnjmp", true, 7, 23, Does::Tests(true)),
+    ("store.b", false, 7, 65_537, Does::Stores(0x8899_abbb)),
+    ("store.b", true, 7, 65_539, Does::Stores(0xab99_aabb)),
+    ("load.b", false, 7, 65_537, Does::Gives(170, false)),
+    ("load.b", true, 7, 65_539, Does::Gives(136, true)),
+    ("store.w", true, 7, 65_537, Does::Stores(0x1122_33ab)),
+    ("load.w", true, 7, 65_539, Does::Gives(0x8899_aabb, true)),
+    ("read", true, 7, 0, Does::Gives(77, false)),
+    ("read", true, 7, 1, Does::Gives(88, false)),
+    ("read", false, 7, 2, Does::Gives(0, true)),
+    (
+        "answer",
+        true,
+        7,
+        5,
+        Does::Stops(Outcome::Answered { value: 5 }),
+    ),
 ];
 
 /// What can be seen of a step and of the machine behind it.
@@ -180,10 +201,10 @@ fn step_by(alloc: Global, op: u8, row: &Row) -> Result<Seen, AllocError> {
     })
 }
 
-/// Whether the instruction with the opcode `by` does all that the rows of `op` say.
-fn does_as(alloc: Global, by: u8, op: u8) -> Result<bool, AllocError> {
+/// Whether the instruction with the opcode `by` does all that the rows of a name say.
+fn does_as(alloc: Global, by: u8, name: &str) -> Result<bool, AllocError> {
     for row in &ROWS {
-        if row.0 == op && step_by(alloc, by, row)? != row.4.seen(row.1) {
+        if row.0 == name && step_by(alloc, by, row)? != row.4.seen(row.1) {
             return Ok(false);
         }
     }
@@ -192,11 +213,25 @@ fn does_as(alloc: Global, by: u8, op: u8) -> Result<bool, AllocError> {
 
 #[test]
 fn each_instruction_does_what_no_other_does(rt: HostRuntime) -> Result<(), Fail> {
-    for op in 0..32 {
+    for operation in operations() {
+        let name = operation.name;
         for by in 0..32 {
-            let alike = does_as(rt.alloc(), by, op)?;
-            assert_eq!(rt; alike, by == op, "opcode {by} on the rows of {op}");
+            let alike = does_as(rt.alloc(), by, name)?;
+            assert_eq!(rt;
+                alike,
+                by == operation.op,
+                "opcode {by} on the rows of {name}"
+            );
         }
+    }
+    Ok(())
+}
+
+#[test]
+fn unused_opcodes_stop_the_machine(rt: HostRuntime) -> Result<(), Fail> {
+    for op in [23, 24, 25] {
+        let row: Row = ("", true, 7, 9, Does::Stops(Outcome::Undefined { op }));
+        assert_eq!(rt; step_by(rt.alloc(), op, &row)?, row.4.seen(true), "{op}");
     }
     Ok(())
 }
