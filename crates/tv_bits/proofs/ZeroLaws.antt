@@ -12,10 +12,11 @@ use Rattle.tv_core.specs.declared.field.TheConstants.{P}
 use Rattle.tv_core.specs.Inverse.{inverse_of}
 use Rattle.tv_bits.specs.Zero.{zero_flag, zero_of, ZeroIsSound, ZeroIsComplete}
 
-zero_flag-zero : (x : ℕ) → x ≡ 0 → zero_flag x ≡ 1
+-- the flag by its two cases
+pub zero_flag-zero : (x : ℕ) → x ≡ 0 → zero_flag x ≡ 1
 zero_flag-zero x none = rw none refl
 
-zero_flag-other : (x : ℕ) → x ≢ 0 → zero_flag x ≡ 0
+pub zero_flag-other : (x : ℕ) → x ≢ 0 → zero_flag x ≡ 0
 zero_flag-other x some = grind (arith, nat_tests)
 
 -- the two constraints, as numbers: x, the hint h and the flag f

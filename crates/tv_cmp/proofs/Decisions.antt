@@ -1,6 +1,7 @@
 -- What the constraints of the comparison say, as numbers, and that the values have it.
-use Rattle.std.proofs.Common.{◌≡◌, ◌≢◌, ◌⊎◌, ℕ, ◌+◌, ◌-◌, ◌*◌, ◌%◌, ◌^◌, ◌<◌, ◌≤◌, inl, inr, sym, subst, ◌∙◌, ap, ap₂, arith, mod-lt, zero-mul}
+use Rattle.std.proofs.Common.{◌≡◌, ◌≢◌, ℕ, ◌+◌, ◌-◌, ◌*◌, ◌%◌, ◌^◌, ◌<◌, ◌≤◌, inl, inr, sym, subst, ◌∙◌, ap, ap₂, arith, mod-lt, zero-mul}
 use Rattle.std.proofs.lemmas.Bool.{cases_eq, cases_lt}
+use Rattle.tv_bits.proofs.BitLaws.{bit_cases}
 use Rattle.tv_bits.proofs.OrderLaws.{IsPrefixDifference-above, IsPrefixDifference-first, IsPrefixDifference-turned, IsPrefixDifference-back, IsPrefixDifference-same, IsPrefixDifference-none, first_difference-some, first_difference-below, first_difference-none}
 use Rattle.tv_bits.specs.Order.{IsPrefixDifference, first_difference}
 use Rattle.tv_cmp.proofs.Flags.{equal_flag-same, equal_flag-apart, above_flag-above, above_flag-not}
@@ -21,9 +22,6 @@ pub record Holds (x y e a d t : ℕ) : Type 0 where
   pub signed : sign_in e a * d % P ≡ t
   pub prefix : IsPrefixDifference 8 4 x y t
 
-cases_bit : (a : ℕ) → a < 2 → (a ≡ 0) ⊎ (a ≡ 1)
-cases_bit a h = elim (cases_eq a 0) [ inl none ↦ inl none | inr some ↦ inr (omega arith) ]
-
 module _ (x y e a d t : ℕ) (h : x < 2 ^ 32) (k : y < 2 ^ 32) (small : e < P) (some : 0 < d) (most : d ≤ 2 ^ 8) (holds : Holds x y e a d t) where
   -- where the words are the same, the sign is 0
   sign_none : x ≡ y → sign_in e a ≡ 0
@@ -34,7 +32,7 @@ module _ (x y e a d t : ℕ) (h : x < 2 ^ 32) (k : y < 2 ^ 32) (small : e < P) (
   same_flags : x ≡ y → (e ≡ 1) × (a ≡ 0)
   same_flags same =
       let none = sign_none same in
-      elim (cases_bit a holds.bit) [
+      elim (bit_cases a holds.bit) [
         | inl zero ↦ (omega (arith, none), zero)
         | inr one ↦
             let equal : e ≡ 0 = omega (arith, ap (λ n. n * e % P) (sym one) ∙ holds.one) in
@@ -70,7 +68,7 @@ module _ (x y e a d t : ℕ) (h : x < 2 ^ 32) (k : y < 2 ^ 32) (small : e < P) (
         (flags.0 ∙ sym (equal_flag-same x y same), flags.1 ∙ sym (above_flag-not x y (omega arith)))
     | inr other ↦ (
       equal_none other ∙ sym (equal_flag-apart x y other),
-      elim (cases_bit a holds.bit) [
+      elim (bit_cases a holds.bit) [
         | inl zero ↦ zero ∙ sym (above_flag-not x y (let below = above_zero other zero in omega arith))
         | inr one ↦ one ∙ sym (above_flag-above x y (above_one other one))
       ],

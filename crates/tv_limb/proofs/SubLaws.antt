@@ -1,8 +1,9 @@
 -- The laws of a difference.
-use Rattle.std.proofs.Common.{◌≡◌, ◌⊎◌, ℕ, ◌+◌, ◌-◌, ◌*◌, ◌/◌, ◌%◌, ◌^◌, ◌<◌, ◌≤◌, List, [], ◌∷◌, inl, inr, ap, ap₂, sym, ◌∙◌, arith, add-zero}
+use Rattle.std.proofs.Common.{◌≡◌, ℕ, ◌+◌, ◌-◌, ◌*◌, ◌/◌, ◌%◌, ◌^◌, ◌<◌, ◌≤◌, List, [], ◌∷◌, inl, inr, ap, ap₂, sym, ◌∙◌, arith, add-zero}
 use Rattle.std.specs.Prelude.{slice_index}
 use Rattle.std.proofs.lemmas.Bool.{cases_lt}
 use Rattle.std.proofs.lemmas.Bool.Decides.{nat_tests}
+use Rattle.tv_bits.proofs.BitLaws.{bit_cases}
 use Rattle.tv_bits.proofs.SpelledNumbers.{Spells-below, Spells-low, Spells-high, Spells-from_values, value-bits_below}
 use Rattle.tv_bits.proofs.SpellingLaws.{new_bits_sound, new_bits_complete, new_bits_answer, new_bits_next}
 use Rattle.tv_bits.specs.Bits.{Spells, spelled, bits_combination, new_bits_of}
@@ -29,9 +30,6 @@ unfolding sub_of put pure ◌>>=◌
 sub_next w x y next = new_bits_next (w + 1) next
 
 -- the constraint, as numbers: the low part, the borrow's wire, and the two words
-borrow_cases : (b : ℕ) → b < 2 → (b ≡ 0) ⊎ (b ≡ 1)
-borrow_cases b h = elim (cases_lt b 1) [ inl none ↦ inl (omega arith) | inr one ↦ inr (omega arith) ]
-
 borrow-below : (x y : ℕ) → x < y → borrow x y ≡ 1
 borrow-below x y h = grind (arith, nat_tests)
 
@@ -43,7 +41,7 @@ borrow-bit x y = elim (cases_lt x y) [ inl below ↦ omega (arith, borrow-below 
 
 sound_by : (x y low b : ℕ) → x < 2 ^ 32 → y < 2 ^ 32 → low < 2 ^ 32 → b < 2 → (low + (P - 2 ^ 32 % P) % P * b % P) % P ≡ (x + (P - y)) % P
     → (low ≡ difference 32 x y) × (b ≡ borrow x y)
-sound_by x y low b hx hy hl hb e = elim (borrow_cases b hb) [
+sound_by x y low b hx hy hl hb e = elim (bit_cases b hb) [
   | inl none ↦
       let same : low % P ≡ (x + (P - y)) % P = omega arith in
       let above : y ≤ x = omega arith in

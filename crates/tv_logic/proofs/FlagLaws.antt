@@ -1,9 +1,8 @@
 -- The laws of the zero flags.
-use Rattle.std.proofs.Common.{◌≡◌, ◌≢◌, ℕ, ◌+◌, ◌*◌, ◌%◌, List, [], ◌∷◌, ◌++◌, inl, inr, refl, sym, subst, ◌∙◌, ap, ap₂, arith}
+use Rattle.std.proofs.Common.{◌≡◌, ℕ, ◌+◌, ◌*◌, ◌%◌, List, [], ◌∷◌, ◌++◌, inl, inr, refl, sym, subst, ◌∙◌, ap, ap₂, arith}
 use Rattle.std.specs.Prelude.{slice_index}
 use Rattle.std.proofs.lemmas.Bool.{cases_eq}
-use Rattle.std.proofs.lemmas.Bool.Decides.{nat_tests}
-use Rattle.tv_bits.proofs.ZeroLaws.{zero_sound, zero_complete, zero_answer, zero_next}
+use Rattle.tv_bits.proofs.ZeroLaws.{zero_flag-zero, zero_flag-other, zero_sound, zero_complete, zero_answer, zero_next}
 use Rattle.tv_bits.specs.Zero.{zero_flag, zero_of, zero_values}
 use Rattle.tv_core.proofs.CombinationLaws.{value-wire}
 use Rattle.tv_core.proofs.Meeting.{Meets-split, Meets-join, HasFrom-split}
@@ -16,19 +15,13 @@ use Rattle.tv_logic.specs.declared.answers.Flags.{Flags}
 use Rattle.tv_logic.specs.declared.answers.Words.{Words}
 
 -- a sum is 0 exactly where both numbers are
-flag-zero : (x : ℕ) → x ≡ 0 → zero_flag x ≡ 1
-flag-zero x none = rw none refl
-
-flag-other : (x : ℕ) → x ≢ 0 → zero_flag x ≡ 0
-flag-other x some = grind (arith, nat_tests)
-
 pub flag-sum : (m n sum : ℕ) → sum ≡ m + n → zero_flag m * zero_flag n % P ≡ zero_flag sum
 flag-sum m n sum is = elim (cases_eq m 0) [
   | inl none ↦ elim (cases_eq n 0) [
-    | inl neither ↦ ap₂ (λ a b. a * b % P) (flag-zero m none) (flag-zero n neither) ∙ sym (flag-zero sum (omega arith))
-    | inr some ↦ ap₂ (λ a b. a * b % P) (flag-zero m none) (flag-other n some) ∙ sym (flag-other sum (λ e. some (omega arith)))
+    | inl neither ↦ ap₂ (λ a b. a * b % P) (zero_flag-zero m none) (zero_flag-zero n neither) ∙ sym (zero_flag-zero sum (omega arith))
+    | inr some ↦ ap₂ (λ a b. a * b % P) (zero_flag-zero m none) (zero_flag-other n some) ∙ sym (zero_flag-other sum (λ e. some (omega arith)))
   ]
-  | inr some ↦ ap (λ a. a * zero_flag n % P) (flag-other m some) ∙ omega arith ∙ sym (flag-other sum (λ e. some (omega arith)))
+  | inr some ↦ ap (λ a. a * zero_flag n % P) (zero_flag-other m some) ∙ omega arith ∙ sym (zero_flag-other sum (λ e. some (omega arith)))
 ]
 
 -- ---- the product of two wires

@@ -6,6 +6,7 @@ use Rattle.std.proofs.lemmas.Bool.Decides.{nat_tests}
 use Rattle.std.proofs.lemmas.Nat.{mul-le, div-mul-add, mod-mul-add}
 use Rattle.tv_core.specs.declared.field.TheConstants.{P}
 use Rattle.tv_bits.proofs.OrderLaws.{IsPrefixDifference-above, first_difference-some, first_difference-below, IsPrefixDifference-first, first_difference-none, IsPrefixDifference-none}
+use Rattle.tv_bits.proofs.ZeroLaws.{zero_flag-zero, zero_flag-other}
 use Rattle.tv_bits.specs.Bit.{IsBit}
 use Rattle.tv_bits.specs.Order.{IsPrefixDifference}
 use Rattle.tv_bits.specs.Zero.{zero_flag}
@@ -21,12 +22,6 @@ pub record Divides (a b q r by_zero gate above : ℕ) : Type 0 where
   pub below : IsPrefixDifference 8 4 b r (((above + 1) % P + (P - by_zero)) % P)
 
 -- ---- the two cases of the definitions
-flag-zero : (b : ℕ) → b ≡ 0 → zero_flag b ≡ 1
-flag-zero b none = rw none refl
-
-flag-other : (b : ℕ) → b ≢ 0 → zero_flag b ≡ 0
-flag-other b some = grind (arith, nat_tests)
-
 quotient-zero : (a b : ℕ) → b ≡ 0 → quotient_in a b ≡ 0
 quotient-zero a b none = rw none refl
 
@@ -77,8 +72,8 @@ module _ (a b : ℕ) where
   -- the difference that the constraints hold
   pub above-difference : b < 2 ^ 32 → ((above_in 32 a b - 1 + 1) % P + (P - zero_flag b)) % P ≡ above_in 32 a b
   above-difference h = elim (cases_eq b 0) [
-    | inl none ↦ omega (arith, above-zero none, flag-zero b none)
-    | inr some ↦ omega (arith, above-some h some, above-below h, flag-other b some)
+    | inl none ↦ omega (arith, above-zero none, zero_flag-zero b none)
+    | inr some ↦ omega (arith, above-some h some, above-below h, zero_flag-other b some)
   ]
 
   above-is : b < 2 ^ 32 → IsPrefixDifference 8 4 b (remainder_in a b) (above_in 32 a b)
@@ -115,14 +110,14 @@ module _ (a b q r by_zero gate above : ℕ) (h : a < 2 ^ 32) (k : b < 2 ^ 32) (l
       record {
         quot = sym (quotient-other a b some ∙ ap (λ n. n / b) (sym whole) ∙ div-mul-add q b r less);
         rem = sym (remainder-other a b some ∙ ap (λ n. n % b) (sym whole) ∙ mod-mul-add q b r less);
-        zero = none ∙ sym (flag-other b some);
+        zero = none ∙ sym (zero_flag-other b some);
       }
 
   divided_by_zero : by_zero ≡ 1 → IsDivided a b q r by_zero
   divided_by_zero one =
       let zero : b ≡ 0 = let e = gate_is by_zero b 0 one d.zero in omega arith in
       let nothing = nothing_of a q r (q * b) gate h l m (ap (λ n. q * n) zero ∙ mul-zero q) (gate_is by_zero ((a + q) % P) gate one d.gated) d.whole in
-      record { quot = nothing.0 ∙ sym (quotient-zero a b zero); rem = nothing.1 ∙ sym (remainder-zero a b zero); zero = one ∙ sym (flag-zero b zero) }
+      record { quot = nothing.0 ∙ sym (quotient-zero a b zero); rem = nothing.1 ∙ sym (remainder-zero a b zero); zero = one ∙ sym (zero_flag-zero b zero) }
 
   pub Divides-sound : IsDivided a b q r by_zero
   Divides-sound = elim (cases_eq by_zero 0) [
@@ -133,18 +128,18 @@ module _ (a b q r by_zero gate above : ℕ) (h : a < 2 ^ 32) (k : b < 2 ^ 32) (l
 -- ---- and the other way round
 module _ (a b : ℕ) (h : a < 2 ^ 32) (k : b < 2 ^ 32) where
   flag_bit : IsBit (zero_flag b)
-  flag_bit = elim (cases_eq b 0) [ inl none ↦ omega (arith, flag-zero b none) | inr some ↦ omega (arith, flag-other b some) ]
+  flag_bit = elim (cases_eq b 0) [ inl none ↦ omega (arith, zero_flag-zero b none) | inr some ↦ omega (arith, zero_flag-other b some) ]
 
   no_divisor : zero_flag b * b % P ≡ 0
   no_divisor = elim (cases_eq b 0) [
     | inl none ↦ ap (λ n. zero_flag b * n % P) none ∙ ap (λ n. n % P) (mul-zero (zero_flag b))
-    | inr some ↦ ap (λ n. n * b % P) (flag-other b some) ∙ ap (λ n. n % P) (zero-mul b)
+    | inr some ↦ ap (λ n. n * b % P) (zero_flag-other b some) ∙ ap (λ n. n % P) (zero-mul b)
   ]
 
   gated : zero_flag b * ((a + quotient_in a b) % P) % P ≡ gate_in a b
   gated = elim (cases_eq b 0) [
-    | inl none ↦ ap (λ n. n * ((a + quotient_in a b) % P) % P) (flag-zero b none) ∙ omega (arith, quotient-zero a b none, gate-zero a b none)
-    | inr some ↦ ap (λ n. n * ((a + quotient_in a b) % P) % P) (flag-other b some) ∙ ap (λ n. n % P) (zero-mul ((a + quotient_in a b) % P)) ∙ sym (gate-other a b some)
+    | inl none ↦ ap (λ n. n * ((a + quotient_in a b) % P) % P) (zero_flag-zero b none) ∙ omega (arith, quotient-zero a b none, gate-zero a b none)
+    | inr some ↦ ap (λ n. n * ((a + quotient_in a b) % P) % P) (zero_flag-other b some) ∙ ap (λ n. n % P) (zero-mul ((a + quotient_in a b) % P)) ∙ sym (gate-other a b some)
   ]
 
   whole_some : b ≢ 0 → quotient_in a b * b + remainder_in a b ≡ a

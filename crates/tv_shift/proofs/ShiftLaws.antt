@@ -1,16 +1,15 @@
 -- The laws of the shift, from those of its parts.
-use Rattle.std.proofs.Common.{◌≡◌, ◌≢◌, ℕ, ◌+◌, ◌-◌, ◌*◌, ◌/◌, ◌%◌, ◌^◌, ◌<◌, List, [], ◌∷◌, ◌++◌, length, min, inl, inr, refl, sym, subst, ◌∙◌, ap, ap₂, arith, mod-lt, mod-eq_of_lt}
+use Rattle.std.proofs.Common.{◌≡◌, ℕ, ◌+◌, ◌-◌, ◌*◌, ◌/◌, ◌%◌, ◌^◌, ◌<◌, List, [], ◌∷◌, ◌++◌, length, min, inl, inr, refl, sym, subst, ◌∙◌, ap, ap₂, arith, mod-lt, mod-eq_of_lt}
 use Rattle.std.proofs.Math.ListN.{length-append}
 use Rattle.std.proofs.Math.Nat.{div-le_self}
 use Rattle.std.proofs.lemmas.Bool.{cases_eq}
-use Rattle.std.proofs.lemmas.Bool.Decides.{nat_tests}
 use Rattle.std.proofs.lemmas.Nat.{pow_pos}
 use Rattle.std.proofs.lemmas.Nat.Bits.{bit_at-lt}
 use Rattle.std.specs.Int.{bit_at}
 use Rattle.std.specs.Prelude.{slice_index}
 use Rattle.tv_bits.proofs.SelectLaws.{select_sound, select_complete}
 use Rattle.tv_bits.proofs.SpelledNumbers.{Spells-below, Spells-bit_at, Spells-low, Spells-high, value-bits_below}
-use Rattle.tv_bits.proofs.ZeroLaws.{zero_sound, zero_complete, zero_next}
+use Rattle.tv_bits.proofs.ZeroLaws.{zero_flag-zero, zero_flag-other, zero_sound, zero_complete, zero_next}
 use Rattle.tv_bits.specs.Bit.{IsBit}
 use Rattle.tv_bits.specs.Bits.{Spells, bits_combination, bits_values}
 use Rattle.tv_bits.specs.Select.{selected, select_of}
@@ -251,11 +250,11 @@ module _ (z : List ℕ) (assigns : Assigns z) (x y v d : ℕ) (word : Spells z x
   rest_next p half at = refl
 
   -- ---- 0 from a word's width on
-  flag-near : (n : ℕ) → n ≡ 0 → zero_flag n ≡ 1
-  flag-near n none = rw none refl
+  one_times : (n : ℕ) → n < P → 1 * n % P ≡ n
+  one_times n h = omega arith
 
-  flag-far : (n : ℕ) → n ≢ 0 → zero_flag n ≡ 0
-  flag-far n some = grind (arith, nat_tests)
+  zero_times : (n : ℕ) → 0 * n % P ≡ 0
+  zero_times n = omega arith
 
   far_value : value (bits_combination (y + 5) 27) z ≡ d / 2 ^ 5
   far_value = value-bits_below (Spells-high z y 5 27 d distance) (omega arith)
@@ -264,42 +263,30 @@ module _ (z : List ℕ) (assigns : Assigns z) (x y v d : ℕ) (word : Spells z x
   left_gated = elim (cases_eq (d / 2 ^ 5) 0) [
     | inl near ↦
         let small = mod-lt (half_left 16 (bit_at d 4) v * 2 ^ (d % 2 ^ 4)) (pow_pos 32) in
-        ap (λ f. f * shifted_left 32 (half_left 16 (bit_at d 4) v) (d % 2 ^ 4) % P) (flag-near (d / 2 ^ 5) near)
+        ap (λ f. f * shifted_left 32 (half_left 16 (bit_at d 4) v) (d % 2 ^ 4) % P) (zero_flag-zero (d / 2 ^ 5) near)
         ∙ one_times (shifted_left 32 (half_left 16 (bit_at d 4) v) (d % 2 ^ 4)) (omega arith)
         ∙ left_whole (bit_at d 4) v b-bit (Spells-below word) (d % 2 ^ 4) s-small
         ∙ ap (λ n. v * 2 ^ n % 2 ^ 32) (distance_near d (Spells-below distance) near)
     | inr far ↦
-        ap (λ f. f * shifted_left 32 (half_left 16 (bit_at d 4) v) (d % 2 ^ 4) % P) (flag-far (d / 2 ^ 5) far)
+        ap (λ f. f * shifted_left 32 (half_left 16 (bit_at d 4) v) (d % 2 ^ 4) % P) (zero_flag-other (d / 2 ^ 5) far)
         ∙ zero_times (shifted_left 32 (half_left 16 (bit_at d 4) v) (d % 2 ^ 4))
         ∙ sym (far_left 32 v d (omega arith))
   ]
-    where
-      one_times : (n : ℕ) → n < P → 1 * n % P ≡ n
-      one_times n h = omega arith
-
-      zero_times : (n : ℕ) → 0 * n % P ≡ 0
-      zero_times n = omega arith
 
   right_gated : zero_flag (d / 2 ^ 5) * shifted_right (half_right 16 (bit_at d 4) v) (d % 2 ^ 4) % P ≡ shifted_right v d
   right_gated = elim (cases_eq (d / 2 ^ 5) 0) [
     | inl near ↦
         let small = div-le_self (half_right 16 (bit_at d 4) v) (2 ^ (d % 2 ^ 4)) in
         let less = half_right-below (bit_at d 4) v b-bit (Spells-below word) in
-        ap (λ f. f * shifted_right (half_right 16 (bit_at d 4) v) (d % 2 ^ 4) % P) (flag-near (d / 2 ^ 5) near)
+        ap (λ f. f * shifted_right (half_right 16 (bit_at d 4) v) (d % 2 ^ 4) % P) (zero_flag-zero (d / 2 ^ 5) near)
         ∙ one_times (shifted_right (half_right 16 (bit_at d 4) v) (d % 2 ^ 4)) (omega arith)
         ∙ right_whole (bit_at d 4) v b-bit (Spells-below word) (d % 2 ^ 4)
         ∙ ap (λ n. v / 2 ^ n) (distance_near d (Spells-below distance) near)
     | inr far ↦
-        ap (λ f. f * shifted_right (half_right 16 (bit_at d 4) v) (d % 2 ^ 4) % P) (flag-far (d / 2 ^ 5) far)
+        ap (λ f. f * shifted_right (half_right 16 (bit_at d 4) v) (d % 2 ^ 4) % P) (zero_flag-other (d / 2 ^ 5) far)
         ∙ zero_times (shifted_right (half_right 16 (bit_at d 4) v) (d % 2 ^ 4))
         ∙ sym (far_right 32 v d (Spells-below word) (omega arith))
   ]
-    where
-      one_times : (n : ℕ) → n < P → 1 * n % P ≡ n
-      one_times n h = omega arith
-
-      zero_times : (n : ℕ) → 0 * n % P ≡ 0
-      zero_times n = omega arith
 
   module _ (none : ℕ) (near : Shift) (none_is : slice_index z none ≡ zero_flag (d / 2 ^ 5))
       (left_is : slice_index z near.left ≡ shifted_left 32 (half_left 16 (bit_at d 4) v) (d % 2 ^ 4)) (right_is : slice_index z near.right ≡ shifted_right (half_right 16 (bit_at d 4) v) (d % 2 ^ 4)) where
