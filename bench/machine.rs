@@ -7,6 +7,10 @@ const STEPS: u64 = 1_000_000_000;
 
 type Page = [u8; 4096];
 
+fn word_on(page: &Page, place: usize) -> u32 {
+    u32::from_le_bytes(page[place..place + 4].try_into().unwrap())
+}
+
 /// A memory of 2^32 bytes, all 0 at first, that keeps the pages that were written.
 trait Memory: Default {
     fn page(&self, number: u32) -> Option<&Page>;
@@ -17,8 +21,13 @@ trait Memory: Default {
     }
 
     fn load_word(&self, at: u32) -> u32 {
-        let place = at as usize % 4096 & !3;
-        self.page(at / 4096).map_or(0, |page| u32::from_le_bytes(page[place..place + 4].try_into().unwrap()))
+        self.page(at / 4096).map_or(0, |page| word_on(page, at as usize % 4096 & !3))
+    }
+
+    /// The two words from an address on that is a multiple of 8.
+    fn load_pair(&self, at: u32) -> (u32, u32) {
+        let place = at as usize % 4096;
+        self.page(at / 4096).map_or((0, 0), |page| (word_on(page, place), word_on(page, place + 4)))
     }
 
     fn store_byte(&mut self, at: u32, byte: u8) {
@@ -110,7 +119,7 @@ impl<M: Memory> Machine<M> {
 
     /// One step; what comes of it where the machine doesn't go on.
     fn step(&mut self, step: u64) -> Option<End> {
-        let (h, a) = (self.memory.load_word(self.pc), self.memory.load_word(self.pc + 4));
+        let (h, a) = self.memory.load_pair(self.pc);
         let (i, j) = ((h >> 22) as usize % 16, (h >> 18) as usize % 16);
         let (d, s) = (self.regs[i], self.regs[j]);
         let a = if h >> 26 & 1 == 1 { a } else { self.regs[a as usize % 16] };
