@@ -2,7 +2,7 @@
 ghost use Rattle.std.specs.Prelude.{◌≡◌, ◌≤◌, false, IfOk};
 ghost use Rattle.tv_core.specs.Sinks.{Room};
 
-use crate::inputs::all_hold;
+use crate::inputs::{all_hold, holds, with_wire};
 use std::alloc::Global;
 use std::test::Fail;
 use tv_bits::{
@@ -74,53 +74,63 @@ fn assignment(alloc: Global, gadget: Gadget, inputs: [u64; 5]) -> Put<ListValues
     Ok(values)
 }
 
+// A gadget, what the wires 1 to 5 hold, its first output, and how many constraints it puts.
+const TRIALS: [(Gadget, [u64; 5], u64, u32); 20] = [
+    (Gadget::Bit, [0, 0, 0, 0, 0], 0, 1),
+    (Gadget::Bit, [1, 0, 0, 0, 0], 1, 1),
+    (Gadget::Bits { n: 1 }, [0, 0, 0, 0, 0], 0, 2),
+    (Gadget::Bits { n: 1 }, [1, 0, 0, 0, 0], 1, 2),
+    (Gadget::Bits { n: 32 }, [WORD, 0, 0, 0, 0], 1, 33),
+    (Gadget::Bits { n: 33 }, [WORD + 1, 0, 0, 0, 0], 0, 34),
+    (Gadget::Bits { n: 63 }, [LONG, 0, 0, 0, 0], 1, 64),
+    (Gadget::Zero, [0, 0, 0, 0, 0], 1, 2),
+    (Gadget::Zero, [1, 0, 0, 0, 0], 0, 2),
+    (Gadget::Zero, [WORD, 0, 0, 0, 0], 0, 2),
+    (Gadget::Zero, [LONG, 0, 0, 0, 0], 0, 2),
+    (Gadget::Zero, [LAST, 0, 0, 0, 0], 0, 2),
+    (Gadget::Select, [0, WORD, LAST, 0, 0], LAST, 1),
+    (Gadget::Select, [1, WORD, LAST, 0, 0], WORD, 1),
+    (Gadget::Select, [1, LONG, 0, 0, 0], LONG, 1),
+    (Gadget::OneHot { x: 0, n: 0 }, [0, 0, 0, 0, 0], 1, 2),
+    (Gadget::OneHot { x: 1, n: 1 }, [1, 0, 0, 0, 0], 0, 3),
+    (Gadget::OneHot { x: 0, n: 5 }, [0, 0, 0, 0, 0], 1, 33),
+    (Gadget::OneHot { x: 17, n: 5 }, [1, 0, 0, 0, 1], 0, 33),
+    (Gadget::OneHot { x: 31, n: 5 }, [1, 1, 1, 1, 1], 0, 33),
+];
+
+// The gadget's output, and how many of its constraints hold.
+fn tested(z: &[F], gadget: Gadget) -> Put<(Wire, u32)> {
+    let mut tests = TestSink::over(z, 6);
+    let output = put(&mut tests, gadget)?;
+    Ok((output, tests.held()))
+}
+
+// Whether each constraint holds that the gadget puts into a list, and they are so many.
+fn list_holds(alloc: Global, z: &[F], gadget: Gadget, constraints: u32) -> Put<bool> {
+    let mut list = ListSink::new(alloc, 6);
+    put(&mut list, gadget)?;
+    Ok(list.len() == constraints && all_hold(&list, z))
+}
+
 #[test]
 fn gadgets_hold_over_their_own_values_alone(rt: HostRuntime) -> Result<(), Fail> {
-    // a gadget, what the wires 1 to 5 hold, its first output, and how many constraints it puts
-    let trials = [
-        (Gadget::Bit, [0, 0, 0, 0, 0], 0, 1),
-        (Gadget::Bit, [1, 0, 0, 0, 0], 1, 1),
-        (Gadget::Bits { n: 1 }, [0, 0, 0, 0, 0], 0, 2),
-        (Gadget::Bits { n: 1 }, [1, 0, 0, 0, 0], 1, 2),
-        (Gadget::Bits { n: 32 }, [WORD, 0, 0, 0, 0], 1, 33),
-        (Gadget::Bits { n: 33 }, [WORD + 1, 0, 0, 0, 0], 0, 34),
-        (Gadget::Bits { n: 63 }, [LONG, 0, 0, 0, 0], 1, 64),
-        (Gadget::Zero, [0, 0, 0, 0, 0], 1, 2),
-        (Gadget::Zero, [1, 0, 0, 0, 0], 0, 2),
-        (Gadget::Zero, [WORD, 0, 0, 0, 0], 0, 2),
-        (Gadget::Zero, [LONG, 0, 0, 0, 0], 0, 2),
-        (Gadget::Zero, [LAST, 0, 0, 0, 0], 0, 2),
-        (Gadget::Select, [0, WORD, LAST, 0, 0], LAST, 1),
-        (Gadget::Select, [1, WORD, LAST, 0, 0], WORD, 1),
-        (Gadget::Select, [1, LONG, 0, 0, 0], LONG, 1),
-        (Gadget::OneHot { x: 0, n: 0 }, [0, 0, 0, 0, 0], 1, 2),
-        (Gadget::OneHot { x: 1, n: 1 }, [1, 0, 0, 0, 0], 0, 3),
-        (Gadget::OneHot { x: 0, n: 5 }, [0, 0, 0, 0, 0], 1, 33),
-        (Gadget::OneHot { x: 17, n: 5 }, [1, 0, 0, 0, 1], 0, 33),
-        (Gadget::OneHot { x: 31, n: 5 }, [1, 1, 1, 1, 1], 0, 33),
-    ];
-    for (gadget, inputs, output, constraints) in trials {
+    for (gadget, inputs, output, constraints) in TRIALS {
         let values = assignment(rt.alloc(), gadget, inputs)?;
         let z = values.as_slice();
-        let mut tests = TestSink::over(z, 6);
-        let wire = put(&mut tests, gadget)?;
-        assert_eq!(rt; tests.tested(), constraints, "{gadget:?} {inputs:?}");
-        assert_eq!(rt; tests.held(), constraints, "{gadget:?} {inputs:?}");
+        let (wire, held) = tested(z, gadget)?;
+        assert_eq!(rt; held, constraints, "{gadget:?} {inputs:?}");
+        assert!(rt; holds(z, wire, output), "{gadget:?} {inputs:?}");
+        assert!(rt;
+            list_holds(rt.alloc(), z, gadget, constraints)?,
+            "{gadget:?} {inputs:?}"
+        );
 
-        let mut list = ListSink::new(rt.alloc(), 6);
-        assert!(rt; put(&mut list, gadget)? == wire, "{gadget:?} {inputs:?}");
-        assert_eq!(rt; list.len(), constraints, "{gadget:?} {inputs:?}");
-        assert!(rt; all_hold(&list, z), "{gadget:?} {inputs:?}");
-
-        let mut altered = z.to_vec(rt.alloc())?;
-        let place = wire.0 as usize;
-        assert!(rt; place < altered.len(), "{gadget:?} {inputs:?}");
-        assert!(rt; altered[place] == F::of(output), "{gadget:?} {inputs:?}");
         // by 2, since a bit that is altered by 1 may be a bit
-        altered[place] = altered[place] + F::of(2);
-        let mut refuses = TestSink::over(&altered, 6);
-        put(&mut refuses, gadget)?;
-        assert!(rt; refuses.held() < constraints, "{gadget:?} {inputs:?}");
+        let altered = with_wire(rt.alloc(), z, wire, |number| number + F::of(2))?;
+        assert!(rt;
+            tested(&altered, gadget)?.1 < constraints,
+            "{gadget:?} {inputs:?}"
+        );
     }
     Ok(())
 }
