@@ -9,6 +9,7 @@ use Rattle.tv_asm.specs.Line.{Said, said}
 abbrev pub says_instruction : Option Said → Bool
 says_instruction s = option_map_or (λ t. nat_lt 0 (length t.instruction)) s true
 
+-- a line counts as an instruction
 abbrev pub has_instruction : List ℕ → Bool
 has_instruction line = says_instruction (said line)
 
@@ -16,6 +17,7 @@ has_instruction line = says_instruction (said line)
 abbrev pub says_label : List ℕ → Option Said → Bool
 says_label name s = option_map_or (λ label. bytes_eq label name) (option_and_then (λ t. t.label) s) false
 
+-- a line defines this label
 abbrev pub defines : List ℕ → List ℕ → Bool
 defines name line = says_label name (said line)
 

@@ -14,6 +14,7 @@ trimmed_front text = drop (prefix_len is_blank text) text
 abbrev pub trimmed_end : List ℕ → List ℕ
 trimmed_end text = take (length text - suffix_len is_blank text) text
 
+-- without blanks at both ends
 unfoldable pub trimmed : List ℕ → List ℕ
 trimmed text = trimmed_end (trimmed_front text)
 
@@ -28,5 +29,6 @@ lines_of [] = []
 lines_of (piece ∷ []) = last_line piece
 lines_of (piece ∷ next ∷ more) = strip_carriage_return piece ∷ lines_of (next ∷ more)
 
+-- the lines of a text
 unfoldable pub lines : List ℕ → List (List ℕ)
 lines text = lines_of (slice_split (λ c. c == 10) text)

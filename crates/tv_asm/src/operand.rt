@@ -5,7 +5,7 @@ ghost use Rattle.tv_asm.specs.Views.{address_in};
 
 use crate::fault::AsmWhy;
 use crate::labels::Labels;
-use tv_word::{decimal_of, numeral_of};
+use tv_word::numeral_of;
 
 /// The operand A: a number as it stands, or a register's number.
 #[derive(Drop)]

@@ -30,10 +30,12 @@ first_difference [] (_ ∷ _) = Some 0
 first_difference (_ ∷ _) [] = Some 0
 first_difference (x ∷ xs) (y ∷ ys) = if x == y then option_map suc (first_difference xs ys) else Some 0
 
+-- the verdict by the first constraint that fails, where one does
 abbrev pub constraint_verdict : Option ℕ → Verdict
 constraint_verdict None = Yes
 constraint_verdict (Some at) = NoConstraint at
 
+-- the verdict by the first public wire that differs, where one does; else by the others
 abbrev pub public_verdict : Option ℕ → Verdict → Verdict
 public_verdict None others = others
 public_verdict (Some at) _ = NoPublic at

@@ -64,6 +64,7 @@ row_text w h a None = raw_text w h a
 row_text w h a (Some row) =
     if tells_all w h row.shape (decode w h a) then instruction_text row.name row.shape (decode w h a) else raw_text w h a
 
+-- the text of two words, without the line's end
 unfoldable pub two_words_text : ℕ → ℕ → ℕ → List ℕ
 two_words_text w h a = row_text w h a (with_opcode (decode w h a).op)
 

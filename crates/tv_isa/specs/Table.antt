@@ -12,9 +12,11 @@ pub record Row : Type 0 where
   pub name : List ℕ
   pub shape : Shape
 
+-- an entry, as it is written below
 abbrev row : ℕ → List ℕ → Shape → Row
 row op name shape = record { op = op; name = name; shape = shape }
 
+-- the table
 unfoldable pub instructions : List Row
 instructions =
     row 0 (codes "and") DestSourceA

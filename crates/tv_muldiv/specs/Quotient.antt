@@ -62,6 +62,7 @@ remainder_below_of w y made = do
   above ← new_bits_of (w / 4)
   prefix_difference_of (record { first = y.first; n = w }) made.rem (less (bits_combination above.first (w / 4) ++ constant 1) (wire made.by_zero)) (w / 4) 4
 
+-- division: the wires of an answer, that it is the quotient and the remainder, and that this is below the divisor
 unfoldable pub quotient_of : ℕ → Bits → Bits → Circuit Quot
 quotient_of w x y = do
   made ← quotient_wires_of w y

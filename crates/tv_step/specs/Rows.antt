@@ -71,6 +71,7 @@ fits w z = int_le (pos 0 -ℤ pos (2 ^ (w - 1))) z && int_lt z (pos (2 ^ (w - 1)
 abbrev pub has_bit : ℕ → ℕ → Bool
 has_bit n v = v / 2 ^ n % 2 == 1
 
+-- what comes of an instruction
 abbrev pub row : ℕ → Op → State → ℕ → ℕ → ℕ → ℕ → Next
 row w And st i d s a = logic w st i (bit_and s a)
 row w Or st i d s a = logic w st i (bit_or s a)

@@ -7,9 +7,13 @@ use std::marker::Model;
 /// A line: at a time a cell holds `old`, and from then on `new`.
 #[derive(Clone, Copy, PartialEq, Eq, Debug)]
 pub struct Line {
+    /// A word of memory, a word of the primary tape, or none, by its number.
     pub cell: u32,
+    /// When it is, counted from the first line.
     pub time: u32,
+    /// The word that the cell holds before.
     pub old: u32,
+    /// The word that it holds from then on.
     pub new: u32,
 }
 
@@ -30,10 +34,15 @@ impl Line {
 /// A state as the trace tells it, with the number of words that were taken of each tape.
 #[derive(Clone, Copy, PartialEq, Eq, Debug)]
 pub struct TraceState {
+    /// The program counter.
     pub pc: u32,
+    /// The words in the registers.
     pub regs: [u32; 16],
+    /// The flag.
     pub flag: bool,
+    /// How many words of the primary tape are taken.
     pub primary: u32,
+    /// How many words of the auxiliary tape are taken.
     pub aux: u32,
 }
 
@@ -122,6 +131,8 @@ impl States {
 /// The lines of a run's steps, three each, and the states before, between and after them.
 #[derive(Drop)]
 pub struct Trace {
+    /// Three for each step, in time order.
     pub lines: Lines,
+    /// One more than steps.
     pub states: States,
 }
