@@ -7,66 +7,68 @@ fn words(alloc: Global, items: &[u32]) -> Result<Words, AllocError> {
     Ok(Vec::from_slice(alloc, items)?.into())
 }
 
+/// An image, the two tapes, a number of steps, and how the run ends.
+const RUNS: [(&[u32], &[u32], &[u32], u64, End); 7] = [
+    (
+        &[0xfc00_0000, 0],
+        &[],
+        &[],
+        2,
+        End::Answer { value: 0, step: 1 },
+    ),
+    (
+        &[0xb800_0000, 0],
+        &[],
+        &[],
+        5,
+        End::Undefined { op: 23, step: 1 },
+    ),
+    (&[], &[], &[], 64, End::Silent { steps: 64 }),
+    (
+        &[0xa400_0000, 0],
+        &[],
+        &[],
+        65_536,
+        End::Silent { steps: 65_536 },
+    ),
+    // jumps: cjmp 17, jmp 4294967288, answer 0
+    (
+        &[0xac00_0000, 17, 0xa400_0000, 4_294_967_288, 0xfc00_0000, 0],
+        &[],
+        &[],
+        5,
+        End::Answer { value: 0, step: 5 },
+    ),
+    // the third instruction is overwritten: mov r1, 0xfc000000; store.w 16, r1
+    (
+        &[0x9440_0000, 0xfc00_0000, 0xe440_0000, 16, 0, 0],
+        &[],
+        &[],
+        3,
+        End::Answer { value: 0, step: 3 },
+    ),
+    // two reads of tape 1 and their difference
+    (
+        &[
+            0xf440_0000,
+            1,
+            0xf480_0000,
+            1,
+            0x28c4_0000,
+            2,
+            0xf800_0000,
+            3,
+        ],
+        &[],
+        &[9],
+        4,
+        End::Answer { value: 9, step: 4 },
+    ),
+];
+
 #[test]
 fn runs_end_as_they_should(rt: HostRuntime) -> Result<(), Fail> {
-    let rows: [(&[u32], &[u32], &[u32], u64, End); 7] = [
-        (
-            &[0xfc00_0000, 0],
-            &[],
-            &[],
-            2,
-            End::Answer { value: 0, step: 1 },
-        ),
-        (
-            &[0xb800_0000, 0],
-            &[],
-            &[],
-            5,
-            End::Undefined { op: 23, step: 1 },
-        ),
-        (&[], &[], &[], 64, End::Silent { steps: 64 }),
-        (
-            &[0xa400_0000, 0],
-            &[],
-            &[],
-            65_536,
-            End::Silent { steps: 65_536 },
-        ),
-        // jumps: cjmp 17, jmp 4294967288, answer 0
-        (
-            &[0xac00_0000, 17, 0xa400_0000, 4_294_967_288, 0xfc00_0000, 0],
-            &[],
-            &[],
-            5,
-            End::Answer { value: 0, step: 5 },
-        ),
-        // the third instruction is overwritten: mov r1, 0xfc000000; store.w 16, r1
-        (
-            &[0x9440_0000, 0xfc00_0000, 0xe440_0000, 16, 0, 0],
-            &[],
-            &[],
-            3,
-            End::Answer { value: 0, step: 3 },
-        ),
-        // two reads of tape 1 and their difference
-        (
-            &[
-                0xf440_0000,
-                1,
-                0xf480_0000,
-                1,
-                0x28c4_0000,
-                2,
-                0xf800_0000,
-                3,
-            ],
-            &[],
-            &[9],
-            4,
-            End::Answer { value: 9, step: 4 },
-        ),
-    ];
-    for (image, tape, aux, steps, end) in rows {
+    for (image, tape, aux, steps, end) in RUNS {
         let mut machine = Machine::start(
             rt.alloc(),
             image,

@@ -51,114 +51,119 @@ fn runs(rt: &impl Abort, alloc: Global, case: Case<'_>) -> Result<(Status, u64),
     Ok((status, files.calls()))
 }
 
+// Runs, and how they end.
+const ENDS: [Case<'static>; 15] = [
+    (
+        ".raw 0xB8000000, 0",
+        "",
+        "",
+        "5",
+        1,
+        "undefined opcode 23 at step 1\n",
+    ),
+    ("", "", "", "64", 1, "no answer in 64 steps\n"),
+    (TWO_READS, "", "9 9", "4", 0, "answer 0 at step 4\n"),
+    (TWO_READS, "", "9", "4", 1, "answer 9 at step 4\n"),
+    (TWO_READS, "", "", "4", 0, "answer 0 at step 4\n"),
+    (TWO_READS, "", "9 9", "3", 1, "no answer in 3 steps\n"),
+    (TWO_READS, "7 9", "9 9", "0004", 0, "answer 0 at step 4\n"),
+    (WRAPS, "", "", "5", 0, "answer 0 at step 5\n"),
+    (STORES, "", "", "6", 1, "answer 287484740 at step 6\n"),
+    (STORES_AT_THE_TOP, "", "", "5", 0, "answer 0 at step 5\n"),
+    (
+        CROSSES_PAGES,
+        "",
+        "",
+        "6",
+        1,
+        "answer 117440512 at step 6\n",
+    ),
+    (REWRITES, "", "", "3", 0, "answer 0 at step 3\n"),
+    (
+        THREE_READS,
+        "4294967295",
+        "",
+        "4",
+        1,
+        "answer 4294967295 at step 4\n",
+    ),
+    ("jmp 0", "", "", "65536", 1, "no answer in 65536 steps\n"),
+    ("answer 0", "", "", "1", 0, "answer 0 at step 1\n"),
+];
+
 #[test]
 fn says_how_runs_end(rt: HostRuntime) -> Result<(), Fail> {
-    let cases: [Case<'_>; 15] = [
-        (
-            ".raw 0xB8000000, 0",
-            "",
-            "",
-            "5",
-            1,
-            "undefined opcode 23 at step 1\n",
-        ),
-        ("", "", "", "64", 1, "no answer in 64 steps\n"),
-        (TWO_READS, "", "9 9", "4", 0, "answer 0 at step 4\n"),
-        (TWO_READS, "", "9", "4", 1, "answer 9 at step 4\n"),
-        (TWO_READS, "", "", "4", 0, "answer 0 at step 4\n"),
-        (TWO_READS, "", "9 9", "3", 1, "no answer in 3 steps\n"),
-        (TWO_READS, "7 9", "9 9", "0004", 0, "answer 0 at step 4\n"),
-        (WRAPS, "", "", "5", 0, "answer 0 at step 5\n"),
-        (STORES, "", "", "6", 1, "answer 287484740 at step 6\n"),
-        (STORES_AT_THE_TOP, "", "", "5", 0, "answer 0 at step 5\n"),
-        (
-            CROSSES_PAGES,
-            "",
-            "",
-            "6",
-            1,
-            "answer 117440512 at step 6\n",
-        ),
-        (REWRITES, "", "", "3", 0, "answer 0 at step 3\n"),
-        (
-            THREE_READS,
-            "4294967295",
-            "",
-            "4",
-            1,
-            "answer 4294967295 at step 4\n",
-        ),
-        ("jmp 0", "", "", "65536", 1, "no answer in 65536 steps\n"),
-        ("answer 0", "", "", "1", 0, "answer 0 at step 1\n"),
-    ];
-    for case in cases {
+    for case in ENDS {
         runs(&rt, rt.alloc(), case)?;
     }
     Ok(())
 }
 
+const USAGE: &str = "usage: asm, disasm, run, build, witness, check, extract, trial\n";
+
+// What is no run, and how many file calls are made.
+const REFUSED: [(Case<'static>, u64); 10] = [
+    ((TWO_READS, "", "", "x", 2, USAGE), 1),
+    ((TWO_READS, "", "", "", 2, USAGE), 1),
+    ((TWO_READS, "", "", "+1", 2, USAGE), 1),
+    ((TWO_READS, "", "", "18446744073709551616", 2, USAGE), 1),
+    (
+        (TWO_READS, "", "", "0", 7, "limit: steps 0, most 65536\n"),
+        1,
+    ),
+    (
+        (
+            TWO_READS,
+            "",
+            "",
+            "65537",
+            7,
+            "limit: steps 65537, most 65536\n",
+        ),
+        1,
+    ),
+    (
+        (
+            "foo",
+            "x",
+            "x",
+            "1",
+            3,
+            "bad program: line 1: unknown name\n",
+        ),
+        3,
+    ),
+    (
+        (
+            THREE_READS,
+            "4294967296",
+            "x",
+            "4",
+            4,
+            "bad tape: word 2, item 0\n",
+        ),
+        5,
+    ),
+    (
+        (THREE_READS, "1 x", "", "4", 4, "bad tape: word 2, item 1\n"),
+        5,
+    ),
+    (
+        (
+            THREE_READS,
+            "",
+            "1 2 -3",
+            "4",
+            4,
+            "bad tape: word 3, item 2\n",
+        ),
+        6,
+    ),
+];
+
 #[test]
 fn refuses_what_is_no_run(rt: HostRuntime) -> Result<(), Fail> {
-    let usage = "usage: asm, disasm, run, build, witness, check, extract, trial\n";
-    let refused: [(Case<'_>, u64); 10] = [
-        ((TWO_READS, "", "", "x", 2, usage), 1),
-        ((TWO_READS, "", "", "", 2, usage), 1),
-        ((TWO_READS, "", "", "+1", 2, usage), 1),
-        ((TWO_READS, "", "", "18446744073709551616", 2, usage), 1),
-        (
-            (TWO_READS, "", "", "0", 7, "limit: steps 0, most 65536\n"),
-            1,
-        ),
-        (
-            (
-                TWO_READS,
-                "",
-                "",
-                "65537",
-                7,
-                "limit: steps 65537, most 65536\n",
-            ),
-            1,
-        ),
-        (
-            (
-                "foo",
-                "x",
-                "x",
-                "1",
-                3,
-                "bad program: line 1: unknown name\n",
-            ),
-            3,
-        ),
-        (
-            (
-                THREE_READS,
-                "4294967296",
-                "x",
-                "4",
-                4,
-                "bad tape: word 2, item 0\n",
-            ),
-            5,
-        ),
-        (
-            (THREE_READS, "1 x", "", "4", 4, "bad tape: word 2, item 1\n"),
-            5,
-        ),
-        (
-            (
-                THREE_READS,
-                "",
-                "1 2 -3",
-                "4",
-                4,
-                "bad tape: word 3, item 2\n",
-            ),
-            6,
-        ),
-    ];
-    for (case, calls) in refused {
+    for (case, calls) in REFUSED {
         let made = runs(&rt, rt.alloc(), case)?;
         assert_eq!(rt; made.1, calls, "{}", case.5);
     }
