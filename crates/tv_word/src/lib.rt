@@ -8,5 +8,5 @@ mod word;
 mod words;
 
 pub use numeral::{decimal_of, numeral_of};
-pub use word::{signed, word_at, word_bytes};
+pub use word::{signed, signed16, word_at, word_bytes, word16_at, word16_bytes};
 pub use words::Words;

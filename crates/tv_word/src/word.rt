@@ -1,4 +1,4 @@
-ghost use Rattle.std.specs.Prelude.{◌≡◌, ◌≤◌, ◌+◌, length};
+ghost use Rattle.std.specs.Prelude.{◌≡◌, ◌≤◌, ◌<◌, ◌+◌, ◌^◌, length};
 ghost use Rattle.tv_word.specs.Word.{signed, word_at, word_bytes};
 
 /// The word as a signed number in two's complement: itself below 2^31, else less 2^32.
@@ -24,6 +24,37 @@ pub fn word_bytes(word: u32) -> [u8; 4]
     word.to_le_bytes()
 }
 
+/// A word of 16 bits as a signed number in two's complement: itself below 2^15, else less 2^16.
+pub fn signed16(word: u32) -> i64
+    requires { word < 2 ^ 16 }
+    ensures { result ≡ signed 16 word }
+{
+    let number = i64::from(word);
+    if word < 0x8000 {
+        number
+    } else {
+        number - 0x1_0000
+    }
+}
+
+/// The word of 16 bits that the two bytes from place `at` on spell, the lower first.
+pub fn word16_at(bytes: &[u8], at: usize) -> u32
+    requires { at + 2 ≤ length bytes.now }
+    ensures word { result ≡ word_at 16 bytes.now at }
+    ensures small { result < 2 ^ 16 }
+{
+    u32::from(u16::from_le_bytes([bytes[at], bytes[at + 1]]))
+}
+
+/// The two bytes that spell a word of 16 bits, the lower first.
+pub fn word16_bytes(word: u32) -> [u8; 2]
+    requires { word < 2 ^ 16 }
+    ensures bytes { result ≡ word_bytes 16 word }
+    ensures back { word_at 16 result 0 ≡ word }
+{
+    (word as u16).to_le_bytes()
+}
+
 #[cfg(test)]
 mod tests {
     use super::*;
@@ -34,5 +65,9 @@ mod tests {
         assert_eq!(rt; word_at(&bytes, 1), 0x8122_3344);
         assert_eq!(rt; word_bytes(0x8122_3344), [0x44, 0x33, 0x22, 0x81]);
         assert_eq!(rt; signed(0x8000_0000), -2_147_483_648);
+        assert_eq!(rt; word16_at(&bytes, 3), 0x8122);
+        assert_eq!(rt; word16_bytes(0x8122), [0x22, 0x81]);
+        assert_eq!(rt; signed16(0x7fff), 32_767);
+        assert_eq!(rt; signed16(0x8000), -32_768);
     }
 }
