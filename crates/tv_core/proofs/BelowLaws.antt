@@ -14,7 +14,7 @@ use Rattle.tv_core.specs.Laws.{HasFrom}
 use Rattle.tv_core.specs.declared.field.TheConstants.{P}
 
 -- one number more at the end
-range-more : (a n : ℕ) → range_with_len a (suc n) ≡ range_with_len a n ++ (a + n) ∷ []
+pub range-more : (a n : ℕ) → range_with_len a (suc n) ≡ range_with_len a n ++ (a + n) ∷ []
 range-more a zero = ap (λ m. m ∷ []) (sym (add-zero a))
 range-more a (suc n) =
     let same : a + 1 + n ≡ a + suc n = omega arith in

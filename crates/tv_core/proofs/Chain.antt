@@ -25,6 +25,7 @@ module _ {S : Type 0} (m : Meaning S) where
           answers = q.answers ∙ ap (λ made. made.answer) same;
           stands = λ list s. subst (λ l. m.stands new l) (append_assoc list _ _ ∙ ap (λ made. list ++ ((first (m.wires old)).list ++ made.list)) same) (q.stands _ (p.stands list s));
           next = q.next ∙ ap (λ made. made.next) same;
+          keeps = m.keeps_then old mid new p.keeps q.keeps;
           faults = omega (arith, p.faults, q.faults);
           wants = omega (arith, p.wants, q.wants);
         }
@@ -42,6 +43,7 @@ module _ {S : Type 0} (m : Meaning S) where
           at = ap (λ made. done ++ made.list) (sym same) ∙ ap (λ l. done ++ l) q.at ∙ sym (append_assoc done q.front _);
           tried = λ list s. subst (λ l. m.tried new l) (append_assoc list done _ ∙ ap (λ l. list ++ l) (sym (append_assoc done q.front _))) (q.tried (list ++ done) (p.stands list s));
           broken = q.broken;
+          keeps = m.keeps_then old mid new p.keeps q.keeps;
           cause = IsCause-after fault m.faults m.wants old mid new p.faults p.wants q.cause;
           faults = omega (arith, p.faults, q.faults);
           wants = omega (arith, p.wants, q.wants);
@@ -59,6 +61,7 @@ module _ {S : Type 0} (m : Meaning S) where
           at = ap (λ l. l ++ after.list) p.at ∙ append_assoc p.front _ _;
           tried = p.tried;
           broken = p.broken;
+          keeps = p.keeps;
           cause = p.cause;
           faults = p.faults;
           wants = p.wants;
@@ -71,6 +74,7 @@ module _ {S : Type 0} (m : Meaning S) where
       answers = refl;
       stands = λ list h. rw append-nil h;
       next = refl;
+      keeps = m.keeps_same s;
       faults = omega arith;
       wants = omega arith;
     }
@@ -113,6 +117,7 @@ module _ {S : Type 0} (m : Meaning S) where
     answers = refl;
     stands = λ list h. rw append-nil h;
     next = refl;
+    keeps = m.keeps_same s;
     faults = omega arith;
     wants = omega arith;
   }

@@ -4,7 +4,7 @@ use Rattle.std.specs.Prelude.{slice_index}
 use Rattle.std.proofs.Math.Nat.{add-mod, add-mod-mod, mul_assoc}
 use Rattle.std.proofs.lemmas.Bool.{cases_lt}
 use Rattle.std.proofs.lemmas.List.{get_or_past}
-use Rattle.std.proofs.lemmas.List.Elements.{All-get_or, recursion_from_All}
+use Rattle.std.proofs.lemmas.List.Elements.{All-get_or, All-from_recursion, recursion_from_All}
 use Rattle.std.proofs.lemmas.List.Sums.{sum_by-cons, sum_by-append}
 use Rattle.std.proofs.lemmas.Nat.{mul-mod_first, mul-mod_second}
 use Rattle.tv_core.proofs.Residues.{sum_by-mod_same, sum_by-mul, sum_by-map}
@@ -72,5 +72,18 @@ Assigns-from_Sat system z sat = record { below = sat.below; one = slice_index_fi
 
 pub Meets-from_Sat : (system : System) (z : List ℕ) → Sat system z → Meets z system.constraints
 Meets-from_Sat system z sat = recursion_from_All _ system.constraints sat.holds
+
+-- and one that meets a system's constraints, with a number for each wire, satisfies it
+slice_get_first : (z : List ℕ) → slice_index z 0 ≡ 1 → slice_get z 0 ≡ Some 1
+slice_get_first [] e = absurd (omega arith)
+slice_get_first (v ∷ z) e = ap Some e
+
+pub Sat-from_Meets : (system : System) (z : List ℕ) → length z ≡ system.wires → Assigns z → Meets z system.constraints → Sat system z
+Sat-from_Meets system z each assigns meets = record {
+  each_wire = each;
+  below = assigns.below;
+  one = slice_get_first z assigns.one;
+  holds = All-from_recursion _ system.constraints meets;
+}
 
 pub ruleset tops = (top-append, top-scaled)

@@ -11,6 +11,7 @@ module _ {V : Type 0} (m : Giving V) where
   pub gives_then : (xs ys : List ℕ) (old mid new : V) → GivesAll m old mid xs → GivesAll m mid new ys → GivesAll m old new (xs ++ ys)
   gives_then xs ys old mid new p q = record {
     stands = λ list s. subst (λ l. m.stands new l) (append_assoc list xs ys) (q.stands _ (p.stands list s));
+    keeps = m.keeps_then old mid new p.keeps q.keeps;
     faults = omega (arith, p.faults, q.faults);
     wants = omega (arith, p.wants, q.wants);
   }
@@ -23,6 +24,7 @@ module _ {V : Type 0} (m : Giving V) where
     at = ap (λ l. xs ++ l) q.at ∙ sym (append_assoc xs q.front _);
     tried = λ list s. subst (λ l. m.tried new l) (append_assoc list xs _ ∙ ap (λ l. list ++ l) (sym (append_assoc xs q.front _))) (q.tried (list ++ xs) (p.stands list s));
     broken = q.broken;
+    keeps = m.keeps_then old mid new p.keeps q.keeps;
     cause = IsCause-after fault m.faults m.wants old mid new p.faults p.wants q.cause;
     faults = omega (arith, p.faults, q.faults);
     wants = omega (arith, p.wants, q.wants);
@@ -36,6 +38,7 @@ module _ {V : Type 0} (m : Giving V) where
     at = ap (λ l. l ++ ys) p.at ∙ append_assoc p.front _ _;
     tried = p.tried;
     broken = p.broken;
+    keeps = p.keeps;
     cause = p.cause;
     faults = p.faults;
     wants = p.wants;
@@ -44,6 +47,7 @@ module _ {V : Type 0} (m : Giving V) where
   pub gives_nothing : (v : V) → GivesAll m v v []
   gives_nothing v = record {
     stands = λ list h. rw append-nil h;
+    keeps = m.keeps_same v;
     faults = omega arith;
     wants = omega arith;
   }

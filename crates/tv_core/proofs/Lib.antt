@@ -3,10 +3,14 @@ pub mod Chain
 pub mod CombinationLaws
 pub mod DifferenceLaws
 pub mod Euclid
+pub mod FieldLaws
+pub mod FillLaws
+pub mod Fitting
 pub mod GivingChain
 pub mod GivingTails
 pub mod Having
 pub mod InverseLaws
+pub mod JoinedLaws
 pub mod LineLaws
 pub mod LoopLaws
 pub mod Meeting

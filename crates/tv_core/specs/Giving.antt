@@ -14,11 +14,17 @@ pub record Giving (V : Type 0) : Type 1 where
   -- how many faults of writing and wants of memory it has met
   pub faults : V → ℕ
   pub wants : V → ℕ
+  -- what every call keeps, from before it to after it, as the file that a taker writes to; with no call
+  -- between all is kept, and what two calls keep is kept by both
+  pub Keeps : V → V → Type 0
+  pub keeps_same : (v : V) → Keeps v v
+  pub keeps_then : (old mid new : V) → Keeps old mid → Keeps mid new → Keeps old new
 
 module _ {V : Type 0} (m : Giving V) where
   -- a call gave a list whole, after whatever was given before; no count fell
   pub record GivesAll (old new : V) (values : List ℕ) : Type 0 where
     pub stands : (list : List ℕ) → m.stands old list → m.stands new (list ++ values)
+    pub keeps : m.Keeps old new
     pub faults : m.faults old ≤ m.faults new
     pub wants : m.wants old ≤ m.wants new
 
@@ -31,6 +37,7 @@ module _ {V : Type 0} (m : Giving V) where
     pub at : values ≡ front ++ refused ∷ back
     pub tried : (list : List ℕ) → m.stands old list → m.tried new (list ++ (front ++ refused ∷ []))
     pub broken : m.broken new ≡ true
+    pub keeps : m.Keeps old new
     pub cause : IsCause fault m.faults m.wants old new
     pub faults : m.faults old ≤ m.faults new
     pub wants : m.wants old ≤ m.wants new

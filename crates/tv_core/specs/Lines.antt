@@ -1,11 +1,10 @@
 -- Lines of memory: at each time one cell is looked at, and its word goes from old to new.
 use Rattle.std.specs.Prelude.{◌≡◌, ℕ, ◌==◌, if◌then◌else◌, List, [], ◌∷◌, ◌++◌, fold}
+use Rattle.tv_core.specs.declared.lines.Line.{Line as Numbers}
 
-pub record Line : Type 0 where
-  pub cell : ℕ
-  pub time : ℕ
-  pub old : ℕ
-  pub new : ℕ
+-- a line of memory: a cell, a time, the cell's word before it, and its word from then on
+abbrev pub Line : Type 0
+Line = Numbers
 
 -- a memory, as the word of each cell, after a line
 abbrev pub written : (ℕ → ℕ) → Line → ℕ → ℕ

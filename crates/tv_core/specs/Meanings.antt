@@ -1,6 +1,9 @@
 -- What the sinks and the taker of values of this crate are seen as, and what they mean.
-use Rattle.std.specs.Prelude.{◌≡◌, ℕ, ◌+◌, ◌*◌, ◌%◌, ◌==◌, Bool, false, if◌then◌else◌, List, [], ◌∷◌, ◌++◌, length, sum_by, count_by, Option, Some, None}
-use Rattle.tv_core.specs.Constraints.{Constraint, value}
+use Rattle.std.specs.Prelude.{◌≡◌, refl, ℕ, ◌+◌, ◌*◌, ◌%◌, ◌≤◌, ◌==◌, Bool, false, if◌then◌else◌, List, [], ◌∷◌, ◌++◌, length, sum_by, count_by, Option, Some, None}
+use Rattle.std.proofs.Common.{◌∙◌}
+use Rattle.std.specs.List.{AllByRecursion}
+use Rattle.tv_core.specs.Combinations.{top}
+use Rattle.tv_core.specs.Constraints.{Constraint, Combination, value}
 use Rattle.tv_core.specs.Sinks.{Meaning}
 use Rattle.tv_core.specs.Giving.{Giving}
 use Rattle.tv_core.specs.declared.field.TheConstants.{P}
@@ -9,16 +12,28 @@ use Rattle.tv_core.specs.declared.field.TheConstants.{P}
 abbrev pub terms_in : List Constraint → ℕ
 terms_in list = sum_by (λ constraint. length constraint.a + length constraint.b + length constraint.c) list
 
+-- a combination of at most 128 terms, whose wires are below a number
+pub record Fits (wires : ℕ) (x : Combination) : Type 0 where
+  pub within : top x ≤ wires
+  pub short : length x ≤ 128
+
+-- a constraint of such combinations
+pub record IsFit (wires : ℕ) (constraint : Constraint) : Type 0 where
+  pub a : Fits wires constraint.a
+  pub b : Fits wires constraint.b
+  pub c : Fits wires constraint.c
+
 -- a sink that counts
 pub record Counted : Type 0 where
   pub wires : ℕ
   pub constraints : ℕ
   pub terms : ℕ
 
--- the counts are those of the list
+-- the counts are those of the list, whose combinations are short and of wires that were made
 pub record IsCounted (sink : Counted) (list : List Constraint) : Type 0 where
   pub constraints : sink.constraints ≡ length list
   pub terms : sink.terms ≡ terms_in list
+  pub fit : AllByRecursion (IsFit sink.wires) list
 
 -- it never refuses
 abbrev pub counted_meaning : Meaning Counted
@@ -30,6 +45,9 @@ counted_meaning = record {
   broken = λ _. false;
   faults = λ _. 0;
   wants = λ _. 0;
+  Keeps = λ _ _. Unit {0};
+  keeps_same = λ _. tt;
+  keeps_then = λ _ _ _ _ _. tt;
 }
 
 -- a sink that keeps its list, and whether it was refused memory
@@ -48,6 +66,9 @@ listed_meaning = record {
   broken = λ sink. sink.broken;
   faults = λ _. 0;
   wants = λ sink. if sink.broken then 1 else 0;
+  Keeps = λ _ _. Unit {0};
+  keeps_same = λ _. tt;
+  keeps_then = λ _ _ _ _ _. tt;
 }
 
 -- a sink that tests each constraint against a slice
@@ -89,6 +110,9 @@ tested_meaning = record {
   broken = λ _. false;
   faults = λ _. 0;
   wants = λ _. 0;
+  Keeps = λ old new. new.z ≡ old.z;
+  keeps_same = λ _. refl;
+  keeps_then = λ old mid new p q. q ∙ p;
 }
 
 -- a taker of values that keeps its list, and whether it was refused memory
@@ -104,4 +128,7 @@ kept_giving = record {
   broken = λ taker. taker.broken;
   faults = λ _. 0;
   wants = λ taker. if taker.broken then 1 else 0;
+  Keeps = λ _ _. Unit {0};
+  keeps_same = λ _. tt;
+  keeps_then = λ _ _ _ _ _. tt;
 }

@@ -1,9 +1,10 @@
 -- What a sink of constraints means, and what a call that puts constraints into one does.
-use Rattle.std.specs.Prelude.{◌≡◌, ℕ, ◌+◌, ◌-◌, ◌^◌, ◌≤◌, ◌<◌, Bool, true, false, List, [], ◌∷◌, ◌++◌, min, Result, MatchResult}
+use Rattle.std.specs.Prelude.{◌≡◌, ℕ, ◌+◌, ◌^◌, ◌≤◌, ◌<◌, Bool, true, false, List, [], ◌∷◌, ◌++◌, Result, MatchResult}
 use Rattle.tv_core.specs.Constraints.{Constraint}
 use Rattle.tv_core.specs.Circuits.{Circuit}
 use Rattle.tv_core.specs.declared.sink.SinkFault.{SinkFault}
 use Rattle.tv_core.specs.declared.sink.SinkFault.TheVariants.{Failed, Memory}
+use Rattle.tv_word.specs.Counts.{Rose}
 
 -- what a sink means
 pub record Meaning (S : Type 0) : Type 1 where
@@ -19,10 +20,11 @@ pub record Meaning (S : Type 0) : Type 1 where
   -- how many faults of writing and wants of memory it has met
   pub faults : S → ℕ
   pub wants : S → ℕ
-
--- a count that is told by a number of 64 bits rose; at its greatest number it stands still
-abbrev pub Rose : ℕ → ℕ → Type 0
-Rose before now = min (before + 1) (2 ^ 64 - 1) ≤ now
+  -- what every call keeps, from before it to after it, as the file that a sink writes to; with no call
+  -- between all is kept, and what two calls keep is kept by both
+  pub Keeps : S → S → Type 0
+  pub keeps_same : (s : S) → Keeps s s
+  pub keeps_then : (old mid new : S) → Keeps old mid → Keeps mid new → Keeps old new
 
 -- the count of the fault's kind rose: `Failed` is of the first count, `Memory` of the second
 abbrev pub IsCause : {S : Type 0} → SinkFault → (S → ℕ) → (S → ℕ) → S → S → Type 0
@@ -37,6 +39,7 @@ module _ {S : Type 0} (m : Meaning S) where
       pub answers : answer ≡ (circuit (m.wires old)).answer
       pub stands : (list : List Constraint) → m.stands old list → m.stands new (list ++ (circuit (m.wires old)).list)
       pub next : m.wires new ≡ (circuit (m.wires old)).next
+      pub keeps : m.Keeps old new
       pub faults : m.faults old ≤ m.faults new
       pub wants : m.wants old ≤ m.wants new
 
@@ -50,6 +53,7 @@ module _ {S : Type 0} (m : Meaning S) where
       pub at : (circuit (m.wires old)).list ≡ front ++ refused ∷ back
       pub tried : (list : List Constraint) → m.stands old list → m.tried new (list ++ (front ++ refused ∷ []))
       pub broken : m.broken new ≡ true
+      pub keeps : m.Keeps old new
       pub cause : IsCause fault m.faults m.wants old new
       pub faults : m.faults old ≤ m.faults new
       pub wants : m.wants old ≤ m.wants new

@@ -1,5 +1,6 @@
 ghost use Rattle.std.specs.Prelude.{◌≡◌, ◌-◌, ◌*◌, ◌^◌, ◌<◌, ◌≤◌, IsOk, IfOk, refl};
 ghost use Rattle.tv_core.specs.Circuits.{fresh, put};
+ghost use Rattle.tv_core.specs.Combinations.{top};
 ghost use Rattle.tv_core.specs.Sinks.{PutsIn, Grows};
 ghost use Rattle.tv_core.specs.Meanings.{Counted, counted_meaning};
 
@@ -67,7 +68,10 @@ impl Sink for CountSink {
 
     #[tactic(auto, unfolding(crate::specs::Circuits::put))]
     fn put(&mut self, a: &Lc, b: &Lc, c: &Lc) -> Put<()>
-        requires { self.old.constraints < 2 ^ 32 - 1 }
+        requires room { self.old.constraints < 2 ^ 32 - 1 }
+        requires a_made { top a.now ≤ self.old.wires }
+        requires b_made { top b.now ≤ self.old.wires }
+        requires c_made { top c.now ≤ self.old.wires }
         ensures ok { IsOk result }
         ensures puts { PutsIn counted_meaning self.old self.new (put a.now b.now c.now) result }
         ensures grows { IfOk result (λ _. Grows counted_meaning self.old self.new 0 1) }

@@ -17,6 +17,7 @@ returns-in-Ok-clause-puts c =
       answers = refl;
       stands = λ list s. (kept ∙ ap (λ l. l ++ it ∷ []) s.0, s.1);
       next = refl;
+      keeps = tt;
       faults = omega arith;
       wants = omega arith;
     })
@@ -36,6 +37,7 @@ returns-in-Err-clause-puts c =
       at = refl;
       tried = λ list s. (it, ap (λ l. l ++ it ∷ []) (sym s.0 ∙ sym kept));
       broken = refl;
+      keeps = tt;
       cause = rw unbroken (omega arith);
       faults = omega arith;
       wants = rw unbroken (omega arith);

@@ -23,6 +23,7 @@ returns-clause-puts c =
           (c.add-self-inside.ensures ∙ ap (λ n. (inside.sum + n) % P) product)
           before;
       next = refl;
+      keeps = refl;
       faults = omega arith;
       wants = omega arith;
     })
