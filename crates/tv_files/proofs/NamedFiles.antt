@@ -1,5 +1,5 @@
 -- Files by name, after bytes were put or added at one name.
-use Rattle.std.proofs.Common.{◌≡◌, ℕ, List, [], ◌++◌, Option, Some, None, option_map, Bool, true, false, cond, append-nil, ap, refl, ◌∙◌}
+use Rattle.std.proofs.Common.{◌≡◌, ℕ, List, [], ◌++◌, Option, Some, None, option_map, Bool, true, false, cond, append-nil, append_assoc, ap, refl, sym, ◌∙◌}
 use Rattle.std.proofs.lemmas.Slice.Eq.{bytes_eq-Decides}
 use Rattle.std.specs.Map.{update}
 use Rattle.std.specs.Str.{bytes_eq}
@@ -45,3 +45,40 @@ with_more-none name files = ap (update bytes_eq files name) (nothing (files name
     nothing : (file : Option (List ℕ)) → option_map (λ bytes. bytes ++ []) file ≡ file
     nothing None = refl
     nothing (Some bytes) = ap Some (append-nil bytes)
+
+-- more, and then more, is both at once
+pub with_more-with_more : (name first second : List ℕ) (files : Names) →
+    with_more name second (with_more name first files) ≡ with_more name (first ++ second) files
+with_more-with_more name first second files =
+    ap (λ file. update bytes_eq (with_more name first files) name (option_map (λ held. held ++ second) file)) here
+    ∙ update-update name (option_map (λ held. held ++ first) (files name)) (option_map (λ held. held ++ second) (option_map (λ held. held ++ first) (files name))) files
+    ∙ ap (update bytes_eq files name) (both (files name))
+  where
+    here : with_more name first files name ≡ option_map (λ held. held ++ first) (files name)
+    here = ap (λ same. cond same (option_map (λ held. held ++ first) (files name)) (files name)) ((bytes_eq-Decides name name).1 refl)
+
+    both : (file : Option (List ℕ)) → option_map (λ held. held ++ second) (option_map (λ held. held ++ first) file) ≡ option_map (λ held. held ++ (first ++ second)) file
+    both None = refl
+    both (Some bytes) = ap Some (append_assoc bytes first second)
+
+-- the same of files that may not be told
+pub told-with_more-with_more : (name first second : List ℕ) (told : Option Names) →
+    option_map (with_more name second) (option_map (with_more name first) told) ≡ option_map (with_more name (first ++ second)) told
+told-with_more-with_more name first second None = refl
+told-with_more-with_more name first second (Some files) = ap Some (with_more-with_more name first second files)
+
+-- a name that isn't there stays absent
+pub with_more-absent : (name more : List ℕ) (files : Names) → files name ≡ None → with_more name more files name ≡ None
+with_more-absent name more files absent =
+    ap (λ same. cond same (option_map (λ held. held ++ more) (files name)) (files name)) ((bytes_eq-Decides name name).1 refl) ∙ ap (option_map (λ held. held ++ more)) absent
+
+-- and one that comes to be absent was
+pub with_more-none_before : (name more : List ℕ) (files : Names) → with_more name more files name ≡ None → files name ≡ None
+with_more-none_before name more files absent = by_file (files name) (sym here ∙ absent)
+  where
+    here : with_more name more files name ≡ option_map (λ held. held ++ more) (files name)
+    here = ap (λ same. cond same (option_map (λ held. held ++ more) (files name)) (files name)) ((bytes_eq-Decides name name).1 refl)
+
+    by_file : (file : Option (List ℕ)) → option_map (λ held. held ++ more) file ≡ None → file ≡ None
+    by_file None e = refl
+    by_file (Some bytes) e = cc

@@ -1,8 +1,9 @@
 -- What each of the four calls may do, from the outside before it and after it.
 use Rattle.std.specs.Prelude.{◌≡◌, ℕ, ◌-◌, ◌≤◌, ◌⊎◌, List, [], ◌++◌, length, take, drop, Some, None, option_map, Result, Err, IfOk, OnOk, OnErr}
-use Rattle.tv_files.specs.Outside.{with_bytes, with_more, Outside, Told, MissesOnly, Rose, NoneFell, SameCounts}
+use Rattle.tv_files.specs.Outside.{with_bytes, with_more, Outside, Told, MissesOnly, NoneFell, SameCounts}
 use Rattle.tv_files.specs.declared.calls.FileRefusal.{FileRefusal}
 use Rattle.tv_files.specs.declared.calls.FileRefusal.TheVariants.{Failed, Memory}
+use Rattle.tv_word.specs.Counts.{Rose}
 
 -- the first `count` bytes of `into` are those that the file has from place `at` on; none only at or
 -- past its end or where `into` is empty

@@ -1,5 +1,5 @@
 -- The outside world as a value: which files there are, what was said, and the counts of what went wrong.
-use Rattle.std.specs.Prelude.{◌≡◌, ℕ, ◌+◌, ◌-◌, ◌^◌, ◌≤◌, ◌⊎◌, min, List, ◌++◌, Option, Some, None, option_map}
+use Rattle.std.specs.Prelude.{◌≡◌, ℕ, ◌≤◌, ◌⊎◌, List, ◌++◌, Option, Some, None, option_map}
 use Rattle.std.specs.Map.{update}
 use Rattle.std.specs.Str.{bytes_eq}
 
@@ -32,10 +32,6 @@ Told outside P = (files : Names) → outside.contents ≡ Some files → P files
 -- the count of absent names changed only where this name isn't there
 abbrev pub MissesOnly : Outside → Outside → List ℕ → Type 0
 MissesOnly old new name = Told old (λ files. (new.absent ≡ old.absent) ⊎ (files name ≡ None))
-
--- a count rose, or stands at a counter's last value
-abbrev pub Rose : ℕ → ℕ → Type 0
-Rose before now = min (before + 1) (2 ^ 64 - 1) ≤ now
 
 -- no count fell
 pub record NoneFell (old new : Outside) : Type 0 where

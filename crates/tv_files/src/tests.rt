@@ -1,7 +1,8 @@
 //! What no clause says: that calls succeed where memory is ample, what a listed failing call leaves,
 //! and in how many calls a whole file is read and written.
 ghost use Rattle.std.specs.Prelude.{◌≡◌};
-ghost use Rattle.tv_files.specs.Outside.{OnlyReads, MissesOnly, Rose};
+ghost use Rattle.tv_files.specs.Outside.{OnlyReads, MissesOnly};
+ghost use Rattle.tv_word.specs.Counts.{Rose};
 
 use super::*;
 use std::alloc::{AllocError, Global};

@@ -1,7 +1,8 @@
 //! Whole files, over any `Files`: read into memory, or written from it.
 ghost use Rattle.std.specs.Prelude.{◌≡◌, ℕ, ◌≤◌, length, Some, None, IfOk, OnOk, OnErr};
-ghost use Rattle.tv_files.specs.Outside.{OnlyReads, OnlyWrites, SameCounts, Told, MissesOnly, Rose};
+ghost use Rattle.tv_files.specs.Outside.{OnlyReads, OnlyWrites, SameCounts, Told, MissesOnly};
 ghost use Rattle.tv_files.specs.Whole.{IsLonger, HasBytes, HasPart};
+ghost use Rattle.tv_word.specs.Counts.{Rose};
 
 use crate::calls::{FileRefusal, Files};
 use crate::outcome::Slurp;
