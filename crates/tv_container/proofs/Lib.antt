@@ -1,0 +1,6 @@
+pub mod Buffers
+pub mod Chain
+pub mod Pieces
+pub mod SectionLemmas
+pub mod BytesAt
+pub mod Written

@@ -1,0 +1,66 @@
+-- Bytes that are written to a file a piece at a time, and what of them it has.
+use Rattle.std.proofs.Common.{◌≡◌, ℕ, ◌+◌, List, ◌++◌, length, take, Option, Some, None, option_map, Result, Err, cond, append_assoc, ap, refl, sym, ◌∙◌}
+use Rattle.std.proofs.Math.Seq.{take-append-add}
+use Rattle.std.proofs.lemmas.Slice.Eq.{bytes_eq-Decides}
+use Rattle.tv_container.specs.Faults.{sink_fault}
+use Rattle.tv_container.specs.Writing.{Adds, Passes}
+use Rattle.tv_core.specs.Sinks.{IsCause}
+use Rattle.tv_core.specs.declared.sink.SinkFault.{SinkFault}
+use Rattle.tv_files.specs.Outside.{Outside, Names, with_more}
+use Rattle.tv_files.specs.declared.calls.FileRefusal.{FileRefusal}
+use Rattle.tv_files.specs.declared.calls.FileRefusal.TheVariants as file
+use Rattle.tv_word.specs.Counts.{Rose}
+use Rattle.tv_container.specs.Written.{HasBut, HasFront}
+
+-- bytes that are added to a name stand behind those that it had
+with_more-here : (name more : List ℕ) (files : Names) → with_more name more files name ≡ option_map (λ held. held ++ more) (files name)
+with_more-here name more files =
+    ap (λ same. cond same (option_map (λ held. held ++ more) (files name)) (files name)) ((bytes_eq-Decides name name).1 refl)
+
+-- contents that are told after bytes were added to a name were told before
+told_before : (old new : Outside) (name more : List ℕ) (files : Names) → Adds old new name more → new.contents ≡ Some files →
+    (before : Names) × (old.contents ≡ Some before) × (files name ≡ option_map (λ held. held ++ more) (before name))
+told_before old new name more files adds told = by_contents old.contents refl
+  where
+    by_contents : (contents : Option Names) → old.contents ≡ contents →
+        (before : Names) × (old.contents ≡ Some before) × (files name ≡ option_map (λ held. held ++ more) (before name))
+    by_contents None is =
+        let none : None ≡ Some files = sym (adds ∙ ap (option_map (with_more name more)) is) ∙ told in
+        cc
+    by_contents (Some before) is =
+        let same : Some (with_more name more before) ≡ Some files = sym (adds ∙ ap (option_map (with_more name more)) is) ∙ told in
+        let files_are : with_more name more before ≡ files = cc in
+        (before, is, sym (ap (λ names. names name) files_are) ∙ with_more-here name more before)
+
+-- a first part of the bytes that are held and of others was added, and the rest of them is held
+pub has_more : (old new : Outside) (name held bytes more after : List ℕ) → HasBut old name held bytes → Passes old new name (held ++ more) after →
+    HasBut new name after (bytes ++ more)
+has_more old new name held bytes more after has passes = λ files told.
+    let before = told_before old new name passes.front files passes.contents told in
+    let had = has before.0 before.1 in (
+      had.0 ++ passes.front,
+      before.2 ∙ ap (option_map (λ front. front ++ passes.front)) had.1,
+      append_assoc had.0 passes.front after
+          ∙ ap (λ rest. had.0 ++ rest) (sym passes.split)
+          ∙ sym (append_assoc had.0 held more)
+          ∙ ap (λ front. front ++ more) had.2,
+    )
+
+-- the first few of the bytes that are held and of others were added
+pub has_front : (old new : Outside) (name held bytes more : List ℕ) → HasBut old name held bytes → ((n : ℕ) × Adds old new name (take n (held ++ more))) →
+    HasFront new name (bytes ++ more)
+has_front old new name held bytes more has added = λ files told.
+    let before = told_before old new name (take added.0 (held ++ more)) files added.1 told in
+    let had = has before.0 before.1 in
+    let whole : had.0 ++ (held ++ more) ≡ bytes ++ more = sym (append_assoc had.0 held more) ∙ ap (λ front. front ++ more) had.2 in (
+      length had.0 + added.0,
+      before.2 ∙ ap (option_map (λ front. front ++ take added.0 (held ++ more))) had.1
+          ∙ ap Some (sym (take-append-add had.0 (held ++ more) added.0) ∙ ap (take (length had.0 + added.0)) whole),
+    )
+
+-- a refused call is the cause of the fault that is made of it
+pub is_cause : {S : Type 0} (faults wants : S → ℕ) (old new : S) (why : FileRefusal) (result : Result (Unit {0}) FileRefusal) (fault : SinkFault) →
+    result ≡ Err why → fault ≡ sink_fault why → (result ≡ Err file.Failed → Rose (faults old) (faults new)) →
+    (result ≡ Err file.Memory → Rose (wants old) (wants new)) → IsCause fault faults wants old new
+is_cause faults wants old new file.Failed result fault refused is failed memory = rw is (failed refused)
+is_cause faults wants old new file.Memory result fault refused is failed memory = rw is (memory refused)

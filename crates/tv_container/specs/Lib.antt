@@ -1,0 +1,10 @@
+pub mod Bytes
+pub mod Faults
+pub mod Field
+pub mod Found
+pub mod Places
+pub mod Reading
+pub mod Refusals
+pub mod Sections
+pub mod Writing
+pub mod Written

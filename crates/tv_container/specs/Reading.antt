@@ -1,0 +1,56 @@
+-- What reading a file may answer and do, over any files.
+use Rattle.std.specs.Prelude.{◌≡◌, ◌≢◌, ℕ, ◌+◌, ◌≤◌, List, length, take, drop, Option, Some, None, Result, Ok, MatchResult, option_and_then}
+use Rattle.tv_files.specs.Outside.{Names, Outside, OnlyReads, MissesOnly}
+use Rattle.tv_container.specs.Places.{Fault, wrong}
+use Rattle.tv_container.specs.declared.why.ReadRefusal.{ReadRefusal}
+use Rattle.tv_container.specs.declared.why.ReadRefusal.TheVariants as refusal
+use Rattle.tv_container.specs.declared.why.ReadWhy.{ReadWhy}
+use Rattle.tv_word.specs.Counts.{Rose}
+
+-- the bytes that a name stands for, where contents are told and the name is there
+unfoldable pub bytes_of : Outside → List ℕ → Option (List ℕ)
+bytes_of outside name = option_and_then (λ files. files name) outside.contents
+
+-- contents are told, and the name isn't there
+pub record IsMissing (outside : Outside) (name : List ℕ) : Type 0 where
+  pub files : Names
+  pub told : outside.contents ≡ Some files
+  pub none : files name ≡ None
+
+-- reading stopped with this refusal, from the outside before it to the outside after it: files and
+-- words said stay and no count falls, a fault is a fault of a read, and `absent` changes only where this
+-- name isn't there
+pub record Stopped (old new : Outside) (name : List ℕ) (why : ReadRefusal) : Type 0 where
+  pub only : OnlyReads old new
+  pub there : MissesOnly old new name
+  pub fault : why ≡ refusal.Fault → Rose old.read_faults new.read_faults
+
+-- reading a name leaves all outside as it was, or it stopped
+abbrev pub Looks : {A : Type 0} → Outside → Outside → List ℕ → Result A ReadRefusal → Type 0
+Looks old new name result = MatchResult result (λ _. new ≡ old) (λ why. Stopped old new name why)
+
+-- a refusal that tells what is wrong tells what the definition does
+pub record Refuses {A : Type 0} (why : ReadRefusal) (answer : Result A Fault) : Type 0 where
+  pub bad : (at : ℕ) (what : ReadWhy) → why ≡ refusal.Bad at what → answer ≡ wrong at what
+
+-- a reader gives what the definition does, unless a read failed or memory ran out
+abbrev pub Gives : {A : Type 0} → Result A ReadRefusal → Result A Fault → Type 0
+Gives result answer = MatchResult result (λ value. answer ≡ Ok value) (λ why. Refuses why answer)
+
+-- a refusal that isn't a failed read
+pub record IsTold (why : ReadRefusal) : Type 0 where
+  pub told : why ≢ refusal.Fault
+
+-- bytes of a file, from a place on
+pub record Piece : Type 0 where
+  pub at : ℕ
+  pub bytes : List ℕ
+
+-- the bytes are those that the file has there
+pub record IsPiece (piece : Piece) (file : List ℕ) : Type 0 where
+  pub same : piece.bytes ≡ take (length piece.bytes) (drop piece.at file)
+
+-- the piece has the bytes at a place, so many
+pub record Holds (piece : Piece) (at size : ℕ) : Type 0 where
+  pub from : piece.at ≤ at
+  pub to : at + size ≤ piece.at + length piece.bytes

@@ -1,0 +1,18 @@
+ghost use Rattle.std.specs.Prelude.{◌≡◌};
+ghost use Rattle.tv_container.specs.Bytes.{eight_bytes, four_bytes};
+
+/// The four bytes that spell a number, the lowest first.
+#[tactic(auto, unfolding(crate::specs::Bytes::four_bytes))]
+pub fn short_bytes(number: u32) -> [u8; 4]
+    ensures { result ≡ four_bytes number }
+{
+    number.to_le_bytes()
+}
+
+/// The eight bytes that spell a number, the lowest first.
+#[tactic(auto, unfolding(crate::specs::Bytes::eight_bytes))]
+pub fn long_bytes(number: u64) -> [u8; 8]
+    ensures { result ≡ eight_bytes number }
+{
+    number.to_le_bytes()
+}

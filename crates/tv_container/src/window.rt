@@ -1,0 +1,203 @@
+ghost use Rattle.std.specs.Prelude.{◌≡◌, ℕ, ◌+◌, ◌*◌, ◌≤◌, ◌<◌, ◌^◌, true, nat_le, Ok, IfOk, OnOk, MatchResult};
+ghost use Rattle.std.specs.Prelude.{List, [], length, take, drop, Some};
+ghost use Rattle.tv_container.specs.Places.{fit, number, places};
+ghost use Rattle.tv_container.specs.Reading.{bytes_of, Looks, Stopped, Gives, Holds, IsMissing, IsPiece};
+ghost use Rattle.tv_container.specs.Refusals.{read_refusal};
+ghost use Rattle.tv_word.specs.Word.{spelled};
+
+use crate::why::{ReadRefusal, ReadWhy};
+use std::marker::Model;
+use tv_files::{FileRefusal, Files};
+use tv_word::word_at;
+
+/// The most bytes that one call reads.
+const PIECE: usize = 4096;
+
+/// The piece of a file that was read last, at most 4,096 bytes. Contracts see it as its place in the
+/// file and its bytes.
+#[derive(Drop)]
+pub struct Window {
+    bytes: [u8; PIECE],
+    held: usize,
+    at: u64,
+}
+
+impl Model for Window {
+    ghost use Rattle.std.specs.Prelude.{◌≤◌, take};
+    ghost use Rattle.tv_container.specs.Reading.{Piece};
+
+    ghost Value = { Piece };
+
+    ghost view = { λ w. record { at = w.at; bytes = take w.held w.bytes } };
+
+    ghost invariant = { λ w. w.held ≤ 4096 };
+}
+
+impl Window {
+    /// Nothing was read.
+    pub fn new() -> Window
+        ensures none { result.bytes ≡ [] }
+        ensures piece { (file : List ℕ) → IsPiece result file }
+    {
+        Window {
+            bytes: [0; PIECE],
+            held: 0,
+            at: 0,
+        }
+    }
+
+    /// The 32-bit number at a place that the window holds, the lowest byte first.
+    pub fn word(&self, at: u64) -> u32
+        requires { Holds self.now at 4 }
+        ensures { (file : List ℕ) → IsPiece self.now file → result ≡ number file 4 at }
+    {
+        word_at(&self.bytes, (at - self.at) as usize)
+    }
+
+    /// The 64-bit number at a place that the window holds, the lowest byte first.
+    pub fn long(&self, at: u64) -> u64
+        requires { Holds self.now at 8 }
+        ensures { (file : List ℕ) → IsPiece self.now file → result ≡ number file 8 at }
+    {
+        long_at(&self.bytes, (at - self.at) as usize)
+    }
+
+    /// How many whole terms of 12 bytes, the first of which it holds, the window holds from a place to
+    /// an end.
+    pub fn whole_terms(&self, at: u64, end: u64) -> u32
+        requires held { Holds self.now at 12 }
+        requires within { at + 12 ≤ end }
+        ensures some { 0 < result }
+        ensures held { Holds self.now at (12 * result) }
+        ensures within { at + 12 * result ≤ end }
+    {
+        let held = self.held as u64 - (at - self.at);
+        (held.min(end - at) / 12) as u32
+    }
+
+    /// The bytes that the window holds from a place on, which it holds.
+    pub fn bytes_from(&self, at: u64) -> &[u8]
+        requires { Holds self.now at 0 }
+        ensures all { at + length result.now ≡ self.now.at + length self.now.bytes }
+        ensures bytes { (file : List ℕ) → IsPiece self.now file → result.now ≡ take (length result.now) (drop at file) }
+    {
+        &self.bytes[(at - self.at) as usize..self.held]
+    }
+
+    // Whether the bytes at a place, so many, are held.
+    fn holds(&self, at: u64, size: usize) -> bool
+        ensures { result ≡ true → Holds self.now at size }
+    {
+        at >= self.at
+            && at - self.at <= self.held as u64
+            && size as u64 <= self.held as u64 - (at - self.at)
+    }
+
+    /// Reads on to a place until the window holds so many bytes there, and tells whether the file has
+    /// them. It asks for at most 4,096 bytes a call.
+    pub fn reach<D: Files>(
+        &mut self,
+        files: &mut D,
+        name: &str,
+        at: u64,
+        size: usize,
+    ) -> Result<bool, ReadRefusal>
+        requires some { 0 < size }
+        requires small { size ≤ 4096 }
+        ensures held { IfOk result (λ there. there ≡ true → Holds self.new at size) }
+        ensures place { IfOk result (λ there. there ≡ true → at + size < 2 ^ 64) }
+        ensures piece { (file : List ℕ) → bytes_of (D.seen files.old) name.now ≡ Some file →
+            IsPiece self.old file → OnOk result (IsPiece self.new file) }
+        ensures gives { (file : List ℕ) → bytes_of (D.seen files.old) name.now ≡ Some file →
+            IsPiece self.old file → Gives result (Ok (nat_le (at + size) (places file))) }
+        ensures looks { Looks (D.seen files.old) (D.seen files.new) name.now result }
+        ensures missing { IsMissing (D.seen files.old) name.now → self.old.bytes ≡ [] → at + size < 2 ^ 64 → result ≡ Err ReadRefusal.Fault }
+    {
+        if size as u64 > u64::MAX - at {
+            return Ok(false);
+        }
+        if self.holds(at, size) {
+            return Ok(true);
+        }
+        self.held = fill(files, name, at, size, &mut self.bytes)?;
+        self.at = at;
+        Ok(self.held >= size)
+    }
+
+    /// As `reach`; a file that ends before is `Truncated` at the place.
+    pub fn fit<D: Files>(
+        &mut self,
+        files: &mut D,
+        name: &str,
+        at: u64,
+        size: usize,
+    ) -> Result<(), ReadRefusal>
+        requires some { 0 < size }
+        requires small { size ≤ 4096 }
+        ensures held { OnOk result (Holds self.new at size) }
+        ensures place { OnOk result (at + size < 2 ^ 64) }
+        ensures piece { (file : List ℕ) → bytes_of (D.seen files.old) name.now ≡ Some file →
+            IsPiece self.old file → OnOk result (IsPiece self.new file) }
+        ensures gives { (file : List ℕ) → bytes_of (D.seen files.old) name.now ≡ Some file →
+            IsPiece self.old file → Gives result (fit size at (places file)) }
+        ensures looks { Looks (D.seen files.old) (D.seen files.new) name.now result }
+        ensures missing { IsMissing (D.seen files.old) name.now → self.old.bytes ≡ [] → at + size < 2 ^ 64 → result ≡ Err ReadRefusal.Fault }
+    {
+        if self.reach(files, name, at, size)? {
+            return Ok(());
+        }
+        Err(ReadRefusal::Bad {
+            at,
+            why: ReadWhy::Truncated,
+        })
+    }
+}
+
+// Reads at a place until so many bytes came or the file ends, and answers how many came.
+fn fill<D: Files>(
+    files: &mut D,
+    name: &str,
+    at: u64,
+    size: usize,
+    bytes: &mut [u8; PIECE],
+) -> Result<usize, FileRefusal>
+    requires some { 0 < size }
+    requires small { size ≤ 4096 }
+    requires place { at + size < 2 ^ 64 }
+    ensures within { IfOk result (λ held. held ≤ 4096) }
+    ensures piece { (file : List ℕ) → bytes_of (D.seen files.old) name.now ≡ Some file →
+        IfOk result (λ held. take held bytes.new ≡ take held (drop at file)) }
+    ensures end { (file : List ℕ) → bytes_of (D.seen files.old) name.now ≡ Some file →
+        IfOk result (λ held. held < size → length file ≤ at + held) }
+    ensures looks { MatchResult result
+        (λ _. D.seen files.new ≡ D.seen files.old)
+        (λ why. Stopped (D.seen files.old) (D.seen files.new) name.now (read_refusal why)) }
+    ensures missing { IsMissing (D.seen files.old) name.now → result ≡ Err FileRefusal.Failed }
+{
+    let mut held = 0;
+    while held < size {
+        let count = files.read(name, at + held as u64, &mut bytes[held..])?;
+        if count == 0 {
+            return Ok(held);
+        }
+        held += count;
+    }
+    Ok(held)
+}
+
+// The number that the eight bytes from a place on spell, the lowest first.
+fn long_at(bytes: &[u8], at: usize) -> u64
+    requires { at + 8 ≤ length bytes.now }
+    ensures { result ≡ spelled (take 8 (drop at bytes.now)) }
+{
+    u64::from_le_bytes([
+        bytes[at],
+        bytes[at + 1],
+        bytes[at + 2],
+        bytes[at + 3],
+        bytes[at + 4],
+        bytes[at + 5],
+        bytes[at + 6],
+        bytes[at + 7],
+    ])
+}
