@@ -3,13 +3,14 @@ use Rattle.std.proofs.Common.{◌≡◌, ℕ, ◌+◌, ◌*◌, ◌==◌, not, B
 use Rattle.std.specs.Prelude.{IfOk}
 use Rattle.std.proofs.lemmas.Bool.{ltb-false}
 use Rattle.tv_r1cs_read.specs.declared.header.Header.{Header}
-use Rattle.tv_r1cs_read.specs.declared.sections.Section.{Section}
-use Rattle.tv_r1cs_read.specs.declared.why.ReadWhy.{ReadWhy}
-use Rattle.tv_r1cs_read.specs.declared.why.ReadWhy.TheVariants.{BadCount}
-use Rattle.tv_r1cs_read.specs.Places.{Fault, ◌>>=◌, unless}
+use Rattle.tv_container.specs.declared.sections.Section.{Section}
+use Rattle.tv_container.specs.declared.why.ReadWhy.{ReadWhy}
+use Rattle.tv_container.specs.declared.why.ReadWhy.TheVariants.{BadCount}
+use Rattle.tv_container.specs.Places.{Fault, ◌>>=◌, unless}
 use Rattle.tv_r1cs_read.specs.R1cs as r1cs
-use Rattle.tv_r1cs_read.specs.R1cs.{this_field, checked, counted, header_in, header_of, constraints_from, system_of}
-use Rattle.tv_r1cs_read.specs.Sections.{section_of, sections_of, wanted}
+use Rattle.tv_r1cs_read.specs.R1cs.{checked, counted, header_in, header_of, constraints_from, system_of}
+use Rattle.tv_container.specs.Field.{this_field}
+use Rattle.tv_container.specs.Sections.{section_of, sections_of, wanted}
 use Rattle.tv_check.specs.Verdict.{HasRoom}
 
 bind_if : {A B : Type 0} (read : Result A Fault) (f : A → Result B Fault) (P : B → Type 0) → ((x : A) → read ≡ Ok x → IfOk (f x) P) → IfOk (read >>= f) P

@@ -7,11 +7,11 @@ use Rattle.std.proofs.Math.Nat.{add-mod}
 use Rattle.std.proofs.lemmas.List.Sums.{sum_by_more}
 use Rattle.tv_core.proofs.Residues.{sum_by-map}
 use Rattle.tv_r1cs_read.specs.declared.header.Header.{Header}
-use Rattle.tv_r1cs_read.specs.declared.why.ReadRefusal.{ReadRefusal}
-use Rattle.tv_r1cs_read.specs.Reading.{Refuses}
+use Rattle.tv_container.specs.declared.why.ReadRefusal.{ReadRefusal}
+use Rattle.tv_container.specs.Reading.{Refuses}
 use Rattle.tv_r1cs_read.specs.R1cs.{system_of}
 use Rattle.tv_r1cs_read.specs.Rows.{combination_of}
-use Rattle.tv_r1cs_read.proofs.Chain.{refuses_first}
+use Rattle.tv_container.proofs.Chain.{refuses_first}
 use Rattle.tv_check.specs.declared.verdict.Verdict.TheVariants.{WireCount}
 use Rattle.tv_check.specs.Verdict.{holds, first_failing, first_difference, constraint_verdict, public_verdict, judge, tried, verdict_of}
 

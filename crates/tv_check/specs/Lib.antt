@@ -2,4 +2,4 @@ pub mod Verdict
 pub mod Meaning
 pub use Rattle.tv_core.specs.Constraints
 pub use Rattle.tv_r1cs_read.specs.R1cs
-pub use Rattle.tv_r1cs_read.specs.Reading
+pub use Rattle.tv_container.specs.Reading

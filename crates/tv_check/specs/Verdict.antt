@@ -4,7 +4,7 @@ use Rattle.std.specs.Prelude.{ℕ, suc, ◌+◌, ◌*◌, ◌%◌, ◌≤◌, Bo
 use Rattle.std.specs.Option.{option_map}
 use Rattle.tv_core.specs.Constraints.{System, Constraint, value}
 use Rattle.tv_core.specs.declared.field.TheConstants.{P}
-use Rattle.tv_r1cs_read.specs.Places.{Fault, ◌>>=◌}
+use Rattle.tv_container.specs.Places.{Fault, ◌>>=◌}
 use Rattle.tv_r1cs_read.specs.R1cs.{system_of}
 use Rattle.tv_check.specs.declared.verdict.Verdict.{Verdict}
 use Rattle.tv_check.specs.declared.verdict.Verdict.TheVariants.{Yes, WireCount, NoPublic, NoConstraint}

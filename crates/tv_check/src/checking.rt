@@ -1,15 +1,16 @@
 ghost use Rattle.std.specs.Prelude.{◌≡◌, ℕ, List, Some, Err};
-ghost use Rattle.tv_r1cs_read.specs.Reading.{bytes_of, Looks, Gives, IsMissing};
-ghost use Rattle.tv_r1cs_read.specs.declared.why.ReadRefusal.{ReadRefusal};
+ghost use Rattle.tv_container.specs.Reading.{bytes_of, Looks, Gives, IsMissing};
+ghost use Rattle.tv_container.specs.declared.why.ReadRefusal.{ReadRefusal};
 ghost use Rattle.tv_check.specs.Verdict.{verdict_of};
 
 use crate::publics::public_verdict;
 use crate::rows::tried;
 use crate::verdict::Verdict;
 use std::alloc::Global;
+use tv_container::ReadRefusal;
 use tv_core::F;
 use tv_files::Files;
-use tv_r1cs_read::{ReadRefusal, Row, SystemReader};
+use tv_r1cs_read::{Row, SystemReader};
 
 /// The verdict on an assignment, `values`, and public numbers, by the system in a file: first on the
 /// number of values, then on the public wires, then on each constraint.

@@ -1,8 +1,8 @@
 use crate::{Verdict, check};
 use std::test::*;
+use tv_container::{ReadRefusal, ReadWhy};
 use tv_core::F;
 use tv_files::MemFiles;
-use tv_r1cs_read::{ReadRefusal, ReadWhy};
 
 // Four wires, wire 1 public, and two constraints: wire 1 times wire 2 is wire 3, and wire 3 times the
 // constant 1 is three times wire 2.

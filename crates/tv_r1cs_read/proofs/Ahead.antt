@@ -4,15 +4,15 @@ use Rattle.std.proofs.lemmas.Bool.Decides.{nat_tests}
 use Rattle.std.proofs.lemmas.List.{map-append}
 use Rattle.tv_core.specs.Constraints.{Combination}
 use Rattle.tv_core.specs.declared.field.TheConstants.{P}
-use Rattle.tv_r1cs_read.specs.declared.why.ReadRefusal.{ReadRefusal}
-use Rattle.tv_r1cs_read.specs.declared.why.ReadRefusal.TheVariants.{Bad}
-use Rattle.tv_r1cs_read.specs.declared.why.ReadWhy.{ReadWhy}
-use Rattle.tv_r1cs_read.specs.declared.why.ReadWhy.TheVariants.{WireRange, NotCanonical}
-use Rattle.tv_r1cs_read.specs.Places.{Fault, number, wrong, fit}
-use Rattle.tv_r1cs_read.specs.Reading.{Refuses}
+use Rattle.tv_container.specs.declared.why.ReadRefusal.{ReadRefusal}
+use Rattle.tv_container.specs.declared.why.ReadRefusal.TheVariants.{Bad}
+use Rattle.tv_container.specs.declared.why.ReadWhy.{ReadWhy}
+use Rattle.tv_container.specs.declared.why.ReadWhy.TheVariants.{WireRange, NotCanonical}
+use Rattle.tv_container.specs.Places.{Fault, number, wrong, fit}
+use Rattle.tv_container.specs.Reading.{Refuses}
 use Rattle.tv_r1cs_read.specs.R1cs.{Read, terms_at, combination_at}
 use Rattle.tv_r1cs_read.specs.Rows.{combination_of, with_front, IsAhead}
-use Rattle.tv_r1cs_read.proofs.Chain.{refuses_first, refuses_wrong}
+use Rattle.tv_container.proofs.Chain.{refuses_first, refuses_wrong}
 
 -- no terms were read before
 pub begins : (file : List ℕ) (wires end n at : ℕ) → IsAhead (terms_at file wires end n at) [] file wires end n at

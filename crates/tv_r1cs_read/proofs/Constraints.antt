@@ -2,13 +2,13 @@
 use Rattle.std.proofs.Common.{◌≡◌, ℕ, ◌+◌, ◌-◌, ◌<◌, List, [], ◌∷◌, Ok, add-one, arith, refl}
 use Rattle.std.proofs.lemmas.Bool.Decides.{nat_tests}
 use Rattle.tv_core.specs.Constraints.{Constraint}
-use Rattle.tv_r1cs_read.specs.declared.sections.Section.{Section}
-use Rattle.tv_r1cs_read.specs.declared.why.ReadRefusal.{ReadRefusal}
-use Rattle.tv_r1cs_read.specs.declared.why.ReadWhy.TheVariants.{BadCount}
-use Rattle.tv_r1cs_read.specs.Places.{◌>>=◌, wrong}
+use Rattle.tv_container.specs.declared.sections.Section.{Section}
+use Rattle.tv_container.specs.declared.why.ReadRefusal.{ReadRefusal}
+use Rattle.tv_container.specs.declared.why.ReadWhy.TheVariants.{BadCount}
+use Rattle.tv_container.specs.Places.{◌>>=◌, wrong}
 use Rattle.tv_r1cs_read.specs.R1cs.{Read, constraint_at, constraints_from}
-use Rattle.tv_r1cs_read.specs.Reading.{Refuses}
-use Rattle.tv_r1cs_read.proofs.Chain.{refuses_first}
+use Rattle.tv_container.specs.Reading.{Refuses}
+use Rattle.tv_container.proofs.Chain.{refuses_first}
 
 pub constraints_from-end : (file : List ℕ) (wires n at : ℕ) (rows : Section) → n ≡ 0 → at ≡ rows.at + rows.size →
     constraints_from file wires rows n at ≡ Ok []

@@ -5,16 +5,16 @@ use Rattle.std.proofs.lemmas.List.Sums.{sum_by-append}
 use Rattle.std.specs.List.{sum_by}
 use Rattle.tv_core.specs.Constraints.{Constraint}
 use Rattle.tv_r1cs_read.specs.declared.rows.Row.{Row}
-use Rattle.tv_r1cs_read.specs.declared.sections.Section.{Section}
-use Rattle.tv_r1cs_read.specs.declared.why.ReadRefusal.{ReadRefusal}
-use Rattle.tv_r1cs_read.specs.declared.why.ReadWhy.TheVariants.{BadCount}
-use Rattle.tv_r1cs_read.specs.Places.{Fault, ◌>>=◌, wrong}
+use Rattle.tv_container.specs.declared.sections.Section.{Section}
+use Rattle.tv_container.specs.declared.why.ReadRefusal.{ReadRefusal}
+use Rattle.tv_container.specs.declared.why.ReadWhy.TheVariants.{BadCount}
+use Rattle.tv_container.specs.Places.{Fault, ◌>>=◌, wrong}
 use Rattle.tv_r1cs_read.specs.Progress.{Reached, IsBegun, ahead, counts_of}
 use Rattle.tv_r1cs_read.specs.R1cs.{constraint_at, constraints_from, header_of, system_of}
-use Rattle.tv_r1cs_read.specs.Reading.{Refuses}
+use Rattle.tv_container.specs.Reading.{Refuses}
 use Rattle.tv_r1cs_read.specs.Rows.{constraint_of, terms_in}
 use Rattle.tv_r1cs_read.specs.Survey.{HasRead, terms_of, survey_of}
-use Rattle.tv_r1cs_read.proofs.Chain.{made, refuses_first}
+use Rattle.tv_container.proofs.Chain.{made, refuses_first}
 
 -- at first none was read
 pub read_none : (all : Result (List Constraint) Fault) → HasRead [] all all

@@ -1,7 +1,5 @@
 pub mod Ahead
-pub mod Chain
 pub mod Constraints
 pub mod Done
-pub mod Pieces
-pub mod SectionLemmas
+pub mod HeaderLemmas
 pub mod Vectors

@@ -1,10 +1,11 @@
 -- Files that another reader of the format was given, and what the definition makes of each.
 use Rattle.std.specs.Prelude.{◌≡◌, ℕ, ◌+◌, List, [], ◌∷◌, ◌++◌, length, take, drop, Ok, refl}
 use Rattle.tv_core.specs.Constraints.{System}
-use Rattle.tv_r1cs_read.specs.Places.{wrong}
-use Rattle.tv_r1cs_read.specs.R1cs.{system_of, header_of, header_in, this_field, constraints_from, constraint_at, combination_at, terms_at}
-use Rattle.tv_r1cs_read.specs.Sections.{sections_of, sections_in, sections_from, section_at}
-use Rattle.tv_r1cs_read.specs.declared.why.ReadWhy.TheVariants.{BadMagic, BadVersion, Missing, Doubled, OtherPrime, BadCount, WireRange, NotCanonical, Truncated, TooWide, Trailing}
+use Rattle.tv_container.specs.Places.{wrong}
+use Rattle.tv_r1cs_read.specs.R1cs.{system_of, header_of, header_in, constraints_from, constraint_at, combination_at, terms_at}
+use Rattle.tv_container.specs.Field.{this_field}
+use Rattle.tv_container.specs.Sections.{sections_of, sections_in, sections_from, section_at}
+use Rattle.tv_container.specs.declared.why.ReadWhy.TheVariants.{BadMagic, BadVersion, Missing, Doubled, OtherPrime, BadCount, WireRange, NotCanonical, Truncated, TooWide, Trailing}
 
 -- the text `r1cs`, version 1 and three sections
 abbrev front : List ℕ

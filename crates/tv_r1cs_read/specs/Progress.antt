@@ -4,9 +4,9 @@ use Rattle.tv_core.specs.Constraints.{Constraint}
 use Rattle.tv_core.specs.declared.lines.Counts.{Counts}
 use Rattle.tv_r1cs_read.specs.declared.header.Header.{Header}
 use Rattle.tv_r1cs_read.specs.declared.rows.Row.{Row}
-use Rattle.tv_r1cs_read.specs.declared.why.ReadRefusal.{ReadRefusal}
-use Rattle.tv_r1cs_read.specs.Places.{Fault, ◌>>=◌, places}
-use Rattle.tv_r1cs_read.specs.Reading.{Piece, IsPiece}
+use Rattle.tv_container.specs.declared.why.ReadRefusal.{ReadRefusal}
+use Rattle.tv_container.specs.Places.{Fault, ◌>>=◌, places}
+use Rattle.tv_container.specs.Reading.{Piece, IsPiece}
 use Rattle.tv_r1cs_read.specs.R1cs.{HasRoom, constraints_from}
 use Rattle.tv_r1cs_read.specs.Rows.{constraint_of, terms_in, IsOver}
 

@@ -2,19 +2,12 @@
 use Rattle.std.specs.Prelude.{ℕ, zero, suc, ◌+◌, ◌-◌, ◌*◌, ◌≤◌, not, List, [], ◌∷◌, Option, Some, None, Result, Ok, nat_lt, ◌==◌, if◌then◌else◌}
 use Rattle.tv_core.specs.Constraints.{Combination, Constraint, System}
 use Rattle.tv_core.specs.declared.field.TheConstants.{P}
-use Rattle.tv_r1cs_read.specs.declared.why.ReadWhy.TheVariants.{OtherPrime, BadCount, WireRange, NotCanonical, TooWide}
-use Rattle.tv_r1cs_read.specs.Places.{Fault, ◌>>=◌, wrong, unless, number, fit}
+use Rattle.tv_container.specs.declared.why.ReadWhy.TheVariants.{OtherPrime, BadCount, WireRange, NotCanonical, TooWide}
+use Rattle.tv_container.specs.Field.{this_field}
+use Rattle.tv_container.specs.Places.{Fault, ◌>>=◌, wrong, unless, number, fit}
 use Rattle.tv_r1cs_read.specs.declared.header.Header.{Header}
-use Rattle.tv_r1cs_read.specs.declared.sections.Section.{Section}
-use Rattle.tv_r1cs_read.specs.Sections.{section_of, sections_of, wanted}
-
--- a section 1 of this size says that the field is this one: the size of a number, 8, and the prime
-unfoldable pub this_field : List ℕ → ℕ → Section → Result (Unit {0}) Fault
-this_field file wants one = do
-  _ ← unless (nat_lt one.size 4) one.at (BadCount one.size wants)
-  _ ← unless (not (number file 4 one.at == 8)) one.at OtherPrime
-  _ ← unless (not (one.size == wants)) one.at (BadCount one.size wants)
-  unless (not (number file 8 (one.at + 4) == P)) one.at OtherPrime
+use Rattle.tv_container.specs.declared.sections.Section.{Section}
+use Rattle.tv_container.specs.Sections.{section_of, sections_of, wanted}
 
 -- what section 1 counts of wires, public outputs and inputs and constraints, and section 2
 abbrev pub counted : List ℕ → Section → Section → Header

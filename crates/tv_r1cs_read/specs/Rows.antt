@@ -3,7 +3,7 @@ use Rattle.std.specs.Prelude.{◌≡◌, ℕ, ◌+◌, ◌<◌, List, ◌++◌, 
 use Rattle.std.specs.List.{All}
 use Rattle.tv_core.specs.Constraints.{Combination, Constraint}
 use Rattle.tv_r1cs_read.specs.declared.rows.Row.{Row}
-use Rattle.tv_r1cs_read.specs.Places.{Fault, ◌>>=◌}
+use Rattle.tv_container.specs.Places.{Fault, ◌>>=◌}
 use Rattle.tv_r1cs_read.specs.R1cs.{Read, terms_at}
 
 -- the combination that terms make: wires before coefficients there, behind them here

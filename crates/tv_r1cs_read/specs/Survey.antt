@@ -3,7 +3,7 @@ use Rattle.std.specs.Prelude.{ℕ, ◌+◌, ◌++◌, List, length, Result, Ok, 
 use Rattle.std.specs.List.{sum_by}
 use Rattle.tv_core.specs.Constraints.{Constraint, System}
 use Rattle.tv_core.specs.declared.lines.Counts.{Counts}
-use Rattle.tv_r1cs_read.specs.Places.{Fault, ◌>>=◌}
+use Rattle.tv_container.specs.Places.{Fault, ◌>>=◌}
 use Rattle.tv_r1cs_read.specs.R1cs.{system_of}
 
 -- how many terms a constraint has

@@ -1,15 +1,15 @@
 ghost use Rattle.std.specs.Prelude.{◌≡◌, ℕ, ◌+◌, ◌*◌, ◌≤◌, ◌<◌, ◌^◌, List, [], length, Some, Ok, Err, IfOk, IfErr, OnOk, MatchResult};
-ghost use Rattle.tv_r1cs_read.specs.Found.{first_of, AllEnd, AllFit};
-ghost use Rattle.tv_r1cs_read.specs.Places.{places};
-ghost use Rattle.tv_r1cs_read.specs.Reading.{bytes_of, Looks, Refuses, Gives, IsMissing, IsTold, IsPiece};
-ghost use Rattle.tv_r1cs_read.specs.R1cs.{HasRoom, this_field, checked, counted, header_in, header_of};
-ghost use Rattle.tv_r1cs_read.specs.Sections.{section_of, wanted};
-ghost use Rattle.tv_r1cs_read.specs.declared.sections.Section.{Section};
+ghost use Rattle.tv_container.specs.Found.{first_of, AllEnd, AllFit};
+ghost use Rattle.tv_container.specs.Places.{places};
+ghost use Rattle.tv_container.specs.Reading.{bytes_of, Looks, Refuses, Gives, IsMissing, IsTold, IsPiece};
+ghost use Rattle.tv_r1cs_read.specs.R1cs.{HasRoom, checked, counted, header_in, header_of};
+ghost use Rattle.tv_container.specs.Field.{this_field};
+ghost use Rattle.tv_container.specs.Sections.{section_of, wanted};
+ghost use Rattle.tv_container.specs.declared.sections.Section.{Section};
 
-use crate::sections::{Form, Found, Section, find_sections};
-use crate::why::{ReadRefusal, ReadWhy};
-use crate::window::Window;
-use tv_core::P;
+use tv_container::{
+    Form, Found, ReadRefusal, ReadWhy, Section, Window, find_sections, this_field, wanted,
+};
 use tv_files::Files;
 
 /// What section 1 counts, and section 2.
@@ -52,7 +52,7 @@ pub(crate) fn read_header<D: Files>(
 }
 
 // The header, from the sections.
-#[tactic(auto, using(crate::proofs::Chain::stopped_here))]
+#[tactic(auto, using(tv_container::proofs::Chain::stopped_here))]
 fn header_in<D: Files>(
     files: &mut D,
     name: &str,
@@ -77,65 +77,6 @@ fn header_in<D: Files>(
     this_field(files, name, window, &one, 40)?;
     let header = counted(files, name, window, &one, rows)?;
     checked(header, &one, found.three)
-}
-
-/// The section of a type, where it was found; where there is none it is missing at the file's end.
-pub fn wanted(section: Option<Section>, kind: u32, end: u64) -> Result<Section, ReadRefusal>
-    ensures gives { (file : List ℕ) → end ≡ length file → (sections : List Section) →
-        section ≡ section_of kind sections → Gives result (wanted kind file sections) }
-    ensures same { IfOk result (λ found. section ≡ Some found) }
-    ensures told { IfErr result IsTold }
-{
-    section.ok_or(ReadRefusal::Bad {
-        at: end,
-        why: ReadWhy::Missing { section: kind },
-    })
-}
-
-/// Whether section 1 is of this size, `wants`, and says that numbers are of this field: 8 bytes each,
-/// and the prime.
-#[tactic(auto, unfolding(crate::specs::R1cs::this_field))]
-pub fn this_field<D: Files>(
-    files: &mut D,
-    name: &str,
-    window: &mut Window,
-    one: &Section,
-    wants: u64,
-) -> Result<(), ReadRefusal>
-    requires room { 12 ≤ wants }
-    ensures piece { (file : List ℕ) → bytes_of (D.seen files.old) name.now ≡ Some file →
-        IsPiece window.old file → OnOk result (IsPiece window.new file) }
-    ensures gives { (file : List ℕ) → bytes_of (D.seen files.old) name.now ≡ Some file → IsPiece window.old file →
-        one.now.at + one.now.size ≤ places file → Gives result (this_field file wants one.now) }
-    ensures size { OnOk result (one.now.size ≡ wants) }
-    ensures looks { Looks (D.seen files.old) (D.seen files.new) name.now result }
-{
-    let miscounted = ReadRefusal::Bad {
-        at: one.at,
-        why: ReadWhy::BadCount {
-            has: one.size,
-            wants,
-        },
-    };
-    let other_prime = ReadRefusal::Bad {
-        at: one.at,
-        why: ReadWhy::OtherPrime,
-    };
-    if one.size < 4 {
-        return Err(miscounted);
-    }
-    window.fit(files, name, one.at, 4)?;
-    if window.word(one.at) != 8 {
-        return Err(other_prime);
-    }
-    if one.size != wants {
-        return Err(miscounted);
-    }
-    window.fit(files, name, one.at, 12)?;
-    if window.long(one.at + 4) != P {
-        return Err(other_prime);
-    }
-    Ok(())
 }
 
 // What section 1, of 40 bytes, counts.

@@ -6,14 +6,8 @@ mod header;
 mod progress;
 mod reader;
 mod rows;
-mod sections;
-mod why;
-mod window;
 
-pub use header::{Header, this_field, wanted};
+pub use header::Header;
 pub use progress::Progress;
 pub use reader::{SystemReader, Unread, survey};
 pub use rows::{Row, Terms};
-pub use sections::{Form, Found, Section, find_sections};
-pub use why::{ReadRefusal, ReadWhy};
-pub use window::Window;

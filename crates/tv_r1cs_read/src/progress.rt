@@ -1,15 +1,14 @@
 ghost use Rattle.std.specs.Prelude.{◌≡◌, ℕ, ◌+◌, ◌≤◌, List, [], Some, None, Ok, Err, IfOk, IfErr, OnOk, MatchResult};
 ghost use Rattle.tv_r1cs_read.specs.Progress.{ahead, counts_of, Follows, IsBegun, WentOn, GivesNext};
 ghost use Rattle.tv_r1cs_read.specs.R1cs.{header_of};
-ghost use Rattle.tv_r1cs_read.specs.Reading.{bytes_of, Looks, Refuses, IsMissing, IsTold};
+ghost use Rattle.tv_container.specs.Reading.{bytes_of, Looks, Refuses, IsMissing, IsTold};
 ghost use Rattle.tv_r1cs_read.specs.Rows.{terms_in};
-ghost use Rattle.tv_r1cs_read.specs.declared.why.ReadRefusal.{ReadRefusal};
+ghost use Rattle.tv_container.specs.declared.why.ReadRefusal.{ReadRefusal};
 
 use crate::header::{Header, read_header};
 use crate::rows::{Bounds, Row, read_row};
-use crate::why::{ReadRefusal, ReadWhy};
-use crate::window::Window;
 use std::marker::Model;
+use tv_container::{ReadRefusal, ReadWhy, Window};
 use tv_core::Counts;
 use tv_files::Files;
 
@@ -99,7 +98,7 @@ impl Progress {
     }
 
     // Reads the next constraint.
-    #[tactic(auto, using(crate::proofs::Chain::stopped_here))]
+    #[tactic(auto, using(tv_container::proofs::Chain::stopped_here))]
     fn advance<D: Files>(
         &mut self,
         files: &mut D,

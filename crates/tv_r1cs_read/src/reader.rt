@@ -1,14 +1,14 @@
 ghost use Rattle.std.specs.Prelude.{◌≡◌, ℕ, List, Some, None, Ok, Err, Option, IfOk, IfErr, OnOk, MatchResult};
 ghost use Rattle.tv_r1cs_read.specs.Progress.{ahead, counts_of, Follows, IsBegun, WentOn, WentOnBy, GivesNext, GivesRow};
 ghost use Rattle.tv_r1cs_read.specs.R1cs.{header_of};
-ghost use Rattle.tv_r1cs_read.specs.Reading.{bytes_of, Looks, Stopped, Gives, Refuses, IsMissing};
+ghost use Rattle.tv_container.specs.Reading.{bytes_of, Looks, Stopped, Gives, Refuses, IsMissing};
 ghost use Rattle.tv_r1cs_read.specs.Survey.{survey_of};
-ghost use Rattle.tv_r1cs_read.specs.declared.why.ReadRefusal.{ReadRefusal};
+ghost use Rattle.tv_container.specs.declared.why.ReadRefusal.{ReadRefusal};
 
 use crate::progress::Progress;
 use crate::rows::Row;
-use crate::why::ReadRefusal;
 use std::alloc::Global;
+use tv_container::ReadRefusal;
 use tv_core::Counts;
 use tv_files::Files;
 

@@ -1,15 +1,14 @@
 ghost use Rattle.std.specs.Prelude.{◌≡◌, ℕ, ◌+◌, ◌-◌, ◌*◌, ◌≤◌, ◌<◌, ◌^◌, List, [], ◌∷◌, ◌++◌, length, Some, Ok, Result, IfOk, IfErr, OnOk, MatchResult};
 ghost use Rattle.std.specs.List.{All};
 ghost use Rattle.tv_core.specs.Constraints.{Combination};
-ghost use Rattle.tv_r1cs_read.specs.Places.{Fault, fit, places};
-ghost use Rattle.tv_r1cs_read.specs.Reading.{bytes_of, Looks, Refuses, Gives, Holds, IsTold, IsPiece};
+ghost use Rattle.tv_container.specs.Places.{Fault, fit, places};
+ghost use Rattle.tv_container.specs.Reading.{bytes_of, Looks, Refuses, Gives, Holds, IsTold, IsPiece};
 ghost use Rattle.tv_r1cs_read.specs.R1cs.{Read, combination_at, constraint_at};
 ghost use Rattle.tv_r1cs_read.specs.Rows.{combination_of, constraint_of, terms_in, IsAhead, IsOver};
 
-use crate::why::{ReadRefusal, ReadWhy};
-use crate::window::Window;
 use std::alloc::{AllocFailed, Global};
 use std::marker::Model;
+use tv_container::{ReadRefusal, ReadWhy, Window};
 use tv_core::F;
 use tv_files::Files;
 

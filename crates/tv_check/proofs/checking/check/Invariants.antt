@@ -1,7 +1,7 @@
 use Rattle.std.proofs.Common.{◌≡◌, ℕ, ◌+◌, List, Some, None, length}
 use Rattle.tv_core.specs.Constraints.{Constraint}
 use Rattle.tv_r1cs_read.specs.Progress.{ahead, Follows}
-use Rattle.tv_r1cs_read.specs.Reading.{bytes_of}
+use Rattle.tv_container.specs.Reading.{bytes_of}
 use Rattle.tv_r1cs_read.specs.Survey.{HasRead}
 use Rattle.tv_check.specs.Verdict.{judge}
 use Rattle.tv_check.proofs.Trying.{so_far}

@@ -1,8 +1,8 @@
 use Rattle.std.proofs.Common.{◌+◌, ◌≤◌, ap, sym, ◌∙◌, arith}
-use Rattle.tv_r1cs_read.specs.Places.{places}
+use Rattle.tv_container.specs.Places.{places}
 use Rattle.std.proofs.lemmas.Result.{err_from_is_err_and}
-use Rattle.tv_r1cs_read.proofs.Chain.{refuses_any}
-use Rattle.tv_r1cs_read.proofs.SectionLemmas.{header_in-one, header_in-two, header_in-field, header_in-checked}
+use Rattle.tv_container.proofs.Chain.{refuses_any}
+use Rattle.tv_r1cs_read.proofs.HeaderLemmas.{header_in-one, header_in-two, header_in-field, header_in-checked}
 use Rattle.tv_r1cs_read.proofs.header.header_in.Goals as goal
 
 pub returns-clause-gives : goal.returns-clause-gives

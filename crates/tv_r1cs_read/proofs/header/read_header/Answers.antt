@@ -1,5 +1,5 @@
 use Rattle.tv_r1cs_read.specs.R1cs.{header_of}
-use Rattle.tv_r1cs_read.proofs.SectionLemmas.{sections_of-fit}
+use Rattle.tv_container.proofs.SectionLemmas.{sections_of-fit}
 use Rattle.tv_r1cs_read.proofs.header.read_header.Goals as goal
 
 pub returns-clause-gives : goal.returns-clause-gives

@@ -2,7 +2,7 @@ use Rattle.std.proofs.Common.{◌≡◌, ℕ, List, Some, None}
 use Rattle.std.specs.List.{sum_by}
 use Rattle.tv_core.specs.Constraints.{Constraint}
 use Rattle.tv_r1cs_read.specs.Progress.{ahead, Follows}
-use Rattle.tv_r1cs_read.specs.Reading.{bytes_of}
+use Rattle.tv_container.specs.Reading.{bytes_of}
 use Rattle.tv_r1cs_read.specs.Survey.{HasRead, terms_of}
 use Rattle.tv_r1cs_read.proofs.reader.survey.Given as goal
 

@@ -1,8 +1,8 @@
 use Rattle.std.proofs.Common.{◌≡◌, ℕ, ◌+◌, ◌*◌, ◌<◌, ◌≤◌, List, length, Result, Some}
 use Rattle.std.specs.List.{All}
 use Rattle.tv_core.specs.Constraints.{Combination}
-use Rattle.tv_r1cs_read.specs.Places.{Fault, places}
-use Rattle.tv_r1cs_read.specs.Reading.{bytes_of, IsPiece}
+use Rattle.tv_container.specs.Places.{Fault, places}
+use Rattle.tv_container.specs.Reading.{bytes_of, IsPiece}
 use Rattle.tv_r1cs_read.specs.R1cs.{Read}
 use Rattle.tv_r1cs_read.specs.Rows.{IsAhead}
 use Rattle.tv_r1cs_read.proofs.rows.read_terms.Given as goal

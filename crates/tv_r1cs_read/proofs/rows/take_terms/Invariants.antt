@@ -1,8 +1,8 @@
 use Rattle.std.proofs.Common.{◌≡◌, ℕ, ◌+◌, ◌-◌, ◌*◌, ◌<◌, ◌≤◌, List, length, Result}
 use Rattle.std.specs.List.{All}
 use Rattle.tv_core.specs.Constraints.{Combination}
-use Rattle.tv_r1cs_read.specs.Places.{Fault}
-use Rattle.tv_r1cs_read.specs.Reading.{IsPiece}
+use Rattle.tv_container.specs.Places.{Fault}
+use Rattle.tv_container.specs.Reading.{IsPiece}
 use Rattle.tv_r1cs_read.specs.R1cs.{Read}
 use Rattle.tv_r1cs_read.specs.Rows.{IsAhead}
 use Rattle.tv_r1cs_read.proofs.rows.take_terms.Given as goal

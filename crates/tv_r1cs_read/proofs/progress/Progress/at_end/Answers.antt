@@ -1,5 +1,5 @@
 use Rattle.std.proofs.Common.{◌≡◌, ◌+◌, arith}
-use Rattle.tv_r1cs_read.proofs.Chain.{refuses_wrong}
+use Rattle.tv_container.proofs.Chain.{refuses_wrong}
 use Rattle.tv_r1cs_read.proofs.Constraints.{constraints_from-end, constraints_from-surplus}
 use Rattle.tv_r1cs_read.proofs.progress.Progress.at_end.Goals as goal
 

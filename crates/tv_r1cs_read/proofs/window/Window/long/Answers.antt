@@ -1,7 +1,0 @@
-use Rattle.std.proofs.Common.{arith}
-use Rattle.tv_r1cs_read.proofs.Pieces.{number_held}
-use Rattle.tv_r1cs_read.proofs.window.Window.long.Goals as goal
-
-pub returns : goal.returns
-returns c = λ file piece.
-    rw c.long_at.ensures (number_held _ file _ _ _ 8 (omega (arith, c.self.invariant)) (rw (← c.self.view_is) at piece) (rw (← c.self.view_is) at c.requires))
