@@ -1,0 +1,62 @@
+-- A constraint that is written, and one that is refused.
+use Rattle.std.proofs.Common.{◌≡◌, ℕ, ◌+◌, ◌<◌, ◌≤◌, List, [], ◌∷◌, ◌++◌, take, append_assoc, append-nil, ap, refl, sym, ◌∙◌, arith}
+use Rattle.std.proofs.lemmas.Grind.{flat_map-append}
+use Rattle.std.proofs.lemmas.List.{length-append}
+use Rattle.std.proofs.lemmas.List.Elements.{All-nil, All-cons, All-push, All-weaker}
+use Rattle.std.specs.List.{All}
+use Rattle.tv_container.specs.Writing.{Adds, Passes}
+use Rattle.tv_core.specs.Combinations.{top}
+use Rattle.tv_core.specs.Constraints.{Combination, Constraint}
+use Rattle.tv_r1cs_write.specs.Bytes.{head_bytes, rows_bytes, constraint_bytes}
+use Rattle.tv_r1cs_write.specs.Narrow.{AreShort, IsNarrow, IsOver}
+use Rattle.tv_r1cs_write.specs.Streams.{Progress, Stream, Stands, Tried, begun_bytes}
+use Rattle.tv_container.proofs.Written.{has_more, has_front}
+
+-- the bytes of one more constraint stand behind those of the others
+pub begun_bytes-more : (old new : Progress) (list : List Constraint) (row : Constraint) → new.counts ≡ old.counts → new.labels ≡ old.labels →
+    begun_bytes old list ++ constraint_bytes row ≡ begun_bytes new (list ++ row ∷ [])
+begun_bytes-more old new list row counts labels =
+    append_assoc (head_bytes old.counts old.labels) (rows_bytes list) (constraint_bytes row)
+    ∙ ap (λ rows. head_bytes old.counts old.labels ++ rows)
+    (sym (flat_map-append constraint_bytes list (row ∷ []) ∙ ap (λ last. rows_bytes list ++ last) (append-nil (constraint_bytes row))))
+    ∙ rw (counts, labels) refl
+
+-- the wires of a combination are below whatever is above its greatest
+over_top : (wires : ℕ) (x : Combination) → top x ≤ wires → IsOver wires x
+over_top wires [] within = All-nil (λ t. t.1 < wires)
+over_top wires (t ∷ rest) within = All-cons (λ t. t.1 < wires) t rest (omega arith) (over_top wires rest (omega arith))
+
+pub narrow : (wires : ℕ) (row : Constraint) → AreShort row → top row.a ≤ wires → top row.b ≤ wires → top row.c ≤ wires → IsNarrow wires row
+narrow wires row short a b c = record { short = short; a = over_top wires row.a a; b = over_top wires row.b b; c = over_top wires row.c c }
+
+-- and below whatever is above that
+over_more : (wires : ℕ) (x : Combination) → IsOver wires x → IsOver (wires + 1) x
+over_more wires x over = All-weaker (λ t. t.1 < wires) (λ t. t.1 < wires + 1) (λ t below. omega arith) x over
+
+pub narrow_more : (wires : ℕ) (list : List Constraint) → All (IsNarrow wires) list → All (IsNarrow (wires + 1)) list
+narrow_more wires list all = All-weaker (IsNarrow wires) (IsNarrow (wires + 1))
+    (λ row is. record { short = is.short; a = over_more wires row.a is.a; b = over_more wires row.b is.b; c = over_more wires row.c is.c }) list all
+
+-- a sink that has written one more constraint stands for it too
+pub stands_more : (old new : Stream) (list : List Constraint) (row : Constraint) → Stands old list → IsNarrow old.progress.wires row → new.name ≡ old.name →
+    new.progress ≡ record old.progress { held = new.progress.held; constraints = old.progress.constraints + 1 } →
+    Passes old.outside new.outside old.name (old.progress.held ++ constraint_bytes row) new.progress.held → Stands new (list ++ row ∷ [])
+stands_more old new list row stands is_narrow name progress passes = record {
+  counted =
+      ap (λ (p : Progress). p.constraints) progress
+      ∙ ap (λ n. n + 1) stands.counted
+      ∙ sym (length-append list (row ∷ []));
+  whole = ap (λ (p : Progress). p.broken) progress ∙ stands.whole;
+  narrow = rw (ap (λ (p : Progress). p.wires) progress) (All-push (IsNarrow old.progress.wires) list row stands.narrow is_narrow);
+  written = rw (name, ← begun_bytes-more old.progress new.progress list row (ap (λ (p : Progress). p.counts) progress) (ap (λ (p : Progress). p.labels) progress))
+      (has_more old.outside new.outside old.name old.progress.held _ (constraint_bytes row) new.progress.held stands.written passes);
+}
+
+-- a sink that was refused a constraint has tried it
+pub tried_more : (old new : Stream) (list : List Constraint) (row : Constraint) → Stands old list → new.name ≡ old.name →
+    new.progress.counts ≡ old.progress.counts → new.progress.labels ≡ old.progress.labels →
+    ((n : ℕ) × Adds old.outside new.outside old.name (take n (old.progress.held ++ constraint_bytes row))) → Tried new (list ++ row ∷ [])
+tried_more old new list row stands name counts labels added = record {
+  written = rw (name, ← begun_bytes-more old.progress new.progress list row counts labels)
+      (has_front old.outside new.outside old.name old.progress.held _ (constraint_bytes row) stands.written added);
+}

@@ -1,0 +1,92 @@
+-- Files as a whole, from before they were created.
+use Rattle.std.proofs.Common.{◌≡◌, ◌⊎◌, inl, inr, ℕ, min, List, [], ◌++◌, length, take, Option, Some, None, option_map, append_assoc, ap, refl, sym, ◌∙◌, arith}
+use Rattle.std.proofs.lemmas.Grind.{flat_map-append}
+use Rattle.std.proofs.lemmas.List.{take-append-le, take_min}
+use Rattle.std.proofs.Math.Seq.{take-append_seam}
+use Rattle.tv_container.specs.Bytes.{front_bytes, section_bytes, section_head}
+use Rattle.tv_core.specs.Constraints.{Constraint, System}
+use Rattle.tv_core.specs.Meanings.{terms_in}
+use Rattle.tv_core.specs.declared.lines.Counts.{Counts}
+use Rattle.tv_files.proofs.NamedFiles.{with_bytes-here}
+use Rattle.tv_files.proofs.Written.{written_grows}
+use Rattle.tv_files.specs.Outside.{Names, with_bytes}
+use Rattle.tv_files.specs.Whole.{HasBytes}
+use Rattle.tv_r1cs_write.specs.Bytes.{constraint_bytes, counts_bytes, head_bytes, label_bytes, rows_bytes, rows_size}
+use Rattle.tv_r1cs_write.specs.Laws.{FilesAreFronts, FilesAreOfSystems, FilesAreWhole}
+use Rattle.tv_r1cs_write.specs.Streams.{Progress, begun_bytes, finished_bytes}
+use Rattle.tv_r1cs_write.proofs.Sizes.{length-rows_bytes}
+
+-- each section is as long as its header says
+pub files_of_systems : FilesAreOfSystems
+files_of_systems counts count list labels are =
+    let system : System = record { wires = counts.wires; outputs = counts.outputs; inputs = counts.inputs; constraints = list } in
+    let same : Counts = record { wires = counts.wires; outputs = counts.outputs; inputs = counts.inputs; constraints = length list; terms = terms_in list } in
+    let front = front_bytes 0x73633172 1 3 in
+    let one = section_bytes 1 (counts_bytes counts count) in
+    let rest = rows_bytes list ++ section_bytes 3 (label_bytes labels) in
+    let size : rows_size counts ≡ length (rows_bytes list) = omega (arith, are.constraints, are.terms, length-rows_bytes list) in
+    append_assoc front (one ++ section_head 2 (rows_size counts)) rest
+    ∙ ap (λ l. front ++ l) (append_assoc one (section_head 2 (rows_size counts)) rest)
+    ∙ ap (λ n. front ++ (one ++ (section_head 2 n ++ rest))) size
+    ∙ ap (λ l. front ++ (one ++ l)) (sym (append_assoc (section_head 2 (length (rows_bytes list))) (rows_bytes list) (section_bytes 3 (label_bytes labels))))
+    ∙ rw (are.constraints) refl
+
+-- the bytes before the labels are the first of each longer list's file
+fronts : (progress : Progress) (list more : List Constraint) (labels : List ℕ) →
+    finished_bytes progress (list ++ more) labels ≡ begun_bytes progress list ++ (rows_bytes more ++ section_bytes 3 (label_bytes labels))
+fronts progress list more labels =
+    ap (λ rows. head_bytes progress.counts progress.labels ++ (rows ++ section_bytes 3 (label_bytes labels))) (flat_map-append constraint_bytes list more)
+    ∙ ap (λ l. head_bytes progress.counts progress.labels ++ l) (append_assoc (rows_bytes list) (rows_bytes more) (section_bytes 3 (label_bytes labels)))
+    ∙ sym (append_assoc (head_bytes progress.counts progress.labels) (rows_bytes list) (rows_bytes more ++ section_bytes 3 (label_bytes labels)))
+
+-- the first few bytes are the first few of longer bytes
+front_of : (n : ℕ) (front rest : List ℕ) → take n front ≡ take (min n (length front)) (front ++ rest)
+front_of n front rest =
+    sym (take-append-le (min n (length front)) front rest (omega arith) ∙ take_min n front)
+
+pub files_are_fronts : FilesAreFronts
+files_are_fronts sink list more labels (inl stands) = λ files told.
+    let has = stands.written files told in
+    let rest = rows_bytes more ++ section_bytes 3 (label_bytes labels) in
+    let whole : finished_bytes sink.progress (list ++ more) labels ≡ has.0 ++ (sink.progress.held ++ rest) =
+    fronts sink.progress list more labels ∙ ap (λ l. l ++ rest) (sym has.2) ∙ append_assoc has.0 sink.progress.held rest in
+    (length has.0, has.1 ∙ ap Some (sym (take-append_seam has.0 (sink.progress.held ++ rest)) ∙ ap (take (length has.0)) (sym whole)))
+files_are_fronts sink list more labels (inr tried) = λ files told.
+    let has = tried.written files told in
+    let rest = rows_bytes more ++ section_bytes 3 (label_bytes labels) in (
+      min has.0 (length (begun_bytes sink.progress list)),
+      has.1 ∙ ap Some (front_of has.0 (begun_bytes sink.progress list) rest
+          ∙ ap (take (min has.0 (length (begun_bytes sink.progress list)))) (sym (fronts sink.progress list more labels))),
+    )
+
+-- a name that was created has no bytes, and what it has later is what was appended
+pub files_are_whole : FilesAreWhole
+files_are_whole old begun new name bytes creates appends has = record {
+  whole = by_contents old.contents refl;
+  only = record {
+    said = appends.said ∙ creates.said;
+    absent = λ files told. by_absent files told (appends.there (with_bytes name [] files) (creates.done ∙ ap (option_map (with_bytes name [])) told));
+    later = record {
+      read_faults = omega (arith, creates.later.read_faults, appends.later.read_faults);
+      write_faults = omega (arith, creates.later.write_faults, appends.later.write_faults);
+      say_faults = omega (arith, creates.later.say_faults, appends.later.say_faults);
+      wants = omega (arith, creates.later.wants, appends.later.wants);
+      absent = omega (arith, creates.later.absent, appends.later.absent);
+    };
+  };
+}
+  where
+    grown : HasBytes old new name appends.more
+    grown = written_grows old begun new name [] appends.more creates.done appends.contents
+
+    by_contents : (contents : Option Names) → old.contents ≡ contents → HasBytes old new name bytes
+    by_contents None is = grown ∙ ap (option_map (with_bytes name appends.more)) is ∙ sym (ap (option_map (with_bytes name bytes)) is)
+    by_contents (Some files) is =
+        let told : new.contents ≡ Some (with_bytes name appends.more files) = grown ∙ ap (option_map (with_bytes name appends.more)) is in
+        let both : Some appends.more ≡ Some bytes = sym (with_bytes-here name appends.more files) ∙ has (with_bytes name appends.more files) told in
+        let same : appends.more ≡ bytes = cc in
+        grown ∙ ap (λ l. option_map (with_bytes name l) old.contents) same
+
+    by_absent : (files : Names) → old.contents ≡ Some files → (new.absent ≡ begun.absent) ⊎ (with_bytes name [] files name ≡ None) → new.absent ≡ old.absent
+    by_absent files told (inl same) = same ∙ creates.absent
+    by_absent files told (inr none) = let here : Some [] ≡ None = sym (with_bytes-here name [] files) ∙ none in cc

@@ -1,0 +1,6 @@
+mod Constraints
+pub mod Files
+mod Finishing
+mod Rows
+pub mod Sizes
+mod Systems

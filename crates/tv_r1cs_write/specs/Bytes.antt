@@ -1,0 +1,75 @@
+-- The bytes of a constraint system: the r1cs binary format, version 1, its sections in the order 1, 2, 3.
+use Rattle.std.specs.Prelude.{◌≡◌, ℕ, ◌+◌, ◌*◌, List, ◌++◌, length}
+use Rattle.std.specs.List.{flat_map, range_with_len}
+use Rattle.tv_container.specs.Bytes.{eight_bytes, four_bytes, front_bytes, section_head, section_bytes, field_bytes}
+use Rattle.tv_core.specs.Constraints.{Combination, Constraint, System}
+use Rattle.tv_core.specs.Meanings.{terms_in}
+use Rattle.tv_core.specs.declared.lines.Counts.{Counts}
+
+-- a term: four bytes of the wire, and eight of the coefficient
+abbrev pub term_bytes : ℕ × ℕ → List ℕ
+term_bytes term = four_bytes term.1 ++ eight_bytes term.0
+
+-- terms, one after another
+abbrev pub terms_bytes : Combination → List ℕ
+terms_bytes terms = flat_map term_bytes terms
+
+-- a combination: four bytes that count its terms, and the terms
+abbrev pub combination_bytes : Combination → List ℕ
+combination_bytes terms = four_bytes (length terms) ++ terms_bytes terms
+
+-- a constraint: its three combinations
+abbrev pub constraint_bytes : Constraint → List ℕ
+constraint_bytes row = combination_bytes row.a ++ (combination_bytes row.b ++ combination_bytes row.c)
+
+-- the content of section 2: the constraints in order
+abbrev pub rows_bytes : List Constraint → List ℕ
+rows_bytes list = flat_map constraint_bytes list
+
+-- what section 1 counts: wires, public outputs, public inputs and private inputs, of which there are said
+-- to be none, labels, and constraints
+abbrev pub numbers_bytes : Counts → ℕ → List ℕ
+numbers_bytes counts labels =
+    four_bytes counts.wires ++ (four_bytes counts.outputs ++ (four_bytes counts.inputs ++
+    (four_bytes 0 ++ (eight_bytes labels ++ four_bytes counts.constraints))))
+
+-- the content of section 1: the field, and what it counts
+abbrev pub counts_bytes : Counts → ℕ → List ℕ
+counts_bytes counts labels = field_bytes ++ numbers_bytes counts labels
+
+-- how many bytes section 2 has: the counts of the combinations, and the terms
+abbrev pub rows_size : Counts → ℕ
+rows_size counts = 12 * counts.constraints + 12 * counts.terms
+
+-- all that stands before the first constraint
+abbrev pub head_bytes : Counts → ℕ → List ℕ
+head_bytes counts labels =
+    front_bytes 0x73633172 1 3 ++ (section_bytes 1 (counts_bytes counts labels) ++ section_head 2 (rows_size counts))
+
+-- the content of section 3: the wires' labels, eight bytes each
+abbrev pub label_bytes : List ℕ → List ℕ
+label_bytes labels = flat_map eight_bytes labels
+
+-- the labels 0, 1, .. of so many wires
+abbrev pub own_label_bytes : ℕ → List ℕ
+own_label_bytes wires = label_bytes (range_with_len 0 wires)
+
+-- a file of these counts: what stands before the constraints, the constraints, and the labels
+abbrev pub file_bytes : Counts → ℕ → List Constraint → List ℕ → List ℕ
+file_bytes counts count list labels = head_bytes counts count ++ (rows_bytes list ++ section_bytes 3 (label_bytes labels))
+
+-- the counts are those of the list
+pub record AreCounts (counts : Counts) (list : List Constraint) : Type 0 where
+  pub constraints : counts.constraints ≡ length list
+  pub terms : counts.terms ≡ terms_in list
+
+-- the bytes of a system whose wires have these labels: the three sections, each as long as its header says
+abbrev pub system_bytes : System → ℕ → List ℕ → List ℕ
+system_bytes system count labels =
+    front_bytes 0x73633172 1 3 ++ (section_bytes 1 (counts_bytes (record {
+      wires = system.wires;
+      outputs = system.outputs;
+      inputs = system.inputs;
+      constraints = length system.constraints;
+      terms = terms_in system.constraints;
+    }) count) ++ (section_bytes 2 (rows_bytes system.constraints) ++ section_bytes 3 (label_bytes labels)))

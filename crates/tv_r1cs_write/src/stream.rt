@@ -1,0 +1,136 @@
+ghost use Rattle.std.specs.Prelude.{◌≡◌, ◌+◌, ◌≤◌, ◌<◌, ◌^◌, [], length, Ok, IfOk, IfErr};
+ghost use Rattle.std.specs.List.{range_with_len};
+ghost use Rattle.tv_files.specs.Calls.{Creates};
+ghost use Rattle.tv_r1cs_write.specs.Streams.{begun, stream_meaning, Finishes, Stands};
+ghost use Rattle.tv_container.specs.Written.{NotCreated};
+
+use crate::writer::Writer;
+use tv_container::{NotBegun, sink_fault};
+use tv_core::{Counts, Lc, Put, Sink, Wire};
+use tv_files::Files;
+
+/// A sink that writes each constraint to an r1cs file, which is lent to it.
+///
+/// It takes no memory: it holds at most 4,096 bytes, which it appends when there are so many. What the
+/// file begins with counts the constraints and their terms, so these are told before the first.
+#[derive(Drop)]
+pub struct StreamSink<'a, D: Files> {
+    pub(crate) files: &'a mut D,
+    pub(crate) name: &'a str,
+    pub(crate) writer: Writer,
+}
+
+impl<'a, D: Files> StreamSink<'a, D> {
+    /// Creates the file of a system with these counts, whose wires have the labels 0, 1, ..
+    ///
+    /// The next wire is the first behind the public ones. A refusal gives the files back; the name is then
+    /// as it was, or has no bytes.
+    pub fn begin(
+        files: &'a mut D,
+        name: &'a str,
+        counts: Counts,
+    ) -> Result<StreamSink<'a, D>, NotBegun<'a, D>>
+        requires wires { 1 + counts.outputs + counts.inputs ≤ counts.wires }
+        requires terms { counts.terms < 2 ^ 60 }
+        ensures ok_same { IfOk result (λ sink. sink.files.ghost_name ≡ files.entry.ghost_name) }
+        ensures ok_creates { IfOk result (λ sink. Creates (D.seen files.old) (D.seen sink.files.now) name.now (Ok tt)) }
+        ensures name { IfOk result (λ sink. sink.name.now ≡ name.now) }
+        ensures begun { IfOk result (λ sink. sink.writer ≡ begun counts counts.wires) }
+        ensures stands { IfOk result (λ sink. Stands (record { outside = D.seen sink.files.now; borrow = sink.files.ghost_name; name = sink.name.now; progress = sink.writer }) []) }
+        ensures err_same { IfErr result (λ refused. refused.files.ghost_name ≡ files.entry.ghost_name) }
+        ensures err_creates { IfErr result (λ refused. NotCreated (D.seen files.old) (D.seen refused.files.now) name.now refused.why) }
+    {
+        StreamSink::begin_labelled(files, name, counts, u64::from(counts.wires))
+    }
+
+    /// Creates the file of a system with these counts, which tells this number of labels: that of a
+    /// greater system, of whose wires these are some. Otherwise as `begin`.
+    pub fn begin_labelled(
+        files: &'a mut D,
+        name: &'a str,
+        counts: Counts,
+        labels: u64,
+    ) -> Result<StreamSink<'a, D>, NotBegun<'a, D>>
+        requires wires { 1 + counts.outputs + counts.inputs ≤ counts.wires }
+        requires terms { counts.terms < 2 ^ 60 }
+        ensures ok_same { IfOk result (λ sink. sink.files.ghost_name ≡ files.entry.ghost_name) }
+        ensures ok_creates { IfOk result (λ sink. Creates (D.seen files.old) (D.seen sink.files.now) name.now (Ok tt)) }
+        ensures name { IfOk result (λ sink. sink.name.now ≡ name.now) }
+        ensures begun { IfOk result (λ sink. sink.writer ≡ begun counts labels) }
+        ensures stands { IfOk result (λ sink. Stands (record { outside = D.seen sink.files.now; borrow = sink.files.ghost_name; name = sink.name.now; progress = sink.writer }) []) }
+        ensures err_same { IfErr result (λ refused. refused.files.ghost_name ≡ files.entry.ghost_name) }
+        ensures err_creates { IfErr result (λ refused. NotCreated (D.seen files.old) (D.seen refused.files.now) name.now refused.why) }
+    {
+        match files.create(name) {
+            Ok(()) => Ok(StreamSink {
+                files,
+                name,
+                writer: Writer::begin(counts, labels),
+            }),
+            Err(why) => Err(NotBegun {
+                files,
+                why: sink_fault(why),
+            }),
+        }
+    }
+
+    /// Writes the labels 0, 1, .. of the wires, and what is still held: the file is that of the list.
+    ///
+    /// After a refusal the file has a first part of these bytes.
+    pub fn finish(self) -> Put<()>
+        ensures { Finishes (record { outside = D.seen self.entry.files.now; borrow = self.entry.files.ghost_name; name = self.entry.name.now; progress = self.entry.writer })
+            (D.seen self.exit.0.now) (range_with_len 0 self.entry.writer.counts.wires) result }
+    {
+        let StreamSink {
+            files,
+            name,
+            mut writer,
+        } = self;
+        match writer.finish(files, name) {
+            Ok(()) => Ok(()),
+            Err(why) => Err(sink_fault(why)),
+        }
+    }
+
+    /// Writes these labels, one for each wire, and what is still held. Otherwise as `finish`.
+    pub fn finish_labelled(self, labels: &[u32]) -> Put<()>
+        requires { length labels.now ≡ self.writer.counts.wires }
+        ensures { Finishes (record { outside = D.seen self.entry.files.now; borrow = self.entry.files.ghost_name; name = self.entry.name.now; progress = self.entry.writer })
+            (D.seen self.exit.0.now) labels.now result }
+    {
+        let StreamSink {
+            files,
+            name,
+            mut writer,
+        } = self;
+        match writer.finish_labelled(files, name, labels) {
+            Ok(()) => Ok(()),
+            Err(why) => Err(sink_fault(why)),
+        }
+    }
+}
+
+impl<D: Files> Sink for StreamSink<'_, D> {
+    ghost meaning = { stream_meaning (λ s. record { outside = D.seen s.files.now; borrow = s.files.ghost_name; name = s.name.now; progress = s.writer }) };
+
+    fn wires(&self) -> u32 {
+        self.writer.wires()
+    }
+
+    #[tactic(auto, unfolding(tv_core::specs::Circuits::fresh))]
+    fn fresh(&mut self) -> Wire {
+        self.writer.fresh()
+    }
+
+    #[tactic(auto, unfolding(tv_core::specs::Circuits::put))]
+    fn put(&mut self, a: &Lc, b: &Lc, c: &Lc) -> Put<()> {
+        match self.writer.put(self.files, self.name, a, b, c) {
+            Ok(()) => Ok(()),
+            Err(why) => Err(sink_fault(why)),
+        }
+    }
+
+    ghost counted = { λ sink list stands. stands.counted };
+
+    ghost unbroken = { λ sink list stands. stands.whole };
+}
