@@ -4,11 +4,11 @@ use Rattle.std.proofs.lemmas.Bool.Decides.{nat_tests}
 use Rattle.std.proofs.lemmas.List.{take-take, drop-take, drop-drop, get_or-take, length-take}
 use Rattle.std.specs.Simd.{first_chunks}
 use Rattle.tv_core.specs.declared.field.TheConstants.{P}
-use Rattle.tv_r1cs_read.specs.declared.why.ReadRefusal.TheVariants.{Bad}
-use Rattle.tv_r1cs_read.specs.declared.why.ReadWhy.TheVariants.{NotCanonical}
-use Rattle.tv_r1cs_read.specs.Places.{Fault, number, wrong}
-use Rattle.tv_r1cs_read.specs.Reading.{Refuses}
-use Rattle.tv_r1cs_read.proofs.Chain.{refuses_wrong}
+use Rattle.tv_container.specs.declared.why.ReadRefusal.TheVariants.{Bad}
+use Rattle.tv_container.specs.declared.why.ReadWhy.TheVariants.{NotCanonical}
+use Rattle.tv_container.specs.Places.{Fault, number, wrong}
+use Rattle.tv_container.specs.Reading.{Refuses}
+use Rattle.tv_container.proofs.Chain.{refuses_wrong}
 use Rattle.tv_word.specs.Word.{spelled}
 use Rattle.tv_wtns.specs.Values.{AreWords, with_front, IsAhead}
 use Rattle.tv_wtns.specs.Wtns.{values_at}

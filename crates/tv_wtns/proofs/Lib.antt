@@ -2,3 +2,6 @@ pub mod Ahead
 pub mod Sections
 pub mod ValueLaws
 pub mod Vectors
+mod Giving
+mod Finishing
+pub mod Files

@@ -1,11 +1,11 @@
 -- An assignment, once what stands before its values is known.
 use Rattle.std.proofs.Common.{◌≡◌, ℕ, List, Ok, refl}
-use Rattle.tv_r1cs_read.specs.R1cs.{this_field}
-use Rattle.tv_r1cs_read.specs.Reading.{Refuses}
-use Rattle.tv_r1cs_read.specs.Sections.{wanted}
-use Rattle.tv_r1cs_read.specs.declared.sections.Section.{Section}
-use Rattle.tv_r1cs_read.specs.declared.why.ReadRefusal.{ReadRefusal}
-use Rattle.tv_r1cs_read.proofs.Chain.{refuses_first}
+use Rattle.tv_container.specs.Field.{this_field}
+use Rattle.tv_container.specs.Reading.{Refuses}
+use Rattle.tv_container.specs.Sections.{wanted}
+use Rattle.tv_container.specs.declared.sections.Section.{Section}
+use Rattle.tv_container.specs.declared.why.ReadRefusal.{ReadRefusal}
+use Rattle.tv_container.proofs.Chain.{refuses_first}
 use Rattle.tv_wtns.specs.Wtns.{values_at, counted, fills, assignment_in}
 
 -- where section 2 has the size of the counted values, the assignment is those values

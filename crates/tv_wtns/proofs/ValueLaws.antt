@@ -4,11 +4,11 @@ use Rattle.std.proofs.lemmas.Bool.Decides.{nat_tests}
 use Rattle.std.proofs.lemmas.List.Elements.{All-nil, All-cons}
 use Rattle.std.specs.List.{All}
 use Rattle.tv_core.specs.declared.field.TheConstants.{P}
-use Rattle.tv_r1cs_read.specs.Places.{◌>>=◌, number, unless}
-use Rattle.tv_r1cs_read.specs.R1cs.{this_field}
-use Rattle.tv_r1cs_read.specs.Sections.{sections_of, wanted}
-use Rattle.tv_r1cs_read.specs.declared.why.ReadWhy.TheVariants.{NotCanonical}
-use Rattle.tv_r1cs_read.proofs.Chain.{made}
+use Rattle.tv_container.specs.Places.{◌>>=◌, number, unless}
+use Rattle.tv_container.specs.Field.{this_field}
+use Rattle.tv_container.specs.Sections.{sections_of, wanted}
+use Rattle.tv_container.specs.declared.why.ReadWhy.TheVariants.{NotCanonical}
+use Rattle.tv_container.proofs.Chain.{made}
 use Rattle.tv_wtns.specs.Wtns.{values_at, counted, fills, assignment_in, assignment_of, AssignmentsAreBelow}
 
 canonical : (value at : ℕ) (done : Unit {0}) → unless (not (nat_lt value P)) at NotCanonical ≡ Ok done → value < P

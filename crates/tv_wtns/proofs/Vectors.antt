@@ -3,10 +3,10 @@ use Rattle.std.specs.Prelude.{◌≡◌, ℕ, List, [], ◌∷◌, ◌++◌, len
 use Rattle.std.specs.List.{flat_map}
 use Rattle.tv_core.specs.declared.field.TheConstants.{P}
 use Rattle.tv_word.specs.Word.{low_bytes}
-use Rattle.tv_r1cs_read.specs.Places.{wrong}
-use Rattle.tv_r1cs_read.specs.R1cs.{this_field}
-use Rattle.tv_r1cs_read.specs.Sections.{sections_of, sections_in, sections_from, section_at}
-use Rattle.tv_r1cs_read.specs.declared.why.ReadWhy.TheVariants.{BadMagic, BadVersion, Missing, Doubled, OtherPrime, BadCount, NotCanonical, Truncated, Trailing}
+use Rattle.tv_container.specs.Places.{wrong}
+use Rattle.tv_container.specs.Field.{this_field}
+use Rattle.tv_container.specs.Sections.{sections_of, sections_in, sections_from, section_at}
+use Rattle.tv_container.specs.declared.why.ReadWhy.TheVariants.{BadMagic, BadVersion, Missing, Doubled, OtherPrime, BadCount, NotCanonical, Truncated, Trailing}
 use Rattle.tv_wtns.specs.Wtns.{assignment_of, assignment_in, values_at}
 
 -- the values 1, 3, 5 and 15

@@ -1,4 +1,7 @@
-pub mod Wtns
+pub mod Bytes
+pub mod Laws
+pub mod Takers
 pub mod Values
-pub use Rattle.tv_r1cs_read.specs.Places
-pub use Rattle.tv_r1cs_read.specs.Reading
+pub mod Wtns
+pub use Rattle.tv_container.specs.Places
+pub use Rattle.tv_container.specs.Reading

@@ -1,7 +1,7 @@
 -- What is kept of values that are being read.
 use Rattle.std.specs.Prelude.{◌≡◌, ℕ, ◌+◌, ◌*◌, ◌<◌, List, ◌++◌, length, slice_index_or, Result, Ok}
 use Rattle.tv_word.specs.Word.{spelled}
-use Rattle.tv_r1cs_read.specs.Places.{Fault, ◌>>=◌, number}
+use Rattle.tv_container.specs.Places.{Fault, ◌>>=◌, number}
 use Rattle.tv_wtns.specs.Wtns.{values_at}
 
 -- words of eight bytes spell the numbers that the file has from a place on

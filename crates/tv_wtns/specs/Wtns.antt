@@ -2,11 +2,11 @@
 use Rattle.std.specs.Prelude.{◌≡◌, ℕ, zero, suc, ◌+◌, ◌*◌, ◌<◌, not, List, [], ◌∷◌, Result, Ok, nat_lt, ◌==◌}
 use Rattle.std.specs.List.{All}
 use Rattle.tv_core.specs.declared.field.TheConstants.{P}
-use Rattle.tv_r1cs_read.specs.Places.{Fault, ◌>>=◌, unless, number}
-use Rattle.tv_r1cs_read.specs.R1cs.{this_field}
-use Rattle.tv_r1cs_read.specs.Sections.{sections_of, wanted}
-use Rattle.tv_r1cs_read.specs.declared.sections.Section.{Section}
-use Rattle.tv_r1cs_read.specs.declared.why.ReadWhy.TheVariants.{BadCount, NotCanonical}
+use Rattle.tv_container.specs.Places.{Fault, ◌>>=◌, unless, number}
+use Rattle.tv_container.specs.Field.{this_field}
+use Rattle.tv_container.specs.Sections.{sections_of, wanted}
+use Rattle.tv_container.specs.declared.sections.Section.{Section}
+use Rattle.tv_container.specs.declared.why.ReadWhy.TheVariants.{BadCount, NotCanonical}
 
 -- the values at a place, so many: eight bytes each, which spell a number below P
 unfoldable pub values_at : List ℕ → ℕ → ℕ → Result (List ℕ) Fault

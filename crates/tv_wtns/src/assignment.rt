@@ -3,20 +3,20 @@
 ghost use Rattle.std.specs.Prelude.{◌≡◌, ℕ, ◌+◌, ◌*◌, ◌≤◌, ◌<◌, List, length, Some, Ok, Err, IfOk, IfErr, OnOk, MatchResult};
 ghost use Rattle.std.specs.List.{All};
 ghost use Rattle.tv_core.specs.declared.field.TheConstants.{P};
-ghost use Rattle.tv_r1cs_read.specs.Found.{first_of, AllEnd, AllFit};
-ghost use Rattle.tv_r1cs_read.specs.Places.{places};
-ghost use Rattle.tv_r1cs_read.specs.Reading.{bytes_of, Looks, Refuses, Gives, IsMissing, IsPiece, IsTold};
-ghost use Rattle.tv_r1cs_read.specs.declared.sections.Section.{Section};
-ghost use Rattle.tv_r1cs_read.specs.declared.why.ReadRefusal.{ReadRefusal};
+ghost use Rattle.tv_container.specs.Found.{first_of, AllEnd, AllFit};
+ghost use Rattle.tv_container.specs.Places.{places};
+ghost use Rattle.tv_container.specs.Reading.{bytes_of, Looks, Refuses, Gives, IsMissing, IsPiece, IsTold};
+ghost use Rattle.tv_container.specs.declared.sections.Section.{Section};
+ghost use Rattle.tv_container.specs.declared.why.ReadRefusal.{ReadRefusal};
 ghost use Rattle.tv_wtns.specs.Wtns.{assignment_in, assignment_of, counted, fills, AssignmentsAreBelow};
 
 use crate::values::read_all;
 use std::alloc::Global;
-use tv_core::F;
-use tv_files::Files;
-use tv_r1cs_read::{
+use tv_container::{
     Form, Found, ReadRefusal, ReadWhy, Section, Window, find_sections, this_field, wanted,
 };
+use tv_core::F;
+use tv_files::Files;
 
 /// The form of an assignment's file: the text `wtns`, version 2, and one section of types 1 and 2.
 const WTNS: Form = Form {

@@ -1,12 +1,18 @@
-//! Reading an assignment from a wtns file, of any size and with its sections in any order. The layers
-//! above use `read_values`, whose clause `gives` says that it answers `assignment_of` the whole file: the
-//! values in order, or the file's first fault.
+//! Assignments in wtns files. `read_values` reads one from a file of any size, with its sections in any
+//! order: its clause `gives` says that it answers `assignment_of` the whole file, the values in order, or
+//! the file's first fault. `FileValues` writes one as its values come, and what was written is read.
 #![tactic(auto)]
 
 mod assignment;
+mod file_values;
+mod laws;
 mod values;
+mod writer;
 
 pub use assignment::{assignments_are_below_the_prime, read_values};
+pub use file_values::FileValues;
+pub use laws::{assignments_come_back, files_are_fronts, files_are_of_assignments};
+pub use writer::Writer;
 
 #[cfg(test)]
 mod tests;

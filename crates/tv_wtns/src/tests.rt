@@ -6,9 +6,9 @@ ghost use Rattle.tv_files.specs.Outside.{OnlyReads};
 use super::*;
 use std::alloc::Global;
 use std::test::Fail;
+use tv_container::{ReadRefusal, ReadWhy};
 use tv_core::F;
 use tv_files::{Files, MemFiles};
-use tv_r1cs_read::{ReadRefusal, ReadWhy};
 
 // The values 1, 3, 5 and 15.
 const WITNESS: [u8; 84] = [

@@ -3,16 +3,16 @@
 ghost use Rattle.std.specs.Prelude.{◌≡◌, ℕ, ◌+◌, ◌-◌, ◌*◌, ◌≤◌, ◌<◌, ◌^◌, List, length, Some, Ok, Result, IfOk, IfErr, OnOk, MatchResult};
 ghost use Rattle.std.specs.List.{All};
 ghost use Rattle.tv_core.specs.declared.field.TheConstants.{P};
-ghost use Rattle.tv_r1cs_read.specs.Places.{Fault, places};
-ghost use Rattle.tv_r1cs_read.specs.Reading.{bytes_of, Looks, Refuses, IsPiece, IsTold};
+ghost use Rattle.tv_container.specs.Places.{Fault, places};
+ghost use Rattle.tv_container.specs.Reading.{bytes_of, Looks, Refuses, IsPiece, IsTold};
 ghost use Rattle.tv_word.specs.Word.{spelled};
 ghost use Rattle.tv_wtns.specs.Values.{AreWords, IsAhead};
 ghost use Rattle.tv_wtns.specs.Wtns.{values_at};
 
 use std::alloc::Global;
+use tv_container::{ReadRefusal, ReadWhy, Window};
 use tv_core::F;
 use tv_files::Files;
-use tv_r1cs_read::{ReadRefusal, ReadWhy, Window};
 
 /// The bytes of a value.
 const VALUE: u64 = 8;

@@ -1,6 +1,6 @@
 use Rattle.std.proofs.Common.{◌≡◌, ◌+◌, ◌*◌, ◌≤◌, ap, sym, ◌∙◌, arith}
 use Rattle.std.proofs.lemmas.Result.{err_from_is_err_and}
-use Rattle.tv_r1cs_read.specs.Places.{places}
+use Rattle.tv_container.specs.Places.{places}
 use Rattle.tv_wtns.specs.Wtns.{counted}
 use Rattle.tv_wtns.proofs.Sections.{filled, misfilled}
 use Rattle.tv_wtns.proofs.assignment.read_assignment.Goals as goal

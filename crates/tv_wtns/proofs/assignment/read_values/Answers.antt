@@ -1,4 +1,4 @@
-use Rattle.tv_r1cs_read.proofs.SectionLemmas.{sections_of-fit}
+use Rattle.tv_container.proofs.SectionLemmas.{sections_of-fit}
 use Rattle.tv_wtns.specs.Wtns.{assignment_of}
 use Rattle.tv_wtns.proofs.assignment.read_values.Goals as goal
 

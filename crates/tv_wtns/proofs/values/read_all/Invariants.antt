@@ -1,8 +1,8 @@
 use Rattle.std.proofs.Common.{◌≡◌, ℕ, ◌+◌, ◌*◌, ◌<◌, ◌≤◌, List, [], Result, Some}
 use Rattle.std.specs.List.{All}
 use Rattle.tv_core.specs.declared.field.TheConstants.{P}
-use Rattle.tv_r1cs_read.specs.Places.{Fault, places}
-use Rattle.tv_r1cs_read.specs.Reading.{bytes_of, IsPiece}
+use Rattle.tv_container.specs.Places.{Fault, places}
+use Rattle.tv_container.specs.Reading.{bytes_of, IsPiece}
 use Rattle.tv_wtns.specs.Values.{IsAhead}
 use Rattle.tv_wtns.proofs.values.read_all.Given as goal
 

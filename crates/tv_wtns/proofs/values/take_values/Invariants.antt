@@ -1,7 +1,7 @@
 use Rattle.std.proofs.Common.{ℕ, ◌+◌, ◌-◌, ◌*◌, ◌<◌, ◌≤◌, List, length, Result}
 use Rattle.std.specs.List.{All}
 use Rattle.tv_core.specs.declared.field.TheConstants.{P}
-use Rattle.tv_r1cs_read.specs.Places.{Fault}
+use Rattle.tv_container.specs.Places.{Fault}
 use Rattle.tv_wtns.specs.Values.{AreWords, IsAhead}
 use Rattle.tv_wtns.proofs.values.take_values.Given as goal
 

@@ -1,0 +1,37 @@
+-- A value that is written, and one that is refused.
+use Rattle.std.proofs.Common.{◌≡◌, ℕ, ◌<◌, List, [], ◌∷◌, ◌++◌, take, append_assoc, append-nil, ap, refl, sym, ◌∙◌}
+use Rattle.std.proofs.lemmas.Grind.{flat_map-append}
+use Rattle.std.proofs.lemmas.List.Elements.{All-push}
+use Rattle.tv_container.specs.Bytes.{eight_bytes}
+use Rattle.tv_container.specs.Writing.{Adds, Passes}
+use Rattle.tv_container.proofs.Written.{has_more, has_front}
+use Rattle.tv_core.specs.declared.field.TheConstants.{P}
+use Rattle.tv_wtns.specs.Bytes.{file_bytes, head_bytes, values_bytes}
+use Rattle.tv_wtns.specs.Takers.{Progress, Taker, Stands, Tried}
+
+-- the bytes of one more value stand behind those of the others
+file_bytes-more : (old new : ℕ) (values : List ℕ) (value : ℕ) → new ≡ old → file_bytes old values ++ eight_bytes value ≡ file_bytes new (values ++ value ∷ [])
+file_bytes-more old new values value same =
+    append_assoc (head_bytes old) (values_bytes values) (eight_bytes value)
+    ∙ ap (λ rest. head_bytes old ++ rest)
+    (sym (flat_map-append eight_bytes values (value ∷ []) ∙ ap (λ last. values_bytes values ++ last) (append-nil (eight_bytes value))))
+    ∙ rw same refl
+
+-- a taker that has written one more value stands for it too
+pub stands_more : (old new : Taker) (values : List ℕ) (value : ℕ) → Stands old values → value < P → new.name ≡ old.name →
+    new.progress ≡ record old.progress { held = new.progress.held } →
+    Passes old.outside new.outside old.name (old.progress.held ++ eight_bytes value) new.progress.held → Stands new (values ++ value ∷ [])
+stands_more old new values value stands below name progress passes = record {
+  whole = ap (λ (p : Progress). p.broken) progress ∙ stands.whole;
+  canonical = All-push (λ v. v < P) values value stands.canonical below;
+  written = rw (name, ← file_bytes-more old.progress.count new.progress.count values value (ap (λ (p : Progress). p.count) progress))
+      (has_more old.outside new.outside old.name old.progress.held _ (eight_bytes value) new.progress.held stands.written passes);
+}
+
+-- a taker that was refused a value has tried it
+pub tried_more : (old new : Taker) (values : List ℕ) (value : ℕ) → Stands old values → new.name ≡ old.name → new.progress.count ≡ old.progress.count →
+    ((n : ℕ) × Adds old.outside new.outside old.name (take n (old.progress.held ++ eight_bytes value))) → Tried new (values ++ value ∷ [])
+tried_more old new values value stands name count added = record {
+  written = rw (name, ← file_bytes-more old.progress.count new.progress.count values value count)
+      (has_front old.outside new.outside old.name old.progress.held _ (eight_bytes value) stands.written added);
+}

@@ -1,0 +1,82 @@
+-- A taker of values that writes them to a file as they come.
+use Rattle.std.specs.Prelude.{◌≡◌, refl, ℕ, ◌<◌, Bool, true, false, List, Result, OnOk, OnErr}
+use Rattle.std.proofs.Common.{◌∙◌}
+use Rattle.std.specs.Borrow.{GName}
+use Rattle.std.specs.List.{All}
+use Rattle.tv_container.proofs.Buffers.{nothing_appended, appends_then}
+use Rattle.tv_container.specs.Writing.{OnlyAppends}
+use Rattle.tv_container.specs.Written.{HasBut, HasCause, HasFront, HasNow}
+use Rattle.tv_core.specs.Giving.{Giving}
+use Rattle.tv_core.specs.declared.field.TheConstants.{P}
+use Rattle.tv_core.specs.declared.sink.SinkFault.{SinkFault}
+use Rattle.tv_files.specs.Outside.{Outside}
+use Rattle.tv_wtns.specs.Bytes.{head_bytes, file_bytes}
+
+-- how far writing has come: the number of values that the file's head tells, the bytes that are still to be
+-- appended, and whether a refusal broke it
+pub record Progress : Type 0 where
+  pub count : ℕ
+  pub held : List ℕ
+  pub broken : Bool
+
+-- all that stands before the values is held
+abbrev pub begun : ℕ → Progress
+begun count = record { count = count; held = head_bytes count; broken = false }
+
+-- a taker that writes: the outside, the borrow through which it is written, the file's name, and how far
+-- writing has come
+pub record Taker : Type 0 where
+  pub outside : Outside
+  pub borrow : GName
+  pub name : List ℕ
+  pub progress : Progress
+
+-- the values are numbers of the field; where contents are told, the name has the first bytes of their file,
+-- and those that are held come next
+pub record Stands (taker : Taker) (values : List ℕ) : Type 0 where
+  pub whole : taker.progress.broken ≡ false
+  pub canonical : All (λ v. v < P) values
+  pub written : HasBut taker.outside taker.name taker.progress.held (file_bytes taker.progress.count values)
+
+-- after a refusal, where contents are told: the name has a first part of the values' file
+pub record Tried (taker : Taker) (values : List ℕ) : Type 0 where
+  pub written : HasFront taker.outside taker.name (file_bytes taker.progress.count values)
+
+-- what every call keeps: the file is the same, through the same borrow, its head tells the same count, and
+-- the outside is as it was but for bytes appended to the file
+pub record KeepsFile (old new : Taker) : Type 0 where
+  pub borrow : new.borrow ≡ old.borrow
+  pub name : new.name ≡ old.name
+  pub count : new.progress.count ≡ old.progress.count
+  pub outside : OnlyAppends old.outside new.outside old.name
+
+-- what such a taker means, however it is seen; its faults are those of writing
+abbrev pub taker_giving : {V : Type 0} → (V → Taker) → Giving V
+taker_giving {V} seen = record {
+  stands = λ taker values. Stands (seen taker) values;
+  tried = λ taker values. Tried (seen taker) values;
+  broken = λ taker. (seen taker).progress.broken;
+  faults = λ taker. (seen taker).outside.write_faults;
+  wants = λ taker. (seen taker).outside.wants;
+  Keeps = λ old new. KeepsFile (seen old) (seen new);
+  keeps_same = λ taker. record {
+    borrow = refl;
+    name = refl;
+    count = refl;
+    outside = nothing_appended (seen taker).outside (seen taker).name;
+  };
+  keeps_then = λ old mid new p q. record {
+    borrow = q.borrow ∙ p.borrow;
+    name = q.name ∙ p.name;
+    count = q.count ∙ p.count;
+    outside = appends_then (seen old).outside (seen mid).outside (seen new).outside (seen old).name p.outside (rw p.name at q.outside);
+  };
+}
+
+-- what the last call does: the file is that of the values that were given, or after a refusal a first part
+-- of it; nothing but bytes of the file changed, and the cause is known
+pub record Finishes (taker : Taker) (new : Outside) (result : Result (Unit {0}) SinkFault) : Type 0 where
+  pub whole : (values : List ℕ) → Stands taker values → OnOk result (HasNow new taker.name (file_bytes taker.progress.count values))
+  pub part : (values : List ℕ) → Stands taker values → OnErr result (HasFront new taker.name (file_bytes taker.progress.count values))
+  pub only : OnlyAppends taker.outside new taker.name
+  pub cause : HasCause taker.outside new result
