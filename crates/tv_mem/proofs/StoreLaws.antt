@@ -1,18 +1,14 @@
 -- Memory after bytes were written into a page.
-use Rattle.std.proofs.Common.{◌≡◌, ◌≢◌, ◌⊎◌, inl, inr, ℕ, ◌+◌, ◌-◌, ◌/◌, ◌%◌, ◌<◌, ◌≤◌, List, [], ◌∷◌, ◌++◌, length, take, drop, replicate, Bool, true, false, cond, nat_eq, Box, Option, Some, None, option_map, ap, sym, refl, ◌∙◌, arith}
+use Rattle.std.proofs.Common.{◌≡◌, ◌≢◌, ◌⊎◌, inl, inr, ℕ, ◌+◌, ◌-◌, ◌/◌, ◌%◌, ◌^◌, ◌<◌, ◌≤◌, List, [], ◌∷◌, ◌++◌, length, take, drop, replicate, Bool, true, false, cond, nat_eq, Option, Some, None, ap, sym, refl, ◌∙◌, arith}
 use Rattle.std.specs.Prelude.{◌*◌, ◌||◌, ◌==◌, zero, suc, is_some, slice_index}
-use Rattle.std.proofs.Math.Nat.{eq-or-lt_of_le}
-use Rattle.std.specs.Box.{box_value}
-use Rattle.std.specs.BTreeMap.{BTreeMap, IsUnchanged, is_at}
-use Rattle.std.specs.Map.{lookup}
-use Rattle.std.specs.Ordering.{nat_cmp}
-use Rattle.std.specs.Global.{Global}
+use Rattle.std.proofs.Math.Nat.{eq-or-lt_of_le, div-div-eq-div-mul, pow-succ'}
 use Rattle.std.proofs.lemmas.Bool.{eq-eqb}
 use Rattle.std.proofs.lemmas.Bool.Decides.{eqb_tells, leb_tells}
 use Rattle.std.proofs.lemmas.List.{get_or_append_left, get_or-append_right, get_or-take, get_or-drop, get_or-replicate, get_or_past, length-take-le, length-append, length-replicate}
-use Rattle.tv_word.specs.Word.{word_bytes}
+use Rattle.tv_word.specs.Widths.{IsWidth}
+use Rattle.tv_word.specs.Word.{word_bytes, low_bytes}
 use Rattle.tv_mem.specs.Bytes.{byte_of, with_byte, with_word}
-use Rattle.tv_mem.specs.Pages.{page_in, page_bytes, page_with, byte_in, byte_at, Writes}
+use Rattle.tv_mem.specs.Pages.{Found, page_bytes, page_with, byte_in, byte_at, Same, Writes}
 
 -- where the parts of a page that was written to begin
 first_length : (page : List ℕ) (place : ℕ) (bytes : List ℕ) → place ≤ length page → length (take place page ++ bytes) ≡ place + length bytes
@@ -53,42 +49,42 @@ held_bytes None i = zero_bytes 4096 i
 held_bytes (Some page) i = refl
 
 -- the byte at an address in the page that was written to
-in_page : (old new : BTreeMap ℕ (Box (List ℕ) Global)) (at x : ℕ) (bytes : List ℕ) → Writes old new at bytes → nat_eq (x / 4096) (at / 4096) ≡ true →
-    byte_at new x ≡ slice_index (page_with (page_bytes (page_in old (at / 4096))) (at % 4096) bytes) (x % 4096)
+in_page : (old new : Found) (at x : ℕ) (bytes : List ℕ) → Writes old new at bytes → nat_eq (x / 4096) (at / 4096) ≡ true →
+    byte_at new x ≡ slice_index (page_with (page_bytes (old (at / 4096))) (at % 4096) bytes) (x % 4096)
 in_page old new at x bytes writes same =
-    let page : Option (List ℕ) = Some (page_with (page_bytes (page_in old (at / 4096))) (at % 4096) bytes) in
-    ap (λ found. byte_in found (x % 4096)) (writes.changes (x / 4096) ∙ ap (λ here. cond here page (page_in old (x / 4096))) same)
+    let page : Option (List ℕ) = Some (page_with (page_bytes (old (at / 4096))) (at % 4096) bytes) in
+    ap (λ found. byte_in found (x % 4096)) (writes.changes (x / 4096) ∙ ap (λ here. cond here page (old (x / 4096))) same)
 
 -- in another page
-elsewhere : (old new : BTreeMap ℕ (Box (List ℕ) Global)) (at x : ℕ) (bytes : List ℕ) → Writes old new at bytes → nat_eq (x / 4096) (at / 4096) ≡ false → byte_at new x ≡ byte_at old x
+elsewhere : (old new : Found) (at x : ℕ) (bytes : List ℕ) → Writes old new at bytes → nat_eq (x / 4096) (at / 4096) ≡ false → byte_at new x ≡ byte_at old x
 elsewhere old new at x bytes writes other =
-    let page : Option (List ℕ) = Some (page_with (page_bytes (page_in old (at / 4096))) (at % 4096) bytes) in
-    ap (λ found. byte_in found (x % 4096)) (writes.changes (x / 4096) ∙ ap (λ here. cond here page (page_in old (x / 4096))) other)
+    let page : Option (List ℕ) = Some (page_with (page_bytes (old (at / 4096))) (at % 4096) bytes) in
+    ap (λ found. byte_in found (x % 4096)) (writes.changes (x / 4096) ∙ ap (λ here. cond here page (old (x / 4096))) other)
 
 -- what was written is there
-pub written_there : (old new : BTreeMap ℕ (Box (List ℕ) Global)) (at j : ℕ) (bytes : List ℕ) → Writes old new at bytes → j < length bytes → byte_at new (at + j) ≡ slice_index bytes j
+pub written_there : (old new : Found) (at j : ℕ) (bytes : List ℕ) → Writes old new at bytes → j < length bytes → byte_at new (at + j) ≡ slice_index bytes j
 written_there old new at j bytes writes inside =
     let same : (at + j) / 4096 ≡ at / 4096 = omega (arith, writes.within, inside) in
     let place : (at + j) % 4096 ≡ at % 4096 + j = omega (arith, writes.within, inside) in
     in_page old new at (at + j) bytes writes (eq-eqb ((at + j) / 4096) (at / 4096) same)
-    ∙ ap (λ n. slice_index (page_with (page_bytes (page_in old (at / 4096))) (at % 4096) bytes) n) place
-    ∙ there (page_bytes (page_in old (at / 4096))) (at % 4096) bytes j (omega (arith, writes.whole, writes.within)) inside
+    ∙ ap (λ n. slice_index (page_with (page_bytes (old (at / 4096))) (at % 4096) bytes) n) place
+    ∙ there (page_bytes (old (at / 4096))) (at % 4096) bytes j (omega (arith, writes.whole, writes.within)) inside
 
 -- and nothing else has changed
-pub kept_elsewhere : (old new : BTreeMap ℕ (Box (List ℕ) Global)) (at x : ℕ) (bytes : List ℕ) → Writes old new at bytes → (x < at) ⊎ (at + length bytes ≤ x) → byte_at new x ≡ byte_at old x
+pub kept_elsewhere : (old new : Found) (at x : ℕ) (bytes : List ℕ) → Writes old new at bytes → (x < at) ⊎ (at + length bytes ≤ x) → byte_at new x ≡ byte_at old x
 kept_elsewhere old new at x bytes writes outside =
     elim (eqb_tells (x / 4096) (at / 4096)) [
       | inr other ↦ elsewhere old new at x bytes writes other.0
       | inl same ↦
-          let page : List ℕ = page_bytes (page_in old (at / 4096)) in
+          let page : List ℕ = page_bytes (old (at / 4096)) in
           let fits : at % 4096 ≤ length page = omega (arith, writes.whole, writes.within) in
           in_page old new at x bytes writes same.0
           ∙ elim outside [
             | inl before ↦ below page (at % 4096) bytes (x % 4096) fits (omega (arith, same.1, before))
             | inr behind ↦ above page (at % 4096) bytes (x % 4096) fits (omega (arith, same.1, behind))
           ]
-          ∙ held_bytes (page_in old (at / 4096)) (x % 4096)
-          ∙ ap (λ n. byte_in (page_in old n) (x % 4096)) (sym same.1)
+          ∙ held_bytes (old (at / 4096)) (x % 4096)
+          ∙ ap (λ n. byte_in (old n) (x % 4096)) (sym same.1)
     ]
 
 apart : (a b : ℕ) → a ≢ b → (a < b) ⊎ (b < a)
@@ -100,22 +96,24 @@ apart a b other = elim (leb_tells b a) [
   ]
 ]
 
-outside : (x at : ℕ) → x / 4 ≢ at / 4 → (x < at / 4 * 4) ⊎ (at / 4 * 4 + 4 ≤ x)
-outside x at other = elim (apart (x / 4) (at / 4) other) [
-  | inl before ↦ inl (omega (arith, before))
-  | inr behind ↦ inr (omega (arith, behind))
+outside : (w : ℕ) → IsWidth w → (x at : ℕ) → x / (w / 8) ≢ at / (w / 8) → (x < at / (w / 8) * (w / 8)) ⊎ (at / (w / 8) * (w / 8) + w / 8 ≤ x)
+outside w width x at other = elim (apart (x / (w / 8)) (at / (w / 8)) other) [
+  | inl before ↦ inl (grind (arith, before))
+  | inr behind ↦ inr (grind (arith, behind))
 ]
 
+length-low_bytes : (n v : ℕ) → length (low_bytes n v) ≡ n
+length-low_bytes zero v = refl
+length-low_bytes (suc n) v = omega (arith, length-low_bytes n (v / 256))
+
 -- the bytes of a word
-byte_of_word : (v i : ℕ) → i < 4 → slice_index (word_bytes 32 v) i ≡ byte_of v i
-byte_of_word v zero small = omega arith
-byte_of_word v (suc zero) small = omega arith
-byte_of_word v (suc (suc zero)) small = omega arith
-byte_of_word v (suc (suc (suc zero))) small = omega arith
-byte_of_word v (suc (suc (suc (suc i)))) small = absurd (omega (arith, small))
+byte_of_low : (n v i : ℕ) → i < n → slice_index (low_bytes n v) i ≡ byte_of v i
+byte_of_low zero v i small = absurd (omega arith)
+byte_of_low (suc n) v zero small = omega arith
+byte_of_low (suc n) v (suc i) small = byte_of_low n (v / 256) i (omega arith) ∙ ap (λ k. k % 256) (div-div-eq-div-mul v 256 (256 ^ i) ∙ ap (λ k. v / k) (sym (pow-succ' 256 i)))
 
 -- a byte was written
-pub byte_stored : (old new : BTreeMap ℕ (Box (List ℕ) Global)) (at v : ℕ) → Writes old new at (v ∷ []) → byte_at new ≡ with_byte (byte_at old) at v
+pub byte_stored : (old new : Found) (at v : ℕ) → Writes old new at (v ∷ []) → byte_at new ≡ with_byte (byte_at old) at v
 byte_stored old new at v writes = λ i x. at_each x i
   where
     at_each : (x : ℕ) → byte_at new x ≡ with_byte (byte_at old) at v x
@@ -130,33 +128,40 @@ byte_stored old new at v writes = λ i x. at_each x i
     ]
 
 -- a word was written
-pub word_stored : (old new : BTreeMap ℕ (Box (List ℕ) Global)) (at word : ℕ) → Writes old new (at / 4 * 4) (word_bytes 32 word) → byte_at new ≡ with_word 32 (byte_at old) (at / 4) word
-word_stored old new at word writes = λ i x. at_each x i
+pub word_stored : (w : ℕ) → IsWidth w → (old new : Found) (at word : ℕ) → Writes old new (at / (w / 8) * (w / 8)) (word_bytes w word) → byte_at new ≡ with_word w (byte_at old) (at / (w / 8)) word
+word_stored w width old new at word writes = λ i x. at_each x i
   where
-    at_each : (x : ℕ) → byte_at new x ≡ with_word 32 (byte_at old) (at / 4) word x
-    at_each x = elim (eqb_tells (x / 4) (at / 4)) [
+    long : length (word_bytes w word) ≡ w / 8
+    long = length-low_bytes (w / 8) word
+
+    at_each : (x : ℕ) → byte_at new x ≡ with_word w (byte_at old) (at / (w / 8)) word x
+    at_each x = elim (eqb_tells (x / (w / 8)) (at / (w / 8))) [
       | inl here ↦
-          let place : x ≡ at / 4 * 4 + x % 4 = omega (arith, here.1) in
+          let place : x ≡ at / (w / 8) * (w / 8) + x % (w / 8) = grind (arith, here.1) in
+          let inside : x % (w / 8) < w / 8 = grind arith in
           ap (byte_at new) place
-          ∙ written_there old new (at / 4 * 4) (x % 4) (word_bytes 32 word) writes (omega arith)
-          ∙ byte_of_word word (x % 4) (omega arith)
-          ∙ sym (ap (λ found. cond found (byte_of word (x % 4)) (byte_at old x)) here.0)
+          ∙ written_there old new (at / (w / 8) * (w / 8)) (x % (w / 8)) (word_bytes w word) writes (omega (arith, long, inside))
+          ∙ byte_of_low (w / 8) word (x % (w / 8)) inside
+          ∙ sym (ap (λ found. cond found (byte_of word (x % (w / 8))) (byte_at old x)) here.0)
       | inr other ↦
-          kept_elsewhere old new (at / 4 * 4) x (word_bytes 32 word) writes (outside x at other.1)
-          ∙ sym (ap (λ found. cond found (byte_of word (x % 4)) (byte_at old x)) other.0)
+          kept_elsewhere old new (at / (w / 8) * (w / 8)) x (word_bytes w word) writes (ends x other.1)
+          ∙ sym (ap (λ found. cond found (byte_of word (x % (w / 8))) (byte_at old x)) other.0)
     ]
+      where
+        ends : (x : ℕ) → x / (w / 8) ≢ at / (w / 8) → (x < at / (w / 8) * (w / 8)) ⊎ (at / (w / 8) * (w / 8) + length (word_bytes w word) ≤ x)
+        ends x other = elim (outside w width x at other) [ inl before ↦ inl before | inr behind ↦ inr (omega (arith, long, behind)) ]
 
 -- the pages that are held then
-pub page_held : (old new : BTreeMap ℕ (Box (List ℕ) Global)) (at : ℕ) (bytes : List ℕ) → Writes old new at bytes → (q : ℕ) → is_some (page_in new q) ≡ (q == at / 4096 || is_some (page_in old q))
-page_held old new at bytes writes q = ap is_some (writes.changes q) ∙ by_number (q == at / 4096) (page_with (page_bytes (page_in old (at / 4096))) (at % 4096) bytes) (page_in old q)
+pub page_held : (old new : Found) (at : ℕ) (bytes : List ℕ) → Writes old new at bytes → (q : ℕ) → is_some (new q) ≡ (q == at / 4096 || is_some (old q))
+page_held old new at bytes writes q = ap is_some (writes.changes q) ∙ by_number (q == at / 4096) (page_with (page_bytes (old (at / 4096))) (at % 4096) bytes) (old q)
   where
     by_number : (here : Bool) (page : List ℕ) (other : Option (List ℕ)) → is_some (cond here (Some page) other) ≡ (here || is_some other)
     by_number true page other = refl
     by_number false page other = refl
 
 -- and where nothing has changed
-pub bytes_unchanged : (old new : BTreeMap ℕ (Box (List ℕ) Global)) → IsUnchanged old new → byte_at new ≡ byte_at old
-bytes_unchanged old new same = λ i x. ap (λ entries. byte_in (option_map box_value (lookup (is_at (nat_cmp (x / 4096))) entries)) (x % 4096)) same i
+pub bytes_unchanged : (old new : Found) → Same old new → byte_at new ≡ byte_at old
+bytes_unchanged old new same = λ i x. ap (λ found. byte_in found (x % 4096)) (same (x / 4096)) i
 
-pub held_unchanged : (old new : BTreeMap ℕ (Box (List ℕ) Global)) → IsUnchanged old new → (q : ℕ) → is_some (page_in new q) ≡ is_some (page_in old q)
-held_unchanged old new same q = ap (λ entries. is_some (option_map box_value (lookup (is_at (nat_cmp q)) entries))) same
+pub held_unchanged : (old new : Found) → Same old new → (q : ℕ) → is_some (new q) ≡ is_some (old q)
+held_unchanged old new same q = ap is_some (same q)

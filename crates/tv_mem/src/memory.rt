@@ -1,17 +1,18 @@
-ghost use Rattle.std.specs.Prelude.{◌≡◌, ◌+◌, ◌*◌, ◌/◌, ◌||◌, ◌==◌, false, OnOk, OnErr, IsOk, IsTrue, ℕ};
+ghost use Rattle.std.specs.Prelude.{◌≡◌, ◌+◌, ◌^◌, ◌<◌, ◌*◌, ◌/◌, ◌||◌, ◌==◌, false, OnOk, OnErr, IsOk, IsTrue, ℕ};
+ghost use Rattle.tv_word.specs.Widths.{IsWidth};
 ghost use Rattle.tv_mem.specs.Bytes.{with_byte, with_word, word_in};
 ghost use Rattle.tv_mem.specs.Pages.{bytes_in, is_held};
 
-use crate::pages::{PAGE, word_on, write};
+use crate::pages::{PAGE, Table, half_on, low_bytes, page, word_on, write};
 use std::alloc::{AllocError, Global};
-use std::collections::BTreeMap;
 use tv_word::word_bytes;
 
-/// A memory of 2^32 bytes, all 0 at first. It keeps those pages of 4,096 bytes that were written.
+/// A memory of 2^32 bytes, all 0 at first. It keeps those pages of 4,096 bytes that were written, in a
+/// table of tables of 1,024 pages, so that a page is found in constant time.
 #[derive(Drop)]
 pub struct Memory {
     alloc: Global,
-    pages: BTreeMap<u32, Box<[u8; 4096]>>,
+    tables: Vec<Table>,
 }
 
 impl Memory {
@@ -23,7 +24,7 @@ impl Memory {
     {
         Memory {
             alloc,
-            pages: BTreeMap::new(alloc),
+            tables: Vec::new(alloc),
         }
     }
 
@@ -32,31 +33,90 @@ impl Memory {
     pub fn load_byte(&self, at: u32) -> u8
         ensures { result ≡ bytes_in self.now at }
     {
-        match self.pages.get(&(at / PAGE)) {
+        match page(&self.tables, at / PAGE) {
             Some(page) => page[(at % PAGE) as usize],
             None => 0,
         }
     }
 
-    /// The word at an address, whose two lowest bits don't count: its four bytes, the lowest first.
+    /// The word of `W` bits, 16 or 32, in which an address lies: two or four bytes, the lowest
+    /// first.
     #[tactic(auto, unfolding(crate::specs::Pages::bytes_in))]
-    pub fn load_word(&self, at: u32) -> u32
+    pub fn load_word<const W: u32>(&self, at: u32) -> u32
+        requires width { IsWidth W }
+        ensures word { result ≡ word_in W (bytes_in self.now) (at / (W / 8)) }
+        ensures small { result < 2 ^ W }
+    {
+        if W == 16 {
+            self.load_half(at)
+        } else {
+            self.load_whole(at)
+        }
+    }
+
+    // The word of 16 bits at an address.
+    #[tactic(auto, unfolding(crate::specs::Pages::bytes_in))]
+    fn load_half(&self, at: u32) -> u32
+        ensures word { result ≡ word_in 16 (bytes_in self.now) (at / 2) }
+        ensures small { result < 2 ^ 16 }
+    {
+        match page(&self.tables, at / PAGE) {
+            Some(page) => half_on(page, (at % PAGE / 2 * 2) as usize),
+            None => 0,
+        }
+    }
+
+    // The word of 32 bits at an address.
+    #[tactic(auto, unfolding(crate::specs::Pages::bytes_in))]
+    fn load_whole(&self, at: u32) -> u32
         ensures { result ≡ word_in 32 (bytes_in self.now) (at / 4) }
     {
-        match self.pages.get(&(at / PAGE)) {
+        match page(&self.tables, at / PAGE) {
             Some(page) => word_on(page, (at % PAGE / 4 * 4) as usize),
             None => 0,
         }
     }
 
-    /// The two words of the eight bytes in which an address lies, as an instruction has them. Their page is
-    /// looked up once.
+    /// The two words of the `W / 4` bytes in which an address lies, as an instruction has them.
+    /// Their page is looked up once.
+    pub fn load_pair<const W: u32>(&self, at: u32) -> (u32, u32)
+        requires width { IsWidth W }
+        ensures first { result.0 ≡ word_in W (bytes_in self.now) (at / (W / 4) * 2) }
+        ensures second { result.1 ≡ word_in W (bytes_in self.now) (at / (W / 4) * 2 + 1) }
+        ensures first_word { result.0 < 2 ^ W }
+        ensures second_word { result.1 < 2 ^ W }
+    {
+        if W == 16 {
+            self.load_halves(at)
+        } else {
+            self.load_wholes(at)
+        }
+    }
+
+    // The two words of 16 bits of the four bytes in which an address lies.
     #[tactic(auto, unfolding(crate::specs::Pages::bytes_in))]
-    pub fn load_pair(&self, at: u32) -> (u32, u32)
+    fn load_halves(&self, at: u32) -> (u32, u32)
+        ensures first { result.0 ≡ word_in 16 (bytes_in self.now) (at / 4 * 2) }
+        ensures second { result.1 ≡ word_in 16 (bytes_in self.now) (at / 4 * 2 + 1) }
+        ensures first_word { result.0 < 2 ^ 16 }
+        ensures second_word { result.1 < 2 ^ 16 }
+    {
+        match page(&self.tables, at / PAGE) {
+            Some(page) => {
+                let place = (at % PAGE / 4 * 4) as usize;
+                (half_on(page, place), half_on(page, place + 2))
+            }
+            None => (0, 0),
+        }
+    }
+
+    // The two words of 32 bits of the eight bytes in which an address lies.
+    #[tactic(auto, unfolding(crate::specs::Pages::bytes_in))]
+    fn load_wholes(&self, at: u32) -> (u32, u32)
         ensures first { result.0 ≡ word_in 32 (bytes_in self.now) (at / 8 * 2) }
         ensures second { result.1 ≡ word_in 32 (bytes_in self.now) (at / 8 * 2 + 1) }
     {
-        match self.pages.get(&(at / PAGE)) {
+        match page(&self.tables, at / PAGE) {
             Some(page) => {
                 let place = (at % PAGE / 8 * 8) as usize;
                 (word_on(page, place), word_on(page, place + 4))
@@ -65,8 +125,8 @@ impl Memory {
         }
     }
 
-    /// Writes a byte. It wants memory only for a page that isn't held, and then changes nothing where
-    /// memory is refused.
+    /// Writes a byte. It wants memory only for a page that isn't held, and then changes nothing
+    /// where memory is refused.
     #[tactic(auto, using(crate::proofs::StoreLaws::byte_stored, crate::proofs::StoreLaws::page_held, crate::proofs::StoreLaws::bytes_unchanged, crate::proofs::StoreLaws::held_unchanged), unfolding(crate::specs::Pages::bytes_in, crate::specs::Pages::is_held))]
     pub fn store_byte(&mut self, at: u32, value: u8) -> Result<(), AllocError>
         ensures ok { OnOk result (bytes_in self.new ≡ with_byte (bytes_in self.old) at value) }
@@ -75,20 +135,28 @@ impl Memory {
         ensures kept { OnErr result ((page : ℕ) → is_held self.new page ≡ is_held self.old page) }
         ensures free { IsTrue (is_held self.old at) → IsOk result }
     {
-        write(self.alloc, &mut self.pages, at, &[value])
+        write(self.alloc, &mut self.tables, at, &[value])
     }
 
-    /// Writes the word at an address, whose two lowest bits don't count. It wants memory only for a
-    /// page that isn't held, and then changes nothing where memory is refused.
+    /// Writes the word of `W` bits in which an address lies; of `word` the `W` lowest bits count.
+    /// It wants memory only for a page that isn't held, and then changes nothing where memory is
+    /// refused.
     #[tactic(auto, using(crate::proofs::StoreLaws::word_stored, crate::proofs::StoreLaws::page_held, crate::proofs::StoreLaws::bytes_unchanged, crate::proofs::StoreLaws::held_unchanged), unfolding(crate::specs::Pages::bytes_in, crate::specs::Pages::is_held))]
-    pub fn store_word(&mut self, at: u32, word: u32) -> Result<(), AllocError>
-        ensures ok { OnOk result (bytes_in self.new ≡ with_word 32 (bytes_in self.old) (at / 4) word) }
+    pub fn store_word<const W: u32>(&mut self, at: u32, word: u32) -> Result<(), AllocError>
+        requires width { IsWidth W }
+        ensures ok { OnOk result (bytes_in self.new ≡ with_word W (bytes_in self.old) (at / (W / 8)) word) }
         ensures err { OnErr result (bytes_in self.new ≡ bytes_in self.old) }
         ensures held { OnOk result ((page : ℕ) → is_held self.new page ≡ ((page / 4096 == at / 4096) || is_held self.old page)) }
         ensures kept { OnErr result ((page : ℕ) → is_held self.new page ≡ is_held self.old page) }
         ensures free { IsTrue (is_held self.old at) → IsOk result }
     {
-        write(self.alloc, &mut self.pages, at / 4 * 4, &word_bytes(word))
+        let size = W / 8;
+        write(
+            self.alloc,
+            &mut self.tables,
+            at / size * size,
+            low_bytes::<W>(&word_bytes(word)),
+        )
     }
 
     /// Whether the page with this address is held.
@@ -96,7 +164,7 @@ impl Memory {
     pub fn has_page(&self, at: u32) -> bool
         ensures { result ≡ is_held self.now at }
     {
-        self.pages.contains_key(&(at / PAGE))
+        page(&self.tables, at / PAGE).is_some()
     }
 }
 
@@ -108,13 +176,13 @@ mod tests {
     #[test]
     fn a_byte_is_kept_in_its_page_alone(rt: HostRuntime) -> Result<(), Fail> {
         let mut memory = Memory::new(rt.alloc());
-        assert_eq!(rt; memory.load_word(8191), 0);
+        assert_eq!(rt; memory.load_word::<32>(8191), 0);
         memory.store_byte(8191, 7)?;
         assert!(rt; memory.has_page(4096) && memory.has_page(8191));
         assert!(rt; !memory.has_page(4095) && !memory.has_page(8192));
         memory.store_byte(8192, 7)?;
-        assert_eq!(rt; memory.load_word(8188), 0x0700_0000);
-        assert_eq!(rt; memory.load_word(8192), 7);
+        assert_eq!(rt; memory.load_word::<32>(8188), 0x0700_0000);
+        assert_eq!(rt; memory.load_word::<32>(8192), 7);
         assert_eq!(rt; memory.load_byte(8190), 0);
         Ok(())
     }
@@ -122,16 +190,29 @@ mod tests {
     #[test]
     fn words_are_aligned_and_bytes_lie_in_them(rt: HostRuntime) -> Result<(), Fail> {
         let mut memory = Memory::new(rt.alloc());
-        memory.store_word(65_538, 0x1122_3344)?;
+        memory.store_word::<32>(65_538, 0x1122_3344)?;
         memory.store_byte(65_537, 0xab)?;
-        assert_eq!(rt; memory.load_word(65_539), 0x1122_ab44);
-        memory.store_word(65_540, 5)?;
-        assert_eq!(rt; memory.load_pair(65_543), (0x1122_ab44, 5));
-        assert_eq!(rt; memory.load_pair(65_544), (0, 0));
+        assert_eq!(rt; memory.load_word::<32>(65_539), 0x1122_ab44);
+        memory.store_word::<32>(65_540, 5)?;
+        assert_eq!(rt; memory.load_pair::<32>(65_543), (0x1122_ab44, 5));
+        assert_eq!(rt; memory.load_pair::<32>(65_544), (0, 0));
         assert_eq!(rt; memory.load_byte(65_536), 0x44);
-        memory.store_word(u32::MAX, u32::MAX)?;
+        memory.store_word::<32>(u32::MAX, u32::MAX)?;
         assert_eq!(rt; memory.load_byte(4_294_967_292), 255);
-        assert_eq!(rt; memory.load_word(4_294_967_288), 0);
+        assert_eq!(rt; memory.load_word::<32>(4_294_967_288), 0);
+        Ok(())
+    }
+
+    #[test]
+    fn words_of_16_bits_are_two_bytes(rt: HostRuntime) -> Result<(), Fail> {
+        let mut memory = Memory::new(rt.alloc());
+        assert_eq!(rt; memory.load_pair::<16>(65_535), (0, 0));
+        memory.store_word::<32>(65_532, 0x1122_3344)?;
+        memory.store_word::<16>(65_533, 0xffff_abcd)?;
+        assert_eq!(rt; memory.load_word::<16>(65_532), 0xabcd);
+        assert_eq!(rt; memory.load_word::<16>(65_535), 0x1122);
+        assert_eq!(rt; memory.load_pair::<16>(65_535), (0xabcd, 0x1122));
+        assert_eq!(rt; memory.load_pair::<16>(65_531), (0, 0));
         Ok(())
     }
 }
