@@ -1,3 +1,4 @@
 pub mod Numbers
 pub mod Range
+pub mod Texts
 mod Worked

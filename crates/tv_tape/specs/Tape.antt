@@ -1,6 +1,6 @@
 -- The numbers that a tape's text holds, or its first fault.
-use Rattle.std.specs.Prelude.{ℕ, ◌+◌, Bool, List, [], ◌∷◌, length, filter, Result, Ok, Err, nat_lt, ◌==◌, ◌||◌, if◌then◌else◌}
-use Rattle.std.specs.List.{slice_split}
+use Rattle.std.specs.Prelude.{ℕ, ◌+◌, Bool, List, [], ◌∷◌, ◌++◌, length, filter, codes, decimal, Result, Ok, Err, nat_lt, ◌==◌, ◌||◌, if◌then◌else◌}
+use Rattle.std.specs.List.{flat_map, slice_split}
 use Rattle.tv_word.specs.Numeral.{is_numeral, positional}
 use Rattle.tv_tape.specs.declared.items.TapeFault.{TapeFault}
 use Rattle.tv_tape.specs.declared.items.TapeFault.TheVariants.{BadItem, TooBig, TooMany}
@@ -41,3 +41,7 @@ numbers_of below most at (item ∷ items) = do
 -- the numbers of a text: at most `most`, and each below `below`
 unfoldable pub tape_of : List ℕ → ℕ → ℕ → Result (List ℕ) TapeFault
 tape_of text below most = numbers_of below most 0 (items_of text)
+
+-- the text of words: each in decimal, and a line feed
+abbrev pub text_of : List ℕ → List ℕ
+text_of words = flat_map (λ word. decimal word ++ codes "\n") words

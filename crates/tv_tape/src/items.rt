@@ -56,12 +56,12 @@ fn number_of(item: &[u8], at: u64, below: u64) -> Result<u64, TapeFault>
     }
 }
 
-/// The numbers of a tape's text: decimal numbers below `below`, leading zeros allowed, between spaces,
-/// tabs, carriage returns and line feeds, and at most `most` of them.
+/// The numbers of a tape's text: decimal numbers below `below`, leading zeros allowed, between
+/// spaces, tabs, carriage returns and line feeds, and at most `most` of them.
 ///
-/// Each item is judged before the next one is. `TooMany` comes where there is an item with the number
-/// `most`, whatever it is; `BadItem` where an item isn't all digits; `TooBig` where it is a number of
-/// `below` or more, also one of 2^64 or more. Takes one pass.
+/// Each item is judged before the next one is. `TooMany` comes where there is an item with the
+/// number `most`, whatever it is; `BadItem` where an item isn't all digits; `TooBig` where it is a
+/// number of `below` or more, also one of 2^64 or more. Takes one pass.
 pub fn read_tape(alloc: Global, text: &[u8], below: u64, most: u32) -> Result<Vec<u64>, TapeFault>
     ensures numbers { IfOk result (λ numbers. tape_of text.now below most ≡ Ok numbers.items) }
     ensures fault { IfErr result (λ fault. (tape_of text.now below most ≡ Err fault) ⊎ (fault ≡ Memory)) }

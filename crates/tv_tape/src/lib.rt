@@ -1,5 +1,5 @@
-//! Tapes: `read_tape` reads the numbers of a tape's text, as `tape_of` the whole text says, and a `Tape`
-//! gives its words one by one.
+//! Tapes: `read_tape` reads the numbers of a tape's text, as `tape_of` the whole text says,
+//! `tape_text` writes words as such a text, and a `Tape` gives its words one by one.
 #![tactic(auto)]
 
 mod items;
@@ -7,7 +7,9 @@ mod laws;
 mod tape;
 #[cfg(test)]
 mod tests;
+mod text;
 
 pub use items::{TapeFault, read_tape};
-pub use laws::tapes_are_in_range;
+pub use laws::{tapes_are_in_range, texts_come_back};
 pub use tape::Tape;
+pub use text::tape_text;

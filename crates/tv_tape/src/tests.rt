@@ -44,3 +44,16 @@ fn a_tape_gives_its_words_and_ends(rt: HostRuntime) -> Result<(), Fail> {
     }
     Ok(())
 }
+
+#[test]
+fn words_are_written_a_line_each(rt: HostRuntime) -> Result<(), Fail> {
+    let texts: [(&[u32], &str); 3] = [
+        (&[], ""),
+        (&[5], "5\n"),
+        (&[0, 7, 4_294_967_295, 10], "0\n7\n4294967295\n10\n"),
+    ];
+    for (words, text) in texts {
+        assert_eq!(rt; tape_text(rt.alloc(), words)?.as_slice(), text.as_bytes());
+    }
+    Ok(())
+}
