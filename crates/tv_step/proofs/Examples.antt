@@ -11,6 +11,20 @@ use Rattle.tv_step.specs.declared.op.Op.TheVariants.{And, Add, Sub, Mull, Umulh,
 answers_at_once : end_of 32 2 (start 32 (4227858432 ∷ 0 ∷ []) [] []) ≡ ends.Answer 0 1
 answers_at_once = refl
 
+-- the answer is any word
+answers_seven : end_of 32 2 (start 32 (2487222272 ∷ 7 ∷ 4160749568 ∷ 1 ∷ []) [] []) ≡ ends.Answer 7 2
+answers_seven = refl
+
+-- words of 16 bits: a sum that carries, a signed product, and a jump to the last place of memory
+sums_in_16_bits : end_of 16 3 (start 16 (37952 ∷ 65535 ∷ 9348 ∷ 1 ∷ 63488 ∷ 2 ∷ []) [] []) ≡ ends.Answer 0 3
+sums_in_16_bits = refl
+
+multiplies_in_16_bits : end_of 16 4 (start 16 (37952 ∷ 32768 ∷ 16516 ∷ 1 ∷ 11400 ∷ 16384 ∷ 63488 ∷ 2 ∷ []) [] []) ≡ ends.Answer 0 4
+multiplies_in_16_bits = refl
+
+wraps_around_in_16_bits : end_of 16 5 (start 16 (44032 ∷ 9 ∷ 41984 ∷ 65532 ∷ 64512 ∷ 0 ∷ []) [] []) ≡ ends.Answer 0 5
+wraps_around_in_16_bits = refl
+
 -- an empty memory is `and r0, r0, r0` for ever
 is_silent : end_of 32 64 (start 32 [] [] []) ≡ ends.Silent 64
 is_silent = refl

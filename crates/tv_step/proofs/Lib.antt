@@ -1,3 +1,13 @@
+pub mod ArithmeticLaws
+pub mod CellLaws
+pub mod EndLaws
 pub mod Examples
+pub mod HonestLaws
 pub mod ImageLaws
+pub mod LineLaws
+pub mod PlaceLaws
+pub mod RangeLaws
+pub mod ReadLaws
 pub mod RunLaws
+pub mod TapeLaws
+pub mod ViewLaws

@@ -5,57 +5,57 @@ use Rattle.tv_step.specs.State.{State, Next}
 use Rattle.tv_step.specs.declared.end.End.TheVariants as ends
 
 -- k steps went on from one state to another
-pub record Ran (k : ℕ) (first st : State) : Type 0 where
-  pub ends : (n : ℕ) → end_of 32 (k + n) first ≡ end_from 32 k n st
-  pub states : (n : ℕ) → state_after 32 (k + n) first ≡ state_after 32 n st
+pub record Ran (w k : ℕ) (first st : State) : Type 0 where
+  pub ends : (n : ℕ) → end_of w (k + n) first ≡ end_from w k n st
+  pub states : (n : ℕ) → state_after w (k + n) first ≡ state_after w n st
 
-pub ran_none : (st : State) → Ran 0 st st
-ran_none st = record {
-  ends = λ n. let same : 0 + n ≡ n = omega arith in ap (λ m. end_of 32 m st) same;
-  states = λ n. let same : 0 + n ≡ n = omega arith in ap (λ m. state_after 32 m st) same;
+pub ran_none : (w : ℕ) (st : State) → Ran w 0 st st
+ran_none w st = record {
+  ends = λ n. let same : 0 + n ≡ n = omega arith in ap (λ m. end_of w m st) same;
+  states = λ n. let same : 0 + n ≡ n = omega arith in ap (λ m. state_after w m st) same;
 }
 
-module _ (k : ℕ) (first st : State) (ran : Ran k first st) where
-  pub ran_on : (after : State) → next 32 st ≡ Next.Gone after → Ran (k + 1) first after
+module _ (w k : ℕ) (first st : State) (ran : Ran w k first st) where
+  pub ran_on : (after : State) → next w st ≡ Next.Gone after → Ran w (k + 1) first after
   ran_on after goes = record {
     ends = λ n. let more : k + 1 + n ≡ k + suc n = omega arith in
-        ap (λ m. end_of 32 m first) more ∙ ran.ends (suc n) ∙ ap (ended (λ a. end_from 32 (k + 1) n a) (k + 1)) goes;
+        ap (λ m. end_of w m first) more ∙ ran.ends (suc n) ∙ ap (ended (λ a. end_from w (k + 1) n a) (k + 1)) goes;
     states = λ n. let more : k + 1 + n ≡ k + suc n = omega arith in
-        ap (λ m. state_after 32 m first) more ∙ ran.states (suc n) ∙ ap (left_in (λ a. state_after 32 n a) st) goes;
+        ap (λ m. state_after w m first) more ∙ ran.states (suc n) ∙ ap (left_in (λ a. state_after w n a) st) goes;
   }
 
   -- a run of k steps, and one of more
-  pub end_silent : end_of 32 k first ≡ ends.Silent k
-  end_silent = let same : k ≡ k + 0 = omega arith in ap (λ m. end_of 32 m first) same ∙ ran.ends 0
+  pub end_silent : end_of w k first ≡ ends.Silent k
+  end_silent = let same : k ≡ k + 0 = omega arith in ap (λ m. end_of w m first) same ∙ ran.ends 0
 
-  pub state_reached : state_after 32 k first ≡ st
-  state_reached = let same : k ≡ k + 0 = omega arith in ap (λ m. state_after 32 m first) same ∙ ran.states 0
+  pub state_reached : state_after w k first ≡ st
+  state_reached = let same : k ≡ k + 0 = omega arith in ap (λ m. state_after w m first) same ∙ ran.states 0
 
   module _ (t : ℕ) (within : k < t) where
     more : t ≡ k + suc (t - (k + 1))
     more = omega arith
 
-    pub end_answered : (v : ℕ) → next 32 st ≡ Next.Answered v → end_of 32 t first ≡ ends.Answer v (k + 1)
-    end_answered v stops = ap (λ m. end_of 32 m first) more ∙ ran.ends (suc (t - (k + 1))) ∙ ap (ended (λ a. end_from 32 (k + 1) (t - (k + 1)) a) (k + 1)) stops
+    pub end_answered : (v : ℕ) → next w st ≡ Next.Answered v → end_of w t first ≡ ends.Answer v (k + 1)
+    end_answered v stops = ap (λ m. end_of w m first) more ∙ ran.ends (suc (t - (k + 1))) ∙ ap (ended (λ a. end_from w (k + 1) (t - (k + 1)) a) (k + 1)) stops
 
-    pub state_answered : (v : ℕ) → next 32 st ≡ Next.Answered v → state_after 32 t first ≡ st
-    state_answered v stops = ap (λ m. state_after 32 m first) more ∙ ran.states (suc (t - (k + 1))) ∙ ap (left_in (λ a. state_after 32 (t - (k + 1)) a) st) stops
+    pub state_answered : (v : ℕ) → next w st ≡ Next.Answered v → state_after w t first ≡ st
+    state_answered v stops = ap (λ m. state_after w m first) more ∙ ran.states (suc (t - (k + 1))) ∙ ap (left_in (λ a. state_after w (t - (k + 1)) a) st) stops
 
-    pub end_undefined : (op : ℕ) → next 32 st ≡ Next.Undefined op → end_of 32 t first ≡ ends.Undefined op (k + 1)
-    end_undefined op stops = ap (λ m. end_of 32 m first) more ∙ ran.ends (suc (t - (k + 1))) ∙ ap (ended (λ a. end_from 32 (k + 1) (t - (k + 1)) a) (k + 1)) stops
+    pub end_undefined : (op : ℕ) → next w st ≡ Next.Undefined op → end_of w t first ≡ ends.Undefined op (k + 1)
+    end_undefined op stops = ap (λ m. end_of w m first) more ∙ ran.ends (suc (t - (k + 1))) ∙ ap (ended (λ a. end_from w (k + 1) (t - (k + 1)) a) (k + 1)) stops
 
-    pub state_undefined : (op : ℕ) → next 32 st ≡ Next.Undefined op → state_after 32 t first ≡ st
-    state_undefined op stops = ap (λ m. state_after 32 m first) more ∙ ran.states (suc (t - (k + 1))) ∙ ap (left_in (λ a. state_after 32 (t - (k + 1)) a) st) stops
+    pub state_undefined : (op : ℕ) → next w st ≡ Next.Undefined op → state_after w t first ≡ st
+    state_undefined op stops = ap (λ m. state_after w m first) more ∙ ran.states (suc (t - (k + 1))) ∙ ap (left_in (λ a. state_after w (t - (k + 1)) a) st) stops
 
 -- the state after one more step
-one_more : (k : ℕ) (st : State) → ((after : State) → state_after 32 1 (state_after 32 k after) ≡ state_after 32 (k + 1) after) → (came : Next) → next 32 st ≡ came
-    → state_after 32 1 (left_in (λ after. state_after 32 k after) st came) ≡ left_in (λ after. state_after 32 (k + 1) after) st came
-one_more k st behind (Next.Gone after) same = behind after
-one_more k st behind (Next.Answered v) same = ap (left_in (λ after. after) st) same
-one_more k st behind (Next.Undefined op) same = ap (left_in (λ after. after) st) same
+one_more : (w k : ℕ) (st : State) → ((after : State) → state_after w 1 (state_after w k after) ≡ state_after w (k + 1) after) → (came : Next) → next w st ≡ came
+    → state_after w 1 (left_in (λ after. state_after w k after) st came) ≡ left_in (λ after. state_after w (k + 1) after) st came
+one_more w k st behind (Next.Gone after) same = behind after
+one_more w k st behind (Next.Answered v) same = ap (left_in (λ after. after) st) same
+one_more w k st behind (Next.Undefined op) same = ap (left_in (λ after. after) st) same
 
-pub state_next : (k : ℕ) (st : State) → state_after 32 1 (state_after 32 k st) ≡ state_after 32 (k + 1) st
-state_next zero st = refl
-state_next (suc k) st =
+pub state_next : (w k : ℕ) (st : State) → state_after w 1 (state_after w k st) ≡ state_after w (k + 1) st
+state_next w zero st = refl
+state_next w (suc k) st =
     let more : suc (k + 1) ≡ suc k + 1 = omega arith in
-    one_more k st (state_next k) (next 32 st) refl ∙ ap (λ n. state_after 32 n st) more
+    one_more w k st (state_next w k) (next w st) refl ∙ ap (λ n. state_after w n st) more

@@ -1,6 +1,10 @@
+pub mod Cells
 pub mod Machine
 pub mod Ops
+pub mod Range
+pub mod Reads
 pub mod Rows
+pub mod Runs
 pub mod State
 pub mod Trace
 pub mod Tracing

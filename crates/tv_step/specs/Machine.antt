@@ -70,6 +70,6 @@ start w image primary aux = record {
   aux = aux;
 }
 
--- the machine answers 0 within t steps
-abbrev pub Accepts : ℕ → List ℕ → List ℕ → List ℕ → ℕ → Type 0
-Accepts w image primary aux t = (step : ℕ) × (step ≤ t) × (end_of w t (start w image primary aux) ≡ ends.Answer 0 step)
+-- the machine answers v at a step of at most t
+abbrev pub Accepts : ℕ → List ℕ → List ℕ → List ℕ → ℕ → ℕ → Type 0
+Accepts w image primary aux t v = (step : ℕ) × (step ≤ t) × (end_of w t (start w image primary aux) ≡ ends.Answer v step)

@@ -1,7 +1,8 @@
 -- The 29 instructions, a row each: what comes of a step of word size w in a state st, where i is the number
 -- of the destination register, d and s are the words in the destination and source registers, and a is the operand.
-use Rattle.std.specs.Prelude.{ℕ, ◌+◌, ◌-◌, ◌*◌, ◌/◌, ◌%◌, ◌^◌, Bool, true, false, not, ◌&&◌, ◌==◌, nat_lt, nat_le, if◌then◌else◌, List, [], ◌∷◌, ℤ, pos, ◌+ℤ◌, ◌-ℤ◌, ◌*ℤ◌, int_lt, int_le, nat_abs, bit_and, bit_or, bit_xor, slice_set}
+use Rattle.std.specs.Prelude.{ℕ, ◌+◌, ◌-◌, ◌*◌, ◌/◌, ◌%◌, ◌^◌, Bool, true, false, not, ◌==◌, nat_lt, nat_le, if◌then◌else◌, List, [], ◌∷◌, ◌*ℤ◌, int_lt, int_le, bit_and, bit_or, bit_xor, slice_set}
 use Rattle.tv_mem.specs.Bytes.{Bytes, with_byte, with_word, word_in}
+use Rattle.tv_word.specs.Twos.{twos, fits}
 use Rattle.tv_word.specs.Word.{signed}
 use Rattle.tv_step.specs.State.{State, Next}
 use Rattle.tv_step.specs.declared.op.Op.{Op}
@@ -58,14 +59,6 @@ reads w st i a =
     if a == 0 then takes w st i st.primary (λ left. record st { primary = left })
     else if a == 1 then takes w st i st.aux (λ left. record st { aux = left })
     else takes w st i [] (λ _. st)
-
--- the number below 2 ^ n that a whole number, not below - 2 ^ n, is in two's complement
-abbrev pub twos : ℕ → ℤ → ℕ
-twos n z = nat_abs (z +ℤ pos (2 ^ n)) % 2 ^ n
-
--- whether a whole number is a signed word
-abbrev pub fits : ℕ → ℤ → Bool
-fits w z = int_le (pos 0 -ℤ pos (2 ^ (w - 1))) z && int_lt z (pos (2 ^ (w - 1)))
 
 -- whether bit number n of a word is 1
 abbrev pub has_bit : ℕ → ℕ → Bool

@@ -1,24 +1,24 @@
 -- The trace of a run: what each step does to memory and tapes, as lines, and the states.
-use Rattle.std.specs.Prelude.{◌≡◌, ℕ, zero, suc, ◌+◌, ◌-◌, ◌*◌, ◌/◌, ◌^◌, if◌then◌else◌, List, [], ◌∷◌, ◌++◌, length, Option, Some, None, slice_get, ◌==◌}
+use Rattle.std.specs.Prelude.{ℕ, zero, suc, ◌+◌, ◌-◌, ◌*◌, ◌/◌, Bool, if◌then◌else◌, List, [], ◌∷◌, ◌++◌, length, Option, Some, None, slice_get, ◌==◌}
+use Rattle.tv_core.specs.Lines.{Line}
+use Rattle.tv_core.specs.declared.limits.TheConstants.{TAPE_CELLS, NULL_CELL}
 use Rattle.tv_mem.specs.Bytes.{word_in}
 use Rattle.tv_step.specs.Machine.{fetched, operand, state_after}
 use Rattle.tv_step.specs.Ops.{op_of}
+use Rattle.tv_step.specs.Reads.{ended_after}
 use Rattle.tv_step.specs.Rows.{word_size}
 use Rattle.tv_step.specs.State.{State}
-use Rattle.tv_step.specs.declared.lines.Line.{Line}
 use Rattle.tv_step.specs.declared.lines.TraceState.{TraceState}
-use Rattle.tv_step.specs.declared.recorder.Touched.{Touched}
-use Rattle.tv_step.specs.declared.recorder.Touched.TheVariants as touches
 use Rattle.tv_step.specs.declared.op.Op.{Op}
 use Rattle.tv_step.specs.declared.op.Op.TheVariants.{StoreB, LoadB, StoreW, LoadW, Read}
 
 -- A line says that at a time a cell holds `old`, and from then on `new`. The word number j of memory is cell j,
--- the word number i of the primary tape cell 2 ^ 30 + i, and a cell of its own, which holds 0, stands for none.
+-- the word number i of the primary tape cell TAPE_CELLS + i, and a cell of its own, which holds 0, stands for none.
 abbrev pub tape_cell : ℕ → ℕ
-tape_cell i = 2 ^ 30 + i
+tape_cell i = TAPE_CELLS + i
 
 abbrev pub null_line : ℕ → Line
-null_line time = record { cell = 2 ^ 30 + 2 ^ 29; time = time; old = 0; new = 0 }
+null_line time = record { cell = NULL_CELL; time = time; old = 0; new = 0 }
 
 -- a cell that only is looked at
 abbrev pub looked_at : ℕ → ℕ → ℕ → Line
@@ -43,14 +43,17 @@ line_of w n LoadW st a time = memory_line w st (a / word_size w) time
 line_of w n Read st a time = tape_line n st (if a == 0 then slice_get st.primary 0 else None) time
 line_of w n _ st a time = null_line time
 
--- the three lines of a step: its instruction's two words, and what the instruction does
+-- what a step does at a time besides fetching its instruction: its data line
+abbrev pub data_line : ℕ → ℕ → State → ℕ → Line
+data_line w n st time = line_of w n (op_of (fetched w st).op) st (operand st (fetched w st)) time
+
+-- the three lines of a step: its instruction's two words, and its data line
 abbrev pub step_lines : ℕ → ℕ → State → ℕ → List Line
 step_lines w n st time =
     let j = st.pc / word_size w in
-    let i = fetched w st in
     looked_at j time (word_in w st.memory j)
     ∷ looked_at (j + 1) (time + 1) (word_in w st.memory (j + 1))
-    ∷ line_of w n (op_of i.op) st (operand st i) (time + 2)
+    ∷ data_line w n st (time + 2)
     ∷ []
 
 -- the lines of t steps from a state on, the first at a time; an answering step comes again
@@ -58,17 +61,16 @@ abbrev pub lines_of : ℕ → ℕ → ℕ → State → ℕ → List Line
 lines_of w n time st zero = []
 lines_of w n time st (suc t) = lines_of w n time st t ++ step_lines w n (state_after w t st) (time + 3 * t)
 
--- what is told of a state, the tapes having had n and m words
-abbrev pub told_of : ℕ → ℕ → State → TraceState
-told_of n m st = record { pc = st.pc; regs = st.regs; flag = st.flag; primary = n - length st.primary; aux = m - length st.aux }
+-- what is told of a state, the tapes having had n and m words: of them as many are gone as aren't left, and
+-- whether a read of the auxiliary tape has found nothing before
+abbrev pub told_of : ℕ → ℕ → State → Bool → TraceState
+told_of n m st ended = record { pc = st.pc; regs = st.regs; flag = st.flag; primary = n - length st.primary; aux = m - length st.aux; ended = ended }
+
+-- the state after t steps from one on, as it is told
+abbrev pub state_told : ℕ → ℕ → ℕ → State → ℕ → TraceState
+state_told w n m st t = told_of n m (state_after w t st) (ended_after w t st)
 
 -- the states before, between and after t steps
 abbrev pub states_of : ℕ → ℕ → ℕ → State → ℕ → List TraceState
-states_of w n m st zero = told_of n m st ∷ []
-states_of w n m st (suc t) = states_of w n m st t ++ told_of n m (state_after w (suc t) st) ∷ []
-
--- what a step touches, by the lines that it has at any time
-abbrev pub Touches : Touched → (ℕ → Line) → State → Type 0
-Touches (touches.Memory at) line st = (time : ℕ) → line time ≡ memory_line 32 st (at / 4) time
-Touches (touches.Tape cell word) line st = (time : ℕ) → line time ≡ looked_at cell time word
-Touches touches.Nothing line st = (time : ℕ) → line time ≡ null_line time
+states_of w n m st zero = state_told w n m st zero ∷ []
+states_of w n m st (suc t) = states_of w n m st t ++ state_told w n m st (suc t) ∷ []

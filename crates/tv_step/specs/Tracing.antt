@@ -1,19 +1,19 @@
--- When a run has a trace.
-use Rattle.std.specs.Prelude.{◌≡◌, ◌==◌, Bool, true, false}
-use Rattle.tv_step.specs.declared.end.End.{End}
-use Rattle.tv_step.specs.declared.end.End.TheVariants as ends
+-- What a trace tells of a run, and when there is none.
+use Rattle.std.specs.Prelude.{◌≡◌, ℕ, ◌+◌, List, length}
+use Rattle.tv_step.specs.Machine.{start, end_of, Accepts}
+use Rattle.tv_step.specs.Trace.{lines_of, states_of}
+use Rattle.tv_step.specs.declared.lines.Trace.{Trace}
 use Rattle.tv_step.specs.declared.tracing.TraceFault.{TraceFault}
 use Rattle.tv_step.specs.declared.tracing.TraceFault.TheVariants.{NoRun, Memory}
 
--- whether a run that ends so accepts: it answers 0
-abbrev pub accepts : End → Bool
-accepts (ends.Answer value step) = value == 0
-accepts _ = false
+-- the trace of a run on an image and two tapes that answers within t steps: the value that it answers, the lines
+-- of t steps, whose times begin behind those of the image's and the primary tape's words, and t + 1 states
+pub record IsTrace (w : ℕ) (image primary aux : List ℕ) (t : ℕ) (trace : Trace) : Type 0 where
+  pub answer : Accepts w image primary aux t trace.answer
+  pub lines : trace.lines ≡ lines_of w (length primary) (length image + length primary) (start w image primary aux) t
+  pub states : trace.states ≡ states_of w (length primary) (length aux) (start w image primary aux) t
 
-abbrev pub IsAccepting : End → Type 0
-IsAccepting end = accepts end ≡ true
-
--- no trace is there: the run ends so, and doesn't accept; or memory was wanting
-abbrev pub IsRefused : TraceFault → End → Type 0
-IsRefused (NoRun end) due = (end ≡ due) × (accepts due ≡ false)
-IsRefused Memory due = Unit {0}
+-- no trace is there: the run ends so, and answers nothing; or memory was wanting
+abbrev pub IsRefused : ℕ → List ℕ → List ℕ → List ℕ → ℕ → TraceFault → Type 0
+IsRefused w image primary aux t (NoRun end) = (end ≡ end_of w t (start w image primary aux)) × ((v : ℕ) → Accepts w image primary aux t v → ⊥)
+IsRefused w image primary aux t Memory = Unit {0}

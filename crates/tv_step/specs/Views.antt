@@ -1,13 +1,13 @@
 -- The program's machine as a state, and what its steps come to.
-use Rattle.std.specs.Prelude.{◌≡◌}
+use Rattle.std.specs.Prelude.{◌≡◌, ℕ}
 use Rattle.tv_mem.specs.Pages.{bytes_in}
 use Rattle.tv_step.specs.State.{State, Next}
 use Rattle.tv_step.specs.declared.end.Outcome.{Outcome}
 use Rattle.tv_step.specs.declared.end.Outcome.TheVariants as outcomes
-use Rattle.tv_step.specs.declared.machine.Machine.{Machine}
+use Rattle.tv_step.specs.declared.state.Machine.{Machine}
 
 -- the state that a machine is in
-abbrev pub state_of : Machine → State
+abbrev pub state_of : {w : ℕ} → Machine w → State
 state_of machine = record {
   pc = machine.pc;
   regs = machine.regs;

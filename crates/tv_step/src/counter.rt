@@ -1,28 +1,31 @@
-ghost use Rattle.std.specs.Prelude.{◌≡◌, ◌+◌, ◌-◌, ◌%◌, ◌^◌};
+ghost use Rattle.std.specs.Prelude.{◌≡◌, ◌+◌, ◌-◌, ◌/◌, ◌%◌, ◌^◌, ◌<◌};
+ghost use Rattle.tv_word.specs.Widths.{IsWidth};
 
 use std::marker::Model;
 
-/// The program counter: an address of an instruction, so a multiple of 8. Contracts see the address.
+/// The program counter: an address of an instruction, so a multiple of its size, `W / 4` bytes.
+/// Contracts see the address.
 #[derive(Clone, Copy, PartialEq, Eq, Debug)]
-pub struct Counter {
+pub struct Counter<const W: u32> {
     address: u32,
 }
 
-impl Model for Counter {
-    ghost use Rattle.std.specs.Prelude.{ℕ, ◌≡◌, ◌%◌};
+impl<const W: u32> Model for Counter<W> {
+    ghost use Rattle.std.specs.Prelude.{ℕ, ◌≡◌, ◌<◌, ◌/◌, ◌%◌, ◌^◌};
 
     ghost Value = { ℕ };
 
     ghost view = { λ counter. counter.address };
 
-    ghost invariant = { λ counter. counter.address % 8 ≡ 0 };
+    ghost invariant = { λ counter. (counter.address % (W / 4) ≡ 0) × (counter.address < 2 ^ W) };
 
     ghost inverse = { λ address. record { address = address } };
 }
 
-impl Counter {
+impl<const W: u32> Counter<W> {
     /// The first instruction's.
-    pub fn new() -> Counter
+    pub fn new() -> Counter<W>
+        requires width { IsWidth W }
         ensures { result ≡ 0 }
     {
         Counter { address: 0 }
@@ -30,27 +33,32 @@ impl Counter {
 
     /// The address.
     pub fn address(self) -> u32
-        ensures same { result ≡ self }
-        ensures aligned { result % 8 ≡ 0 }
+        ensures same { result ≡ self.entry }
+        ensures aligned { result % (W / 4) ≡ 0 }
+        ensures small { result < 2 ^ W }
     {
         self.address
     }
 
     /// The instruction behind, round to the first after the last.
-    pub fn behind(self) -> Counter
-        ensures { result ≡ (self + 8) % 2 ^ 32 }
+    pub fn behind(self) -> Counter<W>
+        requires width { IsWidth W }
+        ensures { result ≡ (self.entry + W / 4) % 2 ^ W }
     {
+        let address = u64::from(self.address) + u64::from(W / 4);
         Counter {
-            address: self.address.wrapping_add(8),
+            address: (address % (1 << W)) as u32,
         }
     }
 
     /// The instruction in which an address lies.
-    pub fn of(address: u32) -> Counter
-        ensures { result ≡ address - address % 8 }
+    pub fn of(address: u32) -> Counter<W>
+        requires width { IsWidth W }
+        requires small { address < 2 ^ W }
+        ensures { result ≡ address - address % (W / 4) }
     {
         Counter {
-            address: address - address % 8,
+            address: address - address % (W / 4),
         }
     }
 }

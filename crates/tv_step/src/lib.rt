@@ -1,5 +1,6 @@
-//! The machine: its state, one step by the table of the 29 instructions, and runs. `step` is the
-//! definition `next` and `run` its iteration `end_of`, for every state; the commands above call `run`.
+//! The machine, with words of `W` bits, 16 or 32: its state, one step by the table of the 29
+//! instructions, and runs. `step` is the definition `next` and `run` its iteration `end_of`, for
+//! every state; the commands above call `run`, and the layout is built over `trace`.
 #![tactic(auto)]
 
 mod arithmetic;
@@ -7,10 +8,13 @@ mod counter;
 mod end;
 mod execute;
 mod image;
+mod laws;
 mod lines;
 mod machine;
 mod op;
 mod recorder;
+mod registers;
+mod state;
 #[cfg(test)]
 mod step_tests;
 #[cfg(test)]
@@ -18,7 +22,10 @@ mod tests;
 mod tracing;
 
 pub use end::{End, Outcome};
-pub use lines::{Line, Lines, States, Trace, TraceState};
-pub use machine::Machine;
-pub use op::{Op, op_of};
+pub use laws::{
+    lines_tell_the_cells, runs_answer_at_their_end, runs_are_honest, states_are_in_range,
+    steps_follow, tapes_are_taken_in_order, traces_are_by_place,
+};
+pub use lines::{Lines, States, Trace, TraceState};
+pub use state::Machine;
 pub use tracing::{TraceFault, trace};

@@ -1,37 +1,10 @@
 ghost use Rattle.std.specs.Prelude.{◌≡◌, [], ◌∷◌, ◌++◌, OnOk};
-ghost use Rattle.tv_step.specs.Trace.{looked_at};
 
 use std::alloc::{AllocError, Global};
 use std::marker::Model;
+use tv_core::Line;
 
-/// A line: at a time a cell holds `old`, and from then on `new`.
-#[derive(Clone, Copy, PartialEq, Eq, Debug)]
-pub struct Line {
-    /// A word of memory, a word of the primary tape, or none, by its number.
-    pub cell: u32,
-    /// When it is, counted from the first line.
-    pub time: u32,
-    /// The word that the cell holds before.
-    pub old: u32,
-    /// The word that it holds from then on.
-    pub new: u32,
-}
-
-impl Line {
-    /// A cell that only is looked at.
-    pub(crate) fn looked_at(cell: u32, time: u32, word: u32) -> Line
-        ensures { result ≡ looked_at cell time word }
-    {
-        Line {
-            cell,
-            time,
-            old: word,
-            new: word,
-        }
-    }
-}
-
-/// A state as the trace tells it, with the number of words that were taken of each tape.
+/// A state as the trace tells it, with the number of words that are gone of each tape.
 #[derive(Clone, Copy, PartialEq, Eq, Debug)]
 pub struct TraceState {
     /// The program counter.
@@ -44,6 +17,8 @@ pub struct TraceState {
     pub primary: u32,
     /// How many words of the auxiliary tape are taken.
     pub aux: u32,
+    /// Whether a read of the auxiliary tape has found nothing before. It never falls.
+    pub ended: bool,
 }
 
 /// A list of lines.
@@ -54,7 +29,7 @@ pub struct Lines {
 
 impl Model for Lines {
     ghost use Rattle.std.specs.Prelude.{List};
-    ghost use Rattle.tv_step.specs.declared.lines.Line.{Line};
+    ghost use Rattle.tv_core.specs.Lines.{Line};
 
     ghost Value = { List Line };
 
@@ -128,9 +103,12 @@ impl States {
     }
 }
 
-/// The lines of a run's steps, three each, and the states before, between and after them.
+/// A run that answers: the value, the lines of its steps, three each, and the states before,
+/// between and after them.
 #[derive(Drop)]
 pub struct Trace {
+    /// The value that the machine answers.
+    pub answer: u32,
     /// Three for each step, in time order.
     pub lines: Lines,
     /// One more than steps.

@@ -1,4 +1,5 @@
-ghost use Rattle.std.specs.Prelude.{◌≡◌, ◌<◌, ◌≤◌, ◌+◌, ◌/◌, ◌^◌, ℕ, length, slice_index, IfOk, OnOk, OnErr};
+ghost use Rattle.std.specs.Prelude.{◌≡◌, ◌<◌, ◌≤◌, ◌+◌, ◌*◌, ◌/◌, ◌^◌, ℕ, length, slice_index, All, IfOk, OnOk, OnErr};
+ghost use Rattle.tv_word.specs.Widths.{IsWidth};
 ghost use Rattle.tv_isa.specs.Instruction.{IsInstruction};
 ghost use Rattle.tv_mem.specs.Bytes.{word_in};
 ghost use Rattle.tv_step.specs.Machine.{fetched, next, start, end_of, state_after};
@@ -7,45 +8,40 @@ ghost use Rattle.tv_step.specs.Views.{state_of, CameTo};
 use crate::counter::Counter;
 use crate::end::{End, Outcome};
 use crate::image::memory_with;
+use crate::registers::Registers;
+use crate::state::Machine;
 use std::alloc::{AllocError, Global};
 use tv_isa::{Instr, decode};
-use tv_mem::Memory;
 use tv_tape::Tape;
 use tv_word::Words;
 
-/// The machine in a state: a program counter, 16 registers, a flag, memory, and two tapes.
-#[derive(Drop)]
-pub struct Machine {
-    pub(crate) pc: Counter,
-    pub(crate) regs: [u32; 16],
-    pub(crate) flag: bool,
-    pub(crate) memory: Memory,
-    pub(crate) primary: Tape,
-    pub(crate) aux: Tape,
-}
-
-impl Machine {
-    /// The start: all 0, the image in memory from address 0 on, and two whole tapes.
+impl<const W: u32> Machine<W> {
+    /// The start: all 0, the image in memory from address 0 on, and two whole tapes. Memory has
+    /// 2^W bytes, so an image of words of 16 bits has at most 32,768 of them, and one of 32 bits
+    /// at most 2^30. Of an image's word that is no word of `W` bits, the lowest bits count.
     pub fn start(
         alloc: Global,
         image: &[u32],
         tape: Words,
         aux: Words,
-    ) -> Result<Machine, AllocError>
-        requires { length image.now ≤ 2 ^ 30 }
-        ensures { IfOk result (λ machine. state_of machine ≡ start 32 image.now tape aux) }
+    ) -> Result<Machine<W>, AllocError>
+        requires width { IsWidth W }
+        requires image { length image.now * (W / 8) ≤ 2 ^ W }
+        requires tape { All (λ v. v < 2 ^ W) tape }
+        requires aux { All (λ v. v < 2 ^ W) aux }
+        ensures { IfOk result (λ machine. state_of machine ≡ start W image.now tape aux) }
     {
         Ok(Machine {
             pc: Counter::new(),
-            regs: [0; 16],
+            regs: Registers::new(),
             flag: false,
-            memory: memory_with(alloc, image)?,
+            memory: memory_with::<W>(alloc, image)?,
             primary: Tape::new(tape),
             aux: Tape::new(aux),
         })
     }
 
-    /// The program counter.
+    /// The program counter: a multiple of the instruction's size, `W / 4` bytes.
     pub fn pc(&self) -> u32
         ensures { result ≡ (state_of self.now).pc }
     {
@@ -57,7 +53,7 @@ impl Machine {
         requires { i < 16 }
         ensures { result ≡ slice_index (state_of self.now).regs i }
     {
-        self.regs[i as usize]
+        self.regs.get(i as u8)
     }
 
     /// The flag.
@@ -69,38 +65,44 @@ impl Machine {
 
     // The two words of the instruction at the program counter.
     pub(crate) fn fetched_words(&self) -> (u32, u32)
-        ensures first { result.0 ≡ word_in 32 (state_of self.now).memory ((state_of self.now).pc / 4) }
-        ensures second { result.1 ≡ word_in 32 (state_of self.now).memory ((state_of self.now).pc / 4 + 1) }
+        requires width { IsWidth W }
+        ensures first { result.0 ≡ word_in W (state_of self.now).memory ((state_of self.now).pc / (W / 8)) }
+        ensures second { result.1 ≡ word_in W (state_of self.now).memory ((state_of self.now).pc / (W / 8) + 1) }
+        ensures second_word { result.1 < 2 ^ W }
     {
-        self.memory.load_pair(self.pc.address())
+        self.memory.load_pair::<W>(self.pc.address())
     }
 
     // The instruction at the program counter.
     fn fetched(&self) -> Instr
-        ensures same { result ≡ fetched 32 (state_of self.now) }
+        requires width { IsWidth W }
+        ensures same { result ≡ fetched W (state_of self.now) }
         ensures range { IsInstruction result }
+        ensures word { result.a < 2 ^ W }
     {
         let (h, a) = self.fetched_words();
-        decode(h, a)
+        decode::<W>(h, a)
     }
 
-    /// Takes one step. After an answer, after an opcode that isn't used, and where memory is refused,
-    /// the state is as before.
+    /// Takes one step. After an answer, after an opcode that isn't used, and where memory is
+    /// refused, the state is as before.
     pub fn step(&mut self) -> Result<Outcome, AllocError>
-        ensures ok { IfOk result (λ outcome. CameTo (next 32 (state_of self.old)) outcome (state_of self.old) (state_of self.new)) }
+        requires width { IsWidth W }
+        ensures ok { IfOk result (λ outcome. CameTo (next W (state_of self.old)) outcome (state_of self.old) (state_of self.new)) }
         ensures err { OnErr result (state_of self.new ≡ state_of self.old) }
     {
         let instr = self.fetched();
         self.executes(&instr)
     }
 
-    /// Takes at most `t` steps, which count from 1, and stops at an answer or an opcode that isn't used.
-    /// Where memory is refused, the state is one that the run reaches.
+    /// Takes at most `t` steps, which count from 1, and stops at an answer or an opcode that isn't
+    /// used. Where memory is refused, the state is one that the run reaches.
     #[tactic(auto, using(crate::proofs::RunLaws::end_silent, crate::proofs::RunLaws::end_answered, crate::proofs::RunLaws::end_undefined, crate::proofs::RunLaws::state_answered, crate::proofs::RunLaws::state_undefined, crate::proofs::RunLaws::state_reached, crate::proofs::RunLaws::ran_none, crate::proofs::RunLaws::ran_on))]
     pub fn run(&mut self, t: u64) -> Result<End, AllocError>
-        ensures end { IfOk result (λ end. end ≡ end_of 32 t (state_of self.old)) }
-        ensures state { OnOk result (state_of self.new ≡ state_after 32 t (state_of self.old)) }
-        ensures err { OnErr result ((n : ℕ) × (n < t) × (state_of self.new ≡ state_after 32 n (state_of self.old))) }
+        requires width { IsWidth W }
+        ensures end { IfOk result (λ end. end ≡ end_of W t (state_of self.old)) }
+        ensures state { OnOk result (state_of self.new ≡ state_after W t (state_of self.old)) }
+        ensures err { OnErr result ((n : ℕ) × (n < t) × (state_of self.new ≡ state_after W n (state_of self.old))) }
     {
         for taken in 0..t {
             match self.step()? {

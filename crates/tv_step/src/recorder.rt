@@ -1,34 +1,41 @@
 //! Steps that tell their lines.
-ghost use Rattle.std.specs.Prelude.{◌≡◌, ◌+◌, ◌*◌, ◌≤◌, ◌<◌, ◌^◌, ◌-◌, length, IfOk, OnOk, ℕ};
-ghost use Rattle.tv_step.specs.declared.lines.Line.{Line};
+ghost use Rattle.std.specs.Prelude.{◌≡◌, ◌+◌, ◌-◌, ◌*◌, ◌/◌, ◌<◌, ◌^◌, ◌==◌, ◌&&◌, ◌||◌, not, is_some, nat_lt, if◌then◌else◌, slice_get, length, IfOk, OnOk};
+ghost use Rattle.tv_core.specs.declared.limits.TheConstants.{TAPE_CELLS};
 ghost use Rattle.tv_isa.specs.Instruction.{IsInstruction};
+ghost use Rattle.tv_mem.specs.Bytes.{word_in};
+ghost use Rattle.tv_word.specs.Widths.{IsWidth};
 ghost use Rattle.tv_step.specs.Machine.{fetched, operand, state_after};
 ghost use Rattle.tv_step.specs.Ops.{op_of};
-ghost use Rattle.tv_step.specs.Trace.{line_of, step_lines, told_of, Touches};
+ghost use Rattle.tv_step.specs.Reads.{is_read, finds_end};
+ghost use Rattle.tv_step.specs.Trace.{looked_at, line_of, data_line, step_lines, told_of};
 ghost use Rattle.tv_step.specs.Views.{state_of};
 
-use crate::lines::{Line, TraceState};
-use crate::machine::Machine;
+use crate::lines::TraceState;
 use crate::op::{Op, op_of};
+use crate::state::Machine;
 use std::alloc::AllocError;
+use tv_core::Line;
+use tv_core::limits::{NULL_CELL, TAPE_CELLS};
 use tv_isa::{Instr, decode};
 use tv_tape::Tape;
 
-/// The cell of the first word of the primary tape.
-const TAPE_CELL: u32 = 1 << 30;
-
-/// The cell that stands for none.
-const NULL_CELL: u32 = (1 << 30) + (1 << 29);
-
-/// What a step touches besides its instruction.
+/// What is told of a step: its three lines, and the ended bit behind it.
 #[derive(Clone, Copy)]
-pub(crate) enum Touched {
-    /// The word of memory in which an address lies.
-    Memory { at: u32 },
-    /// A word of the primary tape.
-    Tape { cell: u32, word: u32 },
-    /// Neither.
-    Nothing,
+pub(crate) struct Recorded {
+    pub(crate) lines: [Line; 3],
+    pub(crate) ended: bool,
+}
+
+// The line of a cell that only is looked at.
+fn looked_at(cell: u32, time: u32, word: u32) -> Line
+    ensures { result ≡ looked_at cell time word }
+{
+    Line {
+        cell,
+        time,
+        old: word,
+        new: word,
+    }
 }
 
 // How many words of a tape that had `n` are taken.
@@ -38,81 +45,113 @@ fn taken(n: u32, tape: &Tape) -> u32
     n - tape.left().min(n as usize) as u32
 }
 
-impl Machine {
-    // What an instruction would touch, the primary tape having had `n` words.
-    fn touched(&self, instr: &Instr, n: u32) -> Touched
-        requires range { IsInstruction instr.now }
+impl<const W: u32> Machine<W> {
+    // The data line of an instruction with the operand `a`, as it stands before the step: nothing
+    // is stored yet. The primary tape has had `n` words.
+    fn line_before(&self, op: Op, a: u32, n: u32, time: u32) -> Line
+        requires width { IsWidth W }
+        requires word { a < 2 ^ W }
         requires short { n < 2 ^ 29 }
-        ensures { let st = state_of self.now in
-            Touches result (line_of 32 n (op_of instr.now.op) st (operand st instr.now)) st }
+        ensures { let line = line_of W n op (state_of self.now) a time in result ≡ looked_at line.cell time line.old }
     {
-        match op_of(instr.op) {
-            Op::StoreB | Op::LoadB | Op::StoreW | Op::LoadW => Touched::Memory {
-                at: self.operand(instr),
+        match op {
+            Op::StoreB | Op::LoadB | Op::StoreW | Op::LoadW => {
+                looked_at(a / (W / 8), time, self.word_at(a))
+            }
+            Op::Read if a == 0 => match self.primary.first() {
+                Some(word) => looked_at(TAPE_CELLS + taken(n, &self.primary), time, word),
+                None => looked_at(NULL_CELL, time, 0),
             },
-            Op::Read if self.operand(instr) == 0 => match self.primary.first() {
-                Some(word) => Touched::Tape {
-                    cell: TAPE_CELL + taken(n, &self.primary),
-                    word,
-                },
-                None => Touched::Nothing,
-            },
-            _ => Touched::Nothing,
+            _ => looked_at(NULL_CELL, time, 0),
         }
     }
 
-    // Takes a step, and tells the line of what it touched.
-    fn line_of(&mut self, touched: Touched, time: u32) -> Result<Line, AllocError>
-        ensures line { (line : ℕ → Line) → Touches touched line (state_of self.old) → IfOk result (λ told. told ≡ line time) }
-        ensures state { OnOk result (state_of self.new ≡ state_after 32 1 (state_of self.old)) }
+    // The data line once the step is taken: where it is of a word of memory, its new word is there.
+    fn line_after(&self, before: Line) -> Line
+        requires { IsWidth W }
+        ensures { result ≡ record before { new = if nat_lt before.cell TAPE_CELLS then word_in W (state_of self.now).memory before.cell else before.new } }
     {
-        let (cell, old) = match touched {
-            Touched::Memory { at } => (at / 4, self.word_at(at)),
-            Touched::Tape { cell, word } => (cell, word),
-            Touched::Nothing => (NULL_CELL, 0),
-        };
-        self.step()?;
-        let new = match touched {
-            Touched::Memory { at } => self.word_at(at),
-            _ => old,
-        };
-        Ok(Line {
-            cell,
-            time,
-            old,
-            new,
+        if before.cell < TAPE_CELLS {
+            Line {
+                new: self.word_at(before.cell * (W / 8)),
+                ..before
+            }
+        } else {
+            before
+        }
+    }
+
+    // Does what the instruction at the program counter says, and tells its data line at a time.
+    fn data_line(&mut self, instr: &Instr, n: u32, time: u32) -> Result<Line, AllocError>
+        requires width { IsWidth W }
+        requires word { instr.now.a < 2 ^ W }
+        requires range { IsInstruction instr.now }
+        requires short { n < 2 ^ 29 }
+        requires fetched { instr.now ≡ fetched W (state_of self.old) }
+        ensures line { IfOk result (λ line. line ≡ data_line W n (state_of self.old) time) }
+        ensures state { OnOk result (state_of self.new ≡ state_after W 1 (state_of self.old)) }
+    {
+        let a = self.operand(instr);
+        let before = self.line_before(op_of(instr.op), a, n, time);
+        self.executes(instr)?;
+        Ok(self.line_after(before))
+    }
+
+    // The ended bit after an instruction's step: it was set before, or the step reads the
+    // auxiliary tape and finds nothing.
+    fn ended_after(&self, instr: &Instr, ended: bool) -> bool
+        requires { instr.now.a < 2 ^ W }
+        ensures { let st = state_of self.now in
+            result ≡ (ended || ((is_read (op_of instr.now.op) && (operand st instr.now == 1)) && not (is_some (slice_get st.aux 0)))) }
+    {
+        ended
+            || (matches!(op_of(instr.op), Op::Read)
+                && self.operand(instr) == 1
+                && self.aux.first().is_none())
+    }
+
+    /// Takes a step, and tells its three lines, the first at a time, and the ended bit behind it.
+    /// The primary tape has had `n` words. Where the machine answers or stops, the state stays.
+    pub(crate) fn record_step(
+        &mut self,
+        n: u32,
+        time: u32,
+        ended: bool,
+    ) -> Result<Recorded, AllocError>
+        requires width { IsWidth W }
+        requires short { n < 2 ^ 29 }
+        requires times { time + 2 < 2 ^ 32 }
+        ensures lines { IfOk result (λ told. told.lines ≡ step_lines W n (state_of self.old) time) }
+        ensures ended { IfOk result (λ told. told.ended ≡ (ended || finds_end W (state_of self.old))) }
+        ensures state { OnOk result (state_of self.new ≡ state_after W 1 (state_of self.old)) }
+    {
+        let place = self.pc.address() / (W / 8);
+        let (first, second) = self.fetched_words();
+        let instr = decode::<W>(first, second);
+        let ended = self.ended_after(&instr, ended);
+        let line = self.data_line(&instr, n, time + 2)?;
+        Ok(Recorded {
+            lines: [
+                looked_at(place, time, first),
+                looked_at(place + 1, time + 1, second),
+                line,
+            ],
+            ended,
         })
     }
 
-    /// Takes a step, and tells its three lines, the first at a time, the primary tape having had `n`
-    /// words. Where the machine answers or stops, the state stays.
-    pub(crate) fn step_lines(&mut self, n: u32, time: u32) -> Result<[Line; 3], AllocError>
-        requires short { n < 2 ^ 29 }
-        requires times { time + 2 < 2 ^ 32 }
-        ensures lines { IfOk result (λ lines. lines ≡ step_lines 32 n (state_of self.old) time) }
-        ensures state { OnOk result (state_of self.new ≡ state_after 32 1 (state_of self.old)) }
-    {
-        let pc = self.pc.address();
-        let (first, second) = self.fetched_words();
-        let touched = self.touched(&decode(first, second), n);
-        let line = self.line_of(touched, time + 2)?;
-        Ok([
-            Line::looked_at(pc / 4, time, first),
-            Line::looked_at(pc / 4 + 1, time + 1, second),
-            line,
-        ])
-    }
-
-    /// What the trace tells of the state, the tapes having had `n` and `m` words.
-    pub(crate) fn told(&self, n: u32, m: u32) -> TraceState
-        ensures { result ≡ told_of n m (state_of self.now) }
+    /// What the trace tells of the state, the tapes having had `n` and `m` words, and a read of the
+    /// auxiliary one having found nothing before or not.
+    pub(crate) fn told(&self, n: u32, m: u32, ended: bool) -> TraceState
+        ensures { result ≡ told_of n m (state_of self.now) ended }
     {
         TraceState {
-            pc: self.pc(),
-            regs: self.regs,
+            pc: self.pc.address(),
+            regs: self.regs.words(),
             flag: self.flag,
             primary: taken(n, &self.primary),
             aux: taken(m, &self.aux),
+            ended,
         }
     }
 }

@@ -1,4 +1,5 @@
-//! Single steps: what the instruction with each name does, on inputs on which no other does the same.
+//! Single steps: what the instruction with each name does, on inputs on which no other does the
+//! same.
 use crate::{Machine, Outcome};
 use std::alloc::{AllocError, Global};
 use std::test::Fail;
@@ -26,7 +27,8 @@ enum Does {
     Stops(Outcome),
 }
 
-/// A name in program text, the flag, the words in register 1 and in the operand, and what comes of them.
+/// A name in program text, the flag, the words in register 1 and in the operand, and what comes of
+/// them.
 type Row = (&'static str, bool, u32, u32, Does);
 
 const ROWS: [Row; 66] = [
@@ -167,7 +169,7 @@ impl Does {
 
 /// The words of an instruction with the destination 2, the source 1 and an immediate operand.
 fn instruction(op: u8, dest: u8, a: u32) -> [u32; 2] {
-    encode(&Instr {
+    encode::<32>(&Instr {
         op: op % 32,
         imm: true,
         dest: dest % 16,
@@ -176,7 +178,8 @@ fn instruction(op: u8, dest: u8, a: u32) -> [u32; 2] {
     })
 }
 
-/// One step of the instruction with an opcode, on the words of a row, behind those that bring them about.
+/// One step of the instruction with an opcode, on the words of a row, behind those that bring them
+/// about.
 fn step_by(alloc: Global, op: u8, row: &Row) -> Result<Seen, AllocError> {
     let (_, flag, s, a, _) = *row;
     let program = [
@@ -189,7 +192,7 @@ fn step_by(alloc: Global, op: u8, row: &Row) -> Result<Seen, AllocError> {
     ];
     let tape: Words = Vec::from_slice(alloc, &[77])?.into();
     let aux: Words = Vec::from_slice(alloc, &[88])?.into();
-    let mut machine = Machine::start(alloc, program.as_flattened(), tape, aux)?;
+    let mut machine = Machine::<32>::start(alloc, program.as_flattened(), tape, aux)?;
     machine.run(5)?;
     let outcome = machine.step()?;
     Ok(Seen {

@@ -4,4 +4,4 @@ use Rattle.tv_step.specs.Machine.{image_bytes}
 use Rattle.tv_step.proofs.image.memory_with.Given as goal
 
 abbrev pub invariant-loop-place : goal.invariant-loop-place
-invariant-loop-place l = bytes_in l.memory ≡ image_bytes 32 (take l.place l.image)
+invariant-loop-place g l = bytes_in l.memory ≡ image_bytes g.row.W (take l.place l.image)
