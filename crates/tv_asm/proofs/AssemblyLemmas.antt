@@ -25,80 +25,80 @@ address_at w all name true e = rw e refl
 address_at w all name false e = rw e refl
 
 -- the labels noted have the addresses that the lines give them
-pub address_in-is : (labels : Labels) (all : List (List ℕ)) → AreLabelsOf labels all → address_in labels ≡ address 32 all
-address_in-is labels all h =
-    same_functions (λ name. ap (option_map (λ place. place.address)) (h.each name) ∙ address_at 32 all name (is_defined all name) refl)
+pub address_in-is : (w : ℕ) (labels : Labels) (all : List (List ℕ)) → AreLabelsOf w labels all → address_in labels ≡ address w all
+address_in-is w labels all h =
+    same_functions (λ name. ap (option_map (λ place. place.address)) (h.each name) ∙ address_at w all name (is_defined all name) refl)
 
 -- whether a place stands before the line behind these
 abbrev stands_before : List (List ℕ) → Option Place → Bool
 stands_before before place = option_map_or (λ p. nat_lt p.line (length before + 1)) place false
 
-earlier_at : (before rest : List (List ℕ)) (name : List ℕ) (b r : Bool) → list_any (defines name) before ≡ b → list_any (defines name) rest ≡ r → stands_before before (first_place 32 (before ++ rest) name) ≡ b
+earlier_at : (w : ℕ) (before rest : List (List ℕ)) (name : List ℕ) (b r : Bool) → list_any (defines name) before ≡ b → list_any (defines name) rest ≡ r → stands_before before (first_place w (before ++ rest) name) ≡ b
 unfolding first_place
-earlier_at before rest name true r e d =
+earlier_at w before rest name true r e d =
     rw (list_any-append (defines name) before rest, e, before_first-append_any (defines name) before rest e)
     (lt-ltb _ _ (omega (arith, length-before_first-lt (defines name) before e)))
-earlier_at before rest name false true e d =
+earlier_at w before rest name false true e d =
     rw (list_any-append (defines name) before rest, e, d)
     (le-ltb _ _ (omega (arith, length-before_first-ge (defines name) before rest e)))
-earlier_at before rest name false false e d = rw (list_any-append (defines name) before rest, e, d) refl
+earlier_at w before rest name false false e d = rw (list_any-append (defines name) before rest, e, d) refl
 
 -- a label is noted on an earlier line where such a line defines it
-pub is_earlier-is : (labels : Labels) (all : List (List ℕ)) (n : ℕ) → AreLabelsOf labels all → length (take n all) ≡ n → is_earlier labels (n + 1) ≡ is_defined (take n all)
-is_earlier-is labels all n h l =
+pub is_earlier-is : (w : ℕ) (labels : Labels) (all : List (List ℕ)) (n : ℕ) → AreLabelsOf w labels all → length (take n all) ≡ n → is_earlier labels (n + 1) ≡ is_defined (take n all)
+is_earlier-is w labels all n h l =
     same_functions (λ name.
     ap (λ place. option_map_or (λ p. nat_lt p.line (n + 1)) place false) (h.each name)
-    ∙ ap (λ m. option_map_or (λ p. nat_lt p.line (m + 1)) (first_place 32 all name) false) (sym l)
-    ∙ ap (λ ls. stands_before (take n all) (first_place 32 ls name)) (sym (take-append-drop n all))
-    ∙ earlier_at (take n all) (drop n all) name (list_any (defines name) (take n all)) (list_any (defines name) (drop n all)) refl refl)
+    ∙ ap (λ m. option_map_or (λ p. nat_lt p.line (m + 1)) (first_place w all name) false) (sym l)
+    ∙ ap (λ ls. stands_before (take n all) (first_place w ls name)) (sym (take-append-drop n all))
+    ∙ earlier_at w (take n all) (drop n all) name (list_any (defines name) (take n all)) (list_any (defines name) (drop n all)) refl refl)
 
 -- the lines before the rest of a text are assembled
-pub record IsAssembled (labels : Labels) (most number : ℕ) (words rest text : List ℕ) : Type 0 where
+pub record IsAssembled (w : ℕ) (labels : Labels) (most number : ℕ) (words rest text : List ℕ) : Type 0 where
   pub rest_lines : lines rest ≡ drop number (lines text)
-  pub noted : AreLabelsOf labels (lines text)
-  pub so_far : image_of 32 most (lines text) (take number (lines text)) words (drop number (lines text)) ≡ assembled 32 most text
+  pub noted : AreLabelsOf w labels (lines text)
+  pub so_far : image_of w most (lines text) (take number (lines text)) words (drop number (lines text)) ≡ assembled w most text
   pub fits : length words ≤ most
   pub room : number + length rest ≤ length text
 
 -- before the first line
-pub IsAssembled-none : (labels : Labels) (most : ℕ) (text : List ℕ) → AreLabelsOf labels (lines text) → IsAssembled labels most 0 [] text text
+pub IsAssembled-none : (w : ℕ) (labels : Labels) (most : ℕ) (text : List ℕ) → AreLabelsOf w labels (lines text) → IsAssembled w labels most 0 [] text text
 unfolding assembled
-IsAssembled-none labels most text h =
+IsAssembled-none w labels most text h =
     record { rest_lines = refl; noted = h; so_far = refl; fits = omega arith; room = omega arith }
 
 -- what the next line gives decides
-next_is : (labels : Labels) (most number : ℕ) (words rest behind text line : List ℕ)
-    → IsAssembled labels most number words rest text
+next_is : (w : ℕ) (labels : Labels) (most number : ℕ) (words rest behind text line : List ℕ)
+    → IsAssembled w labels most number words rest text
     → lines rest ≡ line ∷ lines behind
-    → (with_line 32 most (number + 1) (is_earlier labels (number + 1)) (address_in labels) words line
-    >>= λ next. image_of 32 most (lines text) (take number (lines text) ++ line ∷ []) next (lines behind))
-    ≡ assembled 32 most text
-next_is labels most number words rest behind text line r first =
+    → (with_line w most (number + 1) (is_earlier labels (number + 1)) (address_in labels) words line
+    >>= λ next. image_of w most (lines text) (take number (lines text) ++ line ∷ []) next (lines behind))
+    ≡ assembled w most text
+next_is w labels most number words rest behind text line r first =
     let all = lines text in
     let next : drop number all ≡ line ∷ lines behind = sym r.rest_lines ∙ first in
     let count : length (take number all) ≡ number = length-take_next all number line (lines behind) next in
     let before = take number all in
-    let more = λ (words' : List ℕ). image_of 32 most all (before ++ line ∷ []) words' (lines behind) in
-    ap (λ f. with_line 32 most (number + 1) f (address_in labels) words line >>= more) (is_earlier-is labels all number r.noted count)
-    ∙ ap (λ f. with_line 32 most (number + 1) (is_defined before) f words line >>= more) (address_in-is labels all r.noted)
-    ∙ ap (λ n. with_line 32 most (n + 1) (is_defined before) (address 32 all) words line >>= more) (sym count)
-    ∙ ap (image_of 32 most all before words) (sym next)
+    let more = λ (words' : List ℕ). image_of w most all (before ++ line ∷ []) words' (lines behind) in
+    ap (λ f. with_line w most (number + 1) f (address_in labels) words line >>= more) (is_earlier-is w labels all number r.noted count)
+    ∙ ap (λ f. with_line w most (number + 1) (is_defined before) f words line >>= more) (address_in-is w labels all r.noted)
+    ∙ ap (λ n. with_line w most (n + 1) (is_defined before) (address w all) words line >>= more) (sym count)
+    ∙ ap (image_of w most all before words) (sym next)
     ∙ r.so_far
 
 -- one line more is assembled
-pub IsAssembled-more : (labels : Labels) (most number : ℕ) (words after rest behind text line : List ℕ)
-    → IsAssembled labels most number words rest text
+pub IsAssembled-more : (w : ℕ) (labels : Labels) (most number : ℕ) (words after rest behind text line : List ℕ)
+    → IsAssembled w labels most number words rest text
     → lines rest ≡ line ∷ lines behind
     → length behind < length rest
-    → with_line 32 most (number + 1) (is_earlier labels (number + 1)) (address_in labels) words line ≡ Ok after
+    → with_line w most (number + 1) (is_earlier labels (number + 1)) (address_in labels) words line ≡ Ok after
     → length after ≤ most
-    → IsAssembled labels most (number + 1) after behind text
-IsAssembled-more labels most number words after rest behind text line r first shorter step fits =
+    → IsAssembled w labels most (number + 1) after behind text
+IsAssembled-more w labels most number words after rest behind text line r first shorter step fits =
     let all = lines text in
     let next : drop number all ≡ line ∷ lines behind = sym r.rest_lines ∙ first in
-    let goes = next_is labels most number words rest behind text line r first in
-    let more = λ (words' : List ℕ). image_of 32 most all (take number all ++ line ∷ []) words' (lines behind) in
-    let ends : more after ≡ assembled 32 most text = ap (λ s. s >>= more) (sym step) ∙ goes in
+    let goes = next_is w labels most number words rest behind text line r first in
+    let more = λ (words' : List ℕ). image_of w most all (take number all ++ line ∷ []) words' (lines behind) in
+    let ends : more after ≡ assembled w most text = ap (λ s. s >>= more) (sym step) ∙ goes in
     record {
       rest_lines = sym (drop_next all number line (lines behind) next);
       noted = r.noted;
@@ -108,20 +108,20 @@ IsAssembled-more labels most number words after rest behind text line r first sh
     }
 
 -- a line at fault is the fault of the text
-pub IsAssembled-fault : (labels : Labels) (most number : ℕ) (words rest behind text line : List ℕ) (fault : AsmFault)
-    → IsAssembled labels most number words rest text
+pub IsAssembled-fault : (w : ℕ) (labels : Labels) (most number : ℕ) (words rest behind text line : List ℕ) (fault : AsmFault)
+    → IsAssembled w labels most number words rest text
     → lines rest ≡ line ∷ lines behind
-    → with_line 32 most (number + 1) (is_earlier labels (number + 1)) (address_in labels) words line ≡ Err fault
-    → Err fault ≡ assembled 32 most text
-IsAssembled-fault labels most number words rest behind text line fault r first step =
+    → with_line w most (number + 1) (is_earlier labels (number + 1)) (address_in labels) words line ≡ Err fault
+    → Err fault ≡ assembled w most text
+IsAssembled-fault w labels most number words rest behind text line fault r first step =
     let all = lines text in
-    let more = λ (words' : List ℕ). image_of 32 most all (take number all ++ line ∷ []) words' (lines behind) in
-    ap (λ s. s >>= more) (sym step) ∙ next_is labels most number words rest behind text line r first
+    let more = λ (words' : List ℕ). image_of w most all (take number all ++ line ∷ []) words' (lines behind) in
+    ap (λ s. s >>= more) (sym step) ∙ next_is w labels most number words rest behind text line r first
 
 -- all lines are assembled
-pub IsAssembled-end : (labels : Labels) (most number : ℕ) (words rest text : List ℕ) → IsAssembled labels most number words rest text → lines rest ≡ [] → Ok words ≡ assembled 32 most text
-IsAssembled-end labels most number words rest text r end =
-    ap (image_of 32 most (lines text) (take number (lines text)) words) (sym (sym r.rest_lines ∙ end)) ∙ r.so_far
+pub IsAssembled-end : (w : ℕ) (labels : Labels) (most number : ℕ) (words rest text : List ℕ) → IsAssembled w labels most number words rest text → lines rest ≡ [] → Ok words ≡ assembled w most text
+IsAssembled-end w labels most number words rest text r end =
+    ap (image_of w most (lines text) (take number (lines text)) words) (sym (sym r.rest_lines ∙ end)) ∙ r.so_far
 
 -- a fault that is passed on
 pub passed_on : {A : Type 0} (result : Result A AsmFault) (fault : AsmFault) → IsErrAnd result (λ e. e ≡ fault) → result ≡ Err fault

@@ -2,9 +2,10 @@
 use Rattle.std.specs.Prelude.{ℕ, ◌+◌, ◌==◌, nat_le, Bool, false, not, ◌||◌, List, [], ◌∷◌, ◌++◌, length, Option, Result, Ok, Err}
 use Rattle.std.specs.List.{list_all}
 use Rattle.std.specs.Option.{ok_or, option_map_or}
+use Rattle.tv_asm.specs.Header.{is_good_header}
 use Rattle.tv_asm.specs.Instruction.{words_of}
 use Rattle.tv_asm.specs.Labels.{address, is_defined}
-use Rattle.tv_asm.specs.Line.{code_of, is_text, is_good_header, said}
+use Rattle.tv_asm.specs.Line.{code_of, is_text, said}
 use Rattle.tv_asm.specs.Steps.{◌>>=◌, check}
 use Rattle.tv_asm.specs.Text.{lines}
 use Rattle.tv_asm.specs.declared.fault.AsmFault.{AsmFault}

@@ -1,6 +1,8 @@
 pub mod Assembly
+pub mod Header
 pub mod Instruction
 pub mod Labels
+pub mod Law
 pub mod Line
 pub mod Operand
 pub mod Steps

@@ -1,10 +1,8 @@
 -- What a line of program text says.
-use Rattle.std.specs.Prelude.{ℕ, ◌+◌, ◌==◌, nat_eq, nat_le, nat_lt, Bool, true, not, ◌&&◌, ◌||◌, if◌then◌else◌, List, ◌++◌, length, drop, map, slice_index, Option, Some, None, codes}
+use Rattle.std.specs.Prelude.{ℕ, ◌+◌, ◌==◌, nat_le, nat_lt, Bool, ◌&&◌, ◌||◌, if◌then◌else◌, List, length, drop, slice_index, Option, Some, None}
 use Rattle.std.specs.Char.{is_ascii_alphanumeric}
-use Rattle.std.specs.Int.Digits.{digits_of}
-use Rattle.std.specs.List.{before_first, list_all, slice_split, starts_with, take_while}
-use Rattle.std.specs.Str.{bytes_eq}
-use Rattle.tv_asm.specs.Text.{is_blank, trimmed}
+use Rattle.std.specs.List.{before_first, take_while}
+use Rattle.tv_asm.specs.Text.{trimmed}
 
 -- the line without its comment, which begins at the first `;`
 abbrev pub code_of : List ℕ → List ℕ
@@ -13,20 +11,6 @@ code_of line = before_first (λ c. c == 59) line
 -- what may stand outside comments: a tab, or a character from the space to `~`
 abbrev pub is_text : ℕ → Bool
 is_text c = c == 9 || (nat_le 32 c && nat_le c 126)
-
--- a field of a header: one that begins `W=` tells the word width, one that begins `K=` that there are 16
--- registers; others say nothing
-abbrev pub is_good_field : ℕ → List ℕ → Bool
-is_good_field w field =
-    (not (starts_with nat_eq field (codes "W=")) || bytes_eq field (codes "W=" ++ map (λ d. d + 48) (digits_of 10 w)))
-    && (not (starts_with nat_eq field (codes "K=")) || bytes_eq field (codes "K=16"))
-
--- a line that begins as a header does has good fields behind that, cut at blanks
-unfoldable pub is_good_header : ℕ → List ℕ → Bool
-is_good_header w line =
-    if starts_with nat_eq line (codes "; TinyRAM")
-    then list_all (is_good_field w) (slice_split is_blank (drop 9 line))
-    else true
 
 -- a letter, a digit, `_` or `.`
 abbrev pub is_label_byte : ℕ → Bool
@@ -46,8 +30,12 @@ labelled code =
     then Some (record { label = Some label; instruction = trimmed (drop (length label + 1) code) })
     else None
 
--- what a line says; None where its label is bad
-unfoldable pub said : List ℕ → Option Said
-said line =
-    let code = trimmed (code_of line) in
+-- what a line's code says; None where its label is bad
+unfoldable pub code_says : List ℕ → Option Said
+code_says text =
+    let code = trimmed text in
     if slice_index code 0 == 95 then labelled code else Some (record { label = None; instruction = code })
+
+-- what a line says
+abbrev pub said : List ℕ → Option Said
+said line = code_says (code_of line)

@@ -1,54 +1,65 @@
-ghost use Rattle.std.specs.Prelude.{◌≡◌, ◌≤◌, ◌⊎◌, ◌==◌, length, false, OnOk, IfErr, Ok, Err};
+ghost use Rattle.std.specs.Prelude.{◌≡◌, ◌<◌, ◌≤◌, ◌^◌, ◌⊎◌, ◌==◌, length, false, OnOk, IfOk, IfErr, Ok, Err};
+ghost use Rattle.std.specs.List.{All};
 ghost use Rattle.std.specs.Option.{option_map, option_map_or};
 ghost use Rattle.tv_asm.specs.Assembly.{assembled, line_words, part_words, with_line};
+ghost use Rattle.tv_asm.specs.Header.{width_of};
 ghost use Rattle.tv_asm.specs.Views.{address_in, is_earlier, words_said};
+ghost use Rattle.tv_word.specs.Widths.{IsWidth};
 
 use crate::fault::{AsmFault, AsmWhy};
+use crate::header::is_good_header;
 use crate::instruction::words_of;
 use crate::labels::Labels;
-use crate::line::{Statement, is_good_header, is_text};
+use crate::line::{Statement, code_of, is_text};
 use crate::text::next_line;
 use std::alloc::Global;
 use tv_word::Words;
 
-/// The image of a program text, which is the words of its instructions in order, at most `most` of
-/// them: exactly what its definition gives the whole text, or want of memory.
+/// The image of a program text for words of `W` bits, 16 or 32: the words of its instructions in
+/// order, at most `most` of them. It is exactly what its definition gives the whole text, or want
+/// of memory. A text for words of 16 bits is one whose `width` is 16; with 32 its header is
+/// refused.
 ///
-/// The first line at fault is told, by its number from 1: `Bad` with the first reason in the order of
-/// `AsmWhy`, or `TooMany` where its words would be more than `most` with those before. The text is
-/// walked twice, first for its labels, in time linear in its length but for the look-ups of labels in
-/// an ordered map.
-pub fn assemble(alloc: Global, text: &[u8], most: u32) -> Result<Words, AsmFault>
-    ensures { (result ≡ assembled 32 most text.now) ⊎ (result ≡ Err AsmFault.Memory) }
+/// The first line at fault is told, by its number from 1: `Bad` with the first reason in the order
+/// of `AsmWhy`, or `TooMany` where its words would be more than `most` with those before. The text
+/// is walked twice, first for its labels, in time linear in its length: labels are looked up by
+/// their hashes, whose seed is fixed.
+pub fn assemble<const W: u32>(alloc: Global, text: &[u8], most: u32) -> Result<Words, AsmFault>
+    requires width { IsWidth W }
+    requires text { W ≡ 16 → width_of text.now ≡ 16 }
+    ensures image { (result ≡ assembled W most text.now) ⊎ (result ≡ Err AsmFault.Memory) }
+    ensures most { IfOk result (λ words. length words ≤ most) }
+    ensures small { IfOk result (All (λ word. word < 2 ^ W)) }
 {
-    let labels = Labels::of(alloc, text)?;
+    let labels = Labels::of::<W>(alloc, text)?;
     let mut words = Words::new(alloc);
     let mut number = 0_u64;
     let mut rest = text;
     while let Some((line, behind)) = next_line(rest) {
         number += 1;
-        append(&mut words, line, number, &labels, most)?;
+        append::<W>(&mut words, line, number, &labels, most)?;
         rest = behind;
     }
     Ok(words)
 }
 
 /// Puts the words of a line behind those of the lines before it.
-fn append(
+fn append<const W: u32>(
     words: &mut Words,
     line: &[u8],
     number: u64,
     labels: &Labels<'_>,
     most: u32,
 ) -> Result<(), AsmFault>
-    requires { length words.old ≤ most }
+    requires width { IsWidth W }
+    requires room { length words.old ≤ most }
     ensures room { OnOk result (length words.new ≤ most) }
     ensures ok { OnOk result
-        (with_line 32 most number (is_earlier labels.now number) (address_in labels.now) words.old line.now ≡ Ok words.new) }
+        (with_line W most number (is_earlier labels.now number) (address_in labels.now) words.old line.now ≡ Ok words.new) }
     ensures err { IfErr result (λ fault. (fault ≡ AsmFault.Memory)
-        ⊎ (with_line 32 most number (is_earlier labels.now number) (address_in labels.now) words.old line.now ≡ Err fault)) }
+        ⊎ (with_line W most number (is_earlier labels.now number) (address_in labels.now) words.old line.now ≡ Err fault)) }
 {
-    match line_words(line, number, labels) {
+    match line_words::<W>(line, number, labels) {
         Ok(None) => Ok(()),
         Ok(Some(two)) => {
             if words.as_slice().len() + 2 > most as usize {
@@ -64,21 +75,27 @@ fn append(
 
 /// The words of a line, which may have none.
 #[tactic(auto, unfolding(crate::specs::Assembly::line_words))]
-fn line_words(line: &[u8], number: u64, labels: &Labels<'_>) -> Result<Option<[u32; 2]>, AsmWhy>
+fn line_words<const W: u32>(
+    line: &[u8],
+    number: u64,
+    labels: &Labels<'_>,
+) -> Result<Option<[u32; 2]>, AsmWhy>
+    requires { IsWidth W }
     ensures { words_said result
-        ≡ line_words 32 (number == 1) (is_earlier labels.now number) (address_in labels.now) line.now }
+        ≡ line_words W (number == 1) (is_earlier labels.now number) (address_in labels.now) line.now }
 {
-    if !is_text(line) {
+    let code = code_of(line);
+    if !is_text(code) {
         return Err(AsmWhy::NotText);
     }
-    if number == 1 && !is_good_header(line) {
+    if number == 1 && !is_good_header::<W>(line) {
         return Err(AsmWhy::BadHeader);
     }
-    let statement = Statement::of(line).ok_or(AsmWhy::BadLabel)?;
+    let statement = Statement::of(code).ok_or(AsmWhy::BadLabel)?;
     if is_doubled(statement.label, number, labels) {
         return Err(AsmWhy::DoubledLabel);
     }
-    part_words(statement.instruction, labels)
+    part_words::<W>(statement.instruction, labels)
 }
 
 /// Whether a line before this one defines its label.
@@ -92,13 +109,18 @@ fn is_doubled(label: Option<&[u8]>, number: u64, labels: &Labels<'_>) -> bool
     }
 }
 
-fn part_words(instruction: &[u8], labels: &Labels<'_>) -> Result<Option<[u32; 2]>, AsmWhy>
-    ensures { words_said result ≡ part_words 32 (address_in labels.now) instruction.now }
+/// The words of an instruction part: none where it is empty.
+fn part_words<const W: u32>(
+    instruction: &[u8],
+    labels: &Labels<'_>,
+) -> Result<Option<[u32; 2]>, AsmWhy>
+    requires { IsWidth W }
+    ensures { words_said result ≡ part_words W (address_in labels.now) instruction.now }
 {
     if instruction.is_empty() {
         return Ok(None);
     }
-    Ok(Some(words_of(instruction, labels)?))
+    Ok(Some(words_of::<W>(instruction, labels)?))
 }
 
 #[cfg(test)]

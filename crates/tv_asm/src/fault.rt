@@ -4,14 +4,14 @@ ghost use Rattle.tv_asm.specs.declared.fault.AsmFault.TheVariants.{Memory};
 use std::alloc::AllocError;
 use thiserror::Error;
 
-/// Why a line of program text is refused. The first reason that holds is told, in this order; of the
-/// last three, which are about operands, the one of the first operand at fault.
+/// Why a line of program text is refused. The first reason that holds is told, in this order; of
+/// the last three, which are about operands, the one of the first operand at fault.
 #[derive(Clone, Copy, PartialEq, Eq, Debug, Error)]
 pub enum AsmWhy {
     /// Outside its comment the line has a byte other than a tab and those from the space to `~`.
     #[error("not text")]
     NotText,
-    /// Line 1 is a header for another word width, or for another number of registers than 16.
+    /// Line 1 is a header for another width of words, or for another number of registers than 16.
     #[error("bad header")]
     BadHeader,
     /// The line begins with `_`, but not with a label.
@@ -29,7 +29,7 @@ pub enum AsmWhy {
     /// The operand isn't `r` and a number below 16 without a leading zero.
     #[error("bad register")]
     BadRegister,
-    /// The operand isn't a decimal number, or `0x` and a hexadecimal one, below 2^32.
+    /// The operand isn't a decimal number, or `0x` and a hexadecimal one, below 2^W.
     #[error("bad number")]
     BadNumber,
     /// The operand begins with `_` and is no label that a line defines.

@@ -4,6 +4,7 @@ ghost use Rattle.tv_asm.specs.Instruction.{name_of, operands_in, operand_at, ope
 ghost use Rattle.tv_asm.specs.Text.{is_blank};
 ghost use Rattle.tv_asm.specs.Views.{address_in};
 ghost use Rattle.tv_isa.specs.Instruction.{IsInstruction};
+ghost use Rattle.tv_word.specs.Widths.{IsWidth};
 
 use crate::fault::AsmWhy;
 use crate::labels::Labels;
@@ -13,14 +14,15 @@ use tv_isa::{Instr, Operation, Shape, encode, operation_named};
 
 /// The two words of an instruction.
 #[tactic(auto, unfolding(crate::specs::Instruction::words_of))]
-pub(crate) fn words_of(text: &[u8], labels: &Labels<'_>) -> Result<[u32; 2], AsmWhy>
-    ensures { result ≡ words_of 32 (address_in labels.now) text.now }
+pub(crate) fn words_of<const W: u32>(text: &[u8], labels: &Labels<'_>) -> Result<[u32; 2], AsmWhy>
+    requires { IsWidth W }
+    ensures { result ≡ words_of W (address_in labels.now) text.now }
 {
     let (name, operands) = text.split_at(name_end(text));
     if name == b".raw".as_slice() {
-        raw_words(operands)
+        raw_words::<W>(operands)
     } else {
-        table_words(name, operands, labels)
+        table_words::<W>(name, operands, labels)
     }
 }
 
@@ -33,22 +35,28 @@ fn name_end(text: &[u8]) -> usize
 }
 
 /// Two numbers, as they are.
-fn raw_words(text: &[u8]) -> Result<[u32; 2], AsmWhy>
-    ensures { result ≡ raw_words 32 (operands_in text.now) }
+fn raw_words<const W: u32>(text: &[u8]) -> Result<[u32; 2], AsmWhy>
+    requires { IsWidth W }
+    ensures { result ≡ raw_words W (operands_in text.now) }
 {
     check_count(text, 2)?;
     let (h, a, _) = operands(text);
-    Ok([number(h)?, number(a)?])
+    Ok([number::<W>(h)?, number::<W>(a)?])
 }
 
 /// The words of an instruction of the table.
-fn table_words(name: &[u8], text: &[u8], labels: &Labels<'_>) -> Result<[u32; 2], AsmWhy>
-    ensures { result ≡ table_words 32 (address_in labels.now) name.now (operands_in text.now) }
+fn table_words<const W: u32>(
+    name: &[u8],
+    text: &[u8],
+    labels: &Labels<'_>,
+) -> Result<[u32; 2], AsmWhy>
+    requires { IsWidth W }
+    ensures { result ≡ table_words W (address_in labels.now) name.now (operands_in text.now) }
 {
     let operation = operation_named(name).ok_or(AsmWhy::UnknownName)?;
     check_count(text, operand_count(operation.shape))?;
-    let instr = fields(operation, text, labels)?;
-    Ok(encode(&instr))
+    let instr = fields::<W>(operation, text, labels)?;
+    Ok(encode::<W>(&instr))
 }
 
 fn operand_count(shape: Shape) -> u64
@@ -96,9 +104,14 @@ fn operands(text: &[u8]) -> (&[u8], &[u8], &[u8])
 }
 
 /// The fields of an instruction of the table, from its operands.
-fn fields(operation: Operation, text: &[u8], labels: &Labels<'_>) -> Result<Instr, AsmWhy>
-    requires { operation.op < 32 }
-    ensures value { result ≡ fields 32 (address_in labels.now) operation.op operation.shape (operand_at (operands_in text.now)) }
+fn fields<const W: u32>(
+    operation: Operation,
+    text: &[u8],
+    labels: &Labels<'_>,
+) -> Result<Instr, AsmWhy>
+    requires width { IsWidth W }
+    requires used { operation.op < 32 }
+    ensures value { result ≡ fields W (address_in labels.now) operation.op operation.shape (operand_at (operands_in text.now)) }
     ensures range { IfOk result IsInstruction }
 {
     let op = operation.op;
@@ -107,13 +120,13 @@ fn fields(operation: Operation, text: &[u8], labels: &Labels<'_>) -> Result<Inst
         Shape::DestSourceA => (
             register(first)?,
             register(second)?,
-            Operand::of(third, labels)?,
+            Operand::of::<W>(third, labels)?,
         ),
-        Shape::DestA => (register(first)?, 0, Operand::of(second, labels)?),
-        Shape::SourceA => (0, register(first)?, Operand::of(second, labels)?),
-        Shape::OnlyA => (0, 0, Operand::of(first, labels)?),
+        Shape::DestA => (register(first)?, 0, Operand::of::<W>(second, labels)?),
+        Shape::SourceA => (0, register(first)?, Operand::of::<W>(second, labels)?),
+        Shape::OnlyA => (0, 0, Operand::of::<W>(first, labels)?),
         Shape::ADest => {
-            let last = Operand::of(first, labels)?;
+            let last = Operand::of::<W>(first, labels)?;
             (register(second)?, 0, last)
         }
         Shape::Unused => return Err(AsmWhy::UnknownName),

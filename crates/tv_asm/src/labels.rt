@@ -1,14 +1,15 @@
-ghost use Rattle.std.specs.Prelude.{◌≡◌, ℕ, List, IfOk, OnOk, if◌then◌else◌};
+ghost use Rattle.std.specs.Prelude.{◌≡◌, ℕ, ◌+◌, ◌/◌, ◌%◌, ◌^◌, List, IfOk, OnOk, if◌then◌else◌};
 ghost use Rattle.std.specs.Option.{option_map, option_or};
 ghost use Rattle.std.specs.Str.{bytes_eq};
 ghost use Rattle.tv_asm.specs.Labels.{says_instruction, says_label};
 ghost use Rattle.tv_asm.specs.Text.{lines};
+ghost use Rattle.tv_word.specs.Widths.{IsWidth};
 ghost use Rattle.tv_asm.specs.Views.{AreLabelsOf, address_in, is_earlier, place_in, said_by};
 
-use crate::line::Statement;
+use crate::line::{Statement, code_of};
 use crate::text::next_line;
 use std::alloc::{AllocError, Global};
-use std::collections::BTreeMap;
+use std::collections::HashMap;
 
 /// Where a label is defined first, and the address that it has.
 #[derive(Clone, Copy)]
@@ -20,16 +21,17 @@ pub(crate) struct Place {
 /// The labels of a text, each with its place.
 #[derive(Drop)]
 pub(crate) struct Labels<'a> {
-    places: BTreeMap<&'a [u8], Place>,
+    places: HashMap<&'a [u8], Place>,
 }
 
 impl<'a> Labels<'a> {
-    /// The labels of all lines of a text. Takes time linear in the text, but for the map's look-ups.
-    pub(crate) fn of(alloc: Global, text: &'a [u8]) -> Result<Labels<'a>, AllocError>
-        ensures { IfOk result (λ labels. AreLabelsOf labels (lines text.now)) }
+    /// The labels of all lines of a text. Takes time linear in the text.
+    pub(crate) fn of<const W: u32>(alloc: Global, text: &'a [u8]) -> Result<Labels<'a>, AllocError>
+        requires { IsWidth W }
+        ensures { IfOk result (λ labels. AreLabelsOf W labels (lines text.now)) }
     {
         let mut labels = Labels {
-            places: BTreeMap::new(alloc),
+            places: HashMap::new(alloc),
         };
         let mut place = Place {
             line: 0,
@@ -38,10 +40,10 @@ impl<'a> Labels<'a> {
         let mut rest = text;
         while let Some((line, behind)) = next_line(rest) {
             place.line += 1;
-            let statement = Statement::of(line);
+            let statement = Statement::of(code_of(line));
             labels.note(statement, place)?;
             if has_instruction(statement) {
-                place.address = place.address.wrapping_add(8);
+                place.address = next_address::<W>(place.address);
             }
             rest = behind;
         }
@@ -88,6 +90,14 @@ impl<'a> Labels<'a> {
     {
         self.places.get(name).is_some_and(|place| place.line < line)
     }
+}
+
+/// The address behind the two words of an instruction: modulo 2^W.
+fn next_address<const W: u32>(address: u32) -> u32
+    requires { IsWidth W }
+    ensures { result ≡ (address + W / 4) % 2 ^ W }
+{
+    ((u64::from(address) + u64::from(W / 4)) % (1 << W)) as u32
 }
 
 /// Whether a line has an instruction, good or bad.

@@ -1,5 +1,6 @@
 ghost use Rattle.std.specs.Prelude.{◌≡◌, ◌^◌, ◌<◌, ◌≤◌, IfOk, IfSome};
 ghost use Rattle.tv_word.specs.Numeral.{numeral};
+ghost use Rattle.tv_word.specs.Widths.{IsWidth};
 ghost use Rattle.tv_asm.specs.Operand.{register, number, operand};
 ghost use Rattle.tv_asm.specs.Views.{address_in};
 
@@ -15,11 +16,12 @@ pub(crate) struct Operand {
 }
 
 impl Operand {
-    /// The operand A. A register where the text begins with `r`, a label's address where it begins with
-    /// `_`, else a number.
+    /// The operand A. A register where the text begins with `r`, a label's address where it begins
+    /// with `_`, else a number.
     #[tactic(auto, unfolding(crate::specs::Operand::operand))]
-    pub(crate) fn of(text: &[u8], labels: &Labels<'_>) -> Result<Operand, AsmWhy>
-        ensures { result ≡ operand 32 (address_in labels.now) text.now }
+    pub(crate) fn of<const W: u32>(text: &[u8], labels: &Labels<'_>) -> Result<Operand, AsmWhy>
+        requires { IsWidth W }
+        ensures { result ≡ operand W (address_in labels.now) text.now }
     {
         match text {
             [b'r', ..] => Ok(Operand {
@@ -32,7 +34,7 @@ impl Operand {
             }),
             _ => Ok(Operand {
                 imm: true,
-                a: number(text)?,
+                a: number::<W>(text)?,
             }),
         }
     }
@@ -54,14 +56,16 @@ pub(crate) fn register(text: &[u8]) -> Result<u8, AsmWhy>
     }
 }
 
-/// A number below 2^32: decimal digits, or `0x` and hexadecimal digits.
+/// A number below 2^W: decimal digits, or `0x` and hexadecimal digits.
 #[tactic(auto, unfolding(crate::specs::Operand::number))]
-pub(crate) fn number(text: &[u8]) -> Result<u32, AsmWhy>
-    ensures { result ≡ number 32 text.now }
+pub(crate) fn number<const W: u32>(text: &[u8]) -> Result<u32, AsmWhy>
+    requires { IsWidth W }
+    ensures { result ≡ number W text.now }
 {
+    let bound = 1 << W;
     let number = match text {
-        [b'0', b'x', digits @ ..] => numeral_below(digits, 16, 1 << 32),
-        _ => numeral_below(text, 10, 1 << 32),
+        [b'0', b'x', digits @ ..] => numeral_below(digits, 16, bound),
+        _ => numeral_below(text, 10, bound),
     };
     number.ok_or(AsmWhy::BadNumber)
 }

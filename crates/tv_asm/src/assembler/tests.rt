@@ -1,4 +1,6 @@
 use super::*;
+use crate::header::width;
+use std::test::Fail;
 
 const MOST: u32 = 16_384;
 
@@ -72,7 +74,7 @@ const IMAGES: [(&str, &[u32]); 17] = [
 ];
 
 /// Texts that are refused: the first line at fault, and why.
-const FAULTS: [(&str, u64, AsmWhy); 48] = [
+const FAULTS: [(&str, u64, AsmWhy); 50] = [
     ("answer 0\n\u{e9}", 2, AsmWhy::NotText),
     ("answer 0\u{7f}", 1, AsmWhy::NotText),
     ("answer 0\r\r\n", 1, AsmWhy::NotText),
@@ -80,6 +82,8 @@ const FAULTS: [(&str, u64, AsmWhy); 48] = [
     ("jmp _x\n_x: \u{e9}", 2, AsmWhy::NotText),
     ("; TinyRAM V=2.000 M=vn W=16 K=16", 1, AsmWhy::BadHeader),
     ("; TinyRAM K=17\nfoo", 1, AsmWhy::BadHeader),
+    ("; TinyRAM W=8", 1, AsmWhy::BadHeader),
+    ("; TinyRAM W=16 W=32", 1, AsmWhy::BadHeader),
     ("; TinyRAM W=32 W=8", 1, AsmWhy::BadHeader),
     ("; TinyRAMW=032", 1, AsmWhy::BadHeader),
     ("; TinyRAM W=32\r\r", 1, AsmWhy::BadHeader),
@@ -127,6 +131,47 @@ const FAULTS: [(&str, u64, AsmWhy); 48] = [
     ("jmp _a:\n_a:", 1, AsmWhy::UnknownLabel),
 ];
 
+/// Texts for words of 16 bits, and their images.
+const IMAGES_16: [(&str, &[u32]); 7] = [
+    ("; TinyRAM W=16", &[]),
+    ("; TinyRAM W=16\nadd r1, r2, 5", &[0x2448, 5]),
+    (
+        "; TinyRAM V=2.000 M=vn W=16 K=16\r\nanswer 0\r\n",
+        &[0xfc00, 0],
+    ),
+    ("; TinyRAM W=16 W=16\nmov r1, 0xfFfF", &[0x9440, 0xffff]),
+    ("; TinyRAMW=16\nstore.w 256, r3", &[0xe4c0, 256]),
+    ("; TinyRAM W=16\n.raw 0xb800, 0065535", &[0xb800, 0xffff]),
+    (
+        "; TinyRAM W=16\njmp _e\n_e: answer _e",
+        &[0xa400, 4, 0xfc00, 4],
+    ),
+];
+
+/// Texts for words of 16 bits that are refused.
+const FAULTS_16: [(&str, u64, AsmWhy); 5] = [
+    ("; TinyRAM W=16\nmov r1, 65536", 2, AsmWhy::BadNumber),
+    ("; TinyRAM W=16\n.raw 0x10000, 0", 2, AsmWhy::BadNumber),
+    ("; TinyRAM W=16\n.raw 0, 65536", 2, AsmWhy::BadNumber),
+    ("; TinyRAM W=16 W=32", 1, AsmWhy::BadHeader),
+    ("; TinyRAM W=16 K=17", 1, AsmWhy::BadHeader),
+];
+
+/// Texts, and the width of words that each is written for.
+const WIDTHS: [(&str, u32); 11] = [
+    ("", 32),
+    ("; TinyRAM W=16", 16),
+    ("; TinyRAMW=16", 16),
+    ("; TinyRAM\tK=16\tW=16\r\nfoo", 16),
+    ("; TinyRAM W=32 W=16", 16),
+    ("; TinyRAM W=8", 32),
+    ("; TinyRAM W=160", 32),
+    ("; TinyRAM W=16\r\r\n", 32),
+    (" ; TinyRAM W=16", 32),
+    ("; tinyram W=16", 32),
+    ("\n; TinyRAM W=16", 32),
+];
+
 fn instructions() -> &'static [(&'static str, [u32; 2])] {
     &INSTRUCTIONS
 }
@@ -139,10 +184,22 @@ fn faults() -> &'static [(&'static str, u64, AsmWhy)] {
     &FAULTS
 }
 
+fn images_16() -> &'static [(&'static str, &'static [u32])] {
+    &IMAGES_16
+}
+
+fn faults_16() -> &'static [(&'static str, u64, AsmWhy)] {
+    &FAULTS_16
+}
+
+fn widths() -> &'static [(&'static str, u32)] {
+    &WIDTHS
+}
+
 #[test]
 fn each_instruction_has_its_words(rt: HostRuntime) {
     for (text, words) in instructions() {
-        match assemble(rt.alloc(), text.as_bytes(), MOST) {
+        match assemble::<32>(rt.alloc(), text.as_bytes(), MOST) {
             Ok(image) => assert_eq!(rt; image.as_slice(), words.as_slice(), "{text}"),
             Err(fault) => panic!(rt; "{text}: {fault}"),
         }
@@ -152,7 +209,7 @@ fn each_instruction_has_its_words(rt: HostRuntime) {
 #[test]
 fn texts_have_their_images(rt: HostRuntime) {
     for (text, words) in images() {
-        match assemble(rt.alloc(), text.as_bytes(), MOST) {
+        match assemble::<32>(rt.alloc(), text.as_bytes(), MOST) {
             Ok(image) => assert_eq!(rt; image.as_slice(), *words, "{text}"),
             Err(fault) => panic!(rt; "{text}: {fault}"),
         }
@@ -162,7 +219,7 @@ fn texts_have_their_images(rt: HostRuntime) {
 #[test]
 fn the_first_fault_is_told(rt: HostRuntime) {
     for (text, at, reason) in faults() {
-        match assemble(rt.alloc(), text.as_bytes(), MOST) {
+        match assemble::<32>(rt.alloc(), text.as_bytes(), MOST) {
             Err(AsmFault::Bad { line, why }) => {
                 assert_eq!(rt; line, *at, "{text}");
                 assert_eq!(rt; why, *reason, "{text}");
@@ -175,11 +232,64 @@ fn the_first_fault_is_told(rt: HostRuntime) {
 #[test]
 fn words_past_the_most_are_refused(rt: HostRuntime) {
     let text = b"answer 0\n; nothing\nanswer 1\nfoo";
-    match assemble(rt.alloc(), text, 3) {
+    match assemble::<32>(rt.alloc(), text, 3) {
         Err(AsmFault::TooMany { line, most }) => {
             assert_eq!(rt; line, 3);
             assert_eq!(rt; most, 3);
         }
         _ => panic!(rt; "no such fault"),
     }
+}
+
+#[test]
+fn a_header_tells_the_width(rt: HostRuntime) {
+    for (text, bits) in widths() {
+        assert_eq!(rt; width(text.as_bytes()), *bits, "{text}");
+    }
+}
+
+#[test]
+fn texts_of_16_bits_have_their_images(rt: HostRuntime) {
+    for (text, words) in images_16() {
+        assert_eq!(rt; width(text.as_bytes()), 16, "{text}");
+        match assemble::<16>(rt.alloc(), text.as_bytes(), MOST) {
+            Ok(image) => assert_eq!(rt; image.as_slice(), *words, "{text}"),
+            Err(fault) => panic!(rt; "{text}: {fault}"),
+        }
+    }
+}
+
+#[test]
+fn the_first_fault_of_16_bits_is_told(rt: HostRuntime) {
+    for (text, at, reason) in faults_16() {
+        assert_eq!(rt; width(text.as_bytes()), 16, "{text}");
+        match assemble::<16>(rt.alloc(), text.as_bytes(), MOST) {
+            Err(AsmFault::Bad { line, why }) => {
+                assert_eq!(rt; line, *at, "{text}");
+                assert_eq!(rt; why, *reason, "{text}");
+            }
+            _ => panic!(rt; "{text}: no such fault"),
+        }
+    }
+}
+
+/// Where 16,384 instructions stand before a label, its address is 0 again.
+#[test]
+fn addresses_of_16_bits_begin_anew(rt: HostRuntime) -> Result<(), Fail> {
+    let mut text = Vec::new(rt.alloc());
+    text.extend_from_slice(b"; TinyRAM W=16\n")?;
+    for _ in 0..16_384 {
+        text.extend_from_slice(b"answer 0\n")?;
+    }
+    text.extend_from_slice(b"_z: jmp _z\n")?;
+    assert_eq!(rt; width(&text), 16);
+    match assemble::<16>(rt.alloc(), &text, 40_000) {
+        Ok(image) => {
+            let words = image.as_slice();
+            assert_eq!(rt; words.len(), 32_770);
+            assert_eq!(rt; words.last(), Some(&0));
+        }
+        Err(fault) => panic!(rt; "{fault}"),
+    }
+    Ok(())
 }
