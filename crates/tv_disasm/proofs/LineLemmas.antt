@@ -11,10 +11,12 @@ use Rattle.std.specs.Str.{bytes_eq}
 use Rattle.tv_asm.proofs.FirstLemmas.{before_first-append_none}
 use Rattle.tv_asm.specs.Assembly.{line_words, part_words}
 use Rattle.tv_asm.specs.Instruction.{raw_words, table_words, words_of}
-use Rattle.tv_asm.specs.Line.{code_of, is_good_header, is_text, said}
+use Rattle.tv_asm.specs.Header.{is_good_header}
+use Rattle.tv_asm.specs.Line.{code_of, code_says, is_text}
 use Rattle.tv_asm.specs.Text.{is_blank, trimmed, trimmed_end}
+use Rattle.tv_word.proofs.DecimalLemmas.{all_weaker}
 use Rattle.tv_disasm.specs.Disassembly.{joined}
-use Rattle.tv_disasm.proofs.WordLemmas.{is_word_byte, is_line_byte, IsWord, AreWords, apart, apart_from, all_weaker, none_passes, word-not_blank, line-is_text, word-line, first-word}
+use Rattle.tv_disasm.proofs.WordLemmas.{is_word_byte, is_line_byte, IsWord, AreWords, apart, apart_from, none_passes, word-not_blank, line-is_text, word-line, first-word}
 
 -- a text that ends in a byte of a word
 abbrev pub is_ended : List ℕ → Bool
@@ -161,10 +163,10 @@ unfolding is_good_header
 good_header w [] h = refl
 good_header w (c ∷ cs) h = rw (apart_from is_word_byte c 59 h refl) refl
 
-said-line : (line : List ℕ) → IsLine line → said line ≡ Some (record { label = None; instruction = line })
-unfolding said
-said-line line h =
-    rw (code_of-line line h.bytes, trimmed-ended line h.first h.ended, apart is_word_byte (slice_index line 0) 95 h.first refl) refl
+code_says-line : (line : List ℕ) → IsLine line → code_says line ≡ Some (record { label = None; instruction = line })
+unfolding code_says
+code_says-line line h =
+    rw (trimmed-ended line h.first h.ended, apart is_word_byte (slice_index line 0) 95 h.first refl) refl
 
 part_words-some : (w : ℕ) (address : List ℕ → Option ℕ) (line : List ℕ) → is_ended line ≡ true → part_words w address line ≡ words_of w address line
 part_words-some w address [] h = cc
@@ -176,4 +178,4 @@ unfolding line_words
 line_words-line w first earlier address line h =
     let text = all_weaker is_line_byte is_text line-is_text line h.bytes in
     let header = or_right (not first) (is_good_header w line) (good_header w line h.first) in
-    rw (code_of-line line h.bytes, text, header, said-line line h) (part_words-some w address line h.ended)
+    rw (code_of-line line h.bytes, text, header, code_says-line line h) (part_words-some w address line h.ended)

@@ -1,20 +1,20 @@
 -- Numbers in text, read back: decimals, hexadecimals and registers.
-use Rattle.std.proofs.Common.{◌≡◌, ℕ, zero, suc, ◌+◌, ◌/◌, ◌%◌, ◌^◌, ◌<◌, ◌≤◌, ◌==◌, nat_eq, nat_le, Bool, true, false, not, ◌&&◌, ◌||◌, List, [], ◌∷◌, ◌++◌, length, slice_index, codes, decimal, Some, Ok, refl, sym, ap, ◌∙◌, arith}
+use Rattle.std.proofs.Common.{◌≡◌, ℕ, zero, suc, ◌-◌, ◌/◌, ◌%◌, ◌^◌, ◌<◌, ◌==◌, nat_eq, true, false, not, ◌||◌, List, [], ◌∷◌, ◌++◌, length, drop, slice_index, codes, decimal, Some, Ok, refl, sym, ap, ◌∙◌, arith}
 use Rattle.std.proofs.Math.Arith.{mod-mul}
 use Rattle.std.proofs.Math.Nat.{one-le-pow, pow-zero, pow-succ'}
 use Rattle.std.proofs.lemmas.Bool.{and_from, and_right, and_parts, lt-ltb, or_right}
 use Rattle.std.proofs.lemmas.Bool.Decides.{nat_tests}
-use Rattle.std.proofs.lemmas.Fmt.{decimal_by_steps, decimal_digit, first_decimal}
-use Rattle.std.proofs.lemmas.List.{length-append}
-use Rattle.std.proofs.lemmas.List.Folds.{list_all-append}
+use Rattle.std.proofs.lemmas.Fmt.{decimal_digit, first_decimal}
 use Rattle.std.proofs.lemmas.Str.{digit_value-digit_char}
-use Rattle.std.specs.Char.{digit_char, digit_value, is_digit}
+use Rattle.std.specs.Char.{digit_char, is_digit}
 use Rattle.std.specs.List.{list_all, starts_with}
 use Rattle.tv_asm.specs.Operand.{number, register}
-use Rattle.tv_word.proofs.NumeralLemmas.{positional-append}
+use Rattle.tv_word.proofs.DecimalLemmas.{all_weaker, is_decimal_byte, IsDecimal, IsDecimal-decimal, IsDecimal-digits}
+use Rattle.tv_word.proofs.WidthLaws.{for_widths}
 use Rattle.tv_word.specs.Numeral.{numeral, positional}
+use Rattle.tv_word.specs.Widths.{IsWidth}
 use Rattle.tv_disasm.specs.Disassembly.{hexadecimal, register_text}
-use Rattle.tv_disasm.proofs.WordLemmas.{is_word_byte, IsWord, all_weaker, apart_from}
+use Rattle.tv_disasm.proofs.WordLemmas.{is_word_byte, IsWord, apart_from}
 
 -- digits of a base that spell a number
 pub record Spells (base n : ℕ) (text : List ℕ) : Type 0 where
@@ -27,49 +27,8 @@ pub Spells-numeral : (base bound n : ℕ) (text : List ℕ) → Spells base n te
 Spells-numeral base bound n text h below =
     rw (h.digits, h.value, lt-ltb 0 (length text) h.some, lt-ltb n bound below) refl
 
--- a decimal digit's byte
-abbrev pub is_decimal_byte : ℕ → Bool
-is_decimal_byte c = nat_le 48 c && nat_le c 57
-
 decimal-word : (c : ℕ) → is_decimal_byte c ≡ true → is_word_byte c ≡ true
 decimal-word c h = grind (arith, nat_tests)
-
-decimal-digit : (c : ℕ) → is_decimal_byte c ≡ true → is_digit c 10 ≡ true
-decimal-digit c h = grind (arith, nat_tests)
-
-pub record IsDecimal (n : ℕ) (text : List ℕ) : Type 0 where
-  pub some : 0 < length text
-  pub bytes : list_all is_decimal_byte text ≡ true
-  pub value : positional 10 text ≡ n
-
-digit-byte : (d : ℕ) → d < 10 → is_decimal_byte (48 + d) ≡ true
-digit-byte d h = grind (arith, nat_tests)
-
-digit-value : (d : ℕ) → d < 10 → digit_value (48 + d) ≡ d
-digit-value d h = grind (arith, nat_tests)
-
-IsDecimal-one : (n : ℕ) → n < 10 → IsDecimal n ((48 + n) ∷ [])
-IsDecimal-one n h = record {
-  some = omega arith;
-  bytes = and_from (is_decimal_byte (48 + n)) true (digit-byte n h) refl;
-  value = rw (pow-zero, digit-value n h) (omega arith);
-}
-
-IsDecimal-more : (n : ℕ) (front : List ℕ) → 10 ≤ n → IsDecimal (n / 10) front → IsDecimal n (front ++ ((48 + n % 10) ∷ []))
-IsDecimal-more n front h d =
-    let low : n % 10 < 10 = omega arith in
-    record {
-      some = omega (arith, length-append front ((48 + n % 10) ∷ []));
-      bytes =
-          list_all-append is_decimal_byte front ((48 + n % 10) ∷ [])
-          ∙ and_from (list_all is_decimal_byte front) (is_decimal_byte (48 + n % 10) && true) d.bytes (and_from (is_decimal_byte (48 + n % 10)) true (digit-byte (n % 10) low) refl);
-      value =
-          positional-append 10 front ((48 + n % 10) ∷ [])
-          ∙ rw (d.value, pow-zero, digit-value (n % 10) low) (omega arith);
-    }
-
-pub IsDecimal-decimal : (n : ℕ) → n < 2 ^ 64 → IsDecimal n (decimal n)
-IsDecimal-decimal n h = decimal_by_steps IsDecimal IsDecimal-one IsDecimal-more n h
 
 pub IsDecimal-IsWord : (n : ℕ) (text : List ℕ) → IsDecimal n text → IsWord text
 IsDecimal-IsWord n text h =
@@ -77,7 +36,7 @@ IsDecimal-IsWord n text h =
 
 pub IsDecimal-Spells : (n : ℕ) (text : List ℕ) → IsDecimal n text → Spells 10 n text
 IsDecimal-Spells n text h =
-    record { some = h.some; digits = all_weaker is_decimal_byte (λ c. is_digit c 10) decimal-digit text h.bytes; value = h.value }
+    record { some = h.some; digits = IsDecimal-digits n text h; value = h.value }
 
 pub first-decimal : (n : ℕ) (text : List ℕ) → IsDecimal n text → is_decimal_byte (slice_index text 0) ≡ true
 first-decimal n [] h = absurd (omega (arith, h.some))
@@ -131,13 +90,32 @@ IsHexadecimal-hexadecimal (suc n) v =
           (sym (mod-mul v {m = 16} {c = 16 ^ n} (omega arith) (one-le-pow n 16 (omega arith))));
     }
 
--- the digits of a whole word are the number that they write
-pub number-hexadecimal : (v : ℕ) → v < 2 ^ 32 → number 32 (codes "0x" ++ hexadecimal 8 v) ≡ Ok v
+-- the digits of a whole word tell all of it
+abbrev AllDigits : ℕ → Type 0
+AllDigits w = (v : ℕ) → v < 2 ^ w → v % 16 ^ (w / 4) ≡ v
+
+all_digits : (w : ℕ) → IsWidth w → AllDigits w
+all_digits = for_widths AllDigits (λ v h. omega arith) (λ v h. omega arith)
+
+-- and are the number that they write
+pub number-hexadecimal : (w : ℕ) → IsWidth w → (v : ℕ) → v < 2 ^ w → number w (codes "0x" ++ hexadecimal (w / 4) v) ≡ Ok v
 unfolding number
-number-hexadecimal v h =
-    let x = IsHexadecimal-hexadecimal 8 v in
-    let spells : Spells 16 v (hexadecimal 8 v) = record { some = omega (arith, x.count); digits = x.digits; value = x.value ∙ omega arith } in
-    rw (Spells-numeral 16 (2 ^ 32) v (hexadecimal 8 v) spells h) refl
+number-hexadecimal w width v h =
+    let x = IsHexadecimal-hexadecimal (w / 4) v in
+    let spells : Spells 16 v (hexadecimal (w / 4) v) = record { some = omega (arith, x.count, width); digits = x.digits; value = x.value ∙ all_digits w width v h } in
+    rw (Spells-numeral 16 (2 ^ w) v (hexadecimal (w / 4) v) spells h) refl
+
+-- a word is below 2 ^ 64
+abbrev IsWide : ℕ → Type 0
+IsWide w = (v : ℕ) → v < 2 ^ w → v < 2 ^ 64
+
+pub word_wide : (w : ℕ) → IsWidth w → IsWide w
+word_wide = for_widths IsWide (λ v h. omega arith) (λ v h. omega arith)
+
+-- the n lowest digits stand at the end of more
+pub drop_hexadecimal : (w : ℕ) → IsWidth w → (v : ℕ) → drop (8 - w / 4) (hexadecimal 8 v) ≡ hexadecimal (w / 4) v
+unfolding hexadecimal
+drop_hexadecimal = for_widths (λ w. (v : ℕ) → drop (8 - w / 4) (hexadecimal 8 v) ≡ hexadecimal (w / 4) v) (λ v. refl) (λ v. refl)
 
 no_leading_zero : (n : ℕ) → n < 2 ^ 64 → (length (decimal n) == 1 || not (slice_index (decimal n) 0 == 48)) ≡ true
 no_leading_zero zero h = rw (decimal_digit 0 (omega arith)) refl

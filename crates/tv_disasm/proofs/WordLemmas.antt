@@ -3,7 +3,7 @@ use Rattle.std.proofs.Common.{◌≡◌, ℕ, ◌<◌, ◌==◌, nat_le, Bool, t
 use Rattle.std.proofs.lemmas.Bool.{and_parts, ne_eqb}
 use Rattle.std.proofs.lemmas.Bool.Decides.{nat_tests}
 use Rattle.std.proofs.lemmas.List.Elements.{All-weaker}
-use Rattle.std.proofs.lemmas.List.Sums.{AllPass-from_list_all, list_all-from_AllPass}
+use Rattle.std.proofs.lemmas.List.Sums.{AllPass-from_list_all}
 use Rattle.std.specs.List.{All, AllByRecursion, list_all}
 use Rattle.tv_asm.specs.Line.{is_text}
 use Rattle.tv_asm.specs.Text.{is_blank}
@@ -29,10 +29,6 @@ apart p c d passes fails = ne_eqb c d (λ e. cc (ap p e))
 
 pub apart_from : (p : ℕ → Bool) (c d : ℕ) → p c ≡ true → p d ≡ false → (d == c) ≡ false
 apart_from p c d passes fails = ne_eqb d c (λ e. cc (ap p e))
-
-pub all_weaker : (p q : ℕ → Bool) → ((c : ℕ) → p c ≡ true → q c ≡ true) → (xs : List ℕ) → list_all p xs ≡ true → list_all q xs ≡ true
-all_weaker p q f xs h =
-    list_all-from_AllPass q xs (All-weaker (λ c. p c ≡ true) (λ c. q c ≡ true) f xs (AllPass-from_list_all p xs h))
 
 pub none_passes : (p q : ℕ → Bool) → ((c : ℕ) → p c ≡ true → q c ≡ false) → (xs : List ℕ) → list_all p xs ≡ true → All (λ c. q c ≡ false) xs
 none_passes p q f xs h =

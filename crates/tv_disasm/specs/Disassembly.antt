@@ -72,6 +72,10 @@ two_words_text w h a = row_text w h a (with_opcode (decode w h a).op)
 abbrev pub line_of : ℕ → List ℕ → List ℕ
 line_of w two = two_words_text w (word_at w two 0) (word_at w two (w / 8)) ++ codes "\n"
 
--- the text of an image: a line for each two words
+-- the line that a text for words of 16 bits begins with: its header
+abbrev pub header_of : ℕ → List ℕ
+header_of w = if w == 16 then codes "; TinyRAM W=16 K=16\n" else []
+
+-- the text of an image: a line for each two words, behind the header
 unfoldable pub disassembly_of : ℕ → List ℕ → List ℕ
-disassembly_of w image = flat_map (line_of w) (first_chunks (w / 4) (length image / (w / 4)) image)
+disassembly_of w image = header_of w ++ flat_map (line_of w) (first_chunks (w / 4) (length image / (w / 4)) image)

@@ -7,8 +7,8 @@ use thiserror::Error;
 /// Why an image has no program text.
 #[derive(Debug, Drop, Error)]
 pub enum DisFault {
-    /// The bytes aren't whole instructions of 8 bytes.
-    #[error("{len} bytes, not a multiple of 8")]
+    /// The bytes aren't whole instructions, of 8 bytes where words have 32 bits and of 4 where 16.
+    #[error("{len} bytes aren't whole instructions")]
     Ragged { len: u64 },
     /// Memory was wanting.
     #[error("no memory")]

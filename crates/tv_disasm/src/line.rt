@@ -1,4 +1,5 @@
-ghost use Rattle.std.specs.Prelude.{◌≡◌, ◌++◌, ◌<◌, OnOk};
+ghost use Rattle.std.specs.Prelude.{◌≡◌, ◌++◌, ◌-◌, ◌/◌, ◌<◌, drop, OnOk};
+ghost use Rattle.tv_word.specs.Widths.{IsWidth};
 ghost use Rattle.tv_disasm.specs.Disassembly.{digit_char, hexadecimal, instruction_text, leaves_zero, raw_text, tells_all, two_words_text};
 
 use crate::operands::{push_decimal, push_operands};
@@ -7,23 +8,25 @@ use tv_isa::{Instr, Operation, Shape, decode, operation_of};
 
 /// Adds the line of two words, without its end.
 #[tactic(auto, unfolding(crate::specs::Disassembly::two_words_text))]
-pub(crate) fn push_line(text: &mut Vec<u8>, h: u32, a: u32) -> Result<(), AllocError>
-    ensures { OnOk result (text.new.items ≡ text.old.items ++ two_words_text 32 h a) }
+pub(crate) fn push_line<const W: u32>(text: &mut Vec<u8>, h: u32, a: u32) -> Result<(), AllocError>
+    requires { IsWidth W }
+    ensures { OnOk result (text.new.items ≡ text.old.items ++ two_words_text W h a) }
 {
-    let instr = decode(h, a);
+    let instr = decode::<W>(h, a);
     match operation_of(instr.op) {
-        Some(operation) if tells_all(h, operation.shape, &instr) => {
+        Some(operation) if tells_all::<W>(h, operation.shape, &instr) => {
             push_instruction(text, operation, &instr)
         }
-        _ => push_raw(text, h, a),
+        _ => push_raw::<W>(text, h, a),
     }
 }
 
 /// Whether an instruction's text tells all of its two words.
-fn tells_all(h: u32, shape: Shape, instr: &Instr) -> bool
-    ensures { result ≡ tells_all 32 h shape instr.now }
+fn tells_all<const W: u32>(h: u32, shape: Shape, instr: &Instr) -> bool
+    requires { IsWidth W }
+    ensures { result ≡ tells_all W h shape instr.now }
 {
-    h % (1 << 18) == 0 && leaves_zero(shape, instr) && (instr.imm || instr.a < 16)
+    h % (1 << (W - 14)) == 0 && leaves_zero(shape, instr) && (instr.imm || instr.a < 16)
 }
 
 /// Whether the register fields that the form doesn't name are 0.
@@ -53,17 +56,35 @@ fn push_instruction(
     push_operands(text, operation.shape, instr)
 }
 
-/// Adds two words as they are: the first in eight hexadecimal digits, the second in decimal.
-fn push_raw(text: &mut Vec<u8>, h: u32, a: u32) -> Result<(), AllocError>
-    ensures { OnOk result (text.new.items ≡ text.old.items ++ raw_text 32 h a) }
+/// Adds two words as they are: the first in `W / 4` hexadecimal digits, the second in decimal.
+fn push_raw<const W: u32>(text: &mut Vec<u8>, h: u32, a: u32) -> Result<(), AllocError>
+    requires { IsWidth W }
+    ensures { OnOk result (text.new.items ≡ text.old.items ++ raw_text W h a) }
 {
     text.extend_from_slice(b".raw 0x")?;
-    text.extend_from_slice(&hexadecimal(h))?;
+    push_hexadecimal::<W>(text, h)?;
     text.extend_from_slice(b", ")?;
     push_decimal(text, a)
 }
 
-/// The eight hexadecimal digits of a word.
+/// Adds the `W / 4` hexadecimal digits of a word.
+fn push_hexadecimal<const W: u32>(text: &mut Vec<u8>, word: u32) -> Result<(), AllocError>
+    requires { IsWidth W }
+    ensures { OnOk result (text.new.items ≡ text.old.items ++ hexadecimal (W / 4) word) }
+{
+    let digits = hexadecimal(word);
+    text.extend_from_slice(lowest::<W>(&digits))
+}
+
+/// Of eight hexadecimal digits the last, which are those of the `W` lowest bits.
+fn lowest<const W: u32>(digits: &[u8; 8]) -> &[u8]
+    requires { IsWidth W }
+    ensures { result.now ≡ drop (8 - W / 4) digits.now }
+{
+    &digits[8 - (W / 4) as usize..]
+}
+
+/// Eight hexadecimal digits of a word.
 #[tactic(auto, unfolding(crate::specs::Disassembly::hexadecimal))]
 fn hexadecimal(word: u32) -> [u8; 8]
     ensures { result ≡ hexadecimal 8 word }

@@ -1,5 +1,6 @@
 use super::*;
-use tv_asm::assemble;
+use std::test::Fail;
+use tv_asm::{assemble, width};
 
 /// Lines, and the two words that each is the text of.
 const LINES: [(&str, [u32; 2]); 43] = [
@@ -48,6 +49,26 @@ const LINES: [(&str, [u32; 2]); 43] = [
     (".raw 0xabcdef01, 2", [0xabcd_ef01, 2]),
 ];
 
+/// Images of words of 16 bits, and the lines behind the header of their texts.
+const LINES_16: [(&str, [u8; 4]); 12] = [
+    ("add r1, r2, 5\n", [0x48, 0x24, 0x05, 0x00]),
+    ("answer 0\n", [0x00, 0xfc, 0x00, 0x00]),
+    ("answer 65535\n", [0x00, 0xfc, 0xff, 0xff]),
+    ("and r0, r0, r0\n", [0x00, 0x00, 0x00, 0x00]),
+    ("store.w 256, r3\n", [0xc0, 0xe4, 0x00, 0x01]),
+    ("umulh r15, r15, r15\n", [0xfc, 0x3b, 0x0f, 0x00]),
+    (".raw 0xb800, 0\n", [0x00, 0xb8, 0x00, 0x00]),
+    (".raw 0x0001, 16\n", [0x01, 0x00, 0x10, 0x00]),
+    (".raw 0x0002, 0\n", [0x02, 0x00, 0x00, 0x00]),
+    (".raw 0x0000, 16\n", [0x00, 0x00, 0x10, 0x00]),
+    (".raw 0x9444, 7\n", [0x44, 0x94, 0x07, 0x00]),
+    (".raw 0xabcf, 65535\n", [0xcf, 0xab, 0xff, 0xff]),
+];
+
+fn lines_16() -> &'static [(&'static str, [u8; 4])] {
+    &LINES_16
+}
+
 fn lines() -> &'static [(&'static str, [u32; 2])] {
     &LINES
 }
@@ -63,7 +84,7 @@ fn image_of(words: [u32; 2]) -> [u8; 8] {
 #[test]
 fn two_words_have_their_line_and_it_assembles_to_them(rt: HostRuntime) {
     for (line, words) in lines() {
-        let text = match disassemble(rt.alloc(), &image_of(*words)) {
+        let text = match disassemble::<32>(rt.alloc(), &image_of(*words)) {
             Ok(text) => text,
             Err(fault) => panic!(rt; "{line}: {fault}"),
         };
@@ -72,7 +93,7 @@ fn two_words_have_their_line_and_it_assembles_to_them(rt: HostRuntime) {
         };
         assert_eq!(rt; *end, b'\n', "{line}");
         assert_eq!(rt; front, line.as_bytes(), "{line}");
-        match assemble(rt.alloc(), &text, 2) {
+        match assemble::<32>(rt.alloc(), &text, 2) {
             Ok(image) => assert_eq!(rt; image.as_slice(), words.as_slice(), "{line}"),
             Err(fault) => panic!(rt; "{line}: {fault}"),
         }
@@ -85,7 +106,7 @@ fn an_image_has_a_line_for_each_instruction(rt: HostRuntime) {
         0x00, 0x00, 0xc0, 0xe4, 0x00, 0x00, 0x01, 0x00, 0x00, 0x00, 0x00, 0xfc, 0x07, 0x00, 0x00,
         0x00,
     ];
-    match disassemble(rt.alloc(), &image) {
+    match disassemble::<32>(rt.alloc(), &image) {
         Ok(text) => {
             assert_eq!(rt;
                 text.as_slice(),
@@ -94,7 +115,7 @@ fn an_image_has_a_line_for_each_instruction(rt: HostRuntime) {
         }
         Err(fault) => panic!(rt; "{fault}"),
     }
-    match disassemble(rt.alloc(), b"") {
+    match disassemble::<32>(rt.alloc(), b"") {
         Ok(text) => assert!(rt; text.is_empty()),
         Err(fault) => panic!(rt; "{fault}"),
     }
@@ -104,9 +125,67 @@ fn an_image_has_a_line_for_each_instruction(rt: HostRuntime) {
 fn bytes_that_are_no_whole_instructions_are_refused(rt: HostRuntime) {
     for len in [1, 4, 7, 12] {
         let image = [0u8; 12];
-        match disassemble(rt.alloc(), &image[..len]) {
+        match disassemble::<32>(rt.alloc(), &image[..len]) {
             Err(DisFault::Ragged { len: told }) => assert_eq!(rt; told, len as u64),
             _ => panic!(rt; "{len} bytes were taken"),
         }
     }
+    for len in [1, 2, 3, 10] {
+        let image = [0u8; 12];
+        match disassemble::<16>(rt.alloc(), &image[..len]) {
+            Err(DisFault::Ragged { len: told }) => assert_eq!(rt; told, len as u64),
+            _ => panic!(rt; "{len} bytes were taken"),
+        }
+    }
+}
+
+#[test]
+fn two_words_of_16_bits_have_their_line(rt: HostRuntime) {
+    for (line, image) in lines_16() {
+        match disassemble::<16>(rt.alloc(), image) {
+            Ok(text) => {
+                let behind = text.strip_prefix(b"; TinyRAM W=16 K=16\n");
+                assert_eq!(rt; behind, Some(line.as_bytes()), "{line}")
+            }
+            Err(fault) => panic!(rt; "{line}: {fault}"),
+        }
+    }
+}
+
+/// Bytes by a linear congruential generator, the high ones of its states.
+fn random_image(alloc: Global, seed: u64) -> Result<Vec<u8>, AllocError> {
+    let mut state = seed;
+    let mut image = Vec::new(alloc);
+    for _ in 0..4_096 {
+        state = state
+            .wrapping_mul(6_364_136_223_846_793_005)
+            .wrapping_add(1_442_695_040_888_963_407);
+        image.push((state >> 56) as u8)?;
+    }
+    Ok(image)
+}
+
+#[test]
+fn random_images_come_back(rt: HostRuntime) -> Result<(), Fail> {
+    for seed in 1..9 {
+        let image = random_image(rt.alloc(), seed)?;
+        let text = match disassemble::<16>(rt.alloc(), &image) {
+            Ok(text) => text,
+            Err(fault) => panic!(rt; "{seed}: {fault}"),
+        };
+        assert_eq!(rt; width(&text), 16, "{seed}");
+        let words = match assemble::<16>(rt.alloc(), &text, 2_048) {
+            Ok(words) => words,
+            Err(fault) => panic!(rt; "{seed}: {fault}"),
+        };
+        assert_eq!(rt; words.as_slice().len(), 2_048, "{seed}");
+        for (word, two) in words.as_slice().iter().zip(image.chunks(2)) {
+            assert_eq!(rt;
+                *word,
+                u32::from(two[0]) + 256 * u32::from(two[1]),
+                "{seed}"
+            );
+        }
+    }
+    Ok(())
 }
