@@ -1,12 +1,16 @@
 pub mod BitLaws
 pub mod NewBitsLaws
+pub mod NonzeroLaws
 pub mod OneHotLaws
 pub mod PairLaws
 pub mod OrderLaws
 pub mod OrderRows
 pub mod PrefixLaws
 pub mod ProductChain
+pub mod RowLaws
 pub mod SelectLaws
+pub mod SizeLaws
 pub mod SpelledNumbers
 pub mod SpellingLaws
+pub mod TimesLaws
 pub mod ZeroLaws

@@ -120,3 +120,7 @@ two_ands_complete z next x_a y_a x_b y_b γ m assigns p q r s is = (
       ∙ sym (rest z assigns x_a y_a x_b y_b γ m r s),
   tt,
 )
+
+pub two_ands_next : (x_a y_a x_b y_b : Combination) (γ : ℕ) (m : Combination) (next : ℕ) → (two_ands_of x_a y_a x_b y_b γ m next).next ≡ next
+unfolding two_ands_of put
+two_ands_next x_a y_a x_b y_b γ m next = refl

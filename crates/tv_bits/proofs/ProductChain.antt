@@ -7,7 +7,8 @@ use Rattle.tv_core.specs.Combinations.{wire}
 use Rattle.tv_core.specs.Constraints.{Combination}
 use Rattle.tv_core.specs.Sinks.{Meaning, PutsAll, PutsSome, PutsIn}
 use Rattle.tv_core.specs.declared.sink.SinkFault.{SinkFault}
-use Rattle.tv_bits.specs.Prefixes.{times_of, next_product, zero_product_of}
+use Rattle.tv_bits.specs.Prefixes.{next_product, zero_product_of}
+use Rattle.tv_bits.specs.Times.{times_of}
 
 module _ {S : Type 0} (m : Meaning S) (factor : ℕ → Combination) where
   pub no_product : (s : S) (product : Combination) → product ≡ factor 0 → PutsAll m s s (turns 0 (next_product factor) (factor 0)) product

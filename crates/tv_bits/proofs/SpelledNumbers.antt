@@ -1,5 +1,5 @@
 -- What wires spell: the number's bits, its parts, and the value of the combination of their powers.
-use Rattle.std.proofs.Common.{◌≡◌, ◌≢◌, ℕ, zero, suc, ◌+◌, ◌-◌, ◌*◌, ◌/◌, ◌%◌, ◌^◌, ◌<◌, ◌≤◌, List, [], ◌∷◌, ◌++◌, inl, inr, refl, sym, subst, ◌∙◌, ap, ap₂, arith, mod-eq_of_lt, mul_comm, mul_assoc, add_comm}
+use Rattle.std.proofs.Common.{◌≡◌, ◌≢◌, ℕ, zero, suc, ◌+◌, ◌-◌, ◌*◌, ◌/◌, ◌%◌, ◌^◌, ◌<◌, ◌≤◌, List, [], ◌∷◌, ◌++◌, inl, inr, refl, sym, subst, ◌∙◌, ap, ap₂, arith, mod-eq_of_lt, mul_comm, mul_assoc, add_comm, zero-add}
 use Rattle.std.specs.Int.{bit_at}
 use Rattle.std.specs.Prelude.{slice_index}
 use Rattle.std.proofs.Math.Nat.{pow-suc, pow-le-pow_right, mul-le-mul_left}
@@ -112,6 +112,23 @@ Spells-from_bits z first n v below each = record {
 
 pub Spells-from_values : (z : List ℕ) (first n v : ℕ) → v < 2 ^ n → HasFrom z first (bits_values v n) → Spells z first n v
 Spells-from_values z first n v below has = Spells-from_bits z first n v below (has_each z first n (bit_at v) has)
+
+-- a single bit spells the wire's number
+spelled-one : (z : List ℕ) (first : ℕ) → spelled z first 1 ≡ slice_index z first
+spelled-one z first =
+    let place : first + 0 ≡ first = omega arith in
+    let first_bit : 2 ^ 0 * slice_index z (first + 0) ≡ slice_index z first = ap (λ k. 2 ^ 0 * slice_index z k) place ∙ omega arith in
+    sum_below-suc 0 (λ i. 2 ^ i * slice_index z (first + i)) ∙ ap₂ (λ a b. a + b) (sum_below-zero (λ i. 2 ^ i * slice_index z (first + i))) first_bit
+    ∙ zero-add (slice_index z first)
+
+pub Spells-one : (z : List ℕ) (first v : ℕ) → Spells z first 1 v → slice_index z first ≡ v
+Spells-one z first v s = sym (s.number ∙ spelled-one z first)
+
+pub Spells-of_one : (z : List ℕ) (w : ℕ) → IsBit (slice_index z w) → Spells z w 1 (slice_index z w)
+Spells-of_one z w bit = record {
+  bits = λ i h. let same : w ≡ w + i = omega arith in subst (λ k. IsBit (slice_index z k)) same bit;
+  number = sym (spelled-one z w);
+}
 
 -- a number has one spelling, and a spelling is of one number
 pub spelling_unique : (y z : List ℕ) (first other n v : ℕ) → Spells y first n v → Spells z other n v → (i : ℕ) → i < n → slice_index y (first + i) ≡ slice_index z (other + i)

@@ -7,7 +7,7 @@ use Rattle.tv_core.specs.Below.{sum_below, each_below, weighted}
 use Rattle.tv_core.specs.Circuits.{Circuit, here, fresh, put, pure, ◌>>=◌}
 use Rattle.tv_core.specs.Combinations.{constant}
 use Rattle.tv_core.specs.Constraints.{Combination, value}
-use Rattle.tv_core.specs.Laws.{Assigns, Meets, HasFrom}
+use Rattle.tv_core.specs.Laws.{Assigns, Meets, HasFrom, Fills, InField}
 use Rattle.tv_core.specs.Loops.{times}
 use Rattle.tv_core.specs.declared.field.TheConstants.{P}
 
@@ -67,3 +67,16 @@ BitsAreSound = (z : List ℕ) (next : ℕ) (x : Combination) (n : ℕ) → n ≤
 abbrev pub BitsAreComplete : Type 0
 BitsAreComplete = (z : List ℕ) (next : ℕ) (x : Combination) (n : ℕ) → value x z < 2 ^ n → Assigns z
     → HasFrom z next (bits_values (value x z) n) → Meets z (bits_of x n next).list
+
+-- which wires are answered, and that the values are one number of the field for each wire that is made
+pub record NewBitsSizes : Type 0 where
+  pub answer : (n next : ℕ) → (new_bits_of n next).answer ≡ record { first = next; n = n }
+  pub end : (n next : ℕ) → (new_bits_of n next).next ≡ next + n
+  pub fills : (n v : ℕ) → Fills (new_bits_of n) (bits_values v n)
+  pub in_field : (n v : ℕ) → InField (bits_values v n)
+
+pub record BitsSizes : Type 0 where
+  pub answer : (x : Combination) (n next : ℕ) → (bits_of x n next).answer ≡ record { first = next; n = n }
+  pub end : (x : Combination) (n next : ℕ) → (bits_of x n next).next ≡ next + n
+  pub fills : (x : Combination) (n v : ℕ) → Fills (bits_of x n) (bits_values v n)
+  pub in_field : (n v : ℕ) → InField (bits_values v n)

@@ -1,8 +1,15 @@
 pub mod Bit
 pub mod Bits
+pub mod Nonzero
 pub mod OneHot
-pub mod Pairs
 pub mod Order
+pub mod Pairs
 pub mod Prefixes
+pub mod Ratio
+pub mod Rows
 pub mod Select
+pub mod Times
 pub mod Zero
+pub use Rattle.tv_core.specs.Combinations
+pub use Rattle.tv_core.specs.Giving
+pub use Rattle.tv_core.specs.Sinks

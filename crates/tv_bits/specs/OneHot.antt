@@ -6,7 +6,7 @@ use Rattle.tv_core.specs.Below.{each_below, weighted}
 use Rattle.tv_core.specs.Circuits.{Circuit, here, fresh, put, pure, ◌>>=◌}
 use Rattle.tv_core.specs.Combinations.{wire, constant, less}
 use Rattle.tv_core.specs.Constraints.{Combination}
-use Rattle.tv_core.specs.Laws.{Assigns, Meets, HasFrom}
+use Rattle.tv_core.specs.Laws.{Assigns, Meets, HasFrom, Fills, InField}
 use Rattle.tv_core.specs.Loops.{times}
 use Rattle.tv_core.specs.declared.field.TheConstants.{P}
 
@@ -51,3 +51,10 @@ OneHotIsSound = (z : List ℕ) (next : ℕ) (x : Bits) (v : ℕ) → x.n ≤ 63 
 abbrev pub OneHotIsComplete : Type 0
 OneHotIsComplete = (z : List ℕ) (next : ℕ) (x : Bits) (v : ℕ) → Assigns z → Spells z x.first x.n v → HasFrom z next (onehot_values v x.n)
     → Meets z (onehot_of x next).list
+
+-- which wire is answered, and that the values are one number of the field for each wire that is made
+pub record OneHotSizes : Type 0 where
+  pub answer : (x : Bits) (next : ℕ) → (onehot_of x next).answer ≡ next
+  pub end : (x : Bits) (next : ℕ) → (onehot_of x next).next ≡ next + 2 ^ x.n
+  pub fills : (x : Bits) (v : ℕ) → Fills (onehot_of x) (onehot_values v x.n)
+  pub in_field : (v n : ℕ) → InField (onehot_values v n)

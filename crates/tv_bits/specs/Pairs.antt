@@ -1,10 +1,10 @@
 -- Two products of bits in one constraint.
-use Rattle.std.specs.Prelude.{◌≡◌, ℕ, ◌+◌, ◌-◌, ◌*◌, ◌%◌, ◌++◌, List}
+use Rattle.std.specs.Prelude.{◌≡◌, ℕ, ◌+◌, ◌-◌, ◌*◌, ◌%◌, ◌++◌, List, []}
 use Rattle.tv_bits.specs.Bit.{IsBit}
 use Rattle.tv_core.specs.Circuits.{Circuit, put}
 use Rattle.tv_core.specs.Combinations.{constant, scaled}
 use Rattle.tv_core.specs.Constraints.{Combination, value}
-use Rattle.tv_core.specs.Laws.{Assigns, Meets}
+use Rattle.tv_core.specs.Laws.{Assigns, Meets, Fills, InField}
 use Rattle.tv_core.specs.declared.field.TheConstants.{P}
 
 -- the product of a first pair of bits, and γ² times that of a second pair
@@ -42,3 +42,9 @@ TwoAndsAreComplete = (z : List ℕ) (next : ℕ) (x_a y_a x_b y_b : Combination)
     → IsBit (value x_a z) → IsBit (value y_a z) → IsBit (value x_b z) → IsBit (value y_b z)
     → value m z ≡ two_ands (value x_a z) (value y_a z) (value x_b z) (value y_b z) γ
     → Meets z (two_ands_of x_a y_a x_b y_b γ m next).list
+
+-- it makes no wire, and so has no value
+pub record TwoAndsSizes : Type 0 where
+  pub end : (x_a y_a x_b y_b : Combination) (γ : ℕ) (m : Combination) (next : ℕ) → (two_ands_of x_a y_a x_b y_b γ m next).next ≡ next
+  pub fills : (x_a y_a x_b y_b : Combination) (γ : ℕ) (m : Combination) → Fills (two_ands_of x_a y_a x_b y_b γ m) []
+  pub in_field : InField []

@@ -1,10 +1,11 @@
 -- One of two numbers, by a bit.
-use Rattle.std.specs.Prelude.{◌≡◌, ℕ, ◌==◌, if◌then◌else◌, List, [], ◌∷◌, slice_index}
+use Rattle.std.specs.Prelude.{◌≡◌, ℕ, ◌+◌, ◌<◌, ◌==◌, if◌then◌else◌, List, [], ◌∷◌, slice_index}
 use Rattle.tv_bits.specs.Bit.{IsBit}
 use Rattle.tv_core.specs.Circuits.{Circuit, fresh, put, pure, ◌>>=◌}
 use Rattle.tv_core.specs.Combinations.{wire, less}
 use Rattle.tv_core.specs.Constraints.{Combination, value}
-use Rattle.tv_core.specs.Laws.{Assigns, Meets, HasFrom}
+use Rattle.tv_core.specs.Laws.{Assigns, Meets, HasFrom, Fills, InField}
+use Rattle.tv_core.specs.declared.field.TheConstants.{P}
 
 -- x where b is 1, else y
 abbrev pub selected : ℕ → ℕ → ℕ → ℕ
@@ -30,3 +31,10 @@ SelectIsSound = (z : List ℕ) (next b : ℕ) (x y : Combination) → Assigns z 
 abbrev pub SelectIsComplete : Type 0
 SelectIsComplete = (z : List ℕ) (next b : ℕ) (x y : Combination) → Assigns z → IsBit (slice_index z b)
     → HasFrom z next (select_values (slice_index z b) (value x z) (value y z)) → Meets z (select_of b x y next).list
+
+-- which wire is answered, and that the values are one number of the field for each wire that is made
+pub record SelectSizes : Type 0 where
+  pub answer : (b : ℕ) (x y : Combination) (next : ℕ) → (select_of b x y next).answer ≡ next
+  pub end : (b : ℕ) (x y : Combination) (next : ℕ) → (select_of b x y next).next ≡ next + 1
+  pub fills : (b : ℕ) (x y : Combination) (c v w : ℕ) → Fills (select_of b x y) (select_values c v w)
+  pub in_field : (c v w : ℕ) → v < P → w < P → InField (select_values c v w)

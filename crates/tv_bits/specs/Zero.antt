@@ -1,10 +1,10 @@
 -- Whether a combination is 0.
-use Rattle.std.specs.Prelude.{◌≡◌, ℕ, ◌==◌, if◌then◌else◌, List, [], ◌∷◌, slice_index}
+use Rattle.std.specs.Prelude.{◌≡◌, ℕ, ◌+◌, ◌==◌, if◌then◌else◌, List, [], ◌∷◌, slice_index}
 use Rattle.tv_core.specs.Constraints.{Combination, value}
 use Rattle.tv_core.specs.Combinations.{wire, one_less}
 use Rattle.tv_core.specs.Circuits.{Circuit, fresh, put, pure, ◌>>=◌}
 use Rattle.tv_core.specs.Inverse.{inverse_of}
-use Rattle.tv_core.specs.Laws.{Assigns, Meets, HasFrom}
+use Rattle.tv_core.specs.Laws.{Assigns, Meets, HasFrom, Fills, InField}
 
 -- 1 for 0, and 0 for any other number
 abbrev pub zero_flag : ℕ → ℕ
@@ -32,3 +32,10 @@ ZeroIsSound = (z : List ℕ) (next : ℕ) (x : Combination) → Assigns z → Me
 abbrev pub ZeroIsComplete : Type 0
 ZeroIsComplete = (z : List ℕ) (next : ℕ) (x : Combination) → Assigns z → HasFrom z next (zero_values (value x z))
     → Meets z (zero_of x next).list
+
+-- which wire is answered, and that the values are one number of the field for each wire that is made
+pub record ZeroSizes : Type 0 where
+  pub answer : (x : Combination) (next : ℕ) → (zero_of x next).answer ≡ next
+  pub end : (x : Combination) (next : ℕ) → (zero_of x next).next ≡ next + 2
+  pub fills : (x : Combination) (v : ℕ) → Fills (zero_of x) (zero_values v)
+  pub in_field : (v : ℕ) → InField (zero_values v)

@@ -4,7 +4,8 @@ ghost use Rattle.tv_core.specs.Combinations.{constant, scaled, top};
 
 use tv_core::{F, Lc, Wire};
 
-/// Wires that follow each other, as the bits of a number, lowest first. Contracts see the two numbers.
+/// Wires that follow each other, as the bits of a number, lowest first. Contracts see the two
+/// numbers.
 #[derive(Clone, Copy, PartialEq, Eq, Debug)]
 pub struct Bits {
     /// The wire of the lowest bit.
@@ -57,7 +58,8 @@ impl Bits {
         lc
     }
 
-    /// The bits from place `from` on, as bits of their own: those of the number divided by 2^`from`.
+    /// The bits from place `from` on, as bits of their own: those of the number divided by
+    /// 2^`from`.
     pub fn above(&self, from: u32) -> Bits
         requires enough { from ≤ self.now.n }
         requires within { self.now.first + self.now.n < 2 ^ 32 }

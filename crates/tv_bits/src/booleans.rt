@@ -1,5 +1,5 @@
 ghost use Rattle.std.specs.Prelude.{◌≡◌, ◌<◌, [], false, IfOk, OnOk};
-ghost use Rattle.tv_bits.specs.Bit.{bit_of, BitIsSound, BitIsComplete};
+ghost use Rattle.tv_bits.specs.Bit.{bit_of, BitIsSound, BitIsComplete, BitSizes};
 ghost use Rattle.tv_core.specs.Giving.{GivesIn};
 ghost use Rattle.tv_core.specs.Sinks.{PutsIn, Grows, Room};
 
@@ -35,4 +35,10 @@ pub fn bit_is_sound()
 #[tactic(auto, using(crate::proofs::BitLaws::bit_complete))]
 pub fn bit_is_complete()
     ensures { BitIsComplete }
+{}
+
+/// Says that `bit` makes no wire, for which `fill_bit` gives no number.
+#[tactic(auto, using(crate::proofs::SizeLaws::bit_sizes))]
+pub fn bit_fills()
+    ensures { BitSizes }
 {}

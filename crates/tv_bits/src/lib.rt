@@ -1,29 +1,45 @@
-//! Gadgets over single bits: a bit, a number spelt by bits, the test for 0, a choice and a one-hot row.
-//! Contracts above cite `Spells`, which says that wires spell a number, and `IsOneHot`, that one wire of
-//! a row is 1.
+//! Gadgets over single bits and numbers: a bit, a number spelt by bits, the tests for 0, a choice,
+//! a one-hot row, a product and a ratio as a new wire, two ands in one constraint, and an order by
+//! prefixes.
+//!
+//! Contracts above cite `Spells`, which says that wires spell a number, and `IsOneHot`, that one
+//! wire of a row is 1. The law `.._fills` of a gadget says which wires it answers, where it ends,
+//! and that its generator gives one number of the field for each wire that it makes, whatever the
+//! next wire is.
 #![tactic(auto)]
 
 mod bit_wires;
 mod booleans;
+mod nonzeros;
 mod pairs;
 mod prefixes;
+mod products;
 mod rows;
 mod selection;
 mod spelling;
 mod terms;
+mod two_rows;
 mod zeros;
 
 pub use bit_wires::Bits;
-pub use booleans::{bit, bit_is_complete, bit_is_sound, fill_bit};
-pub use pairs::{two_ands, two_ands_are_complete, two_ands_are_sound};
+pub use booleans::{bit, bit_fills, bit_is_complete, bit_is_sound, fill_bit};
+pub use nonzeros::{fill_nonzero, nonzero, nonzero_fills, nonzero_is_complete, nonzero_is_sound};
+pub use pairs::{two_ands, two_ands_are_complete, two_ands_are_sound, two_ands_fill};
 pub use prefixes::{
-    fill_prefix_difference, first_difference, prefix_difference, prefix_difference_is_complete,
-    prefix_difference_is_sound,
+    fill_prefix_difference, first_difference, prefix_difference, prefix_difference_fills,
+    prefix_difference_is_complete, prefix_difference_is_sound,
 };
-pub use rows::{fill_onehot, onehot, onehot_is_complete, onehot_is_sound, row_sum};
-pub use selection::{fill_select, select, select_is_complete, select_is_sound, select_terms};
+pub use products::{
+    fill_ratio, fill_times, ratio, ratio_fills, ratio_is_complete, ratio_is_sound, times,
+    times_fills, times_is_complete, times_is_sound,
+};
+pub use rows::{fill_onehot, onehot, onehot_fills, onehot_is_complete, onehot_is_sound, row_sum};
+pub use selection::{
+    fill_select, select, select_fills, select_is_complete, select_is_sound, select_terms,
+};
 pub use spelling::{
-    bits, bits_are_complete, bits_are_sound, fill_bits, new_bits, new_bits_are_complete,
-    new_bits_are_sound,
+    bits, bits_are_complete, bits_are_sound, bits_fill, fill_bits, new_bits, new_bits_are_complete,
+    new_bits_are_sound, new_bits_fill,
 };
-pub use zeros::{fill_zero, zero, zero_is_complete, zero_is_sound};
+pub use two_rows::TwoRows;
+pub use zeros::{fill_zero, zero, zero_fills, zero_is_complete, zero_is_sound};

@@ -1,13 +1,14 @@
 ghost use Rattle.std.specs.Prelude.{◌≡◌, ◌+◌, ◌≤◌, [], length, max, IfOk};
-ghost use Rattle.tv_bits.specs.Pairs.{plus_times, side, two_ands_of, TwoAndsAreSound, TwoAndsAreComplete};
+ghost use Rattle.tv_bits.specs.Pairs.{plus_times, side, two_ands_of, TwoAndsAreSound, TwoAndsAreComplete, TwoAndsSizes};
 ghost use Rattle.tv_core.specs.Combinations.{top};
 ghost use Rattle.tv_core.specs.Sinks.{PutsIn, Grows, Room};
 
 use crate::terms::{plus_all, plus_scaled};
 use tv_core::{F, Lc, Put, Sink, Wire};
 
-/// Holds `m` to the product of `x_a` and `y_a` plus `gamma` squared times that of `x_b` and `y_b`, where
-/// these four are 0 or 1. They have at most 8 terms each, and `m` at most 64. It makes no wire and 1 constraint.
+/// Holds `m` to the product of `x_a` and `y_a` plus `gamma` squared times that of `x_b` and `y_b`,
+/// where these four are 0 or 1. They have at most 8 terms each, and `m` at most 64. It makes no
+/// wire and 1 constraint.
 pub fn two_ands<S: Sink>(
     s: &mut S,
     x_a: &[(F, Wire)],
@@ -67,14 +68,22 @@ fn plus_side(
     plus_scaled(lc, -c, y_b);
 }
 
-/// In an assignment that meets what `two_ands` put, `m` is the sum of the products, the four being bits.
+/// In an assignment that meets what `two_ands` put, `m` is the sum of the products, the four being
+/// bits.
 #[tactic(auto, using(crate::proofs::PairLaws::two_ands_sound))]
 pub fn two_ands_are_sound()
     ensures { TwoAndsAreSound }
 {}
 
-/// An assignment in which `m` is the sum of the products meets what `two_ands` put, the four being bits.
+/// An assignment in which `m` is the sum of the products meets what `two_ands` put, the four being
+/// bits.
 #[tactic(auto, using(crate::proofs::PairLaws::two_ands_complete))]
 pub fn two_ands_are_complete()
     ensures { TwoAndsAreComplete }
+{}
+
+/// Says that `two_ands` makes no wire.
+#[tactic(auto, using(crate::proofs::SizeLaws::two_ands_sizes))]
+pub fn two_ands_fill()
+    ensures { TwoAndsSizes }
 {}

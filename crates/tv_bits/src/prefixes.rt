@@ -1,34 +1,39 @@
 ghost use Rattle.std.specs.Prelude.{◌≡◌, ◌+◌, ◌-◌, ◌*◌, ◌≤◌, ◌<◌, ◌^◌, false, length, max, IfOk, OnOk};
 ghost use Rattle.tv_bits.specs.Order.{first_difference};
-ghost use Rattle.tv_bits.specs.Prefixes.{prefix_less, prefix_less_in, times_of, prefix_difference_of, prefix_difference_values, PrefixDifferenceIsSound, PrefixDifferenceIsComplete};
+ghost use Rattle.tv_bits.specs.Prefixes.{prefix_less, prefix_less_in, prefix_difference_of, prefix_difference_values, PrefixDifferenceIsSound, PrefixDifferenceIsComplete, PrefixDifferenceSizes};
+ghost use Rattle.tv_bits.specs.Rows.{rows_size};
 ghost use Rattle.tv_core.specs.Combinations.{top};
 ghost use Rattle.tv_core.specs.Giving.{GivesIn};
 ghost use Rattle.tv_core.specs.Sinks.{PutsIn, Grows, Room};
 
-use crate::bit_wires::Bits;
-use tv_core::{F, Lc, Put, Sink, Values, Wire};
+use crate::products::times;
+use crate::two_rows::TwoRows;
+use tv_core::{F, Lc, Put, Sink, Values};
 
-/// Holds `d` to the difference of two prefixes: with `x` and `y` cut into `count` chunks of `chunk` bits, at
-/// least 2, to the number of `x` less that of `y`, both without as many of their lowest chunks as one likes,
-/// but not without all. So with `d` from 1 to 2^`chunk` the number of `x` is above that of `y`.
-/// It makes `count - 2` wires and `count - 1` constraints.
+/// Holds `d` to the difference of two prefixes: with `x` and `y` cut into `count` chunks of `chunk`
+/// bits, at least 2, to the number of `x` less that of `y`, both without as many of their lowest
+/// chunks as one likes, but not without all. So with `d` from 1 to 2^`chunk` the number of `x` is
+/// above that of `y`. The numbers have at most 63 bits each. It makes `count - 2` wires and
+/// `count - 1` constraints.
 pub fn prefix_difference<S: Sink>(
     s: &mut S,
-    x: &Bits,
-    y: &Bits,
+    x: &TwoRows,
+    y: &TwoRows,
     d: &Lc,
     chunk: u32,
     count: u32,
 ) -> Put<()>
     requires room { Room S.meaning s.old (count - 2) (count - 1) }
     requires chunks { 2 ≤ count }
-    requires x_long { chunk * (count - 1) ≤ x.now.n }
-    requires y_long { chunk * (count - 1) ≤ y.now.n }
-    requires x_short { x.now.n ≤ 63 }
-    requires y_short { y.now.n ≤ 63 }
-    requires d_short { x.now.n + y.now.n + length d.now ≤ 128 }
-    requires x_made { x.now.first + x.now.n ≤ S.meaning.wires s.old }
-    requires y_made { y.now.first + y.now.n ≤ S.meaning.wires s.old }
+    requires x_long { chunk * (count - 1) ≤ rows_size x.now }
+    requires y_long { chunk * (count - 1) ≤ rows_size y.now }
+    requires x_short { rows_size x.now ≤ 63 }
+    requires y_short { rows_size y.now ≤ 63 }
+    requires d_short { rows_size x.now + rows_size y.now + length d.now ≤ 128 }
+    requires x_low_made { x.now.low.first + x.now.low.n ≤ S.meaning.wires s.old }
+    requires x_high_made { x.now.high.first + x.now.high.n ≤ S.meaning.wires s.old }
+    requires y_low_made { y.now.low.first + y.now.low.n ≤ S.meaning.wires s.old }
+    requires y_high_made { y.now.high.first + y.now.high.n ≤ S.meaning.wires s.old }
     requires d_made { top d.now ≤ S.meaning.wires s.old }
     ensures puts { PutsIn S.meaning s.old s.new (prefix_difference_of x.now y.now d.now chunk count) result }
     ensures grows { IfOk result (λ _. Grows S.meaning s.old s.new (count - 2) (count - 1)) }
@@ -47,41 +52,27 @@ pub fn prefix_difference<S: Sink>(
 }
 
 // Makes `lc` the difference of the prefixes from place `from` on, less `d`.
-fn fill_prefix_less(lc: &mut Lc, x: &Bits, y: &Bits, d: &Lc, from: u32)
-    requires x_long { from ≤ x.now.n }
-    requires y_long { from ≤ y.now.n }
-    requires x_short { x.now.n ≤ 63 }
-    requires y_short { y.now.n ≤ 63 }
-    requires d_short { x.now.n + y.now.n + length d.now ≤ 128 }
-    requires x_within { x.now.first + x.now.n < 2 ^ 32 }
-    requires y_within { y.now.first + y.now.n < 2 ^ 32 }
+fn fill_prefix_less(lc: &mut Lc, x: &TwoRows, y: &TwoRows, d: &Lc, from: u32)
+    requires x_long { from ≤ rows_size x.now }
+    requires y_long { from ≤ rows_size y.now }
+    requires x_short { rows_size x.now ≤ 63 }
+    requires y_short { rows_size y.now ≤ 63 }
+    requires d_short { rows_size x.now + rows_size y.now + length d.now ≤ 128 }
+    requires x_low_within { x.now.low.first + x.now.low.n < 2 ^ 32 }
+    requires x_high_within { x.now.high.first + x.now.high.n < 2 ^ 32 }
+    requires y_low_within { y.now.low.first + y.now.low.n < 2 ^ 32 }
+    requires y_high_within { y.now.high.first + y.now.high.n < 2 ^ 32 }
     ensures terms { lc.new ≡ prefix_less x.now y.now d.now from }
-    ensures top { top lc.new ≤ max (max (x.now.first + x.now.n) (y.now.first + y.now.n)) (top d.now) }
+    ensures top { top lc.new ≤ max (max (max (x.now.low.first + x.now.low.n) (x.now.high.first + x.now.high.n)) (max (y.now.low.first + y.now.low.n) (y.now.high.first + y.now.high.n))) (top d.now) }
 {
     lc.clear();
-    x.above(from).plus_to(lc, F::ONE);
-    y.above(from).plus_to(lc, -F::ONE);
+    x.plus_prefix_to(lc, F::ONE, from);
+    y.plus_prefix_to(lc, -F::ONE, from);
     lc.minus(d);
 }
 
-// A wire that is the product.
-fn times<S: Sink>(s: &mut S, x: &Lc, y: &Lc) -> Put<Wire>
-    requires room { Room S.meaning s.old 1 1 }
-    requires x_made { top x.now ≤ S.meaning.wires s.old }
-    requires y_made { top y.now ≤ S.meaning.wires s.old }
-    ensures puts { PutsIn S.meaning s.old s.new (times_of x.now y.now) result }
-    ensures grows { IfOk result (λ _. Grows S.meaning s.old s.new 1 1) }
-    ensures below { IfOk result (λ product. product < S.meaning.wires s.new) }
-{
-    let w = s.fresh();
-    let mut product = Lc::empty();
-    product.plus(F::ONE, w);
-    s.put(x, y, &product)?;
-    Ok(w)
-}
-
-/// Gives the values of the wires that `prefix_difference` makes for the numbers `x` and `y`, both below
-/// 2^63, and for `d`.
+/// Gives the values of the wires that `prefix_difference` makes for the numbers `x` and `y`, both
+/// below 2^63, and for `d`.
 pub fn fill_prefix_difference<V: Values>(
     v: &mut V,
     x: u64,
@@ -115,9 +106,9 @@ fn prefix_less_in(x: u64, y: u64, d: F, from: u32) -> F
     F::of(x >> from) - F::of(y >> from) - d
 }
 
-/// By how much `x` is above `y` in the shortest prefix in which they differ, the two being cut into `count`
-/// chunks of `chunk` bits; 0 where none differs and where `x` is below `y`. It is what `prefix_difference` is
-/// given to hold where `x` is above, and from 1 to 2^`chunk` - 1 there.
+/// By how much `x` is above `y` in the shortest prefix in which they differ, the two being cut into
+/// `count` chunks of `chunk` bits; 0 where none differs and where `x` is below `y`. It is what
+/// `prefix_difference` is given to hold where `x` is above, and from 1 to 2^`chunk` - 1 there.
 pub fn first_difference(x: u64, y: u64, chunk: u32, count: u32) -> u64
     requires short { chunk * (count - 1) < 64 }
     ensures { result ≡ first_difference chunk count x y }
@@ -132,16 +123,23 @@ pub fn first_difference(x: u64, y: u64, chunk: u32, count: u32) -> u64
     difference
 }
 
-/// Where an assignment meets what `prefix_difference` put for bits that spell two numbers, `d` is the
-/// difference of some prefixes of the two.
+/// Where an assignment meets what `prefix_difference` put for bits that spell two numbers, `d` is
+/// the difference of some prefixes of the two.
 #[tactic(auto, using(crate::proofs::PrefixLaws::prefix_difference_sound))]
 pub fn prefix_difference_is_sound()
     ensures { PrefixDifferenceIsSound }
 {}
 
-/// Where `d` is the difference of some prefixes, and an assignment has the values that `fill_prefix_difference`
-/// gives, it meets what `prefix_difference` put.
+/// Where `d` is the difference of some prefixes, and an assignment has the values that
+/// `fill_prefix_difference` gives, it meets what `prefix_difference` put.
 #[tactic(auto, using(crate::proofs::PrefixLaws::prefix_difference_complete))]
 pub fn prefix_difference_is_complete()
     ensures { PrefixDifferenceIsComplete }
+{}
+
+/// Says where `prefix_difference` ends, and that `fill_prefix_difference` gives one number for each
+/// wire that it makes.
+#[tactic(auto, using(crate::proofs::PrefixLaws::prefix_difference_sizes))]
+pub fn prefix_difference_fills()
+    ensures { PrefixDifferenceSizes }
 {}

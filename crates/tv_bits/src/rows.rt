@@ -1,5 +1,5 @@
-ghost use Rattle.std.specs.Prelude.{◌≡◌, ◌+◌, ◌≤◌, ◌<◌, ◌^◌, false, Bool, if◌then◌else◌, length, IfOk, OnOk};
-ghost use Rattle.tv_bits.specs.OneHot.{row_sum, onehot_values, mark_of, onehot_of, OneHotIsSound, OneHotIsComplete};
+ghost use Rattle.std.specs.Prelude.{◌≡◌, ◌+◌, ◌≤◌, ◌<◌, ◌^◌, false, length, IfOk, OnOk};
+ghost use Rattle.tv_bits.specs.OneHot.{row_sum, onehot_values, mark_of, onehot_of, OneHotIsSound, OneHotIsComplete, OneHotSizes};
 ghost use Rattle.tv_core.specs.Combinations.{top};
 ghost use Rattle.tv_core.specs.Giving.{GivesIn};
 ghost use Rattle.tv_core.specs.Sinks.{PutsIn, Grows, Room};
@@ -22,8 +22,8 @@ pub fn row_sum(first: Wire, count: u32) -> Lc
     lc
 }
 
-/// The first of 2^n wires of which the one whose number the bits spell is 1, and each other one 0; there
-/// are at most 5 bits. It makes 2^n wires and 2^n + 1 constraints.
+/// The first of 2^n wires of which the one whose number the bits spell is 1, and each other one 0;
+/// there are at most 5 bits. It makes 2^n wires and 2^n + 1 constraints.
 pub fn onehot<S: Sink>(s: &mut S, x: &Bits) -> Put<Wire>
     requires room { Room S.meaning s.old (2 ^ x.now.n) (2 ^ x.now.n + 1) }
     requires short { x.now.n ≤ 5 }
@@ -65,7 +65,7 @@ pub fn fill_onehot<V: Values>(v: &mut V, x: u32, n: u32) -> Put<()>
     ensures whole { OnOk result (V.giving.broken v.new ≡ false) }
 {
     for i in 0..row_len(n) {
-        v.give(flag(i == x))?;
+        v.give(F::from(i == x))?;
     }
     Ok(())
 }
@@ -77,22 +77,23 @@ fn row_len(n: u32) -> u32
     1 << n
 }
 
-fn flag(set: bool) -> F
-    ensures { result ≡ (if set then 1 else 0) }
-{
-    if set { F::ONE } else { F::ZERO }
-}
-
-/// Where an assignment meets what `onehot` put for bits that spell a number, that number's wire is 1 and
-/// each other one 0.
+/// Where an assignment meets what `onehot` put for bits that spell a number, that number's wire is
+/// 1 and each other one 0.
 #[tactic(auto, using(crate::proofs::OneHotLaws::onehot_sound))]
 pub fn onehot_is_sound()
     ensures { OneHotIsSound }
 {}
 
-/// Where bits spell a number and an assignment has the values that `fill_onehot` gives for it, it meets
-/// what `onehot` put.
+/// Where bits spell a number and an assignment has the values that `fill_onehot` gives for it, it
+/// meets what `onehot` put.
 #[tactic(auto, using(crate::proofs::OneHotLaws::onehot_complete))]
 pub fn onehot_is_complete()
     ensures { OneHotIsComplete }
+{}
+
+/// Says which wire `onehot` answers, and that `fill_onehot` gives one number for each wire that it
+/// makes.
+#[tactic(auto, using(crate::proofs::SizeLaws::onehot_sizes))]
+pub fn onehot_fills()
+    ensures { OneHotSizes }
 {}

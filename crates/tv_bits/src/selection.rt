@@ -1,5 +1,5 @@
 ghost use Rattle.std.specs.Prelude.{◌≡◌, ◌≤◌, ◌<◌, false, length, IfOk, OnOk};
-ghost use Rattle.tv_bits.specs.Select.{selected, select_of, select_values, SelectIsSound, SelectIsComplete};
+ghost use Rattle.tv_bits.specs.Select.{selected, select_of, select_values, SelectIsSound, SelectIsComplete, SelectSizes};
 ghost use Rattle.tv_core.specs.Combinations.{top};
 ghost use Rattle.tv_core.specs.Giving.{GivesIn};
 ghost use Rattle.tv_core.specs.Sinks.{PutsIn, Grows, Room};
@@ -7,7 +7,8 @@ ghost use Rattle.tv_core.specs.Sinks.{PutsIn, Grows, Room};
 use crate::terms::{plus_all, plus_scaled};
 use tv_core::{F, Lc, Put, Sink, Values, Wire};
 
-/// A wire that is `x` where the bit `b` is 1, and `y` where it is 0. It makes 1 wire and 1 constraint.
+/// A wire that is `x` where the bit `b` is 1, and `y` where it is 0. It makes 1 wire and 1
+/// constraint.
 pub fn select<S: Sink>(s: &mut S, b: Wire, x: &Lc, y: &Lc) -> Put<Wire>
     requires room { Room S.meaning s.old 1 1 }
     requires b_made { b < S.meaning.wires s.old }
@@ -68,8 +69,16 @@ pub fn select_is_sound()
     ensures { SelectIsSound }
 {}
 
-/// Where an assignment has a bit at `b` and the value that `fill_select` gives, it meets what `select` put.
+/// Where an assignment has a bit at `b` and the value that `fill_select` gives, it meets what
+/// `select` put.
 #[tactic(auto, using(crate::proofs::SelectLaws::select_complete))]
 pub fn select_is_complete()
     ensures { SelectIsComplete }
+{}
+
+/// Says which wire `select` answers, and that `fill_select` gives one number for each wire that it
+/// makes.
+#[tactic(auto, using(crate::proofs::SizeLaws::select_sizes))]
+pub fn select_fills()
+    ensures { SelectSizes }
 {}

@@ -1,6 +1,6 @@
 ghost use Rattle.std.specs.Prelude.{◌≡◌, ◌+◌, ◌≤◌, ◌<◌, ◌^◌, false, IfOk, OnOk};
 ghost use Rattle.std.specs.Int.{bit_at};
-ghost use Rattle.tv_bits.specs.Bits.{bits_values, new_bits_of, bits_of, NewBitsAreSound, NewBitsAreComplete, BitsAreSound, BitsAreComplete};
+ghost use Rattle.tv_bits.specs.Bits.{bits_values, new_bits_of, bits_of, NewBitsAreSound, NewBitsAreComplete, BitsAreSound, BitsAreComplete, NewBitsSizes, BitsSizes};
 ghost use Rattle.tv_core.specs.Combinations.{top};
 ghost use Rattle.tv_core.specs.Giving.{GivesIn};
 ghost use Rattle.tv_core.specs.Sinks.{PutsIn, Grows, Room};
@@ -44,8 +44,8 @@ pub fn bits<S: Sink>(s: &mut S, x: &Lc, n: u32) -> Put<Bits>
     Ok(made)
 }
 
-/// Gives the `n` lowest bits of `x`, lowest first: the values of the wires that `bits` makes for it,
-/// and `new_bits` for any number.
+/// Gives the `n` lowest bits of `x`, lowest first: the values of the wires that `bits` makes for
+/// it, and `new_bits` for any number.
 pub fn fill_bits<V: Values>(v: &mut V, x: F, n: u32) -> Put<()>
     requires whole { V.giving.broken v.old ≡ false }
     requires short { n ≤ 63 }
@@ -72,7 +72,8 @@ pub fn new_bits_are_sound()
     ensures { NewBitsAreSound }
 {}
 
-/// Where an assignment has the values that `fill_bits` gives for any number, it meets what `new_bits` put.
+/// Where an assignment has the values that `fill_bits` gives for any number, it meets what
+/// `new_bits` put.
 #[tactic(auto, using(crate::proofs::SpellingLaws::new_bits_complete))]
 pub fn new_bits_are_complete()
     ensures { NewBitsAreComplete }
@@ -84,8 +85,23 @@ pub fn bits_are_sound()
     ensures { BitsAreSound }
 {}
 
-/// Where the value is below 2^n and an assignment has the values that `fill_bits` gives, it meets what `bits` put.
+/// Where the value is below 2^n and an assignment has the values that `fill_bits` gives, it meets
+/// what `bits` put.
 #[tactic(auto, using(crate::proofs::SpellingLaws::bits_complete))]
 pub fn bits_are_complete()
     ensures { BitsAreComplete }
+{}
+
+/// Says which wires `new_bits` answers, and that `fill_bits` gives one number for each wire that it
+/// makes.
+#[tactic(auto, using(crate::proofs::SizeLaws::new_bits_sizes))]
+pub fn new_bits_fill()
+    ensures { NewBitsSizes }
+{}
+
+/// Says which wires `bits` answers, and that `fill_bits` gives one number for each wire that it
+/// makes.
+#[tactic(auto, using(crate::proofs::SizeLaws::bits_sizes))]
+pub fn bits_fill()
+    ensures { BitsSizes }
 {}

@@ -2,7 +2,7 @@ ghost use Rattle.std.specs.Prelude.{◌≡◌, ◌-◌, ◌≤◌, ◌<◌, [], 
 ghost use Rattle.tv_core.specs.Combinations.{top, wire};
 ghost use Rattle.tv_core.specs.Sinks.{PutsIn, Grows, Room};
 ghost use Rattle.tv_core.specs.Giving.{GivesIn};
-ghost use Rattle.tv_bits.specs.Zero.{zero_of, zero_values, ZeroIsSound, ZeroIsComplete};
+ghost use Rattle.tv_bits.specs.Zero.{zero_of, zero_values, ZeroIsSound, ZeroIsComplete, ZeroSizes};
 
 use tv_core::{F, Lc, Put, Sink, Values, Wire, give_values};
 
@@ -49,4 +49,11 @@ pub fn zero_is_sound()
 #[tactic(auto, using(crate::proofs::ZeroLaws::zero_complete))]
 pub fn zero_is_complete()
     ensures { ZeroIsComplete }
+{}
+
+/// Says which wire `zero` answers, and that `fill_zero` gives one number for each wire that it
+/// makes.
+#[tactic(auto, using(crate::proofs::SizeLaws::zero_sizes))]
+pub fn zero_fills()
+    ensures { ZeroSizes }
 {}

@@ -9,12 +9,12 @@ loop-i-init g c = (gives_no_turn g.V.Values.giving (one_at c.args.x) _, c.requir
 
 pub loop-i-preserved : goal.loop-i-preserved
 loop-i-preserved g c =
-    let one = rw c.flag.ensures at c.in_ok-give.ensures.gives in
+    let one = rw c.from.ensures at c.in_ok-give.ensures.gives in
     (gives_turn g.V.Values.giving (one_at c.args.x) _ _ _ _ c.loop-i.invariant.0 one, c.in_ok-give.ensures.whole)
 
 pub returns-in_err-give-clause-gives : goal.returns-in_err-give-clause-gives
 returns-in_err-give-clause-gives g c =
     let within : c.loop-i.i < 2 ^ c.args.n = omega arith in
-    let one = rw c.flag.ensures at c.in_err-give.ensures.gives in
+    let one = rw c.from.ensures at c.in_err-give.ensures.gives in
     gives_refused g.V.Values.giving _ _ _ c.from_residual.result c.from_residual.ensures.1
     (gives_turn_refused g.V.Values.giving (one_at c.args.x) (2 ^ c.args.n) c.loop-i.i _ _ _ _ within c.loop-i.invariant.0 one)

@@ -1,6 +1,6 @@
 use Rattle.tv_core.proofs.Chain.{chain, refused}
-use Rattle.tv_bits.specs.Prefixes.{times_of}
-use Rattle.tv_bits.proofs.prefixes.times.Goals as goal
+use Rattle.tv_bits.specs.Times.{times_of}
+use Rattle.tv_bits.proofs.products.times.Goals as goal
 
 pub returns-in_err-put-clause-puts : goal.returns-in_err-put-clause-puts
 unfolding times_of

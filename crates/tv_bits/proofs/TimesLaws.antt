@@ -1,0 +1,88 @@
+-- The laws of a product, and of a ratio, as a new wire.
+use Rattle.std.proofs.Common.{◌≡◌, ℕ, ◌+◌, ◌*◌, ◌%◌, ◌<◌, [], inl, inr, refl, sym, ◌∙◌, ap, arith, mod-lt, zero-mul, mul_comm}
+use Rattle.std.proofs.Math.Nat.{mul_assoc}
+use Rattle.std.proofs.lemmas.Bool.{cases_eq}
+use Rattle.std.proofs.lemmas.Nat.{mul-mod_first, mul-mod_second}
+use Rattle.tv_core.proofs.CombinationLaws.{value-wire}
+use Rattle.tv_core.proofs.FieldLaws.{InField-none, InField-cons}
+use Rattle.tv_core.proofs.InverseLaws.{mul-inverse_of}
+use Rattle.tv_core.specs.Circuits.{fresh, put, pure, ◌>>=◌}
+use Rattle.tv_core.specs.Constraints.{Combination, value}
+use Rattle.tv_core.specs.Inverse.{inverse_of}
+use Rattle.tv_core.specs.declared.field.TheConstants.{P}
+use Rattle.tv_bits.specs.Times.{times_of, TimesIsSound, TimesIsComplete, TimesSizes}
+use Rattle.tv_bits.specs.Ratio.{ratio, ratio_of, RatioIsSound, RatioIsComplete, RatioDivides, RatioSizes}
+
+-- ---- a product
+pub times_answer : (x y : Combination) (next : ℕ) → (times_of x y next).answer ≡ next
+unfolding times_of fresh put pure ◌>>=◌
+times_answer x y next = refl
+
+pub times_next : (x y : Combination) (next : ℕ) → (times_of x y next).next ≡ next + 1
+unfolding times_of fresh put pure ◌>>=◌
+times_next x y next = refl
+
+pub times_sound : TimesIsSound
+unfolding times_of fresh put pure ◌>>=◌
+times_sound z next x y assigns meets = sym (value-wire assigns next) ∙ sym meets.0
+
+pub times_complete : TimesIsComplete
+unfolding times_of fresh put pure ◌>>=◌
+times_complete z next x y assigns has = (sym has.0 ∙ sym (value-wire assigns next), tt)
+
+residue_below : (a : ℕ) → a % P < P
+residue_below a = mod-lt a (omega arith)
+
+pub times_sizes : TimesSizes
+times_sizes = record {
+  answer = times_answer;
+  end = times_next;
+  fills = λ x y a b next. times_next x y next;
+  in_field = λ a b. InField-cons (a * b % P) [] (residue_below (a * b)) InField-none;
+}
+
+-- ---- a ratio
+pub ratio_answer : (x y : Combination) (next : ℕ) → (ratio_of x y next).answer ≡ next
+unfolding ratio_of fresh put pure ◌>>=◌
+ratio_answer x y next = refl
+
+pub ratio_next : (x y : Combination) (next : ℕ) → (ratio_of x y next).next ≡ next + 1
+unfolding ratio_of fresh put pure ◌>>=◌
+ratio_next x y next = refl
+
+pub ratio_sound : RatioIsSound
+unfolding ratio_of fresh put pure ◌>>=◌
+ratio_sound z next x y assigns meets = ap (λ n. value x z * n % P) (sym (value-wire assigns next)) ∙ meets.0
+
+pub ratio_complete : RatioIsComplete
+unfolding ratio_of fresh put pure ◌>>=◌
+ratio_complete z next x y q assigns is has = (ap (λ n. value x z * n % P) (value-wire assigns next ∙ has.0) ∙ is, tt)
+
+turned : (a b i : ℕ) → a * (b * i) ≡ a * i * b
+turned a b i = ap (λ n. a * n) (mul_comm b i) ∙ sym (mul_assoc a i b)
+
+times_one : (b : ℕ) → b < P → 1 * b % P ≡ b
+times_one b small = omega arith
+
+zero_times : (a n : ℕ) → a % P ≡ 0 → a * n % P ≡ 0
+zero_times a n none = sym (mul-mod_first a n P) ∙ ap (λ k. k * n % P) none ∙ ap (λ k. k % P) (zero-mul n)
+
+pub ratio_divides : RatioDivides
+ratio_divides a b small zero =
+    elim (cases_eq (a % P) 0) [
+      | inl none ↦ zero_times a (ratio a b) none ∙ sym (zero none)
+      | inr some ↦
+          mul-mod_second a (b * inverse_of a) P
+          ∙ ap (λ n. n % P) (turned a b (inverse_of a))
+          ∙ sym (mul-mod_first (a * inverse_of a) b P)
+          ∙ ap (λ n. n * b % P) (mul-inverse_of a some)
+          ∙ times_one b small
+    ]
+
+pub ratio_sizes : RatioSizes
+ratio_sizes = record {
+  answer = ratio_answer;
+  end = ratio_next;
+  fills = λ x y a b next. ratio_next x y next;
+  in_field = λ a b. InField-cons (ratio a b) [] (residue_below (b * inverse_of a)) InField-none;
+}

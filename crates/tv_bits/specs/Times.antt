@@ -1,0 +1,35 @@
+-- A product as a new wire.
+use Rattle.std.specs.Prelude.{◌≡◌, ℕ, ◌+◌, ◌*◌, ◌%◌, List, [], ◌∷◌, slice_index}
+use Rattle.tv_core.specs.Circuits.{Circuit, fresh, put, pure, ◌>>=◌}
+use Rattle.tv_core.specs.Combinations.{wire}
+use Rattle.tv_core.specs.Constraints.{Combination, value}
+use Rattle.tv_core.specs.Laws.{Assigns, Meets, HasFrom, Fills, InField}
+use Rattle.tv_core.specs.declared.field.TheConstants.{P}
+
+-- a new wire that is x times y
+unfoldable pub times_of : Combination → Combination → Circuit ℕ
+times_of x y = do
+  m ← fresh
+  _ ← put x y (wire m)
+  pure m
+
+-- the value of the wire that is made
+abbrev pub times_values : ℕ → ℕ → List ℕ
+times_values a b = a * b % P ∷ []
+
+-- an assignment that meets what was put has the product at the wire that was answered
+abbrev pub TimesIsSound : Type 0
+TimesIsSound = (z : List ℕ) (next : ℕ) (x y : Combination) → Assigns z → Meets z (times_of x y next).list
+    → slice_index z (times_of x y next).answer ≡ value x z * value y z % P
+
+-- an assignment that has the product at the wire that was made meets what was put
+abbrev pub TimesIsComplete : Type 0
+TimesIsComplete = (z : List ℕ) (next : ℕ) (x y : Combination) → Assigns z → HasFrom z next (times_values (value x z) (value y z))
+    → Meets z (times_of x y next).list
+
+-- which wire is answered, and that the values are one number of the field for each wire that is made
+pub record TimesSizes : Type 0 where
+  pub answer : (x y : Combination) (next : ℕ) → (times_of x y next).answer ≡ next
+  pub end : (x y : Combination) (next : ℕ) → (times_of x y next).next ≡ next + 1
+  pub fills : (x y : Combination) (a b : ℕ) → Fills (times_of x y) (times_values a b)
+  pub in_field : (a b : ℕ) → InField (times_values a b)

@@ -1,0 +1,59 @@
+ghost use Rattle.std.specs.Prelude.{◌≡◌, ◌≤◌, ◌<◌, false, IfOk, OnOk};
+ghost use Rattle.tv_bits.specs.Nonzero.{nonzero_of, nonzero_values, NonzeroIsSound, NonzeroIsComplete, NonzeroSizes};
+ghost use Rattle.tv_core.specs.Combinations.{top};
+ghost use Rattle.tv_core.specs.Giving.{GivesIn};
+ghost use Rattle.tv_core.specs.Sinks.{PutsIn, Grows, Room};
+
+use tv_core::{F, Lc, Put, Sink, Values, Wire, give_values};
+
+/// A wire that is 0 exactly where `x` is 0, and else 1. It makes 2 wires and 2 constraints.
+pub fn nonzero<S: Sink>(s: &mut S, x: &Lc) -> Put<Wire>
+    requires room { Room S.meaning s.old 2 2 }
+    requires x_made { top x.now ≤ S.meaning.wires s.old }
+    ensures puts { PutsIn S.meaning s.old s.new (nonzero_of x.now) result }
+    ensures grows { IfOk result (λ _. Grows S.meaning s.old s.new 2 2) }
+    ensures below { IfOk result (λ flag. flag < S.meaning.wires s.new) }
+{
+    let flag = s.fresh();
+    let hint = s.fresh();
+    s.put(x, &Lc::wire(hint), &Lc::wire(flag))?;
+    s.put(x, &Lc::one_less(flag), &Lc::empty())?;
+    Ok(flag)
+}
+
+/// Gives the values of the wires that `nonzero` makes, `x` being that of its combination.
+pub fn fill_nonzero<V: Values>(v: &mut V, x: F) -> Put<()>
+    requires { V.giving.broken v.old ≡ false }
+    ensures gives { GivesIn V.giving v.old v.new (nonzero_values x) result }
+    ensures whole { OnOk result (V.giving.broken v.new ≡ false) }
+{
+    give_values(v, &nonzero_values(x))
+}
+
+fn nonzero_values(x: F) -> [F; 2]
+    ensures { result ≡ nonzero_values x }
+{
+    match x.inv() {
+        Some(inverse) => [F::ONE, inverse],
+        None => [F::ZERO, F::ZERO],
+    }
+}
+
+/// Where an assignment meets what `nonzero` put, its flag is right.
+#[tactic(auto, using(crate::proofs::NonzeroLaws::nonzero_sound))]
+pub fn nonzero_is_sound()
+    ensures { NonzeroIsSound }
+{}
+
+/// Where an assignment has the values that `fill_nonzero` gives, it meets what `nonzero` put.
+#[tactic(auto, using(crate::proofs::NonzeroLaws::nonzero_complete))]
+pub fn nonzero_is_complete()
+    ensures { NonzeroIsComplete }
+{}
+
+/// Says which wire `nonzero` answers, and that `fill_nonzero` gives one number for each wire that
+/// it makes.
+#[tactic(auto, using(crate::proofs::NonzeroLaws::nonzero_sizes))]
+pub fn nonzero_fills()
+    ensures { NonzeroSizes }
+{}

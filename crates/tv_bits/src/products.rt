@@ -1,0 +1,110 @@
+ghost use Rattle.std.specs.Prelude.{◌≡◌, ◌≤◌, ◌<◌, false, IfOk, OnOk};
+ghost use Rattle.tv_bits.specs.Ratio.{ratio, ratio_of, ratio_values, RatioIsSound, RatioIsComplete, RatioDivides, RatioSizes};
+ghost use Rattle.tv_bits.specs.Times.{times_of, times_values, TimesIsSound, TimesIsComplete, TimesSizes};
+ghost use Rattle.tv_core.specs.Combinations.{top};
+ghost use Rattle.tv_core.specs.Giving.{GivesIn};
+ghost use Rattle.tv_core.specs.Sinks.{PutsIn, Grows, Room};
+
+use tv_core::{F, Lc, Put, Sink, Values, Wire};
+
+/// A wire that is `x` times `y`. It makes 1 wire and 1 constraint.
+pub fn times<S: Sink>(s: &mut S, x: &Lc, y: &Lc) -> Put<Wire>
+    requires room { Room S.meaning s.old 1 1 }
+    requires x_made { top x.now ≤ S.meaning.wires s.old }
+    requires y_made { top y.now ≤ S.meaning.wires s.old }
+    ensures puts { PutsIn S.meaning s.old s.new (times_of x.now y.now) result }
+    ensures grows { IfOk result (λ _. Grows S.meaning s.old s.new 1 1) }
+    ensures below { IfOk result (λ product. product < S.meaning.wires s.new) }
+{
+    let w = s.fresh();
+    let mut product = Lc::empty();
+    product.plus(F::ONE, w);
+    s.put(x, y, &product)?;
+    Ok(w)
+}
+
+/// Gives the value of the wire that `times` makes, `x` and `y` being those of its combinations.
+pub fn fill_times<V: Values>(v: &mut V, x: F, y: F) -> Put<()>
+    requires { V.giving.broken v.old ≡ false }
+    ensures gives { GivesIn V.giving v.old v.new (times_values x y) result }
+    ensures whole { OnOk result (V.giving.broken v.new ≡ false) }
+{
+    v.give(x * y)
+}
+
+/// A wire that times `x` is `y`. Where `x` is 0 the wire may hold anything, and `y` is held to 0.
+/// It makes 1 wire and 1 constraint.
+pub fn ratio<S: Sink>(s: &mut S, x: &Lc, y: &Lc) -> Put<Wire>
+    requires room { Room S.meaning s.old 1 1 }
+    requires x_made { top x.now ≤ S.meaning.wires s.old }
+    requires y_made { top y.now ≤ S.meaning.wires s.old }
+    ensures puts { PutsIn S.meaning s.old s.new (ratio_of x.now y.now) result }
+    ensures grows { IfOk result (λ _. Grows S.meaning s.old s.new 1 1) }
+    ensures below { IfOk result (λ ratio. ratio < S.meaning.wires s.new) }
+{
+    let w = s.fresh();
+    let mut ratio = Lc::empty();
+    ratio.plus(F::ONE, w);
+    s.put(x, &ratio, y)?;
+    Ok(w)
+}
+
+/// Gives the value of the wire that `ratio` makes, `x` and `y` being those of its combinations: `y`
+/// divided by `x`, and 0 where `x` is 0. It takes an inversion; who knows the number gives it.
+pub fn fill_ratio<V: Values>(v: &mut V, x: F, y: F) -> Put<()>
+    requires { V.giving.broken v.old ≡ false }
+    ensures gives { GivesIn V.giving v.old v.new (ratio_values x y) result }
+    ensures whole { OnOk result (V.giving.broken v.new ≡ false) }
+{
+    v.give(divided(x, y))
+}
+
+fn divided(x: F, y: F) -> F
+    ensures { result ≡ ratio x y }
+{
+    match x.inv() {
+        Some(inverse) => y * inverse,
+        None => F::ZERO,
+    }
+}
+
+/// Where an assignment meets what `times` put, the wire holds the product.
+#[tactic(auto, using(crate::proofs::TimesLaws::times_sound))]
+pub fn times_is_sound()
+    ensures { TimesIsSound }
+{}
+
+/// Where an assignment has the value that `fill_times` gives, it meets what `times` put.
+#[tactic(auto, using(crate::proofs::TimesLaws::times_complete))]
+pub fn times_is_complete()
+    ensures { TimesIsComplete }
+{}
+
+/// Says which wire `times` answers, and that `fill_times` gives one number for each wire that it
+/// makes.
+#[tactic(auto, using(crate::proofs::TimesLaws::times_sizes))]
+pub fn times_fills()
+    ensures { TimesSizes }
+{}
+
+/// Where an assignment meets what `ratio` put, the wire times the first number is the second.
+#[tactic(auto, using(crate::proofs::TimesLaws::ratio_sound))]
+pub fn ratio_is_sound()
+    ensures { RatioIsSound }
+{}
+
+/// Where an assignment has a number at the wire that times the first number is the second, it meets
+/// what `ratio` put; and what `fill_ratio` gives is one, unless the first number is 0 and the
+/// second isn't.
+#[tactic(auto, using(crate::proofs::TimesLaws::ratio_complete, crate::proofs::TimesLaws::ratio_divides))]
+pub fn ratio_is_complete()
+    ensures meets { RatioIsComplete }
+    ensures divides { RatioDivides }
+{}
+
+/// Says which wire `ratio` answers, and that `fill_ratio` gives one number for each wire that it
+/// makes.
+#[tactic(auto, using(crate::proofs::TimesLaws::ratio_sizes))]
+pub fn ratio_fills()
+    ensures { RatioSizes }
+{}
