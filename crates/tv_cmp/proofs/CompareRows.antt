@@ -3,8 +3,9 @@ use Rattle.std.proofs.Common.{◌≡◌, ◌-◌, [], ◌∷◌, length, refl}
 use Rattle.tv_bits.specs.Bit.{bit_of}
 use Rattle.tv_bits.specs.Bits.{new_bit, new_bits_of}
 use Rattle.tv_bits.specs.Order.{first_difference}
-use Rattle.tv_bits.specs.Prefixes.{times_of, next_product, zero_product_of, prefix_difference_of}
-use Rattle.tv_cmp.specs.Compare.{above_flag, greater_flag, flags_of, signed_size_of, greater_of, compare_of, compare_values}
+use Rattle.tv_bits.specs.Prefixes.{next_product, zero_product_of, prefix_difference_of}
+use Rattle.tv_bits.specs.Times.{times_of}
+use Rattle.tv_cmp.specs.Compare.{above_flag, greater_flag, order_flags_of, signed_size_of, greater_of, compare_of, compare_values}
 use Rattle.tv_core.specs.Below.{each_below}
 use Rattle.tv_core.specs.Circuits.{here, fresh, put, pure, turns, ◌>>=◌}
 use Rattle.tv_core.specs.declared.field.TheConstants.{P}
@@ -31,11 +32,30 @@ seven_and_itself : compare_values 32 7 7 ≡ 1 ∷ 0 ∷ 0 ∷ 0 ∷ 0 ∷ 0 ∷
 unfolding first_difference each_below
 seven_and_itself = refl
 
--- 14 wires and 16 constraints
+-- the same in words of 16 bits, whose least signed one is 2 ^ 15
+greatest_signed_16 : greater_flag 16 32767 32768 ≡ 1
+greatest_signed_16 = refl
+
+minus_one_not_greater_16 : greater_flag 16 65535 0 ≡ 0
+minus_one_not_greater_16 = refl
+
+three_and_five_16 : compare_values 16 3 5 ≡ 0 ∷ 0 ∷ 1 ∷ 0 ∷ 0 ∷ 0 ∷ (P - 2) ∷ 0 ∷ 0 ∷ 0 ∷ []
+unfolding first_difference each_below
+three_and_five_16 = refl
+
+-- 14 wires and 16 constraints, and at 16 bits 10 and 12
 wires_made : (compare_of 32 (record { first = 1; n = 32 }) (record { first = 33; n = 32 }) 65).next ≡ 79
-unfolding compare_of flags_of signed_size_of greater_of bit_of new_bit new_bits_of times_of next_product zero_product_of prefix_difference_of here fresh put pure turns ◌>>=◌
+unfolding compare_of order_flags_of signed_size_of greater_of bit_of new_bit new_bits_of times_of next_product zero_product_of prefix_difference_of here fresh put pure turns ◌>>=◌
 wires_made = refl
 
 constraints_put : length (compare_of 32 (record { first = 1; n = 32 }) (record { first = 33; n = 32 }) 65).list ≡ 16
-unfolding compare_of flags_of signed_size_of greater_of bit_of new_bit new_bits_of times_of next_product zero_product_of prefix_difference_of here fresh put pure turns ◌>>=◌
+unfolding compare_of order_flags_of signed_size_of greater_of bit_of new_bit new_bits_of times_of next_product zero_product_of prefix_difference_of here fresh put pure turns ◌>>=◌
 constraints_put = refl
+
+wires_made_16 : (compare_of 16 (record { first = 1; n = 16 }) (record { first = 17; n = 16 }) 33).next ≡ 43
+unfolding compare_of order_flags_of signed_size_of greater_of bit_of new_bit new_bits_of times_of next_product zero_product_of prefix_difference_of here fresh put pure turns ◌>>=◌
+wires_made_16 = refl
+
+constraints_put_16 : length (compare_of 16 (record { first = 1; n = 16 }) (record { first = 17; n = 16 }) 33).list ≡ 12
+unfolding compare_of order_flags_of signed_size_of greater_of bit_of new_bit new_bits_of times_of next_product zero_product_of prefix_difference_of here fresh put pure turns ◌>>=◌
+constraints_put_16 = refl

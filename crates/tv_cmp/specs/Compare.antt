@@ -4,13 +4,15 @@ use Rattle.tv_bits.specs.Bit.{bit_of}
 use Rattle.tv_bits.specs.Bits.{Spells, bits_combination, bits_values, new_bits_of}
 use Rattle.tv_bits.specs.Order.{first_difference}
 use Rattle.tv_bits.specs.Prefixes.{prefix_difference_of, prefix_difference_values}
+use Rattle.tv_bits.specs.Rows.{one_row}
 use Rattle.tv_bits.specs.declared.bit_wires.Bits.{Bits}
 use Rattle.tv_cmp.specs.declared.comparison.Cmp.{Cmp}
 use Rattle.tv_core.specs.Circuits.{Circuit, fresh, put, pure, ◌>>=◌}
 use Rattle.tv_core.specs.Combinations.{wire, constant, less}
 use Rattle.tv_core.specs.Constraints.{Combination}
-use Rattle.tv_core.specs.Laws.{Assigns, Meets, HasFrom}
+use Rattle.tv_core.specs.Laws.{Assigns, Meets, HasFrom, Fills, InField}
 use Rattle.tv_core.specs.declared.field.TheConstants.{P}
+use Rattle.tv_word.specs.Widths.{IsWidth}
 use Rattle.tv_word.specs.Word.{signed}
 
 -- ---- the relation
@@ -31,11 +33,15 @@ pub record IsCompared (w : ℕ) (z : List ℕ) (cmp : Cmp) (x y : ℕ) : Type 0 
   pub greater : slice_index z cmp.greater ≡ greater_flag w x y
 
 -- ---- the circuit
+-- the w wires from the first of a row on
+abbrev pub word_bits : ℕ → Bits → Bits
+word_bits w x = record { first = x.first; n = w }
+
 -- above is a bit; equal is 0 unless the numbers are the same; one of the two is 0
-unfoldable pub flags_of : ℕ → ℕ → Bits → Bits → Circuit (Unit {0})
-flags_of equal above x y = do
+unfoldable pub order_flags_of : ℕ → ℕ → ℕ → Bits → Bits → Circuit (Unit {0})
+order_flags_of w equal above x y = do
   _ ← bit_of above
-  _ ← put (wire equal) (less (bits_combination x.first x.n) (bits_combination y.first y.n)) []
+  _ ← put (wire equal) (less (bits_combination x.first w) (bits_combination y.first w)) []
   put (wire above) (wire equal) []
 
 -- 1 where above is 1, 0 where equal is 1, and -1 where both are 0
@@ -67,9 +73,9 @@ unfoldable pub compare_of : ℕ → Bits → Bits → Circuit Cmp
 compare_of w x y = do
   equal ← fresh
   above ← fresh
-  _ ← flags_of equal above x y
+  _ ← order_flags_of w equal above x y
   difference ← signed_size_of (w / 4) equal above
-  _ ← prefix_difference_of x y (wire difference) (w / 4) 4
+  _ ← prefix_difference_of (one_row (word_bits w x)) (one_row (word_bits w y)) (wire difference) (w / 4) 4
   greater ← greater_of w above x y
   pure (record { equal = equal; above = above; greater = greater })
 
@@ -90,12 +96,17 @@ compare_values w x y =
 -- ---- the laws
 -- an assignment that meets what was put for bits that spell two words has their flags
 abbrev pub CompareIsSound : Type 0
-CompareIsSound = (z : List ℕ) (next : ℕ) (x y : Bits) (v w : ℕ) → x.n ≡ 32 → y.n ≡ 32 → Assigns z
-    → Spells z x.first 32 v → Spells z y.first 32 w → Meets z (compare_of 32 x y next).list
-    → IsCompared 32 z (compare_of 32 x y next).answer v w
+CompareIsSound = (w : ℕ) → IsWidth w → (z : List ℕ) (next : ℕ) (x y : Bits) (a b : ℕ) → Assigns z → Spells z x.first w a → Spells z y.first w b
+    → Meets z (compare_of w x y next).list → IsCompared w z (compare_of w x y next).answer a b
 
 -- an assignment that has the values of two words at the wires that were made meets what was put
 abbrev pub CompareIsComplete : Type 0
-CompareIsComplete = (z : List ℕ) (next : ℕ) (x y : Bits) (v w : ℕ) → x.n ≡ 32 → y.n ≡ 32 → Assigns z
-    → Spells z x.first 32 v → Spells z y.first 32 w → HasFrom z next (compare_values 32 v w)
-    → Meets z (compare_of 32 x y next).list
+CompareIsComplete = (w : ℕ) → IsWidth w → (z : List ℕ) (next : ℕ) (x y : Bits) (a b : ℕ) → Assigns z → Spells z x.first w a → Spells z y.first w b
+    → HasFrom z next (compare_values w a b) → Meets z (compare_of w x y next).list
+
+-- what the circuit answers and where it ends; the values are as many as the wires that it makes, and in the field
+pub record CompareSizes : Type 0 where
+  pub answer : (w : ℕ) (x y : Bits) (next : ℕ) → (compare_of w x y next).answer ≡ record { equal = next; above = next + 1; greater = next + (w / 4 + 5) }
+  pub end : (w : ℕ) (x y : Bits) (next : ℕ) → (compare_of w x y next).next ≡ next + (w / 4 + 6)
+  pub fills : (w : ℕ) (x y : Bits) (a b : ℕ) → Fills (compare_of w x y) (compare_values w a b)
+  pub in_field : (w a b : ℕ) → InField (compare_values w a b)

@@ -1,18 +1,18 @@
-ghost use Rattle.std.specs.Prelude.{◌≡◌, ◌+◌, ◌-◌, ◌*◌, ◌≤◌, ◌<◌, ◌^◌, int_lt, false, Bool, if◌then◌else◌, IfOk, OnOk};
-ghost use Rattle.tv_cmp.specs.Compare.{sign, but_for_signs, flags_of, signed_size_of, greater_of, compare_of, size, signed_size, compare_values, CompareIsSound, CompareIsComplete};
+ghost use Rattle.std.specs.Prelude.{◌≡◌, ◌+◌, ◌-◌, ◌*◌, ◌/◌, ◌≤◌, ◌<◌, ◌^◌, int_lt, false, Bool, if◌then◌else◌, IfOk, OnOk};
+ghost use Rattle.tv_cmp.specs.Compare.{sign, but_for_signs, order_flags_of, signed_size_of, greater_of, compare_of, size, signed_size, compare_values, CompareIsSound, CompareIsComplete, CompareSizes};
 ghost use Rattle.tv_core.specs.Giving.{GivesIn};
 ghost use Rattle.tv_core.specs.Sinks.{PutsIn, Grows, Room};
+ghost use Rattle.tv_word.specs.Widths.{IsWidth};
 ghost use Rattle.tv_word.specs.Word.{signed};
 
 use tv_bits::{
-    Bits, bit, fill_bits, fill_prefix_difference, first_difference, new_bits, prefix_difference,
+    Bits, TwoRows, bit, fill_bits, fill_prefix_difference, first_difference, new_bits,
+    prefix_difference,
 };
 use tv_core::{F, Lc, Put, Sink, Values, Wire, give_values};
-use tv_word::signed;
+use tv_word::{signed, signed16};
 
-// Words are cut into this many chunks of this many bits.
-const CHUNK: u32 = 8;
-
+// Words are cut into this many chunks.
 const CHUNKS: u32 = 4;
 
 /// How two words compare: three wires that hold 0 or 1. Contracts see their numbers.
@@ -26,26 +26,35 @@ pub struct Cmp {
     pub greater: Wire,
 }
 
-/// Compares the words that `x` and `y` spell, each in 32 bits. It makes 14 wires and 16 constraints, with
-/// 280 terms.
-pub fn compare<S: Sink>(s: &mut S, x: &Bits, y: &Bits) -> Put<Cmp>
-    requires room { Room S.meaning s.old 14 16 }
-    requires x_word { x.now.n ≡ 32 }
-    requires y_word { y.now.n ≡ 32 }
-    requires x_made { x.now.first + 32 ≤ S.meaning.wires s.old }
-    requires y_made { y.now.first + 32 ≤ S.meaning.wires s.old }
-    ensures puts { PutsIn S.meaning s.old s.new (compare_of 32 x.now y.now) result }
-    ensures grows { IfOk result (λ _. Grows S.meaning s.old s.new 14 16) }
+/// Compares the words that `x` and `y` spell, each in `W` bits. It makes `W / 4 + 6` wires and
+/// `W / 4 + 8` constraints, of `8 W + 24` terms: 14, 16 and 280 at 32 bits.
+pub fn compare<const W: u32, S: Sink>(s: &mut S, x: &Bits, y: &Bits) -> Put<Cmp>
+    requires width { IsWidth W }
+    requires room { Room S.meaning s.old (W / 4 + 6) (W / 4 + 8) }
+    requires x_word { x.now.n ≡ W }
+    requires y_word { y.now.n ≡ W }
+    requires x_made { x.now.first + W ≤ S.meaning.wires s.old }
+    requires y_made { y.now.first + W ≤ S.meaning.wires s.old }
+    ensures puts { PutsIn S.meaning s.old s.new (compare_of W x.now y.now) result }
+    ensures grows { IfOk result (λ _. Grows S.meaning s.old s.new (W / 4 + 6) (W / 4 + 8)) }
     ensures equal_below { IfOk result (λ cmp. cmp.equal < S.meaning.wires s.new) }
     ensures above_below { IfOk result (λ cmp. cmp.above < S.meaning.wires s.new) }
     ensures greater_below { IfOk result (λ cmp. cmp.greater < S.meaning.wires s.new) }
 {
     let equal = s.fresh();
     let above = s.fresh();
-    flags(s, equal, above, x, y)?;
-    let difference = signed_size(s, equal, above)?;
-    prefix_difference(s, x, y, &Lc::wire(difference), CHUNK, CHUNKS)?;
-    let greater = greater(s, above, x, y)?;
+    order_flags::<W, S>(s, equal, above, x, y)?;
+    let difference = signed_size::<W, S>(s, equal, above)?;
+    let (first, second) = (TwoRows::of(x), TwoRows::of(y));
+    prefix_difference(
+        s,
+        &first,
+        &second,
+        &Lc::wire(difference),
+        W / CHUNKS,
+        CHUNKS,
+    )?;
+    let greater = greater::<W, S>(s, above, x, y)?;
     Ok(Cmp {
         equal,
         above,
@@ -54,15 +63,22 @@ pub fn compare<S: Sink>(s: &mut S, x: &Bits, y: &Bits) -> Put<Cmp>
 }
 
 // Holds `above` to 0 and 1, and `equal` to 0 where the words differ and where `above` is 1.
-fn flags<S: Sink>(s: &mut S, equal: Wire, above: Wire, x: &Bits, y: &Bits) -> Put<()>
+fn order_flags<const W: u32, S: Sink>(
+    s: &mut S,
+    equal: Wire,
+    above: Wire,
+    x: &Bits,
+    y: &Bits,
+) -> Put<()>
+    requires width { IsWidth W }
     requires room { Room S.meaning s.old 0 3 }
-    requires x_word { x.now.n ≡ 32 }
-    requires y_word { y.now.n ≡ 32 }
-    requires x_made { x.now.first + 32 ≤ S.meaning.wires s.old }
-    requires y_made { y.now.first + 32 ≤ S.meaning.wires s.old }
+    requires x_word { x.now.n ≡ W }
+    requires y_word { y.now.n ≡ W }
+    requires x_made { x.now.first + W ≤ S.meaning.wires s.old }
+    requires y_made { y.now.first + W ≤ S.meaning.wires s.old }
     requires equal_made { equal < S.meaning.wires s.old }
     requires above_made { above < S.meaning.wires s.old }
-    ensures puts { PutsIn S.meaning s.old s.new (flags_of equal above x.now y.now) result }
+    ensures puts { PutsIn S.meaning s.old s.new (order_flags_of W equal above x.now y.now) result }
     ensures grows { IfOk result (λ _. Grows S.meaning s.old s.new 0 3) }
 {
     bit(s, above)?;
@@ -73,17 +89,18 @@ fn flags<S: Sink>(s: &mut S, equal: Wire, above: Wire, x: &Bits, y: &Bits) -> Pu
     s.put(&Lc::wire(above), &is_equal, &Lc::empty())
 }
 
-// A number from 1 to 2^8: itself where `above` is 1, negative where `above` and `equal` are 0, and 0 where
-// `equal` is 1.
-fn signed_size<S: Sink>(s: &mut S, equal: Wire, above: Wire) -> Put<Wire>
-    requires room { Room S.meaning s.old 9 9 }
+// A number from 1 to 2^(`W / 4`): itself where `above` is 1, negative where `above` and `equal` are
+// 0, and 0 where `equal` is 1.
+fn signed_size<const W: u32, S: Sink>(s: &mut S, equal: Wire, above: Wire) -> Put<Wire>
+    requires width { IsWidth W }
+    requires room { Room S.meaning s.old (W / 4 + 1) (W / 4 + 1) }
     requires equal_made { equal < S.meaning.wires s.old }
     requires above_made { above < S.meaning.wires s.old }
-    ensures puts { PutsIn S.meaning s.old s.new (signed_size_of 8 equal above) result }
-    ensures grows { IfOk result (λ _. Grows S.meaning s.old s.new 9 9) }
+    ensures puts { PutsIn S.meaning s.old s.new (signed_size_of (W / 4) equal above) result }
+    ensures grows { IfOk result (λ _. Grows S.meaning s.old s.new (W / 4 + 1) (W / 4 + 1)) }
     ensures below { IfOk result (λ difference. difference < S.meaning.wires s.new) }
 {
-    let size = new_bits(s, CHUNK)?;
+    let size = new_bits(s, W / CHUNKS)?;
     let difference = s.fresh();
     s.put(&sign(equal, above), &size.plus_one(), &Lc::wire(difference))?;
     Ok(difference)
@@ -101,17 +118,18 @@ fn sign(equal: Wire, above: Wire) -> Lc
 }
 
 // Whether the first word is greater, from whether it is above and the words' sign bits.
-fn greater<S: Sink>(s: &mut S, above: Wire, x: &Bits, y: &Bits) -> Put<Wire>
+fn greater<const W: u32, S: Sink>(s: &mut S, above: Wire, x: &Bits, y: &Bits) -> Put<Wire>
+    requires width { IsWidth W }
     requires room { Room S.meaning s.old 1 1 }
-    requires x_made { x.now.first + 32 ≤ S.meaning.wires s.old }
-    requires y_made { y.now.first + 32 ≤ S.meaning.wires s.old }
+    requires x_made { x.now.first + W ≤ S.meaning.wires s.old }
+    requires y_made { y.now.first + W ≤ S.meaning.wires s.old }
     requires above_made { above < S.meaning.wires s.old }
-    ensures puts { PutsIn S.meaning s.old s.new (greater_of 32 above x.now y.now) result }
+    ensures puts { PutsIn S.meaning s.old s.new (greater_of W above x.now y.now) result }
     ensures grows { IfOk result (λ _. Grows S.meaning s.old s.new 1 1) }
     ensures below { IfOk result (λ greater. greater < S.meaning.wires s.new) }
 {
     let greater = s.fresh();
-    let is_greater = but_for_signs(above, x.first.offset(31), y.first.offset(31));
+    let is_greater = but_for_signs(above, x.first.offset(W - 1), y.first.offset(W - 1));
     s.put(&Lc::wire(greater), &Lc::constant(F::ONE), &is_greater)?;
     Ok(greater)
 }
@@ -126,54 +144,74 @@ fn but_for_signs(above: Wire, x: Wire, y: Wire) -> Lc
     lc
 }
 
-/// Gives the values of the wires that `compare` makes for two words.
-pub fn fill_compare<V: Values>(v: &mut V, x: u32, y: u32) -> Put<()>
-    requires { V.giving.broken v.old ≡ false }
-    ensures gives { GivesIn V.giving v.old v.new (compare_values 32 x y) result }
+/// Gives the `W / 4 + 6` values of the wires that `compare` makes for two words of `W` bits.
+pub fn fill_compare<const W: u32, V: Values>(v: &mut V, x: u32, y: u32) -> Put<()>
+    requires width { IsWidth W }
+    requires x_word { x < 2 ^ W }
+    requires y_word { y < 2 ^ W }
+    requires whole { V.giving.broken v.old ≡ false }
+    ensures gives { GivesIn V.giving v.old v.new (compare_values W x y) result }
     ensures whole { OnOk result (V.giving.broken v.new ≡ false) }
 {
-    let (size, difference) = sizes(x, y);
-    give_values(v, &[flag(x == y), flag(x > y)])?;
-    fill_bits(v, size, CHUNK)?;
+    let (size, difference) = sizes::<W>(x, y);
+    give_values(v, &[F::from(x == y), F::from(x > y)])?;
+    fill_bits(v, size, W / CHUNKS)?;
     v.give(difference)?;
-    fill_prefix_difference(v, u64::from(x), u64::from(y), difference, CHUNK, CHUNKS)?;
-    v.give(flag(is_greater(x, y)))
+    fill_prefix_difference(
+        v,
+        u64::from(x),
+        u64::from(y),
+        difference,
+        W / CHUNKS,
+        CHUNKS,
+    )?;
+    v.give(F::from(is_greater::<W>(x, y)))
 }
 
-// How far the shortest prefixes that differ are apart, less 1, and how far the first is above the second.
-fn sizes(x: u32, y: u32) -> (F, F)
-    ensures size { result.0 ≡ size 32 x y - 1 }
-    ensures signed { result.1 ≡ signed_size 32 x y }
+// How far the shortest prefixes that differ are apart, less 1, and how far the first is above the
+// second.
+fn sizes<const W: u32>(x: u32, y: u32) -> (F, F)
+    requires { IsWidth W }
+    ensures size { result.0 ≡ size W x y - 1 }
+    ensures signed { result.1 ≡ signed_size W x y }
 {
     let (x, y) = (u64::from(x), u64::from(y));
-    let above = first_difference(x, y, CHUNK, CHUNKS);
-    let below = first_difference(y, x, CHUNK, CHUNKS);
+    let above = first_difference(x, y, W / CHUNKS, CHUNKS);
+    let below = first_difference(y, x, W / CHUNKS, CHUNKS);
     let size = (above + below).saturating_sub(1);
     (F::of(size), F::of(above) - F::of(below))
 }
 
-fn is_greater(x: u32, y: u32) -> bool
-    ensures { result ≡ int_lt (signed 32 y) (signed 32 x) }
+fn is_greater<const W: u32>(x: u32, y: u32) -> bool
+    requires width { IsWidth W }
+    requires x_word { x < 2 ^ W }
+    requires y_word { y < 2 ^ W }
+    ensures { result ≡ int_lt (signed W y) (signed W x) }
 {
-    signed(x) > signed(y)
+    if W == 16 {
+        signed16(x) > signed16(y)
+    } else {
+        signed(x) > signed(y)
+    }
 }
 
-fn flag(set: bool) -> F
-    ensures { result ≡ (if set then 1 else 0) }
-{
-    if set { F::ONE } else { F::ZERO }
-}
-
-/// Where an assignment meets what `compare` put for bits that spell two words, the wires that it answered
-/// hold how the words compare.
+/// Where an assignment meets what `compare` put for bits that spell two words of `W` bits, the
+/// wires that it answered hold how the words compare.
 #[tactic(auto, using(crate::proofs::CompareLaws::compare_sound))]
 pub fn compare_is_sound()
     ensures { CompareIsSound }
 {}
 
-/// Where bits spell two words and an assignment has the values that `fill_compare` gives for them, it meets
-/// what `compare` put.
+/// Where bits spell two words and an assignment has the values that `fill_compare` gives for them,
+/// it meets what `compare` put.
 #[tactic(auto, using(crate::proofs::CompareLaws::compare_complete))]
 pub fn compare_is_complete()
     ensures { CompareIsComplete }
+{}
+
+/// Says which wires `compare` answers and how many it makes, whatever the next wire is, and that
+/// `fill_compare` gives one value for each of them, below P.
+#[tactic(auto, using(crate::proofs::CompareLaws::compare_sizes))]
+pub fn compare_fills()
+    ensures { CompareSizes }
 {}

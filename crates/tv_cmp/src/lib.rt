@@ -1,7 +1,9 @@
-//! The gadget that compares two words: whether they are the same, and which is above the other, as
-//! numbers and as signed numbers. Contracts above cite `IsCompared`.
+//! The gadget that compares two words of `W` bits, 16 or 32: whether they are the same, and which
+//! is above the other, as numbers and as signed numbers. Contracts above cite `IsCompared`.
 #![tactic(auto)]
 
 mod comparison;
 
-pub use comparison::{Cmp, compare, compare_is_complete, compare_is_sound, fill_compare};
+pub use comparison::{
+    Cmp, compare, compare_fills, compare_is_complete, compare_is_sound, fill_compare,
+};

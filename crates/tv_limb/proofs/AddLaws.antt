@@ -1,6 +1,7 @@
 -- The laws of a sum.
-use Rattle.std.proofs.Common.{◌≡◌, ℕ, ◌+◌, ◌*◌, ◌/◌, ◌%◌, ◌^◌, ◌<◌, List, ap, ap₂, sym, subst, ◌∙◌, arith}
+use Rattle.std.proofs.Common.{◌≡◌, ℕ, ◌+◌, ◌*◌, ◌/◌, ◌%◌, ◌^◌, ◌-◌, ◌<◌, List, ap, ap₂, sym, subst, ◌∙◌, arith}
 use Rattle.std.proofs.lemmas.Bool.Decides.{nat_tests}
+use Rattle.tv_bits.proofs.SizeLaws.{length-bits, bits_in_field}
 use Rattle.tv_bits.proofs.SpelledNumbers.{Spells-below, value-bits_below}
 use Rattle.tv_bits.specs.Bits.{Spells, bits_combination, bits_values}
 use Rattle.tv_bits.specs.declared.bit_wires.Bits.{Bits}
@@ -11,7 +12,9 @@ use Rattle.tv_core.specs.Laws.{HasFrom}
 use Rattle.tv_core.specs.declared.field.TheConstants.{P}
 use Rattle.tv_limb.proofs.SplitLaws.{split_sound, split_complete, split_answer, split_next}
 use Rattle.tv_limb.specs.Split.{split_at}
-use Rattle.tv_limb.specs.Sum.{carry, sum_of_words, add_of, AddIsSound, AddIsComplete}
+use Rattle.tv_word.proofs.WidthLaws.{width_short}
+use Rattle.tv_word.specs.Widths.{IsWidth}
+use Rattle.tv_limb.specs.Sum.{carry, sum_of_words, add_of, AddIsSound, AddIsComplete, AddSizes}
 
 -- what the circuit answers, and where it ends
 pub add_answer : (w : ℕ) (x y : Bits) (next : ℕ) → (add_of w x y next).answer ≡ split_at w (record { first = next; n = w + 1 })
@@ -23,29 +26,43 @@ unfolding add_of
 add_next w x y next = split_next w (sum_of_words w x y) (w + 1) next
 
 -- the numbers
-whole_sum : (a b : ℕ) → a < 2 ^ 32 → b < 2 ^ 32 → (a + 1 * b % P) % P ≡ a + b
-whole_sum a b h k = omega arith
+whole_sum : (w : ℕ) → IsWidth w → (a b : ℕ) → a < 2 ^ w → b < 2 ^ w → (a + 1 * b % P) % P ≡ a + b
+whole_sum w width a b h k = grind arith
 
-carried : (a b : ℕ) → a < 2 ^ 32 → b < 2 ^ 32 → (a + b) / 2 ^ 32 ≡ carry 32 a b
-carried a b h k = grind (arith, nat_tests)
+small_sum : (w : ℕ) → IsWidth w → (a b : ℕ) → a < 2 ^ w → b < 2 ^ w → a + b < 2 ^ (w + 1)
+small_sum w width a b h k = grind arith
 
-value-sum : (z : List ℕ) (x y : Bits) (a b : ℕ) → Spells z x.first 32 a → Spells z y.first 32 b → value (sum_of_words 32 x y) z ≡ a + b
-value-sum z x y a b p q =
-    let left = bits_combination x.first 32 in
-    let right = bits_combination y.first 32 in
+carried : (w : ℕ) → IsWidth w → (a b : ℕ) → a < 2 ^ w → b < 2 ^ w → (a + b) / 2 ^ w ≡ carry w a b
+carried w width a b h k = grind (arith, nat_tests)
+
+value-sum : (w : ℕ) → IsWidth w → (z : List ℕ) (x y : Bits) (a b : ℕ) → Spells z x.first w a → Spells z y.first w b → value (sum_of_words w x y) z ≡ a + b
+value-sum w width z x y a b p q =
+    let left = bits_combination x.first w in
+    let right = bits_combination y.first w in
+    let short = width_short w width in
     value-append left (scaled 1 right) z
     ∙ ap₂ (λ m n. (m + n) % P) (value-bits_below p (omega arith)) (value-scaled 1 right z ∙ ap (λ n. 1 * n % P) (value-bits_below q (omega arith)))
-    ∙ whole_sum a b (Spells-below p) (Spells-below q)
+    ∙ whole_sum w width a b (Spells-below p) (Spells-below q)
 
 pub add_sound : AddIsSound
 unfolding add_of
-add_sound z next x y a b assigns p q meets =
-    let s = split_sound 32 z next (sum_of_words 32 x y) 33 (omega arith) (omega arith) assigns meets in
-    rw (value-sum z x y a b p q, carried a b (Spells-below p) (Spells-below q)) at s
+add_sound w width z next x y a b assigns p q meets =
+    let short = width_short w width in
+    let s = split_sound w z next (sum_of_words w x y) (w + 1) (omega arith) (omega arith) assigns meets in
+    let one : w + 1 - w ≡ 1 = omega arith in
+    rw (value-sum w width z x y a b p q, carried w width a b (Spells-below p) (Spells-below q), one) at s
 
 pub add_complete : AddIsComplete
 unfolding add_of
-add_complete z next x y a b assigns p q has =
-    let same = value-sum z x y a b p q in
-    let small : value (sum_of_words 32 x y) z < 2 ^ 33 = omega (arith, same, Spells-below p, Spells-below q) in
-    split_complete 32 z next (sum_of_words 32 x y) 33 small assigns (subst (λ v. HasFrom z next (bits_values v 33)) (sym same) has)
+add_complete w width z next x y a b assigns p q has =
+    let same = value-sum w width z x y a b p q in
+    let small : value (sum_of_words w x y) z < 2 ^ (w + 1) = omega (arith, same, small_sum w width a b (Spells-below p) (Spells-below q)) in
+    split_complete w z next (sum_of_words w x y) (w + 1) small assigns (subst (λ v. HasFrom z next (bits_values v (w + 1))) (sym same) has)
+
+pub add_sizes : AddSizes
+add_sizes = record {
+  answer = add_answer;
+  end = add_next;
+  fills = λ w x y a b next. omega (arith, add_next w x y next, length-bits (a + b) (w + 1));
+  in_field = λ w a b. bits_in_field (a + b) (w + 1);
+}

@@ -1,12 +1,13 @@
 -- The laws of a number in two parts.
 use Rattle.std.proofs.Common.{◌≡◌, ℕ, ◌+◌, ◌-◌, ◌/◌, ◌%◌, ◌^◌, List, [], ap, subst, arith}
+use Rattle.tv_bits.proofs.SizeLaws.{length-bits, bits_in_field}
 use Rattle.tv_bits.proofs.SpelledNumbers.{Spells-low, Spells-high}
 use Rattle.tv_bits.proofs.SpellingLaws.{bits_sound, bits_complete, bits_answer, bits_next}
 use Rattle.tv_bits.specs.Bits.{Spells, bits_of}
 use Rattle.tv_core.proofs.Meeting.{Meets-split, Meets-join}
 use Rattle.tv_core.specs.Circuits.{pure, ◌>>=◌}
 use Rattle.tv_core.specs.Constraints.{Combination, value}
-use Rattle.tv_limb.specs.Split.{SpellsParts, split_at, split_of, SplitIsSound, SplitIsComplete}
+use Rattle.tv_limb.specs.Split.{SpellsParts, split_at, split_of, SplitIsSound, SplitIsComplete, SplitSizes}
 
 -- what the circuit answers, and where it ends
 pub split_answer : (w : ℕ) (x : Combination) (n next : ℕ) → (split_of w x n next).answer ≡ split_at w (record { first = next; n = n })
@@ -33,3 +34,11 @@ pub split_complete : SplitIsComplete
 unfolding split_of pure ◌>>=◌
 split_complete w z next x n small assigns has =
     Meets-join z (bits_of x n next).list [] (bits_complete z next x n small assigns has) tt
+
+pub split_sizes : SplitSizes
+split_sizes = record {
+  answer = split_answer;
+  end = split_next;
+  fills = λ w x n v next. omega (arith, split_next w x n next, length-bits v n);
+  in_field = bits_in_field;
+}

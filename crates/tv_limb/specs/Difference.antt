@@ -1,12 +1,13 @@
 -- The difference of two words, with its borrow.
-use Rattle.std.specs.Prelude.{ℕ, ◌+◌, ◌-◌, ◌*◌, ◌%◌, ◌^◌, nat_lt, if◌then◌else◌, List, [], ◌∷◌, ◌++◌}
+use Rattle.std.specs.Prelude.{◌≡◌, ℕ, ◌+◌, ◌-◌, ◌*◌, ◌%◌, ◌^◌, nat_lt, if◌then◌else◌, List, [], ◌∷◌, ◌++◌}
 use Rattle.tv_bits.specs.Bits.{Spells, bits_combination, bits_values, new_bits_of}
 use Rattle.tv_bits.specs.declared.bit_wires.Bits.{Bits}
 use Rattle.tv_core.specs.Circuits.{Circuit, put, pure, ◌>>=◌}
 use Rattle.tv_core.specs.Combinations.{constant, less}
 use Rattle.tv_core.specs.Constraints.{Combination}
-use Rattle.tv_core.specs.Laws.{Assigns, Meets, HasFrom}
+use Rattle.tv_core.specs.Laws.{Assigns, Meets, HasFrom, Fills, InField}
 use Rattle.tv_core.specs.declared.field.TheConstants.{P}
+use Rattle.tv_word.specs.Widths.{IsWidth}
 use Rattle.tv_limb.specs.Split.{SpellsParts, split_at}
 use Rattle.tv_limb.specs.declared.parts.Split.{Split}
 
@@ -37,12 +38,19 @@ sub_of w x y = do
 abbrev pub sub_values : ℕ → ℕ → ℕ → List ℕ
 sub_values w x y = bits_values (difference w x y + 2 ^ w * borrow x y) (w + 1)
 
--- in an assignment that meets what was put the answer spells the difference modulo 2 ^ 32, and the borrow
+-- in an assignment that meets what was put the answer spells the difference modulo 2 ^ w, and the borrow
 abbrev pub SubIsSound : Type 0
-SubIsSound = (z : List ℕ) (next : ℕ) (x y : Bits) (a b : ℕ) → Assigns z → Spells z x.first 32 a → Spells z y.first 32 b
-    → Meets z (sub_of 32 x y next).list → SpellsParts 32 1 z (sub_of 32 x y next).answer (difference 32 a b) (borrow a b)
+SubIsSound = (w : ℕ) → IsWidth w → (z : List ℕ) (next : ℕ) (x y : Bits) (a b : ℕ) → Assigns z → Spells z x.first w a → Spells z y.first w b
+    → Meets z (sub_of w x y next).list → SpellsParts w 1 z (sub_of w x y next).answer (difference w a b) (borrow a b)
 
 -- an assignment that has these values at the wires that were made meets what was put
 abbrev pub SubIsComplete : Type 0
-SubIsComplete = (z : List ℕ) (next : ℕ) (x y : Bits) (a b : ℕ) → Assigns z → Spells z x.first 32 a → Spells z y.first 32 b
-    → HasFrom z next (sub_values 32 a b) → Meets z (sub_of 32 x y next).list
+SubIsComplete = (w : ℕ) → IsWidth w → (z : List ℕ) (next : ℕ) (x y : Bits) (a b : ℕ) → Assigns z → Spells z x.first w a → Spells z y.first w b
+    → HasFrom z next (sub_values w a b) → Meets z (sub_of w x y next).list
+
+-- what the circuit answers and where it ends; the values are as many as the wires that it makes, and in the field
+pub record SubSizes : Type 0 where
+  pub answer : (w : ℕ) (x y : Bits) (next : ℕ) → (sub_of w x y next).answer ≡ split_at w (record { first = next; n = w + 1 })
+  pub end : (w : ℕ) (x y : Bits) (next : ℕ) → (sub_of w x y next).next ≡ next + (w + 1)
+  pub fills : (w : ℕ) (x y : Bits) (a b : ℕ) → Fills (sub_of w x y) (sub_values w a b)
+  pub in_field : (w a b : ℕ) → InField (sub_values w a b)

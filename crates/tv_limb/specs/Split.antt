@@ -1,10 +1,10 @@
 -- A number in two parts: a word, and what is above it.
-use Rattle.std.specs.Prelude.{ℕ, ◌+◌, ◌-◌, ◌/◌, ◌%◌, ◌^◌, ◌<◌, ◌≤◌, List}
+use Rattle.std.specs.Prelude.{◌≡◌, ℕ, ◌+◌, ◌-◌, ◌/◌, ◌%◌, ◌^◌, ◌<◌, ◌≤◌, List}
 use Rattle.tv_bits.specs.Bits.{Spells, bits_of, bits_values}
 use Rattle.tv_bits.specs.declared.bit_wires.Bits.{Bits}
 use Rattle.tv_core.specs.Circuits.{Circuit, pure, ◌>>=◌}
 use Rattle.tv_core.specs.Constraints.{Combination, value}
-use Rattle.tv_core.specs.Laws.{Assigns, Meets, HasFrom}
+use Rattle.tv_core.specs.Laws.{Assigns, Meets, HasFrom, Fills, InField}
 use Rattle.tv_limb.specs.declared.parts.Split.{Split}
 
 -- the lowest w of the bits, and those above
@@ -35,3 +35,10 @@ SplitIsSound = (w : ℕ) (z : List ℕ) (next : ℕ) (x : Combination) (n : ℕ)
 abbrev pub SplitIsComplete : Type 0
 SplitIsComplete = (w : ℕ) (z : List ℕ) (next : ℕ) (x : Combination) (n : ℕ) → value x z < 2 ^ n → Assigns z
     → HasFrom z next (split_values (value x z) n) → Meets z (split_of w x n next).list
+
+-- what the circuit answers and where it ends; the values are as many as the wires that it makes, and in the field
+pub record SplitSizes : Type 0 where
+  pub answer : (w : ℕ) (x : Combination) (n next : ℕ) → (split_of w x n next).answer ≡ split_at w (record { first = next; n = n })
+  pub end : (w : ℕ) (x : Combination) (n next : ℕ) → (split_of w x n next).next ≡ next + n
+  pub fills : (w : ℕ) (x : Combination) (n v : ℕ) → Fills (split_of w x n) (split_values v n)
+  pub in_field : (v n : ℕ) → InField (split_values v n)

@@ -1,12 +1,13 @@
 -- The sum of two words, with its carry.
-use Rattle.std.specs.Prelude.{ℕ, ◌+◌, ◌%◌, ◌^◌, nat_le, if◌then◌else◌, List, ◌++◌}
+use Rattle.std.specs.Prelude.{◌≡◌, ℕ, ◌+◌, ◌%◌, ◌^◌, nat_le, if◌then◌else◌, List, ◌++◌}
 use Rattle.tv_bits.specs.Bits.{Spells, bits_combination, bits_values}
 use Rattle.tv_bits.specs.declared.bit_wires.Bits.{Bits}
 use Rattle.tv_core.specs.Circuits.{Circuit}
 use Rattle.tv_core.specs.Combinations.{scaled}
 use Rattle.tv_core.specs.Constraints.{Combination}
-use Rattle.tv_core.specs.Laws.{Assigns, Meets, HasFrom}
-use Rattle.tv_limb.specs.Split.{SpellsParts, split_of}
+use Rattle.tv_core.specs.Laws.{Assigns, Meets, HasFrom, Fills, InField}
+use Rattle.tv_word.specs.Widths.{IsWidth}
+use Rattle.tv_limb.specs.Split.{SpellsParts, split_at, split_of}
 use Rattle.tv_limb.specs.declared.parts.Split.{Split}
 
 -- 1 where the sum is past a word, else 0
@@ -25,12 +26,19 @@ add_of w x y = split_of w (sum_of_words w x y) (w + 1)
 abbrev pub add_values : ℕ → ℕ → ℕ → List ℕ
 add_values w x y = bits_values (x + y) (w + 1)
 
--- in an assignment that meets what was put the answer spells the sum modulo 2 ^ 32, and the carry
+-- in an assignment that meets what was put the answer spells the sum modulo 2 ^ w, and the carry
 abbrev pub AddIsSound : Type 0
-AddIsSound = (z : List ℕ) (next : ℕ) (x y : Bits) (a b : ℕ) → Assigns z → Spells z x.first 32 a → Spells z y.first 32 b
-    → Meets z (add_of 32 x y next).list → SpellsParts 32 1 z (add_of 32 x y next).answer ((a + b) % 2 ^ 32) (carry 32 a b)
+AddIsSound = (w : ℕ) → IsWidth w → (z : List ℕ) (next : ℕ) (x y : Bits) (a b : ℕ) → Assigns z → Spells z x.first w a → Spells z y.first w b
+    → Meets z (add_of w x y next).list → SpellsParts w 1 z (add_of w x y next).answer ((a + b) % 2 ^ w) (carry w a b)
 
 -- an assignment that has these values at the wires that were made meets what was put
 abbrev pub AddIsComplete : Type 0
-AddIsComplete = (z : List ℕ) (next : ℕ) (x y : Bits) (a b : ℕ) → Assigns z → Spells z x.first 32 a → Spells z y.first 32 b
-    → HasFrom z next (add_values 32 a b) → Meets z (add_of 32 x y next).list
+AddIsComplete = (w : ℕ) → IsWidth w → (z : List ℕ) (next : ℕ) (x y : Bits) (a b : ℕ) → Assigns z → Spells z x.first w a → Spells z y.first w b
+    → HasFrom z next (add_values w a b) → Meets z (add_of w x y next).list
+
+-- what the circuit answers and where it ends; the values are as many as the wires that it makes, and in the field
+pub record AddSizes : Type 0 where
+  pub answer : (w : ℕ) (x y : Bits) (next : ℕ) → (add_of w x y next).answer ≡ split_at w (record { first = next; n = w + 1 })
+  pub end : (w : ℕ) (x y : Bits) (next : ℕ) → (add_of w x y next).next ≡ next + (w + 1)
+  pub fills : (w : ℕ) (x y : Bits) (a b : ℕ) → Fills (add_of w x y) (add_values w a b)
+  pub in_field : (w a b : ℕ) → InField (add_values w a b)

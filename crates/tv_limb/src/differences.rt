@@ -2,88 +2,108 @@ ghost use Rattle.std.specs.Prelude.{◌≡◌, ◌+◌, ◌*◌, ◌^◌, ◌≤
 ghost use Rattle.tv_core.specs.Combinations.{top};
 ghost use Rattle.tv_core.specs.Giving.{GivesIn};
 ghost use Rattle.tv_core.specs.Sinks.{PutsIn, Grows, Room};
-ghost use Rattle.tv_limb.specs.Difference.{difference, borrow, less_borrow, difference_of_words, sub_of, sub_values, SubIsSound, SubIsComplete};
+ghost use Rattle.tv_word.specs.Widths.{IsWidth};
+ghost use Rattle.tv_limb.specs.Difference.{difference, borrow, less_borrow, difference_of_words, sub_of, sub_values, SubIsSound, SubIsComplete, SubSizes};
 
 use crate::parts::{Split, split_at_word};
 use tv_bits::{Bits, fill_bits, new_bits};
 use tv_core::{F, Lc, Put, Sink, Values};
 
-/// The difference of two words modulo 2^32, and the borrow, which is 1 where `x` is below `y`. It makes
-/// 33 wires and 34 constraints, of 197 terms.
-pub fn sub<S: Sink>(s: &mut S, x: &Bits, y: &Bits) -> Put<Split>
-    requires room { Room S.meaning s.old 33 34 }
-    requires x_word { x.now.n ≡ 32 }
-    requires y_word { y.now.n ≡ 32 }
-    requires x_made { x.now.first + 32 ≤ S.meaning.wires s.old }
-    requires y_made { y.now.first + 32 ≤ S.meaning.wires s.old }
-    ensures puts { PutsIn S.meaning s.old s.new (sub_of 32 x.now y.now) result }
-    ensures grows { IfOk result (λ _. Grows S.meaning s.old s.new 33 34) }
-    ensures low_size { IfOk result (λ parts. parts.low.n ≡ 32) }
+/// The difference of two words of `W` bits modulo 2^`W`, and the borrow as one bit, which is 1
+/// where `x` is below `y`. It makes `W + 1` wires and `W + 2` constraints, of `6 W + 5` terms: 33,
+/// 34 and 197 at 32 bits.
+pub fn sub<const W: u32, S: Sink>(s: &mut S, x: &Bits, y: &Bits) -> Put<Split>
+    requires width { IsWidth W }
+    requires room { Room S.meaning s.old (W + 1) (W + 2) }
+    requires x_word { x.now.n ≡ W }
+    requires y_word { y.now.n ≡ W }
+    requires x_made { x.now.first + W ≤ S.meaning.wires s.old }
+    requires y_made { y.now.first + W ≤ S.meaning.wires s.old }
+    ensures puts { PutsIn S.meaning s.old s.new (sub_of W x.now y.now) result }
+    ensures grows { IfOk result (λ _. Grows S.meaning s.old s.new (W + 1) (W + 2)) }
+    ensures low_size { IfOk result (λ parts. parts.low.n ≡ W) }
     ensures high_size { IfOk result (λ parts. parts.high.n ≡ 1) }
-    ensures low_below { IfOk result (λ parts. parts.low.first + 32 ≤ S.meaning.wires s.new) }
+    ensures low_below { IfOk result (λ parts. parts.low.first + W ≤ S.meaning.wires s.new) }
     ensures high_below { IfOk result (λ parts. parts.high.first < S.meaning.wires s.new) }
 {
-    let parts = split_at_word(new_bits(s, 33)?);
+    let parts = split_at_word::<W>(new_bits(s, W + 1)?);
     s.put(
-        &less_borrow(&parts),
+        &less_borrow::<W>(&parts),
         &Lc::constant(F::ONE),
-        &difference_of_words(x, y),
+        &difference_of_words::<W>(x, y),
     )?;
     Ok(parts)
 }
 
-// The low part less 2^32 times the borrow.
-fn less_borrow(parts: &Split) -> Lc
-    requires word { parts.now.low.n ≡ 32 }
-    requires low_within { parts.now.low.first + 32 < 2 ^ 32 }
-    ensures terms { result ≡ less_borrow 32 parts.now }
-    ensures top { top result ≤ max (parts.now.low.first + 32) (parts.now.high.first + 1) }
+// The low part less 2^`W` times the borrow.
+fn less_borrow<const W: u32>(parts: &Split) -> Lc
+    requires width { IsWidth W }
+    requires word { parts.now.low.n ≡ W }
+    requires low_within { parts.now.low.first + W < 2 ^ 32 }
+    ensures terms { result ≡ less_borrow W parts.now }
+    ensures top { top result ≤ max (parts.now.low.first + W) (parts.now.high.first + 1) }
 {
     let mut lc = parts.low.lc();
-    lc.plus(-F::of(1 << 32), parts.high.first);
+    lc.plus(-F::of(1 << W), parts.high.first);
     lc
 }
 
 // One word less the other.
-fn difference_of_words(x: &Bits, y: &Bits) -> Lc
-    requires x_word { x.now.n ≡ 32 }
-    requires y_word { y.now.n ≡ 32 }
-    requires x_within { x.now.first + 32 < 2 ^ 32 }
-    requires y_within { y.now.first + 32 < 2 ^ 32 }
-    ensures terms { result ≡ difference_of_words 32 x.now y.now }
-    ensures top { top result ≤ max (x.now.first + 32) (y.now.first + 32) }
+fn difference_of_words<const W: u32>(x: &Bits, y: &Bits) -> Lc
+    requires width { IsWidth W }
+    requires x_word { x.now.n ≡ W }
+    requires y_word { y.now.n ≡ W }
+    requires x_within { x.now.first + W < 2 ^ 32 }
+    requires y_within { y.now.first + W < 2 ^ 32 }
+    ensures terms { result ≡ difference_of_words W x.now y.now }
+    ensures top { top result ≤ max (x.now.first + W) (y.now.first + W) }
 {
     let mut lc = x.lc();
     y.plus_to(&mut lc, -F::ONE);
     lc
 }
 
-/// Gives the values of the wires that `sub` makes: the bits of the difference, and then the borrow.
-pub fn fill_sub<V: Values>(v: &mut V, x: u32, y: u32) -> Put<()>
-    requires { V.giving.broken v.old ≡ false }
-    ensures gives { GivesIn V.giving v.old v.new (sub_values 32 x y) result }
+/// Gives the `W + 1` values of the wires that `sub` makes: the bits of the difference, and then the
+/// borrow.
+pub fn fill_sub<const W: u32, V: Values>(v: &mut V, x: u32, y: u32) -> Put<()>
+    requires width { IsWidth W }
+    requires x_word { x < 2 ^ W }
+    requires y_word { y < 2 ^ W }
+    requires whole { V.giving.broken v.old ≡ false }
+    ensures gives { GivesIn V.giving v.old v.new (sub_values W x y) result }
     ensures whole { OnOk result (V.giving.broken v.new ≡ false) }
 {
-    fill_bits(v, difference_and_borrow(x, y), 33)
+    fill_bits(v, difference_and_borrow::<W>(x, y), W + 1)
 }
 
 // The difference, with the borrow above it.
-fn difference_and_borrow(x: u32, y: u32) -> F
-    ensures { result ≡ difference 32 x y + 2 ^ 32 * borrow x y }
+fn difference_and_borrow<const W: u32>(x: u32, y: u32) -> F
+    requires width { IsWidth W }
+    requires x_word { x < 2 ^ W }
+    requires y_word { y < 2 ^ W }
+    ensures { result ≡ difference W x y + 2 ^ W * borrow x y }
 {
-    let (difference, borrow) = x.overflowing_sub(y);
-    F::of(u64::from(difference) + (u64::from(borrow) << 32))
+    let (x, y) = (u64::from(x), u64::from(y));
+    let power = 1 << W;
+    F::of(if x < y { power + power + x - y } else { x - y })
 }
 
-/// Where the inputs spell words and an assignment meets what `sub` put, the answer spells their difference
-/// modulo 2^32 and the borrow.
+/// Where the inputs spell words of `W` bits and an assignment meets what `sub` put, the answer
+/// spells their difference modulo 2^`W` and the borrow.
 pub fn sub_is_sound()
     ensures { SubIsSound }
 {}
 
-/// Where the inputs spell words and an assignment has the values that `fill_sub` gives for them, it meets
-/// what `sub` put.
+/// Where the inputs spell words and an assignment has the values that `fill_sub` gives for them, it
+/// meets what `sub` put.
 #[tactic(auto, using(crate::proofs::SubLaws::sub_complete))]
 pub fn sub_is_complete()
     ensures { SubIsComplete }
+{}
+
+/// Says which wires `sub` answers and how many it makes, whatever the next wire is, and that
+/// `fill_sub` gives one value for each of them, below P.
+#[tactic(auto, using(crate::proofs::SubLaws::sub_sizes))]
+pub fn sub_fills()
+    ensures { SubSizes }
 {}

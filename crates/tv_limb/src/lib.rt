@@ -1,6 +1,7 @@
-//! Words in parts: the halves of a word, a number as a word and what is above it, and the sum and the
-//! difference of two words with carry and borrow. Contracts above cite `SpellsParts`, which says which
-//! numbers the two parts of an answer spell.
+//! Words in parts: the halves of a word, a number as a word and what is above it, and the sum and
+//! the difference of two words with carry and borrow. A word has `W` bits, 16 or 32. Contracts
+//! above cite `SpellsParts`, which says which numbers the two parts of an answer spell; what a
+//! gadget answers and how many wires it makes stand in `SplitSizes`, `AddSizes` and `SubSizes`.
 #![tactic(auto)]
 
 mod differences;
@@ -9,8 +10,8 @@ mod parts;
 mod splitting;
 mod sums;
 
-pub use differences::{fill_sub, sub, sub_is_complete, sub_is_sound};
+pub use differences::{fill_sub, sub, sub_fills, sub_is_complete, sub_is_sound};
 pub use halves::{limbs, limbs_are_sound};
 pub use parts::Split;
-pub use splitting::{fill_split, split, split_is_complete, split_is_sound};
-pub use sums::{add, add_is_complete, add_is_sound, fill_add};
+pub use splitting::{fill_split, split, split_fills, split_is_complete, split_is_sound};
+pub use sums::{add, add_fills, add_is_complete, add_is_sound, fill_add};

@@ -12,20 +12,20 @@ pub struct Split {
     pub high: Bits,
 }
 
-// The lowest 32 of the bits, and those above.
-pub(crate) fn split_at_word(bits: Bits) -> Split
-    requires long { 32 ≤ bits.n }
+// The lowest `W` of the bits, and those above.
+pub(crate) fn split_at_word<const W: u32>(bits: Bits) -> Split
+    requires long { W ≤ bits.n }
     requires within { bits.first + bits.n < 2 ^ 32 }
-    ensures { result ≡ split_at 32 bits }
+    ensures { result ≡ split_at W bits }
 {
     Split {
         low: Bits {
             first: bits.first,
-            n: 32,
+            n: W,
         },
         high: Bits {
-            first: bits.first.offset(32),
-            n: bits.n - 32,
+            first: bits.first.offset(W),
+            n: bits.n - W,
         },
     }
 }

@@ -2,29 +2,29 @@ ghost use Rattle.std.specs.Prelude.{◌≡◌, ◌+◌, ◌-◌, ◌≤◌, fals
 ghost use Rattle.tv_core.specs.Combinations.{top};
 ghost use Rattle.tv_core.specs.Giving.{GivesIn};
 ghost use Rattle.tv_core.specs.Sinks.{PutsIn, Grows, Room};
-ghost use Rattle.tv_limb.specs.Split.{split_of, split_values, SplitIsSound, SplitIsComplete};
+ghost use Rattle.tv_limb.specs.Split.{split_of, split_values, SplitIsSound, SplitIsComplete, SplitSizes};
 
 use crate::parts::{Split, split_at_word};
 use tv_bits::{bits, fill_bits};
 use tv_core::{F, Lc, Put, Sink, Values};
 
-/// `x` in two parts, its lowest 32 bits and the `n - 32` above, so that it is the low part plus 2^32
-/// times the high part; `n` is from 33 to 63, and `x` is held below 2^n. It makes `n` wires and `n + 1`
-/// constraints, of `4 n + 1` terms beside those of `x`.
-pub fn split<S: Sink>(s: &mut S, x: &Lc, n: u32) -> Put<Split>
+/// `x` in two parts, its lowest `W` bits and the `n - W` above, so that it is the low part plus
+/// 2^`W` times the high part; `n` is from `W` to 63, and `x` is held below 2^n. It makes `n` wires
+/// and `n + 1` constraints, of `4 n + 1` terms beside those of `x`.
+pub fn split<const W: u32, S: Sink>(s: &mut S, x: &Lc, n: u32) -> Put<Split>
     requires room { Room S.meaning s.old n (n + 1) }
     requires x_made { top x.now ≤ S.meaning.wires s.old }
-    requires long { 32 ≤ n }
+    requires long { W ≤ n }
     requires short { n ≤ 63 }
-    ensures puts { PutsIn S.meaning s.old s.new (split_of 32 x.now n) result }
+    ensures puts { PutsIn S.meaning s.old s.new (split_of W x.now n) result }
     ensures grows { IfOk result (λ _. Grows S.meaning s.old s.new n (n + 1)) }
-    ensures low_size { IfOk result (λ parts. parts.low.n ≡ 32) }
-    ensures high_size { IfOk result (λ parts. parts.high.n ≡ n - 32) }
-    ensures low_below { IfOk result (λ parts. parts.low.first + 32 ≤ S.meaning.wires s.new) }
+    ensures low_size { IfOk result (λ parts. parts.low.n ≡ W) }
+    ensures high_size { IfOk result (λ parts. parts.high.n ≡ n - W) }
+    ensures low_below { IfOk result (λ parts. parts.low.first + W ≤ S.meaning.wires s.new) }
     ensures high_below { IfOk result (λ parts. parts.high.first + parts.high.n ≤ S.meaning.wires s.new) }
 {
     let made = bits(s, x, n)?;
-    Ok(split_at_word(made))
+    Ok(split_at_word::<W>(made))
 }
 
 /// Gives the values of the wires that `split` makes: the `n` lowest bits of `x`, lowest first.
@@ -37,16 +37,23 @@ pub fn fill_split<V: Values>(v: &mut V, x: F, n: u32) -> Put<()>
     fill_bits(v, x, n)
 }
 
-/// Where an assignment meets what `split` put, the parts spell the value's remainder and quotient by the
-/// word's power of 2.
+/// Where an assignment meets what `split` put, the parts spell the value's remainder and quotient
+/// by the word's power of 2.
 #[tactic(auto, using(crate::proofs::SplitLaws::split_sound))]
 pub fn split_is_sound()
     ensures { SplitIsSound }
 {}
 
-/// Where the value is below 2^n and an assignment has the values that `fill_split` gives, it meets what
-/// `split` put.
+/// Where the value is below 2^n and an assignment has the values that `fill_split` gives, it meets
+/// what `split` put.
 #[tactic(auto, using(crate::proofs::SplitLaws::split_complete))]
 pub fn split_is_complete()
     ensures { SplitIsComplete }
+{}
+
+/// Says which wires `split` answers and how many it makes, whatever the next wire is, and that
+/// `fill_split` gives one value for each of them, below P.
+#[tactic(auto, using(crate::proofs::SplitLaws::split_sizes))]
+pub fn split_fills()
+    ensures { SplitSizes }
 {}

@@ -1,52 +1,62 @@
-ghost use Rattle.std.specs.Prelude.{◌≡◌, ◌+◌, ◌≤◌, ◌<◌, false, length, IfOk, OnOk};
+ghost use Rattle.std.specs.Prelude.{◌≡◌, ◌+◌, ◌≤◌, ◌<◌, ◌^◌, false, length, IfOk, OnOk};
 ghost use Rattle.tv_core.specs.Combinations.{top};
 ghost use Rattle.tv_core.specs.Giving.{GivesIn};
 ghost use Rattle.tv_core.specs.Sinks.{PutsIn, Grows, Room};
-ghost use Rattle.tv_limb.specs.Sum.{sum_of_words, add_of, add_values, AddIsSound, AddIsComplete};
+ghost use Rattle.tv_word.specs.Widths.{IsWidth};
+ghost use Rattle.tv_limb.specs.Sum.{sum_of_words, add_of, add_values, AddIsSound, AddIsComplete, AddSizes};
 
 use crate::parts::Split;
 use crate::splitting::split;
 use tv_bits::{Bits, fill_bits};
 use tv_core::{F, Put, Sink, Values};
 
-/// The sum of two words: its lowest 32 bits, and the carry. It makes 33 wires and 34 constraints,
-/// of 197 terms.
-pub fn add<S: Sink>(s: &mut S, x: &Bits, y: &Bits) -> Put<Split>
-    requires room { Room S.meaning s.old 33 34 }
-    requires x_word { x.now.n ≡ 32 }
-    requires y_word { y.now.n ≡ 32 }
-    requires x_made { x.now.first + 32 ≤ S.meaning.wires s.old }
-    requires y_made { y.now.first + 32 ≤ S.meaning.wires s.old }
-    ensures puts { PutsIn S.meaning s.old s.new (add_of 32 x.now y.now) result }
-    ensures grows { IfOk result (λ _. Grows S.meaning s.old s.new 33 34) }
-    ensures low_size { IfOk result (λ parts. parts.low.n ≡ 32) }
+/// The sum of two words of `W` bits: its lowest `W` bits, and the carry as one bit. It makes
+/// `W + 1` wires and `W + 2` constraints, of `6 W + 5` terms: 33, 34 and 197 at 32 bits.
+pub fn add<const W: u32, S: Sink>(s: &mut S, x: &Bits, y: &Bits) -> Put<Split>
+    requires width { IsWidth W }
+    requires room { Room S.meaning s.old (W + 1) (W + 2) }
+    requires x_word { x.now.n ≡ W }
+    requires y_word { y.now.n ≡ W }
+    requires x_made { x.now.first + W ≤ S.meaning.wires s.old }
+    requires y_made { y.now.first + W ≤ S.meaning.wires s.old }
+    ensures puts { PutsIn S.meaning s.old s.new (add_of W x.now y.now) result }
+    ensures grows { IfOk result (λ _. Grows S.meaning s.old s.new (W + 1) (W + 2)) }
+    ensures low_size { IfOk result (λ parts. parts.low.n ≡ W) }
     ensures high_size { IfOk result (λ parts. parts.high.n ≡ 1) }
-    ensures low_below { IfOk result (λ parts. parts.low.first + 32 ≤ S.meaning.wires s.new) }
+    ensures low_below { IfOk result (λ parts. parts.low.first + W ≤ S.meaning.wires s.new) }
     ensures high_below { IfOk result (λ parts. parts.high.first < S.meaning.wires s.new) }
 {
     let mut sum = x.lc();
     y.plus_to(&mut sum, F::ONE);
-    split(s, &sum, 33)
+    split::<W, S>(s, &sum, W + 1)
 }
 
-/// Gives the values of the wires that `add` makes: the bits of the sum, the carry last.
-pub fn fill_add<V: Values>(v: &mut V, x: u32, y: u32) -> Put<()>
-    requires { V.giving.broken v.old ≡ false }
-    ensures gives { GivesIn V.giving v.old v.new (add_values 32 x y) result }
+/// Gives the `W + 1` values of the wires that `add` makes: the bits of the sum, the carry last.
+pub fn fill_add<const W: u32, V: Values>(v: &mut V, x: u32, y: u32) -> Put<()>
+    requires width { IsWidth W }
+    requires whole { V.giving.broken v.old ≡ false }
+    ensures gives { GivesIn V.giving v.old v.new (add_values W x y) result }
     ensures whole { OnOk result (V.giving.broken v.new ≡ false) }
 {
-    fill_bits(v, F::of(u64::from(x) + u64::from(y)), 33)
+    fill_bits(v, F::of(u64::from(x) + u64::from(y)), W + 1)
 }
 
-/// Where the inputs spell words and an assignment meets what `add` put, the answer spells their sum
-/// modulo 2^32 and the carry.
+/// Where the inputs spell words of `W` bits and an assignment meets what `add` put, the answer
+/// spells their sum modulo 2^`W` and the carry.
 pub fn add_is_sound()
     ensures { AddIsSound }
 {}
 
-/// Where the inputs spell words and an assignment has the values that `fill_add` gives for them, it meets
-/// what `add` put.
+/// Where the inputs spell words and an assignment has the values that `fill_add` gives for them, it
+/// meets what `add` put.
 #[tactic(auto, using(crate::proofs::AddLaws::add_complete))]
 pub fn add_is_complete()
     ensures { AddIsComplete }
+{}
+
+/// Says which wires `add` answers and how many it makes, whatever the next wire is, and that
+/// `fill_add` gives one value for each of them, below P.
+#[tactic(auto, using(crate::proofs::AddLaws::add_sizes))]
+pub fn add_fills()
+    ensures { AddSizes }
 {}

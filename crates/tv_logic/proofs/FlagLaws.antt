@@ -1,18 +1,20 @@
 -- The laws of the zero flags.
-use Rattle.std.proofs.Common.{◌≡◌, ℕ, ◌+◌, ◌*◌, ◌%◌, List, [], ◌∷◌, ◌++◌, inl, inr, refl, sym, subst, ◌∙◌, ap, ap₂, arith}
+use Rattle.std.proofs.Common.{◌≡◌, ℕ, ◌+◌, ◌*◌, ◌%◌, List, [], ◌∷◌, ◌++◌, inl, inr, sym, subst, ◌∙◌, ap, ap₂, arith}
 use Rattle.std.specs.Prelude.{slice_index}
 use Rattle.std.proofs.lemmas.Bool.{cases_eq}
+use Rattle.tv_bits.proofs.TimesLaws.{times_answer, times_next, times_sound, times_complete}
 use Rattle.tv_bits.proofs.ZeroLaws.{zero_flag-zero, zero_flag-other, zero_sound, zero_complete, zero_answer, zero_next}
+use Rattle.tv_bits.specs.Times.{times_of}
 use Rattle.tv_bits.specs.Zero.{zero_flag, zero_of, zero_values}
 use Rattle.tv_core.proofs.CombinationLaws.{value-wire}
 use Rattle.tv_core.proofs.Meeting.{Meets-split, Meets-join, HasFrom-split}
-use Rattle.tv_core.specs.Circuits.{fresh, put, pure, ◌>>=◌}
+use Rattle.tv_core.specs.Circuits.{pure, ◌>>=◌}
 use Rattle.tv_core.specs.Combinations.{wire}
 use Rattle.tv_core.specs.Laws.{Assigns, Meets, HasFrom}
 use Rattle.tv_core.specs.declared.field.TheConstants.{P}
-use Rattle.tv_logic.specs.Flags.{both_of, flags_of, flag_values}
-use Rattle.tv_logic.specs.declared.answers.Flags.{Flags}
-use Rattle.tv_logic.specs.declared.answers.Words.{Words}
+use Rattle.tv_logic.specs.Flags.{logic_flags_of, flag_values}
+use Rattle.tv_logic.specs.declared.answers.LogicFlags.{LogicFlags}
+use Rattle.tv_logic.specs.declared.answers.LogicWords.{LogicWords}
 
 -- a sum is 0 exactly where both numbers are
 pub flag-sum : (m n sum : ℕ) → sum ≡ m + n → zero_flag m * zero_flag n % P ≡ zero_flag sum
@@ -25,23 +27,14 @@ flag-sum m n sum is = elim (cases_eq m 0) [
 ]
 
 -- ---- the product of two wires
-both_answer : (a b next : ℕ) → (both_of a b next).answer ≡ next
-unfolding both_of fresh put pure ◌>>=◌
-both_answer a b next = refl
-
-both_next : (a b next : ℕ) → (both_of a b next).next ≡ next + 1
-unfolding both_of fresh put pure ◌>>=◌
-both_next a b next = refl
-
-both_sound : (z : List ℕ) (next a b : ℕ) → Assigns z → Meets z (both_of a b next).list → slice_index z (both_of a b next).answer ≡ slice_index z a * slice_index z b % P
-unfolding both_of fresh put pure ◌>>=◌
+both_sound : (z : List ℕ) (next a b : ℕ) → Assigns z → Meets z (times_of (wire a) (wire b) next).list
+    → slice_index z (times_of (wire a) (wire b) next).answer ≡ slice_index z a * slice_index z b % P
 both_sound z next a b assigns meets =
-    sym (value-wire assigns next) ∙ sym meets.0 ∙ ap₂ (λ m n. m * n % P) (value-wire assigns a) (value-wire assigns b)
+    times_sound z next (wire a) (wire b) assigns meets ∙ ap₂ (λ m n. m * n % P) (value-wire assigns a) (value-wire assigns b)
 
-both_complete : (z : List ℕ) (next a b : ℕ) → Assigns z → slice_index z next ≡ slice_index z a * slice_index z b % P → Meets z (both_of a b next).list
-unfolding both_of fresh put pure ◌>>=◌
+both_complete : (z : List ℕ) (next a b : ℕ) → Assigns z → slice_index z next ≡ slice_index z a * slice_index z b % P → Meets z (times_of (wire a) (wire b) next).list
 both_complete z next a b assigns is =
-    (ap₂ (λ m n. m * n % P) (value-wire assigns a) (value-wire assigns b) ∙ sym is ∙ sym (value-wire assigns next), tt)
+    times_complete z next (wire a) (wire b) assigns (is ∙ sym (ap₂ (λ m n. m * n % P) (value-wire assigns a) (value-wire assigns b)), tt)
 
 -- ---- a wire's flag
 flag_sound : (z : List ℕ) (next w v : ℕ) → Assigns z → slice_index z w ≡ v → Meets z (zero_of (wire w) next).list → slice_index z (zero_of (wire w) next).answer ≡ zero_flag v
@@ -51,14 +44,14 @@ flag_complete : (z : List ℕ) (next w v : ℕ) → Assigns z → slice_index z 
 flag_complete z next w v assigns is has = zero_complete z next (wire w) assigns (subst (λ k. HasFrom z next (zero_values k)) (sym (value-wire assigns w ∙ is)) has)
 
 -- wires that hold the flags of numbers, the second being 0 where the first and the third are
-pub record HoldFlags (z : List ℕ) (flags : Flags) (ands ors xors nots : ℕ) : Type 0 where
+pub record HoldFlags (z : List ℕ) (flags : LogicFlags) (ands ors xors nots : ℕ) : Type 0 where
   pub of_and : slice_index z flags.and_zero ≡ zero_flag ands
   pub of_or : slice_index z flags.or_zero ≡ zero_flag ors
   pub of_xor : slice_index z flags.xor_zero ≡ zero_flag xors
   pub of_not : slice_index z flags.not_zero ≡ zero_flag nots
 
 -- where the flags begin
-module _ (words : Words) (next : ℕ) where
+module _ (words : LogicWords) (next : ℕ) where
   abbrev xor_from : ℕ
   xor_from = (zero_of (wire words.and_word) next).next
 
@@ -83,31 +76,31 @@ module _ (words : Words) (next : ℕ) where
   or_from_is : or_from ≡ next + 2 + 2 + 2
   or_from_is = zero_next (wire words.not_word) not_from ∙ ap (λ n. n + 2) not_from_is
 
-  pub flags_next : (flags_of words next).next ≡ next + 7
-  unfolding flags_of pure ◌>>=◌
-  flags_next = both_next ands_wire xors_wire or_from ∙ omega (arith, or_from_is)
+  pub flags_next : (logic_flags_of words next).next ≡ next + 7
+  unfolding logic_flags_of pure ◌>>=◌
+  flags_next = times_next (wire ands_wire) (wire xors_wire) or_from ∙ omega (arith, or_from_is)
 
   pub flags_same : (a b c d e f g h : ℕ) → a ≡ e → b ≡ f → c ≡ g → d ≡ h
-      → ◌≡◌ {A = Flags} (record { and_zero = a; or_zero = b; xor_zero = c; not_zero = d }) (record { and_zero = e; or_zero = f; xor_zero = g; not_zero = h })
+      → ◌≡◌ {A = LogicFlags} (record { and_zero = a; or_zero = b; xor_zero = c; not_zero = d }) (record { and_zero = e; or_zero = f; xor_zero = g; not_zero = h })
   flags_same a b c d e f g h p q r s = cc
 
-  pub flags_answer : (flags_of words next).answer ≡ record { and_zero = next; or_zero = next + 6; xor_zero = next + 2; not_zero = next + 4 }
-  unfolding flags_of pure ◌>>=◌
+  pub flags_answer : (logic_flags_of words next).answer ≡ record { and_zero = next; or_zero = next + 6; xor_zero = next + 2; not_zero = next + 4 }
+  unfolding logic_flags_of pure ◌>>=◌
   flags_answer =
       flags_same _ _ _ _ next (next + 6) (next + 2) (next + 4)
       (zero_answer (wire words.and_word) next)
-      (both_answer ands_wire xors_wire or_from ∙ or_from_is ∙ omega arith)
+      (times_answer (wire ands_wire) (wire xors_wire) or_from ∙ or_from_is ∙ omega arith)
       (zero_answer (wire words.xor_word) xor_from ∙ xor_from_is)
       (zero_answer (wire words.not_word) not_from ∙ not_from_is ∙ omega arith)
 
-module _ (z : List ℕ) (next : ℕ) (words : Words) (ands ors xors nots : ℕ) (assigns : Assigns z) (p : slice_index z words.and_word ≡ ands) (q : slice_index z words.xor_word ≡ xors) (r : slice_index z words.not_word ≡ nots) (sum : ors ≡ ands + xors) where
-  pub flags_sound : Meets z (flags_of words next).list → HoldFlags z (flags_of words next).answer ands ors xors nots
-  unfolding flags_of pure ◌>>=◌
+module _ (z : List ℕ) (next : ℕ) (words : LogicWords) (ands ors xors nots : ℕ) (assigns : Assigns z) (p : slice_index z words.and_word ≡ ands) (q : slice_index z words.xor_word ≡ xors) (r : slice_index z words.not_word ≡ nots) (sum : ors ≡ ands + xors) where
+  pub flags_sound : Meets z (logic_flags_of words next).list → HoldFlags z (logic_flags_of words next).answer ands ors xors nots
+  unfolding logic_flags_of pure ◌>>=◌
   flags_sound meets =
       let ands_met = Meets-split z (zero_of (wire words.and_word) next).list _ meets in
       let xors_met = Meets-split z (zero_of (wire words.xor_word) (xor_from words next)).list _ ands_met.1 in
       let nots_met = Meets-split z (zero_of (wire words.not_word) (not_from words next)).list _ xors_met.1 in
-      let ors_met = Meets-split z (both_of (ands_wire words next) (xors_wire words next) (or_from words next)).list [] nots_met.1 in
+      let ors_met = Meets-split z (times_of (wire (ands_wire words next)) (wire (xors_wire words next)) (or_from words next)).list [] nots_met.1 in
       let of_and = flag_sound z next words.and_word ands assigns p ands_met.0 in
       let of_xor = flag_sound z (xor_from words next) words.xor_word xors assigns q xors_met.0 in
       record {
@@ -117,8 +110,8 @@ module _ (z : List ℕ) (next : ℕ) (words : Words) (ands ors xors nots : ℕ) 
         of_not = flag_sound z (not_from words next) words.not_word nots assigns r nots_met.0;
       }
 
-  pub flags_complete : HasFrom z next (flag_values ands ors xors nots) → Meets z (flags_of words next).list
-  unfolding flags_of pure ◌>>=◌
+  pub flags_complete : HasFrom z next (flag_values ands ors xors nots) → Meets z (logic_flags_of words next).list
+  unfolding logic_flags_of pure ◌>>=◌
   flags_complete has =
       let one = HasFrom-split z next (zero_values ands) (zero_values xors ++ (zero_values nots ++ zero_flag ors ∷ [])) has in
       let two = HasFrom-split z (next + 2) (zero_values xors) (zero_values nots ++ zero_flag ors ∷ []) one.1 in
@@ -133,4 +126,4 @@ module _ (z : List ℕ) (next : ℕ) (words : Words) (ands ors xors nots : ℕ) 
       Meets-join z (zero_of (wire words.and_word) next).list _ ands_met
       (Meets-join z (zero_of (wire words.xor_word) (xor_from words next)).list _ xors_met
       (Meets-join z (zero_of (wire words.not_word) (not_from words next)).list _ nots_met
-      (Meets-join z (both_of (ands_wire words next) (xors_wire words next) (or_from words next)).list [] (both_complete z (or_from words next) (ands_wire words next) (xors_wire words next) assigns of_or) tt)))
+      (Meets-join z (times_of (wire (ands_wire words next)) (wire (xors_wire words next)) (or_from words next)).list [] (both_complete z (or_from words next) (ands_wire words next) (xors_wire words next) assigns of_or) tt)))

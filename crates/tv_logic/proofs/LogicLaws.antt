@@ -1,39 +1,47 @@
 -- The laws of the bitwise operations.
-use Rattle.std.proofs.Common.{◌≡◌, ℕ, ◌+◌, ◌∷◌, [], bit_and, bit_or, bit_xor, length, length-append, subst, ◌∙◌, ap₂, arith}
+use Rattle.std.proofs.Common.{◌≡◌, ℕ, ◌+◌, ◌-◌, ◌/◌, ◌^◌, ◌<◌, ◌∷◌, [], ◌++◌, inl, inr, bit_and, bit_or, bit_xor, length, length-append, subst, ◌∙◌, ap₂, arith}
+use Rattle.std.proofs.lemmas.Bool.{cases_eq}
 use Rattle.std.specs.Int.Bits.{or_add_and, xor_add_and}
+use Rattle.tv_bits.proofs.SizeLaws.{zero_in_field}
+use Rattle.tv_bits.proofs.ZeroLaws.{zero_flag-zero, zero_flag-other}
+use Rattle.tv_bits.specs.Zero.{zero_flag, zero_values}
 use Rattle.tv_bits.specs.declared.bit_wires.Bits.{Bits}
 use Rattle.tv_core.proofs.BelowLaws.{length-each_below}
 use Rattle.tv_core.proofs.Meeting.{Meets-split, Meets-join, HasFrom-split}
 use Rattle.tv_core.specs.Circuits.{pure, ◌>>=◌}
-use Rattle.tv_core.specs.Laws.{HasFrom}
+use Rattle.tv_core.specs.Laws.{HasFrom, Fills, InField}
+use Rattle.tv_core.specs.declared.field.TheConstants.{P}
 use Rattle.tv_logic.proofs.FlagLaws.{flags_sound, flags_complete, flags_answer, flags_next, flags_same}
+use Rattle.tv_core.proofs.FieldLaws.{InField-none, InField-cons, InField-append, InField-each_below}
+use Rattle.tv_logic.proofs.PairSums.{pair_in-small, and-below, word-small}
 use Rattle.tv_logic.proofs.WordLaws.{words_sound, words_complete, words_answer, words_next}
 use Rattle.tv_logic.specs.Ands.{pair_in, pair_values}
-use Rattle.tv_logic.specs.Flags.{flags_of, flag_values}
-use Rattle.tv_logic.specs.Logic.{logic_of, LogicIsSound, LogicIsComplete}
-use Rattle.tv_logic.specs.Words.{bits_turned, words_of, word_values}
-use Rattle.tv_logic.specs.declared.answers.Flags.{Flags}
+use Rattle.tv_logic.specs.Flags.{logic_flags_of, flag_values}
+use Rattle.tv_logic.specs.Logic.{logic_of, logic_made, logic_wires, LogicIsSound, logic_values, LogicIsComplete, LogicSizes}
+use Rattle.tv_logic.specs.Words.{bits_turned, logic_words_of, word_values}
+use Rattle.tv_logic.specs.declared.answers.LogicFlags.{LogicFlags}
 use Rattle.tv_logic.specs.declared.answers.Logic.{Logic}
-use Rattle.tv_logic.specs.declared.answers.Words.{Words}
+use Rattle.tv_logic.specs.declared.answers.LogicWords.{LogicWords}
+use Rattle.tv_word.specs.Widths.{IsWidth}
 
 -- or is and plus xor
 or-sum : (a b : ℕ) → bit_or a b ≡ bit_and a b + bit_xor a b
 or-sum a b = omega (arith, or_add_and a b, xor_add_and a b)
 
-words_size : (a b : ℕ) → length (word_values 32 a b) ≡ 19
-words_size a b =
+words_size : (w : ℕ) → IsWidth w → (a b : ℕ) → length (word_values w a b) ≡ w / 2 + 3
+words_size w width a b =
     let v = bit_and a b in
-    omega (arith, length-append (pair_values 32 v) (bit_or a b ∷ bit_xor a b ∷ bits_turned 32 b ∷ []), length-each_below 15 (λ i. pair_in 32 v (i + 1)))
+    omega (arith, length-append (pair_values w v) (bit_or a b ∷ bit_xor a b ∷ bits_turned w b ∷ []), length-each_below (w / 2 - 1) (λ i. pair_in w v (i + 1)))
 
 pub logic_sound : LogicIsSound
 unfolding logic_of pure ◌>>=◌
-logic_sound z next x y a b assigns p q meets =
-    let both = Meets-split z (words_of 32 x y next).list _ meets in
-    let words = words_sound z next x y a b assigns p q both.0 in
-    let made = (words_of 32 x y next).answer in
-    let at = (words_of 32 x y next).next in
-    let last = Meets-split z (flags_of made at).list [] both.1 in
-    let flags = flags_sound z at made (bit_and a b) (bit_or a b) (bit_xor a b) (bits_turned 32 b) assigns words.ands words.xors words.nots (or-sum a b) last.0 in
+logic_sound w width z next x y a b assigns p q meets =
+    let both = Meets-split z (logic_words_of w x y next).list _ meets in
+    let words = words_sound w width z next x y a b assigns p q both.0 in
+    let made = (logic_words_of w x y next).answer in
+    let at = (logic_words_of w x y next).next in
+    let last = Meets-split z (logic_flags_of made at).list [] both.1 in
+    let flags = flags_sound z at made (bit_and a b) (bit_or a b) (bit_xor a b) (bits_turned w b) assigns words.ands words.xors words.nots (or-sum a b) last.0 in
     record {
       and_word = words.ands;
       or_word = words.ors;
@@ -47,28 +55,30 @@ logic_sound z next x y a b assigns p q meets =
 
 pub logic_complete : LogicIsComplete
 unfolding logic_of pure ◌>>=◌
-logic_complete z next x y a b assigns p q has =
-    let flag_list = flag_values (bit_and a b) (bit_or a b) (bit_xor a b) (bits_turned 32 b) in
-    let split = HasFrom-split z next (word_values 32 a b) flag_list has in
-    let words_met = words_complete z next x y a b assigns p q split.0 in
-    let words = words_sound z next x y a b assigns p q words_met in
-    let made = (words_of 32 x y next).answer in
-    let at = (words_of 32 x y next).next in
-    let size : length (word_values 32 a b) ≡ 19 = words_size a b in
-    let place : next + length (word_values 32 a b) ≡ at = omega (arith, words_next x y next, size) in
-    let flags_met = flags_complete z at made (bit_and a b) (bit_or a b) (bit_xor a b) (bits_turned 32 b) assigns words.ands words.xors words.nots (or-sum a b) (subst (λ k. HasFrom z k flag_list) place split.1) in
-    Meets-join z (words_of 32 x y next).list _ words_met (Meets-join z (flags_of made at).list [] flags_met tt)
+logic_complete w width z next x y a b assigns p q has =
+    let flag_list = flag_values (bit_and a b) (bit_or a b) (bit_xor a b) (bits_turned w b) in
+    let split = HasFrom-split z next (word_values w a b) flag_list has in
+    let words_met = words_complete w width z next x y a b assigns p q split.0 in
+    let words = words_sound w width z next x y a b assigns p q words_met in
+    let made = (logic_words_of w x y next).answer in
+    let at = (logic_words_of w x y next).next in
+    let size : length (word_values w a b) ≡ w / 2 + 3 = words_size w width a b in
+    let place : next + length (word_values w a b) ≡ at = omega (arith, words_next w width x y next, size) in
+    let flags_met = flags_complete z at made (bit_and a b) (bit_or a b) (bit_xor a b) (bits_turned w b) assigns words.ands words.xors words.nots (or-sum a b) (subst (λ k. HasFrom z k flag_list) place split.1) in
+    Meets-join z (logic_words_of w x y next).list _ words_met (Meets-join z (logic_flags_of made at).list [] flags_met tt)
 
 -- what the circuit answers, and where it ends
-pub logic_next : (x y : Bits) (next : ℕ) → (logic_of 32 x y next).next ≡ next + 26
+logic_next : (w : ℕ) → IsWidth w → (x y : Bits) (next : ℕ) → (logic_of w x y next).next ≡ next + logic_made w
 unfolding logic_of pure ◌>>=◌
-logic_next x y next = flags_next (words_of 32 x y next).answer (words_of 32 x y next).next ∙ omega (arith, words_next x y next)
+logic_next w width x y next = flags_next (logic_words_of w x y next).answer (logic_words_of w x y next).next ∙ omega (arith, words_next w width x y next)
 
-flags_at : (words : Words) (at next : ℕ) → at ≡ next + 19 → (flags_of words at).answer ≡ record { and_zero = next + 19; or_zero = next + 25; xor_zero = next + 21; not_zero = next + 23 }
-flags_at words at next is =
-    flags_answer words at ∙ flags_same words at at (at + 6) (at + 2) (at + 4) (next + 19) (next + 25) (next + 21) (next + 23) is (omega arith) (omega arith) (omega arith)
+flags_at : (w : ℕ) (words : LogicWords) (at next : ℕ) → at ≡ next + (w / 2 + 3)
+    → (logic_flags_of words at).answer ≡ record { and_zero = next + (w / 2 + 3); or_zero = next + (w / 2 + 9); xor_zero = next + (w / 2 + 5); not_zero = next + (w / 2 + 7) }
+flags_at w words at next is =
+    flags_answer words at
+    ∙ flags_same words at at (at + 6) (at + 2) (at + 4) (next + (w / 2 + 3)) (next + (w / 2 + 9)) (next + (w / 2 + 5)) (next + (w / 2 + 7)) is (omega arith) (omega arith) (omega arith)
 
-made_of : Words → Flags → Logic
+made_of : LogicWords → LogicFlags → Logic
 made_of words flags = record {
   and_word = words.and_word;
   or_word = words.or_word;
@@ -80,16 +90,53 @@ made_of words flags = record {
   not_zero = flags.not_zero;
 }
 
-pub logic_answer : (x y : Bits) (next : ℕ) → (logic_of 32 x y next).answer ≡ record {
-  and_word = next;
-  or_word = next + 16;
-  xor_word = next + 17;
-  not_word = next + 18;
-  and_zero = next + 19;
-  or_zero = next + 25;
-  xor_zero = next + 21;
-  not_zero = next + 23;
-}
+logic_answer : (w : ℕ) → IsWidth w → (x y : Bits) (next : ℕ) → (logic_of w x y next).answer ≡ logic_wires w next
 unfolding logic_of pure ◌>>=◌ made_of
-logic_answer x y next =
-    ap₂ made_of (words_answer x y next) (flags_at (words_of 32 x y next).answer (words_of 32 x y next).next next (words_next x y next))
+logic_answer w width x y next =
+    ap₂ made_of (words_answer w width x y next) (flags_at w (logic_words_of w x y next).answer (logic_words_of w x y next).next next (words_next w width x y next))
+
+-- as many values as wires
+logic_fills : (w : ℕ) → IsWidth w → (x y : Bits) (a b : ℕ) → Fills (logic_of w x y) (logic_values w a b)
+logic_fills w width x y a b next =
+    let flags = flag_values (bit_and a b) (bit_or a b) (bit_xor a b) (bits_turned w b) in
+    omega (arith, logic_next w width x y next, length-append (word_values w a b) flags, words_size w width a b)
+
+-- ---- the values are below the prime
+or-below : (w : ℕ) → IsWidth w → (a b : ℕ) → a < 2 ^ w → b < 2 ^ w → bit_or a b < P
+or-below w width a b h k = let sum = or_add_and a b in grind arith
+
+xor-below : (w : ℕ) → IsWidth w → (a b : ℕ) → a < 2 ^ w → b < 2 ^ w → bit_xor a b < P
+xor-below w width a b h k = let sum = xor_add_and a b in grind arith
+
+turned-below : (w : ℕ) → IsWidth w → (b : ℕ) → bits_turned w b < P
+turned-below w width b = grind arith
+
+flag-below : (n : ℕ) → zero_flag n < P
+flag-below n = elim (cases_eq n 0) [ inl none ↦ omega (arith, zero_flag-zero n none) | inr some ↦ omega (arith, zero_flag-other n some) ]
+
+pairs-below : (w : ℕ) → IsWidth w → (v : ℕ) → InField (pair_values w v)
+pairs-below w width v = InField-each_below (λ i. pair_in w v (i + 1)) (λ i. pair_in-small w width v (i + 1)) (w / 2 - 1)
+
+words-below : (w : ℕ) → IsWidth w → (a b : ℕ) → a < 2 ^ w → b < 2 ^ w → InField (word_values w a b)
+words-below w width a b h k =
+    let v = bit_and a b in
+    let small : v < P = (let word = word-small w width v (and-below w a b h) in omega arith) in
+    let nots = InField-cons (bits_turned w b) [] (turned-below w width b) InField-none in
+    let xors = InField-cons (bit_xor a b) (bits_turned w b ∷ []) (xor-below w width a b h k) nots in
+    let ors = InField-cons (bit_or a b) (bit_xor a b ∷ bits_turned w b ∷ []) (or-below w width a b h k) xors in
+    InField-cons v (pair_values w v ++ bit_or a b ∷ bit_xor a b ∷ bits_turned w b ∷ []) small
+    (InField-append (pair_values w v) (bit_or a b ∷ bit_xor a b ∷ bits_turned w b ∷ []) (pairs-below w width v) ors)
+
+flags-below : (ands ors xors nots : ℕ) → InField (flag_values ands ors xors nots)
+flags-below ands ors xors nots =
+    let last = InField-append (zero_values nots) (zero_flag ors ∷ []) (zero_in_field nots) (InField-cons (zero_flag ors) [] (flag-below ors) InField-none) in
+    InField-append (zero_values ands) (zero_values xors ++ (zero_values nots ++ zero_flag ors ∷ [])) (zero_in_field ands)
+    (InField-append (zero_values xors) (zero_values nots ++ zero_flag ors ∷ []) (zero_in_field xors) last)
+
+logic_in_field : (w : ℕ) → IsWidth w → (a b : ℕ) → a < 2 ^ w → b < 2 ^ w → InField (logic_values w a b)
+logic_in_field w width a b h k =
+    let flags = flag_values (bit_and a b) (bit_or a b) (bit_xor a b) (bits_turned w b) in
+    InField-append (word_values w a b) flags (words-below w width a b h k) (flags-below (bit_and a b) (bit_or a b) (bit_xor a b) (bits_turned w b))
+
+pub logic_sizes : LogicSizes
+logic_sizes = record { answer = logic_answer; end = logic_next; fills = logic_fills; in_field = logic_in_field }

@@ -1,5 +1,5 @@
 -- A number as the sum of its pairs of bits.
-use Rattle.std.proofs.Common.{◌≡◌, ℕ, zero, suc, ◌+◌, ◌*◌, ◌%◌, ◌^◌, ◌<◌, min, bit_and, sym, ◌∙◌, ap, ap₂, arith, mul_assoc, mod-eq_of_lt}
+use Rattle.std.proofs.Common.{◌≡◌, ℕ, zero, suc, ◌+◌, ◌-◌, ◌*◌, ◌/◌, ◌%◌, ◌^◌, ◌<◌, min, bit_and, sym, ◌∙◌, ap, ap₂, arith, mul_assoc, mod-eq_of_lt}
 use Rattle.std.specs.Int.{bit_at}
 use Rattle.std.proofs.lemmas.Nat.{pow-add, and_le_l}
 use Rattle.std.proofs.lemmas.Nat.Bits.{bit_at-lt, bit_at_and}
@@ -9,6 +9,7 @@ use Rattle.tv_core.proofs.BelowLaws.{sum_below-zero, sum_below-suc, sum_below-sa
 use Rattle.tv_core.specs.Below.{sum_below}
 use Rattle.tv_core.specs.declared.field.TheConstants.{P}
 use Rattle.tv_logic.specs.Ands.{pair_in}
+use Rattle.tv_word.specs.Widths.{IsWidth}
 
 -- the pairs, each times its power of 2, are the number's bits
 pairs-sum : (h a : ℕ) → sum_below h (λ i. 2 ^ i * (bit_at a i + 2 ^ h * bit_at a (h + i))) ≡ a % 2 ^ (h + h)
@@ -30,11 +31,25 @@ first-apart n p =
     omega (arith, sum_below-add 1 n f, sum_below-suc 0 f, sum_below-zero f, others)
 
 -- a word is its lowest pair and twice the sum of the others
-pub word-pairs : (a : ℕ) → a < 2 ^ 32 → a ≡ pair_in 32 a 0 + 2 * sum_below 15 (λ i. 2 ^ i * pair_in 32 a (i + 1))
-word-pairs a h = sym (mod-eq_of_lt h) ∙ sym (pairs-sum 16 a) ∙ first-apart 15 (pair_in 32 a)
+pub word-pairs : (w : ℕ) → IsWidth w → (a : ℕ) → a < 2 ^ w → a ≡ pair_in w a 0 + 2 * sum_below (w / 2 - 1) (λ i. 2 ^ i * pair_in w a (i + 1))
+word-pairs w width a h =
+    let halves : w / 2 + w / 2 ≡ w = omega arith in
+    let one : w / 2 ≡ 1 + (w / 2 - 1) = omega arith in
+    sym (mod-eq_of_lt h)
+    ∙ ap (λ n. a % 2 ^ n) (sym halves)
+    ∙ sym (pairs-sum (w / 2) a)
+    ∙ ap (λ n. sum_below n (λ i. 2 ^ i * pair_in w a i)) one
+    ∙ first-apart (w / 2 - 1) (pair_in w a)
 
-pub pair_in-small : (a i : ℕ) → pair_in 32 a i < 2 ^ 17
-pair_in-small a i = omega (arith, bit_at-lt a i, bit_at-lt a (16 + i))
+-- two bits, the second half a word above the first
+pair-number : (w : ℕ) → IsWidth w → (m n : ℕ) → m < 2 → n < 2 → (m + 2 ^ (w / 4) * 2 ^ (w / 4) * n) % P ≡ m + 2 ^ (w / 2) * n
+pair-number w width m n h k = grind arith
+
+pub pair_in-small : (w : ℕ) → IsWidth w → (a i : ℕ) → pair_in w a i < P
+pair_in-small w width a i = small (bit_at a i) (bit_at a (w / 2 + i)) (bit_at-lt a i) (bit_at-lt a (w / 2 + i))
+  where
+    small : (m n : ℕ) → m < 2 → n < 2 → m + 2 ^ (w / 2) * n < P
+    small m n h k = grind arith
 
 -- the ands of a pair of bits are the pair of the and
 bit-product : (a b i : ℕ) → bit_at a i * bit_at b i ≡ bit_at (bit_and a b) i
@@ -45,9 +60,15 @@ bit-product a b i = products (bit_at a i) (bit_at b i) (bit_at-lt a i) (bit_at-l
     products (suc zero) n h k = omega arith
     products (suc (suc m)) n h k = absurd (omega arith)
 
-pub pair-ands : (a b i : ℕ) → two_ands (bit_at a i) (bit_at b i) (bit_at a (16 + i)) (bit_at b (16 + i)) 256 ≡ pair_in 32 (bit_and a b) i
-pair-ands a b i =
-    ap₂ (λ m n. (m + 256 * 256 * n) % P) (bit-product a b i) (bit-product a b (16 + i)) ∙ mod-eq_of_lt (omega (arith, bit_at-lt (bit_and a b) i, bit_at-lt (bit_and a b) (16 + i)))
+pub pair-ands : (w : ℕ) → IsWidth w → (a b i : ℕ)
+    → two_ands (bit_at a i) (bit_at b i) (bit_at a (w / 2 + i)) (bit_at b (w / 2 + i)) (2 ^ (w / 4)) ≡ pair_in w (bit_and a b) i
+pair-ands w width a b i =
+    ap₂ (λ m n. (m + 2 ^ (w / 4) * 2 ^ (w / 4) * n) % P) (bit-product a b i) (bit-product a b (w / 2 + i))
+    ∙ pair-number w width (bit_at (bit_and a b) i) (bit_at (bit_and a b) (w / 2 + i)) (bit_at-lt (bit_and a b) i) (bit_at-lt (bit_and a b) (w / 2 + i))
 
-pub and-below : (a b : ℕ) → a < 2 ^ 32 → bit_and a b < 2 ^ 32
-and-below a b h = omega (arith, and_le_l a b)
+pub and-below : (w a b : ℕ) → a < 2 ^ w → bit_and a b < 2 ^ w
+and-below w a b h = omega (arith, and_le_l a b)
+
+-- a word is a number of the field
+pub word-small : (w : ℕ) → IsWidth w → (v : ℕ) → v < 2 ^ w → v < 2 ^ 32
+word-small w width v h = grind arith

@@ -1,45 +1,46 @@
 -- The laws of the words that are linear in the inputs and the word of ands.
-use Rattle.std.proofs.Common.{◌≡◌, ℕ, ◌+◌, ◌-◌, ◌*◌, ◌%◌, ◌^◌, ◌<◌, List, [], ◌∷◌, ◌++◌, length, bit_and, bit_or, bit_xor, refl, sym, subst, ◌∙◌, ap, ap₂, arith}
+use Rattle.std.proofs.Common.{◌≡◌, ℕ, ◌+◌, ◌-◌, ◌*◌, ◌/◌, ◌%◌, ◌^◌, ◌<◌, ◌≤◌, List, [], ◌∷◌, ◌++◌, length, bit_and, bit_or, bit_xor, sym, subst, ◌∙◌, ap, ap₂, arith}
 use Rattle.std.specs.Int.Bits.{or_add_and, xor_add_and}
 use Rattle.std.specs.Prelude.{slice_index}
+use Rattle.tv_bits.proofs.TimesLaws.{times_answer, times_next, times_sound, times_complete}
 use Rattle.tv_bits.proofs.SpelledNumbers.{Spells-below, value-bits_below}
 use Rattle.tv_bits.specs.Bits.{Spells, bits_combination}
 use Rattle.tv_bits.specs.Pairs.{negative}
 use Rattle.tv_bits.specs.declared.bit_wires.Bits.{Bits}
 use Rattle.tv_core.proofs.BelowLaws.{length-each_below}
-use Rattle.tv_core.proofs.CombinationLaws.{value-append, value-scaled, value-less, value-constant, value-wire, value-below}
+use Rattle.tv_core.proofs.CombinationLaws.{value-append, value-scaled, value-less, value-constant, value-below}
 use Rattle.tv_core.proofs.Meeting.{Meets-split, Meets-join, HasFrom-split}
-use Rattle.tv_core.specs.Circuits.{fresh, put, pure, ◌>>=◌}
+use Rattle.tv_core.specs.Circuits.{pure, ◌>>=◌}
 use Rattle.tv_core.specs.Combinations.{constant, scaled}
 use Rattle.tv_core.specs.Constraints.{Combination, value}
 use Rattle.tv_core.specs.Laws.{Assigns, Meets, HasFrom}
 use Rattle.tv_core.specs.declared.field.TheConstants.{P}
 use Rattle.tv_logic.proofs.AndLaws.{and_answer, and_next, and_sound, and_complete}
+use Rattle.tv_logic.proofs.PairSums.{word-small}
 use Rattle.tv_logic.specs.Ands.{pair_in, pair_values, and_of}
-use Rattle.tv_logic.specs.Words.{bits_turned, hold_of, sum_less, complement, words_of, word_values}
-use Rattle.tv_logic.specs.declared.answers.Words.{Words}
+use Rattle.tv_logic.specs.Words.{bits_turned, hold_of, sum_less, complement, logic_words_of, word_values}
+use Rattle.tv_logic.specs.declared.answers.LogicWords.{LogicWords}
+use Rattle.tv_word.proofs.WidthLaws.{width_short}
+use Rattle.tv_word.specs.Widths.{IsWidth}
 
 -- ---- a wire that holds a value
 hold_answer : (x : Combination) (next : ℕ) → (hold_of x next).answer ≡ next
-unfolding hold_of fresh put pure ◌>>=◌
-hold_answer x next = refl
+hold_answer x next = times_answer x (constant 1) next
 
 hold_next : (x : Combination) (next : ℕ) → (hold_of x next).next ≡ next + 1
-unfolding hold_of fresh put pure ◌>>=◌
-hold_next x next = refl
+hold_next x next = times_next x (constant 1) next
 
 times_one : (n : ℕ) → n < P → n * (1 % P) % P ≡ n
 times_one n h = omega arith
 
+once : (z : List ℕ) (x : Combination) → Assigns z → value x z * value (constant 1) z % P ≡ value x z
+once z x assigns = ap (λ k. value x z * k % P) (value-constant assigns 1) ∙ times_one (value x z) (value-below x z)
+
 hold_sound : (z : List ℕ) (next : ℕ) (x : Combination) → Assigns z → Meets z (hold_of x next).list → slice_index z (hold_of x next).answer ≡ value x z
-unfolding hold_of fresh put pure ◌>>=◌
-hold_sound z next x assigns meets =
-    sym (value-wire assigns next) ∙ sym meets.0 ∙ ap (λ k. value x z * k % P) (value-constant assigns 1) ∙ times_one (value x z) (value-below x z)
+hold_sound z next x assigns meets = times_sound z next x (constant 1) assigns meets ∙ once z x assigns
 
 hold_complete : (z : List ℕ) (next : ℕ) (x : Combination) → Assigns z → slice_index z next ≡ value x z → Meets z (hold_of x next).list
-unfolding hold_of fresh put pure ◌>>=◌
-hold_complete z next x assigns is =
-    (ap (λ k. value x z * k % P) (value-constant assigns 1) ∙ times_one (value x z) (value-below x z) ∙ sym is ∙ sym (value-wire assigns next), tt)
+hold_complete z next x assigns is = times_complete z next x (constant 1) assigns (is ∙ sym (once z x assigns), tt)
 
 -- ---- the values
 or_number : (a b ands ors : ℕ) → a < 2 ^ 32 → b < 2 ^ 32 → ors + ands ≡ a + b → ((a + 1 * b % P) % P + (P - 1) * ands % P) % P ≡ ors
@@ -48,104 +49,107 @@ or_number a b ands ors h k is = omega arith
 xor_number : (a b ands xors : ℕ) → a < 2 ^ 32 → b < 2 ^ 32 → xors + ands * 2 ≡ a + b → ((a + 1 * b % P) % P + (P - 2) * ands % P) % P ≡ xors
 xor_number a b ands xors h k is = omega arith
 
-not_number : (b : ℕ) → b < 2 ^ 32 → ((2 ^ 32 - 1) % P + (P - b)) % P ≡ bits_turned 32 b
-not_number b h = omega arith
+not_number : (w : ℕ) → IsWidth w → (b : ℕ) → b < 2 ^ w → ((2 ^ w - 1) % P + (P - b)) % P ≡ bits_turned w b
+not_number w width b h = grind arith
 
-module _ (z : List ℕ) (assigns : Assigns z) (x y : Bits) (a b : ℕ) (p : Spells z x.first 32 a) (q : Spells z y.first 32 b) where
-  value-sum_less : (k at : ℕ) → value (sum_less 32 x y k at) z ≡ ((a + 1 * b % P) % P + negative k * slice_index z at % P) % P
+module _ (w : ℕ) (width : IsWidth w) (z : List ℕ) (assigns : Assigns z) (x y : Bits) (a b : ℕ) (p : Spells z x.first w a) (q : Spells z y.first w b) where
+  short : w ≤ 63
+  short = let most = width_short w width in omega arith
+
+  value-sum_less : (k at : ℕ) → value (sum_less w x y k at) z ≡ ((a + 1 * b % P) % P + negative k * slice_index z at % P) % P
   value-sum_less k at =
-      let left = bits_combination x.first 32 in
-      let right = bits_combination y.first 32 in
+      let left = bits_combination x.first w in
+      let right = bits_combination y.first w in
       let last : value ((negative k, at) ∷ []) z ≡ negative k * slice_index z at % P = ap (λ n. n % P) (omega arith) in
       value-append (left ++ scaled 1 right) ((negative k, at) ∷ []) z
-      ∙ ap₂ (λ m n. (m + n) % P) (value-append left (scaled 1 right) z ∙ ap₂ (λ m n. (m + n) % P) (value-bits_below p (omega arith)) (value-scaled 1 right z ∙ ap (λ n. 1 * n % P) (value-bits_below q (omega arith)))) last
+      ∙ ap₂ (λ m n. (m + n) % P) (value-append left (scaled 1 right) z ∙ ap₂ (λ m n. (m + n) % P) (value-bits_below p short) (value-scaled 1 right z ∙ ap (λ n. 1 * n % P) (value-bits_below q short))) last
 
-  value-or : (at : ℕ) → slice_index z at ≡ bit_and a b → value (sum_less 32 x y 1 at) z ≡ bit_or a b
+  value-or : (at : ℕ) → slice_index z at ≡ bit_and a b → value (sum_less w x y 1 at) z ≡ bit_or a b
   value-or at is =
-      value-sum_less 1 at ∙ ap (λ k. ((a + 1 * b % P) % P + (P - 1) * k % P) % P) is ∙ or_number a b (bit_and a b) (bit_or a b) (Spells-below p) (Spells-below q) (or_add_and a b)
+      value-sum_less 1 at ∙ ap (λ k. ((a + 1 * b % P) % P + (P - 1) * k % P) % P) is ∙ or_number a b (bit_and a b) (bit_or a b) (word-small w width a (Spells-below p)) (word-small w width b (Spells-below q)) (or_add_and a b)
 
-  value-xor : (at : ℕ) → slice_index z at ≡ bit_and a b → value (sum_less 32 x y 2 at) z ≡ bit_xor a b
+  value-xor : (at : ℕ) → slice_index z at ≡ bit_and a b → value (sum_less w x y 2 at) z ≡ bit_xor a b
   value-xor at is =
-      value-sum_less 2 at ∙ ap (λ k. ((a + 1 * b % P) % P + (P - 2) * k % P) % P) is ∙ xor_number a b (bit_and a b) (bit_xor a b) (Spells-below p) (Spells-below q) (xor_add_and a b)
+      value-sum_less 2 at ∙ ap (λ k. ((a + 1 * b % P) % P + (P - 2) * k % P) % P) is ∙ xor_number a b (bit_and a b) (bit_xor a b) (word-small w width a (Spells-below p)) (word-small w width b (Spells-below q)) (xor_add_and a b)
 
-  value-not : value (complement 32 y) z ≡ bits_turned 32 b
+  value-not : value (complement w y) z ≡ bits_turned w b
   value-not =
-      value-less (constant (2 ^ 32 - 1)) (bits_combination y.first 32) z
-      ∙ ap₂ (λ m n. (m + (P - n)) % P) (value-constant assigns (2 ^ 32 - 1)) (value-bits_below q (omega arith))
-      ∙ not_number b (Spells-below q)
+      value-less (constant (2 ^ w - 1)) (bits_combination y.first w) z
+      ∙ ap₂ (λ m n. (m + (P - n)) % P) (value-constant assigns (2 ^ w - 1)) (value-bits_below q short)
+      ∙ not_number w width b (Spells-below q)
 
 -- wires that hold the words of the operations
-pub record HoldWords (z : List ℕ) (words : Words) (a b : ℕ) : Type 0 where
+pub record HoldWords (w : ℕ) (z : List ℕ) (words : LogicWords) (a b : ℕ) : Type 0 where
   pub ands : slice_index z words.and_word ≡ bit_and a b
   pub ors : slice_index z words.or_word ≡ bit_or a b
   pub xors : slice_index z words.xor_word ≡ bit_xor a b
-  pub nots : slice_index z words.not_word ≡ bits_turned 32 b
+  pub nots : slice_index z words.not_word ≡ bits_turned w b
 
 -- where the or and the xor begin, and the complement
-module _ (x y : Bits) (next : ℕ) where
+module _ (w : ℕ) (width : IsWidth w) (x y : Bits) (next : ℕ) where
   abbrev or_from : ℕ
-  or_from = (and_of 32 x y next).next
+  or_from = (and_of w x y next).next
 
   abbrev xor_from : ℕ
-  xor_from = (hold_of (sum_less 32 x y 1 (and_of 32 x y next).answer) or_from).next
+  xor_from = (hold_of (sum_less w x y 1 (and_of w x y next).answer) or_from).next
 
   abbrev not_from : ℕ
-  not_from = (hold_of (sum_less 32 x y 2 (and_of 32 x y next).answer) xor_from).next
+  not_from = (hold_of (sum_less w x y 2 (and_of w x y next).answer) xor_from).next
 
-  xor_from_is : xor_from ≡ next + 16 + 1
-  xor_from_is = hold_next (sum_less 32 x y 1 (and_of 32 x y next).answer) or_from ∙ ap (λ n. n + 1) (and_next x y next)
+  xor_from_is : xor_from ≡ next + w / 2 + 1
+  xor_from_is = hold_next (sum_less w x y 1 (and_of w x y next).answer) or_from ∙ ap (λ n. n + 1) (and_next w width x y next)
 
-  not_from_is : not_from ≡ next + 16 + 1 + 1
-  not_from_is = hold_next (sum_less 32 x y 2 (and_of 32 x y next).answer) xor_from ∙ ap (λ n. n + 1) xor_from_is
+  not_from_is : not_from ≡ next + w / 2 + 1 + 1
+  not_from_is = hold_next (sum_less w x y 2 (and_of w x y next).answer) xor_from ∙ ap (λ n. n + 1) xor_from_is
 
-  pub words_next : (words_of 32 x y next).next ≡ next + 19
-  unfolding words_of pure ◌>>=◌
-  words_next = hold_next (complement 32 y) not_from ∙ omega (arith, not_from_is)
+  pub words_next : (logic_words_of w x y next).next ≡ next + (w / 2 + 3)
+  unfolding logic_words_of pure ◌>>=◌
+  words_next = hold_next (complement w y) not_from ∙ omega (arith, not_from_is)
 
   words_same : (a b c d e f g h : ℕ) → a ≡ e → b ≡ f → c ≡ g → d ≡ h
-      → ◌≡◌ {A = Words} (record { and_word = a; or_word = b; xor_word = c; not_word = d }) (record { and_word = e; or_word = f; xor_word = g; not_word = h })
+      → ◌≡◌ {A = LogicWords} (record { and_word = a; or_word = b; xor_word = c; not_word = d }) (record { and_word = e; or_word = f; xor_word = g; not_word = h })
   words_same a b c d e f g h p q r s = cc
 
-  pub words_answer : (words_of 32 x y next).answer ≡ record { and_word = next; or_word = next + 16; xor_word = next + 17; not_word = next + 18 }
-  unfolding words_of pure ◌>>=◌
+  pub words_answer : (logic_words_of w x y next).answer ≡ record { and_word = next; or_word = next + w / 2; xor_word = next + (w / 2 + 1); not_word = next + (w / 2 + 2) }
+  unfolding logic_words_of pure ◌>>=◌
   words_answer =
-      words_same _ _ _ _ next (next + 16) (next + 17) (next + 18)
-      (and_answer 32 x y next)
-      (hold_answer (sum_less 32 x y 1 (and_of 32 x y next).answer) or_from ∙ and_next x y next)
-      (hold_answer (sum_less 32 x y 2 (and_of 32 x y next).answer) xor_from ∙ xor_from_is ∙ omega arith)
-      (hold_answer (complement 32 y) not_from ∙ not_from_is ∙ omega arith)
+      words_same _ _ _ _ next (next + w / 2) (next + (w / 2 + 1)) (next + (w / 2 + 2))
+      (and_answer w x y next)
+      (hold_answer (sum_less w x y 1 (and_of w x y next).answer) or_from ∙ and_next w width x y next)
+      (hold_answer (sum_less w x y 2 (and_of w x y next).answer) xor_from ∙ xor_from_is ∙ omega arith)
+      (hold_answer (complement w y) not_from ∙ not_from_is ∙ omega arith)
 
-pub words_sound : (z : List ℕ) (next : ℕ) (x y : Bits) (a b : ℕ) → Assigns z → Spells z x.first 32 a → Spells z y.first 32 b → Meets z (words_of 32 x y next).list
-    → HoldWords z (words_of 32 x y next).answer a b
-unfolding words_of pure ◌>>=◌
-words_sound z next x y a b assigns p q meets =
-    let at = (and_of 32 x y next).answer in
-    let ands_met = Meets-split z (and_of 32 x y next).list _ meets in
-    let ors_met = Meets-split z (hold_of (sum_less 32 x y 1 at) (or_from x y next)).list _ ands_met.1 in
-    let xors_met = Meets-split z (hold_of (sum_less 32 x y 2 at) (xor_from x y next)).list _ ors_met.1 in
-    let nots_met = Meets-split z (hold_of (complement 32 y) (not_from x y next)).list [] xors_met.1 in
-    let ands : slice_index z at ≡ bit_and a b = and_sound z next x y a b assigns p q ands_met.0 in
+pub words_sound : (w : ℕ) → IsWidth w → (z : List ℕ) (next : ℕ) (x y : Bits) (a b : ℕ) → Assigns z → Spells z x.first w a → Spells z y.first w b → Meets z (logic_words_of w x y next).list
+    → HoldWords w z (logic_words_of w x y next).answer a b
+unfolding logic_words_of pure ◌>>=◌
+words_sound w width z next x y a b assigns p q meets =
+    let at = (and_of w x y next).answer in
+    let ands_met = Meets-split z (and_of w x y next).list _ meets in
+    let ors_met = Meets-split z (hold_of (sum_less w x y 1 at) (or_from w width x y next)).list _ ands_met.1 in
+    let xors_met = Meets-split z (hold_of (sum_less w x y 2 at) (xor_from w width x y next)).list _ ors_met.1 in
+    let nots_met = Meets-split z (hold_of (complement w y) (not_from w width x y next)).list [] xors_met.1 in
+    let ands : slice_index z at ≡ bit_and a b = and_sound w width z next x y a b assigns p q ands_met.0 in
     record {
       ands = ands;
-      ors = hold_sound z (or_from x y next) (sum_less 32 x y 1 at) assigns ors_met.0 ∙ value-or z assigns x y a b p q at ands;
-      xors = hold_sound z (xor_from x y next) (sum_less 32 x y 2 at) assigns xors_met.0 ∙ value-xor z assigns x y a b p q at ands;
-      nots = hold_sound z (not_from x y next) (complement 32 y) assigns nots_met.0 ∙ value-not z assigns x y a b p q;
+      ors = hold_sound z (or_from w width x y next) (sum_less w x y 1 at) assigns ors_met.0 ∙ value-or w width z assigns x y a b p q at ands;
+      xors = hold_sound z (xor_from w width x y next) (sum_less w x y 2 at) assigns xors_met.0 ∙ value-xor w width z assigns x y a b p q at ands;
+      nots = hold_sound z (not_from w width x y next) (complement w y) assigns nots_met.0 ∙ value-not w width z assigns x y a b p q;
     }
 
-pub words_complete : (z : List ℕ) (next : ℕ) (x y : Bits) (a b : ℕ) → Assigns z → Spells z x.first 32 a → Spells z y.first 32 b → HasFrom z next (word_values 32 a b)
-    → Meets z (words_of 32 x y next).list
-unfolding words_of pure ◌>>=◌
-words_complete z next x y a b assigns p q has =
+pub words_complete : (w : ℕ) → IsWidth w → (z : List ℕ) (next : ℕ) (x y : Bits) (a b : ℕ) → Assigns z → Spells z x.first w a → Spells z y.first w b → HasFrom z next (word_values w a b)
+    → Meets z (logic_words_of w x y next).list
+unfolding logic_words_of pure ◌>>=◌
+words_complete w width z next x y a b assigns p q has =
     let v = bit_and a b in
-    let at = (and_of 32 x y next).answer in
-    let split = HasFrom-split z (next + 1) (pair_values 32 v) (bit_or a b ∷ bit_xor a b ∷ bits_turned 32 b ∷ []) has.1 in
-    let place : next + 1 + length (pair_values 32 v) ≡ next + 16 = omega (arith, length-each_below 15 (λ i. pair_in 32 v (i + 1))) in
-    let rest = subst (λ k. HasFrom z k (bit_or a b ∷ bit_xor a b ∷ bits_turned 32 b ∷ [])) place split.1 in
-    let ands : slice_index z at ≡ v = ap (λ k. slice_index z k) (and_answer 32 x y next) ∙ has.0 in
-    let ors = ap (λ k. slice_index z k) (and_next x y next) ∙ rest.0 ∙ sym (value-or z assigns x y a b p q at ands) in
-    let xors = ap (λ k. slice_index z k) (xor_from_is x y next) ∙ rest.1.0 ∙ sym (value-xor z assigns x y a b p q at ands) in
-    let nots = ap (λ k. slice_index z k) (not_from_is x y next) ∙ rest.1.1.0 ∙ sym (value-not z assigns x y a b p q) in
-    Meets-join z (and_of 32 x y next).list _ (and_complete z next x y a b assigns p q (has.0, split.0))
-    (Meets-join z (hold_of (sum_less 32 x y 1 at) (or_from x y next)).list _ (hold_complete z (or_from x y next) (sum_less 32 x y 1 at) assigns ors)
-    (Meets-join z (hold_of (sum_less 32 x y 2 at) (xor_from x y next)).list _ (hold_complete z (xor_from x y next) (sum_less 32 x y 2 at) assigns xors)
-    (Meets-join z (hold_of (complement 32 y) (not_from x y next)).list [] (hold_complete z (not_from x y next) (complement 32 y) assigns nots) tt)))
+    let at = (and_of w x y next).answer in
+    let split = HasFrom-split z (next + 1) (pair_values w v) (bit_or a b ∷ bit_xor a b ∷ bits_turned w b ∷ []) has.1 in
+    let place : next + 1 + length (pair_values w v) ≡ next + w / 2 = omega (arith, length-each_below (w / 2 - 1) (λ i. pair_in w v (i + 1))) in
+    let rest = subst (λ k. HasFrom z k (bit_or a b ∷ bit_xor a b ∷ bits_turned w b ∷ [])) place split.1 in
+    let ands : slice_index z at ≡ v = ap (λ k. slice_index z k) (and_answer w x y next) ∙ has.0 in
+    let ors = ap (λ k. slice_index z k) (and_next w width x y next) ∙ rest.0 ∙ sym (value-or w width z assigns x y a b p q at ands) in
+    let xors = ap (λ k. slice_index z k) (xor_from_is w width x y next) ∙ rest.1.0 ∙ sym (value-xor w width z assigns x y a b p q at ands) in
+    let nots = ap (λ k. slice_index z k) (not_from_is w width x y next) ∙ rest.1.1.0 ∙ sym (value-not w width z assigns x y a b p q) in
+    Meets-join z (and_of w x y next).list _ (and_complete w width z next x y a b assigns p q (has.0, split.0))
+    (Meets-join z (hold_of (sum_less w x y 1 at) (or_from w width x y next)).list _ (hold_complete z (or_from w width x y next) (sum_less w x y 1 at) assigns ors)
+    (Meets-join z (hold_of (sum_less w x y 2 at) (xor_from w width x y next)).list _ (hold_complete z (xor_from w width x y next) (sum_less w x y 2 at) assigns xors)
+    (Meets-join z (hold_of (complement w y) (not_from w width x y next)).list [] (hold_complete z (not_from w width x y next) (complement w y) assigns nots) tt)))

@@ -17,15 +17,15 @@ abbrev pub pair_in : ℕ → ℕ → ℕ → ℕ
 pair_in w a i = bit_at a i + 2 ^ (w / 2) * bit_at a (w / 2 + i)
 
 -- holds m to pair number i of the and of x and y
-unfoldable pub pair_of : ℕ → Bits → Bits → ℕ → Combination → Circuit (Unit {0})
-pair_of w x y i m =
+unfoldable pub and_pair_of : ℕ → Bits → Bits → ℕ → Combination → Circuit (Unit {0})
+and_pair_of w x y i m =
     two_ands_of (wire (x.first + i)) (wire (y.first + i)) (wire (x.first + (w / 2 + i))) (wire (y.first + (w / 2 + i))) (2 ^ (w / 4)) m
 
 -- a new wire for the pair after number i
-unfoldable pub new_pair_of : ℕ → Bits → Bits → ℕ → Circuit (Unit {0})
-new_pair_of w x y i = do
+unfoldable pub new_and_pair_of : ℕ → Bits → Bits → ℕ → Circuit (Unit {0})
+new_and_pair_of w x y i = do
   m ← fresh
-  pair_of w x y (i + 1) (wire m)
+  and_pair_of w x y (i + 1) (wire m)
 
 -- what is left of the word for pair 0, the wires of the later pairs following each other
 abbrev pub lowest_pair : ℕ → ℕ → ℕ → Combination
@@ -36,8 +36,8 @@ unfoldable pub and_of : ℕ → Bits → Bits → Circuit ℕ
 and_of w x y = do
   word ← fresh
   first ← here
-  _ ← times (w / 2 - 1) (new_pair_of w x y)
-  _ ← pair_of w x y 0 (lowest_pair w word first)
+  _ ← times (w / 2 - 1) (new_and_pair_of w x y)
+  _ ← and_pair_of w x y 0 (lowest_pair w word first)
   pure word
 
 -- the values of the wires that are made for the pairs of a number

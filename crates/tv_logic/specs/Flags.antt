@@ -1,25 +1,19 @@
 -- The zero flags of the bitwise operations.
 use Rattle.std.specs.Prelude.{ℕ, List, [], ◌∷◌, ◌++◌}
+use Rattle.tv_bits.specs.Times.{times_of}
 use Rattle.tv_bits.specs.Zero.{zero_flag, zero_of, zero_values}
-use Rattle.tv_core.specs.Circuits.{Circuit, fresh, put, pure, ◌>>=◌}
+use Rattle.tv_core.specs.Circuits.{Circuit, pure, ◌>>=◌}
 use Rattle.tv_core.specs.Combinations.{wire}
-use Rattle.tv_logic.specs.declared.answers.Flags.{Flags}
-use Rattle.tv_logic.specs.declared.answers.Words.{Words}
-
--- a new wire that is the product of two
-unfoldable pub both_of : ℕ → ℕ → Circuit ℕ
-both_of a b = do
-  made ← fresh
-  _ ← put (wire a) (wire b) (wire made)
-  pure made
+use Rattle.tv_logic.specs.declared.answers.LogicFlags.{LogicFlags}
+use Rattle.tv_logic.specs.declared.answers.LogicWords.{LogicWords}
 
 -- x or y is 0 exactly where x and y and x xor y are
-unfoldable pub flags_of : Words → Circuit Flags
-flags_of words = do
+unfoldable pub logic_flags_of : LogicWords → Circuit LogicFlags
+logic_flags_of words = do
   and_zero ← zero_of (wire words.and_word)
   xor_zero ← zero_of (wire words.xor_word)
   not_zero ← zero_of (wire words.not_word)
-  or_zero ← both_of and_zero xor_zero
+  or_zero ← times_of (wire and_zero) (wire xor_zero)
   pure (record { and_zero = and_zero; or_zero = or_zero; xor_zero = xor_zero; not_zero = not_zero })
 
 -- the values of the wires that are made, from the words' numbers

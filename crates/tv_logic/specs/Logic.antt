@@ -1,19 +1,20 @@
 -- The bitwise operations of two words, with their zero flags.
-use Rattle.std.specs.Prelude.{◌≡◌, ℕ, ◌<◌, bit_and, bit_or, bit_xor, List, ◌++◌, slice_index}
+use Rattle.std.specs.Prelude.{◌≡◌, ℕ, ◌+◌, ◌/◌, ◌<◌, ◌^◌, bit_and, bit_or, bit_xor, List, ◌++◌, slice_index}
 use Rattle.tv_bits.specs.Bits.{Spells}
 use Rattle.tv_bits.specs.Zero.{zero_flag}
 use Rattle.tv_bits.specs.declared.bit_wires.Bits.{Bits}
 use Rattle.tv_core.specs.Circuits.{Circuit, pure, ◌>>=◌}
-use Rattle.tv_core.specs.Laws.{Assigns, Meets, HasFrom}
-use Rattle.tv_logic.specs.Flags.{flags_of, flag_values}
-use Rattle.tv_logic.specs.Words.{bits_turned, words_of, word_values}
+use Rattle.tv_core.specs.Laws.{Assigns, Meets, HasFrom, Fills, InField}
+use Rattle.tv_logic.specs.Flags.{logic_flags_of, flag_values}
+use Rattle.tv_logic.specs.Words.{bits_turned, logic_words_of, word_values}
 use Rattle.tv_logic.specs.declared.answers.Logic.{Logic}
+use Rattle.tv_word.specs.Widths.{IsWidth}
 
 -- the words of the four operations, and then their zero flags
 unfoldable pub logic_of : ℕ → Bits → Bits → Circuit Logic
 logic_of w x y = do
-  words ← words_of w x y
-  flags ← flags_of words
+  words ← logic_words_of w x y
+  flags ← logic_flags_of words
   pure (record {
     and_word = words.and_word;
     or_word = words.or_word;
@@ -24,6 +25,24 @@ logic_of w x y = do
     xor_zero = flags.xor_zero;
     not_zero = flags.not_zero;
   })
+
+-- how many wires are made: half a word and 10
+abbrev pub logic_made : ℕ → ℕ
+logic_made w = w / 2 + 10
+
+-- what is answered where the first of these wires has this number: the word of ands is the first, the other pairs of
+-- bits and the other words follow, and then each flag but or's with its hint, and or's
+abbrev pub logic_wires : ℕ → ℕ → Logic
+logic_wires w first = record {
+  and_word = first;
+  or_word = first + w / 2;
+  xor_word = first + (w / 2 + 1);
+  not_word = first + (w / 2 + 2);
+  and_zero = first + (w / 2 + 3);
+  or_zero = first + (w / 2 + 9);
+  xor_zero = first + (w / 2 + 5);
+  not_zero = first + (w / 2 + 7);
+}
 
 -- the values of the wires that are made
 abbrev pub logic_values : ℕ → ℕ → ℕ → List ℕ
@@ -53,10 +72,18 @@ pub record AreBelow (wires : ℕ) (answer : Logic) : Type 0 where
 
 -- in an assignment that meets what was put the answer is the operations' words and flags
 abbrev pub LogicIsSound : Type 0
-LogicIsSound = (z : List ℕ) (next : ℕ) (x y : Bits) (a b : ℕ) → Assigns z → Spells z x.first 32 a → Spells z y.first 32 b
-    → Meets z (logic_of 32 x y next).list → IsLogic 32 z (logic_of 32 x y next).answer a b
+LogicIsSound = (w : ℕ) → IsWidth w → (z : List ℕ) (next : ℕ) (x y : Bits) (a b : ℕ) → Assigns z → Spells z x.first w a → Spells z y.first w b
+    → Meets z (logic_of w x y next).list → IsLogic w z (logic_of w x y next).answer a b
 
 -- an assignment that has these values at the wires that were made meets what was put
 abbrev pub LogicIsComplete : Type 0
-LogicIsComplete = (z : List ℕ) (next : ℕ) (x y : Bits) (a b : ℕ) → Assigns z → Spells z x.first 32 a → Spells z y.first 32 b
-    → HasFrom z next (logic_values 32 a b) → Meets z (logic_of 32 x y next).list
+LogicIsComplete = (w : ℕ) → IsWidth w → (z : List ℕ) (next : ℕ) (x y : Bits) (a b : ℕ) → Assigns z → Spells z x.first w a → Spells z y.first w b
+    → HasFrom z next (logic_values w a b) → Meets z (logic_of w x y next).list
+
+-- what the circuit answers and where it ends; the values are as many as the wires that it makes, and those of words
+-- are in the field
+pub record LogicSizes : Type 0 where
+  pub answer : (w : ℕ) → IsWidth w → (x y : Bits) (next : ℕ) → (logic_of w x y next).answer ≡ logic_wires w next
+  pub end : (w : ℕ) → IsWidth w → (x y : Bits) (next : ℕ) → (logic_of w x y next).next ≡ next + logic_made w
+  pub fills : (w : ℕ) → IsWidth w → (x y : Bits) (a b : ℕ) → Fills (logic_of w x y) (logic_values w a b)
+  pub in_field : (w : ℕ) → IsWidth w → (a b : ℕ) → a < 2 ^ w → b < 2 ^ w → InField (logic_values w a b)

@@ -2,23 +2,21 @@
 use Rattle.std.specs.Prelude.{ℕ, ◌-◌, ◌^◌, bit_and, bit_or, bit_xor, List, [], ◌∷◌, ◌++◌}
 use Rattle.tv_bits.specs.Bits.{bits_combination}
 use Rattle.tv_bits.specs.Pairs.{negative}
+use Rattle.tv_bits.specs.Times.{times_of}
 use Rattle.tv_bits.specs.declared.bit_wires.Bits.{Bits}
-use Rattle.tv_core.specs.Circuits.{Circuit, fresh, put, pure, ◌>>=◌}
-use Rattle.tv_core.specs.Combinations.{constant, wire, scaled, less}
+use Rattle.tv_core.specs.Circuits.{Circuit, pure, ◌>>=◌}
+use Rattle.tv_core.specs.Combinations.{constant, scaled, less}
 use Rattle.tv_core.specs.Constraints.{Combination}
 use Rattle.tv_logic.specs.Ands.{and_of, and_values}
-use Rattle.tv_logic.specs.declared.answers.Words.{Words}
+use Rattle.tv_logic.specs.declared.answers.LogicWords.{LogicWords}
 
 -- the word with each bit of x turned
 abbrev pub bits_turned : ℕ → ℕ → ℕ
 bits_turned w x = 2 ^ w - 1 - x
 
 -- a new wire that holds the value of x
-unfoldable pub hold_of : Combination → Circuit ℕ
-hold_of x = do
-  made ← fresh
-  _ ← put x (constant 1) (wire made)
-  pure made
+abbrev pub hold_of : Combination → Circuit ℕ
+hold_of x = times_of x (constant 1)
 
 -- the sum of two words, less k times a wire
 abbrev pub sum_less : ℕ → Bits → Bits → ℕ → ℕ → Combination
@@ -29,8 +27,8 @@ abbrev pub complement : ℕ → Bits → Combination
 complement w y = less (constant (2 ^ w - 1)) (bits_combination y.first w)
 
 -- x or y is x + y less their and, x xor y is x + y less twice their and
-unfoldable pub words_of : ℕ → Bits → Bits → Circuit Words
-words_of w x y = do
+unfoldable pub logic_words_of : ℕ → Bits → Bits → Circuit LogicWords
+logic_words_of w x y = do
   and_word ← and_of w x y
   or_word ← hold_of (sum_less w x y 1 and_word)
   xor_word ← hold_of (sum_less w x y 2 and_word)

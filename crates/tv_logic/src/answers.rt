@@ -21,20 +21,28 @@ pub struct Logic {
     pub not_zero: Wire,
 }
 
-/// The words of the four operations.
-#[derive(Clone, Copy)]
-pub(crate) struct Words {
-    pub(crate) and_word: Wire,
-    pub(crate) or_word: Wire,
-    pub(crate) xor_word: Wire,
-    pub(crate) not_word: Wire,
+/// The words of the four operations: what `logic` has made before it tests them for 0.
+#[derive(Clone, Copy, PartialEq, Eq, Debug)]
+pub struct LogicWords {
+    /// The bits that are 1 in both.
+    pub and_word: Wire,
+    /// The bits that are 1 in one at least.
+    pub or_word: Wire,
+    /// The bits that are 1 in one alone.
+    pub xor_word: Wire,
+    /// The bits that are 0 in the second.
+    pub not_word: Wire,
 }
 
 /// The zero flags of the four words.
-#[derive(Clone, Copy)]
-pub(crate) struct Flags {
-    pub(crate) and_zero: Wire,
-    pub(crate) or_zero: Wire,
-    pub(crate) xor_zero: Wire,
-    pub(crate) not_zero: Wire,
+#[derive(Clone, Copy, PartialEq, Eq, Debug)]
+pub struct LogicFlags {
+    /// 1 where the word of ands is 0, else 0.
+    pub and_zero: Wire,
+    /// 1 where the word of ors is 0, else 0.
+    pub or_zero: Wire,
+    /// 1 where the word of exclusive ors is 0, else 0.
+    pub xor_zero: Wire,
+    /// 1 where the complement is 0, else 0.
+    pub not_zero: Wire,
 }

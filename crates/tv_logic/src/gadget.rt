@@ -1,27 +1,30 @@
-ghost use Rattle.std.specs.Prelude.{◌≡◌, ◌+◌, ◌≤◌, ◌<◌, false, IfOk, OnOk};
+ghost use Rattle.std.specs.Prelude.{◌≡◌, ◌+◌, ◌/◌, ◌≤◌, ◌<◌, ◌^◌, false, IfOk, OnOk};
 ghost use Rattle.tv_core.specs.Giving.{GivesIn};
 ghost use Rattle.tv_core.specs.Sinks.{PutsIn, Grows, Room};
-ghost use Rattle.tv_logic.specs.Logic.{logic_of, logic_values, AreBelow, LogicIsSound, LogicIsComplete};
+ghost use Rattle.tv_logic.specs.Logic.{logic_of, logic_values, logic_made, AreBelow, LogicIsSound, LogicIsComplete, LogicSizes};
+ghost use Rattle.tv_word.specs.Widths.{IsWidth};
 
 use crate::answers::Logic;
 use crate::flags::{fill_flags, flags};
-use crate::words::{fill_words, words};
+use crate::words::{bits_turned, fill_words, words};
 use tv_bits::Bits;
 use tv_core::{Put, Sink, Values};
 
-/// The bitwise and, or and exclusive or of two words, the complement of the second, and their zero flags.
-/// It makes 26 wires and 26 constraints, of 461 terms.
-pub fn logic<S: Sink>(s: &mut S, x: &Bits, y: &Bits) -> Put<Logic>
-    requires room { Room S.meaning s.old 26 26 }
-    requires x_word { x.now.n ≡ 32 }
-    requires y_word { y.now.n ≡ 32 }
-    requires x_made { x.now.first + 32 ≤ S.meaning.wires s.old }
-    requires y_made { y.now.first + 32 ≤ S.meaning.wires s.old }
-    ensures puts { PutsIn S.meaning s.old s.new (logic_of 32 x.now y.now) result }
-    ensures grows { IfOk result (λ _. Grows S.meaning s.old s.new 26 26) }
+/// The bitwise and, or and exclusive or of two words of `W` bits, the complement of the second, and
+/// their zero flags. It makes `W / 2 + 10` wires and constraints: 26 of 461 terms at 32 bits, and
+/// 18 of 245 at 16.
+pub fn logic<const W: u32, S: Sink>(s: &mut S, x: &Bits, y: &Bits) -> Put<Logic>
+    requires width { IsWidth W }
+    requires room { Room S.meaning s.old (logic_made W) (logic_made W) }
+    requires x_word { x.now.n ≡ W }
+    requires y_word { y.now.n ≡ W }
+    requires x_made { x.now.first + W ≤ S.meaning.wires s.old }
+    requires y_made { y.now.first + W ≤ S.meaning.wires s.old }
+    ensures puts { PutsIn S.meaning s.old s.new (logic_of W x.now y.now) result }
+    ensures grows { IfOk result (λ _. Grows S.meaning s.old s.new (logic_made W) (logic_made W)) }
     ensures below { IfOk result (λ answer. AreBelow (S.meaning.wires s.new) answer) }
 {
-    let words = words(s, x, y)?;
+    let words = words::<W, S>(s, x, y)?;
     let flags = flags(s, &words)?;
     Ok(Logic {
         and_word: words.and_word,
@@ -35,25 +38,33 @@ pub fn logic<S: Sink>(s: &mut S, x: &Bits, y: &Bits) -> Put<Logic>
     })
 }
 
-/// Gives the values of the wires that `logic` makes.
-pub fn fill_logic<V: Values>(v: &mut V, x: u32, y: u32) -> Put<()>
-    requires { V.giving.broken v.old ≡ false }
-    ensures gives { GivesIn V.giving v.old v.new (logic_values 32 x y) result }
+/// Gives the values of the wires that `logic` makes for two words of `W` bits.
+pub fn fill_logic<const W: u32, V: Values>(v: &mut V, x: u32, y: u32) -> Put<()>
+    requires width { IsWidth W }
+    requires y_word { y < 2 ^ W }
+    requires whole { V.giving.broken v.old ≡ false }
+    ensures gives { GivesIn V.giving v.old v.new (logic_values W x y) result }
     ensures whole { OnOk result (V.giving.broken v.new ≡ false) }
 {
-    fill_words(v, x, y)?;
-    fill_flags(v, x & y, x | y, x ^ y, !y)?;
-    Ok(())
+    fill_words::<W, V>(v, x, y)?;
+    fill_flags(v, x & y, x | y, x ^ y, bits_turned::<W>(y))
 }
 
-/// Where the inputs spell words and an assignment meets what `logic` put, its answer has the words and
-/// flags of the four operations.
+/// Where the inputs spell words and an assignment meets what `logic` put, its answer has the words
+/// and flags of the four operations.
 pub fn logic_is_sound()
     ensures { LogicIsSound }
 {}
 
-/// Where the inputs spell words and an assignment has the values that `fill_logic` gives for them, it
-/// meets what `logic` put.
+/// Where the inputs spell words and an assignment has the values that `fill_logic` gives for them,
+/// it meets what `logic` put.
 pub fn logic_is_complete()
     ensures { LogicIsComplete }
+{}
+
+/// Says which wires `logic` answers and how many it makes, whatever the next wire is, and that
+/// `fill_logic` gives one value for each of them, below the prime for words.
+#[tactic(auto, using(crate::proofs::LogicLaws::logic_sizes))]
+pub fn logic_fills()
+    ensures { LogicSizes }
 {}

@@ -1,5 +1,6 @@
-//! The bitwise operations of two words, with their zero flags, in 26 constraints and 26 wires. The word of
-//! ands takes 16, two ands in each; the other words are linear in it. Contracts above cite `IsLogic`.
+//! The bitwise operations of two words of 16 or of 32 bits, with their zero flags. The word of ands
+//! takes a constraint for two ands; the other words are linear in it. Contracts above cite
+//! `IsLogic`, and `LogicSizes` for the wires.
 #![tactic(auto)]
 
 mod ands;
@@ -8,5 +9,5 @@ mod flags;
 mod gadget;
 mod words;
 
-pub use answers::Logic;
-pub use gadget::{fill_logic, logic, logic_is_complete, logic_is_sound};
+pub use answers::{Logic, LogicFlags, LogicWords};
+pub use gadget::{fill_logic, logic, logic_fills, logic_is_complete, logic_is_sound};

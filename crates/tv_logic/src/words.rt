@@ -1,33 +1,35 @@
-ghost use Rattle.std.specs.Prelude.{◌≡◌, ◌+◌, ◌-◌, ◌^◌, ◌<◌, ◌≤◌, false, length, max, IfOk, OnOk};
+ghost use Rattle.std.specs.Prelude.{◌≡◌, ◌+◌, ◌-◌, ◌/◌, ◌^◌, ◌<◌, ◌≤◌, false, length, max, IfOk, OnOk};
 ghost use Rattle.tv_core.specs.Combinations.{top};
 ghost use Rattle.tv_core.specs.Giving.{GivesIn};
 ghost use Rattle.tv_core.specs.Sinks.{PutsIn, Grows, Room};
-ghost use Rattle.tv_logic.specs.Words.{hold_of, sum_less, complement, words_of, word_values};
+ghost use Rattle.tv_logic.specs.Words.{bits_turned, hold_of, sum_less, complement, logic_words_of, word_values};
+ghost use Rattle.tv_word.specs.Widths.{IsWidth};
 
-use crate::ands::{and_word, fill_and, word};
-use crate::answers::Words;
-use tv_bits::Bits;
+use crate::ands::{and_word, fill_and};
+use crate::answers::LogicWords;
+use tv_bits::{Bits, times};
 use tv_core::{F, Lc, Put, Sink, Values, Wire, give_values};
 
-/// The words of the four operations. It makes 19 wires and 19 constraints.
-pub(crate) fn words<S: Sink>(s: &mut S, x: &Bits, y: &Bits) -> Put<Words>
-    requires room { Room S.meaning s.old 19 19 }
-    requires x_word { x.now.n ≡ 32 }
-    requires y_word { y.now.n ≡ 32 }
-    requires x_made { x.now.first + 32 ≤ S.meaning.wires s.old }
-    requires y_made { y.now.first + 32 ≤ S.meaning.wires s.old }
-    ensures puts { PutsIn S.meaning s.old s.new (words_of 32 x.now y.now) result }
-    ensures grows { IfOk result (λ _. Grows S.meaning s.old s.new 19 19) }
+/// The words of the four operations. It makes `W / 2 + 3` wires and constraints.
+pub(crate) fn words<const W: u32, S: Sink>(s: &mut S, x: &Bits, y: &Bits) -> Put<LogicWords>
+    requires width { IsWidth W }
+    requires room { Room S.meaning s.old (W / 2 + 3) (W / 2 + 3) }
+    requires x_word { x.now.n ≡ W }
+    requires y_word { y.now.n ≡ W }
+    requires x_made { x.now.first + W ≤ S.meaning.wires s.old }
+    requires y_made { y.now.first + W ≤ S.meaning.wires s.old }
+    ensures puts { PutsIn S.meaning s.old s.new (logic_words_of W x.now y.now) result }
+    ensures grows { IfOk result (λ _. Grows S.meaning s.old s.new (W / 2 + 3) (W / 2 + 3)) }
     ensures and_below { IfOk result (λ made. made.and_word < S.meaning.wires s.new) }
     ensures or_below { IfOk result (λ made. made.or_word < S.meaning.wires s.new) }
     ensures xor_below { IfOk result (λ made. made.xor_word < S.meaning.wires s.new) }
     ensures not_below { IfOk result (λ made. made.not_word < S.meaning.wires s.new) }
 {
-    let and_word = and_word(s, x, y)?;
-    let or_word = hold(s, &sum_less(x, y, F::ONE, and_word))?;
-    let xor_word = hold(s, &sum_less(x, y, F::of(2), and_word))?;
-    let not_word = hold(s, &complement(y))?;
-    Ok(Words {
+    let and_word = and_word::<W, S>(s, x, y)?;
+    let or_word = hold(s, &sum_less::<W>(x, y, F::ONE, and_word))?;
+    let xor_word = hold(s, &sum_less::<W>(x, y, F::of(2), and_word))?;
+    let not_word = hold(s, &complement::<W>(y))?;
+    Ok(LogicWords {
         and_word,
         or_word,
         xor_word,
@@ -43,19 +45,18 @@ fn hold<S: Sink>(s: &mut S, x: &Lc) -> Put<Wire>
     ensures grows { IfOk result (λ _. Grows S.meaning s.old s.new 1 1) }
     ensures below { IfOk result (λ w. w < S.meaning.wires s.new) }
 {
-    let w = s.fresh();
-    s.put(x, &Lc::constant(F::ONE), &Lc::wire(w))?;
-    Ok(w)
+    times(s, x, &Lc::constant(F::ONE))
 }
 
 // The sum of two words, less `k` times a wire.
-fn sum_less(x: &Bits, y: &Bits, k: F, w: Wire) -> Lc
-    requires x_word { x.now.n ≡ 32 }
-    requires y_word { y.now.n ≡ 32 }
-    requires x_within { x.now.first + 32 < 2 ^ 32 }
-    requires y_within { y.now.first + 32 < 2 ^ 32 }
-    ensures terms { result ≡ sum_less 32 x.now y.now k w }
-    ensures top { top result ≤ max (max (x.now.first + 32) (y.now.first + 32)) (w + 1) }
+fn sum_less<const W: u32>(x: &Bits, y: &Bits, k: F, w: Wire) -> Lc
+    requires width { IsWidth W }
+    requires x_word { x.now.n ≡ W }
+    requires y_word { y.now.n ≡ W }
+    requires x_within { x.now.first + W < 2 ^ 32 }
+    requires y_within { y.now.first + W < 2 ^ 32 }
+    ensures terms { result ≡ sum_less W x.now y.now k w }
+    ensures top { top result ≤ max (max (x.now.first + W) (y.now.first + W)) (w + 1) }
 {
     let mut lc = x.lc();
     y.plus_to(&mut lc, F::ONE);
@@ -64,24 +65,44 @@ fn sum_less(x: &Bits, y: &Bits, k: F, w: Wire) -> Lc
 }
 
 // The greatest word less another.
-fn complement(y: &Bits) -> Lc
-    requires y_word { y.now.n ≡ 32 }
-    requires y_within { y.now.first + 32 < 2 ^ 32 }
-    ensures terms { result ≡ complement 32 y.now }
-    ensures top { top result ≤ max 1 (y.now.first + 32) }
+fn complement<const W: u32>(y: &Bits) -> Lc
+    requires width { IsWidth W }
+    requires y_word { y.now.n ≡ W }
+    requires y_within { y.now.first + W < 2 ^ 32 }
+    ensures terms { result ≡ complement W y.now }
+    ensures top { top result ≤ max 1 (y.now.first + W) }
 {
-    let mut lc = Lc::constant(F::of(u64::from(u32::MAX)));
+    let mut lc = Lc::constant(F::from(greatest_word::<W>()));
     y.plus_to(&mut lc, -F::ONE);
     lc
 }
 
+// The greatest word.
+fn greatest_word<const W: u32>() -> u32
+    requires width { IsWidth W }
+    ensures { result ≡ 2 ^ W - 1 }
+{
+    u32::MAX >> (32 - W)
+}
+
+// The word with each bit turned.
+pub(crate) fn bits_turned<const W: u32>(x: u32) -> u32
+    requires width { IsWidth W }
+    requires word { x < 2 ^ W }
+    ensures { result ≡ bits_turned W x }
+{
+    greatest_word::<W>() - x
+}
+
 /// Gives the values of the wires that `words` makes.
-pub(crate) fn fill_words<V: Values>(v: &mut V, x: u32, y: u32) -> Put<()>
-    requires { V.giving.broken v.old ≡ false }
-    ensures gives { GivesIn V.giving v.old v.new (word_values 32 x y) result }
+pub(crate) fn fill_words<const W: u32, V: Values>(v: &mut V, x: u32, y: u32) -> Put<()>
+    requires width { IsWidth W }
+    requires y_word { y < 2 ^ W }
+    requires whole { V.giving.broken v.old ≡ false }
+    ensures gives { GivesIn V.giving v.old v.new (word_values W x y) result }
     ensures whole { OnOk result (V.giving.broken v.new ≡ false) }
 {
-    fill_and(v, x & y)?;
-    give_values(v, &[word(x | y), word(x ^ y), word(!y)])?;
-    Ok(())
+    fill_and::<W, V>(v, x & y)?;
+    let others = [F::from(x | y), F::from(x ^ y), F::from(bits_turned::<W>(y))];
+    give_values(v, &others)
 }

@@ -23,6 +23,16 @@ least_negated_over = refl
 least_fits : fits 32 (signed_product 32 2147483648 1) ≡ true
 least_fits = refl
 
+-- the same of words of 16 bits: 8000 by 8000, ffff by 1, and 8000 by ffff
+least_squared_16 : product_twos 16 32768 32768 / 2 ^ 16 ≡ 16384
+least_squared_16 = refl
+
+minus_one_16 : product_twos 16 65535 1 / 2 ^ 16 ≡ 65535
+minus_one_16 = refl
+
+least_negated_over_16 : fits 16 (signed_product 16 32768 65535) ≡ false
+least_negated_over_16 = refl
+
 -- 7 by 2 and by 0
 seven_by_two : (quotient_in 7 2 ≡ 3) × (remainder_in 7 2 ≡ 1)
 seven_by_two = (refl, refl)

@@ -1,23 +1,29 @@
--- Numbers of 64 bits, given in two halves.
-use Rattle.std.proofs.Common.{◌≡◌, ℕ, ◌+◌, ◌/◌, ◌%◌, ◌^◌, ◌<◌, List, length, ◌∙◌, arith, length-append}
+-- Numbers of 2 w bits, given in two halves.
+use Rattle.std.proofs.Common.{◌≡◌, ℕ, ◌+◌, ◌*◌, ◌/◌, ◌%◌, ◌^◌, ◌<◌, List, length, ◌∙◌, arith, length-append}
 use Rattle.std.specs.Int.{bit_at}
 use Rattle.std.proofs.lemmas.Nat.{shr_split}
 use Rattle.tv_core.proofs.BelowLaws.{length-each_below}
+use Rattle.tv_core.proofs.FieldLaws.{InField-append}
 use Rattle.tv_core.proofs.Meeting.{HasFrom-split}
 use Rattle.tv_core.specs.Below.{each_below}
-use Rattle.tv_core.specs.Laws.{HasFrom}
+use Rattle.tv_core.specs.Laws.{HasFrom, InField}
+use Rattle.tv_bits.proofs.SizeLaws.{bits_in_field}
 use Rattle.tv_bits.proofs.SpelledNumbers.{Spells-from_values, Spells-join}
-use Rattle.tv_bits.specs.Bits.{Spells}
+use Rattle.tv_bits.specs.Bits.{Spells, bits_values}
+use Rattle.tv_word.specs.Widths.{IsWidth}
 use Rattle.tv_muldiv.specs.Weighed.{halves_values}
 
-pub length-halves : (v : ℕ) → length (halves_values 32 v) ≡ 64
-length-halves v =
-    length-append (each_below 32 (bit_at (v % 2 ^ 32))) (each_below 32 (bit_at (v / 2 ^ 32)))
-    ∙ omega (arith, length-each_below 32 (bit_at (v % 2 ^ 32)), length-each_below 32 (bit_at (v / 2 ^ 32)))
+pub length-halves : (w v : ℕ) → length (halves_values w v) ≡ 2 * w
+length-halves w v =
+    length-append (each_below w (bit_at (v % 2 ^ w))) (each_below w (bit_at (v / 2 ^ w)))
+    ∙ omega (arith, length-each_below w (bit_at (v % 2 ^ w)), length-each_below w (bit_at (v / 2 ^ w)))
 
-pub halves_spell : (z : List ℕ) (first v : ℕ) → v < 2 ^ 64 → HasFrom z first (halves_values 32 v) → Spells z first 64 v
-halves_spell z first v small has =
-    let both = HasFrom-split z first (each_below 32 (bit_at (v % 2 ^ 32))) (each_below 32 (bit_at (v / 2 ^ 32))) has in
-    let low = Spells-from_values z first 32 (v % 2 ^ 32) (omega arith) both.0 in
-    let high = Spells-from_values z (first + 32) 32 (v / 2 ^ 32) (omega arith) (rw length-each_below at both.1) in
-    rw shr_split at (Spells-join z first 32 32 (v % 2 ^ 32) (v / 2 ^ 32) low high)
+pub halves_spell : (w : ℕ) → IsWidth w → (z : List ℕ) (first v : ℕ) → v < 2 ^ (2 * w) → HasFrom z first (halves_values w v) → Spells z first (2 * w) v
+halves_spell w width z first v small has =
+    let both = HasFrom-split z first (each_below w (bit_at (v % 2 ^ w))) (each_below w (bit_at (v / 2 ^ w))) has in
+    let low = Spells-from_values z first w (v % 2 ^ w) (grind arith) both.0 in
+    let high = Spells-from_values z (first + w) w (v / 2 ^ w) (grind arith) (rw length-each_below at both.1) in
+    rw (shr_split, (let same : w + w ≡ 2 * w = omega arith in same)) at (Spells-join z first w w (v % 2 ^ w) (v / 2 ^ w) low high)
+
+pub halves_in_field : (w v : ℕ) → InField (halves_values w v)
+halves_in_field w v = InField-append (bits_values (v % 2 ^ w) w) (bits_values (v / 2 ^ w) w) (bits_in_field (v % 2 ^ w) w) (bits_in_field (v / 2 ^ w) w)

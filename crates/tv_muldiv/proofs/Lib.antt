@@ -1,7 +1,5 @@
-pub mod Counts
 pub mod Examples
 pub mod HalvesLaws
-pub mod NonzeroLaws
 pub mod ProductLaws
 pub mod QuotientLaws
 pub mod QuotientNumbers

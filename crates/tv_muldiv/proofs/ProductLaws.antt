@@ -1,5 +1,5 @@
 -- The laws of the product.
-use Rattle.std.proofs.Common.{◌≡◌, ℕ, ◌+◌, ◌-◌, ◌*◌, ◌/◌, ◌%◌, ◌^◌, ◌<◌, ◌≤◌, List, [], inl, inr, refl, sym, subst, ◌∙◌, ap, ap₂, arith, add-zero, mod-eq_of_lt}
+use Rattle.std.proofs.Common.{◌≡◌, ℕ, ◌+◌, ◌-◌, ◌*◌, ◌/◌, ◌%◌, ◌^◌, ◌<◌, ◌≤◌, List, [], inl, inr, refl, sym, subst, ◌∙◌, ap, ap₂, arith, length-append, add-zero, mod-eq_of_lt}
 use Rattle.std.specs.Prelude.{slice_index}
 use Rattle.std.specs.Int.{bit_at}
 use Rattle.std.proofs.Math.Nat.{div-one}
@@ -7,6 +7,7 @@ use Rattle.std.proofs.lemmas.Bool.{cases_eq}
 use Rattle.std.proofs.lemmas.Nat.{mul-le, mul-mod}
 use Rattle.std.proofs.lemmas.Nat.Bits.{bit_at-lt}
 use Rattle.tv_core.proofs.CombinationLaws.{value-wire}
+use Rattle.tv_core.proofs.FieldLaws.{InField-append}
 use Rattle.tv_core.proofs.Meeting.{Meets-split, Meets-join, HasFrom-split}
 use Rattle.tv_core.specs.Circuits.{here, fresh, put, pure, ◌>>=◌}
 use Rattle.tv_core.specs.Combinations.{wire}
@@ -19,19 +20,24 @@ use Rattle.tv_bits.proofs.SpellingLaws.{new_bits_next}
 use Rattle.tv_bits.specs.Bit.{IsBit}
 use Rattle.tv_bits.specs.Bits.{Spells, spelled, bits_combination, new_bits_of}
 use Rattle.tv_bits.specs.declared.bit_wires.Bits.{Bits}
-use Rattle.tv_muldiv.proofs.HalvesLaws.{length-halves, halves_spell}
-use Rattle.tv_muldiv.proofs.NonzeroLaws.{nonzero_sound, nonzero_complete}
-use Rattle.tv_muldiv.specs.Nonzero.{nonzero_of, nonzero_flag, nonzero_values}
-use Rattle.tv_muldiv.specs.Product.{product_bits_of, product_of, ProductIsSound, ProductIsComplete}
+use Rattle.tv_muldiv.proofs.HalvesLaws.{length-halves, halves_spell, halves_in_field}
+use Rattle.tv_bits.proofs.NonzeroLaws.{nonzero_answer, nonzero_sound, nonzero_complete, nonzero_sizes}
+use Rattle.tv_word.proofs.WidthLaws.{width_short}
+use Rattle.tv_word.specs.Widths.{IsWidth}
+use Rattle.tv_bits.specs.Nonzero.{nonzero_of, nonzero_flag, nonzero_values}
+use Rattle.tv_muldiv.specs.Product.{product_bits_of, product_of, ProductIsSound, ProductIsComplete, ProductSizes}
 use Rattle.tv_muldiv.specs.Weighed.{halves_values}
 
 -- ---- numbers
 -- a number below P, and one below 2 P that is the same modulo P and as odd, are one
-exact : (m n : ℕ) → m < P → n < 2 ^ 64 → m % P ≡ n % P → m % 2 ≡ n % 2 → m ≡ n
-exact m n small long same parity = omega arith
+exact : (w : ℕ) → IsWidth w → (m n : ℕ) → m < P → n < 2 ^ (2 * w) → m % P ≡ n % P → m % 2 ≡ n % 2 → m ≡ n
+exact w width m n small long same parity = grind arith
 
-product_small : (a b : ℕ) → a < 2 ^ 32 → b < 2 ^ 32 → a * b ≤ 4294967295 * 4294967295
-product_small a b h k = mul-le a b 4294967295 4294967295 (omega arith) (omega arith)
+product_most : (w : ℕ) → IsWidth w → (a b : ℕ) → a < 2 ^ w → b < 2 ^ w → a * b ≤ (2 ^ w - 1) * (2 ^ w - 1)
+product_most w width a b h k = mul-le a b (2 ^ w - 1) (2 ^ w - 1) (omega arith) (omega arith)
+
+pub product_small : (w : ℕ) → IsWidth w → (a b : ℕ) → a < 2 ^ w → b < 2 ^ w → (a * b < P) × (a * b < 2 ^ (2 * w))
+product_small w width a b h k = let most = product_most w width a b h k in (grind arith, grind arith)
 
 bits_product : (p q : ℕ) → IsBit p → IsBit q → IsBit (p * q)
 bits_product p q h k = omega (arith, mul-le p q 1 1 (omega arith) (omega arith))
@@ -54,87 +60,104 @@ module _ (z : List ℕ) (assigns : Assigns z) where
   lowest : {n v : ℕ} (first : ℕ) → 0 < n → Spells z first n v → value (wire first) z ≡ bit_at v 0
   lowest first some s = value-wire assigns first ∙ ap (λ k. slice_index z k) (sym (add-zero first)) ∙ Spells-bit_at s 0 some
 
-  module _ (next : ℕ) (x y : Bits) (a b : ℕ) (p : Spells z x.first 32 a) (q : Spells z y.first 32 b) where
-    bits_of_product : IsBit (slice_index z next) → ((i : ℕ) → i < 63 → IsBit (slice_index z (next + 1 + i))) → (i : ℕ) → i < 64 → IsBit (slice_index z (next + i))
+  module _ (w : ℕ) (width : IsWidth w) (next : ℕ) (x y : Bits) (a b : ℕ) (p : Spells z x.first w a) (q : Spells z y.first w b) where
+    bits_of_product : IsBit (slice_index z next) → ((i : ℕ) → i < 2 * w - 1 → IsBit (slice_index z (next + 1 + i))) → (i : ℕ) → i < 2 * w → IsBit (slice_index z (next + i))
     bits_of_product first rest i h = elim (cases_eq i 0) [
       | inl none ↦ let same : next ≡ next + i = omega arith in subst (λ k. IsBit (slice_index z k)) same first
       | inr some ↦ let same : next + 1 + (i - 1) ≡ next + i = omega arith in subst (λ k. IsBit (slice_index z k)) same (rest (i - 1) (omega arith))
     ]
 
-    product_bits_sound : Meets z (product_bits_of 32 x y next).list → Spells z next 64 (a * b)
+    product_bits_sound : Meets z (product_bits_of w x y next).list → Spells z next (2 * w) (a * b)
     unfolding product_bits_of new_bits_of fresh here put pure ◌>>=◌
     product_bits_sound meets =
-        let both = Meets-split z (new_bits_of 63 (next + 1)).list _ meets in
+        let short = width_short w width in
+        let some : 0 < w = grind arith in
+        let both = Meets-split z (new_bits_of (2 * w - 1) (next + 1)).list _ meets in
         let first : bit_at a 0 * bit_at b 0 % P ≡ slice_index z next =
         sym (ap₂ (λ m n. m * n % P) (lowest x.first (omega arith) p) (lowest y.first (omega arith) q)) ∙ both.1.0 ∙ value-wire assigns next in
         let small = bits_product (bit_at a 0) (bit_at b 0) (bit_at-lt a 0) (bit_at-lt b 0) in
-        let rest = (bits_spell z 63 (next + 1) assigns both.0).bits in
-        let s : Spells z next 64 (spelled z next 64) = record { bits = bits_of_product (omega arith) rest; number = refl } in
-        let whole : a * b % P ≡ spelled z next 64 % P =
+        let rest = (bits_spell z (2 * w - 1) (next + 1) assigns both.0).bits in
+        let s : Spells z next (2 * w) (spelled z next (2 * w)) = record { bits = bits_of_product (omega arith) rest; number = refl } in
+        let whole : a * b % P ≡ spelled z next (2 * w) % P =
         sym (ap₂ (λ m n. m * n % P) (value-bits_below p (omega arith)) (value-bits_below q (omega arith))) ∙ both.1.1.0 ∙ value-bits s in
-        let parity : a * b % 2 ≡ spelled z next 64 % 2 =
-        odd (a * b) (spelled z next 64) (bit_at a 0 * bit_at b 0) (slice_index z next) (first_of_product a b) small first (sym (value-wire assigns next) ∙ lowest next (omega arith) s) in
-        let same : spelled z next 64 ≡ a * b = sym (exact (a * b) (spelled z next 64) (omega (arith, product_small a b (Spells-below p) (Spells-below q))) (Spells-below s) whole parity) in
-        subst (λ v. Spells z next 64 v) same s
+        let parity : a * b % 2 ≡ spelled z next (2 * w) % 2 =
+        odd (a * b) (spelled z next (2 * w)) (bit_at a 0 * bit_at b 0) (slice_index z next) (first_of_product a b) small first (sym (value-wire assigns next) ∙ lowest next (omega arith) s) in
+        let same : spelled z next (2 * w) ≡ a * b = sym (exact w width (a * b) (spelled z next (2 * w)) (product_small w width a b (Spells-below p) (Spells-below q)).0 (Spells-below s) whole parity) in
+        subst (λ v. Spells z next (2 * w) v) same s
 
-    product_bits_complete : Spells z next 64 (a * b) → Meets z (product_bits_of 32 x y next).list
+    product_bits_complete : Spells z next (2 * w) (a * b) → Meets z (product_bits_of w x y next).list
     unfolding product_bits_of new_bits_of fresh here put pure ◌>>=◌
     product_bits_complete s =
-        let rest : (i : ℕ) → i < 63 → IsBit (slice_index z (next + 1 + i)) =
+        let short = width_short w width in
+        let some : 0 < w = grind arith in
+        let rest : (i : ℕ) → i < 2 * w - 1 → IsBit (slice_index z (next + 1 + i)) =
         λ i h. let same : next + (1 + i) ≡ next + 1 + i = omega arith in subst (λ k. IsBit (slice_index z k)) same (s.bits (1 + i) (omega arith)) in
         let small = bits_product (bit_at a 0) (bit_at b 0) (bit_at-lt a 0) (bit_at-lt b 0) in
         let first : bit_at a 0 * bit_at b 0 % P ≡ bit_at (a * b) 0 = omega (arith, first_of_product a b) in
-        Meets-join z (new_bits_of 63 (next + 1)).list _ (bits_met z 63 (next + 1) assigns rest) (
+        Meets-join z (new_bits_of (2 * w - 1) (next + 1)).list _ (bits_met z (2 * w - 1) (next + 1) assigns rest) (
           ap₂ (λ m n. m * n % P) (lowest x.first (omega arith) p) (lowest y.first (omega arith) q) ∙ first ∙ sym (lowest next (omega arith) s),
           (ap₂ (λ m n. m * n % P) (value-bits_below p (omega arith)) (value-bits_below q (omega arith)) ∙ sym (value-bits s), tt),
         )
 
-product_bits_answer : (x y : Bits) (next : ℕ) → (product_bits_of 32 x y next).answer ≡ next
+product_bits_answer : (w : ℕ) (x y : Bits) (next : ℕ) → (product_bits_of w x y next).answer ≡ next
 unfolding product_bits_of fresh put pure ◌>>=◌
-product_bits_answer x y next = refl
+product_bits_answer w x y next = refl
 
-product_bits_next : (x y : Bits) (next : ℕ) → (product_bits_of 32 x y next).next ≡ next + 64
+product_bits_next : (w : ℕ) → IsWidth w → (x y : Bits) (next : ℕ) → (product_bits_of w x y next).next ≡ next + 2 * w
 unfolding product_bits_of fresh put pure ◌>>=◌
-product_bits_next x y next = new_bits_next 63 (next + 1) ∙ omega arith
+product_bits_next w width x y next = new_bits_next (2 * w - 1) (next + 1) ∙ grind arith
 
 -- ---- the product
-pub product_answer : (x y : Bits) (next : ℕ) → (product_of 32 x y next).answer ≡ record { low = record { first = next; n = 32 }; high = record { first = next + 32; n = 32 }; over = next + 64 }
+pub product_answer : (w : ℕ) → IsWidth w → (x y : Bits) (next : ℕ) → (product_of w x y next).answer ≡ record { low = record { first = next; n = w }; high = record { first = next + w; n = w }; over = next + 2 * w }
 unfolding product_of nonzero_of fresh put pure ◌>>=◌
-product_answer x y next = rw (product_bits_answer, product_bits_next) refl
+product_answer w width x y next = rw (product_bits_answer, product_bits_next w width x y next) refl
 
-pub product_next : (x y : Bits) (next : ℕ) → (product_of 32 x y next).next ≡ next + 66
+pub product_next : (w : ℕ) → IsWidth w → (x y : Bits) (next : ℕ) → (product_of w x y next).next ≡ next + (2 * w + 2)
 unfolding product_of nonzero_of fresh put pure ◌>>=◌
-product_next x y next = omega (arith, product_bits_next x y next)
+product_next w width x y next = omega (arith, product_bits_next w width x y next)
 
 -- the circuit in two parts
-product_parts : (z : List ℕ) (x y : Bits) (next : ℕ) → Meets z (product_of 32 x y next).list
-    → Meets z (product_bits_of 32 x y next).list × Meets z (nonzero_of (bits_combination (next + 32) 32) (next + 64)).list
+product_parts : (w : ℕ) → IsWidth w → (z : List ℕ) (x y : Bits) (next : ℕ) → Meets z (product_of w x y next).list
+    → Meets z (product_bits_of w x y next).list × Meets z (nonzero_of (bits_combination (next + w) w) (next + 2 * w)).list
 unfolding product_of pure ◌>>=◌
-product_parts z x y next meets =
-    let both = rw (product_bits_answer, product_bits_next) at (Meets-split z (product_bits_of 32 x y next).list _ meets) in
-    (both.0, (Meets-split z (nonzero_of (bits_combination (next + 32) 32) (next + 64)).list [] both.1).0)
+product_parts w width z x y next meets =
+    let both = rw (product_bits_answer, product_bits_next w width x y next) at (Meets-split z (product_bits_of w x y next).list _ meets) in
+    (both.0, (Meets-split z (nonzero_of (bits_combination (next + w) w) (next + 2 * w)).list [] both.1).0)
 
-product_whole : (z : List ℕ) (x y : Bits) (next : ℕ) → Meets z (product_bits_of 32 x y next).list → Meets z (nonzero_of (bits_combination (next + 32) 32) (next + 64)).list
-    → Meets z (product_of 32 x y next).list
+product_whole : (w : ℕ) → IsWidth w → (z : List ℕ) (x y : Bits) (next : ℕ) → Meets z (product_bits_of w x y next).list → Meets z (nonzero_of (bits_combination (next + w) w) (next + 2 * w)).list
+    → Meets z (product_of w x y next).list
 unfolding product_of pure ◌>>=◌
-product_whole z x y next p q =
-    Meets-join z (product_bits_of 32 x y next).list _ p (rw (product_bits_answer, product_bits_next) (Meets-join z (nonzero_of (bits_combination (next + 32) 32) (next + 64)).list [] q tt))
+product_whole w width z x y next p q =
+    Meets-join z (product_bits_of w x y next).list _ p (rw (product_bits_answer, product_bits_next w width x y next) (Meets-join z (nonzero_of (bits_combination (next + w) w) (next + 2 * w)).list [] q tt))
 
 pub product_sound : ProductIsSound
-product_sound z next x y a b assigns p q meets =
-    let both = product_parts z x y next meets in
-    let s = product_bits_sound z assigns next x y a b p q both.0 in
-    let high = Spells-high z next 32 32 (a * b) s in
-    rw product_answer (record {
-      low = Spells-low z next 32 32 (a * b) s;
+product_sound w width z next x y a b assigns p q meets =
+    let short = width_short w width in
+    let both = product_parts w width z x y next meets in
+    let s = product_bits_sound z assigns w width next x y a b p q both.0 in
+    let two = subst (λ n. Spells z next n (a * b)) (let same : 2 * w ≡ w + w = omega arith in same) s in
+    let high = Spells-high z next w w (a * b) two in
+    rw (product_answer w width x y next) (record {
+      low = Spells-low z next w w (a * b) two;
       high = high;
-      over = nonzero_sound z (next + 64) (bits_combination (next + 32) 32) assigns both.1 ∙ ap nonzero_flag (value-bits_below high (omega arith));
+      over = rw nonzero_answer at (nonzero_sound z (next + 2 * w) (bits_combination (next + w) w) assigns both.1) ∙ ap nonzero_flag (value-bits_below high (omega arith));
     })
 
 pub product_complete : ProductIsComplete
-product_complete z next x y a b assigns p q has =
-    let both = rw length-halves at (HasFrom-split z next (halves_values 32 (a * b)) (nonzero_values (a * b / 2 ^ 32)) has) in
-    let s = halves_spell z next (a * b) (omega (arith, product_small a b (Spells-below p) (Spells-below q))) both.0 in
-    let high = value-bits_below (Spells-high z next 32 32 (a * b) s) (omega arith) in
-    product_whole z x y next (product_bits_complete z assigns next x y a b p q s)
-    (nonzero_complete z (next + 64) (bits_combination (next + 32) 32) assigns (rw (← high) at both.1))
+product_complete w width z next x y a b assigns p q has =
+    let short = width_short w width in
+    let both = rw length-halves at (HasFrom-split z next (halves_values w (a * b)) (nonzero_values (a * b / 2 ^ w)) has) in
+    let s = halves_spell w width z next (a * b) (product_small w width a b (Spells-below p) (Spells-below q)).1 both.0 in
+    let two = subst (λ n. Spells z next n (a * b)) (let same : 2 * w ≡ w + w = omega arith in same) s in
+    let high = value-bits_below (Spells-high z next w w (a * b) two) (omega arith) in
+    product_whole w width z x y next (product_bits_complete z assigns w width next x y a b p q s)
+    (nonzero_complete z (next + 2 * w) (bits_combination (next + w) w) assigns (rw (← high) at both.1))
+
+-- ---- how many values there are, and that they are numbers of the field
+pub product_sizes : ProductSizes
+product_sizes = record {
+  answer = product_answer;
+  end = product_next;
+  fills = λ w width x y a b next. omega (arith, product_next w width x y next, length-append (halves_values w (a * b)) (nonzero_values (a * b / 2 ^ w)), length-halves w (a * b));
+  in_field = λ w a b. InField-append (halves_values w (a * b)) (nonzero_values (a * b / 2 ^ w)) (halves_in_field w (a * b)) (nonzero_sizes.in_field (a * b / 2 ^ w));
+}

@@ -10,16 +10,17 @@ use Rattle.tv_bits.proofs.ZeroLaws.{zero_flag-zero, zero_flag-other}
 use Rattle.tv_bits.specs.Bit.{IsBit}
 use Rattle.tv_bits.specs.Order.{IsPrefixDifference}
 use Rattle.tv_bits.specs.Zero.{zero_flag}
+use Rattle.tv_word.specs.Widths.{IsWidth}
 use Rattle.tv_muldiv.specs.Quotient.{quotient_in, remainder_in, gate_in, above_in}
 
--- what the constraints say of numbers: of the words a and b, the quotient q, the remainder r, whether b is 0,
+-- what the constraints say of numbers: of the words a and b of w bits, the quotient q, the remainder r, whether b is 0,
 -- the gate, and one less than by how much b is above r
-pub record Divides (a b q r by_zero gate above : ℕ) : Type 0 where
+pub record Divides (w a b q r by_zero gate above : ℕ) : Type 0 where
   pub bit : IsBit by_zero
   pub zero : by_zero * b % P ≡ 0
   pub gated : by_zero * ((a + q) % P) % P ≡ gate
   pub whole : q * b % P ≡ ((a + (P - r)) % P + (P - gate)) % P
-  pub below : IsPrefixDifference 8 4 b r (((above + 1) % P + (P - by_zero)) % P)
+  pub below : IsPrefixDifference (w / 4) 4 b r (((above + 1) % P + (P - by_zero)) % P)
 
 -- ---- the two cases of the definitions
 quotient-zero : (a b : ℕ) → b ≡ 0 → quotient_in a b ≡ 0
@@ -40,14 +41,14 @@ gate-zero a b none = rw none refl
 gate-other : (a b : ℕ) → b ≢ 0 → gate_in a b ≡ 0
 gate-other a b some = grind (arith, nat_tests)
 
-pub quotient-small : (a b : ℕ) → a < 2 ^ 32 → quotient_in a b < 2 ^ 32
-quotient-small a b h = elim (cases_eq b 0) [
+pub quotient-small : (a b most : ℕ) → a < most → quotient_in a b < most
+quotient-small a b most h = elim (cases_eq b 0) [
   | inl none ↦ omega (arith, quotient-zero a b none)
   | inr some ↦ omega (arith, quotient-other a b some, div-le_self a b)
 ]
 
-pub remainder-small : (a b : ℕ) → b < 2 ^ 32 → remainder_in a b < 2 ^ 32
-remainder-small a b h = elim (cases_eq b 0) [
+pub remainder-small : (a b most : ℕ) → b < most → remainder_in a b < most
+remainder-small a b most h = elim (cases_eq b 0) [
   | inl none ↦ omega (arith, remainder-zero a b none)
   | inr some ↦ let less : a % b < b = mod-lt a (omega arith) in omega (arith, remainder-other a b some)
 ]
@@ -56,30 +57,30 @@ remainder-below : (a b : ℕ) → b ≢ 0 → remainder_in a b < b
 remainder-below a b some = let less : a % b < b = mod-lt a (omega arith) in omega (arith, remainder-other a b some)
 
 -- ---- by how much the divisor is above the remainder
-module _ (a b : ℕ) where
-  above-zero : b ≡ 0 → above_in 32 a b ≡ 0
-  above-zero none = first_difference-none 8 4 b (remainder_in a b) (omega (arith, none))
+module _ (w : ℕ) (width : IsWidth w) (a b : ℕ) where
+  above-zero : b ≡ 0 → above_in w a b ≡ 0
+  above-zero none = first_difference-none (w / 4) 4 b (remainder_in a b) (omega (arith, none))
 
-  above-some : b < 2 ^ 32 → b ≢ 0 → 0 < above_in 32 a b
-  above-some h some = first_difference-some 32 8 4 b (remainder_in a b) (omega arith) (omega arith) h (remainder-below a b some)
+  above-some : b < 2 ^ w → b ≢ 0 → 0 < above_in w a b
+  above-some h some = first_difference-some w (w / 4) 4 b (remainder_in a b) (grind arith) (grind arith) h (remainder-below a b some)
 
-  pub above-below : b < 2 ^ 32 → above_in 32 a b < 2 ^ 8
+  pub above-below : b < 2 ^ w → above_in w a b < 2 ^ (w / 4)
   above-below h = elim (cases_eq b 0) [
-    | inl none ↦ omega (arith, above-zero none)
-    | inr some ↦ first_difference-below 32 8 4 b (remainder_in a b) (omega arith) (omega arith) h (remainder-below a b some)
+    | inl none ↦ let zero = above-zero none in grind arith
+    | inr some ↦ first_difference-below w (w / 4) 4 b (remainder_in a b) (grind arith) (grind arith) h (remainder-below a b some)
   ]
 
   -- the difference that the constraints hold
-  pub above-difference : b < 2 ^ 32 → ((above_in 32 a b - 1 + 1) % P + (P - zero_flag b)) % P ≡ above_in 32 a b
+  pub above-difference : b < 2 ^ w → ((above_in w a b - 1 + 1) % P + (P - zero_flag b)) % P ≡ above_in w a b
   above-difference h = elim (cases_eq b 0) [
     | inl none ↦ omega (arith, above-zero none, zero_flag-zero b none)
-    | inr some ↦ omega (arith, above-some h some, above-below h, zero_flag-other b some)
+    | inr some ↦ let below = above-below h in let small : above_in w a b < 2 ^ 8 = grind arith in omega (arith, above-some h some, zero_flag-other b some)
   ]
 
-  above-is : b < 2 ^ 32 → IsPrefixDifference 8 4 b (remainder_in a b) (above_in 32 a b)
+  above-is : b < 2 ^ w → IsPrefixDifference (w / 4) 4 b (remainder_in a b) (above_in w a b)
   above-is h = elim (cases_eq b 0) [
-    | inl none ↦ rw (above-zero none, remainder-zero a b none, none) (IsPrefixDifference-none 8 4 0 (omega arith) (omega arith))
-    | inr some ↦ IsPrefixDifference-first 32 8 4 b (remainder_in a b) (omega arith) (omega arith) h (remainder-below a b some)
+    | inl none ↦ rw (above-zero none, remainder-zero a b none, none) (IsPrefixDifference-none (w / 4) 4 0 (grind arith) (grind arith))
+    | inr some ↦ IsPrefixDifference-first w (w / 4) 4 b (remainder_in a b) (grind arith) (grind arith) h (remainder-below a b some)
   ]
 
 -- ---- from the constraints to the division
@@ -89,24 +90,25 @@ no_gate flag c gate none e = sym e ∙ ap (λ n. n * c % P) none ∙ ap (λ n. n
 gate_is : (flag c gate : ℕ) → flag ≡ 1 → flag * c % P ≡ gate → gate ≡ c % P
 gate_is flag c gate one e = sym e ∙ ap (λ n. n * c % P) one ∙ ap (λ n. n % P) (one-mul c)
 
-whole_of : (a r m gate : ℕ) → a < 2 ^ 32 → r < 2 ^ 32 → m ≤ 4294967295 * 4294967295 → gate ≡ 0 → m % P ≡ ((a + (P - r)) % P + (P - gate)) % P → m + r ≡ a
-whole_of a r m gate h k l none e = omega arith
+whole_of : (w : ℕ) → IsWidth w → (a r m gate : ℕ) → a < 2 ^ w → r < 2 ^ w → m ≤ (2 ^ w - 1) * (2 ^ w - 1) → gate ≡ 0 → m % P ≡ ((a + (P - r)) % P + (P - gate)) % P → m + r ≡ a
+whole_of w width a r m gate h k l none e = grind arith
 
-nothing_of : (a q r m gate : ℕ) → a < 2 ^ 32 → q < 2 ^ 32 → r < 2 ^ 32 → m ≡ 0 → gate ≡ (a + q) % P % P → m % P ≡ ((a + (P - r)) % P + (P - gate)) % P → (q ≡ 0) × (r ≡ 0)
-nothing_of a q r m gate h k l none is e = (omega arith, omega arith)
+nothing_of : (w : ℕ) → IsWidth w → (a q r m gate : ℕ) → a < 2 ^ w → q < 2 ^ w → r < 2 ^ w → m ≡ 0 → gate ≡ (a + q) % P % P → m % P ≡ ((a + (P - r)) % P + (P - gate)) % P → (q ≡ 0) × (r ≡ 0)
+nothing_of w width a q r m gate h k l none is e = (grind arith, grind arith)
 
 pub record IsDivided (a b q r by_zero : ℕ) : Type 0 where
   pub quot : q ≡ quotient_in a b
   pub rem : r ≡ remainder_in a b
   pub zero : by_zero ≡ zero_flag b
 
-module _ (a b q r by_zero gate above : ℕ) (h : a < 2 ^ 32) (k : b < 2 ^ 32) (l : q < 2 ^ 32) (m : r < 2 ^ 32) (small : above < 2 ^ 8) (d : Divides a b q r by_zero gate above) where
+module _ (w : ℕ) (width : IsWidth w) (a b q r by_zero gate above : ℕ) (h : a < 2 ^ w) (k : b < 2 ^ w) (l : q < 2 ^ w) (m : r < 2 ^ w) (small : above < 2 ^ (w / 4))
+    (d : Divides w a b q r by_zero gate above) where
   divided_by_some : by_zero ≡ 0 → IsDivided a b q r by_zero
   divided_by_some none =
-      let difference : ((above + 1) % P + (P - by_zero)) % P ≡ above + 1 = omega arith in
-      let less : r < b = IsPrefixDifference-above 32 8 4 b r (above + 1) (omega arith) (omega arith) k m (omega arith) (omega arith) (rw difference at d.below) in
+      let difference : ((above + 1) % P + (P - by_zero)) % P ≡ above + 1 = grind arith in
+      let less : r < b = IsPrefixDifference-above w (w / 4) 4 b r (above + 1) (grind arith) (grind arith) k m (omega arith) (omega arith) (rw difference at d.below) in
       let some : b ≢ 0 = λ zero. omega arith in
-      let whole : q * b + r ≡ a = whole_of a r (q * b) gate h m (mul-le q b 4294967295 4294967295 (omega arith) (omega arith)) (no_gate by_zero ((a + q) % P) gate none d.gated) d.whole in
+      let whole : q * b + r ≡ a = whole_of w width a r (q * b) gate h m (mul-le q b (2 ^ w - 1) (2 ^ w - 1) (omega arith) (omega arith)) (no_gate by_zero ((a + q) % P) gate none d.gated) d.whole in
       record {
         quot = sym (quotient-other a b some ∙ ap (λ n. n / b) (sym whole) ∙ div-mul-add q b r less);
         rem = sym (remainder-other a b some ∙ ap (λ n. n % b) (sym whole) ∙ mod-mul-add q b r less);
@@ -115,8 +117,8 @@ module _ (a b q r by_zero gate above : ℕ) (h : a < 2 ^ 32) (k : b < 2 ^ 32) (l
 
   divided_by_zero : by_zero ≡ 1 → IsDivided a b q r by_zero
   divided_by_zero one =
-      let zero : b ≡ 0 = let e = gate_is by_zero b 0 one d.zero in omega arith in
-      let nothing = nothing_of a q r (q * b) gate h l m (ap (λ n. q * n) zero ∙ mul-zero q) (gate_is by_zero ((a + q) % P) gate one d.gated) d.whole in
+      let zero : b ≡ 0 = let e = gate_is by_zero b 0 one d.zero in grind arith in
+      let nothing = nothing_of w width a q r (q * b) gate h l m (ap (λ n. q * n) zero ∙ mul-zero q) (gate_is by_zero ((a + q) % P) gate one d.gated) d.whole in
       record { quot = nothing.0 ∙ sym (quotient-zero a b zero); rem = nothing.1 ∙ sym (remainder-zero a b zero); zero = one ∙ sym (zero_flag-zero b zero) }
 
   pub Divides-sound : IsDivided a b q r by_zero
@@ -126,7 +128,7 @@ module _ (a b q r by_zero gate above : ℕ) (h : a < 2 ^ 32) (k : b < 2 ^ 32) (l
   ]
 
 -- ---- and the other way round
-module _ (a b : ℕ) (h : a < 2 ^ 32) (k : b < 2 ^ 32) where
+module _ (w : ℕ) (width : IsWidth w) (a b : ℕ) (h : a < 2 ^ w) (k : b < 2 ^ w) where
   flag_bit : IsBit (zero_flag b)
   flag_bit = elim (cases_eq b 0) [ inl none ↦ omega (arith, zero_flag-zero b none) | inr some ↦ omega (arith, zero_flag-other b some) ]
 
@@ -138,7 +140,7 @@ module _ (a b : ℕ) (h : a < 2 ^ 32) (k : b < 2 ^ 32) where
 
   gated : zero_flag b * ((a + quotient_in a b) % P) % P ≡ gate_in a b
   gated = elim (cases_eq b 0) [
-    | inl none ↦ ap (λ n. n * ((a + quotient_in a b) % P) % P) (zero_flag-zero b none) ∙ omega (arith, quotient-zero a b none, gate-zero a b none)
+    | inl none ↦ ap (λ n. n * ((a + quotient_in a b) % P) % P) (zero_flag-zero b none) ∙ (let quot = quotient-zero a b none in let gate = gate-zero a b none in grind arith)
     | inr some ↦ ap (λ n. n * ((a + quotient_in a b) % P) % P) (zero_flag-other b some) ∙ ap (λ n. n % P) (zero-mul ((a + quotient_in a b) % P)) ∙ sym (gate-other a b some)
   ]
 
@@ -147,15 +149,15 @@ module _ (a b : ℕ) (h : a < 2 ^ 32) (k : b < 2 ^ 32) where
 
   whole : quotient_in a b * b % P ≡ ((a + (P - remainder_in a b)) % P + (P - gate_in a b)) % P
   whole = elim (cases_eq b 0) [
-    | inl none ↦ ap (λ n. quotient_in a b * n % P) none ∙ ap (λ n. n % P) (mul-zero (quotient_in a b)) ∙ omega (arith, remainder-zero a b none, gate-zero a b none)
-    | inr some ↦ omega (arith, whole_some some, gate-other a b some)
+    | inl none ↦ ap (λ n. quotient_in a b * n % P) none ∙ ap (λ n. n % P) (mul-zero (quotient_in a b)) ∙ (let rem = remainder-zero a b none in let gate = gate-zero a b none in grind arith)
+    | inr some ↦ let whole = whole_some some in let gate = gate-other a b some in grind arith
   ]
 
-  pub Divides-complete : Divides a b (quotient_in a b) (remainder_in a b) (zero_flag b) (gate_in a b) (above_in 32 a b - 1)
+  pub Divides-complete : Divides w a b (quotient_in a b) (remainder_in a b) (zero_flag b) (gate_in a b) (above_in w a b - 1)
   Divides-complete = record {
     bit = flag_bit;
     zero = no_divisor;
     gated = gated;
     whole = whole;
-    below = let same = above-difference a b k in rw same (above-is a b k);
+    below = let same = above-difference w width a b k in rw same (above-is w width a b k);
   }

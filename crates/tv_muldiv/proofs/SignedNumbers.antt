@@ -1,38 +1,40 @@
 -- Signed numbers as residues modulo P.
-use Rattle.std.proofs.Common.{◌⊎◌, ◌≡◌, ◌≢◌, ℕ, zero, suc, ◌+◌, ◌-◌, ◌*◌, ◌/◌, ◌%◌, ◌^◌, ◌<◌, ◌≤◌, ℤ, pos, negsuc, neg_ℤ, ◌*ℤ◌, ◌-ℤ◌, Bool, true, false, if◌then◌else◌, inl, inr, refl, sym, ◌∙◌, ap, ap₂, arith, zero-mul, mul-zero, mul_comm}
+use Rattle.std.proofs.Common.{◌⊎◌, ◌≡◌, ◌≢◌, ℕ, zero, suc, ◌+◌, ◌-◌, ◌*◌, ◌%◌, ◌^◌, ◌<◌, ◌≤◌, ℤ, pos, negsuc, neg_ℤ, ◌*ℤ◌, ◌-ℤ◌, w64, Bool, true, false, if◌then◌else◌, inl, inr, refl, sym, ◌∙◌, ap, ap₂, arith, zero-mul, mul-zero, mul_comm}
+use Rattle.std.specs.Int.{bit_at, cast_unsigned}
 use Rattle.std.proofs.Math.IntN.{pos-*ℤ-pos, pos-*ℤ-negsuc, negsuc-*ℤ-pos, negsuc-*ℤ-negsuc}
 use Rattle.std.proofs.lemmas.Bool.{cases_lt, lt-ltb, le-ltb}
 use Rattle.std.proofs.lemmas.Int.{ints}
 use Rattle.std.proofs.lemmas.Nat.{mul-le}
 use Rattle.tv_core.proofs.Residues.{mul-mod_same, mul-mod_zero}
 use Rattle.tv_core.specs.declared.field.TheConstants.{P}
-use Rattle.tv_muldiv.proofs.NonzeroLaws.{nonzero_flag-zero, nonzero_flag-other}
-use Rattle.tv_muldiv.specs.Nonzero.{nonzero_flag}
-use Rattle.tv_muldiv.specs.SignedHigh.{excess_in}
+use Rattle.tv_bits.proofs.NonzeroLaws.{nonzero_flag-zero, nonzero_flag-other}
+use Rattle.tv_bits.specs.Nonzero.{nonzero_flag}
+use Rattle.tv_muldiv.specs.SignedHigh.{product_twos, excess_in}
 use Rattle.tv_word.specs.Twos.{twos, fits}
+use Rattle.tv_word.specs.Widths.{IsWidth}
 use Rattle.tv_word.specs.Word.{signed}
 
 -- ---- a number and its negation, in two's complement
-signed-low : (a : ℕ) → a < 2 ^ 31 → signed 32 a ≡ pos a
-signed-low a h = ap (λ t. if t then pos a else pos a -ℤ pos (2 ^ 32)) (lt-ltb a (2 ^ 31) h)
+signed-low : (w a : ℕ) → a < 2 ^ (w - 1) → signed w a ≡ pos a
+signed-low w a h = ap (λ t. if t then pos a else pos a -ℤ pos (2 ^ w)) (lt-ltb a (2 ^ (w - 1)) h)
 
 below_zero : (a n : ℕ) → a ≤ n → pos a -ℤ pos n ≡ neg_ℤ (pos (n - a))
 below_zero a n h = omega (arith, ints)
 
-signed-high : (a : ℕ) → 2 ^ 31 ≤ a → a < 2 ^ 32 → signed 32 a ≡ neg_ℤ (pos (2 ^ 32 - a))
-signed-high a h k = ap (λ t. if t then pos a else pos a -ℤ pos (2 ^ 32)) (le-ltb a (2 ^ 31) h) ∙ below_zero a (2 ^ 32) (omega arith)
+signed-high : (w a : ℕ) → 2 ^ (w - 1) ≤ a → a < 2 ^ w → signed w a ≡ neg_ℤ (pos (2 ^ w - a))
+signed-high w a h k = ap (λ t. if t then pos a else pos a -ℤ pos (2 ^ w)) (le-ltb a (2 ^ (w - 1)) h) ∙ below_zero a (2 ^ w) (omega arith)
 
-twos-neg : (m : ℕ) → m ≤ 2 ^ 64 → twos 64 (neg_ℤ (pos m)) ≡ (2 ^ 64 - m) % 2 ^ 64
-twos-neg zero h = refl
-twos-neg (suc m) h = omega arith
+twos-neg : (w : ℕ) → IsWidth w → (m : ℕ) → m ≤ 2 ^ (2 * w) → twos (2 * w) (neg_ℤ (pos m)) ≡ (2 ^ (2 * w) - m) % 2 ^ (2 * w)
+twos-neg w width zero h = grind arith
+twos-neg w width (suc m) h = grind arith
 
-fits-neg : (m : ℕ) → m ≤ 2 ^ 31 → fits 32 (neg_ℤ (pos m)) ≡ true
-fits-neg zero h = refl
-fits-neg (suc m) h = lt-ltb m (2 ^ 31) (omega arith)
+fits-neg : (w : ℕ) → IsWidth w → (m : ℕ) → m ≤ 2 ^ (w - 1) → fits w (neg_ℤ (pos m)) ≡ true
+fits-neg w width zero h = lt-ltb 0 (2 ^ (w - 1)) (grind arith)
+fits-neg w width (suc m) h = lt-ltb m (2 ^ (w - 1)) (omega arith)
 
-fits_not-neg : (m : ℕ) → 2 ^ 31 < m → fits 32 (neg_ℤ (pos m)) ≡ false
-fits_not-neg zero h = absurd (omega arith)
-fits_not-neg (suc m) h = le-ltb m (2 ^ 31) (omega arith)
+fits_not-neg : (w m : ℕ) → 2 ^ (w - 1) < m → fits w (neg_ℤ (pos m)) ≡ false
+fits_not-neg w zero h = absurd (omega arith)
+fits_not-neg w (suc m) h = le-ltb m (2 ^ (w - 1)) (omega arith)
 
 -- ---- products of signs
 pos-neg : (m n : ℕ) → pos m *ℤ neg_ℤ (pos n) ≡ neg_ℤ (pos (m * n))
@@ -92,64 +94,90 @@ Stands-product v w s t m n p q = record {
         let right = opposite w b a f in
         omega (arith, mul_comm a w, mul_comm a b)
 
--- ---- what bits spell in two's complement, modulo P
-pub Stands-signed : (a : ℕ) → a < 2 ^ 32 → Stands ((a % 2 ^ 31 + (P - 2 ^ 31) * (a / 2 ^ 31 % 2)) % P) (signed 32 a) (2 ^ 31)
-Stands-signed a h = elim (cases_lt a (2 ^ 31)) [
-  | inl low ↦ record { size = a; small = omega arith; is = inl (signed-low a low, omega arith) }
-  | inr high ↦ record { size = 2 ^ 32 - a; small = omega arith; is = inr (signed-high a high h, omega arith) }
+-- ---- what bits spell in two's complement, modulo P: of n bits the highest counts negatively
+abbrev pub signed_value : ℕ → ℕ → ℕ
+signed_value n v = (v % 2 ^ (n - 1) + (P - 2 ^ (n - 1) % P) % P * bit_at v (n - 1)) % P
+
+pub Stands-signed : (w : ℕ) → IsWidth w → (a : ℕ) → a < 2 ^ w → Stands (signed_value w a) (signed w a) (2 ^ (w - 1))
+Stands-signed w width a h = elim (cases_lt a (2 ^ (w - 1))) [
+  | inl low ↦ record { size = a; small = omega arith; is = inl (signed-low w a low, grind arith) }
+  | inr high ↦ record { size = 2 ^ w - a; small = grind arith; is = inr (signed-high w a high h, grind arith) }
 ]
 
-exact_pos : (v m n : ℕ) → m ≤ 2 ^ 62 → n < 2 ^ 64 → v % P ≡ m % P → v % P ≡ (n % 2 ^ 63 + (P - 2 ^ 63) * (n / 2 ^ 63 % 2)) % P → n ≡ m % 2 ^ 64
-exact_pos v m n small long e f = omega arith
+-- the most that the absolute value of a product of two words is
+abbrev pub most_product : ℕ → ℕ
+most_product w = 2 ^ (w - 1) * 2 ^ (w - 1)
 
-exact_neg : (v m n : ℕ) → m ≤ 2 ^ 62 → n < 2 ^ 64 → (v + m) % P ≡ 0 → v % P ≡ (n % 2 ^ 63 + (P - 2 ^ 63) * (n / 2 ^ 63 % 2)) % P → n ≡ (2 ^ 64 - m) % 2 ^ 64
-exact_neg v m n small long e f = omega arith
+product_short : (w : ℕ) → IsWidth w → (m : ℕ) → m ≤ most_product w → m ≤ 2 ^ (2 * w)
+product_short w width m h = grind arith
 
--- 64 bits that are a small signed number modulo P are it in two's complement, and the other way round
-pub Stands-exact : (v n : ℕ) (s : ℤ) → Stands v s (2 ^ 62) → n < 2 ^ 64 → v % P ≡ (n % 2 ^ 63 + (P - 2 ^ 63) * (n / 2 ^ 63 % 2)) % P → n ≡ twos 64 s
-Stands-exact v n s p long e = elim p.is [
-  | inl x ↦ exact_pos v p.size n p.small long x.1 e ∙ sym (ap (twos 64) x.0)
-  | inr x ↦ exact_neg v p.size n p.small long x.1 e ∙ sym (ap (twos 64) x.0 ∙ twos-neg p.size (omega (arith, p.small)))
+exact_pos : (w : ℕ) → IsWidth w → (v m n : ℕ) → m ≤ most_product w → n < 2 ^ (2 * w) → v % P ≡ m % P → v % P ≡ signed_value (2 * w) n → n ≡ m % 2 ^ (2 * w)
+exact_pos w width v m n small long e f = grind arith
+
+exact_neg : (w : ℕ) → IsWidth w → (v m n : ℕ) → m ≤ most_product w → n < 2 ^ (2 * w) → (v + m) % P ≡ 0 → v % P ≡ signed_value (2 * w) n → n ≡ (2 ^ (2 * w) - m) % 2 ^ (2 * w)
+exact_neg w width v m n small long e f = grind arith
+
+-- 2 w bits that are a small signed number modulo P are it in two's complement, and the other way round
+pub Stands-exact : (w : ℕ) → IsWidth w → (v n : ℕ) (s : ℤ) → Stands v s (most_product w) → n < 2 ^ (2 * w) → v % P ≡ signed_value (2 * w) n → n ≡ twos (2 * w) s
+Stands-exact w width v n s p long e = elim p.is [
+  | inl x ↦ exact_pos w width v p.size n p.small long x.1 e ∙ sym (ap (twos (2 * w)) x.0)
+  | inr x ↦ exact_neg w width v p.size n p.small long x.1 e ∙ sym (ap (twos (2 * w)) x.0 ∙ twos-neg w width p.size (product_short w width p.size p.small))
 ]
 
-meets_pos : (v m n : ℕ) → m ≤ 2 ^ 62 → n ≡ m % 2 ^ 64 → v % P ≡ m % P → v % P ≡ (n % 2 ^ 63 + (P - 2 ^ 63) * (n / 2 ^ 63 % 2)) % P
-meets_pos v m n small e f = omega arith
+meets_pos : (w : ℕ) → IsWidth w → (v m n : ℕ) → m ≤ most_product w → n ≡ m % 2 ^ (2 * w) → v % P ≡ m % P → v % P ≡ signed_value (2 * w) n
+meets_pos w width v m n small e f = grind arith
 
-meets_neg : (v m n : ℕ) → m ≤ 2 ^ 62 → n ≡ (2 ^ 64 - m) % 2 ^ 64 → (v + m) % P ≡ 0 → v % P ≡ (n % 2 ^ 63 + (P - 2 ^ 63) * (n / 2 ^ 63 % 2)) % P
-meets_neg v m n small e f = omega arith
+meets_neg : (w : ℕ) → IsWidth w → (v m n : ℕ) → m ≤ most_product w → n ≡ (2 ^ (2 * w) - m) % 2 ^ (2 * w) → (v + m) % P ≡ 0 → v % P ≡ signed_value (2 * w) n
+meets_neg w width v m n small e f = grind arith
 
-pub Stands-meets : (v n : ℕ) (s : ℤ) → Stands v s (2 ^ 62) → n ≡ twos 64 s → v % P ≡ (n % 2 ^ 63 + (P - 2 ^ 63) * (n / 2 ^ 63 % 2)) % P
-Stands-meets v n s p e = elim p.is [
-  | inl x ↦ meets_pos v p.size n p.small (e ∙ ap (twos 64) x.0) x.1
-  | inr x ↦ meets_neg v p.size n p.small (e ∙ ap (twos 64) x.0 ∙ twos-neg p.size (omega (arith, p.small))) x.1
+pub Stands-meets : (w : ℕ) → IsWidth w → (v n : ℕ) (s : ℤ) → Stands v s (most_product w) → n ≡ twos (2 * w) s → v % P ≡ signed_value (2 * w) n
+Stands-meets w width v n s p e = elim p.is [
+  | inl x ↦ meets_pos w width v p.size n p.small (e ∙ ap (twos (2 * w)) x.0) x.1
+  | inr x ↦ meets_neg w width v p.size n p.small (e ∙ ap (twos (2 * w)) x.0 ∙ twos-neg w width p.size (product_short w width p.size p.small)) x.1
 ]
 
-pub twos-below : (s : ℤ) → twos 64 s < 2 ^ 64
-twos-below (pos n) = omega arith
-twos-below (negsuc n) = omega arith
+pub twos-below : (w : ℕ) → IsWidth w → (s : ℤ) → twos (2 * w) s < 2 ^ (2 * w)
+twos-below w width (pos n) = grind arith
+twos-below w width (negsuc n) = grind arith
+
+-- ---- the code's product: a signed number of 64 bits, without its sign
+cast_neg : (w : ℕ) → IsWidth w → (m : ℕ) → m ≤ most_product w → cast_unsigned w64 (neg_ℤ (pos m)) % 2 ^ (2 * w) ≡ twos (2 * w) (neg_ℤ (pos m))
+cast_neg w width zero h = refl
+cast_neg w width (suc m) h = grind arith
+
+cast_twos : (w : ℕ) → IsWidth w → (v : ℕ) (s : ℤ) → Stands v s (most_product w) → cast_unsigned w64 s % 2 ^ (2 * w) ≡ twos (2 * w) s
+cast_twos w width v s p = elim p.is [
+  | inl x ↦ ap (λ t. cast_unsigned w64 t % 2 ^ (2 * w)) x.0 ∙ sym (ap (twos (2 * w)) x.0)
+  | inr x ↦ ap (λ t. cast_unsigned w64 t % 2 ^ (2 * w)) x.0 ∙ cast_neg w width p.size p.small ∙ sym (ap (twos (2 * w)) x.0)
+]
+
+pub product_cast : (w : ℕ) → IsWidth w → (a b : ℕ) → a < 2 ^ w → b < 2 ^ w → cast_unsigned w64 (signed w a *ℤ signed w b) % 2 ^ (2 * w) ≡ product_twos w a b
+product_cast w width a b h k =
+    cast_twos w width _ (signed w a *ℤ signed w b)
+    (Stands-product (signed_value w a) (signed_value w b) (signed w a) (signed w b) (2 ^ (w - 1)) (2 ^ (w - 1)) (Stands-signed w width a h) (Stands-signed w width b k))
 
 -- ---- whether it fits a word
-excess_pos : (m n : ℕ) → m ≤ 2 ^ 62 → n ≡ m % 2 ^ 64 → (m < 2 ^ 31 → excess_in 32 n ≡ 0) × (2 ^ 31 ≤ m → excess_in 32 n ≢ 0)
-excess_pos m n small e = (λ h. omega arith, λ h none. omega arith)
+excess_pos : (w : ℕ) → IsWidth w → (m n : ℕ) → m ≤ most_product w → n ≡ m % 2 ^ (2 * w) → (m < 2 ^ (w - 1) → excess_in w n ≡ 0) × (2 ^ (w - 1) ≤ m → excess_in w n ≢ 0)
+excess_pos w width m n small e = (λ h. grind arith, λ h none. grind arith)
 
-excess_neg : (m n : ℕ) → m ≤ 2 ^ 62 → n ≡ (2 ^ 64 - m) % 2 ^ 64 → (m ≤ 2 ^ 31 → excess_in 32 n ≡ 0) × (2 ^ 31 < m → excess_in 32 n ≢ 0)
-excess_neg m n small e = (λ h. omega arith, λ h none. omega arith)
+excess_neg : (w : ℕ) → IsWidth w → (m n : ℕ) → m ≤ most_product w → n ≡ (2 ^ (2 * w) - m) % 2 ^ (2 * w) → (m ≤ 2 ^ (w - 1) → excess_in w n ≡ 0) × (2 ^ (w - 1) < m → excess_in w n ≢ 0)
+excess_neg w width m n small e = (λ h. grind arith, λ h none. grind arith)
 
-as_flag : (s : ℤ) (t : Bool) (d : ℕ) → fits 32 s ≡ t → nonzero_flag d ≡ (if t then 0 else 1) → nonzero_flag d ≡ (if fits 32 s then 0 else 1)
-as_flag s t d e f = f ∙ ap (λ b. if b then 0 else 1) (sym e)
+as_flag : (w : ℕ) (s : ℤ) (t : Bool) (d : ℕ) → fits w s ≡ t → nonzero_flag d ≡ (if t then 0 else 1) → nonzero_flag d ≡ (if fits w s then 0 else 1)
+as_flag w s t d e f = f ∙ ap (λ b. if b then 0 else 1) (sym e)
 
-pub over_flag : (v n : ℕ) (s : ℤ) → Stands v s (2 ^ 62) → n ≡ twos 64 s → nonzero_flag (excess_in 32 n) ≡ (if fits 32 s then 0 else 1)
-over_flag v n s p e = elim p.is [
+pub over_flag : (w : ℕ) → IsWidth w → (v n : ℕ) (s : ℤ) → Stands v s (most_product w) → n ≡ twos (2 * w) s → nonzero_flag (excess_in w n) ≡ (if fits w s then 0 else 1)
+over_flag w width v n s p e = elim p.is [
   | inl x ↦
-      let both = excess_pos p.size n p.small (e ∙ ap (twos 64) x.0) in
-      elim (cases_lt p.size (2 ^ 31)) [
-        | inl low ↦ as_flag s true (excess_in 32 n) (ap (fits 32) x.0 ∙ lt-ltb p.size (2 ^ 31) low) (nonzero_flag-zero (excess_in 32 n) (both.0 low))
-        | inr high ↦ as_flag s false (excess_in 32 n) (ap (fits 32) x.0 ∙ le-ltb p.size (2 ^ 31) high) (nonzero_flag-other (excess_in 32 n) (both.1 high))
+      let both = excess_pos w width p.size n p.small (e ∙ ap (twos (2 * w)) x.0) in
+      elim (cases_lt p.size (2 ^ (w - 1))) [
+        | inl low ↦ as_flag w s true (excess_in w n) (ap (fits w) x.0 ∙ lt-ltb p.size (2 ^ (w - 1)) low) (nonzero_flag-zero (excess_in w n) (both.0 low))
+        | inr high ↦ as_flag w s false (excess_in w n) (ap (fits w) x.0 ∙ le-ltb p.size (2 ^ (w - 1)) high) (nonzero_flag-other (excess_in w n) (both.1 high))
       ]
   | inr x ↦
-      let both = excess_neg p.size n p.small (e ∙ ap (twos 64) x.0 ∙ twos-neg p.size (omega (arith, p.small))) in
-      elim (cases_lt (2 ^ 31) p.size) [
-        | inl high ↦ as_flag s false (excess_in 32 n) (ap (fits 32) x.0 ∙ fits_not-neg p.size high) (nonzero_flag-other (excess_in 32 n) (both.1 high))
-        | inr low ↦ as_flag s true (excess_in 32 n) (ap (fits 32) x.0 ∙ fits-neg p.size low) (nonzero_flag-zero (excess_in 32 n) (both.0 low))
+      let both = excess_neg w width p.size n p.small (e ∙ ap (twos (2 * w)) x.0 ∙ twos-neg w width p.size (product_short w width p.size p.small)) in
+      elim (cases_lt (2 ^ (w - 1)) p.size) [
+        | inl high ↦ as_flag w s false (excess_in w n) (ap (fits w) x.0 ∙ fits_not-neg w p.size high) (nonzero_flag-other (excess_in w n) (both.1 high))
+        | inr low ↦ as_flag w s true (excess_in w n) (ap (fits w) x.0 ∙ fits-neg w width p.size low) (nonzero_flag-zero (excess_in w n) (both.0 low))
       ]
 ]

@@ -1,5 +1,10 @@
-pub mod Nonzero
 pub mod Product
 pub mod Quotient
 pub mod SignedHigh
 pub mod Weighed
+pub use Rattle.tv_bits.specs.Bits
+pub use Rattle.tv_bits.specs.Zero
+pub use Rattle.tv_core.specs.Combinations
+pub use Rattle.tv_core.specs.Giving
+pub use Rattle.tv_core.specs.Sinks
+pub use Rattle.tv_word.specs.Widths

@@ -4,14 +4,15 @@ use Rattle.tv_bits.specs.Bits.{Spells, bits_combination, new_bits_of}
 use Rattle.tv_bits.specs.declared.bit_wires.Bits.{Bits}
 use Rattle.tv_core.specs.Circuits.{Circuit, fresh, put, pure, ◌>>=◌}
 use Rattle.tv_core.specs.Combinations.{wire}
-use Rattle.tv_core.specs.Laws.{Assigns, Meets, HasFrom}
-use Rattle.tv_muldiv.specs.Nonzero.{nonzero_flag, nonzero_of, nonzero_values}
+use Rattle.tv_core.specs.Laws.{Assigns, Meets, HasFrom, Fills, InField}
+use Rattle.tv_bits.specs.Nonzero.{nonzero_flag, nonzero_of, nonzero_values}
+use Rattle.tv_word.specs.Widths.{IsWidth}
 use Rattle.tv_muldiv.specs.Weighed.{halves_values}
 use Rattle.tv_muldiv.specs.declared.records.Product.{Product}
 
 -- a and b being words of w bits, the wires spell the low and the high word of their product, and one holds 1
 -- exactly where the high word is another than 0
-pub record IsProduct (z : List ℕ) (w a b : ℕ) (made : Product) : Type 0 where
+pub record IsProduct (w : ℕ) (z : List ℕ) (made : Product) (a b : ℕ) : Type 0 where
   pub low : Spells z made.low.first w (a * b % 2 ^ w)
   pub high : Spells z made.high.first w (a * b / 2 ^ w)
   pub over : slice_index z made.over ≡ nonzero_flag (a * b / 2 ^ w)
@@ -39,10 +40,18 @@ product_values w a b = halves_values w (a * b) ++ nonzero_values (a * b / 2 ^ w)
 
 -- where x and y spell words, an assignment that meets what was put has their product at the wires that were answered
 abbrev pub ProductIsSound : Type 0
-ProductIsSound = (z : List ℕ) (next : ℕ) (x y : Bits) (a b : ℕ) → Assigns z → Spells z x.first 32 a → Spells z y.first 32 b
-    → Meets z (product_of 32 x y next).list → IsProduct z 32 a b (product_of 32 x y next).answer
+ProductIsSound = (w : ℕ) → IsWidth w → (z : List ℕ) (next : ℕ) (x y : Bits) (a b : ℕ) → Assigns z → Spells z x.first w a → Spells z y.first w b
+    → Meets z (product_of w x y next).list → IsProduct w z (product_of w x y next).answer a b
 
 -- where x and y spell words, an assignment that has these values at the wires that were made meets what was put
 abbrev pub ProductIsComplete : Type 0
-ProductIsComplete = (z : List ℕ) (next : ℕ) (x y : Bits) (a b : ℕ) → Assigns z → Spells z x.first 32 a → Spells z y.first 32 b
-    → HasFrom z next (product_values 32 a b) → Meets z (product_of 32 x y next).list
+ProductIsComplete = (w : ℕ) → IsWidth w → (z : List ℕ) (next : ℕ) (x y : Bits) (a b : ℕ) → Assigns z → Spells z x.first w a → Spells z y.first w b
+    → HasFrom z next (product_values w a b) → Meets z (product_of w x y next).list
+
+-- what the circuit answers and where it ends; the values are as many as the wires that it makes, and in the field
+pub record ProductSizes : Type 0 where
+  pub answer : (w : ℕ) → IsWidth w → (x y : Bits) (next : ℕ)
+      → (product_of w x y next).answer ≡ record { low = record { first = next; n = w }; high = record { first = next + w; n = w }; over = next + 2 * w }
+  pub end : (w : ℕ) → IsWidth w → (x y : Bits) (next : ℕ) → (product_of w x y next).next ≡ next + (2 * w + 2)
+  pub fills : (w : ℕ) → IsWidth w → (x y : Bits) (a b : ℕ) → Fills (product_of w x y) (product_values w a b)
+  pub in_field : (w a b : ℕ) → InField (product_values w a b)

@@ -1,15 +1,17 @@
 -- The quotient and the remainder of two words.
-use Rattle.std.specs.Prelude.{◌≡◌, ℕ, ◌-◌, ◌/◌, ◌%◌, ◌==◌, if◌then◌else◌, List, [], ◌∷◌, ◌++◌, slice_index}
+use Rattle.std.specs.Prelude.{◌≡◌, ℕ, ◌+◌, ◌-◌, ◌*◌, ◌^◌, ◌<◌, ◌/◌, ◌%◌, ◌==◌, if◌then◌else◌, List, [], ◌∷◌, ◌++◌, slice_index}
 use Rattle.tv_bits.specs.Bit.{bit_of}
 use Rattle.tv_bits.specs.Bits.{Spells, bits_combination, bits_values, new_bits_of}
 use Rattle.tv_bits.specs.Order.{first_difference}
 use Rattle.tv_bits.specs.Prefixes.{prefix_difference_of, prefix_difference_values}
+use Rattle.tv_bits.specs.Rows.{one_row}
 use Rattle.tv_bits.specs.Zero.{zero_flag}
 use Rattle.tv_bits.specs.declared.bit_wires.Bits.{Bits}
 use Rattle.tv_core.specs.Circuits.{Circuit, fresh, put, pure, ◌>>=◌}
 use Rattle.tv_core.specs.Combinations.{wire, constant, scaled, less}
-use Rattle.tv_core.specs.Laws.{Assigns, Meets, HasFrom}
+use Rattle.tv_core.specs.Laws.{Assigns, Meets, HasFrom, Fills, InField}
 use Rattle.tv_muldiv.specs.declared.records.Quot.{Quot}
+use Rattle.tv_word.specs.Widths.{IsWidth}
 
 -- the quotient, rounded down, and the remainder; both are 0 where the divisor is
 abbrev pub quotient_in : ℕ → ℕ → ℕ
@@ -20,7 +22,7 @@ remainder_in a b = if b == 0 then 0 else a % b
 
 -- a and b being words of w bits, the wires spell the quotient and the remainder of a by b, and one holds 1
 -- exactly where b is 0
-pub record IsQuotient (z : List ℕ) (w a b : ℕ) (made : Quot) : Type 0 where
+pub record IsQuotient (w : ℕ) (z : List ℕ) (made : Quot) (a b : ℕ) : Type 0 where
   pub quot : Spells z made.quot.first w (quotient_in a b)
   pub rem : Spells z made.rem.first w (remainder_in a b)
   pub by_zero : slice_index z made.by_zero ≡ zero_flag b
@@ -60,7 +62,7 @@ division_of w x y made = do
 unfoldable pub remainder_below_of : ℕ → Bits → Quot → Circuit (Unit {0})
 remainder_below_of w y made = do
   above ← new_bits_of (w / 4)
-  prefix_difference_of (record { first = y.first; n = w }) made.rem (less (bits_combination above.first (w / 4) ++ constant 1) (wire made.by_zero)) (w / 4) 4
+  prefix_difference_of (one_row (record { first = y.first; n = w })) (one_row made.rem) (less (bits_combination above.first (w / 4) ++ constant 1) (wire made.by_zero)) (w / 4) 4
 
 -- division: the wires of an answer, that it is the quotient and the remainder, and that this is below the divisor
 unfoldable pub quotient_of : ℕ → Bits → Bits → Circuit Quot
@@ -90,10 +92,19 @@ quotient_values w a b = words_values w a b ++ (zero_flag b ∷ gate_in a b ∷ a
 -- where x and y spell words, an assignment that meets what was put has their quotient and remainder at the
 -- wires that were answered
 abbrev pub QuotientIsSound : Type 0
-QuotientIsSound = (z : List ℕ) (next : ℕ) (x y : Bits) (a b : ℕ) → Assigns z → Spells z x.first 32 a → Spells z y.first 32 b
-    → Meets z (quotient_of 32 x y next).list → IsQuotient z 32 a b (quotient_of 32 x y next).answer
+QuotientIsSound = (w : ℕ) → IsWidth w → (z : List ℕ) (next : ℕ) (x y : Bits) (a b : ℕ) → Assigns z → Spells z x.first w a → Spells z y.first w b
+    → Meets z (quotient_of w x y next).list → IsQuotient w z (quotient_of w x y next).answer a b
 
 -- where x and y spell words, an assignment that has these values at the wires that were made meets what was put
 abbrev pub QuotientIsComplete : Type 0
-QuotientIsComplete = (z : List ℕ) (next : ℕ) (x y : Bits) (a b : ℕ) → Assigns z → Spells z x.first 32 a → Spells z y.first 32 b
-    → HasFrom z next (quotient_values 32 a b) → Meets z (quotient_of 32 x y next).list
+QuotientIsComplete = (w : ℕ) → IsWidth w → (z : List ℕ) (next : ℕ) (x y : Bits) (a b : ℕ) → Assigns z → Spells z x.first w a → Spells z y.first w b
+    → HasFrom z next (quotient_values w a b) → Meets z (quotient_of w x y next).list
+
+-- what the circuit answers and where it ends; the values are as many as the wires that it makes, and in the field
+-- for words
+pub record QuotientSizes : Type 0 where
+  pub answer : (w : ℕ) (x y : Bits) (next : ℕ)
+      → (quotient_of w x y next).answer ≡ record { quot = record { first = next; n = w }; rem = record { first = next + w; n = w }; by_zero = next + 2 * w }
+  pub end : (w : ℕ) (x y : Bits) (next : ℕ) → (quotient_of w x y next).next ≡ next + (2 * w + w / 4 + 4)
+  pub fills : (w : ℕ) (x y : Bits) (a b : ℕ) → Fills (quotient_of w x y) (quotient_values w a b)
+  pub in_field : (w : ℕ) → IsWidth w → (a b : ℕ) → a < 2 ^ w → InField (quotient_values w a b)

@@ -5,12 +5,13 @@ use Rattle.tv_bits.specs.Bits.{Spells, bits_combination, new_bits_of}
 use Rattle.tv_bits.specs.declared.bit_wires.Bits.{Bits}
 use Rattle.tv_core.specs.Circuits.{Circuit, put, pure, ◌>>=◌}
 use Rattle.tv_core.specs.Constraints.{Combination}
-use Rattle.tv_core.specs.Laws.{Assigns, Meets, HasFrom}
+use Rattle.tv_core.specs.Laws.{Assigns, Meets, HasFrom, Fills, InField}
 use Rattle.tv_core.specs.declared.field.TheConstants.{P}
-use Rattle.tv_muldiv.specs.Nonzero.{nonzero_of, nonzero_values}
+use Rattle.tv_bits.specs.Nonzero.{nonzero_of, nonzero_values}
 use Rattle.tv_muldiv.specs.Weighed.{signed_combination, halves_values}
 use Rattle.tv_muldiv.specs.declared.records.High.{High}
 use Rattle.tv_word.specs.Twos.{twos, fits}
+use Rattle.tv_word.specs.Widths.{IsWidth}
 use Rattle.tv_word.specs.Word.{signed}
 
 -- the product of two words of w bits as signed numbers, and its 2 w bits in two's complement
@@ -22,7 +23,7 @@ product_twos w a b = twos (2 * w) (signed_product w a b)
 
 -- a and b being words of w bits, the wires spell the high word of their signed product, and one holds 1
 -- exactly where that product is no signed number of w bits
-pub record IsSignedHigh (z : List ℕ) (w a b : ℕ) (made : High) : Type 0 where
+pub record IsSignedHigh (w : ℕ) (z : List ℕ) (made : High) (a b : ℕ) : Type 0 where
   pub high : Spells z made.high.first w (product_twos w a b / 2 ^ w)
   pub over : slice_index z made.over ≡ (if fits w (signed_product w a b) then 0 else 1)
 
@@ -56,10 +57,17 @@ signed_high_values w a b = halves_values w (product_twos w a b) ++ nonzero_value
 -- where x and y spell words, an assignment that meets what was put has the high word of their signed product
 -- at the wires that were answered
 abbrev pub SignedHighIsSound : Type 0
-SignedHighIsSound = (z : List ℕ) (next : ℕ) (x y : Bits) (a b : ℕ) → Assigns z → Spells z x.first 32 a → Spells z y.first 32 b
-    → Meets z (signed_high_of 32 x y next).list → IsSignedHigh z 32 a b (signed_high_of 32 x y next).answer
+SignedHighIsSound = (w : ℕ) → IsWidth w → (z : List ℕ) (next : ℕ) (x y : Bits) (a b : ℕ) → Assigns z → Spells z x.first w a → Spells z y.first w b
+    → Meets z (signed_high_of w x y next).list → IsSignedHigh w z (signed_high_of w x y next).answer a b
 
 -- where x and y spell words, an assignment that has these values at the wires that were made meets what was put
 abbrev pub SignedHighIsComplete : Type 0
-SignedHighIsComplete = (z : List ℕ) (next : ℕ) (x y : Bits) (a b : ℕ) → Assigns z → Spells z x.first 32 a → Spells z y.first 32 b
-    → HasFrom z next (signed_high_values 32 a b) → Meets z (signed_high_of 32 x y next).list
+SignedHighIsComplete = (w : ℕ) → IsWidth w → (z : List ℕ) (next : ℕ) (x y : Bits) (a b : ℕ) → Assigns z → Spells z x.first w a → Spells z y.first w b
+    → HasFrom z next (signed_high_values w a b) → Meets z (signed_high_of w x y next).list
+
+-- what the circuit answers and where it ends; the values are as many as the wires that it makes, and in the field
+pub record SignedHighSizes : Type 0 where
+  pub answer : (w : ℕ) (x y : Bits) (next : ℕ) → (signed_high_of w x y next).answer ≡ record { high = record { first = next + w; n = w }; over = next + 2 * w }
+  pub end : (w : ℕ) (x y : Bits) (next : ℕ) → (signed_high_of w x y next).next ≡ next + (2 * w + 2)
+  pub fills : (w : ℕ) (x y : Bits) (a b : ℕ) → Fills (signed_high_of w x y) (signed_high_values w a b)
+  pub in_field : (w a b : ℕ) → InField (signed_high_values w a b)

@@ -1,60 +1,70 @@
-ghost use Rattle.std.specs.Prelude.{◌≡◌, ◌+◌, ◌≤◌, ◌<◌, [], ◌∷◌, false, IfOk, OnOk};
+ghost use Rattle.std.specs.Prelude.{◌≡◌, ◌+◌, ◌*◌, ◌/◌, ◌^◌, ◌≤◌, ◌<◌, [], ◌∷◌, false, IfOk, OnOk};
 ghost use Rattle.tv_bits.specs.Zero.{zero_flag};
 ghost use Rattle.tv_core.specs.Giving.{GivesIn};
 ghost use Rattle.tv_core.specs.Sinks.{PutsIn, Grows, Room};
-ghost use Rattle.tv_muldiv.specs.Quotient.{quotient_in, remainder_in, zero_divisor_of, quotient_wires_of, gate_of, division_of, remainder_below_of, quotient_of, gate_in, words_values, above_values, quotient_values, QuotientIsSound, QuotientIsComplete};
+ghost use Rattle.tv_muldiv.specs.Quotient.{quotient_in, remainder_in, zero_divisor_of, quotient_wires_of, gate_of, division_of, remainder_below_of, quotient_of, gate_in, words_values, above_values, quotient_values, QuotientIsSound, QuotientIsComplete, QuotientSizes};
+ghost use Rattle.tv_word.specs.Widths.{IsWidth};
 
 use crate::records::Quot;
 use tv_bits::{
-    Bits, bit, fill_bits, fill_prefix_difference, first_difference, new_bits, prefix_difference,
+    Bits, TwoRows, bit, fill_bits, fill_prefix_difference, first_difference, new_bits,
+    prefix_difference,
 };
 use tv_core::{F, Lc, Put, Sink, Values, Wire, give_values};
 
-/// Wires that spell the quotient and the remainder of two words, both 0 where the divisor `y` is, and one
-/// that is 1 exactly where the divisor is 0. It makes 76 wires and 79 constraints of 651 terms.
-pub fn quotient<S: Sink>(s: &mut S, x: &Bits, y: &Bits) -> Put<Quot>
-    requires room { Room S.meaning s.old 76 79 }
-    requires x_word { x.now.n ≡ 32 }
-    requires y_word { y.now.n ≡ 32 }
-    requires x_made { x.now.first + 32 ≤ S.meaning.wires s.old }
-    requires y_made { y.now.first + 32 ≤ S.meaning.wires s.old }
-    ensures puts { PutsIn S.meaning s.old s.new (quotient_of 32 x.now y.now) result }
-    ensures grows { IfOk result (λ _. Grows S.meaning s.old s.new 76 79) }
-    ensures sizes { IfOk result (λ made. (made.quot.n ≡ 32) × (made.rem.n ≡ 32)) }
-    ensures quot_below { IfOk result (λ made. made.quot.first + 32 ≤ S.meaning.wires s.new) }
-    ensures rem_below { IfOk result (λ made. made.rem.first + 32 ≤ S.meaning.wires s.new) }
+// Words are cut into this many chunks.
+const CHUNKS: u32 = 4;
+
+/// Wires that spell the quotient and the remainder of two words of `W` bits, both 0 where the
+/// divisor `y` is, and one that is 1 exactly where the divisor is 0. It makes `2 W + W / 4 + 4`
+/// wires and `2 W + W / 4 + 7` constraints, of `19 W + 3 W / 4 + 19` terms: 76, 79 and 651 at 32
+/// bits.
+pub fn quotient<const W: u32, S: Sink>(s: &mut S, x: &Bits, y: &Bits) -> Put<Quot>
+    requires width { IsWidth W }
+    requires room { Room S.meaning s.old (2 * W + W / 4 + 4) (2 * W + W / 4 + 7) }
+    requires x_word { x.now.n ≡ W }
+    requires y_word { y.now.n ≡ W }
+    requires x_made { x.now.first + W ≤ S.meaning.wires s.old }
+    requires y_made { y.now.first + W ≤ S.meaning.wires s.old }
+    ensures puts { PutsIn S.meaning s.old s.new (quotient_of W x.now y.now) result }
+    ensures grows { IfOk result (λ _. Grows S.meaning s.old s.new (2 * W + W / 4 + 4) (2 * W + W / 4 + 7)) }
+    ensures sizes { IfOk result (λ made. (made.quot.n ≡ W) × (made.rem.n ≡ W)) }
+    ensures quot_below { IfOk result (λ made. made.quot.first + W ≤ S.meaning.wires s.new) }
+    ensures rem_below { IfOk result (λ made. made.rem.first + W ≤ S.meaning.wires s.new) }
     ensures by_zero_below { IfOk result (λ made. made.by_zero < S.meaning.wires s.new) }
 {
-    let made = quotient_wires(s, y)?;
-    division(s, x, y, &made)?;
-    remainder_below(s, y, &made)?;
+    let made = quotient_wires::<W, S>(s, y)?;
+    division::<W, S>(s, x, y, &made)?;
+    remainder_below::<W, S>(s, y, &made)?;
     Ok(made)
 }
 
 // Bits for the quotient and the remainder, and the wire that tells whether the divisor is 0.
-fn quotient_wires<S: Sink>(s: &mut S, y: &Bits) -> Put<Quot>
-    requires room { Room S.meaning s.old 65 66 }
-    requires y_word { y.now.n ≡ 32 }
-    requires y_made { y.now.first + 32 ≤ S.meaning.wires s.old }
-    ensures puts { PutsIn S.meaning s.old s.new (quotient_wires_of 32 y.now) result }
-    ensures grows { IfOk result (λ _. Grows S.meaning s.old s.new 65 66) }
-    ensures sizes { IfOk result (λ made. (made.quot.n ≡ 32) × (made.rem.n ≡ 32)) }
-    ensures quot_below { IfOk result (λ made. made.quot.first + 32 ≤ S.meaning.wires s.new) }
-    ensures rem_below { IfOk result (λ made. made.rem.first + 32 ≤ S.meaning.wires s.new) }
+fn quotient_wires<const W: u32, S: Sink>(s: &mut S, y: &Bits) -> Put<Quot>
+    requires width { IsWidth W }
+    requires room { Room S.meaning s.old (2 * W + 1) (2 * W + 2) }
+    requires y_word { y.now.n ≡ W }
+    requires y_made { y.now.first + W ≤ S.meaning.wires s.old }
+    ensures puts { PutsIn S.meaning s.old s.new (quotient_wires_of W y.now) result }
+    ensures grows { IfOk result (λ _. Grows S.meaning s.old s.new (2 * W + 1) (2 * W + 2)) }
+    ensures sizes { IfOk result (λ made. (made.quot.n ≡ W) × (made.rem.n ≡ W)) }
+    ensures quot_below { IfOk result (λ made. made.quot.first + W ≤ S.meaning.wires s.new) }
+    ensures rem_below { IfOk result (λ made. made.rem.first + W ≤ S.meaning.wires s.new) }
     ensures by_zero_below { IfOk result (λ made. made.by_zero < S.meaning.wires s.new) }
 {
-    let quot = new_bits(s, 32)?;
-    let rem = new_bits(s, 32)?;
-    let by_zero = zero_divisor(s, y)?;
+    let quot = new_bits(s, W)?;
+    let rem = new_bits(s, W)?;
+    let by_zero = zero_divisor::<W, S>(s, y)?;
     Ok(Quot { quot, rem, by_zero })
 }
 
 // A bit that is 0 where `y` isn't.
-fn zero_divisor<S: Sink>(s: &mut S, y: &Bits) -> Put<Wire>
+fn zero_divisor<const W: u32, S: Sink>(s: &mut S, y: &Bits) -> Put<Wire>
+    requires width { IsWidth W }
     requires room { Room S.meaning s.old 1 2 }
-    requires y_word { y.now.n ≡ 32 }
-    requires y_made { y.now.first + 32 ≤ S.meaning.wires s.old }
-    ensures puts { PutsIn S.meaning s.old s.new (zero_divisor_of 32 y.now) result }
+    requires y_word { y.now.n ≡ W }
+    requires y_made { y.now.first + W ≤ S.meaning.wires s.old }
+    ensures puts { PutsIn S.meaning s.old s.new (zero_divisor_of W y.now) result }
     ensures grows { IfOk result (λ _. Grows S.meaning s.old s.new 1 2) }
     ensures below { IfOk result (λ by_zero. by_zero < S.meaning.wires s.new) }
 {
@@ -65,21 +75,22 @@ fn zero_divisor<S: Sink>(s: &mut S, y: &Bits) -> Put<Wire>
 }
 
 // Holds the quotient times `y` to `x` less the remainder, or both to 0 where the divisor is.
-fn division<S: Sink>(s: &mut S, x: &Bits, y: &Bits, made: &Quot) -> Put<()>
+fn division<const W: u32, S: Sink>(s: &mut S, x: &Bits, y: &Bits, made: &Quot) -> Put<()>
+    requires width { IsWidth W }
     requires room { Room S.meaning s.old 1 2 }
-    requires x_word { x.now.n ≡ 32 }
-    requires y_word { y.now.n ≡ 32 }
-    requires quot_word { made.now.quot.n ≡ 32 }
-    requires rem_word { made.now.rem.n ≡ 32 }
-    requires x_made { x.now.first + 32 ≤ S.meaning.wires s.old }
-    requires y_made { y.now.first + 32 ≤ S.meaning.wires s.old }
-    requires quot_made { made.now.quot.first + 32 ≤ S.meaning.wires s.old }
-    requires rem_made { made.now.rem.first + 32 ≤ S.meaning.wires s.old }
+    requires x_word { x.now.n ≡ W }
+    requires y_word { y.now.n ≡ W }
+    requires quot_word { made.now.quot.n ≡ W }
+    requires rem_word { made.now.rem.n ≡ W }
+    requires x_made { x.now.first + W ≤ S.meaning.wires s.old }
+    requires y_made { y.now.first + W ≤ S.meaning.wires s.old }
+    requires quot_made { made.now.quot.first + W ≤ S.meaning.wires s.old }
+    requires rem_made { made.now.rem.first + W ≤ S.meaning.wires s.old }
     requires by_zero_made { made.now.by_zero < S.meaning.wires s.old }
-    ensures puts { PutsIn S.meaning s.old s.new (division_of 32 x.now y.now made.now) result }
+    ensures puts { PutsIn S.meaning s.old s.new (division_of W x.now y.now made.now) result }
     ensures grows { IfOk result (λ _. Grows S.meaning s.old s.new 1 2) }
 {
-    let gate = gate(s, x, made)?;
+    let gate = gate::<W, S>(s, x, made)?;
     let mut rest = x.lc();
     rest.minus(&made.rem.lc());
     rest.minus(&Lc::wire(gate));
@@ -87,14 +98,15 @@ fn division<S: Sink>(s: &mut S, x: &Bits, y: &Bits, made: &Quot) -> Put<()>
 }
 
 // A wire that is `x` plus the quotient where the divisor is 0, and else 0.
-fn gate<S: Sink>(s: &mut S, x: &Bits, made: &Quot) -> Put<Wire>
+fn gate<const W: u32, S: Sink>(s: &mut S, x: &Bits, made: &Quot) -> Put<Wire>
+    requires width { IsWidth W }
     requires room { Room S.meaning s.old 1 1 }
-    requires x_word { x.now.n ≡ 32 }
-    requires quot_word { made.now.quot.n ≡ 32 }
-    requires x_made { x.now.first + 32 ≤ S.meaning.wires s.old }
-    requires quot_made { made.now.quot.first + 32 ≤ S.meaning.wires s.old }
+    requires x_word { x.now.n ≡ W }
+    requires quot_word { made.now.quot.n ≡ W }
+    requires x_made { x.now.first + W ≤ S.meaning.wires s.old }
+    requires quot_made { made.now.quot.first + W ≤ S.meaning.wires s.old }
     requires by_zero_made { made.now.by_zero < S.meaning.wires s.old }
-    ensures puts { PutsIn S.meaning s.old s.new (gate_of 32 x.now made.now) result }
+    ensures puts { PutsIn S.meaning s.old s.new (gate_of W x.now made.now) result }
     ensures grows { IfOk result (λ _. Grows S.meaning s.old s.new 1 1) }
     ensures below { IfOk result (λ gate. gate < S.meaning.wires s.new) }
 {
@@ -106,40 +118,49 @@ fn gate<S: Sink>(s: &mut S, x: &Bits, made: &Quot) -> Put<Wire>
 }
 
 // Holds the remainder below `y`, unless the divisor is 0.
-fn remainder_below<S: Sink>(s: &mut S, y: &Bits, made: &Quot) -> Put<()>
-    requires room { Room S.meaning s.old 10 11 }
-    requires y_word { y.now.n ≡ 32 }
-    requires rem_word { made.now.rem.n ≡ 32 }
-    requires y_made { y.now.first + 32 ≤ S.meaning.wires s.old }
-    requires rem_made { made.now.rem.first + 32 ≤ S.meaning.wires s.old }
+fn remainder_below<const W: u32, S: Sink>(s: &mut S, y: &Bits, made: &Quot) -> Put<()>
+    requires width { IsWidth W }
+    requires room { Room S.meaning s.old (W / 4 + 2) (W / 4 + 3) }
+    requires y_word { y.now.n ≡ W }
+    requires rem_word { made.now.rem.n ≡ W }
+    requires y_made { y.now.first + W ≤ S.meaning.wires s.old }
+    requires rem_made { made.now.rem.first + W ≤ S.meaning.wires s.old }
     requires by_zero_made { made.now.by_zero < S.meaning.wires s.old }
-    ensures puts { PutsIn S.meaning s.old s.new (remainder_below_of 32 y.now made.now) result }
-    ensures grows { IfOk result (λ _. Grows S.meaning s.old s.new 10 11) }
+    ensures puts { PutsIn S.meaning s.old s.new (remainder_below_of W y.now made.now) result }
+    ensures grows { IfOk result (λ _. Grows S.meaning s.old s.new (W / 4 + 2) (W / 4 + 3)) }
 {
-    let above = new_bits(s, 8)?;
+    let above = new_bits(s, W / CHUNKS)?;
     let mut difference = above.plus_one();
     difference.minus(&Lc::wire(made.by_zero));
-    prefix_difference(s, y, &made.rem, &difference, 8, 4)
+    let (divisor, rem) = (TwoRows::of(y), TwoRows::of(&made.rem));
+    prefix_difference(s, &divisor, &rem, &difference, W / CHUNKS, CHUNKS)
 }
 
-/// Gives the values of the wires that `quotient` makes for bits that spell `x` and `y`.
-pub fn fill_quotient<V: Values>(v: &mut V, x: u32, y: u32) -> Put<()>
+/// Gives the `2 W + W / 4 + 4` values of the wires that `quotient` makes for bits that spell `x`
+/// and `y`.
+pub fn fill_quotient<const W: u32, V: Values>(v: &mut V, x: u32, y: u32) -> Put<()>
+    requires width { IsWidth W }
+    requires x_word { x < 2 ^ W }
+    requires y_word { y < 2 ^ W }
     requires whole { V.giving.broken v.old ≡ false }
-    ensures gives { GivesIn V.giving v.old v.new (quotient_values 32 x y) result }
+    ensures gives { GivesIn V.giving v.old v.new (quotient_values W x y) result }
     ensures whole { OnOk result (V.giving.broken v.new ≡ false) }
 {
-    fill_words(v, x, y)?;
+    fill_words::<W, V>(v, x, y)?;
     give_values(v, &flags(x, y))?;
-    fill_above(v, x, y)
+    fill_above::<W, V>(v, x, y)
 }
 
-fn fill_words<V: Values>(v: &mut V, x: u32, y: u32) -> Put<()>
+fn fill_words<const W: u32, V: Values>(v: &mut V, x: u32, y: u32) -> Put<()>
+    requires width { IsWidth W }
+    requires x_word { x < 2 ^ W }
+    requires y_word { y < 2 ^ W }
     requires whole { V.giving.broken v.old ≡ false }
-    ensures gives { GivesIn V.giving v.old v.new (words_values 32 x y) result }
+    ensures gives { GivesIn V.giving v.old v.new (words_values W x y) result }
     ensures whole { OnOk result (V.giving.broken v.new ≡ false) }
 {
-    fill_bits(v, F::of(u64::from(quotient_in(x, y))), 32)?;
-    fill_bits(v, F::of(u64::from(remainder_in(x, y))), 32)
+    fill_bits(v, F::from(quotient_in(x, y)), W)?;
+    fill_bits(v, F::from(remainder_in(x, y)), W)
 }
 
 // Whether the divisor is 0, and the gate.
@@ -147,21 +168,24 @@ fn flags(x: u32, y: u32) -> [F; 2]
     ensures { result ≡ zero_flag y ∷ gate_in x y ∷ [] }
 {
     if y == 0 {
-        [F::ONE, F::of(u64::from(x))]
+        [F::ONE, F::from(x)]
     } else {
         [F::ZERO, F::ZERO]
     }
 }
 
-fn fill_above<V: Values>(v: &mut V, x: u32, y: u32) -> Put<()>
+fn fill_above<const W: u32, V: Values>(v: &mut V, x: u32, y: u32) -> Put<()>
+    requires width { IsWidth W }
+    requires x_word { x < 2 ^ W }
+    requires y_word { y < 2 ^ W }
     requires whole { V.giving.broken v.old ≡ false }
-    ensures gives { GivesIn V.giving v.old v.new (above_values 32 x y) result }
+    ensures gives { GivesIn V.giving v.old v.new (above_values W x y) result }
     ensures whole { OnOk result (V.giving.broken v.new ≡ false) }
 {
     let (y, rem) = (u64::from(y), u64::from(remainder_in(x, y)));
-    let above = first_difference(y, rem, 8, 4);
-    fill_bits(v, F::of(above.saturating_sub(1)), 8)?;
-    fill_prefix_difference(v, y, rem, F::of(above), 8, 4)
+    let above = first_difference(y, rem, W / CHUNKS, CHUNKS);
+    fill_bits(v, F::of(above.saturating_sub(1)), W / CHUNKS)?;
+    fill_prefix_difference(v, y, rem, F::of(above), W / CHUNKS, CHUNKS)
 }
 
 fn quotient_in(x: u32, y: u32) -> u32
@@ -176,15 +200,22 @@ fn remainder_in(x: u32, y: u32) -> u32
     if y == 0 { 0 } else { x % y }
 }
 
-/// Where bits spell words and an assignment meets what `quotient` put, its wires spell their quotient and
-/// their remainder.
+/// Where bits spell words of `W` bits and an assignment meets what `quotient` put, its wires spell
+/// their quotient and their remainder.
 pub fn quotient_is_sound()
     ensures { QuotientIsSound }
 {}
 
-/// Where bits spell words and an assignment has the values that `fill_quotient` gives, it meets what
-/// `quotient` put.
+/// Where bits spell words and an assignment has the values that `fill_quotient` gives, it meets
+/// what `quotient` put.
 #[tactic(auto, using(crate::proofs::QuotientLaws::quotient_complete))]
 pub fn quotient_is_complete()
     ensures { QuotientIsComplete }
+{}
+
+/// Says which wires `quotient` answers and how many it makes, whatever the next wire is, and that
+/// `fill_quotient` gives one value for each of them, below P.
+#[tactic(auto, using(crate::proofs::QuotientLaws::quotient_sizes))]
+pub fn quotient_fills()
+    ensures { QuotientSizes }
 {}

@@ -1,128 +1,149 @@
-ghost use Rattle.std.specs.Prelude.{◌≡◌, ◌+◌, ◌*◌, ◌≤◌, ◌<◌, ◌^◌, false, IfOk, OnOk};
+ghost use Rattle.std.specs.Prelude.{◌≡◌, ◌+◌, ◌-◌, ◌*◌, ◌≤◌, ◌<◌, ◌^◌, false, IfOk, OnOk};
 ghost use Rattle.tv_core.specs.Combinations.{top};
 ghost use Rattle.tv_core.specs.Giving.{GivesIn};
 ghost use Rattle.tv_core.specs.Sinks.{PutsIn, Grows, Room};
-ghost use Rattle.tv_muldiv.specs.SignedHigh.{product_twos, signed_bits_of, excess, excess_in, signed_high_of, signed_high_values, SignedHighIsSound, SignedHighIsComplete};
+ghost use Rattle.tv_muldiv.specs.SignedHigh.{signed_product, product_twos, signed_bits_of, excess, excess_in, signed_high_of, signed_high_values, SignedHighIsSound, SignedHighIsComplete, SignedHighSizes};
 ghost use Rattle.tv_muldiv.specs.Weighed.{signed_combination};
+ghost use Rattle.tv_word.specs.Widths.{IsWidth};
 
-use crate::nonzero::{fill_nonzero, nonzero};
 use crate::records::High;
-use crate::weighing::{fill_halves, weighed};
-use tv_bits::{Bits, new_bits};
+use crate::weighing::{fill_halves, signed_number};
+use tv_bits::{Bits, fill_nonzero, new_bits, nonzero};
 use tv_core::{F, Lc, Put, Sink, Values, Wire};
-use tv_word::signed;
+use tv_word::{signed, signed16};
 
-/// Wires that spell the high word of the product of two words as signed numbers, and one that is 1 exactly
-/// where that product lies outside -2^31 .. 2^31 - 1. It makes 66 wires and 67 constraints of 390 terms.
-pub fn signed_high<S: Sink>(s: &mut S, x: &Bits, y: &Bits) -> Put<High>
-    requires room { Room S.meaning s.old 66 67 }
-    requires x_word { x.now.n ≡ 32 }
-    requires y_word { y.now.n ≡ 32 }
-    requires x_made { x.now.first + 32 ≤ S.meaning.wires s.old }
-    requires y_made { y.now.first + 32 ≤ S.meaning.wires s.old }
-    ensures puts { PutsIn S.meaning s.old s.new (signed_high_of 32 x.now y.now) result }
-    ensures grows { IfOk result (λ _. Grows S.meaning s.old s.new 66 67) }
-    ensures size { IfOk result (λ made. made.high.n ≡ 32) }
-    ensures high_below { IfOk result (λ made. made.high.first + 32 ≤ S.meaning.wires s.new) }
+/// Wires that spell the high word of the product of two words of `W` bits as signed numbers, and
+/// one that is 1 exactly where that product lies outside -2^(`W - 1`) .. 2^(`W - 1`) - 1. It makes
+/// `2 W + 2` wires and `2 W + 3` constraints, of `12 W + 6` terms: 66, 67 and 390 at 32 bits.
+pub fn signed_high<const W: u32, S: Sink>(s: &mut S, x: &Bits, y: &Bits) -> Put<High>
+    requires width { IsWidth W }
+    requires room { Room S.meaning s.old (2 * W + 2) (2 * W + 3) }
+    requires x_word { x.now.n ≡ W }
+    requires y_word { y.now.n ≡ W }
+    requires x_made { x.now.first + W ≤ S.meaning.wires s.old }
+    requires y_made { y.now.first + W ≤ S.meaning.wires s.old }
+    ensures puts { PutsIn S.meaning s.old s.new (signed_high_of W x.now y.now) result }
+    ensures grows { IfOk result (λ _. Grows S.meaning s.old s.new (2 * W + 2) (2 * W + 3)) }
+    ensures size { IfOk result (λ made. made.high.n ≡ W) }
+    ensures high_below { IfOk result (λ made. made.high.first + W ≤ S.meaning.wires s.new) }
     ensures over_below { IfOk result (λ made. made.over < S.meaning.wires s.new) }
 {
-    let made = signed_bits(s, x, y)?;
-    let over = nonzero(s, &excess(made.first))?;
+    let made = signed_bits::<W, S>(s, x, y)?;
+    let over = nonzero(s, &excess::<W>(made.first))?;
     let high = Bits {
-        first: made.first.offset(32),
-        n: 32,
+        first: made.first.offset(W),
+        n: W,
     };
     Ok(High { high, over })
 }
 
-// 64 bits that spell the product in two's complement.
-fn signed_bits<S: Sink>(s: &mut S, x: &Bits, y: &Bits) -> Put<Bits>
-    requires room { Room S.meaning s.old 64 65 }
-    requires x_word { x.now.n ≡ 32 }
-    requires y_word { y.now.n ≡ 32 }
-    requires x_made { x.now.first + 32 ≤ S.meaning.wires s.old }
-    requires y_made { y.now.first + 32 ≤ S.meaning.wires s.old }
-    ensures puts { PutsIn S.meaning s.old s.new (signed_bits_of 32 x.now y.now) result }
-    ensures grows { IfOk result (λ _. Grows S.meaning s.old s.new 64 65) }
-    ensures size { IfOk result (λ made. made.n ≡ 64) }
-    ensures below { IfOk result (λ made. made.first + 64 ≤ S.meaning.wires s.new) }
+// `2 W` bits that spell the product in two's complement.
+fn signed_bits<const W: u32, S: Sink>(s: &mut S, x: &Bits, y: &Bits) -> Put<Bits>
+    requires width { IsWidth W }
+    requires room { Room S.meaning s.old (2 * W) (2 * W + 1) }
+    requires x_word { x.now.n ≡ W }
+    requires y_word { y.now.n ≡ W }
+    requires x_made { x.now.first + W ≤ S.meaning.wires s.old }
+    requires y_made { y.now.first + W ≤ S.meaning.wires s.old }
+    ensures puts { PutsIn S.meaning s.old s.new (signed_bits_of W x.now y.now) result }
+    ensures grows { IfOk result (λ _. Grows S.meaning s.old s.new (2 * W) (2 * W + 1)) }
+    ensures size { IfOk result (λ made. made.n ≡ 2 * W) }
+    ensures below { IfOk result (λ made. made.first + 2 * W ≤ S.meaning.wires s.new) }
 {
-    let made = new_bits(s, 64)?;
+    let made = new_bits(s, 2 * W)?;
     s.put(
-        &signed_word(x.first),
-        &signed_word(y.first),
-        &signed_long(made.first),
+        &signed_number(x.first, W),
+        &signed_number(y.first, W),
+        &signed_number(made.first, 2 * W),
     )?;
     Ok(made)
 }
 
-// The number that 32 wires from a first one on spell in two's complement.
-fn signed_word(first: Wire) -> Lc
-    requires within { first + 32 < 2 ^ 32 }
-    ensures terms { result ≡ signed_combination first 32 }
-    ensures top { top result ≤ first + 32 }
-{
-    weighed(first, 32, -F::of(1 << 31))
-}
-
-// The number that 64 wires from a first one on spell in two's complement.
-fn signed_long(first: Wire) -> Lc
-    requires within { first + 64 < 2 ^ 32 }
-    ensures terms { result ≡ signed_combination first 64 }
-    ensures top { top result ≤ first + 64 }
-{
-    weighed(first, 64, -F::of(1 << 63))
-}
-
-// The high word of 64 bits less 2^32 - 1 times the highest bit of the low word.
-fn excess(first: Wire) -> Lc
-    requires within { first + 64 < 2 ^ 32 }
-    ensures terms { result ≡ excess first 32 }
-    ensures top { top result ≤ first + 64 }
+// The high word of `2 W` bits less 2^`W` - 1 times the highest bit of the low word.
+fn excess<const W: u32>(first: Wire) -> Lc
+    requires width { IsWidth W }
+    requires within { first + 2 * W < 2 ^ 32 }
+    ensures terms { result ≡ excess first W }
+    ensures top { top result ≤ first + 2 * W }
 {
     let mut lc = Bits {
-        first: first.offset(32),
-        n: 32,
+        first: first.offset(W),
+        n: W,
     }
     .lc();
-    lc.plus(-F::of(4_294_967_295), first.offset(31));
+    lc.plus(-F::of((1 << W) - 1), first.offset(W - 1));
     lc
 }
 
-/// Gives the values of the wires that `signed_high` makes for bits that spell `x` and `y`.
-pub fn fill_signed_high<V: Values>(v: &mut V, x: u32, y: u32) -> Put<()>
-    requires { V.giving.broken v.old ≡ false }
-    ensures gives { GivesIn V.giving v.old v.new (signed_high_values 32 x y) result }
+/// Gives the `2 W + 2` values of the wires that `signed_high` makes for bits that spell `x` and
+/// `y`.
+pub fn fill_signed_high<const W: u32, V: Values>(v: &mut V, x: u32, y: u32) -> Put<()>
+    requires width { IsWidth W }
+    requires x_word { x < 2 ^ W }
+    requires y_word { y < 2 ^ W }
+    requires whole { V.giving.broken v.old ≡ false }
+    ensures gives { GivesIn V.giving v.old v.new (signed_high_values W x y) result }
     ensures whole { OnOk result (V.giving.broken v.new ≡ false) }
 {
-    let product = product_twos(x, y);
-    fill_halves(v, product)?;
-    fill_nonzero(v, excess_in(product))
+    let product = product_twos::<W>(x, y);
+    fill_halves::<W, V>(v, product)?;
+    fill_nonzero(v, excess_in::<W>(product))
 }
 
-// The product of two words as signed numbers, in two's complement.
-fn product_twos(x: u32, y: u32) -> u64
-    ensures { result ≡ product_twos 32 x y }
+// The product of two words as signed numbers, in two's complement of `2 W` bits.
+#[tactic(auto, using(crate::proofs::SignedNumbers::product_cast))]
+fn product_twos<const W: u32>(x: u32, y: u32) -> u64
+    requires width { IsWidth W }
+    requires x_word { x < 2 ^ W }
+    requires y_word { y < 2 ^ W }
+    ensures { result ≡ product_twos W x y }
 {
-    (signed(x) * signed(y)).cast_unsigned()
+    let product = signed_product::<W>(x, y).cast_unsigned();
+    if W == 16 {
+        product % (1 << 32)
+    } else {
+        product
+    }
 }
 
-fn excess_in(number: u64) -> F
-    ensures { result ≡ excess_in 32 number }
+fn signed_product<const W: u32>(x: u32, y: u32) -> i64
+    requires width { IsWidth W }
+    requires x_word { x < 2 ^ W }
+    requires y_word { y < 2 ^ W }
+    ensures { result ≡ signed_product W x y }
 {
-    let sign = F::of((number >> 31) % 2);
-    F::of(number >> 32) + -F::of(4_294_967_295) * sign
+    if W == 16 {
+        signed16(x) * signed16(y)
+    } else {
+        signed(x) * signed(y)
+    }
 }
 
-/// Where bits spell words and an assignment meets what `signed_high` put, its wires spell the high word of
-/// their signed product.
+fn excess_in<const W: u32>(number: u64) -> F
+    requires width { IsWidth W }
+    requires small { number < 2 ^ (2 * W) }
+    ensures { result ≡ excess_in W number }
+{
+    let sign = F::of((number >> (W - 1)) % 2);
+    F::of(number >> W) + -F::of((1 << W) - 1) * sign
+}
+
+/// Where bits spell words and an assignment meets what `signed_high` put, its wires spell the high
+/// word of their signed product.
 pub fn signed_high_is_sound()
     ensures { SignedHighIsSound }
 {}
 
-/// Where bits spell words and an assignment has the values that `fill_signed_high` gives, it meets what
-/// `signed_high` put.
+/// Where bits spell words and an assignment has the values that `fill_signed_high` gives, it meets
+/// what `signed_high` put.
 #[tactic(auto, using(crate::proofs::SignedHighLaws::signed_high_complete))]
 pub fn signed_high_is_complete()
     ensures { SignedHighIsComplete }
+{}
+
+/// Says which wires `signed_high` answers and how many it makes, whatever the next wire is, and
+/// that `fill_signed_high` gives one value for each of them, below P.
+#[tactic(auto, using(crate::proofs::SignedHighLaws::signed_high_sizes))]
+pub fn signed_high_fills()
+    ensures { SignedHighSizes }
 {}

@@ -1,10 +1,12 @@
 -- The values of the levels of a thermometer, given one level after another.
-use Rattle.std.proofs.Common.{◌≡◌, ℕ, zero, suc, ◌+◌, ◌<◌, [], ◌++◌, inl, inr, refl, subst, arith, add-one}
+use Rattle.std.proofs.Common.{◌≡◌, ℕ, zero, suc, ◌+◌, ◌-◌, ◌^◌, ◌<◌, [], ◌++◌, length, length-append, inl, inr, refl, subst, ◌∙◌, ap, ap₂, arith, add-one}
 use Rattle.std.proofs.lemmas.Bool.{cases_eq}
+use Rattle.tv_core.proofs.BelowLaws.{length-each_below}
 use Rattle.tv_core.proofs.GivingChain.{gives_then, gives_then_refused, gives_refused_then, gives_nothing}
 use Rattle.tv_core.specs.Giving.{Giving, GivesAll, GivesSome}
 use Rattle.tv_core.specs.declared.sink.SinkFault.{SinkFault}
-use Rattle.tv_shift.specs.Thermometer.{level_values, thermometer_values}
+use Rattle.tv_shift.proofs.MarkTerms.{products-more}
+use Rattle.tv_shift.specs.Thermometer.{products_below, level_value, level_values, thermometer_values}
 
 pub values-none : (y : ℕ) → thermometer_values 0 y ≡ []
 unfolding thermometer_values
@@ -13,6 +15,12 @@ values-none y = refl
 pub values-more : (k y : ℕ) → thermometer_values (suc k) y ≡ thermometer_values k y ++ level_values y k
 unfolding thermometer_values
 values-more k y = refl
+
+pub length-values : (k y : ℕ) → length (thermometer_values k y) ≡ products_below k
+length-values zero y = ap length (values-none y)
+length-values (suc k) y =
+    let same : k + 1 ≡ suc k = omega arith in
+    ap length (values-more k y) ∙ length-append (thermometer_values k y) (level_values y k) ∙ ap₂ (λ a b. a + b) (length-values k y) (length-each_below (2 ^ k - 1) (level_value y k)) ∙ products-more k ∙ ap products_below same
 
 module _ {V : Type 0} (m : Giving V) (y : ℕ) where
   pub gives_no_level : (v : V) → GivesAll m v v (thermometer_values 0 y)

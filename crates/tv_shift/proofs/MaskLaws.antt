@@ -1,5 +1,5 @@
 -- The laws of a part that masks let through.
-use Rattle.std.proofs.Common.{◌≡◌, ℕ, ◌+◌, ◌-◌, ◌*◌, ◌/◌, ◌%◌, ◌^◌, ◌<◌, ◌≤◌, List, [], ◌++◌, inl, inr, refl, sym, ◌∙◌, ap, ap₂, arith, mul-one, mod-eq_of_lt}
+use Rattle.std.proofs.Common.{◌≡◌, ℕ, ◌+◌, ◌-◌, ◌*◌, ◌/◌, ◌%◌, ◌^◌, ◌<◌, ◌≤◌, List, [], ◌++◌, inl, inr, refl, sym, subst, ◌∙◌, ap, ap₂, arith, mul-one, mod-eq_of_lt}
 use Rattle.std.proofs.Math.Nat.{mod-le}
 use Rattle.std.proofs.lemmas.Bool.{cases_lt}
 use Rattle.std.proofs.lemmas.Nat.{pow-add, mul-mod_first}
@@ -24,13 +24,16 @@ use Rattle.tv_core.specs.Laws.{Assigns, Meets, HasFrom}
 use Rattle.tv_core.specs.Loops.{times}
 use Rattle.tv_core.specs.declared.field.TheConstants.{P}
 use Rattle.tv_bits.proofs.BitLaws.{bit_cases}
+use Rattle.tv_shift.proofs.ShiftNumbers.{half_power}
 use Rattle.tv_shift.proofs.ThermometerLaws.{below-in, below-out, below-bit, Marks}
 use Rattle.tv_shift.specs.Halves.{chosen_half, other_half}
-use Rattle.tv_shift.specs.Masks.{pair_of, masked_of, masked_value, masked_values, mask_at, mask_value, digit_at}
+use Rattle.tv_shift.specs.Masks.{masked_pair_of, masked_of, masked_value, masked_values, half_log, mask_at, mask_value, digit_at}
 use Rattle.tv_shift.specs.Thermometer.{below}
 use Rattle.tv_shift.specs.declared.masks.Part.{Part}
 use Rattle.tv_shift.specs.declared.masks.Part.TheVariants.{Low, High}
 use Rattle.tv_shift.specs.declared.masks.Places.{Places}
+use Rattle.tv_word.proofs.WidthLaws.{for_widths}
+use Rattle.tv_word.specs.Widths.{IsWidth}
 
 -- ---- sums
 -- the s low bits of a number are its remainder
@@ -54,12 +57,12 @@ high_part n s v short small =
     ap (λ k. sum_below n f + k) (sym (low_part n (n - s) v (omega arith))) ∙ sym (sum_below-plus n f g) ∙ sum_below-same n (λ i. f i + g i) (λ i. 2 ^ i * bit_at v i) both ∙ picked-bit_at n v ∙ mod-eq_of_lt small
 
 -- ---- circuits
-pair-next : (mask digit : ℕ → Combination) (n i at : ℕ) → (pair_of mask digit n i at).next ≡ at + 1
-unfolding pair_of two_ands_of fresh put ◌>>=◌
+pair-next : (mask digit : ℕ → Combination) (n i at : ℕ) → (masked_pair_of mask digit n i at).next ≡ at + 1
+unfolding masked_pair_of two_ands_of fresh put ◌>>=◌
 pair-next mask digit n i at = refl
 
-turn-next : (mask digit : ℕ → Combination) (n next i : ℕ) → (times i (pair_of mask digit n) next).next ≡ next + i
-turn-next mask digit n next i = turns-next (λ i _. pair_of mask digit n i) tt next 1 i (λ i a at. pair-next mask digit n i at) ∙ ap (λ k. next + k) (mul-one i)
+turn-next : (mask digit : ℕ → Combination) (n next i : ℕ) → (times i (masked_pair_of mask digit n) next).next ≡ next + i
+turn-next mask digit n next i = turns-next (λ i _. masked_pair_of mask digit n i) tt next 1 i (λ i a at. pair-next mask digit n i at) ∙ ap (λ k. next + k) (mul-one i)
 
 pub masked_answer : (mask digit : ℕ → Combination) (n next : ℕ) → (masked_of mask digit n next).answer ≡ next
 unfolding masked_of here pure ◌>>=◌
@@ -72,86 +75,101 @@ masked_next mask digit n next = turn-next mask digit n next n
 product_bit : (a b : ℕ) → IsBit a → IsBit b → IsBit (a * b)
 product_bit a b h k = elim (bit_cases a h) [ inl p ↦ rw p (omega arith) | inr p ↦ rw p (omega (arith, k)) ]
 
-two_small : (a b c d : ℕ) → IsBit a → IsBit b → IsBit c → IsBit d → two_ands a b c d 16 ≡ a * b + 2 ^ 8 * (c * d)
-two_small a b c d p q r s = omega (arith, product_bit a b p q, product_bit c d r s)
+-- the second bit of a pair is weighed by the square of the circuit's constant
+weight : (w : ℕ) → IsWidth w → (m n : ℕ) → IsBit m → IsBit n → (m + 2 ^ (w / 4 / 2) * 2 ^ (w / 4 / 2) * n) % P ≡ m + 2 ^ (w / 4) * n
+weight = for_widths (λ w. (m n : ℕ) → IsBit m → IsBit n → (m + 2 ^ (w / 4 / 2) * 2 ^ (w / 4 / 2) * n) % P ≡ m + 2 ^ (w / 4) * n) (λ m n h k. omega arith) (λ m n h k. omega arith)
 
-module _ (z : List ℕ) (assigns : Assigns z) (mask digit : ℕ → Combination) (m d : ℕ → ℕ)
-    (mask_is : (i : ℕ) → i < 16 → value (mask i) z ≡ m i) (mask_bit : (i : ℕ) → IsBit (m i))
-    (digit_is : (i : ℕ) → i < 16 → value (digit i) z ≡ d i) (digit_bit : (i : ℕ) → IsBit (d i)) where
-  ands : (i : ℕ) → i < 8 → two_ands (value (mask i) z) (value (digit i) z) (value (mask (8 + i)) z) (value (digit (8 + i)) z) 16 ≡ m i * d i + 2 ^ 8 * (m (8 + i) * d (8 + i))
+two_small : (w : ℕ) → IsWidth w → (a b c d : ℕ) → IsBit a → IsBit b → IsBit c → IsBit d → two_ands a b c d (2 ^ (w / 4 / 2)) ≡ a * b + 2 ^ (w / 4) * (c * d)
+two_small w width a b c d p q r s = weight w width (a * b) (c * d) (product_bit a b p q) (product_bit c d r s)
+
+module _ (w : ℕ) (width : IsWidth w) (z : List ℕ) (assigns : Assigns z) (mask digit : ℕ → Combination) (m d : ℕ → ℕ)
+    (mask_is : (i : ℕ) → i < w / 2 → value (mask i) z ≡ m i) (mask_bit : (i : ℕ) → IsBit (m i))
+    (digit_is : (i : ℕ) → i < w / 2 → value (digit i) z ≡ d i) (digit_bit : (i : ℕ) → IsBit (d i)) where
+  ands : (i : ℕ) → i < w / 4 → two_ands (value (mask i) z) (value (digit i) z) (value (mask (w / 4 + i)) z) (value (digit (w / 4 + i)) z) (2 ^ (w / 4 / 2)) ≡ m i * d i + 2 ^ (w / 4) * (m (w / 4 + i) * d (w / 4 + i))
   ands i h =
-      ap₂ (λ a b. two_ands a b (value (mask (8 + i)) z) (value (digit (8 + i)) z) 16) (mask_is i (omega arith)) (digit_is i (omega arith))
-      ∙ ap₂ (λ a b. two_ands (m i) (d i) a b 16) (mask_is (8 + i) (omega arith)) (digit_is (8 + i) (omega arith))
-      ∙ two_small (m i) (d i) (m (8 + i)) (d (8 + i)) (mask_bit i) (digit_bit i) (mask_bit (8 + i)) (digit_bit (8 + i))
+      ap₂ (λ a b. two_ands a b (value (mask (w / 4 + i)) z) (value (digit (w / 4 + i)) z) (2 ^ (w / 4 / 2))) (mask_is i (omega arith)) (digit_is i (omega arith))
+      ∙ ap₂ (λ a b. two_ands (m i) (d i) a b (2 ^ (w / 4 / 2))) (mask_is (w / 4 + i) (omega arith)) (digit_is (w / 4 + i) (omega arith))
+      ∙ two_small w width (m i) (d i) (m (w / 4 + i)) (d (w / 4 + i)) (mask_bit i) (digit_bit i) (mask_bit (w / 4 + i)) (digit_bit (w / 4 + i))
 
-  pair_sound : (i at : ℕ) → i < 8 → Meets z (pair_of mask digit 8 i at).list → slice_index z at ≡ m i * d i + 2 ^ 8 * (m (8 + i) * d (8 + i))
-  unfolding pair_of fresh ◌>>=◌
+  pair_sound : (i at : ℕ) → i < w / 4 → Meets z (masked_pair_of mask digit (w / 4) i at).list → slice_index z at ≡ m i * d i + 2 ^ (w / 4) * (m (w / 4 + i) * d (w / 4 + i))
+  unfolding masked_pair_of fresh ◌>>=◌
   pair_sound i at h meets =
       sym (value-wire assigns at)
-      ∙ two_ands_sound z (at + 1) (mask i) (digit i) (mask (8 + i)) (digit (8 + i)) 16 (wire at) assigns (bit_of_mask i (omega arith)) (bit_of_digit i (omega arith)) (bit_of_mask (8 + i) (omega arith)) (bit_of_digit (8 + i) (omega arith)) meets
+      ∙ two_ands_sound z (at + 1) (mask i) (digit i) (mask (w / 4 + i)) (digit (w / 4 + i)) (2 ^ (w / 4 / 2)) (wire at) assigns (bit_of_mask i (omega arith)) (bit_of_digit i (omega arith)) (bit_of_mask (w / 4 + i) (omega arith)) (bit_of_digit (w / 4 + i) (omega arith)) meets
       ∙ ands i h
     where
-      bit_of_mask : (i : ℕ) → i < 16 → IsBit (value (mask i) z)
+      bit_of_mask : (i : ℕ) → i < w / 2 → IsBit (value (mask i) z)
       bit_of_mask i h = omega (arith, mask_is i h, mask_bit i)
 
-      bit_of_digit : (i : ℕ) → i < 16 → IsBit (value (digit i) z)
+      bit_of_digit : (i : ℕ) → i < w / 2 → IsBit (value (digit i) z)
       bit_of_digit i h = omega (arith, digit_is i h, digit_bit i)
 
-  pair_complete : (i at : ℕ) → i < 8 → slice_index z at ≡ m i * d i + 2 ^ 8 * (m (8 + i) * d (8 + i)) → Meets z (pair_of mask digit 8 i at).list
-  unfolding pair_of fresh ◌>>=◌
+  pair_complete : (i at : ℕ) → i < w / 4 → slice_index z at ≡ m i * d i + 2 ^ (w / 4) * (m (w / 4 + i) * d (w / 4 + i)) → Meets z (masked_pair_of mask digit (w / 4) i at).list
+  unfolding masked_pair_of fresh ◌>>=◌
   pair_complete i at h is =
-      two_ands_complete z (at + 1) (mask i) (digit i) (mask (8 + i)) (digit (8 + i)) 16 (wire at) assigns (bit_of_mask i (omega arith)) (bit_of_digit i (omega arith)) (bit_of_mask (8 + i) (omega arith)) (bit_of_digit (8 + i) (omega arith))
+      two_ands_complete z (at + 1) (mask i) (digit i) (mask (w / 4 + i)) (digit (w / 4 + i)) (2 ^ (w / 4 / 2)) (wire at) assigns (bit_of_mask i (omega arith)) (bit_of_digit i (omega arith)) (bit_of_mask (w / 4 + i) (omega arith)) (bit_of_digit (w / 4 + i) (omega arith))
       (value-wire assigns at ∙ is ∙ sym (ands i h))
     where
-      bit_of_mask : (i : ℕ) → i < 16 → IsBit (value (mask i) z)
+      bit_of_mask : (i : ℕ) → i < w / 2 → IsBit (value (mask i) z)
       bit_of_mask i h = omega (arith, mask_is i h, mask_bit i)
 
-      bit_of_digit : (i : ℕ) → i < 16 → IsBit (value (digit i) z)
+      bit_of_digit : (i : ℕ) → i < w / 2 → IsBit (value (digit i) z)
       bit_of_digit i h = omega (arith, digit_is i h, digit_bit i)
 
-  pub masked_sound : (next : ℕ) → Meets z (masked_of mask digit 8 next).list → value (bits_combination next 8) z ≡ sum_below 16 (λ i. 2 ^ i * (m i * d i)) % P
+  pub masked_sound : (next : ℕ) → Meets z (masked_of mask digit (w / 4) next).list → value (bits_combination next (w / 4)) z ≡ sum_below (w / 2) (λ i. 2 ^ i * (m i * d i)) % P
   unfolding masked_of here pure ◌>>=◌
   masked_sound next meets =
-      let turns = (Meets-split z (times 8 (pair_of mask digit 8) next).list [] meets).0 in
-      let each : (i : ℕ) → i < 8 → slice_index z (next + i) ≡ m i * d i + 2 ^ 8 * (m (8 + i) * d (8 + i)) = λ i h.
-      rw (turn-next mask digit 8 next i) at (pair_sound i _ h (turn_met z (λ i _. pair_of mask digit 8 i) tt next 8 i h turns)) in
+      let turns = (Meets-split z (times (w / 4) (masked_pair_of mask digit (w / 4)) next).list [] meets).0 in
+      let each : (i : ℕ) → i < w / 4 → slice_index z (next + i) ≡ m i * d i + 2 ^ (w / 4) * (m (w / 4 + i) * d (w / 4 + i)) = λ i h.
+      rw (turn-next mask digit (w / 4) next i) at (pair_sound i _ h (turn_met z (λ i _. masked_pair_of mask digit (w / 4) i) tt next (w / 4) i h turns)) in
       let f : ℕ → ℕ = λ i. 2 ^ i * (m i * d i) in
-      let spread : (i a b : ℕ) → 2 ^ i * (a + 2 ^ 8 * b) ≡ 2 ^ i * a + 2 ^ (8 + i) * b = λ i a b. rw (pow-add 2 8 i) (omega arith) in
-      value-weighted next 8 (λ i. 2 ^ i % P) z
-      ∙ sum_below-mod_same 8 (λ i. 2 ^ i % P * slice_index z (next + i)) (λ i. f i + f (8 + i)) P (λ i h. mul-mod_first (2 ^ i) (slice_index z (next + i)) P ∙ ap (λ k. k % P) (ap (λ k. 2 ^ i * k) (each i h) ∙ spread i (m i * d i) (m (8 + i) * d (8 + i))))
-      ∙ ap (λ k. k % P) (sum_below-plus 8 f (λ i. f (8 + i)) ∙ sym (sum_below-add 8 8 f))
+      let halves : w / 4 + w / 4 ≡ w / 2 = omega arith in
+      let spread : (i a b : ℕ) → 2 ^ i * (a + 2 ^ (w / 4) * b) ≡ 2 ^ i * a + 2 ^ (w / 4 + i) * b = λ i a b. rw (pow-add 2 (w / 4) i) (omega arith) in
+      value-weighted next (w / 4) (λ i. 2 ^ i % P) z
+      ∙ sum_below-mod_same (w / 4) (λ i. 2 ^ i % P * slice_index z (next + i)) (λ i. f i + f (w / 4 + i)) P (λ i h. mul-mod_first (2 ^ i) (slice_index z (next + i)) P ∙ ap (λ k. k % P) (ap (λ k. 2 ^ i * k) (each i h) ∙ spread i (m i * d i) (m (w / 4 + i) * d (w / 4 + i))))
+      ∙ ap (λ k. k % P) (sum_below-plus (w / 4) f (λ i. f (w / 4 + i)) ∙ sym (sum_below-add (w / 4) (w / 4) f) ∙ ap (λ n. sum_below n f) halves)
 
-  pub masked_complete : (next : ℕ) → ((i : ℕ) → i < 8 → slice_index z (next + i) ≡ m i * d i + 2 ^ 8 * (m (8 + i) * d (8 + i))) → Meets z (masked_of mask digit 8 next).list
+  pub masked_complete : (next : ℕ) → ((i : ℕ) → i < w / 4 → slice_index z (next + i) ≡ m i * d i + 2 ^ (w / 4) * (m (w / 4 + i) * d (w / 4 + i))) → Meets z (masked_of mask digit (w / 4) next).list
   unfolding masked_of here pure ◌>>=◌
   masked_complete next each =
-      Meets-join z (times 8 (pair_of mask digit 8) next).list [] (turns_met z (λ i _. pair_of mask digit 8 i) tt next 8 (λ i h. pair_complete i _ h (rw (turn-next mask digit 8 next i) (each i h)))) tt
+      Meets-join z (times (w / 4) (masked_pair_of mask digit (w / 4)) next).list [] (turns_met z (λ i _. masked_pair_of mask digit (w / 4) i) tt next (w / 4) (λ i h. pair_complete i _ h (rw (turn-next mask digit (w / 4) next i) (each i h)))) tt
 
 -- ---- the two parts that fall away
 -- the half that a part is of
-abbrev pub half_of : ℕ → ℕ → Part → ℕ
-half_of b v Low = chosen_half 16 b v
-half_of b v High = other_half 16 b v
+abbrev pub half_of : ℕ → ℕ → ℕ → Part → ℕ
+half_of n b v Low = chosen_half n b v
+half_of n b v High = other_half n b v
 
-module _ (z : List ℕ) (assigns : Assigns z) (p : Places) (s b v : ℕ) (small : s < 16) (bit : IsBit b)
-    (marks : Marks z p.distance p.products 4 s) (word : Spells z p.word 32 v) (chosen : Spells z p.chosen 16 (chosen_half 16 b v)) where
-  -- the halves have 16 bits
-  pub chosen-below : chosen_half 16 b v < 2 ^ 16
+module _ (w : ℕ) (width : IsWidth w) (z : List ℕ) (assigns : Assigns z) (p : Places) (s b v : ℕ) (small : s < w / 2) (bit : IsBit b)
+    (marks : Marks z p.distance p.products (half_log w) s) (word : Spells z p.word w v) (chosen : Spells z p.chosen (w / 2) (chosen_half (w / 2) b v)) where
+  halves : Spells z p.word (w / 2 + w / 2) v
+  halves = subst (λ n. Spells z p.word n v) (let same : w ≡ w / 2 + w / 2 = omega arith in same) word
+
+  -- the marks are as many as half a word has bits
+  among_marks : (i : ℕ) → i < w / 2 → i < 2 ^ half_log w
+  among_marks i h = omega (arith, half_power w width)
+
+  half-small : (n : ℕ) → n < 2 ^ (w / 2) → n < P
+  half-small n h = grind arith
+
+  -- each half has half a word's bits
+  pub chosen-below : chosen_half (w / 2) b v < 2 ^ (w / 2)
   chosen-below = Spells-below chosen
 
-  pub other-below : other_half 16 b v < 2 ^ 16
+  pub other-below : other_half (w / 2) b v < 2 ^ (w / 2)
   other-below = elim (bit_cases b bit) [
-    | inl none ↦ rw none (Spells-below (Spells-high z p.word 16 16 v word))
-    | inr one ↦ rw one (Spells-below (Spells-low z p.word 16 16 v word))
+    | inl none ↦ rw none (Spells-below (Spells-high z p.word (w / 2) (w / 2) v halves))
+    | inr one ↦ rw one (Spells-below (Spells-low z p.word (w / 2) (w / 2) v halves))
   ]
 
-  mask-is : (part : Part) (i : ℕ) → i < 16 → value (mask_at 4 p part i) z ≡ mask_value 4 s part i
+  mask-is : (part : Part) (i : ℕ) → i < w / 2 → value (mask_at w p part i) z ≡ mask_value w s part i
   unfolding mask_at
-  mask-is Low i h = marks i h
-  mask-is High i h = marks (15 - i) (omega arith)
+  mask-is Low i h = marks i (among_marks i h)
+  mask-is High i h = marks (w / 2 - 1 - i) (among_marks (w / 2 - 1 - i) (omega arith))
 
-  mask-bit : (part : Part) (i : ℕ) → IsBit (mask_value 4 s part i)
+  mask-bit : (part : Part) (i : ℕ) → IsBit (mask_value w s part i)
   mask-bit Low i = below-bit i s
-  mask-bit High i = below-bit (15 - i) s
+  mask-bit High i = below-bit (w / 2 - 1 - i) s
 
   difference : (l h u : ℕ) → IsBit l → IsBit h → u ≡ selected b h l → ((l + h) % P + (P - u)) % P ≡ selected b l h
   difference l h u p q is = elim (bit_cases b bit) [
@@ -159,43 +177,43 @@ module _ (z : List ℕ) (assigns : Assigns z) (p : Places) (s b v : ℕ) (small 
     | inr one ↦ rw one (let same : u ≡ h = is ∙ rw one refl in omega arith)
   ]
 
-  chosen_digit : (i : ℕ) → bit_at (chosen_half 16 b v) i ≡ selected b (bit_at (v / 2 ^ 16) i) (bit_at (v % 2 ^ 16) i)
+  chosen_digit : (i : ℕ) → bit_at (chosen_half (w / 2) b v) i ≡ selected b (bit_at (v / 2 ^ (w / 2)) i) (bit_at (v % 2 ^ (w / 2)) i)
   chosen_digit i = elim (bit_cases b bit) [ inl none ↦ rw none refl | inr one ↦ rw one refl ]
 
-  other_digit : (i : ℕ) → bit_at (other_half 16 b v) i ≡ selected b (bit_at (v % 2 ^ 16) i) (bit_at (v / 2 ^ 16) i)
+  other_digit : (i : ℕ) → bit_at (other_half (w / 2) b v) i ≡ selected b (bit_at (v % 2 ^ (w / 2)) i) (bit_at (v / 2 ^ (w / 2)) i)
   other_digit i = elim (bit_cases b bit) [ inl none ↦ rw none refl | inr one ↦ rw one refl ]
 
-  digit-is : (part : Part) (i : ℕ) → i < 16 → value (digit_at 4 p part i) z ≡ bit_at (half_of b v part) i
+  digit-is : (part : Part) (i : ℕ) → i < w / 2 → value (digit_at w p part i) z ≡ bit_at (half_of (w / 2) b v part) i
   unfolding digit_at
   digit-is Low i h = value-wire assigns (p.chosen + i) ∙ Spells-bit_at chosen i h
   digit-is High i h =
-      let l = Spells-bit_at (Spells-low z p.word 16 16 v word) i h in
-      let place : p.word + (16 + i) ≡ p.word + 16 + i = omega arith in
-      let u = ap (λ k. slice_index z k) place ∙ Spells-bit_at (Spells-high z p.word 16 16 v word) i h in
-      let low_bit = bit_at-lt (v % 2 ^ 16) i in
-      let high_bit = bit_at-lt (v / 2 ^ 16) i in
-      value-less (wire (p.word + i) ++ wire (p.word + (16 + i))) (wire (p.chosen + i)) z
-      ∙ ap₂ (λ m n. (m + (P - n)) % P) (value-append (wire (p.word + i)) (wire (p.word + (16 + i))) z ∙ ap₂ (λ m n. (m + n) % P) (value-wire assigns (p.word + i) ∙ l) (value-wire assigns (p.word + (16 + i)) ∙ u)) (value-wire assigns (p.chosen + i) ∙ Spells-bit_at chosen i h)
-      ∙ difference (bit_at (v % 2 ^ 16) i) (bit_at (v / 2 ^ 16) i) (bit_at (chosen_half 16 b v) i) low_bit high_bit (chosen_digit i)
+      let l = Spells-bit_at (Spells-low z p.word (w / 2) (w / 2) v halves) i h in
+      let place : p.word + (w / 2 + i) ≡ p.word + w / 2 + i = omega arith in
+      let u = ap (λ k. slice_index z k) place ∙ Spells-bit_at (Spells-high z p.word (w / 2) (w / 2) v halves) i h in
+      let low_bit = bit_at-lt (v % 2 ^ (w / 2)) i in
+      let high_bit = bit_at-lt (v / 2 ^ (w / 2)) i in
+      value-less (wire (p.word + i) ++ wire (p.word + (w / 2 + i))) (wire (p.chosen + i)) z
+      ∙ ap₂ (λ m n. (m + (P - n)) % P) (value-append (wire (p.word + i)) (wire (p.word + (w / 2 + i))) z ∙ ap₂ (λ m n. (m + n) % P) (value-wire assigns (p.word + i) ∙ l) (value-wire assigns (p.word + (w / 2 + i)) ∙ u)) (value-wire assigns (p.chosen + i) ∙ Spells-bit_at chosen i h)
+      ∙ difference (bit_at (v % 2 ^ (w / 2)) i) (bit_at (v / 2 ^ (w / 2)) i) (bit_at (chosen_half (w / 2) b v) i) low_bit high_bit (chosen_digit i)
       ∙ sym (other_digit i)
 
-  value-part : (part : Part) (next : ℕ) → Meets z (masked_of (mask_at 4 p part) (digit_at 4 p part) 8 next).list
-      → value (bits_combination next 8) z ≡ sum_below 16 (λ i. 2 ^ i * (mask_value 4 s part i * bit_at (half_of b v part) i)) % P
+  value-part : (part : Part) (next : ℕ) → Meets z (masked_of (mask_at w p part) (digit_at w p part) (w / 4) next).list
+      → value (bits_combination next (w / 4)) z ≡ sum_below (w / 2) (λ i. 2 ^ i * (mask_value w s part i * bit_at (half_of (w / 2) b v part) i)) % P
   value-part part next meets =
-      masked_sound z assigns (mask_at 4 p part) (digit_at 4 p part) (mask_value 4 s part) (bit_at (half_of b v part)) (mask-is part) (mask-bit part) (digit-is part) (λ i. bit_at-lt (half_of b v part) i) next meets
+      masked_sound w width z assigns (mask_at w p part) (digit_at w p part) (mask_value w s part) (bit_at (half_of (w / 2) b v part)) (mask-is part) (mask-bit part) (digit-is part) (λ i. bit_at-lt (half_of (w / 2) b v part) i) next meets
 
-  pub part_complete : (part : Part) (next : ℕ) → HasFrom z next (masked_values (mask_value 4 s part) (half_of b v part) 8) → Meets z (masked_of (mask_at 4 p part) (digit_at 4 p part) 8 next).list
+  pub part_complete : (part : Part) (next : ℕ) → HasFrom z next (masked_values (mask_value w s part) (half_of (w / 2) b v part) (w / 4)) → Meets z (masked_of (mask_at w p part) (digit_at w p part) (w / 4) next).list
   part_complete part next has =
-      masked_complete z assigns (mask_at 4 p part) (digit_at 4 p part) (mask_value 4 s part) (bit_at (half_of b v part)) (mask-is part) (mask-bit part) (digit-is part) (λ i. bit_at-lt (half_of b v part) i) next
-      (has_each z next 8 (masked_value (mask_value 4 s part) (half_of b v part) 8) has)
+      masked_complete w width z assigns (mask_at w p part) (digit_at w p part) (mask_value w s part) (bit_at (half_of (w / 2) b v part)) (mask-is part) (mask-bit part) (digit-is part) (λ i. bit_at-lt (half_of (w / 2) b v part) i) next
+      (has_each z next (w / 4) (masked_value (mask_value w s part) (half_of (w / 2) b v part) (w / 4)) has)
 
-  pub low_sound : (next : ℕ) → Meets z (masked_of (mask_at 4 p Low) (digit_at 4 p Low) 8 next).list → value (bits_combination next 8) z ≡ chosen_half 16 b v % 2 ^ s
+  pub low_sound : (next : ℕ) → Meets z (masked_of (mask_at w p Low) (digit_at w p Low) (w / 4) next).list → value (bits_combination next (w / 4)) z ≡ chosen_half (w / 2) b v % 2 ^ s
   low_sound next meets =
-      let below = mod-le (chosen_half 16 b v) (2 ^ s) in
-      value-part Low next meets ∙ ap (λ k. k % P) (low_part 16 s (chosen_half 16 b v) (omega arith)) ∙ mod-eq_of_lt (omega (arith, chosen-below))
+      let below = mod-le (chosen_half (w / 2) b v) (2 ^ s) in
+      value-part Low next meets ∙ ap (λ k. k % P) (low_part (w / 2) s (chosen_half (w / 2) b v) (omega arith)) ∙ mod-eq_of_lt (half-small _ (omega (arith, chosen-below)))
 
-  pub high_sound : (next : ℕ) → Meets z (masked_of (mask_at 4 p High) (digit_at 4 p High) 8 next).list → value (bits_combination next 8) z + other_half 16 b v % 2 ^ (16 - s) ≡ other_half 16 b v
+  pub high_sound : (next : ℕ) → Meets z (masked_of (mask_at w p High) (digit_at w p High) (w / 4) next).list → value (bits_combination next (w / 4)) z + other_half (w / 2) b v % 2 ^ (w / 2 - s) ≡ other_half (w / 2) b v
   high_sound next meets =
-      let sum = high_part 16 s (other_half 16 b v) (omega arith) other-below in
-      let part : value (bits_combination next 8) z ≡ sum_below 16 (λ i. 2 ^ i * (below (16 - 1 - i) s * bit_at (other_half 16 b v) i)) = value-part High next meets ∙ mod-eq_of_lt (omega (arith, other-below)) in
-      ap (λ k. k + other_half 16 b v % 2 ^ (16 - s)) part ∙ sum
+      let sum = high_part (w / 2) s (other_half (w / 2) b v) (omega arith) other-below in
+      let part : value (bits_combination next (w / 4)) z ≡ sum_below (w / 2) (λ i. 2 ^ i * (below (w / 2 - 1 - i) s * bit_at (other_half (w / 2) b v) i)) = value-part High next meets ∙ mod-eq_of_lt (half-small _ (omega (arith, other-below))) in
+      ap (λ k. k + other_half (w / 2) b v % 2 ^ (w / 2 - s)) part ∙ sum

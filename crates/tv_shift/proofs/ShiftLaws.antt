@@ -1,6 +1,5 @@
 -- The laws of the shift, from those of its parts.
 use Rattle.std.proofs.Common.{◌≡◌, ℕ, ◌+◌, ◌-◌, ◌*◌, ◌/◌, ◌%◌, ◌^◌, ◌<◌, List, [], ◌∷◌, ◌++◌, length, min, inl, inr, refl, sym, subst, ◌∙◌, ap, ap₂, arith, mod-lt, mod-eq_of_lt}
-use Rattle.std.proofs.Math.ListN.{length-append}
 use Rattle.std.proofs.Math.Nat.{div-le_self}
 use Rattle.std.proofs.lemmas.Bool.{cases_eq}
 use Rattle.std.proofs.lemmas.Nat.{pow_pos}
@@ -24,230 +23,216 @@ use Rattle.tv_core.specs.Laws.{Assigns, Meets, HasFrom}
 use Rattle.tv_core.specs.declared.field.TheConstants.{P}
 use Rattle.tv_shift.proofs.HalfLaws.{halves_sound, halves_complete, halves_next}
 use Rattle.tv_shift.proofs.MaskLaws.{low_sound, high_sound, part_complete, masked_next}
-use Rattle.tv_shift.proofs.ProductLaws.{product_sound, product_complete, quotient_sound, quotient_complete}
-use Rattle.tv_shift.proofs.ShiftNumbers.{half_left-below, half_right-below, chosen_rest, other_is, left_whole, right_whole, right_of, of_right, rest-left, distance_near, far_left, far_right, power-small}
-use Rattle.tv_shift.proofs.ThermometerLaws.{Marks, thermometer_sound, thermometer_complete, thermometer_next, length-values, value-power}
+use Rattle.tv_bits.proofs.TimesLaws.{times_sound, times_complete, ratio_sound, ratio_complete}
+use Rattle.tv_shift.proofs.ShiftNumbers.{word-small, half_power, half_left-below, half_right-below, chosen_rest, other_is, left_whole, right_whole, right_of, of_right, rest-left, distance_near, distance_far, far_left, far_right, power-small}
+use Rattle.tv_shift.proofs.ShiftSizes.{places_next, parts_next, half_next, rest_next, length-places, length-parts}
+use Rattle.tv_shift.proofs.ThermometerLaws.{Marks, thermometer_sound, thermometer_complete, value-power}
 use Rattle.tv_shift.specs.Halves.{chosen_half, other_half, halves_of}
-use Rattle.tv_shift.specs.Masks.{masked_of, masked_value, masked_values, mask_at, mask_value, digit_at}
-use Rattle.tv_shift.specs.Products.{product_of, quotient_of}
+use Rattle.tv_shift.specs.Masks.{masked_of, masked_value, masked_values, half_log, mask_at, mask_value, digit_at}
+use Rattle.tv_bits.specs.Ratio.{ratio_of}
+use Rattle.tv_bits.specs.Times.{times_of}
 use Rattle.tv_shift.specs.Shift.{shifted_left, shifted_right, IsShifted, places_of, parts_of, by_half_of, by_rest_of, ends_of, shift_of, places_values, parts_values, half_left, half_right, ends_values, ShiftIsSound, ShiftIsComplete}
 use Rattle.tv_shift.specs.Thermometer.{mark, thermometer_of, thermometer_values, power_of}
 use Rattle.tv_shift.specs.declared.ends.Shift.{Shift}
 use Rattle.tv_shift.specs.declared.masks.Part.TheVariants.{Low, High}
 use Rattle.tv_shift.specs.declared.masks.Parts.{Parts}
 use Rattle.tv_shift.specs.declared.masks.Places.{Places}
+use Rattle.tv_word.specs.Widths.{IsWidth}
 
 -- what is known of places, and of parts, for a word v, a distance whose low bits spell s, and the bit b above them
-record ArePlaces (z : List ℕ) (p : Places) (s b v : ℕ) : Type 0 where
-  marks : Marks z p.distance p.products 4 s
-  chosen : Spells z p.chosen 16 (chosen_half 16 b v)
+record ArePlaces (w : ℕ) (z : List ℕ) (p : Places) (s b v : ℕ) : Type 0 where
+  marks : Marks z p.distance p.products (half_log w) s
+  chosen : Spells z p.chosen (w / 2) (chosen_half (w / 2) b v)
 
-record AreParts (z : List ℕ) (p : Parts) (s b v : ℕ) : Type 0 where
-  marks : Marks z p.places.distance p.places.products 4 s
-  low : value (bits_combination p.low 8) z ≡ chosen_half 16 b v % 2 ^ s
-  high : value (bits_combination p.high 8) z + other_half 16 b v % 2 ^ (16 - s) ≡ other_half 16 b v
+record AreParts (w : ℕ) (z : List ℕ) (p : Parts) (s b v : ℕ) : Type 0 where
+  marks : Marks z p.places.distance p.places.products (half_log w) s
+  low : value (bits_combination p.low (w / 4)) z ≡ chosen_half (w / 2) b v % 2 ^ s
+  high : value (bits_combination p.high (w / 4)) z + other_half (w / 2) b v % 2 ^ (w / 2 - s) ≡ other_half (w / 2) b v
 
-module _ (z : List ℕ) (assigns : Assigns z) (x y v d : ℕ) (word : Spells z x 32 v) (distance : Spells z y 32 d) where
-  s-small : d % 2 ^ 4 < 16
-  s-small = omega arith
+module _ (w : ℕ) (width : IsWidth w) (z : List ℕ) (assigns : Assigns z) (x y v d : ℕ) (word : Spells z x w v) (distance : Spells z y w d) where
+  -- the word in two halves
+  word_halves : Spells z x (w / 2 + w / 2) v
+  word_halves = subst (λ n. Spells z x n v) (let same : w ≡ w / 2 + w / 2 = omega arith in same) word
 
-  b-bit : IsBit (bit_at d 4)
-  b-bit = bit_at-lt d 4
+  s-small : d % 2 ^ half_log w < w / 2
+  s-small = subst (λ n. d % 2 ^ half_log w < n) (half_power w width) (mod-lt d (pow_pos (half_log w)))
 
-  b-is : slice_index z (y + 4) ≡ bit_at d 4
-  b-is = Spells-bit_at distance 4 (omega arith)
+  b-bit : IsBit (bit_at d (half_log w))
+  b-bit = bit_at-lt d (half_log w)
 
-  b-wire : IsBit (slice_index z (y + 4))
-  b-wire = distance.bits 4 (omega arith)
+  b-is : slice_index z (y + half_log w) ≡ bit_at d (half_log w)
+  b-is = Spells-bit_at distance (half_log w) (omega arith)
+
+  b-wire : IsBit (slice_index z (y + half_log w))
+  b-wire = distance.bits (half_log w) (omega arith)
+
+  left-below : half_left (w / 2) (bit_at d (half_log w)) v < 2 ^ w
+  left-below = half_left-below w width (bit_at d (half_log w)) v b-bit (Spells-below word)
+
+  right-below : half_right (w / 2) (bit_at d (half_log w)) v < 2 ^ w
+  right-below = half_right-below w width (bit_at d (half_log w)) v b-bit (Spells-below word)
 
   -- ---- places
-  places_sound : (next : ℕ) → Meets z (places_of 4 x y next).list → ArePlaces z (places_of 4 x y next).answer (d % 2 ^ 4) (bit_at d 4) v
+  places_sound : (next : ℕ) → Meets z (places_of w x y next).list → ArePlaces w z (places_of w x y next).answer (d % 2 ^ half_log w) (bit_at d (half_log w)) v
   unfolding places_of thermometer_of here pure ◌>>=◌
   places_sound next meets =
-      let first = Meets-split z (halves_of 16 (y + 4) x next).list _ meets in
-      let second = Meets-split z (thermometer_of 4 y (halves_of 16 (y + 4) x next).next).list [] first.1 in
+      let first = Meets-split z (halves_of (w / 2) (y + half_log w) x next).list _ meets in
+      let second = Meets-split z (thermometer_of (half_log w) y (halves_of (w / 2) (y + half_log w) x next).next).list [] first.1 in
       record {
-        marks = thermometer_sound z assigns y 32 d distance (halves_of 16 (y + 4) x next).next 4 (omega arith) second.0;
-        chosen = rw b-is at (halves_sound z 16 (y + 4) x assigns b-wire v word next first.0);
+        marks = thermometer_sound z assigns y w d distance (halves_of (w / 2) (y + half_log w) x next).next (half_log w) (omega arith) second.0;
+        chosen = rw b-is at (halves_sound z (w / 2) (y + half_log w) x assigns b-wire v word_halves next first.0);
       }
 
-  places_complete : (next : ℕ) → HasFrom z next (places_values 4 v d) → Meets z (places_of 4 x y next).list
+  places_complete : (next : ℕ) → HasFrom z next (places_values w v d) → Meets z (places_of w x y next).list
   unfolding places_of ◌>>=◌ pure
   places_complete next has =
-      let two = HasFrom-split z next (bits_values (chosen_half 16 (bit_at d 4) v) 16) (thermometer_values 4 d) has in
-      let rest = rw (length-each_below 16 (bit_at (chosen_half 16 (bit_at d 4) v))) at two.1 in
-      let half = halves_complete z 16 (y + 4) x assigns b-wire v word next (rw b-is two.0) in
-      let marks = thermometer_complete z assigns y 32 d distance (halves_of 16 (y + 4) x next).next 4 (omega arith) (rw (halves_next 16 (y + 4) x next) rest) in
-      Meets-join z (halves_of 16 (y + 4) x next).list _ half (Meets-join z (thermometer_of 4 y (halves_of 16 (y + 4) x next).next).list [] marks tt)
+      let two = HasFrom-split z next (bits_values (chosen_half (w / 2) (bit_at d (half_log w)) v) (w / 2)) (thermometer_values (half_log w) d) has in
+      let rest = rw (length-each_below (w / 2) (bit_at (chosen_half (w / 2) (bit_at d (half_log w)) v))) at two.1 in
+      let half = halves_complete z (w / 2) (y + half_log w) x assigns b-wire v word_halves next (rw b-is two.0) in
+      let marks = thermometer_complete z assigns y w d distance (halves_of (w / 2) (y + half_log w) x next).next (half_log w) (omega arith) (rw (halves_next (w / 2) (y + half_log w) x next) rest) in
+      Meets-join z (halves_of (w / 2) (y + half_log w) x next).list _ half (Meets-join z (thermometer_of (half_log w) y (halves_of (w / 2) (y + half_log w) x next).next).list [] marks tt)
 
-  places_next : (next : ℕ) → (places_of 4 x y next).next ≡ next + 27
-  unfolding places_of ◌>>=◌ pure
-  places_next next = thermometer_next 4 y (halves_of 16 (y + 4) x next).next ∙ ap (λ n. n + 11) (halves_next 16 (y + 4) x next) ∙ omega arith
-
-  places_word : (next : ℕ) → (places_of 4 x y next).answer.word ≡ x
+  places_word : (next : ℕ) → (places_of w x y next).answer.word ≡ x
   unfolding places_of ◌>>=◌ pure
   places_word next = refl
 
   -- ---- parts
-  word_at : (next : ℕ) → Spells z (places_of 4 x y next).answer.word 32 v
-  word_at next = subst (λ k. Spells z k 32 v) (sym (places_word next)) word
+  word_at : (next : ℕ) → Spells z (places_of w x y next).answer.word w v
+  word_at next = subst (λ k. Spells z k w v) (sym (places_word next)) word
 
-  parts_sound : (next : ℕ) → Meets z (parts_of 4 x y next).list → AreParts z (parts_of 4 x y next).answer (d % 2 ^ 4) (bit_at d 4) v
+  parts_sound : (next : ℕ) → Meets z (parts_of w x y next).list → AreParts w z (parts_of w x y next).answer (d % 2 ^ half_log w) (bit_at d (half_log w)) v
   unfolding parts_of masked_of here pure ◌>>=◌
   parts_sound next meets =
-      let p = (places_of 4 x y next).answer in
-      let at = (places_of 4 x y next).next in
-      let first = Meets-split z (places_of 4 x y next).list _ meets in
-      let second = Meets-split z (masked_of (mask_at 4 p Low) (digit_at 4 p Low) 8 at).list _ first.1 in
-      let third = Meets-split z (masked_of (mask_at 4 p High) (digit_at 4 p High) 8 (masked_of (mask_at 4 p Low) (digit_at 4 p Low) 8 at).next).list [] second.1 in
+      let p = (places_of w x y next).answer in
+      let at = (places_of w x y next).next in
+      let first = Meets-split z (places_of w x y next).list _ meets in
+      let second = Meets-split z (masked_of (mask_at w p Low) (digit_at w p Low) (w / 4) at).list _ first.1 in
+      let third = Meets-split z (masked_of (mask_at w p High) (digit_at w p High) (w / 4) (masked_of (mask_at w p Low) (digit_at w p Low) (w / 4) at).next).list [] second.1 in
       let known = places_sound next first.0 in
       record {
         marks = known.marks;
-        low = low_sound z assigns p (d % 2 ^ 4) (bit_at d 4) v s-small b-bit known.marks (word_at next) known.chosen at second.0;
-        high = high_sound z assigns p (d % 2 ^ 4) (bit_at d 4) v s-small b-bit known.marks (word_at next) known.chosen (masked_of (mask_at 4 p Low) (digit_at 4 p Low) 8 at).next third.0;
+        low = low_sound w width z assigns p (d % 2 ^ half_log w) (bit_at d (half_log w)) v s-small b-bit known.marks (word_at next) known.chosen at second.0;
+        high = high_sound w width z assigns p (d % 2 ^ half_log w) (bit_at d (half_log w)) v s-small b-bit known.marks (word_at next) known.chosen (masked_of (mask_at w p Low) (digit_at w p Low) (w / 4) at).next third.0;
       }
 
-  places_length : length (places_values 4 v d) ≡ 27
-  places_length =
-      length-append (bits_values (chosen_half 16 (bit_at d 4) v) 16) (thermometer_values 4 d)
-      ∙ ap₂ (λ a b. a + b) (length-each_below 16 (bit_at (chosen_half 16 (bit_at d 4) v))) (length-values z assigns y 32 d distance 0 4)
-
-  parts_complete : (next : ℕ) → HasFrom z next (parts_values 4 v d) → Meets z (parts_of 4 x y next).list
+  parts_complete : (next : ℕ) → HasFrom z next (parts_values w v d) → Meets z (parts_of w x y next).list
   unfolding parts_of ◌>>=◌ pure
   parts_complete next has =
-      let p = (places_of 4 x y next).answer in
-      let at = (places_of 4 x y next).next in
-      let s = d % 2 ^ 4 in
-      let b = bit_at d 4 in
-      let low_values = masked_values (mask_value 4 s Low) (chosen_half 16 b v) 8 in
-      let high_values = masked_values (mask_value 4 s High) (other_half 16 b v) 8 in
-      let two = HasFrom-split z next (places_values 4 v d) (low_values ++ high_values) has in
-      let rest : HasFrom z at (low_values ++ high_values) = subst (λ k. HasFrom z k (low_values ++ high_values)) (ap (λ n. next + n) places_length ∙ sym (places_next next)) two.1 in
+      let p = (places_of w x y next).answer in
+      let at = (places_of w x y next).next in
+      let s = d % 2 ^ half_log w in
+      let b = bit_at d (half_log w) in
+      let low_values = masked_values (mask_value w s Low) (chosen_half (w / 2) b v) (w / 4) in
+      let high_values = masked_values (mask_value w s High) (other_half (w / 2) b v) (w / 4) in
+      let two = HasFrom-split z next (places_values w v d) (low_values ++ high_values) has in
+      let rest : HasFrom z at (low_values ++ high_values) = subst (λ k. HasFrom z k (low_values ++ high_values)) (ap (λ n. next + n) (length-places w width v d) ∙ sym (places_next w width x y next)) two.1 in
       let halves = HasFrom-split z at low_values high_values rest in
       let met = places_complete next two.0 in
       let known = places_sound next met in
-      let above : at + length low_values ≡ (masked_of (mask_at 4 p Low) (digit_at 4 p Low) 8 at).next =
-      ap (λ n. at + n) (length-each_below 8 (masked_value (mask_value 4 s Low) (chosen_half 16 b v) 8)) ∙ sym (masked_next (mask_at 4 p Low) (digit_at 4 p Low) 8 at) in
-      let low = part_complete z assigns p s b v s-small b-bit known.marks (word_at next) known.chosen Low at halves.0 in
-      let high = part_complete z assigns p s b v s-small b-bit known.marks (word_at next) known.chosen High _ (subst (λ k. HasFrom z k high_values) above halves.1) in
-      Meets-join z (places_of 4 x y next).list _ met
-      (Meets-join z (masked_of (mask_at 4 p Low) (digit_at 4 p Low) 8 at).list _ low
-      (Meets-join z (masked_of (mask_at 4 p High) (digit_at 4 p High) 8 (masked_of (mask_at 4 p Low) (digit_at 4 p Low) 8 at).next).list [] high tt))
-
-  parts_next : (next : ℕ) → (parts_of 4 x y next).next ≡ next + 43
-  unfolding parts_of ◌>>=◌ pure
-  parts_next next =
-      let p = (places_of 4 x y next).answer in
-      masked_next (mask_at 4 p High) (digit_at 4 p High) 8 _
-      ∙ ap (λ n. n + 8) (masked_next (mask_at 4 p Low) (digit_at 4 p Low) 8 _ ∙ ap (λ n. n + 8) (places_next next)) ∙ omega arith
-
-  parts_length : length (parts_values 4 v d) ≡ 43
-  parts_length =
-      let s = d % 2 ^ 4 in
-      let b = bit_at d 4 in
-      let low_values = masked_values (mask_value 4 s Low) (chosen_half 16 b v) 8 in
-      let high_values = masked_values (mask_value 4 s High) (other_half 16 b v) 8 in
-      length-append (places_values 4 v d) (low_values ++ high_values)
-      ∙ ap₂ (λ a b. a + b) places_length (length-append low_values high_values ∙ ap₂ (λ a b. a + b) (length-each_below 8 (masked_value (mask_value 4 s Low) (chosen_half 16 b v) 8)) (length-each_below 8 (masked_value (mask_value 4 s High) (other_half 16 b v) 8)))
+      let above : at + length low_values ≡ (masked_of (mask_at w p Low) (digit_at w p Low) (w / 4) at).next =
+      ap (λ n. at + n) (length-each_below (w / 4) (masked_value (mask_value w s Low) (chosen_half (w / 2) b v) (w / 4))) ∙ sym (masked_next (mask_at w p Low) (digit_at w p Low) (w / 4) at) in
+      let low = part_complete w width z assigns p s b v s-small b-bit known.marks (word_at next) known.chosen Low at halves.0 in
+      let high = part_complete w width z assigns p s b v s-small b-bit known.marks (word_at next) known.chosen High _ (subst (λ k. HasFrom z k high_values) above halves.1) in
+      Meets-join z (places_of w x y next).list _ met
+      (Meets-join z (masked_of (mask_at w p Low) (digit_at w p Low) (w / 4) at).list _ low
+      (Meets-join z (masked_of (mask_at w p High) (digit_at w p High) (w / 4) (masked_of (mask_at w p Low) (digit_at w p Low) (w / 4) at).next).list [] high tt))
 
   -- ---- by half a word
-  low_value : value (scaled (2 ^ 16 % P) (bits_combination x 16)) z ≡ 2 ^ 16 * (v % 2 ^ 16)
-  low_value = value-scaled (2 ^ 16 % P) (bits_combination x 16) z ∙ ap (λ n. 2 ^ 16 % P * n % P) (value-bits_below (Spells-low z x 16 16 v word) (omega arith)) ∙ omega arith
+  half_whole : 2 ^ (w / 2) % P ≡ 2 ^ (w / 2)
+  half_whole = grind arith
 
-  high_value : value (bits_combination (x + 16) 16) z ≡ v / 2 ^ 16
-  high_value = value-bits_below (Spells-high z x 16 16 v word) (omega arith)
+  half_up : (n : ℕ) → 2 ^ (w / 2) % P * (n % 2 ^ (w / 2)) % P ≡ 2 ^ (w / 2) * (n % 2 ^ (w / 2))
+  half_up n = grind arith
 
-  word_value : value (bits_combination x 32) z ≡ v
+  low_value : value (scaled (2 ^ (w / 2) % P) (bits_combination x (w / 2))) z ≡ 2 ^ (w / 2) * (v % 2 ^ (w / 2))
+  low_value = value-scaled (2 ^ (w / 2) % P) (bits_combination x (w / 2)) z ∙ ap (λ n. 2 ^ (w / 2) % P * n % P) (value-bits_below (Spells-low z x (w / 2) (w / 2) v word_halves) (omega arith)) ∙ half_up v
+
+  high_value : value (bits_combination (x + w / 2) (w / 2)) z ≡ v / 2 ^ (w / 2)
+  high_value = value-bits_below (Spells-high z x (w / 2) (w / 2) v word_halves) (omega arith)
+
+  word_value : value (bits_combination x w) z ≡ v
   word_value = value-bits_below word (omega arith)
 
-  left_chosen : selected (slice_index z (y + 4)) (value (scaled (2 ^ 16 % P) (bits_combination x 16)) z) (value (bits_combination x 32) z) ≡ half_left 16 (bit_at d 4) v
-  left_chosen = ap₂ (λ m n. selected (slice_index z (y + 4)) m n) low_value word_value ∙ ap (λ b. selected b (2 ^ 16 * (v % 2 ^ 16)) v) b-is
+  left_chosen : selected (slice_index z (y + half_log w)) (value (scaled (2 ^ (w / 2) % P) (bits_combination x (w / 2))) z) (value (bits_combination x w) z) ≡ half_left (w / 2) (bit_at d (half_log w)) v
+  left_chosen = ap₂ (λ m n. selected (slice_index z (y + half_log w)) m n) low_value word_value ∙ ap (λ b. selected b (2 ^ (w / 2) * (v % 2 ^ (w / 2))) v) b-is
 
-  right_chosen : selected (slice_index z (y + 4)) (value (bits_combination (x + 16) 16) z) (value (bits_combination x 32) z) ≡ half_right 16 (bit_at d 4) v
-  right_chosen = ap₂ (λ m n. selected (slice_index z (y + 4)) m n) high_value word_value ∙ ap (λ b. selected b (v / 2 ^ 16) v) b-is
+  right_chosen : selected (slice_index z (y + half_log w)) (value (bits_combination (x + w / 2) (w / 2)) z) (value (bits_combination x w) z) ≡ half_right (w / 2) (bit_at d (half_log w)) v
+  right_chosen = ap₂ (λ m n. selected (slice_index z (y + half_log w)) m n) high_value word_value ∙ ap (λ b. selected b (v / 2 ^ (w / 2)) v) b-is
 
-  half_sound : (at : ℕ) → Meets z (by_half_of 16 (y + 4) x at).list
-      → (slice_index z (by_half_of 16 (y + 4) x at).answer.left ≡ half_left 16 (bit_at d 4) v) × (slice_index z (by_half_of 16 (y + 4) x at).answer.right ≡ half_right 16 (bit_at d 4) v)
+  half_sound : (at : ℕ) → Meets z (by_half_of w (y + half_log w) x at).list
+      → (slice_index z (by_half_of w (y + half_log w) x at).answer.left ≡ half_left (w / 2) (bit_at d (half_log w)) v) × (slice_index z (by_half_of w (y + half_log w) x at).answer.right ≡ half_right (w / 2) (bit_at d (half_log w)) v)
   unfolding by_half_of ◌>>=◌ pure
   half_sound at meets =
-      let left = select_of (y + 4) (scaled (2 ^ 16 % P) (bits_combination x 16)) (bits_combination x 32) at in
+      let left = select_of (y + half_log w) (scaled (2 ^ (w / 2) % P) (bits_combination x (w / 2))) (bits_combination x w) at in
       let first = Meets-split z left.list _ meets in
-      let second = Meets-split z (select_of (y + 4) (bits_combination (x + 16) 16) (bits_combination x 32) left.next).list [] first.1 in (
-        select_sound z at (y + 4) (scaled (2 ^ 16 % P) (bits_combination x 16)) (bits_combination x 32) assigns b-wire first.0 ∙ left_chosen,
-        select_sound z left.next (y + 4) (bits_combination (x + 16) 16) (bits_combination x 32) assigns b-wire second.0 ∙ right_chosen,
+      let second = Meets-split z (select_of (y + half_log w) (bits_combination (x + w / 2) (w / 2)) (bits_combination x w) left.next).list [] first.1 in (
+        select_sound z at (y + half_log w) (scaled (2 ^ (w / 2) % P) (bits_combination x (w / 2))) (bits_combination x w) assigns b-wire first.0 ∙ left_chosen,
+        select_sound z left.next (y + half_log w) (bits_combination (x + w / 2) (w / 2)) (bits_combination x w) assigns b-wire second.0 ∙ right_chosen,
       )
 
-  half_complete : (at : ℕ) → slice_index z at ≡ half_left 16 (bit_at d 4) v → slice_index z (at + 1) ≡ half_right 16 (bit_at d 4) v → Meets z (by_half_of 16 (y + 4) x at).list
+  half_complete : (at : ℕ) → slice_index z at ≡ half_left (w / 2) (bit_at d (half_log w)) v → slice_index z (at + 1) ≡ half_right (w / 2) (bit_at d (half_log w)) v → Meets z (by_half_of w (y + half_log w) x at).list
   unfolding by_half_of select_of fresh put ◌>>=◌ pure
   half_complete at l r =
-      let left = select_of (y + 4) (scaled (2 ^ 16 % P) (bits_combination x 16)) (bits_combination x 32) at in
-      let right = select_of (y + 4) (bits_combination (x + 16) 16) (bits_combination x 32) left.next in
-      Meets-join z left.list (right.list ++ []) (select_complete z at (y + 4) (scaled (2 ^ 16 % P) (bits_combination x 16)) (bits_combination x 32) assigns b-wire (l ∙ sym left_chosen, tt))
-      (Meets-join z right.list [] (select_complete z (at + 1) (y + 4) (bits_combination (x + 16) 16) (bits_combination x 32) assigns b-wire (r ∙ sym right_chosen, tt)) tt)
-
-  half_next : (at : ℕ) → (by_half_of 16 (y + 4) x at).next ≡ at + 1 + 1
-  unfolding by_half_of select_of fresh put ◌>>=◌ pure
-  half_next at = refl
+      let left = select_of (y + half_log w) (scaled (2 ^ (w / 2) % P) (bits_combination x (w / 2))) (bits_combination x w) at in
+      let right = select_of (y + half_log w) (bits_combination (x + w / 2) (w / 2)) (bits_combination x w) left.next in
+      Meets-join z left.list (right.list ++ []) (select_complete z at (y + half_log w) (scaled (2 ^ (w / 2) % P) (bits_combination x (w / 2))) (bits_combination x w) assigns b-wire (l ∙ sym left_chosen, tt))
+      (Meets-join z right.list [] (select_complete z (at + 1) (y + half_log w) (bits_combination (x + w / 2) (w / 2)) (bits_combination x w) assigns b-wire (r ∙ sym right_chosen, tt)) tt)
 
   -- ---- by the rest of the distance
-  module _ (p : Parts) (half : Shift) (known : AreParts z p (d % 2 ^ 4) (bit_at d 4) v)
-      (left_is : slice_index z half.left ≡ half_left 16 (bit_at d 4) v) (right_is : slice_index z half.right ≡ half_right 16 (bit_at d 4) v) where
+  module _ (p : Parts) (half : Shift) (known : AreParts w z p (d % 2 ^ half_log w) (bit_at d (half_log w)) v)
+      (left_is : slice_index z half.left ≡ half_left (w / 2) (bit_at d (half_log w)) v) (right_is : slice_index z half.right ≡ half_right (w / 2) (bit_at d (half_log w)) v) where
     power : Combination
-    power = power_of (mark p.places.distance p.places.products 4) 15
+    power = power_of (mark p.places.distance p.places.products (half_log w)) (w / 2 - 1)
 
-    power_value : value power z ≡ 2 ^ (d % 2 ^ 4)
+    power_value : value power z ≡ 2 ^ (d % 2 ^ half_log w)
     unfolding power
     power_value =
-        let least : min 15 (d % 2 ^ 4) ≡ d % 2 ^ 4 = omega arith in
-        value-power z assigns 0 (mark p.places.distance p.places.products 4) (d % 2 ^ 4) 15 (λ i h. known.marks i (omega arith))
-        ∙ ap (λ n. 2 ^ n % P) least ∙ mod-eq_of_lt (omega (arith, power-small (d % 2 ^ 4) s-small))
+        let least : min (w / 2 - 1) (d % 2 ^ half_log w) ≡ d % 2 ^ half_log w = omega (arith, s-small) in
+        value-power z assigns 0 (mark p.places.distance p.places.products (half_log w)) (d % 2 ^ half_log w) (w / 2 - 1) (λ i h. known.marks i (omega (arith, half_power w width)))
+        ∙ ap (λ n. 2 ^ n % P) least ∙ mod-eq_of_lt (omega (arith, power-small w width (d % 2 ^ half_log w) s-small))
 
-    left_value : value (less (wire half.left) (scaled (2 ^ 16 % P) (bits_combination p.high 8))) z ≡ (half_left 16 (bit_at d 4) v + (P - 2 ^ 16 * value (bits_combination p.high 8) z % P)) % P
+    left_value : value (less (wire half.left) (scaled (2 ^ (w / 2) % P) (bits_combination p.high (w / 4)))) z ≡ (half_left (w / 2) (bit_at d (half_log w)) v + (P - 2 ^ (w / 2) * value (bits_combination p.high (w / 4)) z % P)) % P
     left_value =
-        value-less (wire half.left) (scaled (2 ^ 16 % P) (bits_combination p.high 8)) z
-        ∙ ap₂ (λ a b. (a + (P - b)) % P) (value-wire assigns half.left ∙ left_is) (value-scaled (2 ^ 16 % P) (bits_combination p.high 8) z)
+        value-less (wire half.left) (scaled (2 ^ (w / 2) % P) (bits_combination p.high (w / 4))) z
+        ∙ ap₂ (λ a b. (a + (P - b)) % P) (value-wire assigns half.left ∙ left_is) (value-scaled (2 ^ (w / 2) % P) (bits_combination p.high (w / 4)) z ∙ ap (λ n. n * value (bits_combination p.high (w / 4)) z % P) half_whole)
 
-    right_value : value (less (wire half.right) (bits_combination p.low 8)) z ≡ (half_right 16 (bit_at d 4) v + (P - value (bits_combination p.low 8) z)) % P
+    right_value : value (less (wire half.right) (bits_combination p.low (w / 4))) z ≡ (half_right (w / 2) (bit_at d (half_log w)) v + (P - value (bits_combination p.low (w / 4)) z)) % P
     right_value =
-        value-less (wire half.right) (bits_combination p.low 8) z
-        ∙ ap (λ a. (a + (P - value (bits_combination p.low 8) z)) % P) (value-wire assigns half.right ∙ right_is)
+        value-less (wire half.right) (bits_combination p.low (w / 4)) z
+        ∙ ap (λ a. (a + (P - value (bits_combination p.low (w / 4)) z)) % P) (value-wire assigns half.right ∙ right_is)
 
-    high_is : value (bits_combination p.high 8) z + half_left 16 (bit_at d 4) v / 2 ^ 16 % 2 ^ (16 - d % 2 ^ 4) ≡ half_left 16 (bit_at d 4) v / 2 ^ 16
-    high_is = subst (λ k. value (bits_combination p.high 8) z + k % 2 ^ (16 - d % 2 ^ 4) ≡ k) (other_is (bit_at d 4) v b-bit (Spells-below word)) known.high
+    high_is : value (bits_combination p.high (w / 4)) z + half_left (w / 2) (bit_at d (half_log w)) v / 2 ^ (w / 2) % 2 ^ (w / 2 - d % 2 ^ half_log w) ≡ half_left (w / 2) (bit_at d (half_log w)) v / 2 ^ (w / 2)
+    high_is = subst (λ k. value (bits_combination p.high (w / 4)) z + k % 2 ^ (w / 2 - d % 2 ^ half_log w) ≡ k) (other_is w width (bit_at d (half_log w)) v b-bit (Spells-below word)) known.high
 
-    low_is : value (bits_combination p.low 8) z ≡ half_right 16 (bit_at d 4) v % 2 ^ (d % 2 ^ 4)
-    low_is = known.low ∙ chosen_rest (bit_at d 4) v b-bit (Spells-below word) (d % 2 ^ 4) s-small
+    low_is : value (bits_combination p.low (w / 4)) z ≡ half_right (w / 2) (bit_at d (half_log w)) v % 2 ^ (d % 2 ^ half_log w)
+    low_is = known.low ∙ chosen_rest w width (bit_at d (half_log w)) v b-bit (Spells-below word) (d % 2 ^ half_log w) s-small
 
-    left_product : value power z * value (less (wire half.left) (scaled (2 ^ 16 % P) (bits_combination p.high 8))) z % P ≡ shifted_left 32 (half_left 16 (bit_at d 4) v) (d % 2 ^ 4)
+    left_product : value power z * value (less (wire half.left) (scaled (2 ^ (w / 2) % P) (bits_combination p.high (w / 4)))) z % P ≡ shifted_left w (half_left (w / 2) (bit_at d (half_log w)) v) (d % 2 ^ half_log w)
     left_product =
         ap₂ (λ a b. a * b % P) power_value left_value
-        ∙ rest-left (d % 2 ^ 4) s-small (half_left 16 (bit_at d 4) v) (value (bits_combination p.high 8) z) (half_left-below (bit_at d 4) v b-bit (Spells-below word)) high_is
+        ∙ rest-left w width (d % 2 ^ half_log w) s-small (half_left (w / 2) (bit_at d (half_log w)) v) (value (bits_combination p.high (w / 4)) z) left-below high_is
 
-    rest_sound : (at : ℕ) → Meets z (by_rest_of 4 p half at).list
-        → (slice_index z (by_rest_of 4 p half at).answer.left ≡ shifted_left 32 (half_left 16 (bit_at d 4) v) (d % 2 ^ 4)) × (slice_index z (by_rest_of 4 p half at).answer.right ≡ shifted_right (half_right 16 (bit_at d 4) v) (d % 2 ^ 4))
+    rest_sound : (at : ℕ) → Meets z (by_rest_of w p half at).list
+        → (slice_index z (by_rest_of w p half at).answer.left ≡ shifted_left w (half_left (w / 2) (bit_at d (half_log w)) v) (d % 2 ^ half_log w)) × (slice_index z (by_rest_of w p half at).answer.right ≡ shifted_right (half_right (w / 2) (bit_at d (half_log w)) v) (d % 2 ^ half_log w))
     unfolding by_rest_of ◌>>=◌ pure power
     rest_sound at meets =
-        let left = product_of power (less (wire half.left) (scaled (2 ^ 16 % P) (bits_combination p.high 8))) at in
-        let right = quotient_of power (less (wire half.right) (bits_combination p.low 8)) left.next in
+        let left = times_of power (less (wire half.left) (scaled (2 ^ (w / 2) % P) (bits_combination p.high (w / 4)))) at in
+        let right = ratio_of power (less (wire half.right) (bits_combination p.low (w / 4))) left.next in
         let first = Meets-split z left.list _ meets in
         let second = Meets-split z right.list [] first.1 in
-        let divided = ap (λ n. n * slice_index z right.answer % P) (sym power_value) ∙ quotient_sound z assigns power (less (wire half.right) (bits_combination p.low 8)) left.next second.0 ∙ right_value in (
-          product_sound z assigns power (less (wire half.left) (scaled (2 ^ 16 % P) (bits_combination p.high 8))) at first.0 ∙ left_product,
-          right_of (d % 2 ^ 4) s-small (half_right 16 (bit_at d 4) v) (value (bits_combination p.low 8) z) (half_right-below (bit_at d 4) v b-bit (Spells-below word)) low_is (slice_index z right.answer) (wire-below assigns right.answer) divided,
+        let divided = ap (λ n. n * slice_index z right.answer % P) (sym power_value) ∙ ratio_sound z left.next power (less (wire half.right) (bits_combination p.low (w / 4))) assigns second.0 ∙ right_value in (
+          times_sound z at power (less (wire half.left) (scaled (2 ^ (w / 2) % P) (bits_combination p.high (w / 4)))) assigns first.0 ∙ left_product,
+          right_of w width (d % 2 ^ half_log w) s-small (half_right (w / 2) (bit_at d (half_log w)) v) (value (bits_combination p.low (w / 4)) z) (word-small w width _ right-below) low_is (slice_index z right.answer) (wire-below assigns right.answer) divided,
         )
 
-    rest_complete : (at : ℕ) → slice_index z at ≡ shifted_left 32 (half_left 16 (bit_at d 4) v) (d % 2 ^ 4) → slice_index z (at + 1) ≡ shifted_right (half_right 16 (bit_at d 4) v) (d % 2 ^ 4) → Meets z (by_rest_of 4 p half at).list
-    unfolding by_rest_of product_of fresh put ◌>>=◌ pure power
+    rest_complete : (at : ℕ) → slice_index z at ≡ shifted_left w (half_left (w / 2) (bit_at d (half_log w)) v) (d % 2 ^ half_log w) → slice_index z (at + 1) ≡ shifted_right (half_right (w / 2) (bit_at d (half_log w)) v) (d % 2 ^ half_log w) → Meets z (by_rest_of w p half at).list
+    unfolding by_rest_of times_of fresh put ◌>>=◌ pure power
     rest_complete at l r =
-        let left = product_of power (less (wire half.left) (scaled (2 ^ 16 % P) (bits_combination p.high 8))) at in
-        let right = quotient_of power (less (wire half.right) (bits_combination p.low 8)) left.next in
-        Meets-join z left.list _ (product_complete z assigns power (less (wire half.left) (scaled (2 ^ 16 % P) (bits_combination p.high 8))) at (l ∙ sym left_product))
-        (Meets-join z right.list [] (quotient_complete z assigns power (less (wire half.right) (bits_combination p.low 8)) (at + 1)
-        (ap (λ n. n * slice_index z (at + 1) % P) power_value ∙ of_right (d % 2 ^ 4) s-small (half_right 16 (bit_at d 4) v) (value (bits_combination p.low 8) z) (half_right-below (bit_at d 4) v b-bit (Spells-below word)) low_is (slice_index z (at + 1)) r ∙ sym right_value)) tt)
-
-  rest_next : (p : Parts) (half : Shift) (at : ℕ) → (by_rest_of 4 p half at).next ≡ at + 1 + 1
-  unfolding by_rest_of product_of quotient_of fresh put ◌>>=◌ pure
-  rest_next p half at = refl
+        let left = times_of power (less (wire half.left) (scaled (2 ^ (w / 2) % P) (bits_combination p.high (w / 4)))) at in
+        let right = ratio_of power (less (wire half.right) (bits_combination p.low (w / 4))) left.next in
+        Meets-join z left.list _ (times_complete z at power (less (wire half.left) (scaled (2 ^ (w / 2) % P) (bits_combination p.high (w / 4)))) assigns (l ∙ sym left_product, tt))
+        (Meets-join z right.list [] (ratio_complete z (at + 1) power (less (wire half.right) (bits_combination p.low (w / 4))) (slice_index z (at + 1)) assigns
+        (ap (λ n. n * slice_index z (at + 1) % P) power_value ∙ of_right w width (d % 2 ^ half_log w) s-small (half_right (w / 2) (bit_at d (half_log w)) v) (value (bits_combination p.low (w / 4)) z) (word-small w width _ right-below) low_is (slice_index z (at + 1)) r ∙ sym right_value) (refl, tt)) tt)
 
   -- ---- 0 from a word's width on
   one_times : (n : ℕ) → n < P → 1 * n % P ≡ n
@@ -256,107 +241,111 @@ module _ (z : List ℕ) (assigns : Assigns z) (x y v d : ℕ) (word : Spells z x
   zero_times : (n : ℕ) → 0 * n % P ≡ 0
   zero_times n = omega arith
 
-  far_value : value (bits_combination (y + 5) 27) z ≡ d / 2 ^ 5
-  far_value = value-bits_below (Spells-high z y 5 27 d distance) (omega arith)
+  far_value : value (bits_combination (y + (half_log w + 1)) (w - (half_log w + 1))) z ≡ d / 2 ^ (half_log w + 1)
+  far_value = value-bits_below (Spells-high z y (half_log w + 1) (w - (half_log w + 1)) d apart) (omega arith)
+    where
+      apart : Spells z y (half_log w + 1 + (w - (half_log w + 1))) d
+      apart = subst (λ n. Spells z y n d) (let same : w ≡ half_log w + 1 + (w - (half_log w + 1)) = omega arith in same) distance
 
-  left_gated : zero_flag (d / 2 ^ 5) * shifted_left 32 (half_left 16 (bit_at d 4) v) (d % 2 ^ 4) % P ≡ shifted_left 32 v d
-  left_gated = elim (cases_eq (d / 2 ^ 5) 0) [
+  left_gated : zero_flag (d / 2 ^ (half_log w + 1)) * shifted_left w (half_left (w / 2) (bit_at d (half_log w)) v) (d % 2 ^ half_log w) % P ≡ shifted_left w v d
+  left_gated = elim (cases_eq (d / 2 ^ (half_log w + 1)) 0) [
     | inl near ↦
-        let small = mod-lt (half_left 16 (bit_at d 4) v * 2 ^ (d % 2 ^ 4)) (pow_pos 32) in
-        ap (λ f. f * shifted_left 32 (half_left 16 (bit_at d 4) v) (d % 2 ^ 4) % P) (zero_flag-zero (d / 2 ^ 5) near)
-        ∙ one_times (shifted_left 32 (half_left 16 (bit_at d 4) v) (d % 2 ^ 4)) (omega arith)
-        ∙ left_whole (bit_at d 4) v b-bit (Spells-below word) (d % 2 ^ 4) s-small
-        ∙ ap (λ n. v * 2 ^ n % 2 ^ 32) (distance_near d (Spells-below distance) near)
+        let small = mod-lt (half_left (w / 2) (bit_at d (half_log w)) v * 2 ^ (d % 2 ^ half_log w)) (pow_pos w) in
+        let number = word-small w width _ small in
+        ap (λ f. f * shifted_left w (half_left (w / 2) (bit_at d (half_log w)) v) (d % 2 ^ half_log w) % P) (zero_flag-zero (d / 2 ^ (half_log w + 1)) near)
+        ∙ one_times (shifted_left w (half_left (w / 2) (bit_at d (half_log w)) v) (d % 2 ^ half_log w)) (omega arith)
+        ∙ left_whole w width (bit_at d (half_log w)) v b-bit (Spells-below word) (d % 2 ^ half_log w) s-small
+        ∙ ap (λ n. v * 2 ^ n % 2 ^ w) (distance_near w width d (Spells-below distance) near)
     | inr far ↦
-        ap (λ f. f * shifted_left 32 (half_left 16 (bit_at d 4) v) (d % 2 ^ 4) % P) (zero_flag-other (d / 2 ^ 5) far)
-        ∙ zero_times (shifted_left 32 (half_left 16 (bit_at d 4) v) (d % 2 ^ 4))
-        ∙ sym (far_left 32 v d (omega arith))
+        ap (λ f. f * shifted_left w (half_left (w / 2) (bit_at d (half_log w)) v) (d % 2 ^ half_log w) % P) (zero_flag-other (d / 2 ^ (half_log w + 1)) far)
+        ∙ zero_times (shifted_left w (half_left (w / 2) (bit_at d (half_log w)) v) (d % 2 ^ half_log w))
+        ∙ sym (far_left w v d (distance_far w width d far))
   ]
 
-  right_gated : zero_flag (d / 2 ^ 5) * shifted_right (half_right 16 (bit_at d 4) v) (d % 2 ^ 4) % P ≡ shifted_right v d
-  right_gated = elim (cases_eq (d / 2 ^ 5) 0) [
+  right_gated : zero_flag (d / 2 ^ (half_log w + 1)) * shifted_right (half_right (w / 2) (bit_at d (half_log w)) v) (d % 2 ^ half_log w) % P ≡ shifted_right v d
+  right_gated = elim (cases_eq (d / 2 ^ (half_log w + 1)) 0) [
     | inl near ↦
-        let small = div-le_self (half_right 16 (bit_at d 4) v) (2 ^ (d % 2 ^ 4)) in
-        let less = half_right-below (bit_at d 4) v b-bit (Spells-below word) in
-        ap (λ f. f * shifted_right (half_right 16 (bit_at d 4) v) (d % 2 ^ 4) % P) (zero_flag-zero (d / 2 ^ 5) near)
-        ∙ one_times (shifted_right (half_right 16 (bit_at d 4) v) (d % 2 ^ 4)) (omega arith)
-        ∙ right_whole (bit_at d 4) v b-bit (Spells-below word) (d % 2 ^ 4)
-        ∙ ap (λ n. v / 2 ^ n) (distance_near d (Spells-below distance) near)
+        let small = div-le_self (half_right (w / 2) (bit_at d (half_log w)) v) (2 ^ (d % 2 ^ half_log w)) in
+        let less = word-small w width _ right-below in
+        ap (λ f. f * shifted_right (half_right (w / 2) (bit_at d (half_log w)) v) (d % 2 ^ half_log w) % P) (zero_flag-zero (d / 2 ^ (half_log w + 1)) near)
+        ∙ one_times (shifted_right (half_right (w / 2) (bit_at d (half_log w)) v) (d % 2 ^ half_log w)) (omega arith)
+        ∙ right_whole w width (bit_at d (half_log w)) v b-bit (Spells-below word) (d % 2 ^ half_log w)
+        ∙ ap (λ n. v / 2 ^ n) (distance_near w width d (Spells-below distance) near)
     | inr far ↦
-        ap (λ f. f * shifted_right (half_right 16 (bit_at d 4) v) (d % 2 ^ 4) % P) (zero_flag-other (d / 2 ^ 5) far)
-        ∙ zero_times (shifted_right (half_right 16 (bit_at d 4) v) (d % 2 ^ 4))
-        ∙ sym (far_right 32 v d (Spells-below word) (omega arith))
+        ap (λ f. f * shifted_right (half_right (w / 2) (bit_at d (half_log w)) v) (d % 2 ^ half_log w) % P) (zero_flag-other (d / 2 ^ (half_log w + 1)) far)
+        ∙ zero_times (shifted_right (half_right (w / 2) (bit_at d (half_log w)) v) (d % 2 ^ half_log w))
+        ∙ sym (far_right w v d (Spells-below word) (distance_far w width d far))
   ]
 
-  module _ (none : ℕ) (near : Shift) (none_is : slice_index z none ≡ zero_flag (d / 2 ^ 5))
-      (left_is : slice_index z near.left ≡ shifted_left 32 (half_left 16 (bit_at d 4) v) (d % 2 ^ 4)) (right_is : slice_index z near.right ≡ shifted_right (half_right 16 (bit_at d 4) v) (d % 2 ^ 4)) where
-    gate_left : value (wire none) z * value (wire near.left) z % P ≡ shifted_left 32 v d
+  module _ (none : ℕ) (near : Shift) (none_is : slice_index z none ≡ zero_flag (d / 2 ^ (half_log w + 1)))
+      (left_is : slice_index z near.left ≡ shifted_left w (half_left (w / 2) (bit_at d (half_log w)) v) (d % 2 ^ half_log w)) (right_is : slice_index z near.right ≡ shifted_right (half_right (w / 2) (bit_at d (half_log w)) v) (d % 2 ^ half_log w)) where
+    gate_left : value (wire none) z * value (wire near.left) z % P ≡ shifted_left w v d
     gate_left = ap₂ (λ a b. a * b % P) (value-wire assigns none ∙ none_is) (value-wire assigns near.left ∙ left_is) ∙ left_gated
 
     gate_right : value (wire none) z * value (wire near.right) z % P ≡ shifted_right v d
     gate_right = ap₂ (λ a b. a * b % P) (value-wire assigns none ∙ none_is) (value-wire assigns near.right ∙ right_is) ∙ right_gated
 
-    ends_sound : (at : ℕ) → Meets z (ends_of none near at).list → IsShifted z 32 (ends_of none near at).answer v d
+    ends_sound : (at : ℕ) → Meets z (ends_of none near at).list → IsShifted w z (ends_of none near at).answer v d
     unfolding ends_of ◌>>=◌ pure
     ends_sound at meets =
-        let left = product_of (wire none) (wire near.left) at in
+        let left = times_of (wire none) (wire near.left) at in
         let first = Meets-split z left.list _ meets in
-        let second = Meets-split z (product_of (wire none) (wire near.right) left.next).list [] first.1 in
+        let second = Meets-split z (times_of (wire none) (wire near.right) left.next).list [] first.1 in
         record {
-          left = product_sound z assigns (wire none) (wire near.left) at first.0 ∙ gate_left;
-          right = product_sound z assigns (wire none) (wire near.right) left.next second.0 ∙ gate_right;
+          left = times_sound z at (wire none) (wire near.left) assigns first.0 ∙ gate_left;
+          right = times_sound z left.next (wire none) (wire near.right) assigns second.0 ∙ gate_right;
         }
 
-    ends_complete : (at : ℕ) → slice_index z at ≡ shifted_left 32 v d → slice_index z (at + 1) ≡ shifted_right v d → Meets z (ends_of none near at).list
-    unfolding ends_of product_of fresh put ◌>>=◌ pure
+    ends_complete : (at : ℕ) → slice_index z at ≡ shifted_left w v d → slice_index z (at + 1) ≡ shifted_right v d → Meets z (ends_of none near at).list
+    unfolding ends_of times_of fresh put ◌>>=◌ pure
     ends_complete at l r =
-        let left = product_of (wire none) (wire near.left) at in
-        let right = product_of (wire none) (wire near.right) left.next in
-        Meets-join z left.list (right.list ++ []) (product_complete z assigns (wire none) (wire near.left) at (l ∙ sym gate_left))
-        (Meets-join z right.list [] (product_complete z assigns (wire none) (wire near.right) (at + 1) (r ∙ sym gate_right)) tt)
+        let left = times_of (wire none) (wire near.left) at in
+        let right = times_of (wire none) (wire near.right) left.next in
+        Meets-join z left.list (right.list ++ []) (times_complete z at (wire none) (wire near.left) assigns (l ∙ sym gate_left, tt))
+        (Meets-join z right.list [] (times_complete z (at + 1) (wire none) (wire near.right) assigns (r ∙ sym gate_right, tt)) tt)
 
 -- ---- the whole
 pub shift_sound : ShiftIsSound
 unfolding shift_of ◌>>=◌
-shift_sound z next x y v d assigns word distance meets =
-    let parts = parts_of 4 x.first y.first next in
-    let half = by_half_of 16 (y.first + 4) x.first parts.next in
-    let near = by_rest_of 4 parts.answer half.answer half.next in
-    let none = zero_of (bits_combination (y.first + 5) 27) near.next in
+shift_sound w width z next x y v d assigns word distance meets =
+    let parts = parts_of w x.first y.first next in
+    let half = by_half_of w (y.first + half_log w) x.first parts.next in
+    let near = by_rest_of w parts.answer half.answer half.next in
+    let none = zero_of (bits_combination (y.first + (half_log w + 1)) (w - (half_log w + 1))) near.next in
     let first = Meets-split z parts.list _ meets in
     let second = Meets-split z half.list _ first.1 in
     let third = Meets-split z near.list _ second.1 in
     let fourth = Meets-split z none.list _ third.1 in
-    let known = parts_sound z assigns x.first y.first v d word distance next first.0 in
-    let halves = half_sound z assigns x.first y.first v d word distance parts.next second.0 in
-    let rests = rest_sound z assigns x.first y.first v d word distance parts.answer half.answer known halves.0 halves.1 half.next third.0 in
-    let flag = zero_sound z near.next (bits_combination (y.first + 5) 27) assigns fourth.0 ∙ ap zero_flag (far_value z assigns x.first y.first v d word distance) in
-    ends_sound z assigns x.first y.first v d word distance none.answer near.answer flag rests.0 rests.1 none.next fourth.1
+    let known = parts_sound w width z assigns x.first y.first v d word distance next first.0 in
+    let halves = half_sound w width z assigns x.first y.first v d word distance parts.next second.0 in
+    let rests = rest_sound w width z assigns x.first y.first v d word distance parts.answer half.answer known halves.0 halves.1 half.next third.0 in
+    let flag = zero_sound z near.next (bits_combination (y.first + (half_log w + 1)) (w - (half_log w + 1))) assigns fourth.0 ∙ ap zero_flag (far_value w width z assigns x.first y.first v d word distance) in
+    ends_sound w width z assigns x.first y.first v d word distance none.answer near.answer flag rests.0 rests.1 none.next fourth.1
 
 pub shift_complete : ShiftIsComplete
 unfolding shift_of ◌>>=◌
-shift_complete z next x y v d assigns word distance has =
-    let parts = parts_of 4 x.first y.first next in
-    let half = by_half_of 16 (y.first + 4) x.first parts.next in
-    let near = by_rest_of 4 parts.answer half.answer half.next in
-    let none = zero_of (bits_combination (y.first + 5) 27) near.next in
-    let far = zero_values (d / 2 ^ 5) in
-    let last = shifted_left 32 v d ∷ shifted_right v d ∷ [] in
-    let two = HasFrom-split z next (parts_values 4 v d) (ends_values 32 v d ++ (far ++ last)) has in
-    let at : next + length (parts_values 4 v d) ≡ parts.next = ap (λ n. next + n) (parts_length z assigns x.first y.first v d word distance) ∙ sym (parts_next z assigns x.first y.first v d word distance next) in
-    let rest : HasFrom z parts.next (ends_values 32 v d ++ (far ++ last)) = subst (λ k. HasFrom z k (ends_values 32 v d ++ (far ++ last))) at two.1 in
-    let half_at : half.next ≡ parts.next + 1 + 1 = half_next z assigns x.first y.first v d word distance parts.next in
-    let near_at : near.next ≡ parts.next + 1 + 1 + 1 + 1 = rest_next z assigns x.first y.first v d word distance parts.answer half.answer half.next ∙ ap (λ n. n + 1 + 1) half_at in
-    let none_at : none.next ≡ parts.next + 1 + 1 + 1 + 1 + 1 + 1 = zero_next (bits_combination (y.first + 5) 27) near.next ∙ ap (λ n. n + 2) near_at ∙ omega arith in
-    let first = parts_complete z assigns x.first y.first v d word distance next two.0 in
-    let known = parts_sound z assigns x.first y.first v d word distance next first in
-    let second = half_complete z assigns x.first y.first v d word distance parts.next rest.0 rest.1.0 in
-    let halves = half_sound z assigns x.first y.first v d word distance parts.next second in
-    let third = rest_complete z assigns x.first y.first v d word distance parts.answer half.answer known halves.0 halves.1 half.next (ap (λ k. slice_index z k) half_at ∙ rest.1.1.0) (ap (λ k. slice_index z (k + 1)) half_at ∙ rest.1.1.1.0) in
-    let rests = rest_sound z assigns x.first y.first v d word distance parts.answer half.answer known halves.0 halves.1 half.next third in
-    let number = far_value z assigns x.first y.first v d word distance in
-    let flags : HasFrom z near.next (zero_values (value (bits_combination (y.first + 5) 27) z)) = rw (near_at, number) (rest.1.1.1.1.0, (rest.1.1.1.1.1.0, tt)) in
-    let fourth = zero_complete z near.next (bits_combination (y.first + 5) 27) assigns flags in
-    let flag = zero_sound z near.next (bits_combination (y.first + 5) 27) assigns fourth ∙ ap zero_flag number in
-    let fifth = ends_complete z assigns x.first y.first v d word distance none.answer near.answer flag rests.0 rests.1 none.next (ap (λ k. slice_index z k) none_at ∙ rest.1.1.1.1.1.1.0) (ap (λ k. slice_index z (k + 1)) none_at ∙ rest.1.1.1.1.1.1.1.0) in
+shift_complete w width z next x y v d assigns word distance has =
+    let parts = parts_of w x.first y.first next in
+    let half = by_half_of w (y.first + half_log w) x.first parts.next in
+    let near = by_rest_of w parts.answer half.answer half.next in
+    let none = zero_of (bits_combination (y.first + (half_log w + 1)) (w - (half_log w + 1))) near.next in
+    let far = zero_values (d / 2 ^ (half_log w + 1)) in
+    let last = shifted_left w v d ∷ shifted_right v d ∷ [] in
+    let two = HasFrom-split z next (parts_values w v d) (ends_values w v d ++ (far ++ last)) has in
+    let at : next + length (parts_values w v d) ≡ parts.next = ap (λ n. next + n) (length-parts w width v d) ∙ sym (parts_next w width x.first y.first next) in
+    let rest : HasFrom z parts.next (ends_values w v d ++ (far ++ last)) = subst (λ k. HasFrom z k (ends_values w v d ++ (far ++ last))) at two.1 in
+    let half_at : half.next ≡ parts.next + 1 + 1 = half_next w (y.first + half_log w) x.first parts.next in
+    let near_at : near.next ≡ parts.next + 1 + 1 + 1 + 1 = rest_next w parts.answer half.answer half.next ∙ ap (λ n. n + 1 + 1) half_at in
+    let none_at : none.next ≡ parts.next + 1 + 1 + 1 + 1 + 1 + 1 = zero_next (bits_combination (y.first + (half_log w + 1)) (w - (half_log w + 1))) near.next ∙ ap (λ n. n + 2) near_at ∙ omega arith in
+    let first = parts_complete w width z assigns x.first y.first v d word distance next two.0 in
+    let known = parts_sound w width z assigns x.first y.first v d word distance next first in
+    let second = half_complete w width z assigns x.first y.first v d word distance parts.next rest.0 rest.1.0 in
+    let halves = half_sound w width z assigns x.first y.first v d word distance parts.next second in
+    let third = rest_complete w width z assigns x.first y.first v d word distance parts.answer half.answer known halves.0 halves.1 half.next (ap (λ k. slice_index z k) half_at ∙ rest.1.1.0) (ap (λ k. slice_index z (k + 1)) half_at ∙ rest.1.1.1.0) in
+    let rests = rest_sound w width z assigns x.first y.first v d word distance parts.answer half.answer known halves.0 halves.1 half.next third in
+    let number = far_value w width z assigns x.first y.first v d word distance in
+    let flags : HasFrom z near.next (zero_values (value (bits_combination (y.first + (half_log w + 1)) (w - (half_log w + 1))) z)) = rw (near_at, number) (rest.1.1.1.1.0, (rest.1.1.1.1.1.0, tt)) in
+    let fourth = zero_complete z near.next (bits_combination (y.first + (half_log w + 1)) (w - (half_log w + 1))) assigns flags in
+    let flag = zero_sound z near.next (bits_combination (y.first + (half_log w + 1)) (w - (half_log w + 1))) assigns fourth ∙ ap zero_flag number in
+    let fifth = ends_complete w width z assigns x.first y.first v d word distance none.answer near.answer flag rests.0 rests.1 none.next (ap (λ k. slice_index z k) none_at ∙ rest.1.1.1.1.1.1.0) (ap (λ k. slice_index z (k + 1)) none_at ∙ rest.1.1.1.1.1.1.1.0) in
     Meets-join z parts.list _ first (Meets-join z half.list _ second (Meets-join z near.list _ third (Meets-join z none.list _ fourth fifth)))

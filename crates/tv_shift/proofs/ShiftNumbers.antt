@@ -8,9 +8,26 @@ use Rattle.tv_bits.specs.Bit.{IsBit}
 use Rattle.tv_core.proofs.PrimeLaws.{p_cancels_below}
 use Rattle.tv_core.specs.declared.field.TheConstants.{P}
 use Rattle.tv_shift.specs.Halves.{chosen_half, other_half}
+use Rattle.tv_shift.specs.Masks.{half_log}
 use Rattle.tv_shift.specs.Shift.{half_left, half_right}
+use Rattle.tv_shift.specs.Thermometer.{products_below}
+use Rattle.tv_word.proofs.WidthLaws.{for_widths}
+use Rattle.tv_word.specs.Widths.{IsWidth}
 use Rattle.std.proofs.lemmas.Nat.{pow-add, pow_pos, mod-pow-add, mul-mod_first}
 
+-- ---- the widths
+-- a word is a number of the field
+pub word-small : (w : ℕ) → IsWidth w → (v : ℕ) → v < 2 ^ w → v < 2 ^ 32
+word-small w width v h = grind arith
+
+-- half a word
+pub half_power : (w : ℕ) → IsWidth w → 2 ^ half_log w ≡ w / 2
+half_power = for_widths (λ w. 2 ^ half_log w ≡ w / 2) refl refl
+
+pub products_half : (w : ℕ) → IsWidth w → products_below (half_log w) ≡ w / 2 - 1 - half_log w
+products_half w width = ap (λ n. n - 1 - half_log w) (half_power w width)
+
+-- ---- shifts
 -- a shift by a word's width or more is 0
 pub far_left : (w x y : ℕ) → w ≤ y → x * 2 ^ y % 2 ^ w ≡ 0
 far_left w x y far =
@@ -32,43 +49,51 @@ left_low w s x short =
     ap₂ (λ a b. a * 2 ^ s % b) divided power ∙ ap (λ n. n % (2 ^ s * 2 ^ (w - s))) moved ∙ add-mul-mod_self_left (2 ^ s * (x % 2 ^ (w - s))) (2 ^ s * 2 ^ (w - s)) (x / 2 ^ (w - s)) ∙ mod-eq_of_lt less
 
 -- ---- the word shifted by half a word where b is 1
-module _ (b v : ℕ) (bit : IsBit b) (word : v < 2 ^ 32) where
-  pub half_left-below : half_left 16 b v < 2 ^ 32
-  half_left-below = elim (bit_cases b bit) [ inl none ↦ rw none word | inr one ↦ rw one (omega arith) ]
+module _ (w : ℕ) (width : IsWidth w) (b v : ℕ) (bit : IsBit b) (word : v < 2 ^ w) where
+  low-below : 2 ^ (w / 2) * (v % 2 ^ (w / 2)) < 2 ^ w
+  low-below = grind arith
 
-  pub half_right-below : half_right 16 b v < 2 ^ 32
-  half_right-below = elim (bit_cases b bit) [ inl none ↦ rw none word | inr one ↦ rw one (omega arith) ]
+  high-below : v / 2 ^ (w / 2) < 2 ^ w
+  high-below = let less = div-le_self v (2 ^ (w / 2)) in omega arith
+
+  pub half_left-below : half_left (w / 2) b v < 2 ^ w
+  half_left-below = elim (bit_cases b bit) [ inl none ↦ rw none word | inr one ↦ rw one low-below ]
+
+  pub half_right-below : half_right (w / 2) b v < 2 ^ w
+  half_right-below = elim (bit_cases b bit) [ inl none ↦ rw none word | inr one ↦ rw one high-below ]
 
   -- the chosen half has its low bits, and the other half is its high half
-  pub chosen_rest : (s : ℕ) → s < 16 → chosen_half 16 b v % 2 ^ s ≡ half_right 16 b v % 2 ^ s
+  pub chosen_rest : (s : ℕ) → s < w / 2 → chosen_half (w / 2) b v % 2 ^ s ≡ half_right (w / 2) b v % 2 ^ s
   chosen_rest s small = elim (bit_cases b bit) [
-    | inl none ↦ rw none (let split : (16 - s) + s ≡ 16 = omega arith in ap (λ k. v % 2 ^ k % 2 ^ s) (sym split) ∙ mod-mod-pow v (16 - s) s)
+    | inl none ↦ rw none (let split : (w / 2 - s) + s ≡ w / 2 = omega arith in ap (λ k. v % 2 ^ k % 2 ^ s) (sym split) ∙ mod-mod-pow v (w / 2 - s) s)
     | inr one ↦ rw one refl
   ]
 
-  pub other_is : other_half 16 b v ≡ half_left 16 b v / 2 ^ 16
-  other_is = elim (bit_cases b bit) [ inl none ↦ rw none refl | inr one ↦ rw one (sym (mul-div_cancel_left (v % 2 ^ 16) (omega arith))) ]
+  pub other_is : other_half (w / 2) b v ≡ half_left (w / 2) b v / 2 ^ (w / 2)
+  other_is = elim (bit_cases b bit) [ inl none ↦ rw none refl | inr one ↦ rw one (sym (mul-div_cancel_left (v % 2 ^ (w / 2)) (pow_pos (w / 2)))) ]
 
   -- the two shifts together are one by the whole distance
-  pub left_whole : (s : ℕ) → s < 16 → half_left 16 b v * 2 ^ s % 2 ^ 32 ≡ v * 2 ^ (16 * b + s) % 2 ^ 32
+  pub left_whole : (s : ℕ) → s < w / 2 → half_left (w / 2) b v * 2 ^ s % 2 ^ w ≡ v * 2 ^ (w / 2 * b + s) % 2 ^ w
   left_whole s small = elim (bit_cases b bit) [
-    | inl none ↦ rw none (let same : 16 * 0 + s ≡ s = omega arith in rw same refl)
+    | inl none ↦ rw none (let same : w / 2 * 0 + s ≡ s = omega arith in rw same refl)
     | inr one ↦ rw one (
-        let low : 2 ^ 16 * (v % 2 ^ 16) ≡ v * 2 ^ 16 % 2 ^ 32 = sym (left_low 32 16 v (omega arith)) in
-        let power : 2 ^ (16 * 1 + s) ≡ 2 ^ 16 * 2 ^ s = pow-add 2 16 s in
-        let moved : v * 2 ^ 16 * 2 ^ s ≡ v * (2 ^ 16 * 2 ^ s) = omega arith in
-        ap (λ k. k * 2 ^ s % 2 ^ 32) low ∙ mul-mod_first (v * 2 ^ 16) (2 ^ s) (2 ^ 32) ∙ ap (λ k. k % 2 ^ 32) (moved ∙ ap (λ k. v * k) (sym power))
+        let rest : w - w / 2 ≡ w / 2 = omega arith in
+        let low : 2 ^ (w / 2) * (v % 2 ^ (w / 2)) ≡ v * 2 ^ (w / 2) % 2 ^ w = ap (λ k. 2 ^ (w / 2) * (v % 2 ^ k)) (sym rest) ∙ sym (left_low w (w / 2) v (omega arith)) in
+        let once : w / 2 * 1 + s ≡ w / 2 + s = omega arith in
+        let power : 2 ^ (w / 2 * 1 + s) ≡ 2 ^ (w / 2) * 2 ^ s = ap (λ k. 2 ^ k) once ∙ pow-add 2 (w / 2) s in
+        let moved : v * 2 ^ (w / 2) * 2 ^ s ≡ v * (2 ^ (w / 2) * 2 ^ s) = omega arith in
+        ap (λ k. k * 2 ^ s % 2 ^ w) low ∙ mul-mod_first (v * 2 ^ (w / 2)) (2 ^ s) (2 ^ w) ∙ ap (λ k. k % 2 ^ w) (moved ∙ ap (λ k. v * k) (sym power))
         )
   ]
 
-  pub right_whole : (s : ℕ) → half_right 16 b v / 2 ^ s ≡ v / 2 ^ (16 * b + s)
+  pub right_whole : (s : ℕ) → half_right (w / 2) b v / 2 ^ s ≡ v / 2 ^ (w / 2 * b + s)
   right_whole s = elim (bit_cases b bit) [
-    | inl none ↦ rw none (let same : 16 * 0 + s ≡ s = omega arith in rw same refl)
-    | inr one ↦ rw one (div-div-eq-div-mul v (2 ^ 16) (2 ^ s) ∙ ap (λ k. v / k) (sym (pow-add 2 16 s)))
+    | inl none ↦ rw none (let same : w / 2 * 0 + s ≡ s = omega arith in rw same refl)
+    | inr one ↦ rw one (div-div-eq-div-mul v (2 ^ (w / 2)) (2 ^ s) ∙ ap (λ k. v / k) (sym (let once : w / 2 * 1 + s ≡ w / 2 + s = omega arith in ap (λ k. 2 ^ k) once ∙ pow-add 2 (w / 2) s)))
   ]
 
 -- ---- what the constraints say of the shift by s
-module _ (s : ℕ) (small : s < 16) where
+module _ (w : ℕ) (width : IsWidth w) (s : ℕ) (small : s < w / 2) where
   pub power-small : 2 ^ s ≤ 2 ^ 16
   power-small = let short : s ≤ 16 = omega arith in pow-le-pow_right (omega arith) short
 
@@ -91,14 +116,25 @@ module _ (s : ℕ) (small : s < 16) where
     of_right r is = ap (λ k. 2 ^ s * k % P) is ∙ sym rest-right
 
   -- to the left: t is the part that falls away
-  pub rest-left : (x t : ℕ) → x < 2 ^ 32 → t + x / 2 ^ 16 % 2 ^ (16 - s) ≡ x / 2 ^ 16 → 2 ^ s * ((x + (P - 2 ^ 16 * t % P)) % P) % P ≡ x * 2 ^ s % 2 ^ 32
+  pub rest-left : (x t : ℕ) → x < 2 ^ w → t + x / 2 ^ (w / 2) % 2 ^ (w / 2 - s) ≡ x / 2 ^ (w / 2)
+      → 2 ^ s * ((x + (P - 2 ^ (w / 2) * t % P)) % P) % P ≡ x * 2 ^ s % 2 ^ w
   rest-left x t word part =
-      let whole = div-add-mod x (2 ^ 16) in
-      let width : (16 - s) + 16 ≡ 32 - s = omega arith in
-      let low : x % 2 ^ (32 - s) ≡ x / 2 ^ 16 % 2 ^ (16 - s) * 2 ^ 16 + x % 2 ^ 16 = ap (λ k. x % 2 ^ k) (sym width) ∙ mod-pow-add x (16 - s) 16 in
-      let same : (x + (P - 2 ^ 16 * t % P)) % P ≡ x % 2 ^ (32 - s) = omega arith in
-      ap (λ k. 2 ^ s * k % P) same ∙ ap (λ k. k % P) (sym (left_low 32 s x (omega arith))) ∙ mod-eq_of_lt (omega arith)
+      let split : (w / 2 - s) + w / 2 ≡ w - s = omega arith in
+      let low : x % 2 ^ (w - s) ≡ x / 2 ^ (w / 2) % 2 ^ (w / 2 - s) * 2 ^ (w / 2) + x % 2 ^ (w / 2) = ap (λ k. x % 2 ^ k) (sym split) ∙ mod-pow-add x (w / 2 - s) (w / 2) in
+      let same : (x + (P - 2 ^ (w / 2) * t % P)) % P ≡ x % 2 ^ (w - s) =
+      what_is_left (2 ^ (w / 2)) (x / 2 ^ (w / 2)) (x % 2 ^ (w / 2)) t (x / 2 ^ (w / 2) % 2 ^ (w / 2 - s)) x (sym (div-add-mod x (2 ^ (w / 2)))) part (word-small w width x word) ∙ sym low in
+      let below = mod-lt (x * 2 ^ s) (pow_pos w) in
+      ap (λ k. 2 ^ s * k % P) same ∙ ap (λ k. k % P) (sym (left_low w s x (omega arith))) ∙ mod-eq_of_lt (let number = word-small w width (x * 2 ^ s % 2 ^ w) below in omega arith)
+    where
+      -- a number without the part t of its quotient by n
+      what_is_left : (n q r t m x : ℕ) → x ≡ n * q + r → t + m ≡ q → x < 2 ^ 32 → (x + (P - n * t % P)) % P ≡ m * n + r
+      what_is_left n q r t m x is parts small =
+          let sum : n * q ≡ n * t + m * n = ap (λ k. n * k) (sym parts) ∙ omega arith in
+          omega arith
 
 -- ---- the distance
-pub distance_near : (d : ℕ) → d < 2 ^ 32 → d / 2 ^ 5 ≡ 0 → 16 * bit_at d 4 + d % 2 ^ 4 ≡ d
-distance_near d word near = omega arith
+pub distance_near : (w : ℕ) → IsWidth w → (d : ℕ) → d < 2 ^ w → d / 2 ^ (half_log w + 1) ≡ 0 → w / 2 * bit_at d (half_log w) + d % 2 ^ half_log w ≡ d
+distance_near = for_widths (λ w. (d : ℕ) → d < 2 ^ w → d / 2 ^ (half_log w + 1) ≡ 0 → w / 2 * bit_at d (half_log w) + d % 2 ^ half_log w ≡ d) (λ d word near. omega arith) (λ d word near. omega arith)
+
+pub distance_far : (w : ℕ) → IsWidth w → (d : ℕ) → d / 2 ^ (half_log w + 1) ≢ 0 → w ≤ d
+distance_far = for_widths (λ w. (d : ℕ) → d / 2 ^ (half_log w + 1) ≢ 0 → w ≤ d) (λ d far. omega arith) (λ d far. omega arith)

@@ -1,14 +1,13 @@
 -- The laws of a thermometer: its marks, and the power of 2 that they add up to.
-use Rattle.std.proofs.Common.{◌≡◌, ℕ, zero, suc, ◌+◌, ◌-◌, ◌*◌, ◌%◌, ◌^◌, ◌<◌, ◌≤◌, List, [], ◌++◌, length, min, if◌then◌else◌, inl, inr, refl, sym, subst, ◌∙◌, ap, ap₂, arith, mul-one, mod-lt}
+use Rattle.std.proofs.Common.{◌≡◌, ℕ, zero, suc, ◌+◌, ◌-◌, ◌*◌, ◌%◌, ◌^◌, ◌<◌, ◌≤◌, List, [], ◌++◌, min, if◌then◌else◌, inl, inr, refl, sym, subst, ◌∙◌, ap, ap₂, arith, mul-one, mod-lt}
 use Rattle.std.proofs.Math.Nat.{pow-suc, mod-one}
-use Rattle.std.proofs.Math.ListN.{length-append}
 use Rattle.std.proofs.lemmas.Bool.{cases_lt}
 use Rattle.std.proofs.lemmas.Nat.{mod-pow-add, pow_pos}
 use Rattle.std.specs.Prelude.{slice_index}
 use Rattle.tv_bits.proofs.SpelledNumbers.{Spells-bit_at}
 use Rattle.tv_bits.specs.Bit.{IsBit}
 use Rattle.tv_bits.specs.Bits.{Spells}
-use Rattle.tv_core.proofs.BelowLaws.{has_each, length-each_below}
+use Rattle.tv_core.proofs.BelowLaws.{has_each}
 use Rattle.tv_core.proofs.CombinationLaws.{value-append, value-cons, value-scaled, value-wire, value-constant, wire-below}
 use Rattle.tv_core.proofs.LoopLaws.{turn_met, turns_met, turns-next}
 use Rattle.tv_core.proofs.Meeting.{Meets-split, Meets-join, HasFrom-split, parts, whole}
@@ -19,9 +18,9 @@ use Rattle.tv_core.specs.Laws.{Assigns, Meets, HasFrom}
 use Rattle.tv_core.specs.Loops.{times}
 use Rattle.tv_core.specs.declared.field.TheConstants.{P}
 use Rattle.tv_bits.proofs.BitLaws.{bit_cases}
-use Rattle.tv_shift.proofs.LevelValues.{values-none, values-more}
+use Rattle.tv_shift.proofs.LevelValues.{values-more, length-values}
 use Rattle.tv_shift.proofs.MarkTerms.{lt-true, lt-false, products-more, both-in, both-last, mark-none, mark-low, mark-high}
-use Rattle.tv_shift.specs.Products.{product_of}
+use Rattle.tv_bits.specs.Times.{times_of}
 use Rattle.tv_shift.specs.Thermometer.{below, products_below, both, mark, level_product_of, level_of, thermometer_of, level_value, level_values, thermometer_values, power_of}
 
 -- ---- marks as numbers
@@ -49,7 +48,7 @@ higher-mark b j n s bit out small = elim (bit_cases b bit) [
 
 -- ---- circuits: where they end
 level_product-next : (bits products k j at : ℕ) → (level_product_of bits products k j at).next ≡ at + 1
-unfolding level_product_of product_of fresh put pure ◌>>=◌
+unfolding level_product_of times_of fresh put pure ◌>>=◌
 level_product-next bits products k j at = refl
 
 row-next : (bits products k at j : ℕ) → (times j (level_product_of bits products k) at).next ≡ at + j
@@ -81,12 +80,12 @@ Marks z bits products k s = (j : ℕ) → j < 2 ^ k → value (mark bits product
 module _ (z : List ℕ) (assigns : Assigns z) (bits : ℕ) where
   -- the products of one level
   level_product_sound : (products k j at : ℕ) → Meets z (level_product_of bits products k j at).list → slice_index z at ≡ slice_index z (bits + k) * value (mark bits products k j) z % P
-  unfolding level_product_of product_of fresh put pure ◌>>=◌
+  unfolding level_product_of times_of fresh put pure ◌>>=◌
   level_product_sound products k j at meets =
       sym (value-wire assigns at) ∙ sym meets.0 ∙ ap (λ n. n * value (mark bits products k j) z % P) (value-wire assigns (bits + k))
 
   level_product_complete : (products k j at : ℕ) → slice_index z at ≡ slice_index z (bits + k) * value (mark bits products k j) z % P → Meets z (level_product_of bits products k j at).list
-  unfolding level_product_of product_of fresh put pure ◌>>=◌
+  unfolding level_product_of times_of fresh put pure ◌>>=◌
   level_product_complete products k j at is =
       (ap (λ n. n * value (mark bits products k j) z % P) (value-wire assigns (bits + k)) ∙ sym is ∙ sym (value-wire assigns at), tt)
 
@@ -148,12 +147,6 @@ module _ (z : List ℕ) (assigns : Assigns z) (bits : ℕ) where
         let all = more_marks next k (v % 2 ^ k) (s.bits k (omega arith)) (mod-lt v (pow_pos k)) marks made in
         subst (λ m. Marks z bits next (suc k) m) number all
 
-    pub length-values : (k : ℕ) → length (thermometer_values k v) ≡ products_below k
-    length-values zero = ap length (values-none v)
-    length-values (suc k) =
-        let same : k + 1 ≡ suc k = omega arith in
-        ap length (values-more k v) ∙ length-append (thermometer_values k v) (level_values v k) ∙ ap₂ (λ a b. a + b) (length-values k) (length-each_below (2 ^ k - 1) (level_value v k)) ∙ products-more k ∙ ap products_below same
-
     pub levels_complete : (k : ℕ) → k ≤ n → HasFrom z next (thermometer_values k v) → Meets z (times k (level_of bits next) next).list
     unfolding turns pure
     levels_complete zero short has = tt
@@ -161,7 +154,7 @@ module _ (z : List ℕ) (assigns : Assigns z) (bits : ℕ) where
         let two = HasFrom-split z next (thermometer_values k v) (level_values v k) (rw values-more at has) in
         let before = levels_complete k (omega arith) two.0 in
         let marks = levels_sound k (omega arith) before in
-        let row = has_each z _ (2 ^ k - 1) (level_value v k) (rw (length-values k) at two.1) in
+        let row = has_each z _ (2 ^ k - 1) (level_value v k) (rw (length-values k v) at two.1) in
         let bit = Spells-bit_at s k (omega arith) in
         let at = levels-next bits next next k in
         let each : (j : ℕ) → j < 2 ^ k - 1 → slice_index z ((times k (level_of bits next) next).next + j) ≡ slice_index z (bits + k) * value (mark bits next k j) z % P = λ j h.

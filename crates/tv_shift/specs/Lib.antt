@@ -1,5 +1,9 @@
 pub mod Halves
 pub mod Masks
-pub mod Products
 pub mod Shift
 pub mod Thermometer
+pub use Rattle.tv_bits.specs.Bits
+pub use Rattle.tv_core.specs.Combinations
+pub use Rattle.tv_core.specs.Giving
+pub use Rattle.tv_core.specs.Sinks
+pub use Rattle.tv_word.specs.Widths

@@ -10,7 +10,7 @@ use Rattle.tv_core.specs.Combinations.{wire, constant, scaled}
 use Rattle.tv_core.specs.Constraints.{Combination}
 use Rattle.tv_core.specs.Loops.{times}
 use Rattle.tv_core.specs.declared.field.TheConstants.{P}
-use Rattle.tv_shift.specs.Products.{product_of}
+use Rattle.tv_bits.specs.Times.{times_of}
 
 -- 1 where j is below s, and else 0
 abbrev pub below : ℕ → ℕ → ℕ
@@ -35,7 +35,7 @@ mark bits products (suc k) j =
 -- the product of bit k with mark j of the bits below it
 unfoldable pub level_product_of : ℕ → ℕ → ℕ → ℕ → Circuit (Unit {0})
 level_product_of bits products k j = do
-  _ ← product_of (wire (bits + k)) (mark bits products k j)
+  _ ← times_of (wire (bits + k)) (mark bits products k j)
   pure tt
 
 -- the products of bit k with each of these marks but the last

@@ -5,8 +5,8 @@ ghost use Rattle.tv_shift.specs.Halves.{halves_of};
 use tv_bits::select_terms;
 use tv_core::{F, Put, Sink, Wire};
 
-// The first of `n` wires that are the bits of the half that bit `b` chooses, of the word of 2 `n` bits from
-// `word` on. It makes `n` wires and `n` constraints.
+// The first of `n` wires that are the bits of the half that bit `b` chooses, of the word of 2 `n`
+// bits from `word` on. It makes `n` wires and `n` constraints.
 pub(crate) fn halves<S: Sink>(s: &mut S, n: u32, b: Wire, word: Wire) -> Put<Wire>
     requires room { Room S.meaning s.old n n }
     requires b_made { b < S.meaning.wires s.old }

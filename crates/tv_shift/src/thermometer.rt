@@ -4,7 +4,7 @@ ghost use Rattle.tv_core.specs.Giving.{GivesIn};
 ghost use Rattle.tv_core.specs.Sinks.{PutsIn, Grows, Room};
 ghost use Rattle.tv_shift.specs.Thermometer.{products_below, both, mark, level_of, thermometer_of, level_value, level_values, thermometer_values, power_of};
 
-use crate::products::product;
+use tv_bits::times;
 use tv_core::{F, Lc, Put, Sink, Values, Wire};
 
 // Wires of marks: of the bits that they are of, and of the products that they need.
@@ -97,7 +97,8 @@ pub(crate) fn power_lc(marks: &Marks, k: u32) -> Lc
     lc
 }
 
-// The first of the products that the marks of `k` bits need. It makes 2^k - 1 - k wires and constraints.
+// The first of the products that the marks of `k` bits need. It makes 2^k - 1 - k wires and
+// constraints.
 pub(crate) fn thermometer<S: Sink>(s: &mut S, k: u32, bits: Wire) -> Put<Wire>
     requires room { Room S.meaning s.old (products_below k) (products_below k) }
     requires few { k ≤ 4 }
@@ -129,7 +130,7 @@ fn level<S: Sink>(s: &mut S, marks: &Marks, k: u32) -> Put<()>
     let mut mark = Lc::empty();
     for j in 0..power(k) - 1 {
         marks.fill_mark(&mut mark, k, j);
-        product(s, &bit, &mark)?;
+        times(s, &bit, &mark)?;
     }
     Ok(())
 }

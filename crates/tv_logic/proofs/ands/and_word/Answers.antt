@@ -1,19 +1,19 @@
-use Rattle.std.proofs.Common.{◌≡◌, ℕ, ◌<◌, arith}
+use Rattle.std.proofs.Common.{◌≡◌, ℕ, ◌-◌, ◌/◌, ◌<◌, arith}
 use Rattle.tv_core.proofs.Chain.{chain, puts_no_turn, puts_turn, turn_refused, refused}
 use Rattle.tv_core.proofs.LoopLaws.{puts_here_as}
 use Rattle.tv_core.specs.Circuits.{Circuit}
-use Rattle.tv_logic.specs.Ands.{new_pair_of, and_of}
+use Rattle.tv_logic.specs.Ands.{new_and_pair_of, and_of}
 use Rattle.tv_logic.proofs.ands.and_word.Goals as goal
 
 pub loop-i-init : goal.loop-i-init
 loop-i-init g c = record {
-  puts = puts_no_turn g.S.Sink.meaning _ (λ i _. new_pair_of 32 c.args.x.now c.args.y.now i) tt;
+  puts = puts_no_turn g.S.Sink.meaning _ (λ i _. new_and_pair_of g.row.W c.args.x.now c.args.y.now i) tt;
   grows = record { wires = omega arith; constraints = omega arith; whole = c.fresh-word.ensures.grows.whole };
 }
 
 pub loop-i-preserved : goal.loop-i-preserved
 loop-i-preserved g c =
-    let piece : ℕ → Unit {0} → Circuit (Unit {0}) = λ i _. new_pair_of 32 c.args.x.now c.args.y.now i in
+    let piece : ℕ → Unit {0} → Circuit (Unit {0}) = λ i _. new_and_pair_of g.row.W c.args.x.now c.args.y.now i in
     let grown = c.in_ok-new_pair.ensures.grows in
     record {
       puts = puts_turn g.S.Sink.meaning _ piece tt _ _ _ _ _ c.loop-i.invariant.puts c.in_ok-new_pair.ensures.puts;
@@ -24,17 +24,17 @@ pub returns-in_err-new_pair-clause-puts : goal.returns-in_err-new_pair-clause-pu
 unfolding and_of
 returns-in_err-new_pair-clause-puts g c =
     let m = g.S.Sink.meaning in
-    let piece : ℕ → Unit {0} → Circuit (Unit {0}) = λ i _. new_pair_of 32 c.args.x.now c.args.y.now i in
-    let within : c.loop-i.i < 15 = omega arith in
+    let piece : ℕ → Unit {0} → Circuit (Unit {0}) = λ i _. new_and_pair_of g.row.W c.args.x.now c.args.y.now i in
+    let within : c.loop-i.i < g.row.W / 2 - 1 = omega arith in
     let first = puts_here_as m c.fresh-word.new.self c.wires.result c.wires.ensures in
-    let turn = turn_refused m 15 c.loop-i.i piece tt tt c.fresh-word.new.self c.loop-i.s c.new_pair.new.s c.in_err-new_pair.field-0.0 within c.loop-i.invariant.puts c.in_err-new_pair.ensures.puts in
+    let turn = turn_refused m (g.row.W / 2 - 1) c.loop-i.i piece tt tt c.fresh-word.new.self c.loop-i.s c.new_pair.new.s c.in_err-new_pair.field-0.0 within c.loop-i.invariant.puts c.in_err-new_pair.ensures.puts in
     refused m _ _ _ c.from_residual.result c.from_residual.ensures.1 (search (chain, c.fresh-word.ensures.puts, first, turn))
 
 pub returns-in_err-pair-clause-puts : goal.returns-in_err-pair-clause-puts
 unfolding and_of
 returns-in_err-pair-clause-puts g c =
     let m = g.S.Sink.meaning in
-    let all : c.loop-i.i ≡ 15 = omega arith in
+    let all : c.loop-i.i ≡ g.row.W / 2 - 1 = omega arith in
     let first = puts_here_as m c.fresh-word.new.self c.wires.result c.wires.ensures in
     let turns = rw all at c.loop-i.invariant.puts in
     let last = rw (c.terms.ensures.terms, c.lowest_pair.ensures.terms) at c.in_err-pair.ensures.puts in
@@ -43,7 +43,7 @@ returns-in_err-pair-clause-puts g c =
 pub returns-clause-puts : goal.returns-clause-puts
 unfolding and_of
 returns-clause-puts g c =
-    let all : c.loop-i.i ≡ 15 = omega arith in
+    let all : c.loop-i.i ≡ g.row.W / 2 - 1 = omega arith in
     let first = puts_here_as g.S.Sink.meaning c.fresh-word.new.self c.wires.result c.wires.ensures in
     let turns = rw all at c.loop-i.invariant.puts in
     let last = rw (c.terms.ensures.terms, c.lowest_pair.ensures.terms) at c.in_ok-pair.ensures.puts in

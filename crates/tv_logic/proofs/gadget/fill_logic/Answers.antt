@@ -1,5 +1,6 @@
 use Rattle.std.proofs.Common.{bit_and, bit_or, bit_xor}
-use Rattle.tv_core.proofs.GivingChain.{gives_then_refused, gives_refused_then, gives_refused}
+use Rattle.tv_core.proofs.GivingChain.{gives_refused_then, gives_refused}
+use Rattle.tv_core.proofs.GivingTails.{gives_in_then}
 use Rattle.tv_logic.specs.Flags.{flag_values}
 use Rattle.tv_logic.specs.Words.{bits_turned, word_values}
 use Rattle.tv_logic.proofs.gadget.fill_logic.Goals as goal
@@ -10,12 +11,9 @@ returns-in_err-fill_words-clause-gives g c =
     let x = c.args.x in
     let y = c.args.y in
     gives_refused m _ _ _ c.from_residual.result c.from_residual.ensures.1
-    (gives_refused_then m (word_values 32 x y) (flag_values (bit_and x y) (bit_or x y) (bit_xor x y) (bits_turned 32 y)) _ _ _ c.in_err-fill_words.ensures.gives)
+    (gives_refused_then m (word_values g.row.W x y) (flag_values (bit_and x y) (bit_or x y) (bit_xor x y) (bits_turned g.row.W y)) _ _ _ c.in_err-fill_words.ensures.gives)
 
-pub returns-in_err-fill_flags-clause-gives : goal.returns-in_err-fill_flags-clause-gives
-returns-in_err-fill_flags-clause-gives g c =
-    let m = g.V.Values.giving in
-    let x = c.args.x in
-    let y = c.args.y in
-    gives_refused m _ _ _ c.from_residual-in_err-fill_flags.result c.from_residual-in_err-fill_flags.ensures.1
-    (gives_then_refused m (word_values 32 x y) (flag_values (bit_and x y) (bit_or x y) (bit_xor x y) (bits_turned 32 y)) _ _ _ _ c.in_ok-fill_words.ensures.gives c.in_err-fill_flags.ensures.gives)
+pub returns-clause-gives : goal.returns-clause-gives
+returns-clause-gives g c =
+    let flags = rw c.bits_turned.ensures at c.fill_flags.ensures.gives in
+    gives_in_then g.V.Values.giving _ _ _ _ _ _ c.in_ok-fill_words.ensures.gives flags

@@ -1,27 +1,27 @@
 use Rattle.tv_core.proofs.Chain.{chain, refused}
-use Rattle.tv_logic.specs.Words.{words_of}
+use Rattle.tv_logic.specs.Words.{logic_words_of}
 use Rattle.tv_logic.proofs.words.words.Goals as goal
 
 pub returns-in_err-and_word-clause-puts : goal.returns-in_err-and_word-clause-puts
-unfolding words_of
+unfolding logic_words_of
 returns-in_err-and_word-clause-puts g c =
     refused g.S.Sink.meaning _ _ _ c.from_residual.result c.from_residual.ensures.1 (search (chain, c.in_err-and_word.ensures.puts))
 
 pub returns-in_err-or_word-clause-puts : goal.returns-in_err-or_word-clause-puts
-unfolding words_of
+unfolding logic_words_of
 returns-in_err-or_word-clause-puts g c =
     let ors = rw c.sum_less.ensures.terms at c.in_err-or_word.ensures.puts in
     refused g.S.Sink.meaning _ _ _ c.from_residual-in_err-or_word.result c.from_residual-in_err-or_word.ensures.1 (search (chain, c.in_ok-and_word.ensures.puts, ors))
 
 pub returns-in_err-xor_word-clause-puts : goal.returns-in_err-xor_word-clause-puts
-unfolding words_of
+unfolding logic_words_of
 returns-in_err-xor_word-clause-puts g c =
     let ors = rw c.sum_less.ensures.terms at c.in_ok-or_word.ensures.puts in
     let xors = rw (c.sum_less-2.ensures.terms, c.of.ensures) at c.in_err-xor_word.ensures.puts in
     refused g.S.Sink.meaning _ _ _ c.from_residual-in_err-xor_word.result c.from_residual-in_err-xor_word.ensures.1 (search (chain, c.in_ok-and_word.ensures.puts, ors, xors))
 
 pub returns-in_err-not_word-clause-puts : goal.returns-in_err-not_word-clause-puts
-unfolding words_of
+unfolding logic_words_of
 returns-in_err-not_word-clause-puts g c =
     let ors = rw c.sum_less.ensures.terms at c.in_ok-or_word.ensures.puts in
     let xors = rw (c.sum_less-2.ensures.terms, c.of.ensures) at c.in_ok-xor_word.ensures.puts in
@@ -29,7 +29,7 @@ returns-in_err-not_word-clause-puts g c =
     refused g.S.Sink.meaning _ _ _ c.from_residual-in_err-not_word.result c.from_residual-in_err-not_word.ensures.1 (search (chain, c.in_ok-and_word.ensures.puts, ors, xors, nots))
 
 pub returns-clause-puts : goal.returns-clause-puts
-unfolding words_of
+unfolding logic_words_of
 returns-clause-puts g c =
     let ors = rw c.sum_less.ensures.terms at c.in_ok-or_word.ensures.puts in
     let xors = rw (c.sum_less-2.ensures.terms, c.of.ensures) at c.in_ok-xor_word.ensures.puts in

@@ -1,6 +1,6 @@
-use Rattle.std.proofs.Common.{◌≡◌, ◌*◌, ◌/◌, ◌%◌, ◌^◌, ◌≤◌, arith}
+use Rattle.std.proofs.Common.{◌≡◌, ◌*◌, ◌/◌, ◌%◌, ◌^◌, arith}
 use Rattle.tv_core.proofs.GivingChain.{giving, gives_refused}
-use Rattle.std.proofs.lemmas.Nat.{mul-le}
+use Rattle.tv_muldiv.proofs.ProductLaws.{product_small}
 use Rattle.tv_core.specs.declared.field.TheConstants.{P}
 use Rattle.tv_core.proofs.GivingTails.{gives_in_then}
 use Rattle.tv_muldiv.proofs.products.fill_product.Goals as goal
@@ -13,8 +13,8 @@ returns-in_err-fill_halves-clause-gives g c =
 pub returns-clause-gives : goal.returns-clause-gives
 returns-clause-gives g c =
     let product = c.args.x * c.args.y in
-    let below : product ≤ 4294967295 * 4294967295 = mul-le c.args.x c.args.y 4294967295 4294967295 (omega arith) (omega arith) in
-    let small : product / 2 ^ 32 % P ≡ product / 2 ^ 32 = omega arith in
+    let below = product_small g.row.W c.requires.width c.args.x c.args.y c.requires.x_word c.requires.y_word in
+    let small : product / 2 ^ g.row.W % P ≡ product / 2 ^ g.row.W = grind arith in
     let halves = rw (c.from.ensures, c.from-2.ensures) at c.in_ok-fill_halves.ensures.gives in
     let over = rw (c.of.ensures, c.from.ensures, c.from-2.ensures, small) at c.fill_nonzero.ensures.gives in
     gives_in_then g.V.Values.giving _ _ _ _ _ _ halves over

@@ -12,7 +12,7 @@ returns-in_err-give_values-clause-gives g c =
     let m = g.V.Values.giving in
     let flags = rw c.flags.ensures at c.in_err-give_values.ensures.gives in
     gives_refused m _ _ _ c.from_residual-in_err-give_values.result c.from_residual-in_err-give_values.ensures.1
-    (gives_then_refused m _ _ _ _ _ _ c.in_ok-fill_words.ensures.gives (gives_refused_then m _ (above_values 32 c.args.x c.args.y) _ _ _ flags))
+    (gives_then_refused m _ _ _ _ _ _ c.in_ok-fill_words.ensures.gives (gives_refused_then m _ (above_values g.row.W c.args.x c.args.y) _ _ _ flags))
 
 pub returns-clause-gives : goal.returns-clause-gives
 returns-clause-gives g c =

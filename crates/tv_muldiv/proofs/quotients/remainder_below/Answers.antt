@@ -1,13 +1,8 @@
-use Rattle.std.proofs.Common.{◌≡◌, ap}
 use Rattle.tv_core.proofs.Chain.{chain, refused}
 use Rattle.tv_core.proofs.TailCalls.{puts_in_then}
-use Rattle.tv_bits.specs.declared.bit_wires.Bits.{Bits}
+use Rattle.tv_bits.proofs.RowLaws.{row_sized}
 use Rattle.tv_muldiv.specs.Quotient.{remainder_below_of}
 use Rattle.tv_muldiv.proofs.quotients.remainder_below.Goals as goal
-
--- bits are their two numbers
-sized : (x : Bits) → x.n ≡ 32 → x ≡ record { first = x.first; n = 32 }
-sized x e = ap (λ n. record { first = x.first; n = n }) e
 
 pub returns-in_err-above-clause-puts : goal.returns-in_err-above-clause-puts
 unfolding remainder_below_of
@@ -17,5 +12,5 @@ returns-in_err-above-clause-puts g c =
 pub returns-clause-puts : goal.returns-clause-puts
 unfolding remainder_below_of
 returns-clause-puts g c =
-    let difference = rw (c.minus.ensures.terms, c.plus_one-difference.ensures.terms, c.wire.ensures, c.in_ok-above.ensures.size, sized c.args.y.now c.requires.y_word) at c.prefix_difference.ensures.puts in
+    let difference = rw (c.of-divisor.ensures.rows, c.of-rem.ensures.rows, c.minus.ensures.terms, c.plus_one-difference.ensures.terms, c.wire.ensures, c.in_ok-above.ensures.size, row_sized g.row.W c.args.y.now c.requires.y_word) at c.prefix_difference.ensures.puts in
     puts_in_then g.S.Sink.meaning _ _ _ _ _ _ _ c.in_ok-above.ensures.puts difference

@@ -4,4 +4,4 @@ use Rattle.tv_shift.proofs.masks.Places.chosen_bit.Goals as goal
 
 pub returns-clause-terms : goal.returns-clause-terms
 unfolding digit_at
-returns-clause-terms c = rw c.offset.ensures refl
+returns-clause-terms g c = rw c.offset.ensures refl

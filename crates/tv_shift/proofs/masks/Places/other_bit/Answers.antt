@@ -4,4 +4,4 @@ use Rattle.tv_shift.proofs.masks.Places.other_bit.Goals as goal
 
 pub returns-clause-terms : goal.returns-clause-terms
 unfolding digit_at
-returns-clause-terms c = rw (c.offset.ensures, c.offset-2.ensures, c.neg.ensures, c.offset-3.ensures) refl
+returns-clause-terms g c = rw (c.offset.ensures, c.offset-2.ensures, c.neg.ensures, c.offset-3.ensures) refl

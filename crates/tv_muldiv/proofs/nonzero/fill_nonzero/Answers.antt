@@ -1,4 +1,0 @@
-use Rattle.tv_muldiv.proofs.nonzero.fill_nonzero.Goals as goal
-
-pub returns-clause-gives : goal.returns-clause-gives
-returns-clause-gives g c = rw c.nonzero_values.ensures at c.give_values.ensures.gives
