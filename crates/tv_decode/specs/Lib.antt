@@ -1,0 +1,5 @@
+pub mod Fields
+pub use Rattle.tv_core.specs.Giving
+pub use Rattle.tv_core.specs.Sinks
+pub use Rattle.tv_isa.specs.Instruction
+pub use Rattle.tv_word.specs.Widths

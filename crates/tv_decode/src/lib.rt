@@ -1,0 +1,10 @@
+//! The gadget that decodes an instruction of two words of `W` bits, 16 or 32: one-hot rows for
+//! its opcode and its registers, and its immediate bit. Contracts above cite `AreFields`; what it
+//! answers and how many wires it makes stand in `FieldsSizes`.
+#![tactic(auto)]
+
+mod decoding;
+mod records;
+
+pub use decoding::{fields, fields_are_complete, fields_are_sound, fields_fill, fill_fields};
+pub use records::Fields;

@@ -1,0 +1,16 @@
+use tv_core::Wire;
+
+/// The fields of an instruction: a bit, and the first wires of rows of which one wire is 1.
+#[derive(Clone, Copy, PartialEq, Eq, Debug)]
+pub struct Fields {
+    /// The opcode's row, of 32 wires.
+    pub op: Wire,
+    /// 1 where the operand is the second word itself, 0 where it is a register.
+    pub imm: Wire,
+    /// The destination register's row, of 16 wires.
+    pub dest: Wire,
+    /// The source register's row, of 16 wires.
+    pub source: Wire,
+    /// The row of the register that the second word's lowest four bits name, of 16 wires.
+    pub reg: Wire,
+}

@@ -1,0 +1,100 @@
+-- The laws of a value kept, and of one of two.
+use Rattle.std.proofs.Common.{◌≡◌, ℕ, ◌+◌, ◌-◌, ◌*◌, ◌%◌, ◌<◌, List, [], inl, inr, refl, sym, ◌∙◌, ap, arith, mod-lt}
+use Rattle.std.specs.Prelude.{slice_index}
+use Rattle.tv_bits.proofs.BitLaws.{bit_cases}
+use Rattle.tv_bits.proofs.SizeLaws.{select_in_field}
+use Rattle.tv_bits.specs.Bit.{IsBit}
+use Rattle.tv_bits.specs.Select.{selected}
+use Rattle.tv_core.proofs.CombinationLaws.{value-below, value-constant, value-less, value-wire, wire-below}
+use Rattle.tv_core.proofs.DifferenceLaws.{same_of_minus, cancel_minus}
+use Rattle.tv_core.proofs.FieldLaws.{InField-none, InField-cons}
+use Rattle.tv_core.specs.Circuits.{fresh, put, pure, ◌>>=◌}
+use Rattle.tv_core.specs.Combinations.{wire, less}
+use Rattle.tv_core.specs.Constraints.{Combination, value}
+use Rattle.tv_core.specs.Laws.{Assigns}
+use Rattle.tv_core.specs.declared.field.TheConstants.{P}
+use Rattle.tv_regs.proofs.Gates.{times_zero, times_one}
+use Rattle.tv_regs.specs.Picking.{kept_of, pick_of, KeptIsSound, KeptIsComplete, KeptSizes, PickIsSound, PickIsComplete, PickSizes}
+
+-- ---- a value kept
+times_one_right : (x : ℕ) → x < P → x * (1 % P) % P ≡ x
+times_one_right x h = omega arith
+
+pub kept_sound : KeptIsSound
+unfolding kept_of fresh put pure ◌>>=◌
+kept_sound z next x assigns meets =
+    sym (value-wire assigns next) ∙ sym meets.0 ∙ ap (λ n. value x z * n % P) (value-constant assigns 1) ∙ times_one_right (value x z) (value-below x z)
+
+pub kept_complete : KeptIsComplete
+unfolding kept_of fresh put pure ◌>>=◌
+kept_complete z next x assigns has =
+    (ap (λ n. value x z * n % P) (value-constant assigns 1) ∙ times_one_right (value x z) (value-below x z) ∙ sym has.0 ∙ sym (value-wire assigns next), tt)
+
+pub kept_answer : (x : Combination) (next : ℕ) → (kept_of x next).answer ≡ next
+unfolding kept_of fresh put pure ◌>>=◌
+kept_answer x next = refl
+
+pub kept_next : (x : Combination) (next : ℕ) → (kept_of x next).next ≡ next + 1
+unfolding kept_of fresh put pure ◌>>=◌
+kept_next x next = refl
+
+pub kept_sizes : KeptSizes
+kept_sizes = record {
+  answer = kept_answer;
+  end = kept_next;
+  fills = λ x v next. kept_next x next;
+  in_field = λ v small. InField-cons v [] small InField-none;
+}
+
+-- ---- one of two
+selected-zero : (b x y : ℕ) → b ≡ 0 → selected b x y ≡ y
+selected-zero b x y none = rw none refl
+
+selected-one : (b x y : ℕ) → b ≡ 1 → selected b x y ≡ x
+selected-one b x y one = rw one refl
+
+sound_by : (b x y w : ℕ) → x < P → y < P → w < P → IsBit b → b * ((x + (P - y)) % P) % P ≡ (w + (P - y)) % P → w ≡ selected b x y
+sound_by b x y w xs ys ws bit e = elim (bit_cases b bit) [
+  | inl none ↦ same_of_minus w y ws ys (sym e ∙ times_zero b _ none) ∙ sym (selected-zero b x y none)
+  | inr one ↦ cancel_minus w x y ws xs ys (sym e ∙ times_one b _ one (mod-lt _ (omega arith))) ∙ sym (selected-one b x y one)
+]
+
+complete_by : (b x y w : ℕ) → y < P → IsBit b → w ≡ selected b x y → b * ((x + (P - y)) % P) % P ≡ (w + (P - y)) % P
+complete_by b x y w ys bit e = elim (bit_cases b bit) [
+  | inl none ↦ times_zero b _ none ∙ omega (arith, e ∙ selected-zero b x y none)
+  | inr one ↦ times_one b _ one (mod-lt _ (omega arith)) ∙ ap (λ v. (v + (P - y)) % P) (sym (e ∙ selected-one b x y one))
+]
+
+module _ (z : List ℕ) (assigns : Assigns z) (b : Combination) (w : ℕ) (x y : Combination) where
+  left : value b z * value (less x y) z % P ≡ value b z * ((value x z + (P - value y z)) % P) % P
+  left = ap (λ n. value b z * n % P) (value-less x y z)
+
+  right : value (less (wire w) y) z ≡ (slice_index z w + (P - value y z)) % P
+  right = value-less (wire w) y z ∙ ap (λ n. (n + (P - value y z)) % P) (value-wire assigns w)
+
+pub pick_sound : PickIsSound
+unfolding pick_of fresh put pure ◌>>=◌
+pick_sound z next b x y assigns bit meets =
+    sound_by (value b z) (value x z) (value y z) (slice_index z next) (value-below x z) (value-below y z) (wire-below assigns next) bit
+    (sym (left z assigns b next x y) ∙ meets.0 ∙ right z assigns b next x y)
+
+pub pick_complete : PickIsComplete
+unfolding pick_of fresh put pure ◌>>=◌
+pick_complete z next b x y assigns bit has =
+    (left z assigns b next x y ∙ complete_by (value b z) (value x z) (value y z) (slice_index z next) (value-below y z) bit has.0 ∙ sym (right z assigns b next x y), tt)
+
+pub pick_answer : (b x y : Combination) (next : ℕ) → (pick_of b x y next).answer ≡ next
+unfolding pick_of fresh put pure ◌>>=◌
+pick_answer b x y next = refl
+
+pub pick_next : (b x y : Combination) (next : ℕ) → (pick_of b x y next).next ≡ next + 1
+unfolding pick_of fresh put pure ◌>>=◌
+pick_next b x y next = refl
+
+pub pick_sizes : PickSizes
+pick_sizes = record {
+  answer = pick_answer;
+  end = pick_next;
+  fills = λ b x y c v w next. pick_next b x y next;
+  in_field = select_in_field;
+}

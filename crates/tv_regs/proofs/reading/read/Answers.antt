@@ -1,0 +1,6 @@
+use Rattle.tv_regs.specs.Reading.{read_of}
+use Rattle.tv_regs.proofs.reading.read.Goals as goal
+
+pub returns-clause-puts : goal.returns-clause-puts
+unfolding read_of
+returns-clause-puts g c = rw (c.wire.ensures, c.difference.ensures.terms, c.empty.ensures) at c.put.ensures.puts

@@ -1,0 +1,4 @@
+pub mod Choices
+pub mod Picking
+pub mod Reading
+pub mod Writing

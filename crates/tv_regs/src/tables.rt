@@ -1,0 +1,19 @@
+use tv_core::{F, Wire};
+
+/// An entry of a table of combinations: some opcodes, and the terms of the one that they choose.
+#[derive(Clone, Copy, Debug)]
+pub struct WireEntry<'a> {
+    /// The opcodes, below 32, each once.
+    pub ops: &'a [u8],
+    /// At most 64 terms.
+    pub gives: &'a [(F, Wire)],
+}
+
+/// An entry of a table of numbers: some opcodes, and the number that they choose.
+#[derive(Clone, Copy, Debug)]
+pub struct NumberEntry<'a> {
+    /// The opcodes, below 32, each once.
+    pub ops: &'a [u8],
+    /// The number.
+    pub gives: F,
+}

@@ -1,0 +1,172 @@
+ghost use Rattle.std.specs.Prelude.{◌≡◌, ◌+◌, ◌≤◌, ◌<◌, ◌^◌, ◌++◌, false, length, max, IfOk, OnOk};
+ghost use Rattle.std.specs.List.{range_with_len};
+ghost use Rattle.tv_bits.specs.OneHot.{row_sum};
+ghost use Rattle.tv_core.specs.Combinations.{top};
+ghost use Rattle.tv_core.specs.Giving.{GivesIn};
+ghost use Rattle.tv_core.specs.Sinks.{PutsIn, Grows, Room};
+ghost use Rattle.tv_regs.specs.Reading.{wires_top};
+ghost use Rattle.tv_regs.specs.Writing.{write_of, tie_of, regs_sum, written_regs, write_reg_of, write_reg_values, WriteRegIsSound, WriteRegIsComplete, WriteRegSizes};
+
+use crate::reading::difference;
+use tv_core::{F, Lc, Put, Sink, Values, Wire};
+
+/// Registers of new wires: where the bit `on` is 1, the register whose number the one-hot row of
+/// 16 wires from `sel` on has becomes `x`, and where it is 0 none changes. It makes 17 wires and
+/// 17 constraints, of 146 terms and those of `x`.
+pub fn write_reg<S: Sink>(
+    s: &mut S,
+    sel: Wire,
+    on: Wire,
+    x: &Lc,
+    regs: &[Wire; 16],
+) -> Put<[Wire; 16]>
+    requires room { Room S.meaning s.old 17 17 }
+    requires sel_made { sel + 16 ≤ S.meaning.wires s.old }
+    requires on_made { on < S.meaning.wires s.old }
+    requires x_made { top x.now ≤ S.meaning.wires s.old }
+    requires x_short { length x.now ≤ 64 }
+    requires regs_made { wires_top regs.now ≤ S.meaning.wires s.old }
+    ensures puts { PutsIn S.meaning s.old s.new (write_reg_of sel on x.now regs.now) result }
+    ensures grows { IfOk result (λ _. Grows S.meaning s.old s.new 17 17) }
+    ensures below { IfOk result (λ made. wires_top made ≤ S.meaning.wires s.new) }
+{
+    let v = s.fresh();
+    let first = Wire(s.wires());
+    for i in 0..16 {
+        write(s, v, sel.offset(i), regs[i as usize])?;
+    }
+    tie(s, on, x, v, first, regs)?;
+    Ok(row(first))
+}
+
+// A new wire, which is `v` where a wire of the row is 1, and else the register.
+fn write<S: Sink>(s: &mut S, v: Wire, sel: Wire, reg: Wire) -> Put<()>
+    requires room { Room S.meaning s.old 1 1 }
+    requires v_made { v < S.meaning.wires s.old }
+    requires sel_made { sel < S.meaning.wires s.old }
+    requires reg_made { reg < S.meaning.wires s.old }
+    ensures puts { PutsIn S.meaning s.old s.new (write_of v sel reg) result }
+    ensures grows { IfOk result (λ _. Grows S.meaning s.old s.new 1 1) }
+{
+    let new = s.fresh();
+    s.put(&Lc::wire(sel), &difference(v, reg), &difference(new, reg))
+}
+
+// Holds `v` to `x` where `on` is 1, and the sum of the registers to what it was where `on` is 0.
+fn tie<S: Sink>(s: &mut S, on: Wire, x: &Lc, v: Wire, first: Wire, regs: &[Wire; 16]) -> Put<()>
+    requires room { Room S.meaning s.old 0 1 }
+    requires on_made { on < S.meaning.wires s.old }
+    requires v_made { v < S.meaning.wires s.old }
+    requires x_made { top x.now ≤ S.meaning.wires s.old }
+    requires x_short { length x.now ≤ 64 }
+    requires new_made { first + 16 ≤ S.meaning.wires s.old }
+    requires regs_made { wires_top regs.now ≤ S.meaning.wires s.old }
+    ensures puts { PutsIn S.meaning s.old s.new (tie_of on x.now v first regs.now) result }
+    ensures grows { IfOk result (λ _. Grows S.meaning s.old s.new 0 1) }
+{
+    let sum = regs_sum(regs);
+    let mut change = Lc::empty();
+    plus_row(&mut change, first);
+    change.minus(&sum);
+    let mut left = Lc::from_terms(x.terms());
+    plus_row(&mut left, first);
+    left.minus(&Lc::wire(v));
+    left.minus(&sum);
+    s.put(&Lc::wire(on), &left, &change)
+}
+
+// Appends the sum of sixteen wires in a row.
+fn plus_row(lc: &mut Lc, first: Wire)
+    requires within { first + 16 < 2 ^ 32 }
+    requires room { length lc.old + 16 ≤ 128 }
+    ensures terms { lc.new ≡ lc.old ++ row_sum first 16 }
+    ensures len { length lc.new ≡ length lc.old + 16 }
+    ensures top { top lc.new ≤ max (top lc.old) (first + 16) }
+{
+    for i in 0..16 {
+        lc.plus(F::ONE, first.offset(i));
+    }
+}
+
+// The sum of the registers.
+fn regs_sum(regs: &[Wire; 16]) -> Lc
+    ensures terms { result ≡ regs_sum regs.now }
+    ensures len { length result ≡ 16 }
+    ensures top { top result ≤ wires_top regs.now }
+{
+    let mut lc = Lc::empty();
+    for i in 0..16 {
+        lc.plus(F::ONE, regs[i]);
+    }
+    lc
+}
+
+// Sixteen wires in a row.
+fn row(first: Wire) -> [Wire; 16]
+    requires within { first + 16 < 2 ^ 32 }
+    ensures wires { result ≡ range_with_len first 16 }
+    ensures top { wires_top result ≤ first + 16 }
+{
+    let mut made = [first; 16];
+    for i in 0..16 {
+        made[i as usize] = first.offset(i);
+    }
+    made
+}
+
+/// Gives the 17 values of the wires that `write_reg` makes: the register with this number, below
+/// 16, after the write, and then all registers.
+pub fn fill_write_reg<V: Values>(v: &mut V, sel: u32, on: bool, x: u32, regs: &[u32; 16]) -> Put<()>
+    requires within { sel < 16 }
+    requires whole { V.giving.broken v.old ≡ false }
+    ensures gives { GivesIn V.giving v.old v.new (write_reg_values on x sel regs.now) result }
+    ensures whole { OnOk result (V.giving.broken v.new ≡ false) }
+{
+    let written = written_regs(on, x, sel, regs);
+    v.give(F::from(written[sel as usize]))?;
+    fill_words(v, &written)
+}
+
+// The registers after a write.
+fn written_regs(on: bool, x: u32, sel: u32, regs: &[u32; 16]) -> [u32; 16]
+    requires within { sel < 16 }
+    ensures { result ≡ written_regs on x sel regs.now }
+{
+    let mut written = *regs;
+    if on {
+        written[sel as usize] = x;
+    }
+    written
+}
+
+// Gives words one after another.
+fn fill_words<V: Values>(v: &mut V, words: &[u32]) -> Put<()>
+    requires whole { V.giving.broken v.old ≡ false }
+    ensures gives { GivesIn V.giving v.old v.new words.now result }
+    ensures whole { OnOk result (V.giving.broken v.new ≡ false) }
+{
+    for word in words {
+        v.give(F::from(*word))?;
+    }
+    Ok(())
+}
+
+/// Where an assignment has a one-hot row and a bit and meets what `write_reg` put, the wires that
+/// it answered hold the registers after the write.
+pub fn write_reg_is_sound()
+    ensures { WriteRegIsSound }
+{}
+
+/// Where an assignment has a one-hot row and a bit, and the values that `fill_write_reg` gives
+/// for them, it meets what `write_reg` put.
+#[tactic(auto, using(crate::proofs::WriteLaws::write_reg_complete))]
+pub fn write_reg_is_complete()
+    ensures { WriteRegIsComplete }
+{}
+
+/// Says which wires `write_reg` answers and how many it makes, whatever the next wire is, and
+/// that `fill_write_reg` gives one value for each of them, below P.
+#[tactic(auto, using(crate::proofs::WriteLaws::write_reg_sizes))]
+pub fn write_reg_fills()
+    ensures { WriteRegSizes }
+{}
