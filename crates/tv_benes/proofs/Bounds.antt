@@ -1,0 +1,37 @@
+-- How far the generator's places reach.
+use Rattle.std.proofs.Common.{◌≡◌, ℕ, zero, suc, ◌+◌, ◌*◌, ◌^◌, ◌≤◌, ◌<◌, arith, ap, sym, ◌∙◌}
+use Rattle.std.proofs.Math.Nat.{mul-le-mul_right, mul-le-mul_left}
+use Rattle.tv_benes.proofs.ThroughLaws.{twice}
+
+pow_positive : (k : ℕ) → 1 ≤ 2 ^ k
+pow_positive zero = omega arith
+pow_positive (suc k) = omega (arith, twice k, pow_positive k)
+
+twice_in : (j k : ℕ) → (j + 1) * (2 * k) ≡ (2 * j + 2) * k
+twice_in j k = grind arith
+
+-- the places of an item within one half more
+pub nearer : (j b d m : ℕ) → b < 2 → (j + 1) * 2 ^ suc d ≤ m → (2 * j + b + 1) * 2 ^ d ≤ m
+nearer j b d m small near =
+    let more : (2 * j + b + 1) * 2 ^ d ≤ (2 * j + 2) * 2 ^ d = mul-le-mul_right (2 ^ d) (omega arith) in
+    let same : (j + 1) * 2 ^ suc d ≡ (2 * j + 2) * 2 ^ d = ap (λ k. (j + 1) * k) (twice d) ∙ twice_in j (2 ^ d) in
+    omega arith
+
+pub near_small : (j k m : ℕ) → (j + 1) * 2 ^ k ≤ m → j < m
+near_small j k m near =
+    let more : (j + 1) * 1 ≤ (j + 1) * 2 ^ k = mul-le-mul_left (j + 1) (pow_positive k) in
+    omega arith
+
+twice_left : (a b : ℕ) → (2 * a) * b ≡ a * (2 * b)
+twice_left a b = grind arith
+
+-- what is near at a level is near in a half
+pub half_near : (k d m : ℕ) → 2 ^ suc k * 2 ^ d ≤ m → 2 ^ k * 2 ^ suc d ≤ m
+half_near k d m near =
+    let same : 2 ^ suc k * 2 ^ d ≡ 2 ^ k * 2 ^ suc d = ap (λ x. x * 2 ^ d) (twice k) ∙ twice_left (2 ^ k) (2 ^ d) ∙ ap (λ x. 2 ^ k * x) (sym (twice d)) in
+    omega arith
+
+pub place_near : (s k d m : ℕ) → s < 2 ^ k → 2 ^ suc k * 2 ^ d ≤ m → (s + 1) * 2 ^ suc d ≤ m
+place_near s k d m within near =
+    let more : (s + 1) * 2 ^ suc d ≤ 2 ^ k * 2 ^ suc d = mul-le-mul_right (2 ^ suc d) (omega arith) in
+    omega (arith, half_near k d m near)

@@ -1,0 +1,9 @@
+pub mod Bounds
+pub mod ColumnChain
+pub mod NetworkChain
+pub mod NetworkComplete
+pub mod NetworkLaws
+pub mod Permuting
+pub mod Sizes
+pub mod Sources
+pub mod ThroughLaws

@@ -1,0 +1,154 @@
+-- The parts of a network, put one after another.
+use Rattle.std.proofs.Common.{◌≡◌, ℕ, zero, suc, ◌+◌, ◌-◌, ◌*◌, ◌/◌, ◌^◌, ◌<◌, ◌≤◌, Result, Ok, Err, sym, subst, arith}
+use Rattle.std.specs.Prelude.{IfOk}
+use Rattle.tv_benes.proofs.Sizes.{network_below}
+use Rattle.tv_benes.proofs.ThroughLaws.{above, column_fits, alternating_keeps, missing_small}
+use Rattle.tv_benes.specs.Network.{column_of, last_column_of, network_of}
+use Rattle.tv_benes.specs.Places.{wires_at, row, output_wire, column_outputs, last_outputs, last_wire, AreBelow}
+use Rattle.tv_benes.specs.Through.{switches, missing}
+use Rattle.tv_benes.specs.declared.places.Outputs.{Outputs}
+use Rattle.tv_benes.specs.declared.shape.Net.{Net}
+use Rattle.tv_core.proofs.Chain.{chain, puts_here}
+use Rattle.tv_core.proofs.LoopLaws.{puts_here_as}
+use Rattle.tv_core.proofs.TailCalls.{puts_in_then}
+use Rattle.tv_core.specs.Circuits.{here, ◌>>=◌}
+use Rattle.tv_core.specs.Sinks.{Meaning, PutsAll, PutsSome, PutsIn, Grows, Room}
+use Rattle.tv_core.specs.declared.lines.Pair.{Pair}
+use Rattle.tv_core.specs.declared.sink.SinkFault.{SinkFault}
+
+-- outputs that are below are below what is more
+pub below_later : (o : Outputs) (n a b : ℕ) → a ≤ b → AreBelow o n a → AreBelow o n b
+below_later o n a b more below i within = let at = below i within in omega arith
+
+-- the items of a last column are wires that there are
+pub last_below : (net : Net) (h end : ℕ) (upper lower : Outputs) → AreBelow upper (2 ^ h) end → AreBelow lower (2 ^ h) end
+    → (i : ℕ) → i < 2 * (2 ^ h - missing net) → last_wire net upper lower i + 1 < end
+last_below net h end upper lower p q i within =
+    let some = missing_small net in
+    alternating_keeps (λ w. w + 1 < end) (output_wire upper) (output_wire lower) (i + 2 * missing net) (p ((i + 2 * missing net) / 2) (omega arith)) (q ((i + 2 * missing net) / 2) (omega arith))
+
+-- a last column
+module _ {S : Type 0} (m : Meaning S) (net : Net) (h : ℕ) (upper lower : Outputs) where
+  pub last_column_refused : (old new : S) (fault : SinkFault) → PutsSome m old new (column_of (2 ^ h - missing net) (λ i. wires_at (last_wire net upper lower i))) fault
+      → PutsSome m old new (last_column_of net h upper lower) fault
+  unfolding last_column_of
+  last_column_refused old new fault p = let first = puts_here m old in search (chain, first, p)
+
+  pub last_column_put : (old new : S) (first : ℕ) → first ≡ m.wires old → PutsAll m old new (column_of (2 ^ h - missing net) (λ i. wires_at (last_wire net upper lower i))) tt
+      → PutsAll m old new (last_column_of net h upper lower) (last_outputs net first upper lower)
+  unfolding last_column_of
+  last_column_put old new first at p = let start = puts_here_as m old first at in search (chain, start, p)
+
+module _ {S : Type 0} (m : Meaning S) (net : Net) (h : ℕ) (old : S) (room : Room m old (5 * switches net h) (5 * switches net h)) where
+  -- where there is room for a network there is room for its parts
+  pub column_room : (n : ℕ) → n ≡ 2 ^ h → Room m old (5 * n) (5 * n)
+  column_room n same = record {
+    whole = room.whole;
+    constant = room.constant;
+    wires = omega (arith, room.wires, column_fits net h);
+    constraints = omega (arith, room.constraints, column_fits net h);
+  }
+
+  module _ (some : h ≡ 0 → ⊥) (n : ℕ) (same : n ≡ 2 ^ h) (in_column : S) (c : Grows m old in_column (5 * n) (5 * n)) where
+    pub upper_room : Room m in_column (5 * switches net (h - 1)) (5 * switches net (h - 1))
+    upper_room = let below = above net h some in let one = missing_small net in record {
+      whole = c.whole;
+      constant = omega (arith, c.wires, room.constant);
+      wires = omega (arith, c.wires, below.count, below.size, below.some, room.wires);
+      constraints = omega (arith, c.constraints, below.count, below.size, below.some, room.constraints);
+    }
+
+    module _ (in_upper : S) (u : Grows m in_column in_upper (5 * switches net (h - 1)) (5 * switches net (h - 1))) where
+      pub lower_room : Room m in_upper (5 * switches net (h - 1)) (5 * switches net (h - 1))
+      lower_room = let below = above net h some in let one = missing_small net in record {
+        whole = u.whole;
+        constant = omega (arith, c.wires, u.wires, room.constant);
+        wires = omega (arith, c.wires, u.wires, below.count, below.size, below.some, room.wires);
+        constraints = omega (arith, c.constraints, u.constraints, below.count, below.size, below.some, room.constraints);
+      }
+
+      pub last_room : (in_lower : S) → Grows m in_upper in_lower (5 * switches net (h - 1)) (5 * switches net (h - 1)) → Room m in_lower (5 * (2 ^ h - missing net)) (5 * (2 ^ h - missing net))
+      last_room in_lower l = let below = above net h some in let one = missing_small net in record {
+        whole = l.whole;
+        constant = omega (arith, c.wires, u.wires, l.wires, room.constant);
+        wires = omega (arith, c.wires, u.wires, l.wires, below.count, below.size, below.some, room.wires);
+        constraints = omega (arith, c.constraints, u.constraints, l.constraints, below.count, below.size, below.some, room.constraints);
+      }
+
+module _ {S : Type 0} (m : Meaning S) (net : Net) where
+  -- how many wires and constraints the parts of a network are together
+  pub network_grows : (h : ℕ) → (h ≡ 0 → ⊥) → (old in_column in_upper in_lower new : S) (result : Result Outputs SinkFault)
+      → (n : ℕ) → n ≡ 2 ^ h → Grows m old in_column (5 * n) (5 * n) → Grows m in_column in_upper (5 * switches net (h - 1)) (5 * switches net (h - 1))
+      → Grows m in_upper in_lower (5 * switches net (h - 1)) (5 * switches net (h - 1))
+      → IfOk result (λ _. Grows m in_lower new (5 * (2 ^ h - missing net)) (5 * (2 ^ h - missing net)))
+      → IfOk result (λ _. Grows m old new (5 * switches net h) (5 * switches net h))
+  network_grows h some old in_column in_upper in_lower new (Ok o) n same c u l d =
+      let below = above net h some in
+      let one = missing_small net in
+      record {
+        wires = omega (arith, c.wires, u.wires, l.wires, d.wires, below.count, below.size, below.some);
+        constraints = omega (arith, c.constraints, u.constraints, l.constraints, d.constraints, below.count, below.size, below.some);
+        whole = d.whole;
+      }
+  network_grows h some old in_column in_upper in_lower new (Err fault) n same c u l d = tt
+
+  module _ (item : ℕ → Pair) where
+    -- the outputs of what was put are wires that there are
+    pub network_put_below : (h : ℕ) (old new : S) (result : Result Outputs SinkFault) → PutsIn m old new (network_of net h item) result → IfOk result (λ o. AreBelow o (2 ^ suc h) (m.wires new))
+    network_put_below h old new (Ok o) p =
+        subst (λ o. AreBelow o (2 ^ suc h) (m.wires new)) (sym p.answers)
+        (subst (λ end. AreBelow (network_of net h item (m.wires old)).answer (2 ^ suc h) end) (sym p.next) (network_below net h (m.wires old) item))
+    network_put_below h old new (Err fault) p = tt
+
+    -- so are those of a half, once more is put
+    pub half_below : (h k : ℕ) (old mid new : S) (o : Outputs) → h ≡ suc k → PutsAll m old mid (network_of net k item) o → m.wires mid ≤ m.wires new → AreBelow o (2 ^ h) (m.wires new)
+    half_below h k old mid new o level p more =
+        subst (λ l. AreBelow o (2 ^ l) (m.wires new)) (sym level) (below_later o (2 ^ suc k) (m.wires mid) (m.wires new) more (network_put_below k old mid (Ok o) p))
+
+    pub first_column_refused : (h : ℕ) (old new : S) (fault : SinkFault) → PutsSome m old new (column_of (2 ^ h) item) fault → PutsSome m old new (network_of net h item) fault
+    unfolding network_of
+    first_column_refused zero old new fault p = let first = puts_here m old in search (chain, first, p)
+    first_column_refused (suc h) old new fault p = let first = puts_here m old in search (chain, first, p)
+
+    pub one_switch_put : (h : ℕ) (old new : S) (first : ℕ) → h ≡ 0 → first ≡ m.wires old → PutsAll m old new (column_of (2 ^ h) item) tt → PutsAll m old new (network_of net h item) (column_outputs first)
+    unfolding network_of
+    one_switch_put h old new first none at p =
+        subst (λ k. PutsAll m old new (network_of net k item) (column_outputs first)) (sym none) (by (subst (λ k. PutsAll m old new (column_of (2 ^ k) item) tt) none p))
+      where
+        by : PutsAll m old new (column_of (2 ^ 0) item) tt → PutsAll m old new (network_of net 0 item) (column_outputs first)
+        by q = let start = puts_here_as m old first at in search (chain, start, q)
+
+    module _ (h k first : ℕ) (level : h ≡ suc k) (old in_column : S) (at : first ≡ m.wires old) (p : PutsAll m old in_column (column_of (2 ^ h) item) tt) where
+      column_put : PutsAll m old in_column (column_of (2 ^ suc k) item) tt
+      column_put = subst (λ l. PutsAll m old in_column (column_of (2 ^ l) item) tt) level p
+
+      start : PutsAll m old old here first
+      start = puts_here_as m old first at
+
+      pub upper_refused : (new : S) (fault : SinkFault) → PutsSome m in_column new (network_of net k (row (first + 1))) fault → PutsSome m old new (network_of net h item) fault
+      unfolding network_of
+      upper_refused new fault q = subst (λ l. PutsSome m old new (network_of net l item) fault) (sym level) by
+        where
+          by : PutsSome m old new (network_of net (suc k) item) fault
+          by = let a = start in let b = column_put in search (chain, a, b, q)
+
+      module _ (in_upper : S) (u : Outputs) (q : PutsAll m in_column in_upper (network_of net k (row (first + 1))) u) where
+        pub lower_refused : (new : S) (fault : SinkFault) → PutsSome m in_upper new (network_of net k (row (first + 3))) fault → PutsSome m old new (network_of net h item) fault
+        unfolding network_of
+        lower_refused new fault r = subst (λ l. PutsSome m old new (network_of net l item) fault) (sym level) by
+          where
+            by : PutsSome m old new (network_of net (suc k) item) fault
+            by = let a = start in let b = column_put in search (chain, a, b, q, r)
+
+        pub network_put : (in_lower : S) (l : Outputs) → PutsAll m in_upper in_lower (network_of net k (row (first + 3))) l
+            → (new : S) (result : Result Outputs SinkFault) → PutsIn m in_lower new (last_column_of net h u l) result → PutsIn m old new (network_of net h item) result
+        unfolding network_of
+        network_put in_lower l r new result s =
+            subst (λ l. PutsIn m old new (network_of net l item) result) (sym level) (by (subst (λ j. PutsIn m in_lower new (last_column_of net j u l) result) level s))
+          where
+            by : PutsIn m in_lower new (last_column_of net (suc k) u l) result → PutsIn m old new (network_of net (suc k) item) result
+            by t =
+                puts_in_then m here (λ f. column_of (2 ^ suc k) item >>= (λ _. network_of net k (row (f + 1)) >>= (λ upper. network_of net k (row (f + 3)) >>= (λ lower. last_column_of net (suc k) upper lower)))) old old new first result start
+                (puts_in_then m (column_of (2 ^ suc k) item) (λ _. network_of net k (row (first + 1)) >>= (λ upper. network_of net k (row (first + 3)) >>= (λ lower. last_column_of net (suc k) upper lower))) old in_column new tt result column_put
+                (puts_in_then m (network_of net k (row (first + 1))) (λ upper. network_of net k (row (first + 3)) >>= (λ lower. last_column_of net (suc k) upper lower)) in_column in_upper new u result q
+                (puts_in_then m (network_of net k (row (first + 3))) (λ lower. last_column_of net (suc k) u lower) in_upper in_lower new l result r t)))

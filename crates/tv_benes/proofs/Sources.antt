@@ -1,0 +1,103 @@
+-- Which item comes out at a place, found from the last column back to the first.
+use Rattle.std.proofs.Common.{◌≡◌, ℕ, suc, ◌+◌, ◌*◌, ◌/◌, ◌%◌, ◌^◌, ◌≤◌, ◌==◌, inl, inr, Bool, true, false, not, if◌then◌else◌, refl, sym, ◌∙◌, ap, arith}
+use Rattle.std.proofs.Math.Bool.{beq}
+use Rattle.std.proofs.lemmas.Bool.{cases_eq}
+use Rattle.tv_benes.proofs.Permuting.{alternating-even, alternating-odd}
+use Rattle.tv_benes.proofs.ThroughLaws.{through_places}
+use Rattle.tv_benes.specs.Through.{switches, from, passed, to_upper, to_lower, alternating, joined, last_bit, through}
+use Rattle.tv_benes.specs.Items.{half_item}
+use Rattle.tv_benes.specs.declared.shape.Net.{Net}
+
+-- ---- parity
+even_is : (i : ℕ) → i % 2 ≡ 0 → ((i % 2 == 0) ≡ true) × ((i % 2 == 1) ≡ false)
+even_is i e = (ap (λ k. k == 0) e, ap (λ k. k == 1) e)
+
+odd_is : (i : ℕ) → i % 2 ≡ 1 → ((i % 2 == 0) ≡ false) × ((i % 2 == 1) ≡ true)
+odd_is i e = (ap (λ k. k == 0) e, ap (λ k. k == 1) e)
+
+-- the half from which an output comes
+module _ {X : Type 0} where
+  straight_even : (b : Bool) (x y : X) → passed b x y ≡ (if not (beq b false) then y else x)
+  straight_even true x y = refl
+  straight_even false x y = refl
+
+  straight_odd : (b : Bool) (x y : X) → passed b y x ≡ (if not (beq b true) then y else x)
+  straight_odd true x y = refl
+  straight_odd false x y = refl
+
+  pub joined_is : (bit : ℕ → Bool) (u l : ℕ → X) (i : ℕ) → joined bit u l i ≡ (if not (beq (bit (i / 2)) (i % 2 == 1)) then l (i / 2) else u (i / 2))
+  joined_is bit u l i =
+      let b = bit (i / 2) in
+      let x = u (i / 2) in
+      let y = l (i / 2) in
+      elim (cases_eq (i % 2) 0) [
+        | inl e ↦ ap (λ (c : Bool). if c then passed b x y else passed b y x) (even_is i e).0 ∙ straight_even b x y ∙ ap (λ (c : Bool). if not (beq b c) then y else x) (sym (even_is i e).1)
+        | inr e ↦ let odd : i % 2 ≡ 1 = omega arith in
+            ap (λ (c : Bool). if c then passed b x y else passed b y x) (odd_is i odd).0 ∙ straight_odd b x y ∙ ap (λ (c : Bool). if not (beq b c) then y else x) (sym (odd_is i odd).1)
+      ]
+
+-- which item of the whole is item t of a half
+pub half_place : (lower b : Bool) → (bit : ℕ → Bool) (t : ℕ) → bit t ≡ b → half_item lower bit (λ j. j) t ≡ 2 * t + (if not (beq b lower) then 1 else 0)
+half_place true true bit t e = ap (λ c. passed c (2 * t + 1) (2 * t)) e ∙ omega arith
+half_place true false bit t e = ap (λ c. passed c (2 * t + 1) (2 * t)) e
+half_place false true bit t e = ap (λ c. passed c (2 * t) (2 * t + 1)) e
+half_place false false bit t e = ap (λ c. passed c (2 * t) (2 * t + 1)) e ∙ omega arith
+
+pub from_from : (a b : ℕ) (bit : ℕ → Bool) → ◌≡◌ {A = ℕ → Bool} (from a (from b bit)) (from (b + a) bit)
+from_from a b bit = λ t j. ap bit (assoc j) t
+  where
+    assoc : (j : ℕ) → b + (a + j) ≡ b + a + j
+    assoc j = omega arith
+
+-- the source at the lowest level
+pub source_zero : (net : Net) (bit : ℕ → Bool) (i : ℕ) → through net 0 bit (λ j. j) i ≡ 2 * (i / 2) + (if not (beq (bit (i / 2)) (i % 2 == 1)) then 1 else 0)
+unfolding through
+source_zero net bit i = joined_is bit (λ j. 2 * j) (λ j. 2 * j + 1) i ∙ by (not (beq (bit (i / 2)) (i % 2 == 1)))
+  where
+    by : (c : Bool) → (if c then 2 * (i / 2) + 1 else 2 * (i / 2)) ≡ 2 * (i / 2) + (if c then 1 else 0)
+    by true = refl
+    by false = omega arith
+
+-- and above it
+pub source_suc : (net : Net) (h : ℕ) (bit : ℕ → Bool) (i t : ℕ) (lower : Bool) → lower ≡ not (beq (last_bit net (from (2 ^ suc h + 2 * switches net h) bit) (i / 2)) (i % 2 == 1))
+    → t ≡ through net h (from (2 ^ suc h + (if lower then switches net h else 0)) bit) (λ j. j) (i / 2)
+    → through net (suc h) bit (λ j. j) i ≡ half_item lower bit (λ j. j) t
+unfolding through
+source_suc net h bit i t true which is =
+    let n = 2 ^ suc h in
+    let s = switches net h in
+    joined_is (last_bit net (from (n + 2 * s) bit)) (through net h (from n bit) (to_upper bit (λ j. j))) (through net h (from (n + s) bit) (to_lower bit (λ j. j))) i
+    ∙ ap (λ (c : Bool). if c then through net h (from (n + s) bit) (to_lower bit (λ j. j)) (i / 2) else through net h (from n bit) (to_upper bit (λ j. j)) (i / 2)) (sym which)
+    ∙ through_places net h (from (n + s) bit) (to_lower bit (λ j. j)) (i / 2) ∙ ap (to_lower bit (λ j. j)) (sym is)
+source_suc net h bit i t false which is =
+    let n = 2 ^ suc h in
+    let s = switches net h in
+    let plain : n + 0 ≡ n = omega arith in
+    joined_is (last_bit net (from (n + 2 * s) bit)) (through net h (from n bit) (to_upper bit (λ j. j))) (through net h (from (n + s) bit) (to_lower bit (λ j. j))) i
+    ∙ ap (λ (c : Bool). if c then through net h (from (n + s) bit) (to_lower bit (λ j. j)) (i / 2) else through net h (from n bit) (to_upper bit (λ j. j)) (i / 2)) (sym which)
+    ∙ through_places net h (from n bit) (to_upper bit (λ j. j)) (i / 2) ∙ ap (to_upper bit (λ j. j)) (sym (is ∙ ap (λ k. through net h (from k bit) (λ j. j) (i / 2)) plain))
+
+pub if_le : (b : Bool) (n : ℕ) → (if b then n else 0) ≤ n
+if_le true n = omega arith
+if_le false n = omega arith
+
+-- the item that comes out of a network within a network, read at its place
+module _ {X : Type 0} (net : Net) (h at n : ℕ) (b : ℕ → Bool) (item : ℕ → X) (j s : ℕ) where
+  moved : (k : ℕ) → n ≡ at + k → s ≡ through net h (from n b) (λ j. j) j → s ≡ through net h (from k (from at b)) (λ j. j) j
+  moved k e is = is ∙ ap (λ (f : ℕ → Bool). through net h f (λ j. j) j) (ap (λ (n : ℕ). from n b) e ∙ sym (from_from k at b))
+
+  pub upper_item : n ≡ at + 2 ^ suc h → s ≡ through net h (from n b) (λ j. j) j
+      → to_upper (from at b) item s ≡ through net h (from (2 ^ suc h) (from at b)) (to_upper (from at b) item) j
+  upper_item e is = ap (to_upper (from at b) item) (moved (2 ^ suc h) e is) ∙ sym (through_places net h (from (2 ^ suc h) (from at b)) (to_upper (from at b) item) j)
+
+  pub lower_item : n ≡ at + (2 ^ suc h + switches net h) → s ≡ through net h (from n b) (λ j. j) j
+      → to_lower (from at b) item s ≡ through net h (from (2 ^ suc h + switches net h) (from at b)) (to_lower (from at b) item) j
+  lower_item e is =
+      ap (to_lower (from at b) item) (moved (2 ^ suc h + switches net h) e is) ∙ sym (through_places net h (from (2 ^ suc h + switches net h) (from at b)) (to_lower (from at b) item) j)
+
+-- the items of a last column, by the networks before it
+pub last_even : {X : Type 0} (u l : ℕ → X) (j m : ℕ) → alternating u l (2 * j + 2 * m) ≡ u (j + m)
+last_even u l j m = let even : 2 * j + 2 * m ≡ 2 * (j + m) = omega arith in ap (alternating u l) even ∙ alternating-even u l (j + m)
+
+pub last_odd : {X : Type 0} (u l : ℕ → X) (j m : ℕ) → alternating u l (2 * j + 1 + 2 * m) ≡ l (j + m)
+last_odd u l j m = let odd : 2 * j + 1 + 2 * m ≡ 2 * (j + m) + 1 = omega arith in ap (alternating u l) odd ∙ alternating-odd u l (j + m)

@@ -1,0 +1,105 @@
+ghost use Rattle.std.specs.Prelude.{◌≡◌, ℕ, suc, Bool, if◌then◌else◌, ◌+◌, ◌*◌, ◌<◌, ◌≤◌, ◌^◌};
+ghost use Rattle.tv_benes.specs.Items.{bit_at, pair_at, item_of, depth_of, ArePlaces};
+ghost use Rattle.tv_benes.specs.Through.{switches, from, last_bit, through};
+
+use crate::shape::{Net, level_switches, long_power};
+use tv_core::{F, PairNum};
+
+// The items of a network: those handed in, or those of the upper or lower network within another, told by
+// that one's items, by the place where its bits begin, and by whether it is the lower one.
+#[derive(Clone, Copy)]
+pub(crate) enum Items<'a> {
+    Given(&'a [PairNum]),
+    Half(&'a Items<'a>, u64, bool),
+}
+
+// The bit at a place, 0 past the end.
+pub(crate) fn bit(bits: &[bool], at: u64) -> bool
+    ensures { result ≡ bit_at bits.now at }
+{
+    match bits.get(at as usize) {
+        Some(b) => *b,
+        None => false,
+    }
+}
+
+// The pair at a place, zeros past the end.
+fn given(pairs: &[PairNum], at: u64) -> PairNum
+    ensures { result ≡ pair_at pairs.now at }
+{
+    match pairs.get(at as usize) {
+        Some(pair) => *pair,
+        None => PairNum {
+            first: F::ZERO,
+            second: F::ZERO,
+        },
+    }
+}
+
+// Item `j`, found among what was handed in: one step for each network that it lies within.
+pub(crate) fn read(items: &Items<'_>, bits: &[bool], j: u64) -> PairNum
+    requires near { (j + 1) * 2 ^ depth_of items.now ≤ 2 ^ 62 }
+    requires places { ArePlaces items.now }
+    ensures { result ≡ item_of bits.now items.now j }
+{
+    match items {
+        Items::Given(pairs) => given(pairs, j),
+        Items::Half(outer, at, lower) => {
+            let crossed = bit(bits, *at + j) != *lower;
+            read(outer, bits, 2 * j + flag(crossed))
+        }
+    }
+}
+
+// Which item of a network of level `h`, whose bits begin at `at`, comes out at place `i`.
+pub(crate) fn source(net: Net, bits: &[bool], at: u64, h: u32, i: u64) -> u64
+    requires level { h < 31 }
+    requires place { at + switches net h < 2 ^ 62 }
+    requires within { i < 2 ^ suc h }
+    ensures is { result ≡ through net h (from at (bit_at bits.now)) (λ j. j) i }
+    ensures below { result < 2 ^ suc h }
+{
+    let j = i / 2;
+    let odd = i % 2 == 1;
+    if h == 0 {
+        let lower = bit(bits, at + j) != odd;
+        return 2 * j + flag(lower);
+    }
+    let n = long_power(h);
+    let s = level_switches(net, h - 1);
+    let lower = last_bit(net, bits, at + n + 2 * s, j) != odd;
+    let skipped = only_if(lower, s);
+    let inner = source(net, bits, at + n + skipped, h - 1, j);
+    let crossed = bit(bits, at + inner) != lower;
+    2 * inner + flag(crossed)
+}
+
+// The bit of switch `j` of a last column whose bits begin at `at`.
+fn last_bit(net: Net, bits: &[bool], at: u64, j: u64) -> bool
+    requires { at + j < 2 ^ 63 }
+    ensures { result ≡ last_bit net (from at (bit_at bits.now)) j }
+{
+    match net {
+        Net::Benes => bit(bits, at + j),
+        Net::Waksman => {
+            if j == 0 {
+                false
+            } else {
+                bit(bits, at + (j - 1))
+            }
+        }
+    }
+}
+
+fn flag(set: bool) -> u64
+    ensures is { result ≡ (if set then 1 else 0) }
+    ensures small { result < 2 }
+{
+    if set { 1 } else { 0 }
+}
+
+fn only_if(set: bool, n: u64) -> u64
+    ensures { result ≡ (if set then n else 0) }
+{
+    if set { n } else { 0 }
+}

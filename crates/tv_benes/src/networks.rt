@@ -1,0 +1,90 @@
+ghost use Rattle.std.specs.Prelude.{◌≡◌, ℕ, suc, ◌+◌, ◌-◌, ◌*◌, ◌^◌, ◌<◌, ◌≤◌, IfOk};
+ghost use Rattle.tv_benes.specs.Network.{last_column_of, network_of};
+ghost use Rattle.tv_benes.specs.Places.{row, output_wire, AreMade, AreBelow};
+ghost use Rattle.tv_benes.specs.Through.{switches, missing};
+ghost use Rattle.tv_benes.specs.declared.shape.Net.TheVariants.{Benes};
+ghost use Rattle.tv_core.specs.Sinks.{PutsIn, Grows, Room};
+
+use crate::columns::{column, input_column};
+use crate::places::{Inputs, LastItems, Outputs, Row, column_outputs, last_outputs};
+use crate::shape::{Net, missing, power};
+use tv_core::{Put, Sink, Wire};
+
+/// Benes' network on 2^`k` items. It makes 5 wires and 5 constraints a switch, of 23 terms where the
+/// items are wires; it keeps no list, and asks `inputs` for each item once.
+pub fn network<S: Sink, I: Inputs>(s: &mut S, k: u32, inputs: &I) -> Put<Outputs>
+    requires some { 1 ≤ k }
+    requires few { k ≤ 31 }
+    requires room { Room S.meaning s.old (5 * switches Benes (k - 1)) (5 * switches Benes (k - 1)) }
+    requires count { I.count inputs.now ≡ 2 ^ k }
+    requires made { AreMade (I.pair inputs.now) (2 ^ k) (S.meaning.wires s.old) }
+    ensures puts { PutsIn S.meaning s.old s.new (network_of Benes (k - 1) (I.pair inputs.now)) result }
+    ensures grows { IfOk result (λ _. Grows S.meaning s.old s.new (5 * switches Benes (k - 1)) (5 * switches Benes (k - 1))) }
+    ensures below { IfOk result (λ outputs. AreBelow outputs (2 ^ k) (S.meaning.wires s.new)) }
+{
+    routing_network(s, Net::Benes, k, inputs)
+}
+
+/// Either network on 2^`k` items.
+pub fn routing_network<S: Sink, I: Inputs>(s: &mut S, net: Net, k: u32, inputs: &I) -> Put<Outputs>
+    requires some { 1 ≤ k }
+    requires few { k ≤ 31 }
+    requires room { Room S.meaning s.old (5 * switches net (k - 1)) (5 * switches net (k - 1)) }
+    requires count { I.count inputs.now ≡ 2 ^ k }
+    requires made { AreMade (I.pair inputs.now) (2 ^ k) (S.meaning.wires s.old) }
+    ensures puts { PutsIn S.meaning s.old s.new (network_of net (k - 1) (I.pair inputs.now)) result }
+    ensures grows { IfOk result (λ _. Grows S.meaning s.old s.new (5 * switches net (k - 1)) (5 * switches net (k - 1))) }
+    ensures below { IfOk result (λ outputs. AreBelow outputs (2 ^ k) (S.meaning.wires s.new)) }
+{
+    let h = k - 1;
+    let n = power(h);
+    let first = s.wires();
+    input_column(s, n, inputs)?;
+    if h == 0 {
+        return Ok(column_outputs(first));
+    }
+    let upper = row_network(s, net, h - 1, first + 1)?;
+    let lower = row_network(s, net, h - 1, first + 3)?;
+    last_column(s, net, h, &upper, &lower)
+}
+
+// A network of level `h` on the pairs of wires that stand at every fifth place from `w` on.
+fn row_network<S: Sink>(s: &mut S, net: Net, h: u32, w: u32) -> Put<Outputs>
+    requires level { h < 31 }
+    requires room { Room S.meaning s.old (5 * switches net h) (5 * switches net h) }
+    requires made { w + 10 * 2 ^ h ≤ S.meaning.wires s.old + 3 }
+    ensures puts { PutsIn S.meaning s.old s.new (network_of net h (row w)) result }
+    ensures grows { IfOk result (λ _. Grows S.meaning s.old s.new (5 * switches net h) (5 * switches net h)) }
+{
+    let n = power(h);
+    let first = s.wires();
+    column(s, n, &Row(Wire(w)))?;
+    if h == 0 {
+        return Ok(column_outputs(first));
+    }
+    let upper = row_network(s, net, h - 1, first + 1)?;
+    let lower = row_network(s, net, h - 1, first + 3)?;
+    last_column(s, net, h, &upper, &lower)
+}
+
+// The last column of a network of level `h`, over the outputs of the two networks before it.
+fn last_column<S: Sink>(
+    s: &mut S,
+    net: Net,
+    h: u32,
+    upper: &Outputs,
+    lower: &Outputs,
+) -> Put<Outputs>
+    requires level { h < 31 }
+    requires some { 1 ≤ h }
+    requires room { Room S.meaning s.old (5 * (2 ^ h - missing net)) (5 * (2 ^ h - missing net)) }
+    requires upper_below { AreBelow upper.now (2 ^ h) (S.meaning.wires s.old) }
+    requires lower_below { AreBelow lower.now (2 ^ h) (S.meaning.wires s.old) }
+    ensures puts { PutsIn S.meaning s.old s.new (last_column_of net h upper.now lower.now) result }
+    ensures grows { IfOk result (λ _. Grows S.meaning s.old s.new (5 * (2 ^ h - missing net)) (5 * (2 ^ h - missing net))) }
+{
+    let n = power(h) - missing(net);
+    let first = s.wires();
+    column(s, n, &LastItems { net, upper, lower })?;
+    Ok(last_outputs(net, first, upper, lower))
+}

@@ -1,0 +1,74 @@
+ghost use Rattle.std.specs.Prelude.{◌≡◌, ◌-◌, ◌^◌, ◌<◌, ◌≤◌};
+ghost use Rattle.tv_benes.specs.Through.{switches, missing};
+ghost use Rattle.tv_benes.specs.declared.shape.Net.TheVariants.{Benes};
+
+/// Which of the two permutation networks.
+#[derive(Clone, Copy, PartialEq, Eq, Debug)]
+pub enum Net {
+    /// Benes' network: (2k - 1) · 2^(k-1) switches for 2^k items.
+    Benes,
+    /// Waksman's: the same, but that the first switch of each last column is left out, its two items
+    /// passing: 2^k · (k - 1) + 1 switches.
+    Waksman,
+}
+
+/// How many switches Benes' network for 2^`k` items has.
+pub fn switches(k: u32) -> u64
+    requires some { 1 ≤ k }
+    requires few { k ≤ 31 }
+    ensures { result ≡ switches Benes (k - 1) }
+{
+    routing_switches(Net::Benes, k)
+}
+
+/// How many switches either network for 2^`k` items has.
+pub fn routing_switches(net: Net, k: u32) -> u64
+    requires some { 1 ≤ k }
+    requires few { k ≤ 31 }
+    ensures { result ≡ switches net (k - 1) }
+{
+    level_switches(net, k - 1)
+}
+
+// The same for a network of level `h`.
+pub(crate) fn level_switches(net: Net, h: u32) -> u64
+    requires { h < 31 }
+    ensures { result ≡ switches net h }
+{
+    let half = long_power(h);
+    match net {
+        Net::Benes => (2 * u64::from(h) + 1) * half,
+        Net::Waksman => u64::from(h) * (2 * half) + 1,
+    }
+}
+
+// 2^`h`: how many switches the first column of a network of level `h` has.
+pub(crate) fn power(h: u32) -> u32
+    requires { h < 32 }
+    ensures { result ≡ 2 ^ h }
+{
+    1 << h
+}
+
+pub(crate) fn long_power(h: u32) -> u64
+    requires { h < 32 }
+    ensures { result ≡ 2 ^ h }
+{
+    u64::from(power(h))
+}
+
+// How many switches a last column lacks.
+pub(crate) fn missing(net: Net) -> u32
+    ensures { result ≡ missing net }
+{
+    match net {
+        Net::Benes => 0,
+        Net::Waksman => 1,
+    }
+}
+
+pub(crate) fn long_missing(net: Net) -> u64
+    ensures { result ≡ missing net }
+{
+    u64::from(missing(net))
+}

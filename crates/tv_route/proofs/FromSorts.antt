@@ -1,0 +1,72 @@
+-- A rearrangement of 0, 1, .. n - 1, as a sort gives it, is a permutation.
+use Rattle.std.proofs.Common.{◌≡◌, ◌≢◌, ◌⊎◌, ℕ, ◌<◌, ◌≤◌, ◌==◌, Bool, true, false, List, length, get_or, All, IsPermutation, inl, inr, refl, sym, ◌∙◌, subst, arith, eq-eqb}
+use Rattle.std.specs.Prelude.{slice_index}
+use Rattle.std.specs.List.{IsDistinct}
+use Rattle.std.proofs.lemmas.Bool.{cases_lt, cases_eq, eqb-true, eqb-false, ne_eqb}
+use Rattle.std.proofs.lemmas.List.{get_or_default}
+use Rattle.std.proofs.lemmas.List.FromFn.{length-map-range_with_len, get_or-map-range_with_len}
+use Rattle.std.proofs.lemmas.List.Sorted.{All-permutation, Contains-permutation, length_permutation}
+use Rattle.std.proofs.lemmas.Map.Keys.{apart_from_distinct, IsDistinct-from_apart, IsDistinct-IsPermutation}
+use Rattle.tv_benes.specs.Through.{places}
+use Rattle.tv_route.specs.Permutations.{Permutes}
+
+same : ℕ → ℕ → Bool
+same a b = a == b
+
+flips : (a b : ℕ) → same a b ≡ same b a
+unfolding same
+flips a b = by_test (a == b) refl
+  where
+    by_test : (c : Bool) → (a == b) ≡ c → (a == b) ≡ (b == a)
+    by_test true e = e ∙ sym (eq-eqb b a (sym (eqb-true a b e)))
+    by_test false e = e ∙ sym (ne_eqb b a (λ f. eqb-false a b e (sym f)))
+
+id_length : (n : ℕ) → length (places n (λ (i : ℕ). i)) ≡ n
+unfolding places
+id_length n = length-map-range_with_len (λ i. i) 0 n
+
+id_at : (n i d : ℕ) → i < n → get_or (places n (λ i. i)) i d ≡ i
+unfolding places
+id_at n i d h = get_or-map-range_with_len (λ i. i) 0 n i i d h (omega arith)
+
+record IsFound (n : ℕ) (p : List ℕ) (x : ℕ) : Type 0 where
+  place : ℕ
+  fits : x < n → (place < n) × (slice_index p place ≡ x)
+
+pub permutes_of : (n : ℕ) (p : List ℕ) → IsPermutation (places n (λ i. i)) p → Permutes n p
+unfolding same
+permutes_of n p moved = record {
+  as_long = long;
+  below = λ i h. small i 0 (omega (arith, long));
+  back = λ x. (found x (cases_lt x n)).place;
+  back_below = λ x h. ((found x (cases_lt x n)).fits h).0;
+  there = λ x h. ((found x (cases_lt x n)).fits h).1;
+  once = λ i j hi hj e. elim (cases_lt i j) [
+    | inl less ↦ absurd (apart i j less (omega (arith, long)) e)
+    | inr more ↦ elim (cases_eq i j) [ inl equal ↦ equal | inr other ↦ absurd (apart j i (omega arith) (omega (arith, long)) (sym e)) ]
+  ];
+}
+  where
+    ids : List ℕ
+    ids = places n (λ (i : ℕ). i)
+
+    long : length p ≡ n
+    long = length_permutation (places n (λ i. i)) p moved ∙ id_length n
+
+    small : All (λ v. v < n) p
+    small = All-permutation (λ v. v < n) (places n (λ i. i)) p moved (λ i d h. let l = id_length n in subst (λ v. v < n) (sym (id_at n i d (omega arith))) (omega arith))
+
+    apart : (i j : ℕ) → i < j → j < length p → slice_index p i ≢ slice_index p j
+    apart i j h k =
+        let l = id_length n in
+        let first : IsDistinct same (places n (λ i. i)) = IsDistinct-from_apart same (places n (λ i. i)) (λ i j d h k.
+        ne_eqb (get_or (places n (λ i. i)) i d) (get_or (places n (λ i. i)) j d) (λ e. let f : i ≡ j = sym (id_at n i d (omega arith)) ∙ e ∙ id_at n j d (omega arith) in omega arith)) in
+        let after = IsDistinct-IsPermutation same flips (places n (λ i. i)) p moved first in
+        eqb-false (slice_index p i) (slice_index p j) (apart_from_distinct same p i j 0 after h k)
+
+    found : (x : ℕ) → ((x < n) ⊎ (n ≤ x)) → IsFound n p x
+    found x (inl h) =
+        let l = id_length n in
+        let c = Contains-permutation (places n (λ i. i)) p x moved (x, omega arith, id_at n x x h) in
+        record { place = c.0; fits = λ k. (omega (arith, c.1, long), get_or_default p c.0 0 x (omega (arith, c.1)) ∙ c.2) }
+    found x (inr h) = record { place = 0; fits = λ k. absurd (omega arith) }

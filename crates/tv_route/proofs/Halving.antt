@@ -1,0 +1,196 @@
+-- The halves of a permutation: every input is settled, and of each two fellows one goes down.
+use Rattle.std.proofs.Common.{◌≡◌, ◌≢◌, ℕ, zero, suc, ◌+◌, ◌*◌, ◌/◌, ◌%◌, ◌<◌, ◌≤◌, ◌==◌, inl, inr, Bool, true, false, not, if◌then◌else◌, List, length, get_or, set, replicate, Some, None, is_none, refl, sym, ◌∙◌, ap, subst, arith, get_or-set_same, get_or-set_other}
+use Rattle.std.specs.Prelude.{slice_index}
+use Rattle.std.proofs.lemmas.Bool.{cases_eq, cases_lt}
+use Rattle.std.proofs.lemmas.List.{get_or-replicate, length-replicate, get_or_past}
+use Rattle.std.proofs.lemmas.List.Sums.{count_by-le-length}
+use Rattle.tv_route.proofs.Pairing.{other_pairs, other-even, partners_pair, partner_of}
+use Rattle.tv_route.proofs.Walking.{IsClosed, IsUnderway, left, walk_closes, walk_still, walk_begins}
+use Rattle.tv_route.specs.Permutations.{Permutes}
+use Rattle.tv_route.specs.Route.{Mark, other, partners, walk, walks, halves, is_down, down}
+
+abbrev pub IsSettled : List Mark → ℕ → Type 0
+IsSettled marks z = get_or marks z None ≢ None
+
+set_keeps : (marks : List Mark) (i : ℕ) (b : Bool) (z : ℕ) → IsSettled marks z → IsSettled (set marks i (Some b)) z
+set_keeps marks i b z s e = elim (cases_eq z i) [
+  | inl same ↦ elim (cases_lt i (length marks)) [
+    | inl within ↦ some_none b (sym (ap (λ k. get_or (set marks i (Some b)) k None) same ∙ get_or-set_same marks i (Some b) None within) ∙ e)
+    | inr past ↦ s (ap (λ k. get_or marks k None) same ∙ get_or_past marks i None past)
+  ]
+  | inr apart ↦ s (sym (get_or-set_other marks i z (Some b) None apart) ∙ e)
+]
+  where
+    some_none : (c : Bool) → ◌≡◌ {A = Mark} (Some c) None → ⊥
+    some_none c e = cc
+
+either_settled : (c : Bool) (x y : List Mark) (z : ℕ) → IsSettled x z → IsSettled y z → IsSettled (if c then x else y) z
+either_settled true x y z a b = a
+either_settled false x y z a b = b
+
+walk_keeps : (partner : List ℕ) (steps start x : ℕ) (marks : List Mark) (z : ℕ) → IsSettled marks z → IsSettled (walk partner steps start x marks) z
+unfolding walk
+walk_keeps partner zero start x marks z s = s
+walk_keeps partner (suc steps) start x marks z s =
+    let y = slice_index partner x in
+    let more = set (set marks x (Some false)) y (Some true) in
+    let kept = set_keeps (set marks x (Some false)) y true z (set_keeps marks x false z s) in
+    either_settled (other y == start) more (walk partner steps start (other y) more) z kept (walk_keeps partner steps start (other y) more z kept)
+
+walk_settles : (partner : List ℕ) (steps start x : ℕ) (marks : List Mark) → x < length marks → 0 < steps → IsSettled (walk partner steps start x marks) x
+unfolding walk
+walk_settles partner zero start x marks within some = absurd (omega arith)
+walk_settles partner (suc steps) start x marks within some =
+    let y = slice_index partner x in
+    let more = set (set marks x (Some false)) y (Some true) in
+    let first : IsSettled (set marks x (Some false)) x = λ e. some_none (sym (get_or-set_same marks x (Some false) None within) ∙ e) in
+    let kept = set_keeps (set marks x (Some false)) y true x first in
+    either_settled (other y == start) more (walk partner steps start (other y) more) x kept (walk_keeps partner steps start (other y) more x kept)
+  where
+    some_none : ◌≡◌ {A = Mark} (Some false) None → ⊥
+    some_none e = cc
+
+module _ (n : ℕ) (p : List ℕ) (perm : Permutes (2 * n) p) where
+  abbrev σ : ℕ → ℕ
+  σ x = slice_index (partners p n) x
+
+  -- after the walks from the first j even inputs
+  record IsWalked (j : ℕ) (marks : List Mark) : Type 0 where
+    closed : IsClosed (2 * n) σ other marks
+    evens : (i : ℕ) → i < j → IsSettled marks (2 * i)
+    up : get_or marks (slice_index p 0) None ≡ Some false
+
+  free_is : (k : Mark) → is_none k ≡ true → k ≡ None
+  free_is None e = refl
+  free_is (Some b) e = cc
+
+  taken_is : (k : Mark) → is_none k ≡ false → k ≢ None
+  taken_is None e f = cc
+  taken_is (Some b) e f = cc
+
+  underway : (x : ℕ) (marks : List Mark) → x < 2 * n → IsClosed (2 * n) σ other marks → get_or marks x None ≡ None → IsUnderway (2 * n) σ other x x marks
+  underway x marks h closed free =
+      let pair = other_pairs n in
+      record {
+        long = closed.long;
+        start_in = h;
+        x_in = h;
+        free = free;
+        pairs = closed.pairs;
+        sides = λ z z_in a b. closed.sides z z_in;
+        begun = inl (refl, fellow (get_or marks (other x) None) refl);
+      }
+    where
+      some_none : (c : Bool) → ◌≡◌ {A = Mark} (Some c) None → ⊥
+      some_none c e = cc
+
+      fellow : (k : Mark) → get_or marks (other x) None ≡ k → get_or marks (other x) None ≡ None
+      fellow None e = e
+      fellow (Some b) e =
+          let pair = other_pairs n in
+          let back = closed.sides (other x) (pair.below x h) b e in
+          absurd (some_none (not b) (sym (ap (λ k. get_or marks k None) (sym (pair.back x h)) ∙ back) ∙ free))
+
+  nothing_closed : IsClosed (2 * n) σ other (replicate (2 * n) None)
+  nothing_closed = record {
+    long = length-replicate (2 * n) None;
+    pairs = λ z h b e. absurd (none_some b (sym (get_or-replicate (2 * n) z None None h) ∙ e));
+    sides = λ z h b e. absurd (none_some b (sym (get_or-replicate (2 * n) z None None h) ∙ e));
+  }
+    where
+      none_some : (c : Bool) → ◌≡◌ {A = Mark} None (Some c) → ⊥
+      none_some c e = cc
+
+  begin : 0 < n → IsWalked 0 (walk (partners p n) n (slice_index p 0) (slice_index p 0) (replicate (2 * n) None))
+  begin some =
+      let start = slice_index p 0 in
+      let start_in : start < 2 * n = perm.below 0 (omega arith) in
+      let nothing : List Mark = replicate (2 * n) None in
+      let fits : left nothing ≤ 2 * n = omega (arith, count_by-le-length is_none nothing, nothing_closed.long) in
+      let u = underway start nothing start_in nothing_closed (get_or-replicate (2 * n) start None None start_in) in
+      record {
+        closed = walk_closes (2 * n) (partners p n) (partners_pair n p perm) (other_pairs n) n start start nothing u fits;
+        evens = λ i h. absurd (omega arith);
+        up = walk_begins (2 * n) (partners p n) (partners_pair n p perm) (other_pairs n) n start start nothing u some;
+      }
+
+  -- each z of which the test is known
+  step : (j : ℕ) (marks : List Mark) (c : Bool) → is_none (get_or marks (2 * j) None) ≡ c → j < n → IsWalked j marks → IsWalked (suc j) (if c then walk (partners p n) n (2 * j) (2 * j) marks else marks)
+  step j marks true free within w =
+      let fits : left marks ≤ 2 * n = omega (arith, count_by-le-length is_none marks, w.closed.long) in
+      record {
+        closed = walk_closes (2 * n) (partners p n) (partners_pair n p perm) (other_pairs n) n (2 * j) (2 * j) marks (underway (2 * j) marks (omega arith) w.closed (free_is (get_or marks (2 * j) None) free)) fits;
+        evens = λ i h. elim (cases_eq i j) [
+          | inl same ↦ subst (λ k. IsSettled (walk (partners p n) n (2 * j) (2 * j) marks) (2 * k)) (sym same) (walk_settles (partners p n) n (2 * j) (2 * j) marks (omega (arith, w.closed.long)) (omega arith))
+          | inr apart ↦ walk_keeps (partners p n) n (2 * j) (2 * j) marks (2 * i) (w.evens i (omega arith))
+        ];
+        up = walk_still (2 * n) (partners p n) (partners_pair n p perm) (other_pairs n) n (2 * j) (2 * j) marks (underway (2 * j) marks (omega arith) w.closed (free_is (get_or marks (2 * j) None) free)) (slice_index p 0) false w.up;
+      }
+  step j marks false taken within w = record {
+    closed = w.closed;
+    evens = λ i h. elim (cases_eq i j) [
+      | inl same ↦ subst (λ k. IsSettled marks (2 * k)) (sym same) (taken_is (get_or marks (2 * j) None) taken)
+      | inr apart ↦ w.evens i (omega arith)
+    ];
+    up = w.up;
+  }
+
+  begun : List Mark
+  begun = walk (partners p n) n (slice_index p 0) (slice_index p 0) (replicate (2 * n) None)
+
+  walked : (j : ℕ) → j ≤ n → 0 < n → IsWalked j (walks (partners p n) n j (walk (partners p n) n (slice_index p 0) (slice_index p 0) (replicate (2 * n) None)))
+  unfolding walks
+  walked zero h some = begin some
+  walked (suc j) h some =
+      let before = walks (partners p n) n j (walk (partners p n) n (slice_index p 0) (slice_index p 0) (replicate (2 * n) None)) in
+      step j before (is_none (get_or before (2 * j) None)) refl (omega arith) (walked j (omega arith) some)
+
+  all : 0 < n → IsWalked n (halves p n)
+  all some = walked n (omega arith) some
+
+  -- ---- what follows
+  mark_some : (k : Mark) → k ≢ None → (b : Bool) × (k ≡ Some b)
+  mark_some None s = absurd (s refl)
+  mark_some (Some b) s = (b, refl)
+
+  down_at : (z : ℕ) (b : Bool) → get_or (halves p n) z None ≡ Some b → down (halves p n) z ≡ b
+  down_at z b e = ap is_down e
+
+  even_mark : (j : ℕ) → j < n → (b : Bool) × (get_or (halves p n) (2 * j) None ≡ Some b)
+  even_mark j h = let w = all (omega arith) in mark_some (get_or (halves p n) (2 * j) None) (w.evens j h)
+
+  odd_mark : (j : ℕ) → j < n → (b : Bool) → get_or (halves p n) (2 * j) None ≡ Some b → get_or (halves p n) (2 * j + 1) None ≡ Some (not b)
+  odd_mark j h b e =
+      let w = all (omega arith) in
+      let even : 2 * j % 2 ≡ 0 = omega arith in
+      ap (λ k. get_or (halves p n) k None) (sym (other-even (2 * j) even)) ∙ w.closed.sides (2 * j) (omega arith) b e
+
+  any_mark : (x : ℕ) → x < 2 * n → (b : Bool) × (get_or (halves p n) x None ≡ Some b)
+  any_mark x h =
+      let first = even_mark (x / 2) (omega arith) in
+      elim (cases_eq (x % 2) 0) [
+        | inl even ↦ let place : x ≡ 2 * (x / 2) = omega arith in (first.0, ap (λ k. get_or (halves p n) k None) place ∙ first.1)
+        | inr odd ↦ let place : x ≡ 2 * (x / 2) + 1 = omega arith in (not first.0, ap (λ k. get_or (halves p n) k None) place ∙ odd_mark (x / 2) (omega arith) first.0 first.1)
+      ]
+
+  pub sides_apart : (j : ℕ) → j < n → down (halves p n) (2 * j + 1) ≡ not (down (halves p n) (2 * j))
+  sides_apart j h =
+      let first = even_mark j h in
+      down_at (2 * j + 1) (not first.0) (odd_mark j h first.0 first.1) ∙ ap not (sym (down_at (2 * j) first.0 first.1))
+
+  pub pairs_apart : (j : ℕ) → j < n → down (halves p n) (slice_index p (2 * j + 1)) ≡ not (down (halves p n) (slice_index p (2 * j)))
+  pairs_apart j h =
+      let w = all (omega arith) in
+      let x = slice_index p (2 * j) in
+      let x_in : x < 2 * n = perm.below (2 * j) (omega arith) in
+      let first = any_mark x x_in in
+      let even : 2 * j % 2 ≡ 0 = omega arith in
+      let fellow : σ x ≡ slice_index p (2 * j + 1) = partner_of n p perm (2 * j) (omega arith) ∙ ap (λ k. slice_index p k) (other-even (2 * j) even) in
+      let second = w.closed.pairs x x_in first.0 first.1 in
+      down_at (slice_index p (2 * j + 1)) (not first.0) (ap (λ k. get_or (halves p n) k None) (sym fellow) ∙ second) ∙ ap not (sym (down_at x first.0 first.1))
+
+  pub first_up : 0 < n → down (halves p n) (slice_index p 0) ≡ false
+  first_up some = let w = all some in ap is_down w.up
+
+  pub halves-long : 0 < n → length (halves p n) ≡ 2 * n
+  halves-long some = let w = all some in w.closed.long

@@ -1,0 +1,397 @@
+-- The settings of a permutation take each input to its output.
+use Rattle.std.proofs.Common.{◌≡◌, ◌≢◌, ℕ, zero, suc, ◌+◌, ◌-◌, ◌*◌, ◌/◌, ◌%◌, ◌^◌, ◌<◌, ◌≤◌, ◌==◌, inl, inr, Bool, true, false, not, if◌then◌else◌, List, [], ◌∷◌, ◌++◌, length, get_or, refl, sym, ◌∙◌, ap, subst, arith, length-append}
+use Rattle.std.specs.Prelude.{slice_index, nat_lt}
+use Rattle.std.proofs.lemmas.Bool.{cases_eq, lt-ltb}
+use Rattle.std.proofs.lemmas.Bool.Decides.{nat_tests}
+use Rattle.std.proofs.lemmas.List.{get_or_append_left, get_or-append_right}
+use Rattle.std.proofs.lemmas.Nat.{pow_pos}
+use Rattle.std.proofs.lemmas.List.FromFn.{length-map-range_with_len, get_or-map-range_with_len}
+use Rattle.tv_benes.proofs.Permuting.{alternating-even, alternating-odd}
+use Rattle.tv_benes.proofs.ThroughLaws.{twice, switches-suc, missing_small, joined-same, through-same}
+use Rattle.tv_benes.specs.Through.{switches, from, passed, to_upper, to_lower, alternating, joined, last_bit, missing, through, places}
+use Rattle.tv_route.proofs.Halving.{sides_apart, pairs_apart, first_up}
+use Rattle.tv_route.specs.Permutations.{Permutes, IsRoutable}
+use Rattle.tv_route.specs.Route.{Mark, halves, down, up_input, down_input, route, level_within, level_of, route_of, RouteIsRight}
+use Rattle.tv_benes.specs.Items.{bit_at}
+use Rattle.tv_benes.specs.declared.shape.Net.{Net}
+use Rattle.tv_benes.specs.declared.shape.Net.TheVariants.{Benes, Waksman}
+
+module _ {X : Type 0} where
+  places-length : (n : ℕ) (f : ℕ → X) → length (places n f) ≡ n
+  unfolding places
+  places-length n f = length-map-range_with_len f 0 n
+
+  places-at : (n i : ℕ) (f : ℕ → X) (d : X) → i < n → get_or (places n f) i d ≡ f i
+  unfolding places
+  places-at n i f d h = get_or-map-range_with_len f 0 n i i d h (omega arith)
+
+-- ---- the inputs of one half
+-- inp j is the one of the two inputs of outputs 2 j and 2 j + 1 that goes through the half b
+record IsHalf (n : ℕ) (p : List ℕ) (down : ℕ → Bool) (b : Bool) (inp : ℕ → ℕ) : Type 0 where
+  place : ℕ → ℕ
+  at : (j : ℕ) → j < n → inp j ≡ slice_index p (place j)
+  pair : (j : ℕ) → j < n → place j / 2 ≡ j
+  goes : (j : ℕ) → j < n → down (inp j) ≡ b
+  meets : (i : ℕ) → i < 2 * n → down (slice_index p i) ≡ b → inp (i / 2) ≡ slice_index p i
+
+not_not : (a b : Bool) → a ≡ not b → not a ≡ b
+not_not a true e = ap not e
+not_not a false e = ap not e
+
+apart_not : (b : Bool) → b ≡ not b → ⊥
+apart_not true e = cc
+apart_not false e = cc
+
+module _ (n : ℕ) (p : List ℕ) (d : ℕ → Bool) (b : Bool) (perm : Permutes (2 * n) p) (inp : ℕ → ℕ) (half : IsHalf n p d b inp)
+    (sides : (j : ℕ) → j < n → d (2 * j + 1) ≡ not (d (2 * j))) where
+  -- the input of a pair that goes through this half
+  of_pair : ℕ → ℕ
+  of_pair x = passed (d (2 * x)) (if b then 2 * x + 1 else 2 * x) (if b then 2 * x else 2 * x + 1)
+
+  record IsOfPair (x y : ℕ) : Type 0 where
+    pair : y / 2 ≡ x
+    in_pair : y < 2 * x + 2
+    goes : d y ≡ b
+
+  of_pair_by : (x : ℕ) (c e : Bool) → d (2 * x) ≡ c → d (2 * x + 1) ≡ not c → b ≡ e → IsOfPair x (passed c (if e then 2 * x + 1 else 2 * x) (if e then 2 * x else 2 * x + 1))
+  of_pair_by x true true p q r = record { pair = omega arith; in_pair = omega arith; goes = p ∙ sym r }
+  of_pair_by x true false p q r = record { pair = omega arith; in_pair = omega arith; goes = q ∙ sym r }
+  of_pair_by x false true p q r = record { pair = omega arith; in_pair = omega arith; goes = q ∙ sym r }
+  of_pair_by x false false p q r = record { pair = omega arith; in_pair = omega arith; goes = p ∙ sym r }
+
+  of_pair_is : (x : ℕ) → x < n → IsOfPair x (of_pair x)
+  unfolding of_pair
+  of_pair_is x h = of_pair_by x (d (2 * x)) b refl (sides x h) refl
+
+  -- two inputs of one pair that go through the same half are one
+  one_of_pair : (x y : ℕ) → x < 2 * n → y < 2 * n → x / 2 ≡ y / 2 → d x ≡ d y → x ≡ y
+  one_of_pair x y hx hy same e = elim (cases_eq x y) [
+    | inl is ↦ is
+    | inr apart ↦ elim (cases_eq (x % 2) 0) [
+      | inl even ↦
+          let at_x : x ≡ 2 * (x / 2) = omega arith in
+          let at_y : y ≡ 2 * (x / 2) + 1 = omega arith in
+          absurd (apart_not (d (2 * (x / 2))) (sym (ap d at_x) ∙ e ∙ ap d at_y ∙ sides (x / 2) (omega arith)))
+      | inr odd ↦
+          let at_y : y ≡ 2 * (y / 2) = omega arith in
+          let at_x : x ≡ 2 * (y / 2) + 1 = omega arith in
+          absurd (apart_not (d (2 * (y / 2))) (sym (ap d at_y) ∙ sym e ∙ ap d at_x ∙ sides (y / 2) (omega arith)))
+    ]
+  ]
+
+  place_in : (j : ℕ) → j < n → half.place j < 2 * n
+  place_in j h = omega (arith, half.pair j h)
+
+  inp_in : (j : ℕ) → j < n → inp j < 2 * n
+  inp_in j h = subst (λ k. k < 2 * n) (sym (half.at j h)) (perm.below (half.place j) (place_in j h))
+
+  half_permutes : Permutes n (places n (λ j. inp j / 2))
+  half_permutes = record {
+    as_long = places-length n (λ j. inp j / 2);
+    below = λ i h. let k = inp_in i h in omega (arith, places-at n i (λ j. inp j / 2) 0 h);
+    back = λ x. perm.back (of_pair x) / 2;
+    back_below = λ x h. let o = of_pair_is x h in let k = perm.back_below (of_pair x) (omega (arith, o.in_pair)) in omega arith;
+    there = λ x h.
+        let o = of_pair_is x h in
+        let y_in : of_pair x < 2 * n = omega (arith, o.in_pair) in
+        let i = perm.back (of_pair x) in
+        let i_in : i < 2 * n = perm.back_below (of_pair x) y_in in
+        let is : inp (i / 2) ≡ of_pair x = half.meets i i_in (ap d (perm.there (of_pair x) y_in) ∙ o.goes) ∙ perm.there (of_pair x) y_in in
+        places-at n (i / 2) (λ j. inp j / 2) 0 (omega arith) ∙ ap (λ k. k / 2) is ∙ o.pair;
+    once = λ i j hi hj e.
+        let same : inp i / 2 ≡ inp j / 2 = sym (places-at n i (λ j. inp j / 2) 0 hi) ∙ e ∙ places-at n j (λ j. inp j / 2) 0 hj in
+        let one : inp i ≡ inp j = one_of_pair (inp i) (inp j) (inp_in i hi) (inp_in j hj) same (half.goes i hi ∙ sym (half.goes j hj)) in
+        let place : half.place i ≡ half.place j = perm.once (half.place i) (half.place j) (place_in i hi) (place_in j hj) (sym (half.at i hi) ∙ one ∙ half.at j hj) in
+        sym (half.pair i hi) ∙ ap (λ k. k / 2) place ∙ half.pair j hj;
+  }
+
+-- ---- the two halves
+chosen : (c e : Bool) (x y : ℕ) → c ≡ e → (if c then x else y) ≡ (if e then x else y)
+chosen c e x y p = ap (λ k. if k then x else y) p
+
+module _ (n : ℕ) (p : List ℕ) (marks : List Mark) (pairs : (j : ℕ) → j < n → down marks (slice_index p (2 * j + 1)) ≡ not (down marks (slice_index p (2 * j)))) where
+  upper_half : IsHalf n p (down marks) false (up_input marks p)
+  upper_half = record {
+    place = λ j. if down marks (slice_index p (2 * j)) then 2 * j + 1 else 2 * j;
+    at = λ j h. by_at (down marks (slice_index p (2 * j))) (2 * j + 1) (2 * j);
+    pair = λ j h. by_pair (down marks (slice_index p (2 * j))) j;
+    goes = λ j h. by_goes j h (down marks (slice_index p (2 * j))) refl;
+    meets = λ i h e. by_meets i h e;
+  }
+    where
+      by_at : (c : Bool) (x y : ℕ) → (if c then slice_index p x else slice_index p y) ≡ slice_index p (if c then x else y)
+      by_at true x y = refl
+      by_at false x y = refl
+
+      by_pair : (c : Bool) (j : ℕ) → (if c then 2 * j + 1 else 2 * j) / 2 ≡ j
+      by_pair true j = omega arith
+      by_pair false j = omega arith
+
+      by_goes : (j : ℕ) → j < n → (c : Bool) → down marks (slice_index p (2 * j)) ≡ c → down marks (if c then slice_index p (2 * j + 1) else slice_index p (2 * j)) ≡ false
+      by_goes j h true e = pairs j h ∙ ap not e
+      by_goes j h false e = e
+
+      by_meets : (i : ℕ) → i < 2 * n → down marks (slice_index p i) ≡ false → up_input marks p (i / 2) ≡ slice_index p i
+      by_meets i h e = elim (cases_eq (i % 2) 0) [
+        | inl even ↦
+            let place : 2 * (i / 2) ≡ i = omega arith in
+            chosen (down marks (slice_index p (2 * (i / 2)))) false (slice_index p (2 * (i / 2) + 1)) (slice_index p (2 * (i / 2))) (ap (λ k. down marks (slice_index p k)) place ∙ e) ∙ ap (λ k. slice_index p k) place
+        | inr odd ↦
+            let place : 2 * (i / 2) + 1 ≡ i = omega arith in
+            let first : not (down marks (slice_index p (2 * (i / 2)))) ≡ false = sym (pairs (i / 2) (omega arith)) ∙ ap (λ k. down marks (slice_index p k)) place ∙ e in
+            chosen (down marks (slice_index p (2 * (i / 2)))) true (slice_index p (2 * (i / 2) + 1)) (slice_index p (2 * (i / 2))) (sym (not_not false (down marks (slice_index p (2 * (i / 2)))) (sym first))) ∙ ap (λ k. slice_index p k) place
+      ]
+
+  lower_half : IsHalf n p (down marks) true (down_input marks p)
+  lower_half = record {
+    place = λ j. if down marks (slice_index p (2 * j)) then 2 * j else 2 * j + 1;
+    at = λ j h. by_at (down marks (slice_index p (2 * j))) (2 * j) (2 * j + 1);
+    pair = λ j h. by_pair (down marks (slice_index p (2 * j))) j;
+    goes = λ j h. by_goes j h (down marks (slice_index p (2 * j))) refl;
+    meets = λ i h e. by_meets i h e;
+  }
+    where
+      by_at : (c : Bool) (x y : ℕ) → (if c then slice_index p x else slice_index p y) ≡ slice_index p (if c then x else y)
+      by_at true x y = refl
+      by_at false x y = refl
+
+      by_pair : (c : Bool) (j : ℕ) → (if c then 2 * j else 2 * j + 1) / 2 ≡ j
+      by_pair true j = omega arith
+      by_pair false j = omega arith
+
+      by_goes : (j : ℕ) → j < n → (c : Bool) → down marks (slice_index p (2 * j)) ≡ c → down marks (if c then slice_index p (2 * j) else slice_index p (2 * j + 1)) ≡ true
+      by_goes j h true e = e
+      by_goes j h false e = pairs j h ∙ ap not e
+
+      by_meets : (i : ℕ) → i < 2 * n → down marks (slice_index p i) ≡ true → down_input marks p (i / 2) ≡ slice_index p i
+      by_meets i h e = elim (cases_eq (i % 2) 0) [
+        | inl even ↦
+            let place : 2 * (i / 2) ≡ i = omega arith in
+            chosen (down marks (slice_index p (2 * (i / 2)))) true (slice_index p (2 * (i / 2))) (slice_index p (2 * (i / 2) + 1)) (ap (λ k. down marks (slice_index p k)) place ∙ e) ∙ ap (λ k. slice_index p k) place
+        | inr odd ↦
+            let place : 2 * (i / 2) + 1 ≡ i = omega arith in
+            let first : not (down marks (slice_index p (2 * (i / 2)))) ≡ true = sym (pairs (i / 2) (omega arith)) ∙ ap (λ k. down marks (slice_index p k)) place ∙ e in
+            chosen (down marks (slice_index p (2 * (i / 2)))) false (slice_index p (2 * (i / 2))) (slice_index p (2 * (i / 2) + 1)) (sym (not_not true (down marks (slice_index p (2 * (i / 2)))) (sym first))) ∙ ap (λ k. slice_index p k) place
+      ]
+
+-- ---- what is read at a place of the bits
+pub route-length : (net : Net) (h : ℕ) (p : List ℕ) → length (route net h p) ≡ switches net h
+unfolding route
+route-length Waksman zero p = refl
+route-length Benes zero p = refl
+route-length net (suc h) p =
+    let n = 2 ^ suc h in
+    let marks = halves p n in
+    let a = places n (λ j. down marks (2 * j)) in
+    let u = route net h (places n (λ j. up_input marks p j / 2)) in
+    let l = route net h (places n (λ j. down_input marks p j / 2)) in
+    let b = places (n - missing net) (λ j. down marks (slice_index p (2 * (j + missing net)))) in
+    length-append a (u ++ (l ++ b)) ∙ ap (λ k. length a + k) (length-append u (l ++ b) ∙ ap (λ k. length u + k) (length-append l b))
+    ∙ omega (arith, switches-suc net h, missing_small net, pow_pos (suc h), places-length n (λ j. down marks (2 * j)), places-length (n - missing net) (λ j. down marks (slice_index p (2 * (j + missing net)))), route-length net h (places n (λ j. up_input marks p j / 2)), route-length net h (places n (λ j. down_input marks p j / 2)))
+
+module _ (n s : ℕ) (a u l b : List Bool) (la : length a ≡ n) (lu : length u ≡ s) (ll : length l ≡ s) where
+  bits : List Bool
+  bits = a ++ (u ++ (l ++ b))
+
+  in_first : (j : ℕ) → j < n → get_or (a ++ (u ++ (l ++ b))) j false ≡ get_or a j false
+  in_first j h = get_or_append_left a (u ++ (l ++ b)) false j (omega (arith, la))
+
+  in_upper : (j : ℕ) → j < s → get_or (a ++ (u ++ (l ++ b))) (n + j) false ≡ get_or u j false
+  in_upper j h =
+      let place : n + j - n ≡ j = omega arith in
+      get_or-append_right a (u ++ (l ++ b)) n (n + j) false la (omega arith) ∙ ap (λ k. get_or (u ++ (l ++ b)) k false) place ∙ get_or_append_left u (l ++ b) false j (omega (arith, lu))
+
+  in_lower : (j : ℕ) → j < s → get_or (a ++ (u ++ (l ++ b))) (n + s + j) false ≡ get_or l j false
+  in_lower j h =
+      let place : n + s + j - n ≡ s + j = omega arith in
+      let place' : s + j - s ≡ j = omega arith in
+      get_or-append_right a (u ++ (l ++ b)) n (n + s + j) false la (omega arith) ∙ ap (λ k. get_or (u ++ (l ++ b)) k false) place
+      ∙ get_or-append_right u (l ++ b) s (s + j) false lu (omega arith) ∙ ap (λ k. get_or (l ++ b) k false) place' ∙ get_or_append_left l b false j (omega (arith, ll))
+
+  in_last : (j : ℕ) → get_or (a ++ (u ++ (l ++ b))) (n + 2 * s + j) false ≡ get_or b j false
+  in_last j =
+      let place : n + 2 * s + j - n ≡ 2 * s + j = omega arith in
+      let place' : 2 * s + j - s ≡ s + j = omega arith in
+      let place'' : s + j - s ≡ j = omega arith in
+      get_or-append_right a (u ++ (l ++ b)) n (n + 2 * s + j) false la (omega arith) ∙ ap (λ k. get_or (u ++ (l ++ b)) k false) place
+      ∙ get_or-append_right u (l ++ b) s (2 * s + j) false lu (omega arith) ∙ ap (λ k. get_or (l ++ b) k false) place'
+      ∙ get_or-append_right l b s (s + j) false ll (omega arith) ∙ ap (λ k. get_or b k false) place''
+
+-- ---- one level
+passed_is : {X : Type 0} (c e : Bool) (x y : X) → c ≡ e → passed c x y ≡ passed e x y
+passed_is c e x y p = ap (λ k. passed k x y) p
+
+module _ {X : Type 0} (n : ℕ) (d bit : ℕ → Bool) (item : ℕ → X) (sides : (j : ℕ) → j < n → d (2 * j + 1) ≡ not (d (2 * j))) (column : (j : ℕ) → j < n → bit j ≡ d (2 * j)) where
+  goes_up : (x : ℕ) → x < 2 * n → d x ≡ false → to_upper bit item (x / 2) ≡ item x
+  goes_up x h e = elim (cases_eq (x % 2) 0) [
+    | inl even ↦
+        let place : 2 * (x / 2) ≡ x = omega arith in
+        passed_is (bit (x / 2)) false (item (2 * (x / 2))) (item (2 * (x / 2) + 1)) (column (x / 2) (omega arith) ∙ ap d place ∙ e) ∙ ap item place
+    | inr odd ↦
+        let place : 2 * (x / 2) + 1 ≡ x = omega arith in
+        let first : not (d (2 * (x / 2))) ≡ false = sym (sides (x / 2) (omega arith)) ∙ ap d place ∙ e in
+        passed_is (bit (x / 2)) true (item (2 * (x / 2))) (item (2 * (x / 2) + 1)) (column (x / 2) (omega arith) ∙ sym (not_not false (d (2 * (x / 2))) (sym first))) ∙ ap item place
+  ]
+
+  goes_down : (x : ℕ) → x < 2 * n → d x ≡ true → to_lower bit item (x / 2) ≡ item x
+  goes_down x h e = elim (cases_eq (x % 2) 0) [
+    | inl even ↦
+        let place : 2 * (x / 2) ≡ x = omega arith in
+        passed_is (bit (x / 2)) true (item (2 * (x / 2) + 1)) (item (2 * (x / 2))) (column (x / 2) (omega arith) ∙ ap d place ∙ e) ∙ ap item place
+    | inr odd ↦
+        let place : 2 * (x / 2) + 1 ≡ x = omega arith in
+        let first : not (d (2 * (x / 2))) ≡ true = sym (sides (x / 2) (omega arith)) ∙ ap d place ∙ e in
+        passed_is (bit (x / 2)) false (item (2 * (x / 2) + 1)) (item (2 * (x / 2))) (column (x / 2) (omega arith) ∙ sym (not_not true (d (2 * (x / 2))) (sym first))) ∙ ap item place
+  ]
+
+-- the bits of a last column: where switch 0 has none, the input of output 0 goes up
+last_is : (net : Net) (n : ℕ) (nth bit d : ℕ → Bool) (p : List ℕ) (j : ℕ) → j < n → d (slice_index p 0) ≡ false → ((i : ℕ) → bit i ≡ nth i)
+    → ((i : ℕ) → i + missing net < n → nth i ≡ d (slice_index p (2 * (i + missing net)))) → last_bit net bit j ≡ d (slice_index p (2 * j))
+last_is Waksman n nth bit d p zero h up there is = sym up
+last_is Waksman n nth bit d p (suc j) h up there is =
+    let place : suc j - 1 ≡ j = omega arith in
+    let input : 2 * (j + 1) ≡ 2 * suc j = omega arith in
+    later (suc j) (bit (suc j - 1)) (omega arith) ∙ ap bit place ∙ there j ∙ is j (omega arith) ∙ ap (λ k. d (slice_index p k)) input
+  where
+    later : (i : ℕ) (b : Bool) → 0 < i → (if i == 0 then false else b) ≡ b
+    later i b some = grind (arith, nat_tests)
+last_is Benes n nth bit d p j h up there is =
+    let input : 2 * (j + 0) ≡ 2 * j = omega arith in
+    there j ∙ is j (omega arith) ∙ ap (λ k. d (slice_index p k)) input
+
+-- the last column gives each output its input
+last_column : {X : Type 0} (c : Bool) (u l : X) (x y : X) → u ≡ (if c then y else x) → l ≡ (if c then x else y) → (passed c u l ≡ x) × (passed c l u ≡ y)
+last_column true u l x y p q = (q, p)
+last_column false u l x y p q = (p, q)
+
+item_if : {X : Type 0} (item : ℕ → X) (c : Bool) (x y : ℕ) → item (if c then x else y) ≡ (if c then item x else item y)
+item_if item true x y = refl
+item_if item false x y = refl
+
+-- one switch
+first_of_two : {X : Type 0} (item : ℕ → X) (q : ℕ) → q < 2 → passed (q == 1) (item 0) (item 1) ≡ item q
+first_of_two item q h = elim (cases_eq q 0) [
+  | inl none ↦ ap (λ k. passed (k == 1) (item 0) (item 1)) none ∙ ap item (sym none)
+  | inr some ↦ let one : q ≡ 1 = omega arith in ap (λ k. passed (k == 1) (item 0) (item 1)) one ∙ ap item (sym one)
+]
+
+second_of_two : {X : Type 0} (item : ℕ → X) (q r : ℕ) → q < 2 → r < 2 → q ≢ r → passed (q == 1) (item 1) (item 0) ≡ item r
+second_of_two item q r h k apart = elim (cases_eq q 0) [
+  | inl none ↦ let one : r ≡ 1 = omega arith in ap (λ k. passed (k == 1) (item 1) (item 0)) none ∙ ap item (sym one)
+  | inr some ↦ let one : q ≡ 1 = omega arith in let zero_is : r ≡ 0 = omega arith in ap (λ k. passed (k == 1) (item 1) (item 0)) one ∙ ap item (sym zero_is)
+]
+
+two_items : {X : Type 0} (p : List ℕ) (item : ℕ → X) → Permutes 2 p → (i : ℕ) → i < 2 → joined (λ j. get_or ((slice_index p 0 == 1) ∷ []) j false) (λ j. item (2 * j)) (λ j. item (2 * j + 1)) i ≡ item (slice_index p i)
+two_items p item perm i within =
+    let there = joined (λ j. get_or ((slice_index p 0 == 1) ∷ []) j false) (λ j. item (2 * j)) (λ j. item (2 * j + 1)) in
+    let first : slice_index p 0 < 2 = perm.below 0 (omega arith) in
+    let second : slice_index p 1 < 2 = perm.below 1 (omega arith) in
+    let apart : slice_index p 0 ≢ slice_index p 1 = λ e. let same : ◌≡◌ {A = ℕ} 0 1 = perm.once 0 1 (omega arith) (omega arith) e in omega arith in
+    elim (cases_eq i 0) [
+      | inl none ↦ ap there none ∙ first_of_two item (slice_index p 0) first ∙ ap (λ k. item (slice_index p k)) (sym none)
+      | inr some ↦ let one : i ≡ 1 = omega arith in ap there one ∙ second_of_two item (slice_index p 0) (slice_index p 1) first second apart ∙ ap (λ k. item (slice_index p k)) (sym one)
+    ]
+
+pub route_is : {X : Type 0} (net : Net) (h : ℕ) (p : List ℕ) (item : ℕ → X) → Permutes (2 ^ suc h) p → (i : ℕ) → i < 2 ^ suc h → through net h (λ j. get_or (route net h p) j false) item i ≡ item (slice_index p i)
+unfolding through route
+route_is net zero p item perm i within = two_items p item perm i within
+route_is net (suc h) p item perm i within =
+    let n = 2 ^ suc h in
+    let s = switches net h in
+    let two = twice (suc h) in
+    let whole : Permutes (2 * n) p = subst (λ k. Permutes k p) two perm in
+    let marks = halves p n in
+    let d = down marks in
+    let sides = sides_apart n p whole in
+    let pairs = pairs_apart n p whole in
+    let up = upper_half n p marks pairs in
+    let low = lower_half n p marks pairs in
+    let up_places = places n (λ j. up_input marks p j / 2) in
+    let low_places = places n (λ j. down_input marks p j / 2) in
+    let a = places n (λ j. d (2 * j)) in
+    let u = route net h up_places in
+    let l = route net h low_places in
+    let b = places (n - missing net) (λ j. d (slice_index p (2 * (j + missing net)))) in
+    let la = places-length n (λ j. d (2 * j)) in
+    let lu = route-length net h up_places in
+    let ll = route-length net h low_places in
+    let bit : ℕ → Bool = λ j. get_or (a ++ (u ++ (l ++ b))) j false in
+    let column : (j : ℕ) → j < n → bit j ≡ d (2 * j) = λ j k. in_first n s a u l b la lu ll j k ∙ places-at n j (λ j. d (2 * j)) false k in
+    let upper : (j : ℕ) → j < n → through net h (from n bit) (to_upper bit item) j ≡ item (up_input marks p j) =
+    λ j k. through-same net h (from n bit) (λ i. get_or u i false) (to_upper bit item) (to_upper bit item) (λ i lt. in_upper n s a u l b la lu ll i lt) (λ i lt. refl) j k
+    ∙ route_is net h up_places (to_upper bit item) (half_permutes n p d false whole (up_input marks p) up sides) j k
+    ∙ ap (to_upper bit item) (places-at n j (λ j. up_input marks p j / 2) 0 k)
+    ∙ goes_up n d bit item sides column (up_input marks p j) (inp_in n p d false whole (up_input marks p) up sides j k) (up.goes j k) in
+    let lower : (j : ℕ) → j < n → through net h (from (n + s) bit) (to_lower bit item) j ≡ item (down_input marks p j) =
+    λ j k. through-same net h (from (n + s) bit) (λ i. get_or l i false) (to_lower bit item) (to_lower bit item) (λ i lt. in_lower n s a u l b la lu ll i lt) (λ i lt. refl) j k
+    ∙ route_is net h low_places (to_lower bit item) (half_permutes n p d true whole (down_input marks p) low sides) j k
+    ∙ ap (to_lower bit item) (places-at n j (λ j. down_input marks p j / 2) 0 k)
+    ∙ goes_down n d bit item sides column (down_input marks p j) (inp_in n p d true whole (down_input marks p) low sides j k) (low.goes j k) in
+    let j = i / 2 in
+    let within_half : i / 2 < n = omega arith in
+    let last : last_bit net (from (n + 2 * s) bit) (i / 2) ≡ d (slice_index p (2 * (i / 2))) =
+    last_is net n (λ j. get_or b j false) (from (n + 2 * s) bit) d p (i / 2) within_half (first_up n p whole (omega arith)) (λ j. in_last n s a u l b la lu ll j) (λ j k. places-at (n - missing net) j (λ j. d (slice_index p (2 * (j + missing net)))) false (omega arith)) in
+    let c = d (slice_index p (2 * (i / 2))) in
+    let ends = last_column c (item (up_input marks p (i / 2))) (item (down_input marks p (i / 2))) (item (slice_index p (2 * (i / 2)))) (item (slice_index p (2 * (i / 2) + 1)))
+    (item_if item c (slice_index p (2 * (i / 2) + 1)) (slice_index p (2 * (i / 2)))) (item_if item c (slice_index p (2 * (i / 2))) (slice_index p (2 * (i / 2) + 1))) in
+    let one = λ (j : ℕ). passed (d (slice_index p (2 * j))) (item (up_input marks p j)) (item (down_input marks p j)) in
+    let other = λ (j : ℕ). passed (d (slice_index p (2 * j))) (item (down_input marks p j)) (item (up_input marks p j)) in
+    joined-same (last_bit net (from (n + 2 * s) bit)) (λ j. d (slice_index p (2 * j))) (through net h (from n bit) (to_upper bit item)) (λ j. item (up_input marks p j)) (through net h (from (n + s) bit) (to_lower bit item)) (λ j. item (down_input marks p j)) i
+    last (upper (i / 2) within_half) (lower (i / 2) within_half)
+    ∙ elim (cases_eq (i % 2) 0) [
+      | inl even ↦ let place : i ≡ 2 * (i / 2) = omega arith in ap (alternating one other) place ∙ alternating-even one other (i / 2) ∙ ends.0 ∙ ap (λ k. item (slice_index p k)) (sym place)
+      | inr odd ↦ let place : i ≡ 2 * (i / 2) + 1 = omega arith in ap (alternating one other) place ∙ alternating-odd one other (i / 2) ∙ ends.1 ∙ ap (λ k. item (slice_index p k)) (sym place)
+    ]
+
+-- the level of a list of 2 ^ k items is k - 1
+level_by : (fuel h : ℕ) → h < fuel → level_within fuel (2 ^ suc h) ≡ h
+level_by zero h few = absurd (omega arith)
+level_by (suc fuel) zero few = refl
+level_by (suc fuel) (suc h) few =
+    let big : nat_lt 2 (2 ^ suc (suc h)) ≡ true = lt-ltb 2 (2 ^ suc (suc h)) (omega (arith, pow_pos h, twice h, twice (suc h))) in
+    let half : 2 ^ suc (suc h) / 2 ≡ 2 ^ suc h = omega (arith, twice (suc h)) in
+    ap (λ (c : Bool). if c then suc (level_within fuel (2 ^ suc (suc h) / 2)) else 0) big ∙ ap (λ n. suc (level_within fuel n)) half ∙ ap suc (level_by fuel h (omega arith))
+
+less_than_power : (h : ℕ) → h < 2 ^ h
+less_than_power zero = omega arith
+less_than_power (suc h) = omega (arith, twice h, less_than_power h)
+
+pub level_is : (p : List ℕ) (h : ℕ) → length p ≡ 2 ^ suc h → level_of p ≡ h
+level_is p h long = ap (λ n. level_within n n) long ∙ level_by (2 ^ suc h) h (omega (arith, less_than_power h, twice h))
+
+pub route_of_is : (net : Net) (p : List ℕ) (h : ℕ) → length p ≡ 2 ^ suc h → route_of net p ≡ route net h p
+route_of_is net p h long = ap (λ k. route net k p) (level_is p h long)
+
+routed : {X : Type 0} (net : Net) (k : ℕ) (p : List ℕ) (item : ℕ → X) → 1 ≤ k → Permutes (2 ^ k) p → (i : ℕ) → i < 2 ^ k → through net (k - 1) (bit_at (route_of net p)) item i ≡ item (slice_index p i)
+routed net zero p item some perm i within = absurd (omega arith)
+routed net (suc h) p item some perm i within =
+    let level : suc h - 1 ≡ h = omega arith in
+    ap (λ (l : ℕ). through net l (bit_at (route_of net p)) item i) level
+    ∙ ap (λ (bits : List Bool). through net h (bit_at bits) item i) (route_of_is net p h perm.as_long)
+    ∙ route_is net h p item perm i within
+
+sized : (net : Net) (k : ℕ) (p : List ℕ) → 1 ≤ k → length p ≡ 2 ^ k → length (route_of net p) ≡ switches net (k - 1)
+sized net zero p some long = absurd (omega arith)
+sized net (suc h) p some long =
+    let level : suc h - 1 ≡ h = omega arith in
+    ap (λ (bits : List Bool). length bits) (route_of_is net p h long) ∙ route-length net h p ∙ ap (switches net) (sym level)
+
+pub route_right : RouteIsRight
+route_right = record {
+  size = sized;
+  numbers = λ net k p item some perm i within. routed net k p item some perm i within;
+  pairs = λ net k p item some perm i within. routed net k p item some perm i within;
+}
+
+-- what a half is to do is a permutation of its places
+pub upper_permutes : (n : ℕ) (p : List ℕ) → Permutes (2 * n) p → Permutes n (places n (λ j. up_input (halves p n) p j / 2))
+upper_permutes n p perm = half_permutes n p (down (halves p n)) false perm (up_input (halves p n) p) (upper_half n p (halves p n) (pairs_apart n p perm)) (sides_apart n p perm)
+
+pub lower_permutes : (n : ℕ) (p : List ℕ) → Permutes (2 * n) p → Permutes n (places n (λ j. down_input (halves p n) p j / 2))
+lower_permutes n p perm = half_permutes n p (down (halves p n)) true perm (down_input (halves p n) p) (lower_half n p (halves p n) (pairs_apart n p perm)) (sides_apart n p perm)
+
+-- a list that can be routed has a level below 31
+pub no_level : (p : List ℕ) → IsRoutable p → (h : ℕ) → 31 ≤ h → ((i : ℕ) → i < h → length p ≡ 2 ^ suc i → ⊥) → ⊥
+no_level p r h many none =
+    let level : r.k ≡ suc (r.k - 1) = omega (arith, r.some) in
+    none (r.k - 1) (omega (arith, r.some, r.few)) (r.permutes.as_long ∙ ap (λ k. 2 ^ k) level)

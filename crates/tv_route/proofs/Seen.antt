@@ -1,0 +1,107 @@
+-- Which numbers were seen, one after another.
+use Rattle.std.proofs.Common.{◌≡◌, ◌≢◌, ℕ, zero, suc, ◌+◌, ◌<◌, ◌≤◌, ◌⊎◌, Bool, true, false, if◌then◌else◌, List, [], ◌∷◌, length, get_or, set, replicate, inl, inr, sum_by, refl, sym, ◌∙◌, ap, subst, arith, length-set, get_or-set_same, get_or-set_other}
+use Rattle.std.specs.Prelude.{slice_index}
+use Rattle.std.proofs.lemmas.Bool.{cases_eq, cases_lt}
+use Rattle.std.proofs.lemmas.List.{get_or-replicate, length-replicate}
+use Rattle.std.proofs.lemmas.List.Sums.{sum_by-set, sum_by-cons}
+use Rattle.tv_route.specs.Permutations.{Permutes}
+
+abbrev pub one_if : Bool → ℕ
+one_if b = if b then 1 else 0
+
+-- the first i numbers are different ones below the length, and these were seen
+pub record IsSeen (p : List ℕ) (i : ℕ) (seen : List Bool) : Type 0 where
+  pub long : length seen ≡ length p
+  pub below : (k : ℕ) → k < i → slice_index p k < length p
+  pub marked : (k : ℕ) → k < i → get_or seen (slice_index p k) false ≡ true
+  pub only : (x : ℕ) → x < length p → get_or seen x false ≡ true → (k : ℕ) × (k < i) × (slice_index p k ≡ x)
+  pub once : (j k : ℕ) → j < k → k < i → slice_index p j ≢ slice_index p k
+  pub count : sum_by one_if seen ≡ i
+
+none_count : (n : ℕ) → sum_by one_if (replicate n false) ≡ 0
+none_count zero = refl
+none_count (suc n) = omega (arith, sum_by-cons one_if false (replicate n false), none_count n)
+
+pub seen_none : (p : List ℕ) (seen : List Bool) → seen ≡ replicate (length p) false → IsSeen p 0 seen
+seen_none p seen is = record {
+  long = ap length is ∙ length-replicate (length p) false;
+  below = λ k h. absurd (omega arith);
+  marked = λ k h. absurd (omega arith);
+  only = λ x h e. absurd (apart (sym (ap (λ l. get_or l x false) is ∙ get_or-replicate (length p) x false false h) ∙ e));
+  once = λ j k h l. absurd (omega arith);
+  count = ap (λ l. sum_by one_if l) is ∙ none_count (length p);
+}
+  where
+    apart : false ≡ true → ⊥
+    apart e = cc
+
+pub seen_more : (p : List ℕ) (i : ℕ) (seen : List Bool) → IsSeen p i seen → slice_index p i < length p → get_or seen (slice_index p i) false ≡ false → IsSeen p (i + 1) (set seen (slice_index p i) true)
+seen_more p i seen s small new =
+    let x = slice_index p i in
+    let x_in : x < length seen = omega (arith, s.long) in
+    record {
+      long = length-set seen x true ∙ s.long;
+      below = λ k h. elim (cases_eq k i) [ inl same ↦ subst (λ j. slice_index p j < length p) (sym same) small | inr apart ↦ s.below k (omega arith) ];
+      marked = λ k h. elim (cases_eq (slice_index p k) x) [
+        | inl same ↦ ap (λ y. get_or (set seen x true) y false) same ∙ get_or-set_same seen x true false x_in
+        | inr apart ↦ get_or-set_other seen x (slice_index p k) true false apart ∙ s.marked k (earlier k h apart)
+      ];
+      only = λ y h e. elim (cases_eq y x) [
+        | inl same ↦ (i, omega arith, sym same)
+        | inr apart ↦ let before = s.only y h (sym (get_or-set_other seen x y true false apart) ∙ e) in (before.0, omega (arith, before.1), before.2)
+      ];
+      once = λ j k h l e. elim (cases_eq k i) [
+        | inl last ↦ contradiction (get_or seen x false) (sym (ap (λ y. get_or seen y false) (e ∙ ap (λ m. slice_index p m) last)) ∙ s.marked j (omega arith)) new
+        | inr apart ↦ s.once j k h (omega arith) e
+      ];
+      count = let changed = sum_by-set one_if seen x true false x_in in let was : one_if (get_or seen x false) ≡ 0 = ap one_if new in omega (arith, changed, was, s.count);
+    }
+  where
+    contradiction : (b : Bool) → b ≡ true → b ≡ false → ⊥
+    contradiction b p q = cc
+
+    earlier : (k : ℕ) → k < i + 1 → slice_index p k ≢ slice_index p i → k < i
+    earlier k h apart = elim (cases_eq k i) [ inl same ↦ absurd (apart (ap (λ j. slice_index p j) same)) | inr other ↦ omega arith ]
+
+seen_le : (l : List Bool) → sum_by one_if l ≤ length l
+seen_le [] = omega arith
+seen_le (true ∷ l) = omega (arith, sum_by-cons one_if true l, seen_le l)
+seen_le (false ∷ l) = omega (arith, sum_by-cons one_if false l, seen_le l)
+
+-- where as many are seen as there are, all are
+all_seen : (seen : List Bool) → sum_by one_if seen ≡ length seen → (x : ℕ) → x < length seen → get_or seen x false ≡ true
+all_seen [] e x h = absurd (omega arith)
+all_seen (true ∷ seen) e zero h = refl
+all_seen (true ∷ seen) e (suc x) h = all_seen seen (omega (arith, sum_by-cons one_if true seen, e)) x (omega arith)
+all_seen (false ∷ seen) e x h = absurd (omega (arith, sum_by-cons one_if false seen, e, seen_le seen))
+
+record IsFound (p : List ℕ) (x : ℕ) : Type 0 where
+  place : ℕ
+  fits : x < length p → (place < length p) × (slice_index p place ≡ x)
+
+pub all_permute : (p : List ℕ) (seen : List Bool) → IsSeen p (length p) seen → Permutes (length p) p
+all_permute p seen s = record {
+  as_long = refl;
+  below = s.below;
+  back = λ x. (found x (cases_lt x (length p))).place;
+  back_below = λ x h. ((found x (cases_lt x (length p))).fits h).0;
+  there = λ x h. ((found x (cases_lt x (length p))).fits h).1;
+  once = λ i j hi hj e. elim (cases_lt i j) [
+    | inl less ↦ absurd (s.once i j less hj e)
+    | inr more ↦ elim (cases_eq i j) [ inl same ↦ same | inr apart ↦ absurd (s.once j i (omega arith) hi (sym e)) ]
+  ];
+}
+  where
+    found : (x : ℕ) → ((x < length p) ⊎ (length p ≤ x)) → IsFound p x
+    found x (inl h) = let k = s.only x h (all_seen seen (s.count ∙ sym s.long) x (omega (arith, s.long))) in record { place = k.0; fits = λ l. (k.1, k.2) }
+    found x (inr h) = record { place = 0; fits = λ l. absurd (omega arith) }
+
+-- and where one is too large or seen again, it is no permutation
+pub not_below : (p : List ℕ) (i : ℕ) → i < length p → length p ≤ slice_index p i → Permutes (length p) p → false ≡ true
+not_below p i h large perm = absurd (omega (arith, perm.below i h))
+
+pub not_once : (p : List ℕ) (i : ℕ) (seen : List Bool) → IsSeen p i seen → i < length p → get_or seen (slice_index p i) false ≡ true → Permutes (length p) p → false ≡ true
+not_once p i seen s h again perm =
+    let before = s.only (slice_index p i) (perm.below i h) again in
+    let same : before.0 ≡ i = perm.once before.0 i (omega (arith, before.1)) h before.2 in
+    absurd (omega (arith, before.1))

@@ -1,0 +1,3 @@
+pub mod Permutations
+pub mod Route
+pub use Rattle.tv_benes.specs.Through

@@ -1,0 +1,13 @@
+//! Settings of permutation networks: for every permutation, bits of the switches for which each output is
+//! the input that the permutation names; and the test for permutations. Contracts above cite `route_of`,
+//! which is the settings as a function of the permutation, and `Permutes`, which says what one is.
+#![tactic(auto)]
+
+mod laws;
+mod marking;
+mod settings;
+mod testing;
+
+pub use laws::{rearranged_is_a_permutation, route_is_right};
+pub use settings::{Settings, route, route_w, routing_settings};
+pub use testing::is_permutation;

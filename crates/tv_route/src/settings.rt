@@ -1,0 +1,201 @@
+ghost use Rattle.std.specs.Prelude.{◌≡◌, ℕ, suc, ◌+◌, ◌-◌, ◌*◌, ◌/◌, ◌^◌, ◌<◌, ◌≤◌, ◌++◌, if◌then◌else◌, length, slice_index, IfOk, OnOk};
+ghost use Rattle.tv_benes.specs.Through.{missing, places};
+ghost use Rattle.tv_benes.specs.declared.shape.Net.TheVariants.{Benes, Waksman};
+ghost use Rattle.tv_route.specs.Permutations.{Permutes, IsRoutable};
+ghost use Rattle.tv_route.specs.Route.{down, up_input, down_input, route, level_of, route_of};
+
+use crate::marking::halves;
+use std::alloc::{AllocError, Global};
+use std::marker::Model;
+use tv_benes::{Net, routing_switches};
+
+/// The bits of a network's switches, in order. Contracts see them as that list.
+#[derive(Drop)]
+pub struct Settings {
+    bits: Vec<bool>,
+}
+
+impl Model for Settings {
+    ghost use Rattle.std.specs.Prelude.{List, Bool};
+
+    ghost Value = { List Bool };
+
+    ghost view = { λ settings. settings.bits.items };
+}
+
+impl Settings {
+    /// The bits, in the order of the switches.
+    pub fn as_slice(&self) -> &[bool]
+        ensures { result.now ≡ self.now }
+    {
+        self.bits.as_slice()
+    }
+}
+
+/// Settings of Benes' network for which output i is the input at place `p[i]`, for a permutation `p` of
+/// the numbers below 2^k. It takes time linear in the number of switches, and some 32 bytes an item.
+pub fn route(alloc: Global, p: &[u32]) -> Result<Settings, AllocError>
+    requires { IsRoutable p.now }
+    ensures { IfOk result (λ settings. settings ≡ route_of Benes p.now) }
+{
+    routing_settings(alloc, Net::Benes, p)
+}
+
+/// The same for Waksman's network.
+pub fn route_w(alloc: Global, p: &[u32]) -> Result<Settings, AllocError>
+    requires { IsRoutable p.now }
+    ensures { IfOk result (λ settings. settings ≡ route_of Waksman p.now) }
+{
+    routing_settings(alloc, Net::Waksman, p)
+}
+
+/// The same for either network.
+pub fn routing_settings(alloc: Global, net: Net, p: &[u32]) -> Result<Settings, AllocError>
+    requires { IsRoutable p.now }
+    ensures { IfOk result (λ settings. settings ≡ route_of net p.now) }
+{
+    let h = level(p);
+    let mut bits = Vec::with_capacity(alloc, routing_switches(net, h + 1) as usize)?;
+    route_level(alloc, net, h, p, &mut bits)?;
+    Ok(Settings { bits })
+}
+
+// The level of a network on as many items.
+fn level(p: &[u32]) -> u32
+    requires { IsRoutable p.now }
+    ensures is { result ≡ level_of p.now }
+    ensures small { result < 31 }
+    ensures long { length p.now ≡ 2 ^ suc result }
+{
+    for h in 0..31 {
+        if p.len() == power(h + 1) {
+            return h;
+        }
+    }
+    unreachable!()
+}
+
+// The settings of a network of level `h`, after what `bits` has.
+fn route_level(
+    alloc: Global,
+    net: Net,
+    h: u32,
+    p: &[u32],
+    bits: &mut Vec<bool>,
+) -> Result<(), AllocError>
+    requires level { h < 31 }
+    requires permutes { Permutes (2 ^ suc h) p.now }
+    ensures { OnOk result (bits.new.items ≡ bits.old.items ++ route net h p.now) }
+{
+    if h == 0 {
+        bits.push(p[0] == 1)?;
+        return Ok(());
+    }
+    let n = power(h);
+    let marks = halves(alloc, p, n)?;
+    push_first(bits, &marks, n)?;
+    let upper = inputs(alloc, &marks, p, n, false)?;
+    route_level(alloc, net, h - 1, &upper, bits)?;
+    let lower = inputs(alloc, &marks, p, n, true)?;
+    route_level(alloc, net, h - 1, &lower, bits)?;
+    push_last(bits, net, &marks, p, n)?;
+    Ok(())
+}
+
+fn power(h: u32) -> usize
+    requires { h < 32 }
+    ensures { result ≡ 2 ^ h }
+{
+    1 << h
+}
+
+// Whether an input goes through the lower half.
+fn down(marks: &[Option<bool>], x: usize) -> bool
+    requires { x < length marks.now }
+    ensures { result ≡ down marks.now x }
+{
+    match marks[x] {
+        Some(lower) => lower,
+        None => false,
+    }
+}
+
+// Of the inputs of a pair of outputs the one that goes through a half.
+fn input(marks: &[Option<bool>], p: &[u32], j: usize, lower: bool) -> u32
+    requires small { j < 2 ^ 32 }
+    requires within { 2 * j + 1 < length p.now }
+    requires first { slice_index p.now (2 * j) < length marks.now }
+    ensures { result ≡ (if lower then down_input marks.now p.now j else up_input marks.now p.now j) }
+{
+    let (x, y) = (p[2 * j], p[2 * j + 1]);
+    let first = down(marks, x as usize);
+    if lower {
+        if first { x } else { y }
+    } else {
+        if first { y } else { x }
+    }
+}
+
+// The places, within one half, of the inputs that go through it.
+fn inputs(
+    alloc: Global,
+    marks: &[Option<bool>],
+    p: &[u32],
+    n: usize,
+    lower: bool,
+) -> Result<Vec<u32>, AllocError>
+    requires small { n < 2 ^ 32 }
+    requires long { length marks.now ≡ 2 * n }
+    requires permutes { Permutes (2 * n) p.now }
+    ensures { IfOk result (λ v. v.items ≡ places n (λ j. (if lower then down_input marks.now p.now j else up_input marks.now p.now j) / 2)) }
+{
+    let mut found = Vec::with_capacity(alloc, n)?;
+    for j in 0..n {
+        found.push(input(marks, p, j, lower) / 2)?;
+    }
+    Ok(found)
+}
+
+// The bits of the first column.
+fn push_first(bits: &mut Vec<bool>, marks: &[Option<bool>], n: usize) -> Result<(), AllocError>
+    requires small { n < 2 ^ 32 }
+    requires long { length marks.now ≡ 2 * n }
+    ensures { OnOk result (bits.new.items ≡ bits.old.items ++ places n (λ j. down marks.now (2 * j))) }
+{
+    for j in 0..n {
+        bits.push(down(marks, 2 * j))?;
+    }
+    Ok(())
+}
+
+// The bits of the last column.
+fn push_last(
+    bits: &mut Vec<bool>,
+    net: Net,
+    marks: &[Option<bool>],
+    p: &[u32],
+    n: usize,
+) -> Result<(), AllocError>
+    requires small { n < 2 ^ 32 }
+    requires some { 1 ≤ n }
+    requires long { length marks.now ≡ 2 * n }
+    requires permutes { Permutes (2 * n) p.now }
+    ensures { OnOk result (bits.new.items ≡ bits.old.items ++ places (n - missing net) (λ j. down marks.now (slice_index p.now (2 * (j + missing net))))) }
+{
+    let left_out = missing(net);
+    for j in 0..n - left_out {
+        bits.push(down(marks, p[2 * (j + left_out)] as usize))?;
+    }
+    Ok(())
+}
+
+// How many switches a last column lacks.
+fn missing(net: Net) -> usize
+    ensures is { result ≡ missing net }
+    ensures small { result ≤ 1 }
+{
+    match net {
+        Net::Benes => 0,
+        Net::Waksman => 1,
+    }
+}
