@@ -1,0 +1,34 @@
+-- The laws of the first line.
+use Rattle.std.proofs.Common.{◌≡◌, ℕ, ◌*◌, ◌%◌, List, refl, sym, ◌∙◌, ap₂, arith}
+use Rattle.tv_bits.proofs.SpelledNumbers.{Spells-small}
+use Rattle.tv_core.proofs.CombinationLaws.{value-constant}
+use Rattle.tv_core.specs.Circuits.{put}
+use Rattle.tv_core.specs.Combinations.{constant}
+use Rattle.tv_core.specs.Constraints.{value}
+use Rattle.tv_core.specs.Laws.{Assigns}
+use Rattle.tv_core.specs.declared.field.TheConstants.{P}
+use Rattle.tv_lines.proofs.Numbers.{number_value}
+use Rattle.tv_lines.specs.SortedPair.{first_line_of, FirstLineIsSound, FirstLineIsComplete, FirstLineSizes}
+use Rattle.tv_lines.specs.declared.rows.LineBits.{LineBits}
+
+pub first_line_next : (bits : LineBits) (next : ℕ) → (first_line_of bits next).next ≡ next
+unfolding first_line_of put
+first_line_next bits next = refl
+
+one : (z : List ℕ) → Assigns z → value (constant 1) z ≡ 1
+one z assigns = value-constant assigns 1 ∙ omega arith
+
+pub first_line_sound : FirstLineIsSound
+unfolding first_line_of put
+first_line_sound z next bits l widths assigns s meets =
+    let small = Spells-small s.old (omega arith) in
+    let product : l.old * 1 % P ≡ 0 = ap₂ (λ a b. a * b % P) (sym (number_value z bits.old 32 l.old widths.old (omega arith) s.old)) (sym (one z assigns)) ∙ meets.0 in
+    omega arith
+
+pub first_line_complete : FirstLineIsComplete
+unfolding first_line_of put
+first_line_complete z next bits l widths assigns s none =
+    (ap₂ (λ a b. a * b % P) (number_value z bits.old 32 l.old widths.old (omega arith) s.old ∙ none) (one z assigns) ∙ omega arith, tt)
+
+pub first_line_fill : FirstLineSizes
+first_line_fill = record { end = first_line_next; fills = λ bits next. first_line_next bits next ∙ omega arith }

@@ -1,0 +1,13 @@
+pub mod AddressOrder
+pub mod FirstLaws
+pub mod Neighbours
+pub mod Numbers
+pub mod OrderedLaws
+pub mod PackingLaws
+pub mod PairParts
+pub mod PrefixOrder
+pub mod SortedComplete
+pub mod SortedLaws
+pub mod SortedSizes
+pub mod TimeOrder
+pub mod UnpackingLaws

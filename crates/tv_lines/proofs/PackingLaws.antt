@@ -1,0 +1,42 @@
+-- Packing and unpacking, as numbers.
+use Rattle.std.proofs.Common.{◌≡◌, ℕ, ◌+◌, ◌*◌, ◌/◌, ◌%◌, ◌^◌, ◌<◌, List, sym, ◌∙◌, ap, ap₂, arith}
+use Rattle.tv_core.proofs.CombinationLaws.{value-append, value-scaled}
+use Rattle.tv_core.specs.Combinations.{scaled}
+use Rattle.tv_core.specs.Constraints.{Combination, value}
+use Rattle.tv_core.specs.Lines.{Line}
+use Rattle.tv_core.specs.declared.field.TheConstants.{P}
+use Rattle.tv_core.specs.declared.lines.PairNum.{PairNum}
+use Rattle.tv_lines.specs.Packing.{InRange, unpacked, joined, PackIsRight, PackIsOneToOne, UnpackUndoesPack}
+
+joined_value : (z : List ℕ) (low high : Combination) → value (joined low high) z ≡ (2 ^ 32 * value high z + value low z) % P
+joined_value z low high = value-append low (scaled (2 ^ 32 % P) high) z ∙ ap (λ n. (value low z + n) % P) (value-scaled (2 ^ 32 % P) high z) ∙ omega arith
+
+pair_same : (a b c d : ℕ) → a ≡ c → b ≡ d → ◌≡◌ {A = PairNum} (record { first = a; second = b }) (record { first = c; second = d })
+pair_same a b c d p q = ap₂ (λ (x y : ℕ). let pair : PairNum = record { first = x; second = y } in pair) p q
+
+below_p : (high low : ℕ) → high < 2 ^ 31 → low < 2 ^ 32 → (2 ^ 32 * high + low) % P ≡ high * 2 ^ 32 + low
+below_p high low h k = omega arith
+
+pub pack_right : PackIsRight
+pack_right z line range = pair_same _ _ _ _
+    (joined_value z line.old line.cell ∙ below_p (value line.cell z) (value line.old z) range.cell range.old)
+    (joined_value z line.new line.time ∙ below_p (value line.time z) (value line.new z) (omega (arith, range.time)) range.new)
+
+-- the numbers of a packed line's pair are small
+pub packed_first : (line : Line) → InRange line → line.cell * 2 ^ 32 + line.old < 2 ^ 63
+packed_first line range = omega (arith, range.cell, range.old)
+
+pub packed_second : (line : Line) → InRange line → line.time * 2 ^ 32 + line.new < 2 ^ 52
+packed_second line range = omega (arith, range.time, range.new)
+
+-- what was packed is there again
+pub unpack_packed : UnpackUndoesPack
+unpack_packed line range =
+    let cell : (line.cell * 2 ^ 32 + line.old) / 2 ^ 32 ≡ line.cell = omega (arith, range.old) in
+    let time : (line.time * 2 ^ 32 + line.new) / 2 ^ 32 ≡ line.time = omega (arith, range.new) in
+    let old : (line.cell * 2 ^ 32 + line.old) % 2 ^ 32 ≡ line.old = omega (arith, range.old) in
+    let new : (line.time * 2 ^ 32 + line.new) % 2 ^ 32 ≡ line.new = omega (arith, range.new) in
+    λ i. record { cell = cell i; time = time i; old = old i; new = new i }
+
+pub pack_one_to_one : PackIsOneToOne
+pack_one_to_one l m in_l in_m same = sym (unpack_packed l in_l) ∙ ap unpacked same ∙ unpack_packed m in_m

@@ -1,0 +1,6 @@
+use Rattle.tv_lines.specs.SortedPair.{apart_of}
+use Rattle.tv_lines.proofs.ordering.cells_apart.Goals as goal
+
+pub returns-clause-puts : goal.returns-clause-puts
+unfolding apart_of
+returns-clause-puts g c = rw (c.plus_to.ensures.terms, c.lc-difference.ensures.terms, c.neg.ensures, c.constant.ensures) at c.times.ensures.puts

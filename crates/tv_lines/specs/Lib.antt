@@ -1,0 +1,10 @@
+pub mod Ordered
+pub mod Packing
+pub mod Placed
+pub mod SortedPair
+pub mod Unpacking
+pub use Rattle.tv_bits.specs.Order
+pub use Rattle.tv_bits.specs.Prefixes
+pub use Rattle.tv_core.specs.Combinations
+pub use Rattle.tv_core.specs.Giving
+pub use Rattle.tv_core.specs.Sinks

@@ -1,0 +1,156 @@
+ghost use Rattle.std.specs.Prelude.{◌≡◌, ◌+◌, ◌-◌, ◌≤◌, ◌<◌, ◌^◌, [], ◌∷◌, ◌++◌, false, length, IfOk, OnOk};
+ghost use Rattle.tv_core.specs.Combinations.{less, top};
+ghost use Rattle.tv_core.specs.Giving.{GivesIn};
+ghost use Rattle.tv_core.specs.Sinks.{PutsIn, Grows, Room};
+ghost use Rattle.tv_lines.specs.Packing.{line_of};
+ghost use Rattle.tv_lines.specs.SortedPair.{apart_of, carried_of, size_of, size_values, sorted_pair_of, sorted_pair_values, first_line_of, SortedPairIsSound, SortedPairIsComplete, SortedPairSizes, FirstLineIsSound, FirstLineIsComplete, FirstLineSizes, NeighboursAreOrdered};
+ghost use Rattle.tv_lines.specs.Unpacking.{HasWidths, AreMade};
+
+use crate::rising::{CHUNK, fill_rises, rises, size};
+use crate::rows::LineBits;
+use tv_bits::{fill_bits, fill_zero, new_bits, times, zero};
+use tv_core::{F, Lc, LineNum, Put, Sink, Values, Wire};
+
+/// Holds two lines to follow each other in address order: the cell and then the time of the second
+/// are above those of the first; its old word is the first's new one where the cells are the same,
+/// and else 0. It makes 18 wires and 20 constraints, of 312 terms.
+pub fn sorted_pair<S: Sink>(s: &mut S, before: &LineBits, after: &LineBits) -> Put<()>
+    requires room { Room S.meaning s.old 18 20 }
+    requires before_widths { HasWidths before.now }
+    requires after_widths { HasWidths after.now }
+    requires before_made { AreMade before.now (S.meaning.wires s.old) }
+    requires after_made { AreMade after.now (S.meaning.wires s.old) }
+    ensures puts { PutsIn S.meaning s.old s.new (sorted_pair_of before.now after.now) result }
+    ensures grows { IfOk result (λ _. Grows S.meaning s.old s.new 18 20) }
+{
+    let apart = cells_apart(s, before, after)?;
+    carried(s, apart, before, after)?;
+    let size = new_size(s)?;
+    rises(s, apart, size, before, after)
+}
+
+// A new wire: by how much the second cell is above the first.
+fn cells_apart<S: Sink>(s: &mut S, before: &LineBits, after: &LineBits) -> Put<Wire>
+    requires room { Room S.meaning s.old 1 1 }
+    requires before_widths { HasWidths before.now }
+    requires after_widths { HasWidths after.now }
+    requires before_made { AreMade before.now (S.meaning.wires s.old) }
+    requires after_made { AreMade after.now (S.meaning.wires s.old) }
+    ensures puts { PutsIn S.meaning s.old s.new (apart_of before.now after.now) result }
+    ensures grows { IfOk result (λ _. Grows S.meaning s.old s.new 1 1) }
+    ensures below { IfOk result (λ apart. apart < S.meaning.wires s.new) }
+{
+    let mut difference = after.cell.lc();
+    before.cell.plus_to(&mut difference, -F::ONE);
+    times(s, &difference, &Lc::constant(F::ONE))
+}
+
+// The second line's old word is the first's new one where the cells are not apart, and else 0.
+fn carried<S: Sink>(s: &mut S, apart: Wire, before: &LineBits, after: &LineBits) -> Put<()>
+    requires room { Room S.meaning s.old 2 3 }
+    requires before_widths { HasWidths before.now }
+    requires after_widths { HasWidths after.now }
+    requires before_made { AreMade before.now (S.meaning.wires s.old) }
+    requires after_made { AreMade after.now (S.meaning.wires s.old) }
+    requires apart_made { apart < S.meaning.wires s.old }
+    ensures puts { PutsIn S.meaning s.old s.new (carried_of apart before.now after.now) result }
+    ensures grows { IfOk result (λ _. Grows S.meaning s.old s.new 2 3) }
+{
+    let same = zero(s, &Lc::wire(apart))?;
+    s.put(&Lc::wire(same), &before.new.lc(), &after.old.lc())
+}
+
+// A new wire that is from 1 to 2^11.
+fn new_size<S: Sink>(s: &mut S) -> Put<Wire>
+    requires room { Room S.meaning s.old 12 12 }
+    ensures puts { PutsIn S.meaning s.old s.new (size_of 11) result }
+    ensures grows { IfOk result (λ _. Grows S.meaning s.old s.new 12 12) }
+    ensures below { IfOk result (λ size. size < S.meaning.wires s.new) }
+{
+    let bits = new_bits(s, CHUNK)?;
+    times(s, &bits.plus_one(), &Lc::constant(F::ONE))
+}
+
+/// Holds the first line in address order to an old word of 0. It makes no wire and 1 constraint, of
+/// 33 terms.
+pub fn first_line<S: Sink>(s: &mut S, line: &LineBits) -> Put<()>
+    requires room { Room S.meaning s.old 0 1 }
+    requires widths { HasWidths line.now }
+    requires made { AreMade line.now (S.meaning.wires s.old) }
+    ensures puts { PutsIn S.meaning s.old s.new (first_line_of line.now) result }
+    ensures grows { IfOk result (λ _. Grows S.meaning s.old s.new 0 1) }
+{
+    s.put(&line.old.lc(), &Lc::constant(F::ONE), &Lc::empty())
+}
+
+/// Gives the values of the wires that `sorted_pair` makes for these lines.
+pub fn fill_sorted_pair<V: Values>(v: &mut V, before: &LineNum, after: &LineNum) -> Put<()>
+    requires { V.giving.broken v.old ≡ false }
+    ensures gives { GivesIn V.giving v.old v.new (sorted_pair_values (line_of before.now) (line_of after.now)) result }
+    ensures whole { OnOk result (V.giving.broken v.new ≡ false) }
+{
+    let apart = after.cell - before.cell;
+    let size = size(before, after);
+    v.give(apart)?;
+    fill_zero(v, apart)?;
+    fill_size(v, size)?;
+    fill_rises(v, before, after)
+}
+
+// Gives the bits of `size` less 1, and `size`.
+fn fill_size<V: Values>(v: &mut V, size: F) -> Put<()>
+    requires { V.giving.broken v.old ≡ false }
+    ensures gives { GivesIn V.giving v.old v.new (size_values size) result }
+    ensures whole { OnOk result (V.giving.broken v.new ≡ false) }
+{
+    fill_bits(v, F::of(size.number().saturating_sub(1)), CHUNK)?;
+    v.give(size)
+}
+
+/// Gives nothing, since `first_line` makes no wire.
+pub fn fill_first_line<V: Values>(v: &mut V, _line: &LineNum) -> Put<()>
+    requires { V.giving.broken v.old ≡ false }
+    ensures gives { GivesIn V.giving v.old v.new [] result }
+    ensures whole { OnOk result (V.giving.broken v.new ≡ false) }
+{
+    Ok(())
+}
+
+/// In an assignment that meets what `sorted_pair` put for bits that spell two lines, the second
+/// follows the first.
+pub fn sorted_pair_is_sound()
+    ensures { SortedPairIsSound }
+{}
+
+/// Where it follows the first, an assignment that has the values that `fill_sorted_pair` gives
+/// meets what `sorted_pair` put.
+pub fn sorted_pair_is_complete()
+    ensures { SortedPairIsComplete }
+{}
+
+/// `fill_sorted_pair` gives as many values as `sorted_pair` makes wires, and for lines in range
+/// each is below P.
+pub fn sorted_pair_fills()
+    ensures { SortedPairSizes }
+{}
+
+/// In an assignment that meets what `first_line` put for bits that spell a line, its old word is 0.
+pub fn first_line_is_sound()
+    ensures { FirstLineIsSound }
+{}
+
+/// An assignment in which bits spell a line with an old word of 0 meets what `first_line` put.
+pub fn first_line_is_complete()
+    ensures { FirstLineIsComplete }
+{}
+
+/// `first_line` makes no wire.
+pub fn first_line_fills()
+    ensures { FirstLineSizes }
+{}
+
+/// Along a list of lines, `first_line` on the first and `sorted_pair` on each two neighbours hold
+/// them to address order.
+pub fn neighbours_are_ordered()
+    ensures { NeighboursAreOrdered }
+{}

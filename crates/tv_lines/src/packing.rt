@@ -1,0 +1,91 @@
+ghost use Rattle.std.specs.Prelude.{◌≡◌, ◌+◌, ◌*◌, ◌/◌, ◌%◌, ◌^◌, ◌<◌, ◌≤◌, length, max};
+ghost use Rattle.tv_core.specs.Combinations.{top};
+ghost use Rattle.tv_lines.specs.Packing.{joined, line_of, pack, packed, unpacked, PackIsRight, PackIsOneToOne};
+
+use tv_core::{F, Lc, Line, LineLc, LineNum, Pair, PairNum};
+
+/// A line as two combinations: the old word and 2^32 times the cell; the new word and 2^32 times
+/// the time. The line has at most 32 terms in each combination, and the pair at most 64.
+pub fn pack(line: &LineLc) -> Pair
+    requires cell_short { length line.now.cell ≤ 32 }
+    requires time_short { length line.now.time ≤ 32 }
+    requires old_short { length line.now.old ≤ 32 }
+    requires new_short { length line.now.new ≤ 32 }
+    ensures pair { result ≡ pack line.now }
+    ensures first_short { length result.first ≤ 64 }
+    ensures second_short { length result.second ≤ 64 }
+    ensures first_top { top result.first ≡ max (top line.now.old) (top line.now.cell) }
+    ensures second_top { top result.second ≡ max (top line.now.new) (top line.now.time) }
+{
+    Pair {
+        first: joined(&line.old, &line.cell),
+        second: joined(&line.new, &line.time),
+    }
+}
+
+// The one combination, and 2^32 times the other.
+fn joined(low: &Lc, high: &Lc) -> Lc
+    requires low_short { length low.now ≤ 32 }
+    requires high_short { length high.now ≤ 32 }
+    ensures terms { result ≡ joined low.now high.now }
+    ensures len { length result ≡ length low.now + length high.now }
+    ensures top { top result ≡ max (top low.now) (top high.now) }
+{
+    let mut lc = Lc::from_terms(low.terms());
+    lc.plus_scaled(F::of(1 << 32), high);
+    lc
+}
+
+/// The numbers of a packed line, which is in range: a cell below 2^31, a time below 2^20.
+pub fn pack_line(line: &Line) -> PairNum
+    requires cell { line.now.cell < 2 ^ 31 }
+    requires time { line.now.time < 2 ^ 20 }
+    ensures { result ≡ packed line.now }
+{
+    PairNum {
+        first: joined_words(line.old, line.cell),
+        second: joined_words(line.new, line.time),
+    }
+}
+
+// The one word, and 2^32 times the other.
+fn joined_words(low: u32, high: u32) -> F
+    requires { high < 2 ^ 31 }
+    ensures { result ≡ high * 2 ^ 32 + low }
+{
+    F::of(u64::from(high) << 32 | u64::from(low))
+}
+
+/// The numbers of the line that a pair stands for.
+pub fn unpack_line(pair: &PairNum) -> LineNum
+    ensures { line_of result ≡ unpacked pair.now }
+{
+    let (old, cell) = split_words(pair.first);
+    let (new, time) = split_words(pair.second);
+    LineNum {
+        cell,
+        time,
+        old,
+        new,
+    }
+}
+
+// What is left of a number by 2^32, and how often 2^32 goes into it.
+fn split_words(number: F) -> (F, F)
+    ensures low { result.0 ≡ number % 2 ^ 32 }
+    ensures high { result.1 ≡ number / 2 ^ 32 }
+{
+    let number = number.number();
+    (F::of(number % (1 << 32)), F::of(number >> 32))
+}
+
+/// For a line in range, a cell below 2^31, a time below 2^20 and two words, the values of the
+/// packed line are its packed values, as whole numbers.
+pub fn pack_is_right()
+    ensures { PackIsRight }
+{}
+
+/// Two lines in range that are packed to the same pair of numbers are the same.
+pub fn pack_is_one_to_one()
+    ensures { PackIsOneToOne }
+{}

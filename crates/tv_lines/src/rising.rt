@@ -1,0 +1,191 @@
+ghost use Rattle.std.specs.Prelude.{◌≡◌, ◌+◌, ◌-◌, ◌≤◌, ◌<◌, ◌^◌, [], ◌∷◌, ◌++◌, false, length, max, IfOk, OnOk};
+ghost use Rattle.tv_bits.specs.Order.{first_difference, prefix_difference};
+ghost use Rattle.tv_bits.specs.Prefixes.{products_values};
+ghost use Rattle.tv_core.specs.Combinations.{less, top, wire};
+ghost use Rattle.tv_core.specs.Giving.{GivesIn};
+ghost use Rattle.tv_core.specs.Sinks.{PutsIn, Grows, Room};
+ghost use Rattle.tv_lines.specs.Packing.{line_of};
+ghost use Rattle.tv_lines.specs.SortedPair.{bits_from, prefix_less, prefix_less_in, factor_in, rises_of, size};
+ghost use Rattle.tv_lines.specs.Unpacking.{HasWidths, AreMade, key_end};
+
+use crate::rows::LineBits;
+use tv_bits::{Bits, first_difference, times};
+use tv_core::limits::TIME_BITS;
+use tv_core::{F, Lc, LineNum, Put, Sink, Values, Wire};
+
+// Cells are cut into three chunks of 11 bits, and times into two.
+pub(crate) const CHUNK: u32 = 11;
+
+const CELL_CHUNKS: u32 = 3;
+
+const TIME_CHUNKS: u32 = 2;
+
+const PREFIXES: u32 = CELL_CHUNKS + TIME_CHUNKS;
+
+// Holds `size` to the difference of two prefixes, of the cells or of the keys. It makes 3 wires and
+// 4 constraints.
+pub(crate) fn rises<S: Sink>(
+    s: &mut S,
+    apart: Wire,
+    size: Wire,
+    before: &LineBits,
+    after: &LineBits,
+) -> Put<()>
+    requires room { Room S.meaning s.old 3 4 }
+    requires before_widths { HasWidths before.now }
+    requires after_widths { HasWidths after.now }
+    requires before_made { AreMade before.now (S.meaning.wires s.old) }
+    requires after_made { AreMade after.now (S.meaning.wires s.old) }
+    requires apart_made { apart < S.meaning.wires s.old }
+    requires size_made { size < S.meaning.wires s.old }
+    ensures puts { PutsIn S.meaning s.old s.new (rises_of 11 3 2 apart size before.now after.now) result }
+    ensures grows { IfOk result (λ _. Grows S.meaning s.old s.new 3 4) }
+{
+    let mut product = Lc::empty();
+    fill_factor(&mut product, 0, apart, size, before, after);
+    let mut factor = Lc::empty();
+    for i in 0..PREFIXES - 2 {
+        fill_factor(&mut factor, i + 1, apart, size, before, after);
+        let w = times(s, &product, &factor)?;
+        product.clear();
+        product.plus(F::ONE, w);
+    }
+    fill_factor(&mut factor, PREFIXES - 1, apart, size, before, after);
+    s.put(&product, &factor, &Lc::empty())
+}
+
+// Makes `lc` the difference of prefix number `j` less `size`.
+fn fill_factor(lc: &mut Lc, j: u32, apart: Wire, size: Wire, before: &LineBits, after: &LineBits)
+    requires within { j < 5 }
+    requires before_widths { HasWidths before.now }
+    requires after_widths { HasWidths after.now }
+    requires before_made { AreMade before.now (2 ^ 32 - 1) }
+    requires after_made { AreMade after.now (2 ^ 32 - 1) }
+    ensures terms { lc.new ≡ less (prefix_less 11 3 apart before.now after.now j) (wire size) }
+    ensures top { top lc.new ≤ max (max (apart + 1) (size + 1)) (max (key_end before.now) (key_end after.now)) }
+{
+    lc.clear();
+    plus_prefix(lc, j, apart, before, after);
+    lc.plus(-F::ONE, size);
+}
+
+// Appends prefix number `j` of the second line less that of the first, to the combination without
+// terms.
+fn plus_prefix(lc: &mut Lc, j: u32, apart: Wire, before: &LineBits, after: &LineBits)
+    requires empty { lc.old ≡ [] }
+    requires within { j < 5 }
+    requires before_widths { HasWidths before.now }
+    requires after_widths { HasWidths after.now }
+    requires before_made { AreMade before.now (2 ^ 32 - 1) }
+    requires after_made { AreMade after.now (2 ^ 32 - 1) }
+    ensures terms { lc.new ≡ prefix_less 11 3 apart before.now after.now j }
+    ensures len { length lc.new ≤ 63 }
+    ensures top { top lc.new ≤ max (apart + 1) (max (key_end before.now) (key_end after.now)) }
+{
+    if j == 0 {
+        lc.plus(F::ONE, apart);
+    } else if j < CELL_CHUNKS {
+        plus_less(lc, &before.cell, &after.cell, CHUNK * j);
+    } else {
+        plus_key(
+            lc,
+            apart,
+            &before.time,
+            &after.time,
+            CHUNK * (j - CELL_CHUNKS),
+        );
+    }
+}
+
+// Appends what the second key is above the first without their lowest bits, which are bits of the
+// times.
+fn plus_key(lc: &mut Lc, apart: Wire, before: &Bits, after: &Bits, from: u32)
+    requires empty { lc.old ≡ [] }
+    requires within { from ≤ 20 }
+    requires before_long { before.now.n ≡ 20 }
+    requires after_long { after.now.n ≡ 20 }
+    requires before_made { before.now.first + 20 < 2 ^ 32 }
+    requires after_made { after.now.first + 20 < 2 ^ 32 }
+    ensures terms { lc.new ≡ less ((2 ^ (20 - from), apart) ∷ bits_from after.now from) (bits_from before.now from) }
+    ensures len { length lc.new ≤ 41 }
+    ensures top { top lc.new ≤ max (apart + 1) (max (before.now.first + 20) (after.now.first + 20)) }
+{
+    lc.plus(F::of(1 << (TIME_BITS - from)), apart);
+    plus_less(lc, before, after, from);
+}
+
+// Appends what the bits from place `from` on spell, of `after` less of `before`.
+fn plus_less(lc: &mut Lc, before: &Bits, after: &Bits, from: u32)
+    requires before_long { from ≤ before.now.n }
+    requires after_long { from ≤ after.now.n }
+    requires before_short { before.now.n ≤ 31 }
+    requires after_short { after.now.n ≤ 31 }
+    requires before_made { before.now.first + before.now.n < 2 ^ 32 }
+    requires after_made { after.now.first + after.now.n < 2 ^ 32 }
+    requires room { length lc.old ≤ 1 }
+    ensures terms { lc.new ≡ less (lc.old ++ bits_from after.now from) (bits_from before.now from) }
+    ensures len { length lc.new ≤ length lc.old + after.now.n + before.now.n }
+    ensures top { top lc.new ≤ max (top lc.old) (max (before.now.first + before.now.n) (after.now.first + after.now.n)) }
+{
+    after.above(from).plus_to(lc, F::ONE);
+    before.above(from).plus_to(lc, -F::ONE);
+}
+
+// Gives the values of the wires that `rises` makes.
+pub(crate) fn fill_rises<V: Values>(v: &mut V, before: &LineNum, after: &LineNum) -> Put<()>
+    requires { V.giving.broken v.old ≡ false }
+    ensures gives { GivesIn V.giving v.old v.new (products_values (factor_in (line_of before.now) (line_of after.now)) 5) result }
+    ensures whole { OnOk result (V.giving.broken v.new ≡ false) }
+{
+    let size = size(before, after);
+    let mut product = prefix_less_in(before, after, 0) - size;
+    for i in 0..PREFIXES - 2 {
+        product = product * (prefix_less_in(before, after, i + 1) - size);
+        v.give(product)?;
+    }
+    Ok(())
+}
+
+// Prefix number `j` of the second line less that of the first.
+fn prefix_less_in(before: &LineNum, after: &LineNum, j: u32) -> F
+    requires { j < 5 }
+    ensures { result ≡ prefix_less_in (line_of before.now) (line_of after.now) j }
+{
+    let apart = after.cell - before.cell;
+    if j == 0 {
+        apart
+    } else if j < CELL_CHUNKS {
+        prefix_difference_in(before.cell, after.cell, CHUNK * j)
+    } else {
+        let from = CHUNK * (j - CELL_CHUNKS);
+        F::of(1 << (TIME_BITS - from)) * apart + prefix_difference_in(before.time, after.time, from)
+    }
+}
+
+// What the second number is above the first, both without their lowest bits.
+fn prefix_difference_in(before: F, after: F, from: u32) -> F
+    requires { from < 64 }
+    ensures { result ≡ prefix_difference after before from }
+{
+    F::of(after.number() >> from) - F::of(before.number() >> from)
+}
+
+// How far the shortest prefixes that differ are apart: of the cells, or where these are the same of
+// the times.
+pub(crate) fn size(before: &LineNum, after: &LineNum) -> F
+    ensures { result ≡ size (line_of before.now) (line_of after.now) }
+{
+    if before.cell == after.cell {
+        shortest_difference(before.time, after.time, TIME_CHUNKS)
+    } else {
+        shortest_difference(before.cell, after.cell, CELL_CHUNKS)
+    }
+}
+
+// How far the second number is above the first in the shortest prefix in which they differ.
+fn shortest_difference(before: F, after: F, chunks: u32) -> F
+    requires { chunks ≤ 5 }
+    ensures { result ≡ first_difference 11 chunks after before }
+{
+    F::of(first_difference(after.number(), before.number(), CHUNK, chunks))
+}

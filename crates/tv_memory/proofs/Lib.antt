@@ -1,0 +1,9 @@
+pub mod Complete
+pub mod Filled
+pub mod FillingLaws
+pub mod Made
+pub mod Ordering
+pub mod Parts
+pub mod Rising
+pub mod Sizes
+pub mod Sound

@@ -1,0 +1,12 @@
+pub mod Argument
+pub mod Memory
+pub mod Order
+pub use Rattle.tv_benes.specs.Items
+pub use Rattle.tv_benes.specs.Places
+pub use Rattle.tv_core.specs.Below
+pub use Rattle.tv_core.specs.Giving
+pub use Rattle.tv_core.specs.Loops
+pub use Rattle.tv_core.specs.Sinks
+pub use Rattle.tv_lines.specs.Ordered
+pub use Rattle.tv_lines.specs.Packing
+pub use Rattle.tv_lines.specs.Placed

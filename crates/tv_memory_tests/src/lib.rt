@@ -1,0 +1,15 @@
+//! Tests of lines, of the scan and of the memory argument through their public calls: worked rows,
+//! false lines and false assignments, and sizes. They stand in a crate of their own, since a crate
+//! with tests is proved twice; nothing here is for callers.
+#![tactic(auto)]
+
+#[cfg(test)]
+mod arguing;
+#[cfg(test)]
+mod gadgets;
+#[cfg(test)]
+mod rows;
+#[cfg(test)]
+mod scanning;
+#[cfg(test)]
+mod wired;

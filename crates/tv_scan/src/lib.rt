@@ -1,0 +1,8 @@
+//! A gadget that holds lines of memory to be honest one by one: the old word of a line is looked up
+//! among all the earlier ones. It needs no network and no order, but takes a constraint for each
+//! pair of lines.
+#![tactic(auto)]
+
+mod scanning;
+
+pub use scanning::{fill_scan, scan, scan_fills, scan_is_complete, scan_is_sound};
