@@ -1,0 +1,9 @@
+pub mod Cases
+pub mod Examples
+pub mod LineRows
+pub mod NextRows
+pub mod OldRows
+pub mod RangeLaws
+pub mod ReadRow
+pub mod ShownLaws
+pub mod StepLaws

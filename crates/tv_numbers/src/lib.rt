@@ -1,0 +1,27 @@
+//! One step of the machine in numbers, with words of 16 or 32 bits: what the wires of a step's
+//! circuit are to hold, by tables over the opcode, and that this is the machine's step. There is
+//! no circuit here.
+#![tactic(auto)]
+
+ghost use Rattle.tv_numbers.specs.Laws.{NumbersDo, NumbersStayInRange};
+ghost use Rattle.tv_numbers.specs.Shown.{MachineShows, OldsAreShown, SeenInRange};
+
+/// A step in numbers is the machine's step, for each instruction: of every state that the numbers
+/// are of, its lines, its reads of the auxiliary tape, and its next state or its answer.
+pub fn numbers_do()
+    ensures { NumbersDo }
+{}
+
+/// It keeps the numbers of a state in range.
+pub fn numbers_stay_in_range()
+    ensures { NumbersStayInRange }
+{}
+
+/// The other way round: the numbers of a machine's step, from a state in range whose opcode is
+/// used, are in range, and the lines of the step in numbers are those of the machine's step. The
+/// data line has whatever old is handed in.
+pub fn machine_shows()
+    ensures step { MachineShows }
+    ensures view { SeenInRange }
+    ensures olds { OldsAreShown }
+{}
