@@ -1,0 +1,97 @@
+-- What an assignment with a step's values meets and shows, and how many wires a step makes.
+use Rattle.std.specs.Prelude.{◌≡◌, ℕ, ◌+◌, ◌*◌, ◌/◌, ◌^◌, ◌<◌, ◌≤◌, Bool, true, List, length, map, is_some, Option, Some, None, slice_index}
+use Rattle.tv_core.specs.Laws.{Assigns, Meets, HasFrom, Fills, InField}
+use Rattle.tv_core.specs.Lines.{Line}
+use Rattle.tv_logic.specs.Logic.{logic_made}
+use Rattle.tv_numbers.specs.Laws.{AtNumbers}
+use Rattle.tv_numbers.specs.Numbers.{Did, lines_in, did_of}
+use Rattle.tv_numbers.specs.Shown.{handed, MayTake}
+use Rattle.tv_numbers.specs.Views.{View, seen, ViewInRange, Matches}
+use Rattle.tv_shift.specs.Shift.{shift_made}
+use Rattle.tv_step.specs.Range.{InRange}
+use Rattle.tv_step.specs.Reads.{word_taken}
+use Rattle.tv_step.specs.Runs.{IsDefined}
+use Rattle.tv_step.specs.State.{State}
+use Rattle.tv_step.specs.Trace.{step_lines}
+use Rattle.tv_word.specs.Widths.{IsWidth}
+use Rattle.tv_block.specs.Block.{block_of, did}
+use Rattle.tv_block.specs.Fetch.{state_in}
+use Rattle.tv_block.specs.Values.{block_values}
+use Rattle.tv_block.specs.declared.records.StateWires.{StateWires}
+
+-- ---- of numbers
+-- z meets what a block puts, and the numbers in the block's wires are the step that was handed in: that by the words
+-- h and u of the instruction, with the data word o
+pub record MeetsStep (w : ℕ) (z : List ℕ) (n : ℕ) (state : StateWires) (time next h u o : ℕ) (takes : Bool) : Type 0 where
+  pub met : Meets z (block_of w n state time next).list
+  pub shows : did z state (block_of w n state time next).answer ≡ did_of w n time (state_in z state) h u o takes
+
+-- So it is of an assignment that has a step's values at the wires that were made, the step being in range.
+abbrev pub BlockIsComplete : Type 0
+BlockIsComplete = (w : ℕ) → IsWidth w → (z : List ℕ) (n : ℕ) (state : StateWires) (time next h u o : ℕ) (takes : Bool) → time + 2 < 2 ^ 32 → Assigns z
+    → AtNumbers w n (state_in z state) h u o takes → HasFrom z next (block_values w n (state_in z state) h u o takes)
+    → MeetsStep w z n state time next h u o takes
+
+-- ---- of the machine
+-- the values by the olds of the step's three lines, and the word that it takes of the auxiliary tape
+abbrev pub step_values : ℕ → ℕ → View → List ℕ → Option ℕ → List ℕ
+step_values w n v olds word = block_values w n v (slice_index olds 0) (slice_index olds 1) (handed (slice_index olds 2) word) (is_some word)
+
+-- the olds of a machine's step
+abbrev pub olds_of : ℕ → ℕ → State → ℕ → List ℕ
+olds_of w n st time = map (λ (line : Line). line.old) (step_lines w n st time)
+
+-- the state's wires hold a state of the machine that goes on or answers, and z has the values of its step, with a word
+-- that it may take
+pub record HasMachineStep (w : ℕ) (z x : List ℕ) (state : StateWires) (time next : ℕ) (st : State) (word : Option ℕ) : Type 0 where
+  pub short : length x < 2 ^ 29
+  pub early : time + 2 < 2 ^ 32
+  pub assigns : Assigns z
+  pub range : ViewInRange w (length x) (state_in z state)
+  pub machine : InRange w st
+  pub matches : Matches x (state_in z state) st
+  pub defined : IsDefined w st
+  pub may : MayTake w (state_in z state) st word
+  pub has : HasFrom z next (step_values w (length x) (state_in z state) (olds_of w (length x) st time) word)
+
+-- z meets what a block puts; the lines are those of the machine's step, and the word is the one that was handed in
+pub record MeetsMachineStep (w : ℕ) (z x : List ℕ) (state : StateWires) (time next : ℕ) (st : State) (word : Option ℕ) : Type 0 where
+  pub met : Meets z (block_of w (length x) state time next).list
+  pub lines : lines_in (did z state (block_of w (length x) state time next).answer) ≡ step_lines w (length x) st time
+  pub takes : (did z state (block_of w (length x) state time next).answer).takes ≡ is_some word
+  pub same : (v : ℕ) → word ≡ Some v → (did z state (block_of w (length x) state time next).answer).word ≡ v
+
+abbrev pub MachineStepIsMet : Type 0
+MachineStepIsMet = (w : ℕ) → IsWidth w → (z x : List ℕ) (state : StateWires) (time next : ℕ) (st : State) (word : Option ℕ)
+    → HasMachineStep w z x state time next st word → MeetsMachineStep w z x state time next st word
+
+-- ---- sizes
+-- how many wires the operations of all groups make: sum, difference, comparison, bitwise operations, shifts, product,
+-- high product, quotient
+abbrev pub operations_made : ℕ → ℕ
+operations_made w = (w + 1) + (w + 1) + (w / 4 + 6) + logic_made w + shift_made w + (2 * w + 2) + (2 * w + 2) + (2 * w + w / 4 + 4)
+
+-- how many wires a step makes before its program counter: the instruction, its operands, the operations, the tapes, the
+-- data word, the word after, the registers, the flag
+abbrev pub compute_made : ℕ → ℕ
+compute_made w = (2 * w + 80) + (2 * w + 5) + operations_made w + 8 + (w + 5) + (3 * (w / 16) + 1) + 19 + 1
+
+-- and with it: 654 at 32 bits
+abbrev pub block_made : ℕ → ℕ
+block_made w = compute_made w + 4
+
+-- The wires are as many whatever a step is given; the values are one number of the field for each.
+pub record BlockSizes : Type 0 where
+  pub end : (w : ℕ) → IsWidth w → (n : ℕ) (state : StateWires) (time next : ℕ) → (block_of w n state time next).next ≡ next + block_made w
+  pub three : (w n : ℕ) (state : StateWires) (time next : ℕ) → length (block_of w n state time next).answer.lines ≡ 3
+  pub fills : (w : ℕ) → IsWidth w → (n : ℕ) (state : StateWires) (time : ℕ) (v : View) (h u o : ℕ) (takes : Bool) → length v.regs ≡ 16
+      → Fills (block_of w n state time) (block_values w n v h u o takes)
+  pub in_field : (w : ℕ) → IsWidth w → (n : ℕ) (v : View) (h u o : ℕ) (takes : Bool) → n < 2 ^ 29 → ViewInRange w n v → u < 2 ^ w → o < 2 ^ w
+      → InField (block_values w n v h u o takes)
+
+-- The values of a machine's step, from a state in range of which `gone` words of the primary tape are taken, with the
+-- word that it takes of the auxiliary tape, are one number of the field for each wire, whatever its opcode is.
+abbrev pub MachineValuesFit : Type 0
+MachineValuesFit = (w : ℕ) → IsWidth w → (n time : ℕ) (st : State) (gone ended : ℕ) → n < 2 ^ 29 → gone ≤ n → ended < 2 → InRange w st
+    → (length (step_values w n (seen st gone ended) (olds_of w n st time) (word_taken w st)) ≡ block_made w)
+    × InField (step_values w n (seen st gone ended) (olds_of w n st time) (word_taken w st))

@@ -1,0 +1,14 @@
+pub mod Block
+pub mod Complete
+pub mod Data
+pub mod Fetch
+pub mod Gates
+pub mod Groups
+pub mod Operands
+pub mod Pc
+pub mod Places
+pub mod Result
+pub mod Store
+pub mod Tapes
+pub mod Under
+pub mod Values

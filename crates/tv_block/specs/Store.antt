@@ -1,0 +1,73 @@
+-- A byte of the data word, and the word after the step.
+use Rattle.std.specs.Prelude.{◌≡◌, ℕ, ◌+◌, ◌-◌, ◌*◌, ◌/◌, ◌%◌, ◌^◌, ◌==◌, Bool, if◌then◌else◌, List, [], ◌∷◌, ◌++◌, slice_index}
+use Rattle.tv_bits.specs.Bits.{bits_combination}
+use Rattle.tv_bits.specs.OneHot.{IsOneHot}
+use Rattle.tv_bits.specs.Select.{select_of}
+use Rattle.tv_bits.specs.Times.{times_of}
+use Rattle.tv_bits.specs.declared.bit_wires.Bits.{Bits}
+use Rattle.tv_core.specs.Circuits.{Circuit, pure, ◌>>=◌}
+use Rattle.tv_core.specs.Combinations.{wire, constant, less}
+use Rattle.tv_core.specs.Constraints.{Combination}
+use Rattle.tv_core.specs.Laws.{Assigns, Meets}
+use Rattle.tv_isa.specs.declared.instr.Instr.{Instr}
+use Rattle.tv_mem.specs.Bytes.{byte_of}
+use Rattle.tv_numbers.specs.Numbers.{operand_word, data_line}
+use Rattle.tv_numbers.specs.Views.{View}
+use Rattle.tv_word.specs.Widths.{IsWidth}
+use Rattle.tv_regs.specs.Choices.{group}
+use Rattle.tv_regs.specs.Picking.{pick_of}
+use Rattle.tv_block.specs.Data.{AreData}
+use Rattle.tv_block.specs.Operands.{AreOperands}
+use Rattle.tv_block.specs.declared.records.Data.{Data}
+use Rattle.tv_block.specs.declared.records.Operands.{Operands}
+use Rattle.tv_block.specs.declared.records.Patch.{Patch}
+use Rattle.tv_block.specs.declared.records.Store.{Store}
+
+-- byte number j of a row of bits
+abbrev pub byte_of_bits : Bits → ℕ → Combination
+byte_of_bits bits j = bits_combination (bits.first + 8 * j) 8
+
+-- 1 + (k - 1) b, which is k where the bit b is 1, and else 1
+abbrev pub power_by : ℕ → ℕ → Combination
+power_by k b = constant 1 ++ (k - 1, b) ∷ []
+
+-- in words of two bytes the lowest bit of the address a tells the byte; with 256 to the power of its number times the
+-- difference, the lowest byte of x takes its place
+unfoldable pub patch_of_two : Bits → Bits → Bits → Circuit Patch
+patch_of_two bits a x = do
+  byte ← select_of a.first (byte_of_bits bits 1) (byte_of_bits bits 0)
+  added ← times_of (power_by 256 a.first) (less (bits_combination x.first 8) (wire byte))
+  pure (record { byte = byte; added = added })
+
+-- in words of four bytes its two lowest bits do
+unfoldable pub patch_of_four : Bits → Bits → Bits → Circuit Patch
+patch_of_four bits a x = do
+  low ← select_of a.first (byte_of_bits bits 1) (byte_of_bits bits 0)
+  high ← select_of a.first (byte_of_bits bits 3) (byte_of_bits bits 2)
+  byte ← select_of (a.first + 1) (wire high) (wire low)
+  power ← times_of (power_by 256 a.first) (power_by 65536 (a.first + 1))
+  added ← times_of (wire power) (less (bits_combination x.first 8) (wire byte))
+  pure (record { byte = byte; added = added })
+
+unfoldable pub patch_of : ℕ → Bits → Bits → Bits → Circuit Patch
+patch_of w bits a x = if w == 16 then patch_of_two bits a x else patch_of_four bits a x
+
+-- the byte, and the word in the cell after the step: with the other byte at store.b, the other word at store.w, and
+-- else as it was
+unfoldable pub store_of : ℕ → ℕ → Operands → Data → Circuit Store
+store_of w op operands data_ = do
+  patch ← patch_of w data_.bits operands.a operands.x
+  with_byte ← pick_of (group op (26 ∷ [])) (wire data_.word ++ wire patch.added) (wire data_.old)
+  new ← pick_of (group op (28 ∷ [])) (wire operands.other) (wire with_byte)
+  pure (record { byte = patch.byte; new = new })
+
+-- the wires are those of the byte of the data word o at the operand's address, and of the word after the step
+pub record AreStore (w : ℕ) (z : List ℕ) (s : Store) (n : ℕ) (v : View) (i : Instr) (takes : Bool) (o : ℕ) : Type 0 where
+  pub byte : slice_index z s.byte ≡ byte_of o (operand_word v i % (w / 8))
+  pub new : slice_index z s.new ≡ (data_line w n v i o takes 0).new
+
+-- an assignment that meets what was put does so
+abbrev pub StoreIsSound : Type 0
+StoreIsSound = (w : ℕ) → IsWidth w → (z : List ℕ) (next n op : ℕ) (operands : Operands) (d : Data) (v : View) (i : Instr) (takes : Bool) (o : ℕ)
+    → Assigns z → IsOneHot z op 32 i.op → AreOperands w z operands v i → AreData w z d n v i takes o
+    → Meets z (store_of w op operands d next).list → AreStore w z (store_of w op operands d next).answer n v i takes o

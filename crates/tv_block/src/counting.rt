@@ -1,0 +1,103 @@
+ghost use Rattle.std.specs.Prelude.{◌≡◌, ◌+◌, ◌-◌, ◌/◌, ◌≤◌, ◌<◌, ◌^◌, ◌++◌, length, max, IfOk};
+ghost use Rattle.tv_block.specs.Pc.{behind_in, target_in, pc_of};
+ghost use Rattle.tv_block.specs.Under.{StateUnder};
+ghost use Rattle.tv_core.specs.Combinations.{wire, constant, less, top};
+ghost use Rattle.tv_core.specs.Sinks.{PutsIn, Grows, Room};
+ghost use Rattle.tv_word.specs.Widths.{IsWidth};
+
+use crate::records::StateWires;
+use tv_bits::{Bits, select, zero};
+use tv_core::{F, Lc, Put, Sink, Wire};
+use tv_regs::{WireEntry, choose};
+
+/// The program counter after a step, `op` being its opcode's row and `a` the bits of its operand. It
+/// makes 4 wires and 8 constraints.
+pub(crate) fn counter<const W: u32, S: Sink>(
+    s: &mut S,
+    state: &StateWires,
+    op: Wire,
+    a: &Bits,
+) -> Put<Wire>
+    requires width { IsWidth W }
+    requires room { Room S.meaning s.old 4 8 }
+    requires state_made { StateUnder (S.meaning.wires s.old) state.now }
+    requires op_made { op + 32 ≤ S.meaning.wires s.old }
+    requires a_word { a.now.n ≡ W }
+    requires a_made { a.now.first + W ≤ S.meaning.wires s.old }
+    ensures puts { PutsIn S.meaning s.old s.new (pc_of W state.now op a.now) result }
+    ensures grows { IfOk result (λ _. Grows S.meaning s.old s.new 4 8) }
+    ensures below { IfOk result (λ w. w < S.meaning.wires s.new) }
+{
+    let wraps = zero(s, &but_for_last::<W>(state.pc))?;
+    let target = target::<W>(a);
+    let mut behind = Lc::empty();
+    plus_behind::<W>(&mut behind, state.pc, wraps);
+    let jumped = select(s, state.flag, &target, &behind)?;
+    let mut unless = Lc::from_terms(target.terms());
+    plus_behind::<W>(&mut unless, state.pc, wraps);
+    unless.minus(&Lc::wire(jumped));
+    let table = [
+        WireEntry {
+            ops: &[20],
+            gives: target.terms(),
+        },
+        WireEntry {
+            ops: &[21],
+            gives: &[(F::ONE, jumped)],
+        },
+        WireEntry {
+            ops: &[22],
+            gives: unless.terms(),
+        },
+        WireEntry {
+            ops: &[31],
+            gives: &[(F::ONE, state.pc)],
+        },
+        WireEntry {
+            ops: &[
+                0, 1, 2, 3, 4, 5, 6, 7, 8, 9, 10, 11, 12, 13, 14, 15, 16, 17, 18, 19, 26, 27, 28,
+                29, 30,
+            ],
+            gives: behind.terms(),
+        },
+    ];
+    choose(s, op, &table)
+}
+
+// The program counter less the last place of an instruction.
+fn but_for_last<const W: u32>(pc: Wire) -> Lc
+    requires width { IsWidth W }
+    ensures terms { result ≡ less (wire pc) (constant (2 ^ W - W / 4)) }
+    ensures top { top result ≡ pc + 1 }
+{
+    let mut lc = Lc::wire(pc);
+    lc.minus(&Lc::constant(F::of((1 << W) - u64::from(W / 4))));
+    lc
+}
+
+// The place to which a jump goes, a combination of at most 29 terms.
+fn target<const W: u32>(a: &Bits) -> Lc
+    requires width { IsWidth W }
+    requires word { a.now.n ≡ W }
+    requires within { a.now.first + W < 2 ^ 32 }
+    ensures terms { result ≡ target_in W a.now }
+    ensures top { top result ≤ a.now.first + W }
+    ensures len { length result ≤ 29 }
+{
+    let mut lc = Lc::empty();
+    a.above(W / 16 + 1).plus_to(&mut lc, F::from(W / 4));
+    lc
+}
+
+// Appends the place behind an instruction, as three terms.
+fn plus_behind<const W: u32>(lc: &mut Lc, pc: Wire, wraps: Wire)
+    requires width { IsWidth W }
+    requires room { length lc.old ≤ 64 }
+    ensures terms { lc.new ≡ lc.old ++ behind_in W pc wraps }
+    ensures top { top lc.new ≡ max (top lc.old) (max (pc + 1) (wraps + 1)) }
+    ensures len { length lc.new ≡ length lc.old + 3 }
+{
+    lc.plus(F::ONE, pc);
+    lc.plus(F::from(W / 4), Wire(0));
+    lc.plus(-F::of(1 << W), wraps);
+}

@@ -1,0 +1,76 @@
+ghost use Rattle.std.specs.Prelude.{◌≡◌, ◌+◌, ◌≤◌, ◌<◌, length, max, IfOk};
+ghost use Rattle.tv_block.specs.Gates.{if_zero_of, unless_zero_of, taking_of};
+ghost use Rattle.tv_core.specs.Combinations.{wire, less, top};
+ghost use Rattle.tv_core.specs.Sinks.{PutsIn, Grows, Room};
+
+use tv_core::{F, Lc, Put, Sink, Wire};
+
+/// A wire that is `g` where `x` is 0, and 0 where it isn't. It makes 2 wires and 2 constraints.
+pub(crate) fn if_zero<S: Sink>(s: &mut S, g: &Lc, x: &Lc) -> Put<Wire>
+    requires room { Room S.meaning s.old 2 2 }
+    requires g_made { top g.now ≤ S.meaning.wires s.old }
+    requires g_short { length g.now ≤ 64 }
+    requires x_made { top x.now ≤ S.meaning.wires s.old }
+    ensures puts { PutsIn S.meaning s.old s.new (if_zero_of g.now x.now) result }
+    ensures grows { IfOk result (λ _. Grows S.meaning s.old s.new 2 2) }
+    ensures below { IfOk result (λ w. w < S.meaning.wires s.new) }
+{
+    let w = s.fresh();
+    let hint = s.fresh();
+    s.put(x, &Lc::wire(hint), &but_for(g, w))?;
+    s.put(x, &Lc::wire(w), &Lc::empty())?;
+    Ok(w)
+}
+
+/// A wire that is `g` where `x` isn't 0, and 0 where it is. It makes 2 wires and 2 constraints.
+pub(crate) fn unless_zero<S: Sink>(s: &mut S, g: &Lc, x: &Lc) -> Put<Wire>
+    requires room { Room S.meaning s.old 2 2 }
+    requires g_made { top g.now ≤ S.meaning.wires s.old }
+    requires g_short { length g.now ≤ 64 }
+    requires x_made { top x.now ≤ S.meaning.wires s.old }
+    ensures puts { PutsIn S.meaning s.old s.new (unless_zero_of g.now x.now) result }
+    ensures grows { IfOk result (λ _. Grows S.meaning s.old s.new 2 2) }
+    ensures below { IfOk result (λ w. w < S.meaning.wires s.new) }
+{
+    let w = s.fresh();
+    let hint = s.fresh();
+    s.put(x, &Lc::wire(hint), &Lc::wire(w))?;
+    s.put(x, &but_for(g, w), &Lc::empty())?;
+    Ok(w)
+}
+
+/// Holds `asked` less what `before` was to `takes` and to what the ended bit gains, which stays where
+/// a word is taken. It makes 2 constraints.
+pub(crate) fn taking<S: Sink>(
+    s: &mut S,
+    asked: Wire,
+    before: Wire,
+    takes: Wire,
+    ended: Wire,
+) -> Put<()>
+    requires room { Room S.meaning s.old 0 2 }
+    requires asked_made { asked < S.meaning.wires s.old }
+    requires before_made { before < S.meaning.wires s.old }
+    requires takes_made { takes < S.meaning.wires s.old }
+    requires ended_made { ended < S.meaning.wires s.old }
+    ensures puts { PutsIn S.meaning s.old s.new (taking_of asked before takes ended) result }
+    ensures grows { IfOk result (λ _. Grows S.meaning s.old s.new 0 2) }
+{
+    let gained = but_for(&Lc::wire(ended), before);
+    let mut either = Lc::wire(takes);
+    either.plus_scaled(F::ONE, &gained);
+    s.put(&Lc::wire(asked), &Lc::one_less(before), &either)?;
+    s.put(&Lc::wire(takes), &gained, &Lc::empty())
+}
+
+/// A combination less a wire.
+pub(crate) fn but_for(x: &Lc, w: Wire) -> Lc
+    requires { length x.now ≤ 64 }
+    ensures terms { result ≡ less x.now (wire w) }
+    ensures top { top result ≡ max (top x.now) (w + 1) }
+    ensures len { length result ≡ length x.now + 1 }
+{
+    let mut lc = Lc::from_terms(x.terms());
+    lc.minus(&Lc::wire(w));
+    lc
+}
