@@ -1,0 +1,57 @@
+-- What a circuit of one step has to give. A system's laws stand on these records alone; that the circuit of tv_block gives
+-- them is proved in Systems.
+use Rattle.std.specs.Prelude.{◌≡◌, ℕ, ◌+◌, ◌^◌, ◌<◌, Bool, List, length, Option, Some, is_some}
+use Rattle.tv_block.specs.Block.{did, IsMachineStep}
+use Rattle.tv_block.specs.Fetch.{state_in}
+use Rattle.tv_block.specs.declared.records.StateWires.{StateWires}
+use Rattle.tv_core.specs.Laws.{Assigns, Meets, HasFrom, InField}
+use Rattle.tv_numbers.specs.Numbers.{Did, lines_in}
+use Rattle.tv_numbers.specs.Shown.{MayTake}
+use Rattle.tv_numbers.specs.Views.{ViewInRange, Matches}
+use Rattle.tv_step.specs.Range.{InRange}
+use Rattle.tv_step.specs.Reads.{word_taken}
+use Rattle.tv_step.specs.Runs.{IsDefined}
+use Rattle.tv_step.specs.State.{State}
+use Rattle.tv_step.specs.Trace.{step_lines}
+use Rattle.tv_layout.specs.Blocks.{BlockCircuit, BlockValues, values_for, told}
+
+-- it makes so many wires, and three lines, whatever it is given
+pub record BlockSizes (block : BlockCircuit) (made : ℕ) : Type 0 where
+  pub next : (n : ℕ) (state : StateWires) (time next : ℕ) → (block n state time next).next ≡ next + made
+  pub three : (n : ℕ) (state : StateWires) (time next : ℕ) → length (block n state time next).answer.lines ≡ 3
+
+-- an assignment that meets what it puts, the state before being in range, has a step of the machine there
+abbrev pub BlockIsSound : ℕ → BlockCircuit → Type 0
+BlockIsSound w block = (z x : List ℕ) (state : StateWires) (time next : ℕ) → length x < 2 ^ 29 → time + 2 < 2 ^ 32 → Assigns z
+    → ViewInRange w (length x) (state_in z state) → Meets z (block (length x) state time next).list
+    → IsMachineStep w z x time state (block (length x) state time next).answer
+
+-- ---- completeness
+-- the state's wires hold a state of the machine that goes on or answers, and z has the values for it and for a word
+-- that it may take
+pub record Given (w : ℕ) (values : BlockValues) (z x : List ℕ) (state : StateWires) (time next : ℕ) (st : State) (word : Option ℕ) : Type 0 where
+  pub short : length x < 2 ^ 29
+  pub early : time + 2 < 2 ^ 32
+  pub assigns : Assigns z
+  pub range : ViewInRange w (length x) (state_in z state)
+  pub machine : InRange w st
+  pub matches : Matches x (state_in z state) st
+  pub defined : IsDefined w st
+  pub may : MayTake w (state_in z state) st word
+  pub has : HasFrom z next (values_for w values (length x) (state_in z state) time st word)
+
+-- the lines are those of the machine's step, and the word is the one handed in
+pub record ShowsStep (w n time : ℕ) (st : State) (word : Option ℕ) (b : Did) : Type 0 where
+  pub lines : lines_in b ≡ step_lines w n st time
+  pub takes : b.takes ≡ is_some word
+  pub same : (v : ℕ) → word ≡ Some v → b.word ≡ v
+
+-- The values are as many as wires and each below P for each state of the machine in range; and an assignment that is
+-- given them meets what the block puts, and shows the step.
+pub record BlockIsComplete (w : ℕ) (block : BlockCircuit) (made : ℕ) (values : BlockValues) : Type 0 where
+  pub many : (n time : ℕ) (st : State) (ended : Bool) → n < 2 ^ 29 → InRange w st → length (values_for w values n (told n st ended) time st (word_taken w st)) ≡ made
+  pub below : (n time : ℕ) (st : State) (ended : Bool) → n < 2 ^ 29 → InRange w st → InField (values_for w values n (told n st ended) time st (word_taken w st))
+  pub met : (z x : List ℕ) (state : StateWires) (time next : ℕ) (st : State) (word : Option ℕ) → Given w values z x state time next st word
+      → Meets z (block (length x) state time next).list
+  pub shows : (z x : List ℕ) (state : StateWires) (time next : ℕ) (st : State) (word : Option ℕ) → Given w values z x state time next st word
+      → ShowsStep w (length x) time st word (did z state (block (length x) state time next).answer)

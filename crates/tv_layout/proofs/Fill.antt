@@ -1,0 +1,187 @@
+-- The values for a run satisfy the system.
+use Rattle.std.proofs.Common.{◌≡◌, ℕ, suc, ◌+◌, ◌-◌, ◌*◌, ◌<◌, ◌^◌, List, [], ◌∷◌, ◌++◌, length, map, refl, sym, ap, ◌∙◌, arith, subst, add-zero}
+use Rattle.std.proofs.Math.Seq.{take-append_seam}
+use Rattle.std.proofs.lemmas.List.{length-append, get_or-append-add}
+use Rattle.std.proofs.lemmas.List.Elements.{All-weaker}
+use Rattle.std.specs.Prelude.{slice_index}
+use Rattle.tv_benes.specs.declared.shape.Net.{Net}
+use Rattle.tv_bits.proofs.SizeLaws.{bits_in_field}
+use Rattle.tv_bits.specs.Bits.{bits_values}
+use Rattle.tv_core.proofs.BelowLaws.{length-each_below}
+use Rattle.tv_core.proofs.CombinationLaws.{Sat-from_Meets}
+use Rattle.tv_core.proofs.FieldLaws.{InField-cons, InField-append, InField-joined_below}
+use Rattle.tv_core.proofs.JoinedLaws.{length-joined_below, has_each_list}
+use Rattle.tv_core.proofs.Meeting.{HasFrom-split}
+use Rattle.tv_core.specs.Below.{joined_below}
+use Rattle.tv_core.specs.Laws.{Assigns, Meets, HasFrom, InField}
+use Rattle.tv_core.specs.Lines.{Line, Honest}
+use Rattle.tv_core.specs.declared.field.TheConstants.{P}
+use Rattle.tv_lines.specs.Packing.{line_value}
+use Rattle.tv_lines.specs.Placed.{LinesFrom}
+use Rattle.tv_memory.proofs.Complete.{memory_complete}
+use Rattle.tv_memory.specs.Memory.{memory_made}
+use Rattle.tv_memory.specs.Order.{memory_values}
+use Rattle.tv_step.proofs.EndLaws.{end_answers}
+use Rattle.tv_step.proofs.RangeLaws.{start_in_range, run_keeps_range, answer_is_word}
+use Rattle.tv_step.specs.Cells.{boot_lines}
+use Rattle.tv_step.specs.Machine.{start, state_after, Accepts}
+use Rattle.tv_step.specs.Range.{AreWords, InRange}
+use Rattle.tv_step.specs.Reads.{ended_after, Reads}
+use Rattle.tv_step.specs.Runs.{Answering}
+use Rattle.tv_layout.proofs.Boot.{word_fits}
+use Rattle.tv_layout.proofs.Ends.{words_met, none_met, tie_met}
+use Rattle.tv_layout.proofs.Positions.{layout_meets, layout_next, last_of, log_some, log_within, memory_at}
+use Rattle.tv_layout.proofs.RunLines.{input, run_placed, run_few, run_honest}
+use Rattle.tv_layout.proofs.StepsFill.{steps_met, steps_lines, steps_take, last_said}
+use Rattle.tv_layout.proofs.Whole.{few, short, early, spare, lines_valued, lines_many}
+use Rattle.tv_layout.proofs.Blocks.{BlockSizes, BlockIsSound, BlockIsComplete}
+use Rattle.tv_layout.specs.Blocks.{BlockCircuit, BlockValues}
+use Rattle.tv_layout.specs.Layout.{steps_of, lines_of, layout_of, layout, taken_of}
+use Rattle.tv_layout.specs.Places.{WithinLimits, boot_count, line_count, log_of, tape_at, none_at, first_at}
+use Rattle.tv_layout.specs.Sound.{padding, all_lines}
+use Rattle.tv_layout.specs.Values.{step_values, fill, IsFill}
+
+-- an assignment has a list where its places say so
+pub has_by_places : (z : List ℕ) (k : ℕ) (xs : List ℕ) → ((i : ℕ) → i < length xs → slice_index z (k + i) ≡ slice_index xs i) → HasFrom z k xs
+has_by_places z k [] each = tt
+has_by_places z k (x ∷ xs) each = (
+  ap (λ n. slice_index z n) (sym (add-zero k)) ∙ each 0 (omega arith),
+  has_by_places z (k + 1) xs (λ i h. let same : k + 1 + i ≡ k + suc i = omega arith in ap (λ n. slice_index z n) same ∙ each (suc i) (omega arith)),
+)
+
+has_behind : (v : ℕ) (rest : List ℕ) → HasFrom (v ∷ rest) 1 rest
+has_behind v rest = has_by_places (v ∷ rest) 1 rest (λ i h. get_or-append-add (v ∷ []) rest i 0)
+
+module _ (w : ℕ) (net : Net) (block : BlockCircuit) (made : ℕ) (values : BlockValues) (sizes : BlockSizes block made) (law : BlockIsSound w block) (complete : BlockIsComplete w block made values)
+    (image x aux : List ℕ) (t v : ℕ) (fits : WithinLimits w image (length x) t) (x_words : AreWords w x) (aux_words : AreWords w aux) (small : v < 2 ^ w) (runs : Answering w (start w image x aux) t v) where
+  abbrev count : ℕ
+  count = line_count image (length x) t
+
+  abbrev bits : List ℕ
+  bits = joined_below (length x) (λ i. bits_values (slice_index x i) w)
+
+  abbrev blocks : List ℕ
+  blocks = joined_below t (step_values values w image x aux)
+
+  abbrev lasts : List ℕ
+  lasts = memory_values net (log_of (line_count image (length x) t)) (all_lines w image x aux t)
+
+  abbrev z : List ℕ
+  z = 1 ∷ ((v ∷ x) ++ (bits ++ (0 ∷ (blocks ++ lasts))))
+
+  range : (i : ℕ) → InRange w (state_after w i (start w image x aux))
+  range i = run_keeps_range w fits.width (start w image x aux) i (start_in_range w fits.width image x aux x_words aux_words)
+
+  block_many : (i : ℕ) → length (step_values values w image x aux i) ≡ made
+  block_many i =
+      complete.many (length x) (boot_count image (length x) + 3 * i) (state_after w i (start w image x aux)) (ended_after w i (start w image x aux)) (short image (length x) t w fits) (range i)
+
+  block_small : (i : ℕ) → InField (step_values values w image x aux i)
+  block_small i =
+      complete.below (length x) (boot_count image (length x) + 3 * i) (state_after w i (start w image x aux)) (ended_after w i (start w image x aux)) (short image (length x) t w fits) (range i)
+
+  length-bits : length bits ≡ length x * w
+  length-bits = length-joined_below (length x) w (λ i. bits_values (slice_index x i) w) (λ i h. length-each_below w _)
+
+  length-blocks : length blocks ≡ t * made
+  length-blocks = length-joined_below t made (step_values values w image x aux) (λ i h. block_many i)
+
+  in_field : InField z
+  in_field =
+      let answer : v < P = let fit = word_fits w fits.width v small in omega arith in
+      let tape : InField x = All-weaker (λ v. v < 2 ^ w) (λ v. v < P) (λ v k. let fit = word_fits w fits.width v k in omega arith) x x_words in
+      InField-cons 1 ((v ∷ x) ++ (bits ++ (0 ∷ (blocks ++ lasts)))) (omega arith) (InField-append (v ∷ x) (bits ++ (0 ∷ (blocks ++ lasts))) (InField-cons v x answer tape)
+      (InField-append bits (0 ∷ (blocks ++ lasts)) (InField-joined_below (λ i. bits_values (slice_index x i) w) (length x) (λ i h. bits_in_field (slice_index x i) w))
+      (InField-cons 0 (blocks ++ lasts) (omega arith) (InField-append blocks lasts (InField-joined_below (step_values values w image x aux) t (λ i h. block_small i))
+      ((memory_complete net).below (log_of (line_count image (length x) t)) (all_lines w image x aux t) (run_few w image x aux t fits x_words aux_words) (run_placed w image x aux t fits x_words aux_words))))))
+
+  assigns : Assigns z
+  assigns = record { below = in_field; one = refl }
+
+  -- where its parts are
+  record HasParts : Type 0 where
+    public : HasFrom z 1 (v ∷ x)
+    tape_bits : HasFrom z (2 + length x) bits
+    none : slice_index z (none_at w (length x)) ≡ 0
+    steps : HasFrom z (first_at w (length x)) blocks
+    last : HasFrom z (memory_at w made (length x) t) lasts
+
+  has_parts : HasParts
+  has_parts =
+      let a = HasFrom-split z 1 (v ∷ x) (bits ++ (0 ∷ (blocks ++ lasts))) (has_behind 1 ((v ∷ x) ++ (bits ++ (0 ∷ (blocks ++ lasts))))) in
+      let p : 1 + length (v ∷ x) ≡ 2 + length x = omega arith in
+      let b = HasFrom-split z (2 + length x) bits (0 ∷ (blocks ++ lasts)) (subst (λ k. HasFrom z k (bits ++ (0 ∷ (blocks ++ lasts)))) p a.1) in
+      let q : 2 + length x + length bits ≡ none_at w (length x) = ap (λ k. 2 + length x + k) length-bits in
+      let c : HasFrom z (none_at w (length x)) (0 ∷ (blocks ++ lasts)) = subst (λ k. HasFrom z k (0 ∷ (blocks ++ lasts))) q b.1 in
+      let d = HasFrom-split z (first_at w (length x)) blocks lasts c.1 in
+      let r : first_at w (length x) + length blocks ≡ memory_at w made (length x) t = ap (λ k. first_at w (length x) + k) length-blocks in
+      record { public = a.0; tape_bits = b.0; none = c.0; steps = d.0; last = subst (λ k. HasFrom z k lasts) r d.1 }
+
+  has_steps : (i : ℕ) → i < t → HasFrom z (first_at w (length x) + i * made) (step_values values w image x aux i)
+  has_steps i h = has_each_list z (first_at w (length x)) t made (step_values values w image x aux) (λ i h. block_many i) has_parts.steps i h
+
+  has_bits : (i : ℕ) → i < length x → HasFrom z (2 + length x + i * w) (bits_values (slice_index x i) w)
+  has_bits i h = has_each_list z (2 + length x) (length x) w (λ i. bits_values (slice_index x i) w) (λ i h. length-each_below w _) has_parts.tape_bits i h
+
+  met_steps : Meets z (steps_of block (length x) (boot_count image (length x)) t (none_at w (length x)) (first_at w (length x))).list
+  met_steps =
+      steps_met w block made sizes values law complete image x aux z (none_at w (length x)) (first_at w (length x)) t v (input w image x aux t fits x_words aux_words) assigns (early image (length x) t w fits) has_parts.none has_steps runs
+
+  -- the lines are those of the run
+  lines_are : map (line_value z) (lines_of block w image (length x) t) ≡ all_lines w image x aux t
+  lines_are =
+      lines_valued w block made sizes law image x z t fits assigns x_words has_parts.public.1 has_parts.none met_steps
+      ∙ ap (λ (l : List Line). (boot_lines image x ++ l) ++ padding (line_count image (length x) t) (spare image (length x) t))
+      (steps_lines w block made sizes values law complete image x aux z (none_at w (length x)) (first_at w (length x)) t v (input w image x aux t fits x_words aux_words) assigns (early image (length x) t w fits) has_parts.none has_steps runs t (omega arith))
+
+  answer_small : v < P
+  answer_small = let fit = word_fits w fits.width v small in omega arith
+
+  all_met : Meets z (layout_of block w net image (length x) t (2 + length x)).list
+  all_met =
+      let said = last_said w block made sizes values law complete image x aux z (none_at w (length x)) (first_at w (length x)) t v (input w image x aux t fits x_words aux_words) assigns (early image (length x) t w fits) has_parts.none has_steps runs (t - 1) (omega (arith, fits.some)) in
+      layout_meets block made sizes w net image (length x) t z (record {
+        words = words_met w fits.width z assigns tape_at (length x) (2 + length x) x refl x_words has_parts.public.1 has_bits;
+        none = none_met w fits.width z assigns (none_at w (length x)) has_parts.none;
+        steps = met_steps;
+        tie = tie_met w fits.width z assigns (last_of block made sizes w net image (length x) t) (memory_at w made (length x) t) v said.0 said.1 has_parts.public.0 answer_small;
+        honest = (memory_complete net).met z (log_of count) (lines_of block w image (length x) t) (memory_at w made (length x) t) (log_some count) (log_within count (few image (length x) t w fits))
+            (lines_many w block made sizes law image x z t fits assigns x_words has_parts.public.1 has_parts.none met_steps)
+            (subst (LinesFrom 0) (sym lines_are) (run_placed w image x aux t fits x_words aux_words)) (subst Honest (sym lines_are) (run_honest w image x aux t fits x_words aux_words)) assigns
+            (subst (λ l. HasFrom z (memory_at w made (length x) t) (memory_values net (log_of count) l)) (sym lines_are) has_parts.last);
+      })
+
+  -- as many values as wires
+  many : length z ≡ (layout_of block w net image (length x) t (2 + length x)).next
+  many =
+      let a = length-append (v ∷ x) (bits ++ (0 ∷ (blocks ++ lasts))) in
+      let b = length-append bits (0 ∷ (blocks ++ lasts)) in
+      let c = length-append blocks lasts in
+      let m = (memory_complete net).many (log_of count) (all_lines w image x aux t) in
+      let e = layout_next block made sizes w net image (length x) t (memory_made net (log_of count)) (λ at. (memory_complete net).next (log_of count) (lines_of block w image (length x) t) at) in
+      omega (arith, a, b, c, m, length-bits, length-blocks, e)
+
+  taken_is : taken_of block w image (length x) t z ≡ Reads w image x aux t
+  unfolding taken_of
+  taken_is =
+      steps_take w block made sizes values law complete image x aux z (none_at w (length x)) (first_at w (length x)) t v (input w image x aux t fits x_words aux_words) assigns (early image (length x) t w fits) has_parts.none has_steps runs t (omega arith)
+
+  pub is_fill : IsFill w net block image x aux t v z
+  is_fill = record {
+    sat = Sat-from_Meets (layout block w net image (length x) t) z many assigns all_met;
+    extends = record { publics = omega arith; values = take-append_seam (v ∷ x) _ };
+    taken = taken_is;
+  }
+
+abbrev pub FillIsComplete : Type 0
+FillIsComplete = (w : ℕ) (net : Net) (block : BlockCircuit) (made : ℕ) (values : BlockValues)
+    → BlockSizes block made → BlockIsSound w block → BlockIsComplete w block made values
+    → (image x aux : List ℕ) (t v : ℕ) → WithinLimits w image (length x) t → AreWords w x → AreWords w aux → Accepts w image x aux t v
+    → IsFill w net block image x aux t v (fill values w net image x aux t v)
+
+pub fill_complete : FillIsComplete
+unfolding fill
+fill_complete w net block made values sizes law complete image x aux t v fits x_words aux_words run =
+    let runs = end_answers w t (start w image x aux) v run.0 run.2 in
+    let last_range = run_keeps_range w fits.width (start w image x aux) (t - 1) (start_in_range w fits.width image x aux x_words aux_words) in
+    is_fill w net block made values sizes law complete image x aux t v fits x_words aux_words (answer_is_word w fits.width _ v last_range runs.last) runs

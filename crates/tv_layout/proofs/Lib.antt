@@ -1,0 +1,16 @@
+pub mod Blocks
+pub mod Boot
+pub mod Ends
+pub mod Fill
+pub mod Machine
+pub mod Positions
+pub mod Reducing
+pub mod Run
+pub mod RunLines
+pub mod Sound
+pub mod StepFill
+pub mod Steps
+pub mod StepsFill
+pub mod Systems
+pub mod Taking
+pub mod Whole

@@ -1,0 +1,121 @@
+-- Where the parts of a system begin, and what an assignment meets of each.
+use Rattle.std.proofs.Common.{◌≡◌, ℕ, zero, suc, ◌+◌, ◌*◌, ◌≤◌, ◌^◌, true, false, List, ◌++◌, refl, arith, inl, inr}
+use Rattle.std.proofs.lemmas.Bool.Decides.{leb_tells}
+use Rattle.std.specs.Prelude.{nat_le}
+use Rattle.tv_benes.specs.declared.shape.Net.{Net}
+use Rattle.tv_bits.proofs.SpellingLaws.{bits_next}
+use Rattle.tv_core.proofs.LoopLaws.{turns-next}
+use Rattle.tv_core.proofs.Meeting.{Meets-split, Meets-join}
+use Rattle.tv_core.specs.Circuits.{fresh, put, pure, turns, ◌>>=◌}
+use Rattle.tv_core.specs.Combinations.{wire}
+use Rattle.tv_core.specs.Laws.{Meets}
+use Rattle.tv_memory.specs.Memory.{memory_of}
+use Rattle.tv_layout.proofs.Blocks.{BlockSizes}
+use Rattle.tv_layout.specs.Blocks.{BlockCircuit}
+use Rattle.tv_layout.specs.Layout.{word_of, words_of, none_of, tie_of, step_of, steps_of, before_steps, lines_of, layout_of}
+use Rattle.tv_layout.specs.Places.{log_from, log_of, boot_count, line_count, tape_at, none_at, first_at}
+use Rattle.tv_layout.specs.declared.wires.Reached.{Reached}
+
+-- where the wires of the memory argument begin, each step making so many
+abbrev pub memory_at : ℕ → ℕ → ℕ → ℕ → ℕ
+memory_at w made n t = first_at w n + t * made
+
+word_next : (w first i next : ℕ) → (word_of w first i next).next ≡ next + w
+unfolding pure ◌>>=◌
+word_next w first i next = bits_next (wire (first + i)) w next
+
+pub words_turn : (w first n next : ℕ) → (turns n (λ i _. word_of w first i) tt next).next ≡ next + n * w
+words_turn w first n next = turns-next (λ i _. word_of w first i) tt next w n (λ i a at. word_next w first i at)
+
+pub words_next : (w first n next : ℕ) → (words_of w first n next).next ≡ next + n * w
+unfolding words_of
+words_next w first n next = words_turn w first n next
+
+module _ (block : BlockCircuit) (made : ℕ) (sizes : BlockSizes block made) where
+  step_next : (n time i : ℕ) (last : Reached) (at : ℕ) → (step_of block n time i last at).next ≡ at + made
+  unfolding pure ◌>>=◌
+  step_next n time i last at = sizes.next n last.next (time + 3 * i) at
+
+  pub steps_next : (n time t none first : ℕ) → (steps_of block n time t none first).next ≡ first + t * made
+  unfolding steps_of
+  steps_next n time t none first = turns-next (step_of block n time) (before_steps none) first made t (step_next n time)
+
+  module _ (w : ℕ) (net : Net) (image : List ℕ) (n t : ℕ) where
+    -- what the steps lead to
+    abbrev pub last_of : Reached
+    last_of = (steps_of block n (boot_count image n) t (none_at w n) (first_at w n)).answer
+
+    -- the constraints of the system, part by part, each from its place on
+    pub layout_list : (layout_of block w net image n t (2 + n)).list
+        ≡ (words_of w tape_at n (2 + n)).list
+        ++ ((none_of (none_at w n)).list
+        ++ ((steps_of block n (boot_count image n) t (none_at w n) (first_at w n)).list
+        ++ ((tie_of last_of (memory_at w made n t)).list
+        ++ (memory_of net (log_of (line_count image n t)) (lines_of block w image n t) (memory_at w made n t)).list)))
+    unfolding layout_of none_of tie_of fresh put pure ◌>>=◌
+    layout_list = rw (words_next w tape_at n (2 + n)) (rw (steps_next n (boot_count image n) t (none_at w n) (first_at w n)) refl)
+
+    pub record LayoutMet (z : List ℕ) : Type 0 where
+      pub words : Meets z (words_of w tape_at n (2 + n)).list
+      pub none : Meets z (none_of (none_at w n)).list
+      pub steps : Meets z (steps_of block n (boot_count image n) t (none_at w n) (first_at w n)).list
+      pub tie : Meets z (tie_of last_of (memory_at w made n t)).list
+      pub honest : Meets z (memory_of net (log_of (line_count image n t)) (lines_of block w image n t) (memory_at w made n t)).list
+
+    pub layout_met : (z : List ℕ) → Meets z (layout_of block w net image n t (2 + n)).list → LayoutMet z
+    layout_met z meets =
+        let a = Meets-split z _ _ (rw layout_list at meets) in
+        let b = Meets-split z _ _ a.1 in
+        let c = Meets-split z _ _ b.1 in
+        let d = Meets-split z _ _ c.1 in
+        record { words = a.0; none = b.0; steps = c.0; tie = d.0; honest = d.1 }
+
+    pub layout_meets : (z : List ℕ) → LayoutMet z → Meets z (layout_of block w net image n t (2 + n)).list
+    layout_meets z m =
+        rw layout_list (Meets-join z _ _ m.words (Meets-join z _ _ m.none (Meets-join z _ _ m.steps (Meets-join z _ _ m.tie m.honest))))
+
+    -- where it ends
+    pub layout_next : (memory_made : ℕ) → ((at : ℕ) → (memory_of net (log_of (line_count image n t)) (lines_of block w image n t) at).next ≡ at + memory_made)
+        → (layout_of block w net image n t (2 + n)).next ≡ memory_at w made n t + memory_made
+    unfolding layout_of none_of tie_of fresh put pure ◌>>=◌
+    layout_next memory_made ends =
+        rw (words_next w tape_at n (2 + n)) (rw (steps_next n (boot_count image n) t (none_at w n) (first_at w n)) (ends (memory_at w made n t)))
+
+-- ---- the logarithm
+record IsLog (k count most : ℕ) : Type 0 where
+  above : count ≤ 2 ^ k
+  within : k ≤ most
+
+log_from_is : (fuel k count : ℕ) → count ≤ 2 ^ (k + fuel) → IsLog (log_from fuel k count) count (k + fuel)
+log_from_is zero k count h = let same : k + 0 ≡ k = omega arith in record { above = rw same at h; within = omega arith }
+log_from_is (suc fuel) k count h = elim (leb_tells count (2 ^ k)) [
+  | inl fits ↦ here fits.0 (record { above = fits.1; within = omega arith })
+  | inr over ↦
+      let same : k + suc fuel ≡ k + 1 + fuel = omega arith in
+      later over.0 (log_from_is fuel (k + 1) count (rw same at h))
+]
+  where
+    here : nat_le count (2 ^ k) ≡ true → IsLog k count (k + suc fuel) → IsLog (log_from (suc fuel) k count) count (k + suc fuel)
+    here e l = rw e l
+
+    later : nat_le count (2 ^ k) ≡ false → IsLog (log_from fuel (k + 1) count) count (k + 1 + fuel) → IsLog (log_from (suc fuel) k count) count (k + suc fuel)
+    later e l = rw e (record { above = l.above; within = omega (arith, l.within) })
+
+log_low : (fuel k count : ℕ) → k ≤ log_from fuel k count
+log_low zero k count = omega arith
+log_low (suc fuel) k count = elim (leb_tells count (2 ^ k)) [
+  | inl fits ↦ rw fits.0 (omega arith)
+  | inr over ↦ rw over.0 (let below = log_low fuel (k + 1) count in omega arith)
+]
+
+pub log_above : (count : ℕ) → count ≤ 2 ^ 20 → count ≤ 2 ^ log_of count
+unfolding log_of
+log_above count h = (log_from_is 19 1 count h).above
+
+pub log_within : (count : ℕ) → count ≤ 2 ^ 20 → log_of count ≤ 20
+unfolding log_of
+log_within count h = (log_from_is 19 1 count h).within
+
+pub log_some : (count : ℕ) → 1 ≤ log_of count
+unfolding log_of
+log_some count = log_low 19 1 count

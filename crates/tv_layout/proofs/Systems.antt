@@ -1,0 +1,50 @@
+-- The circuit of tv_block gives what a system takes of a step.
+use Rattle.std.proofs.Common.{ℕ, ◌-◌, length, arith}
+use Rattle.tv_block.proofs.BlockLaws.{block_sound}
+use Rattle.tv_block.proofs.MachineFills.{machine_step_met, machine_values_fit}
+use Rattle.tv_block.proofs.SizeFills.{block_sizes}
+use Rattle.tv_block.specs.Block.{block_of}
+use Rattle.tv_block.specs.Complete.{block_made, step_values}
+use Rattle.tv_numbers.proofs.RangeLaws.{flag_small}
+use Rattle.tv_numbers.specs.Views.{flag_of}
+use Rattle.tv_word.specs.Widths.{IsWidth}
+use Rattle.tv_layout.proofs.Fill.{fill_complete}
+use Rattle.tv_layout.proofs.Reducing.{layout_reduces}
+use Rattle.tv_layout.proofs.Sound.{layout_sound}
+use Rattle.tv_layout.proofs.Blocks.{BlockSizes, BlockIsSound, BlockIsComplete}
+use Rattle.tv_layout.specs.Systems.{SystemIsSound, SystemIsComplete, SystemReduces}
+
+module _ (w : ℕ) (width : IsWidth w) where
+  pub step_sized : BlockSizes (block_of w) (block_made w)
+  step_sized = record {
+    next = λ n state time next. block_sizes.end w width n state time next;
+    three = λ n state time next. block_sizes.three w n state time next;
+  }
+
+  pub step_sound : BlockIsSound w (block_of w)
+  step_sound z x state time next short early assigns range met = block_sound w width z x state time next short early assigns range met
+
+  pub step_complete : BlockIsComplete w (block_of w) (block_made w) (step_values w)
+  step_complete = record {
+    many = λ n time st ended short range. (machine_values_fit w width n time st (n - length st.primary) (flag_of ended) short (omega arith) (flag_small ended) range).0;
+    below = λ n time st ended short range. (machine_values_fit w width n time st (n - length st.primary) (flag_of ended) short (omega arith) (flag_small ended) range).1;
+    met = λ z x state time next st word g.
+        (machine_step_met w width z x state time next st word
+        (record { short = g.short; early = g.early; assigns = g.assigns; range = g.range; machine = g.machine; matches = g.matches; defined = g.defined; may = g.may; has = g.has })).met;
+    shows = λ z x state time next st word g.
+        let met = machine_step_met w width z x state time next st word
+        (record { short = g.short; early = g.early; assigns = g.assigns; range = g.range; machine = g.machine; matches = g.matches; defined = g.defined; may = g.may; has = g.has }) in
+        record { lines = met.lines; takes = met.takes; same = met.same };
+  }
+
+pub system_sound : SystemIsSound
+system_sound w net image x z t fits has sat =
+    layout_sound w net (block_of w) (block_made w) (step_sized w fits.width) (step_sound w fits.width) image x z t fits has sat
+
+pub system_complete : SystemIsComplete
+system_complete w net image x aux t v fits x_words aux_words run =
+    fill_complete w net (block_of w) (block_made w) (step_values w) (step_sized w fits.width) (step_sound w fits.width) (step_complete w fits.width) image x aux t v fits x_words aux_words run
+
+pub system_reduces : SystemReduces
+system_reduces w net image n t fits =
+    layout_reduces w net (block_of w) (block_made w) (step_values w) (step_sized w fits.width) (step_sound w fits.width) (step_complete w fits.width) image n t fits

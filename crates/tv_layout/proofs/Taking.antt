@@ -1,0 +1,33 @@
+-- What a step of the machine takes of the auxiliary tape, by cases.
+use Rattle.std.proofs.Common.{◌≡◌, ℕ, Bool, true, false, List, [], ◌∷◌, refl, ap, ap₂, ◌∙◌, Option, Some, None}
+use Rattle.std.specs.Prelude.{slice_get, ◌&&◌, not, is_some, if◌then◌else◌}
+use Rattle.tv_step.specs.Reads.{reads_aux, word_taken, finds_end}
+use Rattle.tv_step.specs.State.{State}
+
+-- it takes a word, or it reads the tape and finds its end, or it doesn't read it
+pub data AuxCase (w : ℕ) (st : State) : Type 0 where
+  Takes : (v : ℕ) (rest : List ℕ) → st.aux ≡ v ∷ rest → reads_aux w st ≡ true → word_taken w st ≡ Some v → finds_end w st ≡ false → AuxCase w st
+  Ends : st.aux ≡ [] → reads_aux w st ≡ true → word_taken w st ≡ None → finds_end w st ≡ true → AuxCase w st
+  Other : reads_aux w st ≡ false → word_taken w st ≡ None → finds_end w st ≡ false → AuxCase w st
+
+module _ (w : ℕ) (st : State) where
+  taken_is : (b : Bool) → reads_aux w st ≡ b → word_taken w st ≡ (if b then slice_get st.aux 0 else None)
+  taken_is b e = ap (λ r. if r then slice_get st.aux 0 else None) e
+
+  ends_is : (b : Bool) (word : Option ℕ) → reads_aux w st ≡ b → slice_get st.aux 0 ≡ word → finds_end w st ≡ (b && not (is_some word))
+  ends_is b word e f = ap₂ (λ r w. r && not (is_some w)) e f
+
+  by_tape : (aux : List ℕ) → st.aux ≡ aux → reads_aux w st ≡ true → AuxCase w st
+  by_tape [] same e =
+      let none : slice_get st.aux 0 ≡ None = ap (λ l. slice_get l 0) same in
+      Ends same e (taken_is true e ∙ none) (ends_is true None e none)
+  by_tape (v ∷ rest) same e =
+      let some : slice_get st.aux 0 ≡ Some v = ap (λ l. slice_get l 0) same in
+      Takes v rest same e (taken_is true e ∙ some) (ends_is true (Some v) e some)
+
+  by_read : (b : Bool) → reads_aux w st ≡ b → AuxCase w st
+  by_read true e = by_tape st.aux refl e
+  by_read false e = Other e (taken_is false e) (ends_is false (slice_get st.aux 0) e refl)
+
+  pub aux_case : AuxCase w st
+  aux_case = by_read (reads_aux w st) refl

@@ -1,0 +1,113 @@
+-- The system of a program's runs of t steps on a primary tape of n words, over a circuit of one step: the answer, the
+-- tape's words, the steps in a row, and an argument that their lines of memory are honest.
+use Rattle.std.specs.Prelude.{ℕ, zero, suc, ◌+◌, ◌-◌, ◌*◌, ◌^◌, ◌==◌, if◌then◌else◌, List, [], ◌∷◌, ◌++◌, length, map, replicate, slice_index}
+use Rattle.std.specs.List.{range_with_len}
+use Rattle.tv_benes.specs.declared.shape.Net.{Net}
+use Rattle.tv_bits.specs.Bits.{bits_of}
+use Rattle.tv_core.specs.Below.{joined_below}
+use Rattle.tv_core.specs.Circuits.{Circuit, fresh, put, pure, turns, ◌>>=◌}
+use Rattle.tv_core.specs.Combinations.{wire, constant}
+use Rattle.tv_core.specs.Constraints.{Combination, System}
+use Rattle.tv_core.specs.Loops.{times}
+use Rattle.tv_core.specs.declared.limits.TheConstants.{TAPE_CELLS, NULL_CELL}
+use Rattle.tv_core.specs.declared.lines.LineLc.{LineLc}
+use Rattle.tv_memory.specs.Memory.{memory_of}
+use Rattle.tv_layout.specs.Blocks.{BlockCircuit}
+use Rattle.tv_layout.specs.Places.{boot_count, line_count, log_of, tape_at, none_at, first_at}
+use Rattle.tv_block.specs.declared.records.Block.{Block}
+use Rattle.tv_layout.specs.declared.wires.Reached.{Reached}
+use Rattle.tv_block.specs.declared.records.Spot.{Spot}
+use Rattle.tv_block.specs.declared.records.StateWires.{StateWires}
+
+-- ---- the parts
+-- n wires from a first one on hold words of w bits
+abbrev pub word_of : ℕ → ℕ → ℕ → Circuit (Unit {0})
+word_of w first i = do
+  _ ← bits_of (wire (first + i)) w
+  pure tt
+
+unfoldable pub words_of : ℕ → ℕ → ℕ → Circuit (Unit {0})
+words_of w first n = times n (word_of w first)
+
+-- a new wire that is held to 0
+unfoldable pub none_of : Circuit ℕ
+none_of = do
+  w ← fresh
+  _ ← put (wire w) (constant 1) []
+  pure w
+
+-- the first state, all of it one wire
+abbrev pub first_state : ℕ → StateWires
+first_state none = record { pc = none; regs = replicate 16 none; flag = none; taken = none; ended = none }
+
+abbrev pub before_steps : ℕ → Reached
+before_steps none = record { next = first_state none; answers = none; value = none }
+
+abbrev pub reached : Block → Reached
+reached made = record { next = made.next; answers = made.answers; value = made.value }
+
+-- the last step answers, and its value is the answer's wire
+unfoldable pub tie_of : Reached → Circuit (Unit {0})
+tie_of last = do
+  _ ← put (wire last.answers) (constant 1) (constant 1)
+  put (wire last.value) (constant 1) (wire 1)
+
+-- ---- lines that no step makes
+-- the lines that write words, the first into this cell at this time
+abbrev pub boot_wires : ℕ → ℕ → List Combination → List LineLc
+boot_wires cell time [] = []
+boot_wires cell time (word ∷ words) = record { cell = constant cell; time = constant time; old = []; new = word } ∷ boot_wires (cell + 1) (time + 1) words
+
+-- those of an image, and of n words of the primary tape
+abbrev pub boot_lines_of : List ℕ → ℕ → List LineLc
+boot_lines_of image n = boot_wires 0 0 (map constant image) ++ boot_wires TAPE_CELLS (length image) (map wire (range_with_len tape_at n))
+
+-- lines of the null cell, from a time on
+abbrev pub padding_of : ℕ → ℕ → List LineLc
+padding_of time zero = []
+padding_of time (suc more) = record { cell = constant NULL_CELL; time = constant time; old = []; new = [] } ∷ padding_of (time + 1) more
+
+-- ---- the whole, over one step's circuit
+module _ (block : BlockCircuit) where
+  -- t steps, each from the state that the one before leads to; the first one's lines begin at a time
+  abbrev pub step_of : ℕ → ℕ → ℕ → Reached → Circuit Reached
+  step_of n time i last = do
+    made ← block n last.next (time + 3 * i)
+    pure (reached made)
+
+  unfoldable pub steps_of : ℕ → ℕ → ℕ → ℕ → Circuit Reached
+  steps_of n time t none = turns t (step_of n time) (before_steps none)
+
+  -- the state before step i, and step i, where the first one's wires begin at `first`
+  abbrev pub state_at : ℕ → ℕ → ℕ → ℕ → ℕ → StateWires
+  state_at n time none first i = (steps_of n time i none first).answer.next
+
+  abbrev pub block_at : ℕ → ℕ → ℕ → ℕ → ℕ → Block
+  block_at n time none first i = (block n (state_at n time none first i) (time + 3 * i) (steps_of n time i none first).next).answer
+
+  -- all lines in time order: boot lines, those of the steps, and padding up to 2 ^ k
+  unfoldable pub lines_of : ℕ → List ℕ → ℕ → ℕ → List LineLc
+  lines_of w image n t =
+      (boot_lines_of image n ++ joined_below t (λ i. (block_at n (boot_count image n) (none_at w n) (first_at w n) i).lines))
+      ++ padding_of (line_count image n t) (2 ^ log_of (line_count image n t) - line_count image n t)
+
+  -- the words of the auxiliary tape that the steps take in an assignment, in order
+  abbrev pub taken_at : List ℕ → Spot → List ℕ
+  taken_at z spot = if slice_index z spot.taken == 1 then slice_index z spot.word ∷ [] else []
+
+  unfoldable pub taken_of : ℕ → List ℕ → ℕ → ℕ → List ℕ → List ℕ
+  taken_of w image n t z = joined_below t (λ i. taken_at z (block_at n (boot_count image n) (none_at w n) (first_at w n) i).spot)
+
+  unfoldable pub layout_of : ℕ → Net → List ℕ → ℕ → ℕ → Circuit (Unit {0})
+  layout_of w net image n t = do
+    _ ← words_of w tape_at n
+    none ← none_of
+    last ← steps_of n (boot_count image n) t none
+    _ ← tie_of last
+    memory_of net (log_of (line_count image n t)) (lines_of w image n t)
+
+  -- the system: its public wires are the answer and the n words of the tape
+  abbrev pub layout : ℕ → Net → List ℕ → ℕ → ℕ → System
+  layout w net image n t =
+      let made = layout_of w net image n t (2 + n) in
+      record { wires = made.next; outputs = 1; inputs = n; constraints = made.list }
