@@ -6,8 +6,9 @@ use crate::inputs::{all_hold, holds, with_wire};
 use std::alloc::Global;
 use std::test::Fail;
 use tv_bits::{
-    Bits, bit, bits, fill_bit, fill_bits, fill_onehot, fill_prefix_difference, fill_select,
-    fill_zero, first_difference, onehot, prefix_difference, select, zero,
+    Bits, TwoRows, bit, bits, fill_bit, fill_bits, fill_nonzero, fill_onehot,
+    fill_prefix_difference, fill_ratio, fill_select, fill_times, fill_zero, first_difference,
+    nonzero, onehot, prefix_difference, ratio, select, times, zero,
 };
 use tv_core::{F, Lc, ListSink, ListValues, Put, Sink, TestSink, Values, Wire, give_values};
 
@@ -16,7 +17,10 @@ enum Gadget {
     Bit,
     Bits { n: u32 },
     Zero,
+    Nonzero,
     Select,
+    Times,
+    Ratio,
     OneHot { x: u32, n: u32 },
 }
 
@@ -25,6 +29,9 @@ const WORD: u64 = 4_294_967_295;
 const LONG: u64 = 9_223_372_036_854_775_807;
 
 const LAST: u64 = 18_446_744_069_414_584_320;
+
+// twice this number is P + 1
+const HALF: u64 = 9_223_372_034_707_292_161;
 
 const FIRST: Wire = Wire(1);
 
@@ -40,6 +47,9 @@ fn put<S: Sink>(s: &mut S, gadget: Gadget) -> Put<Wire>
         }
         Gadget::Bits { n } => Ok(bits(s, &x, n.min(63))?.first),
         Gadget::Zero => zero(s, &x),
+        Gadget::Nonzero => nonzero(s, &x),
+        Gadget::Times => times(s, &x, &Lc::wire(Wire(2))),
+        Gadget::Ratio => ratio(s, &x, &Lc::wire(Wire(2))),
         Gadget::Select => select(s, FIRST, &Lc::wire(Wire(2)), &Lc::wire(Wire(3))),
         Gadget::OneHot { n, .. } => onehot(
             s,
@@ -59,6 +69,9 @@ fn fill<V: Values>(v: &mut V, gadget: Gadget, inputs: [u64; 5]) -> Put<()>
         Gadget::Bit => fill_bit(v, F::of(x)),
         Gadget::Bits { n } => fill_bits(v, F::of(x), n.min(63)),
         Gadget::Zero => fill_zero(v, F::of(x)),
+        Gadget::Nonzero => fill_nonzero(v, F::of(x)),
+        Gadget::Times => fill_times(v, F::of(x), F::of(y)),
+        Gadget::Ratio => fill_ratio(v, F::of(x), F::of(y)),
         Gadget::Select => fill_select(v, F::of(x), F::of(y), F::of(z)),
         Gadget::OneHot { x, n } => fill_onehot(v, x, n.min(5)),
     }
@@ -75,7 +88,7 @@ fn assignment(alloc: Global, gadget: Gadget, inputs: [u64; 5]) -> Put<ListValues
 }
 
 // A gadget, what the wires 1 to 5 hold, its first output, and how many constraints it puts.
-const TRIALS: [(Gadget, [u64; 5], u64, u32); 20] = [
+const TRIALS: [(Gadget, [u64; 5], u64, u32); 28] = [
     (Gadget::Bit, [0, 0, 0, 0, 0], 0, 1),
     (Gadget::Bit, [1, 0, 0, 0, 0], 1, 1),
     (Gadget::Bits { n: 1 }, [0, 0, 0, 0, 0], 0, 2),
@@ -88,6 +101,14 @@ const TRIALS: [(Gadget, [u64; 5], u64, u32); 20] = [
     (Gadget::Zero, [WORD, 0, 0, 0, 0], 0, 2),
     (Gadget::Zero, [LONG, 0, 0, 0, 0], 0, 2),
     (Gadget::Zero, [LAST, 0, 0, 0, 0], 0, 2),
+    (Gadget::Nonzero, [0, 0, 0, 0, 0], 0, 2),
+    (Gadget::Nonzero, [1, 0, 0, 0, 0], 1, 2),
+    (Gadget::Nonzero, [LAST, 0, 0, 0, 0], 1, 2),
+    (Gadget::Times, [3, 5, 0, 0, 0], 15, 1),
+    (Gadget::Times, [LAST, LAST, 0, 0, 0], 1, 1),
+    (Gadget::Ratio, [3, 15, 0, 0, 0], 5, 1),
+    (Gadget::Ratio, [2, 1, 0, 0, 0], HALF, 1),
+    (Gadget::Ratio, [7, 0, 0, 0, 0], 0, 1),
     (Gadget::Select, [0, WORD, LAST, 0, 0], LAST, 1),
     (Gadget::Select, [1, WORD, LAST, 0, 0], WORD, 1),
     (Gadget::Select, [1, LONG, 0, 0, 0], LONG, 1),
@@ -135,7 +156,8 @@ fn gadgets_hold_over_their_own_values_alone(rt: HostRuntime) -> Result<(), Fail>
     Ok(())
 }
 
-// 1, the bits of two numbers below 2^6, and a third number.
+// 1, the bits of two numbers below 2^6, a third number, and then the bits of the two again: the three highest
+// of x, its others, those of y that aren't the three highest, and these.
 fn prefixes(alloc: Global, x: u64, y: u64, d: F) -> Put<ListValues>
     ensures { IfOk result (λ values. values.broken ≡ false) }
 {
@@ -144,17 +166,44 @@ fn prefixes(alloc: Global, x: u64, y: u64, d: F) -> Put<ListValues>
     fill_bits(&mut values, F::of(x), 6)?;
     fill_bits(&mut values, F::of(y), 6)?;
     values.give(d)?;
+    fill_bits(&mut values, F::of(x >> 3), 3)?;
+    fill_bits(&mut values, F::of(x), 3)?;
+    fill_bits(&mut values, F::of(y), 3)?;
+    fill_bits(&mut values, F::of(y >> 3), 3)?;
     Ok(values)
+}
+
+fn row(first: u32, n: u32) -> Bits
+    ensures first { result.first ≡ first }
+    ensures n { result.n ≡ n }
+{
+    Bits {
+        first: Wire(first),
+        n,
+    }
+}
+
+// How many constraints hold of the differences in one row each, and of those in two rows that stand apart.
+fn differences_hold(z: &[F]) -> Put<u32> {
+    let mut tests = TestSink::over(z, 26);
+    let d = Lc::wire(Wire(13));
+    let (x, y) = (TwoRows::of(&row(1, 6)), TwoRows::of(&row(7, 6)));
+    prefix_difference(&mut tests, &x, &y, &d, 2, 3)?;
+    let x = TwoRows {
+        low: row(17, 3),
+        high: row(14, 3),
+    };
+    let y = TwoRows {
+        low: row(20, 3),
+        high: row(23, 3),
+    };
+    prefix_difference(&mut tests, &x, &y, &d, 2, 3)?;
+    Ok(tests.held())
 }
 
 // 54 is 110110 and 45 is 101101, whose prefixes differ by 9, by 13 - 11 and by 3 - 2.
 #[test]
 fn a_difference_of_prefixes_is_one_of_them(rt: HostRuntime) -> Result<(), Fail> {
-    let x = Bits { first: FIRST, n: 6 };
-    let y = Bits {
-        first: Wire(7),
-        n: 6,
-    };
     let trials = [
         (54, 45, F::of(9), true),
         (54, 45, F::of(2), true),
@@ -169,10 +218,13 @@ fn a_difference_of_prefixes_is_one_of_them(rt: HostRuntime) -> Result<(), Fail> 
     for (first, second, d, is_one) in trials {
         let mut values = prefixes(rt.alloc(), first, second, d)?;
         fill_prefix_difference(&mut values, first, second, d, 2, 3)?;
-        let mut tests = TestSink::over(values.as_slice(), 14);
-        prefix_difference(&mut tests, &x, &y, &Lc::wire(Wire(13)), 2, 3)?;
-        assert_eq!(rt; tests.tested(), 2, "{first} {second} {d:?}");
-        assert_eq!(rt; tests.held() == 2, is_one, "{first} {second} {d:?}");
+        fill_prefix_difference(&mut values, first, second, d, 2, 3)?;
+        let held = if is_one { 4 } else { 2 };
+        assert_eq!(rt;
+            differences_hold(values.as_slice())?,
+            held,
+            "{first} {second} {d:?}"
+        );
     }
     Ok(())
 }

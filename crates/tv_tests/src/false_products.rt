@@ -1,5 +1,5 @@
 //! Each gadget over values that fail one constraint alone.
-use crate::inputs::{FIRST, inputs};
+use crate::inputs::inputs;
 use crate::products::{Gadget, put};
 use std::test::Fail;
 use tv_bits::fill_bits;
@@ -100,12 +100,12 @@ const LIES: [(Gadget, u32, u32, u32, u32, [u64; 12]); 9] = [
 #[test]
 fn one_constraint_refuses_each_false_answer(rt: HostRuntime) -> Result<(), Fail> {
     for (gadget, x, y, first, second, rest) in LIES {
-        let mut values = inputs(rt.alloc(), x, y)?;
+        let mut values = inputs::<32>(rt.alloc(), x, y)?;
         fill_bits(&mut values, F::of(u64::from(first)), 32)?;
         fill_bits(&mut values, F::of(u64::from(second)), 32)?;
         give_values(&mut values, &rest.map(F::of))?;
-        let mut tests = TestSink::over(values.as_slice(), FIRST);
-        put(&mut tests, gadget)?;
+        let mut tests = TestSink::over(values.as_slice(), 65);
+        put::<32, TestSink<'_>>(&mut tests, gadget)?;
         let others = if gadget == Gadget::Quotient { 78 } else { 66 };
         assert_eq!(rt; tests.held(), others, "{gadget:?} {x} {y}");
     }

@@ -1,37 +1,70 @@
 //! What the tests share: two words as inputs, and what a list of constraints and a row of bits say.
-ghost use Rattle.std.specs.Prelude.{◌≡◌, false, IfOk};
+ghost use Rattle.std.specs.Prelude.{◌≡◌, ◌+◌, ◌*◌, false, IfOk};
+ghost use Rattle.tv_word.specs.Widths.{IsWidth};
 
 use std::alloc::{AllocError, Global};
 use tv_bits::{Bits, fill_bits};
 use tv_core::{F, ListSink, ListValues, Put, Values, Wire};
 
-/// The wires of the first word, which follow wire 0.
-pub const X: Bits = Bits {
-    first: Wire(1),
-    n: 32,
-};
-
-/// The wires of the second word.
-pub const Y: Bits = Bits {
-    first: Wire(33),
-    n: 32,
-};
-
-/// The first wire behind the two words.
-pub const FIRST: u32 = 65;
-
-/// The words at the ends of their ranges, unsigned and signed.
+/// The words of 32 bits at the ends of their ranges, unsigned and signed.
 pub const WORDS: [u32; 7] = [0, 1, 2, 0x7fff_ffff, 0x8000_0000, 0xffff_fffe, 0xffff_ffff];
 
+/// Those of 16 bits.
+pub const WORDS_16: [u16; 7] = [0, 1, 2, 0x7fff, 0x8000, 0xfffe, 0xffff];
+
+/// The wires of the first word, which follow wire 0.
+pub fn first_word<const W: u32>() -> Bits
+    ensures first { result.first ≡ 1 }
+    ensures size { result.n ≡ W }
+{
+    Bits {
+        first: Wire(1),
+        n: W,
+    }
+}
+
+/// The wires of the second word.
+pub fn second_word<const W: u32>() -> Bits
+    requires width { IsWidth W }
+    ensures first { result.first ≡ W + 1 }
+    ensures size { result.n ≡ W }
+{
+    Bits {
+        first: Wire(W + 1),
+        n: W,
+    }
+}
+
+/// The first wire behind the two words.
+pub fn behind_words<const W: u32>() -> u32
+    requires width { IsWidth W }
+    ensures { result ≡ 2 * W + 1 }
+{
+    2 * W + 1
+}
+
 /// 1 and the bits of two words.
-pub fn inputs(alloc: Global, x: u32, y: u32) -> Put<ListValues>
+pub fn inputs<const W: u32>(alloc: Global, x: u32, y: u32) -> Put<ListValues>
+    requires width { IsWidth W }
     ensures { IfOk result (λ values. values.broken ≡ false) }
 {
     let mut values = ListValues::new(alloc);
     values.give(F::ONE)?;
-    fill_bits(&mut values, F::of(u64::from(x)), 32)?;
-    fill_bits(&mut values, F::of(u64::from(y)), 32)?;
+    fill_bits(&mut values, F::of(u64::from(x)), W)?;
+    fill_bits(&mut values, F::of(u64::from(y)), W)?;
     Ok(values)
+}
+
+/// A word as a signed number.
+pub fn signed<const W: u32>(word: u32) -> i64
+    requires width { IsWidth W }
+{
+    let number = i64::from(word);
+    if word >> (W - 1) == 0 {
+        number
+    } else {
+        number - (1 << W)
+    }
 }
 
 /// The number that wires spell; a wire past the end counts as 0.

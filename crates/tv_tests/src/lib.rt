@@ -8,6 +8,8 @@ mod bits;
 #[cfg(test)]
 mod comparison;
 #[cfg(test)]
+mod decoding;
+#[cfg(test)]
 mod false_products;
 #[cfg(test)]
 mod inputs;
@@ -22,6 +24,10 @@ mod reading;
 #[cfg(test)]
 mod reading_faults;
 #[cfg(test)]
+mod registers;
+#[cfg(test)]
 mod shifts;
+#[cfg(test)]
+mod sizes;
 #[cfg(test)]
 mod systems;

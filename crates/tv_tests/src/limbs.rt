@@ -1,11 +1,14 @@
 //! Each gadget over the values of its generator, and over assignments that are false.
-ghost use Rattle.std.specs.Prelude.{◌≡◌, ◌≤◌, false};
+ghost use Rattle.std.specs.Prelude.{◌≡◌, ◌+◌, ◌*◌, ◌<◌, ◌≤◌, ◌^◌, false};
 ghost use Rattle.tv_core.specs.Sinks.{Room};
+ghost use Rattle.tv_word.specs.Widths.{IsWidth};
 
-use crate::inputs::{FIRST, WORDS, X, Y, all_hold, inputs, spelt};
+use crate::inputs::{
+    WORDS, WORDS_16, all_hold, behind_words, first_word, inputs, second_word, spelt,
+};
 use std::alloc::Global;
 use std::test::Fail;
-use tv_core::{CountSink, F, ListSink, ListValues, Put, Sink, TestSink, Values};
+use tv_core::{F, ListSink, ListValues, Put, Sink, TestSink, Values};
 use tv_limb::{Split, add, fill_add, fill_split, fill_sub, limbs, split, sub};
 
 #[derive(Clone, Copy, Debug)]
@@ -16,49 +19,60 @@ enum Gadget {
     Split,
 }
 
-fn put<S: Sink>(s: &mut S, gadget: Gadget) -> Put<Split>
+fn put<const W: u32, S: Sink>(s: &mut S, gadget: Gadget) -> Put<Split>
+    requires width { IsWidth W }
     requires room { Room S.meaning s.old 63 64 }
-    requires inputs { 65 ≤ S.meaning.wires s.old }
+    requires inputs { 2 * W + 1 ≤ S.meaning.wires s.old }
 {
+    let (x, y) = (first_word::<W>(), second_word::<W>());
     match gadget {
-        Gadget::Add => add(s, &X, &Y),
-        Gadget::Sub => sub(s, &X, &Y),
+        Gadget::Add => add::<W, S>(s, &x, &y),
+        Gadget::Sub => sub::<W, S>(s, &x, &y),
         Gadget::Split => {
-            let mut number = X.lc();
-            number.plus_scaled(F::of(1 << 30), &Y.lc());
-            split(s, &number, 63)
+            let mut number = x.lc();
+            number.plus_scaled(F::of(1 << 30), &y.lc());
+            split::<W, S>(s, &number, 63)
         }
     }
 }
 
-fn fill<V: Values>(v: &mut V, gadget: Gadget, x: u32, y: u32) -> Put<()>
-    requires { V.giving.broken v.old ≡ false }
+fn fill<const W: u32, V: Values>(v: &mut V, gadget: Gadget, x: u32, y: u32) -> Put<()>
+    requires width { IsWidth W }
+    requires x_word { x < 2 ^ W }
+    requires y_word { y < 2 ^ W }
+    requires whole { V.giving.broken v.old ≡ false }
 {
     match gadget {
-        Gadget::Add => fill_add(v, x, y),
-        Gadget::Sub => fill_sub(v, x, y),
+        Gadget::Add => fill_add::<W, V>(v, x, y),
+        Gadget::Sub => fill_sub::<W, V>(v, x, y),
         Gadget::Split => fill_split(v, F::of(u64::from(x)) + F::of(u64::from(y) << 30), 63),
     }
 }
 
 // What the low and the high part spell, and how many constraints there are.
-fn expected(gadget: Gadget, x: u32, y: u32) -> (u64, u64, u32) {
+fn expected<const W: u32>(gadget: Gadget, x: u32, y: u32) -> (u64, u64, u32)
+    requires width { IsWidth W }
+{
     let (x, y) = (u64::from(x), u64::from(y));
     match gadget {
-        Gadget::Add => ((x + y) % (1 << 32), (x + y) >> 32, 34),
-        Gadget::Sub if x < y => ((1 << 32) + x - y, 1, 34),
-        Gadget::Sub => (x - y, 0, 34),
+        Gadget::Add => ((x + y) % (1 << W), (x + y) >> W, W + 2),
+        Gadget::Sub if x < y => (((1 << 32) + x - y) % (1 << W), 1, W + 2),
+        Gadget::Sub => (x - y, 0, W + 2),
         Gadget::Split => {
             let number = x + (y << 30);
-            (number % (1 << 32), number >> 32, 64)
+            (number % (1 << W), number >> W, 64)
         }
     }
 }
 
 // 1, the bits of both words, and the generator's values.
-fn assignment(alloc: Global, gadget: Gadget, x: u32, y: u32) -> Put<ListValues> {
-    let mut values = inputs(alloc, x, y)?;
-    fill(&mut values, gadget, x, y)?;
+fn assignment<const W: u32>(alloc: Global, gadget: Gadget, x: u32, y: u32) -> Put<ListValues>
+    requires width { IsWidth W }
+    requires x_word { x < 2 ^ W }
+    requires y_word { y < 2 ^ W }
+{
+    let mut values = inputs::<W>(alloc, x, y)?;
+    fill::<W, ListValues>(&mut values, gadget, x, y)?;
     Ok(values)
 }
 
@@ -68,26 +82,38 @@ fn spells(z: &[F], parts: &Split, low: u64, high: u64) -> bool {
 }
 
 // Whether each constraint holds that a gadget puts into a list.
-fn list_holds(alloc: Global, gadget: Gadget, z: &[F]) -> Put<bool> {
-    let mut list = ListSink::new(alloc, FIRST);
-    put(&mut list, gadget)?;
+fn list_holds<const W: u32>(alloc: Global, gadget: Gadget, z: &[F]) -> Put<bool>
+    requires width { IsWidth W }
+{
+    let mut list = ListSink::new(alloc, behind_words::<W>());
+    put::<W, ListSink>(&mut list, gadget)?;
     Ok(all_hold(&list, z))
 }
 
+// Whether a gadget's constraints hold over its own values, which spell what they are to spell.
+fn is_right<const W: u32>(alloc: Global, gadget: Gadget, x: u32, y: u32) -> Put<bool>
+    requires width { IsWidth W }
+    requires x_word { x < 2 ^ W }
+    requires y_word { y < 2 ^ W }
+{
+    let values = assignment::<W>(alloc, gadget, x, y)?;
+    let z = values.as_slice();
+    let (low, high, constraints) = expected::<W>(gadget, x, y);
+    let mut tests = TestSink::over(z, behind_words::<W>());
+    let parts = put::<W, TestSink<'_>>(&mut tests, gadget)?;
+    let held = tests.tested() == constraints && tests.held() == constraints;
+    Ok(held && spells(z, &parts, low, high) && list_holds::<W>(alloc, gadget, z)?)
+}
+
 #[test]
-fn gadgets_hold_over_their_own_values_alone(rt: HostRuntime) -> Result<(), Fail> {
+fn gadgets_of_32_bits_hold_over_their_own_values(rt: HostRuntime) -> Result<(), Fail> {
     for gadget in [Gadget::Add, Gadget::Sub, Gadget::Split] {
         for x in WORDS {
             for y in WORDS {
-                let values = assignment(rt.alloc(), gadget, x, y)?;
-                let z = values.as_slice();
-                let (low, high, constraints) = expected(gadget, x, y);
-                let mut tests = TestSink::over(z, FIRST);
-                let parts = put(&mut tests, gadget)?;
-                assert_eq!(rt; tests.tested(), constraints, "{gadget:?} {x} {y}");
-                assert_eq!(rt; tests.held(), constraints, "{gadget:?} {x} {y}");
-                assert!(rt; spells(z, &parts, low, high), "{gadget:?} {x} {y}");
-                assert!(rt; list_holds(rt.alloc(), gadget, z)?, "{gadget:?} {x} {y}");
+                assert!(rt;
+                    is_right::<32>(rt.alloc(), gadget, x, y)?,
+                    "{gadget:?} {x} {y}"
+                );
             }
         }
     }
@@ -95,18 +121,17 @@ fn gadgets_hold_over_their_own_values_alone(rt: HostRuntime) -> Result<(), Fail>
 }
 
 #[test]
-fn gadgets_have_the_sizes_that_their_texts_say(rt: HostRuntime) -> Result<(), Fail> {
-    // a gadget, the next wire after it, its constraints and terms; the number that is split has 64 terms
-    for (gadget, next, constraints, terms) in [
-        (Gadget::Add, FIRST + 33, 34, 197),
-        (Gadget::Sub, FIRST + 33, 34, 197),
-        (Gadget::Split, FIRST + 63, 64, 253 + 64),
-    ] {
-        let mut counts = CountSink::new(FIRST);
-        put(&mut counts, gadget)?;
-        assert_eq!(rt; counts.wires(), next, "{gadget:?}");
-        assert_eq!(rt; counts.constraints(), constraints, "{gadget:?}");
-        assert_eq!(rt; counts.terms(), terms, "{gadget:?}");
+fn gadgets_of_16_bits_hold_over_their_own_values(rt: HostRuntime) -> Result<(), Fail> {
+    for gadget in [Gadget::Add, Gadget::Sub, Gadget::Split] {
+        for x in WORDS_16 {
+            for y in WORDS_16 {
+                let (x, y) = (u32::from(x), u32::from(y));
+                assert!(rt;
+                    is_right::<16>(rt.alloc(), gadget, x, y)?,
+                    "{gadget:?} {x} {y}"
+                );
+            }
+        }
     }
     Ok(())
 }
@@ -118,9 +143,9 @@ fn sums_and_differences_wrap(rt: HostRuntime) -> Result<(), Fail> {
         (Gadget::Add, 0xffff_ffff, 1, 0, 1),
         (Gadget::Sub, 0, 1, 0xffff_ffff, 1),
     ] {
-        let values = assignment(rt.alloc(), gadget, x, y)?;
+        let values = assignment::<32>(rt.alloc(), gadget, x, y)?;
         let z = values.as_slice();
-        let parts = put(&mut TestSink::over(z, FIRST), gadget)?;
+        let parts = put::<32, TestSink<'_>>(&mut TestSink::over(z, 65), gadget)?;
         assert!(rt; spells(z, &parts, low, high), "{gadget:?}");
     }
     Ok(())
@@ -148,34 +173,38 @@ fn false_assignments_fail(rt: HostRuntime) -> Result<(), Fail> {
         (Gadget::Split, 5, 4, [(32, 0), (33, 1)]),
     ];
     for (gadget, x, y, altered) in trials {
-        let values = assignment(rt.alloc(), gadget, x, y)?;
+        let values = assignment::<32>(rt.alloc(), gadget, x, y)?;
         let mut z = values.as_slice().to_vec(rt.alloc())?;
         for (place, number) in altered {
             let wire: usize = 65 + place;
             assert!(rt; wire < z.len(), "{gadget:?} {x} {y}");
             z[wire] = F::of(number);
         }
-        let mut tests = TestSink::over(&z, FIRST);
-        put(&mut tests, gadget)?;
+        let mut tests = TestSink::over(&z, 65);
+        put::<32, TestSink<'_>>(&mut tests, gadget)?;
         assert!(rt; tests.held() < tests.tested(), "{gadget:?} {x} {y}");
     }
     Ok(())
 }
 
+// Whether the halves of the first word have the values of its low and its high bits.
+fn are_halves<const W: u32>(alloc: Global, x: u32) -> Put<bool>
+    requires width { IsWidth W }
+{
+    let values = inputs::<W>(alloc, x, 0)?;
+    let (low, high) = limbs::<W>(&first_word::<W>());
+    let (x, half) = (u64::from(x), 1 << (W / 2));
+    let z = values.as_slice();
+    Ok(low.value_in(z) == F::of(x % half) && high.value_in(z) == F::of(x / half))
+}
+
 #[test]
 fn limbs_are_the_halves(rt: HostRuntime) -> Result<(), Fail> {
     for x in WORDS {
-        let values = assignment(rt.alloc(), Gadget::Add, x, 0)?;
-        let (low, high) = limbs(&X);
-        let number = u64::from(x);
-        assert!(rt;
-            low.value_in(values.as_slice()) == F::of(number % 65_536),
-            "{x}"
-        );
-        assert!(rt;
-            high.value_in(values.as_slice()) == F::of(number / 65_536),
-            "{x}"
-        );
+        assert!(rt; are_halves::<32>(rt.alloc(), x)?, "{x}");
+    }
+    for x in WORDS_16 {
+        assert!(rt; are_halves::<16>(rt.alloc(), u32::from(x))?, "{x}");
     }
     Ok(())
 }

@@ -1,35 +1,40 @@
 //! The gadget over the values of its generator, and over assignments that are false.
-ghost use Rattle.std.specs.Prelude.{◌≤◌};
+ghost use Rattle.std.specs.Prelude.{◌+◌, ◌*◌, ◌/◌, ◌<◌, ◌≤◌, ◌^◌};
 ghost use Rattle.tv_core.specs.Sinks.{Room};
+ghost use Rattle.tv_word.specs.Widths.{IsWidth};
 
-use crate::inputs::{FIRST, WORDS, X, Y, all_hold, holds, inputs};
+use crate::inputs::{
+    WORDS, WORDS_16, all_hold, behind_words, first_word, holds, inputs, second_word,
+};
 use std::alloc::Global;
 use std::test::Fail;
-use tv_core::{CountSink, F, ListSink, ListValues, Put, Sink, TestSink, Wire};
+use tv_core::{F, ListSink, ListValues, Put, Sink, TestSink, Wire};
 use tv_logic::{Logic, fill_logic, logic};
 
-const CONSTRAINTS: u32 = 26;
-
-fn put<S: Sink>(s: &mut S) -> Put<Logic>
-    requires room { Room S.meaning s.old 26 26 }
-    requires inputs { 65 ≤ S.meaning.wires s.old }
+fn put<const W: u32, S: Sink>(s: &mut S) -> Put<Logic>
+    requires width { IsWidth W }
+    requires room { Room S.meaning s.old (W / 2 + 10) (W / 2 + 10) }
+    requires inputs { 2 * W + 1 ≤ S.meaning.wires s.old }
 {
-    logic(s, &X, &Y)
+    logic::<W, S>(s, &first_word::<W>(), &second_word::<W>())
 }
 
 // 1, the bits of both words, and the generator's values.
-fn assignment(alloc: Global, x: u32, y: u32) -> Put<ListValues> {
-    let mut values = inputs(alloc, x, y)?;
-    fill_logic(&mut values, x, y)?;
+fn assignment<const W: u32>(alloc: Global, x: u32, y: u32) -> Put<ListValues>
+    requires width { IsWidth W }
+    requires y_word { y < 2 ^ W }
+{
+    let mut values = inputs::<W>(alloc, x, y)?;
+    fill_logic::<W, ListValues>(&mut values, x, y)?;
     Ok(values)
 }
 
 // Whether a wire holds a word, and another whether it is 0.
-fn is_word(z: &[F], word: Wire, flag: Wire, number: u32) -> bool {
-    holds(z, word, u64::from(number)) && holds(z, flag, u64::from(number == 0))
+fn is_word(z: &[F], word: Wire, flag: Wire, number: u64) -> bool {
+    holds(z, word, number) && holds(z, flag, u64::from(number == 0))
 }
 
-fn is_logic(z: &[F], answer: &Logic, words: [u32; 4]) -> bool {
+fn is_logic(z: &[F], answer: &Logic, words: [u64; 4]) -> bool {
     let [ands, ors, xors, nots] = words;
     is_word(z, answer.and_word, answer.and_zero, ands)
         && is_word(z, answer.or_word, answer.or_zero, ors)
@@ -38,50 +43,70 @@ fn is_logic(z: &[F], answer: &Logic, words: [u32; 4]) -> bool {
 }
 
 // What the gadget answers, and how many of its constraints hold.
-fn tested(z: &[F]) -> Put<(Logic, u32)> {
-    let mut tests = TestSink::over(z, FIRST);
-    let answer = put(&mut tests)?;
+fn tested<const W: u32>(z: &[F]) -> Put<(Logic, u32)>
+    requires width { IsWidth W }
+{
+    let mut tests = TestSink::over(z, behind_words::<W>());
+    let answer = put::<W, TestSink<'_>>(&mut tests)?;
     Ok((answer, tests.held()))
 }
 
 // Whether each constraint holds that the gadget puts into a list.
-fn list_holds(alloc: Global, z: &[F]) -> Put<bool> {
-    let mut list = ListSink::new(alloc, FIRST);
-    put(&mut list)?;
-    Ok(list.len() == CONSTRAINTS && all_hold(&list, z))
+fn list_holds<const W: u32>(alloc: Global, z: &[F], constraints: u32) -> Put<bool>
+    requires width { IsWidth W }
+{
+    let mut list = ListSink::new(alloc, behind_words::<W>());
+    put::<W, ListSink>(&mut list)?;
+    Ok(list.len() == constraints && all_hold(&list, z))
+}
+
+// The words of the four operations, as plain arithmetic gives them.
+fn wanted<const W: u32>(x: u32, y: u32) -> [u64; 4]
+    requires width { IsWidth W }
+    requires y_word { y < 2 ^ W }
+{
+    let nots = (1 << W) - 1 - u64::from(y);
+    [u64::from(x & y), u64::from(x | y), u64::from(x ^ y), nots]
+}
+
+// Whether the gadget's constraints, so many, hold over its own values, which are the words of the operations.
+fn is_right<const W: u32>(alloc: Global, x: u32, y: u32, constraints: u32) -> Put<bool>
+    requires width { IsWidth W }
+    requires y_word { y < 2 ^ W }
+{
+    let values = assignment::<W>(alloc, x, y)?;
+    let z = values.as_slice();
+    let (answer, held) = tested::<W>(z)?;
+    let right = held == constraints && is_logic(z, &answer, wanted::<W>(x, y));
+    Ok(right && list_holds::<W>(alloc, z, constraints)?)
 }
 
 #[test]
-fn logic_holds_over_its_own_values(rt: HostRuntime) -> Result<(), Fail> {
+fn logic_of_32_bits_holds_over_its_own_values(rt: HostRuntime) -> Result<(), Fail> {
     for x in WORDS {
         for y in WORDS {
-            let values = assignment(rt.alloc(), x, y)?;
-            let z = values.as_slice();
-            assert_eq!(rt; z.len(), 65 + 26, "{x} {y}");
-            let (answer, held) = tested(z)?;
-            assert_eq!(rt; held, CONSTRAINTS, "{x} {y}");
-            assert!(rt; is_logic(z, &answer, [x & y, x | y, x ^ y, !y]), "{x} {y}");
-            assert!(rt; list_holds(rt.alloc(), z)?, "{x} {y}");
+            assert!(rt; is_right::<32>(rt.alloc(), x, y, 26)?, "{x} {y}");
         }
     }
     Ok(())
 }
 
 #[test]
-fn logic_has_the_size_that_its_text_says(rt: HostRuntime) -> Result<(), Fail> {
-    let mut counts = CountSink::new(FIRST);
-    put(&mut counts)?;
-    assert_eq!(rt; counts.constraints(), CONSTRAINTS);
-    assert_eq!(rt; counts.wires(), FIRST + 26);
-    assert_eq!(rt; counts.terms(), 461);
+fn logic_of_16_bits_holds_over_its_own_values(rt: HostRuntime) -> Result<(), Fail> {
+    for x in WORDS_16 {
+        for y in WORDS_16 {
+            let (x, y) = (u32::from(x), u32::from(y));
+            assert!(rt; is_right::<16>(rt.alloc(), x, y, 18)?, "{x} {y}");
+        }
+    }
     Ok(())
 }
 
 #[test]
 fn one_and_two_have_no_bit_in_common(rt: HostRuntime) -> Result<(), Fail> {
-    let values = assignment(rt.alloc(), 1, 2)?;
+    let values = assignment::<32>(rt.alloc(), 1, 2)?;
     let z = values.as_slice();
-    let (answer, _) = tested(z)?;
+    let (answer, _) = tested::<32>(z)?;
     assert!(rt; is_logic(z, &answer, [0, 3, 3, 0xffff_fffd]));
     Ok(())
 }
@@ -108,14 +133,14 @@ fn false_assignments_fail(rt: HostRuntime) -> Result<(), Fail> {
         (1, 1, [(23, 1), (0, 0)]),
     ];
     for (x, y, altered) in trials {
-        let values = assignment(rt.alloc(), x, y)?;
+        let values = assignment::<32>(rt.alloc(), x, y)?;
         let mut z = values.as_slice().to_vec(rt.alloc())?;
         for (place, more) in altered {
             let wire: usize = 65 + place;
             assert!(rt; wire < z.len(), "{x} {y}");
             z[wire] = z[wire] + F::of(more);
         }
-        assert!(rt; tested(&z)?.1 < CONSTRAINTS, "{x} {y}");
+        assert!(rt; tested::<32>(&z)?.1 < 26, "{x} {y}");
     }
     Ok(())
 }

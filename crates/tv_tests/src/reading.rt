@@ -6,9 +6,10 @@ use crate::systems::{COUNTS, SYSTEM, changed, counts_of, files_of, many, reader_
 use std::alloc::Global;
 use std::process::Abort;
 use std::test::Fail;
+use tv_container::ReadRefusal;
 use tv_core::{Counts, F};
 use tv_files::{Files, MemFiles};
-use tv_r1cs_read::{ReadRefusal, Row, SystemReader, Terms, survey};
+use tv_r1cs_read::{Row, SystemReader, Terms, survey};
 
 // The next row.
 fn row_of(reader: &mut SystemReader<'_, MemFiles>) -> Result<Row, Fail> {

@@ -3,8 +3,9 @@ use crate::systems::{SYSTEM, changed, counts_of, files_of, many, reader_of};
 use std::alloc::Global;
 use std::process::Abort;
 use std::test::Fail;
+use tv_container::{ReadRefusal, ReadWhy};
 use tv_files::MemFiles;
-use tv_r1cs_read::{ReadRefusal, ReadWhy, SystemReader, survey};
+use tv_r1cs_read::{SystemReader, survey};
 
 // What the last of so many calls for the next row is refused for; after a refusal each gives the same.
 fn last_refusal(

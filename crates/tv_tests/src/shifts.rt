@@ -1,11 +1,12 @@
 //! The gadget over the values of its generator, and over the same with one wire altered.
-use crate::inputs::{FIRST, X, Y, all_hold, holds, inputs, with_wire};
+ghost use Rattle.std.specs.Prelude.{◌<◌, ◌^◌};
+ghost use Rattle.tv_word.specs.Widths.{IsWidth};
+
+use crate::inputs::{all_hold, behind_words, first_word, holds, inputs, second_word, with_wire};
 use std::alloc::Global;
 use std::test::Fail;
 use tv_core::{F, ListSink, ListValues, Put, TestSink};
 use tv_shift::{Shift, fill_shift, shift};
-
-const CONSTRAINTS: u32 = 51;
 
 const WORDS: [u32; 12] = [
     0,
@@ -22,46 +23,95 @@ const WORDS: [u32; 12] = [
     0xffff_ffff,
 ];
 
+const WORDS_16: [u16; 12] = [
+    0, 1, 2, 5, 8, 15, 16, 0x7fff, 0x8000, 0x8001, 0xfffe, 0xffff,
+];
+
 // 1, the bits of the words, and the generator's values.
-fn assignment(alloc: Global, x: u32, y: u32) -> Put<ListValues> {
-    let mut values = inputs(alloc, x, y)?;
-    fill_shift(&mut values, x, y)?;
+fn assignment<const W: u32>(alloc: Global, x: u32, y: u32) -> Put<ListValues>
+    requires width { IsWidth W }
+    requires x_word { x < 2 ^ W }
+    requires y_word { y < 2 ^ W }
+{
+    let mut values = inputs::<W>(alloc, x, y)?;
+    fill_shift::<W, ListValues>(&mut values, x, y)?;
     Ok(values)
 }
 
-// What the gadget answers, and how many of its constraints hold.
-fn tested(z: &[F]) -> Put<(Shift, u32)> {
-    let mut tests = TestSink::over(z, FIRST);
-    let answer = shift(&mut tests, &X, &Y)?;
-    Ok((answer, tests.held()))
+// What the gadget answers, and whether its constraints hold, of which there are so many.
+fn tested<const W: u32>(z: &[F], constraints: u32) -> Put<(Shift, bool)>
+    requires width { IsWidth W }
+{
+    let mut tests = TestSink::over(z, behind_words::<W>());
+    let answer = shift::<W, TestSink<'_>>(&mut tests, &first_word::<W>(), &second_word::<W>())?;
+    Ok((answer, tests.held() == constraints))
 }
 
 // Whether each constraint holds that the gadget puts into a list.
-fn list_holds(alloc: Global, z: &[F]) -> Put<bool> {
-    let mut list = ListSink::new(alloc, FIRST);
-    shift(&mut list, &X, &Y)?;
-    Ok(list.len() == CONSTRAINTS && all_hold(&list, z))
+fn list_holds<const W: u32>(alloc: Global, z: &[F], constraints: u32) -> Put<bool>
+    requires width { IsWidth W }
+{
+    let mut list = ListSink::new(alloc, behind_words::<W>());
+    shift::<W, ListSink>(&mut list, &first_word::<W>(), &second_word::<W>())?;
+    Ok(list.len() == constraints && all_hold(&list, z))
 }
 
-fn is_shift(z: &[F], answer: &Shift, x: u32, y: u32) -> bool {
-    let (left, right) = if y < 32 { (x << y, x >> y) } else { (0, 0) };
-    holds(z, answer.left, u64::from(left)) && holds(z, answer.right, u64::from(right))
+fn is_shift<const W: u32>(z: &[F], answer: &Shift, x: u32, y: u32) -> bool
+    requires width { IsWidth W }
+{
+    let x = u64::from(x);
+    let (left, right) = if y < W {
+        ((x << y) % (1 << W), x >> y)
+    } else {
+        (0, 0)
+    };
+    holds(z, answer.left, left) && holds(z, answer.right, right)
+}
+
+// Whether the gadget's constraints hold over its own values, which are the word shifted.
+fn is_right<const W: u32>(alloc: Global, x: u32, y: u32, constraints: u32) -> Put<bool>
+    requires width { IsWidth W }
+    requires x_word { x < 2 ^ W }
+    requires y_word { y < 2 ^ W }
+{
+    let values = assignment::<W>(alloc, x, y)?;
+    let z = values.as_slice();
+    let (answer, held) = tested::<W>(z, constraints)?;
+    Ok(held && is_shift::<W>(z, &answer, x, y) && list_holds::<W>(alloc, z, constraints)?)
+}
+
+// Whether one answer or the other may be altered.
+fn is_free<const W: u32>(alloc: Global, x: u32, y: u32, constraints: u32) -> Result<bool, Fail>
+    requires width { IsWidth W }
+    requires x_word { x < 2 ^ W }
+    requires y_word { y < 2 ^ W }
+{
+    let values = assignment::<W>(alloc, x, y)?;
+    let z = values.as_slice();
+    let (answer, _) = tested::<W>(z, constraints)?;
+    let left = with_wire(alloc, z, answer.left, |number| number + F::ONE)?;
+    let right = with_wire(alloc, z, answer.right, |number| number + F::ONE)?;
+    Ok(tested::<W>(&left, constraints)?.1 || tested::<W>(&right, constraints)?.1)
 }
 
 #[test]
-fn shifts_hold_over_their_own_values_alone(rt: HostRuntime) -> Result<(), Fail> {
+fn shifts_of_32_bits_hold_over_their_own_values_alone(rt: HostRuntime) -> Result<(), Fail> {
     for x in WORDS {
         for y in WORDS {
-            let values = assignment(rt.alloc(), x, y)?;
-            let z = values.as_slice();
-            let (answer, held) = tested(z)?;
-            assert_eq!(rt; held, CONSTRAINTS, "{x} {y}");
-            assert!(rt; is_shift(z, &answer, x, y), "{x} {y}");
-            assert!(rt; list_holds(rt.alloc(), z)?, "{x} {y}");
-            for wire in [answer.left, answer.right] {
-                let altered = with_wire(rt.alloc(), z, wire, |number| number + F::ONE)?;
-                assert!(rt; tested(&altered)?.1 < CONSTRAINTS, "{x} {y}");
-            }
+            assert!(rt; is_right::<32>(rt.alloc(), x, y, 51)?, "{x} {y}");
+            assert!(rt; !is_free::<32>(rt.alloc(), x, y, 51)?, "{x} {y}");
+        }
+    }
+    Ok(())
+}
+
+#[test]
+fn shifts_of_16_bits_hold_over_their_own_values_alone(rt: HostRuntime) -> Result<(), Fail> {
+    for x in WORDS_16 {
+        for y in WORDS_16 {
+            let (x, y) = (u32::from(x), u32::from(y));
+            assert!(rt; is_right::<16>(rt.alloc(), x, y, 28)?, "{x} {y}");
+            assert!(rt; !is_free::<16>(rt.alloc(), x, y, 28)?, "{x} {y}");
         }
     }
     Ok(())

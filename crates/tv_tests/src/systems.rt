@@ -3,9 +3,10 @@ ghost use Rattle.std.specs.Prelude.{◌+◌, ◌≤◌, length};
 
 use std::alloc::{AllocError, Global};
 use std::test::Fail;
+use tv_container::ReadRefusal;
 use tv_core::Counts;
 use tv_files::MemFiles;
-use tv_r1cs_read::{ReadRefusal, SystemReader, survey};
+use tv_r1cs_read::{SystemReader, survey};
 
 /// Four wires, wire 1 public, and the constraint that wire 1 times wire 2 is wire 3.
 pub const SYSTEM: [u8; 168] = [
