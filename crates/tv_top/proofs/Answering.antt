@@ -1,169 +1,358 @@
--- What a call promises, from what reading found and from saying a line.
-use Rattle.std.proofs.Common.{◌≡◌, ℕ, ◌^◌, ◌==◌, ◌||◌, ◌⊎◌, List, [], ◌∷◌, Bool, true, false, ltb, Option, Some, None, Result, Ok, Err, inl, inr, refl, sym, ap, ◌∙◌, arith, rules, codes}
-use Rattle.std.specs.Str.{bytes_eq}
-use Rattle.tv_files.specs.Outside.{Names, Outside, Rose}
-use Rattle.tv_top.specs.declared.limits.TheConstants.{STEPS}
+-- What a call promises, from what reading found, from writing and from saying a line.
+use Rattle.std.proofs.Common.{◌≡◌, ◌≢◌, ℕ, ◌⊎◌, ◌≤◌, Bool, false, List, [], ◌∷◌, ◌++◌, take, Option, Some, None, option_map, true, Result, Ok, Err, inl, inr, refl, sym, ap, ◌∙◌, arith, rules}
+use Rattle.tv_files.specs.Outside.{Names, Outside, OnlyWrites}
+use Rattle.tv_word.specs.Counts.{Rose}
+use Rattle.tv_top.specs.declared.place.Amount.{Amount}
+use Rattle.tv_top.specs.declared.refusal.Bad.{Bad}
+use Rattle.tv_top.specs.declared.refusal.Bad.TheVariants as bad
+use Rattle.tv_top.specs.declared.refusal.Cut.{Cut}
+use Rattle.tv_top.specs.declared.refusal.Cut.TheVariants as cut
+use Rattle.tv_top.specs.declared.refusal.Ending.{Ending}
+use Rattle.tv_top.specs.declared.refusal.Ending.TheVariants.{Refused, Stopped, Finished}
+use Rattle.tv_top.specs.declared.refusal.Finish.{Finish}
+use Rattle.tv_top.specs.declared.refusal.Finish.TheVariants as finishes
+use Rattle.tv_top.specs.declared.refusal.Quantity.{Quantity}
+use Rattle.tv_top.specs.declared.refusal.Quantity.TheVariants as quantity
+use Rattle.tv_top.specs.declared.refusal.Refusal.{Refusal}
+use Rattle.tv_top.specs.declared.refusal.Refusal.TheVariants as refusal
+use Rattle.tv_top.specs.declared.refusal.Stop.{Stop}
+use Rattle.tv_top.specs.declared.refusal.Stop.TheVariants.{Fault, Memory, Contents}
+use Rattle.tv_top.specs.declared.refusal.Size.{Size}
+use Rattle.tv_top.specs.declared.status.NoWhy.{NoWhy}
+use Rattle.tv_top.specs.declared.status.What.{What}
+use Rattle.tv_top.specs.declared.status.What.TheVariants.{Steps}
+use Rattle.tv_check.specs.declared.verdict.Verdict.TheVariants as verdict
 use Rattle.tv_top.specs.declared.status.Status.{Status}
-use Rattle.tv_top.specs.declared.status.Status.TheVariants.{Usage, FileFault, Memory, SameName}
+use Rattle.tv_top.specs.declared.status.Status.TheVariants as status
+use Rattle.tv_step.specs.declared.end.End.TheVariants as end
+use Rattle.tv_top.specs.Answers.{words_of, MayStop, quantities_of, IsOfWords, ChangedAt, IsSaid, Answers}
 use Rattle.tv_top.specs.Codes.{says}
-use Rattle.tv_top.specs.Outcome.{Look, Job, job, Write, Answer, status_of, answer_by, run_job, outcome}
-use Rattle.tv_top.specs.Finds.{IsFound, Finds}
-use Rattle.tv_top.specs.Ends.{Said, SaidPart, Ends, IsConcluded, Concludes}
-use Rattle.tv_top.specs.Answers.{IsRead, written_names, IsReport, ChangedAt, IsSaid, Answers}
-use Rattle.tv_word.specs.Numeral.{numeral}
-use Rattle.tv_top.proofs.Concluding.{concluded_since, ends_answered, said_nothing}
+use Rattle.tv_top.specs.Ends.{files_with, IsCutAt, IsCutInWriting, Said, SaidPart, Ends, IsConcluded, Concludes, Writes, Closes, Finishes}
+use Rattle.tv_top.specs.Finds.{IsOneOf, IsFound, Finds}
+use Rattle.tv_top.specs.Plan.{Named, Look, Outcome, Plan, Write, Answer, files_of, answer_by, answer_of, ending_by, comes_by}
+use Rattle.tv_top.proofs.Looking.{finds_comes}
+use Rattle.tv_top.specs.Status.{quantity_what, size_what, bad_status, refusal_status, stop_status, finish_status, ending_status}
 
--- a status that was concluded was said, or a part of what it says
-pub said_concluded : (report : Option (List ℕ)) (status : Status) (words : ℕ) (old new : Outside) (result : Status) →
-    IsConcluded status (says report status) words old new result →
-    IsSaid report words old new result
-said_concluded report status words old new result (inl answered) = inl (rw answered.0 answered.1)
-said_concluded report status words old new result (inr (inl fault)) = inr (inl fault.0, status, fault.2)
-said_concluded report status words old new result (inr (inr memory)) = inr (inr memory.0, status, memory.2)
+-- ---- each status comes from one stage
 
--- a number of steps is refused by no fault of a file
-run_faultless : (text tape aux : List ℕ) (steps : Option ℕ) (word : ℕ) → ¬ (run_job text tape aux steps ≡ Err (FileFault word))
-run_faultless text tape aux None word e = cc
-run_faultless text tape aux (Some steps) word e = by_test ((steps == 0) || ltb STEPS steps) refl
-  where
-    by_test : (test : Bool) → (steps == 0) || ltb STEPS steps ≡ test → ⊥
-    by_test true is = let g = rw is at e in cc
-    by_test false is = let g = rw is at e in cc
+-- the refusal of words that a status is
+abbrev of_words : Status → Option Refusal
+of_words status.Usage = Some refusal.Usage
+of_words (status.SameName first second) = Some (refusal.SameName first second)
+of_words (status.Limit Steps has most) = Some (refusal.Limit quantity.Steps has most)
+of_words _ = None
 
--- the words are refused by no fault of a file
-job_faultless : (words : List (List ℕ)) (word : ℕ) → ¬ (job words ≡ Err (FileFault word))
-job_faultless [] word e = cc
-job_faultless (a ∷ []) word e = cc
-job_faultless (a ∷ b ∷ []) word e = cc
-job_faultless (a ∷ b ∷ c ∷ []) word e = by_name (bytes_eq a (codes "asm")) (bytes_eq a (codes "disasm")) (bytes_eq b c) refl refl refl
-  where
-    by_name : (asm disasm same : Bool) → bytes_eq a (codes "asm") ≡ asm → bytes_eq a (codes "disasm") ≡ disasm → bytes_eq b c ≡ same → ⊥
-    by_name true disasm true is not are = let g = rw (is, are) at e in cc
-    by_name true disasm false is not are = let g = rw (is, are) at e in cc
-    by_name false true true not is are = let g = rw (not, is, are) at e in cc
-    by_name false true false not is are = let g = rw (not, is, are) at e in cc
-    by_name false false same not neither are = let g = rw (not, neither) at e in cc
-job_faultless (a ∷ b ∷ c ∷ d ∷ []) word e = by_name (bytes_eq a (codes "check")) refl
-  where
-    by_name : (test : Bool) → bytes_eq a (codes "check") ≡ test → ⊥
-    by_name true is = let g = rw is at e in cc
-    by_name false is = let g = rw is at e in cc
-job_faultless (a ∷ b ∷ c ∷ d ∷ f ∷ []) word e = by_name (bytes_eq a (codes "run")) refl
-  where
-    by_name : (test : Bool) → bytes_eq a (codes "run") ≡ test → ⊥
-    by_name true is = let g = rw is at e in run_faultless b c d (numeral 10 (2 ^ 64) f) word g
-    by_name false is = let g = rw is at e in cc
-job_faultless (a ∷ b ∷ c ∷ d ∷ f ∷ g ∷ rest) word e = cc
+words_is : (why : Refusal) → of_words (refusal_status why) ≡ Some why
+words_is refusal.Usage = refl
+words_is (refusal.SameName first second) = refl
+words_is (refusal.Limit quantity.Steps has most) = refl
 
--- the cause of an answer that was concluded: the status had it already, or saying it had
-pub caused_concluded : (status : Status) (says : Option (List ℕ)) (words : ℕ) (old new : Outside) (result : Status) (word : ℕ) →
-    IsConcluded status says words old new result → result ≡ FileFault word → (status ≡ FileFault word) ⊎ ((word ≡ words) × Rose old.say_faults new.say_faults)
-caused_concluded status says words old new result word (inl answered) e = inl (sym answered.0 ∙ e)
-caused_concluded status says words old new result word (inr (inl fault)) e = inr (cc, fault.1)
-caused_concluded status says words old new result word (inr (inr memory)) e = cc
+-- each refusal of words has a status of its own
+words_same : (why other : Refusal) → refusal_status why ≡ refusal_status other → why ≡ other
+words_same why other e = let same : Some why ≡ Some other = sym (words_is why) ∙ ap of_words e ∙ words_is other in cc
 
-pub usage_concluded : (status : Status) (says : Option (List ℕ)) (words : ℕ) (old new : Outside) (result : Status) →
-    IsConcluded status says words old new result → result ≡ Usage → status ≡ Usage
-usage_concluded status says words old new result (inl answered) e = sym answered.0 ∙ e
-usage_concluded status says words old new result (inr (inl fault)) e = cc
-usage_concluded status says words old new result (inr (inr memory)) e = cc
+-- it is one of the two refusals that words alone are answered, limits aside
+abbrev is_plain : Status → Bool
+is_plain status.Usage = true
+is_plain (status.SameName first second) = true
+is_plain _ = false
 
-pub same_name_concluded : (status : Status) (says : Option (List ℕ)) (words : ℕ) (old new : Outside) (result : Status) (first second : ℕ) →
-    IsConcluded status says words old new result → result ≡ SameName first second → status ≡ SameName first second
-same_name_concluded status says words old new result first second (inl answered) e = sym answered.0 ∙ e
-same_name_concluded status says words old new result first second (inr (inl fault)) e = cc
-same_name_concluded status says words old new result first second (inr (inr memory)) e = cc
+-- the quantity of the limit that a status is
+abbrev limit_in : Status → Option What
+limit_in (status.Limit what has most) = Some what
+limit_in _ = None
 
--- a fault is no refusal of words
-other_cause : (refused : Status) (P : Type 0) (words : List (List ℕ)) (word : ℕ) → job words ≡ Err refused → (refused ≡ FileFault word) ⊎ P → P
-other_cause refused P words word e (inl is) = absurd (job_faultless words word (rw is at e))
-other_cause refused P words word e (inr p) = p
+-- what refused contents are answered is neither a refusal of words nor a fault
+bad_is : (b : Bad) → (is_plain (bad_status b) ≡ false) × ((word : ℕ) → ¬ (bad_status b ≡ status.FileFault word))
+bad_is (bad.Program line why) = (refl, λ word e. cc)
+bad_is (bad.Tape at item) = (refl, λ word e. cc)
+bad_is (bad.System at why) = (refl, λ word e. cc)
+bad_is (bad.Witness at why) = (refl, λ word e. cc)
+bad_is (bad.Image len) = (refl, λ word e. cc)
+bad_is (bad.Limit what has most) = (refl, λ word e. cc)
 
--- files that are as they were changed at no name
-pub unchanged : (names : List (List ℕ)) (old new : Option Names) → new ≡ old → ChangedAt names old new
+stop_is : (stop : Stop) → is_plain (stop_status stop) ≡ false
+stop_is (Fault word) = refl
+stop_is Memory = refl
+stop_is (Contents b) = (bad_is b).0
+
+-- a limit is answered to a file that passes it
+stop_limit : (stop : Stop) (what : What) → limit_in (stop_status stop) ≡ Some what → (size : Size) × (has most : ℕ) × (stop ≡ Contents (bad.Limit size has most)) × (size_what size ≡ what)
+stop_limit (Fault word) what e = cc
+stop_limit Memory what e = cc
+stop_limit (Contents (bad.Program line why)) what e = cc
+stop_limit (Contents (bad.Tape at item)) what e = cc
+stop_limit (Contents (bad.System at why)) what e = cc
+stop_limit (Contents (bad.Witness at why)) what e = cc
+stop_limit (Contents (bad.Image len)) what e = cc
+stop_limit (Contents (bad.Limit size has most)) what e = (size, has, most, refl, cc)
+
+stop_faulty : (stop : Stop) (word : ℕ) → stop_status stop ≡ status.FileFault word → stop ≡ Fault word
+stop_faulty (Fault other) word e = cc
+stop_faulty Memory word e = cc
+stop_faulty (Contents b) word e = absurd ((bad_is b).1 word e)
+
+-- a good end is done, or a no
+finish_good : (finish : Finish) → (finish_status finish ≡ status.Done) ⊎ ((why : NoWhy) × (finish_status finish ≡ status.No why))
+finish_good finishes.Quiet = inl refl
+finish_good (finishes.Run (end.Answer value step)) = inl refl
+finish_good (finishes.Run (end.Undefined op step)) = inr (_, refl)
+finish_good (finishes.Run (end.Silent steps)) = inr (_, refl)
+finish_good (finishes.Verdict verdict.Yes) = inl refl
+finish_good (finishes.Verdict (verdict.WireCount has wants)) = inr (_, refl)
+finish_good (finishes.Verdict (verdict.NoPublic at)) = inr (_, refl)
+finish_good (finishes.Verdict (verdict.NoConstraint at)) = inr (_, refl)
+
+finish_is : (finish : Finish) → of_words (finish_status finish) ≡ None
+finish_is finish = elim (finish_good finish) [ inl done ↦ ap of_words done | inr other ↦ ap of_words other.1 ]
+
+-- ---- a limit on a quantity that words tell is of no file
+
+-- no file is refused for this quantity
+abbrev IsNoSize : What → List Size → Type 0
+IsNoSize what [] = Unit {0}
+IsNoSize what (size ∷ sizes) = (what ≢ size_what size) × IsNoSize what sizes
+
+-- no file is refused for a quantity that words tell
+abbrev pub AreApart : List Amount → List Size → Type 0
+AreApart [] sizes = Unit {0}
+AreApart (amount ∷ amounts) sizes = IsNoSize (quantity_what amount.what) sizes × AreApart amounts sizes
+
+no_size : (what : What) (sizes : List Size) (size : Size) → IsNoSize what sizes → IsOneOf size sizes → what ≢ size_what size
+no_size what [] size none at = absurd at
+no_size what (first ∷ sizes) size none (inl is) = rw is none.0
+no_size what (first ∷ sizes) size none (inr at) = no_size what sizes size none.1 at
+
+apart_from : (amounts : List Amount) (sizes : List Size) (quantity : Quantity) (size : Size) → AreApart amounts sizes → IsOneOf quantity (quantities_of amounts) → IsOneOf size sizes → quantity_what quantity ≢ size_what size
+apart_from [] sizes quantity size apart told at = absurd told
+apart_from (amount ∷ amounts) sizes quantity size apart (inl is) at = rw is (no_size (quantity_what amount.what) sizes size apart.0 at)
+apart_from (amount ∷ amounts) sizes quantity size apart (inr told) at = apart_from amounts sizes quantity size apart.1 told at
+
+-- a limit that a look was refused for is of one of these
+abbrev IsWithin : List Size → Stop → Type 0
+IsWithin sizes stop = (what : Size) (has most : ℕ) → stop ≡ Contents (bad.Limit what has most) → IsOneOf what sizes
+
+-- what a look is answered that was refused isn't a refusal of words
+stop_refuses : (plan : Plan) (stop : Stop) (why : Refusal) → AreApart plan.amounts plan.sizes → IsWithin plan.sizes stop → IsOfWords (Ok plan) why → ¬ (stop_status stop ≡ refusal_status why)
+stop_refuses plan stop refusal.Usage apart limited told e = let none = stop_is stop in let some : is_plain (stop_status stop) ≡ true = ap is_plain e in cc
+stop_refuses plan stop (refusal.SameName first second) apart limited told e = let none = stop_is stop in let some : is_plain (stop_status stop) ≡ true = ap is_plain e in cc
+stop_refuses plan stop (refusal.Limit quantity has most) apart limited told e =
+    let found = stop_limit stop (quantity_what quantity) (ap limit_in e) in
+    apart_from plan.amounts plan.sizes quantity found.0 apart told (limited found.0 found.1 found.2 found.3) (sym found.4)
+
+may_stop : (sizes : List Size) (stop : Stop) → IsWithin sizes stop → MayStop sizes stop
+may_stop sizes (Fault word) limited = tt
+may_stop sizes Memory limited = tt
+may_stop sizes (Contents (bad.Program line why)) limited = tt
+may_stop sizes (Contents (bad.Tape at item)) limited = tt
+may_stop sizes (Contents (bad.System at why)) limited = tt
+may_stop sizes (Contents (bad.Witness at why)) limited = tt
+may_stop sizes (Contents (bad.Image len)) limited = tt
+may_stop sizes (Contents (bad.Limit what has most)) limited = limited what has most refl
+
+finish_faultless : (finish : Finish) (word : ℕ) → ¬ (finish_status finish ≡ status.FileFault word)
+finish_faultless finish word e = elim (finish_good finish) [ inl done ↦ cc | inr other ↦ let is = other.1 in cc ]
+
+-- ---- what was concluded
+
+refuses_concluded : (ending : Ending) (words : ℕ) (old new : Outside) (result : Status) (why : Refusal) → IsConcluded ending words old new result → result ≡ refusal_status why → ending_status ending ≡ refusal_status why
+refuses_concluded ending words old new result why (inl answered) e = sym answered.0 ∙ e
+refuses_concluded ending words old new result why (inr (inl fault)) e = let h : None ≡ Some why = ap of_words (sym fault.0 ∙ e) ∙ words_is why in cc
+refuses_concluded ending words old new result why (inr (inr memory)) e = let h : None ≡ Some why = ap of_words (sym memory.0 ∙ e) ∙ words_is why in cc
+
+caused_concluded : (ending : Ending) (words : ℕ) (old new : Outside) (result : Status) (word : ℕ) → IsConcluded ending words old new result → result ≡ status.FileFault word →
+    (ending_status ending ≡ status.FileFault word) ⊎ ((word ≡ words) × Rose old.say_faults new.say_faults)
+caused_concluded ending words old new result word (inl answered) e = inl (sym answered.0 ∙ e)
+caused_concluded ending words old new result word (inr (inl fault)) e = inr (cc, fault.1)
+caused_concluded ending words old new result word (inr (inr memory)) e = cc
+
+said_concluded : (ending : Ending) (words : ℕ) (old new : Outside) (result : Status) → IsConcluded ending words old new result → IsSaid ending words old new result
+said_concluded ending words old new result (inl answered) = inl answered
+said_concluded ending words old new result (inr (inl fault)) = inr (inl fault.0, fault.2)
+said_concluded ending words old new result (inr (inr memory)) = inr (inr memory.0, memory.2)
+
+said_since : (old mid new : Outside) (says : Option (List ℕ)) → mid.said ≡ old.said → Said mid new says → Said old new says
+said_since old mid new None same said = said ∙ same
+said_since old mid new (Some bytes) same said = said ∙ ap (option_map (λ before. before ++ bytes)) same
+
+part_since : (old mid new : Outside) (says : Option (List ℕ)) → mid.said ≡ old.said → SaidPart mid new says → SaidPart old new says
+part_since old mid new says same part = (part.0, part.1, part.2, rw same at part.3)
+
+concluded_since : (ending : Ending) (words : ℕ) (old mid new : Outside) (result : Status) → mid.said ≡ old.said → old.say_faults ≤ mid.say_faults → old.wants ≤ mid.wants →
+    IsConcluded ending words mid new result → IsConcluded ending words old new result
+concluded_since ending words old mid new result same faults wants (inl answered) = inl (answered.0, said_since old mid new (says ending) same answered.1)
+concluded_since ending words old mid new result same faults wants (inr (inl fault)) = inr (inl (fault.0, omega (arith, fault.1), part_since old mid new (says ending) same fault.2))
+concluded_since ending words old mid new result same faults wants (inr (inr memory)) = inr (inr (memory.0, omega (arith, memory.1), part_since old mid new (says ending) same memory.2))
+
+ends_answered : (answer : Answer) (words : ℕ) (files : Names) (old new : Outside) (result : Status) → new.contents ≡ files_with answer.writes (Some files) →
+    IsConcluded answer.ending words old new result → Ends answer words files old new result
+ends_answered answer words files old new result held (inl answered) = inl (record { status = answered.0; contents = held; said = answered.1 })
+ends_answered answer words files old new result held (inr (inl fault)) = inr (inr (inr (inl (fault.0, record { contents = held; said = fault.2 }))))
+ends_answered answer words files old new result held (inr (inr memory)) = inr (inr (inr (inr (memory.0, inr (inr (record { contents = held; said = memory.2 }))))))
+
+-- an end of which nothing is said
+silent : (ending : Ending) (words : ℕ) (old new : Outside) (result : Status) → says ending ≡ None → IsConcluded ending words old new result → (result ≡ ending_status ending) × (new.said ≡ old.said)
+silent ending words old new result none (inl answered) = (answered.0, rw none at answered.1)
+silent ending words old new result none (inr (inl fault)) = let part = fault.2 in cc
+silent ending words old new result none (inr (inr memory)) = let part = memory.2 in cc
+
+-- ---- what was files_with
+
+unchanged : (names : List Named) (old new : Option Names) → new ≡ old → ChangedAt names old new
 unchanged [] old new same = same
-unchanged (name ∷ names) old new same = inl (unchanged names old new same)
+unchanged (n ∷ ns) old new same = inl (unchanged ns old new same)
+
+changed_whole : (names : List Named) (bytes : List (List ℕ)) (old : Option Names) → ChangedAt names old (files_with (files_of names bytes) old)
+changed_whole [] bytes old = refl
+changed_whole (n ∷ ns) [] old = inl (unchanged ns old old refl)
+changed_whole (n ∷ ns) (b ∷ bs) old = inr (b, changed_whole ns bs _)
+
+changed_cut : (word : ℕ) (names : List Named) (bytes : List (List ℕ)) (old new : Option Names) → IsCutAt word (files_of names bytes) old new → ChangedAt names old new
+changed_cut word [] bytes old new cut = absurd cut
+changed_cut word (n ∷ ns) [] old new cut = absurd cut
+changed_cut word (n ∷ ns) (b ∷ bs) old new (inl (is, inl same)) = inl (unchanged ns old new same)
+changed_cut word (n ∷ ns) (b ∷ bs) old new (inl (is, inr part)) = inr (take part.0 b, unchanged ns _ new part.1)
+changed_cut word (n ∷ ns) (b ∷ bs) old new (inr later) = inr (b, changed_cut word ns bs _ new later)
+
+cut_at : (word : ℕ) (names : List Named) (bytes : List (List ℕ)) (old new : Option Names) → IsCutAt word (files_of names bytes) old new → IsOneOf word (words_of names)
+cut_at word [] bytes old new cut = absurd cut
+cut_at word (n ∷ ns) [] old new cut = absurd cut
+cut_at word (n ∷ ns) (b ∷ bs) old new (inl here) = inl here.0
+cut_at word (n ∷ ns) (b ∷ bs) old new (inr later) = inr (cut_at word ns bs _ new later)
+
+-- ---- writing, and what follows on it
+
+pub finishes_by : (writes : List Write) (finish : Finish) (words : ℕ) (written : Result (Unit {0}) Cut) (old mid new : Outside) (result : Status) →
+    Writes writes old mid written → Closes written finish words mid new result → Finishes writes finish words old new result
+finishes_by writes finish words (Ok done) old mid new result writing closes = inl (mid, writing, closes)
+finishes_by writes finish words (Err why) old mid new result writing closes = let same = closes.1 in inr (why, closes.0, rw same writing)
+
+-- ---- the exits
 
 -- words that are refused
-pub answers_refused : (words : List (List ℕ)) (count : ℕ) (status : Status) (old new : Outside) (result : Status) → job words ≡ Err status →
-    Concludes status (says None status) count old new result → Answers (job words) count old new result
-answers_refused words count status old new result refused concludes = rw refused (record {
-  ends = λ files told. ends_answered None 0 status count files old new result (concludes.contents ∙ told) concludes.ended;
+pub answers_refused : (request : Result Plan Refusal) (words : ℕ) (why : Refusal) (old new : Outside) (result : Status) → request ≡ Err why → Concludes (Refused why) words old new result → Answers request words old new result
+answers_refused request words why old new result refused concludes = rw refused (record {
+  ends = λ files told. ends_answered (answer_of (Err why) files) words files old new result (concludes.contents ∙ told) concludes.ended;
   absent = λ files told. inl concludes.absent;
-  refused = λ other e. let same : status ≡ other = cc in rw (← same) concludes.ended;
-  usage = λ e. ap Err (usage_concluded status (says None status) count old new result concludes.ended e);
-  same_name = λ first second e. ap Err (same_name_concluded status (says None status) count old new result first second concludes.ended e);
-  caused = λ word e. inr (inr (other_cause status _ words word refused (caused_concluded status (says None status) count old new result word concludes.ended e)));
-  said = (None, refl, said_concluded None status count old new result concludes.ended);
+  refused = λ other e. let same : why ≡ other = cc in rw (← same) concludes.ended;
+  refuses = λ other told e. ap Err (words_same why other (refuses_concluded (Refused why) words old new result other concludes.ended e));
+  caused = λ word e. elim (caused_concluded (Refused why) words old new result word concludes.ended e) [
+    | inl is ↦ absurd (let h : None ≡ Some why = ap of_words (sym is) ∙ words_is why in cc)
+    | inr cause ↦ inr (inr cause)
+  ];
+  said = (Refused why, refl, said_concluded (Refused why) words old new result concludes.ended);
   contents = concludes.contents;
   later = concludes.later;
 })
 
--- a look that was refused, and then said, ends the call as is due
-ends_stopped : {X A : Type 0} (view : X → A) (status : A → Status) (writes : A → List Write) (report : Option (List ℕ)) (due : Look A) (why : Status) (count : ℕ)
-    (files : Names) (old new : Outside) (result : Status) → new.contents ≡ old.contents → old.contents ≡ Some files → IsFound view due (Err why) →
-    IsConcluded why (says report why) count old new result → Ends (answer_by status writes report due) count files old new result
-ends_stopped view status writes report due why count files old new result same told (inl is) concluded =
-    rw is (ends_answered report due.at why count files old new result (same ∙ told) concluded)
-ends_stopped view status writes report due why count files old new result same told (inr (inl fault)) concluded =
-    let nothing = said_nothing why (says report why) count old new result (rw fault.1 refl) concluded in
-    inr (inl (fault.0, nothing.0 ∙ fault.1, fault.2, record { contents = same; said = nothing.1 }))
-ends_stopped view status writes report due why count files old new result same told (inr (inr memory)) concluded =
-    let nothing = said_nothing why (says report why) count old new result (rw memory refl) concluded in
-    inr (inr (inr (inr (nothing.0 ∙ memory, inl (record { contents = same; said = nothing.1 })))))
+ends_stopped : (places : List Named) (look : Look Outcome) (stop : Stop) (words : ℕ) (files : Names) (old new : Outside) (result : Status) → new.contents ≡ old.contents → old.contents ≡ Some files →
+    IsFound (λ (o : Outcome). o) look (Err stop) → IsConcluded (Stopped stop) words old new result → Ends (answer_by places look) words files old new result
+ends_stopped places look (Contents bad) words files old new result same told is concluded =
+    rw is (ends_answered (record { looked = look.at; writes = []; ending = Stopped (Contents bad) }) words files old new result (same ∙ told) concluded)
+ends_stopped places look (Fault word) words files old new result same told within concluded =
+    let nothing = silent (Stopped (Fault word)) words old new result refl concluded in
+    inr (inl (word, nothing.0, within, record { contents = same; said = nothing.1 }))
+ends_stopped places look Memory words files old new result same told any concluded =
+    let nothing = silent (Stopped Memory) words old new result refl concluded in
+    inr (inr (inr (inr (nothing.0, inl (record { contents = same; said = nothing.1 })))))
 
--- a job whose look was refused
-pub answers_stopped : {X A : Type 0} (asked : Job) (view : X → A) (status : A → Status) (writes : A → List Write) (report : Option (List ℕ)) (due : Names → Look A) (why : Status)
-    (count : ℕ) (old mid new : Outside) (result : Status) →
-    ((files : Names) → outcome (Ok asked) files ≡ answer_by status writes report (due files)) → IsReport (Ok asked) report →
-    Finds view (IsRead (Ok asked)) due old mid (Err why) → Concludes why (says report why) count mid new result → Answers (Ok asked) count old new result
-answers_stopped asked view status writes report due why count old mid new result is_outcome is_report finds concludes =
-    let concluded = concluded_since why (says report why) count old mid new result finds.only concludes.ended in
+-- a plan whose files were refused
+answers_refused_files : (plan : Plan) (stop : Stop) (words : ℕ) (old mid new : Outside) (result : Status) → AreApart plan.amounts plan.sizes → Finds (λ (o : Outcome). o) (words_of plan.reads) plan.sizes plan.comes old mid (Err stop) →
+    Concludes (Stopped stop) words mid new result → Answers (Ok plan) words old new result
+answers_refused_files plan stop words old mid new result apart finds concludes =
+    let concluded = concluded_since (Stopped stop) words old mid new result finds.only.said (omega arith) (omega arith) concludes.ended in
     let same : new.contents ≡ old.contents = concludes.contents ∙ finds.only.contents in
+    let within : IsWithin plan.sizes stop = λ what has most e. finds.limits what has most (ap Err e) in
     record {
-      ends = λ files told. rw is_outcome (ends_stopped view status writes report (due files) why count files old new result same told (finds.told files told) concluded);
+      ends = λ files told. ends_stopped plan.writes (plan.comes files) stop words files old new result same told (finds.told files told) concluded;
       absent = λ files told. elim (finds.absent files told) [
         | inl here ↦ inl (concludes.absent ∙ here)
-        | inr missing ↦ inr (missing.0, ap (λ (answer : Answer). answer.status) (is_outcome files) ∙ ap (status_of status) missing.1)
+        | inr missing ↦ inr (missing.0, ap ending_by missing.1)
       ];
-      refused = λ other e. cc;
-      usage = λ e. absurd (finds.usage (ap Err (usage_concluded why (says report why) count old new result concluded e)));
-      same_name = λ first second e. absurd (finds.same_name first second (ap Err (same_name_concluded why (says report why) count old new result first second concluded e)));
-      caused = λ word e. elim (caused_concluded why (says report why) count old new result word concluded e) [
-        | inl is ↦ let cause = finds.caused word (ap Err is) in inl (cause.0, omega (arith, cause.1))
-        | inr cause ↦ inr (inr cause)
+      refused = λ why e. cc;
+      refuses = λ why told e. absurd (stop_refuses plan stop why apart within told (refuses_concluded (Stopped stop) words old new result why concluded e));
+      caused = λ word e. elim (caused_concluded (Stopped stop) words old new result word concluded e) [
+        | inl is ↦ let cause = finds.caused word (ap Err (stop_faulty stop word is)) in inl (cause.0, omega (arith, cause.1))
+        | inr cause ↦ inr (inr (cause.0, omega (arith, cause.1)))
       ];
-      said = (report, is_report, said_concluded report why count old new result concluded);
-      contents = unchanged (written_names (Ok asked)) old.contents new.contents same;
+      said = (Stopped stop, may_stop plan.sizes stop within, said_concluded (Stopped stop) words old new result concluded);
+      contents = unchanged plan.writes old.contents new.contents same;
       later = search rules;
     }
 
--- a job whose files are only read
-pub answers_found : {A : Type 0} (asked : Job) (status : A → Status) (report : Option (List ℕ)) (due : Names → Look A) (found : Result A Status) (count : ℕ)
-    (old mid new : Outside) (result : Status) →
-    ((files : Names) → outcome (Ok asked) files ≡ answer_by status (λ _. []) report (due files)) → IsReport (Ok asked) report →
-    ((x : A) → ¬ (status x ≡ Usage)) → ((x : A) (first second : ℕ) → ¬ (status x ≡ SameName first second)) → ((x : A) (word : ℕ) → ¬ (status x ≡ FileFault word)) →
-    Finds (λ x. x) (IsRead (Ok asked)) due old mid found → Concludes (status_of status found) (says report (status_of status found)) count mid new result →
-    Answers (Ok asked) count old new result
-answers_found asked status report due (Err why) count old mid new result is_outcome is_report no_usage no_same no_fault finds concludes =
-    answers_stopped asked (λ x. x) status (λ _. []) report due why count old mid new result is_outcome is_report finds concludes
-answers_found asked status report due (Ok x) count old mid new result is_outcome is_report no_usage no_same no_fault finds concludes =
-    let concluded = concluded_since (status x) (says report (status x)) count old mid new result finds.only concludes.ended in
-    let same : new.contents ≡ old.contents = concludes.contents ∙ finds.only.contents in
+-- the answer to what was found
+abbrev found_answer : Plan → ℕ → Outcome → Answer
+found_answer plan at outcome = record { looked = at; writes = files_of plan.writes outcome.bytes; ending = Finished outcome.finish }
+
+not_missing : (look : Look Outcome) (outcome : Outcome) (word : ℕ) → look.gives ≡ Ok outcome → ¬ (look.gives ≡ Err (Fault word))
+not_missing look outcome word is missing = cc
+
+-- a plan whose files were found and written, and the line said
+answers_whole : (plan : Plan) (outcome : Outcome) (words : ℕ) (old mid after new : Outside) (result : Status) → plan.ends_by outcome.finish ≡ true →
+    Finds (λ (o : Outcome). o) (words_of plan.reads) plan.sizes plan.comes old mid (Ok outcome) → Writes (files_of plan.writes outcome.bytes) mid after (Ok tt) →
+    Concludes (Finished outcome.finish) words after new result → Answers (Ok plan) words old new result
+answers_whole plan outcome words old mid after new result may finds writes concludes =
+    let finish = outcome.finish in
+    let concluded = concluded_since (Finished finish) words old after new result (writes.only.said ∙ finds.only.said) (omega arith) (omega arith) concludes.ended in
+    let held : new.contents ≡ files_with (files_of plan.writes outcome.bytes) old.contents =
+    concludes.contents ∙ writes.ended ∙ ap (files_with (files_of plan.writes outcome.bytes)) finds.only.contents in
     record {
-      ends = λ files told. rw (is_outcome, finds.told files told) (ends_answered report (due files).at (status x) count files old new result (same ∙ told) concluded);
+      ends = λ files told. rw (finds.told files told) (ends_answered (found_answer plan (plan.comes files).at outcome) words files old new result (held ∙ ap (files_with (files_of plan.writes outcome.bytes)) told) concluded);
       absent = λ files told. elim (finds.absent files told) [
-        | inl here ↦ inl (concludes.absent ∙ here)
-        | inr missing ↦ inr (missing.0, ap (λ (answer : Answer). answer.status) (is_outcome files) ∙ ap (status_of status) missing.1)
+        | inl here ↦ inl (concludes.absent ∙ writes.only.absent files (finds.only.contents ∙ told) ∙ here)
+        | inr missing ↦ absurd (not_missing (plan.comes files) outcome missing.0 (finds.told files told) missing.1)
       ];
-      refused = λ other e. cc;
-      usage = λ e. absurd (no_usage x (usage_concluded (status x) (says report (status x)) count old new result concluded e));
-      same_name = λ first second e. absurd (no_same x first second (same_name_concluded (status x) (says report (status x)) count old new result first second concluded e));
-      caused = λ word e. elim (caused_concluded (status x) (says report (status x)) count old new result word concluded e) [
-        | inl is ↦ absurd (no_fault x word is)
+      refused = λ why e. cc;
+      refuses = λ why told e. absurd (let is = refuses_concluded (Finished finish) words old new result why concluded e in
+          let h : None ≡ Some why = sym (finish_is finish) ∙ ap of_words is ∙ words_is why in cc);
+      caused = λ word e. elim (caused_concluded (Finished finish) words old new result word concluded e) [
+        | inl is ↦ absurd (finish_faultless finish word is)
         | inr cause ↦ inr (inr cause)
       ];
-      said = (report, is_report, said_concluded report (status x) count old new result concluded);
-      contents = unchanged (written_names (Ok asked)) old.contents new.contents same;
+      said = (Finished finish, may, said_concluded (Finished finish) words old new result concluded);
+      contents = rw held (changed_whole plan.writes outcome.bytes old.contents);
       later = search rules;
     }
+
+-- a plan whose files were found, and writing was cut short at a word, by a fault or by want of memory
+answers_cut : (plan : Plan) (outcome : Outcome) (words at : ℕ) (old mid new : Outside) (result : Status) → Finds (λ (o : Outcome). o) (words_of plan.reads) plan.sizes plan.comes old mid (Ok outcome) → OnlyWrites mid new →
+    IsCutAt at (files_of plan.writes outcome.bytes) mid.contents new.contents → ((result ≡ status.FileFault at) × Rose mid.write_faults new.write_faults) ⊎ (result ≡ status.Memory) → Answers (Ok plan) words old new result
+answers_cut plan outcome words at old mid new result finds only cut ended =
+    let said : new.said ≡ old.said = only.said ∙ finds.only.said in
+    let held : IsCutAt at (files_of plan.writes outcome.bytes) old.contents new.contents = rw finds.only.contents at cut in
+    record {
+      ends = λ files told. let here : IsCutInWriting at (found_answer plan (plan.comes files).at outcome) files old new = record { contents = rw told at held; said = said } in
+          rw (finds.told files told) (elim ended [ inl fault ↦ inr (inr (inl (at, fault.0, here))) | inr memory ↦ inr (inr (inr (inr (memory, inr (inl (at, here)))))) ]);
+      absent = λ files told. elim (finds.absent files told) [
+        | inl here ↦ inl (only.absent files (finds.only.contents ∙ told) ∙ here)
+        | inr missing ↦ absurd (not_missing (plan.comes files) outcome missing.0 (finds.told files told) missing.1)
+      ];
+      refused = λ why e. cc;
+      refuses = λ why told e. absurd (let h : None ≡ Some why = elim ended [ inl fault ↦ ap of_words (sym fault.0 ∙ e) ∙ words_is why | inr memory ↦ ap of_words (sym memory ∙ e) ∙ words_is why ] in cc);
+      caused = λ word e. elim ended [
+        | inl fault ↦ let is = fault.0 in let same : at ≡ word = cc in inr (inl (rw same at (cut_at at plan.writes outcome.bytes old.contents new.contents held), let rose = fault.1 in omega (arith, rose)))
+        | inr memory ↦ cc
+      ];
+      said = elim ended [ inl fault ↦ (Stopped (Fault at), tt, inl (fault.0, said)) | inr memory ↦ (Stopped Memory, tt, inl (memory, said)) ];
+      contents = changed_cut at plan.writes outcome.bytes old.contents new.contents held;
+      later = search rules;
+    }
+
+answers_finished : (plan : Plan) (outcome : Outcome) (words : ℕ) (old mid new : Outside) (result : Status) → plan.ends_by outcome.finish ≡ true →
+    Finds (λ (o : Outcome). o) (words_of plan.reads) plan.sizes plan.comes old mid (Ok outcome) → Finishes (files_of plan.writes outcome.bytes) outcome.finish words mid new result → Answers (Ok plan) words old new result
+answers_finished plan outcome words old mid new result may finds (inl (after, writes, concludes)) = answers_whole plan outcome words old mid after new result may finds writes concludes
+answers_finished plan outcome words old mid new result may finds (inr (cut.Fault at, is, writes)) = answers_cut plan outcome words at old mid new result finds writes.only writes.ended.0 (inl (is, writes.ended.1))
+answers_finished plan outcome words old mid new result may finds (inr (cut.Memory, is, writes)) = answers_cut plan outcome words writes.ended.0 old mid new result finds writes.only writes.ended.1 (inr is)
+
+-- ---- the exits of a command, whose plan comes to this of what was found
+
+pub answers_found : {X A : Type 0} (plan : Plan) (view : X → A) (ends : A → Outcome) (due : Names → Look A) (found : X) (words : ℕ) (old mid new : Outside) (result : Status) →
+    plan.comes ≡ (λ files. comes_by ends (due files)) → plan.ends_by (ends (view found)).finish ≡ true → Finds view (words_of plan.reads) plan.sizes due old mid (Ok found) →
+    Finishes (files_of plan.writes (ends (view found)).bytes) (ends (view found)).finish words mid new result → Answers (Ok plan) words old new result
+answers_found plan view ends due found words old mid new result is may finds finishes =
+    answers_finished plan (ends (view found)) words old mid new result may (rw is (finds_comes view ends (words_of plan.reads) plan.sizes due old mid (Ok found) finds)) finishes
+
+pub answers_stopped : {X A : Type 0} (plan : Plan) (view : X → A) (ends : A → Outcome) (due : Names → Look A) (stop : Stop) (words : ℕ) (old mid new : Outside) (result : Status) →
+    plan.comes ≡ (λ files. comes_by ends (due files)) → AreApart plan.amounts plan.sizes → Finds view (words_of plan.reads) plan.sizes due old mid (Err stop) → Concludes (Stopped stop) words mid new result → Answers (Ok plan) words old new result
+answers_stopped plan view ends due stop words old mid new result is apart finds concludes =
+    answers_refused_files plan stop words old mid new result apart (rw is (finds_comes view ends (words_of plan.reads) plan.sizes due old mid (Err stop) finds)) concludes

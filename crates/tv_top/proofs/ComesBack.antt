@@ -1,18 +1,42 @@
 -- An image that is disassembled and assembled again is the same.
-use Rattle.std.proofs.Common.{◌≡◌, ◌*◌, ◌/◌, ◌%◌, ◌≤◌, length, Ok, ap, ◌∙◌, arith}
+use Rattle.std.proofs.Common.{◌≡◌, ◌≤◌, ◌%◌, ◌/◌, ◌*◌, ◌+◌, ℕ, List, length, Ok, inl, inr, refl, ap, ◌∙◌, arith}
+use Rattle.tv_asm.specs.Header.{width_of}
+use Rattle.tv_core.specs.declared.limits.TheConstants.{TEXT_BYTES}
 use Rattle.tv_disasm.specs.Disassembly.{disassembly_of}
-use Rattle.tv_disasm.specs.Law.{words_in}
-use Rattle.tv_disasm.proofs.TextLemmas.{text_assembles, words_spell}
+use Rattle.tv_disasm.proofs.TextLemmas.{text_assembles, text_tells, words_spell}
 use Rattle.tv_disasm.proofs.LengthLemmas.{text_short}
-use Rattle.tv_top.specs.declared.limits.TheConstants.{TEXT_BYTES, IMAGE_WORDS}
-use Rattle.tv_top.specs.Outcome.{assembly_status, image_of}
-use Rattle.tv_top.specs.Claims.{ImageComesBack}
+use Rattle.tv_word.specs.Widths.{IsWidth}
+use Rattle.tv_top.specs.declared.programs.Width.{Width}
+use Rattle.tv_top.specs.declared.programs.Width.TheVariants.{Bits16, Bits32}
+use Rattle.tv_top.specs.ComesBack.{ImageComesBack}
+use Rattle.tv_top.specs.Disassembling.{image_bytes_most}
+use Rattle.tv_top.specs.Plan.{map_ok}
+use Rattle.tv_top.specs.Programs.{bits, image_words, image_bytes, program_result, program_by, image_of}
+
+is_width : (width : Width) → IsWidth (bits width)
+is_width Bits16 = inl refl
+is_width Bits32 = inr refl
+
+told : (width : Width) (text image : List ℕ) → width_of text ≡ bits width → image_of text ≡ map_ok image_bytes (program_by width text)
+unfolding image_of
+told Bits16 text image is = rw is refl
+told Bits32 text image is = rw is refl
+
+fits : (width : Width) (image : List ℕ) → length image ≤ image_bytes_most width → (length image ≤ bits width / 8 * image_words width) × (6 * length image + 20 ≤ TEXT_BYTES)
+fits Bits16 image most = (omega arith, omega arith)
+fits Bits32 image most = (omega arith, omega arith)
+
+whole : (width : Width) (image : List ℕ) → length image % (bits width / 4) ≡ 0 → length image % (bits width / 8) ≡ 0
+whole Bits16 image even = omega arith
+whole Bits32 image even = omega arith
 
 pub image_comes_back : ImageComesBack
-unfolding image_of
-image_comes_back image bytes whole fits =
-    let words : length image % 4 ≡ 0 = omega arith in
-    let short = text_short image bytes in (
-      omega (arith, short),
-      ap assembly_status (text_assembles image IMAGE_WORDS bytes whole (omega arith)) ∙ ap (λ same. Ok same) (words_spell image bytes words),
+unfolding program_by
+image_comes_back width image bytes even most =
+    let room = fits width image most in
+    let short = text_short (bits width) (is_width width) image bytes in (
+      omega (arith, short, room.1),
+      told width (disassembly_of (bits width) image) image (text_tells (bits width) (is_width width) image bytes)
+          ∙ ap (λ read. map_ok image_bytes (program_result width read)) (text_assembles (bits width) (is_width width) image (image_words width) bytes even room.0)
+          ∙ ap (λ same. Ok same) (words_spell (bits width) (is_width width) image bytes (whole width image even)),
     )

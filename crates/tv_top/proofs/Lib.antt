@@ -1,16 +1,12 @@
-pub mod Concluding
-pub mod Making
+pub mod Spelling
+pub mod Narrowing
 pub mod Looking
-pub mod Held
-pub mod Twice
-pub mod Publics
+pub mod Sizes
+pub mod ContainerReads
 pub mod Answering
-pub mod Storing
-pub mod Ending
-pub mod Checked
-pub mod Programs
+pub mod Claiming
+pub mod AssemblingClaim
+pub mod DisassemblingClaim
+pub mod RunningClaim
+pub mod CheckingClaim
 pub mod ComesBack
-pub mod Fitting
-pub mod RunEnds
-pub mod Runs
-mod WorkedLines

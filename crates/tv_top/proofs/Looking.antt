@@ -1,29 +1,44 @@
--- Looks at files, one after another.
-use Rattle.std.proofs.Common.{◌≡◌, ℕ, ◌≤◌, Result, Ok, Err, inl, inr, refl, ◌∙◌, arith, rules}
+-- Looks at files, one after another, and what is made of what they find.
+use Rattle.std.proofs.Common.{◌≡◌, ℕ, ◌≤◌, Bool, true, false, leb, List, [], ◌∷◌, ◌++◌, length, Option, Some, None, Result, Ok, Err, inl, inr, refl, ap, ◌∙◌, arith, rules}
 use Rattle.tv_files.specs.Outside.{Names, Outside}
-use Rattle.tv_top.specs.declared.status.Status.{Status}
-use Rattle.tv_top.specs.Outcome.{Look, ◌>>=◌, look_on}
-use Rattle.tv_top.specs.Finds.{IsFound, Finds}
+use Rattle.tv_top.specs.declared.refusal.Bad.{Bad}
+use Rattle.tv_top.specs.declared.refusal.Bad.TheVariants as bad
+use Rattle.tv_top.specs.declared.refusal.Flaw.{Flaw}
+use Rattle.tv_top.specs.declared.refusal.Flaw.TheVariants as flaw
+use Rattle.tv_top.specs.declared.refusal.Size.{Size}
+use Rattle.tv_top.specs.declared.refusal.Stop.{Stop}
+use Rattle.tv_top.specs.declared.refusal.Stop.TheVariants.{Fault, Memory, Contents}
+use Rattle.tv_top.specs.Finds.{IsOneOf, IsFound, Finds, Makes, from_made, limited_bytes}
+use Rattle.tv_top.specs.Plan.{Look, ◌>>=◌, look_on, Outcome, comes_by, map_ok, input, within, held_at, made_of}
 
-told_on : {A Y B : Type 0} (to : Y → B) (look : Look A) (f : A → Look B) (x : A) (found : Result Y Status) → look.gives ≡ Ok x → IsFound to (f x) found → IsFound to (look >>= f) found
+left_at : {A : Type 0} (x : A) (some more : List A) → IsOneOf x some → IsOneOf x (some ++ more)
+left_at x [] more at = absurd at
+left_at x (y ∷ ys) more (inl is) = inl is
+left_at x (y ∷ ys) more (inr at) = inr (left_at x ys more at)
+
+right_at : {A : Type 0} (x : A) (some more : List A) → IsOneOf x more → IsOneOf x (some ++ more)
+right_at x [] more at = at
+right_at x (y ∷ ys) more at = inr (right_at x ys more at)
+
+told_on : {A Y B : Type 0} (to : Y → B) (look : Look A) (f : A → Look B) (x : A) (found : Result Y Stop) → look.gives ≡ Ok x → IsFound to (f x) found → IsFound to (look >>= f) found
 told_on to look f x (Ok y) is finds = rw is finds
-told_on to look f x (Err why) is (inl due) = inl (rw is due)
-told_on to look f x (Err why) is (inr (inl fault)) = inr (inl (fault.0, fault.1, rw is (omega (arith, fault.2))))
-told_on to look f x (Err why) is (inr (inr memory)) = inr (inr memory)
+told_on to look f x (Err (Contents why)) is due = rw is due
+told_on to look f x (Err (Fault word)) is within = rw is (omega (arith, within))
+told_on to look f x (Err Memory) is any = tt
 
-reaches : {A B : Type 0} (at : ℕ) (gives : Result A Status) (f : A → Look B) (word : ℕ) → word ≤ at → word ≤ (look_on at gives f).at
+reaches : {A B : Type 0} (at : ℕ) (gives : Result A Stop) (f : A → Look B) (word : ℕ) → word ≤ at → word ≤ (look_on at gives f).at
 reaches at (Ok x) f word within = omega (arith, within)
 reaches at (Err other) f word within = within
 
-told_stop : {X A Y B : Type 0} (view : X → A) (to : Y → B) (look : Look A) (f : A → Look B) (why : Status) → IsFound view look (Err why) → IsFound to (look >>= f) (Err why)
-told_stop view to look f why (inl due) = inl (rw due refl)
-told_stop view to look f why (inr (inl fault)) = inr (inl (fault.0, fault.1, reaches look.at look.gives f fault.0 fault.2))
-told_stop view to look f why (inr (inr memory)) = inr (inr memory)
+told_stop : {X A Y B : Type 0} (view : X → A) (to : Y → B) (look : Look A) (f : A → Look B) (stop : Stop) → IsFound view look (Err stop) → IsFound to (look >>= f) (Err stop)
+told_stop view to look f (Contents why) due = rw due refl
+told_stop view to look f (Fault word) within = reaches look.at look.gives f word within
+told_stop view to look f Memory any = tt
 
 -- what was found after this was found
-pub finds_on : {X A Y B : Type 0} (view : X → A) (to : Y → B) (First Then Any : ℕ → Type 0) (due : Names → Look A) (f : Names → A → Look B) (old mid new : Outside) (x : X) (found : Result Y Status) →
-    ((at : ℕ) → Then at → Any at) → Finds view First due old mid (Ok x) → Finds to Then (λ files. f files (view x)) mid new found → Finds to Any (λ files. due files >>= f files) old new found
-finds_on view to First Then Any due f old mid new x found any one two = record {
+pub finds_on : {X A Y B : Type 0} (view : X → A) (to : Y → B) (some more : List ℕ) (few many : List Size) (due : Names → Look A) (f : Names → A → Look B) (old mid new : Outside) (x : X) (found : Result Y Stop) →
+    Finds view some few due old mid (Ok x) → Finds to more many (λ files. f files (view x)) mid new found → Finds to (some ++ more) (few ++ many) (λ files. due files >>= f files) old new found
+finds_on view to some more few many due f old mid new x found one two = record {
   told = λ files told. told_on to (due files) (f files) (view x) found (one.told files told) (two.told files (one.only.contents ∙ told));
   absent = λ files told. elim (two.absent files (one.only.contents ∙ told)) [
     | inl same ↦ elim (one.absent files told) [
@@ -33,24 +48,114 @@ finds_on view to First Then Any due f old mid new x found any one two = record {
     | inr missing ↦ inr (missing.0, let gave = one.told files told in rw gave missing.1)
   ];
   only = record { contents = two.only.contents ∙ one.only.contents; said = two.only.said ∙ one.only.said; later = search rules };
-  caused = λ word e. let cause = two.caused word e in (any word cause.0, omega (arith, cause.1));
-  done = two.done;
-  usage = two.usage;
-  same_name = two.same_name;
+  caused = λ word e. let cause = two.caused word e in (right_at word some more cause.0, omega (arith, cause.1));
+  limits = λ what has most e. right_at what few many (two.limits what has most e);
 }
 
 -- what was refused stays so
-pub finds_stop : {X A Y B : Type 0} (view : X → A) (to : Y → B) (First Any : ℕ → Type 0) (due : Names → Look A) (f : Names → A → Look B) (old new : Outside) (why : Status) →
-    ((at : ℕ) → First at → Any at) → Finds view First due old new (Err why) → Finds to Any (λ files. due files >>= f files) old new (Err why)
-finds_stop view to First Any due f old new why any finds = record {
-  told = λ files told. told_stop view to (due files) (f files) why (finds.told files told);
+pub finds_stop : {X A Y B : Type 0} (view : X → A) (to : Y → B) (some more : List ℕ) (few many : List Size) (due : Names → Look A) (f : Names → A → Look B) (old new : Outside) (stop : Stop) →
+    Finds view some few due old new (Err stop) → Finds to (some ++ more) (few ++ many) (λ files. due files >>= f files) old new (Err stop)
+finds_stop view to some more few many due f old new stop finds = record {
+  told = λ files told. told_stop view to (due files) (f files) stop (finds.told files told);
   absent = λ files told. elim (finds.absent files told) [
     | inl same ↦ inl same
     | inr missing ↦ inr (missing.0, let missed = missing.1 in rw missed refl)
   ];
   only = finds.only;
-  caused = λ word e. let cause = finds.caused word cc in (any word cause.0, cause.1);
-  done = λ e. finds.done cc;
-  usage = λ e. finds.usage cc;
-  same_name = λ first second e. finds.same_name first second cc;
+  caused = λ word e. let cause = finds.caused word cc in (left_at word some more cause.0, cause.1);
+  limits = λ what has most e. left_at what few many (finds.limits what has most cc);
+}
+
+-- what is due may be said in other words, and of words in another order
+pub finds_same : {X A : Type 0} (view : X → A) (words others : List ℕ) (sizes : List Size) (due other : Names → Look A) (old new : Outside) (found : Result X Stop) → ((word : ℕ) → IsOneOf word words → IsOneOf word others) →
+    ((files : Names) → due files ≡ other files) → Finds view words sizes due old new found → Finds view others sizes other old new found
+finds_same view words others sizes due other old new found among same finds = record {
+  told = λ files told. rw (← same files) (finds.told files told);
+  absent = λ files told. rw (← same files) (finds.absent files told);
+  only = finds.only;
+  caused = λ word e. let cause = finds.caused word e in (among word cause.0, cause.1);
+  limits = finds.limits;
+}
+
+-- ---- what was made of what was read
+
+told_made : {X A : Type 0} (view : X → A) (due : Look A) (held : Result A Bad) (made : Result X Flaw) → due.gives ≡ made_of held → Makes view held made → IsFound view due (from_made made)
+told_made view due held (Ok x) is makes = is ∙ ap made_of makes
+told_made view due held (Err (flaw.Contents why)) is makes = is ∙ ap made_of makes
+told_made view due held (Err flaw.Memory) is makes = tt
+
+no_fault : {X : Type 0} (made : Result X Flaw) (word : ℕ) → ¬ (from_made made ≡ Err (Fault word))
+no_fault (Ok x) word e = cc
+no_fault (Err (flaw.Contents why)) word e = cc
+no_fault (Err flaw.Memory) word e = cc
+
+-- what is made of contents passes the limits of these quantities alone
+abbrev pub IsLimited : {A : Type 0} → Result A Bad → List Size → Type 0
+IsLimited held sizes = (what : Size) (has most : ℕ) → held ≡ Err (bad.Limit what has most) → IsOneOf what sizes
+
+limits_made : {X A : Type 0} (view : X → A) (held : Result A Bad) (made : Result X Flaw) (sizes : List Size) → Makes view held made → IsLimited held sizes →
+    (what : Size) (has most : ℕ) → from_made made ≡ Err (Contents (bad.Limit what has most)) → IsOneOf what sizes
+limits_made view held (Ok x) sizes makes limited what has most e = cc
+limits_made view held (Err (flaw.Contents why)) sizes makes limited what has most e = let same : why ≡ bad.Limit what has most = cc in limited what has most (makes ∙ ap Err same)
+limits_made view held (Err flaw.Memory) sizes makes limited what has most e = cc
+
+-- a look comes to what is made of what another one gives
+pub finds_made : {X Y A B : Type 0} (view : X → A) (of_read : Y → B) (words : List ℕ) (few sizes : List Size) (look : Names → Look B) (due : Names → Look A) (held : Result A Bad) (read : Y) (made : Result X Flaw) (old new : Outside) →
+    ((files : Names) → (look files).gives ≡ Ok (of_read read) → (due files).gives ≡ made_of held) →
+    Finds of_read words few look old new (Ok read) → Makes view held made → IsLimited held sizes → Finds view words sizes due old new (from_made made)
+finds_made view of_read words few sizes look due held read made old new comes finds makes limited = record {
+  told = λ files told. told_made view (due files) held made (comes files (finds.told files told)) makes;
+  absent = λ files told. elim (finds.absent files told) [
+    | inl same ↦ inl same
+    | inr missing ↦ absurd (let found = finds.told files told in let missed = missing.1 in cc)
+  ];
+  only = finds.only;
+  caused = λ at e. absurd (no_fault made at e);
+  limits = limits_made view held made sizes makes limited;
+}
+
+-- of a look, what is made of what it gives
+pub made_after : {X Y A B : Type 0} (view : X → A) (of_read : Y → B) (words : List ℕ) (few sizes : List Size) (look : Names → Look B) (f : B → Result A Bad) (at : ℕ) (read : Y) (made : Result X Flaw) (old new : Outside) →
+    Finds of_read words few look old new (Ok read) → Makes view (f (of_read read)) made → IsLimited (f (of_read read)) sizes → Finds view words sizes (λ files. look files >>= λ b. record { at = at; gives = made_of (f b) }) old new (from_made made)
+made_after view of_read words few sizes look f at read made old new finds makes limited =
+    finds_made view of_read words few sizes look (λ files. look files >>= λ b. record { at = at; gives = made_of (f b) }) (f (of_read read)) read made old new (λ files e. rw e refl) finds makes limited
+
+limited_is : {A : Type 0} (word : ℕ) (what : Size) (most : ℕ) (f : List ℕ → Result A Bad) (file : Option (List ℕ)) (bytes : List ℕ) → limited_bytes word what most file ≡ Ok bytes →
+    held_at word (within what most f) file ≡ made_of (f bytes)
+limited_is word what most f None bytes e = cc
+limited_is {A} word what most f (Some held) bytes e = by_size (leb (length held) most) refl
+  where
+    by_size : (fits : Bool) → leb (length held) most ≡ fits → held_at word (within what most f) (Some held) ≡ made_of (f bytes)
+    by_size true fits = let is : Ok held ≡ Ok bytes = rw fits at e in let same : held ≡ bytes = cc in rw (fits, same) refl
+    by_size false fits = let none = rw fits at e in cc
+
+-- what was made of a file of so many bytes
+pub made_found : {X Y A : Type 0} (view : X → A) (of_read : Y → List ℕ) (word : ℕ) (what : Size) (sizes : List Size) (most : ℕ) (f : List ℕ → Result A Bad) (name : List ℕ) (read : Y) (made : Result X Flaw) (old new : Outside) →
+    Finds of_read (word ∷ []) (what ∷ []) (λ held. record { at = word; gives = limited_bytes word what most (held name) }) old new (Ok read) → Makes view (f (of_read read)) made → IsLimited (f (of_read read)) sizes →
+    Finds view (word ∷ []) (what ∷ sizes) (input word (within what most f) name) old new (from_made made)
+unfolding input
+made_found view of_read word what sizes most f name read made old new finds makes limited =
+    finds_made view of_read (word ∷ []) (what ∷ []) (what ∷ sizes) (λ held. record { at = word; gives = limited_bytes word what most (held name) }) (input word (within what most f) name) (f (of_read read)) read made old new
+    (λ files e. limited_is word what most f (files name) (of_read read) e) finds makes (λ size has most e. inr (limited size has most e))
+
+-- ---- what a command comes to by what was found
+
+told_comes : {X A : Type 0} (view : X → A) (f : A → Outcome) (due : Look A) (found : Result X Stop) → IsFound view due found → IsFound (λ (o : Outcome). o) (comes_by f due) (map_ok (λ x. f (view x)) found)
+told_comes view f due (Ok x) is = ap (map_ok f) is
+told_comes view f due (Err (Contents why)) is = ap (map_ok f) is
+told_comes view f due (Err (Fault word)) within = within
+told_comes view f due (Err Memory) any = tt
+
+same_stop : {X Y : Type 0} (f : X → Y) (found : Result X Stop) (stop : Stop) → map_ok f found ≡ Err stop → found ≡ Err stop
+same_stop f (Ok x) stop e = cc
+same_stop f (Err other) stop e = cc
+
+pub finds_comes : {X A : Type 0} (view : X → A) (f : A → Outcome) (words : List ℕ) (sizes : List Size) (due : Names → Look A) (old new : Outside) (found : Result X Stop) →
+    Finds view words sizes due old new found → Finds (λ (o : Outcome). o) words sizes (λ files. comes_by f (due files)) old new (map_ok (λ x. f (view x)) found)
+finds_comes view f words sizes due old new found finds = record {
+  told = λ files told. told_comes view f (due files) found (finds.told files told);
+  absent = λ files told. elim (finds.absent files told) [ inl same ↦ inl same | inr missing ↦ inr (missing.0, ap (map_ok f) missing.1) ];
+  only = finds.only;
+  caused = λ word e. finds.caused word (same_stop (λ x. f (view x)) found (Fault word) e);
+  limits = λ what has most e. finds.limits what has most (same_stop (λ x. f (view x)) found (Contents (bad.Limit what has most)) e);
 }

@@ -1,78 +1,100 @@
 -- What every call of the command promises, by what its words ask for.
-use Rattle.std.specs.Prelude.{◌≡◌, ℕ, ◌≤◌, ◌<◌, ◌⊎◌, List, [], ◌∷◌, Option, Some, None, option_map, Result, Ok, Err, codes}
-use Rattle.tv_files.specs.Outside.{Names, Outside, Told, Rose, NoneFell, with_bytes}
-use Rattle.tv_step.specs.declared.end.End.TheVariants as ends
+use Rattle.std.specs.Prelude.{◌≡◌, ℕ, ◌⊎◌, List, [], ◌∷◌, map, Option, option_map, true, Result, Ok, Err}
+use Rattle.tv_files.specs.Outside.{Names, Outside, Told, NoneFell, with_bytes}
+use Rattle.tv_word.specs.Counts.{Rose}
+use Rattle.tv_top.specs.declared.refusal.Ending.{Ending}
+use Rattle.tv_top.specs.declared.refusal.Ending.TheVariants.{Refused, Stopped, Finished}
+use Rattle.tv_top.specs.declared.place.Amount.{Amount}
+use Rattle.tv_top.specs.declared.refusal.Bad.TheVariants as bad
+use Rattle.tv_top.specs.declared.refusal.Quantity.{Quantity}
+use Rattle.tv_top.specs.declared.refusal.Refusal.{Refusal}
+use Rattle.tv_top.specs.declared.refusal.Refusal.TheVariants as refusal
+use Rattle.tv_top.specs.declared.refusal.Size.{Size}
+use Rattle.tv_top.specs.declared.refusal.Stop.{Stop}
+use Rattle.tv_top.specs.declared.refusal.Stop.TheVariants.{Fault, Contents}
+use Rattle.tv_top.specs.declared.refusal.Stop.TheVariants as stop
 use Rattle.tv_top.specs.declared.status.Status.{Status}
-use Rattle.tv_top.specs.declared.status.Status.TheVariants.{Usage, FileFault, Memory, SameName}
-use Rattle.tv_top.specs.Codes.{end_text, says}
-use Rattle.tv_top.specs.Outcome.{Job, Asm, Disasm, Check, Run, outcome}
+use Rattle.tv_top.specs.declared.status.Status.TheVariants.{FileFault, Memory}
+use Rattle.tv_top.specs.Codes.{says}
 use Rattle.tv_top.specs.Ends.{Said, SaidPart, Ends, IsConcluded}
+use Rattle.tv_top.specs.Finds.{IsOneOf}
+use Rattle.tv_top.specs.Plan.{Named, Plan, answer_of}
+use Rattle.tv_top.specs.Status.{refusal_status, ending_status}
 
--- the word is one at which the name of a file to be read stands
-abbrev pub IsRead : Result Job Status → ℕ → Type 0
-IsRead (Ok (Asm _ _)) word = word ≡ 1
-IsRead (Ok (Disasm _ _)) word = word ≡ 1
-IsRead (Ok (Check _ _ _)) word = (0 < word) × (word ≤ 3)
-IsRead (Ok (Run _ _ _ _)) word = (0 < word) × (word ≤ 3)
-IsRead (Err _) word = ⊥
+-- the words of names
+abbrev pub words_of : List Named → List ℕ
+words_of names = map (λ (n : Named). n.word) names
 
--- the word is one at which the name of a file to be written stands
-abbrev pub IsWritten : Result Job Status → ℕ → Type 0
-IsWritten (Ok (Asm _ _)) word = word ≡ 2
-IsWritten (Ok (Disasm _ _)) word = word ≡ 2
-IsWritten (Ok (Check _ _ _)) word = ⊥
-IsWritten (Ok (Run _ _ _ _)) word = ⊥
-IsWritten (Err _) word = ⊥
+abbrev pub reads_of : Result Plan Refusal → List Named
+reads_of (Ok plan) = plan.reads
+reads_of (Err why) = []
 
--- the names of the files to be written
-abbrev pub written_names : Result Job Status → List (List ℕ)
-written_names (Ok (Asm _ image)) = image ∷ []
-written_names (Ok (Disasm _ text)) = text ∷ []
-written_names (Ok (Check _ _ _)) = []
-written_names (Ok (Run _ _ _ _)) = []
-written_names (Err _) = []
+abbrev pub writes_of : Result Plan Refusal → List Named
+writes_of (Ok plan) = plan.writes
+writes_of (Err why) = []
 
--- what the command of a job may say where it is done: for `run` it tells the step of the answer 0
-abbrev pub IsReport : Result Job Status → Option (List ℕ) → Type 0
-IsReport (Ok (Asm _ _)) report = report ≡ None
-IsReport (Ok (Disasm _ _)) report = report ≡ None
-IsReport (Ok (Check _ _ _)) report = report ≡ Some (codes "yes")
-IsReport (Ok (Run _ _ _ _)) report = (step : ℕ) × (report ≡ Some (end_text (ends.Answer 0 step)))
-IsReport (Err _) report = report ≡ None
+-- a look at files may be refused so: where that is for a limit, it is on one of these quantities
+abbrev pub MayStop : List Size → Stop → Type 0
+MayStop sizes (Fault word) = Unit {0}
+MayStop sizes stop.Memory = Unit {0}
+MayStop sizes (Contents (bad.Program line why)) = Unit {0}
+MayStop sizes (Contents (bad.Tape word at)) = Unit {0}
+MayStop sizes (Contents (bad.System at why)) = Unit {0}
+MayStop sizes (Contents (bad.Witness at why)) = Unit {0}
+MayStop sizes (Contents (bad.Image len)) = Unit {0}
+MayStop sizes (Contents (bad.Limit what has most)) = IsOneOf what sizes
+
+-- the quantities that words tell
+abbrev pub quantities_of : List Amount → List Quantity
+quantities_of amounts = map (λ (a : Amount). a.what) amounts
+
+-- A refusal that comes of words alone: each, but where the words aren't refused a limit on a quantity that they
+-- don't tell, since a file may pass that one.
+abbrev pub IsOfWords : Result Plan Refusal → Refusal → Type 0
+IsOfWords (Err other) why = Unit {0}
+IsOfWords (Ok plan) refusal.Usage = Unit {0}
+IsOfWords (Ok plan) (refusal.SameName first second) = Unit {0}
+IsOfWords (Ok plan) (refusal.Limit what has most) = IsOneOf what (quantities_of plan.amounts)
+
+-- what is asked for may end so
+abbrev pub MayEnd : Result Plan Refusal → Ending → Type 0
+MayEnd (Err why) (Refused other) = why ≡ other
+MayEnd (Err why) (Stopped stop) = ⊥
+MayEnd (Err why) (Finished finish) = ⊥
+MayEnd (Ok plan) (Refused other) = ⊥
+MayEnd (Ok plan) (Stopped stop) = MayStop plan.sizes stop
+MayEnd (Ok plan) (Finished finish) = plan.ends_by finish ≡ true
 
 -- the files, where they are told, changed at most at these names
-abbrev pub ChangedAt : List (List ℕ) → Option Names → Option Names → Type 0
+abbrev pub ChangedAt : List Named → Option Names → Option Names → Type 0
 ChangedAt [] old new = new ≡ old
-ChangedAt (name ∷ names) old new =
-    ChangedAt names old new ⊎ ((bytes : List ℕ) × ChangedAt names (option_map (with_bytes name bytes) old) new)
+ChangedAt (n ∷ ns) old new =
+    ChangedAt ns old new ⊎ ((bytes : List ℕ) × ChangedAt ns (option_map (with_bytes n.name bytes) old) new)
 
--- the line of the status was said, or, after a fault of saying or want of memory, a prefix of a line
-abbrev pub IsSaid : Option (List ℕ) → ℕ → Outside → Outside → Status → Type 0
-IsSaid report words old new result = Said old new (says report result)
-    ⊎ (((result ≡ FileFault words) ⊎ (result ≡ Memory))
-    × (status : Status) × SaidPart old new (says report status))
+-- the line of the end was said, or, after a fault of saying or want of memory, a prefix of it
+abbrev pub IsSaid : Ending → ℕ → Outside → Outside → Status → Type 0
+IsSaid ending words old new result = ((result ≡ ending_status ending) × Said old new (says ending))
+    ⊎ (((result ≡ FileFault words) ⊎ (result ≡ Memory)) × SaidPart old new (says ending))
 
 -- What every call promises, by what its words ask for. The first two are of files whose contents are
 -- told, the others of any files.
-pub record Answers (asked : Result Job Status) (words : ℕ) (old new : Outside) (result : Status) : Type 0 where
+pub record Answers (request : Result Plan Refusal) (words : ℕ) (old new : Outside) (result : Status) : Type 0 where
   -- the answer is that of the words and the files, up to faults and want of memory
-  pub ends : Told old (λ files. Ends (outcome asked files) words files old new result)
+  pub ends : Told old (λ files. Ends (answer_of request files) words files old new result)
   -- no name was looked for in vain, unless the answer is that one isn't there
-  pub absent : Told old (λ files.
-      (new.absent ≡ old.absent) ⊎ ((word : ℕ) × ((outcome asked files).status ≡ FileFault word)))
+  pub absent : Told old (λ files. (new.absent ≡ old.absent)
+      ⊎ ((word : ℕ) × ((answer_of request files).ending ≡ Stopped (Fault word))))
   -- what the words alone refuse is answered so; want of memory then comes of saying it alone
-  pub refused : (status : Status) → asked ≡ Err status
-      → IsConcluded status (says None status) words old new result
-  -- and nothing else is answered so
-  pub usage : result ≡ Usage → asked ≡ Err Usage
-  pub same_name : (first second : ℕ) → result ≡ SameName first second → asked ≡ Err (SameName first second)
+  pub refused : (why : Refusal) → request ≡ Err why → IsConcluded (Refused why) words old new result
+  -- and nothing else is answered so: not Usage, not SameName, and no Limit on a quantity that the words tell
+  pub refuses : (why : Refusal) → IsOfWords request why → result ≡ refusal_status why → request ≡ Err why
   -- which word a fault tells, and that the count of its kind rose
   pub caused : (word : ℕ) → result ≡ FileFault word
-      → (IsRead asked word × Rose old.read_faults new.read_faults)
-      ⊎ (IsWritten asked word × Rose old.write_faults new.write_faults)
+      → (IsOneOf word (words_of (reads_of request)) × Rose old.read_faults new.read_faults)
+      ⊎ (IsOneOf word (words_of (writes_of request)) × Rose old.write_faults new.write_faults)
       ⊎ ((word ≡ words) × Rose old.say_faults new.say_faults)
-  -- the line of the status was said; a fault of saying and want of memory leave a prefix of a line
-  pub said : (report : Option (List ℕ)) × IsReport asked report × IsSaid report words old new result
+  -- the line of an end that may be was said; a fault and want of memory leave a prefix of one
+  pub said : (ending : Ending) × MayEnd request ending × IsSaid ending words old new result
   -- every file but those that are to be written is as it was, and no count fell
-  pub contents : ChangedAt (written_names asked) old.contents new.contents
+  pub contents : ChangedAt (writes_of request) old.contents new.contents
   pub later : NoneFell old new

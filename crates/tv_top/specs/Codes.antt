@@ -1,32 +1,25 @@
--- What a status is to the user: an exit code and a line.
+-- The lines that are said.
 use Rattle.std.specs.Prelude.{◌≡◌, ℕ, List, [], ◌∷◌, ◌++◌, Option, Some, None, option_map, codes, decimal}
 use Rattle.tv_asm.specs.declared.fault.AsmWhy.{AsmWhy}
 use Rattle.tv_asm.specs.declared.fault.AsmWhy.TheVariants.{NotText, BadHeader, BadLabel, DoubledLabel, UnknownName, Operands, BadRegister, BadNumber, UnknownLabel}
-use Rattle.tv_r1cs_read.specs.declared.why.ReadWhy.{ReadWhy}
-use Rattle.tv_r1cs_read.specs.declared.why.ReadWhy.TheVariants.{BadMagic, BadVersion, Missing, Doubled, OtherPrime, BadCount, WireRange, NotCanonical, Truncated, TooWide, Trailing}
+use Rattle.tv_check.specs.declared.verdict.Verdict.{Verdict}
+use Rattle.tv_check.specs.declared.verdict.Verdict.TheVariants.{Yes, WireCount, NoPublic, NoConstraint}
+use Rattle.tv_container.specs.declared.why.ReadWhy.{ReadWhy}
+use Rattle.tv_container.specs.declared.why.ReadWhy.TheVariants.{BadMagic, BadVersion, Missing, Doubled, OtherPrime, BadCount, WireRange, NotCanonical, Truncated, TooWide, Trailing}
 use Rattle.tv_step.specs.declared.end.End.{End}
 use Rattle.tv_step.specs.declared.end.End.TheVariants as ends
-use Rattle.tv_top.specs.declared.status.NoWhy.{NoWhy}
-use Rattle.tv_top.specs.declared.status.NoWhy.TheVariants as no
+use Rattle.tv_top.specs.declared.refusal.Bad.{Bad}
+use Rattle.tv_top.specs.declared.refusal.Bad.TheVariants as bad
+use Rattle.tv_top.specs.declared.refusal.Ending.{Ending}
+use Rattle.tv_top.specs.declared.refusal.Ending.TheVariants.{Refused, Stopped, Finished}
+use Rattle.tv_top.specs.declared.refusal.Finish.{Finish}
+use Rattle.tv_top.specs.declared.refusal.Finish.TheVariants as finishes
+use Rattle.tv_top.specs.declared.refusal.Refusal.{Refusal}
+use Rattle.tv_top.specs.declared.refusal.Refusal.TheVariants as refusal
+use Rattle.tv_top.specs.declared.refusal.Stop.TheVariants as stop
 use Rattle.tv_top.specs.declared.status.What.{What}
 use Rattle.tv_top.specs.declared.status.What.TheVariants.{ImageWords, ImageBytes, TapeWords, AuxWords, TextBytes, Steps}
-use Rattle.tv_top.specs.declared.status.Status.{Status}
-use Rattle.tv_top.specs.declared.status.Status.TheVariants.{Done, No, Usage, BadProgram, BadTape, BadSystem, BadWitness, Limit, FileFault, Memory, SameName, BadImage}
-
--- the exit code
-abbrev pub code_of : Status → ℕ
-code_of Done = 0
-code_of (No _) = 1
-code_of Usage = 2
-code_of (BadProgram _ _) = 3
-code_of (BadTape _ _) = 4
-code_of (BadSystem _ _) = 5
-code_of (BadWitness _ _) = 6
-code_of (Limit _ _ _) = 7
-code_of (FileFault _) = 8
-code_of Memory = 9
-code_of (SameName _ _) = 12
-code_of (BadImage _) = 13
+use Rattle.tv_top.specs.Status.{quantity_what, size_what}
 
 -- how a run ends
 abbrev pub end_text : End → List ℕ
@@ -34,12 +27,12 @@ end_text (ends.Answer value step) = codes "answer " ++ decimal value ++ codes " 
 end_text (ends.Undefined op step) = codes "undefined opcode " ++ decimal op ++ codes " at step " ++ decimal step
 end_text (ends.Silent steps) = codes "no answer in " ++ decimal steps ++ codes " steps"
 
--- why the answer is no
-abbrev pub no_text : NoWhy → List ℕ
-no_text (no.Public at) = codes "no: public wire " ++ decimal at
-no_text (no.Constraint at) = codes "no: constraint " ++ decimal at
-no_text (no.Wires has wants) = codes "no: " ++ decimal has ++ codes " wires, " ++ decimal wants ++ codes " wanted"
-no_text (no.End end) = end_text end
+-- what is found of an assignment
+abbrev pub verdict_text : Verdict → List ℕ
+verdict_text Yes = codes "yes"
+verdict_text (WireCount has wants) = codes "no: " ++ decimal has ++ codes " wires, " ++ decimal wants ++ codes " wanted"
+verdict_text (NoPublic at) = codes "no: public wire " ++ decimal at
+verdict_text (NoConstraint at) = codes "no: constraint " ++ decimal at
 
 -- why a line of a program is refused
 abbrev pub asm_text : AsmWhy → List ℕ
@@ -76,21 +69,38 @@ what_text AuxWords = codes "aux words"
 what_text TextBytes = codes "text bytes"
 what_text Steps = codes "steps"
 
--- the line that is said, without its end, where Done says the report; nothing is said after a fault or
--- want of memory
-abbrev pub line : Option (List ℕ) → Status → Option (List ℕ)
-line report Done = report
-line report (No why) = Some (no_text why)
-line report Usage = Some (codes "usage: asm, disasm, run, build, witness, check, extract, trial")
-line report (BadProgram number why) = Some (codes "bad program: line " ++ decimal number ++ codes ": " ++ asm_text why)
-line report (BadTape word at) = Some (codes "bad tape: word " ++ decimal word ++ codes ", item " ++ decimal at)
-line report (BadSystem at why) = Some (codes "bad system: byte " ++ decimal at ++ codes ": " ++ read_text why)
-line report (BadWitness at why) = Some (codes "bad witness: byte " ++ decimal at ++ codes ": " ++ read_text why)
-line report (Limit what has most) = Some (codes "limit: " ++ what_text what ++ codes " " ++ decimal has ++ codes ", most " ++ decimal most)
-line report (FileFault _) = None
-line report Memory = None
-line report (SameName first second) = Some (codes "same name: words " ++ decimal first ++ codes " and " ++ decimal second)
-line report (BadImage len) = Some (codes "bad image: " ++ decimal len ++ codes " bytes")
+-- a limit of a quantity
+abbrev pub limit_text : What → ℕ → ℕ → List ℕ
+limit_text what has most = codes "limit: " ++ what_text what ++ codes " " ++ decimal has ++ codes ", most " ++ decimal most
+
+-- what words are refused for
+abbrev pub refusal_text : Refusal → List ℕ
+refusal_text refusal.Usage = codes "usage: asm, disasm, run, build, witness, check, extract, trial"
+refusal_text (refusal.SameName first second) = codes "same name: words " ++ decimal first ++ codes " and " ++ decimal second
+refusal_text (refusal.Limit what has most) = limit_text (quantity_what what) has most
+
+-- what contents are refused for
+abbrev pub bad_text : Bad → List ℕ
+bad_text (bad.Program line why) = codes "bad program: line " ++ decimal line ++ codes ": " ++ asm_text why
+bad_text (bad.Tape word at) = codes "bad tape: word " ++ decimal word ++ codes ", item " ++ decimal at
+bad_text (bad.System at why) = codes "bad system: byte " ++ decimal at ++ codes ": " ++ read_text why
+bad_text (bad.Witness at why) = codes "bad witness: byte " ++ decimal at ++ codes ": " ++ read_text why
+bad_text (bad.Image len) = codes "bad image: " ++ decimal len ++ codes " bytes"
+bad_text (bad.Limit what has most) = limit_text (size_what what) has most
+
+-- what is said with a good end
+abbrev pub finish_text : Finish → Option (List ℕ)
+finish_text finishes.Quiet = None
+finish_text (finishes.Run end) = Some (end_text end)
+finish_text (finishes.Verdict verdict) = Some (verdict_text verdict)
+
+-- the line of an end, without its own end; nothing is said after a fault or want of memory
+abbrev pub line : Ending → Option (List ℕ)
+line (Refused why) = Some (refusal_text why)
+line (Stopped (stop.Fault word)) = None
+line (Stopped stop.Memory) = None
+line (Stopped (stop.Contents bad)) = Some (bad_text bad)
+line (Finished finish) = finish_text finish
 
 -- what a function returned, seen by view, is this
 abbrev pub Reads : {X Y : Type 0} → (X → Y) → Option X → Option Y → Type 0
@@ -98,5 +108,5 @@ Reads view None due = due ≡ None
 Reads view (Some x) due = due ≡ Some (view x)
 
 -- the bytes that are said: the line and a line feed
-abbrev pub says : Option (List ℕ) → Status → Option (List ℕ)
-says report status = option_map (λ text. text ++ 10 ∷ []) (line report status)
+abbrev pub says : Ending → Option (List ℕ)
+says ending = option_map (λ text. text ++ 10 ∷ []) (line ending)

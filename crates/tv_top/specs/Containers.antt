@@ -1,28 +1,37 @@
--- How `check` goes about its files, which it reads one after another, and the system's twice.
-use Rattle.std.specs.Prelude.{ℕ, List}
-use Rattle.tv_check.specs.Verdict.{verdict_of}
-use Rattle.tv_check.specs.declared.verdict.Verdict.{Verdict}
-use Rattle.tv_files.specs.Outside.{Names}
-use Rattle.tv_r1cs_read.specs.Places.{Fault}
-use Rattle.tv_r1cs_read.specs.Survey.{survey_of}
-use Rattle.tv_r1cs_read.specs.declared.why.ReadRefusal.{ReadRefusal}
-use Rattle.tv_r1cs_read.specs.declared.why.ReadRefusal.TheVariants as refusal
-use Rattle.tv_top.specs.declared.status.Status.{Status}
-use Rattle.tv_top.specs.declared.status.Status.TheVariants.{FileFault, Memory}
-use Rattle.tv_top.specs.Outcome.{Look, ◌>>=◌, held_in, system_status, witness_status, publics_at}
+-- The files of systems and of assignments.
+use Rattle.std.specs.Prelude.{ℕ, List, Result, Ok, Err}
+use Rattle.tv_core.specs.Constraints.{System}
+use Rattle.tv_container.specs.Places.{Fault}
+use Rattle.tv_r1cs_read.specs.R1cs.{system_of}
+use Rattle.tv_container.specs.declared.why.ReadRefusal.{ReadRefusal}
+use Rattle.tv_container.specs.declared.why.ReadRefusal.TheVariants as refusal
 use Rattle.tv_wtns.specs.Wtns.{assignment_of}
+use Rattle.tv_top.specs.declared.refusal.Bad.{Bad}
+use Rattle.tv_top.specs.declared.refusal.Bad.TheVariants as bad
+use Rattle.tv_top.specs.declared.refusal.Stop.{Stop}
+use Rattle.tv_top.specs.declared.refusal.Stop.TheVariants as stop
 
--- what a refused reading of the container at a word is answered, by what its faults are answered
-abbrev pub refusal_status : ℕ → (Fault → Status) → ReadRefusal → Status
-refusal_status word status (refusal.Bad at why) = status (record { at = at; why = why })
-refusal_status word status refusal.Fault = FileFault word
-refusal_status word status refusal.Memory = Memory
+-- what a fault of a system's file is, and of a witness file
+abbrev pub system_bad : Fault → Bad
+system_bad fault = bad.System fault.at fault.why
 
--- the system is read to its end, then the witness and the tape, and then the system again for the
--- verdict, which is the same as reading it once
-unfoldable pub checked_of : List ℕ → List ℕ → List ℕ → Names → Look Verdict
-checked_of system witness tape files = do
-  _ ← record { at = 1; gives = held_in 1 system_status survey_of (files system) }
-  z ← record { at = 2; gives = held_in 2 witness_status assignment_of (files witness) }
-  x ← publics_at tape files
-  record { at = 3; gives = held_in 1 system_status (λ file. verdict_of file z x) (files system) }
+abbrev pub witness_bad : Fault → Bad
+witness_bad fault = bad.Witness fault.at fault.why
+
+-- what a container comes to, by what its faults are
+abbrev pub container_result : {A : Type 0} → (Fault → Bad) → Result A Fault → Result A Bad
+container_result bad (Ok x) = Ok x
+container_result bad (Err fault) = Err (bad fault)
+
+-- the file of a system, and of an assignment, which may have any size
+abbrev pub system_in : List ℕ → Result System Bad
+system_in file = container_result system_bad (system_of file)
+
+abbrev pub witness_in : List ℕ → Result (List ℕ) Bad
+witness_in file = container_result witness_bad (assignment_of file)
+
+-- what a refused reading of the container at a word is
+abbrev pub refusal_stop : ℕ → (Fault → Bad) → ReadRefusal → Stop
+refusal_stop word bad (refusal.Bad at why) = stop.Contents (bad (record { at = at; why = why }))
+refusal_stop word bad refusal.Fault = stop.Fault word
+refusal_stop word bad refusal.Memory = stop.Memory

@@ -1,15 +1,35 @@
--- How a call of the command may end, given the answer that its words and files call for.
-use Rattle.std.specs.Prelude.{◌≡◌, ℕ, ◌≤◌, ◌⊎◌, List, [], ◌∷◌, ◌++◌, take, Option, Some, None, option_map}
-use Rattle.tv_files.specs.Outside.{Names, Outside, Rose, NoneFell, OnlyWrites, with_bytes}
-use Rattle.tv_files.specs.Whole.{HasBytes, HasPart}
+-- How a call may end, given the answer that its words and files call for.
+use Rattle.std.specs.Prelude.{◌≡◌, ℕ, ◌≤◌, ◌⊎◌, List, [], ◌∷◌, ◌++◌, take, Option, Some, None, option_map, Result, Ok, Err}
+use Rattle.tv_files.specs.Outside.{Names, Outside, NoneFell, OnlyWrites, with_bytes}
+use Rattle.tv_core.specs.declared.sink.SinkFault.{SinkFault}
+use Rattle.tv_core.specs.declared.sink.SinkFault.TheVariants as sink
+use Rattle.tv_word.specs.Counts.{Rose}
+use Rattle.tv_top.specs.declared.refusal.Cut.{Cut}
+use Rattle.tv_top.specs.declared.refusal.Cut.TheVariants as cut
+use Rattle.tv_top.specs.declared.refusal.Ending.{Ending}
+use Rattle.tv_top.specs.declared.refusal.Ending.TheVariants.{Finished}
+use Rattle.tv_top.specs.declared.refusal.Finish.{Finish}
 use Rattle.tv_top.specs.declared.status.Status.{Status}
-use Rattle.tv_top.specs.declared.status.Status.TheVariants.{Done, FileFault, Memory}
-use Rattle.tv_top.specs.Outcome.{Write, Answer}
+use Rattle.tv_top.specs.declared.status.Status.TheVariants.{FileFault, Memory}
+use Rattle.tv_top.specs.Codes.{says}
+use Rattle.tv_top.specs.Plan.{Write, Answer}
+use Rattle.tv_top.specs.Status.{ending_status, cut_status}
 
--- the files once these were written
-abbrev pub written : List Write → Names → Names
-written [] files = files
-written (w ∷ ws) files = written ws (with_bytes w.name w.bytes files)
+-- the files, where they are told, once these were written
+abbrev pub files_with : List Write → Option Names → Option Names
+files_with [] files = files
+files_with (w ∷ ws) files = files_with ws (option_map (with_bytes w.name w.bytes) files)
+
+-- all is as it was, or the name has a prefix of its bytes
+abbrev pub HasPartOf : Write → Option Names → Option Names → Type 0
+HasPartOf w old new = (new ≡ old) ⊎ ((n : ℕ) × (new ≡ option_map (with_bytes w.name (take n w.bytes)) old))
+
+-- some of these were written whole, and the next, whose name stands at this word, is as it was or has a
+-- prefix of its bytes
+abbrev pub IsCutAt : ℕ → List Write → Option Names → Option Names → Type 0
+IsCutAt word [] old new = ⊥
+IsCutAt word (w ∷ ws) old new =
+    ((word ≡ w.word) × HasPartOf w old new) ⊎ IsCutAt word ws (option_map (with_bytes w.name w.bytes) old) new
 
 -- the bytes were added to what is said
 abbrev pub Added : Outside → Outside → List ℕ → Type 0
@@ -26,31 +46,23 @@ SaidPart old new says = (bytes : List ℕ) × (n : ℕ) × (says ≡ Some bytes)
 
 -- the answer happened whole
 pub record IsAnswered (answer : Answer) (files : Names) (old new : Outside) (result : Status) : Type 0 where
-  pub status : result ≡ answer.status
-  pub contents : new.contents ≡ Some (written answer.writes files)
-  pub said : Said old new answer.says
+  pub status : result ≡ ending_status answer.ending
+  pub contents : new.contents ≡ files_with answer.writes (Some files)
+  pub said : Said old new (says answer.ending)
 
 -- nothing outside has changed
 pub record IsUntouched (old new : Outside) : Type 0 where
   pub contents : new.contents ≡ old.contents
   pub said : new.said ≡ old.said
 
--- some files were written whole, and the next, whose name stands at this word, is as it was or has a
--- prefix of its bytes
 pub record IsCutInWriting (word : ℕ) (answer : Answer) (files : Names) (old new : Outside) : Type 0 where
-  pub whole : List Write
-  pub next : Write
-  pub rest : List Write
-  pub split : answer.writes ≡ whole ++ next ∷ rest
-  pub at : next.word ≡ word
-  pub contents : (new.contents ≡ Some (written whole files))
-      ⊎ ((n : ℕ) × (new.contents ≡ Some (with_bytes next.name (take n next.bytes) (written whole files))))
+  pub contents : IsCutAt word answer.writes (Some files) new.contents
   pub said : new.said ≡ old.said
 
 -- all was written, and a prefix of the line was said
 pub record IsCutInSaying (answer : Answer) (files : Names) (old new : Outside) : Type 0 where
-  pub contents : new.contents ≡ Some (written answer.writes files)
-  pub said : SaidPart old new answer.says
+  pub contents : new.contents ≡ files_with answer.writes (Some files)
+  pub said : SaidPart old new (says answer.ending)
 
 -- nothing has changed, or writing or saying was cut short
 abbrev pub IsCutShort : Answer → Names → Outside → Outside → Type 0
@@ -67,23 +79,48 @@ Ends answer words files old new result =
     ⊎ ((result ≡ FileFault words) × IsCutInSaying answer files old new)
     ⊎ ((result ≡ Memory) × IsCutShort answer files old new)
 
--- this status was answered and what it says was said; or saying it failed, or wanted memory
-abbrev pub IsConcluded : Status → Option (List ℕ) → ℕ → Outside → Outside → Status → Type 0
-IsConcluded status says words old new result =
-    ((result ≡ status) × Said old new says)
-    ⊎ ((result ≡ FileFault words) × Rose old.say_faults new.say_faults × SaidPart old new says)
-    ⊎ ((result ≡ Memory) × Rose old.wants new.wants × SaidPart old new says)
+-- the line of this end was said, and its status answered; or saying it failed, or wanted memory
+abbrev pub IsConcluded : Ending → ℕ → Outside → Outside → Status → Type 0
+IsConcluded ending words old new result =
+    ((result ≡ ending_status ending) × Said old new (says ending))
+    ⊎ ((result ≡ FileFault words) × Rose old.say_faults new.say_faults × SaidPart old new (says ending))
+    ⊎ ((result ≡ Memory) × Rose old.wants new.wants × SaidPart old new (says ending))
 
--- what saying the line of a status does
-pub record Concludes (status : Status) (says : Option (List ℕ)) (words : ℕ) (old new : Outside) (result : Status) : Type 0 where
-  pub ended : IsConcluded status says words old new result
+-- what saying the line of an end does
+pub record Concludes (ending : Ending) (words : ℕ) (old new : Outside) (result : Status) : Type 0 where
+  pub ended : IsConcluded ending words old new result
   pub contents : new.contents ≡ old.contents
   pub later : NoneFell old new
   pub absent : new.absent ≡ old.absent
 
--- what writing the one file of a command does, whose name stands at this word
-pub record Stores (word : ℕ) (name bytes : List ℕ) (old new : Outside) (result : Status) : Type 0 where
-  pub ended : ((result ≡ Done) × HasBytes old new name bytes)
-      ⊎ ((result ≡ FileFault word) × Rose old.write_faults new.write_faults × HasPart old new name bytes)
-      ⊎ ((result ≡ Memory) × Rose old.wants new.wants × HasPart old new name bytes)
+-- how writing these ended
+abbrev pub IsWritten : List Write → Outside → Outside → Result (Unit {0}) Cut → Type 0
+IsWritten writes old new (Ok _) = new.contents ≡ files_with writes old.contents
+IsWritten writes old new (Err (cut.Fault word)) =
+    IsCutAt word writes old.contents new.contents × Rose old.write_faults new.write_faults
+IsWritten writes old new (Err cut.Memory) = (word : ℕ) × IsCutAt word writes old.contents new.contents
+
+-- what writing files does
+pub record Writes (writes : List Write) (old new : Outside) (result : Result (Unit {0}) Cut) : Type 0 where
+  pub ended : IsWritten writes old new result
   pub only : OnlyWrites old new
+
+-- what a refusal comes to of a sink that writes the file at a word, and how its writing ended
+abbrev pub sink_cut : ℕ → SinkFault → Cut
+sink_cut word sink.Failed = cut.Fault word
+sink_cut word sink.Memory = cut.Memory
+
+abbrev pub streamed : ℕ → Result (Unit {0}) SinkFault → Result (Unit {0}) Cut
+streamed word (Ok done) = Ok done
+streamed word (Err fault) = Err (sink_cut word fault)
+
+-- what follows on writing that ended so: the line of the end is said, or the cut is answered and all stays
+abbrev pub Closes : Result (Unit {0}) Cut → Finish → ℕ → Outside → Outside → Status → Type 0
+Closes (Ok done) finish words old new result = Concludes (Finished finish) words old new result
+Closes (Err cut) finish words old new result = (result ≡ cut_status cut) × (new ≡ old)
+
+-- what writing files and then saying the line of the end does
+abbrev pub Finishes : List Write → Finish → ℕ → Outside → Outside → Status → Type 0
+Finishes writes finish words old new result =
+    ((mid : Outside) × Writes writes old mid (Ok tt) × Concludes (Finished finish) words mid new result)
+    ⊎ ((cut : Cut) × (result ≡ cut_status cut) × Writes writes old new (Err cut))

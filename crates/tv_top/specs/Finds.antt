@@ -1,31 +1,57 @@
 -- What reading and judging files comes to, against what is due by what they hold.
-use Rattle.std.specs.Prelude.{◌≡◌, ℕ, ◌≤◌, ◌⊎◌, Result, Ok, Err}
-use Rattle.tv_files.specs.Outside.{Names, Outside, Told, Rose, OnlyReads}
-use Rattle.tv_top.specs.declared.status.Status.{Status}
-use Rattle.tv_top.specs.declared.status.Status.TheVariants.{Done, Usage, FileFault, Memory, SameName}
-use Rattle.tv_top.specs.Outcome.{Look}
+use Rattle.std.specs.Prelude.{◌≡◌, ℕ, ◌+◌, ◌≤◌, ◌⊎◌, List, [], ◌∷◌, length, Option, Some, None, Result, Ok, Err, nat_le, if◌then◌else◌}
+use Rattle.tv_files.specs.Outside.{Names, Outside, Told, OnlyReads}
+use Rattle.tv_word.specs.Counts.{Rose}
+use Rattle.tv_top.specs.declared.refusal.Bad.{Bad}
+use Rattle.tv_top.specs.declared.refusal.Bad.TheVariants as bad
+use Rattle.tv_top.specs.declared.refusal.Flaw.{Flaw}
+use Rattle.tv_top.specs.declared.refusal.Flaw.TheVariants as flaw
+use Rattle.tv_top.specs.declared.refusal.Size.{Size}
+use Rattle.tv_top.specs.declared.refusal.Stop.{Stop}
+use Rattle.tv_top.specs.declared.refusal.Stop.TheVariants.{Fault, Memory, Contents}
+use Rattle.tv_top.specs.Plan.{Look}
+
+-- what making ends with, as what a look ends with
+abbrev pub flaw_stop : Flaw → Stop
+flaw_stop (flaw.Contents bad) = Contents bad
+flaw_stop flaw.Memory = Memory
+
+-- what making came to, as what a look comes to
+abbrev pub from_made : {X : Type 0} → Result X Flaw → Result X Stop
+from_made (Ok x) = Ok x
+from_made (Err flaw) = Err (flaw_stop flaw)
+
+-- it is one of these
+abbrev pub IsOneOf : {A : Type 0} → A → List A → Type 0
+IsOneOf x [] = ⊥
+IsOneOf x (y ∷ ys) = (x ≡ y) ⊎ IsOneOf x ys
+
+-- the bytes of a file that may have so many: a fault where its name isn't there
+abbrev pub limited_bytes : ℕ → Size → ℕ → Option (List ℕ) → Result (List ℕ) Stop
+limited_bytes word what most None = Err (Fault word)
+limited_bytes word what most (Some bytes) =
+    if nat_le (length bytes) most then Ok bytes else Err (Contents (bad.Limit what (most + 1) most))
 
 -- what was found is what is due; or reading failed at a word that was looked at; or memory was wanting
-abbrev pub IsFound : {X A : Type 0} → (X → A) → Look A → Result X Status → Type 0
+abbrev pub IsFound : {X A : Type 0} → (X → A) → Look A → Result X Stop → Type 0
 IsFound view due (Ok x) = due.gives ≡ Ok (view x)
-IsFound view due (Err status) = (due.gives ≡ Err status)
-    ⊎ ((word : ℕ) × (status ≡ FileFault word) × (word ≤ due.at))
-    ⊎ (status ≡ Memory)
+IsFound view due (Err (Contents bad)) = due.gives ≡ Err (Contents bad)
+IsFound view due (Err (Fault word)) = word ≤ due.at
+IsFound view due (Err Memory) = Unit {0}
 
--- files were read, those whose names stand at words of this kind, and this was found
-pub record Finds {X A : Type 0} (view : X → A) (IsRead : ℕ → Type 0) (due : Names → Look A)
-    (old new : Outside) (found : Result X Status) : Type 0 where
+-- Files were read, those whose names stand at these words, and this was found. What they hold may pass the
+-- limits of these quantities alone, be their contents told or not.
+pub record Finds {X A : Type 0} (view : X → A) (words : List ℕ) (sizes : List Size) (due : Names → Look A)
+    (old new : Outside) (found : Result X Stop) : Type 0 where
   pub told : Told old (λ files. IsFound view (due files) found)
   pub absent : Told old (λ files.
-      (new.absent ≡ old.absent) ⊎ ((word : ℕ) × ((due files).gives ≡ Err (FileFault word))))
+      (new.absent ≡ old.absent) ⊎ ((word : ℕ) × ((due files).gives ≡ Err (Fault word))))
   pub only : OnlyReads old new
-  pub caused : (word : ℕ) → found ≡ Err (FileFault word)
-      → IsRead word × Rose old.read_faults new.read_faults
-  pub done : ¬ (found ≡ Err Done)
-  pub usage : ¬ (found ≡ Err Usage)
-  pub same_name : (first second : ℕ) → ¬ (found ≡ Err (SameName first second))
+  pub caused : (word : ℕ) → found ≡ Err (Fault word) → IsOneOf word words × Rose old.read_faults new.read_faults
+  pub limits : (what : Size) (has most : ℕ) → found ≡ Err (Contents (bad.Limit what has most)) → IsOneOf what sizes
 
 -- what was made is what is due, or memory was wanting
-abbrev pub Makes : {X A : Type 0} → (X → A) → Result A Status → Result X Status → Type 0
+abbrev pub Makes : {X A : Type 0} → (X → A) → Result A Bad → Result X Flaw → Type 0
 Makes view due (Ok x) = due ≡ Ok (view x)
-Makes view due (Err status) = (due ≡ Err status) ⊎ (status ≡ Memory)
+Makes view due (Err (flaw.Contents bad)) = due ≡ Err bad
+Makes view due (Err flaw.Memory) = Unit {0}

@@ -127,14 +127,14 @@ fn judges_tapes(rt: HostRuntime) -> Result<(), Fail> {
 #[test]
 fn takes_tapes_up_to_the_limits(rt: HostRuntime) -> Result<(), Fail> {
     let tapes: [(&str, usize, u8, &str); 4] = [
-        ("7 ", 65_536, 1, "no: public wire 1\n"),
-        ("7 ", 65_537, 7, "limit: tape words 65537, most 65536\n"),
-        (" ", 1_048_576, 1, "no: public wire 1\n"),
+        ("7 ", 262_144, 1, "no: public wire 1\n"),
+        ("7 ", 262_145, 7, "limit: tape words 262145, most 262144\n"),
+        (" ", 4_194_304, 1, "no: public wire 1\n"),
         (
             " ",
-            1_048_577,
+            4_194_305,
             7,
-            "limit: text bytes 1048577, most 1048576\n",
+            "limit: text bytes 4194305, most 4194304\n",
         ),
     ];
     for (item, count, code, line) in tapes {
@@ -216,8 +216,8 @@ fn judges_systems(rt: HostRuntime) -> Result<(), Fail> {
     answers(&rt, rt.alloc(), &longer, &WITNESS, Some("3"), 5, line)
 }
 
-// The line of a file that was cut, where its parts begin at these places: the part in which it ends is
-// the truncated one.
+// The line of a file that was cut, where its parts begin at these places: the part in which it ends
+// is the truncated one.
 fn truncated(alloc: Global, file: &str, begins: &[usize], size: usize) -> Result<String, Fail> {
     let mut at = 0;
     for begin in begins {

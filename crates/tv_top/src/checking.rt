@@ -1,31 +1,113 @@
-//! `check`: the three files, each read to its end and judged before the next, and the verdict on them.
-ghost use Rattle.std.specs.Prelude.{◌<◌, ◌≤◌};
-ghost use Rattle.tv_top.specs.Containers.{checked_of};
+//! `check SYSTEM WITNESS TAPE`: the three files, each read to its end and judged before the next,
+//! and the verdict on them.
+ghost use Rattle.std.specs.Prelude.{◌≡◌, [], ◌∷◌};
+ghost use Rattle.tv_top.specs.Answers.{Answers};
+ghost use Rattle.tv_top.specs.Checking.{check_twice, check_witness, check_tape, check_plan};
+ghost use Rattle.tv_top.specs.declared.refusal.Size.TheVariants.{TapeWords};
 ghost use Rattle.tv_top.specs.Finds.{Finds};
+ghost use Rattle.tv_top.specs.Plan.{refusal_of};
+ghost use Rattle.tv_top.specs.Tapes.{tape_sizes};
 
 use crate::containers::{judge_system, read_witness, survey_system};
+use crate::place::{Place, refusal_of};
+use crate::refusal::{Ending, Finish, Refusal, Stop};
 use crate::status::Status;
 use crate::tapes::read_publics;
+use crate::writing::{conclude, finish};
 use std::alloc::Global;
 use tv_check::Verdict;
+use tv_core::F;
 use tv_files::Files;
 
-/// The verdict on the three files. The system is read twice, so that a fault of it comes before any
-/// other file is read, and its constraints are tried without being kept.
-#[tactic(auto, unfolding(crate::specs::Containers::checked_of))]
-pub(crate) fn check<D: Files>(
+/// The verdict once the system and the witness were read: by the tape at word 3, and the system
+/// again.
+#[tactic(auto, unfolding(crate::specs::Checking::check_tape))]
+fn check_tape<D: Files>(
+    alloc: Global,
+    files: &mut D,
+    system: &str,
+    values: &[F],
+    tape: &str,
+) -> Result<Verdict, Stop>
+    ensures { Finds (λ v. v) (3 ∷ 1 ∷ []) (tape_sizes TapeWords)
+        (check_tape system.now values.now tape.now)
+        (D.seen files.old) (D.seen files.new) result }
+{
+    let publics = read_publics(alloc, files, tape)?;
+    judge_system(alloc, files, system, values, &publics)
+}
+
+/// The verdict once the system was read: by the witness at word 2 and the other two.
+#[tactic(auto, unfolding(crate::specs::Checking::check_witness))]
+fn check_witness<D: Files>(
     alloc: Global,
     files: &mut D,
     system: &str,
     witness: &str,
     tape: &str,
-) -> Result<Verdict, Status>
-    ensures { Finds (λ v. v) (λ at. (0 < at) × (at ≤ 3))
-        (checked_of system.now witness.now tape.now)
+) -> Result<Verdict, Stop>
+    ensures { Finds (λ v. v) (2 ∷ 3 ∷ 1 ∷ []) (tape_sizes TapeWords)
+        (check_witness system.now witness.now tape.now)
+        (D.seen files.old) (D.seen files.new) result }
+{
+    let values = read_witness(alloc, files, witness)?;
+    check_tape(alloc, files, system, &values, tape)
+}
+
+/// The verdict on the three files. The system is read twice, so that a fault of it comes before any
+/// other file is read, and its constraints are tried without being kept.
+#[tactic(auto, unfolding(crate::specs::Checking::check_twice))]
+fn verdict_on<D: Files>(
+    alloc: Global,
+    files: &mut D,
+    system: &str,
+    witness: &str,
+    tape: &str,
+) -> Result<Verdict, Stop>
+    ensures { Finds (λ v. v) (1 ∷ 2 ∷ 3 ∷ 1 ∷ []) (tape_sizes TapeWords)
+        (check_twice system.now witness.now tape.now)
         (D.seen files.old) (D.seen files.new) result }
 {
     survey_system(alloc, files, system)?;
-    let values = read_witness(alloc, files, witness)?;
-    let publics = read_publics(alloc, files, tape)?;
-    judge_system(alloc, files, system, &values, &publics)
+    check_witness(alloc, files, system, witness, tape)
+}
+
+/// What the words are refused for: nothing, since no file is written.
+pub(crate) fn check_refusal(system: &str, witness: &str, tape: &str) -> Option<Refusal>
+    ensures { let plan = check_plan system.now witness.now tape.now in
+        result ≡ refusal_of plan.reads plan.writes plan.amounts }
+{
+    let reads = [
+        Place {
+            word: 1,
+            name: system,
+        },
+        Place {
+            word: 2,
+            name: witness,
+        },
+        Place {
+            word: 3,
+            name: tape,
+        },
+    ];
+    refusal_of(&reads, &[], &[])
+}
+
+/// Does the command, whose words are so many.
+pub(crate) fn check<D: Files>(
+    alloc: Global,
+    files: &mut D,
+    words: usize,
+    system: &str,
+    witness: &str,
+    tape: &str,
+) -> Status
+    ensures { Answers (Ok (check_plan system.now witness.now tape.now)) words
+        (D.seen files.old) (D.seen files.new) result }
+{
+    match verdict_on(alloc, files, system, witness, tape) {
+        Ok(verdict) => finish(files, words, &[], Finish::Verdict(verdict)),
+        Err(stop) => conclude(files, words, Ending::Stopped(stop)),
+    }
 }

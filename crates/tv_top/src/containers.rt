@@ -1,39 +1,41 @@
 //! Systems and assignments, each read from its file to the end.
-ghost use Rattle.std.specs.Prelude.{◌≡◌};
+ghost use Rattle.std.specs.Prelude.{◌≡◌, [], ◌∷◌};
 ghost use Rattle.tv_check.specs.Verdict.{verdict_of};
 ghost use Rattle.tv_r1cs_read.specs.Survey.{survey_of};
-ghost use Rattle.tv_wtns.specs.Wtns.{assignment_of};
-ghost use Rattle.tv_top.specs.Containers.{refusal_status};
+ghost use Rattle.tv_top.specs.Checking.{check_again};
+ghost use Rattle.tv_top.specs.Containers.{refusal_stop, container_result, system_bad, witness_bad};
+ghost use Rattle.tv_top.specs.Containers.{witness_in};
 ghost use Rattle.tv_top.specs.Finds.{Finds};
-ghost use Rattle.tv_top.specs.Outcome.{held_in, system_status, witness_status};
+ghost use Rattle.tv_top.specs.Plan.{input};
 
-use crate::status::Status;
+use crate::refusal::{Bad, Stop};
 use std::alloc::Global;
 use tv_check::{Verdict, check};
+use tv_container::ReadRefusal;
 use tv_core::{Counts, F};
 use tv_files::Files;
-use tv_r1cs_read::{ReadRefusal, survey};
+use tv_r1cs_read::survey;
 use tv_wtns::read_values;
 
-/// What a refused reading of the system, whose name stands at word 1, is answered.
-fn system_refusal(refusal: ReadRefusal) -> Status
-    ensures { result ≡ refusal_status 1 system_status refusal }
+/// What a refused reading of the system is, whose name stands at word 1.
+fn system_stop(refusal: ReadRefusal) -> Stop
+    ensures { result ≡ refusal_stop 1 system_bad refusal }
 {
     match refusal {
-        ReadRefusal::Bad { at, why } => Status::BadSystem { at, why },
-        ReadRefusal::Fault => Status::FileFault { word: 1 },
-        ReadRefusal::Memory => Status::Memory,
+        ReadRefusal::Bad { at, why } => Stop::Contents(Bad::System { at, why }),
+        ReadRefusal::Fault => Stop::Fault { word: 1 },
+        ReadRefusal::Memory => Stop::Memory,
     }
 }
 
-/// What a refused reading of the witness, whose name stands at word 2, is answered.
-fn witness_refusal(refusal: ReadRefusal) -> Status
-    ensures { result ≡ refusal_status 2 witness_status refusal }
+/// What a refused reading of the witness is, whose name stands at word 2.
+fn witness_stop(refusal: ReadRefusal) -> Stop
+    ensures { result ≡ refusal_stop 2 witness_bad refusal }
 {
     match refusal {
-        ReadRefusal::Bad { at, why } => Status::BadWitness { at, why },
-        ReadRefusal::Fault => Status::FileFault { word: 2 },
-        ReadRefusal::Memory => Status::Memory,
+        ReadRefusal::Bad { at, why } => Stop::Contents(Bad::Witness { at, why }),
+        ReadRefusal::Fault => Stop::Fault { word: 2 },
+        ReadRefusal::Memory => Stop::Memory,
     }
 }
 
@@ -42,14 +44,14 @@ pub(crate) fn survey_system<D: Files>(
     alloc: Global,
     files: &mut D,
     name: &str,
-) -> Result<Counts, Status>
-    ensures { Finds (λ counts. counts) (λ at. at ≡ 1)
-        (λ held. record { at = 1; gives = held_in 1 system_status survey_of (held name.now) })
+) -> Result<Counts, Stop>
+    ensures { Finds (λ counts. counts) (1 ∷ []) []
+        (input 1 (λ file. container_result system_bad (survey_of file)) name.now)
         (D.seen files.old) (D.seen files.new) result }
 {
     match survey(alloc, files, name) {
         Ok(counts) => Ok(counts),
-        Err(refusal) => Err(system_refusal(refusal)),
+        Err(refusal) => Err(system_stop(refusal)),
     }
 }
 
@@ -58,14 +60,13 @@ pub(crate) fn read_witness<D: Files>(
     alloc: Global,
     files: &mut D,
     name: &str,
-) -> Result<Vec<F>, Status>
-    ensures { Finds (λ v. v.items) (λ at. at ≡ 2)
-        (λ held. record { at = 2; gives = held_in 2 witness_status assignment_of (held name.now) })
+) -> Result<Vec<F>, Stop>
+    ensures { Finds (λ v. v.items) (2 ∷ []) [] (input 2 witness_in name.now)
         (D.seen files.old) (D.seen files.new) result }
 {
     match read_values(alloc, files, name) {
         Ok(values) => Ok(values),
-        Err(refusal) => Err(witness_refusal(refusal)),
+        Err(refusal) => Err(witness_stop(refusal)),
     }
 }
 
@@ -76,13 +77,12 @@ pub(crate) fn judge_system<D: Files>(
     name: &str,
     values: &[F],
     publics: &[F],
-) -> Result<Verdict, Status>
-    ensures { Finds (λ verdict. verdict) (λ at. at ≡ 1)
-        (λ held. record { at = 3; gives = held_in 1 system_status (λ file. verdict_of file values.now publics.now) (held name.now) })
+) -> Result<Verdict, Stop>
+    ensures { Finds (λ verdict. verdict) (1 ∷ []) [] (check_again name.now values.now publics.now)
         (D.seen files.old) (D.seen files.new) result }
 {
     match check(alloc, files, name, values, publics) {
         Ok(verdict) => Ok(verdict),
-        Err(refusal) => Err(system_refusal(refusal)),
+        Err(refusal) => Err(system_stop(refusal)),
     }
 }

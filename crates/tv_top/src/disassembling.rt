@@ -1,29 +1,103 @@
-//! `disasm`: the program text of an image.
-ghost use Rattle.std.specs.Prelude.{◌≡◌};
-ghost use Rattle.tv_top.specs.Outcome.{text_of, disasm_of};
+//! `disasm IMAGE TEXT` and `disasm IMAGE TEXT 16`: the program text of an image.
+ghost use Rattle.std.specs.Prelude.{◌≡◌, [], ◌∷◌, map, string_bytes};
+ghost use Rattle.tv_top.specs.Answers.{Answers};
+ghost use Rattle.tv_top.specs.Disassembling.{text_of, text_in, width_word, disasm_plan};
+ghost use Rattle.tv_top.specs.declared.refusal.Size.TheVariants.{ImageBytes};
 ghost use Rattle.tv_top.specs.Finds.{Finds, Makes};
+ghost use Rattle.tv_top.specs.Plan.{input, refusal_of};
+ghost use Rattle.tv_top.specs.Programs.{bits};
 
-use crate::inputs::limited_bytes;
-use crate::limits::IMAGE_BYTES;
-use crate::status::{Status, What};
+use crate::inputs::{from_made, limited_bytes};
+use crate::limits::image_bytes_most;
+use crate::place::{Place, Write, refusal_of};
+use crate::programs::Width;
+use crate::refusal::{Ending, Finish, Flaw, Refusal, Size, Stop};
+use crate::status::Status;
+use crate::writing::{conclude, finish};
 use std::alloc::Global;
 use tv_disasm::disassemble;
 use tv_files::Files;
 
 /// The program text of an image.
-#[tactic(auto, unfolding(crate::specs::Outcome::text_of))]
-fn text_of(alloc: Global, image: &[u8]) -> Result<Vec<u8>, Status>
-    ensures { Makes (λ v. v.items) (text_of image.now) result }
+#[tactic(auto, unfolding(crate::specs::Disassembling::text_of))]
+fn text_of(alloc: Global, width: Width, image: &[u8]) -> Result<Vec<u8>, Flaw>
+    ensures { Makes (λ v. v.items) (text_of (bits width) image.now) result }
 {
-    Ok(disassemble(alloc, image)?)
+    match width {
+        Width::Bits16 => Ok(disassemble::<16>(alloc, image)?),
+        Width::Bits32 => Ok(disassemble::<32>(alloc, image)?),
+    }
 }
 
 /// The program text of the image whose name stands at word 1.
-#[tactic(auto, unfolding(crate::specs::Outcome::disasm_of))]
-pub(crate) fn disasm<D: Files>(alloc: Global, files: &mut D, image: &str) -> Result<Vec<u8>, Status>
-    ensures { Finds (λ v. v.items) (λ at. at ≡ 1) (disasm_of image.now)
+#[tactic(auto, unfolding(crate::specs::Plan::input))]
+fn read_text<D: Files>(
+    alloc: Global,
+    files: &mut D,
+    width: Width,
+    image: &str,
+) -> Result<Vec<u8>, Stop>
+    ensures { Finds (λ v. v.items) (1 ∷ []) (ImageBytes ∷ []) (input 1 (text_in width) image.now)
         (D.seen files.old) (D.seen files.new) result }
 {
-    let image = limited_bytes(alloc, files, 1, image, What::ImageBytes, IMAGE_BYTES)?;
-    text_of(alloc, &image)
+    let most = image_bytes_most(width);
+    let image = limited_bytes(alloc, files, 1, image, Size::ImageBytes, most)?;
+    from_made(text_of(alloc, width, &image))
+}
+
+/// The width that the words behind the two names tell, which may be none or `16`.
+pub(crate) fn width_word(last: &[String]) -> Option<Width>
+    ensures { result ≡ width_word (map string_bytes last.now) }
+{
+    match last {
+        [] => Some(Width::Bits32),
+        [word] if word.as_str() == "16" => Some(Width::Bits16),
+        _ => None,
+    }
+}
+
+/// What the words are refused for.
+pub(crate) fn disasm_refusal(width: Width, image: &str, text: &str) -> Option<Refusal>
+    ensures { let plan = disasm_plan width image.now text.now in
+        result ≡ refusal_of plan.reads plan.writes plan.amounts }
+{
+    refusal_of(
+        &[Place {
+            word: 1,
+            name: image,
+        }],
+        &[Place {
+            word: 2,
+            name: text,
+        }],
+        &[],
+    )
+}
+
+/// Does the command, whose words are so many.
+pub(crate) fn disasm<D: Files>(
+    alloc: Global,
+    files: &mut D,
+    words: usize,
+    width: Width,
+    image: &str,
+    text: &str,
+) -> Status
+    ensures { Answers (Ok (disasm_plan width image.now text.now)) words
+        (D.seen files.old) (D.seen files.new) result }
+{
+    match read_text(alloc, files, width, image) {
+        Ok(bytes) => {
+            let place = Place {
+                word: 2,
+                name: text,
+            };
+            let write = Write {
+                place,
+                bytes: &bytes,
+            };
+            finish(files, words, &[write], Finish::Quiet)
+        }
+        Err(stop) => conclude(files, words, Ending::Stopped(stop)),
+    }
 }

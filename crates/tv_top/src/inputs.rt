@@ -1,9 +1,8 @@
 //! Whole files that may have so many bytes.
-ghost use Rattle.std.specs.Prelude.{◌≡◌, ◌+◌, ◌<◌, ◌^◌};
-ghost use Rattle.tv_top.specs.Outcome.{limited_bytes};
-ghost use Rattle.tv_top.specs.Finds.{Finds};
+ghost use Rattle.std.specs.Prelude.{◌≡◌, ◌+◌, ◌<◌, ◌^◌, [], ◌∷◌};
+ghost use Rattle.tv_top.specs.Finds.{Finds, from_made, limited_bytes};
 
-use crate::status::{Status, What};
+use crate::refusal::{Bad, Flaw, Size, Stop};
 use std::alloc::Global;
 use tv_files::{Files, Slurp, slurp};
 
@@ -13,24 +12,32 @@ pub(crate) fn limited_bytes<D: Files>(
     files: &mut D,
     word: u32,
     name: &str,
-    what: What,
+    what: Size,
     most: u64,
-) -> Result<Vec<u8>, Status>
+) -> Result<Vec<u8>, Stop>
     requires { most + 1 < 2 ^ 64 }
-    ensures { Finds (λ v. v.items) (λ at. at ≡ word)
+    ensures { Finds (λ v. v.items) (word ∷ []) (what ∷ [])
         (λ held. record { at = word; gives = limited_bytes word what most (held name.now) })
         (D.seen files.old) (D.seen files.new) result }
 {
     match slurp(alloc, files, name, most) {
         Ok(bytes) => Ok(bytes),
-        Err(Slurp::TooLong { .. }) => Err(Status::Limit {
+        Err(Slurp::TooLong { .. }) => Err(Stop::Contents(Bad::Limit {
             what,
             has: most + 1,
             most,
-        }),
-        Err(Slurp::Fault) => Err(Status::FileFault {
-            word: u64::from(word),
-        }),
-        Err(Slurp::Memory) => Err(Status::Memory),
+        })),
+        Err(Slurp::Fault) => Err(Stop::Fault { word }),
+        Err(Slurp::Memory) => Err(Stop::Memory),
+    }
+}
+
+/// What making came to, as what a look at files comes to.
+pub(crate) fn from_made<X: Drop>(made: Result<X, Flaw>) -> Result<X, Stop>
+    ensures { result ≡ from_made made }
+{
+    match made {
+        Ok(x) => Ok(x),
+        Err(flaw) => Err(Stop::from(flaw)),
     }
 }

@@ -1,11 +1,15 @@
 //! What words ask for.
-ghost use Rattle.std.specs.Prelude.{◌≡◌, ◌^◌, map, string_bytes, Ok, Err, MatchResult};
-ghost use Rattle.tv_word.specs.Numeral.{numeral};
-ghost use Rattle.tv_top.specs.Outcome.{apart, run_job, job};
-ghost use Rattle.tv_top.specs.Asked.{asked};
+ghost use Rattle.std.specs.Prelude.{◌≡◌, map, string_bytes, Ok, Err, MatchResult, MatchOption};
+ghost use Rattle.std.specs.Prelude.{Some, None};
+ghost use Rattle.tv_top.specs.Form.{form, asm_form, disasm_form, run_form, check_form, plan_of};
+ghost use Rattle.tv_top.specs.Plan.{request_of, refusal_of};
 
-use crate::limits::STEPS;
-use crate::status::{Status, What};
+use crate::assembling::asm_refusal;
+use crate::checking::check_refusal;
+use crate::disassembling::{disasm_refusal, width_word};
+use crate::programs::Width;
+use crate::refusal::Refusal;
+use crate::running::run_refusal;
 use tv_word::decimal_of;
 
 /// A command with its words.
@@ -20,12 +24,7 @@ pub(crate) enum Job<'a> {
     Disasm {
         image: &'a str,
         text: &'a str,
-    },
-    /// Whether the assignment of a witness file satisfies a system and extends a tape.
-    Check {
-        system: &'a str,
-        witness: &'a str,
-        tape: &'a str,
+        width: Width,
     },
     /// The end of a program's run on two tapes, of so many steps at most.
     Run {
@@ -34,68 +33,123 @@ pub(crate) enum Job<'a> {
         aux: &'a str,
         steps: u64,
     },
+    /// Whether the assignment of a witness file satisfies a system and extends a tape.
+    Check {
+        system: &'a str,
+        witness: &'a str,
+        tape: &'a str,
+    },
 }
 
-/// The job, unless words 1 and 2, of which the second names a file that is to be written, are one name.
-fn apart<'a>(read: &str, written: &str, job: Job<'a>) -> Result<Job<'a>, Status>
-    ensures { let due = apart read.now written.now (asked job.entry) in
-        MatchResult result (λ found. due ≡ Ok (asked found)) (λ status. due ≡ Err status) }
+/// `asm` by the words behind its name.
+fn asm_job(words: &[String]) -> Option<Job<'_>>
+    ensures { MatchOption result (asm_form (map string_bytes words.now) ≡ None)
+        (λ job. asm_form (map string_bytes words.now) ≡ Some (plan_of job)) }
 {
-    if read == written {
-        return Err(Status::SameName {
-            first: 1,
-            second: 2,
-        });
+    let [text, image] = words else {
+        return None;
+    };
+    Some(Job::Asm {
+        text: text.as_str(),
+        image: image.as_str(),
+    })
+}
+
+/// `disasm` by the words behind its name.
+fn disasm_job(words: &[String]) -> Option<Job<'_>>
+    ensures { MatchOption result (disasm_form (map string_bytes words.now) ≡ None)
+        (λ job. disasm_form (map string_bytes words.now) ≡ Some (plan_of job)) }
+{
+    let [image, text, last @ ..] = words else {
+        return None;
+    };
+    Some(Job::Disasm {
+        width: width_word(last)?,
+        image: image.as_str(),
+        text: text.as_str(),
+    })
+}
+
+/// `run` by the words behind its name.
+fn run_job(words: &[String]) -> Option<Job<'_>>
+    ensures { MatchOption result (run_form (map string_bytes words.now) ≡ None)
+        (λ job. run_form (map string_bytes words.now) ≡ Some (plan_of job)) }
+{
+    let [text, tape, aux, steps] = words else {
+        return None;
+    };
+    Some(Job::Run {
+        text: text.as_str(),
+        tape: tape.as_str(),
+        aux: aux.as_str(),
+        steps: decimal_of(steps.as_bytes())?,
+    })
+}
+
+/// `check` by the words behind its name.
+fn check_job(words: &[String]) -> Option<Job<'_>>
+    ensures { MatchOption result (check_form (map string_bytes words.now) ≡ None)
+        (λ job. check_form (map string_bytes words.now) ≡ Some (plan_of job)) }
+{
+    let [system, witness, tape] = words else {
+        return None;
+    };
+    Some(Job::Check {
+        system: system.as_str(),
+        witness: witness.as_str(),
+        tape: tape.as_str(),
+    })
+}
+
+/// The job whose form the words have; it may still be refused.
+fn form_of(words: &[String]) -> Option<Job<'_>>
+    ensures { MatchOption result (form (map string_bytes words.now) ≡ None)
+        (λ job. form (map string_bytes words.now) ≡ Some (plan_of job)) }
+{
+    let [name, rest @ ..] = words else {
+        return None;
+    };
+    match name.as_str() {
+        "asm" => asm_job(rest),
+        "disasm" => disasm_job(rest),
+        "run" => run_job(rest),
+        "check" => check_job(rest),
+        _ => None,
     }
-    Ok(job)
 }
 
-/// The run of as many steps as a word says: from 1 up to the limit.
-fn run_job<'a>(text: &'a str, tape: &'a str, aux: &'a str, steps: &str) -> Result<Job<'a>, Status>
-    ensures { let due = run_job text.now tape.now aux.now (numeral 10 (2 ^ 64) steps.now) in
-        MatchResult result (λ found. due ≡ Ok (asked found)) (λ status. due ≡ Err status) }
+/// What a job is refused for.
+fn job_refusal(job: Job<'_>) -> Option<Refusal>
+    ensures { let plan = plan_of job.entry in
+        result ≡ refusal_of plan.reads plan.writes plan.amounts }
 {
-    match decimal_of(steps.as_bytes()) {
-        None => Err(Status::Usage),
-        Some(steps) if steps == 0 || steps > STEPS => Err(Status::Limit {
-            what: What::Steps,
-            has: steps,
-            most: STEPS,
-        }),
-        Some(steps) => Ok(Job::Run {
+    match job {
+        Job::Asm { text, image } => asm_refusal(text, image),
+        Job::Disasm { image, text, width } => disasm_refusal(width, image, text),
+        Job::Run {
             text,
             tape,
             aux,
             steps,
-        }),
+        } => run_refusal(text, tape, aux, steps),
+        Job::Check {
+            system,
+            witness,
+            tape,
+        } => check_refusal(system, witness, tape),
     }
 }
 
 /// The job that the words ask for, else the refusal.
-pub(crate) fn job_of(words: &[String]) -> Result<Job<'_>, Status>
-    ensures { let due = job (map string_bytes words.now) in
-        MatchResult result (λ found. due ≡ Ok (asked found)) (λ status. due ≡ Err status) }
+pub(crate) fn job_of(words: &[String]) -> Result<Job<'_>, Refusal>
+    ensures { let due = request_of (form (map string_bytes words.now)) in
+        MatchResult result (λ job. due ≡ Ok (plan_of job)) (λ why. due ≡ Err why) }
 {
-    match words {
-        [name, text, image] if name.as_str() == "asm" => {
-            let (text, image) = (text.as_str(), image.as_str());
-            apart(text, image, Job::Asm { text, image })
-        }
-        [name, image, text] if name.as_str() == "disasm" => {
-            let (image, text) = (image.as_str(), text.as_str());
-            apart(image, text, Job::Disasm { image, text })
-        }
-        [name, system, witness, tape] if name.as_str() == "check" => Ok(Job::Check {
-            system: system.as_str(),
-            witness: witness.as_str(),
-            tape: tape.as_str(),
-        }),
-        [name, text, tape, aux, steps] if name.as_str() == "run" => run_job(
-            text.as_str(),
-            tape.as_str(),
-            aux.as_str(),
-            steps.as_str(),
-        ),
-        _ => Err(Status::Usage),
+    let Some(job) = form_of(words) else {
+        return Err(Refusal::Usage);
+    };
+    match job_refusal(job) {
+        None => Ok(job),
+        Some(why) => Err(why),
     }
 }

@@ -1,8 +1,10 @@
-//! The command line as one function: `command` takes the words and the files, answers a status, and has
-//! said its line. Its contract is the program's promise; the binary only calls it.
+//! The command line as one function: `command` takes the words and the files, answers a status, and
+//! has said its line. Its contract is the program's promise; the binary only calls it.
 #![tactic(auto)]
 
 mod assembling;
+#[cfg(test)]
+mod call_tests;
 #[cfg(test)]
 mod check_tests;
 mod checking;
@@ -14,15 +16,21 @@ mod job;
 mod law;
 mod limits;
 mod line;
+mod place;
 #[cfg(test)]
 mod program_tests;
+mod programs;
 mod reasons;
+mod refusal;
 #[cfg(test)]
 mod run_tests;
 mod running;
 mod status;
 mod tapes;
+mod writing;
 
 pub use commands::command;
 pub use law::image_comes_back;
+pub use programs::Width;
+pub use refusal::{Bad, Cut, Ending, Finish, Flaw, Quantity, Refusal, Size, Stop};
 pub use status::{NoWhy, Status, What};

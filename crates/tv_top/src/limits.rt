@@ -1,22 +1,22 @@
-//! How much a file may hold, and how far a run may go.
+//! How large an image file may be.
+ghost use Rattle.std.specs.Prelude.{◌≡◌};
+ghost use Rattle.tv_top.specs.Disassembling.{image_bytes_most};
 
-/// The most bytes of a program text or of a tape.
-pub(crate) const TEXT_BYTES: u64 = 1_048_576;
+use crate::programs::Width;
+use tv_core::limits::{IMAGE_WORDS, IMAGE_WORDS_16};
 
-/// The most words of an image.
-pub(crate) const IMAGE_WORDS: u32 = 16_384;
+/// The most bytes of an image file of words of 32 bits.
+pub(crate) const IMAGE_BYTES: u64 = 4 * IMAGE_WORDS as u64;
+
+/// The most bytes of an image file of words of 16 bits.
+pub(crate) const IMAGE_BYTES_16: u64 = 2 * IMAGE_WORDS_16 as u64;
 
 /// The most bytes of an image file.
-pub(crate) const IMAGE_BYTES: u64 = 65_536;
-
-/// The most public numbers that `check` takes from a tape.
-pub(crate) const CHECK_TAPE_WORDS: u32 = 65_536;
-
-/// The most words of a primary tape.
-pub(crate) const TAPE_WORDS: u32 = 16_384;
-
-/// The most words of an auxiliary tape.
-pub(crate) const AUX_WORDS: u32 = 65_536;
-
-/// The most steps of a run.
-pub(crate) const STEPS: u64 = 65_536;
+pub(crate) fn image_bytes_most(width: Width) -> u64
+    ensures { result ≡ image_bytes_most width }
+{
+    match width {
+        Width::Bits16 => IMAGE_BYTES_16,
+        Width::Bits32 => IMAGE_BYTES,
+    }
+}

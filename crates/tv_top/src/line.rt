@@ -1,13 +1,15 @@
 //! The lines that commands say.
 ghost use Rattle.std.specs.Prelude.{◌≡◌, ◌+◌, ◌<◌, ◌≤◌, ◌++◌, length, codes, decimal, IfSome};
-ghost use Rattle.std.specs.Option.{ForSome, option_copied};
 ghost use Rattle.arrayvec.specs.ArrayString.{array_string_len};
-ghost use Rattle.tv_top.specs.Codes.{Reads, line, says, end_text, no_text, asm_text, read_text, what_text};
+ghost use Rattle.tv_top.specs.Codes.{Reads, line, says, end_text, verdict_text, asm_text};
+ghost use Rattle.tv_top.specs.Codes.{read_text, limit_text, refusal_text, bad_text, finish_text};
 
-use crate::reasons::{Line, MOST, push_asm, push_number, push_read, push_what};
-use crate::status::{NoWhy, Status, What};
+use crate::reasons::{Line, MOST, push_asm, push_number, push_read, what_name};
+use crate::refusal::{Bad, Ending, Finish, Refusal, Stop};
+use crate::status::What;
 use tv_asm::AsmWhy;
-use tv_r1cs_read::ReadWhy;
+use tv_check::Verdict;
+use tv_container::ReadWhy;
 use tv_step::End;
 
 /// What is said of words that are no command's.
@@ -47,7 +49,7 @@ fn pair_line(text: &str, first: u64, between: &str, second: u64) -> Line
 }
 
 /// The line of a run's end, without its own end.
-pub(crate) fn end_line(end: End) -> Line
+fn end_line(end: End) -> Line
     ensures text { result.bytes ≡ end_text end }
     ensures room { array_string_len result < MOST }
 {
@@ -60,26 +62,27 @@ pub(crate) fn end_line(end: End) -> Line
     }
 }
 
-/// The line of a no, without its end.
-fn no_line(why: NoWhy) -> Line
-    ensures text { result.bytes ≡ no_text why }
+/// The line of a verdict, without its end.
+fn verdict_line(verdict: Verdict) -> Line
+    ensures text { result.bytes ≡ verdict_text verdict }
     ensures room { array_string_len result < MOST }
 {
-    match why {
-        NoWhy::Public { at } => number_line("no: public wire ", at, ""),
-        NoWhy::Constraint { at } => number_line("no: constraint ", at, ""),
-        NoWhy::Wires { has, wants } => {
+    match verdict {
+        Verdict::Yes => text_line("yes"),
+        Verdict::WireCount { has, wants } => {
             let mut line = pair_line("no: ", has, " wires, ", wants);
             line.push_str(" wanted");
             line
         }
-        NoWhy::End { end } => end_line(end),
+        Verdict::NoPublic { at } => number_line("no: public wire ", at, ""),
+        Verdict::NoConstraint { at } => number_line("no: constraint ", at, ""),
     }
 }
 
 /// The line of a refused program, without its end.
 fn program_line(number: u64, why: AsmWhy) -> Line
-    ensures text { result.bytes ≡ codes "bad program: line " ++ decimal number ++ codes ": " ++ asm_text why }
+    ensures text { result.bytes ≡
+        codes "bad program: line " ++ decimal number ++ codes ": " ++ asm_text why }
     ensures room { array_string_len result < MOST }
 {
     let mut line = number_line("bad program: line ", number, ": ");
@@ -100,11 +103,11 @@ fn container_line(text: &str, at: u64, why: ReadWhy) -> Line
 
 /// The line of a limit, without its end.
 fn limit_line(what: What, has: u64, most: u64) -> Line
-    ensures text { result.bytes ≡ codes "limit: " ++ what_text what ++ codes " " ++ decimal has ++ codes ", most " ++ decimal most }
+    ensures text { result.bytes ≡ limit_text what has most }
     ensures room { array_string_len result < MOST }
 {
     let mut line = text_line("limit: ");
-    push_what(&mut line, what);
+    line.push_str(what_name(what));
     line.push_str(" ");
     push_number(&mut line, has);
     line.push_str(", most ");
@@ -112,42 +115,68 @@ fn limit_line(what: What, has: u64, most: u64) -> Line
     line
 }
 
-/// The line of a status without its end, where `report` is what Done says.
-fn text_of(report: Option<&str>, status: &Status) -> Option<Line>
-    requires { ForSome report (λ text. length text.now < MOST) }
-    ensures text { Reads (λ line. line.bytes) result (line (option_copied report.entry) status.now) }
-    ensures room { IfSome result (λ line. array_string_len line < MOST) }
+/// The line of refused words, without its end.
+fn refusal_line(why: Refusal) -> Line
+    ensures text { result.bytes ≡ refusal_text why }
+    ensures room { array_string_len result < MOST }
 {
-    match *status {
-        Status::Done => Some(text_line(report?)),
-        Status::No { no } => Some(no_line(no)),
-        Status::Usage => Some(text_line(USAGE)),
-        Status::BadProgram { line, why } => Some(program_line(line, why)),
-        Status::BadTape { word, at } => {
-            Some(pair_line("bad tape: word ", u64::from(word), ", item ", at))
-        }
-        Status::BadSystem { at, why } => Some(container_line("bad system: byte ", at, why)),
-        Status::BadWitness { at, why } => Some(container_line("bad witness: byte ", at, why)),
-        Status::Limit { what, has, most } => Some(limit_line(what, has, most)),
-        Status::FileFault { .. } | Status::Memory => None,
-        Status::SameName { first, second } => {
-            Some(pair_line(
-                "same name: words ",
-                u64::from(first),
-                " and ",
-                u64::from(second),
-            ))
-        }
-        Status::BadImage { len } => Some(number_line("bad image: ", len, " bytes")),
+    match why {
+        Refusal::Usage => text_line(USAGE),
+        Refusal::SameName { first, second } => pair_line(
+            "same name: words ",
+            u64::from(first),
+            " and ",
+            u64::from(second),
+        ),
+        Refusal::Limit { what, has, most } => limit_line(What::from(what), has, most),
     }
 }
 
-/// The line of a status and its line feed, where `report` is what Done says.
-pub(crate) fn line_of(report: Option<&str>, status: &Status) -> Option<Line>
-    requires { ForSome report (λ text. length text.now < MOST) }
-    ensures { Reads (λ line. line.bytes) result (says (option_copied report.entry) status.now) }
+/// The line of refused contents, without its end.
+fn bad_line(bad: Bad) -> Line
+    ensures text { result.bytes ≡ bad_text bad }
+    ensures room { array_string_len result < MOST }
 {
-    let mut line = text_of(report, status)?;
+    match bad {
+        Bad::Program { line, why } => program_line(line, why),
+        Bad::Tape { word, at } => pair_line("bad tape: word ", u64::from(word), ", item ", at),
+        Bad::System { at, why } => container_line("bad system: byte ", at, why),
+        Bad::Witness { at, why } => container_line("bad witness: byte ", at, why),
+        Bad::Image { len } => number_line("bad image: ", len, " bytes"),
+        Bad::Limit { what, has, most } => limit_line(What::from(what), has, most),
+    }
+}
+
+/// The line of a good end, without its own end.
+fn finish_line(finish: Finish) -> Option<Line>
+    ensures text { Reads (λ line. line.bytes) result (finish_text finish) }
+    ensures room { IfSome result (λ line. array_string_len line < MOST) }
+{
+    match finish {
+        Finish::Quiet => None,
+        Finish::Run(end) => Some(end_line(end)),
+        Finish::Verdict(verdict) => Some(verdict_line(verdict)),
+    }
+}
+
+/// The line of an end, without its own end.
+fn text_of(ending: Ending) -> Option<Line>
+    ensures text { Reads (λ line. line.bytes) result (line ending) }
+    ensures room { IfSome result (λ line. array_string_len line < MOST) }
+{
+    match ending {
+        Ending::Refused(why) => Some(refusal_line(why)),
+        Ending::Stopped(Stop::Contents(bad)) => Some(bad_line(bad)),
+        Ending::Stopped(_) => None,
+        Ending::Finished(finish) => finish_line(finish),
+    }
+}
+
+/// The line of an end and its line feed.
+pub(crate) fn line_of(ending: Ending) -> Option<Line>
+    ensures { Reads (λ line. line.bytes) result (says ending) }
+{
+    let mut line = text_of(ending)?;
     line.push('\n');
     Some(line)
 }

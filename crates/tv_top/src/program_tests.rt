@@ -73,13 +73,16 @@ fn refuses(
 
 #[test]
 fn assembles(rt: HostRuntime) -> Result<(), Fail> {
-    let programs: [(&str, &[u8]); 6] = [
+    let programs: [(&str, &[u8]); 9] = [
         ("add r1, r2, 5", &[0, 0, 0x48, 0x24, 5, 0, 0, 0]),
         ("answer 0", &[0, 0, 0, 0xfc, 0, 0, 0, 0]),
         ("store.w 65536, r3", &[0, 0, 0xc0, 0xe4, 0, 0, 1, 0]),
         (".raw 0x00000001, 16", &[1, 0, 0, 0, 16, 0, 0, 0]),
         ("jmp _e\n_e:", &[0, 0, 0, 0xa4, 8, 0, 0, 0]),
         ("; TinyRAM V=2.000 M=vn W=32 K=16", &[]),
+        ("; TinyRAM V=2.000 M=vn W=16 K=16", &[]),
+        ("; TinyRAM W=16\nadd r1, r2, 5", &[0x48, 0x24, 5, 0]),
+        ("; TinyRAM W=16\nanswer 0", &[0, 0xfc, 0, 0]),
     ];
     for (text, image) in programs {
         writes(&rt, rt.alloc(), "asm", text.as_bytes(), image)?;
@@ -90,7 +93,7 @@ fn assembles(rt: HostRuntime) -> Result<(), Fail> {
 #[test]
 fn refuses_programs(rt: HostRuntime) -> Result<(), Fail> {
     let operands = AsmWhy::Operands { has: 2, wants: 3 };
-    let programs: [(&str, u64, AsmWhy, &str); 4] = [
+    let programs: [(&str, u64, AsmWhy, &str); 5] = [
         (
             "add r1, r2",
             1,
@@ -110,7 +113,13 @@ fn refuses_programs(rt: HostRuntime) -> Result<(), Fail> {
             "bad program: line 2: label defined twice\n",
         ),
         (
-            "; TinyRAM V=2.000 M=vn W=16 K=16",
+            "; TinyRAM W=8",
+            1,
+            AsmWhy::BadHeader,
+            "bad program: line 1: bad header\n",
+        ),
+        (
+            "; TinyRAM W=16 W=32",
             1,
             AsmWhy::BadHeader,
             "bad program: line 1: bad header\n",
@@ -144,6 +153,55 @@ fn disassembles(rt: HostRuntime) -> Result<(), Fail> {
         13,
         "bad image: 12 bytes\n",
     )
+}
+
+// Sees that `disasm` answers so with one more word behind its names, and what it writes.
+fn disassembles_by(
+    rt: &impl Abort,
+    alloc: Global,
+    last: &str,
+    image: &[u8],
+    status: Status,
+    text: &[u8],
+) -> Result<(), Fail> {
+    let mut files = files_of(alloc, image)?;
+    let words = [
+        String::from_str(alloc, "disasm")?,
+        String::from_str(alloc, "in")?,
+        String::from_str(alloc, "out")?,
+        String::from_str(alloc, last)?,
+    ];
+    assert_eq!(rt; command(alloc, &words, &mut files), status);
+    assert_eq!(rt; files.bytes_of("out"), Some(text));
+    Ok(())
+}
+
+#[test]
+fn disassembles_words_of_16_bits(rt: HostRuntime) -> Result<(), Fail> {
+    let text = b"; TinyRAM W=16 K=16\nadd r1, r2, 5\nanswer 0\n.raw 0xb800, 0\n";
+    let image = [0x48, 0x24, 5, 0, 0, 0xfc, 0, 0, 0, 0xb8, 0, 0];
+    disassembles_by(&rt, rt.alloc(), "16", &image, Status::Done, text)?;
+    let ragged = Status::BadImage { len: 6 };
+    disassembles_by(&rt, rt.alloc(), "16", &image[..6], ragged, BEFORE)?;
+    for last in ["32", "", "016"] {
+        disassembles_by(&rt, rt.alloc(), last, &image, Status::Usage, BEFORE)?;
+    }
+    let many = repeated(rt.alloc(), &[0], 65_537)?;
+    let limit = Status::Limit {
+        what: What::ImageBytes,
+        has: 65_537,
+        most: 65_536,
+    };
+    disassembles_by(&rt, rt.alloc(), "16", &many, limit, BEFORE)?;
+    let mut text = repeated(rt.alloc(), b"; TinyRAM W=16\n", 1)?;
+    text.extend_from_slice(&repeated(rt.alloc(), b"answer 0\n", 16_385)?)?;
+    let limit = Status::Limit {
+        what: What::ImageWords,
+        has: 32_770,
+        most: 32_768,
+    };
+    let line = "limit: image words 32770, most 32768\n";
+    refuses(&rt, rt.alloc(), "asm", &text, limit, 7, line)
 }
 
 // So many times these bytes.
@@ -181,34 +239,34 @@ fn is_limited(
 fn tells_limits(rt: HostRuntime) -> Result<(), Fail> {
     let words = (
         What::ImageWords,
-        16_386,
-        16_384,
-        "limit: image words 16386, most 16384\n",
+        131_074,
+        131_072,
+        "limit: image words 131074, most 131072\n",
     );
-    is_limited(&rt, rt.alloc(), "asm", b"answer 0\n", 8_193, words)?;
+    is_limited(&rt, rt.alloc(), "asm", b"answer 0\n", 65_537, words)?;
     let text = (
         What::TextBytes,
-        1_048_577,
-        1_048_576,
-        "limit: text bytes 1048577, most 1048576\n",
+        4_194_305,
+        4_194_304,
+        "limit: text bytes 4194305, most 4194304\n",
     );
-    is_limited(&rt, rt.alloc(), "asm", b" ", 1_048_577, text)?;
+    is_limited(&rt, rt.alloc(), "asm", b" ", 4_194_305, text)?;
     let image = (
         What::ImageBytes,
-        65_537,
-        65_536,
-        "limit: image bytes 65537, most 65536\n",
+        524_289,
+        524_288,
+        "limit: image bytes 524289, most 524288\n",
     );
-    is_limited(&rt, rt.alloc(), "disasm", &[0], 65_537, image)
+    is_limited(&rt, rt.alloc(), "disasm", &[0], 524_289, image)
 }
 
 #[test]
 fn serves_files_at_their_limits(rt: HostRuntime) -> Result<(), Fail> {
-    let image = repeated(rt.alloc(), &[0, 0, 0, 0xfc, 0, 0, 0, 0], 8_192)?;
-    let text = repeated(rt.alloc(), b"answer 0\n", 8_192)?;
+    let image = repeated(rt.alloc(), &[0, 0, 0, 0xfc, 0, 0, 0, 0], 65_536)?;
+    let text = repeated(rt.alloc(), b"answer 0\n", 65_536)?;
     writes(&rt, rt.alloc(), "asm", &text, &image)?;
     writes(&rt, rt.alloc(), "disasm", &image, &text)?;
-    let blanks = repeated(rt.alloc(), b" ", 1_048_576)?;
+    let blanks = repeated(rt.alloc(), b" ", 4_194_304)?;
     writes(&rt, rt.alloc(), "asm", &blanks, b"")
 }
 

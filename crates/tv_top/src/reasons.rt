@@ -7,10 +7,11 @@ use crate::status::What;
 use arrayvec::ArrayString;
 use itoa::Buffer;
 use tv_asm::AsmWhy;
-use tv_r1cs_read::ReadWhy;
+use tv_container::ReadWhy;
 
-/// The most bytes of a line, its line feed among them.
-pub(crate) const MOST: usize = 128;
+/// The most bytes of a line, its line feed among them: room for the longest, that of `trial`, which
+/// has five numbers.
+pub(crate) const MOST: usize = 192;
 
 /// A line that takes no memory.
 pub(crate) type Line = ArrayString<MOST>;
@@ -53,7 +54,8 @@ pub(crate) fn push_asm(line: &mut Line, why: AsmWhy)
 fn push_between(line: &mut Line, before: &str, number: u32, after: &str)
     requires { array_string_len line.old + length before.now + length after.now + 20 ≤ MOST }
     ensures text { line.new.bytes ≡ line.old.bytes ++ before.now ++ decimal number ++ after.now }
-    ensures room { array_string_len line.new ≤ array_string_len line.old + length before.now + length after.now + 20 }
+    ensures room { array_string_len line.new ≤
+        array_string_len line.old + length before.now + length after.now + 20 }
 {
     line.push_str(before);
     push_number(line, u64::from(number));
@@ -88,18 +90,17 @@ pub(crate) fn push_read(line: &mut Line, why: ReadWhy)
     }
 }
 
-/// Adds the name of a quantity.
-pub(crate) fn push_what(line: &mut Line, what: What)
-    requires { array_string_len line.old + 60 ≤ MOST }
-    ensures text { line.new.bytes ≡ line.old.bytes ++ what_text what }
-    ensures room { array_string_len line.new ≤ array_string_len line.old + 60 }
+/// The name of a quantity.
+pub(crate) fn what_name(what: What) -> &'static str
+    ensures text { result.now ≡ what_text what }
+    ensures room { length result.now ≤ 20 }
 {
     match what {
-        What::ImageWords => line.push_str("image words"),
-        What::ImageBytes => line.push_str("image bytes"),
-        What::TapeWords => line.push_str("tape words"),
-        What::AuxWords => line.push_str("aux words"),
-        What::TextBytes => line.push_str("text bytes"),
-        What::Steps => line.push_str("steps"),
+        What::ImageWords => "image words",
+        What::ImageBytes => "image bytes",
+        What::TapeWords => "tape words",
+        What::AuxWords => "aux words",
+        What::TextBytes => "text bytes",
+        What::Steps => "steps",
     }
 }

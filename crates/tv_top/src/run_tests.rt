@@ -14,7 +14,7 @@ const THREE_READS: &str = "read r1, 0\nread r2, 0\nread r3, 2\nanswer r1";
 const WRAPS: &str = "cjmp 17\njmp 4294967288\nanswer 0";
 
 const STORES: &str =
-    "mov r1, 0x11223344\nmov r2, 0xab\nstore.w 65536, r1\nstore.b 65537, r2\nload.w r3, 65539\nanswer r3";
+    "mov r1,0x11223344\nmov r2,0xab\nstore.w 65536,r1\nstore.b 65537,r2\nload.w r3,65539\nanswer r3";
 
 // A store to the last word of memory, and bytes on both sides of a page's end.
 const STORES_AT_THE_TOP: &str =
@@ -28,7 +28,8 @@ const REWRITES: &str = "mov r1, 0xfc000000\nstore.w 16, r1\n.raw 0, 0";
 // A run: the three files, the number of steps, and what is answered.
 type Case<'a> = (&'a str, &'a str, &'a str, &'a str, u8, &'a str);
 
-// What `run` answers over these three files, which stay as they are, and the file calls that it made.
+// What `run` answers over these three files, which stay as they are, and the file calls that it
+// made.
 fn runs(rt: &impl Abort, alloc: Global, case: Case<'_>) -> Result<(Status, u64), Fail> {
     let (text, tape, aux, steps, code, line) = case;
     let mut files = MemFiles::new(alloc);
@@ -51,8 +52,21 @@ fn runs(rt: &impl Abort, alloc: Global, case: Case<'_>) -> Result<(Status, u64),
     Ok((status, files.calls()))
 }
 
+// A program that answers 7.
+const SEVEN: &str = "mov r1, 7\nanswer r1";
+
+// Programs for words of 16 bits.
+const ADDS_16: &str = "; TinyRAM W=16\nmov r1, 65535\nadd r2, r1, 1\nanswer r2";
+
+const MULTIPLIES_16: &str =
+    "; TinyRAM W=16\nmov r1, 0x8000\nsmulh r2, r1, r1\nsub r2, r2, 0x4000\nanswer r2";
+
+const WRAPS_16: &str = "; TinyRAM W=16\ncjmp 9\njmp 65532\nanswer 0";
+
+const READS_16: &str = "; TinyRAM W=16\nread r1, 0\nanswer r1";
+
 // Runs, and how they end.
-const ENDS: [Case<'static>; 15] = [
+const ENDS: [Case<'static>; 20] = [
     (
         ".raw 0xB8000000, 0",
         "",
@@ -62,20 +76,21 @@ const ENDS: [Case<'static>; 15] = [
         "undefined opcode 23 at step 1\n",
     ),
     ("", "", "", "64", 1, "no answer in 64 steps\n"),
+    ("", "", "", "262144", 1, "no answer in 262144 steps\n"),
     (TWO_READS, "", "9 9", "4", 0, "answer 0 at step 4\n"),
-    (TWO_READS, "", "9", "4", 1, "answer 9 at step 4\n"),
+    (TWO_READS, "", "9", "4", 0, "answer 9 at step 4\n"),
     (TWO_READS, "", "", "4", 0, "answer 0 at step 4\n"),
     (TWO_READS, "", "9 9", "3", 1, "no answer in 3 steps\n"),
     (TWO_READS, "7 9", "9 9", "0004", 0, "answer 0 at step 4\n"),
     (WRAPS, "", "", "5", 0, "answer 0 at step 5\n"),
-    (STORES, "", "", "6", 1, "answer 287484740 at step 6\n"),
+    (STORES, "", "", "6", 0, "answer 287484740 at step 6\n"),
     (STORES_AT_THE_TOP, "", "", "5", 0, "answer 0 at step 5\n"),
     (
         CROSSES_PAGES,
         "",
         "",
         "6",
-        1,
+        0,
         "answer 117440512 at step 6\n",
     ),
     (REWRITES, "", "", "3", 0, "answer 0 at step 3\n"),
@@ -84,11 +99,15 @@ const ENDS: [Case<'static>; 15] = [
         "4294967295",
         "",
         "4",
-        1,
+        0,
         "answer 4294967295 at step 4\n",
     ),
-    ("jmp 0", "", "", "65536", 1, "no answer in 65536 steps\n"),
-    ("answer 0", "", "", "1", 0, "answer 0 at step 1\n"),
+    (SEVEN, "", "", "2", 0, "answer 7 at step 2\n"),
+    (SEVEN, "", "", "1", 1, "no answer in 1 steps\n"),
+    (ADDS_16, "", "", "3", 0, "answer 0 at step 3\n"),
+    (MULTIPLIES_16, "", "", "4", 0, "answer 0 at step 4\n"),
+    (WRAPS_16, "", "", "5", 0, "answer 0 at step 5\n"),
+    (READS_16, "65535", "", "2", 0, "answer 65535 at step 2\n"),
 ];
 
 #[test]
@@ -102,13 +121,13 @@ fn says_how_runs_end(rt: HostRuntime) -> Result<(), Fail> {
 const USAGE: &str = "usage: asm, disasm, run, build, witness, check, extract, trial\n";
 
 // What is no run, and how many file calls are made.
-const REFUSED: [(Case<'static>, u64); 10] = [
+const REFUSED: [(Case<'static>, u64); 12] = [
     ((TWO_READS, "", "", "x", 2, USAGE), 1),
     ((TWO_READS, "", "", "", 2, USAGE), 1),
     ((TWO_READS, "", "", "+1", 2, USAGE), 1),
     ((TWO_READS, "", "", "18446744073709551616", 2, USAGE), 1),
     (
-        (TWO_READS, "", "", "0", 7, "limit: steps 0, most 65536\n"),
+        (TWO_READS, "", "", "0", 7, "limit: steps 0, most 262144\n"),
         1,
     ),
     (
@@ -116,9 +135,9 @@ const REFUSED: [(Case<'static>, u64); 10] = [
             TWO_READS,
             "",
             "",
-            "65537",
+            "262145",
             7,
-            "limit: steps 65537, most 65536\n",
+            "limit: steps 262145, most 262144\n",
         ),
         1,
     ),
@@ -135,6 +154,17 @@ const REFUSED: [(Case<'static>, u64); 10] = [
     ),
     (
         (
+            "; TinyRAM W=16\nmov r1, 65536",
+            "",
+            "",
+            "1",
+            3,
+            "bad program: line 2: bad number\n",
+        ),
+        3,
+    ),
+    (
+        (
             THREE_READS,
             "4294967296",
             "x",
@@ -146,6 +176,10 @@ const REFUSED: [(Case<'static>, u64); 10] = [
     ),
     (
         (THREE_READS, "1 x", "", "4", 4, "bad tape: word 2, item 1\n"),
+        5,
+    ),
+    (
+        (READS_16, "65536", "x", "2", 4, "bad tape: word 2, item 0\n"),
         5,
     ),
     (
@@ -172,15 +206,15 @@ fn refuses_what_is_no_run(rt: HostRuntime) -> Result<(), Fail> {
 
 #[test]
 fn tells_the_end(rt: HostRuntime) -> Result<(), Fail> {
-    let nine = (TWO_READS, "", "9", "4", 1, "answer 9 at step 4\n");
-    let end = End::Answer { value: 9, step: 4 };
+    let silent = (TWO_READS, "", "9", "3", 1, "no answer in 3 steps\n");
+    let end = End::Silent { steps: 3 };
     let no = NoWhy::End { end };
-    assert_eq!(rt; runs(&rt, rt.alloc(), nine)?.0, Status::No { no });
-    let none = (TWO_READS, "", "", "0", 7, "limit: steps 0, most 65536\n");
+    assert_eq!(rt; runs(&rt, rt.alloc(), silent)?.0, Status::No { no });
+    let none = (TWO_READS, "", "", "0", 7, "limit: steps 0, most 262144\n");
     let limit = Status::Limit {
         what: What::Steps,
         has: 0,
-        most: 65_536,
+        most: 262_144,
     };
     assert_eq!(rt; runs(&rt, rt.alloc(), none)?.0, limit);
     Ok(())
@@ -197,7 +231,7 @@ fn ones(alloc: Global, count: u64) -> Result<String, Fail> {
 
 #[test]
 fn tapes_have_their_limits(rt: HostRuntime) -> Result<(), Fail> {
-    let words = ones(rt.alloc(), 16_384)?;
+    let words = ones(rt.alloc(), 131_072)?;
     let done = (
         "answer 0",
         words.as_str(),
@@ -207,14 +241,14 @@ fn tapes_have_their_limits(rt: HostRuntime) -> Result<(), Fail> {
         "answer 0 at step 1\n",
     );
     runs(&rt, rt.alloc(), done)?;
-    let line = "limit: tape words 16385, most 16384\n";
-    let words = ones(rt.alloc(), 16_385)?;
+    let line = "limit: tape words 131073, most 131072\n";
+    let words = ones(rt.alloc(), 131_073)?;
     runs(
         &rt,
         rt.alloc(),
         ("answer 0", words.as_str(), "", "1", 7, line),
     )?;
-    let words = ones(rt.alloc(), 65_536)?;
+    let words = ones(rt.alloc(), 262_144)?;
     let done = (
         "answer 0",
         "",
@@ -224,8 +258,8 @@ fn tapes_have_their_limits(rt: HostRuntime) -> Result<(), Fail> {
         "answer 0 at step 1\n",
     );
     runs(&rt, rt.alloc(), done)?;
-    let line = "limit: aux words 65537, most 65536\n";
-    let words = ones(rt.alloc(), 65_537)?;
+    let line = "limit: aux words 262145, most 262144\n";
+    let words = ones(rt.alloc(), 262_145)?;
     runs(
         &rt,
         rt.alloc(),

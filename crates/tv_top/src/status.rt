@@ -1,25 +1,24 @@
 //! What a command answers.
 ghost use Rattle.std.specs.Prelude.{◌≡◌};
-ghost use Rattle.tv_top.specs.Codes.{code_of};
+ghost use Rattle.tv_top.specs.Status.{code_of};
 
-use std::alloc::AllocError;
-use tv_asm::{AsmFault, AsmWhy};
+use crate::refusal::{Bad, Cut, Ending, Finish, Quantity, Refusal, Size, Stop};
+use tv_asm::AsmWhy;
 use tv_check::Verdict;
-use tv_disasm::DisFault;
-use tv_r1cs_read::ReadWhy;
+use tv_container::ReadWhy;
 use tv_step::End;
 
 /// Why `check` or `run` says no.
 #[derive(Clone, Copy, Debug, PartialEq, Eq)]
 pub enum NoWhy {
-    /// The public wire with this number, 0 for the constant 1, has another value than the tape gives,
-    /// or is missing on one side.
+    /// The public wire with this number, 0 for the constant 1, has another value than the tape
+    /// gives, or is missing on one side.
     Public { at: u64 },
     /// The constraint with this number, the first that fails, doesn't hold.
     Constraint { at: u64 },
     /// The witness has `has` values, the system `wants` wires.
     Wires { has: u64, wants: u64 },
-    /// The run ends otherwise than by the answer 0.
+    /// The run ends otherwise than by an answer.
     End { end: End },
 }
 
@@ -45,8 +44,8 @@ pub enum What {
 pub enum Status {
     /// The command did what its words say.
     Done,
-    /// `check`: the assignment doesn't satisfy the system, or doesn't extend the tape. `run`: the machine
-    /// doesn't answer 0 within the steps.
+    /// `check`: the assignment doesn't satisfy the system, or doesn't extend the tape. `run`: the
+    /// machine doesn't answer within the steps.
     No { no: NoWhy },
     /// The words are no command's.
     Usage,
@@ -60,13 +59,14 @@ pub enum Status {
     BadWitness { at: u64, why: ReadWhy },
     /// There are `has` of a quantity of which there may be `most`, or 0 of one that begins at 1.
     Limit { what: What, has: u64, most: u64 },
-    /// A file call failed, on the name at this word, or, at the number of words, in saying the line.
+    /// A file call failed, on the name at this word, or, at the number of words, in saying the
+    /// line.
     FileFault { word: u64 },
     /// Memory was wanting.
     Memory,
     /// Two words name one file, which is to be written.
     SameName { first: u32, second: u32 },
-    /// An image file of `len` bytes, which isn't a multiple of 8.
+    /// An image file of `len` bytes, which aren't whole instructions of two words.
     BadImage { len: u64 },
 }
 
@@ -92,49 +92,121 @@ impl Status {
     }
 }
 
-impl From<AllocError> for Status {
-    ghost use Rattle.tv_top.specs.declared.status.Status.TheVariants.{Memory};
+impl From<Quantity> for What {
+    ghost use Rattle.tv_top.specs.Status.{quantity_what};
 
-    ghost from_gives = { λ _ status. status ≡ Memory };
+    ghost from_gives = { λ quantity what. what ≡ quantity_what quantity };
 
-    fn from(_: AllocError) -> Status {
-        Status::Memory
-    }
-}
-
-impl From<AsmFault> for Status {
-    ghost use Rattle.tv_top.specs.Outcome.{asm_status};
-
-    ghost from_gives = { λ fault status. status ≡ asm_status fault };
-
-    fn from(fault: AsmFault) -> Status {
-        match fault {
-            AsmFault::Bad { line, why } => Status::BadProgram { line, why },
-            AsmFault::TooMany { most, .. } => Status::Limit {
-                what: What::ImageWords,
-                has: u64::from(most) + 2,
-                most: u64::from(most),
-            },
-            AsmFault::Memory => Status::Memory,
+    fn from(quantity: Quantity) -> What {
+        match quantity {
+            Quantity::Steps => What::Steps,
         }
     }
 }
 
-impl From<DisFault> for Status {
-    ghost use Rattle.tv_top.specs.Outcome.{dis_status};
+impl From<Size> for What {
+    ghost use Rattle.tv_top.specs.Status.{size_what};
 
-    ghost from_gives = { λ fault status. status ≡ dis_status fault };
+    ghost from_gives = { λ size what. what ≡ size_what size };
 
-    fn from(fault: DisFault) -> Status {
-        match fault {
-            DisFault::Ragged { len } => Status::BadImage { len },
-            DisFault::Memory => Status::Memory,
+    fn from(size: Size) -> What {
+        match size {
+            Size::ImageWords => What::ImageWords,
+            Size::ImageBytes => What::ImageBytes,
+            Size::TapeWords => What::TapeWords,
+            Size::AuxWords => What::AuxWords,
+            Size::TextBytes => What::TextBytes,
+        }
+    }
+}
+
+impl From<Refusal> for Status {
+    ghost use Rattle.tv_top.specs.Status.{refusal_status};
+
+    ghost from_gives = { λ why status. status ≡ refusal_status why };
+
+    fn from(why: Refusal) -> Status {
+        match why {
+            Refusal::Usage => Status::Usage,
+            Refusal::SameName { first, second } => Status::SameName { first, second },
+            Refusal::Limit { what, has, most } => Status::Limit {
+                what: What::from(what),
+                has,
+                most,
+            },
+        }
+    }
+}
+
+impl From<Bad> for Status {
+    ghost use Rattle.tv_top.specs.Status.{bad_status};
+
+    ghost from_gives = { λ bad status. status ≡ bad_status bad };
+
+    fn from(bad: Bad) -> Status {
+        match bad {
+            Bad::Program { line, why } => Status::BadProgram { line, why },
+            Bad::Tape { word, at } => Status::BadTape { word, at },
+            Bad::System { at, why } => Status::BadSystem { at, why },
+            Bad::Witness { at, why } => Status::BadWitness { at, why },
+            Bad::Image { len } => Status::BadImage { len },
+            Bad::Limit { what, has, most } => Status::Limit {
+                what: What::from(what),
+                has,
+                most,
+            },
+        }
+    }
+}
+
+impl From<Stop> for Status {
+    ghost use Rattle.tv_top.specs.Status.{stop_status};
+
+    ghost from_gives = { λ stop status. status ≡ stop_status stop };
+
+    fn from(stop: Stop) -> Status {
+        match stop {
+            Stop::Fault { word } => Status::FileFault {
+                word: u64::from(word),
+            },
+            Stop::Memory => Status::Memory,
+            Stop::Contents(bad) => Status::from(bad),
+        }
+    }
+}
+
+impl From<Cut> for Status {
+    ghost use Rattle.tv_top.specs.Status.{cut_status};
+
+    ghost from_gives = { λ cut status. status ≡ cut_status cut };
+
+    fn from(cut: Cut) -> Status {
+        match cut {
+            Cut::Fault { word } => Status::FileFault {
+                word: u64::from(word),
+            },
+            Cut::Memory => Status::Memory,
+        }
+    }
+}
+
+impl From<End> for Status {
+    ghost use Rattle.tv_top.specs.Status.{run_status};
+
+    ghost from_gives = { λ end status. status ≡ run_status end };
+
+    fn from(end: End) -> Status {
+        match end {
+            End::Answer { .. } => Status::Done,
+            End::Undefined { .. } | End::Silent { .. } => Status::No {
+                no: NoWhy::End { end },
+            },
         }
     }
 }
 
 impl From<Verdict> for Status {
-    ghost use Rattle.tv_top.specs.Outcome.{verdict_status};
+    ghost use Rattle.tv_top.specs.Status.{verdict_status};
 
     ghost from_gives = { λ verdict status. status ≡ verdict_status verdict };
 
@@ -154,17 +226,30 @@ impl From<Verdict> for Status {
     }
 }
 
-impl From<End> for Status {
-    ghost use Rattle.tv_top.specs.Outcome.{end_status};
+impl From<Finish> for Status {
+    ghost use Rattle.tv_top.specs.Status.{finish_status};
 
-    ghost from_gives = { λ end status. status ≡ end_status end };
+    ghost from_gives = { λ finish status. status ≡ finish_status finish };
 
-    fn from(end: End) -> Status {
-        match end {
-            End::Answer { value: 0, .. } => Status::Done,
-            _ => Status::No {
-                no: NoWhy::End { end },
-            },
+    fn from(finish: Finish) -> Status {
+        match finish {
+            Finish::Quiet => Status::Done,
+            Finish::Run(end) => Status::from(end),
+            Finish::Verdict(verdict) => Status::from(verdict),
+        }
+    }
+}
+
+impl From<Ending> for Status {
+    ghost use Rattle.tv_top.specs.Status.{ending_status};
+
+    ghost from_gives = { λ ending status. status ≡ ending_status ending };
+
+    fn from(ending: Ending) -> Status {
+        match ending {
+            Ending::Refused(why) => Status::from(why),
+            Ending::Stopped(stop) => Status::from(stop),
+            Ending::Finished(finish) => Status::from(finish),
         }
     }
 }

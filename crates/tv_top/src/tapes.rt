@@ -1,30 +1,36 @@
 //! The public numbers of a tape, and the words of a tape that the machine reads.
-ghost use Rattle.std.specs.Prelude.{◌≡◌, ◌%◌, ◌^◌, map, IfOk};
+ghost use Rattle.std.specs.Prelude.{◌≡◌, ◌%◌, ◌^◌, ◌<◌, ◌≤◌, All, [], ◌∷◌, map, IfOk};
 ghost use Rattle.tv_core.specs.declared.field.TheConstants.{P};
+ghost use Rattle.tv_core.specs.declared.limits.TheConstants.{CHECK_WORDS};
+ghost use Rattle.tv_top.specs.declared.refusal.Size.TheVariants as size;
 ghost use Rattle.tv_top.specs.Finds.{Finds, Makes};
-ghost use Rattle.tv_top.specs.Outcome.{tape_status, publics_of, publics_at, words_of, words_at};
+ghost use Rattle.tv_top.specs.Plan.{input};
+ghost use Rattle.tv_top.specs.Tapes.{tape_flaw, numbers_of, numbers_in, publics_in, tape_sizes};
 
-use crate::inputs::limited_bytes;
-use crate::limits::{CHECK_TAPE_WORDS, TEXT_BYTES};
-use crate::status::{Status, What};
+use crate::inputs::{from_made, limited_bytes};
+use crate::place::Place;
+use crate::refusal::{Bad, Flaw, Size, Stop};
 use std::alloc::{AllocError, Global};
+use tv_core::limits::{CHECK_WORDS, TEXT_BYTES};
 use tv_core::{F, P};
 use tv_files::Files;
 use tv_tape::{TapeFault, read_tape};
 use tv_word::Words;
 
-/// What a refused tape is answered, whose name stands at this word, and whose items are this quantity.
-fn tape_refusal(word: u32, what: What, fault: TapeFault) -> Status
-    ensures { result ≡ tape_status word what fault }
+/// What a refused tape is, whose name stands at this word, and whose items are this quantity.
+fn tape_flaw(word: u32, what: Size, fault: TapeFault) -> Flaw
+    ensures { result ≡ tape_flaw word what fault }
 {
     match fault {
-        TapeFault::BadItem { at } | TapeFault::TooBig { at } => Status::BadTape { word, at },
-        TapeFault::TooMany { most } => Status::Limit {
+        TapeFault::BadItem { at } | TapeFault::TooBig { at } => {
+            Flaw::Contents(Bad::Tape { word, at })
+        }
+        TapeFault::TooMany { most } => Flaw::Contents(Bad::Limit {
             what,
             has: u64::from(most) + 1,
             most: u64::from(most),
-        },
-        TapeFault::Memory => Status::Memory,
+        }),
+        TapeFault::Memory => Flaw::Memory,
     }
 }
 
@@ -39,33 +45,34 @@ fn residues(alloc: Global, numbers: &[u64]) -> Result<Vec<F>, AllocError>
     Ok(residues)
 }
 
-/// The public numbers of a tape's text.
-#[tactic(auto, unfolding(crate::specs::Outcome::publics_of))]
-fn publics_of(alloc: Global, text: &[u8]) -> Result<Vec<F>, Status>
-    ensures { Makes (λ v. v.items) (publics_of text.now) result }
+/// The public numbers of the text of the tape at word 3.
+#[tactic(auto, unfolding(crate::specs::Tapes::numbers_of))]
+fn publics_of(alloc: Global, text: &[u8]) -> Result<Vec<F>, Flaw>
+    ensures { Makes (λ v. v.items) (numbers_of 3 size.TapeWords P CHECK_WORDS text.now) result }
 {
-    match read_tape(alloc, text, P, CHECK_TAPE_WORDS) {
+    match read_tape(alloc, text, P, CHECK_WORDS) {
         Ok(numbers) => Ok(residues(alloc, &numbers)?),
-        Err(fault) => Err(tape_refusal(3, What::TapeWords, fault)),
+        Err(fault) => Err(tape_flaw(3, Size::TapeWords, fault)),
     }
 }
 
-/// The public numbers of the tape, whose name stands at word 3.
-#[tactic(auto, unfolding(crate::specs::Outcome::publics_at))]
+/// The public numbers of the tape whose name stands at word 3.
+#[tactic(auto, unfolding(crate::specs::Plan::input))]
 pub(crate) fn read_publics<D: Files>(
     alloc: Global,
     files: &mut D,
     name: &str,
-) -> Result<Vec<F>, Status>
-    ensures { Finds (λ v. v.items) (λ at. at ≡ 3) (publics_at name.now)
+) -> Result<Vec<F>, Stop>
+    ensures { Finds (λ v. v.items) (3 ∷ []) (tape_sizes size.TapeWords)
+        (input 3 publics_in name.now)
         (D.seen files.old) (D.seen files.new) result }
 {
-    let text = limited_bytes(alloc, files, 3, name, What::TextBytes, TEXT_BYTES)?;
-    publics_of(alloc, &text)
+    let text = limited_bytes(alloc, files, 3, name, Size::TextBytes, TEXT_BYTES)?;
+    from_made(publics_of(alloc, &text))
 }
 
 /// Numbers as words.
-fn narrowed(alloc: Global, numbers: &[u64]) -> Result<Words, AllocError>
+fn words_from(alloc: Global, numbers: &[u64]) -> Result<Words, AllocError>
     ensures { IfOk result (λ words. words ≡ map (λ n. n % 2 ^ 32) numbers.now) }
 {
     let mut words = Words::new(alloc);
@@ -75,30 +82,50 @@ fn narrowed(alloc: Global, numbers: &[u64]) -> Result<Words, AllocError>
     Ok(words)
 }
 
-/// The words of a tape's text.
-#[tactic(auto, unfolding(crate::specs::Outcome::words_of))]
-fn words_of(alloc: Global, word: u32, what: What, most: u32, text: &[u8]) -> Result<Words, Status>
-    ensures { Makes (λ words. words) (words_of word what most text.now) result }
+/// The words of the text of the tape at this word, below a bound each.
+#[tactic(auto, unfolding(crate::specs::Tapes::numbers_of))]
+fn words_of(
+    alloc: Global,
+    word: u32,
+    what: Size,
+    below: u64,
+    most: u32,
+    text: &[u8],
+) -> Result<Words, Flaw>
+    requires { below ≤ 2 ^ 32 }
+    ensures made { Makes (λ words. words) (numbers_of word what below most text.now) result }
+    ensures below { IfOk result (λ words. All (λ v. v < below) words) }
 {
-    match read_tape(alloc, text, 1 << 32, most) {
-        Ok(numbers) => Ok(narrowed(alloc, &numbers)?),
-        Err(fault) => Err(tape_refusal(word, what, fault)),
+    match read_tape(alloc, text, below, most) {
+        Ok(numbers) => Ok(words_from(alloc, &numbers)?),
+        Err(fault) => Err(tape_flaw(word, what, fault)),
     }
 }
 
-/// The words of the tape whose name stands at this word: at most so many of this quantity.
-#[tactic(auto, unfolding(crate::specs::Outcome::words_at))]
+/// The words of the tape whose name stands at this word: below a bound each, and at most so many of
+/// this quantity.
+#[tactic(auto, unfolding(crate::specs::Plan::input))]
 pub(crate) fn read_words<D: Files>(
     alloc: Global,
     files: &mut D,
-    word: u32,
-    name: &str,
-    what: What,
+    place: Place<'_>,
+    what: Size,
+    below: u64,
     most: u32,
-) -> Result<Words, Status>
-    ensures { Finds (λ words. words) (λ at. at ≡ word) (words_at word what most name.now)
+) -> Result<Words, Stop>
+    requires { below ≤ 2 ^ 32 }
+    ensures found { Finds (λ words. words) (place.entry.word ∷ []) (tape_sizes what)
+        (input place.entry.word (numbers_in place.entry.word what below most) place.entry.name.now)
         (D.seen files.old) (D.seen files.new) result }
+    ensures below { IfOk result (λ words. All (λ v. v < below) words) }
 {
-    let text = limited_bytes(alloc, files, word, name, What::TextBytes, TEXT_BYTES)?;
-    words_of(alloc, word, what, most, &text)
+    let text = limited_bytes(
+        alloc,
+        files,
+        place.word,
+        place.name,
+        Size::TextBytes,
+        TEXT_BYTES,
+    )?;
+    from_made(words_of(alloc, place.word, what, below, most, &text))
 }

@@ -1,12 +1,12 @@
-use Rattle.std.proofs.Common.{◌≡◌}
-use Rattle.tv_top.specs.declared.limits.TheConstants.{TEXT_BYTES}
-use Rattle.tv_top.specs.declared.status.What.TheVariants.{TextBytes}
-use Rattle.tv_top.specs.Outcome.{limited_bytes, image_of, asm_of}
-use Rattle.tv_top.proofs.Making.{made_found, image_refused}
+use Rattle.std.proofs.Common.{refl}
+use Rattle.tv_top.specs.Assembling.{image_in, asm_plan, asm_ends}
+use Rattle.tv_top.specs.Plan.{input}
+use Rattle.tv_top.proofs.Answering.{answers_found, answers_stopped}
 use Rattle.tv_top.proofs.assembling.asm.Goals as goal
 
-pub returns : goal.returns
-unfolding asm_of
-returns g c =
-    made_found (λ v. v.items) (λ v. v.items) (λ at. at ≡ 1) (λ held. record { at = 1; gives = limited_bytes 1 TextBytes TEXT_BYTES (held c.args.text.now) }) image_of 1 _ c.image_of.result _ _
-    image_refused c.in_ok-text.ensures (rw c.deref.ensures.value at c.image_of.ensures)
+pub returns-in-Ok : goal.returns-in-Ok
+returns-in-Ok g c = answers_found (asm_plan c.args.text.now c.args.image.now) (λ v. v.items) asm_ends (input 1 image_in c.args.text.now) c.in-Ok.bytes c.args.words _ _ _ _
+    refl refl c.in-Ok.ensures (rw c.deref.ensures.value at c.finish.ensures)
+
+pub returns-in-Err : goal.returns-in-Err
+returns-in-Err g c = answers_stopped (asm_plan c.args.text.now c.args.image.now) (λ v. v.items) asm_ends (input 1 image_in c.args.text.now) c.in-Err.stop c.args.words _ _ _ _ refl tt c.in-Err.ensures c.conclude.ensures

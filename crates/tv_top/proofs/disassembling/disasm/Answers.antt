@@ -1,12 +1,12 @@
-use Rattle.std.proofs.Common.{◌≡◌}
-use Rattle.tv_top.specs.declared.limits.TheConstants.{IMAGE_BYTES}
-use Rattle.tv_top.specs.declared.status.What.TheVariants.{ImageBytes}
-use Rattle.tv_top.specs.Outcome.{limited_bytes, text_of, disasm_of}
-use Rattle.tv_top.proofs.Making.{made_found, text_refused}
+use Rattle.std.proofs.Common.{refl}
+use Rattle.tv_top.specs.Disassembling.{text_in, disasm_plan, disasm_ends}
+use Rattle.tv_top.specs.Plan.{input}
+use Rattle.tv_top.proofs.Answering.{answers_found, answers_stopped}
 use Rattle.tv_top.proofs.disassembling.disasm.Goals as goal
 
-pub returns : goal.returns
-unfolding disasm_of
-returns g c =
-    made_found (λ v. v.items) (λ v. v.items) (λ at. at ≡ 1) (λ held. record { at = 1; gives = limited_bytes 1 ImageBytes IMAGE_BYTES (held c.args.image.now) }) text_of 1 _ c.text_of.result _ _
-    text_refused c.in_ok-image.ensures (rw c.deref.ensures.value at c.text_of.ensures)
+pub returns-in-Ok : goal.returns-in-Ok
+returns-in-Ok g c = answers_found (disasm_plan c.args.width c.args.image.now c.args.text.now) (λ v. v.items) disasm_ends (input 1 (text_in c.args.width) c.args.image.now) c.in-Ok.bytes c.args.words _ _ _ _
+    refl refl c.in-Ok.ensures (rw c.deref.ensures.value at c.finish.ensures)
+
+pub returns-in-Err : goal.returns-in-Err
+returns-in-Err g c = answers_stopped (disasm_plan c.args.width c.args.image.now c.args.text.now) (λ v. v.items) disasm_ends (input 1 (text_in c.args.width) c.args.image.now) c.in-Err.stop c.args.words _ _ _ _ refl tt c.in-Err.ensures c.conclude.ensures

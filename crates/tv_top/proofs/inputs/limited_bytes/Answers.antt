@@ -1,14 +1,12 @@
-use Rattle.std.proofs.Common.{inl, inr, refl, ap}
-use Rattle.tv_top.specs.Outcome.{limited_bytes}
+use Rattle.std.proofs.Common.{inl, inr, ap, arith, rules}
+use Rattle.tv_top.specs.Finds.{limited_bytes}
 use Rattle.tv_top.proofs.inputs.limited_bytes.Goals as goal
 
-pub returns-in-Err-Memory : goal.returns-in-Err-Memory
-returns-in-Err-Memory g c = record {
-  told = λ _ _. inr (inr refl);
-  absent = λ files told. elim (c.in-Err-Memory.ensures.there files told) [ inl same ↦ inl same | inr none ↦ inr (c.args.word, ap (limited_bytes c.args.word c.args.what c.args.most) none) ];
-  only = c.in-Err-Memory.ensures.only;
-  caused = λ _ e. cc;
-  done = λ e. cc;
-  usage = λ e. cc;
-  same_name = λ _ _ e. cc;
+pub returns-in-Err-Fault : goal.returns-in-Err-Fault
+returns-in-Err-Fault g c = record {
+  told = λ _ _. omega arith;
+  absent = λ files told. elim (c.in-Err-Fault.ensures.there files told) [ inl same ↦ inl same | inr none ↦ inr (c.args.word, ap (limited_bytes c.args.word c.args.what c.args.most) none) ];
+  only = c.in-Err-Fault.ensures.only;
+  caused = search rules;
+  limits = λ what has most e. cc;
 }

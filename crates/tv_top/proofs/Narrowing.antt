@@ -1,0 +1,22 @@
+-- The numbers of a tape are the words that they are read as.
+use Rattle.std.proofs.Common.{◌≡◌, ℕ, ◌%◌, ◌<◌, ◌≤◌, List, [], ◌∷◌, map, All, Result, Ok, Err, refl, mod-eq_of_lt, arith}
+use Rattle.std.specs.Prelude.{IfOk}
+use Rattle.std.specs.List.{AllByRecursion}
+use Rattle.std.proofs.lemmas.List.Elements.{recursion_from_All}
+use Rattle.tv_tape.specs.Tape.{tape_of}
+use Rattle.tv_tape.specs.declared.items.TapeFault.{TapeFault}
+use Rattle.tv_tape.proofs.Range.{all_below}
+
+same : (below size : ℕ) (numbers : List ℕ) → below ≤ size → AllByRecursion (λ n. n < below) numbers → map (λ n. n % size) numbers ≡ numbers
+same below size [] fits all = refl
+same below size (n ∷ numbers) fits all = let less = all.0 in let fit : n < size = omega (arith, less) in rw (mod-eq_of_lt fit, same below size numbers fits all.1) refl
+
+known : (below : ℕ) (read : Result (List ℕ) TapeFault) (numbers : List ℕ) → read ≡ Ok numbers → IfOk read (All (λ n. n < below)) → All (λ n. n < below) numbers
+known below (Ok found) numbers is all = let whole : found ≡ numbers = cc in rw (← whole) all
+known below (Err fault) numbers is all = cc
+
+pub numbers_below : (text numbers : List ℕ) (below most : ℕ) → tape_of text below most ≡ Ok numbers → All (λ n. n < below) numbers
+numbers_below text numbers below most is = known below (tape_of text below most) numbers is (all_below text below most)
+
+pub residues_same : (text numbers : List ℕ) (below most size : ℕ) → below ≤ size → tape_of text below most ≡ Ok numbers → map (λ n. n % size) numbers ≡ numbers
+residues_same text numbers below most size fits is = same below size numbers fits (recursion_from_All (λ n. n < below) numbers (numbers_below text numbers below most is))

@@ -1,0 +1,66 @@
+-- `disasm IMAGE TEXT` and `disasm IMAGE TEXT 16`: the program text of an image.
+use Rattle.std.specs.Prelude.{ℕ, codes, Option, Some, None, ◌%◌, ◌/◌, ◌==◌, List, [], ◌∷◌, length, Result, Ok, Err, if◌then◌else◌}
+use Rattle.std.specs.Str.{bytes_eq}
+use Rattle.tv_disasm.specs.Disassembly.{disassembly_of}
+use Rattle.tv_disasm.specs.declared.fault.DisFault.{DisFault}
+use Rattle.tv_disasm.specs.declared.fault.DisFault.TheVariants as dis
+use Rattle.tv_files.specs.Outside.{Names, Outside}
+use Rattle.tv_top.specs.declared.limits.TheConstants.{IMAGE_BYTES, IMAGE_BYTES_16}
+use Rattle.tv_top.specs.declared.programs.Width.{Width}
+use Rattle.tv_top.specs.declared.programs.Width.TheVariants.{Bits16, Bits32}
+use Rattle.tv_top.specs.declared.refusal.Bad.{Bad}
+use Rattle.tv_top.specs.declared.refusal.Bad.TheVariants as bad
+use Rattle.tv_top.specs.declared.refusal.Finish.TheVariants.{Quiet}
+use Rattle.tv_top.specs.declared.refusal.Flaw.{Flaw}
+use Rattle.tv_top.specs.declared.refusal.Flaw.TheVariants.{Contents, Memory}
+use Rattle.tv_top.specs.declared.refusal.Size.TheVariants.{ImageBytes}
+use Rattle.tv_top.specs.declared.status.Status.{Status}
+use Rattle.tv_top.specs.Claims.{Holds, Comes}
+use Rattle.tv_top.specs.Kinds.{is_quiet}
+use Rattle.tv_top.specs.Programs.{bits}
+use Rattle.tv_top.specs.Plan.{Named, Plan, Outcome, within, input, comes_by}
+
+-- what a fault of an image is
+abbrev pub dis_flaw : DisFault → Flaw
+dis_flaw (dis.Ragged len) = Contents (bad.Image len)
+dis_flaw dis.Memory = Memory
+
+-- the most bytes of an image file, by the width of a word
+abbrev pub image_bytes_most : Width → ℕ
+image_bytes_most Bits16 = IMAGE_BYTES_16
+image_bytes_most Bits32 = IMAGE_BYTES
+
+-- the program text of an image of words of w bits, whose bytes are whole instructions of two words
+unfoldable pub text_of : ℕ → List ℕ → Result (List ℕ) Bad
+text_of w image = if length image % (w / 4) == 0 then Ok (disassembly_of w image) else Err (bad.Image (length image))
+
+-- the file of an image, which may have so many bytes: its program text
+abbrev pub text_in : Width → List ℕ → Result (List ℕ) Bad
+text_in width = within ImageBytes (image_bytes_most width) (text_of (bits width))
+
+-- the width that the word behind those of the command tells: none is 32, and `16` is 16
+abbrev pub width_word : List (List ℕ) → Option Width
+width_word [] = Some Bits32
+width_word (word ∷ []) = if bytes_eq word (codes "16") then Some Bits16 else None
+width_word _ = None
+
+abbrev pub disasm_ends : List ℕ → Outcome
+disasm_ends text = record { bytes = text ∷ []; finish = Quiet }
+
+abbrev pub disasm_writes : List ℕ → List Named
+disasm_writes text = record { word = 2; name = text } ∷ []
+
+abbrev pub disasm_plan : Width → List ℕ → List ℕ → Plan
+disasm_plan width image text = record {
+  reads = record { word = 1; name = image } ∷ [];
+  writes = disasm_writes text;
+  amounts = [];
+  sizes = ImageBytes ∷ [];
+  ends_by = is_quiet;
+  comes = λ files. comes_by disasm_ends (input 1 (text_in width) image files);
+}
+
+-- What `disasm` promises over files that told their contents, the two names being different: IMAGE holds an
+-- image of words of this width with this program text, which TEXT then holds, or it is refused for this.
+abbrev pub Disasms : Width → Names → List ℕ → List ℕ → Outside → Outside → Status → Type 0
+Disasms width files image text = Comes (disasm_writes text) disasm_ends (Holds (text_in width) (files image)) files

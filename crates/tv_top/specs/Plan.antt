@@ -1,0 +1,155 @@
+-- What a command's words come to: a plan, whose parts all clauses share.
+use Rattle.std.specs.Prelude.{ℕ, ◌+◌, max, Bool, List, [], ◌∷◌, length, Option, Some, None, Result, Ok, Err, nat_le, nat_lt, ◌||◌, if◌then◌else◌}
+use Rattle.std.specs.Str.{bytes_eq}
+use Rattle.tv_files.specs.Outside.{Names}
+use Rattle.tv_top.specs.declared.place.Amount.{Amount}
+use Rattle.tv_top.specs.declared.refusal.Bad.{Bad}
+use Rattle.tv_top.specs.declared.refusal.Bad.TheVariants as bad
+use Rattle.tv_top.specs.declared.refusal.Ending.{Ending}
+use Rattle.tv_top.specs.declared.refusal.Ending.TheVariants.{Refused, Stopped, Finished}
+use Rattle.tv_top.specs.declared.refusal.Finish.{Finish}
+use Rattle.tv_top.specs.declared.refusal.Refusal.{Refusal}
+use Rattle.tv_top.specs.declared.refusal.Refusal.TheVariants.{Usage, SameName, Limit}
+use Rattle.tv_top.specs.declared.refusal.Size.{Size}
+use Rattle.tv_top.specs.declared.refusal.Stop.{Stop}
+use Rattle.tv_top.specs.declared.refusal.Stop.TheVariants as stop
+
+-- a word that is a file's name
+pub record Named : Type 0 where
+  pub word : ℕ
+  pub name : List ℕ
+
+-- a look at files: the last word whose file was looked at, and what came of it
+pub record Look (A : Type 0) : Type 0 where
+  pub at : ℕ
+  pub gives : Result A Stop
+
+-- what the files' contents come to: the bytes of each file that is written, in order, and the end
+pub record Outcome : Type 0 where
+  pub bytes : List (List ℕ)
+  pub finish : Finish
+
+-- The names that are read and that are written, in order of their words; the quantities that the words
+-- tell, with their limits; the quantities of which the files that are read may hold too many; how it may
+-- end; and what the files' contents come to.
+pub record Plan : Type 0 where
+  pub reads : List Named
+  pub writes : List Named
+  pub amounts : List Amount
+  pub sizes : List Size
+  pub ends_by : Finish → Bool
+  pub comes : Names → Look Outcome
+
+-- ---- words
+
+-- the first that is refused
+abbrev pub first_of : Option Refusal → Option Refusal → Option Refusal
+first_of None later = later
+first_of (Some why) later = Some why
+
+-- the first name that is the same as this one
+abbrev pub same_in : Named → List Named → Option Refusal
+same_in one [] = None
+same_in one (other ∷ others) = if bytes_eq one.name other.name then Some (SameName one.word other.word) else same_in one others
+
+-- the first two words that are one name, of which the second is written
+abbrev pub same_of : List Named → List Named → Option Refusal
+same_of [] [] = None
+same_of [] (w ∷ ws) = first_of (same_in w ws) (same_of [] ws)
+same_of (r ∷ rs) ws = first_of (same_in r ws) (same_of rs ws)
+
+-- the first quantity that passes its limit, or doesn't reach the least that it may be
+abbrev pub limit_of : List Amount → Option Refusal
+limit_of [] = None
+limit_of (one ∷ more) = if (nat_lt one.has one.least) || nat_lt one.most one.has then Some (Limit one.what one.has one.most) else limit_of more
+
+-- what names and quantities are refused for
+abbrev pub refusal_of : List Named → List Named → List Amount → Option Refusal
+refusal_of reads writes amounts = first_of (same_of reads writes) (limit_of amounts)
+
+-- the plan, unless it is refused
+abbrev pub unless : Option Refusal → Plan → Result Plan Refusal
+unless None plan = Ok plan
+unless (Some why) plan = Err why
+
+-- what words ask for that have the form of this plan, or of none
+abbrev pub request_of : Option Plan → Result Plan Refusal
+request_of None = Err Usage
+request_of (Some plan) = unless (refusal_of plan.reads plan.writes plan.amounts) plan
+
+-- ---- looks at files
+
+-- looks on, unless the first look is refused
+abbrev pub look_on : {A B : Type 0} → ℕ → Result A Stop → (A → Look B) → Look B
+look_on at (Ok x) f = record { at = max at (f x).at; gives = (f x).gives }
+look_on at (Err stop) f = record { at = at; gives = Err stop }
+
+infixl 10 ◌>>=◌
+abbrev pub ◌>>=◌ : {A B : Type 0} → Look A → (A → Look B) → Look B
+look >>= f = look_on look.at look.gives f
+
+-- what a file comes to that may have so many bytes of this quantity
+abbrev pub within : {A : Type 0} → Size → ℕ → (List ℕ → Result A Bad) → List ℕ → Result A Bad
+within what most f bytes = if nat_le (length bytes) most then f bytes else Err (bad.Limit what (most + 1) most)
+
+-- what was made of contents
+abbrev pub made_of : {A : Type 0} → Result A Bad → Result A Stop
+made_of (Ok x) = Ok x
+made_of (Err bad) = Err (stop.Contents bad)
+
+-- what the file at a word comes to, by what is read of it: a fault where its name isn't there
+abbrev pub held_at : {A : Type 0} → ℕ → (List ℕ → Result A Bad) → Option (List ℕ) → Result A Stop
+held_at word read None = Err (stop.Fault word)
+held_at word read (Some bytes) = made_of (read bytes)
+
+-- a look at the file at a word
+unfoldable pub input : {A : Type 0} → ℕ → (List ℕ → Result A Bad) → List ℕ → Names → Look A
+input word read name files = record { at = word; gives = held_at word read (files name) }
+
+-- what is found, by what it comes to
+abbrev pub map_ok : {A B E : Type 0} → (A → B) → Result A E → Result B E
+map_ok f (Ok x) = Ok (f x)
+map_ok f (Err e) = Err e
+
+-- what a command comes to by what was found
+abbrev pub comes_by : {A : Type 0} → (A → Outcome) → Look A → Look Outcome
+comes_by f look = record { at = look.at; gives = map_ok f look.gives }
+
+-- ---- answers
+
+-- a file that is to be written
+pub record Write : Type 0 where
+  pub word : ℕ
+  pub name : List ℕ
+  pub bytes : List ℕ
+
+-- each of these bytes goes under the name of its place
+abbrev pub files_of : List Named → List (List ℕ) → List Write
+files_of [] bytes = []
+files_of (n ∷ ns) [] = []
+files_of (n ∷ ns) (b ∷ bs) = record { word = n.word; name = n.name; bytes = b } ∷ files_of ns bs
+
+-- the files that are written: none where a look was refused
+abbrev pub writes_by : List Named → Result Outcome Stop → List Write
+writes_by places (Ok outcome) = files_of places outcome.bytes
+writes_by places (Err stop) = []
+
+-- the end of a look
+abbrev pub ending_by : Result Outcome Stop → Ending
+ending_by (Ok outcome) = Finished outcome.finish
+ending_by (Err stop) = Stopped stop
+
+-- the whole answer: the last word whose file was looked at, the files written, in order, and the end
+pub record Answer : Type 0 where
+  pub looked : ℕ
+  pub writes : List Write
+  pub ending : Ending
+
+-- the answer to a look, given the names to be written
+abbrev pub answer_by : List Named → Look Outcome → Answer
+answer_by places look = record { looked = look.at; writes = writes_by places look.gives; ending = ending_by look.gives }
+
+-- what is asked for is answered, over files that hold this; a fault stands for a name that isn't there
+abbrev pub answer_of : Result Plan Refusal → Names → Answer
+answer_of (Err why) files = record { looked = 0; writes = []; ending = Refused why }
+answer_of (Ok plan) files = answer_by plan.writes (plan.comes files)

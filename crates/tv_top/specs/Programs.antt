@@ -1,0 +1,75 @@
+-- The images of program texts, for words of either width.
+use Rattle.std.specs.Prelude.{ℕ, ◌+◌, ◌≤◌, ◌==◌, List, [], ◌∷◌, length, Result, Ok, Err, if◌then◌else◌}
+use Rattle.std.specs.List.{flat_map}
+use Rattle.tv_asm.specs.Assembly.{assembled}
+use Rattle.tv_asm.specs.Header.{width_of}
+use Rattle.tv_asm.specs.declared.fault.AsmFault.{AsmFault}
+use Rattle.tv_asm.specs.declared.fault.AsmFault.TheVariants as asm
+use Rattle.tv_core.specs.declared.limits.TheConstants.{TEXT_BYTES, IMAGE_WORDS, IMAGE_WORDS_16}
+use Rattle.tv_word.specs.Word.{word_bytes}
+use Rattle.tv_top.specs.declared.programs.Program.{Program}
+use Rattle.tv_top.specs.declared.programs.Width.{Width}
+use Rattle.tv_top.specs.declared.programs.Width.TheVariants.{Bits16, Bits32}
+use Rattle.tv_top.specs.declared.refusal.Bad.{Bad}
+use Rattle.tv_top.specs.declared.refusal.Bad.TheVariants as bad
+use Rattle.tv_top.specs.declared.refusal.Flaw.{Flaw}
+use Rattle.tv_top.specs.declared.refusal.Flaw.TheVariants.{Contents, Memory}
+use Rattle.tv_top.specs.declared.refusal.Size.{Size}
+use Rattle.tv_top.specs.declared.refusal.Size.TheVariants.{ImageWords, TextBytes}
+use Rattle.tv_top.specs.Plan.{within, map_ok}
+
+-- how many bits a word has
+abbrev pub bits : Width → ℕ
+bits Bits16 = 16
+bits Bits32 = 32
+
+-- the most words of an image
+abbrev pub image_words : Width → ℕ
+image_words Bits16 = IMAGE_WORDS_16
+image_words Bits32 = IMAGE_WORDS
+
+-- the width of words that a text tells
+abbrev pub width_told : List ℕ → Width
+width_told text = if width_of text == 16 then Bits16 else Bits32
+
+-- no more words than there is memory for
+abbrev pub HasImage : Program → Type 0
+HasImage program = length program.words ≤ image_words program.width
+
+-- the bytes of a program's image: of each word those that spell it, the lowest first
+abbrev pub image_bytes : Program → List ℕ
+image_bytes program = flat_map (word_bytes (bits program.width)) program.words
+
+-- what a fault of a program text is; it is two words more that pass the limit
+abbrev pub asm_flaw : AsmFault → Flaw
+asm_flaw (asm.Bad line why) = Contents (bad.Program line why)
+asm_flaw (asm.TooMany line most) = Contents (bad.Limit ImageWords (most + 2) most)
+asm_flaw asm.Memory = Memory
+
+-- what a program text for words of a width comes to; a definition never wants memory, so that case stands
+-- for nothing
+abbrev pub program_result : Width → Result (List ℕ) AsmFault → Result Program Bad
+program_result width (Ok words) = Ok (record { width = width; words = words })
+program_result width (Err (asm.Bad line why)) = Err (bad.Program line why)
+program_result width (Err (asm.TooMany line most)) = Err (bad.Limit ImageWords (most + 2) most)
+program_result width (Err asm.Memory) = Err (bad.Limit ImageWords 0 0)
+
+-- a program text for words of a width
+unfoldable pub program_by : Width → List ℕ → Result Program Bad
+program_by width text = program_result width (assembled (bits width) (image_words width) text)
+
+-- the program of a text, for words of the width that it tells
+abbrev pub program_of : List ℕ → Result Program Bad
+program_of text = program_by (width_told text) text
+
+-- and its image, in bytes
+unfoldable pub image_of : List ℕ → Result (List ℕ) Bad
+image_of text = map_ok image_bytes (program_of text)
+
+-- the quantities of which the file of a program text may hold too many
+abbrev pub program_sizes : List Size
+program_sizes = TextBytes ∷ ImageWords ∷ []
+
+-- the file of a program text, which may have so many bytes: its program
+abbrev pub program_in : List ℕ → Result Program Bad
+program_in = within TextBytes TEXT_BYTES program_of

@@ -1,0 +1,81 @@
+//! The names and quantities that words tell, and what they are refused for.
+ghost use Rattle.std.specs.Prelude.{◌≡◌, map};
+ghost use Rattle.tv_top.specs.Form.{named};
+ghost use Rattle.tv_top.specs.Plan.{same_in, same_of, limit_of, refusal_of};
+
+use crate::refusal::{Quantity, Refusal};
+
+/// A word that is a file's name.
+#[derive(Clone, Copy)]
+pub(crate) struct Place<'a> {
+    pub(crate) word: u32,
+    pub(crate) name: &'a str,
+}
+
+/// A file that is to be written.
+#[derive(Clone, Copy)]
+pub(crate) struct Write<'a> {
+    pub(crate) place: Place<'a>,
+    pub(crate) bytes: &'a [u8],
+}
+
+/// A quantity that a word tells: how many there are, and how many there may be.
+#[derive(Clone, Copy)]
+pub(crate) struct Amount {
+    pub(crate) what: Quantity,
+    pub(crate) has: u64,
+    pub(crate) least: u64,
+    pub(crate) most: u64,
+}
+
+/// The first name that is the same as this one.
+fn same_in(one: Place<'_>, others: &[Place<'_>]) -> Option<Refusal>
+    ensures { result ≡ same_in (named one.entry) (map named others.now) }
+{
+    match others {
+        [] => None,
+        [other, ..] if one.name == other.name => Some(Refusal::SameName {
+            first: one.word,
+            second: other.word,
+        }),
+        [_, rest @ ..] => same_in(one, rest),
+    }
+}
+
+/// The first two words that are one name, of which the second is written.
+fn same_of(reads: &[Place<'_>], writes: &[Place<'_>]) -> Option<Refusal>
+    ensures { result ≡ same_of (map named reads.now) (map named writes.now) }
+{
+    match (reads, writes) {
+        ([], []) => None,
+        ([], [one, rest @ ..]) => same_in(*one, rest).or(same_of(reads, rest)),
+        ([one, rest @ ..], _) => same_in(*one, writes).or(same_of(rest, writes)),
+    }
+}
+
+/// The first quantity that passes its limit, or doesn't reach the least that it may be.
+fn limit_of(amounts: &[Amount]) -> Option<Refusal>
+    ensures { result ≡ limit_of amounts.now }
+{
+    match amounts {
+        [] => None,
+        [one, ..] if one.has < one.least || one.most < one.has => Some(Refusal::Limit {
+            what: one.what,
+            has: one.has,
+            most: one.most,
+        }),
+        [_, rest @ ..] => limit_of(rest),
+    }
+}
+
+/// What names and quantities are refused for: one name for two files of which one is written comes
+/// before limits.
+pub(crate) fn refusal_of(
+    reads: &[Place<'_>],
+    writes: &[Place<'_>],
+    amounts: &[Amount],
+) -> Option<Refusal>
+    ensures { result ≡ refusal_of (map named reads.now) (map named writes.now) amounts.now }
+{
+    same_of(reads, writes).or(limit_of(amounts))
+}

@@ -1,0 +1,86 @@
+//! The images of program texts, for words of the width that a text tells.
+ghost use Rattle.std.specs.Prelude.{◌≡◌, ◌≤◌, ◌/◌, [], ◌∷◌, IfOk};
+ghost use Rattle.tv_asm.specs.Header.{width_of};
+ghost use Rattle.tv_top.specs.declared.programs.Width.TheVariants.{Bits16};
+ghost use Rattle.tv_top.specs.Finds.{Finds, Makes};
+ghost use Rattle.tv_top.specs.Plan.{input};
+ghost use Rattle.tv_top.specs.Programs.{HasImage, bits, width_told};
+ghost use Rattle.tv_top.specs.Programs.{program_of, program_in, program_sizes};
+
+use crate::inputs::{from_made, limited_bytes};
+use crate::refusal::{Flaw, Size, Stop};
+use std::alloc::Global;
+use tv_asm::{assemble, width};
+use tv_core::limits::{IMAGE_WORDS, IMAGE_WORDS_16, TEXT_BYTES};
+use tv_files::Files;
+use tv_word::Words;
+
+/// How many bits a word has.
+#[derive(Clone, Copy, Debug, PartialEq, Eq)]
+pub enum Width {
+    Bits16,
+    Bits32,
+}
+
+/// How many bytes a word has.
+pub(crate) fn word_size(width: Width) -> usize
+    ensures size { result ≡ bits width / 8 }
+    ensures short { result ≤ 4 }
+{
+    match width {
+        Width::Bits16 => 2,
+        Width::Bits32 => 4,
+    }
+}
+
+/// A program: the width of its words, and the words of its image.
+#[derive(Drop)]
+pub(crate) struct Program {
+    pub(crate) width: Width,
+    pub(crate) words: Words,
+}
+
+/// The width of words that a text tells.
+fn width_told(text: &[u8]) -> Width
+    ensures width { result ≡ width_told text.now }
+    ensures short { result ≡ Bits16 → width_of text.now ≡ 16 }
+{
+    if width(text) == 16 {
+        Width::Bits16
+    } else {
+        Width::Bits32
+    }
+}
+
+/// The program of a text.
+#[tactic(auto, unfolding(crate::specs::Programs::program_by))]
+pub(crate) fn program_of(alloc: Global, text: &[u8]) -> Result<Program, Flaw>
+    ensures made { Makes (λ program. program) (program_of text.now) result }
+    ensures fits { IfOk result (λ program. HasImage program) }
+{
+    match width_told(text) {
+        Width::Bits16 => Ok(Program {
+            width: Width::Bits16,
+            words: assemble::<16>(alloc, text, IMAGE_WORDS_16)?,
+        }),
+        Width::Bits32 => Ok(Program {
+            width: Width::Bits32,
+            words: assemble::<32>(alloc, text, IMAGE_WORDS)?,
+        }),
+    }
+}
+
+/// The program of the text whose name stands at word 1.
+#[tactic(auto, unfolding(crate::specs::Plan::input))]
+pub(crate) fn read_program<D: Files>(
+    alloc: Global,
+    files: &mut D,
+    name: &str,
+) -> Result<Program, Stop>
+    ensures found { Finds (λ program. program) (1 ∷ []) program_sizes (input 1 program_in name.now)
+        (D.seen files.old) (D.seen files.new) result }
+    ensures fits { IfOk result (λ program. HasImage program) }
+{
+    let text = limited_bytes(alloc, files, 1, name, Size::TextBytes, TEXT_BYTES)?;
+    from_made(program_of(alloc, &text))
+}

@@ -1,0 +1,162 @@
+//! What refuses, stops and ends a command, each stage by a type of its own: the words, what files
+//! hold, what is made of it, a look at files, writing, and the good ends.
+use std::alloc::AllocError;
+use tv_asm::{AsmFault, AsmWhy};
+use tv_check::Verdict;
+use tv_container::ReadWhy;
+use tv_disasm::DisFault;
+use tv_step::End;
+
+/// The quantities that words tell.
+#[derive(Clone, Copy, Debug, PartialEq, Eq)]
+pub enum Quantity {
+    /// The steps of a run.
+    Steps,
+}
+
+/// The quantities of which files hold so many.
+#[derive(Clone, Copy, Debug, PartialEq, Eq)]
+pub enum Size {
+    /// The words of the image that a program text has.
+    ImageWords,
+    /// The bytes of an image file.
+    ImageBytes,
+    /// The numbers of a tape.
+    TapeWords,
+    /// The words of an auxiliary tape.
+    AuxWords,
+    /// The bytes of a program text or of a tape.
+    TextBytes,
+}
+
+/// What words are refused for, before any file is looked at.
+#[derive(Clone, Copy, Debug, PartialEq, Eq)]
+pub enum Refusal {
+    /// The words are no command's.
+    Usage,
+    /// Two words name one file, which is to be written.
+    SameName { first: u32, second: u32 },
+    /// There are `has` of a quantity of which there may be `most`, or 0 of one that begins at 1.
+    Limit { what: Quantity, has: u64, most: u64 },
+}
+
+/// What the contents of a file are refused for.
+#[derive(Clone, Copy, Debug, PartialEq, Eq)]
+pub enum Bad {
+    /// The program text has no image: its first line at fault, counted from 1, and the reason.
+    Program { line: u64, why: AsmWhy },
+    /// On the tape at this word the item with this number, counted from 0, is none of its numbers.
+    Tape { word: u32, at: u64 },
+    /// The file holds no system: its first fault, at this byte, and the reason.
+    System { at: u64, why: ReadWhy },
+    /// The file holds no assignment: its first fault, at this byte, and the reason.
+    Witness { at: u64, why: ReadWhy },
+    /// An image file of `len` bytes, which aren't whole instructions of two words.
+    Image { len: u64 },
+    /// There are `has` of a quantity of which there may be `most`.
+    Limit { what: Size, has: u64, most: u64 },
+}
+
+/// What making something of contents ends with.
+#[derive(Clone, Copy, Debug, PartialEq, Eq)]
+pub enum Flaw {
+    Contents(Bad),
+    Memory,
+}
+
+/// What a look at files ends with that doesn't find what it looks for.
+#[derive(Clone, Copy, Debug, PartialEq, Eq)]
+pub enum Stop {
+    /// The file at this word couldn't be read.
+    Fault { word: u32 },
+    /// Memory was wanting.
+    Memory,
+    /// The contents of a file are refused.
+    Contents(Bad),
+}
+
+/// What writing files ends with that isn't whole.
+#[derive(Clone, Copy, Debug, PartialEq, Eq)]
+pub enum Cut {
+    /// The file at this word couldn't be written.
+    Fault { word: u32 },
+    /// Memory was wanting.
+    Memory,
+}
+
+/// How a command ends whose files were found and written.
+#[derive(Clone, Copy, Debug, PartialEq, Eq)]
+pub enum Finish {
+    /// It is done and says nothing.
+    Quiet,
+    /// The run ends so.
+    Run(End),
+    /// This is the verdict.
+    Verdict(Verdict),
+}
+
+/// What a line is said of.
+#[derive(Clone, Copy, Debug, PartialEq, Eq)]
+pub enum Ending {
+    Refused(Refusal),
+    Stopped(Stop),
+    Finished(Finish),
+}
+
+impl From<AllocError> for Flaw {
+    ghost use Rattle.std.specs.Prelude.{◌≡◌};
+    ghost use Rattle.tv_top.specs.declared.refusal.Flaw.TheVariants.{Memory};
+
+    ghost from_gives = { λ _ flaw. flaw ≡ Memory };
+
+    fn from(_: AllocError) -> Flaw {
+        Flaw::Memory
+    }
+}
+
+impl From<AsmFault> for Flaw {
+    ghost use Rattle.std.specs.Prelude.{◌≡◌};
+    ghost use Rattle.tv_top.specs.Programs.{asm_flaw};
+
+    ghost from_gives = { λ fault flaw. flaw ≡ asm_flaw fault };
+
+    fn from(fault: AsmFault) -> Flaw {
+        match fault {
+            AsmFault::Bad { line, why } => Flaw::Contents(Bad::Program { line, why }),
+            AsmFault::TooMany { most, .. } => Flaw::Contents(Bad::Limit {
+                what: Size::ImageWords,
+                has: u64::from(most) + 2,
+                most: u64::from(most),
+            }),
+            AsmFault::Memory => Flaw::Memory,
+        }
+    }
+}
+
+impl From<DisFault> for Flaw {
+    ghost use Rattle.std.specs.Prelude.{◌≡◌};
+    ghost use Rattle.tv_top.specs.Disassembling.{dis_flaw};
+
+    ghost from_gives = { λ fault flaw. flaw ≡ dis_flaw fault };
+
+    fn from(fault: DisFault) -> Flaw {
+        match fault {
+            DisFault::Ragged { len } => Flaw::Contents(Bad::Image { len }),
+            DisFault::Memory => Flaw::Memory,
+        }
+    }
+}
+
+impl From<Flaw> for Stop {
+    ghost use Rattle.std.specs.Prelude.{◌≡◌};
+    ghost use Rattle.tv_top.specs.Finds.{flaw_stop};
+
+    ghost from_gives = { λ flaw stop. stop ≡ flaw_stop flaw };
+
+    fn from(flaw: Flaw) -> Stop {
+        match flaw {
+            Flaw::Contents(bad) => Stop::Contents(bad),
+            Flaw::Memory => Stop::Memory,
+        }
+    }
+}
