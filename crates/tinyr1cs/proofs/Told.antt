@@ -1,7 +1,7 @@
 -- What the counts tell of a call is what such a call may do.
 use Rattle.std.proofs.Common.{◌≡◌, ℕ, ◌≤◌, List, length, Result, Ok, Err, IfOk, OnOk, OnErr, refl, inl, arith}
 use Rattle.std.specs.Result.{result_ok}
-use Rattle.tv_files.specs.Outside.{NoneFell, SameCounts, Rose}
+use Rattle.tv_files.specs.Outside.{NoneFell, SameCounts}
 use Rattle.tv_files.specs.Calls.{Reads, Creates, Appends, Says}
 use Rattle.tv_files.specs.declared.calls.FileRefusal.{FileRefusal}
 use Rattle.tv_files.specs.declared.calls.FileRefusal.TheVariants.{Failed, Memory}
@@ -9,6 +9,7 @@ use Rattle.tinyr1cs.specs.declared.counts.Call.{Call}
 use Rattle.tinyr1cs.specs.declared.counts.Call.TheVariants.{Reading, Writing, Saying}
 use Rattle.tinyr1cs.specs.declared.counts.Counts.{Counts}
 use Rattle.tinyr1cs.specs.Counts.{told_by, after}
+use Rattle.tv_word.specs.Counts.{Rose}
 
 abbrev faults : Call → Counts → ℕ
 faults Reading counts = counts.read_faults

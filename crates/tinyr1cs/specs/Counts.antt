@@ -24,17 +24,17 @@ abbrev pub zeros : Counts
 zeros = record { read_faults = 0; write_faults = 0; say_faults = 0; wants = 0 }
 
 -- one more, up to a counter's last value
-abbrev pub risen : ℕ → ℕ
-risen count = min (count + 1) (2 ^ 64 - 1)
+abbrev pub one_more : ℕ → ℕ
+one_more count = min (count + 1) (2 ^ 64 - 1)
 
 -- the counts once a call of this kind has failed
-abbrev pub failed : Call → Counts → Counts
-failed Reading counts = record counts { read_faults = risen counts.read_faults }
-failed Writing counts = record counts { write_faults = risen counts.write_faults }
-failed Saying counts = record counts { say_faults = risen counts.say_faults }
+abbrev pub with_fault : Call → Counts → Counts
+with_fault Reading counts = record counts { read_faults = one_more counts.read_faults }
+with_fault Writing counts = record counts { write_faults = one_more counts.write_faults }
+with_fault Saying counts = record counts { say_faults = one_more counts.say_faults }
 
 -- the counts after a call of this kind that answered this: a refusal raises one of them
 abbrev pub after : {A : Type 0} → Call → Result A FileRefusal → Counts → Counts
 after call (Ok _) counts = counts
-after call (Err Failed) counts = failed call counts
-after call (Err Memory) counts = record counts { wants = risen counts.wants }
+after call (Err Failed) counts = with_fault call counts
+after call (Err Memory) counts = record counts { wants = one_more counts.wants }

@@ -2,7 +2,7 @@
 ghost use Rattle.std.specs.Prelude.{◌≡◌, ◌≤◌};
 ghost use Rattle.std.specs.Result.{result_ok};
 ghost use Rattle.tv_files.specs.Outside.{NoneFell};
-ghost use Rattle.tinyr1cs.specs.Counts.{told_by, after, risen, zeros};
+ghost use Rattle.tinyr1cs.specs.Counts.{told_by, after, one_more, zeros};
 
 use std::io;
 use std::io::ErrorKind;
@@ -69,7 +69,7 @@ impl Counts {
 
 /// Adds one to a count that isn't at its last value.
 fn raise(count: &mut u64)
-    ensures value { count.new ≡ risen count.old }
+    ensures value { count.new ≡ one_more count.old }
     ensures later { count.old ≤ count.new }
 {
     *count = count.saturating_add(1);

@@ -13,8 +13,8 @@ use tv_files::{FileRefusal, Files};
 
 /// The files of the system, by name, and its standard output.
 ///
-/// Of files and of what was said nothing is told but counts: each refusal raises one by 1, and nothing
-/// else does.
+/// Of files and of what was said nothing is told but counts: each refusal raises one by 1, and
+/// nothing else does.
 #[derive(Drop)]
 pub struct DiskFiles<R: rt::Files + Drop> {
     rt: R,
@@ -47,7 +47,8 @@ impl<R: rt::Files + Print + Drop> Files for DiskFiles<R> {
 
     #[tactic(auto, using(crate::proofs::Told::reads))]
     fn read(&mut self, name: &str, at: u64, into: &mut [u8]) -> Result<usize, FileRefusal>
-        ensures told { Reads (told_by self.old.counts) (told_by self.new.counts) name.now at into.new result }
+        ensures told { Reads (told_by self.old.counts) (told_by self.new.counts)
+            name.now at into.new result }
         ensures counts { self.new.counts ≡ after Reading result self.old.counts }
     {
         let outcome = self.open.read(&self.rt, name, at, into);
@@ -65,7 +66,8 @@ impl<R: rt::Files + Print + Drop> Files for DiskFiles<R> {
 
     #[tactic(auto, using(crate::proofs::Told::appends))]
     fn append(&mut self, name: &str, bytes: &[u8]) -> Result<(), FileRefusal>
-        ensures told { Appends (told_by self.old.counts) (told_by self.new.counts) name.now bytes.now result }
+        ensures told { Appends (told_by self.old.counts) (told_by self.new.counts)
+            name.now bytes.now result }
         ensures counts { self.new.counts ≡ after Writing result self.old.counts }
     {
         let outcome = self.open.append(&self.rt, name, bytes);

@@ -57,7 +57,8 @@ impl<R: Files> OpenFiles<R> {
         reader.read_at(at, into)
     }
 
-    /// Makes the name stand for no bytes. Handles that were open on it may be of another file by now.
+    /// Makes the name stand for no bytes. Handles that were open on it may be of another file by
+    /// now.
     pub fn create(&mut self, rt: &R, name: &str) -> io::Result<()> {
         let handles = self.of(name)?;
         handles.reader = None;

@@ -18,8 +18,8 @@ impl<F: Read + Seek> Reader<F> {
     }
 
     /// Reads what the system gives at once from place `at` on: no bytes only at the file's end or
-    /// behind it, or where `into` is empty. It seeks only where the last read didn't end at `at`, so a
-    /// pipe can be read from front to back.
+    /// behind it, or where `into` is empty. It seeks only where the last read didn't end at `at`,
+    /// so a pipe can be read from front to back.
     pub fn read_at(&mut self, at: u64, into: &mut [u8]) -> io::Result<usize>
         ensures { IfOk result (λ count. count ≤ length into.new) }
     {
