@@ -7,11 +7,11 @@ bench=$(cd "$(dirname "$0")" && pwd)
 scratch=$(mktemp -d)
 trap 'rm -rf "$scratch"' EXIT
 mkdir "$scratch/crates"
-cp -r "$bench"/../crates/tv_{word,isa,mem,tape,step} "$scratch/crates"
+cp -r "$bench"/../crates/tv_{word,core,isa,mem,tape,step} "$scratch/crates"
 # The gate reads every .rt file of the repository, so the source has another ending here.
 mkdir -p "$scratch/crates/machine_bench/src"
 cp "$bench/machine.rattle" "$scratch/crates/machine_bench/src/main.rt"
-grep -E '^tv_(word|isa|mem|tape|step):' "$bench/../crates.txt" > "$scratch/crates.txt"
+grep -E '^tv_(word|core|isa|mem|tape|step):' "$bench/../crates.txt" > "$scratch/crates.txt"
 echo 'machine_bench: tv_step tv_word' >> "$scratch/crates.txt"
 (cd "$scratch/crates/machine_bench" && rt run > "$scratch/log" 2>&1) || { tail -20 "$scratch/log"; exit 1; }
 plain=(rustc --edition 2024 -O -C target-cpu=x86-64-v2 --check-cfg 'cfg(tables)' "$bench/machine.rs")
