@@ -4,6 +4,7 @@ pub mod Looking
 pub mod Sizes
 pub mod ContainerReads
 pub mod Answering
+pub mod Streaming
 pub mod Claiming
 pub mod AssemblingClaim
 pub mod DisassemblingClaim
