@@ -8,13 +8,14 @@ use crate::counts::{Call, Counts};
 use crate::open::OpenFiles;
 use std::alloc::Global;
 use std::io::Write;
+use std::marker::Model;
 use std::{io, rt};
 use tv_files::{FileRefusal, Files};
 
 /// The files of the system, by name, and its standard output.
 ///
-/// Of files and of what was said nothing is told but counts: each refusal raises one by 1, and
-/// nothing else does.
+/// Of files and of what was said nothing is told but counts, as which contracts see it: each
+/// refusal raises one by 1, and nothing else does.
 #[derive(Drop)]
 pub struct DiskFiles<R: rt::Files + Drop> {
     rt: R,
@@ -22,10 +23,18 @@ pub struct DiskFiles<R: rt::Files + Drop> {
     counts: Counts,
 }
 
+impl<R: rt::Files + Drop> Model for DiskFiles<R> {
+    ghost use Rattle.tinyr1cs.specs.declared.counts.Counts.{Counts};
+
+    ghost Value = { Counts };
+
+    ghost view = { λ files. files.counts };
+}
+
 impl<R: rt::Files + Drop> DiskFiles<R> {
     /// Opens nothing yet, with all counts 0.
     pub fn new(alloc: Global, rt: R) -> DiskFiles<R>
-        ensures { result.counts ≡ zeros }
+        ensures { result ≡ zeros }
     {
         DiskFiles {
             rt,
@@ -36,20 +45,20 @@ impl<R: rt::Files + Drop> DiskFiles<R> {
 
     /// How many calls were refused so far, by cause.
     pub fn counts(&self) -> Counts
-        ensures { result ≡ self.now.counts }
+        ensures { result ≡ self.now }
     {
         self.counts
     }
 }
 
 impl<R: rt::Files + Print + Drop> Files for DiskFiles<R> {
-    ghost seen = { λ files. told_by files.counts };
+    ghost seen = { λ files. told_by files };
 
     #[tactic(auto, using(crate::proofs::Told::reads))]
     fn read(&mut self, name: &str, at: u64, into: &mut [u8]) -> Result<usize, FileRefusal>
-        ensures told { Reads (told_by self.old.counts) (told_by self.new.counts)
+        ensures told { Reads (told_by self.old) (told_by self.new)
             name.now at into.new result }
-        ensures counts { self.new.counts ≡ after Reading result self.old.counts }
+        ensures counts { self.new ≡ after Reading result self.old }
     {
         let outcome = self.open.read(&self.rt, name, at, into);
         self.counts.settle(Call::Reading, outcome)
@@ -57,8 +66,8 @@ impl<R: rt::Files + Print + Drop> Files for DiskFiles<R> {
 
     #[tactic(auto, using(crate::proofs::Told::creates))]
     fn create(&mut self, name: &str) -> Result<(), FileRefusal>
-        ensures told { Creates (told_by self.old.counts) (told_by self.new.counts) name.now result }
-        ensures counts { self.new.counts ≡ after Writing result self.old.counts }
+        ensures told { Creates (told_by self.old) (told_by self.new) name.now result }
+        ensures counts { self.new ≡ after Writing result self.old }
     {
         let outcome = self.open.create(&self.rt, name);
         self.counts.settle(Call::Writing, outcome)
@@ -66,9 +75,9 @@ impl<R: rt::Files + Print + Drop> Files for DiskFiles<R> {
 
     #[tactic(auto, using(crate::proofs::Told::appends))]
     fn append(&mut self, name: &str, bytes: &[u8]) -> Result<(), FileRefusal>
-        ensures told { Appends (told_by self.old.counts) (told_by self.new.counts)
+        ensures told { Appends (told_by self.old) (told_by self.new)
             name.now bytes.now result }
-        ensures counts { self.new.counts ≡ after Writing result self.old.counts }
+        ensures counts { self.new ≡ after Writing result self.old }
     {
         let outcome = self.open.append(&self.rt, name, bytes);
         self.counts.settle(Call::Writing, outcome)
@@ -76,8 +85,8 @@ impl<R: rt::Files + Print + Drop> Files for DiskFiles<R> {
 
     #[tactic(auto, using(crate::proofs::Told::says))]
     fn say(&mut self, bytes: &[u8]) -> Result<(), FileRefusal>
-        ensures told { Says (told_by self.old.counts) (told_by self.new.counts) bytes.now result }
-        ensures counts { self.new.counts ≡ after Saying result self.old.counts }
+        ensures told { Says (told_by self.old) (told_by self.new) bytes.now result }
+        ensures counts { self.new ≡ after Saying result self.old }
     {
         let outcome = print(&self.rt, bytes);
         self.counts.settle(Call::Saying, outcome)
