@@ -9,6 +9,7 @@ use Rattle.tv_core.proofs.Residues.{sum_by-map}
 use Rattle.tv_r1cs_read.specs.declared.header.Header.{Header}
 use Rattle.tv_container.specs.declared.why.ReadRefusal.{ReadRefusal}
 use Rattle.tv_container.specs.Reading.{Refuses}
+use Rattle.tv_r1cs_read.specs.Places.{system_with}
 use Rattle.tv_r1cs_read.specs.R1cs.{system_of}
 use Rattle.tv_r1cs_read.specs.Rows.{combination_of}
 use Rattle.tv_container.proofs.Chain.{refuses_first}
@@ -26,10 +27,6 @@ pub sum-more : (terms : List (ℕ × ℕ)) (z : List ℕ) (i : ℕ) (item : ℕ 
 sum-more terms z i item sum term lt is before adds =
     let more = sum_by_more (λ t. t.1 * slice_index z t.0) terms i item lt in
     rw (before, adds) (sym (rw (more, ← is) (add-mod _ _ P)))
-
--- a system of which these constraints were read
-abbrev pub so_far : Header → List Constraint → System
-so_far header done = record { wires = header.wires; outputs = header.outputs; inputs = header.inputs; constraints = done }
 
 -- the first that fails among some, else one more at this place
 abbrev with_last : Option ℕ → ℕ → Bool → Option ℕ
@@ -64,7 +61,7 @@ more false public failing has wants at holds = refl
 
 -- one more constraint is tried
 pub judge-more : (header : Header) (z x : List ℕ) (done : List Constraint) (next : Constraint) →
-    judge (so_far header (done ++ next ∷ [])) z x ≡ tried (judge (so_far header done) z x) (length done) (holds z next)
+    judge (system_with header (done ++ next ∷ [])) z x ≡ tried (judge (system_with header done) z x) (length done) (holds z next)
 judge-more header z x done next =
     rw (first_failing-more z done next)
     (more (length z == header.wires) (first_difference (1 ∷ x) (take (1 + header.outputs + header.inputs) z)) (first_failing z done) (length z) header.wires (length done) (holds z next))

@@ -1,5 +1,5 @@
-ghost use Rattle.std.specs.Prelude.{◌≡◌, ℕ, List, Some, Err};
-ghost use Rattle.tv_container.specs.Reading.{bytes_of, Looks, Gives, IsMissing};
+ghost use Rattle.std.specs.Prelude.{◌≡◌, Err};
+ghost use Rattle.tv_container.specs.Reading.{Looks, Gives, IsMissing, Known};
 ghost use Rattle.tv_container.specs.declared.why.ReadRefusal.{ReadRefusal};
 ghost use Rattle.tv_check.specs.Verdict.{verdict_of};
 
@@ -25,8 +25,7 @@ pub fn check<D: Files>(
     values: &[F],
     publics: &[F],
 ) -> Result<Verdict, ReadRefusal>
-    ensures gives { (file : List ℕ) → bytes_of (D.seen files.old) system.now ≡ Some file →
-        Gives result (verdict_of file values.now publics.now) }
+    ensures gives { Known (D.seen files.old) system.now (λ file. Gives result (verdict_of file values.now publics.now)) }
     ensures looks { Looks (D.seen files.old) (D.seen files.new) system.now result }
     ensures missing { IsMissing (D.seen files.old) system.now → result ≡ Err ReadRefusal.Fault }
 {

@@ -1,5 +1,5 @@
 -- What appending bytes held and given does, piece by piece.
-use Rattle.std.proofs.Common.{◌≡◌, ℕ, suc, ◌<◌, ◌∷◌, add-one, get_or, ◌+◌, ◌-◌, ◌≤◌, min, List, [], ◌++◌, length, take, drop, option_map, ap₂, Option, Some, None, Result, Ok, Err, IsErrAnd, append_assoc, ap, refl, sym, ◌∙◌, subst, arith, rules, inl, inr, ◌⊎◌, OnOk, OnErr}
+use Rattle.std.proofs.Common.{◌≡◌, ℕ, suc, ◌<◌, ◌∷◌, add-one, get_or, ◌+◌, ◌-◌, ◌≤◌, min, List, [], ◌++◌, length, take, drop, option_map, ap₂, Option, Some, None, Result, Ok, Err, IsErrAnd, append_assoc, ap, refl, sym, ◌∙◌, subst, arith, rules, inl, inr, ◌⊎◌}
 use Rattle.std.proofs.lemmas.List.{take-append-le, take_min, append-nil, take-append-drop, drop-drop, drop_all}
 use borrow.Rule.Slice.PartMut.{put_mid, post_of}
 use Rattle.std.proofs.lemmas.Result.{err_from_is_err_and}

@@ -1,5 +1,5 @@
 -- Bytes that stand at a place of a file, and what a reader makes of them.
-use Rattle.std.proofs.Common.{◌≡◌, ℕ, zero, suc, ◌+◌, ◌*◌, ◌/◌, ◌^◌, ◌<◌, ◌≤◌, List, [], ◌∷◌, ◌++◌, length, take, drop, ◌-◌, true, false, Ok, append_assoc, append-nil, ap, refl, sym, ◌∙◌, subst, arith}
+use Rattle.std.proofs.Common.{◌≡◌, ℕ, zero, suc, ◌+◌, ◌*◌, ◌/◌, ◌^◌, ◌<◌, ◌≤◌, List, [], ◌∷◌, ◌++◌, length, take, drop, ◌-◌, true, false, Ok, append_assoc, append-nil, ap, refl, sym, ◌∙◌, arith}
 use Rattle.std.proofs.lemmas.Bool.Decides.{nat_tests}
 use Rattle.std.proofs.lemmas.List.{length-append}
 use Rattle.std.proofs.Math.Nat.{pow-succ', pow-zero}
@@ -9,7 +9,7 @@ use Rattle.tv_word.specs.Word.{low_bytes, spelled}
 use Rattle.tv_container.specs.Bytes.{four_bytes, eight_bytes, front_bytes, section_bytes, section_head, field_bytes}
 use Rattle.tv_container.specs.Field.{this_field}
 use Rattle.tv_container.specs.Places.{number, places}
-use Rattle.tv_container.specs.Sections.{stands_already, section_at, sections_from, sections_of}
+use Rattle.tv_container.specs.Sections.{stands_already, sections_from, sections_of}
 use Rattle.tv_container.specs.declared.sections.Section.{Section}
 use Rattle.tv_container.proofs.SectionLemmas.{fit-within, section_at-read, sections_from-next, sections_in-version, sections_of-counted, this_field-prime}
 
@@ -71,6 +71,27 @@ pub length-eight_bytes : (v : ℕ) → length (eight_bytes v) ≡ 8
 unfolding eight_bytes
 length-eight_bytes v = refl
 
+-- how many bytes the heads of a container have
+pub length-front_bytes : (magic version count : ℕ) → length (front_bytes magic version count) ≡ 12
+length-front_bytes magic version count =
+    omega (
+      arith,
+      length-append (four_bytes magic) (four_bytes version ++ four_bytes count),
+      length-append (four_bytes version) (four_bytes count),
+      length-four_bytes magic,
+      length-four_bytes version,
+      length-four_bytes count,
+    )
+
+pub length-section_head : (kind size : ℕ) → length (section_head kind size) ≡ 12
+length-section_head kind size = omega (arith, length-append (four_bytes kind) (eight_bytes size), length-four_bytes kind, length-eight_bytes size)
+
+pub length-section_bytes : (kind : ℕ) (content : List ℕ) → length (section_bytes kind content) ≡ 12 + length content
+length-section_bytes kind content = omega (arith, length-append (section_head kind (length content)) content, length-section_head kind (length content))
+
+pub length-field_bytes : length field_bytes ≡ 12
+length-field_bytes = omega (arith, length-append (four_bytes 8) (eight_bytes P), length-four_bytes 8, length-eight_bytes P)
+
 -- numbers that were written are read
 pub number_of_four : (file : List ℕ) (at v : ℕ) → At file at (four_bytes v) → v < 2 ^ 32 → number file 4 at ≡ v
 unfolding four_bytes
@@ -103,8 +124,7 @@ section_read singles n at next kind content file sections a kind_short short onc
     let size = length content in
     let head = at_first file at (section_head kind size) content a in
     let rest = at_rest file at 4 (at + 4) (four_bytes kind) (eight_bytes size) head (length-four_bytes kind) refl in
-    let long : length (section_head kind size) ≡ 12 = omega (arith, length-append (four_bytes kind) (eight_bytes size), length-four_bytes kind, length-eight_bytes size) in
-    let end : at + 12 + size ≤ length file = omega (arith, long, at_within file at (section_bytes kind content) a, length-append (section_head kind size) content) in
+    let end : at + 12 + size ≤ length file = omega (arith, length-section_head kind size, at_within file at (section_bytes kind content) a, length-append (section_head kind size) content) in
     let kind_is = number_of_four file at kind (at_first file at (four_bytes kind) (eight_bytes size) head) kind_short in
     let size_is = number_of_eight file (at + 4) size rest (omega arith) in
     sections_from-next singles (suc n) n at file sections (record { kind = kind; at = at + 12; size = size }) (omega arith)

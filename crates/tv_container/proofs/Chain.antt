@@ -1,11 +1,12 @@
 -- Steps that may refuse, one after another.
 use Rattle.std.proofs.Common.{◌≡◌, ℕ, List, Result, Ok, Err, refl, rules}
+use Rattle.std.specs.Prelude.{IfErr}
 use Rattle.tv_files.specs.Outside.{Outside}
 use Rattle.tv_container.specs.declared.why.ReadRefusal.{ReadRefusal}
 use Rattle.tv_container.specs.declared.why.ReadRefusal.TheVariants.{Bad}
 use Rattle.tv_container.specs.declared.why.ReadWhy.{ReadWhy}
 use Rattle.tv_container.specs.Places.{Fault, wrong, ◌>>=◌}
-use Rattle.tv_container.specs.Reading.{Refuses, IsTold, Stopped}
+use Rattle.tv_container.specs.Reading.{Refuses, IsTold, Stopped, Looks}
 
 -- a step that was made gave what the answer was made of
 pub made : {A B : Type 0} (first : Result A Fault) (next : A → Result B Fault) (value : B) → first >>= next ≡ Ok value →
@@ -28,3 +29,8 @@ refuses_any why value answer refuses = record { bad = λ at what e. let none : O
 -- a refusal that isn't a failed read may stop where nothing was read
 pub stopped_here : (outside : Outside) (name : List ℕ) (why : ReadRefusal) → IsTold why → Stopped outside outside name why
 stopped_here outside name why told = record { only = search rules; there = search rules; fault = λ e. absurd (told.told e) }
+
+-- and so may a step that read nothing
+pub looks_here : {A : Type 0} (outside : Outside) (name : List ℕ) (result : Result A ReadRefusal) → IfErr result IsTold → Looks outside outside name result
+looks_here outside name (Ok value) told = refl
+looks_here outside name (Err why) told = stopped_here outside name why told

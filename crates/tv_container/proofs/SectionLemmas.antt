@@ -1,5 +1,5 @@
 -- Sections, one behind the others.
-use Rattle.std.proofs.Common.{◌≡◌, ℕ, zero, suc, ◌+◌, ◌≤◌, ◌<◌, List, [], ◌∷◌, ◌++◌, length, Bool, true, false, cond, eqb, Option, Some, None, Result, Ok, Err, refl, ap, ◌∙◌, add-one, nat_lt, nat_le, not, ◌==◌, arith}
+use Rattle.std.proofs.Common.{◌≡◌, ℕ, zero, suc, ◌+◌, ◌≤◌, ◌<◌, List, [], ◌∷◌, ◌++◌, length, Bool, true, false, cond, eqb, Option, Some, None, Result, Ok, Err, refl, ◌∙◌, add-one, nat_lt, nat_le, not, ◌==◌, arith}
 use Rattle.std.proofs.lemmas.Bool.Decides.{nat_tests}
 use Rattle.std.specs.Option.{option_or}
 use Rattle.tv_core.specs.declared.field.TheConstants.{P}
@@ -11,7 +11,7 @@ use Rattle.tv_container.specs.Places.{Fault, ◌>>=◌, wrong, unless, number, p
 use Rattle.tv_container.specs.Field.{this_field}
 use Rattle.tv_container.specs.Found.{AllFit}
 use Rattle.tv_container.specs.Reading.{Refuses}
-use Rattle.tv_container.specs.Sections.{section_of, stands_already, section_at, sections_in, sections_from, sections_of, wanted}
+use Rattle.tv_container.specs.Sections.{section_of, stands_already, section_at, sections_in, sections_from, sections_of}
 use Rattle.tv_container.proofs.Chain.{made, refuses_first}
 
 -- the first section of a type among sections and one behind them

@@ -1,6 +1,7 @@
 -- Bytes that are written to a file a piece at a time, and what of them it has.
-use Rattle.std.proofs.Common.{◌≡◌, ℕ, ◌+◌, List, ◌++◌, length, take, Option, Some, None, option_map, Result, Err, cond, append_assoc, ap, refl, sym, ◌∙◌}
-use Rattle.std.proofs.Math.Seq.{take-append-add}
+use Rattle.std.proofs.Common.{◌≡◌, ℕ, ◌+◌, ◌≤◌, min, List, ◌++◌, length, take, Option, Some, None, option_map, Result, Err, cond, append_assoc, ap, refl, sym, ◌∙◌, arith}
+use Rattle.std.proofs.lemmas.List.{take-append-le, take_min}
+use Rattle.std.proofs.Math.Seq.{take-append-add, take-append_seam}
 use Rattle.std.proofs.lemmas.Slice.Eq.{bytes_eq-Decides}
 use Rattle.tv_container.specs.Faults.{sink_fault}
 use Rattle.tv_container.specs.Writing.{Adds, Passes}
@@ -64,3 +65,18 @@ pub is_cause : {S : Type 0} (faults wants : S → ℕ) (old new : S) (why : File
     (result ≡ Err file.Memory → Rose (wants old) (wants new)) → IsCause fault faults wants old new
 is_cause faults wants old new file.Failed result fault refused is failed memory = rw is (failed refused)
 is_cause faults wants old new file.Memory result fault refused is failed memory = rw is (memory refused)
+
+-- what a name has of bytes is a first part of bytes that begin with them
+pub but_front : (outside : Outside) (name held bytes rest whole : List ℕ) → HasBut outside name held bytes → whole ≡ bytes ++ rest → HasFront outside name whole
+but_front outside name held bytes rest whole has is = λ files told.
+    let had = has files told in
+    let same : whole ≡ had.0 ++ (held ++ rest) = is ∙ ap (λ l. l ++ rest) (sym had.2) ∙ append_assoc had.0 held rest in
+    (length had.0, had.1 ∙ ap Some (sym (take-append_seam had.0 (held ++ rest)) ∙ ap (take (length had.0)) (sym same)))
+
+pub front_front : (outside : Outside) (name bytes rest whole : List ℕ) → HasFront outside name bytes → whole ≡ bytes ++ rest → HasFront outside name whole
+front_front outside name bytes rest whole has is = λ files told.
+    let had = has files told in
+    let within : min had.0 (length bytes) ≤ length bytes = omega arith in (
+      min had.0 (length bytes),
+      had.1 ∙ ap Some (sym (take-append-le (min had.0 (length bytes)) bytes rest within ∙ take_min had.0 bytes) ∙ ap (take (min had.0 (length bytes))) (sym is)),
+    )

@@ -1,5 +1,5 @@
 -- What reading a file may answer and do, over any files.
-use Rattle.std.specs.Prelude.{◌≡◌, ◌≢◌, ℕ, ◌+◌, ◌≤◌, List, length, take, drop, Option, Some, None, Result, Ok, MatchResult, option_and_then}
+use Rattle.std.specs.Prelude.{◌≡◌, ◌≢◌, ℕ, ◌+◌, ◌≤◌, List, length, take, drop, Option, Some, None, Result, Ok, OnOk, MatchResult, option_and_then}
 use Rattle.tv_files.specs.Outside.{Names, Outside, OnlyReads, MissesOnly}
 use Rattle.tv_container.specs.Places.{Fault, wrong}
 use Rattle.tv_container.specs.declared.why.ReadRefusal.{ReadRefusal}
@@ -10,6 +10,10 @@ use Rattle.tv_word.specs.Counts.{Rose}
 -- the bytes that a name stands for, where contents are told and the name is there
 unfoldable pub bytes_of : Outside → List ℕ → Option (List ℕ)
 bytes_of outside name = option_and_then (λ files. files name) outside.contents
+
+-- where contents are told and the name is there, this is so of its bytes
+abbrev pub Known : Outside → List ℕ → (List ℕ → Type 0) → Type 0
+Known outside name So = (file : List ℕ) → bytes_of outside name ≡ Some file → So file
 
 -- contents are told, and the name isn't there
 pub record IsMissing (outside : Outside) (name : List ℕ) : Type 0 where
@@ -33,9 +37,13 @@ Looks old new name result = MatchResult result (λ _. new ≡ old) (λ why. Stop
 pub record Refuses {A : Type 0} (why : ReadRefusal) (answer : Result A Fault) : Type 0 where
   pub bad : (at : ℕ) (what : ReadWhy) → why ≡ refusal.Bad at what → answer ≡ wrong at what
 
--- a reader gives what the definition does, unless a read failed or memory ran out
+-- a reader gives what the definition does, as `view` sees it, unless a read failed or memory ran out
+abbrev pub GivesBy : {Y A : Type 0} → Result Y ReadRefusal → (Y → A) → Result A Fault → Type 0
+GivesBy result view answer = MatchResult result (λ value. answer ≡ Ok (view value)) (λ why. Refuses why answer)
+
+-- the same of what needs no view
 abbrev pub Gives : {A : Type 0} → Result A ReadRefusal → Result A Fault → Type 0
-Gives result answer = MatchResult result (λ value. answer ≡ Ok value) (λ why. Refuses why answer)
+Gives result answer = GivesBy result (λ value. value) answer
 
 -- a refusal that isn't a failed read
 pub record IsTold (why : ReadRefusal) : Type 0 where
@@ -54,3 +62,15 @@ pub record IsPiece (piece : Piece) (file : List ℕ) : Type 0 where
 pub record Holds (piece : Piece) (at size : ℕ) : Type 0 where
   pub from : piece.at ≤ at
   pub to : at + size ≤ piece.at + length piece.bytes
+
+-- where the bytes of a name are known, and a window has a piece of them, this is so of them
+abbrev pub InPiece : Outside → List ℕ → Piece → (List ℕ → Type 0) → Type 0
+InPiece outside name piece So = Known outside name (λ file. IsPiece piece file → So file)
+
+-- a step of reading a name through a window: it looks at the name only; after an Ok the window has a piece of the
+-- file again; and this is so of the file
+pub record ReadsIn {A : Type 0} (old new : Outside) (name : List ℕ) (before after : Piece)
+    (result : Result A ReadRefusal) (So : List ℕ → Type 0) : Type 0 where
+  pub looks : Looks old new name result
+  pub piece : InPiece old name before (λ file. OnOk result (IsPiece after file))
+  pub gives : InPiece old name before So

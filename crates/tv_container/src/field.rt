@@ -1,7 +1,7 @@
-ghost use Rattle.std.specs.Prelude.{◌≡◌, ℕ, ◌+◌, ◌≤◌, List, Some, OnOk};
+ghost use Rattle.std.specs.Prelude.{◌≡◌, ◌+◌, ◌≤◌, OnOk};
 ghost use Rattle.tv_container.specs.Field.{this_field};
 ghost use Rattle.tv_container.specs.Places.{places};
-ghost use Rattle.tv_container.specs.Reading.{bytes_of, Looks, Gives, IsPiece};
+ghost use Rattle.tv_container.specs.Reading.{Gives, ReadsIn};
 
 use crate::sections::Section;
 use crate::why::{ReadRefusal, ReadWhy};
@@ -20,12 +20,9 @@ pub fn this_field<D: Files>(
     wants: u64,
 ) -> Result<(), ReadRefusal>
     requires room { 12 ≤ wants }
-    ensures piece { (file : List ℕ) → bytes_of (D.seen files.old) name.now ≡ Some file →
-        IsPiece window.old file → OnOk result (IsPiece window.new file) }
-    ensures gives { (file : List ℕ) → bytes_of (D.seen files.old) name.now ≡ Some file → IsPiece window.old file →
-        one.now.at + one.now.size ≤ places file → Gives result (this_field file wants one.now) }
+    ensures reads { ReadsIn (D.seen files.old) (D.seen files.new) name.now window.old window.new result
+        (λ file. one.now.at + one.now.size ≤ places file → Gives result (this_field file wants one.now)) }
     ensures size { OnOk result (one.now.size ≡ wants) }
-    ensures looks { Looks (D.seen files.old) (D.seen files.new) name.now result }
 {
     let miscounted = ReadRefusal::Bad {
         at: one.at,

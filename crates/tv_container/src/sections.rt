@@ -1,6 +1,6 @@
-ghost use Rattle.std.specs.Prelude.{◌≡◌, ℕ, ◌+◌, ◌≤◌, ◌<◌, ◌^◌, true, nat_le, List, [], ◌∷◌, ◌++◌, length, Some, Ok, IfOk, IfErr, OnOk, MatchResult};
-ghost use Rattle.tv_container.specs.Places.{fit, number, places};
-ghost use Rattle.tv_container.specs.Reading.{bytes_of, Looks, Refuses, Gives, Holds, IsMissing, IsPiece, IsTold};
+ghost use Rattle.std.specs.Prelude.{◌≡◌, ℕ, ◌+◌, ◌≤◌, ◌<◌, ◌^◌, true, nat_le, List, [], ◌∷◌, ◌++◌, length, Some, Ok, IfOk, IfErr, OnOk};
+ghost use Rattle.tv_container.specs.Places.{places};
+ghost use Rattle.tv_container.specs.Reading.{Looks, Gives, IsMissing, IsTold, Known, InPiece, ReadsIn};
 ghost use Rattle.tv_container.specs.Sections.{section_at, sections_in, sections_from, sections_of, section_of, stands_already, wanted};
 ghost use Rattle.tv_container.specs.Found.{first_of, AllEnd, FindsIn};
 ghost use Rattle.tv_container.specs.declared.sections.Section.{Section};
@@ -96,12 +96,9 @@ pub fn find_sections<D: Files>(
     form: &Form,
 ) -> Result<(Found, u64), ReadRefusal>
     requires singles { form.now.singles ≤ 3 }
-    ensures piece { (file : List ℕ) → bytes_of (D.seen files.old) name.now ≡ Some file →
-        IsPiece window.old file → OnOk result (IsPiece window.new file) }
-    ensures gives { (file : List ℕ) → bytes_of (D.seen files.old) name.now ≡ Some file → IsPiece window.old file →
-        FindsIn result file (sections_of form.now.singles form.now.magic form.now.version file) }
+    ensures reads { ReadsIn (D.seen files.old) (D.seen files.new) name.now window.old window.new result
+        (λ file. FindsIn result file (sections_of form.now.singles form.now.magic form.now.version file)) }
     ensures ends { IfOk result (λ found. AllEnd found.0) }
-    ensures looks { Looks (D.seen files.old) (D.seen files.new) name.now result }
     ensures missing { IsMissing (D.seen files.old) name.now → window.old.bytes ≡ [] → result ≡ Err ReadRefusal.Fault }
 {
     let count = section_count(files, name, window, form)?;
@@ -110,8 +107,7 @@ pub fn find_sections<D: Files>(
 
 // Whether the file has no byte at a place.
 fn ends<D: Files>(files: &mut D, name: &str, at: u64) -> Result<bool, ReadRefusal>
-    ensures gives { (file : List ℕ) → bytes_of (D.seen files.old) name.now ≡ Some file →
-        Gives result (Ok (nat_le (length file) at)) }
+    ensures gives { Known (D.seen files.old) name.now (λ file. Gives result (Ok (nat_le (length file) at))) }
     ensures looks { Looks (D.seen files.old) (D.seen files.new) name.now result }
 {
     let mut byte = [0];
@@ -126,13 +122,9 @@ fn section_count<D: Files>(
     window: &mut Window,
     form: &Form,
 ) -> Result<u32, ReadRefusal>
-    ensures piece { (file : List ℕ) → bytes_of (D.seen files.old) name.now ≡ Some file →
-        IsPiece window.old file → OnOk result (IsPiece window.new file) }
-    ensures gives { (file : List ℕ) → bytes_of (D.seen files.old) name.now ≡ Some file → IsPiece window.old file →
-        Gives result (sections_in form.now.magic form.now.version file) }
-    ensures start { (file : List ℕ) → bytes_of (D.seen files.old) name.now ≡ Some file → IsPiece window.old file →
-        OnOk result (12 ≤ places file) }
-    ensures looks { Looks (D.seen files.old) (D.seen files.new) name.now result }
+    ensures reads { ReadsIn (D.seen files.old) (D.seen files.new) name.now window.old window.new result
+        (λ file. Gives result (sections_in form.now.magic form.now.version file)) }
+    ensures start { InPiece (D.seen files.old) name.now window.old (λ file. OnOk result (12 ≤ places file)) }
     ensures missing { IsMissing (D.seen files.old) name.now → window.old.bytes ≡ [] → result ≡ Err ReadRefusal.Fault }
 {
     window.fit(files, name, 0, 4)?;
@@ -163,12 +155,9 @@ fn next_sections<D: Files>(
     count: u32,
 ) -> Result<(Found, u64), ReadRefusal>
     requires { singles ≤ 3 }
-    ensures piece { (file : List ℕ) → bytes_of (D.seen files.old) name.now ≡ Some file →
-        IsPiece window.old file → OnOk result (IsPiece window.new file) }
-    ensures gives { (file : List ℕ) → bytes_of (D.seen files.old) name.now ≡ Some file → IsPiece window.old file →
-        12 ≤ places file → FindsIn result file (sections_from singles file count 12 []) }
+    ensures reads { ReadsIn (D.seen files.old) (D.seen files.new) name.now window.old window.new result
+        (λ file. 12 ≤ places file → FindsIn result file (sections_from singles file count 12 [])) }
     ensures ends { IfOk result (λ found. AllEnd found.0) }
-    ensures looks { Looks (D.seen files.old) (D.seen files.new) name.now result }
 {
     let mut found = Found::none();
     let mut at = 12;
@@ -197,13 +186,9 @@ fn next_section<D: Files>(
     at: u64,
 ) -> Result<Section, ReadRefusal>
     requires { singles ≤ 3 }
-    ensures piece { (file : List ℕ) → bytes_of (D.seen files.old) name.now ≡ Some file →
-        IsPiece window.old file → OnOk result (IsPiece window.new file) }
-    ensures gives { (file : List ℕ) → bytes_of (D.seen files.old) name.now ≡ Some file → IsPiece window.old file →
-        (sections : List Section) → found.now ≡ first_of sections →
-        Gives result (section_at singles file at sections) }
+    ensures reads { ReadsIn (D.seen files.old) (D.seen files.new) name.now window.old window.new result
+        (λ file. (sections : List Section) → found.now ≡ first_of sections → Gives result (section_at singles file at sections)) }
     ensures place { IfOk result (λ section. section.at + section.size < 2 ^ 64) }
-    ensures looks { Looks (D.seen files.old) (D.seen files.new) name.now result }
 {
     window.fit(files, name, at, 12)?;
     let section = Section {
@@ -235,13 +220,9 @@ fn reaches_end<D: Files>(
     window: &mut Window,
     section: &Section,
 ) -> Result<bool, ReadRefusal>
-    ensures piece { (file : List ℕ) → bytes_of (D.seen files.old) name.now ≡ Some file →
-        IsPiece window.old file → OnOk result (IsPiece window.new file) }
-    ensures gives { (file : List ℕ) → bytes_of (D.seen files.old) name.now ≡ Some file → IsPiece window.old file →
-        section.now.at ≤ places file →
-        Gives result (Ok (nat_le (section.now.at + section.now.size) (places file))) }
+    ensures reads { ReadsIn (D.seen files.old) (D.seen files.new) name.now window.old window.new result
+        (λ file. section.now.at ≤ places file → Gives result (Ok (nat_le (section.now.at + section.now.size) (places file)))) }
     ensures place { IfOk result (λ there. there ≡ true → section.now.at + section.now.size < 2 ^ 64) }
-    ensures looks { Looks (D.seen files.old) (D.seen files.new) name.now result }
 {
     let Some(end) = section.at.checked_add(section.size) else {
         return Ok(false);

@@ -1,7 +1,7 @@
 ghost use Rattle.std.specs.Prelude.{◌≡◌, ℕ, ◌+◌, ◌*◌, ◌≤◌, ◌<◌, ◌^◌, true, nat_le, Ok, IfOk, OnOk, MatchResult};
-ghost use Rattle.std.specs.Prelude.{List, [], length, take, drop, Some};
+ghost use Rattle.std.specs.Prelude.{List, [], length, take, drop};
 ghost use Rattle.tv_container.specs.Places.{fit, number, places};
-ghost use Rattle.tv_container.specs.Reading.{bytes_of, Looks, Stopped, Gives, Holds, IsMissing, IsPiece};
+ghost use Rattle.tv_container.specs.Reading.{Stopped, Gives, Holds, IsMissing, IsPiece, Known, ReadsIn};
 ghost use Rattle.tv_container.specs.Refusals.{read_refusal};
 ghost use Rattle.tv_word.specs.Word.{spelled};
 
@@ -106,11 +106,8 @@ impl Window {
         requires small { size ≤ 4096 }
         ensures held { IfOk result (λ there. there ≡ true → Holds self.new at size) }
         ensures place { IfOk result (λ there. there ≡ true → at + size < 2 ^ 64) }
-        ensures piece { (file : List ℕ) → bytes_of (D.seen files.old) name.now ≡ Some file →
-            IsPiece self.old file → OnOk result (IsPiece self.new file) }
-        ensures gives { (file : List ℕ) → bytes_of (D.seen files.old) name.now ≡ Some file →
-            IsPiece self.old file → Gives result (Ok (nat_le (at + size) (places file))) }
-        ensures looks { Looks (D.seen files.old) (D.seen files.new) name.now result }
+        ensures reads { ReadsIn (D.seen files.old) (D.seen files.new) name.now self.old self.new result
+            (λ file. Gives result (Ok (nat_le (at + size) (places file)))) }
         ensures missing { IsMissing (D.seen files.old) name.now → self.old.bytes ≡ [] → at + size < 2 ^ 64 → result ≡ Err ReadRefusal.Fault }
     {
         if size as u64 > u64::MAX - at {
@@ -136,11 +133,8 @@ impl Window {
         requires small { size ≤ 4096 }
         ensures held { OnOk result (Holds self.new at size) }
         ensures place { OnOk result (at + size < 2 ^ 64) }
-        ensures piece { (file : List ℕ) → bytes_of (D.seen files.old) name.now ≡ Some file →
-            IsPiece self.old file → OnOk result (IsPiece self.new file) }
-        ensures gives { (file : List ℕ) → bytes_of (D.seen files.old) name.now ≡ Some file →
-            IsPiece self.old file → Gives result (fit size at (places file)) }
-        ensures looks { Looks (D.seen files.old) (D.seen files.new) name.now result }
+        ensures reads { ReadsIn (D.seen files.old) (D.seen files.new) name.now self.old self.new result
+            (λ file. Gives result (fit size at (places file))) }
         ensures missing { IsMissing (D.seen files.old) name.now → self.old.bytes ≡ [] → at + size < 2 ^ 64 → result ≡ Err ReadRefusal.Fault }
     {
         if self.reach(files, name, at, size)? {
@@ -165,10 +159,8 @@ fn fill<D: Files>(
     requires small { size ≤ 4096 }
     requires place { at + size < 2 ^ 64 }
     ensures within { IfOk result (λ held. held ≤ 4096) }
-    ensures piece { (file : List ℕ) → bytes_of (D.seen files.old) name.now ≡ Some file →
-        IfOk result (λ held. take held bytes.new ≡ take held (drop at file)) }
-    ensures end { (file : List ℕ) → bytes_of (D.seen files.old) name.now ≡ Some file →
-        IfOk result (λ held. held < size → length file ≤ at + held) }
+    ensures piece { Known (D.seen files.old) name.now (λ file. IfOk result (λ held. take held bytes.new ≡ take held (drop at file))) }
+    ensures end { Known (D.seen files.old) name.now (λ file. IfOk result (λ held. held < size → length file ≤ at + held)) }
     ensures looks { MatchResult result
         (λ _. D.seen files.new ≡ D.seen files.old)
         (λ why. Stopped (D.seen files.old) (D.seen files.new) name.now (read_refusal why)) }

@@ -9,11 +9,12 @@ use Rattle.tv_container.specs.declared.sections.Section.{Section}
 use Rattle.tv_container.specs.declared.why.ReadRefusal.{ReadRefusal}
 use Rattle.tv_container.specs.declared.why.ReadWhy.TheVariants.{BadCount}
 use Rattle.tv_container.specs.Places.{Fault, ◌>>=◌, wrong}
-use Rattle.tv_r1cs_read.specs.Progress.{Reached, IsBegun, ahead, counts_of}
+use Rattle.tv_r1cs_read.specs.Places.{HasRead, IsAt, IsAll}
+use Rattle.tv_r1cs_read.specs.Progress.{Reached, Follows, ahead}
 use Rattle.tv_r1cs_read.specs.R1cs.{constraint_at, constraints_from, header_of, system_of}
 use Rattle.tv_container.specs.Reading.{Refuses}
 use Rattle.tv_r1cs_read.specs.Rows.{constraint_of, terms_in}
-use Rattle.tv_r1cs_read.specs.Survey.{HasRead, terms_of, survey_of}
+use Rattle.tv_r1cs_read.specs.Survey.{terms_of, survey_of}
 use Rattle.tv_container.proofs.Chain.{made, refuses_first}
 
 -- at first none was read
@@ -22,7 +23,7 @@ read_none (Ok list) = record { same = refl }
 read_none (Err fault) = record { same = refl }
 
 -- the next one goes behind those that were read
-pub read_more : (done : List Constraint) (all before after : Result (List Constraint) Fault) (next : Constraint) → HasRead done all before →
+read_more : (done : List Constraint) (all before after : Result (List Constraint) Fault) (next : Constraint) → HasRead done all before →
     before ≡ (do
       others ← after
       Ok (next ∷ others)) → HasRead (done ++ next ∷ []) all after
@@ -30,34 +31,25 @@ read_more done all before (Ok others) next read is = record { same = read.same �
 read_more done all before (Err fault) next read is = record { same = read.same ∙ rw is refl }
 
 -- in the end all were read
-pub read_all : (done : List Constraint) (all ahead : Result (List Constraint) Fault) → HasRead done all ahead → ahead ≡ Ok [] → all ≡ Ok done
+read_all : (done : List Constraint) (all ahead : Result (List Constraint) Fault) → HasRead done all ahead → ahead ≡ Ok [] → all ≡ Ok done
 read_all done all ahead read none = read.same ∙ rw (none, append-nil) refl
 
 -- a refusal ahead is one of all
-pub read_refused : (done : List Constraint) (all ahead : Result (List Constraint) Fault) (why : ReadRefusal) → HasRead done all ahead →
+read_refused : (done : List Constraint) (all ahead : Result (List Constraint) Fault) (why : ReadRefusal) → HasRead done all ahead →
     Refuses why ahead → Refuses why all
 read_refused done all ahead why read refuses = rw read.same (refuses_first why _ _ refuses)
 
--- a system is its header and its constraints
-pub system_of-read : (file : List ℕ) (begun : Reached) (done : List Constraint) → header_of file ≡ Ok begun.header → IsBegun begun →
-    ahead begun file ≡ Ok done →
-    system_of file ≡ Ok (record { wires = begun.header.wires; outputs = begun.header.outputs; inputs = begun.header.inputs; constraints = done })
+-- what is refused of the header is refused of the system
+pub refuses_header : (file : List ℕ) (why : ReadRefusal) → Refuses why (header_of file) → Refuses why (system_of file)
 unfolding system_of
-system_of-read file begun done header_is start all =
-    let list = rw (start.left, start.at) at all in
-    rw (header_is, list) refl
+refuses_header file why refuses = refuses_first why _ _ refuses
 
--- what is refused of the header or of a constraint is refused of the system
-pub system_of-header : (file : List ℕ) (why : ReadRefusal) → Refuses why (header_of file) → Refuses why (system_of file)
+-- and so is what is refused of the constraints ahead
+pub refuses_ahead : (file : List ℕ) (reached : Reached) (rows : List Constraint) (why : ReadRefusal) → IsAt reached file rows →
+    Refuses why (ahead reached file) → Refuses why (system_of file)
 unfolding system_of
-system_of-header file why refuses = refuses_first why _ _ refuses
-
-pub system_of-refuses : (file : List ℕ) (begun : Reached) (why : ReadRefusal) → header_of file ≡ Ok begun.header → IsBegun begun →
-    Refuses why (ahead begun file) → Refuses why (system_of file)
-unfolding system_of
-system_of-refuses file begun why header_is start refuses =
-    let list = rw (start.left, start.at) at refuses in
-    rw header_is (refuses_first why _ _ list)
+refuses_ahead file reached rows why place refuses =
+    rw place.header (refuses_first why _ _ (read_refused rows _ _ why place.read refuses))
 
 -- there are as many constraints as are counted
 constraints_from-length : (file : List ℕ) (wires n at : ℕ) (rows : Section) (list : List Constraint) →
@@ -75,18 +67,37 @@ constraints_from-length file wires (suc n) at rows list is =
     ap length (sym whole) ∙ ap suc (constraints_from-length file wires n first.0.next rows rest.0 rest.1)
 
 -- the terms of the constraints that were read, and of one more
-pub terms_more : (done : List Constraint) (row : Row) → sum_by terms_of (done ++ constraint_of row ∷ []) ≡ sum_by terms_of done + terms_in row
+terms_more : (done : List Constraint) (row : Row) → sum_by terms_of (done ++ constraint_of row ∷ []) ≡ sum_by terms_of done + terms_in row
 terms_more done row =
     sum_by-append terms_of done (constraint_of row ∷ [])
     ∙ omega (arith, length-map {B = ℕ × ℕ} row.a (λ (t : ℕ × ℕ). (t.1, t.0)), length-map {B = ℕ × ℕ} row.b (λ (t : ℕ × ℕ). (t.1, t.0)), length-map {B = ℕ × ℕ} row.c (λ (t : ℕ × ℕ). (t.1, t.0)))
 
--- the counts of a system of which all constraints were read
-pub survey_of-read : (file : List ℕ) (begun reached : Reached) (done : List Constraint) → header_of file ≡ Ok begun.header → IsBegun begun →
-    ahead begun file ≡ Ok done → reached.header ≡ begun.header → reached.terms ≡ sum_by terms_of done → survey_of file ≡ Ok (counts_of reached)
-unfolding survey_of
-survey_of-read file begun reached done header_is start all same counted =
-    let count : length done ≡ begun.header.constraints = constraints_from-length file begun.header.wires begun.left begun.at begun.header.rows done all ∙ start.left in
-    rw (system_of-read file begun done header_is start all, count, same, counted) refl
+-- one constraint more was read
+pub next_at : (file : List ℕ) (old new : Reached) (rows : List Constraint) (row : Row) → IsAt old file rows → Follows new file →
+    new.header ≡ old.header → new.terms ≡ old.terms + terms_in row →
+    ahead old file ≡ (do
+      others ← ahead new file
+      Ok (constraint_of row ∷ others)) → IsAt new file (rows ++ constraint_of row ∷ [])
+next_at file old new rows row place follows same count step = record {
+  follows = follows;
+  header = rw same place.header;
+  read = rw same (read_more rows _ _ _ (constraint_of row) place.read (rw same at step));
+  terms = count ∙ ap (λ n. n + terms_in row) place.terms ∙ sym (terms_more rows row);
+}
+
+-- no constraint is left
+pub all_at : (file : List ℕ) (reached : Reached) (rows : List Constraint) → IsAt reached file rows → ahead reached file ≡ Ok [] →
+    IsAll reached file rows
+unfolding system_of survey_of
+all_at file reached rows place none =
+    let header = reached.header in
+    let all = read_all rows _ _ place.read none in
+    let count : length rows ≡ header.constraints = constraints_from-length file header.wires header.constraints header.rows.at header.rows rows all in
+    record {
+      place = place;
+      system = rw (place.header, all) refl;
+      counts = rw (place.header, all, count, place.terms) refl;
+    }
 
 -- what is refused of a system is refused of its counts
 pub survey_of-refuses : (file : List ℕ) (why : ReadRefusal) → Refuses why (system_of file) → Refuses why (survey_of file)

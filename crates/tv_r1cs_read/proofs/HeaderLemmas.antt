@@ -1,20 +1,13 @@
 -- What comes before the constraints, step by step.
-use Rattle.std.proofs.Common.{◌≡◌, ℕ, zero, suc, ◌+◌, ◌≤◌, ◌<◌, List, [], ◌∷◌, ◌++◌, length, Bool, true, false, cond, eqb, Option, Some, None, Result, Ok, Err, refl, ap, ◌∙◌, add-one, nat_lt, nat_le, not, ◌==◌, arith}
-use Rattle.std.proofs.lemmas.Bool.Decides.{nat_tests}
-use Rattle.std.specs.Option.{option_or}
-use Rattle.tv_core.specs.declared.field.TheConstants.{P}
+use Rattle.std.proofs.Common.{◌≡◌, ℕ, List, Ok, ap}
 use Rattle.tv_container.specs.declared.sections.Section.{Section}
 use Rattle.tv_container.specs.declared.why.ReadRefusal.{ReadRefusal}
-use Rattle.tv_container.specs.declared.why.ReadWhy.{ReadWhy}
-use Rattle.tv_container.specs.declared.why.ReadWhy.TheVariants.{BadVersion, Doubled, OtherPrime, Truncated, Trailing}
-use Rattle.tv_container.specs.Places.{Fault, ◌>>=◌, wrong, unless, number, places, fit}
 use Rattle.tv_r1cs_read.specs.declared.header.Header.{Header}
 use Rattle.tv_r1cs_read.specs.R1cs.{counted, checked, header_in}
 use Rattle.tv_container.specs.Field.{this_field}
-use Rattle.tv_container.specs.Found.{AllFit}
 use Rattle.tv_container.specs.Reading.{Refuses}
-use Rattle.tv_container.specs.Sections.{section_of, stands_already, section_at, sections_in, sections_from, sections_of, wanted}
-use Rattle.tv_container.proofs.Chain.{made, refuses_first}
+use Rattle.tv_container.specs.Sections.{section_of, wanted}
+use Rattle.tv_container.proofs.Chain.{refuses_first}
 
 -- once section 1 is known to be of this field, the rest of the header is checked
 pub header_in-checked : (file : List ℕ) (sections : List Section) (one two : Section) (done : Unit {0}) (header : Header) →

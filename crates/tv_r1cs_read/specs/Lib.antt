@@ -1,3 +1,4 @@
+pub mod Places
 pub mod Progress
 pub mod R1cs
 pub mod Rows

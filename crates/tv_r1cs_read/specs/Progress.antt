@@ -1,14 +1,14 @@
 -- How far reading of a system has come, and what is ahead.
-use Rattle.std.specs.Prelude.{◌≡◌, ℕ, ◌+◌, ◌*◌, ◌^◌, ◌<◌, ◌≤◌, Bool, true, false, List, [], ◌∷◌, Option, Some, None, Result, Ok}
+use Rattle.std.specs.Prelude.{◌≡◌, ℕ, ◌+◌, ◌*◌, ◌^◌, ◌<◌, ◌≤◌, Bool, true, false, List, Option, Some, None, Result}
 use Rattle.tv_core.specs.Constraints.{Constraint}
 use Rattle.tv_core.specs.declared.lines.Counts.{Counts}
 use Rattle.tv_r1cs_read.specs.declared.header.Header.{Header}
 use Rattle.tv_r1cs_read.specs.declared.rows.Row.{Row}
 use Rattle.tv_container.specs.declared.why.ReadRefusal.{ReadRefusal}
-use Rattle.tv_container.specs.Places.{Fault, ◌>>=◌, places}
+use Rattle.tv_container.specs.Places.{Fault, places}
 use Rattle.tv_container.specs.Reading.{Piece, IsPiece}
 use Rattle.tv_r1cs_read.specs.R1cs.{HasRoom, constraints_from}
-use Rattle.tv_r1cs_read.specs.Rows.{constraint_of, terms_in, IsOver}
+use Rattle.tv_r1cs_read.specs.Rows.{terms_in, IsOver}
 
 -- what is known of the file: its header, and the piece of it that was read last; the place of the next
 -- constraint, how many are left, and how many terms those had that were given; and whether reading stopped
@@ -59,18 +59,7 @@ abbrev pub WentOn : Bool → Row → Reached → Reached → Type 0
 WentOn true row old new = (new.terms ≡ old.terms + terms_in row) × (new.left + 1 ≡ old.left) × IsOver old.header.wires row
 WentOn false row old new = (new.terms ≡ old.terms) × (new.left ≡ old.left)
 
--- the constraints ahead begin with this row, or there are none
-abbrev pub GivesNext : Bool → Row → Result (List Constraint) Fault → Result (List Constraint) Fault → Type 0
-GivesNext true row before after = before ≡ (do
-  others ← after
-  Ok (constraint_of row ∷ others))
-GivesNext false row before after = (before ≡ Ok []) × (after ≡ Ok [])
-
 -- the same of a row that was given, or none
 abbrev pub WentOnBy : Option Row → Reached → Reached → Type 0
 WentOnBy (Some row) old new = WentOn true row old new
 WentOnBy None old new = (new.terms ≡ old.terms) × (new.left ≡ old.left)
-
-abbrev pub GivesRow : Option Row → Result (List Constraint) Fault → Result (List Constraint) Fault → Type 0
-GivesRow (Some row) before after = GivesNext true row before after
-GivesRow None before after = (before ≡ Ok []) × (after ≡ Ok [])

@@ -2,7 +2,7 @@
 use Rattle.std.specs.Prelude.{ℕ, zero, suc, ◌+◌, ◌-◌, ◌*◌, ◌≤◌, not, List, [], ◌∷◌, Option, Some, None, Result, Ok, nat_lt, ◌==◌, if◌then◌else◌}
 use Rattle.tv_core.specs.Constraints.{Combination, Constraint, System}
 use Rattle.tv_core.specs.declared.field.TheConstants.{P}
-use Rattle.tv_container.specs.declared.why.ReadWhy.TheVariants.{OtherPrime, BadCount, WireRange, NotCanonical, TooWide}
+use Rattle.tv_container.specs.declared.why.ReadWhy.TheVariants.{BadCount, WireRange, NotCanonical, TooWide}
 use Rattle.tv_container.specs.Field.{this_field}
 use Rattle.tv_container.specs.Places.{Fault, ◌>>=◌, wrong, unless, number, fit}
 use Rattle.tv_r1cs_read.specs.declared.header.Header.{Header}

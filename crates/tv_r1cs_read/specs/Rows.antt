@@ -14,6 +14,13 @@ combination_of terms = map (λ t. (t.1, t.0)) terms
 abbrev pub constraint_of : Row → Constraint
 constraint_of row = record { a = combination_of row.a; b = combination_of row.b; c = combination_of row.c }
 
+-- what was read, and the place behind it
+abbrev pub combination_read : List (ℕ × ℕ) → ℕ → Read Combination
+combination_read terms next = record { value = combination_of terms; next = next }
+
+abbrev pub constraint_read : Row → ℕ → Read Constraint
+constraint_read row next = record { value = constraint_of row; next = next }
+
 -- how many terms a row has
 abbrev pub terms_in : Row → ℕ
 terms_in row = length row.a + length row.b + length row.c

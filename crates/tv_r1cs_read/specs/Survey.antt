@@ -1,5 +1,5 @@
 -- What a system counts.
-use Rattle.std.specs.Prelude.{ℕ, ◌+◌, ◌++◌, List, length, Result, Ok, ◌≡◌}
+use Rattle.std.specs.Prelude.{ℕ, ◌+◌, List, length, Result, Ok}
 use Rattle.std.specs.List.{sum_by}
 use Rattle.tv_core.specs.Constraints.{Constraint, System}
 use Rattle.tv_core.specs.declared.lines.Counts.{Counts}
@@ -25,9 +25,3 @@ unfoldable pub survey_of : List ℕ → Result Counts Fault
 survey_of file = do
   system ← system_of file
   Ok (system_counts system)
-
--- all constraints are those that were read, and behind them those that are ahead
-pub record HasRead (done : List Constraint) (all ahead : Result (List Constraint) Fault) : Type 0 where
-  pub same : all ≡ (do
-    others ← ahead
-    Ok (done ++ others))

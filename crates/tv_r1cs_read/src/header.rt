@@ -1,10 +1,10 @@
-ghost use Rattle.std.specs.Prelude.{◌≡◌, ℕ, ◌+◌, ◌*◌, ◌≤◌, ◌<◌, ◌^◌, List, [], length, Some, Ok, Err, IfOk, IfErr, OnOk, MatchResult};
+ghost use Rattle.std.specs.Prelude.{◌≡◌, ℕ, ◌+◌, ◌*◌, ◌≤◌, ◌<◌, ◌^◌, List, [], length, Some, Ok, Err, IfOk, IfErr, OnOk};
 ghost use Rattle.tv_container.specs.Found.{first_of, AllEnd, AllFit};
 ghost use Rattle.tv_container.specs.Places.{places};
-ghost use Rattle.tv_container.specs.Reading.{bytes_of, Looks, Refuses, Gives, IsMissing, IsTold, IsPiece};
+ghost use Rattle.tv_container.specs.Reading.{Gives, IsMissing, IsTold, InPiece, ReadsIn};
 ghost use Rattle.tv_r1cs_read.specs.R1cs.{HasRoom, checked, counted, header_in, header_of};
 ghost use Rattle.tv_container.specs.Field.{this_field};
-ghost use Rattle.tv_container.specs.Sections.{section_of, wanted};
+ghost use Rattle.tv_container.specs.Sections.{wanted};
 ghost use Rattle.tv_container.specs.declared.sections.Section.{Section};
 
 use tv_container::{
@@ -36,15 +36,12 @@ pub(crate) fn read_header<D: Files>(
     name: &str,
     window: &mut Window,
 ) -> Result<Header, ReadRefusal>
-    ensures piece { (file : List ℕ) → bytes_of (D.seen files.old) name.now ≡ Some file →
-        IsPiece window.old file → OnOk result (IsPiece window.new file) }
-    ensures gives { (file : List ℕ) → bytes_of (D.seen files.old) name.now ≡ Some file →
-        IsPiece window.old file → Gives result (header_of file) }
-    ensures within { (file : List ℕ) → bytes_of (D.seen files.old) name.now ≡ Some file → IsPiece window.old file →
-        IfOk result (λ header. header.rows.at + header.rows.size ≤ places file) }
+    ensures reads { ReadsIn (D.seen files.old) (D.seen files.new) name.now window.old window.new result
+        (λ file. Gives result (header_of file)) }
+    ensures within { InPiece (D.seen files.old) name.now window.old
+        (λ file. IfOk result (λ header. header.rows.at + header.rows.size ≤ places file)) }
     ensures ends { IfOk result (λ header. header.rows.at + header.rows.size < 2 ^ 64) }
     ensures room { IfOk result HasRoom }
-    ensures looks { Looks (D.seen files.old) (D.seen files.new) name.now result }
     ensures missing { IsMissing (D.seen files.old) name.now → window.old.bytes ≡ [] → result ≡ Err ReadRefusal.Fault }
 {
     let (found, end) = find_sections(files, name, window, &R1CS)?;
@@ -61,16 +58,12 @@ fn header_in<D: Files>(
     end: u64,
 ) -> Result<Header, ReadRefusal>
     requires { AllEnd found.now }
-    ensures piece { (file : List ℕ) → bytes_of (D.seen files.old) name.now ≡ Some file →
-        IsPiece window.old file → OnOk result (IsPiece window.new file) }
-    ensures gives { (file : List ℕ) → bytes_of (D.seen files.old) name.now ≡ Some file → IsPiece window.old file →
-        end ≡ length file → (sections : List Section) → found.now ≡ first_of sections →
-        AllFit file sections → Gives result (header_in file sections) }
+    ensures reads { ReadsIn (D.seen files.old) (D.seen files.new) name.now window.old window.new result
+        (λ file. end ≡ length file → (sections : List Section) → found.now ≡ first_of sections → AllFit file sections → Gives result (header_in file sections)) }
     ensures within { (file : List ℕ) → (sections : List Section) → found.now ≡ first_of sections → AllFit file sections →
         IfOk result (λ header. header.rows.at + header.rows.size ≤ places file) }
     ensures ends { IfOk result (λ header. header.rows.at + header.rows.size < 2 ^ 64) }
     ensures room { IfOk result HasRoom }
-    ensures looks { Looks (D.seen files.old) (D.seen files.new) name.now result }
 {
     let one = wanted(found.one, 1, end)?;
     let rows = wanted(found.two, 2, end)?;
@@ -87,13 +80,9 @@ fn counted<D: Files>(
     one: &Section,
     rows: Section,
 ) -> Result<Header, ReadRefusal>
-    ensures piece { (file : List ℕ) → bytes_of (D.seen files.old) name.now ≡ Some file →
-        IsPiece window.old file → OnOk result (IsPiece window.new file) }
-    ensures gives { (file : List ℕ) → bytes_of (D.seen files.old) name.now ≡ Some file → IsPiece window.old file →
-        one.now.at + 40 ≤ places file →
-        MatchResult result (λ header. counted file one.now rows ≡ header) (λ why. Refuses {A = ℕ} why (Ok 0)) }
+    ensures reads { ReadsIn (D.seen files.old) (D.seen files.new) name.now window.old window.new result
+        (λ file. one.now.at + 40 ≤ places file → Gives result (Ok (counted file one.now rows))) }
     ensures rows { IfOk result (λ header. header.rows ≡ rows) }
-    ensures looks { Looks (D.seen files.old) (D.seen files.new) name.now result }
 {
     window.fit(files, name, one.at, 40)?;
     Ok(Header {

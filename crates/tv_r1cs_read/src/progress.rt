@@ -1,8 +1,9 @@
-ghost use Rattle.std.specs.Prelude.{◌≡◌, ℕ, ◌+◌, ◌≤◌, List, [], Some, None, Ok, Err, IfOk, IfErr, OnOk, MatchResult};
-ghost use Rattle.tv_r1cs_read.specs.Progress.{ahead, counts_of, Follows, IsBegun, WentOn, GivesNext};
-ghost use Rattle.tv_r1cs_read.specs.R1cs.{header_of};
-ghost use Rattle.tv_container.specs.Reading.{bytes_of, Looks, Refuses, IsMissing, IsTold};
-ghost use Rattle.tv_r1cs_read.specs.Rows.{terms_in};
+ghost use Rattle.std.specs.Prelude.{◌≡◌, ℕ, ◌+◌, List, [], Some, None, Ok, Err, IfOk, IfErr, OnOk, MatchResult};
+ghost use Rattle.tv_core.specs.Constraints.{Constraint};
+ghost use Rattle.tv_r1cs_read.specs.Places.{IsAt, Gave};
+ghost use Rattle.tv_r1cs_read.specs.Progress.{ahead, counts_of, IsBegun, WentOn};
+ghost use Rattle.tv_r1cs_read.specs.R1cs.{header_of, system_of};
+ghost use Rattle.tv_container.specs.Reading.{Looks, Refuses, IsMissing, IsTold, Known};
 ghost use Rattle.tv_container.specs.declared.why.ReadRefusal.{ReadRefusal};
 
 use crate::header::{Header, read_header};
@@ -38,9 +39,9 @@ impl Progress {
     /// Reads all but the constraints.
     pub(crate) fn begin<D: Files>(files: &mut D, name: &str) -> Result<Progress, ReadRefusal>
         ensures begun { IfOk result IsBegun }
-        ensures gives { (file : List ℕ) → bytes_of (D.seen files.old) name.now ≡ Some file → MatchResult result
-            (λ progress. (header_of file ≡ Ok progress.header) × Follows progress file)
-            (λ why. Refuses why (header_of file)) }
+        ensures gives { Known (D.seen files.old) name.now (λ file. MatchResult result
+            (λ progress. IsAt progress file [])
+            (λ why. Refuses why (header_of file) × Refuses why (system_of file))) }
         ensures looks { Looks (D.seen files.old) (D.seen files.new) name.now result }
         ensures missing { IsMissing (D.seen files.old) name.now → result ≡ Err ReadRefusal.Fault }
     {
@@ -76,9 +77,8 @@ impl Progress {
         name: &str,
         row: &mut Row,
     ) -> Result<bool, ReadRefusal>
-        ensures gives { (file : List ℕ) → bytes_of (D.seen files.old) name.now ≡ Some file → Follows self.old file → MatchResult result
-            (λ more. GivesNext more row.new (ahead self.old file) (ahead self.new file) × Follows self.new file)
-            (λ why. Refuses why (ahead self.old file)) }
+        ensures gives { (rows : List Constraint) → Known (D.seen files.old) name.now (λ file. IsAt self.old file rows →
+            MatchResult result (λ more. Gave more row.new self.new file rows) (λ why. Refuses why (system_of file))) }
         ensures counts { IfOk result (λ more. WentOn more row.new self.old self.new) }
         ensures header { self.new.header ≡ self.old.header }
         ensures again { (why : ReadRefusal) → self.old.stopped ≡ Some why →
@@ -105,9 +105,8 @@ impl Progress {
         name: &str,
         row: &mut Row,
     ) -> Result<bool, ReadRefusal>
-        ensures gives { (file : List ℕ) → bytes_of (D.seen files.old) name.now ≡ Some file → Follows self.old file → MatchResult result
-            (λ more. GivesNext more row.new (ahead self.old file) (ahead self.new file) × Follows self.new file)
-            (λ why. Refuses why (ahead self.old file)) }
+        ensures gives { (rows : List Constraint) → Known (D.seen files.old) name.now (λ file. IsAt self.old file rows →
+            MatchResult result (λ more. Gave more row.new self.new file rows) (λ why. Refuses why (system_of file))) }
         ensures counts { IfOk result (λ more. WentOn more row.new self.old self.new) }
         ensures header { self.new.header ≡ self.old.header }
         ensures goes { self.new.stopped ≡ self.old.stopped }

@@ -1,7 +1,9 @@
-ghost use Rattle.std.specs.Prelude.{◌≡◌, ℕ, List, Some, None, Ok, Err, Option, IfOk, IfErr, OnOk, MatchResult};
-ghost use Rattle.tv_r1cs_read.specs.Progress.{ahead, counts_of, Follows, IsBegun, WentOn, WentOnBy, GivesNext, GivesRow};
-ghost use Rattle.tv_r1cs_read.specs.R1cs.{header_of};
-ghost use Rattle.tv_container.specs.Reading.{bytes_of, Looks, Stopped, Gives, Refuses, IsMissing};
+ghost use Rattle.std.specs.Prelude.{◌≡◌, [], List, Some, None, Ok, Err, Option, IfOk, IfErr, OnOk, MatchResult};
+ghost use Rattle.tv_core.specs.Constraints.{Constraint};
+ghost use Rattle.tv_r1cs_read.specs.Places.{IsAt, Gave, GaveBy};
+ghost use Rattle.tv_r1cs_read.specs.Progress.{counts_of, IsBegun, WentOn, WentOnBy};
+ghost use Rattle.tv_r1cs_read.specs.R1cs.{header_of, system_of};
+ghost use Rattle.tv_container.specs.Reading.{Looks, Stopped, Gives, Refuses, IsMissing, Known};
 ghost use Rattle.tv_r1cs_read.specs.Survey.{survey_of};
 ghost use Rattle.tv_container.specs.declared.why.ReadRefusal.{ReadRefusal};
 
@@ -42,9 +44,9 @@ impl<'a, D: Files> SystemReader<'a, D> {
         ensures ok_looks { IfOk result (λ reader. D.seen reader.files.now ≡ D.seen files.old) }
         ensures name { IfOk result (λ reader. reader.name.now ≡ name.now) }
         ensures begun { IfOk result (λ reader. IsBegun reader.progress) }
-        ensures gives { (file : List ℕ) → bytes_of (D.seen files.old) name.now ≡ Some file → MatchResult result
-            (λ reader. (header_of file ≡ Ok reader.progress.header) × Follows reader.progress file)
-            (λ unread. Refuses unread.why (header_of file)) }
+        ensures gives { Known (D.seen files.old) name.now (λ file. MatchResult result
+            (λ reader. IsAt reader.progress file [])
+            (λ unread. Refuses unread.why (header_of file) × Refuses unread.why (system_of file))) }
         ensures err_same { IfErr result (λ unread. unread.files.ghost_name ≡ files.entry.ghost_name) }
         ensures err_stopped { IfErr result (λ unread. Stopped (D.seen files.old) (D.seen unread.files.now) name.now unread.why) }
         ensures missing { IsMissing (D.seen files.old) name.now → MatchResult result (λ _. ⊥) (λ unread. unread.why ≡ ReadRefusal.Fault) }
@@ -75,9 +77,8 @@ impl<'a, D: Files> SystemReader<'a, D> {
     pub fn next_into(&mut self, row: &mut Row) -> Result<bool, ReadRefusal>
         ensures same { self.new.files.ghost_name ≡ self.old.files.ghost_name }
         ensures name { self.new.name.now ≡ self.old.name.now }
-        ensures gives { (file : List ℕ) → bytes_of (D.seen self.old.files.now) self.old.name.now ≡ Some file → Follows self.old.progress file → MatchResult result
-            (λ more. GivesNext more row.new (ahead self.old.progress file) (ahead self.new.progress file) × Follows self.new.progress file)
-            (λ why. Refuses why (ahead self.old.progress file)) }
+        ensures gives { (rows : List Constraint) → Known (D.seen self.old.files.now) self.old.name.now (λ file. IsAt self.old.progress file rows →
+            MatchResult result (λ more. Gave more row.new self.new.progress file rows) (λ why. Refuses why (system_of file))) }
         ensures counts { IfOk result (λ more. WentOn more row.new self.old.progress self.new.progress) }
         ensures header { self.new.progress.header ≡ self.old.progress.header }
         ensures again { (why : ReadRefusal) → self.old.progress.stopped ≡ Some why →
@@ -93,9 +94,8 @@ impl<'a, D: Files> SystemReader<'a, D> {
     pub fn next(&mut self) -> Result<Option<Row>, ReadRefusal>
         ensures same { self.new.files.ghost_name ≡ self.old.files.ghost_name }
         ensures name { self.new.name.now ≡ self.old.name.now }
-        ensures gives { (file : List ℕ) → bytes_of (D.seen self.old.files.now) self.old.name.now ≡ Some file → Follows self.old.progress file → MatchResult result
-            (λ row. GivesRow row (ahead self.old.progress file) (ahead self.new.progress file) × Follows self.new.progress file)
-            (λ why. Refuses why (ahead self.old.progress file)) }
+        ensures gives { (rows : List Constraint) → Known (D.seen self.old.files.now) self.old.name.now (λ file. IsAt self.old.progress file rows →
+            MatchResult result (λ row. GaveBy row self.new.progress file rows) (λ why. Refuses why (system_of file))) }
         ensures counts { IfOk result (λ row. WentOnBy row self.old.progress self.new.progress) }
         ensures header { self.new.progress.header ≡ self.old.progress.header }
         ensures again { (why : ReadRefusal) → self.old.progress.stopped ≡ Some why →
@@ -118,7 +118,7 @@ impl<'a, D: Files> SystemReader<'a, D> {
 /// `Fault` comes only where a read failed, and a missing name is such a fault. Takes one pass, and
 /// memory for one constraint.
 pub fn survey<D: Files>(alloc: Global, files: &mut D, name: &str) -> Result<Counts, ReadRefusal>
-    ensures gives { (file : List ℕ) → bytes_of (D.seen files.old) name.now ≡ Some file → Gives result (survey_of file) }
+    ensures gives { Known (D.seen files.old) name.now (λ file. Gives result (survey_of file)) }
     ensures looks { Looks (D.seen files.old) (D.seen files.new) name.now result }
     ensures missing { IsMissing (D.seen files.old) name.now → result ≡ Err ReadRefusal.Fault }
 {

@@ -2,9 +2,9 @@ ghost use Rattle.std.specs.Prelude.{◌≡◌, ℕ, ◌+◌, ◌-◌, ◌*◌, �
 ghost use Rattle.std.specs.List.{All};
 ghost use Rattle.tv_core.specs.Constraints.{Combination};
 ghost use Rattle.tv_container.specs.Places.{Fault, fit, places};
-ghost use Rattle.tv_container.specs.Reading.{bytes_of, Looks, Refuses, Gives, Holds, IsTold, IsPiece};
+ghost use Rattle.tv_container.specs.Reading.{Refuses, Gives, GivesBy, Holds, IsTold, IsPiece, ReadsIn};
 ghost use Rattle.tv_r1cs_read.specs.R1cs.{Read, combination_at, constraint_at};
-ghost use Rattle.tv_r1cs_read.specs.Rows.{combination_of, constraint_of, terms_in, IsAhead, IsOver};
+ghost use Rattle.tv_r1cs_read.specs.Rows.{combination_read, constraint_read, terms_in, IsAhead, IsOver};
 
 use std::alloc::{AllocFailed, Global};
 use std::marker::Model;
@@ -113,13 +113,9 @@ pub(crate) fn read_row<D: Files>(
     ensures within { IfOk result (λ next. next ≤ bounds.now.end) }
     ensures size { IfOk result (λ next. next ≡ at + 12 + 12 * terms_in row.new) }
     ensures wires { OnOk result (IsOver bounds.now.wires row.new) }
-    ensures piece { (file : List ℕ) → bytes_of (D.seen files.old) name.now ≡ Some file →
-        IsPiece window.old file → OnOk result (IsPiece window.new file) }
-    ensures gives { (file : List ℕ) → bytes_of (D.seen files.old) name.now ≡ Some file → IsPiece window.old file →
-        bounds.now.end ≤ places file → MatchResult result
-        (λ next. constraint_at file bounds.now.wires bounds.now.end at ≡ Ok (record { value = constraint_of row.new; next = next }))
-        (λ why. Refuses why (constraint_at file bounds.now.wires bounds.now.end at)) }
-    ensures looks { Looks (D.seen files.old) (D.seen files.new) name.now result }
+    ensures reads { ReadsIn (D.seen files.old) (D.seen files.new) name.now window.old window.new result
+        (λ file. bounds.now.end ≤ places file →
+        GivesBy result (constraint_read row.new) (constraint_at file bounds.now.wires bounds.now.end at)) }
 {
     let at = read_combination(files, name, window, bounds, at, &mut row.a)?;
     let at = read_combination(files, name, window, bounds, at, &mut row.b)?;
@@ -140,13 +136,9 @@ fn read_combination<D: Files>(
     ensures within { IfOk result (λ next. next ≤ bounds.now.end) }
     ensures size { IfOk result (λ next. next ≡ at + 4 + 12 * length terms.new) }
     ensures wires { OnOk result (All (λ t. t.0 < bounds.now.wires) terms.new) }
-    ensures piece { (file : List ℕ) → bytes_of (D.seen files.old) name.now ≡ Some file →
-        IsPiece window.old file → OnOk result (IsPiece window.new file) }
-    ensures gives { (file : List ℕ) → bytes_of (D.seen files.old) name.now ≡ Some file → IsPiece window.old file →
-        bounds.now.end ≤ places file → MatchResult result
-        (λ next. combination_at file bounds.now.wires bounds.now.end at ≡ Ok (record { value = combination_of terms.new; next = next }))
-        (λ why. Refuses why (combination_at file bounds.now.wires bounds.now.end at)) }
-    ensures looks { Looks (D.seen files.old) (D.seen files.new) name.now result }
+    ensures reads { ReadsIn (D.seen files.old) (D.seen files.new) name.now window.old window.new result
+        (λ file. bounds.now.end ≤ places file →
+        GivesBy result (combination_read terms.new) (combination_at file bounds.now.wires bounds.now.end at)) }
 {
     fit_below(files, name, window, at, 4, bounds.end)?;
     let count = window.word(at);
@@ -175,11 +167,8 @@ fn fit_below<D: Files>(
     requires before { at ≤ end }
     ensures held { OnOk result (Holds window.new at size) }
     ensures within { OnOk result (at + size ≤ end) }
-    ensures piece { (file : List ℕ) → bytes_of (D.seen files.old) name.now ≡ Some file →
-        IsPiece window.old file → OnOk result (IsPiece window.new file) }
-    ensures gives { (file : List ℕ) → bytes_of (D.seen files.old) name.now ≡ Some file → IsPiece window.old file →
-        end ≤ places file → Gives result (fit size at end) }
-    ensures looks { Looks (D.seen files.old) (D.seen files.new) name.now result }
+    ensures reads { ReadsIn (D.seen files.old) (D.seen files.new) name.now window.old window.new result
+        (λ file. end ≤ places file → Gives result (fit size at end)) }
 {
     if end - at < size as u64 {
         return Err(ReadRefusal::Bad {
@@ -204,14 +193,9 @@ fn read_terms<D: Files>(
     ensures within { IfOk result (λ next. next ≤ bounds.now.end) }
     ensures size { IfOk result (λ next. next + 12 * length terms.old ≡ at + 12 * length terms.new) }
     ensures wires { All (λ t. t.0 < bounds.now.wires) terms.old → OnOk result (All (λ t. t.0 < bounds.now.wires) terms.new) }
-    ensures piece { (file : List ℕ) → bytes_of (D.seen files.old) name.now ≡ Some file →
-        IsPiece window.old file → OnOk result (IsPiece window.new file) }
-    ensures gives { (file : List ℕ) → bytes_of (D.seen files.old) name.now ≡ Some file → IsPiece window.old file →
-        bounds.now.end ≤ places file → (answer : Result (Read Combination) Fault) →
-        IsAhead answer terms.old file bounds.now.wires bounds.now.end count at → MatchResult result
-        (λ next. answer ≡ Ok (record { value = combination_of terms.new; next = next }))
-        (λ why. Refuses why answer) }
-    ensures looks { Looks (D.seen files.old) (D.seen files.new) name.now result }
+    ensures reads { ReadsIn (D.seen files.old) (D.seen files.new) name.now window.old window.new result
+        (λ file. bounds.now.end ≤ places file → (answer : Result (Read Combination) Fault) →
+        IsAhead answer terms.old file bounds.now.wires bounds.now.end count at → GivesBy result (combination_read terms.new) answer) }
 {
     let mut at = at;
     let mut left = count;

@@ -1,15 +1,16 @@
 use Rattle.std.proofs.Common.{◌≡◌, ◌+◌, ◌++◌, ◌∷◌, [], sym, ◌∙◌, arith, rules, length, refl}
 use Rattle.std.proofs.lemmas.Result.{err_from_is_err_and}
 use Rattle.std.proofs.lemmas.List.{length_push}
+use Rattle.tv_r1cs_read.specs.Places.{system_with}
 use Rattle.tv_r1cs_read.specs.Rows.{constraint_of}
-use Rattle.tv_r1cs_read.proofs.Done.{read_none, read_all, read_more, read_refused, system_of-header, system_of-refuses, system_of-read}
 use Rattle.tv_check.specs.Verdict.{judge}
-use Rattle.tv_check.proofs.Trying.{so_far, judge-more, verdict_of-read, verdict_of-refuses}
+use Rattle.tv_check.proofs.Trying.{judge-more, verdict_of-read, verdict_of-refuses}
 use Rattle.tv_check.proofs.checking.check.Goals as goal
 
 pub returns-in-Err-clause-gives : goal.returns-in-Err-clause-gives
 returns-in-Err-clause-gives g c = λ file told.
-    verdict_of-refuses file c.args.values.now c.args.publics.now _ (system_of-header file _ (c.in-Err.ensures.gives file told))
+    let refused = c.in-Err.ensures.gives file told in
+    verdict_of-refuses file c.args.values.now c.args.publics.now _ refused.1
 
 pub public_verdict-verdict-requires : goal.public_verdict-verdict-requires
 public_verdict-verdict-requires g c = rw c.counts.ensures c.in-Ok.ensures.begun.room
@@ -17,12 +18,10 @@ public_verdict-verdict-requires g c = rw c.counts.ensures c.in-Ok.ensures.begun.
 pub returns-in_err-next_into-clause-gives : goal.returns-in_err-next_into-clause-gives
 returns-in_err-next_into-clause-gives g c = λ file told.
     let begun = rw (← c.in-Ok.ensures.ok_looks, ← c.in-Ok.ensures.name) at told in
-    let header = c.in-Ok.ensures.gives file told in
-    let read = c.loop-row.invariant.read file begun header.1 in
-    let refuses = c.in_err-next_into.ensures.gives file (rw (← c.loop-row.invariant.outside, ← c.loop-row.invariant.name) at begun) read.0 in
+    let before = c.loop-row.invariant.place file begun (c.in-Ok.ensures.gives file told) in
+    let refuses = c.in_err-next_into.ensures.gives before.0 file (rw (← c.loop-row.invariant.outside, ← c.loop-row.invariant.name) at begun) before.1 in
     let p = err_from_is_err_and c.from_residual.result c.from_residual.ensures.1 in
-    rw (p.1, p.2) (verdict_of-refuses file c.args.values.now c.args.publics.now _
-    (system_of-refuses file c.in-Ok.reader.progress _ header.0 c.in-Ok.ensures.begun (read_refused read.1.0 _ _ _ read.1.1 refuses)))
+    rw (p.1, p.2) (verdict_of-refuses file c.args.values.now c.args.publics.now _ refuses)
 
 pub loop-row-init : goal.loop-row-init
 loop-row-init g c = record {
@@ -30,8 +29,9 @@ loop-row-init g c = record {
   outside = search rules;
   name = search rules;
   on = c.in-Ok.ensures.begun.stopped;
+  header = search rules;
   counted = search (rules, arith);
-  read = λ file begun follows. (follows, ([], read_none _, refl, rw c.counts.ensures at c.public_verdict-verdict.ensures));
+  place = λ file begun start. ([], start, refl, rw c.counts.ensures at c.public_verdict-verdict.ensures);
 }
 
 pub loop-row-preserved : goal.loop-row-preserved
@@ -40,22 +40,22 @@ loop-row-preserved g c = record {
   outside = search rules;
   name = search rules;
   on = search rules;
+  header = search rules;
   counted = (omega (arith, (rw c.if-branch.true at c.in_ok-next_into.ensures.counts).1, c.loop-row.invariant.counted));
-  read = λ file begun follows.
-      let before = c.loop-row.invariant.read file begun follows in
+  place = λ file begun start.
+      let before = c.loop-row.invariant.place file begun start in
       let told = rw (← c.loop-row.invariant.outside, ← c.loop-row.invariant.name) at begun in
-      let gives = rw c.if-branch.true at c.in_ok-next_into.ensures.gives file told before.0 in
-      let count : c.loop-row.at + 1 ≡ length (before.1.0 ++ constraint_of c.next_into.new.row ∷ []) = omega (arith, before.1.2, length_push before.1.0 (constraint_of c.next_into.new.row)) in
-      let verdict : c.tried-verdict.result ≡ judge (so_far c.in-Ok.reader.progress.header (before.1.0 ++ constraint_of c.next_into.new.row ∷ [])) c.args.values.now c.args.publics.now
-      = c.tried-verdict.ensures ∙ rw (before.1.3, before.1.2) (sym (judge-more c.in-Ok.reader.progress.header c.args.values.now c.args.publics.now before.1.0 (constraint_of c.next_into.new.row))) in
-      (gives.1, (before.1.0 ++ constraint_of c.next_into.new.row ∷ [], read_more before.1.0 _ _ _ _ before.1.1 gives.0, count, verdict));
+      let now = rw c.if-branch.true at c.in_ok-next_into.ensures.gives before.0 file told before.1 in
+      let count : c.loop-row.at + 1 ≡ length (before.0 ++ constraint_of c.next_into.new.row ∷ []) = omega (arith, before.2, length_push before.0 (constraint_of c.next_into.new.row)) in
+      let verdict : c.tried-verdict.result ≡ judge (system_with c.in-Ok.reader.progress.header (before.0 ++ constraint_of c.next_into.new.row ∷ [])) c.args.values.now c.args.publics.now
+      = c.tried-verdict.ensures ∙ rw (before.3, before.2) (sym (judge-more c.in-Ok.reader.progress.header c.args.values.now c.args.publics.now before.0 (constraint_of c.next_into.new.row))) in
+      (before.0 ++ constraint_of c.next_into.new.row ∷ [], now, count, verdict);
 }
 
 pub returns-clause-gives : goal.returns-clause-gives
 returns-clause-gives g c = λ file told.
     let begun = rw (← c.in-Ok.ensures.ok_looks, ← c.in-Ok.ensures.name) at told in
-    let header = c.in-Ok.ensures.gives file told in
-    let read = c.loop-row.invariant.read file begun header.1 in
-    let gives = rw c.if-branch.false at c.in_ok-next_into.ensures.gives file (rw (← c.loop-row.invariant.outside, ← c.loop-row.invariant.name) at begun) read.0 in
-    let system = system_of-read file c.in-Ok.reader.progress read.1.0 header.0 c.in-Ok.ensures.begun (read_all read.1.0 _ _ read.1.1 gives.0.0) in
-    verdict_of-read file c.args.values.now c.args.publics.now _ system ∙ rw (← read.1.3) refl
+    let before = c.loop-row.invariant.place file begun (c.in-Ok.ensures.gives file told) in
+    let all = rw c.if-branch.false at c.in_ok-next_into.ensures.gives before.0 file (rw (← c.loop-row.invariant.outside, ← c.loop-row.invariant.name) at begun) before.1 in
+    let system = rw (c.in_ok-next_into.ensures.header ∙ c.loop-row.invariant.header) at all.system in
+    verdict_of-read file c.args.values.now c.args.publics.now _ system ∙ rw (← before.3) refl

@@ -1,8 +1,8 @@
-use Rattle.std.proofs.Common.{◌≡◌, ℕ, ◌-◌, ◌≤◌, List, [], Some}
+use Rattle.std.proofs.Common.{◌≡◌, ◌-◌, ◌≤◌, List, []}
 use Rattle.tv_container.specs.declared.sections.Section.{Section}
 use Rattle.tv_container.specs.Found.{first_of, AllEnd}
 use Rattle.tv_container.specs.Places.{places}
-use Rattle.tv_container.specs.Reading.{bytes_of, IsPiece}
+use Rattle.tv_container.specs.Reading.{InPiece, IsPiece}
 use Rattle.tv_container.specs.Sections.{sections_from}
 use Rattle.tv_container.proofs.sections.next_sections.Given as goal
 
@@ -10,8 +10,8 @@ abbrev pub invariant-loop : goal.invariant-loop
 invariant-loop g l = record {
   outside : g.D.Files.seen l.files ≡ g.D.Files.seen l.initial.files;
   ends : AllEnd l.found;
-  piece : (file : List ℕ) → bytes_of (g.D.Files.seen l.initial.files) l.name ≡ Some file → IsPiece l.initial.window file → IsPiece l.window file;
-  known : (file : List ℕ) → bytes_of (g.D.Files.seen l.initial.files) l.name ≡ Some file → IsPiece l.initial.window file → 12 ≤ places file →
+  piece : InPiece (g.D.Files.seen l.initial.files) l.name l.initial.window (λ file. IsPiece l.window file);
+  known : InPiece (g.D.Files.seen l.initial.files) l.name l.initial.window (λ file. 12 ≤ places file →
       (l.at ≤ places file) × ((sections : List Section) × (l.found ≡ first_of sections)
-      × (sections_from l.singles file l.count 12 [] ≡ sections_from l.singles file (l.count - l.counter) l.at sections));
+      × (sections_from l.singles file l.count 12 [] ≡ sections_from l.singles file (l.count - l.counter) l.at sections)));
 }

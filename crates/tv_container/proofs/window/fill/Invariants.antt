@@ -1,5 +1,5 @@
-use Rattle.std.proofs.Common.{◌≡◌, ℕ, ◌≤◌, ◌-◌, List, take, drop, Some}
-use Rattle.tv_container.specs.Reading.{bytes_of, IsMissing}
+use Rattle.std.proofs.Common.{◌≡◌, ◌≤◌, ◌-◌, take, drop}
+use Rattle.tv_container.specs.Reading.{IsMissing, Known}
 use Rattle.tv_container.proofs.window.fill.Given as goal
 
 abbrev pub invariant-loop-held : goal.invariant-loop-held
@@ -7,7 +7,7 @@ invariant-loop-held g l = record {
   outside : g.D.Files.seen l.files ≡ g.D.Files.seen l.initial.files;
   there : IsMissing (g.D.Files.seen l.initial.files) l.name → l.held ≡ 0;
   within : l.held ≤ 4096;
-  front : (file : List ℕ) → bytes_of (g.D.Files.seen l.initial.files) l.name ≡ Some file → take l.held l.bytes ≡ take l.held (drop l.at file);
+  front : Known (g.D.Files.seen l.initial.files) l.name (λ file. take l.held l.bytes ≡ take l.held (drop l.at file));
 }
 
 abbrev pub decreases-loop-held : goal.decreases-loop-held

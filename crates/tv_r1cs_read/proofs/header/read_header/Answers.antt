@@ -1,16 +1,21 @@
+use Rattle.std.proofs.Common.{rules}
 use Rattle.tv_r1cs_read.specs.R1cs.{header_of}
 use Rattle.tv_container.proofs.SectionLemmas.{sections_of-fit}
 use Rattle.tv_r1cs_read.proofs.header.read_header.Goals as goal
 
-pub returns-clause-gives : goal.returns-clause-gives
+pub returns-clause-reads : goal.returns-clause-reads
 unfolding header_of
-returns-clause-gives g c = λ file told piece.
-    let found = c.in_ok-found.ensures.gives file told piece in
-    let gives = c.header_in.ensures.gives file (rw (← c.in_ok-found.ensures.looks) at told) (c.in_ok-found.ensures.piece file told piece)
-    found.3 found.0 found.2 (sections_of-fit _ _ _ file found.0 found.1) in
-    rw found.1 gives
+returns-clause-reads g c = record {
+  looks = search rules;
+  piece = search rules;
+  gives = λ file told piece.
+      let found = c.in_ok-found.ensures.reads.gives file told piece in
+      let gives = c.header_in.ensures.reads.gives file (rw (← c.in_ok-found.ensures.reads.looks) at told) (c.in_ok-found.ensures.reads.piece file told piece)
+      found.3 found.0 found.2 (sections_of-fit _ _ _ file found.0 found.1) in
+      rw found.1 gives;
+}
 
 pub returns-clause-within : goal.returns-clause-within
 returns-clause-within g c = λ file told piece.
-    let found = c.in_ok-found.ensures.gives file told piece in
+    let found = c.in_ok-found.ensures.reads.gives file told piece in
     c.header_in.ensures.within file found.0 found.2 (sections_of-fit _ _ _ file found.0 found.1)

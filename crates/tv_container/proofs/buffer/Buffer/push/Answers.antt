@@ -1,4 +1,4 @@
-use Rattle.std.proofs.Common.{rules, ◌≡◌, ◌++◌, length, ◌+◌, ◌-◌, sym, ap, ap₂, ◌∙◌, arith}
+use Rattle.std.proofs.Common.{rules, ◌++◌, length, ◌+◌, ◌-◌, sym, ap, ap₂, ◌∙◌}
 use Rattle.std.proofs.lemmas.Slice.{take-put_mid}
 use Rattle.tv_container.proofs.buffer.Buffer.push.Goals as goal
 

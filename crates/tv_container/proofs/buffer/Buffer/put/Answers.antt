@@ -1,5 +1,4 @@
-use Rattle.std.proofs.Common.{rules, ◌≡◌, ◌≤◌, ◌++◌, length, ◌+◌, ◌-◌, sym, ap, ap₂, ◌∙◌, arith}
-use Rattle.std.proofs.lemmas.Slice.{take-put_mid}
+use Rattle.std.proofs.Common.{rules, sym, arith}
 use Rattle.tv_container.proofs.Buffers.{all_held, front_refused, filled}
 use Rattle.tv_container.proofs.buffer.Buffer.put.Goals as goal
 
