@@ -1,9 +1,8 @@
 -- Files as a whole, from before they were created.
-use Rattle.std.proofs.Common.{◌≡◌, ◌⊎◌, inl, inr, ℕ, min, List, [], ◌++◌, length, take, Option, Some, None, option_map, append_assoc, ap, refl, sym, ◌∙◌, arith}
+use Rattle.std.proofs.Common.{◌≡◌, ◌⊎◌, inl, inr, ℕ, List, [], ◌++◌, length, Option, Some, None, option_map, append_assoc, ap, refl, sym, ◌∙◌, arith}
 use Rattle.std.proofs.lemmas.Grind.{flat_map-append}
-use Rattle.std.proofs.lemmas.List.{take-append-le, take_min}
-use Rattle.std.proofs.Math.Seq.{take-append_seam}
 use Rattle.tv_container.specs.Bytes.{front_bytes, section_bytes, section_head}
+use Rattle.tv_container.proofs.Written.{but_front, front_front}
 use Rattle.tv_core.specs.Constraints.{Constraint, System}
 use Rattle.tv_core.specs.Meanings.{terms_in}
 use Rattle.tv_core.specs.declared.lines.Counts.{Counts}
@@ -39,25 +38,11 @@ fronts progress list more labels =
     ∙ ap (λ l. head_bytes progress.counts progress.labels ++ l) (append_assoc (rows_bytes list) (rows_bytes more) (section_bytes 3 (label_bytes labels)))
     ∙ sym (append_assoc (head_bytes progress.counts progress.labels) (rows_bytes list) (rows_bytes more ++ section_bytes 3 (label_bytes labels)))
 
--- the first few bytes are the first few of longer bytes
-front_of : (n : ℕ) (front rest : List ℕ) → take n front ≡ take (min n (length front)) (front ++ rest)
-front_of n front rest =
-    sym (take-append-le (min n (length front)) front rest (omega arith) ∙ take_min n front)
-
 pub files_are_fronts : FilesAreFronts
-files_are_fronts sink list more labels (inl stands) = λ files told.
-    let has = stands.written files told in
-    let rest = rows_bytes more ++ section_bytes 3 (label_bytes labels) in
-    let whole : finished_bytes sink.progress (list ++ more) labels ≡ has.0 ++ (sink.progress.held ++ rest) =
-    fronts sink.progress list more labels ∙ ap (λ l. l ++ rest) (sym has.2) ∙ append_assoc has.0 sink.progress.held rest in
-    (length has.0, has.1 ∙ ap Some (sym (take-append_seam has.0 (sink.progress.held ++ rest)) ∙ ap (take (length has.0)) (sym whole)))
-files_are_fronts sink list more labels (inr tried) = λ files told.
-    let has = tried.written files told in
-    let rest = rows_bytes more ++ section_bytes 3 (label_bytes labels) in (
-      min has.0 (length (begun_bytes sink.progress list)),
-      has.1 ∙ ap Some (front_of has.0 (begun_bytes sink.progress list) rest
-          ∙ ap (take (min has.0 (length (begun_bytes sink.progress list)))) (sym (fronts sink.progress list more labels))),
-    )
+files_are_fronts sink list more labels (inl stands) =
+    but_front sink.outside sink.name sink.progress.held (begun_bytes sink.progress list) _ _ stands.written (fronts sink.progress list more labels)
+files_are_fronts sink list more labels (inr tried) =
+    front_front sink.outside sink.name (begun_bytes sink.progress list) _ _ tried.written (fronts sink.progress list more labels)
 
 -- a name that was created has no bytes, and what it has later is what was appended
 pub files_are_whole : FilesAreWhole

@@ -3,4 +3,4 @@ pub mod Files
 mod Finishing
 mod Rows
 pub mod Sizes
-mod Systems
+pub mod Systems

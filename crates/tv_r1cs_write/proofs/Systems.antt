@@ -7,11 +7,10 @@ use Rattle.std.specs.List.{All}
 use Rattle.tv_container.specs.Bytes.{four_bytes, eight_bytes, field_bytes, front_bytes, section_bytes, section_head}
 use Rattle.tv_container.specs.Sections.{sections_of}
 use Rattle.tv_container.specs.declared.sections.Section.{Section}
-use Rattle.tv_container.proofs.BytesAt.{At, at_start, at_first, at_rest, field_read, number_of_four, length-four_bytes, length-eight_bytes, section_read, sections_counted}
+use Rattle.tv_container.proofs.BytesAt.{At, at_first, at_rest, at_start, field_read, length-eight_bytes, length-field_bytes, length-four_bytes, length-front_bytes, length-section_bytes, length-section_head, number_of_four, section_read, sections_counted}
 use Rattle.tv_container.proofs.SectionLemmas.{sections_from-end}
 use Rattle.tv_core.specs.Constraints.{Constraint}
 use Rattle.tv_core.specs.Meanings.{terms_in}
-use Rattle.tv_core.specs.declared.field.TheConstants.{P}
 use Rattle.tv_core.specs.declared.lines.Counts.{Counts}
 use Rattle.tv_r1cs_read.specs.R1cs.{checked, counted, header_in, header_of, constraints_from, system_of}
 use Rattle.tv_r1cs_read.specs.declared.header.Header.{Header}
@@ -28,30 +27,6 @@ terms_few wires [] all = omega arith
 terms_few wires (row ∷ list) all =
     let first = All-head (IsNarrow wires) row list all in
     omega (arith, first.short.a.terms, first.short.b.terms, first.short.c.terms, terms_in-cons row list, terms_few wires list (All-tail (IsNarrow wires) row list all))
-
-length-front_bytes : (magic version count : ℕ) → length (front_bytes magic version count) ≡ 12
-length-front_bytes magic version count =
-    omega (
-      arith,
-      length-append (four_bytes magic) (four_bytes version ++ four_bytes count),
-      length-append (four_bytes version) (four_bytes count),
-      length-four_bytes magic,
-      length-four_bytes version,
-      length-four_bytes count,
-    )
-
-length-section_bytes : (kind : ℕ) (content : List ℕ) → length (section_bytes kind content) ≡ 12 + length content
-length-section_bytes kind content =
-    omega (
-      arith,
-      length-append (section_head kind (length content)) content,
-      length-append (four_bytes kind) (eight_bytes (length content)),
-      length-four_bytes kind,
-      length-eight_bytes (length content),
-    )
-
-length-field_bytes : length field_bytes ≡ 12
-length-field_bytes = omega (arith, length-append (four_bytes 8) (eight_bytes P), length-four_bytes 8, length-eight_bytes P)
 
 length-counts_bytes : (counts : Counts) (labels : ℕ) → length (counts_bytes counts labels) ≡ 40
 length-counts_bytes counts labels =
@@ -76,9 +51,7 @@ length-counts_bytes counts labels =
 -- the content of a section stands behind its header
 content_at : (kind at : ℕ) (content rest file : List ℕ) → At file at (section_bytes kind content ++ rest) → At file (at + 12) content
 content_at kind at content rest file a =
-    let size : length (section_head kind (length content)) ≡ 12 =
-    omega (arith, length-append (four_bytes kind) (eight_bytes (length content)), length-four_bytes kind, length-eight_bytes (length content)) in
-    at_rest file at 12 (at + 12) (section_head kind (length content)) content (at_first file at (section_bytes kind content) rest a) size refl
+    at_rest file at 12 (at + 12) (section_head kind (length content)) content (at_first file at (section_bytes kind content) rest a) (length-section_head kind (length content)) refl
 
 -- three sections that were written are read: the contents of the first two stand where they are told
 record AreRead (magic version : ℕ) (one two three file : List ℕ) : Type 0 where

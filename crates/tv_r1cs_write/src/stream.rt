@@ -88,7 +88,7 @@ impl<'a, D: Files> StreamSink<'a, D> {
         } = self;
         match writer.finish(files, name) {
             Ok(()) => Ok(()),
-            Err(why) => Err(sink_fault(why)),
+            Err(refusal) => Err(sink_fault(refusal)),
         }
     }
 

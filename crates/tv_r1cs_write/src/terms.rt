@@ -36,20 +36,24 @@ fn put_terms<D: Files>(
     ensures canonical { OnOk result (All (λ t. t.0 < P) terms.now) }
 {
     for (coefficient, wire) in terms {
-        buffer.put(files, name, &term_bytes(*coefficient, *wire))?;
+        put_term(buffer, files, name, *coefficient, *wire)?;
     }
     Ok(())
 }
 
-// The twelve bytes of a term.
-#[tactic(auto, unfolding(tv_container::specs::Bytes::four_bytes, tv_container::specs::Bytes::eight_bytes))]
-fn term_bytes(coefficient: F, wire: Wire) -> [u8; 12]
-    ensures bytes { result ≡ term_bytes (coefficient, wire) }
+// Writes a term: its wire, and its coefficient. A number is copied as it is held, where twelve bytes put
+// together first would have to wait for both.
+#[tactic(auto, using(tv_container::proofs::Buffers::passing))]
+fn put_term<D: Files>(
+    buffer: &mut Buffer,
+    files: &mut D,
+    name: &str,
+    coefficient: F,
+    wire: Wire,
+) -> Result<(), FileRefusal>
+    ensures passes { PassesOn (D.seen files.old) (D.seen files.new) name.now (buffer.old ++ term_bytes (coefficient, wire)) buffer.new result }
     ensures below { coefficient < P }
 {
-    let w = short_bytes(wire.0);
-    let c = long_bytes(coefficient.number());
-    [
-        w[0], w[1], w[2], w[3], c[0], c[1], c[2], c[3], c[4], c[5], c[6], c[7],
-    ]
+    buffer.put(files, name, &short_bytes(wire.0))?;
+    buffer.put(files, name, &long_bytes(coefficient.number()))
 }

@@ -1,22 +1,21 @@
 -- Files as a whole, and what is read of them.
-use Rattle.std.proofs.Common.{◌≡◌, ◌⊎◌, inl, inr, ℕ, ◌+◌, ◌-◌, ◌*◌, ◌^◌, ◌<◌, ◌≤◌, min, not, nat_lt, suc, List, [], ◌∷◌, ◌++◌, length, take, Some, Ok, append_assoc, ap, refl, sym, ◌∙◌, arith}
+use Rattle.std.proofs.Common.{◌≡◌, inl, inr, ℕ, ◌+◌, ◌-◌, ◌*◌, ◌^◌, ◌<◌, suc, List, [], ◌∷◌, ◌++◌, length, Ok, append_assoc, ap, refl, sym, ◌∙◌, arith}
 use Rattle.std.proofs.lemmas.Bool.Decides.{nat_tests}
 use Rattle.std.proofs.lemmas.Grind.{flat_map-append}
-use Rattle.std.proofs.lemmas.List.{length-append, take-append-le, take_min}
+use Rattle.std.proofs.lemmas.List.{length-append}
 use Rattle.std.proofs.lemmas.List.Elements.{All-head, All-tail}
-use Rattle.std.proofs.Math.Seq.{take-append_seam}
 use Rattle.std.specs.List.{All}
 use Rattle.tv_container.specs.Bytes.{eight_bytes, field_bytes, four_bytes, front_bytes, section_bytes, section_head}
 use Rattle.tv_container.specs.Field.{this_field}
 use Rattle.tv_container.specs.Places.{number}
 use Rattle.tv_container.specs.Sections.{sections_of, wanted}
 use Rattle.tv_container.specs.declared.sections.Section.{Section}
-use Rattle.tv_container.proofs.BytesAt.{At, at_start, at_first, at_rest, field_read, number_of_four, number_of_eight, length-four_bytes, length-eight_bytes, section_read, sections_counted}
+use Rattle.tv_container.proofs.BytesAt.{At, at_start, at_first, at_rest, field_read, number_of_four, number_of_eight, length-eight_bytes, length-field_bytes, length-four_bytes, length-front_bytes, length-section_bytes, length-section_head, section_read, sections_counted}
+use Rattle.tv_container.proofs.Written.{but_front, front_front}
 use Rattle.tv_container.proofs.SectionLemmas.{sections_from-end}
 use Rattle.tv_core.specs.declared.field.TheConstants.{P}
 use Rattle.tv_wtns.specs.Bytes.{assignment_bytes, count_bytes, file_bytes, head_bytes, values_bytes}
 use Rattle.tv_wtns.specs.Laws.{AssignmentsComeBack, FilesAreFronts, FilesAreOfAssignments}
-use Rattle.tv_wtns.specs.Takers.{Taker, Stands, Tried}
 use Rattle.tv_wtns.specs.Wtns.{assignment_in, assignment_of, counted, fills, values_at}
 
 length-values_bytes : (values : List ℕ) → length (values_bytes values) ≡ 8 * length values
@@ -41,23 +40,11 @@ fronts count values more =
     ap (λ l. head_bytes count ++ l) (flat_map-append eight_bytes values more)
     ∙ sym (append_assoc (head_bytes count) (values_bytes values) (values_bytes more))
 
--- the first few bytes are the first few of longer bytes
-front_of : (n : ℕ) (front rest : List ℕ) → take n front ≡ take (min n (length front)) (front ++ rest)
-front_of n front rest = sym (take-append-le (min n (length front)) front rest (omega arith) ∙ take_min n front)
-
 pub files_are_fronts : FilesAreFronts
-files_are_fronts taker values more (inl stands) = λ files told.
-    let has = stands.written files told in
-    let rest = values_bytes more in
-    let whole : file_bytes taker.progress.count (values ++ more) ≡ has.0 ++ (taker.progress.held ++ rest) =
-    fronts taker.progress.count values more ∙ ap (λ l. l ++ rest) (sym has.2) ∙ append_assoc has.0 taker.progress.held rest in
-    (length has.0, has.1 ∙ ap Some (sym (take-append_seam has.0 (taker.progress.held ++ rest)) ∙ ap (take (length has.0)) (sym whole)))
-files_are_fronts taker values more (inr tried) = λ files told.
-    let has = tried.written files told in
-    let bytes = file_bytes taker.progress.count values in (
-      min has.0 (length bytes),
-      has.1 ∙ ap Some (front_of has.0 bytes (values_bytes more) ∙ ap (take (min has.0 (length bytes))) (sym (fronts taker.progress.count values more))),
-    )
+files_are_fronts taker values more (inl stands) =
+    but_front taker.outside taker.name taker.progress.held (file_bytes taker.progress.count values) (values_bytes more) _ stands.written (fronts taker.progress.count values more)
+files_are_fronts taker values more (inr tried) =
+    front_front taker.outside taker.name (file_bytes taker.progress.count values) (values_bytes more) _ tried.written (fronts taker.progress.count values more)
 
 -- one value that is as it should be, and others
 values_at-value : (file : List ℕ) (n at value : ℕ) (others : List ℕ) → number file 8 at ≡ value → value < P → values_at file n (at + 8) ≡ Ok others →
@@ -77,26 +64,6 @@ values_read file at (value ∷ values) a all =
     let rest = values_read file (at + 8) values (at_rest file at 8 (at + 8) (eight_bytes value) (values_bytes values) a (length-eight_bytes value) refl)
     (All-tail (λ v. v < P) value values all) in
     values_at-value file (length values) at value values is below rest
-
-length-front_bytes : (magic version count : ℕ) → length (front_bytes magic version count) ≡ 12
-length-front_bytes magic version count =
-    omega (
-      arith,
-      length-append (four_bytes magic) (four_bytes version ++ four_bytes count),
-      length-append (four_bytes version) (four_bytes count),
-      length-four_bytes magic,
-      length-four_bytes version,
-      length-four_bytes count,
-    )
-
-length-section_head : (kind size : ℕ) → length (section_head kind size) ≡ 12
-length-section_head kind size = omega (arith, length-append (four_bytes kind) (eight_bytes size), length-four_bytes kind, length-eight_bytes size)
-
-length-section_bytes : (kind : ℕ) (content : List ℕ) → length (section_bytes kind content) ≡ 12 + length content
-length-section_bytes kind content = omega (arith, length-append (section_head kind (length content)) content, length-section_head kind (length content))
-
-length-field_bytes : length field_bytes ≡ 12
-length-field_bytes = omega (arith, length-append (four_bytes 8) (eight_bytes P), length-four_bytes 8, length-eight_bytes P)
 
 length-count_bytes : (count : ℕ) → length (count_bytes count) ≡ 16
 length-count_bytes count = omega (arith, length-append field_bytes (four_bytes count), length-field_bytes, length-four_bytes count)

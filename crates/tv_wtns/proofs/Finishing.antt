@@ -7,7 +7,7 @@ use Rattle.tv_core.specs.declared.sink.SinkFault.{SinkFault}
 use Rattle.tv_files.specs.Outside.{Outside}
 use Rattle.tv_files.specs.declared.calls.FileRefusal.{FileRefusal}
 use Rattle.tv_wtns.specs.Bytes.{file_bytes}
-use Rattle.tv_wtns.specs.Takers.{Taker, Stands, Finishes}
+use Rattle.tv_wtns.specs.Takers.{Taker, Finishes}
 
 -- all of it was appended
 pub finishes : (taker : Taker) (new : Outside) (held : List ℕ) → PassesOn taker.outside new taker.name taker.progress.held held (Ok tt) →

@@ -1,5 +1,5 @@
 -- A taker of values that writes them to a file as they come.
-use Rattle.std.specs.Prelude.{◌≡◌, refl, ℕ, ◌<◌, Bool, true, false, List, Result, OnOk, OnErr}
+use Rattle.std.specs.Prelude.{◌≡◌, refl, ℕ, ◌<◌, Bool, false, List, Result, OnOk, OnErr}
 use Rattle.std.proofs.Common.{◌∙◌}
 use Rattle.std.specs.Borrow.{GName}
 use Rattle.std.specs.List.{All}

@@ -1,11 +1,11 @@
 //! The assignment of a whole file.
 
-ghost use Rattle.std.specs.Prelude.{◌≡◌, ℕ, ◌+◌, ◌*◌, ◌≤◌, ◌<◌, List, length, Some, Ok, Err, IfOk, IfErr, OnOk, MatchResult};
+ghost use Rattle.std.specs.Prelude.{◌≡◌, ◌+◌, ◌*◌, ◌≤◌, ◌<◌, List, length, Ok, Err, IfOk, IfErr, OnOk};
 ghost use Rattle.std.specs.List.{All};
 ghost use Rattle.tv_core.specs.declared.field.TheConstants.{P};
 ghost use Rattle.tv_container.specs.Found.{first_of, AllEnd, AllFit};
 ghost use Rattle.tv_container.specs.Places.{places};
-ghost use Rattle.tv_container.specs.Reading.{bytes_of, Looks, Refuses, Gives, IsMissing, IsPiece, IsTold};
+ghost use Rattle.tv_container.specs.Reading.{Looks, Gives, GivesBy, IsMissing, IsTold, Known, InPiece, ReadsIn};
 ghost use Rattle.tv_container.specs.declared.sections.Section.{Section};
 ghost use Rattle.tv_container.specs.declared.why.ReadRefusal.{ReadRefusal};
 ghost use Rattle.tv_wtns.specs.Wtns.{assignment_in, assignment_of, counted, fills, AssignmentsAreBelow};
@@ -37,9 +37,7 @@ pub fn read_values<D: Files>(
     files: &mut D,
     name: &str,
 ) -> Result<Vec<F>, ReadRefusal>
-    ensures gives { (file : List ℕ) → bytes_of (D.seen files.old) name.now ≡ Some file → MatchResult result
-        (λ values. assignment_of file ≡ Ok values.items)
-        (λ why. Refuses why (assignment_of file)) }
+    ensures gives { Known (D.seen files.old) name.now (λ file. GivesBy result (λ values. values.items) (assignment_of file)) }
     ensures below { IfOk result (λ values. All (λ v. v < P) values.items) }
     ensures looks { Looks (D.seen files.old) (D.seen files.new) name.now result }
     ensures missing { IsMissing (D.seen files.old) name.now → result ≡ Err ReadRefusal.Fault }
@@ -66,11 +64,9 @@ fn read_assignment<D: Files>(
     end: u64,
 ) -> Result<Vec<F>, ReadRefusal>
     requires { AllEnd found.now }
-    ensures gives { (file : List ℕ) → bytes_of (D.seen files.old) name.now ≡ Some file → IsPiece window.old file →
-        end ≡ length file → (sections : List Section) → found.now ≡ first_of sections → AllFit file sections →
-        MatchResult result
-        (λ values. assignment_in file sections ≡ Ok values.items)
-        (λ why. Refuses why (assignment_in file sections)) }
+    ensures gives { InPiece (D.seen files.old) name.now window.old (λ file. end ≡ length file → (sections : List Section) →
+        found.now ≡ first_of sections → AllFit file sections →
+        GivesBy result (λ values. values.items) (assignment_in file sections)) }
     ensures below { IfOk result (λ values. All (λ v. v < P) values.items) }
     ensures looks { Looks (D.seen files.old) (D.seen files.new) name.now result }
 {
@@ -89,11 +85,8 @@ fn read_count<D: Files>(
     window: &mut Window,
     one: &Section,
 ) -> Result<u32, ReadRefusal>
-    ensures piece { (file : List ℕ) → bytes_of (D.seen files.old) name.now ≡ Some file →
-        IsPiece window.old file → OnOk result (IsPiece window.new file) }
-    ensures gives { (file : List ℕ) → bytes_of (D.seen files.old) name.now ≡ Some file → IsPiece window.old file →
-        one.now.at + 16 ≤ places file → Gives result (Ok (counted file one.now)) }
-    ensures looks { Looks (D.seen files.old) (D.seen files.new) name.now result }
+    ensures reads { ReadsIn (D.seen files.old) (D.seen files.new) name.now window.old window.new result
+        (λ file. one.now.at + 16 ≤ places file → Gives result (Ok (counted file one.now))) }
 {
     window.fit(files, name, one.at, 16)?;
     Ok(window.word(one.at + 12))

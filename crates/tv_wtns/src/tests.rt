@@ -1,13 +1,14 @@
 //! What no clause says: that the vector and its malformed forms give what another reader of the format
-//! gives, that calls succeed where memory is ample, and what a failing read leaves.
+//! gives, that calls succeed where memory is ample and in which pieces, and what a failing call leaves.
 ghost use Rattle.std.specs.Prelude.{◌≡◌, ◌+◌, ◌≤◌, length, Some};
 ghost use Rattle.tv_files.specs.Outside.{OnlyReads};
 
 use super::*;
 use std::alloc::Global;
+use std::process::Abort;
 use std::test::Fail;
 use tv_container::{ReadRefusal, ReadWhy};
-use tv_core::F;
+use tv_core::{F, Put, SinkFault, give_values};
 use tv_files::{Files, MemFiles};
 
 // The values 1, 3, 5 and 15.
@@ -166,6 +167,76 @@ fn each_failing_read_is_a_fault(rt: HostRuntime) -> Result<(), Fail> {
         let fault = read_values(alloc, &mut failing, "w.wtns").err();
         assert_eq!(rt; fault, Some(ReadRefusal::Fault), "call {number}");
         assert_eq!(rt; failing.calls(), number);
+    }
+    Ok(())
+}
+
+// Writes values.
+fn write(files: &mut MemFiles, values: &[F]) -> Put<()> {
+    let Ok(count) = u32::try_from(values.len()) else {
+        return Err(SinkFault::Failed);
+    };
+    let mut taker = match FileValues::begin(files, "w.wtns", count) {
+        Ok(taker) => taker,
+        Err(refused) => return Err(refused.why),
+    };
+    give_values(&mut taker, values)?;
+    taker.finish()
+}
+
+// Lets each call of writing fail in turn, and sees that a first part of the bytes is left.
+fn each_failing_call_leaves_a_first_part(
+    rt: &impl Abort,
+    alloc: Global,
+    values: &[F],
+    bytes: &[u8],
+    calls: u64,
+) -> Result<(), Fail> {
+    for number in 1..=calls {
+        let mut files = files_of(alloc, b"old")?;
+        files.fail_at(number)?;
+        assert_eq!(rt;
+            write(&mut files, values),
+            Err(SinkFault::Failed),
+            "call {number}"
+        );
+        assert_eq!(rt; files.calls(), number);
+        let left = files.bytes_of("w.wtns").unwrap_or(&[]);
+        if number == 1 {
+            assert_eq!(rt; left, b"old".as_slice());
+        } else {
+            assert!(rt; bytes.starts_with(left), "call {number}");
+        }
+    }
+    Ok(())
+}
+
+#[test]
+fn writes_the_witness_and_others_in_pieces(rt: HostRuntime) -> Result<(), Fail> {
+    let alloc = rt.alloc();
+    let table: [(u16, usize, u64); 6] = [
+        (0, 52, 2),
+        (4, 84, 2),
+        (505, 4092, 2),
+        (506, 4100, 3),
+        (1017, 8188, 3),
+        (1018, 8196, 4),
+    ];
+    for (count, size, calls) in table {
+        let mut values = Vec::new(alloc);
+        for i in 0..count {
+            values.push(F::of([1, 3, 5, 15][usize::from(i % 4)]))?;
+        }
+        let mut files = MemFiles::new(alloc);
+        write(&mut files, &values)?;
+        assert_eq!(rt; files.calls(), calls, "{count} values");
+        let bytes = files.bytes_of("w.wtns").unwrap_or(&[]);
+        assert_eq!(rt; bytes.len(), size);
+        if count == 4 {
+            assert_eq!(rt; bytes, WITNESS.as_slice());
+        }
+        each_failing_call_leaves_a_first_part(&rt, alloc, &values, bytes, calls)?;
+        assert_eq!(rt; read_values(alloc, &mut files, "w.wtns")?, values);
     }
     Ok(())
 }

@@ -4,7 +4,7 @@ ghost use Rattle.std.specs.Prelude.{◌≡◌, ℕ, ◌+◌, ◌-◌, ◌*◌, �
 ghost use Rattle.std.specs.List.{All};
 ghost use Rattle.tv_core.specs.declared.field.TheConstants.{P};
 ghost use Rattle.tv_container.specs.Places.{Fault, places};
-ghost use Rattle.tv_container.specs.Reading.{bytes_of, Looks, Refuses, IsPiece, IsTold};
+ghost use Rattle.tv_container.specs.Reading.{Looks, Refuses, GivesBy, IsTold, InPiece};
 ghost use Rattle.tv_word.specs.Word.{spelled};
 ghost use Rattle.tv_wtns.specs.Values.{AreWords, IsAhead};
 ghost use Rattle.tv_wtns.specs.Wtns.{values_at};
@@ -27,10 +27,8 @@ pub(crate) fn read_all<D: Files>(
     count: u32,
 ) -> Result<Vec<F>, ReadRefusal>
     requires { at + 8 * count < 2 ^ 64 }
-    ensures gives { (file : List ℕ) → bytes_of (D.seen files.old) name.now ≡ Some file → IsPiece window.old file →
-        at + 8 * count ≤ places file → MatchResult result
-        (λ values. values_at file count at ≡ Ok values.items)
-        (λ why. Refuses why (values_at file count at)) }
+    ensures gives { InPiece (D.seen files.old) name.now window.old (λ file. at + 8 * count ≤ places file →
+        GivesBy result (λ values. values.items) (values_at file count at)) }
     ensures below { IfOk result (λ values. All (λ v. v < P) values.items) }
     ensures looks { Looks (D.seen files.old) (D.seen files.new) name.now result }
 {

@@ -1,4 +1,4 @@
-use Rattle.std.proofs.Common.{ℕ, ◌<◌, ap, subst, ◌∙◌, arith}
+use Rattle.std.proofs.Common.{ℕ, ◌<◌, ap, subst, arith}
 use Rattle.std.proofs.lemmas.List.{take_all}
 use Rattle.std.proofs.lemmas.List.Elements.{All-nil, All-more}
 use Rattle.tv_core.specs.declared.field.TheConstants.{P}
@@ -9,18 +9,18 @@ use Rattle.tv_r1cs_write.proofs.terms.put_terms.Goals as goal
 pub loop-coefficient-init : goal.loop-coefficient-init
 loop-coefficient-init g c = record { passes = passes_none _ _ _; canonical = All-nil (λ t. t.0 < P) }
 
-pub returns-in_err-put-clause-passes : goal.returns-in_err-put-clause-passes
-returns-in_err-put-clause-passes g c =
+pub returns-in_err-put_term-clause-passes : goal.returns-in_err-put_term-clause-passes
+returns-in_err-put_term-clause-passes g c =
     passes_refused _ _ _ _ _ c.from_residual.result c.from_residual.ensures.1
     (each_cut term_bytes c.args.terms.now c.loop-coefficient.coefficient-index c.loop-coefficient-item.result _ _ _ _ _ _ _ _ _ _ (omega arith)
-    (c.term_bytes.ensures.bytes ∙ ap term_bytes c.loop-coefficient-item.is) c.loop-coefficient.invariant.passes c.in_err-put.ensures)
+    (ap term_bytes c.loop-coefficient-item.is) c.loop-coefficient.invariant.passes c.in_err-put_term.ensures.passes)
 
 pub loop-coefficient-preserved : goal.loop-coefficient-preserved
 loop-coefficient-preserved g c = record {
   passes = each_passes term_bytes c.args.terms.now c.loop-coefficient.coefficient-index c.loop-coefficient-item.result _ _ _ _ _ _ _ _ (omega arith)
-      (c.term_bytes.ensures.bytes ∙ ap term_bytes c.loop-coefficient-item.is) c.loop-coefficient.invariant.passes c.in_ok-put.ensures;
+      (ap term_bytes c.loop-coefficient-item.is) c.loop-coefficient.invariant.passes c.in_ok-put_term.ensures.passes;
   canonical = All-more (λ t. t.0 < P) c.args.terms.now c.loop-coefficient.coefficient-index c.loop-coefficient-item.result (omega arith)
-      c.loop-coefficient.invariant.canonical (subst (λ (t : ℕ × ℕ). t.0 < P) c.loop-coefficient-item.is c.term_bytes.ensures.below);
+      c.loop-coefficient.invariant.canonical (subst (λ (t : ℕ × ℕ). t.0 < P) c.loop-coefficient-item.is c.in_ok-put_term.ensures.below);
 }
 
 pub returns-clause-canonical : goal.returns-clause-canonical

@@ -7,7 +7,7 @@ use Rattle.tv_wtns.proofs.values.read_all.Goals as goal
 
 pub returns-in_err-take_values-clause-gives : goal.returns-in_err-take_values-clause-gives
 returns-in_err-take_values-clause-gives g c = λ file told piece room.
-    let held = c.in_ok-fit.ensures.piece file (rw (← c.loop-left.invariant.outside) at told) (c.loop-left.invariant.piece file told piece) in
+    let held = c.in_ok-fit.ensures.reads.piece file (rw (← c.loop-left.invariant.outside) at told) (c.loop-left.invariant.piece file told piece) in
     let enough : c.min-some.result ≤ length c.bytes_from.result.now / 8 = omega (arith, c.min-some.ensures, c.as_chunks.ensures.front_len) in
     let words : AreWords (take c.min-some.result c.as_chunks.result.0.now) file c.loop-left.at = are_words _ file _ _ c.min-some.result (c.bytes_from.ensures.bytes file held) c.as_chunks.ensures.front enough in
     let n : length (take c.min-some.result c.as_chunks.result.0.now) ≡ c.min-some.result = length-take-le _ _ (omega (arith, c.min-some.ensures)) in
@@ -17,12 +17,12 @@ returns-in_err-take_values-clause-gives g c = λ file told piece room.
 
 pub loop-left-preserved : goal.loop-left-preserved
 loop-left-preserved g c = record {
-  outside = c.in_ok-fit.ensures.looks ∙ c.loop-left.invariant.outside;
+  outside = c.in_ok-fit.ensures.reads.looks ∙ c.loop-left.invariant.outside;
   place = omega (arith, c.loop-left.invariant.place, c.min-some.ensures);
   below = c.in_ok-take_values.ensures.below c.loop-left.invariant.below;
-  piece = λ file told piece. c.in_ok-fit.ensures.piece file (rw (← c.loop-left.invariant.outside) at told) (c.loop-left.invariant.piece file told piece);
+  piece = λ file told piece. c.in_ok-fit.ensures.reads.piece file (rw (← c.loop-left.invariant.outside) at told) (c.loop-left.invariant.piece file told piece);
   ahead = λ file told piece room answer ahead.
-      let held = c.in_ok-fit.ensures.piece file (rw (← c.loop-left.invariant.outside) at told) (c.loop-left.invariant.piece file told piece) in
+      let held = c.in_ok-fit.ensures.reads.piece file (rw (← c.loop-left.invariant.outside) at told) (c.loop-left.invariant.piece file told piece) in
       let enough : c.min-some.result ≤ length c.bytes_from.result.now / 8 = omega (arith, c.min-some.ensures, c.as_chunks.ensures.front_len) in
       let words : AreWords (take c.min-some.result c.as_chunks.result.0.now) file c.loop-left.at = are_words _ file _ _ c.min-some.result (c.bytes_from.ensures.bytes file held) c.as_chunks.ensures.front enough in
       let n : length (take c.min-some.result c.as_chunks.result.0.now) ≡ c.min-some.result = length-take-le _ _ (omega (arith, c.min-some.ensures)) in

@@ -1,4 +1,4 @@
-use Rattle.std.proofs.Common.{◌≡◌, [], Err, ap, refl}
+use Rattle.std.proofs.Common.{[], Err, ap, refl}
 use borrow.Rule.Reborrow.{re_v}
 use Rattle.tv_container.proofs.Written.{is_cause}
 use Rattle.tv_wtns.specs.Takers.{Progress, Taker}

@@ -1,0 +1,13 @@
+use Rattle.tv_container.proofs.Buffers.{passes_refused, passes_cut, passes_then}
+use Rattle.tv_container.specs.Bytes.{four_bytes, eight_bytes}
+use Rattle.tv_r1cs_write.proofs.terms.put_term.Goals as goal
+
+pub returns-in_err-put-clause-passes : goal.returns-in_err-put-clause-passes
+returns-in_err-put-clause-passes g c =
+    passes_refused _ _ _ _ _ c.from_residual.result c.from_residual.ensures.1
+    (passes_cut _ _ _ c.args.buffer.now (four_bytes c.args.wire) (eight_bytes c.args.coefficient) _ _ _ (rw (c.short_bytes.ensures, c.wire.view_is) at c.in_err-put.ensures))
+
+pub returns-clause-passes : goal.returns-clause-passes
+returns-clause-passes g c =
+    passes_then _ _ _ _ c.args.buffer.now (four_bytes c.args.wire) (eight_bytes c.args.coefficient) _ _ _
+    (rw (c.short_bytes.ensures, c.wire.view_is) at c.in_ok-put.ensures) (rw (c.long_bytes.ensures, c.number.ensures.same) at c.put-2.ensures)
