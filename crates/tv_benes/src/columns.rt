@@ -6,6 +6,7 @@ ghost use Rattle.tv_benes.specs.Network.{switch_of, column_of};
 ghost use Rattle.tv_benes.specs.Places.{wires_at, AreMade};
 
 use crate::places::{Inputs, Places};
+use crate::wire_switches::{Scratch, wire_switch};
 use tv_bits::{bit, select_terms};
 use tv_core::{F, Pair, Put, Sink, Wire};
 
@@ -39,23 +40,6 @@ fn switch<S: Sink>(
     Ok(())
 }
 
-// A switch between two items that are two wires each.
-fn wire_switch<S: Sink>(s: &mut S, x: Wire, y: Wire) -> Put<()>
-    requires room { Room S.meaning s.old 5 5 }
-    requires x_made { x + 1 < S.meaning.wires s.old }
-    requires y_made { y + 1 < S.meaning.wires s.old }
-    ensures puts { PutsIn S.meaning s.old s.new (switch_of (wires_at x) (wires_at y)) result }
-    ensures grows { IfOk result (λ _. Grows S.meaning s.old s.new 5 5) }
-{
-    switch(
-        s,
-        &[(F::ONE, x)],
-        &[(F::ONE, Wire(x.0 + 1))],
-        &[(F::ONE, y)],
-        &[(F::ONE, Wire(y.0 + 1))],
-    )
-}
-
 // A switch between two pairs of combinations.
 fn pair_switch<S: Sink>(s: &mut S, x: &Pair, y: &Pair) -> Put<()>
     requires room { Room S.meaning s.old 5 5 }
@@ -86,8 +70,11 @@ pub(crate) fn column<S: Sink, P: Places>(s: &mut S, n: u32, items: &P) -> Put<()
     ensures puts { PutsIn S.meaning s.old s.new (column_of n (λ i. wires_at (P.place items.now i))) result }
     ensures grows { IfOk result (λ _. Grows S.meaning s.old s.new (5 * n) (5 * n)) }
 {
+    let mut scratch = Scratch::new();
     for j in 0..n {
-        wire_switch(s, items.at(2 * j), items.at(2 * j + 1))?;
+        let x = items.at(2 * j);
+        let y = items.at(2 * j + 1);
+        wire_switch(s, &mut scratch, x, y)?;
     }
     Ok(())
 }

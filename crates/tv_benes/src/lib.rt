@@ -13,6 +13,7 @@ mod laws;
 mod networks;
 mod places;
 mod shape;
+mod wire_switches;
 
 pub use filling::{fill_network, fill_routing_network};
 pub use laws::{

@@ -18,7 +18,7 @@ loop-j-preserved g c =
     let place = g.P.Places.place c.args.items.now in
     let piece : ℕ → Unit {0} → Circuit (Unit {0}) = λ j _. switch_of (wires_at (place (2 * j))) (wires_at (place (2 * j + 1))) in
     let grown = c.in_ok-wire_switch.ensures.grows in
-    let switch = rw (c.at.ensures, c.at-in-loop-j.ensures) at c.in_ok-wire_switch.ensures.puts in
+    let switch = rw (c.at-x.ensures, c.at-y.ensures) at c.in_ok-wire_switch.ensures.puts in
     record {
       puts = puts_turn g.S.Sink.meaning _ piece tt _ _ _ _ _ c.loop-j.invariant.puts switch;
       grows = record { wires = omega (arith, grown.wires); constraints = omega (arith, grown.constraints); whole = grown.whole };
@@ -30,7 +30,7 @@ returns-in_err-wire_switch-clause-puts g c =
     let m = g.S.Sink.meaning in
     let place = g.P.Places.place c.args.items.now in
     let piece : ℕ → Unit {0} → Circuit (Unit {0}) = λ j _. switch_of (wires_at (place (2 * j))) (wires_at (place (2 * j + 1))) in
-    let switch = rw (c.at.ensures, c.at-in-loop-j.ensures) at c.in_err-wire_switch.ensures.puts in
+    let switch = rw (c.at-x.ensures, c.at-y.ensures) at c.in_err-wire_switch.ensures.puts in
     refused m _ _ _ c.from_residual.result c.from_residual.ensures.1
     (turn_refused m c.args.n c.loop-j.j piece tt tt c.args.s.now c.loop-j.s c.wire_switch.new.s c.in_err-wire_switch.field-0.0 c.loop-j-test.true c.loop-j.invariant.puts switch)
 

@@ -1,0 +1,91 @@
+//! Settings, each put through the network that they are of.
+ghost use Rattle.std.specs.Prelude.{◌≤◌};
+
+use crate::sending::{power, sent};
+use std::alloc::Global;
+use std::test::Fail;
+use tv_benes::Net;
+use tv_route::{is_permutation, routing_settings};
+
+// Which item comes out at each place by the settings for a permutation of 2^`k` places.
+fn routed(alloc: Global, net: Net, k: u32, p: &[u32]) -> Result<Vec<u32>, Fail>
+    requires some { 1 ≤ k }
+    requires few { k ≤ 20 }
+{
+    if p.len() != power(k) as usize || !is_permutation(alloc, p)? {
+        return Err(Fail::from("no permutation"));
+    }
+    let settings = routing_settings(alloc, net, p)?;
+    sent(alloc, net, k, settings.as_slice())
+}
+
+#[test]
+fn every_order_of_four_is_reached(rt: HostRuntime) -> Result<(), Fail> {
+    let mut orders = Vec::new(rt.alloc());
+    for code in 0..256u32 {
+        let p = [code % 4, code / 4 % 4, code / 16 % 4, code / 64];
+        if is_permutation(rt.alloc(), &p)? {
+            orders.push(p)?;
+        }
+    }
+    assert_eq!(rt; orders.len(), 24);
+    for p in &orders {
+        for net in [Net::Benes, Net::Waksman] {
+            let out = routed(rt.alloc(), net, 2, p)?;
+            assert_eq!(rt; out.as_slice(), p.as_slice(), "{net:?}");
+        }
+    }
+    Ok(())
+}
+
+#[test]
+fn a_reversal_comes_out_reversed(rt: HostRuntime) -> Result<(), Fail> {
+    let mut p = Vec::new(rt.alloc());
+    for i in 0..1024u32 {
+        p.push(1023 - i)?;
+    }
+    for net in [Net::Benes, Net::Waksman] {
+        let out = routed(rt.alloc(), net, 10, &p)?;
+        assert_eq!(rt; out.as_slice(), p.as_slice(), "{net:?}");
+        let two = routed(rt.alloc(), net, 1, &[1, 0])?;
+        assert_eq!(rt; two.as_slice(), [1, 0].as_slice(), "{net:?}");
+    }
+    Ok(())
+}
+
+// The numbers below 2^`k`, shuffled by a linear congruential generator.
+fn shuffled(alloc: Global, k: u32) -> Result<Vec<u32>, Fail>
+    requires { k ≤ 20 }
+{
+    let mut p = Vec::new(alloc);
+    for i in 0..power(k) {
+        p.push(i)?;
+    }
+    let mut state = 12345u64;
+    for i in 0..p.len() {
+        state = state
+            .wrapping_mul(6_364_136_223_846_793_005)
+            .wrapping_add(1_442_695_040_888_963_407);
+        let other = (state >> 33) as usize % (i + 1);
+        p.as_mut_slice().swap(i, other);
+    }
+    Ok(p)
+}
+
+#[test]
+fn a_long_shuffle_comes_out_shuffled(rt: HostRuntime) -> Result<(), Fail> {
+    let p = shuffled(rt.alloc(), 16)?;
+    for net in [Net::Benes, Net::Waksman] {
+        let out = routed(rt.alloc(), net, 16, &p)?;
+        assert!(rt; out.as_slice() == p.as_slice(), "{net:?}");
+    }
+    Ok(())
+}
+
+#[test]
+fn what_is_no_permutation_is_told(rt: HostRuntime) -> Result<(), Fail> {
+    assert!(rt; is_permutation(rt.alloc(), &[1, 0])?);
+    assert!(rt; !is_permutation(rt.alloc(), &[0, 0])?);
+    assert!(rt; !is_permutation(rt.alloc(), &[0, 2])?);
+    Ok(())
+}
