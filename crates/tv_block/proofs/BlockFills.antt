@@ -1,11 +1,11 @@
 -- Where an assignment has the values of the whole step.
-use Rattle.std.proofs.Common.{◌≡◌, ℕ, ◌+◌, ◌-◌, ◌*◌, ◌/◌, ◌%◌, ◌^◌, ◌<◌, ◌≤◌, ◌==◌, not, ◌&&◌, Bool, true, false, if◌then◌else◌, List, [], ◌∷◌, ◌++◌, length, map, refl, sym, ◌∙◌, ap, ap₂, subst, arith, length-append}
+use Rattle.std.proofs.Common.{◌≡◌, ℕ, ◌+◌, ◌==◌, Bool, List, [], ◌∷◌, ◌++◌, length, refl, sym, ◌∙◌, ap, ap₂, subst, arith, length-append}
 use Rattle.std.specs.Prelude.{slice_index}
 use Rattle.std.proofs.lemmas.List.{length-map}
 use Rattle.tv_bits.proofs.SpelledNumbers.{value-bits_below}
 use Rattle.tv_bits.specs.Bits.{Spells}
 use Rattle.tv_bits.specs.OneHot.{IsOneHot}
-use Rattle.tv_core.proofs.Meeting.{Meets-join, HasFrom-split}
+use Rattle.tv_core.proofs.Meeting.{Meets-join}
 use Rattle.tv_core.specs.Circuits.{pure, ◌>>=◌}
 use Rattle.tv_core.specs.Laws.{Assigns, Meets, HasFrom, Fills}
 use Rattle.tv_isa.specs.Instruction.{decode}
@@ -16,7 +16,6 @@ use Rattle.tv_numbers.specs.Numbers.{Did, operand_word, other_word, stepped, did
 use Rattle.tv_numbers.specs.Views.{View, flag_of}
 use Rattle.tv_regs.proofs.ChoiceLaws.{choose_next}
 use Rattle.tv_regs.specs.Choices.{choose_of}
-use Rattle.tv_regs.specs.Reading.{words_at}
 use Rattle.tv_word.proofs.WidthLaws.{width_short}
 use Rattle.tv_word.specs.Widths.{IsWidth}
 use Rattle.tv_block.proofs.BlockLaws.{step_in}
@@ -35,7 +34,7 @@ use Rattle.tv_block.proofs.TableLaws.{flag_test}
 use Rattle.tv_block.proofs.TapeFills.{tapes_filled, tapes_fills, tapes_next, tapes_takes}
 use Rattle.tv_block.proofs.TapeLaws.{tapes_sound}
 use Rattle.tv_block.specs.Block.{compute_of, block_of, did, IsStep}
-use Rattle.tv_block.specs.Complete.{compute_made, block_made, MeetsStep, BlockIsComplete}
+use Rattle.tv_block.specs.Complete.{compute_made, block_made, BlockIsComplete}
 use Rattle.tv_block.specs.Data.{AreData, data_of}
 use Rattle.tv_block.specs.Fetch.{state_in, fetch_of}
 use Rattle.tv_block.specs.Groups.{groups_of}

@@ -1,26 +1,24 @@
 -- The law of the whole step.
-use Rattle.std.proofs.Common.{◌≡◌, ℕ, ◌+◌, ◌-◌, ◌*◌, ◌/◌, ◌%◌, ◌^◌, ◌<◌, ◌≤◌, ◌==◌, Bool, true, false, List, [], ◌∷◌, ◌++◌, length, map, inl, inr, refl, sym, ◌∙◌, ap, ap₂, subst, arith}
+use Rattle.std.proofs.Common.{◌≡◌, ℕ, ◌+◌, ◌*◌, ◌/◌, ◌%◌, ◌^◌, ◌<◌, ◌==◌, Bool, true, List, [], length, inl, inr, refl, sym, ◌∙◌, ap, ap₂, subst, arith}
 use Rattle.std.specs.Prelude.{slice_index}
 use Rattle.std.proofs.lemmas.Bool.{cases_eq, eq-eqb, ne_eqb}
 use Rattle.std.proofs.lemmas.List.{length-map}
 use Rattle.tv_bits.proofs.SpelledNumbers.{value-bits_below, Spells-below}
-use Rattle.tv_bits.specs.Bits.{spelled, bits_combination}
+use Rattle.tv_bits.specs.Bits.{spelled}
 use Rattle.tv_bits.specs.OneHot.{IsOneHot}
 use Rattle.tv_core.proofs.CombinationLaws.{value-append, value-wire, value-constant, value-cons}
 use Rattle.tv_core.proofs.Meeting.{Meets-split}
 use Rattle.tv_core.specs.Circuits.{pure, ◌>>=◌}
-use Rattle.tv_core.specs.Combinations.{wire, constant}
-use Rattle.tv_core.specs.Constraints.{value}
+use Rattle.tv_core.specs.Combinations.{constant}
 use Rattle.tv_core.specs.Laws.{Assigns, Meets}
 use Rattle.tv_core.specs.Lines.{Line}
 use Rattle.tv_core.specs.declared.field.TheConstants.{P}
 use Rattle.tv_isa.specs.Instruction.{decode}
 use Rattle.tv_isa.specs.declared.instr.Instr.{Instr}
-use Rattle.tv_lines.specs.Packing.{line_value}
 use Rattle.tv_numbers.proofs.RangeLaws.{numbers_stay_in_range}
 use Rattle.tv_numbers.proofs.StepLaws.{numbers_do}
-use Rattle.tv_numbers.specs.Laws.{AtNumbers, DoesStep}
-use Rattle.tv_numbers.specs.Numbers.{Did, did_of, asks, stepped, data_line}
+use Rattle.tv_numbers.specs.Laws.{DoesStep}
+use Rattle.tv_numbers.specs.Numbers.{Did, asks, stepped}
 use Rattle.tv_numbers.specs.Views.{View, flag_of, ViewInRange}
 use Rattle.tv_regs.specs.Choices.{choose_of}
 use Rattle.tv_regs.specs.Reading.{words_at}
@@ -32,7 +30,7 @@ use Rattle.tv_block.proofs.PcLaws.{pc_sound}
 use Rattle.tv_block.proofs.StoreLaws.{store_sound}
 use Rattle.tv_block.proofs.TableLaws.{flag_sound, result_sound, flag_test}
 use Rattle.tv_block.proofs.TapeLaws.{tapes_sound}
-use Rattle.tv_block.specs.Block.{compute_of, word_inverse, cell_of, block_of, did, IsStep, IsMachineStep, BlockIsSound}
+use Rattle.tv_block.specs.Block.{compute_of, word_inverse, cell_of, block_of, IsStep, BlockIsSound}
 use Rattle.tv_block.specs.Data.{AreData, data_of}
 use Rattle.tv_block.specs.Fetch.{IsFetched, state_in, head_in, tail_in, fetch_of}
 use Rattle.tv_block.specs.Groups.{groups_of}

@@ -1,5 +1,5 @@
 -- The laws of the data word.
-use Rattle.std.proofs.Common.{◌≡◌, ℕ, ◌+◌, ◌-◌, ◌*◌, ◌/◌, ◌%◌, ◌^◌, ◌<◌, ◌≤◌, ◌==◌, nat_lt, ◌&&◌, ◌||◌, Bool, true, false, if◌then◌else◌, List, [], ◌∷◌, ◌++◌, inl, inr, refl, sym, ◌∙◌, ap, ap₂, subst, arith, true≢false}
+use Rattle.std.proofs.Common.{◌≡◌, ℕ, ◌+◌, ◌-◌, ◌*◌, ◌/◌, ◌%◌, ◌^◌, ◌<◌, ◌==◌, nat_lt, ◌&&◌, ◌||◌, Bool, true, false, if◌then◌else◌, ◌++◌, inl, inr, refl, sym, ◌∙◌, ap, ap₂, subst, arith, true≢false}
 use Rattle.std.specs.Prelude.{slice_index}
 use Rattle.std.proofs.lemmas.Bool.{cases_eq, eqb-true, ne_eqb, and_parts}
 use Rattle.tv_bits.proofs.SpelledNumbers.{value-bits_below, Spells-small, Spells-high}
@@ -29,7 +29,7 @@ use Rattle.tv_step.specs.Trace.{tape_cell}
 use Rattle.tv_word.proofs.WidthLaws.{width_short, for_widths}
 use Rattle.tv_word.specs.Widths.{IsWidth}
 use Rattle.tv_block.proofs.GateLaws.{bit_times}
-use Rattle.tv_block.proofs.PartLaws.{flag-bit, selected_by}
+use Rattle.tv_block.proofs.PartLaws.{flag-bit}
 use Rattle.tv_block.proofs.TapeLaws.{sum_of_flags}
 use Rattle.tv_block.specs.Data.{DataIsSound, data_of}
 use Rattle.tv_block.specs.Tapes.{took}

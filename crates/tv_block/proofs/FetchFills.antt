@@ -1,5 +1,5 @@
 -- Where an assignment has the values of the instruction of a step.
-use Rattle.std.proofs.Common.{◌≡◌, ℕ, ◌+◌, ◌*◌, ◌%◌, ◌^◌, ◌<◌, Bool, false, if◌then◌else◌, List, [], ◌∷◌, ◌++◌, refl, sym, ◌∙◌, ap, ap₂, subst, arith, length, length-append}
+use Rattle.std.proofs.Common.{◌≡◌, ℕ, ◌+◌, ◌*◌, ◌%◌, ◌^◌, ◌<◌, Bool, false, List, ◌++◌, refl, sym, ◌∙◌, ap, ap₂, subst, arith, length-append}
 use Rattle.tv_bits.proofs.SizeLaws.{new_bits_sizes, bits_in_field}
 use Rattle.tv_bits.proofs.SpelledNumbers.{Spells-from_values}
 use Rattle.tv_bits.proofs.SpellingLaws.{new_bits_answer, new_bits_complete, new_bits_next}
@@ -9,7 +9,6 @@ use Rattle.tv_core.proofs.CombinationLaws.{value-constant}
 use Rattle.tv_core.proofs.FieldLaws.{InField-append}
 use Rattle.tv_core.proofs.Meeting.{Meets-join}
 use Rattle.tv_core.specs.Circuits.{put, pure, ◌>>=◌}
-use Rattle.tv_core.specs.Combinations.{constant}
 use Rattle.tv_core.specs.Laws.{Assigns, Meets, HasFrom, Fills, InField}
 use Rattle.tv_core.specs.declared.field.TheConstants.{P}
 use Rattle.tv_decode.proofs.FieldsLaws.{fields_sound, fields_complete, fields_sizes}

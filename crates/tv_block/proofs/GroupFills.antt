@@ -1,11 +1,10 @@
 -- Where an assignment has the values of the operations of all groups of instructions.
-use Rattle.std.proofs.Common.{◌≡◌, ℕ, ◌+◌, ◌*◌, ◌/◌, ◌^◌, ◌<◌, List, [], ◌∷◌, ◌++◌, refl, sym, ◌∙◌, ap, ap₂, subst, arith, length, length-append}
+use Rattle.std.proofs.Common.{◌≡◌, ℕ, ◌+◌, ◌^◌, ◌<◌, List, ◌++◌, arith, length, length-append}
 use Rattle.tv_bits.specs.Bits.{Spells}
 use Rattle.tv_bits.specs.declared.bit_wires.Bits.{Bits}
 use Rattle.tv_cmp.proofs.CompareLaws.{compare_complete, compare_sizes}
 use Rattle.tv_cmp.specs.Compare.{compare_of, compare_values}
 use Rattle.tv_core.proofs.FieldLaws.{InField-append}
-use Rattle.tv_core.proofs.FillLaws.{Fills-then, Fills-pure}
 use Rattle.tv_core.proofs.Meeting.{Meets-join}
 use Rattle.tv_core.specs.Circuits.{pure, ◌>>=◌}
 use Rattle.tv_core.specs.Laws.{Assigns, Meets, HasFrom, Fills, InField}

@@ -1,5 +1,6 @@
 pub mod BlockFills
 pub mod BlockLaws
+pub mod CountLaws
 pub mod DataFills
 pub mod DataLaws
 pub mod FetchFills
@@ -12,11 +13,15 @@ pub mod OperandFills
 pub mod PartLaws
 pub mod PcFills
 pub mod PcLaws
+pub mod PlaceLaws
 pub mod Placed
 pub mod ResultFills
 pub mod SizeFills
+pub mod StepLaws
 pub mod StoreFills
 pub mod StoreLaws
 pub mod TableLaws
+pub mod TablePuts
 pub mod TapeFills
 pub mod TapeLaws
+pub mod ToldFills

@@ -1,27 +1,24 @@
 -- That an assignment with the values of a machine's step meets the block, and shows that step.
-use Rattle.std.proofs.Common.{◌≡◌, ℕ, ◌+◌, ◌-◌, ◌/◌, ◌^◌, ◌<◌, ◌≤◌, Bool, true, false, if◌then◌else◌, List, [], ◌∷◌, length, map, refl, sym, ◌∙◌, ap, subst, arith, All, Option, Some, None}
-use Rattle.std.specs.Prelude.{slice_index, slice_get, is_some}
+use Rattle.std.proofs.Common.{◌≡◌, ℕ, ◌+◌, ◌/◌, ◌^◌, ◌<◌, Bool, true, false, if◌then◌else◌, List, [], ◌∷◌, length, refl, ◌∙◌, ap, subst, arith, Option, Some, None}
+use Rattle.std.specs.Prelude.{slice_get, is_some}
 use Rattle.std.proofs.lemmas.List.Elements.{All-head}
-use Rattle.tv_core.specs.Laws.{InField}
 use Rattle.tv_core.specs.Lines.{Line}
 use Rattle.tv_mem.proofs.WordLaws.{words_are_small}
 use Rattle.tv_numbers.proofs.ShownLaws.{machine_shows, seen_in_range}
-use Rattle.tv_numbers.specs.Numbers.{Did, lines_in, did_of}
-use Rattle.tv_numbers.specs.Shown.{handed, head_at, tail_at, data_at, did_at}
+use Rattle.tv_numbers.specs.Numbers.{Did, lines_in}
+use Rattle.tv_numbers.specs.Shown.{handed, head_at, tail_at, data_at}
 use Rattle.tv_numbers.specs.Views.{View, seen}
 use Rattle.tv_step.proofs.CellLaws.{lines_in_range}
 use Rattle.tv_step.specs.Cells.{IsLine}
-use Rattle.tv_step.specs.Range.{AreWords, InRange}
+use Rattle.tv_step.specs.Range.{AreWords}
 use Rattle.tv_step.specs.Reads.{reads_aux, word_taken}
 use Rattle.tv_step.specs.State.{State}
-use Rattle.tv_step.specs.Trace.{data_line, step_lines}
-use Rattle.tv_word.specs.Widths.{IsWidth}
+use Rattle.tv_step.specs.Trace.{data_line}
 use Rattle.tv_block.proofs.BlockFills.{block_complete, block_fills, block_next}
 use Rattle.tv_block.proofs.SizeFills.{block_in_field}
-use Rattle.tv_block.specs.Block.{block_of, did}
-use Rattle.tv_block.specs.Complete.{MeetsStep, HasMachineStep, MeetsMachineStep, MachineStepIsMet, MachineValuesFit, step_values, olds_of, block_made}
+use Rattle.tv_block.specs.Block.{block_of}
+use Rattle.tv_block.specs.Complete.{MachineStepIsMet, MachineValuesFit}
 use Rattle.tv_block.specs.Fetch.{state_in}
-use Rattle.tv_block.specs.Values.{block_values}
 use Rattle.tv_block.specs.declared.records.StateWires.{StateWires}
 
 pub machine_step_met : MachineStepIsMet
@@ -42,7 +39,7 @@ first_small : (w : ℕ) (words : List ℕ) → AreWords w words → (v : ℕ) �
 first_small w [] h v e = cc
 first_small w (u ∷ us) h v e = let same : u ≡ v = cc in subst (λ k. k < 2 ^ w) same (All-head (λ v. v < 2 ^ w) u us h)
 
-taken_small : (w : ℕ) (st : State) (reads : Bool) (old : ℕ) → AreWords w st.aux → old < 2 ^ w → handed old (if reads then slice_get st.aux 0 else None) < 2 ^ w
+pub taken_small : (w : ℕ) (st : State) (reads : Bool) (old : ℕ) → AreWords w st.aux → old < 2 ^ w → handed old (if reads then slice_get st.aux 0 else None) < 2 ^ w
 taken_small w st false old aux h = h
 taken_small w st true old aux h = by (slice_get st.aux 0) refl
   where

@@ -1,5 +1,5 @@
 -- Where an assignment has the values of the operands of a step.
-use Rattle.std.proofs.Common.{◌≡◌, ℕ, ◌+◌, ◌*◌, ◌%◌, ◌^◌, ◌<◌, Bool, false, true, if◌then◌else◌, List, [], ◌∷◌, ◌++◌, refl, sym, ◌∙◌, ap, ap₂, subst, arith, length, length-append}
+use Rattle.std.proofs.Common.{◌≡◌, ℕ, ◌+◌, ◌*◌, ◌%◌, ◌^◌, ◌<◌, if◌then◌else◌, List, ◌∷◌, ◌++◌, refl, sym, ◌∙◌, ap, ap₂, subst, arith, length, length-append}
 use Rattle.std.specs.Prelude.{slice_index}
 use Rattle.tv_bits.proofs.SelectLaws.{select_sound, select_complete, select_next}
 use Rattle.tv_bits.proofs.SizeLaws.{bits_sizes, bits_in_field, length-bits}

@@ -1,6 +1,5 @@
 -- The laws of the first parts of a step: its instruction, its operands, and the operations on them.
-use Rattle.std.proofs.Common.{◌≡◌, ℕ, ◌+◌, ◌*◌, ◌%◌, ◌^◌, ◌<◌, ◌≤◌, ◌==◌, Bool, true, false, if◌then◌else◌, List, [], ◌∷◌, length, refl, sym, ◌∙◌, ap, ap₂, subst, arith}
-use Rattle.std.specs.Prelude.{slice_index}
+use Rattle.std.proofs.Common.{◌≡◌, ℕ, ◌*◌, ◌%◌, Bool, true, false, if◌then◌else◌, refl, sym, ◌∙◌, ap, ap₂, subst, arith}
 use Rattle.tv_bits.proofs.SelectLaws.{select_sound}
 use Rattle.tv_bits.proofs.SpelledNumbers.{value-bits_below}
 use Rattle.tv_bits.proofs.SpellingLaws.{new_bits_sound, bits_sound, bits_answer}

@@ -1,29 +1,24 @@
 -- Where an assignment has the values of the next program counter.
-use Rattle.std.proofs.Common.{◌≡◌, ◌≢◌, ℕ, ◌+◌, ◌-◌, ◌*◌, ◌/◌, ◌%◌, ◌^◌, ◌<◌, ◌≤◌, ◌==◌, Bool, true, false, if◌then◌else◌, List, [], ◌∷◌, ◌++◌, inl, inr, refl, sym, ◌∙◌, ap, ap₂, subst, arith, mod-eq_of_lt}
+use Rattle.std.proofs.Common.{◌≡◌, ℕ, ◌+◌, ◌-◌, ◌*◌, ◌/◌, ◌%◌, ◌^◌, ◌<◌, ◌==◌, Bool, if◌then◌else◌, List, [], ◌∷◌, ◌++◌, refl, sym, ◌∙◌, ap, ap₂, subst, arith}
 use Rattle.std.specs.Prelude.{slice_index}
-use Rattle.std.proofs.lemmas.Bool.{agree_below_at, cases_eq}
-use Rattle.tv_bits.proofs.BitLaws.{bit_cases}
 use Rattle.tv_bits.proofs.SelectLaws.{select_sound}
 use Rattle.tv_bits.proofs.SpelledNumbers.{value-bits_below, Spells-below, Spells-high}
-use Rattle.tv_bits.proofs.ZeroLaws.{zero_sound, zero_flag-zero, zero_flag-other}
+use Rattle.tv_bits.proofs.ZeroLaws.{zero_sound}
 use Rattle.tv_bits.specs.Bit.{IsBit}
 use Rattle.tv_bits.specs.Bits.{Spells, bits_combination}
 use Rattle.tv_bits.specs.Select.{selected, select_of}
 use Rattle.tv_bits.specs.Zero.{zero_flag, zero_of}
 use Rattle.tv_core.proofs.CombinationLaws.{value-below, value-less, value-append, value-wire, value-constant, value-cons, value-scaled}
-use Rattle.tv_core.proofs.Meeting.{Meets-split}
 use Rattle.tv_core.specs.Circuits.{pure, ◌>>=◌}
 use Rattle.tv_core.specs.Combinations.{wire, constant, less}
 use Rattle.tv_core.specs.Constraints.{value}
 use Rattle.tv_core.specs.declared.field.TheConstants.{P}
-use Rattle.tv_isa.specs.Opcodes.{among, Entry, chosen}
+use Rattle.tv_isa.specs.Opcodes.{chosen}
 use Rattle.tv_numbers.specs.Numbers.{operand_word}
-use Rattle.tv_numbers.specs.Tables.{unused_ops, behind_pc, target, pcs}
-use Rattle.tv_regs.proofs.ChoiceLaws.{choose_sound}
-use Rattle.tv_regs.specs.Choices.{covers, numbers}
+use Rattle.tv_numbers.specs.Tables.{behind_pc, target, pcs}
+use Rattle.tv_regs.specs.Choices.{numbers}
 use Rattle.tv_word.proofs.WidthLaws.{width_short, for_widths}
 use Rattle.tv_word.specs.Widths.{IsWidth}
-use Rattle.std.proofs.Common.{length, length-append}
 use Rattle.tv_bits.proofs.SelectLaws.{select_complete, select_next}
 use Rattle.tv_bits.proofs.SizeLaws.{zero_in_field}
 use Rattle.tv_bits.proofs.ZeroLaws.{zero_complete, zero_next}
@@ -38,7 +33,6 @@ use Rattle.tv_isa.specs.declared.instr.Instr.{Instr}
 use Rattle.tv_numbers.specs.Numbers.{stepped}
 use Rattle.tv_numbers.specs.Views.{View}
 use Rattle.tv_regs.proofs.ChoiceLaws.{choose_complete, choose_next}
-use Rattle.tv_regs.specs.Choices.{choose_of}
 use Rattle.tv_block.proofs.PcLaws.{entry_same, behind_by, target_by, other_by, sizes_small, constant_small}
 use Rattle.tv_block.proofs.DataFills.{word_in_field}
 use Rattle.tv_block.proofs.TapeFills.{either}

@@ -1,19 +1,19 @@
 -- A step's wires stand where they are said to.
-use Rattle.std.proofs.Common.{◌≡◌, ℕ, ◌+◌, ◌-◌, ◌*◌, ◌/◌, ◌%◌, ◌^◌, ◌==◌, ◌≤◌, List, [], ◌∷◌, ◌++◌, length, All, inl, inr, refl, sym, ◌∙◌, ap, ap₂, arith}
+use Rattle.std.proofs.Common.{◌≡◌, ℕ, ◌+◌, ◌*◌, ◌/◌, ◌%◌, ◌^◌, ◌≤◌, ◌<◌, List, [], ◌∷◌, ◌++◌, length, All, ◌∙◌, ap, arith}
 use Rattle.std.specs.List.{range_with_len}
 use Rattle.std.proofs.lemmas.List.Elements.{All-nil, All-cons}
-use Rattle.tv_bits.proofs.SpellingLaws.{new_bits_answer, new_bits_next, bits_next}
-use Rattle.tv_bits.specs.Bits.{bits_combination, new_bits_of, bits_of}
+use Rattle.tv_bits.proofs.SpellingLaws.{new_bits_answer, new_bits_next}
+use Rattle.tv_bits.specs.Bits.{bits_combination, new_bits_of}
 use Rattle.tv_bits.specs.Select.{select_of}
 use Rattle.tv_bits.specs.Times.{times_of}
 use Rattle.tv_bits.specs.Zero.{zero_of}
 use Rattle.tv_bits.specs.declared.bit_wires.Bits.{Bits}
-use Rattle.tv_core.proofs.BelowLaws.{length-weighted}
+use Rattle.tv_core.proofs.BelowLaws.{length-weighted, top-weighted}
 use Rattle.tv_core.specs.Circuits.{fresh, put, pure, ◌>>=◌}
-use Rattle.tv_core.specs.Combinations.{wire, constant}
+use Rattle.tv_core.specs.Combinations.{wire, constant, top}
 use Rattle.tv_core.specs.declared.field.TheConstants.{P}
+use Rattle.tv_core.specs.declared.lines.LineLc.{LineLc}
 use Rattle.tv_decode.proofs.FieldsLaws.{fields_answer}
-use Rattle.tv_decode.specs.Fields.{fields_of}
 use Rattle.tv_decode.specs.declared.records.Fields.{Fields}
 use Rattle.tv_numbers.specs.Tables.{writer_ops}
 use Rattle.tv_regs.proofs.ChoiceLaws.{choose_answer, choose_next}
@@ -23,7 +23,7 @@ use Rattle.tv_regs.proofs.WriteLaws.{write_reg_answer}
 use Rattle.tv_regs.specs.Choices.{choose_of, group}
 use Rattle.tv_regs.specs.Picking.{kept_of, pick_of}
 use Rattle.tv_regs.specs.Reading.{read_reg_of}
-use Rattle.tv_word.proofs.WidthLaws.{width_short, for_widths}
+use Rattle.tv_word.proofs.WidthLaws.{width_short}
 use Rattle.tv_word.specs.Widths.{IsWidth}
 use Rattle.tv_block.proofs.DataFills.{data_next}
 use Rattle.tv_block.proofs.FetchFills.{fetch_next}
@@ -33,17 +33,18 @@ use Rattle.tv_block.proofs.ResultFills.{result_next}
 use Rattle.tv_block.proofs.StoreFills.{patch_next, store_next}
 use Rattle.tv_block.proofs.TapeFills.{tapes_next}
 use Rattle.tv_block.specs.Block.{compute_of, block_of, cell_of}
-use Rattle.tv_block.specs.Complete.{operations_made}
+use Rattle.tv_block.specs.Complete.{block_made}
 use Rattle.tv_block.specs.Data.{data_of}
 use Rattle.tv_block.specs.Fetch.{fetch_of}
 use Rattle.tv_block.specs.Gates.{if_zero_of, unless_zero_of, taking_of}
 use Rattle.tv_block.specs.Groups.{groups_of}
 use Rattle.tv_block.specs.Operands.{operands_of}
-use Rattle.tv_block.specs.Pc.{pc_of, pc_table, behind_in, target_in}
+use Rattle.tv_block.specs.Pc.{pc_of}
 use Rattle.tv_block.specs.Places.{operands_at, tapes_at, data_at, store_at, result_at, pc_at, first_line, second_line, third_line, block_wires, IsShort, BlockPlaces}
 use Rattle.tv_block.specs.Result.{result_of, result_table, flag_table}
-use Rattle.tv_block.specs.Store.{store_of, patch_of}
+use Rattle.tv_block.specs.Store.{store_of}
 use Rattle.tv_block.specs.Tapes.{tapes_of}
+use Rattle.tv_block.specs.Under.{LineUnder}
 use Rattle.tv_block.specs.declared.records.Block.{Block}
 use Rattle.tv_block.specs.declared.records.Data.{Data}
 use Rattle.tv_block.specs.declared.records.Fetched.{Fetched}
@@ -104,6 +105,13 @@ pc_place : (w : ℕ) (state : StateWires) (op : ℕ) (a : Bits) (next : ℕ) →
 unfolding pc_of zero_of select_of choose_of fresh put pure ◌>>=◌
 pc_place w state op a next = omega arith
 
+-- ---- three of a kind
+all_three : (Q : LineLc → Type 0) (x y z : LineLc) → Q x → Q y → Q z → All Q (x ∷ y ∷ z ∷ [])
+all_three Q x y z p q r = All-cons Q x (y ∷ z ∷ []) p (All-cons Q y (z ∷ []) q (All-cons Q z [] r (All-nil Q)))
+
+further : (a b c : ℕ) → a ≤ b → b ≤ c → a ≤ c
+further a b c p q = omega (arith, p, q)
+
 -- ---- the whole
 -- a block from the places of its wires
 abbrev block_from : ℕ → StateWires → ℕ → ℕ → List ℕ → ℕ → ℕ → ℕ → ℕ → ℕ → ℕ → ℕ → ℕ → ℕ → ℕ → ℕ → ℕ → Block
@@ -124,10 +132,6 @@ same_block : (w : ℕ) (state : StateWires) (time : ℕ) (a1 b1 : ℕ) (a2 b2 : 
     → block_from w state time a1 a2 a3 a4 a5 a6 a7 a8 a9 a10 a11 a12 a13 a14 ≡ block_from w state time b1 b2 b3 b4 b5 b6 b7 b8 b9 b10 b11 b12 b13 b14
 same_block w state time a1 b1 a2 b2 a3 b3 a4 b4 a5 b5 a6 b6 a7 b7 a8 b8 a9 b9 a10 b10 a11 b11 a12 b12 a13 b13 a14 b14 e1 e2 e3 e4 e5 e6 e7 e8 e9 e10 e11 e12 e13 e14 = cc
 
--- the gadgets' wires
-gadgets : (w : ℕ) → IsWidth w → 4 * w + 85 + operations_made w ≡ tapes_at w
-gadgets w width = for_widths (λ w. 4 * w + 85 + operations_made w ≡ tapes_at w) refl refl w width
-
 block_placed : (w : ℕ) → IsWidth w → (n : ℕ) (state : StateWires) (time at : ℕ) → (block_of w n state time at).answer ≡ block_wires w state time at
 unfolding block_of compute_of pure ◌>>=◌
 block_placed w width n state time at =
@@ -141,7 +145,7 @@ block_placed w width n state time at =
     let e = choose_of f.answer.fields.op (flag_table w state p.answer g.answer t.answer) r.next in
     let e1 : f.next ≡ at + operands_at w = fetch_next w at in
     let e2 : p.next ≡ at + (4 * w + 85) = omega (arith, e1, operands_next w state f.answer f.next) in
-    let e3 : g.next ≡ at + tapes_at w = omega (arith, e2, groups_next w width p.answer.x p.answer.a p.next, gadgets w width) in
+    let e3 : g.next ≡ at + tapes_at w = omega (arith, e2, groups_next w width p.answer.x p.answer.a p.next) in
     let e4 : t.next ≡ at + data_at w = omega (arith, e3, tapes_next w n state f.answer.fields.op p.answer.a g.next) in
     let e5 : d.next ≡ at + store_at w = omega (arith, e4, data_next w state f.answer.fields.op p.answer.a t.answer t.next) in
     let e6 : s.next ≡ at + result_at w = omega (arith, e5, store_next w width f.answer.fields.op p.answer d.answer d.next) in
@@ -173,18 +177,35 @@ block_placed w width n state time at =
     sum : (a b c : ℕ) → a + b + c ≡ a + (b + c)
     sum a b c = omega arith
 
+pub short_first : (w : ℕ) → IsWidth w → (state : StateWires) (time at : ℕ) → IsShort (first_line w state time at)
+short_first w width state time at =
+    let word : length (bits_combination at w) ≤ 32 = omega (arith, length-weighted at w (λ i. 2 ^ i % P), width_short w width) in
+    record { cell = omega arith; time = omega arith; old = word; new = word }
+
+pub short_second : (w : ℕ) → IsWidth w → (state : StateWires) (time at : ℕ) → IsShort (second_line w state time at)
+short_second w width state time at =
+    let word : length (bits_combination (at + w) w) ≤ 32 = omega (arith, length-weighted (at + w) w (λ i. 2 ^ i % P), width_short w width) in
+    record { cell = omega arith; time = omega arith; old = word; new = word }
+
 short_lines : (w : ℕ) → IsWidth w → (state : StateWires) (time at : ℕ) → All IsShort (block_wires w state time at).lines
 short_lines w width state time at =
-    let most = width_short w width in
-    let head : length (bits_combination at w) ≡ w = length-weighted at w (λ i. 2 ^ i % P) in
-    let tail : length (bits_combination (at + w) w) ≡ w = length-weighted (at + w) w (λ i. 2 ^ i % P) in
-    let first : IsShort (first_line w state time at) = record { cell = omega arith; time = omega arith; old = at_most _ _ head most; new = at_most _ _ head most } in
-    let second : IsShort (second_line w state time at) = record { cell = omega arith; time = omega arith; old = at_most _ _ tail most; new = at_most _ _ tail most } in
     let third : IsShort (third_line w time at) = record { cell = omega arith; time = omega arith; old = omega arith; new = omega arith } in
-    All-cons IsShort (first_line w state time at) (second_line w state time at ∷ third_line w time at ∷ []) first (All-cons IsShort (second_line w state time at) (third_line w time at ∷ []) second (All-cons IsShort (third_line w time at) [] third (All-nil IsShort)))
-  where
-    at_most : (n m : ℕ) → n ≡ m → m ≤ 32 → n ≤ 32
-    at_most n m e h = omega arith
+    all_three IsShort _ _ _ (short_first w width state time at) (short_second w width state time at) third
+
+pub first_below : (w : ℕ) (state : StateWires) (time at : ℕ) → state.pc < at + block_made w → LineUnder (at + block_made w) (first_line w state time at)
+first_below w state time at pc =
+    let word : top (bits_combination at w) ≤ at + block_made w = further _ _ _ (top-weighted at w (λ i. 2 ^ i % P)) (omega arith) in
+    record { cell = omega arith; time = omega arith; old = word; new = word }
+
+pub second_below : (w : ℕ) (state : StateWires) (time at : ℕ) → state.pc < at + block_made w → LineUnder (at + block_made w) (second_line w state time at)
+second_below w state time at pc =
+    let word : top (bits_combination (at + w) w) ≤ at + block_made w = further _ _ _ (top-weighted (at + w) w (λ i. 2 ^ i % P)) (omega arith) in
+    record { cell = omega arith; time = omega arith; old = word; new = word }
+
+lines_below : (w : ℕ) → IsWidth w → (state : StateWires) (time at : ℕ) → state.pc < at + block_made w → All (LineUnder (at + block_made w)) (block_wires w state time at).lines
+lines_below w width state time at pc =
+    let third : LineUnder (at + block_made w) (third_line w time at) = record { cell = omega (arith, width); time = omega arith; old = omega (arith, width); new = omega (arith, width) } in
+    all_three (LineUnder (at + block_made w)) _ _ _ (first_below w state time at pc) (second_below w state time at pc) third
 
 pub block_places : BlockPlaces
-block_places = record { answer = block_placed; short = short_lines }
+block_places = record { answer = block_placed; short = short_lines; below = lines_below }

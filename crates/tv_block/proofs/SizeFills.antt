@@ -1,5 +1,5 @@
 -- That the values of the whole step are numbers of the field, and as many as its wires.
-use Rattle.std.proofs.Common.{◌≡◌, ℕ, ◌+◌, ◌-◌, ◌*◌, ◌/◌, ◌%◌, ◌^◌, ◌<◌, ◌≤◌, ◌==◌, Bool, true, false, if◌then◌else◌, List, [], ◌∷◌, ◌++◌, length, refl, sym, ◌∙◌, ap, subst, arith, All}
+use Rattle.std.proofs.Common.{◌≡◌, ℕ, ◌/◌, ◌%◌, ◌^◌, ◌<◌, Bool, List, [], ◌∷◌, ◌++◌, length, refl, arith}
 use Rattle.std.proofs.lemmas.Bool.{cond_both}
 use Rattle.tv_step.proofs.RangeLaws.{word_at}
 use Rattle.std.specs.Prelude.{slice_index}
@@ -9,12 +9,11 @@ use Rattle.tv_core.specs.Circuits.{pure, ◌>>=◌}
 use Rattle.tv_core.specs.Laws.{InField}
 use Rattle.tv_core.specs.declared.field.TheConstants.{P}
 use Rattle.tv_isa.specs.Instruction.{decode}
-use Rattle.tv_isa.specs.Opcodes.{chosen}
 use Rattle.tv_isa.specs.declared.instr.Instr.{Instr}
 use Rattle.tv_numbers.proofs.Cases.{chosen_in}
 use Rattle.tv_numbers.proofs.RangeLaws.{some_words, results_small, flags_small, pcs_small, zero_place}
 use Rattle.tv_numbers.specs.Numbers.{source_word, dest_word, operand_word, other_word, found, result_in, stepped}
-use Rattle.tv_numbers.specs.Tables.{store_ops, results, flags, pcs}
+use Rattle.tv_numbers.specs.Tables.{results, flags, pcs}
 use Rattle.tv_numbers.specs.Views.{View, ViewInRange}
 use Rattle.tv_word.specs.Widths.{IsWidth}
 use Rattle.tv_block.proofs.BlockFills.{block_next, block_fills}

@@ -1,8 +1,7 @@
 -- Where an assignment has the values of what a step does to the tapes.
-use Rattle.std.proofs.Common.{◌≡◌, ℕ, ◌+◌, ◌-◌, ◌*◌, ◌/◌, ◌%◌, ◌^◌, ◌<◌, ◌≤◌, ◌==◌, not, ◌&&◌, Bool, true, false, if◌then◌else◌, List, [], ◌∷◌, ◌++◌, length, refl, sym, ◌∙◌, ap, ap₂, subst, arith, mod-lt}
+use Rattle.std.proofs.Common.{◌≡◌, ℕ, ◌+◌, ◌-◌, ◌*◌, ◌/◌, ◌%◌, ◌^◌, ◌<◌, ◌≤◌, ◌==◌, not, ◌&&◌, Bool, true, false, if◌then◌else◌, List, [], ◌∷◌, ◌++◌, refl, sym, ◌∙◌, ap, ap₂, subst, arith, mod-lt}
 use Rattle.std.specs.Int.{bit_at}
 use Rattle.std.specs.Prelude.{slice_index}
-use Rattle.tv_bits.proofs.SelectLaws.{select_next}
 use Rattle.tv_bits.proofs.SpelledNumbers.{value-bits_below, Spells-high, Spells-bit_at}
 use Rattle.tv_bits.proofs.TimesLaws.{times_sound, times_complete, times_next}
 use Rattle.tv_bits.specs.Bit.{IsBit}
@@ -30,7 +29,7 @@ use Rattle.tv_word.proofs.WidthLaws.{width_short}
 use Rattle.tv_word.specs.Widths.{IsWidth}
 use Rattle.tv_block.proofs.GateFills.{if_zero_next, unless_zero_next, if_zero_complete, unless_zero_complete, taking_complete}
 use Rattle.tv_block.proofs.GateLaws.{if_zero_sound, unless_zero_sound}
-use Rattle.tv_block.proofs.TapeLaws.{among_one, Reading, reading_by, left_by, one_more}
+use Rattle.tv_block.proofs.TapeLaws.{among_one, reading_by, left_by, one_more}
 use Rattle.tv_block.specs.Gates.{if_zero_of, unless_zero_of, taking_of}
 use Rattle.tv_block.specs.Tapes.{tapes_of}
 use Rattle.tv_block.specs.Values.{tapes_values}

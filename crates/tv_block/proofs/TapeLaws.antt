@@ -1,5 +1,5 @@
 -- The laws of the tapes.
-use Rattle.std.proofs.Common.{◌≡◌, ◌≢◌, ℕ, ◌+◌, ◌-◌, ◌*◌, ◌/◌, ◌%◌, ◌^◌, ◌<◌, ◌≤◌, ◌==◌, nat_lt, not, ◌&&◌, ◌||◌, Bool, true, false, if◌then◌else◌, List, [], ◌∷◌, ◌++◌, inl, inr, refl, sym, ◌∙◌, ap, ap₂, subst, arith, true≢false, zero-mul}
+use Rattle.std.proofs.Common.{◌≡◌, ℕ, ◌+◌, ◌-◌, ◌*◌, ◌/◌, ◌%◌, ◌^◌, ◌<◌, ◌≤◌, ◌==◌, nat_lt, not, ◌&&◌, ◌||◌, Bool, true, false, if◌then◌else◌, [], ◌∷◌, ◌++◌, inl, inr, refl, sym, ◌∙◌, ap, ap₂, subst, arith, true≢false, zero-mul}
 use Rattle.std.specs.Int.{bit_at}
 use Rattle.std.specs.Prelude.{slice_index}
 use Rattle.std.proofs.lemmas.Bool.{cases_eq, cases_lt, eq-eqb, ne_eqb, lt-ltb, le-ltb}
@@ -22,7 +22,7 @@ use Rattle.tv_regs.proofs.PickLaws.{kept_sound}
 use Rattle.tv_regs.specs.Choices.{group}
 use Rattle.tv_regs.specs.Picking.{kept_of}
 use Rattle.tv_word.proofs.WidthLaws.{width_short}
-use Rattle.tv_block.proofs.GateLaws.{if_zero_sound, unless_zero_sound, Takes, taking_sound}
+use Rattle.tv_block.proofs.GateLaws.{if_zero_sound, unless_zero_sound, taking_sound}
 use Rattle.tv_block.specs.Gates.{if_zero_of, unless_zero_of, taking_of}
 use Rattle.tv_block.specs.Tapes.{TapesAreSound, tapes_of}
 

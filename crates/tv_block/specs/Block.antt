@@ -6,12 +6,11 @@ use Rattle.tv_core.specs.Combinations.{wire, constant}
 use Rattle.tv_core.specs.Constraints.{Combination}
 use Rattle.tv_core.specs.Laws.{Assigns, Meets}
 use Rattle.tv_core.specs.declared.field.TheConstants.{P}
-use Rattle.tv_core.specs.declared.lines.LineLc.{LineLc}
 use Rattle.tv_lines.specs.Packing.{line_value}
 use Rattle.tv_lines.specs.Placed.{line_in}
 use Rattle.tv_numbers.specs.Laws.{AtNumbers, DoesStep}
 use Rattle.tv_numbers.specs.Numbers.{Did, did_of}
-use Rattle.tv_numbers.specs.Views.{View, flag_of, ViewInRange}
+use Rattle.tv_numbers.specs.Views.{flag_of, ViewInRange}
 use Rattle.tv_word.specs.Widths.{IsWidth}
 use Rattle.tv_regs.specs.Choices.{choose_of}
 use Rattle.tv_block.specs.Data.{data_of}
@@ -24,6 +23,7 @@ use Rattle.tv_block.specs.Store.{store_of}
 use Rattle.tv_block.specs.Tapes.{tapes_of}
 use Rattle.tv_block.specs.declared.computed.Computed.{Computed}
 use Rattle.tv_block.specs.declared.records.Block.{Block}
+use Rattle.tv_block.specs.declared.records.Reached.{Reached}
 use Rattle.tv_block.specs.declared.records.StateWires.{StateWires}
 
 -- ---- the circuit
@@ -65,6 +65,16 @@ block_of w n state time = do
     answers = c.fetched.fields.op + 31;
     value = c.operands.operand;
   })
+
+-- what a step leads to, of all that a block answers: that doesn't depend on the time
+abbrev pub reached : Block → Reached
+reached made = record { next = made.next; answers = made.answers; value = made.value }
+
+-- one step of which only that is answered
+abbrev pub step_of : ℕ → ℕ → StateWires → ℕ → Circuit Reached
+step_of w n state time = do
+  made ← block_of w n state time
+  pure (reached made)
 
 -- ---- what it says
 -- the step in numbers that an assignment has in a block's wires

@@ -1,5 +1,5 @@
 -- The instruction of a step.
-use Rattle.std.specs.Prelude.{◌≡◌, ℕ, false, List, [], slice_index, map}
+use Rattle.std.specs.Prelude.{◌≡◌, ℕ, false, List, [], slice_index}
 use Rattle.tv_bits.specs.Bits.{Spells, spelled, new_bits_of}
 use Rattle.tv_core.specs.Circuits.{Circuit, put, pure, ◌>>=◌}
 use Rattle.tv_core.specs.Combinations.{constant}

@@ -2,6 +2,7 @@ pub mod Block
 pub mod Complete
 pub mod Data
 pub mod Fetch
+pub mod Filling
 pub mod Gates
 pub mod Groups
 pub mod Operands
@@ -10,5 +11,6 @@ pub mod Places
 pub mod Result
 pub mod Store
 pub mod Tapes
+pub mod Told
 pub mod Under
 pub mod Values

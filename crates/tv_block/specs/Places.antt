@@ -1,14 +1,16 @@
 -- Where a step's wires stand: all that a block answers follows from its first wire, the wires of the state before it,
 -- and the time.
-use Rattle.std.specs.Prelude.{◌≡◌, ℕ, ◌+◌, ◌-◌, ◌*◌, ◌/◌, ◌≤◌, List, [], ◌∷◌, ◌++◌, length, All}
+use Rattle.std.specs.Prelude.{◌≡◌, ℕ, ◌+◌, ◌*◌, ◌/◌, ◌≤◌, ◌<◌, [], ◌∷◌, ◌++◌, length, All}
 use Rattle.std.specs.List.{range_with_len}
 use Rattle.tv_bits.specs.Bits.{bits_combination}
 use Rattle.tv_core.specs.Combinations.{wire, constant}
 use Rattle.tv_core.specs.declared.lines.LineLc.{LineLc}
 use Rattle.tv_word.specs.Widths.{IsWidth}
 use Rattle.tv_block.specs.Block.{block_of, cell_of}
+use Rattle.tv_block.specs.Complete.{operations_made, block_made}
 use Rattle.tv_block.specs.declared.records.Block.{Block}
 use Rattle.tv_block.specs.declared.records.StateWires.{StateWires}
+use Rattle.tv_block.specs.Under.{LineUnder}
 
 -- ---- where the parts begin, from a block's first wire on
 -- the operands: after the two words, 32 wires of the opcode's row and 48 of the registers' rows
@@ -17,7 +19,7 @@ operands_at w = 2 * w + 80
 
 -- the tapes: after two rows of bits and five wires of the operands, and the wires of the eight gadgets
 abbrev pub tapes_at : ℕ → ℕ
-tapes_at w = 4 * w + 85 + (10 * w + w / 2 + 31 - w / 16)
+tapes_at w = 4 * w + 85 + operations_made w
 
 -- the data word, its byte and the word after the step, the registers, and the program counter
 abbrev pub data_at : ℕ → ℕ
@@ -74,7 +76,9 @@ pub record IsShort (line : LineLc) : Type 0 where
   pub old : length line.old ≤ 32
   pub new : length line.new ≤ 32
 
--- a block answers those wires, and its lines are short
+-- a block answers those wires, and its lines are short, of the state's program counter and wires that the block makes
 pub record BlockPlaces : Type 0 where
   pub answer : (w : ℕ) → IsWidth w → (n : ℕ) (state : StateWires) (time next : ℕ) → (block_of w n state time next).answer ≡ block_wires w state time next
   pub short : (w : ℕ) → IsWidth w → (state : StateWires) (time next : ℕ) → All IsShort (block_wires w state time next).lines
+  pub below : (w : ℕ) → IsWidth w → (state : StateWires) (time next : ℕ) → state.pc < next + block_made w
+      → All (LineUnder (next + block_made w)) (block_wires w state time next).lines

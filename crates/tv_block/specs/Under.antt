@@ -1,5 +1,7 @@
 -- What the parts of a step answer is made of wires below a number, and of words of w bits.
 use Rattle.std.specs.Prelude.{◌≡◌, ℕ, ◌+◌, ◌-◌, ◌*◌, ◌/◌, ◌≤◌, ◌<◌}
+use Rattle.tv_core.specs.Combinations.{top}
+use Rattle.tv_core.specs.declared.lines.LineLc.{LineLc}
 use Rattle.tv_logic.specs.Logic.{AreBelow}
 use Rattle.tv_regs.specs.Reading.{wires_top}
 use Rattle.tv_block.specs.declared.records.Data.{Data}
@@ -86,9 +88,13 @@ pub record StoreUnder (wires : ℕ) (s : Store) : Type 0 where
   pub byte : s.byte < wires
   pub new : s.new < wires
 
--- how many wires and constraints the parts make: the eight gadgets, the byte of the data word, and the word after
-abbrev pub groups_made : ℕ → ℕ
-groups_made w = 10 * w + w / 2 + 31 - w / 16
+-- the combinations of a line are made of wires below a number
+pub record LineUnder (wires : ℕ) (line : LineLc) : Type 0 where
+  pub cell : top line.cell ≤ wires
+  pub time : top line.time ≤ wires
+  pub old : top line.old ≤ wires
+  pub new : top line.new ≤ wires
 
+-- how many wires and constraints the byte of the data word makes
 abbrev pub patch_made : ℕ → ℕ
 patch_made w = 3 * (w / 16) - 1

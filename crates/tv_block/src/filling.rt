@@ -1,4 +1,5 @@
 ghost use Rattle.tv_block.specs.Complete.{BlockIsComplete, BlockSizes, MachineStepIsMet, MachineValuesFit};
+ghost use Rattle.tv_block.specs.Told.{StepsAreGiven};
 
 /// A step's circuit is complete. An assignment that has the values of a step in numbers at the
 /// wires that are made meets what `block` puts, and the numbers in the block's wires are that
@@ -15,4 +16,12 @@ pub fn block_is_complete()
 pub fn block_fills()
     ensures numbers { BlockSizes }
     ensures machine { MachineValuesFit }
+{}
+
+/// The values of a machine's step from a state in range are those that `fill_block` gives from what
+/// a trace tells: the numbers of the state, the olds of the step's three lines, of which the first
+/// two are the words of its instruction, and the word that it takes of the auxiliary tape, which
+/// stands for the third where there is one. All that `fill_block` requires of these holds.
+pub fn steps_are_given()
+    ensures { StepsAreGiven }
 {}

@@ -1,6 +1,7 @@
 ghost use Rattle.std.specs.Prelude.{◌≡◌, ◌+◌, ◌≤◌, IfOk};
+ghost use Rattle.tv_block.specs.Complete.{operations_made};
 ghost use Rattle.tv_block.specs.Groups.{groups_of};
-ghost use Rattle.tv_block.specs.Under.{GroupsUnder, groups_made};
+ghost use Rattle.tv_block.specs.Under.{GroupsUnder};
 ghost use Rattle.tv_core.specs.Sinks.{PutsIn, Grows, Room};
 ghost use Rattle.tv_word.specs.Widths.{IsWidth};
 
@@ -17,13 +18,13 @@ use tv_shift::shift;
 /// constraints, at 16 bits 198 and 207.
 pub(crate) fn groups<const W: u32, S: Sink>(s: &mut S, x: &Bits, a: &Bits) -> Put<Groups>
     requires width { IsWidth W }
-    requires room { Room S.meaning s.old (groups_made W) (groups_made W + 9) }
+    requires room { Room S.meaning s.old (operations_made W) (operations_made W + 9) }
     requires x_word { x.now.n ≡ W }
     requires a_word { a.now.n ≡ W }
     requires x_made { x.now.first + W ≤ S.meaning.wires s.old }
     requires a_made { a.now.first + W ≤ S.meaning.wires s.old }
     ensures puts { PutsIn S.meaning s.old s.new (groups_of W x.now a.now) result }
-    ensures grows { IfOk result (λ _. Grows S.meaning s.old s.new (groups_made W) (groups_made W + 9)) }
+    ensures grows { IfOk result (λ _. Grows S.meaning s.old s.new (operations_made W) (operations_made W + 9)) }
     ensures below { IfOk result (λ made. GroupsUnder W (S.meaning.wires s.new) made) }
 {
     Ok(Groups {

@@ -4,20 +4,36 @@
 //! are a step in numbers, which is the machine's.
 #![tactic(auto)]
 
+mod arithmetic;
+mod choosing;
 mod computed;
 mod counting;
 mod fetching;
 mod filling;
+mod filling_block;
+mod filling_counter;
+mod filling_operands;
+mod filling_results;
+mod filling_store;
+mod filling_tapes;
 mod gates;
 mod grouping;
 mod laws;
 mod looking;
 mod operating;
+mod placing;
 mod records;
+mod step_numbers;
+mod stepping;
 mod storing;
 mod taping;
 
 pub use computed::Computed;
-pub use filling::{block_fills, block_is_complete};
-pub use laws::{block_is_placed, block_is_sound};
-pub use records::{Block, Data, Fetched, Groups, Operands, Patch, Spot, StateWires, Store, Tapes};
+pub use filling::{block_fills, block_is_complete, steps_are_given};
+pub use filling_block::fill_block;
+pub use laws::{block_is_counted, block_is_placed, block_is_sound};
+pub use placing::{block_line, block_spot, block_wires, next_state};
+pub use records::{
+    Block, Data, Fetched, Groups, Operands, Patch, Reached, Spot, StateWires, Store, Tapes,
+};
+pub use stepping::{block, step};

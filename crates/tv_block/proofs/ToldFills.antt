@@ -1,0 +1,28 @@
+-- That a step's values are given from what a trace tells of it.
+use Rattle.std.proofs.Common.{◌+◌, ◌-◌, ◌/◌, ◌<◌, Bool, true, false, length, refl, arith}
+use Rattle.tv_core.specs.Lines.{Line}
+use Rattle.tv_mem.proofs.WordLaws.{words_are_small}
+use Rattle.tv_numbers.proofs.ShownLaws.{seen_in_range}
+use Rattle.tv_numbers.specs.Views.{flag_of}
+use Rattle.tv_step.proofs.CellLaws.{lines_in_range}
+use Rattle.tv_step.specs.Cells.{IsLine}
+use Rattle.tv_step.specs.Reads.{reads_aux}
+use Rattle.tv_step.specs.Trace.{data_line}
+use Rattle.tv_block.proofs.MachineFills.{taken_small}
+use Rattle.tv_block.specs.Told.{StepsAreGiven}
+
+flag_small : (b : Bool) → flag_of b < 2
+flag_small true = omega arith
+flag_small false = omega arith
+
+pub steps_are_given : StepsAreGiven
+steps_are_given w width n m time st ended short range =
+    let line : Line = data_line w n st (time + 2) in
+    let fits : IsLine w line = lines_in_range w width n st time short range 2 line (omega arith) in
+    record {
+      range = seen_in_range w n st (n - length st.primary) (flag_of ended) range (omega arith) (flag_small ended);
+      head_word = words_are_small w width st.memory range.bytes (st.pc / (w / 8));
+      tail_word = words_are_small w width st.memory range.bytes (st.pc / (w / 8) + 1);
+      data_word = taken_small w st (reads_aux w st) line.old range.aux fits.old;
+      values = refl;
+    }

@@ -1,0 +1,5 @@
+use Rattle.tv_block.proofs.ToldFills.{steps_are_given}
+use Rattle.tv_block.proofs.filling.steps_are_given.Goals as goal
+
+pub returns : goal.returns
+returns c = steps_are_given

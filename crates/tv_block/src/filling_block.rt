@@ -1,0 +1,119 @@
+ghost use Rattle.std.specs.Prelude.{◌≡◌, ◌<◌, ◌^◌, ◌∷◌, false, OnOk};
+ghost use Rattle.tv_block.specs.Filling.{view_of, AreNumbers, effects_values};
+ghost use Rattle.tv_block.specs.Values.{compute_values, block_values};
+ghost use Rattle.tv_core.specs.Giving.{GivesIn};
+ghost use Rattle.tv_isa.specs.Instruction.{decode};
+ghost use Rattle.tv_numbers.specs.Views.{ViewInRange};
+ghost use Rattle.tv_word.specs.Widths.{IsWidth};
+
+use crate::filling_counter::fill_counter;
+use crate::filling_operands::{fill_fetch, fill_groups, fill_operands};
+use crate::filling_results::{fill_flag, fill_result};
+use crate::filling_store::fill_store;
+use crate::filling_tapes::{fill_data, fill_tapes};
+use crate::step_numbers::{StepNumbers, step_numbers};
+use tv_core::{Put, Values};
+use tv_step::TraceState;
+
+/// Gives the values of the wires that a step makes, 404 at 16 bits and 654 at 32, from the state
+/// before it: `n` is how many words the primary tape has, `head` and `tail` are the words of the
+/// instruction, and `word` is the data word. That is the word that the step takes of the auxiliary
+/// tape where `takes` tells so, and else the one in the cell that it looks at.
+///
+/// It takes no memory. Of its time most goes into the hints that are inverses.
+pub fn fill_block<const W: u32, V: Values>(
+    v: &mut V,
+    n: u32,
+    state: &TraceState,
+    head: u32,
+    tail: u32,
+    word: u32,
+    takes: bool,
+) -> Put<()>
+    requires width { IsWidth W }
+    requires short { n < 2 ^ 29 }
+    requires range { ViewInRange W n (view_of state.now) }
+    requires tail_word { tail < 2 ^ W }
+    requires data_word { word < 2 ^ W }
+    requires whole { V.giving.broken v.old ≡ false }
+    ensures gives { GivesIn V.giving v.old v.new (block_values W n (view_of state.now) head tail word takes) result }
+    ensures whole { OnOk result (V.giving.broken v.new ≡ false) }
+{
+    let step = step_numbers::<W>(n, state, head, tail, word, takes);
+    fill_computed::<W, V>(v, state, &step, head, tail)?;
+    fill_counter::<W, V>(v, state, &step)
+}
+
+// All of them but the program counter's.
+fn fill_computed<const W: u32, V: Values>(
+    v: &mut V,
+    state: &TraceState,
+    step: &StepNumbers,
+    head: u32,
+    tail: u32,
+) -> Put<()>
+    requires width { IsWidth W }
+    requires short { step.now.n < 2 ^ 29 }
+    requires range { ViewInRange W step.now.n (view_of state.now) }
+    requires instr { step.now.instr ≡ decode W head tail }
+    requires step { AreNumbers W (view_of state.now) step.now }
+    requires whole { V.giving.broken v.old ≡ false }
+    ensures gives { GivesIn V.giving v.old v.new (compute_values W step.now.n (view_of state.now) head tail step.now.word step.now.aux) result }
+    ensures whole { OnOk result (V.giving.broken v.new ≡ false) }
+{
+    fill_fetch::<W, V>(v, head, tail)?;
+    fill_operands::<W, V>(v, state, step)?;
+    fill_groups::<W, V>(v, step.other, step.operand)?;
+    fill_effects::<W, V>(v, state, step)
+}
+
+// What the step does: the tapes, the data word, the word after the step, the registers, the flag.
+fn fill_effects<const W: u32, V: Values>(
+    v: &mut V,
+    state: &TraceState,
+    step: &StepNumbers,
+) -> Put<()>
+    requires width { IsWidth W }
+    requires short { step.now.n < 2 ^ 29 }
+    requires range { ViewInRange W step.now.n (view_of state.now) }
+    requires step { AreNumbers W (view_of state.now) step.now }
+    requires whole { V.giving.broken v.old ≡ false }
+    ensures gives { GivesIn V.giving v.old v.new (effects_values W step.now.n (view_of state.now) step.now.instr step.now.word step.now.aux) result }
+    ensures whole { OnOk result (V.giving.broken v.new ≡ false) }
+{
+    fill_tapes::<W, V>(v, state, step)?;
+    fill_data::<W, V>(v, state, step)?;
+    fill_store::<W, V>(v, state, step)?;
+    fill_result::<W, V>(v, state, step)?;
+    fill_flag::<W, V>(v, state, step)
+}
+
+#[cfg(test)]
+mod tests {
+    use super::*;
+    use std::test::Fail;
+    use tv_core::ListValues;
+
+    // A sum of register 2 and 5, put into register 1: as many values at each width as a step makes
+    // wires, the program counter after it last.
+    #[test]
+    fn gives_a_value_for_each_wire(rt: HostRuntime) -> Result<(), Fail> {
+        let state = TraceState {
+            pc: 16,
+            regs: [7; 16],
+            flag: false,
+            primary: 0,
+            aux: 0,
+            ended: false,
+        };
+        let mut wide = ListValues::new(rt.alloc());
+        fill_block::<32, ListValues>(&mut wide, 3, &state, 0x2448_0000, 5, 0, false)?;
+        assert_eq!(rt; wide.as_slice().len(), 654);
+        assert_eq!(rt; wide.as_slice().last().map(|pc| pc.number()), Some(24));
+        let mut narrow = ListValues::new(rt.alloc());
+        fill_block::<16, ListValues>(&mut narrow, 3, &state, 0x2448, 5, 0, false)?;
+        assert_eq!(rt; narrow.as_slice().len(), 404);
+        assert_eq!(rt; narrow.as_slice().last().map(|pc| pc.number()), Some(20));
+        Ok(())
+    }
+}

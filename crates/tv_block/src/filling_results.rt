@@ -1,0 +1,147 @@
+ghost use Rattle.std.specs.Prelude.{◌≡◌, ◌<◌, ◌^◌, ◌==◌, Bool, if◌then◌else◌, [], ◌∷◌, false, OnOk};
+ghost use Rattle.tv_block.specs.Filling.{view_of, AreNumbers};
+ghost use Rattle.tv_block.specs.Values.{result_values};
+ghost use Rattle.tv_core.specs.Giving.{GivesIn};
+ghost use Rattle.tv_isa.specs.Opcodes.{among, chosen};
+ghost use Rattle.tv_numbers.specs.Numbers.{result_in, stepped};
+ghost use Rattle.tv_numbers.specs.Tables.{writer_ops, results, flags};
+ghost use Rattle.tv_numbers.specs.Views.{flag_of};
+ghost use Rattle.tv_word.specs.Widths.{IsWidth};
+
+use crate::arithmetic::{
+    high_product, high_signed, inverted, is_wide, low, quotient, remainder, shifted_left,
+    shifted_right, sign_bit, signed_word,
+};
+use crate::filling_store::byte_of;
+use crate::step_numbers::StepNumbers;
+use tv_core::{F, Put, Values};
+use tv_regs::fill_write_reg;
+use tv_step::TraceState;
+
+/// Gives the values of the result: the result, whether it is written, and the registers after it.
+pub(crate) fn fill_result<const W: u32, V: Values>(
+    v: &mut V,
+    state: &TraceState,
+    step: &StepNumbers,
+) -> Put<()>
+    requires width { IsWidth W }
+    requires step { AreNumbers W (view_of state.now) step.now }
+    requires whole { V.giving.broken v.old ≡ false }
+    ensures gives { GivesIn V.giving v.old v.new (result_values W step.now.n (view_of state.now) step.now.instr step.now.word step.now.aux) result }
+    ensures whole { OnOk result (V.giving.broken v.new ≡ false) }
+{
+    let word = result_of::<W>(state, step);
+    let writes = writes(step.instr.op, state.flag);
+    v.give(F::from(word))?;
+    v.give(F::from(writes))?;
+    fill_write_reg(v, u32::from(step.instr.dest), writes, word, &state.regs)
+}
+
+// The result of a step.
+fn result_of<const W: u32>(state: &TraceState, step: &StepNumbers) -> u32
+    requires width { IsWidth W }
+    requires step { AreNumbers W (view_of state.now) step.now }
+    ensures { result ≡ result_in W step.now.n (view_of state.now) step.now.instr step.now.word step.now.aux }
+{
+    result_word::<W>(
+        step.instr.op,
+        step.other,
+        step.operand,
+        step.word,
+        step.found,
+    )
+}
+
+// What an instruction gives its destination register, where `x` is the other word, `a` the operand,
+// and `o` the data word; `found` tells whether a read finds it.
+fn result_word<const W: u32>(op: u8, x: u32, a: u32, o: u32, found: bool) -> u32
+    requires width { IsWidth W }
+    requires x_word { x < 2 ^ W }
+    requires a_word { a < 2 ^ W }
+    ensures { result ≡ chosen (results W x a o found) op }
+{
+    match op {
+        0 => x & a,
+        1 => x | a,
+        2 => x ^ a,
+        3 => inverted::<W>(a),
+        4 => low::<W>(u64::from(x) + u64::from(a)),
+        5 => low::<W>(u64::from(x) + ((1 << W) - u64::from(a))),
+        6 => low::<W>(u64::from(x) * u64::from(a)),
+        7 => high_product::<W>(x, a),
+        8 => high_signed::<W>(x, a).0,
+        9 => quotient(x, a),
+        10 => remainder(x, a),
+        11 => shifted_left::<W>(x, a),
+        12 => shifted_right::<W>(x, a),
+        18 | 19 => a,
+        27 => byte_of(o, a % (W / 8)),
+        29 => o,
+        30 if found => o,
+        _ => 0,
+    }
+}
+
+// Whether an instruction writes its destination register.
+fn writes(op: u8, flag: bool) -> bool
+    ensures { result ≡ (if op == 19 then flag_of flag == 1 else among writer_ops op) }
+{
+    match op {
+        0..=12 | 18 | 27 | 29 | 30 => true,
+        19 => flag,
+        _ => false,
+    }
+}
+
+/// Gives the value of the flag.
+pub(crate) fn fill_flag<const W: u32, V: Values>(
+    v: &mut V,
+    state: &TraceState,
+    step: &StepNumbers,
+) -> Put<()>
+    requires width { IsWidth W }
+    requires step { AreNumbers W (view_of state.now) step.now }
+    requires whole { V.giving.broken v.old ≡ false }
+    ensures gives { GivesIn V.giving v.old v.new ((stepped W step.now.n (view_of state.now) step.now.instr step.now.word step.now.aux).flag ∷ []) result }
+    ensures whole { OnOk result (V.giving.broken v.new ≡ false) }
+{
+    let flag = flag_after::<W>(
+        step.instr.op,
+        step.other,
+        step.operand,
+        step.found,
+        state.flag,
+    );
+    v.give(F::from(flag))
+}
+
+// The flag after an instruction, where `x` is the other word and `a` the operand; `found` tells
+// whether a read finds a word.
+fn flag_after<const W: u32>(op: u8, x: u32, a: u32, found: bool, flag: bool) -> bool
+    requires width { IsWidth W }
+    requires x_word { x < 2 ^ W }
+    requires a_word { a < 2 ^ W }
+    ensures { flag_of result ≡ chosen (flags W x a found (flag_of flag)) op }
+{
+    match op {
+        0 => (x & a) == 0,
+        1 => (x | a) == 0,
+        2 => (x ^ a) == 0,
+        3 => inverted::<W>(a) == 0,
+        4 => is_wide::<W>(u64::from(x) + u64::from(a)),
+        5 => x < a,
+        6 | 7 => is_wide::<W>(u64::from(x) * u64::from(a)),
+        8 => high_signed::<W>(x, a).1,
+        9 | 10 => a == 0,
+        11 => sign_bit::<W>(x),
+        12 => x % 2 == 1,
+        13 => x == a,
+        14 => x > a,
+        15 => x >= a,
+        16 => signed_word::<W>(x) > signed_word::<W>(a),
+        17 => signed_word::<W>(x) >= signed_word::<W>(a),
+        30 => !found,
+        18..=22 | 26..=29 | 31 => flag,
+        _ => false,
+    }
+}

@@ -1,0 +1,192 @@
+ghost use Rattle.std.specs.Prelude.{◌≡◌, ◌+◌, ◌*◌, ◌/◌, ◌<◌, ◌≤◌, ◌^◌, ◌++◌, ℕ};
+ghost use Rattle.std.specs.List.{range_with_len};
+ghost use Rattle.tv_block.specs.Block.{word_inverse, cell_of};
+ghost use Rattle.tv_block.specs.Complete.{block_made};
+ghost use Rattle.tv_block.specs.declared.records.StateWires.{StateWires};
+ghost use Rattle.tv_block.specs.Places.{operands_at, tapes_at, data_at, store_at, result_at, next_state, first_line, second_line, third_line, block_wires, IsShort};
+ghost use Rattle.tv_block.specs.Under.{StateUnder, LineUnder};
+ghost use Rattle.tv_lines.specs.Placed.{line_in};
+ghost use Rattle.tv_regs.specs.Reading.{wires_top};
+ghost use Rattle.tv_word.specs.Widths.{IsWidth};
+
+use crate::records::{Block, Spot, StateWires};
+use tv_bits::Bits;
+use tv_core::{F, Lc, LineLc, P, Wire};
+
+/// The state after a step whose first wire is `first`.
+pub fn next_state<const W: u32>(first: Wire) -> StateWires
+    requires width { IsWidth W }
+    requires within { first + block_made W < 2 ^ 32 }
+    ensures is { result ≡ next_state W first }
+    ensures below { StateUnder (first + block_made W) result }
+{
+    let tapes = first.offset(tapes_at::<W>());
+    let result = first.offset(result_at::<W>());
+    StateWires {
+        pc: result.offset(23),
+        regs: row(result.offset(3)),
+        flag: result.offset(19),
+        taken: tapes.offset(5),
+        ended: tapes.offset(7),
+    }
+}
+
+/// Line 0, 1 or 2 of a step from a state, the step's first wire being `first`: those of the two
+/// words of its instruction, and that of its data word, at `time` and the two times behind it. A
+/// combination has at most `W` terms. A `LineLc` is of some 8 KB.
+pub fn block_line<const W: u32>(first: Wire, state: &StateWires, time: u32, which: u32) -> LineLc
+    requires width { IsWidth W }
+    requires within { first + block_made W < 2 ^ 32 }
+    requires times { time + 2 < 2 ^ 32 }
+    requires which { which < 3 }
+    ensures is { result ≡ line_in (block_wires W state.now time first).lines which }
+    ensures short { IsShort result }
+    ensures below { state.now.pc < first + block_made W → LineUnder (first + block_made W) result }
+{
+    match which {
+        0 => first_line::<W>(first, state, time),
+        1 => second_line::<W>(first, state, time),
+        _ => third_line::<W>(first, time),
+    }
+}
+
+/// Where a step whose first wire is `first` takes a word of the auxiliary tape.
+pub fn block_spot<const W: u32>(first: Wire) -> Spot
+    requires width { IsWidth W }
+    requires within { first + block_made W < 2 ^ 32 }
+    ensures { (state : StateWires) (time : ℕ) → result ≡ (block_wires W state time first).spot }
+{
+    let tapes = first.offset(tapes_at::<W>());
+    Spot {
+        taken: tapes.offset(6),
+        word: tapes.offset(8 + W),
+    }
+}
+
+/// All that `block` answers for a step from a state, the step's first wire being `first`.
+pub fn block_wires<const W: u32>(first: Wire, state: &StateWires, time: u32) -> Block
+    requires width { IsWidth W }
+    requires within { first + block_made W < 2 ^ 32 }
+    requires times { time + 2 < 2 ^ 32 }
+    ensures { result ≡ block_wires W state.now time first }
+{
+    Block {
+        next: next_state::<W>(first),
+        lines: [
+            block_line::<W>(first, state, time, 0),
+            block_line::<W>(first, state, time, 1),
+            block_line::<W>(first, state, time, 2),
+        ],
+        spot: block_spot::<W>(first),
+        answers: first.offset(2 * W + 31),
+        value: first.offset(2 * W + 83),
+    }
+}
+
+// The line of an instruction's first word, which stays.
+fn first_line<const W: u32>(first: Wire, state: &StateWires, time: u32) -> LineLc
+    requires width { IsWidth W }
+    requires within { first + W < 2 ^ 32 }
+    ensures { result ≡ first_line W state.now time first }
+{
+    let word = Bits { first, n: W };
+    LineLc {
+        cell: cell_at::<W>(state.pc),
+        time: Lc::constant(F::from(time)),
+        old: word.lc(),
+        new: word.lc(),
+    }
+}
+
+// The line of its second word, which stands behind the first and stays too.
+fn second_line<const W: u32>(first: Wire, state: &StateWires, time: u32) -> LineLc
+    requires width { IsWidth W }
+    requires within { first + 2 * W < 2 ^ 32 }
+    requires times { time + 1 < 2 ^ 32 }
+    ensures { result ≡ second_line W state.now time first }
+{
+    let mut line = first_line::<W>(first.offset(W), state, time + 1);
+    line.cell.plus(F::ONE, Wire(0));
+    line
+}
+
+// The line of a step's data word.
+fn third_line<const W: u32>(first: Wire, time: u32) -> LineLc
+    requires width { IsWidth W }
+    requires within { first + block_made W < 2 ^ 32 }
+    requires times { time + 2 < 2 ^ 32 }
+    ensures { result ≡ third_line W time first }
+{
+    let looked = first.offset(data_at::<W>());
+    let stored = first.offset(store_at::<W>());
+    LineLc {
+        cell: Lc::wire(looked.offset(W + 2)),
+        time: Lc::constant(F::from(time + 2)),
+        old: Lc::wire(looked.offset(W + 3)),
+        new: Lc::wire(stored.offset(3 * (W / 16))),
+    }
+}
+
+// The cell of the word at which a program counter stands.
+fn cell_at<const W: u32>(pc: Wire) -> Lc
+    requires width { IsWidth W }
+    ensures { result ≡ cell_of W pc }
+{
+    let mut cell = Lc::empty();
+    cell.plus(word_inverse::<W>(), pc);
+    cell
+}
+
+// The inverse modulo P of how many bytes a word has, which divides P - 1.
+fn word_inverse<const W: u32>() -> F
+    requires width { IsWidth W }
+    ensures { result ≡ word_inverse W }
+{
+    F::of(P - (P - 1) / u64::from(W / 8))
+}
+
+// Sixteen wires in a row.
+fn row(first: Wire) -> [Wire; 16]
+    requires within { first + 16 < 2 ^ 32 }
+    ensures wires { result ≡ range_with_len first 16 }
+    ensures top { wires_top result ≤ first + 16 }
+{
+    let mut made = [first; 16];
+    for i in 0..16 {
+        made[i as usize] = first.offset(i);
+    }
+    made
+}
+
+// Where the wires of the tapes begin, counted from a step's first wire: after the instruction's
+// words and fields, the operands, and the operations.
+fn tapes_at<const W: u32>() -> u32
+    requires width { IsWidth W }
+    ensures { result ≡ tapes_at W }
+{
+    14 * W + W / 2 + 116 - W / 16
+}
+
+// Where those of the data word begin: after 8 of the tapes.
+fn data_at<const W: u32>() -> u32
+    requires width { IsWidth W }
+    ensures { result ≡ data_at W }
+{
+    tapes_at::<W>() + 8
+}
+
+// Where those of loads and stores begin.
+fn store_at<const W: u32>() -> u32
+    requires width { IsWidth W }
+    ensures { result ≡ store_at W }
+{
+    data_at::<W>() + W + 5
+}
+
+// Where those of the result and the registers begin.
+fn result_at<const W: u32>() -> u32
+    requires width { IsWidth W }
+    ensures { result ≡ result_at W }
+{
+    store_at::<W>() + 3 * (W / 16) + 1
+}

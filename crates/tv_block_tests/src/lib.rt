@@ -1,0 +1,13 @@
+//! Tests of a step through its public calls: a run of all instructions at both widths, step by step, over the
+//! generator's values and over the same with a wire raised, and sizes. They stand in a crate of their own,
+//! since a crate with tests is proved twice; nothing here is for callers.
+#![tactic(auto)]
+
+#[cfg(test)]
+mod program;
+#[cfg(test)]
+mod rows;
+#[cfg(test)]
+mod sizes;
+#[cfg(test)]
+mod wires;

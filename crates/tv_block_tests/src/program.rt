@@ -1,0 +1,54 @@
+//! A program of all 29 instructions, of which each is done once and in order.
+
+/// Its lines. At 16 bits a register's sum carries, and its signed products are of negative words.
+pub const LINES: [&str; 36] = [
+    "mov r1, 40000",
+    "mov r2, 5",
+    "and r3, r1, r2",
+    "or r3, r1, r2",
+    "xor r3, r1, r2",
+    "not r3, r1",
+    "add r3, r1, r1",
+    "sub r3, r2, r1",
+    "mull r3, r1, r3",
+    "umulh r3, r1, r3",
+    "smulh r3, r1, r3",
+    "udiv r3, r1, r2",
+    "umod r3, r1, 7",
+    "udiv r3, r1, 0",
+    "shl r3, r1, 3",
+    "shr r3, r1, 3",
+    "cmpe r1, 40000",
+    "cmpa r1, r2",
+    "cmpae r2, r2",
+    "cmpg r2, r1",
+    "cmov r4, 9",
+    "cmpge r2, 6",
+    "cmov r5, 9",
+    "store.w 4096, r1",
+    "load.w r6, 4097",
+    "store.b 4099, r2",
+    "load.b r7, 4098",
+    "read r8, 0",
+    "read r8, 0",
+    "read r8, 1",
+    "read r8, 1",
+    "read r8, 1",
+    "cjmp _a",
+    "_a: cnjmp _b",
+    "_b: jmp _c",
+    "_c: answer r3",
+];
+
+/// What stands before them.
+pub const HEADER_32: &str = "; TinyRAM W=32\n";
+
+pub const HEADER_16: &str = "; TinyRAM W=16\n";
+
+/// The place of the read of the auxiliary tape after its end.
+pub const LATE_READ: usize = 31;
+
+/// The words of the two tapes.
+pub const TAPE: [u32; 1] = [11];
+
+pub const AUX: [u32; 1] = [22];
