@@ -19,7 +19,7 @@ use Rattle.tv_step.specs.Range.{AreWords}
 use Rattle.tv_word.specs.Widths.{IsWidth}
 use Rattle.tv_layout.proofs.Positions.{words_turn}
 use Rattle.tv_layout.specs.Layout.{word_of, words_of, none_of, tie_of}
-use Rattle.tv_layout.specs.declared.wires.Reached.{Reached}
+use Rattle.tv_block.specs.declared.records.Reached.{Reached}
 
 -- what is at a place of a list that z has
 pub at_place : (z x : List ℕ) (k : ℕ) → HasFrom z k x → (i : ℕ) → i < length x → slice_index z (k + i) ≡ slice_index x i

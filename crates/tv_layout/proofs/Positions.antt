@@ -14,7 +14,7 @@ use Rattle.tv_layout.proofs.Blocks.{BlockSizes}
 use Rattle.tv_layout.specs.Blocks.{BlockCircuit}
 use Rattle.tv_layout.specs.Layout.{word_of, words_of, none_of, tie_of, step_of, steps_of, before_steps, lines_of, layout_of}
 use Rattle.tv_layout.specs.Places.{log_from, log_of, boot_count, line_count, tape_at, none_at, first_at}
-use Rattle.tv_layout.specs.declared.wires.Reached.{Reached}
+use Rattle.tv_block.specs.declared.records.Reached.{Reached}
 
 -- where the wires of the memory argument begin, each step making so many
 abbrev pub memory_at : ℕ → ℕ → ℕ → ℕ → ℕ

@@ -17,6 +17,7 @@ use Rattle.tv_numbers.specs.Views.{Matches}
 use Rattle.tv_step.specs.Cells.{boot_lines, IsInput}
 use Rattle.tv_step.specs.Machine.{start, Accepts}
 use Rattle.tv_step.specs.Range.{AreWords}
+use Rattle.tv_block.specs.Block.{reached}
 use Rattle.tv_layout.proofs.Ends.{words_there, are_words, none_there, tie_there}
 use Rattle.tv_layout.proofs.Positions.{layout_met, last_of, log_some, log_within}
 use Rattle.tv_layout.proofs.Run.{Known, known_at, accepts, reads_all}
@@ -25,7 +26,7 @@ use Rattle.tv_layout.proofs.Whole.{few, short, early, spare, lines, lines_valued
 use Rattle.tv_block.specs.Fetch.{state_in}
 use Rattle.tv_layout.proofs.Blocks.{BlockSizes, BlockIsSound}
 use Rattle.tv_layout.specs.Blocks.{BlockCircuit}
-use Rattle.tv_layout.specs.Layout.{steps_of, state_at, lines_of, taken_at, taken_of, layout, reached}
+use Rattle.tv_layout.specs.Layout.{steps_of, state_at, lines_of, taken_at, taken_of, layout}
 use Rattle.tv_layout.specs.Places.{WithinLimits, boot_count, line_count, log_of, tape_at, none_at, first_at}
 use Rattle.tv_layout.specs.Sound.{padding, IsRun}
 

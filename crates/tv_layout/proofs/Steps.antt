@@ -22,10 +22,10 @@ use Rattle.tv_step.specs.Rows.{instruction_size}
 use Rattle.tv_word.specs.Widths.{IsWidth}
 use Rattle.tv_layout.proofs.Boot.{word_fits, LinesFrom-append}
 use Rattle.tv_block.specs.Fetch.{state_in}
-use Rattle.tv_block.specs.Block.{IsMachineStep, did}
+use Rattle.tv_block.specs.Block.{IsMachineStep, did, reached}
 use Rattle.tv_layout.proofs.Blocks.{BlockSizes, BlockIsSound}
 use Rattle.tv_layout.specs.Blocks.{BlockCircuit}
-use Rattle.tv_layout.specs.Layout.{reached, before_steps, step_of, steps_of, state_at, block_at, taken_at}
+use Rattle.tv_layout.specs.Layout.{before_steps, step_of, steps_of, state_at, block_at, taken_at}
 use Rattle.tv_block.specs.declared.records.Block.{Block}
 use Rattle.tv_block.specs.declared.records.StateWires.{StateWires}
 

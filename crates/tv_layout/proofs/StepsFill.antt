@@ -23,6 +23,7 @@ use Rattle.tv_step.specs.Runs.{Answering}
 use Rattle.tv_step.specs.State.{State, Next}
 use Rattle.tv_step.specs.Trace.{lines_of}
 use Rattle.std.proofs.lemmas.List.Elements.{All-head}
+use Rattle.tv_block.specs.Block.{reached}
 use Rattle.tv_layout.proofs.Positions.{steps_next}
 use Rattle.tv_layout.proofs.Sound.{starts}
 use Rattle.tv_layout.proofs.StepFill.{Stepped, step_met, shows, sound, stepped}
@@ -32,7 +33,7 @@ use Rattle.tv_block.specs.Fetch.{state_in}
 use Rattle.tv_numbers.specs.Shown.{MayTake}
 use Rattle.tv_layout.proofs.Blocks.{BlockSizes, BlockIsSound, BlockIsComplete, Given}
 use Rattle.tv_layout.specs.Blocks.{BlockCircuit, BlockValues, told, values_for}
-use Rattle.tv_layout.specs.Layout.{reached, before_steps, step_of, steps_of, state_at, taken_at}
+use Rattle.tv_layout.specs.Layout.{before_steps, step_of, steps_of, state_at, taken_at}
 use Rattle.tv_layout.specs.Places.{boot_count}
 use Rattle.tv_layout.specs.Values.{step_values}
 

@@ -2,7 +2,6 @@
 use Rattle.std.proofs.Common.{ℕ, ◌-◌, length, arith}
 use Rattle.tv_block.proofs.BlockLaws.{block_sound}
 use Rattle.tv_block.proofs.MachineFills.{machine_step_met, machine_values_fit}
-use Rattle.tv_block.proofs.SizeFills.{block_sizes}
 use Rattle.tv_block.specs.Block.{block_of}
 use Rattle.tv_block.specs.Complete.{block_made, step_values}
 use Rattle.tv_numbers.proofs.RangeLaws.{flag_small}
@@ -11,16 +10,11 @@ use Rattle.tv_word.specs.Widths.{IsWidth}
 use Rattle.tv_layout.proofs.Fill.{fill_complete}
 use Rattle.tv_layout.proofs.Reducing.{layout_reduces}
 use Rattle.tv_layout.proofs.Sound.{layout_sound}
-use Rattle.tv_layout.proofs.Blocks.{BlockSizes, BlockIsSound, BlockIsComplete}
+use Rattle.tv_layout.proofs.Blocks.{BlockIsSound, BlockIsComplete}
+use Rattle.tv_layout.proofs.Sized.{step_sized}
 use Rattle.tv_layout.specs.Systems.{SystemIsSound, SystemIsComplete, SystemReduces}
 
 module _ (w : ℕ) (width : IsWidth w) where
-  pub step_sized : BlockSizes (block_of w) (block_made w)
-  step_sized = record {
-    next = λ n state time next. block_sizes.end w width n state time next;
-    three = λ n state time next. block_sizes.three w n state time next;
-  }
-
   pub step_sound : BlockIsSound w (block_of w)
   step_sound z x state time next short early assigns range met = block_sound w width z x state time next short early assigns range met
 

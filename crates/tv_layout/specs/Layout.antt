@@ -14,8 +14,9 @@ use Rattle.tv_core.specs.declared.lines.LineLc.{LineLc}
 use Rattle.tv_memory.specs.Memory.{memory_of}
 use Rattle.tv_layout.specs.Blocks.{BlockCircuit}
 use Rattle.tv_layout.specs.Places.{boot_count, line_count, log_of, tape_at, none_at, first_at}
+use Rattle.tv_block.specs.Block.{reached}
 use Rattle.tv_block.specs.declared.records.Block.{Block}
-use Rattle.tv_layout.specs.declared.wires.Reached.{Reached}
+use Rattle.tv_block.specs.declared.records.Reached.{Reached}
 use Rattle.tv_block.specs.declared.records.Spot.{Spot}
 use Rattle.tv_block.specs.declared.records.StateWires.{StateWires}
 
@@ -42,9 +43,6 @@ first_state none = record { pc = none; regs = replicate 16 none; flag = none; ta
 
 abbrev pub before_steps : ℕ → Reached
 before_steps none = record { next = first_state none; answers = none; value = none }
-
-abbrev pub reached : Block → Reached
-reached made = record { next = made.next; answers = made.answers; value = made.value }
 
 -- the last step answers, and its value is the answer's wire
 unfoldable pub tie_of : Reached → Circuit (Unit {0})

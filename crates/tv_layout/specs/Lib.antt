@@ -1,7 +1,11 @@
 pub mod Blocks
+pub mod Costs
 pub mod Layout
 pub mod Places
+pub mod Reached
 pub mod Reduces
+pub mod Sizes
 pub mod Sound
 pub mod Systems
+pub mod Told
 pub mod Values

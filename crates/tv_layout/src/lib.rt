@@ -1,10 +1,25 @@
 //! The whole system: the constraints of a program's runs of so many steps, and the values of its
 //! wires. Its public wires are the answer and the words of the primary tape; the steps stand in a
 //! row, and an argument about memory holds their lines to be honest.
+//!
+//! `emit_system` puts a system into any sink, and `sizes` counts it; `line` and `spot` tell where
+//! its parts stand. None of them takes memory, since wires follow from places.
 #![tactic(auto)]
 
+mod costs;
+mod emitting;
 mod laws;
-mod wires;
+mod lines;
+mod listing;
+mod places;
+mod sizing;
+mod spots;
+mod stepping;
+mod totals;
 
-pub use laws::{systems_are_complete, systems_are_sound, systems_reduce};
-pub use wires::Reached;
+pub use costs::{Costs, constraint_costs, term_costs, wire_costs};
+pub use emitting::emit_system;
+pub use laws::{systems_are_complete, systems_are_sized, systems_are_sound, systems_reduce};
+pub use lines::line;
+pub use sizing::{count_system, sizes};
+pub use spots::spot;

@@ -1,0 +1,252 @@
+-- A line of a system by its place, and what it is made of.
+use Rattle.std.proofs.Common.{◌≡◌, ℕ, zero, suc, ◌+◌, ◌-◌, ◌*◌, ◌/◌, ◌%◌, ◌<◌, ◌≤◌, ◌^◌, List, [], ◌∷◌, ◌++◌, length, map, All, inl, inr, refl, sym, ap, ap₂, ◌∙◌, arith, subst, add-zero, get_or}
+use Rattle.std.specs.List.{range_with_len}
+use Rattle.std.specs.Prelude.{slice_index}
+use Rattle.std.proofs.Math.Nat.{mul-le-mul_right}
+use Rattle.std.proofs.lemmas.Bool.{cases_lt}
+use Rattle.std.proofs.lemmas.List.{length-append, length-map, get_or-map, get_or_append_left, get_or-append_right}
+use Rattle.std.proofs.lemmas.List.Elements.{All-get_or, All-from_get_or}
+use Rattle.std.proofs.lemmas.List.FromFn.{length-map-range_with_len, get_or-map-range_with_len}
+use Rattle.tv_block.proofs.Placed.{block_places}
+use Rattle.tv_block.specs.Block.{block_of}
+use Rattle.tv_block.specs.Complete.{block_made}
+use Rattle.tv_block.specs.Places.{next_state, first_line, second_line, third_line, block_wires, IsShort}
+use Rattle.tv_block.specs.declared.records.Block.{Block}
+use Rattle.tv_block.specs.declared.records.StateWires.{StateWires}
+use Rattle.tv_core.proofs.BelowLaws.{top-weighted}
+use Rattle.tv_core.proofs.JoinedLaws.{joined_below-suc, length-joined_below}
+use Rattle.tv_core.specs.Below.{joined_below}
+use Rattle.tv_core.specs.Circuits.{pure, turns, ◌>>=◌}
+use Rattle.tv_core.specs.Combinations.{wire, constant, top}
+use Rattle.tv_core.specs.Constraints.{Combination}
+use Rattle.tv_core.specs.declared.field.TheConstants.{P}
+use Rattle.tv_core.specs.declared.limits.TheConstants.{TAPE_CELLS, NULL_CELL}
+use Rattle.tv_core.specs.declared.lines.LineLc.{LineLc}
+use Rattle.tv_lines.specs.Placed.{no_line, line_in}
+use Rattle.tv_memory.specs.Memory.{IsMade}
+use Rattle.tv_word.specs.Widths.{IsWidth}
+use Rattle.tv_layout.proofs.Positions.{steps_next, log_above}
+use Rattle.tv_layout.proofs.Sized.{step_sized, placed_within}
+use Rattle.tv_layout.specs.Layout.{steps_of, state_at, block_at, boot_wires, boot_lines_of, padding_of, lines_of}
+use Rattle.tv_layout.specs.Places.{WithinLimits, boot_count, line_count, log_of, tape_at, none_at, first_at}
+use Rattle.tv_layout.specs.Told.{state_before, line_of_word}
+
+-- ---- lines that no step makes
+boot_wires_at : (cell time : ℕ) (words : List Combination) (i : ℕ) → i < length words → line_in (boot_wires cell time words) i ≡ line_of_word (cell + i) (time + i) (get_or words i [])
+boot_wires_at cell time [] i h = absurd (omega arith)
+boot_wires_at cell time (word ∷ words) zero h = rw (add-zero cell, add-zero time) refl
+boot_wires_at cell time (word ∷ words) (suc i) h =
+    let a : cell + suc i ≡ cell + 1 + i = omega arith in
+    let b : time + suc i ≡ time + 1 + i = omega arith in
+    rw (a, b) (boot_wires_at (cell + 1) (time + 1) words i (omega arith))
+
+length-boot_wires : (cell time : ℕ) (words : List Combination) → length (boot_wires cell time words) ≡ length words
+length-boot_wires cell time [] = refl
+length-boot_wires cell time (word ∷ words) = ap suc (length-boot_wires (cell + 1) (time + 1) words)
+
+padding_of_at : (time more i : ℕ) → i < more → line_in (padding_of time more) i ≡ line_of_word NULL_CELL (time + i) []
+padding_of_at time zero i h = absurd (omega arith)
+padding_of_at time (suc more) zero h = rw (add-zero time) refl
+padding_of_at time (suc more) (suc i) h = let a : time + suc i ≡ time + 1 + i = omega arith in rw a (padding_of_at (time + 1) more i (omega arith))
+
+length-padding_of : (time more : ℕ) → length (padding_of time more) ≡ more
+length-padding_of time zero = refl
+length-padding_of time (suc more) = ap suc (length-padding_of (time + 1) more)
+
+-- ---- the steps
+module _ (w : ℕ) (width : IsWidth w) (n time none first : ℕ) where
+  state_is : (i : ℕ) → state_at (block_of w) n time none first i ≡ state_before w none first i
+  unfolding steps_of turns pure ◌>>=◌
+  state_is zero = refl
+  state_is (suc i) =
+      ap (λ (b : Block). b.next) (block_places.answer w width n (steps_of (block_of w) n time i none first).answer.next (time + 3 * i) (steps_of (block_of w) n time i none first).next)
+      ∙ ap (next_state w) (steps_next (block_of w) (block_made w) (step_sized w width) n time i none first)
+
+  pub block_is : (i : ℕ) → block_at (block_of w) n time none first i ≡ block_wires w (state_before w none first i) (time + 3 * i) (first + i * block_made w)
+  block_is i =
+      block_places.answer w width n (state_at (block_of w) n time none first i) (time + 3 * i) (steps_of (block_of w) n time i none first).next
+      ∙ ap₂ (λ (s : StateWires) (at : ℕ). block_wires w s (time + 3 * i) at) (state_is i) (steps_next (block_of w) (block_made w) (step_sized w width) n time i none first)
+
+-- three lines each, one after another
+module _ (f : ℕ → List LineLc) (three : (i : ℕ) → length (f i) ≡ 3) where
+  length-thirds : (n : ℕ) → length (joined_below n f) ≡ n * 3
+  length-thirds n = length-joined_below n 3 f (λ i h. three i)
+
+  thirds : (n j : ℕ) → j < n * 3 → line_in (joined_below n f) j ≡ line_in (f (j / 3)) (j % 3)
+  thirds zero j h = absurd (omega arith)
+  thirds (suc n) j h = ap (λ l. line_in l j) (joined_below-suc n f) ∙ elim (cases_lt j (n * 3)) [
+    | inl here ↦ get_or_append_left (joined_below n f) (f n) no_line j (omega (arith, length-thirds n)) ∙ thirds n j here
+    | inr last ↦
+        let p : j / 3 ≡ n = omega arith in
+        let q : j % 3 ≡ j - n * 3 = omega arith in
+        get_or-append_right (joined_below n f) (f n) (n * 3) j no_line (length-thirds n) last ∙ sym (ap₂ (λ u v. line_in (f u) v) p q)
+  ]
+
+-- ---- any line
+module _ (w : ℕ) (image : List ℕ) (n t : ℕ) (fits : WithinLimits w image n t) where
+  abbrev all_lines : List LineLc
+  all_lines = lines_of (block_of w) w image n t
+
+  abbrev blocks : ℕ → List LineLc
+  blocks j = (block_at (block_of w) n (boot_count image n) (none_at w n) (first_at w n) j).lines
+
+  abbrev stepped : List LineLc
+  stepped = joined_below t blocks
+
+  abbrev tape : List LineLc
+  tape = boot_wires TAPE_CELLS (length image) (map wire (range_with_len tape_at n))
+
+  three : (j : ℕ) → length (blocks j) ≡ 3
+  three j = ap (λ (b : Block). length b.lines) (block_is w fits.width n (boot_count image n) (none_at w n) (first_at w n) j)
+
+  few : line_count image n t ≤ 2 ^ 20
+  few = omega (arith, fits.image_fits, fits.tape_fits, fits.steps_fit)
+
+  length-written : length (boot_wires 0 0 (map constant image)) ≡ length image
+  length-written = length-boot_wires 0 0 (map constant image) ∙ length-map image constant
+
+  length-tape : length tape ≡ n
+  length-tape = length-boot_wires TAPE_CELLS (length image) (map wire (range_with_len tape_at n)) ∙ length-map-range_with_len wire tape_at n
+
+  length-boot : length (boot_lines_of image n) ≡ boot_count image n
+  length-boot = length-append (boot_wires 0 0 (map constant image)) tape ∙ ap₂ (λ a b. a + b) length-written length-tape
+
+  length-front : length (boot_lines_of image n ++ stepped) ≡ line_count image n t
+  length-front =
+      let b = length-boot in
+      let s = length-thirds blocks three t in
+      length-append (boot_lines_of image n) stepped ∙ omega arith
+
+  pub line_number : length all_lines ≡ 2 ^ log_of (line_count image n t)
+  unfolding lines_of
+  line_number =
+      let front = length-front in
+      let above = log_above (line_count image n t) few in
+      let last = length-padding_of (line_count image n t) (2 ^ log_of (line_count image n t) - line_count image n t) in
+      length-append (boot_lines_of image n ++ stepped) _ ∙ omega arith
+
+  module _ (i : ℕ) where
+    pub in_image : i < length image → line_in all_lines i ≡ line_of_word i i (constant (slice_index image i))
+    unfolding lines_of
+    in_image h =
+        let b = length-boot in
+        let f = length-front in
+        let l = length-written in
+        let m = length-map image constant in
+        get_or_append_left (boot_lines_of image n ++ stepped) _ no_line i (omega arith)
+        ∙ get_or_append_left (boot_lines_of image n) stepped no_line i (omega arith)
+        ∙ get_or_append_left (boot_wires 0 0 (map constant image)) tape no_line i (omega arith)
+        ∙ boot_wires_at 0 0 (map constant image) i (omega arith)
+        ∙ ap₂ (λ (k : ℕ) (word : Combination). line_of_word k k word) (omega arith) (get_or-map constant image i 0 [] h)
+
+    pub in_tape : length image ≤ i → i < boot_count image n → line_in all_lines i ≡ line_of_word (TAPE_CELLS + (i - length image)) i (wire (tape_at + (i - length image)))
+    unfolding lines_of
+    in_tape above h =
+        let b = length-boot in
+        let f = length-front in
+        let k : ℕ = i - length image in
+        let z : length image + k ≡ i = omega arith in
+        get_or_append_left (boot_lines_of image n ++ stepped) _ no_line i (omega arith)
+        ∙ get_or_append_left (boot_lines_of image n) stepped no_line i (omega arith)
+        ∙ get_or-append_right (boot_wires 0 0 (map constant image)) tape (length image) i no_line length-written above
+        ∙ boot_wires_at TAPE_CELLS (length image) (map wire (range_with_len tape_at n)) k (omega (arith, length-map-range_with_len wire tape_at n))
+        ∙ ap₂ (λ (at : ℕ) (word : Combination). line_of_word (TAPE_CELLS + k) at word) z (get_or-map-range_with_len wire tape_at n k (tape_at + k) [] (omega arith) refl)
+
+    pub in_steps : boot_count image n ≤ i → i < line_count image n t
+        → line_in all_lines i ≡ line_in (block_wires w (state_before w (none_at w n) (first_at w n) ((i - boot_count image n) / 3)) (boot_count image n + 3 * ((i - boot_count image n) / 3)) (first_at w n + (i - boot_count image n) / 3 * block_made w)).lines ((i - boot_count image n) % 3)
+    unfolding lines_of
+    in_steps above h =
+        let j : ℕ = i - boot_count image n in
+        get_or_append_left (boot_lines_of image n ++ stepped) _ no_line i (omega (arith, length-front))
+        ∙ get_or-append_right (boot_lines_of image n) stepped (boot_count image n) i no_line length-boot above
+        ∙ thirds blocks three t j (omega arith)
+        ∙ ap (λ (b : Block). line_in b.lines (j % 3)) (block_is w fits.width n (boot_count image n) (none_at w n) (first_at w n) (j / 3))
+
+    pub in_padding : line_count image n t ≤ i → i < 2 ^ log_of (line_count image n t) → line_in all_lines i ≡ line_of_word NULL_CELL i []
+    unfolding lines_of
+    in_padding above h =
+        let k : ℕ = i - line_count image n t in
+        let z : line_count image n t + k ≡ i = omega arith in
+        get_or-append_right (boot_lines_of image n ++ stepped) _ (line_count image n t) i no_line length-front above
+        ∙ padding_of_at (line_count image n t) _ k (omega arith)
+        ∙ ap (λ at. line_of_word NULL_CELL at []) z
+
+-- ---- what it is made of
+word_made : (wires cell time : ℕ) (word : Combination) → 1 ≤ wires → top word ≤ wires → length word ≤ 32 → IsMade wires (line_of_word cell time word)
+word_made wires cell time word some h short = record {
+  cell = omega arith;
+  time = omega arith;
+  old = omega arith;
+  new = h;
+  cell_short = omega arith;
+  time_short = omega arith;
+  old_short = omega arith;
+  new_short = short;
+}
+
+short_made : (wires : ℕ) (line : LineLc) → IsShort line → top line.cell ≤ wires → top line.time ≤ wires → top line.old ≤ wires → top line.new ≤ wires → IsMade wires line
+short_made wires line short cell time old new = record {
+  cell = cell;
+  time = time;
+  old = old;
+  new = new;
+  cell_short = short.cell;
+  time_short = short.time;
+  old_short = short.old;
+  new_short = short.new;
+}
+
+module _ (w : ℕ) (width : IsWidth w) (state : StateWires) (time at wires : ℕ) (pc : state.pc < at) (end : at + block_made w ≤ wires) where
+  short_lines : (k : ℕ) → k < 3 → IsShort (line_in (block_wires w state time at).lines k)
+  short_lines k h = All-get_or IsShort (block_wires w state time at).lines k no_line h (block_places.short w width state time at)
+
+  block_line_made : (k : ℕ) → k < 3 → IsMade wires (line_in (block_wires w state time at).lines k)
+  block_line_made zero h =
+      let within = placed_within w width in
+      let word : top (first_line w state time at).old ≤ wires = omega (arith, top-weighted at w (λ i. 2 ^ i % P), within.head) in
+      short_made wires (first_line w state time at) (short_lines 0 h) (omega arith) (omega arith) word word
+  block_line_made (suc zero) h =
+      let within = placed_within w width in
+      let word : top (second_line w state time at).old ≤ wires = omega (arith, top-weighted (at + w) w (λ i. 2 ^ i % P), within.tail) in
+      short_made wires (second_line w state time at) (short_lines 1 h) (omega arith) (omega arith) word word
+  block_line_made (suc (suc zero)) h =
+      let within = placed_within w width in
+      short_made wires (third_line w time at) (short_lines 2 h) (omega (arith, within.cell)) (omega arith) (omega (arith, within.old)) (omega (arith, within.new))
+  block_line_made (suc (suc (suc k))) h = absurd (omega arith)
+
+pc_before : (w : ℕ) (width : IsWidth w) (none first i : ℕ) → none < first → (state_before w none first i).pc < first + i * block_made w
+pc_before w width none first zero h = omega arith
+pc_before w width none first (suc i) h = omega (arith, (placed_within w width).pc)
+
+module _ (w : ℕ) (image : List ℕ) (n t : ℕ) (fits : WithinLimits w image n t) where
+  abbrev made : ℕ → Type 0
+  made i = IsMade (first_at w n + t * block_made w) (line_in (lines_of (block_of w) w image n t) i)
+
+  step_made : (j : ℕ) → j < t * 3
+      → IsMade (first_at w n + t * block_made w) (line_in (block_wires w (state_before w (none_at w n) (first_at w n) (j / 3)) (boot_count image n + 3 * (j / 3)) (first_at w n + j / 3 * block_made w)).lines (j % 3))
+  step_made j h =
+      let q : ℕ = j / 3 in
+      let after : q + 1 ≤ t = omega arith in
+      block_line_made w fits.width (state_before w (none_at w n) (first_at w n) q) (boot_count image n + 3 * q) (first_at w n + q * block_made w) (first_at w n + t * block_made w)
+      (pc_before w fits.width (none_at w n) (first_at w n) q (omega arith)) (more (first_at w n) q t (block_made w) after) (j % 3) (omega arith)
+    where
+      more : (first q t made : ℕ) → q + 1 ≤ t → first + q * made + made ≤ first + t * made
+      more first q t made h = let p : (q + 1) * made ≤ t * made = mul-le-mul_right made h in omega arith
+
+  pub line_made : (i : ℕ) → i < 2 ^ log_of (line_count image n t) → made i
+  line_made i h = elim (cases_lt i (length image)) [
+    | inl here ↦ subst (IsMade _) (sym (in_image w image n t fits i here)) (word_made _ i i (constant (slice_index image i)) (omega arith) (omega arith) (omega arith))
+    | inr behind ↦ elim (cases_lt i (boot_count image n)) [
+      | inl here ↦ subst (IsMade _) (sym (in_tape w image n t fits i behind here)) (word_made _ (TAPE_CELLS + (i - length image)) i (wire (tape_at + (i - length image))) (omega arith) (omega arith) (omega arith))
+      | inr later ↦ elim (cases_lt i (line_count image n t)) [
+        | inl here ↦ subst (IsMade _) (sym (in_steps w image n t fits i later here)) (step_made (i - boot_count image n) (omega arith))
+        | inr last ↦ subst (IsMade _) (sym (in_padding w image n t fits i last h)) (word_made _ NULL_CELL i [] (omega arith) (omega arith) (omega arith))
+      ]
+    ]
+  ]
+
+  pub lines_made : All (IsMade (first_at w n + t * block_made w)) (lines_of (block_of w) w image n t)
+  lines_made = All-from_get_or (IsMade _) (lines_of (block_of w) w image n t) no_line (λ i h. line_made i (omega (arith, line_number w image n t fits)))
+
+  pub line_short : (i : ℕ) → i < 2 ^ log_of (line_count image n t) → IsShort (line_in (lines_of (block_of w) w image n t) i)
+  line_short i h = let m = line_made i h in record { cell = m.cell_short; time = m.time_short; old = m.old_short; new = m.new_short }

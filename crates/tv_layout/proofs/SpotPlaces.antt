@@ -1,0 +1,34 @@
+-- Where a step takes a word is among the wires of its system.
+use Rattle.std.proofs.Common.{◌≡◌, ℕ, ◌+◌, ◌*◌, ◌<◌, ◌≤◌, List, subst, ◌∙◌, arith}
+use Rattle.std.proofs.Math.Nat.{mul-le-mul_right}
+use Rattle.tv_benes.specs.declared.shape.Net.{Net}
+use Rattle.tv_block.specs.Complete.{block_made}
+use Rattle.tv_block.specs.Places.{tapes_at, data_at}
+use Rattle.tv_memory.specs.Memory.{memory_made}
+use Rattle.tv_layout.proofs.SystemSizes.{system_wires}
+use Rattle.tv_layout.specs.Places.{WithinLimits, line_count, log_of, first_at}
+use Rattle.tv_layout.specs.Systems.{system_of}
+
+suc_times : (a b : ℕ) → (a + 1) * b ≡ a * b + b
+suc_times a b = omega arith
+
+below : (first at wire offset before made all rest wires : ℕ) → at ≡ first + before → wire ≡ at + offset → offset < made → before + made ≤ all → wires ≡ first + all + rest → wire < wires
+below first at wire offset before made all rest wires begins is small steps total = omega (arith, begins, is, small, steps, total)
+
+module _ (w : ℕ) (net : Net) (image : List ℕ) (n t step : ℕ) (fits : WithinLimits w image n t) (within : step < t) where
+  -- a wire of a step is one of the system
+  of_step : (at wire offset : ℕ) → at ≡ first_at w n + step * block_made w → wire ≡ at + offset → offset < block_made w → wire < (system_of w net image n t).wires
+  of_step at wire offset begins is small =
+      let steps : (step + 1) * block_made w ≤ t * block_made w = mul-le-mul_right (block_made w) (let next : step + 1 ≤ t = omega (arith, within) in next) in
+      let last : step * block_made w + block_made w ≤ t * block_made w = subst (λ (k : ℕ). k ≤ t * block_made w) (suc_times step (block_made w)) steps in
+      below (first_at w n) at wire offset (step * block_made w) (block_made w) (t * block_made w) (memory_made net (log_of (line_count image n t))) (system_of w net image n t).wires begins is small last
+      (system_wires w net image n t fits ∙ joined (n * w) (t * block_made w) (memory_made net (log_of (line_count image n t))))
+    where
+      joined : (a b c : ℕ) → 2 + n + (a + 1 + b + c) ≡ 2 + n + a + 1 + b + c
+      joined a b c = omega arith
+
+  pub taken_below : (at wire : ℕ) → at ≡ first_at w n + step * block_made w → wire ≡ at + (tapes_at w + 6) → wire < (system_of w net image n t).wires
+  taken_below at wire begins is = of_step at wire (tapes_at w + 6) begins is (omega arith)
+
+  pub word_below : (at wire : ℕ) → at ≡ first_at w n + step * block_made w → wire ≡ at + (data_at w + w) → wire < (system_of w net image n t).wires
+  word_below at wire begins is = of_step at wire (data_at w + w) begins is (omega arith)

@@ -1,0 +1,22 @@
+use Rattle.std.proofs.Common.{sym, ◌∙◌, arith}
+use Rattle.tv_layout.proofs.LinePlaces.{in_image, in_tape, in_steps, in_padding}
+use Rattle.tv_layout.proofs.lines.line.Goals as goal
+
+pub returns-then-i-words-clause-is : goal.returns-then-i-words-clause-is
+returns-then-i-words-clause-is g c =
+    let is = rw (c.constant.ensures, c.from.ensures) at c.line_of_word.ensures in
+    is ∙ sym (in_image g.row.W c.args.image.now c.args.n c.args.t c.requires.fits c.args.i (omega arith))
+
+pub returns-then-i-boot-clause-is : goal.returns-then-i-boot-clause-is
+returns-then-i-boot-clause-is g c =
+    let is = rw (c.wire.ensures) at c.line_of_word-then-i-boot.ensures in
+    is ∙ sym (in_tape g.row.W c.args.image.now c.args.n c.args.t c.requires.fits c.args.i (omega arith) (omega arith))
+
+pub returns-then-i-boot-2-clause-is : goal.returns-then-i-boot-2-clause-is
+returns-then-i-boot-2-clause-is g c =
+    c.step_line.ensures.is ∙ sym (in_steps g.row.W c.args.image.now c.args.n c.args.t c.requires.fits c.args.i (omega arith) (omega arith))
+
+pub returns-else-i-boot-2-clause-is : goal.returns-else-i-boot-2-clause-is
+returns-else-i-boot-2-clause-is g c =
+    let is = rw (c.empty.ensures) at c.line_of_word-else-i-boot-2.ensures in
+    is ∙ sym (in_padding g.row.W c.args.image.now c.args.n c.args.t c.requires.fits c.args.i (omega arith) c.requires.within)

@@ -1,0 +1,94 @@
+ghost use Rattle.std.specs.Prelude.{◌≡◌, ◌+◌, ◌*◌, ◌≤◌, ◌<◌, false, IfOk};
+ghost use Rattle.tv_benes.specs.declared.shape.Net.{Net};
+ghost use Rattle.tv_block.specs.Block.{block_of};
+ghost use Rattle.tv_core.specs.Sinks.{PutsIn, Grows, Room};
+ghost use Rattle.tv_layout.specs.Layout.{word_of, words_of, none_of, tie_of, layout_of};
+ghost use Rattle.tv_layout.specs.Places.{WithinLimits};
+ghost use Rattle.tv_layout.specs.Reached.{ReachedUnder};
+ghost use Rattle.tv_layout.specs.Sizes.{system_made, system_added};
+ghost use Rattle.tv_word.specs.Widths.{IsWidth};
+
+use crate::listing::LayoutLines;
+use crate::places::log_of;
+use crate::stepping::steps;
+use tv_benes::Net;
+use tv_bits::bits;
+use tv_block::Reached;
+use tv_core::{F, Lc, Put, Sink, Wire};
+use tv_memory::memory;
+
+/// Puts the system of a program's runs of `t` steps on primary tapes of `n` words, over a network.
+/// The sink has the constant wire and the public ones, which are the answer's and the tape's, and no
+/// constraint. Nothing is kept, and no memory is taken.
+pub fn emit_system<const W: u32, S: Sink>(
+    image: &[u32],
+    n: u32,
+    t: u32,
+    net: Net,
+    s: &mut S,
+) -> Put<()>
+    requires fits { WithinLimits W image.now n t }
+    requires begins { S.meaning.wires s.old ≡ 2 + n }
+    requires empty { S.meaning.constraints s.old ≡ 0 }
+    requires whole { S.meaning.broken s.old ≡ false }
+    ensures puts { PutsIn S.meaning s.old s.new (layout_of (block_of W) W net image.now n t) result }
+    ensures grows { IfOk result (λ _. Grows S.meaning s.old s.new (system_made W net image.now n t) (system_added W net image.now n t)) }
+{
+    words::<W, S>(s, 2, n)?;
+    let none = none(s)?;
+    let last = steps::<W, S>(s, n, t, none)?;
+    tie(s, &last)?;
+    let k = log_of(image.len() as u32 + n + 3 * t);
+    memory(s, net, k, &LayoutLines::<W> { image, n, t })
+}
+
+// So many wires from a first one on are words.
+fn words<const W: u32, S: Sink>(s: &mut S, first: u32, n: u32) -> Put<()>
+    requires width { IsWidth W }
+    requires room { Room S.meaning s.old (n * W) (n * (W + 1)) }
+    requires made { first + n ≤ S.meaning.wires s.old }
+    ensures puts { PutsIn S.meaning s.old s.new (words_of W first n) result }
+    ensures grows { IfOk result (λ _. Grows S.meaning s.old s.new (n * W) (n * (W + 1))) }
+{
+    for i in 0..n {
+        word::<W, S>(s, first, i)?;
+    }
+    Ok(())
+}
+
+// One wire is a word.
+fn word<const W: u32, S: Sink>(s: &mut S, first: u32, i: u32) -> Put<()>
+    requires width { IsWidth W }
+    requires room { Room S.meaning s.old W (W + 1) }
+    requires made { first + i < S.meaning.wires s.old }
+    ensures puts { PutsIn S.meaning s.old s.new (word_of W first i) result }
+    ensures grows { IfOk result (λ _. Grows S.meaning s.old s.new W (W + 1)) }
+{
+    bits(s, &Lc::wire(Wire(first + i)), W)?;
+    Ok(())
+}
+
+// A wire that is held to 0.
+fn none<S: Sink>(s: &mut S) -> Put<Wire>
+    requires room { Room S.meaning s.old 1 1 }
+    ensures puts { PutsIn S.meaning s.old s.new none_of result }
+    ensures grows { IfOk result (λ _. Grows S.meaning s.old s.new 1 1) }
+    ensures below { IfOk result (λ w. w < S.meaning.wires s.new) }
+{
+    let w = s.fresh();
+    s.put(&Lc::wire(w), &Lc::constant(F::ONE), &Lc::empty())?;
+    Ok(w)
+}
+
+// The last step answers, and its value is the public answer.
+fn tie<S: Sink>(s: &mut S, last: &Reached) -> Put<()>
+    requires room { Room S.meaning s.old 0 2 }
+    requires last_made { ReachedUnder (S.meaning.wires s.old) last.now }
+    requires answer_made { 1 < S.meaning.wires s.old }
+    ensures puts { PutsIn S.meaning s.old s.new (tie_of last.now) result }
+    ensures grows { IfOk result (λ _. Grows S.meaning s.old s.new 0 2) }
+{
+    let one = Lc::constant(F::ONE);
+    s.put(&Lc::wire(last.answers), &one, &one)?;
+    s.put(&Lc::wire(last.value), &one, &Lc::wire(Wire(1)))
+}

@@ -1,0 +1,78 @@
+ghost use Rattle.std.specs.Prelude.{◌≡◌, ◌+◌, ◌*◌, ◌/◌, ◌%◌, ◌^◌, ◌≤◌, ◌<◌};
+ghost use Rattle.tv_block.specs.Block.{block_of};
+ghost use Rattle.tv_block.specs.Complete.{block_made};
+ghost use Rattle.tv_block.specs.Places.{block_wires, IsShort};
+ghost use Rattle.tv_layout.specs.Layout.{lines_of};
+ghost use Rattle.tv_layout.specs.Places.{WithinLimits, line_count, log_of, none_at, first_at};
+ghost use Rattle.tv_layout.specs.Told.{state_before, line_of_word};
+ghost use Rattle.tv_lines.specs.Placed.{line_in};
+ghost use Rattle.tv_word.specs.Widths.{IsWidth};
+
+use crate::places::{none_at, step_at};
+use crate::stepping::first_state;
+use tv_block::{StateWires, block_line, next_state};
+use tv_core::limits::{NULL_CELL, STEPS, TAPE_CELLS, TAPE_WORDS};
+use tv_core::{F, Lc, LineLc, Wire};
+
+/// Line `i` of a program's system, in time order: those of the image, of the words of the primary
+/// tape, of the steps, and padding. It takes the same time at each place, and no memory. Its
+/// combinations have at most 32 terms.
+pub fn line<const W: u32>(image: &[u32], n: u32, t: u32, i: u32) -> LineLc
+    requires fits { WithinLimits W image.now n t }
+    requires within { i < 2 ^ log_of (line_count image.now n t) }
+    ensures is { result ≡ line_in (lines_of (block_of W) W image.now n t) i }
+    ensures short { IsShort result }
+{
+    let words = image.len() as u32;
+    let boot = words + n;
+    if i < words {
+        line_of_word(i, i, Lc::constant(F::from(image[i as usize])))
+    } else if i < boot {
+        let at = i - words;
+        line_of_word(TAPE_CELLS + at, i, Lc::wire(Wire(2 + at)))
+    } else if i < boot + 3 * t {
+        step_line::<W>(n, boot, i - boot)
+    } else {
+        line_of_word(NULL_CELL, i, Lc::empty())
+    }
+}
+
+// A line that no step makes.
+fn line_of_word(cell: u32, time: u32, word: Lc) -> LineLc
+    ensures { result ≡ line_of_word cell time word }
+{
+    LineLc {
+        cell: Lc::constant(F::from(cell)),
+        time: Lc::constant(F::from(time)),
+        old: Lc::empty(),
+        new: word,
+    }
+}
+
+// Line j of the steps, of which the first begins at a time.
+fn step_line<const W: u32>(n: u32, time: u32, j: u32) -> LineLc
+    requires width { IsWidth W }
+    requires few { n ≤ TAPE_WORDS }
+    requires some { j < 3 * STEPS }
+    requires times { time + j + 3 < 2 ^ 32 }
+    ensures is { result ≡ line_in (block_wires W (state_before W (none_at W n) (first_at W n) (j / 3)) (time + 3 * (j / 3)) (first_at W n + j / 3 * block_made W)).lines (j % 3) }
+    ensures short { IsShort result }
+{
+    let step = j / 3;
+    let state = state_before::<W>(n, step);
+    block_line::<W>(step_at::<W>(n, step), &state, time + 3 * step, j % 3)
+}
+
+// The state before a step.
+fn state_before<const W: u32>(n: u32, step: u32) -> StateWires
+    requires width { IsWidth W }
+    requires few { n ≤ TAPE_WORDS }
+    requires some { step < STEPS }
+    ensures { result ≡ state_before W (none_at W n) (first_at W n) step }
+{
+    if step == 0 {
+        first_state(none_at::<W>(n))
+    } else {
+        next_state::<W>(step_at::<W>(n, step - 1))
+    }
+}

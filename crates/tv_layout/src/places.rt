@@ -1,0 +1,50 @@
+ghost use Rattle.std.specs.Prelude.{◌≡◌, ◌+◌, ◌*◌, ◌^◌, ◌≤◌, ◌<◌};
+ghost use Rattle.tv_block.specs.Complete.{block_made};
+ghost use Rattle.tv_layout.specs.Places.{log_of, none_at, first_at};
+ghost use Rattle.tv_word.specs.Widths.{IsWidth};
+
+use crate::costs::wire_costs;
+use tv_core::Wire;
+use tv_core::limits::{STEPS, TAPE_WORDS};
+
+// 2^k.
+pub(crate) fn power(k: u32) -> u32
+    requires { k < 32 }
+    ensures { result ≡ 2 ^ k }
+{
+    1 << k
+}
+
+// The least k of at least 1 with `count` at most 2^k.
+pub(crate) fn log_of(count: u32) -> u32
+    requires { count ≤ 2 ^ 20 }
+    ensures is { result ≡ log_of count }
+    ensures some { 1 ≤ result }
+    ensures few { result ≤ 20 }
+    ensures above { count ≤ 2 ^ result }
+{
+    let mut k = 1;
+    while count > power(k) {
+        k += 1;
+    }
+    k
+}
+
+// The wire that is held to 0.
+pub(crate) fn none_at<const W: u32>(n: u32) -> Wire
+    requires width { IsWidth W }
+    requires few { n ≤ TAPE_WORDS }
+    ensures { result ≡ none_at W n }
+{
+    Wire(2 + n + n * W)
+}
+
+// The first wire of a step.
+pub(crate) fn step_at<const W: u32>(n: u32, step: u32) -> Wire
+    requires width { IsWidth W }
+    requires few { n ≤ TAPE_WORDS }
+    requires some { step < STEPS }
+    ensures { result ≡ first_at W n + step * block_made W }
+{
+    none_at::<W>(n).offset(1 + step * wire_costs::<W>().step)
+}

@@ -1,0 +1,7 @@
+//! Tests of the whole system through its public calls: how large it is for small programs, by what
+//! its parts cost and by a sink that counts. They stand in a crate of their own, since a crate with
+//! tests is proved twice; nothing here is for callers.
+#![tactic(auto)]
+
+#[cfg(test)]
+mod sizing;
