@@ -1,0 +1,6 @@
+pub mod Counts
+pub mod Giving
+pub mod Packed
+pub mod Prepared
+pub mod Satisfying
+pub mod Told

@@ -1,0 +1,70 @@
+use Rattle.std.proofs.Common.{◌≡◌, ℕ, ◌+◌, List, length, map, ap, ap₂, ◌∙◌}
+use Rattle.tv_core.specs.declared.lines.PairNum.{PairNum}
+use Rattle.tv_fill.proofs.Prepared.{log_few, lines_fit, lines_in_range, routable, parts_fit, values_are}
+use Rattle.tv_fill.specs.Filled.{filled_values, lines_told}
+use Rattle.tv_layout.specs.Places.{line_count, log_of}
+use Rattle.tv_layout.specs.Systems.{run_values}
+use Rattle.tv_lines.specs.Packing.{unpacked}
+use Rattle.tv_memory.specs.Order.{address_order}
+use Rattle.tv_route.specs.Permutations.{IsRoutable}
+use Rattle.tv_route.specs.Route.{route_of}
+use Rattle.tv_fill.proofs.filling.prepare.Goals as goal
+
+pub pack_lines-requires-clause-few : goal.pack_lines-requires-clause-few
+pack_lines-requires-clause-few g c =
+    rw c.log_of-k.ensures (log_few g.row.W c.args.net c.args.image.now c.args.tape.now c.args.aux.now c.args.t c.requires.limits c.requires.tape_words c.requires.aux_words)
+
+pub pack_lines-requires-clause-fits : goal.pack_lines-requires-clause-fits
+pack_lines-requires-clause-fits g c =
+    rw c.log_of-k.ensures
+    (lines_fit g.row.W c.args.net c.args.image.now c.args.tape.now c.args.aux.now c.args.t c.requires.limits c.requires.tape_words c.requires.aux_words c.in_ok-answer.field-0.lines c.in_ok-answer.ensures.trace.lines)
+
+pub pack_lines-requires-clause-steps : goal.pack_lines-requires-clause-steps
+pack_lines-requires-clause-steps g c =
+    lines_in_range g.row.W c.args.net c.args.image.now c.args.tape.now c.args.aux.now c.args.t c.requires.limits c.requires.tape_words c.requires.aux_words c.in_ok-answer.field-0.lines c.in_ok-answer.ensures.trace.lines
+
+pub routing_settings-requires : goal.routing_settings-requires
+routing_settings-requires g c =
+    let pairs = c.in_ok-pairs.pairs.items in
+    let order = c.in_ok-order.order.items in
+    let packed : map unpacked pairs ≡ lines_told c.args.image.now c.args.tape.now c.in_ok-answer.field-0.lines (log_of (line_count c.args.image.now (length c.args.tape.now) c.args.t)) =
+    c.in_ok-pairs.ensures ∙ ap (lines_told c.args.image.now c.args.tape.now c.in_ok-answer.field-0.lines) c.log_of-k.ensures in
+    let ordered : order ≡ address_order (map unpacked pairs) = c.in_ok-order.ensures ∙ ap (λ (ps : List PairNum). address_order (map unpacked ps)) c.deref.ensures.value in
+    let is : IsRoutable order =
+    routable g.row.W c.args.net c.args.image.now c.args.tape.now c.args.aux.now c.args.t c.requires.limits c.requires.tape_words c.requires.aux_words
+    c.in_ok-answer.field-0.lines c.in_ok-answer.ensures.trace.lines c.in_ok-answer.field-0.states c.in_ok-answer.ensures.trace.states pairs packed order ordered in
+    rw c.deref-2.ensures.value is
+
+pub invariant_of-result : goal.invariant_of-result
+invariant_of-result g c =
+    let pairs = c.in_ok-pairs.pairs.items in
+    let order = c.in_ok-order.order.items in
+    let packed : map unpacked pairs ≡ lines_told c.args.image.now c.args.tape.now c.in_ok-answer.field-0.lines (log_of (line_count c.args.image.now (length c.args.tape.now) c.args.t)) =
+    c.in_ok-pairs.ensures ∙ ap (lines_told c.args.image.now c.args.tape.now c.in_ok-answer.field-0.lines) c.log_of-k.ensures in
+    let ordered : order ≡ address_order (map unpacked pairs) = c.in_ok-order.ensures ∙ ap (λ (ps : List PairNum). address_order (map unpacked ps)) c.deref.ensures.value in
+    let fit =
+    parts_fit g.row.W c.args.net c.args.image.now c.args.tape.now c.args.aux.now c.args.t c.requires.limits c.requires.tape_words c.requires.aux_words
+    c.in_ok-answer.field-0.lines c.in_ok-answer.ensures.trace.lines c.in_ok-answer.field-0.states c.in_ok-answer.ensures.trace.states pairs packed order ordered in
+    rw (c.in_ok-from_slice.ensures.items, c.in_ok-from_slice-2.ensures.items, c.log_of-k.ensures) fit
+
+pub returns-clause-filling : goal.returns-clause-filling
+returns-clause-filling g c =
+    let w : ℕ = g.row.W in
+    let first : ℕ = length c.args.image.now + length c.args.tape.now in
+    let v = c.in_ok-answer.field-0.answer in
+    let states = c.in_ok-answer.field-0.states in
+    let pairs = c.in_ok-pairs.pairs.items in
+    let order = c.in_ok-order.order.items in
+    let bits = c.in_ok-settings.settings in
+    let packed : map unpacked pairs ≡ lines_told c.args.image.now c.args.tape.now c.in_ok-answer.field-0.lines (log_of (line_count c.args.image.now (length c.args.tape.now) c.args.t)) =
+    c.in_ok-pairs.ensures ∙ ap (lines_told c.args.image.now c.args.tape.now c.in_ok-answer.field-0.lines) c.log_of-k.ensures in
+    let ordered : order ≡ address_order (map unpacked pairs) = c.in_ok-order.ensures ∙ ap (λ (ps : List PairNum). address_order (map unpacked ps)) c.deref.ensures.value in
+    let set : bits ≡ route_of c.args.net order = c.in_ok-settings.ensures ∙ ap (route_of c.args.net) c.deref-2.ensures.value in
+    let whole =
+    values_are w c.args.net c.args.image.now c.args.tape.now c.args.aux.now c.args.t c.requires.limits c.requires.tape_words c.requires.aux_words
+    c.in_ok-answer.field-0.lines c.in_ok-answer.ensures.trace.lines states c.in_ok-answer.ensures.trace.states pairs packed order ordered bits set v in
+    let values : filled_values w v c.in_ok-from_slice.field-0.items c.in_ok-from_slice-2.field-0.items first c.args.t states pairs c.args.net c.log_of-k.result order bits
+    ≡ run_values w c.args.net c.args.image.now c.args.tape.now c.args.aux.now c.args.t v =
+    ap₂ (λ (x y : List ℕ). filled_values w v x y first c.args.t states pairs c.args.net c.log_of-k.result order bits) c.in_ok-from_slice.ensures.items c.in_ok-from_slice-2.ensures.items
+    ∙ (ap (λ (k : ℕ). filled_values w v c.args.tape.now c.args.aux.now first c.args.t states pairs c.args.net k order bits) c.log_of-k.ensures ∙ whole) in
+    record { answer = c.in_ok-answer.ensures.trace.answer; values = values }

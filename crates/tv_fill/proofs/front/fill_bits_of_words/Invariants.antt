@@ -1,0 +1,12 @@
+use Rattle.std.proofs.Common.{◌≡◌, false}
+use Rattle.std.specs.Prelude.{slice_index}
+use Rattle.tv_bits.specs.Bits.{bits_values}
+use Rattle.tv_core.specs.Below.{joined_below}
+use Rattle.tv_core.specs.Giving.{GivesAll}
+use Rattle.tv_fill.proofs.front.fill_bits_of_words.Given as goal
+
+abbrev pub invariant-loop-i : goal.invariant-loop-i
+invariant-loop-i g l = record {
+  gives : GivesAll g.V.Values.giving l.initial.v l.v (joined_below l.i (λ i. bits_values (slice_index l.words i) g.row.W));
+  whole : g.V.Values.giving.broken l.v ≡ false;
+}

@@ -1,0 +1,79 @@
+-- What is given for a run, and what comes of asking for it.
+use Rattle.std.specs.Prelude.{◌≡◌, ◌⊎◌, ℕ, ◌+◌, ◌-◌, ◌*◌, ◌^◌, ◌<◌, ◌≤◌, Bool, List, [], ◌∷◌, ◌++◌, length, map, All, slice_index, Result, Ok, Err}
+use Rattle.tv_benes.specs.Items.{bit_at}
+use Rattle.tv_benes.specs.declared.shape.Net.{Net}
+use Rattle.tv_bits.specs.Bits.{bits_values}
+use Rattle.tv_core.specs.Below.{joined_below}
+use Rattle.tv_core.specs.Giving.{Giving, GivesAll, GivesSome}
+use Rattle.tv_core.specs.Lines.{Line}
+use Rattle.tv_core.specs.declared.lines.PairNum.{PairNum}
+use Rattle.tv_core.specs.declared.sink.SinkFault.TheVariants as sinks
+use Rattle.tv_fill.specs.Told.{told_values, StepInRange}
+use Rattle.tv_fill.specs.declared.fault.FillFault.{FillFault}
+use Rattle.tv_fill.specs.declared.fault.FillFault.TheVariants.{NoRun, Failed, Memory}
+use Rattle.tv_layout.specs.Sound.{padding}
+use Rattle.tv_layout.specs.Systems.{run_values}
+use Rattle.tv_lines.specs.Packing.{unpacked}
+use Rattle.tv_memory.specs.Memory.{place_at, level_values}
+use Rattle.tv_step.specs.Cells.{boot_lines}
+use Rattle.tv_step.specs.Machine.{start, end_of, Accepts}
+use Rattle.tv_step.specs.declared.lines.TraceState.{TraceState}
+use Rattle.tv_word.specs.Widths.{IsWidth}
+
+-- a filling: the run's answer, and the values that it gives
+pub record Filled : Type 0 where
+  pub answer : ℕ
+  pub values : List ℕ
+
+-- ---- its parts
+-- 1, the answer, the tape, its words' bits, and the wire that is 0
+abbrev pub front_values : ℕ → ℕ → List ℕ → List ℕ
+front_values w v x = (1 ∷ v ∷ x) ++ (joined_below (length x) (λ i. bits_values (slice_index x i) w) ++ 0 ∷ [])
+
+-- then the t steps, and the memory argument over 2 ^ k packed lines, in an order and with a network's bits
+unfoldable pub filled_values : ℕ → ℕ → List ℕ → List ℕ → ℕ → ℕ → List TraceState → List PairNum → Net → ℕ → List ℕ → List Bool → List ℕ
+filled_values w v x aux first t states pairs net k order bits =
+    front_values w v x
+    ++ (joined_below t (told_values w (length x) states aux pairs first) ++ level_values net (k - 1) (place_at order) (bit_at bits) (map unpacked pairs))
+
+-- the lines of an image's and a tape's words, those of steps, and padding up to 2 ^ k
+abbrev pub lines_told : List ℕ → List ℕ → List Line → ℕ → List Line
+lines_told image x steps k =
+    let count = length image + length x + length steps in
+    (boot_lines image x ++ steps) ++ padding count (2 ^ k - count)
+
+-- the parts fit each other
+pub record PartsFit (w n : ℕ) (aux : List ℕ) (first t : ℕ) (states : List TraceState) (pairs : List PairNum) (k : ℕ) (order : List ℕ) : Type 0 where
+  pub width : IsWidth w
+  pub short : n < 2 ^ 29
+  pub some : 1 ≤ k
+  pub few : k ≤ 20
+  pub states_many : length states ≡ t + 1
+  pub pairs_many : length pairs ≡ 2 ^ k
+  pub tape_fits : n ≤ first
+  pub steps_fit : first + 3 * t ≤ 2 ^ k
+  pub order_many : length order ≡ 2 ^ k
+  pub within : All (λ place. place < 2 ^ k) order
+  pub steps : (i : ℕ) → i < t → StepInRange w n states aux pairs first i
+
+-- ---- for a run
+-- the run of at most t steps answers, and the values are those of its system
+pub record IsFilling (w : ℕ) (net : Net) (image x aux : List ℕ) (t : ℕ) (filling : Filled) : Type 0 where
+  pub answer : Accepts w image x aux t filling.answer
+  pub values : filling.values ≡ run_values w net image x aux t filling.answer
+
+-- there are none: the run ends so, and answers nothing; or memory was wanting
+abbrev pub IsUnfilled : ℕ → List ℕ → List ℕ → List ℕ → ℕ → FillFault → Type 0
+IsUnfilled w image x aux t (NoRun end) = (end ≡ end_of w t (start w image x aux)) × ((v : ℕ) → Accepts w image x aux t v → ⊥)
+IsUnfilled w image x aux t Failed = ⊥
+IsUnfilled w image x aux t Memory = Unit {0}
+
+-- ---- to a taker
+-- what a call that gives the values of a run did: it gave all; or the run answers nothing, and nothing was given; or
+-- the taker refused one of them, and the count of the cause rose; or memory was wanting before the first
+module _ {V : Type 0} (m : Giving V) (w : ℕ) (net : Net) (image x aux : List ℕ) (t : ℕ) where
+  abbrev pub FillsIn : V → V → Result (Unit {0}) FillFault → Type 0
+  FillsIn old new (Ok done) = (v : ℕ) × Accepts w image x aux t v × GivesAll m old new (run_values w net image x aux t v)
+  FillsIn old new (Err (NoRun end)) = IsUnfilled w image x aux t (NoRun end) × (new ≡ old)
+  FillsIn old new (Err Failed) = (v : ℕ) × Accepts w image x aux t v × GivesSome m old new (run_values w net image x aux t v) sinks.Failed
+  FillsIn old new (Err Memory) = (new ≡ old) ⊎ ((v : ℕ) × Accepts w image x aux t v × GivesSome m old new (run_values w net image x aux t v) sinks.Memory)

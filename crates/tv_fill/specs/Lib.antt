@@ -1,0 +1,4 @@
+pub mod Faults
+pub mod Filled
+pub mod Laws
+pub mod Told

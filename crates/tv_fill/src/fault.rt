@@ -1,0 +1,52 @@
+ghost use Rattle.std.specs.Prelude.{◌≡◌};
+ghost use Rattle.tv_fill.specs.Faults.{trace_fault, taker_fault};
+ghost use Rattle.tv_fill.specs.declared.fault.FillFault.TheVariants.{Memory};
+
+use std::alloc::AllocError;
+use thiserror::Error;
+use tv_core::SinkFault;
+use tv_step::{End, TraceFault};
+
+/// Why the values of a run were not given.
+#[derive(Clone, Copy, PartialEq, Eq, Debug, Error)]
+pub enum FillFault {
+    /// The run doesn't answer within its steps; this is how it ends.
+    #[error("no answer")]
+    NoRun { end: End },
+    /// What the values were written to failed.
+    #[error("the writing failed")]
+    Failed,
+    /// Memory ran out.
+    #[error("out of memory")]
+    Memory,
+}
+
+impl From<AllocError> for FillFault {
+    ghost from_gives = { λ _ fault. fault ≡ Memory };
+
+    fn from(_: AllocError) -> FillFault {
+        FillFault::Memory
+    }
+}
+
+impl From<TraceFault> for FillFault {
+    ghost from_gives = { λ why fault. fault ≡ trace_fault why };
+
+    fn from(why: TraceFault) -> FillFault {
+        match why {
+            TraceFault::NoRun { end } => FillFault::NoRun { end },
+            TraceFault::Memory => FillFault::Memory,
+        }
+    }
+}
+
+impl From<SinkFault> for FillFault {
+    ghost from_gives = { λ why fault. fault ≡ taker_fault why };
+
+    fn from(why: SinkFault) -> FillFault {
+        match why {
+            SinkFault::Failed => FillFault::Failed,
+            SinkFault::Memory => FillFault::Memory,
+        }
+    }
+}

@@ -1,0 +1,17 @@
+//! The values of a system's wires for a run that answers: the run is made once, its lines are
+//! packed and sorted, and the values follow in the order of the wires.
+#![tactic(auto)]
+
+mod counting;
+mod fault;
+mod filling;
+mod front;
+mod laws;
+mod packing;
+mod steps;
+#[cfg(test)]
+mod tests;
+
+pub use fault::FillFault;
+pub use filling::{Filling, fill_system, prepare};
+pub use laws::fillings_satisfy;
