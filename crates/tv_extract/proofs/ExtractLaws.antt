@@ -1,0 +1,231 @@
+-- What is extracted is a run of the assignment, and each satisfying assignment has one.
+use Rattle.std.proofs.Common.{◌≡◌, ◌≢◌, ℕ, zero, suc, ◌+◌, ◌<◌, ◌^◌, Bool, true, false, List, [], ◌∷◌, ◌++◌, length, map, refl, sym, ap, ap₂, ◌∙◌, subst, Result, Ok, Err, All}
+use Rattle.std.proofs.lemmas.Bool.{ltb-true, lt-ltb, eq-eqb, eqb-true}
+use Rattle.std.proofs.lemmas.List.Elements.{All-nil, All-cons, All-head, All-tail}
+use Rattle.std.proofs.lemmas.List.FromFn.{length-range_with_len}
+use Rattle.std.proofs.lemmas.List.{length-map, map-append}
+use Rattle.std.specs.List.{range_with_len, flat_map}
+use Rattle.std.specs.Prelude.{◌==◌, nat_lt, slice_index}
+use Rattle.tv_benes.specs.declared.shape.Net.{Net}
+use Rattle.tv_block.specs.Block.{block_of}
+use Rattle.tv_block.specs.declared.records.Spot.{Spot}
+use Rattle.tv_core.specs.Below.{joined_below}
+use Rattle.tv_core.specs.Constraints.{Sat}
+use Rattle.tv_core.specs.Laws.{HasFrom}
+use Rattle.tv_step.proofs.EndLaws.{answer_is_within}
+use Rattle.tv_step.specs.Machine.{start, end_of, Accepts}
+use Rattle.tv_step.specs.Range.{AreWords}
+use Rattle.tv_step.specs.Reads.{Reads}
+use Rattle.tv_step.specs.declared.end.End.{End}
+use Rattle.tv_step.specs.declared.end.End.TheVariants as ends
+use Rattle.tv_layout.proofs.Systems.{system_sound}
+use Rattle.tv_layout.specs.Layout.{taken_at, taken_of, block_at}
+use Rattle.tv_layout.specs.Places.{WithinLimits, boot_count, none_at, first_at, tape_at}
+use Rattle.tv_layout.specs.Systems.{system_of}
+use Rattle.tv_extract.specs.Extracting.{◌>>=◌, taken_wire, taken_wires, word_at, words_at, answering, run_in}
+use Rattle.tv_extract.specs.Runs.{IsRunOf, ExtractedIsRun, HasRunIn, SatisfyingHaveRuns}
+use Rattle.tv_extract.specs.declared.run.ExtractFault.{ExtractFault}
+use Rattle.tv_extract.specs.declared.run.Run.{Run}
+
+-- ---- chains of answers
+then_ok : {A B : Type 0} (first : Result A ExtractFault) (f : A → Result B ExtractFault) (b : B) → (first >>= f) ≡ Ok b → (a : A) × (first ≡ Ok a) × (f a ≡ Ok b)
+then_ok (Ok a) f b e = (a, refl, e)
+then_ok (Err fault) f b e = absurd cc
+
+then_of : {A B : Type 0} (first : Result A ExtractFault) (f : A → Result B ExtractFault) (a : A) → first ≡ Ok a → (first >>= f) ≡ f a
+then_of first f a e = ap (λ r. r >>= f) e
+
+abbrev SameOk : {A : Type 0} → Result A ExtractFault → A → Type 0
+SameOk (Ok a) b = a ≡ b
+SameOk (Err fault) b = Unit {0}
+
+ok_same : {A : Type 0} (a b : A) (first : Result A ExtractFault) → first ≡ Ok a → first ≡ Ok b → a ≡ b
+ok_same a b first e f = subst (λ r. SameOk r b) e (subst (λ r. SameOk r b) (sym f) refl)
+
+-- ---- words at wires
+word_ok : (w : ℕ) (z : List ℕ) (wire v : ℕ) → word_at w z wire ≡ Ok v → (v ≡ slice_index z wire) × (v < 2 ^ w)
+word_ok w z wire v e = by_test (nat_lt (slice_index z wire) (2 ^ w)) refl
+  where
+    by_test : (b : Bool) → nat_lt (slice_index z wire) (2 ^ w) ≡ b → (v ≡ slice_index z wire) × (v < 2 ^ w)
+    by_test true test =
+        let same : word_at w z wire ≡ Ok (slice_index z wire) = rw test refl in
+        let is : v ≡ slice_index z wire = ok_same v (slice_index z wire) (word_at w z wire) e same in
+        (is, subst (λ u. u < 2 ^ w) (sym is) (ltb-true (slice_index z wire) (2 ^ w) test))
+    by_test false test =
+        let other : word_at w z wire ≡ Err (ExtractFault.WideWire wire) = rw test refl in
+        absurd cc
+
+word_is : (w : ℕ) (z : List ℕ) (wire : ℕ) → slice_index z wire < 2 ^ w → word_at w z wire ≡ Ok (slice_index z wire)
+word_is w z wire small = rw (lt-ltb (slice_index z wire) (2 ^ w) small) refl
+
+words_ok : (w : ℕ) (z wires words : List ℕ) → words_at w z wires ≡ Ok words → (words ≡ map (slice_index z) wires) × AreWords w words
+words_ok w z [] words e =
+    let none : words ≡ [] = ok_same words [] (words_at w z []) e refl in
+    (none, subst (AreWords w) (sym none) (All-nil (λ v. v < 2 ^ w)))
+words_ok w z (wire ∷ wires) words e =
+    let first = then_ok (word_at w z wire) (λ word. words_at w z wires >>= (λ words. Ok (word ∷ words))) words e in
+    let rest = then_ok (words_at w z wires) (λ words. Ok (first.0 ∷ words)) words first.2 in
+    let here = word_ok w z wire first.0 first.1 in
+    let more = words_ok w z wires rest.0 rest.1 in
+    let is : first.0 ∷ rest.0 ≡ words = ok_same (first.0 ∷ rest.0) words (Ok (first.0 ∷ rest.0)) refl rest.2 in
+    (sym is ∙ ap₂ (λ (v : ℕ) (vs : List ℕ). v ∷ vs) here.0 more.0, subst (AreWords w) is (All-cons (λ v. v < 2 ^ w) first.0 rest.0 here.1 more.1))
+
+words_are : (w : ℕ) (z wires : List ℕ) → AreWords w (map (slice_index z) wires) → words_at w z wires ≡ Ok (map (slice_index z) wires)
+words_are w z [] words = refl
+words_are w z (wire ∷ wires) words =
+    then_of (word_at w z wire) (λ word. words_at w z wires >>= (λ words. Ok (word ∷ words))) (slice_index z wire)
+    (word_is w z wire (All-head (λ v. v < 2 ^ w) (slice_index z wire) (map (slice_index z) wires) words))
+    ∙ then_of (words_at w z wires) (λ words. Ok (slice_index z wire ∷ words)) (map (slice_index z) wires)
+    (words_are w z wires (All-tail (λ v. v < 2 ^ w) (slice_index z wire) (map (slice_index z) wires) words))
+
+-- ---- the words of the tapes
+-- an assignment has at wires in a row what it has there
+has_row : (z : List ℕ) (first n : ℕ) → HasFrom z first (map (slice_index z) (range_with_len first n))
+has_row z first n = by_count n first
+  where
+    by_count : (n first : ℕ) → HasFrom z first (map (slice_index z) (range_with_len first n))
+    by_count zero first = tt
+    by_count (suc n) first = (refl, by_count n (first + 1))
+
+one_taken : (w : ℕ) (z : List ℕ) (spot : Spot) → taken_at (block_of w) z spot ≡ map (slice_index z) (taken_wire z spot)
+one_taken w z spot = by_test (slice_index z spot.taken == 1) refl
+  where
+    by_test : (b : Bool) → (slice_index z spot.taken == 1) ≡ b → taken_at (block_of w) z spot ≡ map (slice_index z) (taken_wire z spot)
+    by_test true e = rw e refl
+    by_test false e = rw e refl
+
+all_taken : (w : ℕ) (z : List ℕ) (spot : ℕ → Spot) (places : List ℕ) → flat_map (λ i. taken_at (block_of w) z (spot i)) places ≡ map (slice_index z) (flat_map (λ i. taken_wire z (spot i)) places)
+all_taken w z spot [] = refl
+all_taken w z spot (i ∷ places) =
+    ap₂ (λ (a b : List ℕ). a ++ b) (one_taken w z (spot i)) (all_taken w z spot places)
+    ∙ sym (map-append (slice_index z) (taken_wire z (spot i)) (flat_map (λ i. taken_wire z (spot i)) places))
+
+taken_is : (w : ℕ) (image : List ℕ) (n t : ℕ) (z : List ℕ) → taken_of (block_of w) w image n t z ≡ map (slice_index z) (taken_wires w image n t z)
+unfolding taken_of taken_wires joined_below
+taken_is w image n t z = all_taken w z (λ i. (block_at (block_of w) n (boot_count image n) (none_at w n) (first_at w n) i).spot) (range_with_len 0 t)
+
+-- ---- the end of the run
+answering_ok : (answer : ℕ) (tape aux : List ℕ) (end : End) (run : Run) → answering answer tape aux end ≡ Ok run
+    → (end ≡ ends.Answer answer run.step) × (run.answer ≡ answer) × (run.tape ≡ tape) × (run.aux ≡ aux)
+answering_ok answer tape aux (ends.Answer v step) run e = by_test (v == answer) refl
+  where
+    by_test : (b : Bool) → (v == answer) ≡ b → (ends.Answer v step ≡ ends.Answer answer run.step) × (run.answer ≡ answer) × (run.tape ≡ tape) × (run.aux ≡ aux)
+    by_test true test =
+        let same : v ≡ answer = eqb-true v answer test in
+        let ok : answering answer tape aux (ends.Answer v step) ≡ Ok (record { answer = answer; tape = tape; aux = aux; step = step }) = rw test refl in
+        let is : run ≡ record { answer = answer; tape = tape; aux = aux; step = step } = ok_same run _ (answering answer tape aux (ends.Answer v step)) e ok in
+        rw is (ap (λ u. ends.Answer u step) same, refl, refl, refl)
+    by_test false test =
+        let other : answering answer tape aux (ends.Answer v step) ≡ Err (ExtractFault.NotARun (ends.Answer v step)) = rw test refl in
+        absurd cc
+answering_ok answer tape aux (ends.Undefined op step) run e = absurd cc
+answering_ok answer tape aux (ends.Silent steps) run e = absurd cc
+
+same_end : (w : ℕ) (image : List ℕ) (t : ℕ) (x tape u aux : List ℕ) (v answer step : ℕ) → tape ≡ x → aux ≡ u → answer ≡ v
+    → end_of w t (start w image x u) ≡ ends.Answer v step → end_of w t (start w image tape aux) ≡ ends.Answer answer step
+same_end w image t x tape u aux v answer step same_tape same_aux same_answer e =
+    ap₂ (λ (l m : List ℕ). end_of w t (start w image l m)) same_tape same_aux ∙ e ∙ ap (λ a. ends.Answer a step) (sym same_answer)
+
+-- ---- the run, by what is found on the way
+pub words_small : (w : ℕ) (z wires words : List ℕ) → words_at w z wires ≡ Ok words → All (λ v. v < 2 ^ w) words
+words_small w z wires words e = (words_ok w z wires words e).1
+
+module _ (w : ℕ) (net : Net) (image : List ℕ) (n t : ℕ) (z : List ℕ) where
+  pub run_miscounted : length z ≢ (system_of w net image n t).wires → run_in w net image n t z ≡ Err (ExtractFault.WireCount (length z) (system_of w net image n t).wires)
+  unfolding run_in
+  run_miscounted other = by_test (length z == (system_of w net image n t).wires) refl
+    where
+      by_test : (b : Bool) → (length z == (system_of w net image n t).wires) ≡ b → run_in w net image n t z ≡ Err (ExtractFault.WireCount (length z) (system_of w net image n t).wires)
+      by_test true is = absurd (other (eqb-true (length z) (system_of w net image n t).wires is))
+      by_test false is = rw is refl
+
+  pub run_wide : (fault : ExtractFault) → length z ≡ (system_of w net image n t).wires → word_at w z 1 ≡ Err fault → run_in w net image n t z ≡ Err fault
+  unfolding run_in
+  run_wide fault many refused = rw (eq-eqb (length z) (system_of w net image n t).wires many, refused) refl
+
+  pub run_wide_tape : (answer : ℕ) (fault : ExtractFault) → length z ≡ (system_of w net image n t).wires → word_at w z 1 ≡ Ok answer
+      → words_at w z (range_with_len tape_at n) ≡ Err fault → run_in w net image n t z ≡ Err fault
+  unfolding run_in
+  run_wide_tape answer fault many first refused = rw (eq-eqb (length z) (system_of w net image n t).wires many, first, refused) refl
+
+  pub run_wide_aux : (answer : ℕ) (tape : List ℕ) (fault : ExtractFault) → length z ≡ (system_of w net image n t).wires → word_at w z 1 ≡ Ok answer
+      → words_at w z (range_with_len tape_at n) ≡ Ok tape → words_at w z (taken_wires w image n t z) ≡ Err fault → run_in w net image n t z ≡ Err fault
+  unfolding run_in
+  run_wide_aux answer tape fault many first second refused = rw (eq-eqb (length z) (system_of w net image n t).wires many, first, second, refused) refl
+
+  pub run_answering : (answer : ℕ) (tape aux : List ℕ) → length z ≡ (system_of w net image n t).wires → word_at w z 1 ≡ Ok answer
+      → words_at w z (range_with_len tape_at n) ≡ Ok tape → words_at w z (taken_wires w image n t z) ≡ Ok aux
+      → run_in w net image n t z ≡ answering answer tape aux (end_of w t (start w image tape aux))
+  unfolding run_in
+  run_answering answer tape aux many first second third = rw (eq-eqb (length z) (system_of w net image n t).wires many, first, second, third) refl
+
+-- ---- the laws
+pub extracted_is_run : ExtractedIsRun
+unfolding run_in
+extracted_is_run w net image z n t run e = by_test (length z == (system_of w net image n t).wires) refl
+  where
+    chain : Result Run ExtractFault
+    chain =
+        word_at w z 1
+        >>= (λ answer. words_at w z (range_with_len tape_at n)
+        >>= (λ tape. words_at w z (taken_wires w image n t z)
+        >>= (λ aux. answering answer tape aux (end_of w t (start w image tape aux)))))
+
+    of_chain : chain ≡ Ok run → IsRunOf w image n t z run
+    of_chain is =
+        let a = then_ok (word_at w z 1) _ run is in
+        let x = then_ok (words_at w z (range_with_len tape_at n)) _ run a.2 in
+        let u = then_ok (words_at w z (taken_wires w image n t z)) _ run x.2 in
+        let answer = word_ok w z 1 a.0 a.1 in
+        let tape = words_ok w z (range_with_len tape_at n) x.0 x.1 in
+        let aux = words_ok w z (taken_wires w image n t z) u.0 u.1 in
+        let end = answering_ok a.0 x.0 u.0 (end_of w t (start w image x.0 u.0)) run u.2 in
+        let answers : end_of w t (start w image run.tape run.aux) ≡ ends.Answer run.answer run.step =
+        same_end w image t x.0 run.tape u.0 run.aux a.0 run.answer run.step end.2 end.3 end.1 end.0 in
+        record {
+          answer = end.1 ∙ answer.0;
+          many = ap length (end.2 ∙ tape.0) ∙ length-map (range_with_len tape_at n) (slice_index z) ∙ length-range_with_len tape_at n;
+          tape = subst (HasFrom z tape_at) (sym (end.2 ∙ tape.0)) (has_row z tape_at n);
+          aux = end.3 ∙ aux.0 ∙ sym (taken_is w image n t z);
+          tape_words = subst (AreWords w) (sym end.2) tape.1;
+          aux_words = subst (AreWords w) (sym end.3) aux.1;
+          answers = answers;
+          within = (answer_is_within w t (start w image run.tape run.aux) run.answer run.step answers).1;
+        }
+
+    by_test : (b : Bool) → (length z == (system_of w net image n t).wires) ≡ b → IsRunOf w image n t z run
+    by_test true test = let same : run_in w net image n t z ≡ chain = rw test refl in of_chain (sym same ∙ e)
+    by_test false test =
+        let other : run_in w net image n t z ≡ Err (ExtractFault.WireCount (length z) (system_of w net image n t).wires) = rw test refl in
+        absurd cc
+
+pub satisfying_have_runs : SatisfyingHaveRuns
+unfolding run_in
+satisfying_have_runs w net image z n t fits sat =
+    let has : HasFrom z tape_at x = has_row z tape_at n in
+    let run = system_sound w net image x z t (subst (λ m. WithinLimits w image m t) (sym long) fits) has (subst (λ m. Sat (system_of w net image m t) z) (sym long) sat) in
+    by_run (subst (λ m. AreWords w (taken_of (block_of w) w image m t z)) long run.taken) run.tape run.answer
+    (subst (λ m. Accepts w image x (taken_of (block_of w) w image m t z) t (slice_index z 1)) long run.accepts)
+    (subst (λ m. Reads w image x (taken_of (block_of w) w image m t z) t ≡ taken_of (block_of w) w image m t z) long run.reads)
+  where
+    x : List ℕ
+    x = map (slice_index z) (range_with_len tape_at n)
+
+    long : length x ≡ n
+    long = length-map (range_with_len tape_at n) (slice_index z) ∙ length-range_with_len tape_at n
+
+    u : List ℕ
+    u = map (slice_index z) (taken_wires w image n t z)
+
+    by_run : AreWords w (taken_of (block_of w) w image n t z) → AreWords w x → slice_index z 1 < 2 ^ w → Accepts w image x (taken_of (block_of w) w image n t z) t (slice_index z 1)
+        → Reads w image x (taken_of (block_of w) w image n t z) t ≡ taken_of (block_of w) w image n t z → HasRunIn w net image n t z
+    by_run aux_words tape_words answer accepts reads =
+        let is : taken_of (block_of w) w image n t z ≡ u = taken_is w image n t z in
+        let end : end_of w t (start w image x u) ≡ ends.Answer (slice_index z 1) accepts.0 = subst (λ l. end_of w t (start w image x l) ≡ ends.Answer (slice_index z 1) accepts.0) is accepts.2 in
+        let counted : (length z == (system_of w net image n t).wires) ≡ true = eq-eqb (length z) (system_of w net image n t).wires sat.each_wire in
+        let same : (slice_index z 1 == slice_index z 1) ≡ true = eq-eqb (slice_index z 1) (slice_index z 1) refl in
+        record {
+          run = record { answer = slice_index z 1; tape = x; aux = u; step = accepts.0 };
+          is = rw (counted, word_is w z 1 answer, words_are w z (range_with_len tape_at n) tape_words, words_are w z (taken_wires w image n t z) (subst (AreWords w) is aux_words), end, same) refl;
+          reads = subst (λ l. Reads w image x l t ≡ l) is reads;
+        }

@@ -1,0 +1,3 @@
+pub mod ExtractLaws
+pub mod WordLaws
+pub mod TakenLaws

@@ -1,0 +1,79 @@
+-- Words at wires, one list after another.
+use Rattle.std.proofs.Common.{◌≡◌, ℕ, zero, suc, ◌+◌, ◌-◌, ◌<◌, List, [], ◌∷◌, ◌++◌, refl, ap, ◌∙◌, arith, add-one, zero-add, Result, Ok, Err}
+use Rattle.std.specs.List.{range_with_len}
+use Rattle.tv_core.proofs.BelowLaws.{range-more}
+use Rattle.tv_extract.specs.Extracting.{word_at, words_at}
+use Rattle.tv_extract.specs.declared.run.ExtractFault.{ExtractFault}
+
+-- what is known of the rest of a list
+abbrev Then : ℕ → List ℕ → List ℕ → List ℕ → List ℕ → Type 0
+Then w z xs ys more = (rest : List ℕ) → words_at w z xs ≡ Ok rest → words_at w z (xs ++ ys) ≡ Ok (rest ++ more)
+
+abbrev Refused : ℕ → List ℕ → List ℕ → List ℕ → ExtractFault → Type 0
+Refused w z xs ys fault = (rest : List ℕ) → words_at w z xs ≡ Ok rest → words_at w z (xs ++ ys) ≡ Err fault
+
+pub words_then : (w : ℕ) (z xs ys words more : List ℕ) → words_at w z xs ≡ Ok words → words_at w z ys ≡ Ok more → words_at w z (xs ++ ys) ≡ Ok (words ++ more)
+words_then w z [] ys words more e f = by_front words e
+  where
+    by_front : (front : List ℕ) → words_at w z [] ≡ Ok front → words_at w z ys ≡ Ok (front ++ more)
+    by_front [] e = f
+    by_front (v ∷ rest) e = absurd cc
+words_then w z (x ∷ xs) ys words more e f = by_word (word_at w z x) refl (λ rest rests. words_then w z xs ys rest more rests f)
+  where
+    by_words : (v : ℕ) (rest : Result (List ℕ) ExtractFault) → word_at w z x ≡ Ok v → words_at w z xs ≡ rest → Then w z xs ys more → words_at w z (x ∷ xs ++ ys) ≡ Ok (words ++ more)
+    by_words v (Ok rest) is rests later =
+        let whole : words_at w z (x ∷ xs) ≡ Ok (v ∷ rest) = rw (is, rests) refl in
+        let same : v ∷ rest ≡ words = cc in
+        rw (is, later rest rests) (ap (λ l. Ok (l ++ more)) same)
+    by_words v (Err fault) is rests later =
+        let whole : words_at w z (x ∷ xs) ≡ Err fault = rw (is, rests) refl in
+        absurd cc
+
+    by_word : (first : Result ℕ ExtractFault) → word_at w z x ≡ first → Then w z xs ys more → words_at w z (x ∷ xs ++ ys) ≡ Ok (words ++ more)
+    by_word (Ok v) is later = by_words v (words_at w z xs) is refl later
+    by_word (Err fault) is later =
+        let whole : words_at w z (x ∷ xs) ≡ Err fault = rw is refl in
+        absurd cc
+
+pub words_refused : (w : ℕ) (z xs ys : List ℕ) (wire : ℕ) (words : List ℕ) (fault : ExtractFault) → words_at w z xs ≡ Ok words → word_at w z wire ≡ Err fault
+    → words_at w z (xs ++ wire ∷ ys) ≡ Err fault
+words_refused w z [] ys wire words fault e refused = rw refused refl
+words_refused w z (x ∷ xs) ys wire words fault e refused = by_word (word_at w z x) refl (λ rest rests. words_refused w z xs ys wire rest fault rests refused)
+  where
+    by_words : (v : ℕ) (rest : Result (List ℕ) ExtractFault) → word_at w z x ≡ Ok v → words_at w z xs ≡ rest → Refused w z xs (wire ∷ ys) fault → words_at w z (x ∷ xs ++ wire ∷ ys) ≡ Err fault
+    by_words v (Ok rest) is rests later = rw (is, later rest rests) refl
+    by_words v (Err other) is rests later =
+        let whole : words_at w z (x ∷ xs) ≡ Err other = rw (is, rests) refl in
+        absurd cc
+
+    by_word : (first : Result ℕ ExtractFault) → word_at w z x ≡ first → Refused w z xs (wire ∷ ys) fault → words_at w z (x ∷ xs ++ wire ∷ ys) ≡ Err fault
+    by_word (Ok v) is later = by_words v (words_at w z xs) is refl later
+    by_word (Err other) is later =
+        let whole : words_at w z (x ∷ xs) ≡ Err other = rw is refl in
+        absurd cc
+
+one_word : (w : ℕ) (z : List ℕ) (wire v : ℕ) → word_at w z wire ≡ Ok v → words_at w z (wire ∷ []) ≡ Ok (v ∷ [])
+one_word w z wire v is = rw is refl
+
+-- wires in a row
+pub row_more : (w : ℕ) (z : List ℕ) (first n : ℕ) (words : List ℕ) (v : ℕ) → words_at w z (range_with_len first n) ≡ Ok words → word_at w z (first + n) ≡ Ok v
+    → words_at w z (range_with_len first (n + 1)) ≡ Ok (words ++ v ∷ [])
+row_more w z first n words v e is =
+    ap (λ m. words_at w z (range_with_len first m)) (add-one n)
+    ∙ ap (words_at w z) (range-more first n)
+    ∙ words_then w z (range_with_len first n) ((first + n) ∷ []) words (v ∷ []) e (one_word w z (first + n) v is)
+
+row_from : (first n m : ℕ) → range_with_len first (n + m) ≡ range_with_len first n ++ range_with_len (first + n) m
+row_from first zero m = let same : first + 0 ≡ first = omega arith in rw (zero-add m, same) refl
+row_from first (suc n) m =
+    let many : suc n + m ≡ suc (n + m) = omega arith in
+    let at : first + suc n ≡ first + 1 + n = omega arith in
+    rw (many, at) (ap (λ l. first ∷ l) (row_from (first + 1) n m))
+
+pub row_refused : (w : ℕ) (z : List ℕ) (first n i : ℕ) (words : List ℕ) (fault : ExtractFault) → i < n → words_at w z (range_with_len first i) ≡ Ok words
+    → word_at w z (first + i) ≡ Err fault → words_at w z (range_with_len first n) ≡ Err fault
+row_refused w z first n i words fault within e refused =
+    let more : n ≡ i + suc (n - i - 1) = omega arith in
+    ap (λ m. words_at w z (range_with_len first m)) more
+    ∙ ap (words_at w z) (row_from first i (suc (n - i - 1)))
+    ∙ words_refused w z (range_with_len first i) (range_with_len (first + i + 1) (n - i - 1)) (first + i) words fault e refused

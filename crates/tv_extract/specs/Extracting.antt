@@ -1,0 +1,55 @@
+-- The run that an assignment of a program's system has, whether or not it satisfies the system.
+use Rattle.std.specs.Prelude.{ℕ, ◌^◌, ◌==◌, nat_lt, if◌then◌else◌, List, [], ◌∷◌, length, slice_index, Result, Ok, Err}
+use Rattle.std.specs.List.{range_with_len}
+use Rattle.tv_benes.specs.declared.shape.Net.{Net}
+use Rattle.tv_block.specs.Block.{block_of}
+use Rattle.tv_block.specs.declared.records.Spot.{Spot}
+use Rattle.tv_core.specs.Below.{joined_below}
+use Rattle.tv_step.specs.Machine.{start, end_of}
+use Rattle.tv_step.specs.declared.end.End.{End}
+use Rattle.tv_step.specs.declared.end.End.TheVariants as ends
+use Rattle.tv_layout.specs.Layout.{block_at}
+use Rattle.tv_layout.specs.Places.{boot_count, none_at, first_at, tape_at}
+use Rattle.tv_layout.specs.Systems.{system_of}
+use Rattle.tv_extract.specs.declared.run.ExtractFault.{ExtractFault}
+use Rattle.tv_extract.specs.declared.run.ExtractFault.TheVariants.{WireCount, WideWire, NotARun}
+use Rattle.tv_extract.specs.declared.run.Run.{Run}
+
+infixl 10 ◌>>=◌
+abbrev pub ◌>>=◌ : {A B : Type 0} → Result A ExtractFault → (A → Result B ExtractFault) → Result B ExtractFault
+(Ok x) >>= f = f x
+(Err fault) >>= f = Err fault
+
+-- the wires at which the steps that take a word of the auxiliary tape have it: those whose `taken` is 1
+abbrev pub taken_wire : List ℕ → Spot → List ℕ
+taken_wire z spot = if slice_index z spot.taken == 1 then spot.word ∷ [] else []
+
+unfoldable pub taken_wires : ℕ → List ℕ → ℕ → ℕ → List ℕ → List ℕ
+taken_wires w image n t z = joined_below t (λ i. taken_wire z (block_at (block_of w) n (boot_count image n) (none_at w n) (first_at w n) i).spot)
+
+-- the word at a wire, which is refused where the number there is wide: none of w bits
+abbrev pub word_at : ℕ → List ℕ → ℕ → Result ℕ ExtractFault
+word_at w z wire = if nat_lt (slice_index z wire) (2 ^ w) then Ok (slice_index z wire) else Err (WideWire wire)
+
+-- those at wires, where none is wide; else the first that is
+abbrev pub words_at : ℕ → List ℕ → List ℕ → Result (List ℕ) ExtractFault
+words_at w z [] = Ok []
+words_at w z (wire ∷ wires) = word_at w z wire >>= (λ word. words_at w z wires >>= (λ words. Ok (word ∷ words)))
+
+-- a run that ends so, and has to answer a word
+abbrev pub answering : ℕ → List ℕ → List ℕ → End → Result Run ExtractFault
+answering answer tape aux (ends.Answer v step) =
+    if v == answer then Ok (record { answer = answer; tape = tape; aux = aux; step = step }) else Err (NotARun (ends.Answer v step))
+answering answer tape aux (ends.Undefined op step) = Err (NotARun (ends.Undefined op step))
+answering answer tape aux (ends.Silent steps) = Err (NotARun (ends.Silent steps))
+
+-- the run on the words at the public wires and those that are taken: first the number of values is compared with
+-- the wires, then each of these words is looked at, and then the machine has to answer the word at wire 1
+unfoldable pub run_in : ℕ → Net → List ℕ → ℕ → ℕ → List ℕ → Result Run ExtractFault
+run_in w net image n t z =
+    if length z == (system_of w net image n t).wires
+    then (word_at w z 1
+    >>= (λ answer. words_at w z (range_with_len tape_at n)
+    >>= (λ tape. words_at w z (taken_wires w image n t z)
+    >>= (λ aux. answering answer tape aux (end_of w t (start w image tape aux))))))
+    else Err (WireCount (length z) (system_of w net image n t).wires)

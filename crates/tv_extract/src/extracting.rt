@@ -1,0 +1,147 @@
+ghost use Rattle.std.specs.Prelude.{◌≡◌, ◌⊎◌, ◌+◌, ◌*◌, ◌/◌, ◌<◌, ◌≤◌, ◌^◌, length, All, slice_index, Ok, Err, IfOk, IfErr};
+ghost use Rattle.std.specs.List.{range_with_len};
+ghost use Rattle.tv_benes.specs.declared.shape.Net.{Net};
+ghost use Rattle.tv_layout.specs.Places.{WithinLimits, tape_at};
+ghost use Rattle.tv_step.specs.Machine.{start, end_of};
+ghost use Rattle.tv_word.specs.Widths.{IsWidth};
+ghost use Rattle.tv_extract.specs.Extracting.{word_at, words_at, taken_wires, run_in, answering};
+ghost use Rattle.tv_extract.specs.declared.run.ExtractFault.TheVariants.{Memory};
+
+use crate::run::{ExtractFault, Run};
+use std::alloc::{AllocError, Global};
+use tv_benes::Net;
+use tv_core::{F, Wire};
+use tv_layout::{sizes, spot};
+use tv_step::{End, Machine};
+use tv_word::Words;
+
+/// The run that an assignment has of the system of an image, a tape of `n` words and `t` steps.
+/// What is wrong is told in this order: the number of values (`WireCount`); the first public wire,
+/// or else the first word taken, in the order of steps, that is no word of `W` bits (`WideWire`);
+/// how the run on these words ends where it doesn't answer the word at wire 1 (`NotARun`). A
+/// satisfying assignment has none of these faults. Takes the time of the run and of telling the
+/// system's sizes, and memory for the words.
+#[tactic(auto, using(crate::proofs::ExtractLaws::words_small, crate::proofs::ExtractLaws::run_miscounted, crate::proofs::ExtractLaws::run_wide, crate::proofs::ExtractLaws::run_wide_tape, crate::proofs::ExtractLaws::run_wide_aux, crate::proofs::ExtractLaws::run_answering))]
+pub fn extract<const W: u32>(
+    alloc: Global,
+    image: &[u32],
+    n: u32,
+    t: u32,
+    net: Net,
+    values: &[F],
+) -> Result<Run, ExtractFault>
+    requires fits { WithinLimits W image.now n t }
+    requires image { length image.now * (W / 8) ≤ 2 ^ W }
+    ensures run { IfOk result (λ run. run_in W net image.now n t values.now ≡ Ok run) }
+    ensures fault { IfErr result (λ fault. (fault ≡ Memory) ⊎ (run_in W net image.now n t values.now ≡ Err fault)) }
+{
+    let wants = u64::from(sizes::<W>(image, n, t, net).wires);
+    let has = values.len() as u64;
+    if has != wants {
+        return Err(ExtractFault::WireCount { has, wants });
+    }
+    let answer = word::<W>(values, Wire(1))?;
+    let tape = tape_words::<W>(alloc, n, values)?;
+    let aux = taken_words::<W>(alloc, image, n, t, values)?;
+    let end = run_end::<W>(alloc, image, tape.as_slice(), aux.as_slice(), t)?;
+    answering(answer, tape, aux, end)
+}
+
+// The number at a wire, 0 where there is none.
+fn number(values: &[F], wire: Wire) -> F
+    ensures { result ≡ slice_index values.now wire }
+{
+    values.get(wire.0 as usize).copied().unwrap_or(F::ZERO)
+}
+
+// The word at a wire.
+fn word<const W: u32>(values: &[F], wire: Wire) -> Result<u32, ExtractFault>
+    requires width { IsWidth W }
+    ensures is { result ≡ word_at W values.now wire }
+{
+    let number = number(values, wire).number();
+    if number < 1 << W {
+        Ok(number as u32)
+    } else {
+        Err(ExtractFault::WideWire { at: wire.0 })
+    }
+}
+
+// The words of the primary tape.
+#[tactic(auto, using(crate::proofs::WordLaws::row_more, crate::proofs::WordLaws::row_refused))]
+fn tape_words<const W: u32>(alloc: Global, n: u32, values: &[F]) -> Result<Words, ExtractFault>
+    requires width { IsWidth W }
+    requires few { n < 2 ^ 29 }
+    ensures words { IfOk result (λ words. words_at W values.now (range_with_len tape_at n) ≡ Ok words) }
+    ensures fault { IfErr result (λ fault. (fault ≡ Memory) ⊎ (words_at W values.now (range_with_len tape_at n) ≡ Err fault)) }
+{
+    let mut words = Words::new(alloc);
+    for i in 0..n {
+        words.push(word::<W>(values, Wire(2 + i))?)?;
+    }
+    Ok(words)
+}
+
+// The words that the steps take.
+#[tactic(auto, using(crate::proofs::TakenLaws::taken_none, crate::proofs::TakenLaws::taken_more, crate::proofs::TakenLaws::taken_same, crate::proofs::TakenLaws::taken_refused))]
+fn taken_words<const W: u32>(
+    alloc: Global,
+    image: &[u32],
+    n: u32,
+    t: u32,
+    values: &[F],
+) -> Result<Words, ExtractFault>
+    requires fits { WithinLimits W image.now n t }
+    ensures words { IfOk result (λ words. words_at W values.now (taken_wires W image.now n t values.now) ≡ Ok words) }
+    ensures fault { IfErr result (λ fault. (fault ≡ Memory) ⊎ (words_at W values.now (taken_wires W image.now n t values.now) ≡ Err fault)) }
+{
+    let mut words = Words::new(alloc);
+    for step in 0..t {
+        let spot = spot::<W>(image, n, t, step);
+        if number(values, spot.taken) == F::ONE {
+            words.push(word::<W>(values, spot.word)?)?;
+        }
+    }
+    Ok(words)
+}
+
+// The words of a slice.
+fn words_of(alloc: Global, words: &[u32]) -> Result<Words, AllocError>
+    ensures { IfOk result (λ copied. copied ≡ words.now) }
+{
+    Ok(Vec::from_slice(alloc, words)?.into())
+}
+
+// How the run on two tapes ends.
+fn run_end<const W: u32>(
+    alloc: Global,
+    image: &[u32],
+    tape: &[u32],
+    aux: &[u32],
+    t: u32,
+) -> Result<End, AllocError>
+    requires width { IsWidth W }
+    requires image { length image.now * (W / 8) ≤ 2 ^ W }
+    requires tape { All (λ v. v < 2 ^ W) tape.now }
+    requires aux { All (λ v. v < 2 ^ W) aux.now }
+    ensures { IfOk result (λ end. end ≡ end_of W t (start W image.now tape.now aux.now)) }
+{
+    let tape = words_of(alloc, tape)?;
+    let aux = words_of(alloc, aux)?;
+    Machine::<W>::start(alloc, image, tape, aux)?.run(u64::from(t))
+}
+
+// The run that ends so, where it answers the word.
+fn answering(answer: u32, tape: Words, aux: Words, end: End) -> Result<Run, ExtractFault>
+    ensures { result ≡ answering answer tape aux end }
+{
+    match end {
+        End::Answer { value, step } if value == answer => Ok(Run {
+            answer,
+            tape,
+            aux,
+            step,
+        }),
+        _ => Err(ExtractFault::NotARun { end }),
+    }
+}

@@ -1,0 +1,14 @@
+//! The run that an assignment of a program's system has: its answer and its tape stand at the
+//! public wires, and the words that its steps take at the wires that they tell. Each satisfying
+//! assignment has one, and of others it is said what is wrong.
+#![tactic(auto)]
+
+mod extracting;
+mod laws;
+mod run;
+#[cfg(test)]
+mod tests;
+
+pub use extracting::extract;
+pub use laws::{extracted_are_runs, satisfying_have_runs};
+pub use run::{ExtractFault, Run};
