@@ -1,5 +1,6 @@
 -- What a call promises, from what reading found, from writing and from saying a line.
-use Rattle.std.proofs.Common.{◌≡◌, ◌≢◌, ℕ, ◌⊎◌, ◌≤◌, Bool, false, List, [], ◌∷◌, ◌++◌, take, Option, Some, None, option_map, true, Result, Ok, Err, inl, inr, refl, sym, ap, ◌∙◌, arith, rules}
+use Rattle.std.proofs.Common.{◌≡◌, ◌≢◌, ℕ, ◌⊎◌, ◌≤◌, Bool, false, List, [], ◌∷◌, ◌++◌, take, Option, Some, None, option_map, true, Result, Ok, Err, inl, inr, refl, sym, ap, ◌∙◌, subst, arith, rules}
+use Rattle.std.specs.Option.{IfSome}
 use Rattle.tv_files.specs.Outside.{Names, Outside, OnlyWrites}
 use Rattle.tv_word.specs.Counts.{Rose}
 use Rattle.tv_top.specs.declared.place.Amount.{Amount}
@@ -18,16 +19,16 @@ use Rattle.tv_top.specs.declared.refusal.Refusal.TheVariants as refusal
 use Rattle.tv_top.specs.declared.refusal.Stop.{Stop}
 use Rattle.tv_top.specs.declared.refusal.Stop.TheVariants.{Fault, Memory, Contents}
 use Rattle.tv_top.specs.declared.refusal.Size.{Size}
-use Rattle.tv_top.specs.declared.status.NoWhy.{NoWhy}
 use Rattle.tv_top.specs.declared.status.What.{What}
-use Rattle.tv_top.specs.declared.status.What.TheVariants.{Steps}
+use Rattle.tv_top.specs.declared.status.What.TheVariants.{Draws, Steps, TapeWords}
 use Rattle.tv_check.specs.declared.verdict.Verdict.TheVariants as verdict
 use Rattle.tv_top.specs.declared.status.Status.{Status}
 use Rattle.tv_top.specs.declared.status.Status.TheVariants as status
 use Rattle.tv_step.specs.declared.end.End.TheVariants as end
 use Rattle.tv_top.specs.Answers.{words_of, MayStop, quantities_of, IsOfWords, ChangedAt, IsSaid, Answers}
 use Rattle.tv_top.specs.Codes.{says}
-use Rattle.tv_top.specs.Ends.{files_with, IsCutAt, IsCutInWriting, Said, SaidPart, Ends, IsConcluded, Concludes, Writes, Closes, Finishes}
+use Rattle.tv_top.specs.Contents.{Content, bytes_in}
+use Rattle.tv_top.specs.Ends.{AreRead, files_with, IsCutAt, IsCutInWriting, Said, SaidPart, Ends, IsConcluded, Concludes, Writes, Closes, Finishes, Completes, Refuses}
 use Rattle.tv_top.specs.Finds.{IsOneOf, IsFound, Finds}
 use Rattle.tv_top.specs.Plan.{Named, Look, Outcome, Plan, Write, Answer, files_of, answer_by, answer_of, ending_by, comes_by}
 use Rattle.tv_top.proofs.Looking.{finds_comes}
@@ -40,12 +41,16 @@ abbrev of_words : Status → Option Refusal
 of_words status.Usage = Some refusal.Usage
 of_words (status.SameName first second) = Some (refusal.SameName first second)
 of_words (status.Limit Steps has most) = Some (refusal.Limit quantity.Steps has most)
+of_words (status.Limit TapeWords has most) = Some (refusal.Limit quantity.TapeWords has most)
+of_words (status.Limit Draws has most) = Some (refusal.Limit quantity.Draws has most)
 of_words _ = None
 
 words_is : (why : Refusal) → of_words (refusal_status why) ≡ Some why
 words_is refusal.Usage = refl
 words_is (refusal.SameName first second) = refl
 words_is (refusal.Limit quantity.Steps has most) = refl
+words_is (refusal.Limit quantity.TapeWords has most) = refl
+words_is (refusal.Limit quantity.Draws has most) = refl
 
 -- each refusal of words has a status of its own
 words_same : (why other : Refusal) → refusal_status why ≡ refusal_status other → why ≡ other
@@ -92,19 +97,19 @@ stop_faulty (Fault other) word e = cc
 stop_faulty Memory word e = cc
 stop_faulty (Contents b) word e = absurd ((bad_is b).1 word e)
 
--- a good end is done, or a no
-finish_good : (finish : Finish) → (finish_status finish ≡ status.Done) ⊎ ((why : NoWhy) × (finish_status finish ≡ status.No why))
-finish_good finishes.Quiet = inl refl
-finish_good (finishes.Run (end.Answer value step)) = inl refl
-finish_good (finishes.Run (end.Undefined op step)) = inr (_, refl)
-finish_good (finishes.Run (end.Silent steps)) = inr (_, refl)
-finish_good (finishes.Verdict verdict.Yes) = inl refl
-finish_good (finishes.Verdict (verdict.WireCount has wants)) = inr (_, refl)
-finish_good (finishes.Verdict (verdict.NoPublic at)) = inr (_, refl)
-finish_good (finishes.Verdict (verdict.NoConstraint at)) = inr (_, refl)
-
-finish_is : (finish : Finish) → of_words (finish_status finish) ≡ None
-finish_is finish = elim (finish_good finish) [ inl done ↦ ap of_words done | inr other ↦ ap of_words other.1 ]
+-- a good end is neither a refusal of words nor a fault
+finish_good : (finish : Finish) → (of_words (finish_status finish) ≡ None) × ((word : ℕ) → ¬ (finish_status finish ≡ status.FileFault word))
+finish_good finishes.Quiet = (refl, λ word e. cc)
+finish_good (finishes.Run (end.Answer value step)) = (refl, λ word e. cc)
+finish_good (finishes.Run (end.Undefined op step)) = (refl, λ word e. cc)
+finish_good (finishes.Run (end.Silent steps)) = (refl, λ word e. cc)
+finish_good (finishes.NoRun end) = (refl, λ word e. cc)
+finish_good (finishes.NotARun why) = (refl, λ word e. cc)
+finish_good (finishes.Verdict verdict.Yes) = (refl, λ word e. cc)
+finish_good (finishes.Verdict (verdict.WireCount has wants)) = (refl, λ word e. cc)
+finish_good (finishes.Verdict (verdict.NoPublic at)) = (refl, λ word e. cc)
+finish_good (finishes.Verdict (verdict.NoConstraint at)) = (refl, λ word e. cc)
+finish_good (finishes.Trial trial) = (refl, λ word e. cc)
 
 -- ---- a limit on a quantity that words tell is of no file
 
@@ -150,9 +155,6 @@ may_stop sizes (Contents (bad.Witness at why)) limited = tt
 may_stop sizes (Contents (bad.Image len)) limited = tt
 may_stop sizes (Contents (bad.Limit what has most)) limited = limited what has most refl
 
-finish_faultless : (finish : Finish) (word : ℕ) → ¬ (finish_status finish ≡ status.FileFault word)
-finish_faultless finish word e = elim (finish_good finish) [ inl done ↦ cc | inr other ↦ let is = other.1 in cc ]
-
 -- ---- what was concluded
 
 refuses_concluded : (ending : Ending) (words : ℕ) (old new : Outside) (result : Status) (why : Refusal) → IsConcluded ending words old new result → result ≡ refusal_status why → ending_status ending ≡ refusal_status why
@@ -185,10 +187,10 @@ concluded_since ending words old mid new result same faults wants (inr (inl faul
 concluded_since ending words old mid new result same faults wants (inr (inr memory)) = inr (inr (memory.0, omega (arith, memory.1), part_since old mid new (says ending) same memory.2))
 
 ends_answered : (answer : Answer) (words : ℕ) (files : Names) (old new : Outside) (result : Status) → new.contents ≡ files_with answer.writes (Some files) →
-    IsConcluded answer.ending words old new result → Ends answer words files old new result
-ends_answered answer words files old new result held (inl answered) = inl (record { status = answered.0; contents = held; said = answered.1 })
-ends_answered answer words files old new result held (inr (inl fault)) = inr (inr (inr (inl (fault.0, record { contents = held; said = fault.2 }))))
-ends_answered answer words files old new result held (inr (inr memory)) = inr (inr (inr (inr (memory.0, inr (inr (record { contents = held; said = memory.2 }))))))
+    AreRead answer.writes → IsConcluded answer.ending words old new result → Ends answer words files old new result
+ends_answered answer words files old new result held read (inl answered) = inl (record { status = answered.0; contents = held; read = read; said = answered.1 })
+ends_answered answer words files old new result held read (inr (inl fault)) = inr (inr (inr (inl (fault.0, record { contents = held; said = fault.2 }))))
+ends_answered answer words files old new result held read (inr (inr memory)) = inr (inr (inr (inr (memory.0, inr (inr (record { contents = held; said = memory.2 }))))))
 
 -- an end of which nothing is said
 silent : (ending : Ending) (words : ℕ) (old new : Outside) (result : Status) → says ending ≡ None → IsConcluded ending words old new result → (result ≡ ending_status ending) × (new.said ≡ old.said)
@@ -202,23 +204,23 @@ unchanged : (names : List Named) (old new : Option Names) → new ≡ old → Ch
 unchanged [] old new same = same
 unchanged (n ∷ ns) old new same = inl (unchanged ns old new same)
 
-changed_whole : (names : List Named) (bytes : List (List ℕ)) (old : Option Names) → ChangedAt names old (files_with (files_of names bytes) old)
-changed_whole [] bytes old = refl
+changed_whole : (names : List Named) (contents : List Content) (old : Option Names) → ChangedAt names old (files_with (files_of names contents) old)
+changed_whole [] contents old = refl
 changed_whole (n ∷ ns) [] old = inl (unchanged ns old old refl)
-changed_whole (n ∷ ns) (b ∷ bs) old = inr (b, changed_whole ns bs _)
+changed_whole (n ∷ ns) (c ∷ cs) old = inr (bytes_in c, changed_whole ns cs _)
 
-changed_cut : (word : ℕ) (names : List Named) (bytes : List (List ℕ)) (old new : Option Names) → IsCutAt word (files_of names bytes) old new → ChangedAt names old new
-changed_cut word [] bytes old new cut = absurd cut
+changed_cut : (word : ℕ) (names : List Named) (contents : List Content) (old new : Option Names) → IsCutAt word (files_of names contents) old new → ChangedAt names old new
+changed_cut word [] contents old new cut = absurd cut
 changed_cut word (n ∷ ns) [] old new cut = absurd cut
-changed_cut word (n ∷ ns) (b ∷ bs) old new (inl (is, inl same)) = inl (unchanged ns old new same)
-changed_cut word (n ∷ ns) (b ∷ bs) old new (inl (is, inr part)) = inr (take part.0 b, unchanged ns _ new part.1)
-changed_cut word (n ∷ ns) (b ∷ bs) old new (inr later) = inr (b, changed_cut word ns bs _ new later)
+changed_cut word (n ∷ ns) (c ∷ cs) old new (inl (is, inl same)) = inl (unchanged ns old new same)
+changed_cut word (n ∷ ns) (c ∷ cs) old new (inl (is, inr part)) = inr (take part.0 (bytes_in c), unchanged ns _ new part.1)
+changed_cut word (n ∷ ns) (c ∷ cs) old new (inr later) = inr (bytes_in c, changed_cut word ns cs _ new later)
 
-cut_at : (word : ℕ) (names : List Named) (bytes : List (List ℕ)) (old new : Option Names) → IsCutAt word (files_of names bytes) old new → IsOneOf word (words_of names)
-cut_at word [] bytes old new cut = absurd cut
+cut_at : (word : ℕ) (names : List Named) (contents : List Content) (old new : Option Names) → IsCutAt word (files_of names contents) old new → IsOneOf word (words_of names)
+cut_at word [] contents old new cut = absurd cut
 cut_at word (n ∷ ns) [] old new cut = absurd cut
-cut_at word (n ∷ ns) (b ∷ bs) old new (inl here) = inl here.0
-cut_at word (n ∷ ns) (b ∷ bs) old new (inr later) = inr (cut_at word ns bs _ new later)
+cut_at word (n ∷ ns) (c ∷ cs) old new (inl here) = inl here.0
+cut_at word (n ∷ ns) (c ∷ cs) old new (inr later) = inr (cut_at word ns cs _ new later)
 
 -- ---- writing, and what follows on it
 
@@ -232,7 +234,7 @@ finishes_by writes finish words (Err why) old mid new result writing closes = le
 -- words that are refused
 pub answers_refused : (request : Result Plan Refusal) (words : ℕ) (why : Refusal) (old new : Outside) (result : Status) → request ≡ Err why → Concludes (Refused why) words old new result → Answers request words old new result
 answers_refused request words why old new result refused concludes = rw refused (record {
-  ends = λ files told. ends_answered (answer_of (Err why) files) words files old new result (concludes.contents ∙ told) concludes.ended;
+  ends = λ files told. ends_answered (answer_of (Err why) files) words files old new result (concludes.contents ∙ told) tt concludes.ended;
   absent = λ files told. inl concludes.absent;
   refused = λ other e. let same : why ≡ other = cc in rw (← same) concludes.ended;
   refuses = λ other told e. ap Err (words_same why other (refuses_concluded (Refused why) words old new result other concludes.ended e));
@@ -248,7 +250,7 @@ answers_refused request words why old new result refused concludes = rw refused 
 ends_stopped : (places : List Named) (look : Look Outcome) (stop : Stop) (words : ℕ) (files : Names) (old new : Outside) (result : Status) → new.contents ≡ old.contents → old.contents ≡ Some files →
     IsFound (λ (o : Outcome). o) look (Err stop) → IsConcluded (Stopped stop) words old new result → Ends (answer_by places look) words files old new result
 ends_stopped places look (Contents bad) words files old new result same told is concluded =
-    rw is (ends_answered (record { looked = look.at; writes = []; ending = Stopped (Contents bad) }) words files old new result (same ∙ told) concluded)
+    rw is (ends_answered (record { looked = look.at; writes = []; ending = Stopped (Contents bad) }) words files old new result (same ∙ told) tt concluded)
 ends_stopped places look (Fault word) words files old new result same told within concluded =
     let nothing = silent (Stopped (Fault word)) words old new result refl concluded in
     inr (inl (word, nothing.0, within, record { contents = same; said = nothing.1 }))
@@ -282,44 +284,44 @@ answers_refused_files plan stop words old mid new result apart finds concludes =
 
 -- the answer to what was found
 abbrev found_answer : Plan → ℕ → Outcome → Answer
-found_answer plan at outcome = record { looked = at; writes = files_of plan.writes outcome.bytes; ending = Finished outcome.finish }
+found_answer plan at outcome = record { looked = at; writes = files_of plan.writes outcome.files; ending = Finished outcome.finish }
 
 not_missing : (look : Look Outcome) (outcome : Outcome) (word : ℕ) → look.gives ≡ Ok outcome → ¬ (look.gives ≡ Err (Fault word))
 not_missing look outcome word is missing = cc
 
 -- a plan whose files were found and written, and the line said
 answers_whole : (plan : Plan) (outcome : Outcome) (words : ℕ) (old mid after new : Outside) (result : Status) → plan.ends_by outcome.finish ≡ true →
-    Finds (λ (o : Outcome). o) (words_of plan.reads) plan.sizes plan.comes old mid (Ok outcome) → Writes (files_of plan.writes outcome.bytes) mid after (Ok tt) →
+    Finds (λ (o : Outcome). o) (words_of plan.reads) plan.sizes plan.comes old mid (Ok outcome) → Writes (files_of plan.writes outcome.files) mid after (Ok tt) →
     Concludes (Finished outcome.finish) words after new result → Answers (Ok plan) words old new result
 answers_whole plan outcome words old mid after new result may finds writes concludes =
     let finish = outcome.finish in
     let concluded = concluded_since (Finished finish) words old after new result (writes.only.said ∙ finds.only.said) (omega arith) (omega arith) concludes.ended in
-    let held : new.contents ≡ files_with (files_of plan.writes outcome.bytes) old.contents =
-    concludes.contents ∙ writes.ended ∙ ap (files_with (files_of plan.writes outcome.bytes)) finds.only.contents in
+    let held : new.contents ≡ files_with (files_of plan.writes outcome.files) old.contents =
+    concludes.contents ∙ writes.ended.0 ∙ ap (files_with (files_of plan.writes outcome.files)) finds.only.contents in
     record {
-      ends = λ files told. rw (finds.told files told) (ends_answered (found_answer plan (plan.comes files).at outcome) words files old new result (held ∙ ap (files_with (files_of plan.writes outcome.bytes)) told) concluded);
+      ends = λ files told. rw (finds.told files told) (ends_answered (found_answer plan (plan.comes files).at outcome) words files old new result (held ∙ ap (files_with (files_of plan.writes outcome.files)) told) writes.ended.1 concluded);
       absent = λ files told. elim (finds.absent files told) [
         | inl here ↦ inl (concludes.absent ∙ writes.only.absent files (finds.only.contents ∙ told) ∙ here)
         | inr missing ↦ absurd (not_missing (plan.comes files) outcome missing.0 (finds.told files told) missing.1)
       ];
       refused = λ why e. cc;
       refuses = λ why told e. absurd (let is = refuses_concluded (Finished finish) words old new result why concluded e in
-          let h : None ≡ Some why = sym (finish_is finish) ∙ ap of_words is ∙ words_is why in cc);
+          let h : None ≡ Some why = sym (finish_good finish).0 ∙ ap of_words is ∙ words_is why in cc);
       caused = λ word e. elim (caused_concluded (Finished finish) words old new result word concluded e) [
-        | inl is ↦ absurd (finish_faultless finish word is)
+        | inl is ↦ absurd ((finish_good finish).1 word is)
         | inr cause ↦ inr (inr cause)
       ];
       said = (Finished finish, may, said_concluded (Finished finish) words old new result concluded);
-      contents = rw held (changed_whole plan.writes outcome.bytes old.contents);
+      contents = rw held (changed_whole plan.writes outcome.files old.contents);
       later = search rules;
     }
 
 -- a plan whose files were found, and writing was cut short at a word, by a fault or by want of memory
 answers_cut : (plan : Plan) (outcome : Outcome) (words at : ℕ) (old mid new : Outside) (result : Status) → Finds (λ (o : Outcome). o) (words_of plan.reads) plan.sizes plan.comes old mid (Ok outcome) → OnlyWrites mid new →
-    IsCutAt at (files_of plan.writes outcome.bytes) mid.contents new.contents → ((result ≡ status.FileFault at) × Rose mid.write_faults new.write_faults) ⊎ (result ≡ status.Memory) → Answers (Ok plan) words old new result
+    IsCutAt at (files_of plan.writes outcome.files) mid.contents new.contents → ((result ≡ status.FileFault at) × Rose mid.write_faults new.write_faults) ⊎ (result ≡ status.Memory) → Answers (Ok plan) words old new result
 answers_cut plan outcome words at old mid new result finds only cut ended =
     let said : new.said ≡ old.said = only.said ∙ finds.only.said in
-    let held : IsCutAt at (files_of plan.writes outcome.bytes) old.contents new.contents = rw finds.only.contents at cut in
+    let held : IsCutAt at (files_of plan.writes outcome.files) old.contents new.contents = rw finds.only.contents at cut in
     record {
       ends = λ files told. let here : IsCutInWriting at (found_answer plan (plan.comes files).at outcome) files old new = record { contents = rw told at held; said = said } in
           rw (finds.told files told) (elim ended [ inl fault ↦ inr (inr (inl (at, fault.0, here))) | inr memory ↦ inr (inr (inr (inr (memory, inr (inl (at, here)))))) ]);
@@ -330,16 +332,16 @@ answers_cut plan outcome words at old mid new result finds only cut ended =
       refused = λ why e. cc;
       refuses = λ why told e. absurd (let h : None ≡ Some why = elim ended [ inl fault ↦ ap of_words (sym fault.0 ∙ e) ∙ words_is why | inr memory ↦ ap of_words (sym memory ∙ e) ∙ words_is why ] in cc);
       caused = λ word e. elim ended [
-        | inl fault ↦ let is = fault.0 in let same : at ≡ word = cc in inr (inl (rw same at (cut_at at plan.writes outcome.bytes old.contents new.contents held), let rose = fault.1 in omega (arith, rose)))
+        | inl fault ↦ let is = fault.0 in let same : at ≡ word = cc in inr (inl (rw same at (cut_at at plan.writes outcome.files old.contents new.contents held), let rose = fault.1 in omega (arith, rose)))
         | inr memory ↦ cc
       ];
       said = elim ended [ inl fault ↦ (Stopped (Fault at), tt, inl (fault.0, said)) | inr memory ↦ (Stopped Memory, tt, inl (memory, said)) ];
-      contents = changed_cut at plan.writes outcome.bytes old.contents new.contents held;
+      contents = changed_cut at plan.writes outcome.files old.contents new.contents held;
       later = search rules;
     }
 
 answers_finished : (plan : Plan) (outcome : Outcome) (words : ℕ) (old mid new : Outside) (result : Status) → plan.ends_by outcome.finish ≡ true →
-    Finds (λ (o : Outcome). o) (words_of plan.reads) plan.sizes plan.comes old mid (Ok outcome) → Finishes (files_of plan.writes outcome.bytes) outcome.finish words mid new result → Answers (Ok plan) words old new result
+    Finds (λ (o : Outcome). o) (words_of plan.reads) plan.sizes plan.comes old mid (Ok outcome) → Finishes (files_of plan.writes outcome.files) outcome.finish words mid new result → Answers (Ok plan) words old new result
 answers_finished plan outcome words old mid new result may finds (inl (after, writes, concludes)) = answers_whole plan outcome words old mid after new result may finds writes concludes
 answers_finished plan outcome words old mid new result may finds (inr (cut.Fault at, is, writes)) = answers_cut plan outcome words at old mid new result finds writes.only writes.ended.0 (inl (is, writes.ended.1))
 answers_finished plan outcome words old mid new result may finds (inr (cut.Memory, is, writes)) = answers_cut plan outcome words writes.ended.0 old mid new result finds writes.only writes.ended.1 (inr is)
@@ -348,7 +350,7 @@ answers_finished plan outcome words old mid new result may finds (inr (cut.Memor
 
 pub answers_found : {X A : Type 0} (plan : Plan) (view : X → A) (ends : A → Outcome) (due : Names → Look A) (found : X) (words : ℕ) (old mid new : Outside) (result : Status) →
     plan.comes ≡ (λ files. comes_by ends (due files)) → plan.ends_by (ends (view found)).finish ≡ true → Finds view (words_of plan.reads) plan.sizes due old mid (Ok found) →
-    Finishes (files_of plan.writes (ends (view found)).bytes) (ends (view found)).finish words mid new result → Answers (Ok plan) words old new result
+    Finishes (files_of plan.writes (ends (view found)).files) (ends (view found)).finish words mid new result → Answers (Ok plan) words old new result
 answers_found plan view ends due found words old mid new result is may finds finishes =
     answers_finished plan (ends (view found)) words old mid new result may (rw is (finds_comes view ends (words_of plan.reads) plan.sizes due old mid (Ok found) finds)) finishes
 
@@ -356,3 +358,25 @@ pub answers_stopped : {X A : Type 0} (plan : Plan) (view : X → A) (ends : A �
     plan.comes ≡ (λ files. comes_by ends (due files)) → AreApart plan.amounts plan.sizes → Finds view (words_of plan.reads) plan.sizes due old mid (Err stop) → Concludes (Stopped stop) words mid new result → Answers (Ok plan) words old new result
 answers_stopped plan view ends due stop words old mid new result is apart finds concludes =
     answers_refused_files plan stop words old mid new result apart (rw is (finds_comes view ends (words_of plan.reads) plan.sizes due old mid (Err stop) finds)) concludes
+
+-- memory may be wanting for what follows on a look
+finds_wanting : {X A : Type 0} (view : X → A) (words : List ℕ) (sizes : List Size) (due : Names → Look A) (found : X) (old new : Outside) → Finds view words sizes due old new (Ok found) → Finds view words sizes due old new (Err Memory)
+finds_wanting view words sizes due found old new finds = record { told = λ _ _. tt; absent = finds.absent; only = finds.only; caused = λ word e. cc; limits = λ what has most e. cc }
+
+pub answers_completed : {X A : Type 0} (plan : Plan) (view : X → A) (ends : A → Outcome) (due : Names → Look A) (found : X) (words : ℕ) (old mid new : Outside) (result : Status) →
+    plan.comes ≡ (λ files. comes_by ends (due files)) → plan.ends_by (ends (view found)).finish ≡ true → AreApart plan.amounts plan.sizes → Finds view (words_of plan.reads) plan.sizes due old mid (Ok found) →
+    Completes plan.writes (ends (view found)) words mid new result → Answers (Ok plan) words old new result
+answers_completed plan view ends due found words old mid new result is may apart finds (inl finishes) = answers_found plan view ends due found words old mid new result is may finds finishes
+answers_completed plan view ends due found words old mid new result is may apart finds (inr concludes) =
+    answers_stopped plan view ends due Memory words old mid new result is apart (finds_wanting view (words_of plan.reads) plan.sizes due found old mid finds) concludes
+
+no_files : (places : List Named) → files_of places [] ≡ []
+no_files [] = refl
+no_files (p ∷ ps) = refl
+
+-- an outcome of which nothing is written
+pub completes_nothing : (places : List Named) (outcome : Outcome) (finish : Option Finish) (words : ℕ) (old new : Outside) (result : Status) → IfSome finish (λ finish. outcome ≡ record { files = []; finish = finish }) →
+    Refuses finish words old new result → Completes places outcome words old new result
+completes_nothing places outcome None words old new result is refuses = inr refuses
+completes_nothing places outcome (Some finish) words old new result is refuses =
+    subst (λ outcome. Completes places outcome words old new result) (sym is) (inl (subst (λ writes. Finishes writes finish words old new result) (sym (no_files places)) refuses))

@@ -9,7 +9,7 @@ use Rattle.tv_top.specs.declared.refusal.Stop.TheVariants.{Fault, Memory, Conten
 use Rattle.tv_top.specs.declared.status.Status.{Status}
 use Rattle.tv_top.specs.declared.status.Status.TheVariants as status
 use Rattle.tv_top.specs.Answers.{Answers}
-use Rattle.tv_top.specs.Claims.{IsStopped, Holds, Then, status_by, contents_by, Comes}
+use Rattle.tv_top.specs.Claims.{IsStopped, Holds, Then, status_by, Answered, Comes}
 use Rattle.tv_top.specs.Ends.{IsAnswered, Ends}
 use Rattle.tv_top.specs.Plan.{Named, Plan, Look, Outcome, ◌>>=◌, held_at, input, made_of, comes_by, answer_by, answer_of}
 
@@ -20,7 +20,7 @@ stopped_by plan words old new result word answers e =
     inl (word, e, elim (answers.caused word e) [ inl read ↦ inl read.1 | inr (inl wrote) ↦ inr (inl wrote) | inr (inr said) ↦ inr (inr said.1) ])
 
 -- the answer that is due, or something stopped the call
-due_or_stopped : (plan : Plan) (words : ℕ) (files : Names) (old new : Outside) (result : Status) → Answers (Ok plan) words old new result →
+pub due_or_stopped : (plan : Plan) (words : ℕ) (files : Names) (old new : Outside) (result : Status) → Answers (Ok plan) words old new result →
     Ends (answer_of (Ok plan) files) words files old new result → IsAnswered (answer_of (Ok plan) files) files old new result ⊎ IsStopped plan.writes old new result
 due_or_stopped plan words files old new result answers (inl answered) = inl answered
 due_or_stopped plan words files old new result answers (inr (inl read)) = inr (stopped_by plan words old new result read.0 answers read.1)
@@ -39,19 +39,19 @@ IsOne {A} Held = (one other : Result A Bad) → Held one → Held other → one 
 -- how a call ended, by what is so of what was found
 abbrev Ended : {A : Type 0} → List Named → (A → Outcome) → (Result A Bad → Type 0) → Names → Outside → Outside → Status → Type 0
 Ended {A} places ends Held files old new result =
-    ((held : Result A Bad) × Held held × (result ≡ status_by ends held) × (new.contents ≡ contents_by places ends held files)) ⊎ IsStopped places old new result
+    Answered places ends Held files new result ⊎ IsStopped places old new result
 
 ended_by : {A : Type 0} (plan : Plan) (ends : A → Outcome) (look : Look A) (gives : Result A Stop) (Held : Result A Bad → Type 0) (words : ℕ) (files : Names) (old new : Outside) (result : Status) → look.gives ≡ gives →
     Answers (Ok plan) words old new result → IsHeld gives Held → IsAnswered (answer_by plan.writes (comes_by ends look)) files old new result → Ended plan.writes ends Held files old new result
-ended_by plan ends look (Ok x) Held words files old new result is answers holds answered = let due = rw is at answered in inl (Ok x, holds (Ok x) refl, due.status, due.contents)
-ended_by plan ends look (Err (Contents bad)) Held words files old new result is answers holds answered = let due = rw is at answered in inl (Err bad, holds (Err bad) refl, due.status, due.contents)
+ended_by plan ends look (Ok x) Held words files old new result is answers holds answered = let due = rw is at answered in inl (record { held = Ok x; is = holds (Ok x) refl; status = due.status; contents = due.contents; read = due.read })
+ended_by plan ends look (Err (Contents bad)) Held words files old new result is answers holds answered = let due = rw is at answered in inl (record { held = Err bad; is = holds (Err bad) refl; status = due.status; contents = due.contents; read = tt })
 ended_by plan ends look (Err (Fault word)) Held words files old new result is answers holds answered = let due = rw is at answered in inr (stopped_by plan words old new result word answers due.status)
 ended_by plan ends look (Err Memory) Held words files old new result is answers holds answered = let due = rw is at answered in inr (inr due.status)
 
 -- each answer comes exactly where it is due
 exactly : {A : Type 0} (places : List Named) (ends : A → Outcome) (Held : Result A Bad → Type 0) (files : Names) (old new : Outside) (result : Status) → IsOne Held → Ended places ends Held files old new result →
     (held : Result A Bad) → Held held → (result ≡ status_by ends held) ⊎ IsStopped places old new result
-exactly places ends Held files old new result one (inl (other, is, due, contents)) held has = inl (due ∙ ap (status_by ends) (one other held is has))
+exactly places ends Held files old new result one (inl answered) held has = inl (answered.status ∙ ap (status_by ends) (one answered.held held answered.is has))
 exactly places ends Held files old new result one (inr stopped) held has = inr stopped
 
 -- a plan comes to what its look gives

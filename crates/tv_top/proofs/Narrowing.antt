@@ -1,11 +1,11 @@
 -- The numbers of a tape are the words that they are read as.
-use Rattle.std.proofs.Common.{◌≡◌, ℕ, ◌%◌, ◌<◌, ◌≤◌, List, [], ◌∷◌, map, All, Result, Ok, Err, refl, mod-eq_of_lt, arith}
+use Rattle.std.proofs.Common.{◌≡◌, ℕ, ◌%◌, ◌<◌, ◌≤◌, List, [], ◌∷◌, length, map, All, Result, Ok, Err, refl, mod-eq_of_lt, arith}
 use Rattle.std.specs.Prelude.{IfOk}
 use Rattle.std.specs.List.{AllByRecursion}
 use Rattle.std.proofs.lemmas.List.Elements.{recursion_from_All}
 use Rattle.tv_tape.specs.Tape.{tape_of}
 use Rattle.tv_tape.specs.declared.items.TapeFault.{TapeFault}
-use Rattle.tv_tape.proofs.Range.{all_below}
+use Rattle.tv_tape.proofs.Range.{all_below, at_most}
 
 same : (below size : ℕ) (numbers : List ℕ) → below ≤ size → AllByRecursion (λ n. n < below) numbers → map (λ n. n % size) numbers ≡ numbers
 same below size [] fits all = refl
@@ -17,6 +17,13 @@ known below (Err fault) numbers is all = cc
 
 pub numbers_below : (text numbers : List ℕ) (below most : ℕ) → tape_of text below most ≡ Ok numbers → All (λ n. n < below) numbers
 numbers_below text numbers below most is = known below (tape_of text below most) numbers is (all_below text below most)
+
+pub numbers_few : (text numbers : List ℕ) (below most : ℕ) → tape_of text below most ≡ Ok numbers → length numbers ≤ most
+numbers_few text numbers below most is = by_read (tape_of text below most) is (at_most text below most)
+  where
+    by_read : (read : Result (List ℕ) TapeFault) → read ≡ Ok numbers → IfOk read (λ numbers. length numbers ≤ most) → length numbers ≤ most
+    by_read (Ok found) is few = let whole : found ≡ numbers = cc in rw (← whole) few
+    by_read (Err fault) is few = cc
 
 pub residues_same : (text numbers : List ℕ) (below most size : ℕ) → below ≤ size → tape_of text below most ≡ Ok numbers → map (λ n. n % size) numbers ≡ numbers
 residues_same text numbers below most size fits is = same below size numbers fits (recursion_from_All (λ n. n < below) numbers (numbers_below text numbers below most is))

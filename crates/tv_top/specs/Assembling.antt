@@ -7,6 +7,7 @@ use Rattle.tv_top.specs.declared.refusal.Finish.TheVariants.{Quiet}
 use Rattle.tv_top.specs.declared.refusal.Size.TheVariants.{TextBytes}
 use Rattle.tv_top.specs.declared.status.Status.{Status}
 use Rattle.tv_top.specs.Claims.{Holds, Comes}
+use Rattle.tv_top.specs.Contents.{Content.{Bytes}}
 use Rattle.tv_top.specs.Kinds.{is_quiet}
 use Rattle.tv_top.specs.Plan.{Named, Plan, Outcome, within, input, comes_by}
 use Rattle.tv_top.specs.Programs.{image_of, program_sizes}
@@ -16,7 +17,7 @@ abbrev pub image_in : List ℕ → Result (List ℕ) Bad
 image_in = within TextBytes TEXT_BYTES image_of
 
 abbrev pub asm_ends : List ℕ → Outcome
-asm_ends image = record { bytes = image ∷ []; finish = Quiet }
+asm_ends image = record { files = Bytes image ∷ []; finish = Quiet }
 
 abbrev pub asm_writes : List ℕ → List Named
 asm_writes image = record { word = 2; name = image } ∷ []

@@ -46,7 +46,7 @@ check_twice system witness tape files = do
   check_witness system witness tape files
 
 abbrev pub check_ends : Verdict → Outcome
-check_ends verdict = record { bytes = []; finish = finishes.Verdict verdict }
+check_ends verdict = record { files = []; finish = finishes.Verdict verdict }
 
 abbrev pub check_plan : List ℕ → List ℕ → List ℕ → Plan
 check_plan system witness tape = record {

@@ -17,8 +17,11 @@ use Rattle.tv_top.specs.declared.refusal.Finish.TheVariants as finishes
 use Rattle.tv_top.specs.declared.refusal.Refusal.{Refusal}
 use Rattle.tv_top.specs.declared.refusal.Refusal.TheVariants as refusal
 use Rattle.tv_top.specs.declared.refusal.Stop.TheVariants as stop
+use Rattle.tv_top.specs.declared.refusal.Trial.{Trial}
+use Rattle.tv_top.specs.declared.status.NotRun.{NotRun}
+use Rattle.tv_top.specs.declared.status.NotRun.TheVariants as not_runs
 use Rattle.tv_top.specs.declared.status.What.{What}
-use Rattle.tv_top.specs.declared.status.What.TheVariants.{ImageWords, ImageBytes, TapeWords, AuxWords, TextBytes, Steps}
+use Rattle.tv_top.specs.declared.status.What.TheVariants.{ImageWords, ImageBytes, TapeWords, AuxWords, TextBytes, Steps, Draws}
 use Rattle.tv_top.specs.Status.{quantity_what, size_what}
 
 -- how a run ends
@@ -68,6 +71,7 @@ what_text TapeWords = codes "tape words"
 what_text AuxWords = codes "aux words"
 what_text TextBytes = codes "text bytes"
 what_text Steps = codes "steps"
+what_text Draws = codes "draws"
 
 -- a limit of a quantity
 abbrev pub limit_text : What → ℕ → ℕ → List ℕ
@@ -88,11 +92,26 @@ bad_text (bad.Witness at why) = codes "bad witness: byte " ++ decimal at ++ code
 bad_text (bad.Image len) = codes "bad image: " ++ decimal len ++ codes " bytes"
 bad_text (bad.Limit what has most) = limit_text (size_what what) has most
 
+-- why an assignment has no run
+abbrev pub not_run_text : NotRun → List ℕ
+not_run_text (not_runs.WireCount has wants) = decimal has ++ codes " wires, " ++ decimal wants ++ codes " wanted"
+not_run_text (not_runs.WideWire at) = codes "wire " ++ decimal at ++ codes " is wide"
+not_run_text (not_runs.NotARun end) = end_text end
+
+-- what a trial comes to
+abbrev pub trial_text : Trial → List ℕ
+trial_text trial =
+    codes "trial: steps " ++ decimal trial.steps ++ codes ", wires " ++ decimal trial.wires ++ codes ", constraints "
+    ++ decimal trial.constraints ++ codes ", sum " ++ decimal trial.sum ++ codes ", satisfied " ++ decimal trial.satisfied
+
 -- what is said with a good end
 abbrev pub finish_text : Finish → Option (List ℕ)
 finish_text finishes.Quiet = None
 finish_text (finishes.Run end) = Some (end_text end)
+finish_text (finishes.NoRun end) = Some (codes "no run: " ++ end_text end)
+finish_text (finishes.NotARun why) = Some (codes "not a run: " ++ not_run_text why)
 finish_text (finishes.Verdict verdict) = Some (verdict_text verdict)
+finish_text (finishes.Trial trial) = Some (trial_text trial)
 
 -- the line of an end, without its own end; nothing is said after a fault or want of memory
 abbrev pub line : Ending → Option (List ℕ)

@@ -16,6 +16,7 @@ use Rattle.tv_top.specs.declared.refusal.Flaw.TheVariants.{Contents, Memory}
 use Rattle.tv_top.specs.declared.refusal.Size.TheVariants.{ImageBytes}
 use Rattle.tv_top.specs.declared.status.Status.{Status}
 use Rattle.tv_top.specs.Claims.{Holds, Comes}
+use Rattle.tv_top.specs.Contents.{Content.{Bytes}}
 use Rattle.tv_top.specs.Kinds.{is_quiet}
 use Rattle.tv_top.specs.Programs.{bits}
 use Rattle.tv_top.specs.Plan.{Named, Plan, Outcome, within, input, comes_by}
@@ -45,7 +46,7 @@ width_word (word ∷ []) = if bytes_eq word (codes "16") then Some Bits16 else N
 width_word _ = None
 
 abbrev pub disasm_ends : List ℕ → Outcome
-disasm_ends text = record { bytes = text ∷ []; finish = Quiet }
+disasm_ends text = record { files = Bytes text ∷ []; finish = Quiet }
 
 abbrev pub disasm_writes : List ℕ → List Named
 disasm_writes text = record { word = 2; name = text } ∷ []

@@ -7,29 +7,36 @@ use Rattle.tv_word.specs.Counts.{Rose}
 use Rattle.tv_top.specs.declared.refusal.Cut.{Cut}
 use Rattle.tv_top.specs.declared.refusal.Cut.TheVariants as cut
 use Rattle.tv_top.specs.declared.refusal.Ending.{Ending}
-use Rattle.tv_top.specs.declared.refusal.Ending.TheVariants.{Finished}
+use Rattle.tv_top.specs.declared.refusal.Ending.TheVariants.{Finished, Stopped}
 use Rattle.tv_top.specs.declared.refusal.Finish.{Finish}
+use Rattle.tv_top.specs.declared.refusal.Stop.TheVariants as stop
 use Rattle.tv_top.specs.declared.status.Status.{Status}
 use Rattle.tv_top.specs.declared.status.Status.TheVariants.{FileFault, Memory}
 use Rattle.tv_top.specs.Codes.{says}
-use Rattle.tv_top.specs.Plan.{Write, Answer}
+use Rattle.tv_top.specs.Contents.{bytes_in, IsRead}
+use Rattle.tv_top.specs.Plan.{Named, Outcome, Write, Answer, files_of}
 use Rattle.tv_top.specs.Status.{ending_status, cut_status}
 
 -- the files, where they are told, once these were written
 abbrev pub files_with : List Write → Option Names → Option Names
 files_with [] files = files
-files_with (w ∷ ws) files = files_with ws (option_map (with_bytes w.name w.bytes) files)
+files_with (w ∷ ws) files = files_with ws (option_map (with_bytes w.name (bytes_in w.content)) files)
 
 -- all is as it was, or the name has a prefix of its bytes
 abbrev pub HasPartOf : Write → Option Names → Option Names → Type 0
-HasPartOf w old new = (new ≡ old) ⊎ ((n : ℕ) × (new ≡ option_map (with_bytes w.name (take n w.bytes)) old))
+HasPartOf w old new = (new ≡ old) ⊎ ((n : ℕ) × (new ≡ option_map (with_bytes w.name (take n (bytes_in w.content))) old))
 
 -- some of these were written whole, and the next, whose name stands at this word, is as it was or has a
 -- prefix of its bytes
 abbrev pub IsCutAt : ℕ → List Write → Option Names → Option Names → Type 0
 IsCutAt word [] old new = ⊥
 IsCutAt word (w ∷ ws) old new =
-    ((word ≡ w.word) × HasPartOf w old new) ⊎ IsCutAt word ws (option_map (with_bytes w.name w.bytes) old) new
+    ((word ≡ w.word) × HasPartOf w old new) ⊎ IsCutAt word ws (option_map (with_bytes w.name (bytes_in w.content)) old) new
+
+-- what each of these holds is read of its file
+abbrev pub AreRead : List Write → Type 0
+AreRead [] = Unit {0}
+AreRead (w ∷ ws) = IsRead w.content × AreRead ws
 
 -- the bytes were added to what is said
 abbrev pub Added : Outside → Outside → List ℕ → Type 0
@@ -48,6 +55,7 @@ SaidPart old new says = (bytes : List ℕ) × (n : ℕ) × (says ≡ Some bytes)
 pub record IsAnswered (answer : Answer) (files : Names) (old new : Outside) (result : Status) : Type 0 where
   pub status : result ≡ ending_status answer.ending
   pub contents : new.contents ≡ files_with answer.writes (Some files)
+  pub read : AreRead answer.writes
   pub said : Said old new (says answer.ending)
 
 -- nothing outside has changed
@@ -95,7 +103,7 @@ pub record Concludes (ending : Ending) (words : ℕ) (old new : Outside) (result
 
 -- how writing these ended
 abbrev pub IsWritten : List Write → Outside → Outside → Result (Unit {0}) Cut → Type 0
-IsWritten writes old new (Ok _) = new.contents ≡ files_with writes old.contents
+IsWritten writes old new (Ok _) = (new.contents ≡ files_with writes old.contents) × AreRead writes
 IsWritten writes old new (Err (cut.Fault word)) =
     IsCutAt word writes old.contents new.contents × Rose old.write_faults new.write_faults
 IsWritten writes old new (Err cut.Memory) = (word : ℕ) × IsCutAt word writes old.contents new.contents
@@ -124,3 +132,13 @@ abbrev pub Finishes : List Write → Finish → ℕ → Outside → Outside → 
 Finishes writes finish words old new result =
     ((mid : Outside) × Writes writes old mid (Ok tt) × Concludes (Finished finish) words mid new result)
     ⊎ ((cut : Cut) × (result ≡ cut_status cut) × Writes writes old new (Err cut))
+
+-- an outcome is written and its line said; or memory is wanting before anything is written
+abbrev pub Completes : List Named → Outcome → ℕ → Outside → Outside → Status → Type 0
+Completes places outcome words old new result =
+    Finishes (files_of places outcome.files) outcome.finish words old new result ⊎ Concludes (Stopped stop.Memory) words old new result
+
+-- nothing is written, and the line of this end is said; or, where there is none, memory was wanting
+abbrev pub Refuses : Option Finish → ℕ → Outside → Outside → Status → Type 0
+Refuses (Some finish) words old new result = Finishes [] finish words old new result
+Refuses None words old new result = Concludes (Stopped stop.Memory) words old new result

@@ -3,17 +3,32 @@ use Rattle.std.specs.Prelude.{ℕ, ◌^◌, List, [], ◌∷◌, Option, Some, N
 use Rattle.std.specs.Str.{bytes_eq}
 use Rattle.tv_word.specs.Numeral.{numeral}
 use Rattle.tv_top.specs.declared.job.Job.{Job}
-use Rattle.tv_top.specs.declared.job.Job.TheVariants.{Asm, Disasm, Run, Check}
+use Rattle.tv_top.specs.declared.job.Job.TheVariants.{Asm, Disasm, Run, Build, Witness, Check, Extract, Trial}
 use Rattle.tv_top.specs.declared.place.Place.{Place}
 use Rattle.tv_top.specs.declared.place.Write.{Write}
 use Rattle.tv_top.specs.Assembling.{asm_plan}
+use Rattle.tv_top.specs.Building.{net_word, build_plan}
 use Rattle.tv_top.specs.Checking.{check_plan}
+use Rattle.tv_top.specs.Contents.{Content.{Bytes}}
 use Rattle.tv_top.specs.Disassembling.{width_word, disasm_plan}
+use Rattle.tv_top.specs.Extracting.{extract_plan}
 use Rattle.tv_top.specs.Plan.{Plan, Named}
 use Rattle.tv_top.specs.Plan as plan
 use Rattle.tv_top.specs.Running.{run_plan}
+use Rattle.tv_top.specs.Trialing.{trial_plan}
+use Rattle.tv_top.specs.Witnessing.{witness_plan}
 
--- the words behind a command's name, by its form; `disasm` may have one more
+-- what two words tell together, where each tells something, and what three do
+abbrev pub with_two : {A B C : Type 0} → (A → B → C) → Option A → Option B → Option C
+with_two f (Some a) (Some b) = Some (f a b)
+with_two f _ _ = None
+
+abbrev pub with_three : {A B C D : Type 0} → (A → B → C → D) → Option A → Option B → Option C → Option D
+with_three f (Some a) (Some b) (Some c) = Some (f a b c)
+with_three f _ _ _ = None
+
+-- the words behind a command's name, by its form; `disasm`, `build`, `witness` and `extract` may have
+-- one more
 abbrev pub asm_form : List (List ℕ) → Option Plan
 asm_form (text ∷ image ∷ []) = Some (asm_plan text image)
 asm_form _ = None
@@ -26,6 +41,25 @@ abbrev pub run_form : List (List ℕ) → Option Plan
 run_form (text ∷ tape ∷ aux ∷ steps ∷ []) = option_map (run_plan text tape aux) (numeral 10 (2 ^ 64) steps)
 run_form _ = None
 
+abbrev pub build_form : List (List ℕ) → Option Plan
+build_form (text ∷ n ∷ t ∷ system ∷ last) =
+    with_three (λ net n t. build_plan net text n t system) (net_word last) (numeral 10 (2 ^ 64) n) (numeral 10 (2 ^ 64) t)
+build_form _ = None
+
+abbrev pub witness_form : List (List ℕ) → Option Plan
+witness_form (text ∷ tape ∷ aux ∷ t ∷ witness ∷ last) =
+    with_two (λ net t. witness_plan net text tape aux t witness) (net_word last) (numeral 10 (2 ^ 64) t)
+witness_form _ = None
+
+abbrev pub extract_form : List (List ℕ) → Option Plan
+extract_form (text ∷ n ∷ t ∷ witness ∷ tape ∷ aux ∷ last) =
+    with_three (λ net n t. extract_plan net text n t witness tape aux) (net_word last) (numeral 10 (2 ^ 64) n) (numeral 10 (2 ^ 64) t)
+extract_form _ = None
+
+abbrev pub trial_form : List (List ℕ) → Option Plan
+trial_form (seed ∷ k ∷ []) = with_two trial_plan (numeral 10 (2 ^ 64) seed) (numeral 10 (2 ^ 64) k)
+trial_form _ = None
+
 abbrev pub check_form : List (List ℕ) → Option Plan
 check_form (system ∷ witness ∷ tape ∷ []) = Some (check_plan system witness tape)
 check_form _ = None
@@ -37,18 +71,26 @@ form (name ∷ words) =
     if bytes_eq name (codes "asm") then asm_form words
     else (if bytes_eq name (codes "disasm") then disasm_form words
     else (if bytes_eq name (codes "run") then run_form words
-    else (if bytes_eq name (codes "check") then check_form words else None)))
+    else (if bytes_eq name (codes "build") then build_form words
+    else (if bytes_eq name (codes "witness") then witness_form words
+    else (if bytes_eq name (codes "check") then check_form words
+    else (if bytes_eq name (codes "extract") then extract_form words
+    else (if bytes_eq name (codes "trial") then trial_form words else None)))))))
 
 -- the plan of the code's job
 abbrev pub plan_of : Job → Plan
 plan_of (Asm text image) = asm_plan text.now image.now
 plan_of (Disasm image text width) = disasm_plan width image.now text.now
 plan_of (Run text tape aux steps) = run_plan text.now tape.now aux.now steps
+plan_of (Build text n t system net) = build_plan net text.now n t system.now
+plan_of (Witness text tape aux t witness net) = witness_plan net text.now tape.now aux.now t witness.now
 plan_of (Check system witness tape) = check_plan system.now witness.now tape.now
+plan_of (Extract text n t witness tape aux net) = extract_plan net text.now n t witness.now tape.now aux.now
+plan_of (Trial seed k) = trial_plan seed k
 
 -- the code's place of a name, and its file that is to be written
 abbrev pub named : Place → Named
 named place = record { word = place.word; name = place.name.now }
 
 abbrev pub to_write : Write → plan.Write
-to_write write = record { word = write.place.word; name = write.place.name.now; bytes = write.bytes.now }
+to_write write = record { word = write.place.word; name = write.place.name.now; content = Bytes write.bytes.now }

@@ -1,5 +1,6 @@
 pub mod Status
 pub mod Codes
+pub mod Contents
 pub mod Plan
 pub mod Finds
 pub mod Ends
@@ -11,8 +12,13 @@ pub mod Tapes
 pub mod Containers
 pub mod Assembling
 pub mod Disassembling
+pub mod Loading
 pub mod Running
 pub mod Checking
+pub mod Building
+pub mod Witnessing
+pub mod Extracting
+pub mod Trialing
 pub mod Form
 pub mod ComesBack
 pub use Rattle.tv_core.specs.Constraints
@@ -27,3 +33,5 @@ pub use Rattle.tv_r1cs_read.specs.R1cs
 pub use Rattle.tv_step.specs.Machine
 pub use Rattle.tv_tape.specs.Tape
 pub use Rattle.tv_wtns.specs.Wtns
+pub use Rattle.tv_layout.specs.Layout
+pub use Rattle.tv_layout.specs.Reduces

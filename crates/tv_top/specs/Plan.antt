@@ -1,5 +1,5 @@
 -- What a command's words come to: a plan, whose parts all clauses share.
-use Rattle.std.specs.Prelude.{ℕ, ◌+◌, max, Bool, List, [], ◌∷◌, length, Option, Some, None, Result, Ok, Err, nat_le, nat_lt, ◌||◌, if◌then◌else◌}
+use Rattle.std.specs.Prelude.{ℕ, ◌+◌, ◌≤◌, max, Bool, List, [], ◌∷◌, length, Option, Some, None, Result, Ok, Err, nat_le, nat_lt, ◌||◌, if◌then◌else◌}
 use Rattle.std.specs.Str.{bytes_eq}
 use Rattle.tv_files.specs.Outside.{Names}
 use Rattle.tv_top.specs.declared.place.Amount.{Amount}
@@ -13,6 +13,7 @@ use Rattle.tv_top.specs.declared.refusal.Refusal.TheVariants.{Usage, SameName, L
 use Rattle.tv_top.specs.declared.refusal.Size.{Size}
 use Rattle.tv_top.specs.declared.refusal.Stop.{Stop}
 use Rattle.tv_top.specs.declared.refusal.Stop.TheVariants as stop
+use Rattle.tv_top.specs.Contents.{Content}
 
 -- a word that is a file's name
 pub record Named : Type 0 where
@@ -24,9 +25,9 @@ pub record Look (A : Type 0) : Type 0 where
   pub at : ℕ
   pub gives : Result A Stop
 
--- what the files' contents come to: the bytes of each file that is written, in order, and the end
+-- what the files' contents come to: what each file that is written holds, in order, and the end
 pub record Outcome : Type 0 where
-  pub bytes : List (List ℕ)
+  pub files : List Content
   pub finish : Finish
 
 -- The names that are read and that are written, in order of their words; the quantities that the words
@@ -62,6 +63,11 @@ same_of (r ∷ rs) ws = first_of (same_in r ws) (same_of rs ws)
 abbrev pub limit_of : List Amount → Option Refusal
 limit_of [] = None
 limit_of (one ∷ more) = if (nat_lt one.has one.least) || nat_lt one.most one.has then Some (Limit one.what one.has one.most) else limit_of more
+
+-- each quantity is within its limits
+abbrev pub AreWithin : List Amount → Type 0
+AreWithin [] = Unit {0}
+AreWithin (one ∷ more) = (one.least ≤ one.has) × (one.has ≤ one.most) × AreWithin more
 
 -- what names and quantities are refused for
 abbrev pub refusal_of : List Named → List Named → List Amount → Option Refusal
@@ -121,17 +127,17 @@ comes_by f look = record { at = look.at; gives = map_ok f look.gives }
 pub record Write : Type 0 where
   pub word : ℕ
   pub name : List ℕ
-  pub bytes : List ℕ
+  pub content : Content
 
--- each of these bytes goes under the name of its place
-abbrev pub files_of : List Named → List (List ℕ) → List Write
-files_of [] bytes = []
+-- each of these goes under the name of its place
+abbrev pub files_of : List Named → List Content → List Write
+files_of [] contents = []
 files_of (n ∷ ns) [] = []
-files_of (n ∷ ns) (b ∷ bs) = record { word = n.word; name = n.name; bytes = b } ∷ files_of ns bs
+files_of (n ∷ ns) (c ∷ cs) = record { word = n.word; name = n.name; content = c } ∷ files_of ns cs
 
 -- the files that are written: none where a look was refused
 abbrev pub writes_by : List Named → Result Outcome Stop → List Write
-writes_by places (Ok outcome) = files_of places outcome.bytes
+writes_by places (Ok outcome) = files_of places outcome.files
 writes_by places (Err stop) = []
 
 -- the end of a look

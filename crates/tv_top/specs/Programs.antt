@@ -6,6 +6,7 @@ use Rattle.tv_asm.specs.Header.{width_of}
 use Rattle.tv_asm.specs.declared.fault.AsmFault.{AsmFault}
 use Rattle.tv_asm.specs.declared.fault.AsmFault.TheVariants as asm
 use Rattle.tv_core.specs.declared.limits.TheConstants.{TEXT_BYTES, IMAGE_WORDS, IMAGE_WORDS_16}
+use Rattle.tv_step.specs.Range.{AreWords}
 use Rattle.tv_word.specs.Word.{word_bytes}
 use Rattle.tv_top.specs.declared.programs.Program.{Program}
 use Rattle.tv_top.specs.declared.programs.Width.{Width}
@@ -32,9 +33,10 @@ image_words Bits32 = IMAGE_WORDS
 abbrev pub width_told : List ℕ → Width
 width_told text = if width_of text == 16 then Bits16 else Bits32
 
--- no more words than there is memory for
-abbrev pub HasImage : Program → Type 0
-HasImage program = length program.words ≤ image_words program.width
+-- words of the width, and no more of them than there is memory for
+pub record HasImage (program : Program) : Type 0 where
+  pub short : length program.words ≤ image_words program.width
+  pub words : AreWords (bits program.width) program.words
 
 -- the bytes of a program's image: of each word those that spell it, the lowest first
 abbrev pub image_bytes : Program → List ℕ

@@ -22,9 +22,9 @@ use Rattle.tv_top.specs.declared.refusal.Stop.{Stop}
 use Rattle.tv_top.specs.declared.refusal.Stop.TheVariants as stop
 use Rattle.tv_top.specs.declared.status.NoWhy.TheVariants as no
 use Rattle.tv_top.specs.declared.status.Status.{Status}
-use Rattle.tv_top.specs.declared.status.Status.TheVariants.{Done, No, Usage, BadProgram, BadTape, BadSystem, BadWitness, Limit, FileFault, Memory, SameName, BadImage}
+use Rattle.tv_top.specs.declared.status.Status.TheVariants.{Done, No, Usage, BadProgram, BadTape, BadSystem, BadWitness, Limit, FileFault, Memory, NoRun, NotARun, SameName, BadImage}
 use Rattle.tv_top.specs.declared.status.What.{What}
-use Rattle.tv_top.specs.declared.status.What.TheVariants.{ImageWords, ImageBytes, TapeWords, AuxWords, TextBytes, Steps}
+use Rattle.tv_top.specs.declared.status.What.TheVariants.{ImageWords, ImageBytes, TapeWords, AuxWords, TextBytes, Steps, Draws}
 
 -- the exit code
 abbrev pub code_of : Status → ℕ
@@ -38,12 +38,16 @@ code_of (BadWitness _ _) = 6
 code_of (Limit _ _ _) = 7
 code_of (FileFault _) = 8
 code_of Memory = 9
+code_of (NoRun _) = 10
+code_of (NotARun _) = 11
 code_of (SameName _ _) = 12
 code_of (BadImage _) = 13
 
 -- the quantity that a word tells, among all that have a limit
 abbrev pub quantity_what : Quantity → What
+quantity_what quantity.TapeWords = TapeWords
 quantity_what quantity.Steps = Steps
+quantity_what quantity.Draws = Draws
 
 -- the quantity of which a file holds so many, among all that have a limit
 abbrev pub size_what : Size → What
@@ -91,7 +95,10 @@ run_status (Silent steps) = No (no.End (Silent steps))
 abbrev pub finish_status : Finish → Status
 finish_status finishes.Quiet = Done
 finish_status (finishes.Run end) = run_status end
+finish_status (finishes.NoRun end) = NoRun end
+finish_status (finishes.NotARun why) = NotARun why
 finish_status (finishes.Verdict verdict) = verdict_status verdict
+finish_status (finishes.Trial trial) = Done
 
 -- what is answered where writing or saying was cut short
 abbrev pub cut_status : Cut → Status

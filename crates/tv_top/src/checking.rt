@@ -50,7 +50,7 @@ fn check_witness<D: Files>(
         (check_witness system.now witness.now tape.now)
         (D.seen files.old) (D.seen files.new) result }
 {
-    let values = read_witness(alloc, files, witness)?;
+    let values = read_witness(alloc, files, 2, witness)?;
     check_tape(alloc, files, system, &values, tape)
 }
 

@@ -1,31 +1,41 @@
 //! The top call: what the words ask for is done, and one line is said.
 ghost use Rattle.std.specs.Prelude.{◌≡◌, ◌≢◌, ◌<◌, ◌≤◌, ◌^◌, ℕ, List, [], ◌∷◌, length, map};
-ghost use Rattle.std.specs.Prelude.{string_bytes, codes, Some};
+ghost use Rattle.std.specs.Prelude.{string_bytes, codes, Some, None};
 ghost use Rattle.tv_files.specs.Outside.{Told};
 ghost use Rattle.tv_word.specs.Numeral.{numeral};
-ghost use Rattle.tv_core.specs.declared.limits.TheConstants.{STEPS};
+ghost use Rattle.tv_core.specs.declared.limits.TheConstants.{DRAWS, STEPS, TAPE_WORDS};
 ghost use Rattle.tv_top.specs.declared.programs.Width.{Width};
 ghost use Rattle.tv_top.specs.Answers.{Answers};
 ghost use Rattle.tv_top.specs.Assembling.{Asms};
+ghost use Rattle.tv_benes.specs.declared.shape.Net.{Net};
+ghost use Rattle.tv_top.specs.Building.{net_word, Builds};
 ghost use Rattle.tv_top.specs.Checking.{Checks};
 ghost use Rattle.tv_top.specs.Disassembling.{width_word, Disasms};
+ghost use Rattle.tv_top.specs.Extracting.{Extracts};
 ghost use Rattle.tv_top.specs.Form.{form, plan_of};
-ghost use Rattle.tv_top.specs.Plan.{request_of};
+ghost use Rattle.tv_top.specs.Plan.{refusal_of, request_of};
 ghost use Rattle.tv_top.specs.Running.{Runs};
+ghost use Rattle.tv_top.specs.Trialing.{Trials};
+ghost use Rattle.tv_top.specs.Witnessing.{Witnesses};
 
 use crate::assembling::asm;
+use crate::building::build;
 use crate::checking::check;
 use crate::disassembling::disasm;
+use crate::extracting::extract;
 use crate::job::{Job, job_of};
 use crate::refusal::Ending;
 use crate::running::run;
 use crate::status::Status;
+use crate::trialing::trial;
+use crate::witnessing::witness;
 use crate::writing::conclude;
 use std::alloc::Global;
 use tv_files::Files;
 
 /// Does a job, given the number of words.
 fn perform<D: Files>(alloc: Global, files: &mut D, words: usize, job: Job<'_>) -> Status
+    requires { let plan = plan_of job in refusal_of plan.reads plan.writes plan.amounts ≡ None }
     ensures { Answers (Ok (plan_of job.entry)) words (D.seen files.old) (D.seen files.new) result }
 {
     match job {
@@ -37,11 +47,36 @@ fn perform<D: Files>(alloc: Global, files: &mut D, words: usize, job: Job<'_>) -
             aux,
             steps,
         } => run(alloc, files, words, text, tape, aux, steps),
+        Job::Build {
+            text,
+            n,
+            t,
+            system,
+            net,
+        } => build(alloc, files, words, net, text, n, t, system),
+        Job::Witness {
+            text,
+            tape,
+            aux,
+            t,
+            witness: name,
+            net,
+        } => witness(alloc, files, words, net, text, tape, aux, t, name),
         Job::Check {
             system,
             witness,
             tape,
         } => check(alloc, files, words, system, witness, tape),
+        Job::Extract {
+            text,
+            n,
+            t,
+            witness,
+            tape,
+            aux,
+            net,
+        } => extract(alloc, files, words, net, text, n, t, witness, tape, aux),
+        Job::Trial { seed, k } => trial(alloc, files, words, seed, k),
     }
 }
 
@@ -69,6 +104,20 @@ fn answer<D: Files>(alloc: Global, words: &[String], files: &mut D) -> Status
 /// and one shorter last piece. `SameName` comes before any file call where both words are one name,
 /// and `Limit` where a limit is passed.
 ///
+/// `build TEXT N T SYSTEM` writes the system of a program's runs of at most T steps, 1 to 262,144,
+/// on primary tapes of N words, at most 131,072, over Benes' network, or with one more word,
+/// `waksman`, over Waksman's. An assignment of it that extends an answer and a tape is there
+/// exactly where on some auxiliary tape the machine answers so. `witness TEXT TAPE AUX T WITNESS`,
+/// which may have that word too, reads the three files as `run` does and runs the machine before it
+/// creates its file. Where the machine answers, it writes values that satisfy the system, extend
+/// the answer and the tape, and take the words that the run reads; else `NoRun` tells the run's
+/// end. Both write as they go: `build` takes memory for the program alone, and `witness` at most
+/// 160 bytes for each line of the system. `extract TEXT N T WITNESS TAPE AUX`, which may have that
+/// word too, reads values of the system that `build` would write, writes the two tapes of their
+/// run, and says its answer and the step. `NotARun` tells why they have none, which never comes for
+/// values that satisfy the system. In all three `SameName` and the `Limit` of N and T come before
+/// any file call, and nothing is written where a file is refused.
+///
 /// `check SYSTEM WITNESS TAPE` reads the three files, each to its end and judged before the next is
 /// read, and then the system again. The first two may have any size. It is `Done`, and says `yes`,
 /// exactly where the witness holds an assignment that satisfies the system and extends the numbers
@@ -82,8 +131,14 @@ fn answer<D: Files>(alloc: Global, words: &[String], files: &mut D) -> Status
 /// auxiliary one. The machine then takes at most T steps, 1 to 262,144, on them. It is `Done`, and
 /// says so with the answer and the step, exactly where the machine answers; else `No` tells the
 /// run's end. `BadTape` tells the first item that isn't a number below 2^32, or 2^16 for a text of
-/// 16 bits, and `Limit` comes where a limit is passed, that of T before any file call. All other
-/// words are `Usage`.
+/// 16 bits, and `Limit` comes where a limit is passed, that of T before any file call.
+///
+/// `trial SEED K` draws K instructions, 1 to 8,191, and two tapes from a number below 2^64, and
+/// tests each constraint of their system for K + 1 steps, over Benes' network, on the values of
+/// their run. It is `Done` and tells the steps, the wires and constraints, the sum over the
+/// constraints of the products of the values of their first two combinations, and how many hold,
+/// which all do. It reads and writes no file, and keeps the values of all wires in memory. All
+/// other words are `Usage`.
 ///
 /// `FileFault` tells the word of the name whose reading or writing failed, as reading does where
 /// there is no such name, or the number of words where saying the line failed. `Memory` comes where
@@ -111,6 +166,30 @@ pub fn command<D: Files>(alloc: Global, words: &[String], files: &mut D) -> Stat
         → numeral 10 (2 ^ 64) number ≡ Some steps → 0 < steps → steps ≤ STEPS
         → Told (D.seen files.old) (λ held.
         Runs held text tape aux steps (D.seen files.old) (D.seen files.new) result) }
+    ensures build { (text n_word t_word system : List ℕ) (last : List (List ℕ)) (net : Net) (n t : ℕ)
+        → map string_bytes words.now ≡ codes "build" ∷ text ∷ n_word ∷ t_word ∷ system ∷ last
+        → net_word last ≡ Some net → numeral 10 (2 ^ 64) n_word ≡ Some n
+        → numeral 10 (2 ^ 64) t_word ≡ Some t → text ≢ system → n ≤ TAPE_WORDS → 0 < t → t ≤ STEPS
+        → Told (D.seen files.old) (λ held.
+        Builds net held text n t system (D.seen files.old) (D.seen files.new) result) }
+    ensures witness { (text tape aux number name : List ℕ) (last : List (List ℕ)) (net : Net) (t : ℕ)
+        → map string_bytes words.now ≡ codes "witness" ∷ text ∷ tape ∷ aux ∷ number ∷ name ∷ last
+        → net_word last ≡ Some net → numeral 10 (2 ^ 64) number ≡ Some t
+        → text ≢ name → tape ≢ name → aux ≢ name → 0 < t → t ≤ STEPS
+        → Told (D.seen files.old) (λ held.
+        Witnesses net held text tape aux t name (D.seen files.old) (D.seen files.new) result) }
+    ensures extract { (text first second witness tape aux : List ℕ) (last : List (List ℕ)) (net : Net) (n t : ℕ)
+        → map string_bytes words.now ≡ codes "extract" ∷ text ∷ first ∷ second ∷ witness ∷ tape ∷ aux ∷ last
+        → net_word last ≡ Some net → numeral 10 (2 ^ 64) first ≡ Some n
+        → numeral 10 (2 ^ 64) second ≡ Some t → text ≢ tape → text ≢ aux → witness ≢ tape
+        → witness ≢ aux → tape ≢ aux → n ≤ TAPE_WORDS → 0 < t → t ≤ STEPS
+        → Told (D.seen files.old) (λ held. Extracts net held text n t witness tape aux
+        (D.seen files.old) (D.seen files.new) result) }
+    ensures trial { (first second : List ℕ) (seed k : ℕ)
+        → map string_bytes words.now ≡ codes "trial" ∷ first ∷ second ∷ []
+        → numeral 10 (2 ^ 64) first ≡ Some seed → numeral 10 (2 ^ 64) second ≡ Some k
+        → 0 < k → k ≤ DRAWS → Told (D.seen files.old) (λ _.
+        Trials (length words.now) seed k (D.seen files.old) (D.seen files.new) result) }
 {
     answer(alloc, words, files)
 }

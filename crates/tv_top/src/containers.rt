@@ -28,13 +28,13 @@ fn system_stop(refusal: ReadRefusal) -> Stop
     }
 }
 
-/// What a refused reading of the witness is, whose name stands at word 2.
-fn witness_stop(refusal: ReadRefusal) -> Stop
-    ensures { result ≡ refusal_stop 2 witness_bad refusal }
+/// What a refused reading of the witness is, whose name stands at this word.
+fn witness_stop(word: u32, refusal: ReadRefusal) -> Stop
+    ensures { result ≡ refusal_stop word witness_bad refusal }
 {
     match refusal {
         ReadRefusal::Bad { at, why } => Stop::Contents(Bad::Witness { at, why }),
-        ReadRefusal::Fault => Stop::Fault { word: 2 },
+        ReadRefusal::Fault => Stop::Fault { word },
         ReadRefusal::Memory => Stop::Memory,
     }
 }
@@ -55,18 +55,19 @@ pub(crate) fn survey_system<D: Files>(
     }
 }
 
-/// The assignment of the witness, whose name stands at word 2.
+/// The assignment of the witness, whose name stands at this word.
 pub(crate) fn read_witness<D: Files>(
     alloc: Global,
     files: &mut D,
+    word: u32,
     name: &str,
 ) -> Result<Vec<F>, Stop>
-    ensures { Finds (λ v. v.items) (2 ∷ []) [] (input 2 witness_in name.now)
+    ensures { Finds (λ v. v.items) (word ∷ []) [] (input word witness_in name.now)
         (D.seen files.old) (D.seen files.new) result }
 {
     match read_values(alloc, files, name) {
         Ok(values) => Ok(values),
-        Err(refusal) => Err(witness_stop(refusal)),
+        Err(refusal) => Err(witness_stop(word, refusal)),
     }
 }
 

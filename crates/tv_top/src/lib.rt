@@ -3,6 +3,7 @@
 #![tactic(auto)]
 
 mod assembling;
+mod building;
 #[cfg(test)]
 mod call_tests;
 #[cfg(test)]
@@ -11,11 +12,13 @@ mod checking;
 mod commands;
 mod containers;
 mod disassembling;
+mod extracting;
 mod inputs;
 mod job;
 mod law;
 mod limits;
 mod line;
+mod loading;
 mod place;
 #[cfg(test)]
 mod program_tests;
@@ -27,10 +30,12 @@ mod run_tests;
 mod running;
 mod status;
 mod tapes;
+mod trialing;
+mod witnessing;
 mod writing;
 
 pub use commands::command;
 pub use law::image_comes_back;
 pub use programs::Width;
-pub use refusal::{Bad, Cut, Ending, Finish, Flaw, Quantity, Refusal, Size, Stop};
-pub use status::{NoWhy, Status, What};
+pub use refusal::{Bad, Cut, Ending, Finish, Flaw, Quantity, Refusal, Size, Stop, Trial};
+pub use status::{NoWhy, NotRun, Status, What};

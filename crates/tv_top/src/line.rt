@@ -2,11 +2,11 @@
 ghost use Rattle.std.specs.Prelude.{◌≡◌, ◌+◌, ◌<◌, ◌≤◌, ◌++◌, length, codes, decimal, IfSome};
 ghost use Rattle.arrayvec.specs.ArrayString.{array_string_len};
 ghost use Rattle.tv_top.specs.Codes.{Reads, line, says, end_text, verdict_text, asm_text};
-ghost use Rattle.tv_top.specs.Codes.{read_text, limit_text, refusal_text, bad_text, finish_text};
+ghost use Rattle.tv_top.specs.Codes.{not_run_text, read_text, limit_text, refusal_text, bad_text, trial_text, finish_text};
 
 use crate::reasons::{Line, MOST, push_asm, push_number, push_read, what_name};
-use crate::refusal::{Bad, Ending, Finish, Refusal, Stop};
-use crate::status::What;
+use crate::refusal::{Bad, Ending, Finish, Refusal, Stop, Trial};
+use crate::status::{NotRun, What};
 use tv_asm::AsmWhy;
 use tv_check::Verdict;
 use tv_container::ReadWhy;
@@ -51,7 +51,7 @@ fn pair_line(text: &str, first: u64, between: &str, second: u64) -> Line
 /// The line of a run's end, without its own end.
 fn end_line(end: End) -> Line
     ensures text { result.bytes ≡ end_text end }
-    ensures room { array_string_len result < MOST }
+    ensures room { array_string_len result ≤ 80 }
 {
     match end {
         End::Answer { value, step } => pair_line("answer ", u64::from(value), " at step ", step),
@@ -59,6 +59,36 @@ fn end_line(end: End) -> Line
             pair_line("undefined opcode ", u64::from(op), " at step ", step)
         }
         End::Silent { steps } => number_line("no answer in ", steps, " steps"),
+    }
+}
+
+/// The line of a run that doesn't answer, without its own end.
+fn no_run_line(end: End) -> Line
+    ensures text { result.bytes ≡ codes "no run: " ++ end_text end }
+    ensures room { array_string_len result < MOST }
+{
+    let mut line = text_line("no run: ");
+    line.push_str(end_line(end).as_str());
+    line
+}
+
+/// The line of an assignment that has no run, without its end.
+fn not_run_line(why: NotRun) -> Line
+    ensures text { result.bytes ≡ codes "not a run: " ++ not_run_text why }
+    ensures room { array_string_len result < MOST }
+{
+    match why {
+        NotRun::WireCount { has, wants } => {
+            let mut line = pair_line("not a run: ", has, " wires, ", wants);
+            line.push_str(" wanted");
+            line
+        }
+        NotRun::WideWire { at } => number_line("not a run: wire ", at, " is wide"),
+        NotRun::NotARun { end } => {
+            let mut line = text_line("not a run: ");
+            line.push_str(end_line(end).as_str());
+            line
+        }
     }
 }
 
@@ -147,6 +177,22 @@ fn bad_line(bad: Bad) -> Line
     }
 }
 
+/// The line of a trial, without its end.
+fn trial_line(trial: Trial) -> Line
+    ensures text { result.bytes ≡ trial_text trial }
+    ensures room { array_string_len result < MOST }
+{
+    let steps = u64::from(trial.steps);
+    let mut line = pair_line("trial: steps ", steps, ", wires ", u64::from(trial.wires));
+    line.push_str(", constraints ");
+    push_number(&mut line, u64::from(trial.constraints));
+    line.push_str(", sum ");
+    push_number(&mut line, trial.sum);
+    line.push_str(", satisfied ");
+    push_number(&mut line, u64::from(trial.satisfied));
+    line
+}
+
 /// The line of a good end, without its own end.
 fn finish_line(finish: Finish) -> Option<Line>
     ensures text { Reads (λ line. line.bytes) result (finish_text finish) }
@@ -155,7 +201,10 @@ fn finish_line(finish: Finish) -> Option<Line>
     match finish {
         Finish::Quiet => None,
         Finish::Run(end) => Some(end_line(end)),
+        Finish::NoRun(end) => Some(no_run_line(end)),
+        Finish::NotARun(why) => Some(not_run_line(why)),
         Finish::Verdict(verdict) => Some(verdict_line(verdict)),
+        Finish::Trial(trial) => Some(trial_line(trial)),
     }
 }
 

@@ -102,5 +102,6 @@ pub(crate) fn what_name(what: What) -> &'static str
         What::AuxWords => "aux words",
         What::TextBytes => "text bytes",
         What::Steps => "steps",
+        What::Draws => "draws",
     }
 }

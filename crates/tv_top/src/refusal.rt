@@ -1,5 +1,6 @@
 //! What refuses, stops and ends a command, each stage by a type of its own: the words, what files
 //! hold, what is made of it, a look at files, writing, and the good ends.
+use crate::status::NotRun;
 use std::alloc::AllocError;
 use tv_asm::{AsmFault, AsmWhy};
 use tv_check::Verdict;
@@ -10,8 +11,12 @@ use tv_step::End;
 /// The quantities that words tell.
 #[derive(Clone, Copy, Debug, PartialEq, Eq)]
 pub enum Quantity {
+    /// The words of a primary tape.
+    TapeWords,
     /// The steps of a run.
     Steps,
+    /// The instructions that a trial draws.
+    Draws,
 }
 
 /// The quantities of which files hold so many.
@@ -84,6 +89,22 @@ pub enum Cut {
     Memory,
 }
 
+/// What a trial comes to.
+#[derive(Clone, Copy, Debug, PartialEq, Eq)]
+pub struct Trial {
+    /// How many steps the run has.
+    pub steps: u32,
+    /// How many wires its system has.
+    pub wires: u32,
+    /// How many constraints the system has.
+    pub constraints: u32,
+    /// The sum, over the constraints, of the products of the values of their first two combinations,
+    /// modulo the prime.
+    pub sum: u64,
+    /// How many constraints hold.
+    pub satisfied: u32,
+}
+
 /// How a command ends whose files were found and written.
 #[derive(Clone, Copy, Debug, PartialEq, Eq)]
 pub enum Finish {
@@ -91,8 +112,14 @@ pub enum Finish {
     Quiet,
     /// The run ends so.
     Run(End),
+    /// There is no run that answers: it ends so, and nothing is written.
+    NoRun(End),
+    /// The assignment has no run, for this reason, and nothing is written.
+    NotARun(NotRun),
     /// This is the verdict.
     Verdict(Verdict),
+    /// The trial comes to this.
+    Trial(Trial),
 }
 
 /// What a line is said of.

@@ -1,36 +1,25 @@
-//! `run TEXT TAPE AUX T`: the program and the two tapes, each read and judged before the next, and
-//! the machine's run on them.
-ghost use Rattle.std.specs.Prelude.{◌≡◌, ◌*◌, ◌/◌, ◌<◌, ◌≤◌, ◌^◌, [], ◌∷◌, length, All, Ok};
+//! `run TEXT TAPE AUX T`: the machine's run on a program and two tapes.
+ghost use Rattle.std.specs.Prelude.{◌≡◌, ◌*◌, ◌/◌, ◌≤◌, ◌^◌, [], length, IfOk, Ok};
 ghost use Rattle.tv_step.specs.Machine.{start, end_of};
+ghost use Rattle.tv_step.specs.Range.{AreWords};
 ghost use Rattle.tv_word.specs.Widths.{IsWidth};
 ghost use Rattle.tv_top.specs.Answers.{Answers};
-ghost use Rattle.tv_top.specs.declared.refusal.Size.TheVariants.{AuxWords};
-ghost use Rattle.tv_top.specs.Finds.{Finds, Makes};
+ghost use Rattle.tv_top.specs.Ends.{Completes};
+ghost use Rattle.tv_top.specs.Loading.{AreInputs, run_end};
 ghost use Rattle.tv_top.specs.Plan.{refusal_of};
-ghost use Rattle.tv_top.specs.Programs.{HasImage, bits};
-ghost use Rattle.tv_top.specs.Running.{run_of, run_on, run_with, run_plan, both_sizes, run_sizes};
-ghost use Rattle.tv_top.specs.Tapes.{tape_sizes};
+ghost use Rattle.tv_top.specs.Running.{run_ends, run_plan};
 
-use crate::inputs::from_made;
+use crate::loading::{Inputs, read_inputs};
 use crate::place::{Amount, Place, refusal_of};
-use crate::programs::{Program, Width, read_program};
-use crate::refusal::{Ending, Finish, Flaw, Quantity, Refusal, Size, Stop};
+use crate::programs::Width;
+use crate::refusal::{Ending, Finish, Quantity, Refusal, Stop};
 use crate::status::Status;
-use crate::tapes::read_words;
 use crate::writing::{conclude, finish};
-use std::alloc::Global;
-use tv_core::limits::{AUX_WORDS, STEPS, TAPE_WORDS};
+use std::alloc::{AllocError, Global};
+use tv_core::limits::STEPS;
 use tv_files::Files;
 use tv_step::{End, Machine};
 use tv_word::Words;
-
-/// How many numbers a word of `W` bits has.
-fn word_bound<const W: u32>() -> u64
-    requires { IsWidth W }
-    ensures { result ≡ 2 ^ W }
-{
-    if W == 16 { 1 << 16 } else { 1 << 32 }
-}
 
 /// The end of the machine's run on an image and two tapes, of so many steps at most.
 fn end_on<const W: u32>(
@@ -39,101 +28,46 @@ fn end_on<const W: u32>(
     tape: Words,
     aux: Words,
     steps: u64,
-) -> Result<End, Flaw>
+) -> Result<End, AllocError>
     requires width { IsWidth W }
     requires image { length image.now * (W / 8) ≤ 2 ^ W }
-    requires tapes { All (λ v. v < 2 ^ W) tape × All (λ v. v < 2 ^ W) aux }
-    ensures { Makes (λ end. end) (Ok (end_of W steps (start W image.now tape aux))) result }
+    requires tape { AreWords W tape }
+    requires aux { AreWords W aux }
+    ensures { IfOk result (λ end. end ≡ end_of W steps (start W image.now tape aux)) }
 {
     let mut machine = Machine::<W>::start(alloc, image, tape, aux)?;
     Ok(machine.run(steps)?)
 }
 
-/// The end of the run on a program and a tape that were read, and the auxiliary tape at word 3.
-#[tactic(auto, unfolding(crate::specs::Running::run_with))]
-fn run_with<const W: u32, D: Files>(
-    alloc: Global,
-    files: &mut D,
-    image: &[u32],
-    primary: Words,
-    aux: &str,
-    steps: u64,
-) -> Result<End, Stop>
-    requires width { IsWidth W }
-    requires image { length image.now * (W / 8) ≤ 2 ^ W }
-    requires tape { All (λ v. v < 2 ^ W) primary }
-    ensures { Finds (λ end. end) (3 ∷ []) (tape_sizes AuxWords)
-        (run_with W image.now primary aux.now steps)
-        (D.seen files.old) (D.seen files.new) result }
+/// The end of the run of a program on its tapes.
+fn end_of_run(alloc: Global, inputs: Inputs, steps: u64) -> Result<End, AllocError>
+    requires { AreInputs inputs }
+    ensures { IfOk result (λ end. end ≡ run_end steps inputs) }
 {
-    let place = Place { word: 3, name: aux };
-    let below = word_bound::<W>();
-    let auxiliary = read_words(alloc, files, place, Size::AuxWords, below, AUX_WORDS)?;
-    from_made(end_on::<W>(alloc, image, primary, auxiliary, steps))
-}
-
-/// The end of the run on a program that was read, and the tapes at words 2 and 3.
-#[tactic(auto, unfolding(crate::specs::Running::run_on))]
-fn run_on<const W: u32, D: Files>(
-    alloc: Global,
-    files: &mut D,
-    image: &[u32],
-    tape: &str,
-    aux: &str,
-    steps: u64,
-) -> Result<End, Stop>
-    requires width { IsWidth W }
-    requires image { length image.now * (W / 8) ≤ 2 ^ W }
-    ensures { Finds (λ end. end) (2 ∷ 3 ∷ []) both_sizes
-        (run_on W image.now tape.now aux.now steps)
-        (D.seen files.old) (D.seen files.new) result }
-{
-    let place = Place {
-        word: 2,
-        name: tape,
-    };
-    let below = word_bound::<W>();
-    let primary = read_words(alloc, files, place, Size::TapeWords, below, TAPE_WORDS)?;
-    run_with::<W, D>(alloc, files, image, primary, aux, steps)
-}
-
-/// The end of the run on a program of either width.
-fn run_program<D: Files>(
-    alloc: Global,
-    files: &mut D,
-    program: &Program,
-    tape: &str,
-    aux: &str,
-    steps: u64,
-) -> Result<End, Stop>
-    requires { HasImage program.now }
-    ensures { Finds (λ end. end) (2 ∷ 3 ∷ []) both_sizes
-        (run_on (bits program.now.width) program.now.words tape.now aux.now steps)
-        (D.seen files.old) (D.seen files.new) result }
-{
+    let Inputs { program, tape, aux } = inputs;
     let image = program.words.as_slice();
     match program.width {
-        Width::Bits16 => run_on::<16, D>(alloc, files, image, tape, aux, steps),
-        Width::Bits32 => run_on::<32, D>(alloc, files, image, tape, aux, steps),
+        Width::Bits16 => end_on::<16>(alloc, image, tape, aux, steps),
+        Width::Bits32 => end_on::<32>(alloc, image, tape, aux, steps),
     }
 }
 
-/// The end of the run of the program whose name stands at word 1, on the tapes at words 2 and 3.
-#[tactic(auto, unfolding(crate::specs::Running::run_of))]
-fn end_of_run<D: Files>(
+/// Runs the machine on what was read, and says how the run ends.
+fn run_on<D: Files>(
     alloc: Global,
     files: &mut D,
-    text: &str,
-    tape: &str,
-    aux: &str,
+    words: usize,
+    inputs: Inputs,
     steps: u64,
-) -> Result<End, Stop>
-    ensures { Finds (λ end. end) (1 ∷ 2 ∷ 3 ∷ []) run_sizes
-        (run_of text.now tape.now aux.now steps)
+) -> Status
+    requires { AreInputs inputs }
+    ensures { Completes [] (run_ends steps inputs) words
         (D.seen files.old) (D.seen files.new) result }
 {
-    let program = read_program(alloc, files, text)?;
-    run_program(alloc, files, &program, tape, aux, steps)
+    match end_of_run(alloc, inputs, steps) {
+        Ok(end) => finish(files, words, &[], Finish::Run(end)),
+        Err(_) => conclude(files, words, Ending::Stopped(Stop::Memory)),
+    }
 }
 
 /// What the words are refused for.
@@ -174,8 +108,8 @@ pub(crate) fn run<D: Files>(
     ensures { Answers (Ok (run_plan text.now tape.now aux.now steps)) words
         (D.seen files.old) (D.seen files.new) result }
 {
-    match end_of_run(alloc, files, text, tape, aux, steps) {
-        Ok(end) => finish(files, words, &[], Finish::Run(end)),
+    match read_inputs(alloc, files, text, tape, aux) {
+        Ok(inputs) => run_on(alloc, files, words, inputs, steps),
         Err(stop) => conclude(files, words, Ending::Stopped(stop)),
     }
 }

@@ -22,6 +22,17 @@ pub enum NoWhy {
     End { end: End },
 }
 
+/// Why `extract` finds no run.
+#[derive(Clone, Copy, Debug, PartialEq, Eq)]
+pub enum NotRun {
+    /// The witness has `has` values, the program's system `wants` wires.
+    WireCount { has: u64, wants: u64 },
+    /// The number at this wire, which is public or that of a word taken, is no word.
+    WideWire { at: u64 },
+    /// The run on the witness's tapes doesn't answer the word at wire 1, but ends so.
+    NotARun { end: End },
+}
+
 /// The quantities that have a limit.
 #[derive(Clone, Copy, Debug, PartialEq, Eq)]
 pub enum What {
@@ -37,6 +48,8 @@ pub enum What {
     TextBytes,
     /// The steps of a run.
     Steps,
+    /// The instructions that a trial draws.
+    Draws,
 }
 
 /// How a command ended.
@@ -64,6 +77,10 @@ pub enum Status {
     FileFault { word: u64 },
     /// Memory was wanting.
     Memory,
+    /// `witness`: the run doesn't answer, but ends so.
+    NoRun { end: End },
+    /// `extract`: the witness is no run's.
+    NotARun { why: NotRun },
     /// Two words name one file, which is to be written.
     SameName { first: u32, second: u32 },
     /// An image file of `len` bytes, which aren't whole instructions of two words.
@@ -86,6 +103,8 @@ impl Status {
             Status::Limit { .. } => 7,
             Status::FileFault { .. } => 8,
             Status::Memory => 9,
+            Status::NoRun { .. } => 10,
+            Status::NotARun { .. } => 11,
             Status::SameName { .. } => 12,
             Status::BadImage { .. } => 13,
         }
@@ -99,7 +118,9 @@ impl From<Quantity> for What {
 
     fn from(quantity: Quantity) -> What {
         match quantity {
+            Quantity::TapeWords => What::TapeWords,
             Quantity::Steps => What::Steps,
+            Quantity::Draws => What::Draws,
         }
     }
 }
@@ -235,7 +256,10 @@ impl From<Finish> for Status {
         match finish {
             Finish::Quiet => Status::Done,
             Finish::Run(end) => Status::from(end),
+            Finish::NoRun(end) => Status::NoRun { end },
+            Finish::NotARun(why) => Status::NotARun { why },
             Finish::Verdict(verdict) => Status::from(verdict),
+            Finish::Trial(_) => Status::Done,
         }
     }
 }

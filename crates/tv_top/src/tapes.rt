@@ -1,5 +1,5 @@
 //! The public numbers of a tape, and the words of a tape that the machine reads.
-ghost use Rattle.std.specs.Prelude.{◌≡◌, ◌%◌, ◌^◌, ◌<◌, ◌≤◌, All, [], ◌∷◌, map, IfOk};
+ghost use Rattle.std.specs.Prelude.{◌≡◌, ◌%◌, ◌^◌, ◌<◌, ◌≤◌, All, [], ◌∷◌, length, map, IfOk};
 ghost use Rattle.tv_core.specs.declared.field.TheConstants.{P};
 ghost use Rattle.tv_core.specs.declared.limits.TheConstants.{CHECK_WORDS};
 ghost use Rattle.tv_top.specs.declared.refusal.Size.TheVariants as size;
@@ -95,6 +95,7 @@ fn words_of(
     requires { below ≤ 2 ^ 32 }
     ensures made { Makes (λ words. words) (numbers_of word what below most text.now) result }
     ensures below { IfOk result (λ words. All (λ v. v < below) words) }
+    ensures few { IfOk result (λ words. length words ≤ most) }
 {
     match read_tape(alloc, text, below, most) {
         Ok(numbers) => Ok(words_from(alloc, &numbers)?),
@@ -118,6 +119,7 @@ pub(crate) fn read_words<D: Files>(
         (input place.entry.word (numbers_in place.entry.word what below most) place.entry.name.now)
         (D.seen files.old) (D.seen files.new) result }
     ensures below { IfOk result (λ words. All (λ v. v < below) words) }
+    ensures few { IfOk result (λ words. length words ≤ most) }
 {
     let text = limited_bytes(
         alloc,

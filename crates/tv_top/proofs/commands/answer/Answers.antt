@@ -5,4 +5,4 @@ use Rattle.tv_top.proofs.Answering.{answers_refused}
 use Rattle.tv_top.proofs.commands.answer.Goals as goal
 
 pub returns-in-Err : goal.returns-in-Err
-returns-in-Err g c = answers_refused (request_of (form (map string_bytes c.args.words.now))) _ _ _ _ _ c.in-Err.ensures c.conclude.ensures
+returns-in-Err g c = answers_refused (request_of (form (map string_bytes c.args.words.now))) _ _ _ _ _ c.in-Err.ensures.due c.conclude.ensures

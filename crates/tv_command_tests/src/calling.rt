@@ -1,0 +1,81 @@
+//! Files in memory, and what commands answer over them.
+
+use std::alloc::Global;
+use std::process::Abort;
+use std::test::*;
+use tv_files::MemFiles;
+use tv_top::{Status, command};
+
+/// What the names that are written hold before.
+pub(crate) const BEFORE: &[u8] = b"before";
+
+/// Files of a program and its tapes, beside names that are to be written.
+pub(crate) fn files_of(alloc: Global, text: &str, tape: &str, aux: &str) -> Result<MemFiles, Fail> {
+    let mut files = MemFiles::new(alloc);
+    files.set("text", text.as_bytes())?;
+    files.set("tape", tape.as_bytes())?;
+    files.set("aux", aux.as_bytes())?;
+    for name in ["system", "witness", "tape.out", "aux.out"] {
+        files.set(name, BEFORE)?;
+    }
+    Ok(files)
+}
+
+/// What the command of these words, which have spaces between them, answers.
+pub(crate) fn call(alloc: Global, files: &mut MemFiles, words: &str) -> Result<Status, Fail> {
+    let mut all = Vec::new(alloc);
+    for word in words.split_whitespace() {
+        all.push(String::from_str(alloc, word)?)?;
+    }
+    Ok(command(alloc, &all, files))
+}
+
+/// The exit code of a command, and the line that it says.
+pub(crate) fn line_of(
+    alloc: Global,
+    files: &mut MemFiles,
+    words: &str,
+) -> Result<(u8, Vec<u8>), Fail> {
+    let before = files.said_bytes().len();
+    let code = call(alloc, files, words)?.code();
+    let line = files.said_bytes().get(before..).unwrap_or(&[]);
+    Ok((code, line.to_vec(alloc)?))
+}
+
+/// Sees that a command answers with this exit code and says this line, or one that begins so where
+/// the line has no end.
+pub(crate) fn says(
+    rt: &impl Abort,
+    alloc: Global,
+    files: &mut MemFiles,
+    words: &str,
+    code: u8,
+    line: &str,
+) -> Result<(), Fail> {
+    let (had, said) = line_of(alloc, files, words)?;
+    assert_eq!(rt; had, code, "{words}: {line}");
+    let most = if line.ends_with("\n") {
+        said.len()
+    } else {
+        line.len()
+    };
+    assert_eq!(rt; said.get(..most), Some(line.as_bytes()), "{words}");
+    Ok(())
+}
+
+/// Files in which a program's system and the values of its run are written.
+pub(crate) fn filled(
+    rt: &impl Abort,
+    alloc: Global,
+    text: &str,
+    tape: &str,
+    n: u32,
+    steps: u32,
+) -> Result<MemFiles, Fail> {
+    let mut files = files_of(alloc, text, tape, "")?;
+    let build = format!(in alloc; "build text {n} {steps} system")?;
+    says(rt, alloc, &mut files, &build, 0, "")?;
+    let witness = format!(in alloc; "witness text tape aux {steps} witness")?;
+    says(rt, alloc, &mut files, &witness, 0, "")?;
+    Ok(files)
+}

@@ -1,0 +1,60 @@
+-- `trial`: what it promises.
+use Rattle.std.proofs.Common.{◌≡◌, ℕ, ◌+◌, ◌<◌, ◌≤◌, ◌^◌, false, true, ltb, List, [], ◌∷◌, length, All, if◌then◌else◌, count_by, Some, Ok, inl, inr, refl, ap, ◌∙◌, codes, arith}
+use Rattle.std.proofs.lemmas.Bool.{eq-eqb, le-ltb}
+use Rattle.std.proofs.lemmas.List.Elements.{All-head, All-tail}
+use Rattle.std.proofs.lemmas.List.Sums.{sum_by-cons}
+use Rattle.tv_benes.specs.declared.shape.Net.TheVariants.{Benes}
+use Rattle.tv_core.specs.Constraints.{Constraint, Holds, value}
+use Rattle.tv_core.specs.Meanings.{holds, product_in}
+use Rattle.tv_core.specs.declared.limits.TheConstants.{DRAWS}
+use Rattle.tv_draw.specs.Drawing.{image_drawn, tape_drawn, aux_drawn}
+use Rattle.tv_files.specs.Outside.{Names, Outside}
+use Rattle.tv_layout.proofs.Systems.{system_complete}
+use Rattle.tv_word.specs.Numeral.{numeral}
+use Rattle.tv_top.specs.declared.status.Status.{Status}
+use Rattle.tv_top.specs.declared.status.Status.TheVariants.{FileFault}
+use Rattle.tv_top.specs.Answers.{Answers}
+use Rattle.tv_top.specs.Claims.{IsStopped}
+use Rattle.tv_top.specs.Form.{form}
+use Rattle.tv_top.specs.Plan.{request_of}
+use Rattle.tv_top.specs.Trialing.{trial_of, trial_plan, IsTrial, Tries, Trials}
+use Rattle.tv_top.proofs.Claiming.{due_or_stopped}
+use Rattle.tv_top.proofs.Drawn.{drawn_answers, drawn_within, tape_words}
+
+pub request_is : (first second : List ℕ) (seed k : ℕ) → numeral 10 (2 ^ 64) first ≡ Some seed → numeral 10 (2 ^ 64) second ≡ Some k → 0 < k → k ≤ DRAWS → request_of (form (codes "trial" ∷ first ∷ second ∷ [])) ≡ Ok (trial_plan seed k)
+request_is first second seed k is_seed is_k some most =
+    let not_less : ltb k 1 ≡ false = le-ltb _ _ (omega arith) in
+    let not_more : ltb DRAWS k ≡ false = le-ltb _ _ most in
+    rw (is_seed, is_k, not_less, not_more) refl
+
+all_hold : (z : List ℕ) (list : List Constraint) → All (λ constraint. Holds constraint z) list → count_by (holds z) list ≡ length list
+all_hold z [] each = refl
+all_hold z (one ∷ rest) each =
+    let here : holds z one ≡ true = eq-eqb (product_in z one) (value one.c z) (All-head (λ constraint. Holds constraint z) one rest each) in
+    sum_by-cons (λ constraint. if holds z constraint then 1 else 0) one rest ∙ ap (λ b. (if b then 1 else 0) + count_by (holds z) rest) here ∙ ap (λ n. 1 + n) (all_hold z rest (All-tail (λ constraint. Holds constraint z) one rest each)) ∙ omega arith
+
+trial_is : (seed k : ℕ) → k ≤ DRAWS → IsTrial seed k
+unfolding trial_of
+trial_is seed k few =
+    let accepts = drawn_answers seed k few in
+    let fills = system_complete 32 Benes (image_drawn seed k) (tape_drawn seed k) (aux_drawn seed k) (k + 1) 0 (drawn_within seed k few) (tape_words seed k 2) (tape_words seed (k + 2) 8) accepts in
+    record { accepts = accepts; fills = fills; satisfied = all_hold _ _ fills.sat.holds }
+
+-- no file is read or written, so a fault is of saying
+stopped : (words seed k : ℕ) (old new : Outside) (result : Status) → Answers (Ok (trial_plan seed k)) words old new result → IsStopped [] old new result → Tries words seed k old new result
+stopped words seed k old new result answers (inl fault) = elim (answers.caused fault.0 fault.1) [
+  | inl read ↦ absurd read.0
+  | inr (inl wrote) ↦ absurd wrote.0
+  | inr (inr said) ↦ inr (inl (fault.1 ∙ ap FileFault said.0, said.1))
+]
+stopped words seed k old new result answers (inr memory) = inr (inr memory)
+
+pub trials : (words seed k : ℕ) (files : Names) (old new : Outside) (result : Status) → k ≤ DRAWS → old.contents ≡ Some files → Answers (Ok (trial_plan seed k)) words old new result → Trials words seed k old new result
+trials words seed k files old new result few told answers = record {
+  ended = elim (due_or_stopped (trial_plan seed k) words files old new result answers (answers.ends files told)) [
+    | inl answered ↦ inl (answered.status, answered.said)
+    | inr cut ↦ stopped words seed k old new result answers cut
+  ];
+  contents = answers.contents;
+  trial = trial_is seed k few;
+}

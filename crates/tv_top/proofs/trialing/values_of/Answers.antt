@@ -1,0 +1,33 @@
+use Rattle.std.proofs.Common.{◌≡◌, ℕ, List, [], false, Ok, Err, sym, ap, ◌∙◌}
+use Rattle.tv_benes.specs.declared.shape.Net.TheVariants.{Benes}
+use Rattle.tv_core.specs.Meanings.{Kept, kept_giving}
+use Rattle.tv_fill.specs.Filled.{FillsIn}
+use Rattle.tv_fill.specs.declared.fault.FillFault.{FillFault}
+use Rattle.tv_fill.specs.declared.fault.FillFault.TheVariants.{NoRun, Failed, Memory}
+use Rattle.tv_layout.specs.Systems.{run_values}
+use Rattle.tv_step.specs.Machine.{Accepts}
+use Rattle.tv_step.specs.declared.end.End.{End}
+use Rattle.tv_step.specs.declared.end.End.TheVariants.{Answer}
+use Rattle.tv_top.proofs.trialing.values_of.Goals as goal
+
+-- a run answers one number
+one_answer : (image x aux : List ℕ) (t u v : ℕ) → Accepts 32 image x aux t u → Accepts 32 image x aux t v → u ≡ v
+one_answer image x aux t u v one other =
+    let h : Answer u one.0 ≡ Answer v other.0 = sym one.2 ∙ other.2 in
+    cc
+
+-- and one that answers isn't told to be none
+runs : (image x aux : List ℕ) (t : ℕ) (old new : Kept) (fault : FillFault) (end : End) → Accepts 32 image x aux t 0 → fault ≡ NoRun end → FillsIn kept_giving 32 Benes image x aux t old new (Err fault) → ⊥
+runs image x aux t old new (NoRun other) end accepts is fills = fills.0.1 0 accepts
+runs image x aux t old new Failed end accepts is fills = cc
+runs image x aux t old new Memory end accepts is fills = cc
+
+pub unreachable-requires : goal.unreachable-requires
+unreachable-requires c =
+    runs c.args.image.now c.args.tape.now c.args.aux.now c.args.t c.new-values.result c.fill_system.new.v c.in-Err-NoRun.field-0 c.in-Err-NoRun.field-0-0 c.requires.accepts c.in-Err-NoRun.field-0-is c.in-Err-NoRun.ensures.fills
+
+pub returns-in-Ok : goal.returns-in-Ok
+returns-in-Ok c =
+    let fills : FillsIn kept_giving 32 Benes c.args.image.now c.args.tape.now c.args.aux.now c.args.t c.new-values.result c.fill_system.new.v (Ok tt) = c.in-Ok.ensures.fills in
+    let begun : (c.new-values.result.list ≡ []) × (c.new-values.result.broken ≡ false) = (ap (λ (v : Kept). v.list) c.new-values.ensures, ap (λ (v : Kept). v.broken) c.new-values.ensures) in
+    (fills.2.stands [] begun).0 ∙ ap (run_values 32 Benes c.args.image.now c.args.tape.now c.args.aux.now c.args.t) (one_answer c.args.image.now c.args.tape.now c.args.aux.now c.args.t fills.0 0 fills.1 c.requires.accepts)

@@ -1,0 +1,61 @@
+-- `build TEXT N T SYSTEM`, which may have one more word, `waksman`: the system of a program's runs.
+use Rattle.std.specs.Prelude.{ℕ, codes, List, [], ◌∷◌, Option, Some, None, Result, IfOk, if◌then◌else◌}
+use Rattle.std.specs.Str.{bytes_eq}
+use Rattle.tv_benes.specs.declared.shape.Net.{Net}
+use Rattle.tv_benes.specs.declared.shape.Net.TheVariants.{Benes, Waksman}
+use Rattle.tv_core.specs.Constraints.{System}
+use Rattle.tv_core.specs.declared.limits.TheConstants.{TAPE_WORDS, STEPS}
+use Rattle.tv_files.specs.Outside.{Names, Outside}
+use Rattle.tv_layout.specs.Reduces.{Reduces}
+use Rattle.tv_layout.specs.Systems.{system_of}
+use Rattle.tv_top.specs.declared.place.Amount.{Amount}
+use Rattle.tv_top.specs.declared.programs.Program.{Program}
+use Rattle.tv_top.specs.declared.refusal.Bad.{Bad}
+use Rattle.tv_top.specs.declared.refusal.Finish.TheVariants.{Quiet}
+use Rattle.tv_top.specs.declared.refusal.Quantity.TheVariants.{TapeWords, Steps}
+use Rattle.tv_top.specs.declared.status.Status.{Status}
+use Rattle.tv_top.specs.Claims.{Holds, Comes}
+use Rattle.tv_top.specs.Contents.{Content.{Constraints}}
+use Rattle.tv_top.specs.Kinds.{is_quiet}
+use Rattle.tv_top.specs.Plan.{Named, Plan, Outcome, input, comes_by}
+use Rattle.tv_top.specs.Programs.{bits, program_in, program_sizes}
+
+-- the network that the word behind those of the command tells: none is Benes' one, and `waksman` is Waksman's
+abbrev pub net_word : List (List ℕ) → Option Net
+net_word [] = Some Benes
+net_word (word ∷ []) = if bytes_eq word (codes "waksman") then Some Waksman else None
+net_word _ = None
+
+-- how many words the tape has, and how many steps there are at most
+abbrev pub size_amounts : ℕ → ℕ → List Amount
+size_amounts n t = record { what = TapeWords; has = n; least = 0; most = TAPE_WORDS } ∷ record { what = Steps; has = t; least = 1; most = STEPS } ∷ []
+
+-- the system of a program's runs of t steps on tapes of n words
+unfoldable pub program_system : Net → ℕ → ℕ → Program → System
+program_system net n t program = system_of (bits program.width) net program.words n t
+
+abbrev pub build_ends : Net → ℕ → ℕ → Program → Outcome
+build_ends net n t program = record { files = Constraints (program_system net n t program) ∷ []; finish = Quiet }
+
+abbrev pub build_writes : List ℕ → List Named
+build_writes system = record { word = 4; name = system } ∷ []
+
+abbrev pub build_plan : Net → List ℕ → ℕ → ℕ → List ℕ → Plan
+build_plan net text n t system = record {
+  reads = record { word = 1; name = text } ∷ [];
+  writes = build_writes system;
+  amounts = size_amounts n t;
+  sizes = program_sizes;
+  ends_by = is_quiet;
+  comes = λ files. comes_by (build_ends net n t) (input 1 program_in text files);
+}
+
+-- the file of a program text holds a program, whose system reduces its runs, or it is refused for this
+pub record HasSystem (net : Net) (n t : ℕ) (text : Option (List ℕ)) (held : Result Program Bad) : Type 0 where
+  pub holds : Holds program_in text held
+  pub reduces : IfOk held (λ program. Reduces (bits program.width) (program_system net n t program) program.words n t)
+
+-- What `build` promises over files that told their contents, the two names being different and N and T within
+-- their limits: TEXT holds a program, whose system SYSTEM then holds, or it is refused for this.
+abbrev pub Builds : Net → Names → List ℕ → ℕ → ℕ → List ℕ → Outside → Outside → Status → Type 0
+Builds net files text n t system = Comes (build_writes system) (build_ends net n t) (HasSystem net n t (files text)) files

@@ -1,0 +1,99 @@
+-- `extract TEXT N T WITNESS TAPE AUX`, which may have one more word, `waksman`: the run that an assignment of a
+-- program's system has.
+use Rattle.std.specs.Prelude.{◌≡◌, ℕ, List, [], ◌∷◌, Option, Some, None, Result, Ok, Err, IfOk}
+use Rattle.tv_benes.specs.declared.shape.Net.{Net}
+use Rattle.tv_core.specs.Constraints.{Sat}
+use Rattle.tv_extract.specs.Extracting.{run_in}
+use Rattle.tv_extract.specs.declared.run.ExtractFault.{ExtractFault}
+use Rattle.tv_extract.specs.declared.run.ExtractFault.TheVariants as faults
+use Rattle.tv_extract.specs.declared.run.Run.{Run}
+use Rattle.tv_files.specs.Outside.{Names, Outside}
+use Rattle.tv_step.specs.declared.end.End.TheVariants.{Answer}
+use Rattle.tv_tape.specs.Tape.{text_of}
+use Rattle.tv_top.specs.declared.extracting.Assignment.{Assignment}
+use Rattle.tv_top.specs.declared.programs.Program.{Program}
+use Rattle.tv_top.specs.declared.refusal.Bad.{Bad}
+use Rattle.tv_top.specs.declared.refusal.Finish.{Finish}
+use Rattle.tv_top.specs.declared.refusal.Finish.TheVariants as finishes
+use Rattle.tv_top.specs.declared.status.NotRun.TheVariants.{WireCount, WideWire, NotARun}
+use Rattle.tv_top.specs.declared.status.Status.{Status}
+use Rattle.tv_extract.specs.Runs.{IsRunOf, HasRunIn}
+use Rattle.tv_top.specs.Building.{program_system, size_amounts}
+use Rattle.tv_top.specs.Claims.{Holds, Then, Comes}
+use Rattle.tv_top.specs.Containers.{witness_in}
+use Rattle.tv_top.specs.Contents.{Content.{Bytes}}
+use Rattle.tv_top.specs.Kinds.{is_extract}
+use Rattle.tv_top.specs.Plan.{Named, Plan, Outcome, Look, ◌>>=◌, input, comes_by}
+use Rattle.tv_top.specs.Programs.{bits, program_in, program_sizes}
+
+-- a program, and an assignment of its system
+pub record Assigned : Type 0 where
+  pub program : Program
+  pub z : List ℕ
+
+-- as the code keeps them
+abbrev pub assigned_in : Assignment → Assigned
+assigned_in assignment = record { program = assignment.program; z = assignment.values.items }
+
+-- a program that was read, and the witness
+unfoldable pub assigned_with : Program → List ℕ → Names → Look Assigned
+assigned_with program witness files = do
+  z ← input 4 witness_in witness files
+  record { at = 4; gives = Ok (record { program = program; z = z }) }
+
+-- the two files, the text being judged before the witness is read
+unfoldable pub assigned_of : List ℕ → List ℕ → Names → Look Assigned
+assigned_of text witness files = do
+  program ← input 1 program_in text files
+  assigned_with program witness files
+
+-- the run that the assignment has, or why it has none
+unfoldable pub assigned_run : Net → ℕ → ℕ → Assigned → Result Run ExtractFault
+assigned_run net n t assigned = run_in (bits assigned.program.width) net assigned.program.words n t assigned.z
+
+-- the end where there is none, unless memory was wanting
+abbrev pub not_run : ExtractFault → Option Finish
+not_run (faults.WireCount has wants) = Some (finishes.NotARun (WireCount has wants))
+not_run (faults.WideWire at) = Some (finishes.NotARun (WideWire at))
+not_run (faults.NotARun end) = Some (finishes.NotARun (NotARun end))
+not_run faults.Memory = None
+
+-- what comes of that; a definition never wants memory, so that case stands for nothing
+abbrev pub not_run_ends : Option Finish → Outcome
+not_run_ends (Some finish) = record { files = []; finish = finish }
+not_run_ends None = record { files = []; finish = finishes.NotARun (WireCount 0 0) }
+
+-- what comes of a run: the two tapes' texts, and the answer with its step
+abbrev pub extract_by : Result Run ExtractFault → Outcome
+extract_by (Ok run) = record { files = Bytes (text_of run.tape) ∷ Bytes (text_of run.aux) ∷ []; finish = finishes.Run (Answer run.answer run.step) }
+extract_by (Err fault) = not_run_ends (not_run fault)
+
+abbrev pub extract_ends : Net → ℕ → ℕ → Assigned → Outcome
+extract_ends net n t assigned = extract_by (assigned_run net n t assigned)
+
+abbrev pub extract_writes : List ℕ → List ℕ → List Named
+extract_writes tape aux = record { word = 5; name = tape } ∷ record { word = 6; name = aux } ∷ []
+
+abbrev pub extract_plan : Net → List ℕ → ℕ → ℕ → List ℕ → List ℕ → List ℕ → Plan
+extract_plan net text n t witness tape aux = record {
+  reads = record { word = 1; name = text } ∷ record { word = 4; name = witness } ∷ [];
+  writes = extract_writes tape aux;
+  amounts = size_amounts n t;
+  sizes = program_sizes;
+  ends_by = is_extract;
+  comes = λ files. comes_by (extract_ends net n t) (assigned_of text witness files);
+}
+
+-- the two files hold a program and an assignment, or the first of them that is refused is refused for this; the run
+-- that is found is one of the assignment, and an assignment that satisfies the program's system has one, which reads
+-- all of its auxiliary tape
+pub record HasAssigned (net : Net) (files : Names) (text : List ℕ) (n t : ℕ) (witness : List ℕ) (held : Result Assigned Bad) : Type 0 where
+  pub holds : Then (Holds program_in (files text)) (λ program. Then (Holds witness_in (files witness)) (λ z held. held ≡ Ok (record { program = program; z = z }))) held
+  pub run : IfOk held (λ assigned. (run : Run) → assigned_run net n t assigned ≡ Ok run → IsRunOf (bits assigned.program.width) assigned.program.words n t assigned.z run)
+  pub satisfying : IfOk held (λ assigned. Sat (program_system net n t assigned.program) assigned.z → HasRunIn (bits assigned.program.width) net assigned.program.words n t assigned.z)
+
+-- What `extract` promises over files that told their contents, the names that are written being none of the others and
+-- N and T within their limits.
+abbrev pub Extracts : Net → Names → List ℕ → ℕ → ℕ → List ℕ → List ℕ → List ℕ → Outside → Outside → Status → Type 0
+Extracts net files text n t witness tape aux =
+    Comes (extract_writes tape aux) (extract_ends net n t) (HasAssigned net files text n t witness) files

@@ -1,0 +1,69 @@
+-- A program and the two tapes of its run, which `run` and `witness` read.
+use Rattle.std.specs.Prelude.{◌≡◌, ◌≤◌, ℕ, ◌^◌, List, [], ◌∷◌, ◌++◌, length, Result, Ok}
+use Rattle.tv_core.specs.declared.limits.TheConstants.{TAPE_WORDS, AUX_WORDS}
+use Rattle.tv_files.specs.Outside.{Names}
+use Rattle.tv_step.specs.Machine.{start, end_of}
+use Rattle.tv_step.specs.Range.{AreWords}
+use Rattle.tv_step.specs.declared.end.End.{End}
+use Rattle.tv_top.specs.declared.loading.Inputs.{Inputs}
+use Rattle.tv_top.specs.declared.programs.Program.{Program}
+use Rattle.tv_top.specs.declared.refusal.Bad.{Bad}
+use Rattle.tv_top.specs.declared.refusal.Size.{Size}
+use Rattle.tv_top.specs.declared.refusal.Size.TheVariants.{TapeWords, AuxWords}
+use Rattle.tv_top.specs.Claims.{Holds, Then}
+use Rattle.tv_top.specs.Plan.{Look, ◌>>=◌, input}
+use Rattle.tv_top.specs.Programs.{HasImage, bits, program_in, program_sizes}
+use Rattle.tv_top.specs.Tapes.{numbers_in, tape_sizes}
+
+-- the files of the two tapes: words of a width
+abbrev pub primary_in : ℕ → List ℕ → Result (List ℕ) Bad
+primary_in w = numbers_in 2 TapeWords (2 ^ w) TAPE_WORDS
+
+abbrev pub aux_in : ℕ → List ℕ → Result (List ℕ) Bad
+aux_in w = numbers_in 3 AuxWords (2 ^ w) AUX_WORDS
+
+-- a program and a tape that were read, and the auxiliary tape
+unfoldable pub inputs_with : Program → List ℕ → List ℕ → Names → Look Inputs
+inputs_with program primary aux files = do
+  auxiliary ← input 3 (aux_in (bits program.width)) aux files
+  record { at = 3; gives = Ok (record { program = program; tape = primary; aux = auxiliary }) }
+
+-- a program that was read, and the two tapes
+unfoldable pub inputs_on : Program → List ℕ → List ℕ → Names → Look Inputs
+inputs_on program tape aux files = do
+  primary ← input 2 (primary_in (bits program.width)) tape files
+  inputs_with program primary aux files
+
+-- the three files, each read and judged before the next; the text tells the width
+unfoldable pub inputs_of : List ℕ → List ℕ → List ℕ → Names → Look Inputs
+inputs_of text tape aux files = do
+  program ← input 1 program_in text files
+  inputs_on program tape aux files
+
+-- the quantities of which the two tapes may hold too many, and all three files
+abbrev pub both_sizes : List Size
+both_sizes = tape_sizes TapeWords ++ tape_sizes AuxWords
+
+abbrev pub input_sizes : List Size
+input_sizes = program_sizes ++ both_sizes
+
+-- words of the program's width, and no more of them than are allowed
+pub record AreInputs (inputs : Inputs) : Type 0 where
+  pub image : HasImage inputs.program
+  pub tape : AreWords (bits inputs.program.width) inputs.tape
+  pub tape_fits : length inputs.tape ≤ TAPE_WORDS
+  pub aux : AreWords (bits inputs.program.width) inputs.aux
+  pub aux_fits : length inputs.aux ≤ AUX_WORDS
+
+-- the end of the run of at most so many steps
+abbrev pub run_end : ℕ → Inputs → End
+run_end steps inputs =
+    end_of (bits inputs.program.width) steps (start (bits inputs.program.width) inputs.program.words inputs.tape inputs.aux)
+
+-- the three files hold a program and two tapes, or the first of them that is refused is refused for this
+abbrev pub HasInputs : Names → List ℕ → List ℕ → List ℕ → Result Inputs Bad → Type 0
+HasInputs files text tape aux =
+    Then (Holds program_in (files text)) (λ program.
+    Then (Holds (primary_in (bits program.width)) (files tape)) (λ primary.
+    Then (Holds (aux_in (bits program.width)) (files aux)) (λ auxiliary held.
+    held ≡ Ok (record { program = program; tape = primary; aux = auxiliary }))))

@@ -1,0 +1,81 @@
+-- `trial SEED K`: the system of a program drawn from a number, tested on the values of its run.
+use Rattle.std.specs.Prelude.{◌≡◌, ℕ, ◌+◌, ◌%◌, ◌⊎◌, List, [], ◌∷◌, ◌++◌, length, Ok, sum_by, count_by}
+use Rattle.tv_benes.specs.declared.shape.Net.TheVariants.{Benes}
+use Rattle.tv_block.specs.Block.{block_of}
+use Rattle.tv_core.specs.Constraints.{System}
+use Rattle.tv_core.specs.Meanings.{product_in, holds}
+use Rattle.tv_core.specs.declared.field.TheConstants.{P}
+use Rattle.tv_core.specs.declared.limits.TheConstants.{DRAWS}
+use Rattle.tv_draw.specs.Drawing.{image_drawn, tape_drawn, aux_drawn}
+use Rattle.tv_files.specs.Outside.{Names, Outside}
+use Rattle.tv_layout.specs.Systems.{system_of, run_values}
+use Rattle.tv_layout.specs.Values.{IsFill}
+use Rattle.tv_step.specs.Machine.{Accepts}
+use Rattle.tv_word.specs.Counts.{Rose}
+use Rattle.tv_top.specs.declared.refusal.Finish.TheVariants as finishes
+use Rattle.tv_top.specs.declared.refusal.Quantity.TheVariants.{Draws}
+use Rattle.tv_top.specs.declared.refusal.Trial.{Trial}
+use Rattle.tv_top.specs.declared.status.Status.{Status}
+use Rattle.tv_top.specs.declared.status.Status.TheVariants.{Done, FileFault, Memory}
+use Rattle.tv_top.specs.Codes.{trial_text}
+use Rattle.tv_top.specs.Ends.{Added}
+use Rattle.tv_top.specs.Kinds.{is_trial}
+use Rattle.tv_top.specs.Plan.{Plan, Outcome, Look, comes_by}
+
+-- the system of k drawn instructions and `answer 0` behind them, for as many steps, and the values for their run
+abbrev pub drawn_system : ℕ → ℕ → System
+drawn_system seed k = system_of 32 Benes (image_drawn seed k) (length (tape_drawn seed k)) (k + 1)
+
+abbrev pub drawn_values : ℕ → ℕ → List ℕ
+drawn_values seed k = run_values 32 Benes (image_drawn seed k) (tape_drawn seed k) (aux_drawn seed k) (k + 1) 0
+
+-- A system of t steps tested on values: its counts, the sum over its constraints of the products of the values of their
+-- first two combinations, modulo P, and how many of them hold.
+abbrev pub tested : ℕ → System → List ℕ → Trial
+tested t system z = record {
+  steps = t;
+  wires = system.wires;
+  constraints = length system.constraints;
+  sum = sum_by (product_in z) system.constraints % P;
+  satisfied = count_by (holds z) system.constraints;
+}
+
+unfoldable pub trial_of : ℕ → ℕ → Trial
+trial_of seed k = tested (k + 1) (drawn_system seed k) (drawn_values seed k)
+
+abbrev pub trial_ends : ℕ → ℕ → Outcome
+trial_ends seed k = record { files = []; finish = finishes.Trial (trial_of seed k) }
+
+-- no file is looked at
+abbrev pub no_look : Names → Look (Unit {0})
+no_look files = record { at = 0; gives = Ok tt }
+
+abbrev pub trial_plan : ℕ → ℕ → Plan
+trial_plan seed k = record {
+  reads = [];
+  writes = [];
+  amounts = record { what = Draws; has = k; least = 1; most = DRAWS } ∷ [];
+  sizes = [];
+  ends_by = is_trial;
+  comes = λ files. comes_by (λ _. trial_ends seed k) (no_look files);
+}
+
+-- The drawn program answers 0 at its last step, the values satisfy its system and extend 0 and the tape, and so all
+-- constraints hold.
+pub record IsTrial (seed k : ℕ) : Type 0 where
+  pub accepts : Accepts 32 (image_drawn seed k) (tape_drawn seed k) (aux_drawn seed k) (k + 1) 0
+  pub fills : IsFill 32 Benes (block_of 32) (image_drawn seed k) (tape_drawn seed k) (aux_drawn seed k) (k + 1) 0 (drawn_values seed k)
+  pub satisfied : (trial_of seed k).satisfied ≡ (trial_of seed k).constraints
+
+-- how a call of so many words ended: it said what the trial comes to, or saying failed, or memory was wanting
+abbrev pub Tries : ℕ → ℕ → ℕ → Outside → Outside → Status → Type 0
+Tries words seed k old new result =
+    ((result ≡ Done) × Added old new (trial_text (trial_of seed k) ++ 10 ∷ []))
+    ⊎ ((result ≡ FileFault words) × Rose old.say_faults new.say_faults) ⊎ (result ≡ Memory)
+
+-- What `trial` promises over files that told their contents, K being within its limits: it is done and has said what the
+-- trial comes to, unless saying failed or memory was wanting, and no file changed.
+pub record Trials (words seed k : ℕ) (old new : Outside) (result : Status) : Type 0 where
+  pub ended : Tries words seed k old new result
+  pub contents : new.contents ≡ old.contents
+  pub trial : IsTrial seed k

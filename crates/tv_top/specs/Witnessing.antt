@@ -1,0 +1,77 @@
+-- `witness TEXT TAPE AUX T WITNESS`, which may have one more word, `waksman`: the values of the wires of a program's
+-- system for a run that answers.
+use Rattle.std.specs.Prelude.{◌≡◌, ℕ, List, [], ◌∷◌, Option, Some, None, Result, IfOk}
+use Rattle.tv_benes.specs.declared.shape.Net.{Net}
+use Rattle.tv_block.specs.Block.{block_of}
+use Rattle.tv_core.specs.declared.limits.TheConstants.{STEPS}
+use Rattle.tv_files.specs.Outside.{Names, Outside}
+use Rattle.tv_fill.specs.declared.fault.FillFault.{FillFault}
+use Rattle.tv_fill.specs.declared.fault.FillFault.TheVariants as fills
+use Rattle.tv_layout.specs.Systems.{run_values}
+use Rattle.tv_layout.specs.Values.{IsFill}
+use Rattle.tv_step.specs.Machine.{Accepts}
+use Rattle.tv_step.specs.declared.end.End.{End}
+use Rattle.tv_step.specs.declared.end.End.TheVariants.{Answer, Undefined, Silent}
+use Rattle.tv_top.specs.declared.loading.Inputs.{Inputs}
+use Rattle.tv_top.specs.declared.refusal.Bad.{Bad}
+use Rattle.tv_top.specs.declared.refusal.Finish.{Finish}
+use Rattle.tv_top.specs.declared.refusal.Finish.TheVariants.{Quiet, NoRun}
+use Rattle.tv_top.specs.declared.refusal.Quantity.TheVariants.{Steps}
+use Rattle.tv_top.specs.declared.status.Status.{Status}
+use Rattle.tv_top.specs.Claims.{Comes}
+use Rattle.tv_top.specs.Contents.{Content.{Values}}
+use Rattle.tv_top.specs.Kinds.{is_witness}
+use Rattle.tv_top.specs.Loading.{inputs_of, input_sizes, run_end, HasInputs}
+use Rattle.tv_top.specs.Plan.{Named, Plan, Outcome, comes_by}
+use Rattle.tv_top.specs.Programs.{bits}
+
+-- the values for a run that answers v
+unfoldable pub program_values : Net → ℕ → Inputs → ℕ → List ℕ
+program_values net t inputs v = run_values (bits inputs.program.width) net inputs.program.words inputs.tape inputs.aux t v
+
+-- what comes of a run that ends so: its values, or nothing where it doesn't answer
+abbrev pub witness_by : Net → ℕ → Inputs → End → Outcome
+witness_by net t inputs (Answer v step) = record { files = Values (program_values net t inputs v) ∷ []; finish = Quiet }
+witness_by net t inputs (Undefined op step) = record { files = []; finish = NoRun (Undefined op step) }
+witness_by net t inputs (Silent steps) = record { files = []; finish = NoRun (Silent steps) }
+
+abbrev pub witness_ends : Net → ℕ → Inputs → Outcome
+witness_ends net t inputs = witness_by net t inputs (run_end t inputs)
+
+-- the end where there are no values, unless memory was wanting
+abbrev pub no_run : FillFault → Option Finish
+no_run (fills.NoRun end) = Some (NoRun end)
+no_run fills.Failed = None
+no_run fills.Memory = None
+
+abbrev pub witness_writes : List ℕ → List Named
+witness_writes witness = record { word = 5; name = witness } ∷ []
+
+abbrev pub witness_plan : Net → List ℕ → List ℕ → List ℕ → ℕ → List ℕ → Plan
+witness_plan net text tape aux t witness = record {
+  reads = record { word = 1; name = text } ∷ record { word = 2; name = tape } ∷ record { word = 3; name = aux } ∷ [];
+  writes = witness_writes witness;
+  amounts = record { what = Steps; has = t; least = 1; most = STEPS } ∷ [];
+  sizes = input_sizes;
+  ends_by = is_witness;
+  comes = λ files. comes_by (witness_ends net t) (inputs_of text tape aux files);
+}
+
+-- the machine accepts by v, and the values satisfy the system, extend v and the tape, and take the words that the run
+-- reads
+pub record IsWitness (net : Net) (t : ℕ) (inputs : Inputs) (v : ℕ) : Type 0 where
+  pub accepts : Accepts (bits inputs.program.width) inputs.program.words inputs.tape inputs.aux t v
+  pub fills : IsFill (bits inputs.program.width) net (block_of (bits inputs.program.width)) inputs.program.words inputs.tape inputs.aux t v
+      (program_values net t inputs v)
+
+-- the three files hold a program and two tapes, and where the run on them answers, the values are a witness of that;
+-- or the first of them that is refused is refused for this
+pub record HasWitness (net : Net) (files : Names) (text tape aux : List ℕ) (t : ℕ) (held : Result Inputs Bad) : Type 0 where
+  pub inputs : HasInputs files text tape aux held
+  pub witness : IfOk held (λ inputs. (v step : ℕ) → run_end t inputs ≡ Answer v step → IsWitness net t inputs v)
+
+-- What `witness` promises over files that told their contents, WITNESS being none of the names that are read, and T
+-- within its limit.
+abbrev pub Witnesses : Net → Names → List ℕ → List ℕ → List ℕ → ℕ → List ℕ → Outside → Outside → Status → Type 0
+Witnesses net files text tape aux t witness =
+    Comes (witness_writes witness) (witness_ends net t) (HasWitness net files text tape aux t) files

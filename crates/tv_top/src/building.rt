@@ -1,0 +1,149 @@
+//! `build TEXT N T SYSTEM`, which may have one more word, `waksman`: the system of a program's runs.
+ghost use Rattle.std.specs.Prelude.{◌≡◌, [], ◌∷◌, map, string_bytes};
+ghost use Rattle.tv_layout.specs.Places.{WithinLimits};
+ghost use Rattle.tv_layout.specs.Systems.{system_of};
+ghost use Rattle.tv_top.specs.Answers.{Answers};
+ghost use Rattle.tv_top.specs.Building.{net_word, build_plan, program_system, size_amounts};
+ghost use Rattle.tv_top.specs.Contents.{Content.{Constraints}};
+ghost use Rattle.tv_top.specs.Ends.{Writes};
+ghost use Rattle.tv_top.specs.Plan.{AreWithin, refusal_of};
+ghost use Rattle.tv_top.specs.Programs.{HasImage, bits};
+
+use crate::place::{Amount, Place, refusal_of};
+use crate::programs::{Program, Width, read_program};
+use crate::refusal::{Cut, Ending, Finish, Quantity, Refusal};
+use crate::status::Status;
+use crate::writing::{close, conclude, sink_cut, streamed};
+use std::alloc::Global;
+use tv_benes::Net;
+use tv_core::limits::{STEPS, TAPE_WORDS};
+use tv_files::Files;
+use tv_layout::{emit_system, sizes};
+use tv_r1cs_write::StreamSink;
+
+/// The network that the words behind those of a command tell, which may be none or `waksman`.
+pub(crate) fn net_word(last: &[String]) -> Option<Net>
+    ensures { result ≡ net_word (map string_bytes last.now) }
+{
+    match last {
+        [] => Some(Net::Benes),
+        [word] if word.as_str() == "waksman" => Some(Net::Waksman),
+        _ => None,
+    }
+}
+
+/// Writes the system of the runs of an image, its constraints as they come.
+fn write_layout<const W: u32, D: Files>(
+    files: &mut D,
+    place: Place<'_>,
+    image: &[u32],
+    n: u32,
+    t: u32,
+    net: Net,
+) -> Result<(), Cut>
+    requires { WithinLimits W image.now n t }
+    ensures { Writes (record {
+      word = place.entry.word;
+      name = place.entry.name.now;
+      content = Constraints (system_of W net image.now n t);
+    } ∷ [])
+        (D.seen files.old) (D.seen files.new) result }
+{
+    let counts = sizes::<W>(image, n, t, net);
+    let mut sink = match StreamSink::begin(files, place.name, counts) {
+        Ok(sink) => sink,
+        Err(refused) => return Err(sink_cut(place.word, refused.why)),
+    };
+    match emit_system::<W, _>(image, n, t, net, &mut sink) {
+        Ok(()) => streamed(place.word, sink.finish()),
+        Err(fault) => Err(sink_cut(place.word, fault)),
+    }
+}
+
+/// Writes the system of a program's runs under the name at word 4.
+#[tactic(auto, unfolding(crate::specs::Building::program_system))]
+fn write_system<D: Files>(
+    files: &mut D,
+    name: &str,
+    program: &Program,
+    n: u32,
+    t: u32,
+    net: Net,
+) -> Result<(), Cut>
+    requires image { HasImage program.now }
+    requires amounts { AreWithin (build_plan net [] n t name.now).amounts }
+    ensures { Writes (record {
+      word = 4;
+      name = name.now;
+      content = Constraints (program_system net n t program.now);
+    } ∷ [])
+        (D.seen files.old) (D.seen files.new) result }
+{
+    let place = Place { word: 4, name };
+    let image = program.words.as_slice();
+    match program.width {
+        Width::Bits16 => write_layout::<16, D>(files, place, image, n, t, net),
+        Width::Bits32 => write_layout::<32, D>(files, place, image, n, t, net),
+    }
+}
+
+/// How many words the tape has, and how many steps there are at most.
+pub(crate) fn size_amounts(n: u64, t: u64) -> [Amount; 2]
+    ensures { result ≡ size_amounts n t }
+{
+    let tape_words = Amount {
+        what: Quantity::TapeWords,
+        has: n,
+        least: 0,
+        most: u64::from(TAPE_WORDS),
+    };
+    let steps = Amount {
+        what: Quantity::Steps,
+        has: t,
+        least: 1,
+        most: u64::from(STEPS),
+    };
+    [tape_words, steps]
+}
+
+/// What the words are refused for.
+pub(crate) fn build_refusal(net: Net, text: &str, n: u64, t: u64, system: &str) -> Option<Refusal>
+    ensures { let plan = build_plan net text.now n t system.now in
+        result ≡ refusal_of plan.reads plan.writes plan.amounts }
+{
+    refusal_of(
+        &[Place {
+            word: 1,
+            name: text,
+        }],
+        &[Place {
+            word: 4,
+            name: system,
+        }],
+        &size_amounts(n, t),
+    )
+}
+
+/// Does the command, whose words are so many.
+pub(crate) fn build<D: Files>(
+    alloc: Global,
+    files: &mut D,
+    words: usize,
+    net: Net,
+    text: &str,
+    n: u64,
+    t: u64,
+    system: &str,
+) -> Status
+    requires { AreWithin (build_plan net text.now n t system.now).amounts }
+    ensures { Answers (Ok (build_plan net text.now n t system.now)) words
+        (D.seen files.old) (D.seen files.new) result }
+{
+    match read_program(alloc, files, text) {
+        Ok(program) => {
+            let written = write_system(files, system, &program, n as u32, t as u32, net);
+            close(files, words, written, Finish::Quiet)
+        }
+        Err(stop) => conclude(files, words, Ending::Stopped(stop)),
+    }
+}

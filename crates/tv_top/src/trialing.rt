@@ -1,0 +1,111 @@
+//! `trial SEED K`: the system of a program drawn from a number, tested on the values of its run.
+ghost use Rattle.std.specs.Prelude.{◌≡◌, ◌^◌, ◌<◌, ◌≤◌, length, Ok, IfOk};
+ghost use Rattle.tv_benes.specs.declared.shape.Net.TheVariants.{Benes};
+ghost use Rattle.tv_core.specs.declared.limits.TheConstants.{DRAWS};
+ghost use Rattle.tv_layout.specs.Places.{WithinLimits};
+ghost use Rattle.tv_layout.specs.Systems.{system_of, run_values};
+ghost use Rattle.tv_step.specs.Machine.{Accepts};
+ghost use Rattle.tv_step.specs.Range.{AreWords};
+ghost use Rattle.tv_top.specs.Answers.{Answers};
+ghost use Rattle.tv_top.specs.Plan.{AreWithin, refusal_of};
+ghost use Rattle.tv_top.specs.Trialing.{tested, trial_of, trial_plan};
+
+use crate::place::{Amount, refusal_of};
+use crate::refusal::{Ending, Finish, Quantity, Refusal, Stop, Trial};
+use crate::status::Status;
+use crate::writing::{conclude, finish};
+use std::alloc::{AllocError, Global};
+use tv_benes::Net;
+use tv_core::limits::DRAWS;
+use tv_core::{F, ListValues, TestSink};
+use tv_draw::draw;
+use tv_files::Files;
+use tv_fill::{FillFault, fill_system};
+use tv_layout::{emit_system, sizes};
+
+/// The values of the system of a run that answers 0 at a step of at most `t`.
+fn values_of(
+    alloc: Global,
+    image: &[u32],
+    tape: &[u32],
+    aux: &[u32],
+    t: u32,
+) -> Result<ListValues, AllocError>
+    requires limits { WithinLimits 32 image.now (length tape.now) t }
+    requires tape { AreWords 32 tape.now }
+    requires aux { AreWords 32 aux.now }
+    requires aux_few { length aux.now < 2 ^ 32 }
+    requires accepts { Accepts 32 image.now tape.now aux.now t 0 }
+    ensures { IfOk result (λ values.
+        values.list ≡ run_values 32 Benes image.now tape.now aux.now t 0) }
+{
+    let mut values = ListValues::new(alloc);
+    match fill_system::<32, ListValues>(alloc, image, tape, aux, t, Net::Benes, &mut values) {
+        Ok(()) => Ok(values),
+        Err(FillFault::NoRun { .. }) => unreachable!(),
+        Err(FillFault::Failed | FillFault::Memory) => Err(AllocError),
+    }
+}
+
+/// The system of an image's runs of `t` steps on tapes of `n` words, tested on these values.
+fn tested(image: &[u32], n: u32, t: u32, z: &[F]) -> Trial
+    requires { WithinLimits 32 image.now n t }
+    ensures { result ≡ tested t (system_of 32 Benes image.now n t) z.now }
+{
+    let counts = sizes::<32>(image, n, t, Net::Benes);
+    let mut tests = TestSink::over(z, 2 + n);
+    match emit_system::<32, TestSink>(image, n, t, Net::Benes, &mut tests) {
+        Ok(()) => Trial {
+            steps: t,
+            wires: counts.wires,
+            constraints: counts.constraints,
+            sum: tests.sum().number(),
+            satisfied: tests.held(),
+        },
+        Err(_) => unreachable!(),
+    }
+}
+
+/// Draws a program of `k` instructions and tests its system on the values of its run.
+#[tactic(auto, unfolding(crate::specs::Trialing::trial_of), using(crate::proofs::Drawn::drawn_within, crate::proofs::Drawn::tape_words))]
+fn trial_of(alloc: Global, seed: u64, k: u32) -> Result<Trial, AllocError>
+    requires { k ≤ DRAWS }
+    ensures { IfOk result (λ trial. trial ≡ trial_of seed k) }
+{
+    let drawn = draw(alloc, seed, k)?;
+    let image = drawn.image.as_slice();
+    let tape = drawn.tape.as_slice();
+    let values = values_of(alloc, image, tape, drawn.aux.as_slice(), k + 1)?;
+    Ok(tested(image, tape.len() as u32, k + 1, values.as_slice()))
+}
+
+/// What the words are refused for.
+pub(crate) fn trial_refusal(seed: u64, k: u64) -> Option<Refusal>
+    ensures { let plan = trial_plan seed k in
+        result ≡ refusal_of plan.reads plan.writes plan.amounts }
+{
+    let draws = Amount {
+        what: Quantity::Draws,
+        has: k,
+        least: 1,
+        most: u64::from(DRAWS),
+    };
+    refusal_of(&[], &[], &[draws])
+}
+
+/// Does the command, whose words are so many.
+pub(crate) fn trial<D: Files>(
+    alloc: Global,
+    files: &mut D,
+    words: usize,
+    seed: u64,
+    k: u64,
+) -> Status
+    requires { AreWithin (trial_plan seed k).amounts }
+    ensures { Answers (Ok (trial_plan seed k)) words (D.seen files.old) (D.seen files.new) result }
+{
+    match trial_of(alloc, seed, k as u32) {
+        Ok(trial) => finish(files, words, &[], Finish::Trial(trial)),
+        Err(AllocError) => conclude(files, words, Ending::Stopped(Stop::Memory)),
+    }
+}
