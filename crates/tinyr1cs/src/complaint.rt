@@ -2,6 +2,7 @@
 ghost use Rattle.std.specs.Prelude.{◌≡◌, map, option_map, Some, string_bytes};
 ghost use Rattle.tinyr1cs.specs.Complaint.{text_of, complaint_text};
 
+use crate::escaped::Escaped;
 use std::fmt;
 use tv_top::Status;
 
@@ -12,7 +13,7 @@ pub enum Complaint<'a> {
     NotUtf8,
     /// Memory was wanting.
     NoMemory,
-    /// A file call failed, on this name.
+    /// A file call failed, on this name, which is said with its control characters escaped.
     FileFault(&'a str),
 }
 
@@ -23,7 +24,7 @@ impl fmt::Display for Complaint<'_> {
         match self {
             Complaint::NotUtf8 => write!(f, "not UTF-8"),
             Complaint::NoMemory => write!(f, "no memory"),
-            Complaint::FileFault(name) => write!(f, "file fault: {name}"),
+            Complaint::FileFault(name) => write!(f, "file fault: {}", Escaped(name)),
         }
     }
 }

@@ -6,50 +6,72 @@ ghost use Rattle.tinyr1cs.specs.declared.counts.Call.TheVariants.{Reading, Writi
 
 use crate::counts::{Call, Counts};
 use crate::open::OpenFiles;
+use crate::progress::Progress;
 use std::alloc::Global;
 use std::io::Write;
+use std::marker::Model;
 use std::{io, rt};
 use tv_files::{FileRefusal, Files};
 
 /// The files of the system, by name, and its standard output.
 ///
-/// Of files and of what was said nothing is told but counts: each refusal raises one by 1, and
-/// nothing else does.
+/// Of files and of what was said nothing is told but counts, as which contracts see it: each
+/// refusal raises one by 1, and nothing else does.
 #[derive(Drop)]
 pub struct DiskFiles<R: rt::Files + Drop> {
     rt: R,
     open: OpenFiles<R>,
     counts: Counts,
+    progress: Progress,
+}
+
+impl<R: rt::Files + Drop> Model for DiskFiles<R> {
+    ghost use Rattle.tinyr1cs.specs.declared.counts.Counts.{Counts};
+
+    ghost Value = { Counts };
+
+    ghost view = { λ files. files.counts };
 }
 
 impl<R: rt::Files + Drop> DiskFiles<R> {
-    /// Opens nothing yet, with all counts 0.
-    pub fn new(alloc: Global, rt: R) -> DiskFiles<R>
-        ensures { result.counts ≡ zeros }
+    /// Opens nothing yet, with all counts 0. Where `is_told`, standard error is a terminal, and
+    /// tells how much of a file is written.
+    pub fn new(alloc: Global, rt: R, is_told: bool) -> DiskFiles<R>
+        ensures { result ≡ zeros }
     {
         DiskFiles {
             rt,
             open: OpenFiles::new(alloc),
             counts: Counts::new(),
+            progress: Progress::new(is_told),
         }
     }
 
     /// How many calls were refused so far, by cause.
     pub fn counts(&self) -> Counts
-        ensures { result ≡ self.now.counts }
+        ensures { result ≡ self.now }
     {
         self.counts
     }
 }
 
-impl<R: rt::Files + Print + Drop> Files for DiskFiles<R> {
-    ghost seen = { λ files. told_by files.counts };
+impl<R: rt::Files + Eprint + Drop> DiskFiles<R> {
+    /// Takes the line away that tells how much is written, where one stands.
+    pub fn clear(&mut self)
+        ensures { self.new ≡ self.old }
+    {
+        self.progress.clear(&self.rt);
+    }
+}
+
+impl<R: rt::Files + Print + Eprint + Drop> Files for DiskFiles<R> {
+    ghost seen = { λ files. told_by files };
 
     #[tactic(auto, using(crate::proofs::Told::reads))]
     fn read(&mut self, name: &str, at: u64, into: &mut [u8]) -> Result<usize, FileRefusal>
-        ensures told { Reads (told_by self.old.counts) (told_by self.new.counts)
+        ensures told { Reads (told_by self.old) (told_by self.new)
             name.now at into.new result }
-        ensures counts { self.new.counts ≡ after Reading result self.old.counts }
+        ensures counts { self.new ≡ after Reading result self.old }
     {
         let outcome = self.open.read(&self.rt, name, at, into);
         self.counts.settle(Call::Reading, outcome)
@@ -57,28 +79,31 @@ impl<R: rt::Files + Print + Drop> Files for DiskFiles<R> {
 
     #[tactic(auto, using(crate::proofs::Told::creates))]
     fn create(&mut self, name: &str) -> Result<(), FileRefusal>
-        ensures told { Creates (told_by self.old.counts) (told_by self.new.counts) name.now result }
-        ensures counts { self.new.counts ≡ after Writing result self.old.counts }
+        ensures told { Creates (told_by self.old) (told_by self.new) name.now result }
+        ensures counts { self.new ≡ after Writing result self.old }
     {
+        self.progress.begin();
         let outcome = self.open.create(&self.rt, name);
         self.counts.settle(Call::Writing, outcome)
     }
 
     #[tactic(auto, using(crate::proofs::Told::appends))]
     fn append(&mut self, name: &str, bytes: &[u8]) -> Result<(), FileRefusal>
-        ensures told { Appends (told_by self.old.counts) (told_by self.new.counts)
+        ensures told { Appends (told_by self.old) (told_by self.new)
             name.now bytes.now result }
-        ensures counts { self.new.counts ≡ after Writing result self.old.counts }
+        ensures counts { self.new ≡ after Writing result self.old }
     {
         let outcome = self.open.append(&self.rt, name, bytes);
+        self.progress.add(&self.rt, name, bytes.len());
         self.counts.settle(Call::Writing, outcome)
     }
 
     #[tactic(auto, using(crate::proofs::Told::says))]
     fn say(&mut self, bytes: &[u8]) -> Result<(), FileRefusal>
-        ensures told { Says (told_by self.old.counts) (told_by self.new.counts) bytes.now result }
-        ensures counts { self.new.counts ≡ after Saying result self.old.counts }
+        ensures told { Says (told_by self.old) (told_by self.new) bytes.now result }
+        ensures counts { self.new ≡ after Saying result self.old }
     {
+        self.progress.clear(&self.rt);
         let outcome = print(&self.rt, bytes);
         self.counts.settle(Call::Saying, outcome)
     }
@@ -107,7 +132,7 @@ mod tests {
         let absent = folder.join(alloc, "absent")?;
         fs::create_dir_all(&rt, folder.as_path())?;
         let name = file.as_str();
-        let mut files = DiskFiles::new(alloc, rt);
+        let mut files = DiskFiles::new(alloc, rt, false);
 
         // What was appended is read back from any place, also between two appends.
         files.create(name)?;

@@ -11,24 +11,42 @@ ghost use Rattle.tv_top.specs.Status.{code_of};
 mod complaint;
 mod counts;
 mod disk;
+mod escaped;
 mod open;
+mod progress;
 mod reader;
+mod standard;
 mod words;
 
 use complaint::Complaint;
 use disk::DiskFiles;
-use std::io::ErrorKind;
+use std::io::{ErrorKind, IsTerminal};
 use std::process::ExitCode;
 use tv_top::{Status, command};
 
 /// The exit code where a word isn't UTF-8. The others are those of `Status`.
 const NOT_UTF8: u8 = 14;
 
+/// The exit code where the standard streams' numbers can't be kept from files.
+const FILE_FAULT: u8 = 8;
+
 fn main(rt: HostRuntime) -> ExitCode {
+    match standard::occupy(&rt) {
+        Ok(_held) => run(rt),
+        Err(_) => {
+            complain(&rt, Complaint::FileFault("/dev/null"));
+            ExitCode::from(FILE_FAULT)
+        }
+    }
+}
+
+/// Runs the command that the words name.
+fn run(rt: HostRuntime) -> ExitCode {
     match words::words(&rt) {
         Ok(words) => {
-            let mut files = DiskFiles::new(rt.alloc(), rt);
+            let mut files = DiskFiles::new(rt.alloc(), rt, rt.stderr().is_terminal());
             let status = command(rt.alloc(), &words, &mut files);
+            files.clear();
             end(&rt, &words, &status)
         }
         Err(error) if error.kind() == ErrorKind::OutOfMemory => end(&rt, &[], &Status::Memory),

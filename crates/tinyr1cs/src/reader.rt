@@ -23,17 +23,33 @@ impl<F: Read + Seek> Reader<F> {
     pub fn read_at(&mut self, at: u64, into: &mut [u8]) -> io::Result<usize>
         ensures { IfOk result (λ count. count ≤ length into.new) }
     {
-        if self.place != at {
-            match self.file.seek(SeekFrom::Start(at)) {
-                Ok(place) => self.place = place,
-                // No file reaches as far as this.
-                Err(error) if error.kind() == ErrorKind::InvalidInput => return Ok(0),
-                Err(error) => return Err(error),
-            }
+        if self.place != at && !self.go(at)? {
+            return Ok(0);
         }
         let count = read_once(&mut self.file, into)?;
         self.place = at.saturating_add(count as u64);
         Ok(count)
+    }
+
+    /// Goes to a place, or answers `false` for one behind the file's end that the system refuses:
+    /// it does so where no file of that file system can reach as far. A refusal of any other place
+    /// is an error.
+    fn go(&mut self, at: u64) -> io::Result<bool> {
+        match self.file.seek(SeekFrom::Start(at)) {
+            Ok(place) => {
+                self.place = place;
+                Ok(true)
+            }
+            Err(error) if error.kind() == ErrorKind::InvalidInput => {
+                self.place = self.file.seek(SeekFrom::End(0))?;
+                if at < self.place {
+                    Err(error)
+                } else {
+                    Ok(false)
+                }
+            }
+            Err(error) => Err(error),
+        }
     }
 }
 

@@ -1,0 +1,9 @@
+use Rattle.std.proofs.Common.{◌≡◌, ℕ, List, ◌++◌}
+use Rattle.std.specs.Fmt.{HasWritten, IsPlainFormatter}
+use Rattle.tinyr1cs.specs.Complaint.{escaped}
+use Rattle.tinyr1cs.proofs.escaped.EscapedDisplay.fmt.Given as goal
+
+abbrev pub invariant-loop-c : goal.invariant-loop-c
+invariant-loop-c g l =
+    IsPlainFormatter l.fn.f
+    → (done : List ℕ) × HasWritten g.W.Write.write_str_gives l.fn.f done l.f × (done ++ escaped l.c-iterator.rest.now ≡ escaped l.fn.self.0.now)

@@ -1,0 +1,123 @@
+//! How much of a file is written, told on a terminal.
+use std::{fmt, io};
+
+/// A line is told each time that this many bytes more were written.
+const STEP: u64 = 64_000_000;
+
+/// Names of more bytes than this aren't told.
+const LONGEST: usize = 40;
+
+/// Takes the line away: as many blanks as the longest line has, and a few more.
+const CLEARED: &str = "\r                                                                \r";
+
+/// What is written of a file, and how it is told: by one line on standard error, written over each
+/// `STEP` bytes and taken away at the end. A standard error that fails changes nothing.
+#[derive(Clone, Copy)]
+pub struct Progress {
+    /// How many bytes of the file were written.
+    written: u64,
+    /// How many there are when they are told next: never, where no line is to be told.
+    due: u64,
+    is_told: bool,
+    is_shown: bool,
+}
+
+/// The line: a name, how many bytes, in MB or GB, and blanks over what stood there.
+#[derive(Clone, Copy)]
+struct Line<'a> {
+    name: &'a str,
+    bytes: u64,
+}
+
+impl Progress {
+    /// Tells lines where `is_told`, which is to say that standard error is a terminal.
+    pub fn new(is_told: bool) -> Progress {
+        Progress {
+            written: 0,
+            due: if is_told { STEP } else { u64::MAX },
+            is_told,
+            is_shown: false,
+        }
+    }
+
+    /// A file begins.
+    pub fn begin(&mut self) {
+        self.written = 0;
+        if self.is_told {
+            self.due = STEP;
+        }
+    }
+
+    /// Some bytes more were written to a file.
+    pub fn add(&mut self, err: &impl Eprint, name: &str, count: usize) {
+        self.written = self.written.saturating_add(count as u64);
+        if self.written >= self.due {
+            self.tell(err, name);
+        }
+    }
+
+    #[cold]
+    fn tell(&mut self, err: &impl Eprint, name: &str) {
+        if self.is_told {
+            self.due = self.written.saturating_add(STEP);
+            self.is_shown = true;
+            let _ = err.eprint(Line {
+                name: told_name(name),
+                bytes: self.written,
+            });
+        }
+    }
+
+    /// Takes the line away, where one stands.
+    pub fn clear(&mut self, err: &impl Eprint) {
+        if self.is_shown {
+            self.is_shown = false;
+            let _ = err.eprint(CLEARED);
+        }
+    }
+}
+
+/// A name that has a place in a line, or what stands for one that has none.
+fn told_name(name: &str) -> &str {
+    let is_plain = name.bytes().all(|byte| (0x20..0x7f).contains(&byte));
+    if is_plain && name.len() <= LONGEST {
+        name
+    } else {
+        "file"
+    }
+}
+
+impl fmt::Display for Line<'_> {
+    fn fmt<W: fmt::Write>(&self, f: &mut fmt::Formatter<W>) -> fmt::Result {
+        let megabytes = self.bytes / 1_000_000;
+        let name = self.name;
+        if megabytes < 1_000 {
+            return write!(f, "\r{name}: {megabytes} MB ");
+        }
+        let whole = megabytes / 1_000;
+        let tenth = megabytes / 100 % 10;
+        write!(f, "\r{name}: {whole}.{tenth} GB ")
+    }
+}
+
+#[cfg(test)]
+mod tests {
+    use super::*;
+    use std::test::Fail;
+
+    #[test]
+    fn lines_tell_bytes(rt: HostRuntime) -> Result<(), Fail> {
+        let alloc = rt.alloc();
+        for (name, bytes, line) in [
+            ("SYSTEM", 64_001_234, "\rSYSTEM: 64 MB "),
+            ("SYSTEM", 999_999_999, "\rSYSTEM: 999 MB "),
+            ("SYSTEM", 1_280_000_000, "\rSYSTEM: 1.2 GB "),
+            ("a\nb", 64_000_000, "\rfile: 64 MB "),
+        ] {
+            let name = told_name(name);
+            let text = format!(in alloc; "{}", Line { name, bytes })?;
+            assert_eq!(rt; text.as_str(), line);
+        }
+        Ok(())
+    }
+}
