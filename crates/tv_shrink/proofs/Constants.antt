@@ -1,0 +1,89 @@
+-- Looking into a normal combination.
+use Rattle.std.proofs.Common.{◌≡◌, ℕ, zero, suc, ◌+◌, ◌*◌, ◌%◌, ◌<◌, ◌≤◌, ◌&&◌, [], ◌∷◌, Some, None, refl, sym, ◌∙◌, ap, ap₂, subst, arith, eqb, true, false, cond, length, get_or, eq-eqb, ne_eqb, one-mul, mod-eq_of_lt}
+use Rattle.std.specs.List.{list_all}
+use Rattle.std.proofs.lemmas.Bool.{and_left, and_right, or_from}
+use Rattle.tv_core.specs.Combinations.{scaled}
+use Rattle.tv_core.specs.Constraints.{Combination}
+use Rattle.tv_core.specs.declared.field.TheConstants.{P}
+use Rattle.tv_shrink.specs.Normal.{IsNormalFrom}
+use Rattle.tv_shrink.specs.Replacing.{coefficient, has_wire, constant_in}
+use Rattle.tv_shrink.proofs.ReplacingLaws.{found_here, found_later}
+use Rattle.tv_shrink.proofs.Unique.{coefficient-first, coefficient-other}
+
+-- constants
+pub constant_in-none : constant_in [] ≡ Some 0
+unfolding constant_in coefficient
+constant_in-none = refl
+
+pub constant_in-one : (t : ℕ × ℕ) → t.0 < P → t.1 ≡ 0 → constant_in (t ∷ []) ≡ Some t.0
+unfolding constant_in
+constant_in-one t small is =
+    ap (λ b. cond (b && true) (Some (coefficient 0 (t ∷ []))) None) (eq-eqb t.1 0 is)
+    ∙ ap (λ w. Some (coefficient w (t ∷ []))) (sym is)
+    ∙ ap Some (coefficient-first t [] small tt)
+
+pub constant_in-other : (t : ℕ × ℕ) (x : Combination) → (t.1 ≡ 0 → ⊥) → constant_in (t ∷ x) ≡ None
+unfolding constant_in
+constant_in-other t x apart = ap (λ b. cond (b && list_all (λ u. eqb u.1 0) x) (Some (coefficient 0 (t ∷ x))) None) (ne_eqb t.1 0 apart)
+
+pub constant_in-more : (t u : ℕ × ℕ) (x : Combination) → IsNormalFrom 0 (t ∷ u ∷ x) → constant_in (t ∷ u ∷ x) ≡ None
+unfolding constant_in
+constant_in-more t u x n =
+    let above : t.1 + 1 ≤ u.1 = n.3.0 in
+    ap (λ b. cond b (Some (coefficient 0 (t ∷ u ∷ x))) None)
+    (and_right (eqb t.1 0) (eqb u.1 0 && list_all (λ v. eqb v.1 0) x) (and_left (eqb u.1 0) (list_all (λ v. eqb v.1 0) x) (ne_eqb u.1 0 (λ e. omega arith))))
+
+-- by the length and the first term
+pub constant_in-empty : (x : Combination) → 0 ≡ length x → Some 0 ≡ constant_in x
+constant_in-empty [] e = sym constant_in-none
+constant_in-empty (t ∷ x) e = absurd (omega arith)
+
+pub constant_in-single : (x : Combination) (d e : ℕ × ℕ) → length x ≡ 1 → IsNormalFrom 0 x → (get_or x 0 e).1 ≡ 0 → Some (get_or x 0 d).0 ≡ constant_in x
+constant_in-single [] d e one n is = absurd (omega arith)
+constant_in-single (t ∷ []) d e one n is = sym (constant_in-one t n.2 is)
+constant_in-single (t ∷ u ∷ x) d e one n is = absurd (omega arith)
+
+pub constant_in-several : (x : Combination) → 0 < length x → (length x ≡ 1 → ⊥) → IsNormalFrom 0 x → None ≡ constant_in x
+constant_in-several [] some e n = absurd (omega arith)
+constant_in-several (t ∷ []) some e n = absurd (e (omega arith))
+constant_in-several (t ∷ u ∷ x) some e n = sym (constant_in-more t u x n)
+
+pub constant_in-wired : (x : Combination) (d : ℕ × ℕ) → 0 < length x → ((get_or x 0 d).1 ≡ 0 → ⊥) → None ≡ constant_in x
+constant_in-wired [] d some e = absurd (omega arith)
+constant_in-wired (t ∷ x) d some e = sym (constant_in-other t x e)
+
+-- a wire that was found
+pub above_at : (least i : ℕ) (d : ℕ × ℕ) (x : Combination) → IsNormalFrom least x → i < length x → least ≤ (get_or x i d).1
+above_at least i d [] n h = absurd (omega arith)
+above_at least zero d (t ∷ x) n h = n.0
+above_at least (suc i) d (t ∷ x) n h = let later = above_at (t.1 + 1) i d x n.3 (omega arith) in omega (arith, n.0)
+
+pub found_at : (least i w : ℕ) (d : ℕ × ℕ) (x : Combination) → IsNormalFrom least x → i < length x → (get_or x i d).1 ≡ w → (has_wire w x ≡ true) × (coefficient w x ≡ (get_or x i d).0)
+found_at least i w d [] n h is = absurd (omega arith)
+found_at least zero w d (t ∷ x) n h is = (found_here w t x (sym is), subst (λ v. coefficient v (t ∷ x) ≡ t.0) is (coefficient-first t x n.2 n.3))
+found_at least (suc i) w d (t ∷ x) n h is =
+    let inside : i < length x = omega arith in
+    let later = found_at (t.1 + 1) i w d x n.3 inside is in
+    let above = above_at (t.1 + 1) i d x n.3 inside in
+    (found_later w t x later.0, coefficient-other t w x (λ e. absurd (omega arith)) ∙ later.1)
+
+pub coefficient_found : (i w : ℕ) (t : ℕ × ℕ) (x : Combination) → IsNormalFrom 0 x → i < length x → t ≡ get_or x i t → t.1 ≡ w → Some t.0 ≡ cond (has_wire w x) (Some (coefficient w x)) None
+coefficient_found i w t x n h at is =
+    let found = found_at 0 i w t x n h (ap (λ u. u.1) (sym at) ∙ is) in
+    ap Some (ap (λ u. u.0) at ∙ sym found.1) ∙ sym (ap (λ b. cond b (Some (coefficient w x)) None) found.0)
+
+lacks_each : (w : ℕ) (x : Combination) → ((k : ℕ) (d : ℕ × ℕ) → k < length x → (get_or x k d).1 ≡ w → ⊥) → has_wire w x ≡ false
+unfolding has_wire
+lacks_each w [] each = refl
+lacks_each w (t ∷ x) each =
+    or_from (eqb t.1 w) (has_wire w x) (ne_eqb t.1 w (λ e. each 0 t (omega arith) e)) (lacks_each w x (λ k d h e. each (suc k) d (omega arith) e))
+
+pub coefficient_missing : (w : ℕ) (x : Combination) → ((k : ℕ) (d : ℕ × ℕ) → k < length x → (get_or x k d).1 ≡ w → ⊥) → None ≡ cond (has_wire w x) (Some (coefficient w x)) None
+coefficient_missing w x each = sym (ap (λ b. cond b (Some (coefficient w x)) None) (lacks_each w x each))
+
+-- once times a combination
+pub scaled_once : (least : ℕ) (x : Combination) → IsNormalFrom least x → scaled 1 x ≡ x
+scaled_once least [] n = refl
+scaled_once least (t ∷ x) n =
+    let first : 1 * t.0 % P ≡ t.0 = ap (λ k. k % P) (one-mul t.0) ∙ mod-eq_of_lt n.2 in
+    ap₂ (λ k rest. (k, t.1) ∷ rest) first (scaled_once (t.1 + 1) x n.3)

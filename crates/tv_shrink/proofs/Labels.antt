@@ -1,0 +1,196 @@
+-- The wires that are kept, and the place of each among them.
+use Rattle.std.proofs.Common.{◌≡◌, ◌≢◌, ℕ, zero, suc, ◌+◌, ◌<◌, ◌≤◌, Bool, not, List, [], ◌∷◌, ◌++◌, refl, sym, ◌∙◌, ap, ap₂, arith, ◌-◌, append-nil, eqb, true, false, inl, inr, cond, map, length, get_or, take, eqb-true, eq-eqb, ne_eqb, one-add}
+use Rattle.std.specs.List.{AllByRecursion, filter, list_any, range_with_len}
+use Rattle.std.specs.Prelude.{slice_index}
+use Rattle.std.proofs.lemmas.Bool.{cond_both, cases_Bool, eqb-false, or_left, or_right, or_cases, false_from_ne_true, not-true, cond-true, cond-false}
+use Rattle.std.proofs.lemmas.List.Elements.{filter-append}
+use Rattle.std.proofs.lemmas.List.{ext_get_or, get_or-map, length-map}
+use Rattle.tv_shrink.specs.Shrinking.{kept, place}
+
+place-here : (w x : ℕ) (xs : List ℕ) → eqb x w ≡ true → place w (x ∷ xs) ≡ 0
+place-here w x xs e = cond-false (not (eqb x w)) _ 0 (ap not e)
+
+place-later : (w x : ℕ) (xs : List ℕ) → eqb x w ≡ false → place w (x ∷ xs) ≡ suc (place w xs)
+place-later w x xs e = cond-true (not (eqb x w)) _ 0 (ap not e) ∙ one-add (place w xs)
+
+-- a wire that is there stands at its place
+at_place_step : (w x : ℕ) (xs : List ℕ) (b : Bool) → eqb x w ≡ b → (list_any (λ v. eqb v w) xs ≡ true → get_or xs (place w xs) 0 ≡ w) → list_any (λ v. eqb v w) (x ∷ xs) ≡ true → get_or (x ∷ xs) (place w (x ∷ xs)) 0 ≡ w
+at_place_step w x xs true e later h = ap (λ k. get_or (x ∷ xs) k 0) (place-here w x xs e) ∙ eqb-true x w e
+at_place_step w x xs false e later h =
+    let there : list_any (λ v. eqb v w) xs ≡ true = elim (or_cases _ _ h) [ inl here ↦ absurd (let both : true ≡ false = sym here ∙ e in cc) | inr behind ↦ behind ] in
+    ap (λ k. get_or (x ∷ xs) k 0) (place-later w x xs e) ∙ later there
+
+at_place : (w : ℕ) (xs : List ℕ) → list_any (λ v. eqb v w) xs ≡ true → get_or xs (place w xs) 0 ≡ w
+at_place w [] h = absurd (let no : false ≡ true = h in cc)
+at_place w (x ∷ xs) h = at_place_step w x xs (eqb x w) refl (at_place w xs) h
+
+place_inside_step : (w x : ℕ) (xs : List ℕ) (b : Bool) → eqb x w ≡ b → (list_any (λ v. eqb v w) xs ≡ true → place w xs < length xs) → list_any (λ v. eqb v w) (x ∷ xs) ≡ true → place w (x ∷ xs) < length (x ∷ xs)
+place_inside_step w x xs true e later h = omega (arith, place-here w x xs e)
+place_inside_step w x xs false e later h =
+    let there : list_any (λ v. eqb v w) xs ≡ true = elim (or_cases _ _ h) [ inl here ↦ absurd (let both : true ≡ false = sym here ∙ e in cc) | inr behind ↦ behind ] in
+    omega (arith, place-later w x xs e, later there)
+
+place_inside : (w : ℕ) (xs : List ℕ) → list_any (λ v. eqb v w) xs ≡ true → place w xs < length xs
+place_inside w [] h = absurd (let no : false ≡ true = h in cc)
+place_inside w (x ∷ xs) h = place_inside_step w x xs (eqb x w) refl (place_inside w xs) h
+
+-- the wires rise from a number on
+abbrev pub Rising : ℕ → List ℕ → Type 0
+Rising least [] = Unit {0}
+Rising least (x ∷ xs) = (least ≤ x) × Rising (x + 1) xs
+
+Rising-lower : (least more : ℕ) (xs : List ℕ) → least ≤ more → Rising more xs → Rising least xs
+Rising-lower least more [] h r = tt
+Rising-lower least more (x ∷ xs) h r = (omega (arith, r.0), r.1)
+
+Rising-filter : (p : ℕ → Bool) (a n : ℕ) → Rising a (filter p (range_with_len a n))
+Rising-filter p a zero = tt
+Rising-filter p a (suc n) =
+    cond_both (p a) (a ∷ filter p (range_with_len (a + 1) n)) (filter p (range_with_len (a + 1) n)) (Rising a)
+    (λ e. (omega arith, Rising-filter p (a + 1) n)) (λ e. Rising-lower a (a + 1) (filter p (range_with_len (a + 1) n)) (omega arith) (Rising-filter p (a + 1) n))
+
+Rising-at : (least : ℕ) (xs : List ℕ) (k : ℕ) → Rising least xs → k < length xs → least ≤ get_or xs k 0
+Rising-at least [] k r h = absurd (omega arith)
+Rising-at least (x ∷ xs) zero r h = r.0
+Rising-at least (x ∷ xs) (suc k) r h = let behind = Rising-at (x + 1) xs k r.1 (omega arith) in omega (arith, r.0)
+
+-- and the wire at a place has that place
+pub place-at : (least : ℕ) (xs : List ℕ) (k : ℕ) → Rising least xs → k < length xs → place (get_or xs k 0) xs ≡ k
+place-at least [] k r h = absurd (omega arith)
+place-at least (x ∷ xs) zero r h = place-here x x xs (eq-eqb x x refl)
+place-at least (x ∷ xs) (suc k) r h =
+    let above = Rising-at (x + 1) xs k r.1 (omega arith) in
+    place-later (get_or xs k 0) x xs (ne_eqb x (get_or xs k 0) (λ e. absurd (omega arith))) ∙ ap suc (place-at (x + 1) xs k r.1 (omega arith))
+
+any_cond : (q : ℕ → Bool) (a : ℕ) (xs : List ℕ) (b : Bool) → list_any q xs ≡ true → list_any q (cond b (a ∷ xs) xs) ≡ true
+any_cond q a xs true h = or_right (q a) (list_any q xs) h
+any_cond q a xs false h = h
+
+any_filter : (p : ℕ → Bool) (a n w : ℕ) → p w ≡ true → a ≤ w → w < a + n → list_any (λ v. eqb v w) (filter p (range_with_len a n)) ≡ true
+any_filter p a zero w h from to = absurd (omega arith)
+any_filter p a (suc n) w h from to =
+    elim (cases_Bool (eqb a w)) [
+      | inl here ↦
+          let passes : p a ≡ true = ap p (eqb-true a w here) ∙ h in
+          ap (λ b. list_any (λ v. eqb v w) (cond b (a ∷ filter p (range_with_len (a + 1) n)) (filter p (range_with_len (a + 1) n)))) passes
+          ∙ or_left (eqb a w) (list_any (λ v. eqb v w) (filter p (range_with_len (a + 1) n))) here
+      | inr apart ↦
+          let isnt : a ≢ w = eqb-false a w apart in
+          any_cond (λ v. eqb v w) a (filter p (range_with_len (a + 1) n)) (p a) (any_filter p (a + 1) n w h (omega arith) (omega arith))
+    ]
+
+module _ (wires : ℕ) (gone : List Bool) where
+  pub Rising-kept : Rising 0 (kept wires gone)
+  unfolding kept
+  Rising-kept = Rising-filter (λ w. not (get_or gone w false)) 0 wires
+
+  -- a wire that stays stands at its place
+  pub at_place-kept : (w : ℕ) → w < wires → get_or gone w false ≡ false → slice_index (kept wires gone) (place w (kept wires gone)) ≡ w
+  unfolding kept
+  at_place-kept w h stays = at_place w (kept wires gone) (any_filter (λ v. not (get_or gone v false)) 0 wires w (ap not stays) (omega arith) (omega arith))
+
+  filter_stay : (a n : ℕ) → a + n ≤ wires → AllByRecursion (λ w. (w < wires) × (get_or gone w false ≡ false)) (filter (λ w. not (get_or gone w false)) (range_with_len a n))
+  filter_stay a zero h = tt
+  filter_stay a (suc n) h =
+      let rest = filter_stay (a + 1) n (omega arith) in
+      cond_both (not (get_or gone a false)) (a ∷ filter (λ w. not (get_or gone w false)) (range_with_len (a + 1) n)) (filter (λ w. not (get_or gone w false)) (range_with_len (a + 1) n))
+      (AllByRecursion (λ w. (w < wires) × (get_or gone w false ≡ false)))
+      (λ e. ((omega arith, not-true (get_or gone a false) e), rest)) (λ e. rest)
+
+  pub inside-kept : (w : ℕ) → w < wires → get_or gone w false ≡ false → place w (kept wires gone) < length (kept wires gone)
+  unfolding kept
+  inside-kept w h stays = place_inside w (kept wires gone) (any_filter (λ v. not (get_or gone v false)) 0 wires w (ap not stays) (omega arith) (omega arith))
+
+  -- and each wire that is kept stays
+  pub kept_stay : AllByRecursion (λ w. (w < wires) × (get_or gone w false ≡ false)) (kept wires gone)
+  unfolding kept
+  kept_stay = filter_stay 0 wires (omega arith)
+
+-- numbers looked up at the places of the wires are the numbers
+pub looked_up : (labels small : List ℕ) → Rising 0 labels → length small ≡ length labels → map (λ w. slice_index small (place w labels)) labels ≡ small
+looked_up labels small rising each =
+    ext_get_or 0 (map (λ w. slice_index small (place w labels)) labels) small (length-map labels (λ w. slice_index small (place w labels)) ∙ sym each) (λ k h.
+    let inside : k < length labels = omega (arith, length-map labels (λ w. slice_index small (place w labels))) in
+    get_or-map (λ w. slice_index small (place w labels)) labels k 0 0 inside ∙ ap (λ i. slice_index small i) (place-at 0 labels k rising inside))
+
+-- what is kept of the first wires, none of which is gone
+front_kept : (p : ℕ → Bool) (a n m : ℕ) → n ≤ m → ((w : ℕ) → w < a + n → p w ≡ true) → take n (filter p (range_with_len a m)) ≡ range_with_len a n
+front_kept p a zero m h each = refl
+front_kept p a (suc n) zero h each = absurd (omega arith)
+front_kept p a (suc n) (suc m) h each =
+    ap (λ b. take (suc n) (cond b (a ∷ filter p (range_with_len (a + 1) m)) (filter p (range_with_len (a + 1) m)))) (each a (omega arith))
+    ∙ ap (λ xs. a ∷ xs) (front_kept p (a + 1) n m (omega arith) (λ w k. each w (omega arith)))
+
+-- none of the first wires is gone where those that are come later
+pub none_below : (publics w : ℕ) (gone : List Bool) → ((v : ℕ) → get_or gone v false ≡ true → publics ≤ v) → w < publics → get_or gone w false ≡ false
+none_below publics w gone later h = false_from_ne_true (get_or gone w false) (λ e. let above = later w e in omega arith)
+
+pub front-kept : (wires publics : ℕ) (gone : List Bool) → publics ≤ wires → ((v : ℕ) → get_or gone v false ≡ true → publics ≤ v) → take publics (kept wires gone) ≡ range_with_len 0 publics
+unfolding kept
+front-kept wires publics gone h later = front_kept (λ w. not (get_or gone w false)) 0 publics wires h (λ w k. ap not (none_below publics w gone later (omega arith)))
+
+-- how the labels are made
+first_of : (w n : ℕ) → range_with_len (0 + w) (1 + n) ≡ w ∷ range_with_len (w + 1) n
+first_of w n = let one : 1 + n ≡ suc n = omega arith in let same : 0 + w ≡ w = omega arith in ap₂ range_with_len same one
+
+range-append : (a n m : ℕ) → range_with_len a (n + m) ≡ range_with_len a n ++ range_with_len (a + n) m
+range-append a zero m = ap₂ range_with_len (omega arith) (omega arith)
+range-append a (suc n) m =
+    let more : suc n + m ≡ suc (n + m) = omega arith in
+    ap (range_with_len a) more ∙ ap (λ xs. a ∷ xs) (range-append (a + 1) n m ∙ ap (λ b. range_with_len (a + 1) n ++ range_with_len b m) (omega arith))
+
+abbrev pub kept_below : ℕ → List Bool → List ℕ
+kept_below n gone = filter (λ w. not (get_or gone w false)) (range_with_len 0 n)
+
+pub kept_is : (n : ℕ) (gone : List Bool) → kept n gone ≡ kept_below n gone
+unfolding kept
+kept_is n gone = refl
+
+-- one wire more
+pub kept_more : (n : ℕ) (gone : List Bool) → kept_below (n + 1) gone ≡ kept_below n gone ++ cond (not (get_or gone n false)) (n ∷ []) []
+kept_more n gone =
+    ap (filter (λ w. not (get_or gone w false))) (range-append 0 n 1)
+    ∙ filter-append (λ w. not (get_or gone w false)) (range_with_len 0 n) (range_with_len (0 + n) 1)
+    ∙ ap (λ m. kept_below n gone ++ cond (not (get_or gone m false)) (m ∷ []) []) (omega arith)
+
+-- a wire's place is behind those before it
+place-after : (w : ℕ) (xs ys : List ℕ) → AllByRecursion (λ v. v < w) xs → place w (xs ++ (w ∷ ys)) ≡ length xs
+place-after w [] ys h = place-here w w ys (eq-eqb w w refl)
+place-after w (x ∷ xs) ys h = place-later w x (xs ++ (w ∷ ys)) (ne_eqb x w (λ e. absurd (omega (arith, h.0)))) ∙ ap suc (place-after w xs ys h.1)
+
+below_range : (p : ℕ → Bool) (a n m : ℕ) → a + n ≤ m → AllByRecursion (λ v. v < m) (filter p (range_with_len a n))
+below_range p a zero m h = tt
+below_range p a (suc n) m h =
+    cond_both (p a) (a ∷ filter p (range_with_len (a + 1) n)) (filter p (range_with_len (a + 1) n)) (AllByRecursion (λ v. v < m))
+    (λ e. (omega arith, below_range p (a + 1) n m (omega arith))) (λ e. below_range p (a + 1) n m (omega arith))
+
+pub place_is : (wires w : ℕ) (gone : List Bool) → w < wires → get_or gone w false ≡ false → place w (kept wires gone) ≡ length (kept_below w gone)
+unfolding kept
+place_is wires w gone h stays =
+    let split : wires ≡ w + (1 + (wires - w - 1)) = omega arith in
+    ap (λ n. place w (kept_below n gone)) split
+    ∙ ap (place w) (ap (filter (λ v. not (get_or gone v false))) (range-append 0 w (1 + (wires - w - 1)) ∙ ap (λ xs. range_with_len 0 w ++ xs) (first_of w (wires - w - 1)))
+    ∙ filter-append (λ v. not (get_or gone v false)) (range_with_len 0 w) (w ∷ range_with_len (w + 1) (wires - w - 1))
+    ∙ ap (λ b. kept_below w gone ++ cond b (w ∷ filter (λ v. not (get_or gone v false)) (range_with_len (w + 1) (wires - w - 1))) (filter (λ v. not (get_or gone v false)) (range_with_len (w + 1) (wires - w - 1)))) (ap not stays))
+    ∙ place-after w (kept_below w gone) (filter (λ v. not (get_or gone v false)) (range_with_len (w + 1) (wires - w - 1))) (below_range (λ v. not (get_or gone v false)) 0 w w (omega arith))
+
+filter_short : (p : ℕ → Bool) (a n : ℕ) → length (filter p (range_with_len a n)) ≤ n
+filter_short p a zero = omega arith
+filter_short p a (suc n) =
+    let rest = filter_short p (a + 1) n in
+    cond_both (p a) (a ∷ filter p (range_with_len (a + 1) n)) (filter p (range_with_len (a + 1) n)) (λ xs. length xs ≤ suc n) (λ e. omega arith) (λ e. omega arith)
+
+pub kept_short : (n : ℕ) (gone : List Bool) → length (kept_below n gone) ≤ n
+kept_short n gone = filter_short (λ w. not (get_or gone w false)) 0 n
+
+pub kept_one : (n : ℕ) (gone : List Bool) (labels : List ℕ) → labels ≡ kept_below n gone → get_or gone n false ≡ false → labels ++ (n ∷ []) ≡ kept_below (n + 1) gone
+kept_one n gone labels is stays = ap (λ xs. xs ++ (n ∷ [])) is ∙ sym (kept_more n gone ∙ ap (λ b. kept_below n gone ++ cond (not b) (n ∷ []) []) stays)
+
+pub kept_none : (n : ℕ) (gone : List Bool) (labels : List ℕ) → labels ≡ kept_below n gone → get_or gone n false ≡ true → labels ≡ kept_below (n + 1) gone
+kept_none n gone labels is goes = is ∙ sym (kept_more n gone ∙ ap (λ b. kept_below n gone ++ cond (not b) (n ∷ []) []) goes ∙ append-nil (kept_below n gone))
+
+pub places_more : (f : ℕ → ℕ) (places : List ℕ) (n v k : ℕ) → length places ≡ n → ((u : ℕ) → u < n → get_or places u 0 ≡ f u) → k ≡ f n → v < n + 1 → get_or (places ++ (k ∷ [])) v 0 ≡ f v
+places_more f [] n v k each before is h = let first : v ≡ 0 = omega arith in let none : n ≡ 0 = omega arith in ap (λ u. get_or (k ∷ []) u 0) first ∙ is ∙ ap f (none ∙ sym first)
+places_more f (x ∷ places) n zero k each before is h = before 0 (omega arith)
+places_more f (x ∷ places) n (suc v) k each before is h =
+    places_more (λ u. f (suc u)) places (n - 1) v k (omega arith) (λ u l. before (suc u) (omega arith)) (is ∙ ap f (omega arith)) (omega arith)

@@ -1,0 +1,14 @@
+pub mod Constants
+pub mod Filing
+pub mod Labels
+pub mod Linear
+pub mod Merging
+pub mod NormalLaws
+pub mod PassLaws
+pub mod Passes
+pub mod Putting
+pub mod Read
+pub mod ReplacingLaws
+pub mod Settling
+pub mod Solutions
+pub mod Unique

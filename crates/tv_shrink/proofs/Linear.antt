@@ -1,0 +1,94 @@
+-- What the functions on a constraint's combinations give.
+use Rattle.std.proofs.Common.{◌≡◌, ◌≢◌, ℕ, ◌+◌, ◌-◌, ◌*◌, ◌%◌, ◌<◌, Bool, not, ◌||◌, leb, length, [], ◌∷◌, ◌++◌, Option, Some, None, refl, sym, ◌∙◌, ap, ap₂, arith, eqb, true, false, cond, mul-zero, append-nil}
+use Rattle.std.proofs.lemmas.Bool.{cond_both, or_left, OnTrue_at}
+use Rattle.std.specs.Bool.{OnTrue}
+use Rattle.std.specs.Option.{IsNone, IfSome, unwrap_or}
+use Rattle.tv_core.proofs.InverseLaws.{inverse_of-below}
+use Rattle.tv_core.specs.Combinations.{scaled}
+use Rattle.tv_core.specs.Constraints.{Combination, Constraint}
+use Rattle.tv_core.specs.Inverse.{inverse_of}
+use Rattle.tv_core.specs.declared.field.TheConstants.{P}
+use Rattle.tv_shrink.specs.Normal.{normal, IsNormalFrom}
+use Rattle.tv_shrink.specs.Replacing.{coefficient, has_wire, without, constant_in, difference, first_of_two, linear_form, solved, replaced, fits}
+use Rattle.tv_shrink.proofs.NormalLaws.{IsNormalFrom-lower}
+use Rattle.tv_shrink.proofs.Constants.{scaled_once}
+
+-- what a constraint says is 0
+pub linear-first : (c : Constraint) (k : ℕ) (out : Combination) → constant_in c.a ≡ Some k → out ≡ normal (scaled k c.b ++ scaled (P - 1) c.c) → linear_form c ≡ Some out
+unfolding linear_form difference
+linear-first c k out is made =
+    ap (λ o. first_of_two (difference o c.b c.c) (difference (constant_in c.b) c.a c.c)) is ∙ ap Some (sym made)
+
+pub linear-second : (c : Constraint) (k : ℕ) (out : Combination) → constant_in c.a ≡ None → constant_in c.b ≡ Some k → out ≡ normal (scaled k c.a ++ scaled (P - 1) c.c) → linear_form c ≡ Some out
+unfolding linear_form difference
+linear-second c k out isnt is made =
+    ap₂ (λ o p. first_of_two (difference o c.b c.c) (difference p c.a c.c)) isnt is ∙ ap Some (sym made)
+
+pub linear-none : (c : Constraint) → constant_in c.a ≡ None → constant_in c.b ≡ None → linear_form c ≡ None
+unfolding linear_form difference
+linear-none c isnt is = ap₂ (λ o p. first_of_two (difference o c.b c.c) (difference p c.a c.c)) isnt is
+
+-- a combination with another one in place of a wire
+normal-without : (least w : ℕ) (x : Combination) → IsNormalFrom least x → IsNormalFrom least (without w x)
+unfolding without
+normal-without least w [] n = tt
+normal-without least w (t ∷ x) n =
+    let rest = normal-without (t.1 + 1) w x n.3 in
+    cond_both (not (eqb t.1 w)) (t ∷ without w x) (without w x) (IsNormalFrom least)
+    (λ e. (n.0, n.1, n.2, rest)) (λ e. IsNormalFrom-lower least (t.1 + 1) (without w x) (omega (arith, n.0)) rest)
+
+has_by : (b : Bool) (k own : ℕ) → Some k ≡ cond b (Some own) None → (b ≡ true) × (k ≡ own)
+has_by true k own e = (refl, cc)
+has_by false k own e = absurd (cc)
+
+lacks_by : (b : Bool) (own : ℕ) → None ≡ cond b (Some own) None → b ≡ false
+lacks_by true own e = absurd (cc)
+lacks_by false own e = refl
+
+pub lacks_wire : (w : ℕ) (x : Combination) → None ≡ cond (has_wire w x) (Some (coefficient w x)) None → false ≡ has_wire w x
+lacks_wire w x e = sym (lacks_by (has_wire w x) (coefficient w x) e)
+
+pub has_the_wire : (w k : ℕ) (x : Combination) → Some k ≡ cond (has_wire w x) (Some (coefficient w x)) None → true ≡ has_wire w x
+has_the_wire w k x e = sym (has_by (has_wire w x) k (coefficient w x) e).0
+
+pub replaced-made : (w k : ℕ) (r x out : Combination) → IsNormalFrom 0 x → Some k ≡ cond (has_wire w x) (Some (coefficient w x)) None → out ≡ normal (scaled 1 (without w x) ++ scaled k r) → out ≡ replaced w r x
+unfolding replaced
+replaced-made w k r x out n e made =
+    let has = has_by (has_wire w x) k (coefficient w x) e in
+    made
+    ∙ ap₂ (λ y j. normal (y ++ scaled j r)) (scaled_once 0 (without w x) (normal-without 0 w x n)) has.1
+    ∙ sym (ap (λ b. cond b (normal (without w x ++ scaled (coefficient w x) r)) x) has.0)
+
+pub replaced-lacking : (w : ℕ) (r x : Combination) → false ≡ has_wire w x → replaced w r x ≡ x
+unfolding replaced
+replaced-lacking w r x e = ap (λ b. cond b (normal (without w x ++ scaled (coefficient w x) r)) x) (sym e)
+
+-- what a wire is
+negative : (k i : ℕ) → i < P → k * i % P ≡ 1 → (P - i) % P ≡ P - i
+negative k i small one =
+    let some : i ≢ 0 = λ e. let none : k * i % P ≡ 0 = ap (λ j. k * j % P) e ∙ ap (λ n. n % P) (mul-zero k) in omega arith in
+    omega arith
+
+pub solved-made : (w k i : ℕ) (x out : Combination) → i < P → k * i % P ≡ 1 → i ≡ inverse_of k → k ≡ coefficient w x → out ≡ normal (scaled ((P - i) % P) (without w x) ++ []) → out ≡ solved w x
+unfolding solved
+solved-made w k i x out small one is own made =
+    made
+    ∙ ap normal (append-nil (scaled ((P - i) % P) (without w x)))
+    ∙ ap (λ f. normal (scaled f (without w x))) (negative k i small one ∙ ap (λ j. P - j) (is ∙ ap inverse_of own))
+
+pub solve-made : (o : Option ℕ) (inverse own w : ℕ) (x out : Combination) → (IsNone o → own ≡ 0) → IfSome o (λ r. own * r % P ≡ 1) → IfSome o (λ r. r ≡ inverse_of own) →
+    inverse ≡ unwrap_or o 0 → 0 < own → own ≡ coefficient w x → out ≡ normal (scaled ((P - inverse) % P) (without w x) ++ []) → out ≡ solved w x
+solve-made None inverse own w x out never one value is some of made = absurd (let none : own ≡ 0 = never refl in omega arith)
+solve-made (Some r) inverse own w x out never one value is some of made =
+    let small = inverse_of-below own in
+    solved-made w own r x out (omega (arith, value)) one value of (made ∙ ap (λ i. normal (scaled ((P - i) % P) (without w x) ++ [])) is)
+
+-- whether a combination keeps to its most terms
+pub fits-lacking : (w : ℕ) (r x : Combination) (has : Bool) → has ≡ has_wire w x → has ≡ false → not has ≡ fits w r x
+unfolding fits
+fits-lacking w r x has is e = ap not e ∙ sym (or_left (not (has_wire w x)) (leb (length (replaced w r x)) 128) (ap not (sym is ∙ e)))
+
+pub fits-having : (w : ℕ) (r x out : Combination) (has : Bool) → has ≡ has_wire w x → has ≡ true → OnTrue has (out ≡ replaced w r x) → leb (length out) 128 ≡ fits w r x
+unfolding fits
+fits-having w r x out has is e made =
+    ap (λ y. leb (length y) 128) (OnTrue_at e made) ∙ sym (ap (λ b. not b || leb (length (replaced w r x)) 128) (sym is ∙ e))

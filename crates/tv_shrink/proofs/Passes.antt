@@ -1,0 +1,518 @@
+-- What the loops of a pass keep.
+use Rattle.std.proofs.Common.{◌≡◌, ◌≢◌, ◌⊎◌, ℕ, zero, suc, ◌+◌, ◌<◌, ◌≤◌, Bool, not, ◌||◌, ◌&&◌, List, [], ◌∷◌, ◌++◌, Option, Some, None, refl, sym, ◌∙◌, ap, subst, arith, eqb, true, false, inl, inr, cond, map, length, get_or, set, take, leb, ltb, ◌-◌, ltb-true, lt-ltb, le-ltb, eqb-true, eq-eqb, ne_eqb, set-set, take_all, add-one}
+use Rattle.std.specs.List.{fold, list_any, list_all, range_with_len}
+use Rattle.std.specs.Option.{option_map}
+use Rattle.std.proofs.lemmas.Bool.{cond_both, cases_Bool, cases_eq, cases_lt, or_cases, or_parts, or_from, or_left, or_right, and_from, false_from_ne_true}
+use Rattle.std.proofs.lemmas.List.{ext_get_or, get_or-map, get_or_past, length-map, get_or-set_other, get_or-set_same, set-get_or}
+use Rattle.std.proofs.lemmas.List.Elements.{All-from_get_or}
+use Rattle.std.proofs.lemmas.List.Folds.{list_any_more}
+use Rattle.tv_core.proofs.BelowLaws.{range-more}
+use Rattle.std.proofs.lemmas.List.Sums.{fold_push, AllPass-from_list_all, list_all-from_AllPass}
+use Rattle.tv_core.specs.Combinations.{scaled}
+use Rattle.tv_core.specs.Inverse.{inverse_of}
+use Rattle.tv_core.specs.declared.field.TheConstants.{P}
+use Rattle.tv_core.specs.Constraints.{Combination, Constraint}
+use Rattle.tv_shrink.specs.Normal.{normal, IsNormalFrom}
+use Rattle.tv_shrink.specs.Passing.{Pass, all_replaced, attempted, dropped, substituted, eliminated, linear_row, row_fits, treated, turn}
+use Rattle.tv_shrink.specs.Replacing.{coefficient, greater_from, greatest_from, has_wire, without, solved, replaced, replaced_in, fits}
+use Rattle.tv_shrink.specs.Tidy.{RowIsNormal, AreNormal, Covers, IsKept, pass_of, row_has}
+use Rattle.tv_shrink.proofs.Linear.{replaced-lacking}
+use Rattle.tv_shrink.proofs.NormalLaws.{Over, Over-weaker, IsNormalFrom-normal}
+use Rattle.tv_shrink.proofs.PassLaws.{rows_at, rows_changed, rows_dropped}
+use Rattle.tv_shrink.proofs.ReplacingLaws.{none_has, none_some, Over-linear_form, Over-solved, Over-has_wire, Over-replaced, Over-lacking}
+use Rattle.tv_shrink.proofs.Constants.{above_at, found_at}
+
+or_false : (b : Bool) → (b || false) ≡ b
+or_false true = refl
+or_false false = refl
+
+same_row : (c : Constraint) (a b e : Combination) → a ≡ c.a → b ≡ c.b → e ≡ c.c → Some (record { a = a; b = b; c = e }) ≡ Some c
+same_row c a b e p q s =
+    ap (λ y. Some (record { a = y; b = b; c = e })) p ∙ ap (λ y. Some (record { a = c.a; b = y; c = e })) q ∙ ap (λ y. Some (record { a = c.a; b = c.b; c = y })) s
+
+pub all_units : (x : Combination) → Over (λ v. Unit {0}) x
+all_units [] = tt
+all_units (t ∷ x) = (tt, all_units x)
+
+lacks_over : (w : ℕ) (x : Combination) → Over (λ v. Unit {0} × (v ≢ w)) x → has_wire w x ≡ false
+unfolding has_wire
+lacks_over w [] h = refl
+lacks_over w (t ∷ x) h = or_from (eqb t.1 w) (has_wire w x) (ne_eqb t.1 w h.0.1) (lacks_over w x h.1)
+
+-- a place that a list names
+any_at : (i : ℕ) (xs : List ℕ) → list_any (λ p. eqb p i) xs ≡ true → (k : ℕ) × (k < length xs) × (get_or xs k 0 ≡ i)
+any_at i [] e = absurd (cc)
+any_at i (x ∷ xs) e =
+    elim (or_cases _ _ e) [
+      | inl here ↦ (0, omega arith, eqb-true x i here)
+      | inr later ↦ let found = any_at i xs later in (suc found.0, omega (arith, found.1), found.2)
+    ]
+
+pub any_append_left : (q : ℕ → Bool) (xs ys : List ℕ) → list_any q xs ≡ true → list_any q (xs ++ ys) ≡ true
+any_append_left q [] ys e = absurd (cc)
+any_append_left q (x ∷ xs) ys e =
+    elim (or_cases _ _ e) [ inl here ↦ or_left (q x) (list_any q (xs ++ ys)) here | inr later ↦ or_right (q x) (list_any q (xs ++ ys)) (any_append_left q xs ys later) ]
+
+pub any_append_right : (q : ℕ → Bool) (xs ys : List ℕ) → list_any q ys ≡ true → list_any q (xs ++ ys) ≡ true
+any_append_right q [] ys e = e
+any_append_right q (x ∷ xs) ys e = or_right (q x) (list_any q (xs ++ ys)) (any_append_right q xs ys e)
+
+-- a constraint without the wire
+module _ (w : ℕ) (r : Combination) where
+  lacking-fits : (x : Combination) → has_wire w x ≡ false → fits w r x ≡ true
+  unfolding fits
+  lacking-fits x e = or_left (not (has_wire w x)) (leb (length (replaced w r x)) 128) (ap not e)
+
+  pub row-lacking-fits : (row : Option Constraint) → row_has w row ≡ false → row_fits w r row ≡ true
+  row-lacking-fits None e = refl
+  row-lacking-fits (Some c) e =
+      let first = or_parts (has_wire w c.a) (has_wire w c.b || has_wire w c.c) e in
+      let others = or_parts (has_wire w c.b) (has_wire w c.c) first.1 in
+      and_from (fits w r c.a) (fits w r c.b && fits w r c.c) (lacking-fits c.a first.0) (and_from (fits w r c.b) (fits w r c.c) (lacking-fits c.b others.0) (lacking-fits c.c others.1))
+
+  pub row-lacking-same : (row : Option Constraint) → row_has w row ≡ false → option_map (replaced_in w r) row ≡ row
+  row-lacking-same None e = refl
+  row-lacking-same (Some c) e =
+      let first = or_parts (has_wire w c.a) (has_wire w c.b || has_wire w c.c) e in
+      let others = or_parts (has_wire w c.b) (has_wire w c.c) first.1 in
+      same_row c (replaced w r c.a) (replaced w r c.b) (replaced w r c.c) (replaced-lacking w r c.a (sym first.0)) (replaced-lacking w r c.b (sym others.0)) (replaced-lacking w r c.c (sym others.1))
+
+  -- all constraints keep to their most terms where those at the places do
+  module _ (rows : List (Option Constraint)) where
+    pub all-fit : (places : List ℕ) → ((i : ℕ) → row_has w (get_or rows i None) ≡ true → list_any (λ p. eqb p i) places ≡ true) →
+        ((k : ℕ) → k < length places → row_fits w r (get_or rows (get_or places k 0) None) ≡ true) → list_all (row_fits w r) rows ≡ true
+    all-fit places covers seen =
+        list_all-from_AllPass (row_fits w r) rows (All-from_get_or (λ row. row_fits w r row ≡ true) rows None (λ i h.
+        elim (cases_Bool (row_has w (get_or rows i None))) [
+          | inl has ↦ let found = any_at i places (covers i has) in subst (λ j. row_fits w r (get_or rows j None) ≡ true) found.2 (seen found.0 found.1)
+          | inr lacks ↦ row-lacking-fits (get_or rows i None) lacks
+        ]))
+
+    pub not-all-fit : (i : ℕ) → i < length rows → row_fits w r (get_or rows i None) ≡ false → list_all (row_fits w r) rows ≡ false
+    not-all-fit i h e =
+        false_from_ne_true (list_all (row_fits w r) rows) (λ all.
+        let fits_there : row_fits w r (get_or rows i None) ≡ true = AllPass-from_list_all (row_fits w r) rows all i None h in
+        let both : true ≡ false = sym fits_there ∙ e in cc)
+
+  -- once a wire is replaced, it is there no more
+  module _ (lacks : has_wire w r ≡ false) where
+    lacks-replaced : (x : Combination) → has_wire w (replaced w r x) ≡ false
+    lacks-replaced x =
+        lacks_over w (replaced w r x)
+        (Over-replaced (λ v. Unit {0}) w r x (all_units x) (Over-lacking (λ v. Unit {0}) w r (all_units r) lacks))
+
+    pub replaced-twice : (row : Option Constraint) → option_map (replaced_in w r) (option_map (replaced_in w r) row) ≡ option_map (replaced_in w r) row
+    replaced-twice None = refl
+    replaced-twice (Some c) =
+        same_row (replaced_in w r c) (replaced w r (replaced w r c.a)) (replaced w r (replaced w r c.b)) (replaced w r (replaced w r c.c))
+        (replaced-lacking w r (replaced w r c.a) (sym (lacks-replaced c.a))) (replaced-lacking w r (replaced w r c.b) (sym (lacks-replaced c.b))) (replaced-lacking w r (replaced w r c.c) (sym (lacks-replaced c.c)))
+
+    -- one turn of the loop that replaces
+    replaced_seen : (seen : Bool) (row : Option Constraint) → option_map (replaced_in w r) (cond seen (option_map (replaced_in w r) row) row) ≡ option_map (replaced_in w r) row
+    replaced_seen true row = replaced-twice row
+    replaced_seen false row = refl
+
+    pub replaced-next : (rows start : List (Option Constraint)) (places : List ℕ) (k at : ℕ) → k < length places → get_or places k 0 ≡ at → at < length rows →
+        ((i : ℕ) → get_or rows i None ≡ cond (list_any (λ p. eqb p i) (take k places)) (option_map (replaced_in w r) (get_or start i None)) (get_or start i None)) →
+        (i : ℕ) → get_or (set rows at (option_map (replaced_in w r) (get_or rows at None))) i None ≡ cond (list_any (λ p. eqb p i) (take (k + 1) places)) (option_map (replaced_in w r) (get_or start i None)) (get_or start i None)
+    replaced-next rows start places k at h is inside before i =
+        let next = list_any_more (λ p. eqb p i) places k 0 h in
+        elim (cases_eq i at) [
+          | inl here ↦
+              let now : list_any (λ p. eqb p i) (take (k + 1) places) ≡ true = next ∙ or_right (list_any (λ p. eqb p i) (take k places)) (eqb (get_or places k 0) i) (eq-eqb (get_or places k 0) i (is ∙ sym here)) in
+              ap (λ j. get_or (set rows at (option_map (replaced_in w r) (get_or rows at None))) j None) here
+              ∙ get_or-set_same rows at (option_map (replaced_in w r) (get_or rows at None)) None inside
+              ∙ ap (option_map (replaced_in w r)) (ap (λ j. get_or rows j None) (sym here) ∙ before i)
+              ∙ replaced_seen (list_any (λ p. eqb p i) (take k places)) (get_or start i None)
+              ∙ sym (ap (λ b. cond b (option_map (replaced_in w r) (get_or start i None)) (get_or start i None)) now)
+          | inr apart ↦
+              let now : list_any (λ p. eqb p i) (take (k + 1) places) ≡ list_any (λ p. eqb p i) (take k places) =
+              next ∙ ap (λ b. list_any (λ p. eqb p i) (take k places) || b) (ne_eqb (get_or places k 0) i (λ e. apart (sym e ∙ is))) ∙ or_false (list_any (λ p. eqb p i) (take k places)) in
+              get_or-set_other rows at i (option_map (replaced_in w r) (get_or rows at None)) None apart
+              ∙ before i
+              ∙ sym (ap (λ b. cond b (option_map (replaced_in w r) (get_or start i None)) (get_or start i None)) now)
+        ]
+
+    nothing_there : (b : Bool) (row : Option Constraint) → row ≡ None → None ≡ cond b (option_map (replaced_in w r) row) row
+    nothing_there true row e = sym (ap (option_map (replaced_in w r)) e)
+    nothing_there false row e = sym e
+
+    -- a place past the end names no constraint
+    pub replaced-past : (rows start : List (Option Constraint)) (places : List ℕ) (k at : ℕ) → k < length places → get_or places k 0 ≡ at → length rows ≤ at → length rows ≡ length start →
+        ((i : ℕ) → get_or rows i None ≡ cond (list_any (λ p. eqb p i) (take k places)) (option_map (replaced_in w r) (get_or start i None)) (get_or start i None)) →
+        (i : ℕ) → get_or rows i None ≡ cond (list_any (λ p. eqb p i) (take (k + 1) places)) (option_map (replaced_in w r) (get_or start i None)) (get_or start i None)
+    replaced-past rows start places k at h is past each before i =
+        elim (cases_lt i (length rows)) [
+          | inl inside ↦
+              let now : list_any (λ p. eqb p i) (take (k + 1) places) ≡ list_any (λ p. eqb p i) (take k places) =
+              list_any_more (λ p. eqb p i) places k 0 h ∙ ap (λ b. list_any (λ p. eqb p i) (take k places) || b) (ne_eqb (get_or places k 0) i (λ e. absurd (omega arith))) ∙ or_false (list_any (λ p. eqb p i) (take k places)) in
+              before i ∙ sym (ap (λ b. cond b (option_map (replaced_in w r) (get_or start i None)) (get_or start i None)) now)
+          | inr behind ↦
+              let none : get_or start i None ≡ None = get_or_past start i None (omega arith) in
+              get_or_past rows i None behind ∙ nothing_there (list_any (λ p. eqb p i) (take (k + 1) places)) (get_or start i None) none
+        ]
+
+    -- the places of the constraints that had the wire
+    pub held-next : (rows start : List (Option Constraint)) (places found next : List ℕ) (k at : ℕ) → k < length places → get_or places k 0 ≡ at →
+        ((i : ℕ) → get_or rows i None ≡ cond (list_any (λ p. eqb p i) (take k places)) (option_map (replaced_in w r) (get_or start i None)) (get_or start i None)) →
+        ((i : ℕ) → list_any (λ p. eqb p i) found ≡ true → list_any (λ p. eqb p i) next ≡ true) → (row_has w (get_or rows at None) ≡ true → list_any (λ p. eqb p at) next ≡ true) →
+        ((i : ℕ) → list_any (λ p. eqb p i) (take k places) ≡ true → row_has w (get_or start i None) ≡ true → list_any (λ p. eqb p i) found ≡ true) →
+        (i : ℕ) → list_any (λ p. eqb p i) (take (k + 1) places) ≡ true → row_has w (get_or start i None) ≡ true → list_any (λ p. eqb p i) next ≡ true
+    held-next rows start places found next k at h is before kept here held i seen has =
+        elim (cases_Bool (list_any (λ p. eqb p i) (take k places))) [
+          | inl earlier ↦ kept i (held i earlier has)
+          | inr not_yet ↦
+              let same : eqb (get_or places k 0) i ≡ true = ap (λ b. b || eqb (get_or places k 0) i) (sym not_yet) ∙ sym (list_any_more (λ p. eqb p i) places k 0 h) ∙ seen in
+              let there : at ≡ i = sym is ∙ eqb-true (get_or places k 0) i same in
+              let own : get_or rows i None ≡ get_or start i None = before i ∙ ap (λ b. cond b (option_map (replaced_in w r) (get_or start i None)) (get_or start i None)) not_yet in
+              subst (λ j. list_any (λ p. eqb p j) next ≡ true) there (here (ap (λ j. row_has w (get_or rows j None)) there ∙ ap (row_has w) own ∙ has))
+        ]
+
+    pub held-past : (rows start : List (Option Constraint)) (places found : List ℕ) (k at : ℕ) → k < length places → get_or places k 0 ≡ at → length rows ≤ at →
+        ((i : ℕ) → get_or rows i None ≡ cond (list_any (λ p. eqb p i) (take k places)) (option_map (replaced_in w r) (get_or start i None)) (get_or start i None)) →
+        ((i : ℕ) → list_any (λ p. eqb p i) (take k places) ≡ true → row_has w (get_or start i None) ≡ true → list_any (λ p. eqb p i) found ≡ true) →
+        (i : ℕ) → list_any (λ p. eqb p i) (take (k + 1) places) ≡ true → row_has w (get_or start i None) ≡ true → list_any (λ p. eqb p i) found ≡ true
+    held-past rows start places found k at h is past before held =
+        held-next rows start places found found k at h is before (λ i e. e)
+        (λ e. absurd (let no : false ≡ true = sym (ap (row_has w) (get_or_past rows at None past)) ∙ e in cc)) held
+
+    pub held-all : (start : List (Option Constraint)) (places found : List ℕ) (k : ℕ) → length places ≤ k →
+        ((i : ℕ) → row_has w (get_or start i None) ≡ true → list_any (λ p. eqb p i) places ≡ true) →
+        ((i : ℕ) → list_any (λ p. eqb p i) (take k places) ≡ true → row_has w (get_or start i None) ≡ true → list_any (λ p. eqb p i) found ≡ true) →
+        (i : ℕ) → row_has w (get_or start i None) ≡ true → list_any (λ p. eqb p i) found ≡ true
+    held-all start places found k past covers held i has = held i (ap (λ xs. list_any (λ p. eqb p i) xs) (take_all k places past) ∙ covers i has) has
+
+    each_replaced : (b : Bool) (row : Option Constraint) {c : Bool} → c ≡ b → (c ≡ false → row_has w row ≡ false) → cond b (option_map (replaced_in w r) row) row ≡ option_map (replaced_in w r) row
+    each_replaced true row e lacking = refl
+    each_replaced false row e lacking = sym (row-lacking-same row (lacking e))
+
+    pub replaced-all : (rows start : List (Option Constraint)) (places : List ℕ) (k : ℕ) → length places ≤ k → length rows ≡ length start →
+        ((i : ℕ) → row_has w (get_or start i None) ≡ true → list_any (λ p. eqb p i) places ≡ true) →
+        ((i : ℕ) → get_or rows i None ≡ cond (list_any (λ p. eqb p i) (take k places)) (option_map (replaced_in w r) (get_or start i None)) (get_or start i None)) →
+        rows ≡ map (option_map (replaced_in w r)) start
+    replaced-all rows start places k past each covers before =
+        ext_get_or None rows (map (option_map (replaced_in w r)) start) (each ∙ sym (length-map start (option_map (replaced_in w r)))) (λ i h.
+        let inside : i < length start = omega arith in
+        before i
+        ∙ ap (λ xs. cond (list_any (λ p. eqb p i) xs) (option_map (replaced_in w r) (get_or start i None)) (get_or start i None)) (take_all k places past)
+        ∙ each_replaced (list_any (λ p. eqb p i) places) (get_or start i None) refl (λ e. false_from_ne_true (row_has w (get_or start i None)) (λ has. let both : true ≡ false = sym (covers i has) ∙ e in cc))
+        ∙ sym (get_or-map (option_map (replaced_in w r)) start i None None inside))
+
+  -- what is replaced stays normal
+  normal-replaced : (x : Combination) → IsNormalFrom 0 x → IsNormalFrom 0 (replaced w r x)
+  unfolding replaced
+  normal-replaced x n = cond_both (has_wire w x) (normal (without w x ++ scaled (coefficient w x) r)) x (IsNormalFrom 0) (λ e. IsNormalFrom-normal (without w x ++ scaled (coefficient w x) r)) (λ e. n)
+
+  pub normal-replaced_row : (row : Option Constraint) → RowIsNormal row → RowIsNormal (option_map (replaced_in w r) row)
+  normal-replaced_row None n = tt
+  normal-replaced_row (Some c) n = record { a = normal-replaced c.a n.a; b = normal-replaced c.b n.b; c = normal-replaced c.c n.c }
+
+  pub normal-seen : (seen : Bool) (row : Option Constraint) → RowIsNormal row → RowIsNormal (cond seen (option_map (replaced_in w r) row) row)
+  normal-seen true row n = normal-replaced_row row n
+  normal-seen false row n = n
+
+pub normal-at : (rows : List (Option Constraint)) (i : ℕ) → AreNormal rows → RowIsNormal (get_or rows i None)
+normal-at rows i n = rows_at RowIsNormal tt rows i n
+
+-- a list of a list of vectors
+pub listed : {V : Type 0} (items : V → List ℕ) (vectors : List V) (w : ℕ) (v : V) → w < length vectors → v ≡ get_or vectors w v → items v ≡ get_or (map items vectors) w []
+listed items vectors w v h at = ap items at ∙ sym (get_or-map items vectors w v [] h)
+
+-- lists of places
+pub extend-more : (q : ℕ → Bool) (lists : List (List ℕ)) (v w : ℕ) (rows : List ℕ) → v < length lists → list_any q (get_or lists w []) ≡ true → list_any q (get_or (set lists v (get_or lists v [] ++ rows)) w []) ≡ true
+extend-more q lists v w rows h e =
+    elim (cases_eq w v) [
+      | inl same ↦
+          ap (λ xs. list_any q xs) (ap (λ u. get_or (set lists v (get_or lists v [] ++ rows)) u []) same ∙ get_or-set_same lists v (get_or lists v [] ++ rows) [] h)
+          ∙ any_append_left q (get_or lists v []) rows (ap (λ u. list_any q (get_or lists u [])) (sym same) ∙ e)
+      | inr apart ↦ ap (λ xs. list_any q xs) (get_or-set_other lists v w (get_or lists v [] ++ rows) [] apart) ∙ e
+    ]
+
+pub extend-added : (q : ℕ → Bool) (lists : List (List ℕ)) (v : ℕ) (rows : List ℕ) → v < length lists → list_any q rows ≡ true → list_any q (get_or (set lists v (get_or lists v [] ++ rows)) v []) ≡ true
+extend-added q lists v rows h e =
+    ap (λ xs. list_any q xs) (get_or-set_same lists v (get_or lists v [] ++ rows) [] h) ∙ any_append_right q (get_or lists v []) rows e
+
+-- a wire of the first terms
+pub has_next : (w k : ℕ) (t : ℕ × ℕ) (x : Combination) → k < length x → t ≡ get_or x k t → has_wire w (take (k + 1) x) ≡ (has_wire w (take k x) || eqb t.1 w)
+unfolding has_wire
+has_next w k t x h at = list_any_more (λ u. eqb u.1 w) x k t h ∙ ap (λ u. list_any (λ v. eqb v.1 w) (take k x) || eqb u.1 w) (sym at)
+
+pub has_at : (k : ℕ) (t : ℕ × ℕ) (x : Combination) → k < length x → t ≡ get_or x k t → has_wire t.1 x ≡ true
+unfolding has_wire
+has_at k t [] h at = absurd (omega arith)
+has_at zero t (u ∷ x) h at = or_left (eqb u.1 t.1) (list_any (λ v. eqb v.1 t.1) x) (eq-eqb u.1 t.1 (ap (λ v. v.1) (sym at)))
+has_at (suc k) t (u ∷ x) h at = or_right (eqb u.1 t.1) (list_any (λ v. eqb v.1 t.1) x) (has_at k t x (omega arith) at)
+
+-- a combination's own wires
+has_more : (w : ℕ) (t : ℕ × ℕ) (x : Combination) → has_wire w x ≡ true → has_wire w (t ∷ x) ≡ true
+unfolding has_wire
+has_more w t x e = or_right (eqb t.1 w) (list_any (λ u. eqb u.1 w) x) e
+
+has_first : (t : ℕ × ℕ) (x : Combination) → has_wire t.1 (t ∷ x) ≡ true
+unfolding has_wire
+has_first t x = or_left (eqb t.1 t.1) (list_any (λ u. eqb u.1 t.1) x) (eq-eqb t.1 t.1 refl)
+
+pub over_itself : (x : Combination) → Over (λ w. has_wire w x ≡ true) x
+over_itself [] = tt
+over_itself (t ∷ x) = (has_first t x, Over-weaker (λ w. has_wire w x ≡ true) (λ w. has_wire w (t ∷ x) ≡ true) x (λ w e. has_more w t x e) (over_itself x))
+
+row_over : (c : Constraint) → Over (λ w. row_has w (Some c) ≡ true) c.a × Over (λ w. row_has w (Some c) ≡ true) c.b × Over (λ w. row_has w (Some c) ≡ true) c.c
+row_over c = (
+  Over-weaker (λ w. has_wire w c.a ≡ true) (λ w. row_has w (Some c) ≡ true) c.a (λ w e. or_left (has_wire w c.a) (has_wire w c.b || has_wire w c.c) e) (over_itself c.a),
+  Over-weaker (λ w. has_wire w c.b ≡ true) (λ w. row_has w (Some c) ≡ true) c.b (λ w e. or_right (has_wire w c.a) (has_wire w c.b || has_wire w c.c) (or_left (has_wire w c.b) (has_wire w c.c) e)) (over_itself c.b),
+  Over-weaker (λ w. has_wire w c.c ≡ true) (λ w. row_has w (Some c) ≡ true) c.c (λ w e. or_right (has_wire w c.a) (has_wire w c.b || has_wire w c.c) (or_right (has_wire w c.b) (has_wire w c.c) e)) (over_itself c.c),
+)
+
+-- what a row says is 0 is normal, and of its wires
+pub form-normal : (row : Option Constraint) (form : Combination) → linear_row row ≡ Some form → IsNormalFrom 0 form
+form-normal None form e = absurd (none_some form e)
+form-normal (Some c) form e = (Over-linear_form (λ v. Unit {0}) c form (all_units c.a) (all_units c.b) (all_units c.c) e).1
+
+pub form-over : (row : Option Constraint) (form : Combination) → linear_row row ≡ Some form → Over (λ w. row_has w row ≡ true) form
+form-over None form e = absurd (none_some form e)
+form-over (Some c) form e = let own = row_over c in (Over-linear_form (λ w. row_has w (Some c) ≡ true) c form own.0 own.1 own.2 e).0
+
+-- what a wire of it is has only wires of the row, and not that wire
+pub solved-wires : (w : ℕ) (row : Option Constraint) (form : Combination) → linear_row row ≡ Some form → (v : ℕ) → has_wire v (solved w form) ≡ true → row_has v row ≡ true
+solved-wires w row form e v has =
+    (Over-has_wire (λ u. (row_has u row ≡ true) × (u ≢ w)) v (solved w form) (Over-solved (λ u. row_has u row ≡ true) w form (form-over row form e)) has).0
+
+pub solved-lacks : (w : ℕ) (form : Combination) → has_wire w (solved w form) ≡ false
+solved-lacks w form = lacks_over w (solved w form) (Over-solved (λ v. Unit {0}) w form (all_units form))
+
+pub solved-normal : (w : ℕ) (form : Combination) → IsNormalFrom 0 (solved w form)
+unfolding solved
+solved-normal w form = IsNormalFrom-normal (scaled (P - inverse_of (coefficient w form)) (without w form))
+
+pub wire-there : (w : ℕ) (row : Option Constraint) (form : Combination) → linear_row row ≡ Some form → has_wire w form ≡ true → row_has w row ≡ true
+wire-there w row form e has = Over-has_wire (λ u. row_has u row ≡ true) w form (form-over row form e) has
+
+-- the greatest wire is the last
+last-above : (least : ℕ) (d : ℕ × ℕ) (x : Combination) → IsNormalFrom least x → 0 < length x → least ≤ (get_or x (length x - 1) d).1
+last-above least d x n h = above_at least (length x - 1) d x n (omega arith)
+
+last-behind : (t u d : ℕ × ℕ) (x : Combination) → get_or (t ∷ u ∷ x) (length (t ∷ u ∷ x) - 1) d ≡ get_or (u ∷ x) (length (u ∷ x) - 1) d
+last-behind t u d x = let e : length (t ∷ u ∷ x) - 1 ≡ suc (length (u ∷ x) - 1) = omega arith in ap (λ k. get_or (t ∷ u ∷ x) k d) e
+
+greatest-last_step : (publics : ℕ) (t : ℕ × ℕ) (last : ℕ) → t.1 < last → greater_from publics t.1 (cond (ltb last publics) None (Some last)) ≡ cond (ltb last publics) None (Some last)
+unfolding greater_from
+greatest-last_step publics t last h = by_order (ltb last publics) refl
+  where
+    by_order : (b : Bool) → ltb last publics ≡ b → greater_from publics t.1 (cond b None (Some last)) ≡ cond b None (Some last)
+    by_order true e = let less = ltb-true last publics e in ap (λ b. cond b None (Some t.1)) (lt-ltb t.1 publics (omega arith))
+    by_order false e = ap Some (omega arith)
+
+pub greatest-last : (publics least : ℕ) (d : ℕ × ℕ) (x : Combination) → IsNormalFrom least x → 0 < length x →
+    greatest_from publics x ≡ cond (ltb (get_or x (length x - 1) d).1 publics) None (Some (get_or x (length x - 1) d).1)
+unfolding greatest_from greater_from
+greatest-last publics least d [] n h = absurd (omega arith)
+greatest-last publics least d (t ∷ []) n h = refl
+greatest-last publics least d (t ∷ u ∷ x) n h =
+    let later = greatest-last publics (t.1 + 1) d (u ∷ x) n.3 (omega arith) in
+    let above = last-above (t.1 + 1) d (u ∷ x) n.3 (omega arith) in
+    ap (greater_from publics t.1) later
+    ∙ greatest-last_step publics t (get_or (u ∷ x) (length (u ∷ x) - 1) d).1 (omega arith)
+    ∙ ap (λ v. cond (ltb v.1 publics) None (Some v.1)) (sym (last-behind t u d x))
+
+positive_at : (least i : ℕ) (d : ℕ × ℕ) (x : Combination) → IsNormalFrom least x → i < length x → 0 < (get_or x i d).0
+positive_at least i d [] n h = absurd (omega arith)
+positive_at least zero d (t ∷ x) n h = n.1
+positive_at least (suc i) d (t ∷ x) n h = positive_at (t.1 + 1) i d x n.3 (omega arith)
+
+-- the turn of a constraint, by what it says
+pub turn-unlinear : (publics at : ℕ) (pass : Pass) → linear_row (get_or pass.rows at None) ≡ None → turn publics pass at ≡ pass
+unfolding turn treated
+turn-unlinear publics at pass e = ap (λ o. treated publics at o pass) e
+
+pub turn-empty : (publics at : ℕ) (pass : Pass) → linear_row (get_or pass.rows at None) ≡ Some [] → turn publics pass at ≡ dropped at pass
+unfolding turn treated
+turn-empty publics at pass e = ap (λ o. treated publics at o pass) e
+
+turn-form : (publics at : ℕ) (pass : Pass) (form : Combination) → 0 < length form → linear_row (get_or pass.rows at None) ≡ Some form → turn publics pass at ≡ eliminated at form (greatest_from publics form) pass
+unfolding turn treated
+turn-form publics at pass [] h e = absurd (omega arith)
+turn-form publics at pass (t ∷ x) h e = ap (λ o. treated publics at o pass) e
+
+pub turn-public : (publics at : ℕ) (t : ℕ × ℕ) (pass : Pass) (form : Combination) → 0 < length form → linear_row (get_or pass.rows at None) ≡ Some form → t ≡ get_or form (length form - 1) t → t.1 < publics → turn publics pass at ≡ pass
+unfolding eliminated
+turn-public publics at t pass form h e last below =
+    turn-form publics at pass form h e
+    ∙ ap (λ o. eliminated at form o pass) (greatest-last publics 0 t form (form-normal (get_or pass.rows at None) form e) h ∙ ap (λ u. cond (ltb u.1 publics) None (Some u.1)) (sym last) ∙ ap (λ b. cond b None (Some t.1)) (lt-ltb t.1 publics below))
+
+pub turn-private : (publics at : ℕ) (t : ℕ × ℕ) (pass : Pass) (form : Combination) → 0 < length form → linear_row (get_or pass.rows at None) ≡ Some form → t ≡ get_or form (length form - 1) t → publics ≤ t.1 →
+    turn publics pass at ≡ attempted t.1 (solved t.1 form) (dropped at pass) pass
+unfolding eliminated
+turn-private publics at t pass form h e last above =
+    turn-form publics at pass form h e
+    ∙ ap (λ o. eliminated at form o pass) (greatest-last publics 0 t form (form-normal (get_or pass.rows at None) form e) h ∙ ap (λ u. cond (ltb u.1 publics) None (Some u.1)) (sym last) ∙ ap (λ b. cond b None (Some t.1)) (le-ltb t.1 publics above))
+
+-- the last term
+pub last-own : (t : ℕ × ℕ) (form : Combination) → IsNormalFrom 0 form → 0 < length form → t ≡ get_or form (length form - 1) t →
+    (0 < t.0) × (has_wire t.1 form ≡ true) × (t.0 ≡ coefficient t.1 form)
+last-own t form n h last =
+    let inside : length form - 1 < length form = omega arith in
+    let found = found_at 0 (length form - 1) t.1 t form n inside (ap (λ u. u.1) (sym last)) in
+    (subst (λ u. 0 < u.0) (sym last) (positive_at 0 (length form - 1) t form n inside), found.0, ap (λ u. u.0) last ∙ sym found.1)
+
+-- the default does not matter within a list
+pub same_default : {A : Type 0} (xs : List A) (i : ℕ) (d e : A) → i < length xs → get_or xs i d ≡ get_or xs i e
+same_default [] i d e h = absurd (omega arith)
+same_default (x ∷ xs) zero d e h = refl
+same_default (x ∷ xs) (suc i) d e h = same_default xs i d e (omega arith)
+
+-- one turn of the loop that adds places
+module _ (publics : ℕ) (lists next : List (List ℕ)) (rows : List ℕ) (k : ℕ) (t : ℕ × ℕ) (r : Combination) (h : k < length r) (at : t ≡ get_or r k t)
+    (added : (w i : ℕ) → publics ≤ w → has_wire w (take k r) ≡ true → list_any (λ p. eqb p i) rows ≡ true → list_any (λ p. eqb p i) (get_or lists w []) ≡ true) where
+  pub spread-private : t.1 < length lists → next ≡ set lists t.1 (get_or lists t.1 [] ++ rows) →
+      (w i : ℕ) → publics ≤ w → has_wire w (take (k + 1) r) ≡ true → list_any (λ p. eqb p i) rows ≡ true → list_any (λ p. eqb p i) (get_or next w []) ≡ true
+  spread-private inside is w i above has e =
+      subst (λ xs. list_any (λ p. eqb p i) (get_or xs w []) ≡ true) (sym is)
+      (elim (or_cases (has_wire w (take k r)) (eqb t.1 w) (sym (has_next w k t r h at) ∙ has)) [
+        | inl earlier ↦ extend-more (λ p. eqb p i) lists t.1 w rows inside (added w i above earlier e)
+        | inr here ↦ subst (λ v. list_any (λ p. eqb p i) (get_or (set lists t.1 (get_or lists t.1 [] ++ rows)) v []) ≡ true) (eqb-true t.1 w here) (extend-added (λ p. eqb p i) lists t.1 rows inside e)
+      ])
+
+  pub spread-public : t.1 < publics → next ≡ lists →
+      (w i : ℕ) → publics ≤ w → has_wire w (take (k + 1) r) ≡ true → list_any (λ p. eqb p i) rows ≡ true → list_any (λ p. eqb p i) (get_or next w []) ≡ true
+  spread-public below is w i above has e =
+      subst (λ xs. list_any (λ p. eqb p i) (get_or xs w []) ≡ true) (sym is)
+      (elim (or_cases (has_wire w (take k r)) (eqb t.1 w) (sym (has_next w k t r h at) ∙ has)) [
+        | inl earlier ↦ added w i above earlier e
+        | inr here ↦ absurd (omega (arith, eqb-true t.1 w here))
+      ])
+
+pub none_spread : (w : ℕ) → has_wire w [] ≡ true → ⊥
+none_spread w e = none_has w e
+
+-- what was put out, from the row that was looked at
+pub form_there : (rows : List (Option Constraint)) (at : ℕ) (row : Option Constraint) (form : Combination) (b : Bool) → at < length rows → row ≡ get_or rows at row → linear_row row ≡ cond b (Some form) None → b ≡ true → linear_row (get_or rows at None) ≡ Some form
+form_there rows at row form b h is says e =
+    ap linear_row (same_default rows at None row h ∙ sym is) ∙ says ∙ ap (λ c. cond c (Some form) None) e
+
+pub form_missing : (rows : List (Option Constraint)) (at : ℕ) (row : Option Constraint) (form : Combination) (b : Bool) → at < length rows → row ≡ get_or rows at row → linear_row row ≡ cond b (Some form) None → b ≡ false → linear_row (get_or rows at None) ≡ None
+form_missing rows at row form b h is says e =
+    ap linear_row (same_default rows at None row h ∙ sym is) ∙ says ∙ ap (λ c. cond c (Some form) None) e
+
+pub last_at : (form : Combination) (n : ℕ) (t : ℕ × ℕ) → n ≡ length form → t ≡ get_or form (n - 1) t → t ≡ get_or form (length form - 1) t
+last_at form n t e is = is ∙ ap (λ m. get_or form (m - 1) t) e
+
+-- a row that was taken is put back
+pub put-back : (rows : List (Option Constraint)) (at : ℕ) (row other : Option Constraint) → row ≡ get_or rows at row → set (set rows at other) at row ≡ rows
+put-back rows at row other is = set-set rows at other row ∙ ap (set rows at) is ∙ set-get_or rows at row
+
+-- the attempt, by whether all keep to their most terms
+pub not-attempted : (w at : ℕ) (r : Combination) (rows : List (Option Constraint)) (gone : List Bool) (all : Bool) → all ≡ list_all (row_fits w r) (set rows at None) → all ≡ false →
+    attempted w r (dropped at (pass_of rows gone)) (pass_of rows gone) ≡ pass_of rows gone
+unfolding attempted dropped
+not-attempted w at r rows gone all is e =
+    ap (λ b. cond b (substituted w r (record { rows = set rows at None; gone = gone })) (pass_of rows gone)) (sym is ∙ e)
+
+pub attempted-all : (w at : ℕ) (r : Combination) (rows : List (Option Constraint)) (gone : List Bool) (all : Bool) → all ≡ list_all (row_fits w r) (set rows at None) → all ≡ true →
+    attempted w r (dropped at (pass_of rows gone)) (pass_of rows gone) ≡ pass_of (all_replaced w r (set rows at None)) (set gone w true)
+unfolding attempted dropped substituted
+attempted-all w at r rows gone all is e =
+    ap (λ b. cond b (pass_of (all_replaced w r (set rows at None)) (set gone w true)) (pass_of rows gone)) (sym is ∙ e)
+
+-- the rows are normal once a wire is replaced
+pub normal-all_replaced : (w : ℕ) (r : Combination) (rows : List (Option Constraint)) → AreNormal rows → AreNormal (all_replaced w r rows)
+normal-all_replaced w r rows n = rows_changed RowIsNormal RowIsNormal (option_map (replaced_in w r)) (normal-replaced_row w r) rows n
+
+-- and the places name each row that a private wire stands in
+module _ (v w : ℕ) (r : Combination) (lacks : has_wire w r ≡ false) where
+  other_wire : has_wire v r ≡ true → v ≢ w
+  other_wire has same = let both : true ≡ false = sym has ∙ ap (λ u. has_wire u r) same ∙ lacks in cc
+
+  r_over : (x : Combination) → Over (λ u. ((has_wire u x ≡ true) ⊎ (has_wire u r ≡ true)) × (u ≢ w)) r
+  r_over x =
+      Over-weaker (λ u. (has_wire u r ≡ true) × (u ≢ w)) (λ u. ((has_wire u x ≡ true) ⊎ (has_wire u r ≡ true)) × (u ≢ w)) r (λ u h. (inr h.0, h.1))
+      (Over-lacking (λ u. has_wire u r ≡ true) w r (over_itself r) lacks)
+
+  has-replaced : (x : Combination) → has_wire v (replaced w r x) ≡ true → ((has_wire v x ≡ true) × (v ≢ w)) ⊎ ((has_wire v r ≡ true) × (has_wire w x ≡ true))
+  has-replaced x has =
+      elim (cases_Bool (has_wire w x)) [
+        | inl there ↦
+            let found = Over-has_wire (λ u. ((has_wire u x ≡ true) ⊎ (has_wire u r ≡ true)) × (u ≢ w)) v (replaced w r x)
+            (Over-replaced (λ u. (has_wire u x ≡ true) ⊎ (has_wire u r ≡ true)) w r x
+            (Over-weaker (λ u. has_wire u x ≡ true) (λ u. (has_wire u x ≡ true) ⊎ (has_wire u r ≡ true)) x (λ u h. inl h) (over_itself x)) (r_over x)) has in
+            elim found.0 [ inl own ↦ inl (own, found.1) | inr by ↦ inr (by, there) ]
+        | inr missing ↦
+            let own : has_wire v x ≡ true = ap (has_wire v) (sym (replaced-lacking w r x (sym missing))) ∙ has in
+            inl (own, λ same. let both : true ≡ false = sym own ∙ ap (λ u. has_wire u x) same ∙ missing in cc)
+      ]
+
+  row_has_replaced : (row : Option Constraint) → row_has v (option_map (replaced_in w r) row) ≡ true → ((row_has v row ≡ true) × (v ≢ w)) ⊎ ((has_wire v r ≡ true) × (row_has w row ≡ true))
+  row_has_replaced None has = absurd (let no : false ≡ true = has in cc)
+  row_has_replaced (Some c) has =
+      elim (or_cases (has_wire v (replaced w r c.a)) (has_wire v (replaced w r c.b) || has_wire v (replaced w r c.c)) has) [
+        | inl in_a ↦ elim (has-replaced c.a in_a) [
+          | inl own ↦ inl (or_left (has_wire v c.a) (has_wire v c.b || has_wire v c.c) own.0, own.1)
+          | inr by ↦ inr (by.0, or_left (has_wire w c.a) (has_wire w c.b || has_wire w c.c) by.1)
+        ]
+        | inr later ↦ elim (or_cases (has_wire v (replaced w r c.b)) (has_wire v (replaced w r c.c)) later) [
+          | inl in_b ↦ elim (has-replaced c.b in_b) [
+            | inl own ↦ inl (or_right (has_wire v c.a) (has_wire v c.b || has_wire v c.c) (or_left (has_wire v c.b) (has_wire v c.c) own.0), own.1)
+            | inr by ↦ inr (by.0, or_right (has_wire w c.a) (has_wire w c.b || has_wire w c.c) (or_left (has_wire w c.b) (has_wire w c.c) by.1))
+          ]
+          | inr in_c ↦ elim (has-replaced c.c in_c) [
+            | inl own ↦ inl (or_right (has_wire v c.a) (has_wire v c.b || has_wire v c.c) (or_right (has_wire v c.b) (has_wire v c.c) own.0), own.1)
+            | inr by ↦ inr (by.0, or_right (has_wire w c.a) (has_wire w c.b || has_wire w c.c) (or_right (has_wire w c.b) (has_wire w c.c) by.1))
+          ]
+        ]
+      ]
+
+dropped_cases : (rows : List (Option Constraint)) (at i : ℕ) → (get_or (set rows at None) i None ≡ None) ⊎ (get_or (set rows at None) i None ≡ get_or rows i None)
+dropped_cases [] at i = inl refl
+dropped_cases (row ∷ rows) zero zero = inl refl
+dropped_cases (row ∷ rows) zero (suc i) = inr refl
+dropped_cases (row ∷ rows) (suc at) zero = inr refl
+dropped_cases (row ∷ rows) (suc at) (suc i) = dropped_cases rows at i
+
+changed_at : (change : Option Constraint → Option Constraint) (rows : List (Option Constraint)) (i : ℕ) → change None ≡ None → get_or (map change rows) i None ≡ change (get_or rows i None)
+changed_at change [] i none = sym none
+changed_at change (row ∷ rows) zero none = refl
+changed_at change (row ∷ rows) (suc i) none = changed_at change rows i none
+
+pub dropped-covers : (publics at : ℕ) (rows : List (Option Constraint)) (lists : List (List ℕ)) → Covers publics rows lists → Covers publics (set rows at None) lists
+dropped-covers publics at rows lists covers i v above has =
+    elim (dropped_cases rows at i) [
+      | inl none ↦ absurd (let no : false ≡ true = sym (ap (row_has v) none) ∙ has in cc)
+      | inr same ↦ covers i v above (ap (row_has v) (sym same) ∙ has)
+    ]
+
+pub replaced-covers : (publics w : ℕ) (r : Combination) (rows : List (Option Constraint)) (lists taken next : List (List ℕ)) → has_wire w r ≡ false → publics ≤ w → Covers publics rows lists → taken ≡ set lists w [] →
+    ((v i : ℕ) → list_any (λ p. eqb p i) (get_or taken v []) ≡ true → list_any (λ p. eqb p i) (get_or next v []) ≡ true) →
+    ((v i : ℕ) → publics ≤ v → has_wire v r ≡ true → row_has w (get_or rows i None) ≡ true → list_any (λ p. eqb p i) (get_or next v []) ≡ true) →
+    Covers publics (all_replaced w r rows) next
+replaced-covers publics w r rows lists taken next lacks private covers is more added i v above has =
+    let here : row_has v (option_map (replaced_in w r) (get_or rows i None)) ≡ true = ap (row_has v) (sym (changed_at (option_map (replaced_in w r)) rows i refl)) ∙ has in
+    elim (row_has_replaced v w r lacks (get_or rows i None) here) [
+      | inl own ↦
+          more v i (ap (λ xs. list_any (λ p. eqb p i) (get_or xs v [])) is ∙ ap (λ xs. list_any (λ p. eqb p i) xs) (get_or-set_other lists w v [] [] own.1) ∙ covers i v above own.0)
+      | inr by ↦ added v i above by.0 by.1
+    ]
+
+-- a wire whose places are named is one of those that there are
+pub covered-inside : (publics at w : ℕ) (rows : List (Option Constraint)) (lists : List (List ℕ)) → Covers publics rows lists → publics ≤ w → row_has w (get_or rows at None) ≡ true → w < length lists
+covered-inside publics at w rows lists covers above has =
+    elim (cases_lt w (length lists)) [
+      | inl inside ↦ inside
+      | inr past ↦ absurd (let no : false ≡ true = sym (ap (λ xs. list_any (λ p. eqb p at) xs) (get_or_past lists w [] past)) ∙ covers at w above has in cc)
+    ]
+
+pub dropped-kept : (publics at : ℕ) (rows : List (Option Constraint)) (gone : List Bool) (lists : List (List ℕ)) → IsKept publics rows gone lists → IsKept publics (set rows at None) gone lists
+dropped-kept publics at rows gone lists kept = record {
+  normal = rows_dropped RowIsNormal tt rows at kept.normal;
+  covers = dropped-covers publics at rows lists kept.covers;
+  each = kept.each;
+}
+
+pub nil_of : (x : Combination) → length x ≡ 0 → x ≡ []
+nil_of [] e = refl
+nil_of (t ∷ x) e = absurd (omega arith)
+
+pub passed-more : (publics n : ℕ) (pass : Pass) → fold (turn publics) pass (range_with_len 0 (n + 1)) ≡ turn publics (fold (turn publics) pass (range_with_len 0 n)) n
+passed-more publics n pass =
+    ap (λ k. fold (turn publics) pass (range_with_len 0 k)) (add-one n)
+    ∙ ap (fold (turn publics) pass) (range-more 0 n)
+    ∙ fold_push (turn publics) pass (range_with_len 0 n) (0 + n)
+    ∙ ap (turn publics (fold (turn publics) pass (range_with_len 0 n))) (omega arith)

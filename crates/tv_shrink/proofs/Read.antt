@@ -1,0 +1,288 @@
+-- Terms that were read, made normal.
+use Rattle.std.proofs.Common.{◌≡◌, ◌⊎◌, ℕ, zero, suc, ◌+◌, ◌%◌, ◌<◌, ◌≤◌, Bool, not, ◌||◌, List, [], ◌∷◌, ◌++◌, Option, Some, None, refl, sym, ◌∙◌, ap, ap₂, subst, arith, eqb, ne_eqb, true, false, inl, inr, cond, map, length, get_or, drop, take, add-one, drop-cons, mod-eq_of_lt, eqb-true, eq-eqb, append-nil, set, take_all}
+use Rattle.std.proofs.Common.{Result, Ok, Err}
+use Rattle.std.specs.List.{AllByRecursion, All, list_any}
+use Rattle.std.specs.Prelude.{slice_index}
+use Rattle.tv_container.specs.Places.{Fault, ◌>>=◌, wrong}
+use Rattle.tv_container.specs.Reading.{Refuses, Stopped}
+use Rattle.tv_container.specs.declared.why.ReadRefusal.{ReadRefusal}
+use Rattle.tv_container.specs.declared.why.ReadRefusal.TheVariants as refusal
+use Rattle.tv_files.specs.Outside.{Outside}
+use Rattle.tv_r1cs_read.specs.Places.{IsAt, system_with}
+use Rattle.tv_r1cs_read.specs.Progress.{Reached, ahead}
+use Rattle.tv_r1cs_read.specs.R1cs.{system_of}
+use Rattle.tv_shrink.specs.declared.fault.ShrinkFault.{ShrinkFault}
+use Rattle.tv_shrink.specs.declared.fault.ShrinkFault.TheVariants as fault
+use Rattle.std.proofs.lemmas.List.{map_push, take_more}
+use Rattle.std.proofs.lemmas.Bool.{or_cases, or_left}
+use Rattle.std.proofs.lemmas.List.Elements.{All-more, filter-append, recursion_from_All}
+use Rattle.tv_core.proofs.CombinationLaws.{value-append}
+use Rattle.tv_container.specs.declared.why.ReadWhy.{ReadWhy}
+use Rattle.tv_core.specs.Combinations.{scaled, top}
+use Rattle.tv_core.specs.declared.lines.Counts.{Counts}
+use Rattle.tv_r1cs_read.specs.Survey.{survey_of, system_counts}
+use Rattle.tv_core.specs.Constraints.{Combination, Constraint, System, value}
+use Rattle.tv_core.specs.declared.field.TheConstants.{P}
+use Rattle.tv_r1cs_read.specs.Rows.{combination_of}
+use Rattle.tv_shrink.specs.Answers.{first_number, first_wide, read_fault, start_rows, wide_in, all_terms, most, Halted, IsTooWide, Tells, TellsRead}
+use Rattle.tv_shrink.specs.Normal.{added, non_zero, normal, normal_constraint, IsNormalFrom, with_term}
+use Rattle.tv_shrink.proofs.NormalLaws.{Over, Over-normal, value-normal, IsNormalFrom-normal}
+use Rattle.tv_shrink.proofs.Unique.{same_values, normal-same}
+use Rattle.tv_shrink.specs.Replacing.{has_wire}
+use Rattle.tv_shrink.specs.Tidy.{Covers, row_has}
+use Rattle.tv_shrink.proofs.ReplacingLaws.{Over-has_wire}
+use Rattle.tv_shrink.proofs.Constants.{scaled_once}
+
+-- one more term before a normal combination
+pub normal_before : (least i : ℕ) (t : ℕ × ℕ) (terms : List (ℕ × ℕ)) → i < length terms → t ≡ get_or terms i t → least ≤ t.0 → 0 < t.1 → t.1 < P →
+    IsNormalFrom (t.0 + 1) (combination_of (drop (i + 1) terms)) → IsNormalFrom least (combination_of (drop i terms))
+normal_before least i t terms h at above some small behind =
+    let split : drop i terms ≡ t ∷ drop (i + 1) terms = drop-cons terms i t h ∙ ap₂ (λ u rest. u ∷ rest) (sym at) (ap (λ k. drop k terms) (sym (add-one i))) in
+    subst (λ xs. IsNormalFrom least (combination_of xs)) (sym split) (above, some, small, behind)
+
+-- a normal combination has no zeros
+pub non_zero-normal : (least : ℕ) (x : Combination) → IsNormalFrom least x → non_zero x ≡ x
+non_zero-normal least [] n = refl
+non_zero-normal least (t ∷ x) n =
+    ap (λ b. cond (not b) (t ∷ non_zero x) (non_zero x)) (ne_eqb t.0 0 (λ e. absurd (omega (arith, n.1)))) ∙ ap (λ rest. t ∷ rest) (non_zero-normal (t.1 + 1) x n.3)
+
+pub normal_already : (x : Combination) → IsNormalFrom 0 x → non_zero x ≡ normal x
+normal_already x n = non_zero-normal 0 x n ∙ sym (normal-same x n)
+
+-- one term, or none
+one_term : (t : ℕ × ℕ) (b : Bool) → eqb t.0 0 ≡ b → t.0 < P → cond (not b) (t ∷ []) [] ≡ with_term t.0 t.1 []
+unfolding with_term
+one_term t true e small = let same : t.0 % P ≡ 0 = ap (λ n. n % P) (eqb-true t.0 0 e) in ap (λ b. cond b [] ((t.0 % P, t.1) ∷ [])) (sym (eq-eqb (t.0 % P) 0 same))
+one_term t false e small =
+    let same : t.0 % P ≡ t.0 = mod-eq_of_lt small in
+    ap (λ n. (n, t.1) ∷ []) (sym same) ∙ sym (ap (λ n. cond (eqb n 0) [] ((t.0 % P, t.1) ∷ [])) same ∙ ap (λ b. cond b [] ((t.0 % P, t.1) ∷ [])) e)
+
+pub normal_few : (terms : List (ℕ × ℕ)) → All (λ t. t.1 < P) terms → length terms < 2 → non_zero (combination_of terms) ≡ normal (combination_of terms)
+unfolding normal added
+normal_few [] small h = refl
+normal_few (t ∷ []) small h = one_term (t.1, t.0) (eqb t.1 0) refl (small 0 t (omega arith))
+normal_few (t ∷ u ∷ terms) small h = absurd (omega arith)
+
+-- the sum of two halves
+pub normal_halves : (x y front back : Combination) → x ≡ normal front → y ≡ normal back → normal (scaled 1 x ++ scaled 1 y) ≡ normal (front ++ back)
+normal_halves x y front back e f =
+    same_values 0 0 (normal (scaled 1 x ++ scaled 1 y)) (normal (front ++ back)) (IsNormalFrom-normal (scaled 1 x ++ scaled 1 y)) (IsNormalFrom-normal (front ++ back)) (λ z.
+    value-normal z (scaled 1 x ++ scaled 1 y)
+    ∙ value-append (scaled 1 x) (scaled 1 y) z
+    ∙ ap₂ (λ u v. (value u z + value v z) % P)
+    (ap (scaled 1) e ∙ scaled_once 0 (normal front) (IsNormalFrom-normal front)) (ap (scaled 1) f ∙ scaled_once 0 (normal back) (IsNormalFrom-normal back))
+    ∙ ap₂ (λ m n. (m + n) % P) (value-normal z front) (value-normal z back)
+    ∙ sym (value-append front back z)
+    ∙ sym (value-normal z (front ++ back)))
+
+-- one more term copied, or left out
+module _ (terms : List (ℕ × ℕ)) (i : ℕ) (t : ℕ × ℕ) (x : Combination) (h : i < length terms) (at : t ≡ get_or terms i t) (before : x ≡ non_zero (combination_of (take i terms))) where
+  copied : non_zero (combination_of (take (i + 1) terms)) ≡ x ++ cond (not (eqb t.1 0)) ((t.1, t.0) ∷ []) []
+  copied =
+      ap (λ xs. non_zero (combination_of xs)) (take_more terms i t h ∙ ap (λ u. take i terms ++ u ∷ []) (sym at))
+      ∙ ap non_zero (map_push (λ (u : ℕ × ℕ). (u.1, u.0)) (take i terms) t)
+      ∙ filter-append (λ u. not (eqb u.0 0)) (combination_of (take i terms)) ((t.1, t.0) ∷ [])
+      ∙ ap (λ y. y ++ cond (not (eqb t.1 0)) ((t.1, t.0) ∷ []) []) (sym before)
+
+  pub copied_some : (t.1 ≡ 0 → ⊥) → x ++ (t.1, t.0) ∷ [] ≡ non_zero (combination_of (take (i + 1) terms))
+  copied_some apart = sym (copied ∙ ap (λ b. x ++ cond (not b) ((t.1, t.0) ∷ []) []) (ne_eqb t.1 0 apart))
+
+  pub copied_none : t.1 ≡ 0 → x ≡ non_zero (combination_of (take (i + 1) terms))
+  copied_none none = sym (copied ∙ ap (λ b. x ++ cond (not b) ((t.1, t.0) ∷ []) []) (eq-eqb t.1 0 none) ∙ append-nil x)
+
+pub small_more : (terms : List (ℕ × ℕ)) (i : ℕ) (t : ℕ × ℕ) → i < length terms → t ≡ get_or terms i t → t.1 < P → All (λ u. u.1 < P) (take i terms) → All (λ u. u.1 < P) (take (i + 1) terms)
+small_more terms i t h at small before = All-more (λ u. u.1 < P) terms i t h before (subst (λ u. u.1 < P) at small)
+
+-- the wires of terms that were read
+over_terms : (n : ℕ) (terms : List (ℕ × ℕ)) → AllByRecursion (λ t. t.0 < n) terms → Over (λ v. v < n) (combination_of terms)
+over_terms n [] h = tt
+over_terms n (t ∷ terms) h = (h.0, over_terms n terms h.1)
+
+pub over_read : (n : ℕ) (terms : List (ℕ × ℕ)) → All (λ t. t.0 < n) terms → Over (λ v. v < n) (normal (combination_of terms))
+over_read n terms h = Over-normal (λ v. v < n) (combination_of terms) (over_terms n terms (recursion_from_All (λ t. t.0 < n) terms h))
+
+-- a wire of a combination whose wires are below a number
+pub wire_below : (n w : ℕ) (x y : Combination) → Over (λ v. v < n) x → y ≡ x → has_wire w y ≡ true → w < n
+wire_below n w x y over is has = Over-has_wire (λ v. v < n) w x over (ap (has_wire w) (sym is) ∙ has)
+
+-- one more row
+pushed_cases : (rows : List (Option Constraint)) (row : Option Constraint) (i : ℕ) → (get_or (rows ++ row ∷ []) i None ≡ get_or rows i None) ⊎ ((i ≡ length rows) × (get_or (rows ++ row ∷ []) i None ≡ row))
+pushed_cases [] row zero = inr (refl, refl)
+pushed_cases [] row (suc i) = inl refl
+pushed_cases (first ∷ rows) row zero = inl refl
+pushed_cases (first ∷ rows) row (suc i) =
+    elim (pushed_cases rows row i) [ inl same ↦ inl same | inr here ↦ inr (omega (arith, here.0), here.1) ]
+
+pub push-covers : (publics : ℕ) (rows : List (Option Constraint)) (row : Constraint) (lists next : List (List ℕ)) → Covers publics rows lists →
+    ((v i : ℕ) → list_any (λ p. eqb p i) (get_or lists v []) ≡ true → list_any (λ p. eqb p i) (get_or next v []) ≡ true) →
+    ((v : ℕ) → publics ≤ v → row_has v (Some row) ≡ true → list_any (λ p. eqb p (length rows)) (get_or next v []) ≡ true) →
+    Covers publics (rows ++ Some row ∷ []) next
+push-covers publics rows row lists next covers more added i v above has =
+    elim (pushed_cases rows (Some row) i) [
+      | inl same ↦ more v i (covers i v above (ap (row_has v) (sym same) ∙ has))
+      | inr here ↦ subst (λ j. list_any (λ p. eqb p j) (get_or next v []) ≡ true) (sym here.0) (added v above (ap (row_has v) (sym here.1) ∙ has))
+    ]
+
+pub one_place : (k n : ℕ) → k ≡ n → list_any (λ p. eqb p n) (k ∷ []) ≡ true
+one_place k n e = or_left (eqb k n) false (eq-eqb k n e)
+
+-- places added for the three combinations of a row, one after another
+pub row-added : (publics n v : ℕ) (row : Constraint) (one two three : List (List ℕ)) →
+    (has_wire v row.a ≡ true → list_any (λ p. eqb p n) (get_or one v []) ≡ true) →
+    (has_wire v row.b ≡ true → list_any (λ p. eqb p n) (get_or two v []) ≡ true) →
+    (has_wire v row.c ≡ true → list_any (λ p. eqb p n) (get_or three v []) ≡ true) →
+    ((u i : ℕ) → list_any (λ p. eqb p i) (get_or one u []) ≡ true → list_any (λ p. eqb p i) (get_or two u []) ≡ true) →
+    ((u i : ℕ) → list_any (λ p. eqb p i) (get_or two u []) ≡ true → list_any (λ p. eqb p i) (get_or three u []) ≡ true) →
+    row_has v (Some row) ≡ true → list_any (λ p. eqb p n) (get_or three v []) ≡ true
+row-added publics n v row one two three a b c more again has =
+    elim (or_cases (has_wire v row.a) (has_wire v row.b || has_wire v row.c) has) [
+      | inl in_a ↦ again v n (more v n (a in_a))
+      | inr later ↦ elim (or_cases (has_wire v row.b) (has_wire v row.c) later) [ inl in_b ↦ again v n (b in_b) | inr in_c ↦ c in_c ]
+    ]
+
+pub rows-push : (R : Option Constraint → Type 0) (rows : List (Option Constraint)) (row : Option Constraint) → AllByRecursion R rows → R row → AllByRecursion R (rows ++ row ∷ [])
+rows-push R [] row h r = (r, tt)
+rows-push R (first ∷ rows) row h r = (h.0, rows-push R rows row h.1 r)
+
+-- one element changed after another
+nothing_dropped : {A : Type 0} (xs : List A) (i : ℕ) → length xs ≤ i → drop i xs ≡ []
+nothing_dropped [] zero h = refl
+nothing_dropped [] (suc i) h = refl
+nothing_dropped (x ∷ xs) zero h = absurd (omega arith)
+nothing_dropped (x ∷ xs) (suc i) h = nothing_dropped xs i (omega arith)
+
+module _ {A : Type 0} (f : A → A) where
+  pub untouched : (xs : List A) (i : ℕ) (d : A) → get_or (map f (take i xs) ++ drop i xs) i d ≡ get_or xs i d
+  untouched [] zero d = refl
+  untouched [] (suc i) d = refl
+  untouched (x ∷ xs) zero d = refl
+  untouched (x ∷ xs) (suc i) d = untouched xs i d
+
+  touched : (xs : List A) (i : ℕ) (d : A) → i < length xs → set (map f (take i xs) ++ drop i xs) i (f (get_or xs i d)) ≡ map f (take (suc i) xs) ++ drop (suc i) xs
+  touched [] i d h = absurd (omega arith)
+  touched (x ∷ xs) zero d h = refl
+  touched (x ∷ xs) (suc i) d h = ap (λ rest. f x ∷ rest) (touched xs i d (omega arith))
+
+  pub touched_more : (xs ys : List A) (i : ℕ) (y : A) → i < length xs → ys ≡ map f (take i xs) ++ drop i xs → y ≡ get_or ys i y → set ys i (f y) ≡ map f (take (i + 1) xs) ++ drop (i + 1) xs
+  touched_more xs ys i y h is at =
+      ap₂ (λ zs z. set zs i (f z)) is (at ∙ ap (λ zs. get_or zs i y) is ∙ untouched xs i y)
+      ∙ touched xs i y h
+      ∙ ap (λ k. map f (take k xs) ++ drop k xs) (sym (add-one i))
+
+  pub touched_all : (xs ys : List A) (i : ℕ) → length xs ≤ i → ys ≡ map f (take i xs) ++ drop i xs → ys ≡ map f xs
+  touched_all xs ys i h is = is ∙ ap₂ (λ a b. map f a ++ b) (take_all i xs h) (nothing_dropped xs i h) ∙ append-nil (map f xs)
+
+pub each_at : {A : Type 0} (Q : A → Type 0) (xs : List A) (i : ℕ) (d : A) → AllByRecursion Q xs → i < length xs → Q (get_or xs i d)
+each_at Q [] i d h k = absurd (omega arith)
+each_at Q (x ∷ xs) zero d h k = h.0
+each_at Q (x ∷ xs) (suc i) d h k = each_at Q xs i d h.1 (omega arith)
+
+-- the first wide combination of a list and one more constraint
+pub no_wide : first_wide [] ≡ None
+unfolding first_wide
+no_wide = refl
+
+wide_last : (o : Option ℕ) → first_number o None ≡ o
+wide_last None = refl
+wide_last (Some n) = refl
+
+first_more : (a b o p : Option ℕ) → (o ≡ None → p ≡ b) → first_number a o ≡ None → first_number a p ≡ b
+first_more None b o p later e = later e
+first_more (Some n) b o p later e = absurd (cc)
+
+pub wide_more : (list : List Constraint) (c : Constraint) → first_wide list ≡ None → first_wide (list ++ c ∷ []) ≡ wide_in c
+unfolding first_wide
+wide_more [] c e = wide_last (wide_in c)
+wide_more (d ∷ list) c e = first_more (wide_in d) (wide_in c) (first_wide list) (first_wide (list ++ c ∷ [])) (λ k. wide_more list c k) e
+
+first_stays : (a o p : Option ℕ) (n : ℕ) → (o ≡ Some n → p ≡ Some n) → first_number a o ≡ Some n → first_number a p ≡ Some n
+first_stays None o p n later e = later e
+first_stays (Some m) o p n later e = e
+
+pub wide_front : (list more : List Constraint) (n : ℕ) → first_wide list ≡ Some n → first_wide (list ++ more) ≡ Some n
+unfolding first_wide
+wide_front [] more n e = absurd (cc)
+wide_front (d ∷ list) more n e = first_stays (wide_in d) (first_wide list) (first_wide (list ++ more)) n (λ k. wide_front list more n k) e
+
+-- what a refusal to read tells
+pub tells_read : (why : ReadRefusal) (file : List ℕ) → Refuses why (system_of file) → TellsRead (read_fault why) file
+tells_read (refusal.Bad at what) file refuses = refuses.bad at what refl
+tells_read refusal.Fault file refuses = tt
+tells_read refusal.Memory file refuses = tt
+
+pub halted : (old new : Outside) (name : List ℕ) (why : ReadRefusal) → Stopped old new name why → Halted old new name (read_fault why)
+halted old new name (refusal.Bad at what) stopped = record { only = stopped.only; there = stopped.there; cause = λ e. absurd (cc) }
+halted old new name refusal.Fault stopped = record { only = stopped.only; there = stopped.there; cause = λ e. stopped.fault refl }
+halted old new name refusal.Memory stopped = record { only = stopped.only; there = stopped.there; cause = λ e. absurd (cc) }
+
+-- where reading has come to some constraints, they are the system's first
+pub is_front : (reached : Reached) (file : List ℕ) (done : List Constraint) (system : System) → IsAt reached file done → system_of file ≡ Ok system → (others : List Constraint) × (system.constraints ≡ done ++ others)
+unfolding system_of
+is_front reached file done system at is = by_list (ahead reached file) refl
+  where
+    by_list : (left : Result (List Constraint) Fault) → ahead reached file ≡ left → (others : List Constraint) × (system.constraints ≡ done ++ others)
+    by_list (Ok others) e =
+        let all = rw e at at.read.same in
+        let whole = rw (at.header, all) at is in
+        let same : system_with reached.header (done ++ others) ≡ system = cc in
+        (others, ap (λ (s : System). s.constraints) (sym same))
+    by_list (Err fault) e =
+        let all = rw e at at.read.same in
+        let whole = rw (at.header, all) at is in
+        absurd (cc)
+
+-- a constraint that is too wide
+pub wide_read : (fault : ShrinkFault) (reached : Reached) (file : List ℕ) (done : List Constraint) (c : Constraint) → first_wide done ≡ None → IsAt reached file (done ++ c ∷ []) → IsTooWide fault (wide_in c) → TellsRead fault file
+wide_read (fault.Bad place why) reached file done c none at err = absurd err
+wide_read (fault.Terms has) reached file done c none at err = absurd err
+wide_read (fault.Combination has) reached file done c none at err = λ system is.
+    let front = is_front reached file (done ++ c ∷ []) system at is in
+    ap first_wide front.1 ∙ wide_front (done ++ c ∷ []) front.0 has (wide_more done c none ∙ err)
+wide_read fault.Fault reached file done c none at err = absurd err
+wide_read fault.Memory reached file done c none at err = tt
+
+-- a wire whose row is within, at a place
+pub start_more : (done : List Constraint) (c : Constraint) → start_rows (done ++ c ∷ []) ≡ start_rows done ++ Some (normal_constraint c) ∷ []
+start_more done c = map_push (λ d. Some (normal_constraint d)) done c
+
+pub terms_at : (numbers : List ℕ) (init x : Combination) (i : ℕ) (t : ℕ × ℕ) (w : ℕ) → i < length init → AllByRecursion (λ t. t.1 < length numbers) init → x ≡ map (λ (t : ℕ × ℕ). (t.0, slice_index numbers t.1)) (take i init) ++ drop i init → t ≡ get_or x i t → w ≡ t.1 → w < length numbers
+terms_at numbers init x i t w h within is at same =
+    let there = each_at (λ (t : ℕ × ℕ). t.1 < length numbers) init i t within h in
+    let item : t ≡ get_or init i t = at ∙ ap (λ y. get_or y i t) is ∙ untouched (λ (t : ℕ × ℕ). (t.0, slice_index numbers t.1)) init i t in
+    subst (λ n. n < length numbers) (sym (same ∙ ap (λ (u : ℕ × ℕ). u.1) item)) there
+
+-- what a survey tells of a system
+pub survey_refused : (file : List ℕ) (at : ℕ) (why : ReadWhy) → survey_of file ≡ wrong at why → system_of file ≡ wrong at why
+unfolding survey_of
+survey_refused file at why e = by_system (system_of file) e
+  where
+    by_system : (answer : Result System Fault) → (answer >>= (λ system. Ok (system_counts system))) ≡ wrong at why → answer ≡ wrong at why
+    by_system (Ok system) e = absurd (cc)
+    by_system (Err fault) e = let same : fault ≡ record { at = at; why = why } = cc in ap Err same
+
+pub survey_system : (file : List ℕ) (counts : Counts) → survey_of file ≡ Ok counts → (system : System) × (system_of file ≡ Ok system) × (counts ≡ system_counts system)
+unfolding survey_of
+survey_system file counts e = by_system (system_of file) refl
+  where
+    by_system : (answer : Result System Fault) → system_of file ≡ answer → (system : System) × (system_of file ≡ Ok system) × (counts ≡ system_counts system)
+    by_system (Ok system) is = let counted = rw is at e in let same : system_counts system ≡ counts = cc in (system, is, sym same)
+    by_system (Err fault) is = let counted = rw is at e in absurd (cc)
+
+pub tells_survey : (why : ReadRefusal) (file : List ℕ) → Refuses why (survey_of file) → Tells (read_fault why) file
+tells_survey (refusal.Bad at what) file refuses = survey_refused file at what (refuses.bad at what refl)
+tells_survey refusal.Fault file refuses = tt
+tells_survey refusal.Memory file refuses = tt
+
+pub tells_both : (fault : ShrinkFault) (file : List ℕ) (system : System) → system_of file ≡ Ok system → all_terms system ≤ most → TellsRead fault file → Tells fault file
+tells_both (fault.Bad at why) file system is few tells = tells
+tells_both (fault.Terms has) file system is few tells = absurd tells
+tells_both (fault.Combination has) file system is few tells = record { system = system; is = is; few = few; first = tells system is }
+tells_both fault.Fault file system is few tells = tt
+tells_both fault.Memory file system is few tells = tt
+
+pub same_system : (file : List ℕ) (a b : System) → system_of file ≡ Ok a → system_of file ≡ Ok b → a ≡ b
+same_system file a b e f = cc
+
+pub top_within : (n : ℕ) (x : Combination) → Over (λ v. v < n) x → top x ≤ n
+top_within n [] h = omega arith
+top_within n (t ∷ x) h = omega (arith, h.0, top_within n x h.1)

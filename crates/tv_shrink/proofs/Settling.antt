@@ -1,0 +1,234 @@
+-- What is left once a pass has run, its wires numbered anew.
+use Rattle.std.proofs.Common.{◌≡◌, ℕ, ◌+◌, ◌^◌, ◌<◌, ◌≤◌, Bool, not, ◌&&◌, List, [], ◌∷◌, Option, Some, None, refl, sym, ◌∙◌, ap, ap₂, subst, arith, true, false, inl, inr, cond, map, length, get_or, leb, leb-true, replicate}
+use Rattle.std.specs.List.{AllByRecursion, filter_map, fold, list_all, range_with_len}
+use Rattle.std.specs.Option.{option_map}
+use Rattle.std.specs.Prelude.{slice_index}
+use Rattle.std.proofs.lemmas.Bool.{or_cases, and_parts, not-true}
+use Rattle.std.proofs.lemmas.List.{length-map, length-replicate, length-take}
+use Rattle.std.proofs.lemmas.List.FromFn.{length-range_with_len}
+use Rattle.tv_core.specs.Constraints.{Combination, Constraint, System}
+use Rattle.tv_core.specs.declared.lines.Counts.{Counts}
+use Rattle.tv_shrink.specs.Answers.{counted_system, start_rows, IsReady}
+use Rattle.tv_shrink.specs.Moving.{moved, moved_in, moved_rows}
+use Rattle.tv_shrink.specs.Normal.{normal_constraint}
+use Rattle.tv_shrink.specs.Passing.{Pass, all_replaced, attempted, begun, dropped, eliminated, passed, row_fits, substituted, treated, turn, linear_row}
+use Rattle.tv_shrink.specs.Replacing.{fits, greatest_from, has_wire, replaced, replaced_in, solved}
+use Rattle.tv_shrink.specs.Shrinking.{kept, left_over, place, renumbered, renumbered_in, shrink}
+use Rattle.tv_shrink.specs.Tidy.{AreWithin, pass_of}
+use Rattle.tv_shrink.proofs.Labels.{front-kept, inside-kept, kept_is, kept_short}
+use Rattle.tv_shrink.proofs.Linear.{replaced-lacking}
+use Rattle.tv_shrink.proofs.NormalLaws.{Over, Over-weaker}
+use Rattle.tv_shrink.proofs.PassLaws.{RowsOver, Sound, Stays, rows_dropped, turns-sound}
+use Rattle.tv_shrink.proofs.Solutions.{none_gone}
+
+-- combinations of at most 128 terms
+abbrev RowIsShort : Option Constraint → Type 0
+RowIsShort None = Unit {0}
+RowIsShort (Some c) = (length c.a ≤ 128) × (length c.b ≤ 128) × (length c.c ≤ 128)
+
+short_fits : (w : ℕ) (r x : Combination) → length x ≤ 128 → fits w r x ≡ true → length (replaced w r x) ≤ 128
+unfolding fits
+short_fits w r x h e =
+    elim (or_cases (not (has_wire w x)) (leb (length (replaced w r x)) 128) e) [
+      | inl lacks ↦ subst (λ y. length y ≤ 128) (sym (replaced-lacking w r x (sym (not-true (has_wire w x) lacks)))) h
+      | inr few ↦ leb-true (length (replaced w r x)) 128 few
+    ]
+
+short_row : (w : ℕ) (r : Combination) (row : Option Constraint) → RowIsShort row → row_fits w r row ≡ true → RowIsShort (option_map (replaced_in w r) row)
+short_row w r None h e = tt
+short_row w r (Some c) h e =
+    let first = and_parts (fits w r c.a) (fits w r c.b && fits w r c.c) e in
+    let others = and_parts (fits w r c.b) (fits w r c.c) first.1 in
+    (short_fits w r c.a h.0 first.0, short_fits w r c.b h.1 others.0, short_fits w r c.c h.2 others.1)
+
+short_rows : (w : ℕ) (r : Combination) (rows : List (Option Constraint)) → AllByRecursion RowIsShort rows → list_all (row_fits w r) rows ≡ true → AllByRecursion RowIsShort (all_replaced w r rows)
+short_rows w r [] h e = tt
+short_rows w r (row ∷ rows) h e = let both = and_parts (row_fits w r row) (list_all (row_fits w r) rows) e in (short_row w r row h.0 both.0, short_rows w r rows h.1 both.1)
+
+short-dropped : (i : ℕ) (pass : Pass) → AllByRecursion RowIsShort pass.rows → AllByRecursion RowIsShort (dropped i pass).rows
+unfolding dropped
+short-dropped i pass h = rows_dropped RowIsShort tt pass.rows i h
+
+short-attempted : (w : ℕ) (r : Combination) (others pass : Pass) → AllByRecursion RowIsShort others.rows → AllByRecursion RowIsShort pass.rows → AllByRecursion RowIsShort (attempted w r others pass).rows
+unfolding attempted substituted
+short-attempted w r others pass h k = by_test (list_all (row_fits w r) others.rows) refl
+  where
+    by_test : (b : Bool) → list_all (row_fits w r) others.rows ≡ b → AllByRecursion RowIsShort (cond b (substituted w r others) pass).rows
+    by_test true e = short_rows w r others.rows h e
+    by_test false e = k
+
+short-eliminated : (i : ℕ) (x : Combination) (o : Option ℕ) (pass : Pass) → AllByRecursion RowIsShort pass.rows → AllByRecursion RowIsShort (eliminated i x o pass).rows
+unfolding eliminated
+short-eliminated i x None pass h = h
+short-eliminated i x (Some w) pass h = short-attempted w (solved w x) (dropped i pass) pass (short-dropped i pass h) h
+
+short-treated : (publics i : ℕ) (o : Option Combination) (pass : Pass) → AllByRecursion RowIsShort pass.rows → AllByRecursion RowIsShort (treated publics i o pass).rows
+unfolding treated
+short-treated publics i None pass h = h
+short-treated publics i (Some []) pass h = short-dropped i pass h
+short-treated publics i (Some (t ∷ x)) pass h = short-eliminated i (t ∷ x) (greatest_from publics (t ∷ x)) pass h
+
+short-turn : (publics i : ℕ) (pass : Pass) → AllByRecursion RowIsShort pass.rows → AllByRecursion RowIsShort (turn publics pass i).rows
+unfolding turn
+short-turn publics i pass h = short-treated publics i (linear_row (get_or pass.rows i None)) pass h
+
+short-turns : (publics : ℕ) (places : List ℕ) (pass : Pass) → AllByRecursion RowIsShort pass.rows → AllByRecursion RowIsShort (fold (turn publics) pass places).rows
+short-turns publics [] pass h = h
+short-turns publics (i ∷ places) pass h = short-turns publics places (turn publics pass i) (short-turn publics i pass h)
+
+-- rows within, as rows of wires that are not gone, and short ones
+over_start : (wires : ℕ) (rows : List (Option Constraint)) → AreWithin wires rows → RowsOver (Stays wires (replicate wires false)) rows × AllByRecursion RowIsShort rows
+over_start wires [] h = (tt, tt)
+over_start wires (None ∷ rows) h = let rest = over_start wires rows h.1 in ((tt, rest.0), (tt, rest.1))
+over_start wires (Some c ∷ rows) h =
+    let rest = over_start wires rows h.1 in
+    let each = λ (x : Combination) (k : AllByRecursion (λ t. t.1 < wires) x).
+    Over-weaker (λ v. v < wires) (Stays wires (replicate wires false)) x (λ v l. (l, none_gone wires v)) k in
+    (((each c.a h.0.a, each c.b h.0.b, each c.c h.0.c), rest.0), ((h.0.short_a, h.0.short_b, h.0.short_c), rest.1))
+
+within_end : (wires : ℕ) (gone : List Bool) (rows : List (Option Constraint)) → RowsOver (Stays wires gone) rows → AllByRecursion RowIsShort rows → AreWithin wires rows
+within_end wires gone [] h k = tt
+within_end wires gone (None ∷ rows) h k = (tt, within_end wires gone rows h.1 k.1)
+within_end wires gone (Some c ∷ rows) h k =
+    let each = λ (x : Combination) (o : Over (Stays wires gone) x). Over-weaker (Stays wires gone) (λ v. v < wires) x (λ v s. s.0) o in
+    (record { a = each c.a h.0.0; b = each c.b h.0.1; c = each c.c h.0.2; short_a = k.0.0; short_b = k.0.1; short_c = k.0.2 }, within_end wires gone rows h.1 k.1)
+
+-- a pass that is ready and has run
+module _ (counts : Counts) (publics : ℕ) (rows : List (Option Constraint)) (gone : List Bool) (lists : List (List ℕ)) (ready : IsReady counts publics rows gone lists) where
+  ready-sound : Sound rows counts.wires publics (pass_of rows (replicate counts.wires false))
+  ready-sound = record {
+    over = (over_start counts.wires rows ready.within).0;
+    each = length-replicate counts.wires false;
+    private = λ v e. absurd (let both : true ≡ false = sym e ∙ none_gone counts.wires v in cc);
+    down = λ z assigns h. h;
+    up = λ z assigns each h. record { y = z; assigns = assigns; each = each; holds = h; agree = λ v e. refl };
+    unique = λ y z ay az hy hz agree v. agree v (none_gone counts.wires v);
+  }
+
+  pub run-sound : Sound rows counts.wires publics (fold (turn publics) (pass_of rows gone) (range_with_len 0 (length rows)))
+  run-sound =
+      subst (λ g. Sound rows counts.wires publics (fold (turn publics) (pass_of rows g) (range_with_len 0 (length rows)))) (sym ready.none)
+      (turns-sound rows counts.wires publics (omega (arith, ready.private)) (range_with_len 0 (length rows)) (pass_of rows (replicate counts.wires false)) ready-sound)
+
+  pub run-within : AreWithin counts.wires (fold (turn publics) (pass_of rows gone) (range_with_len 0 (length rows))).rows
+  run-within =
+      within_end counts.wires (fold (turn publics) (pass_of rows gone) (range_with_len 0 (length rows))).gone (fold (turn publics) (pass_of rows gone) (range_with_len 0 (length rows))).rows run-sound.over
+      (short-turns publics (range_with_len 0 (length rows)) (pass_of rows gone) (over_start counts.wires rows ready.within).1)
+
+-- numbers by which the wires that stay get their places
+module _ (wires : ℕ) (gone : List Bool) (numbers : List ℕ) (numbered : (w : ℕ) → w < wires → get_or gone w false ≡ false → slice_index numbers w ≡ place w (kept wires gone)) where
+  moved-renumbered : (x : Combination) → Over (Stays wires gone) x → moved numbers x ≡ renumbered (kept wires gone) x
+  unfolding renumbered
+  moved-renumbered [] h = refl
+  moved-renumbered (t ∷ x) h = ap₂ (λ w rest. (t.0, w) ∷ rest) (numbered t.1 h.0.0 h.0.1) (moved-renumbered x h.1)
+
+  pub rows-renumbered : (rows : List (Option Constraint)) → RowsOver (Stays wires gone) rows → moved_rows numbers rows ≡ map (option_map (renumbered_in (kept wires gone))) rows
+  rows-renumbered [] h = refl
+  rows-renumbered (None ∷ rows) h = ap (λ rest. None ∷ rest) (rows-renumbered rows h.1)
+  rows-renumbered (Some c ∷ rows) h =
+      ap₂ (λ row rest. Some row ∷ rest)
+      (same_parts c (moved-renumbered c.a h.0.0) (moved-renumbered c.b h.0.1) (moved-renumbered c.c h.0.2)) (rows-renumbered rows h.1)
+    where
+      same_parts : (c : Constraint) → moved numbers c.a ≡ renumbered (kept wires gone) c.a → moved numbers c.b ≡ renumbered (kept wires gone) c.b → moved numbers c.c ≡ renumbered (kept wires gone) c.c → moved_in numbers c ≡ renumbered_in (kept wires gone) c
+      same_parts c p q r = ap₂ (λ x y. record { a = x; b = y; c = moved numbers c.c }) p q ∙ ap (λ x. record { a = renumbered (kept wires gone) c.a; b = renumbered (kept wires gone) c.b; c = x }) r
+
+  -- the rows are of the wires that are kept
+  over-moved : (x : Combination) → Over (Stays wires gone) x → Over (λ v. v < length (kept wires gone)) (moved numbers x)
+  over-moved [] h = tt
+  over-moved (t ∷ x) h = (omega (arith, numbered t.1 h.0.0 h.0.1, inside-kept wires gone t.1 h.0.0 h.0.1), over-moved x h.1)
+
+  pub within-moved : (rows : List (Option Constraint)) → RowsOver (Stays wires gone) rows → AreWithin wires rows → AreWithin (length (kept wires gone)) (moved_rows numbers rows)
+  within-moved [] h k = tt
+  within-moved (None ∷ rows) h k = (tt, within-moved rows h.1 k.1)
+  within-moved (Some c ∷ rows) h k = (
+    record {
+      a = over-moved c.a h.0.0;
+      b = over-moved c.b h.0.1;
+      c = over-moved c.c h.0.2;
+      short_a = short_moved c.a k.0.short_a;
+      short_b = short_moved c.b k.0.short_b;
+      short_c = short_moved c.c k.0.short_c;
+    },
+    within-moved rows h.1 k.1,
+  )
+    where
+      short_moved : (x : Combination) → length x ≤ 128 → length (moved numbers x) ≤ 128
+      short_moved x s = let same : length (moved numbers x) ≡ length x = length-map x (λ (t : ℕ × ℕ). (t.0, slice_index numbers t.1)) in omega arith
+
+-- the rows that are left
+pub left_rows : (f : Constraint → Constraint) (rows : List (Option Constraint)) → filter_map (λ row. row) (map (option_map f) rows) ≡ filter_map (option_map f) rows
+left_rows f [] = refl
+left_rows f (None ∷ rows) = left_rows f rows
+left_rows f (Some c ∷ rows) = ap (λ rest. f c ∷ rest) (left_rows f rows)
+
+-- there is a label for wire 0 and each public wire
+pub enough_labels : (wires publics : ℕ) (gone : List Bool) → publics ≤ wires → ((v : ℕ) → get_or gone v false ≡ true → publics ≤ v) → publics ≤ length (kept wires gone)
+enough_labels wires publics gone h later =
+    let front = front-kept wires publics gone h later in
+    omega (arith, ap length front, length-take publics (kept wires gone), length-range_with_len 0 publics)
+
+pub few_labels : (wires : ℕ) (gone : List Bool) → length (kept wires gone) ≤ wires
+few_labels wires gone = omega (arith, ap length (kept_is wires gone), kept_short wires gone)
+
+-- the shrunk system
+pub shrink_is : (counts : Counts) (publics : ℕ) (list : List Constraint) (rows : List (Option Constraint)) (gone : List Bool) (last : Pass) → publics ≡ 1 + counts.outputs + counts.inputs → rows ≡ start_rows list → gone ≡ replicate counts.wires false →
+    last ≡ fold (turn publics) (pass_of rows gone) (range_with_len 0 (length rows)) →
+    left_over (counted_system counts list) last.rows (kept counts.wires last.gone) ≡ shrink (counted_system counts list)
+unfolding shrink passed begun
+shrink_is counts publics list rows gone last is same none ran =
+    ap (λ (pass : Pass). left_over (counted_system counts list) pass.rows (kept counts.wires pass.gone))
+    (ran
+    ∙ ap (λ n. fold (turn publics) (pass_of rows gone) (range_with_len 0 n)) (ap length same ∙ length-map list (λ c. Some (normal_constraint c)))
+    ∙ ap₂ (λ m pass. fold (turn m) pass (range_with_len 0 (length list))) is (ap₂ pass_of same none))
+
+-- what is left, from its parts
+left_is : (system : System) (rows : List (Option Constraint)) (labels : List ℕ) →
+    record { system = record { wires = length labels; outputs = system.outputs; inputs = system.inputs; constraints = filter_map (option_map (renumbered_in labels)) rows }; labels = labels; wires = system.wires } ≡ left_over system rows labels
+unfolding left_over
+left_is system rows labels = refl
+
+-- what is left, by what the calls gave
+module _ (counts : Counts) (publics : ℕ) (rows : List (Option Constraint)) (gone : List Bool) (lists : List (List ℕ)) (ready : IsReady counts publics rows gone lists)
+    (left : List (Option Constraint)) (flags slice : List Bool) (ran : pass_of left flags ≡ fold (turn publics) (pass_of rows gone) (range_with_len 0 (length rows))) (lent : slice ≡ flags) where
+  sound : Sound rows counts.wires publics (pass_of left flags)
+  sound = subst (Sound rows counts.wires publics) (sym ran) (run-sound counts publics rows gone lists ready)
+
+  pub slice_each : length slice ≡ counts.wires
+  slice_each = ap length lent ∙ sound.each
+
+  left_within : AreWithin counts.wires left
+  left_within = subst (λ (pass : Pass). AreWithin counts.wires pass.rows) (sym ran) (run-within counts publics rows gone lists ready)
+
+  pub within_slice : (n : ℕ) → n ≡ length slice → AreWithin n left
+  within_slice n e = subst (λ k. AreWithin k left) (sym (e ∙ slice_each)) left_within
+
+  module _ (labels numbers given : List ℕ) (moved_on : List (Option Constraint)) (labelled : labels ≡ kept (length slice) slice) (lend : given ≡ numbers)
+      (numbered : (w : ℕ) → w < length slice → get_or slice w false ≡ false → slice_index numbers w ≡ place w (kept (length slice) slice)) (renumbered_on : moved_on ≡ moved_rows given left) where
+    labels_are : labels ≡ kept counts.wires flags
+    labels_are = labelled ∙ ap₂ kept slice_each lent
+
+    numbers_are : (w : ℕ) → w < counts.wires → get_or flags w false ≡ false → slice_index given w ≡ place w (kept counts.wires flags)
+    numbers_are w h stays =
+        ap (λ xs. slice_index xs w) lend ∙ numbered w (omega (arith, slice_each)) (ap (λ xs. get_or xs w false) lent ∙ stays) ∙ ap (place w) (ap₂ kept slice_each lent)
+
+    pub labels_enough : publics ≤ length labels
+    labels_enough = subst (λ xs. publics ≤ length xs) (sym labels_are) (enough_labels counts.wires publics flags ready.room sound.private)
+
+    pub labels_few : length labels < 2 ^ 32
+    labels_few = omega (arith, ap length labels_are, few_labels counts.wires flags, ready.fits)
+
+    pub rows_within : AreWithin (length labels) moved_on
+    rows_within =
+        subst (λ xs. AreWithin (length xs) moved_on) (sym labels_are)
+        (subst (AreWithin (length (kept counts.wires flags))) (sym renumbered_on) (within-moved counts.wires flags given numbers_are left sound.over left_within))
+
+    pub system_is : (list : List Constraint) → rows ≡ start_rows list →
+        record { system = record { wires = length labels; outputs = counts.outputs; inputs = counts.inputs; constraints = filter_map (λ row. row) moved_on }; labels = labels; wires = counts.wires }
+        ≡ shrink (counted_system counts list)
+    system_is list same =
+        ap₂ (λ xs rest. record { system = record { wires = length xs; outputs = counts.outputs; inputs = counts.inputs; constraints = filter_map (λ (row : Option Constraint). row) rest }; labels = xs; wires = counts.wires })
+        labels_are (renumbered_on ∙ rows-renumbered counts.wires flags given numbers_are left sound.over)
+        ∙ ap (λ cs. record { system = record { wires = length (kept counts.wires flags); outputs = counts.outputs; inputs = counts.inputs; constraints = cs }; labels = kept counts.wires flags; wires = counts.wires })
+        (left_rows (renumbered_in (kept counts.wires flags)) left)
+        ∙ left_is (counted_system counts list) left (kept counts.wires flags)
+        ∙ shrink_is counts publics list rows gone (pass_of left flags) ready.private same ready.none ran

@@ -1,0 +1,17 @@
+use Rattle.std.proofs.Common.{◌≡◌, ◌+◌, ◌++◌, length, None}
+use Rattle.tv_core.specs.Combinations.{scaled}
+use Rattle.tv_shrink.specs.Merging.{leaving_out}
+use Rattle.tv_shrink.specs.Normal.{normal, IsNormalFrom}
+use Rattle.tv_shrink.proofs.merge.merge.Given as goal
+
+abbrev pub invariant-loop-left : goal.invariant-loop-left
+invariant-loop-left l = record {
+  left : IsNormalFrom 0 l.left.terms.now;
+  right : IsNormalFrom 0 l.right.terms.now;
+  all : l.right.leaving ≡ None;
+  whole : l.out.items ++ normal (scaled l.left.factor (leaving_out l.left.leaving l.left.terms.now) ++ scaled l.right.factor l.right.terms.now)
+      ≡ normal (scaled l.initial.left.factor (leaving_out l.initial.left.leaving l.initial.left.terms.now) ++ scaled l.initial.right.factor l.initial.right.terms.now);
+}
+
+abbrev pub decreases-loop-left : goal.decreases-loop-left
+decreases-loop-left l = length l.left.terms.now + length l.right.terms.now

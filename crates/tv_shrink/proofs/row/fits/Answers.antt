@@ -1,0 +1,12 @@
+use Rattle.std.proofs.Common.{◌≡◌, arith, ap, ◌∙◌, leb, length}
+use Rattle.tv_shrink.proofs.Linear.{fits-lacking, fits-having}
+use Rattle.tv_shrink.proofs.row.fits.Goals as goal
+
+pub returns-then-not-branch : goal.returns-then-not-branch
+returns-then-not-branch c = fits-lacking c.args.wire c.args.r.now c.args.terms.now c.in_ok-replaced.field-0 c.in_ok-replaced.ensures.has c.if-not-branch.true
+
+pub returns-else-not-branch : goal.returns-else-not-branch
+returns-else-not-branch c =
+    let same : c.len.result ≡ length c.replaced.new.out.items = omega arith in
+    ap (λ n. leb n 128) same
+    ∙ fits-having c.args.wire c.args.r.now c.args.terms.now c.replaced.new.out.items c.in_ok-replaced.field-0 c.in_ok-replaced.ensures.has c.if-not-branch.false c.in_ok-replaced.ensures.out

@@ -1,0 +1,131 @@
+-- What shrinking the system of a file answers.
+use Rattle.std.specs.Prelude.{◌≡◌, ℕ, ◌+◌, ◌^◌, ◌≤◌, ◌<◌, nat_lt, Bool, false, map, replicate, List, [], ◌∷◌, length, Option, None, Some, Ok, Result, MatchResult, if◌then◌else◌}
+use Rattle.std.specs.List.{sum_by}
+use Rattle.tv_container.specs.Places.{wrong}
+use Rattle.tv_container.specs.declared.why.ReadRefusal.{ReadRefusal}
+use Rattle.tv_container.specs.declared.why.ReadRefusal.TheVariants as refusal
+use Rattle.tv_core.specs.Constraints.{Combination, Constraint, System}
+use Rattle.tv_files.specs.Outside.{Outside, OnlyReads, MissesOnly}
+use Rattle.tv_r1cs_read.specs.R1cs.{system_of}
+use Rattle.tv_r1cs_read.specs.Survey.{terms_of}
+use Rattle.tv_shrink.specs.declared.fault.ShrinkFault.{ShrinkFault}
+use Rattle.tv_shrink.specs.declared.fault.ShrinkFault.TheVariants.{Bad, Terms, Combination as Wide, Fault as Failed, Memory}
+use Rattle.tv_core.specs.declared.lines.Counts.{Counts}
+use Rattle.tv_shrink.specs.Normal.{normal, normal_constraint}
+use Rattle.tv_shrink.specs.Tidy.{AreWithin, IsKept}
+use Rattle.tv_shrink.specs.Shrinking.{Shrunken, shrink}
+use Rattle.tv_word.specs.Counts.{Rose}
+
+-- a refusal of reading, as one of shrinking
+abbrev pub read_fault : ReadRefusal → ShrinkFault
+read_fault (refusal.Bad at why) = Bad at why
+read_fault refusal.Fault = Failed
+read_fault refusal.Memory = Memory
+
+-- how many terms a combination has that, once made normal, has more than 128
+abbrev pub wide : Combination → Option ℕ
+wide x = if nat_lt 128 (length (normal x)) then Some (length (normal x)) else None
+
+-- the first of two numbers that there are
+abbrev pub first_number : Option ℕ → Option ℕ → Option ℕ
+first_number None second = second
+first_number (Some n) second = Some n
+
+-- how many terms the first such combination of a constraint has, and of a list of constraints
+abbrev pub wide_in : Constraint → Option ℕ
+wide_in c = first_number (wide c.a) (first_number (wide c.b) (wide c.c))
+
+unfoldable pub first_wide : List Constraint → Option ℕ
+first_wide [] = None
+first_wide (c ∷ list) = first_number (wide_in c) (first_wide list)
+
+-- why reading a constraint was refused: for want of memory, or for this many terms
+abbrev pub IsTooWide : ShrinkFault → Option ℕ → Type 0
+IsTooWide (Bad at why) found = ⊥
+IsTooWide (Terms has) found = ⊥
+IsTooWide (Wide has) found = found ≡ Some has
+IsTooWide Failed found = ⊥
+IsTooWide Memory found = Unit {0}
+
+-- the most terms of a system
+abbrev pub most : ℕ
+most = 4194304
+
+-- how many terms a system has
+abbrev pub all_terms : System → ℕ
+all_terms system = sum_by terms_of system.constraints
+
+-- a file's system has at most so many terms, no combination of it is too wide, and this is the shrunk system
+pub record Shrinks (shrunken : Shrunken) (file : List ℕ) : Type 0 where
+  pub system : System
+  pub is : system_of file ≡ Ok system
+  pub few : all_terms system ≤ most
+  pub narrow : first_wide system.constraints ≡ None
+  pub same : shrunken ≡ shrink system
+
+-- a file's system has too many terms
+pub record IsLong (has : ℕ) (file : List ℕ) : Type 0 where
+  pub system : System
+  pub is : system_of file ≡ Ok system
+  pub terms : has ≡ all_terms system
+  pub many : most < has
+
+-- it has not, but a combination of it is too wide
+pub record IsWide (has : ℕ) (file : List ℕ) : Type 0 where
+  pub system : System
+  pub is : system_of file ≡ Ok system
+  pub few : all_terms system ≤ most
+  pub first : first_wide system.constraints ≡ Some has
+
+-- what a refusal tells of a file
+abbrev pub Tells : ShrinkFault → List ℕ → Type 0
+Tells (Bad at why) file = system_of file ≡ wrong at why
+Tells (Terms has) file = IsLong has file
+Tells (Wide has) file = IsWide has file
+Tells Failed file = Unit {0}
+Tells Memory file = Unit {0}
+
+-- shrinking stopped with this refusal, from the outside before it to the outside after it: files and words said
+-- stay and no count falls, a fault is a fault of a read, and `absent` changes only where this name isn't there
+pub record Halted (old new : Outside) (name : List ℕ) (fault : ShrinkFault) : Type 0 where
+  pub only : OnlyReads old new
+  pub there : MissesOnly old new name
+  pub cause : fault ≡ Failed → Rose old.read_faults new.read_faults
+
+-- what shrinking does to the outside: nothing, or it stopped
+abbrev pub HaltsBy : {A : Type 0} → Outside → Outside → List ℕ → Result A ShrinkFault → Type 0
+HaltsBy old new name result = MatchResult result (λ _. new ≡ old) (λ fault. Halted old new name fault)
+
+-- a list's constraints made normal, none dropped
+abbrev pub start_rows : List Constraint → List (Option Constraint)
+start_rows list = map (λ c. Some (normal_constraint c)) list
+
+-- the system with these counts and constraints
+abbrev pub counted_system : Counts → List Constraint → System
+counted_system counts list = record { wires = counts.wires; outputs = counts.outputs; inputs = counts.inputs; constraints = list }
+
+-- a pass is ready: no wire is gone, the constraints are of wires that there are, the private ones are behind wire 0
+-- and the public ones, and it is told where each may stand
+pub record IsReady (counts : Counts) (publics : ℕ) (rows : List (Option Constraint)) (gone : List Bool) (lists : List (List ℕ)) : Type 0 where
+  pub private : publics ≡ 1 + counts.outputs + counts.inputs
+  pub room : publics ≤ counts.wires
+  pub none : gone ≡ replicate counts.wires false
+  pub within : AreWithin counts.wires rows
+  pub kept : IsKept publics rows gone lists
+  pub few : length rows < 2 ^ 32
+  pub fits : counts.wires < 2 ^ 32
+
+-- the rows are the constraints of the file's system, none of which is too wide
+pub record IsRead (counts : Counts) (rows : List (Option Constraint)) (file : List ℕ) : Type 0 where
+  pub list : List Constraint
+  pub is : system_of file ≡ Ok (counted_system counts list)
+  pub same : rows ≡ start_rows list
+  pub narrow : first_wide list ≡ None
+
+-- what a refusal to read tells of a file: its first fault, or, where it holds a system, that a combination is too wide
+abbrev pub TellsRead : ShrinkFault → List ℕ → Type 0
+TellsRead (Bad at why) file = system_of file ≡ wrong at why
+TellsRead (Terms has) file = ⊥
+TellsRead (Wide has) file = (system : System) → system_of file ≡ Ok system → first_wide system.constraints ≡ Some has
+TellsRead Failed file = Unit {0}
+TellsRead Memory file = Unit {0}

@@ -1,0 +1,11 @@
+pub mod Answers
+pub mod Emitting
+pub mod Laws
+pub mod Merging
+pub mod Moving
+pub mod Normal
+pub mod Passing
+pub mod Replacing
+pub mod Shrinking
+pub mod Tidy
+pub mod Written

@@ -1,0 +1,59 @@
+-- What the rows of a pass keep to.
+use Rattle.std.specs.Prelude.{◌≡◌, ℕ, ◌<◌, ◌≤◌, ◌==◌, Bool, false, true, ◌||◌, List, [], length, Option, None, Some, slice_index_or}
+use Rattle.std.specs.List.{AllByRecursion, list_any}
+use Rattle.tv_core.specs.Constraints.{Constraint}
+use Rattle.tv_shrink.specs.Normal.{IsNormalFrom}
+use Rattle.tv_shrink.specs.Passing.{Pass}
+use Rattle.tv_shrink.specs.Replacing.{has_wire}
+
+-- a constraint of normal combinations
+pub record IsNormalRow (row : Constraint) : Type 0 where
+  pub a : IsNormalFrom 0 row.a
+  pub b : IsNormalFrom 0 row.b
+  pub c : IsNormalFrom 0 row.c
+
+-- each combination of a constraint has at most 128 terms, whose wires are below a number
+pub record IsWithin (wires : ℕ) (row : Constraint) : Type 0 where
+  pub a : AllByRecursion (λ t. t.1 < wires) row.a
+  pub b : AllByRecursion (λ t. t.1 < wires) row.b
+  pub c : AllByRecursion (λ t. t.1 < wires) row.c
+  pub short_a : length row.a ≤ 128
+  pub short_b : length row.b ≤ 128
+  pub short_c : length row.c ≤ 128
+
+-- each wire of a constraint that was not dropped is
+abbrev pub RowIsWithin : ℕ → Option Constraint → Type 0
+RowIsWithin wires None = Unit {0}
+RowIsWithin wires (Some row) = IsWithin wires row
+
+abbrev pub AreWithin : ℕ → List (Option Constraint) → Type 0
+AreWithin wires rows = AllByRecursion (RowIsWithin wires) rows
+
+-- a constraint that was dropped, or is one of normal combinations
+abbrev pub RowIsNormal : Option Constraint → Type 0
+RowIsNormal None = Unit {0}
+RowIsNormal (Some row) = IsNormalRow row
+
+-- each constraint that was not dropped is one of normal combinations
+abbrev pub AreNormal : List (Option Constraint) → Type 0
+AreNormal rows = AllByRecursion RowIsNormal rows
+
+-- whether a wire stands in the constraint at a place
+abbrev pub row_has : ℕ → Option Constraint → Bool
+row_has w None = false
+row_has w (Some c) = has_wire w c.a || (has_wire w c.b || has_wire w c.c)
+
+-- the state of a pass, from its parts
+abbrev pub pass_of : List (Option Constraint) → List Bool → Pass
+pass_of rows gone = record { rows = rows; gone = gone }
+
+-- the lists of places, one for each wire, name each constraint that a private wire stands in
+abbrev pub Covers : ℕ → List (Option Constraint) → List (List ℕ) → Type 0
+Covers publics rows lists =
+    (i w : ℕ) → publics ≤ w → row_has w (slice_index_or rows i None) ≡ true → list_any (λ p. p == i) (slice_index_or lists w []) ≡ true
+
+-- the constraints are normal, and for each wire it is told whether it is gone and where it may stand
+pub record IsKept (publics : ℕ) (rows : List (Option Constraint)) (gone : List Bool) (lists : List (List ℕ)) : Type 0 where
+  pub normal : AreNormal rows
+  pub covers : Covers publics rows lists
+  pub each : length gone ≡ length lists

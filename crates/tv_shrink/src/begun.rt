@@ -1,0 +1,41 @@
+//! The rows of a system's file.
+
+ghost use Rattle.std.specs.Prelude.{◌≡◌, ◌+◌, ◌≤◌, ◌<◌, ◌^◌, ℕ, Err, false, length, replicate, IfOk, MatchResult};
+ghost use Rattle.tv_container.specs.Reading.{Known, IsMissing};
+ghost use Rattle.tv_shrink.specs.Answers.{HaltsBy, IsReady, IsRead, TellsRead};
+ghost use Rattle.tv_shrink.specs.declared.fault.ShrinkFault.{ShrinkFault};
+
+use crate::fault::ShrinkFault;
+use crate::pass::Pass;
+use std::alloc::Global;
+use tv_core::Counts;
+use tv_files::Files;
+use tv_r1cs_read::{Row, SystemReader};
+
+/// A pass that is to begin, and what the system counts.
+#[derive(Drop)]
+pub(crate) struct Begun {
+    pub(crate) pass: Pass,
+    pub(crate) counts: Counts,
+}
+
+/// Reads a system's file into a pass, its constraints made normal.
+pub(crate) fn read<D: Files>(alloc: Global, files: &mut D, name: &str) -> Result<Begun, ShrinkFault>
+    ensures ready { IfOk result (λ begun. IsReady begun.counts begun.pass.publics begun.pass.rows.items begun.pass.gone.items begun.pass.places) }
+    ensures gives { Known (D.seen files.old) name.now (λ file. MatchResult result
+        (λ begun. IsRead begun.counts begun.pass.rows.items file) (λ fault. TellsRead fault file)) }
+    ensures looks { HaltsBy (D.seen files.old) (D.seen files.new) name.now result }
+    ensures missing { IsMissing (D.seen files.old) name.now → result ≡ Err ShrinkFault.Fault }
+{
+    let mut reader = match SystemReader::begin(alloc, files, name) {
+        Ok(reader) => reader,
+        Err(unread) => return Err(ShrinkFault::from(unread.why)),
+    };
+    let counts = reader.counts();
+    let mut pass = Pass::new(alloc, counts.wires, 1 + counts.outputs + counts.inputs)?;
+    let mut row = Row::new(alloc);
+    while reader.next_into(&mut row)? {
+        pass.add(&row)?;
+    }
+    Ok(Begun { pass, counts })
+}

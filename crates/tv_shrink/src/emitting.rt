@@ -1,0 +1,50 @@
+//! A shrunk system's constraints, put into a sink.
+
+ghost use Rattle.std.specs.Prelude.{◌≡◌, ◌+◌, ◌≤◌, ◌<◌, ◌^◌, false, length, IfOk};
+ghost use Rattle.tv_core.specs.Sinks.{PutsAll, PutsIn, Grows, Room};
+ghost use Rattle.tv_shrink.specs.Emitting.{row_circuit, row_count, rows_circuit, wires_circuit};
+ghost use Rattle.tv_shrink.specs.Tidy.{RowIsWithin, AreWithin};
+
+use crate::row::Row;
+use tv_core::{Lc, Put, Sink};
+
+/// Makes so many wires.
+pub(crate) fn make_wires<S: Sink>(s: &mut S, n: u32)
+    requires room { Room S.meaning s.old n 0 }
+    ensures puts { PutsAll S.meaning s.old s.new (wires_circuit n) tt }
+    ensures grows { Grows S.meaning s.old s.new n 0 }
+{
+    for _ in 0..n {
+        s.fresh();
+    }
+}
+
+// Puts the constraint at a place, unless it was dropped.
+fn put_row<S: Sink>(s: &mut S, row: &Option<Row>) -> Put<()>
+    requires room { Room S.meaning s.old 0 1 }
+    requires within { RowIsWithin (S.meaning.wires s.old) row.now }
+    ensures puts { PutsIn S.meaning s.old s.new (row_circuit row.now) result }
+    ensures grows { IfOk result (λ _. Grows S.meaning s.old s.new 0 (row_count row.now)) }
+{
+    match row {
+        Some(row) => s.put(
+            &Lc::from_terms(&row.a),
+            &Lc::from_terms(&row.b),
+            &Lc::from_terms(&row.c),
+        ),
+        None => Ok(()),
+    }
+}
+
+/// Puts the constraints that were not dropped.
+pub(crate) fn put_rows<S: Sink>(s: &mut S, rows: &[Option<Row>]) -> Put<()>
+    requires room { Room S.meaning s.old 0 (length rows.now) }
+    requires within { AreWithin (S.meaning.wires s.old) rows.now }
+    ensures puts { PutsIn S.meaning s.old s.new (rows_circuit rows.now (length rows.now)) result }
+    ensures whole { IfOk result (λ _. S.meaning.broken s.new ≡ false) }
+{
+    for row in rows {
+        put_row(s, row)?;
+    }
+    Ok(())
+}

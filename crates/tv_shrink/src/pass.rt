@@ -1,0 +1,258 @@
+//! One pass over the constraints of a system, in which private wires are replaced.
+
+ghost use Rattle.std.specs.Prelude.{◌≡◌, ◌≤◌, ◌<◌, ◌==◌, ℕ, [], true, false, length, map, slice_index_or, slice_set, None, Some, OnOk, IfOk, if◌then◌else◌};
+ghost use Rattle.std.specs.List.{fold, list_all, list_any, range_with_len};
+ghost use Rattle.std.specs.Option.{option_map};
+ghost use Rattle.tv_shrink.specs.Normal.{IsNormalFrom};
+ghost use Rattle.tv_shrink.specs.Passing.{all_replaced, attempted, dropped, linear_row, row_fits, turn};
+ghost use Rattle.tv_shrink.specs.Replacing.{coefficient, has_wire, replaced_in, solved};
+ghost use Rattle.tv_shrink.specs.Tidy.{pass_of, row_has, AreNormal, IsKept, RowIsNormal};
+
+use crate::places::Places;
+use crate::row::{Row, solve};
+use std::alloc::{AllocError, Global};
+use tv_core::{F, Wire};
+
+// Puts what the constraint at a place says is 0 into `out`, and tells whether it is there and linear.
+fn linear_form(row: &Option<Row>, out: &mut Vec<(F, Wire)>) -> Result<bool, AllocError>
+    requires { RowIsNormal row.now }
+    ensures { IfOk result (λ linear. linear_row row.now ≡ (if linear then Some out.new.items else None)) }
+{
+    match row {
+        Some(row) => row.linear_form(out),
+        None => Ok(false),
+    }
+}
+
+// Whether the constraint at a place keeps to its most terms with `r` in place of a wire.
+fn row_fits(
+    row: &Option<Row>,
+    out: &mut Vec<(F, Wire)>,
+    wire: Wire,
+    r: &[(F, Wire)],
+) -> Result<bool, AllocError>
+    requires normal { RowIsNormal row.now }
+    requires by { IsNormalFrom 0 r.now }
+    ensures { IfOk result (λ answer. answer ≡ row_fits wire r.now row.now) }
+{
+    match row {
+        Some(row) => row.fits(out, wire, r),
+        None => Ok(true),
+    }
+}
+
+// Whether all constraints, of which those with the wire are at these places, keep to their most terms.
+fn all_fit(
+    rows: &[Option<Row>],
+    places: &[u32],
+    out: &mut Vec<(F, Wire)>,
+    wire: Wire,
+    r: &[(F, Wire)],
+) -> Result<bool, AllocError>
+    requires normal { AreNormal rows.now }
+    requires by { IsNormalFrom 0 r.now }
+    requires covers { (i : ℕ) → row_has wire (slice_index_or rows.now i None) ≡ true → list_any (λ p. p == i) places.now ≡ true }
+    ensures { IfOk result (λ answer. answer ≡ list_all (row_fits wire r.now) rows.now) }
+{
+    for place in places {
+        let at = *place as usize;
+        if at < rows.len() && !row_fits(&rows[at], out, wire, r)? {
+            return Ok(false);
+        }
+    }
+    Ok(true)
+}
+
+// Puts `r` in place of a wire in the constraint at a place.
+fn replace_row(
+    alloc: Global,
+    row: &mut Option<Row>,
+    out: &mut Vec<(F, Wire)>,
+    wire: Wire,
+    r: &[(F, Wire)],
+) -> Result<(), AllocError>
+    requires normal { RowIsNormal row.old }
+    requires by { IsNormalFrom 0 r.now }
+    ensures { OnOk result (row.new ≡ option_map (replaced_in wire r.now) row.old) }
+{
+    match row {
+        Some(row) => row.replace(alloc, out, wire, r),
+        None => Ok(()),
+    }
+}
+
+// Whether a wire stands in the constraint at a place.
+fn stands_in(row: &Option<Row>, wire: Wire) -> bool
+    requires { RowIsNormal row.now }
+    ensures { result ≡ row_has wire row.now }
+{
+    match row {
+        Some(row) => row.has(wire),
+        None => false,
+    }
+}
+
+// Adds the place of a constraint to a list, if a wire stands in it.
+fn note(found: &mut Vec<u32>, place: u32, row: &Option<Row>, wire: Wire) -> Result<(), AllocError>
+    requires { RowIsNormal row.now }
+    ensures kept { OnOk result ((i : ℕ) → list_any (λ p. p == i) found.old.items ≡ true → list_any (λ p. p == i) found.new.items ≡ true) }
+    ensures here { OnOk result (row_has wire row.now ≡ true → list_any (λ p. p == place) found.new.items ≡ true) }
+{
+    if stands_in(row, wire) {
+        found.push(place)?;
+    }
+    Ok(())
+}
+
+// Puts `r` in place of a wire in all constraints, of which those with the wire are at these places, and
+// answers the places of those that had it.
+fn replace_all(
+    alloc: Global,
+    rows: &mut Vec<Option<Row>>,
+    places: &[u32],
+    out: &mut Vec<(F, Wire)>,
+    wire: Wire,
+    r: &[(F, Wire)],
+) -> Result<Vec<u32>, AllocError>
+    requires normal { AreNormal rows.old.items }
+    requires by { IsNormalFrom 0 r.now }
+    requires lacks { has_wire wire r.now ≡ false }
+    requires covers { (i : ℕ) → row_has wire (slice_index_or rows.old.items i None) ≡ true → list_any (λ p. p == i) places.now ≡ true }
+    ensures rows { OnOk result (rows.new.items ≡ all_replaced wire r.now rows.old.items) }
+    ensures found { IfOk result (λ found. (i : ℕ) → row_has wire (slice_index_or rows.old.items i None) ≡ true → list_any (λ p. p == i) found.items ≡ true) }
+{
+    let mut found = Vec::new(alloc);
+    for place in places {
+        let at = *place as usize;
+        if at < rows.len() {
+            note(&mut found, *place, &rows[at], wire)?;
+            replace_row(alloc, &mut rows[at], out, wire, r)?;
+        }
+    }
+    Ok(found)
+}
+
+/// Adds rows to those of each private wire of a combination.
+pub(crate) fn spread(
+    places: &mut Places,
+    rows: &[u32],
+    r: &[(F, Wire)],
+    publics: u32,
+) -> Result<(), AllocError>
+    requires inside { (w : ℕ) → publics ≤ w → has_wire w r.now ≡ true → w < length places.old }
+    ensures each { OnOk result (length places.new ≡ length places.old) }
+    ensures more { OnOk result ((w i : ℕ) → list_any (λ p. p == i) (slice_index_or places.old w []) ≡ true → list_any (λ p. p == i) (slice_index_or places.new w []) ≡ true) }
+    ensures added { OnOk result ((w i : ℕ) → publics ≤ w → has_wire w r.now ≡ true → list_any (λ p. p == i) rows.now ≡ true → list_any (λ p. p == i) (slice_index_or places.new w []) ≡ true) }
+{
+    for (_, wire) in r {
+        if wire.0 >= publics {
+            places.extend(wire.0, rows)?;
+        }
+    }
+    Ok(())
+}
+
+/// The constraints of a system and its wires in a pass.
+#[derive(Drop)]
+pub(crate) struct Pass {
+    pub(crate) alloc: Global,
+    pub(crate) publics: u32,
+    pub(crate) rows: Vec<Option<Row>>,
+    pub(crate) gone: Vec<bool>,
+    pub(crate) places: Places,
+    pub(crate) form: Vec<(F, Wire)>,
+    pub(crate) solved: Vec<(F, Wire)>,
+    pub(crate) scratch: Vec<(F, Wire)>,
+}
+
+impl Pass {
+    // Puts what the wire is in its place in all constraints.
+    fn substitute(&mut self, wire: Wire) -> Result<(), AllocError>
+        requires kept { IsKept self.old.publics self.old.rows.items self.old.gone.items self.old.places }
+        requires private { self.old.publics ≤ wire }
+        requires by { IsNormalFrom 0 self.old.solved.items }
+        requires lacks { has_wire wire self.old.solved.items ≡ false }
+        requires here { wire < length self.old.places }
+        requires inside { (w : ℕ) → self.old.publics ≤ w → has_wire w self.old.solved.items ≡ true → w < length self.old.places }
+        ensures rows { OnOk result (self.new.rows.items ≡ all_replaced wire self.old.solved.items self.old.rows.items) }
+        ensures gone { OnOk result (self.new.gone.items ≡ slice_set self.old.gone.items wire true) }
+        ensures kept { OnOk result (IsKept self.new.publics self.new.rows.items self.new.gone.items self.new.places) }
+        ensures publics { self.new.publics ≡ self.old.publics }
+    {
+        let places = self.places.take(self.alloc, wire.0);
+        let found = replace_all(
+            self.alloc,
+            &mut self.rows,
+            &places,
+            &mut self.scratch,
+            wire,
+            &self.solved,
+        )?;
+        spread(&mut self.places, &found, &self.solved, self.publics)?;
+        self.gone[wire.0 as usize] = true;
+        Ok(())
+    }
+
+    // Drops the constraint at a place and puts what the wire is in its place, if all keep to their most terms.
+    fn eliminate(&mut self, at: usize, wire: Wire) -> Result<(), AllocError>
+        requires kept { IsKept self.old.publics self.old.rows.items self.old.gone.items self.old.places }
+        requires within { at < length self.old.rows.items }
+        requires private { self.old.publics ≤ wire }
+        requires by { IsNormalFrom 0 self.old.solved.items }
+        requires lacks { has_wire wire self.old.solved.items ≡ false }
+        requires from { (w : ℕ) → has_wire w self.old.solved.items ≡ true → row_has w (slice_index_or self.old.rows.items at None) ≡ true }
+        requires there { row_has wire (slice_index_or self.old.rows.items at None) ≡ true }
+        ensures pass { OnOk result (pass_of self.new.rows.items self.new.gone.items
+            ≡ attempted wire self.old.solved.items (dropped at (pass_of self.old.rows.items self.old.gone.items)) (pass_of self.old.rows.items self.old.gone.items)) }
+        ensures kept { OnOk result (IsKept self.new.publics self.new.rows.items self.new.gone.items self.new.places) }
+        ensures publics { self.new.publics ≡ self.old.publics }
+        ensures len { OnOk result (length self.new.rows.items ≡ length self.old.rows.items) }
+    {
+        let row = self.rows[at].take();
+        let places = self.places.of(wire.0);
+        if !all_fit(&self.rows, places, &mut self.scratch, wire, &self.solved)? {
+            self.rows[at] = row;
+            return Ok(());
+        }
+        self.substitute(wire)?;
+        Ok(())
+    }
+
+    /// The turn of the constraint at a place.
+    pub(crate) fn turn(&mut self, at: usize) -> Result<(), AllocError>
+        requires kept { IsKept self.old.publics self.old.rows.items self.old.gone.items self.old.places }
+        requires within { at < length self.old.rows.items }
+        ensures pass { OnOk result (pass_of self.new.rows.items self.new.gone.items ≡ turn self.old.publics (pass_of self.old.rows.items self.old.gone.items) at) }
+        ensures kept { OnOk result (IsKept self.new.publics self.new.rows.items self.new.gone.items self.new.places) }
+        ensures publics { self.new.publics ≡ self.old.publics }
+        ensures len { OnOk result (length self.new.rows.items ≡ length self.old.rows.items) }
+    {
+        if !linear_form(&self.rows[at], &mut self.form)? {
+            return Ok(());
+        }
+        if self.form.is_empty() {
+            self.rows[at] = None;
+            return Ok(());
+        }
+        let (own, wire) = self.form[self.form.len() - 1];
+        if wire.0 < self.publics {
+            return Ok(());
+        }
+        solve(&mut self.solved, &self.form, own, wire)?;
+        self.eliminate(at, wire)?;
+        Ok(())
+    }
+
+    /// The whole pass: each constraint has its turn.
+    pub(crate) fn run(&mut self) -> Result<(), AllocError>
+        requires kept { IsKept self.old.publics self.old.rows.items self.old.gone.items self.old.places }
+        ensures pass { OnOk result (pass_of self.new.rows.items self.new.gone.items
+            ≡ fold (turn self.old.publics) (pass_of self.old.rows.items self.old.gone.items) (range_with_len 0 (length self.old.rows.items))) }
+        ensures len { OnOk result (length self.new.rows.items ≡ length self.old.rows.items) }
+    {
+        for at in 0..self.rows.len() {
+            self.turn(at)?;
+        }
+        Ok(())
+    }
+}

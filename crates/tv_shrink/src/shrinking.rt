@@ -1,0 +1,36 @@
+ghost use Rattle.std.specs.Prelude.{◌≡◌, ℕ, Err, MatchResult};
+ghost use Rattle.tv_container.specs.Reading.{Known, IsMissing};
+ghost use Rattle.tv_shrink.specs.Answers.{HaltsBy, Shrinks, Tells};
+ghost use Rattle.tv_shrink.specs.declared.fault.ShrinkFault.{ShrinkFault};
+
+use crate::begun::read;
+use crate::fault::ShrinkFault;
+use crate::shrunk::{Shrunk, settle};
+use std::alloc::Global;
+use tv_files::Files;
+use tv_r1cs_read::survey;
+
+/// The most terms of a system that is shrunk.
+pub const MOST_TERMS: u64 = 4_194_304;
+
+/// Shrinks the system in a file: one pass over its constraints, in which each linear one that has a
+/// private wire is solved for its greatest and dropped, if all others keep to 128 terms.
+///
+/// `Bad` tells the file's first fault; `Terms` comes for a system of more than 4,194,304 terms, and
+/// `Combination` for the first combination that has more than 128 once it is normal. `Fault` comes only
+/// where a read failed, and a missing name is such a fault. Reads the file twice. A replacement costs as
+/// much as the constraints that it changes have terms.
+pub fn shrink<D: Files>(alloc: Global, files: &mut D, name: &str) -> Result<Shrunk, ShrinkFault>
+    ensures gives { Known (D.seen files.old) name.now (λ file. MatchResult result
+        (λ shrunk. Shrinks shrunk file) (λ fault. Tells fault file)) }
+    ensures looks { HaltsBy (D.seen files.old) (D.seen files.new) name.now result }
+    ensures missing { IsMissing (D.seen files.old) name.now → result ≡ Err ShrinkFault.Fault }
+{
+    let counts = survey(alloc, files, name)?;
+    if counts.terms > MOST_TERMS {
+        return Err(ShrinkFault::Terms { has: counts.terms });
+    }
+    let begun = read(alloc, files, name)?;
+    let shrunk = settle(alloc, begun)?;
+    Ok(shrunk)
+}
