@@ -1,6 +1,7 @@
 #!/bin/sh
-# For each program here: its image, disassembled and assembled again, is the same image; and its run on its tapes
-# says what README.md beside this says, `answers 0 at step S`. The last line counts; the status is 1 where one failed.
+# For each program here: its image, disassembled and assembled again, is the same image; its run on its tapes says what
+# README.md beside this says, `answers V at step S`; and for that answer and S steps its system is built, filled,
+# checked and extracted, over Benes' network and over Waksman's. The last line counts; the status is 1 where one failed.
 set -u
 
 examples=$(dirname -- "$(realpath -- "$0")")
@@ -13,18 +14,48 @@ tape() {
     if [ -f "$1" ]; then echo "$1"; else echo "$folder/empty"; fi
 }
 
+# The words of a tape, one a line.
+words() {
+    tr -s ' \t\r\n' '\n' <"$1" | sed '/^$/d'
+}
+
+# Assembles a program, and the text of its image again.
+assembles() {
+    "$tinyr1cs" asm "$1" "$folder/image" &&
+        "$tinyr1cs" disasm "$folder/image" "$folder/text" $2 &&
+        "$tinyr1cs" asm "$folder/text" "$folder/again" &&
+        cmp "$folder/image" "$folder/again"
+}
+
+# Takes a program with its tapes, the number of its tape's words, its answer and the answering step, and the network's
+# word, through all four commands.
+reduces() {
+    "$tinyr1cs" build "$1" "$4" "$6" "$folder/system" $7 &&
+        "$tinyr1cs" witness "$1" "$2" "$3" "$6" "$folder/values" $7 &&
+        { echo "$5" && words "$2"; } >"$folder/publics" &&
+        [ "$("$tinyr1cs" check "$folder/system" "$folder/values" "$folder/publics")" = yes ] &&
+        [ "$("$tinyr1cs" extract "$1" "$4" "$6" "$folder/values" "$folder/tape" "$folder/aux" $7)" = "answer $5 at step $6" ] &&
+        words "$2" | cmp - "$folder/tape" &&
+        words "$3" | head -n "$(wc -l <"$folder/aux")" | cmp - "$folder/aux"
+}
+
 : >"$folder/empty"
 passed=0
 failed=0
 for program in "$examples"/*.asm; do
     name=$(basename -- "$program" .asm)
-    if "$tinyr1cs" asm "$program" "$folder/$name.image" &&
-        "$tinyr1cs" disasm "$folder/$name.image" "$folder/$name.text" &&
-        "$tinyr1cs" asm "$folder/$name.text" "$folder/$name.again" &&
-        cmp "$folder/$name.image" "$folder/$name.again" &&
-        wanted=$(sed -n "s/^| .$name. .* answers 0 at step \([0-9]*\) |\$/answer 0 at step \1/p" "$examples/README.md") &&
-        said=$("$tinyr1cs" run "$program" "$(tape "$examples/$name.tape")" "$(tape "$examples/$name.aux")" 1000) &&
-        [ -n "$wanted" ] && [ "$said" = "$wanted" ]; then
+    primary=$(tape "$examples/$name.tape")
+    auxiliary=$(tape "$examples/$name.aux")
+    wanted=$(sed -n "s/^| .$name. .* answers \([0-9]*\) at step \([0-9]*\) |\$/\1 \2/p" "$examples/README.md")
+    answer=${wanted% *}
+    step=${wanted#* }
+    count=$(words "$primary" | wc -l)
+    width=
+    if head -n 1 "$program" | grep -q 'W=16'; then width=16; fi
+    if [ -n "$wanted" ] && assembles "$program" "$width" &&
+        [ "$("$tinyr1cs" run "$program" "$primary" "$auxiliary" 1000)" = "answer $answer at step $step" ] &&
+        reduces "$program" "$primary" "$auxiliary" "$count" "$answer" "$step" "" &&
+        reduces "$program" "$primary" "$auxiliary" "$count" "$answer" "$step" waksman; then
         passed=$((passed + 1))
     else
         echo "$name: failed" >&2
