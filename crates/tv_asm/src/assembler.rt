@@ -1,4 +1,5 @@
-ghost use Rattle.std.specs.Prelude.{◌≡◌, ◌<◌, ◌≤◌, ◌^◌, ◌⊎◌, ◌==◌, length, false, OnOk, IfOk, IfErr, Ok, Err};
+ghost use Rattle.std.specs.Prelude.{◌≡◌, ◌<◌, ◌≤◌, ◌^◌, ◌⊎◌, ◌==◌, length, false, OnOk, IfOk};
+ghost use Rattle.std.specs.Prelude.{IfErr, Ok, Err};
 ghost use Rattle.std.specs.List.{All};
 ghost use Rattle.std.specs.Option.{option_map, option_map_or};
 ghost use Rattle.tv_asm.specs.Assembly.{assembled, line_words, part_words, with_line};
@@ -55,9 +56,11 @@ fn append<const W: u32>(
     requires room { length words.old ≤ most }
     ensures room { OnOk result (length words.new ≤ most) }
     ensures ok { OnOk result
-        (with_line W most number (is_earlier labels.now number) (address_in labels.now) words.old line.now ≡ Ok words.new) }
+        (with_line W most number (is_earlier labels.now number) (address_in labels.now) words.old
+        line.now ≡ Ok words.new) }
     ensures err { IfErr result (λ fault. (fault ≡ AsmFault.Memory)
-        ⊎ (with_line W most number (is_earlier labels.now number) (address_in labels.now) words.old line.now ≡ Err fault)) }
+        ⊎ (with_line W most number (is_earlier labels.now number) (address_in labels.now) words.old
+        line.now ≡ Err fault)) }
 {
     match line_words::<W>(line, number, labels) {
         Ok(None) => Ok(()),
@@ -82,7 +85,8 @@ fn line_words<const W: u32>(
 ) -> Result<Option<[u32; 2]>, AsmWhy>
     requires { IsWidth W }
     ensures { words_said result
-        ≡ line_words W (number == 1) (is_earlier labels.now number) (address_in labels.now) line.now }
+        ≡ line_words W (number == 1) (is_earlier labels.now number) (address_in labels.now)
+        line.now }
 {
     let code = code_of(line);
     if !is_text(code) {

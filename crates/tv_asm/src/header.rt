@@ -1,7 +1,8 @@
 ghost use Rattle.std.specs.Prelude.{◌≡◌};
 ghost use Rattle.std.specs.List.{list_all, list_any, slice_split};
 ghost use Rattle.std.specs.Str.{bytes_eq};
-ghost use Rattle.tv_asm.specs.Header.{is_good_field, is_good_header, is_header_of_16, width_digits, width_field, width_of};
+ghost use Rattle.tv_asm.specs.Header.{is_good_field, is_good_header, is_header_of_16, width_digits};
+ghost use Rattle.tv_asm.specs.Header.{width_field, width_of};
 ghost use Rattle.tv_asm.specs.Text.{is_blank};
 ghost use Rattle.tv_word.specs.Widths.{IsWidth};
 

@@ -1,6 +1,7 @@
 ghost use Rattle.std.specs.Prelude.{◌≡◌, ◌<◌, ◌≤◌, length, drop, IfOk};
 ghost use Rattle.std.specs.List.{position_or_len};
-ghost use Rattle.tv_asm.specs.Instruction.{name_of, operands_in, operand_at, operand_count, fields, counted, raw_words, table_words, words_of};
+ghost use Rattle.tv_asm.specs.Instruction.{name_of, operands_in, operand_at, operand_count, fields};
+ghost use Rattle.tv_asm.specs.Instruction.{counted, raw_words, table_words, words_of};
 ghost use Rattle.tv_asm.specs.Text.{is_blank};
 ghost use Rattle.tv_asm.specs.Views.{address_in};
 ghost use Rattle.tv_isa.specs.Instruction.{IsInstruction};
@@ -111,7 +112,8 @@ fn fields<const W: u32>(
 ) -> Result<Instr, AsmWhy>
     requires width { IsWidth W }
     requires used { operation.op < 32 }
-    ensures value { result ≡ fields W (address_in labels.now) operation.op operation.shape (operand_at (operands_in text.now)) }
+    ensures value { result ≡ fields W (address_in labels.now) operation.op operation.shape
+        (operand_at (operands_in text.now)) }
     ensures range { IfOk result IsInstruction }
 {
     let op = operation.op;

@@ -53,7 +53,8 @@ impl<'a> Labels<'a> {
     /// Notes the label that a line defines.
     fn note(&mut self, statement: Option<Statement<'a>>, place: Place) -> Result<(), AllocError>
         ensures { OnOk result ((name : List ℕ) → place_in self.new name
-            ≡ option_or (place_in self.old name) (if says_label name (option_map said_by statement.entry) then Some place else None)) }
+            ≡ option_or (place_in self.old name) (if says_label name
+            (option_map said_by statement.entry) then Some place else None)) }
     {
         match statement {
             Some(
@@ -69,7 +70,8 @@ impl<'a> Labels<'a> {
     /// Notes a label's place, unless the label has one already.
     fn define(&mut self, label: &'a [u8], place: Place) -> Result<(), AllocError>
         ensures { OnOk result ((name : List ℕ) → place_in self.new name
-            ≡ option_or (place_in self.old name) (if bytes_eq label.now name then Some place else None)) }
+            ≡ option_or (place_in self.old name) (if bytes_eq label.now name then Some place
+            else None)) }
     {
         if !self.places.contains_key(label) {
             self.places.insert(label, place)?;

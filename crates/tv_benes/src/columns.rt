@@ -10,8 +10,8 @@ use crate::wire_switches::{Scratch, wire_switch};
 use tv_bits::{bit, select_terms};
 use tv_core::{F, Pair, Put, Sink, Wire};
 
-// A switch between two items, each told by the terms of its two combinations. It makes 5 wires and 5
-// constraints, with 23 terms where the items are wires.
+// A switch between two items, each told by the terms of its two combinations. It makes 5 wires and
+// 5 constraints, with 23 terms where the items are wires.
 fn switch<S: Sink>(
     s: &mut S,
     x: &[(F, Wire)],
@@ -28,7 +28,9 @@ fn switch<S: Sink>(
     requires x2_short { length x_second.now ≤ 64 }
     requires y_short { length y.now ≤ 64 }
     requires y2_short { length y_second.now ≤ 64 }
-    ensures puts { PutsIn S.meaning s.old s.new (switch_of (record { first = x.now; second = x_second.now }) (record { first = y.now; second = y_second.now })) result }
+    ensures puts { PutsIn S.meaning s.old s.new
+        (switch_of (record { first = x.now; second = x_second.now })
+        (record { first = y.now; second = y_second.now })) result }
     ensures grows { IfOk result (λ _. Grows S.meaning s.old s.new 5 5) }
 {
     let b = s.fresh();
@@ -67,7 +69,8 @@ fn pair_switch<S: Sink>(s: &mut S, x: &Pair, y: &Pair) -> Put<()>
 pub(crate) fn column<S: Sink, P: Places>(s: &mut S, n: u32, items: &P) -> Put<()>
     requires room { Room S.meaning s.old (5 * n) (5 * n) }
     requires made { (i : ℕ) → i < 2 * n → P.place items.now i + 1 < S.meaning.wires s.old }
-    ensures puts { PutsIn S.meaning s.old s.new (column_of n (λ i. wires_at (P.place items.now i))) result }
+    ensures puts { PutsIn S.meaning s.old s.new (column_of n (λ i. wires_at (P.place items.now i)))
+        result }
     ensures grows { IfOk result (λ _. Grows S.meaning s.old s.new (5 * n) (5 * n)) }
 {
     let mut scratch = Scratch::new();

@@ -1,6 +1,7 @@
 ghost use Rattle.std.specs.Prelude.{◌≡◌, ℕ, suc, Bool, false, ◌+◌, ◌-◌, ◌*◌, ◌^◌, ◌<◌, ◌≤◌, OnOk};
 ghost use Rattle.tv_benes.specs.Items.{bit_at, pair_at, item_of, depth_of, ArePlaces};
-ghost use Rattle.tv_benes.specs.Network.{switch_values, column_values, last_column_values, network_values};
+ghost use Rattle.tv_benes.specs.Network.{switch_values, column_values, last_column_values};
+ghost use Rattle.tv_benes.specs.Network.{network_values};
 ghost use Rattle.tv_benes.specs.Through.{switches, missing, from, last_item};
 ghost use Rattle.tv_benes.specs.declared.shape.Net.TheVariants.{Benes};
 ghost use Rattle.tv_core.specs.Giving.{GivesIn};
@@ -9,14 +10,15 @@ use crate::items::{Items, bit, read, source};
 use crate::shape::{Net, level_switches, long_missing, long_power};
 use tv_core::{F, PairNum, Put, Values, give_values};
 
-/// Gives the values of the wires that `network` makes, for the numbers of its inputs and the bits of its
-/// switches in order; a bit or a pair that is not there counts as 0. It takes no memory: an item that
-/// comes to a switch is found among the inputs, in at most 2k steps.
+/// Gives the values of the wires that `network` makes, for the numbers of its inputs and the bits
+/// of its switches in order; a bit or a pair that is not there counts as 0. It takes no memory: an
+/// item that comes to a switch is found among the inputs, in at most 2k steps.
 pub fn fill_network<V: Values>(v: &mut V, k: u32, inputs: &[PairNum], bits: &[bool]) -> Put<()>
     requires whole { V.giving.broken v.old ≡ false }
     requires some { 1 ≤ k }
     requires few { k ≤ 31 }
-    ensures gives { GivesIn V.giving v.old v.new (network_values Benes (k - 1) (bit_at bits.now) (pair_at inputs.now)) result }
+    ensures gives { GivesIn V.giving v.old v.new
+        (network_values Benes (k - 1) (bit_at bits.now) (pair_at inputs.now)) result }
     ensures whole { OnOk result (V.giving.broken v.new ≡ false) }
 {
     fill_routing_network(v, Net::Benes, k, inputs, bits)
@@ -33,7 +35,8 @@ pub fn fill_routing_network<V: Values>(
     requires whole { V.giving.broken v.old ≡ false }
     requires some { 1 ≤ k }
     requires few { k ≤ 31 }
-    ensures gives { GivesIn V.giving v.old v.new (network_values net (k - 1) (bit_at bits.now) (pair_at inputs.now)) result }
+    ensures gives { GivesIn V.giving v.old v.new
+        (network_values net (k - 1) (bit_at bits.now) (pair_at inputs.now)) result }
     ensures whole { OnOk result (V.giving.broken v.new ≡ false) }
 {
     fill_level(v, net, k - 1, &Items::Given(inputs), bits, 0)
@@ -64,7 +67,8 @@ fn fill_column<V: Values>(v: &mut V, n: u64, items: &Items<'_>, bits: &[bool], a
     requires near { 2 * n * 2 ^ depth_of items.now ≤ 2 ^ 62 }
     requires places { ArePlaces items.now }
     requires place { at < 2 ^ 62 }
-    ensures gives { GivesIn V.giving v.old v.new (column_values n (from at (bit_at bits.now)) (item_of bits.now items.now)) result }
+    ensures gives { GivesIn V.giving v.old v.new
+        (column_values n (from at (bit_at bits.now)) (item_of bits.now items.now)) result }
     ensures whole { OnOk result (V.giving.broken v.new ≡ false) }
 {
     for j in 0..n {
@@ -75,8 +79,8 @@ fn fill_column<V: Values>(v: &mut V, n: u64, items: &Items<'_>, bits: &[bool], a
     Ok(())
 }
 
-// The values of switch `j` of the last column of a network of level `h` + 1 on these items, whose bits
-// begin at `at`.
+// The values of switch `j` of the last column of a network of level `h` + 1 on these items, whose
+// bits begin at `at`.
 fn fill_last_switch<V: Values>(
     v: &mut V,
     net: Net,
@@ -92,7 +96,10 @@ fn fill_last_switch<V: Values>(
     requires places { ArePlaces items.now }
     requires place { at + switches net (suc h) < 2 ^ 62 }
     requires within { j + missing net < 2 ^ suc h }
-    ensures gives { let bit = from at (bit_at bits.now) in let item = last_item net h bit (item_of bits.now items.now) in GivesIn V.giving v.old v.new (switch_values (from (2 ^ suc h + 2 * switches net h) bit j) (item (2 * j)) (item (2 * j + 1))) result }
+    ensures gives { let bit = from at (bit_at bits.now)
+        in let item = last_item net h bit (item_of bits.now items.now)
+        in GivesIn V.giving v.old v.new (switch_values (from (2 ^ suc h + 2 * switches net h) bit j)
+        (item (2 * j)) (item (2 * j + 1))) result }
     ensures whole { OnOk result (V.giving.broken v.new ≡ false) }
 {
     let n = long_power(h + 1);
@@ -119,7 +126,8 @@ fn fill_last<V: Values>(
     requires near { 2 ^ suc (suc h) * 2 ^ depth_of items.now ≤ 2 ^ 62 }
     requires places { ArePlaces items.now }
     requires place { at + switches net (suc h) < 2 ^ 62 }
-    ensures gives { GivesIn V.giving v.old v.new (last_column_values net h (from at (bit_at bits.now)) (item_of bits.now items.now)) result }
+    ensures gives { GivesIn V.giving v.old v.new
+        (last_column_values net h (from at (bit_at bits.now)) (item_of bits.now items.now)) result }
     ensures whole { OnOk result (V.giving.broken v.new ≡ false) }
 {
     let n = long_power(h + 1) - long_missing(net);
@@ -143,7 +151,8 @@ fn fill_level<V: Values>(
     requires near { 2 ^ suc h * 2 ^ depth_of items.now ≤ 2 ^ 62 }
     requires places { ArePlaces items.now }
     requires place { at + switches net h < 2 ^ 62 }
-    ensures gives { GivesIn V.giving v.old v.new (network_values net h (from at (bit_at bits.now)) (item_of bits.now items.now)) result }
+    ensures gives { GivesIn V.giving v.old v.new
+        (network_values net h (from at (bit_at bits.now)) (item_of bits.now items.now)) result }
     ensures whole { OnOk result (V.giving.broken v.new ≡ false) }
 {
     let n = long_power(h);

@@ -5,8 +5,8 @@ ghost use Rattle.tv_benes.specs.Through.{switches, from, last_bit, through};
 use crate::shape::{Net, level_switches, long_power};
 use tv_core::{F, PairNum};
 
-// The items of a network: those handed in, or those of the upper or lower network within another, told by
-// that one's items, by the place where its bits begin, and by whether it is the lower one.
+// The items of a network: those handed in, or those of the upper or lower network within another,
+// told by that one's items, by the place where its bits begin, and by whether it is the lower one.
 #[derive(Clone, Copy)]
 pub(crate) enum Items<'a> {
     Given(&'a [PairNum]),

@@ -14,22 +14,22 @@ pub fn places_tell()
     ensures { PlacesTell }
 {}
 
-/// Where an assignment meets what a network put, it has 0 or 1 at each switch, and at the outputs the
-/// inputs sent through by these bits.
+/// Where an assignment meets what a network put, it has 0 or 1 at each switch, and at the outputs
+/// the inputs sent through by these bits.
 #[tactic(auto, using(crate::proofs::NetworkLaws::network_sound))]
 pub fn network_is_sound()
     ensures { NetworkIsSound }
 {}
 
-/// Where an assignment has the values of a network for some bits, it meets what the network put, it has
-/// these bits at the switches, in order, and at the outputs the inputs sent through by them.
+/// Where an assignment has the values of a network for some bits, it meets what the network put, it
+/// has these bits at the switches, in order, and at the outputs the inputs sent through by them.
 #[tactic(auto, using(crate::proofs::NetworkComplete::network_complete))]
 pub fn network_is_complete()
     ensures { NetworkIsComplete }
 {}
 
-/// A network makes five wires a switch, as many as it has values; its outputs are among them; and its
-/// values are numbers of the field where its inputs are.
+/// A network makes five wires a switch, as many as it has values; its outputs are among them; and
+/// its values are numbers of the field where its inputs are.
 #[tactic(auto, using(crate::proofs::Sizes::network_sizes))]
 pub fn network_fills()
     ensures { NetworkFills }

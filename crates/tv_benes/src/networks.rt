@@ -10,16 +10,18 @@ use crate::places::{Inputs, LastItems, Outputs, Row, column_outputs, last_output
 use crate::shape::{Net, missing, power};
 use tv_core::{Put, Sink, Wire};
 
-/// Benes' network on 2^`k` items. It makes 5 wires and 5 constraints a switch, of 23 terms where the
-/// items are wires; it keeps no list, and asks `inputs` for each item once.
+/// Benes' network on 2^`k` items. It makes 5 wires and 5 constraints a switch, of 23 terms where
+/// the items are wires; it keeps no list, and asks `inputs` for each item once.
 pub fn network<S: Sink, I: Inputs>(s: &mut S, k: u32, inputs: &I) -> Put<Outputs>
     requires some { 1 ≤ k }
     requires few { k ≤ 31 }
     requires room { Room S.meaning s.old (5 * switches Benes (k - 1)) (5 * switches Benes (k - 1)) }
     requires count { I.count inputs.now ≡ 2 ^ k }
     requires made { AreMade (I.pair inputs.now) (2 ^ k) (S.meaning.wires s.old) }
-    ensures puts { PutsIn S.meaning s.old s.new (network_of Benes (k - 1) (I.pair inputs.now)) result }
-    ensures grows { IfOk result (λ _. Grows S.meaning s.old s.new (5 * switches Benes (k - 1)) (5 * switches Benes (k - 1))) }
+    ensures puts { PutsIn S.meaning s.old s.new (network_of Benes (k - 1) (I.pair inputs.now))
+        result }
+    ensures grows { IfOk result (λ _. Grows S.meaning s.old s.new (5 * switches Benes (k - 1))
+        (5 * switches Benes (k - 1))) }
     ensures below { IfOk result (λ outputs. AreBelow outputs (2 ^ k) (S.meaning.wires s.new)) }
 {
     routing_network(s, Net::Benes, k, inputs)
@@ -32,8 +34,10 @@ pub fn routing_network<S: Sink, I: Inputs>(s: &mut S, net: Net, k: u32, inputs: 
     requires room { Room S.meaning s.old (5 * switches net (k - 1)) (5 * switches net (k - 1)) }
     requires count { I.count inputs.now ≡ 2 ^ k }
     requires made { AreMade (I.pair inputs.now) (2 ^ k) (S.meaning.wires s.old) }
-    ensures puts { PutsIn S.meaning s.old s.new (network_of net (k - 1) (I.pair inputs.now)) result }
-    ensures grows { IfOk result (λ _. Grows S.meaning s.old s.new (5 * switches net (k - 1)) (5 * switches net (k - 1))) }
+    ensures puts { PutsIn S.meaning s.old s.new (network_of net (k - 1) (I.pair inputs.now))
+        result }
+    ensures grows { IfOk result (λ _. Grows S.meaning s.old s.new (5 * switches net (k - 1))
+        (5 * switches net (k - 1))) }
     ensures below { IfOk result (λ outputs. AreBelow outputs (2 ^ k) (S.meaning.wires s.new)) }
 {
     let h = k - 1;
@@ -54,7 +58,8 @@ fn row_network<S: Sink>(s: &mut S, net: Net, h: u32, w: u32) -> Put<Outputs>
     requires room { Room S.meaning s.old (5 * switches net h) (5 * switches net h) }
     requires made { w + 10 * 2 ^ h ≤ S.meaning.wires s.old + 3 }
     ensures puts { PutsIn S.meaning s.old s.new (network_of net h (row w)) result }
-    ensures grows { IfOk result (λ _. Grows S.meaning s.old s.new (5 * switches net h) (5 * switches net h)) }
+    ensures grows { IfOk result (λ _. Grows S.meaning s.old s.new (5 * switches net h)
+        (5 * switches net h)) }
 {
     let n = power(h);
     let first = s.wires();
@@ -81,7 +86,8 @@ fn last_column<S: Sink>(
     requires upper_below { AreBelow upper.now (2 ^ h) (S.meaning.wires s.old) }
     requires lower_below { AreBelow lower.now (2 ^ h) (S.meaning.wires s.old) }
     ensures puts { PutsIn S.meaning s.old s.new (last_column_of net h upper.now lower.now) result }
-    ensures grows { IfOk result (λ _. Grows S.meaning s.old s.new (5 * (2 ^ h - missing net)) (5 * (2 ^ h - missing net))) }
+    ensures grows { IfOk result (λ _. Grows S.meaning s.old s.new (5 * (2 ^ h - missing net))
+        (5 * (2 ^ h - missing net))) }
 {
     let n = power(h) - missing(net);
     let first = s.wires();

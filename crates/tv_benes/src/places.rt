@@ -1,6 +1,7 @@
 ghost use Rattle.std.specs.Prelude.{◌≡◌, ℕ, ◌+◌, ◌*◌, ◌/◌, ◌%◌, ◌^◌, ◌<◌, ◌==◌, if◌then◌else◌};
 ghost use Rattle.tv_core.specs.declared.lines.Pair.{Pair};
-ghost use Rattle.tv_benes.specs.Places.{fifth, output, output_wire, column_outputs, last_outputs, last_wire};
+ghost use Rattle.tv_benes.specs.Places.{fifth, output, output_wire, column_outputs, last_outputs};
+ghost use Rattle.tv_benes.specs.Places.{last_wire};
 
 use crate::shape::{Net, missing};
 use tv_core::{Lc, Pair, Wire};
@@ -40,8 +41,8 @@ impl Places for Row {
     }
 }
 
-/// Where the outputs of a network stand. Each is two wires that follow each other, and the outputs from
-/// the third on stand regularly, five wires a switch. It takes no memory.
+/// Where the outputs of a network stand. Each is two wires that follow each other, and the outputs
+/// from the third on stand regularly, five wires a switch. It takes no memory.
 #[derive(Clone, Copy, PartialEq, Eq, Debug)]
 pub struct Outputs {
     /// The first wire of output 0.
@@ -53,8 +54,8 @@ pub struct Outputs {
 }
 
 impl Outputs {
-    /// Output `i`, two wires. They are wires of the network for each place below its number of items,
-    /// as the clause `below` of `network` says.
+    /// Output `i`, two wires. They are wires of the network for each place below its number of
+    /// items, as the clause `below` of `network` says.
     pub fn at(&self, i: u32) -> Pair
         requires { output_wire self.now i + 1 < 2 ^ 32 }
         ensures { result ≡ output self.now i }

@@ -7,8 +7,8 @@ ghost use Rattle.tv_benes.specs.declared.shape.Net.TheVariants.{Benes};
 pub enum Net {
     /// Benes' network: (2k - 1) · 2^(k-1) switches for 2^k items.
     Benes,
-    /// Waksman's: the same, but that the first switch of each last column is left out, its two items
-    /// passing: 2^k · (k - 1) + 1 switches.
+    /// Waksman's: the same, but that the first switch of each last column is left out, its two
+    /// items passing: 2^k · (k - 1) + 1 switches.
     Waksman,
 }
 

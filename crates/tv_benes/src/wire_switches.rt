@@ -74,7 +74,8 @@ fn fill_difference(lc: &mut Lc, x: Wire, y: Wire)
     lc.plus(-F::ONE, y);
 }
 
-// A switch between two items that are two wires each. It makes 5 wires and 5 constraints, of 23 terms.
+// A switch between two items that are two wires each. It makes 5 wires and 5 constraints, of 23
+// terms.
 fn switch<S: Sink>(
     s: &mut S,
     scratch: &mut Scratch,
@@ -88,7 +89,9 @@ fn switch<S: Sink>(
     requires x2_made { x_second < S.meaning.wires s.old }
     requires y_made { y < S.meaning.wires s.old }
     requires y2_made { y_second < S.meaning.wires s.old }
-    ensures puts { PutsIn S.meaning s.old s.new (switch_of (record { first = wire x; second = wire x_second }) (record { first = wire y; second = wire y_second })) result }
+    ensures puts { PutsIn S.meaning s.old s.new
+        (switch_of (record { first = wire x; second = wire x_second })
+        (record { first = wire y; second = wire y_second })) result }
     ensures grows { IfOk result (λ _. Grows S.meaning s.old s.new 5 5) }
 {
     let b = s.fresh();

@@ -1,5 +1,8 @@
-ghost use Rattle.std.specs.Prelude.{◌≡◌, ◌+◌, ◌-◌, ◌*◌, ◌/◌, ◌≤◌, ◌<◌, ◌^◌, int_lt, false, Bool, if◌then◌else◌, IfOk, OnOk};
-ghost use Rattle.tv_cmp.specs.Compare.{sign, but_for_signs, order_flags_of, signed_size_of, greater_of, compare_of, size, signed_size, compare_values, CompareIsSound, CompareIsComplete, CompareSizes};
+ghost use Rattle.std.specs.Prelude.{◌≡◌, ◌+◌, ◌-◌, ◌*◌, ◌/◌, ◌≤◌, ◌<◌, ◌^◌, int_lt, false, Bool};
+ghost use Rattle.std.specs.Prelude.{if◌then◌else◌, IfOk, OnOk};
+ghost use Rattle.tv_cmp.specs.Compare.{sign, but_for_signs, order_flags_of, signed_size_of};
+ghost use Rattle.tv_cmp.specs.Compare.{greater_of, compare_of, size, signed_size, compare_values};
+ghost use Rattle.tv_cmp.specs.Compare.{CompareIsSound, CompareIsComplete, CompareSizes};
 ghost use Rattle.tv_core.specs.Giving.{GivesIn};
 ghost use Rattle.tv_core.specs.Sinks.{PutsIn, Grows, Room};
 ghost use Rattle.tv_word.specs.Widths.{IsWidth};

@@ -9,8 +9,8 @@ pub const P: u64 = 18_446_744_069_414_584_321;
 
 /// A field element, an integer modulo `P`. Contracts see it as the number below `P`.
 ///
-/// Every operation is exact and takes no memory. A multiplication costs one 64 by 64 bit product and
-/// a few additions, without a division.
+/// Every operation is exact and takes no memory. A multiplication costs one 64 by 64 bit product
+/// and a few additions, without a division.
 #[derive(Clone, Copy, PartialEq, Eq, Debug, Default)]
 pub struct F {
     word: u64,
@@ -150,7 +150,8 @@ impl Neg for F {
 }
 
 // A product modulo P. Modulo P, 2^64 is 2^32 - 1, and so 2^96 is -1: with the product as
-// low + 2^64 middle + 2^96 top, in parts of 64, 32 and 32 bits, it is low - top + (2^32 - 1) middle.
+// low + 2^64 middle + 2^96 top, in parts of 64, 32 and 32 bits, it is low - top + (2^32 - 1)
+// middle.
 fn residue(product: u128) -> u64
     ensures residue { result ≡ product % P }
     ensures below { result < P }

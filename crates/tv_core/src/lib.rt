@@ -1,12 +1,12 @@
-//! The prime field of P = 2^64 - 2^32 + 1, what a system of rank-1 constraints over it means, and the
-//! sinks that take a system's constraints and the values of its wires.
+//! The prime field of P = 2^64 - 2^32 + 1, what a system of rank-1 constraints over it means, and
+//! the sinks that take a system's constraints and the values of its wires.
 //!
-//! Contracts above see a field element as a number below P and a combination as the list of its terms.
-//! They cite `Holds`, `Sat` and `Extends`, and never carry "P is prime" as a premise: it is proved here.
-//! A gadget is first a circuit, a definition of its answer, constraints and wires. Its function says
-//! by `PutsIn` that it puts that circuit into any `Sink`, and by `Grows` how many wires and constraints
-//! that is; its twin says by `GivesIn` which values it gives; its laws are about assignments that
-//! `Meets` the circuit's constraints.
+//! Contracts above see a field element as a number below P and a combination as the list of its
+//! terms. They cite `Holds`, `Sat` and `Extends`, and never carry "P is prime" as a premise: it is
+//! proved here. A gadget is first a circuit, a definition of its answer, constraints and wires. Its
+//! function says by `PutsIn` that it puts that circuit into any `Sink`, and by `Grows` how many
+//! wires and constraints that is; its twin says by `GivesIn` which values it gives; its laws are
+//! about assignments that `Meets` the circuit's constraints.
 #![tactic(auto)]
 
 mod combination;

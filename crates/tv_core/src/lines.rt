@@ -1,7 +1,8 @@
 use crate::combination::Lc;
 use crate::field::F;
 
-/// A line of memory: at a time a cell is looked at, which holds `old` before and `new` from then on.
+/// A line of memory: at a time a cell is looked at, which holds `old` before and `new` from then
+/// on.
 #[derive(Clone, Copy, PartialEq, Eq, Debug)]
 pub struct Line {
     /// A word of memory, a word of the primary tape, or none, by its number, which is below 2^31.

@@ -29,9 +29,14 @@ impl Model for ListSink {
 
     ghost use Rattle.tv_core.specs.Rows.{constraint_at, Within};
 
-    ghost view = { λ s. record { wires = s.wires; list = map (constraint_at s.terms.items) s.rows.items; broken = s.broken } };
+    ghost view = { λ s. record {
+      wires = s.wires;
+      list = map (constraint_at s.terms.items) s.rows.items;
+      broken = s.broken;
+    } };
 
-    ghost invariant = { λ s. (All (Within s.terms.items) s.rows.items) × (length s.rows.items < 2 ^ 32) };
+    ghost invariant = { λ s. (All (Within s.terms.items) s.rows.items)
+        × (length s.rows.items < 2 ^ 32) };
 }
 
 impl ListSink {
@@ -64,7 +69,8 @@ impl ListSink {
     /// The constraint at a place.
     pub fn row(&self, i: u32) -> (Lc, Lc, Lc)
         requires { i < length self.now.list }
-        ensures { slice_get self.now.list i ≡ Some (record { a = result.0; b = result.1; c = result.2 }) }
+        ensures { slice_get self.now.list i ≡ Some
+            (record { a = result.0; b = result.1; c = result.2 }) }
     {
         let row = self.rows[i as usize];
         let terms = &self.terms[row.start..];

@@ -6,7 +6,8 @@ use crate::field::F;
 use crate::wire::Wire;
 use std::alloc::AllocError;
 
-// Where the terms of a constraint stand: the first, and the ends of its three combinations from there.
+// Where the terms of a constraint stand: the first, and the ends of its three combinations from
+// there.
 #[derive(Clone, Copy)]
 pub(crate) struct Row {
     pub(crate) start: usize,
@@ -24,9 +25,11 @@ pub(crate) fn append(
     c: &Lc,
 ) -> Result<(), AllocError>
     ensures terms { OnOk result (terms.new.items ≡ terms.old.items ++ (a.now ++ (b.now ++ c.now))) }
-    ensures rows { OnOk result (rows.new.items ≡ rows.old.items ++ row_after terms.old.items a.now b.now c.now ∷ []) }
+    ensures rows { OnOk result (rows.new.items ≡ rows.old.items
+        ++ row_after terms.old.items a.now b.now c.now ∷ []) }
     ensures lengths { (length a.now ≤ 128) × (length b.now ≤ 128) × (length c.now ≤ 128) }
-    ensures err { OnErr result ((terms.new.items ≡ terms.old.items) × (rows.new.items ≡ rows.old.items)) }
+    ensures err { OnErr result ((terms.new.items ≡ terms.old.items)
+        × (rows.new.items ≡ rows.old.items)) }
 {
     let (a, b, c) = (a.terms(), b.terms(), c.terms());
     let row = Row {

@@ -23,8 +23,8 @@ pub type Put<T> = Result<T, SinkFault>;
 
 /// Takes the wires and constraints of a system, in order.
 ///
-/// A sink stands for the list of constraints that were put into it. A refusal breaks it: it stands for
-/// no list any more, what it has tried is known, and no further call is made on it.
+/// A sink stands for the list of constraints that were put into it. A refusal breaks it: it stands
+/// for no list any more, what it has tried is known, and no further call is made on it.
 pub trait Sink {
     ghost use Rattle.tv_core.specs.Sinks.{Meaning, PutsAll, PutsIn, Grows, Quiet};
 
@@ -43,8 +43,8 @@ pub trait Sink {
         ensures grows { Grows meaning self.old self.new 1 0 }
         ensures quiet { Quiet meaning self.old self.new };
 
-    /// Appends the constraint that `a` times `b` is `c`. It refuses by `Failed` only where its count
-    /// of faults rose, and by `Memory` only where its count of wants rose.
+    /// Appends the constraint that `a` times `b` is `c`. It refuses by `Failed` only where its
+    /// count of faults rose, and by `Memory` only where its count of wants rose.
     fn put(&mut self, a: &Lc, b: &Lc, c: &Lc) -> Put<()>
         requires whole { meaning.broken self.old ≡ false }
         requires room { meaning.constraints self.old < 2 ^ 32 - 1 }
@@ -55,8 +55,10 @@ pub trait Sink {
         ensures grows { IfOk result (λ _. Grows meaning self.old self.new 0 1) };
 
     // the list has as many constraints as were put
-    ghost counted: { (sink : Self) (list : List Constraint) → meaning.stands sink list → meaning.constraints sink ≡ length list };
+    ghost counted: { (sink : Self) (list : List Constraint) → meaning.stands sink list
+        → meaning.constraints sink ≡ length list };
 
     // a broken sink stands for no list
-    ghost unbroken: { (sink : Self) (list : List Constraint) → meaning.stands sink list → meaning.broken sink ≡ false };
+    ghost unbroken: { (sink : Self) (list : List Constraint) → meaning.stands sink list
+        → meaning.broken sink ≡ false };
 }

@@ -9,8 +9,8 @@ use crate::sink::{Put, Sink};
 use crate::wire::Wire;
 use std::marker::Model;
 
-/// A sink that tests each constraint against numbers for the wires, of which those past the end count
-/// as 0. It takes no memory and never refuses.
+/// A sink that tests each constraint against numbers for the wires, of which those past the end
+/// count as 0. It takes no memory and never refuses.
 #[derive(Drop)]
 pub struct TestSink<'a> {
     z: &'a [F],
@@ -24,7 +24,14 @@ pub struct TestSink<'a> {
 impl<'a> Model for TestSink<'a> {
     ghost Value = { Tested };
 
-    ghost view = { λ s. record { z = s.z.now; wires = s.wires; tested = s.tested; held = s.held; first_failed = s.first_failed; sum = s.sum } };
+    ghost view = { λ s. record {
+      z = s.z.now;
+      wires = s.wires;
+      tested = s.tested;
+      held = s.held;
+      first_failed = s.first_failed;
+      sum = s.sum;
+    } };
 
     ghost invariant = { λ s. s.held ≤ s.tested };
 }
@@ -32,7 +39,14 @@ impl<'a> Model for TestSink<'a> {
 impl<'a> TestSink<'a> {
     /// An empty sink over these numbers, whose next wire has the number `wires`.
     pub fn over(z: &'a [F], wires: u32) -> TestSink<'a>
-        ensures { result ≡ record { z = z.entry.now; wires = wires; tested = 0; held = 0; first_failed = None; sum = 0 } }
+        ensures { result ≡ record {
+          z = z.entry.now;
+          wires = wires;
+          tested = 0;
+          held = 0;
+          first_failed = None;
+          sum = 0;
+        } }
     {
         TestSink {
             z,

@@ -18,7 +18,8 @@ pub trait Values {
         ensures whole { OnOk result (giving.broken self.new ≡ false) };
 
     // what is broken stands for no list
-    ghost unbroken: { (taker : Self) (list : List ℕ) → giving.stands taker list → giving.broken taker ≡ false };
+    ghost unbroken: { (taker : Self) (list : List ℕ) → giving.stands taker list
+        → giving.broken taker ≡ false };
 }
 
 /// Gives the values one after another.

@@ -1,7 +1,8 @@
 ghost use Rattle.std.specs.Prelude.{◌≡◌, ◌+◌, ◌≤◌, ◌<◌, ◌^◌, false, IfOk, OnOk};
 ghost use Rattle.tv_core.specs.Giving.{GivesIn};
 ghost use Rattle.tv_core.specs.Sinks.{PutsIn, Grows, Room};
-ghost use Rattle.tv_decode.specs.Fields.{part, fields_of, fields_values, FieldsAreSound, FieldsAreComplete, FieldsSizes};
+ghost use Rattle.tv_decode.specs.Fields.{part, fields_of, fields_values, FieldsAreSound};
+ghost use Rattle.tv_decode.specs.Fields.{FieldsAreComplete, FieldsSizes};
 ghost use Rattle.tv_isa.specs.Instruction.{decode};
 ghost use Rattle.tv_word.specs.Widths.{IsWidth};
 

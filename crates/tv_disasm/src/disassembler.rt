@@ -12,9 +12,9 @@ use tv_word::{word_at, word16_at};
 const HEADER_OF_16: &[u8; 20] = b"; TinyRAM W=16 K=16\n";
 
 /// The program text of an image of words of `W` bits, 16 or 32: for each two words, which are
-/// `W / 4` bytes, a line and a line feed. The line has the instruction's name and operands, or `.raw`
-/// and the two words where these wouldn't tell all of them. With 16 a line with the header stands
-/// in front, so that the assembler takes the text for one of that width.
+/// `W / 4` bytes, a line and a line feed. The line has the instruction's name and operands, or
+/// `.raw` and the two words where these wouldn't tell all of them. With 16 a line with the header
+/// stands in front, so that the assembler takes the text for one of that width.
 ///
 /// `Ragged` comes exactly where the length isn't a multiple of `W / 4`, and no memory is taken
 /// then. The text is at most four times as long as the image with 32, and six times and 20 bytes

@@ -1,5 +1,7 @@
 //! What the assembler makes of a text that `disassemble` gives, for words of either width.
-ghost use Rattle.tv_disasm.specs.Law.{DisassemblyAssembles, DisassemblyIsShort, DisassemblyOf32IsShorter, DisassemblyTellsWidth, WordsSpellImage};
+ghost use Rattle.tv_disasm.specs.Law.{DisassemblyAssembles, DisassemblyIsShort};
+ghost use Rattle.tv_disasm.specs.Law.{DisassemblyOf32IsShorter, DisassemblyTellsWidth};
+ghost use Rattle.tv_disasm.specs.Law.{WordsSpellImage};
 
 /// The text of an image assembles to the image's words, by the assembler's own definition: for
 /// every image of whole instructions, where that many words are allowed.

@@ -1,6 +1,7 @@
 ghost use Rattle.std.specs.Prelude.{◌≡◌, ◌++◌, ◌-◌, ◌/◌, ◌<◌, drop, OnOk};
 ghost use Rattle.tv_word.specs.Widths.{IsWidth};
-ghost use Rattle.tv_disasm.specs.Disassembly.{digit_char, hexadecimal, instruction_text, leaves_zero, raw_text, tells_all, two_words_text};
+ghost use Rattle.tv_disasm.specs.Disassembly.{digit_char, hexadecimal, instruction_text};
+ghost use Rattle.tv_disasm.specs.Disassembly.{leaves_zero, raw_text, tells_all, two_words_text};
 
 use crate::operands::{push_decimal, push_operands};
 use std::alloc::AllocError;
@@ -49,7 +50,8 @@ fn push_instruction(
     instr: &Instr,
 ) -> Result<(), AllocError>
     ensures { OnOk result
-        (text.new.items ≡ text.old.items ++ instruction_text operation.name.now operation.shape instr.now) }
+        (text.new.items ≡ text.old.items ++ instruction_text operation.name.now operation.shape
+        instr.now) }
 {
     text.extend_from_slice(operation.name.as_bytes())?;
     text.push(b' ')?;

@@ -11,7 +11,8 @@ pub(crate) fn push_operands(
     shape: Shape,
     instr: &Instr,
 ) -> Result<(), AllocError>
-    ensures { OnOk result (text.new.items ≡ text.old.items ++ joined (operand_texts shape instr.now)) }
+    ensures { OnOk result (text.new.items ≡ text.old.items
+        ++ joined (operand_texts shape instr.now)) }
 {
     let dest = u32::from(instr.dest);
     let source = u32::from(instr.source);

@@ -1,4 +1,5 @@
-ghost use Rattle.std.specs.Prelude.{◌≡◌, ◌⊎◌, ◌+◌, ◌*◌, ◌/◌, ◌<◌, ◌≤◌, ◌^◌, length, All, slice_index, Ok, Err, IfOk, IfErr};
+ghost use Rattle.std.specs.Prelude.{◌≡◌, ◌⊎◌, ◌+◌, ◌*◌, ◌/◌, ◌<◌, ◌≤◌, ◌^◌, length, All};
+ghost use Rattle.std.specs.Prelude.{slice_index, Ok, Err, IfOk, IfErr};
 ghost use Rattle.std.specs.List.{range_with_len};
 ghost use Rattle.tv_benes.specs.declared.shape.Net.{Net};
 ghost use Rattle.tv_layout.specs.Places.{WithinLimits, tape_at};
@@ -33,7 +34,8 @@ pub fn extract<const W: u32>(
     requires fits { WithinLimits W image.now n t }
     requires image { length image.now * (W / 8) ≤ 2 ^ W }
     ensures run { IfOk result (λ run. run_in W net image.now n t values.now ≡ Ok run) }
-    ensures fault { IfErr result (λ fault. (fault ≡ Memory) ⊎ (run_in W net image.now n t values.now ≡ Err fault)) }
+    ensures fault { IfErr result (λ fault. (fault ≡ Memory)
+        ⊎ (run_in W net image.now n t values.now ≡ Err fault)) }
 {
     let wants = u64::from(sizes::<W>(image, n, t, net).wires);
     let has = values.len() as u64;
@@ -72,8 +74,10 @@ fn word<const W: u32>(values: &[F], wire: Wire) -> Result<u32, ExtractFault>
 fn tape_words<const W: u32>(alloc: Global, n: u32, values: &[F]) -> Result<Words, ExtractFault>
     requires width { IsWidth W }
     requires few { n < 2 ^ 29 }
-    ensures words { IfOk result (λ words. words_at W values.now (range_with_len tape_at n) ≡ Ok words) }
-    ensures fault { IfErr result (λ fault. (fault ≡ Memory) ⊎ (words_at W values.now (range_with_len tape_at n) ≡ Err fault)) }
+    ensures words { IfOk result (λ words. words_at W values.now (range_with_len tape_at n)
+        ≡ Ok words) }
+    ensures fault { IfErr result (λ fault. (fault ≡ Memory)
+        ⊎ (words_at W values.now (range_with_len tape_at n) ≡ Err fault)) }
 {
     let mut words = Words::new(alloc);
     for i in 0..n {
@@ -92,8 +96,10 @@ fn taken_words<const W: u32>(
     values: &[F],
 ) -> Result<Words, ExtractFault>
     requires fits { WithinLimits W image.now n t }
-    ensures words { IfOk result (λ words. words_at W values.now (taken_wires W image.now n t values.now) ≡ Ok words) }
-    ensures fault { IfErr result (λ fault. (fault ≡ Memory) ⊎ (words_at W values.now (taken_wires W image.now n t values.now) ≡ Err fault)) }
+    ensures words { IfOk result (λ words. words_at W values.now
+        (taken_wires W image.now n t values.now) ≡ Ok words) }
+    ensures fault { IfErr result (λ fault. (fault ≡ Memory)
+        ⊎ (words_at W values.now (taken_wires W image.now n t values.now) ≡ Err fault)) }
 {
     let mut words = Words::new(alloc);
     for step in 0..t {

@@ -18,9 +18,9 @@ pub enum FileRefusal {
 
 /// Named files and one stream of words said.
 ///
-/// What a value means is `seen`, an `Outside`: the files' contents and the bytes said, where they are
-/// told, and counts of faults, of wants of memory and of names that were absent. No count ever falls,
-/// `Ok` leaves all of them, and "rose" includes standing at 2^64 - 1.
+/// What a value means is `seen`, an `Outside`: the files' contents and the bytes said, where they
+/// are told, and counts of faults, of wants of memory and of names that were absent. No count ever
+/// falls, `Ok` leaves all of them, and "rose" includes standing at 2^64 - 1.
 pub trait Files {
     ghost seen: { Self → Outside };
 

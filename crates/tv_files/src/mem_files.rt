@@ -1,9 +1,12 @@
 //! Files that are kept in memory, and can fail on demand.
-ghost use Rattle.std.specs.Prelude.{◌≡◌, ◌⊎◌, ◌||◌, ◌++◌, [], ◌∷◌, false, IsTrue, length, drop, Some, OnOk, OnErr, MatchResult, is_err, is_none, option_copied};
+ghost use Rattle.std.specs.Prelude.{◌≡◌, ◌⊎◌, ◌||◌, ◌++◌, [], ◌∷◌, false, IsTrue, length, drop};
+ghost use Rattle.std.specs.Prelude.{Some, OnOk, OnErr, MatchResult, is_err, is_none, option_copied};
 ghost use Rattle.tv_files.specs.Calls.{Reads, Creates, Appends, Says};
 ghost use Rattle.tv_files.specs.Outside.{with_bytes, with_more};
-ghost use Rattle.tv_files.specs.MemFiles.{names_of, said_of, calls_of, failing_of, told_by, nothing};
-ghost use Rattle.tv_files.specs.MemFiles.{Counted, is_due, is_failed, is_wanting, read_answer, first_half};
+ghost use Rattle.tv_files.specs.MemFiles.{names_of, said_of, calls_of, failing_of, told_by};
+ghost use Rattle.tv_files.specs.MemFiles.{nothing};
+ghost use Rattle.tv_files.specs.MemFiles.{Counted, is_due, is_failed, is_wanting, read_answer};
+ghost use Rattle.tv_files.specs.MemFiles.{first_half};
 
 use crate::calls::{FileRefusal, Files};
 use crate::parts::{add, copy_from, next_is_due, put, raise};
@@ -12,9 +15,9 @@ use std::collections::BTreeMap;
 
 /// Files kept in memory, which tell all and can fail on demand.
 ///
-/// The four calls of `Files` are counted, from 1 on. A call fails exactly where its number was given
-/// to `fail_at`, or where a name to be read or appended to isn't there. A call that was given to
-/// `fail_at` and appends to a name that is there, or says something, adds the first half of the
+/// The four calls of `Files` are counted, from 1 on. A call fails exactly where its number was
+/// given to `fail_at`, or where a name to be read or appended to isn't there. A call that was given
+/// to `fail_at` and appends to a name that is there, or says something, adds the first half of the
 /// bytes, rounded down, or nothing where memory for them is refused; any other call that fails
 /// changes nothing. All counters stay at their last value.
 #[derive(Drop)]
@@ -102,7 +105,8 @@ impl Files for MemFiles {
 
     fn read(&mut self, name: &str, at: u64, into: &mut [u8]) -> Result<usize, FileRefusal>
         ensures reads { Reads (told_by self.old) (told_by self.new) name.now at into.new result }
-        ensures answer { result ≡ read_answer (is_due self.old) (names_of self.old name.now) at (length into.old) }
+        ensures answer { result ≡ read_answer (is_due self.old) (names_of self.old name.now) at
+            (length into.old) }
         ensures rest { MatchResult result
             (λ count. drop count into.new ≡ drop count into.old)
             (λ _. into.new ≡ into.old) }
@@ -128,7 +132,8 @@ impl Files for MemFiles {
         ensures creates { Creates (told_by self.old) (told_by self.new) name.now result }
         ensures failed { is_failed result ≡ is_due self.old }
         ensures refused { OnErr result (names_of self.new ≡ names_of self.old) }
-        ensures counted { Counted self.old self.new false (is_failed result) false (is_wanting result) false }
+        ensures counted { Counted self.old self.new false (is_failed result) false
+            (is_wanting result) false }
     {
         if next_is_due(&mut self.calls, &self.failing) {
             raise(&mut self.write_faults);
@@ -143,11 +148,15 @@ impl Files for MemFiles {
 
     fn append(&mut self, name: &str, bytes: &[u8]) -> Result<(), FileRefusal>
         ensures appends { Appends (told_by self.old) (told_by self.new) name.now bytes.now result }
-        ensures failed { is_failed result ≡ (is_due self.old || is_none (names_of self.old name.now)) }
-        ensures refused { OnErr result ((names_of self.new ≡ names_of self.old) ⊎ (IsTrue (is_due self.old)
-            × (names_of self.new ≡ with_more name.now (first_half bytes.now) (names_of self.old)))) }
+        ensures failed { is_failed result ≡ (is_due self.old
+            || is_none (names_of self.old name.now)) }
+        ensures refused { OnErr result ((names_of self.new ≡ names_of self.old)
+            ⊎ (IsTrue (is_due self.old)
+            × (names_of self.new ≡ with_more name.now (first_half bytes.now)
+            (names_of self.old)))) }
         ensures counted { Counted self.old self.new
-            false (is_failed result) false (is_wanting result) (is_none (names_of self.old name.now)) }
+            false (is_failed result) false (is_wanting result)
+            (is_none (names_of self.old name.now)) }
     {
         let due = next_is_due(&mut self.calls, &self.failing);
         match self.names.get_mut(name) {
@@ -163,9 +172,11 @@ impl Files for MemFiles {
     fn say(&mut self, bytes: &[u8]) -> Result<(), FileRefusal>
         ensures says { Says (told_by self.old) (told_by self.new) bytes.now result }
         ensures failed { is_failed result ≡ is_due self.old }
-        ensures refused { OnErr result ((said_of self.new ≡ said_of self.old) ⊎ (IsTrue (is_due self.old)
+        ensures refused { OnErr result ((said_of self.new ≡ said_of self.old)
+            ⊎ (IsTrue (is_due self.old)
             × (said_of self.new ≡ said_of self.old ++ first_half bytes.now))) }
-        ensures counted { Counted self.old self.new false false (is_failed result) (is_wanting result) false }
+        ensures counted { Counted self.old self.new false false (is_failed result)
+            (is_wanting result) false }
     {
         let due = next_is_due(&mut self.calls, &self.failing);
         add(

@@ -1,7 +1,9 @@
 //! The parts of files in memory: each takes the fields that it changes.
-ghost use Rattle.std.specs.Prelude.{◌≡◌, ◌≤◌, ◌-◌, ◌++◌, min, length, take, drop, OnOk, OnErr, ◌⊎◌, IsTrue};
+ghost use Rattle.std.specs.Prelude.{◌≡◌, ◌≤◌, ◌-◌, ◌++◌, min, length, take, drop, OnOk, OnErr, ◌⊎◌};
+ghost use Rattle.std.specs.Prelude.{IsTrue};
 ghost use Rattle.tv_files.specs.Outside.{with_bytes};
-ghost use Rattle.tv_files.specs.MemFiles.{names_in, one_more, raised, is_listed, is_failed, is_wanting, first_half};
+ghost use Rattle.tv_files.specs.MemFiles.{names_in, one_more, raised, is_listed, is_failed};
+ghost use Rattle.tv_files.specs.MemFiles.{is_wanting, first_half};
 
 use crate::calls::FileRefusal;
 use std::alloc::{AllocError, Global};
@@ -31,7 +33,8 @@ pub fn put(
     name: &str,
     bytes: &[u8],
 ) -> Result<(), AllocError>
-    ensures ok { OnOk result (names_in names.new ≡ with_bytes name.now bytes.now (names_in names.old)) }
+    ensures ok { OnOk result (names_in names.new
+        ≡ with_bytes name.now bytes.now (names_in names.old)) }
     ensures err { OnErr result (names_in names.new ≡ names_in names.old) }
 {
     let key = String::from_str(alloc, name)?;

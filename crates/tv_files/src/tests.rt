@@ -1,5 +1,5 @@
-//! What no clause says: that calls succeed where memory is ample, what a listed failing call leaves,
-//! and in how many calls a whole file is read and written.
+//! What no clause says: that calls succeed where memory is ample, what a listed failing call
+//! leaves, and in how many calls a whole file is read and written.
 ghost use Rattle.std.specs.Prelude.{◌≡◌};
 ghost use Rattle.tv_files.specs.Outside.{OnlyReads, MissesOnly};
 ghost use Rattle.tv_word.specs.Counts.{Rose};
@@ -53,7 +53,8 @@ fn reads(rt: &impl Abort, files: &mut MemFiles, read: Option<&[u8]>) {
     assert_eq!(rt; answer.and_then(|count| into.get(..count)), read);
 }
 
-/// Sees that these bytes stand in `log` and were said, and that the other file was kept, after four calls.
+/// Sees that these bytes stand in `log` and were said, and that the other file was kept, after four
+/// calls.
 fn holds(rt: &impl Abort, files: &MemFiles, log: &[u8], said: &[u8]) {
     assert_eq!(rt; files.bytes_of("log"), Some(log));
     assert_eq!(rt; files.bytes_of("other"), Some(b"kept".as_slice()));
@@ -122,7 +123,8 @@ fn reads_give_what_fits(rt: HostRuntime) -> Result<(), Fail> {
     Ok(())
 }
 
-/// Sees that a file of these bytes is written in so many calls, and read in those that make `calls` with them.
+/// Sees that a file of these bytes is written in so many calls, and read in those that make `calls`
+/// with them.
 fn comes_and_goes(
     rt: &impl Abort,
     alloc: Global,

@@ -14,24 +14,26 @@ const PIECE: usize = 4096;
 /// Reads the whole file, by calls of at most 4,096 bytes, until one gives none or more than `most`
 /// bytes came.
 ///
-/// `Ok` is the contents of the name, which are at most `most` bytes. `TooLong` comes exactly where the
-/// name has more than that: byte number `most + 1` was read. `Fault` comes only where the count of
-/// faults of reading rose, and a missing name is such a fault. `Memory` is want of memory, here or
-/// outside. Nothing outside is changed but the counts, and these only where it ends by `Fault` or
-/// `Memory`.
+/// `Ok` is the contents of the name, which are at most `most` bytes. `TooLong` comes exactly where
+/// the name has more than that: byte number `most + 1` was read. `Fault` comes only where the count
+/// of faults of reading rose, and a missing name is such a fault. `Memory` is want of memory, here
+/// or outside. Nothing outside is changed but the counts, and these only where it ends by `Fault`
+/// or `Memory`.
 pub fn slurp<D: Files>(
     alloc: Global,
     files: &mut D,
     name: &str,
     most: u64,
 ) -> Result<Vec<u8>, Slurp>
-    ensures whole { IfOk result (λ v. Told (D.seen files.old) (λ held. held name.now ≡ Some v.items)) }
+    ensures whole { IfOk result (λ v. Told (D.seen files.old)
+        (λ held. held name.now ≡ Some v.items)) }
     ensures short { IfOk result (λ v. length v.items ≤ most) }
     ensures longer { (limit : ℕ) → result ≡ Err (Slurp.TooLong limit) →
         (limit ≡ most) × Told (D.seen files.old) (λ held. IsLonger most (held name.now)) }
     ensures fault { result ≡ Err Slurp.Fault →
         Rose (D.seen files.old).read_faults (D.seen files.new).read_faults }
-    ensures missing { Told (D.seen files.old) (λ held. held name.now ≡ None → result ≡ Err Slurp.Fault) }
+    ensures missing { Told (D.seen files.old)
+        (λ held. held name.now ≡ None → result ≡ Err Slurp.Fault) }
     ensures only { OnlyReads (D.seen files.old) (D.seen files.new) }
     ensures counts { OnOk result (SameCounts (D.seen files.old) (D.seen files.new)) }
     ensures longer_counts { (limit : ℕ) → result ≡ Err (Slurp.TooLong limit) →
@@ -58,11 +60,13 @@ pub fn slurp<D: Files>(
 /// After a refusal the name is as it was, or has a first part of the bytes. Nothing else outside is
 /// changed but the counts, and `absent` is not.
 pub fn write_file<D: Files>(files: &mut D, name: &str, bytes: &[u8]) -> Result<(), FileRefusal>
-    ensures whole { OnOk result (HasBytes (D.seen files.old) (D.seen files.new) name.now bytes.now) }
+    ensures whole { OnOk result (HasBytes (D.seen files.old) (D.seen files.new) name.now
+        bytes.now) }
     ensures part { OnErr result (HasPart (D.seen files.old) (D.seen files.new) name.now bytes.now) }
     ensures failed { result ≡ Err FileRefusal.Failed →
         Rose (D.seen files.old).write_faults (D.seen files.new).write_faults }
-    ensures memory { result ≡ Err FileRefusal.Memory → Rose (D.seen files.old).wants (D.seen files.new).wants }
+    ensures memory { result ≡ Err FileRefusal.Memory
+        → Rose (D.seen files.old).wants (D.seen files.new).wants }
     ensures only { OnlyWrites (D.seen files.old) (D.seen files.new) }
     ensures counts { OnOk result (SameCounts (D.seen files.old) (D.seen files.new)) }
 {

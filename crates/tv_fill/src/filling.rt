@@ -1,4 +1,5 @@
-ghost use Rattle.std.specs.Prelude.{◌≡◌, ◌+◌, ◌*◌, ◌/◌, ◌^◌, ◌<◌, ◌≤◌, false, length, IfOk, IfErr, OnOk};
+ghost use Rattle.std.specs.Prelude.{◌≡◌, ◌+◌, ◌*◌, ◌/◌, ◌^◌, ◌<◌, ◌≤◌, false, length, IfOk, IfErr};
+ghost use Rattle.std.specs.Prelude.{OnOk};
 ghost use Rattle.tv_core.specs.Giving.{GivesIn};
 ghost use Rattle.tv_fill.specs.Filled.{IsFilling, IsUnfilled, FillsIn};
 ghost use Rattle.tv_layout.specs.Places.{WithinLimits};
@@ -42,9 +43,14 @@ impl<const W: u32> Model for Filling<W> {
 
     ghost Value = { Filled };
 
-    ghost view = { λ f. record { answer = f.answer; values = filled_values W f.answer f.tape.items f.aux.items f.first f.t f.states f.pairs.items f.net f.k f.order.items f.settings } };
+    ghost view = { λ f. record {
+      answer = f.answer;
+      values = filled_values W f.answer f.tape.items
+          f.aux.items f.first f.t f.states f.pairs.items f.net f.k f.order.items f.settings;
+    } };
 
-    ghost invariant = { λ f. PartsFit W (length f.tape.items) f.aux.items f.first f.t f.states f.pairs.items f.k f.order.items };
+    ghost invariant = { λ f. PartsFit W (length f.tape.items) f.aux.items f.first f.t f.states
+        f.pairs.items f.k f.order.items };
 }
 
 impl<const W: u32> Filling<W> {
@@ -94,9 +100,10 @@ impl<const W: u32> Filling<W> {
 
 /// Runs the machine for at most `t` steps on an image and two tapes, and makes the values of the
 /// wires of its system over a network ready, where it answers. `NoRun` comes exactly where it
-/// doesn't, and tells how it ends. Beside the machine's own memory and copies of the tapes it takes at
-/// most 160 bytes for each of the 2^k lines of the system, and at most 100 bytes a line are held by
-/// what it answers. It takes the run's time twice, and then a time that grows as k times the lines.
+/// doesn't, and tells how it ends. Beside the machine's own memory and copies of the tapes it takes
+/// at most 160 bytes for each of the 2^k lines of the system, and at most 100 bytes a line are held
+/// by what it answers. It takes the run's time twice, and then a time that grows as k times the
+/// lines.
 pub fn prepare<const W: u32>(
     alloc: Global,
     image: &[u32],

@@ -38,7 +38,8 @@ fn fill_words<V: Values>(v: &mut V, words: &[u32]) -> Put<()>
 fn fill_bits_of_words<const W: u32, V: Values>(v: &mut V, words: &[u32]) -> Put<()>
     requires width { IsWidth W }
     requires whole { V.giving.broken v.old ≡ false }
-    ensures gives { GivesIn V.giving v.old v.new (joined_below (length words.now) (λ i. bits_values (slice_index words.now i) W)) result }
+    ensures gives { GivesIn V.giving v.old v.new
+        (joined_below (length words.now) (λ i. bits_values (slice_index words.now i) W)) result }
     ensures whole { OnOk result (V.giving.broken v.new ≡ false) }
 {
     for i in 0..words.len() {

@@ -1,4 +1,5 @@
-ghost use Rattle.std.specs.Prelude.{◌≡◌, ◌+◌, ◌-◌, ◌^◌, ◌<◌, ◌≤◌, [], ◌∷◌, ◌++◌, length, map, All, IfOk, OnOk};
+ghost use Rattle.std.specs.Prelude.{◌≡◌, ◌+◌, ◌-◌, ◌^◌, ◌<◌, ◌≤◌, [], ◌∷◌, ◌++◌, length, map, All};
+ghost use Rattle.std.specs.Prelude.{IfOk, OnOk};
 ghost use Rattle.tv_layout.specs.Places.{log_of};
 ghost use Rattle.tv_layout.specs.Sound.{padding};
 ghost use Rattle.tv_lines.specs.Packing.{InRange, unpacked};
@@ -32,8 +33,8 @@ pub(crate) fn power(k: u32) -> u32
     1 << k
 }
 
-// 2^`k` lines of a run, packed: those of the image's and the tape's words, those of its steps, which
-// are dropped then, and lines of the null cell.
+// 2^`k` lines of a run, packed: those of the image's and the tape's words, those of its steps,
+// which are dropped then, and lines of the null cell.
 pub(crate) fn pack_lines(
     alloc: Global,
     image: &[u32],
@@ -44,7 +45,8 @@ pub(crate) fn pack_lines(
     requires few { k ≤ 20 }
     requires fits { length image.now + length tape.now + length steps ≤ 2 ^ k }
     requires steps { All InRange steps }
-    ensures { IfOk result (λ pairs. map unpacked pairs.items ≡ lines_told image.now tape.now steps k) }
+    ensures { IfOk result (λ pairs. map unpacked pairs.items
+        ≡ lines_told image.now tape.now steps k) }
 {
     let steps = steps.as_slice();
     let first = image.len() as u32;
@@ -61,7 +63,8 @@ pub(crate) fn pack_lines(
 // A line, packed.
 fn push_line(pairs: &mut Vec<PairNum>, line: &Line) -> Result<(), AllocError>
     requires { InRange line.now }
-    ensures { OnOk result (map unpacked pairs.new.items ≡ map unpacked pairs.old.items ++ line.now ∷ []) }
+    ensures { OnOk result (map unpacked pairs.new.items ≡ map unpacked pairs.old.items ++ line.now
+        ∷ []) }
 {
     pairs.push(pack_line(line))?;
     Ok(())
@@ -76,7 +79,8 @@ fn push_words(
 ) -> Result<(), AllocError>
     requires cells { cell + length words.now ≤ 2 ^ 31 }
     requires times { time + length words.now ≤ 2 ^ 20 }
-    ensures { OnOk result (map unpacked pairs.new.items ≡ map unpacked pairs.old.items ++ boot_from cell time words.now) }
+    ensures { OnOk result (map unpacked pairs.new.items ≡ map unpacked pairs.old.items
+        ++ boot_from cell time words.now) }
 {
     for i in 0..words.len() {
         let line = Line {
@@ -93,7 +97,8 @@ fn push_words(
 // Lines as they are.
 fn push_lines(pairs: &mut Vec<PairNum>, lines: &[Line]) -> Result<(), AllocError>
     requires { All InRange lines.now }
-    ensures { OnOk result (map unpacked pairs.new.items ≡ map unpacked pairs.old.items ++ lines.now) }
+    ensures { OnOk result (map unpacked pairs.new.items ≡ map unpacked pairs.old.items
+        ++ lines.now) }
 {
     for line in lines {
         push_line(pairs, line)?;
@@ -104,7 +109,8 @@ fn push_lines(pairs: &mut Vec<PairNum>, lines: &[Line]) -> Result<(), AllocError
 // So many lines of the null cell, the first at a time.
 fn push_padding(pairs: &mut Vec<PairNum>, time: u32, more: u32) -> Result<(), AllocError>
     requires { time + more ≤ 2 ^ 20 }
-    ensures { OnOk result (map unpacked pairs.new.items ≡ map unpacked pairs.old.items ++ padding time more) }
+    ensures { OnOk result (map unpacked pairs.new.items ≡ map unpacked pairs.old.items
+        ++ padding time more) }
 {
     for i in 0..more {
         let line = Line {

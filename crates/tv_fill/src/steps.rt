@@ -57,7 +57,8 @@ fn fill_step<const W: u32, V: Values>(
     requires near { first + 3 * i + 2 < 2 ^ 32 }
     requires range { StepInRange W n states.now aux.now pairs.now first i }
     requires whole { V.giving.broken v.old ≡ false }
-    ensures gives { GivesIn V.giving v.old v.new (told_values W n states.now aux.now pairs.now first i) result }
+    ensures gives { GivesIn V.giving v.old v.new
+        (told_values W n states.now aux.now pairs.now first i) result }
     ensures whole { OnOk result (V.giving.broken v.new ≡ false) }
 {
     let at = first + 3 * i;
@@ -86,7 +87,8 @@ pub(crate) fn fill_steps<const W: u32, V: Values>(
     requires near { first + 3 * t < 2 ^ 32 }
     requires range { (i : ℕ) → i < t → StepInRange W n states.now aux.now pairs.now first i }
     requires whole { V.giving.broken v.old ≡ false }
-    ensures gives { GivesIn V.giving v.old v.new (joined_below t (told_values W n states.now aux.now pairs.now first)) result }
+    ensures gives { GivesIn V.giving v.old v.new
+        (joined_below t (told_values W n states.now aux.now pairs.now first)) result }
     ensures whole { OnOk result (V.giving.broken v.new ≡ false) }
 {
     for i in 0..t {

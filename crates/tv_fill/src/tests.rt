@@ -48,8 +48,8 @@ fn trial<const W: u32>(alloc: Global, given: Given<'_>, net: Net) -> Result<[u32
     ])
 }
 
-/// A network, and how many wires and constraints the systems of `answer 0` have for one step over it,
-/// with words of 32 and of 16 bits.
+/// A network, and how many wires and constraints the systems of `answer 0` have for one step over
+/// it, with words of 32 and of 16 bits.
 const SIZES: [(Net, [u32; 2], [u32; 2]); 2] = [
     (Net::Benes, [1803, 1932], [1553, 1682]),
     (Net::Waksman, [1788, 1917], [1538, 1667]),
@@ -76,9 +76,9 @@ fn the_values_of_answer_0_meet_its_system(rt: HostRuntime) -> Result<(), Fail> {
     Ok(())
 }
 
-// Two words that are read and subtracted, with a third behind them; a word that is stored, a byte of
-// it that is stored over, and the word that is loaded; and, with words of 16 bits, a tape that is read
-// past its end.
+// Two words that are read and subtracted, with a third behind them; a word that is stored, a byte
+// of it that is stored over, and the word that is loaded; and, with words of 16 bits, a tape that
+// is read past its end.
 #[test]
 fn the_values_of_reads_and_stores_meet_their_systems(rt: HostRuntime) -> Result<(), Fail> {
     for net in [Net::Benes, Net::Waksman] {

@@ -18,8 +18,8 @@ use tv_core::{F, Lc, Put, Sink, Wire};
 use tv_memory::memory;
 
 /// Puts the system of a program's runs of `t` steps on primary tapes of `n` words, over a network.
-/// The sink has the constant wire and the public ones, which are the answer's and the tape's, and no
-/// constraint. Nothing is kept, and no memory is taken.
+/// The sink has the constant wire and the public ones, which are the answer's and the tape's, and
+/// no constraint. Nothing is kept, and no memory is taken.
 pub fn emit_system<const W: u32, S: Sink>(
     image: &[u32],
     n: u32,
@@ -31,8 +31,10 @@ pub fn emit_system<const W: u32, S: Sink>(
     requires begins { S.meaning.wires s.old ≡ 2 + n }
     requires empty { S.meaning.constraints s.old ≡ 0 }
     requires whole { S.meaning.broken s.old ≡ false }
-    ensures puts { PutsIn S.meaning s.old s.new (layout_of (block_of W) W net image.now n t) result }
-    ensures grows { IfOk result (λ _. Grows S.meaning s.old s.new (system_made W net image.now n t) (system_added W net image.now n t)) }
+    ensures puts { PutsIn S.meaning s.old s.new (layout_of (block_of W) W net image.now n t)
+        result }
+    ensures grows { IfOk result (λ _. Grows S.meaning s.old s.new (system_made W net image.now n t)
+        (system_added W net image.now n t)) }
 {
     words::<W, S>(s, 2, n)?;
     let none = none(s)?;

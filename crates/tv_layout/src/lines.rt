@@ -55,7 +55,9 @@ fn step_line<const W: u32>(n: u32, time: u32, j: u32) -> LineLc
     requires few { n ≤ TAPE_WORDS }
     requires some { j < 3 * STEPS }
     requires times { time + j + 3 < 2 ^ 32 }
-    ensures is { result ≡ line_in (block_wires W (state_before W (none_at W n) (first_at W n) (j / 3)) (time + 3 * (j / 3)) (first_at W n + j / 3 * block_made W)).lines (j % 3) }
+    ensures is { result ≡ line_in (block_wires W
+        (state_before W (none_at W n) (first_at W n) (j / 3)) (time + 3 * (j / 3))
+        (first_at W n + j / 3 * block_made W)).lines (j % 3) }
     ensures short { IsShort result }
 {
     let step = j / 3;

@@ -26,8 +26,8 @@ pub fn sizes<const W: u32>(image: &[u32], n: u32, t: u32, net: Net) -> Counts
     }
 }
 
-/// Puts a system into a sink that counts, which so shows of each combination that it has at most 128
-/// terms, over wires below the system's number of them. It takes as long as to put the system.
+/// Puts a system into a sink that counts, which so shows of each combination that it has at most
+/// 128 terms, over wires below the system's number of them. It takes as long as to put the system.
 pub fn count_system<const W: u32>(image: &[u32], n: u32, t: u32, net: Net) -> CountSink
     requires { WithinLimits W image.now n t }
     ensures wires { result.wires ≡ (system_of W net image.now n t).wires }

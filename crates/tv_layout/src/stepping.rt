@@ -39,8 +39,10 @@ pub(crate) fn steps<const W: u32, S: Sink>(s: &mut S, n: u32, t: u32, none: Wire
     requires width { IsWidth W }
     requires room { Room S.meaning s.old (t * block_made W) (t * block_added W) }
     requires none_made { none < S.meaning.wires s.old }
-    ensures puts { (time : ℕ) → PutsIn S.meaning s.old s.new (steps_of (block_of W) n time t none) result }
-    ensures grows { IfOk result (λ _. Grows S.meaning s.old s.new (t * block_made W) (t * block_added W)) }
+    ensures puts { (time : ℕ) → PutsIn S.meaning s.old s.new (steps_of (block_of W) n time t none)
+        result }
+    ensures grows { IfOk result (λ _. Grows S.meaning s.old s.new (t * block_made W)
+        (t * block_added W)) }
     ensures below { IfOk result (λ last. ReachedUnder (S.meaning.wires s.new) last) }
 {
     let mut last = before_steps(none);

@@ -3,7 +3,8 @@ ghost use Rattle.tv_core.specs.Combinations.{top};
 ghost use Rattle.tv_core.specs.Giving.{GivesIn};
 ghost use Rattle.tv_core.specs.Sinks.{PutsIn, Grows, Room};
 ghost use Rattle.tv_word.specs.Widths.{IsWidth};
-ghost use Rattle.tv_limb.specs.Difference.{difference, borrow, less_borrow, difference_of_words, sub_of, sub_values, SubIsSound, SubIsComplete, SubSizes};
+ghost use Rattle.tv_limb.specs.Difference.{difference, borrow, less_borrow, difference_of_words};
+ghost use Rattle.tv_limb.specs.Difference.{sub_of, sub_values, SubIsSound, SubIsComplete, SubSizes};
 
 use crate::parts::{Split, split_at_word};
 use tv_bits::{Bits, fill_bits, new_bits};

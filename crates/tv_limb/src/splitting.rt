@@ -2,7 +2,8 @@ ghost use Rattle.std.specs.Prelude.{◌≡◌, ◌+◌, ◌-◌, ◌≤◌, fals
 ghost use Rattle.tv_core.specs.Combinations.{top};
 ghost use Rattle.tv_core.specs.Giving.{GivesIn};
 ghost use Rattle.tv_core.specs.Sinks.{PutsIn, Grows, Room};
-ghost use Rattle.tv_limb.specs.Split.{split_of, split_values, SplitIsSound, SplitIsComplete, SplitSizes};
+ghost use Rattle.tv_limb.specs.Split.{split_of, split_values, SplitIsSound, SplitIsComplete};
+ghost use Rattle.tv_limb.specs.Split.{SplitSizes};
 
 use crate::parts::{Split, split_at_word};
 use tv_bits::{bits, fill_bits};
@@ -21,7 +22,8 @@ pub fn split<const W: u32, S: Sink>(s: &mut S, x: &Lc, n: u32) -> Put<Split>
     ensures low_size { IfOk result (λ parts. parts.low.n ≡ W) }
     ensures high_size { IfOk result (λ parts. parts.high.n ≡ n - W) }
     ensures low_below { IfOk result (λ parts. parts.low.first + W ≤ S.meaning.wires s.new) }
-    ensures high_below { IfOk result (λ parts. parts.high.first + parts.high.n ≤ S.meaning.wires s.new) }
+    ensures high_below { IfOk result (λ parts. parts.high.first + parts.high.n
+        ≤ S.meaning.wires s.new) }
 {
     let made = bits(s, x, n)?;
     Ok(split_at_word::<W>(made))

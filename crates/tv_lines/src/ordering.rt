@@ -1,9 +1,14 @@
-ghost use Rattle.std.specs.Prelude.{◌≡◌, ◌+◌, ◌-◌, ◌≤◌, ◌<◌, ◌^◌, [], ◌∷◌, ◌++◌, false, length, IfOk, OnOk};
+ghost use Rattle.std.specs.Prelude.{◌≡◌, ◌+◌, ◌-◌, ◌≤◌, ◌<◌, ◌^◌, [], ◌∷◌, ◌++◌, false, length};
+ghost use Rattle.std.specs.Prelude.{IfOk, OnOk};
 ghost use Rattle.tv_core.specs.Combinations.{less, top};
 ghost use Rattle.tv_core.specs.Giving.{GivesIn};
 ghost use Rattle.tv_core.specs.Sinks.{PutsIn, Grows, Room};
 ghost use Rattle.tv_lines.specs.Packing.{line_of};
-ghost use Rattle.tv_lines.specs.SortedPair.{apart_of, carried_of, size_of, size_values, sorted_pair_of, sorted_pair_values, first_line_of, SortedPairIsSound, SortedPairIsComplete, SortedPairSizes, FirstLineIsSound, FirstLineIsComplete, FirstLineSizes, NeighboursAreOrdered};
+ghost use Rattle.tv_lines.specs.SortedPair.{apart_of, carried_of, size_of, size_values};
+ghost use Rattle.tv_lines.specs.SortedPair.{sorted_pair_of, sorted_pair_values, first_line_of};
+ghost use Rattle.tv_lines.specs.SortedPair.{SortedPairIsSound, SortedPairIsComplete};
+ghost use Rattle.tv_lines.specs.SortedPair.{SortedPairSizes, FirstLineIsSound, FirstLineIsComplete};
+ghost use Rattle.tv_lines.specs.SortedPair.{FirstLineSizes, NeighboursAreOrdered};
 ghost use Rattle.tv_lines.specs.Unpacking.{HasWidths, AreMade};
 
 use crate::rising::{CHUNK, fill_rises, rises, size};
@@ -86,7 +91,8 @@ pub fn first_line<S: Sink>(s: &mut S, line: &LineBits) -> Put<()>
 /// Gives the values of the wires that `sorted_pair` makes for these lines.
 pub fn fill_sorted_pair<V: Values>(v: &mut V, before: &LineNum, after: &LineNum) -> Put<()>
     requires { V.giving.broken v.old ≡ false }
-    ensures gives { GivesIn V.giving v.old v.new (sorted_pair_values (line_of before.now) (line_of after.now)) result }
+    ensures gives { GivesIn V.giving v.old v.new
+        (sorted_pair_values (line_of before.now) (line_of after.now)) result }
     ensures whole { OnOk result (V.giving.broken v.new ≡ false) }
 {
     let apart = after.cell - before.cell;

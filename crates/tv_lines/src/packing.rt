@@ -1,6 +1,7 @@
 ghost use Rattle.std.specs.Prelude.{◌≡◌, ◌+◌, ◌*◌, ◌/◌, ◌%◌, ◌^◌, ◌<◌, ◌≤◌, length, max};
 ghost use Rattle.tv_core.specs.Combinations.{top};
-ghost use Rattle.tv_lines.specs.Packing.{joined, line_of, pack, packed, unpacked, PackIsRight, PackIsOneToOne};
+ghost use Rattle.tv_lines.specs.Packing.{joined, line_of, pack, packed, unpacked, PackIsRight};
+ghost use Rattle.tv_lines.specs.Packing.{PackIsOneToOne};
 
 use tv_core::{F, Lc, Line, LineLc, LineNum, Pair, PairNum};
 

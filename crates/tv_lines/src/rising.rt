@@ -1,11 +1,13 @@
-ghost use Rattle.std.specs.Prelude.{◌≡◌, ◌+◌, ◌-◌, ◌≤◌, ◌<◌, ◌^◌, [], ◌∷◌, ◌++◌, false, length, max, IfOk, OnOk};
+ghost use Rattle.std.specs.Prelude.{◌≡◌, ◌+◌, ◌-◌, ◌≤◌, ◌<◌, ◌^◌, [], ◌∷◌, ◌++◌, false, length};
+ghost use Rattle.std.specs.Prelude.{max, IfOk, OnOk};
 ghost use Rattle.tv_bits.specs.Order.{first_difference, prefix_difference};
 ghost use Rattle.tv_bits.specs.Prefixes.{products_values};
 ghost use Rattle.tv_core.specs.Combinations.{less, top, wire};
 ghost use Rattle.tv_core.specs.Giving.{GivesIn};
 ghost use Rattle.tv_core.specs.Sinks.{PutsIn, Grows, Room};
 ghost use Rattle.tv_lines.specs.Packing.{line_of};
-ghost use Rattle.tv_lines.specs.SortedPair.{bits_from, prefix_less, prefix_less_in, factor_in, rises_of, size};
+ghost use Rattle.tv_lines.specs.SortedPair.{bits_from, prefix_less, prefix_less_in, factor_in};
+ghost use Rattle.tv_lines.specs.SortedPair.{rises_of, size};
 ghost use Rattle.tv_lines.specs.Unpacking.{HasWidths, AreMade, key_end};
 
 use crate::rows::LineBits;
@@ -38,7 +40,8 @@ pub(crate) fn rises<S: Sink>(
     requires after_made { AreMade after.now (S.meaning.wires s.old) }
     requires apart_made { apart < S.meaning.wires s.old }
     requires size_made { size < S.meaning.wires s.old }
-    ensures puts { PutsIn S.meaning s.old s.new (rises_of 11 3 2 apart size before.now after.now) result }
+    ensures puts { PutsIn S.meaning s.old s.new (rises_of 11 3 2 apart size before.now after.now)
+        result }
     ensures grows { IfOk result (λ _. Grows S.meaning s.old s.new 3 4) }
 {
     let mut product = Lc::empty();
@@ -62,7 +65,8 @@ fn fill_factor(lc: &mut Lc, j: u32, apart: Wire, size: Wire, before: &LineBits, 
     requires before_made { AreMade before.now (2 ^ 32 - 1) }
     requires after_made { AreMade after.now (2 ^ 32 - 1) }
     ensures terms { lc.new ≡ less (prefix_less 11 3 apart before.now after.now j) (wire size) }
-    ensures top { top lc.new ≤ max (max (apart + 1) (size + 1)) (max (key_end before.now) (key_end after.now)) }
+    ensures top { top lc.new ≤ max (max (apart + 1) (size + 1))
+        (max (key_end before.now) (key_end after.now)) }
 {
     lc.clear();
     plus_prefix(lc, j, apart, before, after);
@@ -106,9 +110,11 @@ fn plus_key(lc: &mut Lc, apart: Wire, before: &Bits, after: &Bits, from: u32)
     requires after_long { after.now.n ≡ 20 }
     requires before_made { before.now.first + 20 < 2 ^ 32 }
     requires after_made { after.now.first + 20 < 2 ^ 32 }
-    ensures terms { lc.new ≡ less ((2 ^ (20 - from), apart) ∷ bits_from after.now from) (bits_from before.now from) }
+    ensures terms { lc.new ≡ less ((2 ^ (20 - from), apart) ∷ bits_from after.now from)
+        (bits_from before.now from) }
     ensures len { length lc.new ≤ 41 }
-    ensures top { top lc.new ≤ max (apart + 1) (max (before.now.first + 20) (after.now.first + 20)) }
+    ensures top { top lc.new ≤ max (apart + 1)
+        (max (before.now.first + 20) (after.now.first + 20)) }
 {
     lc.plus(F::of(1 << (TIME_BITS - from)), apart);
     plus_less(lc, before, after, from);
@@ -125,7 +131,8 @@ fn plus_less(lc: &mut Lc, before: &Bits, after: &Bits, from: u32)
     requires room { length lc.old ≤ 1 }
     ensures terms { lc.new ≡ less (lc.old ++ bits_from after.now from) (bits_from before.now from) }
     ensures len { length lc.new ≤ length lc.old + after.now.n + before.now.n }
-    ensures top { top lc.new ≤ max (top lc.old) (max (before.now.first + before.now.n) (after.now.first + after.now.n)) }
+    ensures top { top lc.new ≤ max (top lc.old)
+        (max (before.now.first + before.now.n) (after.now.first + after.now.n)) }
 {
     after.above(from).plus_to(lc, F::ONE);
     before.above(from).plus_to(lc, -F::ONE);
@@ -134,7 +141,8 @@ fn plus_less(lc: &mut Lc, before: &Bits, after: &Bits, from: u32)
 // Gives the values of the wires that `rises` makes.
 pub(crate) fn fill_rises<V: Values>(v: &mut V, before: &LineNum, after: &LineNum) -> Put<()>
     requires { V.giving.broken v.old ≡ false }
-    ensures gives { GivesIn V.giving v.old v.new (products_values (factor_in (line_of before.now) (line_of after.now)) 5) result }
+    ensures gives { GivesIn V.giving v.old v.new
+        (products_values (factor_in (line_of before.now) (line_of after.now)) 5) result }
     ensures whole { OnOk result (V.giving.broken v.new ≡ false) }
 {
     let size = size(before, after);

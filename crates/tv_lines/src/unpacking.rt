@@ -3,7 +3,8 @@ ghost use Rattle.tv_core.specs.Combinations.{top};
 ghost use Rattle.tv_core.specs.Giving.{GivesIn};
 ghost use Rattle.tv_core.specs.Sinks.{PutsIn, Grows, Room};
 ghost use Rattle.tv_lines.specs.Packing.{UnpackUndoesPack};
-ghost use Rattle.tv_lines.specs.Unpacking.{HasWidths, AreMade, line_bits, unpack_of, unpack_values, UnpackIsSound, UnpackIsComplete, UnpackSizes};
+ghost use Rattle.tv_lines.specs.Unpacking.{HasWidths, AreMade, line_bits, unpack_of, unpack_values};
+ghost use Rattle.tv_lines.specs.Unpacking.{UnpackIsSound, UnpackIsComplete, UnpackSizes};
 
 use crate::rows::LineBits;
 use tv_bits::{Bits, bits, fill_bits};

@@ -1,9 +1,11 @@
-ghost use Rattle.std.specs.Prelude.{◌≡◌, ◌+◌, ◌-◌, ◌*◌, ◌/◌, ◌^◌, ◌<◌, ◌≤◌, false, length, max, IfOk, OnOk};
+ghost use Rattle.std.specs.Prelude.{◌≡◌, ◌+◌, ◌-◌, ◌*◌, ◌/◌, ◌^◌, ◌<◌, ◌≤◌, false, length, max};
+ghost use Rattle.std.specs.Prelude.{IfOk, OnOk};
 ghost use Rattle.tv_core.specs.Below.{each_below};
 ghost use Rattle.tv_core.specs.Combinations.{top, wire};
 ghost use Rattle.tv_core.specs.Giving.{GivesIn};
 ghost use Rattle.tv_core.specs.Sinks.{PutsIn, Grows, Room};
-ghost use Rattle.tv_logic.specs.Ands.{pair_in, and_pair_of, new_and_pair_of, lowest_pair, and_of, and_values, pair_values};
+ghost use Rattle.tv_logic.specs.Ands.{pair_in, and_pair_of, new_and_pair_of, lowest_pair, and_of};
+ghost use Rattle.tv_logic.specs.Ands.{and_values, pair_values};
 ghost use Rattle.tv_word.specs.Widths.{IsWidth};
 
 use tv_bits::{Bits, two_ands};

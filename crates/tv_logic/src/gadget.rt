@@ -1,7 +1,8 @@
 ghost use Rattle.std.specs.Prelude.{◌≡◌, ◌+◌, ◌/◌, ◌≤◌, ◌<◌, ◌^◌, false, IfOk, OnOk};
 ghost use Rattle.tv_core.specs.Giving.{GivesIn};
 ghost use Rattle.tv_core.specs.Sinks.{PutsIn, Grows, Room};
-ghost use Rattle.tv_logic.specs.Logic.{logic_of, logic_values, logic_made, AreBelow, LogicIsSound, LogicIsComplete, LogicSizes};
+ghost use Rattle.tv_logic.specs.Logic.{logic_of, logic_values, logic_made, AreBelow, LogicIsSound};
+ghost use Rattle.tv_logic.specs.Logic.{LogicIsComplete, LogicSizes};
 ghost use Rattle.tv_word.specs.Widths.{IsWidth};
 
 use crate::answers::Logic;

@@ -1,8 +1,10 @@
-ghost use Rattle.std.specs.Prelude.{◌≡◌, ◌+◌, ◌-◌, ◌/◌, ◌^◌, ◌<◌, ◌≤◌, false, length, max, IfOk, OnOk};
+ghost use Rattle.std.specs.Prelude.{◌≡◌, ◌+◌, ◌-◌, ◌/◌, ◌^◌, ◌<◌, ◌≤◌, false, length, max, IfOk};
+ghost use Rattle.std.specs.Prelude.{OnOk};
 ghost use Rattle.tv_core.specs.Combinations.{top};
 ghost use Rattle.tv_core.specs.Giving.{GivesIn};
 ghost use Rattle.tv_core.specs.Sinks.{PutsIn, Grows, Room};
-ghost use Rattle.tv_logic.specs.Words.{bits_turned, hold_of, sum_less, complement, logic_words_of, word_values};
+ghost use Rattle.tv_logic.specs.Words.{bits_turned, hold_of, sum_less, complement, logic_words_of};
+ghost use Rattle.tv_logic.specs.Words.{word_values};
 ghost use Rattle.tv_word.specs.Widths.{IsWidth};
 
 use crate::ands::{and_word, fill_and};

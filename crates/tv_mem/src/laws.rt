@@ -1,5 +1,7 @@
 //! How the words of memory and its bytes go together, as laws of the definitions.
-ghost use Rattle.tv_mem.specs.Words.{WordsAreSmall, ByteOfWord, WordAfterByte, WordAfterWord, OthersAfterByte, OthersAfterWord, BytesAfterByte, BytesAfterWord};
+ghost use Rattle.tv_mem.specs.Words.{WordsAreSmall, ByteOfWord, WordAfterByte, WordAfterWord};
+ghost use Rattle.tv_mem.specs.Words.{OthersAfterByte, OthersAfterWord, BytesAfterByte};
+ghost use Rattle.tv_mem.specs.Words.{BytesAfterWord};
 
 /// A word of memory is below 2^W, and each of its bytes is the byte at its address.
 #[tactic(auto, using(crate::proofs::WordLaws::words_are_small, crate::proofs::WordLaws::byte_of_word))]

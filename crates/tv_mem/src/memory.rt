@@ -1,4 +1,5 @@
-ghost use Rattle.std.specs.Prelude.{◌≡◌, ◌+◌, ◌^◌, ◌<◌, ◌*◌, ◌/◌, ◌||◌, ◌==◌, false, OnOk, OnErr, IsOk, IsTrue, ℕ};
+ghost use Rattle.std.specs.Prelude.{◌≡◌, ◌+◌, ◌^◌, ◌<◌, ◌*◌, ◌/◌, ◌||◌, ◌==◌, false, OnOk, OnErr};
+ghost use Rattle.std.specs.Prelude.{IsOk, IsTrue, ℕ};
 ghost use Rattle.tv_word.specs.Widths.{IsWidth};
 ghost use Rattle.tv_mem.specs.Bytes.{with_byte, with_word, word_in};
 ghost use Rattle.tv_mem.specs.Pages.{bytes_in, is_held};
@@ -7,8 +8,8 @@ use crate::pages::{PAGE, Table, half_on, low_bytes, page, word_on, write};
 use std::alloc::{AllocError, Global};
 use tv_word::word_bytes;
 
-/// A memory of 2^32 bytes, all 0 at first. It keeps those pages of 4,096 bytes that were written, in a
-/// table of tables of 1,024 pages, so that a page is found in constant time.
+/// A memory of 2^32 bytes, all 0 at first. It keeps those pages of 4,096 bytes that were written,
+/// in a table of tables of 1,024 pages, so that a page is found in constant time.
 #[derive(Drop)]
 pub struct Memory {
     alloc: Global,
@@ -131,7 +132,8 @@ impl Memory {
     pub fn store_byte(&mut self, at: u32, value: u8) -> Result<(), AllocError>
         ensures ok { OnOk result (bytes_in self.new ≡ with_byte (bytes_in self.old) at value) }
         ensures err { OnErr result (bytes_in self.new ≡ bytes_in self.old) }
-        ensures held { OnOk result ((page : ℕ) → is_held self.new page ≡ ((page / 4096 == at / 4096) || is_held self.old page)) }
+        ensures held { OnOk result ((page : ℕ) → is_held self.new page
+            ≡ ((page / 4096 == at / 4096) || is_held self.old page)) }
         ensures kept { OnErr result ((page : ℕ) → is_held self.new page ≡ is_held self.old page) }
         ensures free { IsTrue (is_held self.old at) → IsOk result }
     {
@@ -144,9 +146,11 @@ impl Memory {
     #[tactic(auto, using(crate::proofs::StoreLaws::word_stored, crate::proofs::StoreLaws::page_held, crate::proofs::StoreLaws::bytes_unchanged, crate::proofs::StoreLaws::held_unchanged), unfolding(crate::specs::Pages::bytes_in, crate::specs::Pages::is_held))]
     pub fn store_word<const W: u32>(&mut self, at: u32, word: u32) -> Result<(), AllocError>
         requires width { IsWidth W }
-        ensures ok { OnOk result (bytes_in self.new ≡ with_word W (bytes_in self.old) (at / (W / 8)) word) }
+        ensures ok { OnOk result (bytes_in self.new
+            ≡ with_word W (bytes_in self.old) (at / (W / 8)) word) }
         ensures err { OnErr result (bytes_in self.new ≡ bytes_in self.old) }
-        ensures held { OnOk result ((page : ℕ) → is_held self.new page ≡ ((page / 4096 == at / 4096) || is_held self.old page)) }
+        ensures held { OnOk result ((page : ℕ) → is_held self.new page
+            ≡ ((page / 4096 == at / 4096) || is_held self.old page)) }
         ensures kept { OnErr result ((page : ℕ) → is_held self.new page ≡ is_held self.old page) }
         ensures free { IsTrue (is_held self.old at) → IsOk result }
     {

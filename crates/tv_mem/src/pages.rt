@@ -1,11 +1,13 @@
 //! The pages that are held, in tables by their numbers.
-ghost use Rattle.std.specs.Prelude.{◌≡◌, ◌+◌, ◌/◌, ◌%◌, ◌^◌, ◌<◌, ◌≤◌, IsOk, IsTrue, is_some, OnOk, OnErr, false, length, slice_index, ℕ};
+ghost use Rattle.std.specs.Prelude.{◌≡◌, ◌+◌, ◌/◌, ◌%◌, ◌^◌, ◌<◌, ◌≤◌, IsOk, IsTrue, is_some, OnOk};
+ghost use Rattle.std.specs.Prelude.{OnErr, false, length, slice_index, ℕ};
 ghost use Rattle.std.specs.Box.{box_value};
 ghost use Rattle.std.specs.Option.{option_copied};
 ghost use Rattle.tv_word.specs.Widths.{IsWidth};
 ghost use Rattle.tv_word.specs.Word.{spelled, word_bytes};
 ghost use Rattle.tv_mem.specs.Bytes.{bytes_from};
-ghost use Rattle.tv_mem.specs.Pages.{page_of, page_in, page_bytes, page_with, Changes, Same, Writes, WritesIn};
+ghost use Rattle.tv_mem.specs.Pages.{page_of, page_in, page_bytes, page_with, Changes, Same};
+ghost use Rattle.tv_mem.specs.Pages.{Writes, WritesIn};
 
 use std::alloc::{AllocError, Global};
 
@@ -77,7 +79,8 @@ pub fn write(
     bytes: &[u8],
 ) -> Result<(), AllocError>
     requires within { at % 4096 + length bytes.now ≤ 4096 }
-    ensures ok { OnOk result (Writes (page_in tables.old.items) (page_in tables.new.items) at bytes.now) }
+    ensures ok { OnOk result (Writes (page_in tables.old.items) (page_in tables.new.items) at
+        bytes.now) }
     ensures err { OnErr result (Same (page_in tables.old.items) (page_in tables.new.items)) }
     ensures free { IsTrue (is_some (page_in tables.old.items (at / 4096))) → IsOk result }
 {
@@ -107,8 +110,8 @@ fn make_tables(alloc: Global, tables: &mut Vec<Table>, number: usize) -> Result<
     Ok(())
 }
 
-// Writes bytes at an offset of the page in a place of a table. A page that isn't held is made first;
-// where memory for it is refused, nothing changes.
+// Writes bytes at an offset of the page in a place of a table. A page that isn't held is made
+// first; where memory for it is refused, nothing changes.
 fn write_in(
     alloc: Global,
     table: &mut Table,
@@ -118,7 +121,8 @@ fn write_in(
 ) -> Result<(), AllocError>
     requires place { place < 2 ^ 32 }
     requires within { offset + length bytes.now ≤ 4096 }
-    ensures ok { OnOk result (WritesIn (page_of table.old) (page_of table.new) place offset bytes.now) }
+    ensures ok { OnOk result (WritesIn (page_of table.old) (page_of table.new) place offset
+        bytes.now) }
     ensures err { OnErr result (Same (page_of table.old) (page_of table.new)) }
     ensures free { IsTrue (is_some (page_of table.old place)) → IsOk result }
 {
@@ -135,7 +139,8 @@ fn write_in(
 fn write_held(table: &mut Table, place: usize, offset: usize, bytes: &[u8]) -> bool
     requires within { offset + length bytes.now ≤ 4096 }
     ensures held { result ≡ is_some (page_of table.old place) }
-    ensures written { IsTrue result → Changes (page_of table.old) (page_of table.new) place (page_with (page_bytes (page_of table.old place)) offset bytes.now) }
+    ensures written { IsTrue result → Changes (page_of table.old) (page_of table.new) place
+        (page_with (page_bytes (page_of table.old place)) offset bytes.now) }
     ensures whole { IsTrue result → length (page_bytes (page_of table.old place)) ≡ 4096 }
     ensures same { result ≡ false → Same (page_of table.old) (page_of table.new) }
 {
@@ -161,7 +166,8 @@ fn overwrite(page: &mut [u8; 4096], offset: usize, bytes: &[u8])
 #[tactic(auto, using(crate::proofs::PageLaws::changes))]
 fn keep(table: &mut Table, place: usize, page: Box<[u8; 4096]>) -> Result<(), AllocError>
     requires { place < 2 ^ 32 }
-    ensures ok { OnOk result (Changes (page_of table.old) (page_of table.new) place (box_value page)) }
+    ensures ok { OnOk result (Changes (page_of table.old) (page_of table.new) place
+        (box_value page)) }
     ensures err { OnErr result (Same (page_of table.old) (page_of table.new)) }
 {
     make_places(table, place)?;

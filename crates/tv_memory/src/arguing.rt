@@ -4,7 +4,8 @@ ghost use Rattle.tv_benes.specs.declared.shape.Net.{Net};
 ghost use Rattle.tv_core.specs.Loops.{times};
 ghost use Rattle.tv_core.specs.Sinks.{PutsIn, Grows, Room};
 ghost use Rattle.tv_memory.specs.Argument.{ArgumentIsSound, ArgumentIsComplete};
-ghost use Rattle.tv_memory.specs.Memory.{IsMade, bits_at, unpack_one, neighbours_of, sorted_of, memory_of, memory_made, memory_added, OrderedIsMet};
+ghost use Rattle.tv_memory.specs.Memory.{IsMade, bits_at, unpack_one, neighbours_of, sorted_of};
+ghost use Rattle.tv_memory.specs.Memory.{memory_of, memory_made, memory_added, OrderedIsMet};
 ghost use Rattle.tv_memory.specs.Order.{memory_values};
 
 use crate::lines::{Lines, Packed};
@@ -23,7 +24,8 @@ pub fn memory<S: Sink, L: Lines>(s: &mut S, net: Net, k: u32, lines: &L) -> Put<
     requires room { Room S.meaning s.old (memory_made net k) (memory_added net k) }
     requires made { All (IsMade (S.meaning.wires s.old)) (L.lines lines.now) }
     ensures puts { PutsIn S.meaning s.old s.new (memory_of net k (L.lines lines.now)) result }
-    ensures grows { IfOk result (λ _. Grows S.meaning s.old s.new (memory_made net k) (memory_added net k)) }
+    ensures grows { IfOk result (λ _. Grows S.meaning s.old s.new (memory_made net k)
+        (memory_added net k)) }
 {
     let last = routing_network(s, net, k, &Packed { lines })?;
     let first = Wire(s.wires());
@@ -44,7 +46,8 @@ fn line_count(k: u32) -> u32
 fn unpack_all<S: Sink>(s: &mut S, n: u32, pairs: &Outputs) -> Put<()>
     requires room { Room S.meaning s.old (n * 115) (n * 117) }
     requires made { AreBelow pairs.now n (S.meaning.wires s.old) }
-    ensures puts { PutsIn S.meaning s.old s.new (times n (λ i. unpack_one (output pairs.now i))) result }
+    ensures puts { PutsIn S.meaning s.old s.new (times n (λ i. unpack_one (output pairs.now i)))
+        result }
     ensures grows { IfOk result (λ _. Grows S.meaning s.old s.new (n * 115) (n * 117)) }
 {
     for i in 0..n {
@@ -59,7 +62,8 @@ fn sort_all<S: Sink>(s: &mut S, n: u32, first: Wire) -> Put<()>
     requires room { Room S.meaning s.old ((n - 1) * 18) (1 + (n - 1) * 20) }
     requires made { first + n * 115 ≤ S.meaning.wires s.old }
     ensures puts { PutsIn S.meaning s.old s.new (sorted_of n first) result }
-    ensures grows { IfOk result (λ _. Grows S.meaning s.old s.new ((n - 1) * 18) (1 + (n - 1) * 20)) }
+    ensures grows { IfOk result (λ _. Grows S.meaning s.old s.new ((n - 1) * 18)
+        (1 + (n - 1) * 20)) }
 {
     first_line(s, &bits_at(first, 0))?;
     sort_neighbours(s, n - 1, first)
@@ -97,7 +101,8 @@ pub fn memory_is_sound()
 /// below P, with which an assignment meets what `memory` put: those of their address order and of
 /// its settings.
 pub fn memory_is_complete()
-    ensures { (net : Net) → ArgumentIsComplete (memory_of net) (memory_values net) (memory_made net) }
+    ensures { (net : Net) → ArgumentIsComplete (memory_of net) (memory_values net)
+        (memory_made net) }
 {}
 
 /// Where the lines at some places are in address order, and bits send these places through the

@@ -27,7 +27,9 @@ pub fn fill_memory<V: Values>(
     requires pairs { length pairs.now ≡ 2 ^ k }
     requires order { length order.now ≡ 2 ^ k }
     requires within { All (λ place. place < 2 ^ k) order.now }
-    ensures gives { GivesIn V.giving v.old v.new (level_values net (k - 1) (place_at order.now) (bit_at bits.now) (map unpacked pairs.now)) result }
+    ensures gives { GivesIn V.giving v.old v.new
+        (level_values net (k - 1) (place_at order.now) (bit_at bits.now) (map unpacked pairs.now))
+        result }
     ensures whole { OnOk result (V.giving.broken v.new ≡ false) }
 {
     fill_routing_network(v, net, k, pairs, bits)?;
@@ -39,7 +41,9 @@ pub fn fill_memory<V: Values>(
 fn fill_bits_of_lines<V: Values>(v: &mut V, pairs: &[PairNum], order: &[u32]) -> Put<()>
     requires whole { V.giving.broken v.old ≡ false }
     requires within { All (λ place. place < length pairs.now) order.now }
-    ensures gives { GivesIn V.giving v.old v.new (joined_below (length order.now) (unpack_values_at (map unpacked pairs.now) (place_at order.now))) result }
+    ensures gives { GivesIn V.giving v.old v.new
+        (joined_below (length order.now) (unpack_values_at (map unpacked pairs.now)
+        (place_at order.now))) result }
     ensures whole { OnOk result (V.giving.broken v.new ≡ false) }
 {
     for i in 0..order.len() {
@@ -53,7 +57,9 @@ fn fill_neighbours<V: Values>(v: &mut V, pairs: &[PairNum], order: &[u32]) -> Pu
     requires whole { V.giving.broken v.old ≡ false }
     requires some { 1 ≤ length order.now }
     requires within { All (λ place. place < length pairs.now) order.now }
-    ensures gives { GivesIn V.giving v.old v.new (joined_below (length order.now - 1) (pair_values_at (map unpacked pairs.now) (place_at order.now))) result }
+    ensures gives { GivesIn V.giving v.old v.new
+        (joined_below (length order.now - 1) (pair_values_at (map unpacked pairs.now)
+        (place_at order.now))) result }
     ensures whole { OnOk result (V.giving.broken v.new ≡ false) }
 {
     for i in 0..order.len() - 1 {

@@ -2,7 +2,8 @@ ghost use Rattle.std.specs.Prelude.{◌≡◌, ◌+◌, ◌*◌, ◌^◌, ◌≤
 ghost use Rattle.tv_core.specs.Giving.{GivesIn};
 ghost use Rattle.tv_core.specs.Sinks.{PutsIn, Grows, Room};
 ghost use Rattle.tv_word.specs.Widths.{IsWidth};
-ghost use Rattle.tv_muldiv.specs.Product.{product_bits_of, product_of, product_values, ProductIsSound, ProductIsComplete, ProductSizes};
+ghost use Rattle.tv_muldiv.specs.Product.{product_bits_of, product_of, product_values};
+ghost use Rattle.tv_muldiv.specs.Product.{ProductIsSound, ProductIsComplete, ProductSizes};
 
 use crate::records::Product;
 use crate::weighing::{fill_halves, long};

@@ -2,7 +2,11 @@ ghost use Rattle.std.specs.Prelude.{◌≡◌, ◌+◌, ◌*◌, ◌/◌, ◌^�
 ghost use Rattle.tv_bits.specs.Zero.{zero_flag};
 ghost use Rattle.tv_core.specs.Giving.{GivesIn};
 ghost use Rattle.tv_core.specs.Sinks.{PutsIn, Grows, Room};
-ghost use Rattle.tv_muldiv.specs.Quotient.{quotient_in, remainder_in, zero_divisor_of, quotient_wires_of, gate_of, division_of, remainder_below_of, quotient_of, gate_in, words_values, above_values, quotient_values, QuotientIsSound, QuotientIsComplete, QuotientSizes};
+ghost use Rattle.tv_muldiv.specs.Quotient.{quotient_in, remainder_in, zero_divisor_of};
+ghost use Rattle.tv_muldiv.specs.Quotient.{quotient_wires_of, gate_of, division_of};
+ghost use Rattle.tv_muldiv.specs.Quotient.{remainder_below_of, quotient_of, gate_in, words_values};
+ghost use Rattle.tv_muldiv.specs.Quotient.{above_values, quotient_values, QuotientIsSound};
+ghost use Rattle.tv_muldiv.specs.Quotient.{QuotientIsComplete, QuotientSizes};
 ghost use Rattle.tv_word.specs.Widths.{IsWidth};
 
 use crate::records::Quot;
@@ -27,7 +31,8 @@ pub fn quotient<const W: u32, S: Sink>(s: &mut S, x: &Bits, y: &Bits) -> Put<Quo
     requires x_made { x.now.first + W ≤ S.meaning.wires s.old }
     requires y_made { y.now.first + W ≤ S.meaning.wires s.old }
     ensures puts { PutsIn S.meaning s.old s.new (quotient_of W x.now y.now) result }
-    ensures grows { IfOk result (λ _. Grows S.meaning s.old s.new (2 * W + W / 4 + 4) (2 * W + W / 4 + 7)) }
+    ensures grows { IfOk result (λ _. Grows S.meaning s.old s.new (2 * W + W / 4 + 4)
+        (2 * W + W / 4 + 7)) }
     ensures sizes { IfOk result (λ made. (made.quot.n ≡ W) × (made.rem.n ≡ W)) }
     ensures quot_below { IfOk result (λ made. made.quot.first + W ≤ S.meaning.wires s.new) }
     ensures rem_below { IfOk result (λ made. made.rem.first + W ≤ S.meaning.wires s.new) }

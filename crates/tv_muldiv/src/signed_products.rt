@@ -2,7 +2,10 @@ ghost use Rattle.std.specs.Prelude.{◌≡◌, ◌+◌, ◌-◌, ◌*◌, ◌≤
 ghost use Rattle.tv_core.specs.Combinations.{top};
 ghost use Rattle.tv_core.specs.Giving.{GivesIn};
 ghost use Rattle.tv_core.specs.Sinks.{PutsIn, Grows, Room};
-ghost use Rattle.tv_muldiv.specs.SignedHigh.{signed_product, product_twos, signed_bits_of, excess, excess_in, signed_high_of, signed_high_values, SignedHighIsSound, SignedHighIsComplete, SignedHighSizes};
+ghost use Rattle.tv_muldiv.specs.SignedHigh.{signed_product, product_twos, signed_bits_of, excess};
+ghost use Rattle.tv_muldiv.specs.SignedHigh.{excess_in, signed_high_of, signed_high_values};
+ghost use Rattle.tv_muldiv.specs.SignedHigh.{SignedHighIsSound, SignedHighIsComplete};
+ghost use Rattle.tv_muldiv.specs.SignedHigh.{SignedHighSizes};
 ghost use Rattle.tv_muldiv.specs.Weighed.{signed_combination};
 ghost use Rattle.tv_word.specs.Widths.{IsWidth};
 

@@ -1,4 +1,5 @@
-//! The items that the tests send through a network: item i is the pair of the numbers i and i + 1,000,000.
+//! The items that the tests send through a network: item i is the pair of the numbers i and i +
+//! 1,000,000.
 ghost use Rattle.std.specs.Prelude.{◌≡◌, ◌+◌, ◌*◌, ◌^◌, ◌<◌, ◌≤◌, length, IfOk};
 ghost use Rattle.tv_benes.specs.Places.{wires_at};
 

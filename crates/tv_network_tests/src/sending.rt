@@ -55,8 +55,8 @@ pub fn trial(net: Net, k: u32, z: &[F]) -> Result<Outcome, Fail>
     })
 }
 
-/// Which item comes out at each place: an error where a constraint does not hold, or where the two numbers
-/// of an output are of no item.
+/// Which item comes out at each place: an error where a constraint does not hold, or where the two
+/// numbers of an output are of no item.
 pub fn sent(alloc: Global, net: Net, k: u32, bits: &[bool]) -> Result<Vec<u32>, Fail>
     requires some { 1 ≤ k }
     requires few { k ≤ 20 }

@@ -1,8 +1,8 @@
 ghost use Rattle.tv_route.specs.Permutations.{RearrangedIsPermutation};
 ghost use Rattle.tv_route.specs.Route.{RouteIsRight};
 
-/// For every permutation, what goes through a network by its settings comes out as the permutation says,
-/// and there is a bit for each switch.
+/// For every permutation, what goes through a network by its settings comes out as the permutation
+/// says, and there is a bit for each switch.
 #[tactic(auto, using(crate::proofs::RouteLaws::route_right))]
 pub fn route_is_right()
     ensures { RouteIsRight }

@@ -1,6 +1,7 @@
-//! Settings of permutation networks: for every permutation, bits of the switches for which each output is
-//! the input that the permutation names; and the test for permutations. Contracts above cite `route_of`,
-//! which is the settings as a function of the permutation, and `Permutes`, which says what one is.
+//! Settings of permutation networks: for every permutation, bits of the switches for which each
+//! output is the input that the permutation names; and the test for permutations. Contracts above
+//! cite `route_of`, which is the settings as a function of the permutation, and `Permutes`, which
+//! says what one is.
 #![tactic(auto)]
 
 mod laws;

@@ -1,4 +1,5 @@
-ghost use Rattle.std.specs.Prelude.{◌≡◌, ℕ, ◌+◌, ◌-◌, ◌*◌, ◌^◌, ◌<◌, ◌≤◌, length, get_or, slice_index, replicate, None, is_none, IfOk};
+ghost use Rattle.std.specs.Prelude.{◌≡◌, ℕ, ◌+◌, ◌-◌, ◌*◌, ◌^◌, ◌<◌, ◌≤◌, length, get_or};
+ghost use Rattle.std.specs.Prelude.{slice_index, replicate, None, is_none, IfOk};
 ghost use Rattle.tv_route.specs.Permutations.{Permutes};
 ghost use Rattle.tv_route.specs.Route.{other, partners, walk, walks, halves};
 

@@ -1,4 +1,5 @@
-ghost use Rattle.std.specs.Prelude.{◌≡◌, ℕ, suc, ◌+◌, ◌-◌, ◌*◌, ◌/◌, ◌^◌, ◌<◌, ◌≤◌, ◌++◌, if◌then◌else◌, length, slice_index, IfOk, OnOk};
+ghost use Rattle.std.specs.Prelude.{◌≡◌, ℕ, suc, ◌+◌, ◌-◌, ◌*◌, ◌/◌, ◌^◌, ◌<◌, ◌≤◌, ◌++◌};
+ghost use Rattle.std.specs.Prelude.{if◌then◌else◌, length, slice_index, IfOk, OnOk};
 ghost use Rattle.tv_benes.specs.Through.{missing, places};
 ghost use Rattle.tv_benes.specs.declared.shape.Net.TheVariants.{Benes, Waksman};
 ghost use Rattle.tv_route.specs.Permutations.{Permutes, IsRoutable};
@@ -32,9 +33,9 @@ impl Settings {
     }
 }
 
-/// Settings of Benes' network for which output i is the input at place `p[i]`, for a permutation `p` of
-/// the numbers below 2^k. It takes time linear in the number of switches; and at its peak a byte of memory
-/// for each switch, which the settings keep, and 12 bytes for each item.
+/// Settings of Benes' network for which output i is the input at place `p[i]`, for a permutation
+/// `p` of the numbers below 2^k. It takes time linear in the number of switches; and at its peak a
+/// byte of memory for each switch, which the settings keep, and 12 bytes for each item.
 pub fn route(alloc: Global, p: &[u32]) -> Result<Settings, AllocError>
     requires { IsRoutable p.now }
     ensures { IfOk result (λ settings. settings ≡ route_of Benes p.now) }
@@ -126,7 +127,8 @@ fn input(marks: &[Option<bool>], p: &[u32], j: usize, lower: bool) -> u32
     requires small { j < 2 ^ 32 }
     requires within { 2 * j + 1 < length p.now }
     requires first { slice_index p.now (2 * j) < length marks.now }
-    ensures { result ≡ (if lower then down_input marks.now p.now j else up_input marks.now p.now j) }
+    ensures { result ≡ (if lower then down_input marks.now p.now j
+        else up_input marks.now p.now j) }
 {
     let (x, y) = (p[2 * j], p[2 * j + 1]);
     let first = down(marks, x as usize);
@@ -148,7 +150,8 @@ fn inputs(
     requires small { n < 2 ^ 32 }
     requires long { length marks.now ≡ 2 * n }
     requires permutes { Permutes (2 * n) p.now }
-    ensures { IfOk result (λ v. v.items ≡ places n (λ j. (if lower then down_input marks.now p.now j else up_input marks.now p.now j) / 2)) }
+    ensures { IfOk result (λ v. v.items ≡ places n
+        (λ j. (if lower then down_input marks.now p.now j else up_input marks.now p.now j) / 2)) }
 {
     let mut found = Vec::with_capacity(alloc, n)?;
     for j in 0..n {
@@ -161,7 +164,8 @@ fn inputs(
 fn push_first(bits: &mut Vec<bool>, marks: &[Option<bool>], n: usize) -> Result<(), AllocError>
     requires small { n < 2 ^ 32 }
     requires long { length marks.now ≡ 2 * n }
-    ensures { OnOk result (bits.new.items ≡ bits.old.items ++ places n (λ j. down marks.now (2 * j))) }
+    ensures { OnOk result (bits.new.items ≡ bits.old.items
+        ++ places n (λ j. down marks.now (2 * j))) }
 {
     for j in 0..n {
         bits.push(down(marks, 2 * j))?;
@@ -181,7 +185,9 @@ fn push_last(
     requires some { 1 ≤ n }
     requires long { length marks.now ≡ 2 * n }
     requires permutes { Permutes (2 * n) p.now }
-    ensures { OnOk result (bits.new.items ≡ bits.old.items ++ places (n - missing net) (λ j. down marks.now (slice_index p.now (2 * (j + missing net))))) }
+    ensures { OnOk result (bits.new.items ≡ bits.old.items
+        ++ places (n - missing net) (λ j. down marks.now
+        (slice_index p.now (2 * (j + missing net))))) }
 {
     let left_out = missing(net);
     for j in 0..n - left_out {

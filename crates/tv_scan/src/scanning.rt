@@ -1,10 +1,12 @@
-ghost use Rattle.std.specs.Prelude.{◌≡◌, ◌+◌, ◌*◌, ◌≤◌, ◌<◌, ◌^◌, ◌∷◌, ◌++◌, ◌==◌, [], false, if◌then◌else◌, length, map, All, IfOk, OnOk};
+ghost use Rattle.std.specs.Prelude.{◌≡◌, ◌+◌, ◌*◌, ◌≤◌, ◌<◌, ◌^◌, ◌∷◌, ◌++◌, ◌==◌, [], false};
+ghost use Rattle.std.specs.Prelude.{if◌then◌else◌, length, map, All, IfOk, OnOk};
 ghost use Rattle.tv_bits.specs.Zero.{zero_values};
 ghost use Rattle.tv_core.specs.Combinations.{top};
 ghost use Rattle.tv_core.specs.Giving.{GivesIn};
 ghost use Rattle.tv_core.specs.Sinks.{PutsIn, Grows, Room};
 ghost use Rattle.tv_lines.specs.Packing.{line_of};
-ghost use Rattle.tv_scan.specs.Scan.{IsMade, look_of, scan_of, scan_values, ScanIsSound, ScanIsComplete, ScanSizes};
+ghost use Rattle.tv_scan.specs.Scan.{IsMade, look_of, scan_of, scan_values, ScanIsSound};
+ghost use Rattle.tv_scan.specs.Scan.{ScanIsComplete, ScanSizes};
 
 use tv_bits::{fill_zero, select, zero};
 use tv_core::{F, Lc, LineLc, LineNum, Put, Sink, Values, Wire};
@@ -17,7 +19,8 @@ pub fn scan<S: Sink>(s: &mut S, earlier: &[LineLc], line: &LineLc) -> Put<()>
     requires earlier_made { All (IsMade (S.meaning.wires s.old)) earlier.now }
     requires line_made { IsMade (S.meaning.wires s.old) line.now }
     ensures puts { PutsIn S.meaning s.old s.new (scan_of earlier.now line.now) result }
-    ensures grows { IfOk result (λ _. Grows S.meaning s.old s.new (3 * length earlier.now) (3 * length earlier.now + 1)) }
+    ensures grows { IfOk result (λ _. Grows S.meaning s.old s.new (3 * length earlier.now)
+        (3 * length earlier.now + 1)) }
 {
     let mut word = Lc::empty();
     for before in earlier {
@@ -48,7 +51,8 @@ fn look<S: Sink>(s: &mut S, before: &LineLc, line: &LineLc, word: &Lc) -> Put<Wi
 /// Gives the values of the wires that `scan` makes for these lines.
 pub fn fill_scan<V: Values>(v: &mut V, earlier: &[LineNum], line: &LineNum) -> Put<()>
     requires { V.giving.broken v.old ≡ false }
-    ensures gives { GivesIn V.giving v.old v.new (scan_values (map line_of earlier.now) (line_of line.now)) result }
+    ensures gives { GivesIn V.giving v.old v.new
+        (scan_values (map line_of earlier.now) (line_of line.now)) result }
     ensures whole { OnOk result (V.giving.broken v.new ≡ false) }
 {
     let mut word = F::ZERO;

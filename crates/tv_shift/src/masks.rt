@@ -1,10 +1,12 @@
-ghost use Rattle.std.specs.Prelude.{◌≡◌, ℕ, ◌+◌, ◌-◌, ◌*◌, ◌/◌, ◌%◌, ◌≤◌, ◌<◌, ◌^◌, length, max, false, IfOk, OnOk};
+ghost use Rattle.std.specs.Prelude.{◌≡◌, ℕ, ◌+◌, ◌-◌, ◌*◌, ◌/◌, ◌%◌, ◌≤◌, ◌<◌, ◌^◌, length, max};
+ghost use Rattle.std.specs.Prelude.{false, IfOk, OnOk};
 ghost use Rattle.std.specs.Int.{bit_at};
 ghost use Rattle.tv_core.specs.Combinations.{top};
 ghost use Rattle.tv_core.specs.Giving.{GivesIn};
 ghost use Rattle.tv_core.specs.Sinks.{Meaning, PutsIn, Grows, Room};
 ghost use Rattle.tv_shift.specs.declared.masks.Part.TheVariants.{Low, High};
-ghost use Rattle.tv_shift.specs.Masks.{half_log, mask_at, mask_value, digit_at, masked_pair_of, masked_of, masked_value, masked_values, AreMade};
+ghost use Rattle.tv_shift.specs.Masks.{half_log, mask_at, mask_value, digit_at, masked_pair_of};
+ghost use Rattle.tv_shift.specs.Masks.{masked_of, masked_value, masked_values, AreMade};
 ghost use Rattle.tv_shift.specs.Thermometer.{products_below};
 ghost use Rattle.tv_word.specs.Widths.{IsWidth};
 
@@ -65,7 +67,8 @@ impl Places {
         requires products_made { self.now.products + products_below (half_log W) < 2 ^ 32 }
         ensures terms { mask.new ≡ mask_at W self.now part i }
         ensures len { length mask.new ≤ 8 }
-        ensures top { top mask.new ≤ max (self.now.distance + half_log W) (self.now.products + products_below (half_log W)) }
+        ensures top { top mask.new ≤ max (self.now.distance + half_log W)
+            (self.now.products + products_below (half_log W)) }
     {
         match part {
             Part::Low => self.marks().fill_mark(mask, half_log::<W>(), i),
@@ -105,7 +108,8 @@ pub(crate) fn masked<const W: u32, S: Sink>(s: &mut S, places: &Places, part: Pa
     requires width { IsWidth W }
     requires room { Room S.meaning s.old (W / 4) (W / 4) }
     requires made { AreMade W places.now (S.meaning.wires s.old) }
-    ensures puts { PutsIn S.meaning s.old s.new (masked_of (mask_at W places.now part) (digit_at W places.now part) (W / 4)) result }
+    ensures puts { PutsIn S.meaning s.old s.new
+        (masked_of (mask_at W places.now part) (digit_at W places.now part) (W / 4)) result }
     ensures grows { IfOk result (λ _. Grows S.meaning s.old s.new (W / 4) (W / 4)) }
     ensures below { IfOk result (λ first. first + W / 4 ≤ S.meaning.wires s.new) }
 {
@@ -132,7 +136,8 @@ fn pair<const W: u32, S: Sink>(
     requires room { Room S.meaning s.old 1 1 }
     requires there { i < W / 4 }
     requires made { AreMade W places.now (S.meaning.wires s.old) }
-    ensures puts { PutsIn S.meaning s.old s.new (masked_pair_of (mask_at W places.now part) (digit_at W places.now part) (W / 4) i) result }
+    ensures puts { PutsIn S.meaning s.old s.new
+        (masked_pair_of (mask_at W places.now part) (digit_at W places.now part) (W / 4) i) result }
     ensures grows { IfOk result (λ _. Grows S.meaning s.old s.new 1 1) }
 {
     let m = [(F::ONE, s.fresh())];
@@ -182,7 +187,8 @@ pub(crate) fn half_log<const W: u32>() -> u32
 pub(crate) fn fill_masked<const W: u32, V: Values>(v: &mut V, part: Part, x: u32, s: u32) -> Put<()>
     requires width { IsWidth W }
     requires whole { V.giving.broken v.old ≡ false }
-    ensures gives { GivesIn V.giving v.old v.new (masked_values (mask_value W s part) x (W / 4)) result }
+    ensures gives { GivesIn V.giving v.old v.new (masked_values (mask_value W s part) x (W / 4))
+        result }
     ensures whole { OnOk result (V.giving.broken v.new ≡ false) }
 {
     for i in 0..W / 4 {

@@ -1,8 +1,11 @@
-ghost use Rattle.std.specs.Prelude.{◌≡◌, ◌+◌, ◌-◌, ◌*◌, ◌%◌, ◌≤◌, ◌<◌, ◌^◌, ◌++◌, length, max, false, IfOk, OnOk};
+ghost use Rattle.std.specs.Prelude.{◌≡◌, ◌+◌, ◌-◌, ◌*◌, ◌%◌, ◌≤◌, ◌<◌, ◌^◌, ◌++◌, length, max};
+ghost use Rattle.std.specs.Prelude.{false, IfOk, OnOk};
 ghost use Rattle.tv_core.specs.Combinations.{top};
 ghost use Rattle.tv_core.specs.Giving.{GivesIn};
 ghost use Rattle.tv_core.specs.Sinks.{PutsIn, Grows, Room};
-ghost use Rattle.tv_shift.specs.Thermometer.{products_below, both, mark, level_of, thermometer_of, level_value, level_values, thermometer_values, power_of};
+ghost use Rattle.tv_shift.specs.Thermometer.{products_below, both, mark, level_of, thermometer_of};
+ghost use Rattle.tv_shift.specs.Thermometer.{level_value, level_values, thermometer_values};
+ghost use Rattle.tv_shift.specs.Thermometer.{power_of};
 
 use tv_bits::times;
 use tv_core::{F, Lc, Put, Sink, Values, Wire};
@@ -38,7 +41,8 @@ impl Marks {
         requires products_made { self.now.products + products_below k < 2 ^ 32 }
         ensures terms { lc.new ≡ lc.old ++ mark self.now.bits self.now.products k j }
         ensures len { length lc.new ≤ length lc.old + 2 * k }
-        ensures top { top lc.new ≤ max (top lc.old) (max (self.now.bits + k) (self.now.products + products_below k)) }
+        ensures top { top lc.new ≤ max (top lc.old)
+            (max (self.now.bits + k) (self.now.products + products_below k)) }
     {
         if k == 0 {
             return;
@@ -84,7 +88,8 @@ pub(crate) fn power_lc(marks: &Marks, k: u32) -> Lc
     requires bits_made { marks.now.bits + k < 2 ^ 32 }
     requires products_made { marks.now.products + products_below k < 2 ^ 32 }
     ensures terms { result ≡ power_of (mark marks.now.bits marks.now.products k) (2 ^ k - 1) }
-    ensures top { top result ≤ max 1 (max (marks.now.bits + k) (marks.now.products + products_below k)) }
+    ensures top { top result ≤ max 1 (max (marks.now.bits + k)
+        (marks.now.products + products_below k)) }
 {
     let mut lc = Lc::constant(F::ONE);
     let mut mark = Lc::empty();
@@ -104,7 +109,8 @@ pub(crate) fn thermometer<S: Sink>(s: &mut S, k: u32, bits: Wire) -> Put<Wire>
     requires few { k ≤ 4 }
     requires bits_made { bits + k ≤ S.meaning.wires s.old }
     ensures puts { PutsIn S.meaning s.old s.new (thermometer_of k bits) result }
-    ensures grows { IfOk result (λ _. Grows S.meaning s.old s.new (products_below k) (products_below k)) }
+    ensures grows { IfOk result (λ _. Grows S.meaning s.old s.new (products_below k)
+        (products_below k)) }
     ensures below { IfOk result (λ products. products + products_below k ≤ S.meaning.wires s.new) }
 {
     let marks = Marks {
@@ -123,7 +129,8 @@ fn level<S: Sink>(s: &mut S, marks: &Marks, k: u32) -> Put<()>
     requires few { k ≤ 4 }
     requires bits_made { marks.now.bits + k < S.meaning.wires s.old }
     requires products_made { marks.now.products + products_below k ≤ S.meaning.wires s.old }
-    ensures puts { PutsIn S.meaning s.old s.new (level_of marks.now.bits marks.now.products k) result }
+    ensures puts { PutsIn S.meaning s.old s.new (level_of marks.now.bits marks.now.products k)
+        result }
     ensures grows { IfOk result (λ _. Grows S.meaning s.old s.new (2 ^ k - 1) (2 ^ k - 1)) }
 {
     let bit = Lc::wire(marks.bits.offset(k));

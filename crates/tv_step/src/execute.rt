@@ -1,5 +1,6 @@
 //! The 29 instructions: a method for each kind, and one that chooses.
-ghost use Rattle.std.specs.Prelude.{◌≡◌, ◌<◌, ◌^◌, [], ◌∷◌, None, All, IfSome, ◌/◌, ◌%◌, ◌==◌, Bool, IfOk, OnOk, OnErr, if◌then◌else◌};
+ghost use Rattle.std.specs.Prelude.{◌≡◌, ◌<◌, ◌^◌, [], ◌∷◌, None, All, IfSome, ◌/◌, ◌%◌, ◌==◌};
+ghost use Rattle.std.specs.Prelude.{Bool, IfOk, OnOk, OnErr, if◌then◌else◌};
 ghost use Rattle.tv_word.specs.Widths.{IsWidth};
 ghost use Rattle.tv_isa.specs.Instruction.{IsInstruction};
 ghost use Rattle.tv_mem.specs.Bytes.{with_byte, with_word, word_in};
@@ -56,7 +57,8 @@ impl<const W: u32> Machine<W> {
     fn jumps(&mut self, to: u32, taken: bool)
         requires width { IsWidth W }
         requires word { to < 2 ^ W }
-        ensures { (if taken then jumps W (state_of self.old) to else goes_on W (state_of self.old)) ≡ Next.Gone (state_of self.new) }
+        ensures { (if taken then jumps W (state_of self.old) to else goes_on W (state_of self.old))
+            ≡ Next.Gone (state_of self.new) }
     {
         self.pc = if taken {
             Counter::of(to)
@@ -68,7 +70,8 @@ impl<const W: u32> Machine<W> {
     // The byte at an address becomes `value`.
     fn stores_byte(&mut self, at: u32, value: u8) -> Result<(), AllocError>
         requires width { IsWidth W }
-        ensures ok { OnOk result (stores W (state_of self.old) (with_byte (state_of self.old).memory at value) ≡ Next.Gone (state_of self.new)) }
+        ensures ok { OnOk result (stores W (state_of self.old)
+            (with_byte (state_of self.old).memory at value) ≡ Next.Gone (state_of self.new)) }
         ensures err { OnErr result (state_of self.new ≡ state_of self.old) }
     {
         self.memory.store_byte(at, value)?;
@@ -79,7 +82,9 @@ impl<const W: u32> Machine<W> {
     // The word in which an address lies becomes `word`.
     fn stores_word(&mut self, at: u32, word: u32) -> Result<(), AllocError>
         requires width { IsWidth W }
-        ensures ok { OnOk result (stores W (state_of self.old) (with_word W (state_of self.old).memory (at / (W / 8)) word) ≡ Next.Gone (state_of self.new)) }
+        ensures ok { OnOk result (stores W (state_of self.old)
+            (with_word W (state_of self.old).memory (at / (W / 8)) word)
+            ≡ Next.Gone (state_of self.new)) }
         ensures err { OnErr result (state_of self.new ≡ state_of self.old) }
     {
         self.memory.store_word::<W>(at, word)?;
@@ -109,7 +114,8 @@ impl<const W: u32> Machine<W> {
         requires d_word { d < 2 ^ W }
         requires s_word { s < 2 ^ W }
         requires a_word { a < 2 ^ W }
-        ensures ok { IfOk result (λ outcome. CameTo (row W op (state_of self.old) i d s a) outcome (state_of self.old) (state_of self.new)) }
+        ensures ok { IfOk result (λ outcome. CameTo (row W op (state_of self.old) i d s a) outcome
+            (state_of self.old) (state_of self.new)) }
         ensures err { OnErr result (state_of self.new ≡ state_of self.old) }
     {
         match op {
@@ -195,7 +201,8 @@ impl<const W: u32> Machine<W> {
         requires width { IsWidth W }
         requires word { instr.now.a < 2 ^ W }
         requires instr { IsInstruction instr.now }
-        ensures ok { IfOk result (λ outcome. CameTo (executed W (state_of self.old) instr.now) outcome (state_of self.old) (state_of self.new)) }
+        ensures ok { IfOk result (λ outcome. CameTo (executed W (state_of self.old) instr.now)
+            outcome (state_of self.old) (state_of self.new)) }
         ensures err { OnErr result (state_of self.new ≡ state_of self.old) }
     {
         let d = self.word_in(instr.dest);

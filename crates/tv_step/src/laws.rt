@@ -1,8 +1,14 @@
 //! Laws of the definitions: what steps and runs keep and take.
-ghost use Rattle.tv_step.specs.Cells.{LinesAreThreeAStep, StatesAreOneMore, LinesByPlace, StatesByPlace, TimesFollow, LinesInRange, OldsAreInCells, StepWritesItsLine, OnlyStoresWrite, BootLeavesTheStart, LinesLeaveTheState, LinesAreHonest};
-ghost use Rattle.tv_step.specs.Range.{StartInRange, StepKeepsRange, RunKeepsRange, AnswerIsWord, OperandIsWord};
-ghost use Rattle.tv_step.specs.Reads.{TapesAreLeft, TakenAreTheFront, TakenByCounts, EndedStays, EndedTakesNothing};
-ghost use Rattle.tv_step.specs.Runs.{AnswerIsWithin, EndAnswers, LastAnswers, StepsAtTheEnd, StepsAtTheFront, AnswerStays};
+ghost use Rattle.tv_step.specs.Cells.{LinesAreThreeAStep, StatesAreOneMore, LinesByPlace};
+ghost use Rattle.tv_step.specs.Cells.{StatesByPlace, TimesFollow, LinesInRange, OldsAreInCells};
+ghost use Rattle.tv_step.specs.Cells.{StepWritesItsLine, OnlyStoresWrite, BootLeavesTheStart};
+ghost use Rattle.tv_step.specs.Cells.{LinesLeaveTheState, LinesAreHonest};
+ghost use Rattle.tv_step.specs.Range.{StartInRange, StepKeepsRange, RunKeepsRange, AnswerIsWord};
+ghost use Rattle.tv_step.specs.Range.{OperandIsWord};
+ghost use Rattle.tv_step.specs.Reads.{TapesAreLeft, TakenAreTheFront, TakenByCounts, EndedStays};
+ghost use Rattle.tv_step.specs.Reads.{EndedTakesNothing};
+ghost use Rattle.tv_step.specs.Runs.{AnswerIsWithin, EndAnswers, LastAnswers, StepsAtTheEnd};
+ghost use Rattle.tv_step.specs.Runs.{StepsAtTheFront, AnswerStays};
 
 /// The start on tapes of words is a state in range, a step keeps one, and so does a run. Its
 /// operand and an answered value are words.

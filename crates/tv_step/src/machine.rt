@@ -1,4 +1,5 @@
-ghost use Rattle.std.specs.Prelude.{◌≡◌, ◌<◌, ◌≤◌, ◌+◌, ◌*◌, ◌/◌, ◌^◌, ℕ, length, slice_index, All, IfOk, OnOk, OnErr};
+ghost use Rattle.std.specs.Prelude.{◌≡◌, ◌<◌, ◌≤◌, ◌+◌, ◌*◌, ◌/◌, ◌^◌, ℕ, length, slice_index, All};
+ghost use Rattle.std.specs.Prelude.{IfOk, OnOk, OnErr};
 ghost use Rattle.tv_word.specs.Widths.{IsWidth};
 ghost use Rattle.tv_isa.specs.Instruction.{IsInstruction};
 ghost use Rattle.tv_mem.specs.Bytes.{word_in};
@@ -66,8 +67,10 @@ impl<const W: u32> Machine<W> {
     // The two words of the instruction at the program counter.
     pub(crate) fn fetched_words(&self) -> (u32, u32)
         requires width { IsWidth W }
-        ensures first { result.0 ≡ word_in W (state_of self.now).memory ((state_of self.now).pc / (W / 8)) }
-        ensures second { result.1 ≡ word_in W (state_of self.now).memory ((state_of self.now).pc / (W / 8) + 1) }
+        ensures first { result.0 ≡ word_in W (state_of self.now).memory
+            ((state_of self.now).pc / (W / 8)) }
+        ensures second { result.1 ≡ word_in W (state_of self.now).memory
+            ((state_of self.now).pc / (W / 8) + 1) }
         ensures second_word { result.1 < 2 ^ W }
     {
         self.memory.load_pair::<W>(self.pc.address())
@@ -88,7 +91,8 @@ impl<const W: u32> Machine<W> {
     /// refused, the state is as before.
     pub fn step(&mut self) -> Result<Outcome, AllocError>
         requires width { IsWidth W }
-        ensures ok { IfOk result (λ outcome. CameTo (next W (state_of self.old)) outcome (state_of self.old) (state_of self.new)) }
+        ensures ok { IfOk result (λ outcome. CameTo (next W (state_of self.old)) outcome
+            (state_of self.old) (state_of self.new)) }
         ensures err { OnErr result (state_of self.new ≡ state_of self.old) }
     {
         let instr = self.fetched();
@@ -102,7 +106,8 @@ impl<const W: u32> Machine<W> {
         requires width { IsWidth W }
         ensures end { IfOk result (λ end. end ≡ end_of W t (state_of self.old)) }
         ensures state { OnOk result (state_of self.new ≡ state_after W t (state_of self.old)) }
-        ensures err { OnErr result ((n : ℕ) × (n < t) × (state_of self.new ≡ state_after W n (state_of self.old))) }
+        ensures err { OnErr result ((n : ℕ) × (n < t)
+            × (state_of self.new ≡ state_after W n (state_of self.old))) }
     {
         for taken in 0..t {
             match self.step()? {

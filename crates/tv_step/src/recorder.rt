@@ -1,5 +1,6 @@
 //! Steps that tell their lines.
-ghost use Rattle.std.specs.Prelude.{◌≡◌, ◌+◌, ◌-◌, ◌*◌, ◌/◌, ◌<◌, ◌^◌, ◌==◌, ◌&&◌, ◌||◌, not, is_some, nat_lt, if◌then◌else◌, slice_get, length, IfOk, OnOk};
+ghost use Rattle.std.specs.Prelude.{◌≡◌, ◌+◌, ◌-◌, ◌*◌, ◌/◌, ◌<◌, ◌^◌, ◌==◌, ◌&&◌, ◌||◌, not};
+ghost use Rattle.std.specs.Prelude.{is_some, nat_lt, if◌then◌else◌, slice_get, length, IfOk, OnOk};
 ghost use Rattle.tv_core.specs.declared.limits.TheConstants.{TAPE_CELLS};
 ghost use Rattle.tv_isa.specs.Instruction.{IsInstruction};
 ghost use Rattle.tv_mem.specs.Bytes.{word_in};
@@ -52,7 +53,8 @@ impl<const W: u32> Machine<W> {
         requires width { IsWidth W }
         requires word { a < 2 ^ W }
         requires short { n < 2 ^ 29 }
-        ensures { let line = line_of W n op (state_of self.now) a time in result ≡ looked_at line.cell time line.old }
+        ensures { let line = line_of W n op (state_of self.now) a time in result
+            ≡ looked_at line.cell time line.old }
     {
         match op {
             Op::StoreB | Op::LoadB | Op::StoreW | Op::LoadW => {
@@ -69,7 +71,10 @@ impl<const W: u32> Machine<W> {
     // The data line once the step is taken: where it is of a word of memory, its new word is there.
     fn line_after(&self, before: Line) -> Line
         requires { IsWidth W }
-        ensures { result ≡ record before { new = if nat_lt before.cell TAPE_CELLS then word_in W (state_of self.now).memory before.cell else before.new } }
+        ensures { result ≡ record before {
+          new = if nat_lt before.cell TAPE_CELLS
+              then word_in W (state_of self.now).memory before.cell else before.new;
+        } }
     {
         if before.cell < TAPE_CELLS {
             Line {
@@ -102,7 +107,8 @@ impl<const W: u32> Machine<W> {
     fn ended_after(&self, instr: &Instr, ended: bool) -> bool
         requires { instr.now.a < 2 ^ W }
         ensures { let st = state_of self.now in
-            result ≡ (ended || ((is_read (op_of instr.now.op) && (operand st instr.now == 1)) && not (is_some (slice_get st.aux 0)))) }
+            result ≡ (ended || ((is_read (op_of instr.now.op) && (operand st instr.now == 1))
+            && not (is_some (slice_get st.aux 0)))) }
     {
         ended
             || (matches!(op_of(instr.op), Op::Read)
@@ -122,7 +128,8 @@ impl<const W: u32> Machine<W> {
         requires short { n < 2 ^ 29 }
         requires times { time + 2 < 2 ^ 32 }
         ensures lines { IfOk result (λ told. told.lines ≡ step_lines W n (state_of self.old) time) }
-        ensures ended { IfOk result (λ told. told.ended ≡ (ended || finds_end W (state_of self.old))) }
+        ensures ended { IfOk result (λ told. told.ended
+            ≡ (ended || finds_end W (state_of self.old))) }
         ensures state { OnOk result (state_of self.new ≡ state_after W 1 (state_of self.old)) }
     {
         let place = self.pc.address() / (W / 8);

@@ -16,7 +16,8 @@ impl<const W: u32> Model for Registers<W> {
 
     ghost view = { λ registers. registers.words };
 
-    ghost invariant = { λ registers. (length registers.words ≡ 16) × All (λ v. v < 2 ^ W) registers.words };
+    ghost invariant = { λ registers. (length registers.words ≡ 16)
+        × All (λ v. v < 2 ^ W) registers.words };
 
     ghost inverse = { λ words. record { words = words } };
 }

@@ -156,8 +156,8 @@ fn gadgets_hold_over_their_own_values_alone(rt: HostRuntime) -> Result<(), Fail>
     Ok(())
 }
 
-// 1, the bits of two numbers below 2^6, a third number, and then the bits of the two again: the three highest
-// of x, its others, those of y that aren't the three highest, and these.
+// 1, the bits of two numbers below 2^6, a third number, and then the bits of the two again: the
+// three highest of x, its others, those of y that aren't the three highest, and these.
 fn prefixes(alloc: Global, x: u64, y: u64, d: F) -> Put<ListValues>
     ensures { IfOk result (λ values. values.broken ≡ false) }
 {
@@ -183,7 +183,8 @@ fn row(first: u32, n: u32) -> Bits
     }
 }
 
-// How many constraints hold of the differences in one row each, and of those in two rows that stand apart.
+// How many constraints hold of the differences in one row each, and of those in two rows that stand
+// apart.
 fn differences_hold(z: &[F]) -> Put<u32> {
     let mut tests = TestSink::over(z, 26);
     let d = Lc::wire(Wire(13));

@@ -1,5 +1,5 @@
-//! The comparison of telling words, over the generator's values, over the same with an output altered, and
-//! over false ones.
+//! The comparison of telling words, over the generator's values, over the same with an output
+//! altered, and over false ones.
 ghost use Rattle.std.specs.Prelude.{◌<◌, ◌^◌};
 ghost use Rattle.tv_word.specs.Widths.{IsWidth};
 
@@ -55,7 +55,8 @@ fn is_comparison<const W: u32>(z: &[F], answer: &Cmp, x: u32, y: u32) -> bool
         && holds(z, answer.greater, u64::from(greater))
 }
 
-// Whether the gadget's constraints, so many, hold over its own values, which are the flags of the words.
+// Whether the gadget's constraints, so many, hold over its own values, which are the flags of the
+// words.
 fn is_right<const W: u32>(alloc: Global, x: u32, y: u32, constraints: u32) -> Put<bool>
     requires width { IsWidth W }
     requires x_word { x < 2 ^ W }
@@ -120,7 +121,8 @@ fn telling_words_of_16_bits_compare_as_numbers_do(rt: HostRuntime) -> Result<(),
     Ok(())
 }
 
-// The wires are equal, above, the eight bits of the size, the size with its sign, two products and greater.
+// The wires are equal, above, the eight bits of the size, the size with its sign, two products and
+// greater.
 #[test]
 fn each_constraint_refuses_what_no_other_does(rt: HostRuntime) -> Result<(), Fail> {
     let falsehoods: [(u32, u32, [i64; 14], u32); 6] = [

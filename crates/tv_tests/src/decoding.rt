@@ -1,5 +1,5 @@
-//! The fields of telling instructions at both widths, over the generator's values and over the same with a
-//! wire altered.
+//! The fields of telling instructions at both widths, over the generator's values and over the same
+//! with a wire altered.
 ghost use Rattle.tv_word.specs.Widths.{IsWidth};
 
 use crate::inputs::{all_hold, behind_words, first_word, holds, inputs, second_word, with_wire};
@@ -8,8 +8,8 @@ use std::test::Fail;
 use tv_core::{F, ListSink, Put, TestSink, Wire};
 use tv_decode::{Fields, fields, fill_fields};
 
-// The two words of an instruction of 32 bits, its opcode, immediate bit, destination and source, and the
-// register that its second word names.
+// The two words of an instruction of 32 bits, its opcode, immediate bit, destination and source,
+// and the register that its second word names.
 const INSTRUCTIONS: [(u32, u32, [u32; 5]); 5] = [
     (0, 0, [0, 0, 0, 0, 0]),
     (0x9440_0000, 0xfc00_0000, [18, 1, 1, 0, 0]),
@@ -18,8 +18,8 @@ const INSTRUCTIONS: [(u32, u32, [u32; 5]); 5] = [
     (0xfffc_0000, 0x0000_000f, [31, 1, 15, 15, 15]),
 ];
 
-// Whether the constraints hold over the generator's values, which are these fields, and don't with the
-// opcode's wire altered.
+// Whether the constraints hold over the generator's values, which are these fields, and don't with
+// the opcode's wire altered.
 fn is_right<const W: u32>(alloc: Global, h: u32, a: u32, numbers: [u32; 5]) -> Result<bool, Fail>
     requires width { IsWidth W }
 {

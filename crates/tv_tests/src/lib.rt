@@ -1,6 +1,7 @@
-//! Tests of the gadgets and of the reader of systems through their public calls: answers on telling inputs,
-//! sizes, false assignments that a wrong gadget would admit, and malformed files. They stand in a crate of
-//! their own, since a crate with tests is proved twice; nothing here is for callers.
+//! Tests of the gadgets and of the reader of systems through their public calls: answers on telling
+//! inputs, sizes, false assignments that a wrong gadget would admit, and malformed files. They
+//! stand in a crate of their own, since a crate with tests is proved twice; nothing here is for
+//! callers.
 #![tactic(auto)]
 
 #[cfg(test)]

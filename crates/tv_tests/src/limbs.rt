@@ -154,7 +154,8 @@ fn sums_and_differences_wrap(rt: HostRuntime) -> Result<(), Fail> {
 // Numbers at the wires that a gadget makes, of which one at least is altered.
 #[test]
 fn false_assignments_fail(rt: HostRuntime) -> Result<(), Fail> {
-    // a gadget, its words, the wires that are altered, from the first that it makes, and their numbers
+    // a gadget, its words, the wires that are altered, from the first that it makes, and their
+    // numbers
     let trials = [
         // the sum is right, but the carry is no bit: 2^96 is -1
         (Gadget::Add, 0, 0, [(0, 1), (32, 0xffff_ffff)]),

@@ -69,7 +69,8 @@ fn wanted<const W: u32>(x: u32, y: u32) -> [u64; 4]
     [u64::from(x & y), u64::from(x | y), u64::from(x ^ y), nots]
 }
 
-// Whether the gadget's constraints, so many, hold over its own values, which are the words of the operations.
+// Whether the gadget's constraints, so many, hold over its own values, which are the words of the
+// operations.
 fn is_right<const W: u32>(alloc: Global, x: u32, y: u32, constraints: u32) -> Put<bool>
     requires width { IsWidth W }
     requires y_word { y < 2 ^ W }
@@ -111,8 +112,8 @@ fn one_and_two_have_no_bit_in_common(rt: HostRuntime) -> Result<(), Fail> {
     Ok(())
 }
 
-// Each wire that the gadget makes, altered, fails, and so does an and that takes from one pair of bits what
-// it gives to another.
+// Each wire that the gadget makes, altered, fails, and so does an and that takes from one pair of
+// bits what it gives to another.
 #[test]
 fn false_assignments_fail(rt: HostRuntime) -> Result<(), Fail> {
     // the words, the wires that are altered, from the first that is made, and by how much

@@ -1,5 +1,5 @@
-//! Each gadget over the values of its generator, for words at the ends of their range and for cases with
-//! known answers.
+//! Each gadget over the values of its generator, for words at the ends of their range and for cases
+//! with known answers.
 ghost use Rattle.std.specs.Prelude.{◌≡◌, ◌+◌, ◌*◌, ◌<◌, ◌≤◌, ◌^◌, false};
 ghost use Rattle.tv_core.specs.Sinks.{Room};
 ghost use Rattle.tv_word.specs.Widths.{IsWidth};

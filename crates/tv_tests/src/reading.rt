@@ -1,5 +1,5 @@
-//! The reader of systems: that the worked system gives what another reader of the format gives, and that calls
-//! succeed where memory is ample.
+//! The reader of systems: that the worked system gives what another reader of the format gives, and
+//! that calls succeed where memory is ample.
 ghost use Rattle.tv_files.specs.Outside.{OnlyReads};
 
 use crate::systems::{COUNTS, SYSTEM, changed, counts_of, files_of, many, reader_of, reversed};

@@ -1,4 +1,5 @@
-//! The reader of systems on malformed files and failing reads: the first fault and its place, told again unread.
+//! The reader of systems on malformed files and failing reads: the first fault and its place, told
+//! again unread.
 use crate::systems::{SYSTEM, changed, counts_of, files_of, many, reader_of};
 use std::alloc::Global;
 use std::process::Abort;
@@ -7,7 +8,8 @@ use tv_container::{ReadRefusal, ReadWhy};
 use tv_files::MemFiles;
 use tv_r1cs_read::{SystemReader, survey};
 
-// What the last of so many calls for the next row is refused for; after a refusal each gives the same.
+// What the last of so many calls for the next row is refused for; after a refusal each gives the
+// same.
 fn last_refusal(
     rt: &impl Abort,
     reader: &mut SystemReader<'_, MemFiles>,

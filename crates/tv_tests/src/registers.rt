@@ -1,5 +1,5 @@
-//! Registers read and written, and choices by an opcode: over the generators' values, over the same with a
-//! wire altered, and over false writes.
+//! Registers read and written, and choices by an opcode: over the generators' values, over the same
+//! with a wire altered, and over false writes.
 ghost use Rattle.std.specs.Prelude.{◌≡◌, ◌+◌, ◌≤◌, ◌<◌, false, IfOk};
 ghost use Rattle.tv_core.specs.Sinks.{Room};
 ghost use Rattle.tv_regs.specs.Reading.{wires_top};
@@ -13,7 +13,8 @@ use tv_regs::{
     NumberEntry, WireEntry, choose, fill_choose, fill_read_reg, fill_write_reg, read_reg, write_reg,
 };
 
-// Behind wire 0 stand a row of 16 wires, the registers, the wire that tells whether to write, and what.
+// Behind wire 0 stand a row of 16 wires, the registers, the wire that tells whether to write, and
+// what.
 const ROW: Wire = Wire(1);
 
 const ON: Wire = Wire(33);
@@ -79,7 +80,8 @@ fn read(z: &[F]) -> Put<(u32, Wire)> {
     Ok((tests.held(), w))
 }
 
-// How many of the constraints of a write hold, which is the first that doesn't, and what it answers.
+// How many of the constraints of a write hold, which is the first that doesn't, and what it
+// answers.
 fn write(z: &[F]) -> Put<(u32, Option<u32>, [Wire; 16])> {
     let mut tests = TestSink::over(z, NEXT);
     let made = write_reg(&mut tests, ROW, ON, &Lc::wire(X), &registers())?;
@@ -150,8 +152,8 @@ fn a_register_is_written_where_on_is_1(rt: HostRuntime) -> Result<(), Fail> {
     Ok(())
 }
 
-// Which is the first constraint that refuses a write to register 2 with this hint and these two registers, 2
-// and 3, behind it, and how many hold.
+// Which is the first constraint that refuses a write to register 2 with this hint and these two
+// registers, 2 and 3, behind it, and how many hold.
 fn refused(
     alloc: Global,
     on: bool,

@@ -1,7 +1,7 @@
-//! Waksman's permutation network: Benes', but that the first switch of each last column is left out, its
-//! two items passing: 2^k · (k - 1) + 1 switches, where Benes' network has (2k - 1) · 2^(k-1), which is
-//! 2^(k-1) - 1 more. It still has settings for every permutation (`route_w` of `tv_route`). It is the
-//! body of `tv_benes` with one parameter; its laws are that crate's.
+//! Waksman's permutation network: Benes', but that the first switch of each last column is left
+//! out, its two items passing: 2^k · (k - 1) + 1 switches, where Benes' network has (2k - 1) ·
+//! 2^(k-1), which is 2^(k-1) - 1 more. It still has settings for every permutation (`route_w` of
+//! `tv_route`). It is the body of `tv_benes` with one parameter; its laws are that crate's.
 #![tactic(auto)]
 
 mod laws;

@@ -19,28 +19,32 @@ pub fn switches_w(k: u32) -> u64
     routing_switches(Net::Waksman, k)
 }
 
-/// Waksman's network on 2^`k` items. It makes 5 wires and 5 constraints a switch, of 23 terms where the
-/// items are wires.
+/// Waksman's network on 2^`k` items. It makes 5 wires and 5 constraints a switch, of 23 terms where
+/// the items are wires.
 pub fn network_w<S: Sink, I: Inputs>(s: &mut S, k: u32, inputs: &I) -> Put<Outputs>
     requires some { 1 ≤ k }
     requires few { k ≤ 31 }
-    requires room { Room S.meaning s.old (5 * switches Waksman (k - 1)) (5 * switches Waksman (k - 1)) }
+    requires room { Room S.meaning s.old (5 * switches Waksman (k - 1))
+        (5 * switches Waksman (k - 1)) }
     requires count { I.count inputs.now ≡ 2 ^ k }
     requires made { AreMade (I.pair inputs.now) (2 ^ k) (S.meaning.wires s.old) }
-    ensures puts { PutsIn S.meaning s.old s.new (network_of Waksman (k - 1) (I.pair inputs.now)) result }
-    ensures grows { IfOk result (λ _. Grows S.meaning s.old s.new (5 * switches Waksman (k - 1)) (5 * switches Waksman (k - 1))) }
+    ensures puts { PutsIn S.meaning s.old s.new (network_of Waksman (k - 1) (I.pair inputs.now))
+        result }
+    ensures grows { IfOk result (λ _. Grows S.meaning s.old s.new (5 * switches Waksman (k - 1))
+        (5 * switches Waksman (k - 1))) }
     ensures below { IfOk result (λ outputs. AreBelow outputs (2 ^ k) (S.meaning.wires s.new)) }
 {
     routing_network(s, Net::Waksman, k, inputs)
 }
 
-/// Gives the values of the wires that `network_w` makes, for the numbers of its inputs and the bits of its
-/// switches in order; a bit or a pair that is not there counts as 0.
+/// Gives the values of the wires that `network_w` makes, for the numbers of its inputs and the bits
+/// of its switches in order; a bit or a pair that is not there counts as 0.
 pub fn fill_network_w<V: Values>(v: &mut V, k: u32, inputs: &[PairNum], bits: &[bool]) -> Put<()>
     requires whole { V.giving.broken v.old ≡ false }
     requires some { 1 ≤ k }
     requires few { k ≤ 31 }
-    ensures gives { GivesIn V.giving v.old v.new (network_values Waksman (k - 1) (bit_at bits.now) (pair_at inputs.now)) result }
+    ensures gives { GivesIn V.giving v.old v.new
+        (network_values Waksman (k - 1) (bit_at bits.now) (pair_at inputs.now)) result }
     ensures whole { OnOk result (V.giving.broken v.new ≡ false) }
 {
     fill_routing_network(v, Net::Waksman, k, inputs, bits)

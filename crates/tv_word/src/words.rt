@@ -27,7 +27,8 @@ impl Words {
         }
     }
 
-    /// Puts a word at the end; on want of memory the words stay as they were. Amortised constant time.
+    /// Puts a word at the end; on want of memory the words stay as they were. Amortised constant
+    /// time.
     pub fn push(&mut self, word: u32) -> Result<(), AllocError>
         ensures ok { OnOk result (self.new ≡ self.old ++ word ∷ []) }
         ensures err { OnErr result (self.new ≡ self.old) }
