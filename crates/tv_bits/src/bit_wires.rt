@@ -33,7 +33,8 @@ impl Bits {
         requires short { self.now.n ≤ 63 }
         requires within { self.now.first + self.now.n < 2 ^ 32 }
         requires room { length lc.old + self.now.n ≤ 128 }
-        ensures terms { lc.new ≡ lc.old ++ scaled factor (bits_combination self.now.first self.now.n) }
+        ensures terms { lc.new ≡ lc.old ++ scaled factor
+            (bits_combination self.now.first self.now.n) }
         ensures top { top lc.new ≤ max (top lc.old) (self.now.first + self.now.n) }
         ensures len { length lc.new ≡ length lc.old + self.now.n }
     {

@@ -15,6 +15,7 @@ mod pairs;
 mod prefixes;
 mod products;
 mod rows;
+mod scratch;
 mod selection;
 mod spelling;
 mod terms;

@@ -1,5 +1,6 @@
 ghost use Rattle.std.specs.Prelude.{◌≡◌, ◌≤◌, ◌<◌, false, IfOk, OnOk};
-ghost use Rattle.tv_bits.specs.Nonzero.{nonzero_of, nonzero_values, NonzeroIsSound, NonzeroIsComplete, NonzeroSizes};
+ghost use Rattle.tv_bits.specs.Nonzero.{nonzero_of, nonzero_values, NonzeroIsSound};
+ghost use Rattle.tv_bits.specs.Nonzero.{NonzeroIsComplete, NonzeroSizes};
 ghost use Rattle.tv_core.specs.Combinations.{top};
 ghost use Rattle.tv_core.specs.Giving.{GivesIn};
 ghost use Rattle.tv_core.specs.Sinks.{PutsIn, Grows, Room};

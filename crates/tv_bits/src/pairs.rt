@@ -1,5 +1,6 @@
 ghost use Rattle.std.specs.Prelude.{◌≡◌, ◌+◌, ◌≤◌, [], length, max, IfOk};
-ghost use Rattle.tv_bits.specs.Pairs.{plus_times, side, two_ands_of, TwoAndsAreSound, TwoAndsAreComplete, TwoAndsSizes};
+ghost use Rattle.tv_bits.specs.Pairs.{plus_times, side, two_ands_of, TwoAndsAreSound};
+ghost use Rattle.tv_bits.specs.Pairs.{TwoAndsAreComplete, TwoAndsSizes};
 ghost use Rattle.tv_core.specs.Combinations.{top};
 ghost use Rattle.tv_core.specs.Sinks.{PutsIn, Grows, Room};
 
@@ -29,7 +30,8 @@ pub fn two_ands<S: Sink>(
     requires x_b_short { length x_b.now ≤ 8 }
     requires y_b_short { length y_b.now ≤ 8 }
     requires m_short { length m.now ≤ 64 }
-    ensures puts { PutsIn S.meaning s.old s.new (two_ands_of x_a.now y_a.now x_b.now y_b.now gamma m.now) result }
+    ensures puts { PutsIn S.meaning s.old s.new
+        (two_ands_of x_a.now y_a.now x_b.now y_b.now gamma m.now) result }
     ensures grows { IfOk result (λ _. Grows S.meaning s.old s.new 0 1) }
 {
     let mut left = Lc::empty();
@@ -59,7 +61,8 @@ fn plus_side(
     requires y_b_short { length y_b.now ≤ 8 }
     ensures terms { lc.new ≡ side x_a.now y_a.now x_b.now y_b.now c k }
     ensures len { length lc.new ≤ 33 }
-    ensures top { top lc.new ≡ max 1 (max (max (top x_a.now) (top y_a.now)) (max (top x_b.now) (top y_b.now))) }
+    ensures top { top lc.new ≡ max 1 (max (max (top x_a.now) (top y_a.now))
+        (max (top x_b.now) (top y_b.now))) }
 {
     lc.plus(c, Wire(0));
     plus_all(lc, x_a);

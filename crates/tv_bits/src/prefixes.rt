@@ -1,6 +1,9 @@
-ghost use Rattle.std.specs.Prelude.{◌≡◌, ◌+◌, ◌-◌, ◌*◌, ◌≤◌, ◌<◌, ◌^◌, false, length, max, IfOk, OnOk};
+ghost use Rattle.std.specs.Prelude.{◌≡◌, ◌+◌, ◌-◌, ◌*◌, ◌≤◌, ◌<◌, ◌^◌, false, length, max, IfOk};
+ghost use Rattle.std.specs.Prelude.{OnOk};
 ghost use Rattle.tv_bits.specs.Order.{first_difference};
-ghost use Rattle.tv_bits.specs.Prefixes.{prefix_less, prefix_less_in, prefix_difference_of, prefix_difference_values, PrefixDifferenceIsSound, PrefixDifferenceIsComplete, PrefixDifferenceSizes};
+ghost use Rattle.tv_bits.specs.Prefixes.{prefix_less, prefix_less_in, prefix_difference_of};
+ghost use Rattle.tv_bits.specs.Prefixes.{prefix_difference_values, PrefixDifferenceIsSound};
+ghost use Rattle.tv_bits.specs.Prefixes.{PrefixDifferenceIsComplete, PrefixDifferenceSizes};
 ghost use Rattle.tv_bits.specs.Rows.{rows_size};
 ghost use Rattle.tv_core.specs.Combinations.{top};
 ghost use Rattle.tv_core.specs.Giving.{GivesIn};
@@ -35,7 +38,8 @@ pub fn prefix_difference<S: Sink>(
     requires y_low_made { y.now.low.first + y.now.low.n ≤ S.meaning.wires s.old }
     requires y_high_made { y.now.high.first + y.now.high.n ≤ S.meaning.wires s.old }
     requires d_made { top d.now ≤ S.meaning.wires s.old }
-    ensures puts { PutsIn S.meaning s.old s.new (prefix_difference_of x.now y.now d.now chunk count) result }
+    ensures puts { PutsIn S.meaning s.old s.new (prefix_difference_of x.now y.now d.now chunk count)
+        result }
     ensures grows { IfOk result (λ _. Grows S.meaning s.old s.new (count - 2) (count - 1)) }
 {
     let mut product = Lc::empty();
@@ -63,7 +67,9 @@ fn fill_prefix_less(lc: &mut Lc, x: &TwoRows, y: &TwoRows, d: &Lc, from: u32)
     requires y_low_within { y.now.low.first + y.now.low.n < 2 ^ 32 }
     requires y_high_within { y.now.high.first + y.now.high.n < 2 ^ 32 }
     ensures terms { lc.new ≡ prefix_less x.now y.now d.now from }
-    ensures top { top lc.new ≤ max (max (max (x.now.low.first + x.now.low.n) (x.now.high.first + x.now.high.n)) (max (y.now.low.first + y.now.low.n) (y.now.high.first + y.now.high.n))) (top d.now) }
+    ensures top { top lc.new ≤ max (max (max (x.now.low.first + x.now.low.n)
+        (x.now.high.first + x.now.high.n)) (max (y.now.low.first + y.now.low.n)
+        (y.now.high.first + y.now.high.n))) (top d.now) }
 {
     lc.clear();
     x.plus_prefix_to(lc, F::ONE, from);
@@ -86,7 +92,8 @@ pub fn fill_prefix_difference<V: Values>(
     requires short { chunk * (count - 1) < 64 }
     requires x_short { x < 2 ^ 63 }
     requires y_short { y < 2 ^ 63 }
-    ensures gives { GivesIn V.giving v.old v.new (prefix_difference_values x y d chunk count) result }
+    ensures gives { GivesIn V.giving v.old v.new (prefix_difference_values x y d chunk count)
+        result }
     ensures whole { OnOk result (V.giving.broken v.new ≡ false) }
 {
     let mut product = prefix_less_in(x, y, d, 0);

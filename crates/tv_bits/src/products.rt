@@ -1,6 +1,8 @@
 ghost use Rattle.std.specs.Prelude.{◌≡◌, ◌≤◌, ◌<◌, false, IfOk, OnOk};
-ghost use Rattle.tv_bits.specs.Ratio.{ratio, ratio_of, ratio_values, RatioIsSound, RatioIsComplete, RatioDivides, RatioSizes};
-ghost use Rattle.tv_bits.specs.Times.{times_of, times_values, TimesIsSound, TimesIsComplete, TimesSizes};
+ghost use Rattle.tv_bits.specs.Ratio.{ratio, ratio_of, ratio_values, RatioIsSound, RatioIsComplete};
+ghost use Rattle.tv_bits.specs.Ratio.{RatioDivides, RatioSizes};
+ghost use Rattle.tv_bits.specs.Times.{times_of, times_values, TimesIsSound, TimesIsComplete};
+ghost use Rattle.tv_bits.specs.Times.{TimesSizes};
 ghost use Rattle.tv_core.specs.Combinations.{top};
 ghost use Rattle.tv_core.specs.Giving.{GivesIn};
 ghost use Rattle.tv_core.specs.Sinks.{PutsIn, Grows, Room};

@@ -1,10 +1,13 @@
 ghost use Rattle.std.specs.Prelude.{◌≡◌, ◌+◌, ◌≤◌, ◌<◌, ◌^◌, false, length, IfOk, OnOk};
-ghost use Rattle.tv_bits.specs.OneHot.{row_sum, onehot_values, mark_of, onehot_of, OneHotIsSound, OneHotIsComplete, OneHotSizes};
+ghost use Rattle.tv_bits.specs.OneHot.{row_sum, onehot_values, mark_of, onehot_of, OneHotIsSound};
+ghost use Rattle.tv_bits.specs.OneHot.{OneHotIsComplete, OneHotSizes};
 ghost use Rattle.tv_core.specs.Combinations.{top};
 ghost use Rattle.tv_core.specs.Giving.{GivesIn};
 ghost use Rattle.tv_core.specs.Sinks.{PutsIn, Grows, Room};
 
 use crate::bit_wires::Bits;
+use crate::scratch::Scratch;
+use crate::terms::{plus_all, plus_scaled};
 use tv_core::{F, Lc, Put, Sink, Values, Wire};
 
 /// The sum of `count` wires that follow each other.
@@ -35,8 +38,9 @@ pub fn onehot<S: Sink>(s: &mut S, x: &Bits) -> Put<Wire>
     let first = Wire(s.wires());
     let count = row_len(x.n);
     let number = x.lc();
+    let mut scratch = Scratch::new();
     for i in 0..count {
-        mark(s, &number, i)?;
+        mark(s, &mut scratch, &number, i)?;
     }
     let one = Lc::constant(F::ONE);
     s.put(&row_sum(first, count), &one, &one)?;
@@ -44,7 +48,7 @@ pub fn onehot<S: Sink>(s: &mut S, x: &Bits) -> Put<Wire>
 }
 
 // A wire that is 0 unless `x` is `i`.
-fn mark<S: Sink>(s: &mut S, x: &Lc, i: u32) -> Put<()>
+fn mark<S: Sink>(s: &mut S, scratch: &mut Scratch, x: &Lc, i: u32) -> Put<()>
     requires room { Room S.meaning s.old 1 1 }
     requires x_made { top x.now ≤ S.meaning.wires s.old }
     requires x_short { length x.now ≤ 64 }
@@ -52,9 +56,13 @@ fn mark<S: Sink>(s: &mut S, x: &Lc, i: u32) -> Put<()>
     ensures grows { IfOk result (λ _. Grows S.meaning s.old s.new 1 1) }
 {
     let w = s.fresh();
-    let mut rest = Lc::from_terms(x.terms());
-    rest.minus(&Lc::constant(F::of(u64::from(i))));
-    s.put(&Lc::wire(w), &rest, &Lc::empty())
+    scratch.a.clear();
+    scratch.a.plus(F::ONE, w);
+    scratch.b.clear();
+    plus_all(&mut scratch.b, x.terms());
+    plus_scaled(&mut scratch.b, -F::ONE, &[(F::of(u64::from(i)), Wire(0))]);
+    scratch.c.clear();
+    s.put(&scratch.a, &scratch.b, &scratch.c)
 }
 
 /// Gives the values of the wires that `onehot` makes for `n` bits that spell `x`.

@@ -1,5 +1,6 @@
 ghost use Rattle.std.specs.Prelude.{◌≡◌, ◌≤◌, ◌<◌, false, length, IfOk, OnOk};
-ghost use Rattle.tv_bits.specs.Select.{selected, select_of, select_values, SelectIsSound, SelectIsComplete, SelectSizes};
+ghost use Rattle.tv_bits.specs.Select.{selected, select_of, select_values, SelectIsSound};
+ghost use Rattle.tv_bits.specs.Select.{SelectIsComplete, SelectSizes};
 ghost use Rattle.tv_core.specs.Combinations.{top};
 ghost use Rattle.tv_core.specs.Giving.{GivesIn};
 ghost use Rattle.tv_core.specs.Sinks.{PutsIn, Grows, Room};

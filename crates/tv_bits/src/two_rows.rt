@@ -43,7 +43,8 @@ impl TwoRows {
         requires high_within { self.now.high.first + self.now.high.n < 2 ^ 32 }
         requires room { length lc.old + rows_size self.now ≤ 128 }
         ensures terms { lc.new ≡ lc.old ++ scaled factor (prefix self.now from) }
-        ensures top { top lc.new ≤ max (top lc.old) (max (self.now.low.first + self.now.low.n) (self.now.high.first + self.now.high.n)) }
+        ensures top { top lc.new ≤ max (top lc.old)
+            (max (self.now.low.first + self.now.low.n) (self.now.high.first + self.now.high.n)) }
         ensures len { length lc.new ≤ length lc.old + rows_size self.now }
     {
         let left = from.min(self.low.n);

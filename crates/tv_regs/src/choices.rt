@@ -3,8 +3,11 @@ ghost use Rattle.tv_core.specs.Combinations.{top};
 ghost use Rattle.tv_core.specs.Giving.{GivesIn};
 ghost use Rattle.tv_core.specs.Sinks.{PutsIn, Grows, Room};
 ghost use Rattle.tv_isa.specs.Opcodes.{among, chosen};
-ghost use Rattle.tv_regs.specs.Choices.{group, disjoint, wire_table, number_table, IsEntry, choice_of, choose_of, choose_values, GroupIsSound, ChooseIsSound, ChooseIsComplete, ChooseSizes};
+ghost use Rattle.tv_regs.specs.Choices.{group, disjoint, wire_table, number_table, IsEntry};
+ghost use Rattle.tv_regs.specs.Choices.{choice_of, choose_of, choose_values, GroupIsSound};
+ghost use Rattle.tv_regs.specs.Choices.{ChooseIsSound, ChooseIsComplete, ChooseSizes};
 
+use crate::scratch::{Scratch, fill_wire};
 use crate::tables::{NumberEntry, WireEntry};
 use tv_core::{F, Lc, Put, Sink, Values, Wire};
 
@@ -39,14 +42,22 @@ pub fn choose<S: Sink>(s: &mut S, op: Wire, table: &[WireEntry<'_>]) -> Put<Wire
     ensures below { IfOk result (λ w. w < S.meaning.wires s.new) }
 {
     let w = s.fresh();
+    let mut scratch = Scratch::new();
     for entry in table {
-        choice(s, op, w, entry.ops, entry.gives)?;
+        choice(s, &mut scratch, op, w, entry.ops, entry.gives)?;
     }
     Ok(w)
 }
 
 // Holds `w` to `x` where one of these opcodes is on.
-fn choice<S: Sink>(s: &mut S, op: Wire, w: Wire, ops: &[u8], x: &[(F, Wire)]) -> Put<()>
+fn choice<S: Sink>(
+    s: &mut S,
+    scratch: &mut Scratch,
+    op: Wire,
+    w: Wire,
+    ops: &[u8],
+    x: &[(F, Wire)],
+) -> Put<()>
     requires room { Room S.meaning s.old 0 1 }
     requires op_made { op + 32 ≤ S.meaning.wires s.old }
     requires w_made { w < S.meaning.wires s.old }
@@ -57,15 +68,17 @@ fn choice<S: Sink>(s: &mut S, op: Wire, w: Wire, ops: &[u8], x: &[(F, Wire)]) ->
     ensures puts { PutsIn S.meaning s.old s.new (choice_of op w ops.now x.now) result }
     ensures grows { IfOk result (λ _. Grows S.meaning s.old s.new 0 1) }
 {
-    let mut rest = Lc::wire(w);
-    rest.minus(&Lc::from_terms(x));
-    s.put(&group(op, ops), &rest, &Lc::empty())
+    fill_wire(&mut scratch.b, w);
+    scratch.b.minus(&Lc::from_terms(x));
+    scratch.c.clear();
+    s.put(&group(op, ops), &scratch.b, &scratch.c)
 }
 
 /// Gives the value of the wire that `choose` makes: what a table of numbers gives for an opcode.
 pub fn fill_choose<V: Values>(v: &mut V, op: u8, table: &[NumberEntry<'_>]) -> Put<()>
     requires whole { V.giving.broken v.old ≡ false }
-    ensures gives { GivesIn V.giving v.old v.new (choose_values op (number_table table.now)) result }
+    ensures gives { GivesIn V.giving v.old v.new (choose_values op (number_table table.now))
+        result }
     ensures whole { OnOk result (V.giving.broken v.new ≡ false) }
 {
     v.give(chosen(op, table))

@@ -1,13 +1,14 @@
 //! Gadgets over one-hot rows: the sixteen registers read and written by the row of a register's
-//! number, one of many combinations chosen by the row of an opcode, and one of two by a bit. Contracts above cite
-//! `written_regs`, the registers after a write, and `chosen` of `tv_isa`; what a gadget
-//! answers and how many wires it makes stand in `ReadRegSizes`, `WriteRegSizes` and
+//! number, one of many combinations chosen by the row of an opcode, and one of two by a bit.
+//! Contracts above cite `written_regs`, the registers after a write, and `chosen` of `tv_isa`; what
+//! a gadget answers and how many wires it makes stand in `ReadRegSizes`, `WriteRegSizes` and
 //! `ChooseSizes`.
 #![tactic(auto)]
 
 mod choices;
 mod picking;
 mod reading;
+mod scratch;
 mod tables;
 mod writing;
 

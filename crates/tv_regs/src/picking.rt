@@ -2,7 +2,8 @@ ghost use Rattle.std.specs.Prelude.{◌≡◌, ◌+◌, ◌≤◌, ◌<◌, fals
 ghost use Rattle.tv_core.specs.Combinations.{top};
 ghost use Rattle.tv_core.specs.Giving.{GivesIn};
 ghost use Rattle.tv_core.specs.Sinks.{PutsIn, Grows, Room};
-ghost use Rattle.tv_regs.specs.Picking.{kept_of, kept_values, pick_of, KeptIsSound, KeptIsComplete, KeptSizes, PickIsSound, PickIsComplete, PickSizes};
+ghost use Rattle.tv_regs.specs.Picking.{kept_of, kept_values, pick_of, KeptIsSound, KeptIsComplete};
+ghost use Rattle.tv_regs.specs.Picking.{KeptSizes, PickIsSound, PickIsComplete, PickSizes};
 
 use tv_core::{F, Lc, Put, Sink, Values, Wire};
 

@@ -1,10 +1,11 @@
-ghost use Rattle.std.specs.Prelude.{◌≡◌, ◌+◌, ◌≤◌, ◌<◌, false, max, IfOk, OnOk};
-ghost use Rattle.tv_core.specs.Combinations.{wire, less, top};
+ghost use Rattle.std.specs.Prelude.{◌≡◌, ◌+◌, ◌≤◌, ◌<◌, false, IfOk, OnOk};
 ghost use Rattle.tv_core.specs.Giving.{GivesIn};
 ghost use Rattle.tv_core.specs.Sinks.{PutsIn, Grows, Room};
-ghost use Rattle.tv_regs.specs.Reading.{wires_top, read_of, read_reg_of, read_reg_values, ReadRegIsSound, ReadRegIsComplete, ReadRegSizes};
+ghost use Rattle.tv_regs.specs.Reading.{wires_top, read_of, read_reg_of, read_reg_values};
+ghost use Rattle.tv_regs.specs.Reading.{ReadRegIsSound, ReadRegIsComplete, ReadRegSizes};
 
-use tv_core::{F, Lc, Put, Sink, Values, Wire};
+use crate::scratch::{Scratch, fill_difference, fill_wire};
+use tv_core::{F, Put, Sink, Values, Wire};
 
 /// A wire that is the register whose number the one-hot row of 16 wires from `sel` on has. It
 /// makes 1 wire and 16 constraints, of 48 terms.
@@ -17,14 +18,15 @@ pub fn read_reg<S: Sink>(s: &mut S, sel: Wire, regs: &[Wire; 16]) -> Put<Wire>
     ensures below { IfOk result (λ w. w < S.meaning.wires s.new) }
 {
     let w = s.fresh();
+    let mut scratch = Scratch::new();
     for i in 0..16 {
-        read(s, w, sel.offset(i), regs[i as usize])?;
+        read(s, &mut scratch, w, sel.offset(i), regs[i as usize])?;
     }
     Ok(w)
 }
 
 // Holds `w` to a register where a wire of the row is 1.
-fn read<S: Sink>(s: &mut S, w: Wire, sel: Wire, reg: Wire) -> Put<()>
+fn read<S: Sink>(s: &mut S, scratch: &mut Scratch, w: Wire, sel: Wire, reg: Wire) -> Put<()>
     requires room { Room S.meaning s.old 0 1 }
     requires w_made { w < S.meaning.wires s.old }
     requires sel_made { sel < S.meaning.wires s.old }
@@ -32,17 +34,10 @@ fn read<S: Sink>(s: &mut S, w: Wire, sel: Wire, reg: Wire) -> Put<()>
     ensures puts { PutsIn S.meaning s.old s.new (read_of w sel reg) result }
     ensures grows { IfOk result (λ _. Grows S.meaning s.old s.new 0 1) }
 {
-    s.put(&Lc::wire(sel), &difference(w, reg), &Lc::empty())
-}
-
-/// One wire less another.
-pub(crate) fn difference(x: Wire, y: Wire) -> Lc
-    ensures terms { result ≡ less (wire x) (wire y) }
-    ensures top { top result ≡ max (x + 1) (y + 1) }
-{
-    let mut lc = Lc::wire(x);
-    lc.minus(&Lc::wire(y));
-    lc
+    fill_wire(&mut scratch.a, sel);
+    fill_difference(&mut scratch.b, w, reg);
+    scratch.c.clear();
+    s.put(&scratch.a, &scratch.b, &scratch.c)
 }
 
 /// Gives the value of the wire that `read_reg` makes: the register with this number, below 16.

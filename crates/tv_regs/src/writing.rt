@@ -5,9 +5,11 @@ ghost use Rattle.tv_core.specs.Combinations.{top};
 ghost use Rattle.tv_core.specs.Giving.{GivesIn};
 ghost use Rattle.tv_core.specs.Sinks.{PutsIn, Grows, Room};
 ghost use Rattle.tv_regs.specs.Reading.{wires_top};
-ghost use Rattle.tv_regs.specs.Writing.{write_of, tie_of, regs_sum, written_regs, write_reg_of, write_reg_values, WriteRegIsSound, WriteRegIsComplete, WriteRegSizes};
+ghost use Rattle.tv_regs.specs.Writing.{write_of, tie_of, regs_sum, written_regs, write_reg_of};
+ghost use Rattle.tv_regs.specs.Writing.{write_reg_values, WriteRegIsSound, WriteRegIsComplete};
+ghost use Rattle.tv_regs.specs.Writing.{WriteRegSizes};
 
-use crate::reading::difference;
+use crate::scratch::{Scratch, fill_difference, fill_wire};
 use tv_core::{F, Lc, Put, Sink, Values, Wire};
 
 /// Registers of new wires: where the bit `on` is 1, the register whose number the one-hot row of
@@ -32,15 +34,16 @@ pub fn write_reg<S: Sink>(
 {
     let v = s.fresh();
     let first = Wire(s.wires());
+    let mut scratch = Scratch::new();
     for i in 0..16 {
-        write(s, v, sel.offset(i), regs[i as usize])?;
+        write(s, &mut scratch, v, sel.offset(i), regs[i as usize])?;
     }
     tie(s, on, x, v, first, regs)?;
     Ok(row(first))
 }
 
 // A new wire, which is `v` where a wire of the row is 1, and else the register.
-fn write<S: Sink>(s: &mut S, v: Wire, sel: Wire, reg: Wire) -> Put<()>
+fn write<S: Sink>(s: &mut S, scratch: &mut Scratch, v: Wire, sel: Wire, reg: Wire) -> Put<()>
     requires room { Room S.meaning s.old 1 1 }
     requires v_made { v < S.meaning.wires s.old }
     requires sel_made { sel < S.meaning.wires s.old }
@@ -49,7 +52,10 @@ fn write<S: Sink>(s: &mut S, v: Wire, sel: Wire, reg: Wire) -> Put<()>
     ensures grows { IfOk result (λ _. Grows S.meaning s.old s.new 1 1) }
 {
     let new = s.fresh();
-    s.put(&Lc::wire(sel), &difference(v, reg), &difference(new, reg))
+    fill_wire(&mut scratch.a, sel);
+    fill_difference(&mut scratch.b, v, reg);
+    fill_difference(&mut scratch.c, new, reg);
+    s.put(&scratch.a, &scratch.b, &scratch.c)
 }
 
 // Holds `v` to `x` where `on` is 1, and the sum of the registers to what it was where `on` is 0.
