@@ -1,5 +1,6 @@
 //! Results of the instructions, on words of `W` bits, 16 or 32.
-ghost use Rattle.std.specs.Prelude.{◌≡◌, ◌+◌, ◌-◌, ◌*◌, ◌/◌, ◌%◌, ◌^◌, ◌<◌, ◌==◌, ◌*ℤ◌, Bool, nat_lt, nat_le, not, if◌then◌else◌};
+ghost use Rattle.std.specs.Prelude.{◌≡◌, ◌+◌, ◌-◌, ◌*◌, ◌/◌, ◌%◌, ◌^◌, ◌<◌, ◌==◌, ◌*ℤ◌, Bool};
+ghost use Rattle.std.specs.Prelude.{nat_lt, nat_le, not, if◌then◌else◌};
 ghost use Rattle.tv_step.specs.Rows.{has_bit};
 ghost use Rattle.tv_word.specs.Twos.{twos, fits};
 ghost use Rattle.tv_word.specs.Widths.{IsWidth};

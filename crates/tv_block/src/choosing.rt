@@ -1,6 +1,7 @@
 ghost use Rattle.std.specs.Prelude.{◌≡◌, ◌+◌, ◌≤◌, ◌<◌, IfOk};
 ghost use Rattle.tv_block.specs.Result.{result_table, flag_table, result_of};
-ghost use Rattle.tv_block.specs.Under.{StateUnder, FetchedUnder, OperandsUnder, GroupsUnder, TapesUnder, DataUnder, StoreUnder};
+ghost use Rattle.tv_block.specs.Under.{StateUnder, FetchedUnder, OperandsUnder, GroupsUnder};
+ghost use Rattle.tv_block.specs.Under.{TapesUnder, DataUnder, StoreUnder};
 ghost use Rattle.tv_core.specs.Sinks.{PutsIn, Grows, Room};
 ghost use Rattle.tv_regs.specs.Choices.{choose_of};
 ghost use Rattle.tv_regs.specs.Reading.{wires_top};
@@ -29,7 +30,8 @@ pub(crate) fn result<const W: u32, S: Sink>(
     requires groups_made { GroupsUnder W (S.meaning.wires s.old) groups.now }
     requires data_made { DataUnder W (S.meaning.wires s.old) looked.now }
     requires store_made { StoreUnder (S.meaning.wires s.old) store.now }
-    ensures puts { PutsIn S.meaning s.old s.new (result_of W state.now fetched.now operands.now groups.now looked.now store.now) result }
+    ensures puts { PutsIn S.meaning s.old s.new
+        (result_of W state.now fetched.now operands.now groups.now looked.now store.now) result }
     ensures grows { IfOk result (λ _. Grows S.meaning s.old s.new 19 35) }
     ensures below { IfOk result (λ regs. wires_top regs ≤ S.meaning.wires s.new) }
 {
@@ -60,7 +62,8 @@ fn result_word<const W: u32, S: Sink>(
     requires groups_made { GroupsUnder W (S.meaning.wires s.old) groups.now }
     requires data_made { DataUnder W (S.meaning.wires s.old) looked.now }
     requires store_made { StoreUnder (S.meaning.wires s.old) store.now }
-    ensures puts { PutsIn S.meaning s.old s.new (choose_of op (result_table W operands.now groups.now looked.now store.now)) result }
+    ensures puts { PutsIn S.meaning s.old s.new
+        (choose_of op (result_table W operands.now groups.now looked.now store.now)) result }
     ensures grows { IfOk result (λ _. Grows S.meaning s.old s.new 1 17) }
     ensures below { IfOk result (λ w. w < S.meaning.wires s.new) }
 {
@@ -71,77 +74,29 @@ fn result_word<const W: u32, S: Sink>(
     let signed_high = groups.high.high.lc();
     let quotient = groups.quotient.quot.lc();
     let remainder = groups.quotient.rem.lc();
-    let table = [
-        WireEntry {
-            ops: &[0],
-            gives: &[(F::ONE, groups.bitwise.and_word)],
-        },
-        WireEntry {
-            ops: &[1],
-            gives: &[(F::ONE, groups.bitwise.or_word)],
-        },
-        WireEntry {
-            ops: &[2],
-            gives: &[(F::ONE, groups.bitwise.xor_word)],
-        },
-        WireEntry {
-            ops: &[3],
-            gives: &[(F::ONE, groups.bitwise.not_word)],
-        },
-        WireEntry {
-            ops: &[4],
-            gives: sum.terms(),
-        },
-        WireEntry {
-            ops: &[5],
-            gives: difference.terms(),
-        },
-        WireEntry {
-            ops: &[6],
-            gives: low.terms(),
-        },
-        WireEntry {
-            ops: &[7],
-            gives: high.terms(),
-        },
-        WireEntry {
-            ops: &[8],
-            gives: signed_high.terms(),
-        },
-        WireEntry {
-            ops: &[9],
-            gives: quotient.terms(),
-        },
-        WireEntry {
-            ops: &[10],
-            gives: remainder.terms(),
-        },
-        WireEntry {
-            ops: &[11],
-            gives: &[(F::ONE, groups.shifted.left)],
-        },
-        WireEntry {
-            ops: &[12],
-            gives: &[(F::ONE, groups.shifted.right)],
-        },
-        WireEntry {
-            ops: &[18, 19],
-            gives: &[(F::ONE, operands.operand)],
-        },
-        WireEntry {
-            ops: &[27],
-            gives: &[(F::ONE, store.byte)],
-        },
-        WireEntry {
-            ops: &[29],
-            gives: &[(F::ONE, looked.word)],
-        },
-        WireEntry {
-            ops: &[30],
-            gives: &[(F::ONE, looked.read)],
-        },
-    ];
-    choose(s, op, &table)
+    choose(
+        s,
+        op,
+        &[
+            entry(&[0], &[(F::ONE, groups.bitwise.and_word)]),
+            entry(&[1], &[(F::ONE, groups.bitwise.or_word)]),
+            entry(&[2], &[(F::ONE, groups.bitwise.xor_word)]),
+            entry(&[3], &[(F::ONE, groups.bitwise.not_word)]),
+            entry(&[4], sum.terms()),
+            entry(&[5], difference.terms()),
+            entry(&[6], low.terms()),
+            entry(&[7], high.terms()),
+            entry(&[8], signed_high.terms()),
+            entry(&[9], quotient.terms()),
+            entry(&[10], remainder.terms()),
+            entry(&[11], &[(F::ONE, groups.shifted.left)]),
+            entry(&[12], &[(F::ONE, groups.shifted.right)]),
+            entry(&[18, 19], &[(F::ONE, operands.operand)]),
+            entry(&[27], &[(F::ONE, store.byte)]),
+            entry(&[29], &[(F::ONE, looked.word)]),
+            entry(&[30], &[(F::ONE, looked.read)]),
+        ],
+    )
 }
 
 /// The flag after a step. It makes 1 wire and 18 constraints.
@@ -160,90 +115,52 @@ pub(crate) fn flag<const W: u32, S: Sink>(
     requires operands_made { OperandsUnder W (S.meaning.wires s.old) operands.now }
     requires groups_made { GroupsUnder W (S.meaning.wires s.old) groups.now }
     requires tapes_made { TapesUnder (S.meaning.wires s.old) tapes.now }
-    ensures puts { PutsIn S.meaning s.old s.new (choose_of op (flag_table W state.now operands.now groups.now tapes.now)) result }
+    ensures puts { PutsIn S.meaning s.old s.new
+        (choose_of op (flag_table W state.now operands.now groups.now tapes.now)) result }
     ensures grows { IfOk result (λ _. Grows S.meaning s.old s.new 1 18) }
     ensures below { IfOk result (λ w. w < S.meaning.wires s.new) }
 {
     let order = groups.order;
     let lowest = operands.x.first;
     let highest = lowest.offset(W - 1);
-    let table = [
-        WireEntry {
-            ops: &[0],
-            gives: &[(F::ONE, groups.bitwise.and_zero)],
-        },
-        WireEntry {
-            ops: &[1],
-            gives: &[(F::ONE, groups.bitwise.or_zero)],
-        },
-        WireEntry {
-            ops: &[2],
-            gives: &[(F::ONE, groups.bitwise.xor_zero)],
-        },
-        WireEntry {
-            ops: &[3],
-            gives: &[(F::ONE, groups.bitwise.not_zero)],
-        },
-        WireEntry {
-            ops: &[4],
-            gives: &[(F::ONE, groups.sum.high.first)],
-        },
-        WireEntry {
-            ops: &[5],
-            gives: &[(F::ONE, groups.difference.high.first)],
-        },
-        WireEntry {
-            ops: &[6, 7],
-            gives: &[(F::ONE, groups.product.over)],
-        },
-        WireEntry {
-            ops: &[8],
-            gives: &[(F::ONE, groups.high.over)],
-        },
-        WireEntry {
-            ops: &[9, 10],
-            gives: &[(F::ONE, groups.quotient.by_zero)],
-        },
-        WireEntry {
-            ops: &[11],
-            gives: &[(F::ONE, highest)],
-        },
-        WireEntry {
-            ops: &[12],
-            gives: &[(F::ONE, lowest)],
-        },
-        WireEntry {
-            ops: &[13],
-            gives: &[(F::ONE, order.equal)],
-        },
-        WireEntry {
-            ops: &[14],
-            gives: &[(F::ONE, order.above)],
-        },
-        WireEntry {
-            ops: &[15],
-            gives: &[(F::ONE, order.above), (F::ONE, order.equal)],
-        },
-        WireEntry {
-            ops: &[16],
-            gives: &[(F::ONE, order.greater)],
-        },
-        WireEntry {
-            ops: &[17],
-            gives: &[(F::ONE, order.greater), (F::ONE, order.equal)],
-        },
-        WireEntry {
-            ops: &[30],
-            gives: &[
-                (F::ONE, Wire(0)),
-                (-F::ONE, tapes.primary),
-                (-F::ONE, tapes.takes),
-            ],
-        },
-        WireEntry {
-            ops: &[18, 19, 20, 21, 22, 26, 27, 28, 29, 31],
-            gives: &[(F::ONE, state.flag)],
-        },
+    let no_word = [
+        (F::ONE, Wire(0)),
+        (-F::ONE, tapes.primary),
+        (-F::ONE, tapes.takes),
     ];
-    choose(s, op, &table)
+    choose(
+        s,
+        op,
+        &[
+            entry(&[0], &[(F::ONE, groups.bitwise.and_zero)]),
+            entry(&[1], &[(F::ONE, groups.bitwise.or_zero)]),
+            entry(&[2], &[(F::ONE, groups.bitwise.xor_zero)]),
+            entry(&[3], &[(F::ONE, groups.bitwise.not_zero)]),
+            entry(&[4], &[(F::ONE, groups.sum.high.first)]),
+            entry(&[5], &[(F::ONE, groups.difference.high.first)]),
+            entry(&[6, 7], &[(F::ONE, groups.product.over)]),
+            entry(&[8], &[(F::ONE, groups.high.over)]),
+            entry(&[9, 10], &[(F::ONE, groups.quotient.by_zero)]),
+            entry(&[11], &[(F::ONE, highest)]),
+            entry(&[12], &[(F::ONE, lowest)]),
+            entry(&[13], &[(F::ONE, order.equal)]),
+            entry(&[14], &[(F::ONE, order.above)]),
+            entry(&[15], &[(F::ONE, order.above), (F::ONE, order.equal)]),
+            entry(&[16], &[(F::ONE, order.greater)]),
+            entry(&[17], &[(F::ONE, order.greater), (F::ONE, order.equal)]),
+            entry(&[30], &no_word),
+            entry(
+                &[18, 19, 20, 21, 22, 26, 27, 28, 29, 31],
+                &[(F::ONE, state.flag)],
+            ),
+        ],
+    )
+}
+
+// An entry of a table of combinations.
+fn entry<'a>(ops: &'a [u8], gives: &'a [(F, Wire)]) -> WireEntry<'a>
+    ensures ops { result.ops.now ≡ ops.now }
+    ensures gives { result.gives.now ≡ gives.now }
+{
+    WireEntry { ops, gives }
 }

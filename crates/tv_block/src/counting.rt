@@ -10,8 +10,8 @@ use tv_bits::{Bits, select, zero};
 use tv_core::{F, Lc, Put, Sink, Wire};
 use tv_regs::{WireEntry, choose};
 
-/// The program counter after a step, `op` being its opcode's row and `a` the bits of its operand. It
-/// makes 4 wires and 8 constraints.
+/// The program counter after a step, `op` being its opcode's row and `a` the bits of its operand.
+/// It makes 4 wires and 8 constraints.
 pub(crate) fn counter<const W: u32, S: Sink>(
     s: &mut S,
     state: &StateWires,

@@ -1,4 +1,5 @@
-ghost use Rattle.tv_block.specs.Complete.{BlockIsComplete, BlockSizes, MachineStepIsMet, MachineValuesFit};
+ghost use Rattle.tv_block.specs.Complete.{BlockIsComplete, BlockSizes, MachineStepIsMet};
+ghost use Rattle.tv_block.specs.Complete.{MachineValuesFit};
 ghost use Rattle.tv_block.specs.Told.{StepsAreGiven};
 
 /// A step's circuit is complete. An assignment that has the values of a step in numbers at the

@@ -36,7 +36,8 @@ pub fn fill_block<const W: u32, V: Values>(
     requires tail_word { tail < 2 ^ W }
     requires data_word { word < 2 ^ W }
     requires whole { V.giving.broken v.old ≡ false }
-    ensures gives { GivesIn V.giving v.old v.new (block_values W n (view_of state.now) head tail word takes) result }
+    ensures gives { GivesIn V.giving v.old v.new
+        (block_values W n (view_of state.now) head tail word takes) result }
     ensures whole { OnOk result (V.giving.broken v.new ≡ false) }
 {
     let step = step_numbers::<W>(n, state, head, tail, word, takes);
@@ -58,7 +59,9 @@ fn fill_computed<const W: u32, V: Values>(
     requires instr { step.now.instr ≡ decode W head tail }
     requires step { AreNumbers W (view_of state.now) step.now }
     requires whole { V.giving.broken v.old ≡ false }
-    ensures gives { GivesIn V.giving v.old v.new (compute_values W step.now.n (view_of state.now) head tail step.now.word step.now.aux) result }
+    ensures gives { GivesIn V.giving v.old v.new
+        (compute_values W step.now.n (view_of state.now) head tail step.now.word step.now.aux)
+        result }
     ensures whole { OnOk result (V.giving.broken v.new ≡ false) }
 {
     fill_fetch::<W, V>(v, head, tail)?;
@@ -78,7 +81,9 @@ fn fill_effects<const W: u32, V: Values>(
     requires range { ViewInRange W step.now.n (view_of state.now) }
     requires step { AreNumbers W (view_of state.now) step.now }
     requires whole { V.giving.broken v.old ≡ false }
-    ensures gives { GivesIn V.giving v.old v.new (effects_values W step.now.n (view_of state.now) step.now.instr step.now.word step.now.aux) result }
+    ensures gives { GivesIn V.giving v.old v.new
+        (effects_values W step.now.n (view_of state.now) step.now.instr step.now.word step.now.aux)
+        result }
     ensures whole { OnOk result (V.giving.broken v.new ≡ false) }
 {
     fill_tapes::<W, V>(v, state, step)?;
@@ -86,34 +91,4 @@ fn fill_effects<const W: u32, V: Values>(
     fill_store::<W, V>(v, state, step)?;
     fill_result::<W, V>(v, state, step)?;
     fill_flag::<W, V>(v, state, step)
-}
-
-#[cfg(test)]
-mod tests {
-    use super::*;
-    use std::test::Fail;
-    use tv_core::ListValues;
-
-    // A sum of register 2 and 5, put into register 1: as many values at each width as a step makes
-    // wires, the program counter after it last.
-    #[test]
-    fn gives_a_value_for_each_wire(rt: HostRuntime) -> Result<(), Fail> {
-        let state = TraceState {
-            pc: 16,
-            regs: [7; 16],
-            flag: false,
-            primary: 0,
-            aux: 0,
-            ended: false,
-        };
-        let mut wide = ListValues::new(rt.alloc());
-        fill_block::<32, ListValues>(&mut wide, 3, &state, 0x2448_0000, 5, 0, false)?;
-        assert_eq!(rt; wide.as_slice().len(), 654);
-        assert_eq!(rt; wide.as_slice().last().map(|pc| pc.number()), Some(24));
-        let mut narrow = ListValues::new(rt.alloc());
-        fill_block::<16, ListValues>(&mut narrow, 3, &state, 0x2448, 5, 0, false)?;
-        assert_eq!(rt; narrow.as_slice().len(), 404);
-        assert_eq!(rt; narrow.as_slice().last().map(|pc| pc.number()), Some(20));
-        Ok(())
-    }
 }

@@ -1,4 +1,5 @@
-ghost use Rattle.std.specs.Prelude.{◌≡◌, ◌+◌, ◌-◌, ◌/◌, ◌%◌, ◌<◌, ◌^◌, ◌==◌, Bool, if◌then◌else◌, false, OnOk};
+ghost use Rattle.std.specs.Prelude.{◌≡◌, ◌+◌, ◌-◌, ◌/◌, ◌%◌, ◌<◌, ◌^◌, ◌==◌, Bool, if◌then◌else◌};
+ghost use Rattle.std.specs.Prelude.{false, OnOk};
 ghost use Rattle.tv_block.specs.Filling.{view_of, AreNumbers, counters_values};
 ghost use Rattle.tv_block.specs.Values.{pc_values};
 ghost use Rattle.tv_core.specs.Giving.{GivesIn};
@@ -23,7 +24,9 @@ pub(crate) fn fill_counter<const W: u32, V: Values>(
     requires width { IsWidth W }
     requires step { AreNumbers W (view_of state.now) step.now }
     requires whole { V.giving.broken v.old ≡ false }
-    ensures gives { GivesIn V.giving v.old v.new (pc_values W step.now.n (view_of state.now) step.now.instr step.now.word step.now.aux) result }
+    ensures gives { GivesIn V.giving v.old v.new
+        (pc_values W step.now.n (view_of state.now) step.now.instr step.now.word step.now.aux)
+        result }
     ensures whole { OnOk result (V.giving.broken v.new ≡ false) }
 {
     fill_zero(v, but_for_last::<W>(state.pc))?;
@@ -33,7 +36,8 @@ pub(crate) fn fill_counter<const W: u32, V: Values>(
 fn counters_values<const W: u32>(state: &TraceState, step: &StepNumbers) -> [F; 2]
     requires width { IsWidth W }
     requires step { AreNumbers W (view_of state.now) step.now }
-    ensures { result ≡ counters_values W step.now.n (view_of state.now) step.now.instr step.now.word step.now.aux }
+    ensures { result ≡ counters_values W step.now.n (view_of state.now) step.now.instr step.now.word
+        step.now.aux }
 {
     [
         F::from(jumped::<W>(state.pc, step.operand, state.flag)),

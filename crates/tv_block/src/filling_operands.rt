@@ -38,7 +38,8 @@ pub(crate) fn fill_operands<const W: u32, V: Values>(
     requires width { IsWidth W }
     requires step { AreNumbers W (view_of state.now) step.now }
     requires whole { V.giving.broken v.old ≡ false }
-    ensures gives { GivesIn V.giving v.old v.new (operands_values W (view_of state.now) step.now.instr) result }
+    ensures gives { GivesIn V.giving v.old v.new
+        (operands_values W (view_of state.now) step.now.instr) result }
     ensures whole { OnOk result (V.giving.broken v.new ≡ false) }
 {
     give_values(v, &registers::<W>(state, step))?;

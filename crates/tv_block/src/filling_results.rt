@@ -27,7 +27,9 @@ pub(crate) fn fill_result<const W: u32, V: Values>(
     requires width { IsWidth W }
     requires step { AreNumbers W (view_of state.now) step.now }
     requires whole { V.giving.broken v.old ≡ false }
-    ensures gives { GivesIn V.giving v.old v.new (result_values W step.now.n (view_of state.now) step.now.instr step.now.word step.now.aux) result }
+    ensures gives { GivesIn V.giving v.old v.new
+        (result_values W step.now.n (view_of state.now) step.now.instr step.now.word step.now.aux)
+        result }
     ensures whole { OnOk result (V.giving.broken v.new ≡ false) }
 {
     let word = result_of::<W>(state, step);
@@ -41,7 +43,8 @@ pub(crate) fn fill_result<const W: u32, V: Values>(
 fn result_of<const W: u32>(state: &TraceState, step: &StepNumbers) -> u32
     requires width { IsWidth W }
     requires step { AreNumbers W (view_of state.now) step.now }
-    ensures { result ≡ result_in W step.now.n (view_of state.now) step.now.instr step.now.word step.now.aux }
+    ensures { result ≡ result_in W step.now.n (view_of state.now) step.now.instr step.now.word
+        step.now.aux }
 {
     result_word::<W>(
         step.instr.op,
@@ -102,7 +105,9 @@ pub(crate) fn fill_flag<const W: u32, V: Values>(
     requires width { IsWidth W }
     requires step { AreNumbers W (view_of state.now) step.now }
     requires whole { V.giving.broken v.old ≡ false }
-    ensures gives { GivesIn V.giving v.old v.new ((stepped W step.now.n (view_of state.now) step.now.instr step.now.word step.now.aux).flag ∷ []) result }
+    ensures gives { GivesIn V.giving v.old v.new
+        ((stepped W step.now.n (view_of state.now) step.now.instr step.now.word step.now.aux).flag
+        ∷ []) result }
     ensures whole { OnOk result (V.giving.broken v.new ≡ false) }
 {
     let flag = flag_after::<W>(

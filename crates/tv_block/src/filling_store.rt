@@ -1,6 +1,7 @@
 ghost use Rattle.std.specs.Prelude.{◌≡◌, ◌*◌, ◌/◌, ◌%◌, ◌<◌, ◌≤◌, ◌^◌, false, OnOk};
 ghost use Rattle.tv_block.specs.Filling.{view_of, AreNumbers, news_values};
-ghost use Rattle.tv_block.specs.Values.{gained, patch_two_values, patch_four_values, patch_values, store_values};
+ghost use Rattle.tv_block.specs.Values.{gained, patch_two_values, patch_four_values, patch_values};
+ghost use Rattle.tv_block.specs.Values.{store_values};
 ghost use Rattle.tv_core.specs.Giving.{GivesIn};
 ghost use Rattle.tv_mem.specs.Bytes.{byte_of};
 ghost use Rattle.tv_numbers.specs.Numbers.{with_byte_in};
@@ -19,7 +20,9 @@ pub(crate) fn fill_store<const W: u32, V: Values>(
     requires width { IsWidth W }
     requires step { AreNumbers W (view_of state.now) step.now }
     requires whole { V.giving.broken v.old ≡ false }
-    ensures gives { GivesIn V.giving v.old v.new (store_values W step.now.n (view_of state.now) step.now.instr step.now.word step.now.aux) result }
+    ensures gives { GivesIn V.giving v.old v.new
+        (store_values W step.now.n (view_of state.now) step.now.instr step.now.word step.now.aux)
+        result }
     ensures whole { OnOk result (V.giving.broken v.new ≡ false) }
 {
     fill_patch::<W, V>(v, step.word, step.operand, step.other)?;
@@ -63,7 +66,8 @@ fn patch_of_four(word: u32, at: u32, x: u32) -> [F; 5]
 fn news_values<const W: u32>(state: &TraceState, step: &StepNumbers) -> [F; 2]
     requires width { IsWidth W }
     requires step { AreNumbers W (view_of state.now) step.now }
-    ensures { result ≡ news_values W step.now.n (view_of state.now) step.now.instr step.now.word step.now.aux }
+    ensures { result ≡ news_values W step.now.n (view_of state.now) step.now.instr step.now.word
+        step.now.aux }
 {
     let with_byte = if step.instr.op == 26 {
         with_byte::<W>(step.word, step.operand % (W / 8), step.other % 256)

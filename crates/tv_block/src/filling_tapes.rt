@@ -1,4 +1,5 @@
-ghost use Rattle.std.specs.Prelude.{◌≡◌, ◌+◌, ◌*◌, ◌/◌, ◌%◌, ◌<◌, ◌≤◌, ◌^◌, ◌==◌, ◌&&◌, ◌||◌, not, Bool, if◌then◌else◌, [], ◌∷◌, false, OnOk};
+ghost use Rattle.std.specs.Prelude.{◌≡◌, ◌+◌, ◌*◌, ◌/◌, ◌%◌, ◌<◌, ◌≤◌, ◌^◌, ◌==◌, ◌&&◌, ◌||◌, not};
+ghost use Rattle.std.specs.Prelude.{Bool, if◌then◌else◌, [], ◌∷◌, false, OnOk};
 ghost use Rattle.tv_block.specs.Filling.{view_of, AreNumbers, looked_values};
 ghost use Rattle.tv_block.specs.Values.{tapes_values, data_values};
 ghost use Rattle.tv_core.specs.Giving.{GivesIn};
@@ -24,7 +25,9 @@ pub(crate) fn fill_tapes<const W: u32, V: Values>(
     requires step { AreNumbers W (view_of state.now) step.now }
     requires taken { state.now.primary ≤ step.now.n }
     requires whole { V.giving.broken v.old ≡ false }
-    ensures gives { GivesIn V.giving v.old v.new (tapes_values W step.now.n (view_of state.now) step.now.instr step.now.word step.now.aux) result }
+    ensures gives { GivesIn V.giving v.old v.new
+        (tapes_values W step.now.n (view_of state.now) step.now.instr step.now.word step.now.aux)
+        result }
     ensures whole { OnOk result (V.giving.broken v.new ≡ false) }
 {
     give_values(v, &tapes_values::<W>(state, step))
@@ -33,7 +36,8 @@ pub(crate) fn fill_tapes<const W: u32, V: Values>(
 fn tapes_values<const W: u32>(state: &TraceState, step: &StepNumbers) -> [F; 8]
     requires step { AreNumbers W (view_of state.now) step.now }
     requires taken { state.now.primary ≤ step.now.n }
-    ensures { result ≡ tapes_values W step.now.n (view_of state.now) step.now.instr step.now.word step.now.aux }
+    ensures { result ≡ tapes_values W step.now.n (view_of state.now) step.now.instr step.now.word
+        step.now.aux }
 {
     let reads = step.instr.op == 30;
     let reads_aux = reads && step.operand == 1;
@@ -69,7 +73,8 @@ fn inverse(x: u32) -> F
 // How many words of the primary tape are taken after a step.
 fn taken_after<const W: u32>(state: &TraceState, step: &StepNumbers) -> u32
     requires step { AreNumbers W (view_of state.now) step.now }
-    ensures { result ≡ (stepped W step.now.n (view_of state.now) step.now.instr step.now.word step.now.aux).taken }
+    ensures { result ≡ (stepped W step.now.n (view_of state.now) step.now.instr step.now.word
+        step.now.aux).taken }
 {
     if step.primary {
         state.primary + 1
@@ -81,7 +86,8 @@ fn taken_after<const W: u32>(state: &TraceState, step: &StepNumbers) -> u32
 // The ended bit after a step: it was set, or the step finds nothing on the auxiliary tape.
 fn ended_after<const W: u32>(state: &TraceState, step: &StepNumbers) -> bool
     requires step { AreNumbers W (view_of state.now) step.now }
-    ensures { flag_of result ≡ (stepped W step.now.n (view_of state.now) step.now.instr step.now.word step.now.aux).ended }
+    ensures { flag_of result ≡ (stepped W step.now.n (view_of state.now) step.now.instr
+        step.now.word step.now.aux).ended }
 {
     state.ended || step.instr.op == 30 && step.operand == 1 && !step.aux
 }
@@ -96,7 +102,9 @@ pub(crate) fn fill_data<const W: u32, V: Values>(
     requires step { AreNumbers W (view_of state.now) step.now }
     requires short { step.now.n < 2 ^ 29 }
     requires whole { V.giving.broken v.old ≡ false }
-    ensures gives { GivesIn V.giving v.old v.new (data_values W step.now.n (view_of state.now) step.now.instr step.now.word step.now.aux) result }
+    ensures gives { GivesIn V.giving v.old v.new
+        (data_values W step.now.n (view_of state.now) step.now.instr step.now.word step.now.aux)
+        result }
     ensures whole { OnOk result (V.giving.broken v.new ≡ false) }
 {
     fill_bits(v, F::from(step.word), W)?;
@@ -109,7 +117,8 @@ fn looked_values<const W: u32>(state: &TraceState, step: &StepNumbers) -> [F; 5]
     requires width { IsWidth W }
     requires step { AreNumbers W (view_of state.now) step.now }
     requires short { step.now.n < 2 ^ 29 }
-    ensures { result ≡ looked_values W step.now.n (view_of state.now) step.now.instr step.now.word step.now.aux }
+    ensures { result ≡ looked_values W step.now.n (view_of state.now) step.now.instr step.now.word
+        step.now.aux }
 {
     let memory_cell = if touches(step.instr.op) {
         step.operand / (W / 8)

@@ -39,8 +39,8 @@ pub(crate) fn unless_zero<S: Sink>(s: &mut S, g: &Lc, x: &Lc) -> Put<Wire>
     Ok(w)
 }
 
-/// Holds `asked` less what `before` was to `takes` and to what the ended bit gains, which stays where
-/// a word is taken. It makes 2 constraints.
+/// Holds `asked` less what `before` was to `takes` and to what the ended bit gains, which stays
+/// where a word is taken. It makes 2 constraints.
 pub(crate) fn taking<S: Sink>(
     s: &mut S,
     asked: Wire,

@@ -24,7 +24,8 @@ pub(crate) fn groups<const W: u32, S: Sink>(s: &mut S, x: &Bits, a: &Bits) -> Pu
     requires x_made { x.now.first + W ≤ S.meaning.wires s.old }
     requires a_made { a.now.first + W ≤ S.meaning.wires s.old }
     ensures puts { PutsIn S.meaning s.old s.new (groups_of W x.now a.now) result }
-    ensures grows { IfOk result (λ _. Grows S.meaning s.old s.new (operations_made W) (operations_made W + 9)) }
+    ensures grows { IfOk result (λ _. Grows S.meaning s.old s.new (operations_made W)
+        (operations_made W + 9)) }
     ensures below { IfOk result (λ made. GroupsUnder W (S.meaning.wires s.new) made) }
 {
     Ok(Groups {

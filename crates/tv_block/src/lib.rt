@@ -1,7 +1,7 @@
 //! One step of the machine as constraints. Its eight parts stand in the specs: the instruction, its
 //! operands, the operations on them, the tapes, the data word, loads and stores, the registers and
-//! the flag, and the program counter. What a block says is `IsMachineStep`: the numbers at its wires
-//! are a step in numbers, which is the machine's.
+//! the flag, and the program counter. What a block says is `IsMachineStep`: the numbers at its
+//! wires are a step in numbers, which is the machine's.
 #![tactic(auto)]
 
 mod arithmetic;

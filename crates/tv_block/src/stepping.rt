@@ -75,7 +75,8 @@ fn compute<const W: u32, S: Sink>(s: &mut S, state: &StateWires, n: u32) -> Put<
     requires room { Room S.meaning s.old (compute_made W) (compute_added W) }
     requires state_made { StateUnder (S.meaning.wires s.old) state.now }
     ensures puts { PutsIn S.meaning s.old s.new (compute_of W n state.now) result }
-    ensures grows { IfOk result (λ _. Grows S.meaning s.old s.new (compute_made W) (compute_added W)) }
+    ensures grows { IfOk result (λ _. Grows S.meaning s.old s.new (compute_made W)
+        (compute_added W)) }
     ensures fetched { IfOk result (λ made. FetchedUnder W (S.meaning.wires s.new) made.fetched) }
     ensures operands { IfOk result (λ made. OperandsUnder W (S.meaning.wires s.new) made.operands) }
     ensures taken { IfOk result (λ made. made.taken < S.meaning.wires s.new) }

@@ -1,6 +1,8 @@
 ghost use Rattle.std.specs.Prelude.{◌≡◌, ◌+◌, ◌*◌, ◌-◌, ◌≤◌, ◌<◌, ◌^◌, ◌++◌, length, max, IfOk};
-ghost use Rattle.tv_block.specs.Store.{byte_of_bits, power_by, patch_of_two, patch_of_four, patch_of, store_of};
-ghost use Rattle.tv_block.specs.Under.{OperandsUnder, DataUnder, PatchUnder, StoreUnder, patch_made};
+ghost use Rattle.tv_block.specs.Store.{byte_of_bits, power_by, patch_of_two, patch_of_four};
+ghost use Rattle.tv_block.specs.Store.{patch_of, store_of};
+ghost use Rattle.tv_block.specs.Under.{OperandsUnder, DataUnder, PatchUnder, StoreUnder};
+ghost use Rattle.tv_block.specs.Under.{patch_made};
 ghost use Rattle.tv_bits.specs.Bits.{bits_combination};
 ghost use Rattle.tv_core.specs.Combinations.{wire, less, top};
 ghost use Rattle.tv_core.specs.Sinks.{PutsIn, Grows, Room};
@@ -88,7 +90,8 @@ fn patch_of_four<S: Sink>(s: &mut S, bits: &Bits, a: &Bits, x: &Bits) -> Put<Pat
     Ok(Patch { byte, added })
 }
 
-// The same in a word of `W` bits: at 16 it makes 2 wires and 2 constraints, at 32 it makes 5 of each.
+// The same in a word of `W` bits: at 16 it makes 2 wires and 2 constraints, at 32 it makes 5 of
+// each.
 fn patch<const W: u32, S: Sink>(s: &mut S, bits: &Bits, a: &Bits, x: &Bits) -> Put<Patch>
     requires width { IsWidth W }
     requires room { Room S.meaning s.old (patch_made W) (patch_made W) }
@@ -106,8 +109,8 @@ fn patch<const W: u32, S: Sink>(s: &mut S, bits: &Bits, a: &Bits, x: &Bits) -> P
     }
 }
 
-/// The byte that a load gives, and the word in the step's cell after it. At 16 bits it makes 4 wires
-/// and 4 constraints, at 32 bits 7 of each.
+/// The byte that a load gives, and the word in the step's cell after it. At 16 bits it makes 4
+/// wires and 4 constraints, at 32 bits 7 of each.
 pub(crate) fn store<const W: u32, S: Sink>(
     s: &mut S,
     op: Wire,
@@ -120,7 +123,8 @@ pub(crate) fn store<const W: u32, S: Sink>(
     requires operands_made { OperandsUnder W (S.meaning.wires s.old) operands.now }
     requires data_made { DataUnder W (S.meaning.wires s.old) looked.now }
     ensures puts { PutsIn S.meaning s.old s.new (store_of W op operands.now looked.now) result }
-    ensures grows { IfOk result (λ _. Grows S.meaning s.old s.new (patch_made W + 2) (patch_made W + 2)) }
+    ensures grows { IfOk result (λ _. Grows S.meaning s.old s.new (patch_made W + 2)
+        (patch_made W + 2)) }
     ensures below { IfOk result (λ made. StoreUnder (S.meaning.wires s.new) made) }
 {
     let patch = patch::<W, S>(s, &looked.bits, &operands.a, &operands.x)?;

@@ -1,8 +1,11 @@
-//! Tests of a step through its public calls: a run of all instructions at both widths, step by step, over the
-//! generator's values and over the same with a wire raised, and sizes. They stand in a crate of their own,
-//! since a crate with tests is proved twice; nothing here is for callers.
+//! Tests of a step through its public calls: a run of all instructions at both widths, step by
+//! step, over the generator's values and over the same with a wire raised, false assignments, and
+//! sizes. They stand in a crate of their own, since a crate with tests is proved twice; nothing
+//! here is for callers.
 #![tactic(auto)]
 
+#[cfg(test)]
+mod false_steps;
 #[cfg(test)]
 mod program;
 #[cfg(test)]

@@ -1,5 +1,5 @@
-//! Each step of a run: all constraints hold over the generator's values, which are the machine's, and
-//! one fails where a wire is raised.
+//! Each step of a run: all constraints hold over the generator's values, which are the machine's,
+//! and one fails where a wire is raised.
 ghost use Rattle.std.specs.Prelude.{◌≡◌, ◌+◌, ◌≤◌, ◌<◌, ◌^◌};
 ghost use Rattle.tv_word.specs.Widths.{IsWidth};
 
@@ -13,8 +13,8 @@ use tv_core::{F, Lc, Line, LineLc, Put, Wire};
 use tv_isa::decode;
 use tv_step::{Trace, TraceState, trace};
 
-// The trace of the program at a width; `None` where its header is of another one.
-fn run_of<const W: u32>(alloc: Global, header: &str) -> Result<Option<Trace>, Fail>
+/// The trace of the program at a width; `None` where its header is of another one.
+pub fn run_of<const W: u32>(alloc: Global, header: &str) -> Result<Option<Trace>, Fail>
     requires width { IsWidth W }
 {
     let mut text = String::new(alloc);
@@ -30,15 +30,16 @@ fn run_of<const W: u32>(alloc: Global, header: &str) -> Result<Option<Trace>, Fa
     Ok(Some(trace::<W>(alloc, image.as_slice(), &TAPE, &AUX, LINES.len() as u32)?))
 }
 
-// A step of the machine: the states before and after it, and its lines.
+/// A step of the machine: the states before and after it, and its lines.
 #[derive(Clone, Copy)]
-struct Row<'a> {
-    before: &'a TraceState,
-    after: &'a TraceState,
-    lines: [Line; 3],
+pub struct Row<'a> {
+    pub before: &'a TraceState,
+    pub after: &'a TraceState,
+    pub lines: [Line; 3],
 }
 
-fn row_at(trace: &Trace, place: usize) -> Option<Row<'_>>
+/// The step at a place of the program; `None` behind its end.
+pub fn row_at(trace: &Trace, place: usize) -> Option<Row<'_>>
     requires few { place ≤ 64 }
 {
     let states = trace.states.as_slice();
@@ -54,8 +55,8 @@ fn row_at(trace: &Trace, place: usize) -> Option<Row<'_>>
     })
 }
 
-// What the row's step is given.
-fn given(row: &Row<'_>) -> Given {
+/// What the row's step is given.
+pub fn given(row: &Row<'_>) -> Given {
     let takes = row.after.aux != row.before.aux;
     Given {
         head: row.lines[0].old,
@@ -106,7 +107,8 @@ fn shows_lines<const W: u32>(z: &[F], lines: &[Line; 3]) -> bool
     true
 }
 
-fn raise(z: &mut Vec<F>, wire: Wire, by: F) {
+/// Adds a number to what a wire holds.
+pub fn raise(z: &mut Vec<F>, wire: Wire, by: F) {
     if let Some(number) = z.get_mut(wire.0 as usize) {
         *number = *number + by;
     }
@@ -122,16 +124,16 @@ fn is_noticed<const W: u32>(z: &mut Vec<F>, n: u32, wire: Wire) -> Put<bool>
     Ok(held < tested)
 }
 
-// The wire of a combination of one.
-fn wire_of(lc: &Lc) -> Wire {
+/// The wire of a combination of one.
+pub fn wire_of(lc: &Lc) -> Wire {
     match lc.terms().first() {
         Some((_, wire)) => *wire,
         None => Wire(0),
     }
 }
 
-// Whether the wires of the result, the flag and the program counter behind a step, and of the word in
-// its cell, are each held.
+// Whether the wires of the result, the flag and the program counter behind a step, and of the word
+// in its cell, are each held.
 fn are_noticed<const W: u32>(z: &mut Vec<F>, n: u32, dest: u8) -> Put<bool>
     requires width { IsWidth W }
     requires register { dest < 16 }

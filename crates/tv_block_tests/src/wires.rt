@@ -11,8 +11,8 @@ use tv_block::{StateWires, fill_block, step};
 use tv_core::{F, ListValues, Put, TestSink, Values, Wire};
 use tv_step::TraceState;
 
-/// The first wire of the step: behind wire 0 stand the program counter, the registers, the flag, the
-/// words taken and the ended bit.
+/// The first wire of the step: behind wire 0 stand the program counter, the registers, the flag,
+/// the words taken and the ended bit.
 pub const FIRST: Wire = Wire(21);
 
 /// The wires of the state before it.
@@ -45,8 +45,8 @@ pub fn state_wires() -> StateWires
     }
 }
 
-/// What a step is given: the two words of its instruction, its data word, and whether that is taken of
-/// the auxiliary tape.
+/// What a step is given: the two words of its instruction, its data word, and whether that is taken
+/// of the auxiliary tape.
 #[derive(Clone, Copy)]
 pub struct Given {
     pub head: u32,
