@@ -181,16 +181,19 @@ passes_cut old new name held first second between after why p =
     }
 
 module _ {X : Type 0} (f : X → List ℕ) (xs : List X) (i : ℕ) (d : X) where
+  -- the bytes of one more of the items of a list stand behind those of the others
+  pub each_more : (bytes : List ℕ) → i < length xs → bytes ≡ f (get_or xs i d) → flat_map f (take (i + 1) xs) ≡ flat_map f (take i xs) ++ bytes
+  each_more bytes h is =
+      let x = get_or xs i d in
+      let next : take (i + 1) xs ≡ take i xs ++ x ∷ [] = ap (λ n. take n xs) (add-one i) ∙ take-suc xs i d h in
+      ap (flat_map f) next ∙ flat_map-append f (take i xs) (x ∷ []) ∙ ap (λ l. flat_map f (take i xs) ++ l) (append-nil (f x) ∙ sym is)
+
   -- one more of the items of a list
   pub each_passes : (old mid new : Outside) (name held between after bytes : List ℕ) → i < length xs → bytes ≡ f (get_or xs i d) →
       PassesOn old mid name (held ++ flat_map f (take i xs)) between (Ok tt) → PassesOn mid new name (between ++ bytes) after (Ok tt) →
       PassesOn old new name (held ++ flat_map f (take (i + 1) xs)) after (Ok tt)
   each_passes old mid new name held between after bytes h is p q =
-      let x = get_or xs i d in
-      let next : take (i + 1) xs ≡ take i xs ++ x ∷ [] = ap (λ n. take n xs) (add-one i) ∙ take-suc xs i d h in
-      let more : flat_map f (take (i + 1) xs) ≡ flat_map f (take i xs) ++ bytes =
-      ap (flat_map f) next ∙ flat_map-append f (take i xs) (x ∷ []) ∙ ap (λ l. flat_map f (take i xs) ++ l) (append-nil (f x) ∙ sym is) in
-      subst (λ l. PassesOn old new name (held ++ l) after (Ok tt)) (sym more) (passes_then old mid new name held (flat_map f (take i xs)) bytes between after (Ok tt) p q)
+      subst (λ l. PassesOn old new name (held ++ l) after (Ok tt)) (sym (each_more bytes h is)) (passes_then old mid new name held (flat_map f (take i xs)) bytes between after (Ok tt) p q)
 
   -- an item of a list is refused
   pub each_cut : (old mid new : Outside) (name held between after last bytes : List ℕ) (why : FileRefusal) → i < length xs → bytes ≡ f (get_or xs i d) →

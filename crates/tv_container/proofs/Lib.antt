@@ -4,3 +4,4 @@ pub mod Pieces
 pub mod SectionLemmas
 pub mod BytesAt
 pub mod Written
+pub mod Streamed

@@ -1,9 +1,11 @@
 -- Pieces of a file, and a read that gives one.
 use Rattle.std.proofs.Common.{◌≡◌, ℕ, ◌+◌, ◌-◌, ◌^◌, ◌<◌, ◌≤◌, nat_le, nat_eq, ⊎_elim, List, ◌++◌, length, take, drop, Option, Some, None, Ok, arith, ap, refl, sym, ◌∙◌}
-use Rattle.std.proofs.lemmas.List.{take-append-le, take-take, drop-take, drop-drop, length-take, length-take-le, length-drop}
+use Rattle.std.proofs.lemmas.List.{take_all, take-append-le, take-take, drop-take, drop-drop, length-take, length-take-le, length-drop}
 use Rattle.std.proofs.lemmas.Bool.Decides.{nat_tests}
 use Rattle.std.proofs.lemmas.Bool.{cases_lt}
 use Rattle.std.proofs.Math.Seq.{take-add, take-append-add}
+use Rattle.std.proofs.lemmas.List.Edits.{take-paste}
+use Rattle.std.specs.List.{copy_within}
 use Rattle.std.specs.Option.{option_and_then}
 use Rattle.tv_word.specs.Word.{spelled}
 use Rattle.tv_files.specs.Outside.{Outside, Names}
@@ -70,6 +72,40 @@ rest_held buffer file held from at size room piece holds is =
     let left : size ≤ length (drop (at - from) buffer) = omega (arith, length-drop (at - from) buffer, holds.to, holds.from) in
     bytes_held buffer file held from at size room piece (record { from = holds.from; to = some })
     ∙ ap (λ m. take m (drop at file)) (sym (length-take-le size (drop (at - from) buffer) left))
+
+-- the bytes from a place on, moved to the front
+pub moved : (buffer file : List ℕ) (held from at : ℕ) → held ≤ length buffer →
+    IsPiece (record { at = from; bytes = take held buffer }) file → Holds (record { at = from; bytes = take held buffer }) at 0 →
+    IsPiece (record { at = at; bytes = take (held - (at - from)) (copy_within buffer (at - from) held 0) }) file
+moved buffer file held from at room piece holds =
+    let n : length (take held buffer) ≡ held = length-take-le held buffer room in
+    let left : held - (at - from) ≤ length (drop (at - from) buffer) = omega (arith, length-drop (at - from) buffer, holds.to, holds.from) in
+    let none : 0 + (held - (at - from)) ≡ held - (at - from) = omega arith in
+    let front : take (held - (at - from)) (copy_within buffer (at - from) held 0) ≡ take (held - (at - from)) (drop (at - from) buffer)
+    = ap (λ n. take n (copy_within buffer (at - from) held 0)) (sym none) ∙ take-paste buffer 0 (drop (at - from) buffer) (held - (at - from)) (omega arith) left in
+    record { same = rw front (rest_held buffer file held from at (held - (at - from)) room piece holds refl) }
+
+-- bytes at the front of a buffer are a piece of the file exactly where they are the file's at its place
+pub front_of : (buffer file : List ℕ) (held at place : ℕ) → held ≤ length buffer → IsPiece (record { at = at; bytes = take held buffer }) file →
+    at ≡ place → take held buffer ≡ take held (drop place file)
+front_of buffer file held at place room piece is = piece.same ∙ ap (λ n. take n (drop at file)) (length-take-le held buffer room) ∙ ap (λ p. take held (drop p file)) is
+
+pub is_piece : (buffer file : List ℕ) (held at place : ℕ) → held ≤ length buffer → take held buffer ≡ take held (drop place file) →
+    at ≡ place → IsPiece (record { at = at; bytes = take held buffer }) file
+is_piece buffer file held at place room same is = record {
+  same = same ∙ ap (λ p. take held (drop p file)) (sym is) ∙ ap (λ n. take n (drop at file)) (sym (length-take-le held buffer room));
+}
+
+-- what was read is all that there is room for, or all that the file has
+pub all_read : (buffer file : List ℕ) (at held most : ℕ) → held ≤ most → (held < most → length file ≤ at + held) →
+    take held buffer ≡ take held (drop at file) → take held buffer ≡ take most (drop at file)
+all_read buffer file at held most within end same =
+    same ∙ ⊎_elim
+    (λ (short : held < most).
+    let past : length (drop at file) ≤ held = omega (arith, length-drop at file, end short) in
+    take_all held (drop at file) past ∙ sym (take_all most (drop at file) (omega arith)))
+    (λ (full : most ≤ held). let is : held ≡ most = omega arith in ap (λ n. take n (drop at file)) is)
+    (cases_lt held most)
 
 -- the file has the bytes at a place exactly where so many were read there
 pub there_if_read : (buffer file : List ℕ) (at size held : ℕ) → held ≤ length buffer → take held buffer ≡ take held (drop at file) →

@@ -1,5 +1,7 @@
 -- The bytes of containers, as they are written.
 use Rattle.std.specs.Prelude.{ℕ, List, ◌++◌, length}
+use Rattle.std.specs.List.{flat_map}
+use Rattle.tv_core.specs.Constraints.{Combination}
 use Rattle.tv_core.specs.declared.field.TheConstants.{P}
 use Rattle.tv_word.specs.Word.{low_bytes}
 
@@ -25,3 +27,11 @@ section_bytes kind content = section_head kind (length content) ++ content
 -- the first twelve bytes of section 1: numbers have 8 bytes, and the prime
 abbrev pub field_bytes : List ℕ
 field_bytes = four_bytes 8 ++ eight_bytes P
+
+-- a term: four bytes of the wire, and eight of the coefficient
+abbrev pub term_bytes : ℕ × ℕ → List ℕ
+term_bytes term = four_bytes term.1 ++ eight_bytes term.0
+
+-- terms, one after another
+abbrev pub terms_bytes : Combination → List ℕ
+terms_bytes terms = flat_map term_bytes terms

@@ -9,8 +9,8 @@ use crate::window::Window;
 use tv_core::P;
 use tv_files::Files;
 
-/// Whether section 1 is of this size, `wants`, and says that numbers are of this field: 8 bytes each,
-/// and the prime.
+/// Whether section 1 is of this size, `wants`, and says that numbers are of this field: 8 bytes
+/// each, and the prime.
 #[tactic(auto, unfolding(crate::specs::Field::this_field))]
 pub fn this_field<D: Files>(
     files: &mut D,
@@ -20,8 +20,10 @@ pub fn this_field<D: Files>(
     wants: u64,
 ) -> Result<(), ReadRefusal>
     requires room { 12 ≤ wants }
-    ensures reads { ReadsIn (D.seen files.old) (D.seen files.new) name.now window.old window.new result
-        (λ file. one.now.at + one.now.size ≤ places file → Gives result (this_field file wants one.now)) }
+    ensures reads { ReadsIn (D.seen files.old) (D.seen files.new) name.now window.old window.new
+        result
+        (λ file. one.now.at + one.now.size ≤ places file
+        → Gives result (this_field file wants one.now)) }
     ensures size { OnOk result (one.now.size ≡ wants) }
 {
     let miscounted = ReadRefusal::Bad {

@@ -2,11 +2,12 @@ ghost use Rattle.std.specs.Prelude.{◌≡◌, ◌+◌, ◌<◌, ◌++◌, lengt
 ghost use Rattle.tv_container.specs.Bytes.{field_bytes, front_bytes, section_head};
 
 use crate::buffer::Buffer;
-use crate::numbers::{long_bytes, short_bytes};
+use crate::numbers::short_bytes;
 use tv_core::P;
 
 impl Buffer {
-    /// Takes the first twelve bytes of a file: the magic, the version, and how many sections there are.
+    /// Takes the first twelve bytes of a file: the magic, the version, and how many sections there
+    /// are.
     pub fn push_front(&mut self, magic: u32, version: u32, sections: u32)
         requires { length self.old + 12 < 4096 }
         ensures bytes { self.new ≡ self.old ++ front_bytes magic version sections }
@@ -23,8 +24,7 @@ impl Buffer {
         ensures bytes { self.new ≡ self.old ++ section_head kind size }
         ensures size { length self.new ≡ length self.old + 12 }
     {
-        self.push(&short_bytes(kind));
-        self.push(&long_bytes(size));
+        self.push_pair(kind, size);
     }
 
     /// Takes the field that section 1 begins with: numbers of eight bytes, and the prime.
@@ -33,7 +33,6 @@ impl Buffer {
         ensures bytes { self.new ≡ self.old ++ field_bytes }
         ensures size { length self.new ≡ length self.old + 12 }
     {
-        self.push(&short_bytes(8));
-        self.push(&long_bytes(P));
+        self.push_pair(8, P);
     }
 }

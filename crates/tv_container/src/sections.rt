@@ -1,7 +1,10 @@
-ghost use Rattle.std.specs.Prelude.{◌≡◌, ℕ, ◌+◌, ◌≤◌, ◌<◌, ◌^◌, true, nat_le, List, [], ◌∷◌, ◌++◌, length, Some, Ok, IfOk, IfErr, OnOk};
+ghost use Rattle.std.specs.Prelude.{◌≡◌, ℕ, ◌+◌, ◌≤◌, ◌<◌, ◌^◌, true, nat_le, List, [], ◌∷◌, ◌++◌};
+ghost use Rattle.std.specs.Prelude.{length, Some, Ok, IfOk, IfErr, OnOk};
 ghost use Rattle.tv_container.specs.Places.{places};
-ghost use Rattle.tv_container.specs.Reading.{Looks, Gives, IsMissing, IsTold, Known, InPiece, ReadsIn};
-ghost use Rattle.tv_container.specs.Sections.{section_at, sections_in, sections_from, sections_of, section_of, stands_already, wanted};
+ghost use Rattle.tv_container.specs.Reading.{Looks, Gives, IsMissing, IsTold, Known, InPiece};
+ghost use Rattle.tv_container.specs.Reading.{ReadsIn};
+ghost use Rattle.tv_container.specs.Sections.{section_at, sections_in, sections_from, sections_of};
+ghost use Rattle.tv_container.specs.Sections.{section_of, stands_already, wanted};
 ghost use Rattle.tv_container.specs.Found.{first_of, AllEnd, FindsIn};
 ghost use Rattle.tv_container.specs.declared.sections.Section.{Section};
 
@@ -9,7 +12,8 @@ use crate::why::{ReadRefusal, ReadWhy};
 use crate::window::Window;
 use tv_files::Files;
 
-/// A section of a container: its type, the place of its content in the file, and how many bytes that has.
+/// A section of a container: its type, the place of its content in the file, and how many bytes
+/// that has.
 #[derive(Clone, Copy, Debug, PartialEq, Eq)]
 pub struct Section {
     pub kind: u32,
@@ -26,7 +30,8 @@ impl Section {
     }
 }
 
-/// How a kind of container begins, and that its sections of types 1 to `singles`, at most 3, may stand once.
+/// How a kind of container begins, and that its sections of types 1 to `singles`, at most 3, may
+/// stand once.
 #[derive(Clone, Copy, Debug, PartialEq, Eq)]
 pub struct Form {
     pub magic: u32,
@@ -96,10 +101,13 @@ pub fn find_sections<D: Files>(
     form: &Form,
 ) -> Result<(Found, u64), ReadRefusal>
     requires singles { form.now.singles ≤ 3 }
-    ensures reads { ReadsIn (D.seen files.old) (D.seen files.new) name.now window.old window.new result
-        (λ file. FindsIn result file (sections_of form.now.singles form.now.magic form.now.version file)) }
+    ensures reads { ReadsIn (D.seen files.old) (D.seen files.new) name.now window.old window.new
+        result
+        (λ file. FindsIn result file (sections_of form.now.singles form.now.magic form.now.version
+        file)) }
     ensures ends { IfOk result (λ found. AllEnd found.0) }
-    ensures missing { IsMissing (D.seen files.old) name.now → window.old.bytes ≡ [] → result ≡ Err ReadRefusal.Fault }
+    ensures missing { IsMissing (D.seen files.old) name.now → window.old.bytes ≡ [] → result
+        ≡ Err ReadRefusal.Fault }
 {
     let count = section_count(files, name, window, form)?;
     next_sections(files, name, window, form.singles, count)
@@ -107,7 +115,8 @@ pub fn find_sections<D: Files>(
 
 // Whether the file has no byte at a place.
 fn ends<D: Files>(files: &mut D, name: &str, at: u64) -> Result<bool, ReadRefusal>
-    ensures gives { Known (D.seen files.old) name.now (λ file. Gives result (Ok (nat_le (length file) at))) }
+    ensures gives { Known (D.seen files.old) name.now
+        (λ file. Gives result (Ok (nat_le (length file) at))) }
     ensures looks { Looks (D.seen files.old) (D.seen files.new) name.now result }
 {
     let mut byte = [0];
@@ -122,10 +131,13 @@ fn section_count<D: Files>(
     window: &mut Window,
     form: &Form,
 ) -> Result<u32, ReadRefusal>
-    ensures reads { ReadsIn (D.seen files.old) (D.seen files.new) name.now window.old window.new result
+    ensures reads { ReadsIn (D.seen files.old) (D.seen files.new) name.now window.old window.new
+        result
         (λ file. Gives result (sections_in form.now.magic form.now.version file)) }
-    ensures start { InPiece (D.seen files.old) name.now window.old (λ file. OnOk result (12 ≤ places file)) }
-    ensures missing { IsMissing (D.seen files.old) name.now → window.old.bytes ≡ [] → result ≡ Err ReadRefusal.Fault }
+    ensures start { InPiece (D.seen files.old) name.now window.old
+        (λ file. OnOk result (12 ≤ places file)) }
+    ensures missing { IsMissing (D.seen files.old) name.now → window.old.bytes ≡ [] → result
+        ≡ Err ReadRefusal.Fault }
 {
     window.fit(files, name, 0, 4)?;
     if window.word(0) != form.magic {
@@ -155,7 +167,8 @@ fn next_sections<D: Files>(
     count: u32,
 ) -> Result<(Found, u64), ReadRefusal>
     requires { singles ≤ 3 }
-    ensures reads { ReadsIn (D.seen files.old) (D.seen files.new) name.now window.old window.new result
+    ensures reads { ReadsIn (D.seen files.old) (D.seen files.new) name.now window.old window.new
+        result
         (λ file. 12 ≤ places file → FindsIn result file (sections_from singles file count 12 [])) }
     ensures ends { IfOk result (λ found. AllEnd found.0) }
 {
@@ -186,8 +199,10 @@ fn next_section<D: Files>(
     at: u64,
 ) -> Result<Section, ReadRefusal>
     requires { singles ≤ 3 }
-    ensures reads { ReadsIn (D.seen files.old) (D.seen files.new) name.now window.old window.new result
-        (λ file. (sections : List Section) → found.now ≡ first_of sections → Gives result (section_at singles file at sections)) }
+    ensures reads { ReadsIn (D.seen files.old) (D.seen files.new) name.now window.old window.new
+        result
+        (λ file. (sections : List Section) → found.now ≡ first_of sections
+        → Gives result (section_at singles file at sections)) }
     ensures place { IfOk result (λ section. section.at + section.size < 2 ^ 64) }
 {
     window.fit(files, name, at, 12)?;
@@ -220,9 +235,12 @@ fn reaches_end<D: Files>(
     window: &mut Window,
     section: &Section,
 ) -> Result<bool, ReadRefusal>
-    ensures reads { ReadsIn (D.seen files.old) (D.seen files.new) name.now window.old window.new result
-        (λ file. section.now.at ≤ places file → Gives result (Ok (nat_le (section.now.at + section.now.size) (places file)))) }
-    ensures place { IfOk result (λ there. there ≡ true → section.now.at + section.now.size < 2 ^ 64) }
+    ensures reads { ReadsIn (D.seen files.old) (D.seen files.new) name.now window.old window.new
+        result
+        (λ file. section.now.at ≤ places file → Gives result
+        (Ok (nat_le (section.now.at + section.now.size) (places file)))) }
+    ensures place { IfOk result (λ there. there ≡ true → section.now.at + section.now.size
+        < 2 ^ 64) }
 {
     let Some(end) = section.at.checked_add(section.size) else {
         return Ok(false);

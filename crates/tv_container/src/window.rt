@@ -1,7 +1,9 @@
-ghost use Rattle.std.specs.Prelude.{◌≡◌, ℕ, ◌+◌, ◌*◌, ◌≤◌, ◌<◌, ◌^◌, true, nat_le, Ok, IfOk, OnOk, MatchResult};
+ghost use Rattle.std.specs.Prelude.{◌≡◌, ℕ, ◌+◌, ◌*◌, ◌≤◌, ◌<◌, ◌^◌, true, nat_le, Ok, IfOk, OnOk};
+ghost use Rattle.std.specs.Prelude.{MatchResult, ◌↔◌};
 ghost use Rattle.std.specs.Prelude.{List, [], length, take, drop};
 ghost use Rattle.tv_container.specs.Places.{fit, number, places};
-ghost use Rattle.tv_container.specs.Reading.{Stopped, Gives, Holds, IsMissing, IsPiece, Known, ReadsIn};
+ghost use Rattle.tv_container.specs.Reading.{Stopped, Gives, Holds, IsMissing, IsPiece, Known};
+ghost use Rattle.tv_container.specs.Reading.{ReadsIn};
 ghost use Rattle.tv_container.specs.Refusals.{read_refusal};
 ghost use Rattle.tv_word.specs.Word.{spelled};
 
@@ -13,11 +15,14 @@ use tv_word::word_at;
 /// The most bytes that one call reads.
 const PIECE: usize = 4096;
 
-/// The piece of a file that was read last, at most 4,096 bytes. Contracts see it as its place in the
-/// file and its bytes.
+/// The most bytes that a window holds.
+const ROOM: usize = 65_536;
+
+/// The piece of a file that was read last, at most 65,536 bytes. Contracts see it as its place in
+/// the file and its bytes.
 #[derive(Drop)]
 pub struct Window {
-    bytes: [u8; PIECE],
+    bytes: [u8; ROOM],
     held: usize,
     at: u64,
 }
@@ -30,7 +35,7 @@ impl Model for Window {
 
     ghost view = { λ w. record { at = w.at; bytes = take w.held w.bytes } };
 
-    ghost invariant = { λ w. w.held ≤ 4096 };
+    ghost invariant = { λ w. w.held ≤ 65536 };
 }
 
 impl Window {
@@ -40,13 +45,14 @@ impl Window {
         ensures piece { (file : List ℕ) → IsPiece result file }
     {
         Window {
-            bytes: [0; PIECE],
+            bytes: [0; ROOM],
             held: 0,
             at: 0,
         }
     }
 
     /// The 32-bit number at a place that the window holds, the lowest byte first.
+    #[inline(always)]
     pub fn word(&self, at: u64) -> u32
         requires { Holds self.now at 4 }
         ensures { (file : List ℕ) → IsPiece self.now file → result ≡ number file 4 at }
@@ -55,6 +61,7 @@ impl Window {
     }
 
     /// The 64-bit number at a place that the window holds, the lowest byte first.
+    #[inline(always)]
     pub fn long(&self, at: u64) -> u64
         requires { Holds self.now at 8 }
         ensures { (file : List ℕ) → IsPiece self.now file → result ≡ number file 8 at }
@@ -62,8 +69,8 @@ impl Window {
         long_at(&self.bytes, (at - self.at) as usize)
     }
 
-    /// How many whole terms of 12 bytes, the first of which it holds, the window holds from a place to
-    /// an end.
+    /// How many whole terms of 12 bytes, the first of which it holds, the window holds from a place
+    /// to an end.
     pub fn whole_terms(&self, at: u64, end: u64) -> u32
         requires held { Holds self.now at 12 }
         requires within { at + 12 ≤ end }
@@ -79,22 +86,24 @@ impl Window {
     pub fn bytes_from(&self, at: u64) -> &[u8]
         requires { Holds self.now at 0 }
         ensures all { at + length result.now ≡ self.now.at + length self.now.bytes }
-        ensures bytes { (file : List ℕ) → IsPiece self.now file → result.now ≡ take (length result.now) (drop at file) }
+        ensures bytes { (file : List ℕ) → IsPiece self.now file → result.now
+            ≡ take (length result.now) (drop at file) }
     {
         &self.bytes[(at - self.at) as usize..self.held]
     }
 
-    // Whether the bytes at a place, so many, are held.
-    fn holds(&self, at: u64, size: usize) -> bool
-        ensures { result ≡ true → Holds self.now at size }
+    /// Whether the window holds the bytes at a place, so many.
+    #[inline(always)]
+    pub fn holds(&self, at: u64, size: usize) -> bool
+        ensures { (result ≡ true) ↔ Holds self.now at size }
     {
         at >= self.at
             && at - self.at <= self.held as u64
             && size as u64 <= self.held as u64 - (at - self.at)
     }
 
-    /// Reads on to a place until the window holds so many bytes there, and tells whether the file has
-    /// them. It asks for at most 4,096 bytes a call.
+    /// Reads on to a place until the window holds so many bytes there, and tells whether the file
+    /// has them. It asks for at most 4,096 bytes a call.
     pub fn reach<D: Files>(
         &mut self,
         files: &mut D,
@@ -106,9 +115,11 @@ impl Window {
         requires small { size ≤ 4096 }
         ensures held { IfOk result (λ there. there ≡ true → Holds self.new at size) }
         ensures place { IfOk result (λ there. there ≡ true → at + size < 2 ^ 64) }
-        ensures reads { ReadsIn (D.seen files.old) (D.seen files.new) name.now self.old self.new result
+        ensures reads { ReadsIn (D.seen files.old) (D.seen files.new) name.now self.old self.new
+            result
             (λ file. Gives result (Ok (nat_le (at + size) (places file)))) }
-        ensures missing { IsMissing (D.seen files.old) name.now → self.old.bytes ≡ [] → at + size < 2 ^ 64 → result ≡ Err ReadRefusal.Fault }
+        ensures missing { IsMissing (D.seen files.old) name.now → self.old.bytes ≡ [] → at + size
+            < 2 ^ 64 → result ≡ Err ReadRefusal.Fault }
     {
         if size as u64 > u64::MAX - at {
             return Ok(false);
@@ -116,9 +127,44 @@ impl Window {
         if self.holds(at, size) {
             return Ok(true);
         }
-        self.held = fill(files, name, at, size, &mut self.bytes)?;
-        self.at = at;
+        self.go(at);
+        self.held = fill(files, name, at, self.held, size, &mut self.bytes)?;
         Ok(self.held >= size)
+    }
+
+    /// Reads on from a place until the window holds as many bytes there as it can, or all that the
+    /// file has. It asks for at most 4,096 bytes a call. A place less than 65,536 bytes below 2^64
+    /// is left alone.
+    pub fn fill<D: Files>(&mut self, files: &mut D, name: &str, at: u64) -> Result<(), ReadRefusal>
+        ensures all { Known (D.seen files.old) name.now (λ file. IsPiece self.old file
+            → at + 65536 < 2 ^ 64 → OnOk result (self.new.bytes ≡ take 65536 (drop at file))) }
+        ensures reads { ReadsIn (D.seen files.old) (D.seen files.new) name.now self.old self.new
+            result
+            (λ file. Gives result (Ok tt)) }
+    {
+        if u64::MAX - at < ROOM as u64 {
+            return Ok(());
+        }
+        self.go(at);
+        self.held = fill(files, name, at, self.held, ROOM, &mut self.bytes)?;
+        Ok(())
+    }
+
+    // Lets the bytes before a place go, and all of them where it isn't among them or right behind.
+    fn go(&mut self, at: u64)
+        ensures at { self.new.at ≡ at }
+        ensures piece { (file : List ℕ) → IsPiece self.old file → IsPiece self.new file }
+        ensures none { self.old.bytes ≡ [] → self.new.bytes ≡ [] }
+    {
+        if self.holds(at, 0) {
+            let from = (at - self.at) as usize;
+            self.bytes.copy_within(from..self.held, 0);
+            self.held -= from;
+            self.at = at;
+            return;
+        }
+        self.held = 0;
+        self.at = at;
     }
 
     /// As `reach`; a file that ends before is `Truncated` at the place.
@@ -133,9 +179,11 @@ impl Window {
         requires small { size ≤ 4096 }
         ensures held { OnOk result (Holds self.new at size) }
         ensures place { OnOk result (at + size < 2 ^ 64) }
-        ensures reads { ReadsIn (D.seen files.old) (D.seen files.new) name.now self.old self.new result
+        ensures reads { ReadsIn (D.seen files.old) (D.seen files.new) name.now self.old self.new
+            result
             (λ file. Gives result (fit size at (places file))) }
-        ensures missing { IsMissing (D.seen files.old) name.now → self.old.bytes ≡ [] → at + size < 2 ^ 64 → result ≡ Err ReadRefusal.Fault }
+        ensures missing { IsMissing (D.seen files.old) name.now → self.old.bytes ≡ [] → at + size
+            < 2 ^ 64 → result ≡ Err ReadRefusal.Fault }
     {
         if self.reach(files, name, at, size)? {
             return Ok(());
@@ -147,28 +195,35 @@ impl Window {
     }
 }
 
-// Reads at a place until so many bytes came or the file ends, and answers how many came.
+// Reads on at a place, where so many bytes are held, until `size` are or the file ends, and answers
+// how many are held then.
 fn fill<D: Files>(
     files: &mut D,
     name: &str,
     at: u64,
+    held: usize,
     size: usize,
-    bytes: &mut [u8; PIECE],
+    bytes: &mut [u8; ROOM],
 ) -> Result<usize, FileRefusal>
-    requires some { 0 < size }
-    requires small { size ≤ 4096 }
+    requires small { size ≤ 65536 }
+    requires most { held ≤ 65536 }
     requires place { at + size < 2 ^ 64 }
-    ensures within { IfOk result (λ held. held ≤ 4096) }
-    ensures piece { Known (D.seen files.old) name.now (λ file. IfOk result (λ held. take held bytes.new ≡ take held (drop at file))) }
-    ensures end { Known (D.seen files.old) name.now (λ file. IfOk result (λ held. held < size → length file ≤ at + held)) }
+    ensures within { IfOk result (λ held. held ≤ 65536) }
+    ensures piece { Known (D.seen files.old) name.now
+        (λ file. take held bytes.old ≡ take held (drop at file)
+        → IfOk result (λ held. take held bytes.new ≡ take held (drop at file))) }
+    ensures end { Known (D.seen files.old) name.now
+        (λ file. IfOk result (λ held. held < size → length file ≤ at + held)) }
     ensures looks { MatchResult result
         (λ _. D.seen files.new ≡ D.seen files.old)
         (λ why. Stopped (D.seen files.old) (D.seen files.new) name.now (read_refusal why)) }
-    ensures missing { IsMissing (D.seen files.old) name.now → result ≡ Err FileRefusal.Failed }
+    ensures missing { IsMissing (D.seen files.old) name.now → held < size
+        → result ≡ Err FileRefusal.Failed }
 {
-    let mut held = 0;
+    let mut held = held;
     while held < size {
-        let count = files.read(name, at + held as u64, &mut bytes[held..])?;
+        let most = ROOM.min(held + PIECE);
+        let count = files.read(name, at + held as u64, &mut bytes[held..most])?;
         if count == 0 {
             return Ok(held);
         }
@@ -178,6 +233,7 @@ fn fill<D: Files>(
 }
 
 // The number that the eight bytes from a place on spell, the lowest first.
+#[inline(always)]
 fn long_at(bytes: &[u8], at: usize) -> u64
     requires { at + 8 ≤ length bytes.now }
     ensures { result ≡ spelled (take 8 (drop at bytes.now)) }

@@ -4,3 +4,4 @@ mod Finishing
 mod Rows
 pub mod Sizes
 pub mod Systems
+pub mod Streaming

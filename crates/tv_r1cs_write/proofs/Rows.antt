@@ -4,7 +4,7 @@ use Rattle.std.proofs.lemmas.Bool.Decides.{nat_tests}
 use Rattle.std.proofs.lemmas.List.{length-append}
 use Rattle.std.proofs.lemmas.List.Elements.{All-head, All-tail}
 use Rattle.std.specs.List.{All}
-use Rattle.tv_container.specs.Bytes.{four_bytes, eight_bytes}
+use Rattle.tv_container.specs.Bytes.{four_bytes, eight_bytes, term_bytes, terms_bytes}
 use Rattle.tv_container.specs.Places.{number}
 use Rattle.tv_container.specs.declared.sections.Section.{Section}
 use Rattle.tv_container.proofs.BytesAt.{At, at_first, at_rest, number_of_four, number_of_eight, length-four_bytes, length-eight_bytes}
@@ -14,7 +14,7 @@ use Rattle.tv_core.specs.declared.field.TheConstants.{P}
 use Rattle.tv_r1cs_read.specs.R1cs.{Read, terms_at, combination_at, constraint_at, constraints_from}
 use Rattle.tv_r1cs_read.proofs.Ahead.{combination_at-counted}
 use Rattle.tv_r1cs_read.proofs.Constraints.{constraints_from-end, constraints_from-next}
-use Rattle.tv_r1cs_write.specs.Bytes.{term_bytes, terms_bytes, combination_bytes, constraint_bytes, rows_bytes}
+use Rattle.tv_r1cs_write.specs.Bytes.{combination_bytes, constraint_bytes, rows_bytes}
 use Rattle.tv_r1cs_write.specs.Narrow.{IsShort, IsNarrow, IsOver}
 use Rattle.tv_r1cs_write.proofs.Sizes.{length-combination_bytes, length-constraint_bytes}
 

@@ -1,18 +1,10 @@
 -- The bytes of a constraint system: the r1cs binary format, version 1, its sections in the order 1, 2, 3.
 use Rattle.std.specs.Prelude.{◌≡◌, ℕ, ◌+◌, ◌*◌, List, ◌++◌, length}
 use Rattle.std.specs.List.{flat_map, range_with_len}
-use Rattle.tv_container.specs.Bytes.{eight_bytes, four_bytes, front_bytes, section_head, section_bytes, field_bytes}
+use Rattle.tv_container.specs.Bytes.{eight_bytes, four_bytes, front_bytes, section_head, section_bytes, field_bytes, terms_bytes}
 use Rattle.tv_core.specs.Constraints.{Combination, Constraint, System}
 use Rattle.tv_core.specs.Meanings.{terms_in}
 use Rattle.tv_core.specs.declared.lines.Counts.{Counts}
-
--- a term: four bytes of the wire, and eight of the coefficient
-abbrev pub term_bytes : ℕ × ℕ → List ℕ
-term_bytes term = four_bytes term.1 ++ eight_bytes term.0
-
--- terms, one after another
-abbrev pub terms_bytes : Combination → List ℕ
-terms_bytes terms = flat_map term_bytes terms
 
 -- a combination: four bytes that count its terms, and the terms
 abbrev pub combination_bytes : Combination → List ℕ

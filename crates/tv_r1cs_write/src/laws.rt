@@ -1,4 +1,5 @@
-ghost use Rattle.tv_r1cs_write.specs.Laws.{FilesAreFronts, FilesAreOfSystems, FilesAreWhole, SystemsComeBack};
+ghost use Rattle.tv_r1cs_write.specs.Laws.{FilesAreFronts, FilesAreOfSystems, FilesAreWhole};
+ghost use Rattle.tv_r1cs_write.specs.Laws.{SystemsComeBack};
 
 /// Where the counts told at the beginning are those of the list, a file is that of a system.
 #[tactic(auto, using(crate::proofs::Files::files_of_systems))]
@@ -6,8 +7,8 @@ pub fn files_are_of_systems()
     ensures { FilesAreOfSystems }
 {}
 
-/// Before it is finished, and where it is refused, a file is a first part of the file of each list that
-/// begins with the constraints put so far.
+/// Before it is finished, and where it is refused, a file is a first part of the file of each list
+/// that begins with the constraints put so far.
 #[tactic(auto, using(crate::proofs::Files::files_are_fronts))]
 pub fn files_are_fronts()
     ensures { FilesAreFronts }
@@ -18,7 +19,8 @@ pub fn files_are_fronts()
 pub fn files_are_whole()
     ensures { FilesAreWhole }
 {}
-/// What is written is read: `system_of` the bytes of a system that the format can hold is that system.
+/// What is written is read: `system_of` the bytes of a system that the format can hold is that
+/// system.
 #[tactic(auto, using(crate::proofs::Systems::systems_come_back))]
 pub fn systems_come_back()
     ensures { SystemsComeBack }

@@ -1,6 +1,6 @@
-//! Writing a constraint system to an r1cs file as its constraints come: `StreamSink` is a sink that keeps
-//! nothing but a piece of 4,096 bytes. Contracts above cite `file_bytes`, which is the whole file of a list,
-//! and what was written is read: `system_of` those bytes is the list's system.
+//! Writing a constraint system to an r1cs file as its constraints come: `StreamSink` is a sink that
+//! keeps nothing but a piece of 4,096 bytes. Contracts above cite `file_bytes`, which is the whole
+//! file of a list, and what was written is read: `system_of` those bytes is the list's system.
 #![tactic(auto)]
 
 mod laws;

@@ -11,8 +11,8 @@ use tv_files::Files;
 
 /// A sink that writes each constraint to an r1cs file, which is lent to it.
 ///
-/// It takes no memory: it holds at most 4,096 bytes, which it appends when there are so many. What the
-/// file begins with counts the constraints and their terms, so these are told before the first.
+/// It takes no memory: it holds at most 4,096 bytes, which it appends when there are so many. What
+/// the file begins with counts the constraints and their terms, so these are told before the first.
 #[derive(Drop)]
 pub struct StreamSink<'a, D: Files> {
     pub(crate) files: &'a mut D,
@@ -23,8 +23,8 @@ pub struct StreamSink<'a, D: Files> {
 impl<'a, D: Files> StreamSink<'a, D> {
     /// Creates the file of a system with these counts, whose wires have the labels 0, 1, ..
     ///
-    /// The next wire is the first behind the public ones. A refusal gives the files back; the name is then
-    /// as it was, or has no bytes.
+    /// The next wire is the first behind the public ones. A refusal gives the files back; the name
+    /// is then as it was, or has no bytes.
     pub fn begin(
         files: &'a mut D,
         name: &'a str,
@@ -33,12 +33,21 @@ impl<'a, D: Files> StreamSink<'a, D> {
         requires wires { 1 + counts.outputs + counts.inputs ≤ counts.wires }
         requires terms { counts.terms < 2 ^ 60 }
         ensures ok_same { IfOk result (λ sink. sink.files.ghost_name ≡ files.entry.ghost_name) }
-        ensures ok_creates { IfOk result (λ sink. Creates (D.seen files.old) (D.seen sink.files.now) name.now (Ok tt)) }
+        ensures ok_creates { IfOk result (λ sink. Creates (D.seen files.old) (D.seen sink.files.now)
+            name.now (Ok tt)) }
         ensures name { IfOk result (λ sink. sink.name.now ≡ name.now) }
         ensures begun { IfOk result (λ sink. sink.writer ≡ begun counts counts.wires) }
-        ensures stands { IfOk result (λ sink. Stands (record { outside = D.seen sink.files.now; borrow = sink.files.ghost_name; name = sink.name.now; progress = sink.writer }) []) }
-        ensures err_same { IfErr result (λ refused. refused.files.ghost_name ≡ files.entry.ghost_name) }
-        ensures err_creates { IfErr result (λ refused. NotCreated (D.seen files.old) (D.seen refused.files.now) name.now refused.why) }
+        ensures stands { IfOk result (λ sink. Stands
+            (record {
+              outside = D.seen sink.files.now;
+              borrow = sink.files.ghost_name;
+              name = sink.name.now;
+              progress = sink.writer;
+            }) []) }
+        ensures err_same { IfErr result (λ refused. refused.files.ghost_name
+            ≡ files.entry.ghost_name) }
+        ensures err_creates { IfErr result (λ refused. NotCreated (D.seen files.old)
+            (D.seen refused.files.now) name.now refused.why) }
     {
         StreamSink::begin_labelled(files, name, counts, u64::from(counts.wires))
     }
@@ -54,12 +63,21 @@ impl<'a, D: Files> StreamSink<'a, D> {
         requires wires { 1 + counts.outputs + counts.inputs ≤ counts.wires }
         requires terms { counts.terms < 2 ^ 60 }
         ensures ok_same { IfOk result (λ sink. sink.files.ghost_name ≡ files.entry.ghost_name) }
-        ensures ok_creates { IfOk result (λ sink. Creates (D.seen files.old) (D.seen sink.files.now) name.now (Ok tt)) }
+        ensures ok_creates { IfOk result (λ sink. Creates (D.seen files.old) (D.seen sink.files.now)
+            name.now (Ok tt)) }
         ensures name { IfOk result (λ sink. sink.name.now ≡ name.now) }
         ensures begun { IfOk result (λ sink. sink.writer ≡ begun counts labels) }
-        ensures stands { IfOk result (λ sink. Stands (record { outside = D.seen sink.files.now; borrow = sink.files.ghost_name; name = sink.name.now; progress = sink.writer }) []) }
-        ensures err_same { IfErr result (λ refused. refused.files.ghost_name ≡ files.entry.ghost_name) }
-        ensures err_creates { IfErr result (λ refused. NotCreated (D.seen files.old) (D.seen refused.files.now) name.now refused.why) }
+        ensures stands { IfOk result (λ sink. Stands
+            (record {
+              outside = D.seen sink.files.now;
+              borrow = sink.files.ghost_name;
+              name = sink.name.now;
+              progress = sink.writer;
+            }) []) }
+        ensures err_same { IfErr result (λ refused. refused.files.ghost_name
+            ≡ files.entry.ghost_name) }
+        ensures err_creates { IfErr result (λ refused. NotCreated (D.seen files.old)
+            (D.seen refused.files.now) name.now refused.why) }
     {
         match files.create(name) {
             Ok(()) => Ok(StreamSink {
@@ -74,11 +92,17 @@ impl<'a, D: Files> StreamSink<'a, D> {
         }
     }
 
-    /// Writes the labels 0, 1, .. of the wires, and what is still held: the file is that of the list.
+    /// Writes the labels 0, 1, .. of the wires, and what is still held: the file is that of the
+    /// list.
     ///
     /// After a refusal the file has a first part of these bytes.
     pub fn finish(self) -> Put<()>
-        ensures { Finishes (record { outside = D.seen self.entry.files.now; borrow = self.entry.files.ghost_name; name = self.entry.name.now; progress = self.entry.writer })
+        ensures { Finishes (record {
+          outside = D.seen self.entry.files.now;
+          borrow = self.entry.files.ghost_name;
+          name = self.entry.name.now;
+          progress = self.entry.writer;
+        })
             (D.seen self.exit.0.now) (range_with_len 0 self.entry.writer.counts.wires) result }
     {
         let StreamSink {
@@ -95,7 +119,12 @@ impl<'a, D: Files> StreamSink<'a, D> {
     /// Writes these labels, one for each wire, and what is still held. Otherwise as `finish`.
     pub fn finish_labelled(self, labels: &[u32]) -> Put<()>
         requires { length labels.now ≡ self.writer.counts.wires }
-        ensures { Finishes (record { outside = D.seen self.entry.files.now; borrow = self.entry.files.ghost_name; name = self.entry.name.now; progress = self.entry.writer })
+        ensures { Finishes (record {
+          outside = D.seen self.entry.files.now;
+          borrow = self.entry.files.ghost_name;
+          name = self.entry.name.now;
+          progress = self.entry.writer;
+        })
             (D.seen self.exit.0.now) labels.now result }
     {
         let StreamSink {
@@ -111,7 +140,12 @@ impl<'a, D: Files> StreamSink<'a, D> {
 }
 
 impl<D: Files> Sink for StreamSink<'_, D> {
-    ghost meaning = { stream_meaning (λ s. record { outside = D.seen s.files.now; borrow = s.files.ghost_name; name = s.name.now; progress = s.writer }) };
+    ghost meaning = { stream_meaning (λ s. record {
+      outside = D.seen s.files.now;
+      borrow = s.files.ghost_name;
+      name = s.name.now;
+      progress = s.writer;
+    }) };
 
     fn wires(&self) -> u32 {
         self.writer.wires()

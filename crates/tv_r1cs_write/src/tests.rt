@@ -1,5 +1,5 @@
-//! What no clause says: that the vector is what another writer of the format gives, that calls succeed where
-//! memory is ample and in which pieces, and what each failing call leaves.
+//! What no clause says: that the vector is what another writer of the format gives, that calls
+//! succeed where memory is ample and in which pieces, and what each failing call leaves.
 ghost use Rattle.std.specs.Prelude.{◌≡◌, ◌+◌, ◌≤◌, ◌<◌, ◌^◌, false, true};
 ghost use Rattle.tv_core.specs.Combinations.{top};
 
@@ -95,7 +95,8 @@ fn is_made(lc: &Lc, wires: u32) -> bool
     true
 }
 
-// Writes a list's constraints, of three wires or fewer and three terms each, as a system of so many wires.
+// Writes a list's constraints, of three wires or fewer and three terms each, as a system of so many
+// wires.
 fn write_list(files: &mut MemFiles, wires: u32, list: &ListSink) -> Put<()>
     requires { 3 ≤ wires }
 {

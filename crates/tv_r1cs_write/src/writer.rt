@@ -1,7 +1,9 @@
-ghost use Rattle.std.specs.Prelude.{◌≡◌, ◌-◌, ◌*◌, ◌^◌, ◌<◌, ◌+◌, ◌++◌, [], false, true, length, OnOk, OnErr};
+ghost use Rattle.std.specs.Prelude.{◌≡◌, ◌-◌, ◌*◌, ◌^◌, ◌<◌, ◌+◌, ◌++◌, [], false, true, length};
+ghost use Rattle.std.specs.Prelude.{OnOk, OnErr};
 ghost use Rattle.tv_container.specs.Bytes.{section_head};
 ghost use Rattle.tv_container.specs.Writing.{PassesOn};
-ghost use Rattle.tv_r1cs_write.specs.Bytes.{constraint_bytes, head_bytes, label_bytes, numbers_bytes, own_label_bytes};
+ghost use Rattle.tv_r1cs_write.specs.Bytes.{constraint_bytes, head_bytes, label_bytes};
+ghost use Rattle.tv_r1cs_write.specs.Bytes.{numbers_bytes, own_label_bytes};
 ghost use Rattle.tv_r1cs_write.specs.Narrow.{AreShort};
 ghost use Rattle.tv_r1cs_write.specs.Streams.{begun};
 
@@ -33,7 +35,14 @@ impl Model for Writer {
 
     ghost Value = { Progress };
 
-    ghost view = { λ w. record { counts = w.counts; labels = w.labels; held = w.buffer; wires = w.wires; constraints = w.constraints; broken = w.broken } };
+    ghost view = { λ w. record {
+      counts = w.counts;
+      labels = w.labels;
+      held = w.buffer;
+      wires = w.wires;
+      constraints = w.constraints;
+      broken = w.broken;
+    } };
 }
 
 impl Writer {
@@ -82,10 +91,13 @@ impl Writer {
     ) -> Result<(), FileRefusal>
         requires { self.old.constraints < 2 ^ 32 - 1 }
         ensures passes { PassesOn (D.seen files.old) (D.seen files.new) name.now
-            (self.old.held ++ constraint_bytes (record { a = a.now; b = b.now; c = c.now })) self.new.held result }
+            (self.old.held ++ constraint_bytes (record { a = a.now; b = b.now; c = c.now }))
+            self.new.held result }
         ensures short { OnOk result (AreShort (record { a = a.now; b = b.now; c = c.now })) }
-        ensures ok { OnOk result (self.new ≡ record self.old { held = self.new.held; constraints = self.old.constraints + 1 }) }
-        ensures err { OnErr result (self.new ≡ record self.old { held = self.new.held; broken = true }) }
+        ensures ok { OnOk result (self.new ≡ record self.old
+            { held = self.new.held; constraints = self.old.constraints + 1 }) }
+        ensures err { OnErr result (self.new ≡ record self.old
+            { held = self.new.held; broken = true }) }
     {
         let written = put_row(&mut self.buffer, files, name, a, b, c);
         if written.is_ok() {
@@ -100,7 +112,8 @@ impl Writer {
     #[tactic(auto, using(tv_container::proofs::Buffers::passing))]
     pub(crate) fn finish<D: Files>(&mut self, files: &mut D, name: &str) -> Result<(), FileRefusal>
         ensures passes { PassesOn (D.seen files.old) (D.seen files.new) name.now
-            (self.old.held ++ (section_head 3 (8 * self.old.counts.wires) ++ own_label_bytes self.old.counts.wires)) self.new.held result }
+            (self.old.held ++ (section_head 3 (8 * self.old.counts.wires)
+            ++ own_label_bytes self.old.counts.wires)) self.new.held result }
         ensures none { OnOk result (self.new.held ≡ []) }
     {
         put_labels_head(&mut self.buffer, files, name, self.counts.wires)?;
@@ -117,7 +130,8 @@ impl Writer {
         labels: &[u32],
     ) -> Result<(), FileRefusal>
         ensures passes { PassesOn (D.seen files.old) (D.seen files.new) name.now
-            (self.old.held ++ (section_head 3 (8 * self.old.counts.wires) ++ label_bytes labels.now)) self.new.held result }
+            (self.old.held ++ (section_head 3 (8 * self.old.counts.wires)
+            ++ label_bytes labels.now)) self.new.held result }
         ensures none { OnOk result (self.new.held ≡ []) }
     {
         put_labels_head(&mut self.buffer, files, name, self.counts.wires)?;
@@ -166,7 +180,8 @@ fn put_row<D: Files>(
     c: &Lc,
 ) -> Result<(), FileRefusal>
     ensures passes { PassesOn (D.seen files.old) (D.seen files.new) name.now
-        (buffer.old ++ constraint_bytes (record { a = a.now; b = b.now; c = c.now })) buffer.new result }
+        (buffer.old ++ constraint_bytes (record { a = a.now; b = b.now; c = c.now })) buffer.new
+        result }
     ensures short { OnOk result (AreShort (record { a = a.now; b = b.now; c = c.now })) }
 {
     put_combination(buffer, files, name, a)?;
@@ -182,7 +197,8 @@ fn put_labels_head<D: Files>(
     name: &str,
     wires: u32,
 ) -> Result<(), FileRefusal>
-    ensures { PassesOn (D.seen files.old) (D.seen files.new) name.now (buffer.old ++ section_head 3 (8 * wires)) buffer.new result }
+    ensures { PassesOn (D.seen files.old) (D.seen files.new) name.now
+        (buffer.old ++ section_head 3 (8 * wires)) buffer.new result }
 {
     buffer.put(files, name, &short_bytes(3))?;
     buffer.put(files, name, &long_bytes(8 * u64::from(wires)))
@@ -195,7 +211,8 @@ fn put_own_labels<D: Files>(
     name: &str,
     wires: u32,
 ) -> Result<(), FileRefusal>
-    ensures { PassesOn (D.seen files.old) (D.seen files.new) name.now (buffer.old ++ own_label_bytes wires) buffer.new result }
+    ensures { PassesOn (D.seen files.old) (D.seen files.new) name.now
+        (buffer.old ++ own_label_bytes wires) buffer.new result }
 {
     for label in 0..wires {
         buffer.put(files, name, &long_bytes(u64::from(label)))?;
@@ -210,7 +227,8 @@ fn put_labels<D: Files>(
     name: &str,
     labels: &[u32],
 ) -> Result<(), FileRefusal>
-    ensures { PassesOn (D.seen files.old) (D.seen files.new) name.now (buffer.old ++ label_bytes labels.now) buffer.new result }
+    ensures { PassesOn (D.seen files.old) (D.seen files.new) name.now
+        (buffer.old ++ label_bytes labels.now) buffer.new result }
 {
     for label in labels {
         buffer.put(files, name, &long_bytes(u64::from(*label)))?;

@@ -5,3 +5,4 @@ pub mod Vectors
 mod Giving
 mod Finishing
 pub mod Files
+pub mod Streaming

@@ -1,14 +1,17 @@
 //! The assignment of a whole file.
 
-ghost use Rattle.std.specs.Prelude.{◌≡◌, ◌+◌, ◌*◌, ◌≤◌, ◌<◌, List, length, Ok, Err, IfOk, IfErr, OnOk};
+ghost use Rattle.std.specs.Prelude.{◌≡◌, ◌+◌, ◌*◌, ◌≤◌, ◌<◌, List, length, Ok, Err, IfOk, IfErr};
+ghost use Rattle.std.specs.Prelude.{OnOk};
 ghost use Rattle.std.specs.List.{All};
 ghost use Rattle.tv_core.specs.declared.field.TheConstants.{P};
 ghost use Rattle.tv_container.specs.Found.{first_of, AllEnd, AllFit};
 ghost use Rattle.tv_container.specs.Places.{places};
-ghost use Rattle.tv_container.specs.Reading.{Looks, Gives, GivesBy, IsMissing, IsTold, Known, InPiece, ReadsIn};
+ghost use Rattle.tv_container.specs.Reading.{Looks, Gives, GivesBy, IsMissing, IsTold, Known};
+ghost use Rattle.tv_container.specs.Reading.{InPiece, ReadsIn};
 ghost use Rattle.tv_container.specs.declared.sections.Section.{Section};
 ghost use Rattle.tv_container.specs.declared.why.ReadRefusal.{ReadRefusal};
-ghost use Rattle.tv_wtns.specs.Wtns.{assignment_in, assignment_of, counted, fills, AssignmentsAreBelow};
+ghost use Rattle.tv_wtns.specs.Wtns.{assignment_in, assignment_of, counted, fills};
+ghost use Rattle.tv_wtns.specs.Wtns.{AssignmentsAreBelow};
 
 use crate::values::read_all;
 use std::alloc::Global;
@@ -27,17 +30,18 @@ const WTNS: Form = Form {
 
 /// Reads the assignment of a wtns file.
 ///
-/// `Ok` comes exactly for a file that holds an assignment, and `Bad` tells the first fault of another
-/// one. `Fault` comes only where a read failed, and a missing name is such a fault. It takes one pass,
-/// in reads of at most 4,096 bytes, and memory for the values alone, as they come: a count without
-/// values behind it takes none.
+/// `Ok` comes exactly for a file that holds an assignment, and `Bad` tells the first fault of
+/// another one. `Fault` comes only where a read failed, and a missing name is such a fault. It
+/// takes one pass, in reads of at most 4,096 bytes, and memory for the values alone, as they come:
+/// a count without values behind it takes none.
 #[tactic(auto, unfolding(crate::specs::Wtns::assignment_of))]
 pub fn read_values<D: Files>(
     alloc: Global,
     files: &mut D,
     name: &str,
 ) -> Result<Vec<F>, ReadRefusal>
-    ensures gives { Known (D.seen files.old) name.now (λ file. GivesBy result (λ values. values.items) (assignment_of file)) }
+    ensures gives { Known (D.seen files.old) name.now
+        (λ file. GivesBy result (λ values. values.items) (assignment_of file)) }
     ensures below { IfOk result (λ values. All (λ v. v < P) values.items) }
     ensures looks { Looks (D.seen files.old) (D.seen files.new) name.now result }
     ensures missing { IsMissing (D.seen files.old) name.now → result ≡ Err ReadRefusal.Fault }
@@ -64,7 +68,8 @@ fn read_assignment<D: Files>(
     end: u64,
 ) -> Result<Vec<F>, ReadRefusal>
     requires { AllEnd found.now }
-    ensures gives { InPiece (D.seen files.old) name.now window.old (λ file. end ≡ length file → (sections : List Section) →
+    ensures gives { InPiece (D.seen files.old) name.now window.old
+        (λ file. end ≡ length file → (sections : List Section) →
         found.now ≡ first_of sections → AllFit file sections →
         GivesBy result (λ values. values.items) (assignment_in file sections)) }
     ensures below { IfOk result (λ values. All (λ v. v < P) values.items) }
@@ -85,7 +90,8 @@ fn read_count<D: Files>(
     window: &mut Window,
     one: &Section,
 ) -> Result<u32, ReadRefusal>
-    ensures reads { ReadsIn (D.seen files.old) (D.seen files.new) name.now window.old window.new result
+    ensures reads { ReadsIn (D.seen files.old) (D.seen files.new) name.now window.old window.new
+        result
         (λ file. one.now.at + 16 ≤ places file → Gives result (Ok (counted file one.now))) }
 {
     window.fit(files, name, one.at, 16)?;

@@ -12,8 +12,8 @@ use tv_files::Files;
 
 /// A taker that writes each value to a wtns file, which is lent to it.
 ///
-/// It takes no memory: it holds fewer than 4,096 bytes, which it appends when there are so many. What the
-/// file begins with counts the values, so their number is told before the first.
+/// It takes no memory: it holds fewer than 4,096 bytes, which it appends when there are so many.
+/// What the file begins with counts the values, so their number is told before the first.
 #[derive(Drop)]
 pub struct FileValues<'a, D: Files> {
     pub(crate) files: &'a mut D,
@@ -31,12 +31,21 @@ impl<'a, D: Files> FileValues<'a, D> {
         count: u32,
     ) -> Result<FileValues<'a, D>, NotBegun<'a, D>>
         ensures ok_same { IfOk result (λ taker. taker.files.ghost_name ≡ files.entry.ghost_name) }
-        ensures ok_creates { IfOk result (λ taker. Creates (D.seen files.old) (D.seen taker.files.now) name.now (Ok tt)) }
+        ensures ok_creates { IfOk result (λ taker. Creates (D.seen files.old)
+            (D.seen taker.files.now) name.now (Ok tt)) }
         ensures name { IfOk result (λ taker. taker.name.now ≡ name.now) }
         ensures begun { IfOk result (λ taker. taker.writer ≡ begun count) }
-        ensures stands { IfOk result (λ taker. Stands (record { outside = D.seen taker.files.now; borrow = taker.files.ghost_name; name = taker.name.now; progress = taker.writer }) []) }
-        ensures err_same { IfErr result (λ refused. refused.files.ghost_name ≡ files.entry.ghost_name) }
-        ensures err_creates { IfErr result (λ refused. NotCreated (D.seen files.old) (D.seen refused.files.now) name.now refused.why) }
+        ensures stands { IfOk result (λ taker. Stands
+            (record {
+              outside = D.seen taker.files.now;
+              borrow = taker.files.ghost_name;
+              name = taker.name.now;
+              progress = taker.writer;
+            }) []) }
+        ensures err_same { IfErr result (λ refused. refused.files.ghost_name
+            ≡ files.entry.ghost_name) }
+        ensures err_creates { IfErr result (λ refused. NotCreated (D.seen files.old)
+            (D.seen refused.files.now) name.now refused.why) }
     {
         match files.create(name) {
             Ok(()) => Ok(FileValues {
@@ -55,7 +64,12 @@ impl<'a, D: Files> FileValues<'a, D> {
     ///
     /// After a refusal the file has a first part of these bytes.
     pub fn finish(self) -> Put<()>
-        ensures { Finishes (record { outside = D.seen self.entry.files.now; borrow = self.entry.files.ghost_name; name = self.entry.name.now; progress = self.entry.writer })
+        ensures { Finishes (record {
+          outside = D.seen self.entry.files.now;
+          borrow = self.entry.files.ghost_name;
+          name = self.entry.name.now;
+          progress = self.entry.writer;
+        })
             (D.seen self.exit.0.now) result }
     {
         let FileValues {
@@ -71,7 +85,12 @@ impl<'a, D: Files> FileValues<'a, D> {
 }
 
 impl<D: Files> Values for FileValues<'_, D> {
-    ghost giving = { taker_giving (λ v. record { outside = D.seen v.files.now; borrow = v.files.ghost_name; name = v.name.now; progress = v.writer }) };
+    ghost giving = { taker_giving (λ v. record {
+      outside = D.seen v.files.now;
+      borrow = v.files.ghost_name;
+      name = v.name.now;
+      progress = v.writer;
+    }) };
 
     fn give(&mut self, value: F) -> Put<()> {
         match self.writer.give(self.files, self.name, value) {

@@ -14,8 +14,8 @@ pub fn files_are_of_assignments()
     ensures { FilesAreOfAssignments }
 {}
 
-/// Before it is finished, and where it is refused, a file is a first part of the file of each list that
-/// begins with the values given so far.
+/// Before it is finished, and where it is refused, a file is a first part of the file of each list
+/// that begins with the values given so far.
 #[tactic(auto, using(crate::proofs::Files::files_are_fronts))]
 pub fn files_are_fronts()
     ensures { FilesAreFronts }

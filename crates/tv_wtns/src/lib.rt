@@ -1,6 +1,7 @@
-//! Assignments in wtns files. `read_values` reads one from a file of any size, with its sections in any
-//! order: its clause `gives` says that it answers `assignment_of` the whole file, the values in order, or
-//! the file's first fault. `FileValues` writes one as its values come, and what was written is read.
+//! Assignments in wtns files. `read_values` reads one from a file of any size, with its sections in
+//! any order: its clause `gives` says that it answers `assignment_of` the whole file, the values in
+//! order, or the file's first fault. `FileValues` writes one as its values come, and what was
+//! written is read.
 #![tactic(auto)]
 
 mod assignment;

@@ -1,5 +1,6 @@
-//! What no clause says: that the vector and its malformed forms give what another reader of the format
-//! gives, that calls succeed where memory is ample and in which pieces, and what a failing call leaves.
+//! What no clause says: that the vector and its malformed forms give what another reader of the
+//! format gives, that calls succeed where memory is ample and in which pieces, and what a failing
+//! call leaves.
 ghost use Rattle.std.specs.Prelude.{◌≡◌, ◌+◌, ◌≤◌, length, Some};
 ghost use Rattle.tv_files.specs.Outside.{OnlyReads};
 
@@ -42,7 +43,8 @@ fn changed(at: usize, to: &[u8]) -> [u8; 84]
     witness
 }
 
-// A witness of so many values, value i being 4,294,967,297 times i, with its sections in the order 9, 2, 1.
+// A witness of so many values, value i being 4,294,967,297 times i, with its sections in the order
+// 9, 2, 1.
 fn many(alloc: Global, count: u16) -> Result<Vec<u8>, Fail> {
     let mut bytes = Vec::new(alloc);
     bytes.extend_from_slice(&WITNESS[..8])?;

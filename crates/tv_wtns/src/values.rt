@@ -1,6 +1,7 @@
 //! The values of section 2.
 
-ghost use Rattle.std.specs.Prelude.{◌≡◌, ℕ, ◌+◌, ◌-◌, ◌*◌, ◌≤◌, ◌<◌, ◌^◌, List, length, Some, Ok, Result, IfOk, IfErr, OnOk, MatchResult};
+ghost use Rattle.std.specs.Prelude.{◌≡◌, ℕ, ◌+◌, ◌-◌, ◌*◌, ◌≤◌, ◌<◌, ◌^◌, List, length, Some, Ok};
+ghost use Rattle.std.specs.Prelude.{Result, IfOk, IfErr, OnOk, MatchResult};
 ghost use Rattle.std.specs.List.{All};
 ghost use Rattle.tv_core.specs.declared.field.TheConstants.{P};
 ghost use Rattle.tv_container.specs.Places.{Fault, places};
@@ -27,7 +28,8 @@ pub(crate) fn read_all<D: Files>(
     count: u32,
 ) -> Result<Vec<F>, ReadRefusal>
     requires { at + 8 * count < 2 ^ 64 }
-    ensures gives { InPiece (D.seen files.old) name.now window.old (λ file. at + 8 * count ≤ places file →
+    ensures gives { InPiece (D.seen files.old) name.now window.old
+        (λ file. at + 8 * count ≤ places file →
         GivesBy result (λ values. values.items) (values_at file count at)) }
     ensures below { IfOk result (λ values. All (λ v. v < P) values.items) }
     ensures looks { Looks (D.seen files.old) (D.seen files.new) name.now result }
@@ -49,11 +51,14 @@ pub(crate) fn read_all<D: Files>(
 // Takes the values that words spell, the first of which stands at a place.
 fn take_values(words: &[[u8; 8]], at: u64, values: &mut Vec<F>) -> Result<(), ReadRefusal>
     requires { at + 8 * length words.now < 2 ^ 64 }
-    ensures gives { (file : List ℕ) → AreWords words.now file at → (answer : Result (List ℕ) Fault) → (n : ℕ) →
+    ensures gives { (file : List ℕ) → AreWords words.now file at → (answer : Result (List ℕ) Fault)
+        → (n : ℕ) →
         length words.now ≤ n → IsAhead answer values.old.items file n at → MatchResult result
-        (λ _. IsAhead answer values.new.items file (n - length words.now) (at + 8 * length words.now))
+        (λ _. IsAhead answer values.new.items file (n - length words.now)
+        (at + 8 * length words.now))
         (λ why. Refuses why answer) }
-    ensures below { All (λ v. v < P) values.old.items → OnOk result (All (λ v. v < P) values.new.items) }
+    ensures below { All (λ v. v < P) values.old.items
+        → OnOk result (All (λ v. v < P) values.new.items) }
     ensures told { IfErr result IsTold }
 {
     for (index, word) in words.iter().enumerate() {

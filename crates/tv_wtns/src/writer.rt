@@ -53,10 +53,12 @@ impl Writer {
         name: &str,
         value: F,
     ) -> Result<(), FileRefusal>
-        ensures passes { PassesOn (D.seen files.old) (D.seen files.new) name.now (self.old.held ++ eight_bytes value) self.new.held result }
+        ensures passes { PassesOn (D.seen files.old) (D.seen files.new) name.now
+            (self.old.held ++ eight_bytes value) self.new.held result }
         ensures below { value < P }
         ensures ok { OnOk result (self.new ≡ record self.old { held = self.new.held }) }
-        ensures err { OnErr result (self.new ≡ record self.old { held = self.new.held; broken = true }) }
+        ensures err { OnErr result (self.new ≡ record self.old
+            { held = self.new.held; broken = true }) }
     {
         let written = self.buffer.put(files, name, &long_bytes(value.number()));
         if written.is_err() {
@@ -67,7 +69,8 @@ impl Writer {
 
     /// Writes what is still held.
     pub(crate) fn finish<D: Files>(&mut self, files: &mut D, name: &str) -> Result<(), FileRefusal>
-        ensures passes { PassesOn (D.seen files.old) (D.seen files.new) name.now self.old.held self.new.held result }
+        ensures passes { PassesOn (D.seen files.old) (D.seen files.new) name.now self.old.held
+            self.new.held result }
         ensures none { OnOk result (self.new.held ≡ []) }
     {
         self.buffer.flush(files, name)

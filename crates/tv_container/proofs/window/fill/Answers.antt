@@ -13,8 +13,8 @@ loop-held-preserved g c = record {
   outside = search rules;
   there = λ missing. absurd (read_there _ _ _ _ _ _ _ c.in_ok-count.ensures c.loop-held.invariant.outside missing);
   within = omega (arith, c.in_ok-count.ensures.within, c.read.auto.into);
-  front = λ file told.
+  front = λ file told start.
       let gives = read_gives _ _ _ _ file _ _ _ c.in_ok-count.ensures c.loop-held.invariant.outside told in
       let here : c.loop-held.held ≤ length c.loop-held.bytes = omega arith in
-      piece_grows _ _ _ file _ _ _ (length-take-le _ _ here) c.in_ok-count.ensures.within (c.loop-held.invariant.front file told) gives.front;
+      piece_grows _ _ _ file _ _ _ (length-take-le _ _ here) c.in_ok-count.ensures.within (c.loop-held.invariant.front file told start) gives.front;
 }

@@ -1,16 +1,6 @@
-use Rattle.std.proofs.Common.{length}
-use Rattle.tv_container.proofs.Buffers.{passes_refused, passes_cut, passes_then}
-use Rattle.tv_container.specs.Bytes.{four_bytes}
-use Rattle.tv_r1cs_write.specs.Bytes.{terms_bytes}
+use Rattle.std.proofs.Common.{sym}
+use Rattle.tv_container.proofs.Buffers.{all_held}
 use Rattle.tv_r1cs_write.proofs.terms.put_combination.Goals as goal
 
-pub returns-in_err-put-clause-passes : goal.returns-in_err-put-clause-passes
-returns-in_err-put-clause-passes g c =
-    passes_refused _ _ _ _ _ c.from_residual.result c.from_residual.ensures.1
-    (passes_cut _ _ _ c.args.buffer.now (four_bytes (length c.args.lc.now)) (terms_bytes c.args.lc.now) _ _ _
-    (rw (c.short_bytes.ensures, c.terms-terms.ensures.terms) at c.in_err-put.ensures))
-
-pub returns-clause-passes : goal.returns-clause-passes
-returns-clause-passes g c =
-    passes_then _ _ _ _ c.args.buffer.now (four_bytes (length c.args.lc.now)) (terms_bytes c.args.lc.now) _ _ _
-    (rw (c.short_bytes.ensures, c.terms-terms.ensures.terms) at c.in_ok-put.ensures) (rw c.terms-terms.ensures.terms at c.put_terms.ensures.passes)
+pub returns-then-has_room-clause-passes : goal.returns-then-has_room-clause-passes
+returns-then-has_room-clause-passes g c = all_held _ _ _ _ (sym (rw c.terms-terms.ensures.terms at c.push_combination.ensures.bytes))

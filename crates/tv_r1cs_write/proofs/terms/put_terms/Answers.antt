@@ -3,7 +3,7 @@ use Rattle.std.proofs.lemmas.List.{take_all}
 use Rattle.std.proofs.lemmas.List.Elements.{All-nil, All-more}
 use Rattle.tv_core.specs.declared.field.TheConstants.{P}
 use Rattle.tv_container.proofs.Buffers.{passes_none, passes_refused, each_passes, each_cut}
-use Rattle.tv_r1cs_write.specs.Bytes.{term_bytes}
+use Rattle.tv_container.specs.Bytes.{term_bytes}
 use Rattle.tv_r1cs_write.proofs.terms.put_terms.Goals as goal
 
 pub loop-coefficient-init : goal.loop-coefficient-init

@@ -2,7 +2,7 @@ use Rattle.std.proofs.Common.{◌++◌, ◌<◌, take, Ok}
 use Rattle.std.specs.List.{All}
 use Rattle.tv_core.specs.declared.field.TheConstants.{P}
 use Rattle.tv_container.specs.Writing.{PassesOn}
-use Rattle.tv_r1cs_write.specs.Bytes.{terms_bytes}
+use Rattle.tv_container.specs.Bytes.{terms_bytes}
 use Rattle.tv_r1cs_write.proofs.terms.put_terms.Given as goal
 
 abbrev pub invariant-loop-coefficient : goal.invariant-loop-coefficient

@@ -1,0 +1,60 @@
+-- From what a taker that writes promises to what streaming an assignment is.
+use Rattle.std.proofs.Common.{◌≡◌, ◌^◌, ◌<◌, ℕ, List, [], ◌∷◌, ◌++◌, length, Result, Ok, Err, inr, append_assoc, sym, ◌∙◌, refl}
+use Rattle.tv_container.proofs.Buffers.{appends_then}
+use Rattle.tv_container.proofs.Streamed.{caused_seen, caused_since, streamed_whole, streamed_part}
+use Rattle.tv_container.specs.Writing.{OnlyAppends}
+use Rattle.tv_container.specs.Written.{HasFront}
+use Rattle.tv_core.specs.Giving.{GivesAll, GivesSome}
+use Rattle.tv_core.specs.declared.sink.SinkFault.{SinkFault}
+use Rattle.tv_files.specs.Calls.{Creates}
+use Rattle.tv_files.specs.Outside.{Outside}
+use Rattle.tv_wtns.proofs.Files.{come_back, files_are_fronts, files_of_assignments}
+use Rattle.tv_wtns.specs.Bytes.{assignment_bytes, file_bytes}
+use Rattle.tv_wtns.specs.Streamed.{IsAssignmentStreamed}
+use Rattle.tv_wtns.specs.Takers.{Taker, Stands, Finishes, KeepsFile, taker_giving}
+
+-- what a taker is that was begun with the number of an assignment's values
+pub record IsBegun {V : Type 0} (seen : V → Taker) (name : List ℕ) (old : Outside) (taker : V) (values : List ℕ) : Type 0 where
+  pub creates : Creates old (seen taker).outside name (Ok tt)
+  pub named : (seen taker).name ≡ name
+  pub stands : Stands (seen taker) []
+  pub count : (seen taker).progress.count ≡ length values
+  pub few : length values < 2 ^ 32
+
+module _ {V : Type 0} (seen : V → Taker) (name : List ℕ) (old : Outside) (taker : V) (values : List ℕ) (is : IsBegun seen name old taker values) where
+  bytes : (new : V) → KeepsFile (seen taker) (seen new) → file_bytes (seen new).progress.count values ≡ assignment_bytes values
+  bytes new keeps = rw (keeps.count, is.count) (files_of_assignments (length values) values refl)
+
+  -- a value was refused
+  pub streamed_some : (new : V) (fault : SinkFault) → GivesSome (taker_giving seen) taker new values fault → IsAssignmentStreamed old (seen new).outside name values (Err fault)
+  streamed_some new fault some =
+      let tried = some.front ++ some.refused ∷ [] in
+      let named : (seen new).name ≡ name = some.keeps.name ∙ is.named in
+      let list : tried ++ some.back ≡ values = append_assoc some.front (some.refused ∷ []) some.back ∙ sym some.at in
+      let front : HasFront (seen new).outside name (assignment_bytes values) = rw (named, list, bytes new some.keeps) at (files_are_fronts (seen new) tried some.back (inr (some.tried [] is.stands))) in
+      let cause = caused_seen (λ v. (seen v).outside) taker new fault some.cause in
+      record { file = streamed_part old (seen taker).outside (seen new).outside name is.creates (rw is.named at some.keeps.outside) (assignment_bytes values) fault front cause; read = tt }
+
+  -- all values were given, and the file was finished, or finishing it was refused
+  pub streamed_all : (done : V) (new : Outside) (result : Result (Unit {0}) SinkFault) → GivesAll (taker_giving seen) taker done values → Finishes (seen done) new result → IsAssignmentStreamed old new name values result
+  streamed_all done new result all finishes = by_result result finishes
+    where
+      named : (seen done).name ≡ name
+      named = all.keeps.name ∙ is.named
+
+      stands : Stands (seen done) values
+      stands = all.stands [] is.stands
+
+      appends : OnlyAppends (seen done).outside new (seen done).name → OnlyAppends (seen taker).outside new name
+      appends only = appends_then (seen taker).outside (seen done).outside new name (rw is.named at all.keeps.outside) (rw named at only)
+
+      by_result : (result : Result (Unit {0}) SinkFault) → Finishes (seen done) new result → IsAssignmentStreamed old new name values result
+      by_result (Ok unit) finishes = record {
+        file = streamed_whole old (seen taker).outside new name is.creates (appends finishes.only) (assignment_bytes values) unit (rw (named, bytes done all.keeps) at (finishes.whole values stands));
+        read = come_back values is.few stands.canonical;
+      }
+      by_result (Err fault) finishes = record {
+        file = streamed_part old (seen taker).outside new name is.creates (appends finishes.only) (assignment_bytes values) fault (rw (named, bytes done all.keeps) at (finishes.part values stands))
+            (caused_since (seen taker).outside (seen done).outside new (seen taker).name fault all.keeps.outside finishes.cause);
+        read = tt;
+      }
