@@ -1,32 +1,15 @@
 -- Trying constraints one after the other.
-use Rattle.std.proofs.Common.{◌≡◌, ℕ, suc, ◌+◌, ◌*◌, ◌==◌, Bool, true, false, cond, List, [], ◌∷◌, ◌++◌, length, take, Option, Some, None, Ok, refl, ap, sym, sum_by, slice_index, get_or, ◌%◌, ◌<◌}
+use Rattle.std.proofs.Common.{◌≡◌, ℕ, suc, ◌+◌, ◌==◌, Bool, true, false, cond, List, [], ◌∷◌, ◌++◌, length, take, Option, Some, None, Ok, refl}
 use Rattle.std.specs.Option.{option_map}
-use Rattle.tv_core.specs.Constraints.{System, Constraint, value}
-use Rattle.tv_core.specs.declared.field.TheConstants.{P}
-use Rattle.std.proofs.Math.Nat.{add-mod}
-use Rattle.std.proofs.lemmas.List.Sums.{sum_by_more}
-use Rattle.tv_core.proofs.Residues.{sum_by-map}
+use Rattle.tv_core.specs.Constraints.{System, Constraint}
 use Rattle.tv_r1cs_read.specs.declared.header.Header.{Header}
 use Rattle.tv_container.specs.declared.why.ReadRefusal.{ReadRefusal}
 use Rattle.tv_container.specs.Reading.{Refuses}
 use Rattle.tv_r1cs_read.specs.Places.{system_with}
 use Rattle.tv_r1cs_read.specs.R1cs.{system_of}
-use Rattle.tv_r1cs_read.specs.Rows.{combination_of}
 use Rattle.tv_container.proofs.Chain.{refuses_first}
 use Rattle.tv_check.specs.declared.verdict.Verdict.TheVariants.{WireCount}
 use Rattle.tv_check.specs.Verdict.{holds, first_failing, first_difference, constraint_verdict, public_verdict, judge, tried, verdict_of}
-
--- terms that were read have the value of the combination that they make
-pub value_of_terms : (terms : List (ℕ × ℕ)) (z : List ℕ) → value (combination_of terms) z ≡ sum_by (λ t. t.1 * slice_index z t.0) terms % P
-value_of_terms terms z = ap (λ n. n % P) (sum_by-map (λ t. t.0 * slice_index z t.1) (λ t. (t.1, t.0)) terms)
-
--- one more term is added
-pub sum-more : (terms : List (ℕ × ℕ)) (z : List ℕ) (i : ℕ) (item : ℕ × ℕ) (sum term : ℕ) → i < length terms → item ≡ get_or terms i item →
-    sum ≡ sum_by (λ t. t.1 * slice_index z t.0) (take i terms) % P → term ≡ item.1 * slice_index z item.0 % P →
-    (sum + term) % P ≡ sum_by (λ t. t.1 * slice_index z t.0) (take (i + 1) terms) % P
-sum-more terms z i item sum term lt is before adds =
-    let more = sum_by_more (λ t. t.1 * slice_index z t.0) terms i item lt in
-    rw (before, adds) (sym (rw (more, ← is) (add-mod _ _ P)))
 
 -- the first that fails among some, else one more at this place
 abbrev with_last : Option ℕ → ℕ → Bool → Option ℕ

@@ -4,20 +4,19 @@ ghost use Rattle.tv_container.specs.declared.why.ReadRefusal.{ReadRefusal};
 ghost use Rattle.tv_check.specs.Verdict.{verdict_of};
 
 use crate::publics::public_verdict;
-use crate::rows::tried;
-use crate::verdict::Verdict;
+use crate::verdict::{Verdict, tried};
 use std::alloc::Global;
 use tv_container::ReadRefusal;
 use tv_core::F;
 use tv_files::Files;
-use tv_r1cs_read::{Row, SystemReader};
+use tv_r1cs_read::SystemReader;
 
-/// The verdict on an assignment, `values`, and public numbers, by the system in a file: first on the
-/// number of values, then on the public wires, then on each constraint.
+/// The verdict on an assignment, `values`, and public numbers, by the system in a file: first on
+/// the number of values, then on the public wires, then on each constraint.
 ///
-/// The file is read to its end whatever the verdict: `Ok` comes exactly for a file that holds a system,
-/// and `Bad` tells the first fault of another one. `Fault` comes only where a read failed, and a missing
-/// name is such a fault. Takes one pass, and memory for one constraint; each term is one product.
+/// The file is read to its end whatever the verdict: `Ok` comes exactly for a file that holds a
+/// system, and `Bad` tells the first fault of another one. `Fault` comes only where a read failed,
+/// and a missing name is such a fault. Takes one pass and no memory; each term is one product.
 pub fn check<D: Files>(
     alloc: Global,
     files: &mut D,
@@ -25,7 +24,8 @@ pub fn check<D: Files>(
     values: &[F],
     publics: &[F],
 ) -> Result<Verdict, ReadRefusal>
-    ensures gives { Known (D.seen files.old) system.now (λ file. Gives result (verdict_of file values.now publics.now)) }
+    ensures gives { Known (D.seen files.old) system.now
+        (λ file. Gives result (verdict_of file values.now publics.now)) }
     ensures looks { Looks (D.seen files.old) (D.seen files.new) system.now result }
     ensures missing { IsMissing (D.seen files.old) system.now → result ≡ Err ReadRefusal.Fault }
 {
@@ -34,11 +34,13 @@ pub fn check<D: Files>(
         Err(unread) => return Err(unread.why),
     };
     let mut verdict = public_verdict(&reader.counts(), values, publics);
-    let mut row = Row::new(alloc);
     let mut at = 0_u64;
-    while reader.next_into(&mut row)? {
-        verdict = tried(verdict, at, &row, values);
+    while let Some(holds) = reader.try_next(values) {
+        verdict = tried(verdict, at, holds);
         at += 1;
     }
-    Ok(verdict)
+    match reader.stopped() {
+        Some(why) => Err(why),
+        None => Ok(verdict),
+    }
 }

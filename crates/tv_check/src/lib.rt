@@ -6,7 +6,6 @@
 mod checking;
 mod laws;
 mod publics;
-mod rows;
 #[cfg(test)]
 mod tests;
 mod verdict;

@@ -4,8 +4,8 @@ use tv_container::{ReadRefusal, ReadWhy};
 use tv_core::F;
 use tv_files::MemFiles;
 
-// Four wires, wire 1 public, and two constraints: wire 1 times wire 2 is wire 3, and wire 3 times the
-// constant 1 is three times wire 2.
+// Four wires, wire 1 public, and two constraints: wire 1 times wire 2 is wire 3, and wire 3 times
+// the constant 1 is three times wire 2.
 const SYSTEM: [u8; 216] = [
     0x72, 0x31, 0x63, 0x73, 1, 0, 0, 0, 3, 0, 0, 0, // the front
     1, 0, 0, 0, 40, 0, 0, 0, 0, 0, 0, 0, // section 1

@@ -1,8 +1,7 @@
 -- Constraints that were read, and those ahead.
 use Rattle.std.proofs.Common.{◌≡◌, ℕ, ◌+◌, ◌-◌, Bool, true, false, cond, eqb, zero, suc, List, [], ◌∷◌, ◌++◌, length, Result, Ok, Err, append_assoc, append-nil, arith, ap, refl, sym, ◌∙◌}
 use Rattle.std.proofs.lemmas.List.{length-map}
-use Rattle.std.proofs.lemmas.List.Sums.{sum_by-append}
-use Rattle.std.specs.List.{sum_by}
+use Rattle.std.proofs.lemmas.List.Sums.{sum_by_push}
 use Rattle.tv_core.specs.Constraints.{Constraint}
 use Rattle.tv_r1cs_read.specs.declared.rows.Row.{Row}
 use Rattle.tv_container.specs.declared.sections.Section.{Section}
@@ -66,24 +65,32 @@ constraints_from-length file wires (suc n) at rows list is =
     let whole : first.0.value ∷ rest.0 ≡ list = cc in
     ap length (sym whole) ∙ ap suc (constraints_from-length file wires n first.0.next rows rest.0 rest.1)
 
--- the terms of the constraints that were read, and of one more
-terms_more : (done : List Constraint) (row : Row) → sum_by terms_of (done ++ constraint_of row ∷ []) ≡ sum_by terms_of done + terms_in row
-terms_more done row =
-    sum_by-append terms_of done (constraint_of row ∷ [])
-    ∙ omega (arith, length-map {B = ℕ × ℕ} row.a (λ (t : ℕ × ℕ). (t.1, t.0)), length-map {B = ℕ × ℕ} row.b (λ (t : ℕ × ℕ). (t.1, t.0)), length-map {B = ℕ × ℕ} row.c (λ (t : ℕ × ℕ). (t.1, t.0)))
+-- a row has the terms of its constraint
+terms_of_row : (row : Row) → terms_of (constraint_of row) ≡ terms_in row
+terms_of_row row =
+    omega (arith, length-map {B = ℕ × ℕ} row.a (λ (t : ℕ × ℕ). (t.1, t.0)), length-map {B = ℕ × ℕ} row.b (λ (t : ℕ × ℕ). (t.1, t.0)), length-map {B = ℕ × ℕ} row.c (λ (t : ℕ × ℕ). (t.1, t.0)))
 
 -- one constraint more was read
+pub one_more : (file : List ℕ) (old new : Reached) (rows : List Constraint) (next : Constraint) → IsAt old file rows → Follows new file →
+    new.header ≡ old.header → new.terms ≡ old.terms + terms_of next →
+    ahead old file ≡ (do
+      others ← ahead new file
+      Ok (next ∷ others)) → IsAt new file (rows ++ next ∷ [])
+one_more file old new rows next place follows same count step = record {
+  follows = follows;
+  header = rw same place.header;
+  read = rw same (read_more rows _ _ _ next place.read (rw same at step));
+  terms = count ∙ ap (λ n. n + terms_of next) place.terms ∙ sym (sum_by_push terms_of rows next);
+}
+
+-- and it was a row's
 pub next_at : (file : List ℕ) (old new : Reached) (rows : List Constraint) (row : Row) → IsAt old file rows → Follows new file →
     new.header ≡ old.header → new.terms ≡ old.terms + terms_in row →
     ahead old file ≡ (do
       others ← ahead new file
       Ok (constraint_of row ∷ others)) → IsAt new file (rows ++ constraint_of row ∷ [])
-next_at file old new rows row place follows same count step = record {
-  follows = follows;
-  header = rw same place.header;
-  read = rw same (read_more rows _ _ _ (constraint_of row) place.read (rw same at step));
-  terms = count ∙ ap (λ n. n + terms_in row) place.terms ∙ sym (terms_more rows row);
-}
+next_at file old new rows row place follows same count step =
+    one_more file old new rows (constraint_of row) place follows same (count ∙ ap (λ n. old.terms + n) (sym (terms_of_row row))) step
 
 -- no constraint is left
 pub all_at : (file : List ℕ) (reached : Reached) (rows : List Constraint) → IsAt reached file rows → ahead reached file ≡ Ok [] →

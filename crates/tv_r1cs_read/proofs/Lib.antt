@@ -3,3 +3,4 @@ pub mod Constraints
 pub mod Done
 pub mod HeaderLemmas
 pub mod Vectors
+pub mod Summing

@@ -3,3 +3,4 @@ pub mod Progress
 pub mod R1cs
 pub mod Rows
 pub mod Survey
+pub mod Sums

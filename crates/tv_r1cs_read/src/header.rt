@@ -1,4 +1,5 @@
-ghost use Rattle.std.specs.Prelude.{◌≡◌, ℕ, ◌+◌, ◌*◌, ◌≤◌, ◌<◌, ◌^◌, List, [], length, Some, Ok, Err, IfOk, IfErr, OnOk};
+ghost use Rattle.std.specs.Prelude.{◌≡◌, ℕ, ◌+◌, ◌*◌, ◌≤◌, ◌<◌, ◌^◌, List, [], length, Some, Ok};
+ghost use Rattle.std.specs.Prelude.{Err, IfOk, IfErr, OnOk};
 ghost use Rattle.tv_container.specs.Found.{first_of, AllEnd, AllFit};
 ghost use Rattle.tv_container.specs.Places.{places};
 ghost use Rattle.tv_container.specs.Reading.{Gives, IsMissing, IsTold, InPiece, ReadsIn};
@@ -36,13 +37,15 @@ pub(crate) fn read_header<D: Files>(
     name: &str,
     window: &mut Window,
 ) -> Result<Header, ReadRefusal>
-    ensures reads { ReadsIn (D.seen files.old) (D.seen files.new) name.now window.old window.new result
+    ensures reads { ReadsIn (D.seen files.old) (D.seen files.new) name.now window.old window.new
+        result
         (λ file. Gives result (header_of file)) }
     ensures within { InPiece (D.seen files.old) name.now window.old
         (λ file. IfOk result (λ header. header.rows.at + header.rows.size ≤ places file)) }
     ensures ends { IfOk result (λ header. header.rows.at + header.rows.size < 2 ^ 64) }
     ensures room { IfOk result HasRoom }
-    ensures missing { IsMissing (D.seen files.old) name.now → window.old.bytes ≡ [] → result ≡ Err ReadRefusal.Fault }
+    ensures missing { IsMissing (D.seen files.old) name.now → window.old.bytes ≡ [] → result
+        ≡ Err ReadRefusal.Fault }
 {
     let (found, end) = find_sections(files, name, window, &R1CS)?;
     header_in(files, name, window, &found, end)
@@ -58,9 +61,12 @@ fn header_in<D: Files>(
     end: u64,
 ) -> Result<Header, ReadRefusal>
     requires { AllEnd found.now }
-    ensures reads { ReadsIn (D.seen files.old) (D.seen files.new) name.now window.old window.new result
-        (λ file. end ≡ length file → (sections : List Section) → found.now ≡ first_of sections → AllFit file sections → Gives result (header_in file sections)) }
-    ensures within { (file : List ℕ) → (sections : List Section) → found.now ≡ first_of sections → AllFit file sections →
+    ensures reads { ReadsIn (D.seen files.old) (D.seen files.new) name.now window.old window.new
+        result
+        (λ file. end ≡ length file → (sections : List Section) → found.now ≡ first_of sections
+        → AllFit file sections → Gives result (header_in file sections)) }
+    ensures within { (file : List ℕ) → (sections : List Section) → found.now ≡ first_of sections
+        → AllFit file sections →
         IfOk result (λ header. header.rows.at + header.rows.size ≤ places file) }
     ensures ends { IfOk result (λ header. header.rows.at + header.rows.size < 2 ^ 64) }
     ensures room { IfOk result HasRoom }
@@ -80,7 +86,8 @@ fn counted<D: Files>(
     one: &Section,
     rows: Section,
 ) -> Result<Header, ReadRefusal>
-    ensures reads { ReadsIn (D.seen files.old) (D.seen files.new) name.now window.old window.new result
+    ensures reads { ReadsIn (D.seen files.old) (D.seen files.new) name.now window.old window.new
+        result
         (λ file. one.now.at + 40 ≤ places file → Gives result (Ok (counted file one.now rows))) }
     ensures rows { IfOk result (λ header. header.rows ≡ rows) }
 {

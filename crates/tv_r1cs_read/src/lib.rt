@@ -1,11 +1,14 @@
-//! Reading a constraint system from an r1cs file, of any size and with its sections in any order: one
-//! row at a time, each the next constraint of `system_of` the whole file, or the file's first fault.
+//! Reading a constraint system from an r1cs file, of any size and with its sections in any order:
+//! one row at a time, each the next constraint of `system_of` the whole file, or the file's first
+//! fault.
 #![tactic(auto)]
 
 mod header;
 mod progress;
 mod reader;
 mod rows;
+mod sum;
+mod tried;
 
 pub use header::Header;
 pub use progress::Progress;

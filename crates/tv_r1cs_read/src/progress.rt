@@ -1,20 +1,23 @@
-ghost use Rattle.std.specs.Prelude.{◌≡◌, ℕ, ◌+◌, List, [], Some, None, Ok, Err, IfOk, IfErr, OnOk, MatchResult};
+ghost use Rattle.std.specs.Prelude.{◌≡◌, ℕ, ◌+◌, List, [], Some, None, Ok, Err, IfOk, IfErr, OnOk};
+ghost use Rattle.std.specs.Prelude.{MatchResult, MatchOption, IfSome};
 ghost use Rattle.tv_core.specs.Constraints.{Constraint};
-ghost use Rattle.tv_r1cs_read.specs.Places.{IsAt, Gave};
+ghost use Rattle.tv_r1cs_read.specs.Places.{IsAt, IsAll, Gave};
 ghost use Rattle.tv_r1cs_read.specs.Progress.{ahead, counts_of, IsBegun, WentOn};
 ghost use Rattle.tv_r1cs_read.specs.R1cs.{header_of, system_of};
-ghost use Rattle.tv_container.specs.Reading.{Looks, Refuses, IsMissing, IsTold, Known};
+ghost use Rattle.tv_r1cs_read.specs.Sums.{GaveTried, HasTried};
+ghost use Rattle.tv_container.specs.Reading.{Looks, Refuses, IsMissing, IsTold, Known, Stopped};
 ghost use Rattle.tv_container.specs.declared.why.ReadRefusal.{ReadRefusal};
 
 use crate::header::{Header, read_header};
 use crate::rows::{Bounds, Row, read_row};
+use crate::tried::{try_held, try_row};
 use std::marker::Model;
 use tv_container::{ReadRefusal, ReadWhy, Window};
-use tv_core::Counts;
+use tv_core::{Counts, F};
 use tv_files::Files;
 
-/// How far reading of a system has come: what is ahead is `left` constraints from the place `at` on,
-/// unless reading stopped.
+/// How far reading of a system has come: what is ahead is `left` constraints from the place `at`
+/// on, unless reading stopped.
 #[derive(Drop)]
 pub struct Progress {
     header: Header,
@@ -30,9 +33,23 @@ impl Model for Progress {
 
     ghost Value = { Reached };
 
-    ghost view = { λ p. record { header = p.header; piece = p.window; at = p.at; left = p.left; terms = p.terms; stopped = p.stopped } };
+    ghost view = { λ p. record {
+      header = p.header;
+      piece = p.window;
+      at = p.at;
+      left = p.left;
+      terms = p.terms;
+      stopped = p.stopped;
+    } };
 
-    ghost invariant = { λ p. IsWithin (record { header = p.header; piece = p.window; at = p.at; left = p.left; terms = p.terms; stopped = p.stopped }) };
+    ghost invariant = { λ p. IsWithin (record {
+      header = p.header;
+      piece = p.window;
+      at = p.at;
+      left = p.left;
+      terms = p.terms;
+      stopped = p.stopped;
+    }) };
 }
 
 impl Progress {
@@ -70,22 +87,26 @@ impl Progress {
         }
     }
 
-    /// Reads the next constraint into `row`, and tells whether there was one. A refusal is repeated.
+    /// Reads the next constraint into `row`, and tells whether there was one. A refusal is
+    /// repeated.
     pub(crate) fn next<D: Files>(
         &mut self,
         files: &mut D,
         name: &str,
         row: &mut Row,
     ) -> Result<bool, ReadRefusal>
-        ensures gives { (rows : List Constraint) → Known (D.seen files.old) name.now (λ file. IsAt self.old file rows →
-            MatchResult result (λ more. Gave more row.new self.new file rows) (λ why. Refuses why (system_of file))) }
+        ensures gives { (rows : List Constraint)
+            → Known (D.seen files.old) name.now (λ file. IsAt self.old file rows →
+            MatchResult result (λ more. Gave more row.new self.new file rows)
+            (λ why. Refuses why (system_of file))) }
         ensures counts { IfOk result (λ more. WentOn more row.new self.old self.new) }
         ensures header { self.new.header ≡ self.old.header }
         ensures again { (why : ReadRefusal) → self.old.stopped ≡ Some why →
             (result ≡ Err why) × (self.new ≡ self.old) × (D.seen files.new ≡ D.seen files.old) }
         ensures stops { IfErr result (λ why. self.new.stopped ≡ Some why) }
         ensures goes { OnOk result (self.new.stopped ≡ None) }
-        ensures looks { self.old.stopped ≡ None → Looks (D.seen files.old) (D.seen files.new) name.now result }
+        ensures looks { self.old.stopped ≡ None → Looks (D.seen files.old) (D.seen files.new)
+            name.now result }
     {
         if let Some(refusal) = self.stopped {
             return Err(refusal);
@@ -105,8 +126,10 @@ impl Progress {
         name: &str,
         row: &mut Row,
     ) -> Result<bool, ReadRefusal>
-        ensures gives { (rows : List Constraint) → Known (D.seen files.old) name.now (λ file. IsAt self.old file rows →
-            MatchResult result (λ more. Gave more row.new self.new file rows) (λ why. Refuses why (system_of file))) }
+        ensures gives { (rows : List Constraint)
+            → Known (D.seen files.old) name.now (λ file. IsAt self.old file rows →
+            MatchResult result (λ more. Gave more row.new self.new file rows)
+            (λ why. Refuses why (system_of file))) }
         ensures counts { IfOk result (λ more. WentOn more row.new self.old self.new) }
         ensures header { self.new.header ≡ self.old.header }
         ensures goes { self.new.stopped ≡ self.old.stopped }
@@ -126,9 +149,135 @@ impl Progress {
         Ok(true)
     }
 
+    /// Why reading stopped, where it did.
+    pub(crate) fn stopped(&self) -> Option<ReadRefusal>
+        ensures { result ≡ self.now.stopped }
+    {
+        self.stopped
+    }
+
+    /// Tries the next constraint under an assignment: whether it holds, or `None` after the last
+    /// and where reading stopped.
+    #[inline(always)]
+    pub(crate) fn try_next<D: Files>(
+        &mut self,
+        files: &mut D,
+        name: &str,
+        values: &[F],
+    ) -> Option<bool>
+        ensures gives { (rows : List Constraint)
+            → Known (D.seen files.old) name.now (λ file. IsAt self.old file rows →
+            GaveTried result values.now self.new file rows) }
+        ensures left { IfSome result (λ _. self.new.left + 1 ≡ self.old.left) }
+        ensures header { self.new.header ≡ self.old.header }
+        ensures again { (why : ReadRefusal) → self.old.stopped ≡ Some why →
+            (result ≡ None) × (self.new ≡ self.old) × (D.seen files.new ≡ D.seen files.old) }
+        ensures goes { IfSome result (λ _. self.new.stopped ≡ None) }
+        ensures looks { self.old.stopped ≡ None → MatchOption self.new.stopped
+            (D.seen files.new ≡ D.seen files.old)
+            (λ why. Stopped (D.seen files.old) (D.seen files.new) name.now why) }
+    {
+        if let Some(holds) = self.try_held(values) {
+            return Some(holds);
+        }
+        self.try_far(files, name, values)
+    }
+
+    // Tries the next constraint, where the window holds all of it and it is as it should be; else
+    // nothing changes.
+    #[inline(always)]
+    fn try_held(&mut self, values: &[F]) -> Option<bool>
+        ensures gives { (file : List ℕ) → (rows : List Constraint) → IsAt self.old file rows →
+            IfSome result (λ holds. HasTried holds values.now self.new file rows) }
+        ensures left { IfSome result (λ _. self.new.left + 1 ≡ self.old.left) }
+        ensures header { self.new.header ≡ self.old.header }
+        ensures same { result ≡ None → self.new ≡ self.old }
+        ensures on { IfSome result (λ _. self.old.stopped ≡ None) }
+        ensures goes { self.new.stopped ≡ self.old.stopped }
+    {
+        if self.left == 0 || self.stopped.is_some() {
+            return None;
+        }
+        let bounds = Bounds {
+            wires: self.header.wires,
+            end: self.header.rows.at + self.header.rows.size,
+        };
+        let tried = try_held(&self.window, &bounds, self.at, values)?;
+        self.at = tried.next;
+        self.left -= 1;
+        self.terms += tried.terms;
+        Some(tried.holds)
+    }
+
+    // Reads and tries the next constraint.
+    #[cold]
+    #[inline(never)]
+    fn try_far<D: Files>(&mut self, files: &mut D, name: &str, values: &[F]) -> Option<bool>
+        ensures gives { (rows : List Constraint)
+            → Known (D.seen files.old) name.now (λ file. IsAt self.old file rows →
+            GaveTried result values.now self.new file rows) }
+        ensures left { IfSome result (λ _. self.new.left + 1 ≡ self.old.left) }
+        ensures header { self.new.header ≡ self.old.header }
+        ensures again { (why : ReadRefusal) → self.old.stopped ≡ Some why →
+            (result ≡ None) × (self.new ≡ self.old) × (D.seen files.new ≡ D.seen files.old) }
+        ensures goes { IfSome result (λ _. self.new.stopped ≡ None) }
+        ensures looks { self.old.stopped ≡ None → MatchOption self.new.stopped
+            (D.seen files.new ≡ D.seen files.old)
+            (λ why. Stopped (D.seen files.old) (D.seen files.new) name.now why) }
+    {
+        if self.stopped.is_some() {
+            return None;
+        }
+        match self.try_read(files, name, values) {
+            Ok(holds) => holds,
+            Err(refusal) => {
+                self.stopped = Some(refusal);
+                None
+            }
+        }
+    }
+
+    // Reads and tries the next constraint, or tells the refusal.
+    #[tactic(auto, using(tv_container::proofs::Chain::stopped_here))]
+    fn try_read<D: Files>(
+        &mut self,
+        files: &mut D,
+        name: &str,
+        values: &[F],
+    ) -> Result<Option<bool>, ReadRefusal>
+        ensures gives { (rows : List Constraint)
+            → Known (D.seen files.old) name.now (λ file. IsAt self.old file rows →
+            MatchResult result
+            (λ holds. MatchOption holds (IsAll self.new file rows)
+            (λ holds. HasTried holds values.now self.new file rows))
+            (λ why. Refuses why (system_of file))) }
+        ensures left { IfOk result (λ holds. IfSome holds
+            (λ _. self.new.left + 1 ≡ self.old.left)) }
+        ensures header { self.new.header ≡ self.old.header }
+        ensures goes { self.new.stopped ≡ self.old.stopped }
+        ensures looks { Looks (D.seen files.old) (D.seen files.new) name.now result }
+    {
+        if self.left == 0 {
+            self.at_end()?;
+            return Ok(None);
+        }
+        let bounds = Bounds {
+            wires: self.header.wires,
+            end: self.header.rows.at + self.header.rows.size,
+        };
+        self.window.fill(files, name, self.at)?;
+        let tried = try_row(files, name, &mut self.window, &bounds, self.at, values)?;
+        self.at = tried.next;
+        self.left -= 1;
+        self.terms += tried.terms;
+        Ok(Some(tried.holds))
+    }
+
     // Behind the counted constraints section 2 ends.
     fn at_end(&self) -> Result<(), ReadRefusal>
-        ensures gives { (file : List ℕ) → self.now.left ≡ 0 → MatchResult result (λ _. ahead self.now file ≡ Ok []) (λ why. Refuses why (ahead self.now file)) }
+        ensures gives { (file : List ℕ) → self.now.left ≡ 0
+            → MatchResult result (λ _. ahead self.now file ≡ Ok [])
+            (λ why. Refuses why (ahead self.now file)) }
         ensures told { IfErr result IsTold }
     {
         let rows = self.header.rows;

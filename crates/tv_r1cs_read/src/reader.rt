@@ -1,9 +1,11 @@
-ghost use Rattle.std.specs.Prelude.{◌≡◌, [], List, Some, None, Ok, Err, Option, IfOk, IfErr, OnOk, MatchResult};
+ghost use Rattle.std.specs.Prelude.{◌≡◌, [], List, Some, None, Ok, Err, Option, IfOk, IfErr, OnOk};
+ghost use Rattle.std.specs.Prelude.{MatchResult, MatchOption, IfSome, ◌+◌};
 ghost use Rattle.tv_core.specs.Constraints.{Constraint};
 ghost use Rattle.tv_r1cs_read.specs.Places.{IsAt, Gave, GaveBy};
 ghost use Rattle.tv_r1cs_read.specs.Progress.{counts_of, IsBegun, WentOn, WentOnBy};
 ghost use Rattle.tv_r1cs_read.specs.R1cs.{header_of, system_of};
 ghost use Rattle.tv_container.specs.Reading.{Looks, Stopped, Gives, Refuses, IsMissing, Known};
+ghost use Rattle.tv_r1cs_read.specs.Sums.{GaveTried};
 ghost use Rattle.tv_r1cs_read.specs.Survey.{survey_of};
 ghost use Rattle.tv_container.specs.declared.why.ReadRefusal.{ReadRefusal};
 
@@ -11,7 +13,7 @@ use crate::progress::Progress;
 use crate::rows::Row;
 use std::alloc::Global;
 use tv_container::ReadRefusal;
-use tv_core::Counts;
+use tv_core::{Counts, F};
 use tv_files::Files;
 
 /// Reads a system's constraints one after another from a file, which is lent to it.
@@ -47,9 +49,12 @@ impl<'a, D: Files> SystemReader<'a, D> {
         ensures gives { Known (D.seen files.old) name.now (λ file. MatchResult result
             (λ reader. IsAt reader.progress file [])
             (λ unread. Refuses unread.why (header_of file) × Refuses unread.why (system_of file))) }
-        ensures err_same { IfErr result (λ unread. unread.files.ghost_name ≡ files.entry.ghost_name) }
-        ensures err_stopped { IfErr result (λ unread. Stopped (D.seen files.old) (D.seen unread.files.now) name.now unread.why) }
-        ensures missing { IsMissing (D.seen files.old) name.now → MatchResult result (λ _. ⊥) (λ unread. unread.why ≡ ReadRefusal.Fault) }
+        ensures err_same { IfErr result (λ unread. unread.files.ghost_name
+            ≡ files.entry.ghost_name) }
+        ensures err_stopped { IfErr result (λ unread. Stopped (D.seen files.old)
+            (D.seen unread.files.now) name.now unread.why) }
+        ensures missing { IsMissing (D.seen files.old) name.now
+            → MatchResult result (λ _. ⊥) (λ unread. unread.why ≡ ReadRefusal.Fault) }
     {
         match Progress::begin(files, name) {
             Ok(progress) => Ok(SystemReader {
@@ -69,40 +74,88 @@ impl<'a, D: Files> SystemReader<'a, D> {
         self.progress.counts()
     }
 
-    /// Reads the next constraint, each wire of which is below the system's `wires`, into `row`, whose memory
-    /// serves again, and tells whether there was one; there is none after the last.
+    /// Reads the next constraint, each wire of which is below the system's `wires`, into `row`,
+    /// whose memory serves again, and tells whether there was one; there is none after the last.
     ///
-    /// `Bad` tells the first fault ahead, `Fault` comes only where a read failed, and a refusal is told
-    /// again by each later call, which reads nothing.
+    /// `Bad` tells the first fault ahead, `Fault` comes only where a read failed, and a refusal is
+    /// told again by each later call, which reads nothing.
     pub fn next_into(&mut self, row: &mut Row) -> Result<bool, ReadRefusal>
         ensures same { self.new.files.ghost_name ≡ self.old.files.ghost_name }
         ensures name { self.new.name.now ≡ self.old.name.now }
-        ensures gives { (rows : List Constraint) → Known (D.seen self.old.files.now) self.old.name.now (λ file. IsAt self.old.progress file rows →
-            MatchResult result (λ more. Gave more row.new self.new.progress file rows) (λ why. Refuses why (system_of file))) }
-        ensures counts { IfOk result (λ more. WentOn more row.new self.old.progress self.new.progress) }
+        ensures gives { (rows : List Constraint)
+            → Known (D.seen self.old.files.now) self.old.name.now
+            (λ file. IsAt self.old.progress file rows →
+            MatchResult result (λ more. Gave more row.new self.new.progress file rows)
+            (λ why. Refuses why (system_of file))) }
+        ensures counts { IfOk result (λ more. WentOn more row.new self.old.progress
+            self.new.progress) }
         ensures header { self.new.progress.header ≡ self.old.progress.header }
         ensures again { (why : ReadRefusal) → self.old.progress.stopped ≡ Some why →
-            (result ≡ Err why) × (self.new.progress ≡ self.old.progress) × (D.seen self.new.files.now ≡ D.seen self.old.files.now) }
+            (result ≡ Err why) × (self.new.progress ≡ self.old.progress)
+            × (D.seen self.new.files.now ≡ D.seen self.old.files.now) }
         ensures stops { IfErr result (λ why. self.new.progress.stopped ≡ Some why) }
         ensures goes { OnOk result (self.new.progress.stopped ≡ None) }
-        ensures looks { self.old.progress.stopped ≡ None → Looks (D.seen self.old.files.now) (D.seen self.new.files.now) self.old.name.now result }
+        ensures looks { self.old.progress.stopped ≡ None
+            → Looks (D.seen self.old.files.now) (D.seen self.new.files.now) self.old.name.now
+            result }
     {
         self.progress.next(self.files, self.name, row)
     }
 
-    /// The next constraint, as a row of its own; `None` after the last. It refuses as `next_into` does.
+    /// Tries the next constraint under an assignment, where a wire past its end counts as 0,
+    /// straight from the file's bytes: whether it holds, or `None` after the last and where reading
+    /// stopped, which `stopped` tells apart. Takes no memory; each term is one product.
+    #[inline(always)]
+    pub fn try_next(&mut self, values: &[F]) -> Option<bool>
+        ensures same { self.new.files.ghost_name ≡ self.old.files.ghost_name }
+        ensures name { self.new.name.now ≡ self.old.name.now }
+        ensures gives { (rows : List Constraint)
+            → Known (D.seen self.old.files.now) self.old.name.now
+            (λ file. IsAt self.old.progress file rows →
+            GaveTried result values.now self.new.progress file rows) }
+        ensures left { IfSome result
+            (λ _. self.new.progress.left + 1 ≡ self.old.progress.left) }
+        ensures header { self.new.progress.header ≡ self.old.progress.header }
+        ensures again { (why : ReadRefusal) → self.old.progress.stopped ≡ Some why →
+            (result ≡ None) × (self.new.progress ≡ self.old.progress)
+            × (D.seen self.new.files.now ≡ D.seen self.old.files.now) }
+        ensures goes { IfSome result (λ _. self.new.progress.stopped ≡ None) }
+        ensures looks { self.old.progress.stopped ≡ None → MatchOption self.new.progress.stopped
+            (D.seen self.new.files.now ≡ D.seen self.old.files.now)
+            (λ why. Stopped (D.seen self.old.files.now) (D.seen self.new.files.now)
+            self.old.name.now why) }
+    {
+        self.progress.try_next(self.files, self.name, values)
+    }
+
+    /// Why reading stopped, where it did: `Bad` is the first fault ahead, and `Fault` comes only
+    /// where a read failed.
+    pub fn stopped(&self) -> Option<ReadRefusal>
+        ensures { result ≡ self.now.progress.stopped }
+    {
+        self.progress.stopped()
+    }
+
+    /// The next constraint, as a row of its own; `None` after the last. It refuses as `next_into`
+    /// does.
     pub fn next(&mut self) -> Result<Option<Row>, ReadRefusal>
         ensures same { self.new.files.ghost_name ≡ self.old.files.ghost_name }
         ensures name { self.new.name.now ≡ self.old.name.now }
-        ensures gives { (rows : List Constraint) → Known (D.seen self.old.files.now) self.old.name.now (λ file. IsAt self.old.progress file rows →
-            MatchResult result (λ row. GaveBy row self.new.progress file rows) (λ why. Refuses why (system_of file))) }
+        ensures gives { (rows : List Constraint)
+            → Known (D.seen self.old.files.now) self.old.name.now
+            (λ file. IsAt self.old.progress file rows →
+            MatchResult result (λ row. GaveBy row self.new.progress file rows)
+            (λ why. Refuses why (system_of file))) }
         ensures counts { IfOk result (λ row. WentOnBy row self.old.progress self.new.progress) }
         ensures header { self.new.progress.header ≡ self.old.progress.header }
         ensures again { (why : ReadRefusal) → self.old.progress.stopped ≡ Some why →
-            (result ≡ Err why) × (self.new.progress ≡ self.old.progress) × (D.seen self.new.files.now ≡ D.seen self.old.files.now) }
+            (result ≡ Err why) × (self.new.progress ≡ self.old.progress)
+            × (D.seen self.new.files.now ≡ D.seen self.old.files.now) }
         ensures stops { IfErr result (λ why. self.new.progress.stopped ≡ Some why) }
         ensures goes { OnOk result (self.new.progress.stopped ≡ None) }
-        ensures looks { self.old.progress.stopped ≡ None → Looks (D.seen self.old.files.now) (D.seen self.new.files.now) self.old.name.now result }
+        ensures looks { self.old.progress.stopped ≡ None
+            → Looks (D.seen self.old.files.now) (D.seen self.new.files.now) self.old.name.now
+            result }
     {
         let mut row = Row::new(self.alloc);
         if self.next_into(&mut row)? {
@@ -114,9 +167,9 @@ impl<'a, D: Files> SystemReader<'a, D> {
 
 /// Reads a system's file to its end, and answers what the system counts.
 ///
-/// `Ok` comes exactly for a file that holds a system, and `Bad` tells the first fault of another one.
-/// `Fault` comes only where a read failed, and a missing name is such a fault. Takes one pass, and
-/// memory for one constraint.
+/// `Ok` comes exactly for a file that holds a system, and `Bad` tells the first fault of another
+/// one. `Fault` comes only where a read failed, and a missing name is such a fault. Takes one pass
+/// and no memory.
 pub fn survey<D: Files>(alloc: Global, files: &mut D, name: &str) -> Result<Counts, ReadRefusal>
     ensures gives { Known (D.seen files.old) name.now (λ file. Gives result (survey_of file)) }
     ensures looks { Looks (D.seen files.old) (D.seen files.new) name.now result }
@@ -126,7 +179,9 @@ pub fn survey<D: Files>(alloc: Global, files: &mut D, name: &str) -> Result<Coun
         Ok(reader) => reader,
         Err(unread) => return Err(unread.why),
     };
-    let mut row = Row::new(alloc);
-    while reader.next_into(&mut row)? {}
-    Ok(reader.counts())
+    while let Some(_) = reader.try_next(&[]) {}
+    match reader.stopped() {
+        Some(why) => Err(why),
+        None => Ok(reader.counts()),
+    }
 }

@@ -1,10 +1,13 @@
-ghost use Rattle.std.specs.Prelude.{◌≡◌, ℕ, ◌+◌, ◌-◌, ◌*◌, ◌≤◌, ◌<◌, ◌^◌, List, [], ◌∷◌, ◌++◌, length, Some, Ok, Result, IfOk, IfErr, OnOk, MatchResult};
+ghost use Rattle.std.specs.Prelude.{◌≡◌, ℕ, ◌+◌, ◌-◌, ◌*◌, ◌≤◌, ◌<◌, ◌^◌, List, [], ◌∷◌, ◌++◌};
+ghost use Rattle.std.specs.Prelude.{length, Some, Ok, Result, IfOk, IfErr, OnOk, MatchResult};
 ghost use Rattle.std.specs.List.{All};
 ghost use Rattle.tv_core.specs.Constraints.{Combination};
 ghost use Rattle.tv_container.specs.Places.{Fault, fit, places};
-ghost use Rattle.tv_container.specs.Reading.{Refuses, Gives, GivesBy, Holds, IsTold, IsPiece, ReadsIn};
+ghost use Rattle.tv_container.specs.Reading.{Refuses, Gives, GivesBy, Holds, IsTold, IsPiece};
+ghost use Rattle.tv_container.specs.Reading.{ReadsIn};
 ghost use Rattle.tv_r1cs_read.specs.R1cs.{Read, combination_at, constraint_at};
-ghost use Rattle.tv_r1cs_read.specs.Rows.{combination_read, constraint_read, terms_in, IsAhead, IsOver};
+ghost use Rattle.tv_r1cs_read.specs.Rows.{combination_read, constraint_read, terms_in, IsAhead};
+ghost use Rattle.tv_r1cs_read.specs.Rows.{IsOver};
 
 use std::alloc::{AllocFailed, Global};
 use std::marker::Model;
@@ -13,10 +16,10 @@ use tv_core::F;
 use tv_files::Files;
 
 /// The most terms of a combination.
-const WIDEST: u32 = 1_048_576;
+pub(crate) const WIDEST: u32 = 1_048_576;
 
 /// The bytes of a term: four of the wire, eight of the coefficient.
-const TERM: u64 = 12;
+pub(crate) const TERM: u64 = 12;
 
 /// The terms of a combination in order, each a wire and its coefficient.
 #[derive(Drop)]
@@ -113,9 +116,11 @@ pub(crate) fn read_row<D: Files>(
     ensures within { IfOk result (λ next. next ≤ bounds.now.end) }
     ensures size { IfOk result (λ next. next ≡ at + 12 + 12 * terms_in row.new) }
     ensures wires { OnOk result (IsOver bounds.now.wires row.new) }
-    ensures reads { ReadsIn (D.seen files.old) (D.seen files.new) name.now window.old window.new result
+    ensures reads { ReadsIn (D.seen files.old) (D.seen files.new) name.now window.old window.new
+        result
         (λ file. bounds.now.end ≤ places file →
-        GivesBy result (constraint_read row.new) (constraint_at file bounds.now.wires bounds.now.end at)) }
+        GivesBy result (constraint_read row.new)
+        (constraint_at file bounds.now.wires bounds.now.end at)) }
 {
     let at = read_combination(files, name, window, bounds, at, &mut row.a)?;
     let at = read_combination(files, name, window, bounds, at, &mut row.b)?;
@@ -136,9 +141,11 @@ fn read_combination<D: Files>(
     ensures within { IfOk result (λ next. next ≤ bounds.now.end) }
     ensures size { IfOk result (λ next. next ≡ at + 4 + 12 * length terms.new) }
     ensures wires { OnOk result (All (λ t. t.0 < bounds.now.wires) terms.new) }
-    ensures reads { ReadsIn (D.seen files.old) (D.seen files.new) name.now window.old window.new result
+    ensures reads { ReadsIn (D.seen files.old) (D.seen files.new) name.now window.old window.new
+        result
         (λ file. bounds.now.end ≤ places file →
-        GivesBy result (combination_read terms.new) (combination_at file bounds.now.wires bounds.now.end at)) }
+        GivesBy result (combination_read terms.new)
+        (combination_at file bounds.now.wires bounds.now.end at)) }
 {
     fit_below(files, name, window, at, 4, bounds.end)?;
     let count = window.word(at);
@@ -152,9 +159,9 @@ fn read_combination<D: Files>(
     read_terms(files, name, window, bounds, at + 4, count, terms)
 }
 
-// Reads on to a place until the window holds so many bytes there; bytes that pass the end of section 2
-// are `Truncated` at the place.
-fn fit_below<D: Files>(
+/// Reads on to a place until the window holds so many bytes there; bytes that pass the end of
+/// section 2 are `Truncated` at the place.
+pub(crate) fn fit_below<D: Files>(
     files: &mut D,
     name: &str,
     window: &mut Window,
@@ -167,7 +174,8 @@ fn fit_below<D: Files>(
     requires before { at ≤ end }
     ensures held { OnOk result (Holds window.new at size) }
     ensures within { OnOk result (at + size ≤ end) }
-    ensures reads { ReadsIn (D.seen files.old) (D.seen files.new) name.now window.old window.new result
+    ensures reads { ReadsIn (D.seen files.old) (D.seen files.new) name.now window.old window.new
+        result
         (λ file. end ≤ places file → Gives result (fit size at end)) }
 {
     if end - at < size as u64 {
@@ -192,10 +200,13 @@ fn read_terms<D: Files>(
     requires { at ≤ bounds.now.end }
     ensures within { IfOk result (λ next. next ≤ bounds.now.end) }
     ensures size { IfOk result (λ next. next + 12 * length terms.old ≡ at + 12 * length terms.new) }
-    ensures wires { All (λ t. t.0 < bounds.now.wires) terms.old → OnOk result (All (λ t. t.0 < bounds.now.wires) terms.new) }
-    ensures reads { ReadsIn (D.seen files.old) (D.seen files.new) name.now window.old window.new result
+    ensures wires { All (λ t. t.0 < bounds.now.wires) terms.old
+        → OnOk result (All (λ t. t.0 < bounds.now.wires) terms.new) }
+    ensures reads { ReadsIn (D.seen files.old) (D.seen files.new) name.now window.old window.new
+        result
         (λ file. bounds.now.end ≤ places file → (answer : Result (Read Combination) Fault) →
-        IsAhead answer terms.old file bounds.now.wires bounds.now.end count at → GivesBy result (combination_read terms.new) answer) }
+        IsAhead answer terms.old file bounds.now.wires bounds.now.end count at
+        → GivesBy result (combination_read terms.new) answer) }
 {
     let mut at = at;
     let mut left = count;
@@ -219,12 +230,16 @@ fn take_terms(
 ) -> Result<(), ReadRefusal>
     requires held { Holds window.now at (12 * count) }
     requires within { at + 12 * count ≤ bounds.now.end }
-    ensures gives { (file : List ℕ) → IsPiece window.now file → (answer : Result (Read Combination) Fault) → (n : ℕ) →
-        count ≤ n → IsAhead answer terms.old file bounds.now.wires bounds.now.end n at → MatchResult result
-        (λ _. IsAhead answer terms.new file bounds.now.wires bounds.now.end (n - count) (at + 12 * count))
+    ensures gives { (file : List ℕ) → IsPiece window.now file
+        → (answer : Result (Read Combination) Fault) → (n : ℕ) →
+        count ≤ n → IsAhead answer terms.old file bounds.now.wires bounds.now.end n at
+        → MatchResult result
+        (λ _. IsAhead answer terms.new file bounds.now.wires bounds.now.end (n - count)
+        (at + 12 * count))
         (λ why. Refuses why answer) }
     ensures size { OnOk result (length terms.new ≡ length terms.old + count) }
-    ensures wires { All (λ t. t.0 < bounds.now.wires) terms.old → OnOk result (All (λ t. t.0 < bounds.now.wires) terms.new) }
+    ensures wires { All (λ t. t.0 < bounds.now.wires) terms.old
+        → OnOk result (All (λ t. t.0 < bounds.now.wires) terms.new) }
     ensures told { IfErr result IsTold }
 {
     let mut at = at;

@@ -1,22 +1,12 @@
-use Rattle.std.proofs.Common.{◌++◌, ◌∷◌, [], rules}
-use Rattle.std.proofs.lemmas.Result.{err_from_is_err_and}
-use Rattle.tv_r1cs_read.specs.Rows.{constraint_of}
+use Rattle.std.proofs.Common.{◌++◌, ◌∷◌, [], ◌∙◌, sym, rules}
 use Rattle.tv_r1cs_read.proofs.Done.{survey_of-refuses}
 use Rattle.tv_r1cs_read.proofs.reader.survey.Goals as goal
 
 pub returns-in-Err-clause-gives : goal.returns-in-Err-clause-gives
 returns-in-Err-clause-gives g c = λ file told. let refused = c.in-Err.ensures.gives file told in survey_of-refuses file _ refused.1
 
-pub returns-in_err-next_into-clause-gives : goal.returns-in_err-next_into-clause-gives
-returns-in_err-next_into-clause-gives g c = λ file told.
-    let begun = rw (← c.in-Ok.ensures.ok_looks, ← c.in-Ok.ensures.name) at told in
-    let before = c.loop-row.invariant.place file begun (c.in-Ok.ensures.gives file told) in
-    let refuses = c.in_err-next_into.ensures.gives before.0 file (rw (← c.loop-row.invariant.outside, ← c.loop-row.invariant.name) at begun) before.1 in
-    let p = err_from_is_err_and c.from_residual.result c.from_residual.ensures.1 in
-    rw (p.1, p.2) (survey_of-refuses file _ refuses)
-
-pub loop-row-init : goal.loop-row-init
-loop-row-init g c = record {
+pub loop-init : goal.loop-init
+loop-init g c = record {
   same = search rules;
   outside = search rules;
   name = search rules;
@@ -24,21 +14,32 @@ loop-row-init g c = record {
   place = λ file begun start. ([], start);
 }
 
-pub loop-row-preserved : goal.loop-row-preserved
-loop-row-preserved g c = record {
-  same = search rules;
-  outside = search rules;
-  name = search rules;
-  on = search rules;
-  place = λ file begun start.
-      let before = c.loop-row.invariant.place file begun start in
-      let told = rw (← c.loop-row.invariant.outside, ← c.loop-row.invariant.name) at begun in
-      (before.0 ++ constraint_of c.next_into.new.row ∷ [], rw c.if-branch.true at c.in_ok-next_into.ensures.gives before.0 file told before.1);
-}
+pub loop-preserved : goal.loop-preserved
+loop-preserved g c =
+    let looked = rw c.in-Some.ensures.goes at (c.try_next.ensures.looks c.loop.invariant.on) in
+    record {
+      same = search rules;
+      outside = looked ∙ c.loop.invariant.outside;
+      name = search rules;
+      on = c.in-Some.ensures.goes;
+      place = λ file begun start.
+          let before = c.loop.invariant.place file begun start in
+          let told = rw (← c.loop.invariant.outside, ← c.loop.invariant.name) at begun in
+          let tried = c.in-Some.ensures.gives before.0 file told before.1 in
+          (before.0 ++ tried.constraint ∷ [], tried.place);
+    }
 
-pub returns-clause-gives : goal.returns-clause-gives
-returns-clause-gives g c = λ file told.
+pub returns-in-Some-stopped-clause-gives : goal.returns-in-Some-stopped-clause-gives
+returns-in-Some-stopped-clause-gives g c = λ file told.
     let begun = rw (← c.in-Ok.ensures.ok_looks, ← c.in-Ok.ensures.name) at told in
-    let before = c.loop-row.invariant.place file begun (c.in-Ok.ensures.gives file told) in
-    let all = rw c.if-branch.false at c.in_ok-next_into.ensures.gives before.0 file (rw (← c.loop-row.invariant.outside, ← c.loop-row.invariant.name) at begun) before.1 in
+    let before = c.loop.invariant.place file begun (c.in-Ok.ensures.gives file told) in
+    let ended = c.in_default.ensures.gives before.0 file (rw (← c.loop.invariant.outside, ← c.loop.invariant.name) at begun) before.1 in
+    survey_of-refuses file _ (rw (sym c.stopped.ensures ∙ c.in-Some-stopped.is) at ended)
+
+pub returns-in-None-clause-gives : goal.returns-in-None-clause-gives
+returns-in-None-clause-gives g c = λ file told.
+    let begun = rw (← c.in-Ok.ensures.ok_looks, ← c.in-Ok.ensures.name) at told in
+    let before = c.loop.invariant.place file begun (c.in-Ok.ensures.gives file told) in
+    let ended = c.in_default.ensures.gives before.0 file (rw (← c.loop.invariant.outside, ← c.loop.invariant.name) at begun) before.1 in
+    let all = rw (sym c.stopped.ensures ∙ c.in-None.is) at ended in
     rw c.counts.ensures all.counts

@@ -4,8 +4,8 @@ use Rattle.tv_container.specs.Reading.{Known}
 use Rattle.tv_r1cs_read.specs.Places.{IsAt}
 use Rattle.tv_r1cs_read.proofs.reader.survey.Given as goal
 
-abbrev pub invariant-loop-row : goal.invariant-loop-row
-invariant-loop-row g l = record {
+abbrev pub invariant-loop : goal.invariant-loop
+invariant-loop g l = record {
   same : l.reader.files.ghost_name ≡ l.initial.reader.files.ghost_name;
   outside : g.D.Files.seen l.reader.files.now ≡ g.D.Files.seen l.initial.reader.files.now;
   name : l.reader.name.now ≡ l.initial.reader.name.now;
@@ -14,5 +14,5 @@ invariant-loop-row g l = record {
       (done : List Constraint) × IsAt l.reader.progress file done);
 }
 
-abbrev pub decreases-loop-row : goal.decreases-loop-row
-decreases-loop-row g l = l.reader.progress.left
+abbrev pub decreases-loop : goal.decreases-loop
+decreases-loop g l = l.reader.progress.left

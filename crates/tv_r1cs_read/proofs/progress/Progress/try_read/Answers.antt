@@ -1,0 +1,50 @@
+use Rattle.std.proofs.Common.{◌≡◌, ◌+◌, ◌-◌, ap, refl, sym, ◌∙◌, arith}
+use Rattle.std.proofs.lemmas.Result.{err_from_is_err_and}
+use Rattle.tv_container.proofs.Chain.{refuses_any}
+use Rattle.tv_r1cs_read.specs.Progress.{Reached}
+use Rattle.tv_r1cs_read.proofs.Constraints.{constraints_from-refuses, constraints_from-next}
+use Rattle.tv_r1cs_read.proofs.Done.{refuses_ahead, one_more, all_at}
+use Rattle.tv_r1cs_read.proofs.progress.Progress.try_read.Goals as goal
+
+pub returns-in_err-tried-clause-gives : goal.returns-in_err-tried-clause-gives
+returns-in_err-tried-clause-gives g c = λ rows file told is.
+    let place = rw (← c.self.view_is) at is in
+    let left : c.self.inside.left ≡ c.self.inside.left - 1 + 1 = omega arith in
+    let held = c.in_ok-fill.ensures.reads.piece file told place.follows.piece in
+    let refuses = c.in_err-tried.ensures.reads.gives file (rw (← c.in_ok-fill.ensures.reads.looks) at told) held place.follows.within in
+    let p = err_from_is_err_and c.from_residual-in_err-tried.result c.from_residual-in_err-tried.ensures.1 in
+    rw (p.1, p.2) (refuses_ahead file _ rows _ place (constraints_from-refuses file _ _ _ _ _ _ left refuses))
+
+pub returns-clause-gives : goal.returns-clause-gives
+returns-clause-gives g c = λ rows file told is.
+    let place = rw (← c.self.view_is) at is in
+    let on = place.follows in
+    let left : c.self.inside.left ≡ c.self.inside.left - 1 + 1 = omega arith in
+    let still = rw (← c.in_ok-fill.ensures.reads.looks) at told in
+    let held = c.in_ok-fill.ensures.reads.piece file told on.piece in
+    let tried = c.in_ok-tried.ensures.reads.gives file still held on.within in
+    record {
+      constraint = tried.constraint;
+      place = one_more file _ _ rows _ place
+          (record { piece = c.in_ok-tried.ensures.reads.piece file still held; within = on.within; on = on.on }) refl
+          (ap (λ n. c.self.inside.terms + n) tried.count)
+          (constraints_from-next file _ _ _ _ _ _ left tried.read);
+      is = tried.is;
+    }
+
+pub returns-in_err-fill-clause-gives : goal.returns-in_err-fill-clause-gives
+returns-in_err-fill-clause-gives g c = λ rows file told is.
+    let place = rw (← c.self.view_is) at is in
+    let p = err_from_is_err_and c.from_residual-in_err-fill.result c.from_residual-in_err-fill.ensures.1 in
+    rw (p.1, p.2) (refuses_any _ (tt {0}) _ (c.in_err-fill.ensures.reads.gives file told place.follows.piece))
+
+pub returns-in_err-at_end-clause-gives : goal.returns-in_err-at_end-clause-gives
+returns-in_err-at_end-clause-gives g c = λ rows file told place.
+    let none : c.args.self.now.left ≡ 0 = ap (λ (reached : Reached). reached.left) (sym c.self.view_is) ∙ c.if-self-eq0.true in
+    let p = err_from_is_err_and c.from_residual.result c.from_residual.ensures.1 in
+    rw (p.1, p.2) (refuses_ahead file c.args.self.now rows _ place (c.in_err-at_end.ensures.gives file none))
+
+pub returns-then-self-eq0-clause-gives : goal.returns-then-self-eq0-clause-gives
+returns-then-self-eq0-clause-gives g c = λ rows file told place.
+    let none : c.args.self.now.left ≡ 0 = ap (λ (reached : Reached). reached.left) (sym c.self.view_is) ∙ c.if-self-eq0.true in
+    all_at file c.args.self.now rows place (c.in_ok-at_end.ensures.gives file none)

@@ -1,0 +1,48 @@
+-- Constraints that are tried as they are read, with no term kept.
+use Rattle.std.specs.Prelude.{◌≡◌, ℕ, ◌+◌, ◌*◌, ◌%◌, ◌≤◌, ◌==◌, ◌⊎◌, Bool, List, [], ◌∷◌, ◌++◌, length, Option, Some, None, Result, Ok, MatchOption, slice_index}
+use Rattle.std.specs.List.{sum_by}
+use Rattle.tv_core.specs.Constraints.{Combination, Constraint, value}
+use Rattle.tv_core.specs.declared.field.TheConstants.{P}
+use Rattle.tv_container.specs.Places.{Fault, number}
+use Rattle.tv_container.specs.Reading.{Refuses}
+use Rattle.tv_r1cs_read.specs.Places.{IsAt, IsAll}
+use Rattle.tv_r1cs_read.specs.Progress.{Reached}
+use Rattle.tv_r1cs_read.specs.R1cs.{Read, system_of}
+use Rattle.tv_r1cs_read.specs.Rows.{IsAhead}
+use Rattle.tv_r1cs_read.specs.Survey.{terms_of}
+
+-- the term at a place has a wire past so many, or a coefficient that isn't below P
+abbrev pub IsOff : List ℕ → ℕ → ℕ → Type 0
+IsOff file wires at = (wires ≤ number file 4 at) ⊎ (P ≤ number file 8 (at + 4))
+
+-- of a combination's terms k come to this sum under an assignment, and the others, n of them, are at a place
+pub record IsSummed (answer : Result (Read Combination) Fault) (file : List ℕ) (wires end : ℕ) (z : List ℕ) (k n at sum : ℕ) : Type 0 where
+  pub terms : List (ℕ × ℕ)
+  pub count : k ≡ length terms
+  pub ahead : IsAhead answer terms file wires end n at
+  pub is : sum ≡ sum_by (λ t. t.1 * slice_index z t.0) terms
+
+-- the combination that was read has this value, so many terms, and ends before this place
+pub record IsValued (answer : Result (Read Combination) Fault) (z : List ℕ) (v n next : ℕ) : Type 0 where
+  pub terms : Combination
+  pub count : n ≡ length terms
+  pub read : answer ≡ Ok (record { value = terms; next = next })
+  pub is : v ≡ value terms z
+
+-- the constraint that was read holds or not, has so many terms, and ends before this place
+pub record IsTried (answer : Result (Read Constraint) Fault) (z : List ℕ) (holds : Bool) (n next : ℕ) : Type 0 where
+  pub constraint : Constraint
+  pub count : n ≡ terms_of constraint
+  pub read : answer ≡ Ok (record { value = constraint; next = next })
+  pub is : holds ≡ (value constraint.a z * value constraint.b z % P == value constraint.c z)
+
+-- reading has given one constraint behind these, and it holds under an assignment or not
+pub record HasTried (holds : Bool) (z : List ℕ) (reached : Reached) (file : List ℕ) (rows : List Constraint) : Type 0 where
+  pub constraint : Constraint
+  pub place : IsAt reached file (rows ++ constraint ∷ [])
+  pub is : holds ≡ (value constraint.a z * value constraint.b z % P == value constraint.c z)
+
+-- reading went on from these constraints by one that was tried; or they are all; or it stopped
+abbrev pub GaveTried : Option Bool → List ℕ → Reached → List ℕ → List Constraint → Type 0
+GaveTried (Some holds) z reached file rows = HasTried holds z reached file rows
+GaveTried None z reached file rows = MatchOption reached.stopped (IsAll reached file rows) (λ why. Refuses why (system_of file))

@@ -1,0 +1,267 @@
+//! A constraint tried straight from the bytes that the window holds, with no term kept.
+
+ghost use Rattle.std.specs.Prelude.{◌≡◌, ℕ, ◌+◌, ◌-◌, ◌*◌, ◌≤◌, ◌<◌, ◌^◌, List, Result};
+ghost use Rattle.std.specs.Prelude.{slice_index, IfSome, IfOk, MatchResult};
+ghost use Rattle.tv_core.specs.Constraints.{Combination};
+ghost use Rattle.tv_container.specs.Places.{Fault, places};
+ghost use Rattle.tv_container.specs.Reading.{Holds, IsPiece, IsTold, ReadsIn, Refuses};
+ghost use Rattle.tv_r1cs_read.specs.R1cs.{Read, combination_at, constraint_at};
+ghost use Rattle.tv_r1cs_read.specs.Sums.{IsOff, IsSummed, IsTried, IsValued};
+
+use crate::rows::{Bounds, TERM, WIDEST, fit_below};
+use crate::sum::Sum;
+use tv_container::{ReadRefusal, ReadWhy, Window};
+use tv_core::F;
+use tv_files::Files;
+
+/// A combination that was read: its value under an assignment, how many terms it has, and the place
+/// behind it.
+#[derive(Drop)]
+pub(crate) struct Valued {
+    pub(crate) value: F,
+    pub(crate) terms: u32,
+    pub(crate) next: u64,
+}
+
+/// A constraint that was read: whether it holds under an assignment, how many terms it has, and the
+/// place behind it.
+#[derive(Drop)]
+pub(crate) struct Tried {
+    pub(crate) holds: bool,
+    pub(crate) terms: u64,
+    pub(crate) next: u64,
+}
+
+// The value of a wire, where one past the end counts as 0.
+#[inline(always)]
+fn value_at(wire: u32, values: &[F]) -> F
+    ensures { result ≡ slice_index values.now wire }
+{
+    match values.get(wire as usize) {
+        Some(value) => *value,
+        None => F::ZERO,
+    }
+}
+
+// Adds to a sum the values of the terms at a place, so many, all of which the window holds, up to
+// the first that isn't as it should be, and answers how many were added.
+#[inline(always)]
+fn sum_terms(
+    window: &Window,
+    bounds: &Bounds,
+    at: u64,
+    count: u32,
+    values: &[F],
+    sum: &mut Sum,
+) -> u32
+    requires held { Holds window.now at (12 * count) }
+    requires within { at + 12 * count ≤ bounds.now.end }
+    requires small { sum.old + count * 2 ^ 128 ≤ 2 ^ 150 }
+    ensures most { result ≤ count }
+    ensures small { sum.new ≤ sum.old + result * 2 ^ 128 }
+    ensures sums { (file : List ℕ) → IsPiece window.now file
+        → (answer : Result (Read Combination) Fault) → (k n : ℕ) → count ≤ n →
+        IsSummed answer file bounds.now.wires bounds.now.end values.now k n at sum.old →
+        IsSummed answer file bounds.now.wires bounds.now.end values.now (k + result) (n - result)
+        (at + 12 * result) sum.new }
+    ensures off { (file : List ℕ) → IsPiece window.now file → result < count
+        → IsOff file bounds.now.wires (at + 12 * result) }
+{
+    let mut at = at;
+    for good in 0..count {
+        let wire = window.word(at);
+        if wire >= bounds.wires {
+            return good;
+        }
+        let Some(coefficient) = F::canon(window.long(at + 4)) else {
+            return good;
+        };
+        sum.add(coefficient, value_at(wire, values));
+        at += TERM;
+    }
+    count
+}
+
+/// The constraint at a place, tried under an assignment; `None` where the window doesn't hold all
+/// of it, or it isn't as it should be.
+#[inline(always)]
+pub(crate) fn try_held(window: &Window, bounds: &Bounds, at: u64, values: &[F]) -> Option<Tried>
+    requires { at ≤ bounds.now.end }
+    ensures within { IfSome result (λ tried. tried.next ≤ bounds.now.end) }
+    ensures size { IfSome result (λ tried. tried.next ≡ at + 12 + 12 * tried.terms) }
+    ensures gives { (file : List ℕ) → IsPiece window.now file → IfSome result
+        (λ tried. IsTried (constraint_at file bounds.now.wires bounds.now.end at) values.now
+        tried.holds tried.terms tried.next) }
+{
+    let a = value_held(window, bounds, at, values)?;
+    let b = value_held(window, bounds, a.next, values)?;
+    let c = value_held(window, bounds, b.next, values)?;
+    Some(Tried {
+        holds: a.value * b.value == c.value,
+        terms: u64::from(a.terms) + u64::from(b.terms) + u64::from(c.terms),
+        next: c.next,
+    })
+}
+
+// The combination at a place; `None` where the window doesn't hold all of it, or it isn't as it
+// should be.
+#[inline(always)]
+fn value_held(window: &Window, bounds: &Bounds, at: u64, values: &[F]) -> Option<Valued>
+    requires { at ≤ bounds.now.end }
+    ensures within { IfSome result (λ valued. valued.next ≤ bounds.now.end) }
+    ensures size { IfSome result (λ valued. valued.next ≡ at + 4 + 12 * valued.terms) }
+    ensures gives { (file : List ℕ) → IsPiece window.now file → IfSome result
+        (λ valued. IsValued (combination_at file bounds.now.wires bounds.now.end at) values.now
+        valued.value valued.terms valued.next) }
+{
+    if bounds.end - at < 4 || !window.holds(at, 4) {
+        return None;
+    }
+    let terms = window.word(at);
+    if terms > WIDEST {
+        return None;
+    }
+    let size = TERM * u64::from(terms);
+    if bounds.end - at - 4 < size || !window.holds(at + 4, size as usize) {
+        return None;
+    }
+    let mut sum = Sum::new();
+    if sum_terms(window, bounds, at + 4, terms, values, &mut sum) < terms {
+        return None;
+    }
+    Some(Valued {
+        value: sum.value(),
+        terms,
+        next: at + 4 + size,
+    })
+}
+
+/// Reads the constraint at a place, and tries it under an assignment.
+#[tactic(auto, unfolding(crate::specs::R1cs::constraint_at))]
+pub(crate) fn try_row<D: Files>(
+    files: &mut D,
+    name: &str,
+    window: &mut Window,
+    bounds: &Bounds,
+    at: u64,
+    values: &[F],
+) -> Result<Tried, ReadRefusal>
+    requires { at ≤ bounds.now.end }
+    ensures within { IfOk result (λ tried. tried.next ≤ bounds.now.end) }
+    ensures size { IfOk result (λ tried. tried.next ≡ at + 12 + 12 * tried.terms) }
+    ensures reads { ReadsIn (D.seen files.old) (D.seen files.new) name.now window.old window.new
+        result
+        (λ file. bounds.now.end ≤ places file → MatchResult result
+        (λ tried. IsTried (constraint_at file bounds.now.wires bounds.now.end at) values.now
+        tried.holds tried.terms tried.next)
+        (λ why. Refuses why (constraint_at file bounds.now.wires bounds.now.end at))) }
+{
+    let a = read_value(files, name, window, bounds, at, values)?;
+    let b = read_value(files, name, window, bounds, a.next, values)?;
+    let c = read_value(files, name, window, bounds, b.next, values)?;
+    Ok(Tried {
+        holds: a.value * b.value == c.value,
+        terms: u64::from(a.terms) + u64::from(b.terms) + u64::from(c.terms),
+        next: c.next,
+    })
+}
+
+// Reads the combination at a place, and takes its value under an assignment.
+#[tactic(auto, unfolding(crate::specs::R1cs::combination_at))]
+fn read_value<D: Files>(
+    files: &mut D,
+    name: &str,
+    window: &mut Window,
+    bounds: &Bounds,
+    at: u64,
+    values: &[F],
+) -> Result<Valued, ReadRefusal>
+    requires { at ≤ bounds.now.end }
+    ensures within { IfOk result (λ valued. valued.next ≤ bounds.now.end) }
+    ensures size { IfOk result (λ valued. valued.next ≡ at + 4 + 12 * valued.terms) }
+    ensures reads { ReadsIn (D.seen files.old) (D.seen files.new) name.now window.old window.new
+        result
+        (λ file. bounds.now.end ≤ places file → MatchResult result
+        (λ valued. IsValued (combination_at file bounds.now.wires bounds.now.end at) values.now
+        valued.value valued.terms valued.next)
+        (λ why. Refuses why (combination_at file bounds.now.wires bounds.now.end at))) }
+{
+    fit_below(files, name, window, at, 4, bounds.end)?;
+    let terms = window.word(at);
+    if terms > WIDEST {
+        return Err(ReadRefusal::Bad {
+            at,
+            why: ReadWhy::TooWide { terms },
+        });
+    }
+    let value = read_sum(files, name, window, bounds, at + 4, terms, values)?;
+    Ok(Valued {
+        value,
+        terms,
+        next: at + 4 + TERM * u64::from(terms),
+    })
+}
+
+// Reads the terms at a place, so many, and takes the value of their combination.
+fn read_sum<D: Files>(
+    files: &mut D,
+    name: &str,
+    window: &mut Window,
+    bounds: &Bounds,
+    at: u64,
+    count: u32,
+    values: &[F],
+) -> Result<F, ReadRefusal>
+    requires before { at ≤ bounds.now.end }
+    requires narrow { count ≤ 1048576 }
+    ensures within { IfOk result (λ _. at + 12 * count ≤ bounds.now.end) }
+    ensures reads { ReadsIn (D.seen files.old) (D.seen files.new) name.now window.old window.new
+        result
+        (λ file. bounds.now.end ≤ places file → (answer : Result (Read Combination) Fault) →
+        IsSummed answer file bounds.now.wires bounds.now.end values.now 0 count at 0 →
+        MatchResult result
+        (λ value. IsValued answer values.now value count (at + 12 * count))
+        (λ why. Refuses why answer)) }
+{
+    let mut sum = Sum::new();
+    let mut at = at;
+    let mut left = count;
+    while left > 0 {
+        fit_below(files, name, window, at, 12, bounds.end)?;
+        let some = left.min(window.whole_terms(at, bounds.end));
+        let good = sum_terms(window, bounds, at, some, values, &mut sum);
+        if good < some {
+            return Err(term_fault(window, bounds, at + TERM * u64::from(good)));
+        }
+        at += TERM * u64::from(some);
+        left -= some;
+    }
+    Ok(sum.value())
+}
+
+// What is wrong with the term at a place, which the window holds and which isn't as it should be.
+#[cold]
+#[inline(never)]
+fn term_fault(window: &Window, bounds: &Bounds, at: u64) -> ReadRefusal
+    requires held { Holds window.now at 12 }
+    requires within { at + 12 ≤ bounds.now.end }
+    ensures told { IsTold result }
+    ensures gives { (file : List ℕ) → IsPiece window.now file → IsOff file bounds.now.wires at
+        → (answer : Result (Read Combination) Fault) → (z : List ℕ) → (k n sum : ℕ) → 0 < n →
+        IsSummed answer file bounds.now.wires bounds.now.end z k n at sum → Refuses result answer }
+{
+    let wire = window.word(at);
+    if wire >= bounds.wires {
+        return ReadRefusal::Bad {
+            at,
+            why: ReadWhy::WireRange {
+                wire,
+                wires: bounds.wires,
+            },
+        };
+    }
+    ReadRefusal::Bad {
+        at: at + 4,
+        why: ReadWhy::NotCanonical,
+    }
+}
