@@ -1,5 +1,5 @@
 -- A program and its tapes, drawn from a seed by the words of a SplitMix64 generator.
-use Rattle.std.specs.Prelude.{ℕ, ◌+◌, ◌*◌, ◌/◌, ◌%◌, ◌^◌, ◌==◌, ◌||◌, Bool, true, nat_lt, if◌then◌else◌, List, ◌++◌}
+use Rattle.std.specs.Prelude.{ℕ, ◌+◌, ◌*◌, ◌/◌, ◌%◌, ◌^◌, ◌==◌, ◌||◌, Bool, true, nat_lt, if◌then◌else◌, List, ◌++◌, length, ◌≡◌}
 use Rattle.rand_xoshiro.specs.SplitMix64.{mix_u64}
 use Rattle.tv_core.specs.Below.{each_below, joined_below}
 use Rattle.tv_isa.specs.Instruction.{encode}
@@ -7,6 +7,9 @@ use Rattle.tv_isa.specs.Table.{shape_of}
 use Rattle.tv_isa.specs.declared.instr.Instr.{Instr}
 use Rattle.tv_isa.specs.declared.operation.Shape.{Shape}
 use Rattle.tv_isa.specs.declared.operation.Shape.TheVariants.{DestSourceA, DestA, SourceA, OnlyA, ADest, Unused}
+use Rattle.tv_step.specs.Machine.{start, end_of}
+use Rattle.tv_step.specs.Range.{AreWords}
+use Rattle.tv_step.specs.declared.end.End.TheVariants.{Answer}
 
 -- the state of the generator after i words, and word i, counted from 0
 abbrev pub state_at : ℕ → ℕ → ℕ
@@ -79,3 +82,14 @@ tape_drawn seed k = words_drawn seed k 2
 
 abbrev pub aux_drawn : ℕ → ℕ → List ℕ
 aux_drawn seed k = words_drawn seed (k + 2) 8
+
+-- What an image and tapes are of which k instructions were drawn: words of 32 bits, so many, and a run that answers 0 at
+-- its step k + 1.
+pub record IsDrawn (k : ℕ) (image tape aux : List ℕ) : Type 0 where
+  pub image_words : AreWords 32 image
+  pub image_count : length image ≡ k * 2 + 2
+  pub tape_words : AreWords 32 tape
+  pub tape_count : length tape ≡ 2
+  pub aux_words : AreWords 32 aux
+  pub aux_count : length aux ≡ 8
+  pub answers : end_of 32 (k + 1) (start 32 image tape aux) ≡ Answer 0 (k + 1)

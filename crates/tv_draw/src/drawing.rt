@@ -1,6 +1,7 @@
 ghost use Rattle.std.specs.Prelude.{◌≡◌, ◌++◌, ◌≤◌, ◌<◌, ◌^◌, IfOk, OnOk};
 ghost use Rattle.tv_core.specs.Below.{joined_below};
-ghost use Rattle.tv_draw.specs.Drawing.{state_at, word_at, instr_in, words_drawn, image_drawn, tape_drawn, aux_drawn};
+ghost use Rattle.tv_draw.specs.Drawing.{state_at, word_at, instr_in, words_drawn, image_drawn};
+ghost use Rattle.tv_draw.specs.Drawing.{tape_drawn, aux_drawn, IsDrawn};
 ghost use Rattle.tv_isa.specs.Instruction.{encode, IsInstruction};
 
 use crate::instruction::instruction;
@@ -41,6 +42,7 @@ pub fn draw(alloc: Global, seed: u64, k: u32) -> Result<Drawn, AllocError>
     ensures image { IfOk result (λ drawn. drawn.image ≡ image_drawn seed k) }
     ensures tape { IfOk result (λ drawn. drawn.tape ≡ tape_drawn seed k) }
     ensures aux { IfOk result (λ drawn. drawn.aux ≡ aux_drawn seed k) }
+    ensures run { IfOk result (λ drawn. IsDrawn k drawn.image drawn.tape drawn.aux) }
 {
     let mut rng = SplitMix64::seed_from_u64(seed);
     let image = draw_image(alloc, &mut rng, k)?;

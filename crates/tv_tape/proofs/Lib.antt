@@ -1,4 +1,5 @@
 pub mod Numbers
 pub mod Range
+pub mod Narrowing
 pub mod Texts
 mod Worked

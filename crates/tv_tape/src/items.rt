@@ -64,7 +64,8 @@ fn number_of(item: &[u8], at: u64, below: u64) -> Result<u64, TapeFault>
 /// number of `below` or more, also one of 2^64 or more. Takes one pass.
 pub fn read_tape(alloc: Global, text: &[u8], below: u64, most: u32) -> Result<Vec<u64>, TapeFault>
     ensures numbers { IfOk result (λ numbers. tape_of text.now below most ≡ Ok numbers.items) }
-    ensures fault { IfErr result (λ fault. (tape_of text.now below most ≡ Err fault) ⊎ (fault ≡ Memory)) }
+    ensures fault { IfErr result (λ fault. (tape_of text.now below most ≡ Err fault)
+        ⊎ (fault ≡ Memory)) }
 {
     let mut numbers = Vec::new(alloc);
     let items = text
