@@ -12,3 +12,4 @@ pub mod ReplacingLaws
 pub mod Settling
 pub mod Solutions
 pub mod Unique
+pub mod Whole

@@ -1,7 +1,8 @@
 -- A system's solutions and those of the shrunk one.
-use Rattle.std.specs.Prelude.{◌≡◌, ◌↔◌, ℕ, ◌+◌, ◌<◌, ◌≤◌, List, take}
+use Rattle.std.specs.Prelude.{◌≡◌, ◌↔◌, ℕ, ◌+◌, ◌<◌, ◌≤◌, List, take, IfOk}
 use Rattle.std.specs.List.{All, range_with_len}
 use Rattle.tv_core.specs.Constraints.{Combination, Constraint, System, Sat}
+use Rattle.tv_r1cs_read.specs.R1cs.{system_of}
 use Rattle.tv_shrink.specs.Shrinking.{shrink, at_wires}
 
 -- each wire of a combination is below a number
@@ -18,6 +19,10 @@ pub record AreOver (wires : ℕ) (row : Constraint) : Type 0 where
 pub record IsWhole (system : System) : Type 0 where
   pub publics : 1 + system.outputs + system.inputs ≤ system.wires
   pub within : All (AreOver system.wires) system.constraints
+
+-- the constraints of a system that a file holds are of wires that there are
+abbrev pub SystemsAreOver : Type 0
+SystemsAreOver = (file : List ℕ) → IfOk (system_of file) (λ system. All (AreOver system.wires) system.constraints)
 
 -- the assignments that satisfy the shrunk system are those that some assignment which satisfies the system
 -- has at the kept wires

@@ -1,6 +1,7 @@
 //! The rows of a system's file.
 
-ghost use Rattle.std.specs.Prelude.{◌≡◌, ◌+◌, ◌≤◌, ◌<◌, ◌^◌, ℕ, Err, false, length, replicate, IfOk, MatchResult};
+ghost use Rattle.std.specs.Prelude.{◌≡◌, ◌+◌, ◌≤◌, ◌<◌, ◌^◌, ℕ, Err, false, length, replicate};
+ghost use Rattle.std.specs.Prelude.{IfOk, MatchResult};
 ghost use Rattle.tv_container.specs.Reading.{Known, IsMissing};
 ghost use Rattle.tv_shrink.specs.Answers.{HaltsBy, IsReady, IsRead, TellsRead};
 ghost use Rattle.tv_shrink.specs.declared.fault.ShrinkFault.{ShrinkFault};
@@ -21,7 +22,8 @@ pub(crate) struct Begun {
 
 /// Reads a system's file into a pass, its constraints made normal.
 pub(crate) fn read<D: Files>(alloc: Global, files: &mut D, name: &str) -> Result<Begun, ShrinkFault>
-    ensures ready { IfOk result (λ begun. IsReady begun.counts begun.pass.publics begun.pass.rows.items begun.pass.gone.items begun.pass.places) }
+    ensures ready { IfOk result (λ begun. IsReady begun.counts begun.pass.publics
+        begun.pass.rows.items begun.pass.gone.items begun.pass.places) }
     ensures gives { Known (D.seen files.old) name.now (λ file. MatchResult result
         (λ begun. IsRead begun.counts begun.pass.rows.items file) (λ fault. TellsRead fault file)) }
     ensures looks { HaltsBy (D.seen files.old) (D.seen files.new) name.now result }

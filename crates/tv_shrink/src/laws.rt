@@ -1,4 +1,5 @@
 ghost use Rattle.tv_shrink.specs.Laws.{KeepsPublics, KeepsSolutions, SolutionsAreOne};
+ghost use Rattle.tv_shrink.specs.Laws.{SystemsAreOver};
 
 /// The assignments that satisfy a shrunk system are those that some assignment which satisfies the
 /// system has at the kept wires.
@@ -16,4 +17,9 @@ pub fn solutions_are_one()
 #[tactic(auto, using(crate::proofs::Solutions::keeps_publics))]
 pub fn keeps_publics()
     ensures { KeepsPublics }
+{}
+
+/// The constraints of a system that a file holds are of wires that there are.
+pub fn systems_are_over()
+    ensures { SystemsAreOver }
 {}

@@ -1,7 +1,7 @@
-//! Constraint systems with fewer private wires: `shrink` reads a system and drops each linear constraint that
-//! it solves for a private wire. Contracts above cite `shrink` of specs/Shrinking, the pass as a function of
-//! systems; `keeps_solutions` tells that what satisfies the shrunk system is what satisfies the system, at the
-//! wires that are kept.
+//! Constraint systems with fewer private wires: `shrink` reads a system and drops each linear
+//! constraint that it solves for a private wire. Contracts above cite `shrink` of specs/Shrinking,
+//! the pass as a function of systems; `keeps_solutions` tells that what satisfies the shrunk system
+//! is what satisfies the system, at the wires that are kept.
 #![tactic(auto)]
 
 mod begun;
@@ -21,6 +21,6 @@ mod shrunk;
 mod writing;
 
 pub use fault::ShrinkFault;
-pub use laws::{keeps_publics, keeps_solutions, solutions_are_one};
+pub use laws::{keeps_publics, keeps_solutions, solutions_are_one, systems_are_over};
 pub use shrinking::{MOST_TERMS, shrink};
 pub use shrunk::Shrunk;

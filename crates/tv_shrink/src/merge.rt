@@ -1,6 +1,7 @@
 //! Adding multiples of normal combinations.
 
-ghost use Rattle.std.specs.Prelude.{◌≡◌, ◌≤◌, ◌<◌, ◌+◌, ◌*◌, ◌%◌, ◌^◌, [], ◌∷◌, ◌++◌, length, OnOk, Option, None, Some, min};
+ghost use Rattle.std.specs.Prelude.{◌≡◌, ◌≤◌, ◌<◌, ◌+◌, ◌*◌, ◌%◌, ◌^◌, [], ◌∷◌, ◌++◌, length, OnOk};
+ghost use Rattle.std.specs.Prelude.{Option, None, Some, min};
 ghost use Rattle.tv_core.specs.Combinations.{scaled};
 ghost use Rattle.tv_core.specs.declared.field.TheConstants.{P};
 ghost use Rattle.tv_shrink.specs.Merging.{first_wire, head_at, leaving_out, tail_at, unless_left};
@@ -32,9 +33,11 @@ impl Side<'_> {
         }
     }
 
-    // Goes past a wire, if it is the first, and answers its coefficient, which is 0 where it is left out.
+    // Goes past a wire, if it is the first, and answers its coefficient, which is 0 where it is
+    // left out.
     fn take(&mut self, wire: u64) -> F
-        ensures coefficient { result ≡ unless_left self.old.leaving wire (self.old.factor * head_at wire self.old.terms.now % P) }
+        ensures coefficient { result ≡ unless_left self.old.leaving wire
+            (self.old.factor * head_at wire self.old.terms.now % P) }
         ensures terms { self.new.terms.now ≡ tail_at wire self.old.terms.now }
         ensures factor { self.new.factor ≡ self.old.factor }
         ensures leaving { self.new.leaving ≡ self.old.leaving }
@@ -74,7 +77,9 @@ pub(crate) fn merge(
     requires left { IsNormalFrom 0 left.old.terms.now }
     requires right { IsNormalFrom 0 right.old.terms.now }
     requires all { right.old.leaving ≡ None }
-    ensures { OnOk result (out.new.items ≡ normal (scaled left.old.factor (leaving_out left.old.leaving left.old.terms.now) ++ scaled right.old.factor right.old.terms.now)) }
+    ensures { OnOk result (out.new.items ≡ normal
+        (scaled left.old.factor (leaving_out left.old.leaving left.old.terms.now)
+        ++ scaled right.old.factor right.old.terms.now)) }
 {
     out.clear();
     while !left.terms.is_empty() || !right.terms.is_empty() {

@@ -1,12 +1,13 @@
 //! The numbers of the wires that are kept.
 
-ghost use Rattle.std.specs.Prelude.{◌≡◌, ◌<◌, ◌^◌, ℕ, false, length, slice_index, slice_index_or, IfOk};
+ghost use Rattle.std.specs.Prelude.{◌≡◌, ◌<◌, ◌^◌, ℕ, false, length, slice_index, slice_index_or};
+ghost use Rattle.std.specs.Prelude.{IfOk};
 ghost use Rattle.tv_shrink.specs.Shrinking.{kept, place};
 
 use std::alloc::{AllocError, Global};
 
-/// The old numbers of the wires that are kept, in order, and for each old wire the place of its number
-/// among them.
+/// The old numbers of the wires that are kept, in order, and for each old wire the place of its
+/// number among them.
 #[derive(Drop)]
 pub(crate) struct Labels {
     pub(crate) labels: Vec<u32>,
@@ -18,7 +19,8 @@ pub(crate) fn label(alloc: Global, gone: &[bool]) -> Result<Labels, AllocError>
     requires { length gone.now < 2 ^ 32 }
     ensures labels { IfOk result (λ l. l.labels.items ≡ kept (length gone.now) gone.now) }
     ensures len { IfOk result (λ l. length l.places.items ≡ length gone.now) }
-    ensures places { IfOk result (λ l. (w : ℕ) → w < length gone.now → slice_index_or gone.now w false ≡ false
+    ensures places { IfOk result (λ l. (w : ℕ) → w < length gone.now
+        → slice_index_or gone.now w false ≡ false
         → slice_index l.places.items w ≡ place w (kept (length gone.now) gone.now)) }
 {
     let mut labels = Vec::new(alloc);

@@ -1,10 +1,13 @@
 //! One pass over the constraints of a system, in which private wires are replaced.
 
-ghost use Rattle.std.specs.Prelude.{◌≡◌, ◌≤◌, ◌<◌, ◌==◌, ℕ, [], true, false, length, map, slice_index_or, slice_set, None, Some, OnOk, IfOk, if◌then◌else◌};
+ghost use Rattle.std.specs.Prelude.{◌≡◌, ◌≤◌, ◌<◌, ◌==◌, ℕ, [], true, false, length, map};
+ghost use Rattle.std.specs.Prelude.{slice_index_or, slice_set, None, Some, OnOk, IfOk};
+ghost use Rattle.std.specs.Prelude.{if◌then◌else◌};
 ghost use Rattle.std.specs.List.{fold, list_all, list_any, range_with_len};
 ghost use Rattle.std.specs.Option.{option_map};
 ghost use Rattle.tv_shrink.specs.Normal.{IsNormalFrom};
-ghost use Rattle.tv_shrink.specs.Passing.{all_replaced, attempted, dropped, linear_row, row_fits, turn};
+ghost use Rattle.tv_shrink.specs.Passing.{all_replaced, attempted, dropped, linear_row, row_fits};
+ghost use Rattle.tv_shrink.specs.Passing.{turn};
 ghost use Rattle.tv_shrink.specs.Replacing.{coefficient, has_wire, replaced_in, solved};
 ghost use Rattle.tv_shrink.specs.Tidy.{pass_of, row_has, AreNormal, IsKept, RowIsNormal};
 
@@ -13,10 +16,12 @@ use crate::row::{Row, solve};
 use std::alloc::{AllocError, Global};
 use tv_core::{F, Wire};
 
-// Puts what the constraint at a place says is 0 into `out`, and tells whether it is there and linear.
+// Puts what the constraint at a place says is 0 into `out`, and tells whether it is there and
+// linear.
 fn linear_form(row: &Option<Row>, out: &mut Vec<(F, Wire)>) -> Result<bool, AllocError>
     requires { RowIsNormal row.now }
-    ensures { IfOk result (λ linear. linear_row row.now ≡ (if linear then Some out.new.items else None)) }
+    ensures { IfOk result (λ linear. linear_row row.now
+        ≡ (if linear then Some out.new.items else None)) }
 {
     match row {
         Some(row) => row.linear_form(out),
@@ -41,7 +46,8 @@ fn row_fits(
     }
 }
 
-// Whether all constraints, of which those with the wire are at these places, keep to their most terms.
+// Whether all constraints, of which those with the wire are at these places, keep to their most
+// terms.
 fn all_fit(
     rows: &[Option<Row>],
     places: &[u32],
@@ -51,7 +57,8 @@ fn all_fit(
 ) -> Result<bool, AllocError>
     requires normal { AreNormal rows.now }
     requires by { IsNormalFrom 0 r.now }
-    requires covers { (i : ℕ) → row_has wire (slice_index_or rows.now i None) ≡ true → list_any (λ p. p == i) places.now ≡ true }
+    requires covers { (i : ℕ) → row_has wire (slice_index_or rows.now i None) ≡ true
+        → list_any (λ p. p == i) places.now ≡ true }
     ensures { IfOk result (λ answer. answer ≡ list_all (row_fits wire r.now) rows.now) }
 {
     for place in places {
@@ -95,8 +102,10 @@ fn stands_in(row: &Option<Row>, wire: Wire) -> bool
 // Adds the place of a constraint to a list, if a wire stands in it.
 fn note(found: &mut Vec<u32>, place: u32, row: &Option<Row>, wire: Wire) -> Result<(), AllocError>
     requires { RowIsNormal row.now }
-    ensures kept { OnOk result ((i : ℕ) → list_any (λ p. p == i) found.old.items ≡ true → list_any (λ p. p == i) found.new.items ≡ true) }
-    ensures here { OnOk result (row_has wire row.now ≡ true → list_any (λ p. p == place) found.new.items ≡ true) }
+    ensures kept { OnOk result ((i : ℕ) → list_any (λ p. p == i) found.old.items ≡ true
+        → list_any (λ p. p == i) found.new.items ≡ true) }
+    ensures here { OnOk result (row_has wire row.now ≡ true
+        → list_any (λ p. p == place) found.new.items ≡ true) }
 {
     if stands_in(row, wire) {
         found.push(place)?;
@@ -104,8 +113,8 @@ fn note(found: &mut Vec<u32>, place: u32, row: &Option<Row>, wire: Wire) -> Resu
     Ok(())
 }
 
-// Puts `r` in place of a wire in all constraints, of which those with the wire are at these places, and
-// answers the places of those that had it.
+// Puts `r` in place of a wire in all constraints, of which those with the wire are at these places,
+// and answers the places of those that had it.
 fn replace_all(
     alloc: Global,
     rows: &mut Vec<Option<Row>>,
@@ -117,9 +126,12 @@ fn replace_all(
     requires normal { AreNormal rows.old.items }
     requires by { IsNormalFrom 0 r.now }
     requires lacks { has_wire wire r.now ≡ false }
-    requires covers { (i : ℕ) → row_has wire (slice_index_or rows.old.items i None) ≡ true → list_any (λ p. p == i) places.now ≡ true }
+    requires covers { (i : ℕ) → row_has wire (slice_index_or rows.old.items i None) ≡ true
+        → list_any (λ p. p == i) places.now ≡ true }
     ensures rows { OnOk result (rows.new.items ≡ all_replaced wire r.now rows.old.items) }
-    ensures found { IfOk result (λ found. (i : ℕ) → row_has wire (slice_index_or rows.old.items i None) ≡ true → list_any (λ p. p == i) found.items ≡ true) }
+    ensures found { IfOk result (λ found. (i : ℕ)
+        → row_has wire (slice_index_or rows.old.items i None) ≡ true
+        → list_any (λ p. p == i) found.items ≡ true) }
 {
     let mut found = Vec::new(alloc);
     for place in places {
@@ -141,8 +153,11 @@ pub(crate) fn spread(
 ) -> Result<(), AllocError>
     requires inside { (w : ℕ) → publics ≤ w → has_wire w r.now ≡ true → w < length places.old }
     ensures each { OnOk result (length places.new ≡ length places.old) }
-    ensures more { OnOk result ((w i : ℕ) → list_any (λ p. p == i) (slice_index_or places.old w []) ≡ true → list_any (λ p. p == i) (slice_index_or places.new w []) ≡ true) }
-    ensures added { OnOk result ((w i : ℕ) → publics ≤ w → has_wire w r.now ≡ true → list_any (λ p. p == i) rows.now ≡ true → list_any (λ p. p == i) (slice_index_or places.new w []) ≡ true) }
+    ensures more { OnOk result ((w i : ℕ) → list_any (λ p. p == i) (slice_index_or places.old w [])
+        ≡ true → list_any (λ p. p == i) (slice_index_or places.new w []) ≡ true) }
+    ensures added { OnOk result ((w i : ℕ) → publics ≤ w → has_wire w r.now ≡ true
+        → list_any (λ p. p == i) rows.now ≡ true
+        → list_any (λ p. p == i) (slice_index_or places.new w []) ≡ true) }
 {
     for (_, wire) in r {
         if wire.0 >= publics {
@@ -168,15 +183,19 @@ pub(crate) struct Pass {
 impl Pass {
     // Puts what the wire is in its place in all constraints.
     fn substitute(&mut self, wire: Wire) -> Result<(), AllocError>
-        requires kept { IsKept self.old.publics self.old.rows.items self.old.gone.items self.old.places }
+        requires kept { IsKept self.old.publics self.old.rows.items self.old.gone.items
+            self.old.places }
         requires private { self.old.publics ≤ wire }
         requires by { IsNormalFrom 0 self.old.solved.items }
         requires lacks { has_wire wire self.old.solved.items ≡ false }
         requires here { wire < length self.old.places }
-        requires inside { (w : ℕ) → self.old.publics ≤ w → has_wire w self.old.solved.items ≡ true → w < length self.old.places }
-        ensures rows { OnOk result (self.new.rows.items ≡ all_replaced wire self.old.solved.items self.old.rows.items) }
+        requires inside { (w : ℕ) → self.old.publics ≤ w → has_wire w self.old.solved.items ≡ true
+            → w < length self.old.places }
+        ensures rows { OnOk result (self.new.rows.items
+            ≡ all_replaced wire self.old.solved.items self.old.rows.items) }
         ensures gone { OnOk result (self.new.gone.items ≡ slice_set self.old.gone.items wire true) }
-        ensures kept { OnOk result (IsKept self.new.publics self.new.rows.items self.new.gone.items self.new.places) }
+        ensures kept { OnOk result (IsKept self.new.publics self.new.rows.items self.new.gone.items
+            self.new.places) }
         ensures publics { self.new.publics ≡ self.old.publics }
     {
         let places = self.places.take(self.alloc, wire.0);
@@ -193,18 +212,24 @@ impl Pass {
         Ok(())
     }
 
-    // Drops the constraint at a place and puts what the wire is in its place, if all keep to their most terms.
+    // Drops the constraint at a place and puts what the wire is in its place, if all keep to their
+    // most terms.
     fn eliminate(&mut self, at: usize, wire: Wire) -> Result<(), AllocError>
-        requires kept { IsKept self.old.publics self.old.rows.items self.old.gone.items self.old.places }
+        requires kept { IsKept self.old.publics self.old.rows.items self.old.gone.items
+            self.old.places }
         requires within { at < length self.old.rows.items }
         requires private { self.old.publics ≤ wire }
         requires by { IsNormalFrom 0 self.old.solved.items }
         requires lacks { has_wire wire self.old.solved.items ≡ false }
-        requires from { (w : ℕ) → has_wire w self.old.solved.items ≡ true → row_has w (slice_index_or self.old.rows.items at None) ≡ true }
+        requires from { (w : ℕ) → has_wire w self.old.solved.items ≡ true
+            → row_has w (slice_index_or self.old.rows.items at None) ≡ true }
         requires there { row_has wire (slice_index_or self.old.rows.items at None) ≡ true }
         ensures pass { OnOk result (pass_of self.new.rows.items self.new.gone.items
-            ≡ attempted wire self.old.solved.items (dropped at (pass_of self.old.rows.items self.old.gone.items)) (pass_of self.old.rows.items self.old.gone.items)) }
-        ensures kept { OnOk result (IsKept self.new.publics self.new.rows.items self.new.gone.items self.new.places) }
+            ≡ attempted wire self.old.solved.items (dropped at
+            (pass_of self.old.rows.items self.old.gone.items))
+            (pass_of self.old.rows.items self.old.gone.items)) }
+        ensures kept { OnOk result (IsKept self.new.publics self.new.rows.items self.new.gone.items
+            self.new.places) }
         ensures publics { self.new.publics ≡ self.old.publics }
         ensures len { OnOk result (length self.new.rows.items ≡ length self.old.rows.items) }
     {
@@ -220,10 +245,13 @@ impl Pass {
 
     /// The turn of the constraint at a place.
     pub(crate) fn turn(&mut self, at: usize) -> Result<(), AllocError>
-        requires kept { IsKept self.old.publics self.old.rows.items self.old.gone.items self.old.places }
+        requires kept { IsKept self.old.publics self.old.rows.items self.old.gone.items
+            self.old.places }
         requires within { at < length self.old.rows.items }
-        ensures pass { OnOk result (pass_of self.new.rows.items self.new.gone.items ≡ turn self.old.publics (pass_of self.old.rows.items self.old.gone.items) at) }
-        ensures kept { OnOk result (IsKept self.new.publics self.new.rows.items self.new.gone.items self.new.places) }
+        ensures pass { OnOk result (pass_of self.new.rows.items self.new.gone.items
+            ≡ turn self.old.publics (pass_of self.old.rows.items self.old.gone.items) at) }
+        ensures kept { OnOk result (IsKept self.new.publics self.new.rows.items self.new.gone.items
+            self.new.places) }
         ensures publics { self.new.publics ≡ self.old.publics }
         ensures len { OnOk result (length self.new.rows.items ≡ length self.old.rows.items) }
     {
@@ -245,9 +273,11 @@ impl Pass {
 
     /// The whole pass: each constraint has its turn.
     pub(crate) fn run(&mut self) -> Result<(), AllocError>
-        requires kept { IsKept self.old.publics self.old.rows.items self.old.gone.items self.old.places }
+        requires kept { IsKept self.old.publics self.old.rows.items self.old.gone.items
+            self.old.places }
         ensures pass { OnOk result (pass_of self.new.rows.items self.new.gone.items
-            ≡ fold (turn self.old.publics) (pass_of self.old.rows.items self.old.gone.items) (range_with_len 0 (length self.old.rows.items))) }
+            ≡ fold (turn self.old.publics) (pass_of self.old.rows.items self.old.gone.items)
+            (range_with_len 0 (length self.old.rows.items))) }
         ensures len { OnOk result (length self.new.rows.items ≡ length self.old.rows.items) }
     {
         for at in 0..self.rows.len() {

@@ -1,6 +1,7 @@
 //! In which rows each wire may stand.
 
-ghost use Rattle.std.specs.Prelude.{◌≡◌, ◌≤◌, ◌<◌, ◌++◌, [], ◌∷◌, ℕ, List, length, replicate, slice_index_or, slice_set, OnOk, IfOk};
+ghost use Rattle.std.specs.Prelude.{◌≡◌, ◌≤◌, ◌<◌, ◌++◌, [], ◌∷◌, ℕ, List, length, replicate};
+ghost use Rattle.std.specs.Prelude.{slice_index_or, slice_set, OnOk, IfOk};
 
 use std::alloc::{AllocError, Global};
 use std::marker::Model;
@@ -43,7 +44,8 @@ impl Places {
     /// Adds rows to those of a wire.
     pub(crate) fn extend(&mut self, wire: u32, rows: &[u32]) -> Result<(), AllocError>
         requires { wire < length self.old }
-        ensures { OnOk result (self.new ≡ slice_set self.old wire (slice_index_or self.old wire [] ++ rows.now)) }
+        ensures { OnOk result (self.new ≡ slice_set self.old wire
+            (slice_index_or self.old wire [] ++ rows.now)) }
     {
         self.lists[wire as usize].extend_from_slice(rows)?;
         Ok(())

@@ -1,6 +1,8 @@
 //! Reading a system into the rows of a pass.
 
-ghost use Rattle.std.specs.Prelude.{◌≡◌, ◌⊎◌, ◌+◌, ◌-◌, ◌≤◌, ◌<◌, ◌^◌, [], ◌∷◌, ◌++◌, ℕ, Some, None, Ok, Err, length, replicate, false, OnOk, IfOk, IfErr, MatchResult};
+ghost use Rattle.std.specs.Prelude.{◌≡◌, ◌⊎◌, ◌+◌, ◌-◌, ◌≤◌, ◌<◌, ◌^◌, [], ◌∷◌, ◌++◌, ℕ, Some};
+ghost use Rattle.std.specs.Prelude.{None, Ok, Err, length, replicate, false, OnOk, IfOk, IfErr};
+ghost use Rattle.std.specs.Prelude.{MatchResult};
 ghost use Rattle.tv_container.specs.Reading.{Looks, Known, IsMissing};
 ghost use Rattle.tv_r1cs_read.specs.R1cs.{system_of};
 ghost use Rattle.tv_r1cs_read.specs.Rows.{combination_of, constraint_of, IsOver};
@@ -39,7 +41,8 @@ impl Pass {
         ensures rows { IfOk result (λ pass. pass.rows.items ≡ []) }
         ensures gone { IfOk result (λ pass. pass.gone.items ≡ replicate wires false) }
         ensures publics { IfOk result (λ pass. pass.publics ≡ publics) }
-        ensures kept { IfOk result (λ pass. IsKept pass.publics pass.rows.items pass.gone.items pass.places) }
+        ensures kept { IfOk result (λ pass. IsKept pass.publics pass.rows.items pass.gone.items
+            pass.places) }
         ensures each { IfOk result (λ pass. length pass.places ≡ wires) }
     {
         Ok(Pass {
@@ -56,14 +59,16 @@ impl Pass {
 
     // Appends a constraint of normal combinations.
     fn push(&mut self, row: Row) -> Result<(), AllocError>
-        requires kept { IsKept self.old.publics self.old.rows.items self.old.gone.items self.old.places }
+        requires kept { IsKept self.old.publics self.old.rows.items self.old.gone.items
+            self.old.places }
         requires normal { IsNormalRow row }
         requires within { IsWithin (length self.old.places) row }
         requires room { length self.old.rows.items < 2 ^ 32 }
         ensures rows { OnOk result (self.new.rows.items ≡ self.old.rows.items ++ Some row ∷ []) }
         ensures gone { OnOk result (self.new.gone.items ≡ self.old.gone.items) }
         ensures publics { OnOk result (self.new.publics ≡ self.old.publics) }
-        ensures kept { OnOk result (IsKept self.new.publics self.new.rows.items self.new.gone.items self.new.places) }
+        ensures kept { OnOk result (IsKept self.new.publics self.new.rows.items self.new.gone.items
+            self.new.places) }
         ensures each { OnOk result (length self.new.places ≡ length self.old.places) }
     {
         let at = [self.rows.len() as u32];
@@ -74,18 +79,22 @@ impl Pass {
         Ok(())
     }
 
-    /// Appends a constraint that was read, made normal; refused where a combination has more than 128
-    /// terms then.
+    /// Appends a constraint that was read, made normal; refused where a combination has more than
+    /// 128 terms then.
     pub(crate) fn add(&mut self, row: &tv_r1cs_read::Row) -> Result<(), ShrinkFault>
-        requires kept { IsKept self.old.publics self.old.rows.items self.old.gone.items self.old.places }
+        requires kept { IsKept self.old.publics self.old.rows.items self.old.gone.items
+            self.old.places }
         requires over { IsOver (length self.old.places) row.now }
         requires room { length self.old.rows.items < 2 ^ 32 }
-        ensures rows { OnOk result (self.new.rows.items ≡ self.old.rows.items ++ Some (normal_constraint (constraint_of row.now)) ∷ []) }
+        ensures rows { OnOk result (self.new.rows.items ≡ self.old.rows.items
+            ++ Some (normal_constraint (constraint_of row.now)) ∷ []) }
         ensures gone { OnOk result (self.new.gone.items ≡ self.old.gone.items) }
         ensures publics { OnOk result (self.new.publics ≡ self.old.publics) }
-        ensures kept { OnOk result (IsKept self.new.publics self.new.rows.items self.new.gone.items self.new.places) }
+        ensures kept { OnOk result (IsKept self.new.publics self.new.rows.items self.new.gone.items
+            self.new.places) }
         ensures each { OnOk result (length self.new.places ≡ length self.old.places) }
-        ensures within { OnOk result (IsWithin (length self.old.places) (normal_constraint (constraint_of row.now))) }
+        ensures within { OnOk result (IsWithin (length self.old.places)
+            (normal_constraint (constraint_of row.now))) }
         ensures narrow { OnOk result (wide_in (constraint_of row.now) ≡ None) }
         ensures err { IfErr result (λ fault. IsTooWide fault (wide_in (constraint_of row.now))) }
     {

@@ -1,11 +1,13 @@
 //! Constraints of normal combinations.
 
-ghost use Rattle.std.specs.Prelude.{◌≡◌, ◌<◌, ◌≤◌, ◌-◌, ◌++◌, [], List, ℕ, length, OnOk, IfOk, Some, None, if◌then◌else◌};
+ghost use Rattle.std.specs.Prelude.{◌≡◌, ◌<◌, ◌≤◌, ◌-◌, ◌++◌, [], List, ℕ, length, OnOk, IfOk};
+ghost use Rattle.std.specs.Prelude.{Some, None, if◌then◌else◌};
 ghost use Rattle.std.specs.Bool.{OnTrue};
 ghost use Rattle.tv_core.specs.Combinations.{scaled};
 ghost use Rattle.tv_core.specs.declared.field.TheConstants.{P};
 ghost use Rattle.tv_shrink.specs.Normal.{normal, IsNormalFrom};
-ghost use Rattle.tv_shrink.specs.Replacing.{coefficient, constant_in, fits, fits_in, has_wire, linear_form, replaced, replaced_in, solved};
+ghost use Rattle.tv_shrink.specs.Replacing.{coefficient, constant_in, fits, fits_in, has_wire};
+ghost use Rattle.tv_shrink.specs.Replacing.{linear_form, replaced, replaced_in, solved};
 
 use crate::merge::{Side, merge};
 use std::alloc::{AllocError, Global};
@@ -46,7 +48,8 @@ fn constant_in(terms: &[(F, Wire)]) -> Option<F>
 // The coefficient of a wire that stands in a combination.
 fn coefficient_of(terms: &[(F, Wire)], wire: Wire) -> Option<F>
     requires { IsNormalFrom 0 terms.now }
-    ensures { result ≡ (if has_wire wire terms.now then Some (coefficient wire terms.now) else None) }
+    ensures { result ≡ (if has_wire wire terms.now then Some (coefficient wire terms.now)
+        else None) }
 {
     for (coefficient, of) in terms {
         if *of == wire {
@@ -182,7 +185,8 @@ impl Row {
     /// Puts what the constraint says is 0 into `out`, and tells whether it is linear.
     pub(crate) fn linear_form(&self, out: &mut Vec<(F, Wire)>) -> Result<bool, AllocError>
         requires { IsNormalRow self.now }
-        ensures { IfOk result (λ linear. linear_form self.now ≡ (if linear then Some out.new.items else None)) }
+        ensures { IfOk result (λ linear. linear_form self.now
+            ≡ (if linear then Some out.new.items else None)) }
     {
         if let Some(factor) = constant_in(&self.a) {
             subtract(out, factor, &self.b, &self.c)?;
@@ -195,7 +199,8 @@ impl Row {
         Ok(false)
     }
 
-    /// Whether each combination keeps to its most terms with `r` in place of a wire; `out` is for its use.
+    /// Whether each combination keeps to its most terms with `r` in place of a wire; `out` is for
+    /// its use.
     pub(crate) fn fits(
         &self,
         out: &mut Vec<(F, Wire)>,

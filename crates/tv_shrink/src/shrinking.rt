@@ -17,9 +17,9 @@ pub const MOST_TERMS: u64 = 4_194_304;
 /// private wire is solved for its greatest and dropped, if all others keep to 128 terms.
 ///
 /// `Bad` tells the file's first fault; `Terms` comes for a system of more than 4,194,304 terms, and
-/// `Combination` for the first combination that has more than 128 once it is normal. `Fault` comes only
-/// where a read failed, and a missing name is such a fault. Reads the file twice. A replacement costs as
-/// much as the constraints that it changes have terms.
+/// `Combination` for the first combination that has more than 128 once it is normal. `Fault` comes
+/// only where a read failed, and a missing name is such a fault. Reads the file twice. A
+/// replacement costs as much as the constraints that it changes have terms.
 pub fn shrink<D: Files>(alloc: Global, files: &mut D, name: &str) -> Result<Shrunk, ShrinkFault>
     ensures gives { Known (D.seen files.old) name.now (λ file. MatchResult result
         (λ shrunk. Shrinks shrunk file) (λ fault. Tells fault file)) }

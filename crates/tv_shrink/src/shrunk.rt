@@ -1,4 +1,5 @@
-ghost use Rattle.std.specs.Prelude.{◌≡◌, ◌+◌, ◌≤◌, ◌<◌, ◌^◌, ◌∷◌, ℕ, List, [], length, replicate, false, Ok, Err, Some, None, OnOk, IfOk, IfErr, MatchResult};
+ghost use Rattle.std.specs.Prelude.{◌≡◌, ◌+◌, ◌≤◌, ◌<◌, ◌^◌, ◌∷◌, ℕ, List, [], length, replicate};
+ghost use Rattle.std.specs.Prelude.{false, Ok, Err, Some, None, OnOk, IfOk, IfErr, MatchResult};
 ghost use Rattle.tv_core.specs.Constraints.{Constraint};
 ghost use Rattle.tv_shrink.specs.Answers.{counted_system, start_rows, IsReady};
 ghost use Rattle.tv_shrink.specs.Shrinking.{shrink};
@@ -10,8 +11,8 @@ use crate::row::Row;
 use std::alloc::{AllocError, Global};
 use std::marker::Model;
 
-/// A system with fewer private wires, as `shrink` makes it of another one. Contracts see it as the shrunk
-/// system, the old number of each of its wires, and how many wires the old system had.
+/// A system with fewer private wires, as `shrink` makes it of another one. Contracts see it as the
+/// shrunk system, the old number of each of its wires, and how many wires the old system had.
 ///
 /// Its memory is that of its terms and of one number a wire.
 #[derive(Drop)]
@@ -32,18 +33,27 @@ impl Model for Shrunk {
     ghost Value = { Shrunken };
 
     ghost view = { λ s. record {
-      system = record { wires = length s.labels.items; outputs = s.outputs; inputs = s.inputs; constraints = filter_map (λ row. row) s.rows.items };
+      system = record {
+        wires = length s.labels.items;
+        outputs = s.outputs;
+        inputs = s.inputs;
+        constraints = filter_map (λ row. row) s.rows.items;
+      };
       labels = s.labels.items;
       wires = s.wires;
     } };
 
-    ghost invariant = { λ s. (1 + s.outputs + s.inputs ≤ length s.labels.items) × (length s.labels.items < 2 ^ 32) × AreWithin (length s.labels.items) s.rows.items × (length s.rows.items < 2 ^ 32) };
+    ghost invariant = { λ s. (1 + s.outputs + s.inputs ≤ length s.labels.items)
+        × (length s.labels.items < 2 ^ 32) × AreWithin (length s.labels.items) s.rows.items
+        × (length s.rows.items < 2 ^ 32) };
 }
 
 /// What is left once the pass has run, its wires numbered anew.
 pub(crate) fn settle(alloc: Global, begun: Begun) -> Result<Shrunk, AllocError>
-    requires { IsReady begun.counts begun.pass.publics begun.pass.rows.items begun.pass.gone.items begun.pass.places }
-    ensures { IfOk result (λ shrunk. (list : List Constraint) → begun.pass.rows.items ≡ start_rows list → shrunk ≡ shrink (counted_system begun.counts list)) }
+    requires { IsReady begun.counts begun.pass.publics begun.pass.rows.items begun.pass.gone.items
+        begun.pass.places }
+    ensures { IfOk result (λ shrunk. (list : List Constraint) → begun.pass.rows.items
+        ≡ start_rows list → shrunk ≡ shrink (counted_system begun.counts list)) }
 {
     let Begun { mut pass, counts } = begun;
     pass.run()?;

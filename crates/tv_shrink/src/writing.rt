@@ -25,7 +25,8 @@ impl Tally {
         requires terms { self.old.terms < 2 ^ 60 }
         requires short { length row.now.a + (length row.now.b + length row.now.c) ≤ 384 }
         ensures constraints { self.new.constraints ≡ self.old.constraints + 1 }
-        ensures terms { self.new.terms ≡ self.old.terms + (length row.now.a + length row.now.b + length row.now.c) }
+        ensures terms { self.new.terms ≡ self.old.terms
+            + (length row.now.a + length row.now.b + length row.now.c) }
     {
         self.constraints += 1;
         self.terms += (row.a.len() + row.b.len() + row.c.len()) as u64;
@@ -54,8 +55,8 @@ fn count_rows(rows: &[Option<Row>], wires: u32) -> Tally
 }
 
 impl Shrunk {
-    /// Writes the system to an r1cs file, which tells as many labels as the old system had wires, and
-    /// as each wire's label its old number.
+    /// Writes the system to an r1cs file, which tells as many labels as the old system had wires,
+    /// and as each wire's label its old number.
     ///
     /// After a refusal the name is as it was, or has a first part of the bytes. Takes no memory.
     pub fn write<D: Files>(&self, files: &mut D, name: &str) -> Result<(), SinkFault>

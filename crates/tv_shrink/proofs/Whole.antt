@@ -1,0 +1,73 @@
+-- The constraints of a system that a file holds are of wires that there are.
+use Rattle.std.proofs.Common.{◌≡◌, ℕ, zero, suc, ◌+◌, ◌-◌, ◌==◌, ◌<◌, not, Bool, true, false, ltb, List, [], ◌∷◌, Result, Ok, Err, if◌then◌else◌, refl}
+use Rattle.std.specs.Prelude.{IfOk}
+use Rattle.std.specs.List.{All}
+use Rattle.std.proofs.lemmas.Bool.{ltb-true}
+use Rattle.std.proofs.lemmas.List.Elements.{All-nil, All-cons}
+use Rattle.tv_container.specs.Places.{Fault, ◌>>=◌, unless, number, fit}
+use Rattle.tv_container.specs.declared.sections.Section.{Section}
+use Rattle.tv_container.specs.declared.why.ReadWhy.{ReadWhy}
+use Rattle.tv_container.specs.declared.why.ReadWhy.TheVariants.{BadCount, TooWide, WireRange, NotCanonical}
+use Rattle.tv_core.specs.Constraints.{Combination, Constraint, System}
+use Rattle.tv_core.specs.declared.field.TheConstants.{P}
+use Rattle.tv_r1cs_read.specs.R1cs.{Read, terms_at, combination_at, constraint_at, constraints_from, header_of, system_of}
+use Rattle.tv_shrink.specs.Laws.{IsOver, AreOver, SystemsAreOver}
+
+bind_if : {A B : Type 0} (read : Result A Fault) (f : A → Result B Fault) (P : A → Type 0) (Q : B → Type 0) → IfOk read P → ((x : A) → P x → IfOk (f x) Q) → IfOk (read >>= f) Q
+bind_if (Ok x) f P Q is h = h x is
+bind_if (Err fault) f P Q is h = tt
+
+any : {A : Type 0} (read : Result A Fault) → IfOk read (λ _. Unit {0})
+any (Ok x) = tt
+any (Err fault) = tt
+
+unless_not : {B : Type 0} (test : Bool) (at : ℕ) (why : ReadWhy) (f : Unit {0} → Result B Fault) (Q : B → Type 0) → (test ≡ true → IfOk (f tt) Q) → IfOk (unless (not test) at why >>= f) Q
+unless_not true at why f Q h = h refl
+unless_not false at why f Q h = tt
+
+terms_over : (file : List ℕ) (wires end n at : ℕ) → IfOk (terms_at file wires end n at) (λ read. IsOver wires read.value)
+unfolding terms_at
+terms_over file wires end zero at = All-nil (λ t. t.1 < wires)
+terms_over file wires end (suc n) at =
+    bind_if (fit 12 at end) _ _ _ (any (fit 12 at end)) (λ _ _.
+    unless_not (ltb (number file 4 at) wires) at (WireRange (number file 4 at) wires) _ _ (λ below.
+    bind_if (unless (not (ltb (number file 8 (at + 4)) P)) (at + 4) NotCanonical) _ _ _ (any (unless (not (ltb (number file 8 (at + 4)) P)) (at + 4) NotCanonical)) (λ _ _.
+    bind_if (terms_at file wires end n (at + 12)) _ _ _ (terms_over file wires end n (at + 12)) (λ others over.
+    All-cons (λ t. t.1 < wires) (number file 8 (at + 4), number file 4 at) others.value (ltb-true (number file 4 at) wires below) over))))
+
+combination_over : (file : List ℕ) (wires end at : ℕ) → IfOk (combination_at file wires end at) (λ read. IsOver wires read.value)
+unfolding combination_at
+combination_over file wires end at =
+    bind_if (fit 4 at end) _ _ _ (any (fit 4 at end)) (λ _ _.
+    bind_if (unless (ltb 1048576 (number file 4 at)) at (TooWide (number file 4 at))) _ _ _ (any (unless (ltb 1048576 (number file 4 at)) at (TooWide (number file 4 at)))) (λ _ _.
+    terms_over file wires end (number file 4 at) (at + 4)))
+
+constraint_over : (file : List ℕ) (wires end at : ℕ) → IfOk (constraint_at file wires end at) (λ read. AreOver wires read.value)
+unfolding constraint_at
+constraint_over file wires end at =
+    bind_if (combination_at file wires end at) _ _ _ (combination_over file wires end at) (λ a over_a.
+    bind_if (combination_at file wires end a.next) _ _ _ (combination_over file wires end a.next) (λ b over_b.
+    bind_if (combination_at file wires end b.next) _ _ _ (combination_over file wires end b.next) (λ c over_c.
+    record { a = over_a; b = over_b; c = over_c })))
+
+-- no constraint, or a fault
+abbrev none_or : Bool → Fault → Result (List Constraint) Fault
+none_or whole fault = if whole then Ok [] else Err fault
+
+none_over : (wires : ℕ) (whole : Bool) (fault : Fault) → IfOk (none_or whole fault) (λ list. All (AreOver wires) list)
+none_over wires true fault = All-nil (AreOver wires)
+none_over wires false fault = tt
+
+constraints_over : (file : List ℕ) (wires : ℕ) (rows : Section) (n at : ℕ) → IfOk (constraints_from file wires rows n at) (λ list. All (AreOver wires) list)
+unfolding constraints_from
+constraints_over file wires rows zero at = none_over wires (at == rows.at + rows.size) (record { at = rows.at; why = BadCount rows.size (at - rows.at) })
+constraints_over file wires rows (suc n) at =
+    bind_if (constraint_at file wires (rows.at + rows.size) at) _ _ _ (constraint_over file wires (rows.at + rows.size) at) (λ first over.
+    bind_if (constraints_from file wires rows n first.next) _ _ _ (constraints_over file wires rows n first.next) (λ others each.
+    All-cons (AreOver wires) first.value others over each))
+
+pub systems_are_over : SystemsAreOver
+unfolding system_of
+systems_are_over file =
+    bind_if (header_of file) _ _ _ (any (header_of file)) (λ header _.
+    bind_if (constraints_from file header.wires header.rows header.constraints header.rows.at) _ _ _ (constraints_over file header.wires header.rows header.constraints header.rows.at) (λ list each. each))

@@ -1,0 +1,114 @@
+//! Files of systems that are told by a rule.
+
+use crate::systems::PRODUCT;
+use std::alloc::{AllocError, Global};
+
+// The front of a file of so many wires, so many of them public beside wire 0, so many constraints,
+// and so many terms, without labels.
+fn front(
+    alloc: Global,
+    wires: u32,
+    publics: u32,
+    constraints: u32,
+    terms: u32,
+) -> Result<Vec<u8>, AllocError> {
+    let mut bytes = Vec::from_slice(alloc, &PRODUCT[..8])?;
+    bytes.extend_from_slice(&[2, 0, 0, 0])?;
+    bytes.extend_from_slice(&PRODUCT[12..36])?;
+    bytes.extend_from_slice(&wires.to_le_bytes())?;
+    bytes.extend_from_slice(&PRODUCT[40..44])?;
+    bytes.extend_from_slice(&publics.to_le_bytes())?;
+    bytes.extend_from_slice(&PRODUCT[48..60])?;
+    bytes.extend_from_slice(&constraints.to_le_bytes())?;
+    bytes.extend_from_slice(&[2, 0, 0, 0])?;
+    let size = 12 * (u64::from(constraints) + u64::from(terms));
+    bytes.extend_from_slice(&size.to_le_bytes())?;
+    Ok(bytes)
+}
+
+// Appends a combination of these wires, each with the coefficient 1.
+fn push_sum(bytes: &mut Vec<u8>, wires: &[u32]) -> Result<(), AllocError> {
+    let count = (wires.len() as u64).to_le_bytes();
+    bytes.extend_from_slice(&count[..4])?;
+    for wire in wires {
+        bytes.extend_from_slice(&wire.to_le_bytes())?;
+        bytes.extend_from_slice(&1_u64.to_le_bytes())?;
+    }
+    Ok(())
+}
+
+// The first so many wires.
+fn first_wires(alloc: Global, count: u32) -> Result<Vec<u32>, AllocError> {
+    let mut wires = Vec::new(alloc);
+    for wire in 0..count {
+        wires.push(wire)?;
+    }
+    Ok(wires)
+}
+
+/// A system of one constraint, whose first combination has so many terms.
+pub(crate) fn wide(alloc: Global, count: u32) -> Result<Vec<u8>, AllocError> {
+    let mut bytes = front(alloc, 200, 1, 1, count)?;
+    push_sum(&mut bytes, &first_wires(alloc, count)?)?;
+    bytes.extend_from_slice(&[0; 8])?;
+    Ok(bytes)
+}
+
+/// A system of public wires: 32,768 constraints of 128 terms each, which aren't linear, and so many
+/// with one term more.
+pub(crate) fn long(alloc: Global, more: u8) -> Result<Vec<u8>, AllocError> {
+    let more = u32::from(more);
+    let mut bytes = front(alloc, 200, 199, 32768 + more, 4194304 + more)?;
+    let mut row = Vec::new(alloc);
+    let wires = first_wires(alloc, 64)?;
+    push_sum(&mut row, &wires)?;
+    push_sum(&mut row, &wires)?;
+    row.extend_from_slice(&[0; 4])?;
+    for _ in 0..32768 {
+        bytes.extend_from_slice(&row)?;
+    }
+    for _ in 0..more {
+        push_sum(&mut bytes, &[1])?;
+        bytes.extend_from_slice(&[0; 8])?;
+    }
+    Ok(bytes)
+}
+
+/// A system in which each wire but the first two is one more than the wire before.
+pub(crate) fn chain(alloc: Global, count: u16) -> Result<Vec<u8>, AllocError> {
+    let count = u32::from(count);
+    let mut bytes = front(alloc, count + 2, 1, count, 4 * count)?;
+    for done in 0..count {
+        push_sum(&mut bytes, &[0])?;
+        push_sum(&mut bytes, &[0, done + 1])?;
+        push_sum(&mut bytes, &[done + 2])?;
+    }
+    Ok(bytes)
+}
+
+/// A system in which each wire but the first three is the sum of the two before it, the last one
+/// first.
+pub(crate) fn sums(alloc: Global, count: u16) -> Result<Vec<u8>, AllocError> {
+    let count = u32::from(count);
+    let mut bytes = front(alloc, count + 3, 1, count, 4 * count)?;
+    for done in 0..count {
+        let before = count - done;
+        push_sum(&mut bytes, &[0])?;
+        push_sum(&mut bytes, &[before, before + 1])?;
+        push_sum(&mut bytes, &[before + 2])?;
+    }
+    Ok(bytes)
+}
+
+/// A system in which each sum is the one before and a wire of its own.
+pub(crate) fn growing(alloc: Global, count: u16) -> Result<Vec<u8>, AllocError> {
+    let count = u32::from(count);
+    let mut bytes = front(alloc, 2 * count + 3, 1, count, 4 * count)?;
+    for done in 0..count {
+        let before = count + done + 2;
+        push_sum(&mut bytes, &[0])?;
+        push_sum(&mut bytes, &[done + 2, before])?;
+        push_sum(&mut bytes, &[before + 1])?;
+    }
+    Ok(bytes)
+}
