@@ -1,0 +1,58 @@
+-- Lines in rows, one after another.
+use Rattle.std.proofs.Common.{◌≡◌, ℕ, zero, suc, ◌+◌, ◌<◌, ◌≤◌, ◌^◌, List, [], ◌∷◌, ◌++◌, length, map, take, get_or, refl, sym, ap, ap₂, ◌∙◌, append_assoc, arith}
+use Rattle.std.proofs.lemmas.List.{length-map, map-append, get_or-map}
+use Rattle.std.specs.Prelude.{slice_index}
+use Rattle.tv_block.specs.Block.{block_of}
+use Rattle.tv_core.specs.Lines.{Line}
+use Rattle.tv_core.specs.declared.lines.LineLc.{LineLc}
+use Rattle.tv_layout.proofs.LinePlaces.{line_number}
+use Rattle.tv_layout.proofs.Positions.{log_above}
+use Rattle.tv_layout.proofs.Whole.{few}
+use Rattle.tv_layout.specs.Layout.{lines_of}
+use Rattle.tv_layout.specs.Places.{WithinLimits, line_count, log_of}
+use Rattle.tv_lines.specs.Packing.{line_value}
+use Rattle.tv_lines.specs.Placed.{no_line, line_in}
+use Rattle.tv_step.specs.Cells.{boot_from}
+use Rattle.tv_listing.specs.Listing.{lines_at}
+use Rattle.tv_listing.specs.Row.{row_line}
+use Rattle.tv_listing.specs.declared.row.Row.{Row}
+
+take_next : {A : Type 0} (xs : List A) (i : ℕ) (d : A) → i < length xs → take (i + 1) xs ≡ take i xs ++ get_or xs i d ∷ []
+take_next [] i d h = absurd (omega arith)
+take_next (x ∷ xs) zero d h = refl
+take_next (x ∷ xs) (suc i) d h = let e : suc i + 1 ≡ suc (i + 1) = omega arith in rw e (ap (λ l. x ∷ l) (take_next xs i d (omega arith)))
+
+-- there is a line at each place
+pub placed : (w : ℕ) (image : List ℕ) (n t : ℕ) → WithinLimits w image n t → line_count image n t ≤ 2 ^ log_of (line_count image n t)
+placed w image n t fits = log_above (line_count image n t) (few image n t w fits)
+
+-- one more of the lines that an assignment has
+pub rows_more : (w : ℕ) (image : List ℕ) (n t i : ℕ) (z : List ℕ) (rows : List Row) (row : Row) (line : LineLc) → WithinLimits w image n t → i < line_count image n t
+    → map row_line rows ≡ take i (lines_at w image n t z) → line ≡ line_in (lines_of (block_of w) w image n t) i → row_line row ≡ line_value z line
+    → map row_line (rows ++ row ∷ []) ≡ take (i + 1) (lines_at w image n t z)
+rows_more w image n t i z rows row line fits h before is valued =
+    let many : i < length (lines_of (block_of w) w image n t) = omega (arith, line_number w image n t fits, placed w image n t fits) in
+    let here : get_or (lines_at w image n t z) i (row_line row) ≡ row_line row = get_or-map (line_value z) (lines_of (block_of w) w image n t) i no_line (row_line row) many ∙ ap (line_value z) (sym is) ∙ sym valued in
+    map-append row_line rows (row ∷ [])
+    ∙ ap₂ (λ (a b : List Line). a ++ b) before (ap (λ (l : Line). l ∷ []) (sym here))
+    ∙ sym (take_next (lines_at w image n t z) i (row_line row) (omega (arith, length-map (lines_of (block_of w) w image n t) (line_value z))))
+
+-- one more of the lines that write words
+words_more : (cell time k : ℕ) (words : List ℕ) → k < length words
+    → boot_from cell time (take (k + 1) words) ≡ boot_from cell time (take k words) ++ record { cell = cell + k; time = time + k; old = 0; new = slice_index words k } ∷ []
+words_more cell time k [] h = absurd (omega arith)
+words_more cell time zero (v ∷ words) h = let c : cell + 0 ≡ cell = omega arith in let t : time + 0 ≡ time = omega arith in rw (c, t) refl
+words_more cell time (suc k) (v ∷ words) h =
+    let e : suc k + 1 ≡ suc (k + 1) = omega arith in
+    let c : cell + suc k ≡ cell + 1 + k = omega arith in
+    let t : time + suc k ≡ time + 1 + k = omega arith in
+    rw (e, c, t) (ap (λ (l : List Line). record { cell = cell; time = time; old = 0; new = v } ∷ l) (words_more (cell + 1) (time + 1) k words (omega arith)))
+
+pub words_pushed : (lines : List Line) (rows : List Row) (row : Row) (cell time i : ℕ) (words : List ℕ) → i < length words
+    → map row_line rows ≡ lines ++ boot_from cell time (take i words) → row_line row ≡ record { cell = cell + i; time = time + i; old = 0; new = slice_index words i }
+    → map row_line (rows ++ row ∷ []) ≡ lines ++ boot_from cell time (take (i + 1) words)
+words_pushed lines rows row cell time i words h before is =
+    map-append row_line rows (row ∷ [])
+    ∙ ap₂ (λ (a b : List Line). a ++ b) before (ap (λ (l : Line). l ∷ []) is)
+    ∙ append_assoc lines (boot_from cell time (take i words)) _
+    ∙ ap (λ l. lines ++ l) (sym (words_more cell time i words h))

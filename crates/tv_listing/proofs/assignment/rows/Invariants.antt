@@ -1,0 +1,7 @@
+use Rattle.std.proofs.Common.{◌≡◌, map, take}
+use Rattle.tv_listing.specs.Listing.{lines_at}
+use Rattle.tv_listing.specs.Row.{row_line}
+use Rattle.tv_listing.proofs.assignment.rows.Given as goal
+
+abbrev pub invariant-loop-i : goal.invariant-loop-i
+invariant-loop-i g l = map row_line l.rows.items ≡ take l.i (lines_at g.row.W l.image l.n l.t l.values)

@@ -1,0 +1,37 @@
+-- What the listing of a satisfying assignment is.
+use Rattle.std.specs.Prelude.{◌≡◌, ℕ, ◌≤◌, List, length}
+use Rattle.tv_benes.specs.declared.shape.Net.{Net}
+use Rattle.tv_block.specs.Block.{block_of}
+use Rattle.tv_core.specs.Constraints.{Sat}
+use Rattle.tv_core.specs.Laws.{HasFrom}
+use Rattle.tv_extract.specs.Runs.{HasRunIn}
+use Rattle.tv_layout.specs.Layout.{taken_of}
+use Rattle.tv_layout.specs.Places.{WithinLimits, tape_at}
+use Rattle.tv_layout.specs.Systems.{system_of}
+use Rattle.tv_step.specs.Cells.{run_lines}
+use Rattle.tv_step.specs.Tracing.{IsTrace}
+use Rattle.tv_step.specs.declared.lines.Trace.{Trace}
+use Rattle.tv_listing.specs.Listing.{assigned_lines, traced_lines, text_by}
+use Rattle.tv_listing.specs.declared.row.By.{By}
+
+-- The lines that an assignment has up to a step are those of the run on a tape and on an auxiliary tape; and the
+-- text of the run's trace is, byte for byte, that of the assignment.
+pub record ListsRun (w : ℕ) (image x aux z : List ℕ) (t step : ℕ) : Type 0 where
+  pub lines : assigned_lines w image (length x) t step z ≡ run_lines w image x aux step
+  pub text : (trace : Trace) → IsTrace w image x aux t trace
+      → (by : By) → text_by by (traced_lines image x step trace.lines) ≡ text_by by (assigned_lines w image (length x) t step z)
+
+-- each assignment that satisfies a system lists the run on its own tapes, up to each step
+abbrev pub ListingIsTrace : Type 0
+ListingIsTrace = (w : ℕ) (net : Net) (image x z : List ℕ) (t step : ℕ) → WithinLimits w image (length x) t → step ≤ t → HasFrom z tape_at x
+    → Sat (system_of w net image (length x) t) z → ListsRun w image x (taken_of (block_of w) w image (length x) t z) z t step
+
+-- An assignment has a run, and its lines up to the step that answers are those of that run.
+pub record HasListing (w : ℕ) (net : Net) (image : List ℕ) (n t : ℕ) (z : List ℕ) : Type 0 where
+  pub has : HasRunIn w net image n t z
+  pub lists : ListsRun w image has.run.tape has.run.aux z t has.run.step
+
+-- each assignment that satisfies a system has
+abbrev pub SatisfyingAreListed : Type 0
+SatisfyingAreListed = (w : ℕ) (net : Net) (image z : List ℕ) (n t : ℕ) → WithinLimits w image n t → Sat (system_of w net image n t) z
+    → HasListing w net image n t z

@@ -1,0 +1,7 @@
+-- The code's line in numbers.
+use Rattle.tv_core.specs.Lines.{Line}
+use Rattle.tv_listing.specs.declared.row.Row.{Row}
+
+-- as a line
+abbrev pub row_line : Row → Line
+row_line row = record { cell = row.cell; time = row.time; old = row.old; new = row.new }
