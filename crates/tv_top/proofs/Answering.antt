@@ -46,11 +46,8 @@ of_words (status.Limit Draws has most) = Some (refusal.Limit quantity.Draws has 
 of_words _ = None
 
 words_is : (why : Refusal) → of_words (refusal_status why) ≡ Some why
-words_is refusal.Usage = refl
-words_is (refusal.SameName first second) = refl
 words_is (refusal.Limit quantity.Steps has most) = refl
-words_is (refusal.Limit quantity.TapeWords has most) = refl
-words_is (refusal.Limit quantity.Draws has most) = refl
+words_is _ = refl
 
 -- each refusal of words has a status of its own
 words_same : (why other : Refusal) → refusal_status why ≡ refusal_status other → why ≡ other
@@ -69,47 +66,27 @@ limit_in _ = None
 
 -- what refused contents are answered is neither a refusal of words nor a fault
 bad_is : (b : Bad) → (is_plain (bad_status b) ≡ false) × ((word : ℕ) → ¬ (bad_status b ≡ status.FileFault word))
-bad_is (bad.Program line why) = (refl, λ word e. cc)
-bad_is (bad.Tape at item) = (refl, λ word e. cc)
-bad_is (bad.System at why) = (refl, λ word e. cc)
-bad_is (bad.Witness at why) = (refl, λ word e. cc)
 bad_is (bad.Image len) = (refl, λ word e. cc)
-bad_is (bad.Limit what has most) = (refl, λ word e. cc)
+bad_is _ = (refl, λ word e. cc)
 
 stop_is : (stop : Stop) → is_plain (stop_status stop) ≡ false
-stop_is (Fault word) = refl
-stop_is Memory = refl
 stop_is (Contents b) = (bad_is b).0
+stop_is _ = refl
 
 -- a limit is answered to a file that passes it
 stop_limit : (stop : Stop) (what : What) → limit_in (stop_status stop) ≡ Some what → (size : Size) × (has most : ℕ) × (stop ≡ Contents (bad.Limit size has most)) × (size_what size ≡ what)
-stop_limit (Fault word) what e = cc
-stop_limit Memory what e = cc
-stop_limit (Contents (bad.Program line why)) what e = cc
-stop_limit (Contents (bad.Tape at item)) what e = cc
-stop_limit (Contents (bad.System at why)) what e = cc
-stop_limit (Contents (bad.Witness at why)) what e = cc
-stop_limit (Contents (bad.Image len)) what e = cc
 stop_limit (Contents (bad.Limit size has most)) what e = (size, has, most, refl, cc)
+stop_limit _ what e = cc
 
 stop_faulty : (stop : Stop) (word : ℕ) → stop_status stop ≡ status.FileFault word → stop ≡ Fault word
-stop_faulty (Fault other) word e = cc
-stop_faulty Memory word e = cc
 stop_faulty (Contents b) word e = absurd ((bad_is b).1 word e)
+stop_faulty _ word e = cc
 
 -- a good end is neither a refusal of words nor a fault
 finish_good : (finish : Finish) → (of_words (finish_status finish) ≡ None) × ((word : ℕ) → ¬ (finish_status finish ≡ status.FileFault word))
-finish_good finishes.Quiet = (refl, λ word e. cc)
-finish_good (finishes.Run (end.Answer value step)) = (refl, λ word e. cc)
-finish_good (finishes.Run (end.Undefined op step)) = (refl, λ word e. cc)
 finish_good (finishes.Run (end.Silent steps)) = (refl, λ word e. cc)
-finish_good (finishes.NoRun end) = (refl, λ word e. cc)
-finish_good (finishes.NotARun why) = (refl, λ word e. cc)
 finish_good (finishes.Verdict verdict.Yes) = (refl, λ word e. cc)
-finish_good (finishes.Verdict (verdict.WireCount has wants)) = (refl, λ word e. cc)
-finish_good (finishes.Verdict (verdict.NoPublic at)) = (refl, λ word e. cc)
-finish_good (finishes.Verdict (verdict.NoConstraint at)) = (refl, λ word e. cc)
-finish_good (finishes.Trial trial) = (refl, λ word e. cc)
+finish_good _ = (refl, λ word e. cc)
 
 -- ---- a limit on a quantity that words tell is of no file
 
@@ -146,14 +123,8 @@ stop_refuses plan stop (refusal.Limit quantity has most) apart limited told e =
     apart_from plan.amounts plan.sizes quantity found.0 apart told (limited found.0 found.1 found.2 found.3) (sym found.4)
 
 may_stop : (sizes : List Size) (stop : Stop) → IsWithin sizes stop → MayStop sizes stop
-may_stop sizes (Fault word) limited = tt
-may_stop sizes Memory limited = tt
-may_stop sizes (Contents (bad.Program line why)) limited = tt
-may_stop sizes (Contents (bad.Tape at item)) limited = tt
-may_stop sizes (Contents (bad.System at why)) limited = tt
-may_stop sizes (Contents (bad.Witness at why)) limited = tt
-may_stop sizes (Contents (bad.Image len)) limited = tt
 may_stop sizes (Contents (bad.Limit what has most)) limited = limited what has most refl
+may_stop sizes _ limited = tt
 
 -- ---- what was concluded
 
@@ -205,22 +176,17 @@ unchanged [] old new same = same
 unchanged (n ∷ ns) old new same = inl (unchanged ns old new same)
 
 changed_whole : (names : List Named) (contents : List Content) (old : Option Names) → ChangedAt names old (files_with (files_of names contents) old)
-changed_whole [] contents old = refl
-changed_whole (n ∷ ns) [] old = inl (unchanged ns old old refl)
+changed_whole names [] old = unchanged names old old refl
+changed_whole [] (c ∷ cs) old = refl
 changed_whole (n ∷ ns) (c ∷ cs) old = inr (bytes_in c, changed_whole ns cs _)
 
-changed_cut : (word : ℕ) (names : List Named) (contents : List Content) (old new : Option Names) → IsCutAt word (files_of names contents) old new → ChangedAt names old new
-changed_cut word [] contents old new cut = absurd cut
-changed_cut word (n ∷ ns) [] old new cut = absurd cut
-changed_cut word (n ∷ ns) (c ∷ cs) old new (inl (is, inl same)) = inl (unchanged ns old new same)
-changed_cut word (n ∷ ns) (c ∷ cs) old new (inl (is, inr part)) = inr (take part.0 (bytes_in c), unchanged ns _ new part.1)
-changed_cut word (n ∷ ns) (c ∷ cs) old new (inr later) = inr (bytes_in c, changed_cut word ns cs _ new later)
-
-cut_at : (word : ℕ) (names : List Named) (contents : List Content) (old new : Option Names) → IsCutAt word (files_of names contents) old new → IsOneOf word (words_of names)
-cut_at word [] contents old new cut = absurd cut
-cut_at word (n ∷ ns) [] old new cut = absurd cut
-cut_at word (n ∷ ns) (c ∷ cs) old new (inl here) = inl here.0
-cut_at word (n ∷ ns) (c ∷ cs) old new (inr later) = inr (cut_at word ns cs _ new later)
+-- and the word that is told is one of a name that is written
+changed_cut : (word : ℕ) (names : List Named) (contents : List Content) (old new : Option Names) → IsCutAt word (files_of names contents) old new → ChangedAt names old new × IsOneOf word (words_of names)
+changed_cut word names [] old new cut = absurd cut
+changed_cut word [] (c ∷ cs) old new cut = absurd cut
+changed_cut word (n ∷ ns) (c ∷ cs) old new (inl (is, inl same)) = (inl (unchanged ns old new same), inl is)
+changed_cut word (n ∷ ns) (c ∷ cs) old new (inl (is, inr part)) = (inr (take part.0 (bytes_in c), unchanged ns _ new part.1), inl is)
+changed_cut word (n ∷ ns) (c ∷ cs) old new (inr later) = let rest = changed_cut word ns cs _ new later in (inr (bytes_in c, rest.0), inr rest.1)
 
 -- ---- writing, and what follows on it
 
@@ -332,11 +298,11 @@ answers_cut plan outcome words at old mid new result finds only cut ended =
       refused = λ why e. cc;
       refuses = λ why told e. absurd (let h : None ≡ Some why = elim ended [ inl fault ↦ ap of_words (sym fault.0 ∙ e) ∙ words_is why | inr memory ↦ ap of_words (sym memory ∙ e) ∙ words_is why ] in cc);
       caused = λ word e. elim ended [
-        | inl fault ↦ let is = fault.0 in let same : at ≡ word = cc in inr (inl (rw same at (cut_at at plan.writes outcome.files old.contents new.contents held), let rose = fault.1 in omega (arith, rose)))
+        | inl fault ↦ let is = fault.0 in let same : at ≡ word = cc in inr (inl (rw same at (changed_cut at plan.writes outcome.files old.contents new.contents held).1, let rose = fault.1 in omega (arith, rose)))
         | inr memory ↦ cc
       ];
       said = elim ended [ inl fault ↦ (Stopped (Fault at), tt, inl (fault.0, said)) | inr memory ↦ (Stopped Memory, tt, inl (memory, said)) ];
-      contents = changed_cut at plan.writes outcome.files old.contents new.contents held;
+      contents = (changed_cut at plan.writes outcome.files old.contents new.contents held).0;
       later = search rules;
     }
 
@@ -370,13 +336,9 @@ answers_completed plan view ends due found words old mid new result is may apart
 answers_completed plan view ends due found words old mid new result is may apart finds (inr concludes) =
     answers_stopped plan view ends due Memory words old mid new result is apart (finds_wanting view (words_of plan.reads) plan.sizes due found old mid finds) concludes
 
-no_files : (places : List Named) → files_of places [] ≡ []
-no_files [] = refl
-no_files (p ∷ ps) = refl
-
 -- an outcome of which nothing is written
 pub completes_nothing : (places : List Named) (outcome : Outcome) (finish : Option Finish) (words : ℕ) (old new : Outside) (result : Status) → IfSome finish (λ finish. outcome ≡ record { files = []; finish = finish }) →
     Refuses finish words old new result → Completes places outcome words old new result
 completes_nothing places outcome None words old new result is refuses = inr refuses
 completes_nothing places outcome (Some finish) words old new result is refuses =
-    subst (λ outcome. Completes places outcome words old new result) (sym is) (inl (subst (λ writes. Finishes writes finish words old new result) (sym (no_files places)) refuses))
+    subst (λ outcome. Completes places outcome words old new result) (sym is) (inl refuses)

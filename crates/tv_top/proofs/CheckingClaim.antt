@@ -1,10 +1,9 @@
 -- `check`: reading the system twice is reading it once, and what the command promises.
 use Rattle.std.proofs.Common.{◌≡◌, ◌↔◌, ◌<◌, ℕ, List, [], ◌∷◌, All, Option, Some, None, Result, Ok, Err, inl, inr, refl, sym, ap, ◌∙◌}
-use Rattle.std.specs.Prelude.{IfOk}
 use Rattle.tv_check.specs.Meaning.{Tells}
 use Rattle.tv_check.specs.Verdict.{HasRoom, judge, verdict_of}
 use Rattle.tv_check.specs.declared.verdict.Verdict.{Verdict}
-use Rattle.tv_check.specs.declared.verdict.Verdict.TheVariants.{Yes, WireCount, NoPublic, NoConstraint}
+use Rattle.tv_check.specs.declared.verdict.Verdict.TheVariants.{Yes}
 use Rattle.tv_check.proofs.Room.{has_room}
 use Rattle.tv_check.proofs.Verdicts.{yes_exactly, no_exactly}
 use Rattle.tv_core.specs.Constraints.{System}
@@ -67,20 +66,14 @@ finds_once system witness tape old new found finds = finds_same (λ v. v) (1 ∷
 
 -- ---- verdicts
 
-room_of : (read : Result System Fault) (s : System) → container_result system_bad read ≡ Ok s → IfOk read HasRoom → HasRoom s
-room_of (Ok found) s is room = let same : found ≡ s = cc in rw (← same) room
-room_of (Err fault) s is room = cc
-
-values_of : (read : Result (List ℕ) Fault) (z : List ℕ) → container_result witness_bad read ≡ Ok z → read ≡ Ok z
-values_of (Ok found) z is = cc
-values_of (Err fault) z is = cc
+read_of : {A : Type 0} (bad : Fault → Bad) (read : Result A Fault) (x : A) → container_result bad read ≡ Ok x → read ≡ Ok x
+read_of bad (Ok found) x is = cc
+read_of bad (Err fault) x is = cc
 
 -- each verdict comes exactly where what it tells is so
 judged_exactly : (s : System) (z x : List ℕ) (verdict : Verdict) → HasRoom s → All (λ v. v < P) z → (judge s z x ≡ verdict) ↔ Tells verdict s z x
 judged_exactly s z x Yes room below = yes_exactly s z x room below
-judged_exactly s z x (WireCount has wants) room below = no_exactly s z x (WireCount has wants) (λ e. cc)
-judged_exactly s z x (NoPublic at) room below = no_exactly s z x (NoPublic at) (λ e. cc)
-judged_exactly s z x (NoConstraint at) room below = no_exactly s z x (NoConstraint at) (λ e. cc)
+judged_exactly s z x other room below = no_exactly s z x other (λ e. cc)
 
 -- ---- the claim
 
@@ -92,10 +85,10 @@ verdict_one s z x room below one other a b =
     a.is ∙ ap (λ verdict. Ok verdict) (sym ((judged_exactly s z x a.verdict room below).1 a.tells) ∙ (judged_exactly s z x b.verdict room below).1 b.tells) ∙ sym b.is
 
 has_room_in : (s : System) (file : Option (List ℕ)) → Holds system_in file (Ok s) → HasRoom s
-has_room_in s file holds = room_of (system_of holds.bytes) s holds.reads (has_room holds.bytes)
+has_room_in s file holds = rw (read_of system_bad (system_of holds.bytes) s holds.reads) at (has_room holds.bytes)
 
 below_in : (z : List ℕ) (file : Option (List ℕ)) → Holds witness_in file (Ok z) → All (λ v. v < P) z
-below_in z file holds = assignments_below holds.bytes z (values_of (assignment_of holds.bytes) z holds.reads)
+below_in z file holds = assignments_below holds.bytes z (read_of witness_bad (assignment_of holds.bytes) z holds.reads)
 
 all_held : (system witness tape : List ℕ) (files : Names) → IsHeld (check_of system witness tape files).gives (HasVerdict files system witness tape)
 unfolding check_of

@@ -72,14 +72,10 @@ made_is (Ok x) (Err bad) e = cc
 made_is (Err bad) (Ok y) e = cc
 made_is (Err bad) (Err other) e = cc
 
-made_bad : {B : Type 0} (held : Result B Bad) (bad : Bad) → Err (Contents bad) ≡ made_of held → held ≡ Err bad
-made_bad (Ok y) bad e = cc
-made_bad (Err other) bad e = cc
-
 -- a look that wasn't refused for contents doesn't come to contents
-not_stopped : {B : Type 0} (held : Result B Bad) (stop : Stop) → Err stop ≡ made_of held → (bad : Bad) × (stop ≡ Contents bad)
+not_stopped : {B : Type 0} (held : Result B Bad) (stop : Stop) → Err stop ≡ made_of held → (bad : Bad) × (stop ≡ Contents bad) × (held ≡ Err bad)
 not_stopped (Ok y) stop e = cc
-not_stopped (Err bad) stop e = (bad, cc)
+not_stopped (Err bad) stop e = (bad, cc, refl)
 
 file_held : {A : Type 0} (word : ℕ) (read : List ℕ → Result A Bad) (file : Option (List ℕ)) → IsHeld (held_at word read file) (Holds read file)
 file_held word read None held e = let never = (not_stopped held (Fault word) e).1 in cc
@@ -94,9 +90,7 @@ held_input word read name files = file_held word read (files name)
 pub held_then : {A B : Type 0} (look : Look A) (gives : Result A Stop) (f : A → Look B) (First : Result A Bad → Type 0) (Second : A → Result B Bad → Type 0) → look.gives ≡ gives → IsHeld gives First →
     ((x : A) → First (Ok x) → IsHeld (f x).gives (Second x)) → IsHeld (look >>= f).gives (Then First Second)
 held_then look (Ok x) f First Second is first second held e = let has = first (Ok x) refl in inl (x, has, second x has held (rw is at e))
-held_then look (Err (Contents bad)) f First Second is first second held e = inr (bad, first (Err bad) refl, made_bad held bad (rw is at e))
-held_then look (Err (Fault word)) f First Second is first second held e = let never = (not_stopped held (Fault word) (rw is at e)).1 in cc
-held_then look (Err Memory) f First Second is first second held e = let never = (not_stopped held Memory (rw is at e)).1 in cc
+held_then look (Err stop) f First Second is first second held e = let bad = not_stopped held stop (rw is at e) in inr (bad.0, first (Err bad.0) (ap Err bad.1), bad.2)
 
 -- ---- files hold one thing
 

@@ -1,21 +1,17 @@
 -- An image that is disassembled and assembled again is the same.
-use Rattle.std.proofs.Common.{◌≡◌, ◌≤◌, ◌%◌, ◌/◌, ◌*◌, ◌+◌, ℕ, List, length, Ok, inl, inr, refl, ap, ◌∙◌, arith}
+use Rattle.std.proofs.Common.{◌≡◌, ◌≤◌, ◌%◌, ◌/◌, ◌*◌, ◌+◌, ℕ, List, length, Ok, refl, ap, ◌∙◌, arith}
 use Rattle.tv_asm.specs.Header.{width_of}
 use Rattle.tv_core.specs.declared.limits.TheConstants.{TEXT_BYTES}
 use Rattle.tv_disasm.specs.Disassembly.{disassembly_of}
 use Rattle.tv_disasm.proofs.TextLemmas.{text_assembles, text_tells, words_spell}
 use Rattle.tv_disasm.proofs.LengthLemmas.{text_short}
-use Rattle.tv_word.specs.Widths.{IsWidth}
 use Rattle.tv_top.specs.declared.programs.Width.{Width}
 use Rattle.tv_top.specs.declared.programs.Width.TheVariants.{Bits16, Bits32}
 use Rattle.tv_top.specs.ComesBack.{ImageComesBack}
 use Rattle.tv_top.specs.Disassembling.{image_bytes_most}
 use Rattle.tv_top.specs.Plan.{map_ok}
 use Rattle.tv_top.specs.Programs.{bits, image_words, image_bytes, program_result, program_by, image_of}
-
-is_width : (width : Width) → IsWidth (bits width)
-is_width Bits16 = inl refl
-is_width Bits32 = inr refl
+use Rattle.tv_top.proofs.ProgramLaws.{is_width}
 
 told : (width : Width) (text image : List ℕ) → width_of text ≡ bits width → image_of text ≡ map_ok image_bytes (program_by width text)
 unfolding image_of

@@ -1,6 +1,4 @@
 pub mod Spelling
-pub mod Narrowing
-pub mod Drawn
 pub mod Looking
 pub mod Sizes
 pub mod ContainerReads
@@ -13,7 +11,9 @@ pub mod AssemblingClaim
 pub mod BuildingClaim
 pub mod WitnessingClaim
 pub mod ExtractingClaim
+pub mod ListingClaim
 pub mod TrialingClaim
+pub mod ShrinkingClaim
 pub mod DisassemblingClaim
 pub mod RunningClaim
 pub mod CheckingClaim

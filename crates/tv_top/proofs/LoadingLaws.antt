@@ -1,16 +1,13 @@
 -- What is found of a program and two tapes is what their files hold.
 use Rattle.std.proofs.Common.{◌≡◌, ◌^◌, ◌≤◌, ℕ, List, [], ◌∷◌, length, Option, Result, Ok, Err, inl, inr, refl, sym, ◌∙◌}
-use Rattle.std.specs.Prelude.{IfOk}
 use Rattle.tv_core.specs.declared.limits.TheConstants.{TAPE_WORDS, AUX_WORDS, TEXT_BYTES}
 use Rattle.tv_files.specs.Outside.{Names}
 use Rattle.tv_step.specs.Range.{AreWords}
-use Rattle.tv_tape.proofs.Range.{all_below, at_most}
+use Rattle.tv_tape.proofs.Narrowing.{numbers_below, numbers_few}
 use Rattle.tv_tape.specs.Tape.{tape_of}
 use Rattle.tv_tape.specs.declared.items.TapeFault.{TapeFault}
 use Rattle.tv_tape.specs.declared.items.TapeFault.TheVariants as tape
 use Rattle.tv_top.specs.declared.loading.Inputs.{Inputs}
-use Rattle.tv_top.specs.declared.programs.Program.{Program}
-use Rattle.tv_top.specs.declared.refusal.Bad.{Bad}
 use Rattle.tv_top.specs.declared.refusal.Size.{Size}
 use Rattle.tv_top.specs.declared.refusal.Size.TheVariants.{TapeWords, AuxWords, TextBytes}
 use Rattle.tv_top.specs.Claims.{Holds}
@@ -36,20 +33,16 @@ inputs_one text tape aux files =
 
 -- ---- what the files hold is in range
 
-numbers_by : (word : ℕ) (what : Size) (w most : ℕ) (read : Result (List ℕ) TapeFault) (numbers : List ℕ) → IfOk read (AreWords w) → IfOk read (λ numbers. length numbers ≤ most) → tape_result word what read ≡ Ok numbers →
-    AreWords w numbers × (length numbers ≤ most)
-numbers_by word what w most (Ok found) numbers below few e = let same : found ≡ numbers = cc in rw (← same) (below, few)
-numbers_by word what w most (Err (tape.BadItem at)) numbers below few e = cc
-numbers_by word what w most (Err (tape.TooBig at)) numbers below few e = cc
-numbers_by word what w most (Err (tape.TooMany many)) numbers below few e = cc
-numbers_by word what w most (Err tape.Memory) numbers below few e = cc
+tape_read : (word : ℕ) (what : Size) (read : Result (List ℕ) TapeFault) (numbers : List ℕ) → tape_result word what read ≡ Ok numbers → read ≡ Ok numbers
+tape_read word what (Err tape.Memory) numbers e = cc
+tape_read word what _ numbers e = cc
 
 -- the words of a tape
 pub numbers_are : (word : ℕ) (what : Size) (w most : ℕ) (file : Option (List ℕ)) (numbers : List ℕ) → Holds (numbers_in word what (2 ^ w) most) file (Ok numbers) → AreWords w numbers × (length numbers ≤ most)
 unfolding numbers_of
 numbers_are word what w most file numbers holds =
-    numbers_by word what w most (tape_of holds.bytes (2 ^ w) most) numbers (all_below holds.bytes (2 ^ w) most) (at_most holds.bytes (2 ^ w) most)
-    (within_ok TextBytes TEXT_BYTES (numbers_of word what (2 ^ w) most) holds.bytes numbers holds.reads)
+    let is = tape_read word what (tape_of holds.bytes (2 ^ w) most) numbers (within_ok TextBytes TEXT_BYTES (numbers_of word what (2 ^ w) most) holds.bytes numbers holds.reads) in
+    (numbers_below holds.bytes numbers (2 ^ w) most is, numbers_few holds.bytes numbers (2 ^ w) most is)
 
 pub inputs_are : (text tape aux : List ℕ) (files : Names) (inputs : Inputs) → HasInputs files text tape aux (Ok inputs) → AreInputs inputs
 inputs_are text tape aux files inputs (inl (program, text_holds, inl (primary, tape_holds, inl (auxiliary, aux_holds, e)))) =

@@ -9,12 +9,7 @@ use Rattle.tv_top.specs.declared.refusal.Size.{Size}
 use Rattle.tv_top.specs.declared.refusal.Stop.{Stop}
 use Rattle.tv_top.specs.declared.refusal.Stop.TheVariants.{Fault, Memory, Contents}
 use Rattle.tv_top.specs.Finds.{IsOneOf, IsFound, Finds, Makes, from_made, limited_bytes}
-use Rattle.tv_top.specs.Plan.{Look, ◌>>=◌, look_on, Outcome, comes_by, map_ok, input, within, held_at, made_of}
-
-left_at : {A : Type 0} (x : A) (some more : List A) → IsOneOf x some → IsOneOf x (some ++ more)
-left_at x [] more at = absurd at
-left_at x (y ∷ ys) more (inl is) = inl is
-left_at x (y ∷ ys) more (inr at) = inr (left_at x ys more at)
+use Rattle.tv_top.specs.Plan.{Look, ◌>>=◌, Outcome, comes_by, map_ok, input, within, held_at, made_of}
 
 right_at : {A : Type 0} (x : A) (some more : List A) → IsOneOf x more → IsOneOf x (some ++ more)
 right_at x [] more at = at
@@ -25,15 +20,6 @@ told_on to look f x (Ok y) is finds = rw is finds
 told_on to look f x (Err (Contents why)) is due = rw is due
 told_on to look f x (Err (Fault word)) is within = rw is (omega (arith, within))
 told_on to look f x (Err Memory) is any = tt
-
-reaches : {A B : Type 0} (at : ℕ) (gives : Result A Stop) (f : A → Look B) (word : ℕ) → word ≤ at → word ≤ (look_on at gives f).at
-reaches at (Ok x) f word within = omega (arith, within)
-reaches at (Err other) f word within = within
-
-told_stop : {X A Y B : Type 0} (view : X → A) (to : Y → B) (look : Look A) (f : A → Look B) (stop : Stop) → IsFound view look (Err stop) → IsFound to (look >>= f) (Err stop)
-told_stop view to look f (Contents why) due = rw due refl
-told_stop view to look f (Fault word) within = reaches look.at look.gives f word within
-told_stop view to look f Memory any = tt
 
 -- what was found after this was found
 pub finds_on : {X A Y B : Type 0} (view : X → A) (to : Y → B) (some more : List ℕ) (few many : List Size) (due : Names → Look A) (f : Names → A → Look B) (old mid new : Outside) (x : X) (found : Result Y Stop) →
@@ -50,20 +36,6 @@ finds_on view to some more few many due f old mid new x found one two = record {
   only = record { contents = two.only.contents ∙ one.only.contents; said = two.only.said ∙ one.only.said; later = search rules };
   caused = λ word e. let cause = two.caused word e in (right_at word some more cause.0, omega (arith, cause.1));
   limits = λ what has most e. right_at what few many (two.limits what has most e);
-}
-
--- what was refused stays so
-pub finds_stop : {X A Y B : Type 0} (view : X → A) (to : Y → B) (some more : List ℕ) (few many : List Size) (due : Names → Look A) (f : Names → A → Look B) (old new : Outside) (stop : Stop) →
-    Finds view some few due old new (Err stop) → Finds to (some ++ more) (few ++ many) (λ files. due files >>= f files) old new (Err stop)
-finds_stop view to some more few many due f old new stop finds = record {
-  told = λ files told. told_stop view to (due files) (f files) stop (finds.told files told);
-  absent = λ files told. elim (finds.absent files told) [
-    | inl same ↦ inl same
-    | inr missing ↦ inr (missing.0, let missed = missing.1 in rw missed refl)
-  ];
-  only = finds.only;
-  caused = λ word e. let cause = finds.caused word cc in (left_at word some more cause.0, cause.1);
-  limits = λ what has most e. left_at what few many (finds.limits what has most cc);
 }
 
 -- what is due may be said in other words, and of words in another order
@@ -85,9 +57,8 @@ told_made view due held (Err (flaw.Contents why)) is makes = is ∙ ap made_of m
 told_made view due held (Err flaw.Memory) is makes = tt
 
 no_fault : {X : Type 0} (made : Result X Flaw) (word : ℕ) → ¬ (from_made made ≡ Err (Fault word))
-no_fault (Ok x) word e = cc
-no_fault (Err (flaw.Contents why)) word e = cc
 no_fault (Err flaw.Memory) word e = cc
+no_fault _ word e = cc
 
 -- what is made of contents passes the limits of these quantities alone
 abbrev pub IsLimited : {A : Type 0} → Result A Bad → List Size → Type 0
@@ -95,9 +66,8 @@ IsLimited held sizes = (what : Size) (has most : ℕ) → held ≡ Err (bad.Limi
 
 limits_made : {X A : Type 0} (view : X → A) (held : Result A Bad) (made : Result X Flaw) (sizes : List Size) → Makes view held made → IsLimited held sizes →
     (what : Size) (has most : ℕ) → from_made made ≡ Err (Contents (bad.Limit what has most)) → IsOneOf what sizes
-limits_made view held (Ok x) sizes makes limited what has most e = cc
 limits_made view held (Err (flaw.Contents why)) sizes makes limited what has most e = let same : why ≡ bad.Limit what has most = cc in limited what has most (makes ∙ ap Err same)
-limits_made view held (Err flaw.Memory) sizes makes limited what has most e = cc
+limits_made view held _ sizes makes limited what has most e = cc
 
 -- a look comes to what is made of what another one gives
 pub finds_made : {X Y A B : Type 0} (view : X → A) (of_read : Y → B) (words : List ℕ) (few sizes : List Size) (look : Names → Look B) (due : Names → Look A) (held : Result A Bad) (read : Y) (made : Result X Flaw) (old new : Outside) →

@@ -36,9 +36,8 @@ within_ok what most read bytes x e = by_size (nat_le (length bytes) most) refl
 
 image_by : (width : Width) (found : Result (List ℕ) AsmFault) (program : Program) → IfOk found (λ words. length words ≤ image_words width) → IfOk found (AreWords (bits width)) → program_result width found ≡ Ok program → HasImage program
 image_by width (Ok words) program short small e = let same : record { width = width; words = words } ≡ program = cc in rw (← same) (record { short = short; words = small })
-image_by width (Err (asm.Bad line why)) program short small e = cc
-image_by width (Err (asm.TooMany line most)) program short small e = cc
 image_by width (Err asm.Memory) program short small e = cc
+image_by width _ program short small e = cc
 
 -- a program that a file holds has words of its width, and no more of them than are allowed
 pub has_image : (file : Option (List ℕ)) (program : Program) → Holds program_in file (Ok program) → HasImage program

@@ -20,9 +20,8 @@ use Rattle.tv_top.proofs.Looking.{IsLimited}
 
 program_result_limited : (width : Width) (found : Result (List ℕ) AsmFault) → IsLimited (program_result width found) (ImageWords ∷ [])
 program_result_limited width (Ok words) what has most e = cc
-program_result_limited width (Err (asm.Bad line why)) what has most e = cc
-program_result_limited width (Err (asm.TooMany line few)) what has most e = inl cc
 program_result_limited width (Err asm.Memory) what has most e = inl cc
+program_result_limited width _ what has most e = inl cc
 
 pub program_limited : (text : List ℕ) → IsLimited (program_of text) (ImageWords ∷ [])
 unfolding program_by
@@ -46,10 +45,8 @@ text_limited w image what has most = by_size (length image % (w / 4) == 0) refl
 
 tape_result_limited : (word : ℕ) (what : Size) (found : Result (List ℕ) TapeFault) → IsLimited (tape_result word what found) (what ∷ [])
 tape_result_limited word what (Ok words) other has most e = cc
-tape_result_limited word what (Err (tape.BadItem at)) other has most e = cc
-tape_result_limited word what (Err (tape.TooBig at)) other has most e = cc
-tape_result_limited word what (Err (tape.TooMany few)) other has most e = inl cc
 tape_result_limited word what (Err tape.Memory) other has most e = inl cc
+tape_result_limited word what _ other has most e = inl cc
 
 pub numbers_limited : (word : ℕ) (what : Size) (below most : ℕ) (text : List ℕ) → IsLimited (numbers_of word what below most text) (what ∷ [])
 unfolding numbers_of

@@ -1,5 +1,5 @@
 -- `trial`: what it promises.
-use Rattle.std.proofs.Common.{◌≡◌, ℕ, ◌+◌, ◌<◌, ◌≤◌, ◌^◌, false, true, ltb, List, [], ◌∷◌, length, All, if◌then◌else◌, count_by, Some, Ok, inl, inr, refl, ap, ◌∙◌, codes, arith}
+use Rattle.std.proofs.Common.{◌≡◌, ℕ, ◌+◌, ◌*◌, ◌<◌, ◌≤◌, ◌^◌, false, true, ltb, List, [], ◌∷◌, length, All, if◌then◌else◌, count_by, Some, Ok, inl, inr, refl, ap, ◌∙◌, codes, arith}
 use Rattle.std.proofs.lemmas.Bool.{eq-eqb, le-ltb}
 use Rattle.std.proofs.lemmas.List.Elements.{All-head, All-tail}
 use Rattle.std.proofs.lemmas.List.Sums.{sum_by-cons}
@@ -7,9 +7,13 @@ use Rattle.tv_benes.specs.declared.shape.Net.TheVariants.{Benes}
 use Rattle.tv_core.specs.Constraints.{Constraint, Holds, value}
 use Rattle.tv_core.specs.Meanings.{holds, product_in}
 use Rattle.tv_core.specs.declared.limits.TheConstants.{DRAWS}
-use Rattle.tv_draw.specs.Drawing.{image_drawn, tape_drawn, aux_drawn}
+use Rattle.tv_draw.proofs.RunLaws.{drawn_is}
+use Rattle.tv_draw.specs.Drawing.{image_drawn, tape_drawn, aux_drawn, IsDrawn}
 use Rattle.tv_files.specs.Outside.{Names, Outside}
 use Rattle.tv_layout.proofs.Systems.{system_complete}
+use Rattle.tv_layout.specs.Places.{WithinLimits}
+use Rattle.tv_step.specs.Machine.{Accepts}
+use Rattle.tv_step.specs.Range.{AreWords}
 use Rattle.tv_word.specs.Numeral.{numeral}
 use Rattle.tv_top.specs.declared.status.Status.{Status}
 use Rattle.tv_top.specs.declared.status.Status.TheVariants.{FileFault}
@@ -19,7 +23,6 @@ use Rattle.tv_top.specs.Form.{form}
 use Rattle.tv_top.specs.Plan.{request_of}
 use Rattle.tv_top.specs.Trialing.{trial_of, trial_plan, IsTrial, Tries, Trials}
 use Rattle.tv_top.proofs.Claiming.{due_or_stopped}
-use Rattle.tv_top.proofs.Drawn.{drawn_answers, drawn_within, tape_words}
 
 pub request_is : (first second : List ℕ) (seed k : ℕ) → numeral 10 (2 ^ 64) first ≡ Some seed → numeral 10 (2 ^ 64) second ≡ Some k → 0 < k → k ≤ DRAWS → request_of (form (codes "trial" ∷ first ∷ second ∷ [])) ≡ Ok (trial_plan seed k)
 request_is first second seed k is_seed is_k some most =
@@ -33,11 +36,19 @@ all_hold z (one ∷ rest) each =
     let here : holds z one ≡ true = eq-eqb (product_in z one) (value one.c z) (All-head (λ constraint. Holds constraint z) one rest each) in
     sum_by-cons (λ constraint. if holds z constraint then 1 else 0) one rest ∙ ap (λ b. (if b then 1 else 0) + count_by (holds z) rest) here ∙ ap (λ n. 1 + n) (all_hold z rest (All-tail (λ constraint. Holds constraint z) one rest each)) ∙ omega arith
 
+-- a drawn program has a system, and its run answers 0
+pub drawn_within : (k : ℕ) (image tape : List ℕ) → k ≤ DRAWS → AreWords 32 image → length image ≡ k * 2 + 2 → length tape ≡ 2 → WithinLimits 32 image (length tape) (k + 1)
+drawn_within k image tape few words many two = record { width = inr refl; words = words; image_fits = omega (arith, many, few); tape_fits = omega (arith, two); some = omega arith; steps_fit = omega (arith, few) }
+
+pub drawn_accepts : (k : ℕ) (image tape aux : List ℕ) → IsDrawn k image tape aux → Accepts 32 image tape aux (k + 1) 0
+drawn_accepts k image tape aux is = (k + 1, omega arith, is.answers)
+
 trial_is : (seed k : ℕ) → k ≤ DRAWS → IsTrial seed k
 unfolding trial_of
 trial_is seed k few =
-    let accepts = drawn_answers seed k few in
-    let fills = system_complete 32 Benes (image_drawn seed k) (tape_drawn seed k) (aux_drawn seed k) (k + 1) 0 (drawn_within seed k few) (tape_words seed k 2) (tape_words seed (k + 2) 8) accepts in
+    let is = drawn_is seed k few in
+    let accepts = drawn_accepts k (image_drawn seed k) (tape_drawn seed k) (aux_drawn seed k) is in
+    let fills = system_complete 32 Benes (image_drawn seed k) (tape_drawn seed k) (aux_drawn seed k) (k + 1) 0 (drawn_within k _ _ few is.image_words is.image_count is.tape_count) is.tape_words is.aux_words accepts in
     record { accepts = accepts; fills = fills; satisfied = all_hold _ _ fills.sat.holds }
 
 -- no file is read or written, so a fault is of saying

@@ -8,7 +8,6 @@ use Rattle.tv_core.specs.declared.limits.TheConstants.{STEPS}
 use Rattle.tv_files.specs.Outside.{Names, Outside}
 use Rattle.tv_layout.proofs.Systems.{system_complete}
 use Rattle.tv_layout.specs.Places.{WithinLimits}
-use Rattle.tv_layout.specs.Systems.{system_of, run_values}
 use Rattle.tv_step.specs.Machine.{Accepts}
 use Rattle.tv_step.specs.declared.end.End.{End}
 use Rattle.tv_step.specs.declared.end.End.TheVariants.{Answer, Undefined, Silent}
@@ -26,7 +25,7 @@ use Rattle.tv_fill.specs.declared.fault.FillFault.TheVariants as fills
 use Rattle.tv_top.specs.Form.{form}
 use Rattle.tv_top.specs.Kinds.{is_witness}
 use Rattle.tv_top.specs.Loading.{inputs_of, run_end, AreInputs, HasInputs}
-use Rattle.tv_top.specs.Plan.{Outcome, request_of}
+use Rattle.tv_top.specs.Plan.{request_of}
 use Rattle.tv_top.specs.Programs.{bits}
 use Rattle.tv_top.specs.Witnessing.{no_run, program_values, witness_by, witness_ends, witness_plan, IsWitness, HasWitness, Witnesses}
 use Rattle.tv_top.proofs.Claiming.{comes, differ_test}
@@ -43,9 +42,8 @@ request_is text tape aux number witness last net t is_net is first second third 
 
 -- it says nothing, or that there is no run
 pub may_end : (net : Net) (t : ℕ) (inputs : Inputs) (end : End) → is_witness (witness_by net t inputs end).finish ≡ true
-may_end net t inputs (Answer v step) = refl
-may_end net t inputs (Undefined op step) = refl
 may_end net t inputs (Silent steps) = refl
+may_end net t inputs _ = refl
 
 -- a run that accepts by v has the outcome of its values
 pub on_answer : (net : Net) (t : ℕ) (inputs : Inputs) (v : ℕ) → Accepts (bits inputs.program.width) inputs.program.words inputs.tape inputs.aux t v →
@@ -80,8 +78,7 @@ filled w net t inputs filling width is =
 pub unfilled : (w : ℕ) (net : Net) (t : ℕ) (inputs : Inputs) (fault : FillFault) → w ≡ bits inputs.program.width → IsUnfilled w inputs.program.words inputs.tape inputs.aux t fault →
     IfSome (no_run fault) (λ finish. witness_ends net t inputs ≡ record { files = []; finish = finish })
 unfilled w net t inputs (fills.NoRun end) width is = let none = rw width at is in on_none net t inputs end none.0 none.1
-unfilled w net t inputs fills.Failed width is = tt
-unfilled w net t inputs fills.Memory width is = tt
+unfilled w net t inputs _ width is = tt
 
 all_witness : (net : Net) (files : Names) (text tape aux : List ℕ) (t : ℕ) (held : Result Inputs Bad) → 0 < t → t ≤ STEPS → HasInputs files text tape aux held →
     IfOk held (λ inputs. (v step : ℕ) → run_end t inputs ≡ Answer v step → IsWitness net t inputs v)

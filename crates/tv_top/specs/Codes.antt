@@ -21,7 +21,7 @@ use Rattle.tv_top.specs.declared.refusal.Trial.{Trial}
 use Rattle.tv_top.specs.declared.status.NotRun.{NotRun}
 use Rattle.tv_top.specs.declared.status.NotRun.TheVariants as not_runs
 use Rattle.tv_top.specs.declared.status.What.{What}
-use Rattle.tv_top.specs.declared.status.What.TheVariants.{ImageWords, ImageBytes, TapeWords, AuxWords, TextBytes, Steps, Draws}
+use Rattle.tv_top.specs.declared.status.What.TheVariants.{ImageWords, ImageBytes, TapeWords, AuxWords, TextBytes, SystemTerms, CombinationTerms, Steps, Draws}
 use Rattle.tv_top.specs.Status.{quantity_what, size_what}
 
 -- how a run ends
@@ -70,6 +70,8 @@ what_text ImageBytes = codes "image bytes"
 what_text TapeWords = codes "tape words"
 what_text AuxWords = codes "aux words"
 what_text TextBytes = codes "text bytes"
+what_text SystemTerms = codes "system terms"
+what_text CombinationTerms = codes "combination terms"
 what_text Steps = codes "steps"
 what_text Draws = codes "draws"
 
@@ -79,7 +81,7 @@ limit_text what has most = codes "limit: " ++ what_text what ++ codes " " ++ dec
 
 -- what words are refused for
 abbrev pub refusal_text : Refusal → List ℕ
-refusal_text refusal.Usage = codes "usage: asm, disasm, run, build, witness, check, extract, trial"
+refusal_text refusal.Usage = codes "usage: asm, disasm, run, build, witness, check, extract, trial, shrink, listing"
 refusal_text (refusal.SameName first second) = codes "same name: words " ++ decimal first ++ codes " and " ++ decimal second
 refusal_text (refusal.Limit what has most) = limit_text (quantity_what what) has most
 

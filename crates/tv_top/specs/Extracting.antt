@@ -63,10 +63,17 @@ abbrev pub not_run_ends : Option Finish → Outcome
 not_run_ends (Some finish) = record { files = []; finish = finish }
 not_run_ends None = record { files = []; finish = finishes.NotARun (WireCount 0 0) }
 
--- what comes of a run: the two tapes' texts, and the answer with its step
+-- what comes of a run, or of there being none
+abbrev pub run_ends : (Run → Outcome) → Result Run ExtractFault → Outcome
+run_ends f (Ok run) = f run
+run_ends f (Err fault) = not_run_ends (not_run fault)
+
+-- a run's two tapes' texts, and the answer with its step
+abbrev pub run_written : Run → Outcome
+run_written run = record { files = Bytes (text_of run.tape) ∷ Bytes (text_of run.aux) ∷ []; finish = finishes.Run (Answer run.answer run.step) }
+
 abbrev pub extract_by : Result Run ExtractFault → Outcome
-extract_by (Ok run) = record { files = Bytes (text_of run.tape) ∷ Bytes (text_of run.aux) ∷ []; finish = finishes.Run (Answer run.answer run.step) }
-extract_by (Err fault) = not_run_ends (not_run fault)
+extract_by found = run_ends run_written found
 
 abbrev pub extract_ends : Net → ℕ → ℕ → Assigned → Outcome
 extract_ends net n t assigned = extract_by (assigned_run net n t assigned)

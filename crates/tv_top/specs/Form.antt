@@ -3,7 +3,7 @@ use Rattle.std.specs.Prelude.{ℕ, ◌^◌, List, [], ◌∷◌, Option, Some, N
 use Rattle.std.specs.Str.{bytes_eq}
 use Rattle.tv_word.specs.Numeral.{numeral}
 use Rattle.tv_top.specs.declared.job.Job.{Job}
-use Rattle.tv_top.specs.declared.job.Job.TheVariants.{Asm, Disasm, Run, Build, Witness, Check, Extract, Trial}
+use Rattle.tv_top.specs.declared.job.Job.TheVariants.{Asm, Disasm, Run, Build, Witness, Check, Extract, Trial, Shrink, Listing}
 use Rattle.tv_top.specs.declared.place.Place.{Place}
 use Rattle.tv_top.specs.declared.place.Write.{Write}
 use Rattle.tv_top.specs.Assembling.{asm_plan}
@@ -12,9 +12,11 @@ use Rattle.tv_top.specs.Checking.{check_plan}
 use Rattle.tv_top.specs.Contents.{Content.{Bytes}}
 use Rattle.tv_top.specs.Disassembling.{width_word, disasm_plan}
 use Rattle.tv_top.specs.Extracting.{extract_plan}
+use Rattle.tv_top.specs.Listing.{by_word, listing_plan}
 use Rattle.tv_top.specs.Plan.{Plan, Named}
 use Rattle.tv_top.specs.Plan as plan
 use Rattle.tv_top.specs.Running.{run_plan}
+use Rattle.tv_top.specs.Shrinking.{shrink_plan}
 use Rattle.tv_top.specs.Trialing.{trial_plan}
 use Rattle.tv_top.specs.Witnessing.{witness_plan}
 
@@ -60,9 +62,18 @@ abbrev pub trial_form : List (List ℕ) → Option Plan
 trial_form (seed ∷ k ∷ []) = with_two trial_plan (numeral 10 (2 ^ 64) seed) (numeral 10 (2 ^ 64) k)
 trial_form _ = None
 
+abbrev pub listing_form : List (List ℕ) → Option Plan
+listing_form (text ∷ n ∷ t ∷ witness ∷ by ∷ out ∷ []) =
+    with_three (λ by n t. listing_plan by text n t witness out) (by_word by) (numeral 10 (2 ^ 64) n) (numeral 10 (2 ^ 64) t)
+listing_form _ = None
+
 abbrev pub check_form : List (List ℕ) → Option Plan
 check_form (system ∷ witness ∷ tape ∷ []) = Some (check_plan system witness tape)
 check_form _ = None
+
+abbrev pub shrink_form : List (List ℕ) → Option Plan
+shrink_form (system ∷ out ∷ []) = Some (shrink_plan system out)
+shrink_form _ = None
 
 -- the plan of these words, where they have the form of a command's
 abbrev pub form : List (List ℕ) → Option Plan
@@ -75,7 +86,9 @@ form (name ∷ words) =
     else (if bytes_eq name (codes "witness") then witness_form words
     else (if bytes_eq name (codes "check") then check_form words
     else (if bytes_eq name (codes "extract") then extract_form words
-    else (if bytes_eq name (codes "trial") then trial_form words else None)))))))
+    else (if bytes_eq name (codes "trial") then trial_form words
+    else (if bytes_eq name (codes "shrink") then shrink_form words
+    else (if bytes_eq name (codes "listing") then listing_form words else None)))))))))
 
 -- the plan of the code's job
 abbrev pub plan_of : Job → Plan
@@ -87,6 +100,8 @@ plan_of (Witness text tape aux t witness net) = witness_plan net text.now tape.n
 plan_of (Check system witness tape) = check_plan system.now witness.now tape.now
 plan_of (Extract text n t witness tape aux net) = extract_plan net text.now n t witness.now tape.now aux.now
 plan_of (Trial seed k) = trial_plan seed k
+plan_of (Shrink system out) = shrink_plan system.now out.now
+plan_of (Listing text n t witness by out) = listing_plan by text.now n t witness.now out.now
 
 -- the code's place of a name, and its file that is to be written
 abbrev pub named : Place → Named

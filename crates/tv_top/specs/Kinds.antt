@@ -25,6 +25,12 @@ is_extract (Run end) = true
 is_extract (NotARun why) = true
 is_extract _ = false
 
+-- nothing is said, or that there is no run
+abbrev pub is_listing : Finish → Bool
+is_listing Quiet = true
+is_listing (NotARun why) = true
+is_listing _ = false
+
 -- it tells a verdict
 abbrev pub is_verdict : Finish → Bool
 is_verdict (Verdict verdict) = true

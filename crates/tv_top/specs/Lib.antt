@@ -19,6 +19,8 @@ pub mod Building
 pub mod Witnessing
 pub mod Extracting
 pub mod Trialing
+pub mod Shrinking
+pub mod Listing
 pub mod Form
 pub mod ComesBack
 pub use Rattle.tv_core.specs.Constraints

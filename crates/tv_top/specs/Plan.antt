@@ -131,8 +131,8 @@ pub record Write : Type 0 where
 
 -- each of these goes under the name of its place
 abbrev pub files_of : List Named → List Content → List Write
-files_of [] contents = []
-files_of (n ∷ ns) [] = []
+files_of names [] = []
+files_of [] (c ∷ cs) = []
 files_of (n ∷ ns) (c ∷ cs) = record { word = n.word; name = n.name; content = c } ∷ files_of ns cs
 
 -- the files that are written: none where a look was refused

@@ -24,7 +24,7 @@ use Rattle.tv_top.specs.declared.status.NoWhy.TheVariants as no
 use Rattle.tv_top.specs.declared.status.Status.{Status}
 use Rattle.tv_top.specs.declared.status.Status.TheVariants.{Done, No, Usage, BadProgram, BadTape, BadSystem, BadWitness, Limit, FileFault, Memory, NoRun, NotARun, SameName, BadImage}
 use Rattle.tv_top.specs.declared.status.What.{What}
-use Rattle.tv_top.specs.declared.status.What.TheVariants.{ImageWords, ImageBytes, TapeWords, AuxWords, TextBytes, Steps, Draws}
+use Rattle.tv_top.specs.declared.status.What.TheVariants.{ImageWords, ImageBytes, TapeWords, AuxWords, TextBytes, SystemTerms, CombinationTerms, Steps, Draws}
 
 -- the exit code
 abbrev pub code_of : Status → ℕ
@@ -56,6 +56,8 @@ size_what size.ImageBytes = ImageBytes
 size_what size.TapeWords = TapeWords
 size_what size.AuxWords = AuxWords
 size_what size.TextBytes = TextBytes
+size_what size.SystemTerms = SystemTerms
+size_what size.CombinationTerms = CombinationTerms
 
 -- what refused words are answered
 abbrev pub refusal_status : Refusal → Status

@@ -1,4 +1,5 @@
-//! `build TEXT N T SYSTEM`, which may have one more word, `waksman`: the system of a program's runs.
+//! `build TEXT N T SYSTEM`, which may have one more word, `waksman`: the system of a program's
+//! runs.
 ghost use Rattle.std.specs.Prelude.{◌≡◌, [], ◌∷◌, map, string_bytes};
 ghost use Rattle.tv_layout.specs.Places.{WithinLimits};
 ghost use Rattle.tv_layout.specs.Systems.{system_of};

@@ -268,32 +268,12 @@ fn names_the_first_file_at_fault(rt: HostRuntime) -> Result<(), Fail> {
 }
 
 #[test]
-fn fails_at_each_call(rt: HostRuntime) -> Result<(), Fail> {
-    let mut words: Vec<u64> = Vec::new(rt.alloc());
-    for number in 1..100 {
-        let mut files = files_of(rt.alloc(), &SYSTEM, &WITNESS, Some("3"))?;
-        files.fail_at(number)?;
-        let Status::FileFault { word } = check(rt.alloc(), &mut files)? else {
-            break;
-        };
-        let said = if word == 4 { "ye" } else { "" };
-        assert_eq!(rt; files.said_bytes(), said.as_bytes(), "call {number}");
-        assert_eq!(rt; files.calls(), number, "no call after call {number}");
-        if words.last() != Some(&word) {
-            words.push(word)?;
-        }
-    }
-    assert_eq!(rt; words.as_slice(), [1, 2, 3, 1, 4].as_slice());
-    Ok(())
-}
-
-#[test]
 fn wants_words(rt: HostRuntime) -> Result<(), Fail> {
     let mut files = MemFiles::new(rt.alloc());
     let status = command(rt.alloc(), &[], &mut files);
     assert_eq!(rt; status, Status::Usage);
     assert_eq!(rt; status.code(), 2);
-    let line = "usage: asm, disasm, run, build, witness, check, extract, trial\n";
+    let line = "usage: asm, disasm, run, build, witness, check, extract, trial, shrink, listing\n";
     assert_eq!(rt; files.said_bytes(), line.as_bytes());
     Ok(())
 }

@@ -13,8 +13,11 @@ ghost use Rattle.tv_top.specs.Checking.{Checks};
 ghost use Rattle.tv_top.specs.Disassembling.{width_word, Disasms};
 ghost use Rattle.tv_top.specs.Extracting.{Extracts};
 ghost use Rattle.tv_top.specs.Form.{form, plan_of};
+ghost use Rattle.tv_listing.specs.declared.row.By.{By};
+ghost use Rattle.tv_top.specs.Listing.{by_word, Lists};
 ghost use Rattle.tv_top.specs.Plan.{refusal_of, request_of};
 ghost use Rattle.tv_top.specs.Running.{Runs};
+ghost use Rattle.tv_top.specs.Shrinking.{Shrinks};
 ghost use Rattle.tv_top.specs.Trialing.{Trials};
 ghost use Rattle.tv_top.specs.Witnessing.{Witnesses};
 
@@ -24,8 +27,10 @@ use crate::checking::check;
 use crate::disassembling::disasm;
 use crate::extracting::extract;
 use crate::job::{Job, job_of};
+use crate::listing::listing;
 use crate::refusal::Ending;
 use crate::running::run;
+use crate::shrinking::shrink;
 use crate::status::Status;
 use crate::trialing::trial;
 use crate::witnessing::witness;
@@ -77,6 +82,15 @@ fn perform<D: Files>(alloc: Global, files: &mut D, words: usize, job: Job<'_>) -
             net,
         } => extract(alloc, files, words, net, text, n, t, witness, tape, aux),
         Job::Trial { seed, k } => trial(alloc, files, words, seed, k),
+        Job::Shrink { system, out } => shrink(alloc, files, words, system, out),
+        Job::Listing {
+            text,
+            n,
+            t,
+            witness,
+            by,
+            out,
+        } => listing(alloc, files, words, by, text, n, t, witness, out),
     }
 }
 
@@ -137,7 +151,22 @@ fn answer<D: Files>(alloc: Global, words: &[String], files: &mut D) -> Status
 /// tests each constraint of their system for K + 1 steps, over Benes' network, on the values of
 /// their run. It is `Done` and tells the steps, the wires and constraints, the sum over the
 /// constraints of the products of the values of their first two combinations, and how many hold,
-/// which all do. It reads and writes no file, and keeps the values of all wires in memory. All
+/// which all do. It reads and writes no file, and keeps the values of all wires in memory.
+///
+/// `shrink SYSTEM OUT` writes the system that is left of a system of at most 4,194,304 terms once
+/// linear constraints were solved for private wires, each for its greatest, and those wires
+/// replaced. An assignment satisfies what OUT then holds exactly where it is one of SYSTEM at the
+/// wires that are kept, which alone extends it; all public wires are kept, with their numbers, and
+/// each wire's label is its old number. `BadSystem` tells the first fault of SYSTEM, and `Limit`
+/// comes where it has more terms, or else for the first combination of more than 128 once it is
+/// made normal. It says nothing where it is `Done`, and takes memory for the system.
+///
+/// `listing TEXT N T WITNESS BY OUT` reads and judges TEXT and WITNESS as `extract` does over
+/// Benes' network, and writes the lines of memory and tapes that the values have, up to the step
+/// that answers: for each its time, its cell, its old and its new word in decimal. BY is `time`, or
+/// `cell` for an order by cell, time, old and new word. The numbers are those of the values, also
+/// where they don't satisfy the system; where they do, the lines are those of the machine's run. It
+/// says nothing where it is `Done`, and takes memory for the values, the lines and their text. All
 /// other words are `Usage`.
 ///
 /// `FileFault` tells the word of the name whose reading or writing failed, as reading does where
@@ -166,20 +195,24 @@ pub fn command<D: Files>(alloc: Global, words: &[String], files: &mut D) -> Stat
         → numeral 10 (2 ^ 64) number ≡ Some steps → 0 < steps → steps ≤ STEPS
         → Told (D.seen files.old) (λ held.
         Runs held text tape aux steps (D.seen files.old) (D.seen files.new) result) }
-    ensures build { (text n_word t_word system : List ℕ) (last : List (List ℕ)) (net : Net) (n t : ℕ)
+    ensures build { (text n_word t_word system : List ℕ) (last : List (List ℕ)) (net : Net)
+        (n t : ℕ)
         → map string_bytes words.now ≡ codes "build" ∷ text ∷ n_word ∷ t_word ∷ system ∷ last
         → net_word last ≡ Some net → numeral 10 (2 ^ 64) n_word ≡ Some n
         → numeral 10 (2 ^ 64) t_word ≡ Some t → text ≢ system → n ≤ TAPE_WORDS → 0 < t → t ≤ STEPS
         → Told (D.seen files.old) (λ held.
         Builds net held text n t system (D.seen files.old) (D.seen files.new) result) }
-    ensures witness { (text tape aux number name : List ℕ) (last : List (List ℕ)) (net : Net) (t : ℕ)
+    ensures witness { (text tape aux number name : List ℕ) (last : List (List ℕ)) (net : Net)
+        (t : ℕ)
         → map string_bytes words.now ≡ codes "witness" ∷ text ∷ tape ∷ aux ∷ number ∷ name ∷ last
         → net_word last ≡ Some net → numeral 10 (2 ^ 64) number ≡ Some t
         → text ≢ name → tape ≢ name → aux ≢ name → 0 < t → t ≤ STEPS
         → Told (D.seen files.old) (λ held.
         Witnesses net held text tape aux t name (D.seen files.old) (D.seen files.new) result) }
-    ensures extract { (text first second witness tape aux : List ℕ) (last : List (List ℕ)) (net : Net) (n t : ℕ)
-        → map string_bytes words.now ≡ codes "extract" ∷ text ∷ first ∷ second ∷ witness ∷ tape ∷ aux ∷ last
+    ensures extract { (text first second witness tape aux : List ℕ) (last : List (List ℕ))
+        (net : Net) (n t : ℕ)
+        → map string_bytes words.now ≡ codes "extract" ∷ text ∷ first ∷ second ∷ witness ∷ tape
+        ∷ aux ∷ last
         → net_word last ≡ Some net → numeral 10 (2 ^ 64) first ≡ Some n
         → numeral 10 (2 ^ 64) second ≡ Some t → text ≢ tape → text ≢ aux → witness ≢ tape
         → witness ≢ aux → tape ≢ aux → n ≤ TAPE_WORDS → 0 < t → t ≤ STEPS
@@ -190,6 +223,18 @@ pub fn command<D: Files>(alloc: Global, words: &[String], files: &mut D) -> Stat
         → numeral 10 (2 ^ 64) first ≡ Some seed → numeral 10 (2 ^ 64) second ≡ Some k
         → 0 < k → k ≤ DRAWS → Told (D.seen files.old) (λ _.
         Trials (length words.now) seed k (D.seen files.old) (D.seen files.new) result) }
+    ensures shrink { (system out : List ℕ)
+        → map string_bytes words.now ≡ codes "shrink" ∷ system ∷ out ∷ [] → system ≢ out
+        → Told (D.seen files.old) (λ held.
+        Shrinks held system out (D.seen files.old) (D.seen files.new) result) }
+    ensures listing { (text first second witness order out : List ℕ) (by : By) (n t : ℕ)
+        → map string_bytes words.now ≡ codes "listing" ∷ text ∷ first ∷ second ∷ witness ∷ order
+        ∷ out ∷ []
+        → by_word order ≡ Some by → numeral 10 (2 ^ 64) first ≡ Some n
+        → numeral 10 (2 ^ 64) second ≡ Some t → text ≢ out → witness ≢ out
+        → n ≤ TAPE_WORDS → 0 < t → t ≤ STEPS
+        → Told (D.seen files.old) (λ held. Lists by held text n t witness out
+        (D.seen files.old) (D.seen files.new) result) }
 {
     answer(alloc, words, files)
 }

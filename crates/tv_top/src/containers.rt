@@ -3,7 +3,7 @@ ghost use Rattle.std.specs.Prelude.{◌≡◌, [], ◌∷◌};
 ghost use Rattle.tv_check.specs.Verdict.{verdict_of};
 ghost use Rattle.tv_r1cs_read.specs.Survey.{survey_of};
 ghost use Rattle.tv_top.specs.Checking.{check_again};
-ghost use Rattle.tv_top.specs.Containers.{refusal_stop, container_result, system_bad, witness_bad};
+ghost use Rattle.tv_top.specs.Containers.{stop_of, container_result, system_bad, witness_bad};
 ghost use Rattle.tv_top.specs.Containers.{witness_in};
 ghost use Rattle.tv_top.specs.Finds.{Finds};
 ghost use Rattle.tv_top.specs.Plan.{input};
@@ -17,25 +17,27 @@ use tv_files::Files;
 use tv_r1cs_read::survey;
 use tv_wtns::read_values;
 
-/// What a refused reading of the system is, whose name stands at word 1.
-fn system_stop(refusal: ReadRefusal) -> Stop
-    ensures { result ≡ refusal_stop 1 system_bad refusal }
+/// What reading the system came to, whose name stands at word 1, as what a look at files comes to.
+fn system_read<X: Drop>(read: Result<X, ReadRefusal>) -> Result<X, Stop>
+    ensures { result ≡ stop_of 1 system_bad read }
 {
-    match refusal {
-        ReadRefusal::Bad { at, why } => Stop::Contents(Bad::System { at, why }),
-        ReadRefusal::Fault => Stop::Fault { word: 1 },
-        ReadRefusal::Memory => Stop::Memory,
+    match read {
+        Ok(x) => Ok(x),
+        Err(ReadRefusal::Bad { at, why }) => Err(Stop::Contents(Bad::System { at, why })),
+        Err(ReadRefusal::Fault) => Err(Stop::Fault { word: 1 }),
+        Err(ReadRefusal::Memory) => Err(Stop::Memory),
     }
 }
 
-/// What a refused reading of the witness is, whose name stands at this word.
-fn witness_stop(word: u32, refusal: ReadRefusal) -> Stop
-    ensures { result ≡ refusal_stop word witness_bad refusal }
+/// What reading the witness came to, whose name stands at this word.
+fn witness_read<X: Drop>(word: u32, read: Result<X, ReadRefusal>) -> Result<X, Stop>
+    ensures { result ≡ stop_of word witness_bad read }
 {
-    match refusal {
-        ReadRefusal::Bad { at, why } => Stop::Contents(Bad::Witness { at, why }),
-        ReadRefusal::Fault => Stop::Fault { word },
-        ReadRefusal::Memory => Stop::Memory,
+    match read {
+        Ok(x) => Ok(x),
+        Err(ReadRefusal::Bad { at, why }) => Err(Stop::Contents(Bad::Witness { at, why })),
+        Err(ReadRefusal::Fault) => Err(Stop::Fault { word }),
+        Err(ReadRefusal::Memory) => Err(Stop::Memory),
     }
 }
 
@@ -49,10 +51,7 @@ pub(crate) fn survey_system<D: Files>(
         (input 1 (λ file. container_result system_bad (survey_of file)) name.now)
         (D.seen files.old) (D.seen files.new) result }
 {
-    match survey(alloc, files, name) {
-        Ok(counts) => Ok(counts),
-        Err(refusal) => Err(system_stop(refusal)),
-    }
+    system_read(survey(alloc, files, name))
 }
 
 /// The assignment of the witness, whose name stands at this word.
@@ -65,10 +64,7 @@ pub(crate) fn read_witness<D: Files>(
     ensures { Finds (λ v. v.items) (word ∷ []) [] (input word witness_in name.now)
         (D.seen files.old) (D.seen files.new) result }
 {
-    match read_values(alloc, files, name) {
-        Ok(values) => Ok(values),
-        Err(refusal) => Err(witness_stop(word, refusal)),
-    }
+    witness_read(word, read_values(alloc, files, name))
 }
 
 /// The verdict by the system, whose name stands at word 1, after the other files were read.
@@ -82,8 +78,5 @@ pub(crate) fn judge_system<D: Files>(
     ensures { Finds (λ verdict. verdict) (1 ∷ []) [] (check_again name.now values.now publics.now)
         (D.seen files.old) (D.seen files.new) result }
 {
-    match check(alloc, files, name, values, publics) {
-        Ok(verdict) => Ok(verdict),
-        Err(refusal) => Err(system_stop(refusal)),
-    }
+    system_read(check(alloc, files, name, values, publics))
 }

@@ -54,7 +54,7 @@ fn assigned_with<D: Files>(
 
 /// The program whose name stands at word 1, and the assignment at word 4.
 #[tactic(auto, unfolding(crate::specs::Extracting::assigned_of))]
-fn read_assigned<D: Files>(
+pub(crate) fn read_assigned<D: Files>(
     alloc: Global,
     files: &mut D,
     text: &str,
@@ -71,7 +71,7 @@ fn read_assigned<D: Files>(
 
 /// The run that an assignment has.
 #[tactic(auto, unfolding(crate::specs::Extracting::assigned_run))]
-fn run_of(
+pub(crate) fn run_of(
     alloc: Global,
     assigned: &Assignment,
     n: u32,
@@ -146,7 +146,7 @@ fn write_run<'a, D: Files>(
 }
 
 /// The end where an assignment has no run, unless memory was wanting.
-fn not_run(fault: ExtractFault) -> Option<Finish>
+pub(crate) fn not_run(fault: ExtractFault) -> Option<Finish>
     ensures { result ≡ not_run fault }
 {
     let why = match fault {

@@ -1,8 +1,11 @@
 //! What words ask for.
-ghost use Rattle.std.specs.Prelude.{◌≡◌, map, string_bytes, Ok, Err, IfOk, MatchResult, MatchOption};
+ghost use Rattle.std.specs.Prelude.{◌≡◌, map, string_bytes, Ok, Err, IfOk, MatchResult};
+ghost use Rattle.std.specs.Prelude.{MatchOption};
 ghost use Rattle.std.specs.Prelude.{Some, None};
-ghost use Rattle.tv_top.specs.Form.{form, asm_form, disasm_form, run_form, build_form, check_form, plan_of};
-ghost use Rattle.tv_top.specs.Form.{extract_form, trial_form, witness_form};
+ghost use Rattle.tv_top.specs.Form.{form, asm_form, disasm_form, run_form, build_form, check_form};
+ghost use Rattle.tv_top.specs.Form.{plan_of};
+ghost use Rattle.tv_top.specs.Form.{extract_form, listing_form, shrink_form, trial_form};
+ghost use Rattle.tv_top.specs.Form.{witness_form};
 ghost use Rattle.tv_top.specs.Plan.{request_of, refusal_of};
 
 use crate::assembling::asm_refusal;
@@ -10,12 +13,15 @@ use crate::building::{build_refusal, net_word};
 use crate::checking::check_refusal;
 use crate::disassembling::{disasm_refusal, width_word};
 use crate::extracting::extract_refusal;
+use crate::listing::{by_word, listing_refusal};
 use crate::programs::Width;
 use crate::refusal::Refusal;
 use crate::running::run_refusal;
+use crate::shrinking::shrink_refusal;
 use crate::trialing::trial_refusal;
 use crate::witnessing::witness_refusal;
 use tv_benes::Net;
+use tv_listing::By;
 use tv_word::decimal_of;
 
 /// A command with its words.
@@ -76,6 +82,20 @@ pub(crate) enum Job<'a> {
     Trial {
         seed: u64,
         k: u64,
+    },
+    /// A system with fewer private wires and the same solutions.
+    Shrink {
+        system: &'a str,
+        out: &'a str,
+    },
+    /// The lines that an assignment of a program's system has.
+    Listing {
+        text: &'a str,
+        n: u64,
+        t: u64,
+        witness: &'a str,
+        by: By,
+        out: &'a str,
     },
 }
 
@@ -207,6 +227,38 @@ fn trial_job(words: &[String]) -> Option<Job<'_>>
     })
 }
 
+/// `shrink` by the words behind its name.
+fn shrink_job(words: &[String]) -> Option<Job<'_>>
+    ensures { MatchOption result (shrink_form (map string_bytes words.now) ≡ None)
+        (λ job. shrink_form (map string_bytes words.now) ≡ Some (plan_of job)) }
+{
+    let [system, out] = words else {
+        return None;
+    };
+    Some(Job::Shrink {
+        system: system.as_str(),
+        out: out.as_str(),
+    })
+}
+
+/// `listing` by the words behind its name.
+fn listing_job(words: &[String]) -> Option<Job<'_>>
+    ensures { MatchOption result (listing_form (map string_bytes words.now) ≡ None)
+        (λ job. listing_form (map string_bytes words.now) ≡ Some (plan_of job)) }
+{
+    let [text, n, t, witness, by, out] = words else {
+        return None;
+    };
+    Some(Job::Listing {
+        by: by_word(by.as_str())?,
+        n: decimal_of(n.as_bytes())?,
+        t: decimal_of(t.as_bytes())?,
+        text: text.as_str(),
+        witness: witness.as_str(),
+        out: out.as_str(),
+    })
+}
+
 /// The job whose form the words have; it may still be refused.
 fn form_of(words: &[String]) -> Option<Job<'_>>
     ensures { MatchOption result (form (map string_bytes words.now) ≡ None)
@@ -224,6 +276,8 @@ fn form_of(words: &[String]) -> Option<Job<'_>>
         "check" => check_job(rest),
         "extract" => extract_job(rest),
         "trial" => trial_job(rest),
+        "shrink" => shrink_job(rest),
+        "listing" => listing_job(rest),
         _ => None,
     }
 }
@@ -272,6 +326,15 @@ fn job_refusal(job: Job<'_>) -> Option<Refusal>
             net,
         } => extract_refusal(net, text, n, t, witness, tape, aux),
         Job::Trial { seed, k } => trial_refusal(seed, k),
+        Job::Shrink { system, out } => shrink_refusal(system, out),
+        Job::Listing {
+            text,
+            n,
+            t,
+            witness,
+            by,
+            out,
+        } => listing_refusal(by, text, n, t, witness, out),
     }
 }
 

@@ -5,8 +5,6 @@
 mod assembling;
 mod building;
 #[cfg(test)]
-mod call_tests;
-#[cfg(test)]
 mod check_tests;
 mod checking;
 mod commands;
@@ -18,6 +16,7 @@ mod job;
 mod law;
 mod limits;
 mod line;
+mod listing;
 mod loading;
 mod place;
 #[cfg(test)]
@@ -28,6 +27,7 @@ mod refusal;
 #[cfg(test)]
 mod run_tests;
 mod running;
+mod shrinking;
 mod status;
 mod tapes;
 mod trialing;

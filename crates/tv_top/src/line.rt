@@ -2,7 +2,8 @@
 ghost use Rattle.std.specs.Prelude.{◌≡◌, ◌+◌, ◌<◌, ◌≤◌, ◌++◌, length, codes, decimal, IfSome};
 ghost use Rattle.arrayvec.specs.ArrayString.{array_string_len};
 ghost use Rattle.tv_top.specs.Codes.{Reads, line, says, end_text, verdict_text, asm_text};
-ghost use Rattle.tv_top.specs.Codes.{not_run_text, read_text, limit_text, refusal_text, bad_text, trial_text, finish_text};
+ghost use Rattle.tv_top.specs.Codes.{not_run_text, read_text, limit_text, refusal_text, bad_text};
+ghost use Rattle.tv_top.specs.Codes.{trial_text, finish_text};
 
 use crate::reasons::{Line, MOST, push_asm, push_number, push_read, what_name};
 use crate::refusal::{Bad, Ending, Finish, Refusal, Stop, Trial};
@@ -13,7 +14,8 @@ use tv_container::ReadWhy;
 use tv_step::End;
 
 /// What is said of words that are no command's.
-const USAGE: &str = "usage: asm, disasm, run, build, witness, check, extract, trial";
+const USAGE: &str =
+    "usage: asm, disasm, run, build, witness, check, extract, trial, shrink, listing";
 
 /// A line of this text.
 fn text_line(text: &str) -> Line

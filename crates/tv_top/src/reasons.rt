@@ -101,6 +101,8 @@ pub(crate) fn what_name(what: What) -> &'static str
         What::TapeWords => "tape words",
         What::AuxWords => "aux words",
         What::TextBytes => "text bytes",
+        What::SystemTerms => "system terms",
+        What::CombinationTerms => "combination terms",
         What::Steps => "steps",
         What::Draws => "draws",
     }

@@ -32,6 +32,10 @@ pub enum Size {
     AuxWords,
     /// The bytes of a program text or of a tape.
     TextBytes,
+    /// The terms of a system.
+    SystemTerms,
+    /// The terms of one combination of a system, made normal.
+    CombinationTerms,
 }
 
 /// What words are refused for, before any file is looked at.
@@ -98,8 +102,8 @@ pub struct Trial {
     pub wires: u32,
     /// How many constraints the system has.
     pub constraints: u32,
-    /// The sum, over the constraints, of the products of the values of their first two combinations,
-    /// modulo the prime.
+    /// The sum, over the constraints, of the products of the values of their first two
+    /// combinations, modulo the prime.
     pub sum: u64,
     /// How many constraints hold.
     pub satisfied: u32,

@@ -14,7 +14,7 @@ const THREE_READS: &str = "read r1, 0\nread r2, 0\nread r3, 2\nanswer r1";
 const WRAPS: &str = "cjmp 17\njmp 4294967288\nanswer 0";
 
 const STORES: &str =
-    "mov r1,0x11223344\nmov r2,0xab\nstore.w 65536,r1\nstore.b 65537,r2\nload.w r3,65539\nanswer r3";
+    "mov r1,0x11223344\nmov r2,171\nstore.w 65536,r1\nstore.b 65537,r2\nload.w r3,65539\nanswer r3";
 
 // A store to the last word of memory, and bytes on both sides of a page's end.
 const STORES_AT_THE_TOP: &str =
@@ -118,7 +118,8 @@ fn says_how_runs_end(rt: HostRuntime) -> Result<(), Fail> {
     Ok(())
 }
 
-const USAGE: &str = "usage: asm, disasm, run, build, witness, check, extract, trial\n";
+const USAGE: &str =
+    "usage: asm, disasm, run, build, witness, check, extract, trial, shrink, listing\n";
 
 // What is no run, and how many file calls are made.
 const REFUSED: [(Case<'static>, u64); 12] = [

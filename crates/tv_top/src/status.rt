@@ -46,6 +46,10 @@ pub enum What {
     AuxWords,
     /// The bytes of a program text or of a tape.
     TextBytes,
+    /// The terms of a system.
+    SystemTerms,
+    /// The terms of one combination of a system, made normal.
+    CombinationTerms,
     /// The steps of a run.
     Steps,
     /// The instructions that a trial draws.
@@ -137,6 +141,8 @@ impl From<Size> for What {
             Size::TapeWords => What::TapeWords,
             Size::AuxWords => What::AuxWords,
             Size::TextBytes => What::TextBytes,
+            Size::SystemTerms => What::SystemTerms,
+            Size::CombinationTerms => What::CombinationTerms,
         }
     }
 }

@@ -3,7 +3,9 @@ use Rattle.tv_top.proofs.BuildingClaim as build
 use Rattle.tv_top.proofs.CheckingClaim as check
 use Rattle.tv_top.proofs.DisassemblingClaim as disasm
 use Rattle.tv_top.proofs.ExtractingClaim as extract
+use Rattle.tv_top.proofs.ListingClaim as listing
 use Rattle.tv_top.proofs.RunningClaim as run
+use Rattle.tv_top.proofs.ShrinkingClaim as shrink
 use Rattle.tv_top.proofs.TrialingClaim as trial
 use Rattle.tv_top.proofs.WitnessingClaim as witness
 use Rattle.tv_top.proofs.commands.command.Goals as goal
@@ -23,4 +25,7 @@ returns g c = record {
       extract.extracts _ net files text n t witness tape aux _ _ _ few some most told (rw (are, extract.request_is text first second witness tape aux last net n t is_net is_n is_t a b c_ d e few some most) at c.answer.ensures);
   trial = λ first second seed k are is_seed is_k some most files told.
       trial.trials _ seed k files _ _ _ most told (rw (are, trial.request_is first second seed k is_seed is_k some most) at c.answer.ensures);
+  shrink = λ system out are differ files told. shrink.shrinks _ files system out _ _ _ told (rw (are, shrink.request_is system out differ) at c.answer.ensures);
+  listing = λ text first second witness order out by n t are is_by is_n is_t a b few some most files told.
+      listing.lists _ by files text n t witness out _ _ _ few some most told (rw (are, listing.request_is text first second witness order out by n t is_by is_n is_t a b few some most) at c.answer.ensures);
 }

@@ -1,5 +1,6 @@
 use Rattle.tv_top.specs.Building.{build_plan}
 use Rattle.tv_top.specs.Extracting.{extract_plan}
+use Rattle.tv_top.specs.Listing.{listing_plan}
 use Rattle.tv_top.specs.Trialing.{trial_plan}
 use Rattle.tv_top.specs.Witnessing.{witness_plan}
 use Rattle.tv_top.proofs.ProgramLaws.{amounts_within}
@@ -19,6 +20,11 @@ pub extract-requires : goal.extract-requires
 extract-requires g c =
     let plan = extract_plan c.in-Extract.net c.in-Extract.text.now c.in-Extract.n c.in-Extract.t c.in-Extract.witness.now c.in-Extract.tape.now c.in-Extract.aux.now in
     amounts_within plan.reads plan.writes plan.amounts (rw c.in-Extract.is at c.requires)
+
+pub listing-requires : goal.listing-requires
+listing-requires g c =
+    let plan = listing_plan c.in-Listing.by c.in-Listing.text.now c.in-Listing.n c.in-Listing.t c.in-Listing.witness.now c.in-Listing.out.now in
+    amounts_within plan.reads plan.writes plan.amounts (rw c.in-Listing.is at c.requires)
 
 pub trial-requires : goal.trial-requires
 trial-requires g c =

@@ -2,7 +2,7 @@ use Rattle.std.proofs.Common.{refl, arith}
 use Rattle.tv_core.specs.declared.field.TheConstants.{P}
 use Rattle.tv_core.specs.declared.limits.TheConstants.{CHECK_WORDS}
 use Rattle.tv_top.specs.Tapes.{numbers_of}
-use Rattle.tv_top.proofs.Narrowing.{residues_same}
+use Rattle.tv_tape.proofs.Narrowing.{residues_same}
 use Rattle.tv_top.proofs.tapes.publics_of.Goals as goal
 
 pub returns-in_ok-residues-in-Ok : goal.returns-in_ok-residues-in-Ok

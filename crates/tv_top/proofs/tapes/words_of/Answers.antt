@@ -1,6 +1,6 @@
 use Rattle.std.proofs.Common.{◌^◌, refl}
 use Rattle.tv_top.specs.Tapes.{numbers_of}
-use Rattle.tv_top.proofs.Narrowing.{numbers_below, numbers_few, residues_same}
+use Rattle.tv_tape.proofs.Narrowing.{numbers_below, numbers_few, residues_same}
 use Rattle.tv_top.proofs.tapes.words_of.Goals as goal
 
 pub returns-in_ok-words_from-in-Ok : goal.returns-in_ok-words_from-in-Ok

@@ -1,4 +1,4 @@
-use Rattle.std.proofs.Common.{◌≡◌, ℕ, ◌+◌, ◌%◌, List, [], sum_by, count_by, ap, ◌∙◌}
+use Rattle.std.proofs.Common.{◌≡◌, ℕ, ◌+◌, ◌%◌, List, [], sum_by, count_by, refl, ap, ◌∙◌}
 use Rattle.tv_core.specs.Constraints.{System}
 use Rattle.tv_core.specs.Meanings.{Tested, IsTested, product_in, holds}
 use Rattle.tv_core.specs.declared.field.TheConstants.{P}
@@ -21,12 +21,7 @@ told t z system counts sink sum held counted same is sums holding =
 
 pub returns : goal.returns
 returns c =
-    let begun : IsTested c.over-tests.result [] = record {
-      tested = ap (λ (s : Tested). s.tested) c.over-tests.ensures;
-      held = ap (λ (s : Tested). s.held) c.over-tests.ensures;
-      first_failed = ap (λ (s : Tested). s.first_failed) c.over-tests.ensures;
-      sum = ap (λ (s : Tested). s.sum) c.over-tests.ensures;
-    } in
+    let begun : IsTested c.over-tests.result [] = rw c.over-tests.ensures (record { tested = refl; held = refl; first_failed = refl; sum = refl }) in
     let wires : c.over-tests.result.wires ≡ 2 + c.args.n = ap (λ (s : Tested). s.wires) c.over-tests.ensures in
     let puts = c.in-Ok.ensures.puts in
     told c.args.t c.args.z.now _ c.sizes-counts.result c.emit_system.new.s _ _ c.sizes-counts.ensures.counts

@@ -1,13 +1,14 @@
-use Rattle.std.proofs.Common.{◌∙◌}
-use Rattle.tv_top.proofs.Drawn.{drawn_answers, aux_few}
+use Rattle.std.proofs.Common.{arith}
+use Rattle.tv_top.proofs.TrialingClaim.{drawn_within, drawn_accepts}
 use Rattle.tv_top.proofs.trialing.trial_of.Goals as goal
 
-pub values_of-requires-clause-aux_few : goal.values_of-requires-clause-aux_few
-values_of-requires-clause-aux_few c = let aux = c.as_slice.ensures ∙ c.in_ok-drawn.ensures.aux in rw aux (aux_few c.args.seed c.args.k)
-
-pub values_of-requires-clause-accepts : goal.values_of-requires-clause-accepts
-values_of-requires-clause-accepts c =
-    let image = c.as_slice-image.ensures ∙ c.in_ok-drawn.ensures.image in
-    let tape = c.as_slice-tape.ensures ∙ c.in_ok-drawn.ensures.tape in
-    let aux = c.as_slice.ensures ∙ c.in_ok-drawn.ensures.aux in
-    rw (image, tape, aux) (drawn_answers c.args.seed c.args.k c.requires)
+pub values_of-requires : goal.values_of-requires
+values_of-requires c =
+    let is = rw (← c.as_slice-image.ensures, ← c.as_slice-tape.ensures, ← c.as_slice.ensures) at c.in_ok-drawn.ensures.run in
+    record {
+      limits = drawn_within c.args.k _ _ c.requires is.image_words is.image_count is.tape_count;
+      tape = is.tape_words;
+      aux = is.aux_words;
+      aux_few = let count = is.aux_count in rw count (omega arith);
+      accepts = drawn_accepts c.args.k _ _ _ is;
+    }

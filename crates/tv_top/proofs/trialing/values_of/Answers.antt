@@ -3,7 +3,7 @@ use Rattle.tv_benes.specs.declared.shape.Net.TheVariants.{Benes}
 use Rattle.tv_core.specs.Meanings.{Kept, kept_giving}
 use Rattle.tv_fill.specs.Filled.{FillsIn}
 use Rattle.tv_fill.specs.declared.fault.FillFault.{FillFault}
-use Rattle.tv_fill.specs.declared.fault.FillFault.TheVariants.{NoRun, Failed, Memory}
+use Rattle.tv_fill.specs.declared.fault.FillFault.TheVariants.{NoRun}
 use Rattle.tv_layout.specs.Systems.{run_values}
 use Rattle.tv_step.specs.Machine.{Accepts}
 use Rattle.tv_step.specs.declared.end.End.{End}
@@ -19,8 +19,7 @@ one_answer image x aux t u v one other =
 -- and one that answers isn't told to be none
 runs : (image x aux : List ℕ) (t : ℕ) (old new : Kept) (fault : FillFault) (end : End) → Accepts 32 image x aux t 0 → fault ≡ NoRun end → FillsIn kept_giving 32 Benes image x aux t old new (Err fault) → ⊥
 runs image x aux t old new (NoRun other) end accepts is fills = fills.0.1 0 accepts
-runs image x aux t old new Failed end accepts is fills = cc
-runs image x aux t old new Memory end accepts is fills = cc
+runs image x aux t old new _ end accepts is fills = cc
 
 pub unreachable-requires : goal.unreachable-requires
 unreachable-requires c =

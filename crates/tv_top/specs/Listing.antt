@@ -1,0 +1,61 @@
+-- `listing TEXT N T WITNESS BY OUT`: the lines of memory and tapes that an assignment of a program's system has.
+use Rattle.std.specs.Prelude.{ℕ, codes, List, [], ◌∷◌, Option, Some, None, Result, IfOk, if◌then◌else◌}
+use Rattle.std.specs.Str.{bytes_eq}
+use Rattle.tv_benes.specs.declared.shape.Net.TheVariants.{Benes}
+use Rattle.tv_core.specs.Constraints.{Sat}
+use Rattle.tv_extract.specs.declared.run.Run.{Run}
+use Rattle.tv_files.specs.Outside.{Names, Outside}
+use Rattle.tv_listing.specs.Laws.{HasListing}
+use Rattle.tv_listing.specs.Listing.{assigned_lines, text_by}
+use Rattle.tv_listing.specs.declared.row.By.{By}
+use Rattle.tv_listing.specs.declared.row.By.TheVariants.{Time, Cell}
+use Rattle.tv_top.specs.declared.refusal.Bad.{Bad}
+use Rattle.tv_top.specs.declared.refusal.Finish.TheVariants.{Quiet}
+use Rattle.tv_top.specs.declared.status.Status.{Status}
+use Rattle.tv_top.specs.Building.{program_system, size_amounts}
+use Rattle.tv_top.specs.Claims.{Comes}
+use Rattle.tv_top.specs.Contents.{Content.{Bytes}}
+use Rattle.tv_top.specs.Extracting.{Assigned, assigned_of, assigned_run, run_ends, HasAssigned}
+use Rattle.tv_top.specs.Kinds.{is_listing}
+use Rattle.tv_top.specs.Plan.{Named, Plan, Outcome, comes_by}
+use Rattle.tv_top.specs.Programs.{bits, program_sizes}
+
+-- the order that a word tells
+abbrev pub by_word : List ℕ → Option By
+by_word word = if bytes_eq word (codes "time") then Some Time else (if bytes_eq word (codes "cell") then Some Cell else None)
+
+-- the text of the lines of an assignment up to a step
+unfoldable pub assigned_text : By → ℕ → ℕ → ℕ → Assigned → List ℕ
+assigned_text by n t step assigned = text_by by (assigned_lines (bits assigned.program.width) assigned.program.words n t step assigned.z)
+
+-- what comes of a run of an assignment: the lines up to the step that answers
+abbrev pub lines_written : By → ℕ → ℕ → Assigned → Run → Outcome
+lines_written by n t assigned run = record { files = Bytes (assigned_text by n t run.step assigned) ∷ []; finish = Quiet }
+
+abbrev pub listing_ends : By → ℕ → ℕ → Assigned → Outcome
+listing_ends by n t assigned = run_ends (lines_written by n t assigned) (assigned_run Benes n t assigned)
+
+abbrev pub listing_writes : List ℕ → List Named
+listing_writes out = record { word = 6; name = out } ∷ []
+
+abbrev pub listing_plan : By → List ℕ → ℕ → ℕ → List ℕ → List ℕ → Plan
+listing_plan by text n t witness out = record {
+  reads = record { word = 1; name = text } ∷ record { word = 4; name = witness } ∷ [];
+  writes = listing_writes out;
+  amounts = size_amounts n t;
+  sizes = program_sizes;
+  ends_by = is_listing;
+  comes = λ files. comes_by (listing_ends by n t) (assigned_of text witness files);
+}
+
+-- The two files hold what those of `extract` do. And an assignment that satisfies the program's system has a run, of
+-- which its lines are: boot lines, and the lines of the machine's steps on the run's tapes. So its listing is, byte for
+-- byte, that of the run's trace.
+pub record HasListed (files : Names) (text : List ℕ) (n t : ℕ) (witness : List ℕ) (held : Result Assigned Bad) : Type 0 where
+  pub assigned : HasAssigned Benes files text n t witness held
+  pub satisfying : IfOk held (λ assigned. Sat (program_system Benes n t assigned.program) assigned.z → HasListing (bits assigned.program.width) Benes assigned.program.words n t assigned.z)
+
+-- What `listing` promises over files that told their contents, OUT being none of the other names and N and T within
+-- their limits.
+abbrev pub Lists : By → Names → List ℕ → ℕ → ℕ → List ℕ → List ℕ → Outside → Outside → Status → Type 0
+Lists by files text n t witness out = Comes (listing_writes out) (listing_ends by n t) (HasListed files text n t witness) files

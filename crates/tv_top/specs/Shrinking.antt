@@ -1,0 +1,92 @@
+-- `shrink SYSTEM OUT`: a system with fewer private wires and the same solutions.
+use Rattle.std.specs.Prelude.{◌≡◌, ◌↔◌, ℕ, ◌+◌, nat_lt, List, [], ◌∷◌, take, Option, Some, None, Result, Ok, Err, IfOk, if◌then◌else◌}
+use Rattle.std.specs.List.{range_with_len}
+use Rattle.tv_core.specs.Constraints.{System, Sat}
+use Rattle.tv_files.specs.Outside.{Names, Outside}
+use Rattle.tv_shrink.specs.Answers.{most, all_terms, first_wide}
+use Rattle.tv_shrink.specs.Shrinking.{Shrunken, shrink, at_wires}
+use Rattle.tv_shrink.specs.declared.fault.ShrinkFault.{ShrinkFault}
+use Rattle.tv_shrink.specs.declared.fault.ShrinkFault.TheVariants as fault
+use Rattle.tv_top.specs.declared.refusal.Bad.{Bad}
+use Rattle.tv_top.specs.declared.refusal.Bad.TheVariants as bad
+use Rattle.tv_top.specs.declared.refusal.Finish.TheVariants.{Quiet}
+use Rattle.tv_top.specs.declared.refusal.Size.{Size}
+use Rattle.tv_top.specs.declared.refusal.Size.TheVariants.{SystemTerms, CombinationTerms}
+use Rattle.tv_top.specs.declared.refusal.Stop.{Stop}
+use Rattle.tv_top.specs.declared.refusal.Stop.TheVariants as stop
+use Rattle.tv_top.specs.declared.status.Status.{Status}
+use Rattle.tv_top.specs.Claims.{Holds, Then, Comes}
+use Rattle.tv_top.specs.Containers.{system_in}
+use Rattle.tv_top.specs.Contents.{Content.{Rest}}
+use Rattle.tv_top.specs.Kinds.{is_quiet}
+use Rattle.tv_top.specs.Plan.{Named, Plan, Outcome, input, comes_by}
+
+-- the limits of a system's terms, and of the terms of one combination
+abbrev pub terms_bad : ℕ → Bad
+terms_bad has = bad.Limit SystemTerms has most
+
+abbrev pub wide_bad : ℕ → Bad
+wide_bad has = bad.Limit CombinationTerms has 128
+
+-- what a refusal is of shrinking the system at word 1
+abbrev pub shrink_stop : ShrinkFault → Stop
+shrink_stop (fault.Bad at why) = stop.Contents (bad.System at why)
+shrink_stop (fault.Terms has) = stop.Contents (terms_bad has)
+shrink_stop (fault.Combination has) = stop.Contents (wide_bad has)
+shrink_stop fault.Fault = stop.Fault 1
+shrink_stop fault.Memory = stop.Memory
+
+-- what is left of a system of combinations that are narrow, or the first one is this wide
+abbrev pub narrow_shrunk : Option ℕ → System → Result Shrunken Bad
+narrow_shrunk None system = Ok (shrink system)
+narrow_shrunk (Some has) system = Err (wide_bad has)
+
+-- what is left of a system, or what it is refused for
+abbrev pub shrunk_of : System → Result Shrunken Bad
+shrunk_of system =
+    if nat_lt most (all_terms system) then Err (terms_bad (all_terms system)) else narrow_shrunk (first_wide system.constraints) system
+
+-- what is left of a system that may be refused itself
+abbrev pub shrunk_from : Result System Bad → Result Shrunken Bad
+shrunk_from (Ok system) = shrunk_of system
+shrunk_from (Err bad) = Err bad
+
+-- the file of a system: what is left of it
+abbrev pub shrunk_in : List ℕ → Result Shrunken Bad
+shrunk_in file = shrunk_from (system_in file)
+
+abbrev pub shrink_ends : Shrunken → Outcome
+shrink_ends shrunken = record { files = Rest shrunken ∷ []; finish = Quiet }
+
+abbrev pub shrink_writes : List ℕ → List Named
+shrink_writes out = record { word = 2; name = out } ∷ []
+
+abbrev pub shrink_sizes : List Size
+shrink_sizes = SystemTerms ∷ CombinationTerms ∷ []
+
+abbrev pub shrink_plan : List ℕ → List ℕ → Plan
+shrink_plan system out = record {
+  reads = record { word = 1; name = system } ∷ [];
+  writes = shrink_writes out;
+  amounts = [];
+  sizes = shrink_sizes;
+  ends_by = is_quiet;
+  comes = λ files. comes_by shrink_ends (input 1 shrunk_in system files);
+}
+
+-- The numbers that satisfy the shrunk system are those that some assignment which satisfies the system has at the kept
+-- wires, and no two such assignments have the same numbers there; wire 0 and all public wires keep their numbers.
+pub record Keeps (system : System) (shrunken : Shrunken) : Type 0 where
+  pub solutions : (small : List ℕ) → Sat shrunken.system small ↔ ((z : List ℕ) × Sat system z × (small ≡ at_wires shrunken.labels z))
+  pub one : (y z : List ℕ) → Sat system y → Sat system z → at_wires shrunken.labels y ≡ at_wires shrunken.labels z → y ≡ z
+  pub publics : take (1 + system.outputs + system.inputs) shrunken.labels ≡ range_with_len 0 (1 + system.outputs + system.inputs)
+
+-- this is left of a system, and keeps its solutions, or the system is refused for this
+pub record IsShrunk (system : System) (held : Result Shrunken Bad) : Type 0 where
+  pub is : shrunk_of system ≡ held
+  pub keeps : IfOk held (Keeps system)
+
+-- What `shrink` promises over files that told their contents, the two names being different: SYSTEM holds a system,
+-- and OUT then what is left of it, or one of the two is refused for this.
+abbrev pub Shrinks : Names → List ℕ → List ℕ → Outside → Outside → Status → Type 0
+Shrinks files system out = Comes (shrink_writes out) shrink_ends (Then (Holds system_in (files system)) IsShrunk) files
