@@ -1,6 +1,7 @@
 //! Assignments that are no witness of the system they are tried on: what `check` and `extract` make
 //! of them.
 
+use crate::assigned::{COUNT, SIZE, changed, set_values, value_of, values_in, witness_of};
 use crate::calling::{BEFORE, call, filled, says};
 use std::alloc::Global;
 use std::process::Abort;
@@ -8,53 +9,6 @@ use std::test::*;
 use tv_core::F;
 use tv_files::MemFiles;
 use tv_top::{NoWhy, NotRun, Status};
-
-// Where a witness file has the number of its values, their section's size, and the first value.
-const COUNT: usize = 36;
-
-const SIZE: usize = 44;
-
-const FIRST: usize = 52;
-
-fn place_of(wire: usize) -> usize {
-    FIRST.saturating_add(wire.saturating_mul(8))
-}
-
-fn witness_of(files: &MemFiles) -> &[u8] {
-    files.bytes_of("witness").unwrap_or(&[])
-}
-
-// How many values there are.
-fn values_in(files: &MemFiles) -> usize {
-    witness_of(files).len().saturating_sub(FIRST) / 8
-}
-
-// A file with these bytes from a place on.
-fn changed(alloc: Global, file: &[u8], at: usize, change: &[u8]) -> Result<Vec<u8>, Fail> {
-    let mut bytes = Vec::new(alloc);
-    for (i, byte) in file.iter().enumerate() {
-        bytes.push(*change.get(i.wrapping_sub(at)).unwrap_or(byte))?;
-    }
-    Ok(bytes)
-}
-
-// Sets the value of a wire.
-fn set_value(alloc: Global, files: &mut MemFiles, wire: usize, value: u64) -> Result<(), Fail> {
-    let file = witness_of(files);
-    let witness = changed(alloc, file, place_of(wire), &value.to_le_bytes())?;
-    files.set("witness", &witness)?;
-    Ok(())
-}
-
-// The value of a wire.
-fn value_of(files: &MemFiles, wire: usize) -> F {
-    match witness_of(files).get(place_of(wire)..) {
-        Some([a, b, c, d, e, f, g, h, ..]) => {
-            F::of(u64::from_le_bytes([*a, *b, *c, *d, *e, *f, *g, *h]))
-        }
-        _ => F::ZERO,
-    }
-}
 
 // A run whose witness is altered, the new values at wires, the public numbers, and what the two
 // commands answer: the exit code, and the line or how it begins.
@@ -180,7 +134,7 @@ fn judges(rt: &impl Abort, alloc: Global, case: Case<'_>) -> Result<(), Fail> {
     let mut files = filled(rt, alloc, text, tape, n, steps)?;
     files.set("public", case.public.as_bytes())?;
     for (wire, value) in case.changes {
-        set_value(alloc, &mut files, *wire, *value)?;
+        set_values(alloc, &mut files, *wire, &[F::of(*value)])?;
     }
     let words = "check system witness public";
     says(rt, alloc, &mut files, words, check.0, check.1)?;
@@ -201,20 +155,31 @@ fn altered_values_are_judged(rt: HostRuntime) -> Result<(), Fail> {
     Ok(())
 }
 
-const CHECK: &str = "check system witness public";
+/// What asks whether the witness of the run that answers 0 at step 1 is right.
+pub(crate) const CHECK: &str = "check system witness public";
 
 const EXTRACT: &str = "extract text 0 1 witness tape.out aux.out";
 
-// Sees that an assignment of the run that answers 0 at step 1 is right and has that run, or that a
-// constraint doesn't hold.
-fn is_judged(
+/// Files of the run that answers 0 at step 1.
+pub(crate) fn zero_run(rt: &impl Abort, alloc: Global) -> Result<MemFiles, Fail> {
+    let mut files = filled(rt, alloc, "answer 0", "", 0, 1)?;
+    files.set("public", b"0")?;
+    Ok(files)
+}
+
+/// Sees that an assignment is right and has the run that answers 0 at step 1, or that a constraint
+/// doesn't hold; and tells whether it is right.
+pub(crate) fn is_right(
     rt: &impl Abort,
     alloc: Global,
     files: &mut MemFiles,
-    wire: usize,
-) -> Result<(), Fail> {
+    change: &str,
+) -> Result<bool, Fail> {
     match call(alloc, files, CHECK)? {
-        Status::Done => says(rt, alloc, files, EXTRACT, 0, "answer 0 at step 1\n"),
+        Status::Done => {
+            says(rt, alloc, files, EXTRACT, 0, "answer 0 at step 1\n")?;
+            Ok(true)
+        }
         verdict => {
             let no = matches!(
                 verdict,
@@ -222,37 +187,56 @@ fn is_judged(
                     no: NoWhy::Constraint { .. }
                 }
             );
-            assert!(rt; no, "wire {wire}: {verdict:?}");
+            assert!(rt; no, "{change}: {verdict:?}");
             let run = call(alloc, files, EXTRACT)?;
             let fits = matches!(run, Status::Done | Status::NotARun { .. });
-            assert!(rt; fits, "wire {wire}: {run:?}");
-            Ok(())
+            assert!(rt; fits, "{change}: {run:?}");
+            Ok(false)
         }
     }
 }
 
-// Each private value is raised by 1, and turned where it is a bit.
+// Tells whether the assignment is right with this value at a wire, and puts the one before back.
+fn is_right_with(
+    rt: &impl Abort,
+    alloc: Global,
+    files: &mut MemFiles,
+    wire: usize,
+    value: F,
+) -> Result<bool, Fail> {
+    let was = value_of(files, wire);
+    set_values(alloc, files, wire, &[value])?;
+    let change = format!(in alloc; "{} at wire {wire}", value.number())?;
+    let right = is_right(rt, alloc, files, &change)?;
+    set_values(alloc, files, wire, &[was])?;
+    Ok(right)
+}
+
+// Each private value is raised by 1, and turned where it is a bit. A few wires are free.
 #[test]
 fn what_is_right_has_its_run(rt: HostRuntime) -> Result<(), Fail> {
     let alloc = rt.alloc();
-    let mut files = filled(&rt, alloc, "answer 0", "", 0, 1)?;
-    files.set("public", b"0")?;
+    let mut files = zero_run(&rt, alloc)?;
+    let mut free = 0_u64;
+    let mut bound = 0_u64;
     for wire in 2..values_in(&files) {
         let was = value_of(&files, wire);
-        set_value(alloc, &mut files, wire, (was + F::ONE).number())?;
-        is_judged(&rt, alloc, &mut files, wire)?;
-        set_value(alloc, &mut files, wire, (F::ONE - was).number())?;
-        is_judged(&rt, alloc, &mut files, wire)?;
-        set_value(alloc, &mut files, wire, was.number())?;
+        for value in [was + F::ONE, F::ONE - was] {
+            if is_right_with(&rt, alloc, &mut files, wire, value)? {
+                free = free.saturating_add(1);
+            } else {
+                bound = bound.saturating_add(1);
+            }
+        }
     }
+    assert!(rt; free > 0 && bound > 0, "{free} and {bound}");
     says(&rt, alloc, &mut files, CHECK, 0, "yes\n")
 }
 
 #[test]
 fn values_are_counted(rt: HostRuntime) -> Result<(), Fail> {
     let alloc = rt.alloc();
-    let mut files = filled(&rt, alloc, "answer 0", "", 0, 1)?;
-    files.set("public", b"0")?;
+    let mut files = zero_run(&rt, alloc)?;
     let wants = values_in(&files) as u64;
     let has = wants.saturating_sub(1);
     let whole = witness_of(&files);

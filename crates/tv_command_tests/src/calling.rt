@@ -9,13 +9,16 @@ use tv_top::{Status, command};
 /// What the names that are written hold before.
 pub(crate) const BEFORE: &[u8] = b"before";
 
+/// The names that are written.
+pub(crate) const WRITTEN: [&str; 6] = ["out", "system", "witness", "tape.out", "aux.out", "lines"];
+
 /// Files of a program and its tapes, beside names that are to be written.
 pub(crate) fn files_of(alloc: Global, text: &str, tape: &str, aux: &str) -> Result<MemFiles, Fail> {
     let mut files = MemFiles::new(alloc);
     files.set("text", text.as_bytes())?;
     files.set("tape", tape.as_bytes())?;
     files.set("aux", aux.as_bytes())?;
-    for name in ["system", "witness", "tape.out", "aux.out"] {
+    for name in WRITTEN {
         files.set(name, BEFORE)?;
     }
     Ok(files)

@@ -1,6 +1,6 @@
 //! A fault of each file call in turn: what the commands answer, and what the names hold then.
 
-use crate::calling::{BEFORE, call, files_of, filled};
+use crate::calling::{BEFORE, WRITTEN, call, files_of, filled};
 use std::alloc::Global;
 use std::process::Abort;
 use std::test::*;
@@ -9,20 +9,57 @@ use tv_top::Status;
 
 const TWO_READS: &str = "read r1, 1\nread r2, 1\nsub r3, r1, r2\nanswer r3";
 
-const WRITTEN: [&str; 4] = ["system", "witness", "tape.out", "aux.out"];
+const WITNESS: &str = "witness text tape aux 4 witness";
+
+// Two wires, wire 1 public, and no constraint.
+const SMALL: [u8; 76] = [
+    0x72, 0x31, 0x63, 0x73, 1, 0, 0, 0, 2, 0, 0, 0, // the front
+    1, 0, 0, 0, 40, 0, 0, 0, 0, 0, 0, 0, // section 1
+    8, 0, 0, 0, 1, 0, 0, 0, 0xff, 0xff, 0xff, 0xff, //
+    2, 0, 0, 0, 0, 0, 0, 0, 1, 0, 0, 0, 0, 0, 0, 0, //
+    2, 0, 0, 0, 0, 0, 0, 0, 0, 0, 0, 0, //
+    2, 0, 0, 0, 0, 0, 0, 0, 0, 0, 0, 0, // section 2
+];
+
+// The values 1 and 3.
+const SMALL_VALUES: [u8; 68] = [
+    0x77, 0x74, 0x6e, 0x73, 2, 0, 0, 0, 2, 0, 0, 0, // the front
+    1, 0, 0, 0, 16, 0, 0, 0, 0, 0, 0, 0, // section 1
+    8, 0, 0, 0, 1, 0, 0, 0, 0xff, 0xff, 0xff, 0xff, 2, 0, 0, 0, //
+    2, 0, 0, 0, 16, 0, 0, 0, 0, 0, 0, 0, // section 2
+    1, 0, 0, 0, 0, 0, 0, 0, 3, 0, 0, 0, 0, 0, 0, 0,
+];
+
+// The image of `answer 0`.
+const IMAGE: [u8; 8] = [0, 0, 0, 0xfc, 0, 0, 0, 0];
+
+const READ: [&str; 9] = [
+    "text", "tape", "aux", "filled", "answer", "image", "small", "values", "public",
+];
 
 // Each command, and the words whose faults are told as one call after another fails.
-const CALLS: [(&str, &[u64]); 4] = [
+const CALLS: [(&str, &[u64]); 10] = [
+    ("asm text out", &[1, 2]),
+    ("disasm image out", &[1, 2]),
+    ("run text tape aux 4", &[1, 2, 3, 5]),
     ("build text 0 4 system", &[1, 4]),
-    ("witness text tape aux 4 witness", &[1, 2, 3, 5]),
+    (WITNESS, &[1, 2, 3, 5]),
+    ("check small values public", &[1, 2, 3, 1, 4]),
     ("extract text 0 4 filled tape.out aux.out", &[1, 4, 5, 6, 7]),
     ("trial 0 1", &[3]),
+    ("shrink small out", &[1, 2]),
+    ("listing text 0 4 filled time lines", &[1, 4, 6]),
 ];
 
 // Files that each command can read: those of a run, and the values that it fills.
 fn files(alloc: Global, values: &[u8]) -> Result<MemFiles, Fail> {
     let mut files = files_of(alloc, TWO_READS, "", "9 9 7")?;
     files.set("filled", values)?;
+    files.set("answer", b"answer 0")?;
+    files.set("image", &IMAGE)?;
+    files.set("small", &SMALL)?;
+    files.set("values", &SMALL_VALUES)?;
+    files.set("public", b"3")?;
     Ok(files)
 }
 
@@ -50,7 +87,7 @@ fn fails(
         let begins = whole.bytes_of(name).unwrap_or(&[]).starts_with(held);
         assert!(rt; held == BEFORE || begins, "{words}: {number}");
     }
-    for name in ["text", "tape", "aux", "filled"] {
+    for name in READ {
         assert_eq!(rt;
             files.bytes_of(name),
             whole.bytes_of(name),
@@ -85,8 +122,7 @@ fn all_fail(
 fn each_call_fails(rt: HostRuntime) -> Result<(), Fail> {
     let alloc = rt.alloc();
     let mut run = files(alloc, &[])?;
-    let words = "witness text tape aux 4 witness";
-    assert_eq!(rt; call(alloc, &mut run, words)?, Status::Done);
+    assert_eq!(rt; call(alloc, &mut run, WITNESS)?, Status::Done);
     let values = run.bytes_of("witness").unwrap_or(&[]);
     for (words, faults) in CALLS {
         all_fail(&rt, alloc, values, words, faults)?;
@@ -118,27 +154,70 @@ fn a_system_is_written_in_pieces(rt: HostRuntime) -> Result<(), Fail> {
     Ok(())
 }
 
-// The last call but one of `extract` of `answer 0` creates the auxiliary tape, and the last says
-// the line: the word told, the auxiliary tape then, and what was said.
-const LAST: [(u64, u64, &[u8], &[u8]); 2] = [(1, 6, BEFORE, b""), (0, 7, b"", b"answer 0 ")];
+// How many calls a command makes: a file is read until a read gives nothing.
+const COUNTS: [(&str, u64); 3] = [
+    ("asm answer out", 4),
+    ("disasm image out", 4),
+    ("run answer tape aux 1", 6),
+];
 
 #[test]
-fn both_tapes_are_created(rt: HostRuntime) -> Result<(), Fail> {
+fn no_call_is_made_more(rt: HostRuntime) -> Result<(), Fail> {
+    for (words, calls) in COUNTS {
+        let mut files = files(rt.alloc(), &[])?;
+        assert_eq!(rt; call(rt.alloc(), &mut files, words)?, Status::Done);
+        assert_eq!(rt; files.calls(), calls, "{words}");
+    }
+    Ok(())
+}
+
+// 1,025 instructions of 9 bytes each are read in three pieces of 4,096 bytes at most and one of
+// none, and their image of 8,200 bytes is created and written in three.
+#[test]
+fn an_image_is_written_in_pieces(rt: HostRuntime) -> Result<(), Fail> {
+    let mut text = Vec::new(rt.alloc());
+    for _ in 0..1_025 {
+        text.extend_from_slice(b"answer 0\n")?;
+    }
+    let mut files = files(rt.alloc(), &[])?;
+    files.set("text", &text)?;
+    assert_eq!(rt; call(rt.alloc(), &mut files, "asm text out")?, Status::Done);
+    assert_eq!(rt; files.calls(), 4 + 1 + 3);
+    Ok(())
+}
+
+// A command, how many calls there are behind the one that fails, the word that is told, a name
+// with what it holds then, and what was said.
+type Row<'a> = (&'a str, u64, u64, &'a str, &'a [u8], &'a [u8]);
+
+const ASM: &str = "asm answer out";
+
+const EXTRACT: &str = "extract answer 0 1 filled tape.out aux.out";
+
+const ROWS: [Row<'static>; 7] = [
+    (ASM, 1, 2, "out", BEFORE, b""),
+    (ASM, 0, 2, "out", &[0, 0, 0, 0xfc], b""),
+    ("check small values public", 0, 4, "out", BEFORE, b"ye"),
+    (EXTRACT, 1, 6, "tape.out", b"", b""),
+    (EXTRACT, 1, 6, "aux.out", BEFORE, b""),
+    (EXTRACT, 0, 7, "tape.out", b"", b"answer 0 "),
+    (EXTRACT, 0, 7, "aux.out", b"", b"answer 0 "),
+];
+
+#[test]
+fn the_last_calls_leave_a_part(rt: HostRuntime) -> Result<(), Fail> {
     let alloc = rt.alloc();
-    let words = "extract text 0 1 witness tape.out aux.out";
-    let mut whole = filled(&rt, alloc, "answer 0", "", 0, 1)?;
-    let before = whole.calls();
-    assert_eq!(rt; call(alloc, &mut whole, words)?, Status::Done);
-    let calls = whole.calls().saturating_sub(before);
-    for (back, word, aux, said) in LAST {
-        let mut files = files_of(alloc, "answer 0", "", "")?;
-        files.set("witness", whole.bytes_of("witness").unwrap_or(&[]))?;
-        files.fail_at(calls.saturating_sub(back))?;
+    let run = filled(&rt, alloc, "answer 0", "", 0, 1)?;
+    let values = run.bytes_of("witness").unwrap_or(&[]);
+    for (words, behind, word, name, held, said) in ROWS {
+        let mut whole = files(alloc, values)?;
+        assert_eq!(rt; call(alloc, &mut whole, words)?, Status::Done, "{words}");
+        let mut files = files(alloc, values)?;
+        files.fail_at(whole.calls().saturating_sub(behind))?;
         let status = call(alloc, &mut files, words)?;
-        assert_eq!(rt; status, Status::FileFault { word });
-        assert_eq!(rt; files.bytes_of("tape.out"), Some([].as_slice()));
-        assert_eq!(rt; files.bytes_of("aux.out"), Some(aux));
-        assert_eq!(rt; files.said_bytes(), said);
+        assert_eq!(rt; status, Status::FileFault { word }, "{words}");
+        assert_eq!(rt; files.bytes_of(name), Some(held), "{words}");
+        assert_eq!(rt; files.said_bytes(), said, "{words}");
     }
     Ok(())
 }

@@ -1,11 +1,14 @@
-//! Tests of the commands on programs: what `build`, `witness`, `check` and `extract` make of one
-//! another's files, what they refuse, what a fault of each file call leaves, and what `trial` says.
-//! The files are in memory. They stand in a crate of their own, since a crate with tests is proved
-//! twice; nothing here is for callers.
+//! Tests of the commands: what `build`, `witness`, `check` and `extract` make of one another's
+//! files and of altered ones, what `listing` tells of them, what the commands on programs refuse,
+//! what a fault of each file call of any command leaves, and what `trial` says. The files are in
+//! memory. They stand in a crate of their own, since a crate with tests is proved twice; nothing
+//! here is for callers.
 #![tactic(auto)]
 
 #[cfg(test)]
 mod altered;
+#[cfg(test)]
+mod assigned;
 #[cfg(test)]
 mod calling;
 #[cfg(test)]
@@ -13,8 +16,12 @@ mod faults;
 #[cfg(test)]
 mod kinds;
 #[cfg(test)]
+mod listings;
+#[cfg(test)]
 mod refusals;
 #[cfg(test)]
 mod round;
+#[cfg(test)]
+mod settings;
 #[cfg(test)]
 mod trials;

@@ -1,12 +1,13 @@
 //! What the commands on programs refuse, and that nothing is written then.
 
-use crate::calling::{BEFORE, files_of, line_of};
+use crate::calling::{BEFORE, WRITTEN, files_of, line_of};
 use std::alloc::Global;
 use std::process::Abort;
 use std::test::*;
 use tv_files::MemFiles;
 
-const USAGE: &str = "usage: asm, disasm, run, build, witness, check, extract, trial\n";
+const USAGE: &str =
+    "usage: asm, disasm, run, build, witness, check, extract, trial, shrink, listing\n";
 
 // The words of a command, the exit code, and the line.
 type Case<'a> = (&'a str, u8, &'a str);
@@ -190,9 +191,8 @@ fn files(alloc: Global) -> Result<MemFiles, Fail> {
 
 // Whether all names hold what they held.
 fn are_as_before(files: &MemFiles) -> bool {
-    let written = ["system", "witness", "tape.out", "aux.out"];
     READ.iter().all(|(name, text)| files.bytes_of(name) == Some(text.as_bytes()))
-        && written
+        && WRITTEN
             .iter()
             .all(|name| files.bytes_of(name) == Some(BEFORE))
 }
