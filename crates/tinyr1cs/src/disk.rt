@@ -169,4 +169,34 @@ mod tests {
         fs::remove_dir_all(&rt, folder.as_path())?;
         Ok(())
     }
+
+    // What a reading before it read ahead is not given where the file was written to since, by
+    // another of its names too, nor where a reading begins anew.
+    #[test]
+    fn reads_what_is_there_by_now(rt: HostRuntime) -> Result<(), Fail> {
+        let alloc = rt.alloc();
+        let scratch = format!(in alloc; "tinyr1cs-ahead-{}", process::id(rt.process()))?;
+        let folder = env::temp_dir(&rt)?.join(alloc, scratch.as_str())?;
+        let file = folder.join(alloc, "file")?;
+        let same = folder.join(alloc, "./file")?;
+        fs::create_dir_all(&rt, folder.as_path())?;
+        let name = file.as_str();
+        let mut files = DiskFiles::new(alloc, rt, false);
+        files.create(name)?;
+        files.append(name, b"six of one")?;
+
+        let mut piece = [0; 32];
+        assert_eq!(rt; files.read(same.as_str(), 0, &mut piece[..3])?, 3);
+        files.append(name, b" or more")?;
+        for (at, rest) in [(3, " of one or more"), (14, "more"), (4, "of one or more")] {
+            let count = files.read(same.as_str(), at, &mut piece)?;
+            assert_eq!(rt; &piece[..count], rest.as_bytes(), "from {at}");
+        }
+
+        fs::write(&rt, name, b"half a dozen")?;
+        let count = files.read(same.as_str(), 0, &mut piece)?;
+        assert_eq!(rt; &piece[..count], b"half a dozen".as_slice());
+        fs::remove_dir_all(&rt, folder.as_path())?;
+        Ok(())
+    }
 }

@@ -1,7 +1,7 @@
 //! The files that are open, by name.
 ghost use Rattle.std.specs.Prelude.{◌≤◌, length, IfOk};
 
-use crate::reader::Reader;
+use crate::reader::{AHEAD, Reader};
 use std::alloc::{AllocError, Global};
 use std::collections::BTreeMap;
 use std::fs::OpenOptions;
@@ -22,6 +22,8 @@ struct Handles<F> {
 pub struct OpenFiles<R: Files> {
     handles: BTreeMap<String, Handles<R::File>>,
     alloc: Global,
+    /// How many writes there were, of any file: two names may be one file's.
+    writes: u64,
 }
 
 impl<R: Files> OpenFiles<R> {
@@ -30,6 +32,7 @@ impl<R: Files> OpenFiles<R> {
         OpenFiles {
             handles: BTreeMap::new(alloc),
             alloc,
+            writes: 0,
         }
     }
 
@@ -46,20 +49,23 @@ impl<R: Files> OpenFiles<R> {
         Ok(self.handles.entry(name)?.or_insert(closed))
     }
 
-    /// Reads from place `at` on what the system gives at once.
+    /// Reads from place `at` on what the system gives at once, or gave ahead.
     pub fn read(&mut self, rt: &R, name: &str, at: u64, into: &mut [u8]) -> io::Result<usize>
         ensures { IfOk result (λ count. count ≤ length into.new) }
     {
+        let alloc = self.alloc;
+        let writes = self.writes;
         let reader = self
             .of(name)?
             .reader
-            .get_or_try_insert_with(|| fs::open(rt, name).map(Reader::new))?;
-        reader.read_at(at, into)
+            .get_or_try_insert_with(|| open_reader(rt, alloc, name))?;
+        reader.read_at(at, writes, into)
     }
 
     /// Makes the name stand for no bytes. Handles that were open on it may be of another file by
     /// now.
     pub fn create(&mut self, rt: &R, name: &str) -> io::Result<()> {
+        self.writes = self.writes.wrapping_add(1);
         let handles = self.of(name)?;
         handles.reader = None;
         handles.writer = None;
@@ -69,10 +75,17 @@ impl<R: Files> OpenFiles<R> {
 
     /// Writes the bytes at the file's end.
     pub fn append(&mut self, rt: &R, name: &str, bytes: &[u8]) -> io::Result<()> {
+        self.writes = self.writes.wrapping_add(1);
         let handles = self.of(name)?;
         let writer = handles
             .writer
             .get_or_try_insert_with(|| OpenOptions::new().append(true).open(rt, name))?;
         writer.write_all(bytes)
     }
+}
+
+/// Opens a file for reading.
+fn open_reader<R: Files>(rt: &R, alloc: Global, name: &str) -> io::Result<Reader<R::File>> {
+    let room = vec![in alloc; 0_u8; AHEAD]?;
+    Ok(Reader::new(fs::open(rt, name)?, room))
 }
