@@ -1,37 +1,66 @@
-#!/bin/sh
-# Times `tinyr1cs build`, `witness`, `check` and `extract` on the example `sum` for so many steps, 1,024 and 16,384 where
-# none are said; beside them check.rs, a program in plain Rust that gives the verdict on the same files, and a copy of
-# the system. The system of 65,536 steps has 10.6 GB, that of 262,144 has 43 GB. usage: bench/build.sh [STEPS ..]
-set -eu
+#!/usr/bin/env bash
+# Times `tinyr1cs build` on programs/rounds.asm for so many steps, 1,024, 65,536 and 262,144 where none are said, and for
+# 0 and 1,000 public words, where WORDS says no others: onto /dev/null, which forgets all that it gets, and, where a system
+# has no more bytes than MOST, 11,000,000,000 where nothing else is said, onto the disk. Beside the second stand the verdict
+# of check.rs, a program in plain Rust, on the file that was written, and a copy of the file, or of as much of it as MOST
+# leaves room for, scaled; then `check` and `extract` on it too. Of ROUNDS runs of each, 3 where nothing else is said, it
+# tells the one that took the least processor time, user and system together. It prints rows of the tables in README.md.
+# usage: bench/build.sh [STEPS ..]
+set -euo pipefail
 
-bench=$(dirname -- "$(realpath -- "$0")")
-folder=$(mktemp -d)
-trap 'rm -rf "$folder"' EXIT
-rustc --edition 2024 -O -C target-cpu=x86-64-v2 -o "$folder/check.rs" "$bench/check.rs"
-example=$bench/../examples/sum
-"$bench/../bin/tinyr1cs" run "$example.asm" "$example.tape" /dev/null 1000 > /dev/null
-ln -s "$(realpath -- "$bench/../crates/tinyr1cs/out/tinyr1cs")" "$folder/tinyr1cs"
-cd "$folder"
-: > empty
-{ echo 0; cat "$example.tape"; } > public.tape
+bench=$(cd "$(dirname "$0")" && pwd)
+. "$bench/takes.sh"
 
-# What, and the program with its words: time by the clock, processor time, the most memory.
-take() {
-    what=$1
-    shift
-    /usr/bin/time -f '%e %U %S %M' -o time "$@" > said
-    read -r clock user system memory < time
-    echo "$what: $clock s, of the processor $user and $system s, at most $memory KiB $(cat said)"
+# A number of so many bytes at a place of a file, the lowest first.
+number_at() {
+    od -A n -t "u$2" -j "$3" -N "$2" "$1" | tr -d ' '
 }
 
-for steps in ${*:-1024 16384}; do
-    echo "steps: $steps"
-    take build ./tinyr1cs build "$example.asm" 4 "$steps" system.r1cs
-    take witness ./tinyr1cs witness "$example.asm" "$example.tape" empty "$steps" witness.wtns
-    take check ./tinyr1cs check system.r1cs witness.wtns public.tape
-    take check.rs ./check.rs check system.r1cs witness.wtns public.tape
-    take extract ./tinyr1cs extract "$example.asm" 4 "$steps" witness.wtns tape aux
-    take copy cp system.r1cs copy.r1cs
-    echo "system: $(stat -c %s system.r1cs) bytes, witness: $(stat -c %s witness.wtns) bytes"
-    rm system.r1cs witness.wtns copy.r1cs
+# The counts of a system, from the front of its file: $bytes, $wires and $constraints.
+read_front() {
+    wires=$(number_at "$1" 4 36)
+    constraints=$(number_at "$1" 4 60)
+    bytes=$((88 + $(number_at "$1" 8 68) + 8 * wires))
+}
+
+rustc --edition 2024 -O -C target-cpu=x86-64-v2 -o check.rs "$bench/check.rs"
+mkfifo front.pipe
+most=${MOST:-11000000000}
+for steps in ${*:-1024 65536 262144}; do
+    echo $(((steps - 5) / 8)) > rounds.aux
+    for words in ${WORDS:-0 1000}; do
+        # The front alone: the program's writing ends where nobody reads any more.
+        (./tinyr1cs build "$rounds" "$words" "$steps" front.pipe > /dev/null 2>&1 || :) &
+        head -c 76 front.pipe > front
+        wait
+        read_front front
+        row="| $(number "$steps") | $(number "$words") | $(size "$bytes") | $(number "$constraints")"
+        least ./tinyr1cs build "$rounds" "$words" "$steps" /dev/null
+        echo "forgotten $row | $clock s | $processor s | $(per "$bytes" "$processor") | $(per "$constraints" "$processor") | $(number "$memory") KiB |"
+        if [ "$bytes" -gt "$most" ]; then continue; fi
+        least ./tinyr1cs build "$rounds" "$words" "$steps" system.r1cs
+        [ "$(stat -c %s system.r1cs)" = "$bytes" ]
+        build=$processor
+        row="$row | $clock s | $build s | $(per "$bytes" "$build") | $(per "$constraints" "$build")"
+        seq "$words" | tr '\n' ' ' > tape
+        echo "0 $(cat tape)" > public
+        ./tinyr1cs witness "$rounds" tape rounds.aux "$steps" witness.wtns
+        least ./check.rs check system.r1cs witness.wtns public
+        [ "$(cat said)" = yes ]
+        plain=$processor
+        row="$row | $plain s | $(ratio "$build" "$plain")"
+        least ./tinyr1cs check system.r1cs witness.wtns public
+        [ "$(cat said)" = yes ]
+        checked="$processor s | $(ratio "$processor" "$plain") | $(number "$memory") KiB"
+        least ./tinyr1cs extract "$rounds" "$words" "$steps" witness.wtns out.tape out.aux
+        cmp -s rounds.aux out.aux
+        echo "after it | $(number "$steps") | $(number "$words") | $checked | $processor s | $(number "$memory") KiB |"
+        rm witness.wtns
+        room=$((most - bytes))
+        megabytes=$(((bytes < room ? bytes : room) / 1000000))
+        least dd if=system.r1cs of=copy.r1cs bs=1MB count="$megabytes" status=none
+        copy=$(scaled "$processor" "$bytes" $((megabytes * 1000000)))
+        echo "on the disk $row | $copy s | $(ratio "$build" "$copy") |"
+        rm system.r1cs copy.r1cs
+    done
 done

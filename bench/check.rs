@@ -1,7 +1,9 @@
-//! `tinyr1cs check` as plain Rust, for comparison: the same reads, the same checks, the same lines.
+//! `tinyr1cs check` as plain Rust, for comparison: the same checks, the same lines, as fast as one thread can.
 //!
 //! The system is read to its end, then the witness, then the tape, then the system once more with the
-//! verdict. A read asks for at most 4,096 bytes, and one constraint is kept at a time.
+//! verdict. A read asks for up to 64 KiB. No constraint is kept: a combination that is at hand is summed from
+//! its bytes in 128 bits, after one check of bounds, and reduced once; each product reads its wire's value
+//! once. Only where something is out of order, or a combination isn't at hand, its terms are taken one by one.
 
 use std::fmt;
 use std::fs::File;
@@ -10,7 +12,8 @@ use std::os::unix::fs::FileExt;
 use std::process::ExitCode;
 
 const P: u64 = 0xffff_ffff_0000_0001;
-const PIECE: usize = 4096;
+const PIECE: usize = 65_536;
+const TAPE_PIECE: usize = 4096;
 const WIDEST: u32 = 1_048_576;
 const TAPE_BYTES: usize = 1_048_576;
 const TAPE_NUMBERS: usize = 65_536;
@@ -64,6 +67,7 @@ fn bad<T>(at: u64, why: Why) -> Result<T, Refusal> {
     Err(Refusal::Bad { at, why })
 }
 
+#[inline(always)]
 fn reduce(x: u128) -> u64 {
     let (low, high) = (x as u64, (x >> 64) as u64);
     let (top, middle) = (high >> 32, high & 0xffff_ffff);
@@ -78,30 +82,50 @@ fn reduce(x: u128) -> u64 {
     sum
 }
 
+#[inline(always)]
 fn mul(a: u64, b: u64) -> u64 {
     reduce(u128::from(a) * u128::from(b))
 }
 
-fn add(a: u64, b: u64) -> u64 {
-    let (sum, carry) = a.overflowing_add(b);
-    if carry || sum >= P {
-        sum.wrapping_sub(P)
-    } else {
-        sum
+fn sub(a: u64, b: u64) -> u64 {
+    let (difference, borrow) = a.overflowing_sub(b);
+    if borrow { difference.wrapping_add(P) } else { difference }
+}
+
+/// A sum of products, whose multiples of 2^128 are counted apart.
+#[derive(Default)]
+struct Sum {
+    low: u128,
+    carries: u64,
+}
+
+impl Sum {
+    #[inline(always)]
+    fn add(&mut self, a: u64, b: u64) {
+        let (low, carry) = self.low.overflowing_add(u128::from(a) * u128::from(b));
+        self.low = low;
+        self.carries += u64::from(carry);
+    }
+
+    /// 2^128 is -2^32.
+    #[inline(always)]
+    fn value(&self) -> u64 {
+        let low = reduce(self.low);
+        if self.carries == 0 { low } else { sub(low, reduce(u128::from(self.carries) << 32)) }
     }
 }
 
 /// The piece of a file that was read last.
 struct Window<'a> {
     file: &'a File,
-    bytes: [u8; PIECE],
+    bytes: Box<[u8; PIECE]>,
     held: usize,
     at: u64,
 }
 
 impl<'a> Window<'a> {
     fn over(file: &'a File) -> Window<'a> {
-        Window { file, bytes: [0; PIECE], held: 0, at: 0 }
+        Window { file, bytes: Box::new([0; PIECE]), held: 0, at: 0 }
     }
 
     /// Reads on until so many bytes at a place are held; false where the file ends before.
@@ -112,7 +136,14 @@ impl<'a> Window<'a> {
         if at >= self.at && end <= self.at + self.held as u64 {
             return Ok(true);
         }
-        (self.at, self.held) = (at, 0);
+        if at >= self.at && at <= self.at + self.held as u64 {
+            let from = (at - self.at) as usize;
+            self.bytes.copy_within(from..self.held, 0);
+            self.held -= from;
+        } else {
+            self.held = 0;
+        }
+        self.at = at;
         while self.held < size {
             match self.file.read_at(&mut self.bytes[self.held..], at + self.held as u64)? {
                 0 => return Ok(false),
@@ -216,16 +247,6 @@ fn this_field(window: &mut Window<'_>, one: Section, wants: u64) -> Result<(), R
     Ok(())
 }
 
-/// The wire and the coefficient of each term.
-type Terms = Vec<(u32, u64)>;
-
-#[derive(Default)]
-struct Row {
-    a: Terms,
-    b: Terms,
-    c: Terms,
-}
-
 /// The constraints of a system, one after another.
 struct Rows<'a> {
     window: Window<'a>,
@@ -257,27 +278,78 @@ impl<'a> Rows<'a> {
         }
     }
 
-    /// Reads the next constraint; false after the last.
-    fn next(&mut self, row: &mut Row) -> Result<bool, Refusal> {
+    /// Whether the next constraint holds; `None` after the last. With `TRY` unset nothing is tried, and each
+    /// constraint holds. There is a value for each wire where something is tried.
+    #[inline(always)]
+    fn next<const TRY: bool>(&mut self, values: &[u64]) -> Result<Option<bool>, Refusal> {
         if self.left == 0 {
-            let wants = self.at - self.section.at;
-            if wants != self.section.size {
-                return bad(self.section.at, Why::BadCount { has: self.section.size, wants });
-            }
-            return Ok(false);
+            return self.ended();
         }
         self.left -= 1;
-        self.combination(&mut row.a)?;
-        self.combination(&mut row.b)?;
-        self.combination(&mut row.c)?;
-        Ok(true)
+        let a = self.value::<TRY>(values)?;
+        let b = self.value::<TRY>(values)?;
+        let c = self.value::<TRY>(values)?;
+        Ok(Some(!TRY || mul(a, b) == c))
+    }
+
+    #[cold]
+    fn ended(&self) -> Result<Option<bool>, Refusal> {
+        let wants = self.at - self.section.at;
+        if wants != self.section.size {
+            return bad(self.section.at, Why::BadCount { has: self.section.size, wants });
+        }
+        Ok(None)
     }
 
     fn end(&self) -> u64 {
         self.section.at + self.section.size
     }
 
-    fn combination(&mut self, terms: &mut Terms) -> Result<(), Refusal> {
+    #[inline(always)]
+    fn value<const TRY: bool>(&mut self, values: &[u64]) -> Result<u64, Refusal> {
+        match self.held_value::<TRY>(values) {
+            Some((value, next)) => {
+                self.at = next;
+                Ok(value)
+            }
+            None => self.far_value::<TRY>(values),
+        }
+    }
+
+    /// The value of the next combination, and the place behind it, where all of it is at hand and in order.
+    #[inline(always)]
+    fn held_value<const TRY: bool>(&self, values: &[u64]) -> Option<(u64, u64)> {
+        let held = &self.window.bytes[..self.window.held];
+        let bytes = held.get(usize::try_from(self.at.checked_sub(self.window.at)?).ok()?..)?;
+        let (count, rest) = bytes.split_first_chunk::<4>()?;
+        let count = u32::from_le_bytes(*count);
+        let size = 12 * u64::from(count);
+        let next = self.at + 4 + size;
+        if count > WIDEST || next > self.end() {
+            return None;
+        }
+        let (terms, _) = rest.get(..size as usize)?.as_chunks::<12>();
+        let mut sum = Sum::default();
+        for term in terms {
+            let (wire, coefficient) = self.term(term)?;
+            if TRY {
+                sum.add(coefficient, *values.get(wire as usize)?);
+            }
+        }
+        Some((sum.value(), next))
+    }
+
+    #[inline(always)]
+    fn term(&self, term: &[u8; 12]) -> Option<(u32, u64)> {
+        let wire = u32::from_le_bytes(term[..4].try_into().unwrap());
+        let coefficient = u64::from_le_bytes(term[4..].try_into().unwrap());
+        (wire < self.wires && coefficient < P).then_some((wire, coefficient))
+    }
+
+    /// The value of the next combination, its terms taken as they are read.
+    #[cold]
+    #[inline(never)]
+    fn far_value<const TRY: bool>(&mut self, values: &[u64]) -> Result<u64, Refusal> {
         if self.end() - self.at < 4 {
             return bad(self.at, Why::Truncated);
         }
@@ -286,41 +358,47 @@ impl<'a> Rows<'a> {
             return bad(self.at, Why::TooWide(count));
         }
         self.at += 4;
-        terms.clear();
-        while terms.len() < count as usize {
-            self.piece(count as usize - terms.len(), terms)?;
+        let (mut sum, mut left) = (Sum::default(), count as usize);
+        while left > 0 {
+            left -= self.piece::<TRY>(left, values, &mut sum)?;
         }
-        Ok(())
+        Ok(sum.value())
     }
 
-    /// The terms that the window holds next, one at least and so many at most.
-    fn piece(&mut self, most: usize, terms: &mut Terms) -> Result<(), Refusal> {
+    /// Adds the terms that the window holds next, one at least and so many at most, and says how many.
+    fn piece<const TRY: bool>(&mut self, most: usize, values: &[u64], sum: &mut Sum) -> Result<usize, Refusal> {
         let room = (self.end() - self.at) / 12;
         if room == 0 {
             return bad(self.at, Why::Truncated);
         }
-        let (words, _) = self.window.bytes_at(self.at, 12)?.as_chunks::<12>();
-        let some = words.len().min(most).min(usize::try_from(room).unwrap_or(usize::MAX));
-        for word in &words[..some] {
-            let wire = u32::from_le_bytes(word[..4].try_into().unwrap());
-            let coefficient = u64::from_le_bytes(word[4..].try_into().unwrap());
-            if wire >= self.wires {
-                return bad(self.at, Why::WireRange { wire, wires: self.wires });
+        self.window.bytes_at(self.at, 12)?;
+        let held = &self.window.bytes[(self.at - self.window.at) as usize..self.window.held];
+        let (terms, _) = held.as_chunks::<12>();
+        let some = terms.len().min(most).min(usize::try_from(room).unwrap_or(usize::MAX));
+        for (i, term) in terms[..some].iter().enumerate() {
+            let Some((wire, coefficient)) = self.term(term) else {
+                return self.term_fault(self.at + 12 * i as u64, term);
+            };
+            if TRY {
+                sum.add(coefficient, values[wire as usize]);
             }
-            if coefficient >= P {
-                return bad(self.at + 4, Why::NotCanonical);
-            }
-            terms.push((wire, coefficient));
-            self.at += 12;
         }
-        Ok(())
+        self.at += 12 * some as u64;
+        Ok(some)
+    }
+
+    fn term_fault<T>(&self, at: u64, term: &[u8; 12]) -> Result<T, Refusal> {
+        let wire = u32::from_le_bytes(term[..4].try_into().unwrap());
+        if wire >= self.wires {
+            return bad(at, Why::WireRange { wire, wires: self.wires });
+        }
+        bad(at + 4, Why::NotCanonical)
     }
 }
 
 fn survey(file: &File) -> Result<(), Refusal> {
     let mut rows = Rows::begin(file)?;
-    let mut row = Row::default();
-    while rows.next(&mut row)? {}
+    while rows.next::<false>(&[])?.is_some() {}
     Ok(())
 }
 
@@ -364,7 +442,7 @@ impl From<io::Error> for TapeRefusal {
 }
 
 fn read_tape(file: &File) -> Result<Vec<u64>, TapeRefusal> {
-    let (mut text, mut piece) = (Vec::new(), [0; PIECE]);
+    let (mut text, mut piece) = (Vec::new(), [0; TAPE_PIECE]);
     loop {
         let count = file.read_at(&mut piece, text.len() as u64)?;
         if count == 0 {
@@ -414,25 +492,18 @@ fn public_verdict(rows: &Rows<'_>, values: &[u64], publics: &[u64]) -> Verdict {
     }
 }
 
-fn value_of(terms: &Terms, values: &[u64]) -> u64 {
-    terms.iter().fold(0, |sum, (wire, coefficient)| add(sum, mul(*coefficient, values[*wire as usize])))
-}
-
-fn holds(row: &Row, values: &[u64]) -> bool {
-    mul(value_of(&row.a, values), value_of(&row.b, values)) == value_of(&row.c, values)
-}
-
 fn judge(file: &File, values: &[u64], publics: &[u64]) -> Result<Verdict, Refusal> {
     let mut rows = Rows::begin(file)?;
     let mut verdict = public_verdict(&rows, values, publics);
-    let mut row = Row::default();
     let mut at = 0;
-    while rows.next(&mut row)? {
-        if matches!(verdict, Verdict::Yes) && !holds(&row, values) {
-            verdict = Verdict::Constraint(at);
+    while matches!(verdict, Verdict::Yes) {
+        match rows.next::<true>(values)? {
+            None => return Ok(verdict),
+            Some(false) => verdict = Verdict::Constraint(at),
+            Some(true) => at += 1,
         }
-        at += 1;
     }
+    while rows.next::<false>(&[])?.is_some() {}
     Ok(verdict)
 }
 

@@ -6,8 +6,9 @@
 #
 # A line of the table is: exit status, standard output, standard error, the files that are new or changed, and the
 # command, where `$t` is the program. Each runs in a folder of its own that holds a program P, whose image I is, its
-# system S and witness V, the text BAD, empty tapes E, and a folder D. The last line counts; the status is 1 where one
-# failed. It stands outside the gate.
+# system S and witness V, the text BAD, empty tapes E, a folder D, and a program R that reads a word of either tape, the
+# tape F and its witness VR. The last line counts; the status is 1 where one failed. A command that hangs is ended after
+# 60 seconds and failed. It stands outside the gate.
 set -u
 
 top=$(dirname -- "$(dirname -- "$(realpath -- "$0")")")
@@ -25,6 +26,8 @@ echo 'nonsense' >BAD
 : >E
 echo 'old bytes' >OLD
 "$t" asm P I && "$t" build P 0 1 S && "$t" witness P E E 1 V && printf '0\n' >A || exit 2
+printf 'read r1, 0\nread r2, 1\nsub r3, r1, r2\nanswer r3\n' >R
+echo 7 >F && "$t" witness R F F 4 VR || exit 2
 
 # The names and sums of all files here.
 sums() {
@@ -72,23 +75,62 @@ edge 8 '' '' 'AUX TAPE' '$t extract P 0 1 V TAPE AUX >&- 2>&-; s=$?; test ! -s T
 edge 8 '' '' 'AUX TAPE' '$t extract P 0 1 V TAPE AUX <&- >&- 2>&-; s=$?; test ! -s TAPE && test ! -s AUX && exit $s'
 edge 8 '' '' '' '$t run P E E 1 >&- 2>&-'
 edge 8 '' '' '' '$t trial 0 1 >&- 2>&-'
+edge 8 '' '' '' '$t trial 0 0 >&- 2>&-'
+edge 8 '' '' '' '$t build BAD 0 1 OLD >&- 2>&-'
+edge 8 '' '' '' '$t witness P E BAD 1 OLD >&- 2>&-'
+edge 8 '' '' '' '$t disasm BAD OLD >&- 2>&-'
+edge 8 '' '' '' '$t listing P 0 1 S time OLD >&- 2>&-'
+edge 8 '' '' '' '$t shrink V OLD >&- 2>&-'
 edge 8 '' '' '' '$t >&- 2>&-'
+edge 0 '' '' 'OUT' '$t disasm I OUT >&- 2>&- && $t asm OUT IMAGE && cmp -s I IMAGE && rm IMAGE'
+edge 0 '' '' 'OUT' '$t build P 0 1 OUT >&- 2>&- && cmp -s S OUT'
+edge 0 '' '' 'OUT' '$t witness P E E 1 OUT >&- 2>&- && cmp -s V OUT'
+edge 0 '' '' 'OUT' '$t listing P 0 1 V time OUT >&- 2>&- && test $(wc -l <OUT) = 5'
+edge 0 '' '' 'OUT' '$t shrink S OUT >&- 2>&- && test -s OUT'
+
+# An output whose reader is gone.
+edge 8 '' '' '' '{ sleep 0.2; $t check S V A 2>/dev/null; echo $? >s; } | true; s=$(cat s); rm s; exit $s'
+edge 8 '' '' '' '{ sleep 0.2; $t trial 0 1 2>/dev/null; echo $? >s; } | true; s=$(cat s); rm s; exit $s'
 
 # A full disk, as the name that is written and as standard output or error.
 edge 8 '' 'file fault: /dev/full\n' '' '$t asm P /dev/full'
 edge 8 '' 'file fault: /dev/full\n' '' '$t disasm I /dev/full'
 edge 8 '' 'file fault: /dev/full\n' '' '$t build P 0 1 /dev/full'
 edge 8 '' 'file fault: /dev/full\n' '' '$t witness P E E 1 /dev/full'
+edge 8 '' 'file fault: /dev/full\n' '' '$t listing P 0 1 V time /dev/full'
+edge 8 '' 'file fault: /dev/full\n' '' '$t shrink S /dev/full'
 edge 8 '' 'file fault: output\n' '' '$t check S V A >/dev/full'
 edge 8 '' 'file fault: output\n' '' '$t run P E E 1 >/dev/full'
+edge 8 '' 'file fault: output\n' '' '$t trial 0 1 >/dev/full'
+edge 8 '' 'file fault: output\n' '' '$t >/dev/full'
+edge 8 '' 'file fault: output\n' 'AUX TAPE' '$t extract R 1 4 VR TAPE AUX >/dev/full; s=$?; cmp -s F TAPE && cmp -s F AUX && exit $s'
+edge 8 '' 'file fault: /dev/full\n' '' '$t extract R 1 4 VR /dev/full AUX'
+edge 8 '' 'file fault: /dev/full\n' 'TAPE' '$t extract R 1 4 VR TAPE /dev/full; s=$?; cmp -s F TAPE && exit $s'
 edge 8 '' '' '' '$t check S V ABSENT 2>/dev/full'
 edge 8 '' '' 'OUT' '(ulimit -f 8; trap "" XFSZ; $t build P 0 1 OUT 2>/dev/null); s=$?; test $(stat -c %s OUT) -le 8192 && exit $s'
+edge 8 '' '' 'OUT' '(ulimit -f 8; trap "" XFSZ; $t witness P E E 1 OUT 2>/dev/null); s=$?; n=$(stat -c %s OUT)
+    test $n -le 8192 && cmp -s -n $n V OUT && exit $s'
 
 # A name that is a folder, and one that isn't there.
 edge 8 '' 'file fault: D\n' '' '$t asm D IMAGE'
 edge 8 '' 'file fault: D\n' '' '$t asm P D'
 edge 8 '' 'file fault: D\n' '' '$t check D V A'
+edge 8 '' 'file fault: D\n' '' '$t check S D A'
+edge 8 '' 'file fault: D\n' '' '$t check S V D'
+edge 8 '' 'file fault: D\n' '' '$t disasm D OUT'
+edge 8 '' 'file fault: D\n' '' '$t disasm I D'
+edge 8 '' 'file fault: D\n' '' '$t run P D E 1'
+edge 8 '' 'file fault: D\n' '' '$t run P E D 1'
 edge 8 '' 'file fault: D\n' '' '$t build P 0 1 D'
+edge 8 '' 'file fault: D\n' '' '$t build D 0 1 OUT'
+edge 8 '' 'file fault: D\n' '' '$t witness P E E 1 D'
+edge 8 '' 'file fault: D\n' '' '$t extract R 1 4 D TAPE AUX'
+edge 8 '' 'file fault: D\n' '' '$t extract R 1 4 VR D AUX'
+edge 8 '' 'file fault: D\n' 'TAPE' '$t extract R 1 4 VR TAPE D; s=$?; cmp -s F TAPE && exit $s'
+edge 8 '' 'file fault: D\n' '' '$t listing P 0 1 D time OUT'
+edge 8 '' 'file fault: D\n' '' '$t listing P 0 1 V time D'
+edge 8 '' 'file fault: D\n' '' '$t shrink D OUT'
+edge 8 '' 'file fault: D\n' '' '$t shrink S D'
 edge 8 '' 'file fault: ABSENT\n' '' '$t asm ABSENT IMAGE'
 edge 8 '' 'file fault: ABSENT\n' '' '$t check S ABSENT A'
 edge 8 '' 'file fault: D/ABSENT/OUT\n' '' '$t build P 0 1 D/ABSENT/OUT'
@@ -97,19 +139,43 @@ edge 8 '' 'file fault: \n' '' '$t asm "" IMAGE'
 
 # Files that a pipe gives, which can't be read at places.
 edge 8 '' 'file fault: /dev/stdin\n' '' 'cat S | $t check /dev/stdin V A'
+edge 8 '' 'file fault: /dev/stdin\n' '' 'cat S | $t shrink /dev/stdin OUT'
 
 # A section that ends at a place that no file of the file system has is one that the file is too short for.
 edge 5 'bad system: byte 12: truncated\n' '' 'HUGE' \
     'printf "r1cs\1\0\0\0\1\0\0\0\1\0\0\0\0\0\0\0\0\0\4\0" >HUGE; $t check HUGE V A'
 
-# A file that is cut while it is read: the verdict is one of those of the files that it was, and none hangs.
-edge 0 '' '' '' 'for i in $(seq 40); do cp S CUT; (truncate -s 1000 CUT) & $t check CUT V A >line; s=$?; wait
-    case $s in 0) grep -qx yes line ;; 5) grep -q "^bad system: byte" line ;; *) false ;; esac || exit 1
-    rm CUT line; done'
+# A file that is cut while it is read, at 20 moments: the answer is one of those of a file that it was, or of its front
+# and a lost end, and none hangs.
+export cutting='
+cut_while() {
+    local whole=$1 size=$2 i s
+    shift 2
+    for i in $(seq -w 2 2 40); do
+        cp $whole CUT
+        (sleep 0.0$i; truncate -s $size CUT) &
+        $t "$@" >line
+        s=$?
+        wait
+        rm CUT
+        is_right $s || { echo "status $s, $(cat line)"; return 1; }
+        rm line
+    done
+}'
+edge 0 '' '' '' 'eval "$cutting"; is_right() { case $1 in 0) grep -qx yes line ;; 5) grep -q "^bad system: byte" line ;; *) false ;; esac; }
+    $t build P 0 65 BIG && $t witness P E E 65 VBIG && cut_while BIG 1000 check CUT VBIG A && rm BIG VBIG'
+edge 0 '' '' '' 'eval "$cutting"; is_right() { case $1 in 0) grep -qx yes line ;; 6) grep -q "^bad witness: byte" line ;; *) false ;; esac; }
+    $t build P 0 65 BIG && $t witness P E E 65 VBIG && cut_while VBIG 1000 check BIG CUT A && rm BIG VBIG'
+edge 0 '' '' '' 'eval "$cutting"; is_right() { case $1 in 0) grep -qx "answer 0 at step 1" line ;; 6) grep -q "^bad witness: byte" line ;; *) false ;; esac; }
+    $t witness P E E 2048 VBIG && cut_while VBIG 1000 extract P 0 2048 CUT TAPE AUX && rm -f VBIG TAPE AUX'
+edge 0 '' '' '' 'eval "$cutting"; is_right() { case $1 in 0) test ! -s line ;; 5) grep -q "^bad system: byte" line ;; *) false ;; esac; }
+    $t build P 0 65 BIG && cut_while BIG 1000 shrink CUT OUT && rm -f BIG OUT'
+edge 0 '' '' '' 'eval "$cutting"; is_right() { case $1 in 0) test ! -s line ;; 3) grep -qx "bad program: line [0-9]*: .*" line ;; *) false ;; esac; }
+    yes "answer 0" | head -n 20000 >TEXT; cut_while TEXT 900 asm CUT IMAGE && rm -f TEXT IMAGE'
 
 # Words of 1 MiB in all, more than one that isn't UTF-8, and names with control bytes.
-edge 2 'usage: asm, disasm, run, build, witness, check, extract, trial\n' '' '' '$t $(printf "%0120000d" 0)'
-edge 2 'usage: asm, disasm, run, build, witness, check, extract, trial\n' '' '' \
+edge 2 'usage: asm, disasm, run, build, witness, check, extract, trial, shrink, listing\n' '' '' '$t $(printf "%0120000d" 0)'
+edge 2 'usage: asm, disasm, run, build, witness, check, extract, trial, shrink, listing\n' '' '' \
     'w=$(printf "%0116508d" 0); $t asm P OLD $w $w $w $w $w $w $w $w $w'
 edge 8 '' '' '' '$t asm $(printf "%0120000d" 0) OLD 2>/dev/null'
 edge 8 '' 'file fault: a\\x0ab\\x1b[1m\xc3\xa9\n' '' '$t asm "$(printf "a\nb\033[1m\303\251")" IMAGE'
@@ -127,6 +193,9 @@ edge 0 '' '' 'P' '$t witness P E E 1 ./P && cmp -s V P'
 edge 0 '' '' 'E' '$t witness P E E 1 ./E && cmp -s V E'
 edge 0 'answer 0 at step 1\n' '' 'V' '$t extract P 0 1 V ./V AUX && test ! -s V && rm AUX'
 edge 0 'answer 0 at step 1\n' '' 'TAPE' '$t extract P 0 1 V TAPE ./TAPE && test ! -s TAPE'
+edge 0 '' '' 'V' '$t listing P 0 1 V time ./V && test $(wc -l <V) = 5'
+edge 0 '' '' 'P' '$t listing P 0 1 V cell ./P && test $(wc -l <P) = 5'
+edge 0 '' '' 'S' '$t shrink S OUT && $t shrink S ./S && cmp -s S OUT && rm OUT'
 
 echo "edges: $passed passed, $failed failed"
 [ "$failed" -eq 0 ]

@@ -1,10 +1,11 @@
 #!/usr/bin/env python3
 """Writes a system of so many constraints, a witness that satisfies it, and its tape.
 
-usage: make_system.py FOLDER CONSTRAINTS
+usage: make_system.py FOLDER CONSTRAINTS [TERMS]
 
-Each constraint multiplies two combinations of four earlier wires and gives a wire of its own. The
-numbers are the same at each run.
+Each constraint multiplies two combinations of earlier wires and gives a wire of its own. With TERMS each of
+the three combinations has so many terms; else the first two have four, and the third has one. The numbers are
+the same at each run.
 """
 
 import pathlib
@@ -14,9 +15,6 @@ import sys
 
 P = 2**64 - 2**32 + 1
 INPUTS = 64
-
-# Two combinations of four terms, and one of one term: each a count, and wires with coefficients.
-ROW = struct.Struct("<" + 2 * ("I" + 4 * "IQ") + "IIQ")
 
 
 def section(kind, size):
@@ -29,29 +27,41 @@ def container(magic, version, header, sections):
     return start + section(1, len(header)) + header
 
 
-def rows(count, values):
+def combination(rng, values, terms):
+    """Terms over the wires that have values, as numbers in turn, and what they come to."""
+    wires, uniform, bits = len(values), rng.random, rng.getrandbits
+    flat, total = [], 0
+    for _ in range(terms):
+        wire, coefficient = int(uniform() * wires), bits(64) % P
+        flat += (wire, coefficient)
+        total += coefficient * values[wire]
+    return flat, total % P
+
+
+def rows(count, terms, values):
     """The bytes of each constraint; the value of its wire is put behind the others."""
     rng = random.Random(1)
     values += [rng.randrange(P) for _ in range(INPUTS)]
-    bits, uniform = rng.getrandbits, rng.random
+    a, b, c = terms
+    row = struct.Struct("<" + "".join("I" + n * "IQ" for n in terms))
     for _ in range(count):
-        wires = len(values)
-        i, j, k, l, m, n, o, p = [int(uniform() * wires) for _ in range(8)]
-        a, b, c, d, e, f, g, h = [bits(64) % P for _ in range(8)]
-        left = a * values[i] + b * values[j] + c * values[k] + d * values[l]
-        right = e * values[m] + f * values[n] + g * values[o] + h * values[p]
-        values.append(left * right % P)
-        yield ROW.pack(4, i, a, j, b, k, c, l, d, 4, m, e, n, f, o, g, p, h, 1, wires, 1)
+        left, x = combination(rng, values, a)
+        right, y = combination(rng, values, b)
+        others, known = combination(rng, values, c - 1)
+        wire = len(values)
+        values.append((x * y - known) % P)
+        yield row.pack(a, *left, b, *right, c, *others, wire, 1)
 
 
-def main(folder, count):
+def main(folder, count, terms=None):
     folder, count = pathlib.Path(folder), int(count)
+    terms = 3 * (int(terms),) if terms else (4, 4, 1)
     wires = 1 + INPUTS + count
     values = [1]
     with open(folder / "system.r1cs", "wb") as file:
         header = struct.pack("<IQIIIIQI", 8, P, wires, 0, INPUTS, count, wires, count)
-        file.write(container(b"r1cs", 1, header, 3) + section(2, ROW.size * count))
-        file.writelines(rows(count, values))
+        file.write(container(b"r1cs", 1, header, 3) + section(2, (12 + 12 * sum(terms)) * count))
+        file.writelines(rows(count, terms, values))
         file.write(section(3, 8 * wires) + struct.pack(f"<{wires}Q", *range(wires)))
     with open(folder / "witness.wtns", "wb") as file:
         header = struct.pack("<IQI", 8, P, wires)

@@ -14,10 +14,11 @@ grep -E '^tv_(word|core|files|container|r1cs_read|r1cs_write):' "$bench/../crate
 # so the source has another ending here.
 crate=$scratch/crates/tinyr1cs
 mkdir -p "$crate/src" "$crate/specs" "$crate/proofs/put_all"
-cp "$bench"/../crates/tinyr1cs/src/{counts,disk,open,reader}.rt "$crate/src"
+cp "$bench"/../crates/tinyr1cs/src/{counts,disk,open,progress,reader}.rt "$crate/src"
 cp "$bench/../crates/tinyr1cs/specs/Counts.antt" "$crate/specs"
-cp "$bench"/../crates/tinyr1cs/proofs/*.antt "$crate/proofs"
+cp "$bench/../crates/tinyr1cs/proofs/Told.antt" "$crate/proofs"
 echo 'pub mod Counts' > "$crate/specs/Lib.antt"
+echo "mod Told" > "$crate/proofs/Lib.antt"
 cp "$bench/stream.rattle" "$crate/src/main.rt"
 cat > "$crate/proofs/put_all/Invariants.antt" <<'END'
 use Rattle.tv_core.specs.Sinks.{Grows}
