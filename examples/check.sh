@@ -1,7 +1,8 @@
 #!/bin/sh
 # For each program here: its image, disassembled and assembled again, is the same image; its run on its tapes says what
 # README.md beside this says, `answers V at step S`; and for that answer and S steps its system is built, filled,
-# checked and extracted, over Benes' network and over Waksman's. The last line counts; the status is 1 where one failed.
+# checked and extracted, over Benes' network and over Waksman's. The system here that is none of a program is shrunk,
+# and checked before and after. The last line counts; the status is 1 where one failed.
 set -u
 
 examples=$(dirname -- "$(realpath -- "$0")")
@@ -62,6 +63,19 @@ for program in "$examples"/*.asm; do
         failed=$((failed + 1))
     fi
 done
+
+# Whether the values of a system are right.
+holds() {
+    [ "$("$tinyr1cs" check "$examples/$1.r1cs" "$examples/$1.wtns" "$examples/square.public")" = yes ]
+}
+
+if "$tinyr1cs" shrink "$examples/square.r1cs" "$folder/shrunk" && cmp "$folder/shrunk" "$examples/square.shrunk.r1cs" &&
+    holds square && holds square.shrunk; then
+    passed=$((passed + 1))
+else
+    echo "square: failed" >&2
+    failed=$((failed + 1))
+fi
 
 echo "examples: $passed passed, $failed failed"
 [ "$failed" -eq 0 ]
