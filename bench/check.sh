@@ -20,7 +20,7 @@ make() {
     "$bench/make_system.py" . "$2" ${3:+"$3"}
 }
 
-times() {
+timed() {
     "$bench/compare.py" "$rounds" "$folder/tinyr1cs" "$folder/check.rs" -- check system.r1cs witness.wtns public.tape
 }
 
@@ -28,12 +28,12 @@ for system in 1:500000 3:200000 9:70000 128:5000 1000000:1; do
     terms=${system%:*}
     echo "terms a combination: $terms"
     make "$terms" "${system#*:}" "$terms"
-    times
+    timed
     rm -r "${folder:?}/$terms"
 done
 echo "nine terms a constraint"
 make once 200000
-times
+timed
 make twice 400000
 for size in once twice; do
     cd "$folder/$size"
