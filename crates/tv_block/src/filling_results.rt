@@ -8,15 +8,15 @@ ghost use Rattle.tv_numbers.specs.Tables.{writer_ops, results, flags};
 ghost use Rattle.tv_numbers.specs.Views.{flag_of};
 ghost use Rattle.tv_word.specs.Widths.{IsWidth};
 
-use crate::arithmetic::{
-    high_product, high_signed, inverted, is_wide, low, quotient, remainder, shifted_left,
-    shifted_right, sign_bit, signed_word,
-};
 use crate::filling_store::byte_of;
 use crate::step_numbers::StepNumbers;
 use tv_core::{F, Put, Values};
 use tv_regs::fill_write_reg;
 use tv_step::TraceState;
+use tv_step::arithmetic::{
+    both, carries, difference, differing, either, high_product, high_signed, inverted, is_wide,
+    low_product, quotient, remainder, shifted_left, shifted_right, sign_bit, signed_word, sum,
+};
 
 /// Gives the values of the result: the result, whether it is written, and the registers after it.
 pub(crate) fn fill_result<const W: u32, V: Values>(
@@ -64,17 +64,17 @@ fn result_word<const W: u32>(op: u8, x: u32, a: u32, o: u32, found: bool) -> u32
     ensures { result ≡ chosen (results W x a o found) op }
 {
     match op {
-        0 => x & a,
-        1 => x | a,
-        2 => x ^ a,
+        0 => both::<W>(x, a),
+        1 => either::<W>(x, a),
+        2 => differing::<W>(x, a),
         3 => inverted::<W>(a),
-        4 => low::<W>(u64::from(x) + u64::from(a)),
-        5 => low::<W>(u64::from(x) + ((1 << W) - u64::from(a))),
-        6 => low::<W>(u64::from(x) * u64::from(a)),
+        4 => sum::<W>(x, a),
+        5 => difference::<W>(x, a),
+        6 => low_product::<W>(x, a),
         7 => high_product::<W>(x, a),
         8 => high_signed::<W>(x, a).0,
-        9 => quotient(x, a),
-        10 => remainder(x, a),
+        9 => quotient::<W>(x, a),
+        10 => remainder::<W>(x, a),
         11 => shifted_left::<W>(x, a),
         12 => shifted_right::<W>(x, a),
         18 | 19 => a,
@@ -129,13 +129,13 @@ fn flag_after<const W: u32>(op: u8, x: u32, a: u32, found: bool, flag: bool) -> 
     ensures { flag_of result ≡ chosen (flags W x a found (flag_of flag)) op }
 {
     match op {
-        0 => (x & a) == 0,
-        1 => (x | a) == 0,
-        2 => (x ^ a) == 0,
+        0 => both::<W>(x, a) == 0,
+        1 => either::<W>(x, a) == 0,
+        2 => differing::<W>(x, a) == 0,
         3 => inverted::<W>(a) == 0,
-        4 => is_wide::<W>(u64::from(x) + u64::from(a)),
+        4 => carries::<W>(x, a),
         5 => x < a,
-        6 | 7 => is_wide::<W>(u64::from(x) * u64::from(a)),
+        6 | 7 => is_wide::<W>(x, a),
         8 => high_signed::<W>(x, a).1,
         9 | 10 => a == 0,
         11 => sign_bit::<W>(x),

@@ -4,7 +4,6 @@
 //! wires are a step in numbers, which is the machine's.
 #![tactic(auto)]
 
-mod arithmetic;
 mod choosing;
 mod computed;
 mod counting;

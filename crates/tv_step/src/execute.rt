@@ -164,8 +164,8 @@ impl<const W: u32> Machine<W> {
         self.memory.load_byte(at)
     }
 
-    // The word in which an address lies.
-    pub(crate) fn word_at(&self, at: u32) -> u32
+    /// The word in which an address lies.
+    pub fn word_at(&self, at: u32) -> u32
         requires width { IsWidth W }
         ensures small { result < 2 ^ W }
         ensures word { result ≡ word_in W (state_of self.now).memory (at / (W / 8)) }

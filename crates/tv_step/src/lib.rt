@@ -3,7 +3,7 @@
 //! every state; the commands above call `run`, and the layout is built over `trace`.
 #![tactic(auto)]
 
-mod arithmetic;
+pub mod arithmetic;
 mod counter;
 mod end;
 mod execute;
@@ -15,10 +15,6 @@ mod op;
 mod recorder;
 mod registers;
 mod state;
-#[cfg(test)]
-mod step_tests;
-#[cfg(test)]
-mod tests;
 mod tracing;
 
 pub use end::{End, Outcome};
