@@ -1,5 +1,6 @@
 pub mod Bounds
 pub mod ColumnChain
+pub mod Moved
 pub mod NetworkChain
 pub mod NetworkComplete
 pub mod NetworkLaws

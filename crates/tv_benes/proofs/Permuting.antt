@@ -1,7 +1,7 @@
 -- What goes through a network comes out in another order.
-use Rattle.std.proofs.Common.{◌≡◌, ℕ, zero, suc, ◌+◌, ◌*◌, ◌/◌, ◌%◌, ◌^◌, ◌==◌, Bool, true, false, if◌then◌else◌, List, [], ◌∷◌, ◌++◌, map, IsPermutation, refl, sym, subst, ◌∙◌, ap, ap₂, arith, append_assoc, add-one, zero-add}
+use Rattle.std.proofs.Common.{◌≡◌, ℕ, zero, suc, ◌+◌, ◌*◌, ◌/◌, ◌%◌, ◌^◌, ◌<◌, ◌==◌, Bool, true, false, if◌then◌else◌, List, [], ◌∷◌, ◌++◌, length, get_or, map, IsPermutation, refl, sym, subst, ◌∙◌, ap, ap₂, arith, append_assoc, add-one, zero-add}
 use Rattle.std.specs.List.{range_with_len}
-use Rattle.std.proofs.lemmas.List.FromFn.{map-range_with_len_more}
+use Rattle.std.proofs.lemmas.List.FromFn.{length-map-range_with_len, get_or-map-range_with_len, map-range_with_len_more}
 use Rattle.std.proofs.lemmas.List.Sorted.{IsPermutation-refl, IsPermutation-sym, IsPermutation-trans, IsPermutation-middle, IsPermutation-swap, IsPermutation-append}
 use Rattle.tv_benes.proofs.ThroughLaws.{twice}
 use Rattle.tv_benes.specs.Through.{switches, from, passed, to_upper, to_lower, alternating, joined, last_bit, through, places, NumbersArePermuted, PairsArePermuted}
@@ -15,6 +15,19 @@ module _ {X : Type 0} where
   pub places-suc : (n : ℕ) (f : ℕ → X) → places (suc n) f ≡ places n f ++ f n ∷ []
   unfolding places
   places-suc n f = ap (λ m. map f (range_with_len 0 m)) (sym (add-one n)) ∙ map-range_with_len_more f 0 n n (zero-add n)
+
+  pub places-length : (n : ℕ) (f : ℕ → X) → length (places n f) ≡ n
+  unfolding places
+  places-length n f = length-map-range_with_len f 0 n
+
+  pub places-at : (n i : ℕ) (f : ℕ → X) (d : X) → i < n → get_or (places n f) i d ≡ f i
+  unfolding places
+  places-at n i f d h = get_or-map-range_with_len f 0 n i i d h (omega arith)
+
+  pub places-same : (n : ℕ) (f g : ℕ → X) → ((j : ℕ) → j < n → f j ≡ g j) → places n f ≡ places n g
+  places-same zero f g same = places-zero f ∙ sym (places-zero g)
+  places-same (suc n) f g same =
+      places-suc n f ∙ ap₂ (λ xs x. xs ++ x ∷ []) (places-same n f g (λ j h. same j (omega arith))) (same n (omega arith)) ∙ sym (places-suc n g)
 
   places-two : (n : ℕ) (f : ℕ → X) → places (2 * suc n) f ≡ places (2 * n) f ++ f (2 * n) ∷ f (2 * n + 1) ∷ []
   places-two n f =

@@ -34,7 +34,7 @@ last_bit-same Waksman bit bit' n (suc j) h same = let place : suc j - 1 ≡ j = 
 last_bit-same Benes bit bit' n j h same = same j (omega arith)
 
 module _ {X : Type 0} where
-  passed-same : (b c : Bool) (x x' y y' : X) → b ≡ c → x ≡ x' → y ≡ y' → passed b x y ≡ passed c x' y'
+  pub passed-same : (b c : Bool) (x x' y y' : X) → b ≡ c → x ≡ x' → y ≡ y' → passed b x y ≡ passed c x' y'
   passed-same b c x x' y y' p q r = rw (p, q, r) refl
 
   pub alternating-same : (a a' b b' : ℕ → X) (i : ℕ) → a (i / 2) ≡ a' (i / 2) → b (i / 2) ≡ b' (i / 2) → alternating a b i ≡ alternating a' b' i

@@ -53,7 +53,7 @@ fn switch_values(b: bool, x: PairNum, y: PairNum) -> [F; 5]
 }
 
 // The values of a switch.
-fn fill_switch<V: Values>(v: &mut V, b: bool, x: PairNum, y: PairNum) -> Put<()>
+pub(crate) fn fill_switch<V: Values>(v: &mut V, b: bool, x: PairNum, y: PairNum) -> Put<()>
     requires whole { V.giving.broken v.old ≡ false }
     ensures gives { GivesIn V.giving v.old v.new (switch_values b x y) result }
     ensures whole { OnOk result (V.giving.broken v.new ≡ false) }

@@ -75,7 +75,7 @@ pub(crate) fn source(net: Net, bits: &[bool], at: u64, h: u32, i: u64) -> u64
 }
 
 // The bit of switch `j` of a last column whose bits begin at `at`.
-fn last_bit(net: Net, bits: &[bool], at: u64, j: u64) -> bool
+pub(crate) fn last_bit(net: Net, bits: &[bool], at: u64, j: u64) -> bool
     requires { at + j < 2 ^ 63 }
     ensures { result ≡ last_bit net (from at (bit_at bits.now)) j }
 {

@@ -13,6 +13,7 @@ mod items;
 mod laws;
 mod networks;
 mod places;
+mod routing;
 mod shape;
 mod wire_switches;
 
@@ -22,4 +23,5 @@ pub use laws::{
 };
 pub use networks::{network, routing_network};
 pub use places::{Inputs, Outputs};
+pub use routing::route_items;
 pub use shape::{Net, routing_switches, switches};

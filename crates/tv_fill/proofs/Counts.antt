@@ -3,6 +3,7 @@ use Rattle.std.proofs.Common.{◌≡◌, ℕ, ◌+◌, ◌-◌, ◌*◌, Bool, L
 use Rattle.std.proofs.lemmas.List.{length-append}
 use Rattle.std.specs.Prelude.{slice_index}
 use Rattle.tv_benes.specs.Items.{bit_at}
+use Rattle.tv_benes.specs.Through.{through}
 use Rattle.tv_benes.specs.declared.shape.Net.{Net}
 use Rattle.tv_bits.specs.Bits.{bits_values}
 use Rattle.tv_block.proofs.SizeFills.{block_sizes}
@@ -15,7 +16,7 @@ use Rattle.tv_core.specs.declared.lines.PairNum.{PairNum}
 use Rattle.tv_layout.specs.Layout.{first_state}
 use Rattle.tv_lines.specs.Packing.{unpacked}
 use Rattle.tv_memory.proofs.Sizes.{level_many}
-use Rattle.tv_memory.specs.Memory.{place_at, level_values, memory_made}
+use Rattle.tv_memory.specs.Memory.{routed_values, memory_made}
 use Rattle.tv_numbers.specs.Views.{View}
 use Rattle.tv_step.specs.declared.lines.TraceState.{TraceState}
 use Rattle.tv_word.specs.Widths.{IsWidth}
@@ -34,7 +35,7 @@ unfolding told_values
 told_many w n states aux pairs first i width range = step_many w n _ _ _ _ _ width range.view.registers
 
 -- ---- all
-module _ (w v first t k : ℕ) (net : Net) (x aux : List ℕ) (states : List TraceState) (pairs : List PairNum) (order : List ℕ) (bits : List Bool) (fit : PartsFit w (length x) aux first t states pairs k order) where
+module _ (w v first t k : ℕ) (net : Net) (x aux : List ℕ) (states : List TraceState) (pairs spare : List PairNum) (bits : List Bool) (fit : PartsFit w (length x) aux first t states pairs spare k) where
   front_many : length (front_values w v x) ≡ 3 + length x + length x * w
   front_many =
       let a = length-append (1 ∷ v ∷ x) (joined_below (length x) (λ i. bits_values (slice_index x i) w) ++ 0 ∷ []) in
@@ -42,13 +43,13 @@ module _ (w v first t k : ℕ) (net : Net) (x aux : List ℕ) (states : List Tra
       let c = length-joined_below (length x) w (λ i. bits_values (slice_index x i) w) (λ i h. length-each_below w _) in
       omega (arith, a, b, c)
 
-  pub filled_many : length (filled_values w v x aux first t states pairs net k order bits) ≡ 3 + length x + length x * w + t * block_made w + memory_made net k
+  pub filled_many : length (filled_values w v x aux first t states pairs net k bits) ≡ 3 + length x + length x * w + t * block_made w + memory_made net k
   unfolding filled_values
   filled_many =
       let steps : List ℕ = joined_below t (told_values w (length x) states aux pairs first) in
-      let memory : List ℕ = level_values net (k - 1) (place_at order) (bit_at bits) (map unpacked pairs) in
+      let memory : List ℕ = routed_values net (k - 1) (bit_at bits) (map unpacked pairs) in
       let a = length-append (front_values w v x) (steps ++ memory) in
       let b = length-append steps memory in
       let c = length-joined_below t (block_made w) (told_values w (length x) states aux pairs first) (λ i h. told_many w (length x) states aux pairs first i fit.width (fit.steps i h)) in
-      let d : length memory ≡ memory_made net k = level_many net (k - 1) (place_at order) (bit_at bits) (map unpacked pairs) in
+      let d : length memory ≡ memory_made net k = level_many net (k - 1) (through net (k - 1) (bit_at bits) (λ j. j)) (bit_at bits) (map unpacked pairs) in
       omega (arith, a, b, c, d, front_many)

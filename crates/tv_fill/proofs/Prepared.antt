@@ -1,10 +1,9 @@
 -- That what was prepared gives the values of a run's system.
-use Rattle.std.proofs.Common.{◌≡◌, ℕ, ◌+◌, ◌-◌, ◌*◌, ◌<◌, ◌≤◌, ◌^◌, Bool, List, [], ◌∷◌, ◌++◌, length, map, All, IsPermutation, sym, ap, ap₂, ◌∙◌, subst, arith, append_assoc}
+use Rattle.std.proofs.Common.{◌≡◌, ℕ, ◌+◌, ◌-◌, ◌*◌, ◌≤◌, ◌^◌, Bool, List, [], ◌∷◌, ◌++◌, length, map, All, sym, ap, ap₂, ◌∙◌, subst, arith, append_assoc}
 use Rattle.std.proofs.lemmas.List.{length-append, length-map}
-use Rattle.std.proofs.lemmas.List.Elements.{All-cons, All-nil, All-from_get_or}
+use Rattle.std.proofs.lemmas.List.Elements.{All-cons, All-nil}
 use Rattle.std.specs.Prelude.{slice_index}
 use Rattle.tv_benes.specs.Items.{bit_at}
-use Rattle.tv_benes.specs.Through.{places}
 use Rattle.tv_benes.specs.declared.shape.Net.{Net}
 use Rattle.tv_bits.specs.Bits.{bits_values}
 use Rattle.tv_block.specs.Complete.{step_values}
@@ -13,7 +12,7 @@ use Rattle.tv_core.specs.Lines.{Line}
 use Rattle.tv_core.specs.declared.lines.PairNum.{PairNum}
 use Rattle.tv_layout.proofs.Boot.{length-boot_lines, length-padding}
 use Rattle.tv_layout.proofs.Positions.{log_above, log_within, log_some}
-use Rattle.tv_layout.proofs.RunLines.{run_placed, run_few}
+use Rattle.tv_layout.proofs.RunLines.{run_placed}
 use Rattle.tv_layout.proofs.Whole.{few, short, filled, spare}
 use Rattle.tv_layout.specs.Places.{WithinLimits, line_count, log_of}
 use Rattle.tv_layout.specs.Sound.{padding, all_lines}
@@ -21,11 +20,10 @@ use Rattle.tv_layout.specs.Systems.{run_values}
 use Rattle.tv_layout.specs.Values.{fill, step_values as run_step}
 use Rattle.tv_lines.specs.Packing.{InRange, unpacked}
 use Rattle.tv_lines.specs.Placed.{LinesFrom}
-use Rattle.tv_memory.proofs.Ordering.{address_order_right}
-use Rattle.tv_memory.specs.Memory.{place_at, level_values}
+use Rattle.tv_memory.proofs.Complete.{order_permutes, order_reached}
+use Rattle.tv_memory.specs.Memory.{routed_values}
 use Rattle.tv_memory.specs.Order.{address_order, memory_values}
-use Rattle.tv_route.proofs.FromSorts.{permutes_of}
-use Rattle.tv_route.specs.Permutations.{Permutes, IsRoutable}
+use Rattle.tv_route.specs.Permutations.{IsRoutable}
 use Rattle.tv_route.specs.Route.{route_of}
 use Rattle.tv_step.proofs.PlaceLaws.{lines_are_three_a_step, states_are_one_more}
 use Rattle.tv_step.specs.Cells.{boot_lines, run_lines}
@@ -100,51 +98,48 @@ module _ (w : ℕ) (net : Net) (image x aux : List ℕ) (t : ℕ) (fits : Within
     pairs_many : length pairs ≡ 2 ^ k
     pairs_many = sym (length-map pairs unpacked) ∙ ap length all_packed ∙ all_many
 
-    module _ (order : List ℕ) (order_is : order ≡ address_order (map unpacked pairs)) where
-      order_all : order ≡ address_order (all_lines w image x aux t)
-      order_all = order_is ∙ ap address_order all_packed
+    pub routable : IsRoutable (address_order (map unpacked pairs))
+    routable =
+        rw all_packed
+        (record {
+          k = k;
+          some = log_some (line_count image (length x) t);
+          few = omega (arith, log_few);
+          permutes = order_permutes k (all_lines w image x aux t) log_few all_many (run_placed w image x aux t fits x_words aux_words);
+        })
 
-      permutes : Permutes (2 ^ k) order
-      permutes =
-          let moved = address_order_right.permutes (all_lines w image x aux t) (run_few w image x aux t fits x_words aux_words) (run_placed w image x aux t fits x_words aux_words) in
-          rw order_all (permutes_of (2 ^ k) (address_order (all_lines w image x aux t)) (subst (λ m. IsPermutation (places m (λ i. i)) (address_order (all_lines w image x aux t))) all_many moved))
+    pub parts_fit : (spare : List PairNum) → spare ≡ pairs → PartsFit w (length x) aux (length image + length x) t states pairs spare k
+    parts_fit spare spare_is = record {
+      width = fits.width;
+      short = short image (length x) t w fits;
+      some = log_some (line_count image (length x) t);
+      few = log_few;
+      states_many = ap length states_are ∙ states_are_one_more w (length x) (length aux) (start w image x aux) t;
+      pairs_many = pairs_many;
+      spare_many = ap length spare_is ∙ pairs_many;
+      tape_fits = omega arith;
+      steps_fit = log_above (line_count image (length x) t) few_lines;
+      steps = λ i h. rw states_are (told_in_range w image x aux t fits.width (short image (length x) t w fits) x_words aux_words pairs all_packed i h);
+    }
 
-      pub routable : IsRoutable order
-      routable = record { k = k; some = log_some (line_count image (length x) t); few = omega (arith, log_few); permutes = permutes }
+    -- the settings sort them
+    sorted : (bits : List Bool) → bits ≡ route_of net (address_order (map unpacked pairs)) → routed_values net (k - 1) (bit_at bits) (map unpacked pairs) ≡ memory_values net k (all_lines w image x aux t)
+    sorted bits bits_are =
+        ap (λ (b : List Bool). routed_values net (k - 1) (bit_at b) (map unpacked pairs)) bits_are
+        ∙ ap (λ (ls : List Line). routed_values net (k - 1) (bit_at (route_of net (address_order ls))) ls) all_packed
+        ∙ order_reached net k (all_lines w image x aux t) (log_some (line_count image (length x) t)) log_few all_many (run_placed w image x aux t fits x_words aux_words)
 
-      within : All (λ place. place < 2 ^ k) order
-      within = All-from_get_or (λ place. place < 2 ^ k) order 0 (λ i h. permutes.below i (omega (arith, permutes.as_long)))
-
-      pub parts_fit : PartsFit w (length x) aux (length image + length x) t states pairs k order
-      parts_fit = record {
-        width = fits.width;
-        short = short image (length x) t w fits;
-        some = log_some (line_count image (length x) t);
-        few = log_few;
-        states_many = ap length states_are ∙ states_are_one_more w (length x) (length aux) (start w image x aux) t;
-        pairs_many = pairs_many;
-        tape_fits = omega arith;
-        steps_fit = log_above (line_count image (length x) t) few_lines;
-        order_many = permutes.as_long;
-        within = within;
-        steps = λ i h. rw states_are (told_in_range w image x aux t fits.width (short image (length x) t w fits) x_words aux_words pairs all_packed i h);
-      }
-
-      -- and the values are those of the run
-      pub values_are : (bits : List Bool) → bits ≡ route_of net order → (v : ℕ)
-          → filled_values w v x aux (length image + length x) t states pairs net k order bits ≡ run_values w net image x aux t v
-      unfolding filled_values fill
-      values_are bits bits_are v =
-          let tape_bits : List ℕ = joined_below (length x) (λ i. bits_values (slice_index x i) w) in
-          let steps : List ℕ = joined_below t (run_step (step_values w) w image x aux) in
-          let memory : List ℕ = memory_values net k (all_lines w image x aux t) in
-          let told : joined_below t (told_values w (length x) states aux pairs (length image + length x)) ≡ steps =
-          ap (λ (s : List TraceState). joined_below t (told_values w (length x) s aux pairs (length image + length x))) states_are
-          ∙ told_steps w image x aux t fits.width (short image (length x) t w fits) x_words aux_words pairs all_packed in
-          let sorted : level_values net (k - 1) (place_at order) (bit_at bits) (map unpacked pairs) ≡ memory =
-          ap (λ (b : List Bool). level_values net (k - 1) (place_at order) (bit_at b) (map unpacked pairs)) bits_are
-          ∙ ap (λ (o : List ℕ). level_values net (k - 1) (place_at o) (bit_at (route_of net o)) (map unpacked pairs)) order_is
-          ∙ ap (memory_values net k) all_packed in
-          ap₂ (λ (a b : List ℕ). front_values w v x ++ (a ++ b)) told sorted
-          ∙ append_assoc (1 ∷ v ∷ x) (tape_bits ++ 0 ∷ []) (steps ++ memory)
-          ∙ ap (λ (l : List ℕ). (1 ∷ v ∷ x) ++ l) (append_assoc tape_bits (0 ∷ []) (steps ++ memory))
+    -- and the values are those of the run
+    pub values_are : (bits : List Bool) → bits ≡ route_of net (address_order (map unpacked pairs)) → (v : ℕ)
+        → filled_values w v x aux (length image + length x) t states pairs net k bits ≡ run_values w net image x aux t v
+    unfolding filled_values fill
+    values_are bits bits_are v =
+        let tape_bits : List ℕ = joined_below (length x) (λ i. bits_values (slice_index x i) w) in
+        let steps : List ℕ = joined_below t (run_step (step_values w) w image x aux) in
+        let memory : List ℕ = memory_values net k (all_lines w image x aux t) in
+        let told : joined_below t (told_values w (length x) states aux pairs (length image + length x)) ≡ steps =
+        ap (λ (s : List TraceState). joined_below t (told_values w (length x) s aux pairs (length image + length x))) states_are
+        ∙ told_steps w image x aux t fits.width (short image (length x) t w fits) x_words aux_words pairs all_packed in
+        ap₂ (λ (a b : List ℕ). front_values w v x ++ (a ++ b)) told (sorted bits bits_are)
+        ∙ append_assoc (1 ∷ v ∷ x) (tape_bits ++ 0 ∷ []) (steps ++ memory)
+        ∙ ap (λ (l : List ℕ). (1 ∷ v ∷ x) ++ l) (append_assoc tape_bits (0 ∷ []) (steps ++ memory))

@@ -1,5 +1,5 @@
 -- What a trace and packed lines tell of a run's steps.
-use Rattle.std.proofs.Common.{◌≡◌, ℕ, zero, suc, ◌+◌, ◌-◌, ◌*◌, ◌<◌, ◌≤◌, ◌^◌, Bool, true, false, cond, List, ◌++◌, length, map, get_or, Some, None, refl, sym, ap, ap₂, ◌∙◌, arith}
+use Rattle.std.proofs.Common.{◌≡◌, ℕ, ◌+◌, ◌-◌, ◌*◌, ◌<◌, ◌≤◌, ◌^◌, Bool, true, false, cond, List, length, map, get_or, Some, None, refl, sym, ap, ap₂, ◌∙◌, arith}
 use Rattle.std.proofs.lemmas.Bool.{ltb-true}
 use Rattle.std.proofs.lemmas.List.{length-append, get_or_append_left, get_or-append_right, get_or-map, length-map}
 use Rattle.std.specs.Prelude.{slice_index, slice_index_or, nat_lt, is_some, if◌then◌else◌}
@@ -7,7 +7,6 @@ use Rattle.tv_block.proofs.ToldFills.{steps_are_given}
 use Rattle.tv_block.specs.Complete.{step_values, olds_of}
 use Rattle.tv_block.specs.Told.{GivesStep, head_told, tail_told, data_told}
 use Rattle.tv_block.specs.Values.{block_values}
-use Rattle.tv_core.proofs.JoinedLaws.{joined_below-zero, joined_below-suc}
 use Rattle.tv_core.specs.Below.{joined_below}
 use Rattle.tv_core.specs.Lines.{Line}
 use Rattle.tv_core.specs.declared.lines.PairNum.{PairNum}
@@ -17,6 +16,7 @@ use Rattle.tv_layout.specs.Sound.{padding, all_lines}
 use Rattle.tv_layout.specs.Values.{step_values as run_step}
 use Rattle.tv_lines.specs.Packing.{unpacked}
 use Rattle.tv_lines.specs.Placed.{zero_line, number_in}
+use Rattle.tv_memory.proofs.FillingLaws.{joined_below-same}
 use Rattle.tv_numbers.specs.Shown.{handed}
 use Rattle.tv_numbers.specs.Views.{View}
 use Rattle.tv_step.proofs.PlaceLaws.{lines_by_place, states_by_place, lines_are_three_a_step}
@@ -34,11 +34,6 @@ use Rattle.tv_block.specs.Filling.{view_of}
 use Rattle.tv_fill.specs.Told.{no_state, no_pair, state_at, old_at, takes_at, data_at, told_values, StepInRange}
 
 -- ---- values of the same
-pub joined_below-same : (n : ℕ) (f g : ℕ → List ℕ) → ((i : ℕ) → i < n → f i ≡ g i) → joined_below n f ≡ joined_below n g
-joined_below-same zero f g same = joined_below-zero f ∙ sym (joined_below-zero g)
-joined_below-same (suc n) f g same =
-    joined_below-suc n f ∙ ap₂ (λ (a b : List ℕ). a ++ b) (joined_below-same n f g (λ i h. same i (omega arith))) (same n (omega arith)) ∙ sym (joined_below-suc n g)
-
 pub same_values : (f : View → ℕ → ℕ → ℕ → Bool → List ℕ) {v v2 : View} {h h2 u u2 o o2 : ℕ} {b b2 : Bool}
     → v ≡ v2 → h ≡ h2 → u ≡ u2 → o ≡ o2 → b ≡ b2 → f v h u o b ≡ f v2 h2 u2 o2 b2
 same_values f {v} {v2} {h} {h2} {u} {u2} {o} {o2} {b} {b2} p q r s t =

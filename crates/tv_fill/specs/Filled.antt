@@ -1,5 +1,5 @@
 -- What is given for a run, and what comes of asking for it.
-use Rattle.std.specs.Prelude.{◌≡◌, ◌⊎◌, ℕ, ◌+◌, ◌-◌, ◌*◌, ◌^◌, ◌<◌, ◌≤◌, Bool, List, [], ◌∷◌, ◌++◌, length, map, All, slice_index, Result, Ok, Err}
+use Rattle.std.specs.Prelude.{◌≡◌, ◌⊎◌, ℕ, ◌+◌, ◌-◌, ◌*◌, ◌^◌, ◌<◌, ◌≤◌, Bool, List, [], ◌∷◌, ◌++◌, length, map, slice_index, Result, Ok, Err}
 use Rattle.tv_benes.specs.Items.{bit_at}
 use Rattle.tv_benes.specs.declared.shape.Net.{Net}
 use Rattle.tv_bits.specs.Bits.{bits_values}
@@ -14,7 +14,7 @@ use Rattle.tv_fill.specs.declared.fault.FillFault.TheVariants.{NoRun, Failed, Me
 use Rattle.tv_layout.specs.Sound.{padding}
 use Rattle.tv_layout.specs.Systems.{run_values}
 use Rattle.tv_lines.specs.Packing.{unpacked}
-use Rattle.tv_memory.specs.Memory.{place_at, level_values}
+use Rattle.tv_memory.specs.Memory.{routed_values}
 use Rattle.tv_step.specs.Cells.{boot_lines}
 use Rattle.tv_step.specs.Machine.{start, end_of, Accepts}
 use Rattle.tv_step.specs.declared.lines.TraceState.{TraceState}
@@ -30,11 +30,11 @@ pub record Filled : Type 0 where
 abbrev pub front_values : ℕ → ℕ → List ℕ → List ℕ
 front_values w v x = (1 ∷ v ∷ x) ++ (joined_below (length x) (λ i. bits_values (slice_index x i) w) ++ 0 ∷ [])
 
--- then the t steps, and the memory argument over 2 ^ k packed lines, in an order and with a network's bits
-unfoldable pub filled_values : ℕ → ℕ → List ℕ → List ℕ → ℕ → ℕ → List TraceState → List PairNum → Net → ℕ → List ℕ → List Bool → List ℕ
-filled_values w v x aux first t states pairs net k order bits =
+-- then the t steps, and the memory argument over 2 ^ k packed lines, in the order that a network's bits tell
+unfoldable pub filled_values : ℕ → ℕ → List ℕ → List ℕ → ℕ → ℕ → List TraceState → List PairNum → Net → ℕ → List Bool → List ℕ
+filled_values w v x aux first t states pairs net k bits =
     front_values w v x
-    ++ (joined_below t (told_values w (length x) states aux pairs first) ++ level_values net (k - 1) (place_at order) (bit_at bits) (map unpacked pairs))
+    ++ (joined_below t (told_values w (length x) states aux pairs first) ++ routed_values net (k - 1) (bit_at bits) (map unpacked pairs))
 
 -- the lines of an image's and a tape's words, those of steps, and padding up to 2 ^ k
 abbrev pub lines_told : List ℕ → List ℕ → List Line → ℕ → List Line
@@ -43,17 +43,16 @@ lines_told image x steps k =
     (boot_lines image x ++ steps) ++ padding count (2 ^ k - count)
 
 -- the parts fit each other
-pub record PartsFit (w n : ℕ) (aux : List ℕ) (first t : ℕ) (states : List TraceState) (pairs : List PairNum) (k : ℕ) (order : List ℕ) : Type 0 where
+pub record PartsFit (w n : ℕ) (aux : List ℕ) (first t : ℕ) (states : List TraceState) (pairs spare : List PairNum) (k : ℕ) : Type 0 where
   pub width : IsWidth w
   pub short : n < 2 ^ 29
   pub some : 1 ≤ k
   pub few : k ≤ 20
   pub states_many : length states ≡ t + 1
   pub pairs_many : length pairs ≡ 2 ^ k
+  pub spare_many : length spare ≡ 2 ^ k
   pub tape_fits : n ≤ first
   pub steps_fit : first + 3 * t ≤ 2 ^ k
-  pub order_many : length order ≡ 2 ^ k
-  pub within : All (λ place. place < 2 ^ k) order
   pub steps : (i : ℕ) → i < t → StepInRange w n states aux pairs first i
 
 -- ---- for a run

@@ -1,8 +1,12 @@
-ghost use Rattle.std.specs.Prelude.{◌≡◌, ◌+◌, ◌*◌, ◌/◌, ◌^◌, ◌<◌, ◌≤◌, false, length, IfOk, IfErr};
-ghost use Rattle.std.specs.Prelude.{OnOk};
+ghost use Rattle.std.specs.Prelude.{◌≡◌, ◌+◌, ◌*◌, ◌/◌, ◌^◌, ◌<◌, ◌≤◌, false, length, map, IfOk};
+ghost use Rattle.std.specs.Prelude.{IfErr, OnOk};
 ghost use Rattle.tv_core.specs.Giving.{GivesIn};
 ghost use Rattle.tv_fill.specs.Filled.{IsFilling, IsUnfilled, FillsIn};
 ghost use Rattle.tv_layout.specs.Places.{WithinLimits};
+ghost use Rattle.tv_lines.specs.Packing.{unpacked};
+ghost use Rattle.tv_memory.specs.Order.{address_order};
+ghost use Rattle.tv_route.specs.Permutations.{IsRoutable};
+ghost use Rattle.tv_route.specs.Route.{route_of};
 ghost use Rattle.tv_step.specs.Range.{AreWords};
 
 use crate::counting::count_values;
@@ -10,7 +14,7 @@ use crate::fault::FillFault;
 use crate::front::fill_front;
 use crate::packing::{log_of, pack_lines};
 use crate::steps::fill_steps;
-use std::alloc::Global;
+use std::alloc::{AllocError, Global};
 use std::marker::Model;
 use tv_benes::Net;
 use tv_core::{PairNum, Put, Values};
@@ -29,11 +33,12 @@ pub struct Filling<const W: u32> {
     first: u32,
     t: u32,
     states: States,
-    // 2^`k` lines, in time order.
+    // 2^`k` lines, in time order, and room for as many.
     pairs: Vec<PairNum>,
+    spare: Vec<PairNum>,
     net: Net,
     k: u32,
-    order: Vec<u32>,
+    // Those that send the lines to address order.
     settings: Settings,
 }
 
@@ -46,11 +51,11 @@ impl<const W: u32> Model for Filling<W> {
     ghost view = { λ f. record {
       answer = f.answer;
       values = filled_values W f.answer f.tape.items
-          f.aux.items f.first f.t f.states f.pairs.items f.net f.k f.order.items f.settings;
+          f.aux.items f.first f.t f.states f.pairs.items f.net f.k f.settings;
     } };
 
     ghost invariant = { λ f. PartsFit W (length f.tape.items) f.aux.items f.first f.t f.states
-        f.pairs.items f.k f.order.items };
+        f.pairs.items f.spare.items f.k };
 }
 
 impl<const W: u32> Filling<W> {
@@ -69,31 +74,44 @@ impl<const W: u32> Filling<W> {
         count_values::<W>(tape.len() as u32, self.t, self.net, self.k)
     }
 
-    /// Gives the values, in the order of the wires. It takes no memory.
-    pub fn give<V: Values>(&self, v: &mut V) -> Put<()>
+    /// Gives the values, in the order of the wires, and frees what was held for them. It takes time
+    /// linear in their number, and no memory.
+    pub fn give<V: Values>(self, v: &mut V) -> Put<()>
         requires whole { V.giving.broken v.old ≡ false }
-        ensures gives { GivesIn V.giving v.old v.new self.now.values result }
+        ensures gives { GivesIn V.giving v.old v.new self.entry.values result }
         ensures whole { OnOk result (V.giving.broken v.new ≡ false) }
     {
-        let tape = self.tape.as_slice();
-        let pairs = self.pairs.as_slice();
-        fill_front::<W, V>(v, self.answer, tape)?;
+        let Filling {
+            answer,
+            tape,
+            aux,
+            first,
+            t,
+            states,
+            mut pairs,
+            mut spare,
+            net,
+            k,
+            settings,
+        } = self;
+        let words = tape.as_slice();
+        fill_front::<W, V>(v, answer, words)?;
         fill_steps::<W, V>(
             v,
-            tape.len() as u32,
-            self.states.as_slice(),
-            self.aux.as_slice(),
-            pairs,
-            self.first,
-            self.t,
+            words.len() as u32,
+            states.as_slice(),
+            aux.as_slice(),
+            pairs.as_slice(),
+            first,
+            t,
         )?;
         fill_memory(
             v,
-            self.net,
-            self.k,
-            pairs,
-            self.order.as_slice(),
-            self.settings.as_slice(),
+            net,
+            k,
+            pairs.as_mut_slice(),
+            spare.as_mut_slice(),
+            settings.as_slice(),
         )
     }
 }
@@ -102,8 +120,8 @@ impl<const W: u32> Filling<W> {
 /// wires of its system over a network ready, where it answers. `NoRun` comes exactly where it
 /// doesn't, and tells how it ends. Beside the machine's own memory and copies of the tapes it takes
 /// at most 160 bytes for each of the 2^k lines of the system, and at most 100 bytes a line are held
-/// by what it answers. It takes the run's time twice, and then a time that grows as k times the
-/// lines.
+/// by what it answers, with the room that the lines are moved in when the values are given. It
+/// takes the run's time twice, and then a time that grows as k times the lines.
 pub fn prepare<const W: u32>(
     alloc: Global,
     image: &[u32],
@@ -128,8 +146,8 @@ pub fn prepare<const W: u32>(
     let first = (image.len() + tape.len()) as u32;
     let k = log_of(first + 3 * t);
     let pairs = pack_lines(alloc, image, tape, lines, k)?;
-    let order = address_order(alloc, &pairs)?;
-    let settings = routing_settings(alloc, net, &order)?;
+    let settings = settings_to_sort(alloc, net, &pairs)?;
+    let spare = Vec::from_slice(alloc, &pairs)?;
     Ok(Filling {
         answer,
         tape: Vec::from_slice(alloc, tape)?,
@@ -138,11 +156,22 @@ pub fn prepare<const W: u32>(
         t,
         states,
         pairs,
+        spare,
         net,
         k,
-        order,
         settings,
     })
+}
+
+// The settings that send packed lines, whose times are their places, to address order. The order is
+// kept no longer.
+fn settings_to_sort(alloc: Global, net: Net, pairs: &[PairNum]) -> Result<Settings, AllocError>
+    requires { IsRoutable (address_order (map unpacked pairs.now)) }
+    ensures { IfOk result (λ settings. settings
+        ≡ route_of net (address_order (map unpacked pairs.now))) }
+{
+    let order = address_order(alloc, pairs)?;
+    routing_settings(alloc, net, &order)
 }
 
 /// Gives the values of the wires of a system over a network, for the run of at most `t` steps on an

@@ -1,5 +1,5 @@
 //! The values of a system's wires for a run that answers: the run is made once, its lines are
-//! packed and sorted, and the values follow in the order of the wires.
+//! packed, the settings are found that sort them, and the values follow in the order of the wires.
 #![tactic(auto)]
 
 mod counting;
@@ -9,8 +9,6 @@ mod front;
 mod laws;
 mod packing;
 mod steps;
-#[cfg(test)]
-mod tests;
 
 pub use fault::FillFault;
 pub use filling::{Filling, fill_system, prepare};

@@ -32,7 +32,7 @@ placed t [] h i d k = absurd (omega arith)
 placed t (l ∷ ls) h zero d k = (h.0 ∙ omega arith, h.1)
 placed t (l ∷ ls) h (suc i) d k = let later = placed (t + 1) ls h.2 i d (omega arith) in (later.0 ∙ omega arith, later.1)
 
-pub map_value : (f : LineLc → Line) (ls : List LineLc) (i : ℕ) (d : LineLc) → get_or (map f ls) i (f d) ≡ f (get_or ls i d)
+pub map_value : {X Y : Type 0} (f : X → Y) (ls : List X) (i : ℕ) (d : X) → get_or (map f ls) i (f d) ≡ f (get_or ls i d)
 map_value f [] i d = refl
 map_value f (l ∷ ls) zero d = refl
 map_value f (l ∷ ls) (suc i) d = map_value f ls i d

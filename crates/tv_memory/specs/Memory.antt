@@ -89,6 +89,10 @@ level_values net h place bit lines =
     network_values net h bit (λ j. packed (number_in lines j))
     ++ (joined_below (2 ^ suc h) (unpack_values_at lines place) ++ joined_below (2 ^ suc h - 1) (pair_values_at lines place))
 
+-- the same where the bits tell the order: what comes out at a place is the line at the place that comes out there
+abbrev pub routed_values : Net → ℕ → (ℕ → Bool) → List Line → List ℕ
+routed_values net h bit lines = level_values net h (through net h bit (λ j. j)) bit lines
+
 -- ---- the laws
 -- where the lines at some places are in address order, and the bits send these places through the network, an
 -- assignment that has the values meets what was put

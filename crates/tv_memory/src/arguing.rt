@@ -6,7 +6,7 @@ ghost use Rattle.tv_core.specs.Sinks.{PutsIn, Grows, Room};
 ghost use Rattle.tv_memory.specs.Argument.{ArgumentIsSound, ArgumentIsComplete};
 ghost use Rattle.tv_memory.specs.Memory.{IsMade, bits_at, unpack_one, neighbours_of, sorted_of};
 ghost use Rattle.tv_memory.specs.Memory.{memory_of, memory_made, memory_added, OrderedIsMet};
-ghost use Rattle.tv_memory.specs.Order.{memory_values};
+ghost use Rattle.tv_memory.specs.Order.{memory_values, AddressOrderIsReached};
 
 use crate::lines::{Lines, Packed};
 use tv_benes::{Net, Outputs, routing_network};
@@ -103,6 +103,12 @@ pub fn memory_is_sound()
 pub fn memory_is_complete()
     ensures { (net : Net) → ArgumentIsComplete (memory_of net) (memory_values net)
         (memory_made net) }
+{}
+
+/// The settings for the address order of lines that have the times 0, 1, 2, .. take them there: the
+/// values that `fill_memory` gives by them are those for which `memory_is_complete` stands.
+pub fn address_order_is_reached()
+    ensures { AddressOrderIsReached }
 {}
 
 /// Where the lines at some places are in address order, and bits send these places through the

@@ -12,7 +12,9 @@ mod filling;
 mod lines;
 mod sorting;
 
-pub use arguing::{memory, memory_is_complete, memory_is_sound, ordered_is_met};
+pub use arguing::{
+    address_order_is_reached, memory, memory_is_complete, memory_is_sound, ordered_is_met,
+};
 pub use filling::fill_memory;
 pub use lines::Lines;
 pub use sorting::{address_order, address_order_is_right};

@@ -4,9 +4,9 @@ use Rattle.std.specs.Prelude.{slice_index}
 use Rattle.std.specs.List.{IsDistinct}
 use Rattle.std.proofs.lemmas.Bool.{cases_lt, cases_eq, eqb-true, eqb-false, ne_eqb}
 use Rattle.std.proofs.lemmas.List.{get_or_default}
-use Rattle.std.proofs.lemmas.List.FromFn.{length-map-range_with_len, get_or-map-range_with_len}
 use Rattle.std.proofs.lemmas.List.Sorted.{All-permutation, Contains-permutation, length_permutation}
 use Rattle.std.proofs.lemmas.Map.Keys.{apart_from_distinct, IsDistinct-from_apart, IsDistinct-IsPermutation}
+use Rattle.tv_benes.proofs.Permuting.{places-length, places-at}
 use Rattle.tv_benes.specs.Through.{places}
 use Rattle.tv_route.specs.Permutations.{Permutes}
 
@@ -20,14 +20,6 @@ flips a b = by_test (a == b) refl
     by_test : (c : Bool) → (a == b) ≡ c → (a == b) ≡ (b == a)
     by_test true e = e ∙ sym (eq-eqb b a (sym (eqb-true a b e)))
     by_test false e = e ∙ sym (ne_eqb b a (λ f. eqb-false a b e (sym f)))
-
-id_length : (n : ℕ) → length (places n (λ (i : ℕ). i)) ≡ n
-unfolding places
-id_length n = length-map-range_with_len (λ i. i) 0 n
-
-id_at : (n i d : ℕ) → i < n → get_or (places n (λ i. i)) i d ≡ i
-unfolding places
-id_at n i d h = get_or-map-range_with_len (λ i. i) 0 n i i d h (omega arith)
 
 record IsFound (n : ℕ) (p : List ℕ) (x : ℕ) : Type 0 where
   place : ℕ
@@ -51,22 +43,22 @@ permutes_of n p moved = record {
     ids = places n (λ (i : ℕ). i)
 
     long : length p ≡ n
-    long = length_permutation (places n (λ i. i)) p moved ∙ id_length n
+    long = length_permutation (places n (λ i. i)) p moved ∙ places-length n (λ i. i)
 
     small : All (λ v. v < n) p
-    small = All-permutation (λ v. v < n) (places n (λ i. i)) p moved (λ i d h. let l = id_length n in subst (λ v. v < n) (sym (id_at n i d (omega arith))) (omega arith))
+    small = All-permutation (λ v. v < n) (places n (λ i. i)) p moved (λ i d h. let l = places-length n (λ (i : ℕ). i) in subst (λ v. v < n) (sym (places-at n i (λ i. i) d (omega arith))) (omega arith))
 
     apart : (i j : ℕ) → i < j → j < length p → slice_index p i ≢ slice_index p j
     apart i j h k =
-        let l = id_length n in
+        let l = places-length n (λ (i : ℕ). i) in
         let first : IsDistinct same (places n (λ i. i)) = IsDistinct-from_apart same (places n (λ i. i)) (λ i j d h k.
-        ne_eqb (get_or (places n (λ i. i)) i d) (get_or (places n (λ i. i)) j d) (λ e. let f : i ≡ j = sym (id_at n i d (omega arith)) ∙ e ∙ id_at n j d (omega arith) in omega arith)) in
+        ne_eqb (get_or (places n (λ i. i)) i d) (get_or (places n (λ i. i)) j d) (λ e. let f : i ≡ j = sym (places-at n i (λ i. i) d (omega arith)) ∙ e ∙ places-at n j (λ i. i) d (omega arith) in omega arith)) in
         let after = IsDistinct-IsPermutation same flips (places n (λ i. i)) p moved first in
         eqb-false (slice_index p i) (slice_index p j) (apart_from_distinct same p i j 0 after h k)
 
     found : (x : ℕ) → ((x < n) ⊎ (n ≤ x)) → IsFound n p x
     found x (inl h) =
-        let l = id_length n in
-        let c = Contains-permutation (places n (λ i. i)) p x moved (x, omega arith, id_at n x x h) in
+        let l = places-length n (λ (i : ℕ). i) in
+        let c = Contains-permutation (places n (λ i. i)) p x moved (x, omega arith, places-at n x (λ i. i) x h) in
         record { place = c.0; fits = λ k. (omega (arith, c.1, long), get_or_default p c.0 0 x (omega (arith, c.1)) ∙ c.2) }
     found x (inr h) = record { place = 0; fits = λ k. absurd (omega arith) }

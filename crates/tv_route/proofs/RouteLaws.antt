@@ -5,8 +5,7 @@ use Rattle.std.proofs.lemmas.Bool.{cases_eq, lt-ltb}
 use Rattle.std.proofs.lemmas.Bool.Decides.{nat_tests}
 use Rattle.std.proofs.lemmas.List.{get_or_append_left, get_or-append_right}
 use Rattle.std.proofs.lemmas.Nat.{pow_pos}
-use Rattle.std.proofs.lemmas.List.FromFn.{length-map-range_with_len, get_or-map-range_with_len}
-use Rattle.tv_benes.proofs.Permuting.{alternating-even, alternating-odd}
+use Rattle.tv_benes.proofs.Permuting.{places-length, places-at, alternating-even, alternating-odd}
 use Rattle.tv_benes.proofs.ThroughLaws.{twice, switches-suc, missing_small, joined-same, through-same}
 use Rattle.tv_benes.specs.Through.{switches, from, passed, to_upper, to_lower, alternating, joined, last_bit, missing, through, places}
 use Rattle.tv_route.proofs.Halving.{sides_apart, pairs_apart, first_up}
@@ -15,15 +14,6 @@ use Rattle.tv_route.specs.Route.{Mark, halves, down, up_input, down_input, route
 use Rattle.tv_benes.specs.Items.{bit_at}
 use Rattle.tv_benes.specs.declared.shape.Net.{Net}
 use Rattle.tv_benes.specs.declared.shape.Net.TheVariants.{Benes, Waksman}
-
-module _ {X : Type 0} where
-  places-length : (n : ℕ) (f : ℕ → X) → length (places n f) ≡ n
-  unfolding places
-  places-length n f = length-map-range_with_len f 0 n
-
-  places-at : (n i : ℕ) (f : ℕ → X) (d : X) → i < n → get_or (places n f) i d ≡ f i
-  unfolding places
-  places-at n i f d h = get_or-map-range_with_len f 0 n i i d h (omega arith)
 
 -- ---- the inputs of one half
 -- inp j is the one of the two inputs of outputs 2 j and 2 j + 1 that goes through the half b

@@ -58,10 +58,6 @@ module _ {X : Type 0} where
   pub push_one : (bits new : List X) (j : ℕ) (f : ℕ → X) (x : X) → bits ≡ places j f → x ≡ f j → new ≡ bits ++ x ∷ [] → new ≡ places (j + 1) f
   push_one bits new j f x before is pushed = pushed ∙ ap₂ (λ l y. l ++ y ∷ []) before is ∙ sym (places-suc j f) ∙ ap (λ k. places k f) (sym (add-one j))
 
-  pub places_none : (f : ℕ → X) → places 0 f ≡ []
-  unfolding places
-  places_none f = refl
-
 pub route_one : (net : Net) (h : ℕ) (p : List ℕ) → h ≡ 0 → route net h p ≡ (slice_index p 0 == 1) ∷ []
 unfolding route
 route_one net h p none = ap (λ k. route net k p) none

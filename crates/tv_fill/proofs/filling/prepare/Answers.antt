@@ -1,13 +1,9 @@
 use Rattle.std.proofs.Common.{◌≡◌, ℕ, ◌+◌, List, length, map, ap, ap₂, ◌∙◌}
-use Rattle.tv_core.specs.declared.lines.PairNum.{PairNum}
 use Rattle.tv_fill.proofs.Prepared.{log_few, lines_fit, lines_in_range, routable, parts_fit, values_are}
 use Rattle.tv_fill.specs.Filled.{filled_values, lines_told}
 use Rattle.tv_layout.specs.Places.{line_count, log_of}
 use Rattle.tv_layout.specs.Systems.{run_values}
 use Rattle.tv_lines.specs.Packing.{unpacked}
-use Rattle.tv_memory.specs.Order.{address_order}
-use Rattle.tv_route.specs.Permutations.{IsRoutable}
-use Rattle.tv_route.specs.Route.{route_of}
 use Rattle.tv_fill.proofs.filling.prepare.Goals as goal
 
 pub pack_lines-requires-clause-few : goal.pack_lines-requires-clause-few
@@ -23,28 +19,23 @@ pub pack_lines-requires-clause-steps : goal.pack_lines-requires-clause-steps
 pack_lines-requires-clause-steps g c =
     lines_in_range g.row.W c.args.net c.args.image.now c.args.tape.now c.args.aux.now c.args.t c.requires.limits c.requires.tape_words c.requires.aux_words c.in_ok-answer.field-0.lines c.in_ok-answer.ensures.trace.lines
 
-pub routing_settings-requires : goal.routing_settings-requires
-routing_settings-requires g c =
-    let pairs = c.in_ok-pairs.pairs.items in
-    let order = c.in_ok-order.order.items in
-    let packed : map unpacked pairs ≡ lines_told c.args.image.now c.args.tape.now c.in_ok-answer.field-0.lines (log_of (line_count c.args.image.now (length c.args.tape.now) c.args.t)) =
+pub settings_to_sort-requires : goal.settings_to_sort-requires
+settings_to_sort-requires g c =
+    let packed : map unpacked c.in_ok-pairs.pairs.items ≡ lines_told c.args.image.now c.args.tape.now c.in_ok-answer.field-0.lines (log_of (line_count c.args.image.now (length c.args.tape.now) c.args.t)) =
     c.in_ok-pairs.ensures ∙ ap (lines_told c.args.image.now c.args.tape.now c.in_ok-answer.field-0.lines) c.log_of-k.ensures in
-    let ordered : order ≡ address_order (map unpacked pairs) = c.in_ok-order.ensures ∙ ap (λ (ps : List PairNum). address_order (map unpacked ps)) c.deref.ensures.value in
-    let is : IsRoutable order =
-    routable g.row.W c.args.net c.args.image.now c.args.tape.now c.args.aux.now c.args.t c.requires.limits c.requires.tape_words c.requires.aux_words
-    c.in_ok-answer.field-0.lines c.in_ok-answer.ensures.trace.lines c.in_ok-answer.field-0.states c.in_ok-answer.ensures.trace.states pairs packed order ordered in
-    rw c.deref-2.ensures.value is
+    rw c.deref.ensures.value
+    (routable g.row.W c.args.net c.args.image.now c.args.tape.now c.args.aux.now c.args.t c.requires.limits c.requires.tape_words c.requires.aux_words
+    c.in_ok-answer.field-0.lines c.in_ok-answer.ensures.trace.lines c.in_ok-answer.field-0.states c.in_ok-answer.ensures.trace.states c.in_ok-pairs.pairs.items packed)
 
 pub invariant_of-result : goal.invariant_of-result
 invariant_of-result g c =
     let pairs = c.in_ok-pairs.pairs.items in
-    let order = c.in_ok-order.order.items in
     let packed : map unpacked pairs ≡ lines_told c.args.image.now c.args.tape.now c.in_ok-answer.field-0.lines (log_of (line_count c.args.image.now (length c.args.tape.now) c.args.t)) =
     c.in_ok-pairs.ensures ∙ ap (lines_told c.args.image.now c.args.tape.now c.in_ok-answer.field-0.lines) c.log_of-k.ensures in
-    let ordered : order ≡ address_order (map unpacked pairs) = c.in_ok-order.ensures ∙ ap (λ (ps : List PairNum). address_order (map unpacked ps)) c.deref.ensures.value in
     let fit =
     parts_fit g.row.W c.args.net c.args.image.now c.args.tape.now c.args.aux.now c.args.t c.requires.limits c.requires.tape_words c.requires.aux_words
-    c.in_ok-answer.field-0.lines c.in_ok-answer.ensures.trace.lines c.in_ok-answer.field-0.states c.in_ok-answer.ensures.trace.states pairs packed order ordered in
+    c.in_ok-answer.field-0.lines c.in_ok-answer.ensures.trace.lines c.in_ok-answer.field-0.states c.in_ok-answer.ensures.trace.states pairs packed
+    c.in_ok-spare.spare.items (c.in_ok-spare.ensures.items ∙ c.deref-2.ensures.value) in
     rw (c.in_ok-from_slice.ensures.items, c.in_ok-from_slice-2.ensures.items, c.log_of-k.ensures) fit
 
 pub returns-clause-filling : goal.returns-clause-filling
@@ -54,17 +45,15 @@ returns-clause-filling g c =
     let v = c.in_ok-answer.field-0.answer in
     let states = c.in_ok-answer.field-0.states in
     let pairs = c.in_ok-pairs.pairs.items in
-    let order = c.in_ok-order.order.items in
     let bits = c.in_ok-settings.settings in
     let packed : map unpacked pairs ≡ lines_told c.args.image.now c.args.tape.now c.in_ok-answer.field-0.lines (log_of (line_count c.args.image.now (length c.args.tape.now) c.args.t)) =
     c.in_ok-pairs.ensures ∙ ap (lines_told c.args.image.now c.args.tape.now c.in_ok-answer.field-0.lines) c.log_of-k.ensures in
-    let ordered : order ≡ address_order (map unpacked pairs) = c.in_ok-order.ensures ∙ ap (λ (ps : List PairNum). address_order (map unpacked ps)) c.deref.ensures.value in
-    let set : bits ≡ route_of c.args.net order = c.in_ok-settings.ensures ∙ ap (route_of c.args.net) c.deref-2.ensures.value in
+    let set = rw c.deref.ensures.value at c.in_ok-settings.ensures in
     let whole =
     values_are w c.args.net c.args.image.now c.args.tape.now c.args.aux.now c.args.t c.requires.limits c.requires.tape_words c.requires.aux_words
-    c.in_ok-answer.field-0.lines c.in_ok-answer.ensures.trace.lines states c.in_ok-answer.ensures.trace.states pairs packed order ordered bits set v in
-    let values : filled_values w v c.in_ok-from_slice.field-0.items c.in_ok-from_slice-2.field-0.items first c.args.t states pairs c.args.net c.log_of-k.result order bits
+    c.in_ok-answer.field-0.lines c.in_ok-answer.ensures.trace.lines states c.in_ok-answer.ensures.trace.states pairs packed bits set v in
+    let values : filled_values w v c.in_ok-from_slice.field-0.items c.in_ok-from_slice-2.field-0.items first c.args.t states pairs c.args.net c.log_of-k.result bits
     ≡ run_values w c.args.net c.args.image.now c.args.tape.now c.args.aux.now c.args.t v =
-    ap₂ (λ (x y : List ℕ). filled_values w v x y first c.args.t states pairs c.args.net c.log_of-k.result order bits) c.in_ok-from_slice.ensures.items c.in_ok-from_slice-2.ensures.items
-    ∙ (ap (λ (k : ℕ). filled_values w v c.args.tape.now c.args.aux.now first c.args.t states pairs c.args.net k order bits) c.log_of-k.ensures ∙ whole) in
+    ap₂ (λ (x y : List ℕ). filled_values w v x y first c.args.t states pairs c.args.net c.log_of-k.result bits) c.in_ok-from_slice.ensures.items c.in_ok-from_slice-2.ensures.items
+    ∙ (ap (λ (k : ℕ). filled_values w v c.args.tape.now c.args.aux.now first c.args.t states pairs c.args.net k bits) c.log_of-k.ensures ∙ whole) in
     record { answer = c.in_ok-answer.ensures.trace.answer; values = values }

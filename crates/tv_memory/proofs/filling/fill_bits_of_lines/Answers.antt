@@ -1,32 +1,30 @@
-use Rattle.std.proofs.Common.{◌<◌, length, map}
-use Rattle.std.proofs.lemmas.List.Elements.{All-get_or}
+use Rattle.std.proofs.Common.{◌≡◌, refl, ap}
+use Rattle.std.proofs.lemmas.List.{get_or_read_under}
+use Rattle.tv_benes.specs.Items.{pair_at}
 use Rattle.tv_core.proofs.GivingChain.{gives_refused}
 use Rattle.tv_core.proofs.JoinedLaws.{gives_no_list, gives_list, gives_list_refused}
-use Rattle.tv_lines.specs.Packing.{unpacked}
-use Rattle.tv_memory.proofs.FillingLaws.{bits_are, given_all, given_some}
-use Rattle.tv_memory.specs.Memory.{place_at, unpack_values_at}
+use Rattle.tv_lines.specs.Unpacking.{unpack_values}
+use Rattle.tv_memory.proofs.FillingLaws.{given_all, given_some}
 use Rattle.tv_memory.proofs.filling.fill_bits_of_lines.Goals as goal
 
-pub loop-i-init : goal.loop-i-init
-loop-i-init g c = record {
-  gives = gives_no_list g.V.Values.giving (unpack_values_at (map unpacked c.args.pairs.now) (place_at c.args.order.now)) _;
+pub loop-pair-init : goal.loop-pair-init
+loop-pair-init g c = record {
+  gives = gives_no_list g.V.Values.giving (λ i. unpack_values (pair_at c.args.pairs.now i)) _;
   whole = c.requires.whole;
 }
 
-pub loop-i-preserved : goal.loop-i-preserved
-loop-i-preserved g c =
+pub loop-pair-preserved : goal.loop-pair-preserved
+loop-pair-preserved g c =
     let m = g.V.Values.giving in
-    let h : place_at c.args.order.now c.loop-i.i < length c.args.pairs.now = All-get_or (λ p. p < length c.args.pairs.now) c.args.order.now c.loop-i.i 0 c.loop-i-test.true c.requires.within in
-    let values = bits_are c.args.pairs.now (place_at c.args.order.now) c.loop-i.i c.index-pairs-order.result h c.index-pairs-order.is in
+    let values : unpack_values c.pair-item.result ≡ unpack_values (pair_at c.args.pairs.now c.loop-pair.pair-index) = ap unpack_values (get_or_read_under _ _ _ _ _ c.pair-item.is c.loop-pair-test.true refl) in
     record {
-      gives = gives_list m (unpack_values_at (map unpacked c.args.pairs.now) (place_at c.args.order.now)) c.loop-i.i _ _ _ c.loop-i.invariant.gives (given_all m _ _ _ _ values c.in_ok-fill_unpack.ensures.gives);
+      gives = gives_list m (λ i. unpack_values (pair_at c.args.pairs.now i)) c.loop-pair.pair-index _ _ _ c.loop-pair.invariant.gives (given_all m _ _ _ _ values c.in_ok-fill_unpack.ensures.gives);
       whole = c.in_ok-fill_unpack.ensures.whole;
     }
 
 pub returns-in_err-fill_unpack-clause-gives : goal.returns-in_err-fill_unpack-clause-gives
 returns-in_err-fill_unpack-clause-gives g c =
     let m = g.V.Values.giving in
-    let h : place_at c.args.order.now c.loop-i.i < length c.args.pairs.now = All-get_or (λ p. p < length c.args.pairs.now) c.args.order.now c.loop-i.i 0 c.loop-i-test.true c.requires.within in
-    let values = bits_are c.args.pairs.now (place_at c.args.order.now) c.loop-i.i c.index-pairs-order.result h c.index-pairs-order.is in
+    let values : unpack_values c.pair-item.result ≡ unpack_values (pair_at c.args.pairs.now c.loop-pair.pair-index) = ap unpack_values (get_or_read_under _ _ _ _ _ c.pair-item.is c.loop-pair-test.true refl) in
     gives_refused m _ _ _ c.from_residual.result c.from_residual.ensures.1
-    (gives_list_refused m (unpack_values_at (map unpacked c.args.pairs.now) (place_at c.args.order.now)) (length c.args.order.now) c.loop-i.i _ _ _ _ c.loop-i-test.true c.loop-i.invariant.gives (given_some m _ _ _ _ values _ c.in_err-fill_unpack.ensures.gives))
+    (gives_list_refused m (λ i. unpack_values (pair_at c.args.pairs.now i)) _ c.loop-pair.pair-index _ _ _ _ c.loop-pair-test.true c.loop-pair.invariant.gives (given_some m _ _ _ _ values _ c.in_err-fill_unpack.ensures.gives))

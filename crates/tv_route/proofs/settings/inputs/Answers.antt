@@ -1,12 +1,13 @@
 use Rattle.std.proofs.Common.{ℕ, ◌*◌, ◌/◌, if◌then◌else◌, sym, ◌∙◌, ap, arith}
-use Rattle.tv_route.proofs.Steps.{places_none, push_one}
+use Rattle.tv_benes.proofs.Permuting.{places-zero}
+use Rattle.tv_route.proofs.Steps.{push_one}
 use Rattle.tv_route.specs.Route.{down_input, up_input}
 use Rattle.tv_route.proofs.settings.inputs.Goals as goal
 
 pub loop-j-init : goal.loop-j-init
 loop-j-init c =
     let f : ℕ → ℕ = λ j. (if c.args.lower then down_input c.args.marks.now c.args.p.now j else up_input c.args.marks.now c.args.p.now j) / 2 in
-    c.in_ok-found.ensures.items ∙ sym (places_none f)
+    c.in_ok-found.ensures.items ∙ sym (places-zero f)
 
 pub loop-j-preserved : goal.loop-j-preserved
 loop-j-preserved c =

@@ -19,4 +19,4 @@ returns g c =
     let i = c.self.inside in
     let tape = ap (λ (x : List ℕ). 3 + length x + length x * g.row.W + i.t * block_made g.row.W + memory_made i.net i.k) c.as_slice-tape.ensures.value in
     c.count_values.ensures ∙ (tape
-    ∙ (sym (filled_many g.row.W i.answer i.first i.t i.k i.net i.tape.items i.aux.items i.states i.pairs.items i.order.items i.settings c.self.invariant) ∙ ap (λ (f : Filled). length f.values) c.self.view_is))
+    ∙ (sym (filled_many g.row.W i.answer i.first i.t i.k i.net i.tape.items i.aux.items i.states i.pairs.items i.spare.items i.settings c.self.invariant) ∙ ap (λ (f : Filled). length f.values) c.self.view_is))

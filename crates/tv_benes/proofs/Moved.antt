@@ -1,0 +1,271 @@
+-- Items that are moved along: lists of what stands at each place, and that a network does the same
+-- with items that are the same at the places that it has.
+use Rattle.std.proofs.Common.{◌≡◌, ℕ, zero, suc, ◌+◌, ◌-◌, ◌*◌, ◌/◌, ◌^◌, ◌<◌, ◌≤◌, inl, inr}
+use Rattle.std.proofs.Common.{Bool, false, if◌then◌else◌, List, [], ◌∷◌, ◌++◌, length, get_or, set}
+use Rattle.std.proofs.Common.{refl, sym, ◌∙◌, ap, ap₂, subst, arith, length-append}
+use Rattle.std.proofs.lemmas.Bool.{cases_lt, lt-ltb, le-ltb, ne_eqb}
+use Rattle.std.proofs.lemmas.List.{append-nil, get_or_default, length-set}
+use Rattle.std.proofs.lemmas.List.Edits.{fill_by_more}
+use Rattle.std.proofs.lemmas.List.FromFn.{fill_by_all}
+use Rattle.std.proofs.lemmas.Nat.{pow_pos}
+use Rattle.std.specs.Prelude.{nat_lt}
+use Rattle.tv_benes.proofs.ColumnChain.{one_switch, switch_refused, values_as}
+use Rattle.tv_benes.proofs.Permuting.{alternating-even, alternating-odd}
+use Rattle.tv_benes.proofs.Permuting.{places-length, places-at, places-same}
+use Rattle.tv_benes.proofs.Sources.{from_from, last_even, last_odd}
+use Rattle.tv_benes.proofs.ThroughLaws.{twice, missing_small}
+use Rattle.tv_benes.proofs.ThroughLaws.{passed-same, alternating-same, joined-same, through-same}
+use Rattle.tv_benes.specs.Items.{pair_at}
+use Rattle.tv_benes.specs.Network.{switch_values, column_values, last_column_values, network_values}
+use Rattle.tv_benes.specs.Through.{switches, missing, from, passed, to_upper, to_lower, alternating}
+use Rattle.tv_benes.specs.Through.{joined, last_bit, through, places}
+use Rattle.tv_benes.specs.declared.shape.Net.{Net}
+use Rattle.tv_benes.specs.declared.shape.Net.TheVariants.{Benes, Waksman}
+use Rattle.tv_core.proofs.GivingChain.{gives_then}
+use Rattle.tv_core.specs.Giving.{Giving, GivesAll, GivesSome}
+use Rattle.tv_core.specs.declared.lines.PairNum.{PairNum}
+use Rattle.tv_core.specs.declared.sink.SinkFault.{SinkFault}
+
+-- f and g are the same below n
+abbrev pub SameBelow : ℕ → (ℕ → PairNum) → (ℕ → PairNum) → Type 0
+SameBelow n f g = (j : ℕ) → j < n → f j ≡ g j
+
+-- item i of the last column, over what the two networks before it give, but for what passes
+abbrev pub taken : Net → (ℕ → PairNum) → (ℕ → PairNum) → ℕ → PairNum
+taken net u l i = alternating u l (i + 2 * missing net)
+
+-- ---- the same items have the same values
+pub column_values-same : (n : ℕ) (bit : ℕ → Bool) (item item' : ℕ → PairNum)
+    → SameBelow (2 * n) item item' → column_values n bit item ≡ column_values n bit item'
+unfolding column_values
+column_values-same zero bit item item' same = refl
+column_values-same (suc n) bit item item' same =
+    ap₂ (λ xs ys. xs ++ ys) (column_values-same n bit item item' (λ j h. same j (omega arith)))
+    (values_as (bit n) (bit n) _ _ _ _ refl (same (2 * n) (omega arith)) (same (2 * n + 1) (omega arith)))
+
+pub taken_values-same : (net : Net) (n : ℕ) (bit : ℕ → Bool) (u u' l l' : ℕ → PairNum)
+    → 1 ≤ n → SameBelow n u u' → SameBelow n l l'
+    → column_values (n - missing net) bit (taken net u l) ≡ column_values (n - missing net) bit (taken net u' l')
+taken_values-same net n bit u u' l l' some up low =
+    let one = missing_small net in
+    let m = missing net in
+    column_values-same (n - m) bit (taken net u l) (taken net u' l') (λ i h.
+    alternating-same u u' l l' (i + 2 * m) (up ((i + 2 * m) / 2) (omega arith)) (low ((i + 2 * m) / 2) (omega arith)))
+
+module _ (n : ℕ) (bit : ℕ → Bool) (item item' : ℕ → PairNum) (same : SameBelow (2 * n) item item') where
+  upper-same : SameBelow n (to_upper bit item) (to_upper bit item')
+  upper-same j h = passed-same (bit j) (bit j) _ _ _ _ refl (same (2 * j) (omega arith)) (same (2 * j + 1) (omega arith))
+
+  lower-same : SameBelow n (to_lower bit item) (to_lower bit item')
+  lower-same j h = passed-same (bit j) (bit j) _ _ _ _ refl (same (2 * j + 1) (omega arith)) (same (2 * j) (omega arith))
+
+pub network_values-same : (net : Net) (h : ℕ) (bit : ℕ → Bool) (item item' : ℕ → PairNum)
+    → SameBelow (2 ^ suc h) item item' → network_values net h bit item ≡ network_values net h bit item'
+unfolding network_values
+network_values-same net zero bit item item' same = column_values-same 1 bit item item' (λ j h. same j (omega arith))
+network_values-same net (suc h) bit item item' same =
+    let n = 2 ^ suc h in
+    let s = switches net h in
+    let two = twice (suc h) in
+    let same' : SameBelow (2 * n) item item' = λ j k. same j (omega arith) in
+    let up = upper-same n bit item item' same' in
+    let low = lower-same n bit item item' same' in
+    let u = through net h (from n bit) (to_upper bit item) in
+    let u' = through net h (from n bit) (to_upper bit item') in
+    let l = through net h (from (n + s) bit) (to_lower bit item) in
+    let l' = through net h (from (n + s) bit) (to_lower bit item') in
+    ap₂ (λ xs ys. xs ++ ys) (column_values-same n bit item item' same')
+    (ap₂ (λ xs ys. xs ++ ys) (network_values-same net h (from n bit) (to_upper bit item) (to_upper bit item') up)
+    (ap₂ (λ xs ys. xs ++ ys) (network_values-same net h (from (n + s) bit) (to_lower bit item) (to_lower bit item') low)
+    (taken_values-same net n (from (n + 2 * s) bit) u u' l l' (pow_pos (suc h))
+    (through-same net h (from n bit) (from n bit) (to_upper bit item) (to_upper bit item') (λ j k. refl) up)
+    (through-same net h (from (n + s) bit) (from (n + s) bit) (to_lower bit item) (to_lower bit item') (λ j k. refl) low))))
+
+-- ---- a list of what stands at each place
+none : PairNum
+none = record { first = 0; second = 0 }
+
+-- a list whose items are those of a function is its list of places
+pub is_places : (n : ℕ) (f : ℕ → PairNum) (xs : List PairNum) → length xs ≡ n → SameBelow n (pair_at xs) f → xs ≡ places n f
+unfolding places none
+is_places n f xs long each = fill_by_all f xs n none long each
+
+pub pair_at-places : (n : ℕ) (f : ℕ → PairNum) (xs : List PairNum) → xs ≡ places n f → SameBelow n (pair_at xs) f
+unfolding none
+pair_at-places n f xs is j h = ap (λ l. pair_at l j) is ∙ places-at n j f none h
+
+-- an item that is read
+pub read_item : (xs : List PairNum) (j : ℕ) (x : PairNum) → j < length xs → x ≡ get_or xs j x → x ≡ pair_at xs j
+unfolding none
+read_item xs j x within is = is ∙ get_or_default xs j x none within
+
+-- what one more switch of a first column writes to a half
+pub place_more : (f : ℕ → PairNum) (xs : List PairNum) (j : ℕ) (p : PairNum) → j < length xs → p ≡ f j
+    → SameBelow j (pair_at xs) f → SameBelow (j + 1) (pair_at (set xs j p)) f
+unfolding none
+place_more f xs j p within is before k h =
+    ap (λ q. pair_at (set xs j q) k) is ∙ fill_by_more f xs j none within before k h
+
+-- what one more switch of a last column writes
+pub join_more : (bit : ℕ → Bool) (u l : ℕ → PairNum) (xs : List PairNum) (j : ℕ) (p q : PairNum) → 2 * j + 1 < length xs
+    → p ≡ passed (bit j) (u j) (l j) → q ≡ passed (bit j) (l j) (u j) → SameBelow (2 * j) (pair_at xs) (joined bit u l)
+    → SameBelow (2 * (j + 1)) (pair_at (set (set xs (2 * j) p) (2 * j + 1) q)) (joined bit u l)
+join_more bit u l xs j p q within first second before k h =
+    let f = joined bit u l in
+    let even = first ∙ sym (alternating-even (λ j. passed (bit j) (u j) (l j)) (λ j. passed (bit j) (l j) (u j)) j) in
+    let odd = second ∙ sym (alternating-odd (λ j. passed (bit j) (u j) (l j)) (λ j. passed (bit j) (l j) (u j)) j) in
+    place_more f (set xs (2 * j) p) (2 * j + 1) q (omega (arith, length-set xs (2 * j) p)) odd
+    (place_more f xs (2 * j) p (omega arith) even before) k (omega arith)
+
+-- ---- one more switch of a last column, unless it is left out
+-- a call that gives nothing is not refused
+no_refusal : {V : Type 0} (m : Giving V) (old new : V) (fault : SinkFault) → GivesSome m old new [] fault → ⊥
+no_refusal m old new fault p = let long = ap length p.at ∙ length-append p.front (p.refused ∷ p.back) in omega (arith, long)
+
+-- the bit of a switch that there is
+kept_bit : (net : Net) (bit : ℕ → Bool) (j : ℕ) → missing net ≤ j → last_bit net bit j ≡ bit (j - missing net)
+kept_bit Waksman bit zero h = absurd (omega arith)
+kept_bit Waksman bit (suc j) h = ap (λ (c : Bool). if c then false else bit (suc j - 1)) (ne_eqb (suc j) 0 (λ e. absurd (omega arith)))
+kept_bit Benes bit j h = let same : j ≡ j - 0 = omega arith in ap bit same
+
+module _ {V : Type 0} (m : Giving V) (net : Net) (bit : ℕ → Bool) (u l : ℕ → PairNum) where
+  -- the values of switch j of them all
+  abbrev pub values_of : ℕ → List ℕ
+  values_of j = if nat_lt j (missing net) then [] else switch_values (last_bit net bit j) (u j) (l j)
+
+  left_out : (j : ℕ) → j < missing net → values_of j ≡ []
+  left_out j h = ap (λ (c : Bool). if c then [] else switch_values (last_bit net bit j) (u j) (l j)) (lt-ltb j (missing net) h)
+
+  put_in : (j : ℕ) → missing net ≤ j
+      → values_of j ≡ switch_values (bit (j - missing net)) (taken net u l (2 * (j - missing net))) (taken net u l (2 * (j - missing net) + 1))
+  put_in j h =
+      let back : j ≡ j - missing net + missing net = omega arith in
+      ap (λ (c : Bool). if c then [] else switch_values (last_bit net bit j) (u j) (l j)) (le-ltb j (missing net) h)
+      ∙ values_as _ _ _ _ _ _ (kept_bit net bit j h) (ap u back ∙ sym (last_even u l (j - missing net) (missing net)))
+      (ap l back ∙ sym (last_odd u l (j - missing net) (missing net)))
+
+  pub last_given : (j : ℕ) (old mid new : V) → GivesAll m old mid (column_values (j - missing net) bit (taken net u l))
+      → GivesAll m mid new (values_of j) → GivesAll m old new (column_values (j + 1 - missing net) bit (taken net u l))
+  last_given j old mid new p q = elim (cases_lt j (missing net)) [
+    | inl h ↦
+        let one = missing_small net in
+        let same : j - missing net ≡ j + 1 - missing net = omega arith in
+        let nothing = subst (λ (values : List ℕ). GivesAll m mid new values) (left_out j h) q in
+        subst (λ (n : ℕ). GivesAll m old new (column_values n bit (taken net u l))) same
+        (subst (λ (values : List ℕ). GivesAll m old new values) (append-nil (column_values (j - missing net) bit (taken net u l)))
+        (gives_then m _ _ old mid new p nothing))
+    | inr h ↦
+        let next : j - missing net + 1 ≡ j + 1 - missing net = omega arith in
+        subst (λ (n : ℕ). GivesAll m old new (column_values n bit (taken net u l))) next
+        (one_switch m bit (taken net u l) (j - missing net) old mid new p (subst (λ (values : List ℕ). GivesAll m mid new values) (put_in j h) q))
+  ]
+
+  pub last_refused : (n j : ℕ) (old mid new : V) (fault : SinkFault) → j < n
+      → GivesAll m old mid (column_values (j - missing net) bit (taken net u l)) → GivesSome m mid new (values_of j) fault
+      → GivesSome m old new (column_values (n - missing net) bit (taken net u l)) fault
+  last_refused n j old mid new fault within p q = elim (cases_lt j (missing net)) [
+    | inl h ↦ absurd (no_refusal m mid new fault (subst (λ (values : List ℕ). GivesSome m mid new values fault) (left_out j h) q))
+    | inr h ↦
+        switch_refused m bit (taken net u l) (n - missing net) (j - missing net) old mid new fault (omega arith) p
+        (subst (λ (values : List ℕ). GivesSome m mid new values fault) (put_in j h) q)
+  ]
+
+-- ---- the lowest level
+pub network_values-two : (net : Net) (h : ℕ) (bit : ℕ → Bool) (item : ℕ → PairNum) → h ≡ 0
+    → network_values net h bit item ≡ switch_values (bit 0) (item 0) (item 1)
+unfolding network_values column_values
+network_values-two net h bit item lowest = ap (λ l. network_values net l bit item) lowest ∙ by
+  where
+    by : network_values net 0 bit item ≡ switch_values (bit 0) (item 0) (item 1)
+    by = refl
+
+pub through-two : (net : Net) (h : ℕ) (bit : ℕ → Bool) (item : ℕ → PairNum) → h ≡ 0
+    → places (2 ^ suc h) (through net h bit item) ≡ passed (bit 0) (item 0) (item 1) ∷ passed (bit 0) (item 1) (item 0) ∷ []
+unfolding through places
+through-two net h bit item lowest = ap (λ l. places (2 ^ suc l) (through net l bit item)) lowest ∙ by
+  where
+    by : places (2 ^ 1) (through net 0 bit item) ≡ passed (bit 0) (item 0) (item 1) ∷ passed (bit 0) (item 1) (item 0) ∷ []
+    by = refl
+
+-- ---- a level above it
+-- what a network of level k does with a list, and with the items f that the list has below n
+pub record DoesSame (net : Net) (k n : ℕ) (bit bit' : ℕ → Bool) (f : ℕ → PairNum) (xs : List PairNum) : Type 0 where
+  pub values : network_values net k bit (pair_at xs) ≡ network_values net k bit' f
+  pub moved : (ys : List PairNum) → ys ≡ places (2 ^ suc k) (through net k bit (pair_at xs)) → ys ≡ places n (through net k bit' f)
+
+does_same : (net : Net) (k n : ℕ) → n ≡ 2 ^ suc k → (bit bit' : ℕ → Bool) → ◌≡◌ {A = ℕ → Bool} bit bit' → (f : ℕ → PairNum) (xs : List PairNum)
+    → xs ≡ places n f → DoesSame net k n bit bit' f xs
+does_same net k n size bit bit' same f xs is =
+    let each : SameBelow (2 ^ suc k) (pair_at xs) f = λ j h. pair_at-places n f xs is j (omega arith) in
+    record {
+      values = network_values-same net k bit (pair_at xs) f each ∙ ap (λ (b : ℕ → Bool). network_values net k b f) same;
+      moved = λ ys moved.
+          moved ∙ places-same (2 ^ suc k) (through net k bit (pair_at xs)) (through net k bit f)
+          (through-same net k bit bit (pair_at xs) f (λ j h. refl) each)
+          ∙ ap (λ (b : ℕ → Bool). places (2 ^ suc k) (through net k b f)) same ∙ ap (λ m. places m (through net k bit' f)) (sym size);
+    }
+
+-- a network of level h = k + 1 on these items, whose bits begin at `at` among b: n switches, twice s, and n less
+-- those that are missing
+module _ (net : Net) (h k : ℕ) (level : h ≡ suc k) (at n s : ℕ) (size : n ≡ 2 ^ h) (inner : s ≡ switches net k) (b : ℕ → Bool) (item : ℕ → PairNum) where
+  bit : ℕ → Bool
+  bit = from at b
+
+  bits_at : (place within : ℕ) → place ≡ at + within → ◌≡◌ {A = ℕ → Bool} (from place b) (from within bit)
+  unfolding bit
+  bits_at place within e = ap (λ (m : ℕ). from m b) e ∙ sym (from_from within at b)
+
+  -- the items of the halves
+  abbrev pub upper_out : ℕ → PairNum
+  upper_out = through net k (from (2 ^ h) (from at b)) (to_upper (from at b) item)
+
+  abbrev pub lower_out : ℕ → PairNum
+  lower_out = through net k (from (2 ^ h + switches net k) (from at b)) (to_lower (from at b) item)
+
+  pub upper_does : (xs : List PairNum) → xs ≡ places (2 ^ h) (to_upper (from at b) item)
+      → DoesSame net k (2 ^ h) (from (at + n) b) (from (2 ^ h) (from at b)) (to_upper (from at b) item) xs
+  unfolding bit
+  upper_does xs is = does_same net k (2 ^ h) (ap (λ j. 2 ^ j) level) _ _ (bits_at (at + n) (2 ^ h) (omega arith)) (to_upper bit item) xs is
+
+  pub lower_does : (xs : List PairNum) → xs ≡ places (2 ^ h) (to_lower (from at b) item)
+      → DoesSame net k (2 ^ h) (from (at + n + s) b) (from (2 ^ h + switches net k) (from at b)) (to_lower (from at b) item) xs
+  unfolding bit
+  lower_does xs is =
+      does_same net k (2 ^ h) (ap (λ j. 2 ^ j) level) _ _ (bits_at (at + n + s) (2 ^ h + switches net k) (omega arith)) (to_lower bit item) xs is
+
+  -- the last column
+  module _ (us ls : List PairNum) (up : us ≡ places (2 ^ h) upper_out) (low : ls ≡ places (2 ^ h) lower_out) where
+    long : length us ≡ 2 ^ h
+    long = ap length up ∙ places-length (2 ^ h) upper_out
+
+    last_bits : ◌≡◌ {A = ℕ → Bool} (from (at + n + 2 * s) b) (from (2 ^ h + 2 * switches net k) bit)
+    last_bits = bits_at (at + n + 2 * s) (2 ^ h + 2 * switches net k) (omega arith)
+
+    -- what the halves give, were the level k + 1 in place of h
+    upper_of : ℕ → ℕ → PairNum
+    upper_of l = through net k (from (2 ^ l) bit) (to_upper bit item)
+
+    lower_of : ℕ → ℕ → PairNum
+    lower_of l = through net k (from (2 ^ l + switches net k) bit) (to_lower bit item)
+
+    pub moved_values : column_values (length us - missing net) (from (at + n + 2 * s) b) (taken net (pair_at us) (pair_at ls))
+        ≡ last_column_values net k (from at b) item
+    unfolding bit upper_of lower_of
+    moved_values =
+        ap₂ (λ (m : ℕ) (f : ℕ → Bool). column_values (m - missing net) f (taken net (pair_at us) (pair_at ls))) long last_bits
+        ∙ taken_values-same net (2 ^ h) (from (2 ^ h + 2 * switches net k) bit) (pair_at us) upper_out (pair_at ls) lower_out (pow_pos h)
+        (pair_at-places (2 ^ h) upper_out us up) (pair_at-places (2 ^ h) lower_out ls low)
+        ∙ ap (λ l. column_values (2 ^ l - missing net) (from (2 ^ l + 2 * switches net k) bit) (taken net (upper_of l) (lower_of l))) level
+
+    pub moved_items : places (2 * length us) (joined (last_bit net (from (at + n + 2 * s) b)) (pair_at us) (pair_at ls))
+        ≡ places (2 ^ suc h) (through net h (from at b) item)
+    unfolding bit upper_of lower_of through
+    moved_items =
+        let two = twice h in
+        let last = last_bit net (from (2 ^ h + 2 * switches net k) bit) in
+        ap₂ (λ (m : ℕ) (f : ℕ → Bool). places (2 * m) (joined (last_bit net f) (pair_at us) (pair_at ls))) long last_bits
+        ∙ places-same (2 * 2 ^ h) (joined last (pair_at us) (pair_at ls)) (joined last upper_out lower_out) (λ i within.
+        joined-same last last (pair_at us) upper_out (pair_at ls) lower_out i refl
+        (pair_at-places (2 ^ h) upper_out us up (i / 2) (omega arith)) (pair_at-places (2 ^ h) lower_out ls low (i / 2) (omega arith)))
+        ∙ ap (λ l. places (2 * 2 ^ h) (joined (last_bit net (from (2 ^ l + 2 * switches net k) bit)) (upper_of l) (lower_of l))) level
+        ∙ ap₂ (λ m l. places m (through net l bit item)) (sym two) (sym level)

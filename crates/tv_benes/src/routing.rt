@@ -1,0 +1,178 @@
+ghost use Rattle.std.specs.Prelude.{◌≡◌, suc, false, [], ◌∷◌, ◌+◌, ◌-◌, ◌*◌, ◌^◌, ◌<◌, ◌≤◌, length};
+ghost use Rattle.std.specs.Prelude.{OnOk, if◌then◌else◌};
+ghost use Rattle.tv_benes.specs.Items.{bit_at, pair_at};
+ghost use Rattle.tv_benes.specs.Network.{switch_values, column_values, network_values};
+ghost use Rattle.tv_benes.specs.Through.{switches, missing, from, passed, to_upper, to_lower};
+ghost use Rattle.tv_benes.specs.Through.{alternating, joined, last_bit, through, places};
+ghost use Rattle.tv_core.specs.Giving.{GivesIn};
+
+use crate::filling::fill_switch;
+use crate::items::{bit, last_bit};
+use crate::shape::{Net, level_switches, long_power, missing};
+use tv_core::{PairNum, Put, Values};
+
+/// Gives the values of the wires that `routing_network` makes, as `fill_routing_network` does, and
+/// moves the items to the places where they come out; a bit that is not there counts as 0. `spare`
+/// is room for as many items: what it holds doesn't matter, nor is it told what it holds after.
+/// After a refusal it isn't told where the items are. It takes time linear in the number of
+/// switches, and no memory.
+pub fn route_items<V: Values>(
+    v: &mut V,
+    net: Net,
+    k: u32,
+    items: &mut [PairNum],
+    spare: &mut [PairNum],
+    bits: &[bool],
+) -> Put<()>
+    requires whole { V.giving.broken v.old ≡ false }
+    requires some { 1 ≤ k }
+    requires few { k ≤ 31 }
+    requires items { length items.old ≡ 2 ^ k }
+    requires spare { length spare.old ≡ 2 ^ k }
+    ensures gives { GivesIn V.giving v.old v.new
+        (network_values net (k - 1) (bit_at bits.now) (pair_at items.old)) result }
+    ensures whole { OnOk result (V.giving.broken v.new ≡ false) }
+    ensures moved { OnOk result (items.new
+        ≡ places (2 ^ k) (through net (k - 1) (bit_at bits.now) (pair_at items.old))) }
+{
+    route_level(v, net, k - 1, items, spare, bits, 0)
+}
+
+// The same for a network of level `h`, whose bits begin at `at`. The items pass to the halves of
+// the room and back, so that each network below has its items side by side.
+fn route_level<V: Values>(
+    v: &mut V,
+    net: Net,
+    h: u32,
+    items: &mut [PairNum],
+    spare: &mut [PairNum],
+    bits: &[bool],
+    at: u64,
+) -> Put<()>
+    requires whole { V.giving.broken v.old ≡ false }
+    requires level { h < 31 }
+    requires items { length items.old ≡ 2 ^ suc h }
+    requires spare { length spare.old ≡ 2 ^ suc h }
+    requires place { at + switches net h < 2 ^ 62 }
+    ensures gives { GivesIn V.giving v.old v.new
+        (network_values net h (from at (bit_at bits.now)) (pair_at items.old)) result }
+    ensures whole { OnOk result (V.giving.broken v.new ≡ false) }
+    ensures moved { OnOk result (items.new
+        ≡ places (2 ^ suc h) (through net h (from at (bit_at bits.now)) (pair_at items.old))) }
+{
+    if h == 0 {
+        return route_two(v, items, bit(bits, at));
+    }
+    let n = long_power(h);
+    let s = level_switches(net, h - 1);
+    let (upper, lower) = spare.split_at_mut(n as usize);
+    first_column(v, items, upper, lower, bits, at)?;
+    let (upper_spare, lower_spare) = items.split_at_mut(n as usize);
+    route_level(v, net, h - 1, upper, upper_spare, bits, at + n)?;
+    route_level(v, net, h - 1, lower, lower_spare, bits, at + n + s)?;
+    last_column(v, net, upper, lower, items, bits, at + n + 2 * s)
+}
+
+// The one switch of a network on two items, whose bit is `b`.
+fn route_two<V: Values>(v: &mut V, items: &mut [PairNum], b: bool) -> Put<()>
+    requires whole { V.giving.broken v.old ≡ false }
+    requires two { length items.old ≡ 2 }
+    ensures gives { GivesIn V.giving v.old v.new
+        (switch_values b (pair_at items.old 0) (pair_at items.old 1)) result }
+    ensures whole { OnOk result (V.giving.broken v.new ≡ false) }
+    ensures moved { OnOk result (items.new ≡ passed b (pair_at items.old 0) (pair_at items.old 1)
+        ∷ passed b (pair_at items.old 1) (pair_at items.old 0) ∷ []) }
+{
+    let x = items[0];
+    let y = items[1];
+    items[0] = passed(b, &x, &y);
+    items[1] = passed(b, &y, &x);
+    fill_switch(v, b, x, y)
+}
+
+// What a switch gives first, its bit being `b`, its first item `x` and its second `y`.
+fn passed(b: bool, x: &PairNum, y: &PairNum) -> PairNum
+    ensures { result ≡ passed b x.now y.now }
+{
+    if b { *y } else { *x }
+}
+
+// A first column, whose bits begin at `at`: what its switches give first and what they give second.
+fn first_column<V: Values>(
+    v: &mut V,
+    items: &[PairNum],
+    upper: &mut [PairNum],
+    lower: &mut [PairNum],
+    bits: &[bool],
+    at: u64,
+) -> Put<()>
+    requires whole { V.giving.broken v.old ≡ false }
+    requires items { length items.now ≡ 2 * length upper.old }
+    requires lower { length lower.old ≡ length upper.old }
+    requires place { at + length upper.old < 2 ^ 62 }
+    ensures gives { GivesIn V.giving v.old v.new
+        (column_values (length upper.old) (from at (bit_at bits.now)) (pair_at items.now)) result }
+    ensures whole { OnOk result (V.giving.broken v.new ≡ false) }
+    ensures upper { OnOk result (upper.new
+        ≡ places (length upper.old) (to_upper (from at (bit_at bits.now)) (pair_at items.now))) }
+    ensures lower { OnOk result (lower.new
+        ≡ places (length upper.old) (to_lower (from at (bit_at bits.now)) (pair_at items.now))) }
+{
+    for j in 0..upper.len() {
+        let x = items[2 * j];
+        let y = items[2 * j + 1];
+        let b = bit(bits, at + j as u64);
+        upper[j] = passed(b, &x, &y);
+        lower[j] = passed(b, &y, &x);
+        fill_switch(v, b, x, y)?;
+    }
+    Ok(())
+}
+
+// A last column, whose bits begin at `at`, on what the two networks before it give.
+fn last_column<V: Values>(
+    v: &mut V,
+    net: Net,
+    upper: &[PairNum],
+    lower: &[PairNum],
+    items: &mut [PairNum],
+    bits: &[bool],
+    at: u64,
+) -> Put<()>
+    requires whole { V.giving.broken v.old ≡ false }
+    requires items { length items.old ≡ 2 * length upper.now }
+    requires lower { length lower.now ≡ length upper.now }
+    requires place { at + length upper.now ≤ 2 ^ 62 }
+    ensures gives { GivesIn V.giving v.old v.new
+        (column_values (length upper.now - missing net) (from at (bit_at bits.now))
+        (λ i. alternating (pair_at upper.now) (pair_at lower.now) (i + 2 * missing net))) result }
+    ensures whole { OnOk result (V.giving.broken v.new ≡ false) }
+    ensures joined { OnOk result (items.new ≡ places (2 * length upper.now)
+        (joined (last_bit net (from at (bit_at bits.now))) (pair_at upper.now)
+        (pair_at lower.now))) }
+{
+    let skipped = missing(net) as usize;
+    for j in 0..upper.len() {
+        let x = upper[j];
+        let y = lower[j];
+        let b = last_bit(net, bits, at, j as u64);
+        items[2 * j] = passed(b, &x, &y);
+        items[2 * j + 1] = passed(b, &y, &x);
+        fill_unless(v, j < skipped, b, x, y)?;
+    }
+    Ok(())
+}
+
+// The values of a switch, unless it is left out.
+fn fill_unless<V: Values>(v: &mut V, left_out: bool, b: bool, x: PairNum, y: PairNum) -> Put<()>
+    requires whole { V.giving.broken v.old ≡ false }
+    ensures gives { GivesIn V.giving v.old v.new
+        (if left_out then [] else switch_values b x y) result }
+    ensures whole { OnOk result (V.giving.broken v.new ≡ false) }
+{
+    if left_out {
+        Ok(())
+    } else {
+        fill_switch(v, b, x, y)
+    }
+}
