@@ -1,14 +1,16 @@
 -- Trying constraints one after the other.
-use Rattle.std.proofs.Common.{◌≡◌, ℕ, suc, ◌+◌, ◌==◌, Bool, true, false, cond, List, [], ◌∷◌, ◌++◌, length, take, Option, Some, None, Ok, refl}
+use Rattle.std.proofs.Common.{◌≡◌, ℕ, suc, ◌+◌, ◌==◌, Bool, true, false, cond, List, [], ◌∷◌, ◌++◌, length, take, Option, Some, None, MatchOption, Result, Ok, Err, refl, ◌≢◌, sym, ap, ◌∙◌, append_assoc, append-nil}
 use Rattle.std.specs.Option.{option_map}
 use Rattle.tv_core.specs.Constraints.{System, Constraint}
 use Rattle.tv_r1cs_read.specs.declared.header.Header.{Header}
 use Rattle.tv_container.specs.declared.why.ReadRefusal.{ReadRefusal}
-use Rattle.tv_container.specs.Reading.{Refuses}
-use Rattle.tv_r1cs_read.specs.Places.{system_with}
+use Rattle.tv_container.specs.Reading.{Refuses, Gives}
+use Rattle.tv_r1cs_read.specs.Places.{IsAll, system_with}
+use Rattle.tv_r1cs_read.specs.Progress.{Reached}
 use Rattle.tv_r1cs_read.specs.R1cs.{system_of}
 use Rattle.tv_container.proofs.Chain.{refuses_first}
-use Rattle.tv_check.specs.declared.verdict.Verdict.TheVariants.{WireCount}
+use Rattle.tv_check.specs.declared.verdict.Verdict.{Verdict}
+use Rattle.tv_check.specs.declared.verdict.Verdict.TheVariants.{Yes, WireCount, NoPublic, NoConstraint}
 use Rattle.tv_check.specs.Verdict.{holds, first_failing, first_difference, constraint_verdict, public_verdict, judge, tried, verdict_of}
 
 -- the first that fails among some, else one more at this place
@@ -57,3 +59,45 @@ verdict_of-read file z x system is = rw is refl
 pub verdict_of-refuses : (file z x : List ℕ) (why : ReadRefusal) → Refuses why (system_of file) → Refuses why (verdict_of file z x)
 unfolding verdict_of
 verdict_of-refuses file z x why refuses = refuses_first why _ _ refuses
+
+-- a no stays
+stays : (verdict : Verdict) (at : ℕ) (test : Bool) → verdict ≢ Yes → tried verdict at test ≡ verdict
+stays Yes at test other = absurd (other refl)
+stays (WireCount has wants) at test other = refl
+stays (NoPublic first) at test other = refl
+stays (NoConstraint first) at test other = refl
+
+-- whatever constraints are behind those that were tried
+pub judge-stays : (header : Header) (z x : List ℕ) (done rest : List Constraint) → judge (system_with header done) z x ≢ Yes →
+    judge (system_with header (done ++ rest)) z x ≡ judge (system_with header done) z x
+judge-stays header z x done [] other = rw append-nil refl
+judge-stays header z x done (next ∷ rest) other =
+    let one : judge (system_with header (done ++ next ∷ [])) z x ≡ judge (system_with header done) z x
+    = judge-more header z x done next ∙ stays (judge (system_with header done) z x) (length done) (holds z next) other in
+    let later = judge-stays header z x (done ++ next ∷ []) rest (λ yes. other (sym one ∙ yes)) in
+    ap (λ all. judge (system_with header all) z x) (sym (append_assoc done (next ∷ []) rest)) ∙ later ∙ one
+
+-- the verdict on constraints that are all, or the file's first fault
+pub read_ends : (stopped : Option ReadRefusal) (file z x : List ℕ) (reached : Reached) (header : Header) (rows : List Constraint) (verdict : Verdict) →
+    MatchOption stopped (IsAll reached file rows) (λ why. Refuses why (system_of file)) → reached.header ≡ header → verdict ≡ judge (system_with header rows) z x →
+    MatchOption stopped (verdict_of file z x ≡ Ok verdict) (λ why. Refuses why (verdict_of file z x))
+read_ends None file z x reached header rows verdict all same is =
+    let system = rw same at all.system in
+    verdict_of-read file z x (system_with header rows) system ∙ rw (← is) refl
+read_ends (Some why) file z x reached header rows verdict refuses same is = verdict_of-refuses file z x why refuses
+
+-- and on those that were tried, where the verdict is the same whatever was passed behind them
+pub read_passes : (stopped : Option ReadRefusal) (file z x : List ℕ) (reached : Reached) (header : Header) (done : List Constraint) (verdict : Verdict) →
+    MatchOption stopped ((rest : List Constraint) × IsAll reached file (done ++ rest)) (λ why. Refuses why (system_of file)) → reached.header ≡ header →
+    ((rest : List Constraint) → verdict ≡ judge (system_with header (done ++ rest)) z x) →
+    MatchOption stopped (verdict_of file z x ≡ Ok verdict) (λ why. Refuses why (verdict_of file z x))
+read_passes None file z x reached header done verdict all same is =
+    read_ends None file z x reached header (done ++ all.0) verdict all.1 same (is all.0)
+read_passes (Some why) file z x reached header done verdict refuses same is = verdict_of-refuses file z x why refuses
+
+-- what is so of the verdict or of why reading stopped is so of the answer
+pub answers : (stopped : Option ReadRefusal) (answer : Result Verdict ReadRefusal) (verdict : Verdict) (file z x : List ℕ) →
+    MatchOption stopped (answer ≡ Ok verdict) (λ why. answer ≡ Err why) →
+    MatchOption stopped (verdict_of file z x ≡ Ok verdict) (λ why. Refuses why (verdict_of file z x)) → Gives answer (verdict_of file z x)
+answers None answer verdict file z x is so = rw is so
+answers (Some why) answer verdict file z x is so = rw is so

@@ -1,4 +1,4 @@
-ghost use Rattle.std.specs.Prelude.{◌≡◌, Err};
+ghost use Rattle.std.specs.Prelude.{◌≡◌, Ok, Err, MatchOption};
 ghost use Rattle.tv_container.specs.Reading.{Looks, Gives, IsMissing, Known};
 ghost use Rattle.tv_container.specs.declared.why.ReadRefusal.{ReadRefusal};
 ghost use Rattle.tv_check.specs.Verdict.{verdict_of};
@@ -16,7 +16,8 @@ use tv_r1cs_read::SystemReader;
 ///
 /// The file is read to its end whatever the verdict: `Ok` comes exactly for a file that holds a
 /// system, and `Bad` tells the first fault of another one. `Fault` comes only where a read failed,
-/// and a missing name is such a fault. Takes one pass and no memory; each term is one product.
+/// and a missing name is such a fault. Takes one pass and no memory; each term is one product up to
+/// the first constraint that doesn't hold, and none behind it or where no constraint decides.
 pub fn check<D: Files>(
     alloc: Global,
     files: &mut D,
@@ -35,10 +36,22 @@ pub fn check<D: Files>(
     };
     let mut verdict = public_verdict(&reader.counts(), values, publics);
     let mut at = 0_u64;
-    while let Some(holds) = reader.try_next(values) {
+    while let Verdict::Yes = verdict {
+        let Some(holds) = reader.try_next(values) else {
+            return ended(&reader, verdict);
+        };
         verdict = tried(verdict, at, holds);
         at += 1;
     }
+    reader.pass_rest();
+    ended(&reader, verdict)
+}
+
+// The verdict at the end of the system, or why reading stopped before.
+fn ended<D: Files>(reader: &SystemReader<'_, D>, verdict: Verdict) -> Result<Verdict, ReadRefusal>
+    ensures { MatchOption reader.now.progress.stopped (result ≡ Ok verdict)
+        (λ why. result ≡ Err why) }
+{
     match reader.stopped() {
         Some(why) => Err(why),
         None => Ok(verdict),

@@ -6,8 +6,6 @@
 mod checking;
 mod laws;
 mod publics;
-#[cfg(test)]
-mod tests;
 mod verdict;
 
 pub use checking::check;

@@ -1,5 +1,5 @@
 -- Constraints that were read, and those ahead.
-use Rattle.std.proofs.Common.{◌≡◌, ℕ, ◌+◌, ◌-◌, Bool, true, false, cond, eqb, zero, suc, List, [], ◌∷◌, ◌++◌, length, Result, Ok, Err, append_assoc, append-nil, arith, ap, refl, sym, ◌∙◌}
+use Rattle.std.proofs.Common.{◌≡◌, ℕ, ◌+◌, ◌-◌, Bool, true, false, cond, eqb, zero, suc, List, [], ◌∷◌, ◌++◌, length, Option, Some, None, MatchOption, Result, Ok, Err, append_assoc, append-nil, arith, ap, refl, sym, ◌∙◌}
 use Rattle.std.proofs.lemmas.List.{length-map}
 use Rattle.std.proofs.lemmas.List.Sums.{sum_by_push}
 use Rattle.tv_core.specs.Constraints.{Constraint}
@@ -13,6 +13,7 @@ use Rattle.tv_r1cs_read.specs.Progress.{Reached, Follows, ahead}
 use Rattle.tv_r1cs_read.specs.R1cs.{constraint_at, constraints_from, header_of, system_of}
 use Rattle.tv_container.specs.Reading.{Refuses}
 use Rattle.tv_r1cs_read.specs.Rows.{constraint_of, terms_in}
+use Rattle.tv_r1cs_read.specs.Sums.{Passed}
 use Rattle.tv_r1cs_read.specs.Survey.{terms_of, survey_of}
 use Rattle.tv_container.proofs.Chain.{made, refuses_first}
 
@@ -110,3 +111,22 @@ all_at file reached rows place none =
 pub survey_of-refuses : (file : List ℕ) (why : ReadRefusal) → Refuses why (system_of file) → Refuses why (survey_of file)
 unfolding survey_of
 survey_of-refuses file why refuses = refuses_first why _ _ refuses
+
+-- no constraint was passed, and one more
+pub passed_none : (file : List ℕ) (reached : Reached) (rows : List Constraint) → IsAt reached file rows →
+    (more : List Constraint) × IsAt reached file (rows ++ more)
+passed_none file reached rows place = ([], rw append-nil place)
+
+pub passed_more : (file : List ℕ) (reached : Reached) (rows more : List Constraint) (next : Constraint) →
+    IsAt reached file (rows ++ more ++ next ∷ []) → (more : List Constraint) × IsAt reached file (rows ++ more)
+passed_more file reached rows more next place = (more ++ next ∷ [], rw (← append_assoc rows more (next ∷ [])) place)
+
+-- reading ended behind those that were passed
+pub passed_all : (file : List ℕ) (reached : Reached) (rows more : List Constraint) →
+    MatchOption reached.stopped (IsAll reached file (rows ++ more)) (λ why. Refuses why (system_of file)) → Passed reached file rows
+passed_all file reached rows more ended = by_stop reached.stopped ended
+  where
+    by_stop : (stopped : Option ReadRefusal) → MatchOption stopped (IsAll reached file (rows ++ more)) (λ why. Refuses why (system_of file)) →
+        MatchOption stopped ((more : List Constraint) × IsAll reached file (rows ++ more)) (λ why. Refuses why (system_of file))
+    by_stop None all = (more, all)
+    by_stop (Some why) refuses = refuses

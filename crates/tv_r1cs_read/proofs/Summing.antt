@@ -28,6 +28,14 @@ adds answer file wires end z k next n more at sum wire coefficient summed one le
   is = ap (λ s. s + coefficient * slice_index z wire) summed.is ∙ sym (sum_by_push (λ (t : ℕ × ℕ). t.1 * slice_index z t.0) summed.terms (wire, coefficient));
 }
 
+-- one more term under no values, which comes to 0
+pub passes : (answer : Result (Read Combination) Fault) (file : List ℕ) (wires end k next n more at sum wire coefficient : ℕ) →
+    IsSummed answer file wires end [] k n at sum → next ≡ k + 1 → n ≡ more + 1 → at + 12 ≤ end → number file 4 at ≡ wire → wire < wires →
+    number file 8 (at + 4) ≡ coefficient → coefficient < P → IsSummed answer file wires end [] next more (at + 12) sum
+passes answer file wires end k next n more at sum wire coefficient summed one left fits wire_is below coefficient_is canonical =
+    let none : sum + coefficient * slice_index [] wire ≡ sum = grind arith in
+    rw none at (adds answer file wires end [] k next n more at sum wire coefficient summed one left fits wire_is below coefficient_is canonical)
+
 -- no term is left
 pub comes_to : (answer : Result (Read Combination) Fault) (file : List ℕ) (wires end : ℕ) (z : List ℕ) (k n at sum v : ℕ) →
     IsSummed answer file wires end z k n at sum → n ≡ 0 → v ≡ sum % P → IsValued answer z v k at

@@ -46,3 +46,8 @@ pub record HasTried (holds : Bool) (z : List ℕ) (reached : Reached) (file : Li
 abbrev pub GaveTried : Option Bool → List ℕ → Reached → List ℕ → List Constraint → Type 0
 GaveTried (Some holds) z reached file rows = HasTried holds z reached file rows
 GaveTried None z reached file rows = MatchOption reached.stopped (IsAll reached file rows) (λ why. Refuses why (system_of file))
+
+-- reading went on to the end from these constraints: with those behind them they are all; or it stopped
+abbrev pub Passed : Reached → List ℕ → List Constraint → Type 0
+Passed reached file rows =
+    MatchOption reached.stopped ((more : List Constraint) × IsAll reached file (rows ++ more)) (λ why. Refuses why (system_of file))

@@ -5,7 +5,7 @@ ghost use Rattle.tv_r1cs_read.specs.Places.{IsAt, Gave, GaveBy};
 ghost use Rattle.tv_r1cs_read.specs.Progress.{counts_of, IsBegun, WentOn, WentOnBy};
 ghost use Rattle.tv_r1cs_read.specs.R1cs.{header_of, system_of};
 ghost use Rattle.tv_container.specs.Reading.{Looks, Stopped, Gives, Refuses, IsMissing, Known};
-ghost use Rattle.tv_r1cs_read.specs.Sums.{GaveTried};
+ghost use Rattle.tv_r1cs_read.specs.Sums.{GaveTried, Passed};
 ghost use Rattle.tv_r1cs_read.specs.Survey.{survey_of};
 ghost use Rattle.tv_container.specs.declared.why.ReadRefusal.{ReadRefusal};
 
@@ -128,6 +128,30 @@ impl<'a, D: Files> SystemReader<'a, D> {
         self.progress.try_next(self.files, self.name, values)
     }
 
+    /// Reads on to the end of the system, giving no constraint: each that is ahead is tested for
+    /// its form alone, and nothing is multiplied. `stopped` tells the first fault ahead, or a read
+    /// that failed. Takes no memory.
+    pub fn pass_rest(&mut self)
+        ensures same { self.new.files.ghost_name ≡ self.old.files.ghost_name }
+        ensures name { self.new.name.now ≡ self.old.name.now }
+        ensures gives { (rows : List Constraint)
+            → Known (D.seen self.old.files.now) self.old.name.now
+            (λ file. IsAt self.old.progress file rows → Passed self.new.progress file rows) }
+        ensures header { self.new.progress.header ≡ self.old.progress.header }
+        ensures again { (why : ReadRefusal) → self.old.progress.stopped ≡ Some why →
+            (self.new.progress ≡ self.old.progress)
+            × (D.seen self.new.files.now ≡ D.seen self.old.files.now) }
+        ensures looks { self.old.progress.stopped ≡ None → MatchOption self.new.progress.stopped
+            (D.seen self.new.files.now ≡ D.seen self.old.files.now)
+            (λ why. Stopped (D.seen self.old.files.now) (D.seen self.new.files.now)
+            self.old.name.now why) }
+    {
+        let None = self.stopped() else {
+            return;
+        };
+        while let Some(_) = self.try_next(&[]) {}
+    }
+
     /// Why reading stopped, where it did: `Bad` is the first fault ahead, and `Fault` comes only
     /// where a read failed.
     pub fn stopped(&self) -> Option<ReadRefusal>
@@ -179,7 +203,7 @@ pub fn survey<D: Files>(alloc: Global, files: &mut D, name: &str) -> Result<Coun
         Ok(reader) => reader,
         Err(unread) => return Err(unread.why),
     };
-    while let Some(_) = reader.try_next(&[]) {}
+    reader.pass_rest();
     match reader.stopped() {
         Some(why) => Err(why),
         None => Ok(reader.counts()),

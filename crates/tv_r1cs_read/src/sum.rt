@@ -50,26 +50,22 @@ impl Sum {
         requires { self < 2 ^ 151 }
         ensures { result ≡ self % P }
     {
-        let low = F::of(residue(self.low));
-        if self.carries == 0 {
-            return low;
-        }
-        low - F::of(self.carries << 32)
+        F::of(folded(self.low, self.carries))
     }
 }
 
-// A number of 128 bits modulo P. Modulo P, 2^64 is 2^32 - 1, and so 2^96 is -1: with the number as
-// low + 2^64 middle + 2^96 top, in parts of 64, 32 and 32 bits, it is
-// low - top + (2^32 - 1) middle.
+// A number of 192 bits, whose upper 64 come to little, as one of 64 that is the same modulo P.
+// Modulo P, 2^64 is 2^32 - 1, and so 2^96 is -1: with the number as low + 2^64 middle + 2^96 top,
+// in parts of 64, 32 and 96 bits, it is low - top + (2^32 - 1) middle.
 #[inline(always)]
-fn residue(number: u128) -> u64
-    ensures residue { result ≡ number % P }
-    ensures below { result < P }
+fn folded(number: u128, upper: u64) -> u64
+    requires { upper < 2 ^ 31 }
+    ensures { result % P ≡ (number + 2 ^ 128 * upper) % P }
 {
     let low = (number % 18_446_744_073_709_551_616) as u64;
     let high = (number >> 64) as u64;
     let middle = high % 4_294_967_296;
-    let top = high >> 32;
+    let top = (upper << 32) + (high >> 32);
     let (difference, borrow) = low.overflowing_sub(top);
     let start = if borrow {
         difference.wrapping_add(P)
@@ -77,9 +73,5 @@ fn residue(number: u128) -> u64
         difference
     };
     let (sum, carry) = start.overflowing_add((middle << 32) - middle);
-    if carry || sum >= P {
-        sum.wrapping_sub(P)
-    } else {
-        sum
-    }
+    if carry { sum.wrapping_sub(P) } else { sum }
 }

@@ -1,7 +1,7 @@
 //! A constraint tried straight from the bytes that the window holds, with no term kept.
 
-ghost use Rattle.std.specs.Prelude.{◌≡◌, ℕ, ◌+◌, ◌-◌, ◌*◌, ◌≤◌, ◌<◌, ◌^◌, List, Result};
-ghost use Rattle.std.specs.Prelude.{slice_index, IfSome, IfOk, MatchResult};
+ghost use Rattle.std.specs.Prelude.{◌≡◌, ℕ, ◌+◌, ◌-◌, ◌*◌, ◌≤◌, ◌<◌, ◌^◌, List, [], Result};
+ghost use Rattle.std.specs.Prelude.{length, slice_index, true, IfSome, IfOk, MatchResult};
 ghost use Rattle.tv_core.specs.Constraints.{Combination};
 ghost use Rattle.tv_container.specs.Places.{Fault, places};
 ghost use Rattle.tv_container.specs.Reading.{Holds, IsPiece, IsTold, ReadsIn, Refuses};
@@ -32,19 +32,94 @@ pub(crate) struct Tried {
     pub(crate) next: u64,
 }
 
-// The value of a wire, where one past the end counts as 0.
+// The value of a wire, where one past the end counts as 0; where `WHOLE` there is none such, and
+// no test.
 #[inline(always)]
-fn value_at(wire: u32, values: &[F]) -> F
+fn value_at<const WHOLE: bool>(wire: u32, values: &[F]) -> F
+    requires { WHOLE ≡ true → wire < length values.now }
     ensures { result ≡ slice_index values.now wire }
 {
+    if WHOLE {
+        return values[wire as usize];
+    }
     match values.get(wire as usize) {
         Some(value) => *value,
         None => F::ZERO,
     }
 }
 
+// How many of the terms at a place, so many, all of which the window holds, are as they should be
+// up to the first that isn't. Without values each of them comes to 0.
+#[inline(always)]
+fn good_terms(window: &Window, bounds: &Bounds, at: u64, count: u32) -> u32
+    requires held { Holds window.now at (12 * count) }
+    requires within { at + 12 * count ≤ bounds.now.end }
+    ensures most { result ≤ count }
+    ensures sums { (file : List ℕ) → IsPiece window.now file
+        → (answer : Result (Read Combination) Fault) → (k n sum : ℕ) → count ≤ n →
+        IsSummed answer file bounds.now.wires bounds.now.end [] k n at sum →
+        IsSummed answer file bounds.now.wires bounds.now.end [] (k + result) (n - result)
+        (at + 12 * result) sum }
+    ensures off { (file : List ℕ) → IsPiece window.now file → result < count
+        → IsOff file bounds.now.wires (at + 12 * result) }
+{
+    let mut at = at;
+    for good in 0..count {
+        if window.word(at) >= bounds.wires {
+            return good;
+        }
+        let Some(_) = F::canon(window.long(at + 4)) else {
+            return good;
+        };
+        at += TERM;
+    }
+    count
+}
+
 // Adds to a sum the values of the terms at a place, so many, all of which the window holds, up to
-// the first that isn't as it should be, and answers how many were added.
+// the first that isn't as it should be, and answers how many were added. Where `WHOLE` each wire
+// has a value.
+#[inline(always)]
+fn add_terms<const WHOLE: bool>(
+    window: &Window,
+    bounds: &Bounds,
+    at: u64,
+    count: u32,
+    values: &[F],
+    sum: &mut Sum,
+) -> u32
+    requires held { Holds window.now at (12 * count) }
+    requires within { at + 12 * count ≤ bounds.now.end }
+    requires small { sum.old + count * 2 ^ 128 ≤ 2 ^ 150 }
+    requires whole { WHOLE ≡ true → bounds.now.wires ≤ length values.now }
+    ensures most { result ≤ count }
+    ensures small { sum.new ≤ sum.old + result * 2 ^ 128 }
+    ensures sums { (file : List ℕ) → IsPiece window.now file
+        → (answer : Result (Read Combination) Fault) → (k n : ℕ) → count ≤ n →
+        IsSummed answer file bounds.now.wires bounds.now.end values.now k n at sum.old →
+        IsSummed answer file bounds.now.wires bounds.now.end values.now (k + result) (n - result)
+        (at + 12 * result) sum.new }
+    ensures off { (file : List ℕ) → IsPiece window.now file → result < count
+        → IsOff file bounds.now.wires (at + 12 * result) }
+{
+    let mut at = at;
+    for good in 0..count {
+        let wire = window.word(at);
+        if wire >= bounds.wires {
+            return good;
+        }
+        let Some(coefficient) = F::canon(window.long(at + 4)) else {
+            return good;
+        };
+        sum.add(coefficient, value_at::<WHOLE>(wire, values));
+        at += TERM;
+    }
+    count
+}
+
+// Adds to a sum the values of the terms at a place, so many, all of which the window holds, up to
+// the first that isn't as it should be, and answers how many were added. Where there are no values
+// at all nothing is multiplied, and where each wire has one none is looked for in vain.
 #[inline(always)]
 fn sum_terms(
     window: &Window,
@@ -67,19 +142,13 @@ fn sum_terms(
     ensures off { (file : List ℕ) → IsPiece window.now file → result < count
         → IsOff file bounds.now.wires (at + 12 * result) }
 {
-    let mut at = at;
-    for good in 0..count {
-        let wire = window.word(at);
-        if wire >= bounds.wires {
-            return good;
-        }
-        let Some(coefficient) = F::canon(window.long(at + 4)) else {
-            return good;
-        };
-        sum.add(coefficient, value_at(wire, values));
-        at += TERM;
+    if values.is_empty() {
+        return good_terms(window, bounds, at, count);
     }
-    count
+    if values.len() >= bounds.wires as usize {
+        return add_terms::<true>(window, bounds, at, count, values, sum);
+    }
+    add_terms::<false>(window, bounds, at, count, values, sum)
 }
 
 /// The constraint at a place, tried under an assignment; `None` where the window doesn't hold all
@@ -93,9 +162,14 @@ pub(crate) fn try_held(window: &Window, bounds: &Bounds, at: u64, values: &[F]) 
         (λ tried. IsTried (constraint_at file bounds.now.wires bounds.now.end at) values.now
         tried.holds tried.terms tried.next) }
 {
-    let a = value_held(window, bounds, at, values)?;
-    let b = value_held(window, bounds, a.next, values)?;
-    let c = value_held(window, bounds, b.next, values)?;
+    if !window.holds(at, 0) {
+        return None;
+    }
+    let held = window.bytes_from(at).len() as u64;
+    let limit = at + held.min(bounds.end - at);
+    let a = value_held(window, bounds, limit, at, values)?;
+    let b = value_held(window, bounds, limit, a.next, values)?;
+    let c = value_held(window, bounds, limit, b.next, values)?;
     Some(Tried {
         holds: a.value * b.value == c.value,
         terms: u64::from(a.terms) + u64::from(b.terms) + u64::from(c.terms),
@@ -103,18 +177,20 @@ pub(crate) fn try_held(window: &Window, bounds: &Bounds, at: u64, values: &[F]) 
     })
 }
 
-// The combination at a place; `None` where the window doesn't hold all of it, or it isn't as it
-// should be.
+// The combination at a place; `None` where it doesn't end at or before `limit`, up to which the
+// window holds the bytes, or it isn't as it should be.
 #[inline(always)]
-fn value_held(window: &Window, bounds: &Bounds, at: u64, values: &[F]) -> Option<Valued>
-    requires { at ≤ bounds.now.end }
-    ensures within { IfSome result (λ valued. valued.next ≤ bounds.now.end) }
+fn value_held(window: &Window, bounds: &Bounds, limit: u64, at: u64, values: &[F]) -> Option<Valued>
+    requires before { at ≤ limit }
+    requires within { limit ≤ bounds.now.end }
+    requires held { Holds window.now at (limit - at) }
+    ensures within { IfSome result (λ valued. valued.next ≤ limit) }
     ensures size { IfSome result (λ valued. valued.next ≡ at + 4 + 12 * valued.terms) }
     ensures gives { (file : List ℕ) → IsPiece window.now file → IfSome result
         (λ valued. IsValued (combination_at file bounds.now.wires bounds.now.end at) values.now
         valued.value valued.terms valued.next) }
 {
-    if bounds.end - at < 4 || !window.holds(at, 4) {
+    if limit - at < 4 {
         return None;
     }
     let terms = window.word(at);
@@ -122,7 +198,7 @@ fn value_held(window: &Window, bounds: &Bounds, at: u64, values: &[F]) -> Option
         return None;
     }
     let size = TERM * u64::from(terms);
-    if bounds.end - at - 4 < size || !window.holds(at + 4, size as usize) {
+    if limit - at - 4 < size {
         return None;
     }
     let mut sum = Sum::new();

@@ -1,7 +1,7 @@
 -- Values that are read piece by piece.
 use Rattle.std.proofs.Common.{◌≡◌, ℕ, ◌+◌, ◌*◌, ◌<◌, ◌≤◌, zero, suc, List, [], ◌∷◌, ◌++◌, length, take, drop, get_or, ◌/◌, Result, Ok, Err, append_assoc, append-nil, add-one, ap, refl, sym, ◌∙◌, arith}
 use Rattle.std.proofs.lemmas.Bool.Decides.{nat_tests}
-use Rattle.std.proofs.lemmas.List.{take-take, drop-take, drop-drop, get_or-take, length-take}
+use Rattle.std.proofs.lemmas.List.{take-take, drop-take, drop-drop, get_or-take, length-take, length-append, take_all, take-append-le}
 use Rattle.std.specs.Simd.{first_chunks}
 use Rattle.tv_core.specs.declared.field.TheConstants.{P}
 use Rattle.tv_container.specs.declared.why.ReadRefusal.TheVariants.{Bad}
@@ -11,12 +11,13 @@ use Rattle.tv_container.specs.Reading.{Refuses}
 use Rattle.tv_container.proofs.Chain.{refuses_wrong}
 use Rattle.tv_word.specs.Word.{spelled}
 use Rattle.tv_wtns.specs.Values.{AreWords, with_front, IsAhead}
-use Rattle.tv_wtns.specs.Wtns.{values_at}
+use Rattle.tv_wtns.specs.Wtns.{values_at, firsts}
+use Rattle.tv_wtns.proofs.ValueLaws.{values_counted}
 
 -- no values were read before
-pub begins : (file : List ℕ) (n at : ℕ) → IsAhead (values_at file n at) [] file n at
+pub begins : (file : List ℕ) (most n at : ℕ) → IsAhead (values_at file n at) most [] file n at
 unfolding with_front
-begins file n at = record { same = by_result (values_at file n at) }
+begins file most n at = record { front = []; same = by_result (values_at file n at); keeps = sym (take_all most [] (omega arith)) }
   where
     by_result : (others : Result (List ℕ) Fault) → others ≡ with_front [] others
     by_result (Ok values) = refl
@@ -38,26 +39,47 @@ values_at-residue : (file : List ℕ) (n at value : ℕ) → number file 8 at �
 unfolding values_at
 values_at-residue file n at value is above = rw is (grind (arith, nat_tests))
 
--- a value that is as it should be goes behind those at hand
-pub goes_on : (answer : Result (List ℕ) Fault) (values file : List ℕ) (n more at value : ℕ) →
-    IsAhead answer values file n at → n ≡ more + 1 → number file 8 at ≡ value → value < P → IsAhead answer (values ++ value ∷ []) file more (at + 8)
-goes_on answer values file n more at value ahead one is below = record {
+-- a value that is as it should be goes behind those that were read
+goes_on : (answer : Result (List ℕ) Fault) (most : ℕ) (kept next file : List ℕ) (n more at value : ℕ) (ahead : IsAhead answer most kept file n at) →
+    n ≡ more + 1 → number file 8 at ≡ value → value < P → next ≡ take most (ahead.front ++ value ∷ []) → IsAhead answer most next file more (at + 8)
+goes_on answer most kept next file n more at value ahead one is below keeps = record {
+  front = ahead.front ++ value ∷ [];
   same = ahead.same
-      ∙ ap (λ others. with_front values others) (ap (λ k. values_at file k at) (one ∙ add-one more) ∙ values_at-more file more at value is below)
-      ∙ with_front-with_front values (value ∷ []) (values_at file more (at + 8));
+      ∙ ap (λ others. with_front ahead.front others) (ap (λ k. values_at file k at) (one ∙ add-one more) ∙ values_at-more file more at value is below)
+      ∙ with_front-with_front ahead.front (value ∷ []) (values_at file more (at + 8));
+  keeps = keeps;
 }
 
+-- it is kept where there is room
+pub goes_in : (answer : Result (List ℕ) Fault) (most : ℕ) (kept file : List ℕ) (n more at value : ℕ) → IsAhead answer most kept file n at →
+    n ≡ more + 1 → number file 8 at ≡ value → value < P → length kept < most → IsAhead answer most (kept ++ value ∷ []) file more (at + 8)
+goes_in answer most kept file n more at value ahead one is below room =
+    let few : length ahead.front < most = omega (arith, ap length ahead.keeps, length-take most ahead.front) in
+    let fits : length (ahead.front ++ value ∷ []) ≤ most = simp length-append (omega (arith, few)) in
+    goes_on answer most kept (kept ++ value ∷ []) file n more at value ahead one is below
+    (ap (λ front. front ++ value ∷ []) (ahead.keeps ∙ take_all most ahead.front (omega (arith, few))) ∙ sym (take_all most (ahead.front ++ value ∷ []) fits))
+
+-- and else passed by
+pub goes_by : (answer : Result (List ℕ) Fault) (most : ℕ) (kept file : List ℕ) (n more at value : ℕ) → IsAhead answer most kept file n at →
+    n ≡ more + 1 → number file 8 at ≡ value → value < P → most ≤ length kept → IsAhead answer most kept file more (at + 8)
+goes_by answer most kept file n more at value ahead one is below full =
+    let many : most ≤ length ahead.front = omega (arith, ap length ahead.keeps, length-take most ahead.front) in
+    goes_on answer most kept kept file n more at value ahead one is below (ahead.keeps ∙ sym (take-append-le most ahead.front (value ∷ []) many))
+
 -- what the next value is refused for is what the list is
-pub no_residue : (answer : Result (List ℕ) Fault) (values file : List ℕ) (n more at value : ℕ) →
-    IsAhead answer values file n at → n ≡ more + 1 → number file 8 at ≡ value → P ≤ value → Refuses (Bad at NotCanonical) answer
+pub no_residue : (answer : Result (List ℕ) Fault) (most : ℕ) (kept file : List ℕ) (n more at value : ℕ) →
+    IsAhead answer most kept file n at → n ≡ more + 1 → number file 8 at ≡ value → P ≤ value → Refuses (Bad at NotCanonical) answer
 unfolding with_front
-no_residue answer values file n more at value ahead one is above =
+no_residue answer most kept file n more at value ahead one is above =
     refuses_wrong at NotCanonical answer (ahead.same ∙ rw (one, add-one, values_at-residue file more at value is above) refl)
 
 -- no value is left
-pub ends : (answer : Result (List ℕ) Fault) (values file : List ℕ) (n at : ℕ) → IsAhead answer values file n at → n ≡ 0 → answer ≡ Ok values
+pub ends : (most : ℕ) (kept file : List ℕ) (count from n at : ℕ) → IsAhead (values_at file count from) most kept file n at → n ≡ 0 →
+    firsts most (values_at file count from) ≡ Ok (record { values = kept; count = count })
 unfolding values_at with_front
-ends answer values file n at ahead none = ahead.same ∙ rw (none, append-nil) refl
+ends most kept file count from n at ahead none =
+    let whole : values_at file count from ≡ Ok ahead.front = ahead.same ∙ rw (none, append-nil) refl in
+    rw (whole, values_counted file count from ahead.front whole, ← ahead.keeps) refl
 
 get_or-first_chunks : (n count k a : ℕ) (xs d : List ℕ) → k < count → a ≡ n * k → get_or (first_chunks n count xs) k d ≡ take n (drop a xs)
 get_or-first_chunks n zero k a xs d below is = absurd (omega arith)

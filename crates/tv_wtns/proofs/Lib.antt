@@ -1,4 +1,5 @@
 pub mod Ahead
+pub mod Firsts
 pub mod Sections
 pub mod ValueLaws
 pub mod Vectors

@@ -1,5 +1,5 @@
 -- What the values of an assignment are.
-use Rattle.std.proofs.Common.{◌≡◌, ℕ, ◌+◌, ◌<◌, zero, suc, List, [], ◌∷◌, not, Ok, nat_lt, arith}
+use Rattle.std.proofs.Common.{◌≡◌, ℕ, ◌+◌, ◌<◌, zero, suc, List, [], ◌∷◌, length, not, Ok, nat_lt, refl, arith}
 use Rattle.std.proofs.lemmas.Bool.Decides.{nat_tests}
 use Rattle.std.proofs.lemmas.List.Elements.{All-nil, All-cons}
 use Rattle.std.specs.List.{All}
@@ -22,6 +22,16 @@ values_below file (suc n) at values is =
     let rest = made (values_at file n (at + 8)) (λ others. Ok (number file 8 at ∷ others)) values first.2 in
     let whole : number file 8 at ∷ rest.0 ≡ values = cc in
     rw (← whole) (All-cons (λ v. v < P) (number file 8 at) rest.0 (canonical (number file 8 at) at first.0 first.1) (values_below file n (at + 8) rest.0 rest.1))
+
+-- there are as many as are counted
+pub values_counted : (file : List ℕ) (n at : ℕ) (values : List ℕ) → values_at file n at ≡ Ok values → length values ≡ n
+unfolding values_at
+values_counted file zero at values is = let none : [] ≡ values = cc in rw (← none) refl
+values_counted file (suc n) at values is =
+    let first = made (unless (not (nat_lt (number file 8 at) P)) at NotCanonical) (λ _. values_at file n (at + 8) >>= (λ others. Ok (number file 8 at ∷ others))) values is in
+    let rest = made (values_at file n (at + 8)) (λ others. Ok (number file 8 at ∷ others)) values first.2 in
+    let whole : number file 8 at ∷ rest.0 ≡ values = cc in
+    rw (← whole) (omega (arith, values_counted file n (at + 8) rest.0 rest.1))
 
 pub assignments_below : AssignmentsAreBelow
 unfolding assignment_of assignment_in

@@ -1,5 +1,5 @@
 -- What is kept of values that are being read.
-use Rattle.std.specs.Prelude.{◌≡◌, ℕ, ◌+◌, ◌*◌, ◌<◌, List, ◌++◌, length, slice_index_or, Result, Ok}
+use Rattle.std.specs.Prelude.{◌≡◌, ℕ, ◌+◌, ◌*◌, ◌<◌, List, ◌++◌, length, take, slice_index_or, Result, Ok}
 use Rattle.tv_word.specs.Word.{spelled}
 use Rattle.tv_container.specs.Places.{Fault, ◌>>=◌, number}
 use Rattle.tv_wtns.specs.Wtns.{values_at}
@@ -14,6 +14,8 @@ with_front front others = do
   values ← others
   Ok (front ++ values)
 
--- an answer is these values and, of those at a place, so many
-pub record IsAhead (answer : Result (List ℕ) Fault) (values file : List ℕ) (n at : ℕ) : Type 0 where
-  pub same : answer ≡ with_front values (values_at file n at)
+-- an answer is some values and, of those at a place, so many; the first of the values are kept
+pub record IsAhead (answer : Result (List ℕ) Fault) (most : ℕ) (kept file : List ℕ) (n at : ℕ) : Type 0 where
+  pub front : List ℕ
+  pub same : answer ≡ with_front front (values_at file n at)
+  pub keeps : kept ≡ take most front

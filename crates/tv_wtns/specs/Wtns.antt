@@ -1,5 +1,5 @@
 -- The assignment that a wtns file holds, version 2 of the binary format, or the file's first fault.
-use Rattle.std.specs.Prelude.{◌≡◌, ℕ, zero, suc, ◌+◌, ◌*◌, ◌<◌, not, List, [], ◌∷◌, Result, Ok, nat_lt, ◌==◌}
+use Rattle.std.specs.Prelude.{◌≡◌, ℕ, zero, suc, ◌+◌, ◌*◌, ◌<◌, not, List, [], ◌∷◌, length, take, Result, Ok, nat_lt, ◌==◌}
 use Rattle.std.specs.List.{All}
 use Rattle.tv_core.specs.declared.field.TheConstants.{P}
 use Rattle.tv_container.specs.Places.{Fault, ◌>>=◌, unless, number}
@@ -7,6 +7,7 @@ use Rattle.tv_container.specs.Field.{this_field}
 use Rattle.tv_container.specs.Sections.{sections_of, wanted}
 use Rattle.tv_container.specs.declared.sections.Section.{Section}
 use Rattle.tv_container.specs.declared.why.ReadWhy.TheVariants.{BadCount, NotCanonical}
+use Rattle.tv_wtns.specs.declared.values.FirstValues.{FirstValues}
 
 -- the values at a place, so many: eight bytes each, which spell a number below P
 unfoldable pub values_at : List ℕ → ℕ → ℕ → Result (List ℕ) Fault
@@ -38,6 +39,25 @@ unfoldable pub assignment_of : List ℕ → Result (List ℕ) Fault
 assignment_of file = do
   sections ← sections_of 2 0x736e7477 2 file
   assignment_in file sections
+
+-- the first values of an assignment, and how many values it has
+pub record Firsts : Type 0 where
+  pub values : List ℕ
+  pub count : ℕ
+
+-- those of these values, of which so many at most are kept
+abbrev pub firsts_of : ℕ → List ℕ → Firsts
+firsts_of most z = record { values = take most z; count = length z }
+
+-- as the code keeps them
+abbrev pub firsts_in : FirstValues → Firsts
+firsts_in first = record { values = first.values.items; count = first.count }
+
+-- those of an assignment, where there is one
+abbrev pub firsts : ℕ → Result (List ℕ) Fault → Result Firsts Fault
+firsts most answer = do
+  z ← answer
+  Ok (firsts_of most z)
 
 -- each value of each assignment is below P
 abbrev pub AssignmentsAreBelow : Type 0

@@ -11,9 +11,9 @@ ghost use Rattle.tv_container.specs.Reading.{InPiece, ReadsIn};
 ghost use Rattle.tv_container.specs.declared.sections.Section.{Section};
 ghost use Rattle.tv_container.specs.declared.why.ReadRefusal.{ReadRefusal};
 ghost use Rattle.tv_wtns.specs.Wtns.{assignment_in, assignment_of, counted, fills};
-ghost use Rattle.tv_wtns.specs.Wtns.{AssignmentsAreBelow};
+ghost use Rattle.tv_wtns.specs.Wtns.{firsts, firsts_in, AssignmentsAreBelow};
 
-use crate::values::read_all;
+use crate::values::{FirstValues, read_all};
 use std::alloc::Global;
 use tv_container::{
     Form, Found, ReadRefusal, ReadWhy, Section, Window, find_sections, this_field, wanted,
@@ -34,7 +34,6 @@ const WTNS: Form = Form {
 /// another one. `Fault` comes only where a read failed, and a missing name is such a fault. It
 /// takes one pass, in reads of at most 4,096 bytes, and memory for the values alone, as they come:
 /// a count without values behind it takes none.
-#[tactic(auto, unfolding(crate::specs::Wtns::assignment_of))]
 pub fn read_values<D: Files>(
     alloc: Global,
     files: &mut D,
@@ -46,9 +45,30 @@ pub fn read_values<D: Files>(
     ensures looks { Looks (D.seen files.old) (D.seen files.new) name.now result }
     ensures missing { IsMissing (D.seen files.old) name.now → result ≡ Err ReadRefusal.Fault }
 {
+    let first = read_first_values(alloc, files, name, u32::MAX)?;
+    Ok(first.values)
+}
+
+/// Reads the first `most` values of the assignment of a wtns file, and counts them all.
+///
+/// All values are judged: it answers `Ok` and is refused exactly where `read_values` is. It takes
+/// memory for the values alone that it keeps, as they come.
+#[tactic(auto, unfolding(crate::specs::Wtns::assignment_of))]
+pub fn read_first_values<D: Files>(
+    alloc: Global,
+    files: &mut D,
+    name: &str,
+    most: u32,
+) -> Result<FirstValues, ReadRefusal>
+    ensures gives { Known (D.seen files.old) name.now
+        (λ file. GivesBy result firsts_in (firsts most (assignment_of file))) }
+    ensures below { IfOk result (λ first. All (λ v. v < P) first.values.items) }
+    ensures looks { Looks (D.seen files.old) (D.seen files.new) name.now result }
+    ensures missing { IsMissing (D.seen files.old) name.now → result ≡ Err ReadRefusal.Fault }
+{
     let mut window = Window::new();
     let (found, end) = find_sections(files, name, &mut window, &WTNS)?;
-    read_assignment(alloc, files, name, &mut window, &found, end)
+    read_assignment(alloc, files, name, &mut window, &found, end, most)
 }
 
 /// What a file's bytes give as its assignment are numbers below the prime.
@@ -57,7 +77,7 @@ pub fn assignments_are_below_the_prime()
     ensures { AssignmentsAreBelow }
 {}
 
-// The assignment, from the sections.
+// The first values of the assignment, from the sections.
 #[tactic(auto, unfolding(crate::specs::Wtns::assignment_in))]
 fn read_assignment<D: Files>(
     alloc: Global,
@@ -66,13 +86,14 @@ fn read_assignment<D: Files>(
     window: &mut Window,
     found: &Found,
     end: u64,
-) -> Result<Vec<F>, ReadRefusal>
+    most: u32,
+) -> Result<FirstValues, ReadRefusal>
     requires { AllEnd found.now }
     ensures gives { InPiece (D.seen files.old) name.now window.old
         (λ file. end ≡ length file → (sections : List Section) →
         found.now ≡ first_of sections → AllFit file sections →
-        GivesBy result (λ values. values.items) (assignment_in file sections)) }
-    ensures below { IfOk result (λ values. All (λ v. v < P) values.items) }
+        GivesBy result firsts_in (firsts most (assignment_in file sections))) }
+    ensures below { IfOk result (λ first. All (λ v. v < P) first.values.items) }
     ensures looks { Looks (D.seen files.old) (D.seen files.new) name.now result }
 {
     let one = wanted(found.one, 1, end)?;
@@ -80,7 +101,7 @@ fn read_assignment<D: Files>(
     this_field(files, name, window, &one, 16)?;
     let count = read_count(files, name, window, &one)?;
     fills(count, &two)?;
-    read_all(alloc, files, name, window, two.at, count)
+    read_all(alloc, files, name, window, two.at, count, most)
 }
 
 // How many values section 1, of 16 bytes, counts.

@@ -1,7 +1,7 @@
 //! Assignments in wtns files. `read_values` reads one from a file of any size, with its sections in
 //! any order: its clause `gives` says that it answers `assignment_of` the whole file, the values in
-//! order, or the file's first fault. `FileValues` writes one as its values come, and what was
-//! written is read.
+//! order, or the file's first fault. `read_first_values` keeps the first values alone, and judges
+//! and counts them all. `FileValues` writes one as its values come, and what was written is read.
 #![tactic(auto)]
 
 mod assignment;
@@ -10,10 +10,8 @@ mod laws;
 mod values;
 mod writer;
 
-pub use assignment::{assignments_are_below_the_prime, read_values};
+pub use assignment::{assignments_are_below_the_prime, read_first_values, read_values};
 pub use file_values::FileValues;
 pub use laws::{assignments_come_back, files_are_fronts, files_are_of_assignments};
+pub use values::FirstValues;
 pub use writer::Writer;
-
-#[cfg(test)]
-mod tests;

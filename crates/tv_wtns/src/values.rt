@@ -8,7 +8,7 @@ ghost use Rattle.tv_container.specs.Places.{Fault, places};
 ghost use Rattle.tv_container.specs.Reading.{Looks, Refuses, GivesBy, IsTold, InPiece};
 ghost use Rattle.tv_word.specs.Word.{spelled};
 ghost use Rattle.tv_wtns.specs.Values.{AreWords, IsAhead};
-ghost use Rattle.tv_wtns.specs.Wtns.{values_at};
+ghost use Rattle.tv_wtns.specs.Wtns.{firsts, firsts_in, values_at};
 
 use std::alloc::Global;
 use tv_container::{ReadRefusal, ReadWhy, Window};
@@ -18,7 +18,16 @@ use tv_files::Files;
 /// The bytes of a value.
 const VALUE: u64 = 8;
 
-// Reads the values at a place, so many, a piece of the file at a time.
+/// The first values of an assignment, and how many values it has.
+#[derive(Drop)]
+pub struct FirstValues {
+    /// As many of its values as were asked for, in order from the first; all where it has no more.
+    pub values: Vec<F>,
+    /// How many values it has, those that weren't kept too.
+    pub count: u32,
+}
+
+// Reads the values at a place, so many, a piece of the file at a time; the first are kept.
 pub(crate) fn read_all<D: Files>(
     alloc: Global,
     files: &mut D,
@@ -26,12 +35,13 @@ pub(crate) fn read_all<D: Files>(
     window: &mut Window,
     at: u64,
     count: u32,
-) -> Result<Vec<F>, ReadRefusal>
+    most: u32,
+) -> Result<FirstValues, ReadRefusal>
     requires { at + 8 * count < 2 ^ 64 }
     ensures gives { InPiece (D.seen files.old) name.now window.old
         (λ file. at + 8 * count ≤ places file →
-        GivesBy result (λ values. values.items) (values_at file count at)) }
-    ensures below { IfOk result (λ values. All (λ v. v < P) values.items) }
+        GivesBy result firsts_in (firsts most (values_at file count at))) }
+    ensures below { IfOk result (λ first. All (λ v. v < P) first.values.items) }
     ensures looks { Looks (D.seen files.old) (D.seen files.new) name.now result }
 {
     let mut values = Vec::new(alloc);
@@ -41,20 +51,26 @@ pub(crate) fn read_all<D: Files>(
         window.fit(files, name, at, 8)?;
         let (words, _) = window.bytes_from(at).as_chunks::<8>();
         let some = words.len().min(left as usize);
-        take_values(&words[..some], at, &mut values)?;
+        take_values(&words[..some], at, most, &mut values)?;
         at += VALUE * some as u64;
         left -= some as u32;
     }
-    Ok(values)
+    Ok(FirstValues { values, count })
 }
 
-// Takes the values that words spell, the first of which stands at a place.
-fn take_values(words: &[[u8; 8]], at: u64, values: &mut Vec<F>) -> Result<(), ReadRefusal>
+// Takes the values that words spell, the first of which stands at a place: those behind the first
+// `most` are judged and not kept.
+fn take_values(
+    words: &[[u8; 8]],
+    at: u64,
+    most: u32,
+    values: &mut Vec<F>,
+) -> Result<(), ReadRefusal>
     requires { at + 8 * length words.now < 2 ^ 64 }
     ensures gives { (file : List ℕ) → AreWords words.now file at → (answer : Result (List ℕ) Fault)
         → (n : ℕ) →
-        length words.now ≤ n → IsAhead answer values.old.items file n at → MatchResult result
-        (λ _. IsAhead answer values.new.items file (n - length words.now)
+        length words.now ≤ n → IsAhead answer most values.old.items file n at → MatchResult result
+        (λ _. IsAhead answer most values.new.items file (n - length words.now)
         (at + 8 * length words.now))
         (λ why. Refuses why answer) }
     ensures below { All (λ v. v < P) values.old.items
@@ -68,7 +84,9 @@ fn take_values(words: &[[u8; 8]], at: u64, values: &mut Vec<F>) -> Result<(), Re
                 why: ReadWhy::NotCanonical,
             });
         };
-        values.push(value)?;
+        if values.len() < most as usize {
+            values.push(value)?;
+        }
     }
     Ok(())
 }

@@ -2,7 +2,7 @@ use Rattle.std.proofs.Common.{◌≡◌, ◌+◌, ◌++◌, ◌∷◌, [], sym, 
 use Rattle.std.proofs.lemmas.List.{length_push}
 use Rattle.tv_r1cs_read.specs.Places.{system_with}
 use Rattle.tv_check.specs.Verdict.{judge}
-use Rattle.tv_check.proofs.Trying.{judge-more, verdict_of-read, verdict_of-refuses}
+use Rattle.tv_check.proofs.Trying.{answers, judge-more, judge-stays, read_ends, read_passes, verdict_of-refuses}
 use Rattle.tv_check.proofs.checking.check.Goals as goal
 
 pub returns-in-Err-clause-gives : goal.returns-in-Err-clause-gives
@@ -13,8 +13,8 @@ returns-in-Err-clause-gives g c = λ file told.
 pub public_verdict-verdict-requires : goal.public_verdict-verdict-requires
 public_verdict-verdict-requires g c = rw c.counts.ensures c.in-Ok.ensures.begun.room
 
-pub loop-holds-init : goal.loop-holds-init
-loop-holds-init g c = record {
+pub loop-verdict-init : goal.loop-verdict-init
+loop-verdict-init g c = record {
   same = search rules;
   outside = search rules;
   name = search rules;
@@ -24,38 +24,41 @@ loop-holds-init g c = record {
   place = λ file begun start. ([], start, refl, rw c.counts.ensures at c.public_verdict-verdict.ensures);
 }
 
-pub loop-holds-preserved : goal.loop-holds-preserved
-loop-holds-preserved g c =
-    let looked = rw c.in-Some.ensures.goes at (c.try_next.ensures.looks c.loop-holds.invariant.on) in
+pub loop-verdict-preserved : goal.loop-verdict-preserved
+loop-verdict-preserved g c =
+    let looked = rw c.in-Some.ensures.goes at (c.try_next.ensures.looks c.loop-verdict.invariant.on) in
     record {
       same = search rules;
-      outside = looked ∙ c.loop-holds.invariant.outside;
+      outside = looked ∙ c.loop-verdict.invariant.outside;
       name = search rules;
       on = c.in-Some.ensures.goes;
       header = search rules;
-      counted = omega (arith, c.in-Some.ensures.left, c.loop-holds.invariant.counted);
+      counted = omega (arith, c.in-Some.ensures.left, c.loop-verdict.invariant.counted);
       place = λ file begun start.
-          let before = c.loop-holds.invariant.place file begun start in
-          let told = rw (← c.loop-holds.invariant.outside, ← c.loop-holds.invariant.name) at begun in
+          let before = c.loop-verdict.invariant.place file begun start in
+          let told = rw (← c.loop-verdict.invariant.outside, ← c.loop-verdict.invariant.name) at begun in
           let now = c.in-Some.ensures.gives before.0 file told before.1 in
-          let count : c.loop-holds.at + 1 ≡ length (before.0 ++ now.constraint ∷ []) = omega (arith, before.2, length_push before.0 now.constraint) in
+          let count : c.loop-verdict.at + 1 ≡ length (before.0 ++ now.constraint ∷ []) = omega (arith, before.2, length_push before.0 now.constraint) in
           let verdict : c.tried-verdict.result ≡ judge (system_with c.in-Ok.reader.progress.header (before.0 ++ now.constraint ∷ [])) c.args.values.now c.args.publics.now
           = c.tried-verdict.ensures ∙ rw (before.3, before.2, now.is) (sym (judge-more c.in-Ok.reader.progress.header c.args.values.now c.args.publics.now before.0 now.constraint)) in
           (before.0 ++ now.constraint ∷ [], now.place, count, verdict);
     }
 
-pub returns-in-Some-stopped-clause-gives : goal.returns-in-Some-stopped-clause-gives
-returns-in-Some-stopped-clause-gives g c = λ file told.
+pub returns-in_default-try_next-clause-gives : goal.returns-in_default-try_next-clause-gives
+returns-in_default-try_next-clause-gives g c = λ file told.
     let begun = rw (← c.in-Ok.ensures.ok_looks, ← c.in-Ok.ensures.name) at told in
-    let before = c.loop-holds.invariant.place file begun (c.in-Ok.ensures.gives file told) in
-    let ended = c.in_default.ensures.gives before.0 file (rw (← c.loop-holds.invariant.outside, ← c.loop-holds.invariant.name) at begun) before.1 in
-    verdict_of-refuses file c.args.values.now c.args.publics.now _ (rw (sym c.stopped.ensures ∙ c.in-Some-stopped.is) at ended)
+    let before = c.loop-verdict.invariant.place file begun (c.in-Ok.ensures.gives file told) in
+    let ended = c.in_default-try_next.ensures.gives before.0 file (rw (← c.loop-verdict.invariant.outside, ← c.loop-verdict.invariant.name) at begun) before.1 in
+    answers _ _ _ file c.args.values.now c.args.publics.now c.ended.ensures
+    (read_ends _ file c.args.values.now c.args.publics.now _ c.in-Ok.reader.progress.header before.0 _ ended
+    (c.try_next.ensures.header ∙ c.loop-verdict.invariant.header) before.3)
 
-pub returns-in-None-clause-gives : goal.returns-in-None-clause-gives
-returns-in-None-clause-gives g c = λ file told.
+pub returns-clause-gives : goal.returns-clause-gives
+returns-clause-gives g c = λ file told.
     let begun = rw (← c.in-Ok.ensures.ok_looks, ← c.in-Ok.ensures.name) at told in
-    let before = c.loop-holds.invariant.place file begun (c.in-Ok.ensures.gives file told) in
-    let ended = c.in_default.ensures.gives before.0 file (rw (← c.loop-holds.invariant.outside, ← c.loop-holds.invariant.name) at begun) before.1 in
-    let all = rw (sym c.stopped.ensures ∙ c.in-None.is) at ended in
-    let system = rw (c.try_next.ensures.header ∙ c.loop-holds.invariant.header) at all.system in
-    verdict_of-read file c.args.values.now c.args.publics.now _ system ∙ rw (← before.3) refl
+    let before = c.loop-verdict.invariant.place file begun (c.in-Ok.ensures.gives file told) in
+    let passed = c.pass_rest.ensures.gives before.0 file (rw (← c.loop-verdict.invariant.outside, ← c.loop-verdict.invariant.name) at begun) before.1 in
+    answers _ _ _ file c.args.values.now c.args.publics.now c.ended-2.ensures
+    (read_passes _ file c.args.values.now c.args.publics.now _ c.in-Ok.reader.progress.header before.0 _ passed
+    (c.pass_rest.ensures.header ∙ c.loop-verdict.invariant.header)
+    (λ rest. before.3 ∙ sym (judge-stays c.in-Ok.reader.progress.header c.args.values.now c.args.publics.now before.0 rest (λ yes. c.in_default.not-Yes (before.3 ∙ yes)))))

@@ -5,8 +5,8 @@ use Rattle.tv_r1cs_read.specs.Places.{IsAt, system_with}
 use Rattle.tv_check.specs.Verdict.{judge}
 use Rattle.tv_check.proofs.checking.check.Given as goal
 
-abbrev pub invariant-loop-holds : goal.invariant-loop-holds
-invariant-loop-holds g l = record {
+abbrev pub invariant-loop-verdict : goal.invariant-loop-verdict
+invariant-loop-verdict g l = record {
   same : l.reader.files.ghost_name ≡ l.initial.reader.files.ghost_name;
   outside : g.D.Files.seen l.reader.files.now ≡ g.D.Files.seen l.initial.reader.files.now;
   name : l.reader.name.now ≡ l.initial.reader.name.now;
@@ -18,5 +18,5 @@ invariant-loop-holds g l = record {
       (l.verdict ≡ judge (system_with l.initial.reader.progress.header done) l.values l.publics));
 }
 
-abbrev pub decreases-loop-holds : goal.decreases-loop-holds
-decreases-loop-holds g l = l.reader.progress.left
+abbrev pub decreases-loop-verdict : goal.decreases-loop-verdict
+decreases-loop-verdict g l = l.reader.progress.left

@@ -13,7 +13,7 @@ invariant-loop-left g l = record {
   below : All (λ v. v < P) l.values.items;
   piece : InPiece (g.D.Files.seen l.initial.files) l.name l.initial.window (λ file. IsPiece l.window file);
   ahead : InPiece (g.D.Files.seen l.initial.files) l.name l.initial.window (λ file. l.initial.at + 8 * l.count ≤ places file →
-      (answer : Result (List ℕ) Fault) → IsAhead answer [] file l.count l.initial.at → IsAhead answer l.values.items file l.left l.at);
+      (answer : Result (List ℕ) Fault) → IsAhead answer l.most [] file l.count l.initial.at → IsAhead answer l.most l.values.items file l.left l.at);
 }
 
 abbrev pub decreases-loop-left : goal.decreases-loop-left

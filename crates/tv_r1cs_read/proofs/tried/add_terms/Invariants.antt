@@ -4,10 +4,10 @@ use Rattle.tv_container.specs.Places.{Fault}
 use Rattle.tv_container.specs.Reading.{IsPiece}
 use Rattle.tv_r1cs_read.specs.R1cs.{Read}
 use Rattle.tv_r1cs_read.specs.Sums.{IsSummed}
-use Rattle.tv_r1cs_read.proofs.tried.sum_terms.Given as goal
+use Rattle.tv_r1cs_read.proofs.tried.add_terms.Given as goal
 
 abbrev pub invariant-loop-good : goal.invariant-loop-good
-invariant-loop-good l = record {
+invariant-loop-good g l = record {
   place : l.at ≡ l.initial.at + 12 * l.good;
   small : l.sum ≤ l.initial.sum + l.good * 2 ^ 128;
   sums : (file : List ℕ) → IsPiece l.window file → (answer : Result (Read Combination) Fault) → (k n : ℕ) → l.count ≤ n →
