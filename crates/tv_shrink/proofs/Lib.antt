@@ -6,10 +6,12 @@ pub mod Merging
 pub mod NormalLaws
 pub mod PassLaws
 pub mod Passes
+pub mod Placing
 pub mod Putting
 pub mod Read
 pub mod ReplacingLaws
 pub mod Settling
 pub mod Solutions
+pub mod Spans
 pub mod Unique
 pub mod Whole

@@ -1,6 +1,7 @@
 -- What the functions on a constraint's combinations give.
-use Rattle.std.proofs.Common.{◌≡◌, ◌≢◌, ℕ, ◌+◌, ◌-◌, ◌*◌, ◌%◌, ◌<◌, Bool, not, ◌||◌, leb, length, [], ◌∷◌, ◌++◌, Option, Some, None, refl, sym, ◌∙◌, ap, ap₂, arith, eqb, true, false, cond, mul-zero, append-nil}
-use Rattle.std.proofs.lemmas.Bool.{cond_both, or_left, OnTrue_at}
+use Rattle.std.proofs.Common.{◌≡◌, ◌≢◌, ℕ, ◌+◌, ◌-◌, ◌*◌, ◌%◌, ◌<◌, ◌≤◌, Bool, not, ◌||◌, leb, ltb, length, [], ◌∷◌, ◌++◌, Option, Some, None, refl, sym, ◌∙◌, ap, ap₂, arith, eqb, true, false, cond, mul-zero, append-nil}
+use Rattle.std.proofs.lemmas.Bool.{cond_both, le-leb, leb-true, or_left, or_right, OnTrue_at}
+use Rattle.std.proofs.lemmas.List.{length-append, length-map}
 use Rattle.std.specs.Bool.{OnTrue}
 use Rattle.std.specs.Option.{IsNone, IfSome, unwrap_or}
 use Rattle.tv_core.proofs.InverseLaws.{inverse_of-below}
@@ -8,7 +9,7 @@ use Rattle.tv_core.specs.Combinations.{scaled}
 use Rattle.tv_core.specs.Constraints.{Combination, Constraint}
 use Rattle.tv_core.specs.Inverse.{inverse_of}
 use Rattle.tv_core.specs.declared.field.TheConstants.{P}
-use Rattle.tv_shrink.specs.Normal.{normal, IsNormalFrom}
+use Rattle.tv_shrink.specs.Normal.{added, normal, with_term, IsNormalFrom}
 use Rattle.tv_shrink.specs.Replacing.{coefficient, has_wire, without, constant_in, difference, first_of_two, linear_form, solved, replaced, fits}
 use Rattle.tv_shrink.proofs.NormalLaws.{IsNormalFrom-lower}
 use Rattle.tv_shrink.proofs.Constants.{scaled_once}
@@ -92,3 +93,47 @@ pub fits-having : (w : ℕ) (r x out : Combination) (has : Bool) → has ≡ has
 unfolding fits
 fits-having w r x out has is e made =
     ap (λ y. leb (length y) 128) (OnTrue_at e made) ∙ sym (ap (λ b. not b || leb (length (replaced w r x)) 128) (sym is ∙ e))
+
+-- a combination has no more terms with another one in place of a wire than both together
+length-with_term : (k w : ℕ) (x : Combination) → length (with_term k w x) ≤ length x + 1
+unfolding with_term
+length-with_term k w x = cond_both (eqb (k % P) 0) x ((k % P, w) ∷ x) (λ y. length y ≤ length x + 1) (λ _. omega arith) (λ _. omega arith)
+
+length-added : (t : ℕ × ℕ) (x : Combination) → length (added t x) ≤ length x + 1
+unfolding added
+length-added t [] = length-with_term t.0 t.1 []
+length-added t (u ∷ rest) =
+    cond_both (ltb t.1 u.1) (with_term t.0 t.1 (u ∷ rest)) _ (λ y. length y ≤ length (u ∷ rest) + 1)
+    (λ _. length-with_term t.0 t.1 (u ∷ rest))
+    (λ _. cond_both (eqb t.1 u.1) (with_term (t.0 + u.0) t.1 rest) (u ∷ added t rest) (λ y. length y ≤ length (u ∷ rest) + 1)
+    (λ _. let more = length-with_term (t.0 + u.0) t.1 rest in omega arith) (λ _. let more = length-added t rest in omega arith))
+
+length-normal : (x : Combination) → length (normal x) ≤ length x
+unfolding normal
+length-normal [] = omega arith
+length-normal (t ∷ rest) = omega (arith, length-added t (normal rest), length-normal rest)
+
+length-without : (w : ℕ) (x : Combination) → length (without w x) ≤ length x
+unfolding without
+length-without w [] = omega arith
+length-without w (t ∷ x) =
+    let rest = length-without w x in
+    cond_both (not (eqb t.1 w)) (t ∷ without w x) (without w x) (λ y. length y ≤ length (t ∷ x)) (λ _. omega arith) (λ _. omega arith)
+
+length-replaced : (w : ℕ) (r x : Combination) → length (replaced w r x) ≤ length x + length r
+unfolding replaced
+length-replaced w r x =
+    cond_both (has_wire w x) (normal (without w x ++ scaled (coefficient w x) r)) x (λ y. length y ≤ length x + length r)
+    (λ _. omega (arith, length-normal (without w x ++ scaled (coefficient w x) r), length-append (without w x) (scaled (coefficient w x) r), length-without w x, length-map {B = ℕ × ℕ} r (λ (t : ℕ × ℕ). (coefficient w x * t.0 % P, t.1))))
+    (λ _. omega arith)
+
+pub fits-few : (w : ℕ) (r x : Combination) → length x + length r ≤ 128 → fits w r x ≡ true
+unfolding fits
+fits-few w r x few =
+    let short : length (replaced w r x) ≤ 128 = omega (arith, length-replaced w r x) in
+    or_right (not (has_wire w x)) (leb (length (replaced w r x)) 128) (le-leb (length (replaced w r x)) 128 short)
+
+-- what fits is short, if the wire stands in it
+pub fits_short : (w : ℕ) (r x : Combination) → fits w r x ≡ true → has_wire w x ≡ true → length (replaced w r x) ≤ 128
+unfolding fits
+fits_short w r x e has = leb-true (length (replaced w r x)) 128 (ap (λ b. not b || leb (length (replaced w r x)) 128) (sym has) ∙ e)

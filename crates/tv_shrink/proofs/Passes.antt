@@ -1,9 +1,9 @@
 -- What the loops of a pass keep.
-use Rattle.std.proofs.Common.{◌≡◌, ◌≢◌, ◌⊎◌, ℕ, zero, suc, ◌+◌, ◌<◌, ◌≤◌, Bool, not, ◌||◌, ◌&&◌, List, [], ◌∷◌, ◌++◌, Option, Some, None, refl, sym, ◌∙◌, ap, subst, arith, eqb, true, false, inl, inr, cond, map, length, get_or, set, take, leb, ltb, ◌-◌, ltb-true, lt-ltb, le-ltb, eqb-true, eq-eqb, ne_eqb, set-set, take_all, add-one}
+use Rattle.std.proofs.Common.{◌≡◌, ◌≢◌, ◌⊎◌, ℕ, zero, suc, ◌+◌, ◌<◌, ◌≤◌, Bool, not, ◌||◌, ◌&&◌, List, [], ◌∷◌, ◌++◌, Option, Some, None, refl, sym, ◌∙◌, ap, subst, arith, eqb, true, false, inl, inr, cond, map, length, get_or, set, length-set, take, leb, ltb, ◌-◌, ltb-true, lt-ltb, le-ltb, eqb-true, eq-eqb, ne_eqb, take_all, add-one}
 use Rattle.std.specs.List.{fold, list_any, list_all, range_with_len}
 use Rattle.std.specs.Option.{option_map}
 use Rattle.std.proofs.lemmas.Bool.{cond_both, cases_Bool, cases_eq, cases_lt, or_cases, or_parts, or_from, or_left, or_right, and_from, false_from_ne_true}
-use Rattle.std.proofs.lemmas.List.{ext_get_or, get_or-map, get_or_past, length-map, get_or-set_other, get_or-set_same, set-get_or}
+use Rattle.std.proofs.lemmas.List.{ext_get_or, get_or-map, get_or_past, length-map, get_or-set_other, get_or-set_same}
 use Rattle.std.proofs.lemmas.List.Elements.{All-from_get_or}
 use Rattle.std.proofs.lemmas.List.Folds.{list_any_more}
 use Rattle.tv_core.proofs.BelowLaws.{range-more}
@@ -48,15 +48,6 @@ any_at i (x ∷ xs) e =
       | inr later ↦ let found = any_at i xs later in (suc found.0, omega (arith, found.1), found.2)
     ]
 
-pub any_append_left : (q : ℕ → Bool) (xs ys : List ℕ) → list_any q xs ≡ true → list_any q (xs ++ ys) ≡ true
-any_append_left q [] ys e = absurd (cc)
-any_append_left q (x ∷ xs) ys e =
-    elim (or_cases _ _ e) [ inl here ↦ or_left (q x) (list_any q (xs ++ ys)) here | inr later ↦ or_right (q x) (list_any q (xs ++ ys)) (any_append_left q xs ys later) ]
-
-pub any_append_right : (q : ℕ → Bool) (xs ys : List ℕ) → list_any q ys ≡ true → list_any q (xs ++ ys) ≡ true
-any_append_right q [] ys e = e
-any_append_right q (x ∷ xs) ys e = or_right (q x) (list_any q (xs ++ ys)) (any_append_right q xs ys e)
-
 -- a constraint without the wire
 module _ (w : ℕ) (r : Combination) where
   lacking-fits : (x : Combination) → has_wire w x ≡ false → fits w r x ≡ true
@@ -88,11 +79,14 @@ module _ (w : ℕ) (r : Combination) where
           | inr lacks ↦ row-lacking-fits (get_or rows i None) lacks
         ]))
 
-    pub not-all-fit : (i : ℕ) → i < length rows → row_fits w r (get_or rows i None) ≡ false → list_all (row_fits w r) rows ≡ false
-    not-all-fit i h e =
-        false_from_ne_true (list_all (row_fits w r) rows) (λ all.
-        let fits_there : row_fits w r (get_or rows i None) ≡ true = AllPass-from_list_all (row_fits w r) rows all i None h in
-        let both : true ≡ false = sym fits_there ∙ e in cc)
+    pub not-all-fit : (i : ℕ) → row_fits w r (get_or rows i None) ≡ false → list_all (row_fits w r) rows ≡ false
+    not-all-fit i e =
+        elim (cases_lt i (length rows)) [
+          | inl h ↦ false_from_ne_true (list_all (row_fits w r) rows) (λ all.
+              let fits_there : row_fits w r (get_or rows i None) ≡ true = AllPass-from_list_all (row_fits w r) rows all i None h in
+              let both : true ≡ false = sym fits_there ∙ e in cc)
+          | inr past ↦ absurd (let both : true ≡ false = ap (row_fits w r) (sym (get_or_past rows i None past)) ∙ e in cc)
+        ]
 
   -- once a wire is replaced, it is there no more
   module _ (lacks : has_wire w r ≡ false) where
@@ -132,6 +126,17 @@ module _ (w : ℕ) (r : Combination) where
               ∙ before i
               ∙ sym (ap (λ b. cond b (option_map (replaced_in w r) (get_or start i None)) (get_or start i None)) now)
         ]
+
+    fits_seen : (seen : Bool) (row : Option Constraint) → row_fits w r row ≡ true → row_fits w r (cond seen (option_map (replaced_in w r) row) row) ≡ true
+    fits_seen false row e = e
+    fits_seen true None e = refl
+    fits_seen true (Some c) e =
+        and_from (fits w r (replaced w r c.a)) (fits w r (replaced w r c.b) && fits w r (replaced w r c.c)) (lacking-fits (replaced w r c.a) (lacks-replaced c.a))
+        (and_from (fits w r (replaced w r c.b)) (fits w r (replaced w r c.c)) (lacking-fits (replaced w r c.b) (lacks-replaced c.b)) (lacking-fits (replaced w r c.c) (lacks-replaced c.c)))
+
+    -- a constraint keeps to its most terms, and is normal, also where the wire was replaced in it already
+    pub still_fits : (rows start : List (Option Constraint)) (seen : Bool) (at : ℕ) → list_all (row_fits w r) start ≡ true → at < length start → get_or rows at None ≡ cond seen (option_map (replaced_in w r) (get_or start at None)) (get_or start at None) → row_fits w r (get_or rows at None) ≡ true
+    still_fits rows start seen at all h is = ap (row_fits w r) is ∙ fits_seen seen (get_or start at None) (AllPass-from_list_all (row_fits w r) start all at None h)
 
     nothing_there : (b : Bool) (row : Option Constraint) → row ≡ None → None ≡ cond b (option_map (replaced_in w r) row) row
     nothing_there true row e = sym (ap (option_map (replaced_in w r)) e)
@@ -213,24 +218,6 @@ module _ (w : ℕ) (r : Combination) where
 
 pub normal-at : (rows : List (Option Constraint)) (i : ℕ) → AreNormal rows → RowIsNormal (get_or rows i None)
 normal-at rows i n = rows_at RowIsNormal tt rows i n
-
--- a list of a list of vectors
-pub listed : {V : Type 0} (items : V → List ℕ) (vectors : List V) (w : ℕ) (v : V) → w < length vectors → v ≡ get_or vectors w v → items v ≡ get_or (map items vectors) w []
-listed items vectors w v h at = ap items at ∙ sym (get_or-map items vectors w v [] h)
-
--- lists of places
-pub extend-more : (q : ℕ → Bool) (lists : List (List ℕ)) (v w : ℕ) (rows : List ℕ) → v < length lists → list_any q (get_or lists w []) ≡ true → list_any q (get_or (set lists v (get_or lists v [] ++ rows)) w []) ≡ true
-extend-more q lists v w rows h e =
-    elim (cases_eq w v) [
-      | inl same ↦
-          ap (λ xs. list_any q xs) (ap (λ u. get_or (set lists v (get_or lists v [] ++ rows)) u []) same ∙ get_or-set_same lists v (get_or lists v [] ++ rows) [] h)
-          ∙ any_append_left q (get_or lists v []) rows (ap (λ u. list_any q (get_or lists u [])) (sym same) ∙ e)
-      | inr apart ↦ ap (λ xs. list_any q xs) (get_or-set_other lists v w (get_or lists v [] ++ rows) [] apart) ∙ e
-    ]
-
-pub extend-added : (q : ℕ → Bool) (lists : List (List ℕ)) (v : ℕ) (rows : List ℕ) → v < length lists → list_any q rows ≡ true → list_any q (get_or (set lists v (get_or lists v [] ++ rows)) v []) ≡ true
-extend-added q lists v rows h e =
-    ap (λ xs. list_any q xs) (get_or-set_same lists v (get_or lists v [] ++ rows) [] h) ∙ any_append_right q (get_or lists v []) rows e
 
 -- a wire of the first terms
 pub has_next : (w k : ℕ) (t : ℕ × ℕ) (x : Combination) → k < length x → t ≡ get_or x k t → has_wire w (take (k + 1) x) ≡ (has_wire w (take k x) || eqb t.1 w)
@@ -363,14 +350,14 @@ same_default (x ∷ xs) (suc i) d e h = same_default xs i d e (omega arith)
 -- one turn of the loop that adds places
 module _ (publics : ℕ) (lists next : List (List ℕ)) (rows : List ℕ) (k : ℕ) (t : ℕ × ℕ) (r : Combination) (h : k < length r) (at : t ≡ get_or r k t)
     (added : (w i : ℕ) → publics ≤ w → has_wire w (take k r) ≡ true → list_any (λ p. eqb p i) rows ≡ true → list_any (λ p. eqb p i) (get_or lists w []) ≡ true) where
-  pub spread-private : t.1 < length lists → next ≡ set lists t.1 (get_or lists t.1 [] ++ rows) →
+  pub spread-private : ((w i : ℕ) → list_any (λ p. eqb p i) (get_or lists w []) ≡ true → list_any (λ p. eqb p i) (get_or next w []) ≡ true) →
+      ((i : ℕ) → list_any (λ p. eqb p i) rows ≡ true → list_any (λ p. eqb p i) (get_or next t.1 []) ≡ true) →
       (w i : ℕ) → publics ≤ w → has_wire w (take (k + 1) r) ≡ true → list_any (λ p. eqb p i) rows ≡ true → list_any (λ p. eqb p i) (get_or next w []) ≡ true
-  spread-private inside is w i above has e =
-      subst (λ xs. list_any (λ p. eqb p i) (get_or xs w []) ≡ true) (sym is)
-      (elim (or_cases (has_wire w (take k r)) (eqb t.1 w) (sym (has_next w k t r h at) ∙ has)) [
-        | inl earlier ↦ extend-more (λ p. eqb p i) lists t.1 w rows inside (added w i above earlier e)
-        | inr here ↦ subst (λ v. list_any (λ p. eqb p i) (get_or (set lists t.1 (get_or lists t.1 [] ++ rows)) v []) ≡ true) (eqb-true t.1 w here) (extend-added (λ p. eqb p i) lists t.1 rows inside e)
-      ])
+  spread-private more here w i above has e =
+      elim (or_cases (has_wire w (take k r)) (eqb t.1 w) (sym (has_next w k t r h at) ∙ has)) [
+        | inl earlier ↦ more w i (added w i above earlier e)
+        | inr same ↦ subst (λ v. list_any (λ p. eqb p i) (get_or next v []) ≡ true) (eqb-true t.1 w same) (here i e)
+      ]
 
   pub spread-public : t.1 < publics → next ≡ lists →
       (w i : ℕ) → publics ≤ w → has_wire w (take (k + 1) r) ≡ true → list_any (λ p. eqb p i) rows ≡ true → list_any (λ p. eqb p i) (get_or next w []) ≡ true
@@ -385,20 +372,16 @@ pub none_spread : (w : ℕ) → has_wire w [] ≡ true → ⊥
 none_spread w e = none_has w e
 
 -- what was put out, from the row that was looked at
-pub form_there : (rows : List (Option Constraint)) (at : ℕ) (row : Option Constraint) (form : Combination) (b : Bool) → at < length rows → row ≡ get_or rows at row → linear_row row ≡ cond b (Some form) None → b ≡ true → linear_row (get_or rows at None) ≡ Some form
-form_there rows at row form b h is says e =
-    ap linear_row (same_default rows at None row h ∙ sym is) ∙ says ∙ ap (λ c. cond c (Some form) None) e
+pub form_there : (rows : List (Option Constraint)) (at : ℕ) (row : Option Constraint) (form : Combination) (b : Bool) → row ≡ get_or rows at None → linear_row row ≡ cond b (Some form) None → b ≡ true → linear_row (get_or rows at None) ≡ Some form
+form_there rows at row form b is says e =
+    ap linear_row (sym is) ∙ says ∙ ap (λ c. cond c (Some form) None) e
 
-pub form_missing : (rows : List (Option Constraint)) (at : ℕ) (row : Option Constraint) (form : Combination) (b : Bool) → at < length rows → row ≡ get_or rows at row → linear_row row ≡ cond b (Some form) None → b ≡ false → linear_row (get_or rows at None) ≡ None
-form_missing rows at row form b h is says e =
-    ap linear_row (same_default rows at None row h ∙ sym is) ∙ says ∙ ap (λ c. cond c (Some form) None) e
+pub form_missing : (rows : List (Option Constraint)) (at : ℕ) (row : Option Constraint) (form : Combination) (b : Bool) → row ≡ get_or rows at None → linear_row row ≡ cond b (Some form) None → b ≡ false → linear_row (get_or rows at None) ≡ None
+form_missing rows at row form b is says e =
+    ap linear_row (sym is) ∙ says ∙ ap (λ c. cond c (Some form) None) e
 
 pub last_at : (form : Combination) (n : ℕ) (t : ℕ × ℕ) → n ≡ length form → t ≡ get_or form (n - 1) t → t ≡ get_or form (length form - 1) t
 last_at form n t e is = is ∙ ap (λ m. get_or form (m - 1) t) e
-
--- a row that was taken is put back
-pub put-back : (rows : List (Option Constraint)) (at : ℕ) (row other : Option Constraint) → row ≡ get_or rows at row → set (set rows at other) at row ≡ rows
-put-back rows at row other is = set-set rows at other row ∙ ap (set rows at) is ∙ set-get_or rows at row
 
 -- the attempt, by whether all keep to their most terms
 pub not-attempted : (w at : ℕ) (r : Combination) (rows : List (Option Constraint)) (gone : List Bool) (all : Bool) → all ≡ list_all (row_fits w r) (set rows at None) → all ≡ false →
@@ -471,6 +454,26 @@ changed_at : (change : Option Constraint → Option Constraint) (rows : List (Op
 changed_at change [] i none = sym none
 changed_at change (row ∷ rows) zero none = refl
 changed_at change (row ∷ rows) (suc i) none = changed_at change rows i none
+
+pub dropped_there : (rows : List (Option Constraint)) (at : ℕ) → get_or (set rows at None) at None ≡ None
+dropped_there [] at = refl
+dropped_there (row ∷ rows) zero = refl
+dropped_there (row ∷ rows) (suc at) = dropped_there rows at
+
+pub dropped-fits : (w : ℕ) (r : Combination) (rows : List (Option Constraint)) (but at : ℕ) → (at ≡ but) ⊎ (length rows ≤ at) → true ≡ row_fits w r (get_or (set rows but None) at None)
+dropped-fits w r rows but at here =
+    elim here [
+      | inl same ↦ sym (ap (row_fits w r) (ap (λ i. get_or (set rows but None) i None) same ∙ dropped_there rows but))
+      | inr past ↦ sym (ap (row_fits w r) (get_or_past (set rows but None) at None (omega (arith, length-set rows but None))))
+    ]
+
+pub dropped-named : (w at : ℕ) (rows : List (Option Constraint)) (places : List ℕ) → ((i : ℕ) → row_has w (get_or rows i None) ≡ true → list_any (λ p. eqb p i) places ≡ true) →
+    (i : ℕ) → row_has w (get_or (set rows at None) i None) ≡ true → list_any (λ p. eqb p i) places ≡ true
+dropped-named w at rows places covers i has =
+    elim (dropped_cases rows at i) [
+      | inl none ↦ absurd (let no : false ≡ true = sym (ap (row_has w) none) ∙ has in cc)
+      | inr same ↦ covers i (ap (row_has w) (sym same) ∙ has)
+    ]
 
 pub dropped-covers : (publics at : ℕ) (rows : List (Option Constraint)) (lists : List (List ℕ)) → Covers publics rows lists → Covers publics (set rows at None) lists
 dropped-covers publics at rows lists covers i v above has =

@@ -1,8 +1,7 @@
 -- Terms that were read, made normal.
-use Rattle.std.proofs.Common.{◌≡◌, ◌⊎◌, ℕ, zero, suc, ◌+◌, ◌%◌, ◌<◌, ◌≤◌, Bool, not, ◌||◌, List, [], ◌∷◌, ◌++◌, Option, Some, None, refl, sym, ◌∙◌, ap, ap₂, subst, arith, eqb, ne_eqb, true, false, inl, inr, cond, map, length, get_or, drop, take, add-one, drop-cons, mod-eq_of_lt, eqb-true, eq-eqb, append-nil, set, take_all}
+use Rattle.std.proofs.Common.{◌≡◌, ◌⊎◌, ℕ, zero, suc, ◌+◌, ◌%◌, ◌<◌, ◌≤◌, Bool, not, ◌||◌, List, [], ◌∷◌, ◌++◌, Option, Some, None, refl, sym, ◌∙◌, ap, ap₂, subst, arith, eqb, ltb, ne_eqb, true, false, inl, inr, cond, map, length, get_or, drop, take, add-one, drop-cons, mod-eq_of_lt, eqb-true, eq-eqb, append-nil, set, take_all}
 use Rattle.std.proofs.Common.{Result, Ok, Err}
 use Rattle.std.specs.List.{AllByRecursion, All, list_any}
-use Rattle.std.specs.Prelude.{slice_index}
 use Rattle.tv_container.specs.Places.{Fault, ◌>>=◌, wrong}
 use Rattle.tv_container.specs.Reading.{Refuses, Stopped}
 use Rattle.tv_container.specs.declared.why.ReadRefusal.{ReadRefusal}
@@ -14,7 +13,7 @@ use Rattle.tv_r1cs_read.specs.R1cs.{system_of}
 use Rattle.tv_shrink.specs.declared.fault.ShrinkFault.{ShrinkFault}
 use Rattle.tv_shrink.specs.declared.fault.ShrinkFault.TheVariants as fault
 use Rattle.std.proofs.lemmas.List.{map_push, take_more}
-use Rattle.std.proofs.lemmas.Bool.{or_cases, or_left}
+use Rattle.std.proofs.lemmas.Bool.{cases_Bool, ltb-false, or_cases, or_left}
 use Rattle.std.proofs.lemmas.List.Elements.{All-more, filter-append, recursion_from_All}
 use Rattle.tv_core.proofs.CombinationLaws.{value-append}
 use Rattle.tv_container.specs.declared.why.ReadWhy.{ReadWhy}
@@ -23,13 +22,14 @@ use Rattle.tv_core.specs.declared.lines.Counts.{Counts}
 use Rattle.tv_r1cs_read.specs.Survey.{survey_of, system_counts}
 use Rattle.tv_core.specs.Constraints.{Combination, Constraint, System, value}
 use Rattle.tv_core.specs.declared.field.TheConstants.{P}
-use Rattle.tv_r1cs_read.specs.Rows.{combination_of}
-use Rattle.tv_shrink.specs.Answers.{first_number, first_wide, read_fault, start_rows, wide_in, all_terms, most, Halted, IsTooWide, Tells, TellsRead}
+use Rattle.tv_r1cs_read.specs.Rows.{combination_of, constraint_of, IsOver}
+use Rattle.tv_r1cs_read.specs.declared.rows.Row.{Row}
+use Rattle.tv_shrink.specs.Answers.{first_number, first_wide, read_fault, start_rows, wide, wide_in, all_terms, most, Halted, IsTooWide, Tells, TellsRead}
 use Rattle.tv_shrink.specs.Normal.{added, non_zero, normal, normal_constraint, IsNormalFrom, with_term}
 use Rattle.tv_shrink.proofs.NormalLaws.{Over, Over-normal, value-normal, IsNormalFrom-normal}
 use Rattle.tv_shrink.proofs.Unique.{same_values, normal-same}
 use Rattle.tv_shrink.specs.Replacing.{has_wire}
-use Rattle.tv_shrink.specs.Tidy.{Covers, row_has}
+use Rattle.tv_shrink.specs.Tidy.{AreNormal, Covers, IsWithin, RowIsNormal, RowIsWithin, row_has}
 use Rattle.tv_shrink.proofs.ReplacingLaws.{Over-has_wire}
 use Rattle.tv_shrink.proofs.Constants.{scaled_once}
 
@@ -105,6 +105,48 @@ over_read n terms h = Over-normal (λ v. v < n) (combination_of terms) (over_ter
 pub wire_below : (n w : ℕ) (x y : Combination) → Over (λ v. v < n) x → y ≡ x → has_wire w y ≡ true → w < n
 wire_below n w x y over is has = Over-has_wire (λ v. v < n) w x over (ap (has_wire w) (sym is) ∙ has)
 
+-- no combination of a constraint is too wide
+none_both : (a b : Option ℕ) → first_number a b ≡ None → (a ≡ None) × (b ≡ None)
+none_both None b e = (refl, e)
+none_both (Some n) b e = absurd (cc)
+
+narrow_short : (x : Combination) → wide x ≡ None → length (normal x) ≤ 128
+narrow_short x e =
+    elim (cases_Bool (ltb 128 (length (normal x)))) [
+      | inl many ↦ let some : Some (length (normal x)) ≡ None = ap (λ b. cond b (Some (length (normal x))) None) (sym many) ∙ e in absurd (cc)
+      | inr few ↦ ltb-false 128 (length (normal x)) few
+    ]
+
+pub narrow_within : (n : ℕ) (row : Row) → IsOver n row → wide_in (constraint_of row) ≡ None → IsWithin n (normal_constraint (constraint_of row))
+narrow_within n row over e =
+    let first = none_both (wide (combination_of row.a)) (first_number (wide (combination_of row.b)) (wide (combination_of row.c))) e in
+    let others = none_both (wide (combination_of row.b)) (wide (combination_of row.c)) first.1 in
+    record {
+      a = over_read n row.a over.a;
+      b = over_read n row.b over.b;
+      c = over_read n row.c over.c;
+      short_a = narrow_short (combination_of row.a) first.0;
+      short_b = narrow_short (combination_of row.b) others.0;
+      short_c = narrow_short (combination_of row.c) others.1;
+    }
+
+pub rows-push : (R : Option Constraint → Type 0) (rows : List (Option Constraint)) (row : Option Constraint) → AllByRecursion R rows → R row → AllByRecursion R (rows ++ row ∷ [])
+rows-push R [] row h r = (r, tt)
+rows-push R (first ∷ rows) row h r = (h.0, rows-push R rows row h.1 r)
+
+-- the last row
+last_row : (rows : List (Option Constraint)) (row : Option Constraint) → get_or (rows ++ row ∷ []) (length rows) None ≡ row
+last_row [] row = refl
+last_row (first ∷ rows) row = last_row rows row
+
+pub pushed_within : (wires at : ℕ) (rows next : List (Option Constraint)) (row : Constraint) → next ≡ rows ++ Some row ∷ [] → at ≡ length rows → IsWithin wires row → RowIsWithin wires (get_or next at None)
+pushed_within wires at rows next row is same within =
+    subst (RowIsWithin wires) (sym (ap₂ (λ xs i. get_or xs i None) is same ∙ last_row rows (Some row))) within
+
+pub pushed_normal : (rows next : List (Option Constraint)) (row : Constraint) → next ≡ rows ++ Some (normal_constraint row) ∷ [] → AreNormal rows → AreNormal next
+pushed_normal rows next row is normal =
+    subst AreNormal (sym is) (rows-push RowIsNormal rows (Some (normal_constraint row)) normal (record { a = IsNormalFrom-normal row.a; b = IsNormalFrom-normal row.b; c = IsNormalFrom-normal row.c }))
+
 -- one more row
 pushed_cases : (rows : List (Option Constraint)) (row : Option Constraint) (i : ℕ) → (get_or (rows ++ row ∷ []) i None ≡ get_or rows i None) ⊎ ((i ≡ length rows) × (get_or (rows ++ row ∷ []) i None ≡ row))
 pushed_cases [] row zero = inr (refl, refl)
@@ -139,10 +181,6 @@ row-added publics n v row one two three a b c more again has =
       | inl in_a ↦ again v n (more v n (a in_a))
       | inr later ↦ elim (or_cases (has_wire v row.b) (has_wire v row.c) later) [ inl in_b ↦ again v n (b in_b) | inr in_c ↦ c in_c ]
     ]
-
-pub rows-push : (R : Option Constraint → Type 0) (rows : List (Option Constraint)) (row : Option Constraint) → AllByRecursion R rows → R row → AllByRecursion R (rows ++ row ∷ [])
-rows-push R [] row h r = (r, tt)
-rows-push R (first ∷ rows) row h r = (h.0, rows-push R rows row h.1 r)
 
 -- one element changed after another
 nothing_dropped : {A : Type 0} (xs : List A) (i : ℕ) → length xs ≤ i → drop i xs ≡ []
@@ -215,6 +253,18 @@ halted old new name (refusal.Bad at what) stopped = record { only = stopped.only
 halted old new name refusal.Fault stopped = record { only = stopped.only; there = stopped.there; cause = λ e. stopped.fault refl }
 halted old new name refusal.Memory stopped = record { only = stopped.only; there = stopped.there; cause = λ e. absurd (cc) }
 
+-- nothing was read since
+pub wide_halted : (outside : Outside) (name : List ℕ) (fault : ShrinkFault) (found : Option ℕ) → IsTooWide fault found → Halted outside outside name fault
+wide_halted outside name fault found e = record {
+  only = record {
+    contents = refl;
+    said = refl;
+    later = record { read_faults = omega arith; write_faults = omega arith; say_faults = omega arith; wants = omega arith; absent = omega arith };
+  };
+  there = λ files told. inl refl;
+  cause = λ is. absurd (subst (λ f. IsTooWide f found) is e);
+}
+
 -- where reading has come to some constraints, they are the system's first
 pub is_front : (reached : Reached) (file : List ℕ) (done : List Constraint) (system : System) → IsAt reached file done → system_of file ≡ Ok system → (others : List Constraint) × (system.constraints ≡ done ++ others)
 unfolding system_of
@@ -244,12 +294,6 @@ wide_read fault.Memory reached file done c none at err = tt
 -- a wire whose row is within, at a place
 pub start_more : (done : List Constraint) (c : Constraint) → start_rows (done ++ c ∷ []) ≡ start_rows done ++ Some (normal_constraint c) ∷ []
 start_more done c = map_push (λ d. Some (normal_constraint d)) done c
-
-pub terms_at : (numbers : List ℕ) (init x : Combination) (i : ℕ) (t : ℕ × ℕ) (w : ℕ) → i < length init → AllByRecursion (λ t. t.1 < length numbers) init → x ≡ map (λ (t : ℕ × ℕ). (t.0, slice_index numbers t.1)) (take i init) ++ drop i init → t ≡ get_or x i t → w ≡ t.1 → w < length numbers
-terms_at numbers init x i t w h within is at same =
-    let there = each_at (λ (t : ℕ × ℕ). t.1 < length numbers) init i t within h in
-    let item : t ≡ get_or init i t = at ∙ ap (λ y. get_or y i t) is ∙ untouched (λ (t : ℕ × ℕ). (t.0, slice_index numbers t.1)) init i t in
-    subst (λ n. n < length numbers) (sym (same ∙ ap (λ (u : ℕ × ℕ). u.1) item)) there
 
 -- what a survey tells of a system
 pub survey_refused : (file : List ℕ) (at : ℕ) (why : ReadWhy) → survey_of file ≡ wrong at why → system_of file ≡ wrong at why

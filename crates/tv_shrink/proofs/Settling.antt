@@ -199,9 +199,6 @@ module _ (counts : Counts) (publics : ℕ) (rows : List (Option Constraint)) (go
   left_within : AreWithin counts.wires left
   left_within = subst (λ (pass : Pass). AreWithin counts.wires pass.rows) (sym ran) (run-within counts publics rows gone lists ready)
 
-  pub within_slice : (n : ℕ) → n ≡ length slice → AreWithin n left
-  within_slice n e = subst (λ k. AreWithin k left) (sym (e ∙ slice_each)) left_within
-
   module _ (labels numbers given : List ℕ) (moved_on : List (Option Constraint)) (labelled : labels ≡ kept (length slice) slice) (lend : given ≡ numbers)
       (numbered : (w : ℕ) → w < length slice → get_or slice w false ≡ false → slice_index numbers w ≡ place w (kept (length slice) slice)) (renumbered_on : moved_on ≡ moved_rows given left) where
     labels_are : labels ≡ kept counts.wires flags

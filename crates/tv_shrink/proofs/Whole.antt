@@ -1,5 +1,5 @@
 -- The constraints of a system that a file holds are of wires that there are.
-use Rattle.std.proofs.Common.{◌≡◌, ℕ, zero, suc, ◌+◌, ◌-◌, ◌==◌, ◌<◌, not, Bool, true, false, ltb, List, [], ◌∷◌, Result, Ok, Err, if◌then◌else◌, refl}
+use Rattle.std.proofs.Common.{◌≡◌, ℕ, zero, suc, ◌+◌, ◌-◌, ◌==◌, ◌<◌, not, Bool, true, false, ltb, List, [], Result, Ok, Err, if◌then◌else◌, refl}
 use Rattle.std.specs.Prelude.{IfOk}
 use Rattle.std.specs.List.{All}
 use Rattle.std.proofs.lemmas.Bool.{ltb-true}
@@ -8,9 +8,9 @@ use Rattle.tv_container.specs.Places.{Fault, ◌>>=◌, unless, number, fit}
 use Rattle.tv_container.specs.declared.sections.Section.{Section}
 use Rattle.tv_container.specs.declared.why.ReadWhy.{ReadWhy}
 use Rattle.tv_container.specs.declared.why.ReadWhy.TheVariants.{BadCount, TooWide, WireRange, NotCanonical}
-use Rattle.tv_core.specs.Constraints.{Combination, Constraint, System}
+use Rattle.tv_core.specs.Constraints.{Constraint}
 use Rattle.tv_core.specs.declared.field.TheConstants.{P}
-use Rattle.tv_r1cs_read.specs.R1cs.{Read, terms_at, combination_at, constraint_at, constraints_from, header_of, system_of}
+use Rattle.tv_r1cs_read.specs.R1cs.{terms_at, combination_at, constraint_at, constraints_from, header_of, system_of}
 use Rattle.tv_shrink.specs.Laws.{IsOver, AreOver, SystemsAreOver}
 
 bind_if : {A B : Type 0} (read : Result A Fault) (f : A → Result B Fault) (P : A → Type 0) (Q : B → Type 0) → IfOk read P → ((x : A) → P x → IfOk (f x) Q) → IfOk (read >>= f) Q

@@ -5,7 +5,9 @@ pub mod Merging
 pub mod Moving
 pub mod Normal
 pub mod Passing
+pub mod Placing
 pub mod Replacing
 pub mod Shrinking
+pub mod Spans
 pub mod Tidy
 pub mod Written

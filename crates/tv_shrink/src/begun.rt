@@ -23,9 +23,9 @@ pub(crate) struct Begun {
 /// Reads a system's file into a pass, its constraints made normal.
 pub(crate) fn read<D: Files>(alloc: Global, files: &mut D, name: &str) -> Result<Begun, ShrinkFault>
     ensures ready { IfOk result (λ begun. IsReady begun.counts begun.pass.publics
-        begun.pass.rows.items begun.pass.gone.items begun.pass.places) }
+        begun.pass.rows begun.pass.gone.items begun.pass.places) }
     ensures gives { Known (D.seen files.old) name.now (λ file. MatchResult result
-        (λ begun. IsRead begun.counts begun.pass.rows.items file) (λ fault. TellsRead fault file)) }
+        (λ begun. IsRead begun.counts begun.pass.rows file) (λ fault. TellsRead fault file)) }
     ensures looks { HaltsBy (D.seen files.old) (D.seen files.new) name.now result }
     ensures missing { IsMissing (D.seen files.old) name.now → result ≡ Err ShrinkFault.Fault }
 {

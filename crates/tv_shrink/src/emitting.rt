@@ -6,6 +6,7 @@ ghost use Rattle.tv_shrink.specs.Emitting.{row_circuit, row_count, rows_circuit,
 ghost use Rattle.tv_shrink.specs.Tidy.{RowIsWithin, AreWithin};
 
 use crate::row::Row;
+use crate::rows::Rows;
 use tv_core::{Lc, Put, Sink};
 
 /// Makes so many wires.
@@ -20,7 +21,7 @@ pub(crate) fn make_wires<S: Sink>(s: &mut S, n: u32)
 }
 
 // Puts the constraint at a place, unless it was dropped.
-fn put_row<S: Sink>(s: &mut S, row: &Option<Row>) -> Put<()>
+fn put_row<S: Sink>(s: &mut S, row: &Option<Row<'_>>) -> Put<()>
     requires room { Room S.meaning s.old 0 1 }
     requires within { RowIsWithin (S.meaning.wires s.old) row.now }
     ensures puts { PutsIn S.meaning s.old s.new (row_circuit row.now) result }
@@ -28,23 +29,23 @@ fn put_row<S: Sink>(s: &mut S, row: &Option<Row>) -> Put<()>
 {
     match row {
         Some(row) => s.put(
-            &Lc::from_terms(&row.a),
-            &Lc::from_terms(&row.b),
-            &Lc::from_terms(&row.c),
+            &Lc::from_terms(row.a),
+            &Lc::from_terms(row.b),
+            &Lc::from_terms(row.c),
         ),
         None => Ok(()),
     }
 }
 
 /// Puts the constraints that were not dropped.
-pub(crate) fn put_rows<S: Sink>(s: &mut S, rows: &[Option<Row>]) -> Put<()>
+pub(crate) fn put_rows<S: Sink>(s: &mut S, rows: &Rows) -> Put<()>
     requires room { Room S.meaning s.old 0 (length rows.now) }
     requires within { AreWithin (S.meaning.wires s.old) rows.now }
     ensures puts { PutsIn S.meaning s.old s.new (rows_circuit rows.now (length rows.now)) result }
     ensures whole { IfOk result (λ _. S.meaning.broken s.new ≡ false) }
 {
-    for row in rows {
-        put_row(s, row)?;
+    for at in 0..rows.len() {
+        put_row(s, &rows.get(at))?;
     }
     Ok(())
 }

@@ -1,6 +1,6 @@
 //! Combinations made normal.
 
-ghost use Rattle.std.specs.Prelude.{◌≡◌, ◌≤◌, ◌<◌, OnOk, IfOk};
+ghost use Rattle.std.specs.Prelude.{◌≡◌, ◌≤◌, ◌<◌, ◌++◌, length, OnOk, IfOk};
 ghost use Rattle.std.specs.Bool.{OnTrue};
 ghost use Rattle.std.specs.List.{All};
 ghost use Rattle.tv_core.specs.declared.field.TheConstants.{P};
@@ -39,10 +39,8 @@ fn without_zeros(alloc: Global, terms: &[(u32, F)]) -> Result<Vec<(F, Wire)>, Al
     Ok(x)
 }
 
-/// The combination that terms make, made normal.
-///
-/// Costs one pass where they are normal already, and else as much as a sort.
-pub(crate) fn normalized(alloc: Global, terms: &[(u32, F)]) -> Result<Vec<(F, Wire)>, AllocError>
+// The combination that terms make, made normal. Costs as much as a sort.
+fn normalized(alloc: Global, terms: &[(u32, F)]) -> Result<Vec<(F, Wire)>, AllocError>
     ensures { IfOk result (λ x. x.items ≡ normal (combination_of terms.now)) }
 {
     if terms.len() < 2 {
@@ -69,4 +67,34 @@ pub(crate) fn normalized(alloc: Global, terms: &[(u32, F)]) -> Result<Vec<(F, Wi
     };
     merge(&mut sum, &mut left, &mut right)?;
     Ok(sum)
+}
+
+// Appends the combination that terms make.
+fn append(out: &mut Vec<(F, Wire)>, terms: &[(u32, F)]) -> Result<(), AllocError>
+    ensures out { OnOk result (out.new.items ≡ out.old.items ++ combination_of terms.now) }
+    ensures longer { length out.old.items ≤ length out.new.items }
+{
+    for (wire, coefficient) in terms {
+        out.push((*coefficient, Wire(*wire)))?;
+    }
+    Ok(())
+}
+
+/// Appends the combination that terms make, made normal.
+///
+/// Costs two looks at them where they are normal already, and else as much as a sort.
+pub(crate) fn append_normal(
+    alloc: Global,
+    out: &mut Vec<(F, Wire)>,
+    terms: &[(u32, F)],
+) -> Result<(), AllocError>
+    ensures out { OnOk result (out.new.items ≡ out.old.items ++ normal (combination_of terms.now)) }
+    ensures longer { length out.old.items ≤ length out.new.items }
+{
+    if is_normal(terms) {
+        return append(out, terms);
+    }
+    let made = normalized(alloc, terms)?;
+    out.extend_from_slice(&made)?;
+    Ok(())
 }

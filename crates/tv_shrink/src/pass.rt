@@ -13,12 +13,13 @@ ghost use Rattle.tv_shrink.specs.Tidy.{pass_of, row_has, AreNormal, IsKept, RowI
 
 use crate::places::Places;
 use crate::row::{Row, solve};
-use std::alloc::{AllocError, Global};
+use crate::rows::Rows;
+use std::alloc::AllocError;
 use tv_core::{F, Wire};
 
 // Puts what the constraint at a place says is 0 into `out`, and tells whether it is there and
 // linear.
-fn linear_form(row: &Option<Row>, out: &mut Vec<(F, Wire)>) -> Result<bool, AllocError>
+fn linear_form(row: &Option<Row<'_>>, out: &mut Vec<(F, Wire)>) -> Result<bool, AllocError>
     requires { RowIsNormal row.now }
     ensures { IfOk result (λ linear. linear_row row.now
         ≡ (if linear then Some out.new.items else None)) }
@@ -31,7 +32,7 @@ fn linear_form(row: &Option<Row>, out: &mut Vec<(F, Wire)>) -> Result<bool, Allo
 
 // Whether the constraint at a place keeps to its most terms with `r` in place of a wire.
 fn row_fits(
-    row: &Option<Row>,
+    row: &Option<Row<'_>>,
     out: &mut Vec<(F, Wire)>,
     wire: Wire,
     r: &[(F, Wire)],
@@ -46,10 +47,31 @@ fn row_fits(
     }
 }
 
-// Whether all constraints, of which those with the wire are at these places, keep to their most
-// terms.
-fn all_fit(
-    rows: &[Option<Row>],
+// Whether the constraint at a place, unless it is the one to be dropped, keeps to its most terms.
+fn other_fits(
+    rows: &Rows,
+    but: usize,
+    at: usize,
+    out: &mut Vec<(F, Wire)>,
+    wire: Wire,
+    r: &[(F, Wire)],
+) -> Result<bool, AllocError>
+    requires normal { AreNormal rows.now }
+    requires by { IsNormalFrom 0 r.now }
+    ensures { IfOk result (λ answer. answer
+        ≡ row_fits wire r.now (slice_index_or (slice_set rows.now but None) at None)) }
+{
+    if at == but || at >= rows.len() {
+        return Ok(true);
+    }
+    row_fits(&rows.get(at), out, wire, r)
+}
+
+// Whether all constraints but the one at a place keep to their most terms; those with the wire are
+// at these places.
+fn others_fit(
+    rows: &Rows,
+    but: usize,
     places: &[u32],
     out: &mut Vec<(F, Wire)>,
     wire: Wire,
@@ -59,89 +81,71 @@ fn all_fit(
     requires by { IsNormalFrom 0 r.now }
     requires covers { (i : ℕ) → row_has wire (slice_index_or rows.now i None) ≡ true
         → list_any (λ p. p == i) places.now ≡ true }
-    ensures { IfOk result (λ answer. answer ≡ list_all (row_fits wire r.now) rows.now) }
+    ensures { IfOk result (λ answer. answer
+        ≡ list_all (row_fits wire r.now) (slice_set rows.now but None)) }
 {
     for place in places {
-        let at = *place as usize;
-        if at < rows.len() && !row_fits(&rows[at], out, wire, r)? {
+        if !other_fits(rows, but, *place as usize, out, wire, r)? {
             return Ok(false);
         }
     }
     Ok(true)
 }
 
-// Puts `r` in place of a wire in the constraint at a place.
+// Puts `r` in place of a wire in the constraint at a place, and adds the place to a list, if the
+// wire stood there.
 fn replace_row(
-    alloc: Global,
-    row: &mut Option<Row>,
+    rows: &mut Rows,
+    place: u32,
+    found: &mut Vec<u32>,
     out: &mut Vec<(F, Wire)>,
     wire: Wire,
     r: &[(F, Wire)],
 ) -> Result<(), AllocError>
-    requires normal { RowIsNormal row.old }
+    requires inside { place < length rows.old }
+    requires normal { RowIsNormal (slice_index_or rows.old place None) }
     requires by { IsNormalFrom 0 r.now }
-    ensures { OnOk result (row.new ≡ option_map (replaced_in wire r.now) row.old) }
-{
-    match row {
-        Some(row) => row.replace(alloc, out, wire, r),
-        None => Ok(()),
-    }
-}
-
-// Whether a wire stands in the constraint at a place.
-fn stands_in(row: &Option<Row>, wire: Wire) -> bool
-    requires { RowIsNormal row.now }
-    ensures { result ≡ row_has wire row.now }
-{
-    match row {
-        Some(row) => row.has(wire),
-        None => false,
-    }
-}
-
-// Adds the place of a constraint to a list, if a wire stands in it.
-fn note(found: &mut Vec<u32>, place: u32, row: &Option<Row>, wire: Wire) -> Result<(), AllocError>
-    requires { RowIsNormal row.now }
+    requires fits { row_fits wire r.now (slice_index_or rows.old place None) ≡ true }
+    ensures rows { OnOk result (rows.new ≡ slice_set rows.old place
+        (option_map (replaced_in wire r.now) (slice_index_or rows.old place None))) }
     ensures kept { OnOk result ((i : ℕ) → list_any (λ p. p == i) found.old.items ≡ true
         → list_any (λ p. p == i) found.new.items ≡ true) }
-    ensures here { OnOk result (row_has wire row.now ≡ true
+    ensures here { OnOk result (row_has wire (slice_index_or rows.old place None) ≡ true
         → list_any (λ p. p == place) found.new.items ≡ true) }
 {
-    if stands_in(row, wire) {
+    if rows.replace(place as usize, out, wire, r)? {
         found.push(place)?;
     }
     Ok(())
 }
 
 // Puts `r` in place of a wire in all constraints, of which those with the wire are at these places,
-// and answers the places of those that had it.
+// and puts the places of those that had it into `found`.
 fn replace_all(
-    alloc: Global,
-    rows: &mut Vec<Option<Row>>,
+    rows: &mut Rows,
     places: &[u32],
+    found: &mut Vec<u32>,
     out: &mut Vec<(F, Wire)>,
     wire: Wire,
     r: &[(F, Wire)],
-) -> Result<Vec<u32>, AllocError>
-    requires normal { AreNormal rows.old.items }
+) -> Result<(), AllocError>
+    requires normal { AreNormal rows.old }
     requires by { IsNormalFrom 0 r.now }
     requires lacks { has_wire wire r.now ≡ false }
-    requires covers { (i : ℕ) → row_has wire (slice_index_or rows.old.items i None) ≡ true
+    requires covers { (i : ℕ) → row_has wire (slice_index_or rows.old i None) ≡ true
         → list_any (λ p. p == i) places.now ≡ true }
-    ensures rows { OnOk result (rows.new.items ≡ all_replaced wire r.now rows.old.items) }
-    ensures found { IfOk result (λ found. (i : ℕ)
-        → row_has wire (slice_index_or rows.old.items i None) ≡ true
-        → list_any (λ p. p == i) found.items ≡ true) }
+    requires fit { list_all (row_fits wire r.now) rows.old ≡ true }
+    ensures rows { OnOk result (rows.new ≡ all_replaced wire r.now rows.old) }
+    ensures found { OnOk result ((i : ℕ) → row_has wire (slice_index_or rows.old i None) ≡ true
+        → list_any (λ p. p == i) found.new.items ≡ true) }
 {
-    let mut found = Vec::new(alloc);
+    found.clear();
     for place in places {
-        let at = *place as usize;
-        if at < rows.len() {
-            note(&mut found, *place, &rows[at], wire)?;
-            replace_row(alloc, &mut rows[at], out, wire, r)?;
+        if (*place as usize) < rows.len() {
+            replace_row(rows, *place, found, out, wire, r)?;
         }
     }
-    Ok(found)
+    Ok(())
 }
 
 /// Adds rows to those of each private wire of a combination.
@@ -170,11 +174,12 @@ pub(crate) fn spread(
 /// The constraints of a system and its wires in a pass.
 #[derive(Drop)]
 pub(crate) struct Pass {
-    pub(crate) alloc: Global,
     pub(crate) publics: u32,
-    pub(crate) rows: Vec<Option<Row>>,
+    pub(crate) rows: Rows,
     pub(crate) gone: Vec<bool>,
     pub(crate) places: Places,
+    pub(crate) named: Vec<u32>,
+    pub(crate) found: Vec<u32>,
     pub(crate) form: Vec<(F, Wire)>,
     pub(crate) solved: Vec<(F, Wire)>,
     pub(crate) scratch: Vec<(F, Wire)>,
@@ -183,31 +188,33 @@ pub(crate) struct Pass {
 impl Pass {
     // Puts what the wire is in its place in all constraints.
     fn substitute(&mut self, wire: Wire) -> Result<(), AllocError>
-        requires kept { IsKept self.old.publics self.old.rows.items self.old.gone.items
+        requires kept { IsKept self.old.publics self.old.rows self.old.gone.items
             self.old.places }
         requires private { self.old.publics ≤ wire }
         requires by { IsNormalFrom 0 self.old.solved.items }
         requires lacks { has_wire wire self.old.solved.items ≡ false }
+        requires fit { list_all (row_fits wire self.old.solved.items) self.old.rows ≡ true }
         requires here { wire < length self.old.places }
         requires inside { (w : ℕ) → self.old.publics ≤ w → has_wire w self.old.solved.items ≡ true
             → w < length self.old.places }
-        ensures rows { OnOk result (self.new.rows.items
-            ≡ all_replaced wire self.old.solved.items self.old.rows.items) }
+        ensures rows { OnOk result (self.new.rows
+            ≡ all_replaced wire self.old.solved.items self.old.rows) }
         ensures gone { OnOk result (self.new.gone.items ≡ slice_set self.old.gone.items wire true) }
-        ensures kept { OnOk result (IsKept self.new.publics self.new.rows.items self.new.gone.items
+        ensures kept { OnOk result (IsKept self.new.publics self.new.rows self.new.gone.items
             self.new.places) }
         ensures publics { self.new.publics ≡ self.old.publics }
     {
-        let places = self.places.take(self.alloc, wire.0);
-        let found = replace_all(
-            self.alloc,
+        self.places.rows_of(wire.0, &mut self.named)?;
+        self.places.clear(wire.0);
+        replace_all(
             &mut self.rows,
-            &places,
+            &self.named,
+            &mut self.found,
             &mut self.scratch,
             wire,
             &self.solved,
         )?;
-        spread(&mut self.places, &found, &self.solved, self.publics)?;
+        spread(&mut self.places, &self.found, &self.solved, self.publics)?;
         self.gone[wire.0 as usize] = true;
         Ok(())
     }
@@ -215,51 +222,57 @@ impl Pass {
     // Drops the constraint at a place and puts what the wire is in its place, if all keep to their
     // most terms.
     fn eliminate(&mut self, at: usize, wire: Wire) -> Result<(), AllocError>
-        requires kept { IsKept self.old.publics self.old.rows.items self.old.gone.items
+        requires kept { IsKept self.old.publics self.old.rows self.old.gone.items
             self.old.places }
-        requires within { at < length self.old.rows.items }
+        requires within { at < length self.old.rows }
         requires private { self.old.publics ≤ wire }
         requires by { IsNormalFrom 0 self.old.solved.items }
         requires lacks { has_wire wire self.old.solved.items ≡ false }
         requires from { (w : ℕ) → has_wire w self.old.solved.items ≡ true
-            → row_has w (slice_index_or self.old.rows.items at None) ≡ true }
-        requires there { row_has wire (slice_index_or self.old.rows.items at None) ≡ true }
-        ensures pass { OnOk result (pass_of self.new.rows.items self.new.gone.items
+            → row_has w (slice_index_or self.old.rows at None) ≡ true }
+        requires there { row_has wire (slice_index_or self.old.rows at None) ≡ true }
+        ensures pass { OnOk result (pass_of self.new.rows self.new.gone.items
             ≡ attempted wire self.old.solved.items (dropped at
-            (pass_of self.old.rows.items self.old.gone.items))
-            (pass_of self.old.rows.items self.old.gone.items)) }
-        ensures kept { OnOk result (IsKept self.new.publics self.new.rows.items self.new.gone.items
+            (pass_of self.old.rows self.old.gone.items))
+            (pass_of self.old.rows self.old.gone.items)) }
+        ensures kept { OnOk result (IsKept self.new.publics self.new.rows self.new.gone.items
             self.new.places) }
         ensures publics { self.new.publics ≡ self.old.publics }
-        ensures len { OnOk result (length self.new.rows.items ≡ length self.old.rows.items) }
+        ensures len { OnOk result (length self.new.rows ≡ length self.old.rows) }
     {
-        let row = self.rows[at].take();
-        let places = self.places.of(wire.0);
-        if !all_fit(&self.rows, places, &mut self.scratch, wire, &self.solved)? {
-            self.rows[at] = row;
+        self.places.rows_of(wire.0, &mut self.named)?;
+        if !others_fit(
+            &self.rows,
+            at,
+            &self.named,
+            &mut self.scratch,
+            wire,
+            &self.solved,
+        )? {
             return Ok(());
         }
+        self.rows.remove(at);
         self.substitute(wire)?;
         Ok(())
     }
 
     /// The turn of the constraint at a place.
     pub(crate) fn turn(&mut self, at: usize) -> Result<(), AllocError>
-        requires kept { IsKept self.old.publics self.old.rows.items self.old.gone.items
+        requires kept { IsKept self.old.publics self.old.rows self.old.gone.items
             self.old.places }
-        requires within { at < length self.old.rows.items }
-        ensures pass { OnOk result (pass_of self.new.rows.items self.new.gone.items
-            ≡ turn self.old.publics (pass_of self.old.rows.items self.old.gone.items) at) }
-        ensures kept { OnOk result (IsKept self.new.publics self.new.rows.items self.new.gone.items
+        requires within { at < length self.old.rows }
+        ensures pass { OnOk result (pass_of self.new.rows self.new.gone.items
+            ≡ turn self.old.publics (pass_of self.old.rows self.old.gone.items) at) }
+        ensures kept { OnOk result (IsKept self.new.publics self.new.rows self.new.gone.items
             self.new.places) }
         ensures publics { self.new.publics ≡ self.old.publics }
-        ensures len { OnOk result (length self.new.rows.items ≡ length self.old.rows.items) }
+        ensures len { OnOk result (length self.new.rows ≡ length self.old.rows) }
     {
-        if !linear_form(&self.rows[at], &mut self.form)? {
+        if !linear_form(&self.rows.get(at), &mut self.form)? {
             return Ok(());
         }
         if self.form.is_empty() {
-            self.rows[at] = None;
+            self.rows.remove(at);
             return Ok(());
         }
         let (own, wire) = self.form[self.form.len() - 1];
@@ -273,15 +286,16 @@ impl Pass {
 
     /// The whole pass: each constraint has its turn.
     pub(crate) fn run(&mut self) -> Result<(), AllocError>
-        requires kept { IsKept self.old.publics self.old.rows.items self.old.gone.items
+        requires kept { IsKept self.old.publics self.old.rows self.old.gone.items
             self.old.places }
-        ensures pass { OnOk result (pass_of self.new.rows.items self.new.gone.items
-            ≡ fold (turn self.old.publics) (pass_of self.old.rows.items self.old.gone.items)
-            (range_with_len 0 (length self.old.rows.items))) }
-        ensures len { OnOk result (length self.new.rows.items ≡ length self.old.rows.items) }
+        ensures pass { OnOk result (pass_of self.new.rows self.new.gone.items
+            ≡ fold (turn self.old.publics) (pass_of self.old.rows self.old.gone.items)
+            (range_with_len 0 (length self.old.rows))) }
+        ensures len { OnOk result (length self.new.rows ≡ length self.old.rows) }
     {
         for at in 0..self.rows.len() {
             self.turn(at)?;
+            self.rows.tidy()?;
         }
         Ok(())
     }

@@ -1,24 +1,55 @@
 //! In which rows each wire may stand.
 
-ghost use Rattle.std.specs.Prelude.{◌≡◌, ◌≤◌, ◌<◌, ◌++◌, [], ◌∷◌, ℕ, List, length, replicate};
-ghost use Rattle.std.specs.Prelude.{slice_index_or, slice_set, OnOk, IfOk};
+ghost use Rattle.std.specs.Prelude.{◌≡◌, ◌==◌, ◌≤◌, ◌<◌, [], ◌∷◌, ℕ, List, true, length};
+ghost use Rattle.std.specs.Prelude.{replicate, reverse, slice_index_or, slice_set, OnOk, IfOk};
+ghost use Rattle.std.specs.Prelude.{if◌then◌else◌};
+ghost use Rattle.std.specs.List.{list_any};
+ghost use Rattle.tv_shrink.specs.Placing.{rows_from, with_row, LeadBack};
 
 use std::alloc::{AllocError, Global};
 use std::marker::Model;
-use std::mem;
 
-/// For each wire a list of rows that it may stand in.
+/// A row that a wire may stand in, and the number of the wire's entry before it, 0 at the first.
+#[derive(Clone, Copy)]
+struct Entry {
+    row: u32,
+    next: u32,
+}
+
+// Whether the entry of this number, where there is one, tells of a row.
+fn tells(entries: &[Entry], number: u32, row: u32) -> bool
+    requires inside { number ≤ length entries.now }
+    requires back { LeadBack (reverse entries.now) }
+    ensures { with_row row (rows_from (reverse entries.now) number)
+        ≡ (if result then rows_from (reverse entries.now) number
+        else row ∷ rows_from (reverse entries.now) number) }
+{
+    if number == 0 {
+        return false;
+    }
+    entries[number as usize - 1].row == row
+}
+
+/// For each wire a list of rows that it may stand in, the last told of it first.
+///
+/// An entry takes eight bytes, and a wire four. There are fewer than 2^32 entries; one more counts
+/// as want of memory.
 #[derive(Drop)]
 pub(crate) struct Places {
-    lists: Vec<Vec<u32>>,
+    heads: Vec<u32>,
+    entries: Vec<Entry>,
 }
 
 impl Model for Places {
-    ghost use Rattle.std.specs.Prelude.{ℕ, List, map};
+    ghost use Rattle.std.specs.Prelude.{ℕ, List, map, reverse};
 
     ghost Value = { List (List ℕ) };
 
-    ghost view = { λ p. map (λ list. list.items) p.lists.items };
+    ghost use Rattle.tv_shrink.specs.Placing.{rows_from, AreLinked};
+
+    ghost view = { λ p. map (rows_from (reverse p.entries.items)) p.heads.items };
+
+    ghost invariant = { λ p. AreLinked p.entries.items p.heads.items };
 }
 
 impl Places {
@@ -26,37 +57,66 @@ impl Places {
     pub(crate) fn new(alloc: Global, wires: u32) -> Result<Places, AllocError>
         ensures { IfOk result (λ places. places ≡ replicate wires []) }
     {
-        let mut lists = Vec::with_capacity(alloc, wires as usize)?;
-        for _ in 0..wires {
-            lists.push(Vec::new(alloc))?;
-        }
-        Ok(Places { lists })
+        Ok(Places {
+            heads: Vec::from_elem(alloc, 0, wires as usize)?,
+            entries: Vec::new(alloc),
+        })
     }
 
-    /// The rows that a wire may stand in.
-    pub(crate) fn of(&self, wire: u32) -> &[u32]
+    /// Puts the rows that a wire may stand in into `rows`, whose memory serves again.
+    pub(crate) fn rows_of(&self, wire: u32, rows: &mut Vec<u32>) -> Result<(), AllocError>
         requires { wire < length self.now }
-        ensures { result.now ≡ slice_index_or self.now wire [] }
+        ensures { OnOk result (rows.new.items ≡ slice_index_or self.now wire []) }
     {
-        self.lists[wire as usize].as_slice()
-    }
-
-    /// Adds rows to those of a wire.
-    pub(crate) fn extend(&mut self, wire: u32, rows: &[u32]) -> Result<(), AllocError>
-        requires { wire < length self.old }
-        ensures { OnOk result (self.new ≡ slice_set self.old wire
-            (slice_index_or self.old wire [] ++ rows.now)) }
-    {
-        self.lists[wire as usize].extend_from_slice(rows)?;
+        rows.clear();
+        let mut number = self.heads[wire as usize];
+        while number > 0 {
+            let entry = self.entries[number as usize - 1];
+            rows.push(entry.row)?;
+            number = entry.next;
+        }
         Ok(())
     }
 
-    /// Takes the rows of a wire away.
-    pub(crate) fn take(&mut self, alloc: Global, wire: u32) -> Vec<u32>
+    /// Tells that a wire may stand in a row.
+    pub(crate) fn add(&mut self, wire: u32, row: u32) -> Result<(), AllocError>
         requires { wire < length self.old }
-        ensures rows { result.items ≡ slice_index_or self.old wire [] }
-        ensures rest { self.new ≡ slice_set self.old wire [] }
+        ensures { OnOk result (self.new ≡ slice_set self.old wire
+            (with_row row (slice_index_or self.old wire []))) }
     {
-        mem::replace(&mut self.lists[wire as usize], Vec::new(alloc))
+        let next = self.heads[wire as usize];
+        if tells(&self.entries, next, row) {
+            return Ok(());
+        }
+        self.entries.push(Entry { row, next })?;
+        let Ok(number) = u32::try_from(self.entries.len()) else {
+            return Err(AllocError);
+        };
+        self.heads[wire as usize] = number;
+        Ok(())
+    }
+
+    /// Tells that a wire may stand in rows.
+    pub(crate) fn extend(&mut self, wire: u32, rows: &[u32]) -> Result<(), AllocError>
+        requires { wire < length self.old }
+        ensures each { OnOk result (length self.new ≡ length self.old) }
+        ensures more { OnOk result ((w i : ℕ)
+            → list_any (λ p. p == i) (slice_index_or self.old w []) ≡ true
+            → list_any (λ p. p == i) (slice_index_or self.new w []) ≡ true) }
+        ensures added { OnOk result ((i : ℕ) → list_any (λ p. p == i) rows.now ≡ true
+            → list_any (λ p. p == i) (slice_index_or self.new wire []) ≡ true) }
+    {
+        for row in rows {
+            self.add(wire, *row)?;
+        }
+        Ok(())
+    }
+
+    /// Forgets the rows of a wire.
+    pub(crate) fn clear(&mut self, wire: u32)
+        requires { wire < length self.old }
+        ensures { self.new ≡ slice_set self.old wire [] }
+    {
+        self.heads[wire as usize] = 0;
     }
 }

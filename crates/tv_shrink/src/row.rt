@@ -10,24 +10,24 @@ ghost use Rattle.tv_shrink.specs.Replacing.{coefficient, constant_in, fits, fits
 ghost use Rattle.tv_shrink.specs.Replacing.{linear_form, replaced, replaced_in, solved};
 
 use crate::merge::{Side, merge};
-use std::alloc::{AllocError, Global};
+use std::alloc::AllocError;
 use std::marker::Model;
 use tv_core::{F, TERMS, Wire};
 
 /// A constraint of normal combinations.
 #[derive(Drop)]
-pub(crate) struct Row {
-    pub(crate) a: Vec<(F, Wire)>,
-    pub(crate) b: Vec<(F, Wire)>,
-    pub(crate) c: Vec<(F, Wire)>,
+pub(crate) struct Row<'a> {
+    pub(crate) a: &'a [(F, Wire)],
+    pub(crate) b: &'a [(F, Wire)],
+    pub(crate) c: &'a [(F, Wire)],
 }
 
-impl Model for Row {
+impl<'a> Model for Row<'a> {
     ghost use Rattle.tv_core.specs.Constraints.{Constraint};
 
     ghost Value = { Constraint };
 
-    ghost view = { λ r. record { a = r.a.items; b = r.b.items; c = r.c.items } };
+    ghost view = { λ r. record { a = r.a.now; b = r.b.now; c = r.c.now } };
 }
 
 // The value of a combination that has no wire but the constant one.
@@ -118,8 +118,8 @@ pub(crate) fn solve(
     Ok(())
 }
 
-// Puts a combination with `r` in place of a wire into `out`, if the wire stands there.
-fn replaced(
+/// Puts a combination with `r` in place of a wire into `out`, if the wire stands there.
+pub(crate) fn replaced(
     out: &mut Vec<(F, Wire)>,
     terms: &[(F, Wire)],
     wire: Wire,
@@ -148,6 +148,7 @@ fn replaced(
 }
 
 // Whether a combination keeps to its most terms with `r` in place of a wire; `out` is for its use.
+// Costs a merge only where both together have more.
 fn fits(
     out: &mut Vec<(F, Wire)>,
     terms: &[(F, Wire)],
@@ -158,28 +159,13 @@ fn fits(
     requires by { IsNormalFrom 0 r.now }
     ensures { IfOk result (λ answer. answer ≡ fits wire r.now terms.now) }
 {
+    if terms.len() + r.len() <= TERMS {
+        return Ok(true);
+    }
     Ok(!replaced(out, terms, wire, r)? || out.len() <= TERMS)
 }
 
-// Puts `r` in place of a wire, in memory of its own; `out` is for its use.
-fn replace(
-    alloc: Global,
-    out: &mut Vec<(F, Wire)>,
-    terms: &mut Vec<(F, Wire)>,
-    wire: Wire,
-    r: &[(F, Wire)],
-) -> Result<(), AllocError>
-    requires normal { IsNormalFrom 0 terms.old.items }
-    requires by { IsNormalFrom 0 r.now }
-    ensures { OnOk result (terms.new.items ≡ replaced wire r.now terms.old.items) }
-{
-    if replaced(out, terms, wire, r)? {
-        *terms = Vec::from_slice(alloc, out)?;
-    }
-    Ok(())
-}
-
-impl Row {
+impl Row<'_> {
     ghost use Rattle.tv_shrink.specs.Tidy.{row_has, IsNormalRow};
 
     /// Puts what the constraint says is 0 into `out`, and tells whether it is linear.
@@ -188,12 +174,12 @@ impl Row {
         ensures { IfOk result (λ linear. linear_form self.now
             ≡ (if linear then Some out.new.items else None)) }
     {
-        if let Some(factor) = constant_in(&self.a) {
-            subtract(out, factor, &self.b, &self.c)?;
+        if let Some(factor) = constant_in(self.a) {
+            subtract(out, factor, self.b, self.c)?;
             return Ok(true);
         }
-        if let Some(factor) = constant_in(&self.b) {
-            subtract(out, factor, &self.a, &self.c)?;
+        if let Some(factor) = constant_in(self.b) {
+            subtract(out, factor, self.a, self.c)?;
             return Ok(true);
         }
         Ok(false)
@@ -212,9 +198,9 @@ impl Row {
         ensures { IfOk result (λ answer. answer ≡ fits_in wire r.now self.now) }
     {
         Ok(
-            fits(out, &self.a, wire, r)?
-                && fits(out, &self.b, wire, r)?
-                && fits(out, &self.c, wire, r)?,
+            fits(out, self.a, wire, r)?
+                && fits(out, self.b, wire, r)?
+                && fits(out, self.c, wire, r)?,
         )
     }
 
@@ -223,23 +209,6 @@ impl Row {
         requires { IsNormalRow self.now }
         ensures { result ≡ row_has wire (Some self.now) }
     {
-        has(&self.a, wire) || has(&self.b, wire) || has(&self.c, wire)
-    }
-
-    /// Puts `r` in place of a wire; `out` is for its use.
-    pub(crate) fn replace(
-        &mut self,
-        alloc: Global,
-        out: &mut Vec<(F, Wire)>,
-        wire: Wire,
-        r: &[(F, Wire)],
-    ) -> Result<(), AllocError>
-        requires normal { IsNormalRow self.old }
-        requires by { IsNormalFrom 0 r.now }
-        ensures { OnOk result (self.new ≡ replaced_in wire r.now self.old) }
-    {
-        replace(alloc, out, &mut self.a, wire, r)?;
-        replace(alloc, out, &mut self.b, wire, r)?;
-        replace(alloc, out, &mut self.c, wire, r)
+        has(self.a, wire) || has(self.b, wire) || has(self.c, wire)
     }
 }

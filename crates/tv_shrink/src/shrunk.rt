@@ -6,22 +6,22 @@ ghost use Rattle.tv_shrink.specs.Shrinking.{shrink};
 
 use crate::begun::Begun;
 use crate::numbers::label;
-use crate::renumber::renumber;
-use crate::row::Row;
+use crate::rows::Rows;
 use std::alloc::{AllocError, Global};
 use std::marker::Model;
 
 /// A system with fewer private wires, as `shrink` makes it of another one. Contracts see it as the
 /// shrunk system, the old number of each of its wires, and how many wires the old system had.
 ///
-/// Its memory is that of its terms and of one number a wire.
+/// Its memory is that of one number a wire and of its terms, and of as many more at most that
+/// replacements left behind.
 #[derive(Drop)]
 pub struct Shrunk {
     pub(crate) outputs: u32,
     pub(crate) inputs: u32,
     pub(crate) wires: u32,
     pub(crate) labels: Vec<u32>,
-    pub(crate) rows: Vec<Option<Row>>,
+    pub(crate) rows: Rows,
 }
 
 impl Model for Shrunk {
@@ -37,29 +37,29 @@ impl Model for Shrunk {
         wires = length s.labels.items;
         outputs = s.outputs;
         inputs = s.inputs;
-        constraints = filter_map (λ row. row) s.rows.items;
+        constraints = filter_map (λ row. row) s.rows;
       };
       labels = s.labels.items;
       wires = s.wires;
     } };
 
     ghost invariant = { λ s. (1 + s.outputs + s.inputs ≤ length s.labels.items)
-        × (length s.labels.items < 2 ^ 32) × AreWithin (length s.labels.items) s.rows.items
-        × (length s.rows.items < 2 ^ 32) };
+        × (length s.labels.items < 2 ^ 32) × AreWithin (length s.labels.items) s.rows
+        × (length s.rows < 2 ^ 32) };
 }
 
 /// What is left once the pass has run, its wires numbered anew.
 pub(crate) fn settle(alloc: Global, begun: Begun) -> Result<Shrunk, AllocError>
-    requires { IsReady begun.counts begun.pass.publics begun.pass.rows.items begun.pass.gone.items
+    requires { IsReady begun.counts begun.pass.publics begun.pass.rows begun.pass.gone.items
         begun.pass.places }
-    ensures { IfOk result (λ shrunk. (list : List Constraint) → begun.pass.rows.items
+    ensures { IfOk result (λ shrunk. (list : List Constraint) → begun.pass.rows
         ≡ start_rows list → shrunk ≡ shrink (counted_system begun.counts list)) }
 {
     let Begun { mut pass, counts } = begun;
     pass.run()?;
     let numbers = label(alloc, &pass.gone)?;
     let mut rows = pass.rows;
-    renumber(&mut rows, &numbers.places);
+    rows.renumber(&numbers.places);
     Ok(Shrunk {
         outputs: counts.outputs,
         inputs: counts.inputs,

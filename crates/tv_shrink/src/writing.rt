@@ -6,6 +6,7 @@ ghost use Rattle.tv_shrink.specs.Written.{Writes};
 
 use crate::emitting::{make_wires, put_rows};
 use crate::row::Row;
+use crate::rows::Rows;
 use crate::shrunk::Shrunk;
 use tv_core::{Counts, SinkFault};
 use tv_files::Files;
@@ -20,7 +21,7 @@ struct Tally {
 
 impl Tally {
     // Counts one more constraint.
-    fn add(&mut self, row: &Row)
+    fn add(&mut self, row: &Row<'_>)
         requires constraints { self.old.constraints < 2 ^ 32 - 1 }
         requires terms { self.old.terms < 2 ^ 60 }
         requires short { length row.now.a + (length row.now.b + length row.now.c) ≤ 384 }
@@ -34,7 +35,7 @@ impl Tally {
 }
 
 // Counts the constraints that were not dropped, and their terms.
-fn count_rows(rows: &[Option<Row>], wires: u32) -> Tally
+fn count_rows(rows: &Rows, wires: u32) -> Tally
     requires few { length rows.now < 2 ^ 32 }
     requires within { AreWithin wires rows.now }
     ensures constraints { result.constraints ≡ length (filter_map (λ row. row) rows.now) }
@@ -46,9 +47,9 @@ fn count_rows(rows: &[Option<Row>], wires: u32) -> Tally
         constraints: 0,
         terms: 0,
     };
-    for row in rows {
-        if let Some(row) = row {
-            tally.add(row);
+    for at in 0..rows.len() {
+        if let Some(row) = rows.get(at) {
+            tally.add(&row);
         }
     }
     tally

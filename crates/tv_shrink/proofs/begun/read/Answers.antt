@@ -5,10 +5,10 @@ use Rattle.tv_core.specs.declared.lines.Counts.{Counts}
 use Rattle.tv_files.specs.Outside.{Outside}
 use Rattle.tv_r1cs_read.specs.Places.{system_with}
 use Rattle.tv_r1cs_read.specs.Rows.{constraint_of}
-use Rattle.tv_shrink.specs.Answers.{counted_system, HaltsBy}
+use Rattle.tv_shrink.specs.Answers.{counted_system, wide_in, HaltsBy}
 use Rattle.tv_shrink.specs.Normal.{normal_constraint}
 use Rattle.tv_shrink.specs.Tidy.{IsWithin, RowIsWithin, AreWithin}
-use Rattle.tv_shrink.proofs.Read.{halted, no_wide, rows-push, start_more, tells_read, wide_more, wide_read}
+use Rattle.tv_shrink.proofs.Read.{halted, no_wide, rows-push, start_more, tells_read, wide_halted, wide_more, wide_read}
 use Rattle.tv_shrink.proofs.begun.read.Goals as goal
 
 pub loop-row-init : goal.loop-row-init
@@ -52,7 +52,7 @@ loop-row-preserved g c =
       name = search rules;
       on = search rules;
       header = c.in_ok-next_into.ensures.header ∙ c.loop-row.invariant.header;
-      counted = omega (arith, counts.1, c.loop-row.invariant.counted, ap length c.in_ok-add.ensures.rows, length_push c.loop-row.pass.rows.items (Some (normal_constraint (constraint_of c.next_into.new.row))));
+      counted = omega (arith, counts.1, c.loop-row.invariant.counted, ap length c.in_ok-add.ensures.rows, length_push c.loop-row.pass.rows (Some (normal_constraint (constraint_of c.next_into.new.row))));
       publics = c.in_ok-add.ensures.publics ∙ c.loop-row.invariant.publics;
       none = c.in_ok-add.ensures.gone ∙ c.loop-row.invariant.none;
       kept = c.in_ok-add.ensures.kept;
@@ -60,7 +60,7 @@ loop-row-preserved g c =
       within =
           let wires = c.in-Ok.reader.progress.header.wires in
           let row : IsWithin wires (normal_constraint (constraint_of c.next_into.new.row)) = subst (λ n. IsWithin n (normal_constraint (constraint_of c.next_into.new.row))) c.loop-row.invariant.each c.in_ok-add.ensures.within in
-          subst (AreWithin wires) (sym c.in_ok-add.ensures.rows) (rows-push (RowIsWithin wires) c.loop-row.pass.rows.items (Some (normal_constraint (constraint_of c.next_into.new.row))) c.loop-row.invariant.within row);
+          subst (AreWithin wires) (sym c.in_ok-add.ensures.rows) (rows-push (RowIsWithin wires) c.loop-row.pass.rows (Some (normal_constraint (constraint_of c.next_into.new.row))) c.loop-row.invariant.within row);
       place = λ file begun start.
           let before = c.loop-row.invariant.place file begun start in
           let told = rw (← c.loop-row.invariant.outside, ← c.loop-row.invariant.name) at begun in
@@ -80,12 +80,19 @@ returns-in_err-add-clause-gives g c = λ file told.
     let p = err_from_is_err_and c.from_residual-in_err-add.result c.from_residual-in_err-add.ensures.1 in
     rw (p.1, p.2) (wide_read c.in_err-add.field-0.0 c.next_into.new.self.progress file before.0 (constraint_of c.next_into.new.row) before.3 at c.in_err-add.ensures.err)
 
+pub returns-in_err-add-clause-looks : goal.returns-in_err-add-clause-looks
+returns-in_err-add-clause-looks g c =
+    let p = err_from_is_err_and c.from_residual-in_err-add.result c.from_residual-in_err-add.ensures.1 in
+    let halts : (new : Outside) → new ≡ g.D.Files.seen c.args.files.now → HaltsBy (g.D.Files.seen c.args.files.now) new c.args.name.now c.from_residual-in_err-add.result =
+    λ new is. rw (p.1, p.2, is) (wide_halted (g.D.Files.seen c.args.files.now) c.args.name.now c.in_err-add.field-0.0 (wide_in (constraint_of c.next_into.new.row)) c.in_err-add.ensures.err) in
+    halts _ (search rules)
+
 pub returns-clause-ready : goal.returns-clause-ready
 returns-clause-ready g c = record {
   private = c.loop-row.invariant.publics ∙ c.in_ok-pass.ensures.publics;
   room = omega (arith, c.loop-row.invariant.publics ∙ c.in_ok-pass.ensures.publics, c.counts-counts.ensures, c.in-Ok.ensures.begun.room, ap (λ (counts : Counts). counts.wires) c.counts-counts.ensures, ap (λ (counts : Counts). counts.outputs) c.counts-counts.ensures, ap (λ (counts : Counts). counts.inputs) c.counts-counts.ensures);
   none = c.loop-row.invariant.none ∙ c.in_ok-pass.ensures.gone;
-  within = subst (λ n. AreWithin n c.loop-row.pass.rows.items) (sym (ap (λ (counts : Counts). counts.wires) c.counts-counts.ensures)) c.loop-row.invariant.within;
+  within = subst (λ n. AreWithin n c.loop-row.pass.rows) (sym (ap (λ (counts : Counts). counts.wires) c.counts-counts.ensures)) c.loop-row.invariant.within;
   kept = c.loop-row.invariant.kept;
   few = omega (arith, c.loop-row.invariant.counted, c.in-Ok.ensures.begun.left, ap (λ (counts : Counts). counts.constraints) c.counts-counts.ensures);
   fits = omega arith;

@@ -13,14 +13,14 @@ invariant-loop-row g l = record {
   name : l.reader.name.now ≡ l.initial.reader.name.now;
   on : l.reader.progress.stopped ≡ None;
   header : l.reader.progress.header ≡ l.initial.reader.progress.header;
-  counted : length l.pass.rows.items + l.reader.progress.left ≡ l.initial.reader.progress.left;
+  counted : length l.pass.rows + l.reader.progress.left ≡ l.initial.reader.progress.left;
   publics : l.pass.publics ≡ l.initial.pass.publics;
   none : l.pass.gone.items ≡ l.initial.pass.gone.items;
-  kept : IsKept l.pass.publics l.pass.rows.items l.pass.gone.items l.pass.places;
+  kept : IsKept l.pass.publics l.pass.rows l.pass.gone.items l.pass.places;
   each : length l.pass.places ≡ l.initial.reader.progress.header.wires;
-  within : AreWithin l.initial.reader.progress.header.wires l.pass.rows.items;
+  within : AreWithin l.initial.reader.progress.header.wires l.pass.rows;
   place : Known (g.D.Files.seen l.initial.reader.files.now) l.initial.reader.name.now (λ file. IsAt l.initial.reader.progress file [] →
-      (done : List Constraint) × IsAt l.reader.progress file done × (l.pass.rows.items ≡ start_rows done) × (first_wide done ≡ None));
+      (done : List Constraint) × IsAt l.reader.progress file done × (l.pass.rows ≡ start_rows done) × (first_wide done ≡ None));
 }
 
 abbrev pub decreases-loop-row : goal.decreases-loop-row

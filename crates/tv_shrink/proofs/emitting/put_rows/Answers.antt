@@ -1,32 +1,31 @@
-use Rattle.std.proofs.Common.{ℕ, None, arith, subst, ◌∙◌, length, get_or}
+use Rattle.std.proofs.Common.{ℕ, None, arith, subst, length, get_or}
 use Rattle.tv_core.proofs.Chain.{puts_no_turn, puts_turn, turn_refused, refused}
 use Rattle.tv_core.specs.Circuits.{Circuit}
 use Rattle.tv_core.specs.Sinks.{PutsAll, PutsSome}
 use Rattle.tv_shrink.specs.Emitting.{row_circuit, rows_circuit}
-use Rattle.tv_shrink.proofs.Passes.{same_default}
 use Rattle.tv_shrink.proofs.Putting.{row_count_few}
 use Rattle.tv_shrink.proofs.emitting.put_rows.Goals as goal
 
-pub loop-row-init : goal.loop-row-init
-loop-row-init g c = record {
+pub loop-at-init : goal.loop-at-init
+loop-at-init g c = record {
   puts = puts_no_turn g.S.Sink.meaning c.args.s.now (λ i _. row_circuit (get_or c.args.rows.now i None)) tt;
   wires = omega arith;
   constraints = omega arith;
   whole = c.requires.room.whole;
 }
 
-pub loop-row-preserved : goal.loop-row-preserved
-loop-row-preserved g c =
+pub loop-at-preserved : goal.loop-at-preserved
+loop-at-preserved g c =
     let m = g.S.Sink.meaning in
     let piece : ℕ → Unit {0} → Circuit (Unit {0}) = λ i _. row_circuit (get_or c.args.rows.now i None) in
     let grown = c.in_ok-put_row.ensures.grows in
-    let is = c.row-item.is ∙ same_default c.args.rows.now c.loop-row.row-index c.row-item.result None c.loop-row-test.true in
-    let one = subst (λ row. PutsAll m c.loop-row.s c.put_row.new.s (row_circuit row) tt) is c.in_ok-put_row.ensures.puts in
-    let few = row_count_few c.row-item.result in
+    let is = c.get.ensures in
+    let one = subst (λ row. PutsAll m c.loop-at.s c.put_row.new.s (row_circuit row) tt) is c.in_ok-put_row.ensures.puts in
+    let few = row_count_few c.get.result in
     record {
-      puts = puts_turn m c.loop-row.row-index piece tt tt tt c.args.s.now c.loop-row.s c.put_row.new.s c.loop-row.invariant.puts one;
-      wires = omega (arith, grown.wires, c.loop-row.invariant.wires);
-      constraints = omega (arith, grown.constraints, few, c.loop-row.invariant.constraints);
+      puts = puts_turn m c.loop-at.at piece tt tt tt c.args.s.now c.loop-at.s c.put_row.new.s c.loop-at.invariant.puts one;
+      wires = omega (arith, grown.wires, c.loop-at.invariant.wires);
+      constraints = omega (arith, grown.constraints, few, c.loop-at.invariant.constraints);
       whole = grown.whole;
     }
 
@@ -34,7 +33,7 @@ pub returns-in_err-put_row-clause-puts : goal.returns-in_err-put_row-clause-puts
 returns-in_err-put_row-clause-puts g c =
     let m = g.S.Sink.meaning in
     let piece : ℕ → Unit {0} → Circuit (Unit {0}) = λ i _. row_circuit (get_or c.args.rows.now i None) in
-    let is = c.row-item.is ∙ same_default c.args.rows.now c.loop-row.row-index c.row-item.result None c.loop-row-test.true in
-    let one = subst (λ row. PutsSome m c.loop-row.s c.put_row.new.s (row_circuit row) c.in_err-put_row.field-0.0) is c.in_err-put_row.ensures.puts in
+    let is = c.get.ensures in
+    let one = subst (λ row. PutsSome m c.loop-at.s c.put_row.new.s (row_circuit row) c.in_err-put_row.field-0.0) is c.in_err-put_row.ensures.puts in
     refused m c.args.s.now c.put_row.new.s (rows_circuit c.args.rows.now (length c.args.rows.now)) c.from_residual.result c.from_residual.ensures.1
-    (turn_refused m (length c.args.rows.now) c.loop-row.row-index piece tt tt c.args.s.now c.loop-row.s c.put_row.new.s c.in_err-put_row.field-0.0 c.loop-row-test.true c.loop-row.invariant.puts one)
+    (turn_refused m (length c.args.rows.now) c.loop-at.at piece tt tt c.args.s.now c.loop-at.s c.put_row.new.s c.in_err-put_row.field-0.0 (omega (arith, c.loop-at-test.true)) c.loop-at.invariant.puts one)

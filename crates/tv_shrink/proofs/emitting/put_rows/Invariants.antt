@@ -3,10 +3,10 @@ use Rattle.tv_core.specs.Sinks.{PutsAll}
 use Rattle.tv_shrink.specs.Emitting.{rows_circuit}
 use Rattle.tv_shrink.proofs.emitting.put_rows.Given as goal
 
-abbrev pub invariant-loop-row : goal.invariant-loop-row
-invariant-loop-row g l = record {
-  puts : PutsAll g.S.Sink.meaning l.initial.s l.s (rows_circuit l.rows l.row-index) tt;
+abbrev pub invariant-loop-at : goal.invariant-loop-at
+invariant-loop-at g l = record {
+  puts : PutsAll g.S.Sink.meaning l.initial.s l.s (rows_circuit l.rows l.at) tt;
   wires : g.S.Sink.meaning.wires l.s ≡ g.S.Sink.meaning.wires l.initial.s;
-  constraints : g.S.Sink.meaning.constraints l.s ≤ g.S.Sink.meaning.constraints l.initial.s + l.row-index;
+  constraints : g.S.Sink.meaning.constraints l.s ≤ g.S.Sink.meaning.constraints l.initial.s + l.at;
   whole : g.S.Sink.meaning.broken l.s ≡ false;
 }

@@ -1,7 +1,7 @@
-use Rattle.std.proofs.Common.{◌≡◌, ◌++◌, set, ◌<◌, [], true, eqb, get_or, length, take_all, sym, ◌∙◌, ap, subst, refl, arith, length-set}
+use Rattle.std.proofs.Common.{◌≡◌, [], true, eqb, get_or, length, take_all, sym, ◌∙◌, ap, subst, refl, arith}
 use Rattle.std.specs.List.{list_any}
 use Rattle.tv_shrink.specs.Replacing.{has_wire}
-use Rattle.tv_shrink.proofs.Passes.{none_spread, has_at, extend-more, spread-private, spread-public}
+use Rattle.tv_shrink.proofs.Passes.{none_spread, has_at, spread-private, spread-public}
 use Rattle.tv_shrink.proofs.pass.spread.Goals as goal
 use Rattle.tv_shrink.proofs.pass.spread.Goals.{then-wire-publics+in_ok-extend, else-wire-publics}
 
@@ -19,16 +19,12 @@ loop-wire-preserved c =
     let same : c.wire.inside.0 ≡ c.loop-wire-item.result.1 = c.wire.view_is in
     elim c.if-wire-publics.branch [
       | then-wire-publics+in_ok-extend w ↦
-          let inside : c.loop-wire-item.result.1 < length c.loop-wire.places =
-          let there = c.requires.inside c.loop-wire-item.result.1 (omega (arith, w.if-wire-publics.true)) (has_at c.loop-wire.wire-index c.loop-wire-item.result c.args.r.now c.loop-wire-test.true c.loop-wire-item.is) in
-          omega (arith, c.loop-wire.invariant.each, there) in
-          let is : c.if-wire-publics.places ≡ set c.loop-wire.places c.loop-wire-item.result.1 (get_or c.loop-wire.places c.loop-wire-item.result.1 [] ++ c.args.rows.now) =
-          w.places-is ∙ w.in_ok-extend.ensures ∙ ap (λ v. set c.loop-wire.places v (get_or c.loop-wire.places v [] ++ c.args.rows.now)) same in
           record {
-            each = ap length is ∙ length-set c.loop-wire.places c.loop-wire-item.result.1 (get_or c.loop-wire.places c.loop-wire-item.result.1 [] ++ c.args.rows.now) ∙ c.loop-wire.invariant.each;
-            more = λ v i e. subst (λ xs. list_any (λ p. eqb p i) (get_or xs v []) ≡ true) (sym is)
-                (extend-more (λ p. eqb p i) c.loop-wire.places c.loop-wire-item.result.1 v c.args.rows.now inside (c.loop-wire.invariant.more v i e));
-            added = spread-private c.args.publics c.loop-wire.places c.if-wire-publics.places c.args.rows.now c.loop-wire.wire-index c.loop-wire-item.result c.args.r.now c.loop-wire-test.true c.loop-wire-item.is c.loop-wire.invariant.added inside is;
+            each = ap length w.places-is ∙ w.in_ok-extend.ensures.each ∙ c.loop-wire.invariant.each;
+            more = λ v i e. subst (λ xs. list_any (λ p. eqb p i) (get_or xs v []) ≡ true) (sym w.places-is) (w.in_ok-extend.ensures.more v i (c.loop-wire.invariant.more v i e));
+            added = spread-private c.args.publics c.loop-wire.places c.if-wire-publics.places c.args.rows.now c.loop-wire.wire-index c.loop-wire-item.result c.args.r.now c.loop-wire-test.true c.loop-wire-item.is c.loop-wire.invariant.added
+                (λ v i e. subst (λ xs. list_any (λ p. eqb p i) (get_or xs v []) ≡ true) (sym w.places-is) (w.in_ok-extend.ensures.more v i e))
+                (λ i e. subst (λ xs. list_any (λ p. eqb p i) (get_or xs c.loop-wire-item.result.1 []) ≡ true) (sym w.places-is) (subst (λ v. list_any (λ p. eqb p i) (get_or w.extend.new.self v []) ≡ true) same (w.in_ok-extend.ensures.added i e)));
           }
       | else-wire-publics w ↦ record {
         each = ap length w.places-is ∙ c.loop-wire.invariant.each;

@@ -1,6 +1,9 @@
-use Rattle.std.proofs.Common.{◌≡◌, arith, ap, ◌∙◌, leb, length}
-use Rattle.tv_shrink.proofs.Linear.{fits-lacking, fits-having}
+use Rattle.std.proofs.Common.{◌≡◌, arith, ap, sym, ◌∙◌, leb, length}
+use Rattle.tv_shrink.proofs.Linear.{fits-few, fits-lacking, fits-having}
 use Rattle.tv_shrink.proofs.row.fits.Goals as goal
+
+pub returns-then-terms-r-le-TERMS : goal.returns-then-terms-r-le-TERMS
+returns-then-terms-r-le-TERMS c = sym (fits-few c.args.wire c.args.r.now c.args.terms.now (omega arith))
 
 pub returns-then-not-branch : goal.returns-then-not-branch
 returns-then-not-branch c = fits-lacking c.args.wire c.args.r.now c.args.terms.now c.in_ok-replaced.field-0 c.in_ok-replaced.ensures.has c.if-not-branch.true

@@ -6,23 +6,23 @@ use Rattle.tv_shrink.proofs.Putting.{none_taken, short_at, some_taken, terms_mor
 use Rattle.tv_shrink.proofs.writing.count_rows.Goals as goal
 use Rattle.tv_shrink.proofs.writing.count_rows.Goals.{in-Some, in_default}
 
-pub loop-row-preserved : goal.loop-row-preserved
-loop-row-preserved c =
-    elim c.match-row.branch [
+pub loop-at-preserved : goal.loop-at-preserved
+loop-at-preserved c =
+    elim c.match-get.branch [
       | in-Some w ↦
-          let taken = some_taken c.args.rows.now c.loop-row.row-index c.row-item.result w.in-Some.row c.loop-row-test.true c.row-item.is w.in-Some.is in
-          let short = short_at c.args.wires c.loop-row.row-index c.args.rows.now c.row-item.result w.in-Some.row c.requires.within c.loop-row-test.true c.row-item.is w.in-Some.is in
+          let taken = some_taken c.args.rows.now c.loop-at.at c.get.result w.in-Some.row (omega (arith, c.loop-at-test.true)) c.get.ensures w.in-Some.is in
+          let short = short_at c.args.wires c.loop-at.at c.args.rows.now c.get.result w.in-Some.row c.requires.within (omega (arith, c.loop-at-test.true)) c.get.ensures w.in-Some.is in
           record {
-            constraints = ap (λ tally. tally.constraints) w.tally-is ∙ w.add.ensures.constraints ∙ ap (λ n. n + 1) c.loop-row.invariant.constraints ∙ sym (ap length taken ∙ length_push (filter_map (λ row. row) (take c.loop-row.row-index c.args.rows.now)) w.in-Some.row);
-            terms = ap (λ tally. tally.terms) w.tally-is ∙ w.add.ensures.terms ∙ ap (λ n. n + (length w.in-Some.row.a + length w.in-Some.row.b + length w.in-Some.row.c)) c.loop-row.invariant.terms ∙ sym (ap terms_in taken ∙ terms_more (filter_map (λ row. row) (take c.loop-row.row-index c.args.rows.now)) w.in-Some.row);
+            constraints = ap (λ tally. tally.constraints) w.tally-is ∙ w.add.ensures.constraints ∙ ap (λ n. n + 1) c.loop-at.invariant.constraints ∙ sym (ap length taken ∙ length_push (filter_map (λ row. row) (take c.loop-at.at c.args.rows.now)) w.in-Some.row);
+            terms = ap (λ tally. tally.terms) w.tally-is ∙ w.add.ensures.terms ∙ ap (λ n. n + (length w.in-Some.row.a + length w.in-Some.row.b + length w.in-Some.row.c)) c.loop-at.invariant.terms ∙ sym (ap terms_in taken ∙ terms_more (filter_map (λ row. row) (take c.loop-at.at c.args.rows.now)) w.in-Some.row);
             few = omega (arith, ap (λ tally. tally.constraints) w.tally-is, w.add.ensures.constraints);
             bound = omega (arith, ap (λ tally. tally.terms) w.tally-is, w.add.ensures.terms, short.short_a, short.short_b, short.short_c);
           }
       | in_default w ↦
-          let taken = none_taken c.args.rows.now c.loop-row.row-index c.row-item.result c.loop-row-test.true c.row-item.is w.in_default.is in
+          let taken = none_taken c.args.rows.now c.loop-at.at c.get.result (omega (arith, c.loop-at-test.true)) c.get.ensures w.in_default.is in
           record {
-            constraints = ap (λ tally. tally.constraints) w.tally-is ∙ c.loop-row.invariant.constraints ∙ sym (ap length taken);
-            terms = ap (λ tally. tally.terms) w.tally-is ∙ c.loop-row.invariant.terms ∙ sym (ap terms_in taken);
+            constraints = ap (λ tally. tally.constraints) w.tally-is ∙ c.loop-at.invariant.constraints ∙ sym (ap length taken);
+            terms = ap (λ tally. tally.terms) w.tally-is ∙ c.loop-at.invariant.terms ∙ sym (ap terms_in taken);
             few = omega (arith, ap (λ tally. tally.constraints) w.tally-is);
             bound = omega (arith, ap (λ tally. tally.terms) w.tally-is);
           }

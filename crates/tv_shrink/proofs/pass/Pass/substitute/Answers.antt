@@ -8,15 +8,15 @@ use Rattle.tv_shrink.proofs.pass.Pass.substitute.Goals as goal
 
 pub returns-clause-kept : goal.returns-clause-kept
 returns-clause-kept c =
-    let is : c.replace_all.new.rows.items ≡ all_replaced c.args.wire c.args.self.now.solved.items c.args.self.now.rows.items =
-    c.in_ok-found.ensures.rows ∙ ap (λ r. all_replaced c.args.wire r c.args.self.now.rows.items) c.deref-2.ensures.value in
+    let is : c.replace_all.new.rows ≡ all_replaced c.args.wire c.args.self.now.solved.items c.args.self.now.rows =
+    c.in_ok-replace_all.ensures.rows ∙ ap (λ r. all_replaced c.args.wire r c.args.self.now.rows) c.deref-2.ensures.value in
     record {
-      normal = subst AreNormal (sym is) (normal-all_replaced c.args.wire c.args.self.now.solved.items c.args.self.now.rows.items c.requires.kept.normal);
+      normal = subst AreNormal (sym is) (normal-all_replaced c.args.wire c.args.self.now.solved.items c.args.self.now.rows c.requires.kept.normal);
       covers = subst (λ rows. Covers c.args.self.now.publics rows c.spread.new.places) (sym is)
-          (replaced-covers c.args.self.now.publics c.args.wire c.args.self.now.solved.items c.args.self.now.rows.items c.args.self.now.places c.take-places.new.self c.spread.new.places
-          c.requires.lacks c.requires.private c.requires.kept.covers (c.take-places.ensures.rest ∙ ap (λ v. set c.args.self.now.places v []) c.wire.view_is)
+          (replaced-covers c.args.self.now.publics c.args.wire c.args.self.now.solved.items c.args.self.now.rows c.args.self.now.places c.clear.new.self c.spread.new.places
+          c.requires.lacks c.requires.private c.requires.kept.covers (c.clear.ensures ∙ ap (λ v. set c.args.self.now.places v []) c.wire.view_is)
           c.in_ok-spread.ensures.more
           (λ v i above has e. c.in_ok-spread.ensures.added v i above (ap (has_wire v) c.deref-4.ensures.value ∙ has)
-          (ap (λ xs. list_any (λ p. eqb p i) xs) c.deref-3.ensures.value ∙ c.in_ok-found.ensures.found i e)));
-      each = length-set c.args.self.now.gone.items c.wire-2.inside.0 true ∙ c.requires.kept.each ∙ sym (c.in_ok-spread.ensures.each ∙ ap length c.take-places.ensures.rest ∙ length-set c.args.self.now.places c.wire.inside.0 []);
+          (ap (λ xs. list_any (λ p. eqb p i) xs) c.deref-3.ensures.value ∙ c.in_ok-replace_all.ensures.found i e)));
+      each = length-set c.args.self.now.gone.items c.wire-2.inside.0 true ∙ c.requires.kept.each ∙ sym (c.in_ok-spread.ensures.each ∙ ap length c.clear.ensures ∙ length-set c.args.self.now.places c.wire.inside.0 []);
     }

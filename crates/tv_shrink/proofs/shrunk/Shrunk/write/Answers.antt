@@ -1,9 +1,7 @@
-use Rattle.std.proofs.Common.{◌≡◌, ◌+◌, ◌-◌, ◌≤◌, ◌∙◌, ℕ, Option, refl, rules, arith, ap, subst, length}
+use Rattle.std.proofs.Common.{◌≡◌, ◌+◌, ◌-◌, ◌≤◌, ◌∙◌, ℕ, refl, rules, arith, ap, length}
 use Rattle.std.specs.List.{filter_map}
 use Rattle.tv_core.proofs.Chain.{puts_then, puts_then_refused}
 use Rattle.tv_core.specs.Circuits.{Circuit}
-use Rattle.tv_core.specs.Constraints.{Constraint}
-use Rattle.tv_core.specs.Meanings.{terms_in}
 use Rattle.tv_core.specs.Sinks.{PutsAll, PutsSome}
 use Rattle.tv_core.specs.declared.lines.Counts.{Counts}
 use Rattle.tv_r1cs_write.specs.Streams.{Stream, begun, stream_meaning}
@@ -18,13 +16,13 @@ pub returns-in-Ok-put_rows : goal.returns-in-Ok-put_rows
 returns-in-Ok-put_rows g c =
     let seen : StreamSink g.row.D.Denot → Stream = λ s. record { outside = g.D.Files.seen s.files.now; borrow = s.files.ghost_name; name = s.name.now; progress = s.writer } in
     let shrunken : Shrunken = record {
-      system = record { wires = length c.self.inside.labels.items; outputs = c.self.inside.outputs; inputs = c.self.inside.inputs; constraints = filter_map (λ row. row) c.self.inside.rows.items };
+      system = record { wires = length c.self.inside.labels.items; outputs = c.self.inside.outputs; inputs = c.self.inside.inputs; constraints = filter_map (λ row. row) c.self.inside.rows };
       labels = c.self.inside.labels.items;
       wires = c.self.inside.wires;
     } in
     let counts : Counts = record { wires = c.len-2.result; outputs = c.self.inside.outputs; inputs = c.self.inside.inputs; constraints = c.count_rows-tally.result.constraints; terms = c.count_rows-tally.result.terms } in
     let n : ℕ = c.len-2.result - (1 + c.self.inside.outputs + c.self.inside.inputs) in
-    let circuit : Circuit (Unit {0}) = circuit_of n c.self.inside.rows.items in
+    let circuit : Circuit (Unit {0}) = circuit_of n c.self.inside.rows in
     let wires : c.len-2.result ≡ length c.self.inside.labels.items = omega arith in
     let publics : 1 + c.self.inside.outputs + c.self.inside.inputs ≤ c.len-2.result = omega (arith, c.self.invariant.0, wires) in
     let is : IsBegun seen shrunken c.args.name.now (g.D.Files.seen c.args.files.now) c.in-Ok.sink circuit counts = record {
@@ -35,32 +33,32 @@ returns-in-Ok-put_rows g c =
       wires = wires;
       outputs = refl;
       inputs = refl;
-      constraints = c.count_rows-tally.ensures.constraints ∙ ap (λ rows. length (filter_map (λ (row : Option Constraint). row) rows)) c.deref.ensures.value;
-      terms = c.count_rows-tally.ensures.terms ∙ ap (λ rows. terms_in (filter_map (λ (row : Option Constraint). row) rows)) c.deref.ensures.value;
-      list = circuit_list n c.self.inside.rows.items (1 + c.self.inside.outputs + c.self.inside.inputs);
-      next = circuit_next n c.self.inside.rows.items (1 + c.self.inside.outputs + c.self.inside.inputs) ∙ omega (arith, publics);
+      constraints = c.count_rows-tally.ensures.constraints;
+      terms = c.count_rows-tally.ensures.terms;
+      list = circuit_list n c.self.inside.rows (1 + c.self.inside.outputs + c.self.inside.inputs);
+      next = circuit_next n c.self.inside.rows (1 + c.self.inside.outputs + c.self.inside.inputs) ∙ omega (arith, publics);
       publics = publics;
       wires_fit = omega (arith, wires, c.self.invariant.1);
-      constraints_fit = omega (arith, c.count_rows-tally.ensures.few, ap length c.deref.ensures.value, c.self.invariant.3);
+      constraints_fit = omega (arith, c.count_rows-tally.ensures.few, c.self.invariant.3);
       each = refl;
     } in
-    let more : PutsAll (stream_meaning seen) c.make_wires.new.s c.put_rows.new.s (rows_circuit c.self.inside.rows.items (length c.self.inside.rows.items)) tt =
-    subst (λ rows. PutsAll (stream_meaning seen) c.make_wires.new.s c.put_rows.new.s (rows_circuit rows (length rows)) tt) c.deref-2.ensures.value c.in-Ok-put_rows.ensures.puts in
-    let puts = puts_then (stream_meaning seen) (wires_circuit n) (λ _. rows_circuit c.self.inside.rows.items (length c.self.inside.rows.items)) c.in-Ok.sink c.make_wires.new.s c.put_rows.new.s tt tt c.make_wires.ensures.puts more in
-    let writes = writes_all seen shrunken c.args.name.now (g.D.Files.seen c.args.files.now) c.in-Ok.sink circuit counts is c.put_rows.new.s _ tt c.finish_labelled.result puts (rw c.deref-in-Ok-put_rows.ensures.value at c.finish_labelled.ensures) in
+    let more : PutsAll (stream_meaning seen) c.make_wires.new.s c.put_rows.new.s (rows_circuit c.self.inside.rows (length c.self.inside.rows)) tt =
+    c.in-Ok-put_rows.ensures.puts in
+    let puts = puts_then (stream_meaning seen) (wires_circuit n) (λ _. rows_circuit c.self.inside.rows (length c.self.inside.rows)) c.in-Ok.sink c.make_wires.new.s c.put_rows.new.s tt tt c.make_wires.ensures.puts more in
+    let writes = writes_all seen shrunken c.args.name.now (g.D.Files.seen c.args.files.now) c.in-Ok.sink circuit counts is c.put_rows.new.s _ tt c.finish_labelled.result puts (rw c.deref.ensures.value at c.finish_labelled.ensures) in
     rw (← c.self.view_is) (search (rules, writes))
 
 pub returns-in-Err-put_rows : goal.returns-in-Err-put_rows
 returns-in-Err-put_rows g c =
     let seen : StreamSink g.row.D.Denot → Stream = λ s. record { outside = g.D.Files.seen s.files.now; borrow = s.files.ghost_name; name = s.name.now; progress = s.writer } in
     let shrunken : Shrunken = record {
-      system = record { wires = length c.self.inside.labels.items; outputs = c.self.inside.outputs; inputs = c.self.inside.inputs; constraints = filter_map (λ row. row) c.self.inside.rows.items };
+      system = record { wires = length c.self.inside.labels.items; outputs = c.self.inside.outputs; inputs = c.self.inside.inputs; constraints = filter_map (λ row. row) c.self.inside.rows };
       labels = c.self.inside.labels.items;
       wires = c.self.inside.wires;
     } in
     let counts : Counts = record { wires = c.len-2.result; outputs = c.self.inside.outputs; inputs = c.self.inside.inputs; constraints = c.count_rows-tally.result.constraints; terms = c.count_rows-tally.result.terms } in
     let n : ℕ = c.len-2.result - (1 + c.self.inside.outputs + c.self.inside.inputs) in
-    let circuit : Circuit (Unit {0}) = circuit_of n c.self.inside.rows.items in
+    let circuit : Circuit (Unit {0}) = circuit_of n c.self.inside.rows in
     let wires : c.len-2.result ≡ length c.self.inside.labels.items = omega arith in
     let publics : 1 + c.self.inside.outputs + c.self.inside.inputs ≤ c.len-2.result = omega (arith, c.self.invariant.0, wires) in
     let is : IsBegun seen shrunken c.args.name.now (g.D.Files.seen c.args.files.now) c.in-Ok.sink circuit counts = record {
@@ -71,17 +69,17 @@ returns-in-Err-put_rows g c =
       wires = wires;
       outputs = refl;
       inputs = refl;
-      constraints = c.count_rows-tally.ensures.constraints ∙ ap (λ rows. length (filter_map (λ (row : Option Constraint). row) rows)) c.deref.ensures.value;
-      terms = c.count_rows-tally.ensures.terms ∙ ap (λ rows. terms_in (filter_map (λ (row : Option Constraint). row) rows)) c.deref.ensures.value;
-      list = circuit_list n c.self.inside.rows.items (1 + c.self.inside.outputs + c.self.inside.inputs);
-      next = circuit_next n c.self.inside.rows.items (1 + c.self.inside.outputs + c.self.inside.inputs) ∙ omega (arith, publics);
+      constraints = c.count_rows-tally.ensures.constraints;
+      terms = c.count_rows-tally.ensures.terms;
+      list = circuit_list n c.self.inside.rows (1 + c.self.inside.outputs + c.self.inside.inputs);
+      next = circuit_next n c.self.inside.rows (1 + c.self.inside.outputs + c.self.inside.inputs) ∙ omega (arith, publics);
       publics = publics;
       wires_fit = omega (arith, wires, c.self.invariant.1);
-      constraints_fit = omega (arith, c.count_rows-tally.ensures.few, ap length c.deref.ensures.value, c.self.invariant.3);
+      constraints_fit = omega (arith, c.count_rows-tally.ensures.few, c.self.invariant.3);
       each = refl;
     } in
-    let more : PutsSome (stream_meaning seen) c.make_wires.new.s c.put_rows.new.s (rows_circuit c.self.inside.rows.items (length c.self.inside.rows.items)) c.in-Err-put_rows.fault =
-    subst (λ rows. PutsSome (stream_meaning seen) c.make_wires.new.s c.put_rows.new.s (rows_circuit rows (length rows)) c.in-Err-put_rows.fault) c.deref-2.ensures.value c.in-Err-put_rows.ensures.puts in
-    let some = puts_then_refused (stream_meaning seen) (wires_circuit n) (λ _. rows_circuit c.self.inside.rows.items (length c.self.inside.rows.items)) c.in-Ok.sink c.make_wires.new.s c.put_rows.new.s tt c.in-Err-put_rows.fault c.make_wires.ensures.puts more in
+    let more : PutsSome (stream_meaning seen) c.make_wires.new.s c.put_rows.new.s (rows_circuit c.self.inside.rows (length c.self.inside.rows)) c.in-Err-put_rows.fault =
+    c.in-Err-put_rows.ensures.puts in
+    let some = puts_then_refused (stream_meaning seen) (wires_circuit n) (λ _. rows_circuit c.self.inside.rows (length c.self.inside.rows)) c.in-Ok.sink c.make_wires.new.s c.put_rows.new.s tt c.in-Err-put_rows.fault c.make_wires.ensures.puts more in
     let writes = writes_some seen shrunken c.args.name.now (g.D.Files.seen c.args.files.now) c.in-Ok.sink circuit counts is c.put_rows.new.s c.in-Err-put_rows.fault some in
     rw (← c.self.view_is) (search (rules, writes))
