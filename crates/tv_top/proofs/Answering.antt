@@ -1,38 +1,19 @@
 -- What a call promises, from what reading found, from writing and from saying a line.
-use Rattle.std.proofs.Common.{◌≡◌, ◌≢◌, ℕ, ◌⊎◌, ◌≤◌, Bool, false, List, [], ◌∷◌, ◌++◌, take, Option, Some, None, option_map, true, Result, Ok, Err, inl, inr, refl, sym, ap, ◌∙◌, subst, arith, rules}
+use Rattle.std.proofs.Common.{◌≡◌, ◌≢◌, ℕ, ◌⊎◌, ◌≤◌, Bool, false, List, [], ◌∷◌, ◌++◌, take, Option, Some, None, option_map, true, Result, Ok, Err, inl, inr, refl, sym, ap, ◌∙◌, arith, rules}
 use Rattle.std.specs.Option.{IfSome}
-use Rattle.tv_files.specs.Outside.{Names, Outside, OnlyWrites}
-use Rattle.tv_word.specs.Counts.{Rose}
-use Rattle.tv_top.specs.declared.place.Amount.{Amount}
-use Rattle.tv_top.specs.declared.refusal.Bad.{Bad}
+use Rattle.std.specs.Prelude.{IfOk}
+use Rattle.tv_top.proofs.Common.{Names, Outside, OnlyWrites, Rose, Amount, Bad, Cut, Ending, Refused, Stopped, Finished, Finish, Quantity, Refusal, Stop, Fault, Memory, Contents, Size, What, Status, words_of, MayStop, quantities_of, IsOfWords, ChangedAt, IsSaid, Answers, Content, bytes_in, AreRead, files_with, IsCutAt, IsCutInWriting, Said, SaidPart, Ends, IsConcluded, Concludes, Writes, Closes, Finishes, Completes, Refuses, IsOneOf, IsFound, Finds, Named, Look, Outcome, Plan, Write, Answer, files_of, answer_of, ending_by, comes_by, writes_by, MayEnd, quantity_what, size_what, bad_status, refusal_status, stop_status, finish_status, ending_status}
 use Rattle.tv_top.specs.declared.refusal.Bad.TheVariants as bad
-use Rattle.tv_top.specs.declared.refusal.Cut.{Cut}
 use Rattle.tv_top.specs.declared.refusal.Cut.TheVariants as cut
-use Rattle.tv_top.specs.declared.refusal.Ending.{Ending}
-use Rattle.tv_top.specs.declared.refusal.Ending.TheVariants.{Refused, Stopped, Finished}
-use Rattle.tv_top.specs.declared.refusal.Finish.{Finish}
 use Rattle.tv_top.specs.declared.refusal.Finish.TheVariants as finishes
-use Rattle.tv_top.specs.declared.refusal.Quantity.{Quantity}
 use Rattle.tv_top.specs.declared.refusal.Quantity.TheVariants as quantity
-use Rattle.tv_top.specs.declared.refusal.Refusal.{Refusal}
 use Rattle.tv_top.specs.declared.refusal.Refusal.TheVariants as refusal
-use Rattle.tv_top.specs.declared.refusal.Stop.{Stop}
-use Rattle.tv_top.specs.declared.refusal.Stop.TheVariants.{Fault, Memory, Contents}
-use Rattle.tv_top.specs.declared.refusal.Size.{Size}
-use Rattle.tv_top.specs.declared.status.What.{What}
 use Rattle.tv_top.specs.declared.status.What.TheVariants.{Draws, Steps, TapeWords}
 use Rattle.tv_check.specs.declared.verdict.Verdict.TheVariants as verdict
-use Rattle.tv_top.specs.declared.status.Status.{Status}
 use Rattle.tv_top.specs.declared.status.Status.TheVariants as status
 use Rattle.tv_step.specs.declared.end.End.TheVariants as end
-use Rattle.tv_top.specs.Answers.{words_of, MayStop, quantities_of, IsOfWords, ChangedAt, IsSaid, Answers}
 use Rattle.tv_top.specs.Codes.{says}
-use Rattle.tv_top.specs.Contents.{Content, bytes_in}
-use Rattle.tv_top.specs.Ends.{AreRead, files_with, IsCutAt, IsCutInWriting, Said, SaidPart, Ends, IsConcluded, Concludes, Writes, Closes, Finishes, Completes, Refuses}
-use Rattle.tv_top.specs.Finds.{IsOneOf, IsFound, Finds}
-use Rattle.tv_top.specs.Plan.{Named, Look, Outcome, Plan, Write, Answer, files_of, answer_by, answer_of, ending_by, comes_by}
 use Rattle.tv_top.proofs.Looking.{finds_comes}
-use Rattle.tv_top.specs.Status.{quantity_what, size_what, bad_status, refusal_status, stop_status, finish_status, ending_status}
 
 -- ---- each status comes from one stage
 
@@ -110,19 +91,23 @@ apart_from [] sizes quantity size apart told at = absurd told
 apart_from (amount ∷ amounts) sizes quantity size apart (inl is) at = rw is (no_size (quantity_what amount.what) sizes size apart.0 at)
 apart_from (amount ∷ amounts) sizes quantity size apart (inr told) at = apart_from amounts sizes quantity size apart.1 told at
 
--- a limit that a look was refused for is of one of these
-abbrev IsWithin : List Size → Stop → Type 0
-IsWithin sizes stop = (what : Size) (has most : ℕ) → stop ≡ Contents (bad.Limit what has most) → IsOneOf what sizes
+-- a limit that looks were refused for is of one of these
+abbrev IsWithin : List Size → Result Outcome Stop → Type 0
+IsWithin sizes found = (what : Size) (has most : ℕ) → found ≡ Err (Contents (bad.Limit what has most)) → IsOneOf what sizes
+
+-- the answer to what was found
+abbrev found_answer : Plan → ℕ → Outcome → Answer
+found_answer plan at outcome = record { looked = at; writes = files_of plan.writes outcome.files; ending = Finished outcome.finish }
 
 -- what a look is answered that was refused isn't a refusal of words
-stop_refuses : (plan : Plan) (stop : Stop) (why : Refusal) → AreApart plan.amounts plan.sizes → IsWithin plan.sizes stop → IsOfWords (Ok plan) why → ¬ (stop_status stop ≡ refusal_status why)
+stop_refuses : (plan : Plan) (stop : Stop) (why : Refusal) → AreApart plan.amounts plan.sizes → IsWithin plan.sizes (Err stop) → IsOfWords (Ok plan) why → ¬ (stop_status stop ≡ refusal_status why)
 stop_refuses plan stop refusal.Usage apart limited told e = let none = stop_is stop in let some : is_plain (stop_status stop) ≡ true = ap is_plain e in cc
 stop_refuses plan stop (refusal.SameName first second) apart limited told e = let none = stop_is stop in let some : is_plain (stop_status stop) ≡ true = ap is_plain e in cc
 stop_refuses plan stop (refusal.Limit quantity has most) apart limited told e =
     let found = stop_limit stop (quantity_what quantity) (ap limit_in e) in
-    apart_from plan.amounts plan.sizes quantity found.0 apart told (limited found.0 found.1 found.2 found.3) (sym found.4)
+    apart_from plan.amounts plan.sizes quantity found.0 apart told (limited found.0 found.1 found.2 (ap Err found.3)) (sym found.4)
 
-may_stop : (sizes : List Size) (stop : Stop) → IsWithin sizes stop → MayStop sizes stop
+may_stop : (sizes : List Size) (stop : Stop) → IsWithin sizes (Err stop) → MayStop sizes stop
 may_stop sizes (Contents (bad.Limit what has most)) limited = limited what has most refl
 may_stop sizes _ limited = tt
 
@@ -213,72 +198,56 @@ answers_refused request words why old new result refused concludes = rw refused 
   later = concludes.later;
 })
 
-ends_stopped : (places : List Named) (look : Look Outcome) (stop : Stop) (words : ℕ) (files : Names) (old new : Outside) (result : Status) → new.contents ≡ old.contents → old.contents ≡ Some files →
-    IsFound (λ (o : Outcome). o) look (Err stop) → IsConcluded (Stopped stop) words old new result → Ends (answer_by places look) words files old new result
-ends_stopped places look (Contents bad) words files old new result same told is concluded =
-    rw is (ends_answered (record { looked = look.at; writes = []; ending = Stopped (Contents bad) }) words files old new result (same ∙ told) tt concluded)
-ends_stopped places look (Fault word) words files old new result same told within concluded =
-    let nothing = silent (Stopped (Fault word)) words old new result refl concluded in
-    inr (inl (word, nothing.0, within, record { contents = same; said = nothing.1 }))
-ends_stopped places look Memory words files old new result same told any concluded =
-    let nothing = silent (Stopped Memory) words old new result refl concluded in
-    inr (inr (inr (inr (nothing.0, inl (record { contents = same; said = nothing.1 })))))
+-- ---- the end of a plan whose files were looked at, by what was found
 
--- a plan whose files were refused
-answers_refused_files : (plan : Plan) (stop : Stop) (words : ℕ) (old mid new : Outside) (result : Status) → AreApart plan.amounts plan.sizes → Finds (λ (o : Outcome). o) (words_of plan.reads) plan.sizes plan.comes old mid (Err stop) →
-    Concludes (Stopped stop) words mid new result → Answers (Ok plan) words old new result
-answers_refused_files plan stop words old mid new result apart finds concludes =
-    let concluded = concluded_since (Stopped stop) words old mid new result finds.only.said (omega arith) (omega arith) concludes.ended in
-    let same : new.contents ≡ old.contents = concludes.contents ∙ finds.only.contents in
-    let within : IsWithin plan.sizes stop = λ what has most e. finds.limits what has most (ap Err e) in
+ends_found : (plan : Plan) (found : Result Outcome Stop) (words : ℕ) (files : Names) (old new : Outside) (result : Status) → new.contents ≡ files_with (writes_by plan.writes found) old.contents → old.contents ≡ Some files →
+    AreRead (writes_by plan.writes found) → IsFound (λ (o : Outcome). o) (plan.comes files) found → IsConcluded (ending_by found) words old new result → Ends (answer_of (Ok plan) files) words files old new result
+ends_found plan (Ok outcome) words files old new result held told read is concluded =
+    rw is (ends_answered (found_answer plan (plan.comes files).at outcome) words files old new result (held ∙ ap (files_with (files_of plan.writes outcome.files)) told) read concluded)
+ends_found plan (Err (Contents bad)) words files old new result held told read is concluded =
+    rw is (ends_answered (record { looked = (plan.comes files).at; writes = []; ending = Stopped (Contents bad) }) words files old new result (held ∙ told) tt concluded)
+ends_found plan (Err (Fault word)) words files old new result held told read within concluded =
+    let nothing = silent (Stopped (Fault word)) words old new result refl concluded in inr (inl (word, nothing.0, within, record { contents = held; said = nothing.1 }))
+ends_found plan (Err Memory) words files old new result held told read any concluded =
+    let nothing = silent (Stopped Memory) words old new result refl concluded in inr (inr (inr (inr (nothing.0, inl (record { contents = held; said = nothing.1 })))))
+
+-- what is answered isn't a refusal of words, and a fault only where one was found
+found_refuses : (plan : Plan) (found : Result Outcome Stop) (why : Refusal) → ((stop : Stop) → found ≡ Err stop → AreApart plan.amounts plan.sizes) → IsWithin plan.sizes found → IsOfWords (Ok plan) why → ¬ (ending_status (ending_by found) ≡ refusal_status why)
+found_refuses plan (Ok outcome) why apart within told e = let h : None ≡ Some why = sym (finish_good outcome.finish).0 ∙ ap of_words e ∙ words_is why in cc
+found_refuses plan (Err stop) why apart within told e = stop_refuses plan stop why (apart stop refl) within told e
+
+found_faulty : (found : Result Outcome Stop) (word : ℕ) → ending_status (ending_by found) ≡ status.FileFault word → found ≡ Err (Fault word)
+found_faulty (Ok outcome) word e = absurd ((finish_good outcome.finish).1 word e)
+found_faulty (Err stop) word e = ap Err (stop_faulty stop word e)
+
+found_ends : (plan : Plan) (found : Result Outcome Stop) → IfOk found (λ outcome. plan.ends_by outcome.finish ≡ true) → IsWithin plan.sizes found → MayEnd (Ok plan) (ending_by found)
+found_ends plan (Ok outcome) may within = may
+found_ends plan (Err stop) may within = may_stop plan.sizes stop within
+
+found_changed : (names : List Named) (found : Result Outcome Stop) (old : Option Names) → ChangedAt names old (files_with (writes_by names found) old)
+found_changed names (Ok outcome) old = changed_whole names outcome.files old
+found_changed names (Err stop) old = unchanged names old old refl
+
+-- what was found was written, and the line said
+answers_ended : (plan : Plan) (found : Result Outcome Stop) (words : ℕ) (old mid after new : Outside) (result : Status) → ((stop : Stop) → found ≡ Err stop → AreApart plan.amounts plan.sizes) → IfOk found (λ outcome. plan.ends_by outcome.finish ≡ true) →
+    Finds (λ (o : Outcome). o) (words_of plan.reads) plan.sizes plan.comes old mid found → Writes (writes_by plan.writes found) mid after (Ok tt) → Concludes (ending_by found) words after new result → Answers (Ok plan) words old new result
+answers_ended plan found words old mid after new result apart may finds writes concludes =
+    let concluded = concluded_since (ending_by found) words old after new result (writes.only.said ∙ finds.only.said) (omega arith) (omega arith) concludes.ended in
+    let held : new.contents ≡ files_with (writes_by plan.writes found) old.contents = concludes.contents ∙ writes.ended.0 ∙ ap (files_with (writes_by plan.writes found)) finds.only.contents in
     record {
-      ends = λ files told. ends_stopped plan.writes (plan.comes files) stop words files old new result same told (finds.told files told) concluded;
+      ends = λ files told. ends_found plan found words files old new result held told writes.ended.1 (finds.told files told) concluded;
       absent = λ files told. elim (finds.absent files told) [
-        | inl here ↦ inl (concludes.absent ∙ here)
+        | inl here ↦ inl (concludes.absent ∙ writes.only.absent files (finds.only.contents ∙ told) ∙ here)
         | inr missing ↦ inr (missing.0, ap ending_by missing.1)
       ];
       refused = λ why e. cc;
-      refuses = λ why told e. absurd (stop_refuses plan stop why apart within told (refuses_concluded (Stopped stop) words old new result why concluded e));
-      caused = λ word e. elim (caused_concluded (Stopped stop) words old new result word concluded e) [
-        | inl is ↦ let cause = finds.caused word (ap Err (stop_faulty stop word is)) in inl (cause.0, omega (arith, cause.1))
-        | inr cause ↦ inr (inr (cause.0, omega (arith, cause.1)))
-      ];
-      said = (Stopped stop, may_stop plan.sizes stop within, said_concluded (Stopped stop) words old new result concluded);
-      contents = unchanged plan.writes old.contents new.contents same;
-      later = search rules;
-    }
-
--- the answer to what was found
-abbrev found_answer : Plan → ℕ → Outcome → Answer
-found_answer plan at outcome = record { looked = at; writes = files_of plan.writes outcome.files; ending = Finished outcome.finish }
-
-not_missing : (look : Look Outcome) (outcome : Outcome) (word : ℕ) → look.gives ≡ Ok outcome → ¬ (look.gives ≡ Err (Fault word))
-not_missing look outcome word is missing = cc
-
--- a plan whose files were found and written, and the line said
-answers_whole : (plan : Plan) (outcome : Outcome) (words : ℕ) (old mid after new : Outside) (result : Status) → plan.ends_by outcome.finish ≡ true →
-    Finds (λ (o : Outcome). o) (words_of plan.reads) plan.sizes plan.comes old mid (Ok outcome) → Writes (files_of plan.writes outcome.files) mid after (Ok tt) →
-    Concludes (Finished outcome.finish) words after new result → Answers (Ok plan) words old new result
-answers_whole plan outcome words old mid after new result may finds writes concludes =
-    let finish = outcome.finish in
-    let concluded = concluded_since (Finished finish) words old after new result (writes.only.said ∙ finds.only.said) (omega arith) (omega arith) concludes.ended in
-    let held : new.contents ≡ files_with (files_of plan.writes outcome.files) old.contents =
-    concludes.contents ∙ writes.ended.0 ∙ ap (files_with (files_of plan.writes outcome.files)) finds.only.contents in
-    record {
-      ends = λ files told. rw (finds.told files told) (ends_answered (found_answer plan (plan.comes files).at outcome) words files old new result (held ∙ ap (files_with (files_of plan.writes outcome.files)) told) writes.ended.1 concluded);
-      absent = λ files told. elim (finds.absent files told) [
-        | inl here ↦ inl (concludes.absent ∙ writes.only.absent files (finds.only.contents ∙ told) ∙ here)
-        | inr missing ↦ absurd (not_missing (plan.comes files) outcome missing.0 (finds.told files told) missing.1)
-      ];
-      refused = λ why e. cc;
-      refuses = λ why told e. absurd (let is = refuses_concluded (Finished finish) words old new result why concluded e in
-          let h : None ≡ Some why = sym (finish_good finish).0 ∙ ap of_words is ∙ words_is why in cc);
-      caused = λ word e. elim (caused_concluded (Finished finish) words old new result word concluded e) [
-        | inl is ↦ absurd ((finish_good finish).1 word is)
+      refuses = λ why told e. absurd (found_refuses plan found why apart finds.limits told (refuses_concluded (ending_by found) words old new result why concluded e));
+      caused = λ word e. elim (caused_concluded (ending_by found) words old new result word concluded e) [
+        | inl is ↦ let cause = finds.caused word (found_faulty found word is) in inl (cause.0, omega (arith, cause.1))
         | inr cause ↦ inr (inr cause)
       ];
-      said = (Finished finish, may, said_concluded (Finished finish) words old new result concluded);
-      contents = rw held (changed_whole plan.writes outcome.files old.contents);
+      said = (ending_by found, found_ends plan found may finds.limits, said_concluded (ending_by found) words old new result concluded);
+      contents = rw held (found_changed plan.writes found old.contents);
       later = search rules;
     }
 
@@ -293,7 +262,7 @@ answers_cut plan outcome words at old mid new result finds only cut ended =
           rw (finds.told files told) (elim ended [ inl fault ↦ inr (inr (inl (at, fault.0, here))) | inr memory ↦ inr (inr (inr (inr (memory, inr (inl (at, here)))))) ]);
       absent = λ files told. elim (finds.absent files told) [
         | inl here ↦ inl (only.absent files (finds.only.contents ∙ told) ∙ here)
-        | inr missing ↦ absurd (not_missing (plan.comes files) outcome missing.0 (finds.told files told) missing.1)
+        | inr missing ↦ inr (missing.0, ap ending_by missing.1)
       ];
       refused = λ why e. cc;
       refuses = λ why told e. absurd (let h : None ≡ Some why = elim ended [ inl fault ↦ ap of_words (sym fault.0 ∙ e) ∙ words_is why | inr memory ↦ ap of_words (sym memory ∙ e) ∙ words_is why ] in cc);
@@ -308,7 +277,7 @@ answers_cut plan outcome words at old mid new result finds only cut ended =
 
 answers_finished : (plan : Plan) (outcome : Outcome) (words : ℕ) (old mid new : Outside) (result : Status) → plan.ends_by outcome.finish ≡ true →
     Finds (λ (o : Outcome). o) (words_of plan.reads) plan.sizes plan.comes old mid (Ok outcome) → Finishes (files_of plan.writes outcome.files) outcome.finish words mid new result → Answers (Ok plan) words old new result
-answers_finished plan outcome words old mid new result may finds (inl (after, writes, concludes)) = answers_whole plan outcome words old mid after new result may finds writes concludes
+answers_finished plan outcome words old mid new result may finds (inl (after, writes, concludes)) = answers_ended plan (Ok outcome) words old mid after new result (λ stop e. cc) may finds writes concludes
 answers_finished plan outcome words old mid new result may finds (inr (cut.Fault at, is, writes)) = answers_cut plan outcome words at old mid new result finds writes.only writes.ended.0 (inl (is, writes.ended.1))
 answers_finished plan outcome words old mid new result may finds (inr (cut.Memory, is, writes)) = answers_cut plan outcome words writes.ended.0 old mid new result finds writes.only writes.ended.1 (inr is)
 
@@ -323,7 +292,7 @@ answers_found plan view ends due found words old mid new result is may finds fin
 pub answers_stopped : {X A : Type 0} (plan : Plan) (view : X → A) (ends : A → Outcome) (due : Names → Look A) (stop : Stop) (words : ℕ) (old mid new : Outside) (result : Status) →
     plan.comes ≡ (λ files. comes_by ends (due files)) → AreApart plan.amounts plan.sizes → Finds view (words_of plan.reads) plan.sizes due old mid (Err stop) → Concludes (Stopped stop) words mid new result → Answers (Ok plan) words old new result
 answers_stopped plan view ends due stop words old mid new result is apart finds concludes =
-    answers_refused_files plan stop words old mid new result apart (rw is (finds_comes view ends (words_of plan.reads) plan.sizes due old mid (Err stop) finds)) concludes
+    answers_ended plan (Err stop) words old mid mid new result (λ _ _. apart) tt (rw is (finds_comes view ends (words_of plan.reads) plan.sizes due old mid (Err stop) finds)) (record { ended = (refl, tt); only = record { said = refl; absent = λ _ _. refl; later = search rules } }) concludes
 
 -- memory may be wanting for what follows on a look
 finds_wanting : {X A : Type 0} (view : X → A) (words : List ℕ) (sizes : List Size) (due : Names → Look A) (found : X) (old new : Outside) → Finds view words sizes due old new (Ok found) → Finds view words sizes due old new (Err Memory)
@@ -336,9 +305,12 @@ answers_completed plan view ends due found words old mid new result is may apart
 answers_completed plan view ends due found words old mid new result is may apart finds (inr concludes) =
     answers_stopped plan view ends due Memory words old mid new result is apart (finds_wanting view (words_of plan.reads) plan.sizes due found old mid finds) concludes
 
+-- an outcome may be told in other words
+pub completes_as : (places : List Named) (outcome other : Outcome) (words : ℕ) (old new : Outside) (result : Status) → outcome ≡ other → Completes places other words old new result → Completes places outcome words old new result
+completes_as places outcome other words old new result is completes = rw is completes
+
 -- an outcome of which nothing is written
 pub completes_nothing : (places : List Named) (outcome : Outcome) (finish : Option Finish) (words : ℕ) (old new : Outside) (result : Status) → IfSome finish (λ finish. outcome ≡ record { files = []; finish = finish }) →
     Refuses finish words old new result → Completes places outcome words old new result
 completes_nothing places outcome None words old new result is refuses = inr refuses
-completes_nothing places outcome (Some finish) words old new result is refuses =
-    subst (λ outcome. Completes places outcome words old new result) (sym is) (inl refuses)
+completes_nothing places outcome (Some finish) words old new result is refuses = rw is (inl refuses)

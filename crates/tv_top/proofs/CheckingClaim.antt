@@ -1,74 +1,72 @@
 -- `check`: reading the system twice is reading it once, and what the command promises.
-use Rattle.std.proofs.Common.{◌≡◌, ◌↔◌, ◌<◌, ℕ, List, [], ◌∷◌, All, Option, Some, None, Result, Ok, Err, inl, inr, refl, sym, ap, ◌∙◌}
+use Rattle.std.proofs.Common.{◌≡◌, ◌↔◌, ◌<◌, ◌==◌, ℕ, max, Bool, true, false, if◌then◌else◌, List, [], ◌∷◌, length, take, All, Result, Ok, Err, refl, sym, ap, ◌∙◌, arith}
+use Rattle.std.proofs.lemmas.Bool.{eqb-true}
+use Rattle.std.proofs.lemmas.List.{take_all}
 use Rattle.tv_check.specs.Meaning.{Tells}
 use Rattle.tv_check.specs.Verdict.{HasRoom, judge, verdict_of}
 use Rattle.tv_check.specs.declared.verdict.Verdict.{Verdict}
-use Rattle.tv_check.specs.declared.verdict.Verdict.TheVariants.{Yes}
+use Rattle.tv_check.specs.declared.verdict.Verdict.TheVariants.{Yes, WireCount}
 use Rattle.tv_check.proofs.Room.{has_room}
 use Rattle.tv_check.proofs.Verdicts.{yes_exactly, no_exactly}
 use Rattle.tv_core.specs.Constraints.{System}
 use Rattle.tv_core.specs.declared.field.TheConstants.{P}
+use Rattle.tv_core.specs.declared.lines.Counts.{Counts}
 use Rattle.tv_files.specs.Outside.{Names, Outside}
-use Rattle.tv_container.specs.Places.{Fault}
 use Rattle.tv_r1cs_read.specs.R1cs.{system_of}
-use Rattle.tv_r1cs_read.specs.Survey.{survey_of}
-use Rattle.tv_wtns.specs.Wtns.{assignment_of}
+use Rattle.tv_r1cs_read.specs.Survey.{survey_of, system_counts}
+use Rattle.tv_wtns.specs.Wtns.{Firsts, firsts_of, assignment_of}
 use Rattle.tv_wtns.proofs.ValueLaws.{assignments_below}
-use Rattle.tv_top.specs.declared.refusal.Bad.{Bad}
 use Rattle.tv_top.specs.declared.refusal.Size.TheVariants.{TapeWords}
 use Rattle.tv_top.specs.declared.refusal.Stop.{Stop}
-use Rattle.tv_top.specs.declared.status.Status.{Status}
-use Rattle.tv_top.specs.Answers.{Answers}
-use Rattle.tv_top.specs.Checking.{check_of, check_again, check_tape, check_witness, check_twice, check_ends, check_plan, IsJudged, HasVerdict, Checks}
-use Rattle.tv_top.specs.Claims.{Holds}
-use Rattle.tv_top.specs.Containers.{system_bad, witness_bad, container_result, system_in, witness_in}
+use Rattle.tv_top.specs.Checking.{check_of, check_again, check_counted, check_tape, check_witness, check_twice, check_ends, check_plan, IsJudged, HasVerdict, OnCheck}
+use Rattle.tv_top.specs.Containers.{system_bad, witness_bad, container_result, system_in, witness_in, firsts_in_witness}
 use Rattle.tv_top.specs.Finds.{Finds}
-use Rattle.tv_top.specs.Plan.{Look, ◌>>=◌, held_at, input}
+use Rattle.tv_top.specs.Plan.{Look, ◌>>=◌, look_on, held_at, input, map_ok}
 use Rattle.tv_top.specs.Tapes.{publics_in, tape_sizes}
-use Rattle.tv_top.proofs.Looking.{finds_same}
-use Rattle.tv_top.proofs.Claiming.{IsHeld, IsOne, comes, made_is, held_input, held_then, one_holds, one_then}
+use Rattle.tv_top.proofs.ContainerReads.{part_held, read_of}
+use Rattle.tv_top.proofs.Claiming.{Promises, Shows, comes, made_is, shows_input, shows_then}
 
--- ---- the system is read twice
+-- ---- reading the system twice, and as many values as wires, is reading each once and whole
 
--- the look at a system, at which the file holds this
-abbrev twice : (List ℕ → Result Verdict Bad) → Option (List ℕ) → Look Verdict
-twice read file = record { at = 3; gives = held_at 1 read file }
+-- the verdict by the first values and how many there are, where so many wires were counted
+abbrev counted : Result Verdict Stop → ℕ → Firsts → Look Verdict
+counted again wires first = if first.count == wires then record { at = 3; gives = again } else record { at = 3; gives = Ok (WireCount first.count wires) }
 
-by_system : (file : List ℕ) (witness tape : Look (List ℕ)) (found : Result System Fault) → system_of file ≡ found →
-    (record { at = 1; gives = held_at 1 (λ file. container_result system_bad (survey_of file)) (Some file) } >>= λ _. witness >>= λ z. tape >>= λ x.
-    twice (λ file. container_result system_bad (verdict_of file z x)) (Some file))
-    ≡ (record { at = 1; gives = held_at 1 system_in (Some file) } >>= λ s. witness >>= λ z. tape >>= λ x. record { at = 3; gives = Ok (judge s z x) })
-unfolding survey_of verdict_of
-by_system file witness tape (Ok s) is = rw is refl
-by_system file witness tape (Err fault) is = rw is refl
+-- it is that by all values: the first are all where there are as many as wires
+by_count : (s : System) (z x : List ℕ) (same : Bool) → (length z == s.wires) ≡ same → counted (Ok (judge s (take s.wires z) x)) s.wires (firsts_of s.wires z) ≡ record { at = 3; gives = Ok (judge s z x) }
+by_count s z x true e = rw (take_all s.wires z (omega (arith, eqb-true (length z) s.wires e)), e) refl
+by_count s z x false e = rw e refl
 
-by_file : (file : Option (List ℕ)) (witness tape : Look (List ℕ)) →
-    (record { at = 1; gives = held_at 1 (λ file. container_result system_bad (survey_of file)) file } >>= λ _. witness >>= λ z. tape >>= λ x.
-    twice (λ file. container_result system_bad (verdict_of file z x)) file)
-    ≡ (record { at = 1; gives = held_at 1 system_in file } >>= λ s. witness >>= λ z. tape >>= λ x. record { at = 3; gives = Ok (judge s z x) })
-by_file None witness tape = refl
-by_file (Some file) witness tape = by_system file witness tape (system_of file) refl
+-- each look at a part of what a file holds gives that part
+by_parts : (s : Result System Stop) (z x : Result (List ℕ) Stop) (counts : Result Counts Stop) (first : ℕ → Result Firsts Stop) (again : List ℕ → List ℕ → Result Verdict Stop) →
+    counts ≡ map_ok system_counts s → ((most : ℕ) → first most ≡ map_ok (firsts_of most) z) → ((z x : List ℕ) → again z x ≡ map_ok (λ s. judge s z x) s) →
+    look_on 1 counts (λ counts. look_on 2 (first counts.wires) (λ first. look_on 3 x (λ x. counted (again first.values x) counts.wires first)))
+    ≡ look_on 1 s (λ s. look_on 2 z (λ z. look_on 3 x (λ x. record { at = 3; gives = Ok (judge s z x) })))
+by_parts (Ok s) (Ok z) (Ok x) counts first again is firsts tells =
+    rw (is, firsts s.wires, tells (take s.wires z) x) (ap (λ (look : Look Verdict). record { at = max 1 (max 2 (max 3 look.at)); gives = look.gives }) (by_count s z x (length z == s.wires) refl))
+by_parts (Ok s) (Ok z) (Err why) counts first again is firsts tells = rw (is, firsts s.wires) refl
+by_parts (Ok s) (Err why) x counts first again is firsts tells = rw (is, firsts s.wires) refl
+by_parts (Err why) z x counts first again is firsts tells = rw is refl
 
-pub once : (system witness tape : List ℕ) (files : Names) → check_twice system witness tape files ≡ check_of system witness tape files
-unfolding check_twice check_witness check_tape check_again check_of input
-once system witness tape files = by_file (files system) (input 2 witness_in witness files) (input 3 publics_in tape files)
+once : (system witness tape : List ℕ) (files : Names) → check_twice system witness tape files ≡ check_of system witness tape files
+unfolding check_twice check_witness check_tape check_again check_counted check_of survey_of verdict_of input
+once system witness tape files =
+    by_parts (held_at 1 system_in (files system)) (held_at 2 witness_in (files witness)) (held_at 3 publics_in (files tape)) _
+    (λ most. held_at 2 (firsts_in_witness most) (files witness)) (λ z x. held_at 1 (λ file. container_result system_bad (verdict_of file z x)) (files system))
+    (part_held 1 system_bad system_of system_counts (files system)) (λ most. part_held 2 witness_bad assignment_of (firsts_of most) (files witness)) (λ z x. part_held 1 system_bad system_of (λ s. judge s z x) (files system))
 
 -- what was found is what the plan looks for
 pub finds_once : (system witness tape : List ℕ) (old new : Outside) (found : Result Verdict Stop) → Finds (λ v. v) (1 ∷ 2 ∷ 3 ∷ 1 ∷ []) (tape_sizes TapeWords) (check_twice system witness tape) old new found →
     Finds (λ v. v) (1 ∷ 2 ∷ 3 ∷ []) (tape_sizes TapeWords) (check_of system witness tape) old new found
-finds_once system witness tape old new found finds = finds_same (λ v. v) (1 ∷ 2 ∷ 3 ∷ 1 ∷ []) (1 ∷ 2 ∷ 3 ∷ []) (tape_sizes TapeWords) (check_twice system witness tape) (check_of system witness tape) old new found (λ word at. elim at [
-  | inl first ↦ inl first
-  | inr (inl second) ↦ inr (inl second)
-  | inr (inr (inl third)) ↦ inr (inr (inl third))
-  | inr (inr (inr (inl again))) ↦ inl again
-  | inr (inr (inr (inr none))) ↦ absurd none
-]) (once system witness tape) finds
+finds_once system witness tape old new found finds = record {
+  told = λ files told. rw (← once system witness tape files) (finds.told files told);
+  absent = λ files told. rw (← once system witness tape files) (finds.absent files told);
+  only = finds.only;
+  caused = λ word e. let cause = finds.caused word e in (grind (arith, cause.0), cause.1);
+  limits = finds.limits;
+}
 
 -- ---- verdicts
-
-read_of : {A : Type 0} (bad : Fault → Bad) (read : Result A Fault) (x : A) → container_result bad read ≡ Ok x → read ≡ Ok x
-read_of bad (Ok found) x is = cc
-read_of bad (Err fault) x is = cc
 
 -- each verdict comes exactly where what it tells is so
 judged_exactly : (s : System) (z x : List ℕ) (verdict : Verdict) → HasRoom s → All (λ v. v < P) z → (judge s z x ≡ verdict) ↔ Tells verdict s z x
@@ -77,33 +75,22 @@ judged_exactly s z x other room below = no_exactly s z x other (λ e. cc)
 
 -- ---- the claim
 
-verdict_held : (s : System) (z x : List ℕ) → HasRoom s → All (λ v. v < P) z → IsHeld (Ok (judge s z x)) (IsJudged s z x)
-verdict_held s z x room below held e = record { verdict = judge s z x; is = sym (made_is (Ok (judge s z x)) held e); tells = (judged_exactly s z x (judge s z x) room below).0 refl }
+verdict_shown : (s : System) (z x : List ℕ) → HasRoom s → All (λ v. v < P) z → Shows (Ok (judge s z x)) (IsJudged s z x)
+verdict_shown s z x room below = record {
+  held = λ held e. record { verdict = judge s z x; is = sym (made_is (Ok (judge s z x)) held e); tells = (judged_exactly s z x (judge s z x) room below).0 refl };
+  one = λ one other a b. a.is ∙ ap (λ verdict. Ok verdict) (sym ((judged_exactly s z x a.verdict room below).1 a.tells) ∙ (judged_exactly s z x b.verdict room below).1 b.tells) ∙ sym b.is;
+}
 
-verdict_one : (s : System) (z x : List ℕ) → HasRoom s → All (λ v. v < P) z → IsOne (IsJudged s z x)
-verdict_one s z x room below one other a b =
-    a.is ∙ ap (λ verdict. Ok verdict) (sym ((judged_exactly s z x a.verdict room below).1 a.tells) ∙ (judged_exactly s z x b.verdict room below).1 b.tells) ∙ sym b.is
-
-has_room_in : (s : System) (file : Option (List ℕ)) → Holds system_in file (Ok s) → HasRoom s
-has_room_in s file holds = rw (read_of system_bad (system_of holds.bytes) s holds.reads) at (has_room holds.bytes)
-
-below_in : (z : List ℕ) (file : Option (List ℕ)) → Holds witness_in file (Ok z) → All (λ v. v < P) z
-below_in z file holds = assignments_below holds.bytes z (read_of witness_bad (assignment_of holds.bytes) z holds.reads)
-
-all_held : (system witness tape : List ℕ) (files : Names) → IsHeld (check_of system witness tape files).gives (HasVerdict files system witness tape)
+all_shown : (system witness tape : List ℕ) (files : Names) → Shows (check_of system witness tape files).gives (HasVerdict files system witness tape)
 unfolding check_of
-all_held system witness tape files =
-    held_then (input 1 system_in system files) _ (λ s. input 2 witness_in witness files >>= λ z. input 3 publics_in tape files >>= λ x. record { at = 3; gives = Ok (judge s z x) }) _ _ refl (held_input 1 system_in system files) (λ s in_system.
-    held_then (input 2 witness_in witness files) _ (λ z. input 3 publics_in tape files >>= λ x. record { at = 3; gives = Ok (judge s z x) }) _ _ refl (held_input 2 witness_in witness files) (λ z in_witness.
-    held_then (input 3 publics_in tape files) _ (λ x. record { at = 3; gives = Ok (judge s z x) }) _ _ refl (held_input 3 publics_in tape files) (λ x _.
-    verdict_held s z x (has_room_in s (files system) in_system) (below_in z (files witness) in_witness))))
+all_shown system witness tape files =
+    shows_then (input 1 system_in system files) (λ s. input 2 witness_in witness files >>= λ z. input 3 publics_in tape files >>= λ x. record { at = 3; gives = Ok (judge s z x) }) _ _ (shows_input 1 system_in system files) (λ s in_system.
+    shows_then (input 2 witness_in witness files) (λ z. input 3 publics_in tape files >>= λ x. record { at = 3; gives = Ok (judge s z x) }) _ _ (shows_input 2 witness_in witness files) (λ z in_witness.
+    shows_then (input 3 publics_in tape files) (λ x. record { at = 3; gives = Ok (judge s z x) }) _ _ (shows_input 3 publics_in tape files) (λ x _.
+    verdict_shown s z x (rw (read_of system_bad (system_of in_system.bytes) s in_system.reads) at (has_room in_system.bytes))
+    (assignments_below in_witness.bytes z (read_of witness_bad (assignment_of in_witness.bytes) z in_witness.reads)))))
 
-all_one : (system witness tape : List ℕ) (files : Names) → IsOne (HasVerdict files system witness tape)
-all_one system witness tape files =
-    one_then _ _ (one_holds system_in (files system)) (λ s in_system. one_then _ _ (one_holds witness_in (files witness)) (λ z in_witness. one_then _ _ (one_holds publics_in (files tape)) (λ x _.
-    verdict_one s z x (has_room_in s (files system) in_system) (below_in z (files witness) in_witness))))
-
-pub checks : (words : ℕ) (files : Names) (system witness tape : List ℕ) (old new : Outside) (result : Status) → old.contents ≡ Some files → Answers (Ok (check_plan system witness tape)) words old new result →
-    Checks files system witness tape old new result
-checks words files system witness tape old new result told answers =
-    comes (check_plan system witness tape) check_ends (check_of system witness tape) (HasVerdict files system witness tape) words files old new result refl told answers (all_held system witness tape files) (all_one system witness tape files)
+pub checks : Promises OnCheck
+checks words count old new result answers system witness tape are files told =
+    comes (check_plan system witness tape) check_ends (check_of system witness tape) (HasVerdict files system witness tape) words count files old new result
+    (rw are refl) (tt, (tt, (tt, tt))) tt refl told answers (all_shown system witness tape files)

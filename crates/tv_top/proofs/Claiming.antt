@@ -1,17 +1,12 @@
 -- What commands promise their user, from how their calls end.
-use Rattle.std.proofs.Common.{◌≡◌, ◌≢◌, ℕ, ◌⊎◌, Bool, true, false, List, Option, Some, None, Result, Ok, Err, inl, inr, refl, sym, ap, ◌∙◌}
+use Rattle.std.proofs.Common.{◌≡◌, ◌≢◌, ℕ, ◌⊎◌, List, [], ◌∷◌, Option, Some, None, Result, Ok, Err, inl, inr, refl, sym, ap, ◌∙◌}
+use Rattle.std.specs.Prelude.{IfOk}
+use Rattle.std.proofs.lemmas.Bool.{le-ltb, false_from_ne_true}
 use Rattle.std.proofs.lemmas.Slice.Eq.{bytes_eq-Decides}
 use Rattle.std.specs.Str.{bytes_eq}
-use Rattle.tv_files.specs.Outside.{Names, Outside}
-use Rattle.tv_top.specs.declared.refusal.Bad.{Bad}
-use Rattle.tv_top.specs.declared.refusal.Stop.{Stop}
-use Rattle.tv_top.specs.declared.refusal.Stop.TheVariants.{Fault, Memory, Contents}
-use Rattle.tv_top.specs.declared.status.Status.{Status}
+use Rattle.tv_top.proofs.Common.{Names, Outside, Amount, Bad, Stop, Fault, Memory, Contents, Status, Answers, IsStopped, Holds, Then, status_by, Answered, Comes, IsAnswered, Ends, Named, Plan, Look, Outcome, AreWithin, ◌>>=◌, held_at, input, made_of, comes_by, answer_by, answer_of, same_in, same_of, limit_of, request_of}
 use Rattle.tv_top.specs.declared.status.Status.TheVariants as status
-use Rattle.tv_top.specs.Answers.{Answers}
-use Rattle.tv_top.specs.Claims.{IsStopped, Holds, Then, status_by, Answered, Comes}
-use Rattle.tv_top.specs.Ends.{IsAnswered, Ends}
-use Rattle.tv_top.specs.Plan.{Named, Plan, Look, Outcome, ◌>>=◌, held_at, input, made_of, comes_by, answer_by, answer_of}
+use Rattle.tv_top.specs.Form.{form}
 
 -- ---- any plan
 
@@ -36,6 +31,11 @@ IsHeld {A} gives Held = (held : Result A Bad) → gives ≡ made_of held → Hel
 abbrev pub IsOne : {A : Type 0} → (Result A Bad → Type 0) → Type 0
 IsOne {A} Held = (one other : Result A Bad) → Held one → Held other → one ≡ other
 
+-- it is so of what a look gives, and of one thing alone
+pub record Shows {A : Type 0} (gives : Result A Stop) (Held : Result A Bad → Type 0) : Type 0 where
+  pub held : IsHeld gives Held
+  pub one : IsOne Held
+
 -- how a call ended, by what is so of what was found
 abbrev Ended : {A : Type 0} → List Named → (A → Outcome) → (Result A Bad → Type 0) → Names → Outside → Outside → Status → Type 0
 Ended {A} places ends Held files old new result =
@@ -54,16 +54,6 @@ exactly : {A : Type 0} (places : List Named) (ends : A → Outcome) (Held : Resu
 exactly places ends Held files old new result one (inl answered) held has = inl (answered.status ∙ ap (status_by ends) (one answered.held held answered.is has))
 exactly places ends Held files old new result one (inr stopped) held has = inr stopped
 
--- a plan comes to what its look gives
-pub comes : {A : Type 0} (plan : Plan) (ends : A → Outcome) (look : Names → Look A) (Held : Result A Bad → Type 0) (words : ℕ) (files : Names) (old new : Outside) (result : Status) → plan.comes ≡ (λ files. comes_by ends (look files)) →
-    old.contents ≡ Some files → Answers (Ok plan) words old new result → IsHeld (look files).gives Held → IsOne Held → Comes plan.writes ends Held files old new result
-comes plan ends look Held words files old new result is told answers holds one =
-    let ended : Ended plan.writes ends Held files old new result = elim (due_or_stopped plan words files old new result answers (answers.ends files told)) [
-      | inl answered ↦ ended_by plan ends (look files) (look files).gives Held words files old new result refl answers holds (rw is at answered)
-      | inr stopped ↦ inr stopped
-    ] in
-    record { ended = ended; exactly = exactly plan.writes ends Held files old new result one ended }
-
 -- ---- looks
 
 pub made_is : {A : Type 0} (one other : Result A Bad) → made_of one ≡ made_of other → one ≡ other
@@ -81,33 +71,92 @@ file_held : {A : Type 0} (word : ℕ) (read : List ℕ → Result A Bad) (file :
 file_held word read None held e = let never = (not_stopped held (Fault word) e).1 in cc
 file_held word read (Some bytes) held e = record { bytes = bytes; there = refl; reads = made_is (read bytes) held e }
 
--- what is read of a file is what it holds
-pub held_input : {A : Type 0} (word : ℕ) (read : List ℕ → Result A Bad) (name : List ℕ) (files : Names) → IsHeld (input word read name files).gives (Holds read (files name))
-unfolding input
-held_input word read name files = file_held word read (files name)
-
 -- and one look after another
-pub held_then : {A B : Type 0} (look : Look A) (gives : Result A Stop) (f : A → Look B) (First : Result A Bad → Type 0) (Second : A → Result B Bad → Type 0) → look.gives ≡ gives → IsHeld gives First →
+held_then : {A B : Type 0} (look : Look A) (gives : Result A Stop) (f : A → Look B) (First : Result A Bad → Type 0) (Second : A → Result B Bad → Type 0) → look.gives ≡ gives → IsHeld gives First →
     ((x : A) → First (Ok x) → IsHeld (f x).gives (Second x)) → IsHeld (look >>= f).gives (Then First Second)
 held_then look (Ok x) f First Second is first second held e = let has = first (Ok x) refl in inl (x, has, second x has held (rw is at e))
 held_then look (Err stop) f First Second is first second held e = let bad = not_stopped held stop (rw is at e) in inr (bad.0, first (Err bad.0) (ap Err bad.1), bad.2)
 
 -- ---- files hold one thing
 
-pub one_holds : {A : Type 0} (read : List ℕ → Result A Bad) (file : Option (List ℕ)) → IsOne (Holds read file)
+one_holds : {A : Type 0} (read : List ℕ → Result A Bad) (file : Option (List ℕ)) → IsOne (Holds read file)
 one_holds read file one other a b = let there = a.there in let also = b.there in let same : a.bytes ≡ b.bytes = cc in sym a.reads ∙ ap read same ∙ b.reads
 
-pub one_then : {A B : Type 0} (First : Result A Bad → Type 0) (Second : A → Result B Bad → Type 0) → IsOne First → ((x : A) → First (Ok x) → IsOne (Second x)) → IsOne (Then First Second)
+one_then : {A B : Type 0} (First : Result A Bad → Type 0) (Second : A → Result B Bad → Type 0) → IsOne First → ((x : A) → First (Ok x) → IsOne (Second x)) → IsOne (Then First Second)
 one_then First Second first second one other (inl (x, is, on)) (inl (y, also, next)) = let e = first (Ok x) (Ok y) is also in let same : y ≡ x = cc in second x is one other on (rw same at next)
 one_then First Second first second one other (inl (x, is, on)) (inr (bad, also, next)) = let e = first (Ok x) (Err bad) is also in cc
 one_then First Second first second one other (inr (bad, is, on)) (inl (y, also, next)) = let e = first (Err bad) (Ok y) is also in cc
 one_then First Second first second one other (inr (bad, is, on)) (inr (why, also, next)) = let e = first (Err bad) (Err why) is also in cc
 
--- ---- words
+-- ---- both
 
-pub differ_test : (one other : List ℕ) → one ≢ other → bytes_eq one other ≡ false
-differ_test one other differ = by_test (bytes_eq one other) refl
-  where
-    by_test : (same : Bool) → bytes_eq one other ≡ same → bytes_eq one other ≡ false
-    by_test true is = absurd (differ ((bytes_eq-Decides one other).0 is))
-    by_test false is = is
+-- what is read of a file is what it holds
+pub shows_input : {A : Type 0} (word : ℕ) (read : List ℕ → Result A Bad) (name : List ℕ) (files : Names) → Shows (input word read name files).gives (Holds read (files name))
+unfolding input
+shows_input word read name files = record { held = file_held word read (files name); one = one_holds read (files name) }
+
+pub shows_then : {A B : Type 0} (look : Look A) (f : A → Look B) (First : Result A Bad → Type 0) (Second : A → Result B Bad → Type 0) → Shows look.gives First → ((x : A) → First (Ok x) → Shows (f x).gives (Second x)) → Shows (look >>= f).gives (Then First Second)
+shows_then look f First Second first second =
+    record { held = held_then look look.gives f First Second refl first.held (λ x is. (second x is).held); one = one_then First Second first.one (λ x is. (second x is).one) }
+
+-- what is so of it tells more, and no more things
+pub shows_more : {A : Type 0} (gives : Result A Stop) (First Held : Result A Bad → Type 0) → Shows gives First → ((held : Result A Bad) → First held → Held held) → ((held : Result A Bad) → Held held → First held) → Shows gives Held
+shows_more gives First Held first to from = record { held = λ held e. to held (first.held held e); one = λ one other a b. first.one one other (from one a) (from other b) }
+
+-- what is made of what files hold
+pub shows_made : {A : Type 0} (made : Result A Bad) → Shows (made_of made) (λ held. held ≡ made)
+shows_made made = record { held = λ held e. sym (made_is made held e); one = λ one other a b. a ∙ sym b }
+
+-- ---- words that are granted
+
+-- none of these is this name
+abbrev IsOther : Named → List Named → Type 0
+IsOther one [] = Unit {0}
+IsOther one (other ∷ others) = (one.name ≢ other.name) × IsOther one others
+
+-- the names that are written are none of the others
+abbrev pub AreOther : List Named → List Named → Type 0
+AreOther [] [] = Unit {0}
+AreOther [] (w ∷ ws) = IsOther w ws × AreOther [] ws
+AreOther (r ∷ rs) ws = IsOther r ws × AreOther rs ws
+
+other_in : (one : Named) (others : List Named) → IsOther one others → same_in one others ≡ None
+other_in one [] other = refl
+other_in one (next ∷ others) other = rw (false_from_ne_true (bytes_eq one.name next.name) (λ is. other.0 ((bytes_eq-Decides one.name next.name).0 is))) (other_in one others other.1)
+
+other_of : (reads writes : List Named) → AreOther reads writes → same_of reads writes ≡ None
+other_of [] [] other = refl
+other_of [] (w ∷ ws) other = rw (other_in w ws other.0) (other_of [] ws other.1)
+other_of (r ∷ rs) ws other = rw (other_in r ws other.0) (other_of rs ws other.1)
+
+within_all : (amounts : List Amount) → AreWithin amounts → limit_of amounts ≡ None
+within_all [] within = refl
+within_all (one ∷ more) within = rw (le-ltb one.has one.least within.0, le-ltb one.most one.has within.1) (within_all more within.2)
+
+-- words that have the form of a plan whose names are others and whose quantities are within their limits ask for it
+pub granted : (plan : Plan) (words : List (List ℕ)) (count : ℕ) (old new : Outside) (result : Status) → form words ≡ Some plan → AreOther plan.reads plan.writes → AreWithin plan.amounts →
+    Answers (request_of (form words)) count old new result → Answers (Ok plan) count old new result
+granted plan words count old new result has other within asked = rw (has, other_of plan.reads plan.writes other, within_all plan.amounts within) at asked
+
+-- ---- any command
+
+-- words that have the form of a plan, which isn't refused, come to what its look gives
+pub comes : {A : Type 0} (plan : Plan) (ends : A → Outcome) (look : Names → Look A) (Held : Result A Bad → Type 0) (words : List (List ℕ)) (count : ℕ) (files : Names) (old new : Outside) (result : Status) →
+    form words ≡ Some plan → AreOther plan.reads plan.writes → AreWithin plan.amounts → plan.comes ≡ (λ files. comes_by ends (look files)) → old.contents ≡ Some files →
+    Answers (request_of (form words)) count old new result → Shows (look files).gives Held → Comes plan.writes ends Held files old new result
+comes plan ends look Held words count files old new result has other within is told asked shows =
+    let answers = granted plan words count old new result has other within asked in
+    let ended : Ended plan.writes ends Held files old new result = elim (due_or_stopped plan count files old new result answers (answers.ends files told)) [
+      | inl answered ↦ ended_by plan ends (look files) (look files).gives Held count files old new result refl answers shows.held (rw is at answered)
+      | inr stopped ↦ inr stopped
+    ] in
+    record { ended = ended; exactly = exactly plan.writes ends Held files old new result shows.one ended }
+
+-- what a clause of a command says comes of what every call promises
+abbrev pub Promises : (List (List ℕ) → Outside → Outside → Status → Type 0) → Type 0
+Promises On = (words : List (List ℕ)) (count : ℕ) (old new : Outside) (result : Status) → Answers (request_of (form words)) count old new result → On words old new result
+
+-- what is so of each value that there is
+pub if_ok : {A : Type 0} (held : Result A Bad) (P : A → Type 0) → ((x : A) → held ≡ Ok x → P x) → IfOk held P
+if_ok (Ok x) P so = so x refl
+if_ok (Err bad) P so = tt

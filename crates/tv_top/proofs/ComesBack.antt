@@ -5,12 +5,9 @@ use Rattle.tv_core.specs.declared.limits.TheConstants.{TEXT_BYTES}
 use Rattle.tv_disasm.specs.Disassembly.{disassembly_of}
 use Rattle.tv_disasm.proofs.TextLemmas.{text_assembles, text_tells, words_spell}
 use Rattle.tv_disasm.proofs.LengthLemmas.{text_short}
-use Rattle.tv_top.specs.declared.programs.Width.{Width}
-use Rattle.tv_top.specs.declared.programs.Width.TheVariants.{Bits16, Bits32}
+use Rattle.tv_top.proofs.Common.{Width, Bits16, Bits32, map_ok, bits, image_words, image_bytes, program_result, program_by, image_of}
 use Rattle.tv_top.specs.ComesBack.{ImageComesBack}
 use Rattle.tv_top.specs.Disassembling.{image_bytes_most}
-use Rattle.tv_top.specs.Plan.{map_ok}
-use Rattle.tv_top.specs.Programs.{bits, image_words, image_bytes, program_result, program_by, image_of}
 use Rattle.tv_top.proofs.ProgramLaws.{is_width}
 
 told : (width : Width) (text image : List ℕ) → width_of text ≡ bits width → image_of text ≡ map_ok image_bytes (program_by width text)

@@ -1,65 +1,90 @@
--- What reading a container comes to, by what its file holds.
-use Rattle.std.proofs.Common.{◌≡◌, ℕ, ◌≤◌, List, [], ◌∷◌, Option, Some, None, Result, Ok, Err, inl, inr, refl, ap, rules}
-use Rattle.tv_files.specs.Outside.{Names, Outside}
-use Rattle.tv_container.specs.Places.{Fault}
-use Rattle.tv_container.specs.Reading.{bytes_of, Known, GivesBy, Looks, IsMissing}
+-- From what reading a container came to, by what its file holds, to what a look at the file found.
+use Rattle.std.proofs.Common.{◌≡◌, ℕ, ◌≤◌, List, [], ◌∷◌, Option, Some, None, Result, Ok, Err, inl, inr, refl}
+use Rattle.std.specs.Prelude.{MatchResult}
+use Rattle.tv_top.proofs.Common.{Names, Outside, OnlyReads, MissesOnly, Rose, Bad, Size, Stop, MayStop, IsFound, Finds, Look, held_at, made_of, map_ok}
+use Rattle.tv_container.specs.Places.{Fault, ◌>>=◌}
+use Rattle.tv_container.specs.Reading.{bytes_of, Known, GivesBy, Looks, Stopped, IsMissing}
 use Rattle.tv_container.specs.declared.why.ReadRefusal.{ReadRefusal}
 use Rattle.tv_container.specs.declared.why.ReadRefusal.TheVariants as refusal
-use Rattle.tv_top.specs.declared.refusal.Bad.{Bad}
 use Rattle.tv_top.specs.declared.refusal.Bad.TheVariants.{Limit}
-use Rattle.tv_top.specs.declared.refusal.Size.{Size}
 use Rattle.tv_top.specs.declared.refusal.Stop.TheVariants as stop
 use Rattle.tv_top.specs.Containers.{container_result, refusal_stop, stop_of, system_bad, witness_bad}
-use Rattle.tv_top.specs.Finds.{IsFound, Finds}
-use Rattle.tv_top.specs.Plan.{held_at}
+use Rattle.tv_top.proofs.Looking.{finds_still}
 
--- the bytes of a name, where contents are told
-there : (old : Outside) (name file : List ℕ) (files : Names) → old.contents ≡ Some files → files name ≡ Some file → bytes_of old name ≡ Some file
-unfolding bytes_of
-there old name file files told is = rw (told, is) refl
+-- what a refusal of a reader is: a fault of this word, where it is that of reading, or contents that may be refused so
+abbrev pub StopsBy : ℕ → List Size → Type 0 → Stop → Type 0
+StopsBy word sizes Faulty (stop.Fault at) = (at ≡ word) × Faulty
+StopsBy word sizes Faulty stop.Memory = Unit {0}
+StopsBy word sizes Faulty (stop.Contents bad) = MayStop sizes (stop.Contents bad)
 
-module _ {Y A : Type 0} (view : Y → A) (word reach : ℕ) (name : List ℕ) (bad : Fault → Bad) (read : List ℕ → Result A Fault) (old : Outside) where
-  found : (result : Result Y ReadRefusal) → word ≤ reach → Known old name (λ file. GivesBy result view (read file)) → (IsMissing old name → result ≡ Err refusal.Fault) → (files : Names) → old.contents ≡ Some files → (file : Option (List ℕ)) → files name ≡ file →
-      IsFound view (record { at = reach; gives = held_at word (λ file. container_result bad (read file)) file }) (stop_of word bad result)
-  found (Err refusal.Fault) within gives missing files told file is = within
-  found (Err refusal.Memory) within gives missing files told file is = tt
-  found (Ok y) within gives missing files told (Some file) is = rw (gives file (there old name file files told is)) refl
-  found (Err (refusal.Bad at what)) within gives missing files told (Some file) is = let refuses = gives file (there old name file files told is) in rw (refuses.bad at what refl) refl
-  found result within gives missing files told None is = let never = missing (record { files = files; told = told; none = is }) in cc
+-- what a reader came to, as what a look comes to
+abbrev pub came : {Y E : Type 0} → (E → Stop) → Result Y E → Result Y Stop
+came stop (Ok y) = Ok y
+came stop (Err why) = Err (stop why)
 
-fault_only : (word : ℕ) (bad : Fault → Bad) (why : ReadRefusal) (at : ℕ) → refusal_stop word bad why ≡ stop.Fault at → (at ≡ word) × (why ≡ refusal.Fault)
-fault_only word bad refusal.Fault at e = (cc, refl)
-fault_only word bad _ at e = cc
+module _ {Y E A : Type 0} (view : Y → A) (of : E → Stop) (fault : E) (word : ℕ) (sizes : List Size) (name : List ℕ) (due : Option (List ℕ) → Look A) (old new : Outside) (Stands : E → Type 0) where
+  told : (result : Result Y E) → of fault ≡ stop.Fault word → word ≤ (due None).at → Known old name (λ file. IsFound view (due (Some file)) (came of result)) → (IsMissing old name → result ≡ Err fault) → (files : Names) → old.contents ≡ Some files →
+      (file : Option (List ℕ)) → files name ≡ file → IsFound view (due file) (came of result)
+  unfolding bytes_of
+  told result faulty within gives missing files tells (Some file) is = gives file (rw (tells, is) refl)
+  told result faulty within gives missing files tells None is = rw (missing (record { files = files; told = tells; none = is }), faulty) within
 
--- no fault of a container is a limit
+  -- a file was read by a reader that stands so after a refusal
+  pub finds_file : (result : Result Y E) → of fault ≡ stop.Fault word → word ≤ (due None).at → (due None).gives ≡ Err (stop.Fault word) → ((why : E) → StopsBy word sizes (why ≡ fault) (of why)) →
+      ((why : E) → Stands why → OnlyReads old new × MissesOnly old new name × (why ≡ fault → Rose old.read_faults new.read_faults)) → Known old name (λ file. IsFound view (due (Some file)) (came of result)) →
+      MatchResult result (λ _. new ≡ old) Stands → (IsMissing old name → result ≡ Err fault) → Finds view (word ∷ []) sizes (λ held. due (held name)) old new (came of result)
+  finds_file (Ok y) faulty within none stops stands gives looks missing = rw looks (finds_still view (word ∷ []) sizes (λ held. due (held name)) old y (λ files tells. told (Ok y) faulty within gives missing files tells (files name) refl))
+  finds_file (Err why) faulty within none stops stands gives looks missing = record {
+    told = λ files tells. told (Err why) faulty within gives missing files tells (files name) refl;
+    absent = λ files tells. elim ((stands why looks).1 files tells) [ inl same ↦ inl same | inr missed ↦ inr (word, rw missed none) ];
+    only = (stands why looks).0;
+    caused = λ at e. let same : of why ≡ stop.Fault at = cc in let is = rw same at (stops why) in (inl is.0, (stands why looks).2 is.1);
+    limits = λ what has most e. let same : of why ≡ stop.Contents (Limit what has most) = cc in rw same at (stops why);
+  }
+
+-- ---- systems and assignments
+
+-- no fault of the contents is a limit
 abbrev pub NoLimit : (Fault → Bad) → Type 0
-NoLimit bad = (fault : Fault) (what : Size) (has most : ℕ) → ¬ (bad fault ≡ Limit what has most)
-
-limitless : (word : ℕ) (bad : Fault → Bad) → NoLimit bad → (why : ReadRefusal) (what : Size) (has most : ℕ) → ¬ (refusal_stop word bad why ≡ stop.Contents (Limit what has most))
-limitless word bad none (refusal.Bad at why) what has most e = none (record { at = at; why = why }) what has most cc
-limitless word bad none _ what has most e = cc
+NoLimit bad = (fault : Fault) → MayStop [] (stop.Contents (bad fault))
 
 pub system_limitless : NoLimit system_bad
-system_limitless fault what has most e = cc
+system_limitless fault = tt
 
 pub witness_limitless : NoLimit witness_bad
-witness_limitless fault what has most e = cc
+witness_limitless fault = tt
+
+read_stops : (word : ℕ) (bad : Fault → Bad) → NoLimit bad → (why : ReadRefusal) → StopsBy word [] (why ≡ refusal.Fault) (refusal_stop word bad why)
+read_stops word bad none (refusal.Bad at what) = none (record { at = at; why = what })
+read_stops word bad none refusal.Fault = (refl, refl)
+read_stops word bad none refusal.Memory = tt
+
+read_told : {Y A : Type 0} (view : Y → A) (word reach : ℕ) (bad : Fault → Bad) (due : Result A Fault) (result : Result Y ReadRefusal) → word ≤ reach → GivesBy result view due →
+    IsFound view (record { at = reach; gives = made_of (container_result bad due) }) (stop_of word bad result)
+read_told view word reach bad due (Ok y) within gives = rw gives refl
+read_told view word reach bad due (Err (refusal.Bad at what)) within gives = rw (gives.bad at what refl) refl
+read_told view word reach bad due (Err refusal.Fault) within gives = within
+read_told view word reach bad due (Err refusal.Memory) within gives = tt
 
 -- what reading a container found
 pub finds_read : {Y A : Type 0} (view : Y → A) (word reach : ℕ) (name : List ℕ) (bad : Fault → Bad) (read : List ℕ → Result A Fault) (old new : Outside) (result : Result Y ReadRefusal) →
     word ≤ reach → NoLimit bad → Known old name (λ file. GivesBy result view (read file)) → Looks old new name result → (IsMissing old name → result ≡ Err refusal.Fault) →
     Finds view (word ∷ []) [] (λ held. record { at = reach; gives = held_at word (λ file. container_result bad (read file)) (held name) }) old new (stop_of word bad result)
-finds_read view word reach name bad read old new (Ok y) within none gives looks missing = record {
-  told = λ files told. found view word reach name bad read old (Ok y) within gives missing files told (files name) refl;
-  absent = λ files told. inl (ap (λ (outside : Outside). outside.absent) looks);
-  only = rw looks (record { contents = refl; said = refl; later = search rules });
-  caused = λ at e. cc;
-  limits = λ what has most e. cc;
-}
-finds_read view word reach name bad read old new (Err why) within none gives looks missing = record {
-  told = λ files told. found view word reach name bad read old (Err why) within gives missing files told (files name) refl;
-  absent = λ files told. elim (looks.there files told) [ inl same ↦ inl same | inr none ↦ inr (word, ap (held_at word (λ file. container_result bad (read file))) none) ];
-  only = looks.only;
-  caused = λ at e. let is = fault_only word bad why at cc in (inl is.0, looks.fault is.1);
-  limits = λ what has most e. absurd (limitless word bad none why what has most cc);
-}
+finds_read view word reach name bad read old new result within none gives looks missing =
+    finds_file view (refusal_stop word bad) refusal.Fault word [] name (λ file. record { at = reach; gives = held_at word (λ file. container_result bad (read file)) file }) old new (Stopped old new name) result refl within refl (read_stops word bad none)
+    (λ why stopped. (stopped.only, stopped.there, stopped.fault)) (λ file there. read_told view word reach bad (read file) result within (gives file there)) looks missing
+
+-- what a container comes to that isn't refused
+pub read_of : {A : Type 0} (bad : Fault → Bad) (read : Result A Fault) (x : A) → container_result bad read ≡ Ok x → read ≡ Ok x
+read_of bad (Ok found) x is = cc
+read_of bad (Err fault) x is = cc
+
+-- of a part of what a container holds
+part_made : {A B : Type 0} (bad : Fault → Bad) (part : A → B) (read : Result A Fault) → made_of (container_result bad (read >>= λ x. Ok (part x))) ≡ map_ok part (made_of (container_result bad read))
+part_made bad part (Ok x) = refl
+part_made bad part (Err fault) = refl
+
+pub part_held : {A B : Type 0} (word : ℕ) (bad : Fault → Bad) (read : List ℕ → Result A Fault) (part : A → B) (file : Option (List ℕ)) →
+    held_at word (λ file. container_result bad (read file >>= λ x. Ok (part x))) file ≡ map_ok part (held_at word (λ file. container_result bad (read file)) file)
+part_held word bad read part None = refl
+part_held word bad read part (Some bytes) = part_made bad part (read bytes)

@@ -1,12 +1,15 @@
+pub mod Common
 pub mod Spelling
 pub mod Looking
 pub mod Sizes
 pub mod ContainerReads
+pub mod ShrunkReads
 pub mod Answering
 pub mod Claiming
 pub mod Streaming
 pub mod ProgramLaws
 pub mod LoadingLaws
+pub mod AssignedLaws
 pub mod AssemblingClaim
 pub mod BuildingClaim
 pub mod WitnessingClaim

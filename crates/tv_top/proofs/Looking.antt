@@ -1,15 +1,9 @@
 -- Looks at files, one after another, and what is made of what they find.
-use Rattle.std.proofs.Common.{◌≡◌, ℕ, ◌≤◌, Bool, true, false, leb, List, [], ◌∷◌, ◌++◌, length, Option, Some, None, Result, Ok, Err, inl, inr, refl, ap, ◌∙◌, arith, rules}
-use Rattle.tv_files.specs.Outside.{Names, Outside}
-use Rattle.tv_top.specs.declared.refusal.Bad.{Bad}
+use Rattle.std.proofs.Common.{◌≡◌, ℕ, ◌+◌, nat_le, List, [], ◌∷◌, ◌++◌, length, Option, Some, None, Result, Ok, Err, inl, inr, refl, ap, ◌∙◌, arith, rules}
+use Rattle.std.proofs.lemmas.Bool.{cond_both}
+use Rattle.tv_top.proofs.Common.{Names, Outside, Bad, Flaw, Size, Stop, Fault, Memory, Contents, IsOneOf, IsFound, Finds, Makes, from_made, limited_bytes, Look, ◌>>=◌, Outcome, comes_by, map_ok, input, within, held_at, made_of}
 use Rattle.tv_top.specs.declared.refusal.Bad.TheVariants as bad
-use Rattle.tv_top.specs.declared.refusal.Flaw.{Flaw}
 use Rattle.tv_top.specs.declared.refusal.Flaw.TheVariants as flaw
-use Rattle.tv_top.specs.declared.refusal.Size.{Size}
-use Rattle.tv_top.specs.declared.refusal.Stop.{Stop}
-use Rattle.tv_top.specs.declared.refusal.Stop.TheVariants.{Fault, Memory, Contents}
-use Rattle.tv_top.specs.Finds.{IsOneOf, IsFound, Finds, Makes, from_made, limited_bytes}
-use Rattle.tv_top.specs.Plan.{Look, ◌>>=◌, Outcome, comes_by, map_ok, input, within, held_at, made_of}
 
 right_at : {A : Type 0} (x : A) (some more : List A) → IsOneOf x more → IsOneOf x (some ++ more)
 right_at x [] more at = at
@@ -38,16 +32,10 @@ finds_on view to some more few many due f old mid new x found one two = record {
   limits = λ what has most e. right_at what few many (two.limits what has most e);
 }
 
--- what is due may be said in other words, and of words in another order
-pub finds_same : {X A : Type 0} (view : X → A) (words others : List ℕ) (sizes : List Size) (due other : Names → Look A) (old new : Outside) (found : Result X Stop) → ((word : ℕ) → IsOneOf word words → IsOneOf word others) →
-    ((files : Names) → due files ≡ other files) → Finds view words sizes due old new found → Finds view others sizes other old new found
-finds_same view words others sizes due other old new found among same finds = record {
-  told = λ files told. rw (← same files) (finds.told files told);
-  absent = λ files told. rw (← same files) (finds.absent files told);
-  only = finds.only;
-  caused = λ word e. let cause = finds.caused word e in (among word cause.0, cause.1);
-  limits = finds.limits;
-}
+-- what was found once all is as it was
+pub finds_still : {X A : Type 0} (view : X → A) (words : List ℕ) (sizes : List Size) (due : Names → Look A) (outside : Outside) (x : X) → ((files : Names) → outside.contents ≡ Some files → (due files).gives ≡ Ok (view x)) →
+    Finds view words sizes due outside outside (Ok x)
+finds_still view words sizes due outside x is = record { told = is; absent = λ files told. inl refl; only = record { contents = refl; said = refl; later = search rules }; caused = λ word e. cc; limits = λ what has most e. cc }
 
 -- ---- what was made of what was read
 
@@ -93,11 +81,9 @@ made_after view of_read words few sizes look f at read made old new finds makes 
 limited_is : {A : Type 0} (word : ℕ) (what : Size) (most : ℕ) (f : List ℕ → Result A Bad) (file : Option (List ℕ)) (bytes : List ℕ) → limited_bytes word what most file ≡ Ok bytes →
     held_at word (within what most f) file ≡ made_of (f bytes)
 limited_is word what most f None bytes e = cc
-limited_is {A} word what most f (Some held) bytes e = by_size (leb (length held) most) refl
-  where
-    by_size : (fits : Bool) → leb (length held) most ≡ fits → held_at word (within what most f) (Some held) ≡ made_of (f bytes)
-    by_size true fits = let is : Ok held ≡ Ok bytes = rw fits at e in let same : held ≡ bytes = cc in rw (fits, same) refl
-    by_size false fits = let none = rw fits at e in cc
+limited_is word what most f (Some held) bytes e =
+    cond_both (nat_le (length held) most) (Ok held) (Err (Contents (bad.Limit what (most + 1) most))) (λ read. read ≡ Ok bytes → held_at word (within what most f) (Some held) ≡ made_of (f bytes))
+    (λ fits e. let same : held ≡ bytes = cc in rw (fits, same) refl) (λ _ e. cc) e
 
 -- what was made of a file of so many bytes
 pub made_found : {X Y A : Type 0} (view : X → A) (of_read : Y → List ℕ) (word : ℕ) (what : Size) (sizes : List Size) (most : ℕ) (f : List ℕ → Result A Bad) (name : List ℕ) (read : Y) (made : Result X Flaw) (old new : Outside) →
@@ -116,9 +102,9 @@ told_comes view f due (Err (Contents why)) is = ap (map_ok f) is
 told_comes view f due (Err (Fault word)) within = within
 told_comes view f due (Err Memory) any = tt
 
-same_stop : {X Y : Type 0} (f : X → Y) (found : Result X Stop) (stop : Stop) → map_ok f found ≡ Err stop → found ≡ Err stop
-same_stop f (Ok x) stop e = cc
-same_stop f (Err other) stop e = cc
+pub same_err : {X Y E : Type 0} (f : X → Y) (found : Result X E) (why : E) → map_ok f found ≡ Err why → found ≡ Err why
+same_err f (Ok x) why e = cc
+same_err f (Err other) why e = cc
 
 pub finds_comes : {X A : Type 0} (view : X → A) (f : A → Outcome) (words : List ℕ) (sizes : List Size) (due : Names → Look A) (old new : Outside) (found : Result X Stop) →
     Finds view words sizes due old new found → Finds (λ (o : Outcome). o) words sizes (λ files. comes_by f (due files)) old new (map_ok (λ x. f (view x)) found)
@@ -126,6 +112,6 @@ finds_comes view f words sizes due old new found finds = record {
   told = λ files told. told_comes view f (due files) found (finds.told files told);
   absent = λ files told. elim (finds.absent files told) [ inl same ↦ inl same | inr missing ↦ inr (missing.0, ap (map_ok f) missing.1) ];
   only = finds.only;
-  caused = λ word e. finds.caused word (same_stop (λ x. f (view x)) found (Fault word) e);
-  limits = λ what has most e. finds.limits what has most (same_stop (λ x. f (view x)) found (Contents (bad.Limit what has most)) e);
+  caused = λ word e. finds.caused word (same_err (λ x. f (view x)) found (Fault word) e);
+  limits = λ what has most e. finds.limits what has most (same_err (λ x. f (view x)) found (Contents (bad.Limit what has most)) e);
 }

@@ -1,26 +1,27 @@
--- What holds of a program that a file holds, and of quantities that words tell.
-use Rattle.std.proofs.Common.{◌≡◌, ◌≤◌, ℕ, ◌||◌, Bool, true, false, leb, ltb, nat_le, List, [], ◌∷◌, length, Option, Some, None, Result, Ok, Err, inl, inr, refl, arith}
+-- What holds of a program and of tapes that files hold, and of quantities that words tell.
+use Rattle.std.proofs.Common.{◌≡◌, ◌≤◌, ◌^◌, ℕ, ◌+◌, ◌||◌, nat_le, List, [], ◌∷◌, length, Option, Some, None, Result, Ok, Err, inl, inr, refl, arith}
 use Rattle.std.specs.Prelude.{IfOk, nat_lt}
-use Rattle.std.proofs.lemmas.Bool.{ltb-false}
+use Rattle.std.proofs.lemmas.Bool.{ltb-false, or_parts, cond_both}
 use Rattle.tv_asm.proofs.RangeLemmas.{images_short, images_words}
 use Rattle.tv_asm.specs.Assembly.{assembled}
 use Rattle.tv_asm.specs.declared.fault.AsmFault.{AsmFault}
 use Rattle.tv_asm.specs.declared.fault.AsmFault.TheVariants as asm
-use Rattle.tv_core.specs.declared.limits.TheConstants.{IMAGE_WORDS, TAPE_WORDS, STEPS, TEXT_BYTES}
+use Rattle.tv_core.specs.declared.limits.TheConstants.{IMAGE_WORDS, TAPE_WORDS, AUX_WORDS, STEPS, TEXT_BYTES}
 use Rattle.tv_layout.specs.Places.{WithinLimits}
 use Rattle.tv_step.specs.Range.{AreWords}
+use Rattle.tv_tape.proofs.Narrowing.{numbers_below, numbers_few}
+use Rattle.tv_tape.specs.Tape.{tape_of}
+use Rattle.tv_tape.specs.declared.items.TapeFault.{TapeFault}
+use Rattle.tv_tape.specs.declared.items.TapeFault.TheVariants as tape
 use Rattle.tv_word.specs.Widths.{IsWidth}
-use Rattle.tv_top.specs.declared.place.Amount.{Amount}
-use Rattle.tv_top.specs.declared.programs.Program.{Program}
-use Rattle.tv_top.specs.declared.programs.Width.{Width}
-use Rattle.tv_top.specs.declared.programs.Width.TheVariants.{Bits16, Bits32}
-use Rattle.tv_top.specs.declared.refusal.Bad.{Bad}
-use Rattle.tv_top.specs.declared.refusal.Refusal.{Refusal}
-use Rattle.tv_top.specs.declared.refusal.Size.{Size}
-use Rattle.tv_top.specs.declared.refusal.Size.TheVariants.{TextBytes}
-use Rattle.tv_top.specs.Claims.{Holds}
-use Rattle.tv_top.specs.Plan.{Named, AreWithin, first_of, same_of, limit_of, refusal_of, within}
-use Rattle.tv_top.specs.Programs.{HasImage, bits, image_words, width_told, program_result, program_by, program_of, program_in}
+use Rattle.tv_top.specs.Building.{size_amounts}
+use Rattle.tv_top.specs.Loading.{AreInputs, HasInputs}
+use Rattle.tv_top.specs.Tapes.{tape_result, numbers_of, numbers_in}
+use Rattle.tv_top.proofs.Common.{Names, Inputs, Amount, Program, Width, Bits16, Bits32, Bad, Refusal, Size, Holds, Named, AreWithin, first_of, same_of, limit_of, refusal_of, within, HasImage, bits, image_words, width_told, program_result, program_by, program_of, program_in, program_sizes}
+use Rattle.tv_top.specs.declared.refusal.Bad.TheVariants as bad
+use Rattle.tv_top.specs.declared.refusal.Refusal.TheVariants.{Limit}
+use Rattle.tv_top.specs.declared.refusal.Size.TheVariants.{TapeWords, AuxWords, TextBytes}
+use Rattle.tv_top.proofs.Answering.{AreApart}
 
 pub is_width : (width : Width) → IsWidth (bits width)
 is_width Bits16 = inl refl
@@ -28,11 +29,8 @@ is_width Bits32 = inr refl
 
 -- what comes of a file that may have so many bytes comes of its bytes
 pub within_ok : {A : Type 0} (what : Size) (most : ℕ) (read : List ℕ → Result A Bad) (bytes : List ℕ) (x : A) → within what most read bytes ≡ Ok x → read bytes ≡ Ok x
-within_ok what most read bytes x e = by_size (nat_le (length bytes) most) refl
-  where
-    by_size : (fits : Bool) → nat_le (length bytes) most ≡ fits → read bytes ≡ Ok x
-    by_size true is = rw is at e
-    by_size false is = let never = rw is at e in cc
+within_ok what most read bytes x e =
+    cond_both (nat_le (length bytes) most) (read bytes) (Err (bad.Limit what (most + 1) most)) (λ made. made ≡ Ok x → read bytes ≡ Ok x) (λ _ e. e) (λ _ e. cc) e
 
 image_by : (width : Width) (found : Result (List ℕ) AsmFault) (program : Program) → IfOk found (λ words. length words ≤ image_words width) → IfOk found (AreWords (bits width)) → program_result width found ≡ Ok program → HasImage program
 image_by width (Ok words) program short small e = let same : record { width = width; words = words } ≡ program = cc in rw (← same) (record { short = short; words = small })
@@ -58,6 +56,29 @@ within_limits program n t image few some most =
     let fits = few_words program.width in
     record { width = is_width program.width; words = image.words; image_fits = omega (arith, image.short, fits); tape_fits = few; some = some; steps_fit = most }
 
+-- ---- tapes that files hold
+
+tape_read : (word : ℕ) (what : Size) (read : Result (List ℕ) TapeFault) (numbers : List ℕ) → tape_result word what read ≡ Ok numbers → read ≡ Ok numbers
+tape_read word what (Err tape.Memory) numbers e = cc
+tape_read word what _ numbers e = cc
+
+-- the words of a tape
+pub numbers_are : (word : ℕ) (what : Size) (w most : ℕ) (file : Option (List ℕ)) (numbers : List ℕ) → Holds (numbers_in word what (2 ^ w) most) file (Ok numbers) → AreWords w numbers × (length numbers ≤ most)
+unfolding numbers_of
+numbers_are word what w most file numbers holds =
+    let is = tape_read word what (tape_of holds.bytes (2 ^ w) most) numbers (within_ok TextBytes TEXT_BYTES (numbers_of word what (2 ^ w) most) holds.bytes numbers holds.reads) in
+    (numbers_below holds.bytes numbers (2 ^ w) most is, numbers_few holds.bytes numbers (2 ^ w) most is)
+
+pub inputs_are : (text tape aux : List ℕ) (files : Names) (inputs : Inputs) → HasInputs files text tape aux (Ok inputs) → AreInputs inputs
+inputs_are text tape aux files inputs (inl (program, text_holds, inl (primary, tape_holds, inl (auxiliary, aux_holds, e)))) =
+    let first = numbers_are 2 TapeWords (bits program.width) TAPE_WORDS (files tape) primary tape_holds in
+    let second = numbers_are 3 AuxWords (bits program.width) AUX_WORDS (files aux) auxiliary aux_holds in
+    let same : record { program = program; tape = primary; aux = auxiliary } ≡ inputs = cc in
+    rw (← same) (record { image = has_image (files text) program text_holds; tape = first.0; tape_fits = first.1; aux = second.0; aux_fits = second.1 })
+inputs_are text tape aux files inputs (inl (program, text_holds, inl (primary, tape_holds, inr (bad, refused, e)))) = cc
+inputs_are text tape aux files inputs (inl (program, text_holds, inr (bad, refused, e))) = cc
+inputs_are text tape aux files inputs (inr (bad, refused, e)) = cc
+
 -- ---- words that aren't refused
 
 not_first : (one other : Option Refusal) → first_of one other ≡ None → other ≡ None
@@ -66,13 +87,14 @@ not_first (Some why) other e = cc
 
 unlimited : (amounts : List Amount) → limit_of amounts ≡ None → AreWithin amounts
 unlimited [] e = tt
-unlimited (one ∷ more) e = by_test (λ rest. unlimited more rest) (nat_lt one.has one.least) (nat_lt one.most one.has) refl refl
-  where
-    by_test : (limit_of more ≡ None → AreWithin more) → (few many : Bool) → nat_lt one.has one.least ≡ few → nat_lt one.most one.has ≡ many → AreWithin (one ∷ more)
-    by_test on true many less _ = let never = rw less at e in cc
-    by_test on false true less passed = let never = rw (less, passed) at e in cc
-    by_test on false false less passed = (ltb-false one.has one.least less, ltb-false one.most one.has passed, on (rw (less, passed) at e))
+unlimited (one ∷ more) e =
+    cond_both (nat_lt one.has one.least || nat_lt one.most one.has) (Some (Limit one.what one.has one.most)) (limit_of more) (λ found. found ≡ None → AreWithin (one ∷ more)) (λ _ e. cc)
+    (λ is rest. let tests = or_parts (nat_lt one.has one.least) (nat_lt one.most one.has) is in (ltb-false one.has one.least tests.0, ltb-false one.most one.has tests.1, unlimited more rest)) e
 
 -- the quantities of words that aren't refused are within their limits
 pub amounts_within : (reads writes : List Named) (amounts : List Amount) → refusal_of reads writes amounts ≡ None → AreWithin amounts
 amounts_within reads writes amounts e = unlimited amounts (not_first (same_of reads writes) (limit_of amounts) e)
+
+-- the file of a program text has no such quantities
+pub sizes_apart : (n t : ℕ) → AreApart (size_amounts n t) program_sizes
+sizes_apart n t = ((λ e. cc, (λ e. cc, tt)), ((λ e. cc, (λ e. cc, tt)), tt))

@@ -1,9 +1,7 @@
 -- The bytes that spell a word of 16 bits are the first of those that spell it in 32.
 use Rattle.std.proofs.Common.{◌≡◌, ◌/◌, ℕ, take, refl}
 use Rattle.tv_word.specs.Word.{word_bytes}
-use Rattle.tv_top.specs.declared.programs.Width.{Width}
-use Rattle.tv_top.specs.declared.programs.Width.TheVariants.{Bits16, Bits32}
-use Rattle.tv_top.specs.Programs.{bits}
+use Rattle.tv_top.proofs.Common.{Width, Bits16, Bits32, bits}
 
 pub word_spelled : (width : Width) (v : ℕ) → take (bits width / 8) (word_bytes 32 v) ≡ word_bytes (bits width) v
 word_spelled Bits16 v = refl

@@ -7,22 +7,19 @@ use Rattle.tv_container.specs.Written.{NotCreated}
 use Rattle.tv_core.specs.Constraints.{System}
 use Rattle.tv_core.specs.declared.sink.SinkFault.{SinkFault}
 use Rattle.tv_core.specs.declared.sink.SinkFault.TheVariants as sink
-use Rattle.tv_files.specs.Outside.{Outside}
+use Rattle.tv_top.proofs.Common.{Outside, bytes_in, IsRead, Writes, sink_cut, streamed, Write}
 use Rattle.tv_r1cs_write.specs.Streamed.{IsSystemStreamed}
 use Rattle.tv_wtns.specs.Streamed.{IsAssignmentStreamed}
-use Rattle.tv_top.specs.Contents.{bytes_in, IsRead}
-use Rattle.tv_top.specs.Contents.{Content.{Constraints, Values}}
-use Rattle.tv_top.specs.Ends.{Writes, sink_cut, streamed}
-use Rattle.tv_top.specs.Plan.{Write}
+use Rattle.tv_top.specs.Contents.{Content, Content.{Constraints, Values}}
 
-writes_streamed : (w : Write) (old new : Outside) (result : Result (Unit {0}) SinkFault) → IsStreamed old new w.name (bytes_in w.content) result → OnOk result (IsRead w.content) → Writes (w ∷ []) old new (streamed w.word result)
+pub writes_streamed : (w : Write) (old new : Outside) (result : Result (Unit {0}) SinkFault) → IsStreamed old new w.name (bytes_in w.content) result → OnOk result (IsRead w.content) → Writes (w ∷ []) old new (streamed w.word result)
 writes_streamed w old new (Ok done) is read = record { ended = (is.whole, (read, tt)); only = is.only }
 writes_streamed w old new (Err sink.Failed) is read = record { ended = (inl (refl, is.part), is.failed refl); only = is.only }
 writes_streamed w old new (Err sink.Memory) is read = record { ended = (w.word, inl (refl, is.part)); only = is.only }
 
 -- the file wasn't created
-pub writes_nothing : (w : Write) (old new : Outside) (fault : SinkFault) → NotCreated old new w.name fault → Writes (w ∷ []) old new (Err (sink_cut w.word fault))
-writes_nothing w old new fault none = writes_streamed w old new (Err fault) (not_created old new w.name (bytes_in w.content) fault none) tt
+pub writes_nothing : (word : ℕ) (name : List ℕ) (content : Content) (old new : Outside) (fault : SinkFault) → NotCreated old new name fault → Writes (record { word = word; name = name; content = content } ∷ []) old new (Err (sink_cut word fault))
+writes_nothing word name content old new fault none = writes_streamed (record { word = word; name = name; content = content }) old new (Err fault) (not_created old new name (bytes_in content) fault none) tt
 
 pub writes_system : (word : ℕ) (name : List ℕ) (system : System) (old new : Outside) (result : Result (Unit {0}) SinkFault) → IsSystemStreamed old new name system result →
     Writes (record { word = word; name = name; content = Constraints system } ∷ []) old new (streamed word result)

@@ -1,6 +1,6 @@
 -- `trial`: what it promises.
-use Rattle.std.proofs.Common.{◌≡◌, ℕ, ◌+◌, ◌*◌, ◌<◌, ◌≤◌, ◌^◌, false, true, ltb, List, [], ◌∷◌, length, All, if◌then◌else◌, count_by, Some, Ok, inl, inr, refl, ap, ◌∙◌, codes, arith}
-use Rattle.std.proofs.lemmas.Bool.{eq-eqb, le-ltb}
+use Rattle.std.proofs.Common.{◌≡◌, ℕ, ◌+◌, ◌*◌, ◌≤◌, true, List, [], ◌∷◌, length, All, if◌then◌else◌, count_by, Ok, inl, inr, refl, ap, ◌∙◌, arith}
+use Rattle.std.proofs.lemmas.Bool.{eq-eqb}
 use Rattle.std.proofs.lemmas.List.Elements.{All-head, All-tail}
 use Rattle.std.proofs.lemmas.List.Sums.{sum_by-cons}
 use Rattle.tv_benes.specs.declared.shape.Net.TheVariants.{Benes}
@@ -9,26 +9,15 @@ use Rattle.tv_core.specs.Meanings.{holds, product_in}
 use Rattle.tv_core.specs.declared.limits.TheConstants.{DRAWS}
 use Rattle.tv_draw.proofs.RunLaws.{drawn_is}
 use Rattle.tv_draw.specs.Drawing.{image_drawn, tape_drawn, aux_drawn, IsDrawn}
-use Rattle.tv_files.specs.Outside.{Names, Outside}
+use Rattle.tv_top.proofs.Common.{Outside, Status, Answers, IsStopped, request_of}
 use Rattle.tv_layout.proofs.Systems.{system_complete}
 use Rattle.tv_layout.specs.Places.{WithinLimits}
 use Rattle.tv_step.specs.Machine.{Accepts}
 use Rattle.tv_step.specs.Range.{AreWords}
-use Rattle.tv_word.specs.Numeral.{numeral}
-use Rattle.tv_top.specs.declared.status.Status.{Status}
 use Rattle.tv_top.specs.declared.status.Status.TheVariants.{FileFault}
-use Rattle.tv_top.specs.Answers.{Answers}
-use Rattle.tv_top.specs.Claims.{IsStopped}
 use Rattle.tv_top.specs.Form.{form}
-use Rattle.tv_top.specs.Plan.{request_of}
-use Rattle.tv_top.specs.Trialing.{trial_of, trial_plan, IsTrial, Tries, Trials}
-use Rattle.tv_top.proofs.Claiming.{due_or_stopped}
-
-pub request_is : (first second : List ℕ) (seed k : ℕ) → numeral 10 (2 ^ 64) first ≡ Some seed → numeral 10 (2 ^ 64) second ≡ Some k → 0 < k → k ≤ DRAWS → request_of (form (codes "trial" ∷ first ∷ second ∷ [])) ≡ Ok (trial_plan seed k)
-request_is first second seed k is_seed is_k some most =
-    let not_less : ltb k 1 ≡ false = le-ltb _ _ (omega arith) in
-    let not_more : ltb DRAWS k ≡ false = le-ltb _ _ most in
-    rw (is_seed, is_k, not_less, not_more) refl
+use Rattle.tv_top.specs.Trialing.{trial_of, trial_plan, IsTrial, Tries, OnTrial}
+use Rattle.tv_top.proofs.Claiming.{due_or_stopped, granted}
 
 all_hold : (z : List ℕ) (list : List Constraint) → All (λ constraint. Holds constraint z) list → count_by (holds z) list ≡ length list
 all_hold z [] each = refl
@@ -60,12 +49,14 @@ stopped words seed k old new result answers (inl fault) = elim (answers.caused f
 ]
 stopped words seed k old new result answers (inr memory) = inr (inr memory)
 
-pub trials : (words seed k : ℕ) (files : Names) (old new : Outside) (result : Status) → k ≤ DRAWS → old.contents ≡ Some files → Answers (Ok (trial_plan seed k)) words old new result → Trials words seed k old new result
-trials words seed k files old new result few told answers = record {
-  ended = elim (due_or_stopped (trial_plan seed k) words files old new result answers (answers.ends files told)) [
-    | inl answered ↦ inl (answered.status, answered.said)
-    | inr cut ↦ stopped words seed k old new result answers cut
-  ];
-  contents = answers.contents;
-  trial = trial_is seed k few;
-}
+pub trials : (words : List (List ℕ)) (count : ℕ) (old new : Outside) (result : Status) → Answers (request_of (form words)) count old new result → OnTrial words count old new result
+trials words count old new result asked first second seed k are is_seed is_k some most files told =
+    let answers = granted (trial_plan seed k) words count old new result (rw (are, is_seed, is_k) refl) tt (omega arith, most, tt) asked in
+    record {
+      ended = elim (due_or_stopped (trial_plan seed k) count files old new result answers (answers.ends files told)) [
+        | inl answered ↦ inl (answered.status, answered.said)
+        | inr cut ↦ stopped count seed k old new result answers cut
+      ];
+      contents = answers.contents;
+      trial = trial_is seed k most;
+    }

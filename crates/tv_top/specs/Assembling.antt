@@ -1,6 +1,6 @@
 -- `asm TEXT IMAGE`: the image of a program text.
-use Rattle.std.specs.Prelude.{ℕ, List, [], ◌∷◌, Result}
-use Rattle.tv_files.specs.Outside.{Names, Outside}
+use Rattle.std.specs.Prelude.{◌≡◌, ◌≢◌, ℕ, codes, List, [], ◌∷◌, Result}
+use Rattle.tv_files.specs.Outside.{Names, Outside, Told}
 use Rattle.tv_core.specs.declared.limits.TheConstants.{TEXT_BYTES}
 use Rattle.tv_top.specs.declared.refusal.Bad.{Bad}
 use Rattle.tv_top.specs.declared.refusal.Finish.TheVariants.{Quiet}
@@ -36,3 +36,8 @@ asm_plan text image = record {
 -- program text of this image, which IMAGE then holds, or it is refused for this.
 abbrev pub Asms : Names → List ℕ → List ℕ → Outside → Outside → Status → Type 0
 Asms files text image = Comes (asm_writes image) asm_ends (Holds image_in (files text)) files
+
+-- What a call promises that has these words, where they are those of `asm`.
+abbrev pub OnAsm : List (List ℕ) → Outside → Outside → Status → Type 0
+OnAsm words old new result = (text image : List ℕ) → words ≡ codes "asm" ∷ text ∷ image ∷ [] → text ≢ image
+    → Told old (λ files. Asms files text image old new result)

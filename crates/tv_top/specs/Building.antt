@@ -1,13 +1,14 @@
 -- `build TEXT N T SYSTEM`, which may have one more word, `waksman`: the system of a program's runs.
-use Rattle.std.specs.Prelude.{ℕ, codes, List, [], ◌∷◌, Option, Some, None, Result, IfOk, if◌then◌else◌}
+use Rattle.std.specs.Prelude.{◌≡◌, ◌≢◌, ◌<◌, ◌≤◌, ◌^◌, ℕ, codes, List, [], ◌∷◌, Option, Some, None, Result, IfOk, if◌then◌else◌}
 use Rattle.std.specs.Str.{bytes_eq}
 use Rattle.tv_benes.specs.declared.shape.Net.{Net}
 use Rattle.tv_benes.specs.declared.shape.Net.TheVariants.{Benes, Waksman}
 use Rattle.tv_core.specs.Constraints.{System}
 use Rattle.tv_core.specs.declared.limits.TheConstants.{TAPE_WORDS, STEPS}
-use Rattle.tv_files.specs.Outside.{Names, Outside}
+use Rattle.tv_files.specs.Outside.{Names, Outside, Told}
 use Rattle.tv_layout.specs.Reduces.{Reduces}
 use Rattle.tv_layout.specs.Systems.{system_of}
+use Rattle.tv_word.specs.Numeral.{numeral}
 use Rattle.tv_top.specs.declared.place.Amount.{Amount}
 use Rattle.tv_top.specs.declared.programs.Program.{Program}
 use Rattle.tv_top.specs.declared.refusal.Bad.{Bad}
@@ -59,3 +60,11 @@ pub record HasSystem (net : Net) (n t : ℕ) (text : Option (List ℕ)) (held : 
 -- their limits: TEXT holds a program, whose system SYSTEM then holds, or it is refused for this.
 abbrev pub Builds : Net → Names → List ℕ → ℕ → ℕ → List ℕ → Outside → Outside → Status → Type 0
 Builds net files text n t system = Comes (build_writes system) (build_ends net n t) (HasSystem net n t (files text)) files
+
+-- What a call promises that has these words, where they are those of `build`.
+abbrev pub OnBuild : List (List ℕ) → Outside → Outside → Status → Type 0
+OnBuild words old new result = (text n_word t_word system : List ℕ) (last : List (List ℕ)) (net : Net) (n t : ℕ)
+    → words ≡ codes "build" ∷ text ∷ n_word ∷ t_word ∷ system ∷ last
+    → net_word last ≡ Some net → numeral 10 (2 ^ 64) n_word ≡ Some n → numeral 10 (2 ^ 64) t_word ≡ Some t
+    → text ≢ system → n ≤ TAPE_WORDS → 0 < t → t ≤ STEPS
+    → Told old (λ files. Builds net files text n t system old new result)

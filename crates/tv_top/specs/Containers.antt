@@ -5,7 +5,7 @@ use Rattle.tv_container.specs.Places.{Fault}
 use Rattle.tv_r1cs_read.specs.R1cs.{system_of}
 use Rattle.tv_container.specs.declared.why.ReadRefusal.{ReadRefusal}
 use Rattle.tv_container.specs.declared.why.ReadRefusal.TheVariants as refusal
-use Rattle.tv_wtns.specs.Wtns.{assignment_of}
+use Rattle.tv_wtns.specs.Wtns.{Firsts, firsts, assignment_of}
 use Rattle.tv_top.specs.declared.refusal.Bad.{Bad}
 use Rattle.tv_top.specs.declared.refusal.Bad.TheVariants as bad
 use Rattle.tv_top.specs.declared.refusal.Stop.{Stop}
@@ -29,6 +29,10 @@ system_in file = container_result system_bad (system_of file)
 
 abbrev pub witness_in : List ℕ → Result (List ℕ) Bad
 witness_in file = container_result witness_bad (assignment_of file)
+
+-- the first values of an assignment, so many at most, and how many it has
+abbrev pub firsts_in_witness : ℕ → List ℕ → Result Firsts Bad
+firsts_in_witness most file = container_result witness_bad (firsts most (assignment_of file))
 
 -- what a refused reading of the container at a word is
 abbrev pub refusal_stop : ℕ → (Fault → Bad) → ReadRefusal → Stop

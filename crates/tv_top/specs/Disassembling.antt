@@ -1,10 +1,10 @@
 -- `disasm IMAGE TEXT` and `disasm IMAGE TEXT 16`: the program text of an image.
-use Rattle.std.specs.Prelude.{ℕ, codes, Option, Some, None, ◌%◌, ◌/◌, ◌==◌, List, [], ◌∷◌, length, Result, Ok, Err, if◌then◌else◌}
+use Rattle.std.specs.Prelude.{◌≡◌, ◌≢◌, ℕ, codes, Option, Some, None, ◌%◌, ◌/◌, ◌==◌, List, [], ◌∷◌, length, Result, Ok, Err, if◌then◌else◌}
 use Rattle.std.specs.Str.{bytes_eq}
 use Rattle.tv_disasm.specs.Disassembly.{disassembly_of}
 use Rattle.tv_disasm.specs.declared.fault.DisFault.{DisFault}
 use Rattle.tv_disasm.specs.declared.fault.DisFault.TheVariants as dis
-use Rattle.tv_files.specs.Outside.{Names, Outside}
+use Rattle.tv_files.specs.Outside.{Names, Outside, Told}
 use Rattle.tv_top.specs.declared.limits.TheConstants.{IMAGE_BYTES, IMAGE_BYTES_16}
 use Rattle.tv_top.specs.declared.programs.Width.{Width}
 use Rattle.tv_top.specs.declared.programs.Width.TheVariants.{Bits16, Bits32}
@@ -65,3 +65,9 @@ disasm_plan width image text = record {
 -- image of words of this width with this program text, which TEXT then holds, or it is refused for this.
 abbrev pub Disasms : Width → Names → List ℕ → List ℕ → Outside → Outside → Status → Type 0
 Disasms width files image text = Comes (disasm_writes text) disasm_ends (Holds (text_in width) (files image)) files
+
+-- What a call promises that has these words, where they are those of `disasm`.
+abbrev pub OnDisasm : List (List ℕ) → Outside → Outside → Status → Type 0
+OnDisasm words old new result = (image text : List ℕ) (last : List (List ℕ)) (width : Width)
+    → words ≡ codes "disasm" ∷ image ∷ text ∷ last → width_word last ≡ Some width → image ≢ text
+    → Told old (λ files. Disasms width files image text old new result)

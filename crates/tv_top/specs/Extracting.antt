@@ -1,15 +1,17 @@
 -- `extract TEXT N T WITNESS TAPE AUX`, which may have one more word, `waksman`: the run that an assignment of a
 -- program's system has.
-use Rattle.std.specs.Prelude.{◌≡◌, ℕ, List, [], ◌∷◌, Option, Some, None, Result, Ok, Err, IfOk}
+use Rattle.std.specs.Prelude.{◌≡◌, ◌≢◌, ◌<◌, ◌≤◌, ◌^◌, ℕ, codes, List, [], ◌∷◌, Option, Some, None, Result, Ok, Err, IfOk}
 use Rattle.tv_benes.specs.declared.shape.Net.{Net}
 use Rattle.tv_core.specs.Constraints.{Sat}
+use Rattle.tv_core.specs.declared.limits.TheConstants.{TAPE_WORDS, STEPS}
 use Rattle.tv_extract.specs.Extracting.{run_in}
 use Rattle.tv_extract.specs.declared.run.ExtractFault.{ExtractFault}
 use Rattle.tv_extract.specs.declared.run.ExtractFault.TheVariants as faults
 use Rattle.tv_extract.specs.declared.run.Run.{Run}
-use Rattle.tv_files.specs.Outside.{Names, Outside}
+use Rattle.tv_files.specs.Outside.{Names, Outside, Told}
 use Rattle.tv_step.specs.declared.end.End.TheVariants.{Answer}
 use Rattle.tv_tape.specs.Tape.{text_of}
+use Rattle.tv_word.specs.Numeral.{numeral}
 use Rattle.tv_top.specs.declared.extracting.Assignment.{Assignment}
 use Rattle.tv_top.specs.declared.programs.Program.{Program}
 use Rattle.tv_top.specs.declared.refusal.Bad.{Bad}
@@ -18,7 +20,7 @@ use Rattle.tv_top.specs.declared.refusal.Finish.TheVariants as finishes
 use Rattle.tv_top.specs.declared.status.NotRun.TheVariants.{WireCount, WideWire, NotARun}
 use Rattle.tv_top.specs.declared.status.Status.{Status}
 use Rattle.tv_extract.specs.Runs.{IsRunOf, HasRunIn}
-use Rattle.tv_top.specs.Building.{program_system, size_amounts}
+use Rattle.tv_top.specs.Building.{net_word, program_system, size_amounts}
 use Rattle.tv_top.specs.Claims.{Holds, Then, Comes}
 use Rattle.tv_top.specs.Containers.{witness_in}
 use Rattle.tv_top.specs.Contents.{Content.{Bytes}}
@@ -104,3 +106,11 @@ pub record HasAssigned (net : Net) (files : Names) (text : List ℕ) (n t : ℕ)
 abbrev pub Extracts : Net → Names → List ℕ → ℕ → ℕ → List ℕ → List ℕ → List ℕ → Outside → Outside → Status → Type 0
 Extracts net files text n t witness tape aux =
     Comes (extract_writes tape aux) (extract_ends net n t) (HasAssigned net files text n t witness) files
+
+-- What a call promises that has these words, where they are those of `extract`.
+abbrev pub OnExtract : List (List ℕ) → Outside → Outside → Status → Type 0
+OnExtract words old new result = (text first second witness tape aux : List ℕ) (last : List (List ℕ)) (net : Net) (n t : ℕ)
+    → words ≡ codes "extract" ∷ text ∷ first ∷ second ∷ witness ∷ tape ∷ aux ∷ last
+    → net_word last ≡ Some net → numeral 10 (2 ^ 64) first ≡ Some n → numeral 10 (2 ^ 64) second ≡ Some t
+    → text ≢ tape → text ≢ aux → witness ≢ tape → witness ≢ aux → tape ≢ aux → n ≤ TAPE_WORDS → 0 < t → t ≤ STEPS
+    → Told old (λ files. Extracts net files text n t witness tape aux old new result)

@@ -1,14 +1,16 @@
 -- `listing TEXT N T WITNESS BY OUT`: the lines of memory and tapes that an assignment of a program's system has.
-use Rattle.std.specs.Prelude.{ℕ, codes, List, [], ◌∷◌, Option, Some, None, Result, IfOk, if◌then◌else◌}
+use Rattle.std.specs.Prelude.{◌≡◌, ◌≢◌, ◌<◌, ◌≤◌, ◌^◌, ℕ, codes, List, [], ◌∷◌, Option, Some, None, Result, IfOk, if◌then◌else◌}
 use Rattle.std.specs.Str.{bytes_eq}
 use Rattle.tv_benes.specs.declared.shape.Net.TheVariants.{Benes}
 use Rattle.tv_core.specs.Constraints.{Sat}
+use Rattle.tv_core.specs.declared.limits.TheConstants.{TAPE_WORDS, STEPS}
 use Rattle.tv_extract.specs.declared.run.Run.{Run}
-use Rattle.tv_files.specs.Outside.{Names, Outside}
+use Rattle.tv_files.specs.Outside.{Names, Outside, Told}
 use Rattle.tv_listing.specs.Laws.{HasListing}
 use Rattle.tv_listing.specs.Listing.{assigned_lines, text_by}
 use Rattle.tv_listing.specs.declared.row.By.{By}
 use Rattle.tv_listing.specs.declared.row.By.TheVariants.{Time, Cell}
+use Rattle.tv_word.specs.Numeral.{numeral}
 use Rattle.tv_top.specs.declared.refusal.Bad.{Bad}
 use Rattle.tv_top.specs.declared.refusal.Finish.TheVariants.{Quiet}
 use Rattle.tv_top.specs.declared.status.Status.{Status}
@@ -59,3 +61,11 @@ pub record HasListed (files : Names) (text : List ℕ) (n t : ℕ) (witness : Li
 -- their limits.
 abbrev pub Lists : By → Names → List ℕ → ℕ → ℕ → List ℕ → List ℕ → Outside → Outside → Status → Type 0
 Lists by files text n t witness out = Comes (listing_writes out) (listing_ends by n t) (HasListed files text n t witness) files
+
+-- What a call promises that has these words, where they are those of `listing`.
+abbrev pub OnListing : List (List ℕ) → Outside → Outside → Status → Type 0
+OnListing words old new result = (text first second witness order out : List ℕ) (by : By) (n t : ℕ)
+    → words ≡ codes "listing" ∷ text ∷ first ∷ second ∷ witness ∷ order ∷ out ∷ []
+    → by_word order ≡ Some by → numeral 10 (2 ^ 64) first ≡ Some n → numeral 10 (2 ^ 64) second ≡ Some t
+    → text ≢ out → witness ≢ out → n ≤ TAPE_WORDS → 0 < t → t ≤ STEPS
+    → Told old (λ files. Lists by files text n t witness out old new result)

@@ -1,9 +1,10 @@
 -- `run TEXT TAPE AUX T`: the end of the machine's run on a program and two tapes.
-use Rattle.std.specs.Prelude.{◌≡◌, ℕ, List, [], ◌∷◌, Result, IfOk}
-use Rattle.tv_files.specs.Outside.{Names, Outside}
+use Rattle.std.specs.Prelude.{◌≡◌, ◌<◌, ◌≤◌, ◌^◌, ℕ, codes, List, [], ◌∷◌, Some, Result, IfOk}
+use Rattle.tv_files.specs.Outside.{Names, Outside, Told}
 use Rattle.tv_step.specs.Machine.{Accepts}
 use Rattle.tv_step.specs.declared.end.End.TheVariants.{Answer}
 use Rattle.tv_core.specs.declared.limits.TheConstants.{STEPS}
+use Rattle.tv_word.specs.Numeral.{numeral}
 use Rattle.tv_top.specs.declared.loading.Inputs.{Inputs}
 use Rattle.tv_top.specs.declared.refusal.Bad.{Bad}
 use Rattle.tv_top.specs.declared.refusal.Finish.TheVariants.{Run}
@@ -38,3 +39,10 @@ pub record HasRun (files : Names) (text tape aux : List ℕ) (steps : ℕ) (held
 -- What `run` promises over files that told their contents, T being within its limit.
 abbrev pub Runs : Names → List ℕ → List ℕ → List ℕ → ℕ → Outside → Outside → Status → Type 0
 Runs files text tape aux steps = Comes [] (run_ends steps) (HasRun files text tape aux steps) files
+
+-- What a call promises that has these words, where they are those of `run`.
+abbrev pub OnRun : List (List ℕ) → Outside → Outside → Status → Type 0
+OnRun words old new result = (text tape aux number : List ℕ) (steps : ℕ)
+    → words ≡ codes "run" ∷ text ∷ tape ∷ aux ∷ number ∷ []
+    → numeral 10 (2 ^ 64) number ≡ Some steps → 0 < steps → steps ≤ STEPS
+    → Told old (λ files. Runs files text tape aux steps old new result)

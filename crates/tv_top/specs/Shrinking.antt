@@ -1,8 +1,8 @@
 -- `shrink SYSTEM OUT`: a system with fewer private wires and the same solutions.
-use Rattle.std.specs.Prelude.{◌≡◌, ◌↔◌, ℕ, ◌+◌, nat_lt, List, [], ◌∷◌, take, Option, Some, None, Result, Ok, Err, IfOk, if◌then◌else◌}
+use Rattle.std.specs.Prelude.{◌≡◌, ◌≢◌, ◌↔◌, ℕ, ◌+◌, nat_lt, codes, List, [], ◌∷◌, take, Option, Some, None, Result, Ok, Err, IfOk, if◌then◌else◌}
 use Rattle.std.specs.List.{range_with_len}
 use Rattle.tv_core.specs.Constraints.{System, Sat}
-use Rattle.tv_files.specs.Outside.{Names, Outside}
+use Rattle.tv_files.specs.Outside.{Names, Outside, Told}
 use Rattle.tv_shrink.specs.Answers.{most, all_terms, first_wide}
 use Rattle.tv_shrink.specs.Shrinking.{Shrunken, shrink, at_wires}
 use Rattle.tv_shrink.specs.declared.fault.ShrinkFault.{ShrinkFault}
@@ -19,7 +19,7 @@ use Rattle.tv_top.specs.Claims.{Holds, Then, Comes}
 use Rattle.tv_top.specs.Containers.{system_in}
 use Rattle.tv_top.specs.Contents.{Content.{Rest}}
 use Rattle.tv_top.specs.Kinds.{is_quiet}
-use Rattle.tv_top.specs.Plan.{Named, Plan, Outcome, input, comes_by}
+use Rattle.tv_top.specs.Plan.{Named, Plan, Outcome, Look, ◌>>=◌, made_of, input, comes_by}
 
 -- the limits of a system's terms, and of the terms of one combination
 abbrev pub terms_bad : ℕ → Bad
@@ -46,14 +46,11 @@ abbrev pub shrunk_of : System → Result Shrunken Bad
 shrunk_of system =
     if nat_lt most (all_terms system) then Err (terms_bad (all_terms system)) else narrow_shrunk (first_wide system.constraints) system
 
--- what is left of a system that may be refused itself
-abbrev pub shrunk_from : Result System Bad → Result Shrunken Bad
-shrunk_from (Ok system) = shrunk_of system
-shrunk_from (Err bad) = Err bad
-
--- the file of a system: what is left of it
-abbrev pub shrunk_in : List ℕ → Result Shrunken Bad
-shrunk_in file = shrunk_from (system_in file)
+-- the file of a system: what is left of it, unless it is refused itself
+unfoldable pub shrunk_look : List ℕ → Names → Look Shrunken
+shrunk_look name files = do
+  system ← input 1 system_in name files
+  record { at = 1; gives = made_of (shrunk_of system) }
 
 abbrev pub shrink_ends : Shrunken → Outcome
 shrink_ends shrunken = record { files = Rest shrunken ∷ []; finish = Quiet }
@@ -71,7 +68,7 @@ shrink_plan system out = record {
   amounts = [];
   sizes = shrink_sizes;
   ends_by = is_quiet;
-  comes = λ files. comes_by shrink_ends (input 1 shrunk_in system files);
+  comes = λ files. comes_by shrink_ends (shrunk_look system files);
 }
 
 -- The numbers that satisfy the shrunk system are those that some assignment which satisfies the system has at the kept
@@ -90,3 +87,8 @@ pub record IsShrunk (system : System) (held : Result Shrunken Bad) : Type 0 wher
 -- and OUT then what is left of it, or one of the two is refused for this.
 abbrev pub Shrinks : Names → List ℕ → List ℕ → Outside → Outside → Status → Type 0
 Shrinks files system out = Comes (shrink_writes out) shrink_ends (Then (Holds system_in (files system)) IsShrunk) files
+
+-- What a call promises that has these words, where they are those of `shrink`.
+abbrev pub OnShrink : List (List ℕ) → Outside → Outside → Status → Type 0
+OnShrink words old new result = (system out : List ℕ) → words ≡ codes "shrink" ∷ system ∷ out ∷ [] → system ≢ out
+    → Told old (λ files. Shrinks files system out old new result)

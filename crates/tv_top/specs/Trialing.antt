@@ -1,5 +1,5 @@
 -- `trial SEED K`: the system of a program drawn from a number, tested on the values of its run.
-use Rattle.std.specs.Prelude.{◌≡◌, ℕ, ◌+◌, ◌%◌, ◌⊎◌, List, [], ◌∷◌, ◌++◌, length, Ok, sum_by, count_by}
+use Rattle.std.specs.Prelude.{◌≡◌, ◌<◌, ◌≤◌, ◌^◌, ℕ, ◌+◌, ◌%◌, ◌⊎◌, codes, List, [], ◌∷◌, ◌++◌, length, Some, Ok, sum_by, count_by}
 use Rattle.tv_benes.specs.declared.shape.Net.TheVariants.{Benes}
 use Rattle.tv_block.specs.Block.{block_of}
 use Rattle.tv_core.specs.Constraints.{System}
@@ -7,11 +7,12 @@ use Rattle.tv_core.specs.Meanings.{product_in, holds}
 use Rattle.tv_core.specs.declared.field.TheConstants.{P}
 use Rattle.tv_core.specs.declared.limits.TheConstants.{DRAWS}
 use Rattle.tv_draw.specs.Drawing.{image_drawn, tape_drawn, aux_drawn}
-use Rattle.tv_files.specs.Outside.{Names, Outside}
+use Rattle.tv_files.specs.Outside.{Names, Outside, Told}
 use Rattle.tv_layout.specs.Systems.{system_of, run_values}
 use Rattle.tv_layout.specs.Values.{IsFill}
 use Rattle.tv_step.specs.Machine.{Accepts}
 use Rattle.tv_word.specs.Counts.{Rose}
+use Rattle.tv_word.specs.Numeral.{numeral}
 use Rattle.tv_top.specs.declared.refusal.Finish.TheVariants as finishes
 use Rattle.tv_top.specs.declared.refusal.Quantity.TheVariants.{Draws}
 use Rattle.tv_top.specs.declared.refusal.Trial.{Trial}
@@ -79,3 +80,10 @@ pub record Trials (words seed k : ℕ) (old new : Outside) (result : Status) : T
   pub ended : Tries words seed k old new result
   pub contents : new.contents ≡ old.contents
   pub trial : IsTrial seed k
+
+-- What a call promises that has these words, so many, where they are those of `trial`.
+abbrev pub OnTrial : List (List ℕ) → ℕ → Outside → Outside → Status → Type 0
+OnTrial words count old new result = (first second : List ℕ) (seed k : ℕ)
+    → words ≡ codes "trial" ∷ first ∷ second ∷ []
+    → numeral 10 (2 ^ 64) first ≡ Some seed → numeral 10 (2 ^ 64) second ≡ Some k → 0 < k → k ≤ DRAWS
+    → Told old (λ _. Trials count seed k old new result)

@@ -1,10 +1,10 @@
 -- `witness TEXT TAPE AUX T WITNESS`, which may have one more word, `waksman`: the values of the wires of a program's
 -- system for a run that answers.
-use Rattle.std.specs.Prelude.{◌≡◌, ℕ, List, [], ◌∷◌, Option, Some, None, Result, IfOk}
+use Rattle.std.specs.Prelude.{◌≡◌, ◌≢◌, ◌<◌, ◌≤◌, ◌^◌, ℕ, codes, List, [], ◌∷◌, Option, Some, None, Result, IfOk}
 use Rattle.tv_benes.specs.declared.shape.Net.{Net}
 use Rattle.tv_block.specs.Block.{block_of}
 use Rattle.tv_core.specs.declared.limits.TheConstants.{STEPS}
-use Rattle.tv_files.specs.Outside.{Names, Outside}
+use Rattle.tv_files.specs.Outside.{Names, Outside, Told}
 use Rattle.tv_fill.specs.declared.fault.FillFault.{FillFault}
 use Rattle.tv_fill.specs.declared.fault.FillFault.TheVariants as fills
 use Rattle.tv_layout.specs.Systems.{run_values}
@@ -12,12 +12,14 @@ use Rattle.tv_layout.specs.Values.{IsFill}
 use Rattle.tv_step.specs.Machine.{Accepts}
 use Rattle.tv_step.specs.declared.end.End.{End}
 use Rattle.tv_step.specs.declared.end.End.TheVariants.{Answer, Undefined, Silent}
+use Rattle.tv_word.specs.Numeral.{numeral}
 use Rattle.tv_top.specs.declared.loading.Inputs.{Inputs}
 use Rattle.tv_top.specs.declared.refusal.Bad.{Bad}
 use Rattle.tv_top.specs.declared.refusal.Finish.{Finish}
 use Rattle.tv_top.specs.declared.refusal.Finish.TheVariants.{Quiet, NoRun}
 use Rattle.tv_top.specs.declared.refusal.Quantity.TheVariants.{Steps}
 use Rattle.tv_top.specs.declared.status.Status.{Status}
+use Rattle.tv_top.specs.Building.{net_word}
 use Rattle.tv_top.specs.Claims.{Comes}
 use Rattle.tv_top.specs.Contents.{Content.{Values}}
 use Rattle.tv_top.specs.Kinds.{is_witness}
@@ -75,3 +77,11 @@ pub record HasWitness (net : Net) (files : Names) (text tape aux : List ℕ) (t 
 abbrev pub Witnesses : Net → Names → List ℕ → List ℕ → List ℕ → ℕ → List ℕ → Outside → Outside → Status → Type 0
 Witnesses net files text tape aux t witness =
     Comes (witness_writes witness) (witness_ends net t) (HasWitness net files text tape aux t) files
+
+-- What a call promises that has these words, where they are those of `witness`.
+abbrev pub OnWitness : List (List ℕ) → Outside → Outside → Status → Type 0
+OnWitness words old new result = (text tape aux number name : List ℕ) (last : List (List ℕ)) (net : Net) (t : ℕ)
+    → words ≡ codes "witness" ∷ text ∷ tape ∷ aux ∷ number ∷ name ∷ last
+    → net_word last ≡ Some net → numeral 10 (2 ^ 64) number ≡ Some t
+    → text ≢ name → tape ≢ name → aux ≢ name → 0 < t → t ≤ STEPS
+    → Told old (λ files. Witnesses net files text tape aux t name old new result)

@@ -2,13 +2,15 @@
 //! and the verdict on them.
 ghost use Rattle.std.specs.Prelude.{◌≡◌, [], ◌∷◌};
 ghost use Rattle.tv_top.specs.Answers.{Answers};
-ghost use Rattle.tv_top.specs.Checking.{check_twice, check_witness, check_tape, check_plan};
+ghost use Rattle.tv_top.specs.Checking.{check_counted, check_plan, check_tape, check_twice};
+ghost use Rattle.tv_top.specs.Checking.{check_witness};
 ghost use Rattle.tv_top.specs.declared.refusal.Size.TheVariants.{TapeWords};
 ghost use Rattle.tv_top.specs.Finds.{Finds};
 ghost use Rattle.tv_top.specs.Plan.{refusal_of};
 ghost use Rattle.tv_top.specs.Tapes.{tape_sizes};
+ghost use Rattle.tv_wtns.specs.Wtns.{firsts_in};
 
-use crate::containers::{judge_system, read_witness, survey_system};
+use crate::containers::{judge_system, read_first_witness, survey_system};
 use crate::place::{Place, refusal_of};
 use crate::refusal::{Ending, Finish, Refusal, Stop};
 use crate::status::Status;
@@ -18,6 +20,32 @@ use std::alloc::Global;
 use tv_check::Verdict;
 use tv_core::F;
 use tv_files::Files;
+use tv_wtns::FirstValues;
+
+/// The verdict by the first values of the witness, of which as many were kept as the system has
+/// wires. Where there are more values, or fewer, the system isn't looked at again.
+#[tactic(auto, unfolding(crate::specs::Checking::check_counted))]
+fn check_counted<D: Files>(
+    alloc: Global,
+    files: &mut D,
+    system: &str,
+    wires: u32,
+    first: &FirstValues,
+    publics: &[F],
+) -> Result<Verdict, Stop>
+    ensures { Finds (λ v. v) (1 ∷ []) []
+        (λ files. check_counted system.now wires (firsts_in first.now) publics.now files)
+        (D.seen files.old) (D.seen files.new) result }
+{
+    if first.count == wires {
+        judge_system(alloc, files, system, &first.values, publics)
+    } else {
+        Ok(Verdict::WireCount {
+            has: u64::from(first.count),
+            wants: u64::from(wires),
+        })
+    }
+}
 
 /// The verdict once the system and the witness were read: by the tape at word 3, and the system
 /// again.
@@ -26,36 +54,40 @@ fn check_tape<D: Files>(
     alloc: Global,
     files: &mut D,
     system: &str,
-    values: &[F],
+    wires: u32,
+    first: &FirstValues,
     tape: &str,
 ) -> Result<Verdict, Stop>
     ensures { Finds (λ v. v) (3 ∷ 1 ∷ []) (tape_sizes TapeWords)
-        (check_tape system.now values.now tape.now)
+        (check_tape system.now wires (firsts_in first.now) tape.now)
         (D.seen files.old) (D.seen files.new) result }
 {
     let publics = read_publics(alloc, files, tape)?;
-    judge_system(alloc, files, system, values, &publics)
+    check_counted(alloc, files, system, wires, first, &publics)
 }
 
-/// The verdict once the system was read: by the witness at word 2 and the other two.
+/// The verdict once the system, of so many wires, was read: by the witness at word 2 and the other
+/// two. Of the witness as many values are kept.
 #[tactic(auto, unfolding(crate::specs::Checking::check_witness))]
 fn check_witness<D: Files>(
     alloc: Global,
     files: &mut D,
     system: &str,
+    wires: u32,
     witness: &str,
     tape: &str,
 ) -> Result<Verdict, Stop>
     ensures { Finds (λ v. v) (2 ∷ 3 ∷ 1 ∷ []) (tape_sizes TapeWords)
-        (check_witness system.now witness.now tape.now)
+        (check_witness system.now wires witness.now tape.now)
         (D.seen files.old) (D.seen files.new) result }
 {
-    let values = read_witness(alloc, files, 2, witness)?;
-    check_tape(alloc, files, system, &values, tape)
+    let first = read_first_witness(alloc, files, witness, wires)?;
+    check_tape(alloc, files, system, wires, &first, tape)
 }
 
 /// The verdict on the three files. The system is read twice, so that a fault of it comes before any
-/// other file is read, and its constraints are tried without being kept.
+/// other file is read, and its constraints are tried without being kept; once where the witness has
+/// another number of values.
 #[tactic(auto, unfolding(crate::specs::Checking::check_twice))]
 fn verdict_on<D: Files>(
     alloc: Global,
@@ -68,8 +100,8 @@ fn verdict_on<D: Files>(
         (check_twice system.now witness.now tape.now)
         (D.seen files.old) (D.seen files.new) result }
 {
-    survey_system(alloc, files, system)?;
-    check_witness(alloc, files, system, witness, tape)
+    let counts = survey_system(alloc, files, system)?;
+    check_witness(alloc, files, system, counts.wires, witness, tape)
 }
 
 /// What the words are refused for: nothing, since no file is written.

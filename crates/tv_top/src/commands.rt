@@ -1,25 +1,18 @@
 //! The top call: what the words ask for is done, and one line is said.
-ghost use Rattle.std.specs.Prelude.{◌≡◌, ◌≢◌, ◌<◌, ◌≤◌, ◌^◌, ℕ, List, [], ◌∷◌, length, map};
-ghost use Rattle.std.specs.Prelude.{string_bytes, codes, Some, None};
-ghost use Rattle.tv_files.specs.Outside.{Told};
-ghost use Rattle.tv_word.specs.Numeral.{numeral};
-ghost use Rattle.tv_core.specs.declared.limits.TheConstants.{DRAWS, STEPS, TAPE_WORDS};
-ghost use Rattle.tv_top.specs.declared.programs.Width.{Width};
+ghost use Rattle.std.specs.Prelude.{length, map, string_bytes, Ok};
 ghost use Rattle.tv_top.specs.Answers.{Answers};
-ghost use Rattle.tv_top.specs.Assembling.{Asms};
-ghost use Rattle.tv_benes.specs.declared.shape.Net.{Net};
-ghost use Rattle.tv_top.specs.Building.{net_word, Builds};
-ghost use Rattle.tv_top.specs.Checking.{Checks};
-ghost use Rattle.tv_top.specs.Disassembling.{width_word, Disasms};
-ghost use Rattle.tv_top.specs.Extracting.{Extracts};
+ghost use Rattle.tv_top.specs.Assembling.{OnAsm};
+ghost use Rattle.tv_top.specs.Building.{OnBuild};
+ghost use Rattle.tv_top.specs.Checking.{OnCheck};
+ghost use Rattle.tv_top.specs.Disassembling.{OnDisasm};
+ghost use Rattle.tv_top.specs.Extracting.{OnExtract};
 ghost use Rattle.tv_top.specs.Form.{form, plan_of};
-ghost use Rattle.tv_listing.specs.declared.row.By.{By};
-ghost use Rattle.tv_top.specs.Listing.{by_word, Lists};
-ghost use Rattle.tv_top.specs.Plan.{refusal_of, request_of};
-ghost use Rattle.tv_top.specs.Running.{Runs};
-ghost use Rattle.tv_top.specs.Shrinking.{Shrinks};
-ghost use Rattle.tv_top.specs.Trialing.{Trials};
-ghost use Rattle.tv_top.specs.Witnessing.{Witnesses};
+ghost use Rattle.tv_top.specs.Listing.{OnListing};
+ghost use Rattle.tv_top.specs.Plan.{AreWithin, request_of};
+ghost use Rattle.tv_top.specs.Running.{OnRun};
+ghost use Rattle.tv_top.specs.Shrinking.{OnShrink};
+ghost use Rattle.tv_top.specs.Trialing.{OnTrial};
+ghost use Rattle.tv_top.specs.Witnessing.{OnWitness};
 
 use crate::assembling::asm;
 use crate::building::build;
@@ -40,7 +33,7 @@ use tv_files::Files;
 
 /// Does a job, given the number of words.
 fn perform<D: Files>(alloc: Global, files: &mut D, words: usize, job: Job<'_>) -> Status
-    requires { let plan = plan_of job in refusal_of plan.reads plan.writes plan.amounts ≡ None }
+    requires { AreWithin (plan_of job).amounts }
     ensures { Answers (Ok (plan_of job.entry)) words (D.seen files.old) (D.seen files.new) result }
 {
     match job {
@@ -177,64 +170,26 @@ fn answer<D: Files>(alloc: Global, words: &[String], files: &mut D) -> Status
 pub fn command<D: Files>(alloc: Global, words: &[String], files: &mut D) -> Status
     ensures answers { Answers (request_of (form (map string_bytes words.now))) (length words.now)
         (D.seen files.old) (D.seen files.new) result }
-    ensures asm { (text image : List ℕ)
-        → map string_bytes words.now ≡ codes "asm" ∷ text ∷ image ∷ [] → text ≢ image
-        → Told (D.seen files.old) (λ held.
-        Asms held text image (D.seen files.old) (D.seen files.new) result) }
-    ensures disasm { (image text : List ℕ) (last : List (List ℕ)) (width : Width)
-        → map string_bytes words.now ≡ codes "disasm" ∷ image ∷ text ∷ last
-        → width_word last ≡ Some width → image ≢ text
-        → Told (D.seen files.old) (λ held.
-        Disasms width held image text (D.seen files.old) (D.seen files.new) result) }
-    ensures check { (system witness tape : List ℕ)
-        → map string_bytes words.now ≡ codes "check" ∷ system ∷ witness ∷ tape ∷ []
-        → Told (D.seen files.old) (λ held.
-        Checks held system witness tape (D.seen files.old) (D.seen files.new) result) }
-    ensures run { (text tape aux number : List ℕ) (steps : ℕ)
-        → map string_bytes words.now ≡ codes "run" ∷ text ∷ tape ∷ aux ∷ number ∷ []
-        → numeral 10 (2 ^ 64) number ≡ Some steps → 0 < steps → steps ≤ STEPS
-        → Told (D.seen files.old) (λ held.
-        Runs held text tape aux steps (D.seen files.old) (D.seen files.new) result) }
-    ensures build { (text n_word t_word system : List ℕ) (last : List (List ℕ)) (net : Net)
-        (n t : ℕ)
-        → map string_bytes words.now ≡ codes "build" ∷ text ∷ n_word ∷ t_word ∷ system ∷ last
-        → net_word last ≡ Some net → numeral 10 (2 ^ 64) n_word ≡ Some n
-        → numeral 10 (2 ^ 64) t_word ≡ Some t → text ≢ system → n ≤ TAPE_WORDS → 0 < t → t ≤ STEPS
-        → Told (D.seen files.old) (λ held.
-        Builds net held text n t system (D.seen files.old) (D.seen files.new) result) }
-    ensures witness { (text tape aux number name : List ℕ) (last : List (List ℕ)) (net : Net)
-        (t : ℕ)
-        → map string_bytes words.now ≡ codes "witness" ∷ text ∷ tape ∷ aux ∷ number ∷ name ∷ last
-        → net_word last ≡ Some net → numeral 10 (2 ^ 64) number ≡ Some t
-        → text ≢ name → tape ≢ name → aux ≢ name → 0 < t → t ≤ STEPS
-        → Told (D.seen files.old) (λ held.
-        Witnesses net held text tape aux t name (D.seen files.old) (D.seen files.new) result) }
-    ensures extract { (text first second witness tape aux : List ℕ) (last : List (List ℕ))
-        (net : Net) (n t : ℕ)
-        → map string_bytes words.now ≡ codes "extract" ∷ text ∷ first ∷ second ∷ witness ∷ tape
-        ∷ aux ∷ last
-        → net_word last ≡ Some net → numeral 10 (2 ^ 64) first ≡ Some n
-        → numeral 10 (2 ^ 64) second ≡ Some t → text ≢ tape → text ≢ aux → witness ≢ tape
-        → witness ≢ aux → tape ≢ aux → n ≤ TAPE_WORDS → 0 < t → t ≤ STEPS
-        → Told (D.seen files.old) (λ held. Extracts net held text n t witness tape aux
-        (D.seen files.old) (D.seen files.new) result) }
-    ensures trial { (first second : List ℕ) (seed k : ℕ)
-        → map string_bytes words.now ≡ codes "trial" ∷ first ∷ second ∷ []
-        → numeral 10 (2 ^ 64) first ≡ Some seed → numeral 10 (2 ^ 64) second ≡ Some k
-        → 0 < k → k ≤ DRAWS → Told (D.seen files.old) (λ _.
-        Trials (length words.now) seed k (D.seen files.old) (D.seen files.new) result) }
-    ensures shrink { (system out : List ℕ)
-        → map string_bytes words.now ≡ codes "shrink" ∷ system ∷ out ∷ [] → system ≢ out
-        → Told (D.seen files.old) (λ held.
-        Shrinks held system out (D.seen files.old) (D.seen files.new) result) }
-    ensures listing { (text first second witness order out : List ℕ) (by : By) (n t : ℕ)
-        → map string_bytes words.now ≡ codes "listing" ∷ text ∷ first ∷ second ∷ witness ∷ order
-        ∷ out ∷ []
-        → by_word order ≡ Some by → numeral 10 (2 ^ 64) first ≡ Some n
-        → numeral 10 (2 ^ 64) second ≡ Some t → text ≢ out → witness ≢ out
-        → n ≤ TAPE_WORDS → 0 < t → t ≤ STEPS
-        → Told (D.seen files.old) (λ held. Lists by held text n t witness out
-        (D.seen files.old) (D.seen files.new) result) }
+    ensures asm { OnAsm (map string_bytes words.now)
+        (D.seen files.old) (D.seen files.new) result }
+    ensures disasm { OnDisasm (map string_bytes words.now)
+        (D.seen files.old) (D.seen files.new) result }
+    ensures check { OnCheck (map string_bytes words.now)
+        (D.seen files.old) (D.seen files.new) result }
+    ensures run { OnRun (map string_bytes words.now)
+        (D.seen files.old) (D.seen files.new) result }
+    ensures build { OnBuild (map string_bytes words.now)
+        (D.seen files.old) (D.seen files.new) result }
+    ensures witness { OnWitness (map string_bytes words.now)
+        (D.seen files.old) (D.seen files.new) result }
+    ensures extract { OnExtract (map string_bytes words.now)
+        (D.seen files.old) (D.seen files.new) result }
+    ensures trial { OnTrial (map string_bytes words.now) (length words.now)
+        (D.seen files.old) (D.seen files.new) result }
+    ensures shrink { OnShrink (map string_bytes words.now)
+        (D.seen files.old) (D.seen files.new) result }
+    ensures listing { OnListing (map string_bytes words.now)
+        (D.seen files.old) (D.seen files.new) result }
 {
     answer(alloc, words, files)
 }

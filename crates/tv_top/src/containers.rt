@@ -2,20 +2,24 @@
 ghost use Rattle.std.specs.Prelude.{◌≡◌, [], ◌∷◌};
 ghost use Rattle.tv_check.specs.Verdict.{verdict_of};
 ghost use Rattle.tv_r1cs_read.specs.Survey.{survey_of};
+ghost use Rattle.tv_shrink.specs.Shrinking.{Shrunken};
 ghost use Rattle.tv_top.specs.Checking.{check_again};
 ghost use Rattle.tv_top.specs.Containers.{stop_of, container_result, system_bad, witness_bad};
-ghost use Rattle.tv_top.specs.Containers.{witness_in};
+ghost use Rattle.tv_top.specs.Containers.{firsts_in_witness, witness_in};
 ghost use Rattle.tv_top.specs.Finds.{Finds};
 ghost use Rattle.tv_top.specs.Plan.{input};
+ghost use Rattle.tv_top.specs.Shrinking.{shrink_sizes, shrink_stop, shrunk_look};
+ghost use Rattle.tv_wtns.specs.Wtns.{firsts_in};
 
-use crate::refusal::{Bad, Stop};
+use crate::refusal::{Bad, Size, Stop};
 use std::alloc::Global;
 use tv_check::{Verdict, check};
 use tv_container::ReadRefusal;
-use tv_core::{Counts, F};
+use tv_core::{Counts, F, TERMS};
 use tv_files::Files;
 use tv_r1cs_read::survey;
-use tv_wtns::read_values;
+use tv_shrink::{MOST_TERMS, ShrinkFault, Shrunk, shrink};
+use tv_wtns::{FirstValues, read_first_values, read_values};
 
 /// What reading the system came to, whose name stands at word 1, as what a look at files comes to.
 fn system_read<X: Drop>(read: Result<X, ReadRefusal>) -> Result<X, Stop>
@@ -67,6 +71,19 @@ pub(crate) fn read_witness<D: Files>(
     witness_read(word, read_values(alloc, files, name))
 }
 
+/// The first `most` values of the witness, whose name stands at word 2, and how many it has.
+pub(crate) fn read_first_witness<D: Files>(
+    alloc: Global,
+    files: &mut D,
+    name: &str,
+    most: u32,
+) -> Result<FirstValues, Stop>
+    ensures { Finds firsts_in (2 ∷ []) [] (input 2 (firsts_in_witness most) name.now)
+        (D.seen files.old) (D.seen files.new) result }
+{
+    witness_read(2, read_first_values(alloc, files, name, most))
+}
+
 /// The verdict by the system, whose name stands at word 1, after the other files were read.
 pub(crate) fn judge_system<D: Files>(
     alloc: Global,
@@ -79,4 +96,40 @@ pub(crate) fn judge_system<D: Files>(
         (D.seen files.old) (D.seen files.new) result }
 {
     system_read(check(alloc, files, name, values, publics))
+}
+
+/// What a refusal is of shrinking the system whose name stands at word 1.
+fn shrink_stop(fault: ShrinkFault) -> Stop
+    ensures { result ≡ shrink_stop fault }
+{
+    match fault {
+        ShrinkFault::Bad { at, why } => Stop::Contents(Bad::System { at, why }),
+        ShrinkFault::Terms { has } => Stop::Contents(Bad::Limit {
+            what: Size::SystemTerms,
+            has,
+            most: MOST_TERMS,
+        }),
+        ShrinkFault::Combination { has } => Stop::Contents(Bad::Limit {
+            what: Size::CombinationTerms,
+            has,
+            most: TERMS as u64,
+        }),
+        ShrinkFault::Fault => Stop::Fault { word: 1 },
+        ShrinkFault::Memory => Stop::Memory,
+    }
+}
+
+/// What is left of the system whose name stands at word 1.
+pub(crate) fn read_shrunk<D: Files>(
+    alloc: Global,
+    files: &mut D,
+    system: &str,
+) -> Result<Shrunk, Stop>
+    ensures { Finds (λ (s : Shrunken). s) (1 ∷ []) shrink_sizes (shrunk_look system.now)
+        (D.seen files.old) (D.seen files.new) result }
+{
+    match shrink(alloc, files, system) {
+        Ok(shrunk) => Ok(shrunk),
+        Err(fault) => Err(shrink_stop(fault)),
+    }
 }

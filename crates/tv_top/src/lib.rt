@@ -4,8 +4,6 @@
 
 mod assembling;
 mod building;
-#[cfg(test)]
-mod check_tests;
 mod checking;
 mod commands;
 mod containers;
@@ -19,13 +17,9 @@ mod line;
 mod listing;
 mod loading;
 mod place;
-#[cfg(test)]
-mod program_tests;
 mod programs;
 mod reasons;
 mod refusal;
-#[cfg(test)]
-mod run_tests;
 mod running;
 mod shrinking;
 mod status;

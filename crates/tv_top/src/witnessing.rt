@@ -29,12 +29,12 @@ use tv_wtns::FileValues;
 fn write_values<const W: u32, D: Files>(
     files: &mut D,
     place: Place<'_>,
-    filling: &Filling<W>,
+    filling: Filling<W>,
 ) -> Result<(), Cut>
     ensures { Writes (record {
       word = place.entry.word;
       name = place.entry.name.now;
-      content = Values filling.now.values;
+      content = Values filling.entry.values;
     } ∷ [])
         (D.seen files.old) (D.seen files.new) result }
 {
@@ -80,7 +80,7 @@ fn witness_by<const W: u32, D: Files>(
     let tape = inputs.tape.as_slice();
     match prepare::<W>(alloc, image, tape, inputs.aux.as_slice(), t, net) {
         Ok(filling) => {
-            let written = write_values(files, Place { word: 5, name }, &filling);
+            let written = write_values(files, Place { word: 5, name }, filling);
             close(files, words, written, Finish::Quiet)
         }
         Err(fault) => refuse(files, words, no_run(fault)),

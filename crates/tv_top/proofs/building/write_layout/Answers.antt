@@ -3,7 +3,6 @@ use Rattle.tv_block.specs.Block.{block_of}
 use Rattle.tv_layout.specs.Layout.{layout_of}
 use Rattle.tv_layout.specs.Systems.{system_of}
 use Rattle.tv_r1cs_write.proofs.Streaming.{IsBegun, streamed_some, streamed_all}
-use Rattle.tv_r1cs_write.specs.Streams.{Stream}
 use Rattle.tv_r1cs_write.specs.declared.stream.StreamSink.{StreamSink}
 use Rattle.tv_top.specs.Contents.{Content.{Constraints}}
 use Rattle.tv_top.proofs.Streaming.{writes_nothing, writes_system}
@@ -11,11 +10,9 @@ use Rattle.tv_top.proofs.building.write_layout.Given as given
 use Rattle.tv_top.proofs.building.write_layout.Goals as goal
 use Rattle.tv_top.proofs.building.write_layout.Goals.{In-Ok}
 
-abbrev seen : (g : given.Over) → StreamSink g.row.D.Denot → Stream
-seen g s = record { outside = g.D.Files.seen s.files.now; borrow = s.files.ghost_name; name = s.name.now; progress = s.writer }
-
-begun : (g : given.Over) (c : In-Ok g) → IsBegun (seen g) c.args.place.name.now (g.D.Files.seen c.args.files.now) c.in-Ok.sink (layout_of (block_of g.row.W) g.row.W c.args.net c.args.image.now c.args.n c.args.t)
-    (system_of g.row.W c.args.net c.args.image.now c.args.n c.args.t) c.sizes-counts.result
+begun : (g : given.Over) (c : In-Ok g) →
+    IsBegun (λ (s : StreamSink g.row.D.Denot). record { outside = g.D.Files.seen s.files.now; borrow = s.files.ghost_name; name = s.name.now; progress = s.writer }) c.args.place.name.now (g.D.Files.seen c.args.files.now)
+    c.in-Ok.sink (layout_of (block_of g.row.W) g.row.W c.args.net c.args.image.now c.args.n c.args.t) (system_of g.row.W c.args.net c.args.image.now c.args.n c.args.t) c.sizes-counts.result
 begun g c = record {
   creates = c.in-Ok.ensures.ok_creates;
   named = c.in-Ok.ensures.name;
@@ -31,17 +28,14 @@ begun g c = record {
 
 pub returns-in-Err : goal.returns-in-Err
 returns-in-Err g c =
-    let writes = writes_nothing (record { word = c.args.place.word; name = c.args.place.name.now; content = Constraints (system_of g.row.W c.args.net c.args.image.now c.args.n c.args.t) }) _ _ c.in-Err.refused.why c.in-Err.ensures.err_creates in
-    rw c.sink_cut.ensures (search (rules, writes))
+    rw c.sink_cut.ensures (search (rules, writes_nothing c.args.place.word c.args.place.name.now (Constraints (system_of g.row.W c.args.net c.args.image.now c.args.n c.args.t)) _ _ c.in-Err.refused.why c.in-Err.ensures.err_creates))
 
 pub returns-in-Ok-emit_system : goal.returns-in-Ok-emit_system
 returns-in-Ok-emit_system g c =
-    let is = streamed_all (seen g) _ _ _ _ _ _ (begun g (goal.at.returns-in-Ok-emit_system g c).In-Ok) c.emit_system.new.s _ c.in-Ok-emit_system.field-0 c.finish.result c.in-Ok-emit_system.ensures.puts c.finish.ensures in
-    let writes = writes_system c.args.place.word c.args.place.name.now (system_of g.row.W c.args.net c.args.image.now c.args.n c.args.t) _ _ c.finish.result is in
-    rw c.streamed.ensures (search (rules, writes))
+    let is = streamed_all _ _ _ _ _ _ _ (begun g (goal.at.returns-in-Ok-emit_system g c).In-Ok) c.emit_system.new.s _ c.in-Ok-emit_system.field-0 c.finish.result c.in-Ok-emit_system.ensures.puts c.finish.ensures in
+    rw c.streamed.ensures (search (rules, writes_system c.args.place.word _ _ _ _ c.finish.result is))
 
 pub returns-in-Err-emit_system : goal.returns-in-Err-emit_system
 returns-in-Err-emit_system g c =
-    let is = streamed_some (seen g) _ _ _ _ _ _ (begun g (goal.at.returns-in-Err-emit_system g c).In-Ok) c.emit_system.new.s c.in-Err-emit_system.fault c.in-Err-emit_system.ensures.puts in
-    let writes = writes_system c.args.place.word c.args.place.name.now (system_of g.row.W c.args.net c.args.image.now c.args.n c.args.t) _ _ _ is in
-    rw c.sink_cut-in-Err-emit_system.ensures (search (rules, writes))
+    let is = streamed_some _ _ _ _ _ _ _ (begun g (goal.at.returns-in-Err-emit_system g c).In-Ok) c.emit_system.new.s c.in-Err-emit_system.fault c.in-Err-emit_system.ensures.puts in
+    rw c.sink_cut-in-Err-emit_system.ensures (search (rules, writes_system c.args.place.word _ _ _ _ _ is))

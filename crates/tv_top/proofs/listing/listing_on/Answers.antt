@@ -1,9 +1,11 @@
+use Rattle.std.proofs.Common.{ap}
 use Rattle.tv_benes.specs.declared.shape.Net.TheVariants.{Benes}
 use Rattle.tv_extract.proofs.ExtractLaws.{extracted_is_run}
-use Rattle.tv_top.specs.Extracting.{assigned_in, assigned_run}
-use Rattle.tv_top.specs.Listing.{lines_written, listing_writes}
+use Rattle.tv_top.specs.Extracting.{assigned_in, assigned_run, run_ends}
+use Rattle.tv_top.specs.Listing.{lines_written}
 use Rattle.tv_top.specs.Programs.{bits}
-use Rattle.tv_top.proofs.ExtractingClaim.{completes_run, completes_none}
+use Rattle.tv_top.proofs.Answering.{completes_as}
+use Rattle.tv_top.proofs.AssignedLaws.{completes_none}
 use Rattle.tv_top.proofs.listing.listing_on.Goals as goal
 
 pub write_lines-requires-clause-within : goal.write_lines-requires-clause-within
@@ -13,8 +15,7 @@ write_lines-requires-clause-within g c =
     (extracted_is_run (bits assigned.program.width) Benes assigned.program.words assigned.z c.args.n c.args.t c.in-Ok.run' c.in-Ok.ensures.run).within
 
 pub returns-in-Ok : goal.returns-in-Ok
-returns-in-Ok g c = completes_run (listing_writes c.args.out.now) (lines_written c.args.by c.args.n c.args.t (assigned_in c.args.assigned.now)) _ c.in-Ok.run' c.args.words _ _ _ c.in-Ok.ensures.run c.write_lines.ensures
+returns-in-Ok g c = completes_as _ _ _ _ _ _ _ (ap (run_ends (lines_written c.args.by c.args.n c.args.t (assigned_in c.args.assigned.now))) c.in-Ok.ensures.run) c.write_lines.ensures
 
 pub returns-in-Err : goal.returns-in-Err
-returns-in-Err g c =
-    completes_none (listing_writes c.args.out.now) (lines_written c.args.by c.args.n c.args.t (assigned_in c.args.assigned.now)) _ c.in-Err.fault c.args.words _ _ _ c.in-Err.ensures.fault (rw c.not_run.ensures at c.refuse.ensures)
+returns-in-Err g c = completes_none _ (lines_written c.args.by c.args.n c.args.t (assigned_in c.args.assigned.now)) _ _ _ _ _ _ c.in-Err.ensures.fault (rw c.not_run.ensures at c.refuse.ensures)

@@ -1,10 +1,6 @@
-use Rattle.std.proofs.Common.{[], ◌∷◌, Ok, refl}
+use Rattle.std.proofs.Common.{Ok, refl}
 use Rattle.tv_top.specs.declared.loading.Inputs.{Inputs}
-use Rattle.tv_top.specs.declared.refusal.Size.TheVariants.{AuxWords}
-use Rattle.tv_top.specs.Loading.{aux_in, inputs_with}
-use Rattle.tv_top.specs.Plan.{input}
-use Rattle.tv_top.specs.Programs.{bits}
-use Rattle.tv_top.specs.Tapes.{tape_sizes}
+use Rattle.tv_top.specs.Loading.{inputs_with}
 use Rattle.tv_top.proofs.Looking.{made_after}
 use Rattle.tv_top.proofs.loading.inputs_with.Goals as goal
 
@@ -12,5 +8,4 @@ pub returns-clause-found : goal.returns-clause-found
 unfolding inputs_with
 returns-clause-found g c =
     let inputs : Inputs = record { program = c.args.program; tape = c.args.tape; aux = c.in_ok-aux.aux } in
-    made_after (λ (inputs : Inputs). inputs) (λ words. words) (3 ∷ []) (tape_sizes AuxWords) (tape_sizes AuxWords) (input 3 (aux_in (bits c.args.program.width)) c.args.aux.now)
-    (λ auxiliary. Ok (record { program = c.args.program; tape = c.args.tape; aux = auxiliary })) 3 _ (Ok inputs) _ _ (rw c.word_bound-below.ensures at c.in_ok-aux.ensures.found) refl (λ what has most e. cc)
+    made_after (λ (inputs : Inputs). inputs) _ _ _ _ _ (λ aux. Ok (record { program = c.args.program; tape = c.args.tape; aux = aux })) 3 _ (Ok inputs) _ _ (rw c.word_bound-below.ensures at c.in_ok-aux.ensures.found) refl (λ what has most e. cc)

@@ -1,16 +1,13 @@
 use Rattle.std.proofs.Common.{refl}
-use Rattle.tv_top.specs.declared.loading.Inputs.{Inputs}
-use Rattle.tv_top.specs.Loading.{inputs_of, run_end}
-use Rattle.tv_top.specs.Witnessing.{witness_plan, witness_ends}
+use Rattle.tv_top.specs.Loading.{run_end}
 use Rattle.tv_top.proofs.Answering.{answers_completed, answers_stopped}
 use Rattle.tv_top.proofs.RunningClaim.{run_apart}
 use Rattle.tv_top.proofs.WitnessingClaim.{may_end}
 use Rattle.tv_top.proofs.witnessing.witness.Goals as goal
 
 pub returns-in-Ok : goal.returns-in-Ok
-returns-in-Ok g c = answers_completed (witness_plan c.args.net c.args.text.now c.args.tape.now c.args.aux.now c.args.t c.args.witness.now) (λ (inputs : Inputs). inputs) (witness_ends c.args.net c.args.t) (inputs_of c.args.text.now c.args.tape.now c.args.aux.now) c.in-Ok.inputs c.args.words _ _ _ _
-    refl (may_end c.args.net c.args.t c.in-Ok.inputs (run_end c.args.t c.in-Ok.inputs)) (run_apart c.args.t) c.in-Ok.ensures.found c.witness_on.ensures
+returns-in-Ok g c =
+    answers_completed _ _ _ _ _ _ _ _ _ _ refl (may_end c.args.net c.args.t c.in-Ok.inputs (run_end c.args.t c.in-Ok.inputs)) (run_apart c.args.t) c.in-Ok.ensures.found c.witness_on.ensures
 
 pub returns-in-Err : goal.returns-in-Err
-returns-in-Err g c = answers_stopped (witness_plan c.args.net c.args.text.now c.args.tape.now c.args.aux.now c.args.t c.args.witness.now) (λ (inputs : Inputs). inputs) (witness_ends c.args.net c.args.t) (inputs_of c.args.text.now c.args.tape.now c.args.aux.now) c.in-Err.stop c.args.words _ _ _ _
-    refl (run_apart c.args.t) c.in-Err.ensures.found c.conclude.ensures
+returns-in-Err g c = answers_stopped _ _ _ _ _ _ _ _ _ _ refl (run_apart c.args.t) c.in-Err.ensures.found c.conclude.ensures

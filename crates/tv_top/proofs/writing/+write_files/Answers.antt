@@ -1,7 +1,6 @@
 use Rattle.std.proofs.Common.{ℕ, ◌≤◌, List, [], ◌∷◌, length, map, get_or, Option, inl, refl, arith}
-use Rattle.tv_files.specs.Outside.{Names}
+use Rattle.tv_top.proofs.Common.{Names, HasPartOf, IsCutAt}
 use Rattle.tv_top.specs.declared.place.Write.{Write}
-use Rattle.tv_top.specs.Ends.{HasPartOf, IsCutAt}
 use Rattle.tv_top.specs.Form.{to_write}
 use Rattle.tv_top.proofs.writing.+write_files.Goals as goal
 

@@ -1,6 +1,6 @@
 use Rattle.std.proofs.Common.{Ok, Err}
-use Rattle.tv_top.proofs.ShrinkingClaim.{finds_shrunk}
-use Rattle.tv_top.proofs.shrinking.read_shrunk.Goals as goal
+use Rattle.tv_top.proofs.ShrunkReads.{finds_shrunk}
+use Rattle.tv_top.proofs.containers.read_shrunk.Goals as goal
 
 pub returns-in-Ok : goal.returns-in-Ok
 returns-in-Ok g c = finds_shrunk c.args.system.now _ _ (Ok c.in-Ok.shrunk) c.in-Ok.ensures.gives c.in-Ok.ensures.looks c.in-Ok.ensures.missing

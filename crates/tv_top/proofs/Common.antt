@@ -1,0 +1,31 @@
+-- The names that most proofs here cite, passed on from one place. Declares nothing.
+pub use Rattle.tv_files.specs.Outside.{Names, Outside, OnlyWrites, OnlyReads, MissesOnly}
+pub use Rattle.tv_word.specs.Counts.{Rose}
+pub use Rattle.tv_top.specs.declared.place.Amount.{Amount}
+pub use Rattle.tv_top.specs.declared.refusal.Bad.{Bad}
+pub use Rattle.tv_top.specs.declared.refusal.Cut.{Cut}
+pub use Rattle.tv_top.specs.declared.refusal.Ending.{Ending}
+pub use Rattle.tv_top.specs.declared.refusal.Finish.{Finish}
+pub use Rattle.tv_top.specs.declared.refusal.Flaw.{Flaw}
+pub use Rattle.tv_top.specs.declared.refusal.Quantity.{Quantity}
+pub use Rattle.tv_top.specs.declared.refusal.Refusal.{Refusal}
+pub use Rattle.tv_top.specs.declared.refusal.Size.{Size}
+pub use Rattle.tv_top.specs.declared.refusal.Stop.{Stop}
+pub use Rattle.tv_top.specs.declared.refusal.Stop.TheVariants.{Fault, Memory, Contents}
+pub use Rattle.tv_top.specs.declared.refusal.Ending.TheVariants.{Refused, Stopped, Finished}
+pub use Rattle.tv_top.specs.declared.status.Status.{Status}
+pub use Rattle.tv_top.specs.declared.status.What.{What}
+pub use Rattle.tv_top.specs.declared.loading.Inputs.{Inputs}
+pub use Rattle.tv_top.specs.declared.programs.Program.{Program}
+pub use Rattle.tv_top.specs.declared.programs.Width.{Width}
+pub use Rattle.tv_top.specs.declared.programs.Width.TheVariants.{Bits16, Bits32}
+pub use Rattle.tv_top.specs.Plan.{Named, Look, Outcome, Plan, Write, Answer, files_of, answer_by, answer_of, ending_by, writes_by, comes_by, AreWithin, ◌>>=◌, held_at, made_of, same_in, same_of, limit_of, request_of, map_ok, look_on, within, first_of, refusal_of}
+unfoldable pub use Rattle.tv_top.specs.Plan.{input}
+pub use Rattle.tv_top.specs.Finds.{IsOneOf, IsFound, Finds, Makes, from_made, limited_bytes}
+pub use Rattle.tv_top.specs.Ends.{AreRead, files_with, IsCutAt, IsCutInWriting, Said, SaidPart, Ends, IsConcluded, Concludes, Writes, Closes, Finishes, Completes, Refuses, IsAnswered, sink_cut, streamed, HasPartOf}
+pub use Rattle.tv_top.specs.Answers.{words_of, MayStop, MayEnd, quantities_of, IsOfWords, ChangedAt, IsSaid, Answers}
+pub use Rattle.tv_top.specs.Claims.{Holds, Then, IsStopped, status_by, Answered, Comes}
+pub use Rattle.tv_top.specs.Programs.{bits, program_in, program_sizes, image_words, image_bytes, program_result, HasImage, width_told, program_of}
+unfoldable pub use Rattle.tv_top.specs.Programs.{program_by, image_of}
+pub use Rattle.tv_top.specs.Status.{quantity_what, size_what, bad_status, refusal_status, stop_status, finish_status, ending_status}
+pub use Rattle.tv_top.specs.Contents.{Content, bytes_in, IsRead}
