@@ -6,8 +6,6 @@
 mod extracting;
 mod laws;
 mod run;
-#[cfg(test)]
-mod tests;
 
 pub use extracting::extract;
 pub use laws::{extracted_are_runs, satisfying_have_runs};
