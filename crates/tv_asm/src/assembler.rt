@@ -126,6 +126,3 @@ fn part_words<const W: u32>(
     }
     Ok(Some(words_of::<W>(instruction, labels)?))
 }
-
-#[cfg(test)]
-mod tests;

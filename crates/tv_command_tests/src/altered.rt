@@ -2,7 +2,7 @@
 //! of them.
 
 use crate::assigned::{COUNT, SIZE, changed, set_values, value_of, values_in, witness_of};
-use crate::calling::{BEFORE, call, filled, says};
+use crate::calling::{BEFORE, CHECK, call, filled, says};
 use std::alloc::Global;
 use std::process::Abort;
 use std::test::*;
@@ -136,8 +136,7 @@ fn judges(rt: &impl Abort, alloc: Global, case: Case<'_>) -> Result<(), Fail> {
     for (wire, value) in case.changes {
         set_values(alloc, &mut files, *wire, &[F::of(*value)])?;
     }
-    let words = "check system witness public";
-    says(rt, alloc, &mut files, words, check.0, check.1)?;
+    says(rt, alloc, &mut files, CHECK, check.0, check.1)?;
     let words = format!(in alloc; "extract text {n} {steps} witness tape.out aux.out")?;
     says(rt, alloc, &mut files, &words, extract.0, extract.1)?;
     for name in ["tape.out", "aux.out"] {
@@ -154,9 +153,6 @@ fn altered_values_are_judged(rt: HostRuntime) -> Result<(), Fail> {
     }
     Ok(())
 }
-
-/// What asks whether the witness of the run that answers 0 at step 1 is right.
-pub(crate) const CHECK: &str = "check system witness public";
 
 const EXTRACT: &str = "extract text 0 1 witness tape.out aux.out";
 

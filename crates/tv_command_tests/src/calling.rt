@@ -12,6 +12,9 @@ pub(crate) const BEFORE: &[u8] = b"before";
 /// The names that are written.
 pub(crate) const WRITTEN: [&str; 6] = ["out", "system", "witness", "tape.out", "aux.out", "lines"];
 
+/// What asks whether the witness is one of the system and of the public numbers.
+pub(crate) const CHECK: &str = "check system witness public";
+
 /// Files of a program and its tapes, beside names that are to be written.
 pub(crate) fn files_of(alloc: Global, text: &str, tape: &str, aux: &str) -> Result<MemFiles, Fail> {
     let mut files = MemFiles::new(alloc);
@@ -45,8 +48,8 @@ pub(crate) fn line_of(
     Ok((code, line.to_vec(alloc)?))
 }
 
-/// Sees that a command answers with this exit code and says this line, or one that begins so where
-/// the line has no end.
+/// Sees that a command answers with this exit code and says this line, which may be empty, or one
+/// that begins so where the line has no end.
 pub(crate) fn says(
     rt: &impl Abort,
     alloc: Global,
@@ -57,7 +60,7 @@ pub(crate) fn says(
 ) -> Result<(), Fail> {
     let (had, said) = line_of(alloc, files, words)?;
     assert_eq!(rt; had, code, "{words}: {line}");
-    let most = if line.ends_with("\n") {
+    let most = if line.is_empty() || line.ends_with("\n") {
         said.len()
     } else {
         line.len()

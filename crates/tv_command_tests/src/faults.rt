@@ -11,23 +11,28 @@ const TWO_READS: &str = "read r1, 1\nread r2, 1\nsub r3, r1, r2\nanswer r3";
 
 const WITNESS: &str = "witness text tape aux 4 witness";
 
-// Two wires, wire 1 public, and no constraint.
-const SMALL: [u8; 76] = [
+// Three wires, wire 1 public, and the constraint that 1 times wire 1 is wire 2, so that wire 2 is
+// dropped where it is shrunk.
+const SMALL: [u8; 124] = [
     0x72, 0x31, 0x63, 0x73, 1, 0, 0, 0, 2, 0, 0, 0, // the front
     1, 0, 0, 0, 40, 0, 0, 0, 0, 0, 0, 0, // section 1
     8, 0, 0, 0, 1, 0, 0, 0, 0xff, 0xff, 0xff, 0xff, //
-    2, 0, 0, 0, 0, 0, 0, 0, 1, 0, 0, 0, 0, 0, 0, 0, //
-    2, 0, 0, 0, 0, 0, 0, 0, 0, 0, 0, 0, //
-    2, 0, 0, 0, 0, 0, 0, 0, 0, 0, 0, 0, // section 2
+    3, 0, 0, 0, 0, 0, 0, 0, 1, 0, 0, 0, 0, 0, 0, 0, //
+    3, 0, 0, 0, 0, 0, 0, 0, 1, 0, 0, 0, //
+    2, 0, 0, 0, 48, 0, 0, 0, 0, 0, 0, 0, // section 2
+    1, 0, 0, 0, 0, 0, 0, 0, 1, 0, 0, 0, 0, 0, 0, 0, //
+    1, 0, 0, 0, 1, 0, 0, 0, 1, 0, 0, 0, 0, 0, 0, 0, //
+    1, 0, 0, 0, 2, 0, 0, 0, 1, 0, 0, 0, 0, 0, 0, 0,
 ];
 
-// The values 1 and 3.
-const SMALL_VALUES: [u8; 68] = [
+// The values 1, 3 and 3.
+const SMALL_VALUES: [u8; 76] = [
     0x77, 0x74, 0x6e, 0x73, 2, 0, 0, 0, 2, 0, 0, 0, // the front
     1, 0, 0, 0, 16, 0, 0, 0, 0, 0, 0, 0, // section 1
-    8, 0, 0, 0, 1, 0, 0, 0, 0xff, 0xff, 0xff, 0xff, 2, 0, 0, 0, //
-    2, 0, 0, 0, 16, 0, 0, 0, 0, 0, 0, 0, // section 2
-    1, 0, 0, 0, 0, 0, 0, 0, 3, 0, 0, 0, 0, 0, 0, 0,
+    8, 0, 0, 0, 1, 0, 0, 0, 0xff, 0xff, 0xff, 0xff, 3, 0, 0, 0, //
+    2, 0, 0, 0, 24, 0, 0, 0, 0, 0, 0, 0, // section 2
+    1, 0, 0, 0, 0, 0, 0, 0, 3, 0, 0, 0, 0, 0, 0, 0, //
+    3, 0, 0, 0, 0, 0, 0, 0,
 ];
 
 // The image of `answer 0`.
@@ -194,7 +199,9 @@ const ASM: &str = "asm answer out";
 
 const EXTRACT: &str = "extract answer 0 1 filled tape.out aux.out";
 
-const ROWS: [Row<'static>; 7] = [
+const ROWS: [Row<'static>; 9] = [
+    (ASM, 3, 1, "out", BEFORE, b""),
+    (ASM, 2, 1, "out", BEFORE, b""),
     (ASM, 1, 2, "out", BEFORE, b""),
     (ASM, 0, 2, "out", &[0, 0, 0, 0xfc], b""),
     ("check small values public", 0, 4, "out", BEFORE, b"ye"),

@@ -1,4 +1,4 @@
-//! What the commands on programs refuse, and that nothing is written then.
+//! What the commands refuse, and that nothing is written then.
 
 use crate::calling::{BEFORE, WRITTEN, files_of, line_of};
 use std::alloc::Global;
@@ -12,7 +12,8 @@ const USAGE: &str =
 // The words of a command, the exit code, and the line.
 type Case<'a> = (&'a str, u8, &'a str);
 
-const NO_COMMANDS: [Case<'static>; 12] = [
+const NO_COMMANDS: [Case<'static>; 13] = [
+    ("", 2, USAGE),
     ("build text 0 1 system place", 2, USAGE),
     ("build text 0 1 system waksman waksman", 2, USAGE),
     ("build text 0 1", 2, USAGE),
@@ -27,7 +28,9 @@ const NO_COMMANDS: [Case<'static>; 12] = [
     ("trial 0 1 waksman", 2, USAGE),
 ];
 
-const SAME_NAMES: [Case<'static>; 8] = [
+const SAME_NAMES: [Case<'static>; 10] = [
+    ("asm text text", 12, "same name: words 1 and 2\n"),
+    ("disasm text text", 12, "same name: words 1 and 2\n"),
     ("build text 0 1 text", 12, "same name: words 1 and 4\n"),
     ("build text 0 0 text", 12, "same name: words 1 and 4\n"),
     (

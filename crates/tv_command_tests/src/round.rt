@@ -1,6 +1,6 @@
 //! Programs that are built, filled, checked and extracted.
 
-use crate::calling::{files_of, says};
+use crate::calling::{CHECK, files_of, says};
 use std::alloc::Global;
 use std::process::Abort;
 use std::test::*;
@@ -47,7 +47,7 @@ pub(crate) fn goes_round(
             String::new(alloc),
         ),
         (
-            String::from_str(alloc, "check system witness public")?,
+            String::from_str(alloc, CHECK)?,
             String::from_str(alloc, "yes\n")?,
         ),
         (

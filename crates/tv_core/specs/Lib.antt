@@ -2,7 +2,6 @@ pub mod Below
 pub mod Circuits
 pub mod Combinations
 pub mod Constraints
-pub mod Examples
 pub mod Giving
 pub mod Inverse
 pub mod Laws

@@ -11,8 +11,6 @@
 
 mod combination;
 mod count_sink;
-#[cfg(test)]
-mod examples;
 mod field;
 mod inverse;
 pub mod limits;
@@ -25,8 +23,6 @@ mod prime;
 mod rows;
 mod sink;
 mod test_sink;
-#[cfg(test)]
-mod tests;
 mod values;
 mod wire;
 

@@ -71,6 +71,3 @@ fn word<const W: u32>(bytes: &[u8], at: usize) -> u32
         word_at(bytes, at)
     }
 }
-
-#[cfg(test)]
-mod tests;

@@ -13,6 +13,3 @@ pub use calls::{FileRefusal, Files};
 pub use mem_files::MemFiles;
 pub use outcome::Slurp;
 pub use whole::{slurp, write_file};
-
-#[cfg(test)]
-mod tests;

@@ -42,24 +42,3 @@ pub fn shape(op: u8) -> Shape
         None => Shape::Unused,
     }
 }
-
-#[cfg(test)]
-mod tests {
-    use super::*;
-
-    #[test]
-    fn the_table_is_searched_by_name_and_by_opcode(rt: HostRuntime) {
-        let load = Operation {
-            op: 27,
-            name: "load.b",
-            shape: Shape::DestA,
-        };
-        assert_eq!(rt; operation_named(b"load.b"), Some(load));
-        assert_eq!(rt; operation_of(27), Some(load));
-        assert_eq!(rt; operation_named(b"Load.b"), None);
-        assert_eq!(rt; operation_of(24), None);
-        assert_eq!(rt; shape(24), Shape::Unused);
-        assert_eq!(rt; shape(26), Shape::ADest);
-        assert_eq!(rt; operations().len(), 29);
-    }
-}

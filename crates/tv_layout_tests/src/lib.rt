@@ -1,7 +1,12 @@
 //! Tests of the whole system through its public calls: how large it is for small programs, by what
-//! its parts cost and by a sink that counts. They stand in a crate of their own, since a crate with
-//! tests is proved twice; nothing here is for callers.
+//! its parts cost and by a sink that counts; that the values of runs meet it; and which run values
+//! have. They stand in a crate of their own, since a crate with tests is proved twice; nothing here
+//! is for callers.
 #![tactic(auto)]
 
+#[cfg(test)]
+mod extracting;
+#[cfg(test)]
+mod filling;
 #[cfg(test)]
 mod sizing;

@@ -20,13 +20,21 @@ fn put<S: Sink>(s: &mut S, net: Net) -> Put<()>
 
 // 1, the lines, and the values for the address order of the honest ones.
 fn assignment(alloc: Global, net: Net, lines: &[Line; 8]) -> Result<ListValues, Fail> {
-    let pairs = packed_all(alloc, lines)?;
+    let mut pairs = packed_all(alloc, lines)?;
     let mut values = wires_of(alloc, lines)?;
     if pairs.len() != 8 || !is_permutation(alloc, &ORDER)? {
         return Err(Fail::from("no order"));
     }
     let settings = routing_settings(alloc, net, &ORDER)?;
-    fill_memory(&mut values, net, 3, &pairs, &ORDER, settings.as_slice())?;
+    let mut spare = pairs.clone()?;
+    fill_memory(
+        &mut values,
+        net,
+        3,
+        &mut pairs,
+        &mut spare,
+        settings.as_slice(),
+    )?;
     Ok(values)
 }
 

@@ -1,6 +1,6 @@
 //! The items that the tests send through a network: item i is the pair of the numbers i and i +
 //! 1,000,000.
-ghost use Rattle.std.specs.Prelude.{◌≡◌, ◌+◌, ◌*◌, ◌^◌, ◌<◌, ◌≤◌, length, IfOk};
+ghost use Rattle.std.specs.Prelude.{◌≡◌, ◌+◌, ◌*◌, ◌^◌, ◌<◌, ◌≤◌, length, vec_len, IfOk};
 ghost use Rattle.tv_benes.specs.Places.{wires_at};
 
 use std::alloc::{AllocError, Global};
@@ -32,7 +32,9 @@ impl Inputs for Wires {
 }
 
 /// The numbers of the first items.
-pub fn numbers(alloc: Global, many: u32) -> Result<Vec<PairNum>, AllocError> {
+pub fn numbers(alloc: Global, many: u32) -> Result<Vec<PairNum>, AllocError>
+    ensures { IfOk result (λ pairs. vec_len pairs ≡ many) }
+{
     let mut pairs = Vec::new(alloc);
     for i in 0..u64::from(many) {
         pairs.push(PairNum {

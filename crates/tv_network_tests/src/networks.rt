@@ -1,6 +1,6 @@
 //! Worked rows, false assignments and sizes.
 use crate::items::Wires;
-use crate::sending::{assignment, sent, trial};
+use crate::sending::{assignment, carried, sent, trial};
 use std::test::Fail;
 use tv_benes::{Net, network, switches};
 use tv_core::{CountSink, F};
@@ -24,6 +24,15 @@ const ROWS: [(Net, [bool; 6], [u32; 4]); 6] = [
 fn rows_come_out_in_order(rt: HostRuntime) -> Result<(), Fail> {
     for (net, bits, order) in ROWS {
         let out = sent(rt.alloc(), net, 2, &bits)?;
+        assert_eq!(rt; out.as_slice(), order.as_slice(), "{net:?} {bits:?}");
+    }
+    Ok(())
+}
+
+#[test]
+fn items_moved_along_come_out_in_order(rt: HostRuntime) -> Result<(), Fail> {
+    for (net, bits, order) in ROWS {
+        let out = carried(rt.alloc(), net, 2, &bits)?;
         assert_eq!(rt; out.as_slice(), order.as_slice(), "{net:?} {bits:?}");
     }
     Ok(())

@@ -1,13 +1,14 @@
 //! Settings, each put through the network that they are of.
 ghost use Rattle.std.specs.Prelude.{◌≤◌};
 
-use crate::sending::{power, sent};
+use crate::sending::{carried, power, sent};
 use std::alloc::Global;
 use std::test::Fail;
 use tv_benes::Net;
 use tv_route::{is_permutation, routing_settings};
 
-// Which item comes out at each place by the settings for a permutation of 2^`k` places.
+// Which item comes out at each place by the settings for a permutation of 2^`k` places: an error
+// where the items come out in another order when they are moved along.
 fn routed(alloc: Global, net: Net, k: u32, p: &[u32]) -> Result<Vec<u32>, Fail>
     requires some { 1 ≤ k }
     requires few { k ≤ 20 }
@@ -16,7 +17,11 @@ fn routed(alloc: Global, net: Net, k: u32, p: &[u32]) -> Result<Vec<u32>, Fail>
         return Err(Fail::from("no permutation"));
     }
     let settings = routing_settings(alloc, net, p)?;
-    sent(alloc, net, k, settings.as_slice())
+    let order = sent(alloc, net, k, settings.as_slice())?;
+    if carried(alloc, net, k, settings.as_slice())?.as_slice() != order.as_slice() {
+        return Err(Fail::from("the items are moved in another order"));
+    }
+    Ok(order)
 }
 
 #[test]

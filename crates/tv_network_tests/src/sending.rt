@@ -5,8 +5,10 @@ ghost use Rattle.tv_benes.specs.Places.{AreBelow};
 use crate::items::{APART, Wires, numbers, wires_of};
 use std::alloc::Global;
 use std::test::Fail;
-use tv_benes::{Net, Outputs, fill_routing_network, routing_network, routing_switches};
-use tv_core::{F, ListValues, TestSink, give_values};
+use tv_benes::{
+    Net, Outputs, fill_routing_network, route_items, routing_network, routing_switches,
+};
+use tv_core::{F, ListValues, PairNum, TestSink, give_values};
 
 /// 2^`k`.
 pub fn power(k: u32) -> u32
@@ -23,10 +25,35 @@ pub fn assignment(alloc: Global, net: Net, k: u32, bits: &[bool]) -> Result<List
     requires few { k ≤ 20 }
 {
     let items = numbers(alloc, power(k))?;
-    let first = wires_of(alloc, &items)?;
+    let mut values = beginning(alloc, &items)?;
+    fill_routing_network(&mut values, net, k, &items, bits)?;
+    Ok(values)
+}
+
+/// The same, the items moved along, and the items as they come out.
+pub fn moved(
+    alloc: Global,
+    net: Net,
+    k: u32,
+    bits: &[bool],
+) -> Result<(ListValues, Vec<PairNum>), Fail>
+    requires some { 1 ≤ k }
+    requires few { k ≤ 20 }
+{
+    let mut items = numbers(alloc, power(k))?;
+    let mut spare = numbers(alloc, power(k))?;
+    let mut values = beginning(alloc, &items)?;
+    route_items(&mut values, net, k, &mut items, &mut spare, bits)?;
+    Ok((values, items))
+}
+
+// 1 and these numbers.
+fn beginning(alloc: Global, items: &[PairNum]) -> Result<ListValues, Fail>
+    ensures { IfOk result (λ values. values.broken ≡ false) }
+{
+    let first = wires_of(alloc, items)?;
     let mut values = ListValues::new(alloc);
     give_values(&mut values, &first)?;
-    fill_routing_network(&mut values, net, k, &items, bits)?;
     Ok(values)
 }
 
@@ -75,6 +102,26 @@ pub fn sent(alloc: Global, net: Net, k: u32, bits: &[bool]) -> Result<Vec<u32>, 
             return Err(Fail::from("an output is no item"));
         }
         order.push(u32::try_from(first)?)?;
+    }
+    Ok(order)
+}
+
+/// Which item comes out at each place where the items are moved along: an error where a value is
+/// not that of `assignment`, or where what comes out is no item.
+pub fn carried(alloc: Global, net: Net, k: u32, bits: &[bool]) -> Result<Vec<u32>, Fail>
+    requires some { 1 ≤ k }
+    requires few { k ≤ 20 }
+{
+    let (values, items) = moved(alloc, net, k, bits)?;
+    if values.as_slice() != assignment(alloc, net, k, bits)?.as_slice() {
+        return Err(Fail::from("the values are not the same"));
+    }
+    let mut order = Vec::new(alloc);
+    for item in &items {
+        if item.second != item.first + F::of(APART) {
+            return Err(Fail::from("what comes out is no item"));
+        }
+        order.push(u32::try_from(item.first.number())?)?;
     }
     Ok(order)
 }

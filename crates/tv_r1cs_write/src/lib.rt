@@ -11,6 +11,3 @@ mod writer;
 pub use laws::{files_are_fronts, files_are_of_systems, files_are_whole, systems_come_back};
 pub use stream::StreamSink;
 pub use writer::Writer;
-
-#[cfg(test)]
-mod tests;

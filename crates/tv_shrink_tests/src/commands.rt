@@ -74,29 +74,3 @@ fn the_command_answers(rt: HostRuntime) -> Result<(), Fail> {
     assert_eq!(rt; files.bytes_of("sum"), Some(SUM.as_slice()));
     answers(&rt, alloc, &mut files, "check new values tape", 0, "yes\n")
 }
-
-// Each file call but the last, which appends, and the word that its failure is told of.
-#[test]
-fn each_call_fails(rt: HostRuntime) -> Result<(), Fail> {
-    let alloc = rt.alloc();
-    let mut whole = MemFiles::new(alloc);
-    whole.set("sum", &SUM)?;
-    assert_eq!(rt; call(alloc, &mut whole, "shrink sum new")?, Status::Done);
-    let mut told: Vec<u64> = Vec::new(alloc);
-    for done in 0..whole.calls() {
-        let mut files = MemFiles::new(alloc);
-        files.set("sum", &SUM)?;
-        files.fail_at(done + 1)?;
-        let Status::FileFault { word } = call(alloc, &mut files, "shrink sum new")? else {
-            return Err(Fail::from("no fault"));
-        };
-        assert_eq!(rt; files.calls(), done + 1);
-        let held = files.bytes_of("new").unwrap_or(&[]);
-        assert!(rt; SUM_SHRUNK.as_slice().starts_with(held), "{done}");
-        if told.last() != Some(&word) {
-            told.push(word)?;
-        }
-    }
-    assert_eq!(rt; told.as_slice(), [1, 2].as_slice());
-    Ok(())
-}

@@ -5,8 +5,6 @@
 mod items;
 mod laws;
 mod tape;
-#[cfg(test)]
-mod tests;
 mod text;
 
 pub use items::{TapeFault, read_tape};

@@ -24,32 +24,3 @@ pub fn numeral_of(text: &[u8], base: u32) -> Option<u64>
     }
     if text.is_empty() { None } else { Some(number) }
 }
-
-#[cfg(test)]
-mod tests {
-    use super::*;
-
-    const CASES: [(&str, Option<u64>); 9] = [
-        ("", None),
-        ("0", Some(0)),
-        ("007", Some(7)),
-        ("18446744073709551615", Some(18_446_744_073_709_551_615)),
-        ("018446744073709551615", Some(18_446_744_073_709_551_615)),
-        ("18446744073709551616", None),
-        ("1a", None),
-        ("-1", None),
-        ("+1", None),
-    ];
-
-    #[test]
-    fn decimals_are_digits_below_two_to_the_64(rt: HostRuntime) {
-        for (text, number) in CASES {
-            assert_eq!(rt; decimal_of(text.as_bytes()), number, "{text}");
-        }
-    }
-
-    #[test]
-    fn a_base_above_ten_takes_letters_of_either_case(rt: HostRuntime) {
-        assert_eq!(rt; numeral_of(b"00fFaB", 16), Some(65_451));
-    }
-}

@@ -54,20 +54,3 @@ pub fn word16_bytes(word: u32) -> [u8; 2]
 {
     (word as u16).to_le_bytes()
 }
-
-#[cfg(test)]
-mod tests {
-    use super::*;
-
-    #[test]
-    fn a_word_is_spelled_lowest_byte_first(rt: HostRuntime) {
-        let bytes = [0x7f, 0x44, 0x33, 0x22, 0x81, 0x00];
-        assert_eq!(rt; word_at(&bytes, 1), 0x8122_3344);
-        assert_eq!(rt; word_bytes(0x8122_3344), [0x44, 0x33, 0x22, 0x81]);
-        assert_eq!(rt; signed(0x8000_0000), -2_147_483_648);
-        assert_eq!(rt; word16_at(&bytes, 3), 0x8122);
-        assert_eq!(rt; word16_bytes(0x8122), [0x22, 0x81]);
-        assert_eq!(rt; signed16(0x7fff), 32_767);
-        assert_eq!(rt; signed16(0x8000), -32_768);
-    }
-}

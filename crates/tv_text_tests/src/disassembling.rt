@@ -1,6 +1,9 @@
-use super::*;
+//! Images and their texts, which assemble to them.
+
+use std::alloc::{AllocError, Global};
 use std::test::Fail;
 use tv_asm::{assemble, width};
+use tv_disasm::{DisFault, disassemble};
 
 /// Lines, and the two words that each is the text of.
 const LINES: [(&str, [u32; 2]); 43] = [

@@ -4,10 +4,10 @@ ghost use Rattle.std.specs.Prelude.{◌≡◌};
 ghost use Rattle.tv_files.specs.Outside.{OnlyReads, MissesOnly};
 ghost use Rattle.tv_word.specs.Counts.{Rose};
 
-use super::*;
 use std::alloc::{AllocError, Global};
 use std::process::Abort;
 use std::test::Fail;
+use tv_files::{FileRefusal, Files, MemFiles, Slurp, slurp, write_file};
 
 /// Bytes of which no two pieces of a file are alike.
 fn pattern(alloc: Global, len: u64) -> Result<Vec<u8>, AllocError> {

@@ -1,6 +1,7 @@
-use super::*;
-use crate::header::width;
+//! Program texts, and the images that they have or why they have none.
+
 use std::test::Fail;
+use tv_asm::{AsmFault, AsmWhy, assemble, width};
 
 const MOST: u32 = 16_384;
 

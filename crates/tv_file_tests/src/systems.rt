@@ -3,13 +3,13 @@
 ghost use Rattle.std.specs.Prelude.{◌≡◌, ◌+◌, ◌≤◌, ◌<◌, ◌^◌, false, true};
 ghost use Rattle.tv_core.specs.Combinations.{top};
 
-use super::*;
 use std::alloc::Global;
 use std::process::Abort;
 use std::test::Fail;
 use tv_core::{Counts, F, Lc, ListSink, Put, Sink, SinkFault, Wire};
 use tv_files::MemFiles;
 use tv_r1cs_read::{Row, SystemReader};
+use tv_r1cs_write::StreamSink;
 
 // Four wires, wire 1 public, and the constraint that wire 1 times wire 2 is wire 3.
 const SYSTEM: [u8; 168] = [

@@ -1,5 +1,7 @@
-use super::*;
+//! Tapes as text, read and written.
+
 use std::test::*;
+use tv_tape::{Tape, TapeFault, read_tape, tape_text};
 use tv_word::Words;
 
 #[test]

@@ -1,5 +1,5 @@
 use Rattle.std.proofs.Common.{◌≡◌, length, false}
-use Rattle.tv_r1cs_write.proofs.tests.multiples.Given as goal
+use Rattle.tv_file_tests.proofs.systems.multiples.Given as goal
 
 abbrev pub invariant-loop-i : goal.invariant-loop-i
 invariant-loop-i l = record {

@@ -1,5 +1,5 @@
 //! One product through each sink: wire 1 times wire 2 is wire 3.
-use crate::{CountSink, F, Lc, ListSink, ListValues, Sink, TestSink, Values, Wire};
+use tv_core::{CountSink, F, Lc, ListSink, ListValues, Sink, TestSink, Values, Wire};
 
 #[test]
 fn a_test_sink_tells_products_that_fail(rt: HostRuntime) {

@@ -3,7 +3,7 @@ use Rattle.std.proofs.Math.Seq.{take-suc}
 use Rattle.tv_core.specs.Combinations.{top}
 use Rattle.tv_core.specs.Constraints.{Combination}
 use Rattle.tv_core.proofs.CombinationLaws.{top-append}
-use Rattle.tv_r1cs_write.proofs.tests.is_made.Goals as goal
+use Rattle.tv_file_tests.proofs.systems.is_made.Goals as goal
 
 -- one more term of a wire below a number
 top_more : (terms : Combination) (i n : ℕ) (term : ℕ × ℕ) → i < length terms → term ≡ get_or terms i term → top (take i terms) ≤ n →

@@ -1,0 +1,13 @@
+//! Tests of file calls, of the two file formats and of verdicts, through the public calls of their
+//! crates. They stand in a crate of their own, since a crate with tests is proved twice; nothing
+//! here is for callers.
+#![tactic(auto)]
+
+#[cfg(test)]
+mod assignments;
+#[cfg(test)]
+mod calls;
+#[cfg(test)]
+mod systems;
+#[cfg(test)]
+mod verdicts;
