@@ -1,14 +1,14 @@
 #!/bin/bash
 # The program at its edges: closed streams, full disks, folders, absent names, files that are cut while they are read,
-# long words and words that aren't UTF-8, and one file under two paths.
+# a witness longer than the memory that there is, long words and words that aren't UTF-8, and one file under two paths.
 #
 #     bench/edges.sh [BINARY]
 #
 # A line of the table is: exit status, standard output, standard error, the files that are new or changed, and the
 # command, where `$t` is the program. Each runs in a folder of its own that holds a program P, whose image I is, its
-# system S and witness V, the text BAD, empty tapes E, a folder D, and a program R that reads a word of either tape, the
-# tape F and its witness VR. The last line counts; the status is 1 where one failed. A command that hangs is ended after
-# 60 seconds and failed. It stands outside the gate.
+# system S and witness V, the text BAD, empty tapes E, a folder D, a program R that reads a word of either tape, the
+# tape F and its witness VR, and a system Q of 4 wires. The last line counts; the status is 1 where one failed. A command
+# that hangs is ended after 60 seconds and failed. It stands outside the gate.
 set -u
 
 top=$(dirname -- "$(dirname -- "$(realpath -- "$0")")")
@@ -28,6 +28,7 @@ echo 'old bytes' >OLD
 "$t" asm P I && "$t" build P 0 1 S && "$t" witness P E E 1 V && printf '0\n' >A || exit 2
 printf 'read r1, 0\nread r2, 1\nsub r3, r1, r2\nanswer r3\n' >R
 echo 7 >F && "$t" witness R F F 4 VR || exit 2
+cp "$top/crates/tinyr1cs/data/system.r1cs" Q || exit 2
 
 # The names and sums of all files here.
 sums() {
@@ -144,6 +145,18 @@ edge 8 '' 'file fault: /dev/stdin\n' '' 'cat S | $t shrink /dev/stdin OUT'
 # A section that ends at a place that no file of the file system has is one that the file is too short for.
 edge 5 'bad system: byte 12: truncated\n' '' 'HUGE' \
     'printf "r1cs\1\0\0\0\1\0\0\0\1\0\0\0\0\0\0\0\0\0\4\0" >HUGE; $t check HUGE V A'
+
+# A witness of 4,000,000 values, all 0, over a system of 4 wires, in less memory than these values take: they are counted,
+# and the last is judged.
+export long='
+long() {
+    printf "wtns\2\0\0\0\2\0\0\0\1\0\0\0\20\0\0\0\0\0\0\0\10\0\0\0\1\0\0\0\377\377\377\377\0\11\75\0\2\0\0\0\0\110\350\1\0\0\0\0" >LONG
+    truncate -s 32000044 LONG && printf "$1" >>LONG
+    (ulimit -v 16384; $t check Q LONG A); s=$?
+    rm LONG; return $s
+}'
+edge 1 'no: 4000000 wires, 4 wanted\n' '' '' 'eval "$long"; long "\0\0\0\0\0\0\0\0"'
+edge 6 'bad witness: byte 32000044: not below p\n' '' '' 'eval "$long"; long "\1\0\0\0\377\377\377\377"'
 
 # A file that is cut while it is read, at 20 moments: the answer is one of those of a file that it was, or of its front
 # and a lost end, and none hangs.

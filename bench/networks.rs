@@ -1,4 +1,4 @@
-//! What `bench/networks.rattle` times, in plain Rust. usage: networks count|forget|fill|route|sort K
+//! What `bench/networks.rattle` times, in plain Rust. usage: networks count|forget|fill|move|route|sort K
 
 use std::env;
 
@@ -260,7 +260,7 @@ fn part(name: &str, k: u32) -> (u64, u64) {
             network(&mut sink, &mut wires_of(many), &mut vec![0; many as usize]);
             (switches(k), sink.sum)
         }
-        "fill" => {
+        "fill" | "move" => {
             let mut bits = coins(switches(k)).into_iter();
             let mut spare = vec![(0, 0); many as usize];
             let mut values = Adding { sum: 0 };

@@ -24,7 +24,7 @@ echo 'networks_bench: tv_benes tv_core tv_lines tv_memory tv_route' >> "$scratch
 rustc --edition 2024 -O -C target-cpu=x86-64-v2 -o "$scratch/plain" "$bench/networks.rs"
 mv "$crate/out/networks_bench" "$scratch/proved"
 for k in 18 20; do
-    for part in count forget fill route sort; do
+    for part in count forget fill move route sort; do
         "$scratch/proved" "$part" "$k"
         "$bench/compare.py" "${1:-9}" "$scratch/proved" "$scratch/plain" -- "$part" "$k"
         for program in proved plain; do
