@@ -46,7 +46,7 @@ comes_to answer file wires end z k n at sum v summed none is = record {
   is = is ∙ ap (λ s. s % P) (summed.is ∙ sym (sum_by-map (λ (t : ℕ × ℕ). t.0 * slice_index z t.1) (λ (t : ℕ × ℕ). (t.1, t.0)) summed.terms));
 }
 
-fits_four : (at end : ℕ) → at + 4 ≤ end → fit 4 at end ≡ Ok (tt {0})
+pub fits_four : (at end : ℕ) → at + 4 ≤ end → fit 4 at end ≡ Ok (tt {0})
 fits_four at end le = grind (arith, nat_tests)
 
 -- a combination is its terms, once they are counted

@@ -4,10 +4,12 @@
 #![tactic(auto)]
 
 mod header;
+mod held;
 mod progress;
 mod reader;
 mod rows;
 mod sum;
+mod taken;
 mod tried;
 
 pub use header::Header;

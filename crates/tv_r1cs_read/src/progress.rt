@@ -1,5 +1,5 @@
 ghost use Rattle.std.specs.Prelude.{◌≡◌, ℕ, ◌+◌, List, [], Some, None, Ok, Err, IfOk, IfErr, OnOk};
-ghost use Rattle.std.specs.Prelude.{MatchResult, MatchOption, IfSome};
+ghost use Rattle.std.specs.Prelude.{MatchResult, MatchOption, IfSome, OnErr, true, false};
 ghost use Rattle.tv_core.specs.Constraints.{Constraint};
 ghost use Rattle.tv_r1cs_read.specs.Places.{IsAt, IsAll, Gave};
 ghost use Rattle.tv_r1cs_read.specs.Progress.{ahead, counts_of, IsBegun, WentOn};
@@ -10,7 +10,9 @@ ghost use Rattle.tv_container.specs.declared.why.ReadRefusal.{ReadRefusal};
 
 use crate::header::{Header, read_header};
 use crate::rows::{Bounds, Row, read_row};
+use crate::taken::take_held;
 use crate::tried::{try_held, try_row};
+use std::alloc::AllocError;
 use std::marker::Model;
 use tv_container::{ReadRefusal, ReadWhy, Window};
 use tv_core::{Counts, F};
@@ -89,7 +91,68 @@ impl Progress {
 
     /// Reads the next constraint into `row`, and tells whether there was one. A refusal is
     /// repeated.
+    #[inline(always)]
+    #[tactic(auto, using(tv_container::proofs::Chain::stopped_here))]
     pub(crate) fn next<D: Files>(
+        &mut self,
+        files: &mut D,
+        name: &str,
+        row: &mut Row,
+    ) -> Result<bool, ReadRefusal>
+        ensures gives { (rows : List Constraint)
+            → Known (D.seen files.old) name.now (λ file. IsAt self.old file rows →
+            MatchResult result (λ more. Gave more row.new self.new file rows)
+            (λ why. Refuses why (system_of file))) }
+        ensures counts { IfOk result (λ more. WentOn more row.new self.old self.new) }
+        ensures header { self.new.header ≡ self.old.header }
+        ensures again { (why : ReadRefusal) → self.old.stopped ≡ Some why →
+            (result ≡ Err why) × (self.new ≡ self.old) × (D.seen files.new ≡ D.seen files.old) }
+        ensures stops { IfErr result (λ why. self.new.stopped ≡ Some why) }
+        ensures goes { OnOk result (self.new.stopped ≡ None) }
+        ensures looks { self.old.stopped ≡ None → Looks (D.seen files.old) (D.seen files.new)
+            name.now result }
+    {
+        match self.take_held(row) {
+            Ok(true) => Ok(true),
+            Ok(false) => self.next_far(files, name, row),
+            Err(_) => {
+                self.stopped = Some(ReadRefusal::Memory);
+                Err(ReadRefusal::Memory)
+            }
+        }
+    }
+
+    // Takes the next constraint into `row`, where the window holds all of it and it is as it should
+    // be, and tells whether it did; else nothing but the row changes.
+    #[inline(always)]
+    fn take_held(&mut self, row: &mut Row) -> Result<bool, AllocError>
+        ensures gives { (file : List ℕ) → (rows : List Constraint) → IsAt self.old file rows →
+            IfOk result (λ taken. taken ≡ true → Gave true row.new self.new file rows) }
+        ensures counts { IfOk result
+            (λ taken. taken ≡ true → WentOn true row.new self.old self.new) }
+        ensures header { self.new.header ≡ self.old.header }
+        ensures same { IfOk result (λ taken. taken ≡ false → self.new ≡ self.old) }
+        ensures on { IfOk result (λ taken. taken ≡ true → self.old.stopped ≡ None) }
+        ensures goes { self.new.stopped ≡ self.old.stopped }
+        ensures err { OnErr result (self.old.stopped ≡ None) }
+    {
+        if self.left == 0 || self.stopped.is_some() {
+            return Ok(false);
+        }
+        let bounds = self.bounds();
+        let Some(next) = take_held(&self.window, &bounds, self.at, row)? else {
+            return Ok(false);
+        };
+        self.at = next;
+        self.left -= 1;
+        self.terms += row.terms() as u64;
+        Ok(true)
+    }
+
+    // Reads the next constraint into `row`, and tells whether there was one. A refusal is repeated.
+    #[cold]
+    #[inline(never)]
+    fn next_far<D: Files>(
         &mut self,
         files: &mut D,
         name: &str,
@@ -139,10 +202,8 @@ impl Progress {
             self.at_end()?;
             return Ok(false);
         }
-        let bounds = Bounds {
-            wires: self.header.wires,
-            end: self.header.rows.at + self.header.rows.size,
-        };
+        let bounds = self.bounds();
+        self.window.fill(files, name, self.at)?;
         self.at = read_row(files, name, &mut self.window, &bounds, self.at, row)?;
         self.left -= 1;
         self.terms += row.terms() as u64;
@@ -198,10 +259,7 @@ impl Progress {
         if self.left == 0 || self.stopped.is_some() {
             return None;
         }
-        let bounds = Bounds {
-            wires: self.header.wires,
-            end: self.header.rows.at + self.header.rows.size,
-        };
+        let bounds = self.bounds();
         let tried = try_held(&self.window, &bounds, self.at, values)?;
         self.at = tried.next;
         self.left -= 1;
@@ -261,16 +319,25 @@ impl Progress {
             self.at_end()?;
             return Ok(None);
         }
-        let bounds = Bounds {
-            wires: self.header.wires,
-            end: self.header.rows.at + self.header.rows.size,
-        };
+        let bounds = self.bounds();
         self.window.fill(files, name, self.at)?;
         let tried = try_row(files, name, &mut self.window, &bounds, self.at, values)?;
         self.at = tried.next;
         self.left -= 1;
         self.terms += tried.terms;
         Ok(Some(tried.holds))
+    }
+
+    // What bounds the terms.
+    #[inline(always)]
+    fn bounds(&self) -> Bounds
+        ensures wires { result.wires ≡ self.now.header.wires }
+        ensures end { result.end ≡ self.now.header.rows.at + self.now.header.rows.size }
+    {
+        Bounds {
+            wires: self.header.wires,
+            end: self.header.rows.at + self.header.rows.size,
+        }
     }
 
     // Behind the counted constraints section 2 ends.

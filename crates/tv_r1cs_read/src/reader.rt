@@ -79,6 +79,7 @@ impl<'a, D: Files> SystemReader<'a, D> {
     ///
     /// `Bad` tells the first fault ahead, `Fault` comes only where a read failed, and a refusal is
     /// told again by each later call, which reads nothing.
+    #[inline(always)]
     pub fn next_into(&mut self, row: &mut Row) -> Result<bool, ReadRefusal>
         ensures same { self.new.files.ghost_name ≡ self.old.files.ghost_name }
         ensures name { self.new.name.now ≡ self.old.name.now }

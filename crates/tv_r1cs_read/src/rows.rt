@@ -52,13 +52,15 @@ impl Terms {
         self.items.as_slice()
     }
 
-    // No terms; keeps the memory.
-    fn clear(&mut self)
+    /// No terms; keeps the memory.
+    #[inline(always)]
+    pub(crate) fn clear(&mut self)
         ensures { self.new ≡ [] }
     {
         self.items.clear();
     }
 
+    #[inline(always)]
     fn push(&mut self, wire: u32, coefficient: F) -> Result<(), AllocFailed<(u32, F)>>
         ensures { OnOk result (self.new ≡ self.old ++ (wire, coefficient) ∷ []) }
     {
@@ -220,8 +222,9 @@ fn read_terms<D: Files>(
     Ok(at)
 }
 
-// Takes the terms at a place, so many, all of which the window holds.
-fn take_terms(
+/// Takes the terms at a place, so many, all of which the window holds.
+#[inline(always)]
+pub(crate) fn take_terms(
     window: &Window,
     bounds: &Bounds,
     at: u64,

@@ -8,6 +8,7 @@ ghost use Rattle.tv_container.specs.Reading.{Holds, IsPiece, IsTold, ReadsIn, Re
 ghost use Rattle.tv_r1cs_read.specs.R1cs.{Read, combination_at, constraint_at};
 ghost use Rattle.tv_r1cs_read.specs.Sums.{IsOff, IsSummed, IsTried, IsValued};
 
+use crate::held::{held_to, is_past};
 use crate::rows::{Bounds, TERM, WIDEST, fit_below};
 use crate::sum::Sum;
 use tv_container::{ReadRefusal, ReadWhy, Window};
@@ -162,11 +163,7 @@ pub(crate) fn try_held(window: &Window, bounds: &Bounds, at: u64, values: &[F]) 
         (λ tried. IsTried (constraint_at file bounds.now.wires bounds.now.end at) values.now
         tried.holds tried.terms tried.next) }
 {
-    if !window.holds(at, 0) {
-        return None;
-    }
-    let held = window.bytes_from(at).len() as u64;
-    let limit = at + held.min(bounds.end - at);
+    let limit = held_to(window, bounds, at)?;
     let a = value_held(window, bounds, limit, at, values)?;
     let b = value_held(window, bounds, limit, a.next, values)?;
     let c = value_held(window, bounds, limit, b.next, values)?;
@@ -194,11 +191,7 @@ fn value_held(window: &Window, bounds: &Bounds, limit: u64, at: u64, values: &[F
         return None;
     }
     let terms = window.word(at);
-    if terms > WIDEST {
-        return None;
-    }
-    let size = TERM * u64::from(terms);
-    if limit - at - 4 < size {
+    if is_past(limit, at, terms) {
         return None;
     }
     let mut sum = Sum::new();
@@ -208,7 +201,7 @@ fn value_held(window: &Window, bounds: &Bounds, limit: u64, at: u64, values: &[F
     Some(Valued {
         value: sum.value(),
         terms,
-        next: at + 4 + size,
+        next: at + 4 + TERM * u64::from(terms),
     })
 }
 

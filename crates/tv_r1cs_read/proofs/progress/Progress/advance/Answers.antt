@@ -1,4 +1,5 @@
 use Rattle.std.proofs.Common.{◌≡◌, ◌+◌, ◌-◌, ap, refl, sym, ◌∙◌, arith}
+use Rattle.tv_container.proofs.Chain.{refuses_any}
 use Rattle.tv_r1cs_read.proofs.Constraints.{constraints_from-refuses, constraints_from-next}
 use Rattle.tv_r1cs_read.specs.Progress.{Reached}
 use Rattle.tv_r1cs_read.proofs.Done.{refuses_ahead, next_at, all_at}
@@ -9,7 +10,8 @@ pub returns-in_err-self-inside-clause-gives : goal.returns-in_err-self-inside-cl
 returns-in_err-self-inside-clause-gives g c = λ rows file told is.
     let place = rw (← c.self.view_is) at is in
     let left : c.self.inside.left ≡ c.self.inside.left - 1 + 1 = omega arith in
-    let refuses = c.in_err-self-inside.ensures.reads.gives file told place.follows.piece place.follows.within in
+    let held = c.in_ok-fill.ensures.reads.piece file told place.follows.piece in
+    let refuses = rw (c.bounds-bounds.ensures.wires, c.bounds-bounds.ensures.end, ← c.self.view_is) at (c.in_err-self-inside.ensures.reads.gives file (rw (← c.in_ok-fill.ensures.reads.looks) at told) held) place.follows.within in
     let p = err_from_is_err_and c.from_residual-in_err-self-inside.result c.from_residual-in_err-self-inside.ensures.1 in
     rw (p.1, p.2) (refuses_ahead file _ rows _ place (constraints_from-refuses file _ _ _ _ _ _ left refuses))
 
@@ -18,11 +20,20 @@ returns-clause-gives g c = λ rows file told is.
     let place = rw (← c.self.view_is) at is in
     let on = place.follows in
     let left : c.self.inside.left ≡ c.self.inside.left - 1 + 1 = omega arith in
+    let still = rw (← c.in_ok-fill.ensures.reads.looks) at told in
+    let held = c.in_ok-fill.ensures.reads.piece file told on.piece in
+    let read = rw (c.bounds-bounds.ensures.wires, c.bounds-bounds.ensures.end, ← c.self.view_is) at (c.in_ok-self-inside.ensures.reads.gives file still held) on.within in
     next_at file _ _ rows _ place
-    (record { piece = c.in_ok-self-inside.ensures.reads.piece file told on.piece; within = on.within; on = on.on })
+    (record { piece = c.in_ok-self-inside.ensures.reads.piece file still held; within = on.within; on = on.on })
     refl
     (ap (λ n. c.self.inside.terms + n) c.terms.ensures)
-    (constraints_from-next file _ _ _ _ _ _ left (c.in_ok-self-inside.ensures.reads.gives file told on.piece on.within))
+    (constraints_from-next file _ _ _ _ _ _ left read)
+
+pub returns-in_err-fill-clause-gives : goal.returns-in_err-fill-clause-gives
+returns-in_err-fill-clause-gives g c = λ rows file told is.
+    let place = rw (← c.self.view_is) at is in
+    let p = err_from_is_err_and c.from_residual-in_err-fill.result c.from_residual-in_err-fill.ensures.1 in
+    rw (p.1, p.2) (refuses_any _ (tt {0}) _ (c.in_err-fill.ensures.reads.gives file told place.follows.piece))
 
 pub returns-in_err-at_end-clause-gives : goal.returns-in_err-at_end-clause-gives
 returns-in_err-at_end-clause-gives g c = λ rows file told place.

@@ -8,7 +8,7 @@ returns-clause-gives c = λ file rows is.
     let place = rw (← c.self.view_is) at is in
     let on = place.follows in
     let left : c.self.inside.left ≡ c.self.inside.left - 1 + 1 = omega arith in
-    let tried = c.in_ok-tried.ensures.gives file on.piece in
+    let tried = rw (c.bounds-bounds.ensures.wires, c.bounds-bounds.ensures.end, ← c.self.view_is) at (c.in_ok-tried.ensures.gives file on.piece) in
     record {
       constraint = tried.constraint;
       place = one_more file _ _ rows _ place (record { piece = on.piece; within = on.within; on = on.on }) refl

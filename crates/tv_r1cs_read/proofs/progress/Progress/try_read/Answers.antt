@@ -11,7 +11,7 @@ returns-in_err-tried-clause-gives g c = λ rows file told is.
     let place = rw (← c.self.view_is) at is in
     let left : c.self.inside.left ≡ c.self.inside.left - 1 + 1 = omega arith in
     let held = c.in_ok-fill.ensures.reads.piece file told place.follows.piece in
-    let refuses = c.in_err-tried.ensures.reads.gives file (rw (← c.in_ok-fill.ensures.reads.looks) at told) held place.follows.within in
+    let refuses = rw (c.bounds-bounds.ensures.wires, c.bounds-bounds.ensures.end, ← c.self.view_is) at (c.in_err-tried.ensures.reads.gives file (rw (← c.in_ok-fill.ensures.reads.looks) at told) held) place.follows.within in
     let p = err_from_is_err_and c.from_residual-in_err-tried.result c.from_residual-in_err-tried.ensures.1 in
     rw (p.1, p.2) (refuses_ahead file _ rows _ place (constraints_from-refuses file _ _ _ _ _ _ left refuses))
 
@@ -22,7 +22,7 @@ returns-clause-gives g c = λ rows file told is.
     let left : c.self.inside.left ≡ c.self.inside.left - 1 + 1 = omega arith in
     let still = rw (← c.in_ok-fill.ensures.reads.looks) at told in
     let held = c.in_ok-fill.ensures.reads.piece file told on.piece in
-    let tried = c.in_ok-tried.ensures.reads.gives file still held on.within in
+    let tried = rw (c.bounds-bounds.ensures.wires, c.bounds-bounds.ensures.end, ← c.self.view_is) at (c.in_ok-tried.ensures.reads.gives file still held) on.within in
     record {
       constraint = tried.constraint;
       place = one_more file _ _ rows _ place

@@ -1,4 +1,4 @@
-use Rattle.std.proofs.Common.{◌≡◌, ◌++◌, ◌∷◌, [], ◌∙◌, sym, rules, refl, append_assoc, append-nil}
+use Rattle.std.proofs.Common.{◌++◌, ◌∙◌, sym, rules, refl}
 use Rattle.tv_r1cs_read.proofs.Done.{passed_none, passed_more, passed_all}
 use Rattle.tv_r1cs_read.proofs.reader.SystemReader.pass_rest.Goals as goal
 

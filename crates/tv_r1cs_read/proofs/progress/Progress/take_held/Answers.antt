@@ -1,0 +1,16 @@
+use Rattle.std.proofs.Common.{◌≡◌, ◌+◌, ◌-◌, ap, refl, arith}
+use Rattle.tv_r1cs_read.proofs.Constraints.{constraints_from-next}
+use Rattle.tv_r1cs_read.proofs.Done.{next_at}
+use Rattle.tv_r1cs_read.proofs.progress.Progress.take_held.Goals as goal
+
+pub returns-clause-gives : goal.returns-clause-gives
+returns-clause-gives c = λ file rows is _.
+    let place = rw (← c.self.view_is) at is in
+    let on = place.follows in
+    let left : c.self.inside.left ≡ c.self.inside.left - 1 + 1 = omega arith in
+    let taken = rw (c.bounds-bounds.ensures.wires, c.bounds-bounds.ensures.end, ← c.self.view_is) at (rw c.in-Some.is at (c.in_ok-next.ensures.gives file on.piece)) in
+    next_at file _ _ rows _ place
+    (record { piece = on.piece; within = on.within; on = on.on })
+    refl
+    (ap (λ n. c.self.inside.terms + n) c.terms.ensures)
+    (constraints_from-next file _ _ _ _ _ _ left taken)
