@@ -1,6 +1,7 @@
 pub mod Constants
 pub mod Filing
 pub mod Labels
+pub mod Laying
 pub mod Linear
 pub mod Merging
 pub mod NormalLaws

@@ -1,8 +1,7 @@
 -- What the functions on a constraint's combinations give.
-use Rattle.std.proofs.Common.{◌≡◌, ◌≢◌, ℕ, ◌+◌, ◌-◌, ◌*◌, ◌%◌, ◌<◌, ◌≤◌, Bool, not, ◌||◌, leb, ltb, length, [], ◌∷◌, ◌++◌, Option, Some, None, refl, sym, ◌∙◌, ap, ap₂, arith, eqb, true, false, cond, mul-zero, append-nil}
-use Rattle.std.proofs.lemmas.Bool.{cond_both, le-leb, leb-true, or_left, or_right, OnTrue_at}
+use Rattle.std.proofs.Common.{◌≡◌, ◌≢◌, ℕ, ◌+◌, ◌-◌, ◌*◌, ◌%◌, ◌<◌, ◌≤◌, Bool, not, ◌||◌, leb, ltb, length, [], ◌∷◌, ◌++◌, Option, Some, None, refl, sym, ◌∙◌, ap, ap₂, arith, eqb, true, false, inl, inr, cond, mul-zero}
+use Rattle.std.proofs.lemmas.Bool.{cases_Bool, cond_both, le-leb, leb-true, or_left, or_right}
 use Rattle.std.proofs.lemmas.List.{length-append, length-map}
-use Rattle.std.specs.Bool.{OnTrue}
 use Rattle.std.specs.Option.{IsNone, IfSome, unwrap_or}
 use Rattle.tv_core.proofs.InverseLaws.{inverse_of-below}
 use Rattle.tv_core.specs.Combinations.{scaled}
@@ -38,19 +37,13 @@ normal-without least w (t ∷ x) n =
     cond_both (not (eqb t.1 w)) (t ∷ without w x) (without w x) (IsNormalFrom least)
     (λ e. (n.0, n.1, n.2, rest)) (λ e. IsNormalFrom-lower least (t.1 + 1) (without w x) (omega (arith, n.0)) rest)
 
-has_by : (b : Bool) (k own : ℕ) → Some k ≡ cond b (Some own) None → (b ≡ true) × (k ≡ own)
+pub has_by : {A : Type 0} (b : Bool) (k own : A) → Some k ≡ cond b (Some own) None → (b ≡ true) × (k ≡ own)
 has_by true k own e = (refl, cc)
 has_by false k own e = absurd (cc)
 
-lacks_by : (b : Bool) (own : ℕ) → None ≡ cond b (Some own) None → b ≡ false
+pub lacks_by : {A : Type 0} (b : Bool) (own : A) → None ≡ cond b (Some own) None → b ≡ false
 lacks_by true own e = absurd (cc)
 lacks_by false own e = refl
-
-pub lacks_wire : (w : ℕ) (x : Combination) → None ≡ cond (has_wire w x) (Some (coefficient w x)) None → false ≡ has_wire w x
-lacks_wire w x e = sym (lacks_by (has_wire w x) (coefficient w x) e)
-
-pub has_the_wire : (w k : ℕ) (x : Combination) → Some k ≡ cond (has_wire w x) (Some (coefficient w x)) None → true ≡ has_wire w x
-has_the_wire w k x e = sym (has_by (has_wire w x) k (coefficient w x) e).0
 
 pub replaced-made : (w k : ℕ) (r x out : Combination) → IsNormalFrom 0 x → Some k ≡ cond (has_wire w x) (Some (coefficient w x)) None → out ≡ normal (scaled 1 (without w x) ++ scaled k r) → out ≡ replaced w r x
 unfolding replaced
@@ -70,29 +63,28 @@ negative k i small one =
     let some : i ≢ 0 = λ e. let none : k * i % P ≡ 0 = ap (λ j. k * j % P) e ∙ ap (λ n. n % P) (mul-zero k) in omega arith in
     omega arith
 
-pub solved-made : (w k i : ℕ) (x out : Combination) → i < P → k * i % P ≡ 1 → i ≡ inverse_of k → k ≡ coefficient w x → out ≡ normal (scaled ((P - i) % P) (without w x) ++ []) → out ≡ solved w x
+pub solved-made : (w k i : ℕ) (x out : Combination) → i < P → k * i % P ≡ 1 → i ≡ inverse_of k → k ≡ coefficient w x → out ≡ normal (scaled ((P - i) % P) (without w x)) → out ≡ solved w x
 unfolding solved
 solved-made w k i x out small one is own made =
     made
-    ∙ ap normal (append-nil (scaled ((P - i) % P) (without w x)))
     ∙ ap (λ f. normal (scaled f (without w x))) (negative k i small one ∙ ap (λ j. P - j) (is ∙ ap inverse_of own))
 
 pub solve-made : (o : Option ℕ) (inverse own w : ℕ) (x out : Combination) → (IsNone o → own ≡ 0) → IfSome o (λ r. own * r % P ≡ 1) → IfSome o (λ r. r ≡ inverse_of own) →
-    inverse ≡ unwrap_or o 0 → 0 < own → own ≡ coefficient w x → out ≡ normal (scaled ((P - inverse) % P) (without w x) ++ []) → out ≡ solved w x
+    inverse ≡ unwrap_or o 0 → 0 < own → own ≡ coefficient w x → out ≡ normal (scaled ((P - inverse) % P) (without w x)) → out ≡ solved w x
 solve-made None inverse own w x out never one value is some of made = absurd (let none : own ≡ 0 = never refl in omega arith)
 solve-made (Some r) inverse own w x out never one value is some of made =
     let small = inverse_of-below own in
-    solved-made w own r x out (omega (arith, value)) one value of (made ∙ ap (λ i. normal (scaled ((P - i) % P) (without w x) ++ [])) is)
+    solved-made w own r x out (omega (arith, value)) one value of (made ∙ ap (λ i. normal (scaled ((P - i) % P) (without w x))) is)
 
 -- whether a combination keeps to its most terms
 pub fits-lacking : (w : ℕ) (r x : Combination) (has : Bool) → has ≡ has_wire w x → has ≡ false → not has ≡ fits w r x
 unfolding fits
 fits-lacking w r x has is e = ap not e ∙ sym (or_left (not (has_wire w x)) (leb (length (replaced w r x)) 128) (ap not (sym is ∙ e)))
 
-pub fits-having : (w : ℕ) (r x out : Combination) (has : Bool) → has ≡ has_wire w x → has ≡ true → OnTrue has (out ≡ replaced w r x) → leb (length out) 128 ≡ fits w r x
+pub fits-having : (w : ℕ) (r x out : Combination) (has : Bool) → has ≡ has_wire w x → has ≡ true → out ≡ replaced w r x → leb (length out) 128 ≡ fits w r x
 unfolding fits
 fits-having w r x out has is e made =
-    ap (λ y. leb (length y) 128) (OnTrue_at e made) ∙ sym (ap (λ b. not b || leb (length (replaced w r x)) 128) (sym is ∙ e))
+    ap (λ y. leb (length y) 128) made ∙ sym (ap (λ b. not b || leb (length (replaced w r x)) 128) (sym is ∙ e))
 
 -- a combination has no more terms with another one in place of a wire than both together
 length-with_term : (k w : ℕ) (x : Combination) → length (with_term k w x) ≤ length x + 1
@@ -134,6 +126,13 @@ fits-few w r x few =
     or_right (not (has_wire w x)) (leb (length (replaced w r x)) 128) (le-leb (length (replaced w r x)) 128 short)
 
 -- what fits is short, if the wire stands in it
-pub fits_short : (w : ℕ) (r x : Combination) → fits w r x ≡ true → has_wire w x ≡ true → length (replaced w r x) ≤ 128
+fits_short : (w : ℕ) (r x : Combination) → fits w r x ≡ true → has_wire w x ≡ true → length (replaced w r x) ≤ 128
 unfolding fits
 fits_short w r x e has = leb-true (length (replaced w r x)) 128 (ap (λ b. not b || leb (length (replaced w r x)) 128) (sym has) ∙ e)
+
+pub part_short : (w : ℕ) (r x : Combination) → fits w r x ≡ true → length x < 256 → length (replaced w r x) < 256
+part_short w r x e few =
+    elim (cases_Bool (has_wire w x)) [
+      | inl has ↦ omega (arith, fits_short w r x e has)
+      | inr lacks ↦ omega (arith, ap length (replaced-lacking w r x (sym lacks)))
+    ]

@@ -1,5 +1,5 @@
 -- What one step of adding two combinations gives.
-use Rattle.std.proofs.Common.{◌≡◌, ◌≢◌, ℕ, ◌+◌, ◌*◌, ◌%◌, ◌<◌, ◌≤◌, not, Bool, List, [], ◌∷◌, ◌++◌, Option, Some, None, refl, sym, ◌∙◌, ap, ap₂, subst, arith, eqb, true, false, inl, inr, cond, eqb-true, eq-eqb, ne_eqb, add-mul, mul-zero, length, append_assoc, append-nil}
+use Rattle.std.proofs.Common.{◌≡◌, ◌≢◌, ◌⊎◌, ℕ, ◌+◌, ◌*◌, ◌%◌, ◌^◌, ◌<◌, ◌≤◌, not, Bool, List, [], ◌∷◌, ◌++◌, Option, Some, None, refl, sym, ◌∙◌, ap, ap₂, subst, arith, eqb, true, false, inl, inr, cond, eqb-true, eq-eqb, ne_eqb, add-mul, mod-lt, mul-zero, length, append_assoc, append-nil}
 use Rattle.std.specs.Prelude.{slice_index}
 use Rattle.std.proofs.lemmas.Bool.{cond_both, eqb-false, cases_Bool, cond-true, cond-false}
 use Rattle.tv_core.proofs.CombinationLaws.{value-cons, value-append, value-below}
@@ -144,29 +144,63 @@ merge-turn out total left right w k leaving x y n m h g is before =
 pub normal-rest : (w : ℕ) (x : Combination) → IsNormalFrom 0 x → w ≤ first_wire x → IsNormalFrom 0 (tail_at w x)
 normal-rest w x n h = IsNormalFrom-lower 0 (w + 1) (tail_at w x) (omega arith) (normal-tail_at w x (normal-least w x n h))
 
--- the first of the two is taken, so fewer terms are left
-pub fewer : (w : ℕ) (x : Combination) → length (tail_at w x) ≤ length x
-fewer w [] = omega arith
-fewer w (t ∷ x) = cond_both (eqb t.1 w) x (t ∷ x) (λ y. length y ≤ length (t ∷ x)) (λ e. omega arith) (λ e. omega arith)
+-- a wire before the first one
+head_at-before : (w : ℕ) (x : Combination) → w < first_wire x → head_at w x ≡ 0
+head_at-before w [] h = refl
+head_at-before w (t ∷ x) h = ap (λ b. cond b t.0 0) (ne_eqb t.1 w (λ e. absurd (omega arith)))
 
-pub one_fewer : (w : ℕ) (x : Combination) → 0 < length x → first_wire x ≡ w → length (tail_at w x) < length x
-one_fewer w [] some is = absurd (omega arith)
-one_fewer w (t ∷ x) some is = ap_below (sym (ap (λ b. cond b x (t ∷ x)) (eq-eqb t.1 w is)))
-  where
-    ap_below : {y : Combination} → x ≡ y → length y < length (t ∷ x)
-    ap_below e = omega (arith, ap length e)
+given-below : (factor : ℕ) (leaving : Option ℕ) (w : ℕ) (x : Combination) → given factor leaving w x < P
+given-below factor None w x = mod-lt (factor * head_at w x) (omega arith)
+given-below factor (Some v) w x =
+    cond_both (eqb v w) 0 (factor * head_at w x % P) (λ k. k < P) (λ _. omega arith) (λ _. mod-lt (factor * head_at w x) (omega arith))
 
-none_at_all : (left right : ℕ) (leaving : Option ℕ) → normal (side left leaving [] ++ side right None []) ≡ []
-unfolding normal without
-none_at_all left right None = refl
-none_at_all left right (Some w) = refl
+given-before : (factor : ℕ) (leaving : Option ℕ) (w : ℕ) (x : Combination) → head_at w x ≡ 0 → given factor leaving w x ≡ 0
+given-before factor None w x e = ap (λ k. factor * k % P) e ∙ ap (λ k. k % P) (mul-zero factor)
+given-before factor (Some v) w x e =
+    cond_both (eqb v w) 0 (factor * head_at w x % P) (λ k. k ≡ 0) (λ _. refl) (λ _. ap (λ k. factor * k % P) e ∙ ap (λ k. k % P) (mul-zero factor))
 
--- where both sides are used up, what was put is the whole
-pub nothing_left : (out total : Combination) (left right : ℕ) (leaving : Option ℕ) (x y : Combination) → x ≡ [] → y ≡ [] → out ++ normal (side left leaving x ++ side right None y) ≡ total → out ≡ total
-nothing_left out total left right leaving x y e f before =
-    sym (append-nil out)
-    ∙ ap (λ u. out ++ u) (sym (none_at_all left right leaving))
-    ∙ ap₂ (λ u v. out ++ normal (side left leaving u ++ side right None v)) (sym e) (sym f)
+-- a wire that only the left side has
+given-left : (left right w : ℕ) (l r : Option ℕ) (x y : Combination) → w < first_wire y → given left l w x ≡ (given left l w x + given right r w y) % P
+given-left left right w l r x y h =
+    let none = given-before right r w y (head_at-before w y h) in
+    let small = given-below left l w x in
+    omega arith
+
+-- one turn of the loop that appends one side
+pub append-turn : (out total : Combination) (factor w k : ℕ) (leaving : Option ℕ) (x : Combination) → IsNormalFrom 0 x → w ≤ first_wire x → w < 2 ^ 32 → k ≡ given factor leaving w x →
+    out ++ normal (side factor leaving x) ≡ total → (out ++ with_term k w []) ++ normal (side factor leaving (tail_at w x)) ≡ total
+append-turn out total factor w k leaving x n h small is before =
+    ap (λ u. (out ++ with_term k w []) ++ normal u) (sym (append-nil (side factor leaving (tail_at w x))))
+    ∙ merge-turn out total factor 0 w k leaving x [] n tt h (omega arith) (is ∙ given-left factor 0 w leaving None x [] small)
+    (ap (λ u. out ++ normal u) (append-nil (side factor leaving x)) ∙ before)
+
+-- a side that is used up
+side-none : (factor : ℕ) (leaving : Option ℕ) → side factor leaving [] ≡ []
+unfolding without
+side-none factor None = refl
+side-none factor (Some w) = refl
+
+none_made : (factor : ℕ) (leaving : Option ℕ) → normal (side factor leaving []) ≡ []
+unfolding normal
+none_made factor leaving = ap normal (side-none factor leaving)
+
+pub nothing_left : (out total : Combination) (factor : ℕ) (leaving : Option ℕ) (x : Combination) → x ≡ [] → out ++ normal (side factor leaving x) ≡ total → out ≡ total
+nothing_left out total factor leaving x e before =
+    sym (append-nil out) ∙ ap (λ u. out ++ u) (sym (none_made factor leaving)) ∙ ap (λ u. out ++ normal (side factor leaving u)) (sym e) ∙ before
+
+-- where one side is used up, what the other one is is appended
+pub either_left : (out one two total : Combination) (left right : ℕ) (leaving : Option ℕ) (x y : Combination) → (x ≡ []) ⊎ (y ≡ []) → one ≡ out ++ normal (side left leaving x) → two ≡ one ++ normal (side right None y) →
+    out ++ normal (side left leaving x ++ side right None y) ≡ total → two ≡ total
+either_left out one two total left right leaving x y (inl e) first second before =
+    second
+    ∙ ap (λ u. u ++ normal (side right None y)) (sym (nothing_left out one left leaving x e (sym first)))
+    ∙ ap (λ u. out ++ normal (u ++ side right None y)) (sym (ap (side left leaving) e ∙ side-none left leaving))
+    ∙ before
+either_left out one two total left right leaving x y (inr e) first second before =
+    sym (nothing_left one two right None y e (sym second))
+    ∙ first
+    ∙ ap (λ u. out ++ normal u) (sym (append-nil (side left leaving x)))
+    ∙ ap (λ u. out ++ normal (side left leaving x ++ side right None u)) (sym e)
     ∙ before
 
 pub empty_from : (x : Combination) → eqb (length x) 0 ≡ true → x ≡ []

@@ -1,7 +1,7 @@
 -- Terms that were read, made normal.
-use Rattle.std.proofs.Common.{◌≡◌, ◌⊎◌, ℕ, zero, suc, ◌+◌, ◌%◌, ◌<◌, ◌≤◌, Bool, not, ◌||◌, List, [], ◌∷◌, ◌++◌, Option, Some, None, refl, sym, ◌∙◌, ap, ap₂, subst, arith, eqb, ltb, ne_eqb, true, false, inl, inr, cond, map, length, get_or, drop, take, add-one, drop-cons, mod-eq_of_lt, eqb-true, eq-eqb, append-nil, set, take_all}
+use Rattle.std.proofs.Common.{◌≡◌, ◌⊎◌, ℕ, zero, suc, ◌+◌, ◌%◌, ◌<◌, ◌≤◌, Bool, not, List, [], ◌∷◌, ◌++◌, Option, Some, None, refl, sym, ◌∙◌, ap, ap₂, subst, arith, eqb, ltb, ne_eqb, true, false, inl, inr, cond, map, length, get_or, drop, take, add-one, drop-cons, mod-eq_of_lt, eqb-true, eq-eqb, append-nil, set}
 use Rattle.std.proofs.Common.{Result, Ok, Err}
-use Rattle.std.specs.List.{AllByRecursion, All, list_any}
+use Rattle.std.specs.List.{AllByRecursion, All, sum_by}
 use Rattle.tv_container.specs.Places.{Fault, ◌>>=◌, wrong}
 use Rattle.tv_container.specs.Reading.{Refuses, Stopped}
 use Rattle.tv_container.specs.declared.why.ReadRefusal.{ReadRefusal}
@@ -13,13 +13,14 @@ use Rattle.tv_r1cs_read.specs.R1cs.{system_of}
 use Rattle.tv_shrink.specs.declared.fault.ShrinkFault.{ShrinkFault}
 use Rattle.tv_shrink.specs.declared.fault.ShrinkFault.TheVariants as fault
 use Rattle.std.proofs.lemmas.List.{map_push, take_more}
-use Rattle.std.proofs.lemmas.Bool.{cases_Bool, ltb-false, or_cases, or_left}
+use Rattle.std.proofs.lemmas.List.Sums.{sum_by-append}
+use Rattle.std.proofs.lemmas.Bool.{cases_Bool, ltb-false}
 use Rattle.std.proofs.lemmas.List.Elements.{All-more, filter-append, recursion_from_All}
 use Rattle.tv_core.proofs.CombinationLaws.{value-append}
 use Rattle.tv_container.specs.declared.why.ReadWhy.{ReadWhy}
 use Rattle.tv_core.specs.Combinations.{scaled, top}
 use Rattle.tv_core.specs.declared.lines.Counts.{Counts}
-use Rattle.tv_r1cs_read.specs.Survey.{survey_of, system_counts}
+use Rattle.tv_r1cs_read.specs.Survey.{survey_of, system_counts, terms_of}
 use Rattle.tv_core.specs.Constraints.{Combination, Constraint, System, value}
 use Rattle.tv_core.specs.declared.field.TheConstants.{P}
 use Rattle.tv_r1cs_read.specs.Rows.{combination_of, constraint_of, IsOver}
@@ -29,7 +30,7 @@ use Rattle.tv_shrink.specs.Normal.{added, non_zero, normal, normal_constraint, I
 use Rattle.tv_shrink.proofs.NormalLaws.{Over, Over-normal, value-normal, IsNormalFrom-normal}
 use Rattle.tv_shrink.proofs.Unique.{same_values, normal-same}
 use Rattle.tv_shrink.specs.Replacing.{has_wire}
-use Rattle.tv_shrink.specs.Tidy.{AreNormal, Covers, IsWithin, RowIsNormal, RowIsWithin, row_has}
+use Rattle.tv_shrink.specs.Tidy.{AreNormal, IsWithin, RowIsNormal, RowIsWithin}
 use Rattle.tv_shrink.proofs.ReplacingLaws.{Over-has_wire}
 use Rattle.tv_shrink.proofs.Constants.{scaled_once}
 
@@ -155,40 +156,7 @@ pushed_cases (first ∷ rows) row zero = inl refl
 pushed_cases (first ∷ rows) row (suc i) =
     elim (pushed_cases rows row i) [ inl same ↦ inl same | inr here ↦ inr (omega (arith, here.0), here.1) ]
 
-pub push-covers : (publics : ℕ) (rows : List (Option Constraint)) (row : Constraint) (lists next : List (List ℕ)) → Covers publics rows lists →
-    ((v i : ℕ) → list_any (λ p. eqb p i) (get_or lists v []) ≡ true → list_any (λ p. eqb p i) (get_or next v []) ≡ true) →
-    ((v : ℕ) → publics ≤ v → row_has v (Some row) ≡ true → list_any (λ p. eqb p (length rows)) (get_or next v []) ≡ true) →
-    Covers publics (rows ++ Some row ∷ []) next
-push-covers publics rows row lists next covers more added i v above has =
-    elim (pushed_cases rows (Some row) i) [
-      | inl same ↦ more v i (covers i v above (ap (row_has v) (sym same) ∙ has))
-      | inr here ↦ subst (λ j. list_any (λ p. eqb p j) (get_or next v []) ≡ true) (sym here.0) (added v above (ap (row_has v) (sym here.1) ∙ has))
-    ]
-
-pub one_place : (k n : ℕ) → k ≡ n → list_any (λ p. eqb p n) (k ∷ []) ≡ true
-one_place k n e = or_left (eqb k n) false (eq-eqb k n e)
-
--- places added for the three combinations of a row, one after another
-pub row-added : (publics n v : ℕ) (row : Constraint) (one two three : List (List ℕ)) →
-    (has_wire v row.a ≡ true → list_any (λ p. eqb p n) (get_or one v []) ≡ true) →
-    (has_wire v row.b ≡ true → list_any (λ p. eqb p n) (get_or two v []) ≡ true) →
-    (has_wire v row.c ≡ true → list_any (λ p. eqb p n) (get_or three v []) ≡ true) →
-    ((u i : ℕ) → list_any (λ p. eqb p i) (get_or one u []) ≡ true → list_any (λ p. eqb p i) (get_or two u []) ≡ true) →
-    ((u i : ℕ) → list_any (λ p. eqb p i) (get_or two u []) ≡ true → list_any (λ p. eqb p i) (get_or three u []) ≡ true) →
-    row_has v (Some row) ≡ true → list_any (λ p. eqb p n) (get_or three v []) ≡ true
-row-added publics n v row one two three a b c more again has =
-    elim (or_cases (has_wire v row.a) (has_wire v row.b || has_wire v row.c) has) [
-      | inl in_a ↦ again v n (more v n (a in_a))
-      | inr later ↦ elim (or_cases (has_wire v row.b) (has_wire v row.c) later) [ inl in_b ↦ again v n (b in_b) | inr in_c ↦ c in_c ]
-    ]
-
 -- one element changed after another
-nothing_dropped : {A : Type 0} (xs : List A) (i : ℕ) → length xs ≤ i → drop i xs ≡ []
-nothing_dropped [] zero h = refl
-nothing_dropped [] (suc i) h = refl
-nothing_dropped (x ∷ xs) zero h = absurd (omega arith)
-nothing_dropped (x ∷ xs) (suc i) h = nothing_dropped xs i (omega arith)
-
 module _ {A : Type 0} (f : A → A) where
   pub untouched : (xs : List A) (i : ℕ) (d : A) → get_or (map f (take i xs) ++ drop i xs) i d ≡ get_or xs i d
   untouched [] zero d = refl
@@ -201,14 +169,11 @@ module _ {A : Type 0} (f : A → A) where
   touched (x ∷ xs) zero d h = refl
   touched (x ∷ xs) (suc i) d h = ap (λ rest. f x ∷ rest) (touched xs i d (omega arith))
 
-  pub touched_more : (xs ys : List A) (i : ℕ) (y : A) → i < length xs → ys ≡ map f (take i xs) ++ drop i xs → y ≡ get_or ys i y → set ys i (f y) ≡ map f (take (i + 1) xs) ++ drop (i + 1) xs
-  touched_more xs ys i y h is at =
-      ap₂ (λ zs z. set zs i (f z)) is (at ∙ ap (λ zs. get_or zs i y) is ∙ untouched xs i y)
-      ∙ touched xs i y h
+  pub touched_more : (xs ys : List A) (i : ℕ) (y d : A) → i < length xs → ys ≡ map f (take i xs) ++ drop i xs → y ≡ get_or ys i d → set ys i (f y) ≡ map f (take (i + 1) xs) ++ drop (i + 1) xs
+  touched_more xs ys i y d h is at =
+      ap₂ (λ zs z. set zs i (f z)) is (at ∙ ap (λ zs. get_or zs i d) is ∙ untouched xs i d)
+      ∙ touched xs i d h
       ∙ ap (λ k. map f (take k xs) ++ drop k xs) (sym (add-one i))
-
-  pub touched_all : (xs ys : List A) (i : ℕ) → length xs ≤ i → ys ≡ map f (take i xs) ++ drop i xs → ys ≡ map f xs
-  touched_all xs ys i h is = is ∙ ap₂ (λ a b. map f a ++ b) (take_all i xs h) (nothing_dropped xs i h) ∙ append-nil (map f xs)
 
 pub each_at : {A : Type 0} (Q : A → Type 0) (xs : List A) (i : ℕ) (d : A) → AllByRecursion Q xs → i < length xs → Q (get_or xs i d)
 each_at Q [] i d h k = absurd (omega arith)
@@ -254,16 +219,19 @@ halted old new name refusal.Fault stopped = record { only = stopped.only; there 
 halted old new name refusal.Memory stopped = record { only = stopped.only; there = stopped.there; cause = λ e. absurd (cc) }
 
 -- nothing was read since
-pub wide_halted : (outside : Outside) (name : List ℕ) (fault : ShrinkFault) (found : Option ℕ) → IsTooWide fault found → Halted outside outside name fault
-wide_halted outside name fault found e = record {
+pub stayed : (outside : Outside) (name : List ℕ) (found : ShrinkFault) → (found ≡ fault.Fault → ⊥) → Halted outside outside name found
+stayed outside name found apart = record {
   only = record {
     contents = refl;
     said = refl;
     later = record { read_faults = omega arith; write_faults = omega arith; say_faults = omega arith; wants = omega arith; absent = omega arith };
   };
   there = λ files told. inl refl;
-  cause = λ is. absurd (subst (λ f. IsTooWide f found) is e);
+  cause = λ is. absurd (apart is);
 }
+
+pub wide_halted : (outside : Outside) (name : List ℕ) (why : ShrinkFault) (found : Option ℕ) → IsTooWide why found → Halted outside outside name why
+wide_halted outside name why found e = stayed outside name why (λ is. subst (λ f. IsTooWide f found) is e)
 
 -- where reading has come to some constraints, they are the system's first
 pub is_front : (reached : Reached) (file : List ℕ) (done : List Constraint) (system : System) → IsAt reached file done → system_of file ≡ Ok system → (others : List Constraint) × (system.constraints ≡ done ++ others)
@@ -290,6 +258,12 @@ wide_read (fault.Combination has) reached file done c none at err = λ system is
     ap first_wide front.1 ∙ wide_front (done ++ c ∷ []) front.0 has (wide_more done c none ∙ err)
 wide_read fault.Fault reached file done c none at err = absurd err
 wide_read fault.Memory reached file done c none at err = tt
+
+-- constraints that are too many terms already
+pub long_read : (reached : Reached) (file : List ℕ) (done : List Constraint) (has : ℕ) → IsAt reached file done → most < reached.terms → TellsRead (fault.Terms has) file
+long_read reached file done has at many = λ system is.
+    let front = is_front reached file done system at is in
+    omega (arith, at.terms, ap (sum_by terms_of) front.1, sum_by-append terms_of done front.0)
 
 -- a wire whose row is within, at a place
 pub start_more : (done : List Constraint) (c : Constraint) → start_rows (done ++ c ∷ []) ≡ start_rows done ++ Some (normal_constraint c) ∷ []
@@ -319,13 +293,10 @@ tells_survey refusal.Memory file refuses = tt
 
 pub tells_both : (fault : ShrinkFault) (file : List ℕ) (system : System) → system_of file ≡ Ok system → all_terms system ≤ most → TellsRead fault file → Tells fault file
 tells_both (fault.Bad at why) file system is few tells = tells
-tells_both (fault.Terms has) file system is few tells = absurd tells
+tells_both (fault.Terms has) file system is few tells = absurd (let many = tells system is in omega arith)
 tells_both (fault.Combination has) file system is few tells = record { system = system; is = is; few = few; first = tells system is }
 tells_both fault.Fault file system is few tells = tt
 tells_both fault.Memory file system is few tells = tt
-
-pub same_system : (file : List ℕ) (a b : System) → system_of file ≡ Ok a → system_of file ≡ Ok b → a ≡ b
-same_system file a b e f = cc
 
 pub top_within : (n : ℕ) (x : Combination) → Over (λ v. v < n) x → top x ≤ n
 top_within n [] h = omega arith

@@ -1,12 +1,13 @@
 -- Constraints whose terms lie one after another in a list.
-use Rattle.std.proofs.Common.{◌≡◌, ℕ, zero, suc, ◌+◌, ◌-◌, ◌<◌, ◌≤◌, List, [], ◌∷◌, ◌++◌, Option, Some, None, refl, sym, ◌∙◌, ap, ap₂, subst, arith, append-nil, map, length, get_or, set, take, drop}
+use Rattle.std.proofs.Common.{◌≡◌, ℕ, zero, suc, ◌+◌, ◌-◌, ◌<◌, ◌≤◌, List, [], ◌∷◌, ◌++◌, Option, Some, None, refl, sym, ◌∙◌, ap, ap₂, arith, append-nil, map, length, get_or, set, take, drop}
+use Rattle.std.specs.List.{AllByRecursion}
 use Rattle.std.specs.Option.{option_map}
 use Rattle.std.specs.Prelude.{slice_index, slice_range}
-use Rattle.std.proofs.Math.Seq.{drop-append_seam, take-append_seam}
-use Rattle.std.proofs.lemmas.List.{append_assoc, drop-append-le, drop-map, length-append, length-drop, length-map, length-take, map-append, map_more, map-set, take-append-le, take-map}
+use Rattle.std.proofs.Math.Seq.{drop-append_seam, take-add, take-append_seam}
+use Rattle.std.proofs.lemmas.List.{append_assoc, drop-append-le, drop-drop, length-append, length-drop, length-map, length-take, map-append, take-append-le}
 use Rattle.tv_core.specs.Constraints.{Combination, Constraint}
-use Rattle.tv_shrink.specs.Moving.{moved, moved_in, moved_rows}
-use Rattle.tv_shrink.specs.Spans.{end_of, row_at, row_terms, span_of, AreInside, IsInside}
+use Rattle.tv_shrink.specs.Moving.{moved, moved_in}
+use Rattle.tv_shrink.specs.Spans.{end_of, row_at, row_terms, span_of, AreInside}
 use Rattle.tv_shrink.specs.declared.rows.Span.{Span}
 
 -- a part of a list that has more behind it
@@ -20,11 +21,6 @@ part_between : (xs ys zs : Combination) (i j : ℕ) → i ≡ length xs → j �
 part_between xs ys zs i j first last =
     let n : j - i ≡ length ys = omega arith in
     ap₂ (λ m k. take m (drop k (xs ++ (ys ++ zs)))) n first ∙ ap (take (length ys)) (drop-append_seam xs (ys ++ zs)) ∙ take-append_seam ys zs
-
-part_moved : (numbers : List ℕ) (xs : Combination) (i j : ℕ) → slice_range (moved numbers xs) i j ≡ moved numbers (slice_range xs i j)
-part_moved numbers xs i j =
-    let f : ℕ × ℕ → ℕ × ℕ = λ t. (t.0, slice_index numbers t.1) in
-    ap (take (j - i)) (drop-map f i xs) ∙ take-map f (j - i) (drop i xs)
 
 pub same_row : (a b c d e f : Combination) → a ≡ d → b ≡ e → c ≡ f → record { a = a; b = b; c = c } ≡ (let row : Constraint = record { a = d; b = e; c = f } in row)
 same_row a b c d e f p q r =
@@ -66,19 +62,15 @@ inside_more n m [] h inside = tt
 inside_more n m (None ∷ spans) h inside = (tt, inside_more n m spans h inside.1)
 inside_more n m (Some span ∷ spans) h inside = (omega (arith, inside.0), inside_more n m spans h inside.1)
 
-pub inside_set : (n : ℕ) (spans : List (Option Span)) (i : ℕ) (span : Option Span) → AreInside n spans → IsInside n span → AreInside n (set spans i span)
-inside_set n [] i span inside here = inside
-inside_set n (first ∷ spans) zero span inside here = (here, inside.1)
-inside_set n (first ∷ spans) (suc i) span inside here = (inside.0, inside_set n spans i span inside.1 here)
+module _ (R : Option Span → Type 0) where
+  pub set_each : (spans : List (Option Span)) (i : ℕ) (span : Option Span) → AllByRecursion R spans → R span → AllByRecursion R (set spans i span)
+  set_each [] i span each here = each
+  set_each (first ∷ spans) zero span each here = (here, each.1)
+  set_each (first ∷ spans) (suc i) span each here = (each.0, set_each spans i span each.1 here)
 
-pub inside_push : (n : ℕ) (spans : List (Option Span)) (span : Option Span) → AreInside n spans → IsInside n span → AreInside n (spans ++ span ∷ [])
-inside_push n [] span inside here = (here, tt)
-inside_push n (first ∷ spans) span inside here = (inside.0, inside_push n spans span inside.1 here)
-
-pub inside_at : (n : ℕ) (spans : List (Option Span)) (i : ℕ) (span : Option Span) → AreInside n spans → i < length spans → span ≡ get_or spans i span → IsInside n span
-inside_at n [] i span inside h at = absurd (omega arith)
-inside_at n (first ∷ spans) zero span inside h at = subst (IsInside n) (sym at) inside.0
-inside_at n (first ∷ spans) (suc i) span inside h at = inside_at n spans i span inside.1 (omega arith) at
+  pub push_each : (spans : List (Option Span)) (span : Option Span) → AllByRecursion R spans → R span → AllByRecursion R (spans ++ span ∷ [])
+  push_each [] span each here = (here, tt)
+  push_each (first ∷ spans) span each here = (each.0, push_each spans span each.1 here)
 
 -- the constraint at a place
 pub row_found : (f : Span → Constraint) (spans : List (Option Span)) (rows : List (Option Constraint)) (i : ℕ) (span : Option Span) → map (option_map f) spans ≡ rows → i < length rows → span ≡ get_or spans i span →
@@ -92,40 +84,27 @@ row_found f spans rows i span is h at =
     found (x ∷ xs) zero h = refl
     found (x ∷ xs) (suc i) h = found xs i (omega arith)
 
--- one more constraint, whose terms are appended
-pub rows_added : (xs ys : Combination) (spans more : List (Option Span)) (row : Constraint) (span : Span) → AreInside (length xs) spans → ys ≡ xs ++ row_terms row → span ≡ span_of (length xs) row → more ≡ spans ++ Some span ∷ [] →
-    AreInside (length ys) more × (map (option_map (row_at ys)) more ≡ map (option_map (row_at xs)) spans ++ Some row ∷ [])
-rows_added xs ys spans more row span inside is at pushed =
-    let ends : end_of span ≡ length ys = ap end_of at ∙ row_end xs row ∙ ap length (sym is) in
-    let longer : length xs ≤ length ys = omega (arith, ap length is, length-append xs (row_terms row)) in (
-      subst (AreInside (length ys)) (sym pushed) (inside_push (length ys) spans (Some span) (inside_more (length xs) (length ys) spans longer inside) (omega (arith, ends))),
-      ap₂ (λ terms list. map (option_map (row_at terms)) list) is pushed
-          ∙ map-append (option_map (row_at (xs ++ row_terms row))) spans (Some span ∷ [])
-          ∙ ap₂ (λ rows last. rows ++ Some last ∷ []) (rows_kept xs (row_terms row) spans inside) (ap (row_at (xs ++ row_terms row)) at ∙ row_appended xs row),
-    )
-
--- a constraint in place of another one, its terms appended
-pub rows_changed : (xs ys : Combination) (spans : List (Option Span)) (rows : List (Option Constraint)) (i : ℕ) (row : Constraint) (span : Span) → AreInside (length xs) spans → map (option_map (row_at xs)) spans ≡ rows → ys ≡ xs ++ row_terms row → span ≡ span_of (length xs) row →
-    AreInside (length ys) (set spans i (Some span)) × (map (option_map (row_at ys)) (set spans i (Some span)) ≡ set rows i (Some row))
-rows_changed xs ys spans rows i row span inside view is at =
-    let ends : end_of span ≡ length ys = ap end_of at ∙ row_end xs row ∙ ap length (sym is) in
-    let longer : length xs ≤ length ys = omega (arith, ap length is, length-append xs (row_terms row)) in (
-      inside_set (length ys) spans i (Some span) (inside_more (length xs) (length ys) spans longer inside) (omega (arith, ends)),
-      map-set (option_map (row_at ys)) spans i (Some span)
-          ∙ ap₂ (λ list last. set list i (Some last)) (ap (λ terms. map (option_map (row_at terms)) spans) is ∙ rows_kept xs (row_terms row) spans inside ∙ view)
-          (ap₂ row_at is at ∙ row_appended xs row),
-    )
-
 -- wires numbered anew
-row_moved : (numbers : List ℕ) (xs : Combination) (span : Span) → row_at (moved numbers xs) span ≡ moved_in numbers (row_at xs span)
-row_moved numbers xs span =
-    same_row _ _ _ _ _ _
-    (part_moved numbers xs span.start (span.start + span.a)) (part_moved numbers xs (span.start + span.a) (span.start + span.a + span.b)) (part_moved numbers xs (span.start + span.a + span.b) (span.start + span.a + span.b + span.c))
+moved_append : (numbers : List ℕ) (xs ys : Combination) → moved numbers (xs ++ ys) ≡ moved numbers xs ++ moved numbers ys
+moved_append numbers xs ys = map-append (λ (t : ℕ × ℕ). (t.0, slice_index numbers t.1)) xs ys
 
-pub rows_moved : (numbers : List ℕ) (xs : Combination) (spans : List (Option Span)) → map (option_map (row_at (moved numbers xs))) spans ≡ moved_rows numbers (map (option_map (row_at xs)) spans)
-rows_moved numbers xs [] = refl
-rows_moved numbers xs (None ∷ spans) = ap (λ rows. None ∷ rows) (rows_moved numbers xs spans)
-rows_moved numbers xs (Some span ∷ spans) = ap₂ (λ row rows. Some row ∷ rows) (row_moved numbers xs span) (rows_moved numbers xs spans)
+pub moved_length : (numbers : List ℕ) (xs : Combination) → length (moved numbers xs) ≡ length xs
+moved_length numbers xs = length-map xs (λ (t : ℕ × ℕ). (t.0, slice_index numbers t.1))
+
+-- a part of a list is the parts that it is made of
+parts_joined : (xs : Combination) (i j k : ℕ) → i ≤ j → j ≤ k → slice_range xs i k ≡ slice_range xs i j ++ slice_range xs j k
+parts_joined xs i j k h l =
+    ap (λ n. take n (drop i xs)) (let size : k - i ≡ (j - i) + (k - j) = omega arith in size)
+    ∙ take-add (j - i) (k - j) (drop i xs)
+    ∙ ap (λ ys. slice_range xs i j ++ take (k - j) ys) (drop-drop (j - i) i xs ∙ ap (λ n. drop n xs) (let at : i + (j - i) ≡ j = omega arith in at))
+
+pub terms_moved : (numbers : List ℕ) (xs : Combination) (span : Span) → moved numbers (slice_range xs span.start (end_of span)) ≡ row_terms (moved_in numbers (row_at xs span))
+terms_moved numbers xs span =
+    let b = span.start + span.a in
+    let c = b + span.b in
+    ap (moved numbers) (parts_joined xs span.start b (end_of span) (omega arith) (omega arith) ∙ ap (λ ys. slice_range xs span.start b ++ ys) (parts_joined xs b c (end_of span) (omega arith) (omega arith)))
+    ∙ moved_append numbers (slice_range xs span.start b) (slice_range xs b c ++ slice_range xs c (end_of span))
+    ∙ ap (λ ys. moved numbers (slice_range xs span.start b) ++ ys) (moved_append numbers (slice_range xs b c) (slice_range xs c (end_of span)))
 
 -- where a constraint was appended, from what the calls gave
 pub span_is : (xs : Combination) (row : Constraint) (start a b c : ℕ) → start ≡ length xs → a ≡ length row.a → b ≡ length row.b → c ≡ length row.c → record { start = start; a = a; b = b; c = c } ≡ span_of (length xs) row
@@ -146,12 +125,15 @@ span_copied xs terms span start at inside =
     span_is xs (row_at terms span) start span.a span.b span.c at (part_size terms span.start span.a (omega arith)) (part_size terms (span.start + span.a) span.b (omega arith))
     (part_size terms (span.start + span.a + span.b) span.c (omega arith))
 
+-- they stay where they lie
+pub span_moved : (numbers : List ℕ) (xs : Combination) (span : Span) → end_of span ≤ length xs → span ≡ span_of span.start (moved_in numbers (row_at xs span))
+span_moved numbers xs span inside =
+    let row = row_at xs span in
+    let made : ℕ → ℕ → ℕ → Span = λ x y z. record { start = span.start; a = x; b = y; c = z } in
+    ap₂ (λ x y. made x y span.c) (part_size xs span.start span.a (omega arith) ∙ sym (moved_length numbers row.a)) (part_size xs (span.start + span.a) span.b (omega arith) ∙ sym (moved_length numbers row.b))
+    ∙ ap (made (length (moved numbers row.a)) (length (moved numbers row.b))) (part_size xs (span.start + span.a + span.b) span.c (omega arith) ∙ sym (moved_length numbers row.c))
+
 -- one more constraint that was dropped
 pub rows_pushed : (f : Span → Constraint) (spans more : List (Option Span)) (rows : List (Option Constraint)) → map (option_map f) spans ≡ rows → more ≡ spans ++ None ∷ [] → map (option_map f) more ≡ rows ++ None ∷ []
 rows_pushed f spans more rows view is =
     ap (map (option_map f)) is ∙ map-append (option_map f) spans (None ∷ []) ∙ ap (λ xs. xs ++ None ∷ []) view
-
--- the first constraints, and one more
-pub rows_taken : (f : Span → Constraint) (spans : List (Option Span)) (i : ℕ) (span : Option Span) → i < length spans → span ≡ get_or spans i span → map (option_map f) (take i spans) ++ option_map f span ∷ [] ≡ map (option_map f) (take (i + 1) spans)
-rows_taken f spans i span h at =
-    ap (λ row. map (option_map f) (take i spans) ++ option_map f row ∷ []) at ∙ sym (map_more (option_map f) spans i span h)

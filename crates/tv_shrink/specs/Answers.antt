@@ -115,17 +115,27 @@ pub record IsReady (counts : Counts) (publics : ℕ) (rows : List (Option Constr
   pub few : length rows < 2 ^ 32
   pub fits : counts.wires < 2 ^ 32
 
--- the rows are the constraints of the file's system, none of which is too wide
+-- the rows are the constraints of the file's system, which are not too many terms, and none of which is too wide
 pub record IsRead (counts : Counts) (rows : List (Option Constraint)) (file : List ℕ) : Type 0 where
   pub list : List Constraint
   pub is : system_of file ≡ Ok (counted_system counts list)
   pub same : rows ≡ start_rows list
+  pub few : sum_by terms_of list ≤ most
   pub narrow : first_wide list ≡ None
 
--- what a refusal to read tells of a file: its first fault, or, where it holds a system, that a combination is too wide
+-- a refusal of a system for its terms or for a combination
+abbrev pub IsOfSize : ShrinkFault → Type 0
+IsOfSize (Bad at why) = ⊥
+IsOfSize (Terms has) = Unit {0}
+IsOfSize (Wide has) = Unit {0}
+IsOfSize Failed = ⊥
+IsOfSize Memory = ⊥
+
+-- what a refusal to read tells of a file: its first fault, or, where it holds a system, that this has too many terms
+-- or a combination that is too wide
 abbrev pub TellsRead : ShrinkFault → List ℕ → Type 0
 TellsRead (Bad at why) file = system_of file ≡ wrong at why
-TellsRead (Terms has) file = ⊥
+TellsRead (Terms has) file = (system : System) → system_of file ≡ Ok system → most < all_terms system
 TellsRead (Wide has) file = (system : System) → system_of file ≡ Ok system → first_wide system.constraints ≡ Some has
 TellsRead Failed file = Unit {0}
 TellsRead Memory file = Unit {0}

@@ -1,5 +1,5 @@
 -- Constraints whose terms lie one after another in a list.
-use Rattle.std.specs.Prelude.{ℕ, ◌+◌, ◌≤◌, List, ◌++◌, length, Option, None, Some, slice_range}
+use Rattle.std.specs.Prelude.{◌≡◌, ◌⊎◌, ℕ, ◌+◌, ◌≤◌, List, [], ◌∷◌, ◌++◌, length, Option, None, Some, drop, slice_range, take}
 use Rattle.std.specs.List.{AllByRecursion}
 use Rattle.tv_core.specs.Constraints.{Combination, Constraint}
 use Rattle.tv_shrink.specs.declared.rows.Span.{Span}
@@ -31,3 +31,27 @@ IsInside n (Some span) = end_of span ≤ n
 
 abbrev pub AreInside : ℕ → List (Option Span) → Type 0
 AreInside n spans = AllByRecursion (IsInside n) spans
+
+-- a constraint's terms, where it was not dropped, lie outside a part
+abbrev pub IsClear : ℕ → ℕ → Option Span → Type 0
+IsClear start end None = Unit {0}
+IsClear start end (Some span) = (end_of span ≤ start) ⊎ (end ≤ span.start)
+
+-- the terms of no two constraints lie in one place
+abbrev pub AreApart : List (Option Span) → Type 0
+AreApart [] = Unit {0}
+AreApart (None ∷ spans) = AreApart spans
+AreApart (Some span ∷ spans) = AllByRecursion (IsClear span.start (end_of span)) spans × AreApart spans
+
+-- the constraints' terms lie before a place, each constraint's apart from all others
+pub record AreLaid (n : ℕ) (spans : List (Option Span)) : Type 0 where
+  pub inside : AreInside n spans
+  pub apart : AreApart spans
+
+-- terms put in place of those from a place on; behind all others, where that is their end
+abbrev pub laid : ℕ → Combination → Combination → Combination
+laid start put terms = take start terms ++ (put ++ drop (start + length put) terms)
+
+-- so many terms from a place on are no others than those of a span, or lie behind all
+abbrev pub IsFree : ℕ → Span → ℕ → ℕ → Type 0
+IsFree count span start size = ((start ≡ span.start) × (start + size ≤ end_of span)) ⊎ (start ≡ count)

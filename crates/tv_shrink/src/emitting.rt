@@ -7,7 +7,7 @@ ghost use Rattle.tv_shrink.specs.Tidy.{RowIsWithin, AreWithin};
 
 use crate::row::Row;
 use crate::rows::Rows;
-use tv_core::{Lc, Put, Sink};
+use tv_core::{F, Lc, Put, Sink, Wire};
 
 /// Makes so many wires.
 pub(crate) fn make_wires<S: Sink>(s: &mut S, n: u32)
@@ -20,21 +20,39 @@ pub(crate) fn make_wires<S: Sink>(s: &mut S, n: u32)
     }
 }
 
-// Puts the constraint at a place, unless it was dropped.
-fn put_row<S: Sink>(s: &mut S, row: &Option<Row<'_>>) -> Put<()>
+// Three combinations whose memory serves for each constraint anew.
+#[derive(Drop)]
+struct Scratch {
+    a: Lc,
+    b: Lc,
+    c: Lc,
+}
+
+// Puts terms into a combination, in place of those that it has.
+fn refill(lc: &mut Lc, terms: &[(F, Wire)])
+    requires { length terms.now ≤ 128 }
+    ensures { lc.new ≡ terms.now }
+{
+    lc.clear();
+    for (coefficient, wire) in terms {
+        lc.plus(*coefficient, *wire);
+    }
+}
+
+// Puts the constraint at a place, unless it was dropped; `scratch` is for its use.
+fn put_row<S: Sink>(s: &mut S, scratch: &mut Scratch, row: &Option<Row<'_>>) -> Put<()>
     requires room { Room S.meaning s.old 0 1 }
     requires within { RowIsWithin (S.meaning.wires s.old) row.now }
     ensures puts { PutsIn S.meaning s.old s.new (row_circuit row.now) result }
     ensures grows { IfOk result (λ _. Grows S.meaning s.old s.new 0 (row_count row.now)) }
 {
-    match row {
-        Some(row) => s.put(
-            &Lc::from_terms(row.a),
-            &Lc::from_terms(row.b),
-            &Lc::from_terms(row.c),
-        ),
-        None => Ok(()),
-    }
+    let Some(row) = row else {
+        return Ok(());
+    };
+    refill(&mut scratch.a, row.a);
+    refill(&mut scratch.b, row.b);
+    refill(&mut scratch.c, row.c);
+    s.put(&scratch.a, &scratch.b, &scratch.c)
 }
 
 /// Puts the constraints that were not dropped.
@@ -44,8 +62,13 @@ pub(crate) fn put_rows<S: Sink>(s: &mut S, rows: &Rows) -> Put<()>
     ensures puts { PutsIn S.meaning s.old s.new (rows_circuit rows.now (length rows.now)) result }
     ensures whole { IfOk result (λ _. S.meaning.broken s.new ≡ false) }
 {
+    let mut scratch = Scratch {
+        a: Lc::empty(),
+        b: Lc::empty(),
+        c: Lc::empty(),
+    };
     for at in 0..rows.len() {
-        put_row(s, &rows.get(at))?;
+        put_row(s, &mut scratch, &rows.get(at))?;
     }
     Ok(())
 }

@@ -1,5 +1,5 @@
-ghost use Rattle.std.specs.Prelude.{◌≡◌};
-ghost use Rattle.tv_shrink.specs.Answers.{read_fault};
+ghost use Rattle.std.specs.Prelude.{◌≡◌, ◌↔◌, IsTrue};
+ghost use Rattle.tv_shrink.specs.Answers.{read_fault, IsOfSize};
 ghost use Rattle.tv_shrink.specs.declared.fault.ShrinkFault.TheVariants.{Memory};
 
 use std::alloc::{AllocError, AllocFailed};
@@ -24,6 +24,18 @@ pub enum ShrinkFault {
     /// Memory ran out.
     #[error("out of memory")]
     Memory,
+}
+
+impl ShrinkFault {
+    /// Whether a system was refused for its terms or for a combination.
+    pub(crate) fn is_of_size(&self) -> bool
+        ensures { IsTrue result ↔ IsOfSize self.now }
+    {
+        matches!(
+            self,
+            ShrinkFault::Terms { .. } | ShrinkFault::Combination { .. }
+        )
+    }
 }
 
 impl From<ReadRefusal> for ShrinkFault {

@@ -10,9 +10,6 @@ ghost use Rattle.tv_shrink.specs.Normal.{normal, with_term, IsNormalFrom};
 use std::alloc::AllocError;
 use tv_core::{F, Wire};
 
-/// A number that no wire has.
-const NO_WIRE: u64 = 4_294_967_296;
-
 /// A multiple of a combination of which one wire may be left out, from its first terms on.
 #[derive(Clone, Copy)]
 pub(crate) struct Side<'a> {
@@ -22,20 +19,18 @@ pub(crate) struct Side<'a> {
 }
 
 impl Side<'_> {
-    // The first wire that is ahead, or a number that no wire has.
-    fn first(&self) -> u64
-        ensures wire { result ≡ first_wire self.now.terms.now }
-        ensures some { 0 < length self.now.terms.now → result < 2 ^ 32 }
+    // The first wire that is ahead.
+    fn first(&self) -> Wire
+        requires { 0 < length self.now.terms.now }
+        ensures { result ≡ first_wire self.now.terms.now }
     {
-        match self.terms {
-            [] => NO_WIRE,
-            [(_, wire), ..] => u64::from(wire.0),
-        }
+        let (_, wire) = self.terms[0];
+        wire
     }
 
     // Goes past a wire, if it is the first, and answers its coefficient, which is 0 where it is
     // left out.
-    fn take(&mut self, wire: u64) -> F
+    fn take(&mut self, wire: Wire) -> F
         ensures coefficient { result ≡ unless_left self.old.leaving wire
             (self.old.factor * head_at wire self.old.terms.now % P) }
         ensures terms { self.new.terms.now ≡ tail_at wire self.old.terms.now }
@@ -45,30 +40,70 @@ impl Side<'_> {
         let [(coefficient, first), rest @ ..] = self.terms else {
             return F::ZERO;
         };
-        if u64::from(first.0) != wire {
+        if first.0 != wire.0 {
             return F::ZERO;
         }
         self.terms = rest;
         match self.leaving {
-            Some(left) if u64::from(left.0) == wire => F::ZERO,
+            Some(left) if left.0 == wire.0 => F::ZERO,
             _ => self.factor * *coefficient,
         }
+    }
+
+    /// Appends what it is, made normal, and uses it up.
+    pub(crate) fn append(&mut self, out: &mut Vec<(F, Wire)>) -> Result<(), AllocError>
+        requires { IsNormalFrom 0 self.old.terms.now }
+        ensures { OnOk result (out.new.items ≡ out.old.items ++ normal
+            (scaled self.old.factor (leaving_out self.old.leaving self.old.terms.now))) }
+    {
+        while !self.terms.is_empty() {
+            let wire = self.first();
+            push_term(out, self.take(wire), wire)?;
+        }
+        Ok(())
     }
 }
 
 // Appends a term, unless its coefficient is 0.
 #[tactic(auto, unfolding(crate::specs::Normal::with_term))]
-fn push_term(out: &mut Vec<(F, Wire)>, coefficient: F, wire: u64) -> Result<(), AllocError>
-    requires { wire < 2 ^ 32 }
+fn push_term(out: &mut Vec<(F, Wire)>, coefficient: F, wire: Wire) -> Result<(), AllocError>
     ensures { OnOk result (out.new.items ≡ out.old.items ++ with_term coefficient wire []) }
 {
     if coefficient != F::ZERO {
-        out.push((coefficient, Wire(wire as u32)))?;
+        out.push((coefficient, wire))?;
     }
     Ok(())
 }
 
-/// Puts the sum of two sides, made normal, into `out`, whose memory serves again, and uses them up.
+// Goes past the least wire that is ahead of both sides, and answers the sum of its coefficients
+// there, and the wire.
+fn take_least(left: &mut Side<'_>, right: &mut Side<'_>) -> (F, Wire)
+    requires left { 0 < length left.old.terms.now }
+    requires right { 0 < length right.old.terms.now }
+    ensures wire { result.1 ≡ min (first_wire left.old.terms.now)
+        (first_wire right.old.terms.now) }
+    ensures coefficient { result.0 ≡ (unless_left left.old.leaving result.1
+        (left.old.factor * head_at result.1 left.old.terms.now % P)
+        + unless_left right.old.leaving result.1
+        (right.old.factor * head_at result.1 right.old.terms.now % P)) % P }
+    ensures left { left.new.terms.now ≡ tail_at result.1 left.old.terms.now }
+    ensures right { right.new.terms.now ≡ tail_at result.1 right.old.terms.now }
+    ensures left_factor { left.new.factor ≡ left.old.factor }
+    ensures left_leaving { left.new.leaving ≡ left.old.leaving }
+    ensures right_factor { right.new.factor ≡ right.old.factor }
+    ensures right_leaving { right.new.leaving ≡ right.old.leaving }
+{
+    let (wire, other) = (left.first(), right.first());
+    if wire.0 < other.0 {
+        return (left.take(wire), wire);
+    }
+    if other.0 < wire.0 {
+        return (right.take(other), other);
+    }
+    (left.take(wire) + right.take(wire), wire)
+}
+
+/// Appends the sum of two sides, made normal, and uses them up.
 pub(crate) fn merge(
     out: &mut Vec<(F, Wire)>,
     left: &mut Side<'_>,
@@ -77,15 +112,15 @@ pub(crate) fn merge(
     requires left { IsNormalFrom 0 left.old.terms.now }
     requires right { IsNormalFrom 0 right.old.terms.now }
     requires all { right.old.leaving ≡ None }
-    ensures { OnOk result (out.new.items ≡ normal
+    ensures { OnOk result (out.new.items ≡ out.old.items ++ normal
         (scaled left.old.factor (leaving_out left.old.leaving left.old.terms.now)
         ++ scaled right.old.factor right.old.terms.now)) }
 {
-    out.clear();
-    while !left.terms.is_empty() || !right.terms.is_empty() {
-        let wire = left.first().min(right.first());
-        let coefficient = left.take(wire) + right.take(wire);
+    while !left.terms.is_empty() && !right.terms.is_empty() {
+        let (coefficient, wire) = take_least(left, right);
         push_term(out, coefficient, wire)?;
     }
+    left.append(out)?;
+    right.append(out)?;
     Ok(())
 }

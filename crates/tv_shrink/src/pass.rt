@@ -186,7 +186,8 @@ pub(crate) struct Pass {
 }
 
 impl Pass {
-    // Puts what the wire is in its place in all constraints.
+    // Puts what the wire is in its place in all constraints, of which those that may have it are
+    // named.
     fn substitute(&mut self, wire: Wire) -> Result<(), AllocError>
         requires kept { IsKept self.old.publics self.old.rows self.old.gone.items
             self.old.places }
@@ -194,6 +195,8 @@ impl Pass {
         requires by { IsNormalFrom 0 self.old.solved.items }
         requires lacks { has_wire wire self.old.solved.items ≡ false }
         requires fit { list_all (row_fits wire self.old.solved.items) self.old.rows ≡ true }
+        requires named { (i : ℕ) → row_has wire (slice_index_or self.old.rows i None) ≡ true
+            → list_any (λ p. p == i) self.old.named.items ≡ true }
         requires here { wire < length self.old.places }
         requires inside { (w : ℕ) → self.old.publics ≤ w → has_wire w self.old.solved.items ≡ true
             → w < length self.old.places }
@@ -204,7 +207,6 @@ impl Pass {
             self.new.places) }
         ensures publics { self.new.publics ≡ self.old.publics }
     {
-        self.places.rows_of(wire.0, &mut self.named)?;
         self.places.clear(wire.0);
         replace_all(
             &mut self.rows,

@@ -2,7 +2,6 @@
 
 ghost use Rattle.std.specs.Prelude.{◌≡◌, ◌<◌, ◌≤◌, ◌-◌, ◌++◌, [], List, ℕ, length, OnOk, IfOk};
 ghost use Rattle.std.specs.Prelude.{Some, None, if◌then◌else◌};
-ghost use Rattle.std.specs.Bool.{OnTrue};
 ghost use Rattle.tv_core.specs.Combinations.{scaled};
 ghost use Rattle.tv_core.specs.declared.field.TheConstants.{P};
 ghost use Rattle.tv_shrink.specs.Normal.{normal, IsNormalFrom};
@@ -59,14 +58,6 @@ fn coefficient_of(terms: &[(F, Wire)], wire: Wire) -> Option<F>
     None
 }
 
-// Whether a wire stands in a combination.
-fn has(terms: &[(F, Wire)], wire: Wire) -> bool
-    requires { IsNormalFrom 0 terms.now }
-    ensures { result ≡ has_wire wire terms.now }
-{
-    coefficient_of(terms, wire).is_some()
-}
-
 // Puts a multiple of one combination less another one into `out`.
 fn subtract(
     out: &mut Vec<(F, Wire)>,
@@ -88,6 +79,7 @@ fn subtract(
         factor: -F::ONE,
         leaving: None,
     };
+    out.clear();
     merge(out, &mut product, &mut less)
 }
 
@@ -109,17 +101,13 @@ pub(crate) fn solve(
         factor: -inverse,
         leaving: Some(wire),
     };
-    let mut none = Side {
-        terms: &[],
-        factor: F::ZERO,
-        leaving: None,
-    };
-    merge(out, &mut others, &mut none)?;
+    out.clear();
+    others.append(out)?;
     Ok(())
 }
 
-/// Puts a combination with `r` in place of a wire into `out`, if the wire stands there.
-pub(crate) fn replaced(
+/// Appends a combination with `r` in place of a wire, and tells whether the wire stands there.
+pub(crate) fn append_replaced(
     out: &mut Vec<(F, Wire)>,
     terms: &[(F, Wire)],
     wire: Wire,
@@ -128,9 +116,10 @@ pub(crate) fn replaced(
     requires normal { IsNormalFrom 0 terms.now }
     requires by { IsNormalFrom 0 r.now }
     ensures has { IfOk result (λ has. has ≡ has_wire wire terms.now) }
-    ensures out { IfOk result (λ has. OnTrue has (out.new.items ≡ replaced wire r.now terms.now)) }
+    ensures out { OnOk result (out.new.items ≡ out.old.items ++ replaced wire r.now terms.now) }
 {
     let Some(coefficient) = coefficient_of(terms, wire) else {
+        out.extend_from_slice(terms)?;
         return Ok(false);
     };
     let mut others = Side {
@@ -162,7 +151,8 @@ fn fits(
     if terms.len() + r.len() <= TERMS {
         return Ok(true);
     }
-    Ok(!replaced(out, terms, wire, r)? || out.len() <= TERMS)
+    out.clear();
+    Ok(!append_replaced(out, terms, wire, r)? || out.len() <= TERMS)
 }
 
 impl Row<'_> {
@@ -202,13 +192,5 @@ impl Row<'_> {
                 && fits(out, self.b, wire, r)?
                 && fits(out, self.c, wire, r)?,
         )
-    }
-
-    /// Whether a wire stands in it.
-    pub(crate) fn has(&self, wire: Wire) -> bool
-        requires { IsNormalRow self.now }
-        ensures { result ≡ row_has wire (Some self.now) }
-    {
-        has(self.a, wire) || has(self.b, wire) || has(self.c, wire)
     }
 }

@@ -2,20 +2,20 @@
 
 ghost use Rattle.std.specs.Prelude.{◌≡◌, ◌+◌, ◌≤◌, ◌<◌, ◌++◌, [], ◌∷◌, true, length, None, Some};
 ghost use Rattle.std.specs.Prelude.{slice_index, slice_index_or, slice_range, slice_set};
-ghost use Rattle.std.specs.Prelude.{OnOk, IfOk, IfErr};
+ghost use Rattle.std.specs.Prelude.{OnOk, OnErr, IfOk, IfErr, if◌then◌else◌};
 ghost use Rattle.std.specs.Option.{option_map};
 ghost use Rattle.tv_r1cs_read.specs.Rows.{combination_of, constraint_of};
 ghost use Rattle.tv_shrink.specs.Answers.{wide, wide_in, IsTooWide};
-ghost use Rattle.tv_shrink.specs.Moving.{moved, moved_rows};
+ghost use Rattle.tv_shrink.specs.Moving.{moved, moved_in, moved_rows};
 ghost use Rattle.tv_shrink.specs.Normal.{normal, normal_constraint, IsNormalFrom};
 ghost use Rattle.tv_shrink.specs.Passing.{row_fits};
-ghost use Rattle.tv_shrink.specs.Replacing.{fits, fits_in, replaced, replaced_in};
-ghost use Rattle.tv_shrink.specs.Spans.{end_of, row_at, row_terms, span_of, IsInside};
+ghost use Rattle.tv_shrink.specs.Replacing.{fits, fits_in, has_wire, replaced, replaced_in};
+ghost use Rattle.tv_shrink.specs.Spans.{end_of, laid, row_at, row_terms, span_of, IsFree, IsInside};
 ghost use Rattle.tv_shrink.specs.Tidy.{row_has, IsNormalRow, RowIsNormal};
 
 use crate::fault::ShrinkFault;
 use crate::normal::append_normal;
-use crate::row::{Row, replaced};
+use crate::row::{Row, append_replaced};
 use std::alloc::{AllocError, Global};
 use std::marker::Model;
 use tv_core::{F, TERMS, Wire};
@@ -34,7 +34,8 @@ impl Span {
     // The constraint whose terms lie there.
     fn row<'a>(&self, terms: &'a [(F, Wire)]) -> Row<'a>
         requires { end_of self.now ≤ length terms.now }
-        ensures { result ≡ row_at terms.now self.now }
+        ensures row { result ≡ row_at terms.now self.now }
+        ensures few { (length result.a < 256) × (length result.b < 256) × (length result.c < 256) }
     {
         let b = self.start + usize::from(self.a);
         let c = b + usize::from(self.b);
@@ -44,6 +45,13 @@ impl Span {
             b: &terms[b..c],
             c: &terms[c..end],
         }
+    }
+
+    // How many terms lie there.
+    fn size(&self) -> usize
+        ensures { result ≡ self.now.a + self.now.b + self.now.c }
+    {
+        usize::from(self.a) + usize::from(self.b) + usize::from(self.c)
     }
 }
 
@@ -71,61 +79,71 @@ fn append_narrow(
     Ok(has as u8)
 }
 
-// Appends the combination that lies at a place, of so many terms, with `r` in place of a wire, and
-// tells how many terms it has then; `out` is for its use.
-fn append_replaced(
-    terms: &mut Vec<(F, Wire)>,
-    start: usize,
-    count: u8,
+// Appends a combination with `r` in place of a wire, and tells how many terms it has then, and
+// whether the wire stood there.
+fn append_part(
     out: &mut Vec<(F, Wire)>,
+    terms: &[(F, Wire)],
     wire: Wire,
     r: &[(F, Wire)],
-) -> Result<u8, AllocError>
-    requires inside { start + count ≤ length terms.old.items }
-    requires normal { IsNormalFrom 0 (slice_range terms.old.items start (start + count)) }
+) -> Result<(u8, bool), AllocError>
+    requires normal { IsNormalFrom 0 terms.now }
     requires by { IsNormalFrom 0 r.now }
-    requires fits { fits wire r.now (slice_range terms.old.items start (start + count)) ≡ true }
-    ensures terms { OnOk result (terms.new.items ≡ terms.old.items
-        ++ replaced wire r.now (slice_range terms.old.items start (start + count))) }
-    ensures size { IfOk result (λ n. n
-        ≡ length (replaced wire r.now (slice_range terms.old.items start (start + count)))) }
-    ensures longer { length terms.old.items ≤ length terms.new.items }
+    requires few { length terms.now < 256 }
+    requires fits { fits wire r.now terms.now ≡ true }
+    ensures out { OnOk result (out.new.items ≡ out.old.items ++ replaced wire r.now terms.now) }
+    ensures size { IfOk result (λ part. part.0 ≡ length (replaced wire r.now terms.now)) }
+    ensures has { IfOk result (λ part. part.1 ≡ has_wire wire terms.now) }
 {
-    let end = start + usize::from(count);
-    if replaced(out, &terms[start..end], wire, r)? {
-        terms.extend_from_slice(out)?;
-        return Ok(out.len() as u8);
-    }
-    terms.extend_from_within(start..end)?;
-    Ok(count)
+    let start = out.len();
+    let has = append_replaced(out, terms, wire, r)?;
+    let size = out.len() - start;
+    Ok((size as u8, has))
 }
 
-// Appends a constraint with `r` in place of a wire, and tells where its terms lie; `out` is for its
-// use.
-fn append_row(
-    terms: &mut Vec<(F, Wire)>,
-    span: &Span,
+// Puts a constraint with `r` in place of a wire into `out`, and tells where its terms lie in it;
+// `None` where the wire doesn't stand in it.
+fn put_replaced(
     out: &mut Vec<(F, Wire)>,
+    row: &Row<'_>,
     wire: Wire,
     r: &[(F, Wire)],
-) -> Result<Span, AllocError>
-    requires inside { end_of span.now ≤ length terms.old.items }
-    requires normal { IsNormalRow (row_at terms.old.items span.now) }
+) -> Result<Option<Span>, AllocError>
+    requires normal { IsNormalRow row.now }
     requires by { IsNormalFrom 0 r.now }
-    requires fits { fits_in wire r.now (row_at terms.old.items span.now) ≡ true }
-    ensures terms { OnOk result (terms.new.items ≡ terms.old.items
-        ++ row_terms (replaced_in wire r.now (row_at terms.old.items span.now))) }
-    ensures span { IfOk result (λ made. made ≡ span_of (length terms.old.items)
-        (replaced_in wire r.now (row_at terms.old.items span.now))) }
-    ensures longer { length terms.old.items ≤ length terms.new.items }
+    requires few { (length row.now.a < 256) × (length row.now.b < 256)
+        × (length row.now.c < 256) }
+    requires fits { fits_in wire r.now row.now ≡ true }
+    ensures out { OnOk result (out.new.items ≡ row_terms (replaced_in wire r.now row.now)) }
+    ensures made { IfOk result (λ made. made ≡ (if row_has wire (Some row.now)
+        then Some (span_of 0 (replaced_in wire r.now row.now)) else None)) }
 {
+    out.clear();
+    let (a, in_a) = append_part(out, row.a, wire, r)?;
+    let (b, in_b) = append_part(out, row.b, wire, r)?;
+    let (c, in_c) = append_part(out, row.c, wire, r)?;
+    if in_a || in_b || in_c {
+        return Ok(Some(Span { start: 0, a, b, c }));
+    }
+    Ok(None)
+}
+
+// Puts terms over those of a constraint, if they are no more, or else behind all, and tells where
+// they lie then.
+fn lay(terms: &mut Vec<(F, Wire)>, span: &Span, new: &[(F, Wire)]) -> Result<usize, AllocError>
+    requires { end_of span.now ≤ length terms.old.items }
+    ensures puts { IfOk result (λ start. terms.new.items ≡ laid start new.now terms.old.items) }
+    ensures free { IfOk result (λ start. IsFree (length terms.old.items) span.now start
+        (length new.now)) }
+    ensures err { OnErr result (terms.new.items ≡ terms.old.items) }
+{
+    if new.len() <= span.size() {
+        terms[span.start..span.start + new.len()].copy_from_slice(new);
+        return Ok(span.start);
+    }
     let start = terms.len();
-    let at_b = span.start + usize::from(span.a);
-    let at_c = at_b + usize::from(span.b);
-    let a = append_replaced(terms, span.start, span.a, out, wire, r)?;
-    let b = append_replaced(terms, at_b, span.b, out, wire, r)?;
-    let c = append_replaced(terms, at_c, span.c, out, wire, r)?;
-    Ok(Span { start, a, b, c })
+    terms.extend_from_slice(new)?;
+    Ok(start)
 }
 
 // Appends the terms of a constraint.
@@ -148,19 +166,30 @@ fn number_of(numbers: &[u32], wire: Wire) -> u32
 }
 
 // Gives each wire the number at its place.
-fn renumber_terms(terms: &mut Vec<(F, Wire)>, numbers: &[u32])
-    ensures { terms.new.items ≡ moved numbers.now terms.old.items }
+fn renumber_terms(terms: &mut [(F, Wire)], numbers: &[u32])
+    ensures { terms.new ≡ moved numbers.now terms.old }
 {
-    for at in 0..terms.len() {
-        let (coefficient, wire) = terms[at];
-        terms[at] = (coefficient, Wire(number_of(numbers, wire)));
+    for term in terms.iter_mut() {
+        term.1 = Wire(number_of(numbers, term.1));
     }
+}
+
+// Gives each wire of the terms of a constraint the number at its place.
+fn renumber_span(terms: &mut Vec<(F, Wire)>, span: &Span, numbers: &[u32])
+    requires { end_of span.now ≤ length terms.old.items }
+    ensures { terms.new.items ≡ laid span.now.start
+        (moved numbers.now (slice_range terms.old.items span.now.start (end_of span.now)))
+        terms.old.items }
+{
+    let end = span.start + span.size();
+    renumber_terms(&mut terms[span.start..end], numbers);
 }
 
 /// The constraints of a pass, each of normal combinations, or dropped.
 ///
-/// Their terms are appended to one vector; those that no constraint has any more stay in it until
-/// `tidy` leaves them out.
+/// Their terms lie in one vector, those of no two in one place. New ones lie over those that the
+/// constraint had, or, where they are more, behind all others; those that no constraint has any
+/// more stay until `tidy` leaves them out.
 #[derive(Drop)]
 pub(crate) struct Rows {
     alloc: Global,
@@ -177,11 +206,11 @@ impl Model for Rows {
 
     ghost Value = { List (Option Constraint) };
 
-    ghost use Rattle.tv_shrink.specs.Spans.{row_at, AreInside};
+    ghost use Rattle.tv_shrink.specs.Spans.{row_at, AreLaid};
 
     ghost view = { λ r. map (option_map (row_at r.terms.items)) r.spans.items };
 
-    ghost invariant = { λ r. AreInside (length r.terms.items) r.spans.items };
+    ghost invariant = { λ r. AreLaid (length r.terms.items) r.spans.items };
 }
 
 impl Rows {
@@ -306,18 +335,32 @@ impl Rows {
         let Some(span) = self.spans[at] else {
             return Ok(false);
         };
-        if !span.row(&self.terms).has(wire) {
+        let row = span.row(&self.terms);
+        let Some(made) = put_replaced(out, &row, wire, r)? else {
             return Ok(false);
-        }
-        let made = append_row(&mut self.terms, &span, out, wire, r)?;
-        self.spans[at] = Some(made);
+        };
+        let start = lay(&mut self.terms, &span, out)?;
+        self.spans[at] = Some(Span { start, ..made });
         Ok(true)
+    }
+
+    // Gives each wire of the constraint at a place the number at its place.
+    fn renumber_row(&mut self, at: usize, numbers: &[u32])
+        requires { at < length self.old }
+        ensures { self.new ≡ slice_set self.old at
+            (option_map (moved_in numbers.now) (slice_index_or self.old at None)) }
+    {
+        if let Some(span) = self.spans[at] {
+            renumber_span(&mut self.terms, &span, numbers);
+        }
     }
 
     /// Gives each wire of the constraints the number at its place.
     pub(crate) fn renumber(&mut self, numbers: &[u32])
         ensures { self.new ≡ moved_rows numbers.now self.old }
     {
-        renumber_terms(&mut self.terms, numbers);
+        for at in 0..self.len() {
+            self.renumber_row(at, numbers);
+        }
     }
 }

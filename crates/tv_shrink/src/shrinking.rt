@@ -1,6 +1,6 @@
 ghost use Rattle.std.specs.Prelude.{◌≡◌, ℕ, Err, MatchResult};
 ghost use Rattle.tv_container.specs.Reading.{Known, IsMissing};
-ghost use Rattle.tv_shrink.specs.Answers.{HaltsBy, Shrinks, Tells};
+ghost use Rattle.tv_shrink.specs.Answers.{Halted, HaltsBy, IsOfSize, Shrinks, Tells, TellsRead};
 ghost use Rattle.tv_shrink.specs.declared.fault.ShrinkFault.{ShrinkFault};
 
 use crate::begun::read;
@@ -13,12 +13,35 @@ use tv_r1cs_read::survey;
 /// The most terms of a system that is shrunk.
 pub const MOST_TERMS: u64 = 4_194_304;
 
+// Why a file is refused in which a constraint was found with which there are too many terms, or a
+// combination that is too wide: for its own first fault, or else for its terms, or else for that.
+fn first_fault<D: Files>(
+    alloc: Global,
+    files: &mut D,
+    name: &str,
+    found: ShrinkFault,
+) -> ShrinkFault
+    requires size { IsOfSize found }
+    requires tells { Known (D.seen files.old) name.now (λ file. TellsRead found file) }
+    ensures gives { Known (D.seen files.old) name.now (λ file. Tells result file) }
+    ensures looks { Halted (D.seen files.old) (D.seen files.new) name.now result }
+{
+    match survey(alloc, files, name) {
+        Err(why) => ShrinkFault::from(why),
+        Ok(counts) if counts.terms > MOST_TERMS => ShrinkFault::Terms { has: counts.terms },
+        Ok(_) => found,
+    }
+}
+
 /// Shrinks the system in a file: one pass over its constraints, in which each linear one that has a
 /// private wire is solved for its greatest and dropped, if all others keep to 128 terms.
 ///
 /// `Bad` tells the file's first fault; `Terms` comes for a system of more than 4,194,304 terms, and
 /// `Combination` for the first combination that has more than 128 once it is normal. `Fault` comes
-/// only where a read failed, and a missing name is such a fault. Reads the file twice. A
+/// only where a read failed, and a missing name is such a fault.
+///
+/// Reads the file once, and a refused one for its terms or a combination twice: such a refusal
+/// comes only after memory was taken for the constraints before, of at most 4,194,304 terms. A
 /// replacement costs as much as the constraints that it changes have terms.
 pub fn shrink<D: Files>(alloc: Global, files: &mut D, name: &str) -> Result<Shrunk, ShrinkFault>
     ensures gives { Known (D.seen files.old) name.now (λ file. MatchResult result
@@ -26,11 +49,12 @@ pub fn shrink<D: Files>(alloc: Global, files: &mut D, name: &str) -> Result<Shru
     ensures looks { HaltsBy (D.seen files.old) (D.seen files.new) name.now result }
     ensures missing { IsMissing (D.seen files.old) name.now → result ≡ Err ShrinkFault.Fault }
 {
-    let counts = survey(alloc, files, name)?;
-    if counts.terms > MOST_TERMS {
-        return Err(ShrinkFault::Terms { has: counts.terms });
+    match read(alloc, files, name) {
+        Ok(begun) => {
+            let shrunk = settle(alloc, begun)?;
+            Ok(shrunk)
+        }
+        Err(fault) if fault.is_of_size() => Err(first_fault(alloc, files, name, fault)),
+        Err(fault) => Err(fault),
     }
-    let begun = read(alloc, files, name)?;
-    let shrunk = settle(alloc, begun)?;
-    Ok(shrunk)
 }

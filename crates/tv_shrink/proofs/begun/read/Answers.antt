@@ -8,7 +8,7 @@ use Rattle.tv_r1cs_read.specs.Rows.{constraint_of}
 use Rattle.tv_shrink.specs.Answers.{counted_system, wide_in, HaltsBy}
 use Rattle.tv_shrink.specs.Normal.{normal_constraint}
 use Rattle.tv_shrink.specs.Tidy.{IsWithin, RowIsWithin, AreWithin}
-use Rattle.tv_shrink.proofs.Read.{halted, no_wide, rows-push, start_more, tells_read, wide_halted, wide_more, wide_read}
+use Rattle.tv_shrink.proofs.Read.{halted, long_read, no_wide, rows-push, start_more, tells_read, wide_halted, wide_more, wide_read}
 use Rattle.tv_shrink.proofs.begun.read.Goals as goal
 
 pub loop-row-init : goal.loop-row-init
@@ -19,6 +19,7 @@ loop-row-init g c = record {
   on = c.in-Ok.ensures.begun.stopped;
   header = search rules;
   counted = omega (arith, ap length c.in_ok-pass.ensures.rows);
+  few = omega (arith, c.in-Ok.ensures.begun.terms);
   publics = search rules;
   none = search rules;
   kept = c.in_ok-pass.ensures.kept;
@@ -53,6 +54,7 @@ loop-row-preserved g c =
       on = search rules;
       header = c.in_ok-next_into.ensures.header ∙ c.loop-row.invariant.header;
       counted = omega (arith, counts.1, c.loop-row.invariant.counted, ap length c.in_ok-add.ensures.rows, length_push c.loop-row.pass.rows (Some (normal_constraint (constraint_of c.next_into.new.row))));
+      few = omega (arith, ap (λ (counts : Counts). counts.terms) c.counts-terms.ensures, c.if-terms-gt-MOST_TERMS.false);
       publics = c.in_ok-add.ensures.publics ∙ c.loop-row.invariant.publics;
       none = c.in_ok-add.ensures.gone ∙ c.loop-row.invariant.none;
       kept = c.in_ok-add.ensures.kept;
@@ -107,5 +109,13 @@ returns-clause-gives g c = λ file told.
       list = before.0;
       is = all.system ∙ ap (λ system. Ok system) (ap (λ header. system_with header before.0) (c.in_ok-next_into.ensures.header ∙ c.loop-row.invariant.header) ∙ sym (ap (λ counts. counted_system counts before.0) c.counts-counts.ensures));
       same = before.2;
+      few = omega (arith, (rw c.if-branch.false at c.in_ok-next_into.ensures.counts).0, all.place.terms, c.loop-row.invariant.few);
       narrow = before.3;
     }
+
+pub returns-then-terms-gt-MOST_TERMS-clause-gives : goal.returns-then-terms-gt-MOST_TERMS-clause-gives
+returns-then-terms-gt-MOST_TERMS-clause-gives g c = λ file told.
+    let begun = rw (← c.in-Ok.ensures.ok_looks, ← c.in-Ok.ensures.name) at told in
+    let before = c.loop-row.invariant.place file begun (c.in-Ok.ensures.gives file told) in
+    let at = rw c.if-branch.true at c.in_ok-next_into.ensures.gives before.0 file (rw (← c.loop-row.invariant.outside, ← c.loop-row.invariant.name) at begun) before.1 in
+    long_read c.next_into.new.self.progress file (before.0 ++ constraint_of c.next_into.new.row ∷ []) c.counts-terms.result.terms at (omega (arith, ap (λ (counts : Counts). counts.terms) c.counts-terms.ensures, c.if-terms-gt-MOST_TERMS.true))

@@ -1,8 +1,8 @@
-use Rattle.std.proofs.Common.{◌≡◌, ◌+◌, List, [], None, length}
+use Rattle.std.proofs.Common.{◌≡◌, ◌≤◌, ◌+◌, List, [], None, length}
 use Rattle.tv_core.specs.Constraints.{Constraint}
 use Rattle.tv_container.specs.Reading.{Known}
 use Rattle.tv_r1cs_read.specs.Places.{IsAt}
-use Rattle.tv_shrink.specs.Answers.{first_wide, start_rows}
+use Rattle.tv_shrink.specs.Answers.{first_wide, most, start_rows}
 use Rattle.tv_shrink.specs.Tidy.{AreWithin, IsKept}
 use Rattle.tv_shrink.proofs.begun.read.Given as goal
 
@@ -14,6 +14,7 @@ invariant-loop-row g l = record {
   on : l.reader.progress.stopped ≡ None;
   header : l.reader.progress.header ≡ l.initial.reader.progress.header;
   counted : length l.pass.rows + l.reader.progress.left ≡ l.initial.reader.progress.left;
+  few : l.reader.progress.terms ≤ most;
   publics : l.pass.publics ≡ l.initial.pass.publics;
   none : l.pass.gone.items ≡ l.initial.pass.gone.items;
   kept : IsKept l.pass.publics l.pass.rows l.pass.gone.items l.pass.places;

@@ -11,19 +11,19 @@ pub put-requires-clause-a_made : goal.put-requires-clause-a_made
 put-requires-clause-a_made g c =
     let n = g.S.Sink.meaning.wires c.args.s.now in
     let within : IsWithin n c.in-Some.row = subst (RowIsWithin n) c.in-Some.is c.requires.within in
-    subst (λ x. top x ≤ n) (sym (c.from_terms.ensures ∙ ap (λ row. row.a) c.row.view_is)) (top_within n c.in-Some.row.a within.a)
+    subst (λ x. top x ≤ n) (sym (c.refill.ensures ∙ ap (λ row. row.a) c.row.view_is)) (top_within n c.in-Some.row.a within.a)
 
 pub put-requires-clause-b_made : goal.put-requires-clause-b_made
 put-requires-clause-b_made g c =
     let n = g.S.Sink.meaning.wires c.args.s.now in
     let within : IsWithin n c.in-Some.row = subst (RowIsWithin n) c.in-Some.is c.requires.within in
-    subst (λ x. top x ≤ n) (sym (c.from_terms-in-Some.ensures ∙ ap (λ row. row.b) c.row.view_is)) (top_within n c.in-Some.row.b within.b)
+    subst (λ x. top x ≤ n) (sym (c.refill-2.ensures ∙ ap (λ row. row.b) c.row.view_is)) (top_within n c.in-Some.row.b within.b)
 
 pub put-requires-clause-c_made : goal.put-requires-clause-c_made
 put-requires-clause-c_made g c =
     let n = g.S.Sink.meaning.wires c.args.s.now in
     let within : IsWithin n c.in-Some.row = subst (RowIsWithin n) c.in-Some.is c.requires.within in
-    subst (λ x. top x ≤ n) (sym (c.from_terms-in-Some-2.ensures ∙ ap (λ row. row.c) c.row.view_is)) (top_within n c.in-Some.row.c within.c)
+    subst (λ x. top x ≤ n) (sym (c.refill-3.ensures ∙ ap (λ row. row.c) c.row.view_is)) (top_within n c.in-Some.row.c within.c)
 
-pub returns-in-None-clause-puts : goal.returns-in-None-clause-puts
-returns-in-None-clause-puts g c = subst (λ row. PutsAll g.S.Sink.meaning c.args.s.now c.args.s.now (row_circuit row) tt) (sym c.in-None.is) (puts_nothing g.S.Sink.meaning c.args.s.now tt)
+pub returns-in_default-clause-puts : goal.returns-in_default-clause-puts
+returns-in_default-clause-puts g c = subst (λ row. PutsAll g.S.Sink.meaning c.args.s.now c.args.s.now (row_circuit row) tt) (sym c.in_default.is) (puts_nothing g.S.Sink.meaning c.args.s.now tt)

@@ -1,33 +1,39 @@
-use Rattle.std.proofs.Common.{◌≡◌, ◌+◌, ◌*◌, ◌%◌, ◌≤◌, None, arith, sym, ◌∙◌, ap, ap₂, subst}
+use Rattle.std.proofs.Common.{◌≡◌, ◌⊎◌, ◌+◌, ◌*◌, ◌%◌, ◌≤◌, ◌++◌, None, [], arith, inl, inr, sym, ◌∙◌, ap, subst}
+use Rattle.tv_core.specs.Combinations.{scaled}
 use Rattle.tv_core.specs.declared.field.TheConstants.{P}
-use Rattle.tv_shrink.specs.Merging.{first_wire, head_at, unless_left}
-use Rattle.tv_shrink.specs.Normal.{IsNormalFrom}
-use Rattle.tv_shrink.proofs.Merging.{given, merge-turn, normal-rest, nothing_left, empty_from}
+use Rattle.tv_shrink.specs.Merging.{first_wire, head_at, leaving_out, unless_left}
+use Rattle.tv_shrink.specs.Normal.{normal, IsNormalFrom}
+use Rattle.tv_shrink.proofs.Merging.{either_left, empty_from, given, merge-turn, normal-rest}
 use Rattle.tv_shrink.proofs.merge.merge.Goals as goal
+use Rattle.tv_shrink.proofs.merge.merge.Goals.{then-loop-left-test+else-not-is_empty, else-loop-left-test}
 
 -- the least wire of both sides is taken
 pub loop-left-preserved : goal.loop-left-preserved
 loop-left-preserved c =
-    let h : c.min-wire.result ≤ first_wire c.loop-left.left.terms.now = omega (arith, c.first.ensures.wire, c.min-wire.ensures) in
-    let g : c.min-wire.result ≤ first_wire c.loop-left.right.terms.now = omega (arith, c.first-in-loop-left.ensures.wire, c.min-wire.ensures) in
-    let is : c.add-coefficient.result ≡ (given c.loop-left.left.factor c.loop-left.left.leaving c.min-wire.result c.loop-left.left.terms.now + given c.loop-left.right.factor None c.min-wire.result c.loop-left.right.terms.now) % P =
-    c.add-coefficient.ensures
-    ∙ ap₂ (λ p q. (p + q) % P) c.take.ensures.coefficient
-    (c.take-in-loop-left.ensures.coefficient
-    ∙ ap (λ l. unless_left l c.min-wire.result (c.loop-left.right.factor * head_at c.min-wire.result c.loop-left.right.terms.now % P)) c.loop-left.invariant.all) in
+    let wire = c.take_least-coefficient.result.1 in
+    let h : c.take_least-coefficient.result.1 ≤ first_wire c.loop-left.left.terms.now = omega (arith, c.take_least-coefficient.ensures.wire) in
+    let g : c.take_least-coefficient.result.1 ≤ first_wire c.loop-left.right.terms.now = omega (arith, c.take_least-coefficient.ensures.wire) in
+    let is : c.take_least-coefficient.result.0 ≡ (given c.loop-left.left.factor c.loop-left.left.leaving wire c.loop-left.left.terms.now + given c.loop-left.right.factor None wire c.loop-left.right.terms.now) % P =
+    c.take_least-coefficient.ensures.coefficient
+    ∙ ap (λ l. (given c.loop-left.left.factor c.loop-left.left.leaving wire c.loop-left.left.terms.now + unless_left l wire (c.loop-left.right.factor * head_at wire c.loop-left.right.terms.now % P)) % P) c.loop-left.invariant.all in
     record {
-      left = subst (IsNormalFrom 0) (sym c.take.ensures.terms) (normal-rest c.min-wire.result c.loop-left.left.terms.now c.loop-left.invariant.left h);
-      right = subst (IsNormalFrom 0) (sym c.take-in-loop-left.ensures.terms) (normal-rest c.min-wire.result c.loop-left.right.terms.now c.loop-left.invariant.right g);
-      all = c.take-in-loop-left.ensures.leaving ∙ c.loop-left.invariant.all;
+      left = subst (IsNormalFrom 0) (sym c.take_least-coefficient.ensures.left) (normal-rest wire c.loop-left.left.terms.now c.loop-left.invariant.left h);
+      right = subst (IsNormalFrom 0) (sym c.take_least-coefficient.ensures.right) (normal-rest wire c.loop-left.right.terms.now c.loop-left.invariant.right g);
+      all = c.take_least-coefficient.ensures.right_leaving ∙ c.loop-left.invariant.all;
       whole =
-          simp (c.in_ok-push_term.ensures, c.take.ensures.factor, c.take.ensures.leaving, c.take.ensures.terms, c.take-in-loop-left.ensures.factor, c.take-in-loop-left.ensures.terms)
-          (merge-turn c.loop-left.out.items _ c.loop-left.left.factor c.loop-left.right.factor c.min-wire.result c.add-coefficient.result c.loop-left.left.leaving c.loop-left.left.terms.now c.loop-left.right.terms.now
+          simp (c.in_ok-push_term.ensures, c.take_least-coefficient.ensures.left_factor, c.take_least-coefficient.ensures.left_leaving, c.take_least-coefficient.ensures.left, c.take_least-coefficient.ensures.right_factor, c.take_least-coefficient.ensures.right)
+          (merge-turn c.loop-left.out.items _ c.loop-left.left.factor c.loop-left.right.factor wire c.take_least-coefficient.result.0 c.loop-left.left.leaving c.loop-left.left.terms.now c.loop-left.right.terms.now
           c.loop-left.invariant.left c.loop-left.invariant.right h g is c.loop-left.invariant.whole);
     }
 
 pub returns : goal.returns
 returns c =
-    nothing_left c.loop-left.out.items _ c.loop-left.left.factor c.loop-left.right.factor c.loop-left.left.leaving c.loop-left.left.terms.now c.loop-left.right.terms.now
-    (empty_from c.loop-left.left.terms.now (sym c.is_empty.ensures ∙ c.if-not-is_empty.false))
-    (empty_from c.loop-left.right.terms.now (sym c.is_empty-else-not-is_empty.ensures ∙ c.if-not-is_empty-2.false))
+    let used : (c.loop-left.left.terms.now ≡ []) ⊎ (c.loop-left.right.terms.now ≡ []) =
+    elim c.loop-left-test.branch [
+      | then-loop-left-test+else-not-is_empty w ↦ inr (empty_from c.loop-left.right.terms.now (sym w.is_empty-in-loop-left.ensures ∙ w.if-not-is_empty.false))
+      | else-loop-left-test w ↦ inl (empty_from c.loop-left.left.terms.now (sym c.is_empty.ensures ∙ w.loop-left-test.false))
+    ] in
+    either_left c.loop-left.out.items c.append.new.out.items c.append-2.new.out.items _ c.loop-left.left.factor c.loop-left.right.factor c.loop-left.left.leaving c.loop-left.left.terms.now c.loop-left.right.terms.now used
+    c.in_ok-append.ensures
+    (c.in_ok-append-2.ensures ∙ ap (λ l. c.append.new.out.items ++ normal (scaled c.loop-left.right.factor (leaving_out l c.loop-left.right.terms.now))) c.loop-left.invariant.all)
     c.loop-left.invariant.whole

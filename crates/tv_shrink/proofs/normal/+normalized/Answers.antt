@@ -23,6 +23,7 @@ merge-requires-clause-right t c = subst (IsNormalFrom 0) (sym (c.deref-2.ensures
 pub returns : goal.returns
 returns t c =
     c.in_ok-merge.ensures
+    ∙ ap (λ u. u ++ normal (scaled 1 c.deref.result.now ++ scaled 1 c.deref-2.result.now)) c.in_ok-sum.ensures.items
     ∙ ap₂ (λ x y. normal (scaled 1 x ++ scaled 1 y)) c.deref.ensures.value c.deref-2.ensures.value
     ∙ normal_halves c.in_ok-x.x.items c.in_ok-y.y.items _ _ c.in_ok-x.ensures c.in_ok-y.ensures
     ∙ ap normal (sym (map-append (λ (t : ℕ × ℕ). (t.1, t.0)) c.split_at.result.0.now c.split_at.result.1.now) ∙ ap combination_of (ap₂ (λ xs ys. xs ++ ys) c.split_at.ensures.front c.split_at.ensures.back ∙ take-append-drop _ c.args.terms.now))

@@ -1,12 +1,10 @@
-use Rattle.std.proofs.Common.{◌∙◌, ap, map}
+use Rattle.std.proofs.Common.{◌∙◌, None, arith, get_or, refl}
 use Rattle.std.specs.Option.{option_map}
-use Rattle.tv_shrink.specs.Moving.{moved_rows}
-use Rattle.tv_shrink.specs.Spans.{row_at}
-use Rattle.tv_shrink.proofs.Spans.{rows_moved}
+use Rattle.tv_shrink.specs.Moving.{moved_in}
+use Rattle.tv_shrink.proofs.Read.{touched_more}
 use Rattle.tv_shrink.proofs.rows.Rows.renumber.Goals as goal
 
-pub returns : goal.returns
-returns c =
-    ap (λ terms. map (option_map (row_at terms)) c.self.inside.spans.items) c.renumber_terms.ensures
-    ∙ rows_moved c.args.numbers.now c.self.inside.terms.items c.self.inside.spans.items
-    ∙ ap (moved_rows c.args.numbers.now) c.self.view_is
+pub loop-at-preserved : goal.loop-at-preserved
+loop-at-preserved c =
+    c.renumber_row.ensures
+    ∙ touched_more (option_map (moved_in c.args.numbers.now)) c.args.self.now c.loop-at.self c.loop-at.at (get_or c.loop-at.self c.loop-at.at None) None (omega arith) c.loop-at.invariant refl
