@@ -1,6 +1,6 @@
 -- Pieces of a file, and a read that gives one.
 use Rattle.std.proofs.Common.{◌≡◌, ℕ, ◌+◌, ◌-◌, ◌^◌, ◌<◌, ◌≤◌, nat_le, nat_eq, ⊎_elim, List, ◌++◌, length, take, drop, Option, Some, None, Ok, arith, ap, refl, sym, ◌∙◌}
-use Rattle.std.proofs.lemmas.List.{take_all, take-append-le, take-take, drop-take, drop-drop, length-take, length-take-le, length-drop}
+use Rattle.std.proofs.lemmas.List.{take-append-le, take-take, drop-take, drop-drop, length-take, length-take-le, length-drop}
 use Rattle.std.proofs.lemmas.Bool.Decides.{nat_tests}
 use Rattle.std.proofs.lemmas.Bool.{cases_lt}
 use Rattle.std.proofs.Math.Seq.{take-add, take-append-add}
@@ -95,17 +95,6 @@ pub is_piece : (buffer file : List ℕ) (held at place : ℕ) → held ≤ lengt
 is_piece buffer file held at place room same is = record {
   same = same ∙ ap (λ p. take held (drop p file)) (sym is) ∙ ap (λ n. take n (drop at file)) (sym (length-take-le held buffer room));
 }
-
--- what was read is all that there is room for, or all that the file has
-pub all_read : (buffer file : List ℕ) (at held most : ℕ) → held ≤ most → (held < most → length file ≤ at + held) →
-    take held buffer ≡ take held (drop at file) → take held buffer ≡ take most (drop at file)
-all_read buffer file at held most within end same =
-    same ∙ ⊎_elim
-    (λ (short : held < most).
-    let past : length (drop at file) ≤ held = omega (arith, length-drop at file, end short) in
-    take_all held (drop at file) past ∙ sym (take_all most (drop at file) (omega arith)))
-    (λ (full : most ≤ held). let is : held ≡ most = omega arith in ap (λ n. take n (drop at file)) is)
-    (cases_lt held most)
 
 -- the file has the bytes at a place exactly where so many were read there
 pub there_if_read : (buffer file : List ℕ) (at size held : ℕ) → held ≤ length buffer → take held buffer ≡ take held (drop at file) →

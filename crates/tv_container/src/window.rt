@@ -15,10 +15,10 @@ use tv_word::word_at;
 /// The most bytes that one call reads.
 const PIECE: usize = 4096;
 
-/// The most bytes that a window holds.
-const ROOM: usize = 65_536;
+/// The most bytes that a window holds: so few that they stay in the processor's nearest memory.
+const ROOM: usize = 8192;
 
-/// The piece of a file that was read last, at most 65,536 bytes. Contracts see it as its place in
+/// The piece of a file that was read last, at most 8,192 bytes. Contracts see it as its place in
 /// the file and its bytes.
 #[derive(Drop)]
 pub struct Window {
@@ -35,7 +35,7 @@ impl Model for Window {
 
     ghost view = { λ w. record { at = w.at; bytes = take w.held w.bytes } };
 
-    ghost invariant = { λ w. w.held ≤ 65536 };
+    ghost invariant = { λ w. w.held ≤ 8192 };
 }
 
 impl Window {
@@ -132,24 +132,6 @@ impl Window {
         Ok(self.held >= size)
     }
 
-    /// Reads on from a place until the window holds as many bytes there as it can, or all that the
-    /// file has. It asks for at most 4,096 bytes a call. A place less than 65,536 bytes below 2^64
-    /// is left alone.
-    pub fn fill<D: Files>(&mut self, files: &mut D, name: &str, at: u64) -> Result<(), ReadRefusal>
-        ensures all { Known (D.seen files.old) name.now (λ file. IsPiece self.old file
-            → at + 65536 < 2 ^ 64 → OnOk result (self.new.bytes ≡ take 65536 (drop at file))) }
-        ensures reads { ReadsIn (D.seen files.old) (D.seen files.new) name.now self.old self.new
-            result
-            (λ file. Gives result (Ok tt)) }
-    {
-        if u64::MAX - at < ROOM as u64 {
-            return Ok(());
-        }
-        self.go(at);
-        self.held = fill(files, name, at, self.held, ROOM, &mut self.bytes)?;
-        Ok(())
-    }
-
     // Lets the bytes before a place go, and all of them where it isn't among them or right behind.
     fn go(&mut self, at: u64)
         ensures at { self.new.at ≡ at }
@@ -205,10 +187,10 @@ fn fill<D: Files>(
     size: usize,
     bytes: &mut [u8; ROOM],
 ) -> Result<usize, FileRefusal>
-    requires small { size ≤ 65536 }
-    requires most { held ≤ 65536 }
+    requires small { size ≤ 4096 }
+    requires most { held ≤ 8192 }
     requires place { at + size < 2 ^ 64 }
-    ensures within { IfOk result (λ held. held ≤ 65536) }
+    ensures within { IfOk result (λ held. held ≤ 8192) }
     ensures piece { Known (D.seen files.old) name.now
         (λ file. take held bytes.old ≡ take held (drop at file)
         → IfOk result (λ held. take held bytes.new ≡ take held (drop at file))) }
@@ -222,8 +204,7 @@ fn fill<D: Files>(
 {
     let mut held = held;
     while held < size {
-        let most = ROOM.min(held + PIECE);
-        let count = files.read(name, at + held as u64, &mut bytes[held..most])?;
+        let count = files.read(name, at + held as u64, &mut bytes[held..held + PIECE])?;
         if count == 0 {
             return Ok(held);
         }

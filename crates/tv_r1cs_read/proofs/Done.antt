@@ -11,11 +11,13 @@ use Rattle.tv_container.specs.Places.{Fault, ◌>>=◌, wrong}
 use Rattle.tv_r1cs_read.specs.Places.{HasRead, IsAt, IsAll}
 use Rattle.tv_r1cs_read.specs.Progress.{Reached, Follows, ahead}
 use Rattle.tv_r1cs_read.specs.R1cs.{constraint_at, constraints_from, header_of, system_of}
-use Rattle.tv_container.specs.Reading.{Refuses}
+use Rattle.tv_container.specs.Reading.{Refuses, IsTold, Stopped}
+use Rattle.tv_files.specs.Outside.{Outside}
 use Rattle.tv_r1cs_read.specs.Rows.{constraint_of, terms_in}
-use Rattle.tv_r1cs_read.specs.Sums.{Passed}
+use Rattle.tv_r1cs_read.specs.Sums.{Ended, Passed}
 use Rattle.tv_r1cs_read.specs.Survey.{terms_of, survey_of}
-use Rattle.tv_container.proofs.Chain.{made, refuses_first}
+use Rattle.tv_container.proofs.Chain.{made, refuses_first, stopped_here}
+use Rattle.tv_r1cs_read.proofs.Constraints.{constraints_from-refuses}
 
 -- at first none was read
 pub read_none : (all : Result (List Constraint) Fault) → HasRead [] all all
@@ -130,3 +132,33 @@ passed_all file reached rows more ended = by_stop reached.stopped ended
         MatchOption stopped ((more : List Constraint) × IsAll reached file (rows ++ more)) (λ why. Refuses why (system_of file))
     by_stop None all = (more, all)
     by_stop (Some why) refuses = refuses
+
+-- behind the last constraint reading is done, or it stopped
+pub ended_at : (file : List ℕ) (old new : Reached) (rows : List Constraint) → IsAt old file rows →
+    MatchOption new.stopped ((new ≡ old) × (ahead old file ≡ Ok [])) (λ why. Refuses why (ahead old file)) →
+    MatchOption new.stopped (IsAll new file rows) (λ why. Refuses why (system_of file))
+ended_at file old new rows place ended = by_stop new.stopped ended
+  where
+    by_stop : (stopped : Option ReadRefusal) → MatchOption stopped ((new ≡ old) × (ahead old file ≡ Ok [])) (λ why. Refuses why (ahead old file)) →
+        MatchOption stopped (IsAll new file rows) (λ why. Refuses why (system_of file))
+    by_stop None none = rw none.0 (all_at file old rows place none.1)
+    by_stop (Some why) refuses = refuses_ahead file old rows why place refuses
+
+-- where nothing was read, reading goes on or was stopped by what was read before
+pub ended_here : (outside : Outside) (name : List ℕ) (stopped : Option ReadRefusal) → ((why : ReadRefusal) → stopped ≡ Some why → IsTold why) →
+    MatchOption stopped (outside ≡ outside) (λ why. Stopped outside outside name why)
+ended_here outside name None told = refl
+ended_here outside name (Some why) told = stopped_here outside name why (told why refl)
+
+-- a constraint that was not given stops reading
+pub ended_row : {A : Type 0} (file : List ℕ) (old new : Reached) (rows : List Constraint) (Gives : A → Type 0) → IsAt old file rows →
+    old.left ≡ old.left - 1 + 1 →
+    Ended None new.stopped Gives (λ why. Refuses why (constraint_at file old.header.wires (old.header.rows.at + old.header.rows.size) old.at)) →
+    MatchOption new.stopped (IsAll new file rows) (λ why. Refuses why (system_of file))
+ended_row {A} file old new rows Gives place left ended = by_stop new.stopped ended
+  where
+    by_stop : (stopped : Option ReadRefusal) →
+        Ended {A = A} None stopped Gives (λ why. Refuses why (constraint_at file old.header.wires (old.header.rows.at + old.header.rows.size) old.at)) →
+        MatchOption stopped (IsAll new file rows) (λ why. Refuses why (system_of file))
+    by_stop None none = absurd none
+    by_stop (Some why) refuses = refuses_ahead file old rows why place (constraints_from-refuses file _ _ _ _ _ _ left refuses)

@@ -5,6 +5,7 @@ use Rattle.tv_core.specs.Constraints.{Combination, Constraint, value}
 use Rattle.tv_core.specs.declared.field.TheConstants.{P}
 use Rattle.tv_container.specs.Places.{Fault, number}
 use Rattle.tv_container.specs.Reading.{Refuses}
+use Rattle.tv_container.specs.declared.why.ReadRefusal.{ReadRefusal}
 use Rattle.tv_r1cs_read.specs.Places.{IsAt, IsAll}
 use Rattle.tv_r1cs_read.specs.Progress.{Reached}
 use Rattle.tv_r1cs_read.specs.R1cs.{Read, system_of}
@@ -35,6 +36,12 @@ pub record IsTried (answer : Result (Read Constraint) Fault) (z : List ℕ) (hol
   pub count : n ≡ terms_of constraint
   pub read : answer ≡ Ok (record { value = constraint; next = next })
   pub is : holds ≡ (value constraint.a z * value constraint.b z % P == value constraint.c z)
+
+-- a step that keeps its refusal apart gave something, or reading stopped
+abbrev pub Ended : {A : Type 0} → Option A → Option ReadRefusal → (A → Type 0) → (ReadRefusal → Type 0) → Type 0
+Ended (Some value) stopped Gives Stops = (stopped ≡ None) × Gives value
+Ended None (Some why) Gives Stops = Stops why
+Ended None None Gives Stops = ⊥
 
 -- reading has given one constraint behind these, and it holds under an assignment or not
 pub record HasTried (holds : Bool) (z : List ℕ) (reached : Reached) (file : List ℕ) (rows : List Constraint) : Type 0 where

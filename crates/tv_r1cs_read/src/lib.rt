@@ -16,3 +16,4 @@ pub use header::Header;
 pub use progress::Progress;
 pub use reader::{SystemReader, Unread, survey};
 pub use rows::{Row, Terms};
+pub use tv_container::{ReadRefusal, ReadWhy};

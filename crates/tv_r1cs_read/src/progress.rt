@@ -9,9 +9,9 @@ ghost use Rattle.tv_container.specs.Reading.{Looks, Refuses, IsMissing, IsTold, 
 ghost use Rattle.tv_container.specs.declared.why.ReadRefusal.{ReadRefusal};
 
 use crate::header::{Header, read_header};
-use crate::rows::{Bounds, Row, read_row};
+use crate::rows::{AT_ONCE, Bounds, Row, read_row};
 use crate::taken::take_held;
-use crate::tried::{try_held, try_row};
+use crate::tried::try_row;
 use std::alloc::AllocError;
 use std::marker::Model;
 use tv_container::{ReadRefusal, ReadWhy, Window};
@@ -203,7 +203,7 @@ impl Progress {
             return Ok(false);
         }
         let bounds = self.bounds();
-        self.window.fill(files, name, self.at)?;
+        self.window.reach(files, name, self.at, AT_ONCE)?;
         self.at = read_row(files, name, &mut self.window, &bounds, self.at, row)?;
         self.left -= 1;
         self.terms += row.terms() as u64;
@@ -238,94 +238,44 @@ impl Progress {
             (D.seen files.new ≡ D.seen files.old)
             (λ why. Stopped (D.seen files.old) (D.seen files.new) name.now why) }
     {
-        if let Some(holds) = self.try_held(values) {
-            return Some(holds);
+        if self.stopped.is_some() {
+            return None;
         }
-        self.try_far(files, name, values)
-    }
-
-    // Tries the next constraint, where the window holds all of it and it is as it should be; else
-    // nothing changes.
-    #[inline(always)]
-    fn try_held(&mut self, values: &[F]) -> Option<bool>
-        ensures gives { (file : List ℕ) → (rows : List Constraint) → IsAt self.old file rows →
-            IfSome result (λ holds. HasTried holds values.now self.new file rows) }
-        ensures left { IfSome result (λ _. self.new.left + 1 ≡ self.old.left) }
-        ensures header { self.new.header ≡ self.old.header }
-        ensures same { result ≡ None → self.new ≡ self.old }
-        ensures on { IfSome result (λ _. self.old.stopped ≡ None) }
-        ensures goes { self.new.stopped ≡ self.old.stopped }
-    {
-        if self.left == 0 || self.stopped.is_some() {
+        if self.left == 0 {
+            self.end();
             return None;
         }
         let bounds = self.bounds();
-        let tried = try_held(&self.window, &bounds, self.at, values)?;
+        let tried = try_row(
+            files,
+            name,
+            &mut self.window,
+            &bounds,
+            self.at,
+            values,
+            &mut self.stopped,
+        )?;
         self.at = tried.next;
         self.left -= 1;
         self.terms += tried.terms;
         Some(tried.holds)
     }
 
-    // Reads and tries the next constraint.
+    // Behind the last counted constraint: stops where section 2 has more bytes.
     #[cold]
     #[inline(never)]
-    fn try_far<D: Files>(&mut self, files: &mut D, name: &str, values: &[F]) -> Option<bool>
-        ensures gives { (rows : List Constraint)
-            → Known (D.seen files.old) name.now (λ file. IsAt self.old file rows →
-            GaveTried result values.now self.new file rows) }
-        ensures left { IfSome result (λ _. self.new.left + 1 ≡ self.old.left) }
+    fn end(&mut self)
+        requires on { self.old.stopped ≡ None }
+        requires none { self.old.left ≡ 0 }
+        ensures gives { (file : List ℕ) → MatchOption self.new.stopped
+            ((self.new ≡ self.old) × (ahead self.old file ≡ Ok []))
+            (λ why. Refuses why (ahead self.old file)) }
+        ensures told { (why : ReadRefusal) → self.new.stopped ≡ Some why → IsTold why }
         ensures header { self.new.header ≡ self.old.header }
-        ensures again { (why : ReadRefusal) → self.old.stopped ≡ Some why →
-            (result ≡ None) × (self.new ≡ self.old) × (D.seen files.new ≡ D.seen files.old) }
-        ensures goes { IfSome result (λ _. self.new.stopped ≡ None) }
-        ensures looks { self.old.stopped ≡ None → MatchOption self.new.stopped
-            (D.seen files.new ≡ D.seen files.old)
-            (λ why. Stopped (D.seen files.old) (D.seen files.new) name.now why) }
     {
-        if self.stopped.is_some() {
-            return None;
+        if let Err(refusal) = self.at_end() {
+            self.stopped = Some(refusal);
         }
-        match self.try_read(files, name, values) {
-            Ok(holds) => holds,
-            Err(refusal) => {
-                self.stopped = Some(refusal);
-                None
-            }
-        }
-    }
-
-    // Reads and tries the next constraint, or tells the refusal.
-    #[tactic(auto, using(tv_container::proofs::Chain::stopped_here))]
-    fn try_read<D: Files>(
-        &mut self,
-        files: &mut D,
-        name: &str,
-        values: &[F],
-    ) -> Result<Option<bool>, ReadRefusal>
-        ensures gives { (rows : List Constraint)
-            → Known (D.seen files.old) name.now (λ file. IsAt self.old file rows →
-            MatchResult result
-            (λ holds. MatchOption holds (IsAll self.new file rows)
-            (λ holds. HasTried holds values.now self.new file rows))
-            (λ why. Refuses why (system_of file))) }
-        ensures left { IfOk result (λ holds. IfSome holds
-            (λ _. self.new.left + 1 ≡ self.old.left)) }
-        ensures header { self.new.header ≡ self.old.header }
-        ensures goes { self.new.stopped ≡ self.old.stopped }
-        ensures looks { Looks (D.seen files.old) (D.seen files.new) name.now result }
-    {
-        if self.left == 0 {
-            self.at_end()?;
-            return Ok(None);
-        }
-        let bounds = self.bounds();
-        self.window.fill(files, name, self.at)?;
-        let tried = try_row(files, name, &mut self.window, &bounds, self.at, values)?;
-        self.at = tried.next;
-        self.left -= 1;
-        self.terms += tried.terms;
-        Ok(Some(tried.holds))
     }
 
     // What bounds the terms.

@@ -21,6 +21,9 @@ pub(crate) const WIDEST: u32 = 1_048_576;
 /// The bytes of a term: four of the wire, eight of the coefficient.
 pub(crate) const TERM: u64 = 12;
 
+/// How many bytes are read on for at a place that the window doesn't hold.
+pub(crate) const AT_ONCE: usize = 4096;
+
 /// The terms of a combination in order, each a wire and its coefficient.
 #[derive(Drop)]
 pub struct Terms {

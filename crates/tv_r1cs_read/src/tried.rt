@@ -1,15 +1,16 @@
 //! A constraint tried straight from the bytes that the window holds, with no term kept.
 
-ghost use Rattle.std.specs.Prelude.{◌≡◌, ℕ, ◌+◌, ◌-◌, ◌*◌, ◌≤◌, ◌<◌, ◌^◌, List, [], Result};
+ghost use Rattle.std.specs.Prelude.{◌≡◌, ℕ, ◌+◌, ◌-◌, ◌*◌, ◌≤◌, ◌<◌, ◌^◌, List, [], None, Result};
 ghost use Rattle.std.specs.Prelude.{length, slice_index, true, IfSome, IfOk, MatchResult};
 ghost use Rattle.tv_core.specs.Constraints.{Combination};
 ghost use Rattle.tv_container.specs.Places.{Fault, places};
-ghost use Rattle.tv_container.specs.Reading.{Holds, IsPiece, IsTold, ReadsIn, Refuses};
+ghost use Rattle.tv_container.specs.Reading.{Holds, InPiece, IsPiece, IsTold, ReadsIn, Refuses};
+ghost use Rattle.tv_container.specs.Reading.{Stopped};
 ghost use Rattle.tv_r1cs_read.specs.R1cs.{Read, combination_at, constraint_at};
-ghost use Rattle.tv_r1cs_read.specs.Sums.{IsOff, IsSummed, IsTried, IsValued};
+ghost use Rattle.tv_r1cs_read.specs.Sums.{Ended, IsOff, IsSummed, IsTried, IsValued};
 
 use crate::held::{held_to, is_past};
-use crate::rows::{Bounds, TERM, WIDEST, fit_below};
+use crate::rows::{AT_ONCE, Bounds, TERM, WIDEST, fit_below};
 use crate::sum::Sum;
 use tv_container::{ReadRefusal, ReadWhy, Window};
 use tv_core::F;
@@ -152,21 +153,35 @@ fn sum_terms(
     add_terms::<false>(window, bounds, at, count, values, sum)
 }
 
-/// The constraint at a place, tried under an assignment; `None` where the window doesn't hold all
-/// of it, or it isn't as it should be.
+/// Tries the constraint at a place under an assignment; `None` where reading stopped.
 #[inline(always)]
-pub(crate) fn try_held(window: &Window, bounds: &Bounds, at: u64, values: &[F]) -> Option<Tried>
-    requires { at ≤ bounds.now.end }
+#[tactic(auto, unfolding(crate::specs::R1cs::constraint_at))]
+pub(crate) fn try_row<D: Files>(
+    files: &mut D,
+    name: &str,
+    window: &mut Window,
+    bounds: &Bounds,
+    at: u64,
+    values: &[F],
+    stopped: &mut Option<ReadRefusal>,
+) -> Option<Tried>
+    requires within { at ≤ bounds.now.end }
+    requires on { stopped.old ≡ None }
     ensures within { IfSome result (λ tried. tried.next ≤ bounds.now.end) }
     ensures size { IfSome result (λ tried. tried.next ≡ at + 12 + 12 * tried.terms) }
-    ensures gives { (file : List ℕ) → IsPiece window.now file → IfSome result
-        (λ tried. IsTried (constraint_at file bounds.now.wires bounds.now.end at) values.now
-        tried.holds tried.terms tried.next) }
+    ensures looks { Ended result stopped.new
+        (λ _. D.seen files.new ≡ D.seen files.old)
+        (λ why. Stopped (D.seen files.old) (D.seen files.new) name.now why) }
+    ensures gives { InPiece (D.seen files.old) name.now window.old
+        (λ file. bounds.now.end ≤ places file → Ended result stopped.new
+        (λ tried. IsPiece window.new file × IsTried
+        (constraint_at file bounds.now.wires bounds.now.end at) values.now tried.holds tried.terms
+        tried.next)
+        (λ why. Refuses why (constraint_at file bounds.now.wires bounds.now.end at))) }
 {
-    let limit = held_to(window, bounds, at)?;
-    let a = value_held(window, bounds, limit, at, values)?;
-    let b = value_held(window, bounds, limit, a.next, values)?;
-    let c = value_held(window, bounds, limit, b.next, values)?;
+    let a = next_value(files, name, window, bounds, at, values, stopped)?;
+    let b = next_value(files, name, window, bounds, a.next, values, stopped)?;
+    let c = next_value(files, name, window, bounds, b.next, values, stopped)?;
     Some(Tried {
         holds: a.value * b.value == c.value,
         terms: u64::from(a.terms) + u64::from(b.terms) + u64::from(c.terms),
@@ -174,19 +189,49 @@ pub(crate) fn try_held(window: &Window, bounds: &Bounds, at: u64, values: &[F]) 
     })
 }
 
-// The combination at a place; `None` where it doesn't end at or before `limit`, up to which the
-// window holds the bytes, or it isn't as it should be.
+// The combination at a place; `None` where reading stopped.
 #[inline(always)]
-fn value_held(window: &Window, bounds: &Bounds, limit: u64, at: u64, values: &[F]) -> Option<Valued>
-    requires before { at ≤ limit }
-    requires within { limit ≤ bounds.now.end }
-    requires held { Holds window.now at (limit - at) }
-    ensures within { IfSome result (λ valued. valued.next ≤ limit) }
+fn next_value<D: Files>(
+    files: &mut D,
+    name: &str,
+    window: &mut Window,
+    bounds: &Bounds,
+    at: u64,
+    values: &[F],
+    stopped: &mut Option<ReadRefusal>,
+) -> Option<Valued>
+    requires within { at ≤ bounds.now.end }
+    requires on { stopped.old ≡ None }
+    ensures within { IfSome result (λ valued. valued.next ≤ bounds.now.end) }
+    ensures size { IfSome result (λ valued. valued.next ≡ at + 4 + 12 * valued.terms) }
+    ensures looks { Ended result stopped.new
+        (λ _. D.seen files.new ≡ D.seen files.old)
+        (λ why. Stopped (D.seen files.old) (D.seen files.new) name.now why) }
+    ensures gives { InPiece (D.seen files.old) name.now window.old
+        (λ file. bounds.now.end ≤ places file → Ended result stopped.new
+        (λ valued. IsPiece window.new file × IsValued
+        (combination_at file bounds.now.wires bounds.now.end at) values.now valued.value
+        valued.terms valued.next)
+        (λ why. Refuses why (combination_at file bounds.now.wires bounds.now.end at))) }
+{
+    match value_held(window, bounds, at, values) {
+        Some(valued) => Some(valued),
+        None => far_value(files, name, window, bounds, at, values, stopped),
+    }
+}
+
+// The combination at a place; `None` where the window doesn't hold all of it, or it isn't as it
+// should be.
+#[inline(always)]
+fn value_held(window: &Window, bounds: &Bounds, at: u64, values: &[F]) -> Option<Valued>
+    requires { at ≤ bounds.now.end }
+    ensures within { IfSome result (λ valued. valued.next ≤ bounds.now.end) }
     ensures size { IfSome result (λ valued. valued.next ≡ at + 4 + 12 * valued.terms) }
     ensures gives { (file : List ℕ) → IsPiece window.now file → IfSome result
         (λ valued. IsValued (combination_at file bounds.now.wires bounds.now.end at) values.now
         valued.value valued.terms valued.next) }
 {
+    let limit = held_to(window, bounds, at)?;
     if limit - at < 4 {
         return None;
     }
@@ -205,34 +250,39 @@ fn value_held(window: &Window, bounds: &Bounds, limit: u64, at: u64, values: &[F
     })
 }
 
-/// Reads the constraint at a place, and tries it under an assignment.
-#[tactic(auto, unfolding(crate::specs::R1cs::constraint_at))]
-pub(crate) fn try_row<D: Files>(
+// As `next_value`, a piece of the combination at a time.
+#[cold]
+#[inline(never)]
+fn far_value<D: Files>(
     files: &mut D,
     name: &str,
     window: &mut Window,
     bounds: &Bounds,
     at: u64,
     values: &[F],
-) -> Result<Tried, ReadRefusal>
-    requires { at ≤ bounds.now.end }
-    ensures within { IfOk result (λ tried. tried.next ≤ bounds.now.end) }
-    ensures size { IfOk result (λ tried. tried.next ≡ at + 12 + 12 * tried.terms) }
-    ensures reads { ReadsIn (D.seen files.old) (D.seen files.new) name.now window.old window.new
-        result
-        (λ file. bounds.now.end ≤ places file → MatchResult result
-        (λ tried. IsTried (constraint_at file bounds.now.wires bounds.now.end at) values.now
-        tried.holds tried.terms tried.next)
-        (λ why. Refuses why (constraint_at file bounds.now.wires bounds.now.end at))) }
+    stopped: &mut Option<ReadRefusal>,
+) -> Option<Valued>
+    requires within { at ≤ bounds.now.end }
+    requires on { stopped.old ≡ None }
+    ensures within { IfSome result (λ valued. valued.next ≤ bounds.now.end) }
+    ensures size { IfSome result (λ valued. valued.next ≡ at + 4 + 12 * valued.terms) }
+    ensures looks { Ended result stopped.new
+        (λ _. D.seen files.new ≡ D.seen files.old)
+        (λ why. Stopped (D.seen files.old) (D.seen files.new) name.now why) }
+    ensures gives { InPiece (D.seen files.old) name.now window.old
+        (λ file. bounds.now.end ≤ places file → Ended result stopped.new
+        (λ valued. IsPiece window.new file × IsValued
+        (combination_at file bounds.now.wires bounds.now.end at) values.now valued.value
+        valued.terms valued.next)
+        (λ why. Refuses why (combination_at file bounds.now.wires bounds.now.end at))) }
 {
-    let a = read_value(files, name, window, bounds, at, values)?;
-    let b = read_value(files, name, window, bounds, a.next, values)?;
-    let c = read_value(files, name, window, bounds, b.next, values)?;
-    Ok(Tried {
-        holds: a.value * b.value == c.value,
-        terms: u64::from(a.terms) + u64::from(b.terms) + u64::from(c.terms),
-        next: c.next,
-    })
+    match read_value(files, name, window, bounds, at, values) {
+        Ok(valued) => Some(valued),
+        Err(refusal) => {
+            *stopped = Some(refusal);
+            None
+        }
+    }
 }
 
 // Reads the combination at a place, and takes its value under an assignment.
@@ -255,6 +305,7 @@ fn read_value<D: Files>(
         valued.value valued.terms valued.next)
         (λ why. Refuses why (combination_at file bounds.now.wires bounds.now.end at))) }
 {
+    window.reach(files, name, at, AT_ONCE)?;
     fit_below(files, name, window, at, 4, bounds.end)?;
     let terms = window.word(at);
     if terms > WIDEST {

@@ -9,11 +9,13 @@ returns-in_err-value-clause-reads g c = record {
   looks = search rules;
   piece = search rules;
   gives = λ file told piece end.
-      let held = c.in_ok-fit_below.ensures.reads.piece file told piece in
+      let seen = rw (← c.in_ok-reach.ensures.reads.looks) at told in
+      let here = c.in_ok-reach.ensures.reads.piece file told piece in
+      let held = c.in_ok-fit_below.ensures.reads.piece file seen here in
       let counted = combination_at-counted file c.args.bounds.now.wires c.args.bounds.now.end c.args.at c.word-terms.result _
-      (c.in_ok-fit_below.ensures.reads.gives file told piece end) (sym (c.word-terms.ensures file held)) c.if-terms-gt-WIDEST.false in
+      (c.in_ok-fit_below.ensures.reads.gives file seen here end) (sym (c.word-terms.ensures file held)) c.if-terms-gt-WIDEST.false in
       let p = err_from_is_err_and c.from_residual-in_err-value.result c.from_residual-in_err-value.ensures.1 in
-      rw (p.1, p.2, counted) (c.in_err-value.ensures.reads.gives file (rw (← c.in_ok-fit_below.ensures.reads.looks) at told) held end _ (starts file _ _ _ _ _));
+      rw (p.1, p.2, counted) (c.in_err-value.ensures.reads.gives file (rw (← c.in_ok-fit_below.ensures.reads.looks) at seen) held end _ (starts file _ _ _ _ _));
 }
 
 pub returns-clause-reads : goal.returns-clause-reads
@@ -21,8 +23,10 @@ returns-clause-reads g c = record {
   looks = search rules;
   piece = search rules;
   gives = λ file told piece end.
-      let held = c.in_ok-fit_below.ensures.reads.piece file told piece in
+      let seen = rw (← c.in_ok-reach.ensures.reads.looks) at told in
+      let here = c.in_ok-reach.ensures.reads.piece file told piece in
+      let held = c.in_ok-fit_below.ensures.reads.piece file seen here in
       let counted = combination_at-counted file c.args.bounds.now.wires c.args.bounds.now.end c.args.at c.word-terms.result _
-      (c.in_ok-fit_below.ensures.reads.gives file told piece end) (sym (c.word-terms.ensures file held)) c.if-terms-gt-WIDEST.false in
-      rw (counted, c.from.ensures) (c.in_ok-value.ensures.reads.gives file (rw (← c.in_ok-fit_below.ensures.reads.looks) at told) held end _ (starts file _ _ _ _ _));
+      (c.in_ok-fit_below.ensures.reads.gives file seen here end) (sym (c.word-terms.ensures file held)) c.if-terms-gt-WIDEST.false in
+      rw (counted, c.from.ensures) (c.in_ok-value.ensures.reads.gives file (rw (← c.in_ok-fit_below.ensures.reads.looks) at seen) held end _ (starts file _ _ _ _ _));
 }

@@ -1,5 +1,5 @@
 use Rattle.std.proofs.Common.{rules, sym, arith}
-use Rattle.tv_container.proofs.Buffers.{all_held, front_refused, filled}
+use Rattle.tv_container.proofs.Buffers.{front_refused, filled}
 use Rattle.tv_container.proofs.buffer.Buffer.put_over.Goals as goal
 
 pub returns-in_err-append : goal.returns-in_err-append
