@@ -212,5 +212,5 @@ block_filled w width z n state time at h u o takes assigns is has =
 pub block_complete : BlockIsComplete
 block_complete w width z n state time next h u o takes early assigns is has =
     let both = block_filled w width z n state time next h u o takes assigns is has in
-    let step = step_in w width z next n state time is.short early assigns is.range both.0 in
-    record { met = both.0; shows = handed_in w width z n state time next h u o takes step.step both.1 }
+    let step = step_in w width z n state time next is.short early assigns is.range both.0 in
+    record { met = both.0; shows = handed_in w width z n state time next h u o takes step both.1 }

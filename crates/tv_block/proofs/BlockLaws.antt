@@ -30,7 +30,7 @@ use Rattle.tv_block.proofs.PcLaws.{pc_sound}
 use Rattle.tv_block.proofs.StoreLaws.{store_sound}
 use Rattle.tv_block.proofs.TableLaws.{flag_sound, result_sound, flag_test}
 use Rattle.tv_block.proofs.TapeLaws.{tapes_sound}
-use Rattle.tv_block.specs.Block.{compute_of, word_inverse, cell_of, block_of, IsStep, BlockIsSound}
+use Rattle.tv_block.specs.Block.{compute_of, word_inverse, cell_of, block_of, BlockIsStep, BlockIsSound}
 use Rattle.tv_block.specs.Data.{AreData, data_of}
 use Rattle.tv_block.specs.Fetch.{IsFetched, state_in, head_in, tail_in, fetch_of}
 use Rattle.tv_block.specs.Groups.{groups_of}
@@ -143,16 +143,9 @@ hot_is z op k row = elim (cases_eq k 31) [
   | inr apart ↦ row.cold 31 (omega arith) (λ e. apart (sym e)) ∙ sym (ap flag_of (ne_eqb k 31 apart))
 ]
 
--- the numbers in a block's wires are those of a step; what tells whether a word is taken, and whether it answers, is 0 or 1
-pub record Stepped (w : ℕ) (z : List ℕ) (n time : ℕ) (state : StateWires) (at : ℕ) : Type 0 where
-  pub step : IsStep w z n time state (block_of w n state time at).answer
-  pub takes : slice_index z (block_of w n state time at).answer.spot.taken ≡ flag_of step.takes
-  pub answers : slice_index z (block_of w n state time at).answer.answers ≡ flag_of ((decode w step.head step.tail).op == 31)
-
-pub step_in : (w : ℕ) → IsWidth w → (z : List ℕ) (at n : ℕ) (state : StateWires) (time : ℕ) → n < 2 ^ 29 → time + 2 < 2 ^ 32 → Assigns z → ViewInRange w n (state_in z state)
-    → Meets z (block_of w n state time at).list → Stepped w z n time state at
+pub step_in : BlockIsStep
 unfolding block_of pure ◌>>=◌
-step_in w width z at n state time short early assigns range meets =
+step_in w width z n state time at short early assigns range meets =
     let most = width_short w width in
     let c = compute_of w n state at in
     let pc = pc_of w state c.answer.fetched.fields.op c.answer.operands.a c.next in
@@ -170,39 +163,36 @@ step_in w width z at n state time short early assigns range meets =
     let tail_is = value-bits_below is.fetched.tail (omega arith) in
     let answers = hot_is z c.answer.fetched.fields.op i.op is.fetched.fields.op in
     record {
-      step = record {
-        head = head;
-        tail = tail;
-        word = o;
-        takes = takes;
-        at_numbers = record {
-          short = short;
-          range = range;
-          head_word = Spells-below is.fetched.head;
-          tail_word = Spells-below is.fetched.tail;
-          data_word = Spells-below is.data_.bits;
-          used = is.fetched.used;
-          asked = is.asked;
-        };
-        same = same_did _ _ _ _ _ _ _ _ _ _ _ _ _ _ _ _ _ _ refl
-            (same_view _ _ _ _ _ _ _ _ _ _ is_pc is.regs is.flag is.taken is.ended)
-            (same_line _ _ _ _ _ _ _ _ cell (value-constant assigns time ∙ small_time time (omega arith)) head_is head_is)
-            (same_line _ _ _ _ _ _ _ _ (value-append (cell_of w state.pc) (constant 1) z ∙ ap₂ (λ m k. (m + k) % P) cell (value-constant assigns 1) ∙ next_cell w width (slice_index z state.pc) range.pc_fits) (value-constant assigns (time + 1) ∙ small_time (time + 1) (omega arith)) tail_is tail_is)
-            (same_line _ _ _ _ _ _ _ _ (value-wire assigns c.answer.data_word.cell ∙ is.data_.cell) (value-constant assigns (time + 2) ∙ small_time (time + 2) (omega arith)) (value-wire assigns c.answer.data_word.old ∙ is.data_.old) (value-wire assigns c.answer.store.new ∙ is.store.new))
-            refl is.data_.word (ap (λ k. k == 1) answers ∙ flag_test (i.op == 31)) is.operands.operand;
+      head = head;
+      tail = tail;
+      word = o;
+      takes = takes;
+      at_numbers = record {
+        short = short;
+        range = range;
+        head_word = Spells-below is.fetched.head;
+        tail_word = Spells-below is.fetched.tail;
+        data_word = Spells-below is.data_.bits;
+        used = is.fetched.used;
+        asked = is.asked;
       };
-      takes = is.takes_is;
+      same = same_did _ _ _ _ _ _ _ _ _ _ _ _ _ _ _ _ _ _ refl
+          (same_view _ _ _ _ _ _ _ _ _ _ is_pc is.regs is.flag is.taken is.ended)
+          (same_line _ _ _ _ _ _ _ _ cell (value-constant assigns time ∙ small_time time (omega arith)) head_is head_is)
+          (same_line _ _ _ _ _ _ _ _ (value-append (cell_of w state.pc) (constant 1) z ∙ ap₂ (λ m k. (m + k) % P) cell (value-constant assigns 1) ∙ next_cell w width (slice_index z state.pc) range.pc_fits) (value-constant assigns (time + 1) ∙ small_time (time + 1) (omega arith)) tail_is tail_is)
+          (same_line _ _ _ _ _ _ _ _ (value-wire assigns c.answer.data_word.cell ∙ is.data_.cell) (value-constant assigns (time + 2) ∙ small_time (time + 2) (omega arith)) (value-wire assigns c.answer.data_word.old ∙ is.data_.old) (value-wire assigns c.answer.store.new ∙ is.store.new))
+          refl is.data_.word (ap (λ k. k == 1) answers ∙ flag_test (i.op == 31)) is.operands.operand;
+      taken = is.takes_is;
       answers = answers;
     }
 
 pub block_sound : BlockIsSound
 block_sound w width z x state time next short early assigns range meets =
     let made = (block_of w (length x) state time next).answer in
-    let is = step_in w width z next (length x) state time short early assigns range meets in
-    let step = is.step in
+    let step = step_in w width z (length x) state time next short early assigns range meets in
     record {
       range = subst (λ (b : Did). ViewInRange w (length x) b.after) (sym step.same) (numbers_stay_in_range w width (length x) time (state_in z state) step.head step.tail step.word step.takes step.at_numbers);
       does = subst (DoesStep w x time) (sym step.same) (numbers_do w width x time (state_in z state) step.head step.tail step.word step.takes step.at_numbers);
-      takes = is.takes ∙ sym (ap (λ (b : Did). flag_of b.takes) step.same);
-      answers = is.answers ∙ sym (ap (λ (b : Did). flag_of b.answers) step.same);
+      takes = step.taken ∙ sym (ap (λ (b : Did). flag_of b.takes) step.same);
+      answers = step.answers ∙ sym (ap (λ (b : Did). flag_of b.answers) step.same);
     }

@@ -60,7 +60,7 @@ unfolding data_of kept_of pick_of times_of fresh put pure ◌>>=◌
 data_next w state op a t next = omega (arith, new_bits_next w next)
 
 pub data_filled : (w : ℕ) → IsWidth w → (z : List ℕ) (next n : ℕ) (state : StateWires) (op : ℕ) (a : Bits) (t : Tapes) (v : View) (i : Instr) (o : ℕ) (takes : Bool) → n < 2 ^ 29 → v.taken ≤ n → o < 2 ^ w
-    → slice_index z state.taken ≡ v.taken → Assigns z → IsOneHot z op 32 i.op → Spells z a.first w (operand_word v i) → AreTapes z t n v i → slice_index z t.takes ≡ flag_of takes → (takes ≡ true → asks v i ≡ true)
+    → slice_index z state.taken_of_primary ≡ v.taken → Assigns z → IsOneHot z op 32 i.op → Spells z a.first w (operand_word v i) → AreTapes z t n v i → slice_index z t.takes ≡ flag_of takes → (takes ≡ true → asks v i ≡ true)
     → HasFrom z next (data_values w n v i o takes) → Meets z (data_of w state op a t next).list
 unfolding data_of pure ◌>>=◌
 data_filled w width z next n state op a t v i o takes short within o_small is_taken assigns row s tapes is_takes asked has =
@@ -74,14 +74,14 @@ data_filled w width z next n state op a t v i o takes short within o_small is_ta
     let bits = new_bits_of w next in
     let word = kept_of (bits_combination bits.answer.first w) bits.next in
     let memory_cell = pick_of (group op memory_ops) (bits_combination (a.first + w / 16) (w - w / 16)) (constant NULL_CELL) word.next in
-    let cell = pick_of (wire t.primary) (constant (TAPE_CELLS) ++ wire state.taken) (wire memory_cell.answer) memory_cell.next in
+    let cell = pick_of (wire t.primary) (constant (TAPE_CELLS) ++ wire state.taken_of_primary) (wire memory_cell.answer) memory_cell.next in
     let old = times_of (group op memory_ops ++ wire t.primary) (wire word.answer) cell.next in
     let read = times_of (wire t.primary ++ wire t.takes) (wire word.answer) old.next in
     let rest : List ℕ = o ∷ (if touches v i then at / (w / 8) else NULL_CELL) ∷ (data_line w n v i o takes 0).cell ∷ old_in w n v i o takes ∷ (if found w n v i o takes then o else 0) ∷ [] in
     let h1 = some_had z next bits.next (bits_values o w) rest (new_bits_sizes.fills w o next) has in
     let e2 : word.next ≡ bits.next + 1 = kept_next (bits_combination bits.answer.first w) bits.next in
     let e3 : memory_cell.next ≡ bits.next + 1 + 1 = pick_next (group op memory_ops) (bits_combination (a.first + w / 16) (w - w / 16)) (constant NULL_CELL) word.next ∙ ap (λ m. m + 1) e2 in
-    let e4 : cell.next ≡ bits.next + 1 + 1 + 1 = pick_next (wire t.primary) (constant (TAPE_CELLS) ++ wire state.taken) (wire memory_cell.answer) memory_cell.next ∙ ap (λ m. m + 1) e3 in
+    let e4 : cell.next ≡ bits.next + 1 + 1 + 1 = pick_next (wire t.primary) (constant (TAPE_CELLS) ++ wire state.taken_of_primary) (wire memory_cell.answer) memory_cell.next ∙ ap (λ m. m + 1) e3 in
     let e5 : old.next ≡ bits.next + 1 + 1 + 1 + 1 = times_next (group op memory_ops ++ wire t.primary) (wire word.answer) cell.next ∙ ap (λ m. m + 1) e4 in
     let spells : Spells z bits.answer.first w o = subst (λ (b : Bits). Spells z b.first w o) (sym (new_bits_answer w next)) (Spells-from_values z next w o o_small h1.0) in
     let m1 = new_bits_complete z next w o assigns h1.0 in
@@ -95,10 +95,10 @@ data_filled w width z next n state op a t v i o takes short within o_small is_ta
     let is_memory : slice_index z memory_cell.answer ≡ (if touches v i then at / (w / 8) else NULL_CELL) = pick_sound z word.next (group op memory_ops) (bits_combination (a.first + w / 16) (w - w / 16)) (constant NULL_CELL) assigns memory_bit m3 ∙ choice in
     let is_p : value (wire t.primary) z ≡ flag_of p = value-wire assigns t.primary ∙ tapes.primary in
     let p_bit = subst IsBit (sym is_p) (flag-bit p) in
-    let tape : value (constant (TAPE_CELLS) ++ wire state.taken) z ≡ tape_cell v.taken =
-    value-append (constant (TAPE_CELLS)) (wire state.taken) z ∙ ap₂ (λ m n. (m + n) % P) (value-constant assigns (TAPE_CELLS)) (value-wire assigns state.taken ∙ is_taken) ∙ omega arith in
-    let place = selected_by p _ (value (constant (TAPE_CELLS) ++ wire state.taken) z) (value (wire memory_cell.answer) z) is_p ∙ ap₂ (λ m k. if p then m else k) tape (value-wire assigns memory_cell.answer ∙ is_memory) in
-    let m4 = pick_complete z memory_cell.next (wire t.primary) (constant (TAPE_CELLS) ++ wire state.taken) (wire memory_cell.answer) assigns p_bit (ap (λ w. slice_index z w) e3 ∙ h1.1.1.1.0 ∙ sym place, tt) in
+    let tape : value (constant (TAPE_CELLS) ++ wire state.taken_of_primary) z ≡ tape_cell v.taken =
+    value-append (constant (TAPE_CELLS)) (wire state.taken_of_primary) z ∙ ap₂ (λ m n. (m + n) % P) (value-constant assigns (TAPE_CELLS)) (value-wire assigns state.taken_of_primary ∙ is_taken) ∙ omega arith in
+    let place = selected_by p _ (value (constant (TAPE_CELLS) ++ wire state.taken_of_primary) z) (value (wire memory_cell.answer) z) is_p ∙ ap₂ (λ m k. if p then m else k) tape (value-wire assigns memory_cell.answer ∙ is_memory) in
+    let m4 = pick_complete z memory_cell.next (wire t.primary) (constant (TAPE_CELLS) ++ wire state.taken_of_primary) (wire memory_cell.answer) assigns p_bit (ap (λ w. slice_index z w) e3 ∙ h1.1.1.1.0 ∙ sym place, tt) in
     let held : value (group op memory_ops ++ wire t.primary) z ≡ flag_of (touches v i || p) =
     value-append (group op memory_ops) (wire t.primary) z ∙ ap₂ (λ m n. (m + n) % P) memory is_p ∙ sum_of_flags (touches v i) p (no_touch v i n) in
     let found : value (wire t.primary ++ wire t.takes) z ≡ flag_of (p || takes) =

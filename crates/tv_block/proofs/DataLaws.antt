@@ -71,7 +71,7 @@ data_sound w width z next n state op a t v i short within is_taken assigns row s
     let bits = new_bits_of w next in
     let word = kept_of (bits_combination bits.answer.first w) bits.next in
     let memory_cell = pick_of (group op memory_ops) (bits_combination (a.first + w / 16) (w - w / 16)) (constant NULL_CELL) word.next in
-    let cell = pick_of (wire t.primary) (constant TAPE_CELLS ++ wire state.taken) (wire memory_cell.answer) memory_cell.next in
+    let cell = pick_of (wire t.primary) (constant TAPE_CELLS ++ wire state.taken_of_primary) (wire memory_cell.answer) memory_cell.next in
     let old = times_of (group op memory_ops ++ wire t.primary) (wire word.answer) cell.next in
     let read = times_of (wire t.primary ++ wire t.takes) (wire word.answer) old.next in
     let m1 = Meets-split z bits.list _ meets in
@@ -93,8 +93,8 @@ data_sound w width z next n state op a t v i short within is_taken assigns row s
     ∙ ap₂ (λ b x. selected b x (value (constant NULL_CELL) z)) memory cell_place
     ∙ ap (selected (flag_of (touches v i)) (at / (w / 8))) (value-constant assigns NULL_CELL) in
     let is_p : value (wire t.primary) z ≡ flag_of p = value-wire assigns t.primary ∙ tapes.primary in
-    let tape : value (constant TAPE_CELLS ++ wire state.taken) z ≡ tape_cell v.taken =
-    value-append (constant TAPE_CELLS) (wire state.taken) z ∙ ap₂ (λ m n. (m + n) % P) (value-constant assigns TAPE_CELLS) (value-wire assigns state.taken ∙ is_taken) ∙ omega arith in
+    let tape : value (constant TAPE_CELLS ++ wire state.taken_of_primary) z ≡ tape_cell v.taken =
+    value-append (constant TAPE_CELLS) (wire state.taken_of_primary) z ∙ ap₂ (λ m n. (m + n) % P) (value-constant assigns TAPE_CELLS) (value-wire assigns state.taken_of_primary ∙ is_taken) ∙ omega arith in
     let held : value (group op memory_ops ++ wire t.primary) z ≡ flag_of (touches v i || p) =
     value-append (group op memory_ops) (wire t.primary) z ∙ ap₂ (λ m n. (m + n) % P) memory is_p ∙ sum_of_flags (touches v i) p (no_touch v i n) in
     let found : value (wire t.primary ++ wire t.takes) z ≡ flag_of (p || took z t) =
@@ -102,7 +102,7 @@ data_sound w width z next n state op a t v i short within is_taken assigns row s
     record {
       bits = spells;
       word = is_word;
-      cell = pick_sound z memory_cell.next (wire t.primary) (constant TAPE_CELLS ++ wire state.taken) (wire memory_cell.answer) assigns (subst IsBit (sym is_p) (flag-bit p)) m4.0
+      cell = pick_sound z memory_cell.next (wire t.primary) (constant TAPE_CELLS ++ wire state.taken_of_primary) (wire memory_cell.answer) assigns (subst IsBit (sym is_p) (flag-bit p)) m4.0
           ∙ ap₂ (λ b x. selected b x (value (wire memory_cell.answer) z)) is_p tape ∙ ap (selected (flag_of p) (tape_cell v.taken)) (value-wire assigns memory_cell.answer ∙ is_memory) ∙ cell_by p (touches v i) (tape_cell v.taken) (at / (w / 8));
       old = times_sound z cell.next (group op memory_ops ++ wire t.primary) (wire word.answer) assigns m5.0 ∙ ap₂ (λ m n. m * n % P) held (value-wire assigns word.answer ∙ is_word) ∙ bit_times (touches v i || p) o small;
       read = times_sound z old.next (wire t.primary ++ wire t.takes) (wire word.answer) assigns m6.0 ∙ ap₂ (λ m n. m * n % P) found (value-wire assigns word.answer ∙ is_word) ∙ bit_times (p || took z t) o small;

@@ -57,7 +57,7 @@ machine_values_fit w width n time st gone ended short within bit range =
     let fits : IsLine w line = lines_in_range w width n st time short range 2 line (omega arith) in
     let tail_small = words_are_small w width st.memory range.bytes (st.pc / (w / 8) + 1) in
     let data_small : o < 2 ^ w = taken_small w st (reads_aux w st) line.old range.aux fits.old in
-    let wires : StateWires = record { pc = 0; regs = []; flag = 0; taken = 0; ended = 0 } in
+    let wires : StateWires = record { pc = 0; regs = []; flag = 0; taken_of_primary = 0; aux_ended = 0 } in
     let count = block_fills w width n wires time now (head_at w st) (tail_at w st) o (is_some word) view.registers 0 in
     let ends = block_next w width n wires time 0 in
     (omega (arith, count, ends), block_in_field w width n now (head_at w st) (tail_at w st) o (is_some word) short view tail_small data_small)

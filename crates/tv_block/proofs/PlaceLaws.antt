@@ -6,7 +6,7 @@ use Rattle.tv_block.specs.declared.records.Spot.{Spot}
 use Rattle.tv_block.specs.declared.records.StateWires.{StateWires}
 
 abbrev state_from : ℕ → List ℕ → ℕ → ℕ → ℕ → StateWires
-state_from pc regs flag taken ended = record { pc = pc; regs = regs; flag = flag; taken = taken; ended = ended }
+state_from pc regs flag taken ended = record { pc = pc; regs = regs; flag = flag; taken_of_primary = taken; aux_ended = ended }
 
 pub same_state : (a1 b1 : ℕ) (a2 b2 : List ℕ) (a3 b3 a4 b4 a5 b5 : ℕ) → a1 ≡ b1 → a2 ≡ b2 → a3 ≡ b3 → a4 ≡ b4 → a5 ≡ b5 → state_from a1 a2 a3 a4 a5 ≡ state_from b1 b2 b3 b4 b5
 same_state a1 b1 a2 b2 a3 b3 a4 b4 a5 b5 e1 e2 e3 e4 e5 = cc

@@ -116,7 +116,7 @@ further a b c p q = omega (arith, p, q)
 -- a block from the places of its wires
 abbrev block_from : ℕ → StateWires → ℕ → ℕ → List ℕ → ℕ → ℕ → ℕ → ℕ → ℕ → ℕ → ℕ → ℕ → ℕ → ℕ → ℕ → ℕ → Block
 block_from w state time pc regs flag taken ended head tail cell old new takes word answers value = record {
-  next = record { pc = pc; regs = regs; flag = flag; taken = taken; ended = ended };
+  next = record { pc = pc; regs = regs; flag = flag; taken_of_primary = taken; aux_ended = ended };
   lines =
       (record { cell = cell_of w state.pc; time = constant time; old = bits_combination head w; new = bits_combination head w })
       ∷ (record { cell = cell_of w state.pc ++ constant 1; time = constant (time + 1); old = bits_combination tail w; new = bits_combination tail w })

@@ -43,7 +43,7 @@ unfolding tapes_of if_zero_of unless_zero_of times_of kept_of taking_of fresh pu
 tapes_next w n state op a next = omega arith
 
 pub tapes_filled : (w : ℕ) → IsWidth w → (z : List ℕ) (next n : ℕ) (state : StateWires) (op : ℕ) (a : Bits) (v : View) (i : Instr) (o : ℕ) (takes : Bool) → n < 2 ^ 29 → v.taken ≤ n → IsBit v.ended
-    → slice_index z state.taken ≡ v.taken → slice_index z state.ended ≡ v.ended → Assigns z → IsOneHot z op 32 i.op → Spells z a.first w (operand_word v i)
+    → slice_index z state.taken_of_primary ≡ v.taken → slice_index z state.aux_ended ≡ v.ended → Assigns z → IsOneHot z op 32 i.op → Spells z a.first w (operand_word v i)
     → (takes ≡ true → asks v i ≡ true) → HasFrom z next (tapes_values w n v i o takes) → Meets z (tapes_of w n state op a next).list
 unfolding tapes_of fresh pure ◌>>=◌
 tapes_filled w width z next n state op a v i o takes short within bit is_taken is_ended assigns row s asked has =
@@ -53,14 +53,14 @@ tapes_filled w width z next n state op a v i o takes short within bit is_taken i
     let size : w ≡ 1 + (w - 1) = omega arith in
     let reads = if_zero_of (group op (30 ∷ [])) (bits_combination (a.first + 1) (w - 1)) next in
     let aux = times_of (wire reads.answer) (wire a.first) reads.next in
-    let primary = unless_zero_of (less (wire reads.answer) (wire aux.answer)) (less (constant n) (wire state.taken)) aux.next in
-    let taken = kept_of (wire state.taken ++ wire primary.answer) primary.next in
+    let primary = unless_zero_of (less (wire reads.answer) (wire aux.answer)) (less (constant n) (wire state.taken_of_primary)) aux.next in
+    let taken = kept_of (wire state.taken_of_primary ++ wire primary.answer) primary.next in
     let is_takes = taken.next in
     let ended = taken.next + 1 in
     let e1 : reads.next ≡ next + 1 + 1 = if_zero_next (group op (30 ∷ [])) (bits_combination (a.first + 1) (w - 1)) next in
     let e2 : aux.next ≡ next + 1 + 1 + 1 = times_next (wire reads.answer) (wire a.first) reads.next ∙ ap (λ m. m + 1) e1 in
-    let e3 : primary.next ≡ next + 1 + 1 + 1 + 1 + 1 = unless_zero_next (less (wire reads.answer) (wire aux.answer)) (less (constant n) (wire state.taken)) aux.next ∙ ap (λ m. m + 1 + 1) e2 in
-    let e4 : taken.next ≡ next + 1 + 1 + 1 + 1 + 1 + 1 = kept_next (wire state.taken ++ wire primary.answer) primary.next ∙ ap (λ m. m + 1) e3 in
+    let e3 : primary.next ≡ next + 1 + 1 + 1 + 1 + 1 = unless_zero_next (less (wire reads.answer) (wire aux.answer)) (less (constant n) (wire state.taken_of_primary)) aux.next ∙ ap (λ m. m + 1 + 1) e2 in
+    let e4 : taken.next ≡ next + 1 + 1 + 1 + 1 + 1 + 1 = kept_next (wire state.taken_of_primary ++ wire primary.answer) primary.next ∙ ap (λ m. m + 1) e3 in
     let high : value (bits_combination (a.first + 1) (w - 1)) z ≡ at / 2 = value-bits_below (Spells-high z a.first 1 (w - 1) at (subst (λ k. Spells z a.first k at) size s)) (omega arith) in
     let low : slice_index z a.first ≡ at % 2 = ap (λ w. slice_index z w) (let e : a.first ≡ a.first + 0 = omega arith in e) ∙ Spells-bit_at s 0 (omega arith) ∙ (let e : bit_at at 0 ≡ at % 2 = omega arith in e) in
     let is_read : value (group op (30 ∷ [])) z ≡ flag_of k = group_sound z op i.op (30 ∷ []) row refl ∙ ap flag_of (among_one 30 i.op) in
@@ -73,19 +73,19 @@ tapes_filled w width z next n state op a v i o takes short within bit is_taken i
     times_sound z reads.next (wire reads.answer) (wire a.first) assigns m2 ∙ ap₂ (λ m n. m * n % P) (value-wire assigns reads.answer) (value-wire assigns a.first) in
     let others : value (less (wire reads.answer) (wire aux.answer)) z ≡ flag_of (k && (at == 0)) =
     value-less (wire reads.answer) (wire aux.answer) z ∙ ap₂ (λ m n. (m + (P - n)) % P) (value-wire assigns reads.answer) (value-wire assigns aux.answer ∙ is_aux) ∙ reading.none in
-    let left : value (less (constant n) (wire state.taken)) z ≡ (n % P + (P - v.taken)) % P =
-    value-less (constant n) (wire state.taken) z ∙ ap₂ (λ m n. (m + (P - n)) % P) (value-constant assigns n) (value-wire assigns state.taken ∙ is_taken) in
+    let left : value (less (constant n) (wire state.taken_of_primary)) z ≡ (n % P + (P - v.taken)) % P =
+    value-less (constant n) (wire state.taken_of_primary) z ∙ ap₂ (λ m n. (m + (P - n)) % P) (value-constant assigns n) (value-wire assigns state.taken_of_primary ∙ is_taken) in
     let number = left ∙ left_number n v.taken within short in
-    let choice = ap (λ g. if value (less (constant n) (wire state.taken)) z == 0 then 0 else g) others ∙ left_by (k && (at == 0)) n v.taken _ within (omega arith) left in
-    let m3 = unless_zero_complete z aux.next (less (wire reads.answer) (wire aux.answer)) (less (constant n) (wire state.taken)) assigns
+    let choice = ap (λ g. if value (less (constant n) (wire state.taken_of_primary)) z == 0 then 0 else g) others ∙ left_by (k && (at == 0)) n v.taken _ within (omega arith) left in
+    let m3 = unless_zero_complete z aux.next (less (wire reads.answer) (wire aux.answer)) (less (constant n) (wire state.taken_of_primary)) assigns
     (ap (λ w. slice_index z w) e2 ∙ has.1.1.1.0 ∙ sym choice) (ap (λ w. slice_index z (w + 1)) e2 ∙ has.1.1.1.1.0 ∙ sym (ap₂ (λ x g. inverse_of x * g % P) number others)) in
-    let is_primary : slice_index z primary.answer ≡ flag_of (takes_primary v i n) = unless_zero_sound z aux.next (less (wire reads.answer) (wire aux.answer)) (less (constant n) (wire state.taken)) assigns m3 ∙ choice in
-    let sum = value-append (wire state.taken) (wire primary.answer) z
-    ∙ ap₂ (λ m n. (m + n) % P) (value-wire assigns state.taken ∙ is_taken) (value-wire assigns primary.answer ∙ is_primary) ∙ one_more (takes_primary v i n) v.taken (omega arith) in
-    let m4 = kept_complete z primary.next (wire state.taken ++ wire primary.answer) assigns (ap (λ w. slice_index z w) e3 ∙ has.1.1.1.1.1.0 ∙ sym sum, tt) in
-    let m5 = taking_complete z (taken.next + 1 + 1) aux.answer state.ended is_takes ended (k && (at == 1)) takes assigns (is_aux ∙ reading.one) (ap (λ w. slice_index z w) e4 ∙ has.1.1.1.1.1.1.0) (subst IsBit (sym is_ended) bit)
+    let is_primary : slice_index z primary.answer ≡ flag_of (takes_primary v i n) = unless_zero_sound z aux.next (less (wire reads.answer) (wire aux.answer)) (less (constant n) (wire state.taken_of_primary)) assigns m3 ∙ choice in
+    let sum = value-append (wire state.taken_of_primary) (wire primary.answer) z
+    ∙ ap₂ (λ m n. (m + n) % P) (value-wire assigns state.taken_of_primary ∙ is_taken) (value-wire assigns primary.answer ∙ is_primary) ∙ one_more (takes_primary v i n) v.taken (omega arith) in
+    let m4 = kept_complete z primary.next (wire state.taken_of_primary ++ wire primary.answer) assigns (ap (λ w. slice_index z w) e3 ∙ has.1.1.1.1.1.0 ∙ sym sum, tt) in
+    let m5 = taking_complete z (taken.next + 1 + 1) aux.answer state.aux_ended is_takes ended (k && (at == 1)) takes assigns (is_aux ∙ reading.one) (ap (λ w. slice_index z w) e4 ∙ has.1.1.1.1.1.1.0) (subst IsBit (sym is_ended) bit)
     (λ t. ap (λ e. (k && (at == 1)) && (e == 0)) is_ended ∙ asked t) (ap (λ w. slice_index z (w + 1)) e4 ∙ has.1.1.1.1.1.1.1.0 ∙ sym (ap (λ e. if ((k && (at == 1)) && (e == 0)) && not takes then 1 else e) is_ended)) in
-    Meets-join z reads.list _ m1 (Meets-join z aux.list _ m2 (Meets-join z primary.list _ m3 (Meets-join z taken.list _ m4 (Meets-join z (taking_of aux.answer state.ended is_takes ended (taken.next + 1 + 1)).list _ m5 tt))))
+    Meets-join z reads.list _ m1 (Meets-join z aux.list _ m2 (Meets-join z primary.list _ m3 (Meets-join z taken.list _ m4 (Meets-join z (taking_of aux.answer state.aux_ended is_takes ended (taken.next + 1 + 1)).list _ m5 tt))))
 
 -- whether a word is taken is chosen freely
 pub tapes_takes : (w : ℕ) (z : List ℕ) (next n : ℕ) (state : StateWires) (op : ℕ) (a : Bits) (v : View) (i : Instr) (o : ℕ) (takes : Bool) → HasFrom z next (tapes_values w n v i o takes) → slice_index z (tapes_of w n state op a next).answer.takes ≡ flag_of takes

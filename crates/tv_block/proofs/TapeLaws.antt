@@ -113,15 +113,15 @@ tapes_sound w width z next n state op a v i short within bit is_taken is_ended a
     let size : w ≡ 1 + (w - 1) = omega arith in
     let reads = if_zero_of (group op (30 ∷ [])) (bits_combination (a.first + 1) (w - 1)) next in
     let aux = times_of (wire reads.answer) (wire a.first) reads.next in
-    let primary = unless_zero_of (less (wire reads.answer) (wire aux.answer)) (less (constant n) (wire state.taken)) aux.next in
-    let taken = kept_of (wire state.taken ++ wire primary.answer) primary.next in
+    let primary = unless_zero_of (less (wire reads.answer) (wire aux.answer)) (less (constant n) (wire state.taken_of_primary)) aux.next in
+    let taken = kept_of (wire state.taken_of_primary ++ wire primary.answer) primary.next in
     let takes = taken.next in
     let ended = taken.next + 1 in
     let m1 = Meets-split z reads.list _ meets in
     let m2 = Meets-split z aux.list _ m1.1 in
     let m3 = Meets-split z primary.list _ m2.1 in
     let m4 = Meets-split z taken.list _ m3.1 in
-    let m5 = Meets-split z (taking_of aux.answer state.ended takes ended (taken.next + 1 + 1)).list _ m4.1 in
+    let m5 = Meets-split z (taking_of aux.answer state.aux_ended takes ended (taken.next + 1 + 1)).list _ m4.1 in
     let high : value (bits_combination (a.first + 1) (w - 1)) z ≡ at / 2 = value-bits_below (Spells-high z a.first 1 (w - 1) at (subst (λ k. Spells z a.first k at) size s)) (omega arith) in
     let low : slice_index z a.first ≡ at % 2 = ap (λ w. slice_index z w) (let e : a.first ≡ a.first + 0 = omega arith in e) ∙ Spells-bit_at s 0 (omega arith) ∙ (let e : bit_at at 0 ≡ at % 2 = omega arith in e) in
     let is_reads : slice_index z reads.answer ≡ (if at / 2 == 0 then flag_of k else 0) =
@@ -132,18 +132,18 @@ tapes_sound w width z next n state op a v i short within bit is_taken is_ended a
     let reading = reading_by k at (slice_index z a.first) (slice_index z reads.answer) (slice_index z aux.answer) low is_reads is_aux in
     let others : value (less (wire reads.answer) (wire aux.answer)) z ≡ flag_of (k && (at == 0)) =
     value-less (wire reads.answer) (wire aux.answer) z ∙ ap₂ (λ m n. (m + (P - n)) % P) (value-wire assigns reads.answer) (value-wire assigns aux.answer) ∙ reading.none in
-    let left : value (less (constant n) (wire state.taken)) z ≡ (n % P + (P - v.taken)) % P =
-    value-less (constant n) (wire state.taken) z ∙ ap₂ (λ m n. (m + (P - n)) % P) (value-constant assigns n) (value-wire assigns state.taken ∙ is_taken) in
+    let left : value (less (constant n) (wire state.taken_of_primary)) z ≡ (n % P + (P - v.taken)) % P =
+    value-less (constant n) (wire state.taken_of_primary) z ∙ ap₂ (λ m n. (m + (P - n)) % P) (value-constant assigns n) (value-wire assigns state.taken_of_primary ∙ is_taken) in
     let is_primary : slice_index z primary.answer ≡ flag_of (takes_primary v i n) =
-    unless_zero_sound z aux.next (less (wire reads.answer) (wire aux.answer)) (less (constant n) (wire state.taken)) assigns m3.0
-    ∙ ap (λ g. if value (less (constant n) (wire state.taken)) z == 0 then 0 else g) others ∙ left_by (k && (at == 0)) n v.taken _ within (omega arith) left in
-    let takings = taking_sound z (taken.next + 1 + 1) aux.answer state.ended takes ended (k && (at == 1)) assigns reading.one (subst IsBit (sym is_ended) bit) m5.0 in
-    let asking : (if k && (at == 1) then slice_index z state.ended == 0 else false) ≡ asks v i =
-    and_if (k && (at == 1)) (slice_index z state.ended == 0) ∙ ap (λ e. (k && (at == 1)) && (e == 0)) is_ended in
+    unless_zero_sound z aux.next (less (wire reads.answer) (wire aux.answer)) (less (constant n) (wire state.taken_of_primary)) assigns m3.0
+    ∙ ap (λ g. if value (less (constant n) (wire state.taken_of_primary)) z == 0 then 0 else g) others ∙ left_by (k && (at == 0)) n v.taken _ within (omega arith) left in
+    let takings = taking_sound z (taken.next + 1 + 1) aux.answer state.aux_ended takes ended (k && (at == 1)) assigns reading.one (subst IsBit (sym is_ended) bit) m5.0 in
+    let asking : (if k && (at == 1) then slice_index z state.aux_ended == 0 else false) ≡ asks v i =
+    and_if (k && (at == 1)) (slice_index z state.aux_ended == 0) ∙ ap (λ e. (k && (at == 1)) && (e == 0)) is_ended in
     record {
       primary = is_primary;
-      taken = kept_sound z primary.next (wire state.taken ++ wire primary.answer) assigns m4.0 ∙ value-append (wire state.taken) (wire primary.answer) z
-          ∙ ap₂ (λ m n. (m + n) % P) (value-wire assigns state.taken ∙ is_taken) (value-wire assigns primary.answer ∙ is_primary) ∙ one_more (takes_primary v i n) v.taken (omega arith);
+      taken = kept_sound z primary.next (wire state.taken_of_primary ++ wire primary.answer) assigns m4.0 ∙ value-append (wire state.taken_of_primary) (wire primary.answer) z
+          ∙ ap₂ (λ m n. (m + n) % P) (value-wire assigns state.taken_of_primary ∙ is_taken) (value-wire assigns primary.answer ∙ is_primary) ∙ one_more (takes_primary v i n) v.taken (omega arith);
       takes = takings.took;
       asked = λ t. sym asking ∙ takings.only t;
       ended = takings.ends ∙ ap₂ (λ q e. if q then (if slice_index z takes == 1 then e else 1) else e) asking is_ended ∙ ends_by (asks v i) (slice_index z takes == 1) v.ended _ refl;

@@ -6,6 +6,7 @@ use Rattle.tv_core.specs.Combinations.{wire, constant}
 use Rattle.tv_core.specs.Constraints.{Combination}
 use Rattle.tv_core.specs.Laws.{Assigns, Meets}
 use Rattle.tv_core.specs.declared.field.TheConstants.{P}
+use Rattle.tv_isa.specs.Instruction.{decode}
 use Rattle.tv_lines.specs.Packing.{line_value}
 use Rattle.tv_lines.specs.Placed.{line_in}
 use Rattle.tv_numbers.specs.Laws.{AtNumbers, DoesStep}
@@ -55,7 +56,7 @@ block_of w n state time = do
   c ← compute_of w n state
   pc ← pc_of w state c.fetched.fields.op c.operands.a
   pure (record {
-    next = record { pc = pc; regs = c.regs; flag = c.flag; taken = c.taken; ended = c.ended };
+    next = record { pc = pc; regs = c.regs; flag = c.flag; taken_of_primary = c.taken; aux_ended = c.ended };
     lines =
         (record { cell = cell_of w state.pc; time = constant time; old = bits_combination c.fetched.head.first w; new = bits_combination c.fetched.head.first w })
         ∷ (record { cell = cell_of w state.pc ++ constant 1; time = constant (time + 1); old = bits_combination c.fetched.tail.first w; new = bits_combination c.fetched.tail.first w })
@@ -91,8 +92,8 @@ did z state made = record {
   value = slice_index z made.value;
 }
 
--- these are the numbers of a step: its instruction's words, its data word, and whether it takes that of the auxiliary
--- tape
+-- the numbers in a block's wires are those of a step, by its instruction's words, its data word, and whether it takes
+-- that of the auxiliary tape; the wires that tell whether it takes a word and whether it answers hold 0 or 1
 pub record IsStep (w : ℕ) (z : List ℕ) (n time : ℕ) (state : StateWires) (made : Block) : Type 0 where
   pub head : ℕ
   pub tail : ℕ
@@ -100,6 +101,14 @@ pub record IsStep (w : ℕ) (z : List ℕ) (n time : ℕ) (state : StateWires) (
   pub takes : Bool
   pub at_numbers : AtNumbers w n (state_in z state) head tail word takes
   pub same : did z state made ≡ did_of w n time (state_in z state) head tail word takes
+  pub taken : slice_index z made.spot.taken ≡ flag_of takes
+  pub answers : slice_index z made.answers ≡ flag_of ((decode w head tail).op == 31)
+
+-- So they are where an assignment meets what a block puts, the state before being in range, whatever memory holds.
+abbrev pub BlockIsStep : Type 0
+BlockIsStep = (w : ℕ) → IsWidth w → (z : List ℕ) (n : ℕ) (state : StateWires) (time next : ℕ) → n < 2 ^ 29 → time + 2 < 2 ^ 32 → Assigns z
+    → ViewInRange w n (state_in z state) → Meets z (block_of w n state time next).list
+    → IsStep w z n time state (block_of w n state time next).answer
 
 -- An assignment that meets what a block puts, the state before being in range, has a step there: the state after is in
 -- range, and the numbers are those of the machine's step; the wires that tell whether it takes a word and whether it

@@ -28,7 +28,7 @@ data_of w state op a tapes = do
   bits ← new_bits_of w
   word ← kept_of (bits_combination bits.first w)
   memory_cell ← pick_of (group op memory_ops) (bits_combination (a.first + w / 16) (w - w / 16)) (constant NULL_CELL)
-  cell ← pick_of (wire tapes.primary) (constant TAPE_CELLS ++ wire state.taken) (wire memory_cell)
+  cell ← pick_of (wire tapes.primary) (constant TAPE_CELLS ++ wire state.taken_of_primary) (wire memory_cell)
   old ← times_of (group op memory_ops ++ wire tapes.primary) (wire word)
   read ← times_of (wire tapes.primary ++ wire tapes.takes) (wire word)
   pure (record { bits = bits; word = word; cell = cell; old = old; read = read })
@@ -44,6 +44,6 @@ pub record AreData (w : ℕ) (z : List ℕ) (d : Data) (n : ℕ) (v : View) (i :
 -- an assignment that meets what was put does so
 abbrev pub DataIsSound : Type 0
 DataIsSound = (w : ℕ) → IsWidth w → (z : List ℕ) (next n : ℕ) (state : StateWires) (op : ℕ) (a : Bits) (t : Tapes) (v : View) (i : Instr) → n < 2 ^ 29
-    → v.taken ≤ n → slice_index z state.taken ≡ v.taken → Assigns z → IsOneHot z op 32 i.op → Spells z a.first w (operand_word v i) → AreTapes z t n v i
+    → v.taken ≤ n → slice_index z state.taken_of_primary ≡ v.taken → Assigns z → IsOneHot z op 32 i.op → Spells z a.first w (operand_word v i) → AreTapes z t n v i
     → Meets z (data_of w state op a t next).list
     → AreData w z (data_of w state op a t next).answer n v i (took z t) (spelled z (data_of w state op a t next).answer.bits.first w)

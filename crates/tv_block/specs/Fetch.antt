@@ -21,8 +21,8 @@ state_in z state = record {
   pc = slice_index z state.pc;
   regs = words_at z state.regs;
   flag = slice_index z state.flag;
-  taken = slice_index z state.taken;
-  ended = slice_index z state.ended;
+  taken = slice_index z state.taken_of_primary;
+  ended = slice_index z state.aux_ended;
 }
 
 -- two new words and the fields of their instruction, whose opcode is one that is used

@@ -8,11 +8,16 @@ use Rattle.tv_numbers.specs.Tables.{behind_pc, target}
 use Rattle.tv_numbers.specs.Views.{View, flag_of}
 use Rattle.tv_step.specs.declared.lines.TraceState.{TraceState}
 use Rattle.tv_block.specs.Values.{tapes_values, data_values, store_values, result_values}
+use Rattle.tv_block.specs.declared.records.StateNum.{StateNum}
 use Rattle.tv_block.specs.declared.step_numbers.StepNumbers.{StepNumbers}
 
 -- the view of a state that is told
 abbrev pub view_of : TraceState → View
 view_of state = record { pc = state.pc; regs = state.regs; flag = flag_of state.flag; taken = state.primary; ended = flag_of state.ended }
+
+-- and of a state in numbers
+abbrev pub numbers_view : StateNum → View
+numbers_view state = record { pc = state.pc; regs = state.regs; flag = flag_of state.flag; taken = state.taken_of_primary; ended = flag_of state.aux_ended }
 
 -- the numbers of a step from a view, by its instruction, its data word, and whether it takes that of the auxiliary tape
 pub record AreNumbers (w : ℕ) (v : View) (step : StepNumbers) : Type 0 where

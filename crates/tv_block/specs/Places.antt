@@ -41,8 +41,8 @@ next_state w at = record {
   pc = at + (pc_at w + 3);
   regs = range_with_len (at + (result_at w + 3)) 16;
   flag = at + (result_at w + 19);
-  taken = at + (tapes_at w + 5);
-  ended = at + (tapes_at w + 7);
+  taken_of_primary = at + (tapes_at w + 5);
+  aux_ended = at + (tapes_at w + 7);
 }
 
 -- its three lines

@@ -25,11 +25,11 @@ unfoldable pub tapes_of : ℕ → ℕ → StateWires → ℕ → Bits → Circui
 tapes_of w n state op a = do
   reads ← if_zero_of (group op (30 ∷ [])) (bits_combination (a.first + 1) (w - 1))
   aux ← times_of (wire reads) (wire a.first)
-  primary ← unless_zero_of (less (wire reads) (wire aux)) (less (constant n) (wire state.taken))
-  taken ← kept_of (wire state.taken ++ wire primary)
+  primary ← unless_zero_of (less (wire reads) (wire aux)) (less (constant n) (wire state.taken_of_primary))
+  taken ← kept_of (wire state.taken_of_primary ++ wire primary)
   takes ← fresh
   ended ← fresh
-  _ ← taking_of aux state.ended takes ended
+  _ ← taking_of aux state.aux_ended takes ended
   pure (record { primary = primary; taken = taken; takes = takes; ended = ended })
 
 -- whether the step takes a word of the auxiliary tape
@@ -48,5 +48,5 @@ pub record AreTapes (z : List ℕ) (t : Tapes) (n : ℕ) (v : View) (i : Instr) 
 -- an assignment that meets what was put does so
 abbrev pub TapesAreSound : Type 0
 TapesAreSound = (w : ℕ) → IsWidth w → (z : List ℕ) (next n : ℕ) (state : StateWires) (op : ℕ) (a : Bits) (v : View) (i : Instr) → n < 2 ^ 29
-    → v.taken ≤ n → IsBit v.ended → slice_index z state.taken ≡ v.taken → slice_index z state.ended ≡ v.ended → Assigns z → IsOneHot z op 32 i.op
+    → v.taken ≤ n → IsBit v.ended → slice_index z state.taken_of_primary ≡ v.taken → slice_index z state.aux_ended ≡ v.ended → Assigns z → IsOneHot z op 32 i.op
     → Spells z a.first w (operand_word v i) → Meets z (tapes_of w n state op a next).list → AreTapes z (tapes_of w n state op a next).answer n v i

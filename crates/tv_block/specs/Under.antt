@@ -17,8 +17,8 @@ pub record StateUnder (wires : ℕ) (state : StateWires) : Type 0 where
   pub pc : state.pc < wires
   pub regs : wires_top state.regs ≤ wires
   pub flag : state.flag < wires
-  pub taken : state.taken < wires
-  pub ended : state.ended < wires
+  pub taken : state.taken_of_primary < wires
+  pub ended : state.aux_ended < wires
 
 pub record FetchedUnder (w wires : ℕ) (f : Fetched) : Type 0 where
   pub head_size : f.head.n ≡ w

@@ -1,12 +1,15 @@
-ghost use Rattle.tv_block.specs.Block.{BlockIsSound};
+ghost use Rattle.tv_block.specs.Block.{BlockIsStep, BlockIsSound};
 ghost use Rattle.tv_block.specs.Complete.{BlockIsCounted};
 ghost use Rattle.tv_block.specs.Places.{BlockPlaces};
 
 /// Where an assignment meets what a block puts and has a state in range at the wires before it, the
-/// state after it is in range, and the numbers at its wires are those of the machine's step.
-#[tactic(auto, using(crate::proofs::BlockLaws::block_sound))]
+/// numbers at its wires are those of a step, by the words of a used instruction and the data word
+/// that they hold, whatever memory holds: the lines, what is taken, the answer, and the state after,
+/// which is in range. From each state of the machine that the numbers are of and whose cells hold
+/// the lines' old words, that is the machine's step.
 pub fn block_is_sound()
-    ensures { BlockIsSound }
+    ensures numbers { BlockIsStep }
+    ensures machine { BlockIsSound }
 {}
 
 /// Says which wires a block answers: all of it follows from its first wire, the wires of the state

@@ -1,7 +1,7 @@
 //! One step of the machine as constraints. Its eight parts stand in the specs: the instruction, its
 //! operands, the operations on them, the tapes, the data word, loads and stores, the registers and
-//! the flag, and the program counter. What a block says is `IsMachineStep`: the numbers at its
-//! wires are a step in numbers, which is the machine's.
+//! the flag, and the program counter. What a block says is `IsStep`, that the numbers at its
+//! wires are a step in numbers, and `IsMachineStep`, that this is the machine's.
 #![tactic(auto)]
 
 mod choosing;
@@ -29,10 +29,11 @@ mod taping;
 
 pub use computed::Computed;
 pub use filling::{block_fills, block_is_complete, steps_are_given};
-pub use filling_block::fill_block;
+pub use filling_block::{fill_block, fill_traced_step};
 pub use laws::{block_is_counted, block_is_placed, block_is_sound};
 pub use placing::{block_line, block_spot, block_wires, next_state};
 pub use records::{
-    Block, Data, Fetched, Groups, Operands, Patch, Reached, Spot, StateWires, Store, Tapes,
+    Block, Data, Fetched, Groups, Operands, Patch, Reached, Spot, StateNum, StateWires, Store,
+    Tapes,
 };
 pub use stepping::{block, step};

@@ -35,7 +35,7 @@ pub(crate) fn data<const W: u32, S: Sink>(
     let address = a.above(W / 16).lc();
     let memory_cell = pick(s, &looks, &address, &Lc::constant(F::from(NULL_CELL)))?;
     let mut tape_cell = Lc::constant(F::from(TAPE_CELLS));
-    tape_cell.plus(F::ONE, state.taken);
+    tape_cell.plus(F::ONE, state.taken_of_primary);
     let cell = pick(
         s,
         &Lc::wire(tapes.primary),

@@ -28,8 +28,8 @@ pub fn next_state<const W: u32>(first: Wire) -> StateWires
         pc: result.offset(23),
         regs: row(result.offset(3)),
         flag: result.offset(19),
-        taken: tapes.offset(5),
-        ended: tapes.offset(7),
+        taken_of_primary: tapes.offset(5),
+        aux_ended: tapes.offset(7),
     }
 }
 
@@ -65,8 +65,9 @@ pub fn block_spot<const W: u32>(first: Wire) -> Spot
     }
 }
 
-/// All that `block` answers for a step from a state, the step's first wire being `first`.
-pub fn block_wires<const W: u32>(first: Wire, state: &StateWires, time: u32) -> Block
+/// All that `block` answers for a step from a state, the step's first wire being `first`. It is the
+/// same however many words the primary tape has.
+pub fn block_wires<const W: u32>(first: Wire, state: &StateWires, _n: u32, time: u32) -> Block
     requires width { IsWidth W }
     requires within { first + block_made W < 2 ^ 32 }
     requires times { time + 2 < 2 ^ 32 }

@@ -17,9 +17,24 @@ pub struct StateWires {
     /// The flag, 0 or 1.
     pub flag: Wire,
     /// How many words of the primary tape are taken.
-    pub taken: Wire,
+    pub taken_of_primary: Wire,
     /// 1 where a read of the auxiliary tape has found its end, else 0.
-    pub ended: Wire,
+    pub aux_ended: Wire,
+}
+
+/// The numbers of a state: all of it but memory and the auxiliary tape.
+#[derive(Clone, Copy, PartialEq, Eq, Debug)]
+pub struct StateNum {
+    /// The program counter.
+    pub pc: u32,
+    /// The words in the sixteen registers.
+    pub regs: [u32; 16],
+    /// The flag.
+    pub flag: bool,
+    /// How many words of the primary tape are taken.
+    pub taken_of_primary: u32,
+    /// Whether a read of the auxiliary tape has found its end.
+    pub aux_ended: bool,
 }
 
 /// The instruction of a step: its two words, bit by bit, and its fields.

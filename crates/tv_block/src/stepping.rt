@@ -37,7 +37,7 @@ pub fn block<const W: u32, S: Sink>(s: &mut S, state: &StateWires, n: u32, time:
 {
     let first = Wire(s.wires());
     step::<W, S>(s, state, n)?;
-    Ok(block_wires::<W>(first, state, time))
+    Ok(block_wires::<W>(first, state, n, time))
 }
 
 /// The same, of which only the state after it and the answer are told: these are the same whatever
@@ -61,8 +61,8 @@ pub fn step<const W: u32, S: Sink>(s: &mut S, state: &StateWires, n: u32) -> Put
             pc,
             regs: made.regs,
             flag: made.flag,
-            taken: made.taken,
-            ended: made.ended,
+            taken_of_primary: made.taken,
+            aux_ended: made.ended,
         },
         answers: op.offset(31),
         value: made.operands.operand,

@@ -32,14 +32,14 @@ pub(crate) fn tapes<const W: u32, S: Sink>(
     let reads = if_zero(s, &group(op, &[30]), &a.above(1).lc())?;
     let aux = times(s, &Lc::wire(reads), &Lc::wire(a.first))?;
     let asked = but_for(&Lc::wire(reads), aux);
-    let left = but_for(&Lc::constant(F::from(n)), state.taken);
+    let left = but_for(&Lc::constant(F::from(n)), state.taken_of_primary);
     let primary = unless_zero(s, &asked, &left)?;
-    let mut sum = Lc::wire(state.taken);
+    let mut sum = Lc::wire(state.taken_of_primary);
     sum.plus(F::ONE, primary);
     let taken = kept(s, &sum)?;
     let takes = s.fresh();
     let ended = s.fresh();
-    taking(s, aux, state.ended, takes, ended)?;
+    taking(s, aux, state.aux_ended, takes, ended)?;
     Ok(Tapes {
         primary,
         taken,

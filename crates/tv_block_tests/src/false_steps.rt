@@ -70,7 +70,7 @@ fn first_wrong<const W: u32>(alloc: Global, header: &str) -> Result<Option<usize
     // a read takes 5 words, and the ended bit falls to -4
     let read = [
         (spot.taken, F::of(5)),
-        (next.ended, -F::of(5)),
+        (next.aux_ended, -F::of(5)),
         (next.flag, -F::of(5)),
     ];
     // a cell holds 2^W, before a store and at a load

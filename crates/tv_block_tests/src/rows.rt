@@ -1,6 +1,6 @@
 //! Each step of a run: all constraints hold over the generator's values, which are the machine's,
 //! and one fails where a wire is raised.
-ghost use Rattle.std.specs.Prelude.{◌≡◌, ◌+◌, ◌≤◌, ◌<◌, ◌^◌};
+ghost use Rattle.std.specs.Prelude.{◌+◌, ◌≤◌, ◌<◌, ◌^◌};
 ghost use Rattle.tv_word.specs.Widths.{IsWidth};
 
 use crate::program::{AUX, HEADER_16, HEADER_32, LATE_READ, LINES, TAPE};
@@ -59,10 +59,8 @@ pub fn row_at(trace: &Trace, place: usize) -> Option<Row<'_>>
 pub fn given(row: &Row<'_>) -> Given {
     let takes = row.after.aux != row.before.aux;
     Given {
-        head: row.lines[0].old,
-        tail: row.lines[1].old,
-        word: if takes { AUX[0] } else { row.lines[2].old },
-        takes,
+        olds: [row.lines[0].old, row.lines[1].old, row.lines[2].old],
+        aux: if takes { Some(AUX[0]) } else { None },
     }
 }
 
@@ -82,8 +80,8 @@ fn shows_state<const W: u32>(z: &[F], state: &TraceState) -> bool
     }
     holds(z, next.pc, state.pc)
         && holds(z, next.flag, u32::from(state.flag))
-        && holds(z, next.taken, state.primary)
-        && holds(z, next.ended, u32::from(state.ended))
+        && holds(z, next.taken_of_primary, state.primary)
+        && holds(z, next.aux_ended, u32::from(state.ended))
 }
 
 fn is_line(z: &[F], line: &LineLc, number: &Line) -> bool {
@@ -161,7 +159,7 @@ fn is_right<const W: u32>(alloc: Global, n: u32, row: &Row<'_>) -> Result<bool, 
     let mut z = values.as_slice().to_vec(alloc)?;
     let (held, tested) = held::<W>(z.as_slice(), n)?;
     let shown = shows_state::<W>(&z, row.after) && shows_lines::<W>(&z, &row.lines);
-    let dest = decode::<W>(given.head, given.tail).dest;
+    let dest = decode::<W>(given.olds[0], given.olds[1]).dest;
     Ok(held == tested && shown && are_noticed::<W>(&mut z, n, dest)?)
 }
 
@@ -202,8 +200,7 @@ fn late_word_is_refused<const W: u32>(alloc: Global, header: &str) -> Result<boo
         return Ok(false);
     };
     let given = Given {
-        word: 7,
-        takes: true,
+        aux: Some(7),
         ..given(&row)
     };
     let Some(values) = values_of::<W>(alloc, 1, row.before, &given)? else {

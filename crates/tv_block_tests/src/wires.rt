@@ -1,13 +1,14 @@
 //! A state at the first wires, and a step behind it.
-ghost use Rattle.std.specs.Prelude.{◌≡◌, ◌<◌, ◌≤◌, ◌^◌, true, false, IfOk};
-ghost use Rattle.tv_block.specs.Filling.{view_of};
+ghost use Rattle.std.specs.Prelude.{◌≡◌, ◌<◌, ◌^◌, true, false, slice_index, IfOk};
+ghost use Rattle.tv_block.specs.Filling.{numbers_view};
 ghost use Rattle.tv_block.specs.Under.{StateUnder};
+ghost use Rattle.tv_numbers.specs.Shown.{handed};
 ghost use Rattle.tv_numbers.specs.Views.{ViewInRange};
 ghost use Rattle.tv_step.specs.Range.{AreWords};
 ghost use Rattle.tv_word.specs.Widths.{IsWidth};
 
 use std::alloc::Global;
-use tv_block::{StateWires, fill_block, step};
+use tv_block::{StateNum, StateWires, block, fill_block};
 use tv_core::{F, ListValues, Put, TestSink, Values, Wire};
 use tv_step::TraceState;
 
@@ -40,19 +41,28 @@ pub fn state_wires() -> StateWires
             Wire(17),
         ],
         flag: Wire(18),
-        taken: Wire(19),
-        ended: Wire(20),
+        taken_of_primary: Wire(19),
+        aux_ended: Wire(20),
     }
 }
 
-/// What a step is given: the two words of its instruction, its data word, and whether that is taken
-/// of the auxiliary tape.
+/// What a step is given: the old words of its three lines, and the word that it takes of the
+/// auxiliary tape.
 #[derive(Clone, Copy)]
 pub struct Given {
-    pub head: u32,
-    pub tail: u32,
-    pub word: u32,
-    pub takes: bool,
+    pub olds: [u32; 3],
+    pub aux: Option<u32>,
+}
+
+// The numbers of a state that a trace tells.
+fn numbers(state: &TraceState) -> StateNum {
+    StateNum {
+        pc: state.pc,
+        regs: state.regs,
+        flag: state.flag,
+        taken_of_primary: state.primary,
+        aux_ended: state.ended,
+    }
 }
 
 fn is_word<const W: u32>(word: u32) -> bool
@@ -74,18 +84,29 @@ fn are_words<const W: u32>(words: &[u32; 16]) -> bool
     true
 }
 
-fn is_in_range<const W: u32>(n: u32, state: &TraceState) -> bool
+fn is_in_range<const W: u32>(n: u32, state: &StateNum) -> bool
     requires width { IsWidth W }
-    ensures { result ≡ true → ViewInRange W n (view_of state.now) }
+    ensures { result ≡ true → ViewInRange W n (numbers_view state.now) }
 {
     is_word::<W>(state.pc)
         && state.pc % (W / 4) == 0
         && are_words::<W>(&state.regs)
-        && state.primary <= n
+        && state.taken_of_primary <= n
+}
+
+// Whether the data word is a word.
+fn has_data_word<const W: u32>(given: &Given) -> bool
+    requires width { IsWidth W }
+    ensures { result ≡ true → handed (slice_index given.now.olds 2) given.now.aux < 2 ^ W }
+{
+    match given.aux {
+        Some(word) => is_word::<W>(word),
+        None => is_word::<W>(given.olds[2]),
+    }
 }
 
 // 1, a state, and the values of a step from it.
-fn inputs(alloc: Global, state: &TraceState) -> Put<ListValues>
+fn inputs(alloc: Global, state: &StateNum) -> Put<ListValues>
     ensures { IfOk result (λ values. values.broken ≡ false) }
 {
     let mut values = ListValues::new(alloc);
@@ -95,8 +116,8 @@ fn inputs(alloc: Global, state: &TraceState) -> Put<ListValues>
         values.give(F::from(*word))?;
     }
     values.give(F::from(state.flag))?;
-    values.give(F::from(state.primary))?;
-    values.give(F::from(state.ended))?;
+    values.give(F::from(state.taken_of_primary))?;
+    values.give(F::from(state.aux_ended))?;
     Ok(values)
 }
 
@@ -111,18 +132,13 @@ pub fn values_of<const W: u32>(
     requires width { IsWidth W }
     requires short { n < 2 ^ 29 }
 {
-    let fits = is_in_range::<W>(n, state);
-    if !fits || !is_word::<W>(given.tail) || !is_word::<W>(given.word) {
+    let state = numbers(state);
+    let fits = is_in_range::<W>(n, &state);
+    if !fits || !is_word::<W>(given.olds[1]) || !has_data_word::<W>(given) {
         return Ok(None);
     }
-    let mut values = inputs(alloc, state)?;
-    let Given {
-        head,
-        tail,
-        word,
-        takes,
-    } = *given;
-    fill_block::<W, ListValues>(&mut values, n, state, head, tail, word, takes)?;
+    let mut values = inputs(alloc, &state)?;
+    fill_block::<W, ListValues>(&mut values, &state, n, 0, &given.olds, given.aux)?;
     Ok(Some(values))
 }
 
@@ -131,6 +147,6 @@ pub fn held<const W: u32>(z: &[F], n: u32) -> Put<(u32, u32)>
     requires width { IsWidth W }
 {
     let mut tests = TestSink::over(z, FIRST.0);
-    step::<W, TestSink>(&mut tests, &state_wires(), n)?;
+    block::<W, TestSink>(&mut tests, &state_wires(), n, 0)?;
     Ok((tests.held(), tests.tested()))
 }
