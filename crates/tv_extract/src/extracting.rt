@@ -1,7 +1,6 @@
-ghost use Rattle.std.specs.Prelude.{◌≡◌, ◌⊎◌, ◌+◌, ◌*◌, ◌/◌, ◌<◌, ◌≤◌, ◌^◌, length, All};
+ghost use Rattle.std.specs.Prelude.{◌≡◌, ◌⊎◌, ◌*◌, ◌/◌, ◌<◌, ◌≤◌, ◌^◌, length, All};
 ghost use Rattle.std.specs.Prelude.{slice_index, Ok, Err, IfOk, IfErr};
 ghost use Rattle.std.specs.List.{range_with_len};
-ghost use Rattle.tv_benes.specs.declared.shape.Net.{Net};
 ghost use Rattle.tv_layout.specs.Places.{WithinLimits, tape_at};
 ghost use Rattle.tv_step.specs.Machine.{start, end_of};
 ghost use Rattle.tv_word.specs.Widths.{IsWidth};
@@ -44,7 +43,7 @@ pub fn extract<const W: u32>(
     }
     let answer = word::<W>(values, Wire(1))?;
     let tape = tape_words::<W>(alloc, n, values)?;
-    let aux = taken_words::<W>(alloc, image, n, t, values)?;
+    let aux = taken_words::<W>(alloc, image, n, t, net, values)?;
     let end = run_end::<W>(alloc, image, tape.as_slice(), aux.as_slice(), t)?;
     answering(answer, tape, aux, end)
 }
@@ -65,7 +64,9 @@ fn word<const W: u32>(values: &[F], wire: Wire) -> Result<u32, ExtractFault>
     if number < 1 << W {
         Ok(number as u32)
     } else {
-        Err(ExtractFault::WideWire { at: wire.0 })
+        Err(ExtractFault::WideWire {
+            at: u64::from(wire.0),
+        })
     }
 }
 
@@ -93,6 +94,7 @@ fn taken_words<const W: u32>(
     image: &[u32],
     n: u32,
     t: u32,
+    net: Net,
     values: &[F],
 ) -> Result<Words, ExtractFault>
     requires fits { WithinLimits W image.now n t }
@@ -103,7 +105,7 @@ fn taken_words<const W: u32>(
 {
     let mut words = Words::new(alloc);
     for step in 0..t {
-        let spot = spot::<W>(image, n, t, step);
+        let spot = spot::<W>(image, n, t, step, net);
         if number(values, spot.taken) == F::ONE {
             words.push(word::<W>(values, spot.word)?)?;
         }

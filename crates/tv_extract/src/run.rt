@@ -27,7 +27,7 @@ pub enum ExtractFault {
     WireCount { has: u64, wants: u64 },
     /// The number at this wire, which is public or that of a word taken, is no word.
     #[error("wire {at} is wide")]
-    WideWire { at: u32 },
+    WideWire { at: u64 },
     /// The run on its tapes doesn't answer the word at wire 1; this is how it ends.
     #[error("no run")]
     NotARun { end: End },

@@ -3,7 +3,7 @@ use Rattle.std.proofs.Common.{◌≡◌, ℕ, ◌+◌, ◌-◌, ◌*◌, ◌<◌
 use Rattle.std.proofs.lemmas.Bool.{ltb-true}
 use Rattle.std.proofs.lemmas.List.{length-append, get_or_append_left, get_or-append_right, get_or-map, length-map}
 use Rattle.std.specs.Prelude.{slice_index, slice_index_or, nat_lt, is_some, if◌then◌else◌}
-use Rattle.tv_block.proofs.ToldFills.{steps_are_given}
+use Rattle.tv_block.proofs.ToldFills.{same_values, steps_are_given}
 use Rattle.tv_block.specs.Complete.{step_values, olds_of}
 use Rattle.tv_block.specs.Told.{GivesStep, head_told, tail_told, data_told}
 use Rattle.tv_block.specs.Values.{block_values}
@@ -18,7 +18,6 @@ use Rattle.tv_lines.specs.Packing.{unpacked}
 use Rattle.tv_lines.specs.Placed.{zero_line, number_in}
 use Rattle.tv_memory.proofs.FillingLaws.{joined_below-same}
 use Rattle.tv_numbers.specs.Shown.{handed}
-use Rattle.tv_numbers.specs.Views.{View}
 use Rattle.tv_step.proofs.PlaceLaws.{lines_by_place, states_by_place, lines_are_three_a_step}
 use Rattle.tv_step.proofs.RangeLaws.{start_in_range, run_keeps_range}
 use Rattle.tv_step.proofs.ReadLaws.{taken_by_counts}
@@ -32,12 +31,6 @@ use Rattle.tv_step.specs.declared.lines.TraceState.{TraceState}
 use Rattle.tv_word.specs.Widths.{IsWidth}
 use Rattle.tv_block.specs.Filling.{view_of}
 use Rattle.tv_fill.specs.Told.{no_state, no_pair, state_at, old_at, takes_at, data_at, told_values, StepInRange}
-
--- ---- values of the same
-pub same_values : (f : View → ℕ → ℕ → ℕ → Bool → List ℕ) {v v2 : View} {h h2 u u2 o o2 : ℕ} {b b2 : Bool}
-    → v ≡ v2 → h ≡ h2 → u ≡ u2 → o ≡ o2 → b ≡ b2 → f v h u o b ≡ f v2 h2 u2 o2 b2
-same_values f {v} {v2} {h} {h2} {u} {u2} {o} {o2} {b} {b2} p q r s t =
-    ap₂ (λ (x : View) (y : ℕ). f x y u o b) p q ∙ (ap₂ (λ (x y : ℕ). f v2 h2 x y b) r s ∙ ap (f v2 h2 u2 o2) t)
 
 -- the word that is handed in, and whether there is one, by a test
 handed_by : (b : Bool) (old word : ℕ) → handed old (if b then Some word else None) ≡ (if b then word else old)

@@ -4,8 +4,8 @@ ghost use Rattle.tv_block.specs.Complete.{block_made};
 ghost use Rattle.tv_memory.specs.Memory.{memory_made};
 ghost use Rattle.tv_word.specs.Widths.{IsWidth};
 
-use crate::packing::power;
 use tv_benes::{Net, routing_switches};
+use tv_layout::power;
 
 // How many values a tape of `n` words, `t` steps and 2^`k` lines have.
 pub(crate) fn count_values<const W: u32>(n: u32, t: u32, net: Net, k: u32) -> u32

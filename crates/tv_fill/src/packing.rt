@@ -1,6 +1,5 @@
-ghost use Rattle.std.specs.Prelude.{◌≡◌, ◌+◌, ◌-◌, ◌^◌, ◌<◌, ◌≤◌, [], ◌∷◌, ◌++◌, length, map, All};
+ghost use Rattle.std.specs.Prelude.{◌≡◌, ◌+◌, ◌^◌, ◌≤◌, [], ◌∷◌, ◌++◌, length, map, All};
 ghost use Rattle.std.specs.Prelude.{IfOk, OnOk};
-ghost use Rattle.tv_layout.specs.Places.{log_of};
 ghost use Rattle.tv_layout.specs.Sound.{padding};
 ghost use Rattle.tv_lines.specs.Packing.{InRange, unpacked};
 ghost use Rattle.tv_step.specs.Cells.{boot_from};
@@ -9,29 +8,9 @@ ghost use Rattle.tv_fill.specs.Filled.{lines_told};
 use std::alloc::{AllocError, Global};
 use tv_core::limits::{NULL_CELL, TAPE_CELLS};
 use tv_core::{Line, PairNum};
+use tv_layout::power;
 use tv_lines::pack_line;
 use tv_step::Lines;
-
-// The least k of at least 1 with so many lines.
-pub(crate) fn log_of(count: u32) -> u32
-    requires { count ≤ 2 ^ 20 }
-    ensures { result ≡ log_of count }
-{
-    let mut k = 1;
-    while count > power(k) {
-        k += 1;
-    }
-    k
-}
-
-// 2^`k`
-pub(crate) fn power(k: u32) -> u32
-    requires { k ≤ 20 }
-    ensures is { result ≡ 2 ^ k }
-    ensures few { result ≤ 2 ^ 20 }
-{
-    1 << k
-}
 
 // 2^`k` lines of a run, packed: those of the image's and the tape's words, those of its steps,
 // which are dropped then, and lines of the null cell.

@@ -4,7 +4,7 @@ ghost use Rattle.tv_core.specs.Giving.{GivesIn};
 ghost use Rattle.tv_word.specs.Widths.{IsWidth};
 ghost use Rattle.tv_fill.specs.Told.{state_at, old_at, takes_at, data_at, told_values, StepInRange};
 
-use tv_block::fill_block;
+use tv_block::fill_traced_step;
 use tv_core::{PairNum, Put, Values};
 use tv_step::TraceState;
 
@@ -66,7 +66,7 @@ fn fill_step<const W: u32, V: Values>(
     let tail = old_at(pairs, at + 1);
     let word = data_word(states, aux, pairs, first, i);
     let state = &states[i as usize];
-    fill_block::<W, V>(v, n, state, head, tail, word, takes(states, i))
+    fill_traced_step::<W, V>(v, n, state, head, tail, word, takes(states, i))
 }
 
 // Gives the values of the first `t` steps of a run on a tape of `n` words: by the states before,

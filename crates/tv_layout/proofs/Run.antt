@@ -19,11 +19,12 @@ use Rattle.tv_step.proofs.ReadLaws.{taken_are_the_front}
 use Rattle.tv_step.specs.Cells.{boot_lines, run_lines, IsInput}
 use Rattle.tv_step.specs.Machine.{start, state_after, Accepts}
 use Rattle.tv_step.specs.Range.{InRange}
-use Rattle.tv_step.specs.Reads.{Reads}
+use Rattle.tv_step.specs.Reads.{word_taken, words_in, Reads}
 use Rattle.tv_step.specs.State.{State}
 use Rattle.tv_step.specs.Trace.{lines_of}
 use Rattle.tv_layout.proofs.Machine.{HonestFrom-right, holds, Led, led}
 use Rattle.tv_layout.proofs.Steps.{step, did_at, next_state}
+use Rattle.tv_layout.proofs.Taking.{taken_fits}
 use Rattle.tv_block.specs.Fetch.{state_in}
 use Rattle.tv_layout.proofs.Blocks.{BlockSizes}
 use Rattle.tv_layout.specs.Blocks.{BlockCircuit}
@@ -124,11 +125,12 @@ module _ (w : ℕ) (block : BlockCircuit) (made : ℕ) (sizes : BlockSizes block
           let back = HonestFrom-right (λ _. 0) (run_lines w image x aux i) (lines i ++ (s.rest ++ pad)) (subst (HonestFrom (λ _. 0)) place whole) in
           holds w x (time + 3 * i) (here i) (now i) (does i h) (memory_after (run_lines w image x aux i)) (lines_leave_the_state w image x aux i input) (s.rest ++ pad) back
 
+      fits_aux : (i : ℕ) → i < t → Known i → AuxFits w (now i) (here i).takes (here i).word (later (suc i) (t - suc i))
+      fits_aux i h known = aux_fits i (t - suc i) (now i) (omega arith) (range i) known.matches (olds_held i h known) (known.left (suc (t - suc i)) (omega arith))
+
       one : (i : ℕ) → (h : i < t) → Known i → Led w x (time + 3 * i) (here i) (now i) (does i h) (later (suc i) (t - suc i))
       one i h known =
-          let olds = olds_held i h known in
-          led w x (time + 3 * i) (here i) (now i) (does i h) (range i).bytes known.matches olds (later (suc i) (t - suc i))
-          (aux_fits i (t - suc i) (now i) (omega arith) (range i) known.matches olds (known.left (suc (t - suc i)) (omega arith)))
+          led w x (time + 3 * i) (here i) (now i) (does i h) (range i).bytes known.matches (olds_held i h known) (later (suc i) (t - suc i)) (fits_aux i h known)
 
       more : (i : ℕ) → now (suc i) ≡ state_after w 1 (now i)
       more i = ap now (sym (add-one i)) ∙ steps_at_the_end w i (start w image x aux)
@@ -148,6 +150,12 @@ module _ (w : ℕ) (block : BlockCircuit) (made : ℕ) (sizes : BlockSizes block
             are = joined_below-suc i lines ∙ ap₂ (λ a b. a ++ b) known.are (d.traced (now i) (range i).bytes known.matches (olds_held i h known));
             left = λ m e. let same : t - suc i ≡ m = omega arith in ap (λ (st : State). st.aux) (more i) ∙ l.aux ∙ ap (λ k. later (suc i) k) same;
           }
+
+      -- each step takes what the machine's does
+      pub takes_at : (i : ℕ) → i < t → taken i ≡ words_in (word_taken w (now i))
+      takes_at i h =
+          let known = known_at i (omega arith) in
+          taken_fits w (now i) (here i).takes (here i).word (later (suc i) (t - suc i)) (fits_aux i h known) ((does i h).reads (now i) (range i).bytes known.matches (olds_held i h known))
 
       -- the last step's answer is the run's
       pub accepts : (m : ℕ) → m + 1 ≡ t → (here m).answers ≡ true → Accepts w image x aux t (here m).value

@@ -20,7 +20,7 @@ use Rattle.tv_step.specs.Range.{AreWords}
 use Rattle.tv_block.specs.Block.{reached}
 use Rattle.tv_layout.proofs.Ends.{words_there, are_words, none_there, tie_there}
 use Rattle.tv_layout.proofs.Positions.{layout_met, last_of, log_some, log_within}
-use Rattle.tv_layout.proofs.Run.{Known, known_at, accepts, reads_all}
+use Rattle.tv_layout.proofs.Run.{Known, known_at, takes_at, accepts, reads_all}
 use Rattle.tv_layout.proofs.Steps.{step, did_at, last_step, does, taken_words}
 use Rattle.tv_layout.proofs.Whole.{few, short, early, spare, lines, lines_valued, all_placed, lines_many}
 use Rattle.tv_block.specs.Fetch.{state_in}
@@ -98,6 +98,7 @@ module _ (w : ℕ) (block : BlockCircuit) (made : ℕ) (sizes : BlockSizes block
         honest = honest;
         lines = lines_valued w block made sizes law image x z t fits assigns words has zero_there met ∙ ap (λ l. (boot_lines image x ++ l) ++ pad) (known t (omega arith)).are;
         states = λ i h. (known i h).matches;
+        takes = takes_at w block made sizes image x z (none_at w (length x)) (first_at w (length x)) t each_does aux aux_is input pad lines_honest (starts block w image x aux z (boot_count image (length x)) (none_at w (length x)) (first_at w (length x)) zero_there);
         accepts = subst (λ v. Accepts w image x aux t v) (last_value (t - 1) some)
             (accepts w block made sizes image x z (none_at w (length x)) (first_at w (length x)) t each_does aux aux_is input pad lines_honest (starts block w image x aux z (boot_count image (length x)) (none_at w (length x)) (first_at w (length x)) zero_there) (t - 1) some (last_answers (t - 1) some));
         reads = reads_all w block made sizes image x z (none_at w (length x)) (first_at w (length x)) t each_does aux aux_is input pad lines_honest (starts block w image x aux z (boot_count image (length x)) (none_at w (length x)) (first_at w (length x)) zero_there);

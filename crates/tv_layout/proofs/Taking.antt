@@ -1,7 +1,8 @@
 -- What a step of the machine takes of the auxiliary tape, by cases.
-use Rattle.std.proofs.Common.{◌≡◌, ℕ, Bool, true, false, List, [], ◌∷◌, refl, ap, ap₂, ◌∙◌, Option, Some, None}
+use Rattle.std.proofs.Common.{◌≡◌, ℕ, Bool, true, false, List, [], ◌∷◌, refl, sym, ap, ap₂, ◌∙◌, Option, Some, None}
 use Rattle.std.specs.Prelude.{slice_get, ◌&&◌, not, is_some, if◌then◌else◌}
-use Rattle.tv_step.specs.Reads.{reads_aux, word_taken, finds_end}
+use Rattle.tv_numbers.specs.Laws.{AuxFits}
+use Rattle.tv_step.specs.Reads.{reads_aux, word_taken, words_in, finds_end}
 use Rattle.tv_step.specs.State.{State}
 
 -- it takes a word, or it reads the tape and finds its end, or it doesn't read it
@@ -28,6 +29,19 @@ module _ (w : ℕ) (st : State) where
   by_read : (b : Bool) → reads_aux w st ≡ b → AuxCase w st
   by_read true e = by_tape st.aux refl e
   by_read false e = Other e (taken_is false e) (ends_is false (slice_get st.aux 0) e refl)
+
+  -- what fits the tape is what it takes
+  pub taken_fits : (takes : Bool) (word : ℕ) (rest : List ℕ) → AuxFits w st takes word rest → (takes ≡ true → reads_aux w st ≡ true) → (if takes then word ∷ [] else []) ≡ words_in (word_taken w st)
+  taken_fits true word rest fits reads =
+      let is : word_taken w st ≡ Some word = taken_is true (reads refl) ∙ ap (λ l. slice_get l 0) (fits.taken refl) in
+      ap words_in (sym is)
+  taken_fits false word rest fits reads = by_reads (reads_aux w st) refl
+    where
+      by_reads : (b : Bool) → reads_aux w st ≡ b → [] ≡ words_in (word_taken w st)
+      by_reads true e =
+          let is : word_taken w st ≡ None = taken_is true e ∙ ap (λ l. slice_get l 0) (fits.ends refl e) in
+          ap words_in (sym is)
+      by_reads false e = ap words_in (sym (taken_is false e))
 
   pub aux_case : AuxCase w st
   aux_case = by_read (reads_aux w st) refl

@@ -39,7 +39,7 @@ none_of = do
 
 -- the first state, all of it one wire
 abbrev pub first_state : ℕ → StateWires
-first_state none = record { pc = none; regs = replicate 16 none; flag = none; taken = none; ended = none }
+first_state none = record { pc = none; regs = replicate 16 none; flag = none; taken_of_primary = none; aux_ended = none }
 
 abbrev pub before_steps : ℕ → Reached
 before_steps none = record { next = first_state none; answers = none; value = none }

@@ -6,11 +6,11 @@ use Rattle.tv_numbers.specs.Views.{Matches}
 use Rattle.tv_step.specs.Cells.{run_lines}
 use Rattle.tv_step.specs.Machine.{start, state_after, Accepts}
 use Rattle.tv_step.specs.Range.{AreWords}
-use Rattle.tv_step.specs.Reads.{Reads}
+use Rattle.tv_step.specs.Reads.{word_taken, words_in, Reads}
 use Rattle.tv_step.specs.Trace.{null_line}
 use Rattle.tv_block.specs.Fetch.{state_in}
 use Rattle.tv_layout.specs.Blocks.{BlockCircuit}
-use Rattle.tv_layout.specs.Layout.{state_at, lines_of, taken_of}
+use Rattle.tv_layout.specs.Layout.{state_at, block_at, lines_of, taken_at, taken_of}
 use Rattle.tv_layout.specs.Places.{boot_count, line_count, log_of, none_at, first_at}
 
 -- lines of the null cell, from a time on
@@ -26,7 +26,8 @@ all_lines w image x aux t =
 
 -- An assignment z, with the words of the tape x, is a run: the public numbers are words, and so are the words taken,
 -- which are a tape on which the machine answers the public answer within t steps and all of which it reads; the lines
--- are honest, and those of that run; and the states are those of the machine, step by step.
+-- are honest, and those of that run; the states are those of the machine, step by step; and each step takes at its
+-- spot what the machine's step takes: the word where the number at `taken` is 1, and else none.
 pub record IsRun (w : ℕ) (block : BlockCircuit) (image x : List ℕ) (t : ℕ) (z : List ℕ) : Type 0 where
   pub tape : AreWords w x
   pub answer : slice_index z 1 < 2 ^ w
@@ -36,5 +37,8 @@ pub record IsRun (w : ℕ) (block : BlockCircuit) (image x : List ℕ) (t : ℕ)
   pub states : (i : ℕ) → i ≤ t
       → Matches x (state_in z (state_at block (length x) (boot_count image (length x)) (none_at w (length x)) (first_at w (length x)) i))
       (state_after w i (start w image x (taken_of block w image (length x) t z)))
+  pub takes : (i : ℕ) → i < t
+      → taken_at block z (block_at block (length x) (boot_count image (length x)) (none_at w (length x)) (first_at w (length x)) i).spot
+      ≡ words_in (word_taken w (state_after w i (start w image x (taken_of block w image (length x) t z))))
   pub accepts : Accepts w image x (taken_of block w image (length x) t z) t (slice_index z 1)
   pub reads : Reads w image x (taken_of block w image (length x) t z) t ≡ taken_of block w image (length x) t z

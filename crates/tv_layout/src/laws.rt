@@ -3,8 +3,9 @@ ghost use Rattle.tv_layout.specs.Sizes.{SystemIsSized};
 ghost use Rattle.tv_layout.specs.Systems.{SystemIsComplete, SystemIsSound, SystemReduces};
 
 /// Each satisfying assignment of a system is a run on its own tape: its lines of memory are honest,
-/// its states are the machine's, step by step, and the machine answers the public answer within the
-/// steps, on the words taken, all of which it reads.
+/// its states are the machine's, step by step, each step takes at its spot what the machine's step
+/// takes, and the machine answers the public answer within the steps, on the words taken, all of
+/// which it reads.
 pub fn systems_are_sound()
     ensures { SystemIsSound }
 {}

@@ -1,9 +1,12 @@
 ghost use Rattle.std.specs.Prelude.{◌≡◌, ◌+◌, ◌*◌, ◌/◌, ◌%◌, ◌^◌, ◌≤◌, ◌<◌};
+ghost use Rattle.tv_benes.specs.declared.shape.Net.{Net};
 ghost use Rattle.tv_block.specs.Block.{block_of};
 ghost use Rattle.tv_block.specs.Complete.{block_made};
 ghost use Rattle.tv_block.specs.Places.{block_wires, IsShort};
+ghost use Rattle.tv_block.specs.Under.{LineUnder};
 ghost use Rattle.tv_layout.specs.Layout.{lines_of};
 ghost use Rattle.tv_layout.specs.Places.{WithinLimits, line_count, log_of, none_at, first_at};
+ghost use Rattle.tv_layout.specs.Systems.{system_of};
 ghost use Rattle.tv_layout.specs.Told.{state_before, line_of_word};
 ghost use Rattle.tv_lines.specs.Placed.{line_in};
 ghost use Rattle.tv_word.specs.Widths.{IsWidth};
@@ -16,12 +19,14 @@ use tv_core::{F, Lc, LineLc, Wire};
 
 /// Line `i` of a program's system, in time order: those of the image, of the words of the primary
 /// tape, of the steps, and padding. It takes the same time at each place, and no memory. Its
-/// combinations have at most 32 terms.
+/// combinations have at most 32 terms, of wires below the system's number of them, over either
+/// network.
 pub fn line<const W: u32>(image: &[u32], n: u32, t: u32, i: u32) -> LineLc
     requires fits { WithinLimits W image.now n t }
     requires within { i < 2 ^ log_of (line_count image.now n t) }
     ensures is { result ≡ line_in (lines_of (block_of W) W image.now n t) i }
     ensures short { IsShort result }
+    ensures below { (net : Net) → LineUnder (system_of W net image.now n t).wires result }
 {
     let words = image.len() as u32;
     let boot = words + n;

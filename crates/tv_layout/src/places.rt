@@ -7,16 +7,17 @@ use crate::costs::wire_costs;
 use tv_core::Wire;
 use tv_core::limits::{STEPS, TAPE_WORDS};
 
-// 2^k.
-pub(crate) fn power(k: u32) -> u32
+/// 2^`k`, where `k` is below 32.
+pub fn power(k: u32) -> u32
     requires { k < 32 }
     ensures { result ≡ 2 ^ k }
 {
     1 << k
 }
 
-// The least k of at least 1 with `count` at most 2^k.
-pub(crate) fn log_of(count: u32) -> u32
+/// The least k of at least 1 with `count` at most 2^k: a system of `count` lines before padding has
+/// 2^k with it. `count` is at most 2^20, and so k at most 20.
+pub fn log_of(count: u32) -> u32
     requires { count ≤ 2 ^ 20 }
     ensures is { result ≡ log_of count }
     ensures some { 1 ≤ result }

@@ -1,4 +1,4 @@
-ghost use Rattle.std.specs.Prelude.{◌≡◌, ◌+◌, ◌*◌, ◌<◌, ℕ, IfOk};
+ghost use Rattle.std.specs.Prelude.{◌≡◌, ◌*◌, ◌<◌, ℕ, IfOk};
 ghost use Rattle.tv_block.specs.Block.{block_of};
 ghost use Rattle.tv_block.specs.Complete.{block_made};
 ghost use Rattle.tv_core.specs.Sinks.{PutsIn, Grows, Room};
@@ -18,8 +18,8 @@ pub(crate) fn first_state(none: Wire) -> StateWires
         pc: none,
         regs: [none; 16],
         flag: none,
-        taken: none,
-        ended: none,
+        taken_of_primary: none,
+        aux_ended: none,
     }
 }
 

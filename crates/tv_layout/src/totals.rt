@@ -1,7 +1,6 @@
-ghost use Rattle.std.specs.Prelude.{◌≡◌, ◌+◌, ◌-◌, ◌*◌, ◌^◌, ◌≤◌};
-ghost use Rattle.tv_benes.specs.Through.{switches};
+ghost use Rattle.std.specs.Prelude.{◌≡◌, ◌*◌, ◌^◌, ◌≤◌};
 ghost use Rattle.tv_layout.specs.Costs.{AreFew, AreCheap, total_of};
-ghost use Rattle.tv_layout.specs.Places.{WithinLimits, line_count, log_of};
+ghost use Rattle.tv_layout.specs.Places.{WithinLimits};
 ghost use Rattle.tv_layout.specs.Sizes.{amounts_of};
 
 use crate::costs::{Amounts, Costs};

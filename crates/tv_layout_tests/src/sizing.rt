@@ -1,5 +1,5 @@
 //! Systems of the program `answer 0`, which has two words.
-ghost use Rattle.std.specs.Prelude.{◌≡◌, ◌^◌, ◌<◌, ◌≤◌, length, All};
+ghost use Rattle.std.specs.Prelude.{◌^◌, ◌<◌, ◌≤◌, length, All};
 ghost use Rattle.tv_word.specs.Widths.{IsWidth};
 
 use std::test::Fail;

@@ -8,11 +8,11 @@ use Rattle.tv_fill.proofs.filling.prepare.Goals as goal
 
 pub pack_lines-requires-clause-few : goal.pack_lines-requires-clause-few
 pack_lines-requires-clause-few g c =
-    rw c.log_of-k.ensures (log_few g.row.W c.args.net c.args.image.now c.args.tape.now c.args.aux.now c.args.t c.requires.limits c.requires.tape_words c.requires.aux_words)
+    rw c.log_of-k.ensures.is (log_few g.row.W c.args.net c.args.image.now c.args.tape.now c.args.aux.now c.args.t c.requires.limits c.requires.tape_words c.requires.aux_words)
 
 pub pack_lines-requires-clause-fits : goal.pack_lines-requires-clause-fits
 pack_lines-requires-clause-fits g c =
-    rw c.log_of-k.ensures
+    rw c.log_of-k.ensures.is
     (lines_fit g.row.W c.args.net c.args.image.now c.args.tape.now c.args.aux.now c.args.t c.requires.limits c.requires.tape_words c.requires.aux_words c.in_ok-answer.field-0.lines c.in_ok-answer.ensures.trace.lines)
 
 pub pack_lines-requires-clause-steps : goal.pack_lines-requires-clause-steps
@@ -22,7 +22,7 @@ pack_lines-requires-clause-steps g c =
 pub settings_to_sort-requires : goal.settings_to_sort-requires
 settings_to_sort-requires g c =
     let packed : map unpacked c.in_ok-pairs.pairs.items ≡ lines_told c.args.image.now c.args.tape.now c.in_ok-answer.field-0.lines (log_of (line_count c.args.image.now (length c.args.tape.now) c.args.t)) =
-    c.in_ok-pairs.ensures ∙ ap (lines_told c.args.image.now c.args.tape.now c.in_ok-answer.field-0.lines) c.log_of-k.ensures in
+    c.in_ok-pairs.ensures ∙ ap (lines_told c.args.image.now c.args.tape.now c.in_ok-answer.field-0.lines) c.log_of-k.ensures.is in
     rw c.deref.ensures.value
     (routable g.row.W c.args.net c.args.image.now c.args.tape.now c.args.aux.now c.args.t c.requires.limits c.requires.tape_words c.requires.aux_words
     c.in_ok-answer.field-0.lines c.in_ok-answer.ensures.trace.lines c.in_ok-answer.field-0.states c.in_ok-answer.ensures.trace.states c.in_ok-pairs.pairs.items packed)
@@ -31,12 +31,12 @@ pub invariant_of-result : goal.invariant_of-result
 invariant_of-result g c =
     let pairs = c.in_ok-pairs.pairs.items in
     let packed : map unpacked pairs ≡ lines_told c.args.image.now c.args.tape.now c.in_ok-answer.field-0.lines (log_of (line_count c.args.image.now (length c.args.tape.now) c.args.t)) =
-    c.in_ok-pairs.ensures ∙ ap (lines_told c.args.image.now c.args.tape.now c.in_ok-answer.field-0.lines) c.log_of-k.ensures in
+    c.in_ok-pairs.ensures ∙ ap (lines_told c.args.image.now c.args.tape.now c.in_ok-answer.field-0.lines) c.log_of-k.ensures.is in
     let fit =
     parts_fit g.row.W c.args.net c.args.image.now c.args.tape.now c.args.aux.now c.args.t c.requires.limits c.requires.tape_words c.requires.aux_words
     c.in_ok-answer.field-0.lines c.in_ok-answer.ensures.trace.lines c.in_ok-answer.field-0.states c.in_ok-answer.ensures.trace.states pairs packed
     c.in_ok-spare.spare.items (c.in_ok-spare.ensures.items ∙ c.deref-2.ensures.value) in
-    rw (c.in_ok-from_slice.ensures.items, c.in_ok-from_slice-2.ensures.items, c.log_of-k.ensures) fit
+    rw (c.in_ok-from_slice.ensures.items, c.in_ok-from_slice-2.ensures.items, c.log_of-k.ensures.is) fit
 
 pub returns-clause-filling : goal.returns-clause-filling
 returns-clause-filling g c =
@@ -47,7 +47,7 @@ returns-clause-filling g c =
     let pairs = c.in_ok-pairs.pairs.items in
     let bits = c.in_ok-settings.settings in
     let packed : map unpacked pairs ≡ lines_told c.args.image.now c.args.tape.now c.in_ok-answer.field-0.lines (log_of (line_count c.args.image.now (length c.args.tape.now) c.args.t)) =
-    c.in_ok-pairs.ensures ∙ ap (lines_told c.args.image.now c.args.tape.now c.in_ok-answer.field-0.lines) c.log_of-k.ensures in
+    c.in_ok-pairs.ensures ∙ ap (lines_told c.args.image.now c.args.tape.now c.in_ok-answer.field-0.lines) c.log_of-k.ensures.is in
     let set = rw c.deref.ensures.value at c.in_ok-settings.ensures in
     let whole =
     values_are w c.args.net c.args.image.now c.args.tape.now c.args.aux.now c.args.t c.requires.limits c.requires.tape_words c.requires.aux_words
@@ -55,5 +55,5 @@ returns-clause-filling g c =
     let values : filled_values w v c.in_ok-from_slice.field-0.items c.in_ok-from_slice-2.field-0.items first c.args.t states pairs c.args.net c.log_of-k.result bits
     ≡ run_values w c.args.net c.args.image.now c.args.tape.now c.args.aux.now c.args.t v =
     ap₂ (λ (x y : List ℕ). filled_values w v x y first c.args.t states pairs c.args.net c.log_of-k.result bits) c.in_ok-from_slice.ensures.items c.in_ok-from_slice-2.ensures.items
-    ∙ (ap (λ (k : ℕ). filled_values w v c.args.tape.now c.args.aux.now first c.args.t states pairs c.args.net k bits) c.log_of-k.ensures ∙ whole) in
+    ∙ (ap (λ (k : ℕ). filled_values w v c.args.tape.now c.args.aux.now first c.args.t states pairs c.args.net k bits) c.log_of-k.ensures.is ∙ whole) in
     record { answer = c.in_ok-answer.ensures.trace.answer; values = values }

@@ -1,7 +1,7 @@
 use Rattle.std.proofs.Common.{refl, List, ℕ, subst}
+use Rattle.tv_block.proofs.ToldFills.{same_values}
 use Rattle.tv_block.specs.Values.{block_values}
 use Rattle.tv_core.specs.Giving.{GivesIn}
-use Rattle.tv_fill.proofs.Told.{same_values}
 use Rattle.tv_block.specs.Filling.{view_of}
 use Rattle.tv_fill.specs.Told.{state_at, told_values}
 use Rattle.tv_fill.proofs.steps.fill_step.Goals as goal
@@ -10,4 +10,4 @@ pub returns-clause-gives : goal.returns-clause-gives
 unfolding told_values
 returns-clause-gives g c =
     let same = same_values (block_values g.row.W c.args.n) {v = view_of (state_at c.args.states.now c.args.i)} refl c.old_at-head.ensures c.old_at-tail.ensures c.data_word-word.ensures c.takes.ensures in
-    subst (λ (l : List ℕ). GivesIn g.V.Values.giving c.args.v.now c.fill_block.new.v l c.fill_block.result) same c.fill_block.ensures.gives
+    subst (λ (l : List ℕ). GivesIn g.V.Values.giving c.args.v.now c.fill_traced_step.new.v l c.fill_traced_step.result) same c.fill_traced_step.ensures.gives

@@ -1,5 +1,6 @@
 use Rattle.std.proofs.Common.{sym, ◌∙◌, arith}
 use Rattle.tv_layout.proofs.LinePlaces.{in_image, in_tape, in_steps, in_padding}
+use Rattle.tv_layout.proofs.SpotPlaces.{line_below}
 use Rattle.tv_layout.proofs.lines.line.Goals as goal
 
 pub returns-then-i-words-clause-is : goal.returns-then-i-words-clause-is
@@ -20,3 +21,15 @@ pub returns-else-i-boot-2-clause-is : goal.returns-else-i-boot-2-clause-is
 returns-else-i-boot-2-clause-is g c =
     let is = rw (c.empty.ensures) at c.line_of_word-else-i-boot-2.ensures in
     is ∙ sym (in_padding g.row.W c.args.image.now c.args.n c.args.t c.requires.fits c.args.i (omega arith) c.requires.within)
+
+pub returns-then-i-words-clause-below : goal.returns-then-i-words-clause-below
+returns-then-i-words-clause-below g c net = line_below g.row.W net c.args.image.now c.args.n c.args.t c.requires.fits c.args.i c.requires.within _ (returns-then-i-words-clause-is g c)
+
+pub returns-then-i-boot-clause-below : goal.returns-then-i-boot-clause-below
+returns-then-i-boot-clause-below g c net = line_below g.row.W net c.args.image.now c.args.n c.args.t c.requires.fits c.args.i c.requires.within _ (returns-then-i-boot-clause-is g c)
+
+pub returns-then-i-boot-2-clause-below : goal.returns-then-i-boot-2-clause-below
+returns-then-i-boot-2-clause-below g c net = line_below g.row.W net c.args.image.now c.args.n c.args.t c.requires.fits c.args.i c.requires.within _ (returns-then-i-boot-2-clause-is g c)
+
+pub returns-else-i-boot-2-clause-below : goal.returns-else-i-boot-2-clause-below
+returns-else-i-boot-2-clause-below g c net = line_below g.row.W net c.args.image.now c.args.n c.args.t c.requires.fits c.args.i c.requires.within _ (returns-else-i-boot-2-clause-is g c)

@@ -1,11 +1,10 @@
-use Rattle.std.proofs.Common.{◌≡◌, ◌+◌, ◌*◌, ◌<◌, ℕ, sym, ap, ◌∙◌, subst}
+use Rattle.std.proofs.Common.{◌+◌, ◌*◌, sym, ap, ◌∙◌}
 use Rattle.tv_block.specs.Places.{block_wires}
 use Rattle.tv_block.specs.declared.records.Block.{Block}
 use Rattle.tv_block.specs.declared.records.Spot.{Spot}
 use Rattle.tv_layout.proofs.LinePlaces.{block_is}
 use Rattle.tv_layout.proofs.SpotPlaces.{taken_below, word_below}
 use Rattle.tv_layout.specs.Places.{none_at, first_at}
-use Rattle.tv_layout.specs.Systems.{system_of}
 use Rattle.tv_layout.specs.Told.{state_before}
 use Rattle.tv_layout.proofs.spots.spot.Goals as goal
 
