@@ -167,7 +167,7 @@ const COUNTS: [(&str, u64); 3] = [
 ];
 
 #[test]
-fn no_call_is_made_more(rt: HostRuntime) -> Result<(), Fail> {
+fn each_command_makes_this_many_calls(rt: HostRuntime) -> Result<(), Fail> {
     for (words, calls) in COUNTS {
         let mut files = files(rt.alloc(), &[])?;
         assert_eq!(rt; call(rt.alloc(), &mut files, words)?, Status::Done);

@@ -163,12 +163,12 @@ fn all_go_round(
 }
 
 #[test]
-fn all_kinds_of_32_bits(rt: HostRuntime) -> Result<(), Fail> {
+fn each_kind_of_instruction_of_32_bits_goes_round(rt: HostRuntime) -> Result<(), Fail> {
     all_go_round(&rt, rt.alloc(), "", &OF_32_BITS, 0xffff_ffff)
 }
 
 #[test]
-fn all_kinds_of_16_bits(rt: HostRuntime) -> Result<(), Fail> {
+fn each_kind_of_instruction_of_16_bits_goes_round(rt: HostRuntime) -> Result<(), Fail> {
     let header = "; TinyRAM W=16\n";
     all_go_round(&rt, rt.alloc(), header, &OF_16_BITS, 0xffff)
 }

@@ -113,8 +113,7 @@ fn other_faults_come_before_the_count(rt: HostRuntime) -> Result<(), Fail> {
     )
 }
 
-// The words of the files that are told as one call after another fails: the system is read again
-// only where there are as many values as wires.
+// The words of the files that are told as one call after another fails.
 fn told(rt: &impl Abort, alloc: Global, witness: &[u8], calls: u64) -> Result<Vec<u64>, Fail> {
     let mut words: Vec<u64> = Vec::new(alloc);
     for done in 0..calls {
@@ -133,19 +132,15 @@ fn told(rt: &impl Abort, alloc: Global, witness: &[u8], calls: u64) -> Result<Ve
 }
 
 #[test]
-fn the_system_is_read_again_for_its_own_values(rt: HostRuntime) -> Result<(), Fail> {
+fn the_system_is_read_again_whatever_the_witness_counts(rt: HostRuntime) -> Result<(), Fail> {
     let alloc = rt.alloc();
-    let table: [(u64, &[u64]); 3] = [
-        (3, &[1, 2, 3, 4]),
-        (4, &[1, 2, 3, 1, 4]),
-        (5, &[1, 2, 3, 4]),
-    ];
-    for (count, words) in table {
+    let words: [u64; 5] = [1, 2, 3, 1, 4];
+    for count in [3, 4, 5] {
         let values = witness(alloc, count, count, 0)?;
         let mut files = files_of(alloc, &values)?;
         let _ = call(alloc, &mut files, CHECK)?;
         let had = told(&rt, alloc, &values, files.calls())?;
-        assert_eq!(rt; had.as_slice(), words, "{count} values");
+        assert_eq!(rt; had.as_slice(), words.as_slice(), "{count} values");
     }
     Ok(())
 }

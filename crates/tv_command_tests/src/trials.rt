@@ -4,14 +4,15 @@ use crate::calling::line_of;
 use std::alloc::Global;
 use std::process::Abort;
 use std::test::*;
+use tv_core::P;
 use tv_files::MemFiles;
 use tv_word::decimal_of;
 
-// The words of a trial, its steps, and the most wires and constraints that its system may have.
-const TRIALS: [(&str, u64, u64); 3] = [
-    ("trial 0 63", 64, 277_176),
-    ("trial 0 64", 65, 279_224),
-    ("trial 0 1023", 1024, 4_759_736),
+// The words of a trial; the steps, wires and constraints of its system.
+const TRIALS: [(&str, [u64; 3]); 3] = [
+    ("trial 0 63", [64, 131_763, 140_082]),
+    ("trial 0 64", [65, 132_417, 140_834]),
+    ("trial 0 1023", [1024, 2_271_283, 2_404_402]),
 ];
 
 // The numbers in a line.
@@ -25,21 +26,20 @@ fn numbers_in(alloc: Global, line: &[u8]) -> Result<Vec<u64>, Fail> {
     Ok(numbers)
 }
 
-// Sees that a trial says so many steps, counts within the bound, and that all constraints hold.
-fn holds(rt: &impl Abort, alloc: Global, words: &str, steps: u64, most: u64) -> Result<(), Fail> {
+// Sees that a trial says these counts, and that all constraints hold.
+fn holds(rt: &impl Abort, alloc: Global, words: &str, counts: [u64; 3]) -> Result<(), Fail> {
     let mut files = MemFiles::new(alloc);
     let (code, line) = line_of(alloc, &mut files, words)?;
     assert_eq!(rt; code, 0, "{words}");
     let numbers = numbers_in(alloc, &line)?;
-    let [told, wires, constraints, sum, satisfied] = numbers.as_slice() else {
+    let [_, _, _, sum, _] = numbers.as_slice() else {
         return Err(Fail::from("no trial"));
     };
-    assert_eq!(rt; *told, steps, "{words}");
-    assert!(rt; *wires <= most && *constraints <= most, "{words}");
-    assert_eq!(rt; satisfied, constraints, "{words}");
+    assert!(rt; *sum < P, "{words}");
+    let [steps, wires, constraints] = counts;
     let counts = format!(in alloc; "wires {wires}, constraints {constraints}")?;
     let text = format!(in alloc;
-        "trial: steps {steps}, {counts}, sum {sum}, satisfied {satisfied}\n"
+        "trial: steps {steps}, {counts}, sum {sum}, satisfied {constraints}\n"
     )?;
     assert_eq!(rt; line.as_slice(), text.as_bytes(), "{words}");
     let again = line_of(alloc, &mut files, words)?;
@@ -49,8 +49,8 @@ fn holds(rt: &impl Abort, alloc: Global, words: &str, steps: u64, most: u64) -> 
 
 #[test]
 fn drawn_programs_hold(rt: HostRuntime) -> Result<(), Fail> {
-    for (words, steps, most) in TRIALS {
-        holds(&rt, rt.alloc(), words, steps, most)?;
+    for (words, counts) in TRIALS {
+        holds(&rt, rt.alloc(), words, counts)?;
     }
     Ok(())
 }

@@ -18,7 +18,7 @@ use Rattle.tv_wtns.specs.Wtns.{Firsts, firsts_of, assignment_of}
 use Rattle.tv_wtns.proofs.ValueLaws.{assignments_below}
 use Rattle.tv_top.specs.declared.refusal.Size.TheVariants.{TapeWords}
 use Rattle.tv_top.specs.declared.refusal.Stop.{Stop}
-use Rattle.tv_top.specs.Checking.{check_of, check_again, check_counted, check_tape, check_witness, check_twice, check_ends, check_plan, IsJudged, HasVerdict, OnCheck}
+use Rattle.tv_top.specs.Checking.{check_of, check_again, check_miscounted, check_counted, check_tape, check_witness, check_twice, check_ends, check_plan, IsJudged, HasVerdict, OnCheck}
 use Rattle.tv_top.specs.Containers.{system_bad, witness_bad, container_result, system_in, witness_in, firsts_in_witness}
 use Rattle.tv_top.specs.Finds.{Finds}
 use Rattle.tv_top.specs.Plan.{Look, ◌>>=◌, look_on, held_at, input, map_ok}
@@ -28,28 +28,30 @@ use Rattle.tv_top.proofs.Claiming.{Promises, Shows, comes, made_is, shows_input,
 
 -- ---- reading the system twice, and as many values as wires, is reading each once and whole
 
--- the verdict by the first values and how many there are, where so many wires were counted
-abbrev counted : Result Verdict Stop → ℕ → Firsts → Look Verdict
-counted again wires first = if first.count == wires then record { at = 3; gives = again } else record { at = 3; gives = Ok (WireCount first.count wires) }
+-- the verdict by the first values and how many there are, where so many wires were counted, from what the system
+-- comes to once more
+abbrev counted : Result Counts Stop → Result Verdict Stop → ℕ → Firsts → Look Verdict
+counted counts again wires first =
+    if first.count == wires then record { at = 3; gives = again } else look_on 1 counts (λ counts. record { at = 3; gives = Ok (WireCount first.count counts.wires) })
 
 -- it is that by all values: the first are all where there are as many as wires
-by_count : (s : System) (z x : List ℕ) (same : Bool) → (length z == s.wires) ≡ same → counted (Ok (judge s (take s.wires z) x)) s.wires (firsts_of s.wires z) ≡ record { at = 3; gives = Ok (judge s z x) }
+by_count : (s : System) (z x : List ℕ) (same : Bool) → (length z == s.wires) ≡ same → counted (Ok (system_counts s)) (Ok (judge s (take s.wires z) x)) s.wires (firsts_of s.wires z) ≡ record { at = 3; gives = Ok (judge s z x) }
 by_count s z x true e = rw (take_all s.wires z (omega (arith, eqb-true (length z) s.wires e)), e) refl
 by_count s z x false e = rw e refl
 
 -- each look at a part of what a file holds gives that part
-by_parts : (s : Result System Stop) (z x : Result (List ℕ) Stop) (counts : Result Counts Stop) (first : ℕ → Result Firsts Stop) (again : List ℕ → List ℕ → Result Verdict Stop) →
-    counts ≡ map_ok system_counts s → ((most : ℕ) → first most ≡ map_ok (firsts_of most) z) → ((z x : List ℕ) → again z x ≡ map_ok (λ s. judge s z x) s) →
-    look_on 1 counts (λ counts. look_on 2 (first counts.wires) (λ first. look_on 3 x (λ x. counted (again first.values x) counts.wires first)))
+by_parts : (s : Result System Stop) (z x : Result (List ℕ) Stop) (all : Result Counts Stop) (first : ℕ → Result Firsts Stop) (again : List ℕ → List ℕ → Result Verdict Stop) →
+    all ≡ map_ok system_counts s → ((most : ℕ) → first most ≡ map_ok (firsts_of most) z) → ((z x : List ℕ) → again z x ≡ map_ok (λ s. judge s z x) s) →
+    look_on 1 all (λ counts. look_on 2 (first counts.wires) (λ first. look_on 3 x (λ x. counted all (again first.values x) counts.wires first)))
     ≡ look_on 1 s (λ s. look_on 2 z (λ z. look_on 3 x (λ x. record { at = 3; gives = Ok (judge s z x) })))
-by_parts (Ok s) (Ok z) (Ok x) counts first again is firsts tells =
+by_parts (Ok s) (Ok z) (Ok x) all first again is firsts tells =
     rw (is, firsts s.wires, tells (take s.wires z) x) (ap (λ (look : Look Verdict). record { at = max 1 (max 2 (max 3 look.at)); gives = look.gives }) (by_count s z x (length z == s.wires) refl))
-by_parts (Ok s) (Ok z) (Err why) counts first again is firsts tells = rw (is, firsts s.wires) refl
-by_parts (Ok s) (Err why) x counts first again is firsts tells = rw (is, firsts s.wires) refl
-by_parts (Err why) z x counts first again is firsts tells = rw is refl
+by_parts (Ok s) (Ok z) (Err why) all first again is firsts tells = rw (is, firsts s.wires) refl
+by_parts (Ok s) (Err why) x all first again is firsts tells = rw (is, firsts s.wires) refl
+by_parts (Err why) z x all first again is firsts tells = rw is refl
 
 once : (system witness tape : List ℕ) (files : Names) → check_twice system witness tape files ≡ check_of system witness tape files
-unfolding check_twice check_witness check_tape check_again check_counted check_of survey_of verdict_of input
+unfolding check_twice check_witness check_tape check_again check_miscounted check_counted check_of survey_of verdict_of input
 once system witness tape files =
     by_parts (held_at 1 system_in (files system)) (held_at 2 witness_in (files witness)) (held_at 3 publics_in (files tape)) _
     (λ most. held_at 2 (firsts_in_witness most) (files witness)) (λ z x. held_at 1 (λ file. container_result system_bad (verdict_of file z x)) (files system))

@@ -27,17 +27,22 @@ check_of system witness tape files = do
   record { at = 3; gives = Ok (judge s z x) }
 
 -- The code reads the system once for its faults and its wires; then as many values of the witness as there are
--- wires, with the number of them all; then the tape; and then, where there are as many values as wires, the
--- system again for the verdict. That is the same as reading each once and whole. Below, what is left to be
--- looked at once the earlier files were read, and the whole.
+-- wires, with the number of them all; then the tape; and then the system again: for the verdict, or, where there are
+-- more values than wires or fewer, for its wires. That is the same as reading each once and whole. Below, what is left
+-- to be looked at once the earlier files were read, and the whole.
 unfoldable pub check_again : List ℕ → List ℕ → List ℕ → Names → Look Verdict
 check_again system z x files = record { at = 3; gives = held_at 1 (λ file. container_result system_bad (verdict_of file z x)) (files system) }
+
+unfoldable pub check_miscounted : List ℕ → ℕ → Names → Look Verdict
+check_miscounted system count files = do
+  counts ← input 1 (λ file. container_result system_bad (survey_of file)) system files
+  record { at = 3; gives = Ok (WireCount count counts.wires) }
 
 unfoldable pub check_counted : List ℕ → ℕ → Firsts → List ℕ → Names → Look Verdict
 check_counted system wires first x files =
     if first.count == wires
     then check_again system first.values x files
-    else record { at = 3; gives = Ok (WireCount first.count wires) }
+    else check_miscounted system first.count files
 
 unfoldable pub check_tape : List ℕ → ℕ → Firsts → List ℕ → Names → Look Verdict
 check_tape system wires first tape files = do

@@ -1,5 +1,5 @@
 -- A program and the two tapes of its run, which `run` and `witness` read.
-use Rattle.std.specs.Prelude.{◌≡◌, ◌≤◌, ℕ, ◌^◌, List, [], ◌∷◌, ◌++◌, length, Result, Ok}
+use Rattle.std.specs.Prelude.{◌≡◌, ◌≤◌, ℕ, ◌^◌, List, ◌++◌, length, Result, Ok}
 use Rattle.tv_core.specs.declared.limits.TheConstants.{TAPE_WORDS, AUX_WORDS}
 use Rattle.tv_files.specs.Outside.{Names}
 use Rattle.tv_step.specs.Machine.{start, end_of}

@@ -8,7 +8,7 @@ ghost use Rattle.tv_top.specs.Building.{net_word, build_plan, program_system, si
 ghost use Rattle.tv_top.specs.Contents.{Content.{Constraints}};
 ghost use Rattle.tv_top.specs.Ends.{Writes};
 ghost use Rattle.tv_top.specs.Plan.{AreWithin, refusal_of};
-ghost use Rattle.tv_top.specs.Programs.{HasImage, bits};
+ghost use Rattle.tv_top.specs.Programs.{HasImage};
 
 use crate::place::{Amount, Place, refusal_of};
 use crate::programs::{Program, Width, read_program};

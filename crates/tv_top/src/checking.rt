@@ -3,7 +3,7 @@
 ghost use Rattle.std.specs.Prelude.{◌≡◌, [], ◌∷◌};
 ghost use Rattle.tv_top.specs.Answers.{Answers};
 ghost use Rattle.tv_top.specs.Checking.{check_counted, check_plan, check_tape, check_twice};
-ghost use Rattle.tv_top.specs.Checking.{check_witness};
+ghost use Rattle.tv_top.specs.Checking.{check_miscounted, check_witness};
 ghost use Rattle.tv_top.specs.declared.refusal.Size.TheVariants.{TapeWords};
 ghost use Rattle.tv_top.specs.Finds.{Finds};
 ghost use Rattle.tv_top.specs.Plan.{refusal_of};
@@ -22,8 +22,27 @@ use tv_core::F;
 use tv_files::Files;
 use tv_wtns::FirstValues;
 
+/// The verdict where the witness has so many values, and the system another number of wires: the
+/// system is read to its end once more, as for any other verdict.
+#[tactic(auto, unfolding(crate::specs::Checking::check_miscounted))]
+fn check_miscounted<D: Files>(
+    alloc: Global,
+    files: &mut D,
+    system: &str,
+    count: u32,
+) -> Result<Verdict, Stop>
+    ensures { Finds (λ v. v) (1 ∷ []) [] (check_miscounted system.now count)
+        (D.seen files.old) (D.seen files.new) result }
+{
+    let counts = survey_system(alloc, files, system)?;
+    Ok(Verdict::WireCount {
+        has: count as u64,
+        wants: counts.wires as u64,
+    })
+}
+
 /// The verdict by the first values of the witness, of which as many were kept as the system has
-/// wires. Where there are more values, or fewer, the system isn't looked at again.
+/// wires, and by the system, which is read once more.
 #[tactic(auto, unfolding(crate::specs::Checking::check_counted))]
 fn check_counted<D: Files>(
     alloc: Global,
@@ -40,10 +59,7 @@ fn check_counted<D: Files>(
     if first.count == wires {
         judge_system(alloc, files, system, &first.values, publics)
     } else {
-        Ok(Verdict::WireCount {
-            has: u64::from(first.count),
-            wants: u64::from(wires),
-        })
+        check_miscounted(alloc, files, system, first.count)
     }
 }
 
@@ -85,9 +101,8 @@ fn check_witness<D: Files>(
     check_tape(alloc, files, system, wires, &first, tape)
 }
 
-/// The verdict on the three files. The system is read twice, so that a fault of it comes before any
-/// other file is read, and its constraints are tried without being kept; once where the witness has
-/// another number of values.
+/// The verdict on the three files. The system is read twice, each time to its end, so that a fault
+/// of it comes before any other file is read, and its constraints are tried without being kept.
 #[tactic(auto, unfolding(crate::specs::Checking::check_twice))]
 fn verdict_on<D: Files>(
     alloc: Global,

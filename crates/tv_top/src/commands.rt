@@ -118,20 +118,21 @@ fn answer<D: Files>(alloc: Global, words: &[String], files: &mut D) -> Status
 /// which may have that word too, reads the three files as `run` does and runs the machine before it
 /// creates its file. Where the machine answers, it writes values that satisfy the system, extend
 /// the answer and the tape, and take the words that the run reads; else `NoRun` tells the run's
-/// end. Both write as they go: `build` takes memory for the program alone, and `witness` at most
-/// 160 bytes for each line of the system. `extract TEXT N T WITNESS TAPE AUX`, which may have that
-/// word too, reads values of the system that `build` would write, writes the two tapes of their
-/// run, and says its answer and the step. `NotARun` tells why they have none, which never comes for
-/// values that satisfy the system. In all three `SameName` and the `Limit` of N and T come before
-/// any file call, and nothing is written where a file is refused.
+/// end. Both write as they go: `build` takes memory for the program alone, and `witness` some 80
+/// bytes for each line of the system, beside what the program itself holds. `extract TEXT N T
+/// WITNESS TAPE AUX`, which may have that word too, reads values of the system that `build` would
+/// write, writes the two tapes of their run, and says its answer and the step. `NotARun` tells why
+/// they have none, which never comes for values that satisfy the system. In all three `SameName`
+/// and the `Limit` of N and T come before any file call, and nothing is written where a file is
+/// refused.
 ///
 /// `check SYSTEM WITNESS TAPE` reads the three files, each to its end and judged before the next is
 /// read, and then the system again. The first two may have any size. It is `Done`, and says `yes`,
 /// exactly where the witness holds an assignment that satisfies the system and extends the numbers
 /// of the tape; else `No` tells what is wrong first. `BadSystem` and `BadWitness` tell the first
 /// fault of a file, `BadTape` the first item that isn't a number below the prime, and `Limit` comes
-/// where the tape has more than 4,194,304 bytes or 262,144 items. It takes memory for the values
-/// and one constraint.
+/// where the tape has more than 4,194,304 bytes or 262,144 items. It takes memory for as many
+/// values as the system has wires.
 ///
 /// `run TEXT TAPE AUX T` reads the three files, each judged before the next is read: a program text
 /// as `asm` reads it, at most 131,072 words for the primary tape and at most 262,144 for the
@@ -164,9 +165,9 @@ fn answer<D: Files>(alloc: Global, words: &[String], files: &mut D) -> Status
 ///
 /// `FileFault` tells the word of the name whose reading or writing failed, as reading does where
 /// there is no such name, or the number of words where saying the line failed. `Memory` comes where
-/// memory was wanting; in place of `Usage`, `SameName` and the `Limit` of T only where the files
-/// wanted it. After either no further file call is made, and the name that is written has a prefix
-/// of its bytes or is as it was. No other file is changed.
+/// memory ran out; in place of `Usage`, `SameName` and the `Limit` of a number that the words tell,
+/// N, T or K, only where the files wanted it. After either no further file call is made, and the
+/// name that is written has a prefix of its bytes or is as it was. No other file is changed.
 pub fn command<D: Files>(alloc: Global, words: &[String], files: &mut D) -> Status
     ensures answers { Answers (request_of (form (map string_bytes words.now))) (length words.now)
         (D.seen files.old) (D.seen files.new) result }

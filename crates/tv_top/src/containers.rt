@@ -1,6 +1,5 @@
 //! Systems and assignments, each read from its file to the end.
 ghost use Rattle.std.specs.Prelude.{◌≡◌, [], ◌∷◌};
-ghost use Rattle.tv_check.specs.Verdict.{verdict_of};
 ghost use Rattle.tv_r1cs_read.specs.Survey.{survey_of};
 ghost use Rattle.tv_shrink.specs.Shrinking.{Shrunken};
 ghost use Rattle.tv_top.specs.Checking.{check_again};

@@ -151,7 +151,7 @@ pub(crate) fn not_run(fault: ExtractFault) -> Option<Finish>
 {
     let why = match fault {
         ExtractFault::WireCount { has, wants } => NotRun::WireCount { has, wants },
-        ExtractFault::WideWire { at } => NotRun::WideWire { at: u64::from(at) },
+        ExtractFault::WideWire { at } => NotRun::WideWire { at },
         ExtractFault::NotARun { end } => NotRun::NotARun { end },
         ExtractFault::Memory => return None,
     };

@@ -22,7 +22,7 @@ pub enum NoWhy {
     End { end: End },
 }
 
-/// Why `extract` finds no run.
+/// Why `extract` or `listing` finds no run.
 #[derive(Clone, Copy, Debug, PartialEq, Eq)]
 pub enum NotRun {
     /// The witness has `has` values, the program's system `wants` wires.
@@ -79,11 +79,11 @@ pub enum Status {
     /// A file call failed, on the name at this word, or, at the number of words, in saying the
     /// line.
     FileFault { word: u64 },
-    /// Memory was wanting.
+    /// Memory ran out.
     Memory,
     /// `witness`: the run doesn't answer, but ends so.
     NoRun { end: End },
-    /// `extract`: the witness is no run's.
+    /// `extract`, `listing`: the witness is no run's.
     NotARun { why: NotRun },
     /// Two words name one file, which is to be written.
     SameName { first: u32, second: u32 },

@@ -1,9 +1,7 @@
 //! `witness TEXT TAPE AUX T WITNESS`, which may have one more word, `waksman`: the values of the
 //! wires of a program's system for a run that answers.
-ghost use Rattle.std.specs.Prelude.{◌≡◌, ◌≤◌, [], ◌∷◌, length, Ok};
+ghost use Rattle.std.specs.Prelude.{◌≡◌, ◌≤◌, [], ◌∷◌, Ok};
 ghost use Rattle.tv_core.specs.declared.limits.TheConstants.{STEPS};
-ghost use Rattle.tv_layout.specs.Systems.{system_of};
-ghost use Rattle.tv_word.specs.Widths.{IsWidth};
 ghost use Rattle.tv_top.specs.Answers.{Answers};
 ghost use Rattle.tv_top.specs.Contents.{Content.{Values}};
 ghost use Rattle.tv_top.specs.Ends.{Completes, Writes};

@@ -1,6 +1,5 @@
 use Rattle.std.proofs.lemmas.Bool.{eq-eqb, ne_eqb}
 use Rattle.tv_top.specs.Checking.{check_counted}
-use Rattle.tv_top.proofs.Looking.{finds_still}
 use Rattle.tv_top.proofs.checking.check_counted.Goals as goal
 
 pub returns-then-first-wires : goal.returns-then-first-wires
@@ -9,4 +8,4 @@ returns-then-first-wires g c = rw (eq-eqb _ _ c.if-first-wires.true) (rw c.deref
 
 pub returns-else-first-wires : goal.returns-else-first-wires
 unfolding check_counted
-returns-else-first-wires g c = finds_still _ _ _ _ _ _ (λ files told. rw (ne_eqb _ _ c.if-first-wires.false) (cc (c.from.ensures, c.from-else-first-wires.ensures)))
+returns-else-first-wires g c = rw (ne_eqb _ _ c.if-first-wires.false) c.check_miscounted.ensures
