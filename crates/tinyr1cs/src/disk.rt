@@ -1,5 +1,5 @@
 //! The system's files and standard output as `Files`.
-ghost use Rattle.std.specs.Prelude.{◌≡◌, ◌≤◌, length, IfOk};
+ghost use Rattle.std.specs.Prelude.{◌≡◌};
 ghost use Rattle.tv_files.specs.Calls.{Reads, Creates, Appends, Says};
 ghost use Rattle.tinyr1cs.specs.Counts.{told_by, zeros, after};
 ghost use Rattle.tinyr1cs.specs.declared.counts.Call.TheVariants.{Reading, Writing, Saying};
@@ -121,7 +121,8 @@ mod tests {
     use super::*;
     use std::test::Fail;
     use std::{env, fs, process};
-    use tv_files::slurp;
+    use tv_files::{MemFiles, slurp, write_file};
+    use tv_top::{Status, command};
 
     #[test]
     fn keeps_files_as_the_system_does(rt: HostRuntime) -> Result<(), Fail> {
@@ -196,6 +197,81 @@ mod tests {
         fs::write(&rt, name, b"half a dozen")?;
         let count = files.read(same.as_str(), 0, &mut piece)?;
         assert_eq!(rt; &piece[..count], b"half a dozen".as_slice());
+        fs::remove_dir_all(&rt, folder.as_path())?;
+        Ok(())
+    }
+
+    // A program that reads two words, and a tape that has three.
+    const GIVEN: [(&str, &[u8]); 4] = [
+        (
+            "/text",
+            b"read r1, 1\nread r2, 1\nsub r3, r1, r2\nanswer r3\n",
+        ),
+        ("/tape", b""),
+        ("/aux", b"9 9 7"),
+        ("/public", b"0"),
+    ];
+
+    const COMMANDS: [&str; 4] = [
+        "build /text 0 4 /system",
+        "witness /text /tape /aux 4 /values",
+        "check /system /values /public",
+        "extract /text 0 4 /values /tape.out /aux.out",
+    ];
+
+    const WRITTEN: [&str; 4] = ["/system", "/values", "/tape.out", "/aux.out"];
+
+    // Writes what the commands read into a folder.
+    fn give<D: Files>(alloc: Global, files: &mut D, folder: &str) -> Result<(), Fail> {
+        for (name, bytes) in GIVEN {
+            let name = format!(in alloc; "{folder}{name}")?;
+            write_file(files, &name, bytes)?;
+        }
+        Ok(())
+    }
+
+    // The words of a command, of which those that begin with `/` are names in a folder.
+    fn words_in(alloc: Global, folder: &str, words: &str) -> Result<Vec<String>, Fail> {
+        let mut all = Vec::new(alloc);
+        for word in words.split_whitespace() {
+            let before = if word.starts_with('/') { folder } else { "" };
+            all.push(format!(in alloc; "{before}{word}")?)?;
+        }
+        Ok(all)
+    }
+
+    // What the commands answer in a folder, one after another.
+    fn answers<D: Files>(alloc: Global, files: &mut D, folder: &str) -> Result<Vec<Status>, Fail> {
+        let mut statuses = Vec::new(alloc);
+        for words in COMMANDS {
+            let words = words_in(alloc, folder, words)?;
+            statuses.push(command(alloc, &words, files))?;
+        }
+        Ok(statuses)
+    }
+
+    #[test]
+    fn commands_do_on_disk_what_they_do_in_memory(rt: HostRuntime) -> Result<(), Fail> {
+        let alloc = rt.alloc();
+        let scratch = format!(in alloc; "tinyr1cs-commands-{}", process::id(rt.process()))?;
+        let folder = env::temp_dir(&rt)?.join(alloc, scratch.as_str())?;
+        fs::create_dir_all(&rt, folder.as_path())?;
+        let mut disk = DiskFiles::new(alloc, rt, false);
+        give(alloc, &mut disk, folder.as_str())?;
+        let on_disk = answers(alloc, &mut disk, folder.as_str())?;
+        let mut memory = MemFiles::new(alloc);
+        give(alloc, &mut memory, folder.as_str())?;
+        let in_memory = answers(alloc, &mut memory, folder.as_str())?;
+
+        assert_eq!(rt; on_disk.as_slice(), [Status::Done; 4].as_slice());
+        assert_eq!(rt; in_memory.as_slice(), on_disk.as_slice());
+        for name in WRITTEN {
+            let name = format!(in alloc; "{}{name}", folder.as_str())?;
+            let bytes = fs::read(&rt, name.as_str())?;
+            assert_eq!(rt; memory.bytes_of(&name), Some(bytes.as_slice()), "{name}");
+        }
+        let aux = format!(in alloc; "{}/aux.out", folder.as_str())?;
+        assert_eq!(rt; memory.bytes_of(&aux), Some(b"9\n9\n".as_slice()));
         fs::remove_dir_all(&rt, folder.as_path())?;
         Ok(())
     }

@@ -1,5 +1,5 @@
 //! How much of a file is written, told on a terminal.
-use std::{fmt, io};
+use std::fmt;
 
 /// A line is told each time that this many bytes more were written.
 const STEP: u64 = 64_000_000;

@@ -11,7 +11,7 @@ fn reads_numbers_below_the_prime(rt: HostRuntime) {
 
 // Products as the division of the whole product gives them.
 #[test]
-fn multiplies(rt: HostRuntime) {
+fn products_are_those_of_whole_numbers_modulo_p(rt: HostRuntime) {
     let products: [(u64, u64, u64); 5] = [
         (P - 1, P - 1, 1),
         (P - 1, 2, 18_446_744_069_414_584_319),

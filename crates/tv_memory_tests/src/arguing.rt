@@ -1,5 +1,5 @@
 //! The memory argument over eight lines.
-ghost use Rattle.std.specs.Prelude.{◌≡◌, ◌+◌, ◌≤◌, IfOk};
+ghost use Rattle.std.specs.Prelude.{◌+◌, ◌≤◌};
 ghost use Rattle.tv_core.specs.Sinks.{Room};
 
 use crate::rows::{ORDER, falsehoods, honest, packed_all};
@@ -102,7 +102,7 @@ fn lines_are_tied_to_what_is_sorted(rt: HostRuntime) -> Result<(), Fail> {
 }
 
 #[test]
-fn sizes_are_as_told(rt: HostRuntime) -> Result<(), Fail> {
+fn memory_arguments_have_these_sizes(rt: HostRuntime) -> Result<(), Fail> {
     for (net, constraints, wires) in NETS {
         let mut count = CountSink::new(FIRST);
         put(&mut count, net)?;

@@ -200,7 +200,7 @@ fn a_first_line_begins_at_0(rt: HostRuntime) -> Result<(), Fail> {
 }
 
 #[test]
-fn sizes_are_as_told(rt: HostRuntime) -> Result<(), Fail> {
+fn gadgets_of_lines_have_these_sizes(rt: HostRuntime) -> Result<(), Fail> {
     let mut count = CountSink::new(3);
     let before = unpack(&mut count, &pair())?;
     assert_eq!(rt;

@@ -55,7 +55,7 @@ fn a_false_value_fails_a_constraint(rt: HostRuntime) -> Result<(), Fail> {
 }
 
 #[test]
-fn sizes_are_as_told(rt: HostRuntime) -> Result<(), Fail> {
+fn networks_have_these_sizes(rt: HostRuntime) -> Result<(), Fail> {
     let mut count = CountSink::new(9);
     network(&mut count, 2, &Wires { many: 4 })?;
     assert_eq!(rt; (count.constraints(), count.terms()), (30, 138));

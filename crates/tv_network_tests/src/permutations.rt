@@ -24,15 +24,21 @@ fn routed(alloc: Global, net: Net, k: u32, p: &[u32]) -> Result<Vec<u32>, Fail>
     Ok(order)
 }
 
-#[test]
-fn every_order_of_four_is_reached(rt: HostRuntime) -> Result<(), Fail> {
-    let mut orders = Vec::new(rt.alloc());
+// The orders of four places: those lists of four numbers below 4 that are permutations.
+fn orders_of_four(alloc: Global) -> Result<Vec<[u32; 4]>, Fail> {
+    let mut orders = Vec::new(alloc);
     for code in 0..256u32 {
         let p = [code % 4, code / 4 % 4, code / 16 % 4, code / 64];
-        if is_permutation(rt.alloc(), &p)? {
+        if is_permutation(alloc, &p)? {
             orders.push(p)?;
         }
     }
+    Ok(orders)
+}
+
+#[test]
+fn every_order_of_four_is_reached(rt: HostRuntime) -> Result<(), Fail> {
+    let orders = orders_of_four(rt.alloc())?;
     assert_eq!(rt; orders.len(), 24);
     for p in &orders {
         for net in [Net::Benes, Net::Waksman] {

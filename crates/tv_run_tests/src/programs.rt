@@ -61,7 +61,7 @@ fn refuses(
 }
 
 #[test]
-fn assembles(rt: HostRuntime) -> Result<(), Fail> {
+fn texts_have_these_images(rt: HostRuntime) -> Result<(), Fail> {
     let programs: [(&str, &[u8]); 9] = [
         ("add r1, r2, 5", &[0, 0, 0x48, 0x24, 5, 0, 0, 0]),
         ("answer 0", &[0, 0, 0, 0xfc, 0, 0, 0, 0]),
@@ -122,7 +122,7 @@ fn refuses_programs(rt: HostRuntime) -> Result<(), Fail> {
 }
 
 #[test]
-fn disassembles(rt: HostRuntime) -> Result<(), Fail> {
+fn images_have_these_texts(rt: HostRuntime) -> Result<(), Fail> {
     let images: [([u8; 8], &str); 4] = [
         ([0; 8], "and r0, r0, r0\n"),
         ([0, 0, 0xc0, 0xe4, 0, 0, 1, 0], "store.w 65536, r3\n"),

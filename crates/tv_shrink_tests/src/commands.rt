@@ -57,7 +57,7 @@ fn answers(
 }
 
 #[test]
-fn the_command_answers(rt: HostRuntime) -> Result<(), Fail> {
+fn shrink_answers_with_these_lines(rt: HostRuntime) -> Result<(), Fail> {
     let alloc = rt.alloc();
     let mut files = MemFiles::new(alloc);
     files.set("sum", &SUM)?;

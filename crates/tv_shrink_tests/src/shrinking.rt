@@ -61,7 +61,7 @@ fn a_system_has_4194304_terms_at_most(rt: HostRuntime) -> Result<(), Fail> {
 // Nothing is left of the first two but wires. In the third the constraint stays that makes 128
 // terms, of 1, 128 and 1 terms, and the wires 0, 1, 200 summands, and two sums.
 #[test]
-fn chains_go(rt: HostRuntime) -> Result<(), Fail> {
+fn linear_chains_are_solved_away(rt: HostRuntime) -> Result<(), Fail> {
     let mut files = MemFiles::new(rt.alloc());
     files.set("chain", &chain(rt.alloc(), 1000)?)?;
     files.set("sums", &sums(rt.alloc(), 1000)?)?;

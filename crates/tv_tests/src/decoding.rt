@@ -5,7 +5,7 @@ ghost use Rattle.tv_word.specs.Widths.{IsWidth};
 use crate::inputs::{all_hold, behind_words, first_word, holds, inputs, second_word, with_wire};
 use std::alloc::Global;
 use std::test::Fail;
-use tv_core::{F, ListSink, Put, TestSink, Wire};
+use tv_core::{F, ListSink, TestSink, Wire};
 use tv_decode::{Fields, fields, fill_fields};
 
 // The two words of an instruction of 32 bits, its opcode, immediate bit, destination and source,
