@@ -19,10 +19,10 @@ pub fn block_fills()
     ensures machine { MachineValuesFit }
 {}
 
-/// The values of a machine's step from a state in range are those that `fill_traced_step` gives from
-/// what a trace tells: the numbers of the state, the olds of the step's three lines, of which the first
-/// two are the words of its instruction, and the word that it takes of the auxiliary tape, which
-/// stands for the third where there is one. All that `fill_traced_step` requires of these holds.
+/// The values of a machine's step from a state in range are those that `fill_traced_step` gives by
+/// what a trace tells: the numbers of the state, the olds of the step's three lines, the first two
+/// of which are the words of its instruction, and the word that it takes of the auxiliary tape, for
+/// the third where there is one. All that `fill_traced_step` requires of these holds.
 pub fn steps_are_given()
     ensures { StepsAreGiven }
 {}

@@ -4,7 +4,7 @@ ghost use Rattle.tv_block.specs.Places.{BlockPlaces};
 
 /// Where an assignment meets what a block puts and has a state in range at the wires before it, the
 /// numbers at its wires are those of a step, by the words of a used instruction and the data word
-/// that they hold, whatever memory holds: the lines, what is taken, the answer, and the state after,
+/// that they hold, whatever memory holds: the lines, what is taken, the answer, and the next state,
 /// which is in range. From each state of the machine that the numbers are of and whose cells hold
 /// the lines' old words, that is the machine's step.
 pub fn block_is_sound()
