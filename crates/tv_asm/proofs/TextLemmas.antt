@@ -8,7 +8,7 @@ use Rattle.std.specs.List.{position_or_len, before_first, after_first, slice_spl
 use Rattle.std.specs.Str.Lines.{strip_carriage_return}
 use Rattle.tv_asm.specs.Text.{lines, lines_of}
 
-lines_of-cons : (piece : List ℕ) (pieces : List (List ℕ)) → 0 < length pieces → lines_of (piece ∷ pieces) ≡ strip_carriage_return piece ∷ lines_of pieces
+pub lines_of-cons : (piece : List ℕ) (pieces : List (List ℕ)) → 0 < length pieces → lines_of (piece ∷ pieces) ≡ strip_carriage_return piece ∷ lines_of pieces
 lines_of-cons piece [] h = absurd (omega arith)
 lines_of-cons piece (next ∷ more) h = refl
 

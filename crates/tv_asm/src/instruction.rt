@@ -1,7 +1,7 @@
-ghost use Rattle.std.specs.Prelude.{◌≡◌, ◌<◌, ◌≤◌, length, drop, IfOk};
+ghost use Rattle.std.specs.Prelude.{◌≡◌, ◌<◌, ◌≤◌, length, IfOk};
 ghost use Rattle.std.specs.List.{position_or_len};
-ghost use Rattle.tv_asm.specs.Instruction.{name_of, operands_in, operand_at, operand_count, fields};
-ghost use Rattle.tv_asm.specs.Instruction.{counted, raw_words, table_words, words_of};
+ghost use Rattle.tv_asm.specs.Instruction.{operands_in, operand_at, operand_count, fields, counted};
+ghost use Rattle.tv_asm.specs.Instruction.{raw_words, table_words, words_of};
 ghost use Rattle.tv_asm.specs.Text.{is_blank};
 ghost use Rattle.tv_asm.specs.Views.{address_in};
 ghost use Rattle.tv_isa.specs.Instruction.{IsInstruction};

@@ -24,9 +24,7 @@ use Rattle.tv_benes.specs.declared.shape.Net.{Net}
 use Rattle.tv_benes.specs.declared.shape.Net.TheVariants.{Benes, Waksman}
 use Rattle.tv_benes.proofs.Permuting.{alternating-even, alternating-odd}
 use Rattle.tv_benes.specs.Through.{switches, missing, last_bit, from, passed, to_upper, to_lower, alternating, joined, through}
-
-pub pair_same : (a b c d : ℕ) → a ≡ c → b ≡ d → ◌≡◌ {A = PairNum} (record { first = a; second = b }) (record { first = c; second = d })
-pair_same a b c d p q = ap₂ (λ (x y : ℕ). let pair : PairNum = record { first = x; second = y } in pair) p q
+use Rattle.tv_core.proofs.LineLaws.{pair_same}
 
 passed_pair : (b : Bool) (x y : PairNum) → ◌≡◌ {A = PairNum} (record { first = passed b x.first y.first; second = passed b x.second y.second }) (passed b x y)
 passed_pair true x y = refl
@@ -99,7 +97,7 @@ output_zero o i e = ap (λ k. output_wire o k) e
 pub output_one : (o : Outputs) (i : ℕ) → i ≡ 1 → output_wire o i ≡ o.second
 output_one o i e = ap (λ k. output_wire o k) e
 
-if_apart : {X : Type 0} (i k : ℕ) (x y : X) → i ≢ k → (if i == k then x else y) ≡ y
+pub if_apart : {X : Type 0} (i k : ℕ) (x y : X) → i ≢ k → (if i == k then x else y) ≡ y
 if_apart i k x y e = ap (λ (c : Bool). if c then x else y) (apart_eq i k e)
   where
     apart_eq : (a b : ℕ) → a ≢ b → (a == b) ≡ false

@@ -1,6 +1,6 @@
-ghost use Rattle.std.specs.Prelude.{◌≡◌, ℕ, suc, ◌+◌, ◌-◌, ◌*◌, ◌^◌, ◌<◌, ◌≤◌, IfOk};
+ghost use Rattle.std.specs.Prelude.{◌≡◌, ◌+◌, ◌-◌, ◌*◌, ◌^◌, ◌<◌, ◌≤◌, IfOk};
 ghost use Rattle.tv_benes.specs.Network.{last_column_of, network_of};
-ghost use Rattle.tv_benes.specs.Places.{row, output_wire, AreMade, AreBelow};
+ghost use Rattle.tv_benes.specs.Places.{row, AreMade, AreBelow};
 ghost use Rattle.tv_benes.specs.Through.{switches, missing};
 ghost use Rattle.tv_benes.specs.declared.shape.Net.TheVariants.{Benes};
 ghost use Rattle.tv_core.specs.Sinks.{PutsIn, Grows, Room};

@@ -3,7 +3,6 @@ ghost use Rattle.tv_bits.specs.Bit.{bit_of};
 ghost use Rattle.tv_bits.specs.Select.{select_of};
 ghost use Rattle.tv_core.specs.Combinations.{less, top, wire};
 ghost use Rattle.tv_core.specs.Sinks.{PutsIn, Grows, Room};
-ghost use Rattle.tv_core.specs.declared.lines.Pair.{Pair};
 ghost use Rattle.tv_benes.specs.Network.{switch_of};
 ghost use Rattle.tv_benes.specs.Places.{wires_at};
 

@@ -11,6 +11,9 @@ use Rattle.tv_bits.specs.Bit.{IsBit, bit_of, BitIsSound, BitIsComplete}
 pub bit_cases : (b : ℕ) → IsBit b → (b ≡ 0) ⊎ (b ≡ 1)
 bit_cases b h = elim (eq-zero-or-pos b) [ inl none ↦ inl none | inr some ↦ inr (omega arith) ]
 
+pub product_bit : (a b : ℕ) → IsBit a → IsBit b → IsBit (a * b)
+product_bit a b h k = elim (bit_cases a h) [ inl p ↦ rw p (omega arith) | inr p ↦ rw p (omega (arith, k)) ]
+
 square : (b : ℕ) → IsBit b → b * b % P ≡ b
 square b h = elim (eq-zero-or-pos b) [ inl none ↦ ap (λ n. n * n % P) none ∙ sym none | inr some ↦ let one : b ≡ 1 = omega arith in ap (λ n. n * n % P) one ∙ sym one ]
 

@@ -13,25 +13,25 @@ use Rattle.tv_bits.specs.Bit.{IsBit}
 use Rattle.tv_bits.specs.Select.{selected, select_of, SelectIsSound, SelectIsComplete}
 
 -- the constraint, as numbers
-selected-zero : (b x y : ℕ) → b ≡ 0 → selected b x y ≡ y
+pub selected-zero : (b x y : ℕ) → b ≡ 0 → selected b x y ≡ y
 selected-zero b x y none = rw none refl
 
-selected-one : (b x y : ℕ) → b ≡ 1 → selected b x y ≡ x
+pub selected-one : (b x y : ℕ) → b ≡ 1 → selected b x y ≡ x
 selected-one b x y one = rw one refl
 
-times_zero : (b d : ℕ) → b ≡ 0 → b * d % P ≡ 0
+pub times_zero : (b d : ℕ) → b ≡ 0 → b * d % P ≡ 0
 times_zero b d none = rw none (omega arith)
 
-times_one : (b d : ℕ) → b ≡ 1 → d < P → b * d % P ≡ d
+pub times_one : (b d : ℕ) → b ≡ 1 → d < P → b * d % P ≡ d
 times_one b d one small = rw one (omega arith)
 
-sound_by : (b x y w : ℕ) → x < P → y < P → w < P → IsBit b → b * ((x + (P - y)) % P) % P ≡ (w + (P - y)) % P → w ≡ selected b x y
+pub sound_by : (b x y w : ℕ) → x < P → y < P → w < P → IsBit b → b * ((x + (P - y)) % P) % P ≡ (w + (P - y)) % P → w ≡ selected b x y
 sound_by b x y w xs ys ws bit e = elim (bit_cases b bit) [
   | inl none ↦ same_of_minus w y ws ys (sym e ∙ times_zero b _ none) ∙ sym (selected-zero b x y none)
   | inr one ↦ cancel_minus w x y ws xs ys (sym e ∙ times_one b _ one (mod-lt _ (omega arith))) ∙ sym (selected-one b x y one)
 ]
 
-complete_by : (b x y w : ℕ) → y < P → IsBit b → w ≡ selected b x y → b * ((x + (P - y)) % P) % P ≡ (w + (P - y)) % P
+pub complete_by : (b x y w : ℕ) → y < P → IsBit b → w ≡ selected b x y → b * ((x + (P - y)) % P) % P ≡ (w + (P - y)) % P
 complete_by b x y w ys bit e = elim (bit_cases b bit) [
   | inl none ↦ times_zero b _ none ∙ omega (arith, e ∙ selected-zero b x y none)
   | inr one ↦ times_one b _ one (mod-lt _ (omega arith)) ∙ ap (λ v. (v + (P - y)) % P) (sym (e ∙ selected-one b x y one))

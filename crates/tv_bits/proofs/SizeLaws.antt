@@ -51,7 +51,7 @@ bits_sizes = record {
   in_field = λ n v. bits_in_field v n;
 }
 
-zero_flag-below : (v : ℕ) → zero_flag v < P
+pub zero_flag-below : (v : ℕ) → zero_flag v < P
 zero_flag-below v = grind (arith, nat_tests)
 
 pub zero_in_field : (v : ℕ) → InField (zero_values v)

@@ -74,12 +74,12 @@ new_bits_complete z next n x assigns has =
     Meets-join z (times n (λ _. new_bit) next).list [] (turns_bits z next n assigns (λ i h. omega (arith, has_each z next n (bit_at x) has i h, bit_at-lt x i))) tt
 
 -- one times the value of the bits is that value
-times_one : (b : ℕ) → b < P → b * (1 % P) % P ≡ b
-times_one b small = omega arith
+pub times_one_right : (b : ℕ) → b < P → b * (1 % P) % P ≡ b
+times_one_right b small = omega arith
 
 summed : (z : List ℕ) (first n v : ℕ) → v < P → Assigns z → Spells z first n v → value (bits_combination first n) z * value (constant 1) z % P ≡ v
 summed z first n v small assigns s =
-    ap₂ (λ a b. a * b % P) (value-bits s ∙ mod-eq_of_lt small) (value-constant assigns 1) ∙ times_one v small
+    ap₂ (λ a b. a * b % P) (value-bits s ∙ mod-eq_of_lt small) (value-constant assigns 1) ∙ times_one_right v small
 
 pub bits_sound : BitsAreSound
 unfolding bits_of new_bits_of here put pure ◌>>=◌

@@ -30,7 +30,7 @@ pub times_complete : TimesIsComplete
 unfolding times_of fresh put pure ◌>>=◌
 times_complete z next x y assigns has = (sym has.0 ∙ sym (value-wire assigns next), tt)
 
-residue_below : (a : ℕ) → a % P < P
+pub residue_below : (a : ℕ) → a % P < P
 residue_below a = mod-lt a (omega arith)
 
 pub times_sizes : TimesSizes

@@ -1,6 +1,6 @@
 ghost use Rattle.std.specs.Prelude.{◌≡◌, ◌+◌, ◌≤◌, [], length, max, IfOk};
-ghost use Rattle.tv_bits.specs.Pairs.{plus_times, side, two_ands_of, TwoAndsAreSound};
-ghost use Rattle.tv_bits.specs.Pairs.{TwoAndsAreComplete, TwoAndsSizes};
+ghost use Rattle.tv_bits.specs.Pairs.{side, two_ands_of, TwoAndsAreSound, TwoAndsAreComplete};
+ghost use Rattle.tv_bits.specs.Pairs.{TwoAndsSizes};
 ghost use Rattle.tv_core.specs.Combinations.{top};
 ghost use Rattle.tv_core.specs.Sinks.{PutsIn, Grows, Room};
 

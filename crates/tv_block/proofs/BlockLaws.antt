@@ -16,7 +16,7 @@ use Rattle.tv_core.specs.declared.field.TheConstants.{P}
 use Rattle.tv_isa.specs.Instruction.{decode}
 use Rattle.tv_isa.specs.declared.instr.Instr.{Instr}
 use Rattle.tv_numbers.proofs.RangeLaws.{numbers_stay_in_range}
-use Rattle.tv_numbers.proofs.StepLaws.{numbers_do}
+use Rattle.tv_numbers.proofs.StepLaws.{numbers_do, same_view}
 use Rattle.tv_numbers.specs.Laws.{DoesStep}
 use Rattle.tv_numbers.specs.Numbers.{Did, asks, stepped}
 use Rattle.tv_numbers.specs.Views.{View, flag_of, ViewInRange}
@@ -41,6 +41,7 @@ use Rattle.tv_block.specs.Store.{AreStore, store_of}
 use Rattle.tv_block.specs.Tapes.{took, tapes_of}
 use Rattle.tv_block.specs.declared.computed.Computed.{Computed}
 use Rattle.tv_block.specs.declared.records.StateWires.{StateWires}
+use Rattle.tv_numbers.proofs.LineRows.{same_line}
 
 -- what is computed before the program counter is that of a step in numbers
 pub record AreComputed (w : ℕ) (z : List ℕ) (c : Computed) (n : ℕ) (now : View) (head tail o : ℕ) (takes : Bool) : Type 0 where
@@ -123,15 +124,6 @@ next_cell w width = for_widths (λ w. (pc : ℕ) → pc < 2 ^ w → (pc / (w / 8
 
 small_time : (t : ℕ) → t < 2 ^ 33 → t % P ≡ t
 small_time t h = omega arith
-
--- ---- records that are the same, field by field
-pub same_view : (a b : ℕ) (c d : List ℕ) (e f g h k l : ℕ) → a ≡ b → c ≡ d → e ≡ f → g ≡ h → k ≡ l
-    → ◌≡◌ {A = View} (record { pc = a; regs = c; flag = e; taken = g; ended = k }) (record { pc = b; regs = d; flag = f; taken = h; ended = l })
-same_view a b c d e f g h k l p q r s t = cc
-
-pub same_line : (a b c d e f g h : ℕ) → a ≡ b → c ≡ d → e ≡ f → g ≡ h
-    → ◌≡◌ {A = Line} (record { cell = a; time = c; old = e; new = g }) (record { cell = b; time = d; old = f; new = h })
-same_line a b c d e f g h p q r s = cc
 
 pub same_did : (a b : View) (c d : View) (e f g h k l : Line) (m n : Bool) (o p : ℕ) (q r : Bool) (s t : ℕ) → a ≡ b → c ≡ d → e ≡ f → g ≡ h → k ≡ l → m ≡ n → o ≡ p → q ≡ r → s ≡ t
     → ◌≡◌ {A = Did} (record { now = a; after = c; first = e; second = g; data_line = k; takes = m; word = o; answers = q; value = s }) (record { now = b; after = d; first = f; second = h; data_line = l; takes = n; word = p; answers = r; value = t })

@@ -1,6 +1,5 @@
 -- Where an assignment has the values of the data word of a step.
 use Rattle.std.proofs.Common.{◌≡◌, ℕ, ◌+◌, ◌-◌, ◌*◌, ◌/◌, ◌%◌, ◌^◌, ◌<◌, ◌≤◌, ◌||◌, Bool, true, if◌then◌else◌, List, [], ◌∷◌, ◌++◌, length, length-append, refl, sym, ◌∙◌, ap, ap₂, subst, arith}
-use Rattle.std.proofs.lemmas.Bool.Decides.{nat_tests}
 use Rattle.std.specs.Prelude.{slice_index}
 use Rattle.tv_bits.proofs.SizeLaws.{new_bits_sizes, bits_in_field, length-bits}
 use Rattle.tv_bits.proofs.SpelledNumbers.{value-bits_below, Spells-high, Spells-from_values}
@@ -31,7 +30,7 @@ use Rattle.tv_regs.specs.Picking.{kept_of, pick_of}
 use Rattle.tv_step.specs.Trace.{tape_cell}
 use Rattle.tv_word.proofs.WidthLaws.{width_short, for_widths}
 use Rattle.tv_word.specs.Widths.{IsWidth}
-use Rattle.tv_block.proofs.DataLaws.{no_touch, one_tape}
+use Rattle.tv_block.proofs.DataLaws.{no_touch, one_tape, word_power}
 use Rattle.tv_block.proofs.GateFills.{some_had}
 use Rattle.tv_block.proofs.GateLaws.{bit_times}
 use Rattle.tv_block.proofs.PartLaws.{flag-bit, selected_by}
@@ -42,14 +41,7 @@ use Rattle.tv_block.specs.Tapes.{AreTapes}
 use Rattle.tv_block.specs.Values.{data_values}
 use Rattle.tv_block.specs.declared.records.StateWires.{StateWires}
 use Rattle.tv_block.specs.declared.records.Tapes.{Tapes}
-
--- a word is a number of the field
-pub word_in_field : (w : ℕ) → IsWidth w → (x : ℕ) → x < 2 ^ w → x < P
-word_in_field w width x small = grind (arith, nat_tests)
-
--- how many bytes a word has, as a power
-word_power : (w : ℕ) → IsWidth w → 2 ^ (w / 16) ≡ w / 8
-word_power w width = for_widths (λ w. 2 ^ (w / 16) ≡ w / 8) refl refl w width
+use Rattle.tv_shift.proofs.ShiftSizes.{word-below}
 
 -- the cell of a word that an address has
 pub place_small : (w : ℕ) → IsWidth w → (a : ℕ) → a < 2 ^ w → a / (w / 8) < 2 ^ 30
@@ -70,7 +62,7 @@ data_filled w width z next n state op a t v i o takes short within o_small is_ta
     let size : w ≡ w / 16 + (w - w / 16) = omega arith in
     let cell_place : value (bits_combination (a.first + w / 16) (w - w / 16)) z ≡ at / (w / 8) =
     value-bits_below (Spells-high z a.first (w / 16) (w - w / 16) at (subst (λ k. Spells z a.first k at) size s)) (omega arith) ∙ ap (λ k. at / k) (word_power w width) in
-    let small : o < P = word_in_field w width o o_small in
+    let small : o < P = word-below w width o o_small in
     let bits = new_bits_of w next in
     let word = kept_of (bits_combination bits.answer.first w) bits.next in
     let memory_cell = pick_of (group op memory_ops) (bits_combination (a.first + w / 16) (w - w / 16)) (constant NULL_CELL) word.next in
@@ -131,7 +123,7 @@ old_small w n v i o takes h = either (touches v i || takes_primary v i n) o 0 h 
 
 pub data_in_field : (w : ℕ) → IsWidth w → (n : ℕ) (v : View) (i : Instr) (o : ℕ) (takes : Bool) → n < 2 ^ 29 → v.taken ≤ n → operand_word v i < 2 ^ w → o < 2 ^ w → InField (data_values w n v i o takes)
 data_in_field w width n v i o takes short within a_small o_small =
-    let os = word_in_field w width o o_small in
+    let os = word-below w width o o_small in
     let place = place_small w width (operand_word v i) a_small in
     let memory : ℕ = if touches v i then operand_word v i / (w / 8) else NULL_CELL in
     let memory_small : memory < P = either (touches v i) (operand_word v i / (w / 8)) NULL_CELL (omega arith) (omega arith) in

@@ -1,5 +1,5 @@
 -- Where an assignment has the values of the small circuits of a step, and where they end.
-use Rattle.std.proofs.Common.{◌≡◌, ◌≢◌, ℕ, ◌+◌, ◌-◌, ◌*◌, ◌%◌, ◌<◌, ◌==◌, not, ◌&&◌, Bool, true, false, if◌then◌else◌, List, ◌∷◌, ◌++◌, length, inl, inr, refl, sym, ◌∙◌, ap, ap₂, subst, arith, mul-zero, zero-mul}
+use Rattle.std.proofs.Common.{◌≡◌, ◌≢◌, ℕ, ◌+◌, ◌-◌, ◌*◌, ◌%◌, ◌<◌, ◌==◌, not, ◌&&◌, Bool, true, false, if◌then◌else◌, List, ◌∷◌, ◌++◌, length, inl, inr, refl, sym, ◌∙◌, ap, ap₂, subst, arith, mul-zero}
 use Rattle.std.specs.Prelude.{slice_index}
 use Rattle.std.proofs.lemmas.Bool.{cases_eq, eq-eqb, ne_eqb}
 use Rattle.tv_bits.proofs.BitLaws.{bit_cases}
@@ -16,6 +16,7 @@ use Rattle.tv_core.specs.Laws.{Assigns, Meets, HasFrom}
 use Rattle.tv_core.specs.declared.field.TheConstants.{P}
 use Rattle.tv_numbers.specs.Views.{flag_of}
 use Rattle.tv_block.specs.Gates.{if_zero_of, unless_zero_of, taking_of}
+use Rattle.tv_bits.proofs.SelectLaws.{times_zero}
 
 -- ---- what is had at the wires of a circuit, and behind them
 pub one_had : (z : List ℕ) (at next x : ℕ) (rest : List ℕ) → next ≡ at + 1 → HasFrom z at (x ∷ rest) → (slice_index z at ≡ x) × HasFrom z next rest
@@ -40,9 +41,6 @@ unless_zero_next g x next = refl
 inverse_times : (x g h : ℕ) → x < P → g < P → x ≢ 0 → h ≡ inverse_of x * g % P → x * h % P ≡ g
 inverse_times x g h xs gs some e = ap (λ n. x * n % P) e ∙ mul-mod_undone x (inverse_of x) g P (mul-inverse_of x (λ none. some (omega arith))) ∙ (let small : g % P ≡ g = omega arith in small)
 
-none_times : (x h : ℕ) → x ≡ 0 → x * h % P ≡ 0
-none_times x h e = ap (λ n. n * h % P) e ∙ ap (λ n. n % P) (zero-mul h)
-
 times_none : (x h : ℕ) → h ≡ 0 → x * h % P ≡ 0
 times_none x h e = ap (λ n. x * n % P) e ∙ ap (λ n. n % P) (mul-zero x)
 
@@ -62,7 +60,7 @@ if_zero_complete z next g x assigns w h =
   where
     by_cases : (value x z * slice_index z (next + 1) % P ≡ (value g z + (P - slice_index z next)) % P) × (value x z * slice_index z next % P ≡ 0)
     by_cases = elim (cases_eq (value x z) 0) [
-      | inl none ↦ (none_times (value x z) _ none ∙ sym (itself (value g z) (slice_index z next) (wire-below assigns next) (sym (w ∙ ap (λ b. if b then value g z else 0) (eq-eqb (value x z) 0 none)))), none_times (value x z) _ none)
+      | inl none ↦ (times_zero (value x z) _ none ∙ sym (itself (value g z) (slice_index z next) (wire-below assigns next) (sym (w ∙ ap (λ b. if b then value g z else 0) (eq-eqb (value x z) 0 none)))), times_zero (value x z) _ none)
       | inr some ↦
           let no : slice_index z next ≡ 0 = w ∙ ap (λ b. if b then value g z else 0) (ne_eqb (value x z) 0 some) in
           (inverse_times (value x z) (value g z) _ (value-below x z) (value-below g z) some h ∙ sym (less_none (value g z) _ (value-below g z) no), times_none (value x z) _ no)
@@ -78,7 +76,7 @@ unless_zero_complete z next g x assigns w h =
   where
     by_cases : (value x z * slice_index z (next + 1) % P ≡ slice_index z next) × (value x z * ((value g z + (P - slice_index z next)) % P) % P ≡ 0)
     by_cases = elim (cases_eq (value x z) 0) [
-      | inl none ↦ (none_times (value x z) _ none ∙ sym (w ∙ ap (λ b. if b then 0 else value g z) (eq-eqb (value x z) 0 none)), none_times (value x z) _ none)
+      | inl none ↦ (times_zero (value x z) _ none ∙ sym (w ∙ ap (λ b. if b then 0 else value g z) (eq-eqb (value x z) 0 none)), times_zero (value x z) _ none)
       | inr some ↦
           let same : slice_index z next ≡ value g z = w ∙ ap (λ b. if b then 0 else value g z) (ne_eqb (value x z) 0 some) in
           (inverse_times (value x z) (value g z) _ (value-below x z) (value-below g z) some h ∙ sym same, times_none (value x z) _ (itself (value g z) (slice_index z next) (wire-below assigns next) (sym same)))

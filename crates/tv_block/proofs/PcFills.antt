@@ -34,11 +34,11 @@ use Rattle.tv_numbers.specs.Numbers.{stepped}
 use Rattle.tv_numbers.specs.Views.{View}
 use Rattle.tv_regs.proofs.ChoiceLaws.{choose_complete, choose_next}
 use Rattle.tv_block.proofs.PcLaws.{entry_same, behind_by, target_by, other_by, sizes_small, constant_small}
-use Rattle.tv_block.proofs.DataFills.{word_in_field}
 use Rattle.tv_block.proofs.TapeFills.{either}
 use Rattle.tv_block.specs.Pc.{behind_in, target_in, pc_table, pc_of}
 use Rattle.tv_block.specs.Values.{pc_values}
 use Rattle.tv_block.specs.declared.records.StateWires.{StateWires}
+use Rattle.tv_shift.proofs.ShiftSizes.{word-below}
 
 pub pc_filled : (w : ℕ) → IsWidth w → (z : List ℕ) (next n : ℕ) (state : StateWires) (op : ℕ) (a : Bits) (v : View) (i : Instr) (o : ℕ) (takes : Bool) → v.pc < 2 ^ w → v.pc % (w / 4) ≡ 0 → IsBit v.flag
     → slice_index z state.pc ≡ v.pc → slice_index z state.flag ≡ v.flag → Assigns z → IsOneHot z op 32 i.op → Spells z a.first w (operand_word v i)
@@ -107,6 +107,6 @@ pc_in_field w width n v i o takes a_small pc_small =
     let k = (v.pc + (P - (2 ^ w - w / 4))) % P in
     let a = operand_word v i in
     let jumped : ℕ = if v.flag == 1 then target w a else behind_pc w v.pc in
-    let jumped_small : jumped < P = either (v.flag == 1) (target w a) (behind_pc w v.pc) (word_in_field w width (target w a) (target_small w width a a_small)) (word_in_field w width (behind_pc w v.pc) (behind_small w width v.pc)) in
+    let jumped_small : jumped < P = either (v.flag == 1) (target w a) (behind_pc w v.pc) (word-below w width (target w a) (target_small w width a a_small)) (word-below w width (behind_pc w v.pc) (behind_small w width v.pc)) in
     InField-append (zero_values k) (jumped ∷ (stepped w n v i o takes).pc ∷ []) (zero_in_field k)
-    (InField-cons jumped ((stepped w n v i o takes).pc ∷ []) jumped_small (InField-cons (stepped w n v i o takes).pc [] (word_in_field w width (stepped w n v i o takes).pc pc_small) InField-none))
+    (InField-cons jumped ((stepped w n v i o takes).pc ∷ []) jumped_small (InField-cons (stepped w n v i o takes).pc [] (word-below w width (stepped w n v i o takes).pc pc_small) InField-none))

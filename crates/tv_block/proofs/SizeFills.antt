@@ -17,7 +17,7 @@ use Rattle.tv_numbers.specs.Tables.{results, flags, pcs}
 use Rattle.tv_numbers.specs.Views.{View, ViewInRange}
 use Rattle.tv_word.specs.Widths.{IsWidth}
 use Rattle.tv_block.proofs.BlockFills.{block_next, block_fills}
-use Rattle.tv_block.proofs.DataFills.{word_in_field, data_in_field}
+use Rattle.tv_block.proofs.DataFills.{data_in_field}
 use Rattle.tv_block.proofs.FetchFills.{fetch_in_field}
 use Rattle.tv_block.proofs.GroupFills.{groups_in_field}
 use Rattle.tv_block.proofs.OperandFills.{operands_in_field}
@@ -29,6 +29,7 @@ use Rattle.tv_block.specs.Block.{block_of}
 use Rattle.tv_block.specs.Complete.{BlockSizes}
 use Rattle.tv_block.specs.Values.{fetch_values, operands_values, groups_values, tapes_values, data_values, store_values, result_values, pc_values, compute_values, block_values}
 use Rattle.tv_block.specs.declared.records.StateWires.{StateWires}
+use Rattle.tv_shift.proofs.ShiftSizes.{word-below}
 
 pub block_in_field : (w : ℕ) → IsWidth w → (n : ℕ) (v : View) (h u o : ℕ) (takes : Bool) → n < 2 ^ 29 → ViewInRange w n v → u < 2 ^ w → o < 2 ^ w → InField (block_values w n v h u o takes)
 block_in_field w width n v h u o takes short range us os =
@@ -36,7 +37,7 @@ block_in_field w width n v h u o takes short range us os =
     let x = other_word v i in
     let a = operand_word v i in
     let register : (j : ℕ) → slice_index v.regs j < 2 ^ w = λ j. word_at w width v.regs j range.words in
-    let field : (y : ℕ) → y < 2 ^ w → y < P = word_in_field w width in
+    let field : (y : ℕ) → y < 2 ^ w → y < P = word-below w width in
     let a_small : a < 2 ^ w = cond_both i.imm i.a (slice_index v.regs (i.a % 16)) (λ y. y < 2 ^ w) (λ _. us) (λ _. register (i.a % 16)) in
     let x_small : x < 2 ^ w = cond_both _ (slice_index v.regs i.dest) (slice_index v.regs i.source) (λ y. y < 2 ^ w) (λ _. register i.dest) (λ _. register i.source) in
     let result : result_in w n v i o takes < 2 ^ w = chosen_in (λ y. y < 2 ^ w) (results w x a o (found w n v i o takes)) i.op (some_words w width) (results_small w width x a o (found w n v i o takes) x_small a_small os) in

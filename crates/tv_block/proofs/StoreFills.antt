@@ -1,10 +1,10 @@
 -- Where an assignment has the values of a byte of the data word and of the word after the step.
-use Rattle.std.proofs.Common.{◌≡◌, ℕ, zero, suc, ◌+◌, ◌-◌, ◌*◌, ◌/◌, ◌%◌, ◌^◌, ◌<◌, ◌==◌, Bool, true, false, if◌then◌else◌, List, [], ◌∷◌, ◌++◌, length, length-append, refl, sym, ◌∙◌, ap, ap₂, subst, arith, mod-lt}
+use Rattle.std.proofs.Common.{◌≡◌, ℕ, zero, suc, ◌+◌, ◌-◌, ◌*◌, ◌/◌, ◌%◌, ◌^◌, ◌<◌, ◌==◌, Bool, true, false, if◌then◌else◌, List, [], ◌∷◌, ◌++◌, length, length-append, refl, sym, ◌∙◌, ap, ap₂, subst, arith}
 use Rattle.std.specs.Int.{bit_at}
 use Rattle.std.specs.Prelude.{slice_index}
 use Rattle.tv_bits.proofs.SelectLaws.{select_sound, select_complete, select_next}
 use Rattle.tv_bits.proofs.SpelledNumbers.{value-bits_below, Spells-below, Spells-low, Spells-bit_at}
-use Rattle.tv_bits.proofs.TimesLaws.{times_sound, times_complete, times_next}
+use Rattle.tv_bits.proofs.TimesLaws.{times_sound, times_complete, times_next, residue_below}
 use Rattle.tv_bits.specs.Bit.{IsBit}
 use Rattle.tv_bits.specs.Bits.{Spells, bits_combination}
 use Rattle.tv_bits.specs.OneHot.{IsOneHot}
@@ -28,12 +28,12 @@ use Rattle.tv_regs.proofs.ChoiceLaws.{group_sound}
 use Rattle.tv_regs.proofs.PickLaws.{pick_sound, pick_complete, pick_next}
 use Rattle.tv_regs.specs.Choices.{group}
 use Rattle.tv_regs.specs.Picking.{pick_of}
-use Rattle.tv_word.proofs.WidthLaws.{for_widths}
+use Rattle.tv_word.proofs.WidthLaws.{for_widths, word_small}
 use Rattle.tv_word.specs.Widths.{IsWidth}
-use Rattle.tv_block.proofs.DataFills.{word_in_field, old_small as old_in_field}
+use Rattle.tv_block.proofs.DataFills.{old_small as old_in_field}
 use Rattle.tv_block.proofs.GateFills.{some_had}
 use Rattle.tv_block.proofs.PartLaws.{flag-bit, selected_by}
-use Rattle.tv_block.proofs.StoreLaws.{byte_value, two_byte, two_power, byte_by, power_is, value-power_by, put_in_by, patch_sound, place_small, word_small}
+use Rattle.tv_block.proofs.StoreLaws.{byte_value, two_byte, two_power, byte_by, power_is, value-power_by, put_in_by, patch_sound, place_small}
 use Rattle.tv_block.proofs.TapeFills.{either}
 use Rattle.tv_block.proofs.TapeLaws.{among_one}
 use Rattle.tv_block.specs.Data.{AreData}
@@ -42,6 +42,8 @@ use Rattle.tv_block.specs.Store.{store_of, patch_of, patch_of_two, patch_of_four
 use Rattle.tv_block.specs.Values.{gained, patch_two_values, patch_four_values, patch_values, store_values}
 use Rattle.tv_block.specs.declared.records.Data.{Data}
 use Rattle.tv_block.specs.declared.records.Operands.{Operands}
+use Rattle.tv_mem.proofs.WordLaws.{rest_in}
+use Rattle.tv_shift.proofs.ShiftSizes.{word-below}
 
 two_filled : (z : List ℕ) (next : ℕ) (bits a x : Bits) (o at v : ℕ) → Assigns z → Spells z bits.first 16 o → Spells z a.first 16 at → Spells z x.first 16 v
     → HasFrom z next (patch_two_values o at v) → Meets z (patch_of_two bits a x next).list
@@ -173,9 +175,6 @@ store_fills w width n op operands d v i o takes next = store_next w width op ope
 byte_below : (o j : ℕ) → byte_of o j < P
 byte_below o j = omega arith
 
-modulo : (n : ℕ) → n % P < P
-modulo n = mod-lt n (omega arith)
-
 power_small : (j : ℕ) → j < 4 → 256 ^ j < P
 power_small zero h = omega arith
 power_small (suc zero) h = omega arith
@@ -185,7 +184,7 @@ power_small (suc (suc (suc (suc k)))) h = absurd (omega arith)
 
 two_in_field : (o at v : ℕ) → InField (patch_two_values o at v)
 two_in_field o at v =
-    InField-cons (byte_of o (at % 2)) (gained o (at % 2) v ∷ []) (byte_below o (at % 2)) (InField-cons (gained o (at % 2) v) [] (modulo (256 ^ (at % 2) * ((v % 256 + (P - byte_of o (at % 2))) % P))) InField-none)
+    InField-cons (byte_of o (at % 2)) (gained o (at % 2) v ∷ []) (byte_below o (at % 2)) (InField-cons (gained o (at % 2) v) [] (residue_below (256 ^ (at % 2) * ((v % 256 + (P - byte_of o (at % 2))) % P))) InField-none)
 
 four_in_field : (o at v : ℕ) → InField (patch_four_values o at v)
 four_in_field o at v =
@@ -198,7 +197,7 @@ four_in_field o at v =
     (InField-cons high v3 (either (at % 2 == 1) (byte_of o 3) (byte_of o 2) (byte_below o 3) (byte_below o 2))
     (InField-cons (byte_of o (at % 4)) v4 (byte_below o (at % 4))
     (InField-cons (256 ^ (at % 4)) v5 (power_small (at % 4) (omega arith))
-    (InField-cons (gained o (at % 4) v) [] (modulo (256 ^ (at % 4) * ((v % 256 + (P - byte_of o (at % 4))) % P))) InField-none))))
+    (InField-cons (gained o (at % 4) v) [] (residue_below (256 ^ (at % 4) * ((v % 256 + (P - byte_of o (at % 4))) % P))) InField-none))))
 
 patch_in_field : (w o at v : ℕ) → InField (patch_values w o at v)
 patch_in_field w o at v = by (w == 16)
@@ -207,17 +206,14 @@ patch_in_field w o at v = by (w == 16)
     by true = two_in_field o at v
     by false = four_in_field o at v
 
-place_below : (w : ℕ) → IsWidth w → (at : ℕ) → at % (w / 8) < w / 8
-place_below w width at = for_widths (λ w. at % (w / 8) < w / 8) (omega arith) (omega arith) w width
-
 pub store_in_field : (w : ℕ) → IsWidth w → (n : ℕ) (v : View) (i : Instr) (o : ℕ) (takes : Bool) → other_word v i < 2 ^ w → o < 2 ^ w → InField (store_values w n v i o takes)
 store_in_field w width n v i o takes x_small o_small =
     let j = operand_word v i % (w / 8) in
-    let os = word_in_field w width o o_small in
-    let xs = word_in_field w width (other_word v i) x_small in
+    let os = word-below w width o o_small in
+    let xs = word-below w width (other_word v i) x_small in
     let old : old_in w n v i o takes < P = old_in_field w n v i o takes os in
     let with : ℕ = if i.op == 26 then with_byte_in o j (other_word v i % 256) else old_in w n v i o takes in
-    let put : with_byte_in o j (other_word v i % 256) < P = word_in_field w width (with_byte_in o j (other_word v i % 256)) (with_byte_small w width o j (other_word v i % 256) (place_below w width (operand_word v i)) o_small (omega arith)) in
+    let put : with_byte_in o j (other_word v i % 256) < P = word-below w width (with_byte_in o j (other_word v i % 256)) (with_byte_small w width o j (other_word v i % 256) (rest_in w width (operand_word v i)) o_small (omega arith)) in
     let with_small : with < P = either (i.op == 26) (with_byte_in o j (other_word v i % 256)) (old_in w n v i o takes) put old in
     InField-append (patch_values w o (operand_word v i) (other_word v i)) (with ∷ (data_line w n v i o takes 0).new ∷ []) (patch_in_field w o (operand_word v i) (other_word v i))
     (InField-cons with ((data_line w n v i o takes 0).new ∷ []) with_small

@@ -25,7 +25,7 @@ use Rattle.tv_regs.proofs.ChoiceLaws.{group_sound}
 use Rattle.tv_regs.proofs.PickLaws.{pick_sound}
 use Rattle.tv_regs.specs.Choices.{group}
 use Rattle.tv_regs.specs.Picking.{pick_of}
-use Rattle.tv_word.proofs.WidthLaws.{for_widths}
+use Rattle.tv_word.proofs.WidthLaws.{for_widths, word_small}
 use Rattle.tv_word.specs.Widths.{IsWidth}
 use Rattle.tv_block.proofs.PartLaws.{flag-bit, selected_by}
 use Rattle.tv_block.proofs.TapeLaws.{among_one}
@@ -172,10 +172,6 @@ four_patch = four_sound
 
 pub patch_sound : (w : ℕ) → IsWidth w → PatchIsSound w
 patch_sound w width = for_widths PatchIsSound two_patch four_patch w width
-
--- a word has at most four bytes
-pub word_small : (w : ℕ) → IsWidth w → (o : ℕ) → o < 2 ^ w → o < 2 ^ 32
-word_small w width = for_widths (λ w. (o : ℕ) → o < 2 ^ w → o < 2 ^ 32) (λ o h. omega arith) (λ o h. h) w width
 
 pub place_small : (w : ℕ) → IsWidth w → (at : ℕ) → at % (w / 8) < 4
 place_small w width = for_widths (λ w. (at : ℕ) → at % (w / 8) < 4) (λ at. omega arith) (λ at. omega arith) w width

@@ -45,6 +45,7 @@ use Rattle.tv_block.specs.declared.records.Operands.{Operands}
 use Rattle.tv_block.specs.declared.records.StateWires.{StateWires}
 use Rattle.tv_block.specs.declared.records.Store.{Store}
 use Rattle.tv_block.specs.declared.records.Tapes.{Tapes}
+use Rattle.tv_numbers.proofs.RangeLaws.{flag_small}
 
 module _ (w : ℕ) (width : IsWidth w) (z : List ℕ) (assigns : Assigns z) (n : ℕ) (v : View) (i : Instr) (takes : Bool) (o : ℕ) (operands : Operands) (g : Groups) (d : Data) (s : Store) (are : AreOperands w z operands v i) (gs : AreGroups w z g (other_word v i) (operand_word v i)) (ds : AreData w z d n v i takes o) (ss : AreStore w z s n v i takes o) where
   word_is : (first v : ℕ) → Spells z first w v → value (bits_combination first w) z ≡ v
@@ -84,9 +85,6 @@ not_found true true apart = absurd (no (apart refl))
 not_found true false apart = refl
 not_found false true apart = refl
 not_found false false apart = refl
-
-flag_small : (b : Bool) → flag_of b < 2
-flag_small b = flag-bit b
 
 module _ (w : ℕ) (width : IsWidth w) (z : List ℕ) (assigns : Assigns z) (n : ℕ) (v : View) (i : Instr) (o : ℕ) (state : StateWires) (operands : Operands) (g : Groups) (t : Tapes) (are : AreOperands w z operands v i) (gs : AreGroups w z g (other_word v i) (operand_word v i)) (ts : AreTapes z t n v i) (apart : takes_primary v i n ≡ true → took z t ≡ false) (flag : slice_index z state.flag ≡ v.flag) where
   pub flags_same : numbers z (flag_table w state operands g t) ≡ flags w (other_word v i) (operand_word v i) (found w n v i o (took z t)) v.flag

@@ -1,9 +1,9 @@
 -- Where an assignment has the values of what a step does to the tapes.
-use Rattle.std.proofs.Common.{◌≡◌, ℕ, ◌+◌, ◌-◌, ◌*◌, ◌/◌, ◌%◌, ◌^◌, ◌<◌, ◌≤◌, ◌==◌, not, ◌&&◌, Bool, true, false, if◌then◌else◌, List, [], ◌∷◌, ◌++◌, refl, sym, ◌∙◌, ap, ap₂, subst, arith, mod-lt}
+use Rattle.std.proofs.Common.{◌≡◌, ℕ, ◌+◌, ◌-◌, ◌*◌, ◌/◌, ◌%◌, ◌^◌, ◌<◌, ◌≤◌, ◌==◌, not, ◌&&◌, Bool, true, false, if◌then◌else◌, List, [], ◌∷◌, ◌++◌, refl, sym, ◌∙◌, ap, ap₂, subst, arith}
 use Rattle.std.specs.Int.{bit_at}
 use Rattle.std.specs.Prelude.{slice_index}
 use Rattle.tv_bits.proofs.SpelledNumbers.{value-bits_below, Spells-high, Spells-bit_at}
-use Rattle.tv_bits.proofs.TimesLaws.{times_sound, times_complete, times_next}
+use Rattle.tv_bits.proofs.TimesLaws.{times_sound, times_complete, times_next, residue_below}
 use Rattle.tv_bits.specs.Bit.{IsBit}
 use Rattle.tv_bits.specs.Bits.{Spells, bits_combination}
 use Rattle.tv_bits.specs.OneHot.{IsOneHot}
@@ -95,9 +95,6 @@ tapes_takes w z next n state op a v i o takes has = has.1.1.1.1.1.1.0
 pub tapes_fills : (w n : ℕ) (state : StateWires) (op : ℕ) (a : Bits) (v : View) (i : Instr) (o : ℕ) (takes : Bool) → Fills (tapes_of w n state op a) (tapes_values w n v i o takes)
 tapes_fills w n state op a v i o takes next = tapes_next w n state op a next
 
-modulo : (n : ℕ) → n % P < P
-modulo n = mod-lt n (omega arith)
-
 pub flag_in_field : (b : Bool) → flag_of b < P
 flag_in_field true = omega arith
 flag_in_field false = omega arith
@@ -118,10 +115,10 @@ tapes_in_field w n v i o takes short within bit =
     let v3 : List ℕ = flag_of (k && (a == 1)) ∷ v4 in
     let v2 : List ℕ = inverse_of (a / 2) * flag_of k % P ∷ v3 in
     InField-cons (if a / 2 == 0 then flag_of k else 0) v2 (either (a / 2 == 0) (flag_of k) 0 (flag_in_field k) (omega arith))
-    (InField-cons (inverse_of (a / 2) * flag_of k % P) v3 (modulo (inverse_of (a / 2) * flag_of k))
+    (InField-cons (inverse_of (a / 2) * flag_of k % P) v3 (residue_below (inverse_of (a / 2) * flag_of k))
     (InField-cons (flag_of (k && (a == 1))) v4 (flag_in_field (k && (a == 1)))
     (InField-cons (flag_of (takes_primary v i n)) v5 (flag_in_field (takes_primary v i n))
-    (InField-cons (inverse_of (n - v.taken) * flag_of (k && (a == 0)) % P) v6 (modulo (inverse_of (n - v.taken) * flag_of (k && (a == 0))))
+    (InField-cons (inverse_of (n - v.taken) * flag_of (k && (a == 0)) % P) v6 (residue_below (inverse_of (n - v.taken) * flag_of (k && (a == 0))))
     (InField-cons (stepped w n v i o takes).taken v7 (either (takes_primary v i n) (v.taken + 1) v.taken (omega arith) (omega arith))
     (InField-cons (flag_of takes) v8 (flag_in_field takes)
     (InField-cons (stepped w n v i o takes).ended [] (either (asks v i && not takes) 1 v.ended (omega arith) (omega arith)) InField-none)))))))

@@ -1,5 +1,5 @@
 -- That a step's values are given from what a trace tells of it.
-use Rattle.std.proofs.Common.{◌≡◌, ℕ, ◌+◌, ◌-◌, ◌/◌, ◌<◌, Bool, true, false, List, length, refl, ◌∙◌, ap, ap₂, arith}
+use Rattle.std.proofs.Common.{◌≡◌, ℕ, ◌+◌, ◌-◌, ◌/◌, Bool, List, length, refl, ◌∙◌, ap, ap₂, arith}
 use Rattle.tv_core.specs.Lines.{Line}
 use Rattle.tv_mem.proofs.WordLaws.{words_are_small}
 use Rattle.tv_numbers.proofs.ShownLaws.{seen_in_range}
@@ -10,16 +10,13 @@ use Rattle.tv_step.specs.Reads.{reads_aux}
 use Rattle.tv_step.specs.Trace.{data_line}
 use Rattle.tv_block.proofs.MachineFills.{taken_small}
 use Rattle.tv_block.specs.Told.{StepsAreGiven}
+use Rattle.tv_numbers.proofs.RangeLaws.{flag_small}
 
 -- values of the same are the same
 pub same_values : (f : View → ℕ → ℕ → ℕ → Bool → List ℕ) {v v2 : View} {h h2 u u2 o o2 : ℕ} {b b2 : Bool}
     → v ≡ v2 → h ≡ h2 → u ≡ u2 → o ≡ o2 → b ≡ b2 → f v h u o b ≡ f v2 h2 u2 o2 b2
 same_values f {v} {v2} {h} {h2} {u} {u2} {o} {o2} {b} {b2} p q r s t =
     ap₂ (λ (x : View) (y : ℕ). f x y u o b) p q ∙ (ap₂ (λ (x y : ℕ). f v2 h2 x y b) r s ∙ ap (f v2 h2 u2 o2) t)
-
-flag_small : (b : Bool) → flag_of b < 2
-flag_small true = omega arith
-flag_small false = omega arith
 
 pub steps_are_given : StepsAreGiven
 steps_are_given w width n m time st ended short range =

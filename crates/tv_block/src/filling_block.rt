@@ -1,4 +1,4 @@
-ghost use Rattle.std.specs.Prelude.{◌≡◌, ◌<◌, ◌^◌, ◌∷◌, false, OnOk, slice_index};
+ghost use Rattle.std.specs.Prelude.{◌≡◌, ◌<◌, ◌^◌, false, OnOk, slice_index};
 ghost use Rattle.tv_block.specs.Complete.{step_values};
 ghost use Rattle.tv_block.specs.Filling.{numbers_view, view_of, AreNumbers, effects_values};
 ghost use Rattle.tv_block.specs.Values.{compute_values, block_values};

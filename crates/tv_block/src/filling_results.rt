@@ -1,4 +1,4 @@
-ghost use Rattle.std.specs.Prelude.{◌≡◌, ◌<◌, ◌^◌, ◌==◌, Bool, if◌then◌else◌, [], ◌∷◌, false, OnOk};
+ghost use Rattle.std.specs.Prelude.{◌≡◌, ◌<◌, ◌^◌, ◌==◌, if◌then◌else◌, [], ◌∷◌, false, OnOk};
 ghost use Rattle.tv_block.specs.Filling.{view_of, AreNumbers};
 ghost use Rattle.tv_block.specs.Values.{result_values};
 ghost use Rattle.tv_core.specs.Giving.{GivesIn};

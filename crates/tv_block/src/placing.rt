@@ -1,11 +1,10 @@
-ghost use Rattle.std.specs.Prelude.{◌≡◌, ◌+◌, ◌*◌, ◌/◌, ◌<◌, ◌≤◌, ◌^◌, ◌++◌, ℕ};
+ghost use Rattle.std.specs.Prelude.{◌≡◌, ◌+◌, ◌*◌, ◌/◌, ◌<◌, ◌≤◌, ◌^◌, ℕ};
 ghost use Rattle.std.specs.List.{range_with_len};
 ghost use Rattle.tv_block.specs.Block.{word_inverse, cell_of};
 ghost use Rattle.tv_block.specs.Complete.{block_made};
 ghost use Rattle.tv_block.specs.declared.records.StateWires.{StateWires};
-ghost use Rattle.tv_block.specs.Places.{operands_at, tapes_at, data_at, store_at, result_at};
-ghost use Rattle.tv_block.specs.Places.{next_state, first_line, second_line, third_line};
-ghost use Rattle.tv_block.specs.Places.{block_wires, IsShort};
+ghost use Rattle.tv_block.specs.Places.{tapes_at, data_at, store_at, result_at, next_state};
+ghost use Rattle.tv_block.specs.Places.{first_line, second_line, third_line, block_wires, IsShort};
 ghost use Rattle.tv_block.specs.Under.{StateUnder, LineUnder};
 ghost use Rattle.tv_lines.specs.Placed.{line_in};
 ghost use Rattle.tv_regs.specs.Reading.{wires_top};

@@ -1,4 +1,4 @@
-ghost use Rattle.std.specs.Prelude.{◌≡◌, ◌+◌, ◌≤◌, ◌<◌, ◌^◌, ℕ, IfOk};
+ghost use Rattle.std.specs.Prelude.{◌+◌, ◌≤◌, ◌<◌, ◌^◌, ℕ, IfOk};
 ghost use Rattle.tv_block.specs.Block.{compute_of, block_of, step_of};
 ghost use Rattle.tv_block.specs.Complete.{compute_made, compute_added, block_made, block_added};
 ghost use Rattle.tv_block.specs.Under.{StateUnder, FetchedUnder, OperandsUnder};

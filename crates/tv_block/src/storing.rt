@@ -1,4 +1,4 @@
-ghost use Rattle.std.specs.Prelude.{◌≡◌, ◌+◌, ◌*◌, ◌-◌, ◌≤◌, ◌<◌, ◌^◌, ◌++◌, length, max, IfOk};
+ghost use Rattle.std.specs.Prelude.{◌≡◌, ◌+◌, ◌*◌, ◌-◌, ◌≤◌, ◌<◌, ◌^◌, length, max, IfOk};
 ghost use Rattle.tv_block.specs.Store.{byte_of_bits, power_by, patch_of_two, patch_of_four};
 ghost use Rattle.tv_block.specs.Store.{patch_of, store_of};
 ghost use Rattle.tv_block.specs.Under.{OperandsUnder, DataUnder, PatchUnder, StoreUnder};

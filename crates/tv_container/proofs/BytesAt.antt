@@ -1,8 +1,7 @@
 -- Bytes that stand at a place of a file, and what a reader makes of them.
-use Rattle.std.proofs.Common.{◌≡◌, ℕ, zero, suc, ◌+◌, ◌*◌, ◌/◌, ◌^◌, ◌<◌, ◌≤◌, List, [], ◌∷◌, ◌++◌, length, take, drop, ◌-◌, true, false, Ok, append_assoc, append-nil, ap, refl, sym, ◌∙◌, arith}
+use Rattle.std.proofs.Common.{◌≡◌, ℕ, suc, ◌+◌, ◌^◌, ◌<◌, ◌≤◌, List, [], ◌∷◌, ◌++◌, length, take, drop, ◌-◌, true, false, Ok, append_assoc, append-nil, ap, refl, sym, ◌∙◌, arith}
 use Rattle.std.proofs.lemmas.Bool.Decides.{nat_tests}
 use Rattle.std.proofs.lemmas.List.{length-append}
-use Rattle.std.proofs.Math.Nat.{pow-succ', pow-zero}
 use Rattle.std.proofs.Math.Seq.{drop-append_seam, take-append_seam}
 use Rattle.tv_core.specs.declared.field.TheConstants.{P}
 use Rattle.tv_word.specs.Word.{low_bytes, spelled}
@@ -12,6 +11,7 @@ use Rattle.tv_container.specs.Places.{number, places}
 use Rattle.tv_container.specs.Sections.{stands_already, sections_from, sections_of}
 use Rattle.tv_container.specs.declared.sections.Section.{Section}
 use Rattle.tv_container.proofs.SectionLemmas.{fit-within, section_at-read, sections_from-next, sections_in-version, sections_of-counted, this_field-prime}
+use Rattle.tv_word.proofs.ByteLaws.{spelled-low_bytes}
 
 -- a file has these bytes at a place
 pub record At (file : List ℕ) (at : ℕ) (bytes : List ℕ) : Type 0 where
@@ -54,14 +54,6 @@ number_at file at size bytes a is =
     ∙ ap (take size) (drop-append_seam a.front (bytes ++ a.back))
     ∙ ap (λ n. take n (bytes ++ a.back)) (sym is)
     ∙ take-append_seam bytes a.back)
-
--- the lowest bytes of a number spell it, where there are so many
-spelled-low_bytes : (n v : ℕ) → v < 256 ^ n → spelled (low_bytes n v) ≡ v
-spelled-low_bytes zero v h = let none : v < 1 = rw (pow-zero 256) at h in omega arith
-spelled-low_bytes (suc n) v h =
-    let long : v < 256 * 256 ^ n = rw (pow-succ' 256 n) at h in
-    let above : v / 256 < 256 ^ n = omega arith in
-    omega (arith, spelled-low_bytes n (v / 256) above)
 
 pub length-four_bytes : (v : ℕ) → length (four_bytes v) ≡ 4
 unfolding four_bytes

@@ -56,6 +56,12 @@ module _ {z : List ℕ} (assigns : Assigns z) where
   pub value-constant : (c : ℕ) → value (constant c) z ≡ c % P
   value-constant c = rw (assigns.one) (ap (λ n. n % P) (omega arith))
 
+-- one times a number of the field is that number
+pub value-once : (z : List ℕ) (x : Combination) → Assigns z → value x z * value (constant 1) z % P ≡ value x z
+value-once z x assigns =
+    let small = value-below x z in
+    ap (λ k. value x z * k % P) (value-constant assigns 1) ∙ omega arith
+
 pub value-less : (x y : Combination) (z : List ℕ) → value (less x y) z ≡ (value x z + (P - value y z)) % P
 value-less x y z = value-append x (scaled (P - 1) y) z ∙ ap (λ n. (value x z + n) % P) (value-scaled (P - 1) y z) ∙ negated (value x z) (value y z) (value-below y z)
 

@@ -1,8 +1,6 @@
-ghost use Rattle.std.specs.Prelude.{◌≡◌, ℕ, ◌+◌, ◌*◌, ◌%◌, ◌<◌, ◌≤◌, List, [], ◌∷◌, ◌++◌, length};
-ghost use Rattle.std.specs.Prelude.{max, map};
+ghost use Rattle.std.specs.Prelude.{◌≡◌, ℕ, ◌+◌, ◌*◌, ◌<◌, ◌≤◌, List, [], ◌∷◌, ◌++◌, length, max};
 ghost use Rattle.tv_core.specs.Constraints.{value};
 ghost use Rattle.tv_core.specs.Combinations.{wire, constant, one_less, scaled, less, top};
-ghost use Rattle.arrayvec.specs.ArrayVec.{array_vec_len};
 
 use crate::field::F;
 use crate::wire::Wire;

@@ -1,4 +1,4 @@
-ghost use Rattle.std.specs.Prelude.{◌≡◌, [], false, refl};
+ghost use Rattle.std.specs.Prelude.{◌≡◌, [], false};
 ghost use Rattle.tv_core.specs.Meanings.{Kept, kept_giving};
 
 use crate::field::F;

@@ -8,13 +8,13 @@ use Rattle.std.proofs.lemmas.List.Splits.{length-slice_split, slice_split_at}
 use Rattle.std.specs.List.{All, AllByRecursion, flat_map, slice_split}
 use Rattle.std.specs.Simd.{first_chunks}
 use Rattle.std.specs.Str.Lines.{strip_carriage_return}
-use Rattle.tv_asm.proofs.TextLemmas.{lines-nil}
+use Rattle.tv_asm.proofs.TextLemmas.{lines-nil, lines_of-cons}
 use Rattle.tv_asm.specs.Assembly.{assembled, image_of, line_words, with_line}
 use Rattle.tv_asm.specs.Header.{is_good_header, is_header_of_16, width_of}
 use Rattle.tv_asm.specs.Labels.{address, is_defined}
 use Rattle.tv_asm.specs.Line.{code_says}
 use Rattle.tv_asm.specs.Text.{lines, lines_of, trimmed}
-use Rattle.tv_word.proofs.WidthLaws.{for_widths}
+use Rattle.tv_word.proofs.WidthLaws.{for_widths, word_bits}
 use Rattle.tv_word.specs.Widths.{IsWidth}
 use Rattle.tv_word.specs.Word.{low_bytes, spelled, word_at}
 use Rattle.tv_disasm.specs.Disassembly.{disassembly_of, header_of, two_words_text}
@@ -25,10 +25,6 @@ use Rattle.tv_disasm.proofs.WordLemmas.{apart, apart_from, is_line_byte, is_word
 
 abbrev is_line_feed : ℕ → Bool
 is_line_feed c = c == 10
-
-lines_of-cons : (piece : List ℕ) (pieces : List (List ℕ)) → 0 < length pieces → lines_of (piece ∷ pieces) ≡ strip_carriage_return piece ∷ lines_of pieces
-lines_of-cons piece [] h = absurd (omega arith)
-lines_of-cons piece (next ∷ more) h = refl
 
 no_return : (line : List ℕ) → IsLine line → strip_carriage_return line ≡ line
 no_return line h =
@@ -98,9 +94,6 @@ spelled-below (suc n) (b ∷ bs) h =
     let byte = All-head (λ c. c < 256) b bs h in
     let more = spelled-below n bs (All-tail (λ c. c < 256) b bs h) in
     rw (pow-succ' 256 n) (omega arith)
-
-word_bits : (w : ℕ) → IsWidth w → 256 ^ (w / 8) ≡ 2 ^ w
-word_bits = for_widths (λ w. 256 ^ (w / 8) ≡ 2 ^ w) refl refl
 
 take-IsTwo : (w : ℕ) → IsWidth w → (bytes : List ℕ) → All (λ b. b < 256) bytes → IsTwo w (take (w / 4) bytes)
 take-IsTwo w width bytes h =

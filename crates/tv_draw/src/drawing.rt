@@ -1,7 +1,6 @@
 ghost use Rattle.std.specs.Prelude.{◌≡◌, ◌++◌, ◌≤◌, ◌<◌, ◌^◌, IfOk, OnOk};
-ghost use Rattle.tv_core.specs.Below.{joined_below};
-ghost use Rattle.tv_draw.specs.Drawing.{state_at, word_at, instr_in, words_drawn, image_drawn};
-ghost use Rattle.tv_draw.specs.Drawing.{tape_drawn, aux_drawn, IsDrawn};
+ghost use Rattle.tv_draw.specs.Drawing.{state_at, words_drawn, image_drawn, tape_drawn, aux_drawn};
+ghost use Rattle.tv_draw.specs.Drawing.{IsDrawn};
 ghost use Rattle.tv_isa.specs.Instruction.{encode, IsInstruction};
 
 use crate::instruction::instruction;

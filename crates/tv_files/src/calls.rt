@@ -1,5 +1,4 @@
 //! The trait through which every byte of the outside world is read and written.
-ghost use Rattle.std.specs.Prelude.{ℕ};
 ghost use Rattle.tv_files.specs.Outside.{Outside};
 ghost use Rattle.tv_files.specs.Calls.{Reads, Creates, Appends, Says};
 

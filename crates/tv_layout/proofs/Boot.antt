@@ -1,5 +1,5 @@
 -- What an assignment has at boot lines and padding, and lines whose times are their places.
-use Rattle.std.proofs.Common.{◌≡◌, ℕ, zero, suc, ◌+◌, ◌<◌, ◌≤◌, ◌^◌, List, [], ◌∷◌, ◌++◌, length, map, refl, sym, ap, ap₂, ◌∙◌, arith, subst, inl, inr}
+use Rattle.std.proofs.Common.{◌≡◌, ℕ, zero, suc, ◌+◌, ◌<◌, ◌≤◌, ◌^◌, List, [], ◌∷◌, ◌++◌, length, map, refl, sym, ap, ap₂, ◌∙◌, arith, subst}
 use Rattle.std.proofs.lemmas.List.Elements.{All-head, All-tail}
 use Rattle.std.proofs.lemmas.List.{length-append, map-append, length-map}
 use Rattle.std.specs.List.{range_with_len}
@@ -14,15 +14,9 @@ use Rattle.tv_lines.specs.Placed.{LinesFrom}
 use Rattle.tv_step.specs.Cells.{boot_from, boot_lines}
 use Rattle.tv_step.specs.Range.{AreWords}
 use Rattle.tv_step.specs.Trace.{null_line}
-use Rattle.tv_word.specs.Widths.{IsWidth}
 use Rattle.tv_layout.specs.Layout.{boot_wires, boot_lines_of, padding_of}
 use Rattle.tv_layout.specs.Places.{tape_at}
 use Rattle.tv_layout.specs.Sound.{padding}
-
--- a word of w bits is one of 32 bits
-pub word_fits : (w : ℕ) → IsWidth w → (v : ℕ) → v < 2 ^ w → v < 2 ^ 32
-word_fits w (inl e) v h = let small : v < 2 ^ 16 = rw e at h in omega arith
-word_fits w (inr e) v h = rw e at h
 
 -- ---- as numbers
 module _ (z : List ℕ) (assigns : Assigns z) where

@@ -28,7 +28,6 @@ use Rattle.tv_step.specs.Machine.{start, state_after, Accepts}
 use Rattle.tv_step.specs.Range.{AreWords, InRange}
 use Rattle.tv_step.specs.Reads.{ended_after, Reads}
 use Rattle.tv_step.specs.Runs.{Answering}
-use Rattle.tv_layout.proofs.Boot.{word_fits}
 use Rattle.tv_layout.proofs.Ends.{words_met, none_met, tie_met}
 use Rattle.tv_layout.proofs.Positions.{layout_meets, layout_next, last_of, log_some, log_within, memory_at}
 use Rattle.tv_layout.proofs.RunLines.{input, run_placed, run_few, run_honest}
@@ -40,6 +39,7 @@ use Rattle.tv_layout.specs.Layout.{steps_of, lines_of, layout_of, layout, taken_
 use Rattle.tv_layout.specs.Places.{WithinLimits, boot_count, line_count, log_of, tape_at, none_at, first_at}
 use Rattle.tv_layout.specs.Sound.{padding, all_lines}
 use Rattle.tv_layout.specs.Values.{step_values, fill, IsFill}
+use Rattle.tv_word.proofs.WidthLaws.{word_small}
 
 -- an assignment has a list where its places say so
 pub has_by_places : (z : List ℕ) (k : ℕ) (xs : List ℕ) → ((i : ℕ) → i < length xs → slice_index z (k + i) ≡ slice_index xs i) → HasFrom z k xs
@@ -88,8 +88,8 @@ module _ (w : ℕ) (net : Net) (block : BlockCircuit) (made : ℕ) (values : Blo
 
   in_field : InField z
   in_field =
-      let answer : v < P = let fit = word_fits w fits.width v small in omega arith in
-      let tape : InField x = All-weaker (λ v. v < 2 ^ w) (λ v. v < P) (λ v k. let fit = word_fits w fits.width v k in omega arith) x x_words in
+      let answer : v < P = let fit = word_small w fits.width v small in omega arith in
+      let tape : InField x = All-weaker (λ v. v < 2 ^ w) (λ v. v < P) (λ v k. let fit = word_small w fits.width v k in omega arith) x x_words in
       InField-cons 1 ((v ∷ x) ++ (bits ++ (0 ∷ (blocks ++ lasts)))) (omega arith) (InField-append (v ∷ x) (bits ++ (0 ∷ (blocks ++ lasts))) (InField-cons v x answer tape)
       (InField-append bits (0 ∷ (blocks ++ lasts)) (InField-joined_below (λ i. bits_values (slice_index x i) w) (length x) (λ i h. bits_in_field (slice_index x i) w))
       (InField-cons 0 (blocks ++ lasts) (omega arith) (InField-append blocks lasts (InField-joined_below (step_values values w image x aux) t (λ i h. block_small i))
@@ -135,7 +135,7 @@ module _ (w : ℕ) (net : Net) (block : BlockCircuit) (made : ℕ) (values : Blo
       (steps_lines w block made sizes values law complete image x aux z (none_at w (length x)) (first_at w (length x)) t v (input w image x aux t fits x_words aux_words) assigns (early image (length x) t w fits) has_parts.none has_steps runs t (omega arith))
 
   answer_small : v < P
-  answer_small = let fit = word_fits w fits.width v small in omega arith
+  answer_small = let fit = word_small w fits.width v small in omega arith
 
   all_met : Meets z (layout_of block w net image (length x) t (2 + length x)).list
   all_met =

@@ -1,6 +1,5 @@
 -- What a step in numbers says of the state of the machine that its numbers are of.
-use Rattle.std.proofs.Common.{◌≡◌, ℕ, ◌==◌, Bool, true, false, cond, List, [], ◌∷◌, ◌++◌, fold, refl, sym, ap, ◌∙◌, subst}
-use Rattle.std.proofs.lemmas.Bool.{eqb-true}
+use Rattle.std.proofs.Common.{◌≡◌, ℕ, Bool, true, false, List, [], ◌∷◌, ◌++◌, fold, refl, sym, ap, ◌∙◌, subst}
 use Rattle.tv_core.specs.Lines.{Line, written, HonestFrom}
 use Rattle.tv_mem.specs.Words.{AreBytes}
 use Rattle.tv_numbers.specs.Laws.{HoldsOlds, AuxFits, DoesStep}
@@ -9,19 +8,12 @@ use Rattle.tv_numbers.specs.Views.{Matches}
 use Rattle.tv_step.specs.Cells.{cells_of}
 use Rattle.tv_step.specs.Machine.{next, left_in, state_after}
 use Rattle.tv_step.specs.State.{State, Next}
+use Rattle.tv_step.proofs.HonestLaws.{written_same}
 
 -- ---- lines
 pub HonestFrom-right : (m : ℕ → ℕ) (xs ys : List Line) → HonestFrom m (xs ++ ys) → HonestFrom (fold written m xs) ys
 HonestFrom-right m [] ys h = h
 HonestFrom-right m (x ∷ xs) ys h = HonestFrom-right (written m x) xs ys h.1
-
--- a line that writes what the cell holds changes nothing
-written_same : (m : ℕ → ℕ) (l : Line) → l.new ≡ m l.cell → (c : ℕ) → written m l c ≡ m c
-written_same m l e c = by_test (l.cell == c) refl
-  where
-    by_test : (b : Bool) → (l.cell == c) ≡ b → written m l c ≡ m c
-    by_test true t = ap (λ b. cond b l.new (m c)) t ∙ (e ∙ ap m (eqb-true l.cell c t))
-    by_test false t = ap (λ b. cond b l.new (m c)) t
 
 -- ---- one step
 module _ (w : ℕ) (x : List ℕ) (time : ℕ) (b : Did) (st : State) (does : DoesStep w x time b) where

@@ -19,13 +19,14 @@ use Rattle.tv_step.specs.Rows.{word_size}
 use Rattle.tv_step.specs.State.{State}
 use Rattle.tv_step.specs.Trace.{looked_at, data_line, step_lines, lines_of, null_line}
 use Rattle.tv_word.specs.Widths.{IsWidth}
-use Rattle.tv_layout.proofs.Boot.{word_fits, LinesFrom-append, length-boot_lines, boot_lines_placed, padding_placed, length-padding}
+use Rattle.tv_layout.proofs.Boot.{LinesFrom-append, length-boot_lines, boot_lines_placed, padding_placed, length-padding}
 use Rattle.tv_layout.proofs.Whole.{words_32, spare, filled, power_few}
 use Rattle.tv_layout.specs.Places.{WithinLimits, boot_count, line_count}
 use Rattle.tv_layout.specs.Sound.{padding, all_lines}
+use Rattle.tv_word.proofs.WidthLaws.{word_small}
 
 fits_of : (w : ℕ) → IsWidth w → (line : Line) → IsLine w line → Fits line
-fits_of w width line l = record { cell = l.cell; old = word_fits w width line.old l.old; new = word_fits w width line.new l.new }
+fits_of w width line l = record { cell = l.cell; old = word_small w width line.old l.old; new = word_small w width line.new l.new }
 
 step_placed : (w : ℕ) → IsWidth w → (n : ℕ) → n < 2 ^ 29 → (st : State) (time : ℕ) → InRange w st → LinesFrom time (step_lines w n st time)
 step_placed w width n short st time range =

@@ -20,7 +20,7 @@ use Rattle.tv_step.specs.Cells.{IsLine}
 use Rattle.tv_step.specs.Range.{AreWords}
 use Rattle.tv_step.specs.Rows.{instruction_size}
 use Rattle.tv_word.specs.Widths.{IsWidth}
-use Rattle.tv_layout.proofs.Boot.{word_fits, LinesFrom-append}
+use Rattle.tv_layout.proofs.Boot.{LinesFrom-append}
 use Rattle.tv_block.specs.Fetch.{state_in}
 use Rattle.tv_block.specs.Block.{IsMachineStep, did, reached}
 use Rattle.tv_layout.proofs.Blocks.{BlockSizes, BlockIsSound}
@@ -28,6 +28,7 @@ use Rattle.tv_layout.specs.Blocks.{BlockCircuit}
 use Rattle.tv_layout.specs.Layout.{before_steps, step_of, steps_of, state_at, block_at, taken_at}
 use Rattle.tv_block.specs.declared.records.Block.{Block}
 use Rattle.tv_block.specs.declared.records.StateWires.{StateWires}
+use Rattle.tv_word.proofs.WidthLaws.{word_small}
 
 zero_word : (w : ℕ) → IsWidth w → 0 < 2 ^ w
 zero_word w (inl e) = rw e (omega arith)
@@ -113,7 +114,7 @@ module _ (block : BlockCircuit) (made : ℕ) (sizes : BlockSizes block made) (z 
 
     -- lines in their places
     fits : (line : Line) → IsLine w line → Fits line
-    fits line l = record { cell = l.cell; old = word_fits w width line.old l.old; new = word_fits w width line.new l.new }
+    fits line l = record { cell = l.cell; old = word_small w width line.old l.old; new = word_small w width line.new l.new }
 
     pub lines_placed : (n : ℕ) → n ≤ t → LinesFrom time (joined_below n (λ i. lines_in (did_at i)))
     lines_placed zero h = subst (LinesFrom time) (sym (joined_below-zero (λ i. lines_in (did_at i)))) tt

@@ -13,7 +13,7 @@ use Rattle.tv_numbers.specs.Numbers.{lines_in}
 use Rattle.tv_step.specs.Cells.{boot_lines}
 use Rattle.tv_step.specs.Range.{AreWords}
 use Rattle.tv_word.specs.Widths.{IsWidth}
-use Rattle.tv_layout.proofs.Boot.{word_fits, boot_lines_valued, padding_valued, LinesFrom-append, length-boot_lines, boot_lines_placed, padding_placed, length-padding}
+use Rattle.tv_layout.proofs.Boot.{boot_lines_valued, padding_valued, LinesFrom-append, length-boot_lines, boot_lines_placed, padding_placed, length-padding}
 use Rattle.tv_layout.proofs.Positions.{log_above, log_within}
 use Rattle.tv_layout.proofs.Steps.{did_at, lines_did, length-lines_did, lines_placed}
 use Rattle.tv_layout.proofs.Blocks.{BlockSizes, BlockIsSound}
@@ -21,9 +21,10 @@ use Rattle.tv_layout.specs.Blocks.{BlockCircuit}
 use Rattle.tv_layout.specs.Layout.{boot_lines_of, steps_of, block_at, lines_of}
 use Rattle.tv_layout.specs.Places.{WithinLimits, boot_count, line_count, log_of, tape_at, none_at, first_at}
 use Rattle.tv_layout.specs.Sound.{padding}
+use Rattle.tv_word.proofs.WidthLaws.{word_small}
 
 pub words_32 : (w : ℕ) → IsWidth w → (words : List ℕ) → AreWords w words → AreWords 32 words
-words_32 w width words h = All-weaker (λ v. v < 2 ^ w) (λ v. v < 2 ^ 32) (λ v k. word_fits w width v k) words h
+words_32 w width words h = All-weaker (λ v. v < 2 ^ w) (λ v. v < 2 ^ 32) (λ v k. word_small w width v k) words h
 
 module _ (image : List ℕ) (n t : ℕ) where
   -- how many lines of padding there are

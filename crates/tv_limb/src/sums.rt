@@ -1,10 +1,8 @@
-ghost use Rattle.std.specs.Prelude.{◌≡◌, ◌+◌, ◌≤◌, ◌<◌, ◌^◌, false, length, IfOk, OnOk};
-ghost use Rattle.tv_core.specs.Combinations.{top};
+ghost use Rattle.std.specs.Prelude.{◌≡◌, ◌+◌, ◌≤◌, ◌<◌, ◌^◌, false, IfOk, OnOk};
 ghost use Rattle.tv_core.specs.Giving.{GivesIn};
 ghost use Rattle.tv_core.specs.Sinks.{PutsIn, Grows, Room};
 ghost use Rattle.tv_word.specs.Widths.{IsWidth};
-ghost use Rattle.tv_limb.specs.Sum.{sum_of_words, add_of, add_values, AddIsSound, AddIsComplete};
-ghost use Rattle.tv_limb.specs.Sum.{AddSizes};
+ghost use Rattle.tv_limb.specs.Sum.{add_of, add_values, AddIsSound, AddIsComplete, AddSizes};
 
 use crate::parts::Split;
 use crate::splitting::split;

@@ -1,18 +1,15 @@
 -- Packing and unpacking, as numbers.
-use Rattle.std.proofs.Common.{◌≡◌, ℕ, ◌+◌, ◌*◌, ◌/◌, ◌%◌, ◌^◌, ◌<◌, List, sym, ◌∙◌, ap, ap₂, arith}
+use Rattle.std.proofs.Common.{◌≡◌, ℕ, ◌+◌, ◌*◌, ◌/◌, ◌%◌, ◌^◌, ◌<◌, List, sym, ◌∙◌, ap, arith}
 use Rattle.tv_core.proofs.CombinationLaws.{value-append, value-scaled}
 use Rattle.tv_core.specs.Combinations.{scaled}
 use Rattle.tv_core.specs.Constraints.{Combination, value}
 use Rattle.tv_core.specs.Lines.{Line}
 use Rattle.tv_core.specs.declared.field.TheConstants.{P}
-use Rattle.tv_core.specs.declared.lines.PairNum.{PairNum}
 use Rattle.tv_lines.specs.Packing.{InRange, unpacked, joined, PackIsRight, PackIsOneToOne, UnpackUndoesPack}
+use Rattle.tv_core.proofs.LineLaws.{pair_same}
 
 joined_value : (z : List ℕ) (low high : Combination) → value (joined low high) z ≡ (2 ^ 32 * value high z + value low z) % P
 joined_value z low high = value-append low (scaled (2 ^ 32 % P) high) z ∙ ap (λ n. (value low z + n) % P) (value-scaled (2 ^ 32 % P) high z) ∙ omega arith
-
-pair_same : (a b c d : ℕ) → a ≡ c → b ≡ d → ◌≡◌ {A = PairNum} (record { first = a; second = b }) (record { first = c; second = d })
-pair_same a b c d p q = ap₂ (λ (x y : ℕ). let pair : PairNum = record { first = x; second = y } in pair) p q
 
 below_p : (high low : ℕ) → high < 2 ^ 31 → low < 2 ^ 32 → (2 ^ 32 * high + low) % P ≡ high * 2 ^ 32 + low
 below_p high low h k = omega arith

@@ -10,11 +10,11 @@ use Rattle.tv_bits.specs.Times.{times_of}
 use Rattle.tv_bits.specs.Zero.{zero_of, zero_flag, zero_values}
 use Rattle.tv_bits.specs.declared.bit_wires.Bits.{Bits}
 use Rattle.tv_core.proofs.BelowLaws.{length-each_below}
-use Rattle.tv_core.proofs.CombinationLaws.{value-less, value-below, value-constant, value-wire}
+use Rattle.tv_core.proofs.CombinationLaws.{value-less, value-wire, value-once}
 use Rattle.tv_core.proofs.Meeting.{Meets-split, Meets-join, HasFrom-split}
 use Rattle.tv_core.specs.Circuits.{fresh, put, pure, ◌>>=◌}
 use Rattle.tv_core.specs.Combinations.{constant, less, wire}
-use Rattle.tv_core.specs.Constraints.{Combination, value}
+use Rattle.tv_core.specs.Constraints.{value}
 use Rattle.tv_core.specs.Laws.{Assigns, Meets, HasFrom}
 use Rattle.tv_core.specs.Lines.{Line}
 use Rattle.tv_core.specs.declared.field.TheConstants.{P}
@@ -22,12 +22,6 @@ use Rattle.tv_lines.proofs.Numbers.{number_value}
 use Rattle.tv_lines.specs.SortedPair.{number, apart_of, carried_of, size_of, size_values, cells_apart}
 use Rattle.tv_lines.specs.Unpacking.{HasWidths, SpellsLine}
 use Rattle.tv_lines.specs.declared.rows.LineBits.{LineBits}
-
--- one times a number of the field is that number
-once : (z : List ℕ) (x : Combination) → Assigns z → value x z * value (constant 1) z % P ≡ value x z
-once z x assigns =
-    let small = value-below x z in
-    ap (λ k. value x z * k % P) (value-constant assigns 1) ∙ omega arith
 
 -- ---- what the circuits answer, and where they end
 pub apart_answer : (before after : LineBits) (next : ℕ) → (apart_of before after next).answer ≡ next
@@ -62,7 +56,7 @@ size_sound z c next short assigns meets =
     let sum : value (bits_combination bits.answer.first bits.answer.n ++ constant 1) z ≡ spelled z bits.answer.first c + 1 =
     ap (λ k. value (bits_combination bits.answer.first k ++ constant 1) z) n ∙ value-plus_one s assigns short in
     let is : slice_index z bits.next ≡ spelled z bits.answer.first c + 1 =
-    sym (value-wire assigns bits.next) ∙ sym both.1.0 ∙ once z (bits_combination bits.answer.first bits.answer.n ++ constant 1) assigns ∙ sum in
+    sym (value-wire assigns bits.next) ∙ sym both.1.0 ∙ value-once z (bits_combination bits.answer.first bits.answer.n ++ constant 1) assigns ∙ sum in
     let small = Spells-below s in
     (omega arith, omega arith)
 
@@ -79,7 +73,7 @@ size_complete z next v some small assigns has =
     let sum : value (bits_combination bits.answer.first bits.answer.n ++ constant 1) z ≡ v =
     ap (λ k. value (bits_combination bits.answer.first k ++ constant 1) z) n ∙ value-plus_one s assigns (omega arith) ∙ omega arith in (
       Meets-join z bits.list _ (new_bits_complete z next 11 (v - 1) assigns both.0)
-          (once z (bits_combination bits.answer.first bits.answer.n ++ constant 1) assigns ∙ sum ∙ sym is ∙ sym (value-wire assigns bits.next), tt),
+          (value-once z (bits_combination bits.answer.first bits.answer.n ++ constant 1) assigns ∙ sum ∙ sym is ∙ sym (value-wire assigns bits.next), tt),
       is,
     )
 
@@ -92,11 +86,11 @@ module _ (z : List ℕ) (before after : LineBits) (l m : Line) (b : HasWidths be
 
   pub apart_sound : (next : ℕ) → Meets z (apart_of before after next).list → slice_index z (apart_of before after next).answer ≡ cells_apart l m
   unfolding apart_of times_of fresh put pure ◌>>=◌
-  apart_sound next meets = sym (value-wire assigns next) ∙ sym meets.0 ∙ once z (less (number after.cell) (number before.cell)) assigns ∙ cells
+  apart_sound next meets = sym (value-wire assigns next) ∙ sym meets.0 ∙ value-once z (less (number after.cell) (number before.cell)) assigns ∙ cells
 
   pub apart_complete : (next : ℕ) → slice_index z next ≡ cells_apart l m → Meets z (apart_of before after next).list
   unfolding apart_of times_of fresh put pure ◌>>=◌
-  apart_complete next is = (once z (less (number after.cell) (number before.cell)) assigns ∙ cells ∙ sym is ∙ sym (value-wire assigns next), tt)
+  apart_complete next is = (value-once z (less (number after.cell) (number before.cell)) assigns ∙ cells ∙ sym is ∙ sym (value-wire assigns next), tt)
 
   olds : value (number after.old) z ≡ m.old
   olds = number_value z after.old 32 m.old a.old (omega arith) sm.old

@@ -1,15 +1,14 @@
 -- The values of a sorted pair are as many as its wires, and below P.
-use Rattle.std.proofs.Common.{◌≡◌, ℕ, ◌+◌, ◌-◌, ◌%◌, ◌<◌, List, [], ◌∷◌, ◌++◌, length, inl, inr, sym, ◌∙◌, ap, arith, mod-lt}
+use Rattle.std.proofs.Common.{◌≡◌, ℕ, ◌+◌, ◌-◌, ◌<◌, List, [], ◌∷◌, ◌++◌, length, inl, inr, sym, ◌∙◌, ap, arith}
 use Rattle.std.proofs.lemmas.Bool.{cases_eq}
 use Rattle.std.proofs.lemmas.List.{length-append}
 use Rattle.tv_bits.proofs.OrderLaws.{first_difference-le}
 use Rattle.tv_bits.proofs.PrefixLaws.{products_in_field, length-products}
 use Rattle.tv_bits.proofs.SizeLaws.{bits_in_field, zero_in_field}
 use Rattle.tv_bits.specs.Bits.{bits_values}
-use Rattle.tv_bits.specs.Prefixes.{product_below, products_values}
-use Rattle.tv_bits.specs.Zero.{zero_flag, zero_values}
-use Rattle.tv_core.proofs.BelowLaws.{length-each_below}
-use Rattle.tv_core.proofs.FieldLaws.{InField-none, InField-cons, InField-append, InField-each_below}
+use Rattle.tv_bits.specs.Prefixes.{products_values}
+use Rattle.tv_bits.specs.Zero.{zero_values}
+use Rattle.tv_core.proofs.FieldLaws.{InField-none, InField-cons, InField-append}
 use Rattle.tv_core.specs.Circuits.{◌>>=◌}
 use Rattle.tv_core.specs.Laws.{InField}
 use Rattle.tv_core.specs.Lines.{Line}
@@ -20,6 +19,7 @@ use Rattle.tv_lines.proofs.SortedComplete.{size_many}
 use Rattle.tv_lines.specs.Packing.{InRange}
 use Rattle.tv_lines.specs.SortedPair.{apart_of, carried_of, size_of, sorted_pair_of, cells_apart, size, size_values, factor_in, sorted_pair_values, SortedPairSizes}
 use Rattle.tv_lines.specs.declared.rows.LineBits.{LineBits}
+use Rattle.tv_bits.proofs.TimesLaws.{residue_below}
 
 pub sorted_pair_next : (before after : LineBits) (next : ℕ) → (sorted_pair_of before after next).next ≡ next + 18
 unfolding sorted_pair_of ◌>>=◌
@@ -44,9 +44,6 @@ size_below l m range = elim (cases_eq l.cell m.cell) [
 
 size_small : (v : ℕ) → v < P → InField (size_values v)
 size_small v h = InField-append (bits_values (v - 1) 11) (v ∷ []) (bits_in_field (v - 1) 11) (InField-cons v [] h InField-none)
-
-residue_below : (a : ℕ) → a % P < P
-residue_below a = mod-lt a (omega arith)
 
 pub sorted_pair_fill : SortedPairSizes
 sorted_pair_fill = record {

@@ -7,7 +7,7 @@ use Rattle.tv_bits.specs.Times.{times_of}
 use Rattle.tv_bits.specs.Zero.{zero_of, zero_values}
 use Rattle.tv_bits.specs.declared.bit_wires.Bits.{Bits}
 use Rattle.tv_core.specs.Below.{each_below}
-use Rattle.tv_core.specs.Circuits.{Circuit, fresh, put, pure, ◌>>=◌}
+use Rattle.tv_core.specs.Circuits.{Circuit, put, ◌>>=◌}
 use Rattle.tv_core.specs.Combinations.{wire, constant, less}
 use Rattle.tv_core.specs.Constraints.{Combination}
 use Rattle.tv_core.specs.Laws.{Assigns, Meets, HasFrom, Fills, InField}

@@ -1,5 +1,5 @@
-ghost use Rattle.std.specs.Prelude.{◌≡◌, ◌+◌, ◌*◌, ◌^◌, ◌≤◌, IfOk, map, take};
-ghost use Rattle.tv_layout.specs.Places.{WithinLimits, line_count, log_of};
+ghost use Rattle.std.specs.Prelude.{◌≡◌, ◌+◌, ◌*◌, ◌≤◌, IfOk, map, take};
+ghost use Rattle.tv_layout.specs.Places.{WithinLimits, line_count};
 ghost use Rattle.tv_listing.specs.Listing.{assigned_lines, lines_at, text_by};
 ghost use Rattle.tv_listing.specs.Row.{row_line};
 

@@ -21,9 +21,10 @@ use Rattle.tv_core.specs.Constraints.{Combination, value}
 use Rattle.tv_core.specs.Laws.{Assigns, Meets, HasFrom}
 use Rattle.tv_core.specs.Loops.{times}
 use Rattle.tv_core.specs.declared.field.TheConstants.{P}
-use Rattle.tv_logic.proofs.PairSums.{word-pairs, pair-ands, and-below, word-small}
+use Rattle.tv_logic.proofs.PairSums.{word-pairs, pair-ands, and-below}
 use Rattle.tv_logic.specs.Ands.{pair_in, and_pair_of, new_and_pair_of, lowest_pair, and_of, and_values}
 use Rattle.tv_word.specs.Widths.{IsWidth}
+use Rattle.tv_word.proofs.WidthLaws.{word_small}
 
 -- ---- where the circuits end, and what they answer
 pair_next : (w : ℕ) (x y : Bits) (i : ℕ) (m : Combination) (next : ℕ) → (and_pair_of w x y i m next).next ≡ next
@@ -122,7 +123,7 @@ and_sound w width z next x y a b assigns p q meets =
     let each = turn_pairs w width z assigns x y a b p q (next + 1) both.0 in
     let v = bit_and a b in
     let small = and-below w a b (Spells-below p) in
-    word_of (slice_index z next) (sum_below (w / 2 - 1) (λ i. 2 ^ i * pair_in w v (i + 1))) (pair_in w v 0) v (wire-below assigns next) (word-small w width v small) (word-pairs w width v small)
+    word_of (slice_index z next) (sum_below (w / 2 - 1) (λ i. 2 ^ i * pair_in w v (i + 1))) (pair_in w v 0) v (wire-below assigns next) (word_small w width v small) (word-pairs w width v small)
     (sym (value-lowest w width z assigns x y a b p q next (next + 1) each) ∙ pair_sound w width z assigns x y a b p q _ 0 (lowest_pair w next (next + 1)) (omega arith) last.0)
 
 pub and_complete : (w : ℕ) → IsWidth w → (z : List ℕ) (next : ℕ) (x y : Bits) (a b : ℕ) → Assigns z → Spells z x.first w a → Spells z y.first w b → HasFrom z next (and_values w (bit_and a b))
@@ -133,7 +134,7 @@ and_complete w width z next x y a b assigns p q has =
     let small = and-below w a b (Spells-below p) in
     let each = has_each z (next + 1) (w / 2 - 1) (λ i. pair_in w v (i + 1)) has.1 in
     let rest = sum_below (w / 2 - 1) (λ i. 2 ^ i * pair_in w v (i + 1)) in
-    let low = value-lowest w width z assigns x y a b p q next (next + 1) each ∙ ap (λ k. (k + (P - 2) * (rest % P) % P) % P) has.0 ∙ low_of rest (pair_in w v 0) v (word-small w width v small) (word-pairs w width v small) in
+    let low = value-lowest w width z assigns x y a b p q next (next + 1) each ∙ ap (λ k. (k + (P - 2) * (rest % P) % P) % P) has.0 ∙ low_of rest (pair_in w v 0) v (word_small w width v small) (word-pairs w width v small) in
     Meets-join z (times (w / 2 - 1) (new_and_pair_of w x y) (next + 1)).list _ (turns_pairs w width z assigns x y a b p q (next + 1) each)
     (Meets-join z (and_pair_of w x y 0 (lowest_pair w next (next + 1)) (times (w / 2 - 1) (new_and_pair_of w x y) (next + 1)).next).list []
     (pair_complete w width z assigns x y a b p q _ 0 (lowest_pair w next (next + 1)) (omega arith) low) tt)

@@ -1,9 +1,7 @@
 -- The laws of the bitwise operations.
-use Rattle.std.proofs.Common.{◌≡◌, ℕ, ◌+◌, ◌-◌, ◌/◌, ◌^◌, ◌<◌, ◌∷◌, [], ◌++◌, inl, inr, bit_and, bit_or, bit_xor, length, length-append, subst, ◌∙◌, ap₂, arith}
-use Rattle.std.proofs.lemmas.Bool.{cases_eq}
+use Rattle.std.proofs.Common.{◌≡◌, ℕ, ◌+◌, ◌-◌, ◌/◌, ◌^◌, ◌<◌, ◌∷◌, [], ◌++◌, bit_and, bit_or, bit_xor, length, length-append, subst, ◌∙◌, ap₂, arith}
 use Rattle.std.specs.Int.Bits.{or_add_and, xor_add_and}
-use Rattle.tv_bits.proofs.SizeLaws.{zero_in_field}
-use Rattle.tv_bits.proofs.ZeroLaws.{zero_flag-zero, zero_flag-other}
+use Rattle.tv_bits.proofs.SizeLaws.{zero_in_field, zero_flag-below}
 use Rattle.tv_bits.specs.Zero.{zero_flag, zero_values}
 use Rattle.tv_bits.specs.declared.bit_wires.Bits.{Bits}
 use Rattle.tv_core.proofs.BelowLaws.{length-each_below}
@@ -13,7 +11,7 @@ use Rattle.tv_core.specs.Laws.{HasFrom, Fills, InField}
 use Rattle.tv_core.specs.declared.field.TheConstants.{P}
 use Rattle.tv_logic.proofs.FlagLaws.{flags_sound, flags_complete, flags_answer, flags_next, flags_same}
 use Rattle.tv_core.proofs.FieldLaws.{InField-none, InField-cons, InField-append, InField-each_below}
-use Rattle.tv_logic.proofs.PairSums.{pair_in-small, and-below, word-small}
+use Rattle.tv_logic.proofs.PairSums.{pair_in-small, and-below}
 use Rattle.tv_logic.proofs.WordLaws.{words_sound, words_complete, words_answer, words_next}
 use Rattle.tv_logic.specs.Ands.{pair_in, pair_values}
 use Rattle.tv_logic.specs.Flags.{logic_flags_of, flag_values}
@@ -23,6 +21,7 @@ use Rattle.tv_logic.specs.declared.answers.LogicFlags.{LogicFlags}
 use Rattle.tv_logic.specs.declared.answers.Logic.{Logic}
 use Rattle.tv_logic.specs.declared.answers.LogicWords.{LogicWords}
 use Rattle.tv_word.specs.Widths.{IsWidth}
+use Rattle.tv_word.proofs.WidthLaws.{word_small}
 
 -- or is and plus xor
 or-sum : (a b : ℕ) → bit_or a b ≡ bit_and a b + bit_xor a b
@@ -111,16 +110,13 @@ xor-below w width a b h k = let sum = xor_add_and a b in grind arith
 turned-below : (w : ℕ) → IsWidth w → (b : ℕ) → bits_turned w b < P
 turned-below w width b = grind arith
 
-flag-below : (n : ℕ) → zero_flag n < P
-flag-below n = elim (cases_eq n 0) [ inl none ↦ omega (arith, zero_flag-zero n none) | inr some ↦ omega (arith, zero_flag-other n some) ]
-
 pairs-below : (w : ℕ) → IsWidth w → (v : ℕ) → InField (pair_values w v)
 pairs-below w width v = InField-each_below (λ i. pair_in w v (i + 1)) (λ i. pair_in-small w width v (i + 1)) (w / 2 - 1)
 
 words-below : (w : ℕ) → IsWidth w → (a b : ℕ) → a < 2 ^ w → b < 2 ^ w → InField (word_values w a b)
 words-below w width a b h k =
     let v = bit_and a b in
-    let small : v < P = (let word = word-small w width v (and-below w a b h) in omega arith) in
+    let small : v < P = (let word = word_small w width v (and-below w a b h) in omega arith) in
     let nots = InField-cons (bits_turned w b) [] (turned-below w width b) InField-none in
     let xors = InField-cons (bit_xor a b) (bits_turned w b ∷ []) (xor-below w width a b h k) nots in
     let ors = InField-cons (bit_or a b) (bit_xor a b ∷ bits_turned w b ∷ []) (or-below w width a b h k) xors in
@@ -129,7 +125,7 @@ words-below w width a b h k =
 
 flags-below : (ands ors xors nots : ℕ) → InField (flag_values ands ors xors nots)
 flags-below ands ors xors nots =
-    let last = InField-append (zero_values nots) (zero_flag ors ∷ []) (zero_in_field nots) (InField-cons (zero_flag ors) [] (flag-below ors) InField-none) in
+    let last = InField-append (zero_values nots) (zero_flag ors ∷ []) (zero_in_field nots) (InField-cons (zero_flag ors) [] (zero_flag-below ors) InField-none) in
     InField-append (zero_values ands) (zero_values xors ++ (zero_values nots ++ zero_flag ors ∷ [])) (zero_in_field ands)
     (InField-append (zero_values xors) (zero_values nots ++ zero_flag ors ∷ []) (zero_in_field xors) last)
 

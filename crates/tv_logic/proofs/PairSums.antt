@@ -68,7 +68,3 @@ pair-ands w width a b i =
 
 pub and-below : (w a b : ℕ) → a < 2 ^ w → bit_and a b < 2 ^ w
 and-below w a b h = omega (arith, and_le_l a b)
-
--- a word is a number of the field
-pub word-small : (w : ℕ) → IsWidth w → (v : ℕ) → v < 2 ^ w → v < 2 ^ 32
-word-small w width v h = grind arith

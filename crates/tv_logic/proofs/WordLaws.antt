@@ -8,7 +8,7 @@ use Rattle.tv_bits.specs.Bits.{Spells, bits_combination}
 use Rattle.tv_bits.specs.Pairs.{negative}
 use Rattle.tv_bits.specs.declared.bit_wires.Bits.{Bits}
 use Rattle.tv_core.proofs.BelowLaws.{length-each_below}
-use Rattle.tv_core.proofs.CombinationLaws.{value-append, value-scaled, value-less, value-constant, value-below}
+use Rattle.tv_core.proofs.CombinationLaws.{value-append, value-scaled, value-less, value-constant, value-once}
 use Rattle.tv_core.proofs.Meeting.{Meets-split, Meets-join, HasFrom-split}
 use Rattle.tv_core.specs.Circuits.{pure, ◌>>=◌}
 use Rattle.tv_core.specs.Combinations.{constant, scaled}
@@ -16,11 +16,10 @@ use Rattle.tv_core.specs.Constraints.{Combination, value}
 use Rattle.tv_core.specs.Laws.{Assigns, Meets, HasFrom}
 use Rattle.tv_core.specs.declared.field.TheConstants.{P}
 use Rattle.tv_logic.proofs.AndLaws.{and_answer, and_next, and_sound, and_complete}
-use Rattle.tv_logic.proofs.PairSums.{word-small}
 use Rattle.tv_logic.specs.Ands.{pair_in, pair_values, and_of}
 use Rattle.tv_logic.specs.Words.{bits_turned, hold_of, sum_less, complement, logic_words_of, word_values}
 use Rattle.tv_logic.specs.declared.answers.LogicWords.{LogicWords}
-use Rattle.tv_word.proofs.WidthLaws.{width_short}
+use Rattle.tv_word.proofs.WidthLaws.{width_short, word_small}
 use Rattle.tv_word.specs.Widths.{IsWidth}
 
 -- ---- a wire that holds a value
@@ -30,17 +29,11 @@ hold_answer x next = times_answer x (constant 1) next
 hold_next : (x : Combination) (next : ℕ) → (hold_of x next).next ≡ next + 1
 hold_next x next = times_next x (constant 1) next
 
-times_one : (n : ℕ) → n < P → n * (1 % P) % P ≡ n
-times_one n h = omega arith
-
-once : (z : List ℕ) (x : Combination) → Assigns z → value x z * value (constant 1) z % P ≡ value x z
-once z x assigns = ap (λ k. value x z * k % P) (value-constant assigns 1) ∙ times_one (value x z) (value-below x z)
-
 hold_sound : (z : List ℕ) (next : ℕ) (x : Combination) → Assigns z → Meets z (hold_of x next).list → slice_index z (hold_of x next).answer ≡ value x z
-hold_sound z next x assigns meets = times_sound z next x (constant 1) assigns meets ∙ once z x assigns
+hold_sound z next x assigns meets = times_sound z next x (constant 1) assigns meets ∙ value-once z x assigns
 
 hold_complete : (z : List ℕ) (next : ℕ) (x : Combination) → Assigns z → slice_index z next ≡ value x z → Meets z (hold_of x next).list
-hold_complete z next x assigns is = times_complete z next x (constant 1) assigns (is ∙ sym (once z x assigns), tt)
+hold_complete z next x assigns is = times_complete z next x (constant 1) assigns (is ∙ sym (value-once z x assigns), tt)
 
 -- ---- the values
 or_number : (a b ands ors : ℕ) → a < 2 ^ 32 → b < 2 ^ 32 → ors + ands ≡ a + b → ((a + 1 * b % P) % P + (P - 1) * ands % P) % P ≡ ors
@@ -66,11 +59,11 @@ module _ (w : ℕ) (width : IsWidth w) (z : List ℕ) (assigns : Assigns z) (x y
 
   value-or : (at : ℕ) → slice_index z at ≡ bit_and a b → value (sum_less w x y 1 at) z ≡ bit_or a b
   value-or at is =
-      value-sum_less 1 at ∙ ap (λ k. ((a + 1 * b % P) % P + (P - 1) * k % P) % P) is ∙ or_number a b (bit_and a b) (bit_or a b) (word-small w width a (Spells-below p)) (word-small w width b (Spells-below q)) (or_add_and a b)
+      value-sum_less 1 at ∙ ap (λ k. ((a + 1 * b % P) % P + (P - 1) * k % P) % P) is ∙ or_number a b (bit_and a b) (bit_or a b) (word_small w width a (Spells-below p)) (word_small w width b (Spells-below q)) (or_add_and a b)
 
   value-xor : (at : ℕ) → slice_index z at ≡ bit_and a b → value (sum_less w x y 2 at) z ≡ bit_xor a b
   value-xor at is =
-      value-sum_less 2 at ∙ ap (λ k. ((a + 1 * b % P) % P + (P - 2) * k % P) % P) is ∙ xor_number a b (bit_and a b) (bit_xor a b) (word-small w width a (Spells-below p)) (word-small w width b (Spells-below q)) (xor_add_and a b)
+      value-sum_less 2 at ∙ ap (λ k. ((a + 1 * b % P) % P + (P - 2) * k % P) % P) is ∙ xor_number a b (bit_and a b) (bit_xor a b) (word_small w width a (Spells-below p)) (word_small w width b (Spells-below q)) (xor_add_and a b)
 
   value-not : value (complement w y) z ≡ bits_turned w b
   value-not =

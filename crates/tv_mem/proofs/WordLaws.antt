@@ -2,11 +2,12 @@
 use Rattle.std.proofs.Common.{◌≡◌, ℕ, zero, suc, ◌+◌, ◌*◌, ◌/◌, ◌%◌, ◌^◌, ◌<◌, ◌==◌, cond, ◌∷◌, refl, sym, ap, ap₂, subst, ◌∙◌, arith, add-zero}
 use Rattle.std.proofs.Math.Nat.{div-div-eq-div-mul, pow-succ', pow-zero}
 use Rattle.std.proofs.lemmas.Bool.{eq-eqb, ne_eqb, cond_both}
-use Rattle.tv_word.proofs.WidthLaws.{for_widths}
+use Rattle.tv_word.proofs.WidthLaws.{for_widths, word_bits}
 use Rattle.tv_word.specs.Widths.{IsWidth}
 use Rattle.tv_word.specs.Word.{spelled, low_bytes}
 use Rattle.tv_mem.specs.Bytes.{Bytes, byte_of, with_byte, with_word, bytes_from, word_in}
 use Rattle.tv_mem.specs.Words.{AreBytes, WordsAreSmall, ByteOfWord, WordAfterByte, WordAfterWord, OthersAfterByte, OthersAfterWord, BytesAfterByte, BytesAfterWord}
+use Rattle.tv_word.proofs.ByteLaws.{spelled-low_bytes}
 
 -- ---- n bytes from an address on
 spelled_below : (m : Bytes) → AreBytes m → (at n : ℕ) → spelled (bytes_from m at n) < 256 ^ n
@@ -53,14 +54,6 @@ stored_from m at (suc n) (suc k) v h =
     (stored_behind (m at) (with_byte m (at + 1 + k) v at) _ _ (m (at + 1 + k)) v k
     (ap (λ t. cond t v (m at)) (ne_eqb at (at + 1 + k) (λ e. omega arith))) (stored_from m (at + 1) n k v (omega arith)))
 
-low_spelled : (n v : ℕ) → v < 256 ^ n → spelled (low_bytes n v) ≡ v
-low_spelled zero v h = let none : v < 1 = rw (pow-zero 256) at h in omega arith
-low_spelled (suc n) v h =
-    let long : v < 256 * 256 ^ n = rw (pow-succ' 256 n) at h in
-    let above : v / 256 < 256 ^ n = omega arith in
-    let rest = low_spelled n (v / 256) above in
-    omega arith
-
 written_from : (m : Bytes) (at n v : ℕ) → ((k : ℕ) → k < n → m (at + k) ≡ byte_of v k) → bytes_from m at n ≡ low_bytes n v
 written_from m at zero v bytes = refl
 written_from m at (suc n) v bytes =
@@ -70,21 +63,17 @@ written_from m at (suc n) v bytes =
     let place : at + suc k ≡ at + 1 + k = omega arith in
     (rw place at (bytes (suc k) (omega arith))) ∙ ap (λ p. v / p % 256) (pow-succ' 256 k) ∙ ap (λ q. q % 256) (sym (div-div-eq-div-mul v 256 (256 ^ k)))))
 
--- ---- the bytes of a word of w bits
-size_above : (w : ℕ) → IsWidth w → 256 ^ (w / 8) ≡ 2 ^ w
-size_above w width = for_widths (λ w. 256 ^ (w / 8) ≡ 2 ^ w) (omega arith) (omega arith) w width
-
 place_in : (w : ℕ) → IsWidth w → (at : ℕ) → at ≡ at / (w / 8) * (w / 8) + at % (w / 8)
 place_in w width at = for_widths (λ w. at ≡ at / (w / 8) * (w / 8) + at % (w / 8)) (omega arith) (omega arith) w width
 
-rest_in : (w : ℕ) → IsWidth w → (at : ℕ) → at % (w / 8) < w / 8
+pub rest_in : (w : ℕ) → IsWidth w → (at : ℕ) → at % (w / 8) < w / 8
 rest_in w width at = for_widths (λ w. at % (w / 8) < w / 8) (omega arith) (omega arith) w width
 
 word_of : (w : ℕ) → IsWidth w → (j k : ℕ) → k < w / 8 → ((j * (w / 8) + k) / (w / 8) ≡ j) × ((j * (w / 8) + k) % (w / 8) ≡ k)
 word_of w width j k = for_widths (λ w. k < w / 8 → ((j * (w / 8) + k) / (w / 8) ≡ j) × ((j * (w / 8) + k) % (w / 8) ≡ k)) (λ h. (omega arith, omega arith)) (λ h. (omega arith, omega arith)) w width
 
 pub words_are_small : WordsAreSmall
-words_are_small w width m small j = rw (sym (size_above w width)) (spelled_below m small (j * (w / 8)) (w / 8))
+words_are_small w width m small j = rw (sym (word_bits w width)) (spelled_below m small (j * (w / 8)) (w / 8))
 
 pub byte_of_word : ByteOfWord
 byte_of_word w width m small at =
@@ -99,8 +88,8 @@ word_after_byte w width m at v =
 -- bytes that are those of a word spell it
 pub same_word : (w : ℕ) → IsWidth w → (m : Bytes) (j v : ℕ) → v < 2 ^ w → ((k : ℕ) → k < w / 8 → m (j * (w / 8) + k) ≡ byte_of v k) → word_in w m j ≡ v
 same_word w width m j v small bytes =
-    let fits : v < 256 ^ (w / 8) = rw (size_above w width) small in
-    ap spelled (written_from m (j * (w / 8)) (w / 8) v bytes) ∙ low_spelled (w / 8) v fits
+    let fits : v < 256 ^ (w / 8) = rw (word_bits w width) small in
+    ap spelled (written_from m (j * (w / 8)) (w / 8) v bytes) ∙ spelled-low_bytes (w / 8) v fits
 
 pub word_after_word : WordAfterWord
 word_after_word w width m j v small =

@@ -1,4 +1,4 @@
-ghost use Rattle.std.specs.Prelude.{◌≡◌, ◌≤◌, ◌<◌, ℕ, List, length};
+ghost use Rattle.std.specs.Prelude.{◌≡◌, ◌≤◌, ◌<◌, List, length};
 ghost use Rattle.tv_core.specs.declared.lines.LineLc.{LineLc};
 ghost use Rattle.tv_lines.specs.Packing.{pack};
 ghost use Rattle.tv_lines.specs.Placed.{line_in};

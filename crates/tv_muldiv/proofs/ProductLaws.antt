@@ -27,6 +27,7 @@ use Rattle.tv_word.specs.Widths.{IsWidth}
 use Rattle.tv_bits.specs.Nonzero.{nonzero_of, nonzero_flag, nonzero_values}
 use Rattle.tv_muldiv.specs.Product.{product_bits_of, product_of, ProductIsSound, ProductIsComplete, ProductSizes}
 use Rattle.tv_muldiv.specs.Weighed.{halves_values}
+use Rattle.tv_bits.proofs.BitLaws.{product_bit}
 
 -- ---- numbers
 -- a number below P, and one below 2 P that is the same modulo P and as odd, are one
@@ -39,16 +40,13 @@ product_most w width a b h k = mul-le a b (2 ^ w - 1) (2 ^ w - 1) (omega arith) 
 pub product_small : (w : ℕ) → IsWidth w → (a b : ℕ) → a < 2 ^ w → b < 2 ^ w → (a * b < P) × (a * b < 2 ^ (2 * w))
 product_small w width a b h k = let most = product_most w width a b h k in (grind arith, grind arith)
 
-bits_product : (p q : ℕ) → IsBit p → IsBit q → IsBit (p * q)
-bits_product p q h k = omega (arith, mul-le p q 1 1 (omega arith) (omega arith))
-
 bit_at-first : (v : ℕ) → bit_at v 0 ≡ v % 2
 bit_at-first v = ap (λ n. n % 2) (div-one v)
 
 -- the lowest bit of a product is the product of the lowest bits
 first_of_product : (a b : ℕ) → bit_at (a * b) 0 ≡ bit_at a 0 * bit_at b 0
 first_of_product a b =
-    let small = bits_product (a % 2) (b % 2) (omega arith) (omega arith) in
+    let small = product_bit (a % 2) (b % 2) (omega arith) (omega arith) in
     bit_at-first (a * b) ∙ mul-mod a b 2 ∙ mod-eq_of_lt small ∙ sym (ap₂ (λ m n. m * n) (bit_at-first a) (bit_at-first b))
 
 odd : (m n p w : ℕ) → bit_at m 0 ≡ p → IsBit p → p % P ≡ w → w ≡ bit_at n 0 → m % 2 ≡ n % 2
@@ -75,7 +73,7 @@ module _ (z : List ℕ) (assigns : Assigns z) where
         let both = Meets-split z (new_bits_of (2 * w - 1) (next + 1)).list _ meets in
         let first : bit_at a 0 * bit_at b 0 % P ≡ slice_index z next =
         sym (ap₂ (λ m n. m * n % P) (lowest x.first (omega arith) p) (lowest y.first (omega arith) q)) ∙ both.1.0 ∙ value-wire assigns next in
-        let small = bits_product (bit_at a 0) (bit_at b 0) (bit_at-lt a 0) (bit_at-lt b 0) in
+        let small = product_bit (bit_at a 0) (bit_at b 0) (bit_at-lt a 0) (bit_at-lt b 0) in
         let rest = (bits_spell z (2 * w - 1) (next + 1) assigns both.0).bits in
         let s : Spells z next (2 * w) (spelled z next (2 * w)) = record { bits = bits_of_product (omega arith) rest; number = refl } in
         let whole : a * b % P ≡ spelled z next (2 * w) % P =
@@ -92,7 +90,7 @@ module _ (z : List ℕ) (assigns : Assigns z) where
         let some : 0 < w = grind arith in
         let rest : (i : ℕ) → i < 2 * w - 1 → IsBit (slice_index z (next + 1 + i)) =
         λ i h. let same : next + (1 + i) ≡ next + 1 + i = omega arith in subst (λ k. IsBit (slice_index z k)) same (s.bits (1 + i) (omega arith)) in
-        let small = bits_product (bit_at a 0) (bit_at b 0) (bit_at-lt a 0) (bit_at-lt b 0) in
+        let small = product_bit (bit_at a 0) (bit_at b 0) (bit_at-lt a 0) (bit_at-lt b 0) in
         let first : bit_at a 0 * bit_at b 0 % P ≡ bit_at (a * b) 0 = omega (arith, first_of_product a b) in
         Meets-join z (new_bits_of (2 * w - 1) (next + 1)).list _ (bits_met z (2 * w - 1) (next + 1) assigns rest) (
           ap₂ (λ m n. m * n % P) (lowest x.first (omega arith) p) (lowest y.first (omega arith) q) ∙ first ∙ sym (lowest next (omega arith) s),

@@ -16,7 +16,7 @@ use Rattle.tv_core.specs.declared.field.TheConstants.{P}
 use Rattle.tv_bits.proofs.BitLaws.{bit_sound, bit_complete, bit_next}
 use Rattle.tv_bits.proofs.NewBitsLaws.{bits_spell, bits_met}
 use Rattle.tv_bits.proofs.PrefixLaws.{bits_prefix_sound, bits_prefix_complete, prefix_difference_next, length-products, products_in_field}
-use Rattle.tv_bits.proofs.SizeLaws.{length-bits, bits_in_field}
+use Rattle.tv_bits.proofs.SizeLaws.{length-bits, bits_in_field, zero_flag-below}
 use Rattle.tv_bits.proofs.SpelledNumbers.{Spells-below, Spells-from_values, value-bits_below}
 use Rattle.tv_bits.proofs.SpellingLaws.{new_bits_answer, new_bits_next}
 use Rattle.tv_bits.specs.Bit.{IsBit, bit_of}
@@ -257,9 +257,6 @@ length-quotient_values : (w a b : ℕ) → length (quotient_values w a b) ≡ 2 
 length-quotient_values w a b =
     length-append (words_values w a b) (zero_flag b ∷ gate_in a b ∷ above_values w a b) ∙ omega (arith, length-words w a b, length-above w a b)
 
-zero_flag-small : (b : ℕ) → zero_flag b < P
-zero_flag-small b = grind (arith, nat_tests)
-
 gate-small : (w : ℕ) → IsWidth w → (a b : ℕ) → a < 2 ^ w → gate_in a b < P
 gate-small w width a b h = grind (arith, nat_tests)
 
@@ -273,7 +270,7 @@ quotient_in_field w width a b h =
     let products_in = products_in_field (λ j. prefix_less_in b (remainder_in a b) (above_in w a b) (w / 4 * j)) 4 in
     let rest_in = InField-append bits products (bits_in_field (above_in w a b - 1) (w / 4)) products_in in
     let gate_small = InField-cons (gate_in a b) (bits ++ products) (gate-small w width a b h) rest_in in
-    let flag_small = InField-cons (zero_flag b) (gate_in a b ∷ (bits ++ products)) (zero_flag-small b) gate_small in
+    let flag_small = InField-cons (zero_flag b) (gate_in a b ∷ (bits ++ products)) (zero_flag-below b) gate_small in
     InField-append (quot ++ rem) (zero_flag b ∷ gate_in a b ∷ (bits ++ products)) words_in flag_small
 
 pub quotient_sizes : QuotientSizes

@@ -6,7 +6,6 @@ ghost use Rattle.tv_muldiv.specs.SignedHigh.{signed_product, product_twos, signe
 ghost use Rattle.tv_muldiv.specs.SignedHigh.{excess_in, signed_high_of, signed_high_values};
 ghost use Rattle.tv_muldiv.specs.SignedHigh.{SignedHighIsSound, SignedHighIsComplete};
 ghost use Rattle.tv_muldiv.specs.SignedHigh.{SignedHighSizes};
-ghost use Rattle.tv_muldiv.specs.Weighed.{signed_combination};
 ghost use Rattle.tv_word.specs.Widths.{IsWidth};
 
 use crate::records::High;

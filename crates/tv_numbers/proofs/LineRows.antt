@@ -21,7 +21,7 @@ use Rattle.tv_numbers.specs.Numbers.{with_byte_in, data_line}
 use Rattle.tv_numbers.specs.Tables.{unused_ops}
 use Rattle.tv_numbers.specs.Views.{seen}
 
-same_line : (c d s t o p m n : ℕ) → c ≡ d → s ≡ t → o ≡ p → m ≡ n → ◌≡◌ {A = Line} (record { cell = c; time = s; old = o; new = m }) (record { cell = d; time = t; old = p; new = n })
+pub same_line : (c d s t o p m n : ℕ) → c ≡ d → s ≡ t → o ≡ p → m ≡ n → ◌≡◌ {A = Line} (record { cell = c; time = s; old = o; new = m }) (record { cell = d; time = t; old = p; new = n })
 same_line c d s t o p m n e f g h = cc
 
 -- lines with the same cell, old and new

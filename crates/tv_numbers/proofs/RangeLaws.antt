@@ -1,6 +1,6 @@
 -- The numbers of a step stay in range.
 use Rattle.std.proofs.Common.{◌≡◌, ℕ, zero, suc, ◌+◌, ◌-◌, ◌*◌, ◌/◌, ◌%◌, ◌^◌, ◌<◌, ◌≤◌, ◌==◌, nat_lt, Bool, true, false, not, ◌&&◌, ◌||◌, if◌then◌else◌, List, length, refl, sym, ◌∙◌, arith, inl, inr, true≢false}
-use Rattle.std.specs.Prelude.{ℤ, pos, negsuc, ◌*ℤ◌, slice_index, slice_set}
+use Rattle.std.specs.Prelude.{ℤ, ◌*ℤ◌, slice_index, slice_set}
 use Rattle.std.specs.Int.Bits.{and_lt}
 use Rattle.std.proofs.Math.Nat.{div-le_self, mod-lt, mod-le}
 use Rattle.std.proofs.lemmas.Nat.{or_lt, xor_lt}
@@ -12,7 +12,7 @@ use Rattle.tv_isa.specs.Instruction.{decode}
 use Rattle.tv_isa.specs.declared.instr.Instr.{Instr}
 use Rattle.tv_mem.specs.Bytes.{byte_of}
 use Rattle.tv_step.proofs.ArithmeticLaws.{high_small}
-use Rattle.tv_step.proofs.RangeLaws.{word_at}
+use Rattle.tv_step.proofs.RangeLaws.{word_at, twos_small}
 use Rattle.tv_step.specs.Cells.{IsLine}
 use Rattle.tv_step.specs.Range.{AreWords}
 use Rattle.tv_word.proofs.WidthLaws.{for_widths}
@@ -24,10 +24,6 @@ use Rattle.tv_numbers.specs.Laws.{AtNumbers, NumbersStayInRange}
 use Rattle.tv_numbers.specs.Numbers.{operand_word, other_word, touches, asks, takes_primary, with_byte_in, found, writes, result_in, stepped, old_in, data_line}
 use Rattle.tv_numbers.specs.Tables.{results, flags, pcs, behind_pc, target}
 use Rattle.tv_numbers.specs.Views.{View, flag_of, ViewInRange}
-
-twos_small : (n : ℕ) (z : ℤ) → 0 < 2 ^ n → twos n z < 2 ^ n
-twos_small n (pos k) some = mod-lt k some
-twos_small n (negsuc k) some = omega arith
 
 pub flag_small : (f : Bool) → flag_of f < 2
 flag_small true = omega arith

@@ -158,7 +158,7 @@ module _ (w : ℕ) (width : IsWidth w) (x : List ℕ) (time : ℕ) (st : State) 
   at_seen = record { traced = traced; reads = reads; sets = sets; keeps = keeps; goes = goes; stands = stands }
 
 -- ---- at any view
-same_view : (a b : ℕ) (c d : List ℕ) (e f g h j k : ℕ) → a ≡ b → c ≡ d → e ≡ f → g ≡ h → j ≡ k
+pub same_view : (a b : ℕ) (c d : List ℕ) (e f g h j k : ℕ) → a ≡ b → c ≡ d → e ≡ f → g ≡ h → j ≡ k
     → ◌≡◌ {A = View} (record { pc = a; regs = c; flag = e; taken = g; ended = j }) (record { pc = b; regs = d; flag = f; taken = h; ended = k })
 same_view a b c d e f g h j k p q r s t = cc
 

@@ -14,8 +14,9 @@ use Rattle.tv_core.specs.Constraints.{Combination, value}
 use Rattle.tv_core.specs.Laws.{Assigns, Meets, InField}
 use Rattle.tv_core.specs.declared.field.TheConstants.{P}
 use Rattle.tv_isa.specs.Opcodes.{among, Entry, chosen}
-use Rattle.tv_regs.proofs.Gates.{times_zero, times_one, times_itself}
+use Rattle.tv_regs.proofs.Gates.{times_itself}
 use Rattle.tv_regs.specs.Choices.{covers, proper, proper_table, apart, apart_table, disjoint, group, numbers, choice_of, choices_of, choose_of, choose_values, GroupIsSound, ChooseIsSound, ChooseIsComplete, ChooseSizes}
+use Rattle.tv_bits.proofs.SelectLaws.{times_one, times_zero}
 
 -- a flag
 abbrev flag : Bool → ℕ

@@ -11,12 +11,6 @@ use Rattle.tv_core.specs.Laws.{Assigns, InField}
 use Rattle.tv_core.specs.declared.field.TheConstants.{P}
 use Rattle.tv_regs.specs.Reading.{words_at, wires_top}
 
-pub times_zero : (b d : ℕ) → b ≡ 0 → b * d % P ≡ 0
-times_zero b d none = rw none (omega arith)
-
-pub times_one : (b d : ℕ) → b ≡ 1 → d < P → b * d % P ≡ d
-times_one b d one small = rw one (omega arith)
-
 -- a number less itself, any number of times
 pub times_itself : (g w x : ℕ) → w ≡ x → x < P → g * ((w + (P - x)) % P) % P ≡ 0
 times_itself g w x e h = let none : (w + (P - x)) % P ≡ 0 = omega arith in ap (λ n. g * n % P) none ∙ omega arith

@@ -1,24 +1,17 @@
 -- The laws of a value kept, and of one of two.
-use Rattle.std.proofs.Common.{◌≡◌, ℕ, ◌+◌, ◌-◌, ◌*◌, ◌%◌, ◌<◌, List, [], inl, inr, refl, sym, ◌∙◌, ap, arith, mod-lt}
+use Rattle.std.proofs.Common.{◌≡◌, ℕ, ◌+◌, ◌-◌, ◌*◌, ◌%◌, List, [], refl, sym, ◌∙◌, ap}
 use Rattle.std.specs.Prelude.{slice_index}
-use Rattle.tv_bits.proofs.BitLaws.{bit_cases}
 use Rattle.tv_bits.proofs.SizeLaws.{select_in_field}
-use Rattle.tv_bits.specs.Bit.{IsBit}
-use Rattle.tv_bits.specs.Select.{selected}
 use Rattle.tv_core.proofs.CombinationLaws.{value-below, value-constant, value-less, value-wire, wire-below}
-use Rattle.tv_core.proofs.DifferenceLaws.{same_of_minus, cancel_minus}
 use Rattle.tv_core.proofs.FieldLaws.{InField-none, InField-cons}
 use Rattle.tv_core.specs.Circuits.{fresh, put, pure, ◌>>=◌}
 use Rattle.tv_core.specs.Combinations.{wire, less}
 use Rattle.tv_core.specs.Constraints.{Combination, value}
 use Rattle.tv_core.specs.Laws.{Assigns}
 use Rattle.tv_core.specs.declared.field.TheConstants.{P}
-use Rattle.tv_regs.proofs.Gates.{times_zero, times_one}
 use Rattle.tv_regs.specs.Picking.{kept_of, pick_of, KeptIsSound, KeptIsComplete, KeptSizes, PickIsSound, PickIsComplete, PickSizes}
-
--- ---- a value kept
-times_one_right : (x : ℕ) → x < P → x * (1 % P) % P ≡ x
-times_one_right x h = omega arith
+use Rattle.tv_bits.proofs.SelectLaws.{sound_by, complete_by}
+use Rattle.tv_bits.proofs.SpellingLaws.{times_one_right}
 
 pub kept_sound : KeptIsSound
 unfolding kept_of fresh put pure ◌>>=◌
@@ -45,25 +38,6 @@ kept_sizes = record {
   fills = λ x v next. kept_next x next;
   in_field = λ v small. InField-cons v [] small InField-none;
 }
-
--- ---- one of two
-selected-zero : (b x y : ℕ) → b ≡ 0 → selected b x y ≡ y
-selected-zero b x y none = rw none refl
-
-selected-one : (b x y : ℕ) → b ≡ 1 → selected b x y ≡ x
-selected-one b x y one = rw one refl
-
-sound_by : (b x y w : ℕ) → x < P → y < P → w < P → IsBit b → b * ((x + (P - y)) % P) % P ≡ (w + (P - y)) % P → w ≡ selected b x y
-sound_by b x y w xs ys ws bit e = elim (bit_cases b bit) [
-  | inl none ↦ same_of_minus w y ws ys (sym e ∙ times_zero b _ none) ∙ sym (selected-zero b x y none)
-  | inr one ↦ cancel_minus w x y ws xs ys (sym e ∙ times_one b _ one (mod-lt _ (omega arith))) ∙ sym (selected-one b x y one)
-]
-
-complete_by : (b x y w : ℕ) → y < P → IsBit b → w ≡ selected b x y → b * ((x + (P - y)) % P) % P ≡ (w + (P - y)) % P
-complete_by b x y w ys bit e = elim (bit_cases b bit) [
-  | inl none ↦ times_zero b _ none ∙ omega (arith, e ∙ selected-zero b x y none)
-  | inr one ↦ times_one b _ one (mod-lt _ (omega arith)) ∙ ap (λ v. (v + (P - y)) % P) (sym (e ∙ selected-one b x y one))
-]
 
 module _ (z : List ℕ) (assigns : Assigns z) (b : Combination) (w : ℕ) (x y : Combination) where
   left : value b z * value (less x y) z % P ≡ value b z * ((value x z + (P - value y z)) % P) % P

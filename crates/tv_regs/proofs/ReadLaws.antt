@@ -10,8 +10,9 @@ use Rattle.tv_core.proofs.Meeting.{Meets-split, Meets-join}
 use Rattle.tv_core.specs.Circuits.{fresh, put, pure, ◌>>=◌}
 use Rattle.tv_core.specs.Laws.{InField}
 use Rattle.tv_core.specs.Loops.{times}
-use Rattle.tv_regs.proofs.Gates.{times_zero, times_one, times_itself, word_of, product_value, word_below}
+use Rattle.tv_regs.proofs.Gates.{times_itself, word_of, product_value, word_below}
 use Rattle.tv_regs.specs.Reading.{read_of, read_turn, read_reg_of, read_reg_values, ReadRegIsSound, ReadRegIsComplete, ReadRegSizes}
+use Rattle.tv_bits.proofs.SelectLaws.{times_one, times_zero}
 
 pub read_reg_sound : ReadRegIsSound
 unfolding read_reg_of read_of fresh put pure ◌>>=◌

@@ -24,9 +24,10 @@ use Rattle.tv_core.specs.Constraints.{Combination, value}
 use Rattle.tv_core.specs.Laws.{Assigns, HasFrom, InField}
 use Rattle.tv_core.specs.Loops.{times}
 use Rattle.tv_core.specs.declared.field.TheConstants.{P}
-use Rattle.tv_regs.proofs.Gates.{times_zero, times_one, word_of, word_below, product_value, difference_value, wires_top-at}
+use Rattle.tv_regs.proofs.Gates.{word_of, word_below, product_value, difference_value, wires_top-at}
 use Rattle.tv_regs.specs.Reading.{words_at, wires_top}
 use Rattle.tv_regs.specs.Writing.{write_of, write_turn, tie_of, regs_sum, change, change_with, write_reg_of, written_regs, write_reg_values, WriteRegIsSound, WriteRegIsComplete, WriteRegSizes}
+use Rattle.tv_bits.proofs.SelectLaws.{times_one, times_zero}
 
 -- ---- the sums of the registers before and after
 -- sums that differ at one number

@@ -7,6 +7,7 @@ use Rattle.std.proofs.lemmas.Bool.Decides.{nat_tests}
 use Rattle.std.proofs.lemmas.List.Sums.{sum_by-set, get_or-le-sum_by}
 use Rattle.tv_route.proofs.Pairing.{IsPairing}
 use Rattle.tv_route.specs.Route.{Mark, other, walk}
+use Rattle.tv_benes.proofs.NetworkLaws.{if_apart}
 
 -- how much of an input is not settled
 abbrev pub open_mark : Mark → ℕ
@@ -73,9 +74,6 @@ apart-eqb a b e = grind (arith, nat_tests)
 
 pub if_same : {X : Type 0} (a b : ℕ) (x y : X) → a ≡ b → (if a == b then x else y) ≡ x
 if_same a b x y e = ap (λ c. if c then x else y) (eq-eqb a b e)
-
-pub if_apart : {X : Type 0} (a b : ℕ) (x y : X) → a ≢ b → (if a == b then x else y) ≡ y
-if_apart a b x y e = ap (λ c. if c then x else y) (apart-eqb a b e)
 
 module _ (m : ℕ) (s t : ℕ → ℕ) (sp : IsPairing m s) (tp : IsPairing m t) (start x : ℕ) (marks : List Mark) (u : IsUnderway m s t start x marks) where
   abbrev after : List Mark

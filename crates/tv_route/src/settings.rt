@@ -1,4 +1,4 @@
-ghost use Rattle.std.specs.Prelude.{◌≡◌, ℕ, suc, ◌+◌, ◌-◌, ◌*◌, ◌/◌, ◌^◌, ◌<◌, ◌≤◌, ◌++◌};
+ghost use Rattle.std.specs.Prelude.{◌≡◌, suc, ◌+◌, ◌-◌, ◌*◌, ◌/◌, ◌^◌, ◌<◌, ◌≤◌, ◌++◌};
 ghost use Rattle.std.specs.Prelude.{if◌then◌else◌, length, slice_index, IfOk, OnOk};
 ghost use Rattle.tv_benes.specs.Through.{missing, places};
 ghost use Rattle.tv_benes.specs.declared.shape.Net.TheVariants.{Benes, Waksman};

@@ -8,12 +8,11 @@ use Rattle.tv_bits.proofs.ZeroLaws.{zero_next, zero_sound, zero_complete}
 use Rattle.tv_bits.specs.Select.{select_of, selected}
 use Rattle.tv_bits.specs.Bit.{IsBit}
 use Rattle.tv_bits.specs.Zero.{zero_of, zero_flag, zero_values}
-use Rattle.tv_core.proofs.CombinationLaws.{value-less, value-below, value-constant, value-wire}
+use Rattle.tv_core.proofs.CombinationLaws.{value-less, value-below, value-wire, value-once}
 use Rattle.tv_core.proofs.FieldLaws.{InField-none, InField-cons, InField-append, InField-joined_below}
-use Rattle.tv_core.proofs.JoinedLaws.{joined_below-zero, joined_below-suc, length-joined_below, has_each_list}
+use Rattle.tv_core.proofs.JoinedLaws.{length-joined_below, has_each_list}
 use Rattle.tv_core.proofs.LoopLaws.{turns-next}
 use Rattle.tv_core.proofs.Meeting.{Meets-split, Meets-join, HasFrom-split, parts, whole}
-use Rattle.tv_core.specs.Below.{joined_below}
 use Rattle.tv_core.specs.Circuits.{put, pure, turns, ◌>>=◌}
 use Rattle.tv_core.specs.Combinations.{constant, less}
 use Rattle.tv_core.specs.Constraints.{Combination, value}
@@ -42,11 +41,6 @@ scan_next earlier line next = looks_next earlier line next (length earlier)
 
 look_many : (earlier : List Line) (line : Line) (i : ℕ) → length (look_values earlier line i) ≡ 3
 look_many earlier line i = refl
-
-once : (z : List ℕ) (x : Combination) → Assigns z → value x z * value (constant 1) z % P ≡ value x z
-once z x assigns =
-    let small = value-below x z in
-    ap (λ k. value x z * k % P) (value-constant assigns 1) ∙ omega arith
 
 value_at : (f : LineLc → Line) (ls : List LineLc) (i : ℕ) → get_or (map f ls) i (f no_line) ≡ f (get_or ls i no_line)
 value_at f [] i = refl
@@ -148,7 +142,7 @@ unfolding scan_of put
 scan_sound z next earlier line assigns meets =
     let looks = turns (length earlier) (turn_of earlier line) [] in
     let both = parts z looks (λ word. put word (constant 1) line.old) next meets in
-    sym both.1.0 ∙ once z (looks next).answer assigns ∙ looks_sound z earlier line assigns next (length earlier) (omega arith) both.0 ∙ all_taken z earlier line assigns
+    sym both.1.0 ∙ value-once z (looks next).answer assigns ∙ looks_sound z earlier line assigns next (length earlier) (omega arith) both.0 ∙ all_taken z earlier line assigns
 
 pub scan_complete : ScanIsComplete
 unfolding scan_of put
@@ -157,7 +151,7 @@ scan_complete z next earlier line assigns is has =
     let each = has_each_list z next (length (map (line_value z) earlier)) 3 (look_values (map (line_value z) earlier) (line_value z line)) (λ i h. look_many (map (line_value z) earlier) (line_value z line) i) has in
     let n = long z earlier line assigns in
     let done = looks_complete z earlier line assigns next (length earlier) (omega arith) (λ i h. each i (omega arith)) in
-    whole z looks (λ word. put word (constant 1) line.old) next done.0 (once z (looks next).answer assigns ∙ done.1 ∙ all_taken z earlier line assigns ∙ sym is, tt)
+    whole z looks (λ word. put word (constant 1) line.old) next done.0 (value-once z (looks next).answer assigns ∙ done.1 ∙ all_taken z earlier line assigns ∙ sym is, tt)
 
 -- ---- sizes
 look_small : (earlier : List Line) (line : Line) → ((i : ℕ) → i < length earlier → (get_or earlier i zero_line).new < P) → (i : ℕ) → i < length earlier → InField (look_values earlier line i)

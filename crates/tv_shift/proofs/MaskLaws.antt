@@ -23,7 +23,7 @@ use Rattle.tv_core.specs.Constraints.{Combination, value}
 use Rattle.tv_core.specs.Laws.{Assigns, Meets, HasFrom}
 use Rattle.tv_core.specs.Loops.{times}
 use Rattle.tv_core.specs.declared.field.TheConstants.{P}
-use Rattle.tv_bits.proofs.BitLaws.{bit_cases}
+use Rattle.tv_bits.proofs.BitLaws.{bit_cases, product_bit}
 use Rattle.tv_shift.proofs.ShiftNumbers.{half_power}
 use Rattle.tv_shift.proofs.ThermometerLaws.{below-in, below-out, below-bit, Marks}
 use Rattle.tv_shift.specs.Halves.{chosen_half, other_half}
@@ -71,9 +71,6 @@ masked_answer mask digit n next = refl
 pub masked_next : (mask digit : ℕ → Combination) (n next : ℕ) → (masked_of mask digit n next).next ≡ next + n
 unfolding masked_of here pure ◌>>=◌
 masked_next mask digit n next = turn-next mask digit n next n
-
-product_bit : (a b : ℕ) → IsBit a → IsBit b → IsBit (a * b)
-product_bit a b h k = elim (bit_cases a h) [ inl p ↦ rw p (omega arith) | inr p ↦ rw p (omega (arith, k)) ]
 
 -- the second bit of a pair is weighed by the square of the circuit's constant
 weight : (w : ℕ) → IsWidth w → (m n : ℕ) → IsBit m → IsBit n → (m + 2 ^ (w / 4 / 2) * 2 ^ (w / 4 / 2) * n) % P ≡ m + 2 ^ (w / 4) * n

@@ -24,7 +24,7 @@ use Rattle.tv_core.specs.declared.field.TheConstants.{P}
 use Rattle.tv_shift.proofs.HalfLaws.{halves_sound, halves_complete, halves_next}
 use Rattle.tv_shift.proofs.MaskLaws.{low_sound, high_sound, part_complete, masked_next}
 use Rattle.tv_bits.proofs.TimesLaws.{times_sound, times_complete, ratio_sound, ratio_complete}
-use Rattle.tv_shift.proofs.ShiftNumbers.{word-small, half_power, half_left-below, half_right-below, chosen_rest, other_is, left_whole, right_whole, right_of, of_right, rest-left, distance_near, distance_far, far_left, far_right, power-small}
+use Rattle.tv_shift.proofs.ShiftNumbers.{half_power, half_left-below, half_right-below, chosen_rest, other_is, left_whole, right_whole, right_of, of_right, rest-left, distance_near, distance_far, far_left, far_right, power-small}
 use Rattle.tv_shift.proofs.ShiftSizes.{places_next, parts_next, half_next, rest_next, length-places, length-parts}
 use Rattle.tv_shift.proofs.ThermometerLaws.{Marks, thermometer_sound, thermometer_complete, value-power}
 use Rattle.tv_shift.specs.Halves.{chosen_half, other_half, halves_of}
@@ -38,6 +38,7 @@ use Rattle.tv_shift.specs.declared.masks.Part.TheVariants.{Low, High}
 use Rattle.tv_shift.specs.declared.masks.Parts.{Parts}
 use Rattle.tv_shift.specs.declared.masks.Places.{Places}
 use Rattle.tv_word.specs.Widths.{IsWidth}
+use Rattle.tv_word.proofs.WidthLaws.{word_small}
 
 -- what is known of places, and of parts, for a word v, a distance whose low bits spell s, and the bit b above them
 record ArePlaces (w : ℕ) (z : List ℕ) (p : Places) (s b v : ℕ) : Type 0 where
@@ -222,7 +223,7 @@ module _ (w : ℕ) (width : IsWidth w) (z : List ℕ) (assigns : Assigns z) (x y
         let second = Meets-split z right.list [] first.1 in
         let divided = ap (λ n. n * slice_index z right.answer % P) (sym power_value) ∙ ratio_sound z left.next power (less (wire half.right) (bits_combination p.low (w / 4))) assigns second.0 ∙ right_value in (
           times_sound z at power (less (wire half.left) (scaled (2 ^ (w / 2) % P) (bits_combination p.high (w / 4)))) assigns first.0 ∙ left_product,
-          right_of w width (d % 2 ^ half_log w) s-small (half_right (w / 2) (bit_at d (half_log w)) v) (value (bits_combination p.low (w / 4)) z) (word-small w width _ right-below) low_is (slice_index z right.answer) (wire-below assigns right.answer) divided,
+          right_of w width (d % 2 ^ half_log w) s-small (half_right (w / 2) (bit_at d (half_log w)) v) (value (bits_combination p.low (w / 4)) z) (word_small w width _ right-below) low_is (slice_index z right.answer) (wire-below assigns right.answer) divided,
         )
 
     rest_complete : (at : ℕ) → slice_index z at ≡ shifted_left w (half_left (w / 2) (bit_at d (half_log w)) v) (d % 2 ^ half_log w) → slice_index z (at + 1) ≡ shifted_right (half_right (w / 2) (bit_at d (half_log w)) v) (d % 2 ^ half_log w) → Meets z (by_rest_of w p half at).list
@@ -232,7 +233,7 @@ module _ (w : ℕ) (width : IsWidth w) (z : List ℕ) (assigns : Assigns z) (x y
         let right = ratio_of power (less (wire half.right) (bits_combination p.low (w / 4))) left.next in
         Meets-join z left.list _ (times_complete z at power (less (wire half.left) (scaled (2 ^ (w / 2) % P) (bits_combination p.high (w / 4)))) assigns (l ∙ sym left_product, tt))
         (Meets-join z right.list [] (ratio_complete z (at + 1) power (less (wire half.right) (bits_combination p.low (w / 4))) (slice_index z (at + 1)) assigns
-        (ap (λ n. n * slice_index z (at + 1) % P) power_value ∙ of_right w width (d % 2 ^ half_log w) s-small (half_right (w / 2) (bit_at d (half_log w)) v) (value (bits_combination p.low (w / 4)) z) (word-small w width _ right-below) low_is (slice_index z (at + 1)) r ∙ sym right_value) (refl, tt)) tt)
+        (ap (λ n. n * slice_index z (at + 1) % P) power_value ∙ of_right w width (d % 2 ^ half_log w) s-small (half_right (w / 2) (bit_at d (half_log w)) v) (value (bits_combination p.low (w / 4)) z) (word_small w width _ right-below) low_is (slice_index z (at + 1)) r ∙ sym right_value) (refl, tt)) tt)
 
   -- ---- 0 from a word's width on
   one_times : (n : ℕ) → n < P → 1 * n % P ≡ n
@@ -251,7 +252,7 @@ module _ (w : ℕ) (width : IsWidth w) (z : List ℕ) (assigns : Assigns z) (x y
   left_gated = elim (cases_eq (d / 2 ^ (half_log w + 1)) 0) [
     | inl near ↦
         let small = mod-lt (half_left (w / 2) (bit_at d (half_log w)) v * 2 ^ (d % 2 ^ half_log w)) (pow_pos w) in
-        let number = word-small w width _ small in
+        let number = word_small w width _ small in
         ap (λ f. f * shifted_left w (half_left (w / 2) (bit_at d (half_log w)) v) (d % 2 ^ half_log w) % P) (zero_flag-zero (d / 2 ^ (half_log w + 1)) near)
         ∙ one_times (shifted_left w (half_left (w / 2) (bit_at d (half_log w)) v) (d % 2 ^ half_log w)) (omega arith)
         ∙ left_whole w width (bit_at d (half_log w)) v b-bit (Spells-below word) (d % 2 ^ half_log w) s-small
@@ -266,7 +267,7 @@ module _ (w : ℕ) (width : IsWidth w) (z : List ℕ) (assigns : Assigns z) (x y
   right_gated = elim (cases_eq (d / 2 ^ (half_log w + 1)) 0) [
     | inl near ↦
         let small = div-le_self (half_right (w / 2) (bit_at d (half_log w)) v) (2 ^ (d % 2 ^ half_log w)) in
-        let less = word-small w width _ right-below in
+        let less = word_small w width _ right-below in
         ap (λ f. f * shifted_right (half_right (w / 2) (bit_at d (half_log w)) v) (d % 2 ^ half_log w) % P) (zero_flag-zero (d / 2 ^ (half_log w + 1)) near)
         ∙ one_times (shifted_right (half_right (w / 2) (bit_at d (half_log w)) v) (d % 2 ^ half_log w)) (omega arith)
         ∙ right_whole w width (bit_at d (half_log w)) v b-bit (Spells-below word) (d % 2 ^ half_log w)

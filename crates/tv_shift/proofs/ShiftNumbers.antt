@@ -11,14 +11,9 @@ use Rattle.tv_shift.specs.Halves.{chosen_half, other_half}
 use Rattle.tv_shift.specs.Masks.{half_log}
 use Rattle.tv_shift.specs.Shift.{half_left, half_right}
 use Rattle.tv_shift.specs.Thermometer.{products_below}
-use Rattle.tv_word.proofs.WidthLaws.{for_widths}
+use Rattle.tv_word.proofs.WidthLaws.{for_widths, word_small}
 use Rattle.tv_word.specs.Widths.{IsWidth}
 use Rattle.std.proofs.lemmas.Nat.{pow-add, pow_pos, mod-pow-add, mul-mod_first}
-
--- ---- the widths
--- a word is a number of the field
-pub word-small : (w : ℕ) → IsWidth w → (v : ℕ) → v < 2 ^ w → v < 2 ^ 32
-word-small w width v h = grind arith
 
 -- half a word
 pub half_power : (w : ℕ) → IsWidth w → 2 ^ half_log w ≡ w / 2
@@ -122,9 +117,9 @@ module _ (w : ℕ) (width : IsWidth w) (s : ℕ) (small : s < w / 2) where
       let split : (w / 2 - s) + w / 2 ≡ w - s = omega arith in
       let low : x % 2 ^ (w - s) ≡ x / 2 ^ (w / 2) % 2 ^ (w / 2 - s) * 2 ^ (w / 2) + x % 2 ^ (w / 2) = ap (λ k. x % 2 ^ k) (sym split) ∙ mod-pow-add x (w / 2 - s) (w / 2) in
       let same : (x + (P - 2 ^ (w / 2) * t % P)) % P ≡ x % 2 ^ (w - s) =
-      what_is_left (2 ^ (w / 2)) (x / 2 ^ (w / 2)) (x % 2 ^ (w / 2)) t (x / 2 ^ (w / 2) % 2 ^ (w / 2 - s)) x (sym (div-add-mod x (2 ^ (w / 2)))) part (word-small w width x word) ∙ sym low in
+      what_is_left (2 ^ (w / 2)) (x / 2 ^ (w / 2)) (x % 2 ^ (w / 2)) t (x / 2 ^ (w / 2) % 2 ^ (w / 2 - s)) x (sym (div-add-mod x (2 ^ (w / 2)))) part (word_small w width x word) ∙ sym low in
       let below = mod-lt (x * 2 ^ s) (pow_pos w) in
-      ap (λ k. 2 ^ s * k % P) same ∙ ap (λ k. k % P) (sym (left_low w s x (omega arith))) ∙ mod-eq_of_lt (let number = word-small w width (x * 2 ^ s % 2 ^ w) below in omega arith)
+      ap (λ k. 2 ^ s * k % P) same ∙ ap (λ k. k % P) (sym (left_low w s x (omega arith))) ∙ mod-eq_of_lt (let number = word_small w width (x * 2 ^ s % 2 ^ w) below in omega arith)
     where
       -- a number without the part t of its quotient by n
       what_is_left : (n q r t m x : ℕ) → x ≡ n * q + r → t + m ≡ q → x < 2 ^ 32 → (x + (P - n * t % P)) % P ≡ m * n + r

@@ -21,7 +21,7 @@ use Rattle.tv_shift.proofs.HalfLaws.{halves_next}
 use Rattle.tv_shift.proofs.LevelValues.{values-none, values-more, length-values}
 use Rattle.tv_shift.proofs.MaskLaws.{masked_next}
 use Rattle.tv_bits.proofs.TimesLaws.{times_next, ratio_next, times_answer}
-use Rattle.tv_shift.proofs.ShiftNumbers.{word-small, products_half, half_left-below, half_right-below}
+use Rattle.tv_shift.proofs.ShiftNumbers.{products_half, half_left-below, half_right-below}
 use Rattle.tv_shift.proofs.ThermometerLaws.{below-bit, thermometer_next}
 use Rattle.tv_shift.specs.Halves.{chosen_half, other_half, halves_of}
 use Rattle.tv_shift.specs.Masks.{masked_value, masked_values, half_log, mask_at, mask_value, digit_at}
@@ -32,6 +32,7 @@ use Rattle.tv_shift.specs.declared.masks.Part.{Part}
 use Rattle.tv_shift.specs.declared.masks.Part.TheVariants.{Low, High}
 use Rattle.tv_shift.specs.declared.masks.Parts.{Parts}
 use Rattle.tv_word.specs.Widths.{IsWidth}
+use Rattle.tv_word.proofs.WidthLaws.{word_small}
 
 -- ---- where the circuits end
 pub places_next : (w : ℕ) → IsWidth w → (x y next : ℕ) → (places_of w x y next).next ≡ next + places_made w
@@ -160,8 +161,8 @@ parts-below w width v d =
     (InField-each_below (masked_value (mask_value w s High) (other_half (w / 2) b v) (w / 4)) (λ i. masked-below w width High s (other_half (w / 2) b v) i) (w / 4)))
 
 -- a word, and what is left of one
-word-below : (w : ℕ) → IsWidth w → (n : ℕ) → n < 2 ^ w → n < P
-word-below w width n h = let small = word-small w width n h in omega arith
+pub word-below : (w : ℕ) → IsWidth w → (n : ℕ) → n < 2 ^ w → n < P
+word-below w width n h = let small = word_small w width n h in omega arith
 
 left-in_field : (w : ℕ) → IsWidth w → (x y : ℕ) → shifted_left w x y < P
 left-in_field w width x y = word-below w width _ (mod-lt (x * 2 ^ y) (pow_pos w))

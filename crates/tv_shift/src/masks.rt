@@ -1,9 +1,9 @@
-ghost use Rattle.std.specs.Prelude.{◌≡◌, ℕ, ◌+◌, ◌-◌, ◌*◌, ◌/◌, ◌%◌, ◌≤◌, ◌<◌, ◌^◌, length, max};
+ghost use Rattle.std.specs.Prelude.{◌≡◌, ◌+◌, ◌-◌, ◌*◌, ◌/◌, ◌%◌, ◌≤◌, ◌<◌, ◌^◌, length, max};
 ghost use Rattle.std.specs.Prelude.{false, IfOk, OnOk};
 ghost use Rattle.std.specs.Int.{bit_at};
 ghost use Rattle.tv_core.specs.Combinations.{top};
 ghost use Rattle.tv_core.specs.Giving.{GivesIn};
-ghost use Rattle.tv_core.specs.Sinks.{Meaning, PutsIn, Grows, Room};
+ghost use Rattle.tv_core.specs.Sinks.{PutsIn, Grows, Room};
 ghost use Rattle.tv_shift.specs.declared.masks.Part.TheVariants.{Low, High};
 ghost use Rattle.tv_shift.specs.Masks.{half_log, mask_at, mask_value, digit_at, masked_pair_of};
 ghost use Rattle.tv_shift.specs.Masks.{masked_of, masked_value, masked_values, AreMade};

@@ -26,6 +26,7 @@ use Rattle.tv_r1cs_write.specs.Streams as streams
 use Rattle.tv_r1cs_write.specs.Streams.{Stream, Progress, stream_meaning, finished_bytes}
 use Rattle.tv_shrink.specs.Shrinking.{Shrunken}
 use Rattle.tv_shrink.specs.Written.{Writes, shrunken_bytes}
+use Rattle.tv_container.proofs.Streamed.{caused_seen}
 
 -- a file that was created and then only appended to
 grown : (old begun new : Outside) (name : List ℕ) → Creates old begun name (Ok tt) → (appends : OnlyAppends begun new name) → HasBytes old new name appends.more
@@ -72,10 +73,6 @@ caused_since fault old begun new name creates cause =
 caused_later : (fault : SinkFault) (begun mid new : Outside) (name : List ℕ) → OnlyAppends begun mid name → Caused fault mid new → Caused fault begun new
 caused_later fault begun mid new name appends cause =
     IsCause-after fault (λ (outside : Outside). outside.write_faults) (λ (outside : Outside). outside.wants) begun mid new appends.later.write_faults appends.later.wants cause
-
-cause_seen : {S : Type 0} (seen : S → Outside) (old new : S) (fault : SinkFault) → IsCause fault (λ s. (seen s).write_faults) (λ s. (seen s).wants) old new → Caused fault (seen old) (seen new)
-cause_seen seen old new sink.Failed cause = cause
-cause_seen seen old new sink.Memory cause = cause
 
 writes_part : (shrunken : Shrunken) (name : List ℕ) (old begun new : Outside) (fault : SinkFault) → Creates old begun name (Ok tt) → OnlyAppends begun new name → HasFront new name (shrunken_bytes shrunken) → Caused fault begun new →
     Writes old new name shrunken (Err fault)
@@ -155,7 +152,7 @@ module _ {S A : Type 0} (seen : S → Stream) (shrunken : Shrunken) (name : List
       let named : (seen new).name ≡ name = some.keeps.name ∙ is.named in
       let whole : tried ++ some.back ≡ shrunken.system.constraints = append_assoc some.front (some.refused ∷ []) some.back ∙ sym some.at ∙ list in
       let front : HasFront (seen new).outside name (shrunken_bytes shrunken) = rw (named, whole, bytes new some.keeps) at (streams_are_fronts (seen new) tried some.back shrunken.labels (inr (some.tried [] is.stands))) in
-      writes_part shrunken name old (seen begun).outside (seen new).outside fault is.creates (rw is.named at some.keeps.outside) front (cause_seen (λ s. (seen s).outside) begun new fault some.cause)
+      writes_part shrunken name old (seen begun).outside (seen new).outside fault is.creates (rw is.named at some.keeps.outside) front (caused_seen (λ s. (seen s).outside) begun new fault some.cause)
 
   -- all constraints were put, and the file was finished, or finishing it was refused
   pub writes_all : (done : S) (new : Outside) (answer : A) (result : Result (Unit {0}) SinkFault) → PutsAll (stream_meaning seen) begun done circuit answer →

@@ -19,7 +19,7 @@ use Rattle.tv_shrink.specs.Tidy.{RowIsNormal, AreNormal, Covers, IsKept, pass_of
 use Rattle.tv_shrink.proofs.Linear.{replaced-lacking}
 use Rattle.tv_shrink.proofs.NormalLaws.{Over, Over-weaker, IsNormalFrom-normal}
 use Rattle.tv_shrink.proofs.PassLaws.{rows_at, rows_changed, rows_dropped}
-use Rattle.tv_shrink.proofs.ReplacingLaws.{none_has, none_some, Over-linear_form, Over-solved, Over-has_wire, Over-replaced, Over-lacking}
+use Rattle.tv_shrink.proofs.ReplacingLaws.{none_some, Over-linear_form, Over-solved, Over-has_wire, Over-replaced, Over-lacking, found_later}
 use Rattle.tv_shrink.proofs.Constants.{above_at, found_at}
 
 or_false : (b : Bool) → (b || false) ≡ b
@@ -230,18 +230,13 @@ has_at k t [] h at = absurd (omega arith)
 has_at zero t (u ∷ x) h at = or_left (eqb u.1 t.1) (list_any (λ v. eqb v.1 t.1) x) (eq-eqb u.1 t.1 (ap (λ v. v.1) (sym at)))
 has_at (suc k) t (u ∷ x) h at = or_right (eqb u.1 t.1) (list_any (λ v. eqb v.1 t.1) x) (has_at k t x (omega arith) at)
 
--- a combination's own wires
-has_more : (w : ℕ) (t : ℕ × ℕ) (x : Combination) → has_wire w x ≡ true → has_wire w (t ∷ x) ≡ true
-unfolding has_wire
-has_more w t x e = or_right (eqb t.1 w) (list_any (λ u. eqb u.1 w) x) e
-
 has_first : (t : ℕ × ℕ) (x : Combination) → has_wire t.1 (t ∷ x) ≡ true
 unfolding has_wire
 has_first t x = or_left (eqb t.1 t.1) (list_any (λ u. eqb u.1 t.1) x) (eq-eqb t.1 t.1 refl)
 
 pub over_itself : (x : Combination) → Over (λ w. has_wire w x ≡ true) x
 over_itself [] = tt
-over_itself (t ∷ x) = (has_first t x, Over-weaker (λ w. has_wire w x ≡ true) (λ w. has_wire w (t ∷ x) ≡ true) x (λ w e. has_more w t x e) (over_itself x))
+over_itself (t ∷ x) = (has_first t x, Over-weaker (λ w. has_wire w x ≡ true) (λ w. has_wire w (t ∷ x) ≡ true) x (λ w e. found_later w t x e) (over_itself x))
 
 row_over : (c : Constraint) → Over (λ w. row_has w (Some c) ≡ true) c.a × Over (λ w. row_has w (Some c) ≡ true) c.b × Over (λ w. row_has w (Some c) ≡ true) c.c
 row_over c = (
@@ -367,9 +362,6 @@ module _ (publics : ℕ) (lists next : List (List ℕ)) (rows : List ℕ) (k : �
         | inl earlier ↦ added w i above earlier e
         | inr here ↦ absurd (omega (arith, eqb-true t.1 w here))
       ])
-
-pub none_spread : (w : ℕ) → has_wire w [] ≡ true → ⊥
-none_spread w e = none_has w e
 
 -- what was put out, from the row that was looked at
 pub form_there : (rows : List (Option Constraint)) (at : ℕ) (row : Option Constraint) (form : Combination) (b : Bool) → row ≡ get_or rows at None → linear_row row ≡ cond b (Some form) None → b ≡ true → linear_row (get_or rows at None) ≡ Some form

@@ -1,6 +1,6 @@
 //! One pass over the constraints of a system, in which private wires are replaced.
 
-ghost use Rattle.std.specs.Prelude.{◌≡◌, ◌≤◌, ◌<◌, ◌==◌, ℕ, [], true, false, length, map};
+ghost use Rattle.std.specs.Prelude.{◌≡◌, ◌≤◌, ◌<◌, ◌==◌, ℕ, [], true, false, length};
 ghost use Rattle.std.specs.Prelude.{slice_index_or, slice_set, None, Some, OnOk, IfOk};
 ghost use Rattle.std.specs.Prelude.{if◌then◌else◌};
 ghost use Rattle.std.specs.List.{fold, list_all, list_any, range_with_len};
@@ -8,7 +8,7 @@ ghost use Rattle.std.specs.Option.{option_map};
 ghost use Rattle.tv_shrink.specs.Normal.{IsNormalFrom};
 ghost use Rattle.tv_shrink.specs.Passing.{all_replaced, attempted, dropped, linear_row, row_fits};
 ghost use Rattle.tv_shrink.specs.Passing.{turn};
-ghost use Rattle.tv_shrink.specs.Replacing.{coefficient, has_wire, replaced_in, solved};
+ghost use Rattle.tv_shrink.specs.Replacing.{has_wire, replaced_in, solved};
 ghost use Rattle.tv_shrink.specs.Tidy.{pass_of, row_has, AreNormal, IsKept, RowIsNormal};
 
 use crate::places::Places;

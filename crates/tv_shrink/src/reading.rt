@@ -1,12 +1,9 @@
 //! Reading a system into the rows of a pass.
 
-ghost use Rattle.std.specs.Prelude.{◌≡◌, ◌⊎◌, ◌+◌, ◌-◌, ◌≤◌, ◌<◌, ◌^◌, [], ◌∷◌, ◌++◌, ℕ, Some};
-ghost use Rattle.std.specs.Prelude.{None, Ok, Err, length, replicate, false, OnOk, IfOk, IfErr};
-ghost use Rattle.std.specs.Prelude.{slice_index_or, slice_set, MatchResult};
-ghost use Rattle.tv_container.specs.Reading.{Looks, Known, IsMissing};
-ghost use Rattle.tv_r1cs_read.specs.R1cs.{system_of};
-ghost use Rattle.tv_r1cs_read.specs.Rows.{combination_of, constraint_of, IsOver};
-ghost use Rattle.tv_shrink.specs.Answers.{wide, wide_in, IsTooWide};
+ghost use Rattle.std.specs.Prelude.{◌≡◌, ◌+◌, ◌-◌, ◌<◌, ◌^◌, [], ◌∷◌, ◌++◌, Some, None, Ok, length};
+ghost use Rattle.std.specs.Prelude.{replicate, false, OnOk, IfOk, IfErr, slice_index_or, slice_set};
+ghost use Rattle.tv_r1cs_read.specs.Rows.{constraint_of, IsOver};
+ghost use Rattle.tv_shrink.specs.Answers.{wide_in, IsTooWide};
 ghost use Rattle.tv_shrink.specs.Normal.{normal, normal_constraint};
 ghost use Rattle.tv_shrink.specs.Tidy.{AreNormal, Covers, IsKept, IsWithin, RowIsWithin};
 ghost use Rattle.tv_shrink.specs.declared.fault.ShrinkFault.{ShrinkFault};

@@ -1,12 +1,11 @@
 //! Constraints of normal combinations.
 
-ghost use Rattle.std.specs.Prelude.{◌≡◌, ◌<◌, ◌≤◌, ◌-◌, ◌++◌, [], List, ℕ, length, OnOk, IfOk};
-ghost use Rattle.std.specs.Prelude.{Some, None, if◌then◌else◌};
+ghost use Rattle.std.specs.Prelude.{◌≡◌, ◌<◌, ◌-◌, ◌++◌, OnOk, IfOk, Some, None, if◌then◌else◌};
 ghost use Rattle.tv_core.specs.Combinations.{scaled};
 ghost use Rattle.tv_core.specs.declared.field.TheConstants.{P};
 ghost use Rattle.tv_shrink.specs.Normal.{normal, IsNormalFrom};
 ghost use Rattle.tv_shrink.specs.Replacing.{coefficient, constant_in, fits, fits_in, has_wire};
-ghost use Rattle.tv_shrink.specs.Replacing.{linear_form, replaced, replaced_in, solved};
+ghost use Rattle.tv_shrink.specs.Replacing.{linear_form, replaced, solved};
 
 use crate::merge::{Side, merge};
 use std::alloc::AllocError;
@@ -156,7 +155,7 @@ fn fits(
 }
 
 impl Row<'_> {
-    ghost use Rattle.tv_shrink.specs.Tidy.{row_has, IsNormalRow};
+    ghost use Rattle.tv_shrink.specs.Tidy.{IsNormalRow};
 
     /// Puts what the constraint says is 0 into `out`, and tells whether it is linear.
     pub(crate) fn linear_form(&self, out: &mut Vec<(F, Wire)>) -> Result<bool, AllocError>

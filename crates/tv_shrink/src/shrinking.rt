@@ -1,4 +1,4 @@
-ghost use Rattle.std.specs.Prelude.{◌≡◌, ℕ, Err, MatchResult};
+ghost use Rattle.std.specs.Prelude.{◌≡◌, Err, MatchResult};
 ghost use Rattle.tv_container.specs.Reading.{Known, IsMissing};
 ghost use Rattle.tv_shrink.specs.Answers.{Halted, HaltsBy, IsOfSize, Shrinks, Tells, TellsRead};
 ghost use Rattle.tv_shrink.specs.declared.fault.ShrinkFault.{ShrinkFault};

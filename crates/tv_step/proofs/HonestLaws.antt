@@ -26,7 +26,7 @@ HonestFrom-append m [] ys h k = k
 HonestFrom-append m (x ∷ xs) ys h k = (h.0, HonestFrom-append (written m x) xs ys h.1 k)
 
 -- a line that writes what the cell holds changes nothing
-written_same : (m : ℕ → ℕ) (l : Line) → l.new ≡ m l.cell → (c : ℕ) → written m l c ≡ m c
+pub written_same : (m : ℕ → ℕ) (l : Line) → l.new ≡ m l.cell → (c : ℕ) → written m l c ≡ m c
 written_same m l e c = by_test (l.cell == c) refl
   where
     by_test : (b : Bool) → (l.cell == c) ≡ b → written m l c ≡ m c

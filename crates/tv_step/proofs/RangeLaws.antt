@@ -24,7 +24,7 @@ use Rattle.tv_step.specs.State.{State, Next}
 use Rattle.tv_step.specs.declared.op.Op.{Op}
 use Rattle.tv_step.specs.declared.op.Op.TheVariants.{And, Or, Xor, Not, Add, Sub, Mull, Umulh, Smulh, Udiv, Umod, Shl, Shr, Cmpe, Cmpa, Cmpae, Cmpg, Cmpge, Mov, Cmov, Jmp, Cjmp, Cnjmp, StoreB, LoadB, StoreW, LoadW, Read, Answer, Unused}
 
-twos_small : (n : ℕ) (z : ℤ) → 0 < 2 ^ n → twos n z < 2 ^ n
+pub twos_small : (n : ℕ) (z : ℤ) → 0 < 2 ^ n → twos n z < 2 ^ n
 twos_small n (pos k) some = mod-lt k some
 twos_small n (negsuc k) some = omega arith
 

@@ -1,6 +1,6 @@
 //! Results and flags of the instructions, on words of `W` bits, 16 or 32.
-ghost use Rattle.std.specs.Prelude.{◌≡◌, ◌+◌, ◌-◌, ◌*◌, ◌/◌, ◌%◌, ◌^◌, ◌<◌, ◌==◌, ◌*ℤ◌, Bool};
-ghost use Rattle.std.specs.Prelude.{nat_lt, nat_le, not, if◌then◌else◌, bit_and, bit_or, bit_xor};
+ghost use Rattle.std.specs.Prelude.{◌≡◌, ◌+◌, ◌-◌, ◌*◌, ◌/◌, ◌%◌, ◌^◌, ◌<◌, ◌==◌, ◌*ℤ◌, nat_lt};
+ghost use Rattle.std.specs.Prelude.{nat_le, not, if◌then◌else◌, bit_and, bit_or, bit_xor};
 ghost use Rattle.tv_word.specs.Widths.{IsWidth};
 ghost use Rattle.tv_word.specs.Word.{signed};
 ghost use Rattle.tv_word.specs.Twos.{twos, fits};

@@ -1,3 +1,4 @@
+pub mod ByteLaws
 pub mod DecimalLemmas
 pub mod NumeralLemmas
 pub mod WidthLaws

@@ -1,12 +1,13 @@
 use Rattle.std.proofs.Common.{◌≡◌, [], true, eqb, get_or, length, take_all, sym, ◌∙◌, ap, subst, refl, arith}
 use Rattle.std.specs.List.{list_any}
 use Rattle.tv_shrink.specs.Replacing.{has_wire}
-use Rattle.tv_shrink.proofs.Passes.{none_spread, has_at, spread-private, spread-public}
+use Rattle.tv_shrink.proofs.Passes.{has_at, spread-private, spread-public}
 use Rattle.tv_shrink.proofs.pass.spread.Goals as goal
 use Rattle.tv_shrink.proofs.pass.spread.Goals.{then-wire-publics+in_ok-extend, else-wire-publics}
+use Rattle.tv_shrink.proofs.ReplacingLaws.{none_has}
 
 pub loop-wire-init : goal.loop-wire-init
-loop-wire-init c = record { each = refl; more = λ w i e. e; added = λ w i above has e. absurd (none_spread w has) }
+loop-wire-init c = record { each = refl; more = λ w i e. e; added = λ w i above has e. absurd (none_has w has) }
 
 pub extend-requires : goal.extend-requires
 extend-requires c =
