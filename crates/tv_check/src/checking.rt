@@ -17,7 +17,9 @@ use tv_r1cs_read::SystemReader;
 /// The file is read to its end whatever the verdict: `Ok` comes exactly for a file that holds a
 /// system, and `Bad` tells the first fault of another one. `Fault` comes only where a read failed,
 /// and a missing name is such a fault. Takes one pass and no memory; each term is one product up to
-/// the first constraint that doesn't hold, and none behind it or where no constraint decides.
+/// the first constraint that doesn't hold, and none behind it or where no constraint decides. It
+/// isn't inlined: among all commands its loops would lack registers.
+#[inline(never)]
 pub fn check<D: Files>(
     alloc: Global,
     files: &mut D,

@@ -1,3 +1,4 @@
+pub mod Held
 pub mod Places
 pub mod Progress
 pub mod R1cs

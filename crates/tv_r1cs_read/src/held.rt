@@ -1,33 +1,70 @@
 //! How much of a constraint the window holds.
 
-ghost use Rattle.std.specs.Prelude.{◌≡◌, ◌+◌, ◌-◌, ◌*◌, ◌≤◌, false, IfSome};
-ghost use Rattle.tv_container.specs.Reading.{Holds};
+ghost use Rattle.std.specs.Prelude.{◌≡◌, ℕ, ◌+◌, ◌-◌, ◌*◌, ◌≤◌, ◌<◌, List, IfSome};
+ghost use Rattle.tv_container.specs.Places.{number};
+ghost use Rattle.tv_container.specs.Reading.{Holds, IsPiece};
+ghost use Rattle.tv_r1cs_read.specs.Held.{IsHeld};
 
 use crate::rows::{Bounds, TERM, WIDEST};
 use tv_container::Window;
 
-/// The place up to which the window holds the bytes from a place on, at most the end of section 2;
-/// `None` where it doesn't reach to the place.
-#[inline(always)]
-pub(crate) fn held_to(window: &Window, bounds: &Bounds, at: u64) -> Option<u64>
-    requires { at ≤ bounds.now.end }
-    ensures before { IfSome result (λ limit. at ≤ limit) }
-    ensures within { IfSome result (λ limit. limit ≤ bounds.now.end) }
-    ensures held { IfSome result (λ limit. Holds window.now at (limit - at)) }
-{
-    if !window.holds(at, 0) {
-        return None;
-    }
-    let held = window.bytes_from(at).len() as u64;
-    Some(at + held.min(bounds.end - at))
+/// A place, and the one up to which the window holds the bytes from there on.
+#[derive(Clone, Copy)]
+pub(crate) struct Held {
+    pub(crate) from: u64,
+    pub(crate) to: u64,
 }
 
-/// Whether a combination at a place, of so many terms, is too wide or ends past a limit.
+/// What the window holds from a place on, at most up to the end of section 2.
 #[inline(always)]
-pub(crate) fn is_past(limit: u64, at: u64, terms: u32) -> bool
-    requires { at + 4 ≤ limit }
-    ensures narrow { result ≡ false → terms ≤ WIDEST }
-    ensures within { result ≡ false → at + 4 + 12 * terms ≤ limit }
+pub(crate) fn held_from(window: &Window, bounds: &Bounds, at: u64) -> Held
+    requires { at ≤ bounds.now.end }
+    ensures from { result.from ≡ at }
+    ensures held { IsHeld window.now bounds.now.end result }
 {
-    terms > WIDEST || TERM * u64::from(terms) > limit - at - 4
+    if !window.holds(at, 0) {
+        return Held { from: at, to: at };
+    }
+    let held = window.bytes_from(at).len() as u64;
+    Held {
+        from: at,
+        to: at + held.min(bounds.end - at),
+    }
+}
+
+impl Held {
+    /// How many terms the combination at the place has; `None` where the window doesn't hold all of
+    /// it, or it is too wide.
+    #[inline(always)]
+    pub(crate) fn terms(self, window: &Window) -> Option<u32>
+        requires before { self.from ≤ self.to }
+        requires holds { self.from < self.to → Holds window.now self.from (self.to - self.from) }
+        ensures narrow { IfSome result (λ terms. terms ≤ WIDEST) }
+        ensures within { IfSome result (λ terms. self.from + 4 + 12 * terms ≤ self.to) }
+        ensures counts { (file : List ℕ) → IsPiece window.now file
+            → IfSome result (λ terms. terms ≡ number file 4 self.from) }
+    {
+        let size = self.to - self.from;
+        if size < 4 {
+            return None;
+        }
+        let terms = window.word(self.from);
+        if terms > WIDEST || TERM * u64::from(terms) > size - 4 {
+            return None;
+        }
+        Some(terms)
+    }
+
+    /// What is held behind the combination at the place, of so many terms.
+    #[inline(always)]
+    pub(crate) fn behind(self, terms: u32) -> Held
+        requires { self.from + 4 + 12 * terms ≤ self.to }
+        ensures from { result.from ≡ self.from + 4 + 12 * terms }
+        ensures to { result.to ≡ self.to }
+    {
+        Held {
+            from: self.from + 4 + TERM * u64::from(terms),
+            to: self.to,
+        }
+    }
 }

@@ -1,10 +1,10 @@
 ghost use Rattle.std.specs.Prelude.{◌≡◌, ℕ, ◌+◌, List, [], Some, None, Ok, Err, IfOk, IfErr, OnOk};
 ghost use Rattle.std.specs.Prelude.{MatchResult, MatchOption, IfSome, OnErr, true, false};
 ghost use Rattle.tv_core.specs.Constraints.{Constraint};
-ghost use Rattle.tv_r1cs_read.specs.Places.{IsAt, IsAll, Gave};
+ghost use Rattle.tv_r1cs_read.specs.Places.{IsAt, Gave};
 ghost use Rattle.tv_r1cs_read.specs.Progress.{ahead, counts_of, IsBegun, WentOn};
 ghost use Rattle.tv_r1cs_read.specs.R1cs.{header_of, system_of};
-ghost use Rattle.tv_r1cs_read.specs.Sums.{GaveTried, HasTried};
+ghost use Rattle.tv_r1cs_read.specs.Sums.{GaveTried};
 ghost use Rattle.tv_container.specs.Reading.{Looks, Refuses, IsMissing, IsTold, Known, Stopped};
 ghost use Rattle.tv_container.specs.declared.why.ReadRefusal.{ReadRefusal};
 

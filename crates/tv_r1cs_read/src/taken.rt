@@ -1,14 +1,15 @@
 //! A constraint taken into a row straight from the bytes that the window holds.
 
-ghost use Rattle.std.specs.Prelude.{◌≡◌, ℕ, ◌+◌, ◌-◌, ◌*◌, ◌≤◌, ◌<◌, List, length, Ok, IfOk};
-ghost use Rattle.std.specs.Prelude.{IfSome, OnSome};
+ghost use Rattle.std.specs.Prelude.{◌≡◌, ℕ, ◌+◌, ◌*◌, ◌≤◌, ◌<◌, List, length, Ok, IfOk, IfSome};
+ghost use Rattle.std.specs.Prelude.{OnSome};
 ghost use Rattle.std.specs.List.{All};
-ghost use Rattle.tv_container.specs.Reading.{Holds, IsPiece};
+ghost use Rattle.tv_container.specs.Reading.{IsPiece};
+ghost use Rattle.tv_r1cs_read.specs.Held.{IsHeld};
 ghost use Rattle.tv_r1cs_read.specs.R1cs.{combination_at, constraint_at};
 ghost use Rattle.tv_r1cs_read.specs.Rows.{IsOver, combination_read, constraint_read, terms_in};
 
-use crate::held::{held_to, is_past};
-use crate::rows::{Bounds, Row, TERM, Terms, take_terms};
+use crate::held::{Held, held_from};
+use crate::rows::{Bounds, Row, Terms, take_terms};
 use std::alloc::AllocError;
 use tv_container::{ReadRefusal, Window};
 
@@ -31,51 +32,45 @@ pub(crate) fn take_held(
         (λ taken. IfSome taken (λ next. constraint_at file bounds.now.wires bounds.now.end at
         ≡ Ok (constraint_read row.new next))) }
 {
-    let Some(limit) = held_to(window, bounds, at) else {
+    let a = held_from(window, bounds, at);
+    let Some(b) = terms_held(window, bounds, a, &mut row.a)? else {
         return Ok(None);
     };
-    let Some(b) = terms_held(window, bounds, limit, at, &mut row.a)? else {
+    let Some(c) = terms_held(window, bounds, b, &mut row.b)? else {
         return Ok(None);
     };
-    let Some(c) = terms_held(window, bounds, limit, b, &mut row.b)? else {
+    let Some(behind) = terms_held(window, bounds, c, &mut row.c)? else {
         return Ok(None);
     };
-    terms_held(window, bounds, limit, c, &mut row.c)
+    Ok(Some(behind.from))
 }
 
-// Takes the terms of the combination at a place, and answers the place behind it; `None` where it
-// doesn't end at or before `limit`, up to which the window holds the bytes, or it isn't as it
-// should be.
+// Takes the terms of the combination at a place, and answers what is held behind it; `None` where
+// the window doesn't hold all of it, or it isn't as it should be.
 #[inline(always)]
 fn terms_held(
     window: &Window,
     bounds: &Bounds,
-    limit: u64,
-    at: u64,
+    held: Held,
     terms: &mut Terms,
-) -> Result<Option<u64>, AllocError>
-    requires before { at ≤ limit }
-    requires within { limit ≤ bounds.now.end }
-    requires held { Holds window.now at (limit - at) }
-    ensures within { IfOk result (λ taken. IfSome taken (λ next. next ≤ limit)) }
+) -> Result<Option<Held>, AllocError>
+    requires { IsHeld window.now bounds.now.end held }
+    ensures held { IfOk result (λ taken. IfSome taken (IsHeld window.now bounds.now.end)) }
     ensures size { IfOk result (λ taken. IfSome taken
-        (λ next. next ≡ at + 4 + 12 * length terms.new)) }
+        (λ behind. behind.from ≡ held.from + 4 + 12 * length terms.new)) }
     ensures wires { IfOk result (λ taken. OnSome taken
         (All (λ t. t.0 < bounds.now.wires) terms.new)) }
     ensures gives { (file : List ℕ) → IsPiece window.now file → IfOk result
-        (λ taken. IfSome taken (λ next. combination_at file bounds.now.wires bounds.now.end at
-        ≡ Ok (combination_read terms.new next))) }
+        (λ taken. IfSome taken
+        (λ behind. combination_at file bounds.now.wires bounds.now.end held.from
+        ≡ Ok (combination_read terms.new behind.from))) }
 {
-    if limit - at < 4 {
+    let Some(count) = held.terms(window) else {
         return Ok(None);
-    }
-    let count = window.word(at);
-    if is_past(limit, at, count) {
-        return Ok(None);
-    }
+    };
     terms.clear();
-    match take_terms(window, bounds, at + 4, count, terms) {
-        Ok(()) => Ok(Some(at + 4 + TERM * u64::from(count))),
+    match take_terms(window, bounds, held.from + 4, count, terms) {
+        Ok(()) => Ok(Some(held.behind(count))),
         Err(ReadRefusal::Memory) => Err(AllocError),
         Err(_) => Ok(None),
     }

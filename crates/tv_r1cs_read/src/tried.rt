@@ -6,23 +6,24 @@ ghost use Rattle.tv_core.specs.Constraints.{Combination};
 ghost use Rattle.tv_container.specs.Places.{Fault, places};
 ghost use Rattle.tv_container.specs.Reading.{Holds, InPiece, IsPiece, IsTold, ReadsIn, Refuses};
 ghost use Rattle.tv_container.specs.Reading.{Stopped};
+ghost use Rattle.tv_r1cs_read.specs.Held.{IsHeld};
 ghost use Rattle.tv_r1cs_read.specs.R1cs.{Read, combination_at, constraint_at};
 ghost use Rattle.tv_r1cs_read.specs.Sums.{Ended, IsOff, IsSummed, IsTried, IsValued};
 
-use crate::held::{held_to, is_past};
+use crate::held::{Held, held_from};
 use crate::rows::{AT_ONCE, Bounds, TERM, WIDEST, fit_below};
 use crate::sum::Sum;
 use tv_container::{ReadRefusal, ReadWhy, Window};
 use tv_core::F;
 use tv_files::Files;
 
-/// A combination that was read: its value under an assignment, how many terms it has, and the place
-/// behind it.
+/// A combination that was read: its value under an assignment, how many terms it has, and what the
+/// window holds behind it.
 #[derive(Drop)]
 pub(crate) struct Valued {
     pub(crate) value: F,
     pub(crate) terms: u32,
-    pub(crate) next: u64,
+    pub(crate) behind: Held,
 }
 
 /// A constraint that was read: whether it holds under an assignment, how many terms it has, and the
@@ -153,6 +154,35 @@ fn sum_terms(
     add_terms::<false>(window, bounds, at, count, values, sum)
 }
 
+// As `sum_terms`, but not inlined, and with the sum by value: so its loops have all registers, and
+// nothing that they write can be what they read.
+#[inline(never)]
+fn sum_far(
+    window: &Window,
+    bounds: &Bounds,
+    at: u64,
+    count: u32,
+    values: &[F],
+    sum: Sum,
+) -> (u32, Sum)
+    requires held { Holds window.now at (12 * count) }
+    requires within { at + 12 * count ≤ bounds.now.end }
+    requires small { sum + count * 2 ^ 128 ≤ 2 ^ 150 }
+    ensures most { result.0 ≤ count }
+    ensures small { result.1 ≤ sum + result.0 * 2 ^ 128 }
+    ensures sums { (file : List ℕ) → IsPiece window.now file
+        → (answer : Result (Read Combination) Fault) → (k n : ℕ) → count ≤ n →
+        IsSummed answer file bounds.now.wires bounds.now.end values.now k n at sum →
+        IsSummed answer file bounds.now.wires bounds.now.end values.now (k + result.0)
+        (n - result.0) (at + 12 * result.0) result.1 }
+    ensures off { (file : List ℕ) → IsPiece window.now file → result.0 < count
+        → IsOff file bounds.now.wires (at + 12 * result.0) }
+{
+    let mut sum = sum;
+    let good = sum_terms(window, bounds, at, count, values, &mut sum);
+    (good, sum)
+}
+
 /// Tries the constraint at a place under an assignment; `None` where reading stopped.
 #[inline(always)]
 #[tactic(auto, unfolding(crate::specs::R1cs::constraint_at))]
@@ -179,13 +209,14 @@ pub(crate) fn try_row<D: Files>(
         tried.next)
         (λ why. Refuses why (constraint_at file bounds.now.wires bounds.now.end at))) }
 {
-    let a = next_value(files, name, window, bounds, at, values, stopped)?;
-    let b = next_value(files, name, window, bounds, a.next, values, stopped)?;
-    let c = next_value(files, name, window, bounds, b.next, values, stopped)?;
+    let held = held_from(window, bounds, at);
+    let a = next_value(files, name, window, bounds, held, values, stopped)?;
+    let b = next_value(files, name, window, bounds, a.behind, values, stopped)?;
+    let c = next_value(files, name, window, bounds, b.behind, values, stopped)?;
     Some(Tried {
         holds: a.value * b.value == c.value,
         terms: u64::from(a.terms) + u64::from(b.terms) + u64::from(c.terms),
-        next: c.next,
+        next: c.behind.from,
     })
 }
 
@@ -196,57 +227,52 @@ fn next_value<D: Files>(
     name: &str,
     window: &mut Window,
     bounds: &Bounds,
-    at: u64,
+    held: Held,
     values: &[F],
     stopped: &mut Option<ReadRefusal>,
 ) -> Option<Valued>
-    requires within { at ≤ bounds.now.end }
+    requires held { IsHeld window.old bounds.now.end held }
     requires on { stopped.old ≡ None }
-    ensures within { IfSome result (λ valued. valued.next ≤ bounds.now.end) }
-    ensures size { IfSome result (λ valued. valued.next ≡ at + 4 + 12 * valued.terms) }
+    ensures held { IfSome result (λ valued. IsHeld window.new bounds.now.end valued.behind) }
+    ensures size { IfSome result
+        (λ valued. valued.behind.from ≡ held.from + 4 + 12 * valued.terms) }
     ensures looks { Ended result stopped.new
         (λ _. D.seen files.new ≡ D.seen files.old)
         (λ why. Stopped (D.seen files.old) (D.seen files.new) name.now why) }
     ensures gives { InPiece (D.seen files.old) name.now window.old
         (λ file. bounds.now.end ≤ places file → Ended result stopped.new
         (λ valued. IsPiece window.new file × IsValued
-        (combination_at file bounds.now.wires bounds.now.end at) values.now valued.value
-        valued.terms valued.next)
-        (λ why. Refuses why (combination_at file bounds.now.wires bounds.now.end at))) }
+        (combination_at file bounds.now.wires bounds.now.end held.from) values.now valued.value
+        valued.terms valued.behind.from)
+        (λ why. Refuses why (combination_at file bounds.now.wires bounds.now.end held.from))) }
 {
-    match value_held(window, bounds, at, values) {
+    match value_held(window, bounds, held, values) {
         Some(valued) => Some(valued),
-        None => far_value(files, name, window, bounds, at, values, stopped),
+        None => far_value(files, name, window, bounds, held.from, values, stopped),
     }
 }
 
 // The combination at a place; `None` where the window doesn't hold all of it, or it isn't as it
 // should be.
 #[inline(always)]
-fn value_held(window: &Window, bounds: &Bounds, at: u64, values: &[F]) -> Option<Valued>
-    requires { at ≤ bounds.now.end }
-    ensures within { IfSome result (λ valued. valued.next ≤ bounds.now.end) }
-    ensures size { IfSome result (λ valued. valued.next ≡ at + 4 + 12 * valued.terms) }
+fn value_held(window: &Window, bounds: &Bounds, held: Held, values: &[F]) -> Option<Valued>
+    requires { IsHeld window.now bounds.now.end held }
+    ensures held { IfSome result (λ valued. IsHeld window.now bounds.now.end valued.behind) }
+    ensures size { IfSome result
+        (λ valued. valued.behind.from ≡ held.from + 4 + 12 * valued.terms) }
     ensures gives { (file : List ℕ) → IsPiece window.now file → IfSome result
-        (λ valued. IsValued (combination_at file bounds.now.wires bounds.now.end at) values.now
-        valued.value valued.terms valued.next) }
+        (λ valued. IsValued (combination_at file bounds.now.wires bounds.now.end held.from)
+        values.now valued.value valued.terms valued.behind.from) }
 {
-    let limit = held_to(window, bounds, at)?;
-    if limit - at < 4 {
-        return None;
-    }
-    let terms = window.word(at);
-    if is_past(limit, at, terms) {
-        return None;
-    }
+    let terms = held.terms(window)?;
     let mut sum = Sum::new();
-    if sum_terms(window, bounds, at + 4, terms, values, &mut sum) < terms {
+    if sum_terms(window, bounds, held.from + 4, terms, values, &mut sum) < terms {
         return None;
     }
     Some(Valued {
         value: sum.value(),
         terms,
-        next: at + 4 + TERM * u64::from(terms),
+        behind: held.behind(terms),
     })
 }
 
@@ -264,8 +290,8 @@ fn far_value<D: Files>(
 ) -> Option<Valued>
     requires within { at ≤ bounds.now.end }
     requires on { stopped.old ≡ None }
-    ensures within { IfSome result (λ valued. valued.next ≤ bounds.now.end) }
-    ensures size { IfSome result (λ valued. valued.next ≡ at + 4 + 12 * valued.terms) }
+    ensures held { IfSome result (λ valued. IsHeld window.new bounds.now.end valued.behind) }
+    ensures size { IfSome result (λ valued. valued.behind.from ≡ at + 4 + 12 * valued.terms) }
     ensures looks { Ended result stopped.new
         (λ _. D.seen files.new ≡ D.seen files.old)
         (λ why. Stopped (D.seen files.old) (D.seen files.new) name.now why) }
@@ -273,7 +299,7 @@ fn far_value<D: Files>(
         (λ file. bounds.now.end ≤ places file → Ended result stopped.new
         (λ valued. IsPiece window.new file × IsValued
         (combination_at file bounds.now.wires bounds.now.end at) values.now valued.value
-        valued.terms valued.next)
+        valued.terms valued.behind.from)
         (λ why. Refuses why (combination_at file bounds.now.wires bounds.now.end at))) }
 {
     match read_value(files, name, window, bounds, at, values) {
@@ -296,13 +322,13 @@ fn read_value<D: Files>(
     values: &[F],
 ) -> Result<Valued, ReadRefusal>
     requires { at ≤ bounds.now.end }
-    ensures within { IfOk result (λ valued. valued.next ≤ bounds.now.end) }
-    ensures size { IfOk result (λ valued. valued.next ≡ at + 4 + 12 * valued.terms) }
+    ensures held { IfOk result (λ valued. IsHeld window.new bounds.now.end valued.behind) }
+    ensures size { IfOk result (λ valued. valued.behind.from ≡ at + 4 + 12 * valued.terms) }
     ensures reads { ReadsIn (D.seen files.old) (D.seen files.new) name.now window.old window.new
         result
         (λ file. bounds.now.end ≤ places file → MatchResult result
         (λ valued. IsValued (combination_at file bounds.now.wires bounds.now.end at) values.now
-        valued.value valued.terms valued.next)
+        valued.value valued.terms valued.behind.from)
         (λ why. Refuses why (combination_at file bounds.now.wires bounds.now.end at))) }
 {
     window.reach(files, name, at, AT_ONCE)?;
@@ -318,7 +344,7 @@ fn read_value<D: Files>(
     Ok(Valued {
         value,
         terms,
-        next: at + 4 + TERM * u64::from(terms),
+        behind: held_from(window, bounds, at + 4 + TERM * u64::from(terms)),
     })
 }
 
@@ -349,7 +375,8 @@ fn read_sum<D: Files>(
     while left > 0 {
         fit_below(files, name, window, at, 12, bounds.end)?;
         let some = left.min(window.whole_terms(at, bounds.end));
-        let good = sum_terms(window, bounds, at, some, values, &mut sum);
+        let (good, more) = sum_far(window, bounds, at, some, values, sum);
+        sum = more;
         if good < some {
             return Err(term_fault(window, bounds, at + TERM * u64::from(good)));
         }

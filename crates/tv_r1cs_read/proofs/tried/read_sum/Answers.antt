@@ -24,10 +24,10 @@ returns-then-good-some-clause-reads g c = record {
   gives = λ file told piece end answer start.
       let before = c.loop-left.invariant.sums file told piece end answer start in
       let held = c.in_ok-fit_below.ensures.reads.piece file (rw (← c.loop-left.invariant.outside) at told) (c.loop-left.invariant.piece file told piece) in
-      let summed = c.sum_terms-good.ensures.sums file held answer _ _ (omega (arith, c.min-some.ensures)) before in
-      let more : 0 < c.loop-left.left - c.sum_terms-good.result = omega (arith, c.min-some.ensures, c.if-good-some.true) in
+      let summed = c.sum_far-good.ensures.sums file held answer _ _ (omega (arith, c.min-some.ensures)) before in
+      let more : 0 < c.loop-left.left - c.sum_far-good.result.0 = omega (arith, c.min-some.ensures, c.if-good-some.true) in
       let fault = rw c.from.ensures at (c.term_fault.ensures.gives file held) in
-      fault (c.sum_terms-good.ensures.off file held c.if-good-some.true) answer _ _ _ _ more summed;
+      fault (c.sum_far-good.ensures.off file held c.if-good-some.true) answer _ _ _ _ more summed;
 }
 
 pub loop-left-init : goal.loop-left-init
@@ -45,18 +45,18 @@ loop-left-init g c = record {
 
 pub loop-left-preserved : goal.loop-left-preserved
 loop-left-preserved g c =
-    let all : c.sum_terms-good.result ≡ c.min-some.result = omega (arith, c.if-good-some.false, c.sum_terms-good.ensures.most) in
+    let all : c.sum_far-good.result.0 ≡ c.min-some.result = omega (arith, c.if-good-some.false, c.sum_far-good.ensures.most) in
     record {
       outside = c.in_ok-fit_below.ensures.reads.looks ∙ c.loop-left.invariant.outside;
       within = omega (arith, c.whole_terms.ensures.within, c.min-some.ensures, c.from-in-loop-left.ensures);
       most = omega (arith, c.loop-left.invariant.most);
       place = omega (arith, c.loop-left.invariant.place, c.min-some.ensures, c.from-in-loop-left.ensures);
-      small = omega (arith, c.loop-left.invariant.small, c.sum_terms-good.ensures.small, c.min-some.ensures, all);
+      small = omega (arith, c.loop-left.invariant.small, c.sum_far-good.ensures.small, c.min-some.ensures, all);
       piece = λ file told piece. c.in_ok-fit_below.ensures.reads.piece file (rw (← c.loop-left.invariant.outside) at told) (c.loop-left.invariant.piece file told piece);
       sums = λ file told piece end answer start.
           let before = c.loop-left.invariant.sums file told piece end answer start in
           let held = c.in_ok-fit_below.ensures.reads.piece file (rw (← c.loop-left.invariant.outside) at told) (c.loop-left.invariant.piece file told piece) in
-          let summed = c.sum_terms-good.ensures.sums file held answer _ _ (omega (arith, c.min-some.ensures)) before in
+          let summed = c.sum_far-good.ensures.sums file held answer _ _ (omega (arith, c.min-some.ensures)) before in
           let count : c.args.count - (c.loop-left.left - c.min-some.result) ≡ c.args.count - c.loop-left.left + c.min-some.result = omega (arith, c.min-some.ensures, c.loop-left.invariant.most) in
           let whole = rw all at summed in
           rw (count, c.from-in-loop-left.ensures) whole;

@@ -28,5 +28,5 @@ returns-clause-reads g c = record {
       let held = c.in_ok-fit_below.ensures.reads.piece file seen here in
       let counted = combination_at-counted file c.args.bounds.now.wires c.args.bounds.now.end c.args.at c.word-terms.result _
       (c.in_ok-fit_below.ensures.reads.gives file seen here end) (sym (c.word-terms.ensures file held)) c.if-terms-gt-WIDEST.false in
-      rw (counted, c.from.ensures) (c.in_ok-value.ensures.reads.gives file (rw (← c.in_ok-fit_below.ensures.reads.looks) at seen) held end _ (starts file _ _ _ _ _));
+      rw (counted, c.held_from.ensures.from, c.from.ensures) (c.in_ok-value.ensures.reads.gives file (rw (← c.in_ok-fit_below.ensures.reads.looks) at seen) held end _ (starts file _ _ _ _ _));
 }
