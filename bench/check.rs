@@ -7,6 +7,8 @@
 //!
 //! Built with `--cfg pieces` it reads under the rule that `tinyr1cs` keeps to: a call asks for at most 4,096 bytes,
 //! which are copied from 64 KiB that were read ahead.
+//! Built with `--cfg copied` it reads as without, and copies what it read once more, by 4,096 bytes, to no end: what
+//! that takes more is what the rule costs at least.
 
 use std::fmt;
 use std::fs::File;
@@ -126,16 +128,28 @@ impl Sum {
 #[cfg(not(pieces))]
 struct Source<'a> {
     file: &'a File,
+    #[cfg(copied)]
+    copy: Box<[u8; 4096]>,
 }
 
 #[cfg(not(pieces))]
 impl<'a> Source<'a> {
     fn over(file: &'a File) -> Source<'a> {
-        Source { file }
+        Source {
+            file,
+            #[cfg(copied)]
+            copy: Box::new([0; 4096]),
+        }
     }
 
     fn read_at(&mut self, into: &mut [u8], at: u64) -> io::Result<usize> {
-        self.file.read_at(into, at)
+        let count = self.file.read_at(into, at)?;
+        #[cfg(copied)]
+        for piece in into[..count].chunks(self.copy.len()) {
+            self.copy[..piece.len()].copy_from_slice(piece);
+            std::hint::black_box(&self.copy);
+        }
+        Ok(count)
     }
 }
 

@@ -34,7 +34,7 @@ def main(rounds, *rest):
     least, median = min(times[programs[-1]]), statistics.median(times[programs[-1]])
     for program, taken in times.items():
         name, fast, middle = os.path.basename(program), min(taken), statistics.median(taken)
-        print(f"{name:10} least {fast:.2f} ms, {fast / least:.2f}; median {middle:.2f} ms, {middle / median:.2f}")
+        print(f"{name:12} least {fast:.2f} ms, {fast / least:.2f}; median {middle:.2f} ms, {middle / median:.2f}")
 
 
 main(*sys.argv[1:])
