@@ -3,8 +3,7 @@
 //! with tests is proved twice; nothing here is for callers.
 #![tactic(auto)]
 
-#[cfg(test)]
-mod examples;
+pub mod examples;
 #[cfg(test)]
 mod field;
 #[cfg(test)]
