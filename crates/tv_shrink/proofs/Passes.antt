@@ -494,6 +494,16 @@ covered-inside publics at w rows lists covers above has =
       | inr past ↦ absurd (let no : false ≡ true = sym (ap (λ xs. list_any (λ p. eqb p at) xs) (get_or_past lists w [] past)) ∙ covers at w above has in cc)
     ]
 
+-- all but the one at a place keep to their most terms where those that the wire is told of do
+pub all-fit-there : (w at : ℕ) (r : Combination) (publics : ℕ) (rows : List (Option Constraint)) (gone : List Bool) (lists : List (List ℕ)) → IsKept publics rows gone lists → publics ≤ w →
+    ((i : ℕ) → list_any (λ p. eqb p i) (get_or lists w []) ≡ true → row_fits w r (get_or (set rows at None) i None) ≡ true) → list_all (row_fits w r) (set rows at None) ≡ true
+all-fit-there w at r publics rows gone lists kept above fit =
+    list_all-from_AllPass (row_fits w r) (set rows at None) (All-from_get_or (λ row. row_fits w r row ≡ true) (set rows at None) None (λ i h.
+    elim (cases_Bool (row_has w (get_or (set rows at None) i None))) [
+      | inl has ↦ fit i (dropped-named w at rows (get_or lists w []) (λ j there. kept.covers j w above there) i has)
+      | inr lacks ↦ row-lacking-fits w r (get_or (set rows at None) i None) lacks
+    ]))
+
 pub dropped-kept : (publics at : ℕ) (rows : List (Option Constraint)) (gone : List Bool) (lists : List (List ℕ)) → IsKept publics rows gone lists → IsKept publics (set rows at None) gone lists
 dropped-kept publics at rows gone lists kept = record {
   normal = rows_dropped RowIsNormal tt rows at kept.normal;

@@ -47,11 +47,12 @@ fn row_fits(
     }
 }
 
-// Whether the constraint at a place, unless it is the one to be dropped, keeps to its most terms.
-fn other_fits(
+/// Whether the constraint at a place, unless it is the one to be dropped, keeps to its most terms
+/// with `r` in place of a wire.
+pub(crate) fn other_fits(
     rows: &Rows,
     but: usize,
-    at: usize,
+    at: u32,
     out: &mut Vec<(F, Wire)>,
     wire: Wire,
     r: &[(F, Wire)],
@@ -61,35 +62,11 @@ fn other_fits(
     ensures { IfOk result (λ answer. answer
         ≡ row_fits wire r.now (slice_index_or (slice_set rows.now but None) at None)) }
 {
+    let at = at as usize;
     if at == but || at >= rows.len() {
         return Ok(true);
     }
     row_fits(&rows.get(at), out, wire, r)
-}
-
-// Whether all constraints but the one at a place keep to their most terms; those with the wire are
-// at these places.
-fn others_fit(
-    rows: &Rows,
-    but: usize,
-    places: &[u32],
-    out: &mut Vec<(F, Wire)>,
-    wire: Wire,
-    r: &[(F, Wire)],
-) -> Result<bool, AllocError>
-    requires normal { AreNormal rows.now }
-    requires by { IsNormalFrom 0 r.now }
-    requires covers { (i : ℕ) → row_has wire (slice_index_or rows.now i None) ≡ true
-        → list_any (λ p. p == i) places.now ≡ true }
-    ensures { IfOk result (λ answer. answer
-        ≡ list_all (row_fits wire r.now) (slice_set rows.now but None)) }
-{
-    for place in places {
-        if !other_fits(rows, but, *place as usize, out, wire, r)? {
-            return Ok(false);
-        }
-    }
-    Ok(true)
 }
 
 // Puts `r` in place of a wire in the constraint at a place, and adds the place to a list, if the
@@ -176,12 +153,18 @@ pub(crate) fn spread(
 pub(crate) struct Pass {
     pub(crate) publics: u32,
     pub(crate) rows: Rows,
+    /// For each wire whether it was solved for.
     pub(crate) gone: Vec<bool>,
     pub(crate) places: Places,
+    /// The places of the constraints that may have the wire of this turn.
     pub(crate) named: Vec<u32>,
+    /// Of those that have it.
     pub(crate) found: Vec<u32>,
+    /// What the constraint of this turn holds to 0.
     pub(crate) form: Vec<(F, Wire)>,
+    /// What it makes of its greatest wire.
     pub(crate) solved: Vec<(F, Wire)>,
+    /// Room for a combination, or a constraint's.
     pub(crate) scratch: Vec<(F, Wire)>,
 }
 
@@ -222,7 +205,8 @@ impl Pass {
     }
 
     // Drops the constraint at a place and puts what the wire is in its place, if all keep to their
-    // most terms.
+    // most terms. One that doesn't is told of the wire anew, so that the wire's next turn meets it
+    // first.
     fn eliminate(&mut self, at: usize, wire: Wire) -> Result<(), AllocError>
         requires kept { IsKept self.old.publics self.old.rows self.old.gone.items
             self.old.places }
@@ -242,17 +226,14 @@ impl Pass {
         ensures publics { self.new.publics ≡ self.old.publics }
         ensures len { OnOk result (length self.new.rows ≡ length self.old.rows) }
     {
-        self.places.rows_of(wire.0, &mut self.named)?;
-        if !others_fit(
-            &self.rows,
-            at,
-            &self.named,
-            &mut self.scratch,
-            wire,
-            &self.solved,
-        )? {
+        let misfit = self
+            .places
+            .misfit(&self.rows, at, &mut self.scratch, wire, &self.solved)?;
+        if let Some(row) = misfit {
+            self.places.add(wire.0, row)?;
             return Ok(());
         }
+        self.places.rows_of(wire.0, &mut self.named)?;
         self.rows.remove(at);
         self.substitute(wire)?;
         Ok(())

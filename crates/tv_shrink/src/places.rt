@@ -2,12 +2,19 @@
 
 ghost use Rattle.std.specs.Prelude.{◌≡◌, ◌==◌, ◌≤◌, ◌<◌, [], ◌∷◌, ℕ, List, true, length};
 ghost use Rattle.std.specs.Prelude.{replicate, reverse, slice_index_or, slice_set, OnOk, IfOk};
+ghost use Rattle.std.specs.Prelude.{false, None, Ok, IfSome};
 ghost use Rattle.std.specs.Prelude.{if◌then◌else◌};
 ghost use Rattle.std.specs.List.{list_any};
+ghost use Rattle.tv_shrink.specs.Normal.{IsNormalFrom};
+ghost use Rattle.tv_shrink.specs.Passing.{row_fits};
 ghost use Rattle.tv_shrink.specs.Placing.{rows_from, with_row, LeadBack};
+ghost use Rattle.tv_shrink.specs.Tidy.{AreNormal};
 
+use crate::pass::other_fits;
+use crate::rows::Rows;
 use std::alloc::{AllocError, Global};
 use std::marker::Model;
+use tv_core::{F, Wire};
 
 /// A row that a wire may stand in, and the number of the wire's entry before it, 0 at the first.
 #[derive(Clone, Copy)]
@@ -76,6 +83,36 @@ impl Places {
             number = entry.next;
         }
         Ok(())
+    }
+
+    /// The first of the rows that a wire may stand in, but for the one at a place, that doesn't
+    /// keep to its most terms with `r` in the wire's place. It looks at no row behind it.
+    pub(crate) fn misfit(
+        &self,
+        rows: &Rows,
+        but: usize,
+        out: &mut Vec<(F, Wire)>,
+        wire: Wire,
+        r: &[(F, Wire)],
+    ) -> Result<Option<u32>, AllocError>
+        requires here { wire < length self.now }
+        requires normal { AreNormal rows.now }
+        requires by { IsNormalFrom 0 r.now }
+        ensures some { IfOk result (λ found. IfSome found (λ row.
+            row_fits wire r.now (slice_index_or (slice_set rows.now but None) row None) ≡ false)) }
+        ensures none { result ≡ Ok None → (i : ℕ)
+            → list_any (λ p. p == i) (slice_index_or self.now wire []) ≡ true
+            → row_fits wire r.now (slice_index_or (slice_set rows.now but None) i None) ≡ true }
+    {
+        let mut number = self.heads[wire.0 as usize];
+        while number > 0 {
+            let entry = self.entries[number as usize - 1];
+            if !other_fits(rows, but, entry.row, out, wire, r)? {
+                return Ok(Some(entry.row));
+            }
+            number = entry.next;
+        }
+        Ok(None)
     }
 
     /// Tells that a wire may stand in a row.

@@ -42,7 +42,9 @@ fn first_fault<D: Files>(
 ///
 /// Reads the file once, and a refused one for its terms or a combination twice: such a refusal
 /// comes only after memory was taken for the constraints before, of at most 4,194,304 terms. A
-/// replacement costs as much as the constraints that it changes have terms.
+/// replacement costs as much as the constraints that it changes have terms, and a turn that is
+/// given up as much as those that it looks at, up to one that would have too many; the wire's next
+/// turn looks at that one first.
 pub fn shrink<D: Files>(alloc: Global, files: &mut D, name: &str) -> Result<Shrunk, ShrinkFault>
     ensures gives { Known (D.seen files.old) name.now (λ file. MatchResult result
         (λ shrunk. Shrinks shrunk file) (λ fault. Tells fault file)) }
