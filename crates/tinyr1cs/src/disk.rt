@@ -94,7 +94,9 @@ impl<R: rt::Files + Print + Eprint + Drop> Files for DiskFiles<R> {
         ensures counts { self.new ≡ after Writing result self.old }
     {
         let outcome = self.open.append(&self.rt, name, bytes);
-        self.progress.add(&self.rt, name, bytes.len());
+        if outcome.is_ok() {
+            self.progress.add(&self.rt, name, bytes.len());
+        }
         self.counts.settle(Call::Writing, outcome)
     }
 

@@ -25,7 +25,12 @@ pub enum AsmWhy {
     UnknownName,
     /// The instruction takes another number of operands.
     #[error("{has} operands, {wants} wanted")]
-    Operands { has: u64, wants: u64 },
+    Operands {
+        /// How many the line has.
+        has: u64,
+        /// How many the instruction names.
+        wants: u64,
+    },
     /// The operand isn't `r` and a number below 16 without a leading zero.
     #[error("bad register")]
     BadRegister,
@@ -42,12 +47,22 @@ pub enum AsmWhy {
 pub enum AsmFault {
     /// The first line at fault, counted from 1, is refused.
     #[error("line {line}: {why}")]
-    Bad { line: u64, why: AsmWhy },
+    Bad {
+        /// The line's number.
+        line: u64,
+        /// What is wrong there.
+        why: AsmWhy,
+    },
     /// With the words of this line the image would have more than `most`.
     #[error("line {line}: more than {most} words")]
-    TooMany { line: u64, most: u32 },
+    TooMany {
+        /// The line's number.
+        line: u64,
+        /// How many words are allowed.
+        most: u32,
+    },
     /// Memory was wanting.
-    #[error("no memory")]
+    #[error("out of memory")]
     Memory,
 }
 

@@ -108,3 +108,5 @@ numbers_permuted net h bit item = through_permutes net h bit item
 
 pub pairs_permuted : PairsArePermuted
 pairs_permuted net h bit item = through_permutes net h bit item
+
+pub ruleset permuted = (numbers_permuted, pairs_permuted)

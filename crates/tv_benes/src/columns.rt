@@ -6,14 +6,15 @@ ghost use Rattle.tv_benes.specs.Network.{switch_of, column_of};
 ghost use Rattle.tv_benes.specs.Places.{wires_at, AreMade};
 
 use crate::places::{Inputs, Places};
-use crate::wire_switches::{Scratch, wire_switch};
-use tv_bits::{bit, select_terms};
-use tv_core::{F, Pair, Put, Sink, Wire};
+use crate::wire_switches::wire_switch;
+use tv_bits::{bit_by, select_terms};
+use tv_core::{F, Pair, Put, Scratch, Sink, Wire};
 
 // A switch between two items, each told by the terms of its two combinations. It makes 5 wires and
 // 5 constraints, with 23 terms where the items are wires.
 fn switch<S: Sink>(
     s: &mut S,
+    scratch: &mut Scratch,
     x: &[(F, Wire)],
     x_second: &[(F, Wire)],
     y: &[(F, Wire)],
@@ -34,16 +35,16 @@ fn switch<S: Sink>(
     ensures grows { IfOk result (λ _. Grows S.meaning s.old s.new 5 5) }
 {
     let b = s.fresh();
-    bit(s, b)?;
-    select_terms(s, b, y, x)?;
-    select_terms(s, b, y_second, x_second)?;
-    select_terms(s, b, x, y)?;
-    select_terms(s, b, x_second, y_second)?;
+    bit_by(s, &mut scratch.a, b)?;
+    select_terms(s, scratch, b, y, x)?;
+    select_terms(s, scratch, b, y_second, x_second)?;
+    select_terms(s, scratch, b, x, y)?;
+    select_terms(s, scratch, b, x_second, y_second)?;
     Ok(())
 }
 
 // A switch between two pairs of combinations.
-fn pair_switch<S: Sink>(s: &mut S, x: &Pair, y: &Pair) -> Put<()>
+fn pair_switch<S: Sink>(s: &mut S, scratch: &mut Scratch, x: &Pair, y: &Pair) -> Put<()>
     requires room { Room S.meaning s.old 5 5 }
     requires x_made { top x.now.first ≤ S.meaning.wires s.old }
     requires x2_made { top x.now.second ≤ S.meaning.wires s.old }
@@ -58,6 +59,7 @@ fn pair_switch<S: Sink>(s: &mut S, x: &Pair, y: &Pair) -> Put<()>
 {
     switch(
         s,
+        scratch,
         x.first.terms(),
         x.second.terms(),
         y.first.terms(),
@@ -90,10 +92,11 @@ pub(crate) fn input_column<S: Sink, I: Inputs>(s: &mut S, n: u32, inputs: &I) ->
     ensures puts { PutsIn S.meaning s.old s.new (column_of n (I.pair inputs.now)) result }
     ensures grows { IfOk result (λ _. Grows S.meaning s.old s.new (5 * n) (5 * n)) }
 {
+    let mut scratch = Scratch::new();
     for j in 0..n {
         let x = inputs.at(2 * j);
         let y = inputs.at(2 * j + 1);
-        pair_switch(s, &x, &y)?;
+        pair_switch(s, &mut scratch, &x, &y)?;
     }
     Ok(())
 }

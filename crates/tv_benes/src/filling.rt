@@ -11,8 +11,9 @@ use crate::shape::{Net, level_switches, long_missing, long_power};
 use tv_core::{F, PairNum, Put, Values, give_values};
 
 /// Gives the values of the wires that `network` makes, for the numbers of its inputs and the bits
-/// of its switches in order; a bit or a pair that is not there counts as 0. It takes no memory: an
-/// item that comes to a switch is found among the inputs, in at most 2k steps.
+/// of its switches in order, `k` being from 1 to 31; a bit or a pair that is not there counts as 0.
+/// It takes no memory: an item that comes to a switch is found among the inputs, in at most 2k
+/// steps.
 pub fn fill_network<V: Values>(v: &mut V, k: u32, inputs: &[PairNum], bits: &[bool]) -> Put<()>
     requires whole { V.giving.broken v.old ≡ false }
     requires some { 1 ≤ k }

@@ -2,7 +2,7 @@ ghost use Rattle.tv_benes.specs.Network.{NetworkIsSound, NetworkIsComplete, Netw
 ghost use Rattle.tv_benes.specs.Through.{NumbersArePermuted, PairsArePermuted, PlacesTell};
 
 /// Whatever the bits, what comes out of a network is what went in, in another order.
-#[tactic(auto, using(crate::proofs::Permuting::numbers_permuted, crate::proofs::Permuting::pairs_permuted))]
+#[tactic(auto, using(crate::proofs::Permuting::permuted))]
 pub fn through_is_a_permutation()
     ensures numbers { NumbersArePermuted }
     ensures pairs { PairsArePermuted }

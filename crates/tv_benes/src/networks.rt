@@ -10,8 +10,9 @@ use crate::places::{Inputs, LastItems, Outputs, Row, column_outputs, last_output
 use crate::shape::{Net, missing, power};
 use tv_core::{Put, Sink, Wire};
 
-/// Benes' network on 2^`k` items. It makes 5 wires and 5 constraints a switch, of 23 terms where
-/// the items are wires; it keeps no list, and asks `inputs` for each item once.
+/// Benes' network on 2^`k` items, `k` being from 1 to 31. It makes 5 wires and 5 constraints a
+/// switch, of 23 terms where the items are wires; it keeps no list, and asks `inputs` for each item
+/// once.
 pub fn network<S: Sink, I: Inputs>(s: &mut S, k: u32, inputs: &I) -> Put<Outputs>
     requires some { 1 ≤ k }
     requires few { k ≤ 31 }
@@ -27,7 +28,7 @@ pub fn network<S: Sink, I: Inputs>(s: &mut S, k: u32, inputs: &I) -> Put<Outputs
     routing_network(s, Net::Benes, k, inputs)
 }
 
-/// Either network on 2^`k` items.
+/// Either network on 2^`k` items, `k` being from 1 to 31.
 pub fn routing_network<S: Sink, I: Inputs>(s: &mut S, net: Net, k: u32, inputs: &I) -> Put<Outputs>
     requires some { 1 ≤ k }
     requires few { k ≤ 31 }

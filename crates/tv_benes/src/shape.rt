@@ -12,7 +12,7 @@ pub enum Net {
     Waksman,
 }
 
-/// How many switches Benes' network for 2^`k` items has.
+/// How many switches Benes' network for 2^`k` items has, `k` being from 1 to 31.
 pub fn switches(k: u32) -> u64
     requires some { 1 ≤ k }
     requires few { k ≤ 31 }
@@ -21,7 +21,7 @@ pub fn switches(k: u32) -> u64
     routing_switches(Net::Benes, k)
 }
 
-/// How many switches either network for 2^`k` items has.
+/// How many switches either network for 2^`k` items has, `k` being from 1 to 31.
 pub fn routing_switches(net: Net, k: u32) -> u64
     requires some { 1 ≤ k }
     requires few { k ≤ 31 }

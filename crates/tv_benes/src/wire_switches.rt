@@ -1,41 +1,12 @@
-ghost use Rattle.std.specs.Prelude.{◌≡◌, ◌+◌, ◌<◌, max, IfOk};
-ghost use Rattle.tv_bits.specs.Bit.{bit_of};
+ghost use Rattle.std.specs.Prelude.{◌+◌, ◌<◌, IfOk};
 ghost use Rattle.tv_bits.specs.Select.{select_of};
-ghost use Rattle.tv_core.specs.Combinations.{less, top, wire};
+ghost use Rattle.tv_core.specs.Combinations.{wire};
 ghost use Rattle.tv_core.specs.Sinks.{PutsIn, Grows, Room};
 ghost use Rattle.tv_benes.specs.Network.{switch_of};
 ghost use Rattle.tv_benes.specs.Places.{wires_at};
 
-use tv_core::{F, Lc, Put, Sink, Wire};
-
-// The combinations of a constraint, filled again for each: to make one costs more than to put it.
-#[derive(Drop)]
-pub(crate) struct Scratch {
-    a: Lc,
-    b: Lc,
-    c: Lc,
-}
-
-impl Scratch {
-    pub(crate) fn new() -> Scratch {
-        Scratch {
-            a: Lc::empty(),
-            b: Lc::empty(),
-            c: Lc::empty(),
-        }
-    }
-}
-
-// Holds a wire to 0 or 1.
-fn hold<S: Sink>(s: &mut S, scratch: &mut Scratch, w: Wire) -> Put<()>
-    requires room { Room S.meaning s.old 0 1 }
-    requires made { w < S.meaning.wires s.old }
-    ensures puts { PutsIn S.meaning s.old s.new (bit_of w) result }
-    ensures grows { IfOk result (λ _. Grows S.meaning s.old s.new 0 1) }
-{
-    fill_wire(&mut scratch.a, w);
-    s.put(&scratch.a, &scratch.a, &scratch.a)
-}
+use tv_bits::bit_by;
+use tv_core::{Put, Scratch, Sink, Wire};
 
 // A wire that is wire `x` where the bit `b` is 1, and wire `y` where it is 0.
 fn choose<S: Sink>(s: &mut S, scratch: &mut Scratch, b: Wire, x: Wire, y: Wire) -> Put<Wire>
@@ -47,30 +18,11 @@ fn choose<S: Sink>(s: &mut S, scratch: &mut Scratch, b: Wire, x: Wire, y: Wire) 
     ensures grows { IfOk result (λ _. Grows S.meaning s.old s.new 1 1) }
 {
     let chosen = s.fresh();
-    fill_wire(&mut scratch.a, b);
-    fill_difference(&mut scratch.b, x, y);
-    fill_difference(&mut scratch.c, chosen, y);
+    scratch.a.set_wire(b);
+    scratch.b.set_difference(x, y);
+    scratch.c.set_difference(chosen, y);
     s.put(&scratch.a, &scratch.b, &scratch.c)?;
     Ok(chosen)
-}
-
-// Makes `lc` one wire.
-fn fill_wire(lc: &mut Lc, w: Wire)
-    ensures terms { lc.new ≡ wire w }
-    ensures top { top lc.new ≡ w + 1 }
-{
-    lc.clear();
-    lc.plus(F::ONE, w);
-}
-
-// Makes `lc` one wire less another.
-fn fill_difference(lc: &mut Lc, x: Wire, y: Wire)
-    ensures terms { lc.new ≡ less (wire x) (wire y) }
-    ensures top { top lc.new ≡ max (x + 1) (y + 1) }
-{
-    lc.clear();
-    lc.plus(F::ONE, x);
-    lc.plus(-F::ONE, y);
 }
 
 // A switch between two items that are two wires each. It makes 5 wires and 5 constraints, of 23
@@ -94,7 +46,7 @@ fn switch<S: Sink>(
     ensures grows { IfOk result (λ _. Grows S.meaning s.old s.new 5 5) }
 {
     let b = s.fresh();
-    hold(s, scratch, b)?;
+    bit_by(s, &mut scratch.a, b)?;
     choose(s, scratch, b, y, x)?;
     choose(s, scratch, b, y_second, x_second)?;
     choose(s, scratch, b, x, y)?;

@@ -86,3 +86,5 @@ ratio_sizes = record {
   fills = λ x y a b next. ratio_next x y next;
   in_field = λ a b. InField-cons (ratio a b) [] (residue_below (b * inverse_of a)) InField-none;
 }
+
+pub ruleset ratio_laws = (ratio_complete, ratio_divides)

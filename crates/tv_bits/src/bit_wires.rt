@@ -15,7 +15,7 @@ pub struct Bits {
 }
 
 impl Bits {
-    /// The number that they spell, as a combination of `n` terms.
+    /// The number that they spell, as a combination of `n` terms, at most 63.
     pub fn lc(&self) -> Lc
         requires short { self.now.n ≤ 63 }
         requires within { self.now.first + self.now.n < 2 ^ 32 }
@@ -28,7 +28,7 @@ impl Bits {
         lc
     }
 
-    /// Appends `factor` times the number that they spell, as `n` terms.
+    /// Appends `factor` times the number that they spell, as `n` terms, at most 63.
     pub fn plus_to(&self, lc: &mut Lc, factor: F)
         requires short { self.now.n ≤ 63 }
         requires within { self.now.first + self.now.n < 2 ^ 32 }
@@ -46,7 +46,8 @@ impl Bits {
         }
     }
 
-    /// One more than the number that they spell, as a combination of `n + 1` terms.
+    /// One more than the number that they spell, as a combination of `n + 1` terms; `n` is at most
+    /// 63.
     pub fn plus_one(&self) -> Lc
         requires short { self.now.n ≤ 63 }
         requires within { self.now.first + self.now.n < 2 ^ 32 }

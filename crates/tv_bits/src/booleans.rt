@@ -12,8 +12,18 @@ pub fn bit<S: Sink>(s: &mut S, w: Wire) -> Put<()>
     ensures puts { PutsIn S.meaning s.old s.new (bit_of w) result }
     ensures grows { IfOk result (λ _. Grows S.meaning s.old s.new 0 1) }
 {
-    let lc = Lc::wire(w);
-    s.put(&lc, &lc, &lc)
+    bit_by(s, &mut Lc::empty(), w)
+}
+
+/// The same, by a combination that is filled again: to make one costs more than to put it.
+pub fn bit_by<S: Sink>(s: &mut S, lc: &mut Lc, w: Wire) -> Put<()>
+    requires room { Room S.meaning s.old 0 1 }
+    requires made { w < S.meaning.wires s.old }
+    ensures puts { PutsIn S.meaning s.old s.new (bit_of w) result }
+    ensures grows { IfOk result (λ _. Grows S.meaning s.old s.new 0 1) }
+{
+    lc.set_wire(w);
+    s.put(lc, lc, lc)
 }
 
 /// Gives nothing, since `bit` makes no wire.

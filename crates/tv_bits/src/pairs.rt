@@ -1,17 +1,17 @@
-ghost use Rattle.std.specs.Prelude.{◌≡◌, ◌+◌, ◌≤◌, [], length, max, IfOk};
+ghost use Rattle.std.specs.Prelude.{◌≡◌, ◌+◌, ◌≤◌, length, max, IfOk};
 ghost use Rattle.tv_bits.specs.Pairs.{side, two_ands_of, TwoAndsAreSound, TwoAndsAreComplete};
 ghost use Rattle.tv_bits.specs.Pairs.{TwoAndsSizes};
 ghost use Rattle.tv_core.specs.Combinations.{top};
 ghost use Rattle.tv_core.specs.Sinks.{PutsIn, Grows, Room};
 
-use crate::terms::{plus_all, plus_scaled};
-use tv_core::{F, Lc, Put, Sink, Wire};
+use tv_core::{F, Lc, Put, Scratch, Sink, Wire};
 
 /// Holds `m` to the product of `x_a` and `y_a` plus `gamma` squared times that of `x_b` and `y_b`,
 /// where these four are 0 or 1. They have at most 8 terms each, and `m` at most 64. It makes no
-/// wire and 1 constraint.
+/// wire and 1 constraint, from combinations that are filled again.
 pub fn two_ands<S: Sink>(
     s: &mut S,
+    scratch: &mut Scratch,
     x_a: &[(F, Wire)],
     y_a: &[(F, Wire)],
     x_b: &[(F, Wire)],
@@ -34,18 +34,23 @@ pub fn two_ands<S: Sink>(
         (two_ands_of x_a.now y_a.now x_b.now y_b.now gamma m.now) result }
     ensures grows { IfOk result (λ _. Grows S.meaning s.old s.new 0 1) }
 {
-    let mut left = Lc::empty();
-    plus_side(&mut left, x_a, y_a, x_b, y_b, gamma, F::ONE);
-    let mut right = Lc::empty();
-    plus_side(&mut right, x_a, y_a, x_b, y_b, -gamma, F::ONE);
-    let mut rest = Lc::empty();
-    plus_side(&mut rest, x_a, y_a, x_b, y_b, -(gamma * gamma), F::of(3));
-    plus_scaled(&mut rest, F::of(2), m);
-    s.put(&left, &right, &rest)
+    fill_side(&mut scratch.a, x_a, y_a, x_b, y_b, gamma, F::ONE);
+    fill_side(&mut scratch.b, x_a, y_a, x_b, y_b, -gamma, F::ONE);
+    fill_side(
+        &mut scratch.c,
+        x_a,
+        y_a,
+        x_b,
+        y_b,
+        -(gamma * gamma),
+        F::of(3),
+    );
+    scratch.c.plus_scaled(F::of(2), m);
+    s.put(&scratch.a, &scratch.b, &scratch.c)
 }
 
-// Appends x_a + y_a + c (1 + k x_b - y_b) to the combination without terms.
-fn plus_side(
+// Makes `lc` x_a + y_a + c (1 + k x_b - y_b).
+fn fill_side(
     lc: &mut Lc,
     x_a: &[(F, Wire)],
     y_a: &[(F, Wire)],
@@ -54,7 +59,6 @@ fn plus_side(
     c: F,
     k: F,
 )
-    requires empty { lc.old ≡ [] }
     requires x_a_short { length x_a.now ≤ 8 }
     requires y_a_short { length y_a.now ≤ 8 }
     requires x_b_short { length x_b.now ≤ 8 }
@@ -64,11 +68,12 @@ fn plus_side(
     ensures top { top lc.new ≡ max 1 (max (max (top x_a.now) (top y_a.now))
         (max (top x_b.now) (top y_b.now))) }
 {
+    lc.clear();
     lc.plus(c, Wire(0));
-    plus_all(lc, x_a);
-    plus_all(lc, y_a);
-    plus_scaled(lc, c * k, x_b);
-    plus_scaled(lc, -c, y_b);
+    lc.plus_terms(x_a);
+    lc.plus_terms(y_a);
+    lc.plus_scaled(c * k, x_b);
+    lc.plus_scaled(-c, y_b);
 }
 
 /// In an assignment that meets what `two_ands` put, `m` is the sum of the products, the four being

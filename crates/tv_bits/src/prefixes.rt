@@ -48,8 +48,7 @@ pub fn prefix_difference<S: Sink>(
     for i in 0..count - 2 {
         fill_prefix_less(&mut factor, x, y, d, chunk * (i + 1));
         let w = times(s, &product, &factor)?;
-        product.clear();
-        product.plus(F::ONE, w);
+        product.set_wire(w);
     }
     fill_prefix_less(&mut factor, x, y, d, chunk * (count - 1));
     s.put(&product, &factor, &Lc::empty())

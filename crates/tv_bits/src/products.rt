@@ -98,7 +98,7 @@ pub fn ratio_is_sound()
 /// Where an assignment has a number at the wire that times the first number is the second, it meets
 /// what `ratio` put; and what `fill_ratio` gives is one, unless the first number is 0 and the
 /// second isn't.
-#[tactic(auto, using(crate::proofs::TimesLaws::ratio_complete, crate::proofs::TimesLaws::ratio_divides))]
+#[tactic(auto, using(crate::proofs::TimesLaws::ratio_laws))]
 pub fn ratio_is_complete()
     ensures meets { RatioIsComplete }
     ensures divides { RatioDivides }

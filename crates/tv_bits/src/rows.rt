@@ -6,11 +6,9 @@ ghost use Rattle.tv_core.specs.Giving.{GivesIn};
 ghost use Rattle.tv_core.specs.Sinks.{PutsIn, Grows, Room};
 
 use crate::bit_wires::Bits;
-use crate::scratch::Scratch;
-use crate::terms::{plus_all, plus_scaled};
-use tv_core::{F, Lc, Put, Sink, Values, Wire};
+use tv_core::{F, Lc, Put, Scratch, Sink, Values, Wire};
 
-/// The sum of `count` wires that follow each other.
+/// The sum of `count` wires that follow each other, at most 128.
 pub fn row_sum(first: Wire, count: u32) -> Lc
     requires short { count ≤ 128 }
     requires within { first + count < 2 ^ 32 }
@@ -56,11 +54,12 @@ fn mark<S: Sink>(s: &mut S, scratch: &mut Scratch, x: &Lc, i: u32) -> Put<()>
     ensures grows { IfOk result (λ _. Grows S.meaning s.old s.new 1 1) }
 {
     let w = s.fresh();
-    scratch.a.clear();
-    scratch.a.plus(F::ONE, w);
+    scratch.a.set_wire(w);
     scratch.b.clear();
-    plus_all(&mut scratch.b, x.terms());
-    plus_scaled(&mut scratch.b, -F::ONE, &[(F::of(u64::from(i)), Wire(0))]);
+    scratch.b.plus_terms(x.terms());
+    scratch
+        .b
+        .plus_scaled(-F::ONE, &[(F::of(u64::from(i)), Wire(0))]);
     scratch.c.clear();
     s.put(&scratch.a, &scratch.b, &scratch.c)
 }

@@ -5,11 +5,10 @@ ghost use Rattle.tv_core.specs.Combinations.{top};
 ghost use Rattle.tv_core.specs.Giving.{GivesIn};
 ghost use Rattle.tv_core.specs.Sinks.{PutsIn, Grows, Room};
 
-use crate::terms::{plus_all, plus_scaled};
-use tv_core::{F, Lc, Put, Sink, Values, Wire};
+use tv_core::{F, Lc, Put, Scratch, Sink, Values, Wire};
 
-/// A wire that is `x` where the bit `b` is 1, and `y` where it is 0. It makes 1 wire and 1
-/// constraint.
+/// A wire that is `x` where the bit `b` is 1, and `y` where it is 0; both have at most 64 terms. It
+/// makes 1 wire and 1 constraint.
 pub fn select<S: Sink>(s: &mut S, b: Wire, x: &Lc, y: &Lc) -> Put<Wire>
     requires room { Room S.meaning s.old 1 1 }
     requires b_made { b < S.meaning.wires s.old }
@@ -21,11 +20,17 @@ pub fn select<S: Sink>(s: &mut S, b: Wire, x: &Lc, y: &Lc) -> Put<Wire>
     ensures grows { IfOk result (λ _. Grows S.meaning s.old s.new 1 1) }
     ensures below { IfOk result (λ chosen. chosen < S.meaning.wires s.new) }
 {
-    select_terms(s, b, x.terms(), y.terms())
+    select_terms(s, &mut Scratch::new(), b, x.terms(), y.terms())
 }
 
-/// The same of two lists of terms, so that a choice between wires needs no combination of its own.
-pub fn select_terms<S: Sink>(s: &mut S, b: Wire, x: &[(F, Wire)], y: &[(F, Wire)]) -> Put<Wire>
+/// The same of two lists of terms, from combinations that are filled again.
+pub fn select_terms<S: Sink>(
+    s: &mut S,
+    scratch: &mut Scratch,
+    b: Wire,
+    x: &[(F, Wire)],
+    y: &[(F, Wire)],
+) -> Put<Wire>
     requires room { Room S.meaning s.old 1 1 }
     requires b_made { b < S.meaning.wires s.old }
     requires x_made { top x.now ≤ S.meaning.wires s.old }
@@ -37,15 +42,13 @@ pub fn select_terms<S: Sink>(s: &mut S, b: Wire, x: &[(F, Wire)], y: &[(F, Wire)
     ensures below { IfOk result (λ chosen. chosen < S.meaning.wires s.new) }
 {
     let chosen = s.fresh();
-    let mut bit = Lc::empty();
-    bit.plus(F::ONE, b);
-    let mut difference = Lc::empty();
-    plus_all(&mut difference, x);
-    plus_scaled(&mut difference, -F::ONE, y);
-    let mut rest = Lc::empty();
-    rest.plus(F::ONE, chosen);
-    plus_scaled(&mut rest, -F::ONE, y);
-    s.put(&bit, &difference, &rest)?;
+    scratch.a.set_wire(b);
+    scratch.b.clear();
+    scratch.b.plus_terms(x);
+    scratch.b.plus_scaled(-F::ONE, y);
+    scratch.c.set_wire(chosen);
+    scratch.c.plus_scaled(-F::ONE, y);
+    s.put(&scratch.a, &scratch.b, &scratch.c)?;
     Ok(chosen)
 }
 

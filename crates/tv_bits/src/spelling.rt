@@ -1,6 +1,5 @@
 ghost use Rattle.std.specs.Prelude.{◌≡◌, ◌+◌, ◌≤◌, ◌<◌, ◌^◌, false, IfOk, OnOk};
 ghost use Rattle.std.specs.Int.{bit_at};
-ghost use Rattle.tv_bits.specs.Bit.{bit_of};
 ghost use Rattle.tv_bits.specs.Bits.{bits_values, new_bits_of, bits_of, NewBitsAreSound};
 ghost use Rattle.tv_bits.specs.Bits.{NewBitsAreComplete, BitsAreSound, BitsAreComplete};
 ghost use Rattle.tv_bits.specs.Bits.{NewBitsSizes, BitsSizes};
@@ -9,6 +8,7 @@ ghost use Rattle.tv_core.specs.Giving.{GivesIn};
 ghost use Rattle.tv_core.specs.Sinks.{PutsIn, Grows, Room};
 
 use crate::bit_wires::Bits;
+use crate::booleans::bit_by;
 use tv_core::{F, Lc, Put, Sink, Values, Wire};
 
 /// New wires, each held to 0 or 1. It makes `n` wires and `n` constraints.
@@ -26,22 +26,9 @@ pub fn new_bits<S: Sink>(s: &mut S, n: u32) -> Put<Bits>
     let mut lc = Lc::empty();
     for _turn in 0..n {
         let w = s.fresh();
-        hold(s, &mut lc, w)?;
+        bit_by(s, &mut lc, w)?;
     }
     Ok(bits)
-}
-
-// Holds a wire to 0 or 1, by a combination that is filled again: to make one costs more than to put
-// it.
-fn hold<S: Sink>(s: &mut S, lc: &mut Lc, w: Wire) -> Put<()>
-    requires room { Room S.meaning s.old 0 1 }
-    requires made { w < S.meaning.wires s.old }
-    ensures puts { PutsIn S.meaning s.old s.new (bit_of w) result }
-    ensures grows { IfOk result (λ _. Grows S.meaning s.old s.new 0 1) }
-{
-    lc.clear();
-    lc.plus(F::ONE, w);
-    s.put(lc, lc, lc)
 }
 
 /// New wires that spell `x` in `n` bits, of which there are at most 63; so `x` is held below 2^n.

@@ -9,6 +9,10 @@ ghost use Rattle.tv_word.specs.Widths.{IsWidth};
 
 use crate::records::{Data, Fetched, Groups, Operands, StateWires, Store, Tapes};
 use tv_core::{F, Lc, Put, Sink, Wire};
+use tv_isa::opcode::{
+    ADD, AND, ANSWER, CJMP, CMOV, CMPA, CMPAE, CMPE, CMPG, CMPGE, CNJMP, JMP, LOAD_B, LOAD_W, MOV,
+    MULL, NOT, OR, READ, SHL, SHR, SMULH, STORE_B, STORE_W, SUB, UDIV, UMOD, UMULH, XOR,
+};
 use tv_regs::{WireEntry, choose, group, pick, write_reg};
 
 /// The registers after a step: the result of the instruction goes into its destination, where it
@@ -37,10 +41,13 @@ pub(crate) fn result<const W: u32, S: Sink>(
 {
     let op = fetched.fields.op;
     let word = result_word::<W, S>(s, op, operands, groups, looked, store)?;
-    let moves = group(op, &[19]);
+    let moves = group(op, &[CMOV]);
     let writers = group(
         op,
-        &[0, 1, 2, 3, 4, 5, 6, 7, 8, 9, 10, 11, 12, 18, 27, 29, 30],
+        &[
+            AND, OR, XOR, NOT, ADD, SUB, MULL, UMULH, SMULH, UDIV, UMOD, SHL, SHR, MOV, LOAD_B,
+            LOAD_W, READ,
+        ],
     );
     let writes = pick(s, &moves, &Lc::wire(state.flag), &writers)?;
     write_reg(s, fetched.fields.dest, writes, &Lc::wire(word), &state.regs)
@@ -78,23 +85,23 @@ fn result_word<const W: u32, S: Sink>(
         s,
         op,
         &[
-            entry(&[0], &[(F::ONE, groups.bitwise.and_word)]),
-            entry(&[1], &[(F::ONE, groups.bitwise.or_word)]),
-            entry(&[2], &[(F::ONE, groups.bitwise.xor_word)]),
-            entry(&[3], &[(F::ONE, groups.bitwise.not_word)]),
-            entry(&[4], sum.terms()),
-            entry(&[5], difference.terms()),
-            entry(&[6], low.terms()),
-            entry(&[7], high.terms()),
-            entry(&[8], signed_high.terms()),
-            entry(&[9], quotient.terms()),
-            entry(&[10], remainder.terms()),
-            entry(&[11], &[(F::ONE, groups.shifted.left)]),
-            entry(&[12], &[(F::ONE, groups.shifted.right)]),
-            entry(&[18, 19], &[(F::ONE, operands.operand)]),
-            entry(&[27], &[(F::ONE, store.byte)]),
-            entry(&[29], &[(F::ONE, looked.word)]),
-            entry(&[30], &[(F::ONE, looked.read)]),
+            entry(&[AND], &[(F::ONE, groups.bitwise.and_word)]),
+            entry(&[OR], &[(F::ONE, groups.bitwise.or_word)]),
+            entry(&[XOR], &[(F::ONE, groups.bitwise.xor_word)]),
+            entry(&[NOT], &[(F::ONE, groups.bitwise.not_word)]),
+            entry(&[ADD], sum.terms()),
+            entry(&[SUB], difference.terms()),
+            entry(&[MULL], low.terms()),
+            entry(&[UMULH], high.terms()),
+            entry(&[SMULH], signed_high.terms()),
+            entry(&[UDIV], quotient.terms()),
+            entry(&[UMOD], remainder.terms()),
+            entry(&[SHL], &[(F::ONE, groups.shifted.left)]),
+            entry(&[SHR], &[(F::ONE, groups.shifted.right)]),
+            entry(&[MOV, CMOV], &[(F::ONE, operands.operand)]),
+            entry(&[LOAD_B], &[(F::ONE, store.byte)]),
+            entry(&[LOAD_W], &[(F::ONE, looked.word)]),
+            entry(&[READ], &[(F::ONE, looked.read)]),
         ],
     )
 }
@@ -132,25 +139,27 @@ pub(crate) fn flag<const W: u32, S: Sink>(
         s,
         op,
         &[
-            entry(&[0], &[(F::ONE, groups.bitwise.and_zero)]),
-            entry(&[1], &[(F::ONE, groups.bitwise.or_zero)]),
-            entry(&[2], &[(F::ONE, groups.bitwise.xor_zero)]),
-            entry(&[3], &[(F::ONE, groups.bitwise.not_zero)]),
-            entry(&[4], &[(F::ONE, groups.sum.high.first)]),
-            entry(&[5], &[(F::ONE, groups.difference.high.first)]),
-            entry(&[6, 7], &[(F::ONE, groups.product.over)]),
-            entry(&[8], &[(F::ONE, groups.high.over)]),
-            entry(&[9, 10], &[(F::ONE, groups.quotient.by_zero)]),
-            entry(&[11], &[(F::ONE, highest)]),
-            entry(&[12], &[(F::ONE, lowest)]),
-            entry(&[13], &[(F::ONE, order.equal)]),
-            entry(&[14], &[(F::ONE, order.above)]),
-            entry(&[15], &[(F::ONE, order.above), (F::ONE, order.equal)]),
-            entry(&[16], &[(F::ONE, order.greater)]),
-            entry(&[17], &[(F::ONE, order.greater), (F::ONE, order.equal)]),
-            entry(&[30], &no_word),
+            entry(&[AND], &[(F::ONE, groups.bitwise.and_zero)]),
+            entry(&[OR], &[(F::ONE, groups.bitwise.or_zero)]),
+            entry(&[XOR], &[(F::ONE, groups.bitwise.xor_zero)]),
+            entry(&[NOT], &[(F::ONE, groups.bitwise.not_zero)]),
+            entry(&[ADD], &[(F::ONE, groups.sum.high.first)]),
+            entry(&[SUB], &[(F::ONE, groups.difference.high.first)]),
+            entry(&[MULL, UMULH], &[(F::ONE, groups.product.over)]),
+            entry(&[SMULH], &[(F::ONE, groups.high.over)]),
+            entry(&[UDIV, UMOD], &[(F::ONE, groups.quotient.by_zero)]),
+            entry(&[SHL], &[(F::ONE, highest)]),
+            entry(&[SHR], &[(F::ONE, lowest)]),
+            entry(&[CMPE], &[(F::ONE, order.equal)]),
+            entry(&[CMPA], &[(F::ONE, order.above)]),
+            entry(&[CMPAE], &[(F::ONE, order.above), (F::ONE, order.equal)]),
+            entry(&[CMPG], &[(F::ONE, order.greater)]),
+            entry(&[CMPGE], &[(F::ONE, order.greater), (F::ONE, order.equal)]),
+            entry(&[READ], &no_word),
             entry(
-                &[18, 19, 20, 21, 22, 26, 27, 28, 29, 31],
+                &[
+                    MOV, CMOV, JMP, CJMP, CNJMP, STORE_B, LOAD_B, STORE_W, LOAD_W, ANSWER,
+                ],
                 &[(F::ONE, state.flag)],
             ),
         ],

@@ -8,6 +8,10 @@ ghost use Rattle.tv_word.specs.Widths.{IsWidth};
 use crate::records::StateWires;
 use tv_bits::{Bits, select, zero};
 use tv_core::{F, Lc, Put, Sink, Wire};
+use tv_isa::opcode::{
+    ADD, AND, ANSWER, CJMP, CMOV, CMPA, CMPAE, CMPE, CMPG, CMPGE, CNJMP, JMP, LOAD_B, LOAD_W, MOV,
+    MULL, NOT, OR, READ, SHL, SHR, SMULH, STORE_B, STORE_W, SUB, UDIV, UMOD, UMULH, XOR,
+};
 use tv_regs::{WireEntry, choose};
 
 /// The program counter after a step, `op` being its opcode's row and `a` the bits of its operand.
@@ -38,25 +42,25 @@ pub(crate) fn counter<const W: u32, S: Sink>(
     unless.minus(&Lc::wire(jumped));
     let table = [
         WireEntry {
-            ops: &[20],
+            ops: &[JMP],
             gives: target.terms(),
         },
         WireEntry {
-            ops: &[21],
+            ops: &[CJMP],
             gives: &[(F::ONE, jumped)],
         },
         WireEntry {
-            ops: &[22],
+            ops: &[CNJMP],
             gives: unless.terms(),
         },
         WireEntry {
-            ops: &[31],
+            ops: &[ANSWER],
             gives: &[(F::ONE, state.pc)],
         },
         WireEntry {
             ops: &[
-                0, 1, 2, 3, 4, 5, 6, 7, 8, 9, 10, 11, 12, 13, 14, 15, 16, 17, 18, 19, 26, 27, 28,
-                29, 30,
+                AND, OR, XOR, NOT, ADD, SUB, MULL, UMULH, SMULH, UDIV, UMOD, SHL, SHR, CMPE, CMPA,
+                CMPAE, CMPG, CMPGE, MOV, CMOV, STORE_B, LOAD_B, STORE_W, LOAD_W, READ,
             ],
             gives: behind.terms(),
         },

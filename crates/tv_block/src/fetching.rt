@@ -8,6 +8,7 @@ use crate::records::Fetched;
 use tv_bits::new_bits;
 use tv_core::{F, Lc, Put, Sink};
 use tv_decode::fields;
+use tv_isa::opcode::UNUSED;
 use tv_regs::group;
 
 /// The instruction of a step: two new words and its fields, its opcode being one that is used. It
@@ -22,7 +23,7 @@ pub(crate) fn fetch<const W: u32, S: Sink>(s: &mut S) -> Put<Fetched>
     let head = new_bits(s, W)?;
     let tail = new_bits(s, W)?;
     let fields = fields::<W, S>(s, &head, &tail)?;
-    let unused = group(fields.op, &[23, 24, 25]);
+    let unused = group(fields.op, &UNUSED);
     s.put(&unused, &Lc::constant(F::ONE), &Lc::empty())?;
     Ok(Fetched { head, tail, fields })
 }

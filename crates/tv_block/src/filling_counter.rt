@@ -12,6 +12,7 @@ ghost use Rattle.tv_word.specs.Widths.{IsWidth};
 use crate::step_numbers::StepNumbers;
 use tv_bits::fill_zero;
 use tv_core::{F, Put, Values, give_values};
+use tv_isa::opcode::{AND, ANSWER, CJMP, CMOV, CNJMP, JMP, READ, STORE_B};
 use tv_step::TraceState;
 
 /// Gives the values of the program counter: whether it is at the last instruction, where a jump by
@@ -87,11 +88,11 @@ fn counter_after<const W: u32>(op: u8, pc: u32, a: u32, flag: bool) -> u32
     ensures { result ≡ chosen (pcs W pc a (flag_of flag)) op }
 {
     match op {
-        20 => target::<W>(a),
-        21 => jumped::<W>(pc, a, flag),
-        22 => jumped::<W>(pc, a, !flag),
-        31 => pc,
-        0..=19 | 26..=30 => behind::<W>(pc),
+        JMP => target::<W>(a),
+        CJMP => jumped::<W>(pc, a, flag),
+        CNJMP => jumped::<W>(pc, a, !flag),
+        ANSWER => pc,
+        AND..=CMOV | STORE_B..=READ => behind::<W>(pc),
         _ => 0,
     }
 }

@@ -11,6 +11,10 @@ ghost use Rattle.tv_word.specs.Widths.{IsWidth};
 use crate::filling_store::byte_of;
 use crate::step_numbers::StepNumbers;
 use tv_core::{F, Put, Values};
+use tv_isa::opcode::{
+    ADD, AND, ANSWER, CMOV, CMPA, CMPAE, CMPE, CMPG, CMPGE, CNJMP, LOAD_B, LOAD_W, MOV, MULL, NOT,
+    OR, READ, SHL, SHR, SMULH, STORE_B, SUB, UDIV, UMOD, UMULH, XOR,
+};
 use tv_regs::fill_write_reg;
 use tv_step::TraceState;
 use tv_step::arithmetic::{
@@ -64,23 +68,23 @@ fn result_word<const W: u32>(op: u8, x: u32, a: u32, o: u32, found: bool) -> u32
     ensures { result ≡ chosen (results W x a o found) op }
 {
     match op {
-        0 => both::<W>(x, a),
-        1 => either::<W>(x, a),
-        2 => differing::<W>(x, a),
-        3 => inverted::<W>(a),
-        4 => sum::<W>(x, a),
-        5 => difference::<W>(x, a),
-        6 => low_product::<W>(x, a),
-        7 => high_product::<W>(x, a),
-        8 => high_signed::<W>(x, a).0,
-        9 => quotient::<W>(x, a),
-        10 => remainder::<W>(x, a),
-        11 => shifted_left::<W>(x, a),
-        12 => shifted_right::<W>(x, a),
-        18 | 19 => a,
-        27 => byte_of(o, a % (W / 8)),
-        29 => o,
-        30 if found => o,
+        AND => both::<W>(x, a),
+        OR => either::<W>(x, a),
+        XOR => differing::<W>(x, a),
+        NOT => inverted::<W>(a),
+        ADD => sum::<W>(x, a),
+        SUB => difference::<W>(x, a),
+        MULL => low_product::<W>(x, a),
+        UMULH => high_product::<W>(x, a),
+        SMULH => high_signed::<W>(x, a).0,
+        UDIV => quotient::<W>(x, a),
+        UMOD => remainder::<W>(x, a),
+        SHL => shifted_left::<W>(x, a),
+        SHR => shifted_right::<W>(x, a),
+        MOV | CMOV => a,
+        LOAD_B => byte_of(o, a % (W / 8)),
+        LOAD_W => o,
+        READ if found => o,
         _ => 0,
     }
 }
@@ -90,8 +94,8 @@ fn writes(op: u8, flag: bool) -> bool
     ensures { result ≡ (if op == 19 then flag_of flag == 1 else among writer_ops op) }
 {
     match op {
-        0..=12 | 18 | 27 | 29 | 30 => true,
-        19 => flag,
+        AND..=SHR | MOV | LOAD_B | LOAD_W | READ => true,
+        CMOV => flag,
         _ => false,
     }
 }
@@ -129,24 +133,24 @@ fn flag_after<const W: u32>(op: u8, x: u32, a: u32, found: bool, flag: bool) -> 
     ensures { flag_of result ≡ chosen (flags W x a found (flag_of flag)) op }
 {
     match op {
-        0 => both::<W>(x, a) == 0,
-        1 => either::<W>(x, a) == 0,
-        2 => differing::<W>(x, a) == 0,
-        3 => inverted::<W>(a) == 0,
-        4 => carries::<W>(x, a),
-        5 => x < a,
-        6 | 7 => is_wide::<W>(x, a),
-        8 => high_signed::<W>(x, a).1,
-        9 | 10 => a == 0,
-        11 => sign_bit::<W>(x),
-        12 => x % 2 == 1,
-        13 => x == a,
-        14 => x > a,
-        15 => x >= a,
-        16 => signed_word::<W>(x) > signed_word::<W>(a),
-        17 => signed_word::<W>(x) >= signed_word::<W>(a),
-        30 => !found,
-        18..=22 | 26..=29 | 31 => flag,
+        AND => both::<W>(x, a) == 0,
+        OR => either::<W>(x, a) == 0,
+        XOR => differing::<W>(x, a) == 0,
+        NOT => inverted::<W>(a) == 0,
+        ADD => carries::<W>(x, a),
+        SUB => x < a,
+        MULL | UMULH => is_wide::<W>(x, a),
+        SMULH => high_signed::<W>(x, a).1,
+        UDIV | UMOD => a == 0,
+        SHL => sign_bit::<W>(x),
+        SHR => x % 2 == 1,
+        CMPE => x == a,
+        CMPA => x > a,
+        CMPAE => x >= a,
+        CMPG => signed_word::<W>(x) > signed_word::<W>(a),
+        CMPGE => signed_word::<W>(x) >= signed_word::<W>(a),
+        READ => !found,
+        MOV..=CNJMP | STORE_B..=LOAD_W | ANSWER => flag,
         _ => false,
     }
 }

@@ -9,6 +9,7 @@ ghost use Rattle.tv_word.specs.Widths.{IsWidth};
 
 use crate::step_numbers::StepNumbers;
 use tv_core::{F, Put, Values, give_values};
+use tv_isa::opcode::{STORE_B, STORE_W};
 use tv_step::TraceState;
 
 /// Gives the values of what loads and stores make of the data word.
@@ -69,12 +70,12 @@ fn news_values<const W: u32>(state: &TraceState, step: &StepNumbers) -> [F; 2]
     ensures { result ≡ news_values W step.now.n (view_of state.now) step.now.instr step.now.word
         step.now.aux }
 {
-    let with_byte = if step.instr.op == 26 {
+    let with_byte = if step.instr.op == STORE_B {
         with_byte::<W>(step.word, step.operand % (W / 8), step.other % 256)
     } else {
         step.old
     };
-    let new = if step.instr.op == 28 {
+    let new = if step.instr.op == STORE_W {
         step.other
     } else {
         with_byte

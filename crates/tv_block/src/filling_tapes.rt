@@ -14,6 +14,7 @@ use crate::step_numbers::{StepNumbers, touches};
 use tv_bits::fill_bits;
 use tv_core::limits::{NULL_CELL, TAPE_CELLS};
 use tv_core::{F, Put, Values, give_values};
+use tv_isa::opcode::READ;
 use tv_step::TraceState;
 
 /// Gives the values of what a step does to the tapes.
@@ -39,7 +40,7 @@ fn tapes_values<const W: u32>(state: &TraceState, step: &StepNumbers) -> [F; 8]
     ensures { result ≡ tapes_values W step.now.n (view_of state.now) step.now.instr step.now.word
         step.now.aux }
 {
-    let reads = step.instr.op == 30;
+    let reads = step.instr.op == READ;
     let reads_aux = reads && step.operand == 1;
     [
         F::from(step.operand / 2 == 0 && reads),
@@ -89,7 +90,7 @@ fn ended_after<const W: u32>(state: &TraceState, step: &StepNumbers) -> bool
     ensures { flag_of result ≡ (stepped W step.now.n (view_of state.now) step.now.instr
         step.now.word step.now.aux).ended }
 {
-    state.ended || step.instr.op == 30 && step.operand == 1 && !step.aux
+    state.ended || step.instr.op == READ && step.operand == 1 && !step.aux
 }
 
 /// Gives the values of the data word: its bits and what comes of it.

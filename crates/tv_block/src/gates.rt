@@ -58,7 +58,7 @@ pub(crate) fn taking<S: Sink>(
 {
     let gained = but_for(&Lc::wire(ended), before);
     let mut either = Lc::wire(takes);
-    either.plus_scaled(F::ONE, &gained);
+    either.plus_scaled(F::ONE, gained.terms());
     s.put(&Lc::wire(asked), &Lc::one_less(before), &either)?;
     s.put(&Lc::wire(takes), &gained, &Lc::empty())
 }
@@ -71,6 +71,6 @@ pub(crate) fn but_for(x: &Lc, w: Wire) -> Lc
     ensures len { length result ≡ length x.now + 1 }
 {
     let mut lc = Lc::from_terms(x.terms());
-    lc.minus(&Lc::wire(w));
+    lc.plus(-F::ONE, w);
     lc
 }

@@ -8,6 +8,7 @@ use crate::records::{Data, StateWires, Tapes};
 use tv_bits::{Bits, new_bits, times};
 use tv_core::limits::{NULL_CELL, TAPE_CELLS};
 use tv_core::{F, Lc, Put, Sink, Wire};
+use tv_isa::opcode::{LOAD_B, LOAD_W, STORE_B, STORE_W};
 use tv_regs::{group, kept, pick};
 
 /// The data word of a step, and its cell. It makes `W` + 5 wires and `W` + 5 constraints.
@@ -31,7 +32,7 @@ pub(crate) fn data<const W: u32, S: Sink>(
 {
     let bits = new_bits(s, W)?;
     let word = kept(s, &bits.lc())?;
-    let mut looks = group(op, &[26, 27, 28, 29]);
+    let mut looks = group(op, &[STORE_B, LOAD_B, STORE_W, LOAD_W]);
     let address = a.above(W / 16).lc();
     let memory_cell = pick(s, &looks, &address, &Lc::constant(F::from(NULL_CELL)))?;
     let mut tape_cell = Lc::constant(F::from(TAPE_CELLS));

@@ -7,6 +7,7 @@ ghost use Rattle.tv_word.specs.Widths.{IsWidth};
 use crate::records::{Fetched, Operands, StateWires};
 use tv_bits::{bits, select};
 use tv_core::{Lc, Put, Sink};
+use tv_isa::opcode::{STORE_B, STORE_W};
 use tv_regs::{group, pick, read_reg};
 
 /// The operands of an instruction: the three registers that it names, and of them the operand and
@@ -29,7 +30,7 @@ pub(crate) fn operands<const W: u32, S: Sink>(
     let reg = read_reg(s, fetched.fields.reg, &state.regs)?;
     let operand = select(s, fetched.fields.imm, &fetched.tail.lc(), &Lc::wire(reg))?;
     let a = bits(s, &Lc::wire(operand), W)?;
-    let stores = group(fetched.fields.op, &[26, 28]);
+    let stores = group(fetched.fields.op, &[STORE_B, STORE_W]);
     let other = pick(s, &stores, &Lc::wire(dest), &Lc::wire(source))?;
     let x = bits(s, &Lc::wire(other), W)?;
     Ok(Operands {

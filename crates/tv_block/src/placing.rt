@@ -1,5 +1,4 @@
-ghost use Rattle.std.specs.Prelude.{◌≡◌, ◌+◌, ◌*◌, ◌/◌, ◌<◌, ◌≤◌, ◌^◌, ℕ};
-ghost use Rattle.std.specs.List.{range_with_len};
+ghost use Rattle.std.specs.Prelude.{◌≡◌, ◌+◌, ◌*◌, ◌/◌, ◌<◌, ◌^◌, ℕ};
 ghost use Rattle.tv_block.specs.Block.{word_inverse, cell_of};
 ghost use Rattle.tv_block.specs.Complete.{block_made};
 ghost use Rattle.tv_block.specs.declared.records.StateWires.{StateWires};
@@ -7,12 +6,35 @@ ghost use Rattle.tv_block.specs.Places.{tapes_at, data_at, store_at, result_at, 
 ghost use Rattle.tv_block.specs.Places.{first_line, second_line, third_line, block_wires, IsShort};
 ghost use Rattle.tv_block.specs.Under.{StateUnder, LineUnder};
 ghost use Rattle.tv_lines.specs.Placed.{line_in};
-ghost use Rattle.tv_regs.specs.Reading.{wires_top};
 ghost use Rattle.tv_word.specs.Widths.{IsWidth};
 
 use crate::records::{Block, Spot, StateWires};
 use tv_bits::Bits;
 use tv_core::{F, Lc, LineLc, P, Wire};
+use tv_isa::opcode::ANSWER;
+use tv_regs::wires_from;
+
+// Counted from the first wire of the tapes: how many words of the primary tape are taken, whether
+// one of the auxiliary tape is, whether that has ended, and how many wires these are.
+const TAKEN: u32 = 5;
+
+const TAKES: u32 = 6;
+
+const ENDED: u32 = 7;
+
+const TAPES: u32 = 8;
+
+// Counted from the first wire of the result: the registers, the flag and the program counter.
+const REGISTERS: u32 = 3;
+
+const FLAG: u32 = REGISTERS + 16;
+
+const COUNTER: u32 = FLAG + 4;
+
+// The wires of an instruction's fields, and those of the registers that it names.
+const FIELDS: u32 = 80;
+
+const NAMED: u32 = 3;
 
 /// The state after a step whose first wire is `first`.
 pub fn next_state<const W: u32>(first: Wire) -> StateWires
@@ -24,11 +46,11 @@ pub fn next_state<const W: u32>(first: Wire) -> StateWires
     let tapes = first.offset(tapes_at::<W>());
     let result = first.offset(result_at::<W>());
     StateWires {
-        pc: result.offset(23),
-        regs: row(result.offset(3)),
-        flag: result.offset(19),
-        taken_of_primary: tapes.offset(5),
-        aux_ended: tapes.offset(7),
+        pc: result.offset(COUNTER),
+        regs: wires_from(result.offset(REGISTERS)),
+        flag: result.offset(FLAG),
+        taken_of_primary: tapes.offset(TAKEN),
+        aux_ended: tapes.offset(ENDED),
     }
 }
 
@@ -59,8 +81,8 @@ pub fn block_spot<const W: u32>(first: Wire) -> Spot
 {
     let tapes = first.offset(tapes_at::<W>());
     Spot {
-        taken: tapes.offset(6),
-        word: tapes.offset(8 + W),
+        taken: tapes.offset(TAKES),
+        word: tapes.offset(TAPES + W),
     }
 }
 
@@ -80,8 +102,8 @@ pub fn block_wires<const W: u32>(first: Wire, state: &StateWires, _n: u32, time:
             block_line::<W>(first, state, time, 2),
         ],
         spot: block_spot::<W>(first),
-        answers: first.offset(2 * W + 31),
-        value: first.offset(2 * W + 83),
+        answers: first.offset(2 * W + u32::from(ANSWER)),
+        value: first.offset(2 * W + FIELDS + NAMED),
     }
 }
 
@@ -147,19 +169,6 @@ fn word_inverse<const W: u32>() -> F
     F::of(P - (P - 1) / u64::from(W / 8))
 }
 
-// Sixteen wires in a row.
-fn row(first: Wire) -> [Wire; 16]
-    requires within { first + 16 < 2 ^ 32 }
-    ensures wires { result ≡ range_with_len first 16 }
-    ensures top { wires_top result ≤ first + 16 }
-{
-    let mut made = [first; 16];
-    for i in 0..16 {
-        made[i as usize] = first.offset(i);
-    }
-    made
-}
-
 // Where the wires of the tapes begin, counted from a step's first wire: after the instruction's
 // words and fields, the operands, and the operations.
 fn tapes_at<const W: u32>() -> u32
@@ -169,12 +178,12 @@ fn tapes_at<const W: u32>() -> u32
     14 * W + W / 2 + 116 - W / 16
 }
 
-// Where those of the data word begin: after 8 of the tapes.
+// Where those of the data word begin.
 fn data_at<const W: u32>() -> u32
     requires width { IsWidth W }
     ensures { result ≡ data_at W }
 {
-    tapes_at::<W>() + 8
+    tapes_at::<W>() + TAPES
 }
 
 // Where those of loads and stores begin.

@@ -7,6 +7,7 @@ ghost use Rattle.tv_numbers.specs.Tables.{memory_ops};
 ghost use Rattle.tv_numbers.specs.Views.{ViewInRange};
 ghost use Rattle.tv_word.specs.Widths.{IsWidth};
 
+use tv_isa::opcode::{LOAD_B, LOAD_W, READ, STORE_B, STORE_W};
 use tv_isa::{Instr, decode};
 use tv_step::TraceState;
 
@@ -57,7 +58,7 @@ pub(crate) fn step_numbers<const W: u32>(
 {
     let instr = decode::<W>(head, tail);
     let operand = operand(state, &instr);
-    let primary = instr.op == 30 && operand == 0 && state.primary < n;
+    let primary = instr.op == READ && operand == 0 && state.primary < n;
     StepNumbers {
         n,
         instr,
@@ -87,7 +88,7 @@ fn other(state: &TraceState, instr: &Instr) -> u32
     requires range { IsInstruction instr.now }
     ensures { result ≡ other_word (view_of state.now) instr.now }
 {
-    if instr.op == 26 || instr.op == 28 {
+    if instr.op == STORE_B || instr.op == STORE_W {
         state.regs[usize::from(instr.dest)]
     } else {
         state.regs[usize::from(instr.source)]
@@ -98,7 +99,7 @@ fn other(state: &TraceState, instr: &Instr) -> u32
 pub(crate) fn touches(op: u8) -> bool
     ensures { result ≡ among memory_ops op }
 {
-    op == 26 || op == 27 || op == 28 || op == 29
+    matches!(op, STORE_B | LOAD_B | STORE_W | LOAD_W)
 }
 
 // The word in the cell that an instruction looks at, where that isn't the null cell.

@@ -18,6 +18,7 @@ use crate::records::{Block, Reached, StateWires};
 use crate::storing::store;
 use crate::taping::tapes;
 use tv_core::{Put, Sink, Wire};
+use tv_isa::opcode::ANSWER;
 
 /// One step of the machine from a state, the primary tape having `n` words; its lines of memory are
 /// at `time` and the two times behind it. At 32 bits it makes 654 wires and 752 constraints, at 16
@@ -64,7 +65,7 @@ pub fn step<const W: u32, S: Sink>(s: &mut S, state: &StateWires, n: u32) -> Put
             taken_of_primary: made.taken,
             aux_ended: made.ended,
         },
-        answers: op.offset(31),
+        answers: op.offset(u32::from(ANSWER)),
         value: made.operands.operand,
     })
 }

@@ -12,6 +12,7 @@ use crate::gates::but_for;
 use crate::records::{Data, Operands, Patch, Store};
 use tv_bits::{Bits, select, times};
 use tv_core::{F, Lc, Put, Sink, Wire};
+use tv_isa::opcode::{STORE_B, STORE_W};
 use tv_regs::{group, pick};
 
 // Byte number `j` of a row of bits.
@@ -130,10 +131,10 @@ pub(crate) fn store<const W: u32, S: Sink>(
     let patch = patch::<W, S>(s, &looked.bits, &operands.a, &operands.x)?;
     let mut patched = Lc::wire(looked.word);
     patched.plus(F::ONE, patch.added);
-    let with_byte = pick(s, &group(op, &[26]), &patched, &Lc::wire(looked.old))?;
+    let with_byte = pick(s, &group(op, &[STORE_B]), &patched, &Lc::wire(looked.old))?;
     let new = pick(
         s,
-        &group(op, &[28]),
+        &group(op, &[STORE_W]),
         &Lc::wire(operands.other),
         &Lc::wire(with_byte),
     )?;

@@ -8,6 +8,7 @@ use crate::gates::{but_for, if_zero, taking, unless_zero};
 use crate::records::{StateWires, Tapes};
 use tv_bits::{Bits, times};
 use tv_core::{F, Lc, Put, Sink, Wire};
+use tv_isa::opcode::READ;
 use tv_regs::{group, kept};
 
 /// What a step does to the tapes, `n` being the primary tape's words, `op` its opcode's row and `a`
@@ -29,7 +30,7 @@ pub(crate) fn tapes<const W: u32, S: Sink>(
     ensures grows { IfOk result (λ _. Grows S.meaning s.old s.new 8 8) }
     ensures below { IfOk result (λ made. TapesUnder (S.meaning.wires s.new) made) }
 {
-    let reads = if_zero(s, &group(op, &[30]), &a.above(1).lc())?;
+    let reads = if_zero(s, &group(op, &[READ]), &a.above(1).lc())?;
     let aux = times(s, &Lc::wire(reads), &Lc::wire(a.first))?;
     let asked = but_for(&Lc::wire(reads), aux);
     let left = but_for(&Lc::constant(F::from(n)), state.taken_of_primary);

@@ -10,6 +10,7 @@ ghost use Rattle.tv_word.specs.Widths.{IsWidth};
 use std::alloc::Global;
 use tv_block::{StateNum, StateWires, block, fill_block};
 use tv_core::{F, ListValues, Put, TestSink, Values, Wire};
+use tv_regs::wires_from;
 use tv_step::TraceState;
 
 /// The first wire of the step: behind wire 0 stand the program counter, the registers, the flag,
@@ -22,24 +23,7 @@ pub fn state_wires() -> StateWires
 {
     StateWires {
         pc: Wire(1),
-        regs: [
-            Wire(2),
-            Wire(3),
-            Wire(4),
-            Wire(5),
-            Wire(6),
-            Wire(7),
-            Wire(8),
-            Wire(9),
-            Wire(10),
-            Wire(11),
-            Wire(12),
-            Wire(13),
-            Wire(14),
-            Wire(15),
-            Wire(16),
-            Wire(17),
-        ],
+        regs: wires_from(Wire(2)),
         flag: Wire(18),
         taken_of_primary: Wire(19),
         aux_ended: Wire(20),

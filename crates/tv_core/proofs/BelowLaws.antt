@@ -1,7 +1,8 @@
 -- Laws of sums and lists over the numbers below n, and of combinations of wires in a row.
-use Rattle.std.proofs.Common.{◌≡◌, ◌≢◌, ℕ, zero, suc, ◌+◌, ◌*◌, ◌%◌, ◌<◌, ◌≤◌, List, [], ◌∷◌, ◌++◌, map, sum_by, length, refl, sym, ◌∙◌, ap, ap₂, arith, inl, inr, add-one, add-zero, zero-add, mul-add, mul-zero}
+use Rattle.std.proofs.Common.{◌≡◌, ◌≢◌, ℕ, zero, suc, ◌+◌, ◌*◌, ◌%◌, ◌^◌, ◌<◌, ◌≤◌, List, [], ◌∷◌, ◌++◌, map, sum_by, length, refl, sym, ◌∙◌, ap, ap₂, arith, inl, inr, add-one, add-zero, zero-add, mul-add, mul-zero}
 use Rattle.std.specs.Prelude.{slice_index}
 use Rattle.std.specs.List.{range_with_len}
+use Rattle.std.proofs.Math.Nat.{pow-suc}
 use Rattle.std.proofs.lemmas.Bool.{cases_eq}
 use Rattle.std.proofs.lemmas.List.FromFn.{length-map-range_with_len, map-range_with_len_more}
 use Rattle.std.proofs.lemmas.List.Sums.{sum_by_push}
@@ -19,6 +20,18 @@ range-more a zero = ap (λ m. m ∷ []) (sym (add-zero a))
 range-more a (suc n) =
     let same : a + 1 + n ≡ a + suc n = omega arith in
     ap (λ l. a ∷ l) (range-more (a + 1) n ∙ ap (λ m. range_with_len (a + 1) n ++ m ∷ []) same)
+
+-- a range in two parts
+pub range-append : (a n m : ℕ) → range_with_len a (n + m) ≡ range_with_len a n ++ range_with_len (a + n) m
+range-append a zero m = ap₂ range_with_len (omega arith) (omega arith)
+range-append a (suc n) m =
+    let more : suc n + m ≡ suc (n + m) = omega arith in
+    ap (range_with_len a) more ∙ ap (λ xs. a ∷ xs) (range-append (a + 1) n m ∙ ap (λ b. range_with_len (a + 1) n ++ range_with_len b m) (omega arith))
+
+-- a power of 2 is above its exponent
+pub below-power : (k : ℕ) → k < 2 ^ k
+below-power zero = omega arith
+below-power (suc k) = omega (arith, below-power k, pow-suc 2 k)
 
 -- ---- sums
 pub sum_below-zero : (f : ℕ → ℕ) → sum_below 0 f ≡ 0

@@ -64,15 +64,13 @@ impl Lc {
         lc
     }
 
-    /// The combination with these terms.
+    /// The combination with these terms, at most `TERMS`.
     pub fn from_terms(terms: &[(F, Wire)]) -> Lc
         requires { length terms.now ≤ 128 }
         ensures { result ≡ terms.now }
     {
         let mut lc = Lc::empty();
-        for (coefficient, wire) in terms {
-            lc.plus(*coefficient, *wire);
-        }
+        lc.plus_terms(terms);
         lc
     }
 
@@ -83,7 +81,25 @@ impl Lc {
         self.terms.clear();
     }
 
-    /// Appends a term.
+    /// Makes it one wire, once.
+    pub fn set_wire(&mut self, w: Wire)
+        ensures terms { self.new ≡ wire w }
+        ensures top { top self.new ≡ w + 1 }
+    {
+        self.clear();
+        self.plus(F::ONE, w);
+    }
+
+    /// Makes it one wire less another.
+    pub fn set_difference(&mut self, x: Wire, y: Wire)
+        ensures terms { self.new ≡ less (wire x) (wire y) }
+        ensures top { top self.new ≡ max (x + 1) (y + 1) }
+    {
+        self.set_wire(x);
+        self.plus(-F::ONE, y);
+    }
+
+    /// Appends a term, where there are fewer than `TERMS`.
     #[tactic(auto, using(crate::proofs::CombinationLaws::tops))]
     pub fn plus(&mut self, coefficient: F, wire: Wire)
         requires { length self.old < 128 }
@@ -94,26 +110,38 @@ impl Lc {
         self.terms.push((coefficient, wire));
     }
 
-    /// Appends `factor` times each term of `other`.
-    pub fn plus_scaled(&mut self, factor: F, other: &Lc)
-        requires { length self.old + length other.now ≤ 128 }
-        ensures terms { self.new ≡ self.old ++ scaled factor other.now }
-        ensures len { length self.new ≡ length self.old + length other.now }
-        ensures top { top self.new ≡ max (top self.old) (top other.now) }
+    /// Appends these terms; all together are at most `TERMS`.
+    pub fn plus_terms(&mut self, terms: &[(F, Wire)])
+        requires { length self.old + length terms.now ≤ 128 }
+        ensures terms { self.new ≡ self.old ++ terms.now }
+        ensures len { length self.new ≡ length self.old + length terms.now }
+        ensures top { top self.new ≡ max (top self.old) (top terms.now) }
     {
-        for (coefficient, wire) in other.terms() {
+        for (coefficient, wire) in terms {
+            self.plus(*coefficient, *wire);
+        }
+    }
+
+    /// Appends `factor` times each of these terms; all together are at most `TERMS`.
+    pub fn plus_scaled(&mut self, factor: F, terms: &[(F, Wire)])
+        requires { length self.old + length terms.now ≤ 128 }
+        ensures terms { self.new ≡ self.old ++ scaled factor terms.now }
+        ensures len { length self.new ≡ length self.old + length terms.now }
+        ensures top { top self.new ≡ max (top self.old) (top terms.now) }
+    {
+        for (coefficient, wire) in terms {
             self.plus(factor * *coefficient, *wire);
         }
     }
 
-    /// Appends the terms of `other`, negated.
+    /// Appends the terms of `other`, negated; all together are at most `TERMS`.
     pub fn minus(&mut self, other: &Lc)
         requires { length self.old + length other.now ≤ 128 }
         ensures terms { self.new ≡ less self.old other.now }
         ensures len { length self.new ≡ length self.old + length other.now }
         ensures top { top self.new ≡ max (top self.old) (top other.now) }
     {
-        self.plus_scaled(-F::ONE, other);
+        self.plus_scaled(-F::ONE, other.terms());
     }
 
     /// The terms, in order.

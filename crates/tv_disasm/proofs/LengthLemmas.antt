@@ -98,3 +98,5 @@ short_32 image bytes = omega (arith, text_shorter image bytes)
 
 pub text_short : DisassemblyIsShort
 text_short = for_widths (λ w. (image : List ℕ) → All (λ b. b < 256) image → length (disassembly_of w image) ≤ 6 * length image + 20) short_16 short_32
+
+pub ruleset text_lengths = (text_short, text_shorter)

@@ -9,9 +9,12 @@ use thiserror::Error;
 pub enum DisFault {
     /// The bytes aren't whole instructions, of 8 bytes where words have 32 bits and of 4 where 16.
     #[error("{len} bytes aren't whole instructions")]
-    Ragged { len: u64 },
+    Ragged {
+        /// How many bytes there are.
+        len: u64,
+    },
     /// Memory was wanting.
-    #[error("no memory")]
+    #[error("out of memory")]
     Memory,
 }
 

@@ -25,7 +25,7 @@ pub fn words_spell_the_image()
 
 /// The text of an image is at most six times as long as the image and 20 bytes, and with words of
 /// 32 bits at most four times as long: a bound on images bounds their texts.
-#[tactic(auto, using(crate::proofs::LengthLemmas::text_short, crate::proofs::LengthLemmas::text_shorter))]
+#[tactic(auto, using(crate::proofs::LengthLemmas::text_lengths))]
 pub fn disassembly_is_short()
     ensures both { DisassemblyIsShort }
     ensures of_32 { DisassemblyOf32IsShorter }

@@ -45,3 +45,9 @@ joined_more n f = ap (λ m. joined_below m f) (add-one n) ∙ joined_below-suc n
 
 pub joined_none : (f : ℕ → List ℕ) → joined_below 0 f ≡ []
 joined_none f = joined_below-zero f
+
+pub ruleset drawn_parts = (state_small, state_then, words_then)
+
+pub ruleset drawn_instructions = (state_first, state_next, joined_more, joined_none)
+
+pub ruleset drawn_words = (state_first, state_next, words_none, words_more)

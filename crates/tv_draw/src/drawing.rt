@@ -8,12 +8,13 @@ use rand_core::SeedableRng;
 use rand_core::utils::NextWord;
 use rand_xoshiro::SplitMix64;
 use std::alloc::{AllocError, Global};
+use tv_isa::opcode::ANSWER;
 use tv_isa::{Instr, encode};
 use tv_word::Words;
 
 // `answer 0`.
 const LAST: Instr = Instr {
-    op: 31,
+    op: ANSWER,
     imm: true,
     dest: 0,
     source: 0,
@@ -35,7 +36,7 @@ pub struct Drawn {
 /// from the SplitMix64 generator that begins with the seed: one for each instruction, then one for
 /// each word of the tapes. A drawn program has no jumps, and its stores go to addresses from 65,536
 /// to 131,071, behind any program of at most 8,191 instructions: it answers 0 at step `k + 1`.
-#[tactic(auto, using(crate::proofs::DrawLaws::state_small, crate::proofs::DrawLaws::state_then, crate::proofs::DrawLaws::words_then))]
+#[tactic(auto, using(crate::proofs::DrawLaws::drawn_parts))]
 pub fn draw(alloc: Global, seed: u64, k: u32) -> Result<Drawn, AllocError>
     requires { k ≤ 8191 }
     ensures image { IfOk result (λ drawn. drawn.image ≡ image_drawn seed k) }
@@ -51,7 +52,7 @@ pub fn draw(alloc: Global, seed: u64, k: u32) -> Result<Drawn, AllocError>
 }
 
 // The words of k instructions, and of `answer 0`.
-#[tactic(auto, using(crate::proofs::DrawLaws::state_first, crate::proofs::DrawLaws::state_next, crate::proofs::DrawLaws::joined_more, crate::proofs::DrawLaws::joined_none))]
+#[tactic(auto, using(crate::proofs::DrawLaws::drawn_instructions))]
 fn draw_image(alloc: Global, rng: &mut SplitMix64, k: u32) -> Result<Words, AllocError>
     requires { rng.old < 2 ^ 64 }
     ensures image { IfOk result (λ words. words ≡ image_drawn rng.old k) }
@@ -76,7 +77,7 @@ fn push_instr(words: &mut Words, instr: &Instr) -> Result<(), AllocError>
 }
 
 // The next n words, each modulo 2^32.
-#[tactic(auto, using(crate::proofs::DrawLaws::state_first, crate::proofs::DrawLaws::state_next, crate::proofs::DrawLaws::words_none, crate::proofs::DrawLaws::words_more))]
+#[tactic(auto, using(crate::proofs::DrawLaws::drawn_words))]
 fn draw_words(alloc: Global, rng: &mut SplitMix64, n: u32) -> Result<Words, AllocError>
     requires { rng.old < 2 ^ 64 }
     ensures words { IfOk result (λ words. words ≡ words_drawn rng.old 0 n) }

@@ -2,6 +2,7 @@ ghost use Rattle.std.specs.Prelude.{◌≡◌, ◌<◌};
 ghost use Rattle.tv_draw.specs.Drawing.{op_in, imm_in, whole_a, instr_in, dest_if, source_if};
 ghost use Rattle.tv_isa.specs.Instruction.{IsInstruction};
 
+use tv_isa::opcode::{JMP, READ, STORE_B, STORE_W};
 use tv_isa::{Instr, Shape, shape};
 
 // The opcode of a drawn word: no jump, no answer, and none that isn't used.
@@ -10,7 +11,7 @@ fn opcode(g: u64) -> u8
     ensures used { result < 31 }
 {
     let i = (g % 25) as u8;
-    if i < 20 { i } else { i + 6 }
+    if i < JMP { i } else { i + (STORE_B - JMP) }
 }
 
 // Whether the operand is the second word itself.
@@ -18,7 +19,7 @@ fn immediate(g: u64) -> bool
     ensures { result ≡ imm_in g }
 {
     let op = opcode(g);
-    op == 26 || op == 28 || op == 30 || (g >> 8) % 2 == 1
+    matches!(op, STORE_B | STORE_W | READ) || (g >> 8) % 2 == 1
 }
 
 // The second word, where it is no register.
@@ -27,8 +28,8 @@ fn operand(g: u64) -> u32
 {
     let high = (g >> 32) as u32;
     match opcode(g) {
-        26 | 28 => 65_536 + high % 65_536,
-        30 => high % 3,
+        STORE_B | STORE_W => 65_536 + high % 65_536,
+        READ => high % 3,
         _ => high,
     }
 }

@@ -229,3 +229,5 @@ satisfying_have_runs w net image z n t fits sat =
           is = rw (counted, word_is w z 1 answer, words_are w z (range_with_len tape_at n) tape_words, words_are w z (taken_wires w image n t z) (subst (AreWords w) is aux_words), end, same) refl;
           reads = subst (λ l. Reads w image x l t ≡ l) is reads;
         }
+
+pub ruleset extracted = (words_small, run_miscounted, run_wide, run_wide_tape, run_wide_aux, run_answering)

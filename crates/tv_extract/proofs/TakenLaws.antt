@@ -85,3 +85,5 @@ module _ (w : ℕ) (image : List ℕ) (n : ℕ) (z : List ℕ) where
           ap (λ m. words_at w z (joined_below m wires)) many
           ∙ ap (words_at w z) (joined ∙ ap (λ s. joined_below i wires ++ (taken_wire z s ++ rest)) (sym is) ∙ ap (λ l. joined_below i wires ++ (l ++ rest)) (takes_one z spot takes))
           ∙ words_refused w z (joined_below i wires) rest spot.word words fault before refused
+
+pub ruleset taken_laws = (taken_none, taken_more, taken_same, taken_refused)

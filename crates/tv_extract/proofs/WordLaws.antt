@@ -1,7 +1,7 @@
 -- Words at wires, one list after another.
-use Rattle.std.proofs.Common.{◌≡◌, ℕ, zero, suc, ◌+◌, ◌-◌, ◌<◌, List, [], ◌∷◌, ◌++◌, refl, ap, ◌∙◌, arith, add-one, zero-add, Result, Ok, Err}
+use Rattle.std.proofs.Common.{◌≡◌, ℕ, suc, ◌+◌, ◌-◌, ◌<◌, List, [], ◌∷◌, ◌++◌, refl, ap, ◌∙◌, arith, add-one, Result, Ok, Err}
 use Rattle.std.specs.List.{range_with_len}
-use Rattle.tv_core.proofs.BelowLaws.{range-more}
+use Rattle.tv_core.proofs.BelowLaws.{range-more, range-append}
 use Rattle.tv_extract.specs.Extracting.{word_at, words_at}
 use Rattle.tv_extract.specs.declared.run.ExtractFault.{ExtractFault}
 
@@ -63,17 +63,10 @@ row_more w z first n words v e is =
     ∙ ap (words_at w z) (range-more first n)
     ∙ words_then w z (range_with_len first n) ((first + n) ∷ []) words (v ∷ []) e (one_word w z (first + n) v is)
 
-row_from : (first n m : ℕ) → range_with_len first (n + m) ≡ range_with_len first n ++ range_with_len (first + n) m
-row_from first zero m = let same : first + 0 ≡ first = omega arith in rw (zero-add m, same) refl
-row_from first (suc n) m =
-    let many : suc n + m ≡ suc (n + m) = omega arith in
-    let at : first + suc n ≡ first + 1 + n = omega arith in
-    rw (many, at) (ap (λ l. first ∷ l) (row_from (first + 1) n m))
-
 pub row_refused : (w : ℕ) (z : List ℕ) (first n i : ℕ) (words : List ℕ) (fault : ExtractFault) → i < n → words_at w z (range_with_len first i) ≡ Ok words
     → word_at w z (first + i) ≡ Err fault → words_at w z (range_with_len first n) ≡ Err fault
 row_refused w z first n i words fault within e refused =
     let more : n ≡ i + suc (n - i - 1) = omega arith in
     ap (λ m. words_at w z (range_with_len first m)) more
-    ∙ ap (words_at w z) (row_from first i (suc (n - i - 1)))
+    ∙ ap (words_at w z) (range-append first i (suc (n - i - 1)))
     ∙ words_refused w z (range_with_len first i) (range_with_len (first + i + 1) (n - i - 1)) (first + i) words fault e refused

@@ -21,7 +21,7 @@ use tv_word::Words;
 /// how the run on these words ends where it doesn't answer the word at wire 1 (`NotARun`). A
 /// satisfying assignment has none of these faults. Takes the time of the run and of telling the
 /// system's sizes, and memory for the words.
-#[tactic(auto, using(crate::proofs::ExtractLaws::words_small, crate::proofs::ExtractLaws::run_miscounted, crate::proofs::ExtractLaws::run_wide, crate::proofs::ExtractLaws::run_wide_tape, crate::proofs::ExtractLaws::run_wide_aux, crate::proofs::ExtractLaws::run_answering))]
+#[tactic(auto, using(crate::proofs::ExtractLaws::extracted))]
 pub fn extract<const W: u32>(
     alloc: Global,
     image: &[u32],
@@ -88,7 +88,7 @@ fn tape_words<const W: u32>(alloc: Global, n: u32, values: &[F]) -> Result<Words
 }
 
 // The words that the steps take.
-#[tactic(auto, using(crate::proofs::TakenLaws::taken_none, crate::proofs::TakenLaws::taken_more, crate::proofs::TakenLaws::taken_same, crate::proofs::TakenLaws::taken_refused))]
+#[tactic(auto, using(crate::proofs::TakenLaws::taken_laws))]
 fn taken_words<const W: u32>(
     alloc: Global,
     image: &[u32],

@@ -6,6 +6,7 @@
 
 mod instr;
 mod lookup;
+pub mod opcode;
 mod operation;
 
 pub use instr::{Instr, decode, encode};

@@ -32,7 +32,7 @@ pub fn operation_named(name: &[u8]) -> Option<Operation>
         .copied()
 }
 
-/// The operands of the instruction with an opcode.
+/// The operands of the instruction with an opcode below 32; `Unused` where none has it.
 pub fn shape(op: u8) -> Shape
     requires { op < 32 }
     ensures { result ≡ shape_of op }

@@ -1,3 +1,5 @@
+use crate::opcode;
+
 /// The operands that an instruction names, in the order of its text.
 #[derive(Clone, Copy, PartialEq, Eq, Debug)]
 pub enum Shape {
@@ -27,40 +29,40 @@ pub struct Operation {
 }
 
 macro_rules! table {
-    ($($op:literal $name:literal $shape:ident),* $(,)?) => {
-        [$(Operation { op: $op, name: $name, shape: Shape::$shape }),*]
+    ($($op:ident $name:literal $shape:ident),* $(,)?) => {
+        [$(Operation { op: opcode::$op, name: $name, shape: Shape::$shape }),*]
     };
 }
 
 /// The table of the 29 instructions. Opcodes 23, 24 and 25 are not used.
 pub(crate) const OPERATIONS: [Operation; 29] = table![
-    0 "and" DestSourceA,
-    1 "or" DestSourceA,
-    2 "xor" DestSourceA,
-    3 "not" DestA,
-    4 "add" DestSourceA,
-    5 "sub" DestSourceA,
-    6 "mull" DestSourceA,
-    7 "umulh" DestSourceA,
-    8 "smulh" DestSourceA,
-    9 "udiv" DestSourceA,
-    10 "umod" DestSourceA,
-    11 "shl" DestSourceA,
-    12 "shr" DestSourceA,
-    13 "cmpe" SourceA,
-    14 "cmpa" SourceA,
-    15 "cmpae" SourceA,
-    16 "cmpg" SourceA,
-    17 "cmpge" SourceA,
-    18 "mov" DestA,
-    19 "cmov" DestA,
-    20 "jmp" OnlyA,
-    21 "cjmp" OnlyA,
-    22 "cnjmp" OnlyA,
-    26 "store.b" ADest,
-    27 "load.b" DestA,
-    28 "store.w" ADest,
-    29 "load.w" DestA,
-    30 "read" DestA,
-    31 "answer" OnlyA,
+    AND "and" DestSourceA,
+    OR "or" DestSourceA,
+    XOR "xor" DestSourceA,
+    NOT "not" DestA,
+    ADD "add" DestSourceA,
+    SUB "sub" DestSourceA,
+    MULL "mull" DestSourceA,
+    UMULH "umulh" DestSourceA,
+    SMULH "smulh" DestSourceA,
+    UDIV "udiv" DestSourceA,
+    UMOD "umod" DestSourceA,
+    SHL "shl" DestSourceA,
+    SHR "shr" DestSourceA,
+    CMPE "cmpe" SourceA,
+    CMPA "cmpa" SourceA,
+    CMPAE "cmpae" SourceA,
+    CMPG "cmpg" SourceA,
+    CMPGE "cmpge" SourceA,
+    MOV "mov" DestA,
+    CMOV "cmov" DestA,
+    JMP "jmp" OnlyA,
+    CJMP "cjmp" OnlyA,
+    CNJMP "cnjmp" OnlyA,
+    STORE_B "store.b" ADest,
+    LOAD_B "load.b" DestA,
+    STORE_W "store.w" ADest,
+    LOAD_W "load.w" DestA,
+    READ "read" DestA,
+    ANSWER "answer" OnlyA,
 ];

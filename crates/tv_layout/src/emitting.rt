@@ -19,6 +19,10 @@ use tv_memory::memory;
 /// Puts the system of a program's runs of `t` steps on primary tapes of `n` words, over a network.
 /// The sink has the constant wire and the public ones, which are the answer's and the tape's, and
 /// no constraint. Nothing is kept, and no memory is taken.
+///
+/// Words have `W` bits, 16 or 32. The image has at most 131,072 of them, and `n` is at most
+/// 131,072; `t` is from 1 to 262,144. It refuses only where the sink does, which was given a first
+/// part of the system by then.
 pub fn emit_system<const W: u32, S: Sink>(
     image: &[u32],
     n: u32,

@@ -18,9 +18,10 @@ use tv_core::limits::{NULL_CELL, STEPS, TAPE_CELLS, TAPE_WORDS};
 use tv_core::{F, Lc, LineLc, Wire};
 
 /// Line `i` of a program's system, in time order: those of the image, of the words of the primary
-/// tape, of the steps, and padding. It takes the same time at each place, and no memory. Its
-/// combinations have at most 32 terms, of wires below the system's number of them, over either
-/// network.
+/// tape, of the steps, and padding up to 2^k lines, where k is `log_of` of how many there are
+/// before it; `i` is below 2^k, and the rest is what `emit_system` takes. It takes the same time at
+/// each place, and no memory. Its combinations have at most 32 terms, of wires below the system's
+/// number of them, over either network.
 pub fn line<const W: u32>(image: &[u32], n: u32, t: u32, i: u32) -> LineLc
     requires fits { WithinLimits W image.now n t }
     requires within { i < 2 ^ log_of (line_count image.now n t) }

@@ -9,7 +9,8 @@ use crate::totals::{amounts, total};
 use tv_benes::Net;
 use tv_core::{CountSink, Counts};
 
-/// The sizes of the system that `emit_system` puts, by what its parts cost. It takes constant time.
+/// The sizes of the system that `emit_system` puts, by what its parts cost, for what that takes. It
+/// takes constant time.
 pub fn sizes<const W: u32>(image: &[u32], n: u32, t: u32, net: Net) -> Counts
     requires { WithinLimits W image.now n t }
     ensures counts { result ≡ counts_of (system_of W net image.now n t) }

@@ -33,7 +33,7 @@ fn joined(low: &Lc, high: &Lc) -> Lc
     ensures top { top result ≡ max (top low.now) (top high.now) }
 {
     let mut lc = Lc::from_terms(low.terms());
-    lc.plus_scaled(F::of(1 << 32), high);
+    lc.plus_scaled(F::of(1 << 32), high.terms());
     lc
 }
 

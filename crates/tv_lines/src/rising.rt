@@ -50,8 +50,7 @@ pub(crate) fn rises<S: Sink>(
     for i in 0..PREFIXES - 2 {
         fill_factor(&mut factor, i + 1, apart, size, before, after);
         let w = times(s, &product, &factor)?;
-        product.clear();
-        product.plus(F::ONE, w);
+        product.set_wire(w);
     }
     fill_factor(&mut factor, PREFIXES - 1, apart, size, before, after);
     s.put(&product, &factor, &Lc::empty())

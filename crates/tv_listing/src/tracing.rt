@@ -11,8 +11,9 @@ use tv_core::Line;
 use tv_core::limits::TAPE_CELLS;
 use tv_step::Trace;
 
-/// The same text of a trace of a run on an image and a primary tape: of the words of both, and of
-/// the steps up to `step`.
+/// The text that `listing` gives, of the lines of a trace: of those that write the words of an
+/// image and of a primary tape, and of the run's steps up to `step`. It takes memory for the text
+/// and for the lines, and is refused only where that runs out.
 pub fn trace_text(
     alloc: Global,
     image: &[u32],

@@ -8,7 +8,7 @@ ghost use Rattle.tv_logic.specs.Ands.{and_values, pair_values};
 ghost use Rattle.tv_word.specs.Widths.{IsWidth};
 
 use tv_bits::{Bits, two_ands};
-use tv_core::{F, Lc, Put, Sink, Values, Wire};
+use tv_core::{F, Lc, Put, Scratch, Sink, Values, Wire};
 
 /// The word of the ands of two words' bits. It makes `W / 2` wires and constraints, two ands in
 /// each: the bits number `i` and `i + W / 2`. The lowest pair's is what the others leave of the
@@ -24,15 +24,23 @@ pub(crate) fn and_word<const W: u32, S: Sink>(s: &mut S, x: &Bits, y: &Bits) -> 
 {
     let word = s.fresh();
     let first = Wire(s.wires());
+    let mut scratch = Scratch::new();
     for i in 0..W / 2 - 1 {
-        new_pair::<W, S>(s, x, y, i)?;
+        new_pair::<W, S>(s, &mut scratch, x, y, i)?;
     }
-    pair::<W, S>(s, x, y, 0, lowest_pair::<W>(word, first).terms())?;
+    let lowest = lowest_pair::<W>(word, first);
+    pair::<W, S>(s, &mut scratch, x, y, 0, lowest.terms())?;
     Ok(word)
 }
 
 // A new wire for the pair after number `i`.
-fn new_pair<const W: u32, S: Sink>(s: &mut S, x: &Bits, y: &Bits, i: u32) -> Put<()>
+fn new_pair<const W: u32, S: Sink>(
+    s: &mut S,
+    scratch: &mut Scratch,
+    x: &Bits,
+    y: &Bits,
+    i: u32,
+) -> Put<()>
     requires width { IsWidth W }
     requires room { Room S.meaning s.old 1 1 }
     requires within { i < W / 2 - 1 }
@@ -42,12 +50,19 @@ fn new_pair<const W: u32, S: Sink>(s: &mut S, x: &Bits, y: &Bits, i: u32) -> Put
     ensures grows { IfOk result (λ _. Grows S.meaning s.old s.new 1 1) }
 {
     let w = s.fresh();
-    pair::<W, S>(s, x, y, i + 1, &[(F::ONE, w)])
+    pair::<W, S>(s, scratch, x, y, i + 1, &[(F::ONE, w)])
 }
 
 // Holds `m` to the and of the bits number `i`, plus 2^(W / 2) times that of the bits number `i + W
 // / 2`.
-fn pair<const W: u32, S: Sink>(s: &mut S, x: &Bits, y: &Bits, i: u32, m: &[(F, Wire)]) -> Put<()>
+fn pair<const W: u32, S: Sink>(
+    s: &mut S,
+    scratch: &mut Scratch,
+    x: &Bits,
+    y: &Bits,
+    i: u32,
+    m: &[(F, Wire)],
+) -> Put<()>
     requires width { IsWidth W }
     requires room { Room S.meaning s.old 0 1 }
     requires within { i < W / 2 }
@@ -60,6 +75,7 @@ fn pair<const W: u32, S: Sink>(s: &mut S, x: &Bits, y: &Bits, i: u32, m: &[(F, W
 {
     two_ands(
         s,
+        scratch,
         &bit_wire(x, i),
         &bit_wire(y, i),
         &bit_wire(x, W / 2 + i),

@@ -128,7 +128,7 @@ impl Memory {
 
     /// Writes a byte. It wants memory only for a page that isn't held, and then changes nothing
     /// where memory is refused.
-    #[tactic(auto, using(crate::proofs::StoreLaws::byte_stored, crate::proofs::StoreLaws::page_held, crate::proofs::StoreLaws::bytes_unchanged, crate::proofs::StoreLaws::held_unchanged), unfolding(crate::specs::Pages::bytes_in, crate::specs::Pages::is_held))]
+    #[tactic(auto, unfolding(crate::specs::Pages::is_held))]
     pub fn store_byte(&mut self, at: u32, value: u8) -> Result<(), AllocError>
         ensures ok { OnOk result (bytes_in self.new ≡ with_byte (bytes_in self.old) at value) }
         ensures err { OnErr result (bytes_in self.new ≡ bytes_in self.old) }
@@ -143,7 +143,7 @@ impl Memory {
     /// Writes the word of `W` bits in which an address lies; of `word` the `W` lowest bits count.
     /// It wants memory only for a page that isn't held, and then changes nothing where memory is
     /// refused.
-    #[tactic(auto, using(crate::proofs::StoreLaws::word_stored, crate::proofs::StoreLaws::page_held, crate::proofs::StoreLaws::bytes_unchanged, crate::proofs::StoreLaws::held_unchanged), unfolding(crate::specs::Pages::bytes_in, crate::specs::Pages::is_held))]
+    #[tactic(auto, unfolding(crate::specs::Pages::is_held))]
     pub fn store_word<const W: u32>(&mut self, at: u32, word: u32) -> Result<(), AllocError>
         requires width { IsWidth W }
         ensures ok { OnOk result (bytes_in self.new

@@ -13,10 +13,10 @@ use tv_benes::{Net, Outputs, routing_network};
 use tv_core::{Put, Sink, Wire};
 use tv_lines::{LineBits, first_line, line_bits, sorted_pair, unpack};
 
-/// Holds 2^`k` lines that are told in time order to be honest: a permutation network takes them to
-/// address order. It asks for each line once, and takes no memory. It makes 5 wires and 5
-/// constraints for each switch of the network; and for the lines 133 wires each, less 18, and 137
-/// constraints each, less 19.
+/// Holds 2^`k` lines, `k` being from 1 to 20, that are told in time order to be honest: a
+/// permutation network takes them to address order. It asks for each line once, and takes no
+/// memory. It makes 5 wires and 5 constraints for each switch of the network; and for the lines 133
+/// wires each, less 18, and 137 constraints each, less 19.
 pub fn memory<S: Sink, L: Lines>(s: &mut S, net: Net, k: u32, lines: &L) -> Put<()>
     requires some { 1 ≤ k }
     requires few { k ≤ 20 }

@@ -12,11 +12,11 @@ use tv_benes::{Net, route_items};
 use tv_core::{PairNum, Put, Values};
 use tv_lines::{fill_sorted_pair, fill_unpack, unpack_line};
 
-/// Gives the values of the wires that `memory` makes, for 2^`k` packed lines in time order that the
-/// settings `bits` send through the network: they meet it where the lines are honest and come out
-/// in address order. The pairs are moved along where they stand, with `spare` as room for as many,
-/// whatever it holds; how both stand afterwards isn't told. It takes time linear in the number of
-/// wires, and no memory.
+/// Gives the values of the wires that `memory` makes, for 2^`k` packed lines in time order, `k`
+/// being from 1 to 20, that the settings `bits` send through the network: they meet it where the
+/// lines are honest and come out in address order. The pairs are moved along where they stand, with
+/// `spare` as room for as many, whatever it holds; how both stand afterwards isn't told. It takes
+/// time linear in the number of wires, and no memory.
 pub fn fill_memory<V: Values>(
     v: &mut V,
     net: Net,

@@ -8,7 +8,8 @@ use tv_core::PairNum;
 use tv_core::limits::TIME_BITS;
 
 /// Where the lines stand that come first, second, .. in address order, of packed lines whose times
-/// are their places. It sorts their keys, and takes 12 bytes a line.
+/// are their places. It sorts their keys, takes 12 bytes a line, and is refused only where memory
+/// runs out.
 pub fn address_order(alloc: Global, pairs: &[PairNum]) -> Result<Vec<u32>, AllocError>
     ensures { IfOk result (λ order. order.items ≡ address_order (map unpacked pairs.now)) }
 {

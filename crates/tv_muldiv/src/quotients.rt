@@ -117,7 +117,7 @@ fn gate<const W: u32, S: Sink>(s: &mut S, x: &Bits, made: &Quot) -> Put<Wire>
 {
     let gate = s.fresh();
     let mut sum = x.lc();
-    sum.plus_scaled(F::ONE, &made.quot.lc());
+    made.quot.plus_to(&mut sum, F::ONE);
     s.put(&Lc::wire(made.by_zero), &sum, &Lc::wire(gate))?;
     Ok(gate)
 }

@@ -7,9 +7,8 @@ ghost use Rattle.tv_regs.specs.Choices.{group, disjoint, wire_table, number_tabl
 ghost use Rattle.tv_regs.specs.Choices.{choice_of, choose_of, choose_values, GroupIsSound};
 ghost use Rattle.tv_regs.specs.Choices.{ChooseIsSound, ChooseIsComplete, ChooseSizes};
 
-use crate::scratch::{Scratch, fill_wire};
 use crate::tables::{NumberEntry, WireEntry};
-use tv_core::{F, Lc, Put, Sink, Values, Wire};
+use tv_core::{F, Lc, Put, Scratch, Sink, Values, Wire};
 
 /// The sum of the wires at these opcodes in the one-hot row of 32 wires from `op` on: 1 where one
 /// of them is on, else 0.
@@ -22,10 +21,23 @@ pub fn group(op: Wire, ops: &[u8]) -> Lc
     ensures len { length result ≡ length ops.now }
 {
     let mut lc = Lc::empty();
+    fill_group(&mut lc, op, ops);
+    lc
+}
+
+// Makes `lc` the same.
+fn fill_group(lc: &mut Lc, op: Wire, ops: &[u8])
+    requires within { op + 32 < 2 ^ 32 }
+    requires few { length ops.now ≤ 32 }
+    requires opcodes { All (λ k. k < 32) ops.now }
+    ensures terms { lc.new ≡ group op ops.now }
+    ensures top { top lc.new ≤ op + 32 }
+    ensures len { length lc.new ≡ length ops.now }
+{
+    lc.clear();
     for k in ops {
         lc.plus(F::ONE, op.offset(u32::from(*k)));
     }
-    lc
 }
 
 /// A wire that is what a table gives for the opcode whose one-hot row of 32 wires begins at `op`,
@@ -68,10 +80,11 @@ fn choice<S: Sink>(
     ensures puts { PutsIn S.meaning s.old s.new (choice_of op w ops.now x.now) result }
     ensures grows { IfOk result (λ _. Grows S.meaning s.old s.new 0 1) }
 {
-    fill_wire(&mut scratch.b, w);
-    scratch.b.minus(&Lc::from_terms(x));
+    fill_group(&mut scratch.a, op, ops);
+    scratch.b.set_wire(w);
+    scratch.b.plus_scaled(-F::ONE, x);
     scratch.c.clear();
-    s.put(&group(op, ops), &scratch.b, &scratch.c)
+    s.put(&scratch.a, &scratch.b, &scratch.c)
 }
 
 /// Gives the value of the wire that `choose` makes: what a table of numbers gives for an opcode.

@@ -8,7 +8,6 @@
 mod choices;
 mod picking;
 mod reading;
-mod scratch;
 mod tables;
 mod writing;
 
@@ -24,5 +23,6 @@ pub use reading::{
 };
 pub use tables::{NumberEntry, WireEntry};
 pub use writing::{
-    fill_write_reg, write_reg, write_reg_fills, write_reg_is_complete, write_reg_is_sound,
+    fill_write_reg, wires_from, write_reg, write_reg_fills, write_reg_is_complete,
+    write_reg_is_sound,
 };

@@ -30,9 +30,9 @@ pub fn fill_kept<V: Values>(v: &mut V, x: F) -> Put<()>
     v.give(x)
 }
 
-/// A wire that is `x` where the combination `b`, a bit, is 1, and `y` where it is 0. It makes 1
-/// wire and 1 constraint, of 1 term and those of `b`, of `x`, and of `y` twice. Its generator is
-/// `fill_select` of `tv_bits`.
+/// A wire that is `x` where the combination `b`, a bit, is 1, and `y` where it is 0; `x` and `y`
+/// have at most 64 terms. It makes 1 wire and 1 constraint, of 1 term and those of `b`, of `x`, and
+/// of `y` twice. Its generator is `fill_select` of `tv_bits`.
 pub fn pick<S: Sink>(s: &mut S, b: &Lc, x: &Lc, y: &Lc) -> Put<Wire>
     requires room { Room S.meaning s.old 1 1 }
     requires b_made { top b.now ≤ S.meaning.wires s.old }

@@ -4,8 +4,7 @@ ghost use Rattle.tv_core.specs.Sinks.{PutsIn, Grows, Room};
 ghost use Rattle.tv_regs.specs.Reading.{wires_top, read_of, read_reg_of, read_reg_values};
 ghost use Rattle.tv_regs.specs.Reading.{ReadRegIsSound, ReadRegIsComplete, ReadRegSizes};
 
-use crate::scratch::{Scratch, fill_difference, fill_wire};
-use tv_core::{F, Put, Sink, Values, Wire};
+use tv_core::{F, Put, Scratch, Sink, Values, Wire};
 
 /// A wire that is the register whose number the one-hot row of 16 wires from `sel` on has. It
 /// makes 1 wire and 16 constraints, of 48 terms.
@@ -34,8 +33,8 @@ fn read<S: Sink>(s: &mut S, scratch: &mut Scratch, w: Wire, sel: Wire, reg: Wire
     ensures puts { PutsIn S.meaning s.old s.new (read_of w sel reg) result }
     ensures grows { IfOk result (λ _. Grows S.meaning s.old s.new 0 1) }
 {
-    fill_wire(&mut scratch.a, sel);
-    fill_difference(&mut scratch.b, w, reg);
+    scratch.a.set_wire(sel);
+    scratch.b.set_difference(w, reg);
     scratch.c.clear();
     s.put(&scratch.a, &scratch.b, &scratch.c)
 }

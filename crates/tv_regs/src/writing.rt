@@ -9,12 +9,11 @@ ghost use Rattle.tv_regs.specs.Writing.{write_of, tie_of, regs_sum, written_regs
 ghost use Rattle.tv_regs.specs.Writing.{write_reg_values, WriteRegIsSound, WriteRegIsComplete};
 ghost use Rattle.tv_regs.specs.Writing.{WriteRegSizes};
 
-use crate::scratch::{Scratch, fill_difference, fill_wire};
-use tv_core::{F, Lc, Put, Sink, Values, Wire};
+use tv_core::{F, Lc, Put, Scratch, Sink, Values, Wire};
 
 /// Registers of new wires: where the bit `on` is 1, the register whose number the one-hot row of
 /// 16 wires from `sel` on has becomes `x`, and where it is 0 none changes. It makes 17 wires and
-/// 17 constraints, of 146 terms and those of `x`.
+/// 17 constraints, of 146 terms and those of `x`, at most 64.
 pub fn write_reg<S: Sink>(
     s: &mut S,
     sel: Wire,
@@ -39,7 +38,7 @@ pub fn write_reg<S: Sink>(
         write(s, &mut scratch, v, sel.offset(i), regs[i as usize])?;
     }
     tie(s, on, x, v, first, regs)?;
-    Ok(row(first))
+    Ok(wires_from(first))
 }
 
 // A new wire, which is `v` where a wire of the row is 1, and else the register.
@@ -52,9 +51,9 @@ fn write<S: Sink>(s: &mut S, scratch: &mut Scratch, v: Wire, sel: Wire, reg: Wir
     ensures grows { IfOk result (λ _. Grows S.meaning s.old s.new 1 1) }
 {
     let new = s.fresh();
-    fill_wire(&mut scratch.a, sel);
-    fill_difference(&mut scratch.b, v, reg);
-    fill_difference(&mut scratch.c, new, reg);
+    scratch.a.set_wire(sel);
+    scratch.b.set_difference(v, reg);
+    scratch.c.set_difference(new, reg);
     s.put(&scratch.a, &scratch.b, &scratch.c)
 }
 
@@ -107,8 +106,8 @@ fn regs_sum(regs: &[Wire; 16]) -> Lc
     lc
 }
 
-// Sixteen wires in a row.
-fn row(first: Wire) -> [Wire; 16]
+/// Sixteen wires in a row, as `write_reg` makes them for the registers.
+pub fn wires_from(first: Wire) -> [Wire; 16]
     requires within { first + 16 < 2 ^ 32 }
     ensures wires { result ≡ range_with_len first 16 }
     ensures top { wires_top result ≤ first + 16 }

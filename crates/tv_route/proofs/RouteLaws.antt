@@ -14,6 +14,7 @@ use Rattle.tv_route.specs.Route.{Mark, halves, down, up_input, down_input, route
 use Rattle.tv_benes.specs.Items.{bit_at}
 use Rattle.tv_benes.specs.declared.shape.Net.{Net}
 use Rattle.tv_benes.specs.declared.shape.Net.TheVariants.{Benes, Waksman}
+use Rattle.tv_core.proofs.BelowLaws.{below-power}
 
 -- ---- the inputs of one half
 -- inp j is the one of the two inputs of outputs 2 j and 2 j + 1 that goes through the half b
@@ -342,12 +343,8 @@ level_by (suc fuel) (suc h) few =
     let half : 2 ^ suc (suc h) / 2 ≡ 2 ^ suc h = omega (arith, twice (suc h)) in
     ap (λ (c : Bool). if c then suc (level_within fuel (2 ^ suc (suc h) / 2)) else 0) big ∙ ap (λ n. suc (level_within fuel n)) half ∙ ap suc (level_by fuel h (omega arith))
 
-less_than_power : (h : ℕ) → h < 2 ^ h
-less_than_power zero = omega arith
-less_than_power (suc h) = omega (arith, twice h, less_than_power h)
-
 pub level_is : (p : List ℕ) (h : ℕ) → length p ≡ 2 ^ suc h → level_of p ≡ h
-level_is p h long = ap (λ n. level_within n n) long ∙ level_by (2 ^ suc h) h (omega (arith, less_than_power h, twice h))
+level_is p h long = ap (λ n. level_within n n) long ∙ level_by (2 ^ suc h) h (omega (arith, below-power h, twice h))
 
 pub route_of_is : (net : Net) (p : List ℕ) (h : ℕ) → length p ≡ 2 ^ suc h → route_of net p ≡ route net h p
 route_of_is net p h long = ap (λ k. route net k p) (level_is p h long)

@@ -34,8 +34,9 @@ impl Settings {
 }
 
 /// Settings of Benes' network for which output i is the input at place `p[i]`, for a permutation
-/// `p` of the numbers below 2^k. It takes time linear in the number of switches; and at its peak a
-/// byte of memory for each switch, which the settings keep, and 12 bytes for each item.
+/// `p` of the numbers below 2^k, k being from 1 to 31. It takes time linear in the number of
+/// switches; and at its peak a byte of memory for each switch, which the settings keep, and 12
+/// bytes for each item. It is refused only where memory runs out.
 pub fn route(alloc: Global, p: &[u32]) -> Result<Settings, AllocError>
     requires { IsRoutable p.now }
     ensures { IfOk result (λ settings. settings ≡ route_of Benes p.now) }

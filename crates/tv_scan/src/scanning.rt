@@ -25,8 +25,7 @@ pub fn scan<S: Sink>(s: &mut S, earlier: &[LineLc], line: &LineLc) -> Put<()>
     let mut word = Lc::empty();
     for before in earlier {
         let w = look(s, before, line, &word)?;
-        word.clear();
-        word.plus(F::ONE, w);
+        word.set_wire(w);
     }
     s.put(&word, &Lc::constant(F::ONE), &line.old)
 }

@@ -1,7 +1,7 @@
 -- The laws of a thermometer: its marks, and the power of 2 that they add up to.
 use Rattle.std.proofs.Common.{◌≡◌, ℕ, zero, suc, ◌+◌, ◌-◌, ◌*◌, ◌%◌, ◌^◌, ◌<◌, ◌≤◌, List, [], ◌++◌, min, if◌then◌else◌, inl, inr, refl, sym, subst, ◌∙◌, ap, ap₂, arith, mul-one, mod-lt}
 use Rattle.std.proofs.Math.Nat.{pow-suc, mod-one}
-use Rattle.std.proofs.lemmas.Bool.{cases_lt}
+use Rattle.std.proofs.lemmas.Bool.{cases_lt, lt-ltb, le-ltb}
 use Rattle.std.proofs.lemmas.Nat.{mod-pow-add, pow_pos}
 use Rattle.std.specs.Prelude.{slice_index}
 use Rattle.tv_bits.proofs.SpelledNumbers.{Spells-bit_at}
@@ -19,16 +19,16 @@ use Rattle.tv_core.specs.Loops.{times}
 use Rattle.tv_core.specs.declared.field.TheConstants.{P}
 use Rattle.tv_bits.proofs.BitLaws.{bit_cases}
 use Rattle.tv_shift.proofs.LevelValues.{values-more, length-values}
-use Rattle.tv_shift.proofs.MarkTerms.{lt-true, lt-false, products-more, both-in, both-last, mark-none, mark-low, mark-high}
+use Rattle.tv_shift.proofs.MarkTerms.{products-more, both-in, both-last, mark-none, mark-low, mark-high}
 use Rattle.tv_bits.specs.Times.{times_of}
 use Rattle.tv_shift.specs.Thermometer.{below, products_below, both, mark, level_product_of, level_of, thermometer_of, level_value, level_values, thermometer_values, power_of}
 
 -- ---- marks as numbers
 pub below-in : (j s : ℕ) → j < s → below j s ≡ 1
-below-in j s h = ap (λ b. if b then 1 else 0) (lt-true j s h)
+below-in j s h = ap (λ b. if b then 1 else 0) (lt-ltb j s h)
 
 pub below-out : (j s : ℕ) → s ≤ j → below j s ≡ 0
-below-out j s h = ap (λ b. if b then 1 else 0) (lt-false j s h)
+below-out j s h = ap (λ b. if b then 1 else 0) (le-ltb j s h)
 
 pub below-bit : (j s : ℕ) → IsBit (below j s)
 below-bit j s = elim (cases_lt j s) [ inl h ↦ omega (arith, below-in j s h) | inr h ↦ omega (arith, below-out j s h) ]

@@ -3,7 +3,7 @@ ghost use Rattle.tv_core.specs.Sinks.{PutsIn, Grows, Room};
 ghost use Rattle.tv_shift.specs.Halves.{halves_of};
 
 use tv_bits::select_terms;
-use tv_core::{F, Put, Sink, Wire};
+use tv_core::{F, Put, Scratch, Sink, Wire};
 
 // The first of `n` wires that are the bits of the half that bit `b` chooses, of the word of 2 `n`
 // bits from `word` on. It makes `n` wires and `n` constraints.
@@ -17,10 +17,11 @@ pub(crate) fn halves<S: Sink>(s: &mut S, n: u32, b: Wire, word: Wire) -> Put<Wir
     ensures below { IfOk result (λ first. first + n ≤ S.meaning.wires s.new) }
 {
     let first = Wire(s.wires());
+    let mut scratch = Scratch::new();
     for i in 0..n {
         let high = [(F::ONE, word.offset(n + i))];
         let low = [(F::ONE, word.offset(i))];
-        select_terms(s, b, &high, &low)?;
+        select_terms(s, &mut scratch, b, &high, &low)?;
     }
     Ok(first)
 }

@@ -12,7 +12,7 @@ ghost use Rattle.tv_word.specs.Widths.{IsWidth};
 
 use crate::thermometer::Marks;
 use tv_bits::two_ands;
-use tv_core::{F, Lc, Put, Sink, Values, Wire};
+use tv_core::{F, Lc, Put, Scratch, Sink, Values, Wire};
 
 /// Which bits of a word fall away in a shift by less than half a word.
 #[derive(Clone, Copy, PartialEq, Eq, Debug)]
@@ -116,8 +116,9 @@ pub(crate) fn masked<const W: u32, S: Sink>(s: &mut S, places: &Places, part: Pa
     let first = Wire(s.wires());
     let mut mask = Lc::empty();
     let mut mask_above = Lc::empty();
+    let mut scratch = Scratch::new();
     for i in 0..W / 4 {
-        pair::<W, S>(s, places, part, i, &mut mask, &mut mask_above)?;
+        pair::<W, S>(s, &mut scratch, places, part, i, &mut mask, &mut mask_above)?;
     }
     Ok(first)
 }
@@ -126,6 +127,7 @@ pub(crate) fn masked<const W: u32, S: Sink>(s: &mut S, places: &Places, part: Pa
 // filled with their masks.
 fn pair<const W: u32, S: Sink>(
     s: &mut S,
+    scratch: &mut Scratch,
     places: &Places,
     part: Part,
     i: u32,
@@ -147,6 +149,7 @@ fn pair<const W: u32, S: Sink>(
     match part {
         Part::Low => two_ands(
             s,
+            scratch,
             mask.terms(),
             &places.chosen_bit::<W>(i),
             mask_above.terms(),
@@ -156,6 +159,7 @@ fn pair<const W: u32, S: Sink>(
         ),
         Part::High => two_ands(
             s,
+            scratch,
             mask.terms(),
             &places.other_bit::<W>(i),
             mask_above.terms(),

@@ -96,7 +96,7 @@ pub(crate) fn power_lc(marks: &Marks, k: u32) -> Lc
     let mut coefficient = F::ONE;
     for i in 0..power(k) - 1 {
         marks.fill_mark(&mut mark, k, i);
-        lc.plus_scaled(coefficient, &mark);
+        lc.plus_scaled(coefficient, mark.terms());
         coefficient = coefficient + coefficient;
     }
     lc

@@ -5,6 +5,7 @@ use Rattle.std.specs.Prelude.{slice_index}
 use Rattle.std.proofs.lemmas.Bool.{cond_both, cases_Bool, eqb-false, or_left, or_right, or_cases, false_from_ne_true, not-true, cond-true, cond-false}
 use Rattle.std.proofs.lemmas.List.Elements.{filter-append}
 use Rattle.std.proofs.lemmas.List.{ext_get_or, get_or-map, length-map}
+use Rattle.tv_core.proofs.BelowLaws.{range-append}
 use Rattle.tv_shrink.specs.Shrinking.{kept, place}
 
 place-here : (w x : ℕ) (xs : List ℕ) → eqb x w ≡ true → place w (x ∷ xs) ≡ 0
@@ -132,12 +133,6 @@ front-kept wires publics gone h later = front_kept (λ w. not (get_or gone w fal
 -- how the labels are made
 first_of : (w n : ℕ) → range_with_len (0 + w) (1 + n) ≡ w ∷ range_with_len (w + 1) n
 first_of w n = let one : 1 + n ≡ suc n = omega arith in let same : 0 + w ≡ w = omega arith in ap₂ range_with_len same one
-
-range-append : (a n m : ℕ) → range_with_len a (n + m) ≡ range_with_len a n ++ range_with_len (a + n) m
-range-append a zero m = ap₂ range_with_len (omega arith) (omega arith)
-range-append a (suc n) m =
-    let more : suc n + m ≡ suc (n + m) = omega arith in
-    ap (range_with_len a) more ∙ ap (λ xs. a ∷ xs) (range-append (a + 1) n m ∙ ap (λ b. range_with_len (a + 1) n ++ range_with_len b m) (omega arith))
 
 abbrev pub kept_below : ℕ → List Bool → List ℕ
 kept_below n gone = filter (λ w. not (get_or gone w false)) (range_with_len 0 n)

@@ -7,7 +7,7 @@ ghost use Rattle.tv_shrink.specs.Tidy.{RowIsWithin, AreWithin};
 
 use crate::row::Row;
 use crate::rows::Rows;
-use tv_core::{F, Lc, Put, Sink, Wire};
+use tv_core::{F, Lc, Put, Scratch, Sink, Wire};
 
 /// Makes so many wires.
 pub(crate) fn make_wires<S: Sink>(s: &mut S, n: u32)
@@ -20,23 +20,13 @@ pub(crate) fn make_wires<S: Sink>(s: &mut S, n: u32)
     }
 }
 
-// Three combinations whose memory serves for each constraint anew.
-#[derive(Drop)]
-struct Scratch {
-    a: Lc,
-    b: Lc,
-    c: Lc,
-}
-
 // Puts terms into a combination, in place of those that it has.
 fn refill(lc: &mut Lc, terms: &[(F, Wire)])
     requires { length terms.now ≤ 128 }
     ensures { lc.new ≡ terms.now }
 {
     lc.clear();
-    for (coefficient, wire) in terms {
-        lc.plus(*coefficient, *wire);
-    }
+    lc.plus_terms(terms);
 }
 
 // Puts the constraint at a place, unless it was dropped; `scratch` is for its use.
@@ -62,11 +52,7 @@ pub(crate) fn put_rows<S: Sink>(s: &mut S, rows: &Rows) -> Put<()>
     ensures puts { PutsIn S.meaning s.old s.new (rows_circuit rows.now (length rows.now)) result }
     ensures whole { IfOk result (λ _. S.meaning.broken s.new ≡ false) }
 {
-    let mut scratch = Scratch {
-        a: Lc::empty(),
-        b: Lc::empty(),
-        c: Lc::empty(),
-    };
+    let mut scratch = Scratch::new();
     for at in 0..rows.len() {
         put_row(s, &mut scratch, &rows.get(at))?;
     }

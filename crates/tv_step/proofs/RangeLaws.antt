@@ -183,3 +183,5 @@ answer_is_word w width st v h e = answers w width st v h e
 
 pub operand_is_word : OperandIsWord
 operand_is_word w width st h = operand_in w width st h
+
+pub ruleset in_range = (start_in_range, step_keeps_range, run_keeps_range, answer_is_word, operand_is_word)

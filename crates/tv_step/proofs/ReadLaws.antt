@@ -182,3 +182,5 @@ ended_stays w s t st within e = let whole : s + (t - s) ≡ t = omega arith in a
 
 pub ended_takes_nothing : EndedTakesNothing
 ended_takes_nothing w t st e = nothing_taken w st (reads_aux w (state_after w t st)) (state_after w t st).aux (ended_empty w st t e)
+
+pub ruleset taken_in_order = (tapes_are_left, taken_are_the_front, taken_by_counts, ended_stays, ended_takes_nothing)

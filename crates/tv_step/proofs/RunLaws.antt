@@ -59,3 +59,5 @@ state_next w zero st = refl
 state_next w (suc k) st =
     let more : suc (k + 1) ≡ suc k + 1 = omega arith in
     one_more w k st (state_next w k) (next w st) refl ∙ ap (λ n. state_after w n st) more
+
+pub ruleset run_laws = (end_silent, end_answered, end_undefined, state_answered, state_undefined, state_reached, ran_none, ran_on)

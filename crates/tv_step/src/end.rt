@@ -4,18 +4,37 @@ pub enum Outcome {
     /// The machine has gone on to another state.
     Gone,
     /// It has answered, and its state is as before.
-    Answered { value: u32 },
+    Answered {
+        /// The answer.
+        value: u32,
+    },
     /// It has met an opcode that isn't used, and its state is as before.
-    Undefined { op: u8 },
+    Undefined {
+        /// The opcode.
+        op: u8,
+    },
 }
 
 /// How a run ends.
 #[derive(Clone, Copy, PartialEq, Eq, Debug)]
 pub enum End {
     /// The machine answered a value at a step, counted from 1.
-    Answer { value: u32, step: u64 },
+    Answer {
+        /// The answer.
+        value: u32,
+        /// The step's number.
+        step: u64,
+    },
     /// It met an opcode that isn't used, at a step.
-    Undefined { op: u8, step: u64 },
+    Undefined {
+        /// The opcode.
+        op: u8,
+        /// The step's number, counted from 1.
+        step: u64,
+    },
     /// It took all its steps.
-    Silent { steps: u64 },
+    Silent {
+        /// How many these are.
+        steps: u64,
+    },
 }

@@ -12,7 +12,7 @@ ghost use Rattle.tv_step.specs.Runs.{StepsAtTheFront, AnswerStays};
 
 /// The start on tapes of words is a state in range, a step keeps one, and so does a run. Its
 /// operand and an answered value are words.
-#[tactic(auto, using(crate::proofs::RangeLaws::start_in_range, crate::proofs::RangeLaws::step_keeps_range, crate::proofs::RangeLaws::run_keeps_range, crate::proofs::RangeLaws::answer_is_word, crate::proofs::RangeLaws::operand_is_word))]
+#[tactic(auto, using(crate::proofs::RangeLaws::in_range))]
 pub fn states_are_in_range()
     ensures start { StartInRange }
     ensures step { StepKeepsRange }
@@ -24,7 +24,7 @@ pub fn states_are_in_range()
 /// An answer comes at a step from the first to the last; where a run answers, each of its steps is
 /// of an opcode that is used, and the last answers the same; and where the last step answers, so
 /// does the run.
-#[tactic(auto, using(crate::proofs::EndLaws::answer_is_within, crate::proofs::EndLaws::end_answers, crate::proofs::EndLaws::last_answers))]
+#[tactic(auto, using(crate::proofs::EndLaws::end_laws))]
 pub fn runs_answer_at_their_end()
     ensures within { AnswerIsWithin }
     ensures steps { EndAnswers }
@@ -32,7 +32,7 @@ pub fn runs_answer_at_their_end()
 {}
 
 /// A state after some steps, by the last of them, by the first, and where the first answers.
-#[tactic(auto, using(crate::proofs::EndLaws::steps_at_the_end, crate::proofs::EndLaws::steps_at_the_front, crate::proofs::EndLaws::answer_stays))]
+#[tactic(auto, using(crate::proofs::EndLaws::steps_follow))]
 pub fn steps_follow()
     ensures end { StepsAtTheEnd }
     ensures front { StepsAtTheFront }
@@ -42,7 +42,7 @@ pub fn steps_follow()
 /// What a run takes of its tapes: what is left is their end, the auxiliary words that are taken
 /// are the front, each told by the counts of words that are gone; the ended bit never falls, and
 /// where it is set nothing is taken.
-#[tactic(auto, using(crate::proofs::ReadLaws::tapes_are_left, crate::proofs::ReadLaws::taken_are_the_front, crate::proofs::ReadLaws::taken_by_counts, crate::proofs::ReadLaws::ended_stays, crate::proofs::ReadLaws::ended_takes_nothing))]
+#[tactic(auto, using(crate::proofs::ReadLaws::taken_in_order))]
 pub fn tapes_are_taken_in_order()
     ensures left { TapesAreLeft }
     ensures front { TakenAreTheFront }
@@ -53,7 +53,7 @@ pub fn tapes_are_taken_in_order()
 
 /// A trace's lines and states, by place: three lines a step, whose times follow, and a state more
 /// than steps.
-#[tactic(auto, using(crate::proofs::PlaceLaws::lines_are_three_a_step, crate::proofs::PlaceLaws::states_are_one_more, crate::proofs::PlaceLaws::lines_by_place, crate::proofs::PlaceLaws::states_by_place, crate::proofs::PlaceLaws::times_follow))]
+#[tactic(auto, using(crate::proofs::PlaceLaws::by_place))]
 pub fn traces_are_by_place()
     ensures lines { LinesAreThreeAStep }
     ensures states { StatesAreOneMore }
@@ -64,7 +64,7 @@ pub fn traces_are_by_place()
 
 /// A step's lines are in range, the old of each is what its cell holds before the step, and what
 /// the step changes of memory is its data line. Only a store's line changes its word.
-#[tactic(auto, using(crate::proofs::CellLaws::lines_in_range, crate::proofs::CellLaws::olds_are_in_cells, crate::proofs::CellLaws::step_writes_its_line, crate::proofs::LineLaws::only_stores_write))]
+#[tactic(auto, using(crate::proofs::CellLaws::cells, crate::proofs::LineLaws::only_stores_write))]
 pub fn lines_tell_the_cells()
     ensures range { LinesInRange }
     ensures olds { OldsAreInCells }
@@ -74,7 +74,7 @@ pub fn lines_tell_the_cells()
 
 /// The lines of a run, behind those of the image's and the primary tape's words, are honest, and
 /// leave in each cell what the state holds.
-#[tactic(auto, using(crate::proofs::HonestLaws::boot_leaves_the_start, crate::proofs::HonestLaws::lines_leave_the_state, crate::proofs::HonestLaws::lines_are_honest))]
+#[tactic(auto, using(crate::proofs::HonestLaws::honest))]
 pub fn runs_are_honest()
     ensures boot { BootLeavesTheStart }
     ensures steps { LinesLeaveTheState }

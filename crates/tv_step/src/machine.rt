@@ -19,7 +19,8 @@ use tv_word::Words;
 impl<const W: u32> Machine<W> {
     /// The start: all 0, the image in memory from address 0 on, and two whole tapes. Memory has
     /// 2^W bytes, so an image of words of 16 bits has at most 32,768 of them, and one of 32 bits
-    /// at most 2^30. Of an image's word that is no word of `W` bits, the lowest bits count.
+    /// at most 2^30. Of an image's word that is no word of `W` bits, the lowest bits count. It is
+    /// refused only where memory runs out.
     pub fn start(
         alloc: Global,
         image: &[u32],
@@ -101,7 +102,7 @@ impl<const W: u32> Machine<W> {
 
     /// Takes at most `t` steps, which count from 1, and stops at an answer or an opcode that isn't
     /// used. Where memory is refused, the state is one that the run reaches.
-    #[tactic(auto, using(crate::proofs::RunLaws::end_silent, crate::proofs::RunLaws::end_answered, crate::proofs::RunLaws::end_undefined, crate::proofs::RunLaws::state_answered, crate::proofs::RunLaws::state_undefined, crate::proofs::RunLaws::state_reached, crate::proofs::RunLaws::ran_none, crate::proofs::RunLaws::ran_on))]
+    #[tactic(auto, using(crate::proofs::RunLaws::run_laws))]
     pub fn run(&mut self, t: u64) -> Result<End, AllocError>
         requires width { IsWidth W }
         ensures end { IfOk result (λ end. end ≡ end_of W t (state_of self.old)) }

@@ -1,6 +1,8 @@
 ghost use Rattle.std.specs.Prelude.{◌≡◌};
 ghost use Rattle.tv_step.specs.Ops.{op_of};
 
+use tv_isa::opcode;
+
 /// What an instruction does, by its opcode.
 #[derive(Clone, Copy, PartialEq, Eq, Debug)]
 pub enum Op {
@@ -42,35 +44,35 @@ pub fn op_of(op: u8) -> Op
     ensures { result ≡ op_of op }
 {
     match op {
-        0 => Op::And,
-        1 => Op::Or,
-        2 => Op::Xor,
-        3 => Op::Not,
-        4 => Op::Add,
-        5 => Op::Sub,
-        6 => Op::Mull,
-        7 => Op::Umulh,
-        8 => Op::Smulh,
-        9 => Op::Udiv,
-        10 => Op::Umod,
-        11 => Op::Shl,
-        12 => Op::Shr,
-        13 => Op::Cmpe,
-        14 => Op::Cmpa,
-        15 => Op::Cmpae,
-        16 => Op::Cmpg,
-        17 => Op::Cmpge,
-        18 => Op::Mov,
-        19 => Op::Cmov,
-        20 => Op::Jmp,
-        21 => Op::Cjmp,
-        22 => Op::Cnjmp,
-        26 => Op::StoreB,
-        27 => Op::LoadB,
-        28 => Op::StoreW,
-        29 => Op::LoadW,
-        30 => Op::Read,
-        31 => Op::Answer,
+        opcode::AND => Op::And,
+        opcode::OR => Op::Or,
+        opcode::XOR => Op::Xor,
+        opcode::NOT => Op::Not,
+        opcode::ADD => Op::Add,
+        opcode::SUB => Op::Sub,
+        opcode::MULL => Op::Mull,
+        opcode::UMULH => Op::Umulh,
+        opcode::SMULH => Op::Smulh,
+        opcode::UDIV => Op::Udiv,
+        opcode::UMOD => Op::Umod,
+        opcode::SHL => Op::Shl,
+        opcode::SHR => Op::Shr,
+        opcode::CMPE => Op::Cmpe,
+        opcode::CMPA => Op::Cmpa,
+        opcode::CMPAE => Op::Cmpae,
+        opcode::CMPG => Op::Cmpg,
+        opcode::CMPGE => Op::Cmpge,
+        opcode::MOV => Op::Mov,
+        opcode::CMOV => Op::Cmov,
+        opcode::JMP => Op::Jmp,
+        opcode::CJMP => Op::Cjmp,
+        opcode::CNJMP => Op::Cnjmp,
+        opcode::STORE_B => Op::StoreB,
+        opcode::LOAD_B => Op::LoadB,
+        opcode::STORE_W => Op::StoreW,
+        opcode::LOAD_W => Op::LoadW,
+        opcode::READ => Op::Read,
+        opcode::ANSWER => Op::Answer,
         _ => Op::Unused(op),
     }
 }

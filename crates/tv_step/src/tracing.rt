@@ -19,7 +19,10 @@ use tv_word::Words;
 pub enum TraceFault {
     /// The run doesn't answer within its steps; this is how it ends.
     #[error("no answer")]
-    NoRun { end: End },
+    NoRun {
+        /// Its end.
+        end: End,
+    },
     /// Memory ran out.
     #[error("out of memory")]
     Memory,
@@ -89,7 +92,8 @@ fn record<const W: u32>(
 /// The trace of the run of at most `t` steps on an image and two tapes: the value that it answers,
 /// three lines a step, whose times begin behind those of the image's words and the primary tape's,
 /// and `t + 1` states. An answering step comes again until step `t`. `NoRun` comes exactly where
-/// the run answers nothing, and tells how it ends. Takes the run's time twice.
+/// the run answers nothing, and tells how it ends, and `Memory` only where memory runs out. Takes
+/// the run's time twice.
 pub fn trace<const W: u32>(
     alloc: Global,
     image: &[u32],

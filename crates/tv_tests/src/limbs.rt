@@ -30,7 +30,7 @@ fn put<const W: u32, S: Sink>(s: &mut S, gadget: Gadget) -> Put<Split>
         Gadget::Sub => sub::<W, S>(s, &x, &y),
         Gadget::Split => {
             let mut number = x.lc();
-            number.plus_scaled(F::of(1 << 30), &y.lc());
+            number.plus_scaled(F::of(1 << 30), y.lc().terms());
             split::<W, S>(s, &number, 63)
         }
     }

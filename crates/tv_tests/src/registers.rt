@@ -10,7 +10,8 @@ use std::test::Fail;
 use tv_bits::fill_onehot;
 use tv_core::{CountSink, F, Lc, ListValues, Put, Sink, TestSink, Values, Wire};
 use tv_regs::{
-    NumberEntry, WireEntry, choose, fill_choose, fill_read_reg, fill_write_reg, read_reg, write_reg,
+    NumberEntry, WireEntry, choose, fill_choose, fill_read_reg, fill_write_reg, read_reg,
+    wires_from, write_reg,
 };
 
 // Behind wire 0 stand a row of 16 wires, the registers, the wire that tells whether to write, and
@@ -30,24 +31,7 @@ const WORDS: [u32; 16] = [
 fn registers() -> [Wire; 16]
     ensures { wires_top result ≤ 33 }
 {
-    [
-        Wire(17),
-        Wire(18),
-        Wire(19),
-        Wire(20),
-        Wire(21),
-        Wire(22),
-        Wire(23),
-        Wire(24),
-        Wire(25),
-        Wire(26),
-        Wire(27),
-        Wire(28),
-        Wire(29),
-        Wire(30),
-        Wire(31),
-        Wire(32),
-    ]
+    wires_from(Wire(17))
 }
 
 fn give_words(values: &mut ListValues, words: &[u32]) -> Put<()>

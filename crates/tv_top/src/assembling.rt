@@ -24,7 +24,7 @@ fn image_bytes(alloc: Global, program: &Program) -> Result<Vec<u8>, AllocError>
 {
     let words = program.words.as_slice();
     let size = word_size(program.width);
-    let mut bytes = Vec::with_capacity(alloc, 4 * words.len())?;
+    let mut bytes = Vec::with_capacity(alloc, size * words.len())?;
     for word in words {
         bytes.extend_from_slice(&word_bytes(*word)[..size])?;
     }

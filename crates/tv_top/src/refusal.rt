@@ -69,7 +69,9 @@ pub enum Bad {
 /// What making something of contents ends with.
 #[derive(Clone, Copy, Debug, PartialEq, Eq)]
 pub enum Flaw {
+    /// They are refused for this.
     Contents(Bad),
+    /// Memory ran out.
     Memory,
 }
 
@@ -129,8 +131,11 @@ pub enum Finish {
 /// What a line is said of.
 #[derive(Clone, Copy, Debug, PartialEq, Eq)]
 pub enum Ending {
+    /// The words are refused, before any file was looked at.
     Refused(Refusal),
+    /// What was to be found in the files wasn't, for this.
     Stopped(Stop),
+    /// All was found, and the files are written.
     Finished(Finish),
 }
 

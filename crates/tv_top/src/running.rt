@@ -36,7 +36,7 @@ fn end_on<const W: u32>(
     ensures { IfOk result (λ end. end ≡ end_of W steps (start W image.now tape aux)) }
 {
     let mut machine = Machine::<W>::start(alloc, image, tape, aux)?;
-    Ok(machine.run(steps)?)
+    machine.run(steps)
 }
 
 /// The end of the run of a program on its tapes.

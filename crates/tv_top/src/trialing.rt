@@ -67,7 +67,7 @@ fn tested(image: &[u32], n: u32, t: u32, z: &[F]) -> Trial
 }
 
 /// Draws a program of `k` instructions and tests its system on the values of its run.
-#[tactic(auto, unfolding(crate::specs::Trialing::trial_of), using(crate::proofs::TrialingClaim::drawn_within))]
+#[tactic(auto, unfolding(crate::specs::Trialing::trial_of))]
 fn trial_of(alloc: Global, seed: u64, k: u32) -> Result<Trial, AllocError>
     requires { k ≤ DRAWS }
     ensures { IfOk result (λ trial. trial ≡ trial_of seed k) }

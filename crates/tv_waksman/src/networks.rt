@@ -10,7 +10,7 @@ ghost use Rattle.tv_core.specs.Sinks.{PutsIn, Grows, Room};
 use tv_benes::{Inputs, Net, Outputs, fill_routing_network, routing_network, routing_switches};
 use tv_core::{PairNum, Put, Sink, Values};
 
-/// How many switches Waksman's network for 2^`k` items has.
+/// How many switches Waksman's network for 2^`k` items has, `k` being from 1 to 31.
 pub fn switches_w(k: u32) -> u64
     requires some { 1 ≤ k }
     requires few { k ≤ 31 }
@@ -19,8 +19,8 @@ pub fn switches_w(k: u32) -> u64
     routing_switches(Net::Waksman, k)
 }
 
-/// Waksman's network on 2^`k` items. It makes 5 wires and 5 constraints a switch, of 23 terms where
-/// the items are wires.
+/// Waksman's network on 2^`k` items, `k` being from 1 to 31. It makes 5 wires and 5 constraints a
+/// switch, of 23 terms where the items are wires.
 pub fn network_w<S: Sink, I: Inputs>(s: &mut S, k: u32, inputs: &I) -> Put<Outputs>
     requires some { 1 ≤ k }
     requires few { k ≤ 31 }

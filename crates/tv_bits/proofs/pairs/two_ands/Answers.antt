@@ -10,7 +10,7 @@ returns-clause-puts g c =
     let γ = c.args.gamma in
     let negated : c.neg.result ≡ negative γ = omega (arith, c.neg.ensures) in
     let squared : c.neg-2.result ≡ negative (γ * γ) = rw c.mul.ensures at c.neg-2.ensures in
-    let right = c.plus_side-2.ensures.terms ∙ ap (λ k. fill k 1) negated in
-    let base = c.plus_side-3.ensures.terms ∙ ap₂ fill squared c.of.ensures in
+    let right = c.fill_side-2.ensures.terms ∙ ap (λ k. fill k 1) negated in
+    let base = c.fill_side-3.ensures.terms ∙ ap₂ fill squared c.of.ensures in
     let rest = c.plus_scaled.ensures.terms ∙ ap₂ (λ l k. plus_times l k c.args.m.now) base c.of-2.ensures in
-    rw (c.plus_side.ensures.terms, right, rest) at c.put.ensures.puts
+    rw (c.fill_side.ensures.terms, right, rest) at c.put.ensures.puts

@@ -1,6 +1,6 @@
-use Rattle.std.proofs.Common.{◌≡◌, ℕ, ◌*◌, ◌++◌, ◌∙◌, ap, arith, mul-zero}
+use Rattle.std.proofs.Common.{◌≡◌, ℕ, ◌*◌, ap, arith, mul-zero}
 use Rattle.tv_core.proofs.Chain.{refused}
-use Rattle.tv_core.specs.Combinations.{wire, top}
+use Rattle.tv_core.specs.Combinations.{top}
 use Rattle.tv_core.specs.Constraints.{Combination}
 use Rattle.tv_bits.proofs.ProductChain.{no_product, one_product, product_refused, last_product}
 use Rattle.tv_bits.specs.Prefixes.{prefix_less, prefix_difference_of}
@@ -22,7 +22,7 @@ loop-i-preserved g c =
     let factor : ℕ → Combination = λ j. prefix_less c.args.x.now c.args.y.now c.args.d.now (c.args.chunk * j) in
     let grown = c.in_ok-w.ensures.grows in
     let product = rw c.fill_prefix_less-in-loop-i.ensures.terms at c.in_ok-w.ensures.puts in
-    let made = c.plus.ensures.terms ∙ ap (λ l. l ++ wire c.in_ok-w.w) c.clear.ensures in
+    let made = c.set_wire.ensures.terms in
     record {
       puts = one_product g.S.Sink.meaning factor c.loop-i.i _ _ _ _ _ _ c.loop-i.invariant.puts product made;
       grows = record { wires = omega (arith, grown.wires); constraints = omega (arith, grown.constraints); whole = grown.whole };

@@ -23,4 +23,4 @@ returns-clause-puts g c time =
     let m = g.S.Sink.meaning in
     let p0 = c.in_ok-computed.ensures.puts in
     let p1 = c.in_ok-pc.ensures.puts in
-    rw c.offset.ensures (puts_then m _ _ _ _ _ _ _ (puts_then m _ _ _ _ _ _ _ p0 (puts_then m _ _ _ _ _ _ _ p1 (puts_nothing m _ _))) (puts_nothing m _ _))
+    rw (c.offset.ensures, c.from.ensures) (puts_then m _ _ _ _ _ _ _ (puts_then m _ _ _ _ _ _ _ p0 (puts_then m _ _ _ _ _ _ _ p1 (puts_nothing m _ _))) (puts_nothing m _ _))

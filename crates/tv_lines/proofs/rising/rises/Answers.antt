@@ -1,4 +1,4 @@
-use Rattle.std.proofs.Common.{ℕ, ◌++◌, ◌∙◌, ap, arith}
+use Rattle.std.proofs.Common.{ℕ, ap, arith}
 use Rattle.tv_bits.proofs.ProductChain.{no_product, one_product, product_refused, last_product}
 use Rattle.tv_core.proofs.Chain.{refused}
 use Rattle.tv_core.specs.Combinations.{less, top, wire}
@@ -20,7 +20,7 @@ loop-i-preserved g c =
     let factor : ℕ → Combination = λ j. less (prefix_less 11 3 c.args.apart c.args.before.now c.args.after.now j) (wire c.args.size) in
     let grown = c.in_ok-w.ensures.grows in
     let product = rw c.fill_factor-in-loop-i.ensures.terms at c.in_ok-w.ensures.puts in
-    let made = c.plus.ensures.terms ∙ ap (λ l. l ++ wire c.in_ok-w.w) c.clear.ensures in
+    let made = c.set_wire.ensures.terms in
     record {
       puts = one_product g.S.Sink.meaning factor c.loop-i.i _ _ _ _ _ _ c.loop-i.invariant.puts product made;
       grows = record { wires = omega (arith, grown.wires); constraints = omega (arith, grown.constraints); whole = grown.whole };

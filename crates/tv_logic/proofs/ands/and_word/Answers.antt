@@ -37,7 +37,7 @@ returns-in_err-pair-clause-puts g c =
     let all : c.loop-i.i ≡ g.row.W / 2 - 1 = omega arith in
     let first = puts_here_as m c.fresh-word.new.self c.wires.result c.wires.ensures in
     let turns = rw all at c.loop-i.invariant.puts in
-    let last = rw (c.terms.ensures.terms, c.lowest_pair.ensures.terms) at c.in_err-pair.ensures.puts in
+    let last = rw (c.terms.ensures.terms, c.lowest_pair-lowest.ensures.terms) at c.in_err-pair.ensures.puts in
     refused m _ _ _ c.from_residual-in_err-pair.result c.from_residual-in_err-pair.ensures.1 (search (chain, c.fresh-word.ensures.puts, first, turns, last))
 
 pub returns-clause-puts : goal.returns-clause-puts
@@ -46,5 +46,5 @@ returns-clause-puts g c =
     let all : c.loop-i.i ≡ g.row.W / 2 - 1 = omega arith in
     let first = puts_here_as g.S.Sink.meaning c.fresh-word.new.self c.wires.result c.wires.ensures in
     let turns = rw all at c.loop-i.invariant.puts in
-    let last = rw (c.terms.ensures.terms, c.lowest_pair.ensures.terms) at c.in_ok-pair.ensures.puts in
+    let last = rw (c.terms.ensures.terms, c.lowest_pair-lowest.ensures.terms) at c.in_ok-pair.ensures.puts in
     search (chain, c.fresh-word.ensures.puts, first, turns, last)

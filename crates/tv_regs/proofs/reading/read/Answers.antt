@@ -3,4 +3,4 @@ use Rattle.tv_regs.proofs.reading.read.Goals as goal
 
 pub returns-clause-puts : goal.returns-clause-puts
 unfolding read_of
-returns-clause-puts g c = rw (c.fill_wire.ensures.terms, c.fill_difference.ensures.terms, c.clear.ensures) at c.put.ensures.puts
+returns-clause-puts g c = rw (c.set_wire.ensures.terms, c.set_difference.ensures.terms, c.clear.ensures) at c.put.ensures.puts

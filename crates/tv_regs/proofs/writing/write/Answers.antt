@@ -7,5 +7,5 @@ use Rattle.tv_regs.proofs.writing.write.Goals as goal
 pub returns-clause-puts : goal.returns-clause-puts
 unfolding write_of
 returns-clause-puts g c =
-    let last = rw (c.fill_wire.ensures.terms, c.fill_difference.ensures.terms, c.fill_difference-2.ensures.terms) at c.put.ensures.puts in
+    let last = rw (c.set_wire.ensures.terms, c.set_difference.ensures.terms, c.set_difference-2.ensures.terms) at c.put.ensures.puts in
     puts_in_then g.S.Sink.meaning fresh (λ new. put (wire c.args.sel) (less (wire c.args.v) (wire c.args.reg)) (less (wire new) (wire c.args.reg))) _ _ _ c.fresh-new.result _ c.fresh-new.ensures.puts last

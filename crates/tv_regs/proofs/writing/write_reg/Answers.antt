@@ -57,4 +57,4 @@ returns-clause-puts g c =
     let all : c.loop-i.i ≡ 16 = omega arith in
     let first = puts_here_as m c.fresh-v.new.self c.wires.result c.wires.ensures in
     let turns = rw all at c.loop-i.invariant.puts in
-    rw c.row.ensures.wires (search (chain, c.fresh-v.ensures.puts, first, turns, c.in_ok-tie.ensures.puts) depth 8)
+    rw c.wires_from.ensures.wires (search (chain, c.fresh-v.ensures.puts, first, turns, c.in_ok-tie.ensures.puts) depth 8)

@@ -1,7 +1,7 @@
-use Rattle.std.proofs.Common.{◌≡◌, ◌++◌, [], length, get_or, sym, ◌∙◌, ap, arith}
+use Rattle.std.proofs.Common.{◌≡◌, [], length, get_or, sym, ◌∙◌, ap, arith}
 use Rattle.std.proofs.lemmas.List.{get_or_default}
 use Rattle.tv_core.proofs.Chain.{puts_no_turn, refused}
-use Rattle.tv_core.specs.Combinations.{top, wire}
+use Rattle.tv_core.specs.Combinations.{top}
 use Rattle.tv_scan.proofs.ScanChain.{one_turn, look_refused, last_put}
 use Rattle.tv_lines.specs.Placed.{no_line}
 use Rattle.tv_scan.specs.Scan.{turn_of}
@@ -19,7 +19,7 @@ pub loop-before-preserved : goal.loop-before-preserved
 loop-before-preserved g c =
     let grown = c.in_ok-w.ensures.grows in
     let there : get_or c.args.earlier.now c.loop-before.before-index no_line ≡ c.before-item.result = get_or_default c.args.earlier.now c.loop-before.before-index no_line c.before-item.result (omega arith) ∙ sym c.before-item.is in
-    let made = c.plus.ensures.terms ∙ ap (λ l. l ++ wire c.in_ok-w.w) c.clear.ensures in
+    let made = c.set_wire.ensures.terms in
     record {
       puts = one_turn g.S.Sink.meaning c.args.earlier.now c.args.line.now c.loop-before.before-index _ _ _ _ _ _ _ there c.loop-before.invariant.puts c.in_ok-w.ensures.puts made;
       grows = record { wires = omega (arith, grown.wires); constraints = omega (arith, grown.constraints); whole = grown.whole };

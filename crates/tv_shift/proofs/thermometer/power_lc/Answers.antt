@@ -12,7 +12,7 @@ loop-i-init c = record { terms = c.constant-lc.ensures; coefficient = refl; shor
 pub plus_scaled-requires : goal.plus_scaled-requires
 plus_scaled-requires c =
     let most : 2 ^ c.args.k ≤ 2 ^ 4 = pow-le-pow_right (omega arith) c.requires.few in
-    omega (arith, c.fill_mark.ensures.len)
+    omega (arith, ap length c.terms.ensures.terms, c.fill_mark.ensures.len)
 
 pub loop-i-preserved : goal.loop-i-preserved
 unfolding power_of
@@ -20,10 +20,10 @@ loop-i-preserved c =
     let marks = mark c.args.marks.now.bits c.args.marks.now.products c.args.k in
     let twice : 2 ^ i + 2 ^ i ≡ 2 ^ (i + 1) = rw add-one (omega (arith, pow-suc 2 i)) in
     record {
-      terms = rw add-one (c.plus_scaled.ensures.terms ∙ ap₂ (λ l m. l ++ scaled c.loop-i.coefficient m) invariant.terms c.fill_mark.ensures.terms ∙ ap (λ n. power_of marks i ++ scaled n (marks i)) invariant.coefficient);
+      terms = rw add-one (c.plus_scaled.ensures.terms ∙ ap₂ (λ l m. l ++ scaled c.loop-i.coefficient m) invariant.terms (c.terms.ensures.terms ∙ c.fill_mark.ensures.terms) ∙ ap (λ n. power_of marks i ++ scaled n (marks i)) invariant.coefficient);
       coefficient = c.add-coefficient.ensures ∙ ap (λ n. (n + n) % P) invariant.coefficient ∙ sym (add-mod (2 ^ i) (2 ^ i) P) ∙ ap (λ n. n % P) twice;
-      short = omega (arith, c.plus_scaled.ensures.len, c.fill_mark.ensures.len);
-      made = omega (arith, c.plus_scaled.ensures.top, c.fill_mark.ensures.top);
+      short = omega (arith, c.plus_scaled.ensures.len, ap length c.terms.ensures.terms, c.fill_mark.ensures.len);
+      made = omega (arith, c.plus_scaled.ensures.top, ap top c.terms.ensures.terms, c.fill_mark.ensures.top);
     }
   where
     open c.loop-i use {i, invariant}

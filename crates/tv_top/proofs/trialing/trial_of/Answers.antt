@@ -12,3 +12,8 @@ values_of-requires c =
       aux_few = let count = is.aux_count in rw count (omega arith);
       accepts = drawn_accepts c.args.k _ _ _ is;
     }
+
+pub tested-requires : goal.tested-requires
+tested-requires c =
+    let is = rw (← c.as_slice-image.ensures, ← c.as_slice-tape.ensures, ← c.as_slice.ensures) at c.in_ok-drawn.ensures.run in
+    search (drawn_within c.args.k _ _ c.requires is.image_words is.image_count is.tape_count, is.tape_count)

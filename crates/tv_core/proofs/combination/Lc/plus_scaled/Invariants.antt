@@ -3,4 +3,4 @@ use Rattle.tv_core.specs.Combinations.{scaled}
 use Rattle.tv_core.proofs.combination.Lc.plus_scaled.Given as goal
 
 abbrev pub invariant-loop-coefficient : goal.invariant-loop-coefficient
-invariant-loop-coefficient l = l.self ≡ l.initial.self ++ scaled l.factor (take l.coefficient-index l.coefficient-items)
+invariant-loop-coefficient l = l.self ≡ l.initial.self ++ scaled l.factor (take l.coefficient-index l.terms)

@@ -3,7 +3,7 @@ use Rattle.std.proofs.lemmas.List.{ext_get_or}
 use Rattle.std.proofs.lemmas.List.FromFn.{get_or-range_with_len}
 use Rattle.std.specs.List.{range_with_len}
 use Rattle.tv_regs.specs.Reading.{wires_top}
-use Rattle.tv_regs.proofs.writing.row.Goals as goal
+use Rattle.tv_regs.proofs.writing.wires_from.Goals as goal
 
 pub returns : goal.returns
 returns c =

@@ -1,7 +1,7 @@
 use Rattle.std.proofs.Common.{◌≡◌, ◌+◌, ◌≤◌, length, take}
 use Rattle.tv_core.specs.Combinations.{top}
 use Rattle.tv_regs.specs.Choices.{group}
-use Rattle.tv_regs.proofs.choices.group.Given as goal
+use Rattle.tv_regs.proofs.choices.fill_group.Given as goal
 
 abbrev pub invariant-loop-k : goal.invariant-loop-k
 invariant-loop-k l = record {

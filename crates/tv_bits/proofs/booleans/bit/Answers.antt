@@ -1,6 +1,0 @@
-use Rattle.tv_bits.specs.Bit.{bit_of}
-use Rattle.tv_bits.proofs.booleans.bit.Goals as goal
-
-pub returns-clause-puts : goal.returns-clause-puts
-unfolding bit_of
-returns-clause-puts g c = rw c.wire-lc.ensures at c.put.ensures.puts

@@ -1,0 +1,5 @@
+use Rattle.std.proofs.Common.{◌≡◌, ◌++◌, take}
+use Rattle.tv_core.proofs.combination.Lc.plus_terms.Given as goal
+
+abbrev pub invariant-loop-coefficient : goal.invariant-loop-coefficient
+invariant-loop-coefficient l = l.self ≡ l.initial.self ++ take l.coefficient-index l.terms

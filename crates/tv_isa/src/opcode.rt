@@ -1,0 +1,91 @@
+//! The opcodes of the 29 instructions.
+
+/// Bitwise and.
+pub const AND: u8 = 0;
+
+/// Bitwise or.
+pub const OR: u8 = 1;
+
+/// Bitwise exclusive or.
+pub const XOR: u8 = 2;
+
+/// Bitwise not.
+pub const NOT: u8 = 3;
+
+/// The sum.
+pub const ADD: u8 = 4;
+
+/// The difference.
+pub const SUB: u8 = 5;
+
+/// The low word of the product.
+pub const MULL: u8 = 6;
+
+/// The high word of the product of unsigned words.
+pub const UMULH: u8 = 7;
+
+/// The high word of the product of signed words.
+pub const SMULH: u8 = 8;
+
+/// The quotient.
+pub const UDIV: u8 = 9;
+
+/// The remainder.
+pub const UMOD: u8 = 10;
+
+/// Shift to the left.
+pub const SHL: u8 = 11;
+
+/// Shift to the right.
+pub const SHR: u8 = 12;
+
+/// Whether both are equal.
+pub const CMPE: u8 = 13;
+
+/// Whether the source is greater, unsigned.
+pub const CMPA: u8 = 14;
+
+/// Whether the source is greater or equal, unsigned.
+pub const CMPAE: u8 = 15;
+
+/// Whether the source is greater, signed.
+pub const CMPG: u8 = 16;
+
+/// Whether the source is greater or equal, signed.
+pub const CMPGE: u8 = 17;
+
+/// Move.
+pub const MOV: u8 = 18;
+
+/// Move where the flag is set.
+pub const CMOV: u8 = 19;
+
+/// Jump.
+pub const JMP: u8 = 20;
+
+/// Jump where the flag is set.
+pub const CJMP: u8 = 21;
+
+/// Jump where the flag isn't set.
+pub const CNJMP: u8 = 22;
+
+/// Store a byte.
+pub const STORE_B: u8 = 26;
+
+/// Load a byte.
+pub const LOAD_B: u8 = 27;
+
+/// Store a word.
+pub const STORE_W: u8 = 28;
+
+/// Load a word.
+pub const LOAD_W: u8 = 29;
+
+/// Take the next word of a tape.
+pub const READ: u8 = 30;
+
+/// Answer, and stop.
+pub const ANSWER: u8 = 31;
+
+/// The three that no instruction has.
+pub const UNUSED: [u8; 3] = [23, 24, 25];
