@@ -24,8 +24,8 @@ const ASKED: usize = if cfg!(pieces) { 4096 } else { PIECE };
 const ROOM: usize = if cfg!(pieces) { 2 * ASKED } else { PIECE };
 const TAPE_PIECE: usize = 4096;
 const WIDEST: u32 = 1_048_576;
-const TAPE_BYTES: usize = 1_048_576;
-const TAPE_NUMBERS: usize = 65_536;
+const TAPE_BYTES: usize = 4_194_304;
+const TAPE_NUMBERS: usize = 262_144;
 
 /// What is wrong with a container at a place.
 enum Why {

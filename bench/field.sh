@@ -6,11 +6,11 @@ bench=$(cd "$(dirname "$0")" && pwd)
 scratch=$(mktemp -d)
 trap 'rm -rf "$scratch"' EXIT
 mkdir "$scratch/crates"
-cp -r "$bench/../crates/tv_core" "$scratch/crates/tv_core"
+cp -r "$bench"/../crates/tv_{word,core} "$scratch/crates"
 # The gate reads every .rt file of the repository, so the source has another ending here.
 mkdir -p "$scratch/crates/field_bench/src"
 cp "$bench/field.rattle" "$scratch/crates/field_bench/src/main.rt"
-grep '^tv_core:' "$bench/../crates.txt" > "$scratch/crates.txt"
+grep -E '^tv_(word|core):' "$bench/../crates.txt" > "$scratch/crates.txt"
 echo 'field_bench: tv_core' >> "$scratch/crates.txt"
 (cd "$scratch/crates/field_bench" && rt run > "$scratch/log" 2>&1) || { tail -20 "$scratch/log"; exit 1; }
 rustc -O -C target-cpu=x86-64-v2 -o "$scratch/plain" "$bench/field.rs"

@@ -1,17 +1,17 @@
 #!/usr/bin/env bash
 # Times `bits` of 32 into a CountSink and a TestSink, and `value_in` of 128 terms, by tv_core and tv_bits
-# and by plain Rust, in turn. It needs rustc. The first run proves both crates in a scratch repository,
+# and by plain Rust, in turn. It needs rustc. The first run proves the crates in a scratch repository,
 # which takes some minutes.
 set -euo pipefail
 bench=$(cd "$(dirname "$0")" && pwd)
 scratch=$(mktemp -d)
 trap 'rm -rf "$scratch"' EXIT
 mkdir "$scratch/crates"
-cp -r "$bench/../crates/tv_core" "$bench/../crates/tv_bits" "$scratch/crates"
+cp -r "$bench"/../crates/tv_{word,core,bits} "$scratch/crates"
 # The gate reads every .rt file of the repository, so the source has another ending here.
 mkdir -p "$scratch/crates/gadgets_bench/src"
 cp "$bench/gadgets.rattle" "$scratch/crates/gadgets_bench/src/main.rt"
-grep -E '^tv_(core|bits):' "$bench/../crates.txt" > "$scratch/crates.txt"
+grep -E '^tv_(word|core|bits):' "$bench/../crates.txt" > "$scratch/crates.txt"
 echo 'gadgets_bench: tv_bits tv_core' >> "$scratch/crates.txt"
 (cd "$scratch/crates/gadgets_bench" && rt run > "$scratch/log" 2>&1) || { tail -20 "$scratch/log"; exit 1; }
 rustc -O -C target-cpu=x86-64-v2 -o "$scratch/plain" "$bench/gadgets.rs" 2> "$scratch/warnings"

@@ -1,6 +1,6 @@
 #!/usr/bin/env bash
 # Times `Machine::run` on the images of bench/programs against machine.rs, an emulator in plain Rust, over two
-# memories: pages in a BTreeMap, as tv_mem has them, and a table of tables of pages. It needs rustc. The first
+# memories: pages in a BTreeMap, and a table of tables of pages, as tv_mem has them. It needs rustc. The first
 # run proves the crates in a scratch repository, which takes some minutes. usage: bench/machine.sh [ROUNDS]
 set -euo pipefail
 bench=$(cd "$(dirname "$0")" && pwd)
