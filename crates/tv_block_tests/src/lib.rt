@@ -4,6 +4,7 @@
 //! here is for callers.
 #![tactic(auto)]
 
+pub mod examples;
 #[cfg(test)]
 mod false_steps;
 #[cfg(test)]

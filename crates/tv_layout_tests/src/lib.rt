@@ -4,6 +4,7 @@
 //! is for callers.
 #![tactic(auto)]
 
+pub mod examples;
 #[cfg(test)]
 mod extracting;
 #[cfg(test)]

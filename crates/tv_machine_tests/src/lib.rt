@@ -5,6 +5,7 @@
 
 #[cfg(test)]
 mod drawing;
+pub mod examples;
 #[cfg(test)]
 mod instructions;
 #[cfg(test)]

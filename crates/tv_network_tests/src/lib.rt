@@ -3,6 +3,7 @@
 //! of their own, since a crate with tests is proved twice; nothing here is for callers.
 #![tactic(auto)]
 
+pub mod examples;
 #[cfg(test)]
 mod items;
 #[cfg(test)]

@@ -7,5 +7,6 @@
 mod assembling;
 #[cfg(test)]
 mod disassembling;
+pub mod examples;
 #[cfg(test)]
 mod tapes;
