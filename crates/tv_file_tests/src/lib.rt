@@ -7,6 +7,7 @@
 mod assignments;
 #[cfg(test)]
 mod calls;
+pub mod examples;
 #[cfg(test)]
 mod systems;
 #[cfg(test)]

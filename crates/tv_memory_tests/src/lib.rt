@@ -5,6 +5,7 @@
 
 #[cfg(test)]
 mod arguing;
+pub mod examples;
 #[cfg(test)]
 mod gadgets;
 #[cfg(test)]
