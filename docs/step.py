@@ -1,7 +1,7 @@
 """Draws the parts of a step's constraints as docs/step.svg: python3 docs/step.py > docs/step.svg
 
-A box is a part, with what it makes and its wires and constraints at 32 bits; an arrow leads from a part to one that
-takes what it makes. On the left is the state before the step, on the right what the step answers.
+A box is a part, with what it makes and its wires and constraints at 32 bits; the main arrows are drawn, from a part to
+one that takes what it makes. On the left is the state before the step, on the right what the step answers.
 """
 
 WIDTH, HEIGHT = 980, 560

@@ -13,11 +13,12 @@ use crate::products::times;
 use crate::two_rows::TwoRows;
 use tv_core::{F, Lc, Put, Sink, Values};
 
-/// Holds `d` to the difference of two prefixes: with `x` and `y` cut into `count` chunks of `chunk`
-/// bits, at least 2, to the number of `x` less that of `y`, both without as many of their lowest
-/// chunks as one likes, but not without all. So with `d` from 1 to 2^`chunk` the number of `x` is
-/// above that of `y`. The numbers have at most 63 bits each. It makes `count - 2` wires and
-/// `count - 1` constraints.
+/// Cuts `x` and `y` into `count` chunks of `chunk` bits, at least 2 chunks, and holds `d` to the
+/// difference of two prefixes: what is left of `x` less what is left of `y`, once the same number
+/// of lowest chunks, from none to `count - 1`, is dropped from both. So with `d` from 1 to
+/// 2^`chunk` the number of `x` is above that of `y`. The numbers have at most 63 bits each, and
+/// `x`, `y` and `d` at most 128 terms together. It makes `count - 2` wires and `count - 1`
+/// constraints.
 pub fn prefix_difference<S: Sink>(
     s: &mut S,
     x: &TwoRows,

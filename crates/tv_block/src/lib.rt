@@ -1,6 +1,6 @@
-//! One step of the machine as constraints. Its eight parts stand in the specs: the instruction, its
-//! operands, the operations on them, the tapes, the data word, loads and stores, the registers and
-//! the flag, and the program counter. What a block says is `IsStep`, that the numbers at its
+//! One step of the machine as constraints. Its nine parts stand in the specs: the instruction, its
+//! operands, the operations on them, the tapes, the data word, loads and stores, the registers, the
+//! flag, and the program counter. What a block says is `IsStep`, that the numbers at its
 //! wires are a step in numbers, and `IsMachineStep`, that this is the machine's.
 #![tactic(auto)]
 

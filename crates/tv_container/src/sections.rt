@@ -16,8 +16,11 @@ use tv_files::Files;
 /// that has.
 #[derive(Clone, Copy, Debug, PartialEq, Eq)]
 pub struct Section {
+    /// The type.
     pub kind: u32,
+    /// The place of the content's first byte.
     pub at: u64,
+    /// How many bytes the content has.
     pub size: u64,
 }
 
@@ -34,16 +37,22 @@ impl Section {
 /// stand once.
 #[derive(Clone, Copy, Debug, PartialEq, Eq)]
 pub struct Form {
+    /// The file's first four bytes, as a number whose lowest byte comes first.
     pub magic: u32,
+    /// The version, which follows.
     pub version: u32,
+    /// Up to which type a section may stand once.
     pub singles: u32,
 }
 
 /// The first sections of types 1, 2 and 3.
 #[derive(Clone, Copy, Debug, PartialEq, Eq)]
 pub struct Found {
+    /// That of type 1.
     pub one: Option<Section>,
+    /// That of type 2.
     pub two: Option<Section>,
+    /// That of type 3.
     pub three: Option<Section>,
 }
 

@@ -11,7 +11,7 @@ use crate::run::{ExtractFault, Run};
 use std::alloc::{AllocError, Global};
 use tv_benes::Net;
 use tv_core::{F, Wire};
-use tv_layout::{sizes, spot};
+use tv_layout::{ANSWER, sizes, spot, tape_wire};
 use tv_step::{End, Machine};
 use tv_word::Words;
 
@@ -41,7 +41,7 @@ pub fn extract<const W: u32>(
     if has != wants {
         return Err(ExtractFault::WireCount { has, wants });
     }
-    let answer = word::<W>(values, Wire(1))?;
+    let answer = word::<W>(values, ANSWER)?;
     let tape = tape_words::<W>(alloc, n, values)?;
     let aux = taken_words::<W>(alloc, image, n, t, net, values)?;
     let end = run_end::<W>(alloc, image, tape.as_slice(), aux.as_slice(), t)?;
@@ -82,7 +82,7 @@ fn tape_words<const W: u32>(alloc: Global, n: u32, values: &[F]) -> Result<Words
 {
     let mut words = Words::new(alloc);
     for i in 0..n {
-        words.push(word::<W>(values, Wire(2 + i))?)?;
+        words.push(word::<W>(values, tape_wire(i))?)?;
     }
     Ok(words)
 }

@@ -8,7 +8,7 @@ ghost use Rattle.tv_layout.specs.Sizes.{system_made, system_added};
 ghost use Rattle.tv_word.specs.Widths.{IsWidth};
 
 use crate::listing::LayoutLines;
-use crate::places::log_of;
+use crate::places::{ANSWER, log_of};
 use crate::stepping::steps;
 use tv_benes::Net;
 use tv_bits::bits;
@@ -95,5 +95,5 @@ fn tie<S: Sink>(s: &mut S, last: &Reached) -> Put<()>
 {
     let one = Lc::constant(F::ONE);
     s.put(&Lc::wire(last.answers), &one, &one)?;
-    s.put(&Lc::wire(last.value), &one, &Lc::wire(Wire(1)))
+    s.put(&Lc::wire(last.value), &one, &Lc::wire(ANSWER))
 }

@@ -11,11 +11,11 @@ ghost use Rattle.tv_layout.specs.Told.{state_before, line_of_word};
 ghost use Rattle.tv_lines.specs.Placed.{line_in};
 ghost use Rattle.tv_word.specs.Widths.{IsWidth};
 
-use crate::places::{none_at, step_at};
+use crate::places::{none_at, step_at, tape_wire};
 use crate::stepping::first_state;
 use tv_block::{StateWires, block_line, next_state};
 use tv_core::limits::{NULL_CELL, STEPS, TAPE_CELLS, TAPE_WORDS};
-use tv_core::{F, Lc, LineLc, Wire};
+use tv_core::{F, Lc, LineLc};
 
 /// Line `i` of a program's system, in time order: those of the image, of the words of the primary
 /// tape, of the steps, and padding up to 2^k lines, where k is `log_of` of how many there are
@@ -35,7 +35,7 @@ pub fn line<const W: u32>(image: &[u32], n: u32, t: u32, i: u32) -> LineLc
         line_of_word(i, i, Lc::constant(F::from(image[i as usize])))
     } else if i < boot {
         let at = i - words;
-        line_of_word(TAPE_CELLS + at, i, Lc::wire(Wire(2 + at)))
+        line_of_word(TAPE_CELLS + at, i, Lc::wire(tape_wire(at)))
     } else if i < boot + 3 * t {
         step_line::<W>(n, boot, i - boot)
     } else {

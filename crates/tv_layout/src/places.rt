@@ -1,6 +1,6 @@
 ghost use Rattle.std.specs.Prelude.{◌≡◌, ◌+◌, ◌*◌, ◌^◌, ◌≤◌, ◌<◌};
 ghost use Rattle.tv_block.specs.Complete.{block_made};
-ghost use Rattle.tv_layout.specs.Places.{log_of, none_at, first_at};
+ghost use Rattle.tv_layout.specs.Places.{log_of, tape_at, none_at, first_at};
 ghost use Rattle.tv_word.specs.Widths.{IsWidth};
 
 use crate::costs::wire_costs;
@@ -31,13 +31,24 @@ pub fn log_of(count: u32) -> u32
     k
 }
 
+/// The wire of the public answer.
+pub const ANSWER: Wire = Wire(1);
+
+/// The wire of word `i` of the primary tape, which follows the answer's; `i` is at most 2^30.
+pub fn tape_wire(i: u32) -> Wire
+    requires { i ≤ 2 ^ 30 }
+    ensures { result ≡ tape_at + i }
+{
+    ANSWER.offset(1 + i)
+}
+
 // The wire that is held to 0.
 pub(crate) fn none_at<const W: u32>(n: u32) -> Wire
     requires width { IsWidth W }
     requires few { n ≤ TAPE_WORDS }
     ensures { result ≡ none_at W n }
 {
-    Wire(2 + n + n * W)
+    tape_wire(n).offset(n * W)
 }
 
 // The first wire of a step.

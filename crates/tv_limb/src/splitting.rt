@@ -29,8 +29,9 @@ pub fn split<const W: u32, S: Sink>(s: &mut S, x: &Lc, n: u32) -> Put<Split>
     Ok(split_at_word::<W>(made))
 }
 
-/// Gives the values of the wires that `split` makes: the `n` lowest bits of `x`, lowest first.
-pub fn fill_split<V: Values>(v: &mut V, x: F, n: u32) -> Put<()>
+/// Gives the values of the wires that `split` makes: the `n` lowest bits of `x`, lowest first, the
+/// same at both widths.
+pub fn fill_split<const W: u32, V: Values>(v: &mut V, x: F, n: u32) -> Put<()>
     requires whole { V.giving.broken v.old ≡ false }
     requires short { n ≤ 63 }
     ensures gives { GivesIn V.giving v.old v.new (split_values x n) result }

@@ -127,8 +127,8 @@ pub fn sorted_pair_is_sound()
     ensures { SortedPairIsSound }
 {}
 
-/// Where it follows the first, an assignment that has the values that `fill_sorted_pair` gives
-/// meets what `sorted_pair` put.
+/// Where the second line follows the first, an assignment that has the values that
+/// `fill_sorted_pair` gives meets what `sorted_pair` put.
 pub fn sorted_pair_is_complete()
     ensures { SortedPairIsComplete }
 {}

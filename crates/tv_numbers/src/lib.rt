@@ -12,12 +12,12 @@ pub fn numbers_do()
     ensures { NumbersDo }
 {}
 
-/// It keeps the numbers of a state in range.
+/// A step in numbers keeps the numbers of a state in range.
 pub fn numbers_stay_in_range()
     ensures { NumbersStayInRange }
 {}
 
-/// The other way round: the numbers of a machine's step, from a state in range whose opcode is
+/// The other way round from `numbers_do`: the numbers of a machine's step, from a state in range whose opcode is
 /// used, are in range, and the lines of the step in numbers are those of the machine's step. The
 /// data line has whatever old is handed in.
 pub fn machine_shows()

@@ -16,19 +16,27 @@ use tv_files::Files;
 /// What section 1 counts, and section 2.
 #[derive(Clone, Copy, Debug, PartialEq, Eq)]
 pub struct Header {
+    /// The wires, that of the constant 1 among them.
     pub wires: u32,
+    /// The public outputs.
     pub outputs: u32,
+    /// The public inputs.
     pub inputs: u32,
+    /// The constraints.
     pub constraints: u32,
+    /// The section of the constraints.
     pub rows: Section,
 }
 
 /// The form of a system's file: the text `r1cs`, version 1, and one section of each type.
-const R1CS: Form = Form {
+pub const R1CS: Form = Form {
     magic: 0x7363_3172,
     version: 1,
     singles: 3,
 };
+
+/// How many bytes section 1 of a system's file, its header, has.
+pub const HEADER_BYTES: u64 = 40;
 
 /// Everything of a system's file but its constraints, or the file's first fault before them.
 #[tactic(auto, unfolding(crate::specs::R1cs::header_of))]
@@ -73,7 +81,7 @@ fn header_in<D: Files>(
 {
     let one = wanted(found.one, 1, end)?;
     let rows = wanted(found.two, 2, end)?;
-    this_field(files, name, window, &one, 40)?;
+    this_field(files, name, window, &one, HEADER_BYTES)?;
     let header = counted(files, name, window, &one, rows)?;
     checked(header, &one, found.three)
 }
@@ -91,7 +99,7 @@ fn counted<D: Files>(
         (λ file. one.now.at + 40 ≤ places file → Gives result (Ok (counted file one.now rows))) }
     ensures rows { IfOk result (λ header. header.rows ≡ rows) }
 {
-    window.fit(files, name, one.at, 40)?;
+    window.fit(files, name, one.at, HEADER_BYTES)?;
     Ok(Header {
         wires: window.word(one.at + 12),
         outputs: window.word(one.at + 16),

@@ -5,7 +5,7 @@ ghost use Rattle.tv_container.specs.Places.{number};
 ghost use Rattle.tv_container.specs.Reading.{Holds, IsPiece};
 ghost use Rattle.tv_r1cs_read.specs.Held.{IsHeld};
 
-use crate::rows::{Bounds, TERM, WIDEST};
+use crate::rows::{Bounds, TERM_BYTES, WIDEST};
 use tv_container::Window;
 
 /// A place, and the one up to which the window holds the bytes from there on.
@@ -49,7 +49,7 @@ impl Held {
             return None;
         }
         let terms = window.word(self.from);
-        if terms > WIDEST || TERM * u64::from(terms) > size - 4 {
+        if terms > WIDEST || TERM_BYTES * u64::from(terms) > size - 4 {
             return None;
         }
         Some(terms)
@@ -63,7 +63,7 @@ impl Held {
         ensures to { result.to ≡ self.to }
     {
         Held {
-            from: self.from + 4 + TERM * u64::from(terms),
+            from: self.from + 4 + TERM_BYTES * u64::from(terms),
             to: self.to,
         }
     }

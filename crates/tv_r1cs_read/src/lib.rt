@@ -12,8 +12,8 @@ mod sum;
 mod taken;
 mod tried;
 
-pub use header::Header;
+pub use header::{HEADER_BYTES, Header, R1CS};
 pub use progress::Progress;
 pub use reader::{SystemReader, Unread, survey};
-pub use rows::{Row, Terms};
+pub use rows::{Row, TERM_BYTES, Terms};
 pub use tv_container::{ReadRefusal, ReadWhy};

@@ -29,6 +29,7 @@ pub struct SystemReader<'a, D: Files> {
 #[derive(Drop)]
 pub struct Unread<'a, D: Files> {
     pub(crate) files: &'a mut D,
+    /// Why.
     pub why: ReadRefusal,
 }
 

@@ -19,7 +19,7 @@ use tv_files::Files;
 pub(crate) const WIDEST: u32 = 1_048_576;
 
 /// The bytes of a term: four of the wire, eight of the coefficient.
-pub(crate) const TERM: u64 = 12;
+pub const TERM_BYTES: u64 = 12;
 
 /// How many bytes are read on for at a place that the window doesn't hold.
 pub(crate) const AT_ONCE: usize = 4096;
@@ -74,8 +74,11 @@ impl Terms {
 /// A constraint that was read: the value of `a` times that of `b` is that of `c`.
 #[derive(Drop)]
 pub struct Row {
+    /// The terms of the first factor.
     pub a: Terms,
+    /// The terms of the second factor.
     pub b: Terms,
+    /// The terms of the product.
     pub c: Terms,
 }
 
@@ -216,10 +219,10 @@ fn read_terms<D: Files>(
     let mut at = at;
     let mut left = count;
     while left > 0 {
-        fit_below(files, name, window, at, 12, bounds.end)?;
+        fit_below(files, name, window, at, TERM_BYTES as usize, bounds.end)?;
         let some = left.min(window.whole_terms(at, bounds.end));
         take_terms(window, bounds, at, some, terms)?;
-        at += TERM * u64::from(some);
+        at += TERM_BYTES * u64::from(some);
         left -= some;
     }
     Ok(at)
@@ -267,7 +270,7 @@ pub(crate) fn take_terms(
             });
         };
         terms.push(wire, coefficient)?;
-        at += TERM;
+        at += TERM_BYTES;
     }
     Ok(())
 }

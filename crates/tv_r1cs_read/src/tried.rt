@@ -11,7 +11,7 @@ ghost use Rattle.tv_r1cs_read.specs.R1cs.{Read, combination_at, constraint_at};
 ghost use Rattle.tv_r1cs_read.specs.Sums.{Ended, IsOff, IsSummed, IsTried, IsValued};
 
 use crate::held::{Held, held_from};
-use crate::rows::{AT_ONCE, Bounds, TERM, WIDEST, fit_below};
+use crate::rows::{AT_ONCE, Bounds, TERM_BYTES, WIDEST, fit_below};
 use crate::sum::Sum;
 use tv_container::{ReadRefusal, ReadWhy, Window};
 use tv_core::F;
@@ -74,7 +74,7 @@ fn good_terms(window: &Window, bounds: &Bounds, at: u64, count: u32) -> u32
         let Some(_) = F::canon(window.long(at + 4)) else {
             return good;
         };
-        at += TERM;
+        at += TERM_BYTES;
     }
     count
 }
@@ -115,7 +115,7 @@ fn add_terms<const WHOLE: bool>(
             return good;
         };
         sum.add(coefficient, value_at::<WHOLE>(wire, values));
-        at += TERM;
+        at += TERM_BYTES;
     }
     count
 }
@@ -344,7 +344,7 @@ fn read_value<D: Files>(
     Ok(Valued {
         value,
         terms,
-        behind: held_from(window, bounds, at + 4 + TERM * u64::from(terms)),
+        behind: held_from(window, bounds, at + 4 + TERM_BYTES * u64::from(terms)),
     })
 }
 
@@ -373,14 +373,14 @@ fn read_sum<D: Files>(
     let mut at = at;
     let mut left = count;
     while left > 0 {
-        fit_below(files, name, window, at, 12, bounds.end)?;
+        fit_below(files, name, window, at, TERM_BYTES as usize, bounds.end)?;
         let some = left.min(window.whole_terms(at, bounds.end));
         let (good, more) = sum_far(window, bounds, at, some, values, sum);
         sum = more;
         if good < some {
-            return Err(term_fault(window, bounds, at + TERM * u64::from(good)));
+            return Err(term_fault(window, bounds, at + TERM_BYTES * u64::from(good)));
         }
-        at += TERM * u64::from(some);
+        at += TERM_BYTES * u64::from(some);
         left -= some;
     }
     Ok(sum.value())

@@ -12,12 +12,7 @@ use std::marker::Model;
 use tv_container::{Buffer, long_bytes, short_bytes};
 use tv_core::{Counts, Lc, Wire};
 use tv_files::{FileRefusal, Files};
-
-/// The text `r1cs`.
-const MAGIC: u32 = 0x7363_3172;
-
-/// The bytes of section 1.
-const COUNTS: u64 = 40;
+use tv_r1cs_read::{HEADER_BYTES, R1CS, TERM_BYTES};
 
 /// How far writing of a system has come.
 #[derive(Drop)]
@@ -160,11 +155,11 @@ fn head(counts: &Counts, labels: u64) -> Buffer
     ensures { result ≡ head_bytes counts.now labels }
 {
     let mut buffer = Buffer::new();
-    buffer.push_front(MAGIC, 1, 3);
-    buffer.push_section(1, COUNTS);
+    buffer.push_front(R1CS.magic, R1CS.version, R1CS.singles);
+    buffer.push_section(1, HEADER_BYTES);
     buffer.push_field();
     push_counts(&mut buffer, counts, labels);
-    let size = 12 * u64::from(counts.constraints) + 12 * counts.terms;
+    let size = 12 * u64::from(counts.constraints) + TERM_BYTES * counts.terms;
     buffer.push_section(2, size);
     buffer
 }

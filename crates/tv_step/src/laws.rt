@@ -31,7 +31,8 @@ pub fn runs_answer_at_their_end()
     ensures last { LastAnswers }
 {}
 
-/// A state after some steps, by the last of them, by the first, and where the first answers.
+/// The state after n + 1 steps is that by one step from the state after n, and that after n steps
+/// from the state after one; where a step answers, the state stays.
 #[tactic(auto, using(crate::proofs::EndLaws::steps_follow))]
 pub fn steps_follow()
     ensures end { StepsAtTheEnd }

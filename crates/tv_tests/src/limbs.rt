@@ -45,7 +45,7 @@ fn fill<const W: u32, V: Values>(v: &mut V, gadget: Gadget, x: u32, y: u32) -> P
     match gadget {
         Gadget::Add => fill_add::<W, V>(v, x, y),
         Gadget::Sub => fill_sub::<W, V>(v, x, y),
-        Gadget::Split => fill_split(v, F::of(u64::from(x)) + F::of(u64::from(y) << 30), 63),
+        Gadget::Split => fill_split::<W, V>(v, F::of(u64::from(x)) + F::of(u64::from(y) << 30), 63),
     }
 }
 

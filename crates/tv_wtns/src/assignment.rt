@@ -22,11 +22,14 @@ use tv_core::F;
 use tv_files::Files;
 
 /// The form of an assignment's file: the text `wtns`, version 2, and one section of types 1 and 2.
-const WTNS: Form = Form {
+pub(crate) const WTNS: Form = Form {
     magic: 0x736e_7477,
     version: 2,
     singles: 2,
 };
+
+/// How many bytes section 1, the header, has.
+pub(crate) const HEADER_BYTES: u64 = 16;
 
 /// Reads the assignment of a wtns file.
 ///
@@ -98,7 +101,7 @@ fn read_assignment<D: Files>(
 {
     let one = wanted(found.one, 1, end)?;
     let two = wanted(found.two, 2, end)?;
-    this_field(files, name, window, &one, 16)?;
+    this_field(files, name, window, &one, HEADER_BYTES)?;
     let count = read_count(files, name, window, &one)?;
     fills(count, &two)?;
     read_all(alloc, files, name, window, two.at, count, most)
@@ -115,7 +118,7 @@ fn read_count<D: Files>(
         result
         (λ file. one.now.at + 16 ≤ places file → Gives result (Ok (counted file one.now))) }
 {
-    window.fit(files, name, one.at, 16)?;
+    window.fit(files, name, one.at, HEADER_BYTES)?;
     Ok(window.word(one.at + 12))
 }
 

@@ -7,16 +7,11 @@ ghost use Rattle.tv_core.specs.declared.field.TheConstants.{P};
 ghost use Rattle.tv_wtns.specs.Bytes.{head_bytes};
 ghost use Rattle.tv_wtns.specs.Takers.{begun};
 
+use crate::assignment::{HEADER_BYTES, WTNS};
 use std::marker::Model;
 use tv_container::{Buffer, long_bytes, short_bytes};
 use tv_core::F;
 use tv_files::{FileRefusal, Files};
-
-/// The text `wtns`.
-const MAGIC: u32 = 0x736e_7477;
-
-/// The bytes of section 1.
-const COUNT: u64 = 16;
 
 /// How far writing of an assignment has come.
 #[derive(Drop)]
@@ -82,8 +77,8 @@ fn head(count: u32) -> Buffer
     ensures { result ≡ head_bytes count }
 {
     let mut buffer = Buffer::new();
-    buffer.push_front(MAGIC, 2, 2);
-    buffer.push_section(1, COUNT);
+    buffer.push_front(WTNS.magic, WTNS.version, WTNS.singles);
+    buffer.push_section(1, HEADER_BYTES);
     buffer.push_field();
     buffer.push(&short_bytes(count));
     buffer.push_section(2, 8 * u64::from(count));
