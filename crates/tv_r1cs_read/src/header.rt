@@ -99,7 +99,7 @@ fn counted<D: Files>(
         (λ file. one.now.at + 40 ≤ places file → Gives result (Ok (counted file one.now rows))) }
     ensures rows { IfOk result (λ header. header.rows ≡ rows) }
 {
-    window.fit(files, name, one.at, HEADER_BYTES)?;
+    window.fit(files, name, one.at, HEADER_BYTES as usize)?;
     Ok(Header {
         wires: window.word(one.at + 12),
         outputs: window.word(one.at + 16),

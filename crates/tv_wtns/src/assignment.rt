@@ -118,7 +118,7 @@ fn read_count<D: Files>(
         result
         (λ file. one.now.at + 16 ≤ places file → Gives result (Ok (counted file one.now))) }
 {
-    window.fit(files, name, one.at, HEADER_BYTES)?;
+    window.fit(files, name, one.at, HEADER_BYTES as usize)?;
     Ok(window.word(one.at + 12))
 }
 

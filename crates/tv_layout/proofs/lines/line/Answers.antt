@@ -10,7 +10,7 @@ returns-then-i-words-clause-is g c =
 
 pub returns-then-i-boot-clause-is : goal.returns-then-i-boot-clause-is
 returns-then-i-boot-clause-is g c =
-    let is = rw (c.wire.ensures) at c.line_of_word-then-i-boot.ensures in
+    let is = rw (c.wire.ensures, c.tape_wire.ensures) at c.line_of_word-then-i-boot.ensures in
     is ∙ sym (in_tape g.row.W c.args.image.now c.args.n c.args.t c.requires.fits c.args.i (omega arith) (omega arith))
 
 pub returns-then-i-boot-2-clause-is : goal.returns-then-i-boot-2-clause-is
