@@ -1,4 +1,4 @@
-ghost use Rattle.std.specs.Prelude.{◌≡◌, [], ◌∷◌, ◌++◌, OnOk};
+ghost use Rattle.std.specs.Prelude.{◌≡◌, [], ◌∷◌, ◌++◌, IfOk, OnOk};
 
 use std::alloc::{AllocError, Global};
 use std::marker::Model;
@@ -37,13 +37,13 @@ impl Model for Lines {
 }
 
 impl Lines {
-    /// No lines; takes no memory.
-    pub(crate) fn new(alloc: Global) -> Lines
-        ensures { result ≡ [] }
+    /// No lines, with room for so many.
+    pub(crate) fn with_capacity(alloc: Global, lines: usize) -> Result<Lines, AllocError>
+        ensures { IfOk result (λ made. made ≡ []) }
     {
-        Lines {
-            items: Vec::new(alloc),
-        }
+        Ok(Lines {
+            items: Vec::with_capacity(alloc, lines)?,
+        })
     }
 
     /// Puts three lines at the end.
@@ -78,13 +78,13 @@ impl Model for States {
 }
 
 impl States {
-    /// No states; takes no memory.
-    pub(crate) fn new(alloc: Global) -> States
-        ensures { result ≡ [] }
+    /// No states, with room for so many.
+    pub(crate) fn with_capacity(alloc: Global, states: usize) -> Result<States, AllocError>
+        ensures { IfOk result (λ made. made ≡ []) }
     {
-        States {
-            items: Vec::new(alloc),
-        }
+        Ok(States {
+            items: Vec::with_capacity(alloc, states)?,
+        })
     }
 
     /// Puts a state at the end.

@@ -60,7 +60,7 @@ fn start_on<const W: u32>(
 }
 
 // The lines and states of so many steps of a machine, the tapes having had `n` and `m` words, the
-// first line at a time.
+// first line at a time. Room for all of them is made at once, and so nothing is copied later.
 #[tactic(auto, using(crate::proofs::RunLaws::state_next))]
 fn record<const W: u32>(
     alloc: Global,
@@ -76,8 +76,9 @@ fn record<const W: u32>(
     ensures lines { IfOk result (λ told. told.0 ≡ lines_of W n time (state_of machine.old) t) }
     ensures states { IfOk result (λ told. told.1 ≡ states_of W n m (state_of machine.old) t) }
 {
-    let mut lines = Lines::new(alloc);
-    let mut states = States::new(alloc);
+    let steps = t as usize;
+    let mut lines = Lines::with_capacity(alloc, 3 * steps)?;
+    let mut states = States::with_capacity(alloc, steps + 1)?;
     let mut ended = false;
     states.push(machine.told(n, m, ended))?;
     for taken in 0..t {
