@@ -7,7 +7,7 @@ ghost use Rattle.tv_core.specs.Sinks.{PutsIn, Grows, Room};
 
 use crate::columns::{column, input_column};
 use crate::places::{Inputs, LastItems, Outputs, Row, column_outputs, last_outputs};
-use crate::shape::{Net, missing, power};
+use crate::shape::{Net, power};
 use tv_core::{Put, Sink, Wire};
 
 /// Benes' network on 2^`k` items, `k` being from 1 to 31. It makes 5 wires and 5 constraints a
@@ -90,7 +90,7 @@ fn last_column<S: Sink>(
     ensures grows { IfOk result (λ _. Grows S.meaning s.old s.new (5 * (2 ^ h - missing net))
         (5 * (2 ^ h - missing net))) }
 {
-    let n = power(h) - missing(net);
+    let n = power(h) - net.missing();
     let first = s.wires();
     column(s, n, &LastItems { net, upper, lower })?;
     Ok(last_outputs(net, first, upper, lower))

@@ -3,7 +3,7 @@ ghost use Rattle.tv_core.specs.declared.lines.Pair.{Pair};
 ghost use Rattle.tv_benes.specs.Places.{fifth, output, output_wire, column_outputs, last_outputs};
 ghost use Rattle.tv_benes.specs.Places.{last_wire};
 
-use crate::shape::{Net, missing};
+use crate::shape::Net;
 use tv_core::{Lc, Pair, Wire};
 
 /// The items that go into a network, told by place: contracts see them as the function `pair`, for
@@ -122,7 +122,7 @@ impl<'a> Places for LastItems<'a> {
     ghost place = { λ items. last_wire items.net items.upper.now items.lower.now };
 
     fn at(&self, i: u32) -> Wire {
-        let i = i + 2 * missing(self.net);
+        let i = i + 2 * self.net.missing();
         if i % 2 == 0 {
             self.upper.wire(i / 2)
         } else {

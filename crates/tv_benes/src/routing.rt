@@ -8,7 +8,7 @@ ghost use Rattle.tv_core.specs.Giving.{GivesIn};
 
 use crate::filling::fill_switch;
 use crate::items::{bit, last_bit};
-use crate::shape::{Net, level_switches, long_power, missing};
+use crate::shape::{Net, level_switches, long_power};
 use tv_core::{PairNum, Put, Values};
 
 /// Gives the values of the wires that `routing_network` makes, as `fill_routing_network` does, and
@@ -151,7 +151,7 @@ fn last_column<V: Values>(
         (joined (last_bit net (from at (bit_at bits.now))) (pair_at upper.now)
         (pair_at lower.now))) }
 {
-    let skipped = missing(net) as usize;
+    let skipped = net.missing() as usize;
     for j in 0..upper.len() {
         let x = upper[j];
         let y = lower[j];

@@ -12,6 +12,18 @@ pub enum Net {
     Waksman,
 }
 
+impl Net {
+    /// How many switches a last column has fewer than a first one: 1 in Waksman's network.
+    pub fn missing(self) -> u32
+        ensures { result ≡ missing self }
+    {
+        match self {
+            Net::Benes => 0,
+            Net::Waksman => 1,
+        }
+    }
+}
+
 /// How many switches Benes' network for 2^`k` items has, `k` being from 1 to 31.
 pub fn switches(k: u32) -> u64
     requires some { 1 ≤ k }
@@ -57,18 +69,8 @@ pub(crate) fn long_power(h: u32) -> u64
     u64::from(power(h))
 }
 
-// How many switches a last column lacks.
-pub(crate) fn missing(net: Net) -> u32
-    ensures { result ≡ missing net }
-{
-    match net {
-        Net::Benes => 0,
-        Net::Waksman => 1,
-    }
-}
-
 pub(crate) fn long_missing(net: Net) -> u64
     ensures { result ≡ missing net }
 {
-    u64::from(missing(net))
+    u64::from(net.missing())
 }
