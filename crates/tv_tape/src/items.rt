@@ -42,7 +42,7 @@ fn is_separator(byte: u8) -> bool
 fn is_decimal(item: &[u8]) -> bool
     ensures { result ≡ is_numeral 10 item.now }
 {
-    !item.is_empty() && item.iter().all(|byte| char::from(*byte).is_digit(10))
+    !item.is_empty() && item.iter().all(|byte| byte.is_ascii_digit())
 }
 
 // The number of the item that has this number among the items.
