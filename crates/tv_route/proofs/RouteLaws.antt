@@ -1,9 +1,10 @@
 -- The settings of a permutation take each input to its output.
 use Rattle.std.proofs.Common.{◌≡◌, ◌≢◌, ℕ, zero, suc, ◌+◌, ◌-◌, ◌*◌, ◌/◌, ◌%◌, ◌^◌, ◌<◌, ◌≤◌, ◌==◌, inl, inr, Bool, true, false, not, if◌then◌else◌, List, [], ◌∷◌, ◌++◌, length, get_or, refl, sym, ◌∙◌, ap, subst, arith, length-append}
 use Rattle.std.specs.Prelude.{slice_index, nat_lt}
-use Rattle.std.proofs.lemmas.Bool.{cases_eq, lt-ltb}
+use Rattle.std.proofs.lemmas.Bool.{cases_eq, cases_lt, lt-ltb}
 use Rattle.std.proofs.lemmas.Bool.Decides.{nat_tests}
 use Rattle.std.proofs.lemmas.List.{get_or_append_left, get_or-append_right}
+use Rattle.std.proofs.Math.Pow.{pow_mono, pow-lt}
 use Rattle.std.proofs.lemmas.Nat.{pow_pos}
 use Rattle.tv_benes.proofs.Permuting.{places-length, places-at, alternating-even, alternating-odd}
 use Rattle.tv_benes.proofs.ThroughLaws.{twice, switches-suc, missing_small, joined-same, through-same}
@@ -377,8 +378,16 @@ upper_permutes n p perm = half_permutes n p (down (halves p n)) false perm (up_i
 pub lower_permutes : (n : ℕ) (p : List ℕ) → Permutes (2 * n) p → Permutes n (places n (λ j. down_input (halves p n) p j / 2))
 lower_permutes n p perm = half_permutes n p (down (halves p n)) true perm (down_input (halves p n) p) (lower_half n p (halves p n) (pairs_apart n p perm)) (sides_apart n p perm)
 
--- a list that can be routed has a level below 31
-pub no_level : (p : List ℕ) → IsRoutable p → (h : ℕ) → 31 ≤ h → ((i : ℕ) → i < h → length p ≡ 2 ^ suc i → ⊥) → ⊥
-no_level p r h many none =
-    let level : r.k ≡ suc (r.k - 1) = omega (arith, r.some) in
-    none (r.k - 1) (omega (arith, r.some, r.few)) (r.permutes.as_long ∙ ap (λ k. 2 ^ k) level)
+-- the power of 2 at most as large as a list that can be routed is as large
+pub record IsExponent (p : List ℕ) (k : ℕ) : Type 0 where
+  pub some : 1 ≤ k
+  pub few : k ≤ 31
+  pub long : length p ≡ 2 ^ k
+
+pub exponent_is : (p : List ℕ) → IsRoutable p → (k : ℕ) → 2 ^ k ≤ length p → length p < 2 * 2 ^ k → IsExponent p k
+exponent_is p r k least most =
+    let same : k ≡ r.k = elim (cases_lt k r.k) [
+      | inl under ↦ absurd (omega (arith, pow_mono {i = suc k} {j = r.k} under, twice k, r.permutes.as_long))
+      | inr over ↦ elim (cases_lt r.k k) [ inl above ↦ absurd (omega (arith, pow-lt {i = r.k} {j = k} above, r.permutes.as_long)) | inr level ↦ omega arith ]
+    ] in
+    record { some = omega (arith, r.some); few = omega (arith, r.few); long = r.permutes.as_long ∙ ap (λ n. 2 ^ n) (sym same) }

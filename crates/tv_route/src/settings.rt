@@ -35,7 +35,7 @@ impl Settings {
 
 /// Settings of Benes' network for which output i is the input at place `p[i]`, for a permutation
 /// `p` of the numbers below 2^k, k being from 1 to 31. It takes time linear in the number of
-/// switches; and at its peak a byte of memory for each switch, which the settings keep, and 12
+/// switches; and at its peak a byte of memory for each switch, which the settings keep, and 8
 /// bytes for each item. It is refused only where memory runs out.
 pub fn route(alloc: Global, p: &[u32]) -> Result<Settings, AllocError>
     requires { IsRoutable p.now }
@@ -70,15 +70,11 @@ fn level(p: &[u32]) -> u32
     ensures small { result < 31 }
     ensures long { length p.now ≡ 2 ^ suc result }
 {
-    for h in 0..31 {
-        if p.len() == power(h + 1) {
-            return h;
-        }
-    }
-    unreachable!()
+    p.len().ilog2() - 1
 }
 
-// The settings of a network of level `h`, after what `bits` has.
+// The settings of a network of level `h`, after what `bits` has. The inputs of one half are let go
+// before those of the other are made.
 fn route_level(
     alloc: Global,
     net: Net,
@@ -97,10 +93,14 @@ fn route_level(
     let n = power(h);
     let marks = halves(alloc, p, n)?;
     push_first(bits, &marks, n)?;
-    let upper = inputs(alloc, &marks, p, n, false)?;
-    route_level(alloc, net, h - 1, &upper, bits)?;
-    let lower = inputs(alloc, &marks, p, n, true)?;
-    route_level(alloc, net, h - 1, &lower, bits)?;
+    route_level(
+        alloc,
+        net,
+        h - 1,
+        &inputs(alloc, &marks, p, n, false)?,
+        bits,
+    )?;
+    route_level(alloc, net, h - 1, &inputs(alloc, &marks, p, n, true)?, bits)?;
     push_last(bits, net, &marks, p, n)?;
     Ok(())
 }
@@ -190,20 +190,9 @@ fn push_last(
         ++ places (n - missing net) (λ j. down marks.now
         (slice_index p.now (2 * (j + missing net))))) }
 {
-    let left_out = missing(net);
+    let left_out = net.missing() as usize;
     for j in 0..n - left_out {
         bits.push(down(marks, p[2 * (j + left_out)] as usize))?;
     }
     Ok(())
-}
-
-// How many switches a last column lacks.
-fn missing(net: Net) -> usize
-    ensures is { result ≡ missing net }
-    ensures small { result ≤ 1 }
-{
-    match net {
-        Net::Benes => 0,
-        Net::Waksman => 1,
-    }
 }

@@ -30,7 +30,7 @@ route_level-requires t c =
     let p = c.args.p.now in
     let whole : Permutes (2 * 2 ^ c.args.h) p = subst (λ k. Permutes k p) (twice c.args.h) c.requires.permutes in
     let marks = c.deref-2.ensures.value ∙ c.in_ok-marks.ensures.marks ∙ ap (λ n. halves p n) c.power-n.ensures in
-    let is = c.deref-3.ensures.value ∙ c.in_ok-upper.ensures ∙ ap₂ (λ (n : ℕ) (m : List Mark). places n (λ j. up_input m p j / 2)) c.power-n.ensures marks in (
+    let is = c.deref-3.ensures.value ∙ c.in_ok-inputs.ensures ∙ ap₂ (λ (n : ℕ) (m : List Mark). places n (λ j. up_input m p j / 2)) c.power-n.ensures marks in (
       omega (arith, below.level),
       (
         omega arith,
@@ -44,7 +44,7 @@ route_level-requires-2 t c =
     let p = c.args.p.now in
     let whole : Permutes (2 * 2 ^ c.args.h) p = subst (λ k. Permutes k p) (twice c.args.h) c.requires.permutes in
     let marks = c.deref-4.ensures.value ∙ c.in_ok-marks.ensures.marks ∙ ap (λ n. halves p n) c.power-n.ensures in
-    let is = c.deref-5.ensures.value ∙ c.in_ok-lower.ensures ∙ ap₂ (λ (n : ℕ) (m : List Mark). places n (λ j. down_input m p j / 2)) c.power-n.ensures marks in (
+    let is = c.deref-5.ensures.value ∙ c.in_ok-inputs-2.ensures ∙ ap₂ (λ (n : ℕ) (m : List Mark). places n (λ j. down_input m p j / 2)) c.power-n.ensures marks in (
       omega (arith, below.level),
       (
         omega arith,
@@ -60,9 +60,9 @@ returns t c =
     let n = c.power-n.ensures in
     let marks = c.in_ok-marks.ensures.marks ∙ ap (λ n. halves p n) n in
     let first = c.in_ok-push_first.ensures ∙ ap₂ (λ (n : ℕ) (m : List Mark). c.args.bits.now.items ++ places n (λ j. down m (2 * j))) n (c.deref.ensures.value ∙ marks) in
-    let upper = c.deref-3.ensures.value ∙ c.in_ok-upper.ensures ∙ ap₂ (λ (n : ℕ) (m : List Mark). places n (λ j. up_input m p j / 2)) n (c.deref-2.ensures.value ∙ marks) in
+    let upper = c.deref-3.ensures.value ∙ c.in_ok-inputs.ensures ∙ ap₂ (λ (n : ℕ) (m : List Mark). places n (λ j. up_input m p j / 2)) n (c.deref-2.ensures.value ∙ marks) in
     let second = c.in_ok-route_level.ensures ∙ ap (λ l. c.push_first.new.bits.items ++ route net (c.args.h - 1) l) upper in
-    let lower = c.deref-5.ensures.value ∙ c.in_ok-lower.ensures ∙ ap₂ (λ (n : ℕ) (m : List Mark). places n (λ j. down_input m p j / 2)) n (c.deref-4.ensures.value ∙ marks) in
+    let lower = c.deref-5.ensures.value ∙ c.in_ok-inputs-2.ensures ∙ ap₂ (λ (n : ℕ) (m : List Mark). places n (λ j. down_input m p j / 2)) n (c.deref-4.ensures.value ∙ marks) in
     let third = c.in_ok-route_level-2.ensures ∙ ap (λ l. c.route_level.new.bits.items ++ route net (c.args.h - 1) l) lower in
     let last = c.in_ok-push_last.ensures ∙ ap₂ (λ (n : ℕ) (m : List Mark). c.route_level-2.new.bits.items ++ places (n - missing net) (λ j. down m (slice_index p (2 * (j + missing net))))) n (c.deref-6.ensures.value ∙ marks) in
     four_pieces c.args.bits.now.items c.push_first.new.bits.items c.route_level.new.bits.items c.route_level-2.new.bits.items c.push_last.new.bits.items _ _ _ _ first second third last

@@ -1,9 +1,13 @@
-use Rattle.std.proofs.Common.{◌^◌, ap, sym, ◌∙◌, add-one}
-use Rattle.tv_route.proofs.RouteLaws.{level_is, no_level}
+use Rattle.std.proofs.Common.{◌≡◌, suc, ◌-◌, ◌^◌, length, ap, sym, ◌∙◌, arith}
+use Rattle.tv_route.proofs.RouteLaws.{level_is, exponent_is}
 use Rattle.tv_route.proofs.settings.level.Goals as goal
 
-pub returns-then-p-power-clause-is : goal.returns-then-p-power-clause-is
-returns-then-p-power-clause-is c = sym (level_is c.args.p.now c.loop-h.h (c.if-p-power.true ∙ c.power.ensures ∙ ap (λ k. 2 ^ k) (add-one c.loop-h.h)))
+pub overflow_sub-result : goal.overflow_sub-result
+overflow_sub-result c = (exponent_is c.args.p.now c.requires c.ilog2.result c.ilog2.ensures.power_le c.ilog2.ensures.next_power_gt).some
 
-pub unreachable-requires : goal.unreachable-requires
-unreachable-requires c = no_level c.args.p.now c.requires c.loop-h.h c.loop-h-test.false c.loop-h.invariant
+pub returns : goal.returns
+returns c =
+    let power = exponent_is c.args.p.now c.requires c.ilog2.result c.ilog2.ensures.power_le c.ilog2.ensures.next_power_gt in
+    let next : c.ilog2.result ≡ suc (c.ilog2.result - 1) = omega (arith, power.some) in
+    let long : length c.args.p.now ≡ 2 ^ suc (c.ilog2.result - 1) = power.long ∙ ap (λ k. 2 ^ k) next in
+    record { is = sym (level_is c.args.p.now (c.ilog2.result - 1) long); small = omega (arith, power.few, power.some); long = long }
