@@ -4,7 +4,7 @@ ghost use Rattle.tv_container.specs.declared.why.ReadRefusal.{ReadRefusal};
 ghost use Rattle.tv_check.specs.Verdict.{verdict_of};
 
 use crate::publics::public_verdict;
-use crate::verdict::{Verdict, tried};
+use crate::verdict::Verdict;
 use std::alloc::Global;
 use tv_container::ReadRefusal;
 use tv_core::F;
@@ -42,7 +42,9 @@ pub fn check<D: Files>(
         let Some(holds) = reader.try_next(values) else {
             return ended(&reader, verdict);
         };
-        verdict = tried(verdict, at, holds);
+        if !holds {
+            verdict = Verdict::NoConstraint { at };
+        }
         at += 1;
     }
     reader.pass_rest();

@@ -1,6 +1,3 @@
-ghost use Rattle.std.specs.Prelude.{◌≡◌};
-ghost use Rattle.tv_check.specs.Verdict.{tried};
-
 /// What is said of an assignment.
 #[derive(Clone, Copy, Debug, PartialEq, Eq)]
 pub enum Verdict {
@@ -13,16 +10,4 @@ pub enum Verdict {
     NoPublic { at: u64 },
     /// The constraint with this number, counted from 0, is the first that fails.
     NoConstraint { at: u64 },
-}
-
-/// The verdict once the constraint with this number is known to hold or not, where those before it
-/// came to `verdict`.
-#[inline(always)]
-pub(crate) fn tried(verdict: Verdict, at: u64, holds: bool) -> Verdict
-    ensures { result ≡ tried verdict at holds }
-{
-    match verdict {
-        Verdict::Yes if !holds => Verdict::NoConstraint { at },
-        _ => verdict,
-    }
 }

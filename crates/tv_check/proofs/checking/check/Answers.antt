@@ -1,8 +1,9 @@
-use Rattle.std.proofs.Common.{◌≡◌, ◌+◌, ◌++◌, ◌∷◌, [], sym, ◌∙◌, arith, rules, length, refl}
+use Rattle.std.proofs.Common.{◌≡◌, ◌+◌, ◌++◌, ◌∷◌, [], ap₂, sym, ◌∙◌, arith, rules, length, refl}
 use Rattle.std.proofs.lemmas.List.{length_push}
 use Rattle.tv_r1cs_read.specs.Places.{system_with}
-use Rattle.tv_check.specs.Verdict.{judge}
+use Rattle.tv_check.specs.Verdict.{judge, tried}
 use Rattle.tv_check.proofs.Trying.{answers, judge-more, judge-stays, read_ends, read_passes, verdict_of-refuses}
+use Rattle.tv_check.proofs.checking.check.Goals.{then-not-holds, else-not-holds}
 use Rattle.tv_check.proofs.checking.check.Goals as goal
 
 pub returns-in-Err-clause-gives : goal.returns-in-Err-clause-gives
@@ -39,8 +40,12 @@ loop-verdict-preserved g c =
           let told = rw (← c.loop-verdict.invariant.outside, ← c.loop-verdict.invariant.name) at begun in
           let now = c.in-Some.ensures.gives before.0 file told before.1 in
           let count : c.loop-verdict.at + 1 ≡ length (before.0 ++ now.constraint ∷ []) = omega (arith, before.2, length_push before.0 now.constraint) in
-          let verdict : c.tried-verdict.result ≡ judge (system_with c.in-Ok.reader.progress.header (before.0 ++ now.constraint ∷ [])) c.args.values.now c.args.publics.now
-          = c.tried-verdict.ensures ∙ rw (before.3, before.2, now.is) (sym (judge-more c.in-Ok.reader.progress.header c.args.values.now c.args.publics.now before.0 now.constraint)) in
+          let told : c.if-not-holds.verdict ≡ tried c.loop-verdict.verdict c.loop-verdict.at c.in-Some.holds = elim c.if-not-holds.branch [
+            | then-not-holds w ↦ w.verdict-is ∙ sym (ap₂ (λ v b. tried v c.loop-verdict.at b) c.in-Yes.is w.if-not-holds.true)
+            | else-not-holds w ↦ w.verdict-is ∙ c.in-Yes.is ∙ sym (ap₂ (λ v b. tried v c.loop-verdict.at b) c.in-Yes.is w.if-not-holds.false)
+          ] in
+          let verdict : c.if-not-holds.verdict ≡ judge (system_with c.in-Ok.reader.progress.header (before.0 ++ now.constraint ∷ [])) c.args.values.now c.args.publics.now
+          = told ∙ rw (before.3, before.2, now.is) (sym (judge-more c.in-Ok.reader.progress.header c.args.values.now c.args.publics.now before.0 now.constraint)) in
           (before.0 ++ now.constraint ∷ [], now.place, count, verdict);
     }
 
