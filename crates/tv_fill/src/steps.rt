@@ -6,6 +6,7 @@ ghost use Rattle.tv_fill.specs.Told.{state_at, old_at, takes_at, data_at, told_v
 
 use tv_block::fill_traced_step;
 use tv_core::{PairNum, Put, Values};
+use tv_lines::unpack_line;
 use tv_step::TraceState;
 
 // The old word of packed line `i`.
@@ -13,7 +14,7 @@ fn old_at(pairs: &[PairNum], i: u32) -> u32
     requires { i < length pairs.now }
     ensures { result ≡ old_at pairs.now i }
 {
-    (pairs[i as usize].first.number() % (1 << 32)) as u32
+    unpack_line(&pairs[i as usize]).old.number() as u32
 }
 
 // Whether step `i` takes a word of the auxiliary tape.
