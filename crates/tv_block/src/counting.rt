@@ -6,8 +6,8 @@ ghost use Rattle.tv_core.specs.Sinks.{PutsIn, Grows, Room};
 ghost use Rattle.tv_word.specs.Widths.{IsWidth};
 
 use crate::records::StateWires;
-use tv_bits::{Bits, select, zero};
-use tv_core::{F, Lc, Put, Sink, Wire};
+use tv_bits::{Bits, select_terms, zero};
+use tv_core::{F, Lc, Put, Scratch, Sink, Wire};
 use tv_isa::opcode::{
     ADD, AND, ANSWER, CJMP, CMOV, CMPA, CMPAE, CMPE, CMPG, CMPGE, CNJMP, JMP, LOAD_B, LOAD_W, MOV,
     MULL, NOT, OR, READ, SHL, SHR, SMULH, STORE_B, STORE_W, SUB, UDIV, UMOD, UMULH, XOR,
@@ -32,14 +32,17 @@ pub(crate) fn counter<const W: u32, S: Sink>(
     ensures grows { IfOk result (λ _. Grows S.meaning s.old s.new 4 8) }
     ensures below { IfOk result (λ w. w < S.meaning.wires s.new) }
 {
-    let wraps = zero(s, &but_for_last::<W>(state.pc))?;
+    let mut scratch = Scratch::new();
+    set_but_for_last::<W>(&mut scratch.a, state.pc);
+    let wraps = zero(s, &scratch.a)?;
     let target = target::<W>(a);
-    let mut behind = Lc::empty();
-    plus_behind::<W>(&mut behind, state.pc, wraps);
-    let jumped = select(s, state.flag, &target, &behind)?;
-    let mut unless = Lc::from_terms(target.terms());
-    plus_behind::<W>(&mut unless, state.pc, wraps);
-    unless.minus(&Lc::wire(jumped));
+    let behind = behind::<W>(state.pc, wraps);
+    let jumped = select_terms(s, &mut scratch, state.flag, target.terms(), &behind)?;
+    let unless = &mut scratch.a;
+    unless.clear();
+    unless.plus_terms(target.terms());
+    unless.plus_terms(&behind);
+    unless.plus(-F::ONE, jumped);
     let table = [
         WireEntry {
             ops: &[JMP],
@@ -62,21 +65,20 @@ pub(crate) fn counter<const W: u32, S: Sink>(
                 AND, OR, XOR, NOT, ADD, SUB, MULL, UMULH, SMULH, UDIV, UMOD, SHL, SHR, CMPE, CMPA,
                 CMPAE, CMPG, CMPGE, MOV, CMOV, STORE_B, LOAD_B, STORE_W, LOAD_W, READ,
             ],
-            gives: behind.terms(),
+            gives: &behind,
         },
     ];
     choose(s, op, &table)
 }
 
-// The program counter less the last place of an instruction.
-fn but_for_last<const W: u32>(pc: Wire) -> Lc
+// Makes `lc` the program counter less the last place of an instruction.
+fn set_but_for_last<const W: u32>(lc: &mut Lc, pc: Wire)
     requires width { IsWidth W }
-    ensures terms { result ≡ less (wire pc) (constant (2 ^ W - W / 4)) }
-    ensures top { top result ≡ pc + 1 }
+    ensures terms { lc.new ≡ less (wire pc) (constant (2 ^ W - W / 4)) }
+    ensures top { top lc.new ≡ pc + 1 }
 {
-    let mut lc = Lc::wire(pc);
-    lc.minus(&Lc::constant(F::of((1 << W) - u64::from(W / 4))));
-    lc
+    lc.set_wire(pc);
+    lc.plus_scaled(-F::ONE, &[(F::of((1 << W) - u64::from(W / 4)), Wire(0))]);
 }
 
 // The place to which a jump goes, a combination of at most 29 terms.
@@ -93,15 +95,15 @@ fn target<const W: u32>(a: &Bits) -> Lc
     lc
 }
 
-// Appends the place behind an instruction, as three terms.
-fn plus_behind<const W: u32>(lc: &mut Lc, pc: Wire, wraps: Wire)
+// The terms of the place behind an instruction.
+fn behind<const W: u32>(pc: Wire, wraps: Wire) -> [(F, Wire); 3]
     requires width { IsWidth W }
-    requires room { length lc.old ≤ 64 }
-    ensures terms { lc.new ≡ lc.old ++ behind_in W pc wraps }
-    ensures top { top lc.new ≡ max (top lc.old) (max (pc + 1) (wraps + 1)) }
-    ensures len { length lc.new ≡ length lc.old + 3 }
+    ensures terms { result ≡ behind_in W pc wraps }
+    ensures top { top result ≡ max (pc + 1) (wraps + 1) }
 {
-    lc.plus(F::ONE, pc);
-    lc.plus(F::from(W / 4), Wire(0));
-    lc.plus(-F::of(1 << W), wraps);
+    [
+        (F::ONE, pc),
+        (F::from(W / 4), Wire(0)),
+        (-F::of(1 << W), wraps),
+    ]
 }

@@ -17,8 +17,13 @@ pub(crate) fn if_zero<S: Sink>(s: &mut S, g: &Lc, x: &Lc) -> Put<Wire>
 {
     let w = s.fresh();
     let hint = s.fresh();
-    s.put(x, &Lc::wire(hint), &but_for(g, w))?;
-    s.put(x, &Lc::wire(w), &Lc::empty())?;
+    let mut factor = Lc::wire(hint);
+    let mut product = Lc::empty();
+    set_but_for(&mut product, g, w);
+    s.put(x, &factor, &product)?;
+    factor.set_wire(w);
+    product.clear();
+    s.put(x, &factor, &product)?;
     Ok(w)
 }
 
@@ -34,8 +39,12 @@ pub(crate) fn unless_zero<S: Sink>(s: &mut S, g: &Lc, x: &Lc) -> Put<Wire>
 {
     let w = s.fresh();
     let hint = s.fresh();
-    s.put(x, &Lc::wire(hint), &Lc::wire(w))?;
-    s.put(x, &but_for(g, w), &Lc::empty())?;
+    let mut factor = Lc::wire(hint);
+    let mut product = Lc::wire(w);
+    s.put(x, &factor, &product)?;
+    set_but_for(&mut factor, g, w);
+    product.clear();
+    s.put(x, &factor, &product)?;
     Ok(w)
 }
 
@@ -56,21 +65,24 @@ pub(crate) fn taking<S: Sink>(
     ensures puts { PutsIn S.meaning s.old s.new (taking_of asked before takes ended) result }
     ensures grows { IfOk result (λ _. Grows S.meaning s.old s.new 0 2) }
 {
-    let gained = but_for(&Lc::wire(ended), before);
-    let mut either = Lc::wire(takes);
-    either.plus_scaled(F::ONE, gained.terms());
-    s.put(&Lc::wire(asked), &Lc::one_less(before), &either)?;
-    s.put(&Lc::wire(takes), &gained, &Lc::empty())
+    let mut gained = Lc::empty();
+    gained.set_difference(ended, before);
+    let mut factor = Lc::wire(asked);
+    let mut product = Lc::wire(takes);
+    product.plus_terms(gained.terms());
+    s.put(&factor, &Lc::one_less(before), &product)?;
+    factor.set_wire(takes);
+    product.clear();
+    s.put(&factor, &gained, &product)
 }
 
-/// A combination less a wire.
-pub(crate) fn but_for(x: &Lc, w: Wire) -> Lc
+// Makes `lc` a combination less a wire.
+fn set_but_for(lc: &mut Lc, x: &Lc, w: Wire)
     requires { length x.now ≤ 64 }
-    ensures terms { result ≡ less x.now (wire w) }
-    ensures top { top result ≡ max (top x.now) (w + 1) }
-    ensures len { length result ≡ length x.now + 1 }
+    ensures terms { lc.new ≡ less x.now (wire w) }
+    ensures top { top lc.new ≡ max (top x.now) (w + 1) }
 {
-    let mut lc = Lc::from_terms(x.terms());
+    lc.clear();
+    lc.plus_terms(x.terms());
     lc.plus(-F::ONE, w);
-    lc
 }

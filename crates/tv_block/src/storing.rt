@@ -8,7 +8,6 @@ ghost use Rattle.tv_core.specs.Combinations.{wire, less, top};
 ghost use Rattle.tv_core.specs.Sinks.{PutsIn, Grows, Room};
 ghost use Rattle.tv_word.specs.Widths.{IsWidth};
 
-use crate::gates::but_for;
 use crate::records::{Data, Operands, Patch, Store};
 use tv_bits::{Bits, select, times};
 use tv_core::{F, Lc, Put, Sink, Wire};
@@ -53,7 +52,9 @@ fn gain(x: &Bits, byte: Wire) -> Lc
         first: x.first,
         n: 8,
     };
-    but_for(&lowest.lc(), byte)
+    let mut gain = lowest.lc();
+    gain.plus(-F::ONE, byte);
+    gain
 }
 
 // The byte at the address `a` in a word of two bytes, and what the word gains by the lowest byte of

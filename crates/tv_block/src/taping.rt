@@ -4,7 +4,7 @@ ghost use Rattle.tv_block.specs.Under.{StateUnder, TapesUnder};
 ghost use Rattle.tv_core.specs.Sinks.{PutsIn, Grows, Room};
 ghost use Rattle.tv_word.specs.Widths.{IsWidth};
 
-use crate::gates::{but_for, if_zero, taking, unless_zero};
+use crate::gates::{if_zero, taking, unless_zero};
 use crate::records::{StateWires, Tapes};
 use tv_bits::{Bits, times};
 use tv_core::{F, Lc, Put, Sink, Wire};
@@ -32,8 +32,10 @@ pub(crate) fn tapes<const W: u32, S: Sink>(
 {
     let reads = if_zero(s, &group(op, &[READ]), &a.above(1).lc())?;
     let aux = times(s, &Lc::wire(reads), &Lc::wire(a.first))?;
-    let asked = but_for(&Lc::wire(reads), aux);
-    let left = but_for(&Lc::constant(F::from(n)), state.taken_of_primary);
+    let mut asked = Lc::wire(reads);
+    asked.plus(-F::ONE, aux);
+    let mut left = Lc::constant(F::from(n));
+    left.plus(-F::ONE, state.taken_of_primary);
     let primary = unless_zero(s, &asked, &left)?;
     let mut sum = Lc::wire(state.taken_of_primary);
     sum.plus(F::ONE, primary);

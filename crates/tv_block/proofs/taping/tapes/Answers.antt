@@ -23,7 +23,7 @@ returns-in_err-primary-clause-puts g c =
     let m = g.S.Sink.meaning in
     let p0 = rw (c.group.ensures.terms, c.lc.ensures.terms, c.above.ensures.first, c.above.ensures.n, c.requires.a_word) at c.in_ok-reads.ensures.puts in
     let p1 = rw (c.wire.ensures, c.wire-2.ensures) at c.in_ok-aux.ensures.puts in
-    let p2 = rw (c.but_for-asked.ensures.terms, c.but_for-left.ensures.terms, c.wire-3.ensures, c.constant.ensures, c.from.ensures) at c.in_err-primary.ensures.puts in
+    let p2 = rw (c.plus.ensures.terms, c.neg.ensures, c.wire-asked.ensures, c.plus-2.ensures.terms, c.neg-2.ensures, c.constant-left.ensures, c.from.ensures) at c.in_err-primary.ensures.puts in
     refused m _ _ _ c.from_residual-in_err-primary.result c.from_residual-in_err-primary.ensures.1 (puts_then_refused m _ _ _ _ _ _ _ p0 (puts_then_refused m _ _ _ _ _ _ _ p1 (refused_then m _ _ _ _ _ p2)))
 
 pub returns-in_err-taken-clause-puts : goal.returns-in_err-taken-clause-puts
@@ -32,8 +32,8 @@ returns-in_err-taken-clause-puts g c =
     let m = g.S.Sink.meaning in
     let p0 = rw (c.group.ensures.terms, c.lc.ensures.terms, c.above.ensures.first, c.above.ensures.n, c.requires.a_word) at c.in_ok-reads.ensures.puts in
     let p1 = rw (c.wire.ensures, c.wire-2.ensures) at c.in_ok-aux.ensures.puts in
-    let p2 = rw (c.but_for-asked.ensures.terms, c.but_for-left.ensures.terms, c.wire-3.ensures, c.constant.ensures, c.from.ensures) at c.in_ok-primary.ensures.puts in
-    let p3 = rw (c.plus.ensures.terms, c.wire-sum.ensures) at c.in_err-taken.ensures.puts in
+    let p2 = rw (c.plus.ensures.terms, c.neg.ensures, c.wire-asked.ensures, c.plus-2.ensures.terms, c.neg-2.ensures, c.constant-left.ensures, c.from.ensures) at c.in_ok-primary.ensures.puts in
+    let p3 = rw (c.plus-3.ensures.terms, c.wire-sum.ensures) at c.in_err-taken.ensures.puts in
     refused m _ _ _ c.from_residual-in_err-taken.result c.from_residual-in_err-taken.ensures.1 (puts_then_refused m _ _ _ _ _ _ _ p0 (puts_then_refused m _ _ _ _ _ _ _ p1 (puts_then_refused m _ _ _ _ _ _ _ p2 (refused_then m _ _ _ _ _ p3))))
 
 pub returns-in_err-taking-clause-puts : goal.returns-in_err-taking-clause-puts
@@ -42,8 +42,8 @@ returns-in_err-taking-clause-puts g c =
     let m = g.S.Sink.meaning in
     let p0 = rw (c.group.ensures.terms, c.lc.ensures.terms, c.above.ensures.first, c.above.ensures.n, c.requires.a_word) at c.in_ok-reads.ensures.puts in
     let p1 = rw (c.wire.ensures, c.wire-2.ensures) at c.in_ok-aux.ensures.puts in
-    let p2 = rw (c.but_for-asked.ensures.terms, c.but_for-left.ensures.terms, c.wire-3.ensures, c.constant.ensures, c.from.ensures) at c.in_ok-primary.ensures.puts in
-    let p3 = rw (c.plus.ensures.terms, c.wire-sum.ensures) at c.in_ok-taken.ensures.puts in
+    let p2 = rw (c.plus.ensures.terms, c.neg.ensures, c.wire-asked.ensures, c.plus-2.ensures.terms, c.neg-2.ensures, c.constant-left.ensures, c.from.ensures) at c.in_ok-primary.ensures.puts in
+    let p3 = rw (c.plus-3.ensures.terms, c.wire-sum.ensures) at c.in_ok-taken.ensures.puts in
     let p4 = c.fresh-takes.ensures.puts in
     let p5 = c.fresh-ended.ensures.puts in
     let p6 = c.in_err-taking.ensures.puts in
@@ -55,8 +55,8 @@ returns-clause-puts g c =
     let m = g.S.Sink.meaning in
     let p0 = rw (c.group.ensures.terms, c.lc.ensures.terms, c.above.ensures.first, c.above.ensures.n, c.requires.a_word) at c.in_ok-reads.ensures.puts in
     let p1 = rw (c.wire.ensures, c.wire-2.ensures) at c.in_ok-aux.ensures.puts in
-    let p2 = rw (c.but_for-asked.ensures.terms, c.but_for-left.ensures.terms, c.wire-3.ensures, c.constant.ensures, c.from.ensures) at c.in_ok-primary.ensures.puts in
-    let p3 = rw (c.plus.ensures.terms, c.wire-sum.ensures) at c.in_ok-taken.ensures.puts in
+    let p2 = rw (c.plus.ensures.terms, c.neg.ensures, c.wire-asked.ensures, c.plus-2.ensures.terms, c.neg-2.ensures, c.constant-left.ensures, c.from.ensures) at c.in_ok-primary.ensures.puts in
+    let p3 = rw (c.plus-3.ensures.terms, c.wire-sum.ensures) at c.in_ok-taken.ensures.puts in
     let p4 = c.fresh-takes.ensures.puts in
     let p5 = c.fresh-ended.ensures.puts in
     let p6 = c.in_ok-taking.ensures.puts in
