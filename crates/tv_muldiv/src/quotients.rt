@@ -97,8 +97,8 @@ fn division<const W: u32, S: Sink>(s: &mut S, x: &Bits, y: &Bits, made: &Quot) -
 {
     let gate = gate::<W, S>(s, x, made)?;
     let mut rest = x.lc();
-    rest.minus(&made.rem.lc());
-    rest.minus(&Lc::wire(gate));
+    made.rem.plus_to(&mut rest, -F::ONE);
+    rest.plus(-F::ONE, gate);
     s.put(&made.quot.lc(), &y.lc(), &rest)
 }
 
@@ -136,7 +136,7 @@ fn remainder_below<const W: u32, S: Sink>(s: &mut S, y: &Bits, made: &Quot) -> P
 {
     let above = new_bits(s, W / CHUNKS)?;
     let mut difference = above.plus_one();
-    difference.minus(&Lc::wire(made.by_zero));
+    difference.plus(-F::ONE, made.by_zero);
     let (divisor, rem) = (TwoRows::of(y), TwoRows::of(&made.rem));
     prefix_difference(s, &divisor, &rem, &difference, W / CHUNKS, CHUNKS)
 }
