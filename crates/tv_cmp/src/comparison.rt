@@ -85,10 +85,12 @@ fn order_flags<const W: u32, S: Sink>(
 {
     bit(s, above)?;
     let is_equal = Lc::wire(equal);
-    let mut difference = x.lc();
-    difference.minus(&y.lc());
-    s.put(&is_equal, &difference, &Lc::empty())?;
-    s.put(&Lc::wire(above), &is_equal, &Lc::empty())
+    let none = Lc::empty();
+    let mut factor = x.lc();
+    y.plus_to(&mut factor, -F::ONE);
+    s.put(&is_equal, &factor, &none)?;
+    factor.set_wire(above);
+    s.put(&factor, &is_equal, &none)
 }
 
 // A number from 1 to 2^(`W / 4`): itself where `above` is 1, negative where `above` and `equal` are
