@@ -45,7 +45,8 @@ pub fn pick<S: Sink>(s: &mut S, b: &Lc, x: &Lc, y: &Lc) -> Put<Wire>
     ensures below { IfOk result (λ w. w < S.meaning.wires s.new) }
 {
     let w = s.fresh();
-    let mut difference = Lc::from_terms(x.terms());
+    let mut difference = Lc::empty();
+    difference.plus_terms(x.terms());
     difference.minus(y);
     let mut rest = Lc::wire(w);
     rest.minus(y);

@@ -37,7 +37,7 @@ pub fn write_reg<S: Sink>(
     for i in 0..16 {
         write(s, &mut scratch, v, sel.offset(i), regs[i as usize])?;
     }
-    tie(s, on, x, v, first, regs)?;
+    tie(s, &mut scratch, on, x, v, first, regs)?;
     Ok(wires_from(first))
 }
 
@@ -58,7 +58,15 @@ fn write<S: Sink>(s: &mut S, scratch: &mut Scratch, v: Wire, sel: Wire, reg: Wir
 }
 
 // Holds `v` to `x` where `on` is 1, and the sum of the registers to what it was where `on` is 0.
-fn tie<S: Sink>(s: &mut S, on: Wire, x: &Lc, v: Wire, first: Wire, regs: &[Wire; 16]) -> Put<()>
+fn tie<S: Sink>(
+    s: &mut S,
+    scratch: &mut Scratch,
+    on: Wire,
+    x: &Lc,
+    v: Wire,
+    first: Wire,
+    regs: &[Wire; 16],
+) -> Put<()>
     requires room { Room S.meaning s.old 0 1 }
     requires on_made { on < S.meaning.wires s.old }
     requires v_made { v < S.meaning.wires s.old }
@@ -69,15 +77,17 @@ fn tie<S: Sink>(s: &mut S, on: Wire, x: &Lc, v: Wire, first: Wire, regs: &[Wire;
     ensures puts { PutsIn S.meaning s.old s.new (tie_of on x.now v first regs.now) result }
     ensures grows { IfOk result (λ _. Grows S.meaning s.old s.new 0 1) }
 {
-    let sum = regs_sum(regs);
-    let mut change = Lc::empty();
-    plus_row(&mut change, first);
-    change.minus(&sum);
-    let mut left = Lc::from_terms(x.terms());
-    plus_row(&mut left, first);
-    left.minus(&Lc::wire(v));
-    left.minus(&sum);
-    s.put(&Lc::wire(on), &left, &change)
+    set_sum(&mut scratch.a, regs);
+    scratch.c.clear();
+    plus_row(&mut scratch.c, first);
+    scratch.c.minus(&scratch.a);
+    scratch.b.clear();
+    scratch.b.plus_terms(x.terms());
+    plus_row(&mut scratch.b, first);
+    scratch.b.plus(-F::ONE, v);
+    scratch.b.minus(&scratch.a);
+    scratch.a.set_wire(on);
+    s.put(&scratch.a, &scratch.b, &scratch.c)
 }
 
 // Appends the sum of sixteen wires in a row.
@@ -93,17 +103,16 @@ fn plus_row(lc: &mut Lc, first: Wire)
     }
 }
 
-// The sum of the registers.
-fn regs_sum(regs: &[Wire; 16]) -> Lc
-    ensures terms { result ≡ regs_sum regs.now }
-    ensures len { length result ≡ 16 }
-    ensures top { top result ≤ wires_top regs.now }
+// Makes `lc` the sum of the registers.
+fn set_sum(lc: &mut Lc, regs: &[Wire; 16])
+    ensures terms { lc.new ≡ regs_sum regs.now }
+    ensures len { length lc.new ≡ 16 }
+    ensures top { top lc.new ≤ wires_top regs.now }
 {
-    let mut lc = Lc::empty();
+    lc.clear();
     for i in 0..16 {
         lc.plus(F::ONE, regs[i]);
     }
-    lc
 }
 
 /// Sixteen wires in a row, as `write_reg` makes them for the registers.

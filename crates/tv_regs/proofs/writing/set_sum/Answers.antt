@@ -3,10 +3,10 @@ use Rattle.std.proofs.lemmas.Grind.{get_or_default_zero}
 use Rattle.tv_core.proofs.BelowLaws.{each_below-zero, length-each_below}
 use Rattle.tv_core.specs.Combinations.{top}
 use Rattle.tv_regs.proofs.WriteLaws.{sum_of-suc, top-sum_of}
-use Rattle.tv_regs.proofs.writing.regs_sum.Goals as goal
+use Rattle.tv_regs.proofs.writing.set_sum.Goals as goal
 
 pub loop-i-init : goal.loop-i-init
-loop-i-init c = c.empty-lc.ensures ∙ sym (each_below-zero {A = ℕ × ℕ} _)
+loop-i-init c = c.clear.ensures ∙ sym (each_below-zero {A = ℕ × ℕ} _)
 
 pub plus-requires : goal.plus-requires
 plus-requires c = omega (arith, ap length c.loop-i.invariant, length-each_below {A = ℕ × ℕ} c.loop-i.i (λ i. (1, get_or c.args.regs.now i 0)))
