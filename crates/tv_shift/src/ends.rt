@@ -1,6 +1,6 @@
-ghost use Rattle.std.specs.Prelude.{◌≡◌, ◌+◌, ◌/◌, ◌%◌, ◌≤◌, ◌<◌, ◌^◌, length, max, IfOk};
+ghost use Rattle.std.specs.Prelude.{◌≡◌, ◌+◌, ◌/◌, ◌%◌, ◌≤◌, ◌<◌, ◌^◌, length, IfOk};
 ghost use Rattle.tv_bits.specs.Bits.{bits_combination};
-ghost use Rattle.tv_core.specs.Combinations.{top, wire, scaled, less};
+ghost use Rattle.tv_core.specs.Combinations.{top, scaled};
 ghost use Rattle.tv_core.specs.Sinks.{PutsIn, Grows, Room};
 ghost use Rattle.tv_core.specs.declared.field.TheConstants.{P};
 ghost use Rattle.tv_shift.specs.Masks.{half_log, AreMade};
@@ -71,28 +71,17 @@ pub(crate) fn by_rest<const W: u32, S: Sink>(s: &mut S, parts: &Parts, half: Shi
     ensures right { IfOk result (λ near. near.right < S.meaning.wires s.new) }
 {
     let power = power_lc(&parts.places.marks(), half_log::<W>());
-    let left = times(
-        s,
-        &power,
-        &without(half.left, &times_half::<W>(parts.high, W / 4)),
-    )?;
+    let mut rest = Lc::wire(half.left);
+    rest.minus(&times_half::<W>(parts.high, W / 4));
+    let left = times(s, &power, &rest)?;
     let low = Bits {
         first: parts.low,
         n: W / 4,
     };
-    let right = ratio(s, &power, &without(half.right, &low.lc()))?;
+    rest.set_wire(half.right);
+    low.plus_to(&mut rest, -F::ONE);
+    let right = ratio(s, &power, &rest)?;
     Ok(Shift { left, right })
-}
-
-// A wire less a part of it.
-fn without(w: Wire, part: &Lc) -> Lc
-    requires { length part.now ≤ 64 }
-    ensures terms { result ≡ less (wire w) part.now }
-    ensures top { top result ≡ max (w + 1) (top part.now) }
-{
-    let mut lc = Lc::wire(w);
-    lc.minus(part);
-    lc
 }
 
 // The words, or 0 where wire `none` is 0. It makes 2 wires and 2 constraints.
