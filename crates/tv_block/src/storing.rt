@@ -9,8 +9,8 @@ ghost use Rattle.tv_core.specs.Sinks.{PutsIn, Grows, Room};
 ghost use Rattle.tv_word.specs.Widths.{IsWidth};
 
 use crate::records::{Data, Operands, Patch, Store};
-use tv_bits::{Bits, select, times};
-use tv_core::{F, Lc, Put, Sink, Wire};
+use tv_bits::{Bits, select, select_terms, times};
+use tv_core::{F, Lc, Put, Scratch, Sink, Wire};
 use tv_isa::opcode::{STORE_B, STORE_W};
 use tv_regs::{group, pick};
 
@@ -84,9 +84,22 @@ fn patch_of_four<S: Sink>(s: &mut S, bits: &Bits, a: &Bits, x: &Bits) -> Put<Pat
     ensures below { IfOk result (λ made. PatchUnder (S.meaning.wires s.new) made) }
 {
     let second = a.first.offset(1);
-    let low = select(s, a.first, &byte_at(bits, 1), &byte_at(bits, 0))?;
-    let high = select(s, a.first, &byte_at(bits, 3), &byte_at(bits, 2))?;
-    let byte = select(s, second, &Lc::wire(high), &Lc::wire(low))?;
+    let mut scratch = Scratch::new();
+    let low = select_terms(
+        s,
+        &mut scratch,
+        a.first,
+        byte_at(bits, 1).terms(),
+        byte_at(bits, 0).terms(),
+    )?;
+    let high = select_terms(
+        s,
+        &mut scratch,
+        a.first,
+        byte_at(bits, 3).terms(),
+        byte_at(bits, 2).terms(),
+    )?;
+    let byte = select_terms(s, &mut scratch, second, &[(F::ONE, high)], &[(F::ONE, low)])?;
     let power = times(s, &power_by(256, a.first), &power_by(65536, second))?;
     let added = times(s, &Lc::wire(power), &gain(x, byte))?;
     Ok(Patch { byte, added })
