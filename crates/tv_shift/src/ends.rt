@@ -9,8 +9,8 @@ ghost use Rattle.tv_word.specs.Widths.{IsWidth};
 
 use crate::masks::{Parts, half_log};
 use crate::thermometer::power_lc;
-use tv_bits::{Bits, ratio, select, times};
-use tv_core::{F, Lc, Put, Sink, Wire};
+use tv_bits::{Bits, ratio, select_terms, times};
+use tv_core::{F, Lc, Put, Scratch, Sink, Wire};
 
 /// A word shifted by another: to the left, without what leaves its bits, and to the right.
 #[derive(Clone, Copy, PartialEq, Eq, Debug)]
@@ -33,12 +33,19 @@ pub(crate) fn by_half<const W: u32, S: Sink>(s: &mut S, b: Wire, word: Wire) -> 
     ensures right { IfOk result (λ half. half.right < S.meaning.wires s.new) }
 {
     let x = Bits { first: word, n: W }.lc();
-    let left = select(s, b, &times_half::<W>(word, W / 2), &x)?;
+    let mut scratch = Scratch::new();
+    let left = select_terms(
+        s,
+        &mut scratch,
+        b,
+        times_half::<W>(word, W / 2).terms(),
+        x.terms(),
+    )?;
     let high = Bits {
         first: word.offset(W / 2),
         n: W / 2,
     };
-    let right = select(s, b, &high.lc(), &x)?;
+    let right = select_terms(s, &mut scratch, b, high.lc().terms(), x.terms())?;
     Ok(Shift { left, right })
 }
 

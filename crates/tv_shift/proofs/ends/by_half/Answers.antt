@@ -1,23 +1,26 @@
-use Rattle.tv_core.proofs.Chain.{chain, refused}
+use Rattle.tv_core.proofs.Chain.{puts_then, puts_then_refused, refused_then, puts_nothing, refused}
 use Rattle.tv_shift.specs.Shift.{by_half_of}
 use Rattle.tv_shift.proofs.ends.by_half.Goals as goal
 
 pub returns-in_err-left-clause-puts : goal.returns-in_err-left-clause-puts
 unfolding by_half_of
 returns-in_err-left-clause-puts g c =
-    let left = rw (c.times_half.ensures.terms, c.lc-x.ensures.terms) at c.in_err-left.ensures.puts in
-    refused g.S.Sink.meaning _ _ _ c.from_residual.result c.from_residual.ensures.1 (search (chain, left))
+    let m = g.S.Sink.meaning in
+    let left = rw (c.terms.ensures.terms, c.times_half.ensures.terms, c.terms-2.ensures.terms, c.lc-x.ensures.terms) at c.in_err-left.ensures.puts in
+    refused m _ _ _ c.from_residual.result c.from_residual.ensures.1 (refused_then m _ _ _ _ _ left)
 
 pub returns-in_err-right-clause-puts : goal.returns-in_err-right-clause-puts
 unfolding by_half_of
 returns-in_err-right-clause-puts g c =
-    let left = rw (c.times_half.ensures.terms, c.lc-x.ensures.terms) at c.in_ok-left.ensures.puts in
-    let right = rw (c.lc.ensures.terms, c.lc-x.ensures.terms, c.offset.ensures) at c.in_err-right.ensures.puts in
-    refused g.S.Sink.meaning _ _ _ c.from_residual-in_err-right.result c.from_residual-in_err-right.ensures.1 (search (chain, left, right))
+    let m = g.S.Sink.meaning in
+    let left = rw (c.terms.ensures.terms, c.times_half.ensures.terms, c.terms-2.ensures.terms, c.lc-x.ensures.terms) at c.in_ok-left.ensures.puts in
+    let right = rw (c.terms-3.ensures.terms, c.lc.ensures.terms, c.terms-4.ensures.terms, c.lc-x.ensures.terms, c.offset.ensures) at c.in_err-right.ensures.puts in
+    refused m _ _ _ c.from_residual-in_err-right.result c.from_residual-in_err-right.ensures.1 (puts_then_refused m _ _ _ _ _ _ _ left (refused_then m _ _ _ _ _ right))
 
 pub returns-clause-puts : goal.returns-clause-puts
 unfolding by_half_of
 returns-clause-puts g c =
-    let left = rw (c.times_half.ensures.terms, c.lc-x.ensures.terms) at c.in_ok-left.ensures.puts in
-    let right = rw (c.lc.ensures.terms, c.lc-x.ensures.terms, c.offset.ensures) at c.in_ok-right.ensures.puts in
-    search (chain, left, right)
+    let m = g.S.Sink.meaning in
+    let left = rw (c.terms.ensures.terms, c.times_half.ensures.terms, c.terms-2.ensures.terms, c.lc-x.ensures.terms) at c.in_ok-left.ensures.puts in
+    let right = rw (c.terms-3.ensures.terms, c.lc.ensures.terms, c.terms-4.ensures.terms, c.lc-x.ensures.terms, c.offset.ensures) at c.in_ok-right.ensures.puts in
+    puts_then m _ _ _ _ _ _ _ left (puts_then m _ _ _ _ _ _ _ right (puts_nothing m _ _))
