@@ -5,6 +5,7 @@ ghost use Rattle.tv_core.specs.Sinks.{Room};
 use crate::rows::{ORDER, falsehoods, honest, packed_all};
 use crate::wired::{FIRST, Wired, wires_of};
 use std::alloc::Global;
+use std::process::Abort;
 use std::test::Fail;
 use tv_benes::Net;
 use tv_core::{CountSink, F, Line, ListValues, Put, Sink, TestSink};
@@ -67,38 +68,46 @@ fn honest_lines_meet_it(rt: HostRuntime) -> Result<(), Fail> {
     Ok(())
 }
 
-#[test]
-fn other_lines_fail_a_constraint(rt: HostRuntime) -> Result<(), Fail> {
-    for (net, _, _) in NETS {
-        for (place, line) in falsehoods() {
-            let mut lines = honest();
-            if place < 8 {
-                lines[place] = line;
-            }
-            let values = assignment(rt.alloc(), net, &lines)?;
-            assert!(rt; trial(net, values.as_slice())?.1 > 0, "{net:?} {line:?}");
+// Sees that a constraint fails on each of the lines that are not honest.
+fn refuses_falsehoods(rt: &impl Abort, alloc: Global, net: Net) -> Result<(), Fail> {
+    for (place, line) in falsehoods() {
+        let mut lines = honest();
+        if place < 8 {
+            lines[place] = line;
         }
+        let values = assignment(alloc, net, &lines)?;
+        assert!(rt; trial(net, values.as_slice())?.1 > 0, "{net:?} {line:?}");
     }
     Ok(())
 }
 
-// The values of honest lines, with one number altered of a line or of the first switches.
 #[test]
-fn lines_are_tied_to_what_is_sorted(rt: HostRuntime) -> Result<(), Fail> {
-    for (net, _, _) in NETS {
-        let values = assignment(rt.alloc(), net, &honest())?;
-        let mut z = values.as_slice().to_vec(rt.alloc())?;
-        for i in 1..73 {
-            if i >= z.len() {
-                break;
-            }
-            let was = z[i];
-            z[i] = was + F::of(2);
-            assert!(rt; trial(net, &z)?.1 > 0, "{net:?} {i}");
-            z[i] = was;
+fn other_lines_fail_a_constraint(rt: HostRuntime) -> Result<(), Fail> {
+    refuses_falsehoods(&rt, rt.alloc(), Net::Benes)?;
+    refuses_falsehoods(&rt, rt.alloc(), Net::Waksman)
+}
+
+// Sees that a constraint fails on the values of honest lines, with one number altered of a line or
+// of the first switches.
+fn refuses_each_altered(rt: &impl Abort, alloc: Global, net: Net) -> Result<(), Fail> {
+    let values = assignment(alloc, net, &honest())?;
+    let mut z = values.as_slice().to_vec(alloc)?;
+    for i in 1..73 {
+        if i >= z.len() {
+            break;
         }
+        let was = z[i];
+        z[i] = was + F::of(2);
+        assert!(rt; trial(net, &z)?.1 > 0, "{net:?} {i}");
+        z[i] = was;
     }
     Ok(())
+}
+
+#[test]
+fn lines_are_tied_to_what_is_sorted(rt: HostRuntime) -> Result<(), Fail> {
+    refuses_each_altered(&rt, rt.alloc(), Net::Benes)?;
+    refuses_each_altered(&rt, rt.alloc(), Net::Waksman)
 }
 
 #[test]

@@ -70,13 +70,24 @@ fn the_latest_word_of_a_cell_is_found(rt: HostRuntime) -> Result<(), Fail> {
     ] {
         assert!(rt; holds(rt.alloc(), &lines)?, "{lines:?}");
     }
-    let first = b;
-    let [(_, d), (_, b), (_, e), (_, g), ..] = falsehoods();
+    Ok(())
+}
+
+#[test]
+fn no_other_word_is_taken_for_the_latest(rt: HostRuntime) -> Result<(), Fail> {
+    let [a, b, c, ..] = honest();
+    let [
+        (_, begins),
+        (_, another_begins),
+        (_, other_cell),
+        (_, written_over),
+        ..
+    ] = falsehoods();
     for lines in [
-        [a, a, c, d],
-        [a, c, d, b],
-        [a, first, c, e],
-        [a, first, c, g],
+        [a, a, c, begins],
+        [a, c, begins, another_begins],
+        [a, b, c, other_cell],
+        [a, b, c, written_over],
     ] {
         assert!(rt; !holds(rt.alloc(), &lines)?, "{lines:?}");
     }
