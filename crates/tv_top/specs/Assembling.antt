@@ -2,6 +2,7 @@
 use Rattle.std.specs.Prelude.{◌≡◌, ◌≢◌, ℕ, codes, List, [], ◌∷◌, Result}
 use Rattle.tv_files.specs.Outside.{Names, Outside, Told}
 use Rattle.tv_core.specs.declared.limits.TheConstants.{TEXT_BYTES}
+use Rattle.tv_top.specs.declared.assembling.AsmArgs.{AsmArgs}
 use Rattle.tv_top.specs.declared.refusal.Bad.{Bad}
 use Rattle.tv_top.specs.declared.refusal.Finish.TheVariants.{Quiet}
 use Rattle.tv_top.specs.declared.refusal.Size.TheVariants.{TextBytes}
@@ -31,6 +32,10 @@ asm_plan text image = record {
   ends_by = is_quiet;
   comes = λ files. comes_by asm_ends (input 1 image_in text files);
 }
+
+-- the plan that the command's words ask for
+abbrev pub asm_asks : AsmArgs → Plan
+asm_asks args = asm_plan args.text.now args.image.now
 
 -- What `asm` promises over files that told their contents, the two names being different: TEXT holds a
 -- program text of this image, which IMAGE then holds, or it is refused for this.

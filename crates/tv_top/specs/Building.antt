@@ -9,6 +9,7 @@ use Rattle.tv_files.specs.Outside.{Names, Outside, Told}
 use Rattle.tv_layout.specs.Reduces.{Reduces}
 use Rattle.tv_layout.specs.Systems.{system_of}
 use Rattle.tv_word.specs.Numeral.{numeral}
+use Rattle.tv_top.specs.declared.building.BuildArgs.{BuildArgs}
 use Rattle.tv_top.specs.declared.place.Amount.{Amount}
 use Rattle.tv_top.specs.declared.programs.Program.{Program}
 use Rattle.tv_top.specs.declared.refusal.Bad.{Bad}
@@ -50,6 +51,10 @@ build_plan net text n t system = record {
   ends_by = is_quiet;
   comes = λ files. comes_by (build_ends net n t) (input 1 program_in text files);
 }
+
+-- the plan that the command's words ask for
+abbrev pub build_asks : BuildArgs → Plan
+build_asks args = build_plan args.net args.text.now args.n args.t args.system.now
 
 -- the file of a program text holds a program, whose system reduces its runs, or it is refused for this
 pub record HasSystem (net : Net) (n t : ℕ) (text : Option (List ℕ)) (held : Result Program Bad) : Type 0 where

@@ -8,6 +8,7 @@ use Rattle.tv_core.specs.Constraints.{System}
 use Rattle.tv_files.specs.Outside.{Names, Outside, Told}
 use Rattle.tv_r1cs_read.specs.Survey.{survey_of}
 use Rattle.tv_wtns.specs.Wtns.{Firsts}
+use Rattle.tv_top.specs.declared.checking.CheckArgs.{CheckArgs}
 use Rattle.tv_top.specs.declared.refusal.Bad.{Bad}
 use Rattle.tv_top.specs.declared.refusal.Finish.TheVariants as finishes
 use Rattle.tv_top.specs.declared.refusal.Size.TheVariants.{TapeWords}
@@ -71,6 +72,10 @@ check_plan system witness tape = record {
   ends_by = is_verdict;
   comes = λ files. comes_by check_ends (check_of system witness tape files);
 }
+
+-- the plan that the command's words ask for
+abbrev pub check_asks : CheckArgs → Plan
+check_asks args = check_plan args.system.now args.witness.now args.tape.now
 
 -- the verdict on these is this, and what it tells of them is so: yes, that the assignment satisfies the
 -- system and extends the public numbers

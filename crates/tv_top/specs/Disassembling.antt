@@ -5,6 +5,7 @@ use Rattle.tv_disasm.specs.Disassembly.{disassembly_of}
 use Rattle.tv_disasm.specs.declared.fault.DisFault.{DisFault}
 use Rattle.tv_disasm.specs.declared.fault.DisFault.TheVariants as dis
 use Rattle.tv_files.specs.Outside.{Names, Outside, Told}
+use Rattle.tv_top.specs.declared.disassembling.DisasmArgs.{DisasmArgs}
 use Rattle.tv_top.specs.declared.limits.TheConstants.{IMAGE_BYTES, IMAGE_BYTES_16}
 use Rattle.tv_top.specs.declared.programs.Width.{Width}
 use Rattle.tv_top.specs.declared.programs.Width.TheVariants.{Bits16, Bits32}
@@ -60,6 +61,10 @@ disasm_plan width image text = record {
   ends_by = is_quiet;
   comes = λ files. comes_by disasm_ends (input 1 (text_in width) image files);
 }
+
+-- the plan that the command's words ask for
+abbrev pub disasm_asks : DisasmArgs → Plan
+disasm_asks args = disasm_plan args.width args.image.now args.text.now
 
 -- What `disasm` promises over files that told their contents, the two names being different: IMAGE holds an
 -- image of words of this width with this program text, which TEXT then holds, or it is refused for this.

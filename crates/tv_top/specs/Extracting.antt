@@ -13,6 +13,7 @@ use Rattle.tv_step.specs.declared.end.End.TheVariants.{Answer}
 use Rattle.tv_tape.specs.Tape.{text_of}
 use Rattle.tv_word.specs.Numeral.{numeral}
 use Rattle.tv_top.specs.declared.extracting.Assignment.{Assignment}
+use Rattle.tv_top.specs.declared.extracting.ExtractArgs.{ExtractArgs}
 use Rattle.tv_top.specs.declared.programs.Program.{Program}
 use Rattle.tv_top.specs.declared.refusal.Bad.{Bad}
 use Rattle.tv_top.specs.declared.refusal.Finish.{Finish}
@@ -92,6 +93,10 @@ extract_plan net text n t witness tape aux = record {
   ends_by = is_extract;
   comes = λ files. comes_by (extract_ends net n t) (assigned_of text witness files);
 }
+
+-- the plan that the command's words ask for
+abbrev pub extract_asks : ExtractArgs → Plan
+extract_asks args = extract_plan args.net args.text.now args.n args.t args.witness.now args.tape.now args.aux.now
 
 -- the two files hold a program and an assignment, or the first of them that is refused is refused for this; the run
 -- that is found is one of the assignment, and an assignment that satisfies the program's system has one, which reads

@@ -6,19 +6,19 @@ use Rattle.tv_top.specs.declared.job.Job.{Job}
 use Rattle.tv_top.specs.declared.job.Job.TheVariants.{Asm, Disasm, Run, Build, Witness, Check, Extract, Trial, Shrink, Listing}
 use Rattle.tv_top.specs.declared.place.Place.{Place}
 use Rattle.tv_top.specs.declared.place.Write.{Write}
-use Rattle.tv_top.specs.Assembling.{asm_plan}
-use Rattle.tv_top.specs.Building.{net_word, build_plan}
-use Rattle.tv_top.specs.Checking.{check_plan}
+use Rattle.tv_top.specs.Assembling.{asm_asks, asm_plan}
+use Rattle.tv_top.specs.Building.{net_word, build_asks, build_plan}
+use Rattle.tv_top.specs.Checking.{check_asks, check_plan}
 use Rattle.tv_top.specs.Contents.{Content.{Bytes}}
-use Rattle.tv_top.specs.Disassembling.{width_word, disasm_plan}
-use Rattle.tv_top.specs.Extracting.{extract_plan}
-use Rattle.tv_top.specs.Listing.{by_word, listing_plan}
+use Rattle.tv_top.specs.Disassembling.{width_word, disasm_asks, disasm_plan}
+use Rattle.tv_top.specs.Extracting.{extract_asks, extract_plan}
+use Rattle.tv_top.specs.Listing.{by_word, listing_asks, listing_plan}
 use Rattle.tv_top.specs.Plan.{Plan, Named}
 use Rattle.tv_top.specs.Plan as plan
-use Rattle.tv_top.specs.Running.{run_plan}
-use Rattle.tv_top.specs.Shrinking.{shrink_plan}
-use Rattle.tv_top.specs.Trialing.{trial_plan}
-use Rattle.tv_top.specs.Witnessing.{witness_plan}
+use Rattle.tv_top.specs.Running.{run_asks, run_plan}
+use Rattle.tv_top.specs.Shrinking.{shrink_asks, shrink_plan}
+use Rattle.tv_top.specs.Trialing.{trial_asks, trial_plan}
+use Rattle.tv_top.specs.Witnessing.{witness_asks, witness_plan}
 
 -- what two words tell together, where each tells something, and what three do
 abbrev pub with_two : {A B C : Type 0} → (A → B → C) → Option A → Option B → Option C
@@ -92,16 +92,16 @@ form (name ∷ words) =
 
 -- the plan of the code's job
 abbrev pub plan_of : Job → Plan
-plan_of (Asm text image) = asm_plan text.now image.now
-plan_of (Disasm image text width) = disasm_plan width image.now text.now
-plan_of (Run text tape aux steps) = run_plan text.now tape.now aux.now steps
-plan_of (Build text n t system net) = build_plan net text.now n t system.now
-plan_of (Witness text tape aux t witness net) = witness_plan net text.now tape.now aux.now t witness.now
-plan_of (Check system witness tape) = check_plan system.now witness.now tape.now
-plan_of (Extract text n t witness tape aux net) = extract_plan net text.now n t witness.now tape.now aux.now
-plan_of (Trial seed k) = trial_plan seed k
-plan_of (Shrink system out) = shrink_plan system.now out.now
-plan_of (Listing text n t witness by out) = listing_plan by text.now n t witness.now out.now
+plan_of (Asm args) = asm_asks args
+plan_of (Disasm args) = disasm_asks args
+plan_of (Run args) = run_asks args
+plan_of (Build args) = build_asks args
+plan_of (Witness args) = witness_asks args
+plan_of (Check args) = check_asks args
+plan_of (Extract args) = extract_asks args
+plan_of (Trial args) = trial_asks args
+plan_of (Shrink args) = shrink_asks args
+plan_of (Listing args) = listing_asks args
 
 -- the code's place of a name, and its file that is to be written
 abbrev pub named : Place → Named

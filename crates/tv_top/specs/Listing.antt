@@ -11,6 +11,7 @@ use Rattle.tv_listing.specs.Listing.{assigned_lines, text_by}
 use Rattle.tv_listing.specs.declared.row.By.{By}
 use Rattle.tv_listing.specs.declared.row.By.TheVariants.{Time, Cell}
 use Rattle.tv_word.specs.Numeral.{numeral}
+use Rattle.tv_top.specs.declared.listing.ListingArgs.{ListingArgs}
 use Rattle.tv_top.specs.declared.refusal.Bad.{Bad}
 use Rattle.tv_top.specs.declared.refusal.Finish.TheVariants.{Quiet}
 use Rattle.tv_top.specs.declared.status.Status.{Status}
@@ -49,6 +50,10 @@ listing_plan by text n t witness out = record {
   ends_by = is_listing;
   comes = λ files. comes_by (listing_ends by n t) (assigned_of text witness files);
 }
+
+-- the plan that the command's words ask for
+abbrev pub listing_asks : ListingArgs → Plan
+listing_asks args = listing_plan args.by args.text.now args.n args.t args.witness.now args.out.now
 
 -- The two files hold what those of `extract` do. And an assignment that satisfies the program's system has a run, of
 -- which its lines are: boot lines, and the lines of the machine's steps on the run's tapes. So its listing is, byte for

@@ -9,6 +9,7 @@ use Rattle.tv_top.specs.declared.loading.Inputs.{Inputs}
 use Rattle.tv_top.specs.declared.refusal.Bad.{Bad}
 use Rattle.tv_top.specs.declared.refusal.Finish.TheVariants.{Run}
 use Rattle.tv_top.specs.declared.refusal.Quantity.TheVariants.{Steps}
+use Rattle.tv_top.specs.declared.running.RunArgs.{RunArgs}
 use Rattle.tv_top.specs.declared.status.Status.{Status}
 use Rattle.tv_top.specs.Claims.{Comes}
 use Rattle.tv_top.specs.Kinds.{is_run}
@@ -28,6 +29,10 @@ run_plan text tape aux steps = record {
   ends_by = is_run;
   comes = λ files. comes_by (run_ends steps) (inputs_of text tape aux files);
 }
+
+-- the plan that the command's words ask for
+abbrev pub run_asks : RunArgs → Plan
+run_asks args = run_plan args.text.now args.tape.now args.aux.now args.steps
 
 -- the three files hold a program and two tapes, and where the run on them ends with an answer, the machine accepts
 -- by it; or the first of them that is refused is refused for this

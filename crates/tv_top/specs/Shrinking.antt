@@ -14,6 +14,7 @@ use Rattle.tv_top.specs.declared.refusal.Size.{Size}
 use Rattle.tv_top.specs.declared.refusal.Size.TheVariants.{SystemTerms, CombinationTerms}
 use Rattle.tv_top.specs.declared.refusal.Stop.{Stop}
 use Rattle.tv_top.specs.declared.refusal.Stop.TheVariants as stop
+use Rattle.tv_top.specs.declared.shrinking.ShrinkArgs.{ShrinkArgs}
 use Rattle.tv_top.specs.declared.status.Status.{Status}
 use Rattle.tv_top.specs.Claims.{Holds, Then, Comes}
 use Rattle.tv_top.specs.Containers.{system_in}
@@ -70,6 +71,10 @@ shrink_plan system out = record {
   ends_by = is_quiet;
   comes = λ files. comes_by shrink_ends (shrunk_look system files);
 }
+
+-- the plan that the command's words ask for
+abbrev pub shrink_asks : ShrinkArgs → Plan
+shrink_asks args = shrink_plan args.system.now args.out.now
 
 -- The numbers that satisfy the shrunk system are those that some assignment which satisfies the system has at the kept
 -- wires, and no two such assignments have the same numbers there; wire 0 and all public wires keep their numbers.

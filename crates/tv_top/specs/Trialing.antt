@@ -18,6 +18,7 @@ use Rattle.tv_top.specs.declared.refusal.Quantity.TheVariants.{Draws}
 use Rattle.tv_top.specs.declared.refusal.Trial.{Trial}
 use Rattle.tv_top.specs.declared.status.Status.{Status}
 use Rattle.tv_top.specs.declared.status.Status.TheVariants.{Done, FileFault, Memory}
+use Rattle.tv_top.specs.declared.trialing.TrialArgs.{TrialArgs}
 use Rattle.tv_top.specs.Codes.{trial_text}
 use Rattle.tv_top.specs.Ends.{Added}
 use Rattle.tv_top.specs.Kinds.{is_trial}
@@ -60,6 +61,10 @@ trial_plan seed k = record {
   ends_by = is_trial;
   comes = λ files. comes_by (λ _. trial_ends seed k) (no_look files);
 }
+
+-- the plan that the command's words ask for
+abbrev pub trial_asks : TrialArgs → Plan
+trial_asks args = trial_plan args.seed args.k
 
 -- The drawn program answers 0 at its last step, the values satisfy its system and extend 0 and the tape, and so all
 -- constraints hold.

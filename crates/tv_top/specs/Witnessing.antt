@@ -19,6 +19,7 @@ use Rattle.tv_top.specs.declared.refusal.Finish.{Finish}
 use Rattle.tv_top.specs.declared.refusal.Finish.TheVariants.{Quiet, NoRun}
 use Rattle.tv_top.specs.declared.refusal.Quantity.TheVariants.{Steps}
 use Rattle.tv_top.specs.declared.status.Status.{Status}
+use Rattle.tv_top.specs.declared.witnessing.WitnessArgs.{WitnessArgs}
 use Rattle.tv_top.specs.Building.{net_word}
 use Rattle.tv_top.specs.Claims.{Comes}
 use Rattle.tv_top.specs.Contents.{Content.{Values}}
@@ -58,6 +59,10 @@ witness_plan net text tape aux t witness = record {
   ends_by = is_witness;
   comes = λ files. comes_by (witness_ends net t) (inputs_of text tape aux files);
 }
+
+-- the plan that the command's words ask for
+abbrev pub witness_asks : WitnessArgs → Plan
+witness_asks args = witness_plan args.net args.text.now args.tape.now args.aux.now args.t args.witness.now
 
 -- the machine accepts by v, and the values satisfy the system, extend v and the tape, and take the words that the run
 -- reads

@@ -1,8 +1,10 @@
 //! `asm TEXT IMAGE`: the image of a program text.
-ghost use Rattle.std.specs.Prelude.{◌≡◌, [], ◌∷◌, IfOk};
+ghost use Rattle.std.specs.Prelude.{◌≡◌, [], ◌∷◌, map, string_bytes, IfOk, Ok};
+ghost use Rattle.std.specs.Prelude.{Some, None, MatchOption};
 ghost use Rattle.tv_top.specs.Answers.{Answers};
-ghost use Rattle.tv_top.specs.Assembling.{image_in, asm_plan};
+ghost use Rattle.tv_top.specs.Assembling.{image_in, asm_asks};
 ghost use Rattle.tv_top.specs.Finds.{Finds, Makes};
+ghost use Rattle.tv_top.specs.Form.{asm_form};
 ghost use Rattle.tv_top.specs.Plan.{input, refusal_of};
 ghost use Rattle.tv_top.specs.Programs.{image_bytes, image_of, program_sizes};
 
@@ -16,6 +18,54 @@ use std::alloc::{AllocError, Global};
 use tv_core::limits::TEXT_BYTES;
 use tv_files::Files;
 use tv_word::word_bytes;
+
+/// The words of `asm`.
+#[derive(Clone, Copy)]
+pub(crate) struct AsmArgs<'a> {
+    pub(crate) text: &'a str,
+    pub(crate) image: &'a str,
+}
+
+impl<'a> AsmArgs<'a> {
+    /// What the words behind the command's name tell.
+    pub(crate) fn read(words: &'a [String]) -> Option<AsmArgs<'a>>
+        ensures { MatchOption result (asm_form (map string_bytes words.now) ≡ None)
+            (λ args. asm_form (map string_bytes words.now) ≡ Some (asm_asks args)) }
+    {
+        let [text, image] = words else {
+            return None;
+        };
+        Some(AsmArgs {
+            text: text.as_str(),
+            image: image.as_str(),
+        })
+    }
+
+    /// What the words are refused for.
+    pub(crate) fn refusal(self) -> Option<Refusal>
+        ensures { let plan = asm_asks self.entry in
+            result ≡ refusal_of plan.reads plan.writes plan.amounts }
+    {
+        refusal_of(&[Place::at(1, self.text)], &[Place::at(2, self.image)], &[])
+    }
+
+    /// Does the command, whose words are so many.
+    pub(crate) fn perform<D: Files>(self, alloc: Global, files: &mut D, words: usize) -> Status
+        ensures { Answers (Ok (asm_asks self.entry)) words
+            (D.seen files.old) (D.seen files.new) result }
+    {
+        match read_image(alloc, files, self.text) {
+            Ok(bytes) => {
+                let write = Write {
+                    place: Place::at(2, self.image),
+                    bytes: &bytes,
+                };
+                finish(files, words, &[write], Finish::Quiet)
+            }
+            Err(stop) => conclude(files, words, Ending::Stopped(stop)),
+        }
+    }
+}
 
 /// The bytes of a program's image: of each word those that spell it, the lowest first.
 #[tactic(auto, using(crate::proofs::Spelling::word_spelled))]
@@ -48,49 +98,4 @@ fn read_image<D: Files>(alloc: Global, files: &mut D, text: &str) -> Result<Vec<
 {
     let text = limited_bytes(alloc, files, 1, text, Size::TextBytes, TEXT_BYTES)?;
     from_made(image_of(alloc, &text))
-}
-
-/// What the words are refused for.
-pub(crate) fn asm_refusal(text: &str, image: &str) -> Option<Refusal>
-    ensures { let plan = asm_plan text.now image.now in
-        result ≡ refusal_of plan.reads plan.writes plan.amounts }
-{
-    refusal_of(
-        &[Place {
-            word: 1,
-            name: text,
-        }],
-        &[Place {
-            word: 2,
-            name: image,
-        }],
-        &[],
-    )
-}
-
-/// Does the command, whose words are so many.
-pub(crate) fn asm<D: Files>(
-    alloc: Global,
-    files: &mut D,
-    words: usize,
-    text: &str,
-    image: &str,
-) -> Status
-    ensures { Answers (Ok (asm_plan text.now image.now)) words
-        (D.seen files.old) (D.seen files.new) result }
-{
-    match read_image(alloc, files, text) {
-        Ok(bytes) => {
-            let place = Place {
-                word: 2,
-                name: image,
-            };
-            let write = Write {
-                place,
-                bytes: &bytes,
-            };
-            finish(files, words, &[write], Finish::Quiet)
-        }
-        Err(stop) => conclude(files, words, Ending::Stopped(stop)),
-    }
 }

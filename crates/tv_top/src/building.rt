@@ -1,12 +1,14 @@
 //! `build TEXT N T SYSTEM`, which may have one more word, `waksman`: the system of a program's
 //! runs.
-ghost use Rattle.std.specs.Prelude.{◌≡◌, [], ◌∷◌, map, string_bytes};
+ghost use Rattle.std.specs.Prelude.{◌≡◌, [], ◌∷◌, map, string_bytes, Ok};
+ghost use Rattle.std.specs.Prelude.{Some, None, MatchOption};
 ghost use Rattle.tv_layout.specs.Places.{WithinLimits};
 ghost use Rattle.tv_layout.specs.Systems.{system_of};
 ghost use Rattle.tv_top.specs.Answers.{Answers};
-ghost use Rattle.tv_top.specs.Building.{net_word, build_plan, program_system, size_amounts};
+ghost use Rattle.tv_top.specs.Building.{build_asks, net_word, program_system, size_amounts};
 ghost use Rattle.tv_top.specs.Contents.{Content.{Constraints}};
 ghost use Rattle.tv_top.specs.Ends.{Writes};
+ghost use Rattle.tv_top.specs.Form.{build_form};
 ghost use Rattle.tv_top.specs.Plan.{AreWithin, refusal_of};
 ghost use Rattle.tv_top.specs.Programs.{HasImage};
 
@@ -17,10 +19,69 @@ use crate::status::Status;
 use crate::writing::{close, conclude, sink_cut, streamed};
 use std::alloc::Global;
 use tv_benes::Net;
-use tv_core::limits::{STEPS, TAPE_WORDS};
+use tv_core::limits::TAPE_WORDS;
 use tv_files::Files;
 use tv_layout::{emit_system, sizes};
 use tv_r1cs_write::StreamSink;
+use tv_word::decimal_of;
+
+/// The words of `build`.
+#[derive(Clone, Copy)]
+pub(crate) struct BuildArgs<'a> {
+    pub(crate) text: &'a str,
+    /// How many words the tape has.
+    pub(crate) n: u64,
+    /// The most steps.
+    pub(crate) t: u64,
+    pub(crate) system: &'a str,
+    pub(crate) net: Net,
+}
+
+impl<'a> BuildArgs<'a> {
+    /// What the words behind the command's name tell.
+    pub(crate) fn read(words: &'a [String]) -> Option<BuildArgs<'a>>
+        ensures { MatchOption result (build_form (map string_bytes words.now) ≡ None)
+            (λ args. build_form (map string_bytes words.now) ≡ Some (build_asks args)) }
+    {
+        let [text, n, t, system, last @ ..] = words else {
+            return None;
+        };
+        Some(BuildArgs {
+            net: net_word(last)?,
+            n: decimal_of(n.as_bytes())?,
+            t: decimal_of(t.as_bytes())?,
+            text: text.as_str(),
+            system: system.as_str(),
+        })
+    }
+
+    /// What the words are refused for.
+    pub(crate) fn refusal(self) -> Option<Refusal>
+        ensures { let plan = build_asks self.entry in
+            result ≡ refusal_of plan.reads plan.writes plan.amounts }
+    {
+        refusal_of(
+            &[Place::at(1, self.text)],
+            &[Place::at(4, self.system)],
+            &size_amounts(self.n, self.t),
+        )
+    }
+
+    /// Does the command, whose words are so many.
+    pub(crate) fn perform<D: Files>(self, alloc: Global, files: &mut D, words: usize) -> Status
+        requires { AreWithin (build_asks self).amounts }
+        ensures { Answers (Ok (build_asks self.entry)) words
+            (D.seen files.old) (D.seen files.new) result }
+    {
+        match read_program(alloc, files, self.text) {
+            Ok(program) => {
+                let written = write_system(files, self, &program);
+                close(files, words, written, Finish::Quiet)
+            }
+            Err(stop) => conclude(files, words, Ending::Stopped(stop)),
+        }
+    }
+}
 
 /// The network that the words behind those of a command tell, which may be none or `waksman`.
 pub(crate) fn net_word(last: &[String]) -> Option<Net>
@@ -63,28 +124,22 @@ fn write_layout<const W: u32, D: Files>(
 
 /// Writes the system of a program's runs under the name at word 4.
 #[tactic(auto, unfolding(crate::specs::Building::program_system))]
-fn write_system<D: Files>(
-    files: &mut D,
-    name: &str,
-    program: &Program,
-    n: u32,
-    t: u32,
-    net: Net,
-) -> Result<(), Cut>
+fn write_system<D: Files>(files: &mut D, args: BuildArgs<'_>, program: &Program) -> Result<(), Cut>
     requires image { HasImage program.now }
-    requires amounts { AreWithin (build_plan net [] n t name.now).amounts }
+    requires amounts { AreWithin (build_asks args).amounts }
     ensures { Writes (record {
       word = 4;
-      name = name.now;
-      content = Constraints (program_system net n t program.now);
+      name = args.entry.system.now;
+      content = Constraints (program_system args.entry.net args.entry.n args.entry.t program.now);
     } ∷ [])
         (D.seen files.old) (D.seen files.new) result }
 {
-    let place = Place { word: 4, name };
+    let place = Place::at(4, args.system);
     let image = program.words.as_slice();
+    let (n, t) = (args.n as u32, args.t as u32);
     match program.width {
-        Width::Bits16 => write_layout::<16, D>(files, place, image, n, t, net),
-        Width::Bits32 => write_layout::<32, D>(files, place, image, n, t, net),
+        Width::Bits16 => write_layout::<16, D>(files, place, image, n, t, args.net),
+        Width::Bits32 => write_layout::<32, D>(files, place, image, n, t, args.net),
     }
 }
 
@@ -98,53 +153,5 @@ pub(crate) fn size_amounts(n: u64, t: u64) -> [Amount; 2]
         least: 0,
         most: u64::from(TAPE_WORDS),
     };
-    let steps = Amount {
-        what: Quantity::Steps,
-        has: t,
-        least: 1,
-        most: u64::from(STEPS),
-    };
-    [tape_words, steps]
-}
-
-/// What the words are refused for.
-pub(crate) fn build_refusal(net: Net, text: &str, n: u64, t: u64, system: &str) -> Option<Refusal>
-    ensures { let plan = build_plan net text.now n t system.now in
-        result ≡ refusal_of plan.reads plan.writes plan.amounts }
-{
-    refusal_of(
-        &[Place {
-            word: 1,
-            name: text,
-        }],
-        &[Place {
-            word: 4,
-            name: system,
-        }],
-        &size_amounts(n, t),
-    )
-}
-
-/// Does the command, whose words are so many.
-pub(crate) fn build<D: Files>(
-    alloc: Global,
-    files: &mut D,
-    words: usize,
-    net: Net,
-    text: &str,
-    n: u64,
-    t: u64,
-    system: &str,
-) -> Status
-    requires { AreWithin (build_plan net text.now n t system.now).amounts }
-    ensures { Answers (Ok (build_plan net text.now n t system.now)) words
-        (D.seen files.old) (D.seen files.new) result }
-{
-    match read_program(alloc, files, text) {
-        Ok(program) => {
-            let written = write_system(files, system, &program, n as u32, t as u32, net);
-            close(files, words, written, Finish::Quiet)
-        }
-        Err(stop) => conclude(files, words, Ending::Stopped(stop)),
-    }
+    [tape_words, Amount::steps(t)]
 }

@@ -1,11 +1,13 @@
 //! `check SYSTEM WITNESS TAPE`: the three files, each read to its end and judged before the next,
 //! and the verdict on them.
-ghost use Rattle.std.specs.Prelude.{◌≡◌, [], ◌∷◌};
+ghost use Rattle.std.specs.Prelude.{◌≡◌, [], ◌∷◌, map, string_bytes, Ok};
+ghost use Rattle.std.specs.Prelude.{Some, None, MatchOption};
 ghost use Rattle.tv_top.specs.Answers.{Answers};
-ghost use Rattle.tv_top.specs.Checking.{check_counted, check_plan, check_tape, check_twice};
+ghost use Rattle.tv_top.specs.Checking.{check_asks, check_counted, check_tape, check_twice};
 ghost use Rattle.tv_top.specs.Checking.{check_miscounted, check_witness};
 ghost use Rattle.tv_top.specs.declared.refusal.Size.TheVariants.{TapeWords};
 ghost use Rattle.tv_top.specs.Finds.{Finds};
+ghost use Rattle.tv_top.specs.Form.{check_form};
 ghost use Rattle.tv_top.specs.Plan.{refusal_of};
 ghost use Rattle.tv_top.specs.Tapes.{tape_sizes};
 ghost use Rattle.tv_wtns.specs.Wtns.{firsts_in};
@@ -21,6 +23,55 @@ use tv_check::Verdict;
 use tv_core::F;
 use tv_files::Files;
 use tv_wtns::FirstValues;
+
+/// The words of `check`.
+#[derive(Clone, Copy)]
+pub(crate) struct CheckArgs<'a> {
+    pub(crate) system: &'a str,
+    pub(crate) witness: &'a str,
+    pub(crate) tape: &'a str,
+}
+
+impl<'a> CheckArgs<'a> {
+    /// What the words behind the command's name tell.
+    pub(crate) fn read(words: &'a [String]) -> Option<CheckArgs<'a>>
+        ensures { MatchOption result (check_form (map string_bytes words.now) ≡ None)
+            (λ args. check_form (map string_bytes words.now) ≡ Some (check_asks args)) }
+    {
+        let [system, witness, tape] = words else {
+            return None;
+        };
+        Some(CheckArgs {
+            system: system.as_str(),
+            witness: witness.as_str(),
+            tape: tape.as_str(),
+        })
+    }
+
+    /// What the words are refused for: nothing, since no file is written.
+    pub(crate) fn refusal(self) -> Option<Refusal>
+        ensures { let plan = check_asks self.entry in
+            result ≡ refusal_of plan.reads plan.writes plan.amounts }
+    {
+        let reads = [
+            Place::at(1, self.system),
+            Place::at(2, self.witness),
+            Place::at(3, self.tape),
+        ];
+        refusal_of(&reads, &[], &[])
+    }
+
+    /// Does the command, whose words are so many.
+    pub(crate) fn perform<D: Files>(self, alloc: Global, files: &mut D, words: usize) -> Status
+        ensures { Answers (Ok (check_asks self.entry)) words
+            (D.seen files.old) (D.seen files.new) result }
+    {
+        match verdict_on(alloc, files, self) {
+            Ok(verdict) => finish(files, words, &[], Finish::Verdict(verdict)),
+            Err(stop) => conclude(files, words, Ending::Stopped(stop)),
+        }
+    }
+}
 
 /// The verdict where the witness has so many values, and the system another number of wires: the
 /// system is read to its end once more, as for any other verdict.
@@ -69,17 +120,16 @@ fn check_counted<D: Files>(
 fn check_tape<D: Files>(
     alloc: Global,
     files: &mut D,
-    system: &str,
+    args: CheckArgs<'_>,
     wires: u32,
     first: &FirstValues,
-    tape: &str,
 ) -> Result<Verdict, Stop>
     ensures { Finds (λ v. v) (3 ∷ 1 ∷ []) (tape_sizes TapeWords)
-        (check_tape system.now wires (firsts_in first.now) tape.now)
+        (check_tape args.entry.system.now wires (firsts_in first.now) args.entry.tape.now)
         (D.seen files.old) (D.seen files.new) result }
 {
-    let publics = read_publics(alloc, files, tape)?;
-    check_counted(alloc, files, system, wires, first, &publics)
+    let publics = read_publics(alloc, files, args.tape)?;
+    check_counted(alloc, files, args.system, wires, first, &publics)
 }
 
 /// The verdict once the system, of so many wires, was read: by the witness at word 2 and the other
@@ -88,73 +138,25 @@ fn check_tape<D: Files>(
 fn check_witness<D: Files>(
     alloc: Global,
     files: &mut D,
-    system: &str,
+    args: CheckArgs<'_>,
     wires: u32,
-    witness: &str,
-    tape: &str,
 ) -> Result<Verdict, Stop>
     ensures { Finds (λ v. v) (2 ∷ 3 ∷ 1 ∷ []) (tape_sizes TapeWords)
-        (check_witness system.now wires witness.now tape.now)
+        (check_witness args.entry.system.now wires args.entry.witness.now args.entry.tape.now)
         (D.seen files.old) (D.seen files.new) result }
 {
-    let first = read_first_witness(alloc, files, witness, wires)?;
-    check_tape(alloc, files, system, wires, &first, tape)
+    let first = read_first_witness(alloc, files, args.witness, wires)?;
+    check_tape(alloc, files, args, wires, &first)
 }
 
 /// The verdict on the three files. The system is read twice, each time to its end, so that a fault
 /// of it comes before any other file is read, and its constraints are tried without being kept.
 #[tactic(auto, unfolding(crate::specs::Checking::check_twice))]
-fn verdict_on<D: Files>(
-    alloc: Global,
-    files: &mut D,
-    system: &str,
-    witness: &str,
-    tape: &str,
-) -> Result<Verdict, Stop>
+fn verdict_on<D: Files>(alloc: Global, files: &mut D, args: CheckArgs<'_>) -> Result<Verdict, Stop>
     ensures { Finds (λ v. v) (1 ∷ 2 ∷ 3 ∷ 1 ∷ []) (tape_sizes TapeWords)
-        (check_twice system.now witness.now tape.now)
+        (check_twice args.entry.system.now args.entry.witness.now args.entry.tape.now)
         (D.seen files.old) (D.seen files.new) result }
 {
-    let counts = survey_system(alloc, files, system)?;
-    check_witness(alloc, files, system, counts.wires, witness, tape)
-}
-
-/// What the words are refused for: nothing, since no file is written.
-pub(crate) fn check_refusal(system: &str, witness: &str, tape: &str) -> Option<Refusal>
-    ensures { let plan = check_plan system.now witness.now tape.now in
-        result ≡ refusal_of plan.reads plan.writes plan.amounts }
-{
-    let reads = [
-        Place {
-            word: 1,
-            name: system,
-        },
-        Place {
-            word: 2,
-            name: witness,
-        },
-        Place {
-            word: 3,
-            name: tape,
-        },
-    ];
-    refusal_of(&reads, &[], &[])
-}
-
-/// Does the command, whose words are so many.
-pub(crate) fn check<D: Files>(
-    alloc: Global,
-    files: &mut D,
-    words: usize,
-    system: &str,
-    witness: &str,
-    tape: &str,
-) -> Status
-    ensures { Answers (Ok (check_plan system.now witness.now tape.now)) words
-        (D.seen files.old) (D.seen files.new) result }
-{
-    match verdict_on(alloc, files, system, witness, tape) {
-        Ok(verdict) => finish(files, words, &[], Finish::Verdict(verdict)),
-        Err(stop) => conclude(files, words, Ending::Stopped(stop)),
-    }
+    let counts = survey_system(alloc, files, args.system)?;
+    check_witness(alloc, files, args, counts.wires)
 }

@@ -14,19 +14,9 @@ ghost use Rattle.tv_top.specs.Shrinking.{OnShrink};
 ghost use Rattle.tv_top.specs.Trialing.{OnTrial};
 ghost use Rattle.tv_top.specs.Witnessing.{OnWitness};
 
-use crate::assembling::asm;
-use crate::building::build;
-use crate::checking::check;
-use crate::disassembling::disasm;
-use crate::extracting::extract;
 use crate::job::{Job, job_of};
-use crate::listing::listing;
 use crate::refusal::Ending;
-use crate::running::run;
-use crate::shrinking::shrink;
 use crate::status::Status;
-use crate::trialing::trial;
-use crate::witnessing::witness;
 use crate::writing::conclude;
 use std::alloc::Global;
 use tv_files::Files;
@@ -37,53 +27,16 @@ fn perform<D: Files>(alloc: Global, files: &mut D, words: usize, job: Job<'_>) -
     ensures { Answers (Ok (plan_of job.entry)) words (D.seen files.old) (D.seen files.new) result }
 {
     match job {
-        Job::Asm { text, image } => asm(alloc, files, words, text, image),
-        Job::Disasm { image, text, width } => disasm(alloc, files, words, width, image, text),
-        Job::Run {
-            text,
-            tape,
-            aux,
-            steps,
-        } => run(alloc, files, words, text, tape, aux, steps),
-        Job::Build {
-            text,
-            n,
-            t,
-            system,
-            net,
-        } => build(alloc, files, words, net, text, n, t, system),
-        Job::Witness {
-            text,
-            tape,
-            aux,
-            t,
-            witness: name,
-            net,
-        } => witness(alloc, files, words, net, text, tape, aux, t, name),
-        Job::Check {
-            system,
-            witness,
-            tape,
-        } => check(alloc, files, words, system, witness, tape),
-        Job::Extract {
-            text,
-            n,
-            t,
-            witness,
-            tape,
-            aux,
-            net,
-        } => extract(alloc, files, words, net, text, n, t, witness, tape, aux),
-        Job::Trial { seed, k } => trial(alloc, files, words, seed, k),
-        Job::Shrink { system, out } => shrink(alloc, files, words, system, out),
-        Job::Listing {
-            text,
-            n,
-            t,
-            witness,
-            by,
-            out,
-        } => listing(alloc, files, words, by, text, n, t, witness, out),
+        Job::Asm(args) => args.perform(alloc, files, words),
+        Job::Disasm(args) => args.perform(alloc, files, words),
+        Job::Run(args) => args.perform(alloc, files, words),
+        Job::Build(args) => args.perform(alloc, files, words),
+        Job::Witness(args) => args.perform(alloc, files, words),
+        Job::Check(args) => args.perform(alloc, files, words),
+        Job::Extract(args) => args.perform(alloc, files, words),
+        Job::Trial(args) => args.perform(alloc, files, words),
+        Job::Shrink(args) => args.perform(alloc, files, words),
+        Job::Listing(args) => args.perform(alloc, files, words),
     }
 }
 

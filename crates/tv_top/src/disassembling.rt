@@ -1,9 +1,11 @@
 //! `disasm IMAGE TEXT` and `disasm IMAGE TEXT 16`: the program text of an image.
-ghost use Rattle.std.specs.Prelude.{◌≡◌, [], ◌∷◌, map, string_bytes};
+ghost use Rattle.std.specs.Prelude.{◌≡◌, [], ◌∷◌, map, string_bytes, Ok};
+ghost use Rattle.std.specs.Prelude.{Some, None, MatchOption};
 ghost use Rattle.tv_top.specs.Answers.{Answers};
-ghost use Rattle.tv_top.specs.Disassembling.{text_of, text_in, width_word, disasm_plan};
+ghost use Rattle.tv_top.specs.Disassembling.{text_of, text_in, width_word, disasm_asks};
 ghost use Rattle.tv_top.specs.declared.refusal.Size.TheVariants.{ImageBytes};
 ghost use Rattle.tv_top.specs.Finds.{Finds, Makes};
+ghost use Rattle.tv_top.specs.Form.{disasm_form};
 ghost use Rattle.tv_top.specs.Plan.{input, refusal_of};
 ghost use Rattle.tv_top.specs.Programs.{bits};
 
@@ -17,6 +19,56 @@ use crate::writing::{conclude, finish};
 use std::alloc::Global;
 use tv_disasm::disassemble;
 use tv_files::Files;
+
+/// The words of `disasm`.
+#[derive(Clone, Copy)]
+pub(crate) struct DisasmArgs<'a> {
+    pub(crate) image: &'a str,
+    pub(crate) text: &'a str,
+    pub(crate) width: Width,
+}
+
+impl<'a> DisasmArgs<'a> {
+    /// What the words behind the command's name tell.
+    pub(crate) fn read(words: &'a [String]) -> Option<DisasmArgs<'a>>
+        ensures { MatchOption result (disasm_form (map string_bytes words.now) ≡ None)
+            (λ args. disasm_form (map string_bytes words.now) ≡ Some (disasm_asks args)) }
+    {
+        let [image, text, last @ ..] = words else {
+            return None;
+        };
+        Some(DisasmArgs {
+            width: width_word(last)?,
+            image: image.as_str(),
+            text: text.as_str(),
+        })
+    }
+
+    /// What the words are refused for.
+    pub(crate) fn refusal(self) -> Option<Refusal>
+        ensures { let plan = disasm_asks self.entry in
+            result ≡ refusal_of plan.reads plan.writes plan.amounts }
+    {
+        refusal_of(&[Place::at(1, self.image)], &[Place::at(2, self.text)], &[])
+    }
+
+    /// Does the command, whose words are so many.
+    pub(crate) fn perform<D: Files>(self, alloc: Global, files: &mut D, words: usize) -> Status
+        ensures { Answers (Ok (disasm_asks self.entry)) words
+            (D.seen files.old) (D.seen files.new) result }
+    {
+        match read_text(alloc, files, self.width, self.image) {
+            Ok(bytes) => {
+                let write = Write {
+                    place: Place::at(2, self.text),
+                    bytes: &bytes,
+                };
+                finish(files, words, &[write], Finish::Quiet)
+            }
+            Err(stop) => conclude(files, words, Ending::Stopped(stop)),
+        }
+    }
+}
 
 /// The program text of an image.
 #[tactic(auto, unfolding(crate::specs::Disassembling::text_of))]
@@ -46,58 +98,12 @@ fn read_text<D: Files>(
 }
 
 /// The width that the words behind the two names tell, which may be none or `16`.
-pub(crate) fn width_word(last: &[String]) -> Option<Width>
+fn width_word(last: &[String]) -> Option<Width>
     ensures { result ≡ width_word (map string_bytes last.now) }
 {
     match last {
         [] => Some(Width::Bits32),
         [word] if word.as_str() == "16" => Some(Width::Bits16),
         _ => None,
-    }
-}
-
-/// What the words are refused for.
-pub(crate) fn disasm_refusal(width: Width, image: &str, text: &str) -> Option<Refusal>
-    ensures { let plan = disasm_plan width image.now text.now in
-        result ≡ refusal_of plan.reads plan.writes plan.amounts }
-{
-    refusal_of(
-        &[Place {
-            word: 1,
-            name: image,
-        }],
-        &[Place {
-            word: 2,
-            name: text,
-        }],
-        &[],
-    )
-}
-
-/// Does the command, whose words are so many.
-pub(crate) fn disasm<D: Files>(
-    alloc: Global,
-    files: &mut D,
-    words: usize,
-    width: Width,
-    image: &str,
-    text: &str,
-) -> Status
-    ensures { Answers (Ok (disasm_plan width image.now text.now)) words
-        (D.seen files.old) (D.seen files.new) result }
-{
-    match read_text(alloc, files, width, image) {
-        Ok(bytes) => {
-            let place = Place {
-                word: 2,
-                name: text,
-            };
-            let write = Write {
-                place,
-                bytes: &bytes,
-            };
-            finish(files, words, &[write], Finish::Quiet)
-        }
-        Err(stop) => conclude(files, words, Ending::Stopped(stop)),
     }
 }

@@ -1,11 +1,12 @@
 //! `listing TEXT N T WITNESS BY OUT`: the lines of memory and tapes that an assignment of a
 //! program's system has.
-ghost use Rattle.std.specs.Prelude.{◌≡◌, ◌≤◌, Ok, IfOk};
-ghost use Rattle.tv_core.specs.declared.limits.TheConstants.{TAPE_WORDS, STEPS};
+ghost use Rattle.std.specs.Prelude.{◌≡◌, ◌≤◌, map, string_bytes, Ok, IfOk};
+ghost use Rattle.std.specs.Prelude.{Some, None, MatchOption};
 ghost use Rattle.tv_top.specs.Answers.{Answers};
 ghost use Rattle.tv_top.specs.Ends.{Completes};
 ghost use Rattle.tv_top.specs.Extracting.{assigned_in};
-ghost use Rattle.tv_top.specs.Listing.{assigned_text, by_word, listing_ends, listing_plan};
+ghost use Rattle.tv_top.specs.Form.{listing_form};
+ghost use Rattle.tv_top.specs.Listing.{assigned_text, by_word, listing_asks, listing_ends};
 ghost use Rattle.tv_top.specs.Listing.{lines_written, listing_writes};
 ghost use Rattle.tv_top.specs.Plan.{AreWithin, refusal_of};
 ghost use Rattle.tv_top.specs.Programs.{HasImage};
@@ -21,10 +22,68 @@ use std::alloc::{AllocError, Global};
 use tv_benes::Net;
 use tv_extract::Run;
 use tv_files::Files;
-use tv_listing::{By, listing as list_lines};
+use tv_listing::{By, listing};
+use tv_word::decimal_of;
+
+/// The words of `listing`.
+#[derive(Clone, Copy)]
+pub(crate) struct ListingArgs<'a> {
+    pub(crate) text: &'a str,
+    /// How many words the tape has.
+    pub(crate) n: u64,
+    /// The most steps.
+    pub(crate) t: u64,
+    pub(crate) witness: &'a str,
+    pub(crate) by: By,
+    pub(crate) out: &'a str,
+}
+
+impl<'a> ListingArgs<'a> {
+    /// What the words behind the command's name tell.
+    pub(crate) fn read(words: &'a [String]) -> Option<ListingArgs<'a>>
+        ensures { MatchOption result (listing_form (map string_bytes words.now) ≡ None)
+            (λ args. listing_form (map string_bytes words.now) ≡ Some (listing_asks args)) }
+    {
+        let [text, n, t, witness, by, out] = words else {
+            return None;
+        };
+        Some(ListingArgs {
+            by: by_word(by.as_str())?,
+            n: decimal_of(n.as_bytes())?,
+            t: decimal_of(t.as_bytes())?,
+            text: text.as_str(),
+            witness: witness.as_str(),
+            out: out.as_str(),
+        })
+    }
+
+    /// What the words are refused for.
+    pub(crate) fn refusal(self) -> Option<Refusal>
+        ensures { let plan = listing_asks self.entry in
+            result ≡ refusal_of plan.reads plan.writes plan.amounts }
+    {
+        refusal_of(
+            &[Place::at(1, self.text), Place::at(4, self.witness)],
+            &[Place::at(6, self.out)],
+            &size_amounts(self.n, self.t),
+        )
+    }
+
+    /// Does the command, whose words are so many.
+    pub(crate) fn perform<D: Files>(self, alloc: Global, files: &mut D, words: usize) -> Status
+        requires { AreWithin (listing_asks self).amounts }
+        ensures { Answers (Ok (listing_asks self.entry)) words
+            (D.seen files.old) (D.seen files.new) result }
+    {
+        match read_assigned(alloc, files, self.text, self.witness) {
+            Ok(assigned) => listing_on(alloc, files, words, &assigned, self),
+            Err(stop) => conclude(files, words, Ending::Stopped(stop)),
+        }
+    }
+}
 
 /// The order that a word tells.
-pub(crate) fn by_word(word: &str) -> Option<By>
+fn by_word(word: &str) -> Option<By>
     ensures { result ≡ by_word word.now }
 {
     match word {
@@ -38,25 +97,22 @@ pub(crate) fn by_word(word: &str) -> Option<By>
 #[tactic(auto, unfolding(crate::specs::Listing::assigned_text))]
 fn text_of(
     alloc: Global,
-    by: By,
+    args: ListingArgs<'_>,
     assigned: &Assignment,
-    n: u32,
-    t: u32,
     step: u64,
 ) -> Result<Vec<u8>, AllocError>
     requires image { HasImage assigned.now.program }
-    requires tape { n ≤ TAPE_WORDS }
-    requires some { 1 ≤ t }
-    requires few { t ≤ STEPS }
-    requires within { step ≤ t }
+    requires amounts { AreWithin (listing_asks args).amounts }
+    requires within { step ≤ args.t }
     ensures { IfOk result (λ text. text.items ≡
-        assigned_text by n t step (assigned_in assigned.now)) }
+        assigned_text args.entry.by args.entry.n args.entry.t step (assigned_in assigned.now)) }
 {
     let image = assigned.program.words.as_slice();
     let values = assigned.values.as_slice();
+    let (n, t) = (args.n as u32, args.t as u32);
     match assigned.program.width {
-        Width::Bits16 => list_lines::<16>(alloc, image, n, t, step, values, by),
-        Width::Bits32 => list_lines::<32>(alloc, image, n, t, step, values, by),
+        Width::Bits16 => listing::<16>(alloc, image, n, t, step, values, args.by),
+        Width::Bits32 => listing::<32>(alloc, image, n, t, step, values, args.by),
     }
 }
 
@@ -65,27 +121,22 @@ fn write_lines<D: Files>(
     alloc: Global,
     files: &mut D,
     words: usize,
-    by: By,
+    args: ListingArgs<'_>,
     assigned: &Assignment,
-    n: u32,
-    t: u32,
     run: &Run,
-    out: &str,
 ) -> Status
     requires image { HasImage assigned.now.program }
-    requires tape { n ≤ TAPE_WORDS }
-    requires some { 1 ≤ t }
-    requires few { t ≤ STEPS }
-    requires within { run.now.step ≤ t }
-    ensures { Completes (listing_writes out.now)
-        (lines_written by n t (assigned_in assigned.now) run.now) words
-        (D.seen files.old) (D.seen files.new) result }
+    requires amounts { AreWithin (listing_asks args).amounts }
+    requires within { run.now.step ≤ args.t }
+    ensures { Completes (listing_writes args.entry.out.now)
+        (lines_written args.entry.by args.entry.n args.entry.t (assigned_in assigned.now) run.now)
+        words (D.seen files.old) (D.seen files.new) result }
 {
-    let Ok(text) = text_of(alloc, by, assigned, n, t, run.step) else {
+    let Ok(text) = text_of(alloc, args, assigned, run.step) else {
         return conclude(files, words, Ending::Stopped(Stop::Memory));
     };
     let write = Write {
-        place: Place { word: 6, name: out },
+        place: Place::at(6, args.out),
         bytes: &text,
     };
     finish(files, words, &[write], Finish::Quiet)
@@ -96,69 +147,17 @@ fn listing_on<D: Files>(
     alloc: Global,
     files: &mut D,
     words: usize,
-    by: By,
     assigned: &Assignment,
-    n: u32,
-    t: u32,
-    out: &str,
+    args: ListingArgs<'_>,
 ) -> Status
     requires image { HasImage assigned.now.program }
-    requires tape { n ≤ TAPE_WORDS }
-    requires some { 1 ≤ t }
-    requires few { t ≤ STEPS }
-    ensures { Completes (listing_writes out.now) (listing_ends by n t (assigned_in assigned.now))
-        words (D.seen files.old) (D.seen files.new) result }
-{
-    match run_of(alloc, assigned, n, t, Net::Benes) {
-        Ok(run) => write_lines(alloc, files, words, by, assigned, n, t, &run, out),
-        Err(fault) => refuse(files, words, not_run(fault)),
-    }
-}
-
-/// What the words are refused for.
-pub(crate) fn listing_refusal(
-    by: By,
-    text: &str,
-    n: u64,
-    t: u64,
-    witness: &str,
-    out: &str,
-) -> Option<Refusal>
-    ensures { let plan = listing_plan by text.now n t witness.now out.now in
-        result ≡ refusal_of plan.reads plan.writes plan.amounts }
-{
-    let reads = [
-        Place {
-            word: 1,
-            name: text,
-        },
-        Place {
-            word: 4,
-            name: witness,
-        },
-    ];
-    let writes = [Place { word: 6, name: out }];
-    refusal_of(&reads, &writes, &size_amounts(n, t))
-}
-
-/// Does the command, whose words are so many.
-pub(crate) fn listing<D: Files>(
-    alloc: Global,
-    files: &mut D,
-    words: usize,
-    by: By,
-    text: &str,
-    n: u64,
-    t: u64,
-    witness: &str,
-    out: &str,
-) -> Status
-    requires { AreWithin (listing_plan by text.now n t witness.now out.now).amounts }
-    ensures { Answers (Ok (listing_plan by text.now n t witness.now out.now)) words
+    requires amounts { AreWithin (listing_asks args).amounts }
+    ensures { Completes (listing_writes args.entry.out.now)
+        (listing_ends args.entry.by args.entry.n args.entry.t (assigned_in assigned.now)) words
         (D.seen files.old) (D.seen files.new) result }
 {
-    match read_assigned(alloc, files, text, witness) {
-        Ok(assigned) => { listing_on(alloc, files, words, by, &assigned, n as u32, t as u32, out) }
-        Err(stop) => conclude(files, words, Ending::Stopped(stop)),
+    match run_of(alloc, assigned, args.n as u32, args.t as u32, Net::Benes) {
+        Ok(run) => write_lines(alloc, files, words, args, assigned, &run),
+        Err(fault) => refuse(files, words, not_run(fault)),
     }
 }

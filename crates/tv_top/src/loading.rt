@@ -53,7 +53,7 @@ fn inputs_with<D: Files>(
         (D.seen files.old) (D.seen files.new) result }
     ensures fit { IfOk result AreInputs }
 {
-    let place = Place { word: 3, name: aux };
+    let place = Place::at(3, aux);
     let below = word_bound(program.width);
     let aux = read_words(alloc, files, place, Size::AuxWords, below, AUX_WORDS)?;
     Ok(Inputs { program, tape, aux })
@@ -74,10 +74,7 @@ fn inputs_on<D: Files>(
         (D.seen files.old) (D.seen files.new) result }
     ensures fit { IfOk result AreInputs }
 {
-    let place = Place {
-        word: 2,
-        name: tape,
-    };
+    let place = Place::at(2, tape);
     let below = word_bound(program.width);
     let tape = read_words(alloc, files, place, Size::TapeWords, below, TAPE_WORDS)?;
     inputs_with(alloc, files, program, tape, aux)

@@ -1,15 +1,27 @@
 //! The names and quantities that words tell, and what they are refused for.
 ghost use Rattle.std.specs.Prelude.{◌≡◌, map};
+ghost use Rattle.tv_core.specs.declared.limits.TheConstants.{STEPS};
+ghost use Rattle.tv_top.specs.declared.refusal.Quantity.TheVariants.{Steps};
 ghost use Rattle.tv_top.specs.Form.{named};
 ghost use Rattle.tv_top.specs.Plan.{same_in, same_of, limit_of, refusal_of};
 
 use crate::refusal::{Quantity, Refusal};
+use tv_core::limits::STEPS;
 
 /// A word that is a file's name.
 #[derive(Clone, Copy)]
 pub(crate) struct Place<'a> {
     pub(crate) word: u32,
     pub(crate) name: &'a str,
+}
+
+impl<'a> Place<'a> {
+    /// The name at a word.
+    pub(crate) fn at(word: u32, name: &'a str) -> Place<'a>
+        ensures { result ≡ record { word = word; name = name.entry } }
+    {
+        Place { word, name }
+    }
 }
 
 /// A file that is to be written.
@@ -26,6 +38,20 @@ pub(crate) struct Amount {
     pub(crate) has: u64,
     pub(crate) least: u64,
     pub(crate) most: u64,
+}
+
+impl Amount {
+    /// The most steps that a run may take, of which there is one at least.
+    pub(crate) fn steps(t: u64) -> Amount
+        ensures { result ≡ record { what = Steps; has = t; least = 1; most = STEPS } }
+    {
+        Amount {
+            what: Quantity::Steps,
+            has: t,
+            least: 1,
+            most: u64::from(STEPS),
+        }
+    }
 }
 
 /// The first name that is the same as this one.

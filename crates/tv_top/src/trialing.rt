@@ -1,5 +1,6 @@
 //! `trial SEED K`: the system of a program drawn from a number, tested on the values of its run.
-ghost use Rattle.std.specs.Prelude.{◌≡◌, ◌^◌, ◌<◌, ◌≤◌, length, Ok, IfOk};
+ghost use Rattle.std.specs.Prelude.{◌≡◌, ◌^◌, ◌<◌, ◌≤◌, length, map, string_bytes};
+ghost use Rattle.std.specs.Prelude.{Some, None, MatchOption, Ok, IfOk};
 ghost use Rattle.tv_benes.specs.declared.shape.Net.TheVariants.{Benes};
 ghost use Rattle.tv_core.specs.declared.limits.TheConstants.{DRAWS};
 ghost use Rattle.tv_layout.specs.Places.{WithinLimits};
@@ -7,8 +8,9 @@ ghost use Rattle.tv_layout.specs.Systems.{system_of, run_values};
 ghost use Rattle.tv_step.specs.Machine.{Accepts};
 ghost use Rattle.tv_step.specs.Range.{AreWords};
 ghost use Rattle.tv_top.specs.Answers.{Answers};
+ghost use Rattle.tv_top.specs.Form.{trial_form};
 ghost use Rattle.tv_top.specs.Plan.{AreWithin, refusal_of};
-ghost use Rattle.tv_top.specs.Trialing.{tested, trial_of, trial_plan};
+ghost use Rattle.tv_top.specs.Trialing.{tested, trial_asks, trial_of};
 
 use crate::place::{Amount, refusal_of};
 use crate::refusal::{Ending, Finish, Quantity, Refusal, Stop, Trial};
@@ -22,6 +24,57 @@ use tv_draw::draw;
 use tv_files::Files;
 use tv_fill::{FillFault, fill_system};
 use tv_layout::{emit_system, sizes};
+use tv_word::decimal_of;
+
+/// The words of `trial`.
+#[derive(Clone, Copy)]
+pub(crate) struct TrialArgs {
+    pub(crate) seed: u64,
+    /// How many instructions are drawn.
+    pub(crate) k: u64,
+}
+
+impl TrialArgs {
+    /// What the words behind the command's name tell.
+    pub(crate) fn read(words: &[String]) -> Option<TrialArgs>
+        ensures { MatchOption result (trial_form (map string_bytes words.now) ≡ None)
+            (λ args. trial_form (map string_bytes words.now) ≡ Some (trial_asks args)) }
+    {
+        let [seed, k] = words else {
+            return None;
+        };
+        Some(TrialArgs {
+            seed: decimal_of(seed.as_bytes())?,
+            k: decimal_of(k.as_bytes())?,
+        })
+    }
+
+    /// What the words are refused for.
+    pub(crate) fn refusal(self) -> Option<Refusal>
+        ensures { let plan = trial_asks self in
+            result ≡ refusal_of plan.reads plan.writes plan.amounts }
+    {
+        let draws = Amount {
+            what: Quantity::Draws,
+            has: self.k,
+            least: 1,
+            most: u64::from(DRAWS),
+        };
+        refusal_of(&[], &[], &[draws])
+    }
+
+    /// Does the command, whose words are so many.
+    pub(crate) fn perform<D: Files>(self, alloc: Global, files: &mut D, words: usize) -> Status
+        requires { AreWithin (trial_asks self).amounts }
+        ensures { Answers (Ok (trial_asks self)) words
+            (D.seen files.old) (D.seen files.new) result }
+    {
+        match trial_of(alloc, self.seed, self.k as u32) {
+            Ok(trial) => finish(files, words, &[], Finish::Trial(trial)),
+            Err(AllocError) => conclude(files, words, Ending::Stopped(Stop::Memory)),
+        }
+    }
+}
 
 /// The values of the system of a run that answers 0 at a step of at most `t`.
 fn values_of(
@@ -77,35 +130,4 @@ fn trial_of(alloc: Global, seed: u64, k: u32) -> Result<Trial, AllocError>
     let tape = drawn.tape.as_slice();
     let values = values_of(alloc, image, tape, drawn.aux.as_slice(), k + 1)?;
     Ok(tested(image, tape.len() as u32, k + 1, values.as_slice()))
-}
-
-/// What the words are refused for.
-pub(crate) fn trial_refusal(seed: u64, k: u64) -> Option<Refusal>
-    ensures { let plan = trial_plan seed k in
-        result ≡ refusal_of plan.reads plan.writes plan.amounts }
-{
-    let draws = Amount {
-        what: Quantity::Draws,
-        has: k,
-        least: 1,
-        most: u64::from(DRAWS),
-    };
-    refusal_of(&[], &[], &[draws])
-}
-
-/// Does the command, whose words are so many.
-pub(crate) fn trial<D: Files>(
-    alloc: Global,
-    files: &mut D,
-    words: usize,
-    seed: u64,
-    k: u64,
-) -> Status
-    requires { AreWithin (trial_plan seed k).amounts }
-    ensures { Answers (Ok (trial_plan seed k)) words (D.seen files.old) (D.seen files.new) result }
-{
-    match trial_of(alloc, seed, k as u32) {
-        Ok(trial) => finish(files, words, &[], Finish::Trial(trial)),
-        Err(AllocError) => conclude(files, words, Ending::Stopped(Stop::Memory)),
-    }
 }

@@ -1,27 +1,87 @@
 //! `witness TEXT TAPE AUX T WITNESS`, which may have one more word, `waksman`: the values of the
 //! wires of a program's system for a run that answers.
-ghost use Rattle.std.specs.Prelude.{◌≡◌, ◌≤◌, [], ◌∷◌, Ok};
-ghost use Rattle.tv_core.specs.declared.limits.TheConstants.{STEPS};
+ghost use Rattle.std.specs.Prelude.{◌≡◌, [], ◌∷◌, map, string_bytes, Ok};
+ghost use Rattle.std.specs.Prelude.{Some, None, MatchOption};
 ghost use Rattle.tv_top.specs.Answers.{Answers};
 ghost use Rattle.tv_top.specs.Contents.{Content.{Values}};
 ghost use Rattle.tv_top.specs.Ends.{Completes, Writes};
+ghost use Rattle.tv_top.specs.Form.{witness_form};
 ghost use Rattle.tv_top.specs.Loading.{AreInputs};
 ghost use Rattle.tv_top.specs.Plan.{AreWithin, refusal_of};
 ghost use Rattle.tv_top.specs.Programs.{bits};
-ghost use Rattle.tv_top.specs.Witnessing.{no_run, witness_ends, witness_writes, witness_plan};
+ghost use Rattle.tv_top.specs.Witnessing.{no_run, witness_asks, witness_ends, witness_writes};
 
+use crate::building::net_word;
 use crate::loading::{Inputs, read_inputs};
 use crate::place::{Amount, Place, refusal_of};
 use crate::programs::Width;
-use crate::refusal::{Cut, Ending, Finish, Quantity, Refusal};
+use crate::refusal::{Cut, Ending, Finish, Refusal};
 use crate::status::Status;
 use crate::writing::{close, conclude, refuse, sink_cut, streamed};
 use std::alloc::Global;
 use tv_benes::Net;
-use tv_core::limits::STEPS;
 use tv_files::Files;
 use tv_fill::{FillFault, Filling, prepare};
+use tv_word::decimal_of;
 use tv_wtns::FileValues;
+
+/// The words of `witness`.
+#[derive(Clone, Copy)]
+pub(crate) struct WitnessArgs<'a> {
+    pub(crate) text: &'a str,
+    pub(crate) tape: &'a str,
+    pub(crate) aux: &'a str,
+    /// The most steps.
+    pub(crate) t: u64,
+    pub(crate) witness: &'a str,
+    pub(crate) net: Net,
+}
+
+impl<'a> WitnessArgs<'a> {
+    /// What the words behind the command's name tell.
+    pub(crate) fn read(words: &'a [String]) -> Option<WitnessArgs<'a>>
+        ensures { MatchOption result (witness_form (map string_bytes words.now) ≡ None)
+            (λ args. witness_form (map string_bytes words.now) ≡ Some (witness_asks args)) }
+    {
+        let [text, tape, aux, t, witness, last @ ..] = words else {
+            return None;
+        };
+        Some(WitnessArgs {
+            net: net_word(last)?,
+            t: decimal_of(t.as_bytes())?,
+            text: text.as_str(),
+            tape: tape.as_str(),
+            aux: aux.as_str(),
+            witness: witness.as_str(),
+        })
+    }
+
+    /// What the words are refused for.
+    pub(crate) fn refusal(self) -> Option<Refusal>
+        ensures { let plan = witness_asks self.entry in
+            result ≡ refusal_of plan.reads plan.writes plan.amounts }
+    {
+        let reads = [
+            Place::at(1, self.text),
+            Place::at(2, self.tape),
+            Place::at(3, self.aux),
+        ];
+        let writes = [Place::at(5, self.witness)];
+        refusal_of(&reads, &writes, &[Amount::steps(self.t)])
+    }
+
+    /// Does the command, whose words are so many.
+    pub(crate) fn perform<D: Files>(self, alloc: Global, files: &mut D, words: usize) -> Status
+        requires { AreWithin (witness_asks self).amounts }
+        ensures { Answers (Ok (witness_asks self.entry)) words
+            (D.seen files.old) (D.seen files.new) result }
+    {
+        match read_inputs(alloc, files, self.text, self.tape, self.aux) {
+            Ok(inputs) => witness_on(alloc, files, words, &inputs, self),
+            Err(stop) => conclude(files, words, Ending::Stopped(stop)),
+        }
+    }
+}
 
 /// Writes the values of a run, as they are given.
 fn write_values<const W: u32, D: Files>(
@@ -63,22 +123,21 @@ fn witness_by<const W: u32, D: Files>(
     files: &mut D,
     words: usize,
     inputs: &Inputs,
-    t: u32,
-    net: Net,
-    name: &str,
+    args: WitnessArgs<'_>,
 ) -> Status
     requires width { W ≡ bits inputs.now.program.width }
     requires inputs { AreInputs inputs.now }
-    requires some { 1 ≤ t }
-    requires few { t ≤ STEPS }
-    ensures { Completes (witness_writes name.now) (witness_ends net t inputs.now) words
+    requires amounts { AreWithin (witness_asks args).amounts }
+    ensures { Completes (witness_writes args.entry.witness.now)
+        (witness_ends args.entry.net args.entry.t inputs.now) words
         (D.seen files.old) (D.seen files.new) result }
 {
     let image = inputs.program.words.as_slice();
     let tape = inputs.tape.as_slice();
-    match prepare::<W>(alloc, image, tape, inputs.aux.as_slice(), t, net) {
+    let aux = inputs.aux.as_slice();
+    match prepare::<W>(alloc, image, tape, aux, args.t as u32, args.net) {
         Ok(filling) => {
-            let written = write_values(files, Place { word: 5, name }, filling);
+            let written = write_values(files, Place::at(5, args.witness), filling);
             close(files, words, written, Finish::Quiet)
         }
         Err(fault) => refuse(files, words, no_run(fault)),
@@ -91,79 +150,16 @@ fn witness_on<D: Files>(
     files: &mut D,
     words: usize,
     inputs: &Inputs,
-    t: u32,
-    net: Net,
-    name: &str,
+    args: WitnessArgs<'_>,
 ) -> Status
     requires inputs { AreInputs inputs.now }
-    requires some { 1 ≤ t }
-    requires few { t ≤ STEPS }
-    ensures { Completes (witness_writes name.now) (witness_ends net t inputs.now) words
+    requires amounts { AreWithin (witness_asks args).amounts }
+    ensures { Completes (witness_writes args.entry.witness.now)
+        (witness_ends args.entry.net args.entry.t inputs.now) words
         (D.seen files.old) (D.seen files.new) result }
 {
     match inputs.program.width {
-        Width::Bits16 => witness_by::<16, D>(alloc, files, words, inputs, t, net, name),
-        Width::Bits32 => witness_by::<32, D>(alloc, files, words, inputs, t, net, name),
-    }
-}
-
-/// What the words are refused for.
-pub(crate) fn witness_refusal(
-    net: Net,
-    text: &str,
-    tape: &str,
-    aux: &str,
-    t: u64,
-    witness: &str,
-) -> Option<Refusal>
-    ensures { let plan = witness_plan net text.now tape.now aux.now t witness.now in
-        result ≡ refusal_of plan.reads plan.writes plan.amounts }
-{
-    let reads = [
-        Place {
-            word: 1,
-            name: text,
-        },
-        Place {
-            word: 2,
-            name: tape,
-        },
-        Place { word: 3, name: aux },
-    ];
-    let steps = Amount {
-        what: Quantity::Steps,
-        has: t,
-        least: 1,
-        most: u64::from(STEPS),
-    };
-    refusal_of(
-        &reads,
-        &[Place {
-            word: 5,
-            name: witness,
-        }],
-        &[steps],
-    )
-}
-
-/// Does the command, whose words are so many.
-pub(crate) fn witness<D: Files>(
-    alloc: Global,
-    files: &mut D,
-    words: usize,
-    net: Net,
-    text: &str,
-    tape: &str,
-    aux: &str,
-    t: u64,
-    witness: &str,
-) -> Status
-    requires { AreWithin (witness_plan net text.now tape.now aux.now t witness.now).amounts }
-    ensures { Answers (Ok (witness_plan net text.now tape.now aux.now t witness.now)) words
-        (D.seen files.old) (D.seen files.new) result }
-{
-    match read_inputs(alloc, files, text, tape, aux) {
-        Ok(inputs) => witness_on(alloc, files, words, &inputs, t as u32, net, witness),
-        Err(stop) => conclude(files, words, Ending::Stopped(stop)),
+        Width::Bits16 => witness_by::<16, D>(alloc, files, words, inputs, args),
+        Width::Bits32 => witness_by::<32, D>(alloc, files, words, inputs, args),
     }
 }

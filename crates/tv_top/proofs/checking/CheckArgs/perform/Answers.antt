@@ -1,7 +1,7 @@
 use Rattle.std.proofs.Common.{refl}
 use Rattle.tv_top.proofs.Answering.{answers_found, answers_stopped}
 use Rattle.tv_top.proofs.CheckingClaim.{finds_once}
-use Rattle.tv_top.proofs.checking.check.Goals as goal
+use Rattle.tv_top.proofs.checking.CheckArgs.perform.Goals as goal
 
 pub returns-in-Ok : goal.returns-in-Ok
 returns-in-Ok g c = answers_found _ _ _ _ _ _ _ _ _ _ refl refl (finds_once _ _ _ _ _ _ c.in-Ok.ensures) c.finish.ensures

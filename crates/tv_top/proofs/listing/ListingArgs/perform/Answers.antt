@@ -5,12 +5,12 @@ use Rattle.tv_top.specs.Listing.{lines_written}
 use Rattle.tv_top.proofs.Answering.{answers_completed, answers_stopped}
 use Rattle.tv_top.proofs.AssignedLaws.{ends_in}
 use Rattle.tv_top.proofs.ProgramLaws.{sizes_apart}
-use Rattle.tv_top.proofs.listing.listing.Goals as goal
+use Rattle.tv_top.proofs.listing.ListingArgs.perform.Goals as goal
 
 pub returns-in-Ok : goal.returns-in-Ok
 returns-in-Ok g c =
     answers_completed _ _ _ _ _ _ _ _ _ _ refl
-    (ends_in is_listing (lines_written c.args.by c.args.n c.args.t (assigned_in c.in-Ok.assigned)) (λ _. refl) (λ _. refl) _) (sizes_apart c.args.n c.args.t) c.in-Ok.ensures.found c.listing_on.ensures
+    (ends_in is_listing (lines_written c.args.self.by c.args.self.n c.args.self.t (assigned_in c.in-Ok.assigned)) (λ _. refl) (λ _. refl) _) (sizes_apart c.args.self.n c.args.self.t) c.in-Ok.ensures.found c.listing_on.ensures
 
 pub returns-in-Err : goal.returns-in-Err
-returns-in-Err g c = answers_stopped _ _ _ _ _ _ _ _ _ _ refl (sizes_apart c.args.n c.args.t) c.in-Err.ensures.found c.conclude.ensures
+returns-in-Err g c = answers_stopped _ _ _ _ _ _ _ _ _ _ refl (sizes_apart c.args.self.n c.args.self.t) c.in-Err.ensures.found c.conclude.ensures

@@ -1,0 +1,10 @@
+use Rattle.std.proofs.Common.{refl}
+use Rattle.tv_top.proofs.Answering.{answers_completed, answers_stopped}
+use Rattle.tv_top.proofs.RunningClaim.{run_apart}
+use Rattle.tv_top.proofs.running.RunArgs.perform.Goals as goal
+
+pub returns-in-Ok : goal.returns-in-Ok
+returns-in-Ok g c = answers_completed _ _ _ _ _ _ _ _ _ _ refl refl (run_apart c.args.self.steps) c.in-Ok.ensures.found c.run_on.ensures
+
+pub returns-in-Err : goal.returns-in-Err
+returns-in-Err g c = answers_stopped _ _ _ _ _ _ _ _ _ _ refl (run_apart c.args.self.steps) c.in-Err.ensures.found c.conclude.ensures
