@@ -97,9 +97,9 @@ fn by_word(word: &str) -> Option<By>
 #[tactic(auto, unfolding(crate::specs::Listing::assigned_text))]
 fn text_of(
     alloc: Global,
-    args: ListingArgs<'_>,
     assigned: &Assignment,
     step: u64,
+    args: ListingArgs<'_>,
 ) -> Result<Vec<u8>, AllocError>
     requires image { HasImage assigned.now.program }
     requires amounts { AreWithin (listing_asks args).amounts }
@@ -121,9 +121,9 @@ fn write_lines<D: Files>(
     alloc: Global,
     files: &mut D,
     words: usize,
-    args: ListingArgs<'_>,
     assigned: &Assignment,
     run: &Run,
+    args: ListingArgs<'_>,
 ) -> Status
     requires image { HasImage assigned.now.program }
     requires amounts { AreWithin (listing_asks args).amounts }
@@ -132,7 +132,7 @@ fn write_lines<D: Files>(
         (lines_written args.entry.by args.entry.n args.entry.t (assigned_in assigned.now) run.now)
         words (D.seen files.old) (D.seen files.new) result }
 {
-    let Ok(text) = text_of(alloc, args, assigned, run.step) else {
+    let Ok(text) = text_of(alloc, assigned, run.step, args) else {
         return conclude(files, words, Ending::Stopped(Stop::Memory));
     };
     let write = Write {
@@ -157,7 +157,7 @@ fn listing_on<D: Files>(
         (D.seen files.old) (D.seen files.new) result }
 {
     match run_of(alloc, assigned, args.n as u32, args.t as u32, Net::Benes) {
-        Ok(run) => write_lines(alloc, files, words, args, assigned, &run),
+        Ok(run) => write_lines(alloc, files, words, assigned, &run, args),
         Err(fault) => refuse(files, words, not_run(fault)),
     }
 }
