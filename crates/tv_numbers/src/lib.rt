@@ -17,9 +17,9 @@ pub fn numbers_stay_in_range()
     ensures { NumbersStayInRange }
 {}
 
-/// The other way round from `numbers_do`: the numbers of a machine's step, from a state in range whose opcode is
-/// used, are in range, and the lines of the step in numbers are those of the machine's step. The
-/// data line has whatever old is handed in.
+/// The other way round from `numbers_do`: the numbers of a machine's step, from a state in range
+/// whose opcode is used, are in range, and the lines of the step in numbers are those of the
+/// machine's step. The data line has whatever old is handed in.
 pub fn machine_shows()
     ensures step { MachineShows }
     ensures view { SeenInRange }

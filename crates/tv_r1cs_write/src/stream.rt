@@ -11,8 +11,9 @@ use tv_files::Files;
 
 /// A sink that writes each constraint to an r1cs file, which is lent to it.
 ///
-/// It takes no memory: it holds fewer than 4,096 bytes, which it appends when there are so many. What
-/// the file begins with counts the constraints and their terms, so these are told before the first.
+/// It takes no memory: it holds fewer than 4,096 bytes, which it appends when there are so many.
+/// What the file begins with counts the constraints and their terms, so these are told before the
+/// first.
 #[derive(Drop)]
 pub struct StreamSink<'a, D: Files> {
     pub(crate) files: &'a mut D,

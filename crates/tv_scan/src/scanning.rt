@@ -89,7 +89,8 @@ pub fn scan_is_sound()
     ensures { ScanIsSound }
 {}
 
-/// Where the line's old word is that one, an assignment that has the values that `fill_scan` gives meets what `scan` put.
+/// Where the line's old word is that one, an assignment that has the values that `fill_scan` gives
+/// meets what `scan` put.
 pub fn scan_is_complete()
     ensures { ScanIsComplete }
 {}

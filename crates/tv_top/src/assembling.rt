@@ -49,7 +49,7 @@ impl<'a> AsmArgs<'a> {
         refusal_of(&[Place::at(1, self.text)], &[Place::at(2, self.image)], &[])
     }
 
-    /// Does the command, whose words are so many.
+    /// Does the command; `words` is the number of words, its name among them.
     pub(crate) fn perform<D: Files>(self, alloc: Global, files: &mut D, words: usize) -> Status
         ensures { Answers (Ok (asm_asks self.entry)) words
             (D.seen files.old) (D.seen files.new) result }

@@ -67,7 +67,7 @@ impl<'a> BuildArgs<'a> {
         )
     }
 
-    /// Does the command, whose words are so many.
+    /// Does the command; `words` is the number of words, its name among them.
     pub(crate) fn perform<D: Files>(self, alloc: Global, files: &mut D, words: usize) -> Status
         requires { AreWithin (build_asks self).amounts }
         ensures { Answers (Ok (build_asks self.entry)) words

@@ -61,7 +61,7 @@ impl<'a> CheckArgs<'a> {
         refusal_of(&reads, &[], &[])
     }
 
-    /// Does the command, whose words are so many.
+    /// Does the command; `words` is the number of words, its name among them.
     pub(crate) fn perform<D: Files>(self, alloc: Global, files: &mut D, words: usize) -> Status
         ensures { Answers (Ok (check_asks self.entry)) words
             (D.seen files.old) (D.seen files.new) result }

@@ -119,8 +119,9 @@ fn answer<D: Files>(alloc: Global, words: &[String], files: &mut D) -> Status
 /// `FileFault` tells the word of the name whose reading or writing failed, as reading does where
 /// there is no such name, or the number of words where saying the line failed. `Memory` comes where
 /// memory ran out; in place of `Usage`, `SameName` and the `Limit` of a number that the words tell,
-/// N, T or K, only where the files wanted it. After either no further file call is made, and the
-/// name that is written has a prefix of its bytes or is as it was. No other file is changed.
+/// N, T or K, only where the files wanted it. After either each name that is to be written has all
+/// of its bytes, a prefix of them, or what it had, and no other file is changed. That no further
+/// file call is made then is tested.
 pub fn command<D: Files>(alloc: Global, words: &[String], files: &mut D) -> Status
     ensures answers { Answers (request_of (form (map string_bytes words.now))) (length words.now)
         (D.seen files.old) (D.seen files.new) result }

@@ -77,7 +77,7 @@ impl<'a> ExtractArgs<'a> {
         )
     }
 
-    /// Does the command, whose words are so many.
+    /// Does the command; `words` is the number of words, its name among them.
     pub(crate) fn perform<D: Files>(self, alloc: Global, files: &mut D, words: usize) -> Status
         requires { AreWithin (extract_asks self).amounts }
         ensures { Answers (Ok (extract_asks self.entry)) words

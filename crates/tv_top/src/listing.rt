@@ -69,7 +69,7 @@ impl<'a> ListingArgs<'a> {
         )
     }
 
-    /// Does the command, whose words are so many.
+    /// Does the command; `words` is the number of words, its name among them.
     pub(crate) fn perform<D: Files>(self, alloc: Global, files: &mut D, words: usize) -> Status
         requires { AreWithin (listing_asks self).amounts }
         ensures { Answers (Ok (listing_asks self.entry)) words

@@ -62,7 +62,7 @@ impl<'a> RunArgs<'a> {
         refusal_of(&reads, &[], &[Amount::steps(self.steps)])
     }
 
-    /// Does the command, whose words are so many.
+    /// Does the command; `words` is the number of words, its name among them.
     pub(crate) fn perform<D: Files>(self, alloc: Global, files: &mut D, words: usize) -> Status
         ensures { Answers (Ok (run_asks self.entry)) words
             (D.seen files.old) (D.seen files.new) result }

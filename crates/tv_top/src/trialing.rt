@@ -63,7 +63,7 @@ impl TrialArgs {
         refusal_of(&[], &[], &[draws])
     }
 
-    /// Does the command, whose words are so many.
+    /// Does the command; `words` is the number of words, its name among them.
     pub(crate) fn perform<D: Files>(self, alloc: Global, files: &mut D, words: usize) -> Status
         requires { AreWithin (trial_asks self).amounts }
         ensures { Answers (Ok (trial_asks self)) words

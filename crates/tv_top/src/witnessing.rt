@@ -70,7 +70,7 @@ impl<'a> WitnessArgs<'a> {
         refusal_of(&reads, &writes, &[Amount::steps(self.t)])
     }
 
-    /// Does the command, whose words are so many.
+    /// Does the command; `words` is the number of words, its name among them.
     pub(crate) fn perform<D: Files>(self, alloc: Global, files: &mut D, words: usize) -> Status
         requires { AreWithin (witness_asks self).amounts }
         ensures { Answers (Ok (witness_asks self.entry)) words
