@@ -161,8 +161,7 @@ fn append_terms(out: &mut Vec<(F, Wire)>, row: &Row<'_>) -> Result<(), AllocErro
 fn number_of(numbers: &[u32], wire: Wire) -> u32
     ensures { result ≡ slice_index numbers.now wire }
 {
-    let at = wire.0 as usize;
-    if at < numbers.len() { numbers[at] } else { 0 }
+    numbers.get(wire.0 as usize).copied().unwrap_or(0)
 }
 
 // Gives each wire the number at its place.
