@@ -57,9 +57,7 @@ fn mark<S: Sink>(s: &mut S, scratch: &mut Scratch, x: &Lc, i: u32) -> Put<()>
     scratch.a.set_wire(w);
     scratch.b.clear();
     scratch.b.plus_terms(x.terms());
-    scratch
-        .b
-        .plus_scaled(-F::ONE, &[(F::of(u64::from(i)), Wire(0))]);
+    scratch.b.plus(-F::from(i), Wire(0));
     scratch.c.clear();
     s.put(&scratch.a, &scratch.b, &scratch.c)
 }

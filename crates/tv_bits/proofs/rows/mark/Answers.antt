@@ -1,9 +1,16 @@
+use Rattle.std.proofs.Common.{◌≡◌, ℕ, ◌-◌, ◌*◌, ◌%◌, ◌<◌, arith}
 use Rattle.tv_core.proofs.TailCalls.{puts_in_then}
+use Rattle.tv_core.specs.declared.field.TheConstants.{P}
 use Rattle.tv_bits.specs.OneHot.{mark_of}
 use Rattle.tv_bits.proofs.rows.mark.Goals as goal
+
+-- a number negated is the number times -1
+negated : (i : ℕ) → i < P → (P - i) % P ≡ (P - 1) * (i % P) % P
+negated i below = omega arith
 
 pub returns-clause-puts : goal.returns-clause-puts
 unfolding mark_of
 returns-clause-puts g c =
-    let zero = rw (c.set_wire.ensures.terms, c.plus_scaled.ensures.terms, c.plus_terms.ensures.terms, c.clear.ensures, c.terms.ensures.terms, c.clear-2.ensures, c.neg.ensures, c.of.ensures, c.from.ensures) at c.put.ensures.puts in
+    let minus = negated c.args.i (omega arith) in
+    let zero = rw (c.set_wire.ensures.terms, c.plus.ensures.terms, c.plus_terms.ensures.terms, c.clear.ensures, c.terms.ensures.terms, c.clear-2.ensures, c.neg.ensures, c.from.ensures, minus) at c.put.ensures.puts in
     puts_in_then g.S.Sink.meaning _ _ _ _ _ _ _ c.fresh-w.ensures.puts zero
