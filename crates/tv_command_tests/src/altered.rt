@@ -1,7 +1,7 @@
 //! Assignments that are no witness of the system they are tried on: what `check` and `extract` make
 //! of them.
 
-use crate::assigned::{COUNT, SIZE, changed, set_values, value_of, values_in, witness_of};
+use crate::assigned::{COUNT, SIZE, alter, changed, set_values, value_of, values_in, witness_of};
 use crate::calling::{BEFORE, CHECK, call, filled, says};
 use std::alloc::Global;
 use std::process::Abort;
@@ -133,9 +133,7 @@ fn judges(rt: &impl Abort, alloc: Global, case: Case<'_>) -> Result<(), Fail> {
     } = case;
     let mut files = filled(rt, alloc, text, tape, n, steps)?;
     files.set("public", case.public.as_bytes())?;
-    for (wire, value) in case.changes {
-        set_values(alloc, &mut files, *wire, &[F::of(*value)])?;
-    }
+    alter(alloc, &mut files, case.changes)?;
     says(rt, alloc, &mut files, CHECK, check.0, check.1)?;
     let words = format!(in alloc; "extract text {n} {steps} witness tape.out aux.out")?;
     says(rt, alloc, &mut files, &words, extract.0, extract.1)?;
@@ -208,7 +206,25 @@ fn is_right_with(
     Ok(right)
 }
 
-// Each private value is raised by 1, and turned where it is a bit. A few wires are free.
+// How many of two other values at a wire are right: its own raised by 1, and 1 without it, which
+// turns a bit.
+fn right_at(
+    rt: &impl Abort,
+    alloc: Global,
+    files: &mut MemFiles,
+    wire: usize,
+) -> Result<u64, Fail> {
+    let was = value_of(files, wire);
+    let mut right = 0_u64;
+    for value in [was + F::ONE, F::ONE - was] {
+        if is_right_with(rt, alloc, files, wire, value)? {
+            right = right.saturating_add(1);
+        }
+    }
+    Ok(right)
+}
+
+// A few of the private wires are free.
 #[test]
 fn what_is_right_has_its_run(rt: HostRuntime) -> Result<(), Fail> {
     let alloc = rt.alloc();
@@ -216,14 +232,9 @@ fn what_is_right_has_its_run(rt: HostRuntime) -> Result<(), Fail> {
     let mut free = 0_u64;
     let mut bound = 0_u64;
     for wire in 2..values_in(&files) {
-        let was = value_of(&files, wire);
-        for value in [was + F::ONE, F::ONE - was] {
-            if is_right_with(&rt, alloc, &mut files, wire, value)? {
-                free = free.saturating_add(1);
-            } else {
-                bound = bound.saturating_add(1);
-            }
-        }
+        let right = right_at(&rt, alloc, &mut files, wire)?;
+        free = free.saturating_add(right);
+        bound = bound.saturating_add(2_u64.saturating_sub(right));
     }
     assert!(rt; free > 0 && bound > 0, "{free} and {bound}");
     says(&rt, alloc, &mut files, CHECK, 0, "yes\n")

@@ -58,6 +58,18 @@ pub(crate) fn set_values(
     Ok(())
 }
 
+/// Sets the values of these wires to these numbers.
+pub(crate) fn alter(
+    alloc: Global,
+    files: &mut MemFiles,
+    changes: &[(usize, u64)],
+) -> Result<(), Fail> {
+    for (wire, value) in changes {
+        set_values(alloc, files, *wire, &[F::of(*value)])?;
+    }
+    Ok(())
+}
+
 /// The value of a wire.
 pub(crate) fn value_of(files: &MemFiles, wire: usize) -> F {
     match witness_of(files).get(place_of(wire)..) {

@@ -69,6 +69,21 @@ pub(crate) fn says(
     Ok(())
 }
 
+/// Sees that a command answers that the file at this word was not read, and says nothing.
+pub(crate) fn lacks(
+    rt: &impl Abort,
+    alloc: Global,
+    files: &mut MemFiles,
+    words: &str,
+    word: u64,
+) -> Result<(), Fail> {
+    let before = files.said_bytes().len();
+    let status = call(alloc, files, words)?;
+    assert_eq!(rt; status, Status::FileFault { word }, "{words}");
+    assert_eq!(rt; files.said_bytes().len(), before, "{words}");
+    Ok(())
+}
+
 /// Files in which a program's system and the values of its run are written.
 pub(crate) fn filled(
     rt: &impl Abort,

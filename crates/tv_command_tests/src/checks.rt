@@ -1,7 +1,7 @@
 //! What `check` answers of files that are told byte by byte, right, malformed and cut.
 
 use crate::assigned::changed;
-use crate::calling::{CHECK, says};
+use crate::calling::{CHECK, lacks, says};
 use std::alloc::Global;
 use std::process::Abort;
 use std::test::Fail;
@@ -102,6 +102,20 @@ fn judges_tapes(rt: HostRuntime) -> Result<(), Fail> {
     Ok(())
 }
 
+#[test]
+fn tells_the_file_that_is_absent(rt: HostRuntime) -> Result<(), Fail> {
+    let mut files = files_of(rt.alloc(), &SYSTEM, &WITNESS)?;
+    files.set("public", b"3")?;
+    for (words, word) in [
+        ("check absent witness public", 1),
+        ("check system absent public", 2),
+        ("check system witness absent", 3),
+    ] {
+        lacks(&rt, rt.alloc(), &mut files, words, word)?;
+    }
+    Ok(())
+}
+
 // What a tape has, and how often, the exit code, and the line.
 const LENGTHS: [(&str, usize, u8, &str); 4] = [
     ("7 ", 262_144, 1, "no: public wire 1\n"),
@@ -115,13 +129,19 @@ const LENGTHS: [(&str, usize, u8, &str); 4] = [
     ),
 ];
 
+// So many times this item.
+fn repeated(alloc: Global, item: &str, count: usize) -> Result<String, Fail> {
+    let mut all = String::new(alloc);
+    for _ in 0..count {
+        all.push_str(item)?;
+    }
+    Ok(all)
+}
+
 #[test]
 fn takes_tapes_up_to_the_limits(rt: HostRuntime) -> Result<(), Fail> {
     for (item, count, code, line) in LENGTHS {
-        let mut tape = String::new(rt.alloc());
-        for _ in 0..count {
-            tape.push_str(item)?;
-        }
+        let tape = repeated(rt.alloc(), item, count)?;
         let mut files = files_of(rt.alloc(), &SYSTEM, &WITNESS)?;
         files.set("public", tape.as_bytes())?;
         says(&rt, rt.alloc(), &mut files, CHECK, code, line)?;
@@ -202,12 +222,18 @@ fn truncated(alloc: Global, file: &str, begins: &[usize], size: usize) -> Result
 }
 
 #[test]
-fn tells_where_a_file_was_cut(rt: HostRuntime) -> Result<(), Fail> {
+fn tells_where_a_system_was_cut(rt: HostRuntime) -> Result<(), Fail> {
     let alloc = rt.alloc();
     for size in 0..SYSTEM.len() {
         let line = truncated(alloc, "system", &[0, 4, 8, 12, 64, 124], size)?;
         answers(&rt, alloc, &SYSTEM[..size], &WITNESS, 5, &line)?;
     }
+    Ok(())
+}
+
+#[test]
+fn tells_where_a_witness_was_cut(rt: HostRuntime) -> Result<(), Fail> {
+    let alloc = rt.alloc();
     for size in 0..WITNESS.len() {
         let line = truncated(alloc, "witness", &[0, 4, 8, 12, 40], size)?;
         answers(&rt, alloc, &SYSTEM, &WITNESS[..size], 6, &line)?;

@@ -68,6 +68,17 @@ fn files(alloc: Global, values: &[u8]) -> Result<MemFiles, Fail> {
     Ok(files)
 }
 
+// Sees that each name that is read holds what it holds where no call fails.
+fn are_kept(rt: &impl Abort, files: &MemFiles, whole: &MemFiles, words: &str, number: u64) {
+    for name in READ {
+        assert_eq!(rt;
+            files.bytes_of(name),
+            whole.bytes_of(name),
+            "{words}: {number}"
+        );
+    }
+}
+
 // Sees what is left where the call with this number fails, given the files that these words leave
 // where none does; and tells the word of the fault.
 fn fails(
@@ -92,13 +103,7 @@ fn fails(
         let begins = whole.bytes_of(name).unwrap_or(&[]).starts_with(held);
         assert!(rt; held == BEFORE || begins, "{words}: {number}");
     }
-    for name in READ {
-        assert_eq!(rt;
-            files.bytes_of(name),
-            whole.bytes_of(name),
-            "{words}: {number}"
-        );
-    }
+    are_kept(rt, &files, whole, words, number);
     Ok(word)
 }
 

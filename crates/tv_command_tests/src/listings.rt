@@ -1,11 +1,10 @@
 //! What `listing` writes of assignments, right and altered, and what it refuses.
 
-use crate::assigned::set_values;
+use crate::assigned::alter;
 use crate::calling::{BEFORE, filled, says};
 use std::alloc::Global;
 use std::process::Abort;
 use std::test::*;
-use tv_core::F;
 use tv_listing::{By, trace_text};
 use tv_step::trace;
 
@@ -104,9 +103,7 @@ fn lists(rt: &impl Abort, alloc: Global, case: Case<'_>) -> Result<(), Fail> {
     } = case;
     let n = if tape.is_empty() { 0 } else { 1 };
     let mut files = filled(rt, alloc, text, tape, n, steps)?;
-    for (wire, value) in case.changes {
-        set_values(alloc, &mut files, *wire, &[F::of(*value)])?;
-    }
+    alter(alloc, &mut files, case.changes)?;
     let words = format!(in alloc; "listing text {n} {steps} witness {by} lines")?;
     says(rt, alloc, &mut files, &words, 0, "")?;
     assert_eq!(rt;

@@ -1,6 +1,6 @@
 //! What the commands refuse, and that nothing is written then.
 
-use crate::calling::{BEFORE, WRITTEN, files_of, line_of};
+use crate::calling::{BEFORE, WRITTEN, files_of, lacks, line_of, says};
 use std::alloc::Global;
 use std::process::Abort;
 use std::test::*;
@@ -212,22 +212,57 @@ fn refuses(rt: &impl Abort, alloc: Global, case: Case<'_>, calls: u64) -> Result
     Ok(())
 }
 
-#[test]
-fn words_are_refused_before_any_file(rt: HostRuntime) -> Result<(), Fail> {
-    for cases in [&NO_COMMANDS, SAME_NAMES.as_slice(), &LIMITS] {
-        for case in cases {
-            refuses(&rt, rt.alloc(), *case, 1)?;
-        }
+// Sees that each of these commands is refused so, after at most so many file calls.
+fn are_refused(rt: &impl Abort, alloc: Global, cases: &[Case<'_>], calls: u64) -> Result<(), Fail> {
+    for case in cases {
+        refuses(rt, alloc, *case, calls)?;
     }
     Ok(())
 }
 
 #[test]
+fn words_are_refused_before_any_file(rt: HostRuntime) -> Result<(), Fail> {
+    are_refused(&rt, rt.alloc(), &NO_COMMANDS, 1)?;
+    are_refused(&rt, rt.alloc(), &SAME_NAMES, 1)?;
+    are_refused(&rt, rt.alloc(), &LIMITS, 1)
+}
+
+#[test]
 fn files_and_runs_are_refused_before_writing(rt: HostRuntime) -> Result<(), Fail> {
-    for cases in [BAD_FILES.as_slice(), &NO_RUNS] {
-        for case in cases {
-            refuses(&rt, rt.alloc(), *case, 7)?;
-        }
+    are_refused(&rt, rt.alloc(), &BAD_FILES, 7)?;
+    are_refused(&rt, rt.alloc(), &NO_RUNS, 7)
+}
+
+// Commands, and the word of the name that each lacks.
+const ABSENT: [(&str, u64); 6] = [
+    ("build absent 0 1 system", 1),
+    ("witness absent tape aux 1 witness", 1),
+    ("witness text absent aux 1 witness", 2),
+    ("witness text tape absent 1 witness", 3),
+    ("extract text 0 1 absent tape.out aux.out", 4),
+    ("listing text 0 1 absent time lines", 4),
+];
+
+#[test]
+fn the_name_that_is_absent_is_told(rt: HostRuntime) -> Result<(), Fail> {
+    let mut files = files(rt.alloc())?;
+    for (words, word) in ABSENT {
+        lacks(&rt, rt.alloc(), &mut files, words, word)?;
+        assert!(rt; are_as_before(&files), "{words}");
     }
+    Ok(())
+}
+
+// `late` answers at its fourth step.
+#[test]
+fn no_witness_is_made_where_the_steps_are_too_few(rt: HostRuntime) -> Result<(), Fail> {
+    let mut files = files(rt.alloc())?;
+    let words = "witness late tape aux 3 fresh";
+    let line = "no run: no answer in 3 steps\n";
+    says(&rt, rt.alloc(), &mut files, words, 10, line)?;
+    assert!(rt; files.bytes_of("fresh").is_none());
+    let words = "witness late tape aux 4 fresh";
+    says(&rt, rt.alloc(), &mut files, words, 0, "")?;
+    assert!(rt; files.bytes_of("fresh").is_some());
     Ok(())
 }

@@ -20,24 +20,16 @@ pub(crate) struct Round<'a> {
     pub(crate) aux_lines: &'a str,
 }
 
-/// Sees that a run is built, filled, found right and extracted, over the network that the last word
-/// tells.
-pub(crate) fn goes_round(
-    rt: &impl Abort,
-    alloc: Global,
-    run: Round<'_>,
-    net: &str,
-) -> Result<(), Fail> {
+// The commands that build, fill, check and extract a run over the network that the last word tells,
+// and what each says.
+fn calls_of(alloc: Global, run: Round<'_>, net: &str) -> Result<[(String, String); 4], Fail> {
     let Round {
         n,
         steps,
         answer,
         ..
     } = run;
-    let mut files = files_of(alloc, run.text, run.tape, run.aux)?;
-    let public = format!(in alloc; "{answer} {}", run.tape)?;
-    files.set("public", public.as_bytes())?;
-    let calls = [
+    Ok([
         (
             format!(in alloc; "build text {n} {steps} system {net}")?,
             String::new(alloc),
@@ -54,8 +46,21 @@ pub(crate) fn goes_round(
             format!(in alloc; "extract text {n} {steps} witness tape.out aux.out {net}")?,
             format!(in alloc; "answer {answer} at step {}\n", run.step)?,
         ),
-    ];
-    for (words, line) in &calls {
+    ])
+}
+
+/// Sees that a run is built, filled, found right and extracted, over the network that the last word
+/// tells.
+pub(crate) fn goes_round(
+    rt: &impl Abort,
+    alloc: Global,
+    run: Round<'_>,
+    net: &str,
+) -> Result<(), Fail> {
+    let mut files = files_of(alloc, run.text, run.tape, run.aux)?;
+    let public = format!(in alloc; "{} {}", run.answer, run.tape)?;
+    files.set("public", public.as_bytes())?;
+    for (words, line) in &calls_of(alloc, run, net)? {
         says(rt, alloc, &mut files, words, 0, line)?;
     }
     assert_eq!(rt;
@@ -109,7 +114,7 @@ const WRAPS: &str = "cjmp 17\njmp 4294967288\nanswer 0";
 // The third instruction becomes `answer 0`.
 const REWRITES: &str = "mov r1, 0xfc000000\nstore.w 16, r1\n.raw 0, 0";
 
-const RUNS: [Round<'static>; 13] = [
+const RUNS: [Round<'static>; 14] = [
     NONE,
     Round { steps: 2, ..NONE },
     Round { steps: 3, ..NONE },
@@ -155,6 +160,13 @@ const RUNS: [Round<'static>; 13] = [
         answer: 4_294_967_295,
         step: 4,
         tape_lines: "4294967295\n",
+        ..NONE
+    },
+    Round {
+        text: "mov r1, 0x80000000\numulh r2, r1, r1\nanswer r2",
+        steps: 3,
+        answer: 1_073_741_824,
+        step: 3,
         ..NONE
     },
     Round {
