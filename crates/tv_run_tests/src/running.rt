@@ -34,15 +34,14 @@ type Case<'a> = (&'a str, &'a str, &'a str, &'a str, u8, &'a str);
 // made.
 fn runs(rt: &impl Abort, alloc: Global, case: Case<'_>) -> Result<(Status, u64), Fail> {
     let (text, tape, aux, steps, code, line) = case;
-    let read = [("text", text), ("tape", tape), ("aux", aux)];
     let mut files = MemFiles::new(alloc);
-    for (name, held) in read {
-        files.set(name, held.as_bytes())?;
-    }
+    files.set("text", text.as_bytes())?;
+    files.set("tape", tape.as_bytes())?;
+    files.set("aux", aux.as_bytes())?;
     let status = call(alloc, &mut files, &["run", "text", "tape", "aux", steps])?;
     assert_eq!(rt; files.said_bytes(), line.as_bytes(), "{line}");
     assert_eq!(rt; status.code(), code, "{line}");
-    for (name, held) in read {
+    for (name, held) in [("text", text), ("tape", tape), ("aux", aux)] {
         assert_eq!(rt; files.bytes_of(name), Some(held.as_bytes()), "{line}");
     }
     Ok((status, files.calls()))
@@ -62,7 +61,7 @@ const WRAPS_16: &str = "; TinyRAM W=16\ncjmp 9\njmp 65532\nanswer 0";
 const READS_16: &str = "; TinyRAM W=16\nread r1, 0\nanswer r1";
 
 // Runs, and how they end.
-const ENDS: [Case<'static>; 20] = [
+const ENDS: [Case<'static>; 21] = [
     (
         ".raw 0xB8000000, 0",
         "",
@@ -72,6 +71,7 @@ const ENDS: [Case<'static>; 20] = [
         "undefined opcode 23 at step 1\n",
     ),
     ("", "", "", "64", 1, "no answer in 64 steps\n"),
+    ("jmp 0", "", "", "65536", 1, "no answer in 65536 steps\n"),
     ("", "", "", "262144", 1, "no answer in 262144 steps\n"),
     (TWO_READS, "", "9 9", "4", 0, "answer 0 at step 4\n"),
     (TWO_READS, "", "9", "4", 0, "answer 9 at step 4\n"),
