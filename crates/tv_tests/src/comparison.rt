@@ -4,8 +4,8 @@ ghost use Rattle.std.specs.Prelude.{◌<◌, ◌^◌};
 ghost use Rattle.tv_word.specs.Widths.{IsWidth};
 
 use crate::inputs::{
-    WORDS, WORDS_16, all_hold, behind_words, first_word, holds, inputs, second_word, signed,
-    with_wire,
+    WORDS, WORDS_16, all_hold, behind_words, first_word, holds, inputs, pairs_of, second_word,
+    signed, with_wire,
 };
 use std::alloc::Global;
 use std::test::Fail;
@@ -100,23 +100,19 @@ fn is_free<const W: u32>(alloc: Global, x: u32, y: u32, constraints: u32) -> Res
 
 #[test]
 fn telling_words_of_32_bits_compare_as_numbers_do(rt: HostRuntime) -> Result<(), Fail> {
-    for x in WORDS {
-        for y in WORDS {
-            assert!(rt; is_right::<32>(rt.alloc(), x, y, 16)?, "{x:x} {y:x}");
-            assert!(rt; !is_free::<32>(rt.alloc(), x, y, 16)?, "{x:x} {y:x}");
-        }
+    for (x, y) in pairs_of(rt.alloc(), &WORDS)? {
+        assert!(rt; is_right::<32>(rt.alloc(), x, y, 16)?, "{x:x} {y:x}");
+        assert!(rt; !is_free::<32>(rt.alloc(), x, y, 16)?, "{x:x} {y:x}");
     }
     Ok(())
 }
 
 #[test]
 fn telling_words_of_16_bits_compare_as_numbers_do(rt: HostRuntime) -> Result<(), Fail> {
-    for x in WORDS_16 {
-        for y in WORDS_16 {
-            let (x, y) = (u32::from(x), u32::from(y));
-            assert!(rt; is_right::<16>(rt.alloc(), x, y, 12)?, "{x:x} {y:x}");
-            assert!(rt; !is_free::<16>(rt.alloc(), x, y, 12)?, "{x:x} {y:x}");
-        }
+    for (x, y) in pairs_of(rt.alloc(), &WORDS_16)? {
+        let (x, y) = (u32::from(x), u32::from(y));
+        assert!(rt; is_right::<16>(rt.alloc(), x, y, 12)?, "{x:x} {y:x}");
+        assert!(rt; !is_free::<16>(rt.alloc(), x, y, 12)?, "{x:x} {y:x}");
     }
     Ok(())
 }

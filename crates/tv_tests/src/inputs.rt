@@ -12,6 +12,23 @@ pub const WORDS: [u32; 7] = [0, 1, 2, 0x7fff_ffff, 0x8000_0000, 0xffff_fffe, 0xf
 /// Those of 16 bits.
 pub const WORDS_16: [u16; 7] = [0, 1, 2, 0x7fff, 0x8000, 0xfffe, 0xffff];
 
+// Appends a word beside each of these.
+fn push_pairs<T: Copy>(pairs: &mut Vec<(T, T)>, x: T, words: &[T]) -> Result<(), AllocError> {
+    for y in words {
+        pairs.push((x, *y))?;
+    }
+    Ok(())
+}
+
+/// Each of these words beside each.
+pub fn pairs_of<T: Copy>(alloc: Global, words: &[T]) -> Result<Vec<(T, T)>, AllocError> {
+    let mut pairs = Vec::new(alloc);
+    for x in words {
+        push_pairs(&mut pairs, *x, words)?;
+    }
+    Ok(pairs)
+}
+
 /// The wires of the first word, which follow wire 0.
 pub fn first_word<const W: u32>() -> Bits
     ensures first { result.first ≡ 1 }

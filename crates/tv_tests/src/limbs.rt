@@ -4,9 +4,10 @@ ghost use Rattle.tv_core.specs.Sinks.{Room};
 ghost use Rattle.tv_word.specs.Widths.{IsWidth};
 
 use crate::inputs::{
-    WORDS, WORDS_16, all_hold, behind_words, first_word, inputs, second_word, spelt,
+    WORDS, WORDS_16, all_hold, behind_words, first_word, inputs, pairs_of, second_word, spelt,
 };
 use std::alloc::Global;
+use std::process::Abort;
 use std::test::Fail;
 use tv_core::{F, ListSink, ListValues, Put, Sink, TestSink, Values};
 use tv_limb::{Split, add, fill_add, fill_split, fill_sub, limbs, split, sub};
@@ -105,17 +106,27 @@ fn is_right<const W: u32>(alloc: Global, gadget: Gadget, x: u32, y: u32) -> Put<
     Ok(held && spells(z, &parts, low, high) && list_holds::<W>(alloc, gadget, z)?)
 }
 
+// Sees that a gadget is right on all pairs of telling words of 32 bits.
+fn holds_over_32_bits(rt: &impl Abort, alloc: Global, gadget: Gadget) -> Result<(), Fail> {
+    for (x, y) in pairs_of(alloc, &WORDS)? {
+        assert!(rt; is_right::<32>(alloc, gadget, x, y)?, "{gadget:?} {x} {y}");
+    }
+    Ok(())
+}
+
 #[test]
 fn gadgets_of_32_bits_hold_over_their_own_values(rt: HostRuntime) -> Result<(), Fail> {
     for gadget in [Gadget::Add, Gadget::Sub, Gadget::Split] {
-        for x in WORDS {
-            for y in WORDS {
-                assert!(rt;
-                    is_right::<32>(rt.alloc(), gadget, x, y)?,
-                    "{gadget:?} {x} {y}"
-                );
-            }
-        }
+        holds_over_32_bits(&rt, rt.alloc(), gadget)?;
+    }
+    Ok(())
+}
+
+// Sees the same on those of 16 bits.
+fn holds_over_16_bits(rt: &impl Abort, alloc: Global, gadget: Gadget) -> Result<(), Fail> {
+    for (x, y) in pairs_of(alloc, &WORDS_16)? {
+        let (x, y) = (u32::from(x), u32::from(y));
+        assert!(rt; is_right::<16>(alloc, gadget, x, y)?, "{gadget:?} {x} {y}");
     }
     Ok(())
 }
@@ -123,15 +134,7 @@ fn gadgets_of_32_bits_hold_over_their_own_values(rt: HostRuntime) -> Result<(), 
 #[test]
 fn gadgets_of_16_bits_hold_over_their_own_values(rt: HostRuntime) -> Result<(), Fail> {
     for gadget in [Gadget::Add, Gadget::Sub, Gadget::Split] {
-        for x in WORDS_16 {
-            for y in WORDS_16 {
-                let (x, y) = (u32::from(x), u32::from(y));
-                assert!(rt;
-                    is_right::<16>(rt.alloc(), gadget, x, y)?,
-                    "{gadget:?} {x} {y}"
-                );
-            }
-        }
+        holds_over_16_bits(&rt, rt.alloc(), gadget)?;
     }
     Ok(())
 }
@@ -149,6 +152,26 @@ fn sums_and_differences_wrap(rt: HostRuntime) -> Result<(), Fail> {
         assert!(rt; spells(z, &parts, low, high), "{gadget:?}");
     }
     Ok(())
+}
+
+// 1, the bits of both words, and the generator's values, with these numbers at wires that are told
+// from the first that the gadget makes.
+fn altered(
+    rt: &impl Abort,
+    alloc: Global,
+    gadget: Gadget,
+    x: u32,
+    y: u32,
+    changes: [(usize, u64); 2],
+) -> Result<Vec<F>, Fail> {
+    let values = assignment::<32>(alloc, gadget, x, y)?;
+    let mut z = values.as_slice().to_vec(alloc)?;
+    for (place, number) in changes {
+        let wire = place.saturating_add(65);
+        assert!(rt; wire < z.len(), "{gadget:?} {x} {y}");
+        z[wire] = F::of(number);
+    }
+    Ok(z)
 }
 
 // Numbers at the wires that a gadget makes, of which one at least is altered.
@@ -173,14 +196,8 @@ fn false_assignments_fail(rt: HostRuntime) -> Result<(), Fail> {
         (Gadget::Split, 5, 0, [(1, 1), (1, 1)]),
         (Gadget::Split, 5, 4, [(32, 0), (33, 1)]),
     ];
-    for (gadget, x, y, altered) in trials {
-        let values = assignment::<32>(rt.alloc(), gadget, x, y)?;
-        let mut z = values.as_slice().to_vec(rt.alloc())?;
-        for (place, number) in altered {
-            let wire: usize = 65 + place;
-            assert!(rt; wire < z.len(), "{gadget:?} {x} {y}");
-            z[wire] = F::of(number);
-        }
+    for (gadget, x, y, changes) in trials {
+        let z = altered(&rt, rt.alloc(), gadget, x, y, changes)?;
         let mut tests = TestSink::over(&z, 65);
         put::<32, TestSink<'_>>(&mut tests, gadget)?;
         assert!(rt; tests.held() < tests.tested(), "{gadget:?} {x} {y}");
@@ -200,10 +217,15 @@ fn are_halves<const W: u32>(alloc: Global, x: u32) -> Put<bool>
 }
 
 #[test]
-fn limbs_are_the_halves(rt: HostRuntime) -> Result<(), Fail> {
+fn limbs_of_32_bits_are_the_halves(rt: HostRuntime) -> Result<(), Fail> {
     for x in WORDS {
         assert!(rt; are_halves::<32>(rt.alloc(), x)?, "{x}");
     }
+    Ok(())
+}
+
+#[test]
+fn limbs_of_16_bits_are_the_halves(rt: HostRuntime) -> Result<(), Fail> {
     for x in WORDS_16 {
         assert!(rt; are_halves::<16>(rt.alloc(), u32::from(x))?, "{x}");
     }

@@ -4,9 +4,10 @@ ghost use Rattle.tv_core.specs.Sinks.{Room};
 ghost use Rattle.tv_word.specs.Widths.{IsWidth};
 
 use crate::inputs::{
-    WORDS, WORDS_16, all_hold, behind_words, first_word, holds, inputs, second_word,
+    WORDS, WORDS_16, all_hold, behind_words, first_word, holds, inputs, pairs_of, second_word,
 };
 use std::alloc::Global;
+use std::process::Abort;
 use std::test::Fail;
 use tv_core::{F, ListSink, ListValues, Put, Sink, TestSink, Wire};
 use tv_logic::{Logic, fill_logic, logic};
@@ -84,21 +85,17 @@ fn is_right<const W: u32>(alloc: Global, x: u32, y: u32, constraints: u32) -> Pu
 
 #[test]
 fn logic_of_32_bits_holds_over_its_own_values(rt: HostRuntime) -> Result<(), Fail> {
-    for x in WORDS {
-        for y in WORDS {
-            assert!(rt; is_right::<32>(rt.alloc(), x, y, 26)?, "{x} {y}");
-        }
+    for (x, y) in pairs_of(rt.alloc(), &WORDS)? {
+        assert!(rt; is_right::<32>(rt.alloc(), x, y, 26)?, "{x} {y}");
     }
     Ok(())
 }
 
 #[test]
 fn logic_of_16_bits_holds_over_its_own_values(rt: HostRuntime) -> Result<(), Fail> {
-    for x in WORDS_16 {
-        for y in WORDS_16 {
-            let (x, y) = (u32::from(x), u32::from(y));
-            assert!(rt; is_right::<16>(rt.alloc(), x, y, 18)?, "{x} {y}");
-        }
+    for (x, y) in pairs_of(rt.alloc(), &WORDS_16)? {
+        let (x, y) = (u32::from(x), u32::from(y));
+        assert!(rt; is_right::<16>(rt.alloc(), x, y, 18)?, "{x} {y}");
     }
     Ok(())
 }
@@ -110,6 +107,25 @@ fn one_and_two_have_no_bit_in_common(rt: HostRuntime) -> Result<(), Fail> {
     let (answer, _) = tested::<32>(z)?;
     assert!(rt; is_logic(z, &answer, [0, 3, 3, 0xffff_fffd]));
     Ok(())
+}
+
+// 1, the bits of both words, and the generator's values, with these wires, told from the first that
+// is made, so much greater.
+fn altered(
+    rt: &impl Abort,
+    alloc: Global,
+    x: u32,
+    y: u32,
+    changes: [(usize, u64); 2],
+) -> Result<Vec<F>, Fail> {
+    let values = assignment::<32>(alloc, x, y)?;
+    let mut z = values.as_slice().to_vec(alloc)?;
+    for (place, more) in changes {
+        let wire = place.saturating_add(65);
+        assert!(rt; wire < z.len(), "{x} {y}");
+        z[wire] = z[wire] + F::of(more);
+    }
+    Ok(z)
 }
 
 // Each wire that the gadget makes, altered, fails, and so does an and that takes from one pair of
@@ -133,14 +149,8 @@ fn false_assignments_fail(rt: HostRuntime) -> Result<(), Fail> {
         (0, 0, [(21, 1), (22, 1)]),
         (1, 1, [(23, 1), (0, 0)]),
     ];
-    for (x, y, altered) in trials {
-        let values = assignment::<32>(rt.alloc(), x, y)?;
-        let mut z = values.as_slice().to_vec(rt.alloc())?;
-        for (place, more) in altered {
-            let wire: usize = 65 + place;
-            assert!(rt; wire < z.len(), "{x} {y}");
-            z[wire] = z[wire] + F::of(more);
-        }
+    for (x, y, changes) in trials {
+        let z = altered(&rt, rt.alloc(), x, y, changes)?;
         assert!(rt; tested::<32>(&z)?.1 < 26, "{x} {y}");
     }
     Ok(())

@@ -5,9 +5,11 @@ ghost use Rattle.tv_core.specs.Sinks.{Room};
 ghost use Rattle.tv_word.specs.Widths.{IsWidth};
 
 use crate::inputs::{
-    WORDS, WORDS_16, all_hold, behind_words, first_word, holds, inputs, second_word, signed, spelt,
+    WORDS, WORDS_16, all_hold, behind_words, first_word, holds, inputs, pairs_of, second_word,
+    signed, spelt,
 };
 use std::alloc::Global;
+use std::process::Abort;
 use std::test::Fail;
 use tv_bits::Bits;
 use tv_core::{F, ListSink, ListValues, Put, Sink, TestSink, Values, Wire};
@@ -176,16 +178,31 @@ fn wanted<const W: u32>(gadget: Gadget, x: u32, y: u32) -> Numbers
     }
 }
 
+// Sees that a gadget gives what is wanted of all pairs of telling words of 32 bits.
+fn gives_over_32_bits(rt: &impl Abort, alloc: Global, gadget: Gadget) -> Result<(), Fail> {
+    for (x, y) in pairs_of(alloc, &WORDS)? {
+        let numbers = wanted::<32>(gadget, x, y);
+        let given = gives::<32>(alloc, gadget, x, y, numbers)?;
+        assert!(rt; given, "{gadget:?} {x} {y}");
+    }
+    Ok(())
+}
+
 #[test]
 fn gadgets_of_32_bits_hold_over_their_own_values(rt: HostRuntime) -> Result<(), Fail> {
     for gadget in GADGETS {
-        for x in WORDS {
-            for y in WORDS {
-                let numbers = wanted::<32>(gadget, x, y);
-                let given = gives::<32>(rt.alloc(), gadget, x, y, numbers)?;
-                assert!(rt; given, "{gadget:?} {x} {y}");
-            }
-        }
+        gives_over_32_bits(&rt, rt.alloc(), gadget)?;
+    }
+    Ok(())
+}
+
+// Sees the same of those of 16 bits.
+fn gives_over_16_bits(rt: &impl Abort, alloc: Global, gadget: Gadget) -> Result<(), Fail> {
+    for (x, y) in pairs_of(alloc, &WORDS_16)? {
+        let (x, y) = (u32::from(x), u32::from(y));
+        let numbers = wanted::<16>(gadget, x, y);
+        let given = gives::<16>(alloc, gadget, x, y, numbers)?;
+        assert!(rt; given, "{gadget:?} {x} {y}");
     }
     Ok(())
 }
@@ -193,14 +210,7 @@ fn gadgets_of_32_bits_hold_over_their_own_values(rt: HostRuntime) -> Result<(), 
 #[test]
 fn gadgets_of_16_bits_hold_over_their_own_values(rt: HostRuntime) -> Result<(), Fail> {
     for gadget in GADGETS {
-        for x in WORDS_16 {
-            for y in WORDS_16 {
-                let (x, y) = (u32::from(x), u32::from(y));
-                let numbers = wanted::<16>(gadget, x, y);
-                let given = gives::<16>(rt.alloc(), gadget, x, y, numbers)?;
-                assert!(rt; given, "{gadget:?} {x} {y}");
-            }
-        }
+        gives_over_16_bits(&rt, rt.alloc(), gadget)?;
     }
     Ok(())
 }

@@ -6,6 +6,7 @@ ghost use Rattle.tv_regs.specs.Reading.{wires_top};
 
 use crate::inputs::{holds, with_wire};
 use std::alloc::Global;
+use std::process::Abort;
 use std::test::Fail;
 use tv_bits::fill_onehot;
 use tv_core::{CountSink, F, Lc, ListValues, Put, Sink, TestSink, Values, Wire};
@@ -119,19 +120,20 @@ fn write_is_right(alloc: Global, number: u32, on: bool, x: u32) -> Put<bool>
     Ok(held == 17 && are_written(z, &made, number, on, x))
 }
 
+// Sees that the writes of a word are right, to each register.
+fn is_written(rt: &impl Abort, alloc: Global, x: u32) -> Result<(), Fail> {
+    for number in 0..16 {
+        let on = write_is_right(alloc, number, true, x)?;
+        let off = write_is_right(alloc, number, false, x)?;
+        assert!(rt; on && off, "{number} {x}: {on} {off}");
+    }
+    Ok(())
+}
+
 #[test]
 fn a_register_is_written_where_on_is_1(rt: HostRuntime) -> Result<(), Fail> {
-    for number in 0..16 {
-        for x in [0, 7, 0xffff_ffff] {
-            assert!(rt;
-                write_is_right(rt.alloc(), number, true, x)?,
-                "{number} {x}"
-            );
-            assert!(rt;
-                write_is_right(rt.alloc(), number, false, x)?,
-                "{number} {x}"
-            );
-        }
+    for x in [0, 7, 0xffff_ffff] {
+        is_written(&rt, rt.alloc(), x)?;
     }
     Ok(())
 }

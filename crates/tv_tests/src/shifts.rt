@@ -2,7 +2,9 @@
 ghost use Rattle.std.specs.Prelude.{◌<◌, ◌^◌};
 ghost use Rattle.tv_word.specs.Widths.{IsWidth};
 
-use crate::inputs::{all_hold, behind_words, first_word, holds, inputs, second_word, with_wire};
+use crate::inputs::{
+    all_hold, behind_words, first_word, holds, inputs, pairs_of, second_word, with_wire,
+};
 use std::alloc::Global;
 use std::test::Fail;
 use tv_core::{F, ListSink, ListValues, Put, TestSink};
@@ -96,23 +98,19 @@ fn is_free<const W: u32>(alloc: Global, x: u32, y: u32, constraints: u32) -> Res
 
 #[test]
 fn shifts_of_32_bits_hold_over_their_own_values_alone(rt: HostRuntime) -> Result<(), Fail> {
-    for x in WORDS {
-        for y in WORDS {
-            assert!(rt; is_right::<32>(rt.alloc(), x, y, 51)?, "{x} {y}");
-            assert!(rt; !is_free::<32>(rt.alloc(), x, y, 51)?, "{x} {y}");
-        }
+    for (x, y) in pairs_of(rt.alloc(), &WORDS)? {
+        assert!(rt; is_right::<32>(rt.alloc(), x, y, 51)?, "{x} {y}");
+        assert!(rt; !is_free::<32>(rt.alloc(), x, y, 51)?, "{x} {y}");
     }
     Ok(())
 }
 
 #[test]
 fn shifts_of_16_bits_hold_over_their_own_values_alone(rt: HostRuntime) -> Result<(), Fail> {
-    for x in WORDS_16 {
-        for y in WORDS_16 {
-            let (x, y) = (u32::from(x), u32::from(y));
-            assert!(rt; is_right::<16>(rt.alloc(), x, y, 28)?, "{x} {y}");
-            assert!(rt; !is_free::<16>(rt.alloc(), x, y, 28)?, "{x} {y}");
-        }
+    for (x, y) in pairs_of(rt.alloc(), &WORDS_16)? {
+        let (x, y) = (u32::from(x), u32::from(y));
+        assert!(rt; is_right::<16>(rt.alloc(), x, y, 28)?, "{x} {y}");
+        assert!(rt; !is_free::<16>(rt.alloc(), x, y, 28)?, "{x} {y}");
     }
     Ok(())
 }
