@@ -87,6 +87,20 @@ fn reads_the_values_in_order(rt: HostRuntime) -> Result<(), Fail> {
     Ok(())
 }
 
+// Sees that these are the values of `many`.
+fn are_those_of_many(rt: &impl Abort, values: &[F])
+    requires { length values.now ≤ 65535 }
+{
+    for (i, value) in values.iter().enumerate() {
+        assert_eq!(rt;
+            value.number(),
+            0x1_0000_0001 * i as u64,
+            "value {i} of {}",
+            values.len()
+        );
+    }
+}
+
 #[test]
 fn reads_more_than_one_piece(rt: HostRuntime) -> Result<(), Fail> {
     let alloc = rt.alloc();
@@ -94,13 +108,7 @@ fn reads_more_than_one_piece(rt: HostRuntime) -> Result<(), Fail> {
         let mut files = files_of(alloc, &many(alloc, count)?)?;
         let values = read_values(alloc, &mut files, "w.wtns")?;
         assert_eq!(rt; values.len(), usize::from(count));
-        for (i, value) in values.iter().enumerate() {
-            assert_eq!(rt;
-                value.number(),
-                0x1_0000_0001 * i as u64,
-                "value {i} of {count}"
-            );
-        }
+        are_those_of_many(&rt, &values);
     }
     Ok(())
 }
@@ -227,6 +235,15 @@ fn each_failing_call_leaves_a_first_part(
     Ok(())
 }
 
+// So many values, which are those of the worked witness over and over.
+fn repeated(alloc: Global, count: u16) -> Result<Vec<F>, Fail> {
+    let mut values = Vec::new(alloc);
+    for i in 0..count {
+        values.push(F::of([1, 3, 5, 15][usize::from(i % 4)]))?;
+    }
+    Ok(values)
+}
+
 #[test]
 fn writes_the_witness_and_others_in_pieces(rt: HostRuntime) -> Result<(), Fail> {
     let alloc = rt.alloc();
@@ -239,10 +256,7 @@ fn writes_the_witness_and_others_in_pieces(rt: HostRuntime) -> Result<(), Fail> 
         (1018, 8196, 4),
     ];
     for (count, size, calls) in table {
-        let mut values = Vec::new(alloc);
-        for i in 0..count {
-            values.push(F::of([1, 3, 5, 15][usize::from(i % 4)]))?;
-        }
+        let values = repeated(alloc, count)?;
         let mut files = MemFiles::new(alloc);
         write(&mut files, &values)?;
         assert_eq!(rt; files.calls(), calls, "{count} values");

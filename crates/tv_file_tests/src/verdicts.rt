@@ -1,5 +1,6 @@
 //! Verdicts on a system of two constraints.
 
+use std::alloc::Global;
 use std::test::*;
 use tv_check::{Verdict, check};
 use tv_container::{ReadRefusal, ReadWhy};
@@ -26,6 +27,15 @@ const SYSTEM: [u8; 216] = [
     2, 0, 0, 0, 0, 0, 0, 0, 3, 0, 0, 0, 0, 0, 0, 0,
 ];
 
+// The residues of these numbers.
+fn residues(alloc: Global, numbers: &[u64]) -> Result<Vec<F>, Fail> {
+    let mut all = Vec::new(alloc);
+    for number in numbers {
+        all.push(F::of(*number))?;
+    }
+    Ok(all)
+}
+
 // The verdict on these values and public numbers, where the system's file has these bytes.
 fn verdict(
     rt: &HostRuntime,
@@ -35,14 +45,8 @@ fn verdict(
 ) -> Result<Result<Verdict, ReadRefusal>, Fail> {
     let mut files = MemFiles::new(rt.alloc());
     files.set("s.r1cs", system)?;
-    let mut z = Vec::new(rt.alloc());
-    for value in values {
-        z.push(F::of(*value))?;
-    }
-    let mut x = Vec::new(rt.alloc());
-    for number in publics {
-        x.push(F::of(*number))?;
-    }
+    let z = residues(rt.alloc(), values)?;
+    let x = residues(rt.alloc(), publics)?;
     Ok(check(rt.alloc(), &mut files, "s.r1cs", &z, &x))
 }
 
