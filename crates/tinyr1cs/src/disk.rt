@@ -121,23 +121,29 @@ fn print(rt: &impl Print, bytes: &[u8]) -> io::Result<()> {
 #[cfg(test)]
 mod tests {
     use super::*;
+    use std::path::PathBuf;
     use std::test::Fail;
     use std::{env, fs, process};
     use tv_files::{MemFiles, slurp, write_file};
     use tv_top::{Status, command};
 
-    #[test]
-    fn keeps_files_as_the_system_does(rt: HostRuntime) -> Result<(), Fail> {
+    // A folder of this process alone, for a test that is called so.
+    fn folder_of(rt: HostRuntime, test: &str) -> Result<PathBuf, Fail> {
         let alloc = rt.alloc();
-        let scratch = format!(in alloc; "tinyr1cs-{}", process::id(rt.process()))?;
+        let scratch = format!(in alloc; "tinyr1cs-{test}-{}", process::id(rt.process()))?;
         let folder = env::temp_dir(&rt)?.join(alloc, scratch.as_str())?;
-        let file = folder.join(alloc, "file")?;
-        let absent = folder.join(alloc, "absent")?;
         fs::create_dir_all(&rt, folder.as_path())?;
+        Ok(folder)
+    }
+
+    // What was appended is read back from any place, also between two appends.
+    #[test]
+    fn reads_back_what_was_appended(rt: HostRuntime) -> Result<(), Fail> {
+        let alloc = rt.alloc();
+        let folder = folder_of(rt, "appended")?;
+        let file = folder.join(alloc, "file")?;
         let name = file.as_str();
         let mut files = DiskFiles::new(alloc, rt, false);
-
-        // What was appended is read back from any place, also between two appends.
         files.create(name)?;
         files.append(name, b"six of ")?;
         assert_eq!(rt;
@@ -151,15 +157,42 @@ mod tests {
             let count = files.read(name, at, &mut piece)?;
             assert_eq!(rt; &piece[..count], rest.as_bytes(), "from {at}");
         }
+        assert_eq!(rt; files.counts(), Counts::new());
+        fs::remove_dir_all(&rt, folder.as_path())?;
+        Ok(())
+    }
 
-        // A file that was put in another's place is the one that is read once it was created.
+    // A file that was put in another's place is the one that is read once it was created.
+    #[test]
+    fn reads_the_file_that_was_created_last(rt: HostRuntime) -> Result<(), Fail> {
+        let alloc = rt.alloc();
+        let folder = folder_of(rt, "created")?;
+        let file = folder.join(alloc, "file")?;
+        let name = file.as_str();
+        let mut files = DiskFiles::new(alloc, rt, false);
+        files.create(name)?;
+        files.append(name, b"six of one")?;
+        assert_eq!(rt;
+            slurp(alloc, &mut files, name, 99)?.as_slice(),
+            b"six of one".as_slice()
+        );
         fs::remove_file(&rt, name)?;
         files.create(name)?;
         assert!(rt; slurp(alloc, &mut files, name, 99)?.is_empty());
         files.say(b"")?;
         assert_eq!(rt; files.counts(), Counts::new());
+        fs::remove_dir_all(&rt, folder.as_path())?;
+        Ok(())
+    }
 
-        // A name that isn't there, and a folder's.
+    // A name that isn't there, and a folder's.
+    #[test]
+    fn refuses_what_is_no_file(rt: HostRuntime) -> Result<(), Fail> {
+        let alloc = rt.alloc();
+        let folder = folder_of(rt, "refused")?;
+        let absent = folder.join(alloc, "absent")?;
+        let mut files = DiskFiles::new(alloc, rt, false);
+        let mut piece = [0; 32];
         for name in [absent.as_str(), folder.as_str()] {
             assert_eq!(rt; files.read(name, 0, &mut piece), Err(FileRefusal::Failed));
             assert_eq!(rt; files.append(name, b"one"), Err(FileRefusal::Failed));
@@ -178,11 +211,9 @@ mod tests {
     #[test]
     fn reads_what_is_there_by_now(rt: HostRuntime) -> Result<(), Fail> {
         let alloc = rt.alloc();
-        let scratch = format!(in alloc; "tinyr1cs-ahead-{}", process::id(rt.process()))?;
-        let folder = env::temp_dir(&rt)?.join(alloc, scratch.as_str())?;
+        let folder = folder_of(rt, "ahead")?;
         let file = folder.join(alloc, "file")?;
         let same = folder.join(alloc, "./file")?;
-        fs::create_dir_all(&rt, folder.as_path())?;
         let name = file.as_str();
         let mut files = DiskFiles::new(alloc, rt, false);
         files.create(name)?;
@@ -255,9 +286,7 @@ mod tests {
     #[test]
     fn commands_do_on_disk_what_they_do_in_memory(rt: HostRuntime) -> Result<(), Fail> {
         let alloc = rt.alloc();
-        let scratch = format!(in alloc; "tinyr1cs-commands-{}", process::id(rt.process()))?;
-        let folder = env::temp_dir(&rt)?.join(alloc, scratch.as_str())?;
-        fs::create_dir_all(&rt, folder.as_path())?;
+        let folder = folder_of(rt, "commands")?;
         let mut disk = DiskFiles::new(alloc, rt, false);
         give(alloc, &mut disk, folder.as_str())?;
         let on_disk = answers(alloc, &mut disk, folder.as_str())?;

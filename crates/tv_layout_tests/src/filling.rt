@@ -77,11 +77,9 @@ fn the_values_of_answer_0_meet_its_system(rt: HostRuntime) -> Result<(), Fail> {
     Ok(())
 }
 
-// Two words that are read and subtracted, with a third behind them; a word that is stored, a byte
-// of it that is stored over, and the word that is loaded; and, with words of 16 bits, a tape that
-// is read past its end.
+// Two words that are read and subtracted, with a third behind them.
 #[test]
-fn the_values_of_reads_and_stores_meet_their_systems(rt: HostRuntime) -> Result<(), Fail> {
+fn the_values_of_reads_meet_their_system(rt: HostRuntime) -> Result<(), Fail> {
     for net in [Net::Benes, Net::Waksman] {
         let given = Given {
             image: &[
@@ -100,6 +98,14 @@ fn the_values_of_reads_and_stores_meet_their_systems(rt: HostRuntime) -> Result<
         };
         let [_, tested, held] = trial::<32>(rt.alloc(), given, net)?;
         assert_eq!(rt; tested, held, "{net:?}");
+    }
+    Ok(())
+}
+
+// A word that is stored, a byte of it that is stored over, and the word that is loaded.
+#[test]
+fn the_values_of_stores_meet_their_system(rt: HostRuntime) -> Result<(), Fail> {
+    for net in [Net::Benes, Net::Waksman] {
         let given = Given {
             image: &[
                 0x9440_0000,
@@ -121,6 +127,14 @@ fn the_values_of_reads_and_stores_meet_their_systems(rt: HostRuntime) -> Result<
         };
         let [_, tested, held] = trial::<32>(rt.alloc(), given, net)?;
         assert_eq!(rt; tested, held, "{net:?}");
+    }
+    Ok(())
+}
+
+// With words of 16 bits, a tape that is read past its end.
+#[test]
+fn the_values_of_reads_past_the_end_meet_their_system(rt: HostRuntime) -> Result<(), Fail> {
+    for net in [Net::Benes, Net::Waksman] {
         let given = Given {
             image: &[0xf440, 0, 0xf480, 0, 0xf4c0, 1, 0xf800, 1],
             tape: &[65_535],

@@ -63,10 +63,15 @@ const RUNS_16: [(&[u32], u64, End); 3] = [
 ];
 
 #[test]
-fn runs_end_as_they_should(rt: HostRuntime) -> Result<(), Fail> {
+fn runs_of_32_bits_end_as_they_should(rt: HostRuntime) -> Result<(), Fail> {
     for (image, steps, end) in RUNS {
         assert_eq!(rt; end_of::<32>(rt.alloc(), image, steps)?, end);
     }
+    Ok(())
+}
+
+#[test]
+fn runs_of_16_bits_end_as_they_should(rt: HostRuntime) -> Result<(), Fail> {
     for (image, steps, end) in RUNS_16 {
         assert_eq!(rt; end_of::<16>(rt.alloc(), image, steps)?, end);
     }

@@ -54,6 +54,14 @@ pub(crate) fn wide(alloc: Global, count: u32) -> Result<Vec<u8>, AllocError> {
     Ok(bytes)
 }
 
+// Appends so many constraints of these bytes.
+fn push_rows(bytes: &mut Vec<u8>, row: &[u8], count: u32) -> Result<(), AllocError> {
+    for _ in 0..count {
+        bytes.extend_from_slice(row)?;
+    }
+    Ok(())
+}
+
 /// A system of public wires: 32,768 constraints of 128 terms each, which aren't linear, and so many
 /// with one term more.
 pub(crate) fn long(alloc: Global, more: u8) -> Result<Vec<u8>, AllocError> {
@@ -64,13 +72,11 @@ pub(crate) fn long(alloc: Global, more: u8) -> Result<Vec<u8>, AllocError> {
     push_sum(&mut row, &wires)?;
     push_sum(&mut row, &wires)?;
     row.extend_from_slice(&[0; 4])?;
-    for _ in 0..32768 {
-        bytes.extend_from_slice(&row)?;
-    }
-    for _ in 0..more {
-        push_sum(&mut bytes, &[1])?;
-        bytes.extend_from_slice(&[0; 8])?;
-    }
+    push_rows(&mut bytes, &row, 32768)?;
+    let mut short = Vec::new(alloc);
+    push_sum(&mut short, &[1])?;
+    short.extend_from_slice(&[0; 8])?;
+    push_rows(&mut bytes, &short, more)?;
     Ok(bytes)
 }
 

@@ -1,6 +1,7 @@
 //! Images and their texts, which assemble to them.
 
 use std::alloc::{AllocError, Global};
+use std::process::Abort;
 use std::test::Fail;
 use tv_asm::{assemble, width};
 use tv_disasm::{DisFault, disassemble};
@@ -125,7 +126,7 @@ fn an_image_has_a_line_for_each_instruction(rt: HostRuntime) {
 }
 
 #[test]
-fn bytes_that_are_no_whole_instructions_are_refused(rt: HostRuntime) {
+fn bytes_that_are_no_instructions_of_32_bits_are_refused(rt: HostRuntime) {
     for len in [1, 4, 7, 12] {
         let image = [0u8; 12];
         match disassemble::<32>(rt.alloc(), &image[..len]) {
@@ -133,6 +134,10 @@ fn bytes_that_are_no_whole_instructions_are_refused(rt: HostRuntime) {
             _ => panic!(rt; "{len} bytes were taken"),
         }
     }
+}
+
+#[test]
+fn bytes_that_are_no_instructions_of_16_bits_are_refused(rt: HostRuntime) {
     for len in [1, 2, 3, 10] {
         let image = [0u8; 12];
         match disassemble::<16>(rt.alloc(), &image[..len]) {
@@ -168,27 +173,30 @@ fn random_image(alloc: Global, seed: u64) -> Result<Vec<u8>, AllocError> {
     Ok(image)
 }
 
+/// Sees that the text of a random image assembles to the image's words.
+fn comes_back(rt: &impl Abort, alloc: Global, seed: u64) -> Result<(), Fail> {
+    let image = random_image(alloc, seed)?;
+    let text = match disassemble::<16>(alloc, &image) {
+        Ok(text) => text,
+        Err(fault) => panic!(rt; "{seed}: {fault}"),
+    };
+    assert_eq!(rt; width(&text), 16, "{seed}");
+    let words = match assemble::<16>(alloc, &text, 2_048) {
+        Ok(words) => words,
+        Err(fault) => panic!(rt; "{seed}: {fault}"),
+    };
+    assert_eq!(rt; words.as_slice().len(), 2_048, "{seed}");
+    for (word, two) in words.as_slice().iter().zip(image.chunks(2)) {
+        let wanted = u32::from(two[0]) + 256 * u32::from(two[1]);
+        assert_eq!(rt; *word, wanted, "{seed}");
+    }
+    Ok(())
+}
+
 #[test]
 fn random_images_come_back(rt: HostRuntime) -> Result<(), Fail> {
     for seed in 1..9 {
-        let image = random_image(rt.alloc(), seed)?;
-        let text = match disassemble::<16>(rt.alloc(), &image) {
-            Ok(text) => text,
-            Err(fault) => panic!(rt; "{seed}: {fault}"),
-        };
-        assert_eq!(rt; width(&text), 16, "{seed}");
-        let words = match assemble::<16>(rt.alloc(), &text, 2_048) {
-            Ok(words) => words,
-            Err(fault) => panic!(rt; "{seed}: {fault}"),
-        };
-        assert_eq!(rt; words.as_slice().len(), 2_048, "{seed}");
-        for (word, two) in words.as_slice().iter().zip(image.chunks(2)) {
-            assert_eq!(rt;
-                *word,
-                u32::from(two[0]) + 256 * u32::from(two[1]),
-                "{seed}"
-            );
-        }
+        comes_back(&rt, rt.alloc(), seed)?;
     }
     Ok(())
 }
