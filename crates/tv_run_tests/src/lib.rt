@@ -5,6 +5,7 @@
 
 #[cfg(test)]
 mod calling;
+pub mod examples;
 #[cfg(test)]
 mod programs;
 #[cfg(test)]

@@ -7,6 +7,7 @@
 mod building;
 #[cfg(test)]
 mod commands;
+pub mod examples;
 #[cfg(test)]
 mod shrinking;
 #[cfg(test)]
