@@ -11,7 +11,8 @@ use Rattle.tv_core.specs.Below.{each_below}
 use Rattle.tv_core.specs.Constraints.{Sat}
 use Rattle.tv_core.specs.Laws.{HasFrom}
 use Rattle.tv_step.proofs.RangeLaws.{word_at}
-use Rattle.tv_step.specs.Machine.{Accepts}
+use Rattle.tv_step.proofs.ReadLaws.{answering_takes_few}
+use Rattle.tv_step.specs.Machine.{start, Accepts}
 use Rattle.tv_step.specs.Range.{AreWords}
 use Rattle.tv_layout.proofs.Ends.{at_place}
 use Rattle.tv_layout.proofs.Fill.{has_by_places, fill_complete}
@@ -20,7 +21,7 @@ use Rattle.tv_layout.proofs.Blocks.{BlockSizes, BlockIsSound, BlockIsComplete}
 use Rattle.tv_layout.specs.Blocks.{BlockCircuit, BlockValues}
 use Rattle.tv_layout.specs.Layout.{layout, taken_of}
 use Rattle.tv_layout.specs.Places.{WithinLimits}
-use Rattle.tv_layout.specs.Reduces.{HasSolution, HasRun, Reduces}
+use Rattle.tv_layout.specs.Reduces.{HasSolution, HasRun, HasShortRun, Reduces}
 use Rattle.tv_layout.specs.Sound.{IsRun}
 use Rattle.tv_layout.specs.Values.{fill}
 
@@ -38,11 +39,15 @@ module _ (w : ℕ) (net : Net) (block : BlockCircuit) (made : ℕ) (values : Blo
   runs z x e has sat =
       layout_sound w net block made sizes law image x z t (subst (λ m. WithinLimits w image m t) (sym e) fits) has (subst (λ m. Sat (layout block w net image m t) z) (sym e) sat)
 
-  only_run : (v : ℕ) (x : List ℕ) → length x ≡ n → HasSolution (layout block w net image n t) (v ∷ x) → HasRun w image x t v
+  only_run : (v : ℕ) (x : List ℕ) → length x ≡ n → HasSolution (layout block w net image n t) (v ∷ x) → HasShortRun w image x t v
   only_run v x e s =
       let has = has_extended s.z 1 (v ∷ x) s.extends.values in
       let run = runs s.z x e has.1 s.sat in
-      record { aux = taken_of block w image (length x) t s.z; words = run.taken; accepts = subst (λ a. Accepts w image x (taken_of block w image (length x) t s.z) t a) has.0 run.accepts }
+      let aux = taken_of block w image (length x) t s.z in
+      record {
+        run = record { aux = aux; words = run.taken; accepts = subst (λ a. Accepts w image x aux t a) has.0 run.accepts };
+        short = subst (λ words. length words < t) run.reads (answering_takes_few w t (start w image x aux) (slice_index s.z 1) run.accepts.0 run.accepts.2);
+      }
 
   where_run : (v : ℕ) (x : List ℕ) → AreWords w x → length x ≡ n → HasRun w image x t v → HasSolution (layout block w net image n t) (v ∷ x)
   where_run v x words e run =

@@ -17,8 +17,8 @@ pub fn systems_are_complete()
 {}
 
 /// A system is a reduction: for each answer and tape it has a solution that extends them exactly
-/// where on some auxiliary tape of words the machine answers so within the steps; and the public
-/// numbers of each solution are words.
+/// where on some auxiliary tape of words the machine answers so within the steps, and then it does
+/// on one of fewer words than steps; and the public numbers of each solution are words.
 pub fn systems_reduce()
     ensures { SystemReduces }
 {}

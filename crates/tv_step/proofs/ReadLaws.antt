@@ -1,13 +1,14 @@
 -- What steps take of the tapes.
-use Rattle.std.proofs.Common.{◌≡◌, ℕ, zero, suc, ◌+◌, ◌-◌, ◌==◌, ◌&&◌, ◌||◌, Bool, true, false, not, cond, nat_lt, List, [], ◌∷◌, ◌++◌, length, take, drop, Some, None, refl, sym, ap, ◌∙◌, subst, arith, add-zero}
-use Rattle.std.specs.Prelude.{if◌then◌else◌, is_some, slice_get, slice_index}
+use Rattle.std.proofs.Common.{◌≡◌, ℕ, zero, suc, ◌+◌, ◌-◌, ◌<◌, ◌≤◌, ◌==◌, ◌&&◌, ◌||◌, Bool, true, false, not, cond, nat_lt, List, [], ◌∷◌, ◌++◌, length, take, drop, Some, None, refl, sym, ap, ◌∙◌, subst, arith, add-zero}
+use Rattle.std.specs.Prelude.{Option, if◌then◌else◌, is_some, slice_get, slice_index}
 use Rattle.std.proofs.lemmas.Bool.{eqb-true, ne_eqb, lt-ltb, le-ltb}
 use Rattle.std.proofs.Math.Seq.{take-append_seam}
 use Rattle.std.proofs.lemmas.List.{get_or-drop, drop-drop, length-append, append_assoc}
+use Rattle.tv_step.proofs.EndLaws.{end_answers}
 use Rattle.tv_step.proofs.RunLaws.{state_next}
 use Rattle.tv_step.specs.Machine.{next, fetched, operand, reg, left_in, state_after}
 use Rattle.tv_step.specs.Ops.{op_of}
-use Rattle.tv_step.specs.Reads.{is_read, reads_aux, word_taken, finds_end, ended_after, words_in, words_taken, IsRest, TapesAreLeft, TakenAreTheFront, TakenByCounts, EndedStays, EndedTakesNothing}
+use Rattle.tv_step.specs.Reads.{is_read, reads_aux, word_taken, finds_end, ended_after, words_in, words_taken, IsRest, TapesAreLeft, TakenAreTheFront, TakenByCounts, EndedStays, EndedTakesNothing, AnsweringTakesFew}
 use Rattle.tv_step.specs.Rows.{row, takes, moves, goes_on, jumps}
 use Rattle.tv_step.specs.State.{State, Next}
 use Rattle.tv_step.specs.declared.op.Op.{Op}
@@ -183,4 +184,48 @@ ended_stays w s t st within e = let whole : s + (t - s) ≡ t = omega arith in a
 pub ended_takes_nothing : EndedTakesNothing
 ended_takes_nothing w t st e = nothing_taken w st (reads_aux w (state_after w t st)) (state_after w t st).aux (ended_empty w st t e)
 
-pub ruleset taken_in_order = (tapes_are_left, taken_are_the_front, taken_by_counts, ended_stays, ended_takes_nothing)
+-- ---- how many words a run that answers takes
+-- a read doesn't answer
+takes_goes : (w : ℕ) (st : State) (i : ℕ) (tape : List ℕ) (rest : List ℕ → State) (v : ℕ) → takes w st i tape rest ≡ Next.Answered v → ⊥
+takes_goes w st i [] rest v e = cc
+takes_goes w st i (u ∷ left) rest v e = cc
+
+reads_goes : (w : ℕ) (st : State) (i v : ℕ) (b c : Bool)
+    → (if b then takes w st i st.primary (λ left. record st { primary = left }) else if c then takes w st i st.aux (λ left. record st { aux = left }) else takes w st i [] (λ _. st)) ≡ Next.Answered v → ⊥
+reads_goes w st i v true c e = takes_goes w st i st.primary (λ left. record st { primary = left }) v e
+reads_goes w st i v false true e = takes_goes w st i st.aux (λ left. record st { aux = left }) v e
+reads_goes w st i v false false e = takes_goes w st i [] (λ _. st) v e
+
+answers_unread : (w : ℕ) (st : State) (op : Op) (i d s a v : ℕ) → row w op st i d s a ≡ Next.Answered v → (is_read op && (a == 1)) ≡ false
+answers_unread w st Read i d s a v e = absurd (reads_goes w st i v (a == 0) (a == 1) e)
+answers_unread w st _ i d s a v e = refl
+
+none_taken : (w : ℕ) (st : State) (v : ℕ) → next w st ≡ Next.Answered v → words_in (word_taken w st) ≡ []
+none_taken w st v e =
+    let i = fetched w st in
+    ap (λ r. words_in (if r then slice_get st.aux 0 else None)) (answers_unread w st (op_of i.op) i.dest (reg st i.dest) (reg st i.source) (operand st i) v e)
+
+at_most_one : (found : Option ℕ) → length (words_in found) ≤ 1
+at_most_one None = omega arith
+at_most_one (Some word) = omega arith
+
+one_a_step : (w t : ℕ) (st : State) → length (words_taken w t st) ≤ t
+one_a_step w zero st = omega arith
+one_a_step w (suc t) st =
+    let found = word_taken w (state_after w t st) in
+    let long = length-append (words_taken w t st) (words_in found) in
+    let before = one_a_step w t st in
+    let one = at_most_one found in
+    omega (arith, long)
+
+pub answering_takes_few : AnsweringTakesFew
+answering_takes_few w zero st v step e = let some = (end_answers w zero st v step e).some in absurd (omega arith)
+answering_takes_few w (suc t) st v step e =
+    let same : suc t - 1 ≡ t = omega arith in
+    let last : next w (state_after w t st) ≡ Next.Answered v = ap (λ k. next w (state_after w k st)) (sym same) ∙ (end_answers w (suc t) st v step e).last in
+    let none = none_taken w (state_after w t st) v last in
+    let long = length-append (words_taken w t st) (words_in (word_taken w (state_after w t st))) ∙ ap (λ words. length (words_taken w t st) + length words) none in
+    let before = one_a_step w t st in
+    omega (arith, long)
+
+pub ruleset taken_in_order = (tapes_are_left, taken_are_the_front, taken_by_counts, ended_stays, ended_takes_nothing, answering_takes_few)

@@ -1,8 +1,9 @@
 -- What a run takes of its tapes.
-use Rattle.std.specs.Prelude.{◌≡◌, ℕ, zero, suc, ◌+◌, ◌-◌, ◌≤◌, ◌==◌, Bool, true, false, not, ◌&&◌, ◌||◌, nat_lt, if◌then◌else◌, List, [], ◌∷◌, ◌++◌, length, take, drop, Option, Some, None, is_some, slice_get, slice_index}
-use Rattle.tv_step.specs.Machine.{fetched, operand, start, state_after}
+use Rattle.std.specs.Prelude.{◌≡◌, ℕ, zero, suc, ◌+◌, ◌-◌, ◌<◌, ◌≤◌, ◌==◌, Bool, true, false, not, ◌&&◌, ◌||◌, nat_lt, if◌then◌else◌, List, [], ◌∷◌, ◌++◌, length, take, drop, Option, Some, None, is_some, slice_get, slice_index}
+use Rattle.tv_step.specs.Machine.{fetched, operand, start, end_of, state_after}
 use Rattle.tv_step.specs.Ops.{op_of}
 use Rattle.tv_step.specs.State.{State}
+use Rattle.tv_step.specs.declared.end.End.TheVariants as ends
 use Rattle.tv_step.specs.declared.op.Op.{Op}
 use Rattle.tv_step.specs.declared.op.Op.TheVariants.{Read}
 
@@ -67,3 +68,7 @@ EndedStays = (w s t : ℕ) (st : State) → s ≤ t → ended_after w s st ≡ t
 
 abbrev pub EndedTakesNothing : Type 0
 EndedTakesNothing = (w t : ℕ) (st : State) → ended_after w t st ≡ true → word_taken w (state_after w t st) ≡ None
+
+-- a run of at most t steps that answers takes fewer than t words
+abbrev pub AnsweringTakesFew : Type 0
+AnsweringTakesFew = (w t : ℕ) (st : State) (v step : ℕ) → end_of w t st ≡ ends.Answer v step → length (words_taken w t st) < t

@@ -6,7 +6,7 @@ ghost use Rattle.tv_step.specs.Cells.{LinesLeaveTheState, LinesAreHonest};
 ghost use Rattle.tv_step.specs.Range.{StartInRange, StepKeepsRange, RunKeepsRange, AnswerIsWord};
 ghost use Rattle.tv_step.specs.Range.{OperandIsWord};
 ghost use Rattle.tv_step.specs.Reads.{TapesAreLeft, TakenAreTheFront, TakenByCounts, EndedStays};
-ghost use Rattle.tv_step.specs.Reads.{EndedTakesNothing};
+ghost use Rattle.tv_step.specs.Reads.{EndedTakesNothing, AnsweringTakesFew};
 ghost use Rattle.tv_step.specs.Runs.{AnswerIsWithin, EndAnswers, LastAnswers, StepsAtTheEnd};
 ghost use Rattle.tv_step.specs.Runs.{StepsAtTheFront, AnswerStays};
 
@@ -42,7 +42,8 @@ pub fn steps_follow()
 
 /// What a run takes of its tapes: what is left is their end, the auxiliary words that are taken
 /// are the front, each told by the counts of words that are gone; the ended bit never falls, and
-/// where it is set nothing is taken.
+/// where it is set nothing is taken; and a run that answers takes fewer words than it may have
+/// steps.
 #[tactic(auto, using(crate::proofs::ReadLaws::taken_in_order))]
 pub fn tapes_are_taken_in_order()
     ensures left { TapesAreLeft }
@@ -50,6 +51,7 @@ pub fn tapes_are_taken_in_order()
     ensures word { TakenByCounts }
     ensures ended { EndedStays }
     ensures nothing { EndedTakesNothing }
+    ensures few { AnsweringTakesFew }
 {}
 
 /// A trace's lines and states, by place: three lines a step, whose times follow, and a state more
