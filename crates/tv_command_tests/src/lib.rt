@@ -13,6 +13,7 @@ mod assigned;
 mod calling;
 #[cfg(test)]
 mod checks;
+pub mod examples;
 #[cfg(test)]
 mod faults;
 #[cfg(test)]
