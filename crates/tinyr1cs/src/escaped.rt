@@ -6,8 +6,7 @@ ghost use Rattle.tinyr1cs.specs.Complaint.{escaped, shown_char};
 
 use std::fmt;
 
-/// A name whose control characters are shown as `\xNN`, so that it breaks neither its line nor a
-/// terminal.
+/// A name whose ASCII control characters are shown as `\xNN`, so that it stays on its line.
 #[derive(Clone, Copy)]
 pub struct Escaped<'a>(pub &'a str);
 

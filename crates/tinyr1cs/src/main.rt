@@ -1,8 +1,8 @@
 //! The program `tinyr1cs`: `tv_top::command` on the words of the command line and the system's
 //! files. What a command promises is `command`'s contract, over any files. Here stand the edge that
 //! isn't proved beyond its counts, `DiskFiles`, and the ends that come before a command: status 8
-//! where the numbers of closed streams can't be kept from files, 14 for a word that isn't UTF-8,
-//! and 9 for want of memory.
+//! where nothing can be opened that keeps the numbers of closed streams from files, 14 for a word
+//! that isn't UTF-8, and 9 for want of memory.
 #![tactic(auto)]
 
 ghost use Rattle.std.specs.Prelude.{◌≡◌};

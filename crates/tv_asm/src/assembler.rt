@@ -21,8 +21,8 @@ use tv_word::Words;
 /// of memory. A text for words of 16 bits is one whose `width` is 16; with 32 its header is
 /// refused.
 ///
-/// The first line at fault is told, by its number from 1: `Bad` with the first reason in the order
-/// of `AsmWhy`, or `TooMany` where its words would be more than `most` with those before. The text
+/// The first line at fault is told, by its number from 1: `Bad` with its first reason, in the order
+/// that `AsmWhy` tells, or `TooMany` where its words would be more than `most` with those before. The text
 /// is walked twice, first for its labels, in time linear in its length: labels are looked up by
 /// their hashes, whose seed is fixed.
 pub fn assemble<const W: u32>(alloc: Global, text: &[u8], most: u32) -> Result<Words, AsmFault>

@@ -25,7 +25,7 @@ unless test at why = if test then wrong at why else Ok tt
 abbrev pub number : List ℕ → ℕ → ℕ → ℕ
 number file size at = spelled (take size (drop at file))
 
--- how many bytes of a file can have a place, which is below 2^64
+-- how many bytes of a file are told by their places: all of them, but for one that is longer than any place
 abbrev pub places : List ℕ → ℕ
 places file = min (length file) (2 ^ 64 - 1)
 

@@ -77,6 +77,7 @@ impl Window {
         ensures some { 0 < result }
         ensures held { Holds self.now at (12 * result) }
         ensures within { at + 12 * result ≤ end }
+        ensures all { Holds self.now at (12 * (result + 1)) → end < at + 12 * (result + 1) }
     {
         let held = self.held as u64 - (at - self.at);
         (held.min(end - at) / 12) as u32

@@ -20,7 +20,7 @@ use tv_word::Words;
 /// or else the first word taken, in the order of steps, that is no word of `W` bits (`WideWire`);
 /// how the run on these words ends where it doesn't answer the word at wire 1 (`NotARun`). A
 /// satisfying assignment has none of these faults. Takes the time of the run and of telling the
-/// system's sizes, and memory for the words.
+/// system's sizes, and memory for the words, twice, and for the machine.
 #[tactic(auto, using(crate::proofs::ExtractLaws::extracted))]
 pub fn extract<const W: u32>(
     alloc: Global,

@@ -1,4 +1,4 @@
-//! The values of a system's wires for a run that answers: the run is made once, its lines are
+//! The values of a system's wires for a run that answers: its trace is made once, its lines are
 //! packed, the settings are found that sort them, and the values follow in the order of the wires.
 #![tactic(auto)]
 

@@ -15,9 +15,9 @@ use crate::rows::LineBits;
 use tv_bits::{fill_bits, fill_zero, new_bits, times, zero};
 use tv_core::{F, Lc, LineNum, Put, Sink, Values, Wire};
 
-/// Holds two lines to follow each other in address order: the cell and then the time of the second
-/// are above those of the first; its old word is the first's new one where the cells are the same,
-/// and else 0. It makes 18 wires and 20 constraints, of 312 terms.
+/// Holds two lines to follow each other in address order: the cell of the second is above that of
+/// the first, or in the same cell its time; its old word is the first's new one where the cells are
+/// the same, and else 0. It makes 18 wires and 20 constraints, of 312 terms.
 pub fn sorted_pair<S: Sink>(s: &mut S, before: &LineBits, after: &LineBits) -> Put<()>
     requires room { Room S.meaning s.old 18 20 }
     requires before_widths { HasWidths before.now }

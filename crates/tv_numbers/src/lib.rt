@@ -19,7 +19,7 @@ pub fn numbers_stay_in_range()
 
 /// The other way round from `numbers_do`: the numbers of a machine's step, from a state in range
 /// whose opcode is used, are in range, and the lines of the step in numbers are those of the
-/// machine's step. The data line has whatever old is handed in.
+/// machine's step. The data line has the old that is handed in, which is 0 for the null cell.
 pub fn machine_shows()
     ensures step { MachineShows }
     ensures view { SeenInRange }

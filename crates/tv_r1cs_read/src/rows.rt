@@ -86,7 +86,11 @@ impl Row {
     ghost use Rattle.tv_r1cs_read.specs.Rows.{terms_in};
 
     /// A row without terms; takes no memory.
-    pub fn new(alloc: Global) -> Row {
+    pub fn new(alloc: Global) -> Row
+        ensures a { result.a ≡ [] }
+        ensures b { result.b ≡ [] }
+        ensures c { result.c ≡ [] }
+    {
         Row {
             a: Terms::new(alloc),
             b: Terms::new(alloc),

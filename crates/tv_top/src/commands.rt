@@ -60,9 +60,9 @@ fn answer<D: Files>(alloc: Global, words: &[String], files: &mut D) -> Status
 /// fault. `disasm IMAGE TEXT` writes the program text of an image of at most 524,288 bytes, and
 /// with one more word, `16`, that of an image of words of 16 bits, of at most 65,536 bytes.
 /// `BadImage` tells their number where they aren't whole instructions of two words. Both say
-/// nothing where they are `Done`, create the file they write once, and append pieces of 4,096 bytes
-/// and one shorter last piece. `SameName` comes before any file call where both words are one name,
-/// and `Limit` where a limit is passed.
+/// nothing where they are `Done`. `SameName` comes before any file call where both words are one
+/// name, and `Limit` where a limit is passed. That the file is created once, and appended to in
+/// pieces of 4,096 bytes and one shorter last piece, is tested.
 ///
 /// `build TEXT N T SYSTEM` writes the system of a program's runs of at most T steps, 1 to 262,144,
 /// on primary tapes of N words, at most 131,072, over Benes' network, or with one more word,
@@ -71,7 +71,7 @@ fn answer<D: Files>(alloc: Global, words: &[String], files: &mut D) -> Status
 /// which may have that word too, reads the three files as `run` does and runs the machine before it
 /// creates its file. Where the machine answers, it writes values that satisfy the system, extend
 /// the answer and the tape, and take the words that the run reads; else `NoRun` tells the run's
-/// end. Both write as they go: `build` takes memory for the program alone, and `witness` some 80
+/// end. Both write as they go: `build` takes memory for the program alone, and `witness` some 85
 /// bytes for each line of the system, beside what the program itself holds. `extract TEXT N T
 /// WITNESS TAPE AUX`, which may have that word too, reads values of the system that `build` would
 /// write, writes the two tapes of their run, and says its answer and the step. `NotARun` tells why
@@ -116,12 +116,13 @@ fn answer<D: Files>(alloc: Global, words: &[String], files: &mut D) -> Status
 /// says nothing where it is `Done`, and takes memory for the values, the lines and their text. All
 /// other words are `Usage`.
 ///
-/// `FileFault` tells the word of the name whose reading or writing failed, as reading does where
-/// there is no such name, or the number of words where saying the line failed. `Memory` comes where
-/// memory ran out; in place of `Usage`, `SameName` and the `Limit` of a number that the words tell,
-/// N, T or K, only where the files wanted it. After either each name that is to be written has all
-/// of its bytes, a prefix of them, or what it had, and no other file is changed. That no further
-/// file call is made then is tested.
+/// `FileFault` tells the word of a name that is read, where a reading failed, as it does where there
+/// is no such name; of one that is written, where a writing failed; or the number of words, where
+/// saying the line failed. `Memory` comes where memory ran out; in place of `Usage`, `SameName` and
+/// the `Limit` of a number that the words tell, N, T or K, only where the files wanted it. After
+/// either each name that is to be written has all of its bytes, a prefix of them, or what it had,
+/// and no other file is changed. That of several names the one that failed is told, and that no
+/// further file call is made then, is tested.
 pub fn command<D: Files>(alloc: Global, words: &[String], files: &mut D) -> Status
     ensures answers { Answers (request_of (form (map string_bytes words.now))) (length words.now)
         (D.seen files.old) (D.seen files.new) result }
