@@ -10,6 +10,7 @@ use crate::line::{Statement, code_of};
 use crate::text::next_line;
 use std::alloc::{AllocError, Global};
 use std::collections::HashMap;
+use tv_word::arithmetic::sum;
 
 /// Where a label is defined first, and the address that it has.
 #[derive(Clone, Copy)]
@@ -99,7 +100,7 @@ fn next_address<const W: u32>(address: u32) -> u32
     requires { IsWidth W }
     ensures { result ≡ (address + W / 4) % 2 ^ W }
 {
-    ((u64::from(address) + u64::from(W / 4)) % (1 << W)) as u32
+    sum::<W>(address, W / 4)
 }
 
 /// Whether a line has an instruction, good or bad.

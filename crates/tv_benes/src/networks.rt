@@ -7,8 +7,9 @@ ghost use Rattle.tv_core.specs.Sinks.{PutsIn, Grows, Room};
 
 use crate::columns::{column, input_column};
 use crate::places::{Inputs, LastItems, Outputs, Row, column_outputs, last_outputs};
-use crate::shape::{Net, power};
+use crate::shape::Net;
 use tv_core::{Put, Sink, Wire};
+use tv_word::arithmetic::power;
 
 /// Benes' network on 2^`k` items, `k` being from 1 to 31. It makes 5 wires and 5 constraints a
 /// switch, of 23 terms where the items are wires; it keeps no list, and asks `inputs` for each item

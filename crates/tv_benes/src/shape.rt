@@ -2,6 +2,8 @@ ghost use Rattle.std.specs.Prelude.{◌≡◌, ◌-◌, ◌^◌, ◌<◌, ◌≤
 ghost use Rattle.tv_benes.specs.Through.{switches, missing};
 ghost use Rattle.tv_benes.specs.declared.shape.Net.TheVariants.{Benes};
 
+use tv_word::arithmetic::power;
+
 /// Which of the two permutation networks.
 #[derive(Clone, Copy, PartialEq, Eq, Debug)]
 pub enum Net {
@@ -55,13 +57,6 @@ pub(crate) fn level_switches(net: Net, h: u32) -> u64
 }
 
 // 2^`h`: how many switches the first column of a network of level `h` has.
-pub(crate) fn power(h: u32) -> u32
-    requires { h < 32 }
-    ensures { result ≡ 2 ^ h }
-{
-    1 << h
-}
-
 pub(crate) fn long_power(h: u32) -> u64
     requires { h < 32 }
     ensures { result ≡ 2 ^ h }

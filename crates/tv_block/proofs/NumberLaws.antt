@@ -12,7 +12,7 @@ use Rattle.tv_cmp.proofs.Flags.{greater_is}
 use Rattle.tv_cmp.specs.Compare.{equal_flag, above_flag, greater_flag}
 use Rattle.tv_numbers.specs.Views.{flag_of}
 use Rattle.tv_shift.specs.Shift.{shifted_left, shifted_right}
-use Rattle.tv_step.specs.Rows.{has_bit}
+use Rattle.tv_word.specs.Word.{has_bit}
 use Rattle.tv_word.proofs.WidthLaws.{for_widths}
 use Rattle.tv_word.specs.Widths.{IsWidth}
 use Rattle.tv_word.specs.Word.{signed}

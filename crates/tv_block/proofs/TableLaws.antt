@@ -25,7 +25,7 @@ use Rattle.tv_regs.proofs.WriteLaws.{write_reg_sound}
 use Rattle.tv_regs.specs.Choices.{group, choose_of, covers, numbers}
 use Rattle.tv_regs.specs.Picking.{pick_of}
 use Rattle.tv_regs.specs.Writing.{written_regs}
-use Rattle.tv_step.specs.Rows.{has_bit}
+use Rattle.tv_word.specs.Word.{has_bit}
 use Rattle.tv_word.proofs.WidthLaws.{width_short}
 use Rattle.tv_word.specs.Twos.{fits}
 use Rattle.tv_word.specs.Widths.{IsWidth}

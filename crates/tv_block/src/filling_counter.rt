@@ -14,6 +14,7 @@ use tv_bits::fill_zero;
 use tv_core::{F, Put, Values, give_values};
 use tv_isa::opcode::{AND, ANSWER, CJMP, CMOV, CNJMP, JMP, READ, STORE_B};
 use tv_step::TraceState;
+use tv_word::arithmetic::sum;
 
 /// Gives the values of the program counter: whether it is at the last instruction, where a jump by
 /// the flag goes, and the counter after the step.
@@ -59,7 +60,7 @@ fn behind<const W: u32>(pc: u32) -> u32
     requires width { IsWidth W }
     ensures { result ≡ behind_pc W pc }
 {
-    ((u64::from(pc) + u64::from(W / 4)) % (1 << W)) as u32
+    sum::<W>(pc, W / 4)
 }
 
 // The place to which a jump goes.

@@ -17,7 +17,7 @@ use tv_isa::opcode::{
 };
 use tv_regs::fill_write_reg;
 use tv_step::TraceState;
-use tv_step::arithmetic::{
+use tv_word::arithmetic::{
     both, carries, difference, differing, either, high_product, high_signed, inverted, is_wide,
     low_product, quotient, remainder, shifted_left, shifted_right, sign_bit, signed_word, sum,
 };

@@ -12,7 +12,7 @@ use tv_bits::{
     prefix_difference,
 };
 use tv_core::{F, Lc, Put, Sink, Values, Wire, give_values};
-use tv_word::{signed, signed16};
+use tv_word::arithmetic::signed_word;
 
 // Words are cut into this many chunks.
 const CHUNKS: u32 = 4;
@@ -192,11 +192,7 @@ fn is_greater<const W: u32>(x: u32, y: u32) -> bool
     requires y_word { y < 2 ^ W }
     ensures { result ≡ int_lt (signed W y) (signed W x) }
 {
-    if W == 16 {
-        signed16(x) > signed16(y)
-    } else {
-        signed(x) > signed(y)
-    }
+    signed_word::<W>(x) > signed_word::<W>(y)
 }
 
 /// Where an assignment meets what `compare` put for bits that spell two words of `W` bits, the

@@ -5,7 +5,8 @@ ghost use Rattle.tv_memory.specs.Memory.{memory_made};
 ghost use Rattle.tv_word.specs.Widths.{IsWidth};
 
 use tv_benes::{Net, routing_switches};
-use tv_layout::{power, wire_costs};
+use tv_layout::wire_costs;
+use tv_word::arithmetic::power;
 
 // How many values a tape of `n` words, `t` steps and 2^`k` lines have.
 pub(crate) fn count_values<const W: u32>(n: u32, t: u32, net: Net, k: u32) -> u32

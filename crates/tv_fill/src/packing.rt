@@ -8,9 +8,9 @@ ghost use Rattle.tv_fill.specs.Filled.{lines_told};
 use std::alloc::{AllocError, Global};
 use tv_core::limits::{NULL_CELL, TAPE_CELLS};
 use tv_core::{Line, PairNum};
-use tv_layout::power;
 use tv_lines::pack_line;
 use tv_step::Lines;
+use tv_word::arithmetic::power;
 
 // 2^`k` lines of a run, packed: those of the image's and the tape's words, those of its steps,
 // which are dropped then, and lines of the null cell.

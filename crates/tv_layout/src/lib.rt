@@ -21,6 +21,6 @@ pub use costs::{Costs, constraint_costs, term_costs, wire_costs};
 pub use emitting::emit_system;
 pub use laws::{systems_are_complete, systems_are_sized, systems_are_sound, systems_reduce};
 pub use lines::line;
-pub use places::{ANSWER, log_of, power, tape_wire};
+pub use places::{ANSWER, log_of, tape_wire};
 pub use sizing::{count_system, sizes};
 pub use spots::spot;

@@ -6,14 +6,7 @@ ghost use Rattle.tv_word.specs.Widths.{IsWidth};
 use crate::costs::wire_costs;
 use tv_core::Wire;
 use tv_core::limits::{STEPS, TAPE_WORDS};
-
-/// 2^`k`, where `k` is below 32.
-pub fn power(k: u32) -> u32
-    requires { k < 32 }
-    ensures { result ≡ 2 ^ k }
-{
-    1 << k
-}
+use tv_word::arithmetic::power;
 
 /// The least k of at least 1 with `count` at most 2^k: a system of `count` lines before padding has
 /// 2^k with it. `count` is at most 2^20, and so k at most 20.

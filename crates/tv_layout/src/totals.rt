@@ -4,8 +4,9 @@ ghost use Rattle.tv_layout.specs.Places.{WithinLimits};
 ghost use Rattle.tv_layout.specs.Sizes.{amounts_of};
 
 use crate::costs::{Amounts, Costs};
-use crate::places::{log_of, power};
+use crate::places::log_of;
 use tv_benes::{Net, routing_switches};
+use tv_word::arithmetic::power;
 
 // How often the parts of a system are there.
 pub(crate) fn amounts<const W: u32>(image: &[u32], n: u32, t: u32, net: Net) -> Amounts

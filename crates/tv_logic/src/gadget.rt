@@ -7,9 +7,10 @@ ghost use Rattle.tv_word.specs.Widths.{IsWidth};
 
 use crate::answers::Logic;
 use crate::flags::{fill_flags, flags};
-use crate::words::{bits_turned, fill_words, words};
+use crate::words::{fill_words, words};
 use tv_bits::Bits;
 use tv_core::{Put, Sink, Values};
+use tv_word::arithmetic::inverted;
 
 /// The bitwise and, or and exclusive or of two words of `W` bits, the complement of the second, and
 /// their zero flags. It makes `W / 2 + 10` wires and constraints: 26 of 461 terms at 32 bits, and
@@ -48,7 +49,7 @@ pub fn fill_logic<const W: u32, V: Values>(v: &mut V, x: u32, y: u32) -> Put<()>
     ensures whole { OnOk result (V.giving.broken v.new ≡ false) }
 {
     fill_words::<W, V>(v, x, y)?;
-    fill_flags(v, x & y, x | y, x ^ y, bits_turned::<W>(y))
+    fill_flags(v, x & y, x | y, x ^ y, inverted::<W>(y))
 }
 
 /// Where the inputs spell words and an assignment meets what `logic` put, its answer has the words

@@ -2,7 +2,7 @@ ghost use Rattle.std.specs.Prelude.{◌≡◌, ◌+◌, ◌-◌, ◌/◌, ◌^�
 ghost use Rattle.tv_core.specs.Combinations.{top};
 ghost use Rattle.tv_core.specs.Giving.{GivesIn};
 ghost use Rattle.tv_core.specs.Sinks.{PutsIn, Grows, Room};
-ghost use Rattle.tv_logic.specs.Words.{bits_turned, hold_of, sum_less, complement, logic_words_of};
+ghost use Rattle.tv_logic.specs.Words.{hold_of, sum_less, complement, logic_words_of};
 ghost use Rattle.tv_logic.specs.Words.{word_values};
 ghost use Rattle.tv_word.specs.Widths.{IsWidth};
 
@@ -10,6 +10,7 @@ use crate::ands::{and_word, fill_and};
 use crate::answers::LogicWords;
 use tv_bits::{Bits, times};
 use tv_core::{F, Lc, Put, Sink, Values, Wire, give_values};
+use tv_word::arithmetic::inverted;
 
 /// The words of the four operations. It makes `W / 2 + 3` wires and constraints.
 pub(crate) fn words<const W: u32, S: Sink>(s: &mut S, x: &Bits, y: &Bits) -> Put<LogicWords>
@@ -86,15 +87,6 @@ fn greatest_word<const W: u32>() -> u32
     u32::MAX >> (32 - W)
 }
 
-// The word with each bit turned.
-pub(crate) fn bits_turned<const W: u32>(x: u32) -> u32
-    requires width { IsWidth W }
-    requires word { x < 2 ^ W }
-    ensures { result ≡ bits_turned W x }
-{
-    greatest_word::<W>() - x
-}
-
 /// Gives the values of the wires that `words` makes.
 pub(crate) fn fill_words<const W: u32, V: Values>(v: &mut V, x: u32, y: u32) -> Put<()>
     requires width { IsWidth W }
@@ -104,6 +96,6 @@ pub(crate) fn fill_words<const W: u32, V: Values>(v: &mut V, x: u32, y: u32) -> 
     ensures whole { OnOk result (V.giving.broken v.new ≡ false) }
 {
     fill_and::<W, V>(v, x & y)?;
-    let others = [F::from(x | y), F::from(x ^ y), F::from(bits_turned::<W>(y))];
+    let others = [F::from(x | y), F::from(x ^ y), F::from(inverted::<W>(y))];
     give_values(v, &others)
 }

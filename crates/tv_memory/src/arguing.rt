@@ -12,6 +12,7 @@ use crate::lines::{Lines, Packed};
 use tv_benes::{Net, Outputs, routing_network};
 use tv_core::{Put, Sink, Wire};
 use tv_lines::{LineBits, first_line, line_bits, sorted_pair, unpack};
+use tv_word::arithmetic::power;
 
 /// Holds 2^`k` lines, `k` being from 1 to 20, that are told in time order to be honest: a
 /// permutation network takes them to address order. It asks for each line once, and takes no
@@ -29,17 +30,9 @@ pub fn memory<S: Sink, L: Lines>(s: &mut S, net: Net, k: u32, lines: &L) -> Put<
 {
     let last = routing_network(s, net, k, &Packed { lines })?;
     let first = Wire(s.wires());
-    let n = line_count(k);
+    let n = power(k);
     unpack_all(s, n, &last)?;
     sort_all(s, n, first)
-}
-
-// 2^`k`: how many lines there are.
-fn line_count(k: u32) -> u32
-    requires { k ≤ 20 }
-    ensures { result ≡ 2 ^ k }
-{
-    1 << k
 }
 
 // The bits of n pairs.

@@ -15,6 +15,7 @@ use tv_bits::{
     prefix_difference,
 };
 use tv_core::{F, Lc, Put, Sink, Values, Wire, give_values};
+use tv_word::arithmetic;
 
 // Words are cut into this many chunks.
 const CHUNKS: u32 = 4;
@@ -164,8 +165,8 @@ fn fill_words<const W: u32, V: Values>(v: &mut V, x: u32, y: u32) -> Put<()>
     ensures gives { GivesIn V.giving v.old v.new (words_values W x y) result }
     ensures whole { OnOk result (V.giving.broken v.new ≡ false) }
 {
-    fill_bits(v, F::from(quotient_in(x, y)), W)?;
-    fill_bits(v, F::from(remainder_in(x, y)), W)
+    fill_bits(v, F::from(arithmetic::quotient::<W>(x, y)), W)?;
+    fill_bits(v, F::from(arithmetic::remainder::<W>(x, y)), W)
 }
 
 // Whether the divisor is 0, and the gate.
@@ -187,22 +188,11 @@ fn fill_above<const W: u32, V: Values>(v: &mut V, x: u32, y: u32) -> Put<()>
     ensures gives { GivesIn V.giving v.old v.new (above_values W x y) result }
     ensures whole { OnOk result (V.giving.broken v.new ≡ false) }
 {
-    let (y, rem) = (u64::from(y), u64::from(remainder_in(x, y)));
+    let rem = u64::from(arithmetic::remainder::<W>(x, y));
+    let y = u64::from(y);
     let above = first_difference(y, rem, W / CHUNKS, CHUNKS);
     fill_bits(v, F::of(above.saturating_sub(1)), W / CHUNKS)?;
     fill_prefix_difference(v, y, rem, F::of(above), W / CHUNKS, CHUNKS)
-}
-
-fn quotient_in(x: u32, y: u32) -> u32
-    ensures { result ≡ quotient_in x y }
-{
-    if y == 0 { 0 } else { x / y }
-}
-
-fn remainder_in(x: u32, y: u32) -> u32
-    ensures { result ≡ remainder_in x y }
-{
-    if y == 0 { 0 } else { x % y }
 }
 
 /// Where bits spell words of `W` bits and an assignment meets what `quotient` put, its wires spell

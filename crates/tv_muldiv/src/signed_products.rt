@@ -12,7 +12,7 @@ use crate::records::High;
 use crate::weighing::{fill_halves, signed_number};
 use tv_bits::{Bits, fill_nonzero, new_bits, nonzero};
 use tv_core::{F, Lc, Put, Sink, Values, Wire};
-use tv_word::{signed, signed16};
+use tv_word::arithmetic::signed_word;
 
 /// Wires that spell the high word of the product of two words of `W` bits as signed numbers, and
 /// one that is 1 exactly where that product lies outside -2^(`W - 1`) .. 2^(`W - 1`) - 1. It makes
@@ -114,11 +114,7 @@ fn signed_product<const W: u32>(x: u32, y: u32) -> i64
     requires y_word { y < 2 ^ W }
     ensures { result ≡ signed_product W x y }
 {
-    if W == 16 {
-        signed16(x) * signed16(y)
-    } else {
-        signed(x) * signed(y)
-    }
+    signed_word::<W>(x) * signed_word::<W>(y)
 }
 
 fn excess_in<const W: u32>(number: u64) -> F

@@ -11,7 +11,7 @@ use Rattle.tv_core.specs.declared.limits.TheConstants.{TAPE_CELLS, NULL_CELL}
 use Rattle.tv_isa.specs.Instruction.{decode}
 use Rattle.tv_isa.specs.declared.instr.Instr.{Instr}
 use Rattle.tv_mem.specs.Bytes.{byte_of}
-use Rattle.tv_step.proofs.ArithmeticLaws.{high_small}
+use Rattle.tv_word.proofs.ArithmeticLaws.{high_small}
 use Rattle.tv_step.proofs.RangeLaws.{word_at, twos_small}
 use Rattle.tv_step.specs.Cells.{IsLine}
 use Rattle.tv_step.specs.Range.{AreWords}

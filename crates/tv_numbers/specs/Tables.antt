@@ -5,9 +5,9 @@
 use Rattle.std.specs.Prelude.{ℕ, ◌+◌, ◌-◌, ◌*◌, ◌/◌, ◌%◌, ◌^◌, Bool, not, ◌==◌, nat_lt, nat_le, int_lt, int_le, ◌*ℤ◌, if◌then◌else◌, List, [], ◌∷◌, bit_and, bit_or, bit_xor}
 use Rattle.tv_isa.specs.Opcodes.{Entry}
 use Rattle.tv_mem.specs.Bytes.{byte_of}
-use Rattle.tv_step.specs.Rows.{word_size, instruction_size, has_bit}
+use Rattle.tv_step.specs.Rows.{word_size, instruction_size}
+use Rattle.tv_word.specs.Word.{has_bit, signed}
 use Rattle.tv_word.specs.Twos.{twos, fits}
-use Rattle.tv_word.specs.Word.{signed}
 use Rattle.tv_numbers.specs.Views.{flag_of}
 
 -- ---- some opcodes

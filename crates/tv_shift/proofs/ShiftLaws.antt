@@ -24,7 +24,8 @@ use Rattle.tv_core.specs.declared.field.TheConstants.{P}
 use Rattle.tv_shift.proofs.HalfLaws.{halves_sound, halves_complete, halves_next}
 use Rattle.tv_shift.proofs.MaskLaws.{low_sound, high_sound, part_complete, masked_next}
 use Rattle.tv_bits.proofs.TimesLaws.{times_sound, times_complete, ratio_sound, ratio_complete}
-use Rattle.tv_shift.proofs.ShiftNumbers.{half_power, half_left-below, half_right-below, chosen_rest, other_is, left_whole, right_whole, right_of, of_right, rest-left, distance_near, distance_far, far_left, far_right, power-small}
+use Rattle.tv_shift.proofs.ShiftNumbers.{half_power, half_left-below, half_right-below, chosen_rest, other_is, left_whole, right_whole, right_of, of_right, rest-left, distance_near, distance_far, power-small}
+use Rattle.tv_word.proofs.ArithmeticLaws.{far_left, far_right}
 use Rattle.tv_shift.proofs.ShiftSizes.{places_next, parts_next, half_next, rest_next, length-places, length-parts}
 use Rattle.tv_shift.proofs.ThermometerLaws.{Marks, thermometer_sound, thermometer_complete, value-power}
 use Rattle.tv_shift.specs.Halves.{chosen_half, other_half, halves_of}

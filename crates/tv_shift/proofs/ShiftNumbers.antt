@@ -1,6 +1,6 @@
 -- Shifts of whole numbers.
 use Rattle.std.proofs.Common.{◌≡◌, ◌≢◌, ℕ, ◌+◌, ◌-◌, ◌*◌, ◌/◌, ◌%◌, ◌^◌, ◌<◌, ◌≤◌, inl, inr, refl, sym, ◌∙◌, ap, ap₂, arith, mod-lt, mod-eq_of_lt}
-use Rattle.std.proofs.Math.Nat.{mul-mod_right, pow-le-pow_right, div-eq_of_lt, div-add-mod, div-le_self, div-div-eq-div-mul, add-mul-mod_self_left, mul-div_cancel_left, mod-le, mul-lt-mul_of_pos_left}
+use Rattle.std.proofs.Math.Nat.{pow-le-pow_right, div-add-mod, div-le_self, div-div-eq-div-mul, add-mul-mod_self_left, mul-div_cancel_left, mod-le, mul-lt-mul_of_pos_left}
 use Rattle.std.proofs.Math.Pow.{mod-mod-pow}
 use Rattle.std.specs.Int.{bit_at}
 use Rattle.tv_bits.proofs.BitLaws.{bit_cases}
@@ -23,16 +23,6 @@ pub products_half : (w : ℕ) → IsWidth w → products_below (half_log w) ≡ 
 products_half w width = ap (λ n. n - 1 - half_log w) (half_power w width)
 
 -- ---- shifts
--- a shift by a word's width or more is 0
-pub far_left : (w x y : ℕ) → w ≤ y → x * 2 ^ y % 2 ^ w ≡ 0
-far_left w x y far =
-    let whole : w + (y - w) ≡ y = omega arith in
-    let moved : x * (2 ^ w * 2 ^ (y - w)) ≡ 2 ^ w * (x * 2 ^ (y - w)) = omega arith in
-    ap (λ n. n % 2 ^ w) (ap (λ k. x * k) (ap (λ k. 2 ^ k) (sym whole) ∙ pow-add 2 w (y - w)) ∙ moved) ∙ mul-mod_right (2 ^ w) (x * 2 ^ (y - w))
-
-pub far_right : (w x y : ℕ) → x < 2 ^ w → w ≤ y → x / 2 ^ y ≡ 0
-far_right w x y small far = let more : 2 ^ w ≤ 2 ^ y = pow-le-pow_right (omega arith) far in div-eq_of_lt (omega arith)
-
 -- a word shifted to the left keeps its low bits
 pub left_low : (w s x : ℕ) → s ≤ w → x * 2 ^ s % 2 ^ w ≡ 2 ^ s * (x % 2 ^ (w - s))
 left_low w s x short =

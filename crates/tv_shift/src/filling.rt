@@ -11,6 +11,7 @@ use crate::masks::{Part, fill_masked, half_log};
 use crate::thermometer::fill_thermometer;
 use tv_bits::{fill_bits, fill_zero};
 use tv_core::{F, Put, Values, give_values};
+use tv_word::arithmetic::{shifted_left, shifted_right};
 
 /// Gives the values of the wires that `shift` makes for the words `x` and `y` of `W` bits.
 pub fn fill_shift<const W: u32, V: Values>(v: &mut V, x: u32, y: u32) -> Put<()>
@@ -99,23 +100,4 @@ fn ends_values<const W: u32>(x: u32, y: u32) -> [F; 4]
         F::from(shifted_left::<W>(left, rest_of::<W>(y))),
         F::from(shifted_right::<W>(right, rest_of::<W>(y))),
     ]
-}
-
-fn shifted_left<const W: u32>(x: u32, y: u32) -> u32
-    requires width { IsWidth W }
-    ensures { result ≡ shifted_left W x y }
-{
-    if y < W {
-        ((u64::from(x) << y) % (1 << W)) as u32
-    } else {
-        0
-    }
-}
-
-fn shifted_right<const W: u32>(x: u32, y: u32) -> u32
-    requires width { IsWidth W }
-    requires word { x < 2 ^ W }
-    ensures { result ≡ shifted_right x y }
-{
-    if y < W { x >> y } else { 0 }
 }

@@ -9,6 +9,7 @@ ghost use Rattle.tv_shift.specs.Thermometer.{power_of};
 
 use tv_bits::times;
 use tv_core::{F, Lc, Put, Sink, Values, Wire};
+use tv_word::arithmetic::power;
 
 // Wires of marks: of the bits that they are of, and of the products that they need.
 #[derive(Clone, Copy)]
@@ -72,14 +73,6 @@ impl Marks {
             lc.plus(c, self.products.offset(marks - 1 - k + j));
         }
     }
-}
-
-// 2^k
-pub(crate) fn power(k: u32) -> u32
-    requires { k < 32 }
-    ensures { result ≡ 2 ^ k }
-{
-    1 << k
 }
 
 // 2^s as a combination, s being the number that the `k` low bits spell.

@@ -1,4 +1,3 @@
-pub mod ArithmeticLaws
 pub mod CellLaws
 pub mod EndLaws
 pub mod Examples

@@ -14,7 +14,7 @@ use Rattle.tv_word.proofs.WidthLaws.{for_widths}
 use Rattle.tv_word.specs.Twos.{twos}
 use Rattle.tv_word.specs.Widths.{IsWidth}
 use Rattle.tv_word.specs.Word.{signed}
-use Rattle.tv_step.proofs.ArithmeticLaws.{high_small}
+use Rattle.tv_word.proofs.ArithmeticLaws.{high_small}
 use Rattle.tv_step.proofs.RunLaws.{state_next}
 use Rattle.tv_step.specs.Machine.{next, fetched, operand, reg, left_in, state_after}
 use Rattle.tv_step.specs.Ops.{op_of}

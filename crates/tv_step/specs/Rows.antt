@@ -3,7 +3,7 @@
 use Rattle.std.specs.Prelude.{ℕ, ◌+◌, ◌-◌, ◌*◌, ◌/◌, ◌%◌, ◌^◌, Bool, true, false, not, ◌==◌, nat_lt, nat_le, if◌then◌else◌, List, [], ◌∷◌, ◌*ℤ◌, int_lt, int_le, bit_and, bit_or, bit_xor, slice_set}
 use Rattle.tv_mem.specs.Bytes.{Bytes, with_byte, with_word, word_in}
 use Rattle.tv_word.specs.Twos.{twos, fits}
-use Rattle.tv_word.specs.Word.{signed}
+use Rattle.tv_word.specs.Word.{has_bit, signed}
 use Rattle.tv_step.specs.State.{State, Next}
 use Rattle.tv_step.specs.declared.op.Op.{Op}
 use Rattle.tv_step.specs.declared.op.Op.TheVariants.{And, Or, Xor, Not, Add, Sub, Mull, Umulh, Smulh, Udiv, Umod, Shl, Shr, Cmpe, Cmpa, Cmpae, Cmpg, Cmpge, Mov, Cmov, Jmp, Cjmp, Cnjmp, StoreB, LoadB, StoreW, LoadW, Read, Answer, Unused}
@@ -59,10 +59,6 @@ reads w st i a =
     if a == 0 then takes w st i st.primary (λ left. record st { primary = left })
     else if a == 1 then takes w st i st.aux (λ left. record st { aux = left })
     else takes w st i [] (λ _. st)
-
--- whether bit number n of a word is 1
-abbrev pub has_bit : ℕ → ℕ → Bool
-has_bit n v = v / 2 ^ n % 2 == 1
 
 -- what comes of an instruction
 abbrev pub row : ℕ → Op → State → ℕ → ℕ → ℕ → ℕ → Next

@@ -2,6 +2,7 @@ ghost use Rattle.std.specs.Prelude.{◌≡◌, ◌+◌, ◌-◌, ◌/◌, ◌%�
 ghost use Rattle.tv_word.specs.Widths.{IsWidth};
 
 use std::marker::Model;
+use tv_word::arithmetic::sum;
 
 /// The program counter: an address of an instruction, so a multiple of its size, `W / 4` bytes.
 /// Contracts see the address.
@@ -45,9 +46,8 @@ impl<const W: u32> Counter<W> {
         requires width { IsWidth W }
         ensures { result ≡ (self.entry + W / 4) % 2 ^ W }
     {
-        let address = u64::from(self.address) + u64::from(W / 4);
         Counter {
-            address: (address % (1 << W)) as u32,
+            address: sum::<W>(self.address, W / 4),
         }
     }
 

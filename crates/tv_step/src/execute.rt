@@ -9,10 +9,6 @@ ghost use Rattle.tv_step.specs.Rows.{row, gives, logic, tests, goes_on, jumps, s
 ghost use Rattle.tv_step.specs.State.{Next};
 ghost use Rattle.tv_step.specs.Views.{state_of, CameTo};
 
-use crate::arithmetic::{
-    both, carries, difference, differing, either, high_product, high_signed, inverted, is_wide,
-    low_product, quotient, remainder, shifted_left, shifted_right, sign_bit, signed_word, sum,
-};
 use crate::counter::Counter;
 use crate::end::Outcome;
 use crate::op::{Op, op_of};
@@ -20,6 +16,10 @@ use crate::state::Machine;
 use std::alloc::AllocError;
 use tv_isa::Instr;
 use tv_tape::Tape;
+use tv_word::arithmetic::{
+    both, carries, difference, differing, either, high_product, high_signed, inverted, is_wide,
+    low_product, quotient, remainder, shifted_left, shifted_right, sign_bit, signed_word, sum,
+};
 
 impl<const W: u32> Machine<W> {
     // Register `i` gets `value`, and the flag is `flag`.

@@ -1,9 +1,8 @@
 //! The machine, with words of `W` bits, 16 or 32: its state, one step by the table of the 29
 //! instructions, and runs. `step` is the definition `next` and `run` its iteration `end_of`, for
-//! every state; the commands above call `run`, and the layout is built over `trace`.
+//! every state; the commands above call `run`, and the values of a system are filled from `trace`.
 #![tactic(auto)]
 
-pub mod arithmetic;
 mod counter;
 mod end;
 mod execute;

@@ -1,3 +1,4 @@
+pub mod ArithmeticLaws
 pub mod ByteLaws
 pub mod DecimalLemmas
 pub mod NumeralLemmas

@@ -1,9 +1,13 @@
 -- Machine words of w bits, w a multiple of 8, as numbers below 2 ^ w and as bytes.
-use Rattle.std.specs.Prelude.{ℕ, zero, suc, ◌+◌, ◌-◌, ◌*◌, ◌/◌, ◌%◌, ◌^◌, List, [], ◌∷◌, take, drop, ℤ, pos, ◌-ℤ◌, nat_lt, if◌then◌else◌}
+use Rattle.std.specs.Prelude.{ℕ, zero, suc, ◌+◌, ◌-◌, ◌*◌, ◌/◌, ◌%◌, ◌^◌, Bool, ◌==◌, List, [], ◌∷◌, take, drop, ℤ, pos, ◌-ℤ◌, nat_lt, if◌then◌else◌}
 
 -- a word as a signed number, in two's complement
 abbrev pub signed : ℕ → ℕ → ℤ
 signed w v = if nat_lt v (2 ^ (w - 1)) then pos v else pos v -ℤ pos (2 ^ w)
+
+-- whether bit number n of a word is 1
+abbrev pub has_bit : ℕ → ℕ → Bool
+has_bit n v = v / 2 ^ n % 2 == 1
 
 -- the number that bytes spell, the lowest first
 abbrev pub spelled : List ℕ → ℕ

@@ -15,5 +15,5 @@ returns-in_err-fill_words-clause-gives g c =
 
 pub returns-clause-gives : goal.returns-clause-gives
 returns-clause-gives g c =
-    let flags = rw c.bits_turned.ensures at c.fill_flags.ensures.gives in
+    let flags = rw c.inverted.ensures.word at c.fill_flags.ensures.gives in
     gives_in_then g.V.Values.giving _ _ _ _ _ _ c.in_ok-fill_words.ensures.gives flags

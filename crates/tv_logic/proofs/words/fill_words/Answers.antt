@@ -14,5 +14,5 @@ returns-in_err-fill_and-clause-gives g c =
 
 pub returns-clause-gives : goal.returns-clause-gives
 returns-clause-gives g c =
-    let rest = rw (c.from.ensures, c.from-2.ensures, c.from-3.ensures, c.bits_turned.ensures) at c.give_values.ensures.gives in
+    let rest = rw (c.from.ensures, c.from-2.ensures, c.from-3.ensures, c.inverted.ensures.word) at c.give_values.ensures.gives in
     gives_in_then g.V.Values.giving _ _ _ _ _ _ c.in_ok-fill_and.ensures.gives rest

@@ -20,7 +20,7 @@ pub returns-in_err-unpack_all-clause-puts : goal.returns-in_err-unpack_all-claus
 unfolding level_of
 returns-in_err-unpack_all-clause-puts g c =
     let m = g.S.Sink.meaning in
-    let size : c.line_count-n.result ≡ 2 ^ suc (c.args.k - 1) = c.line_count-n.ensures ∙ ap (λ n. 2 ^ n) (let same : c.args.k ≡ suc (c.args.k - 1) = omega arith in same) in
+    let size : c.power-n.result ≡ 2 ^ suc (c.args.k - 1) = c.power-n.ensures ∙ ap (λ n. 2 ^ n) (let same : c.args.k ≡ suc (c.args.k - 1) = omega arith in same) in
     let bits = rw size at c.in_err-unpack_all.ensures.puts in
     refused m _ _ _ c.from_residual-in_err-unpack_all.result c.from_residual-in_err-unpack_all.ensures.1
     (puts_then_refused m _ _ _ _ _ _ _ c.in_ok-last.ensures.puts (puts_then_refused m here _ _ _ _ _ _ (puts_here_as m _ c.wires.result c.wires.ensures) (refused_then m _ _ _ _ _ bits)))
@@ -29,7 +29,7 @@ pub returns-clause-puts : goal.returns-clause-puts
 unfolding level_of
 returns-clause-puts g c =
     let m = g.S.Sink.meaning in
-    let size : c.line_count-n.result ≡ 2 ^ suc (c.args.k - 1) = c.line_count-n.ensures ∙ ap (λ n. 2 ^ n) (let same : c.args.k ≡ suc (c.args.k - 1) = omega arith in same) in
+    let size : c.power-n.result ≡ 2 ^ suc (c.args.k - 1) = c.power-n.ensures ∙ ap (λ n. 2 ^ n) (let same : c.args.k ≡ suc (c.args.k - 1) = omega arith in same) in
     let bits = rw size at c.in_ok-unpack_all.ensures.puts in
     let sorted = rw size at c.sort_all.ensures.puts in
     puts_in_then m _ _ _ _ _ _ _ c.in_ok-last.ensures.puts

@@ -22,5 +22,5 @@ returns-clause-gives g c =
     let m = g.V.Values.giving in
     let near = rw c.ends_values.ensures at c.in_ok-give_values.ensures.gives in
     let zero = rw (c.from.ensures, c.half_log.ensures) at c.in_ok-fill_zero.ensures.gives in
-    let ends = rw (c.from-2.ensures, c.from-3.ensures, c.shifted_left.ensures, c.shifted_right.ensures) at c.give_values-2.ensures.gives in
+    let ends = rw (c.from-2.ensures, c.from-3.ensures, c.shifted_left.ensures.plain, c.shifted_right.ensures.plain) at c.give_values-2.ensures.gives in
     gives_in_then m _ _ _ _ _ _ c.in_ok-fill_parts.ensures.gives (gives_in_then m _ _ _ _ _ _ near (gives_in_then m _ _ _ _ _ _ zero ends))

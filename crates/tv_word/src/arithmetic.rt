@@ -1,12 +1,20 @@
-//! Results and flags of the instructions, on words of `W` bits, 16 or 32.
+//! Results and flags of the machine's instructions, on words of `W` bits, 16 or 32.
+
 ghost use Rattle.std.specs.Prelude.{◌≡◌, ◌+◌, ◌-◌, ◌*◌, ◌/◌, ◌%◌, ◌^◌, ◌<◌, ◌==◌, ◌*ℤ◌, nat_lt};
 ghost use Rattle.std.specs.Prelude.{nat_le, not, if◌then◌else◌, bit_and, bit_or, bit_xor};
 ghost use Rattle.tv_word.specs.Widths.{IsWidth};
-ghost use Rattle.tv_word.specs.Word.{signed};
+ghost use Rattle.tv_word.specs.Word.{has_bit, signed};
 ghost use Rattle.tv_word.specs.Twos.{twos, fits};
-ghost use Rattle.tv_step.specs.Rows.{has_bit};
 
-use tv_word::{signed, signed16};
+use crate::word::{signed, signed16};
+
+/// 2^`k`, where `k` is below 32.
+pub fn power(k: u32) -> u32
+    requires { k < 32 }
+    ensures { result ≡ 2 ^ k }
+{
+    1 << k
+}
 
 // The word that the lowest bits of a number are.
 fn low<const W: u32>(number: u64) -> u32
@@ -175,9 +183,11 @@ pub fn remainder<const W: u32>(s: u32, a: u32) -> u32
 }
 
 /// A word shifted left; 0 by `W` places and more.
+#[tactic(auto, using(crate::proofs::ArithmeticLaws::far_left))]
 pub fn shifted_left<const W: u32>(s: u32, a: u32) -> u32
     requires width { IsWidth W }
     ensures word { result ≡ (if nat_lt a W then s * 2 ^ a % 2 ^ W else 0) }
+    ensures plain { result ≡ s * 2 ^ a % 2 ^ W }
     ensures small { result < 2 ^ W }
 {
     if a < W {
@@ -188,10 +198,12 @@ pub fn shifted_left<const W: u32>(s: u32, a: u32) -> u32
 }
 
 /// A word shifted right; 0 by `W` places and more.
+#[tactic(auto, using(crate::proofs::ArithmeticLaws::far_right))]
 pub fn shifted_right<const W: u32>(s: u32, a: u32) -> u32
     requires width { IsWidth W }
     requires s_word { s < 2 ^ W }
     ensures word { result ≡ (if nat_lt a W then s / 2 ^ a else 0) }
+    ensures plain { result ≡ s / 2 ^ a }
     ensures small { result < 2 ^ W }
 {
     if a < W { s >> a } else { 0 }

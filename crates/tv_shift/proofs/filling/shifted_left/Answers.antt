@@ -1,6 +1,0 @@
-use Rattle.std.proofs.Common.{sym, arith}
-use Rattle.tv_shift.proofs.ShiftNumbers.{far_left}
-use Rattle.tv_shift.proofs.filling.shifted_left.Goals as goal
-
-pub returns-else-y : goal.returns-else-y
-returns-else-y g c = sym (far_left g.row.W c.args.x c.args.y (omega arith))
