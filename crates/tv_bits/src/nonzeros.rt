@@ -34,10 +34,7 @@ pub fn fill_nonzero<V: Values>(v: &mut V, x: F) -> Put<()>
 fn nonzero_values(x: F) -> [F; 2]
     ensures { result ≡ nonzero_values x }
 {
-    match x.inv() {
-        Some(inverse) => [F::ONE, inverse],
-        None => [F::ZERO, F::ZERO],
-    }
+    [F::from(x != F::ZERO), x.inverse_or_zero()]
 }
 
 /// Where an assignment meets what `nonzero` put, its flag is right.

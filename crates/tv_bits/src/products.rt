@@ -1,5 +1,5 @@
 ghost use Rattle.std.specs.Prelude.{◌≡◌, ◌≤◌, ◌<◌, false, IfOk, OnOk};
-ghost use Rattle.tv_bits.specs.Ratio.{ratio, ratio_of, ratio_values, RatioIsSound, RatioIsComplete};
+ghost use Rattle.tv_bits.specs.Ratio.{ratio_of, ratio_values, RatioIsSound, RatioIsComplete};
 ghost use Rattle.tv_bits.specs.Ratio.{RatioDivides, RatioSizes};
 ghost use Rattle.tv_bits.specs.Times.{times_of, times_values, TimesIsSound, TimesIsComplete};
 ghost use Rattle.tv_bits.specs.Times.{TimesSizes};
@@ -58,16 +58,7 @@ pub fn fill_ratio<V: Values>(v: &mut V, x: F, y: F) -> Put<()>
     ensures gives { GivesIn V.giving v.old v.new (ratio_values x y) result }
     ensures whole { OnOk result (V.giving.broken v.new ≡ false) }
 {
-    v.give(divided(x, y))
-}
-
-fn divided(x: F, y: F) -> F
-    ensures { result ≡ ratio x y }
-{
-    match x.inv() {
-        Some(inverse) => y * inverse,
-        None => F::ZERO,
-    }
+    v.give(y * x.inverse_or_zero())
 }
 
 /// Where an assignment meets what `times` put, the wire holds the product.

@@ -33,10 +33,7 @@ pub fn fill_zero<V: Values>(v: &mut V, x: F) -> Put<()>
 fn zero_values(x: F) -> [F; 2]
     ensures { result ≡ zero_values x }
 {
-    match x.inv() {
-        Some(inverse) => [F::ZERO, inverse],
-        None => [F::ONE, F::ZERO],
-    }
+    [F::from(x == F::ZERO), x.inverse_or_zero()]
 }
 
 /// Where an assignment meets what `zero` put, its flag is right.

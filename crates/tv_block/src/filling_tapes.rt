@@ -58,16 +58,10 @@ fn tapes_values<const W: u32>(state: &TraceState, step: &StepNumbers) -> [F; 8]
 fn hint(x: u32, asked: bool) -> F
     ensures { result ≡ inverse_of x * flag_of asked % P }
 {
-    if asked { inverse(x) } else { F::ZERO }
-}
-
-// The inverse of a number, and 0 for 0.
-fn inverse(x: u32) -> F
-    ensures { result ≡ inverse_of x }
-{
-    match F::from(x).inv() {
-        Some(inverse) => inverse,
-        None => F::ZERO,
+    if asked {
+        F::from(x).inverse_or_zero()
+    } else {
+        F::ZERO
     }
 }
 

@@ -1,9 +1,8 @@
 -- What the functions on a constraint's combinations give.
-use Rattle.std.proofs.Common.{◌≡◌, ◌≢◌, ℕ, ◌+◌, ◌-◌, ◌*◌, ◌%◌, ◌<◌, ◌≤◌, Bool, not, ◌||◌, leb, ltb, length, [], ◌∷◌, ◌++◌, Option, Some, None, refl, sym, ◌∙◌, ap, ap₂, arith, eqb, true, false, inl, inr, cond, mul-zero}
+use Rattle.std.proofs.Common.{◌≡◌, ◌≢◌, ℕ, ◌+◌, ◌-◌, ◌*◌, ◌%◌, ◌<◌, ◌≤◌, Bool, not, ◌||◌, leb, ltb, length, [], ◌∷◌, ◌++◌, Some, None, refl, sym, ◌∙◌, ap, ap₂, arith, eqb, true, false, inl, inr, cond, mul-zero}
 use Rattle.std.proofs.lemmas.Bool.{cases_Bool, cond_both, le-leb, leb-true, or_left, or_right}
 use Rattle.std.proofs.lemmas.List.{length-append, length-map}
-use Rattle.std.specs.Option.{IsNone, IfSome, unwrap_or}
-use Rattle.tv_core.proofs.InverseLaws.{inverse_of-below}
+use Rattle.tv_core.proofs.InverseLaws.{mul-inverse_of, inverse_of-below}
 use Rattle.tv_core.specs.Combinations.{scaled}
 use Rattle.tv_core.specs.Constraints.{Combination, Constraint}
 use Rattle.tv_core.specs.Inverse.{inverse_of}
@@ -63,18 +62,13 @@ negative k i small one =
     let some : i ≢ 0 = λ e. let none : k * i % P ≡ 0 = ap (λ j. k * j % P) e ∙ ap (λ n. n % P) (mul-zero k) in omega arith in
     omega arith
 
-pub solved-made : (w k i : ℕ) (x out : Combination) → i < P → k * i % P ≡ 1 → i ≡ inverse_of k → k ≡ coefficient w x → out ≡ normal (scaled ((P - i) % P) (without w x)) → out ≡ solved w x
+pub solve-made : (inverse own w : ℕ) (x out : Combination) → inverse ≡ inverse_of own → 0 < own → own < P → own ≡ coefficient w x → out ≡ normal (scaled ((P - inverse) % P) (without w x)) → out ≡ solved w x
 unfolding solved
-solved-made w k i x out small one is own made =
+solve-made inverse own w x out is some below of made =
+    let one = mul-inverse_of own (λ none. omega arith) in
     made
-    ∙ ap (λ f. normal (scaled f (without w x))) (negative k i small one ∙ ap (λ j. P - j) (is ∙ ap inverse_of own))
-
-pub solve-made : (o : Option ℕ) (inverse own w : ℕ) (x out : Combination) → (IsNone o → own ≡ 0) → IfSome o (λ r. own * r % P ≡ 1) → IfSome o (λ r. r ≡ inverse_of own) →
-    inverse ≡ unwrap_or o 0 → 0 < own → own ≡ coefficient w x → out ≡ normal (scaled ((P - inverse) % P) (without w x)) → out ≡ solved w x
-solve-made None inverse own w x out never one value is some of made = absurd (let none : own ≡ 0 = never refl in omega arith)
-solve-made (Some r) inverse own w x out never one value is some of made =
-    let small = inverse_of-below own in
-    solved-made w own r x out (omega (arith, value)) one value of (made ∙ ap (λ i. normal (scaled ((P - i) % P) (without w x))) is)
+    ∙ ap (λ f. normal (scaled f (without w x)))
+    (ap (λ i. (P - i) % P) is ∙ negative own (inverse_of own) (inverse_of-below own) one ∙ ap (λ k. P - inverse_of k) of)
 
 -- whether a combination keeps to its most terms
 pub fits-lacking : (w : ℕ) (r x : Combination) (has : Bool) → has ≡ has_wire w x → has ≡ false → not has ≡ fits w r x

@@ -94,7 +94,7 @@ pub(crate) fn solve(
     requires of { own ≡ coefficient wire terms.now }
     ensures { OnOk result (out.new.items ≡ solved wire terms.now) }
 {
-    let inverse = own.inv().unwrap_or(F::ZERO);
+    let inverse = own.inverse_or_zero();
     let mut others = Side {
         terms,
         factor: -inverse,
