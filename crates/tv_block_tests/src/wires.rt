@@ -9,7 +9,7 @@ ghost use Rattle.tv_word.specs.Widths.{IsWidth};
 
 use std::alloc::Global;
 use tv_block::{StateNum, StateWires, block, fill_block};
-use tv_core::{F, ListValues, Put, TestSink, Values, Wire};
+use tv_core::{F, ListValues, Put, TestSink, Values, Wire, give_words};
 use tv_regs::wires_from;
 use tv_step::TraceState;
 
@@ -96,9 +96,7 @@ fn inputs(alloc: Global, state: &StateNum) -> Put<ListValues>
     let mut values = ListValues::new(alloc);
     values.give(F::ONE)?;
     values.give(F::from(state.pc))?;
-    for word in &state.regs {
-        values.give(F::from(*word))?;
-    }
+    give_words(&mut values, &state.regs)?;
     values.give(F::from(state.flag))?;
     values.give(F::from(state.taken_of_primary))?;
     values.give(F::from(state.aux_ended))?;

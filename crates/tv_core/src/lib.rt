@@ -37,5 +37,5 @@ pub use prime::{p_cancels, p_is_prime, p_zero_product};
 pub use scratch::Scratch;
 pub use sink::{Put, Sink, SinkFault};
 pub use test_sink::TestSink;
-pub use values::{Values, give_values};
+pub use values::{Values, give_values, give_words};
 pub use wire::Wire;

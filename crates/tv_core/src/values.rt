@@ -33,3 +33,15 @@ pub fn give_values<V: Values>(v: &mut V, values: &[F]) -> Put<()>
     }
     Ok(())
 }
+
+/// Gives words one after another, each as a number.
+pub fn give_words<V: Values>(v: &mut V, words: &[u32]) -> Put<()>
+    requires { V.giving.broken v.old ≡ false }
+    ensures gives { GivesIn V.giving v.old v.new words.now result }
+    ensures whole { OnOk result (V.giving.broken v.new ≡ false) }
+{
+    for word in words {
+        v.give(F::from(*word))?;
+    }
+    Ok(())
+}

@@ -6,7 +6,7 @@ ghost use Rattle.tv_fill.specs.Filled.{front_values};
 ghost use Rattle.tv_word.specs.Widths.{IsWidth};
 
 use tv_bits::fill_bits;
-use tv_core::{F, Put, Values, give_values};
+use tv_core::{F, Put, Values, give_values, give_words};
 
 // Gives the values before those of the steps: 1, the answer, the tape's words, their bits, and the
 // wire that is 0.
@@ -17,21 +17,9 @@ pub(crate) fn fill_front<const W: u32, V: Values>(v: &mut V, answer: u32, tape: 
     ensures whole { OnOk result (V.giving.broken v.new ≡ false) }
 {
     give_values(v, &[F::ONE, F::from(answer)])?;
-    fill_words(v, tape)?;
+    give_words(v, tape)?;
     fill_bits_of_words::<W, V>(v, tape)?;
     v.give(F::ZERO)
-}
-
-// Gives words.
-fn fill_words<V: Values>(v: &mut V, words: &[u32]) -> Put<()>
-    requires whole { V.giving.broken v.old ≡ false }
-    ensures gives { GivesIn V.giving v.old v.new words.now result }
-    ensures whole { OnOk result (V.giving.broken v.new ≡ false) }
-{
-    for word in words {
-        v.give(F::from(*word))?;
-    }
-    Ok(())
 }
 
 // Gives the bits of words.

@@ -9,7 +9,7 @@ ghost use Rattle.tv_regs.specs.Writing.{write_of, tie_of, regs_sum, written_regs
 ghost use Rattle.tv_regs.specs.Writing.{write_reg_values, WriteRegIsSound, WriteRegIsComplete};
 ghost use Rattle.tv_regs.specs.Writing.{WriteRegSizes};
 
-use tv_core::{F, Lc, Put, Scratch, Sink, Values, Wire};
+use tv_core::{F, Lc, Put, Scratch, Sink, Values, Wire, give_words};
 
 /// Registers of new wires: where the bit `on` is 1, the register whose number the one-hot row of
 /// 16 wires from `sel` on has becomes `x`, and where it is 0 none changes. It makes 17 wires and
@@ -138,7 +138,7 @@ pub fn fill_write_reg<V: Values>(v: &mut V, sel: u32, on: bool, x: u32, regs: &[
 {
     let written = written_regs(on, x, sel, regs);
     v.give(F::from(written[sel as usize]))?;
-    fill_words(v, &written)
+    give_words(v, &written)
 }
 
 // The registers after a write.
@@ -151,18 +151,6 @@ fn written_regs(on: bool, x: u32, sel: u32, regs: &[u32; 16]) -> [u32; 16]
         written[sel as usize] = x;
     }
     written
-}
-
-// Gives words one after another.
-fn fill_words<V: Values>(v: &mut V, words: &[u32]) -> Put<()>
-    requires whole { V.giving.broken v.old ≡ false }
-    ensures gives { GivesIn V.giving v.old v.new words.now result }
-    ensures whole { OnOk result (V.giving.broken v.new ≡ false) }
-{
-    for word in words {
-        v.give(F::from(*word))?;
-    }
-    Ok(())
 }
 
 /// Where an assignment has a one-hot row and a bit and meets what `write_reg` put, the wires that

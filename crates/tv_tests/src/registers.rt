@@ -9,7 +9,7 @@ use std::alloc::Global;
 use std::process::Abort;
 use std::test::Fail;
 use tv_bits::fill_onehot;
-use tv_core::{CountSink, F, Lc, ListValues, Put, Sink, TestSink, Values, Wire};
+use tv_core::{CountSink, F, Lc, ListValues, Put, Sink, TestSink, Values, Wire, give_words};
 use tv_regs::{
     NumberEntry, WireEntry, choose, fill_choose, fill_read_reg, fill_write_reg, read_reg,
     wires_from, write_reg,
@@ -33,16 +33,6 @@ fn registers() -> [Wire; 16]
     ensures { wires_top result ≤ 33 }
 {
     wires_from(Wire(17))
-}
-
-fn give_words(values: &mut ListValues, words: &[u32]) -> Put<()>
-    requires { values.old.broken ≡ false }
-    ensures { IfOk result (λ _. values.new.broken ≡ false) }
-{
-    for word in words {
-        values.give(F::from(*word))?;
-    }
-    Ok(())
 }
 
 // 1, the row of a register's number, the registers, and what to write.

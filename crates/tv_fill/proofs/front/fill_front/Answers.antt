@@ -11,13 +11,13 @@ returns-in_err-give_values-clause-gives g c =
     gives_refused m _ _ _ c.from_residual.result c.from_residual.ensures.1
     (gives_refused_then m (1 ∷ c.args.answer ∷ []) _ _ _ _ (given_some m _ _ _ _ head _ c.in_err-give_values.ensures.gives))
 
-pub returns-in_err-fill_words-clause-gives : goal.returns-in_err-fill_words-clause-gives
-returns-in_err-fill_words-clause-gives g c =
+pub returns-in_err-give_words-clause-gives : goal.returns-in_err-give_words-clause-gives
+returns-in_err-give_words-clause-gives g c =
     let m = g.V.Values.giving in
     let head = ap (λ (v : ℕ). 1 ∷ v ∷ []) c.from.ensures in
-    gives_refused m _ _ _ c.from_residual-in_err-fill_words.result c.from_residual-in_err-fill_words.ensures.1
+    gives_refused m _ _ _ c.from_residual-in_err-give_words.result c.from_residual-in_err-give_words.ensures.1
     (gives_then_refused m (1 ∷ c.args.answer ∷ []) _ _ _ _ _ (given_all m _ _ _ _ head c.in_ok-give_values.ensures.gives)
-    (gives_refused_then m c.args.tape.now _ _ _ _ c.in_err-fill_words.ensures.gives))
+    (gives_refused_then m c.args.tape.now _ _ _ _ c.in_err-give_words.ensures.gives))
 
 pub returns-in_err-fill_bits_of_words-clause-gives : goal.returns-in_err-fill_bits_of_words-clause-gives
 returns-in_err-fill_bits_of_words-clause-gives g c =
@@ -25,7 +25,7 @@ returns-in_err-fill_bits_of_words-clause-gives g c =
     let head = ap (λ (v : ℕ). 1 ∷ v ∷ []) c.from.ensures in
     gives_refused m _ _ _ c.from_residual-in_err-fill_bits_of_words.result c.from_residual-in_err-fill_bits_of_words.ensures.1
     (gives_then_refused m (1 ∷ c.args.answer ∷ []) _ _ _ _ _ (given_all m _ _ _ _ head c.in_ok-give_values.ensures.gives)
-    (gives_then_refused m c.args.tape.now _ _ _ _ _ c.in_ok-fill_words.ensures.gives
+    (gives_then_refused m c.args.tape.now _ _ _ _ _ c.in_ok-give_words.ensures.gives
     (gives_refused_then m _ (0 ∷ []) _ _ _ c.in_err-fill_bits_of_words.ensures.gives)))
 
 pub returns-clause-gives : goal.returns-clause-gives
@@ -33,5 +33,5 @@ returns-clause-gives g c =
     let m = g.V.Values.giving in
     let head = ap (λ (v : ℕ). 1 ∷ v ∷ []) c.from.ensures in
     gives_in_then m (1 ∷ c.args.answer ∷ []) _ _ _ _ _ (given_all m _ _ _ _ head c.in_ok-give_values.ensures.gives)
-    (gives_in_then m c.args.tape.now _ _ _ _ _ c.in_ok-fill_words.ensures.gives
+    (gives_in_then m c.args.tape.now _ _ _ _ _ c.in_ok-give_words.ensures.gives
     (gives_in_then m _ (0 ∷ []) _ _ _ _ c.in_ok-fill_bits_of_words.ensures.gives c.give.ensures.gives))

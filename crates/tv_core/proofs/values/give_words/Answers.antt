@@ -2,7 +2,7 @@ use Rattle.std.proofs.Common.{◌≡◌, ◌∷◌, ◌++◌, drop, take, get_or
 use Rattle.std.proofs.lemmas.List.{take-append-drop}
 use Rattle.std.proofs.Math.Seq.{drop-cons}
 use Rattle.tv_core.proofs.GivingChain.{gives_then_refused, gives_one_refused_then, gives_refused}
-use Rattle.tv_regs.proofs.writing.fill_words.Goals as goal
+use Rattle.tv_core.proofs.values.give_words.Goals as goal
 
 pub returns-in_err-give-clause-gives : goal.returns-in_err-give-clause-gives
 returns-in_err-give-clause-gives g c =
