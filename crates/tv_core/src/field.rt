@@ -1,4 +1,4 @@
-ghost use Rattle.std.specs.Prelude.{◌≡◌, ℕ, ◌+◌, ◌-◌, ◌*◌, ◌%◌, ◌<◌, ◌≤◌, ◌↔◌, IsNone, IfSome};
+ghost use Rattle.std.specs.Prelude.{◌≡◌, ℕ, ◌+◌, ◌-◌, ◌*◌, ◌%◌, ◌^◌, ◌<◌, ◌≤◌, ◌↔◌, IsNone, IfSome};
 ghost use Rattle.tv_core.specs.declared.field.TheConstants.{P};
 
 use std::marker::Model;
@@ -54,6 +54,36 @@ impl F {
         }
     }
 
+    /// The residue of 2^128 `upper` + `low` modulo `P`, `upper` being below 2^31. It takes no
+    /// division.
+    #[inline(always)]
+    pub fn of_wide(low: u128, upper: u64) -> F
+        requires { upper < 2 ^ 31 }
+        ensures { result ≡ (low + 2 ^ 128 * upper) % P }
+    {
+        // Modulo P, 2^64 is 2^32 - 1, and so 2^96 is -1: with the number as
+        // low + 2^64 middle + 2^96 top, in parts of 64, 32 and 63 bits, it is
+        // low - top + (2^32 - 1) middle.
+        let high = (low >> 64) as u64;
+        let low = (low % 18_446_744_073_709_551_616) as u64;
+        let middle = high % 4_294_967_296;
+        let top = (upper << 32) + (high >> 32);
+        let (difference, borrow) = low.overflowing_sub(top);
+        let start = if borrow {
+            difference.wrapping_add(P)
+        } else {
+            difference
+        };
+        let (sum, carry) = start.overflowing_add((middle << 32) - middle);
+        F {
+            word: if carry || sum >= P {
+                sum.wrapping_sub(P)
+            } else {
+                sum
+            },
+        }
+    }
+
     /// The element as a number.
     pub fn number(self) -> u64
         ensures same { result ≡ self }
@@ -103,9 +133,7 @@ impl F {
     pub fn mul(self, other: F) -> F
         ensures { result ≡ (self * other) % P }
     {
-        F {
-            word: residue(self.word as u128 * other.word as u128),
-        }
+        F::of_wide(self.word as u128 * other.word as u128, 0)
     }
 }
 
@@ -146,30 +174,5 @@ impl Neg for F {
 
     fn neg(self) -> F {
         F::neg(self)
-    }
-}
-
-// A product modulo P. Modulo P, 2^64 is 2^32 - 1, and so 2^96 is -1: with the product as
-// low + 2^64 middle + 2^96 top, in parts of 64, 32 and 32 bits, it is low - top + (2^32 - 1)
-// middle.
-fn residue(product: u128) -> u64
-    ensures residue { result ≡ product % P }
-    ensures below { result < P }
-{
-    let low = (product % 18_446_744_073_709_551_616) as u64;
-    let high = (product >> 64) as u64;
-    let middle = high % 4_294_967_296;
-    let top = high >> 32;
-    let (difference, borrow) = low.overflowing_sub(top);
-    let start = if borrow {
-        difference.wrapping_add(P)
-    } else {
-        difference
-    };
-    let (sum, carry) = start.overflowing_add((middle << 32) - middle);
-    if carry || sum >= P {
-        sum.wrapping_sub(P)
-    } else {
-        sum
     }
 }
