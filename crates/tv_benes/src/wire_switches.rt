@@ -1,29 +1,11 @@
 ghost use Rattle.std.specs.Prelude.{◌+◌, ◌<◌, IfOk};
-ghost use Rattle.tv_bits.specs.Select.{select_of};
 ghost use Rattle.tv_core.specs.Combinations.{wire};
 ghost use Rattle.tv_core.specs.Sinks.{PutsIn, Grows, Room};
 ghost use Rattle.tv_benes.specs.Network.{switch_of};
 ghost use Rattle.tv_benes.specs.Places.{wires_at};
 
-use tv_bits::bit_by;
+use tv_bits::{bit_by, select_wires};
 use tv_core::{Put, Scratch, Sink, Wire};
-
-// A wire that is wire `x` where the bit `b` is 1, and wire `y` where it is 0.
-fn choose<S: Sink>(s: &mut S, scratch: &mut Scratch, b: Wire, x: Wire, y: Wire) -> Put<Wire>
-    requires room { Room S.meaning s.old 1 1 }
-    requires b_made { b < S.meaning.wires s.old }
-    requires x_made { x < S.meaning.wires s.old }
-    requires y_made { y < S.meaning.wires s.old }
-    ensures puts { PutsIn S.meaning s.old s.new (select_of b (wire x) (wire y)) result }
-    ensures grows { IfOk result (λ _. Grows S.meaning s.old s.new 1 1) }
-{
-    let chosen = s.fresh();
-    scratch.a.set_wire(b);
-    scratch.b.set_difference(x, y);
-    scratch.c.set_difference(chosen, y);
-    s.put(&scratch.a, &scratch.b, &scratch.c)?;
-    Ok(chosen)
-}
 
 // A switch between two items that are two wires each. It makes 5 wires and 5 constraints, of 23
 // terms.
@@ -47,10 +29,10 @@ fn switch<S: Sink>(
 {
     let b = s.fresh();
     bit_by(s, &mut scratch.a, b)?;
-    choose(s, scratch, b, y, x)?;
-    choose(s, scratch, b, y_second, x_second)?;
-    choose(s, scratch, b, x, y)?;
-    choose(s, scratch, b, x_second, y_second)?;
+    select_wires(s, scratch, b, y, x)?;
+    select_wires(s, scratch, b, y_second, x_second)?;
+    select_wires(s, scratch, b, x, y)?;
+    select_wires(s, scratch, b, x_second, y_second)?;
     Ok(())
 }
 

@@ -1,7 +1,7 @@
 ghost use Rattle.std.specs.Prelude.{◌≡◌, ◌≤◌, ◌<◌, false, length, IfOk, OnOk};
 ghost use Rattle.tv_bits.specs.Select.{selected, select_of, select_values, SelectIsSound};
 ghost use Rattle.tv_bits.specs.Select.{SelectIsComplete, SelectSizes};
-ghost use Rattle.tv_core.specs.Combinations.{top};
+ghost use Rattle.tv_core.specs.Combinations.{wire, top};
 ghost use Rattle.tv_core.specs.Giving.{GivesIn};
 ghost use Rattle.tv_core.specs.Sinks.{PutsIn, Grows, Room};
 
@@ -48,6 +48,30 @@ pub fn select_terms<S: Sink>(
     scratch.b.plus_scaled(-F::ONE, y);
     scratch.c.set_wire(chosen);
     scratch.c.plus_scaled(-F::ONE, y);
+    s.put(&scratch.a, &scratch.b, &scratch.c)?;
+    Ok(chosen)
+}
+
+/// The same of two wires.
+pub fn select_wires<S: Sink>(
+    s: &mut S,
+    scratch: &mut Scratch,
+    b: Wire,
+    x: Wire,
+    y: Wire,
+) -> Put<Wire>
+    requires room { Room S.meaning s.old 1 1 }
+    requires b_made { b < S.meaning.wires s.old }
+    requires x_made { x < S.meaning.wires s.old }
+    requires y_made { y < S.meaning.wires s.old }
+    ensures puts { PutsIn S.meaning s.old s.new (select_of b (wire x) (wire y)) result }
+    ensures grows { IfOk result (λ _. Grows S.meaning s.old s.new 1 1) }
+    ensures below { IfOk result (λ chosen. chosen < S.meaning.wires s.new) }
+{
+    let chosen = s.fresh();
+    scratch.a.set_wire(b);
+    scratch.b.set_difference(x, y);
+    scratch.c.set_difference(chosen, y);
     s.put(&scratch.a, &scratch.b, &scratch.c)?;
     Ok(chosen)
 }

@@ -3,6 +3,7 @@ use Rattle.std.specs.Prelude.{◌≡◌, ℕ, ◌+◌, ◌<◌, ◌==◌, Bool, 
 use Rattle.std.specs.List.{range_with_len}
 use Rattle.tv_bits.specs.Bit.{IsBit}
 use Rattle.tv_bits.specs.OneHot.{IsOneHot, row_sum}
+use Rattle.tv_bits.specs.Select.{select_of}
 use Rattle.tv_core.specs.Below.{each_below}
 use Rattle.tv_core.specs.Circuits.{Circuit, here, fresh, put, pure, ◌>>=◌}
 use Rattle.tv_core.specs.Combinations.{wire, less}
@@ -15,8 +16,8 @@ use Rattle.tv_regs.specs.Reading.{words_at}
 -- a new wire, which is v where the row's wire is 1, and else the register
 unfoldable pub write_of : ℕ → ℕ → ℕ → Circuit (Unit {0})
 write_of v sel reg = do
-  new ← fresh
-  put (wire sel) (less (wire v) (wire reg)) (less (wire new) (wire reg))
+  _ ← select_of sel (wire v) (wire reg)
+  pure tt
 
 -- the same of the row's wire number i and register i
 abbrev pub write_turn : ℕ → ℕ → List ℕ → ℕ → Circuit (Unit {0})

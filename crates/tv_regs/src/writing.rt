@@ -5,10 +5,11 @@ ghost use Rattle.tv_core.specs.Combinations.{top};
 ghost use Rattle.tv_core.specs.Giving.{GivesIn};
 ghost use Rattle.tv_core.specs.Sinks.{PutsIn, Grows, Room};
 ghost use Rattle.tv_regs.specs.Reading.{wires_top};
-ghost use Rattle.tv_regs.specs.Writing.{write_of, tie_of, regs_sum, written_regs, write_reg_of};
+ghost use Rattle.tv_regs.specs.Writing.{tie_of, regs_sum, written_regs, write_reg_of};
 ghost use Rattle.tv_regs.specs.Writing.{write_reg_values, WriteRegIsSound, WriteRegIsComplete};
 ghost use Rattle.tv_regs.specs.Writing.{WriteRegSizes};
 
+use tv_bits::select_wires;
 use tv_core::{F, Lc, Put, Scratch, Sink, Values, Wire, give_words};
 
 /// Registers of new wires: where the bit `on` is 1, the register whose number the one-hot row of
@@ -35,26 +36,10 @@ pub fn write_reg<S: Sink>(
     let first = Wire(s.wires());
     let mut scratch = Scratch::new();
     for i in 0..16 {
-        write(s, &mut scratch, v, sel.offset(i), regs[i as usize])?;
+        select_wires(s, &mut scratch, sel.offset(i), v, regs[i as usize])?;
     }
     tie(s, &mut scratch, on, x, v, first, regs)?;
     Ok(wires_from(first))
-}
-
-// A new wire, which is `v` where a wire of the row is 1, and else the register.
-fn write<S: Sink>(s: &mut S, scratch: &mut Scratch, v: Wire, sel: Wire, reg: Wire) -> Put<()>
-    requires room { Room S.meaning s.old 1 1 }
-    requires v_made { v < S.meaning.wires s.old }
-    requires sel_made { sel < S.meaning.wires s.old }
-    requires reg_made { reg < S.meaning.wires s.old }
-    ensures puts { PutsIn S.meaning s.old s.new (write_of v sel reg) result }
-    ensures grows { IfOk result (λ _. Grows S.meaning s.old s.new 1 1) }
-{
-    let new = s.fresh();
-    scratch.a.set_wire(sel);
-    scratch.b.set_difference(v, reg);
-    scratch.c.set_difference(new, reg);
-    s.put(&scratch.a, &scratch.b, &scratch.c)
 }
 
 // Holds `v` to `x` where `on` is 1, and the sum of the registers to what it was where `on` is 0.

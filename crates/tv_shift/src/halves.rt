@@ -2,8 +2,8 @@ ghost use Rattle.std.specs.Prelude.{◌+◌, ◌≤◌, ◌<◌, IfOk};
 ghost use Rattle.tv_core.specs.Sinks.{PutsIn, Grows, Room};
 ghost use Rattle.tv_shift.specs.Halves.{halves_of};
 
-use tv_bits::select_terms;
-use tv_core::{F, Put, Scratch, Sink, Wire};
+use tv_bits::select_wires;
+use tv_core::{Put, Scratch, Sink, Wire};
 
 // The first of `n` wires that are the bits of the half that bit `b` chooses, of the word of 2 `n`
 // bits from `word` on. It makes `n` wires and `n` constraints.
@@ -19,9 +19,7 @@ pub(crate) fn halves<S: Sink>(s: &mut S, n: u32, b: Wire, word: Wire) -> Put<Wir
     let first = Wire(s.wires());
     let mut scratch = Scratch::new();
     for i in 0..n {
-        let high = [(F::ONE, word.offset(n + i))];
-        let low = [(F::ONE, word.offset(i))];
-        select_terms(s, &mut scratch, b, &high, &low)?;
+        select_wires(s, &mut scratch, b, word.offset(n + i), word.offset(i))?;
     }
     Ok(first)
 }

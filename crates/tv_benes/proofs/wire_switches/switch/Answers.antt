@@ -7,26 +7,26 @@ unfolding switch_of
 returns-in_err-bit_by-clause-puts g c =
     refused g.S.Sink.meaning _ _ _ c.from_residual.result c.from_residual.ensures.1 (search (chain, c.fresh-b.ensures.puts, c.in_err-bit_by.ensures.puts))
 
-pub returns-in_err-choose-clause-puts : goal.returns-in_err-choose-clause-puts
+pub returns-in_err-select_wires-clause-puts : goal.returns-in_err-select_wires-clause-puts
 unfolding switch_of
-returns-in_err-choose-clause-puts g c =
-    refused g.S.Sink.meaning _ _ _ c.from_residual-in_err-choose.result c.from_residual-in_err-choose.ensures.1 (search (chain, c.fresh-b.ensures.puts, c.in_ok-bit_by.ensures.puts, c.in_err-choose.ensures.puts))
+returns-in_err-select_wires-clause-puts g c =
+    refused g.S.Sink.meaning _ _ _ c.from_residual-in_err-select_wires.result c.from_residual-in_err-select_wires.ensures.1 (search (chain, c.fresh-b.ensures.puts, c.in_ok-bit_by.ensures.puts, c.in_err-select_wires.ensures.puts))
 
-pub returns-in_err-choose-2-clause-puts : goal.returns-in_err-choose-2-clause-puts
+pub returns-in_err-select_wires-2-clause-puts : goal.returns-in_err-select_wires-2-clause-puts
 unfolding switch_of
-returns-in_err-choose-2-clause-puts g c =
-    refused g.S.Sink.meaning _ _ _ c.from_residual-in_err-choose-2.result c.from_residual-in_err-choose-2.ensures.1 (search (chain, c.fresh-b.ensures.puts, c.in_ok-bit_by.ensures.puts, c.in_ok-choose.ensures.puts, c.in_err-choose-2.ensures.puts))
+returns-in_err-select_wires-2-clause-puts g c =
+    refused g.S.Sink.meaning _ _ _ c.from_residual-in_err-select_wires-2.result c.from_residual-in_err-select_wires-2.ensures.1 (search (chain, c.fresh-b.ensures.puts, c.in_ok-bit_by.ensures.puts, c.in_ok-select_wires.ensures.puts, c.in_err-select_wires-2.ensures.puts))
 
-pub returns-in_err-choose-3-clause-puts : goal.returns-in_err-choose-3-clause-puts
+pub returns-in_err-select_wires-3-clause-puts : goal.returns-in_err-select_wires-3-clause-puts
 unfolding switch_of
-returns-in_err-choose-3-clause-puts g c =
-    refused g.S.Sink.meaning _ _ _ c.from_residual-in_err-choose-3.result c.from_residual-in_err-choose-3.ensures.1 (search (chain, c.fresh-b.ensures.puts, c.in_ok-bit_by.ensures.puts, c.in_ok-choose.ensures.puts, c.in_ok-choose-2.ensures.puts, c.in_err-choose-3.ensures.puts) depth 9)
+returns-in_err-select_wires-3-clause-puts g c =
+    refused g.S.Sink.meaning _ _ _ c.from_residual-in_err-select_wires-3.result c.from_residual-in_err-select_wires-3.ensures.1 (search (chain, c.fresh-b.ensures.puts, c.in_ok-bit_by.ensures.puts, c.in_ok-select_wires.ensures.puts, c.in_ok-select_wires-2.ensures.puts, c.in_err-select_wires-3.ensures.puts) depth 9)
 
-pub returns-in_err-choose-4-clause-puts : goal.returns-in_err-choose-4-clause-puts
+pub returns-in_err-select_wires-4-clause-puts : goal.returns-in_err-select_wires-4-clause-puts
 unfolding switch_of
-returns-in_err-choose-4-clause-puts g c =
-    refused g.S.Sink.meaning _ _ _ c.from_residual-in_err-choose-4.result c.from_residual-in_err-choose-4.ensures.1 (search (chain, c.fresh-b.ensures.puts, c.in_ok-bit_by.ensures.puts, c.in_ok-choose.ensures.puts, c.in_ok-choose-2.ensures.puts, c.in_ok-choose-3.ensures.puts, c.in_err-choose-4.ensures.puts) depth 10)
+returns-in_err-select_wires-4-clause-puts g c =
+    refused g.S.Sink.meaning _ _ _ c.from_residual-in_err-select_wires-4.result c.from_residual-in_err-select_wires-4.ensures.1 (search (chain, c.fresh-b.ensures.puts, c.in_ok-bit_by.ensures.puts, c.in_ok-select_wires.ensures.puts, c.in_ok-select_wires-2.ensures.puts, c.in_ok-select_wires-3.ensures.puts, c.in_err-select_wires-4.ensures.puts) depth 10)
 
 pub returns-clause-puts : goal.returns-clause-puts
 unfolding switch_of
-returns-clause-puts g c = search (chain, c.fresh-b.ensures.puts, c.in_ok-bit_by.ensures.puts, c.in_ok-choose.ensures.puts, c.in_ok-choose-2.ensures.puts, c.in_ok-choose-3.ensures.puts, c.in_ok-choose-4.ensures.puts) depth 10
+returns-clause-puts g c = search (chain, c.fresh-b.ensures.puts, c.in_ok-bit_by.ensures.puts, c.in_ok-select_wires.ensures.puts, c.in_ok-select_wires-2.ensures.puts, c.in_ok-select_wires-3.ensures.puts, c.in_ok-select_wires-4.ensures.puts) depth 10

@@ -15,20 +15,20 @@ pub loop-i-preserved : goal.loop-i-preserved
 unfolding half_bit_of
 loop-i-preserved g c =
     let piece : ℕ → Unit {0} → Circuit (Unit {0}) = λ i _. half_bit_of c.args.n c.args.b c.args.word i in
-    let grown = c.in_ok-select_terms.ensures.grows in
-    let one = rw (c.offset.ensures, c.offset-in-loop-i.ensures) at c.in_ok-select_terms.ensures.puts in
+    let grown = c.in_ok-select_wires.ensures.grows in
+    let one = rw (c.offset.ensures, c.offset-in-loop-i.ensures) at c.in_ok-select_wires.ensures.puts in
     record {
       puts = puts_turn g.S.Sink.meaning _ piece tt _ _ _ _ _ c.loop-i.invariant.puts (search (chain, one));
       grows = record { wires = omega (arith, grown.wires); constraints = omega (arith, grown.constraints); whole = grown.whole };
     }
 
-pub returns-in_err-select_terms-clause-puts : goal.returns-in_err-select_terms-clause-puts
+pub returns-in_err-select_wires-clause-puts : goal.returns-in_err-select_wires-clause-puts
 unfolding halves_of half_bit_of
-returns-in_err-select_terms-clause-puts g c =
+returns-in_err-select_wires-clause-puts g c =
     let m = g.S.Sink.meaning in
     let piece : ℕ → Unit {0} → Circuit (Unit {0}) = λ i _. half_bit_of c.args.n c.args.b c.args.word i in
-    let one = rw (c.offset.ensures, c.offset-in-loop-i.ensures) at c.in_err-select_terms.ensures.puts in
-    let turn = turn_refused m c.args.n c.loop-i.i piece tt tt c.args.s.now c.loop-i.s c.select_terms.new.s c.in_err-select_terms.field-0.0 c.loop-i-test.true c.loop-i.invariant.puts (search (chain, one)) in
+    let one = rw (c.offset.ensures, c.offset-in-loop-i.ensures) at c.in_err-select_wires.ensures.puts in
+    let turn = turn_refused m c.args.n c.loop-i.i piece tt tt c.args.s.now c.loop-i.s c.select_wires.new.s c.in_err-select_wires.field-0.0 c.loop-i-test.true c.loop-i.invariant.puts (search (chain, one)) in
     let first = puts_here_as m c.args.s.now c.wires.result c.wires.ensures in
     refused m _ _ _ c.from_residual.result c.from_residual.ensures.1 (search (chain, first, turn))
 

@@ -1,6 +1,6 @@
 use Rattle.tv_core.proofs.Chain.{chain, refused}
 use Rattle.tv_bits.specs.Select.{select_of}
-use Rattle.tv_benes.proofs.wire_switches.choose.Goals as goal
+use Rattle.tv_bits.proofs.selection.select_wires.Goals as goal
 
 pub returns-in_err-put-clause-puts : goal.returns-in_err-put-clause-puts
 unfolding select_of
