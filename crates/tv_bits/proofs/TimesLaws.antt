@@ -1,16 +1,17 @@
--- The laws of a product, and of a ratio, as a new wire.
+-- The laws of a product, of a value kept, and of a ratio, as a new wire.
 use Rattle.std.proofs.Common.{◌≡◌, ℕ, ◌+◌, ◌*◌, ◌%◌, ◌<◌, [], inl, inr, refl, sym, ◌∙◌, ap, arith, mod-lt, zero-mul, mul_comm}
 use Rattle.std.proofs.Math.Nat.{mul_assoc}
 use Rattle.std.proofs.lemmas.Bool.{cases_eq}
 use Rattle.std.proofs.lemmas.Nat.{mul-mod_first, mul-mod_second}
-use Rattle.tv_core.proofs.CombinationLaws.{value-wire}
+use Rattle.tv_core.proofs.CombinationLaws.{value-wire, value-once}
 use Rattle.tv_core.proofs.FieldLaws.{InField-none, InField-cons}
 use Rattle.tv_core.proofs.InverseLaws.{mul-inverse_of}
 use Rattle.tv_core.specs.Circuits.{fresh, put, pure, ◌>>=◌}
+use Rattle.tv_core.specs.Combinations.{constant}
 use Rattle.tv_core.specs.Constraints.{Combination, value}
 use Rattle.tv_core.specs.Inverse.{inverse_of}
 use Rattle.tv_core.specs.declared.field.TheConstants.{P}
-use Rattle.tv_bits.specs.Times.{times_of, TimesIsSound, TimesIsComplete, TimesSizes}
+use Rattle.tv_bits.specs.Times.{times_of, kept_of, TimesIsSound, TimesIsComplete, TimesSizes, KeptIsSound, KeptIsComplete, KeptSizes}
 use Rattle.tv_bits.specs.Ratio.{ratio, ratio_of, RatioIsSound, RatioIsComplete, RatioDivides, RatioSizes}
 
 -- ---- a product
@@ -39,6 +40,27 @@ times_sizes = record {
   end = times_next;
   fills = λ x y a b next. times_next x y next;
   in_field = λ a b. InField-cons (a * b % P) [] (residue_below (a * b)) InField-none;
+}
+
+-- ---- a value kept
+pub kept_answer : (x : Combination) (next : ℕ) → (kept_of x next).answer ≡ next
+kept_answer x next = times_answer x (constant 1) next
+
+pub kept_next : (x : Combination) (next : ℕ) → (kept_of x next).next ≡ next + 1
+kept_next x next = times_next x (constant 1) next
+
+pub kept_sound : KeptIsSound
+kept_sound z next x assigns meets = times_sound z next x (constant 1) assigns meets ∙ value-once z x assigns
+
+pub kept_complete : KeptIsComplete
+kept_complete z next x assigns has = times_complete z next x (constant 1) assigns (has.0 ∙ sym (value-once z x assigns), tt)
+
+pub kept_sizes : KeptSizes
+kept_sizes = record {
+  answer = kept_answer;
+  end = kept_next;
+  fills = λ x v next. kept_next x next;
+  in_field = λ v small. InField-cons v [] small InField-none;
 }
 
 -- ---- a ratio

@@ -1,6 +1,6 @@
 //! Gadgets over single bits and numbers: a bit, a number spelt by bits, the tests for 0, a choice,
-//! a one-hot row, a product and a ratio as a new wire, two ands in one constraint, and an order by
-//! prefixes.
+//! a one-hot row, a product, a ratio and a combination's value as a new wire, two ands in one
+//! constraint, and an order by prefixes.
 //!
 //! Contracts above cite `Spells`, which says that wires spell a number, and `IsOneHot`, that one
 //! wire of a row is 1. The law `.._fills` of a gadget says which wires it answers, where it ends,
@@ -29,8 +29,9 @@ pub use prefixes::{
     prefix_difference_is_complete, prefix_difference_is_sound,
 };
 pub use products::{
-    fill_ratio, fill_times, ratio, ratio_fills, ratio_is_complete, ratio_is_sound, times,
-    times_fills, times_is_complete, times_is_sound,
+    fill_kept, fill_ratio, fill_times, kept, kept_fills, kept_is_complete, kept_is_sound, ratio,
+    ratio_fills, ratio_is_complete, ratio_is_sound, times, times_fills, times_is_complete,
+    times_is_sound,
 };
 pub use rows::{fill_onehot, onehot, onehot_fills, onehot_is_complete, onehot_is_sound, row_sum};
 pub use selection::{

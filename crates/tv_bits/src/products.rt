@@ -2,7 +2,8 @@ ghost use Rattle.std.specs.Prelude.{◌≡◌, ◌≤◌, ◌<◌, false, IfOk, 
 ghost use Rattle.tv_bits.specs.Ratio.{ratio_of, ratio_values, RatioIsSound, RatioIsComplete};
 ghost use Rattle.tv_bits.specs.Ratio.{RatioDivides, RatioSizes};
 ghost use Rattle.tv_bits.specs.Times.{times_of, times_values, TimesIsSound, TimesIsComplete};
-ghost use Rattle.tv_bits.specs.Times.{TimesSizes};
+ghost use Rattle.tv_bits.specs.Times.{TimesSizes, kept_of, kept_values, KeptIsSound};
+ghost use Rattle.tv_bits.specs.Times.{KeptIsComplete, KeptSizes};
 ghost use Rattle.tv_core.specs.Combinations.{top};
 ghost use Rattle.tv_core.specs.Giving.{GivesIn};
 ghost use Rattle.tv_core.specs.Sinks.{PutsIn, Grows, Room};
@@ -32,6 +33,27 @@ pub fn fill_times<V: Values>(v: &mut V, x: F, y: F) -> Put<()>
     ensures whole { OnOk result (V.giving.broken v.new ≡ false) }
 {
     v.give(x * y)
+}
+
+/// A wire that holds the value of `x`. It makes 1 wire and 1 constraint, of 2 terms and those of
+/// `x`.
+pub fn kept<S: Sink>(s: &mut S, x: &Lc) -> Put<Wire>
+    requires room { Room S.meaning s.old 1 1 }
+    requires x_made { top x.now ≤ S.meaning.wires s.old }
+    ensures puts { PutsIn S.meaning s.old s.new (kept_of x.now) result }
+    ensures grows { IfOk result (λ _. Grows S.meaning s.old s.new 1 1) }
+    ensures below { IfOk result (λ w. w < S.meaning.wires s.new) }
+{
+    times(s, x, &Lc::constant(F::ONE))
+}
+
+/// Gives the value of the wire that `kept` makes.
+pub fn fill_kept<V: Values>(v: &mut V, x: F) -> Put<()>
+    requires { V.giving.broken v.old ≡ false }
+    ensures gives { GivesIn V.giving v.old v.new (kept_values x) result }
+    ensures whole { OnOk result (V.giving.broken v.new ≡ false) }
+{
+    v.give(x)
 }
 
 /// A wire that times `x` is `y`. Where `x` is 0 the wire may hold anything, and `y` is held to 0.
@@ -78,6 +100,25 @@ pub fn times_is_complete()
 #[tactic(auto, using(crate::proofs::TimesLaws::times_sizes))]
 pub fn times_fills()
     ensures { TimesSizes }
+{}
+
+/// Where an assignment meets what `kept` put, its wire holds the value.
+#[tactic(auto, using(crate::proofs::TimesLaws::kept_sound))]
+pub fn kept_is_sound()
+    ensures { KeptIsSound }
+{}
+
+/// Where an assignment has the value at the wire that was made, it meets what `kept` put.
+#[tactic(auto, using(crate::proofs::TimesLaws::kept_complete))]
+pub fn kept_is_complete()
+    ensures { KeptIsComplete }
+{}
+
+/// Says which wire `kept` answers, whatever the next wire is, and that `fill_kept` gives one value
+/// for it, below P.
+#[tactic(auto, using(crate::proofs::TimesLaws::kept_sizes))]
+pub fn kept_fills()
+    ensures { KeptSizes }
 {}
 
 /// Where an assignment meets what `ratio` put, the wire times the first number is the second.

@@ -4,11 +4,11 @@ use Rattle.std.specs.Prelude.{slice_index}
 use Rattle.tv_bits.proofs.SizeLaws.{new_bits_sizes, bits_in_field, length-bits}
 use Rattle.tv_bits.proofs.SpelledNumbers.{value-bits_below, Spells-high, Spells-from_values}
 use Rattle.tv_bits.proofs.SpellingLaws.{new_bits_complete, new_bits_next, new_bits_answer}
-use Rattle.tv_bits.proofs.TimesLaws.{times_complete, times_next}
+use Rattle.tv_bits.proofs.TimesLaws.{times_complete, times_next, kept_sound, kept_complete, kept_next}
 use Rattle.tv_bits.specs.Bit.{IsBit}
 use Rattle.tv_bits.specs.Bits.{Spells, bits_combination, bits_values, new_bits_of}
 use Rattle.tv_bits.specs.OneHot.{IsOneHot}
-use Rattle.tv_bits.specs.Times.{times_of}
+use Rattle.tv_bits.specs.Times.{times_of, kept_of}
 use Rattle.tv_bits.specs.declared.bit_wires.Bits.{Bits}
 use Rattle.tv_core.proofs.CombinationLaws.{value-append, value-wire, value-constant}
 use Rattle.tv_core.proofs.FieldLaws.{InField-append, InField-cons, InField-none}
@@ -24,9 +24,9 @@ use Rattle.tv_numbers.specs.Numbers.{operand_word, touches, asks, takes_primary,
 use Rattle.tv_numbers.specs.Tables.{memory_ops}
 use Rattle.tv_numbers.specs.Views.{View, flag_of}
 use Rattle.tv_regs.proofs.ChoiceLaws.{group_sound}
-use Rattle.tv_regs.proofs.PickLaws.{pick_sound, pick_complete, pick_next, kept_complete, kept_sound, kept_next}
+use Rattle.tv_regs.proofs.PickLaws.{pick_sound, pick_complete, pick_next}
 use Rattle.tv_regs.specs.Choices.{group}
-use Rattle.tv_regs.specs.Picking.{kept_of, pick_of}
+use Rattle.tv_regs.specs.Picking.{pick_of}
 use Rattle.tv_step.specs.Trace.{tape_cell}
 use Rattle.tv_word.proofs.WidthLaws.{width_short, for_widths}
 use Rattle.tv_word.specs.Widths.{IsWidth}
@@ -48,7 +48,7 @@ pub place_small : (w : ℕ) → IsWidth w → (a : ℕ) → a < 2 ^ w → a / (w
 place_small w width a small = for_widths (λ w. a < 2 ^ w → a / (w / 8) < 2 ^ 30) (λ h. omega arith) (λ h. omega arith) w width small
 
 pub data_next : (w : ℕ) (state : StateWires) (op : ℕ) (a : Bits) (t : Tapes) (next : ℕ) → (data_of w state op a t next).next ≡ next + (w + 5)
-unfolding data_of kept_of pick_of times_of fresh put pure ◌>>=◌
+unfolding data_of pick_of times_of fresh put pure ◌>>=◌
 data_next w state op a t next = omega (arith, new_bits_next w next)
 
 pub data_filled : (w : ℕ) → IsWidth w → (z : List ℕ) (next n : ℕ) (state : StateWires) (op : ℕ) (a : Bits) (t : Tapes) (v : View) (i : Instr) (o : ℕ) (takes : Bool) → n < 2 ^ 29 → v.taken ≤ n → o < 2 ^ w

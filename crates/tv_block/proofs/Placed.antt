@@ -21,7 +21,7 @@ use Rattle.tv_regs.proofs.PickLaws.{pick_next}
 use Rattle.tv_regs.proofs.ReadLaws.{read_reg_next}
 use Rattle.tv_regs.proofs.WriteLaws.{write_reg_answer}
 use Rattle.tv_regs.specs.Choices.{choose_of, group}
-use Rattle.tv_regs.specs.Picking.{kept_of, pick_of}
+use Rattle.tv_regs.specs.Picking.{pick_of}
 use Rattle.tv_regs.specs.Reading.{read_reg_of}
 use Rattle.tv_word.proofs.WidthLaws.{width_short}
 use Rattle.tv_word.specs.Widths.{IsWidth}
@@ -79,12 +79,12 @@ operand_place w state f next =
 
 tape_places : (w n : ℕ) (state : StateWires) (op : ℕ) (a : Bits) (next : ℕ)
     → ((tapes_of w n state op a next).answer.taken ≡ next + 5) × ((tapes_of w n state op a next).answer.takes ≡ next + 6) × ((tapes_of w n state op a next).answer.ended ≡ next + 7)
-unfolding tapes_of if_zero_of unless_zero_of times_of kept_of taking_of fresh put pure ◌>>=◌
+unfolding tapes_of if_zero_of unless_zero_of times_of taking_of fresh put pure ◌>>=◌
 tape_places w n state op a next = (omega arith, omega arith, omega arith)
 
 data_places : (w : ℕ) (state : StateWires) (op : ℕ) (a : Bits) (t : Tapes) (next : ℕ)
     → ((data_of w state op a t next).answer.word ≡ next + w) × ((data_of w state op a t next).answer.cell ≡ next + (w + 2)) × ((data_of w state op a t next).answer.old ≡ next + (w + 3))
-unfolding data_of kept_of pick_of times_of fresh put pure ◌>>=◌
+unfolding data_of pick_of times_of fresh put pure ◌>>=◌
 data_places w state op a t next = let e = new_bits_next w next in (omega arith, omega arith, omega arith)
 
 new_place : (w : ℕ) → IsWidth w → (op : ℕ) (operands : Operands) (d : Data) (next : ℕ) → (store_of w op operands d next).answer.new ≡ next + 3 * (w / 16)

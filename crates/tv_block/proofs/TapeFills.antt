@@ -3,11 +3,11 @@ use Rattle.std.proofs.Common.{◌≡◌, ℕ, ◌+◌, ◌-◌, ◌*◌, ◌/◌
 use Rattle.std.specs.Int.{bit_at}
 use Rattle.std.specs.Prelude.{slice_index}
 use Rattle.tv_bits.proofs.SpelledNumbers.{value-bits_below, Spells-high, Spells-bit_at}
-use Rattle.tv_bits.proofs.TimesLaws.{times_sound, times_complete, times_next, residue_below}
+use Rattle.tv_bits.proofs.TimesLaws.{times_sound, times_complete, times_next, residue_below, kept_complete, kept_next}
 use Rattle.tv_bits.specs.Bit.{IsBit}
 use Rattle.tv_bits.specs.Bits.{Spells, bits_combination}
 use Rattle.tv_bits.specs.OneHot.{IsOneHot}
-use Rattle.tv_bits.specs.Times.{times_of}
+use Rattle.tv_bits.specs.Times.{times_of, kept_of}
 use Rattle.tv_bits.specs.declared.bit_wires.Bits.{Bits}
 use Rattle.tv_core.proofs.CombinationLaws.{value-less, value-append, value-wire, value-constant}
 use Rattle.tv_core.proofs.FieldLaws.{InField-cons, InField-none}
@@ -22,9 +22,7 @@ use Rattle.tv_isa.specs.declared.instr.Instr.{Instr}
 use Rattle.tv_numbers.specs.Numbers.{operand_word, asks, takes_primary, stepped}
 use Rattle.tv_numbers.specs.Views.{View, flag_of}
 use Rattle.tv_regs.proofs.ChoiceLaws.{group_sound}
-use Rattle.tv_regs.proofs.PickLaws.{kept_complete, kept_next}
 use Rattle.tv_regs.specs.Choices.{group}
-use Rattle.tv_regs.specs.Picking.{kept_of}
 use Rattle.tv_word.proofs.WidthLaws.{width_short}
 use Rattle.tv_word.specs.Widths.{IsWidth}
 use Rattle.tv_block.proofs.GateFills.{if_zero_next, unless_zero_next, if_zero_complete, unless_zero_complete, taking_complete}
@@ -39,7 +37,7 @@ left_number : (n t : ℕ) → t ≤ n → n < 2 ^ 29 → (n % P + (P - t)) % P �
 left_number n t h k = omega arith
 
 pub tapes_next : (w n : ℕ) (state : StateWires) (op : ℕ) (a : Bits) (next : ℕ) → (tapes_of w n state op a next).next ≡ next + 8
-unfolding tapes_of if_zero_of unless_zero_of times_of kept_of taking_of fresh put pure ◌>>=◌
+unfolding tapes_of if_zero_of unless_zero_of times_of taking_of fresh put pure ◌>>=◌
 tapes_next w n state op a next = omega arith
 
 pub tapes_filled : (w : ℕ) → IsWidth w → (z : List ℕ) (next n : ℕ) (state : StateWires) (op : ℕ) (a : Bits) (v : View) (i : Instr) (o : ℕ) (takes : Bool) → n < 2 ^ 29 → v.taken ≤ n → IsBit v.ended
@@ -89,7 +87,7 @@ tapes_filled w width z next n state op a v i o takes short within bit is_taken i
 
 -- whether a word is taken is chosen freely
 pub tapes_takes : (w : ℕ) (z : List ℕ) (next n : ℕ) (state : StateWires) (op : ℕ) (a : Bits) (v : View) (i : Instr) (o : ℕ) (takes : Bool) → HasFrom z next (tapes_values w n v i o takes) → slice_index z (tapes_of w n state op a next).answer.takes ≡ flag_of takes
-unfolding tapes_of if_zero_of unless_zero_of times_of kept_of taking_of fresh put pure ◌>>=◌
+unfolding tapes_of if_zero_of unless_zero_of times_of taking_of fresh put pure ◌>>=◌
 tapes_takes w z next n state op a v i o takes has = has.1.1.1.1.1.1.0
 
 pub tapes_fills : (w n : ℕ) (state : StateWires) (op : ℕ) (a : Bits) (v : View) (i : Instr) (o : ℕ) (takes : Bool) → Fills (tapes_of w n state op a) (tapes_values w n v i o takes)

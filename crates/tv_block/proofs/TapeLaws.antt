@@ -4,10 +4,10 @@ use Rattle.std.specs.Int.{bit_at}
 use Rattle.std.specs.Prelude.{slice_index}
 use Rattle.std.proofs.lemmas.Bool.{cases_eq, cases_lt, eq-eqb, ne_eqb, lt-ltb, le-ltb}
 use Rattle.tv_bits.proofs.SpelledNumbers.{value-bits_below, Spells-high, Spells-bit_at}
-use Rattle.tv_bits.proofs.TimesLaws.{times_sound}
+use Rattle.tv_bits.proofs.TimesLaws.{times_sound, kept_sound}
 use Rattle.tv_bits.specs.Bit.{IsBit}
 use Rattle.tv_bits.specs.Bits.{Spells, bits_combination}
-use Rattle.tv_bits.specs.Times.{times_of}
+use Rattle.tv_bits.specs.Times.{times_of, kept_of}
 use Rattle.tv_core.proofs.CombinationLaws.{value-less, value-append, value-wire, value-constant}
 use Rattle.tv_core.proofs.Meeting.{Meets-split}
 use Rattle.tv_core.specs.Circuits.{fresh, pure, ◌>>=◌}
@@ -18,9 +18,7 @@ use Rattle.tv_isa.specs.Opcodes.{among}
 use Rattle.tv_numbers.specs.Numbers.{operand_word, asks, takes_primary}
 use Rattle.tv_numbers.specs.Views.{flag_of}
 use Rattle.tv_regs.proofs.ChoiceLaws.{group_sound}
-use Rattle.tv_regs.proofs.PickLaws.{kept_sound}
 use Rattle.tv_regs.specs.Choices.{group}
-use Rattle.tv_regs.specs.Picking.{kept_of}
 use Rattle.tv_word.proofs.WidthLaws.{width_short}
 use Rattle.tv_block.proofs.GateLaws.{if_zero_sound, unless_zero_sound, taking_sound}
 use Rattle.tv_block.specs.Gates.{if_zero_of, unless_zero_of, taking_of}

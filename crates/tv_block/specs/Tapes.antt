@@ -3,7 +3,7 @@ use Rattle.std.specs.Prelude.{◌≡◌, ℕ, ◌+◌, ◌-◌, ◌^◌, ◌<◌
 use Rattle.tv_bits.specs.Bit.{IsBit}
 use Rattle.tv_bits.specs.Bits.{Spells, bits_combination}
 use Rattle.tv_bits.specs.OneHot.{IsOneHot}
-use Rattle.tv_bits.specs.Times.{times_of}
+use Rattle.tv_bits.specs.Times.{times_of, kept_of}
 use Rattle.tv_bits.specs.declared.bit_wires.Bits.{Bits}
 use Rattle.tv_core.specs.Circuits.{Circuit, fresh, pure, ◌>>=◌}
 use Rattle.tv_core.specs.Combinations.{wire, constant, less}
@@ -13,7 +13,6 @@ use Rattle.tv_numbers.specs.Numbers.{operand_word, asks, takes_primary}
 use Rattle.tv_numbers.specs.Views.{View, flag_of}
 use Rattle.tv_word.specs.Widths.{IsWidth}
 use Rattle.tv_regs.specs.Choices.{group}
-use Rattle.tv_regs.specs.Picking.{kept_of}
 use Rattle.tv_block.specs.Gates.{if_zero_of, unless_zero_of, taking_of}
 use Rattle.tv_block.specs.declared.records.StateWires.{StateWires}
 use Rattle.tv_block.specs.declared.records.Tapes.{Tapes}

@@ -6,10 +6,10 @@ ghost use Rattle.tv_word.specs.Widths.{IsWidth};
 
 use crate::gates::{if_zero, taking, unless_zero};
 use crate::records::{StateWires, Tapes};
-use tv_bits::{Bits, times};
+use tv_bits::{Bits, kept, times};
 use tv_core::{F, Lc, Put, Sink, Wire};
 use tv_isa::opcode::READ;
-use tv_regs::{group, kept};
+use tv_regs::group;
 
 /// What a step does to the tapes, `n` being the primary tape's words, `op` its opcode's row and `a`
 /// the bits of its operand. It makes 8 wires and 8 constraints.

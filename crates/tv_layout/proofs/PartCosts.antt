@@ -50,7 +50,7 @@ use Rattle.tv_muldiv.specs.Quotient.{zero_divisor_of, quotient_wires_of, gate_of
 use Rattle.tv_muldiv.specs.SignedHigh.{signed_bits_of, signed_high_of}
 use Rattle.tv_decode.specs.Fields.{fields_of}
 use Rattle.tv_regs.specs.Choices.{choice_of, choices_of, choose_of}
-use Rattle.tv_regs.specs.Picking.{kept_of, pick_of}
+use Rattle.tv_regs.specs.Picking.{pick_of}
 use Rattle.tv_regs.specs.Reading.{read_of, read_reg_of}
 use Rattle.tv_regs.specs.Writing.{write_of, tie_of as written_of, write_reg_of}
 use Rattle.tv_block.specs.Block.{compute_of, block_of}
@@ -66,7 +66,7 @@ use Rattle.tv_block.specs.Tapes.{tapes_of}
 
 -- ---- a step
 step_terms : (w : ℕ) → IsWidth w → (n : ℕ) (state : StateWires) (time next : ℕ) → terms_in (block_of w n state time next).list ≡ block_terms w
-unfolding weighted pure here fresh put ◌>>=◌ turns bit_of new_bit new_bits_of bits_of nonzero_of mark_of onehot_of first_difference two_ands_of next_product zero_product_of prefix_difference_of ratio_of select_of times_of zero_of sub_of split_of add_of order_flags_of signed_size_of greater_of compare_of and_pair_of new_and_pair_of and_of logic_flags_of logic_of logic_words_of half_bit_of halves_of masked_pair_of masked_of mask_at digit_at places_of parts_of by_half_of by_rest_of ends_of shift_of both mark level_product_of level_of thermometer_of power_of product_bits_of product_of zero_divisor_of quotient_wires_of gate_of division_of remainder_below_of quotient_of signed_bits_of signed_high_of fields_of choice_of choices_of choose_of kept_of pick_of read_of read_reg_of write_of write_reg_of compute_of block_of data_of fetch_of if_zero_of unless_zero_of taking_of groups_of operands_of pc_of result_of patch_of_two patch_of_four patch_of store_of tapes_of written_of each_below
+unfolding weighted pure here fresh put ◌>>=◌ turns bit_of new_bit new_bits_of bits_of nonzero_of mark_of onehot_of first_difference two_ands_of next_product zero_product_of prefix_difference_of ratio_of select_of times_of zero_of sub_of split_of add_of order_flags_of signed_size_of greater_of compare_of and_pair_of new_and_pair_of and_of logic_flags_of logic_of logic_words_of half_bit_of halves_of masked_pair_of masked_of mask_at digit_at places_of parts_of by_half_of by_rest_of ends_of shift_of both mark level_product_of level_of thermometer_of power_of product_bits_of product_of zero_divisor_of quotient_wires_of gate_of division_of remainder_below_of quotient_of signed_bits_of signed_high_of fields_of choice_of choices_of choose_of pick_of read_of read_reg_of write_of write_reg_of compute_of block_of data_of fetch_of if_zero_of unless_zero_of taking_of groups_of operands_of pc_of result_of patch_of_two patch_of_four patch_of store_of tapes_of written_of each_below
 step_terms w width n state time next = for_widths (λ w. terms_in (block_of w n state time next).list ≡ block_terms w) refl refl w width
 
 -- ---- words, and lines behind the network

@@ -1,16 +1,17 @@
 -- The parts of a sorted pair: how far the cells are apart, the word that is carried, and a size.
-use Rattle.std.proofs.Common.{◌≡◌, ℕ, ◌+◌, ◌-◌, ◌*◌, ◌%◌, ◌^◌, ◌<◌, ◌≤◌, List, [], ◌∷◌, ◌++◌, length, refl, sym, ◌∙◌, ap, ap₂, subst, arith}
+use Rattle.std.proofs.Common.{◌≡◌, ℕ, ◌+◌, ◌-◌, ◌*◌, ◌%◌, ◌^◌, ◌<◌, ◌≤◌, List, [], ◌∷◌, ◌++◌, length, sym, ◌∙◌, ap, ap₂, subst, arith}
 use Rattle.std.specs.Int.{bit_at}
 use Rattle.std.specs.Prelude.{slice_index}
 use Rattle.tv_bits.proofs.SpelledNumbers.{Spells-below, Spells-from_values, value-plus_one}
 use Rattle.tv_bits.proofs.SpellingLaws.{new_bits_answer, new_bits_next, new_bits_sound, new_bits_complete}
+use Rattle.tv_bits.proofs.TimesLaws.{kept_answer, kept_next, kept_sound, kept_complete}
 use Rattle.tv_bits.proofs.ZeroLaws.{zero_next, zero_sound, zero_complete}
 use Rattle.tv_bits.specs.Bits.{Spells, spelled, bits_values, bits_combination, new_bits_of}
 use Rattle.tv_bits.specs.Times.{times_of}
 use Rattle.tv_bits.specs.Zero.{zero_of, zero_flag, zero_values}
 use Rattle.tv_bits.specs.declared.bit_wires.Bits.{Bits}
 use Rattle.tv_core.proofs.BelowLaws.{length-each_below}
-use Rattle.tv_core.proofs.CombinationLaws.{value-less, value-wire, value-once}
+use Rattle.tv_core.proofs.CombinationLaws.{value-less, value-wire}
 use Rattle.tv_core.proofs.Meeting.{Meets-split, Meets-join, HasFrom-split}
 use Rattle.tv_core.specs.Circuits.{fresh, put, pure, ◌>>=◌}
 use Rattle.tv_core.specs.Combinations.{constant, less, wire}
@@ -25,12 +26,12 @@ use Rattle.tv_lines.specs.declared.rows.LineBits.{LineBits}
 
 -- ---- what the circuits answer, and where they end
 pub apart_answer : (before after : LineBits) (next : ℕ) → (apart_of before after next).answer ≡ next
-unfolding apart_of times_of fresh put pure ◌>>=◌
-apart_answer before after next = refl
+unfolding apart_of
+apart_answer before after next = kept_answer (less (number after.cell) (number before.cell)) next
 
 pub apart_next : (before after : LineBits) (next : ℕ) → (apart_of before after next).next ≡ next + 1
-unfolding apart_of times_of fresh put pure ◌>>=◌
-apart_next before after next = refl
+unfolding apart_of
+apart_next before after next = kept_next (less (number after.cell) (number before.cell)) next
 
 pub carried_next : (apart : ℕ) (before after : LineBits) (next : ℕ) → (carried_of apart before after next).next ≡ next + 2
 unfolding carried_of put ◌>>=◌
@@ -56,7 +57,7 @@ size_sound z c next short assigns meets =
     let sum : value (bits_combination bits.answer.first bits.answer.n ++ constant 1) z ≡ spelled z bits.answer.first c + 1 =
     ap (λ k. value (bits_combination bits.answer.first k ++ constant 1) z) n ∙ value-plus_one s assigns short in
     let is : slice_index z bits.next ≡ spelled z bits.answer.first c + 1 =
-    sym (value-wire assigns bits.next) ∙ sym both.1.0 ∙ value-once z (bits_combination bits.answer.first bits.answer.n ++ constant 1) assigns ∙ sum in
+    kept_sound z bits.next (bits_combination bits.answer.first bits.answer.n ++ constant 1) assigns both.1 ∙ sum in
     let small = Spells-below s in
     (omega arith, omega arith)
 
@@ -73,7 +74,7 @@ size_complete z next v some small assigns has =
     let sum : value (bits_combination bits.answer.first bits.answer.n ++ constant 1) z ≡ v =
     ap (λ k. value (bits_combination bits.answer.first k ++ constant 1) z) n ∙ value-plus_one s assigns (omega arith) ∙ omega arith in (
       Meets-join z bits.list _ (new_bits_complete z next 11 (v - 1) assigns both.0)
-          (value-once z (bits_combination bits.answer.first bits.answer.n ++ constant 1) assigns ∙ sum ∙ sym is ∙ sym (value-wire assigns bits.next), tt),
+          (kept_complete z bits.next (bits_combination bits.answer.first bits.answer.n ++ constant 1) assigns (is ∙ sym sum, tt)),
       is,
     )
 
@@ -85,12 +86,12 @@ module _ (z : List ℕ) (before after : LineBits) (l m : Line) (b : HasWidths be
       ∙ ap₂ (λ x y. (x + (P - y)) % P) (number_value z after.cell 31 m.cell a.cell (omega arith) sm.cell) (number_value z before.cell 31 l.cell b.cell (omega arith) sl.cell)
 
   pub apart_sound : (next : ℕ) → Meets z (apart_of before after next).list → slice_index z (apart_of before after next).answer ≡ cells_apart l m
-  unfolding apart_of times_of fresh put pure ◌>>=◌
-  apart_sound next meets = sym (value-wire assigns next) ∙ sym meets.0 ∙ value-once z (less (number after.cell) (number before.cell)) assigns ∙ cells
+  unfolding apart_of
+  apart_sound next meets = kept_sound z next (less (number after.cell) (number before.cell)) assigns meets ∙ cells
 
   pub apart_complete : (next : ℕ) → slice_index z next ≡ cells_apart l m → Meets z (apart_of before after next).list
-  unfolding apart_of times_of fresh put pure ◌>>=◌
-  apart_complete next is = (value-once z (less (number after.cell) (number before.cell)) assigns ∙ cells ∙ sym is ∙ sym (value-wire assigns next), tt)
+  unfolding apart_of
+  apart_complete next is = kept_complete z next (less (number after.cell) (number before.cell)) assigns (is ∙ sym cells, tt)
 
   olds : value (number after.old) z ≡ m.old
   olds = number_value z after.old 32 m.old a.old (omega arith) sm.old

@@ -3,7 +3,7 @@ use Rattle.std.specs.Prelude.{◌≡◌, ℕ, ◌+◌, ◌-◌, ◌*◌, ◌%◌
 use Rattle.tv_bits.specs.Bits.{bits_combination, bits_values, new_bits_of}
 use Rattle.tv_bits.specs.Order.{prefix_difference, first_difference}
 use Rattle.tv_bits.specs.Prefixes.{zero_product_of, products_values}
-use Rattle.tv_bits.specs.Times.{times_of}
+use Rattle.tv_bits.specs.Times.{kept_of}
 use Rattle.tv_bits.specs.Zero.{zero_of, zero_values}
 use Rattle.tv_bits.specs.declared.bit_wires.Bits.{Bits}
 use Rattle.tv_core.specs.Below.{each_below}
@@ -38,7 +38,7 @@ bits_from x p = bits_combination (x.first + p) (x.n - p)
 -- ---- the circuit
 -- a new wire: by how much the second cell is above the first, modulo P
 unfoldable pub apart_of : LineBits → LineBits → Circuit ℕ
-apart_of before after = times_of (less (number after.cell) (number before.cell)) (constant 1)
+apart_of before after = kept_of (less (number after.cell) (number before.cell))
 
 -- where the cells are not apart the second old is the first new, and else it is 0
 unfoldable pub carried_of : ℕ → LineBits → LineBits → Circuit (Unit {0})
@@ -50,7 +50,7 @@ carried_of apart before after = do
 unfoldable pub size_of : ℕ → Circuit ℕ
 size_of c = do
   bits ← new_bits_of c
-  times_of (number bits ++ constant 1) (constant 1)
+  kept_of (number bits ++ constant 1)
 
 -- by how much the second cell is above the first, both without their p lowest bits
 abbrev pub cell_less : LineBits → LineBits → ℕ → Combination

@@ -12,7 +12,7 @@ ghost use Rattle.tv_lines.specs.Unpacking.{HasWidths, AreMade};
 
 use crate::rising::{CHUNK, fill_rises, rises, size};
 use crate::rows::LineBits;
-use tv_bits::{fill_bits, fill_zero, new_bits, times, zero};
+use tv_bits::{fill_bits, fill_zero, kept, new_bits, zero};
 use tv_core::{F, Lc, LineNum, Put, Sink, Values, Wire};
 
 /// Holds two lines to follow each other in address order: the cell of the second is above that of
@@ -46,7 +46,7 @@ fn cells_apart<S: Sink>(s: &mut S, before: &LineBits, after: &LineBits) -> Put<W
 {
     let mut difference = after.cell.lc();
     before.cell.plus_to(&mut difference, -F::ONE);
-    times(s, &difference, &Lc::constant(F::ONE))
+    kept(s, &difference)
 }
 
 // The second line's old word is the first's new one where the cells are not apart, and else 0.
@@ -72,7 +72,7 @@ fn new_size<S: Sink>(s: &mut S) -> Put<Wire>
     ensures below { IfOk result (λ size. size < S.meaning.wires s.new) }
 {
     let bits = new_bits(s, CHUNK)?;
-    times(s, &bits.plus_one(), &Lc::constant(F::ONE))
+    kept(s, &bits.plus_one())
 }
 
 /// Holds the first line in address order to an old word of 0. It makes no wire and 1 constraint, of

@@ -2,38 +2,26 @@
 use Rattle.std.proofs.Common.{◌≡◌, ℕ, ◌+◌, ◌-◌, ◌*◌, ◌/◌, ◌%◌, ◌^◌, ◌<◌, ◌≤◌, List, [], ◌∷◌, ◌++◌, length, bit_and, bit_or, bit_xor, sym, subst, ◌∙◌, ap, ap₂, arith}
 use Rattle.std.specs.Int.Bits.{or_add_and, xor_add_and}
 use Rattle.std.specs.Prelude.{slice_index}
-use Rattle.tv_bits.proofs.TimesLaws.{times_answer, times_next, times_sound, times_complete}
+use Rattle.tv_bits.proofs.TimesLaws.{kept_answer, kept_next, kept_sound, kept_complete}
 use Rattle.tv_bits.proofs.SpelledNumbers.{Spells-below, value-bits_below}
 use Rattle.tv_bits.specs.Bits.{Spells, bits_combination}
 use Rattle.tv_bits.specs.Pairs.{negative}
+use Rattle.tv_bits.specs.Times.{kept_of}
 use Rattle.tv_bits.specs.declared.bit_wires.Bits.{Bits}
 use Rattle.tv_core.proofs.BelowLaws.{length-each_below}
-use Rattle.tv_core.proofs.CombinationLaws.{value-append, value-scaled, value-less, value-constant, value-once}
+use Rattle.tv_core.proofs.CombinationLaws.{value-append, value-scaled, value-less, value-constant}
 use Rattle.tv_core.proofs.Meeting.{Meets-split, Meets-join, HasFrom-split}
 use Rattle.tv_core.specs.Circuits.{pure, ◌>>=◌}
 use Rattle.tv_core.specs.Combinations.{constant, scaled}
-use Rattle.tv_core.specs.Constraints.{Combination, value}
+use Rattle.tv_core.specs.Constraints.{value}
 use Rattle.tv_core.specs.Laws.{Assigns, Meets, HasFrom}
 use Rattle.tv_core.specs.declared.field.TheConstants.{P}
 use Rattle.tv_logic.proofs.AndLaws.{and_answer, and_next, and_sound, and_complete}
 use Rattle.tv_logic.specs.Ands.{pair_in, pair_values, and_of}
-use Rattle.tv_logic.specs.Words.{bits_turned, hold_of, sum_less, complement, logic_words_of, word_values}
+use Rattle.tv_logic.specs.Words.{bits_turned, sum_less, complement, logic_words_of, word_values}
 use Rattle.tv_logic.specs.declared.answers.LogicWords.{LogicWords}
 use Rattle.tv_word.proofs.WidthLaws.{width_short, word_small}
 use Rattle.tv_word.specs.Widths.{IsWidth}
-
--- ---- a wire that holds a value
-hold_answer : (x : Combination) (next : ℕ) → (hold_of x next).answer ≡ next
-hold_answer x next = times_answer x (constant 1) next
-
-hold_next : (x : Combination) (next : ℕ) → (hold_of x next).next ≡ next + 1
-hold_next x next = times_next x (constant 1) next
-
-hold_sound : (z : List ℕ) (next : ℕ) (x : Combination) → Assigns z → Meets z (hold_of x next).list → slice_index z (hold_of x next).answer ≡ value x z
-hold_sound z next x assigns meets = times_sound z next x (constant 1) assigns meets ∙ value-once z x assigns
-
-hold_complete : (z : List ℕ) (next : ℕ) (x : Combination) → Assigns z → slice_index z next ≡ value x z → Meets z (hold_of x next).list
-hold_complete z next x assigns is = times_complete z next x (constant 1) assigns (is ∙ sym (value-once z x assigns), tt)
 
 -- ---- the values
 or_number : (a b ands ors : ℕ) → a < 2 ^ 32 → b < 2 ^ 32 → ors + ands ≡ a + b → ((a + 1 * b % P) % P + (P - 1) * ands % P) % P ≡ ors
@@ -84,20 +72,20 @@ module _ (w : ℕ) (width : IsWidth w) (x y : Bits) (next : ℕ) where
   or_from = (and_of w x y next).next
 
   abbrev xor_from : ℕ
-  xor_from = (hold_of (sum_less w x y 1 (and_of w x y next).answer) or_from).next
+  xor_from = (kept_of (sum_less w x y 1 (and_of w x y next).answer) or_from).next
 
   abbrev not_from : ℕ
-  not_from = (hold_of (sum_less w x y 2 (and_of w x y next).answer) xor_from).next
+  not_from = (kept_of (sum_less w x y 2 (and_of w x y next).answer) xor_from).next
 
   xor_from_is : xor_from ≡ next + w / 2 + 1
-  xor_from_is = hold_next (sum_less w x y 1 (and_of w x y next).answer) or_from ∙ ap (λ n. n + 1) (and_next w width x y next)
+  xor_from_is = kept_next (sum_less w x y 1 (and_of w x y next).answer) or_from ∙ ap (λ n. n + 1) (and_next w width x y next)
 
   not_from_is : not_from ≡ next + w / 2 + 1 + 1
-  not_from_is = hold_next (sum_less w x y 2 (and_of w x y next).answer) xor_from ∙ ap (λ n. n + 1) xor_from_is
+  not_from_is = kept_next (sum_less w x y 2 (and_of w x y next).answer) xor_from ∙ ap (λ n. n + 1) xor_from_is
 
   pub words_next : (logic_words_of w x y next).next ≡ next + (w / 2 + 3)
   unfolding logic_words_of pure ◌>>=◌
-  words_next = hold_next (complement w y) not_from ∙ omega (arith, not_from_is)
+  words_next = kept_next (complement w y) not_from ∙ omega (arith, not_from_is)
 
   words_same : (a b c d e f g h : ℕ) → a ≡ e → b ≡ f → c ≡ g → d ≡ h
       → ◌≡◌ {A = LogicWords} (record { and_word = a; or_word = b; xor_word = c; not_word = d }) (record { and_word = e; or_word = f; xor_word = g; not_word = h })
@@ -108,9 +96,9 @@ module _ (w : ℕ) (width : IsWidth w) (x y : Bits) (next : ℕ) where
   words_answer =
       words_same _ _ _ _ next (next + w / 2) (next + (w / 2 + 1)) (next + (w / 2 + 2))
       (and_answer w x y next)
-      (hold_answer (sum_less w x y 1 (and_of w x y next).answer) or_from ∙ and_next w width x y next)
-      (hold_answer (sum_less w x y 2 (and_of w x y next).answer) xor_from ∙ xor_from_is ∙ omega arith)
-      (hold_answer (complement w y) not_from ∙ not_from_is ∙ omega arith)
+      (kept_answer (sum_less w x y 1 (and_of w x y next).answer) or_from ∙ and_next w width x y next)
+      (kept_answer (sum_less w x y 2 (and_of w x y next).answer) xor_from ∙ xor_from_is ∙ omega arith)
+      (kept_answer (complement w y) not_from ∙ not_from_is ∙ omega arith)
 
 pub words_sound : (w : ℕ) → IsWidth w → (z : List ℕ) (next : ℕ) (x y : Bits) (a b : ℕ) → Assigns z → Spells z x.first w a → Spells z y.first w b → Meets z (logic_words_of w x y next).list
     → HoldWords w z (logic_words_of w x y next).answer a b
@@ -118,15 +106,15 @@ unfolding logic_words_of pure ◌>>=◌
 words_sound w width z next x y a b assigns p q meets =
     let at = (and_of w x y next).answer in
     let ands_met = Meets-split z (and_of w x y next).list _ meets in
-    let ors_met = Meets-split z (hold_of (sum_less w x y 1 at) (or_from w width x y next)).list _ ands_met.1 in
-    let xors_met = Meets-split z (hold_of (sum_less w x y 2 at) (xor_from w width x y next)).list _ ors_met.1 in
-    let nots_met = Meets-split z (hold_of (complement w y) (not_from w width x y next)).list [] xors_met.1 in
+    let ors_met = Meets-split z (kept_of (sum_less w x y 1 at) (or_from w width x y next)).list _ ands_met.1 in
+    let xors_met = Meets-split z (kept_of (sum_less w x y 2 at) (xor_from w width x y next)).list _ ors_met.1 in
+    let nots_met = Meets-split z (kept_of (complement w y) (not_from w width x y next)).list [] xors_met.1 in
     let ands : slice_index z at ≡ bit_and a b = and_sound w width z next x y a b assigns p q ands_met.0 in
     record {
       ands = ands;
-      ors = hold_sound z (or_from w width x y next) (sum_less w x y 1 at) assigns ors_met.0 ∙ value-or w width z assigns x y a b p q at ands;
-      xors = hold_sound z (xor_from w width x y next) (sum_less w x y 2 at) assigns xors_met.0 ∙ value-xor w width z assigns x y a b p q at ands;
-      nots = hold_sound z (not_from w width x y next) (complement w y) assigns nots_met.0 ∙ value-not w width z assigns x y a b p q;
+      ors = kept_sound z (or_from w width x y next) (sum_less w x y 1 at) assigns ors_met.0 ∙ value-or w width z assigns x y a b p q at ands;
+      xors = kept_sound z (xor_from w width x y next) (sum_less w x y 2 at) assigns xors_met.0 ∙ value-xor w width z assigns x y a b p q at ands;
+      nots = kept_sound z (not_from w width x y next) (complement w y) assigns nots_met.0 ∙ value-not w width z assigns x y a b p q;
     }
 
 pub words_complete : (w : ℕ) → IsWidth w → (z : List ℕ) (next : ℕ) (x y : Bits) (a b : ℕ) → Assigns z → Spells z x.first w a → Spells z y.first w b → HasFrom z next (word_values w a b)
@@ -143,6 +131,6 @@ words_complete w width z next x y a b assigns p q has =
     let xors = ap (λ k. slice_index z k) (xor_from_is w width x y next) ∙ rest.1.0 ∙ sym (value-xor w width z assigns x y a b p q at ands) in
     let nots = ap (λ k. slice_index z k) (not_from_is w width x y next) ∙ rest.1.1.0 ∙ sym (value-not w width z assigns x y a b p q) in
     Meets-join z (and_of w x y next).list _ (and_complete w width z next x y a b assigns p q (has.0, split.0))
-    (Meets-join z (hold_of (sum_less w x y 1 at) (or_from w width x y next)).list _ (hold_complete z (or_from w width x y next) (sum_less w x y 1 at) assigns ors)
-    (Meets-join z (hold_of (sum_less w x y 2 at) (xor_from w width x y next)).list _ (hold_complete z (xor_from w width x y next) (sum_less w x y 2 at) assigns xors)
-    (Meets-join z (hold_of (complement w y) (not_from w width x y next)).list [] (hold_complete z (not_from w width x y next) (complement w y) assigns nots) tt)))
+    (Meets-join z (kept_of (sum_less w x y 1 at) (or_from w width x y next)).list _ (kept_complete z (or_from w width x y next) (sum_less w x y 1 at) assigns (ors, tt))
+    (Meets-join z (kept_of (sum_less w x y 2 at) (xor_from w width x y next)).list _ (kept_complete z (xor_from w width x y next) (sum_less w x y 2 at) assigns (xors, tt))
+    (Meets-join z (kept_of (complement w y) (not_from w width x y next)).list [] (kept_complete z (not_from w width x y next) (complement w y) assigns (nots, tt)) tt)))

@@ -2,7 +2,7 @@
 use Rattle.std.specs.Prelude.{ℕ, ◌-◌, ◌^◌, bit_and, bit_or, bit_xor, List, [], ◌∷◌, ◌++◌}
 use Rattle.tv_bits.specs.Bits.{bits_combination}
 use Rattle.tv_bits.specs.Pairs.{negative}
-use Rattle.tv_bits.specs.Times.{times_of}
+use Rattle.tv_bits.specs.Times.{kept_of}
 use Rattle.tv_bits.specs.declared.bit_wires.Bits.{Bits}
 use Rattle.tv_core.specs.Circuits.{Circuit, pure, ◌>>=◌}
 use Rattle.tv_core.specs.Combinations.{constant, scaled, less}
@@ -13,10 +13,6 @@ use Rattle.tv_logic.specs.declared.answers.LogicWords.{LogicWords}
 -- the word with each bit of x turned
 abbrev pub bits_turned : ℕ → ℕ → ℕ
 bits_turned w x = 2 ^ w - 1 - x
-
--- a new wire that holds the value of x
-abbrev pub hold_of : Combination → Circuit ℕ
-hold_of x = times_of x (constant 1)
 
 -- the sum of two words, less k times a wire
 abbrev pub sum_less : ℕ → Bits → Bits → ℕ → ℕ → Combination
@@ -30,9 +26,9 @@ complement w y = less (constant (2 ^ w - 1)) (bits_combination y.first w)
 unfoldable pub logic_words_of : ℕ → Bits → Bits → Circuit LogicWords
 logic_words_of w x y = do
   and_word ← and_of w x y
-  or_word ← hold_of (sum_less w x y 1 and_word)
-  xor_word ← hold_of (sum_less w x y 2 and_word)
-  not_word ← hold_of (complement w y)
+  or_word ← kept_of (sum_less w x y 1 and_word)
+  xor_word ← kept_of (sum_less w x y 2 and_word)
+  not_word ← kept_of (complement w y)
   pure (record { and_word = and_word; or_word = or_word; xor_word = xor_word; not_word = not_word })
 
 -- the values of the wires that are made

@@ -2,13 +2,13 @@ ghost use Rattle.std.specs.Prelude.{◌≡◌, ◌+◌, ◌-◌, ◌/◌, ◌^�
 ghost use Rattle.tv_core.specs.Combinations.{top};
 ghost use Rattle.tv_core.specs.Giving.{GivesIn};
 ghost use Rattle.tv_core.specs.Sinks.{PutsIn, Grows, Room};
-ghost use Rattle.tv_logic.specs.Words.{hold_of, sum_less, complement, logic_words_of};
+ghost use Rattle.tv_logic.specs.Words.{sum_less, complement, logic_words_of};
 ghost use Rattle.tv_logic.specs.Words.{word_values};
 ghost use Rattle.tv_word.specs.Widths.{IsWidth};
 
 use crate::ands::{and_word, fill_and};
 use crate::answers::LogicWords;
-use tv_bits::{Bits, times};
+use tv_bits::{Bits, kept};
 use tv_core::{F, Lc, Put, Sink, Values, Wire, give_values};
 use tv_word::arithmetic::inverted;
 
@@ -28,26 +28,15 @@ pub(crate) fn words<const W: u32, S: Sink>(s: &mut S, x: &Bits, y: &Bits) -> Put
     ensures not_below { IfOk result (λ made. made.not_word < S.meaning.wires s.new) }
 {
     let and_word = and_word::<W, S>(s, x, y)?;
-    let or_word = hold(s, &sum_less::<W>(x, y, F::ONE, and_word))?;
-    let xor_word = hold(s, &sum_less::<W>(x, y, F::of(2), and_word))?;
-    let not_word = hold(s, &complement::<W>(y))?;
+    let or_word = kept(s, &sum_less::<W>(x, y, F::ONE, and_word))?;
+    let xor_word = kept(s, &sum_less::<W>(x, y, F::of(2), and_word))?;
+    let not_word = kept(s, &complement::<W>(y))?;
     Ok(LogicWords {
         and_word,
         or_word,
         xor_word,
         not_word,
     })
-}
-
-// A new wire that holds the value of `x`.
-fn hold<S: Sink>(s: &mut S, x: &Lc) -> Put<Wire>
-    requires room { Room S.meaning s.old 1 1 }
-    requires x_made { top x.now ≤ S.meaning.wires s.old }
-    ensures puts { PutsIn S.meaning s.old s.new (hold_of x.now) result }
-    ensures grows { IfOk result (λ _. Grows S.meaning s.old s.new 1 1) }
-    ensures below { IfOk result (λ w. w < S.meaning.wires s.new) }
-{
-    times(s, x, &Lc::constant(F::ONE))
 }
 
 // The sum of two words, less `k` times a wire.

@@ -1,43 +1,15 @@
--- The laws of a value kept, and of one of two.
-use Rattle.std.proofs.Common.{◌≡◌, ℕ, ◌+◌, ◌-◌, ◌*◌, ◌%◌, List, [], refl, sym, ◌∙◌, ap}
+-- The laws of one of two.
+use Rattle.std.proofs.Common.{◌≡◌, ℕ, ◌+◌, ◌-◌, ◌*◌, ◌%◌, List, refl, sym, ◌∙◌, ap}
 use Rattle.std.specs.Prelude.{slice_index}
 use Rattle.tv_bits.proofs.SizeLaws.{select_in_field}
-use Rattle.tv_core.proofs.CombinationLaws.{value-below, value-constant, value-less, value-wire, wire-below}
-use Rattle.tv_core.proofs.FieldLaws.{InField-none, InField-cons}
+use Rattle.tv_core.proofs.CombinationLaws.{value-below, value-less, value-wire, wire-below}
 use Rattle.tv_core.specs.Circuits.{fresh, put, pure, ◌>>=◌}
 use Rattle.tv_core.specs.Combinations.{wire, less}
 use Rattle.tv_core.specs.Constraints.{Combination, value}
 use Rattle.tv_core.specs.Laws.{Assigns}
 use Rattle.tv_core.specs.declared.field.TheConstants.{P}
-use Rattle.tv_regs.specs.Picking.{kept_of, pick_of, KeptIsSound, KeptIsComplete, KeptSizes, PickIsSound, PickIsComplete, PickSizes}
+use Rattle.tv_regs.specs.Picking.{pick_of, PickIsSound, PickIsComplete, PickSizes}
 use Rattle.tv_bits.proofs.SelectLaws.{sound_by, complete_by}
-use Rattle.tv_bits.proofs.SpellingLaws.{times_one_right}
-
-pub kept_sound : KeptIsSound
-unfolding kept_of fresh put pure ◌>>=◌
-kept_sound z next x assigns meets =
-    sym (value-wire assigns next) ∙ sym meets.0 ∙ ap (λ n. value x z * n % P) (value-constant assigns 1) ∙ times_one_right (value x z) (value-below x z)
-
-pub kept_complete : KeptIsComplete
-unfolding kept_of fresh put pure ◌>>=◌
-kept_complete z next x assigns has =
-    (ap (λ n. value x z * n % P) (value-constant assigns 1) ∙ times_one_right (value x z) (value-below x z) ∙ sym has.0 ∙ sym (value-wire assigns next), tt)
-
-pub kept_answer : (x : Combination) (next : ℕ) → (kept_of x next).answer ≡ next
-unfolding kept_of fresh put pure ◌>>=◌
-kept_answer x next = refl
-
-pub kept_next : (x : Combination) (next : ℕ) → (kept_of x next).next ≡ next + 1
-unfolding kept_of fresh put pure ◌>>=◌
-kept_next x next = refl
-
-pub kept_sizes : KeptSizes
-kept_sizes = record {
-  answer = kept_answer;
-  end = kept_next;
-  fills = λ x v next. kept_next x next;
-  in_field = λ v small. InField-cons v [] small InField-none;
-}
 
 module _ (z : List ℕ) (assigns : Assigns z) (b : Combination) (w : ℕ) (x y : Combination) where
   left : value b z * value (less x y) z % P ≡ value b z * ((value x z + (P - value y z)) % P) % P

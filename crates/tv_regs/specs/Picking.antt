@@ -1,41 +1,13 @@
--- A value kept as a wire, and one of two by a bit that is a combination.
-use Rattle.std.specs.Prelude.{◌≡◌, ℕ, ◌+◌, ◌<◌, List, [], ◌∷◌, slice_index}
+-- One of two by a bit that is a combination.
+use Rattle.std.specs.Prelude.{◌≡◌, ℕ, ◌+◌, ◌<◌, List, slice_index}
 use Rattle.tv_bits.specs.Bit.{IsBit}
 use Rattle.tv_bits.specs.Select.{selected, select_values}
 use Rattle.tv_core.specs.Circuits.{Circuit, fresh, put, pure, ◌>>=◌}
-use Rattle.tv_core.specs.Combinations.{wire, constant, less}
+use Rattle.tv_core.specs.Combinations.{wire, less}
 use Rattle.tv_core.specs.Constraints.{Combination, value}
 use Rattle.tv_core.specs.Laws.{Assigns, Meets, HasFrom, Fills, InField}
 use Rattle.tv_core.specs.declared.field.TheConstants.{P}
 
--- ---- a value kept
--- a new wire that is x: x times 1 is the wire
-unfoldable pub kept_of : Combination → Circuit ℕ
-kept_of x = do
-  w ← fresh
-  _ ← put x (constant 1) (wire w)
-  pure w
-
--- the value of the wire that is made
-abbrev pub kept_values : ℕ → List ℕ
-kept_values v = v ∷ []
-
--- in an assignment that meets what was put the wire holds the value
-abbrev pub KeptIsSound : Type 0
-KeptIsSound = (z : List ℕ) (next : ℕ) (x : Combination) → Assigns z → Meets z (kept_of x next).list → slice_index z (kept_of x next).answer ≡ value x z
-
--- an assignment that has the value at the wire that was made meets what was put
-abbrev pub KeptIsComplete : Type 0
-KeptIsComplete = (z : List ℕ) (next : ℕ) (x : Combination) → Assigns z → HasFrom z next (kept_values (value x z)) → Meets z (kept_of x next).list
-
--- which wire is answered, and that the values are one number of the field for each wire that is made
-pub record KeptSizes : Type 0 where
-  pub answer : (x : Combination) (next : ℕ) → (kept_of x next).answer ≡ next
-  pub end : (x : Combination) (next : ℕ) → (kept_of x next).next ≡ next + 1
-  pub fills : (x : Combination) (v : ℕ) → Fills (kept_of x) (kept_values v)
-  pub in_field : (v : ℕ) → v < P → InField (kept_values v)
-
--- ---- one of two
 -- a new wire that is x where b is 1, and y where it is 0: b times x less y is the wire less y. The values are those
 -- of `select`
 unfoldable pub pick_of : Combination → Combination → Combination → Circuit ℕ

@@ -14,10 +14,7 @@ mod writing;
 pub use choices::{
     choose, choose_fills, choose_is_complete, choose_is_sound, fill_choose, group, group_is_sound,
 };
-pub use picking::{
-    fill_kept, kept, kept_fills, kept_is_complete, kept_is_sound, pick, pick_fills,
-    pick_is_complete, pick_is_sound,
-};
+pub use picking::{pick, pick_fills, pick_is_complete, pick_is_sound};
 pub use reading::{
     fill_read_reg, read_reg, read_reg_fills, read_reg_is_complete, read_reg_is_sound,
 };

@@ -1,34 +1,9 @@
-ghost use Rattle.std.specs.Prelude.{◌≡◌, ◌≤◌, ◌<◌, false, length, IfOk, OnOk};
+ghost use Rattle.std.specs.Prelude.{◌≤◌, ◌<◌, length, IfOk};
 ghost use Rattle.tv_core.specs.Combinations.{top};
-ghost use Rattle.tv_core.specs.Giving.{GivesIn};
 ghost use Rattle.tv_core.specs.Sinks.{PutsIn, Grows, Room};
-ghost use Rattle.tv_regs.specs.Picking.{kept_of, kept_values, pick_of, KeptIsSound, KeptIsComplete};
-ghost use Rattle.tv_regs.specs.Picking.{KeptSizes, PickIsSound, PickIsComplete, PickSizes};
+ghost use Rattle.tv_regs.specs.Picking.{pick_of, PickIsSound, PickIsComplete, PickSizes};
 
-use tv_core::{F, Lc, Put, Sink, Values, Wire};
-
-/// A wire that holds the value of `x`. It makes 1 wire and 1 constraint, of 2 terms and those of
-/// `x`.
-pub fn kept<S: Sink>(s: &mut S, x: &Lc) -> Put<Wire>
-    requires room { Room S.meaning s.old 1 1 }
-    requires x_made { top x.now ≤ S.meaning.wires s.old }
-    ensures puts { PutsIn S.meaning s.old s.new (kept_of x.now) result }
-    ensures grows { IfOk result (λ _. Grows S.meaning s.old s.new 1 1) }
-    ensures below { IfOk result (λ w. w < S.meaning.wires s.new) }
-{
-    let w = s.fresh();
-    s.put(x, &Lc::constant(F::ONE), &Lc::wire(w))?;
-    Ok(w)
-}
-
-/// Gives the value of the wire that `kept` makes.
-pub fn fill_kept<V: Values>(v: &mut V, x: F) -> Put<()>
-    requires { V.giving.broken v.old ≡ false }
-    ensures gives { GivesIn V.giving v.old v.new (kept_values x) result }
-    ensures whole { OnOk result (V.giving.broken v.new ≡ false) }
-{
-    v.give(x)
-}
+use tv_core::{Lc, Put, Sink, Wire};
 
 /// A wire that is `x` where the combination `b`, a bit, is 1, and `y` where it is 0; `x` and `y`
 /// have at most 64 terms. It makes 1 wire and 1 constraint, of 1 term and those of `b`, of `x`, and
@@ -53,25 +28,6 @@ pub fn pick<S: Sink>(s: &mut S, b: &Lc, x: &Lc, y: &Lc) -> Put<Wire>
     s.put(b, &difference, &rest)?;
     Ok(w)
 }
-
-/// Where an assignment meets what `kept` put, its wire holds the value.
-#[tactic(auto, using(crate::proofs::PickLaws::kept_sound))]
-pub fn kept_is_sound()
-    ensures { KeptIsSound }
-{}
-
-/// Where an assignment has the value at the wire that was made, it meets what `kept` put.
-#[tactic(auto, using(crate::proofs::PickLaws::kept_complete))]
-pub fn kept_is_complete()
-    ensures { KeptIsComplete }
-{}
-
-/// Says which wire `kept` answers, whatever the next wire is, and that `fill_kept` gives one value
-/// for it, below P.
-#[tactic(auto, using(crate::proofs::PickLaws::kept_sizes))]
-pub fn kept_fills()
-    ensures { KeptSizes }
-{}
 
 /// Where the combination is a bit in an assignment that meets what `pick` put, its wire holds the
 /// selected value.
