@@ -13,7 +13,7 @@ use Rattle.tv_core.specs.declared.lines.PairNum.{PairNum}
 use Rattle.tv_bits.proofs.BitLaws.{bit_complete}
 use Rattle.tv_bits.proofs.SelectLaws.{select_complete}
 use Rattle.tv_bits.specs.Bit.{IsBit, bit_of}
-use Rattle.tv_bits.specs.Select.{selected, select_of}
+use Rattle.tv_bits.specs.Select.{selected, pick_of}
 use Rattle.tv_benes.proofs.ThroughLaws.{twice, switches-suc, missing_small, one_switch, alternating-same, through-same}
 use Rattle.tv_benes.specs.Through.{switches, missing, from, passed, to_upper, to_lower, alternating, through}
 use Rattle.tv_benes.proofs.NetworkLaws.{IsSwitch, column_sound, value_alternating, switch_next, column_next, network_next, network_sound}
@@ -39,7 +39,7 @@ chosen_second true x y = refl
 chosen_second false x y = refl
 
 switch_complete : (z : List ℕ) (x y : Pair) (next : ℕ) (b : Bool) → Assigns z → HasFrom z next (switch_values b (pair_value z x) (pair_value z y)) → Meets z (switch_of x y next).list
-unfolding switch_of bit_of select_of fresh put pure ◌>>=◌
+unfolding switch_of bit_of pick_of fresh put pure ◌>>=◌
 switch_complete z x y next b assigns has =
     let px = pair_value z x in
     let py = pair_value z y in

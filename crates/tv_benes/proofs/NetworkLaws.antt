@@ -15,7 +15,7 @@ use Rattle.tv_core.specs.declared.lines.PairNum.{PairNum}
 use Rattle.tv_bits.proofs.BitLaws.{bit_sound}
 use Rattle.tv_bits.proofs.SelectLaws.{select_sound}
 use Rattle.tv_bits.specs.Bit.{IsBit, bit_of}
-use Rattle.tv_bits.specs.Select.{select_of}
+use Rattle.tv_bits.specs.Select.{pick_of}
 use Rattle.tv_benes.proofs.ThroughLaws.{twice, switches-suc, missing_small, one_switch, last_bit-same, alternating-same, joined-same, through-same}
 use Rattle.tv_benes.specs.Network.{pair_value, switch_of, column_of, last_column_of, network_of, bit_in, IsNetwork, NetworkIsSound}
 use Rattle.tv_benes.specs.Places.{wires_at, fifth, row, output, output_wire, column_outputs, last_outputs, last_wire}
@@ -32,7 +32,7 @@ passed_pair false x y = refl
 
 -- ---- a switch
 pub switch_next : (x y : Pair) (next : ℕ) → (switch_of x y next).next ≡ next + 5
-unfolding switch_of bit_of select_of fresh put pure ◌>>=◌
+unfolding switch_of bit_of pick_of fresh put pure ◌>>=◌
 switch_next x y next = omega arith
 
 pub record IsSwitch (z : List ℕ) (x y : PairNum) (at : ℕ) : Type 0 where
@@ -41,7 +41,7 @@ pub record IsSwitch (z : List ℕ) (x y : PairNum) (at : ℕ) : Type 0 where
   pub second : pair_value z (wires_at (at + 3)) ≡ passed (slice_index z at == 1) y x
 
 switch_sound : (z : List ℕ) (x y : Pair) (next : ℕ) → Assigns z → Meets z (switch_of x y next).list → IsSwitch z (pair_value z x) (pair_value z y) next
-unfolding switch_of bit_of select_of fresh put pure ◌>>=◌
+unfolding switch_of bit_of pick_of fresh put pure ◌>>=◌
 switch_sound z x y next assigns meets =
     let b = slice_index z next in
     let bit : IsBit b = bit_sound z next next assigns (meets.0, tt) in

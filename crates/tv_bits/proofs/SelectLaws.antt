@@ -1,5 +1,5 @@
 -- The laws of a choice.
-use Rattle.std.proofs.Common.{◌≡◌, mod-lt, ℕ, ◌+◌, ◌-◌, ◌*◌, ◌%◌, ◌<◌, List, inl, inr, refl, sym, ◌∙◌, ap, ap₂, arith}
+use Rattle.std.proofs.Common.{◌≡◌, mod-lt, ℕ, ◌+◌, ◌-◌, ◌*◌, ◌%◌, ◌<◌, List, inl, inr, refl, sym, ◌∙◌, ap, subst, arith}
 use Rattle.std.specs.Prelude.{slice_index}
 use Rattle.tv_core.proofs.CombinationLaws.{value-less, value-below, value-wire, wire-below}
 use Rattle.tv_core.proofs.DifferenceLaws.{same_of_minus, cancel_minus}
@@ -10,7 +10,7 @@ use Rattle.tv_core.specs.Laws.{Assigns}
 use Rattle.tv_core.specs.declared.field.TheConstants.{P}
 use Rattle.tv_bits.proofs.BitLaws.{bit_cases}
 use Rattle.tv_bits.specs.Bit.{IsBit}
-use Rattle.tv_bits.specs.Select.{selected, select_of, SelectIsSound, SelectIsComplete}
+use Rattle.tv_bits.specs.Select.{selected, pick_of, select_of, PickIsSound, PickIsComplete, SelectIsSound, SelectIsComplete}
 
 -- the constraint, as numbers
 pub selected-zero : (b x y : ℕ) → b ≡ 0 → selected b x y ≡ y
@@ -37,29 +37,46 @@ complete_by b x y w ys bit e = elim (bit_cases b bit) [
   | inr one ↦ times_one b _ one (mod-lt _ (omega arith)) ∙ ap (λ v. (v + (P - y)) % P) (sym (e ∙ selected-one b x y one))
 ]
 
-pub select_answer : (b : ℕ) (x y : Combination) (next : ℕ) → (select_of b x y next).answer ≡ next
-unfolding select_of fresh put pure ◌>>=◌
-select_answer b x y next = refl
+pub pick_answer : (b x y : Combination) (next : ℕ) → (pick_of b x y next).answer ≡ next
+unfolding pick_of fresh put pure ◌>>=◌
+pick_answer b x y next = refl
 
-pub select_next : (b : ℕ) (x y : Combination) (next : ℕ) → (select_of b x y next).next ≡ next + 1
-unfolding select_of fresh put pure ◌>>=◌
-select_next b x y next = refl
+pub pick_next : (b x y : Combination) (next : ℕ) → (pick_of b x y next).next ≡ next + 1
+unfolding pick_of fresh put pure ◌>>=◌
+pick_next b x y next = refl
 
--- the three combinations of the constraint
-module _ (z : List ℕ) (assigns : Assigns z) (b w : ℕ) (x y : Combination) where
-  left : value (wire b) z * value (less x y) z % P ≡ slice_index z b * ((value x z + (P - value y z)) % P) % P
-  left = ap₂ (λ m n. m * n % P) (value-wire assigns b) (value-less x y z)
+-- the two sides of the constraint
+module _ (z : List ℕ) (assigns : Assigns z) (b : Combination) (w : ℕ) (x y : Combination) where
+  left : value b z * value (less x y) z % P ≡ value b z * ((value x z + (P - value y z)) % P) % P
+  left = ap (λ n. value b z * n % P) (value-less x y z)
 
   right : value (less (wire w) y) z ≡ (slice_index z w + (P - value y z)) % P
   right = value-less (wire w) y z ∙ ap (λ n. (n + (P - value y z)) % P) (value-wire assigns w)
 
-pub select_sound : SelectIsSound
-unfolding select_of fresh put pure ◌>>=◌
-select_sound z next b x y assigns bit meets =
-    sound_by (slice_index z b) (value x z) (value y z) (slice_index z next) (value-below x z) (value-below y z) (wire-below assigns next) bit
+pub pick_sound : PickIsSound
+unfolding pick_of fresh put pure ◌>>=◌
+pick_sound z next b x y assigns bit meets =
+    sound_by (value b z) (value x z) (value y z) (slice_index z next) (value-below x z) (value-below y z) (wire-below assigns next) bit
     (sym (left z assigns b next x y) ∙ meets.0 ∙ right z assigns b next x y)
 
+pub pick_complete : PickIsComplete
+unfolding pick_of fresh put pure ◌>>=◌
+pick_complete z next b x y assigns bit has =
+    (left z assigns b next x y ∙ complete_by (value b z) (value x z) (value y z) (slice_index z next) (value-below y z) bit has.0 ∙ sym (right z assigns b next x y), tt)
+
+-- ---- the same where the bit is a wire
+pub select_answer : (b : ℕ) (x y : Combination) (next : ℕ) → (select_of b x y next).answer ≡ next
+select_answer b x y next = pick_answer (wire b) x y next
+
+pub select_next : (b : ℕ) (x y : Combination) (next : ℕ) → (select_of b x y next).next ≡ next + 1
+select_next b x y next = pick_next (wire b) x y next
+
+pub select_sound : SelectIsSound
+select_sound z next b x y assigns bit meets =
+    let is = value-wire assigns b in
+    pick_sound z next (wire b) x y assigns (subst IsBit (sym is) bit) meets ∙ ap (λ n. selected n (value x z) (value y z)) is
+
 pub select_complete : SelectIsComplete
-unfolding select_of fresh put pure ◌>>=◌
 select_complete z next b x y assigns bit has =
-    (left z assigns b next x y ∙ complete_by (slice_index z b) (value x z) (value y z) (slice_index z next) (value-below y z) bit has.0 ∙ sym (right z assigns b next x y), tt)
+    let is = value-wire assigns b in
+    pick_complete z next (wire b) x y assigns (subst IsBit (sym is) bit) (has.0 ∙ ap (λ n. selected n (value x z) (value y z)) (sym is), tt)

@@ -12,14 +12,14 @@ use Rattle.tv_core.specs.declared.field.TheConstants.{P}
 use Rattle.tv_bits.proofs.BitLaws.{bit_next}
 use Rattle.tv_bits.proofs.OneHotLaws.{onehot_answer, onehot_next}
 use Rattle.tv_bits.proofs.PairLaws.{two_ands_next}
-use Rattle.tv_bits.proofs.SelectLaws.{select_answer, select_next}
+use Rattle.tv_bits.proofs.SelectLaws.{pick_answer, pick_next, select_answer, select_next}
 use Rattle.tv_bits.proofs.SpellingLaws.{new_bits_answer, new_bits_next, bits_answer, bits_next}
 use Rattle.tv_bits.proofs.ZeroLaws.{zero_answer, zero_next}
 use Rattle.tv_bits.specs.Bit.{BitSizes}
 use Rattle.tv_bits.specs.Bits.{bits_values, NewBitsSizes, BitsSizes}
 use Rattle.tv_bits.specs.OneHot.{one_at, onehot_values, OneHotSizes}
 use Rattle.tv_bits.specs.Pairs.{TwoAndsSizes}
-use Rattle.tv_bits.specs.Select.{selected, select_values, SelectSizes}
+use Rattle.tv_bits.specs.Select.{selected, select_values, PickSizes, SelectSizes}
 use Rattle.tv_bits.specs.Zero.{zero_flag, zero_values, ZeroSizes}
 
 pub length-bits : (v n : ℕ) → length (bits_values v n) ≡ n
@@ -70,6 +70,14 @@ selected-below c v w h k = grind (arith, nat_tests)
 
 pub select_in_field : (c v w : ℕ) → v < P → w < P → InField (select_values c v w)
 select_in_field c v w h k = InField-cons (selected c v w) [] (selected-below c v w h k) InField-none
+
+pub pick_sizes : PickSizes
+pick_sizes = record {
+  answer = pick_answer;
+  end = pick_next;
+  fills = λ b x y c v w next. pick_next b x y next;
+  in_field = select_in_field;
+}
 
 pub select_sizes : SelectSizes
 select_sizes = record {

@@ -35,8 +35,8 @@ pub use products::{
 };
 pub use rows::{fill_onehot, onehot, onehot_fills, onehot_is_complete, onehot_is_sound, row_sum};
 pub use selection::{
-    fill_select, select, select_fills, select_is_complete, select_is_sound, select_terms,
-    select_wires,
+    fill_select, pick, pick_fills, pick_is_complete, pick_is_sound, select, select_fills,
+    select_is_complete, select_is_sound, select_terms, select_wires,
 };
 pub use spelling::{
     bits, bits_are_complete, bits_are_sound, bits_fill, fill_bits, new_bits, new_bits_are_complete,

@@ -1,6 +1,7 @@
 ghost use Rattle.std.specs.Prelude.{◌≡◌, ◌≤◌, ◌<◌, false, length, IfOk, OnOk};
 ghost use Rattle.tv_bits.specs.Select.{selected, select_of, select_values, SelectIsSound};
-ghost use Rattle.tv_bits.specs.Select.{SelectIsComplete, SelectSizes};
+ghost use Rattle.tv_bits.specs.Select.{SelectIsComplete, SelectSizes, pick_of, PickIsSound};
+ghost use Rattle.tv_bits.specs.Select.{PickIsComplete, PickSizes};
 ghost use Rattle.tv_core.specs.Combinations.{wire, top};
 ghost use Rattle.tv_core.specs.Giving.{GivesIn};
 ghost use Rattle.tv_core.specs.Sinks.{PutsIn, Grows, Room};
@@ -20,7 +21,7 @@ pub fn select<S: Sink>(s: &mut S, b: Wire, x: &Lc, y: &Lc) -> Put<Wire>
     ensures grows { IfOk result (λ _. Grows S.meaning s.old s.new 1 1) }
     ensures below { IfOk result (λ chosen. chosen < S.meaning.wires s.new) }
 {
-    select_terms(s, &mut Scratch::new(), b, x.terms(), y.terms())
+    pick(s, &Lc::wire(b), x, y)
 }
 
 /// The same of two lists of terms, from combinations that are filled again.
@@ -41,15 +42,8 @@ pub fn select_terms<S: Sink>(
     ensures grows { IfOk result (λ _. Grows S.meaning s.old s.new 1 1) }
     ensures below { IfOk result (λ chosen. chosen < S.meaning.wires s.new) }
 {
-    let chosen = s.fresh();
     scratch.a.set_wire(b);
-    scratch.b.clear();
-    scratch.b.plus_terms(x);
-    scratch.b.plus_scaled(-F::ONE, y);
-    scratch.c.set_wire(chosen);
-    scratch.c.plus_scaled(-F::ONE, y);
-    s.put(&scratch.a, &scratch.b, &scratch.c)?;
-    Ok(chosen)
+    pick_by(s, &scratch.a, &mut scratch.b, &mut scratch.c, x, y)
 }
 
 /// The same of two wires.
@@ -74,6 +68,59 @@ pub fn select_wires<S: Sink>(
     scratch.c.set_difference(chosen, y);
     s.put(&scratch.a, &scratch.b, &scratch.c)?;
     Ok(chosen)
+}
+
+/// A wire that is `x` where the combination `b`, a bit, is 1, and `y` where it is 0; `x` and `y`
+/// have at most 64 terms. It makes 1 wire and 1 constraint, of 1 term and those of `b`, of `x`, and
+/// of `y` twice. Its generator is `fill_select`.
+pub fn pick<S: Sink>(s: &mut S, b: &Lc, x: &Lc, y: &Lc) -> Put<Wire>
+    requires room { Room S.meaning s.old 1 1 }
+    requires b_made { top b.now ≤ S.meaning.wires s.old }
+    requires x_made { top x.now ≤ S.meaning.wires s.old }
+    requires y_made { top y.now ≤ S.meaning.wires s.old }
+    requires x_short { length x.now ≤ 64 }
+    requires y_short { length y.now ≤ 64 }
+    ensures puts { PutsIn S.meaning s.old s.new (pick_of b.now x.now y.now) result }
+    ensures grows { IfOk result (λ _. Grows S.meaning s.old s.new 1 1) }
+    ensures below { IfOk result (λ w. w < S.meaning.wires s.new) }
+{
+    pick_by(
+        s,
+        b,
+        &mut Lc::empty(),
+        &mut Lc::empty(),
+        x.terms(),
+        y.terms(),
+    )
+}
+
+// The same of two lists of terms; the second factor and the product are filled again.
+fn pick_by<S: Sink>(
+    s: &mut S,
+    b: &Lc,
+    factor: &mut Lc,
+    product: &mut Lc,
+    x: &[(F, Wire)],
+    y: &[(F, Wire)],
+) -> Put<Wire>
+    requires room { Room S.meaning s.old 1 1 }
+    requires b_made { top b.now ≤ S.meaning.wires s.old }
+    requires x_made { top x.now ≤ S.meaning.wires s.old }
+    requires y_made { top y.now ≤ S.meaning.wires s.old }
+    requires x_short { length x.now ≤ 64 }
+    requires y_short { length y.now ≤ 64 }
+    ensures puts { PutsIn S.meaning s.old s.new (pick_of b.now x.now y.now) result }
+    ensures grows { IfOk result (λ _. Grows S.meaning s.old s.new 1 1) }
+    ensures below { IfOk result (λ w. w < S.meaning.wires s.new) }
+{
+    let w = s.fresh();
+    factor.clear();
+    factor.plus_terms(x);
+    factor.plus_scaled(-F::ONE, y);
+    product.set_wire(w);
+    product.plus_scaled(-F::ONE, y);
+    s.put(b, factor, product)?;
+    Ok(w)
 }
 
 /// Gives the value of the wire that `select` makes, the arguments being the values of its inputs.
@@ -109,4 +156,25 @@ pub fn select_is_complete()
 #[tactic(auto, using(crate::proofs::SizeLaws::select_sizes))]
 pub fn select_fills()
     ensures { SelectSizes }
+{}
+
+/// Where the combination is a bit in an assignment that meets what `pick` put, its wire holds the
+/// selected value.
+#[tactic(auto, using(crate::proofs::SelectLaws::pick_sound))]
+pub fn pick_is_sound()
+    ensures { PickIsSound }
+{}
+
+/// Where the combination is a bit in an assignment that has the selected value at the wire that
+/// was made, it meets what `pick` put.
+#[tactic(auto, using(crate::proofs::SelectLaws::pick_complete))]
+pub fn pick_is_complete()
+    ensures { PickIsComplete }
+{}
+
+/// Says which wire `pick` answers, whatever the next wire is, and that `fill_select` gives one
+/// value for it, below P.
+#[tactic(auto, using(crate::proofs::SizeLaws::pick_sizes))]
+pub fn pick_fills()
+    ensures { PickSizes }
 {}

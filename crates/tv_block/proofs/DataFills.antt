@@ -1,6 +1,7 @@
 -- Where an assignment has the values of the data word of a step.
 use Rattle.std.proofs.Common.{◌≡◌, ℕ, ◌+◌, ◌-◌, ◌*◌, ◌/◌, ◌%◌, ◌^◌, ◌<◌, ◌≤◌, ◌||◌, Bool, true, if◌then◌else◌, List, [], ◌∷◌, ◌++◌, length, length-append, refl, sym, ◌∙◌, ap, ap₂, subst, arith}
 use Rattle.std.specs.Prelude.{slice_index}
+use Rattle.tv_bits.proofs.SelectLaws.{pick_sound, pick_complete, pick_next}
 use Rattle.tv_bits.proofs.SizeLaws.{new_bits_sizes, bits_in_field, length-bits}
 use Rattle.tv_bits.proofs.SpelledNumbers.{value-bits_below, Spells-high, Spells-from_values}
 use Rattle.tv_bits.proofs.SpellingLaws.{new_bits_complete, new_bits_next, new_bits_answer}
@@ -8,6 +9,7 @@ use Rattle.tv_bits.proofs.TimesLaws.{times_complete, times_next, kept_sound, kep
 use Rattle.tv_bits.specs.Bit.{IsBit}
 use Rattle.tv_bits.specs.Bits.{Spells, bits_combination, bits_values, new_bits_of}
 use Rattle.tv_bits.specs.OneHot.{IsOneHot}
+use Rattle.tv_bits.specs.Select.{pick_of}
 use Rattle.tv_bits.specs.Times.{times_of, kept_of}
 use Rattle.tv_bits.specs.declared.bit_wires.Bits.{Bits}
 use Rattle.tv_core.proofs.CombinationLaws.{value-append, value-wire, value-constant}
@@ -24,9 +26,7 @@ use Rattle.tv_numbers.specs.Numbers.{operand_word, touches, asks, takes_primary,
 use Rattle.tv_numbers.specs.Tables.{memory_ops}
 use Rattle.tv_numbers.specs.Views.{View, flag_of}
 use Rattle.tv_regs.proofs.ChoiceLaws.{group_sound}
-use Rattle.tv_regs.proofs.PickLaws.{pick_sound, pick_complete, pick_next}
 use Rattle.tv_regs.specs.Choices.{group}
-use Rattle.tv_regs.specs.Picking.{pick_of}
 use Rattle.tv_step.specs.Trace.{tape_cell}
 use Rattle.tv_word.proofs.WidthLaws.{width_short, for_widths}
 use Rattle.tv_word.specs.Widths.{IsWidth}

@@ -2,12 +2,13 @@
 use Rattle.std.proofs.Common.{◌≡◌, ℕ, ◌+◌, ◌-◌, ◌*◌, ◌/◌, ◌%◌, ◌^◌, ◌<◌, ◌==◌, nat_lt, ◌&&◌, ◌||◌, Bool, true, false, if◌then◌else◌, ◌++◌, inl, inr, refl, sym, ◌∙◌, ap, ap₂, subst, arith, true≢false}
 use Rattle.std.specs.Prelude.{slice_index}
 use Rattle.std.proofs.lemmas.Bool.{cases_eq, eqb-true, ne_eqb, and_parts}
+use Rattle.tv_bits.proofs.SelectLaws.{pick_sound}
 use Rattle.tv_bits.proofs.SpelledNumbers.{value-bits_below, Spells-small, Spells-high}
 use Rattle.tv_bits.proofs.SpellingLaws.{new_bits_sound}
 use Rattle.tv_bits.proofs.TimesLaws.{times_sound, kept_sound}
 use Rattle.tv_bits.specs.Bit.{IsBit}
 use Rattle.tv_bits.specs.Bits.{Spells, spelled, bits_combination, new_bits_of}
-use Rattle.tv_bits.specs.Select.{selected}
+use Rattle.tv_bits.specs.Select.{selected, pick_of}
 use Rattle.tv_bits.specs.Times.{times_of, kept_of}
 use Rattle.tv_core.proofs.CombinationLaws.{value-append, value-wire, value-constant}
 use Rattle.tv_core.proofs.Meeting.{Meets-split}
@@ -22,9 +23,7 @@ use Rattle.tv_numbers.specs.Numbers.{operand_word, touches, asks, takes_primary}
 use Rattle.tv_numbers.specs.Tables.{memory_ops}
 use Rattle.tv_numbers.specs.Views.{View, flag_of}
 use Rattle.tv_regs.proofs.ChoiceLaws.{group_sound}
-use Rattle.tv_regs.proofs.PickLaws.{pick_sound}
 use Rattle.tv_regs.specs.Choices.{group}
-use Rattle.tv_regs.specs.Picking.{pick_of}
 use Rattle.tv_step.specs.Trace.{tape_cell}
 use Rattle.tv_word.proofs.WidthLaws.{width_short, for_widths}
 use Rattle.tv_word.specs.Widths.{IsWidth}

@@ -1,13 +1,13 @@
 -- Where an assignment has the values of the operands of a step.
 use Rattle.std.proofs.Common.{◌≡◌, ℕ, ◌+◌, ◌*◌, ◌%◌, ◌^◌, ◌<◌, if◌then◌else◌, List, ◌∷◌, ◌++◌, refl, sym, ◌∙◌, ap, ap₂, subst, arith, length, length-append}
 use Rattle.std.specs.Prelude.{slice_index}
-use Rattle.tv_bits.proofs.SelectLaws.{select_sound, select_complete, select_next}
+use Rattle.tv_bits.proofs.SelectLaws.{select_sound, select_complete, select_next, pick_sound, pick_complete, pick_next}
 use Rattle.tv_bits.proofs.SizeLaws.{bits_sizes, bits_in_field, length-bits}
 use Rattle.tv_bits.proofs.SpelledNumbers.{value-bits_below}
 use Rattle.tv_bits.proofs.SpellingLaws.{bits_complete, bits_next}
 use Rattle.tv_bits.specs.Bit.{IsBit}
 use Rattle.tv_bits.specs.Bits.{bits_combination, bits_of, bits_values}
-use Rattle.tv_bits.specs.Select.{select_of}
+use Rattle.tv_bits.specs.Select.{select_of, pick_of}
 use Rattle.tv_core.proofs.CombinationLaws.{value-wire}
 use Rattle.tv_core.proofs.FieldLaws.{InField-append, InField-cons}
 use Rattle.tv_core.proofs.Meeting.{Meets-join}
@@ -23,10 +23,8 @@ use Rattle.tv_numbers.specs.Numbers.{source_word, dest_word, operand_word, other
 use Rattle.tv_numbers.specs.Tables.{store_ops}
 use Rattle.tv_numbers.specs.Views.{View}
 use Rattle.tv_regs.proofs.ChoiceLaws.{group_sound}
-use Rattle.tv_regs.proofs.PickLaws.{pick_sound, pick_complete, pick_next}
 use Rattle.tv_regs.proofs.ReadLaws.{read_reg_sound, read_reg_complete, read_reg_next}
 use Rattle.tv_regs.specs.Choices.{group}
-use Rattle.tv_regs.specs.Picking.{pick_of}
 use Rattle.tv_regs.specs.Reading.{read_reg_of}
 use Rattle.tv_word.proofs.WidthLaws.{width_short}
 use Rattle.tv_word.specs.Widths.{IsWidth}

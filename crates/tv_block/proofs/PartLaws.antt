@@ -1,11 +1,11 @@
 -- The laws of the first parts of a step: its instruction, its operands, and the operations on them.
 use Rattle.std.proofs.Common.{◌≡◌, ℕ, ◌*◌, ◌%◌, Bool, true, false, if◌then◌else◌, refl, sym, ◌∙◌, ap, ap₂, subst, arith}
-use Rattle.tv_bits.proofs.SelectLaws.{select_sound}
+use Rattle.tv_bits.proofs.SelectLaws.{select_sound, pick_sound}
 use Rattle.tv_bits.proofs.SpelledNumbers.{value-bits_below}
 use Rattle.tv_bits.proofs.SpellingLaws.{new_bits_sound, bits_sound, bits_answer}
 use Rattle.tv_bits.specs.Bit.{IsBit}
 use Rattle.tv_bits.specs.Bits.{Spells, bits_combination, new_bits_of, bits_of}
-use Rattle.tv_bits.specs.Select.{selected, select_of}
+use Rattle.tv_bits.specs.Select.{selected, select_of, pick_of}
 use Rattle.tv_bits.specs.declared.bit_wires.Bits.{Bits}
 use Rattle.tv_cmp.proofs.CompareLaws.{compare_sound}
 use Rattle.tv_cmp.specs.Compare.{compare_of}
@@ -33,10 +33,8 @@ use Rattle.tv_muldiv.specs.SignedHigh.{signed_high_of}
 use Rattle.tv_numbers.specs.Tables.{unused_ops, store_ops}
 use Rattle.tv_numbers.specs.Views.{flag_of}
 use Rattle.tv_regs.proofs.ChoiceLaws.{group_sound}
-use Rattle.tv_regs.proofs.PickLaws.{pick_sound}
 use Rattle.tv_regs.proofs.ReadLaws.{read_reg_sound}
 use Rattle.tv_regs.specs.Choices.{group}
-use Rattle.tv_regs.specs.Picking.{pick_of}
 use Rattle.tv_regs.specs.Reading.{read_reg_of}
 use Rattle.tv_shift.proofs.ShiftLaws.{shift_sound}
 use Rattle.tv_shift.specs.Shift.{shift_of}

@@ -2,9 +2,10 @@
 use Rattle.std.proofs.Common.{◌≡◌, ℕ, ◌+◌, ◌*◌, ◌/◌, ◌%◌, ◌^◌, ◌≤◌, ◌<◌, List, [], ◌∷◌, ◌++◌, length, All, ◌∙◌, ap, arith}
 use Rattle.std.specs.List.{range_with_len}
 use Rattle.std.proofs.lemmas.List.Elements.{All-nil, All-cons}
+use Rattle.tv_bits.proofs.SelectLaws.{pick_next}
 use Rattle.tv_bits.proofs.SpellingLaws.{new_bits_answer, new_bits_next}
 use Rattle.tv_bits.specs.Bits.{bits_combination, new_bits_of}
-use Rattle.tv_bits.specs.Select.{select_of}
+use Rattle.tv_bits.specs.Select.{pick_of}
 use Rattle.tv_bits.specs.Times.{times_of}
 use Rattle.tv_bits.specs.Zero.{zero_of}
 use Rattle.tv_bits.specs.declared.bit_wires.Bits.{Bits}
@@ -17,11 +18,9 @@ use Rattle.tv_decode.proofs.FieldsLaws.{fields_answer}
 use Rattle.tv_decode.specs.declared.records.Fields.{Fields}
 use Rattle.tv_numbers.specs.Tables.{writer_ops}
 use Rattle.tv_regs.proofs.ChoiceLaws.{choose_answer, choose_next}
-use Rattle.tv_regs.proofs.PickLaws.{pick_next}
 use Rattle.tv_regs.proofs.ReadLaws.{read_reg_next}
 use Rattle.tv_regs.proofs.WriteLaws.{write_reg_answer}
 use Rattle.tv_regs.specs.Choices.{choose_of, group}
-use Rattle.tv_regs.specs.Picking.{pick_of}
 use Rattle.tv_regs.specs.Reading.{read_reg_of}
 use Rattle.tv_word.proofs.WidthLaws.{width_short}
 use Rattle.tv_word.specs.Widths.{IsWidth}
@@ -71,7 +70,7 @@ op_first w at =
     ap (λ (f : Fields). f.op) (fields_answer w head.answer tail.answer tail.next) ∙ omega (arith, new_bits_next w at, new_bits_next w head.next)
 
 operand_place : (w : ℕ) (state : StateWires) (f : Fetched) (next : ℕ) → (operands_of w state f next).answer.operand ≡ next + 3
-unfolding operands_of select_of fresh put pure ◌>>=◌
+unfolding operands_of pick_of fresh put pure ◌>>=◌
 operand_place w state f next =
     let source = read_reg_of f.fields.source state.regs next in
     let dest = read_reg_of f.fields.dest state.regs source.next in
@@ -102,7 +101,7 @@ regs_place w state f operands g d s next =
     write_reg_answer f.fields.dest writes.answer (wire result.answer) state.regs writes.next ∙ ap (λ k. range_with_len k 16) place
 
 pc_place : (w : ℕ) (state : StateWires) (op : ℕ) (a : Bits) (next : ℕ) → (pc_of w state op a next).answer ≡ next + 3
-unfolding pc_of zero_of select_of choose_of fresh put pure ◌>>=◌
+unfolding pc_of zero_of pick_of choose_of fresh put pure ◌>>=◌
 pc_place w state op a next = omega arith
 
 -- ---- three of a kind

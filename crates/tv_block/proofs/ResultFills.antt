@@ -1,8 +1,10 @@
 -- Where an assignment has the values of the result, the registers and the flag.
 use Rattle.std.proofs.Common.{◌≡◌, ℕ, ◌+◌, ◌<◌, ◌==◌, Bool, true, false, if◌then◌else◌, List, [], ◌∷◌, length, refl, sym, ◌∙◌, ap, ap₂, subst, arith}
 use Rattle.std.specs.Prelude.{slice_index, slice_set}
+use Rattle.tv_bits.proofs.SelectLaws.{pick_sound, pick_complete, pick_next}
 use Rattle.tv_bits.specs.Bit.{IsBit}
 use Rattle.tv_bits.specs.OneHot.{IsOneHot}
+use Rattle.tv_bits.specs.Select.{pick_of}
 use Rattle.tv_core.proofs.CombinationLaws.{value-wire}
 use Rattle.tv_core.proofs.FieldLaws.{InField-cons}
 use Rattle.tv_core.proofs.Meeting.{Meets-join}
@@ -17,10 +19,8 @@ use Rattle.tv_numbers.specs.Numbers.{operand_word, other_word, takes_primary, fo
 use Rattle.tv_numbers.specs.Tables.{writer_ops, flags}
 use Rattle.tv_numbers.specs.Views.{View, flag_of}
 use Rattle.tv_regs.proofs.ChoiceLaws.{group_sound, choose_complete, choose_next, choose_answer}
-use Rattle.tv_regs.proofs.PickLaws.{pick_sound, pick_complete, pick_next}
 use Rattle.tv_regs.proofs.WriteLaws.{length-written, write_reg_complete, write_reg_next, write_reg_in_field}
 use Rattle.tv_regs.specs.Choices.{group, choose_of}
-use Rattle.tv_regs.specs.Picking.{pick_of}
 use Rattle.tv_regs.specs.Reading.{words_at}
 use Rattle.tv_regs.specs.Writing.{written_regs, write_reg_values}
 use Rattle.tv_word.specs.Widths.{IsWidth}

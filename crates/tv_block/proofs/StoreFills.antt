@@ -2,13 +2,13 @@
 use Rattle.std.proofs.Common.{◌≡◌, ℕ, zero, suc, ◌+◌, ◌-◌, ◌*◌, ◌/◌, ◌%◌, ◌^◌, ◌<◌, ◌==◌, Bool, true, false, if◌then◌else◌, List, [], ◌∷◌, ◌++◌, length, length-append, refl, sym, ◌∙◌, ap, ap₂, subst, arith}
 use Rattle.std.specs.Int.{bit_at}
 use Rattle.std.specs.Prelude.{slice_index}
-use Rattle.tv_bits.proofs.SelectLaws.{select_sound, select_complete, select_next}
+use Rattle.tv_bits.proofs.SelectLaws.{select_sound, select_complete, select_next, pick_sound, pick_complete, pick_next}
 use Rattle.tv_bits.proofs.SpelledNumbers.{value-bits_below, Spells-below, Spells-low, Spells-bit_at}
 use Rattle.tv_bits.proofs.TimesLaws.{times_sound, times_complete, times_next, residue_below}
 use Rattle.tv_bits.specs.Bit.{IsBit}
 use Rattle.tv_bits.specs.Bits.{Spells, bits_combination}
 use Rattle.tv_bits.specs.OneHot.{IsOneHot}
-use Rattle.tv_bits.specs.Select.{selected, select_of}
+use Rattle.tv_bits.specs.Select.{selected, select_of, pick_of}
 use Rattle.tv_bits.specs.Times.{times_of}
 use Rattle.tv_bits.specs.declared.bit_wires.Bits.{Bits}
 use Rattle.tv_core.proofs.CombinationLaws.{value-less, value-append, value-wire}
@@ -25,9 +25,7 @@ use Rattle.tv_numbers.specs.Numbers.{operand_word, other_word, old_in, with_byte
 use Rattle.tv_numbers.proofs.RangeLaws.{with_byte_small}
 use Rattle.tv_numbers.specs.Views.{View, flag_of}
 use Rattle.tv_regs.proofs.ChoiceLaws.{group_sound}
-use Rattle.tv_regs.proofs.PickLaws.{pick_sound, pick_complete, pick_next}
 use Rattle.tv_regs.specs.Choices.{group}
-use Rattle.tv_regs.specs.Picking.{pick_of}
 use Rattle.tv_word.proofs.WidthLaws.{for_widths, word_small}
 use Rattle.tv_word.specs.Widths.{IsWidth}
 use Rattle.tv_block.proofs.DataFills.{old_small as old_in_field}
@@ -115,11 +113,11 @@ patch_filled : (w : ℕ) → IsWidth w → PatchIsFilled w
 patch_filled w width = for_widths PatchIsFilled two_patch four_patch w width
 
 two_ends : (bits a x : Bits) (next : ℕ) → (patch_of 16 bits a x next).next ≡ next + 2
-unfolding patch_of patch_of_two select_of times_of fresh put pure ◌>>=◌
+unfolding patch_of patch_of_two pick_of times_of fresh put pure ◌>>=◌
 two_ends bits a x next = omega arith
 
 four_ends : (bits a x : Bits) (next : ℕ) → (patch_of 32 bits a x next).next ≡ next + 5
-unfolding patch_of patch_of_four select_of times_of fresh put pure ◌>>=◌
+unfolding patch_of patch_of_four pick_of times_of fresh put pure ◌>>=◌
 four_ends bits a x next = omega arith
 
 pub patch_next : (w : ℕ) → IsWidth w → (bits a x : Bits) (next : ℕ) → (patch_of w bits a x next).next ≡ next + (3 * (w / 16) - 1)

@@ -3,9 +3,11 @@ use Rattle.std.proofs.Common.{◌≡◌, ℕ, ◌+◌, ◌-◌, ◌*◌, ◌%◌
 use Rattle.std.specs.Prelude.{slice_index, slice_set}
 use Rattle.std.proofs.lemmas.Bool.{agree_below_at, cases_eq, ne_eqb}
 use Rattle.tv_bits.proofs.BitLaws.{bit_cases}
+use Rattle.tv_bits.proofs.SelectLaws.{pick_sound}
 use Rattle.tv_bits.proofs.SpelledNumbers.{value-bits_below, Spells-below, Spells-bit_at, Spells-one}
 use Rattle.tv_bits.specs.Bit.{IsBit}
 use Rattle.tv_bits.specs.Bits.{Spells, bits_combination}
+use Rattle.tv_bits.specs.Select.{pick_of}
 use Rattle.tv_core.proofs.CombinationLaws.{value-less, value-append, value-wire, value-constant}
 use Rattle.tv_core.proofs.Meeting.{Meets-split}
 use Rattle.tv_core.specs.Circuits.{◌>>=◌}
@@ -20,10 +22,8 @@ use Rattle.tv_numbers.specs.Numbers.{operand_word, other_word, takes_primary, fo
 use Rattle.tv_numbers.specs.Tables.{unused_ops, writer_ops, results, flags}
 use Rattle.tv_numbers.specs.Views.{View, flag_of}
 use Rattle.tv_regs.proofs.ChoiceLaws.{group_sound, choose_sound}
-use Rattle.tv_regs.proofs.PickLaws.{pick_sound}
 use Rattle.tv_regs.proofs.WriteLaws.{write_reg_sound}
 use Rattle.tv_regs.specs.Choices.{group, choose_of, covers, numbers}
-use Rattle.tv_regs.specs.Picking.{pick_of}
 use Rattle.tv_regs.specs.Writing.{written_regs}
 use Rattle.tv_word.specs.Word.{has_bit}
 use Rattle.tv_word.proofs.WidthLaws.{width_short}

@@ -2,6 +2,7 @@
 use Rattle.std.specs.Prelude.{◌≡◌, ℕ, ◌+◌, ◌-◌, ◌/◌, ◌^◌, ◌<◌, ◌≤◌, Bool, if◌then◌else◌, List, ◌++◌, slice_index}
 use Rattle.tv_bits.specs.Bits.{Spells, spelled, bits_combination, new_bits_of}
 use Rattle.tv_bits.specs.OneHot.{IsOneHot}
+use Rattle.tv_bits.specs.Select.{pick_of}
 use Rattle.tv_bits.specs.Times.{times_of, kept_of}
 use Rattle.tv_bits.specs.declared.bit_wires.Bits.{Bits}
 use Rattle.tv_core.specs.Circuits.{Circuit, pure, ◌>>=◌}
@@ -14,7 +15,6 @@ use Rattle.tv_numbers.specs.Tables.{memory_ops}
 use Rattle.tv_numbers.specs.Views.{View}
 use Rattle.tv_word.specs.Widths.{IsWidth}
 use Rattle.tv_regs.specs.Choices.{group}
-use Rattle.tv_regs.specs.Picking.{pick_of}
 use Rattle.tv_block.specs.Tapes.{AreTapes, took}
 use Rattle.tv_block.specs.declared.records.Data.{Data}
 use Rattle.tv_block.specs.declared.records.StateWires.{StateWires}

@@ -1,7 +1,7 @@
 -- The operands of a step.
 use Rattle.std.specs.Prelude.{◌≡◌, ℕ, List, length, slice_index}
 use Rattle.tv_bits.specs.Bits.{Spells, bits_combination, bits_of}
-use Rattle.tv_bits.specs.Select.{select_of}
+use Rattle.tv_bits.specs.Select.{select_of, pick_of}
 use Rattle.tv_core.specs.Circuits.{Circuit, pure, ◌>>=◌}
 use Rattle.tv_core.specs.Combinations.{wire}
 use Rattle.tv_core.specs.Laws.{Assigns, Meets}
@@ -13,7 +13,6 @@ use Rattle.tv_numbers.specs.Views.{View}
 use Rattle.tv_regs.specs.Reading.{read_reg_of}
 use Rattle.tv_word.specs.Widths.{IsWidth}
 use Rattle.tv_regs.specs.Choices.{group}
-use Rattle.tv_regs.specs.Picking.{pick_of}
 use Rattle.tv_block.specs.Fetch.{IsFetched, state_in}
 use Rattle.tv_block.specs.declared.records.Fetched.{Fetched}
 use Rattle.tv_block.specs.declared.records.Operands.{Operands}

@@ -3,6 +3,7 @@ use Rattle.std.specs.Prelude.{◌≡◌, ℕ, ◌+◌, ◌-◌, false, true, if�
 use Rattle.tv_bits.specs.Bit.{IsBit}
 use Rattle.tv_bits.specs.Bits.{bits_combination}
 use Rattle.tv_bits.specs.OneHot.{IsOneHot}
+use Rattle.tv_bits.specs.Select.{pick_of}
 use Rattle.tv_core.specs.Circuits.{Circuit, ◌>>=◌}
 use Rattle.tv_core.specs.Combinations.{wire, constant, less}
 use Rattle.tv_core.specs.Constraints.{Combination}
@@ -16,7 +17,6 @@ use Rattle.tv_regs.specs.Reading.{words_at}
 use Rattle.tv_regs.specs.Writing.{write_reg_of}
 use Rattle.tv_word.specs.Widths.{IsWidth}
 use Rattle.tv_regs.specs.Choices.{group, choose_of}
-use Rattle.tv_regs.specs.Picking.{pick_of}
 use Rattle.tv_block.specs.Data.{AreData}
 use Rattle.tv_block.specs.Groups.{AreGroups}
 use Rattle.tv_block.specs.Operands.{AreOperands}

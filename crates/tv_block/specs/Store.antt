@@ -2,7 +2,7 @@
 use Rattle.std.specs.Prelude.{◌≡◌, ℕ, ◌+◌, ◌-◌, ◌*◌, ◌/◌, ◌%◌, ◌==◌, Bool, if◌then◌else◌, List, [], ◌∷◌, ◌++◌, slice_index}
 use Rattle.tv_bits.specs.Bits.{bits_combination}
 use Rattle.tv_bits.specs.OneHot.{IsOneHot}
-use Rattle.tv_bits.specs.Select.{select_of}
+use Rattle.tv_bits.specs.Select.{select_of, pick_of}
 use Rattle.tv_bits.specs.Times.{times_of}
 use Rattle.tv_bits.specs.declared.bit_wires.Bits.{Bits}
 use Rattle.tv_core.specs.Circuits.{Circuit, pure, ◌>>=◌}
@@ -15,7 +15,6 @@ use Rattle.tv_numbers.specs.Numbers.{operand_word, data_line}
 use Rattle.tv_numbers.specs.Views.{View}
 use Rattle.tv_word.specs.Widths.{IsWidth}
 use Rattle.tv_regs.specs.Choices.{group}
-use Rattle.tv_regs.specs.Picking.{pick_of}
 use Rattle.tv_block.specs.Data.{AreData}
 use Rattle.tv_block.specs.Operands.{AreOperands}
 use Rattle.tv_block.specs.declared.records.Data.{Data}

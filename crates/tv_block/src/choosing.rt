@@ -8,12 +8,13 @@ ghost use Rattle.tv_regs.specs.Reading.{wires_top};
 ghost use Rattle.tv_word.specs.Widths.{IsWidth};
 
 use crate::records::{Data, Fetched, Groups, Operands, StateWires, Store, Tapes};
+use tv_bits::pick;
 use tv_core::{F, Lc, Put, Sink, Wire};
 use tv_isa::opcode::{
     ADD, AND, ANSWER, CJMP, CMOV, CMPA, CMPAE, CMPE, CMPG, CMPGE, CNJMP, JMP, LOAD_B, LOAD_W, MOV,
     MULL, NOT, OR, READ, SHL, SHR, SMULH, STORE_B, STORE_W, SUB, UDIV, UMOD, UMULH, XOR,
 };
-use tv_regs::{WireEntry, choose, group, pick, write_reg};
+use tv_regs::{WireEntry, choose, group, write_reg};
 
 /// The registers after a step: the result of the instruction goes into its destination, where it
 /// writes one. It makes 19 wires and 35 constraints.

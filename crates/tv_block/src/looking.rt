@@ -5,11 +5,11 @@ ghost use Rattle.tv_core.specs.Sinks.{PutsIn, Grows, Room};
 ghost use Rattle.tv_word.specs.Widths.{IsWidth};
 
 use crate::records::{Data, StateWires, Tapes};
-use tv_bits::{Bits, kept, new_bits, times};
+use tv_bits::{Bits, kept, new_bits, pick, times};
 use tv_core::limits::{NULL_CELL, TAPE_CELLS};
 use tv_core::{F, Lc, Put, Sink, Wire};
 use tv_isa::opcode::{LOAD_B, LOAD_W, STORE_B, STORE_W};
-use tv_regs::{group, pick};
+use tv_regs::group;
 
 /// The data word of a step, and its cell. It makes `W` + 5 wires and `W` + 5 constraints.
 pub(crate) fn data<const W: u32, S: Sink>(

@@ -5,10 +5,10 @@ ghost use Rattle.tv_core.specs.Sinks.{PutsIn, Grows, Room};
 ghost use Rattle.tv_word.specs.Widths.{IsWidth};
 
 use crate::records::{Fetched, Operands, StateWires};
-use tv_bits::{bits, select};
+use tv_bits::{bits, pick, select};
 use tv_core::{Lc, Put, Sink};
 use tv_isa::opcode::{STORE_B, STORE_W};
-use tv_regs::{group, pick, read_reg};
+use tv_regs::{group, read_reg};
 
 /// The operands of an instruction: the three registers that it names, and of them the operand and
 /// the other word, bit by bit. It makes 2 `W` + 5 wires and 2 `W` + 52 constraints.

@@ -9,10 +9,10 @@ ghost use Rattle.tv_core.specs.Sinks.{PutsIn, Grows, Room};
 ghost use Rattle.tv_word.specs.Widths.{IsWidth};
 
 use crate::records::{Data, Operands, Patch, Store};
-use tv_bits::{Bits, select, select_terms, times};
+use tv_bits::{Bits, pick, select, select_terms, times};
 use tv_core::{F, Lc, Put, Scratch, Sink, Wire};
 use tv_isa::opcode::{STORE_B, STORE_W};
-use tv_regs::{group, pick};
+use tv_regs::group;
 
 // Byte number `j` of a row of bits.
 fn byte_at(bits: &Bits, j: u32) -> Lc

@@ -30,7 +30,7 @@ use Rattle.tv_bits.specs.Order.{first_difference}
 use Rattle.tv_bits.specs.Pairs.{two_ands_of}
 use Rattle.tv_bits.specs.Prefixes.{next_product, zero_product_of, prefix_difference_of}
 use Rattle.tv_bits.specs.Ratio.{ratio_of}
-use Rattle.tv_bits.specs.Select.{select_of}
+use Rattle.tv_bits.specs.Select.{pick_of}
 use Rattle.tv_bits.specs.Times.{times_of}
 use Rattle.tv_bits.specs.Zero.{zero_of}
 use Rattle.tv_limb.specs.Difference.{sub_of}
@@ -50,7 +50,6 @@ use Rattle.tv_muldiv.specs.Quotient.{zero_divisor_of, quotient_wires_of, gate_of
 use Rattle.tv_muldiv.specs.SignedHigh.{signed_bits_of, signed_high_of}
 use Rattle.tv_decode.specs.Fields.{fields_of}
 use Rattle.tv_regs.specs.Choices.{choice_of, choices_of, choose_of}
-use Rattle.tv_regs.specs.Picking.{pick_of}
 use Rattle.tv_regs.specs.Reading.{read_of, read_reg_of}
 use Rattle.tv_regs.specs.Writing.{write_of, tie_of as written_of, write_reg_of}
 use Rattle.tv_block.specs.Block.{compute_of, block_of}
@@ -66,7 +65,7 @@ use Rattle.tv_block.specs.Tapes.{tapes_of}
 
 -- ---- a step
 step_terms : (w : ℕ) → IsWidth w → (n : ℕ) (state : StateWires) (time next : ℕ) → terms_in (block_of w n state time next).list ≡ block_terms w
-unfolding weighted pure here fresh put ◌>>=◌ turns bit_of new_bit new_bits_of bits_of nonzero_of mark_of onehot_of first_difference two_ands_of next_product zero_product_of prefix_difference_of ratio_of select_of times_of zero_of sub_of split_of add_of order_flags_of signed_size_of greater_of compare_of and_pair_of new_and_pair_of and_of logic_flags_of logic_of logic_words_of half_bit_of halves_of masked_pair_of masked_of mask_at digit_at places_of parts_of by_half_of by_rest_of ends_of shift_of both mark level_product_of level_of thermometer_of power_of product_bits_of product_of zero_divisor_of quotient_wires_of gate_of division_of remainder_below_of quotient_of signed_bits_of signed_high_of fields_of choice_of choices_of choose_of pick_of read_of read_reg_of write_of write_reg_of compute_of block_of data_of fetch_of if_zero_of unless_zero_of taking_of groups_of operands_of pc_of result_of patch_of_two patch_of_four patch_of store_of tapes_of written_of each_below
+unfolding weighted pure here fresh put ◌>>=◌ turns bit_of new_bit new_bits_of bits_of nonzero_of mark_of onehot_of first_difference two_ands_of next_product zero_product_of prefix_difference_of ratio_of times_of zero_of sub_of split_of add_of order_flags_of signed_size_of greater_of compare_of and_pair_of new_and_pair_of and_of logic_flags_of logic_of logic_words_of half_bit_of halves_of masked_pair_of masked_of mask_at digit_at places_of parts_of by_half_of by_rest_of ends_of shift_of both mark level_product_of level_of thermometer_of power_of product_bits_of product_of zero_divisor_of quotient_wires_of gate_of division_of remainder_below_of quotient_of signed_bits_of signed_high_of fields_of choice_of choices_of choose_of pick_of read_of read_reg_of write_of write_reg_of compute_of block_of data_of fetch_of if_zero_of unless_zero_of taking_of groups_of operands_of pc_of result_of patch_of_two patch_of_four patch_of store_of tapes_of written_of each_below
 step_terms w width n state time next = for_widths (λ w. terms_in (block_of w n state time next).list ≡ block_terms w) refl refl w width
 
 -- ---- words, and lines behind the network
@@ -121,14 +120,14 @@ tie_terms last next = refl
 
 -- ---- a switch
 switch_count : (x y : Pair) (next : ℕ) → length (switch_of x y next).list ≡ 5
-unfolding switch_of bit_of select_of pure fresh put ◌>>=◌
+unfolding switch_of bit_of pick_of pure fresh put ◌>>=◌
 switch_count x y next = refl
 
 less_length : (x y : Combination) → length (x ++ scaled (P - 1) y) ≡ length x + length y
 less_length x y = length-append x (scaled (P - 1) y) ∙ ap (λ k. length x + k) (length-map y (λ t. ((P - 1) * t.0 % P, t.1)))
 
 switch_terms : (x y : Pair) (next : ℕ) → terms_in (switch_of x y next).list ≡ 11 + 3 * (pair_terms x + pair_terms y)
-unfolding switch_of bit_of select_of pure fresh put ◌>>=◌
+unfolding switch_of bit_of pick_of pure fresh put ◌>>=◌
 switch_terms x y next =
     omega (
       arith,

@@ -1,6 +1,5 @@
 pub mod ChoiceChain
 pub mod ChoiceLaws
 pub mod Gates
-pub mod PickLaws
 pub mod ReadLaws
 pub mod WriteLaws

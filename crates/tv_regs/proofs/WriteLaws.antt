@@ -10,7 +10,7 @@ use Rattle.std.proofs.lemmas.List.FromFn.{get_or-map-range_with_len}
 use Rattle.tv_bits.proofs.BitLaws.{bit_cases}
 use Rattle.tv_bits.specs.Bit.{IsBit}
 use Rattle.tv_bits.specs.OneHot.{row_sum}
-use Rattle.tv_bits.specs.Select.{select_of}
+use Rattle.tv_bits.specs.Select.{pick_of}
 use Rattle.tv_core.proofs.BelowLaws.{sum_below-suc, sum_below-same, value-weighted, each_below-zero, each_below-suc}
 use Rattle.tv_core.proofs.CombinationLaws.{top-append, value-below, value-less, value-append, value-wire, wire-below}
 use Rattle.tv_core.proofs.DifferenceLaws.{same_of_minus, cancel_minus}
@@ -56,7 +56,7 @@ difference_with : (x v s t n r : ℕ) → x < P → v < P → n < P → r < P �
 difference_with x v s t n r a b h l e = omega arith
 
 write_turn-next : (v sel : ℕ) (regs : List ℕ) (i at : ℕ) → (write_turn v sel regs i at).next ≡ at + 1
-unfolding write_of select_of fresh put pure ◌>>=◌
+unfolding write_of pick_of fresh put pure ◌>>=◌
 write_turn-next v sel regs i at = refl
 
 turn_at : (v sel : ℕ) (regs : List ℕ) (at j : ℕ) → (times j (write_turn v sel regs) at).next ≡ at + j
@@ -125,7 +125,7 @@ written_here true x i words h = get_or-set_same words i x 0 h
 written_here false x i words h = refl
 
 pub write_reg_sound : WriteRegIsSound
-unfolding write_reg_of write_of select_of tie_of here fresh put pure ◌>>=◌
+unfolding write_reg_of write_of pick_of tie_of here fresh put pure ◌>>=◌
 write_reg_sound z next sel on x regs i size assigns row bit meets =
     let v = next in
     let first = next + 1 in
@@ -165,7 +165,7 @@ has_at z first (x ∷ xs) has (suc j) h =
     ap (λ k. slice_index z k) place ∙ has_at z (first + 1) xs has.1 j (omega arith)
 
 pub write_reg_complete : WriteRegIsComplete
-unfolding write_reg_of write_of select_of tie_of here fresh put pure ◌>>=◌
+unfolding write_reg_of write_of pick_of tie_of here fresh put pure ◌>>=◌
 write_reg_complete z next sel on x regs i size assigns row bit has =
     let v = next in
     let first = next + 1 in

@@ -1,4 +1,3 @@
 pub mod Choices
-pub mod Picking
 pub mod Reading
 pub mod Writing

@@ -1,12 +1,10 @@
 //! Gadgets over one-hot rows: the sixteen registers read and written by the row of a register's
-//! number, one of many combinations chosen by the row of an opcode, and one of two by a bit.
-//! Contracts above cite `written_regs`, the registers after a write, and `chosen` of `tv_isa`; what
-//! a gadget answers and how many wires it makes stand in `ReadRegSizes`, `WriteRegSizes` and
-//! `ChooseSizes`.
+//! number, and one of many combinations chosen by the row of an opcode. Contracts above cite
+//! `written_regs`, the registers after a write, and `chosen` of `tv_isa`; what a gadget answers and
+//! how many wires it makes stand in `ReadRegSizes`, `WriteRegSizes` and `ChooseSizes`.
 #![tactic(auto)]
 
 mod choices;
-mod picking;
 mod reading;
 mod tables;
 mod writing;
@@ -14,7 +12,6 @@ mod writing;
 pub use choices::{
     choose, choose_fills, choose_is_complete, choose_is_sound, fill_choose, group, group_is_sound,
 };
-pub use picking::{pick, pick_fills, pick_is_complete, pick_is_sound};
 pub use reading::{
     fill_read_reg, read_reg, read_reg_fills, read_reg_is_complete, read_reg_is_sound,
 };

@@ -7,7 +7,7 @@ use Rattle.tv_bits.proofs.SelectLaws.{select_sound, select_complete}
 use Rattle.tv_bits.proofs.SpelledNumbers.{Spells-below, Spells-bit_at, Spells-from_bits, Spells-low, Spells-high}
 use Rattle.tv_bits.specs.Bit.{IsBit}
 use Rattle.tv_bits.specs.Bits.{Spells, bits_values}
-use Rattle.tv_bits.specs.Select.{selected, select_of}
+use Rattle.tv_bits.specs.Select.{selected, pick_of}
 use Rattle.tv_core.proofs.BelowLaws.{has_each}
 use Rattle.tv_core.proofs.CombinationLaws.{value-wire}
 use Rattle.tv_core.proofs.LoopLaws.{turn_met, turns_met, turns-next}
@@ -19,7 +19,7 @@ use Rattle.tv_core.specs.Loops.{times}
 use Rattle.tv_shift.specs.Halves.{chosen_half, half_bit_of, halves_of}
 
 half_bit-next : (n b x i at : ℕ) → (half_bit_of n b x i at).next ≡ at + 1
-unfolding half_bit_of select_of fresh put pure ◌>>=◌
+unfolding half_bit_of pick_of fresh put pure ◌>>=◌
 half_bit-next n b x i at = refl
 
 turn-next : (n b x next i : ℕ) → (times i (half_bit_of n b x) next).next ≡ next + i
@@ -35,13 +35,13 @@ halves_next n b x next = turn-next n b x next n
 
 module _ (z : List ℕ) (n b x : ℕ) (assigns : Assigns z) (bit : IsBit (slice_index z b)) where
   half_bit_sound : (i at : ℕ) → Meets z (half_bit_of n b x i at).list → slice_index z at ≡ selected (slice_index z b) (slice_index z (x + (n + i))) (slice_index z (x + i))
-  unfolding half_bit_of select_of fresh put pure ◌>>=◌
+  unfolding half_bit_of pick_of fresh put pure ◌>>=◌
   half_bit_sound i at meets =
       select_sound z at b (wire (x + (n + i))) (wire (x + i)) assigns bit meets
       ∙ ap₂ (λ p q. selected (slice_index z b) p q) (value-wire assigns (x + (n + i))) (value-wire assigns (x + i))
 
   half_bit_complete : (i at : ℕ) → slice_index z at ≡ selected (slice_index z b) (slice_index z (x + (n + i))) (slice_index z (x + i)) → Meets z (half_bit_of n b x i at).list
-  unfolding half_bit_of select_of fresh put pure ◌>>=◌
+  unfolding half_bit_of pick_of fresh put pure ◌>>=◌
   half_bit_complete i at is =
       select_complete z at b (wire (x + (n + i))) (wire (x + i)) assigns bit
       (is ∙ ap₂ (λ p q. selected (slice_index z b) p q) (sym (value-wire assigns (x + (n + i)))) (sym (value-wire assigns (x + i))), tt)

@@ -11,7 +11,7 @@ use Rattle.tv_bits.proofs.SpelledNumbers.{Spells-below, Spells-bit_at, Spells-lo
 use Rattle.tv_bits.proofs.ZeroLaws.{zero_flag-zero, zero_flag-other, zero_sound, zero_complete, zero_next}
 use Rattle.tv_bits.specs.Bit.{IsBit}
 use Rattle.tv_bits.specs.Bits.{Spells, bits_combination, bits_values}
-use Rattle.tv_bits.specs.Select.{selected, select_of}
+use Rattle.tv_bits.specs.Select.{selected, select_of, pick_of}
 use Rattle.tv_bits.specs.Zero.{zero_flag, zero_of, zero_values}
 use Rattle.tv_core.proofs.BelowLaws.{length-each_below}
 use Rattle.tv_core.proofs.CombinationLaws.{value-less, value-scaled, value-wire, wire-below}
@@ -173,7 +173,7 @@ module _ (w : ℕ) (width : IsWidth w) (z : List ℕ) (assigns : Assigns z) (x y
       )
 
   half_complete : (at : ℕ) → slice_index z at ≡ half_left (w / 2) (bit_at d (half_log w)) v → slice_index z (at + 1) ≡ half_right (w / 2) (bit_at d (half_log w)) v → Meets z (by_half_of w (y + half_log w) x at).list
-  unfolding by_half_of select_of fresh put ◌>>=◌ pure
+  unfolding by_half_of pick_of fresh put ◌>>=◌ pure
   half_complete at l r =
       let left = select_of (y + half_log w) (scaled (2 ^ (w / 2) % P) (bits_combination x (w / 2))) (bits_combination x w) at in
       let right = select_of (y + half_log w) (bits_combination (x + w / 2) (w / 2)) (bits_combination x w) left.next in

@@ -1,15 +1,4 @@
-use Rattle.tv_core.proofs.Chain.{chain, refused}
-use Rattle.tv_bits.specs.Select.{select_of}
 use Rattle.tv_bits.proofs.selection.select_terms.Goals as goal
 
-pub returns-in_err-put-clause-puts : goal.returns-in_err-put-clause-puts
-unfolding select_of
-returns-in_err-put-clause-puts g c =
-    let choice = rw (c.set_wire.ensures.terms, c.plus_scaled.ensures.terms, c.plus_terms.ensures.terms, c.clear.ensures, c.plus_scaled-2.ensures.terms, c.set_wire-2.ensures.terms, c.neg.ensures, c.neg-2.ensures) at c.in_err-put.ensures.puts in
-    refused g.S.Sink.meaning _ _ _ c.from_residual.result c.from_residual.ensures.1 (search (chain, c.fresh-chosen.ensures.puts, choice))
-
 pub returns-clause-puts : goal.returns-clause-puts
-unfolding select_of
-returns-clause-puts g c =
-    let choice = rw (c.set_wire.ensures.terms, c.plus_scaled.ensures.terms, c.plus_terms.ensures.terms, c.clear.ensures, c.plus_scaled-2.ensures.terms, c.set_wire-2.ensures.terms, c.neg.ensures, c.neg-2.ensures) at c.in_ok-put.ensures.puts in
-    search (chain, c.fresh-chosen.ensures.puts, choice)
+returns-clause-puts g c = rw c.set_wire.ensures.terms at c.pick_by.ensures.puts
