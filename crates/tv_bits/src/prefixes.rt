@@ -115,7 +115,8 @@ fn prefix_less_in(x: u64, y: u64, d: F, from: u32) -> F
 
 /// By how much `x` is above `y` in the shortest prefix in which they differ, the two being cut into
 /// `count` chunks of `chunk` bits; 0 where none differs and where `x` is below `y`. It is what
-/// `prefix_difference` is given to hold where `x` is above, and from 1 to 2^`chunk` - 1 there.
+/// `prefix_difference` is given to hold where `x` is above: at least 1 there, and for numbers of at
+/// most `count * chunk` bits at most 2^`chunk` - 1.
 pub fn first_difference(x: u64, y: u64, chunk: u32, count: u32) -> u64
     requires short { chunk * (count - 1) < 64 }
     ensures { result ≡ first_difference chunk count x y }
