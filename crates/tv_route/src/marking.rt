@@ -1,5 +1,5 @@
 ghost use Rattle.std.specs.Prelude.{◌≡◌, ℕ, ◌+◌, ◌-◌, ◌*◌, ◌^◌, ◌<◌, ◌≤◌, length, get_or};
-ghost use Rattle.std.specs.Prelude.{slice_index, replicate, None, is_none, IfOk};
+ghost use Rattle.std.specs.Prelude.{slice_index, None, is_none, IfOk};
 ghost use Rattle.tv_route.specs.Permutations.{Permutes};
 ghost use Rattle.tv_route.specs.Route.{other, partners, walk, walks, halves};
 
@@ -14,7 +14,7 @@ pub(crate) fn halves(alloc: Global, p: &[u32], n: usize) -> Result<Vec<Option<bo
     ensures long { IfOk result (λ v. length v.items ≡ 2 * n) }
 {
     let partner = partners(alloc, p, n)?;
-    let mut marks = nothing(alloc, 2 * n)?;
+    let mut marks = Vec::from_elem(alloc, None, 2 * n)?;
     settle(&partner, n, p[0] as usize, marks.as_mut_slice());
     Ok(marks)
 }
@@ -40,17 +40,6 @@ fn partners(alloc: Global, p: &[u32], n: usize) -> Result<Vec<u32>, AllocError>
         found[b as usize] = a;
     }
     Ok(found)
-}
-
-// Nothing is settled.
-fn nothing(alloc: Global, n: usize) -> Result<Vec<Option<bool>>, AllocError>
-    ensures { IfOk result (λ v. v.items ≡ replicate n None) }
-{
-    let mut marks = Vec::with_capacity(alloc, n)?;
-    for _i in 0..n {
-        marks.push(None)?;
-    }
-    Ok(marks)
 }
 
 // Settles all inputs, those of the walk from `first` on before the others.

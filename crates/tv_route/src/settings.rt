@@ -9,6 +9,7 @@ use crate::marking::halves;
 use std::alloc::{AllocError, Global};
 use std::marker::Model;
 use tv_benes::{Net, routing_switches};
+use tv_word::arithmetic::power;
 
 /// The bits of a network's switches, in order. Contracts see them as that list.
 #[derive(Drop)]
@@ -90,7 +91,7 @@ fn route_level(
         bits.push(p[0] == 1)?;
         return Ok(());
     }
-    let n = power(h);
+    let n = power(h) as usize;
     let marks = halves(alloc, p, n)?;
     push_first(bits, &marks, n)?;
     route_level(
@@ -103,13 +104,6 @@ fn route_level(
     route_level(alloc, net, h - 1, &inputs(alloc, &marks, p, n, true)?, bits)?;
     push_last(bits, net, &marks, p, n)?;
     Ok(())
-}
-
-fn power(h: u32) -> usize
-    requires { h < 32 }
-    ensures { result ≡ 2 ^ h }
-{
-    1 << h
 }
 
 // Whether an input goes through the lower half.

@@ -1,4 +1,4 @@
-ghost use Rattle.std.specs.Prelude.{◌≡◌, ◌<◌, true, false, length, replicate, IfOk};
+ghost use Rattle.std.specs.Prelude.{◌≡◌, ◌<◌, true, length, IfOk};
 ghost use Rattle.tv_route.specs.Permutations.{Permutes};
 
 use std::alloc::{AllocError, Global};
@@ -9,7 +9,7 @@ pub fn is_permutation(alloc: Global, p: &[u32]) -> Result<bool, AllocError>
     ensures yes { IfOk result (λ is. is ≡ true → Permutes (length p.now) p.now) }
     ensures no { IfOk result (λ is. Permutes (length p.now) p.now → is ≡ true) }
 {
-    let mut seen = none_seen(alloc, p.len())?;
+    let mut seen = Vec::from_elem(alloc, false, p.len())?;
     for i in 0..p.len() {
         let x = p[i] as usize;
         if x >= p.len() {
@@ -21,15 +21,4 @@ pub fn is_permutation(alloc: Global, p: &[u32]) -> Result<bool, AllocError>
         seen[x] = true;
     }
     Ok(true)
-}
-
-// A list of `n` times false.
-fn none_seen(alloc: Global, n: usize) -> Result<Vec<bool>, AllocError>
-    ensures { IfOk result (λ v. v.items ≡ replicate n false) }
-{
-    let mut seen = Vec::with_capacity(alloc, n)?;
-    for _i in 0..n {
-        seen.push(false)?;
-    }
-    Ok(seen)
 }

@@ -5,7 +5,7 @@ use Rattle.tv_route.proofs.Seen.{IsSeen, seen_none, seen_more, all_permute}
 use Rattle.tv_route.proofs.testing.is_permutation.Goals as goal
 
 pub loop-i-init : goal.loop-i-init
-loop-i-init c = seen_none c.args.p.now c.in_ok-seen.seen.items c.in_ok-seen.ensures
+loop-i-init c = seen_none c.args.p.now c.in_ok-seen.seen.items (c.in_ok-seen.ensures.items_if_clones_equal (λ y e. e))
 
 pub loop-i-preserved : goal.loop-i-preserved
 loop-i-preserved c =
