@@ -5,7 +5,6 @@ use std::process::Abort;
 use std::test::Fail;
 use tv_isa::{Instr, encode, operations};
 use tv_step::{Machine, Outcome};
-use tv_word::Words;
 
 /// The word in register 2 before the step.
 const BEFORE: u32 = 0x1122_33ab;
@@ -191,9 +190,7 @@ fn step_by(alloc: Global, op: u8, row: &Row) -> Result<Seen, AllocError> {
         instruction(13, 0, if flag { s } else { !s }),
         instruction(op, 2, a),
     ];
-    let tape: Words = Vec::from_slice(alloc, &[77])?.into();
-    let aux: Words = Vec::from_slice(alloc, &[88])?.into();
-    let mut machine = Machine::<32>::start(alloc, program.as_flattened(), tape, aux)?;
+    let mut machine = Machine::<32>::start_on(alloc, program.as_flattened(), &[77], &[88])?;
     machine.run(5)?;
     let outcome = machine.step()?;
     Ok(Seen {

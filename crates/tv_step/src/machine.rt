@@ -16,6 +16,13 @@ use tv_isa::{Instr, decode};
 use tv_tape::Tape;
 use tv_word::Words;
 
+// The words of a slice.
+fn words_of(alloc: Global, words: &[u32]) -> Result<Words, AllocError>
+    ensures { IfOk result (λ copied. copied ≡ words.now) }
+{
+    Ok(Vec::from_slice(alloc, words)?.into())
+}
+
 impl<const W: u32> Machine<W> {
     /// The start: all 0, the image in memory from address 0 on, and two whole tapes. Memory has
     /// 2^W bytes, so an image of words of 16 bits has at most 32,768 of them, and one of 32 bits
@@ -41,6 +48,22 @@ impl<const W: u32> Machine<W> {
             primary: Tape::new(tape),
             aux: Tape::new(aux),
         })
+    }
+
+    /// The start on tapes of these words, which it copies.
+    pub fn start_on(
+        alloc: Global,
+        image: &[u32],
+        tape: &[u32],
+        aux: &[u32],
+    ) -> Result<Machine<W>, AllocError>
+        requires width { IsWidth W }
+        requires image { length image.now * (W / 8) ≤ 2 ^ W }
+        requires tape { All (λ v. v < 2 ^ W) tape.now }
+        requires aux { All (λ v. v < 2 ^ W) aux.now }
+        ensures { IfOk result (λ machine. state_of machine ≡ start W image.now tape.now aux.now) }
+    {
+        Machine::start(alloc, image, words_of(alloc, tape)?, words_of(alloc, aux)?)
     }
 
     /// The program counter: a multiple of the instruction's size, `W / 4` bytes.

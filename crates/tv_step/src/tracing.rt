@@ -1,7 +1,6 @@
 //! The trace of a run that answers.
 ghost use Rattle.std.specs.Prelude.{◌≡◌, ◌+◌, ◌*◌, ◌≤◌, ◌<◌, ◌^◌, ◌/◌, All, length, IfOk, IfErr};
 ghost use Rattle.tv_word.specs.Widths.{IsWidth};
-ghost use Rattle.tv_step.specs.Machine.{start};
 ghost use Rattle.tv_step.specs.Trace.{lines_of, states_of};
 ghost use Rattle.tv_step.specs.Tracing.{IsTrace, IsRefused};
 ghost use Rattle.tv_step.specs.Views.{state_of};
@@ -12,7 +11,6 @@ use crate::lines::{Lines, States, Trace};
 use crate::state::Machine;
 use std::alloc::{AllocError, Global};
 use thiserror::Error;
-use tv_word::Words;
 
 /// Why there is no trace.
 #[derive(Clone, Copy, PartialEq, Eq, Debug, Error)]
@@ -34,29 +32,6 @@ impl From<AllocError> for TraceFault {
     fn from(_: AllocError) -> TraceFault {
         TraceFault::Memory
     }
-}
-
-// The words of a slice.
-fn words_of(alloc: Global, words: &[u32]) -> Result<Words, AllocError>
-    ensures { IfOk result (λ copied. copied ≡ words.now) }
-{
-    Ok(Vec::from_slice(alloc, words)?.into())
-}
-
-// The start of the machine on slices.
-fn start_on<const W: u32>(
-    alloc: Global,
-    image: &[u32],
-    tape: &[u32],
-    aux: &[u32],
-) -> Result<Machine<W>, AllocError>
-    requires width { IsWidth W }
-    requires image { length image.now * (W / 8) ≤ 2 ^ W }
-    requires tape { All (λ v. v < 2 ^ W) tape.now }
-    requires aux { All (λ v. v < 2 ^ W) aux.now }
-    ensures { IfOk result (λ machine. state_of machine ≡ start W image.now tape.now aux.now) }
-{
-    Machine::start(alloc, image, words_of(alloc, tape)?, words_of(alloc, aux)?)
 }
 
 // The lines and states of so many steps of a machine, the tapes having had `n` and `m` words, the
@@ -112,12 +87,12 @@ pub fn trace<const W: u32>(
     ensures trace { IfOk result (IsTrace W image.now tape.now aux.now t) }
     ensures fault { IfErr result (IsRefused W image.now tape.now aux.now t) }
 {
-    let end = start_on::<W>(alloc, image, tape, aux)?.run(u64::from(t))?;
+    let end = Machine::<W>::start_on(alloc, image, tape, aux)?.run(u64::from(t))?;
     let answer = match end {
         End::Answer { value, .. } => value,
         End::Undefined { .. } | End::Silent { .. } => return Err(TraceFault::NoRun { end }),
     };
-    let mut machine = start_on::<W>(alloc, image, tape, aux)?;
+    let mut machine = Machine::<W>::start_on(alloc, image, tape, aux)?;
     let (n, m) = (tape.len() as u32, aux.len() as u32);
     let (lines, states) = record::<W>(alloc, &mut machine, n, m, image.len() as u32 + n, t)?;
     Ok(Trace {
