@@ -1,4 +1,3 @@
-pub mod Counts
 pub mod Giving
 pub mod Packed
 pub mod Prepared

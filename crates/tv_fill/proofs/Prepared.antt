@@ -13,10 +13,11 @@ use Rattle.tv_core.specs.declared.lines.PairNum.{PairNum}
 use Rattle.tv_layout.proofs.Boot.{length-boot_lines, length-padding}
 use Rattle.tv_layout.proofs.Positions.{log_above, log_within, log_some}
 use Rattle.tv_layout.proofs.RunLines.{run_placed}
+use Rattle.tv_layout.proofs.Systems.{system_complete}
 use Rattle.tv_layout.proofs.Whole.{few, short, filled, spare}
 use Rattle.tv_layout.specs.Places.{WithinLimits, line_count, log_of}
 use Rattle.tv_layout.specs.Sound.{padding, all_lines}
-use Rattle.tv_layout.specs.Systems.{run_values}
+use Rattle.tv_layout.specs.Systems.{run_values, system_of}
 use Rattle.tv_layout.specs.Values.{fill, step_values as run_step}
 use Rattle.tv_lines.specs.Packing.{InRange, unpacked}
 use Rattle.tv_lines.specs.Placed.{LinesFrom}
@@ -27,7 +28,7 @@ use Rattle.tv_route.specs.Permutations.{IsRoutable}
 use Rattle.tv_route.specs.Route.{route_of}
 use Rattle.tv_step.proofs.PlaceLaws.{lines_are_three_a_step, states_are_one_more}
 use Rattle.tv_step.specs.Cells.{boot_lines, run_lines}
-use Rattle.tv_step.specs.Machine.{start}
+use Rattle.tv_step.specs.Machine.{start, Accepts}
 use Rattle.tv_step.specs.Range.{AreWords}
 use Rattle.tv_step.specs.Trace.{lines_of, states_of}
 use Rattle.tv_step.specs.declared.lines.TraceState.{TraceState}
@@ -108,20 +109,6 @@ module _ (w : ℕ) (net : Net) (image x aux : List ℕ) (t : ℕ) (fits : Within
           permutes = order_permutes k (all_lines w image x aux t) log_few all_many (run_placed w image x aux t fits x_words aux_words);
         })
 
-    pub parts_fit : (spare : List PairNum) → spare ≡ pairs → PartsFit w (length x) aux (length image + length x) t states pairs spare k
-    parts_fit spare spare_is = record {
-      width = fits.width;
-      short = short image (length x) t w fits;
-      some = log_some (line_count image (length x) t);
-      few = log_few;
-      states_many = ap length states_are ∙ states_are_one_more w (length x) (length aux) (start w image x aux) t;
-      pairs_many = pairs_many;
-      spare_many = ap length spare_is ∙ pairs_many;
-      tape_fits = omega arith;
-      steps_fit = log_above (line_count image (length x) t) few_lines;
-      steps = λ i h. rw states_are (told_in_range w image x aux t fits.width (short image (length x) t w fits) x_words aux_words pairs all_packed i h);
-    }
-
     -- the settings sort them
     sorted : (bits : List Bool) → bits ≡ route_of net (address_order (map unpacked pairs)) → routed_values net (k - 1) (bit_at bits) (map unpacked pairs) ≡ memory_values net k (all_lines w image x aux t)
     sorted bits bits_are =
@@ -143,3 +130,21 @@ module _ (w : ℕ) (net : Net) (image x aux : List ℕ) (t : ℕ) (fits : Within
         ap₂ (λ (a b : List ℕ). front_values w v x ++ (a ++ b)) told (sorted bits bits_are)
         ∙ append_assoc (1 ∷ v ∷ x) (tape_bits ++ 0 ∷ []) (steps ++ memory)
         ∙ ap (λ (l : List ℕ). (1 ∷ v ∷ x) ++ l) (append_assoc tape_bits (0 ∷ []) (steps ++ memory))
+
+    -- and there are as many as the system has wires
+    pub parts_fit : (bits : List Bool) → bits ≡ route_of net (address_order (map unpacked pairs)) → (v : ℕ) → Accepts w image x aux t v
+        → (count : ℕ) → count ≡ (system_of w net image (length x) t).wires → (spare : List PairNum) → spare ≡ pairs
+        → PartsFit w v count x aux (length image + length x) t states pairs spare net k bits
+    parts_fit bits bits_are v accepts count count_is spare spare_is = record {
+      width = fits.width;
+      short = short image (length x) t w fits;
+      some = log_some (line_count image (length x) t);
+      few = log_few;
+      states_many = ap length states_are ∙ states_are_one_more w (length x) (length aux) (start w image x aux) t;
+      pairs_many = pairs_many;
+      spare_many = ap length spare_is ∙ pairs_many;
+      tape_fits = omega arith;
+      steps_fit = log_above (line_count image (length x) t) few_lines;
+      steps = λ i h. rw states_are (told_in_range w image x aux t fits.width (short image (length x) t w fits) x_words aux_words pairs all_packed i h);
+      counted = count_is ∙ sym (system_complete w net image x aux t v fits x_words aux_words accepts).sat.each_wire ∙ sym (ap length (values_are bits bits_are v));
+    }

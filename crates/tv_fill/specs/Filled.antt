@@ -42,18 +42,19 @@ lines_told image x steps k =
     let count = length image + length x + length steps in
     (boot_lines image x ++ steps) ++ padding count (2 ^ k - count)
 
--- the parts fit each other
-pub record PartsFit (w n : ℕ) (aux : List ℕ) (first t : ℕ) (states : List TraceState) (pairs spare : List PairNum) (k : ℕ) : Type 0 where
+-- the parts fit each other, and the count is that of their values
+pub record PartsFit (w v count : ℕ) (x aux : List ℕ) (first t : ℕ) (states : List TraceState) (pairs spare : List PairNum) (net : Net) (k : ℕ) (bits : List Bool) : Type 0 where
   pub width : IsWidth w
-  pub short : n < 2 ^ 29
+  pub short : length x < 2 ^ 29
   pub some : 1 ≤ k
   pub few : k ≤ 20
   pub states_many : length states ≡ t + 1
   pub pairs_many : length pairs ≡ 2 ^ k
   pub spare_many : length spare ≡ 2 ^ k
-  pub tape_fits : n ≤ first
+  pub tape_fits : length x ≤ first
   pub steps_fit : first + 3 * t ≤ 2 ^ k
-  pub steps : (i : ℕ) → i < t → StepInRange w n states aux pairs first i
+  pub steps : (i : ℕ) → i < t → StepInRange w (length x) states aux pairs first i
+  pub counted : count ≡ length (filled_values w v x aux first t states pairs net k bits)
 
 -- ---- for a run
 -- the run of at most t steps answers, and the values are those of its system

@@ -9,7 +9,6 @@ ghost use Rattle.tv_route.specs.Permutations.{IsRoutable};
 ghost use Rattle.tv_route.specs.Route.{route_of};
 ghost use Rattle.tv_step.specs.Range.{AreWords};
 
-use crate::counting::count_values;
 use crate::fault::FillFault;
 use crate::front::fill_front;
 use crate::packing::pack_lines;
@@ -18,7 +17,7 @@ use std::alloc::{AllocError, Global};
 use std::marker::Model;
 use tv_benes::Net;
 use tv_core::{PairNum, Put, Values};
-use tv_layout::log_of;
+use tv_layout::{log_of, sizes};
 use tv_memory::{address_order, fill_memory};
 use tv_route::{Settings, routing_settings};
 use tv_step::{States, Trace, trace};
@@ -28,6 +27,8 @@ use tv_step::{States, Trace, trace};
 #[derive(Drop)]
 pub struct Filling<const W: u32> {
     answer: u32,
+    // How many values there are.
+    count: u32,
     tape: Vec<u32>,
     aux: Vec<u32>,
     // Where the lines of the steps begin, and how many steps there are.
@@ -44,7 +45,6 @@ pub struct Filling<const W: u32> {
 }
 
 impl<const W: u32> Model for Filling<W> {
-    ghost use Rattle.std.specs.Prelude.{length};
     ghost use Rattle.tv_fill.specs.Filled.{Filled, filled_values, PartsFit};
 
     ghost Value = { Filled };
@@ -55,8 +55,8 @@ impl<const W: u32> Model for Filling<W> {
           f.aux.items f.first f.t f.states f.pairs.items f.net f.k f.settings;
     } };
 
-    ghost invariant = { λ f. PartsFit W (length f.tape.items) f.aux.items f.first f.t f.states
-        f.pairs.items f.spare.items f.k };
+    ghost invariant = { λ f. PartsFit W f.answer f.count f.tape.items f.aux.items f.first f.t
+        f.states f.pairs.items f.spare.items f.net f.k f.settings };
 }
 
 impl<const W: u32> Filling<W> {
@@ -71,8 +71,7 @@ impl<const W: u32> Filling<W> {
     pub fn count(&self) -> u32
         ensures { result ≡ length self.now.values }
     {
-        let tape = self.tape.as_slice();
-        count_values::<W>(tape.len() as u32, self.t, self.net, self.k)
+        self.count
     }
 
     /// Gives the values, in the order of the wires, and frees what was held for them. It takes time
@@ -84,6 +83,7 @@ impl<const W: u32> Filling<W> {
     {
         let Filling {
             answer,
+            count: _,
             tape,
             aux,
             first,
@@ -151,6 +151,7 @@ pub fn prepare<const W: u32>(
     let spare = Vec::from_slice(alloc, &pairs)?;
     Ok(Filling {
         answer,
+        count: sizes::<W>(image, tape.len() as u32, t, net).wires,
         tape: Vec::from_slice(alloc, tape)?,
         aux: Vec::from_slice(alloc, aux)?,
         first,

@@ -2,7 +2,6 @@
 //! packed, the settings are found that sort them, and the values follow in the order of the wires.
 #![tactic(auto)]
 
-mod counting;
 mod fault;
 mod filling;
 mod front;

@@ -5,25 +5,25 @@ ghost use Rattle.tv_word.specs.Widths.{IsWidth};
 /// What the parts of a system cost: how many wires they make, how many constraints they put, or how
 /// many terms these have.
 #[derive(Clone, Copy, PartialEq, Eq, Debug)]
-pub struct Costs {
+pub(crate) struct Costs {
     /// A word of the primary tape: that it is one.
-    pub word: u32,
+    pub(crate) word: u32,
     /// The wire that is held to 0.
-    pub none: u32,
+    pub(crate) none: u32,
     /// A step.
-    pub step: u32,
+    pub(crate) step: u32,
     /// That the last step answers.
-    pub tie: u32,
+    pub(crate) tie: u32,
     /// A switch of the network, beside what `item` says.
-    pub switch: u32,
+    pub(crate) switch: u32,
     /// A term of what goes into a switch.
-    pub item: u32,
+    pub(crate) item: u32,
     /// A line behind the network: that it is one.
-    pub line: u32,
+    pub(crate) line: u32,
     /// The first of these lines in address order.
-    pub first: u32,
+    pub(crate) first: u32,
     /// Each two of them that are neighbours.
-    pub pair: u32,
+    pub(crate) pair: u32,
 }
 
 /// How often the parts of a system are there.
@@ -43,8 +43,8 @@ pub(crate) struct Amounts {
     pub(crate) lines: u64,
 }
 
-/// What the parts of a system make in wires, where words have `W` bits.
-pub fn wire_costs<const W: u32>() -> Costs
+// What the parts of a system make in wires, where words have `W` bits.
+pub(crate) fn wire_costs<const W: u32>() -> Costs
     requires { IsWidth W }
     ensures { result ≡ wire_costs W }
 {
@@ -61,8 +61,8 @@ pub fn wire_costs<const W: u32>() -> Costs
     }
 }
 
-/// What they cost in constraints.
-pub fn constraint_costs<const W: u32>() -> Costs
+// What they cost in constraints.
+pub(crate) fn constraint_costs<const W: u32>() -> Costs
     requires { IsWidth W }
     ensures { result ≡ constraint_costs W }
 {
@@ -79,8 +79,8 @@ pub fn constraint_costs<const W: u32>() -> Costs
     }
 }
 
-/// What the constraints have in terms.
-pub fn term_costs<const W: u32>() -> Costs
+// What the constraints have in terms.
+pub(crate) fn term_costs<const W: u32>() -> Costs
     requires { IsWidth W }
     ensures { result ≡ term_costs W }
 {

@@ -17,7 +17,6 @@ mod spots;
 mod stepping;
 mod totals;
 
-pub use costs::{Costs, constraint_costs, term_costs, wire_costs};
 pub use emitting::emit_system;
 pub use laws::{systems_are_complete, systems_are_sized, systems_are_sound, systems_reduce};
 pub use lines::line;
