@@ -1,14 +1,13 @@
-ghost use Rattle.std.specs.Prelude.{◌≡◌, ◌⊎◌, ◌*◌, ◌/◌, ◌<◌, ◌≤◌, ◌^◌, length, All};
+ghost use Rattle.std.specs.Prelude.{◌≡◌, ◌⊎◌, ◌*◌, ◌/◌, ◌<◌, ◌≤◌, ◌^◌, length};
 ghost use Rattle.std.specs.Prelude.{slice_index, Ok, Err, IfOk, IfErr};
 ghost use Rattle.std.specs.List.{range_with_len};
 ghost use Rattle.tv_layout.specs.Places.{WithinLimits, tape_at};
-ghost use Rattle.tv_step.specs.Machine.{start, end_of};
 ghost use Rattle.tv_word.specs.Widths.{IsWidth};
 ghost use Rattle.tv_extract.specs.Extracting.{word_at, words_at, taken_wires, run_in, answering};
 ghost use Rattle.tv_extract.specs.declared.run.ExtractFault.TheVariants.{Memory};
 
 use crate::run::{ExtractFault, Run};
-use std::alloc::{AllocError, Global};
+use std::alloc::Global;
 use tv_benes::Net;
 use tv_core::{F, Wire};
 use tv_layout::{ANSWER, sizes, spot, tape_wire};
@@ -44,7 +43,8 @@ pub fn extract<const W: u32>(
     let answer = word::<W>(values, ANSWER)?;
     let tape = tape_words::<W>(alloc, n, values)?;
     let aux = taken_words::<W>(alloc, image, n, t, net, values)?;
-    let end = run_end::<W>(alloc, image, tape.as_slice(), aux.as_slice(), t)?;
+    let mut machine = Machine::<W>::start_on(alloc, image, tape.as_slice(), aux.as_slice())?;
+    let end = machine.run(u64::from(t))?;
     answering(answer, tape, aux, end)
 }
 
@@ -111,32 +111,6 @@ fn taken_words<const W: u32>(
         }
     }
     Ok(words)
-}
-
-// The words of a slice.
-fn words_of(alloc: Global, words: &[u32]) -> Result<Words, AllocError>
-    ensures { IfOk result (λ copied. copied ≡ words.now) }
-{
-    Ok(Vec::from_slice(alloc, words)?.into())
-}
-
-// How the run on two tapes ends.
-fn run_end<const W: u32>(
-    alloc: Global,
-    image: &[u32],
-    tape: &[u32],
-    aux: &[u32],
-    t: u32,
-) -> Result<End, AllocError>
-    requires width { IsWidth W }
-    requires image { length image.now * (W / 8) ≤ 2 ^ W }
-    requires tape { All (λ v. v < 2 ^ W) tape.now }
-    requires aux { All (λ v. v < 2 ^ W) aux.now }
-    ensures { IfOk result (λ end. end ≡ end_of W t (start W image.now tape.now aux.now)) }
-{
-    let tape = words_of(alloc, tape)?;
-    let aux = words_of(alloc, aux)?;
-    Machine::<W>::start(alloc, image, tape, aux)?.run(u64::from(t))
 }
 
 // The run that ends so, where it answers the word.
