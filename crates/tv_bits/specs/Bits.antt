@@ -24,6 +24,10 @@ pub record Spells (z : List ℕ) (first n v : ℕ) : Type 0 where
   pub bits : (i : ℕ) → i < n → IsBit (slice_index z (first + i))
   pub number : v ≡ spelled z first n
 
+-- n of the bits x, from number low on
+abbrev pub part : Bits → ℕ → ℕ → Bits
+part x low n = record { first = x.first + low; n = n }
+
 -- the n lowest bits of x, lowest first: the values of the wires that are made
 abbrev pub bits_values : ℕ → ℕ → List ℕ
 bits_values x n = each_below n (bit_at x)

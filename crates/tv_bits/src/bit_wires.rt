@@ -1,5 +1,5 @@
 ghost use Rattle.std.specs.Prelude.{◌≡◌, ◌+◌, ◌-◌, ◌≤◌, ◌<◌, ◌^◌, ◌++◌, length, max};
-ghost use Rattle.tv_bits.specs.Bits.{bits_combination};
+ghost use Rattle.tv_bits.specs.Bits.{bits_combination, part};
 ghost use Rattle.tv_core.specs.Combinations.{constant, scaled, top};
 
 use tv_core::{F, Lc, Wire};
@@ -68,9 +68,18 @@ impl Bits {
         ensures first { result.first ≡ self.now.first + from }
         ensures n { result.n ≡ self.now.n - from }
     {
+        self.part(from, self.n - from)
+    }
+
+    /// `n` of the bits, from place `low` on, as bits of their own: they spell the number divided by
+    /// 2^`low`, and of that the remainder by 2^`n`.
+    pub fn part(&self, low: u32, n: u32) -> Bits
+        requires within { self.now.first + low + n < 2 ^ 32 }
+        ensures { result ≡ part self.now low n }
+    {
         Bits {
-            first: self.first.offset(from),
-            n: self.n - from,
+            first: self.first.offset(low),
+            n,
         }
     }
 }

@@ -5,7 +5,7 @@ use Rattle.tv_bits.proofs.BitLaws.{bit_cases}
 use Rattle.tv_bits.proofs.OneHotLaws.{onehot_sound, onehot_complete, onehot_answer, onehot_next}
 use Rattle.tv_bits.proofs.SizeLaws.{onehot_in_field}
 use Rattle.tv_bits.proofs.SpelledNumbers.{Spells-low, Spells-high, Spells-bit_at}
-use Rattle.tv_bits.specs.Bits.{Spells}
+use Rattle.tv_bits.specs.Bits.{Spells, part}
 use Rattle.tv_bits.specs.OneHot.{onehot_of, onehot_values, one_at}
 use Rattle.tv_bits.specs.declared.bit_wires.Bits.{Bits}
 use Rattle.tv_core.proofs.BelowLaws.{length-each_below}
@@ -14,7 +14,7 @@ use Rattle.tv_core.proofs.Meeting.{Meets-split, Meets-join, HasFrom-split}
 use Rattle.tv_core.specs.Below.{each_below}
 use Rattle.tv_core.specs.Circuits.{pure, ◌>>=◌}
 use Rattle.tv_core.specs.Laws.{HasFrom}
-use Rattle.tv_decode.specs.Fields.{part, fields_of, fields_wires, fields_values, FieldsAreSound, FieldsAreComplete, FieldsSizes}
+use Rattle.tv_decode.specs.Fields.{fields_of, fields_wires, fields_values, FieldsAreSound, FieldsAreComplete, FieldsSizes}
 use Rattle.tv_isa.specs.Instruction.{field}
 use Rattle.tv_isa.specs.declared.instr.Instr.{Instr}
 use Rattle.tv_word.specs.Widths.{IsWidth}

@@ -1,6 +1,6 @@
 -- The fields of an instruction, as one-hot rows and a bit.
 use Rattle.std.specs.Prelude.{◌≡◌, ℕ, ◌+◌, ◌-◌, ◌%◌, if◌then◌else◌, List, ◌++◌, slice_index}
-use Rattle.tv_bits.specs.Bits.{Spells}
+use Rattle.tv_bits.specs.Bits.{Spells, part}
 use Rattle.tv_bits.specs.OneHot.{IsOneHot, onehot_of, onehot_values}
 use Rattle.tv_bits.specs.declared.bit_wires.Bits.{Bits}
 use Rattle.tv_core.specs.Circuits.{Circuit, pure, ◌>>=◌}
@@ -9,10 +9,6 @@ use Rattle.tv_decode.specs.declared.records.Fields.{Fields}
 use Rattle.tv_isa.specs.Instruction.{decode}
 use Rattle.tv_isa.specs.declared.instr.Instr.{Instr}
 use Rattle.tv_word.specs.Widths.{IsWidth}
-
--- n of the bits x, from number low on
-abbrev pub part : Bits → ℕ → ℕ → Bits
-part x low n = record { first = x.first + low; n = n }
 
 -- a row each for the opcode, the destination, the source and the second word's register; the immediate bit is one of
 -- the first word's own

@@ -1,7 +1,7 @@
 ghost use Rattle.std.specs.Prelude.{◌≡◌, ◌+◌, ◌≤◌, ◌<◌, ◌^◌, false, IfOk, OnOk};
 ghost use Rattle.tv_core.specs.Giving.{GivesIn};
 ghost use Rattle.tv_core.specs.Sinks.{PutsIn, Grows, Room};
-ghost use Rattle.tv_decode.specs.Fields.{part, fields_of, fields_values, FieldsAreSound};
+ghost use Rattle.tv_decode.specs.Fields.{fields_of, fields_values, FieldsAreSound};
 ghost use Rattle.tv_decode.specs.Fields.{FieldsAreComplete, FieldsSizes};
 ghost use Rattle.tv_isa.specs.Instruction.{decode};
 ghost use Rattle.tv_word.specs.Widths.{IsWidth};
@@ -29,10 +29,10 @@ pub fn fields<const W: u32, S: Sink>(s: &mut S, h: &Bits, a: &Bits) -> Put<Field
     ensures source_below { IfOk result (λ made. made.source + 16 ≤ S.meaning.wires s.new) }
     ensures reg_below { IfOk result (λ made. made.reg + 16 ≤ S.meaning.wires s.new) }
 {
-    let op = onehot(s, &part(h, W - 5, 5))?;
-    let dest = onehot(s, &part(h, W - 10, 4))?;
-    let source = onehot(s, &part(h, W - 14, 4))?;
-    let reg = onehot(s, &part(a, 0, 4))?;
+    let op = onehot(s, &h.part(W - 5, 5))?;
+    let dest = onehot(s, &h.part(W - 10, 4))?;
+    let source = onehot(s, &h.part(W - 14, 4))?;
+    let reg = onehot(s, &a.part(0, 4))?;
     Ok(Fields {
         op,
         imm: h.first.offset(W - 6),
@@ -40,17 +40,6 @@ pub fn fields<const W: u32, S: Sink>(s: &mut S, h: &Bits, a: &Bits) -> Put<Field
         source,
         reg,
     })
-}
-
-// Some of a word's bits: `n` from number `low` on.
-fn part(x: &Bits, low: u32, n: u32) -> Bits
-    requires within { x.now.first + low + n < 2 ^ 32 }
-    ensures { result ≡ part x.now low n }
-{
-    Bits {
-        first: x.first.offset(low),
-        n,
-    }
 }
 
 /// Gives the 80 values of the wires that `fields` makes for bits that spell `h` and `a`.

@@ -19,15 +19,7 @@ pub fn limbs<const W: u32>(x: &Bits) -> (Lc, Lc)
     ensures low_len { length result.0 ≡ W / 2 }
     ensures high_len { length result.1 ≡ W / 2 }
 {
-    let low = Bits {
-        first: x.first,
-        n: W / 2,
-    };
-    let high = Bits {
-        first: x.first.offset(W / 2),
-        n: W / 2,
-    };
-    (low.lc(), high.lc())
+    (x.part(0, W / 2).lc(), x.above(W / 2).lc())
 }
 
 /// Where the bits spell a number, the values of the two combinations are its remainder and its

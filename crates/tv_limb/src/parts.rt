@@ -19,13 +19,7 @@ pub(crate) fn split_at_word<const W: u32>(bits: Bits) -> Split
     ensures { result ≡ split_at W bits }
 {
     Split {
-        low: Bits {
-            first: bits.first,
-            n: W,
-        },
-        high: Bits {
-            first: bits.first.offset(W),
-            n: bits.n - W,
-        },
+        low: bits.part(0, W),
+        high: bits.above(W),
     }
 }

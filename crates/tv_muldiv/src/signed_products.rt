@@ -32,10 +32,7 @@ pub fn signed_high<const W: u32, S: Sink>(s: &mut S, x: &Bits, y: &Bits) -> Put<
 {
     let made = signed_bits::<W, S>(s, x, y)?;
     let over = nonzero(s, &excess::<W>(made.first))?;
-    let high = Bits {
-        first: made.first.offset(W),
-        n: W,
-    };
+    let high = made.above(W);
     Ok(High { high, over })
 }
 

@@ -30,11 +30,7 @@ pub fn shift<const W: u32, S: Sink>(s: &mut S, x: &Bits, y: &Bits) -> Put<Shift>
     let parts = parts::<W, S>(s, x.first, y.first)?;
     let half = by_half::<W, S>(s, y.first.offset(k), x.first)?;
     let near = by_rest::<W, S>(s, &parts, half)?;
-    let far = Bits {
-        first: y.first.offset(k + 1),
-        n: W - (k + 1),
-    };
-    let none = zero(s, &far.lc())?;
+    let none = zero(s, &y.above(k + 1).lc())?;
     ends(s, none, near)
 }
 

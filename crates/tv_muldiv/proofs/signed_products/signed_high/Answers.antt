@@ -1,4 +1,6 @@
+use Rattle.std.proofs.Common.{◌≡◌, ℕ, ap₂, arith}
 use Rattle.tv_core.proofs.Chain.{chain, refused}
+use Rattle.tv_bits.specs.declared.bit_wires.Bits.{Bits}
 use Rattle.tv_muldiv.specs.SignedHigh.{signed_high_of}
 use Rattle.tv_muldiv.proofs.signed_products.signed_high.Goals as goal
 
@@ -13,8 +15,12 @@ returns-in_err-over-clause-puts g c =
     let over = rw (c.excess.ensures.terms) at c.in_err-over.ensures.puts in
     refused g.S.Sink.meaning _ _ _ c.from_residual-in_err-over.result c.from_residual-in_err-over.ensures.1 (search (chain, c.in_ok-made.ensures.puts, over))
 
+row_is : (x : Bits) (f k : ℕ) → x.first ≡ f → x.n ≡ k → x ≡ record { first = f; n = k }
+row_is x f k first n = ap₂ (λ f k. record { first = f; n = k }) first n
+
 pub returns-clause-puts : goal.returns-clause-puts
 unfolding signed_high_of
 returns-clause-puts g c =
     let over = rw (c.excess.ensures.terms) at c.in_ok-over.ensures.puts in
-    rw c.offset.ensures (search (chain, c.in_ok-made.ensures.puts, over))
+    let size : c.above-high.result.n ≡ g.row.W = omega (arith, c.above-high.ensures.n, c.in_ok-made.ensures.size) in
+    rw (row_is c.above-high.result _ g.row.W c.above-high.ensures.first size) (search (chain, c.in_ok-made.ensures.puts, over))
