@@ -22,11 +22,7 @@ fn byte_at(bits: &Bits, j: u32) -> Lc
     ensures top { top result ≤ bits.now.first + 8 * j + 8 }
     ensures len { length result ≡ 8 }
 {
-    let byte = Bits {
-        first: bits.first.offset(8 * j),
-        n: 8,
-    };
-    byte.lc()
+    bits.part(8 * j, 8).lc()
 }
 
 // A combination that is `k` where the bit `b` is 1, and else 1.
@@ -48,11 +44,7 @@ fn gain(x: &Bits, byte: Wire) -> Lc
     ensures top { top result ≤ max (x.now.first + 8) (byte + 1) }
     ensures len { length result ≡ 9 }
 {
-    let lowest = Bits {
-        first: x.first,
-        n: 8,
-    };
-    let mut gain = lowest.lc();
+    let mut gain = x.part(0, 8).lc();
     gain.plus(-F::ONE, byte);
     gain
 }
