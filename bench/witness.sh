@@ -17,7 +17,7 @@ split() {
     perf report -q -i samples --stdio -F overhead,sym 2> /dev/null | awk '
         NF < 3 { next }
         { part = "others" }
-        $3 ~ /^tv_(step|mem|isa|tape)::/ { part = "trace" }
+        $3 ~ /^tv_(step|mem|isa|tape|word)::/ { part = "trace" }
         $3 ~ /sort|address_order/ { part = "sort" }
         $3 ~ /^tv_route::/ { part = "route" }
         $3 ~ /^tv_(bits|limb|cmp|logic|shift|muldiv|decode|regs|block|numbers)::/ { part = "steps" }

@@ -22,9 +22,9 @@ use tv_word::Words;
 /// refused.
 ///
 /// The first line at fault is told, by its number from 1: `Bad` with its first reason, in the order
-/// that `AsmWhy` tells, or `TooMany` where its words would be more than `most` with those before. The text
-/// is walked twice, first for its labels, in time linear in its length: labels are looked up by
-/// their hashes, whose seed is fixed.
+/// that `AsmWhy` tells, or `TooMany` where its words would be more than `most` with those before.
+/// The text is walked twice, first for its labels, in time linear in its length: labels are looked
+/// up by their hashes, whose seed is fixed.
 pub fn assemble<const W: u32>(alloc: Global, text: &[u8], most: u32) -> Result<Words, AsmFault>
     requires width { IsWidth W }
     requires text { W ≡ 16 → width_of text.now ≡ 16 }

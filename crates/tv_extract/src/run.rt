@@ -13,8 +13,8 @@ pub struct Run {
     pub answer: u32,
     /// The words of its primary tape.
     pub tape: Words,
-    /// The words of its auxiliary tape: those that the assignment's steps take. The run reads all of
-    /// them where the assignment satisfies the system.
+    /// The words of its auxiliary tape: those that the assignment's steps take. The run reads all
+    /// of them where the assignment satisfies the system.
     pub aux: Words,
     /// The step that answers, counted from 1.
     pub step: u64,

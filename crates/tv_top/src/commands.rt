@@ -116,13 +116,13 @@ fn answer<D: Files>(alloc: Global, words: &[String], files: &mut D) -> Status
 /// says nothing where it is `Done`, and takes memory for the values, the lines and their text. All
 /// other words are `Usage`.
 ///
-/// `FileFault` tells the word of a name that is read, where a reading failed, as it does where there
-/// is no such name; of one that is written, where a writing failed; or the number of words, where
-/// saying the line failed. `Memory` comes where memory ran out; in place of `Usage`, `SameName` and
-/// the `Limit` of a number that the words tell, N, T or K, only where the files wanted it. After
-/// either each name that is to be written has all of its bytes, a prefix of them, or what it had,
-/// and no other file is changed. That of several names the one that failed is told, and that no
-/// further file call is made then, is tested.
+/// `FileFault` tells the word of a name that is read, where a reading failed, as it does where
+/// there is no such name; of one that is written, where a writing failed; or the number of words,
+/// where saying the line failed. `Memory` comes where memory ran out; in place of `Usage`,
+/// `SameName` and the `Limit` of a number that the words tell, N, T or K, only where the files
+/// wanted it. After either each name that is to be written has all of its bytes, a prefix of them,
+/// or what it had, and no other file is changed. That of several names the one that failed is told,
+/// and that no further file call is made then, is tested.
 pub fn command<D: Files>(alloc: Global, words: &[String], files: &mut D) -> Status
     ensures answers { Answers (request_of (form (map string_bytes words.now))) (length words.now)
         (D.seen files.old) (D.seen files.new) result }
