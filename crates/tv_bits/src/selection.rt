@@ -46,7 +46,7 @@ pub fn select_terms<S: Sink>(
     pick_by(s, &scratch.a, &mut scratch.b, &mut scratch.c, x, y)
 }
 
-/// The same of two wires.
+/// The same of two wires, from combinations that are filled again.
 pub fn select_wires<S: Sink>(
     s: &mut S,
     scratch: &mut Scratch,
@@ -123,7 +123,7 @@ fn pick_by<S: Sink>(
     Ok(w)
 }
 
-/// Gives the value of the wire that `select` makes, the arguments being the values of its inputs.
+/// Gives the value of the wire that `select` or `pick` makes, from the values of its inputs.
 pub fn fill_select<V: Values>(v: &mut V, b: F, x: F, y: F) -> Put<()>
     requires { V.giving.broken v.old ≡ false }
     ensures gives { GivesIn V.giving v.old v.new (select_values b x y) result }

@@ -1,5 +1,5 @@
-//! Results and flags of the machine's instructions, on words of `W` bits, 16 or 32.
-
+//! Words that the machine's instructions make of words of `W` bits, 16 or 32, the flags of sums,
+//! products and left shifts, signed words, and powers of 2.
 ghost use Rattle.std.specs.Prelude.{◌≡◌, ◌+◌, ◌-◌, ◌*◌, ◌/◌, ◌%◌, ◌^◌, ◌<◌, ◌==◌, ◌*ℤ◌, nat_lt};
 ghost use Rattle.std.specs.Prelude.{nat_le, not, if◌then◌else◌, bit_and, bit_or, bit_xor};
 ghost use Rattle.tv_word.specs.Widths.{IsWidth};
