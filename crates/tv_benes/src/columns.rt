@@ -1,7 +1,6 @@
 ghost use Rattle.std.specs.Prelude.{◌≡◌, ℕ, ◌+◌, ◌*◌, ◌<◌, ◌≤◌, length, IfOk};
 ghost use Rattle.tv_core.specs.Combinations.{top};
 ghost use Rattle.tv_core.specs.Sinks.{PutsIn, Grows, Room};
-ghost use Rattle.tv_core.specs.declared.lines.Pair.{Pair};
 ghost use Rattle.tv_benes.specs.Network.{switch_of, column_of};
 ghost use Rattle.tv_benes.specs.Places.{wires_at, AreMade};
 

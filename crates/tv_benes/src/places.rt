@@ -1,4 +1,4 @@
-ghost use Rattle.std.specs.Prelude.{◌≡◌, ℕ, ◌+◌, ◌*◌, ◌/◌, ◌%◌, ◌^◌, ◌<◌, ◌==◌};
+ghost use Rattle.std.specs.Prelude.{◌≡◌, ℕ, ◌+◌, ◌^◌, ◌<◌};
 ghost use Rattle.tv_core.specs.declared.lines.Pair.{Pair};
 ghost use Rattle.tv_benes.specs.Places.{fifth, output, output_wire, column_outputs, last_outputs};
 ghost use Rattle.tv_benes.specs.Places.{last_wire};

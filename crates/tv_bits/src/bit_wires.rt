@@ -71,10 +71,11 @@ impl Bits {
         self.part(from, self.n - from)
     }
 
-    /// `n` of the bits, from place `low` on, as bits of their own: where there are as many, they
-    /// spell the number divided by 2^`low`, and of that the remainder by 2^`n`.
+    /// `n` of the bits, from place `low` on, as bits of their own: they spell the remainder by
+    /// 2^`n` of the number divided by 2^`low`.
     pub fn part(&self, low: u32, n: u32) -> Bits
-        requires within { self.now.first + low + n < 2 ^ 32 }
+        requires enough { low + n ≤ self.now.n }
+        requires within { self.now.first + self.now.n < 2 ^ 32 }
         ensures { result ≡ part self.now low n }
     {
         Bits {

@@ -1,4 +1,4 @@
-ghost use Rattle.std.specs.Prelude.{◌≡◌, ◌+◌, ◌≤◌, length, max, IfOk};
+ghost use Rattle.std.specs.Prelude.{◌≡◌, ◌≤◌, length, max, IfOk};
 ghost use Rattle.tv_bits.specs.Pairs.{side, two_ands_of, TwoAndsAreSound, TwoAndsAreComplete};
 ghost use Rattle.tv_bits.specs.Pairs.{TwoAndsSizes};
 ghost use Rattle.tv_core.specs.Combinations.{top};

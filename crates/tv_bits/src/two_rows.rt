@@ -1,4 +1,4 @@
-ghost use Rattle.std.specs.Prelude.{◌≡◌, ◌+◌, ◌-◌, ◌%◌, ◌≤◌, ◌<◌, ◌^◌, ◌++◌, length, max};
+ghost use Rattle.std.specs.Prelude.{◌≡◌, ◌+◌, ◌%◌, ◌≤◌, ◌<◌, ◌^◌, ◌++◌, length, max};
 ghost use Rattle.tv_bits.specs.Prefixes.{prefix};
 ghost use Rattle.tv_bits.specs.Rows.{one_row, rows_size};
 ghost use Rattle.tv_core.specs.Combinations.{scaled, top};

@@ -1,4 +1,4 @@
-ghost use Rattle.std.specs.Prelude.{◌≡◌, ◌+◌, ◌-◌, ◌/◌, ◌≤◌, ◌<◌, ◌^◌, ◌++◌, length, max, IfOk};
+ghost use Rattle.std.specs.Prelude.{◌≡◌, ◌+◌, ◌-◌, ◌/◌, ◌≤◌, ◌<◌, ◌^◌, length, max, IfOk};
 ghost use Rattle.tv_block.specs.Pc.{behind_in, target_in, pc_of};
 ghost use Rattle.tv_block.specs.Under.{StateUnder};
 ghost use Rattle.tv_core.specs.Combinations.{wire, constant, less, top};

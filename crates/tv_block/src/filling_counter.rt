@@ -1,4 +1,4 @@
-ghost use Rattle.std.specs.Prelude.{◌≡◌, ◌+◌, ◌-◌, ◌/◌, ◌%◌, ◌<◌, ◌^◌, ◌==◌, if◌then◌else◌, false};
+ghost use Rattle.std.specs.Prelude.{◌≡◌, ◌+◌, ◌-◌, ◌/◌, ◌%◌, ◌^◌, ◌==◌, if◌then◌else◌, false};
 ghost use Rattle.std.specs.Prelude.{OnOk};
 ghost use Rattle.tv_block.specs.Filling.{view_of, AreNumbers, counters_values};
 ghost use Rattle.tv_block.specs.Values.{pc_values};

@@ -1,4 +1,4 @@
-ghost use Rattle.std.specs.Prelude.{◌≡◌, ◌*◌, ◌/◌, ◌%◌, ◌<◌, ◌≤◌, ◌^◌, false, OnOk};
+ghost use Rattle.std.specs.Prelude.{◌≡◌, ◌/◌, ◌<◌, ◌≤◌, ◌^◌, false, OnOk};
 ghost use Rattle.tv_block.specs.Filling.{view_of, AreNumbers, news_values};
 ghost use Rattle.tv_block.specs.Values.{gained, patch_two_values, patch_four_values, patch_values};
 ghost use Rattle.tv_block.specs.Values.{store_values};

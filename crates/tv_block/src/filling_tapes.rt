@@ -1,12 +1,11 @@
-ghost use Rattle.std.specs.Prelude.{◌≡◌, ◌+◌, ◌*◌, ◌/◌, ◌%◌, ◌<◌, ◌≤◌, ◌^◌, ◌==◌, ◌&&◌, ◌||◌};
+ghost use Rattle.std.specs.Prelude.{◌≡◌, ◌*◌, ◌%◌, ◌<◌, ◌≤◌, ◌^◌};
 ghost use Rattle.std.specs.Prelude.{false, OnOk};
 ghost use Rattle.tv_block.specs.Filling.{view_of, AreNumbers, looked_values};
 ghost use Rattle.tv_block.specs.Values.{tapes_values, data_values};
 ghost use Rattle.tv_core.specs.Giving.{GivesIn};
 ghost use Rattle.tv_core.specs.Inverse.{inverse_of};
 ghost use Rattle.tv_core.specs.declared.field.TheConstants.{P};
-ghost use Rattle.tv_core.specs.declared.limits.TheConstants.{NULL_CELL};
-ghost use Rattle.tv_numbers.specs.Numbers.{touches, stepped};
+ghost use Rattle.tv_numbers.specs.Numbers.{stepped};
 ghost use Rattle.tv_numbers.specs.Views.{flag_of};
 ghost use Rattle.tv_word.specs.Widths.{IsWidth};
 

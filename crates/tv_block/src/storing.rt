@@ -1,4 +1,4 @@
-ghost use Rattle.std.specs.Prelude.{◌≡◌, ◌+◌, ◌*◌, ◌-◌, ◌≤◌, ◌<◌, ◌^◌, length, max, IfOk};
+ghost use Rattle.std.specs.Prelude.{◌≡◌, ◌+◌, ◌*◌, ◌≤◌, ◌<◌, ◌^◌, length, max, IfOk};
 ghost use Rattle.tv_block.specs.Store.{byte_of_bits, power_by, patch_of_two, patch_of_four};
 ghost use Rattle.tv_block.specs.Store.{patch_of, store_of};
 ghost use Rattle.tv_block.specs.Under.{OperandsUnder, DataUnder, PatchUnder, StoreUnder};
@@ -9,15 +9,15 @@ ghost use Rattle.tv_core.specs.Sinks.{PutsIn, Grows, Room};
 ghost use Rattle.tv_word.specs.Widths.{IsWidth};
 
 use crate::records::{Data, Operands, Patch, Store};
-use tv_bits::{Bits, pick, select, select_terms, times};
+use tv_bits::{Bits, pick, select, select_terms, select_wires, times};
 use tv_core::{F, Lc, Put, Scratch, Sink, Wire};
 use tv_isa::opcode::{STORE_B, STORE_W};
 use tv_regs::group;
 
 // Byte number `j` of a row of bits.
 fn byte_at(bits: &Bits, j: u32) -> Lc
-    requires few { j < 4 }
-    requires within { bits.now.first + 8 * j + 8 < 2 ^ 32 }
+    requires enough { 8 * j + 8 ≤ bits.now.n }
+    requires within { bits.now.first + bits.now.n < 2 ^ 32 }
     ensures terms { result ≡ byte_of_bits bits.now j }
     ensures top { top result ≤ bits.now.first + 8 * j + 8 }
     ensures len { length result ≡ 8 }
@@ -39,7 +39,8 @@ fn power_by(k: u32, b: Wire) -> Lc
 
 // What a byte gains where the lowest one of `x` takes its place.
 fn gain(x: &Bits, byte: Wire) -> Lc
-    requires within { x.now.first + 8 < 2 ^ 32 }
+    requires enough { 8 ≤ x.now.n }
+    requires within { x.now.first + x.now.n < 2 ^ 32 }
     ensures terms { result ≡ less (bits_combination x.now.first 8) (wire byte) }
     ensures top { top result ≤ max (x.now.first + 8) (byte + 1) }
     ensures len { length result ≡ 9 }
@@ -53,6 +54,8 @@ fn gain(x: &Bits, byte: Wire) -> Lc
 // `x` in its place. It makes 2 wires and 2 constraints.
 fn patch_of_two<S: Sink>(s: &mut S, bits: &Bits, a: &Bits, x: &Bits) -> Put<Patch>
     requires room { Room S.meaning s.old 2 2 }
+    requires bits_word { bits.now.n ≡ 16 }
+    requires x_word { x.now.n ≡ 16 }
     requires bits_made { bits.now.first + 16 ≤ S.meaning.wires s.old }
     requires a_made { a.now.first + 16 ≤ S.meaning.wires s.old }
     requires x_made { x.now.first + 16 ≤ S.meaning.wires s.old }
@@ -68,6 +71,8 @@ fn patch_of_two<S: Sink>(s: &mut S, bits: &Bits, a: &Bits, x: &Bits) -> Put<Patc
 // The same in a word of four bytes. It makes 5 wires and 5 constraints.
 fn patch_of_four<S: Sink>(s: &mut S, bits: &Bits, a: &Bits, x: &Bits) -> Put<Patch>
     requires room { Room S.meaning s.old 5 5 }
+    requires bits_word { bits.now.n ≡ 32 }
+    requires x_word { x.now.n ≡ 32 }
     requires bits_made { bits.now.first + 32 ≤ S.meaning.wires s.old }
     requires a_made { a.now.first + 32 ≤ S.meaning.wires s.old }
     requires x_made { x.now.first + 32 ≤ S.meaning.wires s.old }
@@ -91,7 +96,7 @@ fn patch_of_four<S: Sink>(s: &mut S, bits: &Bits, a: &Bits, x: &Bits) -> Put<Pat
         byte_at(bits, 3).terms(),
         byte_at(bits, 2).terms(),
     )?;
-    let byte = select_terms(s, &mut scratch, second, &[(F::ONE, high)], &[(F::ONE, low)])?;
+    let byte = select_wires(s, &mut scratch, second, high, low)?;
     let power = times(s, &power_by(256, a.first), &power_by(65536, second))?;
     let added = times(s, &Lc::wire(power), &gain(x, byte))?;
     Ok(Patch { byte, added })
@@ -102,6 +107,8 @@ fn patch_of_four<S: Sink>(s: &mut S, bits: &Bits, a: &Bits, x: &Bits) -> Put<Pat
 fn patch<const W: u32, S: Sink>(s: &mut S, bits: &Bits, a: &Bits, x: &Bits) -> Put<Patch>
     requires width { IsWidth W }
     requires room { Room S.meaning s.old (patch_made W) (patch_made W) }
+    requires bits_word { bits.now.n ≡ W }
+    requires x_word { x.now.n ≡ W }
     requires bits_made { bits.now.first + W ≤ S.meaning.wires s.old }
     requires a_made { a.now.first + W ≤ S.meaning.wires s.old }
     requires x_made { x.now.first + W ≤ S.meaning.wires s.old }

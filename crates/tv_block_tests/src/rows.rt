@@ -1,6 +1,6 @@
 //! Each step of a run: all constraints hold over the generator's values, which are the machine's,
 //! and one fails where a wire is raised.
-ghost use Rattle.std.specs.Prelude.{◌+◌, ◌≤◌, ◌<◌, ◌^◌};
+ghost use Rattle.std.specs.Prelude.{◌≤◌, ◌<◌, ◌^◌};
 ghost use Rattle.tv_word.specs.Widths.{IsWidth};
 
 use crate::program::{AUX, HEADER_16, HEADER_32, LATE_READ, LINES, TAPE};

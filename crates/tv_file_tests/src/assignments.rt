@@ -1,7 +1,7 @@
 //! What no clause says: that the vector and its malformed forms give what another reader of the
 //! format gives, that calls succeed where memory is ample and in which pieces, and what a failing
 //! call leaves.
-ghost use Rattle.std.specs.Prelude.{◌+◌, ◌≤◌, length, Some};
+ghost use Rattle.std.specs.Prelude.{◌+◌, ◌≤◌, length};
 ghost use Rattle.tv_files.specs.Outside.{OnlyReads};
 
 use std::alloc::Global;

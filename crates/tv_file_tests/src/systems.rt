@@ -1,6 +1,6 @@
 //! What no clause says: that the vector is what another writer of the format gives, that calls
 //! succeed where memory is ample and in which pieces, and what each failing call leaves.
-ghost use Rattle.std.specs.Prelude.{◌≡◌, ◌≤◌, ◌<◌, false, true};
+ghost use Rattle.std.specs.Prelude.{◌≡◌, ◌≤◌, true};
 ghost use Rattle.tv_core.specs.Combinations.{top};
 
 use std::alloc::Global;

@@ -16,7 +16,7 @@ pub record HasRun (w : ℕ) (image x : List ℕ) (t v : ℕ) : Type 0 where
   pub words : AreWords w aux
   pub accepts : Accepts w image x aux t v
 
--- on some of fewer than t words
+-- the same on some auxiliary tape of fewer than t words
 pub record HasShortRun (w : ℕ) (image x : List ℕ) (t v : ℕ) : Type 0 where
   pub run : HasRun w image x t v
   pub short : length run.aux < t

@@ -1,4 +1,3 @@
-ghost use Rattle.std.specs.Prelude.{◌<◌};
 ghost use Rattle.tv_block.specs.Block.{block_of};
 ghost use Rattle.tv_layout.specs.Layout.{lines_of};
 ghost use Rattle.tv_layout.specs.Places.{WithinLimits};

@@ -1,4 +1,4 @@
-ghost use Rattle.std.specs.Prelude.{◌≡◌, ◌+◌, ◌*◌, ◌≤◌, IfOk, map, take};
+ghost use Rattle.std.specs.Prelude.{◌≡◌, ◌≤◌, IfOk, map, take};
 ghost use Rattle.tv_layout.specs.Places.{WithinLimits, line_count};
 ghost use Rattle.tv_listing.specs.Listing.{assigned_lines, lines_at, text_by};
 ghost use Rattle.tv_listing.specs.Row.{row_line};

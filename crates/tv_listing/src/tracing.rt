@@ -1,5 +1,5 @@
-ghost use Rattle.std.specs.Prelude.{◌≡◌, ◌+◌, ◌*◌, ◌≤◌, ◌++◌, length, map, OnOk, IfOk};
-ghost use Rattle.tv_core.specs.declared.limits.TheConstants.{IMAGE_WORDS, TAPE_WORDS, TAPE_CELLS};
+ghost use Rattle.std.specs.Prelude.{◌≡◌, ◌*◌, ◌≤◌, ◌++◌, length, map, OnOk, IfOk};
+ghost use Rattle.tv_core.specs.declared.limits.TheConstants.{IMAGE_WORDS, TAPE_WORDS};
 ghost use Rattle.tv_listing.specs.Listing.{traced_lines, text_by};
 ghost use Rattle.tv_listing.specs.Row.{row_line};
 ghost use Rattle.tv_step.specs.Cells.{boot_from};

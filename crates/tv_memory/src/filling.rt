@@ -1,6 +1,5 @@
 ghost use Rattle.std.specs.Prelude.{◌≡◌, ◌+◌, ◌-◌, ◌^◌, ◌≤◌, false, length, map, OnOk};
 ghost use Rattle.tv_benes.specs.Items.{bit_at, pair_at};
-ghost use Rattle.tv_benes.specs.declared.shape.Net.{Net};
 ghost use Rattle.tv_core.specs.Below.{joined_below};
 ghost use Rattle.tv_core.specs.Giving.{GivesIn};
 ghost use Rattle.tv_lines.specs.Packing.{unpacked};

@@ -1,4 +1,4 @@
-ghost use Rattle.std.specs.Prelude.{◌≡◌, ◌*◌, ◌+◌, ◌%◌, ◌^◌, map, IfOk};
+ghost use Rattle.std.specs.Prelude.{◌≡◌, ◌%◌, ◌^◌, map, IfOk};
 ghost use Rattle.tv_lines.specs.Ordered.{key};
 ghost use Rattle.tv_lines.specs.Packing.{unpacked};
 ghost use Rattle.tv_memory.specs.Order.{address_order, AddressOrderIsRight};

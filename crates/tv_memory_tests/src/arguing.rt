@@ -1,5 +1,5 @@
 //! The memory argument over eight lines.
-ghost use Rattle.std.specs.Prelude.{◌+◌, ◌≤◌};
+ghost use Rattle.std.specs.Prelude.{◌≤◌};
 ghost use Rattle.tv_core.specs.Sinks.{Room};
 
 use crate::rows::{ORDER, falsehoods, honest, packed_all};

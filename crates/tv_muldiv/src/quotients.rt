@@ -2,7 +2,7 @@ ghost use Rattle.std.specs.Prelude.{◌≡◌, ◌+◌, ◌*◌, ◌/◌, ◌^�
 ghost use Rattle.tv_bits.specs.Zero.{zero_flag};
 ghost use Rattle.tv_core.specs.Giving.{GivesIn};
 ghost use Rattle.tv_core.specs.Sinks.{PutsIn, Grows, Room};
-ghost use Rattle.tv_muldiv.specs.Quotient.{quotient_in, remainder_in, zero_divisor_of};
+ghost use Rattle.tv_muldiv.specs.Quotient.{zero_divisor_of};
 ghost use Rattle.tv_muldiv.specs.Quotient.{quotient_wires_of, gate_of, division_of};
 ghost use Rattle.tv_muldiv.specs.Quotient.{remainder_below_of, quotient_of, gate_in, words_values};
 ghost use Rattle.tv_muldiv.specs.Quotient.{above_values, quotient_values, QuotientIsSound};

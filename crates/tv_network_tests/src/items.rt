@@ -1,6 +1,6 @@
 //! The items that the tests send through a network: item i is the pair of the numbers i and i +
 //! 1,000,000.
-ghost use Rattle.std.specs.Prelude.{◌≡◌, ◌+◌, ◌*◌, ◌^◌, ◌<◌, ◌≤◌, vec_len, IfOk};
+ghost use Rattle.std.specs.Prelude.{◌≡◌, ◌+◌, ◌*◌, ◌^◌, ◌≤◌, vec_len, IfOk};
 ghost use Rattle.tv_benes.specs.Places.{wires_at};
 
 use std::alloc::{AllocError, Global};

@@ -1,5 +1,5 @@
 //! A network over the values of its generator.
-ghost use Rattle.std.specs.Prelude.{◌≡◌, ◌+◌, ◌*◌, ◌^◌, ◌<◌, ◌≤◌, false, IfOk};
+ghost use Rattle.std.specs.Prelude.{◌≡◌, ◌^◌, ◌≤◌, false, IfOk};
 ghost use Rattle.tv_benes.specs.Places.{AreBelow};
 
 use crate::items::{APART, Wires, numbers, wires_of};

@@ -1,11 +1,9 @@
-ghost use Rattle.std.specs.Prelude.{◌≡◌, ℕ, ◌+◌, ◌*◌, ◌≤◌, ◌<◌, ◌^◌, List, [], length, Some, Ok};
+ghost use Rattle.std.specs.Prelude.{◌≡◌, ℕ, ◌+◌, ◌≤◌, ◌<◌, ◌^◌, List, [], length, Ok};
 ghost use Rattle.std.specs.Prelude.{Err, IfOk, IfErr, OnOk};
 ghost use Rattle.tv_container.specs.Found.{first_of, AllEnd, AllFit};
 ghost use Rattle.tv_container.specs.Places.{places};
 ghost use Rattle.tv_container.specs.Reading.{Gives, IsMissing, IsTold, InPiece, ReadsIn};
 ghost use Rattle.tv_r1cs_read.specs.R1cs.{HasRoom, checked, counted, header_in, header_of};
-ghost use Rattle.tv_container.specs.Field.{this_field};
-ghost use Rattle.tv_container.specs.Sections.{wanted};
 ghost use Rattle.tv_container.specs.declared.sections.Section.{Section};
 
 use tv_container::{

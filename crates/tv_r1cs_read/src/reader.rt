@@ -1,4 +1,4 @@
-ghost use Rattle.std.specs.Prelude.{◌≡◌, [], List, Some, None, Ok, Err, Option, IfOk, IfErr, OnOk};
+ghost use Rattle.std.specs.Prelude.{◌≡◌, [], List, Some, None, Err, IfOk, IfErr, OnOk};
 ghost use Rattle.std.specs.Prelude.{MatchResult, MatchOption, IfSome, ◌+◌};
 ghost use Rattle.tv_core.specs.Constraints.{Constraint};
 ghost use Rattle.tv_r1cs_read.specs.Places.{IsAt, Gave, GaveBy};

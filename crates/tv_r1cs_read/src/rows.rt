@@ -1,5 +1,5 @@
 ghost use Rattle.std.specs.Prelude.{◌≡◌, ℕ, ◌+◌, ◌-◌, ◌*◌, ◌≤◌, ◌<◌, ◌^◌, List, [], ◌∷◌, ◌++◌};
-ghost use Rattle.std.specs.Prelude.{length, Some, Ok, Result, IfOk, IfErr, OnOk, MatchResult};
+ghost use Rattle.std.specs.Prelude.{length, Result, IfOk, IfErr, OnOk, MatchResult};
 ghost use Rattle.std.specs.List.{All};
 ghost use Rattle.tv_core.specs.Constraints.{Combination};
 ghost use Rattle.tv_container.specs.Places.{Fault, fit, places};

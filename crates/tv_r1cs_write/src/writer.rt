@@ -1,4 +1,4 @@
-ghost use Rattle.std.specs.Prelude.{◌≡◌, ◌-◌, ◌*◌, ◌^◌, ◌<◌, ◌+◌, ◌++◌, [], false, true, length};
+ghost use Rattle.std.specs.Prelude.{◌≡◌, ◌-◌, ◌*◌, ◌^◌, ◌<◌, ◌+◌, ◌++◌, [], true, length};
 ghost use Rattle.std.specs.Prelude.{OnOk, OnErr};
 ghost use Rattle.tv_container.specs.Bytes.{section_head};
 ghost use Rattle.tv_container.specs.Writing.{PassesOn};

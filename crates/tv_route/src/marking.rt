@@ -1,4 +1,4 @@
-ghost use Rattle.std.specs.Prelude.{◌≡◌, ℕ, ◌+◌, ◌-◌, ◌*◌, ◌^◌, ◌<◌, ◌≤◌, length, get_or};
+ghost use Rattle.std.specs.Prelude.{◌≡◌, ℕ, ◌*◌, ◌^◌, ◌<◌, ◌≤◌, length, get_or};
 ghost use Rattle.std.specs.Prelude.{slice_index, None, is_none, IfOk};
 ghost use Rattle.tv_route.specs.Permutations.{Permutes};
 ghost use Rattle.tv_route.specs.Route.{other, partners, walk, walks, halves};

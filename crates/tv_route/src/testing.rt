@@ -1,4 +1,4 @@
-ghost use Rattle.std.specs.Prelude.{◌≡◌, ◌<◌, true, length, IfOk};
+ghost use Rattle.std.specs.Prelude.{◌≡◌, true, length, IfOk};
 ghost use Rattle.tv_route.specs.Permutations.{Permutes};
 
 use std::alloc::{AllocError, Global};

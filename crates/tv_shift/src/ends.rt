@@ -3,7 +3,7 @@ ghost use Rattle.tv_bits.specs.Bits.{bits_combination};
 ghost use Rattle.tv_core.specs.Combinations.{top, scaled};
 ghost use Rattle.tv_core.specs.Sinks.{PutsIn, Grows, Room};
 ghost use Rattle.tv_core.specs.declared.field.TheConstants.{P};
-ghost use Rattle.tv_shift.specs.Masks.{half_log, AreMade};
+ghost use Rattle.tv_shift.specs.Masks.{AreMade};
 ghost use Rattle.tv_shift.specs.Shift.{by_half_of, by_rest_of, ends_of};
 ghost use Rattle.tv_word.specs.Widths.{IsWidth};
 

@@ -1,9 +1,9 @@
-ghost use Rattle.std.specs.Prelude.{◌≡◌, ◌+◌, ◌/◌, ◌%◌, ◌<◌, ◌^◌, ◌==◌, false, OnOk};
+ghost use Rattle.std.specs.Prelude.{◌≡◌, ◌/◌, ◌%◌, ◌<◌, ◌^◌, ◌==◌, false, OnOk};
 ghost use Rattle.std.specs.Int.{bit_at};
 ghost use Rattle.tv_core.specs.Giving.{GivesIn};
 ghost use Rattle.tv_shift.specs.Halves.{chosen_half, other_half};
 ghost use Rattle.tv_shift.specs.Masks.{half_log};
-ghost use Rattle.tv_shift.specs.Shift.{shifted_left, shifted_right, parts_values, ends_values};
+ghost use Rattle.tv_shift.specs.Shift.{parts_values, ends_values};
 ghost use Rattle.tv_shift.specs.Shift.{shift_values};
 ghost use Rattle.tv_word.specs.Widths.{IsWidth};
 

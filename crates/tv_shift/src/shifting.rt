@@ -1,6 +1,6 @@
-ghost use Rattle.std.specs.Prelude.{◌≡◌, ◌+◌, ◌-◌, ◌/◌, ◌≤◌, ◌<◌, IfOk};
+ghost use Rattle.std.specs.Prelude.{◌≡◌, ◌+◌, ◌/◌, ◌≤◌, ◌<◌, IfOk};
 ghost use Rattle.tv_core.specs.Sinks.{PutsIn, Grows, Room};
-ghost use Rattle.tv_shift.specs.Masks.{half_log, AreMade};
+ghost use Rattle.tv_shift.specs.Masks.{AreMade};
 ghost use Rattle.tv_shift.specs.Shift.{places_of, parts_of, shift_of, places_made, parts_made};
 ghost use Rattle.tv_shift.specs.Shift.{shift_made, ShiftIsSound, ShiftIsComplete, ShiftSizes};
 ghost use Rattle.tv_word.specs.Widths.{IsWidth};

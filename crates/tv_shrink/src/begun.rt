@@ -1,6 +1,6 @@
 //! The rows of a system's file.
 
-ghost use Rattle.std.specs.Prelude.{◌≡◌, ◌+◌, ◌<◌, Err, IfOk, IfErr, MatchResult};
+ghost use Rattle.std.specs.Prelude.{◌≡◌, Err, IfOk, IfErr, MatchResult};
 ghost use Rattle.tv_container.specs.Reading.{Known, IsMissing};
 ghost use Rattle.tv_shrink.specs.Answers.{HaltsBy, IsOfSize, IsReady, IsRead, TellsRead};
 ghost use Rattle.tv_shrink.specs.declared.fault.ShrinkFault.{ShrinkFault};

@@ -1,7 +1,7 @@
 //! Adding multiples of normal combinations.
 
-ghost use Rattle.std.specs.Prelude.{◌≡◌, ◌<◌, ◌+◌, ◌*◌, ◌%◌, [], ◌++◌, length, OnOk, Option, None};
-ghost use Rattle.std.specs.Prelude.{Some, min};
+ghost use Rattle.std.specs.Prelude.{◌≡◌, ◌<◌, ◌+◌, ◌*◌, ◌%◌, [], ◌++◌, length, OnOk, None};
+ghost use Rattle.std.specs.Prelude.{min};
 ghost use Rattle.tv_core.specs.Combinations.{scaled};
 ghost use Rattle.tv_core.specs.declared.field.TheConstants.{P};
 ghost use Rattle.tv_shrink.specs.Merging.{first_wire, head_at, leaving_out, tail_at, unless_left};

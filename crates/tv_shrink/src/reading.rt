@@ -1,12 +1,11 @@
 //! Reading a system into the rows of a pass.
 
-ghost use Rattle.std.specs.Prelude.{◌≡◌, ◌+◌, ◌-◌, ◌<◌, ◌^◌, [], ◌∷◌, ◌++◌, Some, None, Ok, length};
+ghost use Rattle.std.specs.Prelude.{◌≡◌, ◌<◌, ◌^◌, [], ◌∷◌, ◌++◌, Some, None, length};
 ghost use Rattle.std.specs.Prelude.{replicate, false, OnOk, IfOk, IfErr, slice_index_or, slice_set};
 ghost use Rattle.tv_r1cs_read.specs.Rows.{constraint_of, IsOver};
 ghost use Rattle.tv_shrink.specs.Answers.{wide_in, IsTooWide};
-ghost use Rattle.tv_shrink.specs.Normal.{normal, normal_constraint};
+ghost use Rattle.tv_shrink.specs.Normal.{normal_constraint};
 ghost use Rattle.tv_shrink.specs.Tidy.{AreNormal, Covers, IsKept, IsWithin, RowIsWithin};
-ghost use Rattle.tv_shrink.specs.declared.fault.ShrinkFault.{ShrinkFault};
 
 use crate::fault::ShrinkFault;
 use crate::pass::{Pass, spread};

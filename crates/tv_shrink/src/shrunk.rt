@@ -1,4 +1,4 @@
-ghost use Rattle.std.specs.Prelude.{◌≡◌, ◌+◌, ◌≤◌, ◌<◌, ◌^◌, List, length, Ok, IfOk};
+ghost use Rattle.std.specs.Prelude.{◌≡◌, ◌+◌, ◌≤◌, ◌<◌, ◌^◌, List, length, IfOk};
 ghost use Rattle.tv_core.specs.Constraints.{Constraint};
 ghost use Rattle.tv_shrink.specs.Answers.{counted_system, start_rows, IsReady};
 ghost use Rattle.tv_shrink.specs.Shrinking.{shrink};

@@ -1,5 +1,5 @@
 //! The 29 instructions: a method for each kind, and one that chooses.
-ghost use Rattle.std.specs.Prelude.{◌≡◌, ◌<◌, ◌^◌, [], ◌∷◌, None, All, IfSome, ◌/◌, ◌%◌, ◌==◌};
+ghost use Rattle.std.specs.Prelude.{◌≡◌, ◌<◌, ◌^◌, [], ◌∷◌, None, All, IfSome, ◌/◌};
 ghost use Rattle.std.specs.Prelude.{IfOk, OnOk, OnErr, if◌then◌else◌};
 ghost use Rattle.tv_word.specs.Widths.{IsWidth};
 ghost use Rattle.tv_isa.specs.Instruction.{IsInstruction};

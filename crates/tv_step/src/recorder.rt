@@ -1,5 +1,5 @@
 //! Steps that tell their lines.
-ghost use Rattle.std.specs.Prelude.{◌≡◌, ◌+◌, ◌-◌, ◌*◌, ◌/◌, ◌<◌, ◌^◌, ◌==◌, ◌&&◌, ◌||◌, not};
+ghost use Rattle.std.specs.Prelude.{◌≡◌, ◌+◌, ◌-◌, ◌<◌, ◌^◌, ◌==◌, ◌&&◌, ◌||◌, not};
 ghost use Rattle.std.specs.Prelude.{is_some, nat_lt, if◌then◌else◌, slice_get, length, IfOk, OnOk};
 ghost use Rattle.tv_core.specs.declared.limits.TheConstants.{TAPE_CELLS};
 ghost use Rattle.tv_isa.specs.Instruction.{IsInstruction};

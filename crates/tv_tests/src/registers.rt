@@ -1,6 +1,6 @@
 //! Registers read and written, and choices by an opcode: over the generators' values, over the same
 //! with a wire altered, and over false writes.
-ghost use Rattle.std.specs.Prelude.{◌≡◌, ◌+◌, ◌≤◌, ◌<◌, false, IfOk};
+ghost use Rattle.std.specs.Prelude.{◌≡◌, ◌≤◌, ◌<◌, false, IfOk};
 ghost use Rattle.tv_core.specs.Sinks.{Room};
 ghost use Rattle.tv_regs.specs.Reading.{wires_top};
 
