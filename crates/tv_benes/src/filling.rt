@@ -25,7 +25,8 @@ pub fn fill_network<V: Values>(v: &mut V, k: u32, inputs: &[PairNum], bits: &[bo
     fill_routing_network(v, Net::Benes, k, inputs, bits)
 }
 
-/// Gives the values of the wires that `routing_network` makes.
+/// Gives the values of the wires that `routing_network` makes for 2^k items, k from 1 to 31. A bit
+/// or an item that is missing counts as 0.
 pub fn fill_routing_network<V: Values>(
     v: &mut V,
     net: Net,

@@ -76,7 +76,8 @@ fn traced(state: &StateNum) -> TraceState
 /// the data word. That is the word that the step takes of the auxiliary tape where `takes` tells
 /// so, and else the one in the cell that it looks at.
 ///
-/// It takes no memory. Of its time most goes into the hints that are inverses.
+/// All words are below 2^`W`, and the primary tape has `n` of them, fewer than 2^29. It takes no
+/// memory. Of its time most goes into the hints that are inverses.
 pub fn fill_traced_step<const W: u32, V: Values>(
     v: &mut V,
     n: u32,

@@ -20,6 +20,9 @@ use tv_word::Words;
 /// how the run on these words ends where it doesn't answer the word at wire 1 (`NotARun`). A
 /// satisfying assignment has none of these faults. Takes the time of the run and of telling the
 /// system's sizes, and memory for the words, twice, and for the machine.
+///
+/// The image fits in memory and has at most 131,072 words, `n` is at most 131,072, and `t` is from
+/// 1 to 262,144.
 #[tactic(auto, using(crate::proofs::ExtractLaws::extracted))]
 pub fn extract<const W: u32>(
     alloc: Global,

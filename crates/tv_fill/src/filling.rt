@@ -123,6 +123,9 @@ impl<const W: u32> Filling<W> {
 /// at most 160 bytes for each of the 2^k lines of the system, and at most 100 bytes a line are held
 /// by what it answers, with the room that the lines are moved in when the values are given. It
 /// takes the run's time twice, and then a time that grows as k times the lines.
+///
+/// Words have `W` bits, 16 or 32, and the image fits in memory. It has at most 131,072 of them, and
+/// so has the primary tape; `t` is from 1 to 262,144.
 pub fn prepare<const W: u32>(
     alloc: Global,
     image: &[u32],
@@ -180,7 +183,7 @@ fn settings_to_sort(alloc: Global, net: Net, pairs: &[PairNum]) -> Result<Settin
 /// image and two tapes: those that satisfy it and extend the answer and the tape. `NoRun` comes
 /// exactly where the run answers nothing, and nothing is given then. `Failed` and `Memory` tell
 /// what `v` refused a value for; `Memory` comes also where there was none before the first value.
-/// It takes the memory that `prepare` takes.
+/// It takes the memory that `prepare` takes, and has its limits.
 pub fn fill_system<const W: u32, V: Values>(
     alloc: Global,
     image: &[u32],

@@ -14,6 +14,9 @@ use tv_layout::line;
 /// `step`. Each line is its time, its cell, its old and its new word in decimal, apart by one
 /// space, and a line feed. The assignment need not satisfy the system, and a wire past its end
 /// counts as 0; the numbers are those of the field. Takes 32 bytes a line beside the text.
+///
+/// The image and the tape have at most 131,072 words each, `t` is from 1 to 262,144, and `step` at
+/// most `t`.
 pub fn listing<const W: u32>(
     alloc: Global,
     image: &[u32],

@@ -6,10 +6,6 @@ use Rattle.tv_word.specs.Word.{spelled}
 abbrev pub Bytes : Type 0
 Bytes = ℕ → ℕ
 
--- nothing but 0
-abbrev pub zeros : Bytes
-zeros at = 0
-
 -- byte number i of a number, from the lowest on
 abbrev pub byte_of : ℕ → ℕ → ℕ
 byte_of v i = v / 256 ^ i % 256

@@ -19,6 +19,7 @@ pub fn files_are_fronts()
 pub fn files_are_whole()
     ensures { FilesAreWhole }
 {}
+
 /// What is written is read: `system_of` the bytes of a system that the format can hold is that
 /// system.
 #[tactic(auto, using(crate::proofs::Systems::systems_come_back))]

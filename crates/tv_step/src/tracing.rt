@@ -70,6 +70,9 @@ fn record<const W: u32>(
 /// and `t + 1` states. An answering step comes again until step `t`. `NoRun` comes exactly where
 /// the run answers nothing, and tells how it ends, and `Memory` only where memory runs out. Takes
 /// the run's time twice.
+///
+/// Words have `W` bits, 16 or 32, and the image fits in memory. The primary tape has fewer than
+/// 2^29 words, the auxiliary one fewer than 2^32, and boot lines and lines are fewer than 2^32.
 pub fn trace<const W: u32>(
     alloc: Global,
     image: &[u32],
