@@ -18,7 +18,7 @@ use Rattle.tv_step.proofs.RangeLaws.{word_at}
 use Rattle.tv_step.specs.Range.{AreWords}
 use Rattle.tv_word.specs.Widths.{IsWidth}
 use Rattle.tv_layout.proofs.Positions.{words_turn}
-use Rattle.tv_layout.specs.Layout.{word_of, words_of, none_of, tie_of}
+use Rattle.tv_layout.specs.Layout.{word_of, words_of, zero_wire_of, tie_of}
 use Rattle.tv_block.specs.declared.records.Reached.{Reached}
 
 -- what is at a place of a list that z has
@@ -58,17 +58,17 @@ module _ (w : ℕ) (width : IsWidth w) (z : List ℕ) (assigns : Assigns z) wher
       (subst (λ at. HasFrom z at (bits_values (slice_index x i) w)) (sym (words_turn w first i next)) (bits i h)))) tt)
 
   -- ---- the wire that is 0
-  pub none_there : (next : ℕ) → Meets z (none_of next).list → slice_index z next ≡ 0
-  unfolding none_of fresh put pure ◌>>=◌
-  none_there next meets =
+  pub zero_wire_there : (next : ℕ) → Meets z (zero_wire_of next).list → slice_index z next ≡ 0
+  unfolding zero_wire_of fresh put pure ◌>>=◌
+  zero_wire_there next meets =
       let e : value (wire next) z * value (constant 1) z % P ≡ 0 = meets.0 in
       let f : slice_index z next * (1 % P) % P ≡ 0 = rw (value-wire assigns next, value-constant assigns 1) at e in
       let small = wire-below assigns next in
       omega arith
 
-  pub none_met : (next : ℕ) → slice_index z next ≡ 0 → Meets z (none_of next).list
-  unfolding none_of fresh put pure ◌>>=◌
-  none_met next e = (ap (λ v. v * value (constant 1) z % P) (value-wire assigns next ∙ e) ∙ omega arith, tt)
+  pub zero_wire_met : (next : ℕ) → slice_index z next ≡ 0 → Meets z (zero_wire_of next).list
+  unfolding zero_wire_of fresh put pure ◌>>=◌
+  zero_wire_met next e = (ap (λ v. v * value (constant 1) z % P) (value-wire assigns next ∙ e) ∙ omega arith, tt)
 
   -- ---- the last step's answer
   tied : (a v u : ℕ) → a < P → v < P → u < P → a * (1 % P) % P ≡ 1 % P → v * (1 % P) % P ≡ u → (a ≡ 1) × (v ≡ u)

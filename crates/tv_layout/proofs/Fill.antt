@@ -28,7 +28,7 @@ use Rattle.tv_step.specs.Machine.{start, state_after, Accepts}
 use Rattle.tv_step.specs.Range.{AreWords, InRange}
 use Rattle.tv_step.specs.Reads.{ended_after, Reads}
 use Rattle.tv_step.specs.Runs.{Answering}
-use Rattle.tv_layout.proofs.Ends.{words_met, none_met, tie_met}
+use Rattle.tv_layout.proofs.Ends.{words_met, zero_wire_met, tie_met}
 use Rattle.tv_layout.proofs.Positions.{layout_meets, layout_next, last_of, log_some, log_within, memory_at}
 use Rattle.tv_layout.proofs.RunLines.{input, run_placed, run_few, run_honest}
 use Rattle.tv_layout.proofs.StepsFill.{steps_met, steps_lines, steps_take, last_said}
@@ -36,7 +36,7 @@ use Rattle.tv_layout.proofs.Whole.{few, short, early, spare, lines_valued, lines
 use Rattle.tv_layout.proofs.Blocks.{BlockSizes, BlockIsSound, BlockIsComplete}
 use Rattle.tv_layout.specs.Blocks.{BlockCircuit, BlockValues}
 use Rattle.tv_layout.specs.Layout.{steps_of, lines_of, layout_of, layout, taken_of}
-use Rattle.tv_layout.specs.Places.{WithinLimits, boot_count, line_count, log_of, tape_at, none_at, first_at}
+use Rattle.tv_layout.specs.Places.{WithinLimits, boot_count, line_count, log_of, tape_at, zero_wire_at, first_at}
 use Rattle.tv_layout.specs.Sound.{padding, all_lines}
 use Rattle.tv_layout.specs.Values.{step_values, fill, IsFill}
 use Rattle.tv_word.proofs.WidthLaws.{word_small}
@@ -102,7 +102,7 @@ module _ (w : ℕ) (net : Net) (block : BlockCircuit) (made : ℕ) (values : Blo
   record HasParts : Type 0 where
     public : HasFrom z 1 (v ∷ x)
     tape_bits : HasFrom z (2 + length x) bits
-    none : slice_index z (none_at w (length x)) ≡ 0
+    zero_wire : slice_index z (zero_wire_at w (length x)) ≡ 0
     steps : HasFrom z (first_at w (length x)) blocks
     last : HasFrom z (memory_at w made (length x) t) lasts
 
@@ -111,11 +111,11 @@ module _ (w : ℕ) (net : Net) (block : BlockCircuit) (made : ℕ) (values : Blo
       let a = HasFrom-split z 1 (v ∷ x) (bits ++ (0 ∷ (blocks ++ lasts))) (has_behind 1 ((v ∷ x) ++ (bits ++ (0 ∷ (blocks ++ lasts))))) in
       let p : 1 + length (v ∷ x) ≡ 2 + length x = omega arith in
       let b = HasFrom-split z (2 + length x) bits (0 ∷ (blocks ++ lasts)) (subst (λ k. HasFrom z k (bits ++ (0 ∷ (blocks ++ lasts)))) p a.1) in
-      let q : 2 + length x + length bits ≡ none_at w (length x) = ap (λ k. 2 + length x + k) length-bits in
-      let c : HasFrom z (none_at w (length x)) (0 ∷ (blocks ++ lasts)) = subst (λ k. HasFrom z k (0 ∷ (blocks ++ lasts))) q b.1 in
+      let q : 2 + length x + length bits ≡ zero_wire_at w (length x) = ap (λ k. 2 + length x + k) length-bits in
+      let c : HasFrom z (zero_wire_at w (length x)) (0 ∷ (blocks ++ lasts)) = subst (λ k. HasFrom z k (0 ∷ (blocks ++ lasts))) q b.1 in
       let d = HasFrom-split z (first_at w (length x)) blocks lasts c.1 in
       let r : first_at w (length x) + length blocks ≡ memory_at w made (length x) t = ap (λ k. first_at w (length x) + k) length-blocks in
-      record { public = a.0; tape_bits = b.0; none = c.0; steps = d.0; last = subst (λ k. HasFrom z k lasts) r d.1 }
+      record { public = a.0; tape_bits = b.0; zero_wire = c.0; steps = d.0; last = subst (λ k. HasFrom z k lasts) r d.1 }
 
   has_steps : (i : ℕ) → i < t → HasFrom z (first_at w (length x) + i * made) (step_values values w image x aux i)
   has_steps i h = has_each_list z (first_at w (length x)) t made (step_values values w image x aux) (λ i h. block_many i) has_parts.steps i h
@@ -123,30 +123,30 @@ module _ (w : ℕ) (net : Net) (block : BlockCircuit) (made : ℕ) (values : Blo
   has_bits : (i : ℕ) → i < length x → HasFrom z (2 + length x + i * w) (bits_values (slice_index x i) w)
   has_bits i h = has_each_list z (2 + length x) (length x) w (λ i. bits_values (slice_index x i) w) (λ i h. length-each_below w _) has_parts.tape_bits i h
 
-  met_steps : Meets z (steps_of block (length x) (boot_count image (length x)) t (none_at w (length x)) (first_at w (length x))).list
+  met_steps : Meets z (steps_of block (length x) (boot_count image (length x)) t (zero_wire_at w (length x)) (first_at w (length x))).list
   met_steps =
-      steps_met w block made sizes values law complete image x aux z (none_at w (length x)) (first_at w (length x)) t v (input w image x aux t fits x_words aux_words) assigns (early image (length x) t w fits) has_parts.none has_steps runs
+      steps_met w block made sizes values law complete image x aux z (zero_wire_at w (length x)) (first_at w (length x)) t v (input w image x aux t fits x_words aux_words) assigns (early image (length x) t w fits) has_parts.zero_wire has_steps runs
 
   -- the lines are those of the run
   lines_are : map (line_value z) (lines_of block w image (length x) t) ≡ all_lines w image x aux t
   lines_are =
-      lines_valued w block made sizes law image x z t fits assigns x_words has_parts.public.1 has_parts.none met_steps
+      lines_valued w block made sizes law image x z t fits assigns x_words has_parts.public.1 has_parts.zero_wire met_steps
       ∙ ap (λ (l : List Line). (boot_lines image x ++ l) ++ padding (line_count image (length x) t) (spare image (length x) t))
-      (steps_lines w block made sizes values law complete image x aux z (none_at w (length x)) (first_at w (length x)) t v (input w image x aux t fits x_words aux_words) assigns (early image (length x) t w fits) has_parts.none has_steps runs t (omega arith))
+      (steps_lines w block made sizes values law complete image x aux z (zero_wire_at w (length x)) (first_at w (length x)) t v (input w image x aux t fits x_words aux_words) assigns (early image (length x) t w fits) has_parts.zero_wire has_steps runs t (omega arith))
 
   answer_small : v < P
   answer_small = let fit = word_small w fits.width v small in omega arith
 
   all_met : Meets z (layout_of block w net image (length x) t (2 + length x)).list
   all_met =
-      let said = last_said w block made sizes values law complete image x aux z (none_at w (length x)) (first_at w (length x)) t v (input w image x aux t fits x_words aux_words) assigns (early image (length x) t w fits) has_parts.none has_steps runs (t - 1) (omega (arith, fits.some)) in
+      let said = last_said w block made sizes values law complete image x aux z (zero_wire_at w (length x)) (first_at w (length x)) t v (input w image x aux t fits x_words aux_words) assigns (early image (length x) t w fits) has_parts.zero_wire has_steps runs (t - 1) (omega (arith, fits.some)) in
       layout_meets block made sizes w net image (length x) t z (record {
         words = words_met w fits.width z assigns tape_at (length x) (2 + length x) x refl x_words has_parts.public.1 has_bits;
-        none = none_met w fits.width z assigns (none_at w (length x)) has_parts.none;
+        zero_wire = zero_wire_met w fits.width z assigns (zero_wire_at w (length x)) has_parts.zero_wire;
         steps = met_steps;
         tie = tie_met w fits.width z assigns (last_of block made sizes w net image (length x) t) (memory_at w made (length x) t) v said.0 said.1 has_parts.public.0 answer_small;
         honest = (memory_complete net).met z (log_of count) (lines_of block w image (length x) t) (memory_at w made (length x) t) (log_some count) (log_within count (few image (length x) t w fits))
-            (lines_many w block made sizes law image x z t fits assigns x_words has_parts.public.1 has_parts.none met_steps)
+            (lines_many w block made sizes law image x z t fits assigns x_words has_parts.public.1 has_parts.zero_wire met_steps)
             (subst (LinesFrom 0) (sym lines_are) (run_placed w image x aux t fits x_words aux_words)) (subst Honest (sym lines_are) (run_honest w image x aux t fits x_words aux_words)) assigns
             (subst (λ l. HasFrom z (memory_at w made (length x) t) (memory_values net (log_of count) l)) (sym lines_are) has_parts.last);
       })
@@ -164,7 +164,7 @@ module _ (w : ℕ) (net : Net) (block : BlockCircuit) (made : ℕ) (values : Blo
   taken_is : taken_of block w image (length x) t z ≡ Reads w image x aux t
   unfolding taken_of
   taken_is =
-      steps_take w block made sizes values law complete image x aux z (none_at w (length x)) (first_at w (length x)) t v (input w image x aux t fits x_words aux_words) assigns (early image (length x) t w fits) has_parts.none has_steps runs t (omega arith)
+      steps_take w block made sizes values law complete image x aux z (zero_wire_at w (length x)) (first_at w (length x)) t v (input w image x aux t fits x_words aux_words) assigns (early image (length x) t w fits) has_parts.zero_wire has_steps runs t (omega arith)
 
   pub is_fill : IsFill w net block image x aux t v z
   is_fill = record {

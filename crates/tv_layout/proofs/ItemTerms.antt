@@ -22,7 +22,7 @@ use Rattle.tv_lines.specs.Placed.{line_in}
 use Rattle.tv_layout.proofs.LinePlaces.{block_is, line_number}
 use Rattle.tv_layout.proofs.Measures.{pair_terms}
 use Rattle.tv_layout.specs.Layout.{boot_wires, boot_lines_of, padding_of, block_at, lines_of}
-use Rattle.tv_layout.specs.Places.{WithinLimits, boot_count, line_count, log_of, tape_at, none_at, first_at}
+use Rattle.tv_layout.specs.Places.{WithinLimits, boot_count, line_count, log_of, tape_at, zero_wire_at, first_at}
 use Rattle.tv_layout.specs.Sizes.{item_terms}
 use Rattle.tv_layout.specs.Told.{state_before}
 
@@ -87,12 +87,12 @@ joined_terms f k each (suc t) = ap (sum_by line_terms) (joined_below-suc t f) �
 
 module _ (w : ℕ) (image : List ℕ) (n t : ℕ) (fits : WithinLimits w image n t) where
   abbrev blocks : ℕ → List LineLc
-  blocks i = (block_at (block_of w) n (boot_count image n) (none_at w n) (first_at w n) i).lines
+  blocks i = (block_at (block_of w) n (boot_count image n) (zero_wire_at w n) (first_at w n) i).lines
 
   each_block : (i : ℕ) → sum_by line_terms (blocks i) ≡ 4 * w + 9
   each_block i =
-      ap (λ (b : Block). sum_by line_terms b.lines) (block_is w fits.width n (boot_count image n) (none_at w n) (first_at w n) i)
-      ∙ block_line_terms w (state_before w (none_at w n) (first_at w n) i) (boot_count image n + 3 * i) (first_at w n + i * block_made w)
+      ap (λ (b : Block). sum_by line_terms b.lines) (block_is w fits.width n (boot_count image n) (zero_wire_at w n) (first_at w n) i)
+      ∙ block_line_terms w (state_before w (zero_wire_at w n) (first_at w n) i) (boot_count image n + 3 * i) (first_at w n + i * block_made w)
 
   all_terms : sum_by line_terms (lines_of (block_of w) w image n t) ≡ item_terms w image n t
   unfolding lines_of

@@ -28,7 +28,7 @@ use Rattle.tv_word.specs.Widths.{IsWidth}
 use Rattle.tv_layout.proofs.Positions.{steps_next, log_above}
 use Rattle.tv_layout.proofs.Sized.{step_sized, placed_within}
 use Rattle.tv_layout.specs.Layout.{steps_of, state_at, block_at, boot_wires, boot_lines_of, padding_of, lines_of}
-use Rattle.tv_layout.specs.Places.{WithinLimits, boot_count, line_count, log_of, tape_at, none_at, first_at}
+use Rattle.tv_layout.specs.Places.{WithinLimits, boot_count, line_count, log_of, tape_at, zero_wire_at, first_at}
 use Rattle.tv_layout.specs.Told.{state_before, line_of_word}
 
 -- ---- lines that no step makes
@@ -54,18 +54,18 @@ length-padding_of time zero = refl
 length-padding_of time (suc more) = ap suc (length-padding_of (time + 1) more)
 
 -- ---- the steps
-module _ (w : ℕ) (width : IsWidth w) (n time none first : ℕ) where
-  state_is : (i : ℕ) → state_at (block_of w) n time none first i ≡ state_before w none first i
+module _ (w : ℕ) (width : IsWidth w) (n time zero_wire first : ℕ) where
+  state_is : (i : ℕ) → state_at (block_of w) n time zero_wire first i ≡ state_before w zero_wire first i
   unfolding steps_of turns pure ◌>>=◌
   state_is zero = refl
   state_is (suc i) =
-      ap (λ (b : Block). b.next) (block_places.answer w width n (steps_of (block_of w) n time i none first).answer.next (time + 3 * i) (steps_of (block_of w) n time i none first).next)
-      ∙ ap (next_state w) (steps_next (block_of w) (block_made w) (step_sized w width) n time i none first)
+      ap (λ (b : Block). b.next) (block_places.answer w width n (steps_of (block_of w) n time i zero_wire first).answer.next (time + 3 * i) (steps_of (block_of w) n time i zero_wire first).next)
+      ∙ ap (next_state w) (steps_next (block_of w) (block_made w) (step_sized w width) n time i zero_wire first)
 
-  pub block_is : (i : ℕ) → block_at (block_of w) n time none first i ≡ block_wires w (state_before w none first i) (time + 3 * i) (first + i * block_made w)
+  pub block_is : (i : ℕ) → block_at (block_of w) n time zero_wire first i ≡ block_wires w (state_before w zero_wire first i) (time + 3 * i) (first + i * block_made w)
   block_is i =
-      block_places.answer w width n (state_at (block_of w) n time none first i) (time + 3 * i) (steps_of (block_of w) n time i none first).next
-      ∙ ap₂ (λ (s : StateWires) (at : ℕ). block_wires w s (time + 3 * i) at) (state_is i) (steps_next (block_of w) (block_made w) (step_sized w width) n time i none first)
+      block_places.answer w width n (state_at (block_of w) n time zero_wire first i) (time + 3 * i) (steps_of (block_of w) n time i zero_wire first).next
+      ∙ ap₂ (λ (s : StateWires) (at : ℕ). block_wires w s (time + 3 * i) at) (state_is i) (steps_next (block_of w) (block_made w) (step_sized w width) n time i zero_wire first)
 
 -- three lines each, one after another
 module _ (f : ℕ → List LineLc) (three : (i : ℕ) → length (f i) ≡ 3) where
@@ -88,7 +88,7 @@ module _ (w : ℕ) (image : List ℕ) (n t : ℕ) (fits : WithinLimits w image n
   all_lines = lines_of (block_of w) w image n t
 
   abbrev blocks : ℕ → List LineLc
-  blocks j = (block_at (block_of w) n (boot_count image n) (none_at w n) (first_at w n) j).lines
+  blocks j = (block_at (block_of w) n (boot_count image n) (zero_wire_at w n) (first_at w n) j).lines
 
   abbrev stepped : List LineLc
   stepped = joined_below t blocks
@@ -97,7 +97,7 @@ module _ (w : ℕ) (image : List ℕ) (n t : ℕ) (fits : WithinLimits w image n
   tape = boot_wires TAPE_CELLS (length image) (map wire (range_with_len tape_at n))
 
   three : (j : ℕ) → length (blocks j) ≡ 3
-  three j = ap (λ (b : Block). length b.lines) (block_is w fits.width n (boot_count image n) (none_at w n) (first_at w n) j)
+  three j = ap (λ (b : Block). length b.lines) (block_is w fits.width n (boot_count image n) (zero_wire_at w n) (first_at w n) j)
 
   few : line_count image n t ≤ 2 ^ 20
   few = omega (arith, fits.image_fits, fits.tape_fits, fits.steps_fit)
@@ -153,14 +153,14 @@ module _ (w : ℕ) (image : List ℕ) (n t : ℕ) (fits : WithinLimits w image n
         ∙ ap₂ (λ (at : ℕ) (word : Combination). line_of_word (TAPE_CELLS + k) at word) z (get_or-map-range_with_len wire tape_at n k (tape_at + k) [] (omega arith) refl)
 
     pub in_steps : boot_count image n ≤ i → i < line_count image n t
-        → line_in all_lines i ≡ line_in (block_wires w (state_before w (none_at w n) (first_at w n) ((i - boot_count image n) / 3)) (boot_count image n + 3 * ((i - boot_count image n) / 3)) (first_at w n + (i - boot_count image n) / 3 * block_made w)).lines ((i - boot_count image n) % 3)
+        → line_in all_lines i ≡ line_in (block_wires w (state_before w (zero_wire_at w n) (first_at w n) ((i - boot_count image n) / 3)) (boot_count image n + 3 * ((i - boot_count image n) / 3)) (first_at w n + (i - boot_count image n) / 3 * block_made w)).lines ((i - boot_count image n) % 3)
     unfolding lines_of
     in_steps above h =
         let j : ℕ = i - boot_count image n in
         get_or_append_left (boot_lines_of image n ++ stepped) _ no_line i (omega (arith, length-front))
         ∙ get_or-append_right (boot_lines_of image n) stepped (boot_count image n) i no_line length-boot above
         ∙ thirds blocks three t j (omega arith)
-        ∙ ap (λ (b : Block). line_in b.lines (j % 3)) (block_is w fits.width n (boot_count image n) (none_at w n) (first_at w n) (j / 3))
+        ∙ ap (λ (b : Block). line_in b.lines (j % 3)) (block_is w fits.width n (boot_count image n) (zero_wire_at w n) (first_at w n) (j / 3))
 
     pub in_padding : line_count image n t ≤ i → i < 2 ^ log_of (line_count image n t) → line_in all_lines i ≡ line_of_word NULL_CELL i []
     unfolding lines_of
@@ -214,21 +214,21 @@ module _ (w : ℕ) (width : IsWidth w) (state : StateWires) (time at wires : ℕ
       short_made wires (third_line w time at) (short_lines 2 h) (omega (arith, within.cell)) (omega arith) (omega (arith, within.old)) (omega (arith, within.new))
   block_line_made (suc (suc (suc k))) h = absurd (omega arith)
 
-pc_before : (w : ℕ) (width : IsWidth w) (none first i : ℕ) → none < first → (state_before w none first i).pc < first + i * block_made w
-pc_before w width none first zero h = omega arith
-pc_before w width none first (suc i) h = omega (arith, (placed_within w width).pc)
+pc_before : (w : ℕ) (width : IsWidth w) (zero_wire first i : ℕ) → zero_wire < first → (state_before w zero_wire first i).pc < first + i * block_made w
+pc_before w width zero_wire first zero h = omega arith
+pc_before w width zero_wire first (suc i) h = omega (arith, (placed_within w width).pc)
 
 module _ (w : ℕ) (image : List ℕ) (n t : ℕ) (fits : WithinLimits w image n t) where
   abbrev made : ℕ → Type 0
   made i = IsMade (first_at w n + t * block_made w) (line_in (lines_of (block_of w) w image n t) i)
 
   step_made : (j : ℕ) → j < t * 3
-      → IsMade (first_at w n + t * block_made w) (line_in (block_wires w (state_before w (none_at w n) (first_at w n) (j / 3)) (boot_count image n + 3 * (j / 3)) (first_at w n + j / 3 * block_made w)).lines (j % 3))
+      → IsMade (first_at w n + t * block_made w) (line_in (block_wires w (state_before w (zero_wire_at w n) (first_at w n) (j / 3)) (boot_count image n + 3 * (j / 3)) (first_at w n + j / 3 * block_made w)).lines (j % 3))
   step_made j h =
       let q : ℕ = j / 3 in
       let after : q + 1 ≤ t = omega arith in
-      block_line_made w fits.width (state_before w (none_at w n) (first_at w n) q) (boot_count image n + 3 * q) (first_at w n + q * block_made w) (first_at w n + t * block_made w)
-      (pc_before w fits.width (none_at w n) (first_at w n) q (omega arith)) (more (first_at w n) q t (block_made w) after) (j % 3) (omega arith)
+      block_line_made w fits.width (state_before w (zero_wire_at w n) (first_at w n) q) (boot_count image n + 3 * q) (first_at w n + q * block_made w) (first_at w n + t * block_made w)
+      (pc_before w fits.width (zero_wire_at w n) (first_at w n) q (omega arith)) (more (first_at w n) q t (block_made w) after) (j % 3) (omega arith)
     where
       more : (first q t made : ℕ) → q + 1 ≤ t → first + q * made + made ≤ first + t * made
       more first q t made h = let p : (q + 1) * made ≤ t * made = mul-le-mul_right made h in omega arith

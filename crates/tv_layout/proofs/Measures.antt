@@ -23,9 +23,9 @@ use Rattle.tv_lines.specs.SortedPair.{first_line_of}
 use Rattle.tv_memory.specs.Memory.{unpack_one, bits_at, neighbours_of, sorted_of, level_of, memory_of}
 use Rattle.tv_layout.proofs.Positions.{layout_list, memory_at, log_some}
 use Rattle.tv_layout.proofs.Sized.{step_sized}
-use Rattle.tv_layout.specs.Layout.{word_of, words_of, none_of, step_of, steps_of, tie_of, before_steps, lines_of, layout_of}
+use Rattle.tv_layout.specs.Layout.{word_of, words_of, zero_wire_of, step_of, steps_of, tie_of, before_steps, lines_of, layout_of}
 use Rattle.tv_layout.specs.Sizes.{item_terms, system_cost}
-use Rattle.tv_layout.specs.Places.{WithinLimits, boot_count, line_count, log_of, tape_at, none_at, first_at}
+use Rattle.tv_layout.specs.Places.{WithinLimits, boot_count, line_count, log_of, tape_at, zero_wire_at, first_at}
 use Rattle.tv_layout.specs.declared.costs.Costs.{Costs}
 use Rattle.tv_block.specs.declared.records.Reached.{Reached}
 
@@ -38,7 +38,7 @@ pub record Measures (m : List Constraint → ℕ) (w : ℕ) (cost : Costs) : Typ
   pub nothing : m [] ≡ 0
   pub adds : (a b : List Constraint) → m (a ++ b) ≡ m a + m b
   pub word : (first i next : ℕ) → m (word_of w first i next).list ≡ cost.word
-  pub none : (next : ℕ) → m (none_of next).list ≡ cost.none
+  pub zero_wire : (next : ℕ) → m (zero_wire_of next).list ≡ cost.zero_wire
   pub step : (n : ℕ) (state : StateWires) (time next : ℕ) → m (block_of w n state time next).list ≡ cost.step
   pub tie : (last : Reached) (next : ℕ) → m (tie_of last next).list ≡ cost.tie
   pub switch : (x y : Pair) (next : ℕ) → m (switch_of x y next).list ≡ cost.switch + cost.item * (pair_terms x + pair_terms y)
@@ -185,10 +185,10 @@ module _ (m : List Constraint → ℕ) (w : ℕ) (cost : Costs) (law : Measures 
       rw same at (level_cost net (k - 1) lines next)
 
   -- ---- the whole
-  steps_cost : (n time t none next : ℕ) → m (steps_of (block_of w) n time t none next).list ≡ t * cost.step
+  steps_cost : (n time t zero_wire next : ℕ) → m (steps_of (block_of w) n time t zero_wire next).list ≡ t * cost.step
   unfolding steps_of pure ◌>>=◌
-  steps_cost n time t none next =
-      same_turns (step_of (block_of w) n time) (before_steps none) next cost.step t
+  steps_cost n time t zero_wire next =
+      same_turns (step_of (block_of w) n time) (before_steps zero_wire) next cost.step t
       (λ i last at. ap m (append-nil (block_of w n last.next (time + 3 * i) at).list) ∙ law.step n last.next (time + 3 * i) at)
 
   words_cost : (first n next : ℕ) → m (words_of w first n next).list ≡ n * cost.word
@@ -200,19 +200,19 @@ module _ (m : List Constraint → ℕ) (w : ℕ) (cost : Costs) (law : Measures 
       → m (layout_of (block_of w) w net image n t (2 + n)).list ≡ system_cost cost w net image n t
   layout_cost net image n t fits is =
       let words = (words_of w tape_at n (2 + n)).list in
-      let none = (none_of (none_at w n)).list in
-      let steps = (steps_of (block_of w) n (boot_count image n) t (none_at w n) (first_at w n)).list in
-      let last = (steps_of (block_of w) n (boot_count image n) t (none_at w n) (first_at w n)).answer in
+      let zero_wire = (zero_wire_of (zero_wire_at w n)).list in
+      let steps = (steps_of (block_of w) n (boot_count image n) t (zero_wire_at w n) (first_at w n)).list in
+      let last = (steps_of (block_of w) n (boot_count image n) t (zero_wire_at w n) (first_at w n)).answer in
       let tie = (tie_of last (memory_at w (block_made w) n t)).list in
       let memory = (memory_of net (log_of (line_count image n t)) (lines_of (block_of w) w image n t) (memory_at w (block_made w) n t)).list in
       ap m (layout_list (block_of w) (block_made w) (step_sized w fits.width) w net image n t)
-      ∙ law.adds words (none ++ (steps ++ (tie ++ memory))) ∙ ap₂ (λ a b. a + b) (words_cost tape_at n (2 + n))
-      (law.adds none (steps ++ (tie ++ memory)) ∙ ap₂ (λ a b. a + b) (law.none (none_at w n))
-      (law.adds steps (tie ++ memory) ∙ ap₂ (λ a b. a + b) (steps_cost n (boot_count image n) t (none_at w n) (first_at w n))
+      ∙ law.adds words (zero_wire ++ (steps ++ (tie ++ memory))) ∙ ap₂ (λ a b. a + b) (words_cost tape_at n (2 + n))
+      (law.adds zero_wire (steps ++ (tie ++ memory)) ∙ ap₂ (λ a b. a + b) (law.zero_wire (zero_wire_at w n))
+      (law.adds steps (tie ++ memory) ∙ ap₂ (λ a b. a + b) (steps_cost n (boot_count image n) t (zero_wire_at w n) (first_at w n))
       (law.adds tie memory ∙ ap₂ (λ a b. a + b) (law.tie last (memory_at w (block_made w) n t))
       (memory_is net (log_of (line_count image n t)) (lines_of (block_of w) w image n t) (memory_at w (block_made w) n t) (log_some (line_count image n t))
       ∙ ap (memory_cost net (log_of (line_count image n t))) is))))
-      ∙ regroup (n * cost.word) cost.none (t * cost.step) cost.tie (memory_cost net (log_of (line_count image n t)) (item_terms w image n t))
+      ∙ regroup (n * cost.word) cost.zero_wire (t * cost.step) cost.tie (memory_cost net (log_of (line_count image n t)) (item_terms w image n t))
     where
       regroup : (a b c d e : ℕ) → a + (b + (c + (d + e))) ≡ a + b + c + d + e
       regroup a b c d e = omega arith

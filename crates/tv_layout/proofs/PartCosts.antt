@@ -17,7 +17,7 @@ use Rattle.tv_word.proofs.WidthLaws.{for_widths}
 use Rattle.tv_word.specs.Widths.{IsWidth}
 use Rattle.tv_layout.proofs.Measures.{Measures, pair_terms}
 use Rattle.tv_layout.specs.Costs.{constraint_costs, term_costs, block_terms}
-use Rattle.tv_layout.specs.Layout.{word_of, none_of, tie_of}
+use Rattle.tv_layout.specs.Layout.{word_of, zero_wire_of, tie_of}
 use Rattle.tv_block.proofs.CountLaws.{block_counted}
 use Rattle.tv_block.specs.declared.records.Reached.{Reached}
 use Rattle.tv_core.specs.Below.{each_below, weighted}
@@ -102,12 +102,12 @@ unfolding weighted pure here fresh put ◌>>=◌ turns bit_of new_bit new_bits_o
 pair_terms_are first i next = refl
 
 -- ---- the wire that is held to 0, and the end
-none_count : (next : ℕ) → length (none_of next).list ≡ 1
-unfolding none_of pure fresh put ◌>>=◌
+none_count : (next : ℕ) → length (zero_wire_of next).list ≡ 1
+unfolding zero_wire_of pure fresh put ◌>>=◌
 none_count next = refl
 
-none_terms : (next : ℕ) → terms_in (none_of next).list ≡ 2
-unfolding none_of pure fresh put ◌>>=◌
+none_terms : (next : ℕ) → terms_in (zero_wire_of next).list ≡ 2
+unfolding zero_wire_of pure fresh put ◌>>=◌
 none_terms next = refl
 
 tie_count : (last : Reached) (next : ℕ) → length (tie_of last next).list ≡ 2
@@ -150,7 +150,7 @@ counts_measured w width = record {
   nothing = refl;
   adds = λ a b. length-append a b;
   word = word_count w width;
-  none = none_count;
+  zero_wire = none_count;
   step = block_counted w width;
   tie = tie_count;
   switch = λ x y next. switch_count x y next ∙ omega arith;
@@ -164,7 +164,7 @@ terms_measured w width = record {
   nothing = refl;
   adds = terms_add;
   word = word_terms w width;
-  none = none_terms;
+  zero_wire = none_terms;
   step = step_terms w width;
   tie = tie_terms;
   switch = switch_terms;

@@ -47,22 +47,22 @@ split_at f (suc t) i h = elim (cases_eq i t) [
       }
 ]
 
-module _ (w : ℕ) (block : BlockCircuit) (made : ℕ) (sizes : BlockSizes block made) (image x z : List ℕ) (none first t : ℕ) where
+module _ (w : ℕ) (block : BlockCircuit) (made : ℕ) (sizes : BlockSizes block made) (image x z : List ℕ) (zero_wire first t : ℕ) where
   abbrev time : ℕ
   time = length image + length x
 
   abbrev here : ℕ → Did
-  here i = did_at block made sizes z x (length image + length x) none first i
+  here i = did_at block made sizes z x (length image + length x) zero_wire first i
 
   abbrev lines : ℕ → List Line
-  lines i = lines_in (did_at block made sizes z x (length image + length x) none first i)
+  lines i = lines_in (did_at block made sizes z x (length image + length x) zero_wire first i)
 
   abbrev taken : ℕ → List ℕ
-  taken i = taken_at block z (step block made sizes z x (length image + length x) none first i).spot
+  taken i = taken_at block z (step block made sizes z x (length image + length x) zero_wire first i).spot
 
   -- the words that m steps take, from step i on
   abbrev later : ℕ → ℕ → List ℕ
-  later i m = flat_map (λ j. taken_at block z (step block made sizes z x (length image + length x) none first j).spot) (range_with_len i m)
+  later i m = flat_map (λ j. taken_at block z (step block made sizes z x (length image + length x) zero_wire first j).spot) (range_with_len i m)
 
   all_later : (n : ℕ) → joined_below n taken ≡ later 0 n
   unfolding joined_below
@@ -77,7 +77,7 @@ module _ (w : ℕ) (block : BlockCircuit) (made : ℕ) (sizes : BlockSizes block
     none_later zero i h e = refl
     none_later (suc m) i h e =
         let d = does i (omega arith) in
-        let after : (here (suc i)).now.ended ≡ 1 = ap (λ s. (state_in z s).ended) (next_state block made sizes z x time none first i) ∙ d.stays e in
+        let after : (here (suc i)).now.ended ≡ 1 = ap (λ s. (state_in z s).ended) (next_state block made sizes z x time zero_wire first i) ∙ d.stays e in
         later_first i m ∙ by_takes (here i).takes refl (none_later m (suc i) (omega arith) after)
       where
         by_takes : (takes : Bool) → (here i).takes ≡ takes → later (suc i) m ≡ [] → taken i ++ later (suc i) m ≡ []
@@ -95,7 +95,7 @@ module _ (w : ℕ) (block : BlockCircuit) (made : ℕ) (sizes : BlockSizes block
           left = left;
           ends = λ k r.
               let d = does i (omega arith) in
-              let after : (here (suc i)).now.ended ≡ 1 = ap (λ s. (state_in z s).ended) (next_state block made sizes z x time none first i) ∙ d.sets st range.bytes now olds r k in
+              let after : (here (suc i)).now.ended ≡ 1 = ap (λ s. (state_in z s).ended) (next_state block made sizes z x time zero_wire first i) ∙ d.sets st range.bytes now olds r k in
               left k ∙ none_later m (suc i) (omega arith) after;
         }
 
@@ -146,7 +146,7 @@ module _ (w : ℕ) (block : BlockCircuit) (made : ℕ) (sizes : BlockSizes block
           let l = one i h known in
           let d = does i h in
           record {
-            matches = subst (λ st. Matches x (here (suc i)).now st) (sym (more i)) (subst (λ s. Matches x (state_in z s) (state_after w 1 (now i))) (sym (next_state block made sizes z x time none first i)) l.matches);
+            matches = subst (λ st. Matches x (here (suc i)).now st) (sym (more i)) (subst (λ s. Matches x (state_in z s) (state_after w 1 (now i))) (sym (next_state block made sizes z x time zero_wire first i)) l.matches);
             are = joined_below-suc i lines ∙ ap₂ (λ a b. a ++ b) known.are (d.traced (now i) (range i).bytes known.matches (olds_held i h known));
             left = λ m e. let same : t - suc i ≡ m = omega arith in ap (λ (st : State). st.aux) (more i) ∙ l.aux ∙ ap (λ k. later (suc i) k) same;
           }

@@ -54,9 +54,9 @@ map-joined f g h same (suc n) =
     ap (map f) (joined_below-suc n g) ∙ map-append f (joined_below n g) (g n) ∙ ap₂ (λ a b. a ++ b) (map-joined f g h same n) (same n) ∙ sym (joined_below-suc n h)
 
 -- ---- the start
-pub start_held : (block : BlockCircuit) (z x : List ℕ) (time none first w : ℕ) → IsWidth w → slice_index z none ≡ 0 → ViewInRange w (length x) (state_in z (state_at block (length x) time none first 0))
+pub start_held : (block : BlockCircuit) (z x : List ℕ) (time zero_wire first w : ℕ) → IsWidth w → slice_index z zero_wire ≡ 0 → ViewInRange w (length x) (state_in z (state_at block (length x) time zero_wire first 0))
 unfolding steps_of turns pure
-start_held block z x time none first w width zero_there =
+start_held block z x time zero_wire first w width zero_there =
     let some = zero_word w width in
     rw zero_there (record {
       pc_fits = some;
@@ -68,13 +68,13 @@ start_held block z x time none first w width zero_there =
       ended = omega arith;
     })
 
-module _ (block : BlockCircuit) (made : ℕ) (sizes : BlockSizes block made) (z x : List ℕ) (time none first : ℕ) where
+module _ (block : BlockCircuit) (made : ℕ) (sizes : BlockSizes block made) (z x : List ℕ) (time zero_wire first : ℕ) where
   -- the wires of the state before step i, the step, and what it did
   abbrev pub state : ℕ → StateWires
-  state i = state_at block (length x) time none first i
+  state i = state_at block (length x) time zero_wire first i
 
   abbrev pub step : ℕ → Block
-  step i = block_at block (length x) time none first i
+  step i = block_at block (length x) time zero_wire first i
 
   abbrev pub did_at : ℕ → Did
   did_at i = did z (state i) (step i)
@@ -83,30 +83,30 @@ module _ (block : BlockCircuit) (made : ℕ) (sizes : BlockSizes block made) (z 
   unfolding steps_of turns pure ◌>>=◌
   next_state i = refl
 
-  pub last_step : (i : ℕ) → (steps_of block (length x) time (suc i) none first).answer ≡ reached (step i)
+  pub last_step : (i : ℕ) → (steps_of block (length x) time (suc i) zero_wire first).answer ≡ reached (step i)
   unfolding steps_of turns pure ◌>>=◌
   last_step i = refl
 
   -- all lines of n steps
   pub lines_did : (n : ℕ) → map (line_value z) (joined_below n (λ i. (step i).lines)) ≡ joined_below n (λ i. lines_in (did_at i))
   lines_did n =
-      map-joined (line_value z) (λ i. (step i).lines) (λ i. lines_in (did_at i)) (λ i. three_lines (line_value z) (step i).lines (sizes.three (length x) (state i) (time + 3 * i) (steps_of block (length x) time i none first).next)) n
+      map-joined (line_value z) (λ i. (step i).lines) (λ i. lines_in (did_at i)) (λ i. three_lines (line_value z) (step i).lines (sizes.three (length x) (state i) (time + 3 * i) (steps_of block (length x) time i zero_wire first).next)) n
 
   pub length-lines_did : (n : ℕ) → length (joined_below n (λ i. lines_in (did_at i))) ≡ n * 3
   length-lines_did n = length-joined_below n 3 (λ i. lines_in (did_at i)) (λ i h. refl)
 
   module _ (w : ℕ) (width : IsWidth w) (law : BlockIsSound w block) (t : ℕ) (assigns : Assigns z) (short : length x < 2 ^ 29) (early : time + 3 * t < 2 ^ 32)
-      (zero_there : slice_index z none ≡ 0) (met : Meets z (steps_of block (length x) time t none first).list) where
-    step_met : (i : ℕ) → i < t → Meets z (block (length x) (state i) (time + 3 * i) (steps_of block (length x) time i none first).next).list
+      (zero_there : slice_index z zero_wire ≡ 0) (met : Meets z (steps_of block (length x) time t zero_wire first).list) where
+    step_met : (i : ℕ) → i < t → Meets z (block (length x) (state i) (time + 3 * i) (steps_of block (length x) time i zero_wire first).next).list
     unfolding steps_of pure
-    step_met i h = (parts z _ (λ b. pure (reached b)) _ (turn_met z (step_of block (length x) time) (before_steps none) first t i h met)).0
+    step_met i h = (parts z _ (λ b. pure (reached b)) _ (turn_met z (step_of block (length x) time) (before_steps zero_wire) first t i h met)).0
 
     step_sound : (i : ℕ) → i < t → ViewInRange w (length x) (state_in z (state i)) → IsMachineStep w z x (time + 3 * i) (state i) (step i)
     step_sound i h held = law z x (state i) (time + 3 * i) _ short (omega arith) assigns held (step_met i h)
 
     -- the state before each step is in range
     pub held : (i : ℕ) → i ≤ t → ViewInRange w (length x) (state_in z (state i))
-    held zero h = start_held block z x time none first w width zero_there
+    held zero h = start_held block z x time zero_wire first w width zero_there
     held (suc i) h = subst (λ s. ViewInRange w (length x) (state_in z s)) (sym (next_state i)) (step_sound i (omega arith) (held i (omega arith))).range
 
     pub does : (i : ℕ) → i < t → DoesStep w x (time + 3 * i) (did_at i)

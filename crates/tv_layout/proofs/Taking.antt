@@ -20,8 +20,8 @@ module _ (w : ℕ) (st : State) where
 
   by_tape : (aux : List ℕ) → st.aux ≡ aux → reads_aux w st ≡ true → AuxCase w st
   by_tape [] same e =
-      let none : slice_get st.aux 0 ≡ None = ap (λ l. slice_get l 0) same in
-      Ends same e (taken_is true e ∙ none) (ends_is true None e none)
+      let zero_wire : slice_get st.aux 0 ≡ None = ap (λ l. slice_get l 0) same in
+      Ends same e (taken_is true e ∙ zero_wire) (ends_is true None e zero_wire)
   by_tape (v ∷ rest) same e =
       let some : slice_get st.aux 0 ≡ Some v = ap (λ l. slice_get l 0) same in
       Takes v rest same e (taken_is true e ∙ some) (ends_is true (Some v) e some)

@@ -10,18 +10,18 @@ abbrev pub block_terms : ℕ → ℕ
 block_terms w = if w == 16 then 3488 else 5758
 
 abbrev pub wire_costs : ℕ → Costs
-wire_costs w = record { word = w; none = 1; step = block_made w; tie = 0; switch = 5; item = 0; line = 115; first = 0; pair = 18 }
+wire_costs w = record { word = w; zero_wire = 1; step = block_made w; tie = 0; switch = 5; item = 0; line = 115; first = 0; pair = 18 }
 
 abbrev pub constraint_costs : ℕ → Costs
-constraint_costs w = record { word = w + 1; none = 1; step = block_added w; tie = 2; switch = 5; item = 0; line = 117; first = 1; pair = 20 }
+constraint_costs w = record { word = w + 1; zero_wire = 1; step = block_added w; tie = 2; switch = 5; item = 0; line = 117; first = 1; pair = 20 }
 
 abbrev pub term_costs : ℕ → Costs
-term_costs w = record { word = 4 * w + 2; none = 2; step = block_terms w; tie = 6; switch = 11; item = 3; line = 464; first = 33; pair = 312 }
+term_costs w = record { word = 4 * w + 2; zero_wire = 2; step = block_terms w; tie = 6; switch = 11; item = 3; line = 464; first = 33; pair = 312 }
 
 -- what so many parts cost; two wires go into each switch behind the first column twice
 abbrev pub total_of : Costs → Amounts → ℕ
 total_of cost of =
-    of.words * cost.word + cost.none + of.steps * cost.step + cost.tie
+    of.words * cost.word + cost.zero_wire + of.steps * cost.step + cost.tie
     + (of.other_switches * (cost.switch + 4 * cost.item)
     + (of.first_switches * cost.switch + of.items * cost.item)
     + (of.lines * cost.line + cost.first + (of.lines - 1) * cost.pair))
@@ -38,7 +38,7 @@ pub record AreFew (of : Amounts) : Type 0 where
 
 pub record AreCheap (cost : Costs) : Type 0 where
   pub word : cost.word ≤ 2 ^ 14
-  pub none : cost.none ≤ 2 ^ 14
+  pub zero_wire : cost.zero_wire ≤ 2 ^ 14
   pub step : cost.step ≤ 2 ^ 14
   pub tie : cost.tie ≤ 2 ^ 14
   pub switch : cost.switch ≤ 2 ^ 14

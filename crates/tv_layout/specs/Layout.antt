@@ -13,7 +13,7 @@ use Rattle.tv_core.specs.declared.limits.TheConstants.{TAPE_CELLS, NULL_CELL}
 use Rattle.tv_core.specs.declared.lines.LineLc.{LineLc}
 use Rattle.tv_memory.specs.Memory.{memory_of}
 use Rattle.tv_layout.specs.Blocks.{BlockCircuit}
-use Rattle.tv_layout.specs.Places.{boot_count, line_count, log_of, tape_at, none_at, first_at}
+use Rattle.tv_layout.specs.Places.{boot_count, line_count, log_of, tape_at, zero_wire_at, first_at}
 use Rattle.tv_block.specs.Block.{reached}
 use Rattle.tv_block.specs.declared.records.Block.{Block}
 use Rattle.tv_block.specs.declared.records.Reached.{Reached}
@@ -31,18 +31,18 @@ unfoldable pub words_of : ℕ → ℕ → ℕ → Circuit (Unit {0})
 words_of w first n = times n (word_of w first)
 
 -- a new wire that is held to 0
-unfoldable pub none_of : Circuit ℕ
-none_of = do
+unfoldable pub zero_wire_of : Circuit ℕ
+zero_wire_of = do
   w ← fresh
   _ ← put (wire w) (constant 1) []
   pure w
 
 -- the first state, all of it one wire
 abbrev pub first_state : ℕ → StateWires
-first_state none = record { pc = none; regs = replicate 16 none; flag = none; taken_of_primary = none; aux_ended = none }
+first_state zero_wire = record { pc = zero_wire; regs = replicate 16 zero_wire; flag = zero_wire; taken_of_primary = zero_wire; aux_ended = zero_wire }
 
 abbrev pub before_steps : ℕ → Reached
-before_steps none = record { next = first_state none; answers = none; value = none }
+before_steps zero_wire = record { next = first_state zero_wire; answers = zero_wire; value = zero_wire }
 
 -- the last step answers, and its value is the answer's wire
 unfoldable pub tie_of : Reached → Circuit (Unit {0})
@@ -74,19 +74,19 @@ module _ (block : BlockCircuit) where
     pure (reached made)
 
   unfoldable pub steps_of : ℕ → ℕ → ℕ → ℕ → Circuit Reached
-  steps_of n time t none = turns t (step_of n time) (before_steps none)
+  steps_of n time t zero_wire = turns t (step_of n time) (before_steps zero_wire)
 
   -- the state before step i, and step i, where the first one's wires begin at `first`
   abbrev pub state_at : ℕ → ℕ → ℕ → ℕ → ℕ → StateWires
-  state_at n time none first i = (steps_of n time i none first).answer.next
+  state_at n time zero_wire first i = (steps_of n time i zero_wire first).answer.next
 
   abbrev pub block_at : ℕ → ℕ → ℕ → ℕ → ℕ → Block
-  block_at n time none first i = (block n (state_at n time none first i) (time + 3 * i) (steps_of n time i none first).next).answer
+  block_at n time zero_wire first i = (block n (state_at n time zero_wire first i) (time + 3 * i) (steps_of n time i zero_wire first).next).answer
 
   -- all lines in time order: boot lines, those of the steps, and padding up to 2 ^ k
   unfoldable pub lines_of : ℕ → List ℕ → ℕ → ℕ → List LineLc
   lines_of w image n t =
-      (boot_lines_of image n ++ joined_below t (λ i. (block_at n (boot_count image n) (none_at w n) (first_at w n) i).lines))
+      (boot_lines_of image n ++ joined_below t (λ i. (block_at n (boot_count image n) (zero_wire_at w n) (first_at w n) i).lines))
       ++ padding_of (line_count image n t) (2 ^ log_of (line_count image n t) - line_count image n t)
 
   -- the words of the auxiliary tape that the steps take in an assignment, in order
@@ -94,13 +94,13 @@ module _ (block : BlockCircuit) where
   taken_at z spot = if slice_index z spot.taken == 1 then slice_index z spot.word ∷ [] else []
 
   unfoldable pub taken_of : ℕ → List ℕ → ℕ → ℕ → List ℕ → List ℕ
-  taken_of w image n t z = joined_below t (λ i. taken_at z (block_at n (boot_count image n) (none_at w n) (first_at w n) i).spot)
+  taken_of w image n t z = joined_below t (λ i. taken_at z (block_at n (boot_count image n) (zero_wire_at w n) (first_at w n) i).spot)
 
   unfoldable pub layout_of : ℕ → Net → List ℕ → ℕ → ℕ → Circuit (Unit {0})
   layout_of w net image n t = do
     _ ← words_of w tape_at n
-    none ← none_of
-    last ← steps_of n (boot_count image n) t none
+    zero_wire ← zero_wire_of
+    last ← steps_of n (boot_count image n) t zero_wire
     _ ← tie_of last
     memory_of net (log_of (line_count image n t)) (lines_of w image n t)
 

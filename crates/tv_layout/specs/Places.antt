@@ -36,8 +36,8 @@ abbrev pub tape_at : ℕ
 tape_at = 2
 
 -- the wire that is held to 0, which is all of the first state
-abbrev pub none_at : ℕ → ℕ → ℕ
-none_at w n = 2 + n + n * w
+abbrev pub zero_wire_at : ℕ → ℕ → ℕ
+zero_wire_at w n = 2 + n + n * w
 
 -- the wires of the first step
 abbrev pub first_at : ℕ → ℕ → ℕ

@@ -10,8 +10,8 @@ use Rattle.tv_layout.specs.Layout.{first_state}
 
 -- the state before a step, where the first one's wires begin at `first`: the first state, or that after the step before
 abbrev pub state_before : ℕ → ℕ → ℕ → ℕ → StateWires
-state_before w none first zero = first_state none
-state_before w none first (suc i) = next_state w (first + i * block_made w)
+state_before w zero_wire first zero = first_state zero_wire
+state_before w zero_wire first (suc i) = next_state w (first + i * block_made w)
 
 -- a line that no step makes: a cell that held 0 gets a word
 abbrev pub line_of_word : ℕ → ℕ → Combination → LineLc

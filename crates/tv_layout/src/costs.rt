@@ -9,7 +9,7 @@ pub(crate) struct Costs {
     /// A word of the primary tape: that it is one.
     pub(crate) word: u32,
     /// The wire that is held to 0.
-    pub(crate) none: u32,
+    pub(crate) zero_wire: u32,
     /// A step.
     pub(crate) step: u32,
     /// That the last step answers.
@@ -50,7 +50,7 @@ pub(crate) fn wire_costs<const W: u32>() -> Costs
 {
     Costs {
         word: W,
-        none: 1,
+        zero_wire: 1,
         step: if W == 16 { 404 } else { 654 },
         tie: 0,
         switch: 5,
@@ -68,7 +68,7 @@ pub(crate) fn constraint_costs<const W: u32>() -> Costs
 {
     Costs {
         word: W + 1,
-        none: 1,
+        zero_wire: 1,
         step: if W == 16 { 502 } else { 752 },
         tie: 2,
         switch: 5,
@@ -86,7 +86,7 @@ pub(crate) fn term_costs<const W: u32>() -> Costs
 {
     Costs {
         word: 4 * W + 2,
-        none: 2,
+        zero_wire: 2,
         step: if W == 16 { 3488 } else { 5758 },
         tie: 6,
         switch: 11,

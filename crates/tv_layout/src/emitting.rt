@@ -1,7 +1,7 @@
 ghost use Rattle.std.specs.Prelude.{◌≡◌, ◌+◌, ◌*◌, ◌≤◌, ◌<◌, false, IfOk};
 ghost use Rattle.tv_block.specs.Block.{block_of};
 ghost use Rattle.tv_core.specs.Sinks.{PutsIn, Grows, Room};
-ghost use Rattle.tv_layout.specs.Layout.{word_of, words_of, none_of, tie_of, layout_of};
+ghost use Rattle.tv_layout.specs.Layout.{word_of, words_of, zero_wire_of, tie_of, layout_of};
 ghost use Rattle.tv_layout.specs.Places.{WithinLimits};
 ghost use Rattle.tv_layout.specs.Reached.{ReachedUnder};
 ghost use Rattle.tv_layout.specs.Sizes.{system_made, system_added};
@@ -40,8 +40,8 @@ pub fn emit_system<const W: u32, S: Sink>(
         (system_added W net image.now n t)) }
 {
     words::<W, S>(s, 2, n)?;
-    let none = none(s)?;
-    let last = steps::<W, S>(s, n, t, none)?;
+    let zero_wire = zero_wire(s)?;
+    let last = steps::<W, S>(s, n, t, zero_wire)?;
     tie(s, &last)?;
     let k = log_of(image.len() as u32 + n + 3 * t);
     memory(s, net, k, &LayoutLines::<W> { image, n, t })
@@ -74,9 +74,9 @@ fn word<const W: u32, S: Sink>(s: &mut S, first: u32, i: u32) -> Put<()>
 }
 
 // A wire that is held to 0.
-fn none<S: Sink>(s: &mut S) -> Put<Wire>
+fn zero_wire<S: Sink>(s: &mut S) -> Put<Wire>
     requires room { Room S.meaning s.old 1 1 }
-    ensures puts { PutsIn S.meaning s.old s.new none_of result }
+    ensures puts { PutsIn S.meaning s.old s.new zero_wire_of result }
     ensures grows { IfOk result (λ _. Grows S.meaning s.old s.new 1 1) }
     ensures below { IfOk result (λ w. w < S.meaning.wires s.new) }
 {

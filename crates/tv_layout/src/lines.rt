@@ -5,13 +5,13 @@ ghost use Rattle.tv_block.specs.Complete.{block_made};
 ghost use Rattle.tv_block.specs.Places.{block_wires, IsShort};
 ghost use Rattle.tv_block.specs.Under.{LineUnder};
 ghost use Rattle.tv_layout.specs.Layout.{lines_of};
-ghost use Rattle.tv_layout.specs.Places.{WithinLimits, line_count, log_of, none_at, first_at};
+ghost use Rattle.tv_layout.specs.Places.{WithinLimits, line_count, log_of, zero_wire_at, first_at};
 ghost use Rattle.tv_layout.specs.Systems.{system_of};
 ghost use Rattle.tv_layout.specs.Told.{state_before, line_of_word};
 ghost use Rattle.tv_lines.specs.Placed.{line_in};
 ghost use Rattle.tv_word.specs.Widths.{IsWidth};
 
-use crate::places::{none_at, step_at, tape_wire};
+use crate::places::{step_at, tape_wire, zero_wire_at};
 use crate::stepping::first_state;
 use tv_block::{StateWires, block_line, next_state};
 use tv_core::limits::{NULL_CELL, STEPS, TAPE_CELLS, TAPE_WORDS};
@@ -62,7 +62,7 @@ fn step_line<const W: u32>(n: u32, time: u32, j: u32) -> LineLc
     requires some { j < 3 * STEPS }
     requires times { time + j + 3 < 2 ^ 32 }
     ensures is { result ≡ line_in (block_wires W
-        (state_before W (none_at W n) (first_at W n) (j / 3)) (time + 3 * (j / 3))
+        (state_before W (zero_wire_at W n) (first_at W n) (j / 3)) (time + 3 * (j / 3))
         (first_at W n + j / 3 * block_made W)).lines (j % 3) }
     ensures short { IsShort result }
 {
@@ -76,10 +76,10 @@ fn state_before<const W: u32>(n: u32, step: u32) -> StateWires
     requires width { IsWidth W }
     requires few { n ≤ TAPE_WORDS }
     requires some { step < STEPS }
-    ensures { result ≡ state_before W (none_at W n) (first_at W n) step }
+    ensures { result ≡ state_before W (zero_wire_at W n) (first_at W n) step }
 {
     if step == 0 {
-        first_state(none_at::<W>(n))
+        first_state(zero_wire_at::<W>(n))
     } else {
         next_state::<W>(step_at::<W>(n, step - 1))
     }

@@ -1,6 +1,6 @@
 ghost use Rattle.std.specs.Prelude.{◌≡◌, ◌+◌, ◌*◌, ◌^◌, ◌≤◌, ◌<◌};
 ghost use Rattle.tv_block.specs.Complete.{block_made};
-ghost use Rattle.tv_layout.specs.Places.{log_of, tape_at, none_at, first_at};
+ghost use Rattle.tv_layout.specs.Places.{log_of, tape_at, zero_wire_at, first_at};
 ghost use Rattle.tv_word.specs.Widths.{IsWidth};
 
 use crate::costs::wire_costs;
@@ -36,10 +36,10 @@ pub fn tape_wire(i: u32) -> Wire
 }
 
 // The wire that is held to 0.
-pub(crate) fn none_at<const W: u32>(n: u32) -> Wire
+pub(crate) fn zero_wire_at<const W: u32>(n: u32) -> Wire
     requires width { IsWidth W }
     requires few { n ≤ TAPE_WORDS }
-    ensures { result ≡ none_at W n }
+    ensures { result ≡ zero_wire_at W n }
 {
     tape_wire(n).offset(n * W)
 }
@@ -51,5 +51,5 @@ pub(crate) fn step_at<const W: u32>(n: u32, step: u32) -> Wire
     requires some { step < STEPS }
     ensures { result ≡ first_at W n + step * block_made W }
 {
-    none_at::<W>(n).offset(1 + step * wire_costs::<W>().step)
+    zero_wire_at::<W>(n).offset(1 + step * wire_costs::<W>().step)
 }

@@ -2,7 +2,7 @@ ghost use Rattle.std.specs.Prelude.{◌≡◌, ℕ, ◌<◌};
 ghost use Rattle.tv_benes.specs.declared.shape.Net.{Net};
 ghost use Rattle.tv_block.specs.Block.{block_of};
 ghost use Rattle.tv_layout.specs.Layout.{block_at};
-ghost use Rattle.tv_layout.specs.Places.{WithinLimits, none_at, first_at};
+ghost use Rattle.tv_layout.specs.Places.{WithinLimits, zero_wire_at, first_at};
 ghost use Rattle.tv_layout.specs.Systems.{system_of};
 
 use crate::places::step_at;
@@ -16,7 +16,7 @@ use tv_block::{Spot, block_spot};
 pub fn spot<const W: u32>(image: &[u32], n: u32, t: u32, step: u32, net: Net) -> Spot
     requires fits { WithinLimits W image.now n t }
     requires within { step < t }
-    ensures is { (time : ℕ) → result ≡ (block_at (block_of W) n time (none_at W n) (first_at W n)
+    ensures is { (time : ℕ) → result ≡ (block_at (block_of W) n time (zero_wire_at W n) (first_at W n)
         step).spot }
     ensures taken { (over : Net) → result.taken < (system_of W over image.now n t).wires }
     ensures word { (over : Net) → result.word < (system_of W over image.now n t).wires }

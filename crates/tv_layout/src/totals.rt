@@ -34,7 +34,7 @@ pub(crate) fn total(cost: &Costs, of: &Amounts) -> u64
     requires cheap { AreCheap cost.now }
     ensures { result ≡ total_of cost.now of.now }
 {
-    let words = times(of.words, cost.word) + u64::from(cost.none);
+    let words = times(of.words, cost.word) + u64::from(cost.zero_wire);
     let steps = times(of.steps, cost.step) + u64::from(cost.tie);
     let switches = times(of.other_switches, cost.switch + 4 * cost.item)
         + (times(of.first_switches, cost.switch) + times(of.items, cost.item));

@@ -279,32 +279,32 @@ module _ (w : ℕ) (width : IsWidth w) (z : List ℕ) (assigns : Assigns z) (x y
         ∙ sym (far_right w v d (Spells-below word) (distance_far w width d far))
   ]
 
-  module _ (none : ℕ) (near : Shift) (none_is : slice_index z none ≡ zero_flag (d / 2 ^ (half_log w + 1)))
+  module _ (in_range : ℕ) (near : Shift) (in_range_is : slice_index z in_range ≡ zero_flag (d / 2 ^ (half_log w + 1)))
       (left_is : slice_index z near.left ≡ shifted_left w (half_left (w / 2) (bit_at d (half_log w)) v) (d % 2 ^ half_log w)) (right_is : slice_index z near.right ≡ shifted_right (half_right (w / 2) (bit_at d (half_log w)) v) (d % 2 ^ half_log w)) where
-    gate_left : value (wire none) z * value (wire near.left) z % P ≡ shifted_left w v d
-    gate_left = ap₂ (λ a b. a * b % P) (value-wire assigns none ∙ none_is) (value-wire assigns near.left ∙ left_is) ∙ left_gated
+    gate_left : value (wire in_range) z * value (wire near.left) z % P ≡ shifted_left w v d
+    gate_left = ap₂ (λ a b. a * b % P) (value-wire assigns in_range ∙ in_range_is) (value-wire assigns near.left ∙ left_is) ∙ left_gated
 
-    gate_right : value (wire none) z * value (wire near.right) z % P ≡ shifted_right v d
-    gate_right = ap₂ (λ a b. a * b % P) (value-wire assigns none ∙ none_is) (value-wire assigns near.right ∙ right_is) ∙ right_gated
+    gate_right : value (wire in_range) z * value (wire near.right) z % P ≡ shifted_right v d
+    gate_right = ap₂ (λ a b. a * b % P) (value-wire assigns in_range ∙ in_range_is) (value-wire assigns near.right ∙ right_is) ∙ right_gated
 
-    ends_sound : (at : ℕ) → Meets z (ends_of none near at).list → IsShifted w z (ends_of none near at).answer v d
+    ends_sound : (at : ℕ) → Meets z (ends_of in_range near at).list → IsShifted w z (ends_of in_range near at).answer v d
     unfolding ends_of ◌>>=◌ pure
     ends_sound at meets =
-        let left = times_of (wire none) (wire near.left) at in
+        let left = times_of (wire in_range) (wire near.left) at in
         let first = Meets-split z left.list _ meets in
-        let second = Meets-split z (times_of (wire none) (wire near.right) left.next).list [] first.1 in
+        let second = Meets-split z (times_of (wire in_range) (wire near.right) left.next).list [] first.1 in
         record {
-          left = times_sound z at (wire none) (wire near.left) assigns first.0 ∙ gate_left;
-          right = times_sound z left.next (wire none) (wire near.right) assigns second.0 ∙ gate_right;
+          left = times_sound z at (wire in_range) (wire near.left) assigns first.0 ∙ gate_left;
+          right = times_sound z left.next (wire in_range) (wire near.right) assigns second.0 ∙ gate_right;
         }
 
-    ends_complete : (at : ℕ) → slice_index z at ≡ shifted_left w v d → slice_index z (at + 1) ≡ shifted_right v d → Meets z (ends_of none near at).list
+    ends_complete : (at : ℕ) → slice_index z at ≡ shifted_left w v d → slice_index z (at + 1) ≡ shifted_right v d → Meets z (ends_of in_range near at).list
     unfolding ends_of times_of fresh put ◌>>=◌ pure
     ends_complete at l r =
-        let left = times_of (wire none) (wire near.left) at in
-        let right = times_of (wire none) (wire near.right) left.next in
-        Meets-join z left.list (right.list ++ []) (times_complete z at (wire none) (wire near.left) assigns (l ∙ sym gate_left, tt))
-        (Meets-join z right.list [] (times_complete z (at + 1) (wire none) (wire near.right) assigns (r ∙ sym gate_right, tt)) tt)
+        let left = times_of (wire in_range) (wire near.left) at in
+        let right = times_of (wire in_range) (wire near.right) left.next in
+        Meets-join z left.list (right.list ++ []) (times_complete z at (wire in_range) (wire near.left) assigns (l ∙ sym gate_left, tt))
+        (Meets-join z right.list [] (times_complete z (at + 1) (wire in_range) (wire near.right) assigns (r ∙ sym gate_right, tt)) tt)
 
 -- ---- the whole
 pub shift_sound : ShiftIsSound
@@ -313,16 +313,16 @@ shift_sound w width z next x y v d assigns word distance meets =
     let parts = parts_of w x.first y.first next in
     let half = by_half_of w (y.first + half_log w) x.first parts.next in
     let near = by_rest_of w parts.answer half.answer half.next in
-    let none = zero_of (bits_combination (y.first + (half_log w + 1)) (w - (half_log w + 1))) near.next in
+    let in_range = zero_of (bits_combination (y.first + (half_log w + 1)) (w - (half_log w + 1))) near.next in
     let first = Meets-split z parts.list _ meets in
     let second = Meets-split z half.list _ first.1 in
     let third = Meets-split z near.list _ second.1 in
-    let fourth = Meets-split z none.list _ third.1 in
+    let fourth = Meets-split z in_range.list _ third.1 in
     let known = parts_sound w width z assigns x.first y.first v d word distance next first.0 in
     let halves = half_sound w width z assigns x.first y.first v d word distance parts.next second.0 in
     let rests = rest_sound w width z assigns x.first y.first v d word distance parts.answer half.answer known halves.0 halves.1 half.next third.0 in
     let flag = zero_sound z near.next (bits_combination (y.first + (half_log w + 1)) (w - (half_log w + 1))) assigns fourth.0 ∙ ap zero_flag (far_value w width z assigns x.first y.first v d word distance) in
-    ends_sound w width z assigns x.first y.first v d word distance none.answer near.answer flag rests.0 rests.1 none.next fourth.1
+    ends_sound w width z assigns x.first y.first v d word distance in_range.answer near.answer flag rests.0 rests.1 in_range.next fourth.1
 
 pub shift_complete : ShiftIsComplete
 unfolding shift_of ◌>>=◌
@@ -330,7 +330,7 @@ shift_complete w width z next x y v d assigns word distance has =
     let parts = parts_of w x.first y.first next in
     let half = by_half_of w (y.first + half_log w) x.first parts.next in
     let near = by_rest_of w parts.answer half.answer half.next in
-    let none = zero_of (bits_combination (y.first + (half_log w + 1)) (w - (half_log w + 1))) near.next in
+    let in_range = zero_of (bits_combination (y.first + (half_log w + 1)) (w - (half_log w + 1))) near.next in
     let far = zero_values (d / 2 ^ (half_log w + 1)) in
     let last = shifted_left w v d ∷ shifted_right v d ∷ [] in
     let two = HasFrom-split z next (parts_values w v d) (ends_values w v d ++ (far ++ last)) has in
@@ -338,7 +338,7 @@ shift_complete w width z next x y v d assigns word distance has =
     let rest : HasFrom z parts.next (ends_values w v d ++ (far ++ last)) = subst (λ k. HasFrom z k (ends_values w v d ++ (far ++ last))) at two.1 in
     let half_at : half.next ≡ parts.next + 1 + 1 = half_next w (y.first + half_log w) x.first parts.next in
     let near_at : near.next ≡ parts.next + 1 + 1 + 1 + 1 = rest_next w parts.answer half.answer half.next ∙ ap (λ n. n + 1 + 1) half_at in
-    let none_at : none.next ≡ parts.next + 1 + 1 + 1 + 1 + 1 + 1 = zero_next (bits_combination (y.first + (half_log w + 1)) (w - (half_log w + 1))) near.next ∙ ap (λ n. n + 2) near_at ∙ omega arith in
+    let in_range_at : in_range.next ≡ parts.next + 1 + 1 + 1 + 1 + 1 + 1 = zero_next (bits_combination (y.first + (half_log w + 1)) (w - (half_log w + 1))) near.next ∙ ap (λ n. n + 2) near_at ∙ omega arith in
     let first = parts_complete w width z assigns x.first y.first v d word distance next two.0 in
     let known = parts_sound w width z assigns x.first y.first v d word distance next first in
     let second = half_complete w width z assigns x.first y.first v d word distance parts.next rest.0 rest.1.0 in
@@ -349,5 +349,5 @@ shift_complete w width z next x y v d assigns word distance has =
     let flags : HasFrom z near.next (zero_values (value (bits_combination (y.first + (half_log w + 1)) (w - (half_log w + 1))) z)) = rw (near_at, number) (rest.1.1.1.1.0, (rest.1.1.1.1.1.0, tt)) in
     let fourth = zero_complete z near.next (bits_combination (y.first + (half_log w + 1)) (w - (half_log w + 1))) assigns flags in
     let flag = zero_sound z near.next (bits_combination (y.first + (half_log w + 1)) (w - (half_log w + 1))) assigns fourth ∙ ap zero_flag number in
-    let fifth = ends_complete w width z assigns x.first y.first v d word distance none.answer near.answer flag rests.0 rests.1 none.next (ap (λ k. slice_index z k) none_at ∙ rest.1.1.1.1.1.1.0) (ap (λ k. slice_index z (k + 1)) none_at ∙ rest.1.1.1.1.1.1.1.0) in
-    Meets-join z parts.list _ first (Meets-join z half.list _ second (Meets-join z near.list _ third (Meets-join z none.list _ fourth fifth)))
+    let fifth = ends_complete w width z assigns x.first y.first v d word distance in_range.answer near.answer flag rests.0 rests.1 in_range.next (ap (λ k. slice_index z k) in_range_at ∙ rest.1.1.1.1.1.1.0) (ap (λ k. slice_index z (k + 1)) in_range_at ∙ rest.1.1.1.1.1.1.1.0) in
+    Meets-join z parts.list _ first (Meets-join z half.list _ second (Meets-join z near.list _ third (Meets-join z in_range.list _ fourth fifth)))

@@ -56,9 +56,9 @@ pub rest_next : (w : ℕ) (parts : Parts) (half : Shift) (next : ℕ) → (by_re
 unfolding by_rest_of pure ◌>>=◌
 rest_next w parts half next = ratio_next _ _ _ ∙ ap (λ n. n + 1) (times_next _ _ next)
 
-ends_next : (none : ℕ) (near : Shift) (next : ℕ) → (ends_of none near next).next ≡ next + 1 + 1
+ends_next : (in_range : ℕ) (near : Shift) (next : ℕ) → (ends_of in_range near next).next ≡ next + 1 + 1
 unfolding ends_of pure ◌>>=◌
-ends_next none near next = times_next _ _ _ ∙ ap (λ n. n + 1) (times_next _ _ next)
+ends_next in_range near next = times_next _ _ _ ∙ ap (λ n. n + 1) (times_next _ _ next)
 
 -- where the last two wires begin
 module _ (w : ℕ) (width : IsWidth w) (x y : Bits) (next : ℕ) where

@@ -64,9 +64,9 @@ by_rest_of w parts half = do
 
 -- and 0 where c is not 0
 unfoldable pub ends_of : ℕ → Shift → Circuit Shift
-ends_of none near = do
-  left ← times_of (wire none) (wire near.left)
-  right ← times_of (wire none) (wire near.right)
+ends_of in_range near = do
+  left ← times_of (wire in_range) (wire near.left)
+  right ← times_of (wire in_range) (wire near.right)
   pure (record { left = left; right = right })
 
 -- the word x shifted by the word y
@@ -75,8 +75,8 @@ shift_of w x y = do
   parts ← parts_of w x.first y.first
   half ← by_half_of w (y.first + half_log w) x.first
   near ← by_rest_of w parts half
-  none ← zero_of (bits_combination (y.first + (half_log w + 1)) (w - (half_log w + 1)))
-  ends_of none near
+  in_range ← zero_of (bits_combination (y.first + (half_log w + 1)) (w - (half_log w + 1)))
+  ends_of in_range near
 
 -- how many wires are made: for the half and the thermometer, with the parts, and in all
 abbrev pub places_made : ℕ → ℕ

@@ -91,18 +91,18 @@ pub(crate) fn by_rest<const W: u32, S: Sink>(s: &mut S, parts: &Parts, half: Shi
     Ok(Shift { left, right })
 }
 
-// The words, or 0 where wire `none` is 0. It makes 2 wires and 2 constraints.
-pub(crate) fn ends<S: Sink>(s: &mut S, none: Wire, near: Shift) -> Put<Shift>
+// The words, or 0 where wire `in_range` is 0. It makes 2 wires and 2 constraints.
+pub(crate) fn ends<S: Sink>(s: &mut S, in_range: Wire, near: Shift) -> Put<Shift>
     requires room { Room S.meaning s.old 2 2 }
-    requires none_made { none < S.meaning.wires s.old }
+    requires in_range_made { in_range < S.meaning.wires s.old }
     requires left_made { near.left < S.meaning.wires s.old }
     requires right_made { near.right < S.meaning.wires s.old }
-    ensures puts { PutsIn S.meaning s.old s.new (ends_of none near) result }
+    ensures puts { PutsIn S.meaning s.old s.new (ends_of in_range near) result }
     ensures grows { IfOk result (λ _. Grows S.meaning s.old s.new 2 2) }
     ensures left { IfOk result (λ end. end.left < S.meaning.wires s.new) }
     ensures right { IfOk result (λ end. end.right < S.meaning.wires s.new) }
 {
-    let gate = Lc::wire(none);
+    let gate = Lc::wire(in_range);
     let left = times(s, &gate, &Lc::wire(near.left))?;
     let right = times(s, &gate, &Lc::wire(near.right))?;
     Ok(Shift { left, right })

@@ -30,8 +30,8 @@ pub fn shift<const W: u32, S: Sink>(s: &mut S, x: &Bits, y: &Bits) -> Put<Shift>
     let parts = parts::<W, S>(s, x.first, y.first)?;
     let half = by_half::<W, S>(s, y.first.offset(k), x.first)?;
     let near = by_rest::<W, S>(s, &parts, half)?;
-    let none = zero(s, &y.above(k + 1).lc())?;
-    ends(s, none, near)
+    let in_range = zero(s, &y.above(k + 1).lc())?;
+    ends(s, in_range, near)
 }
 
 // The chosen half and the marks of the distance.

@@ -6,7 +6,7 @@ use Rattle.tv_core.proofs.TailCalls.{puts_in_then}
 use Rattle.tv_layout.proofs.LinePlaces.{line_number, lines_made}
 use Rattle.tv_layout.proofs.Rooms.{system_fits}
 use Rattle.tv_memory.specs.Memory.{IsMade, memory_made, memory_added}
-use Rattle.tv_layout.specs.Layout.{words_of, none_of, steps_of, tie_of, lines_of, layout_of}
+use Rattle.tv_layout.specs.Layout.{words_of, zero_wire_of, steps_of, tie_of, lines_of, layout_of}
 use Rattle.tv_layout.specs.Places.{boot_count, first_at}
 use Rattle.tv_layout.proofs.emitting.emit_system.Goals as goal
 
@@ -16,25 +16,25 @@ memory-requires-clause-many g c = line_number g.row.W c.args.image.now c.args.n 
 pub memory-requires-clause-room : goal.memory-requires-clause-room
 memory-requires-clause-room g c =
     let words = c.in_ok-words.ensures.grows in
-    let none = c.in_ok-none.ensures.grows in
+    let zero_wire = c.in_ok-zero_wire.ensures.grows in
     let steps = c.in_ok-last.ensures.grows in
     let tie = c.in_ok-tie.ensures.grows in
     let fits = system_fits g.row.W c.args.net c.args.image.now c.args.n c.args.t c.requires.fits in
     let is = sym c.log_of-k.ensures.is in
     record {
       whole = tie.whole;
-      constant = omega (arith, tie.wires, steps.wires, none.wires, words.wires, c.requires.begins);
-      wires = subst (λ k. g.S.Sink.meaning.wires c.tie.new.s + memory_made c.args.net k < 2 ^ 32) is (omega (arith, fits.wires, tie.wires, steps.wires, none.wires, words.wires, c.requires.begins));
-      constraints = subst (λ k. g.S.Sink.meaning.constraints c.tie.new.s + memory_added c.args.net k < 2 ^ 32) is (omega (arith, fits.constraints, tie.constraints, steps.constraints, none.constraints, words.constraints, c.requires.empty));
+      constant = omega (arith, tie.wires, steps.wires, zero_wire.wires, words.wires, c.requires.begins);
+      wires = subst (λ k. g.S.Sink.meaning.wires c.tie.new.s + memory_made c.args.net k < 2 ^ 32) is (omega (arith, fits.wires, tie.wires, steps.wires, zero_wire.wires, words.wires, c.requires.begins));
+      constraints = subst (λ k. g.S.Sink.meaning.constraints c.tie.new.s + memory_added c.args.net k < 2 ^ 32) is (omega (arith, fits.constraints, tie.constraints, steps.constraints, zero_wire.constraints, words.constraints, c.requires.empty));
     }
 
 pub memory-requires-clause-made : goal.memory-requires-clause-made
 memory-requires-clause-made g c =
     let words = c.in_ok-words.ensures.grows in
-    let none = c.in_ok-none.ensures.grows in
+    let zero_wire = c.in_ok-zero_wire.ensures.grows in
     let steps = c.in_ok-last.ensures.grows in
     let tie = c.in_ok-tie.ensures.grows in
-    let wires : first_at g.row.W c.args.n + c.args.t * block_made g.row.W ≡ g.S.Sink.meaning.wires c.tie.new.s = omega (arith, tie.wires, steps.wires, none.wires, words.wires, c.requires.begins) in
+    let wires : first_at g.row.W c.args.n + c.args.t * block_made g.row.W ≡ g.S.Sink.meaning.wires c.tie.new.s = omega (arith, tie.wires, steps.wires, zero_wire.wires, words.wires, c.requires.begins) in
     subst (λ wires. All (IsMade wires) (lines_of (block_of g.row.W) g.row.W c.args.image.now c.args.n c.args.t)) wires (lines_made g.row.W c.args.image.now c.args.n c.args.t c.requires.fits)
 
 pub returns-in_err-words-clause-puts : goal.returns-in_err-words-clause-puts
@@ -43,12 +43,12 @@ returns-in_err-words-clause-puts g c =
     let m = g.S.Sink.meaning in
     refused m _ _ _ c.from_residual.result c.from_residual.ensures.1 (refused_then m (words_of g.row.W 2 c.args.n) _ _ _ _ c.in_err-words.ensures.puts)
 
-pub returns-in_err-none-clause-puts : goal.returns-in_err-none-clause-puts
+pub returns-in_err-zero_wire-clause-puts : goal.returns-in_err-zero_wire-clause-puts
 unfolding layout_of
-returns-in_err-none-clause-puts g c =
+returns-in_err-zero_wire-clause-puts g c =
     let m = g.S.Sink.meaning in
-    refused m _ _ _ c.from_residual-in_err-none.result c.from_residual-in_err-none.ensures.1
-    (puts_then_refused m (words_of g.row.W 2 c.args.n) _ _ _ _ _ _ c.in_ok-words.ensures.puts (refused_then m none_of _ _ _ _ c.in_err-none.ensures.puts))
+    refused m _ _ _ c.from_residual-in_err-zero_wire.result c.from_residual-in_err-zero_wire.ensures.1
+    (puts_then_refused m (words_of g.row.W 2 c.args.n) _ _ _ _ _ _ c.in_ok-words.ensures.puts (refused_then m zero_wire_of _ _ _ _ c.in_err-zero_wire.ensures.puts))
 
 pub returns-in_err-last-clause-puts : goal.returns-in_err-last-clause-puts
 unfolding layout_of
@@ -56,7 +56,7 @@ returns-in_err-last-clause-puts g c =
     let m = g.S.Sink.meaning in
     refused m _ _ _ c.from_residual-in_err-last.result c.from_residual-in_err-last.ensures.1
     (puts_then_refused m (words_of g.row.W 2 c.args.n) _ _ _ _ _ _ c.in_ok-words.ensures.puts
-    (puts_then_refused m none_of _ _ _ _ _ _ c.in_ok-none.ensures.puts
+    (puts_then_refused m zero_wire_of _ _ _ _ _ _ c.in_ok-zero_wire.ensures.puts
     (refused_then m (steps_of (block_of g.row.W) c.args.n (boot_count c.args.image.now c.args.n) c.args.t _) _ _ _ _ (c.in_err-last.ensures.puts (boot_count c.args.image.now c.args.n)))))
 
 pub returns-in_err-tie-clause-puts : goal.returns-in_err-tie-clause-puts
@@ -65,7 +65,7 @@ returns-in_err-tie-clause-puts g c =
     let m = g.S.Sink.meaning in
     refused m _ _ _ c.from_residual-in_err-tie.result c.from_residual-in_err-tie.ensures.1
     (puts_then_refused m (words_of g.row.W 2 c.args.n) _ _ _ _ _ _ c.in_ok-words.ensures.puts
-    (puts_then_refused m none_of _ _ _ _ _ _ c.in_ok-none.ensures.puts
+    (puts_then_refused m zero_wire_of _ _ _ _ _ _ c.in_ok-zero_wire.ensures.puts
     (puts_then_refused m (steps_of (block_of g.row.W) c.args.n (boot_count c.args.image.now c.args.n) c.args.t _) _ _ _ _ _ _ (c.in_ok-last.ensures.puts (boot_count c.args.image.now c.args.n))
     (refused_then m (tie_of _) _ _ _ _ c.in_err-tie.ensures.puts))))
 
@@ -75,6 +75,6 @@ returns-clause-puts g c =
     let m = g.S.Sink.meaning in
     let last = rw (c.log_of-k.ensures.is) at c.memory.ensures.puts in
     puts_in_then m (words_of g.row.W 2 c.args.n) _ _ _ _ _ _ c.in_ok-words.ensures.puts
-    (puts_in_then m none_of _ _ _ _ _ _ c.in_ok-none.ensures.puts
+    (puts_in_then m zero_wire_of _ _ _ _ _ _ c.in_ok-zero_wire.ensures.puts
     (puts_in_then m (steps_of (block_of g.row.W) c.args.n (boot_count c.args.image.now c.args.n) c.args.t _) _ _ _ _ _ _ (c.in_ok-last.ensures.puts (boot_count c.args.image.now c.args.n))
     (puts_in_then m (tie_of _) _ _ _ _ _ _ c.in_ok-tie.ensures.puts last)))

@@ -5,15 +5,15 @@ use Rattle.tv_regs.specs.Reading.{wires_top}
 use Rattle.tv_layout.specs.Layout.{before_steps, step_of, steps_of}
 use Rattle.tv_layout.proofs.stepping.steps.Goals as goal
 
-none_top : (k wires none : ℕ) → none < wires → wires_top (replicate k none) ≤ wires
-none_top zero wires none h = omega arith
-none_top (suc k) wires none h = let more = none_top k wires none h in omega arith
+none_top : (k wires zero_wire : ℕ) → zero_wire < wires → wires_top (replicate k zero_wire) ≤ wires
+none_top zero wires zero_wire h = omega arith
+none_top (suc k) wires zero_wire h = let more = none_top k wires zero_wire h in omega arith
 
 pub loop-step-init : goal.loop-step-init
 loop-step-init g c =
-    let made = c.requires.none_made in
+    let made = c.requires.zero_wire_made in
     record {
-      puts = λ time. rw (c.before_steps-last.ensures) (puts_no_turn g.S.Sink.meaning _ (step_of (block_of g.row.W) c.args.n time) (before_steps c.args.none));
+      puts = λ time. rw (c.before_steps-last.ensures) (puts_no_turn g.S.Sink.meaning _ (step_of (block_of g.row.W) c.args.n time) (before_steps c.args.zero_wire));
       grows = record { wires = omega arith; constraints = omega arith; whole = c.requires.room.whole };
       below = rw (c.before_steps-last.ensures) (record {
         next = record { pc = made; regs = none_top 16 _ _ made; flag = made; taken = made; ended = made };
@@ -27,7 +27,7 @@ loop-step-preserved g c =
     let grown = c.in_ok-last.ensures.grows in
     let before = c.loop-step.invariant.grows in
     record {
-      puts = λ time. puts_turn g.S.Sink.meaning c.loop-step._step (step_of (block_of g.row.W) c.args.n time) (before_steps c.args.none) _ _ _ _ _ (c.loop-step.invariant.puts time) (c.in_ok-last.ensures.puts (time + 3 * c.loop-step._step));
+      puts = λ time. puts_turn g.S.Sink.meaning c.loop-step._step (step_of (block_of g.row.W) c.args.n time) (before_steps c.args.zero_wire) _ _ _ _ _ (c.loop-step.invariant.puts time) (c.in_ok-last.ensures.puts (time + 3 * c.loop-step._step));
       grows = record { wires = omega (arith, grown.wires, before.wires); constraints = omega (arith, grown.constraints, before.constraints); whole = grown.whole };
       below = record { next = c.in_ok-last.ensures.next_below; answers = c.in_ok-last.ensures.answers_below; value = c.in_ok-last.ensures.value_below };
     }
@@ -37,7 +37,7 @@ unfolding steps_of
 returns-in_err-last-clause-puts g c time =
     let m = g.S.Sink.meaning in
     let within : c.loop-step._step < c.args.t = omega arith in
-    let turn = turn_refused m c.args.t c.loop-step._step (step_of (block_of g.row.W) c.args.n time) (before_steps c.args.none) c.loop-step.last c.args.s.now c.loop-step.s c.step.new.s c.in_err-last.field-0.0 within (c.loop-step.invariant.puts time) (c.in_err-last.ensures.puts (time + 3 * c.loop-step._step)) in
+    let turn = turn_refused m c.args.t c.loop-step._step (step_of (block_of g.row.W) c.args.n time) (before_steps c.args.zero_wire) c.loop-step.last c.args.s.now c.loop-step.s c.step.new.s c.in_err-last.field-0.0 within (c.loop-step.invariant.puts time) (c.in_err-last.ensures.puts (time + 3 * c.loop-step._step)) in
     refused m _ _ _ c.from_residual.result c.from_residual.ensures.1 turn
 
 pub returns-clause-puts : goal.returns-clause-puts
