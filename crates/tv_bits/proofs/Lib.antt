@@ -7,7 +7,6 @@ pub mod OrderLaws
 pub mod OrderRows
 pub mod PrefixLaws
 pub mod ProductChain
-pub mod RowLaws
 pub mod SelectLaws
 pub mod SizeLaws
 pub mod SpelledNumbers

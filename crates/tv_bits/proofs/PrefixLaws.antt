@@ -1,5 +1,5 @@
 -- The laws of a product that is 0, and of a number that is a difference of prefixes.
-use Rattle.std.proofs.Common.{◌≡◌, ℕ, zero, suc, ◌+◌, ◌-◌, ◌*◌, ◌%◌, ◌<◌, ◌≤◌, List, [], length, inl, inr, refl, sym, ◌∙◌, ap, ap₂, arith, mod-lt, mul-zero, zero-mul, mul-one, one-mul, mod-eq_of_lt}
+use Rattle.std.proofs.Common.{◌≡◌, ℕ, zero, suc, ◌+◌, ◌-◌, ◌*◌, ◌/◌, ◌%◌, ◌^◌, ◌<◌, ◌≤◌, List, [], length, inl, inr, refl, sym, subst, ◌∙◌, ap, ap₂, arith, mod-lt, mul-zero, zero-mul, mul-one, one-mul, mod-eq_of_lt}
 use Rattle.std.specs.Prelude.{slice_index}
 use Rattle.std.proofs.Math.Nat.{mul-le-mul_left}
 use Rattle.std.proofs.lemmas.Bool.{cases_eq}
@@ -16,14 +16,12 @@ use Rattle.tv_core.specs.Combinations.{less}
 use Rattle.tv_core.specs.Constraints.{Combination, value}
 use Rattle.tv_core.specs.Laws.{Assigns, Meets, HasFrom, InField}
 use Rattle.tv_core.specs.declared.field.TheConstants.{P}
-use Rattle.tv_bits.proofs.RowLaws.{value-prefix, SpellRows-one}
+use Rattle.tv_bits.proofs.SpelledNumbers.{Spells-high, value-bits_below}
 use Rattle.tv_bits.specs.Bits.{Spells}
-use Rattle.tv_bits.specs.Order.{prefix_difference, IsPrefixDifference}
-use Rattle.tv_bits.specs.Prefixes.{next_product, zero_product_of, product_below, products_values, prefix, prefix_less, prefix_less_in, prefix_difference_of, prefix_difference_values, PrefixDifferenceIsSound, PrefixDifferenceIsComplete, PrefixDifferenceSizes}
-use Rattle.tv_bits.specs.Rows.{one_row, rows_size, SpellRows}
+use Rattle.tv_bits.specs.Order.{prefix_difference}
+use Rattle.tv_bits.specs.Prefixes.{next_product, zero_product_of, product_below, products_values, prefix, prefix_less, prefix_less_in, prefix_difference_of, PrefixDifferenceIsSound, PrefixDifferenceIsComplete, PrefixDifferenceSizes}
 use Rattle.tv_bits.specs.Times.{times_of}
 use Rattle.tv_bits.specs.declared.bit_wires.Bits.{Bits}
-use Rattle.tv_bits.specs.declared.two_rows.TwoRows.{TwoRows}
 
 -- ---- a product that is 0
 next_product-next : (factor : ℕ → Combination) (i : ℕ) (product : Combination) (at : ℕ) → (next_product factor i product at).next ≡ at + 1
@@ -125,8 +123,13 @@ zero_product_complete z factor f t i next two assigns is within none has =
     whole z products (λ product. put product (factor (t - 1)) []) next rest.0 (product, tt)
 
 -- ---- a difference of two prefixes
-module _ (z : List ℕ) (x y : TwoRows) (d : Combination) (v w : ℕ) (x_short : rows_size x ≤ 63) (y_short : rows_size y ≤ 63) (s : SpellRows z x v) (r : SpellRows z y w) where
-  value-prefix_less : (p : ℕ) → p ≤ rows_size x → p ≤ rows_size y → value (prefix_less x y d p) z ≡ prefix_less_in v w (value d z) p
+value-prefix : (z : List ℕ) (x : Bits) (p v : ℕ) → p ≤ x.n → x.n ≤ 63 → Spells z x.first x.n v → value (prefix x p) z ≡ v / 2 ^ p
+value-prefix z x p v within short s =
+    let whole : x.n ≡ p + (x.n - p) = omega arith in
+    value-bits_below (Spells-high z x.first p (x.n - p) v (subst (λ n. Spells z x.first n v) whole s)) (omega arith)
+
+module _ (z : List ℕ) (x y : Bits) (d : Combination) (v w : ℕ) (x_short : x.n ≤ 63) (y_short : y.n ≤ 63) (s : Spells z x.first x.n v) (r : Spells z y.first y.n w) where
+  value-prefix_less : (p : ℕ) → p ≤ x.n → p ≤ y.n → value (prefix_less x y d p) z ≡ prefix_less_in v w (value d z) p
   value-prefix_less p h k =
       value-less (less (prefix x p) (prefix y p)) d z
       ∙ ap (λ n. (n + (P - value d z)) % P) (value-less (prefix x p) (prefix y p) z ∙ ap₂ (λ a b. (a + (P - b)) % P) (value-prefix z x p v h x_short s) (value-prefix z y p w k y_short r))
@@ -138,7 +141,7 @@ place_within c t n i h k = let most : i ≤ t - 1 = omega arith in let place = m
 difference_same : (a d : ℕ) → a < P → d < P → a ≡ d → (a + (P - d)) % P ≡ 0
 difference_same a d h k e = omega arith
 
-pub prefix_difference_next : (x y : TwoRows) (d : Combination) (c t next : ℕ) → (prefix_difference_of x y d c t next).next ≡ next + (t - 2)
+pub prefix_difference_next : (x y : Bits) (d : Combination) (c t next : ℕ) → (prefix_difference_of x y d c t next).next ≡ next + (t - 2)
 unfolding prefix_difference_of
 prefix_difference_next x y d c t next = zero_product_next (λ j. prefix_less x y d (c * j)) t next
 
@@ -147,33 +150,16 @@ unfolding prefix_difference_of
 prefix_difference_sound z next x y d c t v w two x_long y_long x_short y_short assigns s r meets =
     let found = zero_product_sound z (λ j. prefix_less x y d (c * j)) t next two assigns meets in
     let p = c * found.0 in
-    let none = sym (value-prefix_less z x y d v w x_short y_short s r p (place_within c t (rows_size x) found.0 found.1 x_long) (place_within c t (rows_size y) found.0 found.1 y_long)) ∙ found.2 in
+    let none = sym (value-prefix_less z x y d v w x_short y_short s r p (place_within c t x.n found.0 found.1 x_long) (place_within c t y.n found.0 found.1 y_long)) ∙ found.2 in
     record { chunk = found.0; within = found.1; is = same_of_minus (prefix_difference v w p) (value d z) (mod-lt _ (omega arith)) (value-below d z) none }
 
 pub prefix_difference_complete : PrefixDifferenceIsComplete
 unfolding prefix_difference_of
 prefix_difference_complete z next x y d c t v w two x_long y_long x_short y_short assigns s r i has =
     let is : (j : ℕ) → j < t → value (prefix_less x y d (c * j)) z ≡ prefix_less_in v w (value d z) (c * j) =
-    λ j h. value-prefix_less z x y d v w x_short y_short s r (c * j) (place_within c t (rows_size x) j h x_long) (place_within c t (rows_size y) j h y_long) in
+    λ j h. value-prefix_less z x y d v w x_short y_short s r (c * j) (place_within c t x.n j h x_long) (place_within c t y.n j h y_long) in
     let none = difference_same (prefix_difference v w (c * i.chunk)) (value d z) (mod-lt _ (omega arith)) (value-below d z) i.is in
     zero_product_complete z (λ j. prefix_less x y d (c * j)) (λ j. prefix_less_in v w (value d z) (c * j)) t i.chunk next two assigns is i.within none has
-
--- the same of single rows of bits
-pub bits_prefix_sound : (z : List ℕ) (next : ℕ) (x y : Bits) (d : Combination) (c t v w : ℕ)
-    → 2 ≤ t → c * (t - 1) ≤ x.n → c * (t - 1) ≤ y.n → x.n ≤ 63 → y.n ≤ 63
-    → Assigns z → Spells z x.first x.n v → Spells z y.first y.n w → Meets z (prefix_difference_of (one_row x) (one_row y) d c t next).list
-    → IsPrefixDifference c t v w (value d z)
-bits_prefix_sound z next x y d c t v w two x_long y_long x_short y_short assigns s r meets =
-    prefix_difference_sound z next (one_row x) (one_row y) d c t v w two (omega arith) (omega arith) (omega arith) (omega arith) assigns
-    (SpellRows-one z x v s) (SpellRows-one z y w r) meets
-
-pub bits_prefix_complete : (z : List ℕ) (next : ℕ) (x y : Bits) (d : Combination) (c t v w : ℕ)
-    → 2 ≤ t → c * (t - 1) ≤ x.n → c * (t - 1) ≤ y.n → x.n ≤ 63 → y.n ≤ 63
-    → Assigns z → Spells z x.first x.n v → Spells z y.first y.n w → IsPrefixDifference c t v w (value d z)
-    → HasFrom z next (prefix_difference_values v w (value d z) c t) → Meets z (prefix_difference_of (one_row x) (one_row y) d c t next).list
-bits_prefix_complete z next x y d c t v w two x_long y_long x_short y_short assigns s r i has =
-    prefix_difference_complete z next (one_row x) (one_row y) d c t v w two (omega arith) (omega arith) (omega arith) (omega arith) assigns
-    (SpellRows-one z x v s) (SpellRows-one z y w r) i has
 
 -- ---- the products, one factor after another
 pub first_factor : (x y d c : ℕ) → prefix_less_in x y d 0 ≡ product_below 1 (λ j. prefix_less_in x y d (c * j)) % P

@@ -16,6 +16,11 @@ use Rattle.tv_core.specs.Laws.{Assigns, HasFrom}
 use Rattle.tv_core.specs.declared.field.TheConstants.{P}
 use Rattle.tv_bits.specs.Bit.{IsBit}
 use Rattle.tv_bits.specs.Bits.{Spells, spelled, bits_combination, bits_values}
+use Rattle.tv_bits.specs.declared.bit_wires.Bits.{Bits}
+
+-- n bits are their first wire and n
+pub bits_sized : (n : ℕ) (x : Bits) → x.n ≡ n → x ≡ record { first = x.first; n = n }
+bits_sized n x e = ap (λ k. record { first = x.first; n = k }) e
 
 -- the sum of sums
 pub sum_below-plus : (n : ℕ) (f g : ℕ → ℕ) → sum_below n (λ i. f i + g i) ≡ sum_below n f + sum_below n g

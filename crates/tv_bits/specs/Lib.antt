@@ -6,7 +6,6 @@ pub mod Order
 pub mod Pairs
 pub mod Prefixes
 pub mod Ratio
-pub mod Rows
 pub mod Select
 pub mod Times
 pub mod Zero

@@ -1,13 +1,12 @@
 -- A product that is 0, and by it a number that is the difference of two prefixes.
-use Rattle.std.specs.Prelude.{◌≡◌, ℕ, zero, suc, ◌+◌, ◌-◌, ◌*◌, ◌%◌, ◌^◌, ◌≤◌, min, List, [], ◌++◌}
-use Rattle.tv_bits.specs.Bits.{bits_combination}
+use Rattle.std.specs.Prelude.{◌≡◌, ℕ, zero, suc, ◌+◌, ◌-◌, ◌*◌, ◌%◌, ◌≤◌, List, []}
+use Rattle.tv_bits.specs.Bits.{Spells, bits_combination}
 use Rattle.tv_bits.specs.Order.{prefix_difference, IsPrefixDifference}
-use Rattle.tv_bits.specs.Rows.{rows_size, SpellRows}
 use Rattle.tv_bits.specs.Times.{times_of}
-use Rattle.tv_bits.specs.declared.two_rows.TwoRows.{TwoRows}
+use Rattle.tv_bits.specs.declared.bit_wires.Bits.{Bits}
 use Rattle.tv_core.specs.Below.{each_below}
 use Rattle.tv_core.specs.Circuits.{Circuit, put, pure, turns, ◌>>=◌}
-use Rattle.tv_core.specs.Combinations.{wire, scaled, less}
+use Rattle.tv_core.specs.Combinations.{wire, less}
 use Rattle.tv_core.specs.Constraints.{Combination, value}
 use Rattle.tv_core.specs.Laws.{Assigns, Meets, HasFrom, Fills, InField}
 use Rattle.tv_core.specs.declared.field.TheConstants.{P}
@@ -35,22 +34,19 @@ abbrev pub products_values : (ℕ → ℕ) → ℕ → List ℕ
 products_values f t = each_below (t - 2) (λ i. product_below (i + 2) f % P)
 
 -- ---- a difference of two prefixes
--- the number that the bits from place p on spell: without its lowest p bits, of which the high row has those
--- that the low one hasn't
-abbrev pub prefix : TwoRows → ℕ → Combination
-prefix x p =
-    let left = min p x.low.n in
-    bits_combination (x.low.first + left) (x.low.n - left) ++ scaled (2 ^ (x.low.n - left) % P) (bits_combination (x.high.first + (p - left)) (x.high.n - (p - left)))
+-- the number that the bits from place p on spell, without the p lowest
+abbrev pub prefix : Bits → ℕ → Combination
+prefix x p = bits_combination (x.first + p) (x.n - p)
 
 -- the difference of the prefixes of x and y from place p on, less d; and the same for numbers
-abbrev pub prefix_less : TwoRows → TwoRows → Combination → ℕ → Combination
+abbrev pub prefix_less : Bits → Bits → Combination → ℕ → Combination
 prefix_less x y d p = less (less (prefix x p) (prefix y p)) d
 
 abbrev pub prefix_less_in : ℕ → ℕ → ℕ → ℕ → ℕ
 prefix_less_in x y d p = (prefix_difference x y p + (P - d)) % P
 
 -- d is the difference of the numbers that x and y spell in one of the t prefixes, cut by c bits
-unfoldable pub prefix_difference_of : TwoRows → TwoRows → Combination → ℕ → ℕ → Circuit (Unit {0})
+unfoldable pub prefix_difference_of : Bits → Bits → Combination → ℕ → ℕ → Circuit (Unit {0})
 prefix_difference_of x y d c t = zero_product_of (λ j. prefix_less x y d (c * j)) t
 
 -- the values of the wires that are made
@@ -59,20 +55,20 @@ prefix_difference_values x y d c t = products_values (λ j. prefix_less_in x y d
 
 -- in an assignment that meets what was put, d is the difference of some prefixes
 abbrev pub PrefixDifferenceIsSound : Type 0
-PrefixDifferenceIsSound = (z : List ℕ) (next : ℕ) (x y : TwoRows) (d : Combination) (c t v w : ℕ)
-    → 2 ≤ t → c * (t - 1) ≤ rows_size x → c * (t - 1) ≤ rows_size y → rows_size x ≤ 63 → rows_size y ≤ 63
-    → Assigns z → SpellRows z x v → SpellRows z y w → Meets z (prefix_difference_of x y d c t next).list
+PrefixDifferenceIsSound = (z : List ℕ) (next : ℕ) (x y : Bits) (d : Combination) (c t v w : ℕ)
+    → 2 ≤ t → c * (t - 1) ≤ x.n → c * (t - 1) ≤ y.n → x.n ≤ 63 → y.n ≤ 63
+    → Assigns z → Spells z x.first x.n v → Spells z y.first y.n w → Meets z (prefix_difference_of x y d c t next).list
     → IsPrefixDifference c t v w (value d z)
 
 -- where d is one, an assignment that has these values at the wires that were made meets what was put
 abbrev pub PrefixDifferenceIsComplete : Type 0
-PrefixDifferenceIsComplete = (z : List ℕ) (next : ℕ) (x y : TwoRows) (d : Combination) (c t v w : ℕ)
-    → 2 ≤ t → c * (t - 1) ≤ rows_size x → c * (t - 1) ≤ rows_size y → rows_size x ≤ 63 → rows_size y ≤ 63
-    → Assigns z → SpellRows z x v → SpellRows z y w → IsPrefixDifference c t v w (value d z)
+PrefixDifferenceIsComplete = (z : List ℕ) (next : ℕ) (x y : Bits) (d : Combination) (c t v w : ℕ)
+    → 2 ≤ t → c * (t - 1) ≤ x.n → c * (t - 1) ≤ y.n → x.n ≤ 63 → y.n ≤ 63
+    → Assigns z → Spells z x.first x.n v → Spells z y.first y.n w → IsPrefixDifference c t v w (value d z)
     → HasFrom z next (prefix_difference_values v w (value d z) c t) → Meets z (prefix_difference_of x y d c t next).list
 
 -- the values are one number of the field for each wire that is made
 pub record PrefixDifferenceSizes : Type 0 where
-  pub end : (x y : TwoRows) (d : Combination) (c t next : ℕ) → (prefix_difference_of x y d c t next).next ≡ next + (t - 2)
-  pub fills : (x y : TwoRows) (d : Combination) (c t v w e : ℕ) → Fills (prefix_difference_of x y d c t) (prefix_difference_values v w e c t)
+  pub end : (x y : Bits) (d : Combination) (c t next : ℕ) → (prefix_difference_of x y d c t next).next ≡ next + (t - 2)
+  pub fills : (x y : Bits) (d : Combination) (c t v w e : ℕ) → Fills (prefix_difference_of x y d c t) (prefix_difference_values v w e c t)
   pub in_field : (c t v w e : ℕ) → InField (prefix_difference_values v w e c t)

@@ -17,7 +17,6 @@ mod products;
 mod rows;
 mod selection;
 mod spelling;
-mod two_rows;
 mod zeros;
 
 pub use bit_wires::Bits;
@@ -42,5 +41,4 @@ pub use spelling::{
     bits, bits_are_complete, bits_are_sound, bits_fill, fill_bits, new_bits, new_bits_are_complete,
     new_bits_are_sound, new_bits_fill,
 };
-pub use two_rows::TwoRows;
 pub use zeros::{fill_zero, zero, zero_fills, zero_is_complete, zero_is_sound};

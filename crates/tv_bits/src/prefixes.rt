@@ -4,40 +4,37 @@ ghost use Rattle.tv_bits.specs.Order.{first_difference};
 ghost use Rattle.tv_bits.specs.Prefixes.{prefix_less, prefix_less_in, prefix_difference_of};
 ghost use Rattle.tv_bits.specs.Prefixes.{prefix_difference_values, PrefixDifferenceIsSound};
 ghost use Rattle.tv_bits.specs.Prefixes.{PrefixDifferenceIsComplete, PrefixDifferenceSizes};
-ghost use Rattle.tv_bits.specs.Rows.{rows_size};
 ghost use Rattle.tv_core.specs.Combinations.{top};
 ghost use Rattle.tv_core.specs.Giving.{GivesIn};
 ghost use Rattle.tv_core.specs.Sinks.{PutsIn, Grows, Room};
 
+use crate::bit_wires::Bits;
 use crate::products::times;
-use crate::two_rows::TwoRows;
 use tv_core::{F, Lc, Put, Sink, Values};
 
 /// Cuts `x` and `y` into `count` chunks of `chunk` bits, at least 2 chunks, and holds `d` to the
 /// difference of two prefixes: what is left of `x` less what is left of `y`, once the same number
 /// of lowest chunks, from none to `count - 1`, is dropped from both. So with `d` from 1 to
-/// 2^`chunk` the number of `x` is above that of `y`. The numbers have at most 63 bits each, and
-/// `x`, `y` and `d` at most 128 terms together. It makes `count - 2` wires and `count - 1`
-/// constraints.
+/// 2^`chunk` the number of `x` is above that of `y`. The numbers have at least
+/// `chunk * (count - 1)` bits and at most 63 each, and `x`, `y` and `d` at most 128 terms together.
+/// It makes `count - 2` wires and `count - 1` constraints.
 pub fn prefix_difference<S: Sink>(
     s: &mut S,
-    x: &TwoRows,
-    y: &TwoRows,
+    x: &Bits,
+    y: &Bits,
     d: &Lc,
     chunk: u32,
     count: u32,
 ) -> Put<()>
     requires room { Room S.meaning s.old (count - 2) (count - 1) }
     requires chunks { 2 ≤ count }
-    requires x_long { chunk * (count - 1) ≤ rows_size x.now }
-    requires y_long { chunk * (count - 1) ≤ rows_size y.now }
-    requires x_short { rows_size x.now ≤ 63 }
-    requires y_short { rows_size y.now ≤ 63 }
-    requires d_short { rows_size x.now + rows_size y.now + length d.now ≤ 128 }
-    requires x_low_made { x.now.low.first + x.now.low.n ≤ S.meaning.wires s.old }
-    requires x_high_made { x.now.high.first + x.now.high.n ≤ S.meaning.wires s.old }
-    requires y_low_made { y.now.low.first + y.now.low.n ≤ S.meaning.wires s.old }
-    requires y_high_made { y.now.high.first + y.now.high.n ≤ S.meaning.wires s.old }
+    requires x_long { chunk * (count - 1) ≤ x.now.n }
+    requires y_long { chunk * (count - 1) ≤ y.now.n }
+    requires x_short { x.now.n ≤ 63 }
+    requires y_short { y.now.n ≤ 63 }
+    requires d_short { x.now.n + y.now.n + length d.now ≤ 128 }
+    requires x_made { x.now.first + x.now.n ≤ S.meaning.wires s.old }
+    requires y_made { y.now.first + y.now.n ≤ S.meaning.wires s.old }
     requires d_made { top d.now ≤ S.meaning.wires s.old }
     ensures puts { PutsIn S.meaning s.old s.new (prefix_difference_of x.now y.now d.now chunk count)
         result }
@@ -56,29 +53,26 @@ pub fn prefix_difference<S: Sink>(
 }
 
 // Makes `lc` the difference of the prefixes from place `from` on, less `d`.
-fn fill_prefix_less(lc: &mut Lc, x: &TwoRows, y: &TwoRows, d: &Lc, from: u32)
-    requires x_long { from ≤ rows_size x.now }
-    requires y_long { from ≤ rows_size y.now }
-    requires x_short { rows_size x.now ≤ 63 }
-    requires y_short { rows_size y.now ≤ 63 }
-    requires d_short { rows_size x.now + rows_size y.now + length d.now ≤ 128 }
-    requires x_low_within { x.now.low.first + x.now.low.n < 2 ^ 32 }
-    requires x_high_within { x.now.high.first + x.now.high.n < 2 ^ 32 }
-    requires y_low_within { y.now.low.first + y.now.low.n < 2 ^ 32 }
-    requires y_high_within { y.now.high.first + y.now.high.n < 2 ^ 32 }
+fn fill_prefix_less(lc: &mut Lc, x: &Bits, y: &Bits, d: &Lc, from: u32)
+    requires x_long { from ≤ x.now.n }
+    requires y_long { from ≤ y.now.n }
+    requires x_short { x.now.n ≤ 63 }
+    requires y_short { y.now.n ≤ 63 }
+    requires d_short { x.now.n + y.now.n + length d.now ≤ 128 }
+    requires x_within { x.now.first + x.now.n < 2 ^ 32 }
+    requires y_within { y.now.first + y.now.n < 2 ^ 32 }
     ensures terms { lc.new ≡ prefix_less x.now y.now d.now from }
-    ensures top { top lc.new ≤ max (max (max (x.now.low.first + x.now.low.n)
-        (x.now.high.first + x.now.high.n)) (max (y.now.low.first + y.now.low.n)
-        (y.now.high.first + y.now.high.n))) (top d.now) }
+    ensures top { top lc.new ≤ max (max (x.now.first + x.now.n) (y.now.first + y.now.n))
+        (top d.now) }
 {
     lc.clear();
-    x.plus_prefix_to(lc, F::ONE, from);
-    y.plus_prefix_to(lc, -F::ONE, from);
+    x.above(from).plus_to(lc, F::ONE);
+    y.above(from).plus_to(lc, -F::ONE);
     lc.minus(d);
 }
 
 /// Gives the values of the wires that `prefix_difference` makes for the numbers `x` and `y`, both
-/// below 2^63, and for `d`.
+/// below 2^63, and for `d`; `count` is at least 2, and `chunk * (count - 1)` below 64.
 pub fn fill_prefix_difference<V: Values>(
     v: &mut V,
     x: u64,

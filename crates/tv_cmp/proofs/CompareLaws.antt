@@ -3,7 +3,7 @@ use Rattle.std.proofs.Common.{◌≡◌, ℕ, ◌+◌, ◌-◌, ◌*◌, ◌/◌
 use Rattle.std.specs.Int.{bit_at}
 use Rattle.std.specs.Prelude.{slice_index}
 use Rattle.tv_bits.proofs.BitLaws.{bit_sound, bit_complete}
-use Rattle.tv_bits.proofs.PrefixLaws.{bits_prefix_sound, bits_prefix_complete, prefix_difference_next, length-products, products_in_field}
+use Rattle.tv_bits.proofs.PrefixLaws.{prefix_difference_sound, prefix_difference_complete, prefix_difference_next, length-products, products_in_field}
 use Rattle.tv_bits.proofs.SizeLaws.{length-bits, bits_in_field}
 use Rattle.tv_bits.proofs.SpelledNumbers.{Spells-below, Spells-bit_at, Spells-from_values, value-bits_below, value-plus_one}
 use Rattle.tv_bits.proofs.SpellingLaws.{new_bits_sound, new_bits_complete, new_bits_next}
@@ -11,7 +11,6 @@ use Rattle.tv_bits.specs.Bit.{bit_of}
 use Rattle.tv_bits.specs.Bits.{Spells, spelled, bits_combination, bits_values, new_bits_of}
 use Rattle.tv_bits.specs.Order.{IsPrefixDifference}
 use Rattle.tv_bits.specs.Prefixes.{prefix_less_in, prefix_difference_of, prefix_difference_values}
-use Rattle.tv_bits.specs.Rows.{one_row}
 use Rattle.tv_bits.specs.declared.bit_wires.Bits.{Bits}
 use Rattle.tv_cmp.proofs.Decisions.{sign_in, decided, settled}
 use Rattle.tv_cmp.proofs.Flags.{greater_is, greater_flag-bit}
@@ -100,15 +99,15 @@ unfolding compare_of greater_of fresh put pure ◌>>=◌
 compare_answer w x y next =
     ap (λ g. record { equal = next; above = next + 1; greater = g }) (last w x y next)
   where
-    last : (w : ℕ) (x y : Bits) (next : ℕ) → (prefix_difference_of (one_row (word_bits w x)) (one_row (word_bits w y)) (wire (signed_size_of (w / 4) next (next + 1) (order_flags_of w next (next + 1) x y (next + 1 + 1)).next).answer) (w / 4) 4 (signed_size_of (w / 4) next (next + 1) (order_flags_of w next (next + 1) x y (next + 1 + 1)).next).next).next ≡ next + (w / 4 + 5)
-    last w x y next = prefix_difference_next (one_row (word_bits w x)) (one_row (word_bits w y)) (wire (signed_size_of (w / 4) next (next + 1) (order_flags_of w next (next + 1) x y (next + 1 + 1)).next).answer) (w / 4) 4 _
+    last : (w : ℕ) (x y : Bits) (next : ℕ) → (prefix_difference_of (word_bits w x) (word_bits w y) (wire (signed_size_of (w / 4) next (next + 1) (order_flags_of w next (next + 1) x y (next + 1 + 1)).next).answer) (w / 4) 4 (signed_size_of (w / 4) next (next + 1) (order_flags_of w next (next + 1) x y (next + 1 + 1)).next).next).next ≡ next + (w / 4 + 5)
+    last w x y next = prefix_difference_next (word_bits w x) (word_bits w y) (wire (signed_size_of (w / 4) next (next + 1) (order_flags_of w next (next + 1) x y (next + 1 + 1)).next).answer) (w / 4) 4 _
         ∙ omega (arith, signed_size_next (w / 4) next (next + 1) (order_flags_of w next (next + 1) x y (next + 1 + 1)).next, order_flags_next w next (next + 1) x y (next + 1 + 1))
 
 pub compare_next : (w : ℕ) (x y : Bits) (next : ℕ) → (compare_of w x y next).next ≡ next + (w / 4 + 6)
 unfolding compare_of greater_of fresh put pure ◌>>=◌
 compare_next w x y next =
     let size = signed_size_of (w / 4) next (next + 1) (order_flags_of w next (next + 1) x y (next + 1 + 1)).next in
-    omega (arith, prefix_difference_next (one_row (word_bits w x)) (one_row (word_bits w y)) (wire size.answer) (w / 4) 4 size.next, signed_size_next (w / 4) next (next + 1) (order_flags_of w next (next + 1) x y (next + 1 + 1)).next, order_flags_next w next (next + 1) x y (next + 1 + 1))
+    omega (arith, prefix_difference_next (word_bits w x) (word_bits w y) (wire size.answer) (w / 4) 4 size.next, signed_size_next (w / 4) next (next + 1) (order_flags_of w next (next + 1) x y (next + 1 + 1)).next, order_flags_next w next (next + 1) x y (next + 1 + 1))
 
 -- ---- the laws
 -- whether the first is greater, from whether it is above and the sign bits
@@ -128,13 +127,13 @@ compare_sound w width z next x y u v assigns s r meets =
     let a = next + 1 in
     let flags = order_flags_of w e a x y (next + 1 + 1) in
     let made = signed_size_of (w / 4) e a flags.next in
-    let prefix = prefix_difference_of (one_row (word_bits w x)) (one_row (word_bits w y)) (wire made.answer) (w / 4) 4 made.next in
+    let prefix = prefix_difference_of (word_bits w x) (word_bits w y) (wire made.answer) (w / 4) 4 made.next in
     let first = Meets-split z flags.list _ meets in
     let second = Meets-split z made.list _ first.1 in
     let third = Meets-split z prefix.list _ second.1 in
     let held = order_flags_sound z assigns w short e a x y (next + 1 + 1) u v s r first.0 in
     let sized = signed_size_sound z assigns (w / 4) e a flags.next (omega arith) second.0 in
-    let difference = bits_prefix_sound z made.next (word_bits w x) (word_bits w y) (wire made.answer) (w / 4) 4 u v (omega arith) (omega arith) (omega arith) (omega arith) (omega arith) assigns
+    let difference = prefix_difference_sound z made.next (word_bits w x) (word_bits w y) (wire made.answer) (w / 4) 4 u v (omega arith) (omega arith) (omega arith) (omega arith) (omega arith) assigns
     s r third.0 in
     let decision = decided w width u v (slice_index z e) (slice_index z a) sized.0 (slice_index z made.answer) (Spells-below s) (Spells-below r) (wire-below assigns e) sized.1 sized.2 (record {
       bit = held.0;
@@ -159,7 +158,7 @@ compare_complete w width z next x y u v assigns s r has =
     let at = next + 1 + 1 in
     let flags = order_flags_of w e a x y at in
     let made = signed_size_of (w / 4) e a flags.next in
-    let prefix = prefix_difference_of (one_row (word_bits w x)) (one_row (word_bits w y)) (wire made.answer) (w / 4) 4 made.next in
+    let prefix = prefix_difference_of (word_bits w x) (word_bits w y) (wire made.answer) (w / 4) 4 made.next in
     let held = settled w width u v (Spells-below s) (Spells-below r) in
     let sizes = HasFrom-split z at (bits_values (size w u v - 1) (w / 4)) _ has.1.1 in
     let rest = rw length-each_below at sizes.1 in
@@ -168,13 +167,13 @@ compare_complete w width z next x y u v assigns s r has =
     let flags_end = order_flags_next w e a x y at in
     let made_end : made.next ≡ at + w / 4 + 1 = signed_size_next (w / 4) e a flags.next ∙ ap (λ n. n + w / 4 + 1) flags_end in
     let made_at : made.answer ≡ at + w / 4 = signed_size_answer (w / 4) e a flags.next ∙ ap (λ n. n + w / 4) flags_end in
-    let prefix_end : prefix.next ≡ at + w / 4 + 1 + 2 = prefix_difference_next (one_row (word_bits w x)) (one_row (word_bits w y)) (wire made.answer) (w / 4) 4 made.next ∙ ap (λ n. n + 2) made_end in
+    let prefix_end : prefix.next ≡ at + w / 4 + 1 + 2 = prefix_difference_next (word_bits w x) (word_bits w y) (wire made.answer) (w / 4) 4 made.next ∙ ap (λ n. n + 2) made_end in
     let difference : value (wire made.answer) z ≡ signed_size w u v = value-wire assigns made.answer ∙ ap (λ k. slice_index z k) made_at ∙ rest.0 in
     let flags_met = order_flags_complete z assigns w short e a x y at u v s r
     (omega (arith, has.1.0, held.1.bit)) (ap (λ n. n * ((u + (P - v)) % P) % P) has.0 ∙ held.1.apart) (ap₂ (λ m n. m * n % P) has.1.0 has.0 ∙ held.1.one) in
     let made_met = signed_size_complete z assigns (w / 4) e a flags.next (size w u v - 1) (omega arith) held.0 (subst (λ n. HasFrom z n (bits_values (size w u v - 1) (w / 4))) (sym flags_end) sizes.0)
     (ap₂ (λ m n. sign_in m n * (size w u v - 1 + 1) % P) has.0 has.1.0 ∙ held.1.signed ∙ sym rest.0 ∙ ap (λ n. slice_index z (n + w / 4)) (sym flags_end)) in
-    let prefix_met = bits_prefix_complete z made.next (word_bits w x) (word_bits w y) (wire made.answer) (w / 4) 4 u v (omega arith) (omega arith) (omega arith) (omega arith) (omega arith) assigns
+    let prefix_met = prefix_difference_complete z made.next (word_bits w x) (word_bits w y) (wire made.answer) (w / 4) 4 u v (omega arith) (omega arith) (omega arith) (omega arith) (omega arith) assigns
     s r (subst (λ n. IsPrefixDifference (w / 4) 4 u v n) (sym difference) held.1.prefix)
     (subst (λ n. HasFrom z n (prefix_difference_values u v (value (wire made.answer) z) (w / 4) 4)) (sym made_end) (subst (λ n. HasFrom z (at + w / 4 + 1) (prefix_difference_values u v n (w / 4) 4)) (sym difference) products.0)) in
     let greater : slice_index z prefix.next ≡ greater_flag w u v = ap (λ n. slice_index z n) prefix_end ∙ last.0 in

@@ -4,7 +4,6 @@ use Rattle.tv_bits.specs.Bit.{bit_of}
 use Rattle.tv_bits.specs.Bits.{Spells, bits_combination, bits_values, new_bits_of}
 use Rattle.tv_bits.specs.Order.{first_difference}
 use Rattle.tv_bits.specs.Prefixes.{prefix_difference_of, prefix_difference_values}
-use Rattle.tv_bits.specs.Rows.{one_row}
 use Rattle.tv_bits.specs.declared.bit_wires.Bits.{Bits}
 use Rattle.tv_cmp.specs.declared.comparison.Cmp.{Cmp}
 use Rattle.tv_core.specs.Circuits.{Circuit, fresh, put, pure, ◌>>=◌}
@@ -75,7 +74,7 @@ compare_of w x y = do
   above ← fresh
   _ ← order_flags_of w equal above x y
   difference ← signed_size_of (w / 4) equal above
-  _ ← prefix_difference_of (one_row (word_bits w x)) (one_row (word_bits w y)) (wire difference) (w / 4) 4
+  _ ← prefix_difference_of (word_bits w x) (word_bits w y) (wire difference) (w / 4) 4
   greater ← greater_of w above x y
   pure (record { equal = equal; above = above; greater = greater })
 

@@ -8,8 +8,7 @@ ghost use Rattle.tv_word.specs.Widths.{IsWidth};
 ghost use Rattle.tv_word.specs.Word.{signed};
 
 use tv_bits::{
-    Bits, TwoRows, bit, fill_bits, fill_prefix_difference, first_difference, new_bits,
-    prefix_difference,
+    Bits, bit, fill_bits, fill_prefix_difference, first_difference, new_bits, prefix_difference,
 };
 use tv_core::{F, Lc, Put, Sink, Values, Wire, give_values};
 use tv_word::arithmetic::signed_word;
@@ -47,15 +46,7 @@ pub fn compare<const W: u32, S: Sink>(s: &mut S, x: &Bits, y: &Bits) -> Put<Cmp>
     let above = s.fresh();
     order_flags::<W, S>(s, equal, above, x, y)?;
     let difference = signed_size::<W, S>(s, equal, above)?;
-    let (first, second) = (TwoRows::of(x), TwoRows::of(y));
-    prefix_difference(
-        s,
-        &first,
-        &second,
-        &Lc::wire(difference),
-        W / CHUNKS,
-        CHUNKS,
-    )?;
+    prefix_difference(s, x, y, &Lc::wire(difference), W / CHUNKS, CHUNKS)?;
     let greater = greater::<W, S>(s, above, x, y)?;
     Ok(Cmp {
         equal,

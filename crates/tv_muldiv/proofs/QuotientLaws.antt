@@ -15,7 +15,7 @@ use Rattle.tv_core.specs.Laws.{Assigns, Meets, HasFrom, InField}
 use Rattle.tv_core.specs.declared.field.TheConstants.{P}
 use Rattle.tv_bits.proofs.BitLaws.{bit_sound, bit_complete, bit_next}
 use Rattle.tv_bits.proofs.NewBitsLaws.{bits_spell, bits_met}
-use Rattle.tv_bits.proofs.PrefixLaws.{bits_prefix_sound, bits_prefix_complete, prefix_difference_next, length-products, products_in_field}
+use Rattle.tv_bits.proofs.PrefixLaws.{prefix_difference_sound, prefix_difference_complete, prefix_difference_next, length-products, products_in_field}
 use Rattle.tv_bits.proofs.SizeLaws.{length-bits, bits_in_field, zero_flag-below}
 use Rattle.tv_bits.proofs.SpelledNumbers.{Spells-below, Spells-from_values, value-bits_below}
 use Rattle.tv_bits.proofs.SpellingLaws.{new_bits_answer, new_bits_next}
@@ -150,7 +150,7 @@ module _ (w : ℕ) (width : IsWidth w) (z : List ℕ) (assigns : Assigns z) (y :
       let both = Meets-split z (new_bits_of (w / 4) next).list _ meets in
       let s = bits_spell z (w / 4) next assigns both.0 in
       let rest = rw (new_bits_answer, new_bits_next) at both.1 in
-      let found = bits_prefix_sound z (next + w / 4) (record { first = y.first; n = w }) (record { first = at; n = w }) (less (bits_combination next (w / 4) ++ constant 1) (wire flag)) (w / 4) 4 b rem
+      let found = prefix_difference_sound z (next + w / 4) (record { first = y.first; n = w }) (record { first = at; n = w }) (less (bits_combination next (w / 4) ++ constant 1) (wire flag)) (w / 4) 4 b rem
       (omega arith) (omega arith) (omega arith) (omega arith) (omega arith) assigns q t rest in
       (spelled z next (w / 4), Spells-below s, rw (value-above (spelled z next (w / 4)) s) at found)
 
@@ -160,7 +160,7 @@ module _ (w : ℕ) (width : IsWidth w) (z : List ℕ) (assigns : Assigns z) (y :
   remainder_below_complete above d s is i has =
       let short = width_short w width in
       let same : d ≡ value (less (bits_combination next (w / 4) ++ constant 1) (wire flag)) z = is ∙ sym (value-above above s) in
-      let rest = bits_prefix_complete z (next + w / 4) (record { first = y.first; n = w }) (record { first = at; n = w }) (less (bits_combination next (w / 4) ++ constant 1) (wire flag)) (w / 4) 4 b rem
+      let rest = prefix_difference_complete z (next + w / 4) (record { first = y.first; n = w }) (record { first = at; n = w }) (less (bits_combination next (w / 4) ++ constant 1) (wire flag)) (w / 4) 4 b rem
       (omega arith) (omega arith) (omega arith) (omega arith) (omega arith) assigns q t (rw same at i) (rw same at has) in
       Meets-join z (new_bits_of (w / 4) next).list _ (bits_met z (w / 4) next assigns s.bits) (rw (new_bits_answer, new_bits_next) rest)
 

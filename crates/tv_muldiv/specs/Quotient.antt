@@ -4,7 +4,6 @@ use Rattle.tv_bits.specs.Bit.{bit_of}
 use Rattle.tv_bits.specs.Bits.{Spells, bits_combination, bits_values, new_bits_of}
 use Rattle.tv_bits.specs.Order.{first_difference}
 use Rattle.tv_bits.specs.Prefixes.{prefix_difference_of, prefix_difference_values}
-use Rattle.tv_bits.specs.Rows.{one_row}
 use Rattle.tv_bits.specs.Zero.{zero_flag}
 use Rattle.tv_bits.specs.declared.bit_wires.Bits.{Bits}
 use Rattle.tv_core.specs.Circuits.{Circuit, fresh, put, pure, ◌>>=◌}
@@ -62,7 +61,7 @@ division_of w x y made = do
 unfoldable pub remainder_below_of : ℕ → Bits → Quot → Circuit (Unit {0})
 remainder_below_of w y made = do
   above ← new_bits_of (w / 4)
-  prefix_difference_of (one_row (record { first = y.first; n = w })) (one_row made.rem) (less (bits_combination above.first (w / 4) ++ constant 1) (wire made.by_zero)) (w / 4) 4
+  prefix_difference_of (record { first = y.first; n = w }) made.rem (less (bits_combination above.first (w / 4) ++ constant 1) (wire made.by_zero)) (w / 4) 4
 
 -- division: the wires of an answer, that it is the quotient and the remainder, and that this is below the divisor
 unfoldable pub quotient_of : ℕ → Bits → Bits → Circuit Quot

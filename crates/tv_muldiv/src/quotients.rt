@@ -11,8 +11,7 @@ ghost use Rattle.tv_word.specs.Widths.{IsWidth};
 
 use crate::records::Quot;
 use tv_bits::{
-    Bits, TwoRows, bit, fill_bits, fill_prefix_difference, first_difference, new_bits,
-    prefix_difference,
+    Bits, bit, fill_bits, fill_prefix_difference, first_difference, new_bits, prefix_difference,
 };
 use tv_core::{F, Lc, Put, Sink, Values, Wire, give_values};
 use tv_word::arithmetic;
@@ -138,8 +137,7 @@ fn remainder_below<const W: u32, S: Sink>(s: &mut S, y: &Bits, made: &Quot) -> P
     let above = new_bits(s, W / CHUNKS)?;
     let mut difference = above.plus_one();
     difference.plus(-F::ONE, made.by_zero);
-    let (divisor, rem) = (TwoRows::of(y), TwoRows::of(&made.rem));
-    prefix_difference(s, &divisor, &rem, &difference, W / CHUNKS, CHUNKS)
+    prefix_difference(s, y, &made.rem, &difference, W / CHUNKS, CHUNKS)
 }
 
 /// Gives the `2 W + W / 4 + 4` values of the wires that `quotient` makes for bits that spell `x`

@@ -1,6 +1,6 @@
 use Rattle.tv_core.proofs.Chain.{chain, refused}
 use Rattle.tv_cmp.specs.Compare.{compare_of}
-use Rattle.tv_bits.proofs.RowLaws.{row_sized}
+use Rattle.tv_bits.proofs.SpelledNumbers.{bits_sized}
 use Rattle.tv_cmp.proofs.comparison.compare.Goals as goal
 
 pub returns-in_err-order_flags-clause-puts : goal.returns-in_err-order_flags-clause-puts
@@ -18,19 +18,19 @@ returns-in_err-difference-clause-puts g c =
 pub returns-in_err-prefix_difference-clause-puts : goal.returns-in_err-prefix_difference-clause-puts
 unfolding compare_of
 returns-in_err-prefix_difference-clause-puts g c =
-    let prefix = rw (c.of-first.ensures.rows, c.of-second.ensures.rows, c.wire.ensures, row_sized g.row.W c.args.x.now c.requires.x_word, row_sized g.row.W c.args.y.now c.requires.y_word) at c.in_err-prefix_difference.ensures.puts in
+    let prefix = rw (c.wire.ensures, bits_sized g.row.W c.args.x.now c.requires.x_word, bits_sized g.row.W c.args.y.now c.requires.y_word) at c.in_err-prefix_difference.ensures.puts in
     refused g.S.Sink.meaning _ _ _ c.from_residual-in_err-prefix_difference.result c.from_residual-in_err-prefix_difference.ensures.1
     (search (chain, c.fresh-equal.ensures.puts, c.fresh-above.ensures.puts, c.in_ok-order_flags.ensures.puts, c.in_ok-difference.ensures.puts, prefix))
 
 pub returns-in_err-greater-clause-puts : goal.returns-in_err-greater-clause-puts
 unfolding compare_of
 returns-in_err-greater-clause-puts g c =
-    let prefix = rw (c.of-first.ensures.rows, c.of-second.ensures.rows, c.wire.ensures, row_sized g.row.W c.args.x.now c.requires.x_word, row_sized g.row.W c.args.y.now c.requires.y_word) at c.in_ok-prefix_difference.ensures.puts in
+    let prefix = rw (c.wire.ensures, bits_sized g.row.W c.args.x.now c.requires.x_word, bits_sized g.row.W c.args.y.now c.requires.y_word) at c.in_ok-prefix_difference.ensures.puts in
     refused g.S.Sink.meaning _ _ _ c.from_residual-in_err-greater.result c.from_residual-in_err-greater.ensures.1
     (search (chain, c.fresh-equal.ensures.puts, c.fresh-above.ensures.puts, c.in_ok-order_flags.ensures.puts, c.in_ok-difference.ensures.puts, prefix, c.in_err-greater.ensures.puts) depth 8)
 
 pub returns-clause-puts : goal.returns-clause-puts
 unfolding compare_of
 returns-clause-puts g c =
-    let prefix = rw (c.of-first.ensures.rows, c.of-second.ensures.rows, c.wire.ensures, row_sized g.row.W c.args.x.now c.requires.x_word, row_sized g.row.W c.args.y.now c.requires.y_word) at c.in_ok-prefix_difference.ensures.puts in
+    let prefix = rw (c.wire.ensures, bits_sized g.row.W c.args.x.now c.requires.x_word, bits_sized g.row.W c.args.y.now c.requires.y_word) at c.in_ok-prefix_difference.ensures.puts in
     search (chain, c.fresh-equal.ensures.puts, c.fresh-above.ensures.puts, c.in_ok-order_flags.ensures.puts, c.in_ok-difference.ensures.puts, prefix, c.in_ok-greater.ensures.puts) depth 8
