@@ -4,8 +4,9 @@
 //!
 //! Contracts above cite `Spells`, which says that wires spell a number, and `IsOneHot`, that one
 //! wire of a row is 1. The law `.._fills` of a gadget says which wires it answers, where it ends,
-//! and that its generator gives one number of the field for each wire that it makes, whatever the
-//! next wire is.
+//! and that its values, those that its generator `fill_..` gives, are one number of the field for
+//! each wire that it makes, whatever the next wire is. `times`, `kept` and `ratio` have no
+//! generator: who knows the number gives it.
 #![tactic(auto)]
 
 mod bit_wires;
@@ -20,7 +21,7 @@ mod spelling;
 mod zeros;
 
 pub use bit_wires::Bits;
-pub use booleans::{bit, bit_by, bit_fills, bit_is_complete, bit_is_sound, fill_bit};
+pub use booleans::{bit, bit_by, bit_fills, bit_is_complete, bit_is_sound};
 pub use nonzeros::{fill_nonzero, nonzero, nonzero_fills, nonzero_is_complete, nonzero_is_sound};
 pub use pairs::{two_ands, two_ands_are_complete, two_ands_are_sound, two_ands_fill};
 pub use prefixes::{
@@ -28,9 +29,8 @@ pub use prefixes::{
     prefix_difference_is_complete, prefix_difference_is_sound,
 };
 pub use products::{
-    fill_kept, fill_ratio, fill_times, kept, kept_fills, kept_is_complete, kept_is_sound, ratio,
-    ratio_fills, ratio_is_complete, ratio_is_sound, times, times_fills, times_is_complete,
-    times_is_sound,
+    kept, kept_fills, kept_is_complete, kept_is_sound, ratio, ratio_fills, ratio_is_complete,
+    ratio_is_sound, times, times_fills, times_is_complete, times_is_sound,
 };
 pub use rows::{fill_onehot, onehot, onehot_fills, onehot_is_complete, onehot_is_sound, row_sum};
 pub use selection::{

@@ -1,14 +1,12 @@
-ghost use Rattle.std.specs.Prelude.{◌≡◌, ◌≤◌, ◌<◌, false, IfOk, OnOk};
-ghost use Rattle.tv_bits.specs.Ratio.{ratio_of, ratio_values, RatioIsSound, RatioIsComplete};
-ghost use Rattle.tv_bits.specs.Ratio.{RatioDivides, RatioSizes};
-ghost use Rattle.tv_bits.specs.Times.{times_of, times_values, TimesIsSound, TimesIsComplete};
-ghost use Rattle.tv_bits.specs.Times.{TimesSizes, kept_of, kept_values, KeptIsSound};
-ghost use Rattle.tv_bits.specs.Times.{KeptIsComplete, KeptSizes};
+ghost use Rattle.std.specs.Prelude.{◌≤◌, ◌<◌, IfOk};
+ghost use Rattle.tv_bits.specs.Ratio.{ratio_of, RatioIsSound, RatioIsComplete, RatioDivides};
+ghost use Rattle.tv_bits.specs.Ratio.{RatioSizes};
+ghost use Rattle.tv_bits.specs.Times.{times_of, TimesIsSound, TimesIsComplete, TimesSizes};
+ghost use Rattle.tv_bits.specs.Times.{kept_of, KeptIsSound, KeptIsComplete, KeptSizes};
 ghost use Rattle.tv_core.specs.Combinations.{top};
-ghost use Rattle.tv_core.specs.Giving.{GivesIn};
 ghost use Rattle.tv_core.specs.Sinks.{PutsIn, Grows, Room};
 
-use tv_core::{F, Lc, Put, Sink, Values, Wire};
+use tv_core::{F, Lc, Put, Sink, Wire};
 
 /// A wire that is `x` times `y`. It makes 1 wire and 1 constraint.
 pub fn times<S: Sink>(s: &mut S, x: &Lc, y: &Lc) -> Put<Wire>
@@ -26,15 +24,6 @@ pub fn times<S: Sink>(s: &mut S, x: &Lc, y: &Lc) -> Put<Wire>
     Ok(w)
 }
 
-/// Gives the value of the wire that `times` makes, `x` and `y` being those of its combinations.
-pub fn fill_times<V: Values>(v: &mut V, x: F, y: F) -> Put<()>
-    requires { V.giving.broken v.old ≡ false }
-    ensures gives { GivesIn V.giving v.old v.new (times_values x y) result }
-    ensures whole { OnOk result (V.giving.broken v.new ≡ false) }
-{
-    v.give(x * y)
-}
-
 /// A wire that holds the value of `x`. It makes 1 wire and 1 constraint, of 2 terms and those of
 /// `x`.
 pub fn kept<S: Sink>(s: &mut S, x: &Lc) -> Put<Wire>
@@ -45,15 +34,6 @@ pub fn kept<S: Sink>(s: &mut S, x: &Lc) -> Put<Wire>
     ensures below { IfOk result (λ w. w < S.meaning.wires s.new) }
 {
     times(s, x, &Lc::constant(F::ONE))
-}
-
-/// Gives the value of the wire that `kept` makes.
-pub fn fill_kept<V: Values>(v: &mut V, x: F) -> Put<()>
-    requires { V.giving.broken v.old ≡ false }
-    ensures gives { GivesIn V.giving v.old v.new (kept_values x) result }
-    ensures whole { OnOk result (V.giving.broken v.new ≡ false) }
-{
-    v.give(x)
 }
 
 /// A wire that times `x` is `y`. Where `x` is 0 the wire may hold anything, and `y` is held to 0.
@@ -73,30 +53,20 @@ pub fn ratio<S: Sink>(s: &mut S, x: &Lc, y: &Lc) -> Put<Wire>
     Ok(w)
 }
 
-/// Gives the value of the wire that `ratio` makes, `x` and `y` being those of its combinations: `y`
-/// divided by `x`, and 0 where `x` is 0. It takes an inversion; who knows the number gives it.
-pub fn fill_ratio<V: Values>(v: &mut V, x: F, y: F) -> Put<()>
-    requires { V.giving.broken v.old ≡ false }
-    ensures gives { GivesIn V.giving v.old v.new (ratio_values x y) result }
-    ensures whole { OnOk result (V.giving.broken v.new ≡ false) }
-{
-    v.give(y * x.inverse_or_zero())
-}
-
 /// Where an assignment meets what `times` put, the wire holds the product.
 #[tactic(auto, using(crate::proofs::TimesLaws::times_sound))]
 pub fn times_is_sound()
     ensures { TimesIsSound }
 {}
 
-/// Where an assignment has the value that `fill_times` gives, it meets what `times` put.
+/// Where an assignment has the product at the wire that was made, it meets what `times` put.
 #[tactic(auto, using(crate::proofs::TimesLaws::times_complete))]
 pub fn times_is_complete()
     ensures { TimesIsComplete }
 {}
 
-/// Says which wire `times` answers, and that `fill_times` gives one number for each wire that it
-/// makes.
+/// Says which wire `times` answers, and that its value, the product, is one number of the field for
+/// each wire that it makes.
 #[tactic(auto, using(crate::proofs::TimesLaws::times_sizes))]
 pub fn times_fills()
     ensures { TimesSizes }
@@ -114,8 +84,8 @@ pub fn kept_is_complete()
     ensures { KeptIsComplete }
 {}
 
-/// Says which wire `kept` answers, whatever the next wire is, and that `fill_kept` gives one value
-/// for it, below P.
+/// Says which wire `kept` answers, and that its value, the number kept, is one number of the field
+/// for each wire that it makes.
 #[tactic(auto, using(crate::proofs::TimesLaws::kept_sizes))]
 pub fn kept_fills()
     ensures { KeptSizes }
@@ -128,16 +98,16 @@ pub fn ratio_is_sound()
 {}
 
 /// Where an assignment has a number at the wire that times the first number is the second, it meets
-/// what `ratio` put; and what `fill_ratio` gives is one, unless the first number is 0 and the
-/// second isn't.
+/// what `ratio` put; and the second times the inverse of the first, 0 where the first is 0, is one,
+/// unless the first number is 0 and the second isn't.
 #[tactic(auto, using(crate::proofs::TimesLaws::ratio_laws))]
 pub fn ratio_is_complete()
     ensures meets { RatioIsComplete }
     ensures divides { RatioDivides }
 {}
 
-/// Says which wire `ratio` answers, and that `fill_ratio` gives one number for each wire that it
-/// makes.
+/// Says which wire `ratio` answers, and that this product is one number of the field for each wire
+/// that it makes.
 #[tactic(auto, using(crate::proofs::TimesLaws::ratio_sizes))]
 pub fn ratio_fills()
     ensures { RatioSizes }
