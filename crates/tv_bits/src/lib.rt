@@ -32,7 +32,7 @@ pub use products::{
     kept, kept_fills, kept_is_complete, kept_is_sound, ratio, ratio_fills, ratio_is_complete,
     ratio_is_sound, times, times_fills, times_is_complete, times_is_sound,
 };
-pub use rows::{fill_onehot, onehot, onehot_fills, onehot_is_complete, onehot_is_sound, row_sum};
+pub use rows::{fill_onehot, onehot, onehot_fills, onehot_is_complete, onehot_is_sound, plus_row};
 pub use selection::{
     fill_select, pick, pick_fills, pick_is_complete, pick_is_sound, select, select_fills,
     select_is_complete, select_is_sound, select_terms, select_wires,

@@ -1,4 +1,5 @@
-ghost use Rattle.std.specs.Prelude.{◌≡◌, ◌+◌, ◌≤◌, ◌<◌, ◌^◌, false, length, IfOk, OnOk};
+ghost use Rattle.std.specs.Prelude.{◌≡◌, ◌+◌, ◌≤◌, ◌<◌, ◌^◌, ◌++◌, false, length, max, IfOk};
+ghost use Rattle.std.specs.Prelude.{OnOk};
 ghost use Rattle.tv_bits.specs.OneHot.{row_sum, onehot_values, mark_of, onehot_of, OneHotIsSound};
 ghost use Rattle.tv_bits.specs.OneHot.{OneHotIsComplete, OneHotSizes};
 ghost use Rattle.tv_core.specs.Combinations.{top};
@@ -8,19 +9,18 @@ ghost use Rattle.tv_core.specs.Sinks.{PutsIn, Grows, Room};
 use crate::bit_wires::Bits;
 use tv_core::{F, Lc, Put, Scratch, Sink, Values, Wire};
 
-/// The sum of `count` wires that follow each other, at most 128.
-pub fn row_sum(first: Wire, count: u32) -> Lc
-    requires short { count ≤ 128 }
+/// Appends the sum of `count` wires that follow each other, as `count` terms; with them there are
+/// at most 128.
+pub fn plus_row(lc: &mut Lc, first: Wire, count: u32)
     requires within { first + count < 2 ^ 32 }
-    ensures terms { result ≡ row_sum first count }
-    ensures top { top result ≤ first + count }
-    ensures len { length result ≡ count }
+    requires room { length lc.old + count ≤ 128 }
+    ensures terms { lc.new ≡ lc.old ++ row_sum first count }
+    ensures top { top lc.new ≤ max (top lc.old) (first + count) }
+    ensures len { length lc.new ≡ length lc.old + count }
 {
-    let mut lc = Lc::empty();
     for i in 0..count {
         lc.plus(F::ONE, first.offset(i));
     }
-    lc
 }
 
 /// The first of 2^n wires of which the one whose number the bits spell is 1, and each other one 0;
@@ -40,8 +40,10 @@ pub fn onehot<S: Sink>(s: &mut S, x: &Bits) -> Put<Wire>
     for i in 0..count {
         mark(s, &mut scratch, &number, i)?;
     }
+    let mut sum = Lc::empty();
+    plus_row(&mut sum, first, count);
     let one = Lc::constant(F::ONE);
-    s.put(&row_sum(first, count), &one, &one)?;
+    s.put(&sum, &one, &one)?;
     Ok(first)
 }
 

@@ -1,6 +1,5 @@
-ghost use Rattle.std.specs.Prelude.{◌≡◌, ◌+◌, ◌≤◌, ◌<◌, ◌^◌, ◌++◌, false, length, max, IfOk, OnOk};
+ghost use Rattle.std.specs.Prelude.{◌≡◌, ◌+◌, ◌≤◌, ◌<◌, ◌^◌, false, length, IfOk, OnOk};
 ghost use Rattle.std.specs.List.{range_with_len};
-ghost use Rattle.tv_bits.specs.OneHot.{row_sum};
 ghost use Rattle.tv_core.specs.Combinations.{top};
 ghost use Rattle.tv_core.specs.Giving.{GivesIn};
 ghost use Rattle.tv_core.specs.Sinks.{PutsIn, Grows, Room};
@@ -9,7 +8,7 @@ ghost use Rattle.tv_regs.specs.Writing.{tie_of, regs_sum, written_regs, write_re
 ghost use Rattle.tv_regs.specs.Writing.{write_reg_values, WriteRegIsSound, WriteRegIsComplete};
 ghost use Rattle.tv_regs.specs.Writing.{WriteRegSizes};
 
-use tv_bits::select_wires;
+use tv_bits::{plus_row, select_wires};
 use tv_core::{F, Lc, Put, Scratch, Sink, Values, Wire, give_words};
 
 /// Registers of new wires: where the bit `on` is 1, the register whose number the one-hot row of
@@ -64,28 +63,15 @@ fn tie<S: Sink>(
 {
     set_sum(&mut scratch.a, regs);
     scratch.c.clear();
-    plus_row(&mut scratch.c, first);
+    plus_row(&mut scratch.c, first, 16);
     scratch.c.minus(&scratch.a);
     scratch.b.clear();
     scratch.b.plus_terms(x.terms());
-    plus_row(&mut scratch.b, first);
+    plus_row(&mut scratch.b, first, 16);
     scratch.b.plus(-F::ONE, v);
     scratch.b.minus(&scratch.a);
     scratch.a.set_wire(on);
     s.put(&scratch.a, &scratch.b, &scratch.c)
-}
-
-// Appends the sum of sixteen wires in a row.
-fn plus_row(lc: &mut Lc, first: Wire)
-    requires within { first + 16 < 2 ^ 32 }
-    requires room { length lc.old + 16 ≤ 128 }
-    ensures terms { lc.new ≡ lc.old ++ row_sum first 16 }
-    ensures len { length lc.new ≡ length lc.old + 16 }
-    ensures top { top lc.new ≤ max (top lc.old) (first + 16) }
-{
-    for i in 0..16 {
-        lc.plus(F::ONE, first.offset(i));
-    }
 }
 
 // Makes `lc` the sum of the registers.

@@ -40,7 +40,7 @@ returns-in_err-put-clause-puts g c =
     let all : c.loop-i.i ≡ 2 ^ c.args.x.now.n = omega arith in
     let first = puts_here_as m c.args.s.now c.wires.result c.wires.ensures in
     let turns = rw all at c.loop-i.invariant.puts in
-    let sum = rw (c.row_sum.ensures.terms, c.row_len-count.ensures, c.constant-one.ensures) at c.in_err-put.ensures.puts in
+    let sum = rw (c.plus_row.ensures.terms, c.empty-sum.ensures, c.row_len-count.ensures, c.constant-one.ensures) at c.in_err-put.ensures.puts in
     refused m _ _ _ c.from_residual-in_err-put.result c.from_residual-in_err-put.ensures.1 (search (chain, first, turns, sum))
 
 pub returns-clause-puts : goal.returns-clause-puts
@@ -49,5 +49,5 @@ returns-clause-puts g c =
     let all : c.loop-i.i ≡ 2 ^ c.args.x.now.n = omega arith in
     let first = puts_here_as g.S.Sink.meaning c.args.s.now c.wires.result c.wires.ensures in
     let turns = rw all at c.loop-i.invariant.puts in
-    let sum = rw (c.row_sum.ensures.terms, c.row_len-count.ensures, c.constant-one.ensures) at c.in_ok-put.ensures.puts in
+    let sum = rw (c.plus_row.ensures.terms, c.empty-sum.ensures, c.row_len-count.ensures, c.constant-one.ensures) at c.in_ok-put.ensures.puts in
     search (chain, first, turns, sum)

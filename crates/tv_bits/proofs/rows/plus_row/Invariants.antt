@@ -1,6 +1,6 @@
 use Rattle.std.proofs.Common.{◌≡◌, ◌++◌}
 use Rattle.tv_bits.specs.OneHot.{row_sum}
-use Rattle.tv_regs.proofs.writing.plus_row.Given as goal
+use Rattle.tv_bits.proofs.rows.plus_row.Given as goal
 
 abbrev pub invariant-loop-i : goal.invariant-loop-i
 invariant-loop-i l = l.lc ≡ l.initial.lc ++ row_sum l.first l.i

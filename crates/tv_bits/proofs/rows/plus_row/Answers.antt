@@ -4,7 +4,7 @@ use Rattle.tv_bits.specs.OneHot.{row_sum}
 use Rattle.tv_core.proofs.BelowLaws.{weighted-zero, weighted-suc, length-weighted, top-weighted}
 use Rattle.tv_core.proofs.CombinationLaws.{top-append}
 use Rattle.tv_core.specs.Combinations.{top}
-use Rattle.tv_regs.proofs.writing.plus_row.Goals as goal
+use Rattle.tv_bits.proofs.rows.plus_row.Goals as goal
 
 pub loop-i-init : goal.loop-i-init
 loop-i-init c = sym (ap (λ l. c.args.lc.now ++ l) (weighted-zero c.args.first (λ _. 1)) ∙ append-nil c.args.lc.now)

@@ -1,6 +1,0 @@
-use Rattle.std.proofs.Common.{◌≡◌}
-use Rattle.tv_bits.specs.OneHot.{row_sum}
-use Rattle.tv_bits.proofs.rows.row_sum.Given as goal
-
-abbrev pub invariant-loop-i : goal.invariant-loop-i
-invariant-loop-i l = l.lc ≡ row_sum l.first l.i
