@@ -7,7 +7,6 @@ use Rattle.tv_core.specs.Constraints.{Combination, value}
 use Rattle.tv_core.specs.Laws.{Assigns, Meets, HasFrom, Fills, InField}
 use Rattle.tv_core.specs.declared.field.TheConstants.{P}
 use Rattle.tv_isa.specs.Opcodes.{among, Entry, chosen}
-use Rattle.tv_regs.specs.declared.tables.NumberEntry.{NumberEntry}
 use Rattle.tv_regs.specs.declared.tables.WireEntry.{WireEntry}
 
 -- ---- tables
@@ -46,12 +45,9 @@ disjoint (e ∷ es) = apart_table e.ops es && disjoint es
 abbrev pub group : ℕ → List ℕ → Combination
 group op ks = map (λ k. (1, op + k)) ks
 
--- the table that entries of wires are, and the one that entries of numbers are
+-- the table that entries of wires are
 abbrev pub wire_table : List WireEntry → List (Entry Combination)
 wire_table entries = map (λ e. record { ops = e.ops.now; gives = e.gives.now }) entries
-
-abbrev pub number_table : List NumberEntry → List (Entry ℕ)
-number_table entries = map (λ e. record { ops = e.ops.now; gives = e.gives }) entries
 
 -- the numbers of a table of combinations, under an assignment
 abbrev pub numbers : List ℕ → List (Entry Combination) → List (Entry ℕ)

@@ -1,14 +1,12 @@
-ghost use Rattle.std.specs.Prelude.{◌≡◌, ◌+◌, ◌≤◌, ◌<◌, ◌^◌, true, false, All, length, IfOk, OnOk};
+ghost use Rattle.std.specs.Prelude.{◌≡◌, ◌+◌, ◌≤◌, ◌<◌, ◌^◌, true, All, length, IfOk};
 ghost use Rattle.tv_core.specs.Combinations.{top};
-ghost use Rattle.tv_core.specs.Giving.{GivesIn};
 ghost use Rattle.tv_core.specs.Sinks.{PutsIn, Grows, Room};
-ghost use Rattle.tv_isa.specs.Opcodes.{among, chosen};
-ghost use Rattle.tv_regs.specs.Choices.{group, disjoint, wire_table, number_table, IsEntry};
-ghost use Rattle.tv_regs.specs.Choices.{choice_of, choose_of, choose_values, GroupIsSound};
+ghost use Rattle.tv_regs.specs.Choices.{group, disjoint, wire_table, IsEntry};
+ghost use Rattle.tv_regs.specs.Choices.{choice_of, choose_of, GroupIsSound};
 ghost use Rattle.tv_regs.specs.Choices.{ChooseIsSound, ChooseIsComplete, ChooseSizes};
 
-use crate::tables::{NumberEntry, WireEntry};
-use tv_core::{F, Lc, Put, Scratch, Sink, Values, Wire};
+use crate::tables::WireEntry;
+use tv_core::{F, Lc, Put, Scratch, Sink, Wire};
 
 /// The sum of the wires at these opcodes in the one-hot row of 32 wires from `op` on: 1 where one
 /// of them is on, else 0.
@@ -87,40 +85,6 @@ fn choice<S: Sink>(
     s.put(&scratch.a, &scratch.b, &scratch.c)
 }
 
-/// Gives the value of the wire that `choose` makes: what a table of numbers gives for an opcode.
-pub fn fill_choose<V: Values>(v: &mut V, op: u8, table: &[NumberEntry<'_>]) -> Put<()>
-    requires whole { V.giving.broken v.old ≡ false }
-    ensures gives { GivesIn V.giving v.old v.new (choose_values op (number_table table.now))
-        result }
-    ensures whole { OnOk result (V.giving.broken v.new ≡ false) }
-{
-    v.give(chosen(op, table))
-}
-
-// The number of the first entry that has the opcode, and 0 where none does.
-fn chosen(op: u8, table: &[NumberEntry<'_>]) -> F
-    ensures { result ≡ chosen (number_table table.now) op }
-{
-    for entry in table {
-        if is_among(entry.ops, op) {
-            return entry.gives;
-        }
-    }
-    F::ZERO
-}
-
-// Whether an opcode is among these.
-fn is_among(ops: &[u8], op: u8) -> bool
-    ensures { result ≡ among ops.now op }
-{
-    for k in ops {
-        if *k == op {
-            return true;
-        }
-    }
-    false
-}
-
 /// Where an assignment has the one-hot row of an opcode, the sum of a group is 1 exactly where
 /// the group has it, and else 0.
 pub fn group_is_sound()
@@ -140,8 +104,8 @@ pub fn choose_is_complete()
     ensures { ChooseIsComplete }
 {}
 
-/// Says which wire `choose` answers, whatever the next wire is, and that `fill_choose` gives one
-/// value for it, below P.
+/// Says which wire `choose` answers, whatever the next wire is, and that its value, what a table of
+/// numbers below P gives for the opcode, is one number below P for each wire that it makes.
 #[tactic(auto, using(crate::proofs::ChoiceLaws::choose_sizes))]
 pub fn choose_fills()
     ensures { ChooseSizes }

@@ -10,12 +10,12 @@ mod tables;
 mod writing;
 
 pub use choices::{
-    choose, choose_fills, choose_is_complete, choose_is_sound, fill_choose, group, group_is_sound,
+    choose, choose_fills, choose_is_complete, choose_is_sound, group, group_is_sound,
 };
 pub use reading::{
     fill_read_reg, read_reg, read_reg_fills, read_reg_is_complete, read_reg_is_sound,
 };
-pub use tables::{NumberEntry, WireEntry};
+pub use tables::WireEntry;
 pub use writing::{
     fill_write_reg, wires_from, write_reg, write_reg_fills, write_reg_is_complete,
     write_reg_is_sound,

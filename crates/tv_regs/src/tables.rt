@@ -8,12 +8,3 @@ pub struct WireEntry<'a> {
     /// At most 64 terms.
     pub gives: &'a [(F, Wire)],
 }
-
-/// An entry of a table of numbers: some opcodes, and the number that they choose.
-#[derive(Clone, Copy, Debug)]
-pub struct NumberEntry<'a> {
-    /// The opcodes, below 32, each once.
-    pub ops: &'a [u8],
-    /// The number.
-    pub gives: F,
-}
