@@ -11,7 +11,15 @@ use Rattle.tv_r1cs_read.specs.R1cs.{system_of}
 use Rattle.tv_container.proofs.Chain.{refuses_first}
 use Rattle.tv_check.specs.declared.verdict.Verdict.{Verdict}
 use Rattle.tv_check.specs.declared.verdict.Verdict.TheVariants.{Yes, WireCount, NoPublic, NoConstraint}
-use Rattle.tv_check.specs.Verdict.{holds, first_failing, first_difference, constraint_verdict, public_verdict, judge, tried, verdict_of}
+use Rattle.tv_check.specs.Verdict.{holds, first_failing, first_difference, constraint_verdict, public_verdict, judge, verdict_of}
+
+-- the verdict once one more constraint is tried, the one with this number, which holds or not
+abbrev pub tried : Verdict → ℕ → Bool → Verdict
+tried Yes at true = Yes
+tried Yes at false = NoConstraint at
+tried (WireCount has wants) at holds = WireCount has wants
+tried (NoPublic at) next holds = NoPublic at
+tried (NoConstraint at) next holds = NoConstraint at
 
 -- the first that fails among some, else one more at this place
 abbrev with_last : Option ℕ → ℕ → Bool → Option ℕ

@@ -1,6 +1,6 @@
 -- The verdict on a system, an assignment and the public numbers that it is to extend: the first of
 -- these that is wrong is named: the number of values, a public wire, a constraint.
-use Rattle.std.specs.Prelude.{ℕ, suc, ◌+◌, ◌*◌, ◌%◌, ◌≤◌, Bool, true, false, List, [], ◌∷◌, length, take, Option, Some, None, Result, Ok, ◌==◌, if◌then◌else◌}
+use Rattle.std.specs.Prelude.{ℕ, suc, ◌+◌, ◌*◌, ◌%◌, ◌≤◌, Bool, List, [], ◌∷◌, length, take, Option, Some, None, Result, Ok, ◌==◌, if◌then◌else◌}
 use Rattle.std.specs.Option.{option_map}
 use Rattle.tv_core.specs.Constraints.{System, Constraint, value}
 use Rattle.tv_core.specs.declared.field.TheConstants.{P}
@@ -48,14 +48,6 @@ judge system z x =
     then public_verdict (first_difference (1 ∷ x) (take (1 + system.outputs + system.inputs) z))
     (constraint_verdict (first_failing z system.constraints))
     else WireCount (length z) system.wires
-
--- the verdict once one more constraint is tried, the one with this number, which holds or not
-abbrev pub tried : Verdict → ℕ → Bool → Verdict
-tried Yes at true = Yes
-tried Yes at false = NoConstraint at
-tried (WireCount has wants) at holds = WireCount has wants
-tried (NoPublic at) next holds = NoPublic at
-tried (NoConstraint at) next holds = NoConstraint at
 
 -- the verdict by the system that a file holds, or the file's first fault
 unfoldable pub verdict_of : List ℕ → List ℕ → List ℕ → Result Verdict Fault

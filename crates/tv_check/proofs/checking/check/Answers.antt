@@ -1,8 +1,8 @@
 use Rattle.std.proofs.Common.{◌≡◌, ◌+◌, ◌++◌, ◌∷◌, [], ap₂, sym, ◌∙◌, arith, rules, length, refl}
 use Rattle.std.proofs.lemmas.List.{length_push}
 use Rattle.tv_r1cs_read.specs.Places.{system_with}
-use Rattle.tv_check.specs.Verdict.{judge, tried}
-use Rattle.tv_check.proofs.Trying.{answers, judge-more, judge-stays, read_ends, read_passes, verdict_of-refuses}
+use Rattle.tv_check.specs.Verdict.{judge}
+use Rattle.tv_check.proofs.Trying.{tried, answers, judge-more, judge-stays, read_ends, read_passes, verdict_of-refuses}
 use Rattle.tv_check.proofs.checking.check.Goals.{then-not-holds, else-not-holds}
 use Rattle.tv_check.proofs.checking.check.Goals as goal
 
