@@ -5,6 +5,7 @@ use Rattle.tv_core.specs.Below.{each_below, joined_below}
 use Rattle.tv_isa.specs.Instruction.{encode}
 use Rattle.tv_isa.specs.Table.{shape_of}
 use Rattle.tv_isa.specs.declared.instr.Instr.{Instr}
+use Rattle.tv_isa.specs.declared.opcode.TheConstants.{STORE_B, STORE_W, READ, ANSWER}
 use Rattle.tv_isa.specs.declared.operation.Shape.{Shape}
 use Rattle.tv_isa.specs.declared.operation.Shape.TheVariants.{DestSourceA, DestA, SourceA, OnlyA, ADest, Unused}
 use Rattle.tv_step.specs.Machine.{start, end_of}
@@ -25,15 +26,15 @@ op_in g = if nat_lt (g % 25) 20 then g % 25 else g % 25 + 6
 
 -- a store and a read have an operand of their own: an address behind the program, and a tape from 0 to 2
 abbrev pub is_store : ℕ → Bool
-is_store op = op == 26 || op == 28
+is_store op = op == STORE_B || op == STORE_W
 
 abbrev pub imm_in : ℕ → Bool
-imm_in g = is_store (op_in g) || (op_in g == 30 || g / 2 ^ 8 % 2 == 1)
+imm_in g = is_store (op_in g) || (op_in g == READ || g / 2 ^ 8 % 2 == 1)
 
 abbrev pub whole_a : ℕ → ℕ
 whole_a g =
     if is_store (op_in g) then 65536 + g / 2 ^ 32 % 65536
-    else if op_in g == 30 then g / 2 ^ 32 % 3 else g / 2 ^ 32
+    else if op_in g == READ then g / 2 ^ 32 % 3 else g / 2 ^ 32
 
 -- the fields that a form names; the others are 0
 abbrev pub dest_if : Shape → ℕ → ℕ
@@ -65,7 +66,7 @@ instr_in g = record {
 
 -- `answer 0`
 abbrev pub last_instr : Instr
-last_instr = record { op = 31; imm = true; dest = 0; source = 0; a = 0 }
+last_instr = record { op = ANSWER; imm = true; dest = 0; source = 0; a = 0 }
 
 -- ---- what is drawn
 -- n words of 32 bits, from word i on

@@ -5,6 +5,7 @@ use Rattle.tv_core.specs.declared.limits.TheConstants.{NULL_CELL}
 use Rattle.tv_isa.specs.Instruction.{decode}
 use Rattle.tv_isa.specs.Opcodes.{among, chosen}
 use Rattle.tv_isa.specs.declared.instr.Instr.{Instr}
+use Rattle.tv_isa.specs.declared.opcode.TheConstants.{CMOV, STORE_B, STORE_W, READ, ANSWER}
 use Rattle.tv_mem.specs.Bytes.{byte_of}
 use Rattle.tv_step.specs.Rows.{word_size}
 use Rattle.tv_step.specs.Trace.{looked_at, tape_cell}
@@ -33,11 +34,11 @@ module _ (v : View) (i : Instr) where
 
   -- it reads the auxiliary tape, whose end was not found before
   abbrev pub asks : Bool
-  asks = (i.op == 30 && operand_word == 1) && v.ended == 0
+  asks = (i.op == READ && operand_word == 1) && v.ended == 0
 
   -- it takes the next of the primary tape's n words
   abbrev pub takes_primary : ℕ → Bool
-  takes_primary n = (i.op == 30 && operand_word == 0) && nat_lt v.taken n
+  takes_primary n = (i.op == READ && operand_word == 0) && nat_lt v.taken n
 
 -- a word, with b as its byte number j in place of the one that stands there
 abbrev pub with_byte_in : ℕ → ℕ → ℕ → ℕ
@@ -55,7 +56,7 @@ module _ (w n : ℕ) (v : View) (i : Instr) (o : ℕ) (takes : Bool) where
 
   -- the destination register is written
   abbrev pub writes : Bool
-  writes = if i.op == 19 then v.flag == 1 else among writer_ops i.op
+  writes = if i.op == CMOV then v.flag == 1 else among writer_ops i.op
 
   -- the view after the step; where it asks for an auxiliary word and takes none, the ended bit is set
   abbrev pub stepped : View
@@ -78,7 +79,7 @@ module _ (w n : ℕ) (v : View) (i : Instr) (o : ℕ) (takes : Bool) where
     cell = if takes_primary v i n then tape_cell v.taken else if touches v i then operand_word v i / word_size w else NULL_CELL;
     time = time;
     old = old_in;
-    new = if i.op == 28 then other_word v i else if i.op == 26 then with_byte_in o (operand_word v i % word_size w) (other_word v i % 256) else old_in;
+    new = if i.op == STORE_W then other_word v i else if i.op == STORE_B then with_byte_in o (operand_word v i % word_size w) (other_word v i % 256) else old_in;
   }
 
 -- ---- all that a step does
@@ -108,6 +109,6 @@ did_of w n time v head tail o takes = record {
   data_line = data_line w n v (decode w head tail) o takes (time + 2);
   takes = takes;
   word = o;
-  answers = (decode w head tail).op == 31;
+  answers = (decode w head tail).op == ANSWER;
   value = operand_word v (decode w head tail);
 }
