@@ -20,7 +20,7 @@ use Rattle.tv_word.proofs.WidthLaws.{width_short}
 use Rattle.tv_word.specs.Widths.{IsWidth}
 use Rattle.tv_block.proofs.BlockLaws.{step_in}
 use Rattle.tv_block.proofs.DataFills.{data_filled, data_fills, data_next, data_word}
-use Rattle.tv_block.proofs.DataLaws.{data_sound, one_tape}
+use Rattle.tv_block.proofs.DataLaws.{AreData, data_sound, one_tape}
 use Rattle.tv_block.proofs.FetchFills.{fetch_filled, fetch_fills, fetch_next}
 use Rattle.tv_block.proofs.GateFills.{some_had}
 use Rattle.tv_block.proofs.GroupFills.{groups_filled, groups_fills, groups_next}
@@ -32,17 +32,17 @@ use Rattle.tv_block.proofs.StoreFills.{store_filled, store_fills, store_next}
 use Rattle.tv_block.proofs.StoreLaws.{store_sound}
 use Rattle.tv_block.proofs.TableLaws.{flag_test}
 use Rattle.tv_block.proofs.TapeFills.{tapes_filled, tapes_fills, tapes_next, tapes_takes}
-use Rattle.tv_block.proofs.TapeLaws.{tapes_sound}
+use Rattle.tv_block.proofs.TapeLaws.{took, tapes_sound}
 use Rattle.tv_block.specs.Block.{compute_of, block_of, did, IsStep}
 use Rattle.tv_block.specs.Complete.{compute_made, block_made, BlockIsComplete}
-use Rattle.tv_block.specs.Data.{AreData, data_of}
+use Rattle.tv_block.specs.Data.{data_of}
 use Rattle.tv_block.specs.Fetch.{state_in, fetch_of}
 use Rattle.tv_block.specs.Groups.{groups_of}
 use Rattle.tv_block.specs.Operands.{operands_of}
 use Rattle.tv_block.specs.Pc.{pc_of}
 use Rattle.tv_block.specs.Result.{result_of, flag_table}
 use Rattle.tv_block.specs.Store.{store_of}
-use Rattle.tv_block.specs.Tapes.{took, tapes_of}
+use Rattle.tv_block.specs.Tapes.{tapes_of}
 use Rattle.tv_block.specs.Values.{fetch_values, operands_values, groups_values, tapes_values, data_values, store_values, result_values, pc_values, compute_values, block_values}
 use Rattle.tv_block.specs.declared.records.StateWires.{StateWires}
 

@@ -24,21 +24,21 @@ use Rattle.tv_regs.specs.Choices.{choose_of}
 use Rattle.tv_regs.specs.Reading.{words_at}
 use Rattle.tv_word.proofs.WidthLaws.{width_short, for_widths}
 use Rattle.tv_word.specs.Widths.{IsWidth}
-use Rattle.tv_block.proofs.DataLaws.{data_sound, one_tape}
-use Rattle.tv_block.proofs.PartLaws.{fetch_sound, operands_sound, groups_sound}
+use Rattle.tv_block.proofs.DataLaws.{AreData, data_sound, one_tape}
+use Rattle.tv_block.proofs.PartLaws.{IsFetched, head_in, tail_in, AreOperands, fetch_sound, operands_sound, groups_sound}
 use Rattle.tv_block.proofs.PcLaws.{pc_sound}
-use Rattle.tv_block.proofs.StoreLaws.{store_sound}
+use Rattle.tv_block.proofs.StoreLaws.{AreStore, store_sound}
 use Rattle.tv_block.proofs.TableLaws.{flag_sound, result_sound, flag_test}
-use Rattle.tv_block.proofs.TapeLaws.{tapes_sound}
+use Rattle.tv_block.proofs.TapeLaws.{took, tapes_sound}
 use Rattle.tv_block.specs.Block.{compute_of, word_inverse, cell_of, block_of, BlockIsStep, BlockIsSound}
-use Rattle.tv_block.specs.Data.{AreData, data_of}
-use Rattle.tv_block.specs.Fetch.{IsFetched, state_in, head_in, tail_in, fetch_of}
+use Rattle.tv_block.specs.Data.{data_of}
+use Rattle.tv_block.specs.Fetch.{state_in, fetch_of}
 use Rattle.tv_block.specs.Groups.{groups_of}
-use Rattle.tv_block.specs.Operands.{AreOperands, operands_of}
+use Rattle.tv_block.specs.Operands.{operands_of}
 use Rattle.tv_block.specs.Pc.{pc_of}
 use Rattle.tv_block.specs.Result.{result_of, flag_table}
-use Rattle.tv_block.specs.Store.{AreStore, store_of}
-use Rattle.tv_block.specs.Tapes.{took, tapes_of}
+use Rattle.tv_block.specs.Store.{store_of}
+use Rattle.tv_block.specs.Tapes.{tapes_of}
 use Rattle.tv_block.specs.declared.computed.Computed.{Computed}
 use Rattle.tv_block.specs.declared.records.StateWires.{StateWires}
 use Rattle.tv_numbers.proofs.LineRows.{same_line}

@@ -35,9 +35,8 @@ use Rattle.tv_block.proofs.GateFills.{some_had}
 use Rattle.tv_block.proofs.GateLaws.{bit_times}
 use Rattle.tv_block.proofs.PartLaws.{flag-bit, selected_by}
 use Rattle.tv_block.proofs.TapeFills.{either}
-use Rattle.tv_block.proofs.TapeLaws.{sum_of_flags}
+use Rattle.tv_block.proofs.TapeLaws.{AreTapes, sum_of_flags}
 use Rattle.tv_block.specs.Data.{data_of}
-use Rattle.tv_block.specs.Tapes.{AreTapes}
 use Rattle.tv_block.specs.Values.{data_values}
 use Rattle.tv_block.specs.declared.records.StateWires.{StateWires}
 use Rattle.tv_block.specs.declared.records.Tapes.{Tapes}

@@ -1,5 +1,5 @@
 -- The laws of the data word.
-use Rattle.std.proofs.Common.{◌≡◌, ℕ, ◌+◌, ◌-◌, ◌*◌, ◌/◌, ◌%◌, ◌^◌, ◌<◌, ◌==◌, nat_lt, ◌&&◌, ◌||◌, Bool, true, false, if◌then◌else◌, ◌++◌, inl, inr, refl, sym, ◌∙◌, ap, ap₂, subst, arith, true≢false}
+use Rattle.std.proofs.Common.{◌≡◌, ℕ, ◌+◌, ◌-◌, ◌*◌, ◌/◌, ◌%◌, ◌^◌, ◌<◌, ◌==◌, nat_lt, ◌&&◌, ◌||◌, Bool, true, false, if◌then◌else◌, ◌++◌, inl, inr, refl, sym, ◌∙◌, ap, ap₂, subst, arith, true≢false, ◌≤◌, List}
 use Rattle.std.specs.Prelude.{slice_index}
 use Rattle.std.proofs.lemmas.Bool.{cases_eq, eqb-true, ne_eqb, and_parts}
 use Rattle.tv_bits.proofs.SelectLaws.{pick_sound}
@@ -8,18 +8,21 @@ use Rattle.tv_bits.proofs.SpellingLaws.{new_bits_sound}
 use Rattle.tv_bits.proofs.TimesLaws.{times_sound, kept_sound}
 use Rattle.tv_bits.specs.Bit.{IsBit}
 use Rattle.tv_bits.specs.Bits.{Spells, spelled, bits_combination, new_bits_of}
+use Rattle.tv_bits.specs.OneHot.{IsOneHot}
 use Rattle.tv_bits.specs.Select.{selected, pick_of}
 use Rattle.tv_bits.specs.Times.{times_of, kept_of}
+use Rattle.tv_bits.specs.declared.bit_wires.Bits.{Bits}
 use Rattle.tv_core.proofs.CombinationLaws.{value-append, value-wire, value-constant}
 use Rattle.tv_core.proofs.Meeting.{Meets-split}
 use Rattle.tv_core.specs.Circuits.{pure, ◌>>=◌}
 use Rattle.tv_core.specs.Combinations.{wire, constant}
 use Rattle.tv_core.specs.Constraints.{value}
+use Rattle.tv_core.specs.Laws.{Assigns, Meets}
 use Rattle.tv_core.specs.declared.field.TheConstants.{P}
 use Rattle.tv_core.specs.declared.limits.TheConstants.{TAPE_CELLS, NULL_CELL}
 use Rattle.tv_isa.specs.Opcodes.{among}
 use Rattle.tv_isa.specs.declared.instr.Instr.{Instr}
-use Rattle.tv_numbers.specs.Numbers.{operand_word, touches, asks, takes_primary}
+use Rattle.tv_numbers.specs.Numbers.{operand_word, touches, asks, takes_primary, found, old_in, data_line}
 use Rattle.tv_numbers.specs.Tables.{memory_ops}
 use Rattle.tv_numbers.specs.Views.{View, flag_of}
 use Rattle.tv_regs.proofs.ChoiceLaws.{group_sound}
@@ -29,9 +32,26 @@ use Rattle.tv_word.proofs.WidthLaws.{width_short, for_widths}
 use Rattle.tv_word.specs.Widths.{IsWidth}
 use Rattle.tv_block.proofs.GateLaws.{bit_times}
 use Rattle.tv_block.proofs.PartLaws.{flag-bit}
-use Rattle.tv_block.proofs.TapeLaws.{sum_of_flags}
-use Rattle.tv_block.specs.Data.{DataIsSound, data_of}
-use Rattle.tv_block.specs.Tapes.{took}
+use Rattle.tv_block.proofs.TapeLaws.{took, sum_of_flags, AreTapes}
+use Rattle.tv_block.specs.Data.{data_of}
+use Rattle.tv_block.specs.declared.records.Data.{Data}
+use Rattle.tv_block.specs.declared.records.StateWires.{StateWires}
+use Rattle.tv_block.specs.declared.records.Tapes.{Tapes}
+
+-- the wires are those of the data word o of an instruction, the state before it being v
+pub record AreData (w : ℕ) (z : List ℕ) (d : Data) (n : ℕ) (v : View) (i : Instr) (takes : Bool) (o : ℕ) : Type 0 where
+  pub bits : Spells z d.bits.first w o
+  pub word : slice_index z d.word ≡ o
+  pub cell : slice_index z d.cell ≡ (data_line w n v i o takes 0).cell
+  pub old : slice_index z d.old ≡ old_in w n v i o takes
+  pub read : slice_index z d.read ≡ (if found w n v i o takes then o else 0)
+
+-- an assignment that meets what was put does so
+abbrev pub DataIsSound : Type 0
+DataIsSound = (w : ℕ) → IsWidth w → (z : List ℕ) (next n : ℕ) (state : StateWires) (op : ℕ) (a : Bits) (t : Tapes) (v : View) (i : Instr) → n < 2 ^ 29
+    → v.taken ≤ n → slice_index z state.taken_of_primary ≡ v.taken → Assigns z → IsOneHot z op 32 i.op → Spells z a.first w (operand_word v i) → AreTapes z t n v i
+    → Meets z (data_of w state op a t next).list
+    → AreData w z (data_of w state op a t next).answer n v i (took z t) (spelled z (data_of w state op a t next).answer.bits.first w)
 
 -- a read touches no memory, and takes of one tape
 pub no_touch : (v : View) (i : Instr) (n : ℕ) → touches v i ≡ true → takes_primary v i n ≡ false

@@ -21,7 +21,8 @@ use Rattle.tv_word.specs.Widths.{IsWidth}
 use Rattle.tv_word.proofs.WidthLaws.{width_short}
 use Rattle.tv_regs.proofs.ChoiceLaws.{group_sound}
 use Rattle.tv_block.proofs.GateFills.{some_had}
-use Rattle.tv_block.specs.Fetch.{IsFetched, fetch_of}
+use Rattle.tv_block.proofs.PartLaws.{IsFetched}
+use Rattle.tv_block.specs.Fetch.{fetch_of}
 use Rattle.tv_block.specs.Values.{fetch_values}
 
 pub record Fetches (w : ℕ) (z : List ℕ) (next h u : ℕ) : Type 0 where

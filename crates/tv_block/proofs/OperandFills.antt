@@ -29,8 +29,8 @@ use Rattle.tv_regs.specs.Reading.{read_reg_of}
 use Rattle.tv_word.proofs.WidthLaws.{width_short}
 use Rattle.tv_word.specs.Widths.{IsWidth}
 use Rattle.tv_block.proofs.GateFills.{one_had, some_had}
-use Rattle.tv_block.proofs.PartLaws.{flag-bit, selected_by}
-use Rattle.tv_block.specs.Fetch.{IsFetched, state_in}
+use Rattle.tv_block.proofs.PartLaws.{IsFetched, flag-bit, selected_by}
+use Rattle.tv_block.specs.Fetch.{state_in}
 use Rattle.tv_block.specs.Operands.{operands_of}
 use Rattle.tv_block.specs.Values.{operands_values}
 use Rattle.tv_block.specs.declared.records.Fetched.{Fetched}

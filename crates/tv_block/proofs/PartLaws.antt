@@ -1,47 +1,57 @@
 -- The laws of the first parts of a step: its instruction, its operands, and the operations on them.
-use Rattle.std.proofs.Common.{◌≡◌, ℕ, ◌*◌, ◌%◌, Bool, true, false, if◌then◌else◌, refl, sym, ◌∙◌, ap, ap₂, subst, arith}
+use Rattle.std.proofs.Common.{◌≡◌, ℕ, ◌*◌, ◌%◌, Bool, true, false, if◌then◌else◌, refl, sym, ◌∙◌, ap, ap₂, subst, arith, List, length, ◌+◌, ◌^◌}
+use Rattle.std.specs.Prelude.{slice_index}
 use Rattle.tv_bits.proofs.SelectLaws.{select_sound, pick_sound}
 use Rattle.tv_bits.proofs.SpelledNumbers.{value-bits_below}
 use Rattle.tv_bits.proofs.SpellingLaws.{new_bits_sound, bits_sound, bits_answer}
 use Rattle.tv_bits.specs.Bit.{IsBit}
-use Rattle.tv_bits.specs.Bits.{Spells, bits_combination, new_bits_of, bits_of}
+use Rattle.tv_bits.specs.Bits.{Spells, bits_combination, new_bits_of, bits_of, spelled}
 use Rattle.tv_bits.specs.Select.{selected, select_of, pick_of}
 use Rattle.tv_bits.specs.declared.bit_wires.Bits.{Bits}
 use Rattle.tv_cmp.proofs.CompareLaws.{compare_sound}
-use Rattle.tv_cmp.specs.Compare.{compare_of}
+use Rattle.tv_cmp.specs.Compare.{compare_of, IsCompared}
 use Rattle.tv_core.proofs.CombinationLaws.{value-wire, value-constant}
 use Rattle.tv_core.proofs.Meeting.{Meets-split}
 use Rattle.tv_core.specs.Circuits.{put, pure, ◌>>=◌}
 use Rattle.tv_core.specs.Combinations.{wire}
+use Rattle.tv_core.specs.Laws.{Assigns, Meets}
 use Rattle.tv_core.specs.declared.field.TheConstants.{P}
 use Rattle.tv_decode.proofs.FieldsLaws.{fields_sound}
-use Rattle.tv_decode.specs.Fields.{fields_of}
+use Rattle.tv_decode.specs.Fields.{fields_of, AreFields}
 use Rattle.tv_isa.specs.Instruction.{decode}
 use Rattle.tv_isa.specs.Opcodes.{among}
+use Rattle.tv_isa.specs.declared.instr.Instr.{Instr}
 use Rattle.tv_limb.proofs.AddLaws.{add_sound}
 use Rattle.tv_limb.proofs.SubLaws.{sub_sound}
-use Rattle.tv_limb.specs.Difference.{sub_of}
-use Rattle.tv_limb.specs.Sum.{add_of}
+use Rattle.tv_limb.specs.Difference.{sub_of, difference, borrow}
+use Rattle.tv_limb.specs.Split.{SpellsParts}
+use Rattle.tv_limb.specs.Sum.{add_of, carry}
 use Rattle.tv_logic.proofs.LogicLaws.{logic_sound}
-use Rattle.tv_logic.specs.Logic.{logic_of}
+use Rattle.tv_logic.specs.Logic.{logic_of, IsLogic}
 use Rattle.tv_muldiv.proofs.ProductLaws.{product_sound}
 use Rattle.tv_muldiv.proofs.QuotientLaws.{quotient_sound}
 use Rattle.tv_muldiv.proofs.SignedHighLaws.{signed_high_sound}
-use Rattle.tv_muldiv.specs.Product.{product_of}
-use Rattle.tv_muldiv.specs.Quotient.{quotient_of}
-use Rattle.tv_muldiv.specs.SignedHigh.{signed_high_of}
+use Rattle.tv_muldiv.specs.Product.{product_of, IsProduct}
+use Rattle.tv_muldiv.specs.Quotient.{quotient_of, IsQuotient}
+use Rattle.tv_muldiv.specs.SignedHigh.{signed_high_of, IsSignedHigh}
+use Rattle.tv_numbers.specs.Numbers.{operand_word, other_word}
 use Rattle.tv_numbers.specs.Tables.{unused_ops, store_ops}
-use Rattle.tv_numbers.specs.Views.{flag_of}
+use Rattle.tv_numbers.specs.Views.{flag_of, View}
 use Rattle.tv_regs.proofs.ChoiceLaws.{group_sound}
 use Rattle.tv_regs.proofs.ReadLaws.{read_reg_sound}
 use Rattle.tv_regs.specs.Choices.{group}
 use Rattle.tv_regs.specs.Reading.{read_reg_of}
 use Rattle.tv_shift.proofs.ShiftLaws.{shift_sound}
-use Rattle.tv_shift.specs.Shift.{shift_of}
+use Rattle.tv_shift.specs.Shift.{shift_of, IsShifted}
 use Rattle.tv_word.proofs.WidthLaws.{width_short}
-use Rattle.tv_block.specs.Fetch.{FetchIsSound, state_in, fetch_of}
-use Rattle.tv_block.specs.Groups.{GroupsAreSound, groups_of}
-use Rattle.tv_block.specs.Operands.{OperandsAreSound, operands_of}
+use Rattle.tv_word.specs.Widths.{IsWidth}
+use Rattle.tv_block.specs.Fetch.{state_in, fetch_of}
+use Rattle.tv_block.specs.Groups.{groups_of}
+use Rattle.tv_block.specs.Operands.{operands_of}
+use Rattle.tv_block.specs.declared.records.Fetched.{Fetched}
+use Rattle.tv_block.specs.declared.records.Groups.{Groups}
+use Rattle.tv_block.specs.declared.records.Operands.{Operands}
+use Rattle.tv_block.specs.declared.records.StateWires.{StateWires}
 
 -- a flag that is 0 is of a test that failed
 flag_zero : (b : Bool) → flag_of b * (1 % P) % P ≡ 0 → b ≡ false
@@ -53,6 +63,25 @@ flag-bit true = omega arith
 flag-bit false = omega arith
 
 -- ---- the instruction
+-- the wires are those of the instruction of the words v and u, whose opcode is used
+pub record IsFetched (w : ℕ) (z : List ℕ) (f : Fetched) (v u : ℕ) : Type 0 where
+  pub head : Spells z f.head.first w v
+  pub tail : Spells z f.tail.first w u
+  pub fields : AreFields z f.fields (decode w v u)
+  pub used : among unused_ops (decode w v u).op ≡ false
+
+-- the words that were fetched
+abbrev pub head_in : ℕ → List ℕ → Fetched → ℕ
+head_in w z f = spelled z f.head.first w
+
+abbrev pub tail_in : ℕ → List ℕ → Fetched → ℕ
+tail_in w z f = spelled z f.tail.first w
+
+-- an assignment that meets what was put has an instruction there
+abbrev pub FetchIsSound : Type 0
+FetchIsSound = (w : ℕ) → IsWidth w → (z : List ℕ) (next : ℕ) → Assigns z → Meets z (fetch_of w next).list
+    → IsFetched w z (fetch_of w next).answer (head_in w z (fetch_of w next).answer) (tail_in w z (fetch_of w next).answer)
+
 pub fetch_sound : FetchIsSound
 unfolding fetch_of put pure ◌>>=◌
 fetch_sound w width z next assigns meets =
@@ -73,6 +102,21 @@ fetch_sound w width z next assigns meets =
     }
 
 -- ---- the operands
+-- the wires are those of the operands of an instruction, of w bits, the state before it being v
+pub record AreOperands (w : ℕ) (z : List ℕ) (o : Operands) (v : View) (i : Instr) : Type 0 where
+  pub operand : slice_index z o.operand ≡ operand_word v i
+  pub other : slice_index z o.other ≡ other_word v i
+  pub a : Spells z o.a.first w (operand_word v i)
+  pub x : Spells z o.x.first w (other_word v i)
+  pub a_size : o.a.n ≡ w
+  pub x_size : o.x.n ≡ w
+
+-- an assignment that meets what was put has the operands there
+abbrev pub OperandsAreSound : Type 0
+OperandsAreSound = (w : ℕ) → IsWidth w → (z : List ℕ) (next : ℕ) (state : StateWires) (f : Fetched) (v u : ℕ) → length state.regs ≡ 16 → Assigns z
+    → IsFetched w z f v u → Meets z (operands_of w state f next).list
+    → AreOperands w z (operands_of w state f next).answer (state_in z state) (decode w v u)
+
 -- a choice by a bit
 pub selected_by : (b : Bool) (n x y : ℕ) → n ≡ flag_of b → selected n x y ≡ (if b then x else y)
 selected_by true n x y e = rw e refl
@@ -117,6 +161,22 @@ operands_sound w width z next state f v u size assigns is meets =
     }
 
 -- ---- the operations
+-- the wires are those of the operations on the words x and a
+pub record AreGroups (w : ℕ) (z : List ℕ) (g : Groups) (x a : ℕ) : Type 0 where
+  pub sum : SpellsParts w 1 z g.sum ((x + a) % 2 ^ w) (carry w x a)
+  pub difference : SpellsParts w 1 z g.difference (difference w x a) (borrow x a)
+  pub order : IsCompared w z g.order x a
+  pub bitwise : IsLogic w z g.bitwise x a
+  pub shifted : IsShifted w z g.shifted x a
+  pub product : IsProduct w z g.product x a
+  pub high : IsSignedHigh w z g.high x a
+  pub quotient : IsQuotient w z g.quotient x a
+
+-- an assignment that meets what was put has the operations' answers there
+abbrev pub GroupsAreSound : Type 0
+GroupsAreSound = (w : ℕ) → IsWidth w → (z : List ℕ) (next : ℕ) (x a : Bits) (v u : ℕ) → Assigns z → Spells z x.first w v → Spells z a.first w u
+    → Meets z (groups_of w x a next).list → AreGroups w z (groups_of w x a next).answer v u
+
 pub groups_sound : GroupsAreSound
 unfolding groups_of pure ◌>>=◌
 groups_sound w width z next x a v u assigns s r meets =

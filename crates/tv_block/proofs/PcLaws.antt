@@ -8,22 +8,35 @@ use Rattle.tv_bits.proofs.SpelledNumbers.{value-bits_below, Spells-below, Spells
 use Rattle.tv_bits.proofs.ZeroLaws.{zero_sound, zero_flag-zero, zero_flag-other}
 use Rattle.tv_bits.specs.Bit.{IsBit}
 use Rattle.tv_bits.specs.Bits.{Spells, bits_combination}
+use Rattle.tv_bits.specs.OneHot.{IsOneHot}
 use Rattle.tv_bits.specs.Select.{selected, select_of}
 use Rattle.tv_bits.specs.Zero.{zero_flag, zero_of}
+use Rattle.tv_bits.specs.declared.bit_wires.Bits.{Bits}
 use Rattle.tv_core.proofs.CombinationLaws.{value-below, value-less, value-append, value-wire, value-constant, value-cons, value-scaled}
 use Rattle.tv_core.proofs.Meeting.{Meets-split}
 use Rattle.tv_core.specs.Circuits.{pure, ◌>>=◌}
 use Rattle.tv_core.specs.Combinations.{wire, constant, less}
 use Rattle.tv_core.specs.Constraints.{value}
+use Rattle.tv_core.specs.Laws.{Assigns, Meets}
 use Rattle.tv_core.specs.declared.field.TheConstants.{P}
 use Rattle.tv_isa.specs.Opcodes.{among, Entry, chosen}
+use Rattle.tv_isa.specs.declared.instr.Instr.{Instr}
 use Rattle.tv_numbers.specs.Numbers.{operand_word}
 use Rattle.tv_numbers.specs.Tables.{unused_ops, behind_pc, target, pcs}
+use Rattle.tv_numbers.specs.Views.{View}
 use Rattle.tv_regs.proofs.ChoiceLaws.{choose_sound}
 use Rattle.tv_regs.specs.Choices.{covers, numbers}
 use Rattle.tv_word.proofs.WidthLaws.{width_short, for_widths}
 use Rattle.tv_word.specs.Widths.{IsWidth}
-use Rattle.tv_block.specs.Pc.{PcIsSound, behind_in, target_in, pc_table, pc_of}
+use Rattle.tv_block.specs.Pc.{behind_in, target_in, pc_table, pc_of}
+use Rattle.tv_block.specs.declared.records.StateWires.{StateWires}
+
+-- an assignment that meets what was put has the program counter after the step there
+abbrev pub PcIsSound : Type 0
+PcIsSound = (w : ℕ) → IsWidth w → (z : List ℕ) (next : ℕ) (state : StateWires) (op : ℕ) (a : Bits) (v : View) (i : Instr) → v.pc < 2 ^ w → v.pc % (w / 4) ≡ 0
+    → IsBit v.flag → slice_index z state.pc ≡ v.pc → slice_index z state.flag ≡ v.flag → Assigns z → IsOneHot z op 32 i.op → among unused_ops i.op ≡ false
+    → Spells z a.first w (operand_word v i)
+    → Meets z (pc_of w state op a next).list → slice_index z (pc_of w state op a next).answer ≡ chosen (pcs w v.pc (operand_word v i) v.flag) i.op
 
 -- one more entry of a table
 pub entry_same : (ops : List ℕ) (a b : ℕ) (xs ys : List (Entry ℕ)) → a ≡ b → xs ≡ ys → ◌≡◌ {A = List (Entry ℕ)} (record { ops = ops; gives = a } ∷ xs) (record { ops = ops; gives = b } ∷ ys)

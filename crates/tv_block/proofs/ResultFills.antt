@@ -24,16 +24,13 @@ use Rattle.tv_regs.specs.Choices.{group, choose_of}
 use Rattle.tv_regs.specs.Reading.{words_at}
 use Rattle.tv_regs.specs.Writing.{written_regs, write_reg_values}
 use Rattle.tv_word.specs.Widths.{IsWidth}
-use Rattle.tv_block.proofs.PartLaws.{flag-bit, selected_by}
+use Rattle.tv_block.proofs.DataLaws.{AreData}
+use Rattle.tv_block.proofs.PartLaws.{AreGroups, AreOperands, flag-bit, selected_by}
+use Rattle.tv_block.proofs.StoreLaws.{AreStore}
 use Rattle.tv_block.proofs.TableLaws.{results_same, flags_same, tested, flag_test, if_flag}
 use Rattle.tv_block.proofs.TapeFills.{flag_in_field}
-use Rattle.tv_block.proofs.TapeLaws.{among_one}
-use Rattle.tv_block.specs.Data.{AreData}
-use Rattle.tv_block.specs.Groups.{AreGroups}
-use Rattle.tv_block.specs.Operands.{AreOperands}
+use Rattle.tv_block.proofs.TapeLaws.{AreTapes, took, among_one}
 use Rattle.tv_block.specs.Result.{result_table, flag_table, result_of}
-use Rattle.tv_block.specs.Store.{AreStore}
-use Rattle.tv_block.specs.Tapes.{AreTapes, took}
 use Rattle.tv_block.specs.Values.{result_values}
 use Rattle.tv_block.specs.declared.records.Data.{Data}
 use Rattle.tv_block.specs.declared.records.Fetched.{Fetched}

@@ -30,18 +30,17 @@ use Rattle.tv_word.proofs.WidthLaws.{for_widths, word_small}
 use Rattle.tv_word.specs.Widths.{IsWidth}
 use Rattle.tv_block.proofs.DataFills.{old_small as old_in_field}
 use Rattle.tv_block.proofs.GateFills.{some_had}
-use Rattle.tv_block.proofs.PartLaws.{flag-bit, selected_by}
+use Rattle.tv_block.proofs.PartLaws.{AreOperands, flag-bit, selected_by}
 use Rattle.tv_block.proofs.StoreLaws.{byte_value, two_byte, two_power, byte_by, power_is, value-power_by, put_in_by, patch_sound, place_small}
 use Rattle.tv_block.proofs.TapeFills.{either}
 use Rattle.tv_block.proofs.TapeLaws.{among_one}
-use Rattle.tv_block.specs.Data.{AreData}
-use Rattle.tv_block.specs.Operands.{AreOperands}
 use Rattle.tv_block.specs.Store.{store_of, patch_of, patch_of_two, patch_of_four, byte_of_bits, power_by}
 use Rattle.tv_block.specs.Values.{gained, patch_two_values, patch_four_values, patch_values, store_values}
 use Rattle.tv_block.specs.declared.records.Data.{Data}
 use Rattle.tv_block.specs.declared.records.Operands.{Operands}
 use Rattle.tv_mem.proofs.WordLaws.{rest_in}
 use Rattle.tv_shift.proofs.ShiftSizes.{word-below}
+use Rattle.tv_block.proofs.DataLaws.{AreData}
 
 two_filled : (z : List ℕ) (next : ℕ) (bits a x : Bits) (o at v : ℕ) → Assigns z → Spells z bits.first 16 o → Spells z a.first 16 at → Spells z x.first 16 v
     → HasFrom z next (patch_two_values o at v) → Meets z (patch_of_two bits a x next).list

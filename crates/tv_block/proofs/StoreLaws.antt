@@ -1,5 +1,5 @@
 -- The laws of a byte of the data word, and of the word after the step.
-use Rattle.std.proofs.Common.{◌≡◌, ℕ, zero, suc, ◌+◌, ◌-◌, ◌*◌, ◌/◌, ◌%◌, ◌^◌, ◌<◌, ◌==◌, if◌then◌else◌, List, [], ◌∷◌, ◌++◌, inl, inr, refl, sym, ◌∙◌, ap, ap₂, subst, arith}
+use Rattle.std.proofs.Common.{◌≡◌, ℕ, zero, suc, ◌+◌, ◌-◌, ◌*◌, ◌/◌, ◌%◌, ◌^◌, ◌<◌, ◌==◌, if◌then◌else◌, List, [], ◌∷◌, ◌++◌, inl, inr, refl, sym, ◌∙◌, ap, ap₂, subst, arith, Bool}
 use Rattle.std.specs.Int.{bit_at}
 use Rattle.std.specs.Prelude.{slice_index}
 use Rattle.tv_bits.proofs.BitLaws.{bit_cases}
@@ -8,6 +8,7 @@ use Rattle.tv_bits.proofs.SpelledNumbers.{value-bits_below, Spells-below, Spells
 use Rattle.tv_bits.proofs.TimesLaws.{times_sound}
 use Rattle.tv_bits.specs.Bit.{IsBit}
 use Rattle.tv_bits.specs.Bits.{Spells, bits_combination}
+use Rattle.tv_bits.specs.OneHot.{IsOneHot}
 use Rattle.tv_bits.specs.Select.{selected, select_of, pick_of}
 use Rattle.tv_bits.specs.Times.{times_of}
 use Rattle.tv_bits.specs.declared.bit_wires.Bits.{Bits}
@@ -18,17 +19,33 @@ use Rattle.tv_core.specs.Combinations.{wire, constant, less}
 use Rattle.tv_core.specs.Constraints.{value}
 use Rattle.tv_core.specs.Laws.{Assigns, Meets}
 use Rattle.tv_core.specs.declared.field.TheConstants.{P}
+use Rattle.tv_isa.specs.declared.instr.Instr.{Instr}
 use Rattle.tv_mem.specs.Bytes.{byte_of}
-use Rattle.tv_numbers.specs.Numbers.{operand_word, other_word, old_in, with_byte_in}
-use Rattle.tv_numbers.specs.Views.{flag_of}
+use Rattle.tv_numbers.specs.Numbers.{operand_word, other_word, old_in, with_byte_in, data_line}
+use Rattle.tv_numbers.specs.Views.{flag_of, View}
 use Rattle.tv_regs.proofs.ChoiceLaws.{group_sound}
 use Rattle.tv_regs.specs.Choices.{group}
 use Rattle.tv_word.proofs.WidthLaws.{for_widths, word_small}
 use Rattle.tv_word.specs.Widths.{IsWidth}
-use Rattle.tv_block.proofs.PartLaws.{flag-bit, selected_by}
+use Rattle.tv_block.proofs.DataLaws.{AreData}
+use Rattle.tv_block.proofs.PartLaws.{flag-bit, selected_by, AreOperands}
 use Rattle.tv_block.proofs.TapeLaws.{among_one}
-use Rattle.tv_block.specs.Store.{StoreIsSound, store_of, patch_of, patch_of_two, patch_of_four, byte_of_bits, power_by}
+use Rattle.tv_block.specs.Store.{store_of, patch_of, patch_of_two, patch_of_four, byte_of_bits, power_by}
+use Rattle.tv_block.specs.declared.records.Data.{Data}
+use Rattle.tv_block.specs.declared.records.Operands.{Operands}
 use Rattle.tv_block.specs.declared.records.Patch.{Patch}
+use Rattle.tv_block.specs.declared.records.Store.{Store}
+
+-- the wires are those of the byte of the data word o at the operand's address, and of the word after the step
+pub record AreStore (w : ℕ) (z : List ℕ) (s : Store) (n : ℕ) (v : View) (i : Instr) (takes : Bool) (o : ℕ) : Type 0 where
+  pub byte : slice_index z s.byte ≡ byte_of o (operand_word v i % (w / 8))
+  pub new : slice_index z s.new ≡ (data_line w n v i o takes 0).new
+
+-- an assignment that meets what was put does so
+abbrev pub StoreIsSound : Type 0
+StoreIsSound = (w : ℕ) → IsWidth w → (z : List ℕ) (next n op : ℕ) (operands : Operands) (d : Data) (v : View) (i : Instr) (takes : Bool) (o : ℕ)
+    → Assigns z → IsOneHot z op 32 i.op → AreOperands w z operands v i → AreData w z d n v i takes o
+    → Meets z (store_of w op operands d next).list → AreStore w z (store_of w op operands d next).answer n v i takes o
 
 -- a byte of a word of w bits that is spelled, m bits being above it
 pub byte_value : (z : List ℕ) (w : ℕ) (bits : Bits) (o j m : ℕ) → 8 * j + (8 + m) ≡ w → Spells z bits.first w o → value (byte_of_bits bits j) z ≡ o / 2 ^ (8 * j) % 2 ^ 8

@@ -1,5 +1,5 @@
 -- The laws of the result, the registers and the flag.
-use Rattle.std.proofs.Common.{◌≡◌, ℕ, ◌+◌, ◌-◌, ◌*◌, ◌%◌, ◌<◌, ◌==◌, not, ◌||◌, Bool, true, false, if◌then◌else◌, List, [], ◌∷◌, ◌++◌, inl, inr, refl, sym, ◌∙◌, ap, ap₂, subst, arith}
+use Rattle.std.proofs.Common.{◌≡◌, ℕ, ◌+◌, ◌-◌, ◌*◌, ◌%◌, ◌<◌, ◌==◌, not, ◌||◌, Bool, true, false, if◌then◌else◌, List, [], ◌∷◌, ◌++◌, inl, inr, refl, sym, ◌∙◌, ap, ap₂, subst, arith, length}
 use Rattle.std.specs.Prelude.{slice_index, slice_set}
 use Rattle.std.proofs.lemmas.Bool.{agree_below_at, cases_eq, ne_eqb}
 use Rattle.tv_bits.proofs.BitLaws.{bit_cases}
@@ -7,13 +7,14 @@ use Rattle.tv_bits.proofs.SelectLaws.{pick_sound}
 use Rattle.tv_bits.proofs.SpelledNumbers.{value-bits_below, Spells-below, Spells-bit_at, Spells-one}
 use Rattle.tv_bits.specs.Bit.{IsBit}
 use Rattle.tv_bits.specs.Bits.{Spells, bits_combination}
+use Rattle.tv_bits.specs.OneHot.{IsOneHot}
 use Rattle.tv_bits.specs.Select.{pick_of}
 use Rattle.tv_core.proofs.CombinationLaws.{value-less, value-append, value-wire, value-constant}
 use Rattle.tv_core.proofs.Meeting.{Meets-split}
 use Rattle.tv_core.specs.Circuits.{◌>>=◌}
 use Rattle.tv_core.specs.Combinations.{wire, constant, less}
 use Rattle.tv_core.specs.Constraints.{value}
-use Rattle.tv_core.specs.Laws.{Assigns}
+use Rattle.tv_core.specs.Laws.{Assigns, Meets}
 use Rattle.tv_core.specs.declared.field.TheConstants.{P}
 use Rattle.tv_isa.specs.Opcodes.{among, chosen}
 use Rattle.tv_isa.specs.declared.instr.Instr.{Instr}
@@ -30,15 +31,10 @@ use Rattle.tv_word.proofs.WidthLaws.{width_short}
 use Rattle.tv_word.specs.Twos.{fits}
 use Rattle.tv_word.specs.Widths.{IsWidth}
 use Rattle.tv_block.proofs.NumberLaws.{over_is, left_is, right_is, bit_is, at_least_is, not_less_is, turned_flag}
-use Rattle.tv_block.proofs.PartLaws.{flag-bit, selected_by}
+use Rattle.tv_block.proofs.PartLaws.{AreGroups, AreOperands, flag-bit, selected_by}
 use Rattle.tv_block.proofs.PcLaws.{entry_same}
-use Rattle.tv_block.proofs.TapeLaws.{among_one}
-use Rattle.tv_block.specs.Data.{AreData}
-use Rattle.tv_block.specs.Groups.{AreGroups}
-use Rattle.tv_block.specs.Operands.{AreOperands}
-use Rattle.tv_block.specs.Result.{ResultIsSound, FlagIsSound, result_table, flag_table, result_of}
-use Rattle.tv_block.specs.Store.{AreStore}
-use Rattle.tv_block.specs.Tapes.{AreTapes, took}
+use Rattle.tv_block.proofs.TapeLaws.{AreTapes, took, among_one}
+use Rattle.tv_block.specs.Result.{result_table, flag_table, result_of}
 use Rattle.tv_block.specs.declared.records.Data.{Data}
 use Rattle.tv_block.specs.declared.records.Groups.{Groups}
 use Rattle.tv_block.specs.declared.records.Operands.{Operands}
@@ -46,6 +42,27 @@ use Rattle.tv_block.specs.declared.records.StateWires.{StateWires}
 use Rattle.tv_block.specs.declared.records.Store.{Store}
 use Rattle.tv_block.specs.declared.records.Tapes.{Tapes}
 use Rattle.tv_numbers.proofs.RangeLaws.{flag_small}
+use Rattle.tv_regs.specs.Reading.{words_at}
+use Rattle.tv_block.proofs.DataLaws.{AreData}
+use Rattle.tv_block.proofs.StoreLaws.{AreStore}
+use Rattle.tv_block.specs.declared.records.Fetched.{Fetched}
+
+-- an assignment that meets what was put has the registers after the step there
+abbrev pub ResultIsSound : Type 0
+ResultIsSound = (w : ℕ) → IsWidth w → (z : List ℕ) (next n : ℕ) (state : StateWires) (f : Fetched) (operands : Operands) (g : Groups) (d : Data) (s : Store)
+    (v : View) (i : Instr) (takes : Bool) (o : ℕ) → length state.regs ≡ 16 → Assigns z → IsOneHot z f.fields.op 32 i.op → IsOneHot z f.fields.dest 16 i.dest
+    → AreOperands w z operands v i → AreGroups w z g (other_word v i) (operand_word v i) → AreData w z d n v i takes o → AreStore w z s n v i takes o
+    → IsBit v.flag → slice_index z state.flag ≡ v.flag → words_at z state.regs ≡ v.regs → Meets z (result_of w state f operands g d s next).list
+    → words_at z (result_of w state f operands g d s next).answer ≡ (if writes w n v i o takes then slice_set v.regs i.dest (result_in w n v i o takes) else v.regs)
+
+-- and one that meets the choice of the flag has the flag after the step
+abbrev pub FlagIsSound : Type 0
+FlagIsSound = (w : ℕ) → IsWidth w → (z : List ℕ) (next op n : ℕ) (v : View) (i : Instr) (o : ℕ) (state : StateWires) (operands : Operands) (g : Groups) (t : Tapes)
+    → Assigns z → IsOneHot z op 32 i.op → AreOperands w z operands v i → AreGroups w z g (other_word v i) (operand_word v i) → AreTapes z t n v i
+    → (takes_primary v i n ≡ true → took z t ≡ false) → slice_index z state.flag ≡ v.flag → among unused_ops i.op ≡ false
+    → Meets z (choose_of op (flag_table w state operands g t) next).list
+    → slice_index z (choose_of op (flag_table w state operands g t) next).answer
+    ≡ chosen (flags w (other_word v i) (operand_word v i) (found w n v i o (took z t)) v.flag) i.op
 
 module _ (w : ℕ) (width : IsWidth w) (z : List ℕ) (assigns : Assigns z) (n : ℕ) (v : View) (i : Instr) (takes : Bool) (o : ℕ) (operands : Operands) (g : Groups) (d : Data) (s : Store) (are : AreOperands w z operands v i) (gs : AreGroups w z g (other_word v i) (operand_word v i)) (ds : AreData w z d n v i takes o) (ss : AreStore w z s n v i takes o) where
   word_is : (first v : ℕ) → Spells z first w v → value (bits_combination first w) z ≡ v

@@ -1,5 +1,5 @@
 -- The laws of the tapes.
-use Rattle.std.proofs.Common.{◌≡◌, ℕ, ◌+◌, ◌-◌, ◌*◌, ◌/◌, ◌%◌, ◌^◌, ◌<◌, ◌≤◌, ◌==◌, nat_lt, not, ◌&&◌, ◌||◌, Bool, true, false, if◌then◌else◌, [], ◌∷◌, ◌++◌, inl, inr, refl, sym, ◌∙◌, ap, ap₂, subst, arith, true≢false, zero-mul}
+use Rattle.std.proofs.Common.{◌≡◌, ℕ, ◌+◌, ◌-◌, ◌*◌, ◌/◌, ◌%◌, ◌^◌, ◌<◌, ◌≤◌, ◌==◌, nat_lt, not, ◌&&◌, ◌||◌, Bool, true, false, if◌then◌else◌, [], ◌∷◌, ◌++◌, inl, inr, refl, sym, ◌∙◌, ap, ap₂, subst, arith, true≢false, zero-mul, List}
 use Rattle.std.specs.Int.{bit_at}
 use Rattle.std.specs.Prelude.{slice_index}
 use Rattle.std.proofs.lemmas.Bool.{cases_eq, cases_lt, eq-eqb, ne_eqb, lt-ltb, le-ltb}
@@ -7,22 +7,48 @@ use Rattle.tv_bits.proofs.SpelledNumbers.{value-bits_below, Spells-high, Spells-
 use Rattle.tv_bits.proofs.TimesLaws.{times_sound, kept_sound}
 use Rattle.tv_bits.specs.Bit.{IsBit}
 use Rattle.tv_bits.specs.Bits.{Spells, bits_combination}
+use Rattle.tv_bits.specs.OneHot.{IsOneHot}
 use Rattle.tv_bits.specs.Times.{times_of, kept_of}
+use Rattle.tv_bits.specs.declared.bit_wires.Bits.{Bits}
 use Rattle.tv_core.proofs.CombinationLaws.{value-less, value-append, value-wire, value-constant}
 use Rattle.tv_core.proofs.Meeting.{Meets-split}
 use Rattle.tv_core.specs.Circuits.{fresh, pure, ◌>>=◌}
 use Rattle.tv_core.specs.Combinations.{wire, constant, less}
 use Rattle.tv_core.specs.Constraints.{value}
+use Rattle.tv_core.specs.Laws.{Assigns, Meets}
 use Rattle.tv_core.specs.declared.field.TheConstants.{P}
 use Rattle.tv_isa.specs.Opcodes.{among}
+use Rattle.tv_isa.specs.declared.instr.Instr.{Instr}
 use Rattle.tv_numbers.specs.Numbers.{operand_word, asks, takes_primary}
-use Rattle.tv_numbers.specs.Views.{flag_of}
+use Rattle.tv_numbers.specs.Views.{flag_of, View}
 use Rattle.tv_regs.proofs.ChoiceLaws.{group_sound}
 use Rattle.tv_regs.specs.Choices.{group}
 use Rattle.tv_word.proofs.WidthLaws.{width_short}
+use Rattle.tv_word.specs.Widths.{IsWidth}
 use Rattle.tv_block.proofs.GateLaws.{if_zero_sound, unless_zero_sound, taking_sound}
 use Rattle.tv_block.specs.Gates.{if_zero_of, unless_zero_of, taking_of}
-use Rattle.tv_block.specs.Tapes.{TapesAreSound, tapes_of}
+use Rattle.tv_block.specs.Tapes.{tapes_of}
+use Rattle.tv_block.specs.declared.records.StateWires.{StateWires}
+use Rattle.tv_block.specs.declared.records.Tapes.{Tapes}
+
+-- whether the step takes a word of the auxiliary tape
+abbrev pub took : List ℕ → Tapes → Bool
+took z t = slice_index z t.takes == 1
+
+-- the wires are those of what an instruction does to the tapes, the state before it being v; a word of the auxiliary
+-- tape is taken only where one is asked for
+pub record AreTapes (z : List ℕ) (t : Tapes) (n : ℕ) (v : View) (i : Instr) : Type 0 where
+  pub primary : slice_index z t.primary ≡ flag_of (takes_primary v i n)
+  pub taken : slice_index z t.taken ≡ (if takes_primary v i n then v.taken + 1 else v.taken)
+  pub takes : slice_index z t.takes ≡ flag_of (took z t)
+  pub asked : took z t ≡ true → asks v i ≡ true
+  pub ended : slice_index z t.ended ≡ (if asks v i && not (took z t) then 1 else v.ended)
+
+-- an assignment that meets what was put does so
+abbrev pub TapesAreSound : Type 0
+TapesAreSound = (w : ℕ) → IsWidth w → (z : List ℕ) (next n : ℕ) (state : StateWires) (op : ℕ) (a : Bits) (v : View) (i : Instr) → n < 2 ^ 29
+    → v.taken ≤ n → IsBit v.ended → slice_index z state.taken_of_primary ≡ v.taken → slice_index z state.aux_ended ≡ v.ended → Assigns z → IsOneHot z op 32 i.op
+    → Spells z a.first w (operand_word v i) → Meets z (tapes_of w n state op a next).list → AreTapes z (tapes_of w n state op a next).answer n v i
 
 -- ---- tests
 pub among_one : (j k : ℕ) → among (j ∷ []) k ≡ (k == j)

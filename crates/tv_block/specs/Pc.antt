@@ -1,22 +1,14 @@
 -- The program counter after a step.
-use Rattle.std.specs.Prelude.{◌≡◌, ℕ, ◌+◌, ◌-◌, ◌/◌, ◌%◌, ◌^◌, ◌<◌, false, List, [], ◌∷◌, ◌++◌, slice_index}
-use Rattle.tv_bits.specs.Bit.{IsBit}
-use Rattle.tv_bits.specs.Bits.{Spells, bits_combination}
-use Rattle.tv_bits.specs.OneHot.{IsOneHot}
+use Rattle.std.specs.Prelude.{ℕ, ◌+◌, ◌-◌, ◌/◌, ◌^◌, List, [], ◌∷◌, ◌++◌}
+use Rattle.tv_bits.specs.Bits.{bits_combination}
 use Rattle.tv_bits.specs.Select.{select_of}
 use Rattle.tv_bits.specs.Zero.{zero_of}
 use Rattle.tv_bits.specs.declared.bit_wires.Bits.{Bits}
 use Rattle.tv_core.specs.Circuits.{Circuit, ◌>>=◌}
 use Rattle.tv_core.specs.Combinations.{wire, constant, less, scaled}
 use Rattle.tv_core.specs.Constraints.{Combination}
-use Rattle.tv_core.specs.Laws.{Assigns, Meets}
 use Rattle.tv_core.specs.declared.field.TheConstants.{P}
-use Rattle.tv_isa.specs.Opcodes.{among, Entry, chosen}
-use Rattle.tv_isa.specs.declared.instr.Instr.{Instr}
-use Rattle.tv_numbers.specs.Numbers.{operand_word}
-use Rattle.tv_numbers.specs.Tables.{unused_ops, pcs}
-use Rattle.tv_numbers.specs.Views.{View}
-use Rattle.tv_word.specs.Widths.{IsWidth}
+use Rattle.tv_isa.specs.Opcodes.{Entry}
 use Rattle.tv_regs.specs.Choices.{choose_of}
 use Rattle.tv_block.specs.Result.{entry}
 use Rattle.tv_block.specs.declared.records.StateWires.{StateWires}
@@ -45,10 +37,3 @@ pc_of w state op a = do
   wraps ← zero_of (less (wire state.pc) (constant (2 ^ w - w / 4)))
   jumped ← select_of state.flag (target_in w a) (behind_in w state.pc wraps)
   choose_of op (pc_table w state.pc a wraps jumped)
-
--- an assignment that meets what was put has the program counter after the step there
-abbrev pub PcIsSound : Type 0
-PcIsSound = (w : ℕ) → IsWidth w → (z : List ℕ) (next : ℕ) (state : StateWires) (op : ℕ) (a : Bits) (v : View) (i : Instr) → v.pc < 2 ^ w → v.pc % (w / 4) ≡ 0
-    → IsBit v.flag → slice_index z state.pc ≡ v.pc → slice_index z state.flag ≡ v.flag → Assigns z → IsOneHot z op 32 i.op → among unused_ops i.op ≡ false
-    → Spells z a.first w (operand_word v i)
-    → Meets z (pc_of w state op a next).list → slice_index z (pc_of w state op a next).answer ≡ chosen (pcs w v.pc (operand_word v i) v.flag) i.op

@@ -1,27 +1,14 @@
 -- The registers and the flag after a step.
-use Rattle.std.specs.Prelude.{◌≡◌, ℕ, ◌+◌, ◌-◌, false, true, if◌then◌else◌, Bool, List, [], ◌∷◌, ◌++◌, length, slice_index, slice_set}
-use Rattle.tv_bits.specs.Bit.{IsBit}
+use Rattle.std.specs.Prelude.{ℕ, ◌+◌, ◌-◌, List, [], ◌∷◌, ◌++◌}
 use Rattle.tv_bits.specs.Bits.{bits_combination}
-use Rattle.tv_bits.specs.OneHot.{IsOneHot}
 use Rattle.tv_bits.specs.Select.{pick_of}
 use Rattle.tv_core.specs.Circuits.{Circuit, ◌>>=◌}
 use Rattle.tv_core.specs.Combinations.{wire, constant, less}
 use Rattle.tv_core.specs.Constraints.{Combination}
-use Rattle.tv_core.specs.Laws.{Assigns, Meets}
-use Rattle.tv_isa.specs.Opcodes.{among, Entry, chosen}
-use Rattle.tv_isa.specs.declared.instr.Instr.{Instr}
-use Rattle.tv_numbers.specs.Numbers.{operand_word, other_word, takes_primary, found, writes, result_in}
-use Rattle.tv_numbers.specs.Tables.{unused_ops, writer_ops, flags}
-use Rattle.tv_numbers.specs.Views.{View}
-use Rattle.tv_regs.specs.Reading.{words_at}
+use Rattle.tv_isa.specs.Opcodes.{Entry}
+use Rattle.tv_numbers.specs.Tables.{writer_ops}
 use Rattle.tv_regs.specs.Writing.{write_reg_of}
-use Rattle.tv_word.specs.Widths.{IsWidth}
 use Rattle.tv_regs.specs.Choices.{group, choose_of}
-use Rattle.tv_block.specs.Data.{AreData}
-use Rattle.tv_block.specs.Groups.{AreGroups}
-use Rattle.tv_block.specs.Operands.{AreOperands}
-use Rattle.tv_block.specs.Store.{AreStore}
-use Rattle.tv_block.specs.Tapes.{AreTapes, took}
 use Rattle.tv_block.specs.declared.records.Data.{Data}
 use Rattle.tv_block.specs.declared.records.Fetched.{Fetched}
 use Rattle.tv_block.specs.declared.records.Groups.{Groups}
@@ -84,20 +71,3 @@ result_of w state fetched operands g data_ store = do
   result ← choose_of fetched.fields.op (result_table w operands g data_ store)
   writes ← pick_of (group fetched.fields.op (19 ∷ [])) (wire state.flag) (group fetched.fields.op writer_ops)
   write_reg_of fetched.fields.dest writes (wire result) state.regs
-
--- an assignment that meets what was put has the registers after the step there
-abbrev pub ResultIsSound : Type 0
-ResultIsSound = (w : ℕ) → IsWidth w → (z : List ℕ) (next n : ℕ) (state : StateWires) (f : Fetched) (operands : Operands) (g : Groups) (d : Data) (s : Store)
-    (v : View) (i : Instr) (takes : Bool) (o : ℕ) → length state.regs ≡ 16 → Assigns z → IsOneHot z f.fields.op 32 i.op → IsOneHot z f.fields.dest 16 i.dest
-    → AreOperands w z operands v i → AreGroups w z g (other_word v i) (operand_word v i) → AreData w z d n v i takes o → AreStore w z s n v i takes o
-    → IsBit v.flag → slice_index z state.flag ≡ v.flag → words_at z state.regs ≡ v.regs → Meets z (result_of w state f operands g d s next).list
-    → words_at z (result_of w state f operands g d s next).answer ≡ (if writes w n v i o takes then slice_set v.regs i.dest (result_in w n v i o takes) else v.regs)
-
--- and one that meets the choice of the flag has the flag after the step
-abbrev pub FlagIsSound : Type 0
-FlagIsSound = (w : ℕ) → IsWidth w → (z : List ℕ) (next op n : ℕ) (v : View) (i : Instr) (o : ℕ) (state : StateWires) (operands : Operands) (g : Groups) (t : Tapes)
-    → Assigns z → IsOneHot z op 32 i.op → AreOperands w z operands v i → AreGroups w z g (other_word v i) (operand_word v i) → AreTapes z t n v i
-    → (takes_primary v i n ≡ true → took z t ≡ false) → slice_index z state.flag ≡ v.flag → among unused_ops i.op ≡ false
-    → Meets z (choose_of op (flag_table w state operands g t) next).list
-    → slice_index z (choose_of op (flag_table w state operands g t) next).answer
-    ≡ chosen (flags w (other_word v i) (operand_word v i) (found w n v i o (took z t)) v.flag) i.op

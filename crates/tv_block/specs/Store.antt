@@ -1,22 +1,13 @@
 -- A byte of the data word, and the word after the step.
-use Rattle.std.specs.Prelude.{◌≡◌, ℕ, ◌+◌, ◌-◌, ◌*◌, ◌/◌, ◌%◌, ◌==◌, Bool, if◌then◌else◌, List, [], ◌∷◌, ◌++◌, slice_index}
+use Rattle.std.specs.Prelude.{ℕ, ◌+◌, ◌-◌, ◌*◌, ◌==◌, if◌then◌else◌, [], ◌∷◌, ◌++◌}
 use Rattle.tv_bits.specs.Bits.{bits_combination}
-use Rattle.tv_bits.specs.OneHot.{IsOneHot}
 use Rattle.tv_bits.specs.Select.{select_of, pick_of}
 use Rattle.tv_bits.specs.Times.{times_of}
 use Rattle.tv_bits.specs.declared.bit_wires.Bits.{Bits}
 use Rattle.tv_core.specs.Circuits.{Circuit, pure, ◌>>=◌}
 use Rattle.tv_core.specs.Combinations.{wire, constant, less}
 use Rattle.tv_core.specs.Constraints.{Combination}
-use Rattle.tv_core.specs.Laws.{Assigns, Meets}
-use Rattle.tv_isa.specs.declared.instr.Instr.{Instr}
-use Rattle.tv_mem.specs.Bytes.{byte_of}
-use Rattle.tv_numbers.specs.Numbers.{operand_word, data_line}
-use Rattle.tv_numbers.specs.Views.{View}
-use Rattle.tv_word.specs.Widths.{IsWidth}
 use Rattle.tv_regs.specs.Choices.{group}
-use Rattle.tv_block.specs.Data.{AreData}
-use Rattle.tv_block.specs.Operands.{AreOperands}
 use Rattle.tv_block.specs.declared.records.Data.{Data}
 use Rattle.tv_block.specs.declared.records.Operands.{Operands}
 use Rattle.tv_block.specs.declared.records.Patch.{Patch}
@@ -59,14 +50,3 @@ store_of w op operands data_ = do
   with_byte ← pick_of (group op (26 ∷ [])) (wire data_.word ++ wire patch.added) (wire data_.old)
   new ← pick_of (group op (28 ∷ [])) (wire operands.other) (wire with_byte)
   pure (record { byte = patch.byte; new = new })
-
--- the wires are those of the byte of the data word o at the operand's address, and of the word after the step
-pub record AreStore (w : ℕ) (z : List ℕ) (s : Store) (n : ℕ) (v : View) (i : Instr) (takes : Bool) (o : ℕ) : Type 0 where
-  pub byte : slice_index z s.byte ≡ byte_of o (operand_word v i % (w / 8))
-  pub new : slice_index z s.new ≡ (data_line w n v i o takes 0).new
-
--- an assignment that meets what was put does so
-abbrev pub StoreIsSound : Type 0
-StoreIsSound = (w : ℕ) → IsWidth w → (z : List ℕ) (next n op : ℕ) (operands : Operands) (d : Data) (v : View) (i : Instr) (takes : Bool) (o : ℕ)
-    → Assigns z → IsOneHot z op 32 i.op → AreOperands w z operands v i → AreData w z d n v i takes o
-    → Meets z (store_of w op operands d next).list → AreStore w z (store_of w op operands d next).answer n v i takes o
