@@ -8,7 +8,6 @@ mod choosing;
 mod computed;
 mod counting;
 mod fetching;
-mod filling;
 mod filling_block;
 mod filling_counter;
 mod filling_operands;
@@ -28,9 +27,11 @@ mod storing;
 mod taping;
 
 pub use computed::Computed;
-pub use filling::{block_fills, block_is_complete, steps_are_given};
 pub use filling_block::{fill_block, fill_traced_step};
-pub use laws::{block_is_counted, block_is_placed, block_is_sound};
+pub use laws::{
+    block_fills, block_is_complete, block_is_counted, block_is_placed, block_is_sound,
+    steps_are_given,
+};
 pub use placing::{block_line, block_spot, block_wires, next_state};
 pub use records::{
     Block, Data, Fetched, Groups, Operands, Patch, Reached, Spot, StateNum, StateWires, Store,

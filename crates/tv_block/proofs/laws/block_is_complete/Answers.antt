@@ -1,6 +1,6 @@
 use Rattle.tv_block.proofs.BlockFills.{block_complete}
 use Rattle.tv_block.proofs.MachineFills.{machine_step_met}
-use Rattle.tv_block.proofs.filling.block_is_complete.Goals as goal
+use Rattle.tv_block.proofs.laws.block_is_complete.Goals as goal
 
 pub returns-clause-numbers : goal.returns-clause-numbers
 returns-clause-numbers c = block_complete

@@ -1,5 +1,5 @@
 use Rattle.tv_block.proofs.ToldFills.{steps_are_given}
-use Rattle.tv_block.proofs.filling.steps_are_given.Goals as goal
+use Rattle.tv_block.proofs.laws.steps_are_given.Goals as goal
 
 pub returns : goal.returns
 returns c = steps_are_given
