@@ -3,6 +3,7 @@ use Rattle.std.specs.Prelude.{◌≡◌, ℕ, ◌/◌, ◌%◌, ◌^◌, ◌<◌
 use Rattle.tv_core.specs.declared.limits.TheConstants.{NULL_CELL}
 use Rattle.tv_isa.specs.Instruction.{IsInstruction}
 use Rattle.tv_isa.specs.declared.instr.Instr.{Instr}
+use Rattle.tv_isa.specs.declared.opcode.TheConstants.{STORE_B}
 use Rattle.tv_numbers.specs.Numbers.{source_word, dest_word, operand_word, other_word, touches, takes_primary, with_byte_in, found, old_in, data_line, stepped}
 use Rattle.tv_numbers.specs.Tables.{behind_pc, target}
 use Rattle.tv_numbers.specs.Views.{View, flag_of}
@@ -45,7 +46,7 @@ looked_values w n v i o takes =
 -- behind the byte and what the word gains: the word after a store of a byte, and after the step
 abbrev pub news_values : ℕ → ℕ → View → Instr → ℕ → Bool → List ℕ
 news_values w n v i o takes =
-    (if i.op == 26 then with_byte_in o (operand_word v i % (w / 8)) (other_word v i % 256) else old_in w n v i o takes)
+    (if i.op == STORE_B then with_byte_in o (operand_word v i % (w / 8)) (other_word v i % 256) else old_in w n v i o takes)
     ∷ (data_line w n v i o takes 0).new ∷ []
 
 -- behind whether the program counter is at the last instruction: where a jump by the flag goes, and the program

@@ -9,6 +9,8 @@ use Rattle.tv_core.specs.Combinations.{wire, constant, less, scaled}
 use Rattle.tv_core.specs.Constraints.{Combination}
 use Rattle.tv_core.specs.declared.field.TheConstants.{P}
 use Rattle.tv_isa.specs.Opcodes.{Entry}
+use Rattle.tv_isa.specs.declared.opcode.TheConstants.{JMP, CJMP, CNJMP, ANSWER}
+use Rattle.tv_numbers.specs.Tables.{straight_ops}
 use Rattle.tv_regs.specs.Choices.{choose_of}
 use Rattle.tv_block.specs.Result.{entry}
 use Rattle.tv_block.specs.declared.records.StateWires.{StateWires}
@@ -24,11 +26,11 @@ target_in w a = scaled (w / 4) (bits_combination (a.first + (w / 16 + 1)) (w - (
 -- the next place, as combinations; the table of numbers is tv_numbers' `pcs`
 abbrev pub pc_table : ℕ → ℕ → Bits → ℕ → ℕ → List (Entry Combination)
 pc_table w pc a wraps jumped =
-    entry (20 ∷ []) (target_in w a)
-    ∷ entry (21 ∷ []) (wire jumped)
-    ∷ entry (22 ∷ []) (less (target_in w a ++ behind_in w pc wraps) (wire jumped))
-    ∷ entry (31 ∷ []) (wire pc)
-    ∷ entry (0 ∷ 1 ∷ 2 ∷ 3 ∷ 4 ∷ 5 ∷ 6 ∷ 7 ∷ 8 ∷ 9 ∷ 10 ∷ 11 ∷ 12 ∷ 13 ∷ 14 ∷ 15 ∷ 16 ∷ 17 ∷ 18 ∷ 19 ∷ 26 ∷ 27 ∷ 28 ∷ 29 ∷ 30 ∷ []) (behind_in w pc wraps)
+    entry (JMP ∷ []) (target_in w a)
+    ∷ entry (CJMP ∷ []) (wire jumped)
+    ∷ entry (CNJMP ∷ []) (less (target_in w a ++ behind_in w pc wraps) (wire jumped))
+    ∷ entry (ANSWER ∷ []) (wire pc)
+    ∷ entry straight_ops (behind_in w pc wraps)
     ∷ []
 
 -- whether the counter is at the last instruction; the target where the flag is set, else the place behind; the choice

@@ -7,6 +7,7 @@ use Rattle.tv_bits.specs.declared.bit_wires.Bits.{Bits}
 use Rattle.tv_core.specs.Circuits.{Circuit, pure, ◌>>=◌}
 use Rattle.tv_core.specs.Combinations.{wire, constant, less}
 use Rattle.tv_core.specs.Constraints.{Combination}
+use Rattle.tv_isa.specs.declared.opcode.TheConstants.{STORE_B, STORE_W}
 use Rattle.tv_regs.specs.Choices.{group}
 use Rattle.tv_block.specs.declared.records.Data.{Data}
 use Rattle.tv_block.specs.declared.records.Operands.{Operands}
@@ -47,6 +48,6 @@ patch_of w bits a x = if w == 16 then patch_of_two bits a x else patch_of_four b
 unfoldable pub store_of : ℕ → ℕ → Operands → Data → Circuit Store
 store_of w op operands data_ = do
   patch ← patch_of w data_.bits operands.a operands.x
-  with_byte ← pick_of (group op (26 ∷ [])) (wire data_.word ++ wire patch.added) (wire data_.old)
-  new ← pick_of (group op (28 ∷ [])) (wire operands.other) (wire with_byte)
+  with_byte ← pick_of (group op (STORE_B ∷ [])) (wire data_.word ++ wire patch.added) (wire data_.old)
+  new ← pick_of (group op (STORE_W ∷ [])) (wire operands.other) (wire with_byte)
   pure (record { byte = patch.byte; new = new })

@@ -5,6 +5,7 @@ use Rattle.tv_bits.specs.Times.{times_of, kept_of}
 use Rattle.tv_bits.specs.declared.bit_wires.Bits.{Bits}
 use Rattle.tv_core.specs.Circuits.{Circuit, fresh, pure, ◌>>=◌}
 use Rattle.tv_core.specs.Combinations.{wire, constant, less}
+use Rattle.tv_isa.specs.declared.opcode.TheConstants.{READ}
 use Rattle.tv_regs.specs.Choices.{group}
 use Rattle.tv_block.specs.Gates.{if_zero_of, unless_zero_of, taking_of}
 use Rattle.tv_block.specs.declared.records.StateWires.{StateWires}
@@ -15,7 +16,7 @@ use Rattle.tv_block.specs.declared.records.Tapes.{Tapes}
 -- its end is found
 unfoldable pub tapes_of : ℕ → ℕ → StateWires → ℕ → Bits → Circuit Tapes
 tapes_of w n state op a = do
-  reads ← if_zero_of (group op (30 ∷ [])) (bits_combination (a.first + 1) (w - 1))
+  reads ← if_zero_of (group op (READ ∷ [])) (bits_combination (a.first + 1) (w - 1))
   aux ← times_of (wire reads) (wire a.first)
   primary ← unless_zero_of (less (wire reads) (wire aux)) (less (constant n) (wire state.taken_of_primary))
   taken ← kept_of (wire state.taken_of_primary ++ wire primary)

@@ -10,6 +10,7 @@ use Rattle.tv_core.specs.declared.limits.TheConstants.{NULL_CELL}
 use Rattle.tv_decode.specs.Fields.{fields_values}
 use Rattle.tv_isa.specs.Instruction.{decode}
 use Rattle.tv_isa.specs.declared.instr.Instr.{Instr}
+use Rattle.tv_isa.specs.declared.opcode.TheConstants.{STORE_B, READ}
 use Rattle.tv_limb.specs.Difference.{sub_values}
 use Rattle.tv_limb.specs.Sum.{add_values}
 use Rattle.tv_logic.specs.Logic.{logic_values}
@@ -60,9 +61,9 @@ module _ (w n : ℕ) (v : View) (i : Instr) (o : ℕ) (takes : Bool) where
   -- hint of that; how many words of it are taken after the step; whether it takes a word of tape 1, and the ended bit
   abbrev pub tapes_values : List ℕ
   tapes_values =
-      (if operand_word v i / 2 == 0 then flag_of (i.op == 30) else 0) ∷ inverse_of (operand_word v i / 2) * flag_of (i.op == 30) % P
-      ∷ flag_of (i.op == 30 && operand_word v i == 1)
-      ∷ flag_of (takes_primary v i n) ∷ inverse_of (n - v.taken) * flag_of (i.op == 30 && operand_word v i == 0) % P
+      (if operand_word v i / 2 == 0 then flag_of (i.op == READ) else 0) ∷ inverse_of (operand_word v i / 2) * flag_of (i.op == READ) % P
+      ∷ flag_of (i.op == READ && operand_word v i == 1)
+      ∷ flag_of (takes_primary v i n) ∷ inverse_of (n - v.taken) * flag_of (i.op == READ && operand_word v i == 0) % P
       ∷ (stepped w n v i o takes).taken ∷ flag_of takes ∷ (stepped w n v i o takes).ended ∷ []
 
   -- the data word and its bits; the cell of a load or store, or the null cell; the cell that is looked at, the word in
@@ -77,7 +78,7 @@ module _ (w n : ℕ) (v : View) (i : Instr) (o : ℕ) (takes : Bool) where
   abbrev pub store_values : List ℕ
   store_values =
       patch_values w o (operand_word v i) (other_word v i)
-      ++ (if i.op == 26 then with_byte_in o (operand_word v i % (w / 8)) (other_word v i % 256) else old_in w n v i o takes)
+      ++ (if i.op == STORE_B then with_byte_in o (operand_word v i % (w / 8)) (other_word v i % 256) else old_in w n v i o takes)
       ∷ (data_line w n v i o takes 0).new ∷ []
 
   -- the result, whether it is written, and the registers after it

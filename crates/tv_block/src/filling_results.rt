@@ -3,6 +3,7 @@ ghost use Rattle.tv_block.specs.Filling.{view_of, AreNumbers};
 ghost use Rattle.tv_block.specs.Values.{result_values};
 ghost use Rattle.tv_core.specs.Giving.{GivesIn};
 ghost use Rattle.tv_isa.specs.Opcodes.{among, chosen};
+ghost use Rattle.tv_isa.specs.declared.opcode.TheConstants.{CMOV};
 ghost use Rattle.tv_numbers.specs.Numbers.{result_in, stepped};
 ghost use Rattle.tv_numbers.specs.Tables.{writer_ops, results, flags};
 ghost use Rattle.tv_numbers.specs.Views.{flag_of};
@@ -91,7 +92,7 @@ fn result_word<const W: u32>(op: u8, x: u32, a: u32, o: u32, found: bool) -> u32
 
 // Whether an instruction writes its destination register.
 fn writes(op: u8, flag: bool) -> bool
-    ensures { result ≡ (if op == 19 then flag_of flag == 1 else among writer_ops op) }
+    ensures { result ≡ (if op == CMOV then flag_of flag == 1 else among writer_ops op) }
 {
     match op {
         AND..=SHR | MOV | LOAD_B | LOAD_W | READ => true,
