@@ -28,11 +28,15 @@ use Rattle.tv_shift.specs.Shift.{shift_values}
 abbrev pub fetch_values : ℕ → ℕ → ℕ → List ℕ
 fetch_values w h u = bits_values h w ++ (bits_values u w ++ fields_values (decode w h u))
 
--- the three registers that are read; the operand and its bits; the other word and its bits
+-- the words in the registers that an instruction names
+abbrev pub registers_values : View → Instr → List ℕ
+registers_values v i = source_word v i ∷ dest_word v i ∷ slice_index v.regs (i.a % 16) ∷ []
+
+-- those of the three registers that are read; the operand and its bits; the other word and its bits
 abbrev pub operands_values : ℕ → View → Instr → List ℕ
 operands_values w v i =
-    source_word v i ∷ dest_word v i ∷ slice_index v.regs (i.a % 16) ∷ operand_word v i
-    ∷ (bits_values (operand_word v i) w ++ other_word v i ∷ bits_values (other_word v i) w)
+    registers_values v i
+    ++ operand_word v i ∷ (bits_values (operand_word v i) w ++ other_word v i ∷ bits_values (other_word v i) w)
 
 -- those of the operations' circuits, for the words x and a
 abbrev pub groups_values : ℕ → ℕ → ℕ → List ℕ
@@ -66,31 +70,42 @@ module _ (w n : ℕ) (v : View) (i : Instr) (o : ℕ) (takes : Bool) where
       ∷ flag_of (takes_primary v i n) ∷ inverse_of (n - v.taken) * flag_of (i.op == READ && operand_word v i == 0) % P
       ∷ (stepped w n v i o takes).taken ∷ flag_of takes ∷ (stepped w n v i o takes).ended ∷ []
 
-  -- the data word and its bits; the cell of a load or store, or the null cell; the cell that is looked at, the word in
-  -- it, and the one that a read finds
-  abbrev pub data_values : List ℕ
-  data_values =
-      bits_values o w
-      ++ o ∷ (if touches v i then operand_word v i / (w / 8) else NULL_CELL) ∷ (data_line w n v i o takes 0).cell
+  -- the data word; the cell of a load or store, or the null cell; the cell that is looked at, the word in it, and the
+  -- one that a read finds
+  abbrev pub looked_values : List ℕ
+  looked_values =
+      o ∷ (if touches v i then operand_word v i / (w / 8) else NULL_CELL) ∷ (data_line w n v i o takes 0).cell
       ∷ old_in w n v i o takes ∷ (if found w n v i o takes then o else 0) ∷ []
 
-  -- the byte and what the word gains; the word after a store of a byte, and after the step
-  abbrev pub store_values : List ℕ
-  store_values =
-      patch_values w o (operand_word v i) (other_word v i)
-      ++ (if i.op == STORE_B then with_byte_in o (operand_word v i % (w / 8)) (other_word v i % 256) else old_in w n v i o takes)
+  -- the bits of the data word, and what comes of it
+  abbrev pub data_values : List ℕ
+  data_values = bits_values o w ++ looked_values
+
+  -- the word after a store of a byte, and after the step
+  abbrev pub news_values : List ℕ
+  news_values =
+      (if i.op == STORE_B then with_byte_in o (operand_word v i % (w / 8)) (other_word v i % 256) else old_in w n v i o takes)
       ∷ (data_line w n v i o takes 0).new ∷ []
+
+  -- the byte and what the word gains, and then these
+  abbrev pub store_values : List ℕ
+  store_values = patch_values w o (operand_word v i) (other_word v i) ++ news_values
 
   -- the result, whether it is written, and the registers after it
   abbrev pub result_values : List ℕ
   result_values = result_in w n v i o takes ∷ flag_of (writes w n v i o takes) ∷ write_reg_values (writes w n v i o takes) (result_in w n v i o takes) i.dest v.regs
 
-  -- whether the program counter is at the last instruction, and the hint of that; where a jump by the flag goes, and
-  -- the program counter after the step
+  -- all of these, and the flag: what a step does, but for its program counter
+  abbrev pub effects_values : List ℕ
+  effects_values = tapes_values ++ (data_values ++ (store_values ++ (result_values ++ (stepped w n v i o takes).flag ∷ [])))
+
+  -- where a jump by the flag goes, and the program counter after the step
+  abbrev pub counters_values : List ℕ
+  counters_values = (if v.flag == 1 then target w (operand_word v i) else behind_pc w v.pc) ∷ (stepped w n v i o takes).pc ∷ []
+
+  -- whether the program counter is at the last instruction, and the hint of that, and then these
   abbrev pub pc_values : List ℕ
-  pc_values =
-      zero_values ((v.pc + (P - (2 ^ w - w / 4))) % P)
-      ++ (if v.flag == 1 then target w (operand_word v i) else behind_pc w v.pc) ∷ (stepped w n v i o takes).pc ∷ []
+  pc_values = zero_values ((v.pc + (P - (2 ^ w - w / 4))) % P) ++ counters_values
 
 -- all of a step but its program counter
 abbrev pub compute_values : ℕ → ℕ → View → ℕ → ℕ → ℕ → Bool → List ℕ
@@ -99,11 +114,7 @@ compute_values w n v h u o takes =
     fetch_values w h u
     ++ (operands_values w v i
     ++ (groups_values w (other_word v i) (operand_word v i)
-    ++ (tapes_values w n v i o takes
-    ++ (data_values w n v i o takes
-    ++ (store_values w n v i o takes
-    ++ (result_values w n v i o takes
-    ++ (stepped w n v i o takes).flag ∷ []))))))
+    ++ effects_values w n v i o takes))
 
 -- and all of it
 abbrev pub block_values : ℕ → ℕ → View → ℕ → ℕ → ℕ → Bool → List ℕ

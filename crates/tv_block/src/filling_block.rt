@@ -1,7 +1,7 @@
 ghost use Rattle.std.specs.Prelude.{◌≡◌, ◌<◌, ◌^◌, false, OnOk, slice_index};
 ghost use Rattle.tv_block.specs.Complete.{step_values};
-ghost use Rattle.tv_block.specs.Filling.{numbers_view, view_of, AreNumbers, effects_values};
-ghost use Rattle.tv_block.specs.Values.{compute_values, block_values};
+ghost use Rattle.tv_block.specs.Filling.{numbers_view, view_of, AreNumbers};
+ghost use Rattle.tv_block.specs.Values.{effects_values, compute_values, block_values};
 ghost use Rattle.tv_core.specs.Giving.{GivesIn};
 ghost use Rattle.tv_isa.specs.Instruction.{decode};
 ghost use Rattle.tv_numbers.specs.Shown.{handed};

@@ -1,7 +1,7 @@
 ghost use Rattle.std.specs.Prelude.{◌≡◌, ◌+◌, ◌-◌, ◌/◌, ◌%◌, ◌^◌, ◌==◌, if◌then◌else◌, false};
 ghost use Rattle.std.specs.Prelude.{OnOk};
-ghost use Rattle.tv_block.specs.Filling.{view_of, AreNumbers, counters_values};
-ghost use Rattle.tv_block.specs.Values.{pc_values};
+ghost use Rattle.tv_block.specs.Filling.{view_of, AreNumbers};
+ghost use Rattle.tv_block.specs.Values.{counters_values, pc_values};
 ghost use Rattle.tv_core.specs.Giving.{GivesIn};
 ghost use Rattle.tv_core.specs.declared.field.TheConstants.{P};
 ghost use Rattle.tv_isa.specs.Opcodes.{chosen};

@@ -1,7 +1,8 @@
 ghost use Rattle.std.specs.Prelude.{◌≡◌, ◌<◌, ◌^◌, ◌∷◌, false, OnOk};
 ghost use Rattle.tv_bits.specs.Bits.{bits_values};
-ghost use Rattle.tv_block.specs.Filling.{view_of, AreNumbers, registers_values};
-ghost use Rattle.tv_block.specs.Values.{fetch_values, operands_values, groups_values};
+ghost use Rattle.tv_block.specs.Filling.{view_of, AreNumbers};
+ghost use Rattle.tv_block.specs.Values.{fetch_values, registers_values, operands_values};
+ghost use Rattle.tv_block.specs.Values.{groups_values};
 ghost use Rattle.tv_core.specs.Giving.{GivesIn};
 ghost use Rattle.tv_word.specs.Widths.{IsWidth};
 

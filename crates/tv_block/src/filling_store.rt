@@ -1,7 +1,7 @@
 ghost use Rattle.std.specs.Prelude.{◌≡◌, ◌/◌, ◌<◌, ◌≤◌, ◌^◌, false, OnOk};
-ghost use Rattle.tv_block.specs.Filling.{view_of, AreNumbers, news_values};
+ghost use Rattle.tv_block.specs.Filling.{view_of, AreNumbers};
 ghost use Rattle.tv_block.specs.Values.{gained, patch_two_values, patch_four_values, patch_values};
-ghost use Rattle.tv_block.specs.Values.{store_values};
+ghost use Rattle.tv_block.specs.Values.{news_values, store_values};
 ghost use Rattle.tv_core.specs.Giving.{GivesIn};
 ghost use Rattle.tv_mem.specs.Bytes.{byte_of};
 ghost use Rattle.tv_numbers.specs.Numbers.{with_byte_in};

@@ -1,7 +1,7 @@
 ghost use Rattle.std.specs.Prelude.{◌≡◌, ◌*◌, ◌%◌, ◌<◌, ◌≤◌, ◌^◌};
 ghost use Rattle.std.specs.Prelude.{false, OnOk};
-ghost use Rattle.tv_block.specs.Filling.{view_of, AreNumbers, looked_values};
-ghost use Rattle.tv_block.specs.Values.{tapes_values, data_values};
+ghost use Rattle.tv_block.specs.Filling.{view_of, AreNumbers};
+ghost use Rattle.tv_block.specs.Values.{tapes_values, looked_values, data_values};
 ghost use Rattle.tv_core.specs.Giving.{GivesIn};
 ghost use Rattle.tv_core.specs.Inverse.{inverse_of};
 ghost use Rattle.tv_core.specs.declared.field.TheConstants.{P};

@@ -1,6 +1,7 @@
 use Rattle.tv_core.proofs.GivingChain.{gives_refused_then, gives_refused}
 use Rattle.tv_core.proofs.GivingTails.{gives_in_then}
-use Rattle.tv_block.specs.Filling.{view_of, counters_values}
+use Rattle.tv_block.specs.Filling.{view_of}
+use Rattle.tv_block.specs.Values.{counters_values}
 use Rattle.tv_block.proofs.filling_counter.fill_counter.Goals as goal
 
 pub returns-in_err-fill_zero-clause-gives : goal.returns-in_err-fill_zero-clause-gives

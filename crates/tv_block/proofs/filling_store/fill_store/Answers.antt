@@ -1,6 +1,7 @@
 use Rattle.tv_core.proofs.GivingChain.{gives_refused_then, gives_refused}
 use Rattle.tv_core.proofs.GivingTails.{gives_in_then}
-use Rattle.tv_block.specs.Filling.{view_of, news_values}
+use Rattle.tv_block.specs.Filling.{view_of}
+use Rattle.tv_block.specs.Values.{news_values}
 use Rattle.tv_block.proofs.filling_store.fill_store.Goals as goal
 
 pub returns-in_err-fill_patch-clause-gives : goal.returns-in_err-fill_patch-clause-gives
