@@ -7,6 +7,7 @@ use Rattle.tv_core.specs.Constraints.{Combination}
 use Rattle.tv_core.specs.Laws.{Assigns, Meets}
 use Rattle.tv_core.specs.declared.field.TheConstants.{P}
 use Rattle.tv_isa.specs.Instruction.{decode}
+use Rattle.tv_isa.specs.declared.opcode.TheConstants.{ANSWER}
 use Rattle.tv_lines.specs.Packing.{line_value}
 use Rattle.tv_lines.specs.Placed.{line_in}
 use Rattle.tv_numbers.specs.Laws.{AtNumbers, DoesStep}
@@ -63,7 +64,7 @@ block_of w n state time = do
         ∷ (record { cell = wire c.data_word.cell; time = constant (time + 2); old = wire c.data_word.old; new = wire c.store.new })
         ∷ [];
     spot = record { taken = c.takes; word = c.data_word.word };
-    answers = c.fetched.fields.op + 31;
+    answers = c.fetched.fields.op + ANSWER;
     value = c.operands.operand;
   })
 
@@ -102,7 +103,7 @@ pub record IsStep (w : ℕ) (z : List ℕ) (n time : ℕ) (state : StateWires) (
   pub at_numbers : AtNumbers w n (state_in z state) head tail word takes
   pub same : did z state made ≡ did_of w n time (state_in z state) head tail word takes
   pub taken : slice_index z made.spot.taken ≡ flag_of takes
-  pub answers : slice_index z made.answers ≡ flag_of ((decode w head tail).op == 31)
+  pub answers : slice_index z made.answers ≡ flag_of ((decode w head tail).op == ANSWER)
 
 -- So they are where an assignment meets what a block puts, the state before being in range, whatever memory holds.
 abbrev pub BlockIsStep : Type 0

@@ -5,6 +5,7 @@ use Rattle.std.specs.List.{range_with_len}
 use Rattle.tv_bits.specs.Bits.{bits_combination}
 use Rattle.tv_core.specs.Combinations.{wire, constant}
 use Rattle.tv_core.specs.declared.lines.LineLc.{LineLc}
+use Rattle.tv_isa.specs.declared.opcode.TheConstants.{ANSWER}
 use Rattle.tv_word.specs.Widths.{IsWidth}
 use Rattle.tv_block.specs.Block.{block_of, cell_of}
 use Rattle.tv_block.specs.Complete.{operations_made, block_made}
@@ -65,7 +66,7 @@ block_wires w state time at = record {
   next = next_state w at;
   lines = first_line w state time at ∷ second_line w state time at ∷ third_line w time at ∷ [];
   spot = record { taken = at + (tapes_at w + 6); word = at + (data_at w + w) };
-  answers = at + (2 * w + 31);
+  answers = at + (2 * w + ANSWER);
   value = at + (operands_at w + 3);
 }
 
