@@ -129,19 +129,6 @@ spelled-one z first =
 pub Spells-one : (z : List ℕ) (first v : ℕ) → Spells z first 1 v → slice_index z first ≡ v
 Spells-one z first v s = sym (s.number ∙ spelled-one z first)
 
-pub Spells-of_one : (z : List ℕ) (w : ℕ) → IsBit (slice_index z w) → Spells z w 1 (slice_index z w)
-Spells-of_one z w bit = record {
-  bits = λ i h. let same : w ≡ w + i = omega arith in subst (λ k. IsBit (slice_index z k)) same bit;
-  number = sym (spelled-one z w);
-}
-
--- a number has one spelling, and a spelling is of one number
-pub spelling_unique : (y z : List ℕ) (first other n v : ℕ) → Spells y first n v → Spells z other n v → (i : ℕ) → i < n → slice_index y (first + i) ≡ slice_index z (other + i)
-spelling_unique y z first other n v p q i h = Spells-bit_at p i h ∙ sym (Spells-bit_at q i h)
-
-pub spelled_unique : (z : List ℕ) (first n v w : ℕ) → Spells z first n v → Spells z first n w → v ≡ w
-spelled_unique z first n v w p q = p.number ∙ sym q.number
-
 -- ---- parts: the low wires spell the remainder and the high wires the quotient by a power of 2, and two parts spell their sum
 spelled-parts : (z : List ℕ) (first m n : ℕ) → spelled z first (m + n) ≡ spelled z (first + m) n * 2 ^ m + spelled z first m
 spelled-parts z first m n =
