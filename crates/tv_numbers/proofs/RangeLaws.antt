@@ -1,6 +1,6 @@
 -- The numbers of a step stay in range.
 use Rattle.std.proofs.Common.{◌≡◌, ℕ, zero, suc, ◌+◌, ◌-◌, ◌*◌, ◌/◌, ◌%◌, ◌^◌, ◌<◌, ◌≤◌, ◌==◌, nat_lt, Bool, true, false, not, ◌&&◌, ◌||◌, if◌then◌else◌, List, length, refl, sym, ◌∙◌, arith, inl, inr, true≢false}
-use Rattle.std.specs.Prelude.{ℤ, ◌*ℤ◌, slice_index, slice_set}
+use Rattle.std.specs.Prelude.{◌*ℤ◌, slice_index, slice_set}
 use Rattle.std.specs.Int.Bits.{and_lt}
 use Rattle.std.proofs.Math.Nat.{div-le_self, mod-lt, mod-le}
 use Rattle.std.proofs.lemmas.Nat.{or_lt, xor_lt}
