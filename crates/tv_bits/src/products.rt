@@ -106,8 +106,8 @@ pub fn ratio_is_complete()
     ensures divides { RatioDivides }
 {}
 
-/// Says which wire `ratio` answers, and that this product is one number of the field for each wire
-/// that it makes.
+/// Says which wire `ratio` answers, and that its value, the second number times the inverse of the
+/// first, is one number of the field for each wire that it makes.
 #[tactic(auto, using(crate::proofs::TimesLaws::ratio_sizes))]
 pub fn ratio_fills()
     ensures { RatioSizes }
