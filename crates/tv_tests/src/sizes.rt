@@ -1,76 +1,19 @@
-//! How many wires, constraints and terms each gadget over words makes, at both widths.
-ghost use Rattle.std.specs.Prelude.{◌+◌, ◌*◌, ◌≤◌};
-ghost use Rattle.tv_core.specs.Sinks.{Room};
+//! How many wires, constraints and terms each gadget over words makes, at both widths, and those
+//! that read and write a register.
 ghost use Rattle.tv_word.specs.Widths.{IsWidth};
 
-use crate::inputs::{behind_words, first_word, second_word};
+use crate::gadgets::{Gadget, put};
 use std::test::Fail;
-use tv_cmp::compare;
-use tv_core::{CountSink, Put, Sink};
-use tv_decode::fields;
-use tv_limb::{add, sub};
-use tv_logic::logic;
-use tv_muldiv::{product, quotient, signed_high};
-use tv_shift::shift;
-
-#[derive(Clone, Copy, Debug)]
-enum Gadget {
-    Add,
-    Sub,
-    Compare,
-    Logic,
-    Shift,
-    Product,
-    SignedHigh,
-    Quotient,
-    Fields,
-}
-
-fn put<const W: u32, S: Sink>(s: &mut S, gadget: Gadget) -> Put<()>
-    requires width { IsWidth W }
-    requires room { Room S.meaning s.old 80 84 }
-    requires inputs { 2 * W + 1 ≤ S.meaning.wires s.old }
-{
-    let (x, y) = (first_word::<W>(), second_word::<W>());
-    match gadget {
-        Gadget::Add => {
-            add::<W, S>(s, &x, &y)?;
-        }
-        Gadget::Sub => {
-            sub::<W, S>(s, &x, &y)?;
-        }
-        Gadget::Compare => {
-            compare::<W, S>(s, &x, &y)?;
-        }
-        Gadget::Logic => {
-            logic::<W, S>(s, &x, &y)?;
-        }
-        Gadget::Shift => {
-            shift::<W, S>(s, &x, &y)?;
-        }
-        Gadget::Product => {
-            product::<W, S>(s, &x, &y)?;
-        }
-        Gadget::SignedHigh => {
-            signed_high::<W, S>(s, &x, &y)?;
-        }
-        Gadget::Quotient => {
-            quotient::<W, S>(s, &x, &y)?;
-        }
-        Gadget::Fields => {
-            fields::<W, S>(s, &x, &y)?;
-        }
-    }
-    Ok(())
-}
+use tv_core::{CountSink, Lc, Put, Sink, Wire};
+use tv_regs::{read_reg, wires_from, write_reg};
 
 // The wires, constraints and terms that a gadget makes.
 fn counts<const W: u32>(gadget: Gadget) -> Put<(u32, u32, u64)>
     requires width { IsWidth W }
 {
-    let mut counts = CountSink::new(behind_words::<W>());
+    let mut counts = CountSink::new(2 * W + 1);
     put::<W, CountSink>(&mut counts, gadget)?;
-    let wires = counts.wires().saturating_sub(behind_words::<W>());
+    let wires = counts.wires().saturating_sub(2 * W + 1);
     Ok((wires, counts.constraints(), counts.terms()))
 }
 
@@ -89,16 +32,30 @@ const SIZES: [(Gadget, (u32, u32, u64), (u32, u32, u64)); 9] = [
 
 #[test]
 fn gadgets_have_the_sizes_that_their_texts_say(rt: HostRuntime) -> Result<(), Fail> {
-    for (gadget, sizes, _) in SIZES {
+    for (gadget, sizes, sizes_16) in SIZES {
         assert_eq!(rt; counts::<32>(gadget)?, sizes, "{gadget:?}");
+        assert_eq!(rt; counts::<16>(gadget)?, sizes_16, "{gadget:?}");
     }
     Ok(())
 }
 
+// Over 17 wires, of which 16 are the registers.
 #[test]
-fn gadgets_have_the_sizes_that_their_texts_say_at_16_bits(rt: HostRuntime) -> Result<(), Fail> {
-    for (gadget, _, sizes) in SIZES {
-        assert_eq!(rt; counts::<16>(gadget)?, sizes, "{gadget:?}");
-    }
+fn a_register_is_read_and_written_in_the_terms_that_their_texts_say(
+    rt: HostRuntime,
+) -> Result<(), Fail> {
+    let registers = wires_from(Wire(1));
+    let mut reads = CountSink::new(17);
+    read_reg(&mut reads, Wire(1), &registers)?;
+    let mut writes = CountSink::new(17);
+    write_reg(
+        &mut writes,
+        Wire(1),
+        Wire(1),
+        &Lc::wire(Wire(1)),
+        &registers,
+    )?;
+    assert_eq!(rt; (reads.constraints(), reads.terms()), (16, 48));
+    assert_eq!(rt; (writes.constraints(), writes.terms()), (17, 147));
     Ok(())
 }
