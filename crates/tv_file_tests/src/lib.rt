@@ -9,6 +9,6 @@ mod assignments;
 mod calls;
 pub mod examples;
 #[cfg(test)]
-mod systems;
+mod pieces;
 #[cfg(test)]
-mod verdicts;
+mod systems;

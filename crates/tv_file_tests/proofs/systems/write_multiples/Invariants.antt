@@ -1,5 +1,5 @@
 use Rattle.std.proofs.Common.{◌≡◌, false}
-use Rattle.tv_file_tests.proofs.systems.write_list.Given as goal
+use Rattle.tv_file_tests.proofs.systems.write_multiples.Given as goal
 
 abbrev pub invariant-loop-i : goal.invariant-loop-i
 invariant-loop-i l = record {

@@ -1,0 +1,112 @@
+//! In which pieces both writers append, what each failing call of theirs leaves, and that each
+//! failing read of such a file is told.
+
+use crate::assignments::write_values;
+use crate::calls::files_of;
+use crate::systems::write_multiples;
+use std::alloc::Global;
+use std::process::Abort;
+use std::test::Fail;
+use tv_container::ReadRefusal;
+use tv_core::{F, Put, SinkFault};
+use tv_files::MemFiles;
+use tv_r1cs_read::survey;
+use tv_wtns::read_values;
+
+#[derive(Clone, Copy, Debug)]
+enum Form {
+    System,
+    Assignment,
+}
+
+// Writes a file of so many constraints or values, of these at most 1018.
+fn write(files: &mut MemFiles, form: Form, count: u16) -> Put<()> {
+    match form {
+        Form::System => write_multiples(files, count),
+        Form::Assignment => {
+            let values = [F::ONE; 1018];
+            write_values(files, &values[..usize::from(count).min(1018)])
+        }
+    }
+}
+
+// Why such a file is refused.
+fn refused(alloc: Global, files: &mut MemFiles, form: Form) -> Option<ReadRefusal> {
+    match form {
+        Form::System => survey(alloc, files, "file").err(),
+        Form::Assignment => read_values(alloc, files, "file").err(),
+    }
+}
+
+// Lets each of the calls that write these bytes fail, and sees that it is the last and leaves a
+// first part of them, or of what there was.
+fn failing_writes_leave_a_first_part(
+    rt: &impl Abort,
+    alloc: Global,
+    form: Form,
+    count: u16,
+    calls: u64,
+    bytes: &[u8],
+) -> Result<(), Fail> {
+    for number in 1..=calls {
+        let mut files = files_of(alloc, b"old")?;
+        files.fail_at(number)?;
+        let answer = write(&mut files, form, count);
+        assert_eq!(rt;
+            answer,
+            Err(SinkFault::Failed),
+            "{form:?} {count}: {number}"
+        );
+        assert_eq!(rt; files.calls(), number, "{form:?} {count}");
+        let left = files.bytes_of("file").unwrap_or(&[]);
+        let first_part = bytes.starts_with(left) || number == 1 && left == b"old".as_slice();
+        assert!(rt; first_part, "{form:?} {count}: {number}");
+    }
+    Ok(())
+}
+
+// Lets each of the calls that read these bytes fail, and sees that it is told, and is the last.
+fn failing_reads_are_told(
+    rt: &impl Abort,
+    alloc: Global,
+    form: Form,
+    bytes: &[u8],
+) -> Result<(), Fail> {
+    let mut whole = files_of(alloc, bytes)?;
+    assert_eq!(rt; refused(alloc, &mut whole, form), None, "{form:?}");
+    for number in 1..=whole.calls() {
+        let mut files = files_of(alloc, bytes)?;
+        files.fail_at(number)?;
+        let refusal = refused(alloc, &mut files, form);
+        assert_eq!(rt; refusal, Some(ReadRefusal::Fault), "{form:?}: {number}");
+        assert_eq!(rt; files.calls(), number, "{form:?}");
+    }
+    Ok(())
+}
+
+// A form of files, how many constraints or values, and with how many bytes in how many calls.
+const FILES: [(Form, u16, usize, u64); 8] = [
+    (Form::System, 0, 112, 2),
+    (Form::System, 83, 4096, 2),
+    (Form::System, 84, 4144, 3),
+    (Form::System, 169, 8224, 4),
+    (Form::Assignment, 0, 52, 2),
+    (Form::Assignment, 505, 4092, 2),
+    (Form::Assignment, 506, 4100, 3),
+    (Form::Assignment, 1018, 8196, 4),
+];
+
+#[test]
+fn files_are_written_in_pieces_and_failing_calls_are_told(rt: HostRuntime) -> Result<(), Fail> {
+    let alloc = rt.alloc();
+    for (form, count, size, calls) in FILES {
+        let mut files = MemFiles::new(alloc);
+        write(&mut files, form, count)?;
+        assert_eq!(rt; files.calls(), calls, "{form:?} {count}");
+        let bytes = files.bytes_of("file").unwrap_or(&[]);
+        assert_eq!(rt; bytes.len(), size, "{form:?} {count}");
+        failing_writes_leave_a_first_part(&rt, alloc, form, count, calls, bytes)?;
+        failing_reads_are_told(&rt, alloc, form, bytes)?;
+    }
+    Ok(())
+}
