@@ -38,19 +38,21 @@ fn failing(z: &[F], gadget: Gadget) -> Put<u32> {
     Ok(tests.tested().saturating_sub(tests.held()))
 }
 
-// A gadget, its two words, and what its answers spell: the sum and the carry; the difference and
-// the borrow; equal, above and greater; the and, whether it is 0, and the or; the word shifted left
-// and right; the low and the high word, and whether that isn't 0; the signed high word, and whether
-// the product is no signed word; the quotient, the remainder, and whether it is by 0; the row of the
-// opcode, the immediate bit, and the row of the destination.
+// A gadget, its two words, and what its answers spell.
 const ANSWERS: [(Gadget, u32, u32, [u64; 3]); 16] = [
+    // the sum and the carry
     (Gadget::Add, 0xffff_ffff, 1, [0, 1, 0]),
+    // the difference and the borrow
     (Gadget::Sub, 0, 1, [0xffff_ffff, 1, 0]),
+    // whether they are equal, and whether the first is above, unsigned and signed
     (Gadget::Compare, 0xffff_ffff, 0, [0, 1, 0]),
+    // the and, whether it is 0, and the or
     (Gadget::Logic, 1, 2, [0, 1, 3]),
+    // the first word shifted left, and right
     (Gadget::Shift, 0x8000_0001, 1, [2, 0x4000_0000, 0]),
     (Gadget::Shift, 0x8000_0001, 32, [0, 0, 0]),
     (Gadget::Shift, 0x8000_0001, 0xffff_ffff, [0, 0, 0]),
+    // the low and the high word, and whether the high one isn't 0
     (Gadget::Product, 65_536, 65_536, [0, 1, 1]),
     (
         Gadget::Product,
@@ -58,6 +60,7 @@ const ANSWERS: [(Gadget, u32, u32, [u64; 3]); 16] = [
         0xffff_ffff,
         [1, 0xffff_fffe, 1],
     ),
+    // the high word, and whether the product is no signed word
     (
         Gadget::SignedHigh,
         0x8000_0000,
@@ -67,8 +70,10 @@ const ANSWERS: [(Gadget, u32, u32, [u64; 3]); 16] = [
     (Gadget::SignedHigh, 0xffff_ffff, 1, [0xffff_ffff, 0, 0]),
     (Gadget::SignedHigh, 0x8000_0000, 1, [0xffff_ffff, 0, 0]),
     (Gadget::SignedHigh, 0x8000_0000, 0xffff_ffff, [0, 1, 0]),
+    // the quotient, the remainder, and whether it is by 0
     (Gadget::Quotient, 7, 0, [0, 0, 1]),
     (Gadget::Quotient, 7, 2, [3, 1, 0]),
+    // the opcode's row, the immediate bit, and the destination's row
     (
         Gadget::Fields,
         0x9440_0000,

@@ -7,11 +7,11 @@ ghost use Rattle.tv_word.specs.Widths.{IsWidth};
 use std::alloc::Global;
 use std::test::Fail;
 use tv_bits::{Bits, fill_bits};
-use tv_cmp::{Cmp, compare, fill_compare};
+use tv_cmp::{compare, fill_compare};
 use tv_core::{F, ListValues, Put, Sink, Values, Wire};
 use tv_decode::{Fields, fields, fill_fields};
 use tv_limb::{Split, add, fill_add, fill_sub, sub};
-use tv_logic::{Logic, fill_logic, logic};
+use tv_logic::{fill_logic, logic};
 use tv_muldiv::{
     High, Product, Quot, fill_product, fill_quotient, fill_signed_high, product, quotient,
     signed_high,
@@ -68,21 +68,16 @@ pub fn put<const W: u32, S: Sink>(s: &mut S, gadget: Gadget) -> Put<[Bits; 3]>
             Ok([low, high, NONE])
         }
         Gadget::Compare => {
-            let Cmp {
-                equal,
-                above,
-                greater,
-            } = compare::<W, S>(s, &x, &y)?;
-            Ok([alone(equal), alone(above), alone(greater)])
+            let made = compare::<W, S>(s, &x, &y)?;
+            Ok([alone(made.equal), alone(made.above), alone(made.greater)])
         }
         Gadget::Logic => {
-            let Logic {
-                and_word,
-                and_zero,
-                or_word,
-                ..
-            } = logic::<W, S>(s, &x, &y)?;
-            Ok([alone(and_word), alone(and_zero), alone(or_word)])
+            let made = logic::<W, S>(s, &x, &y)?;
+            Ok([
+                alone(made.and_word),
+                alone(made.and_zero),
+                alone(made.or_word),
+            ])
         }
         Gadget::Shift => {
             let Shift { left, right } = shift::<W, S>(s, &x, &y)?;
