@@ -1,11 +1,12 @@
 -- The first of a list that is wrong: a constraint that doesn't hold, or a place where two lists differ.
-use Rattle.std.proofs.Common.{◌≡◌, ℕ, zero, suc, ◌==◌, ◌⊎◌, Bool, true, false, cond, List, [], ◌∷◌, take, Option, Some, None, inl, inr, refl, ap}
+use Rattle.std.proofs.Common.{◌≡◌, ℕ, zero, suc, ◌+◌, ◌==◌, ◌⊎◌, Bool, true, false, cond, List, [], ◌∷◌, take, Option, Some, None, inl, inr, refl, sym, ap, ◌∙◌, arith}
 use Rattle.std.specs.Prelude.{slice_get}
 use Rattle.std.specs.Option.{option_map}
 use Rattle.std.specs.List.{AllByRecursion}
 use Rattle.std.proofs.lemmas.Bool.{eqb-true, eqb-false, eq-eqb, ne_eqb}
 use Rattle.tv_core.specs.Constraints.{Constraint, Holds}
-use Rattle.tv_check.specs.Verdict.{holds, first_failing, first_difference}
+use Rattle.tv_core.specs.Meanings.{holds, first_failure}
+use Rattle.tv_check.specs.Verdict.{first_difference}
 use Rattle.tv_check.specs.Meaning.{DifferFirst}
 
 -- ---- the first of a list: here, or one place behind one of the rest
@@ -23,24 +24,37 @@ some_behind false rest at e = inl (refl, cc)
 
 -- ---- constraints
 
-pub all_hold : (z : List ℕ) (constraints : List Constraint) → first_failing z constraints ≡ None → AllByRecursion (λ constraint. Holds constraint z) constraints
+-- from one place on the first failure is one place further
+first_failure-suc : (z : List ℕ) (at : ℕ) (constraints : List Constraint) → first_failure z (at + 1) constraints ≡ option_map suc (first_failure z at constraints)
+first_failure-suc z at [] = refl
+first_failure-suc z at (c ∷ cs) = by_test (holds z c) _ (first_failure z (at + 1) cs) (first_failure-suc z (at + 1) cs)
+  where
+    by_test : (test : Bool) (later first : Option ℕ) → later ≡ option_map suc first → cond test later (Some (at + 1)) ≡ option_map suc (cond test first (Some at))
+    by_test true later first same = same
+    by_test false later first same = ap (λ n. Some n) (omega arith)
+
+pub first_failure-cons : (z : List ℕ) (c : Constraint) (cs : List Constraint) →
+    first_failure z 0 (c ∷ cs) ≡ cond (holds z c) (option_map suc (first_failure z 0 cs)) (Some 0)
+first_failure-cons z c cs = ap (λ rest. cond (holds z c) rest (Some 0)) (first_failure-suc z 0 cs)
+
+pub all_hold : (z : List ℕ) (constraints : List Constraint) → first_failure z 0 constraints ≡ None → AllByRecursion (λ constraint. Holds constraint z) constraints
 all_hold z [] e = tt
 all_hold z (c ∷ cs) e =
-    let both = none_behind (holds z c) (first_failing z cs) e in
+    let both = none_behind (holds z c) (first_failure z 0 cs) (sym (first_failure-cons z c cs) ∙ e) in
     (eqb-true _ _ both.0, all_hold z cs both.1)
 
-pub none_fails : (z : List ℕ) (constraints : List Constraint) → AllByRecursion (λ constraint. Holds constraint z) constraints → first_failing z constraints ≡ None
+pub none_fails : (z : List ℕ) (constraints : List Constraint) → AllByRecursion (λ constraint. Holds constraint z) constraints → first_failure z 0 constraints ≡ None
 none_fails z [] h = refl
 none_fails z (c ∷ cs) h =
     let yes : holds z c ≡ true = eq-eqb _ _ h.0 in
-    rw (yes, none_fails z cs h.1) refl
+    first_failure-cons z c cs ∙ rw (yes, none_fails z cs h.1) refl
 
 -- the first that fails, with what is known of it
-pub fails_at : (z : List ℕ) (constraints : List Constraint) (at : ℕ) → first_failing z constraints ≡ Some at
+pub fails_at : (z : List ℕ) (constraints : List Constraint) (at : ℕ) → first_failure z 0 constraints ≡ Some at
     → (c : Constraint) × (slice_get constraints at ≡ Some c) × (¬ (Holds c z)) × AllByRecursion (λ constraint. Holds constraint z) (take at constraints)
 fails_at z [] at e = absurd cc
 fails_at z (c ∷ cs) at e =
-    elim (some_behind (holds z c) (first_failing z cs) at e) [
+    elim (some_behind (holds z c) (first_failure z 0 cs) at (sym (first_failure-cons z c cs) ∙ e)) [
       | inl here ↦ rw here.1 (c, refl, eqb-false _ _ here.0, tt)
       | inr later ↦
           let rest = fails_at z cs later.0 later.2 in
@@ -49,15 +63,15 @@ fails_at z (c ∷ cs) at e =
 
 -- the first constraint that fails is told
 pub failing_of : (z : List ℕ) (constraints : List Constraint) (at : ℕ) (failing : Constraint) → slice_get constraints at ≡ Some failing → ¬ (Holds failing z) →
-    AllByRecursion (λ constraint. Holds constraint z) (take at constraints) → first_failing z constraints ≡ Some at
+    AllByRecursion (λ constraint. Holds constraint z) (take at constraints) → first_failure z 0 constraints ≡ Some at
 failing_of z [] at failing there fails before = cc
 failing_of z (c ∷ cs) zero failing there fails before =
     let same : c ≡ failing = cc in
-    let no : holds z c ≡ false = ne_eqb _ _ (rw (← same) at fails) in rw no refl
+    let no : holds z c ≡ false = ne_eqb _ _ (rw (← same) at fails) in first_failure-cons z c cs ∙ rw no refl
 failing_of z (c ∷ cs) (suc at) failing there fails before =
     let yes : holds z c ≡ true = eq-eqb _ _ before.0 in
     let others = failing_of z cs at failing there fails before.1 in
-    rw (yes, others) refl
+    first_failure-cons z c cs ∙ rw (yes, others) refl
 
 -- ---- public numbers
 

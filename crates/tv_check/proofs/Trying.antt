@@ -2,6 +2,7 @@
 use Rattle.std.proofs.Common.{◌≡◌, ℕ, suc, ◌+◌, ◌==◌, Bool, true, false, cond, List, [], ◌∷◌, ◌++◌, length, take, Option, Some, None, MatchOption, Result, Ok, Err, refl, ◌≢◌, sym, ap, ◌∙◌, append_assoc, append-nil}
 use Rattle.std.specs.Option.{option_map}
 use Rattle.tv_core.specs.Constraints.{System, Constraint}
+use Rattle.tv_core.specs.Meanings.{holds, first_failure}
 use Rattle.tv_r1cs_read.specs.declared.header.Header.{Header}
 use Rattle.tv_container.specs.declared.why.ReadRefusal.{ReadRefusal}
 use Rattle.tv_container.specs.Reading.{Refuses, Gives}
@@ -9,9 +10,10 @@ use Rattle.tv_r1cs_read.specs.Places.{IsAll, system_with}
 use Rattle.tv_r1cs_read.specs.Progress.{Reached}
 use Rattle.tv_r1cs_read.specs.R1cs.{system_of}
 use Rattle.tv_container.proofs.Chain.{refuses_first}
+use Rattle.tv_check.proofs.Firsts.{first_failure-cons}
 use Rattle.tv_check.specs.declared.verdict.Verdict.{Verdict}
 use Rattle.tv_check.specs.declared.verdict.Verdict.TheVariants.{Yes, WireCount, NoPublic, NoConstraint}
-use Rattle.tv_check.specs.Verdict.{holds, first_failing, first_difference, constraint_verdict, public_verdict, judge, verdict_of}
+use Rattle.tv_check.specs.Verdict.{first_difference, constraint_verdict, public_verdict, judge, verdict_of}
 
 -- the verdict once one more constraint is tried, the one with this number, which holds or not
 abbrev pub tried : Verdict → ℕ → Bool → Verdict
@@ -34,14 +36,18 @@ behind true true None at = refl
 behind true false None at = refl
 behind false last failing at = refl
 
-first_failing-more : (z : List ℕ) (done : List Constraint) (next : Constraint) →
-    first_failing z (done ++ next ∷ []) ≡ with_last (first_failing z done) (length done) (holds z next)
-first_failing-more z [] next = last (holds z next)
+first_failure-more : (z : List ℕ) (done : List Constraint) (next : Constraint) →
+    first_failure z 0 (done ++ next ∷ []) ≡ with_last (first_failure z 0 done) (length done) (holds z next)
+first_failure-more z [] next = last (holds z next)
   where
     last : (test : Bool) → cond test (option_map suc None) (Some 0) ≡ with_last None 0 test
     last true = refl
     last false = refl
-first_failing-more z (c ∷ cs) next = rw (first_failing-more z cs next) (behind (holds z c) (holds z next) (first_failing z cs) (length cs))
+first_failure-more z (c ∷ cs) next =
+    first_failure-cons z c (cs ++ next ∷ [])
+    ∙ ap (λ rest. cond (holds z c) (option_map suc rest) (Some 0)) (first_failure-more z cs next)
+    ∙ behind (holds z c) (holds z next) (first_failure z 0 cs) (length cs)
+    ∙ ap (λ first. with_last first (length (c ∷ cs)) (holds z next)) (sym (first_failure-cons z c cs))
 
 more : (test : Bool) (public failing : Option ℕ) (has wants at : ℕ) (holds : Bool) →
     cond test (public_verdict public (constraint_verdict (with_last failing at holds))) (WireCount has wants)
@@ -56,8 +62,8 @@ more false public failing has wants at holds = refl
 pub judge-more : (header : Header) (z x : List ℕ) (done : List Constraint) (next : Constraint) →
     judge (system_with header (done ++ next ∷ [])) z x ≡ tried (judge (system_with header done) z x) (length done) (holds z next)
 judge-more header z x done next =
-    rw (first_failing-more z done next)
-    (more (length z == header.wires) (first_difference (1 ∷ x) (take (1 + header.outputs + header.inputs) z)) (first_failing z done) (length z) header.wires (length done) (holds z next))
+    rw (first_failure-more z done next)
+    (more (length z == header.wires) (first_difference (1 ∷ x) (take (1 + header.outputs + header.inputs) z)) (first_failure z 0 done) (length z) header.wires (length done) (holds z next))
 
 -- the verdict on a system that was read, and what is refused of it
 pub verdict_of-read : (file z x : List ℕ) (system : System) → system_of file ≡ Ok system → verdict_of file z x ≡ Ok (judge system z x)

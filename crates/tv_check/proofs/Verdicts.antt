@@ -4,10 +4,11 @@ use Rattle.std.specs.Prelude.{slice_get}
 use Rattle.std.proofs.lemmas.Bool.{eqb-true, eqb-false, eq-eqb, ne_eqb}
 use Rattle.std.proofs.lemmas.List.Elements.{All-from_recursion, recursion_from_All}
 use Rattle.tv_core.specs.Constraints.{System, Sat, Extends}
+use Rattle.tv_core.specs.Meanings.{first_failure}
 use Rattle.tv_core.specs.declared.field.TheConstants.{P}
 use Rattle.tv_check.specs.declared.verdict.Verdict.{Verdict}
 use Rattle.tv_check.specs.declared.verdict.Verdict.TheVariants.{Yes, WireCount, NoPublic, NoConstraint}
-use Rattle.tv_check.specs.Verdict.{HasRoom, first_failing, first_difference, constraint_verdict, public_verdict, judge}
+use Rattle.tv_check.specs.Verdict.{HasRoom, first_difference, constraint_verdict, public_verdict, judge}
 use Rattle.tv_check.specs.Meaning.{Tells}
 use Rattle.tv_check.proofs.Firsts.{all_hold, none_fails, fails_at, failing_of, same_lists, no_difference, differ, difference_of}
 
@@ -47,9 +48,9 @@ chose true (Some at) failing has wants verdict e = rw (← e) (refl, refl)
 chose false public failing has wants verdict e = rw (← e) (refl, refl, refl)
 
 judge_chose : (s : System) (z x : List ℕ) (verdict : Verdict) → judge s z x ≡ verdict →
-    Chose (length z == s.wires) (first_difference (1 ∷ x) (take (1 + s.outputs + s.inputs) z)) (first_failing z s.constraints) (length z) s.wires verdict
+    Chose (length z == s.wires) (first_difference (1 ∷ x) (take (1 + s.outputs + s.inputs) z)) (first_failure z 0 s.constraints) (length z) s.wires verdict
 judge_chose s z x verdict e =
-    chose (length z == s.wires) (first_difference (1 ∷ x) (take (1 + s.outputs + s.inputs) z)) (first_failing z s.constraints) (length z) s.wires verdict e
+    chose (length z == s.wires) (first_difference (1 ∷ x) (take (1 + s.outputs + s.inputs) z)) (first_failure z 0 s.constraints) (length z) s.wires verdict e
 
 -- yes comes exactly where the assignment satisfies the system and extends the numbers
 yes_tells : (system : System) (z x : List ℕ) → HasRoom system → All (λ v. v < P) z → judge system z x ≡ Yes → Sat system z × Extends system z x

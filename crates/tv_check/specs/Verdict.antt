@@ -1,9 +1,9 @@
 -- The verdict on a system, an assignment and the public numbers that it is to extend: the first of
 -- these that is wrong is named: the number of values, a public wire, a constraint.
-use Rattle.std.specs.Prelude.{ℕ, suc, ◌+◌, ◌*◌, ◌%◌, ◌≤◌, Bool, List, [], ◌∷◌, length, take, Option, Some, None, Result, Ok, ◌==◌, if◌then◌else◌}
+use Rattle.std.specs.Prelude.{ℕ, suc, ◌+◌, ◌≤◌, List, [], ◌∷◌, length, take, Option, Some, None, Result, Ok, ◌==◌, if◌then◌else◌}
 use Rattle.std.specs.Option.{option_map}
-use Rattle.tv_core.specs.Constraints.{System, Constraint, value}
-use Rattle.tv_core.specs.declared.field.TheConstants.{P}
+use Rattle.tv_core.specs.Constraints.{System}
+use Rattle.tv_core.specs.Meanings.{first_failure}
 use Rattle.tv_container.specs.Places.{Fault, ◌>>=◌}
 use Rattle.tv_r1cs_read.specs.R1cs.{system_of}
 use Rattle.tv_check.specs.declared.verdict.Verdict.{Verdict}
@@ -12,16 +12,6 @@ use Rattle.tv_check.specs.declared.verdict.Verdict.TheVariants.{Yes, WireCount, 
 -- there is a wire for the constant 1 and each public number
 abbrev pub HasRoom : System → Type 0
 HasRoom system = 1 + system.outputs + system.inputs ≤ system.wires
-
--- the test of a constraint
-abbrev pub holds : List ℕ → Constraint → Bool
-holds z constraint = value constraint.a z * value constraint.b z % P == value constraint.c z
-
--- the place of the first constraint that doesn't hold
-abbrev pub first_failing : List ℕ → List Constraint → Option ℕ
-first_failing z [] = None
-first_failing z (constraint ∷ constraints) =
-    if holds z constraint then option_map suc (first_failing z constraints) else Some 0
 
 -- the least place where two lists differ; a place in one list alone differs
 abbrev pub first_difference : List ℕ → List ℕ → Option ℕ
@@ -46,7 +36,7 @@ abbrev pub judge : System → List ℕ → List ℕ → Verdict
 judge system z x =
     if length z == system.wires
     then public_verdict (first_difference (1 ∷ x) (take (1 + system.outputs + system.inputs) z))
-    (constraint_verdict (first_failing z system.constraints))
+    (constraint_verdict (first_failure z 0 system.constraints))
     else WireCount (length z) system.wires
 
 -- the verdict by the system that a file holds, or the file's first fault

@@ -1,14 +1,14 @@
 -- The place in a system's file that reading has come to, by the constraints that it has given.
 use Rattle.std.specs.Prelude.{◌≡◌, ℕ, Bool, true, false, List, [], ◌∷◌, ◌++◌, Option, Some, None, Result, Ok}
-use Rattle.std.specs.List.{sum_by}
 use Rattle.tv_core.specs.Constraints.{Constraint, System}
+use Rattle.tv_core.specs.Meanings.{terms_in}
 use Rattle.tv_container.specs.Places.{Fault, ◌>>=◌}
 use Rattle.tv_r1cs_read.specs.declared.header.Header.{Header}
 use Rattle.tv_r1cs_read.specs.declared.rows.Row.{Row}
 use Rattle.tv_r1cs_read.specs.Progress.{Reached, Follows, ahead, counts_of}
 use Rattle.tv_r1cs_read.specs.R1cs.{constraints_from, header_of, system_of}
 use Rattle.tv_r1cs_read.specs.Rows.{constraint_of}
-use Rattle.tv_r1cs_read.specs.Survey.{survey_of, terms_of}
+use Rattle.tv_r1cs_read.specs.Survey.{survey_of}
 
 -- the system of a header and of constraints
 abbrev pub system_with : Header → List Constraint → System
@@ -26,7 +26,7 @@ pub record IsAt (reached : Reached) (file : List ℕ) (rows : List Constraint) :
   pub follows : Follows reached file
   pub header : header_of file ≡ Ok reached.header
   pub read : HasRead rows (constraints_from file reached.header.wires reached.header.rows reached.header.constraints reached.header.rows.at) (ahead reached file)
-  pub terms : reached.terms ≡ sum_by terms_of rows
+  pub terms : reached.terms ≡ terms_in rows
 
 -- reading has given all constraints: the file holds this system, and these are its counts
 pub record IsAll (reached : Reached) (file : List ℕ) (rows : List Constraint) : Type 0 where

@@ -1,7 +1,8 @@
 -- Constraints that are tried as they are read, with no term kept.
-use Rattle.std.specs.Prelude.{◌≡◌, ℕ, ◌+◌, ◌*◌, ◌%◌, ◌≤◌, ◌==◌, ◌⊎◌, Bool, List, [], ◌∷◌, ◌++◌, length, Option, Some, None, Result, Ok, MatchOption, slice_index}
+use Rattle.std.specs.Prelude.{◌≡◌, ℕ, ◌+◌, ◌*◌, ◌≤◌, ◌⊎◌, Bool, List, [], ◌∷◌, ◌++◌, length, Option, Some, None, Result, Ok, MatchOption, slice_index}
 use Rattle.std.specs.List.{sum_by}
 use Rattle.tv_core.specs.Constraints.{Combination, Constraint, value}
+use Rattle.tv_core.specs.Meanings.{holds}
 use Rattle.tv_core.specs.declared.field.TheConstants.{P}
 use Rattle.tv_container.specs.Places.{Fault, number}
 use Rattle.tv_container.specs.Reading.{Refuses}
@@ -31,11 +32,11 @@ pub record IsValued (answer : Result (Read Combination) Fault) (z : List ℕ) (v
   pub is : v ≡ value terms z
 
 -- the constraint that was read holds or not, has so many terms, and ends before this place
-pub record IsTried (answer : Result (Read Constraint) Fault) (z : List ℕ) (holds : Bool) (n next : ℕ) : Type 0 where
+pub record IsTried (answer : Result (Read Constraint) Fault) (z : List ℕ) (test : Bool) (n next : ℕ) : Type 0 where
   pub constraint : Constraint
   pub count : n ≡ terms_of constraint
   pub read : answer ≡ Ok (record { value = constraint; next = next })
-  pub is : holds ≡ (value constraint.a z * value constraint.b z % P == value constraint.c z)
+  pub is : test ≡ holds z constraint
 
 -- a step that keeps its refusal apart gave something, or reading stopped
 abbrev pub Ended : {A : Type 0} → Option A → Option ReadRefusal → (A → Type 0) → (ReadRefusal → Type 0) → Type 0
@@ -44,14 +45,14 @@ Ended None (Some why) Gives Stops = Stops why
 Ended None None Gives Stops = ⊥
 
 -- reading has given one constraint behind these, and it holds under an assignment or not
-pub record HasTried (holds : Bool) (z : List ℕ) (reached : Reached) (file : List ℕ) (rows : List Constraint) : Type 0 where
+pub record HasTried (test : Bool) (z : List ℕ) (reached : Reached) (file : List ℕ) (rows : List Constraint) : Type 0 where
   pub constraint : Constraint
   pub place : IsAt reached file (rows ++ constraint ∷ [])
-  pub is : holds ≡ (value constraint.a z * value constraint.b z % P == value constraint.c z)
+  pub is : test ≡ holds z constraint
 
 -- reading went on from these constraints by one that was tried; or they are all; or it stopped
 abbrev pub GaveTried : Option Bool → List ℕ → Reached → List ℕ → List Constraint → Type 0
-GaveTried (Some holds) z reached file rows = HasTried holds z reached file rows
+GaveTried (Some test) z reached file rows = HasTried test z reached file rows
 GaveTried None z reached file rows = MatchOption reached.stopped (IsAll reached file rows) (λ why. Refuses why (system_of file))
 
 -- reading went on to the end from these constraints: with those behind them they are all; or it stopped

@@ -1,7 +1,7 @@
 -- What a system counts.
 use Rattle.std.specs.Prelude.{ℕ, ◌+◌, List, length, Result, Ok}
-use Rattle.std.specs.List.{sum_by}
 use Rattle.tv_core.specs.Constraints.{Constraint, System}
+use Rattle.tv_core.specs.Meanings.{terms_in}
 use Rattle.tv_core.specs.declared.lines.Counts.{Counts}
 use Rattle.tv_container.specs.Places.{Fault, ◌>>=◌}
 use Rattle.tv_r1cs_read.specs.R1cs.{system_of}
@@ -17,7 +17,7 @@ system_counts system = record {
   outputs = system.outputs;
   inputs = system.inputs;
   constraints = length system.constraints;
-  terms = sum_by terms_of system.constraints;
+  terms = terms_in system.constraints;
 }
 
 -- the counts of the system that a file holds, or the file's first fault

@@ -3,9 +3,7 @@ use Rattle.std.proofs.Common.{◌≡◌, ◌⊎◌, inl, inr, ℕ, List, [], ◌
 use Rattle.std.proofs.lemmas.Grind.{flat_map-append}
 use Rattle.tv_container.specs.Bytes.{front_bytes, section_bytes, section_head}
 use Rattle.tv_container.proofs.Written.{but_front, front_front}
-use Rattle.tv_core.specs.Constraints.{Constraint, System}
-use Rattle.tv_core.specs.Meanings.{terms_in}
-use Rattle.tv_core.specs.declared.lines.Counts.{Counts}
+use Rattle.tv_core.specs.Constraints.{Constraint}
 use Rattle.tv_files.proofs.NamedFiles.{with_bytes-here}
 use Rattle.tv_files.proofs.Written.{written_grows}
 use Rattle.tv_files.specs.Outside.{Names, with_bytes}
@@ -18,8 +16,6 @@ use Rattle.tv_r1cs_write.proofs.Sizes.{length-rows_bytes}
 -- each section is as long as its header says
 pub files_of_systems : FilesAreOfSystems
 files_of_systems counts count list labels are =
-    let system : System = record { wires = counts.wires; outputs = counts.outputs; inputs = counts.inputs; constraints = list } in
-    let same : Counts = record { wires = counts.wires; outputs = counts.outputs; inputs = counts.inputs; constraints = length list; terms = terms_in list } in
     let front = front_bytes 0x73633172 1 3 in
     let one = section_bytes 1 (counts_bytes counts count) in
     let rest = rows_bytes list ++ section_bytes 3 (label_bytes labels) in

@@ -1,5 +1,5 @@
 -- From what a sink that writes promises to what streaming a system is.
-use Rattle.std.proofs.Common.{◌≡◌, ◌+◌, ◌^◌, ◌<◌, ◌≤◌, ℕ, List, [], ◌∷◌, ◌++◌, length, Result, Ok, Err, inr, append_assoc, refl, sym, ap, ◌∙◌}
+use Rattle.std.proofs.Common.{◌≡◌, ◌+◌, ◌^◌, ◌<◌, ◌≤◌, ℕ, List, [], ◌∷◌, ◌++◌, Result, Ok, Err, inr, append_assoc, refl, sym, ap, ◌∙◌}
 use Rattle.std.proofs.lemmas.List.FromFn.{length-range_with_len}
 use Rattle.std.specs.List.{range_with_len}
 use Rattle.tv_container.proofs.Buffers.{appends_then}
@@ -8,20 +8,17 @@ use Rattle.tv_container.specs.Writing.{OnlyAppends}
 use Rattle.tv_container.specs.Written.{HasFront}
 use Rattle.tv_core.specs.Circuits.{Circuit}
 use Rattle.tv_core.specs.Constraints.{System}
-use Rattle.tv_core.specs.Meanings.{terms_in}
 use Rattle.tv_core.specs.Sinks.{PutsAll, PutsSome}
 use Rattle.tv_core.specs.declared.lines.Counts.{Counts}
 use Rattle.tv_core.specs.declared.sink.SinkFault.{SinkFault}
 use Rattle.tv_files.specs.Calls.{Creates}
 use Rattle.tv_files.specs.Outside.{Outside}
 use Rattle.tv_r1cs_read.specs.R1cs.{system_of}
+use Rattle.tv_r1cs_read.specs.Survey.{system_counts}
 use Rattle.tv_r1cs_write.proofs.Files.{files_are_fronts, files_of_systems}
 use Rattle.tv_r1cs_write.proofs.Systems.{systems_come_back}
 use Rattle.tv_r1cs_write.specs.Streamed.{labelled_bytes, IsSystemStreamed}
 use Rattle.tv_r1cs_write.specs.Streams.{Stream, Progress, Stands, Finishes, KeepsFile, begun, stream_meaning, finished_bytes}
-
-abbrev counts_of : System → Counts
-counts_of system = record { wires = system.wires; outputs = system.outputs; inputs = system.inputs; constraints = length system.constraints; terms = terms_in system.constraints }
 
 -- what a sink is that was begun with the counts of a system, whose constraints are a circuit's
 pub record IsBegun {S A : Type 0} (seen : S → Stream) (name : List ℕ) (old : Outside) (sink : S) (circuit : Circuit A) (system : System) (counts : Counts) : Type 0 where
@@ -29,7 +26,7 @@ pub record IsBegun {S A : Type 0} (seen : S → Stream) (name : List ℕ) (old :
   pub named : (seen sink).name ≡ name
   pub begins : (seen sink).progress ≡ begun counts counts.wires
   pub stands : Stands (seen sink) []
-  pub counted : counts ≡ counts_of system
+  pub counted : counts ≡ system_counts system
   pub list : (circuit (1 + system.outputs + system.inputs)).list ≡ system.constraints
   pub next : (circuit (1 + system.outputs + system.inputs)).next ≡ system.wires
   pub publics : 1 + system.outputs + system.inputs ≤ system.wires
@@ -47,7 +44,7 @@ module _ {S A : Type 0} (seen : S → Stream) (name : List ℕ) (old : Outside) 
   -- the bytes of the file are told by what every call keeps
   bytes : (new : S) → KeepsFile (seen sink) (seen new) → finished_bytes (seen new).progress system.constraints (range_with_len 0 (seen new).progress.counts.wires) ≡ labelled_bytes system
   bytes new keeps =
-      rw (keeps.counts, keeps.labels, is.begins, is.counted) (files_of_systems (counts_of system) system.wires system.constraints (range_with_len 0 system.wires) (record { constraints = refl; terms = refl }))
+      rw (keeps.counts, keeps.labels, is.begins, is.counted) (files_of_systems (system_counts system) system.wires system.constraints (range_with_len 0 system.wires) (record { constraints = refl; terms = refl }))
 
   -- a constraint was refused
   pub streamed_some : (new : S) (fault : SinkFault) → PutsSome (stream_meaning seen) sink new circuit fault → IsSystemStreamed old (seen new).outside name system (Err fault)

@@ -13,6 +13,7 @@ use Rattle.tv_core.specs.Constraints.{Constraint}
 use Rattle.tv_core.specs.Meanings.{terms_in}
 use Rattle.tv_core.specs.declared.lines.Counts.{Counts}
 use Rattle.tv_r1cs_read.specs.R1cs.{checked, counted, header_in, header_of, constraints_from, system_of}
+use Rattle.tv_r1cs_read.specs.Survey.{system_counts}
 use Rattle.tv_r1cs_read.specs.declared.header.Header.{Header}
 use Rattle.tv_r1cs_read.proofs.HeaderLemmas.{header_in-checked}
 use Rattle.tv_r1cs_write.specs.Bytes.{counts_bytes, label_bytes, numbers_bytes, rows_bytes, system_bytes}
@@ -137,7 +138,7 @@ pub systems_come_back : SystemsComeBack
 systems_come_back system count labels is each =
     let file = system_bytes system count labels in
     let list = system.constraints in
-    let counts : Counts = record { wires = system.wires; outputs = system.outputs; inputs = system.inputs; constraints = length list; terms = terms_in list } in
+    let counts = system_counts system in
     let one = counts_bytes counts count in
     let two = rows_bytes list in
     let three = label_bytes labels in

@@ -5,6 +5,7 @@ use Rattle.tv_container.specs.Bytes.{eight_bytes, four_bytes, front_bytes, secti
 use Rattle.tv_core.specs.Constraints.{Combination, Constraint, System}
 use Rattle.tv_core.specs.Meanings.{terms_in}
 use Rattle.tv_core.specs.declared.lines.Counts.{Counts}
+use Rattle.tv_r1cs_read.specs.Survey.{system_counts}
 
 -- a combination: four bytes that count its terms, and the terms
 abbrev pub combination_bytes : Combination → List ℕ
@@ -58,10 +59,5 @@ pub record AreCounts (counts : Counts) (list : List Constraint) : Type 0 where
 -- the bytes of a system whose wires have these labels: the three sections, each as long as its header says
 abbrev pub system_bytes : System → ℕ → List ℕ → List ℕ
 system_bytes system count labels =
-    front_bytes 0x73633172 1 3 ++ (section_bytes 1 (counts_bytes (record {
-      wires = system.wires;
-      outputs = system.outputs;
-      inputs = system.inputs;
-      constraints = length system.constraints;
-      terms = terms_in system.constraints;
-    }) count) ++ (section_bytes 2 (rows_bytes system.constraints) ++ section_bytes 3 (label_bytes labels)))
+    front_bytes 0x73633172 1 3 ++ (section_bytes 1 (counts_bytes (system_counts system) count) ++
+    (section_bytes 2 (rows_bytes system.constraints) ++ section_bytes 3 (label_bytes labels)))

@@ -11,7 +11,8 @@ use Rattle.tv_container.specs.declared.why.ReadWhy.TheVariants.{BadCount, TooWid
 use Rattle.tv_core.specs.Constraints.{Constraint}
 use Rattle.tv_core.specs.declared.field.TheConstants.{P}
 use Rattle.tv_r1cs_read.specs.R1cs.{terms_at, combination_at, constraint_at, constraints_from, header_of, system_of}
-use Rattle.tv_shrink.specs.Laws.{IsOver, AreOver, SystemsAreOver}
+use Rattle.tv_r1cs_write.specs.Narrow.{IsOver}
+use Rattle.tv_shrink.specs.Laws.{AreOver, SystemsAreOver}
 
 bind_if : {A B : Type 0} (read : Result A Fault) (f : A → Result B Fault) (P : A → Type 0) (Q : B → Type 0) → IfOk read P → ((x : A) → P x → IfOk (f x) Q) → IfOk (read >>= f) Q
 bind_if (Ok x) f P Q is h = h x is

@@ -1,13 +1,12 @@
 -- What shrinking the system of a file answers.
 use Rattle.std.specs.Prelude.{◌≡◌, ℕ, ◌+◌, ◌^◌, ◌≤◌, ◌<◌, nat_lt, Bool, false, map, replicate, List, [], ◌∷◌, length, Option, None, Some, Ok, Result, MatchResult, if◌then◌else◌}
-use Rattle.std.specs.List.{sum_by}
 use Rattle.tv_container.specs.Places.{wrong}
 use Rattle.tv_container.specs.declared.why.ReadRefusal.{ReadRefusal}
 use Rattle.tv_container.specs.declared.why.ReadRefusal.TheVariants as refusal
 use Rattle.tv_core.specs.Constraints.{Combination, Constraint, System}
+use Rattle.tv_core.specs.Meanings.{terms_in}
 use Rattle.tv_files.specs.Outside.{Outside, OnlyReads, MissesOnly}
 use Rattle.tv_r1cs_read.specs.R1cs.{system_of}
-use Rattle.tv_r1cs_read.specs.Survey.{terms_of}
 use Rattle.tv_shrink.specs.declared.fault.ShrinkFault.{ShrinkFault}
 use Rattle.tv_shrink.specs.declared.fault.ShrinkFault.TheVariants.{Bad, Terms, Combination as Wide, Fault as Failed, Memory}
 use Rattle.tv_core.specs.declared.lines.Counts.{Counts}
@@ -53,7 +52,7 @@ most = 4194304
 
 -- how many terms a system has
 abbrev pub all_terms : System → ℕ
-all_terms system = sum_by terms_of system.constraints
+all_terms system = terms_in system.constraints
 
 -- a file's system has at most so many terms, no combination of it is too wide, and this is the shrunk system
 pub record Shrinks (shrunken : Shrunken) (file : List ℕ) : Type 0 where
@@ -120,7 +119,7 @@ pub record IsRead (counts : Counts) (rows : List (Option Constraint)) (file : Li
   pub list : List Constraint
   pub is : system_of file ≡ Ok (counted_system counts list)
   pub same : rows ≡ start_rows list
-  pub few : sum_by terms_of list ≤ most
+  pub few : terms_in list ≤ most
   pub narrow : first_wide list ≡ None
 
 -- a refusal of a system for its terms or for a combination

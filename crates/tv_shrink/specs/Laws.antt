@@ -1,13 +1,10 @@
 -- A system's solutions and those of the shrunk one.
-use Rattle.std.specs.Prelude.{◌≡◌, ◌↔◌, ℕ, ◌+◌, ◌<◌, ◌≤◌, List, take, IfOk}
+use Rattle.std.specs.Prelude.{◌≡◌, ◌↔◌, ℕ, ◌+◌, ◌≤◌, List, take, IfOk}
 use Rattle.std.specs.List.{All, range_with_len}
-use Rattle.tv_core.specs.Constraints.{Combination, Constraint, System, Sat}
+use Rattle.tv_core.specs.Constraints.{Constraint, System, Sat}
 use Rattle.tv_r1cs_read.specs.R1cs.{system_of}
+use Rattle.tv_r1cs_write.specs.Narrow.{IsOver}
 use Rattle.tv_shrink.specs.Shrinking.{shrink, at_wires}
-
--- each wire of a combination is below a number
-abbrev pub IsOver : ℕ → Combination → Type 0
-IsOver wires x = All (λ t. t.1 < wires) x
 
 -- each wire of a constraint is
 pub record AreOver (wires : ℕ) (row : Constraint) : Type 0 where
