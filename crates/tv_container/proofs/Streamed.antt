@@ -1,7 +1,7 @@
 -- What was created and then appended to is one file that was streamed.
-use Rattle.std.proofs.Common.{◌≡◌, ◌⊎◌, ℕ, List, [], Option, Some, None, option_map, take, Ok, Err, inl, inr, ap, refl, sym, ◌∙◌, arith}
+use Rattle.std.proofs.Common.{◌≡◌, ◌⊎◌, ℕ, List, [], Option, Some, None, option_map, take, Result, Ok, Err, inl, inr, ap, refl, sym, ◌∙◌, arith}
+use Rattle.std.specs.Prelude.{OnOk, OnErr}
 use Rattle.tv_container.specs.Faults.{sink_fault}
-use Rattle.tv_container.specs.Streamed.{IsStreamed}
 use Rattle.tv_container.specs.Writing.{OnlyAppends}
 use Rattle.tv_container.specs.Written.{HasNow, HasFront, NotCreated}
 use Rattle.tv_core.specs.Sinks.{IsCause}
@@ -14,6 +14,17 @@ use Rattle.tv_files.specs.Outside.{Names, Outside, OnlyWrites, with_bytes}
 use Rattle.tv_files.specs.Whole.{HasBytes, HasPart}
 use Rattle.tv_files.specs.declared.calls.FileRefusal.{FileRefusal}
 use Rattle.tv_files.specs.declared.calls.FileRefusal.TheVariants as file
+use Rattle.tv_word.specs.Counts.{Rose}
+
+-- What writing a file comes to whose bytes come one after another, from before it is created to after the last of them: where
+-- contents are told, the name has these bytes, or after a refusal is as it was or has the first few of them. Every other file
+-- is as it was, and the count that goes with a refusal rose.
+pub record IsStreamed (old new : Outside) (name bytes : List ℕ) (result : Result (Unit {0}) SinkFault) : Type 0 where
+  pub whole : OnOk result (HasBytes old new name bytes)
+  pub part : OnErr result (HasPart old new name bytes)
+  pub only : OnlyWrites old new
+  pub failed : result ≡ Err sink.Failed → Rose old.write_faults new.write_faults
+  pub memory : result ≡ Err sink.Memory → Rose old.wants new.wants
 
 -- the count that goes with a fault rose
 abbrev pub Caused : SinkFault → Outside → Outside → Type 0

@@ -6,6 +6,5 @@ pub mod Places
 pub mod Reading
 pub mod Refusals
 pub mod Sections
-pub mod Streamed
 pub mod Writing
 pub mod Written

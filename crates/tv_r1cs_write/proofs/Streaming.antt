@@ -2,8 +2,9 @@
 use Rattle.std.proofs.Common.{◌≡◌, ◌+◌, ◌^◌, ◌<◌, ◌≤◌, ℕ, List, [], ◌∷◌, ◌++◌, Result, Ok, Err, inr, append_assoc, refl, sym, ap, ◌∙◌}
 use Rattle.std.proofs.lemmas.List.FromFn.{length-range_with_len}
 use Rattle.std.specs.List.{range_with_len}
+use Rattle.std.specs.Prelude.{OnOk}
 use Rattle.tv_container.proofs.Buffers.{appends_then}
-use Rattle.tv_container.proofs.Streamed.{caused_seen, caused_since, streamed_whole, streamed_part}
+use Rattle.tv_container.proofs.Streamed.{IsStreamed, caused_seen, caused_since, streamed_whole, streamed_part}
 use Rattle.tv_container.specs.Writing.{OnlyAppends}
 use Rattle.tv_container.specs.Written.{HasFront}
 use Rattle.tv_core.specs.Circuits.{Circuit}
@@ -17,8 +18,17 @@ use Rattle.tv_r1cs_read.specs.R1cs.{system_of}
 use Rattle.tv_r1cs_read.specs.Survey.{system_counts}
 use Rattle.tv_r1cs_write.proofs.Files.{files_are_fronts, files_of_systems}
 use Rattle.tv_r1cs_write.proofs.Systems.{systems_come_back}
-use Rattle.tv_r1cs_write.specs.Streamed.{labelled_bytes, IsSystemStreamed}
+use Rattle.tv_r1cs_write.specs.Bytes.{system_bytes}
 use Rattle.tv_r1cs_write.specs.Streams.{Stream, Progress, Stands, Finishes, KeepsFile, begun, stream_meaning, finished_bytes}
+
+-- the file of a system whose wires have the labels 0, 1, ..
+abbrev pub labelled_bytes : System → List ℕ
+labelled_bytes system = system_bytes system system.wires (range_with_len 0 system.wires)
+
+-- what streaming a system to a file comes to; a whole file is read as the system again
+pub record IsSystemStreamed (old new : Outside) (name : List ℕ) (system : System) (result : Result (Unit {0}) SinkFault) : Type 0 where
+  pub file : IsStreamed old new name (labelled_bytes system) result
+  pub read : OnOk result (system_of (labelled_bytes system) ≡ Ok system)
 
 -- what a sink is that was begun with the counts of a system, whose constraints are a circuit's
 pub record IsBegun {S A : Type 0} (seen : S → Stream) (name : List ℕ) (old : Outside) (sink : S) (circuit : Circuit A) (system : System) (counts : Counts) : Type 0 where

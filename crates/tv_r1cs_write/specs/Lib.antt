@@ -2,4 +2,3 @@ pub mod Bytes
 pub mod Laws
 pub mod Narrow
 pub mod Streams
-pub mod Streamed

@@ -1,15 +1,14 @@
 -- From a file that was streamed to what writing a plan's file is.
 use Rattle.std.proofs.Common.{ℕ, List, [], ◌∷◌, Result, Ok, Err, inl, refl}
 use Rattle.std.specs.Prelude.{OnOk}
-use Rattle.tv_container.proofs.Streamed.{not_created}
-use Rattle.tv_container.specs.Streamed.{IsStreamed}
+use Rattle.tv_container.proofs.Streamed.{IsStreamed, not_created}
 use Rattle.tv_container.specs.Written.{NotCreated}
 use Rattle.tv_core.specs.Constraints.{System}
 use Rattle.tv_core.specs.declared.sink.SinkFault.{SinkFault}
 use Rattle.tv_core.specs.declared.sink.SinkFault.TheVariants as sink
 use Rattle.tv_top.proofs.Common.{Outside, bytes_in, IsRead, Writes, sink_cut, streamed, Write}
-use Rattle.tv_r1cs_write.specs.Streamed.{IsSystemStreamed}
-use Rattle.tv_wtns.specs.Streamed.{IsAssignmentStreamed}
+use Rattle.tv_r1cs_write.proofs.Streaming.{IsSystemStreamed}
+use Rattle.tv_wtns.proofs.Streaming.{IsAssignmentStreamed}
 use Rattle.tv_top.specs.Contents.{Content, Content.{Constraints, Values}}
 
 pub writes_streamed : (w : Write) (old new : Outside) (result : Result (Unit {0}) SinkFault) → IsStreamed old new w.name (bytes_in w.content) result → OnOk result (IsRead w.content) → Writes (w ∷ []) old new (streamed w.word result)

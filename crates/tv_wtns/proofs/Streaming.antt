@@ -1,7 +1,8 @@
 -- From what a taker that writes promises to what streaming an assignment is.
 use Rattle.std.proofs.Common.{◌≡◌, ◌^◌, ◌<◌, ℕ, List, [], ◌∷◌, ◌++◌, length, Result, Ok, Err, inr, append_assoc, sym, ◌∙◌, refl}
+use Rattle.std.specs.Prelude.{OnOk}
 use Rattle.tv_container.proofs.Buffers.{appends_then}
-use Rattle.tv_container.proofs.Streamed.{caused_seen, caused_since, streamed_whole, streamed_part}
+use Rattle.tv_container.proofs.Streamed.{IsStreamed, caused_seen, caused_since, streamed_whole, streamed_part}
 use Rattle.tv_container.specs.Writing.{OnlyAppends}
 use Rattle.tv_container.specs.Written.{HasFront}
 use Rattle.tv_core.specs.Giving.{GivesAll, GivesSome}
@@ -10,8 +11,13 @@ use Rattle.tv_files.specs.Calls.{Creates}
 use Rattle.tv_files.specs.Outside.{Outside}
 use Rattle.tv_wtns.proofs.Files.{come_back, files_are_fronts, files_of_assignments}
 use Rattle.tv_wtns.specs.Bytes.{assignment_bytes, file_bytes}
-use Rattle.tv_wtns.specs.Streamed.{IsAssignmentStreamed}
 use Rattle.tv_wtns.specs.Takers.{Taker, Stands, Finishes, KeepsFile, taker_giving}
+use Rattle.tv_wtns.specs.Wtns.{assignment_of}
+
+-- what streaming an assignment to a file comes to; a whole file is read as the assignment again
+pub record IsAssignmentStreamed (old new : Outside) (name values : List ℕ) (result : Result (Unit {0}) SinkFault) : Type 0 where
+  pub file : IsStreamed old new name (assignment_bytes values) result
+  pub read : OnOk result (assignment_of (assignment_bytes values) ≡ Ok values)
 
 -- what a taker is that was begun with the number of an assignment's values
 pub record IsBegun {V : Type 0} (seen : V → Taker) (name : List ℕ) (old : Outside) (taker : V) (values : List ℕ) : Type 0 where

@@ -5,4 +5,3 @@ pub mod Values
 pub mod Wtns
 pub use Rattle.tv_container.specs.Places
 pub use Rattle.tv_container.specs.Reading
-pub mod Streamed

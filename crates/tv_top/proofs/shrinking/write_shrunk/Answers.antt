@@ -1,4 +1,4 @@
-use Rattle.tv_container.specs.Streamed.{IsStreamed}
+use Rattle.tv_container.proofs.Streamed.{IsStreamed}
 use Rattle.tv_top.specs.Contents.{bytes_in, Content.{Rest}}
 use Rattle.tv_top.proofs.Streaming.{writes_streamed}
 use Rattle.tv_top.proofs.shrinking.write_shrunk.Goals as goal
