@@ -1,12 +1,14 @@
 ghost use Rattle.std.specs.Prelude.{◌≡◌};
 ghost use Rattle.tv_container.specs.Bytes.{eight_bytes, four_bytes};
 
+use tv_word::word_bytes;
+
 /// The four bytes that spell a number, the lowest first.
 #[tactic(auto, unfolding(crate::specs::Bytes::four_bytes))]
 pub fn short_bytes(number: u32) -> [u8; 4]
     ensures { result ≡ four_bytes number }
 {
-    number.to_le_bytes()
+    word_bytes(number)
 }
 
 /// The eight bytes that spell a number, the lowest first.

@@ -1,16 +1,22 @@
 -- A constraint that is written, and one that is refused.
-use Rattle.std.proofs.Common.{◌≡◌, ℕ, ◌+◌, ◌<◌, ◌≤◌, List, [], ◌∷◌, ◌++◌, take, append_assoc, append-nil, ap, refl, sym, ◌∙◌, arith}
+use Rattle.std.proofs.Common.{◌≡◌, ℕ, ◌+◌, ◌<◌, ◌≤◌, true, List, [], ◌∷◌, ◌++◌, take, Result, Ok, Err, append_assoc, append-nil, ap, refl, sym, ◌∙◌, arith}
 use Rattle.std.proofs.lemmas.Grind.{flat_map-append}
 use Rattle.std.proofs.lemmas.List.{length-append}
 use Rattle.std.proofs.lemmas.List.Elements.{All-nil, All-cons, All-push, All-weaker}
 use Rattle.std.specs.List.{All}
-use Rattle.tv_container.specs.Writing.{Adds, Passes}
+use Rattle.std.specs.Prelude.{OnOk, OnErr, IsErrAnd, MatchResult}
+use Rattle.tv_container.specs.Faults.{sink_fault}
+use Rattle.tv_container.specs.Writing.{Adds, Passes, PassesOn}
+use Rattle.tv_core.specs.Circuits.{put}
 use Rattle.tv_core.specs.Combinations.{top}
 use Rattle.tv_core.specs.Constraints.{Combination, Constraint}
+use Rattle.tv_core.specs.Sinks.{PutsIn}
+use Rattle.tv_core.specs.declared.sink.SinkFault.{SinkFault}
+use Rattle.tv_files.specs.declared.calls.FileRefusal.{FileRefusal}
 use Rattle.tv_r1cs_write.specs.Bytes.{head_bytes, rows_bytes, constraint_bytes}
 use Rattle.tv_r1cs_write.specs.Narrow.{AreShort, IsNarrow, IsOver}
-use Rattle.tv_r1cs_write.specs.Streams.{Progress, Stream, Stands, Tried, begun_bytes}
-use Rattle.tv_container.proofs.Written.{has_more, has_front}
+use Rattle.tv_r1cs_write.specs.Streams.{Progress, Stream, Stands, Tried, begun_bytes, stream_meaning}
+use Rattle.tv_container.proofs.Written.{has_more, has_front, is_cause}
 
 -- the bytes of one more constraint stand behind those of the others
 pub begun_bytes-more : (old new : Progress) (list : List Constraint) (row : Constraint) → new.counts ≡ old.counts → new.labels ≡ old.labels →
@@ -26,7 +32,7 @@ over_top : (wires : ℕ) (x : Combination) → top x ≤ wires → IsOver wires 
 over_top wires [] within = All-nil (λ t. t.1 < wires)
 over_top wires (t ∷ rest) within = All-cons (λ t. t.1 < wires) t rest (omega arith) (over_top wires rest (omega arith))
 
-pub narrow : (wires : ℕ) (row : Constraint) → AreShort row → top row.a ≤ wires → top row.b ≤ wires → top row.c ≤ wires → IsNarrow wires row
+narrow : (wires : ℕ) (row : Constraint) → AreShort row → top row.a ≤ wires → top row.b ≤ wires → top row.c ≤ wires → IsNarrow wires row
 narrow wires row short a b c = record { short = short; a = over_top wires row.a a; b = over_top wires row.b b; c = over_top wires row.c c }
 
 -- and below whatever is above that
@@ -38,7 +44,7 @@ narrow_more wires list all = All-weaker (IsNarrow wires) (IsNarrow (wires + 1))
     (λ row is. record { short = is.short; a = over_more wires row.a is.a; b = over_more wires row.b is.b; c = over_more wires row.c is.c }) list all
 
 -- a sink that has written one more constraint stands for it too
-pub stands_more : (old new : Stream) (list : List Constraint) (row : Constraint) → Stands old list → IsNarrow old.progress.wires row → new.name ≡ old.name →
+stands_more : (old new : Stream) (list : List Constraint) (row : Constraint) → Stands old list → IsNarrow old.progress.wires row → new.name ≡ old.name →
     new.progress ≡ record old.progress { held = new.progress.held; constraints = old.progress.constraints + 1 } →
     Passes old.outside new.outside old.name (old.progress.held ++ constraint_bytes row) new.progress.held → Stands new (list ++ row ∷ [])
 stands_more old new list row stands is_narrow name progress passes = record {
@@ -53,10 +59,53 @@ stands_more old new list row stands is_narrow name progress passes = record {
 }
 
 -- a sink that was refused a constraint has tried it
-pub tried_more : (old new : Stream) (list : List Constraint) (row : Constraint) → Stands old list → new.name ≡ old.name →
+tried_more : (old new : Stream) (list : List Constraint) (row : Constraint) → Stands old list → new.name ≡ old.name →
     new.progress.counts ≡ old.progress.counts → new.progress.labels ≡ old.progress.labels →
     ((n : ℕ) × Adds old.outside new.outside old.name (take n (old.progress.held ++ constraint_bytes row))) → Tried new (list ++ row ∷ [])
 tried_more old new list row stands name counts labels added = record {
   written = rw (name, ← begun_bytes-more old.progress new.progress list row counts labels)
       (has_front old.outside new.outside old.name old.progress.held _ (constraint_bytes row) stands.written added);
 }
+
+-- a sink puts a constraint by writing it, and answers as it was written
+pub put_by : {S : Type 0} (seen : S → Stream) (old new : S) (row : Constraint) (written : Result (Unit {0}) FileRefusal) (result : Result (Unit {0}) SinkFault) →
+    (seen new).borrow ≡ (seen old).borrow → (seen new).name ≡ (seen old).name →
+    top row.a ≤ (seen old).progress.wires → top row.b ≤ (seen old).progress.wires → top row.c ≤ (seen old).progress.wires →
+    PassesOn (seen old).outside (seen new).outside (seen old).name ((seen old).progress.held ++ constraint_bytes row) (seen new).progress.held written →
+    OnOk written (AreShort row) →
+    OnOk written ((seen new).progress ≡ record (seen old).progress { held = (seen new).progress.held; constraints = (seen old).progress.constraints + 1 }) →
+    OnErr written ((seen new).progress ≡ record (seen old).progress { held = (seen new).progress.held; broken = true }) →
+    MatchResult written (λ x. result ≡ Ok x) (λ why. IsErrAnd result (λ fault. fault ≡ sink_fault why)) →
+    PutsIn (stream_meaning seen) old new (put row.a row.b row.c) result
+unfolding put
+put_by seen old new row (Ok unit) (Ok done) borrow name a b c passes short ok err is = record {
+  answers = refl;
+  stands = λ list s. stands_more (seen old) (seen new) list row s (narrow (seen old).progress.wires row short a b c) name ok passes.done;
+  next = ap (λ (p : Progress). p.wires) ok;
+  keeps = record {
+    borrow = borrow;
+    name = name;
+    counts = ap (λ (p : Progress). p.counts) ok;
+    labels = ap (λ (p : Progress). p.labels) ok;
+    outside = passes.only;
+  };
+  faults = passes.only.later.write_faults;
+  wants = passes.only.later.wants;
+}
+put_by seen old new row (Ok unit) (Err fault) borrow name a b c passes short ok err is = cc
+put_by seen old new row (Err why) (Ok done) borrow name a b c passes short ok err is = absurd is
+put_by seen old new row (Err why) (Err fault) borrow name a b c passes short ok err is =
+    let counts = ap (λ (p : Progress). p.counts) err in
+    let labels = ap (λ (p : Progress). p.labels) err in
+    record {
+      front = [];
+      refused = row;
+      back = [];
+      at = refl;
+      tried = λ list s. tried_more (seen old) (seen new) list row s name counts labels passes.refused;
+      broken = ap (λ (p : Progress). p.broken) err;
+      keeps = record { borrow = borrow; name = name; counts = counts; labels = labels; outside = passes.only };
+      cause = is_cause _ _ old new why (Err why) fault refl is passes.failed passes.memory;
+      faults = passes.only.later.write_faults;
+      wants = passes.only.later.wants;
+    }

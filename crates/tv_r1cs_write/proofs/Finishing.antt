@@ -1,5 +1,6 @@
 -- The end of a file: the labels, and the last bytes that are held.
-use Rattle.std.proofs.Common.{◌≡◌, ℕ, ◌*◌, List, [], ◌++◌, length, Some, Ok, Err, append_assoc, append-nil, ap, refl, sym, ◌∙◌, arith}
+use Rattle.std.proofs.Common.{◌≡◌, ℕ, ◌*◌, List, [], ◌++◌, length, Some, Result, Ok, Err, append_assoc, append-nil, ap, refl, sym, ◌∙◌, arith}
+use Rattle.std.specs.Prelude.{OnOk, IsErrAnd, MatchResult}
 use Rattle.tv_container.specs.Bytes.{section_head}
 use Rattle.tv_container.specs.Faults.{sink_fault}
 use Rattle.tv_container.specs.Writing.{PassesOn}
@@ -25,7 +26,7 @@ finished progress list labels each =
     ∙ ap (λ n. head_bytes progress.counts progress.labels ++ (rows_bytes list ++ (section_head 3 n ++ label_bytes labels))) size
 
 -- all of it was appended
-pub finishes : (sink : Stream) (new : Outside) (labels held : List ℕ) → length labels ≡ sink.progress.counts.wires →
+finishes : (sink : Stream) (new : Outside) (labels held : List ℕ) → length labels ≡ sink.progress.counts.wires →
     PassesOn sink.outside new sink.name (sink.progress.held ++ last_bytes sink.progress labels) held (Ok tt) → held ≡ [] → Finishes sink new labels (Ok tt)
 finishes sink new labels held each passes none = record {
   whole = λ list stands files told.
@@ -37,7 +38,7 @@ finishes sink new labels held each passes none = record {
 }
 
 -- an append was refused
-pub finish_refused : (sink : Stream) (new : Outside) (labels held : List ℕ) (why : FileRefusal) (fault : SinkFault) → length labels ≡ sink.progress.counts.wires →
+finish_refused : (sink : Stream) (new : Outside) (labels held : List ℕ) (why : FileRefusal) (fault : SinkFault) → length labels ≡ sink.progress.counts.wires →
     PassesOn sink.outside new sink.name (sink.progress.held ++ last_bytes sink.progress labels) held (Err why) → fault ≡ sink_fault why →
     Finishes sink new labels (Err fault)
 finish_refused sink new labels held why fault each passes is = record {
@@ -48,3 +49,11 @@ finish_refused sink new labels held why fault each passes is = record {
   only = passes.only;
   cause = is_cause _ _ sink.outside new why (Err why) fault refl is passes.failed passes.memory;
 }
+
+-- the last call answers as they were appended
+pub finished_by : (sink : Stream) (new : Outside) (labels held : List ℕ) (written : Result (Unit {0}) FileRefusal) (result : Result (Unit {0}) SinkFault) →
+    length labels ≡ sink.progress.counts.wires → PassesOn sink.outside new sink.name (sink.progress.held ++ last_bytes sink.progress labels) held written →
+    OnOk written (held ≡ []) → MatchResult written (λ x. result ≡ Ok x) (λ why. IsErrAnd result (λ fault. fault ≡ sink_fault why)) → Finishes sink new labels result
+finished_by sink new labels held (Ok unit) result each passes none is = rw is (finishes sink new labels held each passes none)
+finished_by sink new labels held (Err why) (Ok done) each passes none is = absurd is
+finished_by sink new labels held (Err why) (Err fault) each passes none is = finish_refused sink new labels held why fault each passes is

@@ -111,10 +111,7 @@ impl<'a, D: Files> StreamSink<'a, D> {
             name,
             mut writer,
         } = self;
-        match writer.finish(files, name) {
-            Ok(()) => Ok(()),
-            Err(refusal) => Err(sink_fault(refusal)),
-        }
+        writer.finish(files, name).map_err(|why| sink_fault(why))
     }
 
     /// Writes these labels, one for each wire, and what is still held. Otherwise as `finish`.
@@ -133,10 +130,9 @@ impl<'a, D: Files> StreamSink<'a, D> {
             name,
             mut writer,
         } = self;
-        match writer.finish_labelled(files, name, labels) {
-            Ok(()) => Ok(()),
-            Err(why) => Err(sink_fault(why)),
-        }
+        writer
+            .finish_labelled(files, name, labels)
+            .map_err(|why| sink_fault(why))
     }
 }
 
@@ -159,10 +155,9 @@ impl<D: Files> Sink for StreamSink<'_, D> {
 
     #[tactic(auto, unfolding(tv_core::specs::Circuits::put))]
     fn put(&mut self, a: &Lc, b: &Lc, c: &Lc) -> Put<()> {
-        match self.writer.put(self.files, self.name, a, b, c) {
-            Ok(()) => Ok(()),
-            Err(why) => Err(sink_fault(why)),
-        }
+        self.writer
+            .put(self.files, self.name, a, b, c)
+            .map_err(|why| sink_fault(why))
     }
 
     ghost counted = { λ sink list stands. stands.counted };

@@ -1,5 +1,6 @@
 -- The last bytes that are held.
-use Rattle.std.proofs.Common.{◌≡◌, ℕ, List, [], ◌++◌, take, Some, Ok, Err, append-nil, ap, refl, sym, subst, ◌∙◌}
+use Rattle.std.proofs.Common.{◌≡◌, ℕ, List, [], ◌++◌, take, Some, Result, Ok, Err, append-nil, ap, refl, sym, subst, ◌∙◌}
+use Rattle.std.specs.Prelude.{OnOk, IsErrAnd, MatchResult}
 use Rattle.tv_container.specs.Faults.{sink_fault}
 use Rattle.tv_container.specs.Writing.{Adds, Passes, PassesOn}
 use Rattle.tv_container.proofs.Written.{has_more, has_front, is_cause}
@@ -10,7 +11,7 @@ use Rattle.tv_wtns.specs.Bytes.{file_bytes}
 use Rattle.tv_wtns.specs.Takers.{Taker, Finishes}
 
 -- all of it was appended
-pub finishes : (taker : Taker) (new : Outside) (held : List ℕ) → PassesOn taker.outside new taker.name taker.progress.held held (Ok tt) →
+finishes : (taker : Taker) (new : Outside) (held : List ℕ) → PassesOn taker.outside new taker.name taker.progress.held held (Ok tt) →
     held ≡ [] → Finishes taker new (Ok tt)
 finishes taker new held passes none = record {
   whole = λ values stands files told.
@@ -24,7 +25,7 @@ finishes taker new held passes none = record {
 }
 
 -- an append was refused
-pub finish_refused : (taker : Taker) (new : Outside) (held : List ℕ) (why : FileRefusal) (fault : SinkFault) →
+finish_refused : (taker : Taker) (new : Outside) (held : List ℕ) (why : FileRefusal) (fault : SinkFault) →
     PassesOn taker.outside new taker.name taker.progress.held held (Err why) → fault ≡ sink_fault why → Finishes taker new (Err fault)
 finish_refused taker new held why fault passes is = record {
   whole = λ values stands. tt;
@@ -35,3 +36,11 @@ finish_refused taker new held why fault passes is = record {
   only = passes.only;
   cause = is_cause _ _ taker.outside new why (Err why) fault refl is passes.failed passes.memory;
 }
+
+-- the last call answers as they were appended
+pub finished : (taker : Taker) (new : Outside) (held : List ℕ) (written : Result (Unit {0}) FileRefusal) (result : Result (Unit {0}) SinkFault) →
+    PassesOn taker.outside new taker.name taker.progress.held held written → OnOk written (held ≡ []) →
+    MatchResult written (λ x. result ≡ Ok x) (λ why. IsErrAnd result (λ fault. fault ≡ sink_fault why)) → Finishes taker new result
+finished taker new held (Ok unit) result passes none is = rw is (finishes taker new held passes none)
+finished taker new held (Err why) (Ok done) passes none is = absurd is
+finished taker new held (Err why) (Err fault) passes none is = finish_refused taker new held why fault passes is

@@ -77,10 +77,7 @@ impl<'a, D: Files> FileValues<'a, D> {
             name,
             mut writer,
         } = self;
-        match writer.finish(files, name) {
-            Ok(()) => Ok(()),
-            Err(why) => Err(sink_fault(why)),
-        }
+        writer.finish(files, name).map_err(|why| sink_fault(why))
     }
 }
 
@@ -93,10 +90,9 @@ impl<D: Files> Values for FileValues<'_, D> {
     }) };
 
     fn give(&mut self, value: F) -> Put<()> {
-        match self.writer.give(self.files, self.name, value) {
-            Ok(()) => Ok(()),
-            Err(why) => Err(sink_fault(why)),
-        }
+        self.writer
+            .give(self.files, self.name, value)
+            .map_err(|why| sink_fault(why))
     }
 
     ghost unbroken = { λ taker values stands. stands.whole };
