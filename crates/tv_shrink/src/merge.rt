@@ -121,6 +121,5 @@ pub(crate) fn merge(
         push_term(out, coefficient, wire)?;
     }
     left.append(out)?;
-    right.append(out)?;
-    Ok(())
+    right.append(out)
 }

@@ -43,13 +43,8 @@ fn without_zeros(alloc: Global, terms: &[(u32, F)]) -> Result<Vec<(F, Wire)>, Al
 fn normalized(alloc: Global, terms: &[(u32, F)]) -> Result<Vec<(F, Wire)>, AllocError>
     ensures { IfOk result (λ x. x.items ≡ normal (combination_of terms.now)) }
 {
-    if terms.len() < 2 {
-        let few = without_zeros(alloc, terms)?;
-        return Ok(few);
-    }
-    if is_normal(terms) {
-        let same = without_zeros(alloc, terms)?;
-        return Ok(same);
+    if terms.len() < 2 || is_normal(terms) {
+        return without_zeros(alloc, terms);
     }
     let (front, back) = terms.split_at(terms.len() / 2);
     let x = normalized(alloc, front)?;
@@ -95,6 +90,5 @@ pub(crate) fn append_normal(
         return append(out, terms);
     }
     let made = normalized(alloc, terms)?;
-    out.extend_from_slice(&made)?;
-    Ok(())
+    out.extend_from_slice(&made)
 }

@@ -230,13 +230,11 @@ impl Pass {
             .places
             .misfit(&self.rows, at, &mut self.scratch, wire, &self.solved)?;
         if let Some(row) = misfit {
-            self.places.add(wire.0, row)?;
-            return Ok(());
+            return self.places.add(wire.0, row);
         }
         self.places.rows_of(wire.0, &mut self.named)?;
         self.rows.remove(at);
-        self.substitute(wire)?;
-        Ok(())
+        self.substitute(wire)
     }
 
     /// The turn of the constraint at a place.
@@ -263,8 +261,7 @@ impl Pass {
             return Ok(());
         }
         solve(&mut self.solved, &self.form, own, wire)?;
-        self.eliminate(at, wire)?;
-        Ok(())
+        self.eliminate(at, wire)
     }
 
     /// The whole pass: each constraint has its turn.

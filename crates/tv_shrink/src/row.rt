@@ -101,8 +101,7 @@ pub(crate) fn solve(
         leaving: Some(wire),
     };
     out.clear();
-    others.append(out)?;
-    Ok(())
+    others.append(out)
 }
 
 /// Appends a combination with `r` in place of a wire, and tells whether the wire stands there.

@@ -1,4 +1,5 @@
 use Rattle.std.proofs.Common.{◌≡◌, ◌⊎◌, ◌+◌, ◌*◌, ◌%◌, ◌≤◌, ◌++◌, None, [], arith, inl, inr, sym, ◌∙◌, ap, subst}
+use Rattle.std.proofs.lemmas.Result.{on_ok_weaker}
 use Rattle.tv_core.specs.Combinations.{scaled}
 use Rattle.tv_core.specs.declared.field.TheConstants.{P}
 use Rattle.tv_shrink.specs.Merging.{first_wire, head_at, leaving_out, unless_left}
@@ -33,7 +34,7 @@ returns c =
       | then-loop-left-test+else-not-is_empty w ↦ inr (empty_from c.loop-left.right.terms.now (sym w.is_empty-in-loop-left.ensures ∙ w.if-not-is_empty.false))
       | else-loop-left-test w ↦ inl (empty_from c.loop-left.left.terms.now (sym c.is_empty.ensures ∙ w.loop-left-test.false))
     ] in
-    either_left c.loop-left.out.items c.append.new.out.items c.append-2.new.out.items _ c.loop-left.left.factor c.loop-left.right.factor c.loop-left.left.leaving c.loop-left.left.terms.now c.loop-left.right.terms.now used
+    on_ok_weaker c.append-2.result (λ appended. either_left c.loop-left.out.items c.append.new.out.items c.append-2.new.out.items _ c.loop-left.left.factor c.loop-left.right.factor c.loop-left.left.leaving c.loop-left.left.terms.now c.loop-left.right.terms.now used
     c.in_ok-append.ensures
-    (c.in_ok-append-2.ensures ∙ ap (λ l. c.append.new.out.items ++ normal (scaled c.loop-left.right.factor (leaving_out l c.loop-left.right.terms.now))) c.loop-left.invariant.all)
-    c.loop-left.invariant.whole
+    (appended ∙ ap (λ l. c.append.new.out.items ++ normal (scaled c.loop-left.right.factor (leaving_out l c.loop-left.right.terms.now))) c.loop-left.invariant.all)
+    c.loop-left.invariant.whole) c.append-2.ensures

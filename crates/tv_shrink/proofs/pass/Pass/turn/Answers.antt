@@ -1,4 +1,5 @@
 use Rattle.std.proofs.Common.{◌≡◌, ◌<◌, ◌≤◌, Some, None, sym, ◌∙◌, ap, subst, arith, length, get_or}
+use Rattle.std.proofs.lemmas.Result.{on_ok_weaker}
 use Rattle.tv_shrink.specs.Normal.{IsNormalFrom}
 use Rattle.tv_shrink.specs.Passing.{attempted, dropped}
 use Rattle.tv_shrink.specs.Replacing.{coefficient, has_wire, solved}
@@ -64,8 +65,8 @@ returns-clause-pass c =
     let n : c.len.result ≡ length c.linear_form.new.out.items = omega arith in
     let some : 0 < length c.linear_form.new.out.items = grind arith in
     let above : c.args.self.now.publics ≤ c.index.result.now.1 = omega (arith, c.wire.view_is) in
-    c.in_ok-eliminate.ensures.pass
+    on_ok_weaker c.eliminate.result (λ pass. pass
     ∙ ap (λ r. attempted c.index.result.now.1 r (dropped c.args.at (pass_of c.args.self.now.rows c.args.self.now.gone.items)) (pass_of c.args.self.now.rows c.args.self.now.gone.items)) (c.in_ok-solve.ensures ∙ ap (solved c.index.result.now.1) c.deref.ensures.value)
     ∙ sym (turn-private c.args.self.now.publics c.args.at c.index.result.now (pass_of c.args.self.now.rows c.args.self.now.gone.items) c.linear_form.new.out.items some
     (form_there c.args.self.now.rows c.args.at c.get.result c.linear_form.new.out.items c.in_ok-linear_form.field-0 c.get.ensures c.in_ok-linear_form.ensures c.if-not-branch.false)
-    (last_at c.linear_form.new.out.items c.len.result c.index.result.now n c.index.ensures) above)
+    (last_at c.linear_form.new.out.items c.len.result c.index.result.now n c.index.ensures) above)) c.eliminate.ensures.pass
