@@ -1,24 +1,13 @@
-//! The scan over each of the lines in turn.
+//! The scan over lines of one cell among others.
 ghost use Rattle.std.specs.Prelude.{ℕ, ◌≤◌};
 ghost use Rattle.tv_core.specs.Sinks.{Room};
 ghost use Rattle.tv_scan.specs.Scan.{IsMade};
 
-use crate::rows::{falsehoods, honest};
+use crate::rows::{honest, numbers};
 use std::alloc::Global;
 use std::test::Fail;
-use tv_core::{
-    CountSink, F, Lc, Line, LineLc, LineNum, ListValues, Put, Sink, TestSink, Values, give_values,
-};
+use tv_core::{F, Lc, Line, LineLc, ListValues, Put, Sink, TestSink, Values};
 use tv_scan::{fill_scan, scan};
-
-fn numbers(line: &Line) -> LineNum {
-    LineNum {
-        cell: F::from(line.cell),
-        time: F::from(line.time),
-        old: F::from(line.old),
-        new: F::from(line.new),
-    }
-}
 
 fn constants(line: &Line) -> LineLc
     ensures { (wires : ℕ) → 1 ≤ wires → IsMade wires result }
@@ -70,35 +59,5 @@ fn the_latest_word_of_a_cell_is_found(rt: HostRuntime) -> Result<(), Fail> {
     ] {
         assert!(rt; holds(rt.alloc(), &lines)?, "{lines:?}");
     }
-    Ok(())
-}
-
-#[test]
-fn no_other_word_is_taken_for_the_latest(rt: HostRuntime) -> Result<(), Fail> {
-    let [a, b, c, ..] = honest();
-    let [
-        (_, begins),
-        (_, another_begins),
-        (_, other_cell),
-        (_, written_over),
-        ..
-    ] = falsehoods();
-    for lines in [
-        [a, a, c, begins],
-        [a, c, begins, another_begins],
-        [a, b, c, other_cell],
-        [a, b, c, written_over],
-    ] {
-        assert!(rt; !holds(rt.alloc(), &lines)?, "{lines:?}");
-    }
-    Ok(())
-}
-
-#[test]
-fn a_scan_makes_three_constraints_a_line(rt: HostRuntime) -> Result<(), Fail> {
-    let [a, b, c, d, ..] = honest();
-    let mut count = CountSink::new(1);
-    put(&mut count, &[a, b, c, d])?;
-    assert_eq!(rt; (count.wires(), count.constraints()), (10, 10));
     Ok(())
 }
