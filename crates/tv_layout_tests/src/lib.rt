@@ -1,5 +1,5 @@
-//! Tests of the whole system through its public calls: how large it is for small programs, by what
-//! its parts cost and by a sink that counts; that the values of runs meet it; and which run values
+//! Tests of the whole system through its public calls: how large it is for a small program, by what
+//! its parts cost and by a sink that counts; that the values of a run meet it; and which run values
 //! have. They stand in a crate of their own, since a crate with tests is proved twice; nothing here
 //! is for callers.
 #![tactic(auto)]
@@ -9,5 +9,3 @@ pub mod examples;
 mod extracting;
 #[cfg(test)]
 mod filling;
-#[cfg(test)]
-mod sizing;
