@@ -8,6 +8,7 @@ ghost use Rattle.tv_step.specs.Range.{AreWords};
 ghost use Rattle.tv_word.specs.Widths.{IsWidth};
 
 use std::alloc::Global;
+use std::test::Fail;
 use tv_block::{StateNum, StateWires, block, fill_block};
 use tv_core::{F, ListValues, Put, TestSink, Values, Wire, give_words};
 use tv_regs::wires_from;
@@ -89,7 +90,7 @@ fn has_data_word<const W: u32>(given: &Given) -> bool
     }
 }
 
-// 1, a state, and the values of a step from it.
+// 1 and the numbers of a state.
 fn inputs(alloc: Global, state: &StateNum) -> Put<ListValues>
     ensures { IfOk result (λ values. values.broken ≡ false) }
 {
@@ -103,32 +104,23 @@ fn inputs(alloc: Global, state: &StateNum) -> Put<ListValues>
     Ok(values)
 }
 
-/// The values of all wires for a step from a state, the primary tape having `n` words; `None` where
-/// they are out of range.
-pub fn values_of<const W: u32>(
+/// How many constraints a step from a state has, the primary tape having one word, and how many of
+/// them hold over its values; an error where it is given what is out of range.
+pub fn trial<const W: u32>(
     alloc: Global,
-    n: u32,
     state: &TraceState,
     given: &Given,
-) -> Put<Option<ListValues>>
+) -> Result<[u32; 2], Fail>
     requires width { IsWidth W }
-    requires short { n < 2 ^ 29 }
 {
     let state = numbers(state);
-    let fits = is_in_range::<W>(n, &state);
+    let fits = is_in_range::<W>(1, &state);
     if !fits || !is_word::<W>(given.olds[1]) || !has_data_word::<W>(given) {
-        return Ok(None);
+        return Err(Fail::from("out of range"));
     }
     let mut values = inputs(alloc, &state)?;
-    fill_block::<W, ListValues>(&mut values, &state, n, 0, &given.olds, given.aux)?;
-    Ok(Some(values))
-}
-
-/// How many of the step's constraints hold over numbers for the wires, and how many there are.
-pub fn held<const W: u32>(z: &[F], n: u32) -> Put<(u32, u32)>
-    requires width { IsWidth W }
-{
-    let mut tests = TestSink::over(z, FIRST.0);
-    block::<W, TestSink>(&mut tests, &state_wires(), n, 0)?;
-    Ok((tests.held(), tests.tested()))
+    fill_block::<W, ListValues>(&mut values, &state, 1, 0, &given.olds, given.aux)?;
+    let mut tests = TestSink::over(values.as_slice(), FIRST.0);
+    block::<W, TestSink>(&mut tests, &state_wires(), 1, 0)?;
+    Ok([tests.tested(), tests.held()])
 }
