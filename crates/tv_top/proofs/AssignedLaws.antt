@@ -6,13 +6,13 @@ use Rattle.tv_extract.proofs.ExtractLaws.{extracted_is_run, satisfying_have_runs
 use Rattle.tv_extract.specs.declared.run.ExtractFault.{ExtractFault}
 use Rattle.tv_extract.specs.declared.run.ExtractFault.TheVariants as faults
 use Rattle.tv_extract.specs.declared.run.Run.{Run}
-use Rattle.tv_top.proofs.Common.{Names, Outside, Bad, Finish, Status, Holds, Then, Completes, Refuses, Named, Outcome, input, bits, program_in}
+use Rattle.tv_top.proofs.Common.{Names, Outside, Bad, Finish, Status, Holds, Then, Completes, Refuses, Named, Outcome, ◌>>=◌, input, bits, program_in}
 use Rattle.tv_layout.specs.Places.{WithinLimits}
 use Rattle.tv_top.specs.declared.refusal.Finish.TheVariants.{NotARun}
 use Rattle.tv_top.specs.declared.status.NotRun.{NotRun}
 use Rattle.tv_top.specs.Building.{program_system}
 use Rattle.tv_top.specs.Containers.{witness_in}
-use Rattle.tv_top.specs.Extracting.{Assigned, assigned_with, assigned_of, assigned_run, not_run, not_run_ends, run_ends, HasAssigned}
+use Rattle.tv_top.specs.Extracting.{Assigned, assigned_of, assigned_run, not_run, not_run_ends, run_ends, HasAssigned}
 use Rattle.tv_top.proofs.Claiming.{Shows, if_ok, shows_input, shows_then, shows_made, shows_more}
 use Rattle.tv_top.proofs.ProgramLaws.{has_image, within_limits}
 
@@ -48,10 +48,10 @@ assigned_fits n t files text witness assigned few some most (inl (program, holds
 assigned_fits n t files text witness assigned few some most (inr (bad, refused, e)) = cc
 
 pub assigned_shown : (net : Net) (files : Names) (text : List ℕ) (n t : ℕ) (witness : List ℕ) → n ≤ TAPE_WORDS → 0 < t → t ≤ STEPS → Shows (assigned_of text witness files).gives (HasAssigned net files text n t witness)
-unfolding assigned_of assigned_with assigned_run program_system
+unfolding assigned_of assigned_run program_system
 assigned_shown net files text n t witness few some most =
     shows_more _ _ _
-    (shows_then (input 1 program_in text files) (λ program. assigned_with program witness files) _ _ (shows_input 1 program_in text files) (λ program _.
+    (shows_then (input 1 program_in text files) (λ program. input 4 witness_in witness files >>= λ z. record { at = 4; gives = Ok (record { program = program; z = z }) }) _ _ (shows_input 1 program_in text files) (λ program _.
     shows_then (input 4 witness_in witness files) (λ z. record { at = 4; gives = Ok (record { program = program; z = z }) }) _ _ (shows_input 4 witness_in witness files) (λ z _. shows_made (Ok (record { program = program; z = z })))))
     (λ held has. record {
       holds = has;

@@ -1,6 +1,6 @@
 -- `check`: reading the system twice is reading it once, and what the command promises.
 use Rattle.std.proofs.Common.{◌≡◌, ◌↔◌, ◌<◌, ◌==◌, ℕ, max, Bool, true, false, if◌then◌else◌, List, [], ◌∷◌, length, take, All, Result, Ok, Err, refl, sym, ap, ◌∙◌, arith}
-use Rattle.std.proofs.lemmas.Bool.{eqb-true}
+use Rattle.std.proofs.lemmas.Bool.{eqb-true, eq-eqb, ne_eqb}
 use Rattle.std.proofs.lemmas.List.{take_all}
 use Rattle.tv_check.specs.Meaning.{Tells}
 use Rattle.tv_check.specs.Verdict.{HasRoom, judge, verdict_of}
@@ -18,24 +18,40 @@ use Rattle.tv_wtns.specs.Wtns.{Firsts, firsts_of, assignment_of}
 use Rattle.tv_wtns.proofs.ValueLaws.{assignments_below}
 use Rattle.tv_top.specs.declared.refusal.Size.TheVariants.{TapeWords}
 use Rattle.tv_top.specs.declared.refusal.Stop.{Stop}
-use Rattle.tv_top.specs.Checking.{check_of, check_again, check_miscounted, check_counted, check_tape, check_witness, check_twice, check_ends, check_plan, IsJudged, HasVerdict, OnCheck}
-use Rattle.tv_top.specs.Containers.{system_bad, witness_bad, container_result, system_in, witness_in, firsts_in_witness}
+use Rattle.tv_top.specs.Checking.{check_of, check_ends, check_plan, IsJudged, HasVerdict, OnCheck}
+use Rattle.tv_top.specs.Containers.{system_bad, witness_bad, system_in, witness_in, firsts_in_witness, counts_in, verdict_in}
 use Rattle.tv_top.specs.Finds.{Finds}
 use Rattle.tv_top.specs.Plan.{Look, ◌>>=◌, look_on, held_at, input, map_ok}
 use Rattle.tv_top.specs.Tapes.{publics_in, tape_sizes}
 use Rattle.tv_top.proofs.ContainerReads.{part_held, read_of}
+use Rattle.tv_top.proofs.Looking.{finds_as}
 use Rattle.tv_top.proofs.Claiming.{Promises, Shows, comes, made_is, shows_input, shows_then}
 
 -- ---- reading the system twice, and as many values as wires, is reading each once and whole
 
--- the verdict by the first values and how many there are, where so many wires were counted, from what the system
--- comes to once more
+-- what the code looks at: the system, for its faults and its wires; as many values of the witness as there are wires,
+-- with the number of them all; the tape; and the system again, for the verdict, or, where there are more values than
+-- wires or fewer, for its wires
+unfoldable pub check_last : List ℕ → ℕ → Firsts → List ℕ → Names → Look Verdict
+check_last system wires first x files =
+    if first.count == wires
+    then input 1 (verdict_in first.values x) system files
+    else (input 1 counts_in system files >>= λ counts. record { at = 1; gives = Ok (WireCount first.count counts.wires) })
+
+unfoldable pub check_twice : List ℕ → List ℕ → List ℕ → Names → Look Verdict
+check_twice system witness tape files = do
+  counts ← input 1 counts_in system files
+  first ← input 2 (firsts_in_witness counts.wires) witness files
+  x ← input 3 publics_in tape files
+  check_last system counts.wires first x files
+
+-- the last of these, from what the system comes to once more
 abbrev counted : Result Counts Stop → Result Verdict Stop → ℕ → Firsts → Look Verdict
 counted counts again wires first =
-    if first.count == wires then record { at = 3; gives = again } else look_on 1 counts (λ counts. record { at = 3; gives = Ok (WireCount first.count counts.wires) })
+    if first.count == wires then record { at = 1; gives = again } else look_on 1 counts (λ counts. record { at = 1; gives = Ok (WireCount first.count counts.wires) })
 
 -- it is that by all values: the first are all where there are as many as wires
-by_count : (s : System) (z x : List ℕ) (same : Bool) → (length z == s.wires) ≡ same → counted (Ok (system_counts s)) (Ok (judge s (take s.wires z) x)) s.wires (firsts_of s.wires z) ≡ record { at = 3; gives = Ok (judge s z x) }
+by_count : (s : System) (z x : List ℕ) (same : Bool) → (length z == s.wires) ≡ same → counted (Ok (system_counts s)) (Ok (judge s (take s.wires z) x)) s.wires (firsts_of s.wires z) ≡ record { at = 1; gives = Ok (judge s z x) }
 by_count s z x true e = rw (take_all s.wires z (omega (arith, eqb-true (length z) s.wires e)), e) refl
 by_count s z x false e = rw e refl
 
@@ -51,22 +67,29 @@ by_parts (Ok s) (Err why) x all first again is firsts tells = rw (is, firsts s.w
 by_parts (Err why) z x all first again is firsts tells = rw is refl
 
 once : (system witness tape : List ℕ) (files : Names) → check_twice system witness tape files ≡ check_of system witness tape files
-unfolding check_twice check_witness check_tape check_again check_miscounted check_counted check_of survey_of verdict_of input
+unfolding check_twice check_last check_of survey_of verdict_of input
 once system witness tape files =
     by_parts (held_at 1 system_in (files system)) (held_at 2 witness_in (files witness)) (held_at 3 publics_in (files tape)) _
-    (λ most. held_at 2 (firsts_in_witness most) (files witness)) (λ z x. held_at 1 (λ file. container_result system_bad (verdict_of file z x)) (files system))
+    (λ most. held_at 2 (firsts_in_witness most) (files witness)) (λ z x. held_at 1 (verdict_in z x) (files system))
     (part_held 1 system_bad system_of system_counts (files system)) (λ most. part_held 2 witness_bad assignment_of (firsts_of most) (files witness)) (λ z x. part_held 1 system_bad system_of (λ s. judge s z x) (files system))
+
+-- the last look: the verdict where there are as many values as wires, and else the wires
+pub finds_verdict : (system : List ℕ) (wires : ℕ) (first : Firsts) (x : List ℕ) (old new : Outside) (found : Result Verdict Stop) → first.count ≡ wires →
+    Finds (λ v. v) (1 ∷ []) [] (input 1 (verdict_in first.values x) system) old new found → Finds (λ v. v) (1 ∷ []) [] (check_last system wires first x) old new found
+unfolding check_last
+finds_verdict system wires first x old new found same finds = finds_as (λ files. rw (eq-eqb first.count wires same) refl) finds
+
+pub finds_wires : (system : List ℕ) (wires : ℕ) (first : Firsts) (x : List ℕ) (old new : Outside) (found : Result Verdict Stop) → ¬ (first.count ≡ wires) →
+    Finds (λ v. v) (1 ∷ []) [] (λ files. input 1 counts_in system files >>= λ counts. record { at = 1; gives = Ok (WireCount first.count counts.wires) }) old new found → Finds (λ v. v) (1 ∷ []) [] (check_last system wires first x) old new found
+unfolding check_last
+finds_wires system wires first x old new found other finds = finds_as (λ files. rw (ne_eqb first.count wires other) refl) finds
 
 -- what was found is what the plan looks for
 pub finds_once : (system witness tape : List ℕ) (old new : Outside) (found : Result Verdict Stop) → Finds (λ v. v) (1 ∷ 2 ∷ 3 ∷ 1 ∷ []) (tape_sizes TapeWords) (check_twice system witness tape) old new found →
     Finds (λ v. v) (1 ∷ 2 ∷ 3 ∷ []) (tape_sizes TapeWords) (check_of system witness tape) old new found
-finds_once system witness tape old new found finds = record {
-  told = λ files told. rw (← once system witness tape files) (finds.told files told);
-  absent = λ files told. rw (← once system witness tape files) (finds.absent files told);
-  only = finds.only;
-  caused = λ word e. let cause = finds.caused word e in (grind (arith, cause.0), cause.1);
-  limits = finds.limits;
-}
+finds_once system witness tape old new found finds =
+    let same = finds_as (λ files. sym (once system witness tape files)) finds in
+    record { told = same.told; absent = same.absent; only = same.only; caused = λ word e. let cause = same.caused word e in (grind (arith, cause.0), cause.1); limits = same.limits }
 
 -- ---- verdicts
 

@@ -33,7 +33,7 @@ module _ {Y E A : Type 0} (view : Y → A) (of : E → Stop) (fault : E) (word :
   pub finds_file : (result : Result Y E) → of fault ≡ stop.Fault word → word ≤ (due None).at → (due None).gives ≡ Err (stop.Fault word) → ((why : E) → StopsBy word sizes (why ≡ fault) (of why)) →
       ((why : E) → Stands why → OnlyReads old new × MissesOnly old new name × (why ≡ fault → Rose old.read_faults new.read_faults)) → Known old name (λ file. IsFound view (due (Some file)) (came of result)) →
       MatchResult result (λ _. new ≡ old) Stands → (IsMissing old name → result ≡ Err fault) → Finds view (word ∷ []) sizes (λ held. due (held name)) old new (came of result)
-  finds_file (Ok y) faulty within none stops stands gives looks missing = rw looks (finds_still view (word ∷ []) sizes (λ held. due (held name)) old y (λ files tells. told (Ok y) faulty within gives missing files tells (files name) refl))
+  finds_file (Ok y) faulty within none stops stands gives looks missing = rw looks (finds_still (λ files tells. told (Ok y) faulty within gives missing files tells (files name) refl))
   finds_file (Err why) faulty within none stops stands gives looks missing = record {
     told = λ files tells. told (Err why) faulty within gives missing files tells (files name) refl;
     absent = λ files tells. elim ((stands why looks).1 files tells) [ inl same ↦ inl same | inr missed ↦ inr (word, rw missed none) ];

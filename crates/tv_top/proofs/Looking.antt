@@ -1,9 +1,14 @@
 -- Looks at files, one after another, and what is made of what they find.
-use Rattle.std.proofs.Common.{◌≡◌, ℕ, ◌+◌, nat_le, List, [], ◌∷◌, ◌++◌, length, Option, Some, None, Result, Ok, Err, inl, inr, refl, ap, ◌∙◌, arith, rules}
+use Rattle.std.proofs.Common.{◌≡◌, ℕ, ◌+◌, nat_le, List, [], ◌∷◌, ◌++◌, length, Option, Some, None, Result, Ok, Err, IsErrAnd, inl, inr, refl, ap, ◌∙◌, ◌≤◌, arith, rules}
 use Rattle.std.proofs.lemmas.Bool.{cond_both}
-use Rattle.tv_top.proofs.Common.{Names, Outside, Bad, Flaw, Size, Stop, Fault, Memory, Contents, IsOneOf, IsFound, Finds, Makes, from_made, limited_bytes, Look, ◌>>=◌, Outcome, comes_by, map_ok, input, within, held_at, made_of}
+use Rattle.tv_top.proofs.Common.{Names, Outside, Bad, Flaw, Size, Stop, Fault, Memory, Contents, IsOneOf, IsFound, Finds, Makes, from_made, limited_bytes, Look, ◌>>=◌, look_on, Outcome, comes_by, map_ok, input, within, held_at, made_of}
 use Rattle.tv_top.specs.declared.refusal.Bad.TheVariants as bad
 use Rattle.tv_top.specs.declared.refusal.Flaw.TheVariants as flaw
+
+left_at : {A : Type 0} (x : A) (some more : List A) → IsOneOf x some → IsOneOf x (some ++ more)
+left_at x [] more at = absurd at
+left_at x (y ∷ ys) more (inl is) = inl is
+left_at x (y ∷ ys) more (inr at) = inr (left_at x ys more at)
 
 right_at : {A : Type 0} (x : A) (some more : List A) → IsOneOf x more → IsOneOf x (some ++ more)
 right_at x [] more at = at
@@ -15,10 +20,37 @@ told_on to look f x (Err (Contents why)) is due = rw is due
 told_on to look f x (Err (Fault word)) is within = rw is (omega (arith, within))
 told_on to look f x (Err Memory) is any = tt
 
--- what was found after this was found
-pub finds_on : {X A Y B : Type 0} (view : X → A) (to : Y → B) (some more : List ℕ) (few many : List Size) (due : Names → Look A) (f : Names → A → Look B) (old mid new : Outside) (x : X) (found : Result Y Stop) →
+reaches : {A B : Type 0} (at : ℕ) (gives : Result A Stop) (f : A → Look B) (word : ℕ) → word ≤ at → word ≤ (look_on at gives f).at
+reaches at (Ok x) f word within = omega (arith, within)
+reaches at (Err stop) f word within = within
+
+told_short : {X A Y B : Type 0} (view : X → A) (to : Y → B) (look : Look A) (f : A → Look B) (stop : Stop) → IsFound view look (Err stop) → IsFound to (look >>= f) (Err stop)
+told_short view to look f (Contents why) is = rw is refl
+told_short view to look f (Fault word) within = reaches look.at look.gives f word within
+told_short view to look f Memory any = tt
+
+finds_stop : {X A Y B : Type 0} (view : X → A) (to : Y → B) (some more : List ℕ) (few many : List Size) (due : Names → Look A) (f : Names → A → Look B) (old new : Outside) (stop : Stop) →
+    Finds view some few due old new (Err stop) → Finds to (some ++ more) (few ++ many) (λ files. due files >>= f files) old new (Err stop)
+finds_stop view to some more few many due f old new stop one = record {
+  told = λ files told. told_short view to (due files) (f files) stop (one.told files told);
+  absent = λ files told. elim (one.absent files told) [ inl same ↦ inl same | inr missing ↦ inr (missing.0, rw missing.1 refl) ];
+  only = one.only;
+  caused = λ word e. let same : stop ≡ Fault word = cc in let cause = one.caused word (ap Err same) in (left_at word some more cause.0, cause.1);
+  limits = λ what has most e. let same : stop ≡ Contents (bad.Limit what has most) = cc in left_at what few many (one.limits what has most (ap Err same));
+}
+
+-- ---- a look of several, each followed by `?`
+
+-- the first that is refused is what all of them come to
+pub finds_short : {X A Y B : Type 0} {view : X → A} {to : Y → B} {some : List ℕ} {few : List Size} {due : Names → Look A} {old new : Outside} {stop : Stop} (more : List ℕ) (many : List Size) (f : Names → A → Look B) (found : Result Y Stop) →
+    IsErrAnd found (λ e. e ≡ stop) → Finds view some few due old new (Err stop) → Finds to (some ++ more) (few ++ many) (λ files. due files >>= f files) old new found
+finds_short more many f (Ok y) same one = absurd same
+finds_short more many f (Err other) same one = rw same (finds_stop _ _ _ _ _ _ _ _ _ _ _ one)
+
+-- after one that gives something is found what the others come to
+pub finds_on : {X A Y B : Type 0} {view : X → A} {to : Y → B} {some more : List ℕ} {few many : List Size} {due : Names → Look A} {old mid new : Outside} {x : X} {found : Result Y Stop} (f : Names → A → Look B) →
     Finds view some few due old mid (Ok x) → Finds to more many (λ files. f files (view x)) mid new found → Finds to (some ++ more) (few ++ many) (λ files. due files >>= f files) old new found
-finds_on view to some more few many due f old mid new x found one two = record {
+finds_on {view} {to} {some} {more} {few} {many} {due} {x} {found} f one two = record {
   told = λ files told. told_on to (due files) (f files) (view x) found (one.told files told) (two.told files (one.only.contents ∙ told));
   absent = λ files told. elim (two.absent files (one.only.contents ∙ told)) [
     | inl same ↦ elim (one.absent files told) [
@@ -33,9 +65,20 @@ finds_on view to some more few many due f old mid new x found one two = record {
 }
 
 -- what was found once all is as it was
-pub finds_still : {X A : Type 0} (view : X → A) (words : List ℕ) (sizes : List Size) (due : Names → Look A) (outside : Outside) (x : X) → ((files : Names) → outside.contents ≡ Some files → (due files).gives ≡ Ok (view x)) →
+pub finds_still : {X A : Type 0} {view : X → A} {words : List ℕ} {sizes : List Size} {due : Names → Look A} {outside : Outside} {x : X} → ((files : Names) → outside.contents ≡ Some files → (due files).gives ≡ Ok (view x)) →
     Finds view words sizes due outside outside (Ok x)
-finds_still view words sizes due outside x is = record { told = is; absent = λ files told. inl refl; only = record { contents = refl; said = refl; later = search rules }; caused = λ word e. cc; limits = λ what has most e. cc }
+finds_still is = record { told = is; absent = λ files told. inl refl; only = record { contents = refl; said = refl; later = search rules }; caused = λ word e. cc; limits = λ what has most e. cc }
+
+-- a look that comes to the same
+pub finds_as : {X A : Type 0} {view : X → A} {words : List ℕ} {sizes : List Size} {due other : Names → Look A} {old new : Outside} {found : Result X Stop} → ((files : Names) → due files ≡ other files) →
+    Finds view words sizes other old new found → Finds view words sizes due old new found
+finds_as is finds = record {
+  told = λ files told. rw (is files) (finds.told files told);
+  absent = λ files told. rw (is files) (finds.absent files told);
+  only = finds.only;
+  caused = finds.caused;
+  limits = finds.limits;
+}
 
 -- ---- what was made of what was read
 
@@ -71,12 +114,6 @@ finds_made view of_read words few sizes look due held read made old new comes fi
   caused = λ at e. absurd (no_fault made at e);
   limits = limits_made view held made sizes makes limited;
 }
-
--- of a look, what is made of what it gives
-pub made_after : {X Y A B : Type 0} (view : X → A) (of_read : Y → B) (words : List ℕ) (few sizes : List Size) (look : Names → Look B) (f : B → Result A Bad) (at : ℕ) (read : Y) (made : Result X Flaw) (old new : Outside) →
-    Finds of_read words few look old new (Ok read) → Makes view (f (of_read read)) made → IsLimited (f (of_read read)) sizes → Finds view words sizes (λ files. look files >>= λ b. record { at = at; gives = made_of (f b) }) old new (from_made made)
-made_after view of_read words few sizes look f at read made old new finds makes limited =
-    finds_made view of_read words few sizes look (λ files. look files >>= λ b. record { at = at; gives = made_of (f b) }) (f (of_read read)) read made old new (λ files e. rw e refl) finds makes limited
 
 limited_is : {A : Type 0} (word : ℕ) (what : Size) (most : ℕ) (f : List ℕ → Result A Bad) (file : Option (List ℕ)) (bytes : List ℕ) → limited_bytes word what most file ≡ Ok bytes →
     held_at word (within what most f) file ≡ made_of (f bytes)

@@ -1,8 +1,12 @@
 -- The files of systems and of assignments.
 use Rattle.std.specs.Prelude.{ℕ, List, Result, Ok, Err}
+use Rattle.tv_check.specs.Verdict.{verdict_of}
+use Rattle.tv_check.specs.declared.verdict.Verdict.{Verdict}
 use Rattle.tv_core.specs.Constraints.{System}
+use Rattle.tv_core.specs.declared.lines.Counts.{Counts}
 use Rattle.tv_container.specs.Places.{Fault}
 use Rattle.tv_r1cs_read.specs.R1cs.{system_of}
+use Rattle.tv_r1cs_read.specs.Survey.{survey_of}
 use Rattle.tv_container.specs.declared.why.ReadRefusal.{ReadRefusal}
 use Rattle.tv_container.specs.declared.why.ReadRefusal.TheVariants as refusal
 use Rattle.tv_wtns.specs.Wtns.{Firsts, firsts, assignment_of}
@@ -29,6 +33,13 @@ system_in file = container_result system_bad (system_of file)
 
 abbrev pub witness_in : List ℕ → Result (List ℕ) Bad
 witness_in file = container_result witness_bad (assignment_of file)
+
+-- what the system of a file counts, and the verdict on it of these values and public numbers
+abbrev pub counts_in : List ℕ → Result Counts Bad
+counts_in file = container_result system_bad (survey_of file)
+
+abbrev pub verdict_in : List ℕ → List ℕ → List ℕ → Result Verdict Bad
+verdict_in z x file = container_result system_bad (verdict_of file z x)
 
 -- the first values of an assignment, so many at most, and how many it has
 abbrev pub firsts_in_witness : ℕ → List ℕ → Result Firsts Bad

@@ -38,17 +38,12 @@ pub record Assigned : Type 0 where
 abbrev pub assigned_in : Assignment → Assigned
 assigned_in assignment = record { program = assignment.program; z = assignment.values.items }
 
--- a program that was read, and the witness
-unfoldable pub assigned_with : Program → List ℕ → Names → Look Assigned
-assigned_with program witness files = do
-  z ← input 4 witness_in witness files
-  record { at = 4; gives = Ok (record { program = program; z = z }) }
-
 -- the two files, the text being judged before the witness is read
 unfoldable pub assigned_of : List ℕ → List ℕ → Names → Look Assigned
 assigned_of text witness files = do
   program ← input 1 program_in text files
-  assigned_with program witness files
+  z ← input 4 witness_in witness files
+  record { at = 4; gives = Ok (record { program = program; z = z }) }
 
 -- the run that the assignment has, or why it has none
 unfoldable pub assigned_run : Net → ℕ → ℕ → Assigned → Result Run ExtractFault

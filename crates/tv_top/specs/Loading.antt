@@ -6,7 +6,6 @@ use Rattle.tv_step.specs.Machine.{start, end_of}
 use Rattle.tv_step.specs.Range.{AreWords}
 use Rattle.tv_step.specs.declared.end.End.{End}
 use Rattle.tv_top.specs.declared.loading.Inputs.{Inputs}
-use Rattle.tv_top.specs.declared.programs.Program.{Program}
 use Rattle.tv_top.specs.declared.refusal.Bad.{Bad}
 use Rattle.tv_top.specs.declared.refusal.Size.{Size}
 use Rattle.tv_top.specs.declared.refusal.Size.TheVariants.{TapeWords, AuxWords}
@@ -22,30 +21,17 @@ primary_in w = numbers_in 2 TapeWords (2 ^ w) TAPE_WORDS
 abbrev pub aux_in : ℕ → List ℕ → Result (List ℕ) Bad
 aux_in w = numbers_in 3 AuxWords (2 ^ w) AUX_WORDS
 
--- a program and a tape that were read, and the auxiliary tape
-unfoldable pub inputs_with : Program → List ℕ → List ℕ → Names → Look Inputs
-inputs_with program primary aux files = do
-  auxiliary ← input 3 (aux_in (bits program.width)) aux files
-  record { at = 3; gives = Ok (record { program = program; tape = primary; aux = auxiliary }) }
-
--- a program that was read, and the two tapes
-unfoldable pub inputs_on : Program → List ℕ → List ℕ → Names → Look Inputs
-inputs_on program tape aux files = do
-  primary ← input 2 (primary_in (bits program.width)) tape files
-  inputs_with program primary aux files
-
 -- the three files, each read and judged before the next; the text tells the width
 unfoldable pub inputs_of : List ℕ → List ℕ → List ℕ → Names → Look Inputs
 inputs_of text tape aux files = do
   program ← input 1 program_in text files
-  inputs_on program tape aux files
+  primary ← input 2 (primary_in (bits program.width)) tape files
+  auxiliary ← input 3 (aux_in (bits program.width)) aux files
+  record { at = 3; gives = Ok (record { program = program; tape = primary; aux = auxiliary }) }
 
--- the quantities of which the two tapes may hold too many, and all three files
-abbrev pub both_sizes : List Size
-both_sizes = tape_sizes TapeWords ++ tape_sizes AuxWords
-
+-- the quantities of which the three files may hold too many
 abbrev pub input_sizes : List Size
-input_sizes = program_sizes ++ both_sizes
+input_sizes = program_sizes ++ tape_sizes TapeWords ++ tape_sizes AuxWords
 
 -- words of the program's width, and no more of them than are allowed
 pub record AreInputs (inputs : Inputs) : Type 0 where

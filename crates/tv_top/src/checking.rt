@@ -3,14 +3,12 @@
 ghost use Rattle.std.specs.Prelude.{◌≡◌, [], ◌∷◌, map, string_bytes, Ok};
 ghost use Rattle.std.specs.Prelude.{Some, None, MatchOption};
 ghost use Rattle.tv_top.specs.Answers.{Answers};
-ghost use Rattle.tv_top.specs.Checking.{check_asks, check_counted, check_tape, check_twice};
-ghost use Rattle.tv_top.specs.Checking.{check_miscounted, check_witness};
+ghost use Rattle.tv_top.specs.Checking.{check_asks, check_of};
 ghost use Rattle.tv_top.specs.declared.refusal.Size.TheVariants.{TapeWords};
 ghost use Rattle.tv_top.specs.Finds.{Finds};
 ghost use Rattle.tv_top.specs.Form.{check_form};
 ghost use Rattle.tv_top.specs.Plan.{refusal_of};
 ghost use Rattle.tv_top.specs.Tapes.{tape_sizes};
-ghost use Rattle.tv_wtns.specs.Wtns.{firsts_in};
 
 use crate::containers::{judge_system, read_first_witness, survey_system};
 use crate::place::{Place, refusal_of};
@@ -20,9 +18,7 @@ use crate::tapes::read_publics;
 use crate::writing::{conclude, finish};
 use std::alloc::Global;
 use tv_check::Verdict;
-use tv_core::F;
 use tv_files::Files;
-use tv_wtns::FirstValues;
 
 /// The words of `check`.
 #[derive(Clone, Copy)]
@@ -73,90 +69,25 @@ impl<'a> CheckArgs<'a> {
     }
 }
 
-/// The verdict where the witness has so many values, and the system another number of wires: the
-/// system is read to its end once more, as for any other verdict.
-#[tactic(auto, unfolding(crate::specs::Checking::check_miscounted))]
-fn check_miscounted<D: Files>(
-    alloc: Global,
-    files: &mut D,
-    system: &str,
-    count: u32,
-) -> Result<Verdict, Stop>
-    ensures { Finds (λ v. v) (1 ∷ []) [] (check_miscounted system.now count)
-        (D.seen files.old) (D.seen files.new) result }
-{
-    let counts = survey_system(alloc, files, system)?;
-    Ok(Verdict::WireCount {
-        has: count as u64,
-        wants: counts.wires as u64,
-    })
-}
-
-/// The verdict by the first values of the witness, of which as many were kept as the system has
-/// wires, and by the system, which is read once more.
-#[tactic(auto, unfolding(crate::specs::Checking::check_counted))]
-fn check_counted<D: Files>(
-    alloc: Global,
-    files: &mut D,
-    system: &str,
-    wires: u32,
-    first: &FirstValues,
-    publics: &[F],
-) -> Result<Verdict, Stop>
-    ensures { Finds (λ v. v) (1 ∷ []) []
-        (λ files. check_counted system.now wires (firsts_in first.now) publics.now files)
-        (D.seen files.old) (D.seen files.new) result }
-{
-    if first.count == wires {
-        judge_system(alloc, files, system, &first.values, publics)
-    } else {
-        check_miscounted(alloc, files, system, first.count)
-    }
-}
-
-/// The verdict once the system and the witness were read: by the tape at word 3, and the system
-/// again.
-#[tactic(auto, unfolding(crate::specs::Checking::check_tape))]
-fn check_tape<D: Files>(
-    alloc: Global,
-    files: &mut D,
-    args: CheckArgs<'_>,
-    wires: u32,
-    first: &FirstValues,
-) -> Result<Verdict, Stop>
-    ensures { Finds (λ v. v) (3 ∷ 1 ∷ []) (tape_sizes TapeWords)
-        (check_tape args.entry.system.now wires (firsts_in first.now) args.entry.tape.now)
-        (D.seen files.old) (D.seen files.new) result }
-{
-    let publics = read_publics(alloc, files, args.tape)?;
-    check_counted(alloc, files, args.system, wires, first, &publics)
-}
-
-/// The verdict once the system, of so many wires, was read: by the witness at word 2 and the other
-/// two. Of the witness as many values are kept.
-#[tactic(auto, unfolding(crate::specs::Checking::check_witness))]
-fn check_witness<D: Files>(
-    alloc: Global,
-    files: &mut D,
-    args: CheckArgs<'_>,
-    wires: u32,
-) -> Result<Verdict, Stop>
-    ensures { Finds (λ v. v) (2 ∷ 3 ∷ 1 ∷ []) (tape_sizes TapeWords)
-        (check_witness args.entry.system.now wires args.entry.witness.now args.entry.tape.now)
-        (D.seen files.old) (D.seen files.new) result }
-{
-    let first = read_first_witness(alloc, files, args.witness, wires)?;
-    check_tape(alloc, files, args, wires, &first)
-}
-
 /// The verdict on the three files. The system is read twice, each time to its end, so that a fault
-/// of it comes before any other file is read, and its constraints are tried without being kept.
-#[tactic(auto, unfolding(crate::specs::Checking::check_twice))]
+/// of it comes before any other file is read, and its constraints are tried without being kept. Of
+/// the witness as many values are kept as the system has wires; where it has another number of them,
+/// the system is read once more as for any other verdict.
 fn verdict_on<D: Files>(alloc: Global, files: &mut D, args: CheckArgs<'_>) -> Result<Verdict, Stop>
-    ensures { Finds (λ v. v) (1 ∷ 2 ∷ 3 ∷ 1 ∷ []) (tape_sizes TapeWords)
-        (check_twice args.entry.system.now args.entry.witness.now args.entry.tape.now)
+    ensures { Finds (λ v. v) (1 ∷ 2 ∷ 3 ∷ []) (tape_sizes TapeWords)
+        (check_of args.entry.system.now args.entry.witness.now args.entry.tape.now)
         (D.seen files.old) (D.seen files.new) result }
 {
     let counts = survey_system(alloc, files, args.system)?;
-    check_witness(alloc, files, args, counts.wires)
+    let first = read_first_witness(alloc, files, args.witness, counts.wires)?;
+    let publics = read_publics(alloc, files, args.tape)?;
+    if first.count == counts.wires {
+        judge_system(alloc, files, args.system, &first.values, &publics)
+    } else {
+        let counts = survey_system(alloc, files, args.system)?;
+        Ok(Verdict::WireCount {
+            has: u64::from(first.count),
+            wants: u64::from(counts.wires),
+        })
+    }
 }

@@ -1,10 +1,8 @@
 //! Systems and assignments, each read from its file to the end.
 ghost use Rattle.std.specs.Prelude.{◌≡◌, [], ◌∷◌};
-ghost use Rattle.tv_r1cs_read.specs.Survey.{survey_of};
 ghost use Rattle.tv_shrink.specs.Shrinking.{Shrunken};
-ghost use Rattle.tv_top.specs.Checking.{check_again};
-ghost use Rattle.tv_top.specs.Containers.{stop_of, container_result, system_bad, witness_bad};
-ghost use Rattle.tv_top.specs.Containers.{firsts_in_witness, witness_in};
+ghost use Rattle.tv_top.specs.Containers.{stop_of, system_bad, witness_bad};
+ghost use Rattle.tv_top.specs.Containers.{counts_in, firsts_in_witness, verdict_in, witness_in};
 ghost use Rattle.tv_top.specs.Finds.{Finds};
 ghost use Rattle.tv_top.specs.Plan.{input};
 ghost use Rattle.tv_top.specs.Shrinking.{shrink_sizes, shrink_stop, shrunk_look};
@@ -50,8 +48,7 @@ pub(crate) fn survey_system<D: Files>(
     files: &mut D,
     name: &str,
 ) -> Result<Counts, Stop>
-    ensures { Finds (λ counts. counts) (1 ∷ []) []
-        (input 1 (λ file. container_result system_bad (survey_of file)) name.now)
+    ensures { Finds (λ counts. counts) (1 ∷ []) [] (input 1 counts_in name.now)
         (D.seen files.old) (D.seen files.new) result }
 {
     system_read(survey(alloc, files, name))
@@ -83,7 +80,7 @@ pub(crate) fn read_first_witness<D: Files>(
     witness_read(2, read_first_values(alloc, files, name, most))
 }
 
-/// The verdict by the system, whose name stands at word 1, after the other files were read.
+/// The verdict by the system, whose name stands at word 1, on these values and public numbers.
 pub(crate) fn judge_system<D: Files>(
     alloc: Global,
     files: &mut D,
@@ -91,7 +88,8 @@ pub(crate) fn judge_system<D: Files>(
     values: &[F],
     publics: &[F],
 ) -> Result<Verdict, Stop>
-    ensures { Finds (λ verdict. verdict) (1 ∷ []) [] (check_again name.now values.now publics.now)
+    ensures { Finds (λ verdict. verdict) (1 ∷ []) []
+        (input 1 (verdict_in values.now publics.now) name.now)
         (D.seen files.old) (D.seen files.new) result }
 {
     system_read(check(alloc, files, name, values, publics))

@@ -7,7 +7,7 @@ ghost use Rattle.tv_extract.specs.declared.run.ExtractFault.TheVariants as fault
 ghost use Rattle.tv_tape.specs.Tape.{text_of};
 ghost use Rattle.tv_top.specs.Answers.{Answers};
 ghost use Rattle.tv_top.specs.Ends.{Completes};
-ghost use Rattle.tv_top.specs.Extracting.{assigned_in, assigned_of, assigned_run, assigned_with};
+ghost use Rattle.tv_top.specs.Extracting.{assigned_in, assigned_of, assigned_run};
 ghost use Rattle.tv_top.specs.Extracting.{extract_asks, extract_by, extract_ends, extract_writes};
 ghost use Rattle.tv_top.specs.Extracting.{not_run};
 ghost use Rattle.tv_top.specs.Finds.{Finds};
@@ -97,25 +97,7 @@ pub(crate) struct Assignment {
     pub(crate) values: Vec<F>,
 }
 
-/// The program that was read, and the assignment at word 4.
-#[tactic(auto, unfolding(crate::specs::Extracting::assigned_with))]
-fn assigned_with<D: Files>(
-    alloc: Global,
-    files: &mut D,
-    program: Program,
-    witness: &str,
-) -> Result<Assignment, Stop>
-    requires { HasImage program }
-    ensures found { Finds assigned_in (4 ∷ []) [] (assigned_with program witness.now)
-        (D.seen files.old) (D.seen files.new) result }
-    ensures fits { IfOk result (λ assigned. HasImage assigned.program) }
-{
-    let values = read_witness(alloc, files, 4, witness)?;
-    Ok(Assignment { program, values })
-}
-
 /// The program whose name stands at word 1, and the assignment at word 4.
-#[tactic(auto, unfolding(crate::specs::Extracting::assigned_of))]
 pub(crate) fn read_assigned<D: Files>(
     alloc: Global,
     files: &mut D,
@@ -128,7 +110,8 @@ pub(crate) fn read_assigned<D: Files>(
     ensures fits { IfOk result (λ assigned. HasImage assigned.program) }
 {
     let program = read_program(alloc, files, text)?;
-    assigned_with(alloc, files, program, witness)
+    let values = read_witness(alloc, files, 4, witness)?;
+    Ok(Assignment { program, values })
 }
 
 /// The run that an assignment has.

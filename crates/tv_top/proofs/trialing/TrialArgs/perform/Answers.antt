@@ -5,7 +5,7 @@ use Rattle.tv_top.proofs.Looking.{finds_still}
 use Rattle.tv_top.proofs.trialing.TrialArgs.perform.Goals as goal
 
 pub returns-in-Ok : goal.returns-in-Ok
-returns-in-Ok g c = answers_completed _ (λ (u : Unit {0}). u) (λ _. trial_ends c.args.self.seed c.args.self.k) no_look tt _ _ _ _ _ refl refl (tt, tt) (finds_still _ _ _ no_look _ tt (λ _ _. refl)) (inl (rw c.in-Ok.ensures at c.finish.ensures))
+returns-in-Ok g c = answers_completed _ (λ (u : Unit {0}). u) (λ _. trial_ends c.args.self.seed c.args.self.k) no_look tt _ _ _ _ _ refl refl (tt, tt) (finds_still (λ _ _. refl)) (inl (rw c.in-Ok.ensures at c.finish.ensures))
 
 pub returns-in-Err : goal.returns-in-Err
-returns-in-Err g c = answers_completed _ (λ (u : Unit {0}). u) (λ _. trial_ends c.args.self.seed c.args.self.k) no_look tt _ _ _ _ _ refl refl (tt, tt) (finds_still _ _ _ no_look _ tt (λ _ _. refl)) (inr c.conclude.ensures)
+returns-in-Err g c = answers_completed _ (λ (u : Unit {0}). u) (λ _. trial_ends c.args.self.seed c.args.self.k) no_look tt _ _ _ _ _ refl refl (tt, tt) (finds_still (λ _ _. refl)) (inr c.conclude.ensures)
