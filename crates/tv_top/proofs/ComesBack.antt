@@ -7,7 +7,7 @@ use Rattle.tv_disasm.proofs.TextLemmas.{text_assembles, text_tells, words_spell}
 use Rattle.tv_disasm.proofs.LengthLemmas.{text_short}
 use Rattle.tv_top.proofs.Common.{Width, Bits16, Bits32, map_ok, bits, image_words, image_bytes, program_result, program_by, image_of}
 use Rattle.tv_top.specs.ComesBack.{ImageComesBack}
-use Rattle.tv_top.specs.Disassembling.{image_bytes_most}
+use Rattle.tv_top.specs.Programs.{image_bytes_most}
 use Rattle.tv_top.proofs.ProgramLaws.{is_width}
 
 told : (width : Width) (text image : List ℕ) → width_of text ≡ bits width → image_of text ≡ map_ok image_bytes (program_by width text)
@@ -15,9 +15,9 @@ unfolding image_of
 told Bits16 text image is = rw is refl
 told Bits32 text image is = rw is refl
 
-fits : (width : Width) (image : List ℕ) → length image ≤ image_bytes_most width → (length image ≤ bits width / 8 * image_words width) × (6 * length image + 20 ≤ TEXT_BYTES)
-fits Bits16 image most = (omega arith, omega arith)
-fits Bits32 image most = (omega arith, omega arith)
+fits : (width : Width) (image : List ℕ) → length image ≤ image_bytes_most width → 6 * length image + 20 ≤ TEXT_BYTES
+fits Bits16 image most = omega arith
+fits Bits32 image most = omega arith
 
 whole : (width : Width) (image : List ℕ) → length image % (bits width / 4) ≡ 0 → length image % (bits width / 8) ≡ 0
 whole Bits16 image even = omega arith
@@ -28,8 +28,8 @@ unfolding program_by
 image_comes_back width image bytes even most =
     let room = fits width image most in
     let short = text_short (bits width) (is_width width) image bytes in (
-      omega (arith, short, room.1),
+      omega (arith, short, room),
       told width (disassembly_of (bits width) image) image (text_tells (bits width) (is_width width) image bytes)
-          ∙ ap (λ read. map_ok image_bytes (program_result width read)) (text_assembles (bits width) (is_width width) image (image_words width) bytes even room.0)
+          ∙ ap (λ read. map_ok image_bytes (program_result width read)) (text_assembles (bits width) (is_width width) image (image_words width) bytes even most)
           ∙ ap (λ same. Ok same) (words_spell (bits width) (is_width width) image bytes (whole width image even)),
     )

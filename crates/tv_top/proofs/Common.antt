@@ -21,7 +21,7 @@ pub use Rattle.tv_top.specs.declared.programs.Width.{Width}
 pub use Rattle.tv_top.specs.declared.programs.Width.TheVariants.{Bits16, Bits32}
 pub use Rattle.tv_top.specs.Plan.{Named, Look, Outcome, Plan, Write, Answer, files_of, answer_by, answer_of, ending_by, writes_by, comes_by, AreWithin, ◌>>=◌, held_at, made_of, same_in, same_of, limit_of, request_of, map_ok, look_on, within, first_of, refusal_of}
 unfoldable pub use Rattle.tv_top.specs.Plan.{input}
-pub use Rattle.tv_top.specs.Finds.{IsOneOf, IsFound, Finds, Makes, from_made, limited_bytes}
+pub use Rattle.tv_top.specs.Finds.{IsOneOf, IsFound, Finds, Makes, flaw_stop, limited_bytes}
 pub use Rattle.tv_top.specs.Ends.{AreRead, files_with, IsCutAt, IsCutInWriting, Said, SaidPart, Ends, IsConcluded, Concludes, Writes, Closes, Finishes, Completes, Refuses, IsAnswered, sink_cut, streamed, HasPartOf}
 pub use Rattle.tv_top.specs.Answers.{words_of, MayStop, MayEnd, quantities_of, IsOfWords, ChangedAt, IsSaid, Answers}
 pub use Rattle.tv_top.specs.Claims.{Holds, Then, IsStopped, status_by, Answered, Comes}

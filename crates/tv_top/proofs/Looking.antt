@@ -1,7 +1,7 @@
 -- Looks at files, one after another, and what is made of what they find.
 use Rattle.std.proofs.Common.{◌≡◌, ℕ, ◌+◌, nat_le, List, [], ◌∷◌, ◌++◌, length, Option, Some, None, Result, Ok, Err, IsErrAnd, inl, inr, refl, ap, ◌∙◌, ◌≤◌, arith, rules}
 use Rattle.std.proofs.lemmas.Bool.{cond_both}
-use Rattle.tv_top.proofs.Common.{Names, Outside, Bad, Flaw, Size, Stop, Fault, Memory, Contents, IsOneOf, IsFound, Finds, Makes, from_made, limited_bytes, Look, ◌>>=◌, look_on, Outcome, comes_by, map_ok, input, within, held_at, made_of}
+use Rattle.tv_top.proofs.Common.{Names, Outside, Bad, Flaw, Size, Stop, Fault, Memory, Contents, IsOneOf, IsFound, Finds, Makes, flaw_stop, limited_bytes, Look, ◌>>=◌, look_on, Outcome, comes_by, map_ok, input, within, held_at, made_of}
 use Rattle.tv_top.specs.declared.refusal.Bad.TheVariants as bad
 use Rattle.tv_top.specs.declared.refusal.Flaw.TheVariants as flaw
 
@@ -82,6 +82,11 @@ finds_as is finds = record {
 
 -- ---- what was made of what was read
 
+-- what making came to, as what a look comes to by `?`
+abbrev from_made : {X : Type 0} → Result X Flaw → Result X Stop
+from_made (Ok x) = Ok x
+from_made (Err flaw) = Err (flaw_stop flaw)
+
 told_made : {X A : Type 0} (view : X → A) (due : Look A) (held : Result A Bad) (made : Result X Flaw) → due.gives ≡ made_of held → Makes view held made → IsFound view due (from_made made)
 told_made view due held (Ok x) is makes = is ∙ ap made_of makes
 told_made view due held (Err (flaw.Contents why)) is makes = is ∙ ap made_of makes
@@ -122,14 +127,28 @@ limited_is word what most f (Some held) bytes e =
     cond_both (nat_le (length held) most) (Ok held) (Err (Contents (bad.Limit what (most + 1) most))) (λ read. read ≡ Ok bytes → held_at word (within what most f) (Some held) ≡ made_of (f bytes))
     (λ fits e. let same : held ≡ bytes = cc in rw (fits, same) refl) (λ _ e. cc) e
 
+text_is : {A : Type 0} (word : ℕ) (what : Size) (most : ℕ) (f : List ℕ → Result A Bad) (file : Option (List ℕ)) (bytes text : List ℕ) → text ≡ bytes → limited_bytes word what most file ≡ Ok bytes →
+    held_at word (within what most f) file ≡ made_of (f text)
+text_is word what most f file bytes text is e = rw is (limited_is word what most f file bytes e)
+
 -- what was made of a file of so many bytes
-pub made_found : {X Y A : Type 0} (view : X → A) (of_read : Y → List ℕ) (word : ℕ) (what : Size) (sizes : List Size) (most : ℕ) (f : List ℕ → Result A Bad) (name : List ℕ) (read : Y) (made : Result X Flaw) (old new : Outside) →
-    Finds of_read (word ∷ []) (what ∷ []) (λ held. record { at = word; gives = limited_bytes word what most (held name) }) old new (Ok read) → Makes view (f (of_read read)) made → IsLimited (f (of_read read)) sizes →
-    Finds view (word ∷ []) (what ∷ sizes) (input word (within what most f) name) old new (from_made made)
+pub made_found : {X Y A : Type 0} (view : X → A) (of_read : Y → List ℕ) (word : ℕ) (what : Size) (sizes : List Size) (most : ℕ) (f : List ℕ → Result A Bad) (name : List ℕ) (read : Y) (text : List ℕ) (x : X) (old new : Outside) →
+    Finds of_read (word ∷ []) (what ∷ []) (λ held. record { at = word; gives = limited_bytes word what most (held name) }) old new (Ok read) → text ≡ of_read read → Makes view (f text) (Ok x) →
+    Finds view (word ∷ []) (what ∷ sizes) (input word (within what most f) name) old new (Ok x)
 unfolding input
-made_found view of_read word what sizes most f name read made old new finds makes limited =
-    finds_made view of_read (word ∷ []) (what ∷ []) (what ∷ sizes) (λ held. record { at = word; gives = limited_bytes word what most (held name) }) (input word (within what most f) name) (f (of_read read)) read made old new
-    (λ files e. limited_is word what most f (files name) (of_read read) e) finds makes (λ size has most e. inr (limited size has most e))
+made_found view of_read word what sizes most f name read text x old new finds is makes =
+    finds_made view of_read (word ∷ []) (what ∷ []) (what ∷ sizes) (λ held. record { at = word; gives = limited_bytes word what most (held name) }) (input word (within what most f) name) (f text) read (Ok x) old new
+    (λ files e. text_is word what most f (files name) (of_read read) text is e) finds makes (λ size has most e. cc)
+
+-- and what its flaw comes to, which `?` passes on
+pub flaw_found : {X Y A : Type 0} (view : X → A) (of_read : Y → List ℕ) (word : ℕ) (what : Size) (sizes : List Size) (most : ℕ) (f : List ℕ → Result A Bad) (name : List ℕ) (read : Y) (text : List ℕ) (flaw : Flaw) (old new : Outside) (found : Result X Stop) →
+    Finds of_read (word ∷ []) (what ∷ []) (λ held. record { at = word; gives = limited_bytes word what most (held name) }) old new (Ok read) → text ≡ of_read read → Makes view (f text) (Err flaw) → IsLimited (f text) sizes → IsErrAnd found (λ e. e ≡ flaw_stop flaw) →
+    Finds view (word ∷ []) (what ∷ sizes) (input word (within what most f) name) old new found
+unfolding input
+flaw_found view of_read word what sizes most f name read text flaw old new (Ok x) finds is makes limited same = absurd same
+flaw_found view of_read word what sizes most f name read text flaw old new (Err stop) finds is makes limited same =
+    rw same (finds_made view of_read (word ∷ []) (what ∷ []) (what ∷ sizes) (λ held. record { at = word; gives = limited_bytes word what most (held name) }) (input word (within what most f) name) (f text) read (Err flaw) old new
+    (λ files e. text_is word what most f (files name) (of_read read) text is e) finds makes (λ size has most e. inr (limited size has most e)))
 
 -- ---- what a command comes to by what was found
 

@@ -3,8 +3,7 @@ use Rattle.std.specs.Prelude.{◌≡◌, ℕ, ◌%◌, ◌/◌, ◌<◌, ◌≤�
 use Rattle.tv_core.specs.declared.limits.TheConstants.{TEXT_BYTES}
 use Rattle.tv_disasm.specs.Disassembly.{disassembly_of}
 use Rattle.tv_top.specs.declared.programs.Width.{Width}
-use Rattle.tv_top.specs.Disassembling.{image_bytes_most}
-use Rattle.tv_top.specs.Programs.{bits, image_of}
+use Rattle.tv_top.specs.Programs.{bits, image_bytes_most, image_of}
 
 -- what `disasm` writes of an image that it may read is a text that `asm` may read, whose image in bytes is
 -- that image again

@@ -6,7 +6,6 @@ use Rattle.tv_disasm.specs.declared.fault.DisFault.{DisFault}
 use Rattle.tv_disasm.specs.declared.fault.DisFault.TheVariants as dis
 use Rattle.tv_files.specs.Outside.{Names, Outside, Told}
 use Rattle.tv_top.specs.declared.disassembling.DisasmArgs.{DisasmArgs}
-use Rattle.tv_top.specs.declared.limits.TheConstants.{IMAGE_BYTES, IMAGE_BYTES_16}
 use Rattle.tv_top.specs.declared.programs.Width.{Width}
 use Rattle.tv_top.specs.declared.programs.Width.TheVariants.{Bits16, Bits32}
 use Rattle.tv_top.specs.declared.refusal.Bad.{Bad}
@@ -19,18 +18,13 @@ use Rattle.tv_top.specs.declared.status.Status.{Status}
 use Rattle.tv_top.specs.Claims.{Holds, Comes}
 use Rattle.tv_top.specs.Contents.{Content.{Bytes}}
 use Rattle.tv_top.specs.Kinds.{is_quiet}
-use Rattle.tv_top.specs.Programs.{bits}
+use Rattle.tv_top.specs.Programs.{bits, image_bytes_most}
 use Rattle.tv_top.specs.Plan.{Named, Plan, Outcome, within, input, comes_by}
 
 -- what a fault of an image is
 abbrev pub dis_flaw : DisFault → Flaw
 dis_flaw (dis.Ragged len) = Contents (bad.Image len)
 dis_flaw dis.Memory = Memory
-
--- the most bytes of an image file, by the width of a word
-abbrev pub image_bytes_most : Width → ℕ
-image_bytes_most Bits16 = IMAGE_BYTES_16
-image_bytes_most Bits32 = IMAGE_BYTES
 
 -- the program text of an image of words of w bits, whose bytes are whole instructions of two words
 unfoldable pub text_of : ℕ → List ℕ → Result (List ℕ) Bad

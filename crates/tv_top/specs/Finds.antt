@@ -16,11 +16,6 @@ abbrev pub flaw_stop : Flaw → Stop
 flaw_stop (flaw.Contents bad) = Contents bad
 flaw_stop flaw.Memory = Memory
 
--- what making came to, as what a look comes to
-abbrev pub from_made : {X : Type 0} → Result X Flaw → Result X Stop
-from_made (Ok x) = Ok x
-from_made (Err flaw) = Err (flaw_stop flaw)
-
 -- it is one of these
 abbrev pub IsOneOf : {A : Type 0} → A → List A → Type 0
 IsOneOf x [] = ⊥

@@ -1,5 +1,5 @@
 -- The images of program texts, for words of either width.
-use Rattle.std.specs.Prelude.{ℕ, ◌+◌, ◌≤◌, ◌==◌, List, [], ◌∷◌, length, Result, Ok, Err, if◌then◌else◌}
+use Rattle.std.specs.Prelude.{ℕ, ◌+◌, ◌*◌, ◌/◌, ◌≤◌, ◌==◌, List, [], ◌∷◌, length, Result, Ok, Err, if◌then◌else◌}
 use Rattle.std.specs.List.{flat_map}
 use Rattle.tv_asm.specs.Assembly.{assembled}
 use Rattle.tv_asm.specs.Header.{width_of}
@@ -28,6 +28,10 @@ bits Bits32 = 32
 abbrev pub image_words : Width → ℕ
 image_words Bits16 = IMAGE_WORDS_16
 image_words Bits32 = IMAGE_WORDS
+
+-- the most bytes of an image file: those of the most words
+abbrev pub image_bytes_most : Width → ℕ
+image_bytes_most width = bits width / 8 * image_words width
 
 -- the width of words that a text tells
 abbrev pub width_told : List ℕ → Width

@@ -8,9 +8,9 @@ ghost use Rattle.tv_top.specs.Form.{asm_form};
 ghost use Rattle.tv_top.specs.Plan.{input, refusal_of};
 ghost use Rattle.tv_top.specs.Programs.{image_bytes, image_of, program_sizes};
 
-use crate::inputs::{from_made, limited_bytes};
+use crate::inputs::limited_bytes;
 use crate::place::{Place, Write, refusal_of};
-use crate::programs::{Program, program_of, word_size};
+use crate::programs::{Program, program_of};
 use crate::refusal::{Ending, Finish, Flaw, Refusal, Size, Stop};
 use crate::status::Status;
 use crate::writing::{conclude, finish};
@@ -73,7 +73,7 @@ fn image_bytes(alloc: Global, program: &Program) -> Result<Vec<u8>, AllocError>
     ensures { IfOk result (λ v. v.items ≡ image_bytes program.now) }
 {
     let words = program.words.as_slice();
-    let size = word_size(program.width);
+    let size = program.width.word_size();
     let mut bytes = Vec::with_capacity(alloc, size * words.len())?;
     for word in words {
         bytes.extend_from_slice(&word_bytes(*word)[..size])?;
@@ -97,5 +97,5 @@ fn read_image<D: Files>(alloc: Global, files: &mut D, text: &str) -> Result<Vec<
         (D.seen files.old) (D.seen files.new) result }
 {
     let text = limited_bytes(alloc, files, 1, text, Size::TextBytes, TEXT_BYTES)?;
-    from_made(image_of(alloc, &text))
+    Ok(image_of(alloc, &text)?)
 }

@@ -1,7 +1,7 @@
 //! Systems and assignments, each read from its file to the end.
 ghost use Rattle.std.specs.Prelude.{◌≡◌, [], ◌∷◌};
 ghost use Rattle.tv_shrink.specs.Shrinking.{Shrunken};
-ghost use Rattle.tv_top.specs.Containers.{stop_of, system_bad, witness_bad};
+ghost use Rattle.tv_top.specs.Containers.{container_bad, stop_of};
 ghost use Rattle.tv_top.specs.Containers.{counts_in, firsts_in_witness, verdict_in, witness_in};
 ghost use Rattle.tv_top.specs.Finds.{Finds};
 ghost use Rattle.tv_top.specs.Plan.{input};
@@ -18,25 +18,28 @@ use tv_r1cs_read::survey;
 use tv_shrink::{MOST_TERMS, ShrinkFault, Shrunk, shrink};
 use tv_wtns::{FirstValues, read_first_values, read_values};
 
-/// What reading the system came to, whose name stands at word 1, as what a look at files comes to.
-fn system_read<X: Drop>(read: Result<X, ReadRefusal>) -> Result<X, Stop>
-    ensures { result ≡ stop_of 1 system_bad read }
-{
-    match read {
-        Ok(x) => Ok(x),
-        Err(ReadRefusal::Bad { at, why }) => Err(Stop::Contents(Bad::System { at, why })),
-        Err(ReadRefusal::Fault) => Err(Stop::Fault { word: 1 }),
-        Err(ReadRefusal::Memory) => Err(Stop::Memory),
-    }
+/// What is read of a container.
+#[derive(Clone, Copy)]
+enum Container {
+    System,
+    Witness,
 }
 
-/// What reading the witness came to, whose name stands at this word.
-fn witness_read<X: Drop>(word: u32, read: Result<X, ReadRefusal>) -> Result<X, Stop>
-    ensures { result ≡ stop_of word witness_bad read }
+/// What reading the container came to whose name stands at this word, as what a look at files comes
+/// to.
+fn container_read<X: Drop>(
+    word: u32,
+    container: Container,
+    read: Result<X, ReadRefusal>,
+) -> Result<X, Stop>
+    ensures { result ≡ stop_of word (container_bad container) read }
 {
     match read {
         Ok(x) => Ok(x),
-        Err(ReadRefusal::Bad { at, why }) => Err(Stop::Contents(Bad::Witness { at, why })),
+        Err(ReadRefusal::Bad { at, why }) => Err(Stop::Contents(match container {
+            Container::System => Bad::System { at, why },
+            Container::Witness => Bad::Witness { at, why },
+        })),
         Err(ReadRefusal::Fault) => Err(Stop::Fault { word }),
         Err(ReadRefusal::Memory) => Err(Stop::Memory),
     }
@@ -51,7 +54,7 @@ pub(crate) fn survey_system<D: Files>(
     ensures { Finds (λ counts. counts) (1 ∷ []) [] (input 1 counts_in name.now)
         (D.seen files.old) (D.seen files.new) result }
 {
-    system_read(survey(alloc, files, name))
+    container_read(1, Container::System, survey(alloc, files, name))
 }
 
 /// The assignment of the witness, whose name stands at this word.
@@ -64,7 +67,7 @@ pub(crate) fn read_witness<D: Files>(
     ensures { Finds (λ v. v.items) (word ∷ []) [] (input word witness_in name.now)
         (D.seen files.old) (D.seen files.new) result }
 {
-    witness_read(word, read_values(alloc, files, name))
+    container_read(word, Container::Witness, read_values(alloc, files, name))
 }
 
 /// The first `most` values of the witness, whose name stands at word 2, and how many it has.
@@ -77,7 +80,8 @@ pub(crate) fn read_first_witness<D: Files>(
     ensures { Finds firsts_in (2 ∷ []) [] (input 2 (firsts_in_witness most) name.now)
         (D.seen files.old) (D.seen files.new) result }
 {
-    witness_read(2, read_first_values(alloc, files, name, most))
+    let read = read_first_values(alloc, files, name, most);
+    container_read(2, Container::Witness, read)
 }
 
 /// The verdict by the system, whose name stands at word 1, on these values and public numbers.
@@ -92,7 +96,8 @@ pub(crate) fn judge_system<D: Files>(
         (input 1 (verdict_in values.now publics.now) name.now)
         (D.seen files.old) (D.seen files.new) result }
 {
-    system_read(check(alloc, files, name, values, publics))
+    let read = check(alloc, files, name, values, publics);
+    container_read(1, Container::System, read)
 }
 
 /// What a refusal is of shrinking the system whose name stands at word 1.
@@ -125,8 +130,5 @@ pub(crate) fn read_shrunk<D: Files>(
     ensures { Finds (λ (s : Shrunken). s) (1 ∷ []) shrink_sizes (shrunk_look system.now)
         (D.seen files.old) (D.seen files.new) result }
 {
-    match shrink(alloc, files, system) {
-        Ok(shrunk) => Ok(shrunk),
-        Err(fault) => Err(shrink_stop(fault)),
-    }
+    shrink(alloc, files, system).map_err(shrink_stop)
 }

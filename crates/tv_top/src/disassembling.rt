@@ -9,8 +9,7 @@ ghost use Rattle.tv_top.specs.Form.{disasm_form};
 ghost use Rattle.tv_top.specs.Plan.{input, refusal_of};
 ghost use Rattle.tv_top.specs.Programs.{bits};
 
-use crate::inputs::{from_made, limited_bytes};
-use crate::limits::image_bytes_most;
+use crate::inputs::limited_bytes;
 use crate::place::{Place, Write, refusal_of};
 use crate::programs::Width;
 use crate::refusal::{Ending, Finish, Flaw, Refusal, Size, Stop};
@@ -92,9 +91,9 @@ fn read_text<D: Files>(
     ensures { Finds (λ v. v.items) (1 ∷ []) (ImageBytes ∷ []) (input 1 (text_in width) image.now)
         (D.seen files.old) (D.seen files.new) result }
 {
-    let most = image_bytes_most(width);
+    let most = width.image_bytes_most();
     let image = limited_bytes(alloc, files, 1, image, Size::ImageBytes, most)?;
-    from_made(text_of(alloc, width, &image))
+    Ok(text_of(alloc, width, &image)?)
 }
 
 /// The width that the words behind the two names tell, which may be none or `16`.

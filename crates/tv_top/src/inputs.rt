@@ -1,8 +1,8 @@
 //! Whole files that may have so many bytes.
-ghost use Rattle.std.specs.Prelude.{◌≡◌, ◌+◌, ◌<◌, ◌^◌, [], ◌∷◌};
-ghost use Rattle.tv_top.specs.Finds.{Finds, from_made, limited_bytes};
+ghost use Rattle.std.specs.Prelude.{◌+◌, ◌<◌, ◌^◌, [], ◌∷◌};
+ghost use Rattle.tv_top.specs.Finds.{Finds, limited_bytes};
 
-use crate::refusal::{Bad, Flaw, Size, Stop};
+use crate::refusal::{Bad, Size, Stop};
 use std::alloc::Global;
 use tv_files::{Files, Slurp, slurp};
 
@@ -29,15 +29,5 @@ pub(crate) fn limited_bytes<D: Files>(
         })),
         Err(Slurp::Fault) => Err(Stop::Fault { word }),
         Err(Slurp::Memory) => Err(Stop::Memory),
-    }
-}
-
-/// What making came to, as what a look at files comes to.
-pub(crate) fn from_made<X: Drop>(made: Result<X, Flaw>) -> Result<X, Stop>
-    ensures { result ≡ from_made made }
-{
-    match made {
-        Ok(x) => Ok(x),
-        Err(flaw) => Err(Stop::from(flaw)),
     }
 }

@@ -12,7 +12,6 @@ mod extracting;
 mod inputs;
 mod job;
 mod law;
-mod limits;
 mod line;
 mod listing;
 mod loading;

@@ -1,11 +1,10 @@
 //! A program and the two tapes of its run, each read and judged before the next.
-ghost use Rattle.std.specs.Prelude.{◌≡◌, ◌^◌, [], ◌∷◌, IfOk};
+ghost use Rattle.std.specs.Prelude.{[], ◌∷◌, IfOk};
 ghost use Rattle.tv_top.specs.Finds.{Finds};
 ghost use Rattle.tv_top.specs.Loading.{AreInputs, input_sizes, inputs_of};
-ghost use Rattle.tv_top.specs.Programs.{bits};
 
 use crate::place::Place;
-use crate::programs::{Program, Width, read_program};
+use crate::programs::{Program, read_program};
 use crate::refusal::{Size, Stop};
 use crate::tapes::read_words;
 use std::alloc::Global;
@@ -19,16 +18,6 @@ pub(crate) struct Inputs {
     pub(crate) program: Program,
     pub(crate) tape: Words,
     pub(crate) aux: Words,
-}
-
-/// How many numbers a word has.
-fn word_bound(width: Width) -> u64
-    ensures { result ≡ 2 ^ bits width }
-{
-    match width {
-        Width::Bits16 => 1 << 16,
-        Width::Bits32 => 1 << 32,
-    }
 }
 
 /// The program whose name stands at word 1, and the tapes at words 2 and 3.
@@ -45,7 +34,7 @@ pub(crate) fn read_inputs<D: Files>(
     ensures fit { IfOk result AreInputs }
 {
     let program = read_program(alloc, files, text)?;
-    let below = word_bound(program.width);
+    let below = program.width.word_bound();
     let tape = read_words(
         alloc,
         files,

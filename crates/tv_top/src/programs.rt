@@ -1,13 +1,13 @@
 //! The images of program texts, for words of the width that a text tells.
-ghost use Rattle.std.specs.Prelude.{◌≡◌, ◌≤◌, ◌/◌, [], ◌∷◌, IfOk};
+ghost use Rattle.std.specs.Prelude.{◌≡◌, ◌≤◌, ◌/◌, ◌^◌, [], ◌∷◌, IfOk};
 ghost use Rattle.tv_asm.specs.Header.{width_of};
 ghost use Rattle.tv_top.specs.declared.programs.Width.TheVariants.{Bits16};
 ghost use Rattle.tv_top.specs.Finds.{Finds, Makes};
 ghost use Rattle.tv_top.specs.Plan.{input};
-ghost use Rattle.tv_top.specs.Programs.{HasImage, bits, width_told};
+ghost use Rattle.tv_top.specs.Programs.{HasImage, bits, image_bytes_most, width_told};
 ghost use Rattle.tv_top.specs.Programs.{program_of, program_in, program_sizes};
 
-use crate::inputs::{from_made, limited_bytes};
+use crate::inputs::limited_bytes;
 use crate::refusal::{Flaw, Size, Stop};
 use std::alloc::Global;
 use tv_asm::{assemble, width};
@@ -24,14 +24,36 @@ pub enum Width {
     Bits32,
 }
 
-/// How many bytes a word has.
-pub(crate) fn word_size(width: Width) -> usize
-    ensures size { result ≡ bits width / 8 }
-    ensures short { result ≤ 4 }
-{
-    match width {
-        Width::Bits16 => 2,
-        Width::Bits32 => 4,
+impl Width {
+    /// How many bytes a word has.
+    pub(crate) fn word_size(self) -> usize
+        ensures size { result ≡ bits self / 8 }
+        ensures short { result ≤ 4 }
+    {
+        match self {
+            Width::Bits16 => 2,
+            Width::Bits32 => 4,
+        }
+    }
+
+    /// How many numbers a word has.
+    pub(crate) fn word_bound(self) -> u64
+        ensures { result ≡ 2 ^ bits self }
+    {
+        match self {
+            Width::Bits16 => 1 << 16,
+            Width::Bits32 => 1 << 32,
+        }
+    }
+
+    /// The most bytes of an image file.
+    pub(crate) fn image_bytes_most(self) -> u64
+        ensures { result ≡ image_bytes_most self }
+    {
+        match self {
+            Width::Bits16 => 2 * u64::from(IMAGE_WORDS_16),
+            Width::Bits32 => 4 * u64::from(IMAGE_WORDS),
+        }
     }
 }
 
@@ -84,5 +106,5 @@ pub(crate) fn read_program<D: Files>(
     ensures fits { IfOk result (λ program. HasImage program) }
 {
     let text = limited_bytes(alloc, files, 1, name, Size::TextBytes, TEXT_BYTES)?;
-    from_made(program_of(alloc, &text))
+    Ok(program_of(alloc, &text)?)
 }

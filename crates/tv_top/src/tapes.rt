@@ -7,7 +7,7 @@ ghost use Rattle.tv_top.specs.Finds.{Finds, Makes};
 ghost use Rattle.tv_top.specs.Plan.{input};
 ghost use Rattle.tv_top.specs.Tapes.{tape_flaw, numbers_of, numbers_in, publics_in, tape_sizes};
 
-use crate::inputs::{from_made, limited_bytes};
+use crate::inputs::limited_bytes;
 use crate::place::Place;
 use crate::refusal::{Bad, Flaw, Size, Stop};
 use std::alloc::{AllocError, Global};
@@ -68,7 +68,7 @@ pub(crate) fn read_publics<D: Files>(
         (D.seen files.old) (D.seen files.new) result }
 {
     let text = limited_bytes(alloc, files, 3, name, Size::TextBytes, TEXT_BYTES)?;
-    from_made(publics_of(alloc, &text))
+    Ok(publics_of(alloc, &text)?)
 }
 
 /// Numbers as words.
@@ -121,13 +121,7 @@ pub(crate) fn read_words<D: Files>(
     ensures below { IfOk result (λ words. All (λ v. v < below) words) }
     ensures few { IfOk result (λ words. length words ≤ most) }
 {
-    let text = limited_bytes(
-        alloc,
-        files,
-        place.word,
-        place.name,
-        Size::TextBytes,
-        TEXT_BYTES,
-    )?;
-    from_made(words_of(alloc, place.word, what, below, most, &text))
+    let Place { word, name } = place;
+    let text = limited_bytes(alloc, files, word, name, Size::TextBytes, TEXT_BYTES)?;
+    Ok(words_of(alloc, word, what, below, most, &text)?)
 }

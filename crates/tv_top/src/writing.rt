@@ -56,10 +56,7 @@ pub(crate) fn sink_cut(word: u32, fault: SinkFault) -> Cut
 pub(crate) fn streamed(word: u32, finished: Put<()>) -> Result<(), Cut>
     ensures { result ≡ streamed word finished }
 {
-    match finished {
-        Ok(()) => Ok(()),
-        Err(fault) => Err(sink_cut(word, fault)),
-    }
+    finished.map_err(|fault| sink_cut(word, fault))
 }
 
 /// Says the line of the end once writing ended so, or answers what cut it short.

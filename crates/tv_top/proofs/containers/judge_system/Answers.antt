@@ -8,4 +8,4 @@ use Rattle.tv_top.proofs.containers.judge_system.Goals as goal
 pub returns : goal.returns
 unfolding input
 returns g c =
-    rw c.system_read.ensures (finds_read (λ verdict. verdict) 1 1 c.args.name.now system_bad (λ file. verdict_of file c.args.values.now c.args.publics.now) _ _ c.check.result (omega arith) system_limitless c.check.ensures.gives c.check.ensures.looks c.check.ensures.missing)
+    rw c.container_read.ensures (finds_read (λ verdict. verdict) 1 1 c.args.name.now system_bad (λ file. verdict_of file c.args.values.now c.args.publics.now) _ _ c.check-read.result (omega arith) system_limitless c.check-read.ensures.gives c.check-read.ensures.looks c.check-read.ensures.missing)

@@ -8,4 +8,4 @@ use Rattle.tv_top.proofs.containers.read_first_witness.Goals as goal
 pub returns : goal.returns
 unfolding input
 returns g c =
-    rw c.witness_read.ensures (finds_read firsts_in 2 2 c.args.name.now witness_bad (λ file. firsts c.args.most (assignment_of file)) _ _ c.read_first_values.result (omega arith) witness_limitless c.read_first_values.ensures.gives c.read_first_values.ensures.looks c.read_first_values.ensures.missing)
+    rw c.container_read.ensures (finds_read firsts_in 2 2 c.args.name.now witness_bad (λ file. firsts c.args.most (assignment_of file)) _ _ c.read_first_values-read.result (omega arith) witness_limitless c.read_first_values-read.ensures.gives c.read_first_values-read.ensures.looks c.read_first_values-read.ensures.missing)

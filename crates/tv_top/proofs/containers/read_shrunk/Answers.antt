@@ -1,9 +1,7 @@
-use Rattle.std.proofs.Common.{Ok, Err}
+use Rattle.tv_top.specs.Shrinking.{shrink_stop}
+use Rattle.tv_top.proofs.ContainerReads.{came_of}
 use Rattle.tv_top.proofs.ShrunkReads.{finds_shrunk}
 use Rattle.tv_top.proofs.containers.read_shrunk.Goals as goal
 
-pub returns-in-Ok : goal.returns-in-Ok
-returns-in-Ok g c = finds_shrunk c.args.system.now _ _ (Ok c.in-Ok.shrunk) c.in-Ok.ensures.gives c.in-Ok.ensures.looks c.in-Ok.ensures.missing
-
-pub returns-in-Err : goal.returns-in-Err
-returns-in-Err g c = rw c.shrink_stop.ensures (finds_shrunk c.args.system.now _ _ (Err c.in-Err.fault) c.in-Err.ensures.gives c.in-Err.ensures.looks c.in-Err.ensures.missing)
+pub returns : goal.returns
+returns g c = rw (came_of shrink_stop _ _ c.map_err.ensures.cases) (finds_shrunk c.args.system.now _ _ c.shrink.result c.shrink.ensures.gives c.shrink.ensures.looks c.shrink.ensures.missing)

@@ -7,4 +7,4 @@ use Rattle.tv_top.proofs.containers.survey_system.Goals as goal
 
 pub returns : goal.returns
 unfolding input
-returns g c = rw c.system_read.ensures (finds_read (λ counts. counts) 1 1 c.args.name.now system_bad survey_of _ _ c.survey.result (omega arith) system_limitless c.survey.ensures.gives c.survey.ensures.looks c.survey.ensures.missing)
+returns g c = rw c.container_read.ensures (finds_read (λ counts. counts) 1 1 c.args.name.now system_bad survey_of _ _ c.survey.result (omega arith) system_limitless c.survey.ensures.gives c.survey.ensures.looks c.survey.ensures.missing)
