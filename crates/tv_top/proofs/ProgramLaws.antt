@@ -5,18 +5,17 @@ use Rattle.std.proofs.lemmas.Bool.{ltb-false, or_parts, cond_both}
 use Rattle.tv_asm.proofs.RangeLemmas.{images_short, images_words}
 use Rattle.tv_asm.specs.Assembly.{assembled}
 use Rattle.tv_asm.specs.declared.fault.AsmFault.{AsmFault}
-use Rattle.tv_asm.specs.declared.fault.AsmFault.TheVariants as asm
 use Rattle.tv_core.specs.declared.limits.TheConstants.{IMAGE_WORDS, TAPE_WORDS, AUX_WORDS, STEPS, TEXT_BYTES}
 use Rattle.tv_layout.specs.Places.{WithinLimits}
 use Rattle.tv_step.specs.Range.{AreWords}
 use Rattle.tv_tape.proofs.Narrowing.{numbers_below, numbers_few}
 use Rattle.tv_tape.specs.Tape.{tape_of}
 use Rattle.tv_tape.specs.declared.items.TapeFault.{TapeFault}
-use Rattle.tv_tape.specs.declared.items.TapeFault.TheVariants as tape
 use Rattle.tv_word.specs.Widths.{IsWidth}
 use Rattle.tv_top.specs.Building.{size_amounts}
 use Rattle.tv_top.specs.Loading.{AreInputs, HasInputs}
-use Rattle.tv_top.specs.Tapes.{tape_result, numbers_of, numbers_in}
+use Rattle.tv_top.specs.Finds.{made_by}
+use Rattle.tv_top.specs.Tapes.{tape_flaw, numbers_of, numbers_in}
 use Rattle.tv_top.proofs.Common.{Names, Inputs, Amount, Program, Width, Bits16, Bits32, Bad, Refusal, Size, Holds, Named, AreWithin, first_of, same_of, limit_of, refusal_of, within, HasImage, bits, image_words, width_told, program_result, program_by, program_of, program_in, program_sizes}
 use Rattle.tv_top.specs.declared.refusal.Bad.TheVariants as bad
 use Rattle.tv_top.specs.declared.refusal.Refusal.TheVariants.{Limit}
@@ -34,8 +33,7 @@ within_ok what most read bytes x e =
 
 image_by : (width : Width) (found : Result (List ℕ) AsmFault) (program : Program) → IfOk found (λ words. length words ≤ image_words width) → IfOk found (AreWords (bits width)) → program_result width found ≡ Ok program → HasImage program
 image_by width (Ok words) program short small e = let same : record { width = width; words = words } ≡ program = cc in rw (← same) (record { short = short; words = small })
-image_by width (Err asm.Memory) program short small e = cc
-image_by width _ program short small e = cc
+image_by width (Err fault) program short small e = cc
 
 -- a program that a file holds has words of its width, and no more of them than are allowed
 pub has_image : (file : Option (List ℕ)) (program : Program) → Holds program_in file (Ok program) → HasImage program
@@ -58,9 +56,9 @@ within_limits program n t image few some most =
 
 -- ---- tapes that files hold
 
-tape_read : (word : ℕ) (what : Size) (read : Result (List ℕ) TapeFault) (numbers : List ℕ) → tape_result word what read ≡ Ok numbers → read ≡ Ok numbers
-tape_read word what (Err tape.Memory) numbers e = cc
-tape_read word what _ numbers e = cc
+tape_read : (word : ℕ) (what : Size) (read : Result (List ℕ) TapeFault) (numbers : List ℕ) → made_by what (tape_flaw word what) read ≡ Ok numbers → read ≡ Ok numbers
+tape_read word what (Ok words) numbers e = cc
+tape_read word what (Err fault) numbers e = cc
 
 -- the words of a tape
 pub numbers_are : (word : ℕ) (what : Size) (w most : ℕ) (file : Option (List ℕ)) (numbers : List ℕ) → Holds (numbers_in word what (2 ^ w) most) file (Ok numbers) → AreWords w numbers × (length numbers ≤ most)

@@ -12,13 +12,15 @@ use Rattle.tv_top.proofs.Common.{Width, Size, bits, image_words, width_told, ima
 use Rattle.tv_top.specs.declared.refusal.Bad.TheVariants.{Limit, Image}
 use Rattle.tv_top.specs.declared.refusal.Size.TheVariants.{ImageWords}
 use Rattle.tv_top.specs.Disassembling.{text_of}
-use Rattle.tv_top.specs.Tapes.{tape_result, numbers_of}
+use Rattle.tv_top.specs.Finds.{made_by}
+use Rattle.tv_top.specs.Tapes.{tape_flaw, numbers_of}
 use Rattle.tv_top.proofs.Looking.{IsLimited, same_err}
 
 program_result_limited : (width : Width) (found : Result (List ℕ) AsmFault) → IsLimited (program_result width found) (ImageWords ∷ [])
 program_result_limited width (Ok words) what has most e = cc
+program_result_limited width (Err (asm.Bad line why)) what has most e = cc
+program_result_limited width (Err (asm.TooMany line many)) what has most e = inl cc
 program_result_limited width (Err asm.Memory) what has most e = inl cc
-program_result_limited width _ what has most e = inl cc
 
 pub program_limited : (text : List ℕ) → IsLimited (program_of text) (ImageWords ∷ [])
 unfolding program_by
@@ -33,11 +35,13 @@ unfolding text_of
 text_limited w image what has most =
     cond_both (length image % (w / 4) == 0) (Ok (disassembly_of w image)) (Err (Image (length image))) (λ made. ¬ (made ≡ Err (Limit what has most))) (λ _ e. cc) (λ _ e. cc)
 
-tape_result_limited : (word : ℕ) (what : Size) (found : Result (List ℕ) TapeFault) → IsLimited (tape_result word what found) (what ∷ [])
-tape_result_limited word what (Ok words) other has most e = cc
-tape_result_limited word what (Err tape.Memory) other has most e = inl cc
-tape_result_limited word what _ other has most e = inl cc
+tape_limited : (word : ℕ) (what : Size) (found : Result (List ℕ) TapeFault) → IsLimited (made_by what (tape_flaw word what) found) (what ∷ [])
+tape_limited word what (Ok words) other has most e = cc
+tape_limited word what (Err (tape.BadItem at)) other has most e = cc
+tape_limited word what (Err (tape.TooBig at)) other has most e = cc
+tape_limited word what (Err (tape.TooMany many)) other has most e = inl cc
+tape_limited word what (Err tape.Memory) other has most e = inl cc
 
 pub numbers_limited : (word : ℕ) (what : Size) (below most : ℕ) (text : List ℕ) → IsLimited (numbers_of word what below most text) (what ∷ [])
 unfolding numbers_of
-numbers_limited word what below most text = tape_result_limited word what (tape_of text below most)
+numbers_limited word what below most text = tape_limited word what (tape_of text below most)

@@ -4,33 +4,25 @@ use Rattle.tv_files.specs.Outside.{Names, Outside, Told}
 use Rattle.tv_core.specs.declared.limits.TheConstants.{TEXT_BYTES}
 use Rattle.tv_top.specs.declared.assembling.AsmArgs.{AsmArgs}
 use Rattle.tv_top.specs.declared.refusal.Bad.{Bad}
-use Rattle.tv_top.specs.declared.refusal.Finish.TheVariants.{Quiet}
 use Rattle.tv_top.specs.declared.refusal.Size.TheVariants.{TextBytes}
 use Rattle.tv_top.specs.declared.status.Status.{Status}
 use Rattle.tv_top.specs.Claims.{Holds, Comes}
-use Rattle.tv_top.specs.Contents.{Content.{Bytes}}
 use Rattle.tv_top.specs.Kinds.{is_quiet}
-use Rattle.tv_top.specs.Plan.{Named, Plan, Outcome, within, input, comes_by}
+use Rattle.tv_top.specs.Plan.{Plan, within, input, comes_by, one_name, writes_bytes}
 use Rattle.tv_top.specs.Programs.{image_of, program_sizes}
 
 -- the file of a program text, which may have so many bytes: its image, in bytes
 abbrev pub image_in : List ℕ → Result (List ℕ) Bad
 image_in = within TextBytes TEXT_BYTES image_of
 
-abbrev pub asm_ends : List ℕ → Outcome
-asm_ends image = record { files = Bytes image ∷ []; finish = Quiet }
-
-abbrev pub asm_writes : List ℕ → List Named
-asm_writes image = record { word = 2; name = image } ∷ []
-
 abbrev pub asm_plan : List ℕ → List ℕ → Plan
 asm_plan text image = record {
-  reads = record { word = 1; name = text } ∷ [];
-  writes = asm_writes image;
+  reads = one_name 1 text;
+  writes = one_name 2 image;
   amounts = [];
   sizes = program_sizes;
   ends_by = is_quiet;
-  comes = λ files. comes_by asm_ends (input 1 image_in text files);
+  comes = λ files. comes_by writes_bytes (input 1 image_in text files);
 }
 
 -- the plan that the command's words ask for
@@ -40,7 +32,7 @@ asm_asks args = asm_plan args.text.now args.image.now
 -- What `asm` promises over files that told their contents, the two names being different: TEXT holds a
 -- program text of this image, which IMAGE then holds, or it is refused for this.
 abbrev pub Asms : Names → List ℕ → List ℕ → Outside → Outside → Status → Type 0
-Asms files text image = Comes (asm_writes image) asm_ends (Holds image_in (files text)) files
+Asms files text image = Comes (one_name 2 image) writes_bytes (Holds image_in (files text)) files
 
 -- What a call promises that has these words, where they are those of `asm`.
 abbrev pub OnAsm : List (List ℕ) → Outside → Outside → Status → Type 0

@@ -19,7 +19,7 @@ use Rattle.tv_top.specs.declared.status.Status.{Status}
 use Rattle.tv_top.specs.Claims.{Holds, Comes}
 use Rattle.tv_top.specs.Contents.{Content.{Constraints}}
 use Rattle.tv_top.specs.Kinds.{is_quiet}
-use Rattle.tv_top.specs.Plan.{Named, Plan, Outcome, input, comes_by}
+use Rattle.tv_top.specs.Plan.{Plan, Outcome, input, comes_by, one_name}
 use Rattle.tv_top.specs.Programs.{bits, program_in, program_sizes}
 
 -- the network that the word behind those of the command tells: none is Benes' one, and `waksman` is Waksman's
@@ -39,13 +39,10 @@ program_system net n t program = system_of (bits program.width) net program.word
 abbrev pub build_ends : Net → ℕ → ℕ → Program → Outcome
 build_ends net n t program = record { files = Constraints (program_system net n t program) ∷ []; finish = Quiet }
 
-abbrev pub build_writes : List ℕ → List Named
-build_writes system = record { word = 4; name = system } ∷ []
-
 abbrev pub build_plan : Net → List ℕ → ℕ → ℕ → List ℕ → Plan
 build_plan net text n t system = record {
-  reads = record { word = 1; name = text } ∷ [];
-  writes = build_writes system;
+  reads = one_name 1 text;
+  writes = one_name 4 system;
   amounts = size_amounts n t;
   sizes = program_sizes;
   ends_by = is_quiet;
@@ -64,7 +61,7 @@ pub record HasSystem (net : Net) (n t : ℕ) (text : Option (List ℕ)) (held : 
 -- What `build` promises over files that told their contents, the two names being different and N and T within
 -- their limits: TEXT holds a program, whose system SYSTEM then holds, or it is refused for this.
 abbrev pub Builds : Net → Names → List ℕ → ℕ → ℕ → List ℕ → Outside → Outside → Status → Type 0
-Builds net files text n t system = Comes (build_writes system) (build_ends net n t) (HasSystem net n t (files text)) files
+Builds net files text n t system = Comes (one_name 4 system) (build_ends net n t) (HasSystem net n t (files text)) files
 
 -- What a call promises that has these words, where they are those of `build`.
 abbrev pub OnBuild : List (List ℕ) → Outside → Outside → Status → Type 0

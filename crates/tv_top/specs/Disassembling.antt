@@ -10,16 +10,14 @@ use Rattle.tv_top.specs.declared.programs.Width.{Width}
 use Rattle.tv_top.specs.declared.programs.Width.TheVariants.{Bits16, Bits32}
 use Rattle.tv_top.specs.declared.refusal.Bad.{Bad}
 use Rattle.tv_top.specs.declared.refusal.Bad.TheVariants as bad
-use Rattle.tv_top.specs.declared.refusal.Finish.TheVariants.{Quiet}
 use Rattle.tv_top.specs.declared.refusal.Flaw.{Flaw}
 use Rattle.tv_top.specs.declared.refusal.Flaw.TheVariants.{Contents, Memory}
 use Rattle.tv_top.specs.declared.refusal.Size.TheVariants.{ImageBytes}
 use Rattle.tv_top.specs.declared.status.Status.{Status}
 use Rattle.tv_top.specs.Claims.{Holds, Comes}
-use Rattle.tv_top.specs.Contents.{Content.{Bytes}}
 use Rattle.tv_top.specs.Kinds.{is_quiet}
 use Rattle.tv_top.specs.Programs.{bits, image_bytes_most}
-use Rattle.tv_top.specs.Plan.{Named, Plan, Outcome, within, input, comes_by}
+use Rattle.tv_top.specs.Plan.{Plan, within, input, comes_by, one_name, writes_bytes}
 
 -- what a fault of an image is
 abbrev pub dis_flaw : DisFault → Flaw
@@ -40,20 +38,14 @@ width_word [] = Some Bits32
 width_word (word ∷ []) = if bytes_eq word (codes "16") then Some Bits16 else None
 width_word _ = None
 
-abbrev pub disasm_ends : List ℕ → Outcome
-disasm_ends text = record { files = Bytes text ∷ []; finish = Quiet }
-
-abbrev pub disasm_writes : List ℕ → List Named
-disasm_writes text = record { word = 2; name = text } ∷ []
-
 abbrev pub disasm_plan : Width → List ℕ → List ℕ → Plan
 disasm_plan width image text = record {
-  reads = record { word = 1; name = image } ∷ [];
-  writes = disasm_writes text;
+  reads = one_name 1 image;
+  writes = one_name 2 text;
   amounts = [];
   sizes = ImageBytes ∷ [];
   ends_by = is_quiet;
-  comes = λ files. comes_by disasm_ends (input 1 (text_in width) image files);
+  comes = λ files. comes_by writes_bytes (input 1 (text_in width) image files);
 }
 
 -- the plan that the command's words ask for
@@ -63,7 +55,7 @@ disasm_asks args = disasm_plan args.width args.image.now args.text.now
 -- What `disasm` promises over files that told their contents, the two names being different: IMAGE holds an
 -- image of words of this width with this program text, which TEXT then holds, or it is refused for this.
 abbrev pub Disasms : Width → Names → List ℕ → List ℕ → Outside → Outside → Status → Type 0
-Disasms width files image text = Comes (disasm_writes text) disasm_ends (Holds (text_in width) (files image)) files
+Disasms width files image text = Comes (one_name 2 text) writes_bytes (Holds (text_in width) (files image)) files
 
 -- What a call promises that has these words, where they are those of `disasm`.
 abbrev pub OnDisasm : List (List ℕ) → Outside → Outside → Status → Type 0

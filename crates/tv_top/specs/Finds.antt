@@ -16,6 +16,17 @@ abbrev pub flaw_stop : Flaw → Stop
 flaw_stop (flaw.Contents bad) = Contents bad
 flaw_stop flaw.Memory = Memory
 
+-- what contents are refused for of which something is made; a definition never wants memory, so that case stands for
+-- nothing
+abbrev pub flaw_bad : Size → Flaw → Bad
+flaw_bad what (flaw.Contents why) = why
+flaw_bad what flaw.Memory = bad.Limit what 0 0
+
+-- what is made of contents, by what a fault of them is
+abbrev pub made_by : {A E : Type 0} → Size → (E → Flaw) → Result A E → Result A Bad
+made_by what of (Ok x) = Ok x
+made_by what of (Err fault) = Err (flaw_bad what (of fault))
+
 -- it is one of these
 abbrev pub IsOneOf : {A : Type 0} → A → List A → Type 0
 IsOneOf x [] = ⊥

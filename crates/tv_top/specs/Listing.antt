@@ -13,14 +13,12 @@ use Rattle.tv_listing.specs.declared.row.By.TheVariants.{Time, Cell}
 use Rattle.tv_word.specs.Numeral.{numeral}
 use Rattle.tv_top.specs.declared.listing.ListingArgs.{ListingArgs}
 use Rattle.tv_top.specs.declared.refusal.Bad.{Bad}
-use Rattle.tv_top.specs.declared.refusal.Finish.TheVariants.{Quiet}
 use Rattle.tv_top.specs.declared.status.Status.{Status}
 use Rattle.tv_top.specs.Building.{program_system, size_amounts}
 use Rattle.tv_top.specs.Claims.{Comes}
-use Rattle.tv_top.specs.Contents.{Content.{Bytes}}
 use Rattle.tv_top.specs.Extracting.{Assigned, assigned_of, assigned_run, run_ends, HasAssigned}
 use Rattle.tv_top.specs.Kinds.{is_listing}
-use Rattle.tv_top.specs.Plan.{Named, Plan, Outcome, comes_by}
+use Rattle.tv_top.specs.Plan.{Plan, Outcome, comes_by, one_name, writes_bytes}
 use Rattle.tv_top.specs.Programs.{bits, program_sizes}
 
 -- the order that a word tells
@@ -33,18 +31,15 @@ assigned_text by n t step assigned = text_by by (assigned_lines (bits assigned.p
 
 -- what comes of a run of an assignment: the lines up to the step that answers
 abbrev pub lines_written : By → ℕ → ℕ → Assigned → Run → Outcome
-lines_written by n t assigned run = record { files = Bytes (assigned_text by n t run.step assigned) ∷ []; finish = Quiet }
+lines_written by n t assigned run = writes_bytes (assigned_text by n t run.step assigned)
 
 abbrev pub listing_ends : By → ℕ → ℕ → Assigned → Outcome
 listing_ends by n t assigned = run_ends (lines_written by n t assigned) (assigned_run Benes n t assigned)
 
-abbrev pub listing_writes : List ℕ → List Named
-listing_writes out = record { word = 6; name = out } ∷ []
-
 abbrev pub listing_plan : By → List ℕ → ℕ → ℕ → List ℕ → List ℕ → Plan
 listing_plan by text n t witness out = record {
   reads = record { word = 1; name = text } ∷ record { word = 4; name = witness } ∷ [];
-  writes = listing_writes out;
+  writes = one_name 6 out;
   amounts = size_amounts n t;
   sizes = program_sizes;
   ends_by = is_listing;
@@ -65,7 +60,7 @@ pub record HasListed (files : Names) (text : List ℕ) (n t : ℕ) (witness : Li
 -- What `listing` promises over files that told their contents, OUT being none of the other names and N and T within
 -- their limits.
 abbrev pub Lists : By → Names → List ℕ → ℕ → ℕ → List ℕ → List ℕ → Outside → Outside → Status → Type 0
-Lists by files text n t witness out = Comes (listing_writes out) (listing_ends by n t) (HasListed files text n t witness) files
+Lists by files text n t witness out = Comes (one_name 6 out) (listing_ends by n t) (HasListed files text n t witness) files
 
 -- What a call promises that has these words, where they are those of `listing`.
 abbrev pub OnListing : List (List ℕ) → Outside → Outside → Status → Type 0

@@ -8,17 +8,22 @@ use Rattle.tv_top.specs.declared.refusal.Bad.TheVariants as bad
 use Rattle.tv_top.specs.declared.refusal.Ending.{Ending}
 use Rattle.tv_top.specs.declared.refusal.Ending.TheVariants.{Refused, Stopped, Finished}
 use Rattle.tv_top.specs.declared.refusal.Finish.{Finish}
+use Rattle.tv_top.specs.declared.refusal.Finish.TheVariants.{Quiet}
 use Rattle.tv_top.specs.declared.refusal.Refusal.{Refusal}
 use Rattle.tv_top.specs.declared.refusal.Refusal.TheVariants.{Usage, SameName, Limit}
 use Rattle.tv_top.specs.declared.refusal.Size.{Size}
 use Rattle.tv_top.specs.declared.refusal.Stop.{Stop}
 use Rattle.tv_top.specs.declared.refusal.Stop.TheVariants as stop
-use Rattle.tv_top.specs.Contents.{Content}
+use Rattle.tv_top.specs.Contents.{Content, Content.{Bytes}}
 
 -- a word that is a file's name
 pub record Named : Type 0 where
   pub word : ℕ
   pub name : List ℕ
+
+-- one name, which stands at this word
+abbrev pub one_name : ℕ → List ℕ → List Named
+one_name word name = record { word = word; name = name } ∷ []
 
 -- a look at files: the last word whose file was looked at, and what came of it
 pub record Look (A : Type 0) : Type 0 where
@@ -29,6 +34,10 @@ pub record Look (A : Type 0) : Type 0 where
 pub record Outcome : Type 0 where
   pub files : List Content
   pub finish : Finish
+
+-- one file that holds these bytes, and nothing is said
+abbrev pub writes_bytes : List ℕ → Outcome
+writes_bytes bytes = record { files = Bytes bytes ∷ []; finish = Quiet }
 
 -- The names that are read and that are written, in order of their words; the quantities that the words
 -- tell, with their limits; the quantities of which the files that are read may hold too many; how it may

@@ -1,5 +1,5 @@
 -- The images of program texts, for words of either width.
-use Rattle.std.specs.Prelude.{ℕ, ◌+◌, ◌*◌, ◌/◌, ◌≤◌, ◌==◌, List, [], ◌∷◌, length, Result, Ok, Err, if◌then◌else◌}
+use Rattle.std.specs.Prelude.{ℕ, ◌+◌, ◌*◌, ◌/◌, ◌≤◌, ◌==◌, List, [], ◌∷◌, length, Result, if◌then◌else◌}
 use Rattle.std.specs.List.{flat_map}
 use Rattle.tv_asm.specs.Assembly.{assembled}
 use Rattle.tv_asm.specs.Header.{width_of}
@@ -17,6 +17,7 @@ use Rattle.tv_top.specs.declared.refusal.Flaw.{Flaw}
 use Rattle.tv_top.specs.declared.refusal.Flaw.TheVariants.{Contents, Memory}
 use Rattle.tv_top.specs.declared.refusal.Size.{Size}
 use Rattle.tv_top.specs.declared.refusal.Size.TheVariants.{ImageWords, TextBytes}
+use Rattle.tv_top.specs.Finds.{made_by}
 use Rattle.tv_top.specs.Plan.{within, map_ok}
 
 -- how many bits a word has
@@ -52,13 +53,9 @@ asm_flaw (asm.Bad line why) = Contents (bad.Program line why)
 asm_flaw (asm.TooMany line most) = Contents (bad.Limit ImageWords (most + 2) most)
 asm_flaw asm.Memory = Memory
 
--- what a program text for words of a width comes to; a definition never wants memory, so that case stands
--- for nothing
+-- what a program text for words of a width comes to
 abbrev pub program_result : Width → Result (List ℕ) AsmFault → Result Program Bad
-program_result width (Ok words) = Ok (record { width = width; words = words })
-program_result width (Err (asm.Bad line why)) = Err (bad.Program line why)
-program_result width (Err (asm.TooMany line most)) = Err (bad.Limit ImageWords (most + 2) most)
-program_result width (Err asm.Memory) = Err (bad.Limit ImageWords 0 0)
+program_result width found = map_ok (λ words. record { width = width; words = words }) (made_by ImageWords asm_flaw found)
 
 -- a program text for words of a width
 unfoldable pub program_by : Width → List ℕ → Result Program Bad

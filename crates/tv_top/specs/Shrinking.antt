@@ -20,7 +20,7 @@ use Rattle.tv_top.specs.Claims.{Holds, Then, Comes}
 use Rattle.tv_top.specs.Containers.{system_in}
 use Rattle.tv_top.specs.Contents.{Content.{Rest}}
 use Rattle.tv_top.specs.Kinds.{is_quiet}
-use Rattle.tv_top.specs.Plan.{Named, Plan, Outcome, Look, ◌>>=◌, made_of, input, comes_by}
+use Rattle.tv_top.specs.Plan.{Plan, Outcome, Look, ◌>>=◌, made_of, input, comes_by, one_name}
 
 -- the limits of a system's terms, and of the terms of one combination
 abbrev pub terms_bad : ℕ → Bad
@@ -56,16 +56,13 @@ shrunk_look name files = do
 abbrev pub shrink_ends : Shrunken → Outcome
 shrink_ends shrunken = record { files = Rest shrunken ∷ []; finish = Quiet }
 
-abbrev pub shrink_writes : List ℕ → List Named
-shrink_writes out = record { word = 2; name = out } ∷ []
-
 abbrev pub shrink_sizes : List Size
 shrink_sizes = SystemTerms ∷ CombinationTerms ∷ []
 
 abbrev pub shrink_plan : List ℕ → List ℕ → Plan
 shrink_plan system out = record {
-  reads = record { word = 1; name = system } ∷ [];
-  writes = shrink_writes out;
+  reads = one_name 1 system;
+  writes = one_name 2 out;
   amounts = [];
   sizes = shrink_sizes;
   ends_by = is_quiet;
@@ -91,7 +88,7 @@ pub record IsShrunk (system : System) (held : Result Shrunken Bad) : Type 0 wher
 -- What `shrink` promises over files that told their contents, the two names being different: SYSTEM holds a system,
 -- and OUT then what is left of it, or one of the two is refused for this.
 abbrev pub Shrinks : Names → List ℕ → List ℕ → Outside → Outside → Status → Type 0
-Shrinks files system out = Comes (shrink_writes out) shrink_ends (Then (Holds system_in (files system)) IsShrunk) files
+Shrinks files system out = Comes (one_name 2 out) shrink_ends (Then (Holds system_in (files system)) IsShrunk) files
 
 -- What a call promises that has these words, where they are those of `shrink`.
 abbrev pub OnShrink : List (List ℕ) → Outside → Outside → Status → Type 0

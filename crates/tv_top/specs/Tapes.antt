@@ -1,5 +1,5 @@
 -- The numbers of tapes.
-use Rattle.std.specs.Prelude.{ℕ, ◌+◌, List, [], ◌∷◌, Result, Ok, Err}
+use Rattle.std.specs.Prelude.{ℕ, ◌+◌, List, [], ◌∷◌, Result}
 use Rattle.tv_core.specs.declared.field.TheConstants.{P}
 use Rattle.tv_tape.specs.Tape.{tape_of}
 use Rattle.tv_tape.specs.declared.items.TapeFault.{TapeFault}
@@ -11,6 +11,7 @@ use Rattle.tv_top.specs.declared.refusal.Flaw.{Flaw}
 use Rattle.tv_top.specs.declared.refusal.Flaw.TheVariants.{Contents, Memory}
 use Rattle.tv_top.specs.declared.refusal.Size.{Size}
 use Rattle.tv_top.specs.declared.refusal.Size.TheVariants.{TapeWords, TextBytes}
+use Rattle.tv_top.specs.Finds.{made_by}
 use Rattle.tv_top.specs.Plan.{within}
 
 -- what a fault of the tape at a word is; it is one item more that passes the limit
@@ -20,17 +21,9 @@ tape_flaw word what (tape.TooBig at) = Contents (bad.Tape word at)
 tape_flaw word what (tape.TooMany most) = Contents (bad.Limit what (most + 1) most)
 tape_flaw word what tape.Memory = Memory
 
--- what the tape at a word comes to; a definition never wants memory, so that case stands for nothing
-abbrev pub tape_result : ℕ → Size → Result (List ℕ) TapeFault → Result (List ℕ) Bad
-tape_result word what (Ok words) = Ok words
-tape_result word what (Err (tape.BadItem at)) = Err (bad.Tape word at)
-tape_result word what (Err (tape.TooBig at)) = Err (bad.Tape word at)
-tape_result word what (Err (tape.TooMany most)) = Err (bad.Limit what (most + 1) most)
-tape_result word what (Err tape.Memory) = Err (bad.Limit what 0 0)
-
 -- the numbers of the text of the tape at a word: below a bound each, and at most so many of this quantity
 unfoldable pub numbers_of : ℕ → Size → ℕ → ℕ → List ℕ → Result (List ℕ) Bad
-numbers_of word what below most text = tape_result word what (tape_of text below most)
+numbers_of word what below most text = made_by what (tape_flaw word what) (tape_of text below most)
 
 -- the quantities of which the file of a tape may hold too many, the numbers being of this one
 abbrev pub tape_sizes : Size → List Size

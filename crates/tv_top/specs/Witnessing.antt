@@ -25,7 +25,7 @@ use Rattle.tv_top.specs.Claims.{Comes}
 use Rattle.tv_top.specs.Contents.{Content.{Values}}
 use Rattle.tv_top.specs.Kinds.{is_witness}
 use Rattle.tv_top.specs.Loading.{inputs_of, input_sizes, run_end, HasInputs}
-use Rattle.tv_top.specs.Plan.{Named, Plan, Outcome, comes_by}
+use Rattle.tv_top.specs.Plan.{Plan, Outcome, comes_by, one_name}
 use Rattle.tv_top.specs.Programs.{bits}
 
 -- the values for a run that answers v
@@ -47,13 +47,10 @@ no_run (fills.NoRun end) = Some (NoRun end)
 no_run fills.Failed = None
 no_run fills.Memory = None
 
-abbrev pub witness_writes : List ℕ → List Named
-witness_writes witness = record { word = 5; name = witness } ∷ []
-
 abbrev pub witness_plan : Net → List ℕ → List ℕ → List ℕ → ℕ → List ℕ → Plan
 witness_plan net text tape aux t witness = record {
   reads = record { word = 1; name = text } ∷ record { word = 2; name = tape } ∷ record { word = 3; name = aux } ∷ [];
-  writes = witness_writes witness;
+  writes = one_name 5 witness;
   amounts = record { what = Steps; has = t; least = 1; most = STEPS } ∷ [];
   sizes = input_sizes;
   ends_by = is_witness;
@@ -81,7 +78,7 @@ pub record HasWitness (net : Net) (files : Names) (text tape aux : List ℕ) (t 
 -- within its limit.
 abbrev pub Witnesses : Net → Names → List ℕ → List ℕ → List ℕ → ℕ → List ℕ → Outside → Outside → Status → Type 0
 Witnesses net files text tape aux t witness =
-    Comes (witness_writes witness) (witness_ends net t) (HasWitness net files text tape aux t) files
+    Comes (one_name 5 witness) (witness_ends net t) (HasWitness net files text tape aux t) files
 
 -- What a call promises that has these words, where they are those of `witness`.
 abbrev pub OnWitness : List (List ℕ) → Outside → Outside → Status → Type 0

@@ -6,9 +6,9 @@ ghost use Rattle.tv_top.specs.Answers.{Answers};
 ghost use Rattle.tv_top.specs.Ends.{Completes};
 ghost use Rattle.tv_top.specs.Extracting.{assigned_in};
 ghost use Rattle.tv_top.specs.Form.{listing_form};
-ghost use Rattle.tv_top.specs.Listing.{assigned_text, by_word, listing_asks, listing_ends};
-ghost use Rattle.tv_top.specs.Listing.{lines_written, listing_writes};
-ghost use Rattle.tv_top.specs.Plan.{AreWithin, refusal_of};
+ghost use Rattle.tv_top.specs.Listing.{assigned_text, by_word, lines_written};
+ghost use Rattle.tv_top.specs.Listing.{listing_asks, listing_ends};
+ghost use Rattle.tv_top.specs.Plan.{AreWithin, one_name, refusal_of};
 ghost use Rattle.tv_top.specs.Programs.{HasImage};
 
 use crate::building::size_amounts;
@@ -128,7 +128,7 @@ fn write_lines<D: Files>(
     requires image { HasImage assigned.now.program }
     requires amounts { AreWithin (listing_asks args).amounts }
     requires within { run.now.step ≤ args.t }
-    ensures { Completes (listing_writes args.entry.out.now)
+    ensures { Completes (one_name 6 args.entry.out.now)
         (lines_written args.entry.by args.entry.n args.entry.t (assigned_in assigned.now) run.now)
         words (D.seen files.old) (D.seen files.new) result }
 {
@@ -152,7 +152,7 @@ fn listing_on<D: Files>(
 ) -> Status
     requires image { HasImage assigned.now.program }
     requires amounts { AreWithin (listing_asks args).amounts }
-    ensures { Completes (listing_writes args.entry.out.now)
+    ensures { Completes (one_name 6 args.entry.out.now)
         (listing_ends args.entry.by args.entry.n args.entry.t (assigned_in assigned.now)) words
         (D.seen files.old) (D.seen files.new) result }
 {

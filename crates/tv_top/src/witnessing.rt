@@ -7,9 +7,9 @@ ghost use Rattle.tv_top.specs.Contents.{Content.{Values}};
 ghost use Rattle.tv_top.specs.Ends.{Completes, Writes};
 ghost use Rattle.tv_top.specs.Form.{witness_form};
 ghost use Rattle.tv_top.specs.Loading.{AreInputs};
-ghost use Rattle.tv_top.specs.Plan.{AreWithin, refusal_of};
+ghost use Rattle.tv_top.specs.Plan.{AreWithin, one_name, refusal_of};
 ghost use Rattle.tv_top.specs.Programs.{bits};
-ghost use Rattle.tv_top.specs.Witnessing.{no_run, witness_asks, witness_ends, witness_writes};
+ghost use Rattle.tv_top.specs.Witnessing.{no_run, witness_asks, witness_ends};
 
 use crate::building::net_word;
 use crate::loading::{Inputs, read_inputs};
@@ -128,7 +128,7 @@ fn witness_by<const W: u32, D: Files>(
     requires width { W ≡ bits inputs.now.program.width }
     requires inputs { AreInputs inputs.now }
     requires amounts { AreWithin (witness_asks args).amounts }
-    ensures { Completes (witness_writes args.entry.witness.now)
+    ensures { Completes (one_name 5 args.entry.witness.now)
         (witness_ends args.entry.net args.entry.t inputs.now) words
         (D.seen files.old) (D.seen files.new) result }
 {
@@ -154,7 +154,7 @@ fn witness_on<D: Files>(
 ) -> Status
     requires inputs { AreInputs inputs.now }
     requires amounts { AreWithin (witness_asks args).amounts }
-    ensures { Completes (witness_writes args.entry.witness.now)
+    ensures { Completes (one_name 5 args.entry.witness.now)
         (witness_ends args.entry.net args.entry.t inputs.now) words
         (D.seen files.old) (D.seen files.new) result }
 {
