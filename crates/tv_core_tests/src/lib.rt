@@ -1,5 +1,5 @@
-//! Tests of words and of the field, combinations and sinks, through their public calls: what the
-//! definitions mean, by numbers from outside. They stand in a crate of their own, since a crate
+//! Tests of lists of words, of inverses in the field and of sinks, through their public calls: what
+//! the definitions mean, by numbers from outside. They stand in a crate of their own, since a crate
 //! with tests is proved twice; nothing here is for callers.
 #![tactic(auto)]
 
