@@ -1,13 +1,11 @@
-//! Tests of instructions, of memory, of the machine and of drawn programs, through their public
-//! calls, by values from outside. They stand in a crate of their own, since a crate with tests is
-//! proved twice; nothing here is for callers.
+//! Tests of memory, of the machine and of drawn programs, through their public calls, and a law of
+//! instructions, by values from outside. They stand in a crate of their own, since a crate with
+//! tests is proved twice; nothing here is for callers.
 #![tactic(auto)]
 
 #[cfg(test)]
 mod drawing;
 pub mod examples;
-#[cfg(test)]
-mod instructions;
 #[cfg(test)]
 mod memory;
 #[cfg(test)]

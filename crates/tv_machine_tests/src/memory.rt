@@ -32,16 +32,3 @@ fn words_are_aligned_and_bytes_lie_in_them(rt: HostRuntime) -> Result<(), Fail> 
     assert_eq!(rt; memory.load_word::<32>(4_294_967_288), 0);
     Ok(())
 }
-
-#[test]
-fn words_of_16_bits_are_two_bytes(rt: HostRuntime) -> Result<(), Fail> {
-    let mut memory = Memory::new(rt.alloc());
-    assert_eq!(rt; memory.load_pair::<16>(65_535), (0, 0));
-    memory.store_word::<32>(65_532, 0x1122_3344)?;
-    memory.store_word::<16>(65_533, 0xffff_abcd)?;
-    assert_eq!(rt; memory.load_word::<16>(65_532), 0xabcd);
-    assert_eq!(rt; memory.load_word::<16>(65_535), 0x1122);
-    assert_eq!(rt; memory.load_pair::<16>(65_535), (0xabcd, 0x1122));
-    assert_eq!(rt; memory.load_pair::<16>(65_531), (0, 0));
-    Ok(())
-}

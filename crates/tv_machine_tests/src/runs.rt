@@ -1,80 +1,39 @@
-//! How runs end, and their traces.
-ghost use Rattle.tv_word.specs.Widths.{IsWidth};
+//! How a run ends, and traces of runs.
 
-use std::alloc::{AllocError, Global};
-use std::test::*;
+use std::test::Fail;
 use tv_core::Line;
-use tv_step::{End, Machine, TraceFault, trace};
+use tv_step::{End, Machine, TraceFault, TraceState, trace};
 use tv_word::Words;
 
-/// How a run of an image, of 1,024 words at most, ends without tapes.
-fn end_of<const W: u32>(alloc: Global, image: &[u32], steps: u64) -> Result<End, AllocError>
-    requires { IsWidth W }
-{
-    let image = &image[..image.len().min(1024)];
-    Machine::<W>::start(alloc, image, Words::new(alloc), Words::new(alloc))?.run(steps)
-}
-
-/// An image, a number of steps, and how the run ends.
-const RUNS: [(&[u32], u64, End); 6] = [
-    (&[0xfc00_0000, 0], 2, End::Answer { value: 0, step: 1 }),
-    // mov r1, 7; answer r1
-    (
-        &[0x9440_0000, 7, 0xf800_0000, 1],
-        2,
-        End::Answer { value: 7, step: 2 },
-    ),
-    (&[0xb800_0000, 0], 5, End::Undefined { op: 23, step: 1 }),
-    (&[], 64, End::Silent { steps: 64 }),
-    // jumps: cjmp 17, jmp 4294967288, answer 0
-    (
-        &[0xac00_0000, 17, 0xa400_0000, 4_294_967_288, 0xfc00_0000, 0],
-        5,
-        End::Answer { value: 0, step: 5 },
-    ),
-    // the third instruction is overwritten: mov r1, 0xfc000000; store.w 16, r1
-    (
-        &[0x9440_0000, 0xfc00_0000, 0xe440_0000, 16, 0, 0],
-        3,
-        End::Answer { value: 0, step: 3 },
-    ),
+/// read r1, 1; read r2, 1; sub r3, r1, r2; answer r3
+const TWO_READS: [u32; 8] = [
+    0xf440_0000,
+    1,
+    0xf480_0000,
+    1,
+    0x28c4_0000,
+    2,
+    0xf800_0000,
+    3,
 ];
 
-/// The same with words of 16 bits.
-const RUNS_16: [(&[u32], u64, End); 3] = [
-    // mov r1, 65535; add r2, r1, 1; answer r2
-    (
-        &[0x9440, 65_535, 0x2484, 1, 0xf800, 2],
-        3,
-        End::Answer { value: 0, step: 3 },
-    ),
-    // mov r1, 0x8000; smulh r2, r1, r1; sub r2, r2, 0x4000; answer r2
-    (
-        &[0x9440, 0x8000, 0x4084, 1, 0x2c88, 0x4000, 0xf800, 2],
-        4,
-        End::Answer { value: 0, step: 4 },
-    ),
-    // cjmp 9; jmp 65532; answer 0
-    (
-        &[0xac00, 9, 0xa400, 65_532, 0xfc00, 0],
-        5,
-        End::Answer { value: 0, step: 5 },
-    ),
+/// read r1, 0; read r2, 0; read r3, 2; answer r1
+const THREE_READS: [u32; 8] = [
+    0xf440_0000,
+    0,
+    0xf480_0000,
+    0,
+    0xf4c0_0000,
+    2,
+    0xf800_0000,
+    1,
 ];
 
 #[test]
-fn runs_of_32_bits_end_as_they_should(rt: HostRuntime) -> Result<(), Fail> {
-    for (image, steps, end) in RUNS {
-        assert_eq!(rt; end_of::<32>(rt.alloc(), image, steps)?, end);
-    }
-    Ok(())
-}
-
-#[test]
-fn runs_of_16_bits_end_as_they_should(rt: HostRuntime) -> Result<(), Fail> {
-    for (image, steps, end) in RUNS_16 {
-        assert_eq!(rt; end_of::<16>(rt.alloc(), image, steps)?, end);
-    }
+fn a_run_ends_in_its_answer(rt: HostRuntime) -> Result<(), Fail> {
+    let aux = Words::from(Vec::from_slice(rt.alloc(), &[9, 9, 7])?);
+    let mut machine = Machine::<32>::start(rt.alloc(), &TWO_READS, Words::new(rt.alloc()), aux)?;
+    assert_eq!(rt; machine.run(4)?, End::Answer { value: 0, step: 4 });
     Ok(())
 }
 
@@ -87,6 +46,7 @@ fn line(cell: u32, time: u32, old: u32, new: u32) -> Line {
     }
 }
 
+// mov r1, 0xfc000000; store.w 16, r1; and 0 twice, which the store makes an answer
 #[test]
 fn a_store_is_seen_by_the_fetch_after_it(rt: HostRuntime) -> Result<(), Fail> {
     let image = [0x9440_0000, 0xfc00_0000, 0xe440_0000, 16, 0, 0];
@@ -109,6 +69,7 @@ fn a_store_is_seen_by_the_fetch_after_it(rt: HostRuntime) -> Result<(), Fail> {
     Ok(())
 }
 
+// answer 0
 #[test]
 fn an_answering_step_comes_again(rt: HostRuntime) -> Result<(), Fail> {
     let trace = trace::<32>(rt.alloc(), &[0xfc00_0000, 0], &[], &[], 2)?;
@@ -121,67 +82,49 @@ fn an_answering_step_comes_again(rt: HostRuntime) -> Result<(), Fail> {
         line(1_610_612_736, 7, 0, 0),
     ];
     assert_eq!(rt; trace.lines.as_slice(), lines.as_slice());
-    assert_eq!(rt; trace.states.as_slice().len(), 3);
+    let state = TraceState {
+        pc: 0,
+        regs: [0; 16],
+        flag: false,
+        primary: 0,
+        aux: 0,
+        ended: false,
+    };
+    assert_eq!(rt; trace.states.as_slice(), [state; 3].as_slice());
     Ok(())
 }
 
 #[test]
 fn words_taken_are_counted(rt: HostRuntime) -> Result<(), Fail> {
-    // read r1, 0; read r2, 1; sub r3, r1, r2; answer r3
-    let image = [
-        0xf440_0000,
-        0,
-        0xf480_0000,
-        1,
-        0x28c4_0000,
-        2,
-        0xf800_0000,
-        3,
-    ];
-    let trace = trace::<32>(rt.alloc(), &image, &[9], &[9, 7], 4)?;
-    assert_eq!(rt; trace.lines.as_slice()[2], line(1 << 30, 11, 9, 9));
-    assert_eq!(rt; trace.lines.as_slice()[5], line(1_610_612_736, 14, 0, 0));
-    let last = trace.states.as_slice()[4];
-    assert_eq!(rt; (last.primary, last.aux), (1, 1));
-
-    // read r1, 1; read r2, 1; sub r3, r1, r2; answer r3
-    let image = [
-        0xf440_0000,
-        1,
-        0xf480_0000,
-        1,
-        0x28c4_0000,
-        2,
-        0xf800_0000,
-        3,
-    ];
-    let trace = tv_step::trace::<32>(rt.alloc(), &image, &[], &[9, 9, 7], 4)?;
-    let taken = [0, 1, 2, 2, 2];
-    for (state, aux) in trace.states.as_slice().iter().zip(taken) {
-        assert_eq!(rt; (state.primary, state.aux), (0, aux));
+    let trace = trace::<32>(rt.alloc(), &TWO_READS, &[], &[9, 9, 7], 4)?;
+    assert_eq!(rt; trace.answer, 0);
+    for (state, aux) in trace.states.as_slice().iter().zip([0, 1, 2, 2, 2]) {
+        assert_eq!(rt; (state.primary, state.aux, state.ended), (0, aux, false));
     }
-    assert_eq!(rt; trace.states.as_slice().len(), taken.len());
     Ok(())
 }
 
 #[test]
-fn the_ended_bit_is_set_by_a_read_that_finds_nothing(rt: HostRuntime) -> Result<(), Fail> {
-    // read r1, 1; read r2, 1; sub r3, r1, r2; answer r3
-    let image = [
-        0xf440_0000,
-        1,
-        0xf480_0000,
-        1,
-        0x28c4_0000,
-        2,
-        0xf800_0000,
-        3,
-    ];
-    let trace = trace::<32>(rt.alloc(), &image, &[], &[9], 4)?;
+fn a_read_that_finds_nothing_sets_the_ended_bit(rt: HostRuntime) -> Result<(), Fail> {
+    let trace = trace::<32>(rt.alloc(), &TWO_READS, &[], &[9], 4)?;
     assert_eq!(rt; trace.answer, 9);
     let told = [(0, false), (1, false), (1, true), (1, true), (1, true)];
     for (state, told) in trace.states.as_slice().iter().zip(told) {
         assert_eq!(rt; (state.aux, state.ended), told);
+    }
+    Ok(())
+}
+
+#[test]
+fn a_word_of_the_primary_tape_has_a_cell(rt: HostRuntime) -> Result<(), Fail> {
+    let trace = trace::<32>(rt.alloc(), &THREE_READS, &[u32::MAX], &[], 4)?;
+    assert_eq!(rt;
+        trace.lines.as_slice()[2],
+        line(1 << 30, 11, u32::MAX, u32::MAX)
+    );
+    assert_eq!(rt; trace.lines.as_slice()[5], line(1_610_612_736, 14, 0, 0));
+    for (state, primary) in trace.states.as_slice().iter().zip([0, 1, 1, 1, 1]) {
+        assert_eq!(rt; (state.primary, state.ended), (primary, false));
     }
     Ok(())
 }
@@ -193,10 +136,8 @@ fn a_run_that_answers_nothing_has_no_trace(rt: HostRuntime) -> Result<(), Fail> 
         ([0xa400_0000, 0], End::Silent { steps: 2 }),
     ];
     for (image, end) in ends {
-        match trace::<32>(rt.alloc(), &image, &[], &[], 2) {
-            Err(fault) => assert_eq!(rt; fault, TraceFault::NoRun { end }),
-            Ok(_) => assert!(rt; false),
-        }
+        let fault = trace::<32>(rt.alloc(), &image, &[], &[], 2).err();
+        assert_eq!(rt; fault, Some(TraceFault::NoRun { end }));
     }
     Ok(())
 }

@@ -1,9 +1,9 @@
-//! Single steps: what the instruction with each name does, on inputs on which no other does the
-//! same.
+//! Single steps: what the instruction with each opcode does.
+
+use crate::steps::Does::{Answers, Gives, Jumps, Stores, Tests, Undefined};
 use std::alloc::{AllocError, Global};
-use std::process::Abort;
 use std::test::Fail;
-use tv_isa::{Instr, encode, operations};
+use tv_isa::{Instr, encode};
 use tv_step::{Machine, Outcome};
 
 /// The word in register 2 before the step.
@@ -23,117 +23,87 @@ enum Does {
     Jumps(u32),
     /// The word at the address 65,536 is this, and the instruction behind comes.
     Stores(u32),
-    /// The machine stops.
-    Stops(Outcome),
+    /// The machine answers a word.
+    Answers(u32),
+    /// The machine stops at an opcode without an instruction.
+    Undefined,
 }
 
-/// A name in program text, the flag, the words in register 1 and in the operand, and what comes of
-/// them.
-type Row = (&'static str, bool, u32, u32, Does);
+/// An instruction's name and opcode, the flag, the words in register 1 and in the operand, and what
+/// comes of them. Three opcodes have no instruction.
+type Row = (&'static str, u8, bool, u32, u32, Does);
 
-const ROWS: [Row; 66] = [
-    ("and", false, 12, 10, Does::Gives(8, false)),
-    ("and", true, 1, 2, Does::Gives(0, true)),
-    ("or", true, 12, 10, Does::Gives(14, false)),
-    ("or", false, 0, 0, Does::Gives(0, true)),
-    ("xor", true, 12, 10, Does::Gives(6, false)),
-    ("xor", false, 7, 7, Does::Gives(0, true)),
-    ("not", true, 5, 10, Does::Gives(0xffff_fff5, false)),
-    ("not", false, 5, 0xffff_ffff, Does::Gives(0, true)),
-    ("add", false, 0xffff_ffff, 1, Does::Gives(0, true)),
-    ("add", true, 7, 8, Does::Gives(15, false)),
-    ("sub", false, 0, 1, Does::Gives(0xffff_ffff, true)),
-    ("sub", true, 9, 7, Does::Gives(2, false)),
-    ("mull", false, 65_536, 65_536, Does::Gives(0, true)),
-    ("mull", true, 7, 6, Does::Gives(42, false)),
-    ("umulh", false, 65_536, 65_536, Does::Gives(1, true)),
-    (
-        "umulh",
-        true,
-        0xffff_ffff,
-        0xffff_ffff,
-        Does::Gives(0xffff_fffe, true),
-    ),
+const ROWS: [Row; 63] = [
+    ("and", 0, false, 12, 10, Gives(8, false)),
+    ("and", 0, false, 1, 2, Gives(0, true)),
+    ("or", 1, true, 12, 10, Gives(14, false)),
+    ("or", 1, false, 0, 0, Gives(0, true)),
+    ("xor", 2, true, 12, 10, Gives(6, false)),
+    ("xor", 2, false, 7, 7, Gives(0, true)),
+    ("not", 3, true, 5, 10, Gives(0xffff_fff5, false)),
+    ("not", 3, false, 5, 0xffff_ffff, Gives(0, true)),
+    ("add", 4, false, 0xffff_ffff, 1, Gives(0, true)),
+    ("add", 4, true, 7, 8, Gives(15, false)),
+    ("sub", 5, false, 0, 1, Gives(0xffff_ffff, true)),
+    ("sub", 5, true, 9, 7, Gives(2, false)),
+    ("mull", 6, false, 65_536, 65_536, Gives(0, true)),
+    ("mull", 6, true, 7, 6, Gives(42, false)),
+    ("umulh", 7, false, 65_536, 65_536, Gives(1, true)),
+    ("umulh", 7, true, 7, 6, Gives(0, false)),
     (
         "smulh",
+        8,
         false,
         0x8000_0000,
         0x8000_0000,
-        Does::Gives(0x4000_0000, true),
+        Gives(0x4000_0000, true),
     ),
-    (
-        "smulh",
-        true,
-        0xffff_ffff,
-        1,
-        Does::Gives(0xffff_ffff, false),
-    ),
-    (
-        "smulh",
-        false,
-        0x8000_0000,
-        1,
-        Does::Gives(0xffff_ffff, false),
-    ),
-    (
-        "smulh",
-        false,
-        0xffff_ffff,
-        0xffff_ffff,
-        Does::Gives(0, false),
-    ),
-    ("udiv", false, 7, 0, Does::Gives(0, true)),
-    ("udiv", true, 29, 4, Does::Gives(7, false)),
-    ("umod", false, 7, 0, Does::Gives(0, true)),
-    ("umod", true, 29, 9, Does::Gives(2, false)),
-    ("shl", false, 0x8000_0001, 1, Does::Gives(2, true)),
-    ("shl", false, 0x8000_0001, 32, Does::Gives(0, true)),
-    ("shl", true, 3, 4, Does::Gives(48, false)),
-    ("shl", true, 3, 0, Does::Gives(3, false)),
-    ("shr", false, 0x8000_0001, 0xffff_ffff, Does::Gives(0, true)),
-    ("shr", true, 50, 2, Does::Gives(12, false)),
-    ("shr", false, 3, 31, Does::Gives(0, true)),
-    ("cmpe", false, 5, 5, Does::Tests(true)),
-    ("cmpe", true, 6, 5, Does::Tests(false)),
-    ("cmpa", true, 5, 5, Does::Tests(false)),
-    ("cmpa", false, 6, 5, Does::Tests(true)),
-    ("cmpa", false, 0xffff_ffff, 0, Does::Tests(true)),
-    ("cmpae", false, 5, 5, Does::Tests(true)),
-    ("cmpae", false, 6, 5, Does::Tests(true)),
-    ("cmpae", false, 0xffff_ffff, 0, Does::Tests(true)),
-    ("cmpae", true, 5, 6, Does::Tests(false)),
-    ("cmpg", true, 5, 5, Does::Tests(false)),
-    ("cmpg", false, 6, 5, Does::Tests(true)),
-    ("cmpg", true, 0xffff_ffff, 0, Does::Tests(false)),
-    ("cmpge", false, 5, 5, Does::Tests(true)),
-    ("cmpge", false, 6, 5, Does::Tests(true)),
-    ("cmpge", true, 0xffff_ffff, 0, Does::Tests(false)),
-    ("mov", false, 7, 9, Does::Gives(9, false)),
-    ("mov", true, 7, 9, Does::Gives(9, true)),
-    ("cmov", false, 7, 9, Does::Tests(false)),
-    ("cmov", true, 7, 9, Does::Gives(9, true)),
-    ("jmp", false, 7, 23, Does::Jumps(16)),
-    ("jmp", true, 7, 23, Does::Jumps(16)),
-    ("cjmp", false, 7, 23, Does::Tests(false)),
-    ("cjmp", true, 7, 23, Does::Jumps(16)),
-    ("cnjmp", false, 7, 23, Does::Jumps(16)),
-    ("cnjmp", true, 7, 23, Does::Tests(true)),
-    ("store.b", false, 7, 65_537, Does::Stores(0x8899_abbb)),
-    ("store.b", true, 7, 65_539, Does::Stores(0xab99_aabb)),
-    ("load.b", false, 7, 65_537, Does::Gives(170, false)),
-    ("load.b", true, 7, 65_539, Does::Gives(136, true)),
-    ("store.w", true, 7, 65_537, Does::Stores(0x1122_33ab)),
-    ("load.w", true, 7, 65_539, Does::Gives(0x8899_aabb, true)),
-    ("read", true, 7, 0, Does::Gives(77, false)),
-    ("read", true, 7, 1, Does::Gives(88, false)),
-    ("read", false, 7, 2, Does::Gives(0, true)),
-    (
-        "answer",
-        true,
-        7,
-        5,
-        Does::Stops(Outcome::Answered { value: 5 }),
-    ),
+    ("smulh", 8, true, 0xffff_ffff, 1, Gives(0xffff_ffff, false)),
+    ("smulh", 8, true, 0x8000_0000, 1, Gives(0xffff_ffff, false)),
+    ("udiv", 9, false, 7, 0, Gives(0, true)),
+    ("udiv", 9, true, 29, 4, Gives(7, false)),
+    ("umod", 10, false, 7, 0, Gives(0, true)),
+    ("umod", 10, true, 29, 9, Gives(2, false)),
+    ("shl", 11, false, 0x8000_0001, 1, Gives(2, true)),
+    ("shl", 11, false, 0x8000_0001, 32, Gives(0, true)),
+    ("shl", 11, true, 3, 4, Gives(48, false)),
+    ("shr", 12, false, 0x8000_0001, 0xffff_ffff, Gives(0, true)),
+    ("shr", 12, true, 50, 2, Gives(12, false)),
+    ("cmpe", 13, false, 5, 5, Tests(true)),
+    ("cmpe", 13, true, 6, 5, Tests(false)),
+    ("cmpa", 14, false, 0xffff_ffff, 0, Tests(true)),
+    ("cmpa", 14, true, 5, 5, Tests(false)),
+    ("cmpae", 15, false, 0xffff_ffff, 0, Tests(true)),
+    ("cmpae", 15, false, 5, 5, Tests(true)),
+    ("cmpae", 15, true, 5, 6, Tests(false)),
+    ("cmpg", 16, true, 0xffff_ffff, 0, Tests(false)),
+    ("cmpg", 16, true, 5, 5, Tests(false)),
+    ("cmpg", 16, false, 6, 5, Tests(true)),
+    ("cmpge", 17, true, 0xffff_ffff, 0, Tests(false)),
+    ("cmpge", 17, false, 5, 5, Tests(true)),
+    ("mov", 18, false, 7, 9, Gives(9, false)),
+    ("mov", 18, true, 7, 9, Gives(9, true)),
+    ("cmov", 19, false, 7, 9, Tests(false)),
+    ("cmov", 19, true, 7, 9, Gives(9, true)),
+    ("jmp", 20, false, 7, 23, Jumps(16)),
+    ("jmp", 20, true, 7, 23, Jumps(16)),
+    ("cjmp", 21, false, 7, 23, Tests(false)),
+    ("cjmp", 21, true, 7, 23, Jumps(16)),
+    ("cnjmp", 22, false, 7, 23, Jumps(16)),
+    ("cnjmp", 22, true, 7, 23, Tests(true)),
+    ("", 23, true, 7, 9, Undefined),
+    ("", 24, true, 7, 9, Undefined),
+    ("", 25, true, 7, 9, Undefined),
+    ("store.b", 26, false, 7, 65_537, Stores(0x8899_abbb)),
+    ("store.b", 26, true, 7, 65_539, Stores(0xab99_aabb)),
+    ("load.b", 27, false, 7, 65_537, Gives(170, false)),
+    ("load.b", 27, true, 7, 65_539, Gives(136, true)),
+    ("store.w", 28, true, 7, 65_537, Stores(0x1122_33ab)),
+    ("load.w", 29, true, 7, 65_539, Gives(0x8899_aabb, true)),
+    ("read", 30, true, 7, 0, Gives(77, false)),
+    ("read", 30, true, 7, 1, Gives(88, false)),
+    ("read", 30, false, 7, 2, Gives(0, true)),
+    ("answer", 31, true, 7, 5, Answers(5)),
 ];
 
 /// What can be seen of a step and of the machine behind it.
@@ -146,28 +116,28 @@ struct Seen {
     cell: u32,
 }
 
-impl Does {
-    /// What is seen of it, where the flag was this.
-    fn seen(self, flag: bool) -> Seen {
-        let mut seen = Seen {
-            outcome: Outcome::Gone,
-            pc: 48,
-            word: BEFORE,
-            flag,
-            cell: CELL,
-        };
-        match self {
-            Does::Gives(word, flag) => (seen.word, seen.flag) = (word, flag),
-            Does::Tests(flag) => seen.flag = flag,
-            Does::Jumps(pc) => seen.pc = pc,
-            Does::Stores(cell) => seen.cell = cell,
-            Does::Stops(outcome) => (seen.outcome, seen.pc) = (outcome, 40),
-        }
-        seen
+/// What is seen where a row's instruction does what it should.
+fn wanted(row: &Row) -> Seen {
+    let (_, op, flag, _, _, does) = *row;
+    let mut seen = Seen {
+        outcome: Outcome::Gone,
+        pc: 48,
+        word: BEFORE,
+        flag,
+        cell: CELL,
+    };
+    match does {
+        Gives(word, flag) => (seen.word, seen.flag) = (word, flag),
+        Tests(flag) => seen.flag = flag,
+        Jumps(pc) => seen.pc = pc,
+        Stores(cell) => seen.cell = cell,
+        Answers(value) => (seen.outcome, seen.pc) = (Outcome::Answered { value }, 40),
+        Undefined => (seen.outcome, seen.pc) = (Outcome::Undefined { op }, 40),
     }
+    seen
 }
 
-/// The words of an instruction with the destination 2, the source 1 and an immediate operand.
+/// The words of an instruction with the source 1 and an immediate operand.
 fn instruction(op: u8, dest: u8, a: u32) -> [u32; 2] {
     encode::<32>(&Instr {
         op: op % 32,
@@ -178,10 +148,9 @@ fn instruction(op: u8, dest: u8, a: u32) -> [u32; 2] {
     })
 }
 
-/// One step of the instruction with an opcode, on the words of a row, behind those that bring them
-/// about.
-fn step_by(alloc: Global, op: u8, row: &Row) -> Result<Seen, AllocError> {
-    let (_, flag, s, a, _) = *row;
+/// One step of a row's instruction, behind those that bring its words and its flag about.
+fn step_of(alloc: Global, row: &Row) -> Result<Seen, AllocError> {
+    let (_, op, flag, s, a, _) = *row;
     let program = [
         instruction(18, 1, s),
         instruction(18, 2, CELL),
@@ -202,38 +171,27 @@ fn step_by(alloc: Global, op: u8, row: &Row) -> Result<Seen, AllocError> {
     })
 }
 
-/// Whether the instruction with the opcode `by` does all that the rows of a name say.
-fn does_as(alloc: Global, by: u8, name: &str) -> Result<bool, AllocError> {
+#[test]
+fn each_instruction_does_what_it_should(rt: HostRuntime) -> Result<(), Fail> {
     for row in &ROWS {
-        if row.0 == name && step_by(alloc, by, row)? != row.4.seen(row.1) {
-            return Ok(false);
-        }
-    }
-    Ok(true)
-}
-
-/// Sees that this opcode alone does all that the rows of a name say.
-fn alone_does(rt: &impl Abort, alloc: Global, op: u8, name: &str) -> Result<(), Fail> {
-    for by in 0..32 {
-        let alike = does_as(alloc, by, name)?;
-        assert_eq!(rt; alike, by == op, "opcode {by} on the rows of {name}");
+        let (name, _, _, s, a, _) = *row;
+        assert_eq!(rt;
+            step_of(rt.alloc(), row)?,
+            wanted(row),
+            "{name} of {s}, {a}"
+        );
     }
     Ok(())
 }
 
+// read r1, 0; read r1, 0; read r1, 2
 #[test]
-fn each_instruction_does_what_no_other_does(rt: HostRuntime) -> Result<(), Fail> {
-    for operation in operations() {
-        alone_does(&rt, rt.alloc(), operation.op, operation.name)?;
-    }
-    Ok(())
-}
-
-#[test]
-fn unused_opcodes_stop_the_machine(rt: HostRuntime) -> Result<(), Fail> {
-    for op in [23, 24, 25] {
-        let row: Row = ("", true, 7, 9, Does::Stops(Outcome::Undefined { op }));
-        assert_eq!(rt; step_by(rt.alloc(), op, &row)?, row.4.seen(true), "{op}");
+fn a_read_behind_the_end_gives_0_and_sets_the_flag(rt: HostRuntime) -> Result<(), Fail> {
+    let image = [0xf440_0000, 0, 0xf440_0000, 0, 0xf440_0000, 2];
+    let mut machine = Machine::<32>::start_on(rt.alloc(), &image, &[u32::MAX], &[])?;
+    for (word, flag) in [(u32::MAX, false), (0, true), (0, true)] {
+        assert_eq!(rt; machine.step()?, Outcome::Gone);
+        assert_eq!(rt; (machine.reg(1), machine.flag()), (word, flag));
     }
     Ok(())
 }
