@@ -1,38 +1,48 @@
 //! Tapes as text, read and written.
 
-use std::test::*;
+use std::test::Fail;
 use tv_tape::{Tape, TapeFault, read_tape, tape_text};
 use tv_word::Words;
 
+/// Texts, and their numbers, of at most four and below 100.
+const NUMBERS: [(&str, &[u64]); 6] = [
+    ("", &[]),
+    (" \t\r\n", &[]),
+    ("3", &[3]),
+    ("\r\n\t 03 4\n\n5", &[3, 4, 5]),
+    ("000000000000000000000000000000000099", &[99]),
+    ("1 2 3 4", &[1, 2, 3, 4]),
+];
+
+/// Texts that are refused.
+const FAULTS: [(&str, TapeFault); 10] = [
+    ("100", TapeFault::TooBig { at: 0 }),
+    ("1 18446744073709551616", TapeFault::TooBig { at: 1 }),
+    ("1 x 2", TapeFault::BadItem { at: 1 }),
+    ("+1", TapeFault::BadItem { at: 0 }),
+    ("0x1", TapeFault::BadItem { at: 0 }),
+    ("1_0", TapeFault::BadItem { at: 0 }),
+    ("1\u{b}2", TapeFault::BadItem { at: 0 }),
+    ("1 2 100 x", TapeFault::TooBig { at: 2 }),
+    ("1 2 3 4 x", TapeFault::TooMany { most: 4 }),
+    ("1 2 3 x 5", TapeFault::BadItem { at: 3 }),
+];
+
 #[test]
 fn reads_items_in_order(rt: HostRuntime) -> Result<(), Fail> {
-    let texts: [(&str, Result<&[u64], TapeFault>); 16] = [
-        ("", Ok(&[])),
-        (" \t\r\n", Ok(&[])),
-        ("3", Ok(&[3])),
-        ("\r\n\t 03 4\n\n5", Ok(&[3, 4, 5])),
-        ("000000000000000000000000000000000099", Ok(&[99])),
-        ("100", Err(TapeFault::TooBig { at: 0 })),
-        ("1 18446744073709551616", Err(TapeFault::TooBig { at: 1 })),
-        ("1 x 2", Err(TapeFault::BadItem { at: 1 })),
-        ("+1", Err(TapeFault::BadItem { at: 0 })),
-        ("0x1", Err(TapeFault::BadItem { at: 0 })),
-        ("1_0", Err(TapeFault::BadItem { at: 0 })),
-        ("1\u{b}2", Err(TapeFault::BadItem { at: 0 })),
-        ("1 2 100 x", Err(TapeFault::TooBig { at: 2 })),
-        ("1 2 3 4", Ok(&[1, 2, 3, 4])),
-        ("1 2 3 4 x", Err(TapeFault::TooMany { most: 4 })),
-        ("1 2 3 x 5", Err(TapeFault::BadItem { at: 3 })),
-    ];
-    for (text, expected) in texts {
-        let found = read_tape(rt.alloc(), text.as_bytes(), 100, 4);
-        match (found, expected) {
-            (Ok(numbers), Ok(wanted)) => assert_eq!(rt; numbers.as_slice(), wanted, "{text}"),
-            (Err(fault), Err(wanted)) => assert_eq!(rt; fault, wanted, "{text}"),
-            _ => assert!(rt; false, "{text}"),
-        }
+    for (text, numbers) in &NUMBERS {
+        let tape = read_tape(rt.alloc(), text.as_bytes(), 100, 4)?;
+        assert_eq!(rt; tape.as_slice(), *numbers, "{text}");
     }
     Ok(())
+}
+
+#[test]
+fn the_first_item_at_fault_is_told(rt: HostRuntime) {
+    for (text, fault) in FAULTS {
+        let told = read_tape(rt.alloc(), text.as_bytes(), 100, 4).err();
+        assert_eq!(rt; told, Some(fault), "{text}");
+    }
 }
 
 #[test]
