@@ -1,8 +1,9 @@
-ghost use Rattle.std.specs.Prelude.{◌<◌, IfOk};
+ghost use Rattle.std.specs.Prelude.{◌≡◌, ◌<◌, [], false, IfOk, OnOk};
 ghost use Rattle.tv_bits.specs.Bit.{bit_of, BitIsSound, BitIsComplete, BitSizes};
+ghost use Rattle.tv_core.specs.Giving.{GivesIn};
 ghost use Rattle.tv_core.specs.Sinks.{PutsIn, Grows, Room};
 
-use tv_core::{Lc, Put, Sink, Wire};
+use tv_core::{F, Lc, Put, Sink, Values, Wire};
 
 /// Holds a wire to 0 or 1. It makes no wire and 1 constraint.
 pub fn bit<S: Sink>(s: &mut S, w: Wire) -> Put<()>
@@ -25,6 +26,15 @@ pub fn bit_by<S: Sink>(s: &mut S, lc: &mut Lc, w: Wire) -> Put<()>
     s.put(lc, lc, lc)
 }
 
+/// Gives nothing, since `bit` makes no wire.
+pub fn fill_bit<V: Values>(v: &mut V, _w: F) -> Put<()>
+    requires { V.giving.broken v.old ≡ false }
+    ensures gives { GivesIn V.giving v.old v.new [] result }
+    ensures whole { OnOk result (V.giving.broken v.new ≡ false) }
+{
+    Ok(())
+}
+
 /// Where an assignment meets what `bit` put, the wire holds 0 or 1.
 #[tactic(auto, using(crate::proofs::BitLaws::bit_sound))]
 pub fn bit_is_sound()
@@ -37,7 +47,7 @@ pub fn bit_is_complete()
     ensures { BitIsComplete }
 {}
 
-/// Says that `bit` makes no wire, and so no number is given for it.
+/// Says that `bit` makes no wire, for which `fill_bit` gives no number.
 #[tactic(auto, using(crate::proofs::SizeLaws::bit_sizes))]
 pub fn bit_fills()
     ensures { BitSizes }

@@ -21,7 +21,7 @@ mod spelling;
 mod zeros;
 
 pub use bit_wires::Bits;
-pub use booleans::{bit, bit_by, bit_fills, bit_is_complete, bit_is_sound};
+pub use booleans::{bit, bit_by, bit_fills, bit_is_complete, bit_is_sound, fill_bit};
 pub use nonzeros::{fill_nonzero, nonzero, nonzero_fills, nonzero_is_complete, nonzero_is_sound};
 pub use pairs::{two_ands, two_ands_are_complete, two_ands_are_sound, two_ands_fill};
 pub use prefixes::{
