@@ -18,7 +18,7 @@ use tv_r1cs_read::survey;
 use tv_shrink::{MOST_TERMS, ShrinkFault, Shrunk, shrink};
 use tv_wtns::{FirstValues, read_first_values, read_values};
 
-/// What is read of a container.
+/// Which container is read.
 #[derive(Clone, Copy)]
 enum Container {
     System,

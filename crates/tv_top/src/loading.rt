@@ -35,21 +35,9 @@ pub(crate) fn read_inputs<D: Files>(
 {
     let program = read_program(alloc, files, text)?;
     let below = program.width.word_bound();
-    let tape = read_words(
-        alloc,
-        files,
-        Place::at(2, tape),
-        Size::TapeWords,
-        below,
-        TAPE_WORDS,
-    )?;
-    let aux = read_words(
-        alloc,
-        files,
-        Place::at(3, aux),
-        Size::AuxWords,
-        below,
-        AUX_WORDS,
-    )?;
+    let place = Place::at(2, tape);
+    let tape = read_words(alloc, files, place, Size::TapeWords, below, TAPE_WORDS)?;
+    let place = Place::at(3, aux);
+    let aux = read_words(alloc, files, place, Size::AuxWords, below, AUX_WORDS)?;
     Ok(Inputs { program, tape, aux })
 }
