@@ -46,63 +46,41 @@ fn first_wires(alloc: Global, count: u32) -> Result<Vec<u32>, AllocError> {
     Ok(wires)
 }
 
-/// A system of one constraint, whose first combination has so many terms.
-pub(crate) fn wide(alloc: Global, count: u32) -> Result<Vec<u8>, AllocError> {
-    let mut bytes = front(alloc, 200, 1, 1, count)?;
-    push_sum(&mut bytes, &first_wires(alloc, count)?)?;
-    bytes.extend_from_slice(&[0; 8])?;
+/// A system of one constraint, wire 1 being public: each combination is the sum of these wires,
+/// which are so many in all.
+pub(crate) fn single(
+    alloc: Global,
+    wires: u32,
+    terms: u32,
+    sums: [&[u32]; 3],
+) -> Result<Vec<u8>, AllocError> {
+    let mut bytes = front(alloc, wires, 1, 1, terms)?;
+    for sum in sums {
+        push_sum(&mut bytes, sum)?;
+    }
     Ok(bytes)
 }
 
-// Appends so many constraints of these bytes.
-fn push_rows(bytes: &mut Vec<u8>, row: &[u8], count: u32) -> Result<(), AllocError> {
-    for _ in 0..count {
-        bytes.extend_from_slice(row)?;
-    }
-    Ok(())
+/// A system of one constraint, whose first combination has 129 terms.
+pub(crate) fn wide(alloc: Global) -> Result<Vec<u8>, AllocError> {
+    single(alloc, 200, 129, [&first_wires(alloc, 129)?, &[], &[]])
 }
 
-/// A system of public wires: 32,768 constraints of 128 terms each, which aren't linear, and so many
-/// with one term more.
-pub(crate) fn long(alloc: Global, more: u8) -> Result<Vec<u8>, AllocError> {
-    let more = u32::from(more);
-    let mut bytes = front(alloc, 200, 199, 32768 + more, 4194304 + more)?;
-    let mut row = Vec::new(alloc);
+/// A system of public wires with 4,194,305 terms: 32,768 constraints of 128 terms each, which
+/// aren't linear, and one with one term.
+pub(crate) fn long(alloc: Global) -> Result<Vec<u8>, AllocError> {
+    let mut bytes = front(alloc, 200, 199, 32_769, 4_194_305)?;
     let wires = first_wires(alloc, 64)?;
+    let mut row = Vec::new(alloc);
     push_sum(&mut row, &wires)?;
     push_sum(&mut row, &wires)?;
-    row.extend_from_slice(&[0; 4])?;
-    push_rows(&mut bytes, &row, 32768)?;
-    let mut short = Vec::new(alloc);
-    push_sum(&mut short, &[1])?;
-    short.extend_from_slice(&[0; 8])?;
-    push_rows(&mut bytes, &short, more)?;
-    Ok(bytes)
-}
-
-/// A system in which each wire but the first two is one more than the wire before.
-pub(crate) fn chain(alloc: Global, count: u16) -> Result<Vec<u8>, AllocError> {
-    let count = u32::from(count);
-    let mut bytes = front(alloc, count + 2, 1, count, 4 * count)?;
-    for done in 0..count {
-        push_sum(&mut bytes, &[0])?;
-        push_sum(&mut bytes, &[0, done + 1])?;
-        push_sum(&mut bytes, &[done + 2])?;
+    push_sum(&mut row, &[])?;
+    for _ in 0..32_768 {
+        bytes.extend_from_slice(&row)?;
     }
-    Ok(bytes)
-}
-
-/// A system in which each wire but the first three is the sum of the two before it, the last one
-/// first.
-pub(crate) fn sums(alloc: Global, count: u16) -> Result<Vec<u8>, AllocError> {
-    let count = u32::from(count);
-    let mut bytes = front(alloc, count + 3, 1, count, 4 * count)?;
-    for done in 0..count {
-        let before = count - done;
-        push_sum(&mut bytes, &[0])?;
-        push_sum(&mut bytes, &[before, before + 1])?;
-        push_sum(&mut bytes, &[before + 2])?;
-    }
+    push_sum(&mut bytes, &[1])?;
+    push_sum(&mut bytes, &[])?;
+    push_sum(&mut bytes, &[])?;
     Ok(bytes)
 }
 

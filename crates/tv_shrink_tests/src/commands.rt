@@ -4,7 +4,7 @@ use crate::building::{long, wide};
 use crate::systems::{SUM, SUM_SHRUNK, VALUES};
 use std::alloc::Global;
 use std::process::Abort;
-use std::test::*;
+use std::test::Fail;
 use tv_files::MemFiles;
 use tv_top::{Status, command};
 
@@ -63,8 +63,8 @@ fn shrink_answers_with_these_lines(rt: HostRuntime) -> Result<(), Fail> {
     files.set("sum", &SUM)?;
     files.set("values", &VALUES)?;
     files.set("tape", b"3")?;
-    files.set("wide", &wide(alloc, 129)?)?;
-    files.set("long", &long(alloc, 1)?)?;
+    files.set("wide", &wide(alloc)?)?;
+    files.set("long", &long(alloc)?)?;
     for (words, code, line) in REFUSED {
         answers(&rt, alloc, &mut files, words, code, line)?;
         assert_eq!(rt; files.bytes_of("new"), None);
