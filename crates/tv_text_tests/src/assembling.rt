@@ -5,8 +5,39 @@ use tv_asm::{AsmFault, AsmWhy, assemble, width};
 
 const MOST: u32 = 16_384;
 
+/// A program whose lines have labels and comments.
+const SUM: &str = "; TinyRAM V=2.000 M=vn W=32 K=16
+; The sum of the primary tape, less 15.
+        mov r1, 0
+_next:  read r2, 0          ; the flag is 1 at the tape's end
+        cjmp _end
+        add r1, r1, r2
+        jmp _next
+_end:   sub r1, r1, 15
+        answer r1           ; 0 where the sum is 15
+";
+
 /// Texts and their images.
-const IMAGES: [(&str, &[u32]); 18] = [
+const IMAGES: [(&str, &[u32]); 19] = [
+    (
+        SUM,
+        &[
+            0x9440_0000,
+            0,
+            0xf480_0000,
+            0,
+            0xac00_0000,
+            40,
+            0x2044_0000,
+            2,
+            0xa400_0000,
+            8,
+            0x2c44_0000,
+            15,
+            0xf800_0000,
+            1,
+        ],
+    ),
     ("", &[]),
     ("; TinyRAM V=2.000 M=vn W=32 K=16\n", &[]),
     ("answer 0\n", &[0xfc00_0000, 0]),
