@@ -15,6 +15,10 @@ pub(crate) const WRITTEN: [&str; 6] = ["out", "system", "witness", "tape.out", "
 /// What asks whether the witness is one of the system and of the public numbers.
 pub(crate) const CHECK: &str = "check system witness public";
 
+/// What is said of words that are no command.
+pub(crate) const USAGE: &str =
+    "usage: asm, disasm, run, build, witness, check, extract, trial, shrink, listing\n";
+
 /// Files of a program and its tapes, beside names that are to be written.
 pub(crate) fn files_of(alloc: Global, text: &str, tape: &str, aux: &str) -> Result<MemFiles, Fail> {
     let mut files = MemFiles::new(alloc);
@@ -36,18 +40,6 @@ pub(crate) fn call(alloc: Global, files: &mut MemFiles, words: &str) -> Result<S
     Ok(command(alloc, &all, files))
 }
 
-/// The exit code of a command, and the line that it says.
-pub(crate) fn line_of(
-    alloc: Global,
-    files: &mut MemFiles,
-    words: &str,
-) -> Result<(u8, Vec<u8>), Fail> {
-    let before = files.said_bytes().len();
-    let code = call(alloc, files, words)?.code();
-    let line = files.said_bytes().get(before..).unwrap_or(&[]);
-    Ok((code, line.to_vec(alloc)?))
-}
-
 /// Sees that a command answers with this exit code and says this line, which may be empty, or one
 /// that begins so where the line has no end.
 pub(crate) fn says(
@@ -58,8 +50,9 @@ pub(crate) fn says(
     code: u8,
     line: &str,
 ) -> Result<(), Fail> {
-    let (had, said) = line_of(alloc, files, words)?;
-    assert_eq!(rt; had, code, "{words}: {line}");
+    let before = files.said_bytes().len();
+    assert_eq!(rt; call(alloc, files, words)?.code(), code, "{words}: {line}");
+    let said = files.said_bytes().get(before..).unwrap_or(&[]);
     let most = if line.is_empty() || line.ends_with("\n") {
         said.len()
     } else {
@@ -69,31 +62,16 @@ pub(crate) fn says(
     Ok(())
 }
 
-/// Sees that a command answers that the file at this word was not read, and says nothing.
-pub(crate) fn lacks(
-    rt: &impl Abort,
-    alloc: Global,
-    files: &mut MemFiles,
-    words: &str,
-    word: u64,
-) -> Result<(), Fail> {
-    let before = files.said_bytes().len();
-    let status = call(alloc, files, words)?;
-    assert_eq!(rt; status, Status::FileFault { word }, "{words}");
-    assert_eq!(rt; files.said_bytes().len(), before, "{words}");
-    Ok(())
-}
-
 /// Files in which a program's system and the values of its run are written.
 pub(crate) fn filled(
     rt: &impl Abort,
     alloc: Global,
     text: &str,
     tape: &str,
-    n: u32,
     steps: u32,
 ) -> Result<MemFiles, Fail> {
     let mut files = files_of(alloc, text, tape, "")?;
+    let n = tape.split_whitespace().count();
     let build = format!(in alloc; "build text {n} {steps} system")?;
     says(rt, alloc, &mut files, &build, 0, "")?;
     let witness = format!(in alloc; "witness text tape aux {steps} witness")?;

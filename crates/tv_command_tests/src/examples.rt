@@ -1,12 +1,21 @@
-//! What the definition of the word behind those of `build` says of a network.
+//! What the definitions of the further words of `build` and `disasm` say of a network and a width.
+//! They are no tests, so they are proved where the crate is proved without its tests too.
 ghost use Rattle.std.specs.Prelude.{◌≡◌, [], ◌∷◌, codes, Some, None};
 ghost use Rattle.tv_benes.specs.declared.shape.Net.TheVariants.{Benes, Waksman};
 ghost use Rattle.tv_top.specs.Building.{net_word};
+ghost use Rattle.tv_top.specs.Disassembling.{width_word};
+ghost use Rattle.tv_top.specs.declared.programs.Width.TheVariants.{Bits16, Bits32};
 
-/// No further word tells Benes' network, `waksman` tells Waksman's, and another word none. It is no
-/// test, so it is proved where the crate is proved without its tests too.
+/// No further word tells Benes' network, `waksman` tells Waksman's, and another word none.
 pub fn a_word_tells_the_network()
     ensures none { net_word [] ≡ Some Benes }
     ensures waksman { net_word (codes "waksman" ∷ []) ≡ Some Waksman }
     ensures other { net_word (codes "Waksman" ∷ []) ≡ None }
+{}
+
+/// No further word tells words of 32 bits, `16` tells words of 16, and another word none.
+pub fn a_word_tells_the_width()
+    ensures none { width_word [] ≡ Some Bits32 }
+    ensures sixteen { width_word (codes "16" ∷ []) ≡ Some Bits16 }
+    ensures other { width_word (codes "32" ∷ []) ≡ None }
 {}

@@ -1,58 +1,40 @@
 //! A fault of each file call in turn: what the commands answer, and what the names hold then.
 
 use crate::calling::{BEFORE, WRITTEN, call, files_of, filled};
+use crate::checks;
+use crate::rounds::TWO_READS;
 use std::alloc::Global;
 use std::process::Abort;
 use std::test::*;
 use tv_files::MemFiles;
 use tv_top::Status;
 
-const TWO_READS: &str = "read r1, 1\nread r2, 1\nsub r3, r1, r2\nanswer r3";
+const ASM: &str = "asm answer out";
 
 const WITNESS: &str = "witness text tape aux 4 witness";
 
-// Three wires, wire 1 public, and the constraint that 1 times wire 1 is wire 2, so that wire 2 is
-// dropped where it is shrunk.
-const SMALL: [u8; 124] = [
-    0x72, 0x31, 0x63, 0x73, 1, 0, 0, 0, 2, 0, 0, 0, // the front
-    1, 0, 0, 0, 40, 0, 0, 0, 0, 0, 0, 0, // section 1
-    8, 0, 0, 0, 1, 0, 0, 0, 0xff, 0xff, 0xff, 0xff, //
-    3, 0, 0, 0, 0, 0, 0, 0, 1, 0, 0, 0, 0, 0, 0, 0, //
-    3, 0, 0, 0, 0, 0, 0, 0, 1, 0, 0, 0, //
-    2, 0, 0, 0, 48, 0, 0, 0, 0, 0, 0, 0, // section 2
-    1, 0, 0, 0, 0, 0, 0, 0, 1, 0, 0, 0, 0, 0, 0, 0, //
-    1, 0, 0, 0, 1, 0, 0, 0, 1, 0, 0, 0, 0, 0, 0, 0, //
-    1, 0, 0, 0, 2, 0, 0, 0, 1, 0, 0, 0, 0, 0, 0, 0,
-];
+const CHECK: &str = "check s w public";
 
-// The values 1, 3 and 3.
-const SMALL_VALUES: [u8; 76] = [
-    0x77, 0x74, 0x6e, 0x73, 2, 0, 0, 0, 2, 0, 0, 0, // the front
-    1, 0, 0, 0, 16, 0, 0, 0, 0, 0, 0, 0, // section 1
-    8, 0, 0, 0, 1, 0, 0, 0, 0xff, 0xff, 0xff, 0xff, 3, 0, 0, 0, //
-    2, 0, 0, 0, 24, 0, 0, 0, 0, 0, 0, 0, // section 2
-    1, 0, 0, 0, 0, 0, 0, 0, 3, 0, 0, 0, 0, 0, 0, 0, //
-    3, 0, 0, 0, 0, 0, 0, 0,
-];
+const EXTRACT: &str = "extract answer 0 1 filled tape.out aux.out";
 
-// The image of `answer 0`.
-const IMAGE: [u8; 8] = [0, 0, 0, 0xfc, 0, 0, 0, 0];
+// The image of `store.w 65536, r3`.
+const IMAGE: [u8; 8] = [0, 0, 0xc0, 0xe4, 0, 0, 1, 0];
 
 const READ: [&str; 9] = [
-    "text", "tape", "aux", "filled", "answer", "image", "small", "values", "public",
+    "text", "tape", "aux", "filled", "answer", "image", "s", "w", "public",
 ];
 
 // Each command, and the words whose faults are told as one call after another fails.
 const CALLS: [(&str, &[u64]); 10] = [
-    ("asm text out", &[1, 2]),
+    (ASM, &[1, 2]),
     ("disasm image out", &[1, 2]),
     ("run text tape aux 4", &[1, 2, 3, 5]),
     ("build text 0 4 system", &[1, 4]),
     (WITNESS, &[1, 2, 3, 5]),
-    ("check small values public", &[1, 2, 3, 1, 4]),
+    (CHECK, &[1, 2, 3, 1, 4]),
     ("extract text 0 4 filled tape.out aux.out", &[1, 4, 5, 6, 7]),
     ("trial 0 1", &[3]),
-    ("shrink small out", &[1, 2]),
+    ("shrink s out", &[1, 2]),
     ("listing text 0 4 filled time lines", &[1, 4, 6]),
 ];
 
@@ -62,8 +44,8 @@ fn files(alloc: Global, values: &[u8]) -> Result<MemFiles, Fail> {
     files.set("filled", values)?;
     files.set("answer", b"answer 0")?;
     files.set("image", &IMAGE)?;
-    files.set("small", &SMALL)?;
-    files.set("values", &SMALL_VALUES)?;
+    files.set("s", &checks::SYSTEM)?;
+    files.set("w", &checks::WITNESS)?;
     files.set("public", b"3")?;
     Ok(files)
 }
@@ -145,7 +127,7 @@ fn each_call_fails(rt: HostRuntime) -> Result<(), Fail> {
 fn a_system_is_written_in_pieces(rt: HostRuntime) -> Result<(), Fail> {
     let alloc = rt.alloc();
     let words = "build text 0 1 system";
-    let whole = filled(&rt, alloc, "answer 0", "", 0, 1)?;
+    let whole = filled(&rt, alloc, "answer 0", "", 1)?;
     let whole = whole.bytes_of("system").unwrap_or(&[]);
     for number in [3, 5] {
         let mut files = files_of(alloc, "answer 0", "", "")?;
@@ -164,9 +146,12 @@ fn a_system_is_written_in_pieces(rt: HostRuntime) -> Result<(), Fail> {
     Ok(())
 }
 
-// How many calls a command makes: a file is read until a read gives nothing.
-const COUNTS: [(&str, u64); 3] = [
-    ("asm answer out", 4),
+// How many calls a command makes: a file is read until a read gives nothing. The 1,025 instructions
+// of 9 bytes each in `long` are read in three pieces of 4,096 bytes at most and one of none, and
+// their image of 8,200 bytes is created and written in three.
+const COUNTS: [(&str, u64); 4] = [
+    (ASM, 4),
+    ("asm long out", 4 + 1 + 3),
     ("disasm image out", 4),
     ("run answer tape aux 1", 6),
 ];
@@ -175,24 +160,10 @@ const COUNTS: [(&str, u64); 3] = [
 fn each_command_makes_this_many_calls(rt: HostRuntime) -> Result<(), Fail> {
     for (words, calls) in COUNTS {
         let mut files = files(rt.alloc(), &[])?;
+        files.set("long", "answer 0\n".repeat(rt.alloc(), 1_025)?.as_bytes())?;
         assert_eq!(rt; call(rt.alloc(), &mut files, words)?, Status::Done);
         assert_eq!(rt; files.calls(), calls, "{words}");
     }
-    Ok(())
-}
-
-// 1,025 instructions of 9 bytes each are read in three pieces of 4,096 bytes at most and one of
-// none, and their image of 8,200 bytes is created and written in three.
-#[test]
-fn an_image_is_written_in_pieces(rt: HostRuntime) -> Result<(), Fail> {
-    let mut text = Vec::new(rt.alloc());
-    for _ in 0..1_025 {
-        text.extend_from_slice(b"answer 0\n")?;
-    }
-    let mut files = files(rt.alloc(), &[])?;
-    files.set("text", &text)?;
-    assert_eq!(rt; call(rt.alloc(), &mut files, "asm text out")?, Status::Done);
-    assert_eq!(rt; files.calls(), 4 + 1 + 3);
     Ok(())
 }
 
@@ -200,16 +171,10 @@ fn an_image_is_written_in_pieces(rt: HostRuntime) -> Result<(), Fail> {
 // with what it holds then, and what was said.
 type Row<'a> = (&'a str, u64, u64, &'a str, &'a [u8], &'a [u8]);
 
-const ASM: &str = "asm answer out";
-
-const EXTRACT: &str = "extract answer 0 1 filled tape.out aux.out";
-
-const ROWS: [Row<'static>; 9] = [
-    (ASM, 3, 1, "out", BEFORE, b""),
-    (ASM, 2, 1, "out", BEFORE, b""),
+const ROWS: [Row<'static>; 7] = [
     (ASM, 1, 2, "out", BEFORE, b""),
     (ASM, 0, 2, "out", &[0, 0, 0, 0xfc], b""),
-    ("check small values public", 0, 4, "out", BEFORE, b"ye"),
+    (CHECK, 0, 4, "out", BEFORE, b"ye"),
     (EXTRACT, 1, 6, "tape.out", b"", b""),
     (EXTRACT, 1, 6, "aux.out", BEFORE, b""),
     (EXTRACT, 0, 7, "tape.out", b"", b"answer 0 "),
@@ -219,7 +184,7 @@ const ROWS: [Row<'static>; 9] = [
 #[test]
 fn the_last_calls_leave_a_part(rt: HostRuntime) -> Result<(), Fail> {
     let alloc = rt.alloc();
-    let run = filled(&rt, alloc, "answer 0", "", 0, 1)?;
+    let run = filled(&rt, alloc, "answer 0", "", 1)?;
     let values = run.bytes_of("witness").unwrap_or(&[]);
     for (words, behind, word, name, held, said) in ROWS {
         let mut whole = files(alloc, values)?;

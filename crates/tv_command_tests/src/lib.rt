@@ -1,8 +1,8 @@
-//! Tests of the commands: what `build`, `witness`, `check` and `extract` make of one another's
-//! files and of altered ones, what `check` says of files by hand and of witnesses longer than their
-//! system, what `listing` tells of them, what the commands refuse, what a fault of each file call
-//! of any command leaves, and what `trial` says. The files are in memory. They stand in a crate of
-//! their own, since a crate with tests is proved twice; nothing here is for callers.
+//! Tests of the commands: what `asm` and `disasm` write, rounds of `run`, `build`, `witness`,
+//! `check` and `extract` over one another's files, what `check` says of files by hand and of
+//! altered ones, what `listing` tells of them, what the commands refuse, what a fault of each file
+//! call of any command leaves, and what `trial` says. The files are in memory. They stand in a
+//! crate of their own, since a crate with tests is proved twice; nothing here is for callers.
 #![tactic(auto)]
 
 #[cfg(test)]
@@ -17,16 +17,12 @@ pub mod examples;
 #[cfg(test)]
 mod faults;
 #[cfg(test)]
-mod kinds;
-#[cfg(test)]
 mod listings;
 #[cfg(test)]
-mod longer;
+mod programs;
 #[cfg(test)]
 mod refusals;
 #[cfg(test)]
-mod round;
-#[cfg(test)]
-mod settings;
+mod rounds;
 #[cfg(test)]
 mod trials;

@@ -1,6 +1,6 @@
 //! Drawn programs, whose systems hold on the values of their runs.
 
-use crate::calling::line_of;
+use crate::calling::says;
 use std::alloc::Global;
 use std::process::Abort;
 use std::test::*;
@@ -23,20 +23,16 @@ const TRIALS: [(&str, [u64; 4]); 3] = [
     ),
 ];
 
-// Sees that a trial says these numbers, and that all constraints hold.
+// Sees that a trial says these numbers each time, and that all constraints hold.
 fn holds(rt: &impl Abort, alloc: Global, words: &str, numbers: [u64; 4]) -> Result<(), Fail> {
-    let mut files = MemFiles::new(alloc);
-    let (code, line) = line_of(alloc, &mut files, words)?;
-    assert_eq!(rt; code, 0, "{words}");
     let [steps, wires, constraints, sum] = numbers;
     let counts = format!(in alloc; "wires {wires}, constraints {constraints}")?;
-    let text = format!(in alloc;
+    let line = format!(in alloc;
         "trial: steps {steps}, {counts}, sum {sum}, satisfied {constraints}\n"
     )?;
-    assert_eq!(rt; line.as_slice(), text.as_bytes(), "{words}");
-    let again = line_of(alloc, &mut files, words)?;
-    assert_eq!(rt; again.1.as_slice(), line.as_slice(), "{words}");
-    Ok(())
+    let mut files = MemFiles::new(alloc);
+    says(rt, alloc, &mut files, words, 0, &line)?;
+    says(rt, alloc, &mut files, words, 0, &line)
 }
 
 #[test]
