@@ -40,16 +40,3 @@ fn digit(value: u32) -> char
 {
     char::from_digit(value, 16).unwrap_or('?')
 }
-
-#[cfg(test)]
-mod tests {
-    use super::*;
-    use std::test::Fail;
-
-    #[test]
-    fn control_characters_are_shown(rt: HostRuntime) -> Result<(), Fail> {
-        let text = format!(in rt.alloc(); "{}", Escaped("a b\\é\n\x1b[31m\x7f\0"))?;
-        assert_eq!(rt; text.as_str(), "a b\\é\\x0a\\x1b[31m\\x7f\\x00");
-        Ok(())
-    }
-}

@@ -110,7 +110,7 @@ mod tests {
         let words = [
             String::from_str(alloc, "asm")?,
             String::from_str(alloc, "text")?,
-            String::from_str(alloc, "image")?,
+            String::from_str(alloc, "im\nage")?,
         ];
         let printed = Printed {
             alloc,
@@ -125,7 +125,7 @@ mod tests {
         complain(&printed, Complaint::NotUtf8);
         assert_eq!(rt;
             printed.text.into_inner().as_str(),
-            "file fault: text\nfile fault: image\nfile fault: output\nno memory\nnot UTF-8\n"
+            "file fault: text\nfile fault: im\\x0aage\nfile fault: output\nno memory\nnot UTF-8\n"
         );
         Ok(())
     }
