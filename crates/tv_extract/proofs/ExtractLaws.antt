@@ -20,7 +20,7 @@ use Rattle.tv_step.specs.declared.end.End.{End}
 use Rattle.tv_step.specs.declared.end.End.TheVariants as ends
 use Rattle.tv_layout.proofs.Systems.{system_sound}
 use Rattle.tv_layout.specs.Layout.{taken_at, taken_of, block_at}
-use Rattle.tv_layout.specs.Places.{WithinLimits, boot_count, none_at, first_at, tape_at}
+use Rattle.tv_layout.specs.Places.{WithinLimits, boot_count, zero_wire_at, first_at, tape_at}
 use Rattle.tv_layout.specs.Systems.{system_of}
 use Rattle.tv_extract.specs.Extracting.{◌>>=◌, taken_wire, taken_wires, word_at, words_at, answering, run_in}
 use Rattle.tv_extract.specs.Runs.{IsRunOf, ExtractedIsRun, HasRunIn, SatisfyingHaveRuns}
@@ -102,7 +102,7 @@ all_taken w z spot (i ∷ places) =
 
 taken_is : (w : ℕ) (image : List ℕ) (n t : ℕ) (z : List ℕ) → taken_of (block_of w) w image n t z ≡ map (slice_index z) (taken_wires w image n t z)
 unfolding taken_of taken_wires joined_below
-taken_is w image n t z = all_taken w z (λ i. (block_at (block_of w) n (boot_count image n) (none_at w n) (first_at w n) i).spot) (range_with_len 0 t)
+taken_is w image n t z = all_taken w z (λ i. (block_at (block_of w) n (boot_count image n) (zero_wire_at w n) (first_at w n) i).spot) (range_with_len 0 t)
 
 -- ---- the end of the run
 answering_ok : (answer : ℕ) (tape aux : List ℕ) (end : End) (run : Run) → answering answer tape aux end ≡ Ok run

@@ -9,7 +9,7 @@ use Rattle.tv_step.specs.Machine.{start, end_of}
 use Rattle.tv_step.specs.declared.end.End.{End}
 use Rattle.tv_step.specs.declared.end.End.TheVariants as ends
 use Rattle.tv_layout.specs.Layout.{block_at}
-use Rattle.tv_layout.specs.Places.{boot_count, none_at, first_at, tape_at}
+use Rattle.tv_layout.specs.Places.{boot_count, zero_wire_at, first_at, tape_at}
 use Rattle.tv_layout.specs.Systems.{system_of}
 use Rattle.tv_extract.specs.declared.run.ExtractFault.{ExtractFault}
 use Rattle.tv_extract.specs.declared.run.ExtractFault.TheVariants.{WireCount, WideWire, NotARun}
@@ -25,7 +25,7 @@ abbrev pub taken_wire : List ℕ → Spot → List ℕ
 taken_wire z spot = if slice_index z spot.taken == 1 then spot.word ∷ [] else []
 
 unfoldable pub taken_wires : ℕ → List ℕ → ℕ → ℕ → List ℕ → List ℕ
-taken_wires w image n t z = joined_below t (λ i. taken_wire z (block_at (block_of w) n (boot_count image n) (none_at w n) (first_at w n) i).spot)
+taken_wires w image n t z = joined_below t (λ i. taken_wire z (block_at (block_of w) n (boot_count image n) (zero_wire_at w n) (first_at w n) i).spot)
 
 -- the word at a wire, which is refused where the number there is wide: none of w bits
 abbrev pub word_at : ℕ → List ℕ → ℕ → Result ℕ ExtractFault
