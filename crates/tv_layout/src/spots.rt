@@ -16,8 +16,8 @@ use tv_block::{Spot, block_spot};
 pub fn spot<const W: u32>(image: &[u32], n: u32, t: u32, step: u32, net: Net) -> Spot
     requires fits { WithinLimits W image.now n t }
     requires within { step < t }
-    ensures is { (time : ℕ) → result ≡ (block_at (block_of W) n time (zero_wire_at W n) (first_at W n)
-        step).spot }
+    ensures is { (time : ℕ) → result ≡ (block_at (block_of W) n time (zero_wire_at W n)
+        (first_at W n) step).spot }
     ensures taken { (over : Net) → result.taken < (system_of W over image.now n t).wires }
     ensures word { (over : Net) → result.word < (system_of W over image.now n t).wires }
 {

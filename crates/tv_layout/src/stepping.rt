@@ -44,8 +44,8 @@ pub(crate) fn steps<const W: u32, S: Sink>(
     requires width { IsWidth W }
     requires room { Room S.meaning s.old (t * block_made W) (t * block_added W) }
     requires zero_wire_made { zero_wire < S.meaning.wires s.old }
-    ensures puts { (time : ℕ) → PutsIn S.meaning s.old s.new (steps_of (block_of W) n time t zero_wire)
-        result }
+    ensures puts { (time : ℕ) → PutsIn S.meaning s.old s.new
+        (steps_of (block_of W) n time t zero_wire) result }
     ensures grows { IfOk result (λ _. Grows S.meaning s.old s.new (t * block_made W)
         (t * block_added W)) }
     ensures below { IfOk result (λ last. ReachedUnder (S.meaning.wires s.new) last) }

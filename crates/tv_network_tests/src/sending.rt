@@ -1,5 +1,5 @@
-//! Which items come out of a network, by its constraints over the values of its generator, and where
-//! they are moved along.
+//! Which items come out of a network, by its constraints over the values of its generator, and
+//! where they are moved along.
 ghost use Rattle.std.specs.Prelude.{◌≡◌, ◌^◌, ◌≤◌, false, IfOk};
 ghost use Rattle.tv_benes.specs.Places.{AreBelow};
 

@@ -71,8 +71,8 @@ impl<'a> CheckArgs<'a> {
 
 /// The verdict on the three files. The system is read twice, each time to its end, so that a fault
 /// of it comes before any other file is read, and its constraints are tried without being kept. Of
-/// the witness as many values are kept as the system has wires; where it has another number of them,
-/// the system is read once more as for any other verdict.
+/// the witness as many values are kept as the system has wires; where it has another number of
+/// them, the system is read once more as for any other verdict.
 fn verdict_on<D: Files>(alloc: Global, files: &mut D, args: CheckArgs<'_>) -> Result<Verdict, Stop>
     ensures { Finds (λ v. v) (1 ∷ 2 ∷ 3 ∷ []) (tape_sizes TapeWords)
         (check_of args.entry.system.now args.entry.witness.now args.entry.tape.now)
