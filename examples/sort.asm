@@ -29,7 +29,7 @@ _next:  cmpae r2, r1
         load.w r7, r4
         cmpe r7, r3
         cnjmp _no
-        add r4, r4, 4096
+        add r4, r4, 0x100000 ; its mark is 1 MiB further on, behind the list
         load.w r7, r4       ; whether it stood in the sorted list before
         cmpe r7, 0
         cnjmp _no

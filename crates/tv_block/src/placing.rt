@@ -56,7 +56,7 @@ pub fn next_state<const W: u32>(first: Wire) -> StateWires
 
 /// Line 0, 1 or 2 of a step from a state, the step's first wire being `first`: those of the two
 /// words of its instruction, and that of its data word, at `time` and the two times behind it. A
-/// combination has at most `W` terms. A `LineLc` is of some 8 KB.
+/// combination has at most 32 terms. A `LineLc` is of some 8 KB.
 pub fn block_line<const W: u32>(first: Wire, state: &StateWires, time: u32, which: u32) -> LineLc
     requires width { IsWidth W }
     requires within { first + block_made W < 2 ^ 32 }

@@ -24,6 +24,20 @@ fn shrinks_as_by_hand(rt: HostRuntime) -> Result<(), Fail> {
     Ok(())
 }
 
+// Wire 1 and wire 1 again, times wire 2, is wire 3.
+#[test]
+fn terms_of_one_wire_add_up(rt: HostRuntime) -> Result<(), Fail> {
+    let alloc = rt.alloc();
+    let mut doubled = PRODUCT;
+    doubled[84] = 2;
+    let mut files = MemFiles::new(alloc);
+    files.set("old", &single(alloc, 4, 4, [&[1, 1], &[2], &[3]])?)?;
+    let shrunk = shrink(alloc, &mut files, "old")?;
+    shrunk.write(&mut files, "new")?;
+    assert_eq!(rt; files.bytes_of("new"), Some(doubled.as_slice()));
+    Ok(())
+}
+
 // Of the first wires 0 and 1 are left, and of the second all three wires and no constraint. In the
 // third the constraint stays that makes 128 terms, of 1, 128 and 1 terms, and the wires 0, 1, 200
 // summands, and two sums.

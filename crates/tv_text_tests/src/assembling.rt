@@ -174,6 +174,20 @@ fn texts_of_16_bits_have_their_images(rt: HostRuntime) -> Result<(), Fail> {
     Ok(())
 }
 
+// The instructions fill the memory, so the address behind them is 0 again.
+#[test]
+fn a_label_behind_all_instructions_is_0(rt: HostRuntime) -> Result<(), Fail> {
+    let mut text = Vec::from_slice(rt.alloc(), b"; TinyRAM W=16\n")?;
+    for _ in 0..16_384 {
+        text.extend_from_slice(b"jmp _end\n")?;
+    }
+    text.extend_from_slice(b"_end:")?;
+    let image = assemble::<16>(rt.alloc(), &text, 32_768)?;
+    assert_eq!(rt; image.as_slice().len(), 32_768);
+    assert!(rt; image.as_slice().ends_with(&[0xa400, 0]));
+    Ok(())
+}
+
 #[test]
 fn a_header_tells_the_width(rt: HostRuntime) {
     for (text, bits) in &WIDTHS {
