@@ -24,3 +24,4 @@ pub use laws::{
 pub use lines::{Lines, States, Trace, TraceState};
 pub use state::Machine;
 pub use tracing::{TraceFault, trace};
+pub use tv_core::Line;
