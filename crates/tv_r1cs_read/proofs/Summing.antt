@@ -1,13 +1,12 @@
 -- Terms that are summed as they are read, with none kept.
-use Rattle.std.proofs.Common.{◌≡◌, ℕ, ◌+◌, ◌*◌, ◌%◌, ◌<◌, ◌≤◌, List, [], ◌∷◌, ◌++◌, Result, Ok, refl, ap, sym, ◌∙◌, arith, slice_index, ◌==◌, Bool}
-use Rattle.std.proofs.lemmas.Bool.Decides.{nat_tests}
+use Rattle.std.proofs.Common.{◌≡◌, ℕ, ◌+◌, ◌*◌, ◌%◌, List, [], ◌∷◌, ◌++◌, Result, Ok, refl, ap, sym, ◌∙◌, arith, slice_index, ◌==◌, Bool}
 use Rattle.std.proofs.lemmas.List.{length-map, length_push}
 use Rattle.std.proofs.lemmas.List.Sums.{sum_by_push}
 use Rattle.tv_core.specs.Constraints.{Combination}
 use Rattle.tv_core.specs.declared.field.TheConstants.{P}
 use Rattle.tv_core.proofs.Residues.{sum_by-map}
-use Rattle.tv_container.specs.Places.{Fault, number, fit}
-use Rattle.tv_r1cs_read.specs.R1cs.{Read, terms_at, combination_at, constraint_at}
+use Rattle.tv_container.specs.Places.{Fault}
+use Rattle.tv_r1cs_read.specs.R1cs.{Read, count_at, term_at, terms_at, combination_at, constraint_at}
 use Rattle.tv_r1cs_read.specs.Rows.{combination_of}
 use Rattle.tv_r1cs_read.specs.Sums.{IsSummed, IsValued, IsTried}
 use Rattle.tv_r1cs_read.proofs.Ahead.{begins, goes_on, ends, combination_at-counted}
@@ -18,23 +17,22 @@ starts file wires end n at z = record { terms = []; count = refl; ahead = begins
 
 -- one more term
 pub adds : (answer : Result (Read Combination) Fault) (file : List ℕ) (wires end : ℕ) (z : List ℕ) (k next n more at sum wire coefficient : ℕ) →
-    IsSummed answer file wires end z k n at sum → next ≡ k + 1 → n ≡ more + 1 → at + 12 ≤ end → number file 4 at ≡ wire → wire < wires →
-    number file 8 (at + 4) ≡ coefficient → coefficient < P →
+    IsSummed answer file wires end z k n at sum → next ≡ k + 1 → n ≡ more + 1 → term_at file wires end at ≡ Ok (coefficient, wire) →
     IsSummed answer file wires end z next more (at + 12) (sum + coefficient * slice_index z wire)
-adds answer file wires end z k next n more at sum wire coefficient summed one left fits wire_is below coefficient_is canonical = record {
+adds answer file wires end z k next n more at sum wire coefficient summed one left is = record {
   terms = summed.terms ++ (wire, coefficient) ∷ [];
   count = omega (arith, one, summed.count, length_push summed.terms (wire, coefficient));
-  ahead = goes_on answer summed.terms file wires end n more at wire coefficient summed.ahead left fits wire_is below coefficient_is canonical;
+  ahead = goes_on answer summed.terms file wires end n more at wire coefficient summed.ahead left is;
   is = ap (λ s. s + coefficient * slice_index z wire) summed.is ∙ sym (sum_by_push (λ (t : ℕ × ℕ). t.1 * slice_index z t.0) summed.terms (wire, coefficient));
 }
 
 -- one more term under no values, which comes to 0
 pub passes : (answer : Result (Read Combination) Fault) (file : List ℕ) (wires end k next n more at sum wire coefficient : ℕ) →
-    IsSummed answer file wires end [] k n at sum → next ≡ k + 1 → n ≡ more + 1 → at + 12 ≤ end → number file 4 at ≡ wire → wire < wires →
-    number file 8 (at + 4) ≡ coefficient → coefficient < P → IsSummed answer file wires end [] next more (at + 12) sum
-passes answer file wires end k next n more at sum wire coefficient summed one left fits wire_is below coefficient_is canonical =
+    IsSummed answer file wires end [] k n at sum → next ≡ k + 1 → n ≡ more + 1 → term_at file wires end at ≡ Ok (coefficient, wire) →
+    IsSummed answer file wires end [] next more (at + 12) sum
+passes answer file wires end k next n more at sum wire coefficient summed one left is =
     let none : sum + coefficient * slice_index [] wire ≡ sum = grind arith in
-    rw none at (adds answer file wires end [] k next n more at sum wire coefficient summed one left fits wire_is below coefficient_is canonical)
+    rw none at (adds answer file wires end [] k next n more at sum wire coefficient summed one left is)
 
 -- no term is left
 pub comes_to : (answer : Result (Read Combination) Fault) (file : List ℕ) (wires end : ℕ) (z : List ℕ) (k n at sum v : ℕ) →
@@ -46,14 +44,10 @@ comes_to answer file wires end z k n at sum v summed none is = record {
   is = is ∙ ap (λ s. s % P) (summed.is ∙ sym (sum_by-map (λ (t : ℕ × ℕ). t.0 * slice_index z t.1) (λ (t : ℕ × ℕ). (t.1, t.0)) summed.terms));
 }
 
-pub fits_four : (at end : ℕ) → at + 4 ≤ end → fit 4 at end ≡ Ok (tt {0})
-fits_four at end le = grind (arith, nat_tests)
-
 -- a combination is its terms, once they are counted
-pub counted : (file : List ℕ) (wires end at count : ℕ) (z : List ℕ) (v next : ℕ) → at + 4 ≤ end → number file 4 at ≡ count → count ≤ 1048576 →
+pub counted : (file : List ℕ) (wires end at count : ℕ) (z : List ℕ) (v next : ℕ) → count_at file end at ≡ Ok count →
     IsValued (terms_at file wires end count (at + 4)) z v count next → IsValued (combination_at file wires end at) z v count next
-counted file wires end at count z v next le is narrow valued =
-    rw (combination_at-counted file wires end at count tt (fits_four at end le) is narrow) valued
+counted file wires end at count z v next is valued = rw (combination_at-counted file wires end at count is) valued
 
 -- a constraint is its three combinations
 pub three : (file : List ℕ) (wires end at : ℕ) (z : List ℕ) (a b c na nb nc first second third count : ℕ) (holds : Bool) →

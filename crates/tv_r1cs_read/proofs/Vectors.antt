@@ -2,7 +2,7 @@
 use Rattle.std.specs.Prelude.{◌≡◌, ℕ, ◌+◌, List, [], ◌∷◌, ◌++◌, length, take, drop, Ok, refl}
 use Rattle.tv_core.specs.Constraints.{System}
 use Rattle.tv_container.specs.Places.{wrong}
-use Rattle.tv_r1cs_read.specs.R1cs.{system_of, header_of, header_in, constraints_from, constraint_at, combination_at, terms_at}
+use Rattle.tv_r1cs_read.specs.R1cs.{system_of, header_of, header_in, constraints_from, constraint_at, combination_at, count_at, terms_at, term_at}
 use Rattle.tv_container.specs.Field.{this_field}
 use Rattle.tv_container.specs.Sections.{sections_of, sections_in, sections_from, section_at}
 use Rattle.tv_container.specs.declared.why.ReadWhy.TheVariants.{BadMagic, BadVersion, Missing, Doubled, OtherPrime, BadCount, WireRange, NotCanonical, Truncated, TooWide, Trailing}
@@ -98,7 +98,7 @@ record AreRead : Type 0 where
   not_canonical : system_of (changed 88 (255 ∷ 255 ∷ 255 ∷ 255 ∷ []) worked) ≡ wrong 84 NotCanonical
 
 are_read : AreRead
-unfolding system_of header_of header_in this_field constraints_from constraint_at combination_at terms_at sections_of sections_in sections_from section_at
+unfolding system_of header_of header_in this_field constraints_from constraint_at combination_at count_at terms_at term_at sections_of sections_in sections_from section_at
 are_read = record {
   as_it_stands = refl;
   other_order = refl;

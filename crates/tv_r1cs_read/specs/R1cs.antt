@@ -50,23 +50,35 @@ pub record Read (A : Type 0) : Type 0 where
   pub value : A
   pub next : ℕ
 
--- the terms at a place, so many, below the end of their section: twelve bytes each, the wire, which is
--- below `wires`, and the coefficient, which is below P
-unfoldable pub terms_at : List ℕ → ℕ → ℕ → ℕ → ℕ → Result (Read Combination) Fault
-terms_at file wires end zero at = Ok (record { value = []; next = at })
-terms_at file wires end (suc n) at = do
+-- the term at a place, below the end of its section: twelve bytes, the wire, which is below `wires`, and the
+-- coefficient, which is below P
+unfoldable pub term_at : List ℕ → ℕ → ℕ → ℕ → Result (ℕ × ℕ) Fault
+term_at file wires end at = do
   _ ← fit 12 at end
   _ ← unless (not (nat_lt (number file 4 at) wires)) at (WireRange (number file 4 at) wires)
   _ ← unless (not (nat_lt (number file 8 (at + 4)) P)) (at + 4) NotCanonical
-  others ← terms_at file wires end n (at + 12)
-  Ok (record { value = (number file 8 (at + 4), number file 4 at) ∷ others.value; next = others.next })
+  Ok (number file 8 (at + 4), number file 4 at)
 
--- a combination: four bytes that count its terms, at most 1,048,576, and the terms
-unfoldable pub combination_at : List ℕ → ℕ → ℕ → ℕ → Result (Read Combination) Fault
-combination_at file wires end at = do
+-- the terms at a place, so many
+unfoldable pub terms_at : List ℕ → ℕ → ℕ → ℕ → ℕ → Result (Read Combination) Fault
+terms_at file wires end zero at = Ok (record { value = []; next = at })
+terms_at file wires end (suc n) at = do
+  term ← term_at file wires end at
+  others ← terms_at file wires end n (at + 12)
+  Ok (record { value = term ∷ others.value; next = others.next })
+
+-- how many terms the combination at a place has: four bytes, at most 1,048,576
+unfoldable pub count_at : List ℕ → ℕ → ℕ → Result ℕ Fault
+count_at file end at = do
   _ ← fit 4 at end
   _ ← unless (nat_lt 1048576 (number file 4 at)) at (TooWide (number file 4 at))
-  terms_at file wires end (number file 4 at) (at + 4)
+  Ok (number file 4 at)
+
+-- a combination: its terms, behind their count
+unfoldable pub combination_at : List ℕ → ℕ → ℕ → ℕ → Result (Read Combination) Fault
+combination_at file wires end at = do
+  count ← count_at file end at
+  terms_at file wires end count (at + 4)
 
 -- a constraint: its three combinations
 unfoldable pub constraint_at : List ℕ → ℕ → ℕ → ℕ → Result (Read Constraint) Fault

@@ -1,10 +1,9 @@
 -- Constraints that are tried as they are read, with no term kept.
-use Rattle.std.specs.Prelude.{◌≡◌, ℕ, ◌+◌, ◌*◌, ◌≤◌, ◌⊎◌, Bool, List, [], ◌∷◌, ◌++◌, length, Option, Some, None, Result, Ok, MatchOption, slice_index}
+use Rattle.std.specs.Prelude.{◌≡◌, ℕ, ◌*◌, Bool, List, [], ◌∷◌, ◌++◌, length, Option, Some, None, Result, Ok, MatchOption, slice_index}
 use Rattle.std.specs.List.{sum_by}
 use Rattle.tv_core.specs.Constraints.{Combination, Constraint, value}
 use Rattle.tv_core.specs.Meanings.{holds}
-use Rattle.tv_core.specs.declared.field.TheConstants.{P}
-use Rattle.tv_container.specs.Places.{Fault, number}
+use Rattle.tv_container.specs.Places.{Fault}
 use Rattle.tv_container.specs.Reading.{Refuses}
 use Rattle.tv_container.specs.declared.why.ReadRefusal.{ReadRefusal}
 use Rattle.tv_r1cs_read.specs.Places.{IsAt, IsAll}
@@ -12,10 +11,6 @@ use Rattle.tv_r1cs_read.specs.Progress.{Reached}
 use Rattle.tv_r1cs_read.specs.R1cs.{Read, system_of}
 use Rattle.tv_r1cs_read.specs.Rows.{IsAhead}
 use Rattle.tv_r1cs_read.specs.Survey.{terms_of}
-
--- the term at a place has a wire past so many, or a coefficient that isn't below P
-abbrev pub IsOff : List ℕ → ℕ → ℕ → Type 0
-IsOff file wires at = (wires ≤ number file 4 at) ⊎ (P ≤ number file 8 (at + 4))
 
 -- of a combination's terms k come to this sum under an assignment, and the others, n of them, are at a place
 pub record IsSummed (answer : Result (Read Combination) Fault) (file : List ℕ) (wires end : ℕ) (z : List ℕ) (k n at sum : ℕ) : Type 0 where

@@ -5,7 +5,7 @@ ghost use Rattle.tv_container.specs.Places.{number};
 ghost use Rattle.tv_container.specs.Reading.{Holds, IsPiece};
 ghost use Rattle.tv_r1cs_read.specs.Held.{IsHeld};
 
-use crate::rows::{Bounds, TERM_BYTES, WIDEST};
+use crate::terms::{Bounds, TERM_BYTES, WIDEST};
 use tv_container::Window;
 
 /// A place, and the one up to which the window holds the bytes from there on.

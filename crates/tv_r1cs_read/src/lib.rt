@@ -9,11 +9,12 @@ mod progress;
 mod reader;
 mod rows;
 mod sum;
-mod taken;
+mod terms;
 mod tried;
 
 pub use header::{HEADER_BYTES, Header, R1CS};
 pub use progress::Progress;
 pub use reader::{SystemReader, Unread, survey};
-pub use rows::{Row, TERM_BYTES, Terms};
+pub use rows::{Row, Terms};
+pub use terms::TERM_BYTES;
 pub use tv_container::{ReadRefusal, ReadWhy};

@@ -9,10 +9,9 @@ ghost use Rattle.tv_container.specs.Reading.{Looks, Refuses, IsMissing, IsTold, 
 ghost use Rattle.tv_container.specs.declared.why.ReadRefusal.{ReadRefusal};
 
 use crate::header::{Header, read_header};
-use crate::rows::{AT_ONCE, Bounds, Row, read_row};
-use crate::taken::take_held;
+use crate::rows::{Row, read_row};
+use crate::terms::Bounds;
 use crate::tried::try_row;
-use std::alloc::AllocError;
 use std::marker::Model;
 use tv_container::{ReadRefusal, ReadWhy, Window};
 use tv_core::{Counts, F};
@@ -91,68 +90,7 @@ impl Progress {
 
     /// Reads the next constraint into `row`, and tells whether there was one. A refusal is
     /// repeated.
-    #[inline(always)]
-    #[tactic(auto, using(tv_container::proofs::Chain::stopped_here))]
     pub(crate) fn next<D: Files>(
-        &mut self,
-        files: &mut D,
-        name: &str,
-        row: &mut Row,
-    ) -> Result<bool, ReadRefusal>
-        ensures gives { (rows : List Constraint)
-            → Known (D.seen files.old) name.now (λ file. IsAt self.old file rows →
-            MatchResult result (λ more. Gave more row.new self.new file rows)
-            (λ why. Refuses why (system_of file))) }
-        ensures counts { IfOk result (λ more. WentOn more row.new self.old self.new) }
-        ensures header { self.new.header ≡ self.old.header }
-        ensures again { (why : ReadRefusal) → self.old.stopped ≡ Some why →
-            (result ≡ Err why) × (self.new ≡ self.old) × (D.seen files.new ≡ D.seen files.old) }
-        ensures stops { IfErr result (λ why. self.new.stopped ≡ Some why) }
-        ensures goes { OnOk result (self.new.stopped ≡ None) }
-        ensures looks { self.old.stopped ≡ None → Looks (D.seen files.old) (D.seen files.new)
-            name.now result }
-    {
-        match self.take_held(row) {
-            Ok(true) => Ok(true),
-            Ok(false) => self.next_far(files, name, row),
-            Err(_) => {
-                self.stopped = Some(ReadRefusal::Memory);
-                Err(ReadRefusal::Memory)
-            }
-        }
-    }
-
-    // Takes the next constraint into `row`, where the window holds all of it and it is as it should
-    // be, and tells whether it did; else nothing but the row changes.
-    #[inline(always)]
-    fn take_held(&mut self, row: &mut Row) -> Result<bool, AllocError>
-        ensures gives { (file : List ℕ) → (rows : List Constraint) → IsAt self.old file rows →
-            IfOk result (λ taken. taken ≡ true → Gave true row.new self.new file rows) }
-        ensures counts { IfOk result
-            (λ taken. taken ≡ true → WentOn true row.new self.old self.new) }
-        ensures header { self.new.header ≡ self.old.header }
-        ensures same { IfOk result (λ taken. taken ≡ false → self.new ≡ self.old) }
-        ensures on { IfOk result (λ taken. taken ≡ true → self.old.stopped ≡ None) }
-        ensures goes { self.new.stopped ≡ self.old.stopped }
-        ensures err { OnErr result (self.old.stopped ≡ None) }
-    {
-        if self.left == 0 || self.stopped.is_some() {
-            return Ok(false);
-        }
-        let bounds = self.bounds();
-        let Some(next) = take_held(&self.window, &bounds, self.at, row)? else {
-            return Ok(false);
-        };
-        self.at = next;
-        self.left -= 1;
-        self.terms += row.terms() as u64;
-        Ok(true)
-    }
-
-    // Reads the next constraint into `row`, and tells whether there was one. A refusal is repeated.
-    #[cold]
-    #[inline(never)]
-    fn next_far<D: Files>(
         &mut self,
         files: &mut D,
         name: &str,
@@ -174,40 +112,26 @@ impl Progress {
         if let Some(refusal) = self.stopped {
             return Err(refusal);
         }
-        let answer = self.advance(files, name, row);
-        if let Err(refusal) = answer {
-            self.stopped = Some(refusal);
-        }
-        answer
-    }
-
-    // Reads the next constraint.
-    #[tactic(auto, using(tv_container::proofs::Chain::stopped_here))]
-    fn advance<D: Files>(
-        &mut self,
-        files: &mut D,
-        name: &str,
-        row: &mut Row,
-    ) -> Result<bool, ReadRefusal>
-        ensures gives { (rows : List Constraint)
-            → Known (D.seen files.old) name.now (λ file. IsAt self.old file rows →
-            MatchResult result (λ more. Gave more row.new self.new file rows)
-            (λ why. Refuses why (system_of file))) }
-        ensures counts { IfOk result (λ more. WentOn more row.new self.old self.new) }
-        ensures header { self.new.header ≡ self.old.header }
-        ensures goes { self.new.stopped ≡ self.old.stopped }
-        ensures looks { Looks (D.seen files.old) (D.seen files.new) name.now result }
-    {
         if self.left == 0 {
-            self.at_end()?;
-            return Ok(false);
+            self.end();
+            match self.stopped() {
+                Some(refusal) => return Err(refusal),
+                None => return Ok(false),
+            }
         }
         let bounds = self.bounds();
-        self.window.reach(files, name, self.at, AT_ONCE)?;
-        self.at = read_row(files, name, &mut self.window, &bounds, self.at, row)?;
-        self.left -= 1;
-        self.terms += row.terms() as u64;
-        Ok(true)
+        match read_row(files, name, &mut self.window, &bounds, self.at, row) {
+            Ok(next) => {
+                self.at = next;
+                self.left -= 1;
+                self.terms += row.terms() as u64;
+                Ok(true)
+            }
+            Err(refusal) => {
+                self.stopped = Some(refusal);
+                Err(refusal)
+            }
+        }
     }
 
     /// Why reading stopped, where it did.
@@ -273,8 +197,15 @@ impl Progress {
         ensures told { (why : ReadRefusal) → self.new.stopped ≡ Some why → IsTold why }
         ensures header { self.new.header ≡ self.old.header }
     {
-        if let Err(refusal) = self.at_end() {
-            self.stopped = Some(refusal);
+        let rows = self.header.rows;
+        if self.at < rows.at + rows.size {
+            self.stopped = Some(ReadRefusal::Bad {
+                at: rows.at,
+                why: ReadWhy::BadCount {
+                    has: rows.size,
+                    wants: self.at - rows.at,
+                },
+            });
         }
     }
 
@@ -288,25 +219,5 @@ impl Progress {
             wires: self.header.wires,
             end: self.header.rows.at + self.header.rows.size,
         }
-    }
-
-    // Behind the counted constraints section 2 ends.
-    fn at_end(&self) -> Result<(), ReadRefusal>
-        ensures gives { (file : List ℕ) → self.now.left ≡ 0
-            → MatchResult result (λ _. ahead self.now file ≡ Ok [])
-            (λ why. Refuses why (ahead self.now file)) }
-        ensures told { IfErr result IsTold }
-    {
-        let rows = self.header.rows;
-        if self.at < rows.at + rows.size {
-            return Err(ReadRefusal::Bad {
-                at: rows.at,
-                why: ReadWhy::BadCount {
-                    has: rows.size,
-                    wants: self.at - rows.at,
-                },
-            });
-        }
-        Ok(())
     }
 }

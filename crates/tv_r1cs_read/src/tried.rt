@@ -4,16 +4,16 @@ ghost use Rattle.std.specs.Prelude.{◌≡◌, ℕ, ◌+◌, ◌-◌, ◌*◌, �
 ghost use Rattle.std.specs.Prelude.{length, slice_index, true, IfSome, IfOk, MatchResult};
 ghost use Rattle.tv_core.specs.Constraints.{Combination};
 ghost use Rattle.tv_container.specs.Places.{Fault, places};
-ghost use Rattle.tv_container.specs.Reading.{Holds, InPiece, IsPiece, IsTold, ReadsIn, Refuses};
+ghost use Rattle.tv_container.specs.Reading.{Holds, InPiece, IsPiece, ReadsIn, Refuses};
 ghost use Rattle.tv_container.specs.Reading.{Stopped};
 ghost use Rattle.tv_r1cs_read.specs.Held.{IsHeld};
 ghost use Rattle.tv_r1cs_read.specs.R1cs.{Read, combination_at, constraint_at};
-ghost use Rattle.tv_r1cs_read.specs.Sums.{Ended, IsOff, IsSummed, IsTried, IsValued};
+ghost use Rattle.tv_r1cs_read.specs.Sums.{Ended, IsSummed, IsTried, IsValued};
 
 use crate::held::{Held, held_from};
-use crate::rows::{AT_ONCE, Bounds, TERM_BYTES, WIDEST, fit_below};
 use crate::sum::Sum;
-use tv_container::{ReadRefusal, ReadWhy, Window};
+use crate::terms::{Bounds, TERM_BYTES, read_count, read_term};
+use tv_container::{ReadRefusal, Window};
 use tv_core::F;
 use tv_files::Files;
 
@@ -63,8 +63,6 @@ fn good_terms(window: &Window, bounds: &Bounds, at: u64, count: u32) -> u32
         IsSummed answer file bounds.now.wires bounds.now.end [] k n at sum →
         IsSummed answer file bounds.now.wires bounds.now.end [] (k + result) (n - result)
         (at + 12 * result) sum }
-    ensures off { (file : List ℕ) → IsPiece window.now file → result < count
-        → IsOff file bounds.now.wires (at + 12 * result) }
 {
     let mut at = at;
     for good in 0..count {
@@ -102,8 +100,6 @@ fn add_terms<const WHOLE: bool>(
         IsSummed answer file bounds.now.wires bounds.now.end values.now k n at sum.old →
         IsSummed answer file bounds.now.wires bounds.now.end values.now (k + result) (n - result)
         (at + 12 * result) sum.new }
-    ensures off { (file : List ℕ) → IsPiece window.now file → result < count
-        → IsOff file bounds.now.wires (at + 12 * result) }
 {
     let mut at = at;
     for good in 0..count {
@@ -142,8 +138,6 @@ fn sum_terms(
         IsSummed answer file bounds.now.wires bounds.now.end values.now k n at sum.old →
         IsSummed answer file bounds.now.wires bounds.now.end values.now (k + result) (n - result)
         (at + 12 * result) sum.new }
-    ensures off { (file : List ℕ) → IsPiece window.now file → result < count
-        → IsOff file bounds.now.wires (at + 12 * result) }
 {
     if values.is_empty() {
         return good_terms(window, bounds, at, count);
@@ -175,8 +169,6 @@ fn sum_far(
         IsSummed answer file bounds.now.wires bounds.now.end values.now k n at sum →
         IsSummed answer file bounds.now.wires bounds.now.end values.now (k + result.0)
         (n - result.0) (at + 12 * result.0) result.1 }
-    ensures off { (file : List ℕ) → IsPiece window.now file → result.0 < count
-        → IsOff file bounds.now.wires (at + 12 * result.0) }
 {
     let mut sum = sum;
     let good = sum_terms(window, bounds, at, count, values, &mut sum);
@@ -311,8 +303,9 @@ fn far_value<D: Files>(
     }
 }
 
-// Reads the combination at a place, and takes its value under an assignment.
-#[tactic(auto, unfolding(crate::specs::R1cs::combination_at))]
+// Reads the combination at a place, and takes its value under an assignment. A term is read, and
+// then as many as the window holds behind it are summed at once, up to the first that isn't as it
+// should be.
 fn read_value<D: Files>(
     files: &mut D,
     name: &str,
@@ -331,84 +324,22 @@ fn read_value<D: Files>(
         valued.value valued.terms valued.behind.from)
         (λ why. Refuses why (combination_at file bounds.now.wires bounds.now.end at))) }
 {
-    window.reach(files, name, at, AT_ONCE)?;
-    fit_below(files, name, window, at, 4, bounds.end)?;
-    let terms = window.word(at);
-    if terms > WIDEST {
-        return Err(ReadRefusal::Bad {
-            at,
-            why: ReadWhy::TooWide { terms },
-        });
-    }
-    let value = read_sum(files, name, window, bounds, at + 4, terms, values)?;
-    Ok(Valued {
-        value,
-        terms,
-        behind: held_from(window, bounds, at + 4 + TERM_BYTES * u64::from(terms)),
-    })
-}
-
-// Reads the terms at a place, so many, and takes the value of their combination.
-fn read_sum<D: Files>(
-    files: &mut D,
-    name: &str,
-    window: &mut Window,
-    bounds: &Bounds,
-    at: u64,
-    count: u32,
-    values: &[F],
-) -> Result<F, ReadRefusal>
-    requires before { at ≤ bounds.now.end }
-    requires narrow { count ≤ 1048576 }
-    ensures within { IfOk result (λ _. at + 12 * count ≤ bounds.now.end) }
-    ensures reads { ReadsIn (D.seen files.old) (D.seen files.new) name.now window.old window.new
-        result
-        (λ file. bounds.now.end ≤ places file → (answer : Result (Read Combination) Fault) →
-        IsSummed answer file bounds.now.wires bounds.now.end values.now 0 count at 0 →
-        MatchResult result
-        (λ value. IsValued answer values.now value count (at + 12 * count))
-        (λ why. Refuses why answer)) }
-{
+    let terms = read_count(files, name, window, bounds, at)?;
     let mut sum = Sum::new();
-    let mut at = at;
-    let mut left = count;
+    let mut at = at + 4;
+    let mut left = terms;
     while left > 0 {
-        fit_below(files, name, window, at, TERM_BYTES as usize, bounds.end)?;
-        let some = left.min(window.whole_terms(at, bounds.end));
-        let (good, more) = sum_far(window, bounds, at, some, values, sum);
+        let (wire, coefficient) = read_term(files, name, window, bounds, at)?;
+        sum.add(coefficient, value_at::<false>(wire, values));
+        let some = (left - 1).min(window.whole_terms(at, bounds.end) - 1);
+        let (good, more) = sum_far(window, bounds, at + TERM_BYTES, some, values, sum);
         sum = more;
-        if good < some {
-            return Err(term_fault(window, bounds, at + TERM_BYTES * u64::from(good)));
-        }
-        at += TERM_BYTES * u64::from(some);
-        left -= some;
+        at += TERM_BYTES * u64::from(1 + good);
+        left -= 1 + good;
     }
-    Ok(sum.value())
-}
-
-// What is wrong with the term at a place, which the window holds and which isn't as it should be.
-#[cold]
-#[inline(never)]
-fn term_fault(window: &Window, bounds: &Bounds, at: u64) -> ReadRefusal
-    requires held { Holds window.now at 12 }
-    requires within { at + 12 ≤ bounds.now.end }
-    ensures told { IsTold result }
-    ensures gives { (file : List ℕ) → IsPiece window.now file → IsOff file bounds.now.wires at
-        → (answer : Result (Read Combination) Fault) → (z : List ℕ) → (k n sum : ℕ) → 0 < n →
-        IsSummed answer file bounds.now.wires bounds.now.end z k n at sum → Refuses result answer }
-{
-    let wire = window.word(at);
-    if wire >= bounds.wires {
-        return ReadRefusal::Bad {
-            at,
-            why: ReadWhy::WireRange {
-                wire,
-                wires: bounds.wires,
-            },
-        };
-    }
-    ReadRefusal::Bad {
-        at: at + 4,
-        why: ReadWhy::NotCanonical,
-    }
+    Ok(Valued {
+        value: sum.value(),
+        terms,
+        behind: held_from(window, bounds, at),
+    })
 }

@@ -1,6 +1,5 @@
 -- Constraints that were written are read.
 use Rattle.std.proofs.Common.{◌≡◌, ℕ, ◌+◌, ◌*◌, ◌<◌, ◌≤◌, ◌^◌, suc, List, [], ◌∷◌, ◌++◌, length, Ok, refl, ◌∙◌, arith}
-use Rattle.std.proofs.lemmas.Bool.Decides.{nat_tests}
 use Rattle.std.proofs.lemmas.List.{length-append}
 use Rattle.std.proofs.lemmas.List.Elements.{All-head, All-tail}
 use Rattle.std.specs.List.{All}
@@ -8,23 +7,20 @@ use Rattle.tv_container.specs.Bytes.{four_bytes, eight_bytes, term_bytes, terms_
 use Rattle.tv_container.specs.Places.{number}
 use Rattle.tv_container.specs.declared.sections.Section.{Section}
 use Rattle.tv_container.proofs.BytesAt.{At, at_first, at_rest, number_of_four, number_of_eight, length-four_bytes, length-eight_bytes}
-use Rattle.tv_container.proofs.SectionLemmas.{fit-within}
 use Rattle.tv_core.specs.Constraints.{Combination, Constraint}
 use Rattle.tv_core.specs.declared.field.TheConstants.{P}
-use Rattle.tv_r1cs_read.specs.R1cs.{Read, terms_at, combination_at, constraint_at, constraints_from}
-use Rattle.tv_r1cs_read.proofs.Ahead.{combination_at-counted}
+use Rattle.tv_r1cs_read.specs.R1cs.{Read, term_at, terms_at, combination_at, constraint_at, constraints_from}
+use Rattle.tv_r1cs_read.proofs.Ahead.{combination_at-counted, count_at-good, term_at-good}
 use Rattle.tv_r1cs_read.proofs.Constraints.{constraints_from-end, constraints_from-next}
 use Rattle.tv_r1cs_write.specs.Bytes.{combination_bytes, constraint_bytes, rows_bytes}
 use Rattle.tv_r1cs_write.specs.Narrow.{IsShort, IsNarrow, IsOver}
 use Rattle.tv_r1cs_write.proofs.Sizes.{length-combination_bytes, length-constraint_bytes}
 
--- one term that is as it should be, and others
-terms_at-term : (file : List ℕ) (wires end n at wire coefficient : ℕ) (others : Read Combination) → at + 12 ≤ end → number file 4 at ≡ wire → wire < wires →
-    number file 8 (at + 4) ≡ coefficient → coefficient < P → terms_at file wires end n (at + 12) ≡ Ok others →
-    terms_at file wires end (suc n) at ≡ Ok (record { value = (coefficient, wire) ∷ others.value; next = others.next })
+-- one term, and others
+terms_at-term : (file : List ℕ) (wires end n at : ℕ) (term : ℕ × ℕ) (others : Read Combination) → term_at file wires end at ≡ Ok term →
+    terms_at file wires end n (at + 12) ≡ Ok others → terms_at file wires end (suc n) at ≡ Ok (record { value = term ∷ others.value; next = others.next })
 unfolding terms_at
-terms_at-term file wires end n at wire coefficient others fits wire_is below coefficient_is canonical rest =
-    rw (wire_is, coefficient_is, rest) (grind (arith, nat_tests))
+terms_at-term file wires end n at term others is rest = rw (is, rest) refl
 
 terms_at-none : (file : List ℕ) (wires end at next : ℕ) → at ≡ next → terms_at file wires end 0 at ≡ Ok (record { value = []; next = next })
 unfolding terms_at
@@ -43,13 +39,13 @@ terms_read file wires end at next (term ∷ terms) a over canonical short there 
     let coefficient_is = number_of_eight file (at + 4) term.0 (at_rest file at 4 (at + 4) (four_bytes term.1) (eight_bytes term.0) here (length-four_bytes term.1) refl) (omega arith) in
     let rest = terms_read file wires end (at + 12) next terms (at_rest file at 12 (at + 12) bytes (terms_bytes terms) a size refl)
     (All-tail (λ t. t.1 < wires) term terms over) (All-tail (λ t. t.0 < P) term terms canonical) short (omega arith) within in
-    terms_at-term file wires end (length terms) at term.1 term.0 (record { value = terms; next = next }) (omega arith) wire_is below coefficient_is residue rest
+    terms_at-term file wires end (length terms) at term (record { value = terms; next = next }) (term_at-good file wires end at term.1 term.0 (omega arith) wire_is below coefficient_is residue) rest
 
 combination_read : (file : List ℕ) (wires end at next : ℕ) (x : Combination) → At file at (combination_bytes x) → IsShort x → IsOver wires x →
     wires < 2 ^ 32 → at + (4 + 12 * length x) ≡ next → next ≤ end → combination_at file wires end at ≡ Ok (record { value = x; next = next })
 combination_read file wires end at next x a is over short there within =
     let count = number_of_four file at (length x) (at_first file at (four_bytes (length x)) (terms_bytes x) a) (omega (arith, is.terms)) in
-    combination_at-counted file wires end at (length x) tt (fit-within 4 at end (omega arith)) count is.terms
+    combination_at-counted file wires end at (length x) (count_at-good file end at (length x) (omega arith) count is.terms)
     ∙ terms_read file wires end (at + 4) next x (at_rest file at 4 (at + 4) (four_bytes (length x)) (terms_bytes x) a (length-four_bytes (length x)) refl)
     over is.canonical short (omega arith) within
 

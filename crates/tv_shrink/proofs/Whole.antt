@@ -10,7 +10,7 @@ use Rattle.tv_container.specs.declared.why.ReadWhy.{ReadWhy}
 use Rattle.tv_container.specs.declared.why.ReadWhy.TheVariants.{BadCount, TooWide, WireRange, NotCanonical}
 use Rattle.tv_core.specs.Constraints.{Constraint}
 use Rattle.tv_core.specs.declared.field.TheConstants.{P}
-use Rattle.tv_r1cs_read.specs.R1cs.{terms_at, combination_at, constraint_at, constraints_from, header_of, system_of}
+use Rattle.tv_r1cs_read.specs.R1cs.{term_at, terms_at, count_at, combination_at, constraint_at, constraints_from, header_of, system_of}
 use Rattle.tv_r1cs_write.specs.Narrow.{IsOver}
 use Rattle.tv_shrink.specs.Laws.{AreOver, SystemsAreOver}
 
@@ -26,22 +26,26 @@ unless_not : {B : Type 0} (test : Bool) (at : ℕ) (why : ReadWhy) (f : Unit {0}
 unless_not true at why f Q h = h refl
 unless_not false at why f Q h = tt
 
+term_over : (file : List ℕ) (wires end at : ℕ) → IfOk (term_at file wires end at) (λ term. term.1 < wires)
+unfolding term_at
+term_over file wires end at =
+    bind_if (fit 12 at end) _ _ _ (any (fit 12 at end)) (λ _ _.
+    unless_not (ltb (number file 4 at) wires) at (WireRange (number file 4 at) wires) _ _ (λ below.
+    bind_if (unless (not (ltb (number file 8 (at + 4)) P)) (at + 4) NotCanonical) _ _ _ (any (unless (not (ltb (number file 8 (at + 4)) P)) (at + 4) NotCanonical)) (λ _ _.
+    ltb-true (number file 4 at) wires below)))
+
 terms_over : (file : List ℕ) (wires end n at : ℕ) → IfOk (terms_at file wires end n at) (λ read. IsOver wires read.value)
 unfolding terms_at
 terms_over file wires end zero at = All-nil (λ t. t.1 < wires)
 terms_over file wires end (suc n) at =
-    bind_if (fit 12 at end) _ _ _ (any (fit 12 at end)) (λ _ _.
-    unless_not (ltb (number file 4 at) wires) at (WireRange (number file 4 at) wires) _ _ (λ below.
-    bind_if (unless (not (ltb (number file 8 (at + 4)) P)) (at + 4) NotCanonical) _ _ _ (any (unless (not (ltb (number file 8 (at + 4)) P)) (at + 4) NotCanonical)) (λ _ _.
+    bind_if (term_at file wires end at) _ _ _ (term_over file wires end at) (λ term below.
     bind_if (terms_at file wires end n (at + 12)) _ _ _ (terms_over file wires end n (at + 12)) (λ others over.
-    All-cons (λ t. t.1 < wires) (number file 8 (at + 4), number file 4 at) others.value (ltb-true (number file 4 at) wires below) over))))
+    All-cons (λ t. t.1 < wires) term others.value below over))
 
 combination_over : (file : List ℕ) (wires end at : ℕ) → IfOk (combination_at file wires end at) (λ read. IsOver wires read.value)
 unfolding combination_at
 combination_over file wires end at =
-    bind_if (fit 4 at end) _ _ _ (any (fit 4 at end)) (λ _ _.
-    bind_if (unless (ltb 1048576 (number file 4 at)) at (TooWide (number file 4 at))) _ _ _ (any (unless (ltb 1048576 (number file 4 at)) at (TooWide (number file 4 at)))) (λ _ _.
-    terms_over file wires end (number file 4 at) (at + 4)))
+    bind_if (count_at file end at) _ _ _ (any (count_at file end at)) (λ count _. terms_over file wires end count (at + 4))
 
 constraint_over : (file : List ℕ) (wires end at : ℕ) → IfOk (constraint_at file wires end at) (λ read. AreOver wires read.value)
 unfolding constraint_at

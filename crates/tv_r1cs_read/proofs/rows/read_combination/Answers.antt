@@ -1,18 +1,70 @@
-use Rattle.std.proofs.Common.{sym, rules}
-use Rattle.std.proofs.lemmas.List.Elements.{All-nil}
-use Rattle.tv_r1cs_read.proofs.Ahead.{begins, combination_at-counted}
+use Rattle.std.proofs.Common.{◌≡◌, ℕ, ◌+◌, ◌-◌, ◌<◌, length, ap, arith, ◌∙◌, rules, refl}
+use Rattle.std.proofs.lemmas.List.{length_push}
+use Rattle.std.proofs.lemmas.List.Elements.{All-nil, All-push}
+use Rattle.std.proofs.lemmas.Result.{err_from_is_err_and}
+use Rattle.tv_container.proofs.Chain.{refuses_first}
+use Rattle.tv_r1cs_read.specs.R1cs.{combination_at}
+use Rattle.tv_r1cs_read.proofs.Ahead.{begins, combination_at-counted, ends, goes_on, refused}
 use Rattle.tv_r1cs_read.proofs.rows.read_combination.Goals as goal
+
+pub returns-in_err-count-clause-reads : goal.returns-in_err-count-clause-reads
+unfolding combination_at
+returns-in_err-count-clause-reads g c = record {
+  looks = search rules;
+  piece = search rules;
+  gives = λ file told piece end.
+      let p = err_from_is_err_and c.from_residual.result c.from_residual.ensures.1 in
+      rw (p.1, p.2) (refuses_first _ _ _ (c.in_err-count.ensures.reads.gives file told piece end));
+}
+
+pub loop-init : goal.loop-init
+loop-init g c = record {
+  outside = refl;
+  within = c.in_ok-count.ensures.within;
+  place = omega arith;
+  size = ap length c.clear.ensures;
+  wires = rw c.clear.ensures (All-nil _);
+  piece = λ file told piece. piece;
+  ahead = λ file told piece end.
+      let all : c.in_ok-count.count - 0 ≡ c.in_ok-count.count = omega arith in
+      rw (all, c.clear.ensures) (begins file _ _ _ _);
+}
+
+pub returns-in_err-wire-clause-reads : goal.returns-in_err-wire-clause-reads
+returns-in_err-wire-clause-reads g c = record {
+  looks = search rules;
+  piece = search rules;
+  gives = λ file told piece end.
+      let seen = rw (← c.in_ok-count.ensures.reads.looks) at told in
+      let here = c.in_ok-count.ensures.reads.piece file told piece in
+      let left : c.in_ok-count.count - c.loop.counter ≡ c.in_ok-count.count - (c.loop.counter + 1) + 1 = omega (arith, c.loop-test.true) in
+      let p = err_from_is_err_and c.from_residual-in_err-wire.result c.from_residual-in_err-wire.ensures.1 in
+      rw (p.1, p.2, combination_at-counted file _ _ _ _ (c.in_ok-count.ensures.reads.gives file told piece end))
+      (refused _ _ file _ _ _ _ _ _ (c.loop.invariant.ahead file seen here end) left
+      (c.in_err-wire.ensures.reads.gives file (rw (← c.loop.invariant.outside) at seen) (c.loop.invariant.piece file seen here) end));
+}
+
+pub loop-preserved : goal.loop-preserved
+loop-preserved g c = record {
+  outside = c.in_ok-wire.ensures.reads.looks ∙ c.loop.invariant.outside;
+  within = c.in_ok-wire.ensures.within;
+  place = omega (arith, c.loop.invariant.place);
+  size = omega (arith, ap length c.in_ok-push.ensures, length_push c.loop.terms (c.in_ok-wire.wire, c.in_ok-wire.coefficient), c.loop.invariant.size);
+  wires = rw c.in_ok-push.ensures (All-push (λ (t : ℕ × ℕ). t.0 < c.args.bounds.now.wires) _ _ c.loop.invariant.wires c.in_ok-wire.ensures.wire);
+  piece = λ file seen here. c.in_ok-wire.ensures.reads.piece file (rw (← c.loop.invariant.outside) at seen) (c.loop.invariant.piece file seen here);
+  ahead = λ file seen here end.
+      let left : c.in_ok-count.count - c.loop.counter ≡ c.in_ok-count.count - (c.loop.counter + 1) + 1 = omega (arith, c.loop-test.true) in
+      rw c.in_ok-push.ensures (goes_on _ _ file _ _ _ _ _ _ _ (c.loop.invariant.ahead file seen here end) left
+      (c.in_ok-wire.ensures.reads.gives file (rw (← c.loop.invariant.outside) at seen) (c.loop.invariant.piece file seen here) end));
+}
 
 pub returns-clause-reads : goal.returns-clause-reads
 returns-clause-reads g c = record {
   looks = search rules;
   piece = search rules;
   gives = λ file told piece end.
-      let held = c.in_ok-fit_below.ensures.reads.piece file told piece in
-      let counted = combination_at-counted file c.args.bounds.now.wires c.args.bounds.now.end c.args.at c.word-count.result _
-      (c.in_ok-fit_below.ensures.reads.gives file told piece end) (sym (c.word-count.ensures file held)) c.if-count-gt-WIDEST.false in
-      rw counted (c.read_terms.ensures.reads.gives file (rw (← c.in_ok-fit_below.ensures.reads.looks) at told) held end _ (rw c.clear.ensures (begins file _ _ _ _)));
+      let seen = rw (← c.in_ok-count.ensures.reads.looks) at told in
+      let here = c.in_ok-count.ensures.reads.piece file told piece in
+      rw (combination_at-counted file _ _ _ _ (c.in_ok-count.ensures.reads.gives file told piece end))
+      (ends _ _ file _ _ _ _ (c.loop.invariant.ahead file seen here end) (omega (arith, c.loop-test.false)));
 }
-
-pub returns-clause-wires : goal.returns-clause-wires
-returns-clause-wires g c = c.read_terms.ensures.wires (rw c.clear.ensures (All-nil _))

@@ -1,6 +1,7 @@
 use Rattle.std.proofs.Common.{◌≡◌, ◌+◌, ◌-◌, ◌<◌, ◌≤◌, arith, sym, ⊎_elim}
 use Rattle.std.proofs.lemmas.Bool.{cases_lt}
 use Rattle.tv_core.specs.declared.field.TheConstants.{P}
+use Rattle.tv_r1cs_read.proofs.Ahead.{term_at-good}
 use Rattle.tv_r1cs_read.proofs.Summing.{passes}
 use Rattle.tv_r1cs_read.proofs.tried.good_terms.Goals as goal
 
@@ -12,6 +13,6 @@ loop-good-preserved c = record {
       let one : k + (c.loop-good.good + 1) ≡ k + c.loop-good.good + 1 = omega arith in
       let fits : c.loop-good.at + 12 ≤ c.args.bounds.now.end = omega (arith, c.loop-good-test.true, c.loop-good.invariant.place, c.requires.within) in
       let canonical : c.long.result < P = ⊎_elim (λ below. below) (λ above. cc (c.in-Some.ensures.none.1 above)) (cases_lt c.long.result P) in
-      passes answer file _ _ _ _ _ _ _ _ _ _ (c.loop-good.invariant.sums file piece answer k n sum enough summed) one left fits
-      (sym (c.word.ensures file piece)) c.if-word-bounds.false (sym (c.long.ensures file piece)) canonical;
+      let is = term_at-good file c.args.bounds.now.wires c.args.bounds.now.end c.loop-good.at _ _ fits (sym (c.word.ensures file piece)) c.if-word-bounds.false (sym (c.long.ensures file piece)) canonical in
+      passes answer file _ _ _ _ _ _ _ _ _ _ (c.loop-good.invariant.sums file piece answer k n sum enough summed) one left is;
 }

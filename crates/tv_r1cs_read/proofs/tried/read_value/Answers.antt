@@ -1,21 +1,71 @@
-use Rattle.std.proofs.Common.{sym, rules}
+use Rattle.std.proofs.Common.{◌≡◌, ◌+◌, ◌-◌, ◌*◌, arith, ◌∙◌, rules, refl}
 use Rattle.std.proofs.lemmas.Result.{err_from_is_err_and}
-use Rattle.tv_r1cs_read.proofs.Ahead.{combination_at-counted}
-use Rattle.tv_r1cs_read.proofs.Summing.{starts}
+use Rattle.tv_container.proofs.Chain.{refuses_first}
+use Rattle.tv_r1cs_read.specs.R1cs.{combination_at}
+use Rattle.tv_r1cs_read.proofs.Ahead.{combination_at-counted, refused}
+use Rattle.tv_r1cs_read.proofs.Summing.{adds, comes_to, counted, starts}
 use Rattle.tv_r1cs_read.proofs.tried.read_value.Goals as goal
 
-pub returns-in_err-value-clause-reads : goal.returns-in_err-value-clause-reads
-returns-in_err-value-clause-reads g c = record {
+pub returns-in_err-terms-clause-reads : goal.returns-in_err-terms-clause-reads
+unfolding combination_at
+returns-in_err-terms-clause-reads g c = record {
   looks = search rules;
   piece = search rules;
   gives = λ file told piece end.
-      let seen = rw (← c.in_ok-reach.ensures.reads.looks) at told in
-      let here = c.in_ok-reach.ensures.reads.piece file told piece in
-      let held = c.in_ok-fit_below.ensures.reads.piece file seen here in
-      let counted = combination_at-counted file c.args.bounds.now.wires c.args.bounds.now.end c.args.at c.word-terms.result _
-      (c.in_ok-fit_below.ensures.reads.gives file seen here end) (sym (c.word-terms.ensures file held)) c.if-terms-gt-WIDEST.false in
-      let p = err_from_is_err_and c.from_residual-in_err-value.result c.from_residual-in_err-value.ensures.1 in
-      rw (p.1, p.2, counted) (c.in_err-value.ensures.reads.gives file (rw (← c.in_ok-fit_below.ensures.reads.looks) at seen) held end _ (starts file _ _ _ _ _));
+      let p = err_from_is_err_and c.from_residual.result c.from_residual.ensures.1 in
+      rw (p.1, p.2) (refuses_first _ _ _ (c.in_err-terms.ensures.reads.gives file told piece end));
+}
+
+pub loop-left-init : goal.loop-left-init
+loop-left-init g c = record {
+  outside = refl;
+  within = c.in_ok-terms.ensures.within;
+  most = omega arith;
+  place = refl;
+  small = omega (arith, c.new-sum.ensures);
+  piece = λ file told piece. piece;
+  sums = λ file told piece end.
+      let none : c.in_ok-terms.terms - c.in_ok-terms.terms ≡ 0 = omega arith in
+      rw (none, c.new-sum.ensures) (starts file _ _ _ _ _);
+}
+
+pub returns-in_err-wire-clause-reads : goal.returns-in_err-wire-clause-reads
+returns-in_err-wire-clause-reads g c = record {
+  looks = search rules;
+  piece = search rules;
+  gives = λ file told piece end.
+      let seen = rw (← c.in_ok-terms.ensures.reads.looks) at told in
+      let here = c.in_ok-terms.ensures.reads.piece file told piece in
+      let left : c.loop-left.left ≡ c.loop-left.left - 1 + 1 = omega (arith, c.loop-left-test.true) in
+      let summed = c.loop-left.invariant.sums file seen here end in
+      let p = err_from_is_err_and c.from_residual-in_err-wire.result c.from_residual-in_err-wire.ensures.1 in
+      rw (p.1, p.2, combination_at-counted file _ _ _ _ (c.in_ok-terms.ensures.reads.gives file told piece end))
+      (refused _ _ file _ _ _ _ _ _ summed.ahead left
+      (c.in_err-wire.ensures.reads.gives file (rw (← c.loop-left.invariant.outside) at seen) (c.loop-left.invariant.piece file seen here) end));
+}
+
+pub loop-left-preserved : goal.loop-left-preserved
+loop-left-preserved g c = record {
+  outside = c.in_ok-wire.ensures.reads.looks ∙ c.loop-left.invariant.outside;
+  within = omega (arith, c.whole_terms.ensures.within, c.min-some.ensures, c.from.ensures, c.sum_far-good.ensures.most);
+  most = omega (arith, c.loop-left.invariant.most);
+  place = omega (arith, c.loop-left.invariant.place, c.min-some.ensures, c.from.ensures, c.sum_far-good.ensures.most);
+  small = omega (arith, c.loop-left.invariant.small, c.add.ensures.small, c.sum_far-good.ensures.small, c.sum_far-good.ensures.most, c.min-some.ensures);
+  piece = λ file seen here. c.in_ok-wire.ensures.reads.piece file (rw (← c.loop-left.invariant.outside) at seen) (c.loop-left.invariant.piece file seen here);
+  sums = λ file seen here end.
+      let terms = c.in_ok-terms.terms in
+      let left = c.loop-left.left in
+      let good = c.sum_far-good.result.0 in
+      let one : left ≡ left - 1 + 1 = omega (arith, c.loop-left-test.true) in
+      let count : terms - (left - (1 + good)) ≡ terms - left + 1 + good = omega (arith, c.loop-left.invariant.most, c.min-some.ensures, c.sum_far-good.ensures.most) in
+      let rest : left - (1 + good) ≡ left - 1 - good = omega arith in
+      let place : c.loop-left.at + 12 * c.from.result ≡ c.loop-left.at + 12 + 12 * good = omega (arith, c.from.ensures) in
+      let now = rw (← c.loop-left.invariant.outside) at seen in
+      let held = c.loop-left.invariant.piece file seen here in
+      let read = adds _ file _ _ _ (terms - left) (terms - left + 1) left (left - 1) _ _ _ _ (c.loop-left.invariant.sums file seen here end) refl one
+      (c.in_ok-wire.ensures.reads.gives file now held end) in
+      rw (count, rest, place) (c.sum_far-good.ensures.sums file (c.in_ok-wire.ensures.reads.piece file now held) _ _ _ (omega (arith, c.min-some.ensures))
+      (rw (c.add.ensures.sum, c.value_at.ensures) read));
 }
 
 pub returns-clause-reads : goal.returns-clause-reads
@@ -23,10 +73,12 @@ returns-clause-reads g c = record {
   looks = search rules;
   piece = search rules;
   gives = λ file told piece end.
-      let seen = rw (← c.in_ok-reach.ensures.reads.looks) at told in
-      let here = c.in_ok-reach.ensures.reads.piece file told piece in
-      let held = c.in_ok-fit_below.ensures.reads.piece file seen here in
-      let counted = combination_at-counted file c.args.bounds.now.wires c.args.bounds.now.end c.args.at c.word-terms.result _
-      (c.in_ok-fit_below.ensures.reads.gives file seen here end) (sym (c.word-terms.ensures file held)) c.if-terms-gt-WIDEST.false in
-      rw (counted, c.held_from.ensures.from, c.from.ensures) (c.in_ok-value.ensures.reads.gives file (rw (← c.in_ok-fit_below.ensures.reads.looks) at seen) held end _ (starts file _ _ _ _ _));
+      let seen = rw (← c.in_ok-terms.ensures.reads.looks) at told in
+      let here = c.in_ok-terms.ensures.reads.piece file told piece in
+      let none : c.loop-left.left ≡ 0 = omega (arith, c.loop-left-test.false) in
+      let all : c.in_ok-terms.terms - 0 ≡ c.in_ok-terms.terms = omega arith in
+      let place : c.loop-left.at ≡ c.args.at + 4 + 12 * c.in_ok-terms.terms = omega (arith, none, c.loop-left.invariant.place) in
+      let done = rw (none, all, place) at (c.loop-left.invariant.sums file seen here end) in
+      rw (c.held_from.ensures.from, place) (counted file _ _ _ _ _ _ _ (c.in_ok-terms.ensures.reads.gives file told piece end)
+      (comes_to _ file _ _ _ _ _ _ _ _ done refl c.value.ensures));
 }

@@ -1,5 +1,6 @@
 use Rattle.std.proofs.Common.{◌≡◌, ◌+◌, ◌≤◌, arith, sym}
 use Rattle.tv_r1cs_read.specs.R1cs.{terms_at}
+use Rattle.tv_r1cs_read.proofs.Ahead.{count_at-good}
 use Rattle.tv_r1cs_read.proofs.Summing.{starts, comes_to, counted}
 use Rattle.tv_r1cs_read.proofs.tried.value_held.Goals as goal
 
@@ -14,5 +15,5 @@ returns-clause-gives c = λ file piece.
     let none : 0 + count ≡ count = omega arith in
     let whole = rw (all, none) at summed in
     rw c.behind.ensures.from
-    (counted file _ _ _ _ _ _ _ room (sym (c.in_ok-terms.ensures.counts file piece)) c.in_ok-terms.ensures.narrow
+    (counted file _ _ _ _ _ _ _ (count_at-good file _ _ _ room (sym (c.in_ok-terms.ensures.counts file piece)) c.in_ok-terms.ensures.narrow)
     (comes_to answer file _ _ _ _ _ _ _ _ whole (omega arith) c.value.ensures))

@@ -1,0 +1,124 @@
+//! A count of terms, or a term, at a place of section 2.
+
+ghost use Rattle.std.specs.Prelude.{◌≡◌, ◌+◌, ◌≤◌, ◌<◌, ◌^◌, OnOk, IfOk};
+ghost use Rattle.tv_container.specs.Places.{fit, places};
+ghost use Rattle.tv_container.specs.Reading.{Gives, GivesBy, Holds, ReadsIn};
+ghost use Rattle.tv_r1cs_read.specs.R1cs.{count_at, term_at};
+
+use tv_container::{ReadRefusal, ReadWhy, Window};
+use tv_core::F;
+use tv_files::Files;
+
+/// The most terms of a combination.
+pub(crate) const WIDEST: u32 = 1_048_576;
+
+/// The bytes of a term: four of the wire, eight of the coefficient.
+pub const TERM_BYTES: u64 = 12;
+
+/// What bounds the terms: each wire is below `wires`, and section 2 ends at `end`.
+#[derive(Clone, Copy)]
+pub(crate) struct Bounds {
+    pub(crate) wires: u32,
+    pub(crate) end: u64,
+}
+
+// Reads on to a place until the window holds so many bytes there; bytes that pass the end of
+// section 2 are `Truncated` at the place.
+#[inline(always)]
+fn fit_below<D: Files>(
+    files: &mut D,
+    name: &str,
+    window: &mut Window,
+    bounds: &Bounds,
+    at: u64,
+    size: usize,
+) -> Result<(), ReadRefusal>
+    requires some { 0 < size }
+    requires small { size ≤ 4096 }
+    requires before { at ≤ bounds.now.end }
+    ensures held { OnOk result (Holds window.new at size) }
+    ensures within { OnOk result (at + size ≤ bounds.now.end) }
+    ensures place { OnOk result (at + size < 2 ^ 64) }
+    ensures reads { ReadsIn (D.seen files.old) (D.seen files.new) name.now window.old window.new
+        result
+        (λ file. bounds.now.end ≤ places file → Gives result (fit size at bounds.now.end)) }
+{
+    if bounds.end - at < size as u64 {
+        return Err(ReadRefusal::Bad {
+            at,
+            why: ReadWhy::Truncated,
+        });
+    }
+    if window.holds(at, size) {
+        return Ok(());
+    }
+    window.fit(files, name, at, size)
+}
+
+/// Reads how many terms the combination at a place has.
+#[inline(always)]
+#[tactic(auto, unfolding(crate::specs::R1cs::count_at))]
+pub(crate) fn read_count<D: Files>(
+    files: &mut D,
+    name: &str,
+    window: &mut Window,
+    bounds: &Bounds,
+    at: u64,
+) -> Result<u32, ReadRefusal>
+    requires { at ≤ bounds.now.end }
+    ensures narrow { IfOk result (λ count. count ≤ WIDEST) }
+    ensures within { OnOk result (at + 4 ≤ bounds.now.end) }
+    ensures place { OnOk result (at + 4 < 2 ^ 64) }
+    ensures reads { ReadsIn (D.seen files.old) (D.seen files.new) name.now window.old window.new
+        result
+        (λ file. bounds.now.end ≤ places file → Gives result (count_at file bounds.now.end at)) }
+{
+    fit_below(files, name, window, bounds, at, 4)?;
+    let terms = window.word(at);
+    if terms > WIDEST {
+        return Err(ReadRefusal::Bad {
+            at,
+            why: ReadWhy::TooWide { terms },
+        });
+    }
+    Ok(terms)
+}
+
+/// Reads the term at a place: its wire, and its coefficient.
+#[inline(always)]
+#[tactic(auto, unfolding(crate::specs::R1cs::term_at))]
+pub(crate) fn read_term<D: Files>(
+    files: &mut D,
+    name: &str,
+    window: &mut Window,
+    bounds: &Bounds,
+    at: u64,
+) -> Result<(u32, F), ReadRefusal>
+    requires { at ≤ bounds.now.end }
+    ensures held { OnOk result (Holds window.new at 12) }
+    ensures within { OnOk result (at + 12 ≤ bounds.now.end) }
+    ensures wire { IfOk result (λ term. term.0 < bounds.now.wires) }
+    ensures reads { ReadsIn (D.seen files.old) (D.seen files.new) name.now window.old window.new
+        result
+        (λ file. bounds.now.end ≤ places file → GivesBy result (λ term. (term.1, term.0))
+        (term_at file bounds.now.wires bounds.now.end at)) }
+{
+    fit_below(files, name, window, bounds, at, TERM_BYTES as usize)?;
+    let wire = window.word(at);
+    if wire >= bounds.wires {
+        return Err(ReadRefusal::Bad {
+            at,
+            why: ReadWhy::WireRange {
+                wire,
+                wires: bounds.wires,
+            },
+        });
+    }
+    let Some(coefficient) = F::canon(window.long(at + 4)) else {
+        return Err(ReadRefusal::Bad {
+            at: at + 4,
+            why: ReadWhy::NotCanonical,
+        });
+    };
+    Ok((wire, coefficient))
+}
