@@ -65,6 +65,11 @@ judge-more header z x done next =
     rw (first_failure-more z done next)
     (more (length z == header.wires) (first_difference (1 ∷ x) (take (1 + header.outputs + header.inputs) z)) (first_failure z 0 done) (length z) header.wires (length done) (holds z next))
 
+pub judged_more : (header : Header) (z x : List ℕ) (done : List Constraint) (next : Constraint) (before now : Verdict) (at : ℕ) (test : Bool) →
+    before ≡ judge (system_with header done) z x → at ≡ length done → test ≡ holds z next → now ≡ tried before at test →
+    now ≡ judge (system_with header (done ++ next ∷ [])) z x
+judged_more header z x done next before now at test judged count is told = told ∙ rw (judged, count, is) (sym (judge-more header z x done next))
+
 -- the verdict on a system that was read, and what is refused of it
 pub verdict_of-read : (file z x : List ℕ) (system : System) → system_of file ≡ Ok system → verdict_of file z x ≡ Ok (judge system z x)
 unfolding verdict_of

@@ -11,12 +11,12 @@ use Rattle.tv_container.specs.Places.{Fault, ◌>>=◌, wrong}
 use Rattle.tv_r1cs_read.specs.Places.{HasRead, IsAt, IsAll}
 use Rattle.tv_r1cs_read.specs.Progress.{Reached, Follows, ahead}
 use Rattle.tv_r1cs_read.specs.R1cs.{constraint_at, constraints_from, header_of, system_of}
-use Rattle.tv_container.specs.Reading.{Refuses, IsTold, Stopped}
-use Rattle.tv_files.specs.Outside.{Outside}
+use Rattle.tv_container.specs.Reading.{Refuses}
 use Rattle.tv_r1cs_read.specs.Rows.{constraint_of, terms_in}
-use Rattle.tv_r1cs_read.specs.Sums.{Ended, Passed}
+use Rattle.tv_r1cs_read.specs.Steps.{Passed}
+use Rattle.tv_r1cs_read.specs.Sums.{Ended}
 use Rattle.tv_r1cs_read.specs.Survey.{terms_of, survey_of}
-use Rattle.tv_container.proofs.Chain.{made, refuses_first, stopped_here}
+use Rattle.tv_container.proofs.Chain.{made, refuses_first}
 use Rattle.tv_r1cs_read.proofs.Constraints.{constraints_from-refuses}
 
 -- at first none was read
@@ -125,30 +125,18 @@ passed_more file reached rows more next place = (more ++ next ∷ [], rw (← ap
 
 -- reading ended behind those that were passed
 pub passed_all : (file : List ℕ) (reached : Reached) (rows more : List Constraint) →
-    MatchOption reached.stopped (IsAll reached file (rows ++ more)) (λ why. Refuses why (system_of file)) → Passed reached file rows
+    MatchOption reached.stopped (IsAll reached file (rows ++ more)) (λ why. Refuses why (system_of file)) →
+    MatchOption reached.stopped (Passed reached file rows) (λ why. Refuses why (system_of file))
 passed_all file reached rows more ended = by_stop reached.stopped ended
   where
     by_stop : (stopped : Option ReadRefusal) → MatchOption stopped (IsAll reached file (rows ++ more)) (λ why. Refuses why (system_of file)) →
-        MatchOption stopped ((more : List Constraint) × IsAll reached file (rows ++ more)) (λ why. Refuses why (system_of file))
+        MatchOption stopped (Passed reached file rows) (λ why. Refuses why (system_of file))
     by_stop None all = (more, all)
     by_stop (Some why) refuses = refuses
 
--- behind the last constraint reading is done, or it stopped
-pub ended_at : (file : List ℕ) (old new : Reached) (rows : List Constraint) → IsAt old file rows →
-    MatchOption new.stopped ((new ≡ old) × (ahead old file ≡ Ok [])) (λ why. Refuses why (ahead old file)) →
-    MatchOption new.stopped (IsAll new file rows) (λ why. Refuses why (system_of file))
-ended_at file old new rows place ended = by_stop new.stopped ended
-  where
-    by_stop : (stopped : Option ReadRefusal) → MatchOption stopped ((new ≡ old) × (ahead old file ≡ Ok [])) (λ why. Refuses why (ahead old file)) →
-        MatchOption stopped (IsAll new file rows) (λ why. Refuses why (system_of file))
-    by_stop None none = rw none.0 (all_at file old rows place none.1)
-    by_stop (Some why) refuses = refuses_ahead file old rows why place refuses
-
--- where nothing was read, reading goes on or was stopped by what was read before
-pub ended_here : (outside : Outside) (name : List ℕ) (stopped : Option ReadRefusal) → ((why : ReadRefusal) → stopped ≡ Some why → IsTold why) →
-    MatchOption stopped (outside ≡ outside) (λ why. Stopped outside outside name why)
-ended_here outside name None told = refl
-ended_here outside name (Some why) told = stopped_here outside name why (told why refl)
+-- what is given where reading is on
+pub is_on : {Gives : Type 0} (file : List ℕ) (stopped : Option ReadRefusal) → stopped ≡ None → Gives → MatchOption stopped Gives (λ why. Refuses why (system_of file))
+is_on file stopped on gives = rw on gives
 
 -- a constraint that was not given stops reading
 pub ended_row : {A : Type 0} (file : List ℕ) (old new : Reached) (rows : List Constraint) (Gives : A → Type 0) → IsAt old file rows →

@@ -3,5 +3,6 @@ pub mod Places
 pub mod Progress
 pub mod R1cs
 pub mod Rows
-pub mod Survey
+pub mod Steps
 pub mod Sums
+pub mod Survey

@@ -1,13 +1,11 @@
 -- The place in a system's file that reading has come to, by the constraints that it has given.
-use Rattle.std.specs.Prelude.{◌≡◌, ℕ, Bool, true, false, List, [], ◌∷◌, ◌++◌, Option, Some, None, Result, Ok}
+use Rattle.std.specs.Prelude.{◌≡◌, ℕ, List, ◌++◌, Result, Ok}
 use Rattle.tv_core.specs.Constraints.{Constraint, System}
 use Rattle.tv_core.specs.Meanings.{terms_in}
 use Rattle.tv_container.specs.Places.{Fault, ◌>>=◌}
 use Rattle.tv_r1cs_read.specs.declared.header.Header.{Header}
-use Rattle.tv_r1cs_read.specs.declared.rows.Row.{Row}
 use Rattle.tv_r1cs_read.specs.Progress.{Reached, Follows, ahead, counts_of}
 use Rattle.tv_r1cs_read.specs.R1cs.{constraints_from, header_of, system_of}
-use Rattle.tv_r1cs_read.specs.Rows.{constraint_of}
 use Rattle.tv_r1cs_read.specs.Survey.{survey_of}
 
 -- the system of a header and of constraints
@@ -33,13 +31,3 @@ pub record IsAll (reached : Reached) (file : List ℕ) (rows : List Constraint) 
   pub place : IsAt reached file rows
   pub system : system_of file ≡ Ok (system_with reached.header rows)
   pub counts : survey_of file ≡ Ok (counts_of reached)
-
--- reading went on from these constraints: it gave one more, or they are all
-abbrev pub Gave : Bool → Row → Reached → List ℕ → List Constraint → Type 0
-Gave true row reached file rows = IsAt reached file (rows ++ constraint_of row ∷ [])
-Gave false row reached file rows = IsAll reached file rows
-
--- the same of a row that was given, or none
-abbrev pub GaveBy : Option Row → Reached → List ℕ → List Constraint → Type 0
-GaveBy (Some row) reached file rows = Gave true row reached file rows
-GaveBy None reached file rows = IsAll reached file rows

@@ -1,14 +1,12 @@
 -- How far reading of a system has come, and what is ahead.
-use Rattle.std.specs.Prelude.{◌≡◌, ℕ, ◌+◌, ◌*◌, ◌^◌, ◌<◌, ◌≤◌, Bool, true, false, List, Option, Some, None, Result}
+use Rattle.std.specs.Prelude.{◌≡◌, ℕ, ◌+◌, ◌*◌, ◌^◌, ◌<◌, ◌≤◌, List, Option, None, Result}
 use Rattle.tv_core.specs.Constraints.{Constraint}
 use Rattle.tv_core.specs.declared.lines.Counts.{Counts}
 use Rattle.tv_r1cs_read.specs.declared.header.Header.{Header}
-use Rattle.tv_r1cs_read.specs.declared.rows.Row.{Row}
 use Rattle.tv_container.specs.declared.why.ReadRefusal.{ReadRefusal}
 use Rattle.tv_container.specs.Places.{Fault, places}
 use Rattle.tv_container.specs.Reading.{Piece, IsPiece}
 use Rattle.tv_r1cs_read.specs.R1cs.{HasRoom, constraints_from}
-use Rattle.tv_r1cs_read.specs.Rows.{terms_in, IsOver}
 
 -- what is known of the file: its header, and the piece of it that was read last; the place of the next
 -- constraint, how many are left, and how many terms those had that were given; and whether reading stopped
@@ -20,11 +18,11 @@ pub record Reached : Type 0 where
   pub terms : ℕ
   pub stopped : Option ReadRefusal
 
--- the next constraint's place is in section 2, whose places are below 2^64
-pub record IsWithin (reached : Reached) : Type 0 where
-  pub within : reached.at ≤ reached.header.rows.at + reached.header.rows.size
-  pub ends : reached.header.rows.at + reached.header.rows.size < 2 ^ 64
-  pub counted : reached.header.rows.at + 12 * reached.terms ≤ reached.at
+-- the next constraint's place is in section 2, whose places are below 2^64, and behind the terms that were given
+pub record IsWithin (header : Header) (at terms : ℕ) : Type 0 where
+  pub within : at ≤ header.rows.at + header.rows.size
+  pub ends : header.rows.at + header.rows.size < 2 ^ 64
+  pub counted : header.rows.at + 12 * terms ≤ at
 
 -- no constraint was read, and there is a wire for the constant 1 and each public number
 pub record IsBegun (reached : Reached) : Type 0 where
@@ -53,13 +51,3 @@ counts_of reached = record {
   constraints = reached.header.constraints;
   terms = reached.terms;
 }
-
--- reading went on by a row, whose wires are the system's, or nothing was left
-abbrev pub WentOn : Bool → Row → Reached → Reached → Type 0
-WentOn true row old new = (new.terms ≡ old.terms + terms_in row) × (new.left + 1 ≡ old.left) × IsOver old.header.wires row
-WentOn false row old new = (new.terms ≡ old.terms) × (new.left ≡ old.left)
-
--- the same of a row that was given, or none
-abbrev pub WentOnBy : Option Row → Reached → Reached → Type 0
-WentOnBy (Some row) old new = WentOn true row old new
-WentOnBy None old new = (new.terms ≡ old.terms) × (new.left ≡ old.left)

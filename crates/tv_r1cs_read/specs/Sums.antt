@@ -1,14 +1,11 @@
 -- Constraints that are tried as they are read, with no term kept.
-use Rattle.std.specs.Prelude.{◌≡◌, ℕ, ◌*◌, Bool, List, [], ◌∷◌, ◌++◌, length, Option, Some, None, Result, Ok, MatchOption, slice_index}
+use Rattle.std.specs.Prelude.{◌≡◌, ℕ, ◌*◌, Bool, List, length, Option, Some, None, Result, Ok, slice_index}
 use Rattle.std.specs.List.{sum_by}
 use Rattle.tv_core.specs.Constraints.{Combination, Constraint, value}
 use Rattle.tv_core.specs.Meanings.{holds}
 use Rattle.tv_container.specs.Places.{Fault}
-use Rattle.tv_container.specs.Reading.{Refuses}
 use Rattle.tv_container.specs.declared.why.ReadRefusal.{ReadRefusal}
-use Rattle.tv_r1cs_read.specs.Places.{IsAt, IsAll}
-use Rattle.tv_r1cs_read.specs.Progress.{Reached}
-use Rattle.tv_r1cs_read.specs.R1cs.{Read, system_of}
+use Rattle.tv_r1cs_read.specs.R1cs.{Read}
 use Rattle.tv_r1cs_read.specs.Rows.{IsAhead}
 use Rattle.tv_r1cs_read.specs.Survey.{terms_of}
 
@@ -38,19 +35,3 @@ abbrev pub Ended : {A : Type 0} → Option A → Option ReadRefusal → (A → T
 Ended (Some value) stopped Gives Stops = (stopped ≡ None) × Gives value
 Ended None (Some why) Gives Stops = Stops why
 Ended None None Gives Stops = ⊥
-
--- reading has given one constraint behind these, and it holds under an assignment or not
-pub record HasTried (test : Bool) (z : List ℕ) (reached : Reached) (file : List ℕ) (rows : List Constraint) : Type 0 where
-  pub constraint : Constraint
-  pub place : IsAt reached file (rows ++ constraint ∷ [])
-  pub is : test ≡ holds z constraint
-
--- reading went on from these constraints by one that was tried; or they are all; or it stopped
-abbrev pub GaveTried : Option Bool → List ℕ → Reached → List ℕ → List Constraint → Type 0
-GaveTried (Some test) z reached file rows = HasTried test z reached file rows
-GaveTried None z reached file rows = MatchOption reached.stopped (IsAll reached file rows) (λ why. Refuses why (system_of file))
-
--- reading went on to the end from these constraints: with those behind them they are all; or it stopped
-abbrev pub Passed : Reached → List ℕ → List Constraint → Type 0
-Passed reached file rows =
-    MatchOption reached.stopped ((more : List Constraint) × IsAll reached file (rows ++ more)) (λ why. Refuses why (system_of file))

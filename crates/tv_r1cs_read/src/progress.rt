@@ -1,12 +1,11 @@
-ghost use Rattle.std.specs.Prelude.{◌≡◌, ℕ, ◌+◌, List, [], Some, None, Ok, Err, IfOk, IfErr, OnOk};
-ghost use Rattle.std.specs.Prelude.{MatchResult, MatchOption, IfSome, OnErr, true, false};
-ghost use Rattle.tv_core.specs.Constraints.{Constraint};
-ghost use Rattle.tv_r1cs_read.specs.Places.{IsAt, Gave};
-ghost use Rattle.tv_r1cs_read.specs.Progress.{ahead, counts_of, IsBegun, WentOn};
-ghost use Rattle.tv_r1cs_read.specs.R1cs.{header_of, system_of};
-ghost use Rattle.tv_r1cs_read.specs.Sums.{GaveTried};
-ghost use Rattle.tv_container.specs.Reading.{Looks, Refuses, IsMissing, IsTold, Known, Stopped};
+ghost use Rattle.std.specs.Prelude.{◌≡◌, ℕ, ◌+◌, List, [], None, Err, IfOk, IfSome, MatchResult};
+ghost use Rattle.tv_files.specs.Outside.{Outside};
+ghost use Rattle.tv_container.specs.Reading.{Looks, Refuses, IsMissing, Known};
 ghost use Rattle.tv_container.specs.declared.why.ReadRefusal.{ReadRefusal};
+ghost use Rattle.tv_r1cs_read.specs.Places.{IsAll, IsAt};
+ghost use Rattle.tv_r1cs_read.specs.Progress.{counts_of, IsBegun};
+ghost use Rattle.tv_r1cs_read.specs.R1cs.{header_of, system_of};
+ghost use Rattle.tv_r1cs_read.specs.Steps.{Gave, GaveTried, Steps, Tells, WentOn};
 
 use crate::header::{Header, read_header};
 use crate::rows::{Row, read_row};
@@ -43,14 +42,7 @@ impl Model for Progress {
       stopped = p.stopped;
     } };
 
-    ghost invariant = { λ p. IsWithin (record {
-      header = p.header;
-      piece = p.window;
-      at = p.at;
-      left = p.left;
-      terms = p.terms;
-      stopped = p.stopped;
-    }) };
+    ghost invariant = { λ p. IsWithin p.header p.at p.terms };
 }
 
 impl Progress {
@@ -96,18 +88,10 @@ impl Progress {
         name: &str,
         row: &mut Row,
     ) -> Result<bool, ReadRefusal>
-        ensures gives { (rows : List Constraint)
-            → Known (D.seen files.old) name.now (λ file. IsAt self.old file rows →
-            MatchResult result (λ more. Gave more row.new self.new file rows)
-            (λ why. Refuses why (system_of file))) }
+        ensures steps { Steps (D.seen files.old) (D.seen files.new) name.now self.old self.new
+            (λ file rows. IfOk result (λ more. Gave more row.new self.new file rows)) }
+        ensures tells { Tells result self.new.stopped }
         ensures counts { IfOk result (λ more. WentOn more row.new self.old self.new) }
-        ensures header { self.new.header ≡ self.old.header }
-        ensures again { (why : ReadRefusal) → self.old.stopped ≡ Some why →
-            (result ≡ Err why) × (self.new ≡ self.old) × (D.seen files.new ≡ D.seen files.old) }
-        ensures stops { IfErr result (λ why. self.new.stopped ≡ Some why) }
-        ensures goes { OnOk result (self.new.stopped ≡ None) }
-        ensures looks { self.old.stopped ≡ None → Looks (D.seen files.old) (D.seen files.new)
-            name.now result }
     {
         if let Some(refusal) = self.stopped {
             return Err(refusal);
@@ -150,17 +134,10 @@ impl Progress {
         name: &str,
         values: &[F],
     ) -> Option<bool>
-        ensures gives { (rows : List Constraint)
-            → Known (D.seen files.old) name.now (λ file. IsAt self.old file rows →
-            GaveTried result values.now self.new file rows) }
-        ensures left { IfSome result (λ _. self.new.left + 1 ≡ self.old.left) }
-        ensures header { self.new.header ≡ self.old.header }
-        ensures again { (why : ReadRefusal) → self.old.stopped ≡ Some why →
-            (result ≡ None) × (self.new ≡ self.old) × (D.seen files.new ≡ D.seen files.old) }
+        ensures steps { Steps (D.seen files.old) (D.seen files.new) name.now self.old self.new
+            (λ file rows. GaveTried result values.now self.new file rows) }
         ensures goes { IfSome result (λ _. self.new.stopped ≡ None) }
-        ensures looks { self.old.stopped ≡ None → MatchOption self.new.stopped
-            (D.seen files.new ≡ D.seen files.old)
-            (λ why. Stopped (D.seen files.old) (D.seen files.new) name.now why) }
+        ensures left { IfSome result (λ _. self.new.left + 1 ≡ self.old.left) }
     {
         if self.stopped.is_some() {
             return None;
@@ -191,11 +168,10 @@ impl Progress {
     fn end(&mut self)
         requires on { self.old.stopped ≡ None }
         requires none { self.old.left ≡ 0 }
-        ensures gives { (file : List ℕ) → MatchOption self.new.stopped
-            ((self.new ≡ self.old) × (ahead self.old file ≡ Ok []))
-            (λ why. Refuses why (ahead self.old file)) }
-        ensures told { (why : ReadRefusal) → self.new.stopped ≡ Some why → IsTold why }
-        ensures header { self.new.header ≡ self.old.header }
+        ensures steps { (outside : Outside) → (name : List ℕ)
+            → Steps outside outside name self.old self.new (λ file rows. IsAll self.new file rows) }
+        ensures terms { self.new.terms ≡ self.old.terms }
+        ensures left { self.new.left ≡ self.old.left }
     {
         let rows = self.header.rows;
         if self.at < rows.at + rows.size {

@@ -1,13 +1,12 @@
-ghost use Rattle.std.specs.Prelude.{◌≡◌, [], List, Some, None, Err, IfOk, IfErr, OnOk};
-ghost use Rattle.std.specs.Prelude.{MatchResult, MatchOption, IfSome, ◌+◌};
-ghost use Rattle.tv_core.specs.Constraints.{Constraint};
-ghost use Rattle.tv_r1cs_read.specs.Places.{IsAt, Gave, GaveBy};
-ghost use Rattle.tv_r1cs_read.specs.Progress.{counts_of, IsBegun, WentOn, WentOnBy};
-ghost use Rattle.tv_r1cs_read.specs.R1cs.{header_of, system_of};
+ghost use Rattle.std.specs.Prelude.{◌≡◌, ◌+◌, [], None, Err, IfOk, IfErr, IfSome, MatchResult};
 ghost use Rattle.tv_container.specs.Reading.{Looks, Stopped, Gives, Refuses, IsMissing, Known};
-ghost use Rattle.tv_r1cs_read.specs.Sums.{GaveTried, Passed};
-ghost use Rattle.tv_r1cs_read.specs.Survey.{survey_of};
 ghost use Rattle.tv_container.specs.declared.why.ReadRefusal.{ReadRefusal};
+ghost use Rattle.tv_r1cs_read.specs.Places.{IsAt};
+ghost use Rattle.tv_r1cs_read.specs.Progress.{counts_of, IsBegun};
+ghost use Rattle.tv_r1cs_read.specs.R1cs.{header_of, system_of};
+ghost use Rattle.tv_r1cs_read.specs.Steps.{Gave, GaveBy, GaveTried, Passed, Steps, Tells};
+ghost use Rattle.tv_r1cs_read.specs.Steps.{WentOn, WentOnBy};
+ghost use Rattle.tv_r1cs_read.specs.Survey.{survey_of};
 
 use crate::progress::Progress;
 use crate::rows::Row;
@@ -84,22 +83,12 @@ impl<'a, D: Files> SystemReader<'a, D> {
     pub fn next_into(&mut self, row: &mut Row) -> Result<bool, ReadRefusal>
         ensures same { self.new.files.ghost_name ≡ self.old.files.ghost_name }
         ensures name { self.new.name.now ≡ self.old.name.now }
-        ensures gives { (rows : List Constraint)
-            → Known (D.seen self.old.files.now) self.old.name.now
-            (λ file. IsAt self.old.progress file rows →
-            MatchResult result (λ more. Gave more row.new self.new.progress file rows)
-            (λ why. Refuses why (system_of file))) }
+        ensures steps { Steps (D.seen self.old.files.now) (D.seen self.new.files.now)
+            self.old.name.now self.old.progress self.new.progress
+            (λ file rows. IfOk result (λ more. Gave more row.new self.new.progress file rows)) }
+        ensures tells { Tells result self.new.progress.stopped }
         ensures counts { IfOk result (λ more. WentOn more row.new self.old.progress
             self.new.progress) }
-        ensures header { self.new.progress.header ≡ self.old.progress.header }
-        ensures again { (why : ReadRefusal) → self.old.progress.stopped ≡ Some why →
-            (result ≡ Err why) × (self.new.progress ≡ self.old.progress)
-            × (D.seen self.new.files.now ≡ D.seen self.old.files.now) }
-        ensures stops { IfErr result (λ why. self.new.progress.stopped ≡ Some why) }
-        ensures goes { OnOk result (self.new.progress.stopped ≡ None) }
-        ensures looks { self.old.progress.stopped ≡ None
-            → Looks (D.seen self.old.files.now) (D.seen self.new.files.now) self.old.name.now
-            result }
     {
         self.progress.next(self.files, self.name, row)
     }
@@ -111,21 +100,12 @@ impl<'a, D: Files> SystemReader<'a, D> {
     pub fn try_next(&mut self, values: &[F]) -> Option<bool>
         ensures same { self.new.files.ghost_name ≡ self.old.files.ghost_name }
         ensures name { self.new.name.now ≡ self.old.name.now }
-        ensures gives { (rows : List Constraint)
-            → Known (D.seen self.old.files.now) self.old.name.now
-            (λ file. IsAt self.old.progress file rows →
-            GaveTried result values.now self.new.progress file rows) }
+        ensures steps { Steps (D.seen self.old.files.now) (D.seen self.new.files.now)
+            self.old.name.now self.old.progress self.new.progress
+            (λ file rows. GaveTried result values.now self.new.progress file rows) }
+        ensures goes { IfSome result (λ _. self.new.progress.stopped ≡ None) }
         ensures left { IfSome result
             (λ _. self.new.progress.left + 1 ≡ self.old.progress.left) }
-        ensures header { self.new.progress.header ≡ self.old.progress.header }
-        ensures again { (why : ReadRefusal) → self.old.progress.stopped ≡ Some why →
-            (result ≡ None) × (self.new.progress ≡ self.old.progress)
-            × (D.seen self.new.files.now ≡ D.seen self.old.files.now) }
-        ensures goes { IfSome result (λ _. self.new.progress.stopped ≡ None) }
-        ensures looks { self.old.progress.stopped ≡ None → MatchOption self.new.progress.stopped
-            (D.seen self.new.files.now ≡ D.seen self.old.files.now)
-            (λ why. Stopped (D.seen self.old.files.now) (D.seen self.new.files.now)
-            self.old.name.now why) }
     {
         self.progress.try_next(self.files, self.name, values)
     }
@@ -136,17 +116,9 @@ impl<'a, D: Files> SystemReader<'a, D> {
     pub fn pass_rest(&mut self)
         ensures same { self.new.files.ghost_name ≡ self.old.files.ghost_name }
         ensures name { self.new.name.now ≡ self.old.name.now }
-        ensures gives { (rows : List Constraint)
-            → Known (D.seen self.old.files.now) self.old.name.now
-            (λ file. IsAt self.old.progress file rows → Passed self.new.progress file rows) }
-        ensures header { self.new.progress.header ≡ self.old.progress.header }
-        ensures again { (why : ReadRefusal) → self.old.progress.stopped ≡ Some why →
-            (self.new.progress ≡ self.old.progress)
-            × (D.seen self.new.files.now ≡ D.seen self.old.files.now) }
-        ensures looks { self.old.progress.stopped ≡ None → MatchOption self.new.progress.stopped
-            (D.seen self.new.files.now ≡ D.seen self.old.files.now)
-            (λ why. Stopped (D.seen self.old.files.now) (D.seen self.new.files.now)
-            self.old.name.now why) }
+        ensures steps { Steps (D.seen self.old.files.now) (D.seen self.new.files.now)
+            self.old.name.now self.old.progress self.new.progress
+            (λ file rows. Passed self.new.progress file rows) }
     {
         let None = self.stopped() else {
             return;
@@ -167,21 +139,11 @@ impl<'a, D: Files> SystemReader<'a, D> {
     pub fn next(&mut self) -> Result<Option<Row>, ReadRefusal>
         ensures same { self.new.files.ghost_name ≡ self.old.files.ghost_name }
         ensures name { self.new.name.now ≡ self.old.name.now }
-        ensures gives { (rows : List Constraint)
-            → Known (D.seen self.old.files.now) self.old.name.now
-            (λ file. IsAt self.old.progress file rows →
-            MatchResult result (λ row. GaveBy row self.new.progress file rows)
-            (λ why. Refuses why (system_of file))) }
+        ensures steps { Steps (D.seen self.old.files.now) (D.seen self.new.files.now)
+            self.old.name.now self.old.progress self.new.progress
+            (λ file rows. IfOk result (λ row. GaveBy row self.new.progress file rows)) }
+        ensures tells { Tells result self.new.progress.stopped }
         ensures counts { IfOk result (λ row. WentOnBy row self.old.progress self.new.progress) }
-        ensures header { self.new.progress.header ≡ self.old.progress.header }
-        ensures again { (why : ReadRefusal) → self.old.progress.stopped ≡ Some why →
-            (result ≡ Err why) × (self.new.progress ≡ self.old.progress)
-            × (D.seen self.new.files.now ≡ D.seen self.old.files.now) }
-        ensures stops { IfErr result (λ why. self.new.progress.stopped ≡ Some why) }
-        ensures goes { OnOk result (self.new.progress.stopped ≡ None) }
-        ensures looks { self.old.progress.stopped ≡ None
-            → Looks (D.seen self.old.files.now) (D.seen self.new.files.now) self.old.name.now
-            result }
     {
         let mut row = Row::new(self.alloc);
         if self.next_into(&mut row)? {

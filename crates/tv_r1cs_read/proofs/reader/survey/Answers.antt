@@ -1,4 +1,5 @@
 use Rattle.std.proofs.Common.{◌∙◌, [], sym}
+use Rattle.std.proofs.lemmas.Option.{MatchOption-at_none, MatchOption-at_some}
 use Rattle.tv_r1cs_read.proofs.Done.{survey_of-refuses}
 use Rattle.tv_r1cs_read.proofs.reader.survey.Goals as goal
 
@@ -8,12 +9,12 @@ returns-in-Err-clause-gives g c = λ file told. let refused = c.in-Err.ensures.g
 pub returns-in-Some-clause-gives : goal.returns-in-Some-clause-gives
 returns-in-Some-clause-gives g c = λ file told.
     let begun = rw (← c.in-Ok.ensures.ok_looks, ← c.in-Ok.ensures.name) at told in
-    let ended = c.pass_rest.ensures.gives [] file begun (c.in-Ok.ensures.gives file told) in
-    survey_of-refuses file _ (rw (sym c.stopped.ensures ∙ c.in-Some.is) at ended)
+    let ended = c.pass_rest.ensures.steps.gives [] file begun (c.in-Ok.ensures.gives file told) in
+    survey_of-refuses file _ (MatchOption-at_some _ _ _ (sym c.stopped.ensures ∙ c.in-Some.is) ended)
 
 pub returns-in-None-clause-gives : goal.returns-in-None-clause-gives
 returns-in-None-clause-gives g c = λ file told.
     let begun = rw (← c.in-Ok.ensures.ok_looks, ← c.in-Ok.ensures.name) at told in
-    let ended = c.pass_rest.ensures.gives [] file begun (c.in-Ok.ensures.gives file told) in
-    let all = rw (sym c.stopped.ensures ∙ c.in-None.is) at ended in
+    let ended = c.pass_rest.ensures.steps.gives [] file begun (c.in-Ok.ensures.gives file told) in
+    let all = MatchOption-at_none _ _ (sym c.stopped.ensures ∙ c.in-None.is) ended in
     rw c.counts.ensures all.1.counts

@@ -1,6 +1,7 @@
 use Rattle.std.proofs.Common.{◌≡◌, ◌++◌, ◌∷◌, [], Some, Ok, arith, sym, ap, subst, ◌∙◌, rules, length}
 use Rattle.std.proofs.lemmas.Result.{err_from_is_err_and}
 use Rattle.std.proofs.lemmas.List.{length_push}
+use Rattle.std.proofs.lemmas.Option.{MatchOption-at_none, MatchOption-at_some}
 use Rattle.tv_core.specs.declared.lines.Counts.{Counts}
 use Rattle.tv_files.specs.Outside.{Outside}
 use Rattle.tv_r1cs_read.specs.Places.{system_with}
@@ -32,14 +33,14 @@ pub returns-in_err-next_into-clause-gives : goal.returns-in_err-next_into-clause
 returns-in_err-next_into-clause-gives g c = λ file told.
     let begun = rw (← c.in-Ok.ensures.ok_looks, ← c.in-Ok.ensures.name) at told in
     let before = c.loop-row.invariant.place file begun (c.in-Ok.ensures.gives file told) in
-    let refuses = c.in_err-next_into.ensures.gives before.0 file (rw (← c.loop-row.invariant.outside, ← c.loop-row.invariant.name) at begun) before.1 in
+    let refuses = MatchOption-at_some _ _ _ c.in_err-next_into.ensures.tells (c.in_err-next_into.ensures.steps.gives before.0 file (rw (← c.loop-row.invariant.outside, ← c.loop-row.invariant.name) at begun) before.1) in
     let p = err_from_is_err_and c.from_residual-in_err-next_into.result c.from_residual-in_err-next_into.ensures.1 in
     rw (p.1, p.2) (tells_read c.in_err-next_into.field-0.0 file refuses)
 
 pub returns-in_err-next_into-clause-looks : goal.returns-in_err-next_into-clause-looks
 returns-in_err-next_into-clause-looks g c =
     let p = err_from_is_err_and c.from_residual-in_err-next_into.result c.from_residual-in_err-next_into.ensures.1 in
-    let stopped = rw (c.loop-row.invariant.outside, c.in-Ok.ensures.ok_looks, c.loop-row.invariant.name, c.in-Ok.ensures.name) at (c.in_err-next_into.ensures.looks c.loop-row.invariant.on) in
+    let stopped = rw (c.loop-row.invariant.outside, c.in-Ok.ensures.ok_looks, c.loop-row.invariant.name, c.in-Ok.ensures.name) at (MatchOption-at_some _ _ _ c.in_err-next_into.ensures.tells (c.in_err-next_into.ensures.steps.looks c.loop-row.invariant.on)) in
     let halts : (new : Outside) → new ≡ g.D.Files.seen c.next_into.new.self.files.now → HaltsBy (g.D.Files.seen c.args.files.now) new c.args.name.now c.from_residual-in_err-next_into.result =
     λ new is. rw (p.1, p.2, is) (halted (g.D.Files.seen c.args.files.now) (g.D.Files.seen c.next_into.new.self.files.now) c.args.name.now c.in_err-next_into.field-0.0 stopped) in
     halts _ (search rules)
@@ -49,10 +50,10 @@ loop-row-preserved g c =
     let counts = rw c.if-branch.true at c.in_ok-next_into.ensures.counts in
     record {
       same = search rules;
-      outside = search rules;
+      outside = MatchOption-at_none _ _ c.in_ok-next_into.ensures.tells (c.in_ok-next_into.ensures.steps.looks c.loop-row.invariant.on) ∙ c.loop-row.invariant.outside;
       name = search rules;
-      on = search rules;
-      header = c.in_ok-next_into.ensures.header ∙ c.loop-row.invariant.header;
+      on = c.in_ok-next_into.ensures.tells;
+      header = c.in_ok-next_into.ensures.steps.header ∙ c.loop-row.invariant.header;
       counted = omega (arith, counts.1, c.loop-row.invariant.counted, ap length c.in_ok-add.ensures.rows, length_push c.loop-row.pass.rows (Some (normal_constraint (constraint_of c.next_into.new.row))));
       few = omega (arith, ap (λ (counts : Counts). counts.terms) c.counts-terms.ensures, c.if-terms-gt-MOST_TERMS.false);
       publics = c.in_ok-add.ensures.publics ∙ c.loop-row.invariant.publics;
@@ -66,7 +67,7 @@ loop-row-preserved g c =
       place = λ file begun start.
           let before = c.loop-row.invariant.place file begun start in
           let told = rw (← c.loop-row.invariant.outside, ← c.loop-row.invariant.name) at begun in
-          let at = rw c.if-branch.true at c.in_ok-next_into.ensures.gives before.0 file told before.1 in (
+          let at = rw c.if-branch.true at (MatchOption-at_none _ _ c.in_ok-next_into.ensures.tells (c.in_ok-next_into.ensures.steps.gives before.0 file told before.1)) in (
             before.0 ++ constraint_of c.next_into.new.row ∷ [],
             at,
             c.in_ok-add.ensures.rows ∙ ap (λ rows. rows ++ Some (normal_constraint (constraint_of c.next_into.new.row)) ∷ []) before.2 ∙ sym (start_more before.0 (constraint_of c.next_into.new.row)),
@@ -78,7 +79,7 @@ pub returns-in_err-add-clause-gives : goal.returns-in_err-add-clause-gives
 returns-in_err-add-clause-gives g c = λ file told.
     let begun = rw (← c.in-Ok.ensures.ok_looks, ← c.in-Ok.ensures.name) at told in
     let before = c.loop-row.invariant.place file begun (c.in-Ok.ensures.gives file told) in
-    let at = rw c.if-branch.true at c.in_ok-next_into.ensures.gives before.0 file (rw (← c.loop-row.invariant.outside, ← c.loop-row.invariant.name) at begun) before.1 in
+    let at = rw c.if-branch.true at (MatchOption-at_none _ _ c.in_ok-next_into.ensures.tells (c.in_ok-next_into.ensures.steps.gives before.0 file (rw (← c.loop-row.invariant.outside, ← c.loop-row.invariant.name) at begun) before.1)) in
     let p = err_from_is_err_and c.from_residual-in_err-add.result c.from_residual-in_err-add.ensures.1 in
     rw (p.1, p.2) (wide_read c.in_err-add.field-0.0 c.next_into.new.self.progress file before.0 (constraint_of c.next_into.new.row) before.3 at c.in_err-add.ensures.err)
 
@@ -104,10 +105,10 @@ pub returns-clause-gives : goal.returns-clause-gives
 returns-clause-gives g c = λ file told.
     let begun = rw (← c.in-Ok.ensures.ok_looks, ← c.in-Ok.ensures.name) at told in
     let before = c.loop-row.invariant.place file begun (c.in-Ok.ensures.gives file told) in
-    let all = rw c.if-branch.false at c.in_ok-next_into.ensures.gives before.0 file (rw (← c.loop-row.invariant.outside, ← c.loop-row.invariant.name) at begun) before.1 in
+    let all = rw c.if-branch.false at (MatchOption-at_none _ _ c.in_ok-next_into.ensures.tells (c.in_ok-next_into.ensures.steps.gives before.0 file (rw (← c.loop-row.invariant.outside, ← c.loop-row.invariant.name) at begun) before.1)) in
     record {
       list = before.0;
-      is = all.system ∙ ap (λ system. Ok system) (ap (λ header. system_with header before.0) (c.in_ok-next_into.ensures.header ∙ c.loop-row.invariant.header) ∙ sym (ap (λ counts. counted_system counts before.0) c.counts-counts.ensures));
+      is = all.system ∙ ap (λ system. Ok system) (ap (λ header. system_with header before.0) (c.in_ok-next_into.ensures.steps.header ∙ c.loop-row.invariant.header) ∙ sym (ap (λ counts. counted_system counts before.0) c.counts-counts.ensures));
       same = before.2;
       few = omega (arith, (rw c.if-branch.false at c.in_ok-next_into.ensures.counts).0, all.place.terms, c.loop-row.invariant.few);
       narrow = before.3;
@@ -117,5 +118,5 @@ pub returns-then-terms-gt-MOST_TERMS-clause-gives : goal.returns-then-terms-gt-M
 returns-then-terms-gt-MOST_TERMS-clause-gives g c = λ file told.
     let begun = rw (← c.in-Ok.ensures.ok_looks, ← c.in-Ok.ensures.name) at told in
     let before = c.loop-row.invariant.place file begun (c.in-Ok.ensures.gives file told) in
-    let at = rw c.if-branch.true at c.in_ok-next_into.ensures.gives before.0 file (rw (← c.loop-row.invariant.outside, ← c.loop-row.invariant.name) at begun) before.1 in
+    let at = rw c.if-branch.true at (MatchOption-at_none _ _ c.in_ok-next_into.ensures.tells (c.in_ok-next_into.ensures.steps.gives before.0 file (rw (← c.loop-row.invariant.outside, ← c.loop-row.invariant.name) at begun) before.1)) in
     long_read c.next_into.new.self.progress file (before.0 ++ constraint_of c.next_into.new.row ∷ []) c.counts-terms.result.terms at (omega (arith, ap (λ (counts : Counts). counts.terms) c.counts-terms.ensures, c.if-terms-gt-MOST_TERMS.true))

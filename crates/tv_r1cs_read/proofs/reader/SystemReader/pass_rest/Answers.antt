@@ -1,4 +1,5 @@
 use Rattle.std.proofs.Common.{◌++◌, ◌∙◌, sym, rules, refl}
+use Rattle.std.proofs.lemmas.Option.{MatchOption-at_none}
 use Rattle.tv_r1cs_read.proofs.Done.{passed_none, passed_more, passed_all}
 use Rattle.tv_r1cs_read.proofs.reader.SystemReader.pass_rest.Goals as goal
 
@@ -13,23 +14,26 @@ loop-init g c = record {
 }
 
 pub loop-preserved : goal.loop-preserved
-loop-preserved g c =
-    let looked = rw c.in-Some.ensures.goes at (c.try_next.ensures.looks c.loop.invariant.on) in
-    record {
-      same = search rules;
-      outside = looked ∙ c.loop.invariant.outside;
-      name = search rules;
-      header = search rules;
-      on = c.in-Some.ensures.goes;
-      place = λ rows file told start.
-          let before = c.loop.invariant.place rows file told start in
-          let seen = rw (← c.loop.invariant.outside, ← c.loop.invariant.name) at told in
-          let tried = c.in-Some.ensures.gives (rows ++ before.0) file seen before.1 in
-          passed_more file _ rows before.0 tried.constraint tried.place;
-    }
+loop-preserved g c = record {
+  same = search rules;
+  outside = MatchOption-at_none _ _ c.in-Some.ensures.goes (c.in-Some.ensures.steps.looks c.loop.invariant.on) ∙ c.loop.invariant.outside;
+  name = search rules;
+  header = c.in-Some.ensures.steps.header ∙ c.loop.invariant.header;
+  on = c.in-Some.ensures.goes;
+  place = λ rows file told start.
+      let before = c.loop.invariant.place rows file told start in
+      let seen = rw (← c.loop.invariant.outside, ← c.loop.invariant.name) at told in
+      let tried = MatchOption-at_none _ _ c.in-Some.ensures.goes (c.in-Some.ensures.steps.gives (rows ++ before.0) file seen before.1) in
+      passed_more file _ rows before.0 tried.constraint tried.place;
+}
 
-pub returns-clause-gives : goal.returns-clause-gives
-returns-clause-gives g c = λ rows file told start.
-    let before = c.loop.invariant.place rows file told start in
-    let seen = rw (← c.loop.invariant.outside, ← c.loop.invariant.name) at told in
-    passed_all file _ rows before.0 (c.in_default-try_next.ensures.gives (rows ++ before.0) file seen before.1)
+pub returns-clause-steps : goal.returns-clause-steps
+returns-clause-steps g c = record {
+  header = c.in_default-try_next.ensures.steps.header ∙ c.loop.invariant.header;
+  again = search rules;
+  looks = search rules;
+  gives = λ rows file told start.
+      let before = c.loop.invariant.place rows file told start in
+      let seen = rw (← c.loop.invariant.outside, ← c.loop.invariant.name) at told in
+      passed_all file _ rows before.0 (c.in_default-try_next.ensures.steps.gives (rows ++ before.0) file seen before.1);
+}

@@ -1,0 +1,62 @@
+-- What each step of reading a system promises.
+use Rattle.std.specs.Prelude.{◌≡◌, ℕ, ◌+◌, Bool, true, false, List, [], ◌∷◌, ◌++◌, Option, Some, None, MatchOption, Result, MatchResult}
+use Rattle.tv_files.specs.Outside.{Outside}
+use Rattle.tv_core.specs.Constraints.{Constraint}
+use Rattle.tv_core.specs.Meanings.{holds}
+use Rattle.tv_container.specs.Reading.{Known, Refuses, Stopped}
+use Rattle.tv_container.specs.declared.why.ReadRefusal.{ReadRefusal}
+use Rattle.tv_r1cs_read.specs.declared.rows.Row.{Row}
+use Rattle.tv_r1cs_read.specs.Places.{IsAt, IsAll}
+use Rattle.tv_r1cs_read.specs.Progress.{Reached}
+use Rattle.tv_r1cs_read.specs.R1cs.{system_of}
+use Rattle.tv_r1cs_read.specs.Rows.{constraint_of, terms_in, IsOver}
+
+-- reading a name went on from one state to another, while all outside went from `before` to `after`
+pub record Steps (before after : Outside) (name : List ℕ) (old new : Reached) (Gives : List ℕ → List Constraint → Type 0) : Type 0 where
+  -- the header stays
+  pub header : new.header ≡ old.header
+  -- where reading had stopped, nothing changes
+  pub again : (why : ReadRefusal) → old.stopped ≡ Some why → (new ≡ old) × (after ≡ before)
+  -- else all outside stays, or reading stops
+  pub looks : old.stopped ≡ None → MatchOption new.stopped (after ≡ before) (λ why. Stopped before after name why)
+  -- behind these constraints of the file, the step gives what is next in it, or reading stops at the file's first fault
+  pub gives : (rows : List Constraint) → Known before name (λ file. IsAt old file rows → MatchOption new.stopped (Gives file rows) (λ why. Refuses why (system_of file)))
+
+-- an answer is a refusal where reading has stopped, and tells why
+abbrev pub Tells : {A : Type 0} → Result A ReadRefusal → Option ReadRefusal → Type 0
+Tells result stopped = MatchResult result (λ _. stopped ≡ None) (λ why. stopped ≡ Some why)
+
+-- a row that is the next constraint, or none, since those before are all
+abbrev pub Gave : Bool → Row → Reached → List ℕ → List Constraint → Type 0
+Gave true row reached file rows = IsAt reached file (rows ++ constraint_of row ∷ [])
+Gave false row reached file rows = IsAll reached file rows
+
+-- the same of a row of its own
+abbrev pub GaveBy : Option Row → Reached → List ℕ → List Constraint → Type 0
+GaveBy (Some row) reached file rows = Gave true row reached file rows
+GaveBy None reached file rows = IsAll reached file rows
+
+-- the next constraint holds under an assignment or not
+pub record HasTried (test : Bool) (z : List ℕ) (reached : Reached) (file : List ℕ) (rows : List Constraint) : Type 0 where
+  pub constraint : Constraint
+  pub place : IsAt reached file (rows ++ constraint ∷ [])
+  pub is : test ≡ holds z constraint
+
+-- the next constraint was tried, or there is none, since those before are all
+abbrev pub GaveTried : Option Bool → List ℕ → Reached → List ℕ → List Constraint → Type 0
+GaveTried (Some test) z reached file rows = HasTried test z reached file rows
+GaveTried None z reached file rows = IsAll reached file rows
+
+-- with those behind them these constraints are all
+abbrev pub Passed : Reached → List ℕ → List Constraint → Type 0
+Passed reached file rows = (more : List Constraint) × IsAll reached file (rows ++ more)
+
+-- a row was counted, whose wires are the system's, or nothing was
+abbrev pub WentOn : Bool → Row → Reached → Reached → Type 0
+WentOn true row old new = (new.terms ≡ old.terms + terms_in row) × (new.left + 1 ≡ old.left) × IsOver old.header.wires row
+WentOn false row old new = (new.terms ≡ old.terms) × (new.left ≡ old.left)
+
+-- the same of a row of its own
+abbrev pub WentOnBy : Option Row → Reached → Reached → Type 0
+WentOnBy (Some row) old new = WentOn true row old new
+WentOnBy None old new = (new.terms ≡ old.terms) × (new.left ≡ old.left)
