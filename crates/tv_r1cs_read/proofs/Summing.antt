@@ -1,15 +1,17 @@
 -- Terms that are summed as they are read, with none kept.
-use Rattle.std.proofs.Common.{◌≡◌, ℕ, ◌+◌, ◌*◌, ◌%◌, List, [], ◌∷◌, ◌++◌, Result, Ok, refl, ap, sym, ◌∙◌, arith, slice_index, ◌==◌, Bool}
+use Rattle.std.proofs.Common.{◌≡◌, ℕ, ◌+◌, ◌-◌, ◌*◌, ◌%◌, ◌<◌, ◌≤◌, List, [], ◌∷◌, ◌++◌, Result, Ok, refl, ap, sym, ◌∙◌, arith, slice_index, ◌==◌, Bool}
 use Rattle.std.proofs.lemmas.List.{length-map, length_push}
 use Rattle.std.proofs.lemmas.List.Sums.{sum_by_push}
 use Rattle.tv_core.specs.Constraints.{Combination}
 use Rattle.tv_core.specs.declared.field.TheConstants.{P}
 use Rattle.tv_core.proofs.Residues.{sum_by-map}
-use Rattle.tv_container.specs.Places.{Fault}
+use Rattle.tv_container.specs.Places.{Fault, number}
+use Rattle.tv_container.specs.Reading.{IsPiece, Piece}
 use Rattle.tv_r1cs_read.specs.R1cs.{Read, count_at, term_at, terms_at, combination_at, constraint_at}
 use Rattle.tv_r1cs_read.specs.Rows.{combination_of}
-use Rattle.tv_r1cs_read.specs.Sums.{IsSummed, IsValued, IsTried}
-use Rattle.tv_r1cs_read.proofs.Ahead.{begins, goes_on, ends, combination_at-counted}
+use Rattle.tv_r1cs_read.specs.Sums.{Adds, IsSummed, IsValued, IsTried}
+use Rattle.tv_r1cs_read.specs.declared.terms.Bounds.{Bounds}
+use Rattle.tv_r1cs_read.proofs.Ahead.{begins, goes_on, ends, combination_at-counted, term_at-good}
 
 -- at first no term is summed
 pub starts : (file : List ℕ) (wires end n at : ℕ) (z : List ℕ) → IsSummed (terms_at file wires end n at) file wires end z 0 n at 0
@@ -26,13 +28,18 @@ adds answer file wires end z k next n more at sum wire coefficient summed one le
   is = ap (λ s. s + coefficient * slice_index z wire) summed.is ∙ sym (sum_by_push (λ (t : ℕ × ℕ). t.1 * slice_index z t.0) summed.terms (wire, coefficient));
 }
 
--- one more term under no values, which comes to 0
-pub passes : (answer : Result (Read Combination) Fault) (file : List ℕ) (wires end k next n more at sum wire coefficient : ℕ) →
-    IsSummed answer file wires end [] k n at sum → next ≡ k + 1 → n ≡ more + 1 → term_at file wires end at ≡ Ok (coefficient, wire) →
-    IsSummed answer file wires end [] next more (at + 12) sum
-passes answer file wires end k next n more at sum wire coefficient summed one left is =
-    let none : sum + coefficient * slice_index [] wire ≡ sum = grind arith in
-    rw none at (adds answer file wires end [] k next n more at sum wire coefficient summed one left is)
+-- one more term that a window holds
+pub adds_held : (piece : Piece) (bounds : Bounds) (z : List ℕ) (at count few old new here wire coefficient : ℕ) → Adds piece bounds z at count few old new →
+    few < count → at + 12 * count ≤ bounds.end → here ≡ at + 12 * few → ((file : List ℕ) → IsPiece piece file → wire ≡ number file 4 here) → wire < bounds.wires →
+    ((file : List ℕ) → IsPiece piece file → coefficient ≡ number file 8 (here + 4)) → coefficient < P →
+    Adds piece bounds z at count (few + 1) old (new + coefficient * slice_index z wire)
+adds_held piece bounds z at count few old new here wire coefficient before some fits is wire_is below coefficient_is canonical = λ file held answer k n enough summed.
+    let one : k + (few + 1) ≡ k + few + 1 = omega arith in
+    let left : n - few ≡ n - (few + 1) + 1 = omega arith in
+    let next : at + 12 * (few + 1) ≡ at + 12 * few + 12 = omega arith in
+    let term = term_at-good file bounds.wires bounds.end here wire coefficient (omega arith) (sym (wire_is file held)) below (sym (coefficient_is file held)) canonical in
+    rw next (adds answer file bounds.wires bounds.end z (k + few) (k + (few + 1)) (n - few) (n - (few + 1)) (at + 12 * few) new wire coefficient
+    (before file held answer k n enough summed) one left (rw is at term))
 
 -- no term is left
 pub comes_to : (answer : Result (Read Combination) Fault) (file : List ℕ) (wires end : ℕ) (z : List ℕ) (k n at sum v : ℕ) →

@@ -1,10 +1,12 @@
 -- Constraints that are tried as they are read, with no term kept.
-use Rattle.std.specs.Prelude.{◌≡◌, ℕ, ◌*◌, Bool, List, length, Option, Some, None, Result, Ok, slice_index}
+use Rattle.std.specs.Prelude.{◌≡◌, ℕ, ◌+◌, ◌-◌, ◌*◌, ◌≤◌, Bool, List, length, Option, Some, None, Result, Ok, slice_index}
 use Rattle.std.specs.List.{sum_by}
 use Rattle.tv_core.specs.Constraints.{Combination, Constraint, value}
 use Rattle.tv_core.specs.Meanings.{holds}
 use Rattle.tv_container.specs.Places.{Fault}
+use Rattle.tv_container.specs.Reading.{IsPiece, Piece}
 use Rattle.tv_container.specs.declared.why.ReadRefusal.{ReadRefusal}
+use Rattle.tv_r1cs_read.specs.declared.terms.Bounds.{Bounds}
 use Rattle.tv_r1cs_read.specs.R1cs.{Read}
 use Rattle.tv_r1cs_read.specs.Rows.{IsAhead}
 use Rattle.tv_r1cs_read.specs.Survey.{terms_of}
@@ -15,6 +17,13 @@ pub record IsSummed (answer : Result (Read Combination) Fault) (file : List ℕ)
   pub count : k ≡ length terms
   pub ahead : IsAhead answer terms file wires end n at
   pub is : sum ≡ sum_by (λ t. t.1 * slice_index z t.0) terms
+
+-- Of the terms at a place, so many, that a window holds, the first few are added: a combination whose terms come to a sum
+-- before the place comes to another behind them.
+abbrev pub Adds : Piece → Bounds → List ℕ → (at count few old new : ℕ) → Type 0
+Adds piece bounds z at count few old new =
+    (file : List ℕ) → IsPiece piece file → (answer : Result (Read Combination) Fault) → (k n : ℕ) → count ≤ n →
+    IsSummed answer file bounds.wires bounds.end z k n at old → IsSummed answer file bounds.wires bounds.end z (k + few) (n - few) (at + 12 * few) new
 
 -- the combination that was read has this value, so many terms, and ends before this place
 pub record IsValued (answer : Result (Read Combination) Fault) (z : List ℕ) (v n next : ℕ) : Type 0 where

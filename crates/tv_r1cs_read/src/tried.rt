@@ -1,14 +1,12 @@
 //! A constraint tried straight from the bytes that the window holds, with no term kept.
 
-ghost use Rattle.std.specs.Prelude.{◌≡◌, ℕ, ◌+◌, ◌-◌, ◌*◌, ◌≤◌, ◌<◌, ◌^◌, List, [], None, Result};
-ghost use Rattle.std.specs.Prelude.{length, slice_index, true, IfSome, IfOk, MatchResult};
-ghost use Rattle.tv_core.specs.Constraints.{Combination};
-ghost use Rattle.tv_container.specs.Places.{Fault, places};
-ghost use Rattle.tv_container.specs.Reading.{Holds, InPiece, IsPiece, ReadsIn, Refuses};
-ghost use Rattle.tv_container.specs.Reading.{Stopped};
+ghost use Rattle.std.specs.Prelude.{◌≡◌, ℕ, ◌+◌, ◌*◌, ◌≤◌, ◌<◌, ◌^◌, List, [], None, length};
+ghost use Rattle.std.specs.Prelude.{slice_index, true, IfSome, IfOk, MatchResult};
+ghost use Rattle.tv_container.specs.Places.{places};
+ghost use Rattle.tv_container.specs.Reading.{Holds, InPiece, IsPiece, ReadsIn, Refuses, Stopped};
 ghost use Rattle.tv_r1cs_read.specs.Held.{IsHeld};
-ghost use Rattle.tv_r1cs_read.specs.R1cs.{Read, combination_at, constraint_at};
-ghost use Rattle.tv_r1cs_read.specs.Sums.{Ended, IsSummed, IsTried, IsValued};
+ghost use Rattle.tv_r1cs_read.specs.R1cs.{combination_at, constraint_at};
+ghost use Rattle.tv_r1cs_read.specs.Sums.{Adds, Ended, IsTried, IsValued};
 
 use crate::held::{Held, held_from};
 use crate::sum::Sum;
@@ -58,11 +56,7 @@ fn good_terms(window: &Window, bounds: &Bounds, at: u64, count: u32) -> u32
     requires held { Holds window.now at (12 * count) }
     requires within { at + 12 * count ≤ bounds.now.end }
     ensures most { result ≤ count }
-    ensures sums { (file : List ℕ) → IsPiece window.now file
-        → (answer : Result (Read Combination) Fault) → (k n sum : ℕ) → count ≤ n →
-        IsSummed answer file bounds.now.wires bounds.now.end [] k n at sum →
-        IsSummed answer file bounds.now.wires bounds.now.end [] (k + result) (n - result)
-        (at + 12 * result) sum }
+    ensures sums { (sum : ℕ) → Adds window.now bounds.now [] at count result sum sum }
 {
     let mut at = at;
     for good in 0..count {
@@ -95,11 +89,7 @@ fn add_terms<const WHOLE: bool>(
     requires whole { WHOLE ≡ true → bounds.now.wires ≤ length values.now }
     ensures most { result ≤ count }
     ensures small { sum.new ≤ sum.old + result * 2 ^ 128 }
-    ensures sums { (file : List ℕ) → IsPiece window.now file
-        → (answer : Result (Read Combination) Fault) → (k n : ℕ) → count ≤ n →
-        IsSummed answer file bounds.now.wires bounds.now.end values.now k n at sum.old →
-        IsSummed answer file bounds.now.wires bounds.now.end values.now (k + result) (n - result)
-        (at + 12 * result) sum.new }
+    ensures sums { Adds window.now bounds.now values.now at count result sum.old sum.new }
 {
     let mut at = at;
     for good in 0..count {
@@ -133,11 +123,7 @@ fn sum_terms(
     requires small { sum.old + count * 2 ^ 128 ≤ 2 ^ 150 }
     ensures most { result ≤ count }
     ensures small { sum.new ≤ sum.old + result * 2 ^ 128 }
-    ensures sums { (file : List ℕ) → IsPiece window.now file
-        → (answer : Result (Read Combination) Fault) → (k n : ℕ) → count ≤ n →
-        IsSummed answer file bounds.now.wires bounds.now.end values.now k n at sum.old →
-        IsSummed answer file bounds.now.wires bounds.now.end values.now (k + result) (n - result)
-        (at + 12 * result) sum.new }
+    ensures sums { Adds window.now bounds.now values.now at count result sum.old sum.new }
 {
     if values.is_empty() {
         return good_terms(window, bounds, at, count);
@@ -164,11 +150,7 @@ fn sum_far(
     requires small { sum + count * 2 ^ 128 ≤ 2 ^ 150 }
     ensures most { result.0 ≤ count }
     ensures small { result.1 ≤ sum + result.0 * 2 ^ 128 }
-    ensures sums { (file : List ℕ) → IsPiece window.now file
-        → (answer : Result (Read Combination) Fault) → (k n : ℕ) → count ≤ n →
-        IsSummed answer file bounds.now.wires bounds.now.end values.now k n at sum →
-        IsSummed answer file bounds.now.wires bounds.now.end values.now (k + result.0)
-        (n - result.0) (at + 12 * result.0) result.1 }
+    ensures sums { Adds window.now bounds.now values.now at count result.0 sum result.1 }
 {
     let mut sum = sum;
     let good = sum_terms(window, bounds, at, count, values, &mut sum);

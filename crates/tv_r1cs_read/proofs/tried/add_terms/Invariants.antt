@@ -1,16 +1,10 @@
-use Rattle.std.proofs.Common.{◌≡◌, ℕ, ◌+◌, ◌-◌, ◌*◌, ◌^◌, ◌≤◌, List, Result}
-use Rattle.tv_core.specs.Constraints.{Combination}
-use Rattle.tv_container.specs.Places.{Fault}
-use Rattle.tv_container.specs.Reading.{IsPiece}
-use Rattle.tv_r1cs_read.specs.R1cs.{Read}
-use Rattle.tv_r1cs_read.specs.Sums.{IsSummed}
+use Rattle.std.proofs.Common.{◌≡◌, ◌+◌, ◌*◌, ◌^◌, ◌≤◌}
+use Rattle.tv_r1cs_read.specs.Sums.{Adds}
 use Rattle.tv_r1cs_read.proofs.tried.add_terms.Given as goal
 
 abbrev pub invariant-loop-good : goal.invariant-loop-good
 invariant-loop-good g l = record {
   place : l.at ≡ l.initial.at + 12 * l.good;
   small : l.sum ≤ l.initial.sum + l.good * 2 ^ 128;
-  sums : (file : List ℕ) → IsPiece l.window file → (answer : Result (Read Combination) Fault) → (k n : ℕ) → l.count ≤ n →
-      IsSummed answer file l.bounds.wires l.bounds.end l.values k n l.initial.at l.initial.sum →
-      IsSummed answer file l.bounds.wires l.bounds.end l.values (k + l.good) (n - l.good) l.at l.sum;
+  sums : Adds l.window l.bounds l.values l.initial.at l.count l.good l.initial.sum l.sum;
 }
