@@ -10,7 +10,7 @@ use Rattle.tv_container.specs.declared.why.ReadWhy.TheVariants.{BadCount}
 use Rattle.tv_container.specs.Places.{Fault, ◌>>=◌, wrong}
 use Rattle.tv_r1cs_read.specs.Places.{HasRead, IsAt, IsAll}
 use Rattle.tv_r1cs_read.specs.Progress.{Reached, Follows, ahead}
-use Rattle.tv_r1cs_read.specs.R1cs.{constraint_at, constraints_from, header_of, system_of}
+use Rattle.tv_r1cs_read.specs.R1cs.{constraint_at, constraints_from, system_of}
 use Rattle.tv_container.specs.Reading.{Refuses}
 use Rattle.tv_r1cs_read.specs.Rows.{constraint_of, terms_in}
 use Rattle.tv_r1cs_read.specs.Steps.{Passed}
@@ -18,11 +18,6 @@ use Rattle.tv_r1cs_read.specs.Sums.{Ended}
 use Rattle.tv_r1cs_read.specs.Survey.{terms_of, survey_of}
 use Rattle.tv_container.proofs.Chain.{made, refuses_first}
 use Rattle.tv_r1cs_read.proofs.Constraints.{constraints_from-refuses}
-
--- at first none was read
-pub read_none : (all : Result (List Constraint) Fault) → HasRead [] all all
-read_none (Ok list) = record { same = refl }
-read_none (Err fault) = record { same = refl }
 
 -- the next one goes behind those that were read
 read_more : (done : List Constraint) (all before after : Result (List Constraint) Fault) (next : Constraint) → HasRead done all before →
@@ -41,12 +36,7 @@ read_refused : (done : List Constraint) (all ahead : Result (List Constraint) Fa
     Refuses why ahead → Refuses why all
 read_refused done all ahead why read refuses = rw read.same (refuses_first why _ _ refuses)
 
--- what is refused of the header is refused of the system
-pub refuses_header : (file : List ℕ) (why : ReadRefusal) → Refuses why (header_of file) → Refuses why (system_of file)
-unfolding system_of
-refuses_header file why refuses = refuses_first why _ _ refuses
-
--- and so is what is refused of the constraints ahead
+-- what is refused of the constraints ahead is refused of the system
 pub refuses_ahead : (file : List ℕ) (reached : Reached) (rows : List Constraint) (why : ReadRefusal) → IsAt reached file rows →
     Refuses why (ahead reached file) → Refuses why (system_of file)
 unfolding system_of
@@ -108,11 +98,6 @@ all_at file reached rows place none =
       system = rw (place.header, all) refl;
       counts = rw (place.header, all, count, place.terms) refl;
     }
-
--- what is refused of a system is refused of its counts
-pub survey_of-refuses : (file : List ℕ) (why : ReadRefusal) → Refuses why (system_of file) → Refuses why (survey_of file)
-unfolding survey_of
-survey_of-refuses file why refuses = refuses_first why _ _ refuses
 
 -- no constraint was passed, and one more
 pub passed_none : (file : List ℕ) (reached : Reached) (rows : List Constraint) → IsAt reached file rows →

@@ -58,7 +58,7 @@ pub(crate) fn read_header<D: Files>(
 }
 
 // The header, from the sections.
-#[tactic(auto, using(tv_container::proofs::Chain::stopped_here))]
+#[tactic(auto, unfolding(crate::specs::R1cs::header_in))]
 fn header_in<D: Files>(
     files: &mut D,
     name: &str,

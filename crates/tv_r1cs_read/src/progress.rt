@@ -47,6 +47,7 @@ impl Model for Progress {
 
 impl Progress {
     /// Reads all but the constraints.
+    #[tactic(auto, unfolding(crate::specs::R1cs::system_of))]
     pub(crate) fn begin<D: Files>(files: &mut D, name: &str) -> Result<Progress, ReadRefusal>
         ensures begun { IfOk result IsBegun }
         ensures gives { Known (D.seen files.old) name.now (λ file. MatchResult result

@@ -158,6 +158,7 @@ impl<'a, D: Files> SystemReader<'a, D> {
 /// `Ok` comes exactly for a file that holds a system, and `Bad` tells the first fault of another
 /// one. `Fault` comes only where a read failed, and a missing name is such a fault. Takes one pass
 /// and no memory.
+#[tactic(auto, unfolding(crate::specs::Survey::survey_of))]
 pub fn survey<D: Files>(alloc: Global, files: &mut D, name: &str) -> Result<Counts, ReadRefusal>
     ensures gives { Known (D.seen files.old) name.now (λ file. Gives result (survey_of file)) }
     ensures looks { Looks (D.seen files.old) (D.seen files.new) name.now result }

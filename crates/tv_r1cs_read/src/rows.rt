@@ -123,6 +123,7 @@ pub(crate) fn read_row<D: Files>(
 
 // Reads the combination at a place, and answers the place behind it.
 #[inline(always)]
+#[tactic(auto, unfolding(crate::specs::R1cs::combination_at))]
 fn read_combination<D: Files>(
     files: &mut D,
     name: &str,

@@ -23,7 +23,8 @@ pub(crate) struct Bounds {
 }
 
 // Reads on to a place until the window holds so many bytes there; bytes that pass the end of
-// section 2 are `Truncated` at the place.
+// section 2 are `Truncated` at the place. What is at hand costs no call, for a count and a term
+// that are read take less time than one.
 #[inline(always)]
 fn fit_below<D: Files>(
     files: &mut D,

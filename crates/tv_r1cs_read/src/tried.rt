@@ -288,6 +288,7 @@ fn far_value<D: Files>(
 // Reads the combination at a place, and takes its value under an assignment. A term is read, and
 // then as many as the window holds behind it are summed at once, up to the first that isn't as it
 // should be.
+#[tactic(auto, unfolding(crate::specs::R1cs::combination_at))]
 fn read_value<D: Files>(
     files: &mut D,
     name: &str,

@@ -10,7 +10,6 @@ use Rattle.tv_core.specs.Meanings.{terms_in}
 use Rattle.tv_core.specs.Sinks.{IsCause, PutsAll, PutsSome}
 use Rattle.tv_core.specs.declared.lines.Counts.{Counts}
 use Rattle.tv_core.specs.declared.sink.SinkFault.{SinkFault}
-use Rattle.tv_core.specs.declared.sink.SinkFault.TheVariants as sink
 use Rattle.tv_files.proofs.NamedFiles.{with_bytes-here}
 use Rattle.tv_files.proofs.Written.{written_grows}
 use Rattle.tv_files.specs.Calls.{Creates}

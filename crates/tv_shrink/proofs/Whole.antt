@@ -7,7 +7,7 @@ use Rattle.std.proofs.lemmas.List.Elements.{All-nil, All-cons}
 use Rattle.tv_container.specs.Places.{Fault, ◌>>=◌, unless, number, fit}
 use Rattle.tv_container.specs.declared.sections.Section.{Section}
 use Rattle.tv_container.specs.declared.why.ReadWhy.{ReadWhy}
-use Rattle.tv_container.specs.declared.why.ReadWhy.TheVariants.{BadCount, TooWide, WireRange, NotCanonical}
+use Rattle.tv_container.specs.declared.why.ReadWhy.TheVariants.{BadCount, WireRange, NotCanonical}
 use Rattle.tv_core.specs.Constraints.{Constraint}
 use Rattle.tv_core.specs.declared.field.TheConstants.{P}
 use Rattle.tv_r1cs_read.specs.R1cs.{term_at, terms_at, count_at, combination_at, constraint_at, constraints_from, header_of, system_of}

@@ -1,16 +1,15 @@
 use Rattle.std.proofs.Common.{◌∙◌, [], sym}
 use Rattle.std.proofs.lemmas.Option.{MatchOption-at_none, MatchOption-at_some}
-use Rattle.tv_r1cs_read.proofs.Done.{survey_of-refuses}
+use Rattle.tv_container.proofs.Chain.{refuses_first}
+use Rattle.tv_r1cs_read.specs.Survey.{survey_of}
 use Rattle.tv_r1cs_read.proofs.reader.survey.Goals as goal
 
-pub returns-in-Err-clause-gives : goal.returns-in-Err-clause-gives
-returns-in-Err-clause-gives g c = λ file told. let refused = c.in-Err.ensures.gives file told in survey_of-refuses file _ refused.1
-
 pub returns-in-Some-clause-gives : goal.returns-in-Some-clause-gives
+unfolding survey_of
 returns-in-Some-clause-gives g c = λ file told.
     let begun = rw (← c.in-Ok.ensures.ok_looks, ← c.in-Ok.ensures.name) at told in
     let ended = c.pass_rest.ensures.steps.gives [] file begun (c.in-Ok.ensures.gives file told) in
-    survey_of-refuses file _ (MatchOption-at_some _ _ _ (sym c.stopped.ensures ∙ c.in-Some.is) ended)
+    refuses_first _ _ _ (MatchOption-at_some _ _ _ (sym c.stopped.ensures ∙ c.in-Some.is) ended)
 
 pub returns-in-None-clause-gives : goal.returns-in-None-clause-gives
 returns-in-None-clause-gives g c = λ file told.

@@ -2,20 +2,8 @@ use Rattle.std.proofs.Common.{◌≡◌, ℕ, ◌+◌, ◌-◌, ◌<◌, length,
 use Rattle.std.proofs.lemmas.List.{length_push}
 use Rattle.std.proofs.lemmas.List.Elements.{All-nil, All-push}
 use Rattle.std.proofs.lemmas.Result.{err_from_is_err_and}
-use Rattle.tv_container.proofs.Chain.{refuses_first}
-use Rattle.tv_r1cs_read.specs.R1cs.{combination_at}
 use Rattle.tv_r1cs_read.proofs.Ahead.{begins, combination_at-counted, ends, goes_on, refused}
 use Rattle.tv_r1cs_read.proofs.rows.read_combination.Goals as goal
-
-pub returns-in_err-count-clause-reads : goal.returns-in_err-count-clause-reads
-unfolding combination_at
-returns-in_err-count-clause-reads g c = record {
-  looks = search rules;
-  piece = search rules;
-  gives = λ file told piece end.
-      let p = err_from_is_err_and c.from_residual.result c.from_residual.ensures.1 in
-      rw (p.1, p.2) (refuses_first _ _ _ (c.in_err-count.ensures.reads.gives file told piece end));
-}
 
 pub loop-init : goal.loop-init
 loop-init g c = record {

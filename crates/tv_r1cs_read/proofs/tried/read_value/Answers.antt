@@ -1,20 +1,8 @@
 use Rattle.std.proofs.Common.{◌≡◌, ◌+◌, ◌-◌, ◌*◌, arith, ◌∙◌, rules, refl}
 use Rattle.std.proofs.lemmas.Result.{err_from_is_err_and}
-use Rattle.tv_container.proofs.Chain.{refuses_first}
-use Rattle.tv_r1cs_read.specs.R1cs.{combination_at}
 use Rattle.tv_r1cs_read.proofs.Ahead.{combination_at-counted, refused}
 use Rattle.tv_r1cs_read.proofs.Summing.{adds, comes_to, counted, starts}
 use Rattle.tv_r1cs_read.proofs.tried.read_value.Goals as goal
-
-pub returns-in_err-terms-clause-reads : goal.returns-in_err-terms-clause-reads
-unfolding combination_at
-returns-in_err-terms-clause-reads g c = record {
-  looks = search rules;
-  piece = search rules;
-  gives = λ file told piece end.
-      let p = err_from_is_err_and c.from_residual.result c.from_residual.ensures.1 in
-      rw (p.1, p.2) (refuses_first _ _ _ (c.in_err-terms.ensures.reads.gives file told piece end));
-}
 
 pub loop-left-init : goal.loop-left-init
 loop-left-init g c = record {
