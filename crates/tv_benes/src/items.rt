@@ -17,23 +17,17 @@ pub(crate) enum Items<'a> {
 pub(crate) fn bit(bits: &[bool], at: u64) -> bool
     ensures { result ≡ bit_at bits.now at }
 {
-    match bits.get(at as usize) {
-        Some(b) => *b,
-        None => false,
-    }
+    bits.get(at as usize).copied().unwrap_or(false)
 }
 
 // The pair at a place, zeros past the end.
 fn given(pairs: &[PairNum], at: u64) -> PairNum
     ensures { result ≡ pair_at pairs.now at }
 {
-    match pairs.get(at as usize) {
-        Some(pair) => *pair,
-        None => PairNum {
-            first: F::ZERO,
-            second: F::ZERO,
-        },
-    }
+    pairs.get(at as usize).copied().unwrap_or(PairNum {
+        first: F::ZERO,
+        second: F::ZERO,
+    })
 }
 
 // Item `j`, found among what was handed in: one step for each network that it lies within.
@@ -95,7 +89,7 @@ fn flag(set: bool) -> u64
     ensures is { result ≡ (if set then 1 else 0) }
     ensures small { result < 2 }
 {
-    if set { 1 } else { 0 }
+    u64::from(set)
 }
 
 fn only_if(set: bool, n: u64) -> u64
