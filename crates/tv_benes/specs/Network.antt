@@ -53,6 +53,14 @@ network_of net (suc h) item = do
   lower ← network_of net h (row (f + 3))
   last_column_of net (suc h) upper lower
 
+-- what such a network has behind its first column, whose wires begin at f
+unfoldable pub inner_of : Net → ℕ → ℕ → Circuit Outputs
+inner_of net zero f = pure (column_outputs f)
+inner_of net (suc h) f = do
+  upper ← network_of net h (row (f + 1))
+  lower ← network_of net h (row (f + 3))
+  last_column_of net (suc h) upper lower
+
 -- ---- the values
 -- a bit as a number
 abbrev pub bit_number : Bool → ℕ

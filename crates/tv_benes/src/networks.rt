@@ -1,5 +1,5 @@
 ghost use Rattle.std.specs.Prelude.{◌≡◌, ◌+◌, ◌-◌, ◌*◌, ◌^◌, ◌<◌, ◌≤◌, IfOk};
-ghost use Rattle.tv_benes.specs.Network.{last_column_of, network_of};
+ghost use Rattle.tv_benes.specs.Network.{last_column_of, inner_of, network_of};
 ghost use Rattle.tv_benes.specs.Places.{row, AreMade, AreBelow};
 ghost use Rattle.tv_benes.specs.Through.{switches, missing};
 ghost use Rattle.tv_benes.specs.declared.shape.Net.TheVariants.{Benes};
@@ -43,34 +43,42 @@ pub fn routing_network<S: Sink, I: Inputs>(s: &mut S, net: Net, k: u32, inputs: 
     ensures below { IfOk result (λ outputs. AreBelow outputs (2 ^ k) (S.meaning.wires s.new)) }
 {
     let h = k - 1;
-    let n = power(h);
-    let first = s.wires();
-    input_column(s, n, inputs)?;
-    if h == 0 {
-        return Ok(column_outputs(first));
-    }
-    let upper = row_network(s, net, h - 1, first + 1)?;
-    let lower = row_network(s, net, h - 1, first + 3)?;
-    last_column(s, net, h, &upper, &lower)
+    let first = Wire(s.wires());
+    input_column(s, power(h), inputs)?;
+    inner(s, net, h, first)
 }
 
-// A network of level `h` on the pairs of wires that stand at every fifth place from `w` on.
-fn row_network<S: Sink>(s: &mut S, net: Net, h: u32, w: u32) -> Put<Outputs>
+// A network of level `h` on the pairs of wires that stand at every fifth place from `from` on.
+#[cycle(network)]
+fn row_network<S: Sink>(s: &mut S, net: Net, h: u32, from: Wire) -> Put<Outputs>
     requires level { h < 31 }
     requires room { Room S.meaning s.old (5 * switches net h) (5 * switches net h) }
-    requires made { w + 10 * 2 ^ h ≤ S.meaning.wires s.old + 3 }
-    ensures puts { PutsIn S.meaning s.old s.new (network_of net h (row w)) result }
+    requires made { from + 10 * 2 ^ h ≤ S.meaning.wires s.old + 3 }
+    ensures puts { PutsIn S.meaning s.old s.new (network_of net h (row from)) result }
     ensures grows { IfOk result (λ _. Grows S.meaning s.old s.new (5 * switches net h)
         (5 * switches net h)) }
 {
-    let n = power(h);
-    let first = s.wires();
-    column(s, n, &Row(Wire(w)))?;
+    let first = Wire(s.wires());
+    column(s, power(h), &Row(from))?;
+    inner(s, net, h, first)
+}
+
+// What a network of level `h` has behind its first column, whose wires begin at `first`.
+#[cycle(network)]
+fn inner<S: Sink>(s: &mut S, net: Net, h: u32, first: Wire) -> Put<Outputs>
+    requires level { h < 31 }
+    requires room { Room S.meaning s.old (5 * (switches net h - 2 ^ h))
+        (5 * (switches net h - 2 ^ h)) }
+    requires made { S.meaning.wires s.old ≡ first + 5 * 2 ^ h }
+    ensures puts { PutsIn S.meaning s.old s.new (inner_of net h first) result }
+    ensures grows { IfOk result (λ _. Grows S.meaning s.old s.new (5 * (switches net h - 2 ^ h))
+        (5 * (switches net h - 2 ^ h))) }
+{
     if h == 0 {
         return Ok(column_outputs(first));
     }
-    let upper = row_network(s, net, h - 1, first + 1)?;
-    let lower = row_network(s, net, h - 1, first + 3)?;
+    let upper = row_network(s, net, h - 1, first.offset(1))?;
+    let lower = row_network(s, net, h - 1, first.offset(3))?;
     last_column(s, net, h, &upper, &lower)
 }
 
@@ -92,7 +100,7 @@ fn last_column<S: Sink>(
         (5 * (2 ^ h - missing net))) }
 {
     let n = power(h) - net.missing();
-    let first = s.wires();
+    let first = Wire(s.wires());
     column(s, n, &LastItems { net, upper, lower })?;
     Ok(last_outputs(net, first, upper, lower))
 }

@@ -37,7 +37,7 @@ impl Places for Row {
     ghost place = { λ r. fifth r.0 };
 
     fn at(&self, i: u32) -> Wire {
-        Wire(self.0.0 + 5 * i)
+        self.0.offset(5 * i)
     }
 }
 
@@ -63,7 +63,7 @@ impl Outputs {
         let first = self.wire(i);
         Pair {
             first: Lc::wire(first),
-            second: Lc::wire(Wire(first.0 + 1)),
+            second: Lc::wire(first.offset(1)),
         }
     }
 
@@ -79,24 +79,24 @@ impl Outputs {
             return self.second;
         }
         let skipped = if i % 2 == 0 { 1 } else { 3 };
-        Wire(self.others.0 + skipped + 5 * ((i - 2) / 2))
+        self.others.offset(skipped + 5 * ((i - 2) / 2))
     }
 }
 
 // The outputs of a column whose wires begin at `first` and that has all its switches.
-pub(crate) fn column_outputs(first: u32) -> Outputs
+pub(crate) fn column_outputs(first: Wire) -> Outputs
     requires { first + 5 < 2 ^ 32 }
     ensures { result ≡ column_outputs first }
 {
     Outputs {
-        first: Wire(first + 1),
-        second: Wire(first + 3),
-        others: Wire(first + 5),
+        first: first.offset(1),
+        second: first.offset(3),
+        others: first.offset(5),
     }
 }
 
 // The outputs of a last column whose wires begin at `first`.
-pub(crate) fn last_outputs(net: Net, first: u32, upper: &Outputs, lower: &Outputs) -> Outputs
+pub(crate) fn last_outputs(net: Net, first: Wire, upper: &Outputs, lower: &Outputs) -> Outputs
     requires { first + 5 < 2 ^ 32 }
     ensures { result ≡ last_outputs net first upper.now lower.now }
 {
@@ -105,7 +105,7 @@ pub(crate) fn last_outputs(net: Net, first: u32, upper: &Outputs, lower: &Output
         Net::Waksman => Outputs {
             first: upper.first,
             second: lower.first,
-            others: Wire(first),
+            others: first,
         },
     }
 }

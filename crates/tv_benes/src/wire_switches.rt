@@ -44,5 +44,5 @@ pub(crate) fn wire_switch<S: Sink>(s: &mut S, scratch: &mut Scratch, x: Wire, y:
     ensures puts { PutsIn S.meaning s.old s.new (switch_of (wires_at x) (wires_at y)) result }
     ensures grows { IfOk result (λ _. Grows S.meaning s.old s.new 5 5) }
 {
-    switch(s, scratch, x, Wire(x.0 + 1), y, Wire(y.0 + 1))
+    switch(s, scratch, x, x.offset(1), y, y.offset(1))
 }

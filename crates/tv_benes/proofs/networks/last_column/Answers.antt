@@ -16,11 +16,11 @@ pub last_outputs-requires : goal.last_outputs-requires
 last_outputs-requires g c =
     let some : c.args.h ≢ 0 = λ e. let none : c.args.h ≡ 0 = e in omega (arith, c.requires.some) in
     let below = above c.args.net c.args.h some in
-    omega (arith, c.wires-first.ensures, c.requires.room.wires, missing_small c.args.net, below.size, below.some)
+    omega (arith, c.wires.ensures, c.requires.room.wires, missing_small c.args.net, below.size, below.some)
 
 pub returns-clause-puts : goal.returns-clause-puts
 returns-clause-puts g c =
     let m = g.S.Sink.meaning in
     let count : c.power.result - c.missing.result ≡ 2 ^ c.args.h - missing c.args.net = ap₂ (λ a b. a - b) c.power.ensures c.missing.ensures in
     let column = rw count at c.in_ok-column.ensures.puts in
-    rw c.last_outputs.ensures (last_column_put m c.args.net c.args.h c.args.upper.now c.args.lower.now _ _ c.wires-first.result c.wires-first.ensures column)
+    rw c.last_outputs.ensures (last_column_put m c.args.net c.args.h c.args.upper.now c.args.lower.now _ _ c.wires.result c.wires.ensures column)
