@@ -1,13 +1,13 @@
 -- The halves of a permutation: every input is settled, and of each two fellows one goes down.
 use Rattle.std.proofs.Common.{◌≡◌, ◌≢◌, ℕ, zero, suc, ◌+◌, ◌*◌, ◌/◌, ◌%◌, ◌<◌, ◌≤◌, ◌==◌, inl, inr, Bool, true, false, not, if◌then◌else◌, List, length, get_or, set, replicate, Some, None, is_none, refl, sym, ◌∙◌, ap, subst, arith, get_or-set_same, get_or-set_other}
-use Rattle.std.specs.Prelude.{slice_index}
+use Rattle.std.specs.Prelude.{slice_index, unwrap_or}
 use Rattle.std.proofs.lemmas.Bool.{cases_eq, cases_lt}
 use Rattle.std.proofs.lemmas.List.{get_or-replicate, length-replicate, get_or_past}
 use Rattle.std.proofs.lemmas.List.Sums.{count_by-le-length}
 use Rattle.tv_route.proofs.Pairing.{other_pairs, other-even, partners_pair, partner_of}
 use Rattle.tv_route.proofs.Walking.{IsClosed, IsUnderway, left, walk_closes, walk_still, walk_begins}
 use Rattle.tv_route.specs.Permutations.{Permutes}
-use Rattle.tv_route.specs.Route.{Mark, other, partners, walk, walks, halves, is_down, down}
+use Rattle.tv_route.specs.Route.{Mark, other, partners, walk, walks, halves, down}
 
 abbrev pub IsSettled : List Mark → ℕ → Type 0
 IsSettled marks z = get_or marks z None ≢ None
@@ -154,7 +154,7 @@ module _ (n : ℕ) (p : List ℕ) (perm : Permutes (2 * n) p) where
   mark_some (Some b) s = (b, refl)
 
   down_at : (z : ℕ) (b : Bool) → get_or (halves p n) z None ≡ Some b → down (halves p n) z ≡ b
-  down_at z b e = ap is_down e
+  down_at z b e = ap (λ (m : Mark). unwrap_or m false) e
 
   even_mark : (j : ℕ) → j < n → (b : Bool) × (get_or (halves p n) (2 * j) None ≡ Some b)
   even_mark j h = let w = all (omega arith) in mark_some (get_or (halves p n) (2 * j) None) (w.evens j h)
@@ -190,7 +190,7 @@ module _ (n : ℕ) (p : List ℕ) (perm : Permutes (2 * n) p) where
       down_at (slice_index p (2 * j + 1)) (not first.0) (ap (λ k. get_or (halves p n) k None) (sym fellow) ∙ second) ∙ ap not (sym (down_at x first.0 first.1))
 
   pub first_up : 0 < n → down (halves p n) (slice_index p 0) ≡ false
-  first_up some = let w = all some in ap is_down w.up
+  first_up some = let w = all some in ap (λ (m : Mark). unwrap_or m false) w.up
 
   pub halves-long : 0 < n → length (halves p n) ≡ 2 * n
   halves-long some = let w = all some in w.closed.long

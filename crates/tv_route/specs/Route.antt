@@ -1,7 +1,7 @@
 -- Settings of a network for a permutation, by the looping method: output i is to be the input at place p i. Inputs
 -- 2 j and 2 j + 1 go through different halves, and so do the inputs of outputs 2 j and 2 j + 1. A walk from an input
 -- alternates these two pairings until it is back where it began.
-use Rattle.std.specs.Prelude.{◌≡◌, ℕ, zero, suc, ◌+◌, ◌-◌, ◌*◌, ◌/◌, ◌%◌, ◌^◌, ◌<◌, ◌≤◌, ◌==◌, nat_lt, Bool, true, false, if◌then◌else◌, List, [], ◌∷◌, ◌++◌, length, get_or, slice_index, set, replicate, Option, Some, None, is_none}
+use Rattle.std.specs.Prelude.{◌≡◌, ℕ, zero, suc, ◌+◌, ◌-◌, ◌*◌, ◌/◌, ◌%◌, ◌^◌, ◌<◌, ◌≤◌, ◌==◌, nat_lt, Bool, true, false, if◌then◌else◌, List, [], ◌∷◌, ◌++◌, length, get_or, slice_index, set, replicate, Option, Some, None, is_none, unwrap_or}
 use Rattle.tv_benes.specs.Items.{bit_at}
 use Rattle.tv_benes.specs.Through.{switches, missing, places, through}
 use Rattle.tv_benes.specs.declared.shape.Net.{Net}
@@ -45,12 +45,8 @@ abbrev pub halves : List ℕ → ℕ → List Mark
 halves p n = let start = slice_index p 0 in walks (partners p n) n n (walk (partners p n) n start start (replicate (2 * n) None))
 
 -- whether an input goes through the lower half
-abbrev pub is_down : Mark → Bool
-is_down None = false
-is_down (Some b) = b
-
 abbrev pub down : List Mark → ℕ → Bool
-down marks x = is_down (get_or marks x None)
+down marks x = unwrap_or (get_or marks x None) false
 
 -- the input that goes through the upper, and through the lower half to the pair of outputs j
 abbrev pub up_input : List Mark → List ℕ → ℕ → ℕ

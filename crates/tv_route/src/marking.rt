@@ -1,5 +1,5 @@
-ghost use Rattle.std.specs.Prelude.{◌≡◌, ℕ, ◌*◌, ◌^◌, ◌<◌, ◌≤◌, length, get_or};
-ghost use Rattle.std.specs.Prelude.{slice_index, None, is_none, IfOk};
+ghost use Rattle.std.specs.Prelude.{◌≡◌, ℕ, ◌*◌, ◌^◌, ◌<◌, ◌≤◌, length};
+ghost use Rattle.std.specs.Prelude.{slice_index, IfOk};
 ghost use Rattle.tv_route.specs.Permutations.{Permutes};
 ghost use Rattle.tv_route.specs.Route.{other, partners, walk, walks, halves};
 
@@ -32,8 +32,7 @@ fn partners(alloc: Global, p: &[u32], n: usize) -> Result<Vec<u32>, AllocError>
     requires { Permutes (2 * n) p.now }
     ensures { IfOk result (λ v. v.items ≡ partners p.now n) }
 {
-    let mut found = Vec::with_capacity(alloc, p.len())?;
-    found.extend_from_slice(p)?;
+    let mut found = Vec::from_slice(alloc, p)?;
     for j in 0..n {
         let (a, b) = (p[2 * j], p[2 * j + 1]);
         found[a as usize] = b;
@@ -85,19 +84,8 @@ fn walk_all(partner: &[u32], n: usize, marks: &mut [Option<bool>])
     ensures { marks.new ≡ walks partner.now n n marks.old }
 {
     for j in 0..n {
-        if is_open(marks, 2 * j) {
+        if marks[2 * j].is_none() {
             walk(partner, n, 2 * j, marks);
         }
-    }
-}
-
-// Whether an input is not settled.
-fn is_open(marks: &[Option<bool>], x: usize) -> bool
-    requires { x < length marks.now }
-    ensures { result ≡ is_none (get_or marks.now x None) }
-{
-    match marks[x] {
-        Some(_) => false,
-        None => true,
     }
 }

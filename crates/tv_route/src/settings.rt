@@ -111,10 +111,7 @@ fn down(marks: &[Option<bool>], x: usize) -> bool
     requires { x < length marks.now }
     ensures { result ≡ down marks.now x }
 {
-    match marks[x] {
-        Some(lower) => lower,
-        None => false,
-    }
+    marks[x].unwrap_or(false)
 }
 
 // Of the inputs of a pair of outputs the one that goes through a half.
@@ -127,11 +124,7 @@ fn input(marks: &[Option<bool>], p: &[u32], j: usize, lower: bool) -> u32
 {
     let (x, y) = (p[2 * j], p[2 * j + 1]);
     let first = down(marks, x as usize);
-    if lower {
-        if first { x } else { y }
-    } else {
-        if first { y } else { x }
-    }
+    if lower == first { x } else { y }
 }
 
 // The places, within one half, of the inputs that go through it.

@@ -4,4 +4,4 @@ use Rattle.tv_memory_tests.proofs.arguing.assignment.Goals as goal
 pub routing_settings-requires : goal.routing_settings-requires
 routing_settings-requires c =
     let yes : c.in_ok-is_permutation.field-0 ≡ true = search rules in
-    record { k = 3; some = omega arith; few = omega arith; permutes = c.in_ok-is_permutation.ensures.yes yes }
+    record { k = 3; some = omega arith; few = omega arith; permutes = c.in_ok-is_permutation.ensures.0 yes }

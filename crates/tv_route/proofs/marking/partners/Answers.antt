@@ -4,7 +4,7 @@ use Rattle.tv_route.proofs.Steps.{partners_more, partners_none}
 use Rattle.tv_route.proofs.marking.partners.Goals as goal
 
 pub loop-j-init : goal.loop-j-init
-loop-j-init c = rw (c.in_ok-found.ensures.items) at c.in_ok-extend_from_slice.ensures.items ∙ sym (partners_none c.args.p.now)
+loop-j-init c = c.in_ok-found.ensures.items ∙ sym (partners_none c.args.p.now)
 
 pub loop-j-preserved : goal.loop-j-preserved
 loop-j-preserved c =

@@ -1,4 +1,4 @@
-use Rattle.std.proofs.Common.{◌≡◌, ◌<◌, length, false, subst, sym, ◌∙◌, arith}
+use Rattle.std.proofs.Common.{◌≡◌, ◌<◌, length, false, refl, subst, sym, ◌∙◌, arith}
 use Rattle.std.specs.Prelude.{slice_index}
 use Rattle.std.proofs.lemmas.List.{get_or_default}
 use Rattle.tv_route.proofs.Seen.{IsSeen, seen_none, seen_more, all_permute}
@@ -14,7 +14,7 @@ loop-i-preserved c =
     seen_more c.args.p.now c.loop-i.i c.loop-i.seen.items c.loop-i.invariant c.if-x-p.false
     (get_or_default c.loop-i.seen.items x false c.index.result.now within ∙ sym c.index.ensures ∙ c.if-index.false)
 
-pub returns-clause-yes : goal.returns-clause-yes
-returns-clause-yes c =
+pub returns : goal.returns
+returns c =
     let all : c.loop-i.i ≡ length c.args.p.now = omega arith in
-    λ yes. all_permute c.args.p.now c.loop-i.seen.items (subst (λ i. IsSeen c.args.p.now i c.loop-i.seen.items) all c.loop-i.invariant)
+    (λ yes. all_permute c.args.p.now c.loop-i.seen.items (subst (λ i. IsSeen c.args.p.now i c.loop-i.seen.items) all c.loop-i.invariant), λ permutes. refl)
