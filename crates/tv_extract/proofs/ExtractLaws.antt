@@ -1,15 +1,13 @@
 -- What is extracted is a run of the assignment, and each satisfying assignment has one.
-use Rattle.std.proofs.Common.{◌≡◌, ◌≢◌, ℕ, zero, suc, ◌+◌, ◌<◌, ◌^◌, Bool, true, false, List, [], ◌∷◌, ◌++◌, length, map, refl, sym, ap, ap₂, ◌∙◌, subst, Result, Ok, Err, All}
+use Rattle.std.proofs.Common.{◌≡◌, ◌≢◌, ℕ, zero, suc, ◌+◌, ◌<◌, ◌^◌, Bool, true, false, List, [], ◌∷◌, length, map, refl, sym, ap, ap₂, ◌∙◌, subst, Result, Ok, Err, All}
 use Rattle.std.proofs.lemmas.Bool.{ltb-true, lt-ltb, eq-eqb, eqb-true}
 use Rattle.std.proofs.lemmas.List.Elements.{All-nil, All-cons, All-head, All-tail}
 use Rattle.std.proofs.lemmas.List.FromFn.{length-range_with_len}
-use Rattle.std.proofs.lemmas.List.{length-map, map-append}
-use Rattle.std.specs.List.{range_with_len, flat_map}
+use Rattle.std.proofs.lemmas.List.{length-map}
+use Rattle.std.specs.List.{range_with_len}
 use Rattle.std.specs.Prelude.{◌==◌, nat_lt, slice_index}
 use Rattle.tv_benes.specs.declared.shape.Net.{Net}
 use Rattle.tv_block.specs.Block.{block_of}
-use Rattle.tv_block.specs.declared.records.Spot.{Spot}
-use Rattle.tv_core.specs.Below.{joined_below}
 use Rattle.tv_core.specs.Constraints.{Sat}
 use Rattle.tv_core.specs.Laws.{HasFrom}
 use Rattle.tv_step.proofs.EndLaws.{answer_is_within}
@@ -19,10 +17,10 @@ use Rattle.tv_step.specs.Reads.{Reads}
 use Rattle.tv_step.specs.declared.end.End.{End}
 use Rattle.tv_step.specs.declared.end.End.TheVariants as ends
 use Rattle.tv_layout.proofs.Systems.{system_sound}
-use Rattle.tv_layout.specs.Layout.{taken_at, taken_of, block_at}
-use Rattle.tv_layout.specs.Places.{WithinLimits, boot_count, zero_wire_at, first_at, tape_at}
+use Rattle.tv_layout.specs.Layout.{taken_wires, taken_of}
+use Rattle.tv_layout.specs.Places.{WithinLimits, tape_at}
 use Rattle.tv_layout.specs.Systems.{system_of}
-use Rattle.tv_extract.specs.Extracting.{◌>>=◌, taken_wire, taken_wires, word_at, words_at, answering, run_in}
+use Rattle.tv_extract.specs.Extracting.{◌>>=◌, word_at, words_at, answering, run_in}
 use Rattle.tv_extract.specs.Runs.{IsRunOf, ExtractedIsRun, HasRunIn, SatisfyingHaveRuns}
 use Rattle.tv_extract.specs.declared.run.ExtractFault.{ExtractFault}
 use Rattle.tv_extract.specs.declared.run.Run.{Run}
@@ -87,23 +85,6 @@ has_row z first n = by_count n first
     by_count zero first = tt
     by_count (suc n) first = (refl, by_count n (first + 1))
 
-one_taken : (w : ℕ) (z : List ℕ) (spot : Spot) → taken_at (block_of w) z spot ≡ map (slice_index z) (taken_wire z spot)
-one_taken w z spot = by_test (slice_index z spot.taken == 1) refl
-  where
-    by_test : (b : Bool) → (slice_index z spot.taken == 1) ≡ b → taken_at (block_of w) z spot ≡ map (slice_index z) (taken_wire z spot)
-    by_test true e = rw e refl
-    by_test false e = rw e refl
-
-all_taken : (w : ℕ) (z : List ℕ) (spot : ℕ → Spot) (places : List ℕ) → flat_map (λ i. taken_at (block_of w) z (spot i)) places ≡ map (slice_index z) (flat_map (λ i. taken_wire z (spot i)) places)
-all_taken w z spot [] = refl
-all_taken w z spot (i ∷ places) =
-    ap₂ (λ (a b : List ℕ). a ++ b) (one_taken w z (spot i)) (all_taken w z spot places)
-    ∙ sym (map-append (slice_index z) (taken_wire z (spot i)) (flat_map (λ i. taken_wire z (spot i)) places))
-
-taken_is : (w : ℕ) (image : List ℕ) (n t : ℕ) (z : List ℕ) → taken_of (block_of w) w image n t z ≡ map (slice_index z) (taken_wires w image n t z)
-unfolding taken_of taken_wires joined_below
-taken_is w image n t z = all_taken w z (λ i. (block_at (block_of w) n (boot_count image n) (zero_wire_at w n) (first_at w n) i).spot) (range_with_len 0 t)
-
 -- ---- the end of the run
 answering_ok : (answer : ℕ) (tape aux : List ℕ) (end : End) (run : Run) → answering answer tape aux end ≡ Ok run
     → (end ≡ ends.Answer answer run.step) × (run.answer ≡ answer) × (run.tape ≡ tape) × (run.aux ≡ aux)
@@ -149,12 +130,12 @@ module _ (w : ℕ) (net : Net) (image : List ℕ) (n t : ℕ) (z : List ℕ) whe
   run_wide_tape answer fault many first refused = rw (eq-eqb (length z) (system_of w net image n t).wires many, first, refused) refl
 
   pub run_wide_aux : (answer : ℕ) (tape : List ℕ) (fault : ExtractFault) → length z ≡ (system_of w net image n t).wires → word_at w z 1 ≡ Ok answer
-      → words_at w z (range_with_len tape_at n) ≡ Ok tape → words_at w z (taken_wires w image n t z) ≡ Err fault → run_in w net image n t z ≡ Err fault
+      → words_at w z (range_with_len tape_at n) ≡ Ok tape → words_at w z (taken_wires (block_of w) w image n t z) ≡ Err fault → run_in w net image n t z ≡ Err fault
   unfolding run_in
   run_wide_aux answer tape fault many first second refused = rw (eq-eqb (length z) (system_of w net image n t).wires many, first, second, refused) refl
 
   pub run_answering : (answer : ℕ) (tape aux : List ℕ) → length z ≡ (system_of w net image n t).wires → word_at w z 1 ≡ Ok answer
-      → words_at w z (range_with_len tape_at n) ≡ Ok tape → words_at w z (taken_wires w image n t z) ≡ Ok aux
+      → words_at w z (range_with_len tape_at n) ≡ Ok tape → words_at w z (taken_wires (block_of w) w image n t z) ≡ Ok aux
       → run_in w net image n t z ≡ answering answer tape aux (end_of w t (start w image tape aux))
   unfolding run_in
   run_answering answer tape aux many first second third = rw (eq-eqb (length z) (system_of w net image n t).wires many, first, second, third) refl
@@ -168,17 +149,17 @@ extracted_is_run w net image z n t run e = by_test (length z == (system_of w net
     chain =
         word_at w z 1
         >>= (λ answer. words_at w z (range_with_len tape_at n)
-        >>= (λ tape. words_at w z (taken_wires w image n t z)
+        >>= (λ tape. words_at w z (taken_wires (block_of w) w image n t z)
         >>= (λ aux. answering answer tape aux (end_of w t (start w image tape aux)))))
 
     of_chain : chain ≡ Ok run → IsRunOf w image n t z run
     of_chain is =
         let a = then_ok (word_at w z 1) _ run is in
         let x = then_ok (words_at w z (range_with_len tape_at n)) _ run a.2 in
-        let u = then_ok (words_at w z (taken_wires w image n t z)) _ run x.2 in
+        let u = then_ok (words_at w z (taken_wires (block_of w) w image n t z)) _ run x.2 in
         let answer = word_ok w z 1 a.0 a.1 in
         let tape = words_ok w z (range_with_len tape_at n) x.0 x.1 in
-        let aux = words_ok w z (taken_wires w image n t z) u.0 u.1 in
+        let aux = words_ok w z (taken_wires (block_of w) w image n t z) u.0 u.1 in
         let end = answering_ok a.0 x.0 u.0 (end_of w t (start w image x.0 u.0)) run u.2 in
         let answers : end_of w t (start w image run.tape run.aux) ≡ ends.Answer run.answer run.step =
         same_end w image t x.0 run.tape u.0 run.aux a.0 run.answer run.step end.2 end.3 end.1 end.0 in
@@ -186,7 +167,7 @@ extracted_is_run w net image z n t run e = by_test (length z == (system_of w net
           answer = end.1 ∙ answer.0;
           many = ap length (end.2 ∙ tape.0) ∙ length-map (range_with_len tape_at n) (slice_index z) ∙ length-range_with_len tape_at n;
           tape = subst (HasFrom z tape_at) (sym (end.2 ∙ tape.0)) (has_row z tape_at n);
-          aux = end.3 ∙ aux.0 ∙ sym (taken_is w image n t z);
+          aux = end.3 ∙ aux.0;
           tape_words = subst (AreWords w) (sym end.2) tape.1;
           aux_words = subst (AreWords w) (sym end.3) aux.1;
           answers = answers;
@@ -215,19 +196,18 @@ satisfying_have_runs w net image z n t fits sat =
     long = length-map (range_with_len tape_at n) (slice_index z) ∙ length-range_with_len tape_at n
 
     u : List ℕ
-    u = map (slice_index z) (taken_wires w image n t z)
+    u = map (slice_index z) (taken_wires (block_of w) w image n t z)
 
     by_run : AreWords w (taken_of (block_of w) w image n t z) → AreWords w x → slice_index z 1 < 2 ^ w → Accepts w image x (taken_of (block_of w) w image n t z) t (slice_index z 1)
         → Reads w image x (taken_of (block_of w) w image n t z) t ≡ taken_of (block_of w) w image n t z → HasRunIn w net image n t z
     by_run aux_words tape_words answer accepts reads =
-        let is : taken_of (block_of w) w image n t z ≡ u = taken_is w image n t z in
-        let end : end_of w t (start w image x u) ≡ ends.Answer (slice_index z 1) accepts.0 = subst (λ l. end_of w t (start w image x l) ≡ ends.Answer (slice_index z 1) accepts.0) is accepts.2 in
+        let end : end_of w t (start w image x u) ≡ ends.Answer (slice_index z 1) accepts.0 = accepts.2 in
         let counted : (length z == (system_of w net image n t).wires) ≡ true = eq-eqb (length z) (system_of w net image n t).wires sat.each_wire in
         let same : (slice_index z 1 == slice_index z 1) ≡ true = eq-eqb (slice_index z 1) (slice_index z 1) refl in
         record {
           run = record { answer = slice_index z 1; tape = x; aux = u; step = accepts.0 };
-          is = rw (counted, word_is w z 1 answer, words_are w z (range_with_len tape_at n) tape_words, words_are w z (taken_wires w image n t z) (subst (AreWords w) is aux_words), end, same) refl;
-          reads = subst (λ l. Reads w image x l t ≡ l) is reads;
+          is = rw (counted, word_is w z 1 answer, words_are w z (range_with_len tape_at n) tape_words, words_are w z (taken_wires (block_of w) w image n t z) aux_words, end, same) refl;
+          reads = reads;
         }
 
 pub ruleset extracted = (words_small, run_miscounted, run_wide, run_wide_tape, run_wide_aux, run_answering)

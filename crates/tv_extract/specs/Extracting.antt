@@ -3,13 +3,11 @@ use Rattle.std.specs.Prelude.{ℕ, ◌^◌, ◌==◌, nat_lt, if◌then◌else�
 use Rattle.std.specs.List.{range_with_len}
 use Rattle.tv_benes.specs.declared.shape.Net.{Net}
 use Rattle.tv_block.specs.Block.{block_of}
-use Rattle.tv_block.specs.declared.records.Spot.{Spot}
-use Rattle.tv_core.specs.Below.{joined_below}
 use Rattle.tv_step.specs.Machine.{start, end_of}
 use Rattle.tv_step.specs.declared.end.End.{End}
 use Rattle.tv_step.specs.declared.end.End.TheVariants as ends
-use Rattle.tv_layout.specs.Layout.{block_at}
-use Rattle.tv_layout.specs.Places.{boot_count, zero_wire_at, first_at, tape_at}
+use Rattle.tv_layout.specs.Layout.{taken_wires}
+use Rattle.tv_layout.specs.Places.{tape_at}
 use Rattle.tv_layout.specs.Systems.{system_of}
 use Rattle.tv_extract.specs.declared.run.ExtractFault.{ExtractFault}
 use Rattle.tv_extract.specs.declared.run.ExtractFault.TheVariants.{WireCount, WideWire, NotARun}
@@ -19,13 +17,6 @@ infixl 10 ◌>>=◌
 abbrev pub ◌>>=◌ : {A B : Type 0} → Result A ExtractFault → (A → Result B ExtractFault) → Result B ExtractFault
 (Ok x) >>= f = f x
 (Err fault) >>= f = Err fault
-
--- the wires at which the steps that take a word of the auxiliary tape have it: those whose `taken` is 1
-abbrev pub taken_wire : List ℕ → Spot → List ℕ
-taken_wire z spot = if slice_index z spot.taken == 1 then spot.word ∷ [] else []
-
-unfoldable pub taken_wires : ℕ → List ℕ → ℕ → ℕ → List ℕ → List ℕ
-taken_wires w image n t z = joined_below t (λ i. taken_wire z (block_at (block_of w) n (boot_count image n) (zero_wire_at w n) (first_at w n) i).spot)
 
 -- the word at a wire, which is refused where the number there is wide: none of w bits
 abbrev pub word_at : ℕ → List ℕ → ℕ → Result ℕ ExtractFault
@@ -50,6 +41,6 @@ run_in w net image n t z =
     if length z == (system_of w net image n t).wires
     then (word_at w z 1
     >>= (λ answer. words_at w z (range_with_len tape_at n)
-    >>= (λ tape. words_at w z (taken_wires w image n t z)
+    >>= (λ tape. words_at w z (taken_wires (block_of w) w image n t z)
     >>= (λ aux. answering answer tape aux (end_of w t (start w image tape aux))))))
     else Err (WireCount (length z) (system_of w net image n t).wires)

@@ -1,9 +1,11 @@
 ghost use Rattle.std.specs.Prelude.{◌≡◌, ◌⊎◌, ◌*◌, ◌/◌, ◌<◌, ◌≤◌, ◌^◌, length};
 ghost use Rattle.std.specs.Prelude.{slice_index, Ok, Err, IfOk, IfErr};
 ghost use Rattle.std.specs.List.{range_with_len};
+ghost use Rattle.tv_block.specs.Block.{block_of};
+ghost use Rattle.tv_layout.specs.Layout.{taken_wires};
 ghost use Rattle.tv_layout.specs.Places.{WithinLimits, tape_at};
 ghost use Rattle.tv_word.specs.Widths.{IsWidth};
-ghost use Rattle.tv_extract.specs.Extracting.{word_at, words_at, taken_wires, run_in, answering};
+ghost use Rattle.tv_extract.specs.Extracting.{word_at, words_at, run_in, answering};
 ghost use Rattle.tv_extract.specs.declared.run.ExtractFault.TheVariants.{Memory};
 
 use crate::run::{ExtractFault, Run};
@@ -18,8 +20,8 @@ use tv_word::Words;
 /// What is wrong is told in this order: the number of values (`WireCount`); the first public wire,
 /// or else the first word taken, in the order of steps, that is no word of `W` bits (`WideWire`);
 /// how the run on these words ends where it doesn't answer the word at wire 1 (`NotARun`). A
-/// satisfying assignment has none of these faults. Takes the time of the run and of telling the
-/// system's sizes, and memory for the words, twice, and for the machine.
+/// satisfying assignment has none of these faults. Takes the time of the run and time linear in `n`
+/// and `t`, and memory for the words, twice, and for the machine.
 ///
 /// The image fits in memory and has at most 131,072 words, `n` is at most 131,072, and `t` is from
 /// 1 to 262,144.
@@ -102,9 +104,10 @@ fn taken_words<const W: u32>(
 ) -> Result<Words, ExtractFault>
     requires fits { WithinLimits W image.now n t }
     ensures words { IfOk result (λ words. words_at W values.now
-        (taken_wires W image.now n t values.now) ≡ Ok words) }
+        (taken_wires (block_of W) W image.now n t values.now) ≡ Ok words) }
     ensures fault { IfErr result (λ fault. (fault ≡ Memory)
-        ⊎ (words_at W values.now (taken_wires W image.now n t values.now) ≡ Err fault)) }
+        ⊎ (words_at W values.now (taken_wires (block_of W) W image.now n t values.now)
+        ≡ Err fault)) }
 {
     let mut words = Words::new(alloc);
     for step in 0..t {

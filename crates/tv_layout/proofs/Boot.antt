@@ -1,8 +1,9 @@
 -- What an assignment has at boot lines and padding, and lines whose times are their places.
-use Rattle.std.proofs.Common.{◌≡◌, ℕ, zero, suc, ◌+◌, ◌<◌, ◌≤◌, ◌^◌, List, [], ◌∷◌, ◌++◌, length, map, refl, sym, ap, ap₂, ◌∙◌, arith, subst}
+use Rattle.std.proofs.Common.{◌≡◌, ℕ, zero, suc, ◌+◌, ◌<◌, ◌≤◌, ◌^◌, List, [], ◌∷◌, ◌++◌, length, map, take, refl, sym, ap, ap₂, ◌∙◌, arith, subst}
 use Rattle.std.proofs.lemmas.List.Elements.{All-head, All-tail}
 use Rattle.std.proofs.lemmas.List.{length-append, map-append, length-map}
 use Rattle.std.specs.List.{range_with_len}
+use Rattle.std.specs.Prelude.{slice_index}
 use Rattle.tv_core.proofs.CombinationLaws.{value-constant, value-wire}
 use Rattle.tv_core.specs.Combinations.{wire, constant}
 use Rattle.tv_core.specs.Constraints.{Combination, value}
@@ -75,6 +76,17 @@ pub length-boot_lines : (image x : List ℕ) → length (boot_lines image x) ≡
 length-boot_lines image x =
     length-append (boot_from 0 0 image) (boot_from TAPE_CELLS (length image) x)
     ∙ ap₂ (λ a b. a + b) (length-boot_from 0 0 image) (length-boot_from TAPE_CELLS (length image) x)
+
+-- one more of the lines that write words
+pub boot_more : (cell time : ℕ) (words : List ℕ) (i : ℕ) → i < length words
+    → boot_from cell time (take (i + 1) words) ≡ boot_from cell time (take i words) ++ record { cell = cell + i; time = time + i; old = 0; new = slice_index words i } ∷ []
+boot_more cell time [] i h = absurd (omega arith)
+boot_more cell time (v ∷ words) zero h = let c : cell + 0 ≡ cell = omega arith in let t : time + 0 ≡ time = omega arith in rw (c, t) refl
+boot_more cell time (v ∷ words) (suc i) h =
+    let e : suc i + 1 ≡ suc (i + 1) = omega arith in
+    let c : cell + suc i ≡ cell + 1 + i = omega arith in
+    let t : time + suc i ≡ time + 1 + i = omega arith in
+    rw (e, c, t) (ap (λ (l : List Line). record { cell = cell; time = time; old = 0; new = v } ∷ l) (boot_more (cell + 1) (time + 1) words i (omega arith)))
 
 pub boot_lines_placed : (image x : List ℕ) → AreWords 32 image → AreWords 32 x → length image ≤ 2 ^ 30 → length x ≤ 2 ^ 30 → LinesFrom 0 (boot_lines image x)
 boot_lines_placed image x words tape i j =

@@ -32,6 +32,7 @@ use Rattle.tv_layout.proofs.Ends.{words_met, zero_wire_met, tie_met}
 use Rattle.tv_layout.proofs.Positions.{layout_meets, layout_next, last_of, log_some, log_within, memory_at}
 use Rattle.tv_layout.proofs.RunLines.{input, run_placed, run_few, run_honest}
 use Rattle.tv_layout.proofs.StepsFill.{steps_met, steps_lines, steps_take, last_said}
+use Rattle.tv_layout.proofs.Taking.{taken_of_is}
 use Rattle.tv_layout.proofs.Whole.{few, short, early, spare, lines_valued, lines_many}
 use Rattle.tv_layout.proofs.Blocks.{BlockSizes, BlockIsSound, BlockIsComplete}
 use Rattle.tv_layout.specs.Blocks.{BlockCircuit, BlockValues}
@@ -162,9 +163,9 @@ module _ (w : ℕ) (net : Net) (block : BlockCircuit) (made : ℕ) (values : Blo
       omega (arith, a, b, c, m, length-bits, length-blocks, e)
 
   taken_is : taken_of block w image (length x) t z ≡ Reads w image x aux t
-  unfolding taken_of
   taken_is =
-      steps_take w block made sizes values law complete image x aux z (zero_wire_at w (length x)) (first_at w (length x)) t v (input w image x aux t fits x_words aux_words) assigns (early image (length x) t w fits) has_parts.zero_wire has_steps runs t (omega arith)
+      taken_of_is block w image (length x) t z
+      ∙ steps_take w block made sizes values law complete image x aux z (zero_wire_at w (length x)) (first_at w (length x)) t v (input w image x aux t fits x_words aux_words) assigns (early image (length x) t w fits) has_parts.zero_wire has_steps runs t (omega arith)
 
   pub is_fill : IsFill w net block image x aux t v z
   is_fill = record {

@@ -24,11 +24,10 @@ use Rattle.tv_step.specs.State.{State}
 use Rattle.tv_step.specs.Trace.{lines_of}
 use Rattle.tv_layout.proofs.Machine.{HonestFrom-right, holds, Led, led}
 use Rattle.tv_layout.proofs.Steps.{step, did_at, next_state}
-use Rattle.tv_layout.proofs.Taking.{taken_fits}
+use Rattle.tv_layout.proofs.Taking.{taken_in, taken_fits}
 use Rattle.tv_block.specs.Fetch.{state_in}
 use Rattle.tv_layout.proofs.Blocks.{BlockSizes}
 use Rattle.tv_layout.specs.Blocks.{BlockCircuit}
-use Rattle.tv_layout.specs.Layout.{taken_at}
 
 -- lists one after another, from number i on
 record Split (f : ℕ → List Line) (t i : ℕ) : Type 0 where
@@ -58,11 +57,11 @@ module _ (w : ℕ) (block : BlockCircuit) (made : ℕ) (sizes : BlockSizes block
   lines i = lines_in (did_at block made sizes z x (length image + length x) zero_wire first i)
 
   abbrev taken : ℕ → List ℕ
-  taken i = taken_at block z (step block made sizes z x (length image + length x) zero_wire first i).spot
+  taken i = taken_in z (step block made sizes z x (length image + length x) zero_wire first i).spot
 
   -- the words that m steps take, from step i on
   abbrev later : ℕ → ℕ → List ℕ
-  later i m = flat_map (λ j. taken_at block z (step block made sizes z x (length image + length x) zero_wire first j).spot) (range_with_len i m)
+  later i m = flat_map (λ j. taken_in z (step block made sizes z x (length image + length x) zero_wire first j).spot) (range_with_len i m)
 
   all_later : (n : ℕ) → joined_below n taken ≡ later 0 n
   unfolding joined_below

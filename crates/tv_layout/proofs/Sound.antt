@@ -22,11 +22,12 @@ use Rattle.tv_layout.proofs.Ends.{words_there, are_words, zero_wire_there, tie_t
 use Rattle.tv_layout.proofs.Positions.{layout_met, last_of, log_some, log_within}
 use Rattle.tv_layout.proofs.Run.{Known, known_at, takes_at, accepts, reads_all}
 use Rattle.tv_layout.proofs.Steps.{step, did_at, last_step, does, taken_words}
+use Rattle.tv_layout.proofs.Taking.{taken_in, taken_at_is, taken_of_is}
 use Rattle.tv_layout.proofs.Whole.{few, short, early, spare, lines, lines_valued, all_placed, lines_many}
 use Rattle.tv_block.specs.Fetch.{state_in}
 use Rattle.tv_layout.proofs.Blocks.{BlockSizes, BlockIsSound}
 use Rattle.tv_layout.specs.Blocks.{BlockCircuit}
-use Rattle.tv_layout.specs.Layout.{steps_of, state_at, lines_of, taken_at, taken_of, layout}
+use Rattle.tv_layout.specs.Layout.{steps_of, state_at, lines_of, taken_of, layout}
 use Rattle.tv_layout.specs.Places.{WithinLimits, boot_count, line_count, log_of, tape_at, zero_wire_at, first_at}
 use Rattle.tv_layout.specs.Sound.{padding, IsRun}
 
@@ -49,9 +50,8 @@ module _ (w : ℕ) (block : BlockCircuit) (made : ℕ) (sizes : BlockSizes block
   each_does i h =
       does block made sizes z x (boot_count image (length x)) (zero_wire_at w (length x)) (first_at w (length x)) w fits.width law t assigns (short image (length x) t w fits) (early image (length x) t w fits) zero_there met i h
 
-  aux_is : aux ≡ joined_below t (λ i. taken_at block z (step block made sizes z x (boot_count image (length x)) (zero_wire_at w (length x)) (first_at w (length x)) i).spot)
-  unfolding taken_of
-  aux_is = refl
+  aux_is : aux ≡ joined_below t (λ i. taken_in z (step block made sizes z x (boot_count image (length x)) (zero_wire_at w (length x)) (first_at w (length x)) i).spot)
+  aux_is = taken_of_is block w image (length x) t z
 
   aux_words : AreWords w aux
   aux_words = subst (AreWords w) (sym aux_is) (taken_words block made sizes z x (boot_count image (length x)) (zero_wire_at w (length x)) (first_at w (length x)) w fits.width law t assigns (short image (length x) t w fits) (early image (length x) t w fits) zero_there met t (omega arith))
@@ -98,7 +98,8 @@ module _ (w : ℕ) (block : BlockCircuit) (made : ℕ) (sizes : BlockSizes block
         honest = honest;
         lines = lines_valued w block made sizes law image x z t fits assigns words has zero_there met ∙ ap (λ l. (boot_lines image x ++ l) ++ pad) (known t (omega arith)).are;
         states = λ i h. (known i h).matches;
-        takes = takes_at w block made sizes image x z (zero_wire_at w (length x)) (first_at w (length x)) t each_does aux aux_is input pad lines_honest (starts block w image x aux z (boot_count image (length x)) (zero_wire_at w (length x)) (first_at w (length x)) zero_there);
+        takes = λ i h. taken_at_is z (step block made sizes z x (boot_count image (length x)) (zero_wire_at w (length x)) (first_at w (length x)) i).spot
+            ∙ takes_at w block made sizes image x z (zero_wire_at w (length x)) (first_at w (length x)) t each_does aux aux_is input pad lines_honest (starts block w image x aux z (boot_count image (length x)) (zero_wire_at w (length x)) (first_at w (length x)) zero_there) i h;
         accepts = subst (λ v. Accepts w image x aux t v) (last_value (t - 1) some)
             (accepts w block made sizes image x z (zero_wire_at w (length x)) (first_at w (length x)) t each_does aux aux_is input pad lines_honest (starts block w image x aux z (boot_count image (length x)) (zero_wire_at w (length x)) (first_at w (length x)) zero_there) (t - 1) some (last_answers (t - 1) some));
         reads = reads_all w block made sizes image x z (zero_wire_at w (length x)) (first_at w (length x)) t each_does aux aux_is input pad lines_honest (starts block w image x aux z (boot_count image (length x)) (zero_wire_at w (length x)) (first_at w (length x)) zero_there);

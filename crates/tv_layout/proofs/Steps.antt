@@ -24,8 +24,9 @@ use Rattle.tv_layout.proofs.Boot.{LinesFrom-append}
 use Rattle.tv_block.specs.Fetch.{state_in}
 use Rattle.tv_block.specs.Block.{IsMachineStep, did, reached}
 use Rattle.tv_layout.proofs.Blocks.{BlockSizes, BlockIsSound}
+use Rattle.tv_layout.proofs.Taking.{taken_in}
 use Rattle.tv_layout.specs.Blocks.{BlockCircuit}
-use Rattle.tv_layout.specs.Layout.{before_steps, step_of, steps_of, state_at, block_at, taken_at}
+use Rattle.tv_layout.specs.Layout.{before_steps, step_of, steps_of, state_at, block_at}
 use Rattle.tv_block.specs.declared.records.Block.{Block}
 use Rattle.tv_block.specs.declared.records.StateWires.{StateWires}
 use Rattle.tv_word.proofs.WidthLaws.{word_small}
@@ -129,8 +130,8 @@ module _ (block : BlockCircuit) (made : ℕ) (sizes : BlockSizes block made) (z 
     one_word i h true e = subst (λ b. AreWords w (if b then (did_at i).word ∷ [] else [])) (sym e) (All-cons (λ v. v < 2 ^ w) (did_at i).word [] ((does i h).word e) (All-nil (λ v. v < 2 ^ w)))
     one_word i h false e = subst (λ b. AreWords w (if b then (did_at i).word ∷ [] else [])) (sym e) (All-nil (λ v. v < 2 ^ w))
 
-    pub taken_words : (n : ℕ) → n ≤ t → AreWords w (joined_below n (λ i. taken_at block z (step i).spot))
-    taken_words zero h = subst (AreWords w) (sym (joined_below-zero (λ i. taken_at block z (step i).spot))) (All-nil (λ v. v < 2 ^ w))
+    pub taken_words : (n : ℕ) → n ≤ t → AreWords w (joined_below n (λ i. taken_in z (step i).spot))
+    taken_words zero h = subst (AreWords w) (sym (joined_below-zero (λ i. taken_in z (step i).spot))) (All-nil (λ v. v < 2 ^ w))
     taken_words (suc n) h =
-        subst (AreWords w) (sym (joined_below-suc n (λ i. taken_at block z (step i).spot)))
-        (All-append (λ v. v < 2 ^ w) (joined_below n (λ i. taken_at block z (step i).spot)) (taken_at block z (step n).spot) (taken_words n (omega arith)) (one_word n (omega arith) (did_at n).takes refl))
+        subst (AreWords w) (sym (joined_below-suc n (λ i. taken_in z (step i).spot)))
+        (All-append (λ v. v < 2 ^ w) (joined_below n (λ i. taken_in z (step i).spot)) (taken_in z (step n).spot) (taken_words n (omega arith)) (one_word n (omega arith) (did_at n).takes refl))

@@ -28,12 +28,12 @@ use Rattle.tv_layout.proofs.Positions.{steps_next}
 use Rattle.tv_layout.proofs.Sound.{starts}
 use Rattle.tv_layout.proofs.StepFill.{Stepped, step_met, shows, sound, stepped}
 use Rattle.tv_layout.proofs.Steps.{state, step, did_at, next_state, last_step, start_held}
-use Rattle.tv_layout.proofs.Taking.{AuxCase.{Takes, Ends, Other}, aux_case}
+use Rattle.tv_layout.proofs.Taking.{AuxCase.{Takes, Ends, Other}, aux_case, taken_in}
 use Rattle.tv_block.specs.Fetch.{state_in}
 use Rattle.tv_numbers.specs.Shown.{MayTake}
 use Rattle.tv_layout.proofs.Blocks.{BlockSizes, BlockIsSound, BlockIsComplete, Given}
 use Rattle.tv_layout.specs.Blocks.{BlockCircuit, BlockValues, told, values_for}
-use Rattle.tv_layout.specs.Layout.{before_steps, step_of, steps_of, state_at, taken_at}
+use Rattle.tv_layout.specs.Layout.{before_steps, step_of, steps_of, state_at}
 use Rattle.tv_layout.specs.Places.{boot_count}
 use Rattle.tv_layout.specs.Values.{step_values}
 
@@ -151,10 +151,10 @@ module _ (w : ℕ) (block : BlockCircuit) (made : ℕ) (sizes : BlockSizes block
       joined_below-suc n (λ i. lines_in (here i)) ∙ ap₂ (λ (a b : List Line). a ++ b) (steps_lines n (omega arith)) shown.lines
 
   -- and so are the words that they take
-  pub steps_take : (n : ℕ) → n ≤ t → joined_below n (λ i. taken_at block z (step block made sizes z x time zero_wire first i).spot) ≡ words_taken w n (start w image x aux)
-  steps_take zero h = joined_below-zero (λ i. taken_at block z (step block made sizes z x time zero_wire first i).spot)
+  pub steps_take : (n : ℕ) → n ≤ t → joined_below n (λ i. taken_in z (step block made sizes z x time zero_wire first i).spot) ≡ words_taken w n (start w image x aux)
+  steps_take zero h = joined_below-zero (λ i. taken_in z (step block made sizes z x time zero_wire first i).spot)
   steps_take (suc n) h =
-      joined_below-suc n (λ i. taken_at block z (step block made sizes z x time zero_wire first i).spot)
+      joined_below-suc n (λ i. taken_in z (step block made sizes z x time zero_wire first i).spot)
       ∙ ap₂ (λ (a b : List ℕ). a ++ b) (steps_take n (omega arith)) (one n (omega arith) (before n (omega arith))).taken
 
   -- the last one answers

@@ -1,10 +1,41 @@
--- What a step of the machine takes of the auxiliary tape, by cases.
-use Rattle.std.proofs.Common.{◌≡◌, ℕ, Bool, true, false, List, [], ◌∷◌, refl, sym, ap, ap₂, ◌∙◌, Option, Some, None}
-use Rattle.std.specs.Prelude.{slice_get, ◌&&◌, not, is_some, if◌then◌else◌}
+-- What a step takes of the auxiliary tape: in an assignment, and by the machine, by cases.
+use Rattle.std.proofs.Common.{◌≡◌, ℕ, Bool, true, false, List, [], ◌∷◌, ◌++◌, map, refl, sym, ap, ap₂, ◌∙◌, Option, Some, None}
+use Rattle.std.proofs.lemmas.List.{map-append}
+use Rattle.std.specs.List.{range_with_len, flat_map}
+use Rattle.std.specs.Prelude.{slice_get, slice_index, ◌==◌, ◌&&◌, not, is_some, if◌then◌else◌}
+use Rattle.tv_block.specs.declared.records.Spot.{Spot}
+use Rattle.tv_core.specs.Below.{joined_below}
+use Rattle.tv_layout.specs.Blocks.{BlockCircuit}
+use Rattle.tv_layout.specs.Layout.{block_at, taken_wire, taken_wires, taken_at, taken_of}
+use Rattle.tv_layout.specs.Places.{boot_count, zero_wire_at, first_at}
 use Rattle.tv_numbers.specs.Laws.{AuxFits}
 use Rattle.tv_step.specs.Reads.{reads_aux, word_taken, words_in, finds_end}
 use Rattle.tv_step.specs.State.{State}
 
+-- ---- in an assignment
+-- the word that a step takes, by its test
+abbrev pub taken_in : List ℕ → Spot → List ℕ
+taken_in z spot = if slice_index z spot.taken == 1 then slice_index z spot.word ∷ [] else []
+
+pub taken_at_is : (z : List ℕ) (spot : Spot) → taken_at z spot ≡ taken_in z spot
+taken_at_is z spot = by_test (slice_index z spot.taken == 1)
+  where
+    by_test : (b : Bool) → map (slice_index z) (if b then spot.word ∷ [] else []) ≡ (if b then slice_index z spot.word ∷ [] else [])
+    by_test true = refl
+    by_test false = refl
+
+all_taken : (z : List ℕ) (spot : ℕ → Spot) (places : List ℕ) → map (slice_index z) (flat_map (λ i. taken_wire z (spot i)) places) ≡ flat_map (λ i. taken_in z (spot i)) places
+all_taken z spot [] = refl
+all_taken z spot (i ∷ places) =
+    map-append (slice_index z) (taken_wire z (spot i)) (flat_map (λ i. taken_wire z (spot i)) places)
+    ∙ ap₂ (λ (a b : List ℕ). a ++ b) (taken_at_is z (spot i)) (all_taken z spot places)
+
+pub taken_of_is : (block : BlockCircuit) (w : ℕ) (image : List ℕ) (n t : ℕ) (z : List ℕ)
+    → taken_of block w image n t z ≡ joined_below t (λ i. taken_in z (block_at block n (boot_count image n) (zero_wire_at w n) (first_at w n) i).spot)
+unfolding taken_wires joined_below
+taken_of_is block w image n t z = all_taken z (λ i. (block_at block n (boot_count image n) (zero_wire_at w n) (first_at w n) i).spot) (range_with_len 0 t)
+
+-- ---- by the machine
 -- it takes a word, or it reads the tape and finds its end, or it doesn't read it
 pub data AuxCase (w : ℕ) (st : State) : Type 0 where
   Takes : (v : ℕ) (rest : List ℕ) → st.aux ≡ v ∷ rest → reads_aux w st ≡ true → word_taken w st ≡ Some v → finds_end w st ≡ false → AuxCase w st

@@ -65,6 +65,15 @@ abbrev pub padding_of : ℕ → ℕ → List LineLc
 padding_of time zero = []
 padding_of time (suc more) = record { cell = constant NULL_CELL; time = constant time; old = []; new = [] } ∷ padding_of (time + 1) more
 
+-- ---- what a step takes
+-- the wire at which a step has the word that it takes in an assignment: it takes one where its `taken` is 1
+abbrev pub taken_wire : List ℕ → Spot → List ℕ
+taken_wire z spot = if slice_index z spot.taken == 1 then spot.word ∷ [] else []
+
+-- and the word there
+abbrev pub taken_at : List ℕ → Spot → List ℕ
+taken_at z spot = map (slice_index z) (taken_wire z spot)
+
 -- ---- the whole, over one step's circuit
 module _ (block : BlockCircuit) where
   -- t steps, each from the state that the one before leads to; the first one's lines begin at a time
@@ -89,12 +98,13 @@ module _ (block : BlockCircuit) where
       (boot_lines_of image n ++ joined_below t (λ i. (block_at n (boot_count image n) (zero_wire_at w n) (first_at w n) i).lines))
       ++ padding_of (line_count image n t) (2 ^ log_of (line_count image n t) - line_count image n t)
 
-  -- the words of the auxiliary tape that the steps take in an assignment, in order
-  abbrev pub taken_at : List ℕ → Spot → List ℕ
-  taken_at z spot = if slice_index z spot.taken == 1 then slice_index z spot.word ∷ [] else []
+  -- the wires at which the steps that take a word of the auxiliary tape in an assignment have it, in order; and these
+  -- words
+  unfoldable pub taken_wires : ℕ → List ℕ → ℕ → ℕ → List ℕ → List ℕ
+  taken_wires w image n t z = joined_below t (λ i. taken_wire z (block_at n (boot_count image n) (zero_wire_at w n) (first_at w n) i).spot)
 
-  unfoldable pub taken_of : ℕ → List ℕ → ℕ → ℕ → List ℕ → List ℕ
-  taken_of w image n t z = joined_below t (λ i. taken_at z (block_at n (boot_count image n) (zero_wire_at w n) (first_at w n) i).spot)
+  abbrev pub taken_of : ℕ → List ℕ → ℕ → ℕ → List ℕ → List ℕ
+  taken_of w image n t z = map (slice_index z) (taken_wires w image n t z)
 
   unfoldable pub layout_of : ℕ → Net → List ℕ → ℕ → ℕ → Circuit (Unit {0})
   layout_of w net image n t = do

@@ -38,7 +38,7 @@ pub record IsRun (w : ℕ) (block : BlockCircuit) (image x : List ℕ) (t : ℕ)
       → Matches x (state_in z (state_at block (length x) (boot_count image (length x)) (zero_wire_at w (length x)) (first_at w (length x)) i))
       (state_after w i (start w image x (taken_of block w image (length x) t z)))
   pub takes : (i : ℕ) → i < t
-      → taken_at block z (block_at block (length x) (boot_count image (length x)) (zero_wire_at w (length x)) (first_at w (length x)) i).spot
+      → taken_at z (block_at block (length x) (boot_count image (length x)) (zero_wire_at w (length x)) (first_at w (length x)) i).spot
       ≡ words_in (word_taken w (state_after w i (start w image x (taken_of block w image (length x) t z))))
   pub accepts : Accepts w image x (taken_of block w image (length x) t z) t (slice_index z 1)
   pub reads : Reads w image x (taken_of block w image (length x) t z) t ≡ taken_of block w image (length x) t z

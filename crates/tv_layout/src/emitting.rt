@@ -7,8 +7,8 @@ ghost use Rattle.tv_layout.specs.Reached.{ReachedUnder};
 ghost use Rattle.tv_layout.specs.Sizes.{system_made, system_added};
 ghost use Rattle.tv_word.specs.Widths.{IsWidth};
 
-use crate::listing::LayoutLines;
-use crate::places::{ANSWER, log_of};
+use crate::lines::LayoutLines;
+use crate::places::{ANSWER, log_of, tape_wire};
 use crate::stepping::steps;
 use tv_benes::Net;
 use tv_bits::bits;
@@ -39,7 +39,7 @@ pub fn emit_system<const W: u32, S: Sink>(
     ensures grows { IfOk result (λ _. Grows S.meaning s.old s.new (system_made W net image.now n t)
         (system_added W net image.now n t)) }
 {
-    words::<W, S>(s, 2, n)?;
+    words::<W, S>(s, tape_wire(0), n)?;
     let zero_wire = zero_wire(s)?;
     let last = steps::<W, S>(s, n, t, zero_wire)?;
     tie(s, &last)?;
@@ -48,7 +48,7 @@ pub fn emit_system<const W: u32, S: Sink>(
 }
 
 // So many wires from a first one on are words.
-fn words<const W: u32, S: Sink>(s: &mut S, first: u32, n: u32) -> Put<()>
+fn words<const W: u32, S: Sink>(s: &mut S, first: Wire, n: u32) -> Put<()>
     requires width { IsWidth W }
     requires room { Room S.meaning s.old (n * W) (n * (W + 1)) }
     requires made { first + n ≤ S.meaning.wires s.old }
@@ -62,14 +62,14 @@ fn words<const W: u32, S: Sink>(s: &mut S, first: u32, n: u32) -> Put<()>
 }
 
 // One wire is a word.
-fn word<const W: u32, S: Sink>(s: &mut S, first: u32, i: u32) -> Put<()>
+fn word<const W: u32, S: Sink>(s: &mut S, first: Wire, i: u32) -> Put<()>
     requires width { IsWidth W }
     requires room { Room S.meaning s.old W (W + 1) }
     requires made { first + i < S.meaning.wires s.old }
     ensures puts { PutsIn S.meaning s.old s.new (word_of W first i) result }
     ensures grows { IfOk result (λ _. Grows S.meaning s.old s.new W (W + 1)) }
 {
-    bits(s, &Lc::wire(Wire(first + i)), W)?;
+    bits(s, &Lc::wire(first.offset(i)), W)?;
     Ok(())
 }
 

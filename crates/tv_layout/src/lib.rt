@@ -1,16 +1,16 @@
-//! The whole system: the constraints of a program's runs of so many steps, and the values of its
-//! wires. Its public wires are the answer and the words of the primary tape; the steps stand in a
-//! row, and an argument about memory holds their lines to be honest.
+//! The whole system: the constraints of a program's runs of so many steps. Its public wires are the
+//! answer and the words of the primary tape; the steps stand in a row, and an argument about memory
+//! holds their lines to be honest.
 //!
-//! `emit_system` puts a system into any sink, and `sizes` counts it; `line` and `spot` tell where
-//! its parts stand. None of them takes memory, since wires follow from places.
+//! `emit_system` puts a system into any sink; `sizes` tells its counts, and `count_system` counts
+//! what is put; `line` and `spot` tell where its parts stand. None of them takes memory, since
+//! wires follow from places.
 #![tactic(auto)]
 
 mod costs;
 mod emitting;
 mod laws;
 mod lines;
-mod listing;
 mod places;
 mod sizing;
 mod spots;
@@ -20,6 +20,6 @@ mod totals;
 pub use emitting::emit_system;
 pub use laws::{systems_are_complete, systems_are_sized, systems_are_sound, systems_reduce};
 pub use lines::line;
-pub use places::{ANSWER, log_of, tape_wire};
+pub use places::{ANSWER, log_of, public_wires, tape_wire};
 pub use sizing::{count_system, sizes};
 pub use spots::spot;

@@ -16,6 +16,7 @@ use crate::stepping::first_state;
 use tv_block::{StateWires, block_line, next_state};
 use tv_core::limits::{NULL_CELL, STEPS, TAPE_CELLS, TAPE_WORDS};
 use tv_core::{F, Lc, LineLc};
+use tv_memory::Lines;
 
 /// Line `i` of a program's system, in time order: those of the image, of the words of the primary
 /// tape, of the steps, and padding up to 2^k lines, where k is `log_of` of how many there are
@@ -82,5 +83,22 @@ fn state_before<const W: u32>(n: u32, step: u32) -> StateWires
         first_state(zero_wire_at::<W>(n))
     } else {
         next_state::<W>(step_at::<W>(n, step - 1))
+    }
+}
+
+// All lines of a program's system, told one by one by their places.
+#[derive(Clone, Copy)]
+pub(crate) struct LayoutLines<'a, const W: u32> {
+    pub(crate) image: &'a [u32],
+    pub(crate) n: u32,
+    pub(crate) t: u32,
+    ghost fits: { ∥ WithinLimits W image.now n t ∥₁ },
+}
+
+impl<'a, const W: u32> Lines for LayoutLines<'a, W> {
+    ghost lines = { λ l. lines_of (block_of W) W l.image.now l.n l.t };
+
+    fn at(&self, i: u32) -> LineLc {
+        line::<W>(self.image, self.n, self.t, i)
     }
 }

@@ -35,6 +35,15 @@ pub fn tape_wire(i: u32) -> Wire
     ANSWER.offset(1 + i)
 }
 
+/// How many wires stand before the private ones of a system on a tape of `n` words, `n` being at
+/// most 2^30: the constant one, the answer's and the tape's.
+pub fn public_wires(n: u32) -> u32
+    requires { n ≤ 2 ^ 30 }
+    ensures { result ≡ 2 + n }
+{
+    tape_wire(n).0
+}
+
 // The wire that is held to 0.
 pub(crate) fn zero_wire_at<const W: u32>(n: u32) -> Wire
     requires width { IsWidth W }

@@ -5,6 +5,7 @@ ghost use Rattle.tv_layout.specs.Systems.{counts_of, system_of};
 
 use crate::costs::{constraint_costs, term_costs, wire_costs};
 use crate::emitting::emit_system;
+use crate::places::public_wires;
 use crate::totals::{amounts, total};
 use tv_benes::Net;
 use tv_core::{CountSink, Counts};
@@ -19,7 +20,7 @@ pub fn sizes<const W: u32>(image: &[u32], n: u32, t: u32, net: Net) -> Counts
 {
     let amounts = amounts::<W>(image, n, t, net);
     Counts {
-        wires: 2 + n + total(&wire_costs::<W>(), &amounts) as u32,
+        wires: public_wires(n) + total(&wire_costs::<W>(), &amounts) as u32,
         outputs: 1,
         inputs: n,
         constraints: total(&constraint_costs::<W>(), &amounts) as u32,
@@ -34,7 +35,7 @@ pub fn count_system<const W: u32>(image: &[u32], n: u32, t: u32, net: Net) -> Co
     ensures wires { result.wires ≡ (system_of W net image.now n t).wires }
     ensures counted { IsCounted result (system_of W net image.now n t).constraints }
 {
-    let mut s = CountSink::new(2 + n);
+    let mut s = CountSink::new(public_wires(n));
     match emit_system::<W, CountSink>(image, n, t, net, &mut s) {
         Ok(()) => s,
         Err(_) => unreachable!(),

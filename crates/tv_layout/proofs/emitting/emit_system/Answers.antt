@@ -41,21 +41,21 @@ pub returns-in_err-words-clause-puts : goal.returns-in_err-words-clause-puts
 unfolding layout_of
 returns-in_err-words-clause-puts g c =
     let m = g.S.Sink.meaning in
-    refused m _ _ _ c.from_residual.result c.from_residual.ensures.1 (refused_then m (words_of g.row.W 2 c.args.n) _ _ _ _ c.in_err-words.ensures.puts)
+    refused m _ _ _ c.from_residual.result c.from_residual.ensures.1 (refused_then m (words_of g.row.W 2 c.args.n) _ _ _ _ (rw c.tape_wire.ensures at c.in_err-words.ensures.puts))
 
 pub returns-in_err-zero_wire-clause-puts : goal.returns-in_err-zero_wire-clause-puts
 unfolding layout_of
 returns-in_err-zero_wire-clause-puts g c =
     let m = g.S.Sink.meaning in
     refused m _ _ _ c.from_residual-in_err-zero_wire.result c.from_residual-in_err-zero_wire.ensures.1
-    (puts_then_refused m (words_of g.row.W 2 c.args.n) _ _ _ _ _ _ c.in_ok-words.ensures.puts (refused_then m zero_wire_of _ _ _ _ c.in_err-zero_wire.ensures.puts))
+    (puts_then_refused m (words_of g.row.W 2 c.args.n) _ _ _ _ _ _ (rw c.tape_wire.ensures at c.in_ok-words.ensures.puts) (refused_then m zero_wire_of _ _ _ _ c.in_err-zero_wire.ensures.puts))
 
 pub returns-in_err-last-clause-puts : goal.returns-in_err-last-clause-puts
 unfolding layout_of
 returns-in_err-last-clause-puts g c =
     let m = g.S.Sink.meaning in
     refused m _ _ _ c.from_residual-in_err-last.result c.from_residual-in_err-last.ensures.1
-    (puts_then_refused m (words_of g.row.W 2 c.args.n) _ _ _ _ _ _ c.in_ok-words.ensures.puts
+    (puts_then_refused m (words_of g.row.W 2 c.args.n) _ _ _ _ _ _ (rw c.tape_wire.ensures at c.in_ok-words.ensures.puts)
     (puts_then_refused m zero_wire_of _ _ _ _ _ _ c.in_ok-zero_wire.ensures.puts
     (refused_then m (steps_of (block_of g.row.W) c.args.n (boot_count c.args.image.now c.args.n) c.args.t _) _ _ _ _ (c.in_err-last.ensures.puts (boot_count c.args.image.now c.args.n)))))
 
@@ -64,7 +64,7 @@ unfolding layout_of
 returns-in_err-tie-clause-puts g c =
     let m = g.S.Sink.meaning in
     refused m _ _ _ c.from_residual-in_err-tie.result c.from_residual-in_err-tie.ensures.1
-    (puts_then_refused m (words_of g.row.W 2 c.args.n) _ _ _ _ _ _ c.in_ok-words.ensures.puts
+    (puts_then_refused m (words_of g.row.W 2 c.args.n) _ _ _ _ _ _ (rw c.tape_wire.ensures at c.in_ok-words.ensures.puts)
     (puts_then_refused m zero_wire_of _ _ _ _ _ _ c.in_ok-zero_wire.ensures.puts
     (puts_then_refused m (steps_of (block_of g.row.W) c.args.n (boot_count c.args.image.now c.args.n) c.args.t _) _ _ _ _ _ _ (c.in_ok-last.ensures.puts (boot_count c.args.image.now c.args.n))
     (refused_then m (tie_of _) _ _ _ _ c.in_err-tie.ensures.puts))))
@@ -74,7 +74,7 @@ unfolding layout_of
 returns-clause-puts g c =
     let m = g.S.Sink.meaning in
     let last = rw (c.log_of-k.ensures.is) at c.memory.ensures.puts in
-    puts_in_then m (words_of g.row.W 2 c.args.n) _ _ _ _ _ _ c.in_ok-words.ensures.puts
+    puts_in_then m (words_of g.row.W 2 c.args.n) _ _ _ _ _ _ (rw c.tape_wire.ensures at c.in_ok-words.ensures.puts)
     (puts_in_then m zero_wire_of _ _ _ _ _ _ c.in_ok-zero_wire.ensures.puts
     (puts_in_then m (steps_of (block_of g.row.W) c.args.n (boot_count c.args.image.now c.args.n) c.args.t _) _ _ _ _ _ _ (c.in_ok-last.ensures.puts (boot_count c.args.image.now c.args.n))
     (puts_in_then m (tie_of _) _ _ _ _ _ _ c.in_ok-tie.ensures.puts last)))

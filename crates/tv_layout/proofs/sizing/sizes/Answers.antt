@@ -1,4 +1,4 @@
-use Rattle.std.proofs.Common.{◌≡◌, ℕ, ◌+◌, ◌<◌, ◌^◌, sym, ap, ap₂, ◌∙◌, subst, arith}
+use Rattle.std.proofs.Common.{◌≡◌, ℕ, ◌+◌, ◌<◌, ◌^◌, sym, ap₂, ◌∙◌, subst, arith}
 use Rattle.tv_core.specs.declared.lines.Counts.{Counts}
 use Rattle.tv_layout.proofs.SystemSizes.{system_sized, amounts_few}
 use Rattle.tv_layout.specs.Costs.{total_of, AreFew}
@@ -27,12 +27,12 @@ overflow_cast-result g c =
     let small = below _ c.args.n _ c.total.result is law.wires law.wires_fit in
     omega (arith, small)
 
-pub overflow_add-result-2 : goal.overflow_add-result-2
-overflow_add-result-2 g c =
+pub overflow_add-result : goal.overflow_add-result
+overflow_add-result g c =
     let law = system_sized g.row.W c.args.net c.args.image.now c.args.n c.args.t c.requires in
     let is = c.total.ensures ∙ ap₂ total_of c.wire_costs.ensures c.amounts-amounts.ensures in
     let small = below _ c.args.n _ c.total.result is law.wires law.wires_fit in
-    omega (arith, small)
+    omega (arith, small, c.public_wires.ensures)
 
 pub overflow_cast-result-2 : goal.overflow_cast-result-2
 overflow_cast-result-2 g c =
@@ -47,7 +47,7 @@ returns-clause-counts g c =
     let wires = c.total.ensures ∙ ap₂ total_of c.wire_costs.ensures c.amounts-amounts.ensures in
     let constraints = c.total-2.ensures ∙ ap₂ total_of c.constraint_costs.ensures c.amounts-amounts.ensures in
     let terms = c.total-3.ensures ∙ ap₂ total_of c.term_costs.ensures c.amounts-amounts.ensures in
-    same_counts c.args.n _ _ _ _ _ _ (ap (λ k. 2 + c.args.n + k) wires ∙ sym law.wires) (constraints ∙ sym law.constraints) (terms ∙ sym law.terms)
+    same_counts c.args.n _ _ _ _ _ _ (ap₂ (λ a b. a + b) c.public_wires.ensures wires ∙ sym law.wires) (constraints ∙ sym law.constraints) (terms ∙ sym law.terms)
 
 pub returns-clause-terms : goal.returns-clause-terms
 returns-clause-terms g c =
