@@ -133,7 +133,7 @@ module _ (w : ℕ) (net : Net) (image x aux : List ℕ) (t : ℕ) (fits : Within
 
     -- and there are as many as the system has wires
     pub parts_fit : (bits : List Bool) → bits ≡ route_of net (address_order (map unpacked pairs)) → (v : ℕ) → Accepts w image x aux t v
-        → (count : ℕ) → count ≡ (system_of w net image (length x) t).wires → (spare : List PairNum) → spare ≡ pairs
+        → (count : ℕ) → count ≡ (system_of w net image (length x) t).wires → (spare : List PairNum) → length spare ≡ length pairs
         → PartsFit w v count x aux (length image + length x) t states pairs spare net k bits
     parts_fit bits bits_are v accepts count count_is spare spare_is = record {
       width = fits.width;
@@ -142,7 +142,7 @@ module _ (w : ℕ) (net : Net) (image x aux : List ℕ) (t : ℕ) (fits : Within
       few = log_few;
       states_many = ap length states_are ∙ states_are_one_more w (length x) (length aux) (start w image x aux) t;
       pairs_many = pairs_many;
-      spare_many = ap length spare_is ∙ pairs_many;
+      spare_many = spare_is ∙ pairs_many;
       tape_fits = omega arith;
       steps_fit = log_above (line_count image (length x) t) few_lines;
       steps = λ i h. rw states_are (told_in_range w image x aux t fits.width (short image (length x) t w fits) x_words aux_words pairs all_packed i h);

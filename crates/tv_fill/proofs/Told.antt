@@ -1,8 +1,8 @@
 -- What a trace and packed lines tell of a run's steps.
-use Rattle.std.proofs.Common.{◌≡◌, ℕ, ◌+◌, ◌-◌, ◌*◌, ◌<◌, ◌≤◌, ◌^◌, Bool, true, false, cond, List, length, map, get_or, Some, None, refl, sym, ap, ap₂, ◌∙◌, arith}
+use Rattle.std.proofs.Common.{◌≡◌, ℕ, ◌+◌, ◌-◌, ◌*◌, ◌<◌, ◌≤◌, ◌^◌, Bool, true, List, length, map, get_or, Option, Some, None, refl, sym, ap, ap₂, ◌∙◌, arith}
 use Rattle.std.proofs.lemmas.Bool.{ltb-true}
 use Rattle.std.proofs.lemmas.List.{length-append, get_or_append_left, get_or-append_right, get_or-map, length-map}
-use Rattle.std.specs.Prelude.{slice_index, slice_index_or, nat_lt, is_some, if◌then◌else◌}
+use Rattle.std.specs.Prelude.{slice_index, slice_index_or, nat_lt, is_some, unwrap_or, if◌then◌else◌}
 use Rattle.tv_block.proofs.ToldFills.{same_values, steps_are_given}
 use Rattle.tv_block.specs.Complete.{step_values, olds_of}
 use Rattle.tv_block.specs.Told.{GivesStep, head_told, tail_told, data_told}
@@ -30,16 +30,12 @@ use Rattle.tv_step.specs.Trace.{step_lines, lines_of, states_of, state_told}
 use Rattle.tv_step.specs.declared.lines.TraceState.{TraceState}
 use Rattle.tv_word.specs.Widths.{IsWidth}
 use Rattle.tv_block.specs.Filling.{view_of}
-use Rattle.tv_fill.specs.Told.{no_state, no_pair, state_at, old_at, takes_at, data_at, told_values, StepInRange}
+use Rattle.tv_fill.specs.Told.{no_state, no_pair, state_at, old_at, takes_at, taken_at, data_at, told_values, StepInRange}
 
--- the word that is handed in, and whether there is one, by a test
-handed_by : (b : Bool) (old word : ℕ) → handed old (if b then Some word else None) ≡ (if b then word else old)
-handed_by true old word = refl
-handed_by false old word = refl
-
-some_by : (b : Bool) (word : ℕ) → is_some (if b then Some word else None) ≡ b
-some_by true word = refl
-some_by false word = refl
+-- the word that is handed in
+handed_is : (old : ℕ) (word : Option ℕ) → unwrap_or word old ≡ handed old word
+handed_is old None = refl
+handed_is old (Some word) = refl
 
 -- ---- one run
 module _ (w : ℕ) (image x aux : List ℕ) (t : ℕ) (width : IsWidth w) (short : length x < 2 ^ 29) (x_words : AreWords w x) (aux_words : AreWords w aux) where
@@ -115,19 +111,17 @@ module _ (w : ℕ) (image x aux : List ℕ) (t : ℕ) (width : IsWidth w) (short
     tail_is i h = let place : first + 3 * i + 1 ≡ first + (3 * i + 1) = omega arith in ap (old_at pairs) place ∙ old_is i 1 h (omega arith)
 
     -- the word that is taken, by the counts
-    taken_is : (i : ℕ) → word_taken w (now i) ≡ (if nat_lt (gone i) (gone (i + 1)) then Some (slice_index aux (gone i)) else None)
-    taken_is i = taken_by_counts w i (start w image x aux)
-
-    some_is : (i : ℕ) → i < t → takes_at run_states i ≡ is_some (word_taken w (now i))
-    some_is i h = takes_is i h ∙ sym (ap is_some (taken_is i) ∙ some_by (nat_lt (gone i) (gone (i + 1))) (slice_index aux (gone i)))
+    taken_is : (i : ℕ) → i < t → taken_at run_states aux i ≡ word_taken w (now i)
+    taken_is i h =
+        ap₂ (λ (b : Bool) (c : ℕ). if b then Some c else None) (takes_is i h) (ap (slice_index aux) (aux_is i (omega arith)))
+        ∙ sym (taken_by_counts w i (start w image x aux))
 
     data_is : (i : ℕ) → i < t → data_at run_states aux pairs first i ≡ data_told w (length x) (now i) (first + 3 * i)
     data_is i h =
         let place : first + 3 * i + 2 ≡ first + (3 * i + 2) = omega arith in
         let third : ℕ = slice_index (olds_of w (length x) (now i) (first + 3 * i)) 2 in
-        ap₂ (λ (b : Bool) (c : ℕ). cond b c (old_at pairs (first + 3 * i + 2))) (takes_is i h) (ap (slice_index aux) (aux_is i (omega arith)))
-        ∙ ap (λ (o : ℕ). cond (nat_lt (gone i) (gone (i + 1))) (slice_index aux (gone i)) o) (ap (old_at pairs) place ∙ old_is i 2 h (omega arith))
-        ∙ sym (ap (handed third) (taken_is i) ∙ handed_by (nat_lt (gone i) (gone (i + 1))) third (slice_index aux (gone i)))
+        ap₂ (λ (word : Option ℕ) (old : ℕ). unwrap_or word old) (taken_is i h) (ap (old_at pairs) place ∙ old_is i 2 h (omega arith))
+        ∙ handed_is third (word_taken w (now i))
 
     pub told_in_range : (i : ℕ) → i < t → StepInRange w (length x) run_states aux pairs first i
     told_in_range i h = record {
@@ -140,7 +134,7 @@ module _ (w : ℕ) (image x aux : List ℕ) (t : ℕ) (width : IsWidth w) (short
 
     told_step : (i : ℕ) → i < t → told_values w (length x) run_states aux pairs first i ≡ run_step (step_values w) w image x aux i
     unfolding told_values
-    told_step i h = same_values (block_values w (length x)) (ap view_of (state_is i (omega arith))) (head_is i h) (tail_is i h) (data_is i h) (some_is i h) ∙ (given i).values
+    told_step i h = same_values (block_values w (length x)) (ap view_of (state_is i (omega arith))) (head_is i h) (tail_is i h) (data_is i h) (ap is_some (taken_is i h)) ∙ (given i).values
 
     pub told_steps : joined_below t (told_values w (length x) run_states aux pairs first) ≡ joined_below t (run_step (step_values w) w image x aux)
     told_steps = joined_below-same t _ _ (λ i h. told_step i h)

@@ -1,5 +1,5 @@
 -- The values of steps, as a trace's states and packed lines tell them.
-use Rattle.std.specs.Prelude.{◌≡◌, ℕ, ◌+◌, ◌*◌, ◌%◌, ◌^◌, ◌<◌, Bool, true, false, nat_lt, if◌then◌else◌, List, [], length, slice_index, slice_index_or}
+use Rattle.std.specs.Prelude.{◌≡◌, ℕ, ◌+◌, ◌*◌, ◌%◌, ◌^◌, ◌<◌, Bool, true, false, nat_lt, if◌then◌else◌, List, [], length, slice_index, slice_index_or, Option, Some, None, is_some, unwrap_or}
 use Rattle.tv_block.specs.Filling.{view_of}
 use Rattle.tv_block.specs.Values.{block_values}
 use Rattle.tv_core.specs.declared.lines.PairNum.{PairNum}
@@ -25,14 +25,17 @@ old_at pairs i = (slice_index_or pairs i no_pair).first % 2 ^ 32
 abbrev pub takes_at : List TraceState → ℕ → Bool
 takes_at states i = nat_lt (state_at states i).aux (state_at states (i + 1)).aux
 
+abbrev pub taken_at : List TraceState → List ℕ → ℕ → Option ℕ
+taken_at states aux i = if takes_at states i then Some (slice_index aux (state_at states i).aux) else None
+
 -- its data word, the first step's lines standing at a place: the word that it takes, or else the old of its third line
 abbrev pub data_at : List TraceState → List ℕ → List PairNum → ℕ → ℕ → ℕ
-data_at states aux pairs first i = if takes_at states i then slice_index aux (state_at states i).aux else old_at pairs (first + 3 * i + 2)
+data_at states aux pairs first i = unwrap_or (taken_at states aux i) (old_at pairs (first + 3 * i + 2))
 
 -- the values of step i, with a primary tape of n words
 unfoldable pub told_values : ℕ → ℕ → List TraceState → List ℕ → List PairNum → ℕ → ℕ → List ℕ
 told_values w n states aux pairs first i =
-    block_values w n (view_of (state_at states i)) (old_at pairs (first + 3 * i)) (old_at pairs (first + 3 * i + 1)) (data_at states aux pairs first i) (takes_at states i)
+    block_values w n (view_of (state_at states i)) (old_at pairs (first + 3 * i)) (old_at pairs (first + 3 * i + 1)) (data_at states aux pairs first i) (is_some (taken_at states aux i))
 
 -- what is told of it is in range
 pub record StepInRange (w n : ℕ) (states : List TraceState) (aux : List ℕ) (pairs : List PairNum) (first i : ℕ) : Type 0 where

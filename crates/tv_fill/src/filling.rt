@@ -12,11 +12,11 @@ ghost use Rattle.tv_step.specs.Range.{AreWords};
 use crate::fault::FillFault;
 use crate::front::fill_front;
 use crate::packing::pack_lines;
-use crate::steps::fill_steps;
+use crate::steps::Steps;
 use std::alloc::{AllocError, Global};
 use std::marker::Model;
 use tv_benes::Net;
-use tv_core::{PairNum, Put, Values};
+use tv_core::{F, PairNum, Put, Values};
 use tv_layout::{log_of, sizes};
 use tv_memory::{address_order, fill_memory};
 use tv_route::{Settings, routing_settings};
@@ -97,15 +97,13 @@ impl<const W: u32> Filling<W> {
         } = self;
         let words = tape.as_slice();
         fill_front::<W, V>(v, answer, words)?;
-        fill_steps::<W, V>(
-            v,
-            words.len() as u32,
-            states.as_slice(),
-            aux.as_slice(),
-            pairs.as_slice(),
+        let steps = Steps {
+            states: states.as_slice(),
+            aux: aux.as_slice(),
+            pairs: pairs.as_slice(),
             first,
-            t,
-        )?;
+        };
+        steps.fill::<W, V>(v, words.len() as u32, t)?;
         fill_memory(
             v,
             net,
@@ -151,7 +149,11 @@ pub fn prepare<const W: u32>(
     let k = log_of(first + 3 * t);
     let pairs = pack_lines(alloc, image, tape, lines, k)?;
     let settings = settings_to_sort(alloc, net, &pairs)?;
-    let spare = Vec::from_slice(alloc, &pairs)?;
+    let zeros = PairNum {
+        first: F::ZERO,
+        second: F::ZERO,
+    };
+    let spare = Vec::from_elem(alloc, zeros, pairs.len())?;
     Ok(Filling {
         answer,
         count: sizes::<W>(image, tape.len() as u32, t, net).wires,

@@ -30,8 +30,8 @@ fn fill_bits_of_words<const W: u32, V: Values>(v: &mut V, words: &[u32]) -> Put<
         (joined_below (length words.now) (λ i. bits_values (slice_index words.now i) W)) result }
     ensures whole { OnOk result (V.giving.broken v.new ≡ false) }
 {
-    for i in 0..words.len() {
-        fill_bits(v, F::from(words[i]), W)?;
+    for word in words {
+        fill_bits(v, F::from(*word), W)?;
     }
     Ok(())
 }

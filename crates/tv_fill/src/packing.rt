@@ -61,12 +61,12 @@ fn push_words(
     ensures { OnOk result (map unpacked pairs.new.items ≡ map unpacked pairs.old.items
         ++ boot_from cell time words.now) }
 {
-    for i in 0..words.len() {
+    for (i, word) in words.iter().enumerate() {
         let line = Line {
             cell: cell + i as u32,
             time: time + i as u32,
             old: 0,
-            new: words[i],
+            new: *word,
         };
         push_line(pairs, &line)?;
     }

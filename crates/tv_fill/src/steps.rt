@@ -2,98 +2,90 @@ ghost use Rattle.std.specs.Prelude.{◌≡◌, ℕ, ◌+◌, ◌*◌, ◌<◌, �
 ghost use Rattle.tv_core.specs.Below.{joined_below};
 ghost use Rattle.tv_core.specs.Giving.{GivesIn};
 ghost use Rattle.tv_word.specs.Widths.{IsWidth};
-ghost use Rattle.tv_fill.specs.Told.{state_at, old_at, takes_at, data_at, told_values, StepInRange};
+ghost use Rattle.tv_fill.specs.Told.{state_at, old_at, takes_at, taken_at, told_values};
+ghost use Rattle.tv_fill.specs.Told.{StepInRange};
 
 use tv_block::fill_traced_step;
 use tv_core::{PairNum, Put, Values};
 use tv_lines::unpack_line;
 use tv_step::TraceState;
 
-// The old word of packed line `i`.
-fn old_at(pairs: &[PairNum], i: u32) -> u32
-    requires { i < length pairs.now }
-    ensures { result ≡ old_at pairs.now i }
-{
-    unpack_line(&pairs[i as usize]).old.number() as u32
+// The steps of a run: the states before, between and after them, the words of the auxiliary tape,
+// and the packed lines, of which theirs begin at place `first`, three a step.
+#[derive(Clone, Copy)]
+pub(crate) struct Steps<'a> {
+    pub(crate) states: &'a [TraceState],
+    pub(crate) aux: &'a [u32],
+    pub(crate) pairs: &'a [PairNum],
+    pub(crate) first: u32,
 }
 
-// Whether step `i` takes a word of the auxiliary tape.
-fn takes(states: &[TraceState], i: u32) -> bool
-    requires { i + 1 < length states.now }
-    ensures { result ≡ takes_at states.now i }
-{
-    let at = i as usize;
-    states[at].aux < states[at + 1].aux
-}
-
-// The data word of step `i`: the word that it takes, or the old of its third line.
-fn data_word(states: &[TraceState], aux: &[u32], pairs: &[PairNum], first: u32, i: u32) -> u32
-    requires states { i + 1 < length states.now }
-    requires lines { first + 3 * i + 2 < length pairs.now }
-    requires near { first + 3 * i + 2 < 2 ^ 32 }
-    requires there { takes_at states.now i ≡ true → (state_at states.now i).aux < length aux.now }
-    ensures { result ≡ data_at states.now aux.now pairs.now first i }
-{
-    if takes(states, i) {
-        aux[states[i as usize].aux as usize]
-    } else {
-        old_at(pairs, first + 3 * i + 2)
+impl<'a> Steps<'a> {
+    // The old word of packed line `i`.
+    fn old(&self, i: u32) -> u32
+        requires { i < length self.now.pairs.now }
+        ensures { result ≡ old_at self.now.pairs.now i }
+    {
+        unpack_line(&self.pairs[i as usize]).old.number() as u32
     }
-}
 
-// Gives the values of step `i`, whose state and olds are told.
-fn fill_step<const W: u32, V: Values>(
-    v: &mut V,
-    n: u32,
-    states: &[TraceState],
-    aux: &[u32],
-    pairs: &[PairNum],
-    first: u32,
-    i: u32,
-) -> Put<()>
-    requires width { IsWidth W }
-    requires short { n < 2 ^ 29 }
-    requires states { i + 1 < length states.now }
-    requires lines { first + 3 * i + 2 < length pairs.now }
-    requires near { first + 3 * i + 2 < 2 ^ 32 }
-    requires range { StepInRange W n states.now aux.now pairs.now first i }
-    requires whole { V.giving.broken v.old ≡ false }
-    ensures gives { GivesIn V.giving v.old v.new
-        (told_values W n states.now aux.now pairs.now first i) result }
-    ensures whole { OnOk result (V.giving.broken v.new ≡ false) }
-{
-    let at = first + 3 * i;
-    let head = old_at(pairs, at);
-    let tail = old_at(pairs, at + 1);
-    let word = data_word(states, aux, pairs, first, i);
-    let state = &states[i as usize];
-    fill_traced_step::<W, V>(v, n, state, head, tail, word, takes(states, i))
-}
-
-// Gives the values of the first `t` steps of a run on a tape of `n` words: by the states before,
-// between and after them, and their packed lines, of which the first stands at place `first`.
-pub(crate) fn fill_steps<const W: u32, V: Values>(
-    v: &mut V,
-    n: u32,
-    states: &[TraceState],
-    aux: &[u32],
-    pairs: &[PairNum],
-    first: u32,
-    t: u32,
-) -> Put<()>
-    requires width { IsWidth W }
-    requires short { n < 2 ^ 29 }
-    requires states { t < length states.now }
-    requires lines { first + 3 * t ≤ length pairs.now }
-    requires near { first + 3 * t < 2 ^ 32 }
-    requires range { (i : ℕ) → i < t → StepInRange W n states.now aux.now pairs.now first i }
-    requires whole { V.giving.broken v.old ≡ false }
-    ensures gives { GivesIn V.giving v.old v.new
-        (joined_below t (told_values W n states.now aux.now pairs.now first)) result }
-    ensures whole { OnOk result (V.giving.broken v.new ≡ false) }
-{
-    for i in 0..t {
-        fill_step::<W, V>(v, n, states, aux, pairs, first, i)?;
+    // The word of the auxiliary tape that step `i` takes.
+    fn taken(&self, i: u32) -> Option<u32>
+        requires states { i + 1 < length self.now.states.now }
+        requires there { takes_at self.now.states.now i ≡ true
+            → (state_at self.now.states.now i).aux < length self.now.aux.now }
+        ensures { result ≡ taken_at self.now.states.now self.now.aux.now i }
+    {
+        let at = i as usize;
+        let gone = self.states[at].aux;
+        if gone < self.states[at + 1].aux {
+            Some(self.aux[gone as usize])
+        } else {
+            None
+        }
     }
-    Ok(())
+
+    // Gives the values of step `i`, on a primary tape of `n` words. Its data word is the one that
+    // it takes, or else the old of its third line.
+    fn fill_step<const W: u32, V: Values>(&self, v: &mut V, n: u32, i: u32) -> Put<()>
+        requires width { IsWidth W }
+        requires short { n < 2 ^ 29 }
+        requires states { i + 1 < length self.now.states.now }
+        requires lines { self.now.first + 3 * i + 2 < length self.now.pairs.now }
+        requires near { self.now.first + 3 * i + 2 < 2 ^ 32 }
+        requires range { StepInRange W n self.now.states.now self.now.aux.now self.now.pairs.now
+            self.now.first i }
+        requires whole { V.giving.broken v.old ≡ false }
+        ensures gives { GivesIn V.giving v.old v.new (told_values W n self.now.states.now
+            self.now.aux.now self.now.pairs.now self.now.first i) result }
+        ensures whole { OnOk result (V.giving.broken v.new ≡ false) }
+    {
+        let at = self.first + 3 * i;
+        let head = self.old(at);
+        let tail = self.old(at + 1);
+        let taken = self.taken(i);
+        let word = taken.unwrap_or(self.old(at + 2));
+        let state = &self.states[i as usize];
+        fill_traced_step::<W, V>(v, n, state, head, tail, word, taken.is_some())
+    }
+
+    // Gives the values of the first `t` steps.
+    pub(crate) fn fill<const W: u32, V: Values>(&self, v: &mut V, n: u32, t: u32) -> Put<()>
+        requires width { IsWidth W }
+        requires short { n < 2 ^ 29 }
+        requires states { t < length self.now.states.now }
+        requires lines { self.now.first + 3 * t ≤ length self.now.pairs.now }
+        requires near { self.now.first + 3 * t < 2 ^ 32 }
+        requires range { (i : ℕ) → i < t → StepInRange W n self.now.states.now self.now.aux.now
+            self.now.pairs.now self.now.first i }
+        requires whole { V.giving.broken v.old ≡ false }
+        ensures gives { GivesIn V.giving v.old v.new (joined_below t (told_values W n
+            self.now.states.now self.now.aux.now self.now.pairs.now self.now.first)) result }
+        ensures whole { OnOk result (V.giving.broken v.new ≡ false) }
+    {
+        for i in 0..t {
+            self.fill_step::<W, V>(v, n, i)?;
+        }
+        Ok(())
+    }
 }

@@ -1,4 +1,4 @@
-use Rattle.std.proofs.Common.{◌≡◌, ℕ, ◌+◌, List, length, map, ap, ap₂, ◌∙◌}
+use Rattle.std.proofs.Common.{◌≡◌, ℕ, ◌+◌, List, length, map, ap, ap₂, ◌∙◌, arith}
 use Rattle.tv_core.specs.declared.lines.Counts.{Counts}
 use Rattle.tv_fill.proofs.Prepared.{log_few, lines_fit, lines_in_range, routable, parts_fit, values_are}
 use Rattle.tv_fill.specs.Filled.{filled_values, lines_told}
@@ -34,11 +34,12 @@ invariant_of-result g c =
     let packed : map unpacked pairs ≡ lines_told c.args.image.now c.args.tape.now c.in_ok-answer.field-0.lines (log_of (line_count c.args.image.now (length c.args.tape.now) c.args.t)) =
     c.in_ok-pairs.ensures ∙ ap (lines_told c.args.image.now c.args.tape.now c.in_ok-answer.field-0.lines) c.log_of-k.ensures.is in
     let set = rw c.deref.ensures.value at c.in_ok-settings.ensures in
+    let many : length c.in_ok-spare.spare.items ≡ length pairs = omega (arith, c.in_ok-spare.spare.ok.0, c.in_ok-pairs.pairs.ok.0, c.in_ok-spare.ensures.len, c.len.ensures) in
     let fit =
     parts_fit g.row.W c.args.net c.args.image.now c.args.tape.now c.args.aux.now c.args.t c.requires.limits c.requires.tape_words c.requires.aux_words
     c.in_ok-answer.field-0.lines c.in_ok-answer.ensures.trace.lines c.in_ok-answer.field-0.states c.in_ok-answer.ensures.trace.states pairs packed
     c.in_ok-settings.settings set c.in_ok-answer.field-0.answer c.in_ok-answer.ensures.trace.answer c.sizes.result.wires (ap (λ (counts : Counts). counts.wires) c.sizes.ensures.counts)
-    c.in_ok-spare.spare.items (c.in_ok-spare.ensures.items ∙ c.deref-2.ensures.value) in
+    c.in_ok-spare.spare.items many in
     rw (c.in_ok-from_slice.ensures.items, c.in_ok-from_slice-2.ensures.items, c.log_of-k.ensures.is) fit
 
 pub returns-clause-filling : goal.returns-clause-filling

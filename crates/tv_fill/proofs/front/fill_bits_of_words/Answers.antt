@@ -6,18 +6,18 @@ use Rattle.tv_core.proofs.JoinedLaws.{gives_no_list, gives_list, gives_list_refu
 use Rattle.tv_memory.proofs.FillingLaws.{given_all, given_some}
 use Rattle.tv_fill.proofs.front.fill_bits_of_words.Goals as goal
 
-pub loop-i-init : goal.loop-i-init
-loop-i-init g c = record {
+pub loop-word-init : goal.loop-word-init
+loop-word-init g c = record {
   gives = gives_no_list g.V.Values.giving (λ i. bits_values (slice_index c.args.words.now i) g.row.W) _;
   whole = c.requires.whole;
 }
 
-pub loop-i-preserved : goal.loop-i-preserved
-loop-i-preserved g c =
+pub loop-word-preserved : goal.loop-word-preserved
+loop-word-preserved g c =
     let m = g.V.Values.giving in
     let bits = ap (λ (v : ℕ). bits_values v g.row.W) c.from.ensures in
     record {
-      gives = gives_list m (λ i. bits_values (slice_index c.args.words.now i) g.row.W) c.loop-i.i _ _ _ c.loop-i.invariant.gives (given_all m _ _ _ _ bits c.in_ok-fill_bits.ensures.gives);
+      gives = gives_list m (λ i. bits_values (slice_index c.args.words.now i) g.row.W) c.loop-word.word-index _ _ _ c.loop-word.invariant.gives (given_all m _ _ _ _ bits c.in_ok-fill_bits.ensures.gives);
       whole = c.in_ok-fill_bits.ensures.whole;
     }
 
@@ -26,5 +26,5 @@ returns-in_err-fill_bits-clause-gives g c =
     let m = g.V.Values.giving in
     let bits = ap (λ (v : ℕ). bits_values v g.row.W) c.from.ensures in
     gives_refused m _ _ _ c.from_residual.result c.from_residual.ensures.1
-    (gives_list_refused m (λ i. bits_values (slice_index c.args.words.now i) g.row.W) (length c.args.words.now) c.loop-i.i _ _ _ _ c.loop-i-test.true c.loop-i.invariant.gives
+    (gives_list_refused m (λ i. bits_values (slice_index c.args.words.now i) g.row.W) (length c.args.words.now) c.loop-word.word-index _ _ _ _ c.loop-word-test.true c.loop-word.invariant.gives
     (given_some m _ _ _ _ bits _ c.in_err-fill_bits.ensures.gives))

@@ -5,8 +5,8 @@ use Rattle.tv_core.specs.Below.{joined_below}
 use Rattle.tv_core.specs.Giving.{GivesAll}
 use Rattle.tv_fill.proofs.front.fill_bits_of_words.Given as goal
 
-abbrev pub invariant-loop-i : goal.invariant-loop-i
-invariant-loop-i g l = record {
-  gives : GivesAll g.V.Values.giving l.initial.v l.v (joined_below l.i (λ i. bits_values (slice_index l.words i) g.row.W));
+abbrev pub invariant-loop-word : goal.invariant-loop-word
+invariant-loop-word g l = record {
+  gives : GivesAll g.V.Values.giving l.initial.v l.v (joined_below l.word-index (λ i. bits_values (slice_index l.words i) g.row.W));
   whole : g.V.Values.giving.broken l.v ≡ false;
 }
