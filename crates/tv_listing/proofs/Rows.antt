@@ -5,6 +5,7 @@ use Rattle.std.specs.Prelude.{slice_index}
 use Rattle.tv_block.specs.Block.{block_of}
 use Rattle.tv_core.specs.Lines.{Line}
 use Rattle.tv_core.specs.declared.lines.LineLc.{LineLc}
+use Rattle.tv_layout.proofs.Boot.{boot_more}
 use Rattle.tv_layout.proofs.LinePlaces.{line_number}
 use Rattle.tv_layout.proofs.Positions.{log_above}
 use Rattle.tv_layout.proofs.Whole.{few}
@@ -38,16 +39,6 @@ rows_more w image n t i z rows row line fits h before is valued =
     ∙ sym (take_next (lines_at w image n t z) i (row_line row) (omega (arith, length-map (lines_of (block_of w) w image n t) (line_value z))))
 
 -- one more of the lines that write words
-words_more : (cell time k : ℕ) (words : List ℕ) → k < length words
-    → boot_from cell time (take (k + 1) words) ≡ boot_from cell time (take k words) ++ record { cell = cell + k; time = time + k; old = 0; new = slice_index words k } ∷ []
-words_more cell time k [] h = absurd (omega arith)
-words_more cell time zero (v ∷ words) h = let c : cell + 0 ≡ cell = omega arith in let t : time + 0 ≡ time = omega arith in rw (c, t) refl
-words_more cell time (suc k) (v ∷ words) h =
-    let e : suc k + 1 ≡ suc (k + 1) = omega arith in
-    let c : cell + suc k ≡ cell + 1 + k = omega arith in
-    let t : time + suc k ≡ time + 1 + k = omega arith in
-    rw (e, c, t) (ap (λ (l : List Line). record { cell = cell; time = time; old = 0; new = v } ∷ l) (words_more (cell + 1) (time + 1) k words (omega arith)))
-
 pub words_pushed : (lines : List Line) (rows : List Row) (row : Row) (cell time i : ℕ) (words : List ℕ) → i < length words
     → map row_line rows ≡ lines ++ boot_from cell time (take i words) → row_line row ≡ record { cell = cell + i; time = time + i; old = 0; new = slice_index words i }
     → map row_line (rows ++ row ∷ []) ≡ lines ++ boot_from cell time (take (i + 1) words)
@@ -55,4 +46,4 @@ words_pushed lines rows row cell time i words h before is =
     map-append row_line rows (row ∷ [])
     ∙ ap₂ (λ (a b : List Line). a ++ b) before (ap (λ (l : Line). l ∷ []) is)
     ∙ append_assoc lines (boot_from cell time (take i words)) _
-    ∙ ap (λ l. lines ++ l) (sym (words_more cell time i words h))
+    ∙ ap (λ l. lines ++ l) (sym (boot_more cell time words i h))

@@ -40,12 +40,12 @@ fn push_words(rows: &mut Vec<Row>, cell: u32, time: u32, words: &[u32]) -> Resul
     ensures { OnOk result (map row_line rows.new.items ≡
         map row_line rows.old.items ++ boot_from cell time words.now) }
 {
-    for i in 0..words.len() {
+    for (i, word) in words.iter().enumerate() {
         rows.push(Row {
             cell: u64::from(cell) + i as u64,
             time: u64::from(time) + i as u64,
             old: 0,
-            new: u64::from(words[i]),
+            new: u64::from(*word),
         })?;
     }
     Ok(())
