@@ -122,9 +122,8 @@ fn input(marks: &[Option<bool>], p: &[u32], j: usize, lower: bool) -> u32
     ensures { result ≡ (if lower then down_input marks.now p.now j
         else up_input marks.now p.now j) }
 {
-    let (x, y) = (p[2 * j], p[2 * j + 1]);
-    let first = down(marks, x as usize);
-    if lower == first { x } else { y }
+    let first = down(marks, p[2 * j] as usize);
+    p[if lower == first { 2 * j } else { 2 * j + 1 }]
 }
 
 // The places, within one half, of the inputs that go through it.
