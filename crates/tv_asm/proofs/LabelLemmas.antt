@@ -1,5 +1,5 @@
 -- The labels of lines, one line after another.
-use Rattle.std.proofs.Common.{◌≡◌, ℕ, ◌+◌, ◌*◌, ◌/◌, ◌%◌, ◌^◌, ◌<◌, ◌≤◌, Bool, true, false, cond, List, [], ◌∷◌, ◌++◌, length, take, drop, Option, Some, None, is_some, refl, sym, ap, ◌∙◌, arith, zero-add, subst}
+use Rattle.std.proofs.Common.{◌≡◌, ℕ, ◌+◌, ◌*◌, ◌/◌, ◌%◌, ◌^◌, ◌<◌, ◌≤◌, Bool, true, false, cond, List, [], ◌∷◌, ◌++◌, length, take, drop, Option, Some, None, refl, sym, ap, ◌∙◌, arith, zero-add, subst}
 use Rattle.std.proofs.lemmas.List.Folds.{list_any-append}
 use Rattle.std.proofs.lemmas.List.{append-nil, take-append-drop}
 use Rattle.std.proofs.lemmas.List.Sums.{sum_by-append}
@@ -13,13 +13,6 @@ use Rattle.tv_asm.specs.Views.{AreLabelsOf, first_place, place_in}
 use Rattle.tv_asm.specs.declared.labels.Labels.{Labels}
 use Rattle.tv_asm.specs.declared.labels.Place.{Place}
 use Rattle.tv_asm.proofs.FirstLemmas.{before_first-append_any, before_first-append_none, drop_next, take_next, length-take_next}
-
--- a value put where there was none stands behind what was there
-pub noted_once : {X : Type 0} (here : Bool) (found : Option X) (x : X) → (here ≡ true → is_some found ≡ false) → cond here (Some x) found ≡ option_or found (cond here (Some x) None)
-noted_once true None x h = refl
-noted_once true (Some y) x h = cc (h refl)
-noted_once false None x h = refl
-noted_once false (Some y) x h = refl
 
 -- the place of a label that the line behind these defines
 abbrev pub place_after : ℕ → List (List ℕ) → Place

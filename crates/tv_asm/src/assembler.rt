@@ -1,7 +1,6 @@
-ghost use Rattle.std.specs.Prelude.{◌≡◌, ◌<◌, ◌≤◌, ◌^◌, ◌⊎◌, ◌==◌, length, false, OnOk, IfOk};
+ghost use Rattle.std.specs.Prelude.{◌≡◌, ◌<◌, ◌≤◌, ◌^◌, ◌⊎◌, ◌==◌, length, OnOk, IfOk};
 ghost use Rattle.std.specs.Prelude.{IfErr, Ok, Err};
 ghost use Rattle.std.specs.List.{All};
-ghost use Rattle.std.specs.Option.{option_map, option_map_or};
 ghost use Rattle.tv_asm.specs.Assembly.{assembled, line_words, part_words, with_line};
 ghost use Rattle.tv_asm.specs.Header.{width_of};
 ghost use Rattle.tv_asm.specs.Views.{address_in, is_earlier, words_said};
@@ -96,21 +95,12 @@ fn line_words<const W: u32>(
         return Err(AsmWhy::BadHeader);
     }
     let statement = Statement::of(code).ok_or(AsmWhy::BadLabel)?;
-    if is_doubled(statement.label, number, labels) {
+    if let Some(label) = statement.label
+        && labels.is_earlier(label, number)
+    {
         return Err(AsmWhy::DoubledLabel);
     }
     part_words::<W>(statement.instruction, labels)
-}
-
-/// Whether a line before this one defines its label.
-fn is_doubled(label: Option<&[u8]>, number: u64, labels: &Labels<'_>) -> bool
-    ensures { result
-        ≡ option_map_or (is_earlier labels.now number) (option_map (λ l. l.now) label.entry) false }
-{
-    match label {
-        Some(label) => labels.is_earlier(label, number),
-        None => false,
-    }
 }
 
 /// The words of an instruction part: none where it is empty.

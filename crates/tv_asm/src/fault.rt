@@ -43,7 +43,7 @@ pub enum AsmWhy {
 }
 
 /// Why a program text has no image.
-#[derive(Debug, Drop, Error)]
+#[derive(Clone, Copy, PartialEq, Eq, Debug, Error)]
 pub enum AsmFault {
     /// The first line at fault, counted from 1, is refused.
     #[error("line {line}: {why}")]

@@ -29,10 +29,7 @@ pub fn width(text: &[u8]) -> u32
 fn is_header_of_16(line: &[u8]) -> bool
     ensures { result ≡ is_header_of_16 line.now }
 {
-    match line.strip_prefix(HEADER) {
-        Some(fields) => has_width_16(fields),
-        None => false,
-    }
+    line.strip_prefix(HEADER).is_some_and(has_width_16)
 }
 
 /// Whether one of a header's fields says that words have 16 bits.
@@ -50,10 +47,7 @@ pub(crate) fn is_good_header<const W: u32>(line: &[u8]) -> bool
     requires { IsWidth W }
     ensures { result ≡ is_good_header W line.now }
 {
-    match line.strip_prefix(HEADER) {
-        Some(fields) => are_good_fields::<W>(fields),
-        None => true,
-    }
+    line.strip_prefix(HEADER).is_none_or(are_good_fields::<W>)
 }
 
 fn are_good_fields<const W: u32>(fields: &[u8]) -> bool

@@ -57,15 +57,10 @@ impl<'a> Labels<'a> {
             ≡ option_or (place_in self.old name) (if says_label name
             (option_map said_by statement.entry) then Some place else None)) }
     {
-        match statement {
-            Some(
-                Statement {
-                    label: Some(label),
-                    instruction: _,
-                },
-            ) => self.define(label, place),
-            _ => Ok(()),
+        if let Some(label) = statement.and_then(|statement| statement.label) {
+            self.define(label, place)?;
         }
+        Ok(())
     }
 
     /// Notes a label's place, unless the label has one already.
@@ -74,9 +69,7 @@ impl<'a> Labels<'a> {
             ≡ option_or (place_in self.old name) (if bytes_eq label.now name then Some place
             else None)) }
     {
-        if !self.places.contains_key(label) {
-            self.places.insert(label, place)?;
-        }
+        self.places.entry(label)?.or_insert(place);
         Ok(())
     }
 

@@ -1,15 +1,14 @@
-use Rattle.std.proofs.Common.{◌≡◌, ◌∙◌, ap, sym, Some, is_some, false}
+use Rattle.std.proofs.Common.{◌≡◌, arith, unwrap_or}
 use Rattle.std.proofs.lemmas.Map.Text.{hash_map_updates_str}
 use Rattle.std.proofs.lemmas.Slice.Eq.{bytes_eq-Decides}
-use Rattle.std.specs.Str.{bytes_eq}
+use Rattle.std.specs.HashMap.Entry.{map_with_value}
 use Rattle.tv_asm.specs.Views.{place_in}
-use Rattle.tv_asm.proofs.LabelLemmas.{noted_once}
 use Rattle.tv_asm.proofs.labels.Labels.define.Goals as goal
 
-pub returns-in_ok-insert : goal.returns-in_ok-insert
-returns-in_ok-insert c = λ name.
+pub returns : goal.returns
+returns c = λ name.
     let label = c.args.label.now in
-    let absent : is_some (place_in c.args.self.now label) ≡ false = cc in
-    hash_map_updates_str label c.args.self.now.places c.insert.new.self (Some c.args.place) c.in_ok-insert.ensures.updates name
-    ∙ noted_once (bytes_eq label name) (place_in c.args.self.now name) c.args.place
-    (λ e. ap (λ n. is_some (place_in c.args.self.now n)) (sym ((bytes_eq-Decides label name).0 e)) ∙ absent)
+    let place = c.or_insert.result.now in
+    let put = hash_map_updates_str label c.args.self.now.places (map_with_value c.in_ok-self.field-0 place) _ (c.in_ok-self.ensures.update.0 place) name in
+    let had : place ≡ unwrap_or (place_in c.args.self.now label) c.args.place = grind arith in
+    grind (arith, put, bytes_eq-Decides label name)
