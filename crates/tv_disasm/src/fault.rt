@@ -5,7 +5,7 @@ use std::alloc::AllocError;
 use thiserror::Error;
 
 /// Why an image has no program text.
-#[derive(Debug, Drop, Error)]
+#[derive(Clone, Copy, PartialEq, Eq, Debug, Error)]
 pub enum DisFault {
     /// The bytes aren't whole instructions, of 8 bytes where words have 32 bits and of 4 where 16.
     #[error("{len} bytes aren't whole instructions")]
