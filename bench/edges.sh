@@ -59,7 +59,6 @@ edge() {
     fi
 }
 
-
 # Closed streams: what can't be said is a fault, and no byte of it lands in a file.
 edge 0 '' '' 'IMAGE' '$t asm P IMAGE >&- 2>&- && cmp -s I IMAGE'
 edge 0 '' '' 'IMAGE' '$t asm P IMAGE <&- >&- 2>&- && cmp -s I IMAGE'
@@ -69,7 +68,7 @@ edge 8 '' 'file fault: output\n' '' '$t asm BAD OLD >&-'
 edge 8 '' '' '' '$t asm ABSENT OLD >&- 2>&-'
 edge 8 '' '' '' '$t asm P D >&- 2>&-'
 edge 8 '' '' '' '$t check S V A >&- 2>&-'
-edge 8 '' '' '' '$t check S V A <&- >&-  2>&-'
+edge 8 '' '' '' '$t check S V A <&- >&- 2>&-'
 edge 0 'yes\n' '' '' '$t check S V A 2>&-'
 edge 0 'yes\n' '' '' '$t check S V A <&-'
 edge 8 '' '' 'AUX TAPE' '$t extract P 0 1 V TAPE AUX >&- 2>&-; s=$?; test ! -s TAPE && test ! -s AUX && exit $s'

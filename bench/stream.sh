@@ -1,7 +1,8 @@
 #!/usr/bin/env bash
 # Times a StreamSink against stream.rs, a writer of the same constraints in plain Rust: with a buffer of 4,096 bytes,
 # which a term is written to as two numbers or put together first, and with one of 65,536; over files that forget
-# their bytes, and over the disk. Constraints have combinations of 3 terms, or of 96. It needs rustc. The first run proves the crates in a scratch repository, which takes some minutes.
+# their bytes, and over the disk. Constraints have combinations of 3 terms, or of 96. It needs rustc. The first run
+# proves the crates in a scratch repository, which takes some minutes.
 # usage: bench/stream.sh [ROUNDS]
 set -euo pipefail
 bench=$(cd "$(dirname "$0")" && pwd)
