@@ -21,6 +21,7 @@ shown_char c = cond (is_ascii_control c) (hex_shown c) (encode_utf8 c)
 abbrev pub escaped : List ℕ → List ℕ
 escaped name = flat_map shown name
 
+-- what a complaint says
 abbrev pub text_of : Complaint → List ℕ
 text_of complaint.NotUtf8 = codes "not UTF-8"
 text_of complaint.NoMemory = codes "no memory"

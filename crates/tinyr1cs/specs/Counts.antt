@@ -5,10 +5,10 @@ use Rattle.tv_files.specs.declared.calls.FileRefusal.{FileRefusal}
 use Rattle.tv_files.specs.declared.calls.FileRefusal.TheVariants.{Failed, Memory}
 use Rattle.tinyr1cs.specs.declared.counts.Call.{Call}
 use Rattle.tinyr1cs.specs.declared.counts.Call.TheVariants.{Reading, Writing, Saying}
-use Rattle.tinyr1cs.specs.declared.counts.Counts.{Counts}
+use Rattle.tinyr1cs.specs.declared.counts.RefusalCounts.{RefusalCounts}
 
 -- the counts as what is told of the outside
-abbrev pub told_by : Counts → Outside
+abbrev pub told_by : RefusalCounts → Outside
 told_by counts = record {
   contents = None;
   said = None;
@@ -20,7 +20,7 @@ told_by counts = record {
 }
 
 -- nothing has gone wrong yet
-abbrev pub zeros : Counts
+abbrev pub zeros : RefusalCounts
 zeros = record { read_faults = 0; write_faults = 0; say_faults = 0; wants = 0 }
 
 -- one more, up to a counter's last value
@@ -28,13 +28,13 @@ abbrev pub one_more : ℕ → ℕ
 one_more count = min (count + 1) (2 ^ 64 - 1)
 
 -- the counts once a call of this kind has failed
-abbrev pub with_fault : Call → Counts → Counts
+abbrev pub with_fault : Call → RefusalCounts → RefusalCounts
 with_fault Reading counts = record counts { read_faults = one_more counts.read_faults }
 with_fault Writing counts = record counts { write_faults = one_more counts.write_faults }
 with_fault Saying counts = record counts { say_faults = one_more counts.say_faults }
 
 -- the counts after a call of this kind that answered this: a refusal raises one of them
-abbrev pub after : {A : Type 0} → Call → Result A FileRefusal → Counts → Counts
+abbrev pub after : {A : Type 0} → Call → Result A FileRefusal → RefusalCounts → RefusalCounts
 after call (Ok _) counts = counts
 after call (Err Failed) counts = with_fault call counts
 after call (Err Memory) counts = record counts { wants = one_more counts.wants }

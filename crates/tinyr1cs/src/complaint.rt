@@ -32,11 +32,11 @@ impl fmt::Display for Complaint<'_> {
 impl<'a> Complaint<'a> {
     /// What a status leaves to be said: the name of the file that failed, which is `output` behind
     /// the last word, or that memory was wanting.
-    pub fn of(status: &Status, words: &'a [String]) -> Option<Complaint<'a>>
+    pub fn of(status: Status, words: &'a [String]) -> Option<Complaint<'a>>
         ensures { option_map text_of result ≡
-            complaint_text (map string_bytes words.now) status.now }
+            complaint_text (map string_bytes words.now) status }
     {
-        match *status {
+        match status {
             Status::Memory => Some(Complaint::NoMemory),
             Status::FileFault { word } => Some(Complaint::FileFault(
                 words.get(word as usize).map_or("output", String::as_str),

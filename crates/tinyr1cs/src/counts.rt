@@ -10,7 +10,7 @@ use tv_files::FileRefusal;
 
 /// How many calls were refused, by cause. Each count stays at its last value.
 #[derive(Clone, Copy, Debug, PartialEq, Eq)]
-pub struct Counts {
+pub struct RefusalCounts {
     /// Faults of `read`.
     pub read_faults: u64,
     /// Faults of `create` and `append`.
@@ -22,19 +22,22 @@ pub struct Counts {
 }
 
 /// The kinds of calls, each with a count of its faults.
-#[derive(Clone, Copy, Debug, PartialEq, Eq)]
+#[derive(Clone, Copy)]
 pub enum Call {
+    /// `read`.
     Reading,
+    /// `create` and `append`.
     Writing,
+    /// `say`.
     Saying,
 }
 
-impl Counts {
+impl RefusalCounts {
     /// Nothing has gone wrong yet.
-    pub fn new() -> Counts
+    pub fn new() -> RefusalCounts
         ensures { result ≡ zeros }
     {
-        Counts {
+        RefusalCounts {
             read_faults: 0,
             write_faults: 0,
             say_faults: 0,

@@ -4,7 +4,7 @@ ghost use Rattle.tv_files.specs.Calls.{Reads, Creates, Appends, Says};
 ghost use Rattle.tinyr1cs.specs.Counts.{told_by, zeros, after};
 ghost use Rattle.tinyr1cs.specs.declared.counts.Call.TheVariants.{Reading, Writing, Saying};
 
-use crate::counts::{Call, Counts};
+use crate::counts::{Call, RefusalCounts};
 use crate::open::OpenFiles;
 use crate::progress::Progress;
 use std::alloc::Global;
@@ -15,20 +15,20 @@ use tv_files::{FileRefusal, Files};
 
 /// The files of the system, by name, and its standard output.
 ///
-/// Of files and of what was said nothing is told but counts, as which contracts see it: each
-/// refusal raises one by 1, and nothing else does.
+/// Contracts see its counts alone, and nothing of files or of what was said: each refusal raises
+/// one of them by 1, and nothing else does.
 #[derive(Drop)]
 pub struct DiskFiles<R: rt::Files + Drop> {
     rt: R,
     open: OpenFiles<R>,
-    counts: Counts,
+    counts: RefusalCounts,
     progress: Progress,
 }
 
 impl<R: rt::Files + Drop> Model for DiskFiles<R> {
-    ghost use Rattle.tinyr1cs.specs.declared.counts.Counts.{Counts};
+    ghost use Rattle.tinyr1cs.specs.declared.counts.RefusalCounts.{RefusalCounts};
 
-    ghost Value = { Counts };
+    ghost Value = { RefusalCounts };
 
     ghost view = { λ files. files.counts };
 }
@@ -42,13 +42,13 @@ impl<R: rt::Files + Drop> DiskFiles<R> {
         DiskFiles {
             rt,
             open: OpenFiles::new(alloc),
-            counts: Counts::new(),
+            counts: RefusalCounts::new(),
             progress: Progress::new(is_told),
         }
     }
 
     /// How many calls were refused so far, by cause.
-    pub fn counts(&self) -> Counts
+    pub fn counts(&self) -> RefusalCounts
         ensures { result ≡ self.now }
     {
         self.counts
@@ -157,7 +157,7 @@ mod tests {
             let count = files.read(name, at, &mut piece)?;
             assert_eq!(rt; &piece[..count], rest.as_bytes(), "from {at}");
         }
-        assert_eq!(rt; files.counts(), Counts::new());
+        assert_eq!(rt; files.counts(), RefusalCounts::new());
         fs::remove_dir_all(&rt, folder.as_path())?;
         Ok(())
     }
@@ -180,7 +180,7 @@ mod tests {
         files.create(name)?;
         assert!(rt; slurp(alloc, &mut files, name, 99)?.is_empty());
         files.say(b"")?;
-        assert_eq!(rt; files.counts(), Counts::new());
+        assert_eq!(rt; files.counts(), RefusalCounts::new());
         fs::remove_dir_all(&rt, folder.as_path())?;
         Ok(())
     }

@@ -43,14 +43,14 @@ fn main(rt: HostRuntime) -> ExitCode {
 
 /// Runs the command that the words name.
 fn run(rt: HostRuntime) -> ExitCode {
-    match words::words(&rt) {
+    match words::collect(&rt) {
         Ok(words) => {
             let mut files = DiskFiles::new(rt.alloc(), rt, rt.stderr().is_terminal());
             let status = command(rt.alloc(), &words, &mut files);
             files.clear();
-            end(&rt, &words, &status)
+            end(&rt, &words, status)
         }
-        Err(error) if error.kind() == ErrorKind::OutOfMemory => end(&rt, &[], &Status::Memory),
+        Err(error) if error.kind() == ErrorKind::OutOfMemory => end(&rt, &[], Status::Memory),
         Err(_) => {
             complain(&rt, Complaint::NotUtf8);
             ExitCode::from(NOT_UTF8)
@@ -59,8 +59,8 @@ fn run(rt: HostRuntime) -> ExitCode {
 }
 
 /// Ends the program by a status, and says on standard error what the command could say nowhere.
-fn end(rt: &impl Eprint, words: &[String], status: &Status) -> ExitCode
-    ensures { exit_status result ≡ code_of status.now }
+fn end(rt: &impl Eprint, words: &[String], status: Status) -> ExitCode
+    ensures { exit_status result ≡ code_of status }
 {
     if let Some(complaint) = Complaint::of(status, words) {
         complain(rt, complaint);
@@ -117,11 +117,11 @@ mod tests {
             text: RefCell::new(String::new(alloc)),
         };
         for word in 1..4 {
-            let _ = end(&printed, &words, &Status::FileFault { word });
+            let _ = end(&printed, &words, Status::FileFault { word });
         }
-        let _ = end(&printed, &words, &Status::Memory);
-        let _ = end(&printed, &words, &Status::Usage);
-        let _ = end(&printed, &words, &Status::Done);
+        let _ = end(&printed, &words, Status::Memory);
+        let _ = end(&printed, &words, Status::Usage);
+        let _ = end(&printed, &words, Status::Done);
         complain(&printed, Complaint::NotUtf8);
         assert_eq!(rt;
             printed.text.into_inner().as_str(),

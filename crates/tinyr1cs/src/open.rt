@@ -36,8 +36,8 @@ impl<R: Files> OpenFiles<R> {
         }
     }
 
-    /// The handles of a name.
-    fn of(&mut self, name: &str) -> Result<&mut Handles<R::File>, AllocError> {
+    /// The handles of a name, both closed where it is a new one.
+    fn handles_of(&mut self, name: &str) -> Result<&mut Handles<R::File>, AllocError> {
         if let Some(handles) = self.handles.get_mut(name) {
             return Ok(handles);
         }
@@ -56,17 +56,17 @@ impl<R: Files> OpenFiles<R> {
         let alloc = self.alloc;
         let writes = self.writes;
         let reader = self
-            .of(name)?
+            .handles_of(name)?
             .reader
             .get_or_try_insert_with(|| open_reader(rt, alloc, name))?;
         reader.read_at(at, writes, into)
     }
 
     /// Makes the name stand for no bytes. Handles that were open on it may be of another file by
-    /// now.
+    /// now, and are closed first.
     pub fn create(&mut self, rt: &R, name: &str) -> io::Result<()> {
         self.writes = self.writes.wrapping_add(1);
-        let handles = self.of(name)?;
+        let handles = self.handles_of(name)?;
         handles.reader = None;
         handles.writer = None;
         handles.writer = Some(fs::create(rt, name)?);
@@ -76,7 +76,7 @@ impl<R: Files> OpenFiles<R> {
     /// Writes the bytes at the file's end.
     pub fn append(&mut self, rt: &R, name: &str, bytes: &[u8]) -> io::Result<()> {
         self.writes = self.writes.wrapping_add(1);
-        let handles = self.of(name)?;
+        let handles = self.handles_of(name)?;
         let writer = handles
             .writer
             .get_or_try_insert_with(|| OpenOptions::new().append(true).open(rt, name))?;

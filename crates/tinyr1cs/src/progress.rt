@@ -16,13 +16,12 @@ const CLEARED: &str = "\r                                                       
 pub struct Progress {
     /// How many bytes of the file were written.
     written: u64,
-    /// How many there are when they are told next: never, where no line is to be told.
-    due: u64,
-    is_told: bool,
+    /// How many there are when they are told next; `None` where no line is to be told.
+    due: Option<u64>,
     is_shown: bool,
 }
 
-/// The line: a name, how many bytes, in MB or GB, and blanks over what stood there.
+/// The line: a name, how many bytes, in MB or GB, and a blank.
 #[derive(Clone, Copy)]
 struct Line<'a> {
     name: &'a str,
@@ -34,8 +33,7 @@ impl Progress {
     pub fn new(is_told: bool) -> Progress {
         Progress {
             written: 0,
-            due: if is_told { STEP } else { u64::MAX },
-            is_told,
+            due: is_told.then_some(STEP),
             is_shown: false,
         }
     }
@@ -43,29 +41,26 @@ impl Progress {
     /// A file begins.
     pub fn begin(&mut self) {
         self.written = 0;
-        if self.is_told {
-            self.due = STEP;
-        }
+        self.due = self.due.map(|_| STEP);
     }
 
     /// Some bytes more were written to a file.
     pub fn add(&mut self, err: &impl Eprint, name: &str, count: usize) {
         self.written = self.written.saturating_add(count as u64);
-        if self.written >= self.due {
+        if self.due.is_some_and(|due| self.written >= due) {
             self.tell(err, name);
         }
     }
 
+    /// Tells how much is written, and sets when it is told next.
     #[cold]
     fn tell(&mut self, err: &impl Eprint, name: &str) {
-        if self.is_told {
-            self.due = self.written.saturating_add(STEP);
-            self.is_shown = true;
-            let _ = err.eprint(Line {
-                name: told_name(name),
-                bytes: self.written,
-            });
-        }
+        self.due = Some(self.written.saturating_add(STEP));
+        self.is_shown = true;
+        let _ = err.eprint(Line {
+            name: told_name(name),
+            bytes: self.written,
+        });
     }
 
     /// Takes the line away, where one stands.

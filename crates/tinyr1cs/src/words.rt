@@ -30,6 +30,6 @@ impl<R: AllocGlobal> Alloc for AfterName<'_, R> {
 }
 
 /// Copies the words. One that isn't UTF-8 is an error, and so is want of memory.
-pub fn words<R: Env + AllocGlobal>(rt: &R) -> io::Result<Vec<String>> {
+pub fn collect<R: Env + AllocGlobal>(rt: &R) -> io::Result<Vec<String>> {
     Ok(env::args(&AfterName(rt))?.collect(rt.alloc())?)
 }
