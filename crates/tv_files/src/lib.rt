@@ -1,6 +1,6 @@
 //! The outside world: the trait `Files`, through which every byte is read and written, with what
 //! each call may do to names, bytes and counts; `MemFiles`, which keeps all in memory and can fail
-//! on demand; and `slurp`, whose `Ok` is the whole contents of a name.
+//! on demand; `slurp`, whose `Ok` is a name's whole contents; and `write_file`, which writes them.
 #![tactic(auto)]
 
 mod calls;
