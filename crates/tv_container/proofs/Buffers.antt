@@ -1,18 +1,47 @@
 -- What appending bytes held and given does, piece by piece.
-use Rattle.std.proofs.Common.{◌≡◌, ℕ, suc, ◌<◌, ◌∷◌, add-one, get_or, ◌+◌, ◌-◌, ◌≤◌, min, List, [], ◌++◌, length, take, drop, option_map, ap₂, Option, Some, None, Result, Ok, Err, IsErrAnd, append_assoc, ap, refl, sym, ◌∙◌, subst, arith, rules, inl, inr, ◌⊎◌}
-use Rattle.std.proofs.lemmas.List.{take-append-le, take_min, append-nil, take-append-drop, drop-drop, drop_all}
-use borrow.Rule.Slice.PartMut.{put_mid, post_of}
-use Rattle.std.proofs.lemmas.Result.{err_from_is_err_and}
-use Rattle.tv_files.proofs.NamedFiles.{with_more-none, told-with_more-with_more, with_more-none_before}
-use Rattle.std.proofs.Math.Seq.{take-append-add, take-suc, drop-cons}
+use Rattle.std.proofs.Common.{◌≡◌, ℕ, suc, ◌<◌, ◌∷◌, add-one, get_or, ◌+◌, ◌-◌, ◌≤◌, min, ⊎_elim, List, [], ◌++◌, length, take, drop, option_map, Option, Some, None, Result, Ok, Err, IsErrAnd, append_assoc, append-nil, ap, refl, sym, ◌∙◌, subst, arith, rules, inl, inr, ◌⊎◌}
+use Rattle.std.proofs.lemmas.Bool.{cases_lt}
+use Rattle.std.proofs.lemmas.List.{take-append-le, take_min, take-take, take-append-drop, drop-take, drop_all, length-take-le, length-drop}
+use Rattle.std.proofs.lemmas.List.Edits.{take-paste}
 use Rattle.std.proofs.lemmas.Grind.{flat_map-append}
-use Rattle.std.specs.List.{flat_map}
+use Rattle.std.proofs.Math.Seq.{take-append-add, take-suc}
+use Rattle.std.specs.List.{copy_within, flat_map}
+use Rattle.std.specs.Prelude.{MatchResult, is_ok, is_err, true, false}
+use Rattle.tv_container.specs.Taking.{PassesOn, Took}
+use Rattle.tv_container.specs.declared.pending.Pending.{Pending}
+use Rattle.tv_container.specs.Faults.{sink_fault}
+use Rattle.tv_container.specs.Writing.{Adds, OnlyAppends, Passes}
+use Rattle.tv_container.specs.Written.{HasCause}
+use Rattle.tv_container.proofs.Written.{is_cause}
+use Rattle.tv_core.specs.declared.sink.SinkFault.{SinkFault}
+use Rattle.tv_core.specs.declared.sink.SinkFault.TheVariants as sink
 use Rattle.tv_files.proofs.Cases.{OnErr-map, OnOk-map}
+use Rattle.tv_files.proofs.NamedFiles.{with_more-none, told-with_more-with_more, with_more-none_before}
 use Rattle.tv_files.specs.Calls.{Appends}
 use Rattle.tv_files.specs.Outside.{Outside, Names, SameCounts, with_more}
 use Rattle.tv_files.specs.declared.calls.FileRefusal.{FileRefusal}
-use Rattle.tv_container.specs.Writing.{Adds, OnlyAppends, Passes, PassesOn}
 use Rattle.tv_word.specs.Counts.{Rose}
+
+-- the first of the bytes that are held, and the others, moved to the front
+pub first_held : (bytes : List ℕ) (held n size : ℕ) → held ≤ length bytes → size ≡ min held n → take size bytes ≡ take n (take held bytes)
+first_held bytes held n size room is =
+    let same : size ≡ min n (length (take held bytes)) = omega (arith, is, length-take-le held bytes room) in
+    sym (take-take size held bytes (omega (arith, is))) ∙ ap (λ k. take k (take held bytes)) same ∙ take_min n (take held bytes)
+
+pub others_held : (bytes : List ℕ) (held n size : ℕ) → held ≤ length bytes → size ≡ min held n →
+    take (held - size) (copy_within bytes size held 0) ≡ drop n (take held bytes)
+others_held bytes held n size room is =
+    let left : held - size ≤ length (drop size bytes) = omega (arith, is, length-drop size bytes) in
+    let whole : size + (held - size) ≡ held = omega (arith, is) in
+    let start : 0 + (held - size) ≡ held - size = omega arith in
+    ap (λ k. take k (copy_within bytes size held 0)) (sym start)
+    ∙ take-paste bytes 0 (drop size bytes) (held - size) (omega (arith, is)) left
+    ∙ sym (drop-take size (held - size) bytes)
+    ∙ ap (λ k. drop size (take k bytes)) whole
+    ∙ ⊎_elim
+    (λ (few : held < n). drop_all size (take held bytes) (omega (arith, is, few, length-take-le held bytes room)) ∙ sym (drop_all n (take held bytes) (omega (arith, few, length-take-le held bytes room))))
+    (λ (enough : n ≤ held). let same : size ≡ n = omega (arith, is, enough) in ap (λ k. drop k (take held bytes)) same)
+    (cases_lt held n)
 
 -- no bytes are added where nothing is done
 pub adds_none : (outside : Outside) (name : List ℕ) → Adds outside outside name []
@@ -31,58 +60,40 @@ nothing_appended outside name = record {
   there = λ files told. inl refl;
 }
 
+-- a shorter first part of bytes is one of bytes that begin with them
+take_front : (n : ℕ) (bytes rest : List ℕ) → take (min n (length bytes)) (bytes ++ rest) ≡ take n bytes
+take_front n bytes rest =
+    let within : min n (length bytes) ≤ length bytes = omega arith in
+    take-append-le (min n (length bytes)) bytes rest within ∙ take_min n bytes
+
 -- all bytes are held
 pub all_held : (outside : Outside) (name bytes held : List ℕ) → bytes ≡ held → PassesOn outside outside name bytes held (Ok tt)
 all_held outside name bytes held same = record {
   done = record { front = []; split = same; contents = adds_none outside name };
-  refused = search rules;
+  refused = tt;
   only = nothing_appended outside name;
-  counts = search rules;
-  failed = λ e. cc;
-  memory = λ e. cc;
+  cause = search rules;
 }
 
--- a first part was appended, and the rest is held
-pub front_passed : (old new : Outside) (name bytes front held : List ℕ) → Appends old new name front (Ok tt) → bytes ≡ front ++ held →
-    PassesOn old new name bytes held (Ok tt)
-front_passed old new name bytes front held call split = record {
+-- a first part was appended, and the rest is held; or that was refused
+pub call_passes : (old new : Outside) (name bytes front held : List ℕ) (written : Result (Unit {0}) FileRefusal) (outcome : Result (Unit {0}) SinkFault) →
+    Appends old new name front written → bytes ≡ front ++ held → MatchResult written (λ x. outcome ≡ Ok x) (λ why. IsErrAnd outcome (λ fault. fault ≡ sink_fault why)) →
+    PassesOn old new name bytes held outcome
+call_passes old new name bytes front held (Ok unit) outcome call split is = rw is (record {
   done = record { front = front; split = split; contents = call.done };
-  refused = search rules;
+  refused = tt;
   only = record { more = front; contents = call.done; said = call.said; later = call.later; there = call.there };
-  counts = call.counts;
-  failed = λ e. cc;
-  memory = λ e. cc;
-}
-
--- the append of a first part was refused
-pub front_refused : (old new : Outside) (name bytes front rest held : List ℕ) (why : FileRefusal) (result : Result (Unit {0}) FileRefusal) →
-    IsErrAnd result (λ e. e ≡ why) → Appends old new name front (Err why) → bytes ≡ front ++ rest → PassesOn old new name bytes held result
-front_refused old new name bytes front rest held why result is call split =
-    let e = err_from_is_err_and result is in
+  cause = call.counts;
+})
+call_passes old new name bytes front held (Err why) (Ok done) call split is = absurd is
+call_passes old new name bytes front held (Err why) (Err fault) call split is =
     let some = call.refused in
-    let within : min some.0 (length front) ≤ length front = omega arith in
-    let same : take (min some.0 (length front)) bytes ≡ take some.0 front =
-    ap (take (min some.0 (length front))) split ∙ take-append-le (min some.0 (length front)) front rest within ∙ take_min some.0 front in
-    rw (e.1, e.2) (record {
-      done = search rules;
-      refused = (min some.0 (length front), rw same some.1);
+    record {
+      done = tt;
+      refused = (min some.0 (length front), rw (split, take_front some.0 front held) some.1);
       only = record { more = take some.0 front; contents = some.1; said = call.said; later = call.later; there = call.there };
-      counts = search rules;
-      failed = λ f. call.failed (f);
-      memory = λ f. call.memory (f);
-    })
-
--- the buffer is full with the first bytes given: what was held and they, and behind them the other bytes given
-pub filled : (self bytes more copied : List ℕ) (held size : ℕ) → self ≡ take held bytes → length bytes ≡ size → held ≤ size →
-    copied ≡ take (size - held) more → self ++ more ≡ put_mid held (size - held) bytes copied ++ drop (size - held) more
-filled self bytes more copied held size is full within copy =
-    let none : drop (held + (size - held)) bytes ≡ [] = drop_all _ bytes (omega (arith, full)) in
-    let behind : post_of held (size - held) bytes ≡ [] = drop-drop (size - held) held bytes ∙ none in
-    let whole : take (size - held) more ++ drop (size - held) more ≡ more = take-append-drop (size - held) more in
-    ap₂ (λ front rest. front ++ rest) is (sym whole)
-    ∙ sym (append_assoc (take held bytes) _ _)
-    ∙ ap (λ front. front ++ drop (size - held) more)
-    (ap (λ part. take held bytes ++ part) (sym copy ∙ sym (append-nil copied) ∙ ap (λ rest. copied ++ rest) (sym behind)))
+      cause = is_cause _ _ old new why (Err why) fault refl is call.failed call.memory;
+    }
 
 -- bytes added, and then bytes added
 adds_then : (old mid new : Outside) (name first second : List ℕ) → Adds old mid name first → Adds mid new name second → Adds old new name (first ++ second)
@@ -113,21 +124,15 @@ appends_then old mid new name p q = record {
           | inr none ↦ inr (with_more-none_before name p.more files none)
         ]
 
--- no bytes are passed on
-pub passes_none : (outside : Outside) (name held : List ℕ) → PassesOn outside outside name (held ++ []) held (Ok tt)
-passes_none outside name held = all_held outside name (held ++ []) held (append-nil held)
-
 -- bytes are passed on, and then others
-pub passes_then : (old mid new : Outside) (name held first second between after : List ℕ) (result : Result (Unit {0}) FileRefusal) →
-    PassesOn old mid name (held ++ first) between (Ok tt) → PassesOn mid new name (between ++ second) after result →
-    PassesOn old new name (held ++ (first ++ second)) after result
-passes_then old mid new name held first second between after result p q = record {
-  done = OnOk-map result done q.done;
-  refused = OnErr-map result part q.refused;
+passes_then : (old mid new : Outside) (name held first second between after : List ℕ) (outcome : Result (Unit {0}) SinkFault) →
+    PassesOn old mid name (held ++ first) between (Ok tt) → PassesOn mid new name (between ++ second) after outcome →
+    PassesOn old new name (held ++ (first ++ second)) after outcome
+passes_then old mid new name held first second between after outcome p q = record {
+  done = OnOk-map outcome done q.done;
+  refused = OnErr-map outcome part q.refused;
   only = appends_then old mid new name p.only q.only;
-  counts = OnOk-map result counted q.counts;
-  failed = λ e. subst (λ n. Rose n new.write_faults) p.counts.write_faults (q.failed e);
-  memory = λ e. subst (λ n. Rose n new.wants) p.counts.wants (q.memory e);
+  cause = by_outcome outcome q.cause;
 }
   where
     whole : held ++ (first ++ second) ≡ p.done.front ++ (between ++ second)
@@ -149,36 +154,80 @@ passes_then old mid new name held first second between after result p q = record
       subst (λ bytes. Adds old new name bytes) (sym (front d.0)) (adds_then old mid new name p.done.front (take d.0 (between ++ second)) p.done.contents d.1),
     )
 
-    counted : SameCounts mid new → SameCounts old new
-    counted same = record {
-      read_faults = same.read_faults ∙ p.counts.read_faults;
-      write_faults = same.write_faults ∙ p.counts.write_faults;
-      say_faults = same.say_faults ∙ p.counts.say_faults;
-      wants = same.wants ∙ p.counts.wants;
-      absent = same.absent ∙ p.counts.absent;
+    by_outcome : (outcome : Result (Unit {0}) SinkFault) → HasCause mid new outcome → HasCause old new outcome
+    by_outcome (Ok unit) same = record {
+      read_faults = same.read_faults ∙ p.cause.read_faults;
+      write_faults = same.write_faults ∙ p.cause.write_faults;
+      say_faults = same.say_faults ∙ p.cause.say_faults;
+      wants = same.wants ∙ p.cause.wants;
+      absent = same.absent ∙ p.cause.absent;
     }
-
--- a shorter first part of bytes is one of bytes that begin with them
-take_front : (n : ℕ) (bytes rest : List ℕ) → take (min n (length bytes)) (bytes ++ rest) ≡ take n bytes
-take_front n bytes rest =
-    let within : min n (length bytes) ≤ length bytes = omega arith in
-    take-append-le (min n (length bytes)) bytes rest within ∙ take_min n bytes
+    by_outcome (Err sink.Failed) rose = subst (λ n. Rose n new.write_faults) p.cause.write_faults rose
+    by_outcome (Err sink.Memory) rose = subst (λ n. Rose n new.wants) p.cause.wants rose
 
 -- the first bytes are refused, and no others are tried
-pub passes_cut : (old new : Outside) (name held first second between after : List ℕ) (why : FileRefusal) →
-    PassesOn old new name (held ++ first) between (Err why) → PassesOn old new name (held ++ (first ++ second)) after (Err why)
-passes_cut old new name held first second between after why p =
-    let n = p.refused.0 in
-    let front : take (min n (length (held ++ first))) (held ++ (first ++ second)) ≡ take n (held ++ first) =
-    ap (take (min n (length (held ++ first)))) (sym (append_assoc held first second)) ∙ take_front n (held ++ first) second in
+passes_cut : (old new : Outside) (name held first second between after : List ℕ) (fault : SinkFault) →
+    PassesOn old new name (held ++ first) between (Err fault) → PassesOn old new name (held ++ (first ++ second)) after (Err fault)
+passes_cut old new name held first second between after fault p =
+    let some = p.refused in
     record {
       done = tt;
-      refused = (min n (length (held ++ first)), subst (λ bytes. Adds old new name bytes) (sym front) p.refused.1);
+      refused = (min some.0 (length (held ++ first)), rw (← append_assoc held first second, take_front some.0 (held ++ first) second) some.1);
       only = p.only;
-      counts = tt;
-      failed = p.failed;
-      memory = p.memory;
+      cause = p.cause;
     }
+
+-- no call was refused so far
+pub unrefused : (outcome : Result (Unit {0}) SinkFault) → is_err outcome ≡ false → outcome ≡ Ok tt
+unrefused (Ok unit) none = refl
+unrefused (Err fault) none = cc
+
+-- bytes are taken, and then others
+pub took_then : {name : List ℕ} {old mid new : Outside} {before between after : Pending} {first second : List ℕ} →
+    Took name old before mid between first → Took name mid between new after second → Took name old before new after (first ++ second)
+took_then {name} {old} {mid} {new} {before} {between} {after} {first} {second} p q = record {
+  passes = λ ok. by_outcome between.outcome refl (p.passes ok);
+  lost = λ fault e. let early = p.lost fault e in let late = q.lost fault early.0 in (late.0, late.1 ∙ early.1);
+}
+  where
+    by_outcome : (outcome : Result (Unit {0}) SinkFault) → between.outcome ≡ outcome → PassesOn old mid name (before.buffer ++ first) between.buffer outcome →
+        PassesOn old new name (before.buffer ++ (first ++ second)) after.buffer after.outcome
+    by_outcome (Ok unit) e passes = passes_then old mid new name before.buffer first second between.buffer after.buffer after.outcome passes (q.passes e)
+    by_outcome (Err fault) e passes = let late = q.lost fault e in rw (late.0, late.1) (passes_cut old mid name before.buffer first second between.buffer after.buffer fault passes)
+
+-- bytes are taken, and then those held are appended
+pub took_last : {name : List ℕ} {old mid new : Outside} {before between after : Pending} {bytes : List ℕ} →
+    Took name old before mid between bytes → Took name mid between new after [] → Took name old before new after bytes
+took_last {name} {old} {mid} {new} {before} {between} {after} {bytes} p q = subst (λ l. Took name old before new after l) (append-nil bytes) (took_then p q)
+
+-- bytes are held, and no call is made
+pub pushed : {name : List ℕ} {outside : Outside} {before : Pending} {held bytes : List ℕ} → held ≡ before.buffer ++ bytes →
+    Took name outside before outside (record before { buffer = held }) bytes
+pushed {name} {outside} {before} {held} {bytes} is = record {
+  passes = λ ok. rw ok (all_held outside name (before.buffer ++ bytes) held (sym is));
+  lost = λ fault e. (e, refl);
+}
+
+pub took_none : {name : List ℕ} {outside : Outside} {before : Pending} → Took name outside before outside before []
+took_none {name} {outside} {before} = pushed (sym (append-nil before.buffer))
+
+-- the first bytes held were appended, or that was refused
+pub called : {name : List ℕ} {old new : Outside} {before : Pending} {rest : List ℕ} {outcome : Result (Unit {0}) SinkFault} (n : ℕ) (written : Result (Unit {0}) FileRefusal) →
+    is_ok before.outcome ≡ true → Appends old new name (take n before.buffer) written → rest ≡ drop n before.buffer →
+    MatchResult written (λ x. outcome ≡ Ok x) (λ why. IsErrAnd outcome (λ fault. fault ≡ sink_fault why)) → Took name old before new (record { buffer = rest; outcome = outcome }) []
+called {name} {old} {new} {before} {rest} {outcome} n written ok call is answer = record {
+  passes = λ _. call_passes old new name (before.buffer ++ []) (take n before.buffer) rest written outcome call
+      (append-nil before.buffer ∙ sym (take-append-drop n before.buffer) ∙ ap (λ l. take n before.buffer ++ l) (sym is)) answer;
+  lost = λ fault e. let none : is_ok {T = Unit {0}} (Err fault) ≡ true = rw e at ok in cc;
+}
+
+-- nothing more is appended after a refusal
+pub lost_more : {name : List ℕ} {outside : Outside} {before : Pending} {held bytes : List ℕ} → is_ok before.outcome ≡ false →
+    Took name outside before outside (record before { buffer = held }) bytes
+lost_more refused = record {
+  passes = λ ok. let none : is_ok {E = SinkFault} (Ok (tt {0})) ≡ false = rw ok at refused in cc;
+  lost = λ fault e. (e, refl);
+}
 
 module _ {X : Type 0} (f : X → List ℕ) (xs : List X) (i : ℕ) (d : X) where
   -- the bytes of one more of the items of a list stand behind those of the others
@@ -189,38 +238,6 @@ module _ {X : Type 0} (f : X → List ℕ) (xs : List X) (i : ℕ) (d : X) where
       ap (flat_map f) next ∙ flat_map-append f (take i xs) (x ∷ []) ∙ ap (λ l. flat_map f (take i xs) ++ l) (append-nil (f x) ∙ sym is)
 
   -- one more of the items of a list
-  pub each_passes : (old mid new : Outside) (name held between after bytes : List ℕ) → i < length xs → bytes ≡ f (get_or xs i d) →
-      PassesOn old mid name (held ++ flat_map f (take i xs)) between (Ok tt) → PassesOn mid new name (between ++ bytes) after (Ok tt) →
-      PassesOn old new name (held ++ flat_map f (take (i + 1) xs)) after (Ok tt)
-  each_passes old mid new name held between after bytes h is p q =
-      subst (λ l. PassesOn old new name (held ++ l) after (Ok tt)) (sym (each_more bytes h is)) (passes_then old mid new name held (flat_map f (take i xs)) bytes between after (Ok tt) p q)
-
-  -- an item of a list is refused
-  pub each_cut : (old mid new : Outside) (name held between after last bytes : List ℕ) (why : FileRefusal) → i < length xs → bytes ≡ f (get_or xs i d) →
-      PassesOn old mid name (held ++ flat_map f (take i xs)) between (Ok tt) → PassesOn mid new name (between ++ bytes) after (Err why) →
-      PassesOn old new name (held ++ flat_map f xs) last (Err why)
-  each_cut old mid new name held between after last bytes why h is p q =
-      let x = get_or xs i d in
-      let rest = flat_map f (drop (suc i) xs) in
-      let parts : take i xs ++ x ∷ drop (suc i) xs ≡ xs = ap (λ l. take i xs ++ l) (sym (drop-cons xs i d h)) ∙ take-append-drop i xs in
-      let whole : flat_map f (take i xs) ++ (bytes ++ rest) ≡ flat_map f xs =
-      ap (λ l. flat_map f (take i xs) ++ (l ++ rest)) is ∙ sym (flat_map-append f (take i xs) (x ∷ drop (suc i) xs)) ∙ ap (flat_map f) parts in
-      subst (λ l. PassesOn old new name (held ++ l) last (Err why)) whole
-      (passes_then old mid new name held (flat_map f (take i xs)) (bytes ++ rest) between last (Err why) p
-      (passes_cut mid new name between bytes rest after last why q))
-
--- the exit of a `?`
-pub passes_refused : (old new : Outside) (name bytes held : List ℕ) (result : Result (Unit {0}) FileRefusal) {why : FileRefusal} →
-    IsErrAnd result (λ e. e ≡ why) → PassesOn old new name bytes held (Err why) → PassesOn old new name bytes held result
-passes_refused old new name bytes held result {why} is p = let e = err_from_is_err_and result is in rw (e.1, e.2) p
-
--- bytes are passed on, and then those that are held
-pub passes_held : (old mid new : Outside) (name bytes between after : List ℕ) (result : Result (Unit {0}) FileRefusal) →
-    PassesOn old mid name bytes between (Ok tt) → PassesOn mid new name between after result → PassesOn old new name bytes after result
-passes_held old mid new name bytes between after result p q =
-    subst (λ l. PassesOn old new name l after result) (append-nil bytes)
-    (passes_then old mid new name bytes [] [] between after result
-    (subst (λ l. PassesOn old mid name l between (Ok tt)) (sym (append-nil bytes)) p)
-    (subst (λ l. PassesOn mid new name l after result) (sym (append-nil between)) q))
-
-pub ruleset passing = (passes_then, passes_cut, passes_none)
+  pub each_took : {name : List ℕ} {old mid new : Outside} {before between after : Pending} {bytes : List ℕ} → i < length xs → bytes ≡ f (get_or xs i d) →
+      Took name old before mid between (flat_map f (take i xs)) → Took name mid between new after bytes → Took name old before new after (flat_map f (take (i + 1) xs))
+  each_took {name} {old} {mid} {new} {before} {between} {after} {bytes} h is p q = subst (λ l. Took name old before new after l) (sym (each_more bytes h is)) (took_then p q)

@@ -7,11 +7,12 @@ use Rattle.tv_container.specs.Faults.{sink_fault}
 use Rattle.tv_container.specs.Writing.{Adds, Passes}
 use Rattle.tv_core.specs.Sinks.{IsCause}
 use Rattle.tv_core.specs.declared.sink.SinkFault.{SinkFault}
+use Rattle.tv_core.specs.declared.sink.SinkFault.TheVariants as sink
 use Rattle.tv_files.specs.Outside.{Outside, Names, with_more}
 use Rattle.tv_files.specs.declared.calls.FileRefusal.{FileRefusal}
 use Rattle.tv_files.specs.declared.calls.FileRefusal.TheVariants as file
 use Rattle.tv_word.specs.Counts.{Rose}
-use Rattle.tv_container.specs.Written.{HasBut, HasFront}
+use Rattle.tv_container.specs.Written.{HasBut, HasCause, HasFront}
 
 -- bytes that are added to a name stand behind those that it had
 with_more-here : (name more : List ℕ) (files : Names) → with_more name more files name ≡ option_map (λ held. held ++ more) (files name)
@@ -65,6 +66,11 @@ pub is_cause : {S : Type 0} (faults wants : S → ℕ) (old new : S) (why : File
     (result ≡ Err file.Memory → Rose (wants old) (wants new)) → IsCause fault faults wants old new
 is_cause faults wants old new file.Failed result fault refused is failed memory = rw is (failed refused)
 is_cause faults wants old new file.Memory result fault refused is failed memory = rw is (memory refused)
+
+-- the cause of a fault is that of what writes, however it sees the outside
+pub cause_seen : {S : Type 0} (seen : S → Outside) (old new : S) (fault : SinkFault) → HasCause (seen old) (seen new) (Err fault) → IsCause fault (λ s. (seen s).write_faults) (λ s. (seen s).wants) old new
+cause_seen seen old new sink.Failed rose = rose
+cause_seen seen old new sink.Memory rose = rose
 
 -- what a name has of bytes is a first part of bytes that begin with them
 pub but_front : (outside : Outside) (name held bytes rest whole : List ℕ) → HasBut outside name held bytes → whole ≡ bytes ++ rest → HasFront outside name whole

@@ -6,5 +6,6 @@ pub mod Places
 pub mod Reading
 pub mod Refusals
 pub mod Sections
+pub mod Taking
 pub mod Writing
 pub mod Written

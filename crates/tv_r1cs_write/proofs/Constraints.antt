@@ -4,19 +4,18 @@ use Rattle.std.proofs.lemmas.Grind.{flat_map-append}
 use Rattle.std.proofs.lemmas.List.{length-append}
 use Rattle.std.proofs.lemmas.List.Elements.{All-nil, All-cons, All-push, All-weaker}
 use Rattle.std.specs.List.{All}
-use Rattle.std.specs.Prelude.{OnOk, OnErr, IsErrAnd, MatchResult}
-use Rattle.tv_container.specs.Faults.{sink_fault}
-use Rattle.tv_container.specs.Writing.{Adds, Passes, PassesOn}
+use Rattle.std.specs.Prelude.{false, is_err}
+use Rattle.tv_container.specs.Taking.{PassesOn}
+use Rattle.tv_container.specs.Writing.{Adds, Passes}
 use Rattle.tv_core.specs.Circuits.{put}
 use Rattle.tv_core.specs.Combinations.{top}
 use Rattle.tv_core.specs.Constraints.{Combination, Constraint}
 use Rattle.tv_core.specs.Sinks.{PutsIn}
 use Rattle.tv_core.specs.declared.sink.SinkFault.{SinkFault}
-use Rattle.tv_files.specs.declared.calls.FileRefusal.{FileRefusal}
 use Rattle.tv_r1cs_write.specs.Bytes.{head_bytes, rows_bytes, constraint_bytes}
 use Rattle.tv_r1cs_write.specs.Narrow.{AreShort, IsNarrow, IsOver}
 use Rattle.tv_r1cs_write.specs.Streams.{Progress, Stream, Stands, Tried, begun_bytes, stream_meaning}
-use Rattle.tv_container.proofs.Written.{has_more, has_front, is_cause}
+use Rattle.tv_container.proofs.Written.{cause_seen, has_more, has_front}
 
 -- the bytes of one more constraint stand behind those of the others
 pub begun_bytes-more : (old new : Progress) (list : List Constraint) (row : Constraint) → new.counts ≡ old.counts → new.labels ≡ old.labels →
@@ -67,45 +66,42 @@ tried_more old new list row stands name counts labels added = record {
       (has_front old.outside new.outside old.name old.progress.held _ (constraint_bytes row) stands.written added);
 }
 
--- a sink puts a constraint by writing it, and answers as it was written
-pub put_by : {S : Type 0} (seen : S → Stream) (old new : S) (row : Constraint) (written : Result (Unit {0}) FileRefusal) (result : Result (Unit {0}) SinkFault) →
+-- a sink puts a constraint by taking its bytes, and answers what became of them
+pub put_by : {S : Type 0} (seen : S → Stream) (old new : S) (row : Constraint) (outcome : Result (Unit {0}) SinkFault) →
     (seen new).borrow ≡ (seen old).borrow → (seen new).name ≡ (seen old).name →
     top row.a ≤ (seen old).progress.wires → top row.b ≤ (seen old).progress.wires → top row.c ≤ (seen old).progress.wires →
-    PassesOn (seen old).outside (seen new).outside (seen old).name ((seen old).progress.held ++ constraint_bytes row) (seen new).progress.held written →
-    OnOk written (AreShort row) →
-    OnOk written ((seen new).progress ≡ record (seen old).progress { held = (seen new).progress.held; constraints = (seen old).progress.constraints + 1 }) →
-    OnErr written ((seen new).progress ≡ record (seen old).progress { held = (seen new).progress.held; broken = true }) →
-    MatchResult written (λ x. result ≡ Ok x) (λ why. IsErrAnd result (λ fault. fault ≡ sink_fault why)) →
-    PutsIn (stream_meaning seen) old new (put row.a row.b row.c) result
+    PassesOn (seen old).outside (seen new).outside (seen old).name ((seen old).progress.held ++ constraint_bytes row) (seen new).progress.held outcome →
+    AreShort row → (seen new).progress ≡ record (seen old).progress { held = (seen new).progress.held; constraints = (seen old).progress.constraints + 1; broken = is_err outcome } →
+    (seen old).progress.broken ≡ false → PutsIn (stream_meaning seen) old new (put row.a row.b row.c) outcome
 unfolding put
-put_by seen old new row (Ok unit) (Ok done) borrow name a b c passes short ok err is = record {
-  answers = refl;
-  stands = λ list s. stands_more (seen old) (seen new) list row s (narrow (seen old).progress.wires row short a b c) name ok passes.done;
-  next = ap (λ (p : Progress). p.wires) ok;
-  keeps = record {
-    borrow = borrow;
-    name = name;
-    counts = ap (λ (p : Progress). p.counts) ok;
-    labels = ap (λ (p : Progress). p.labels) ok;
-    outside = passes.only;
-  };
-  faults = passes.only.later.write_faults;
-  wants = passes.only.later.wants;
-}
-put_by seen old new row (Ok unit) (Err fault) borrow name a b c passes short ok err is = cc
-put_by seen old new row (Err why) (Ok done) borrow name a b c passes short ok err is = absurd is
-put_by seen old new row (Err why) (Err fault) borrow name a b c passes short ok err is =
-    let counts = ap (λ (p : Progress). p.counts) err in
-    let labels = ap (λ (p : Progress). p.labels) err in
+put_by seen old new row (Ok unit) borrow name a b c passes short is unbroken =
+    let same : (seen new).progress ≡ record (seen old).progress { held = (seen new).progress.held; constraints = (seen old).progress.constraints + 1 } = rw unbroken is in
+    record {
+      answers = refl;
+      stands = λ list s. stands_more (seen old) (seen new) list row s (narrow (seen old).progress.wires row short a b c) name same passes.done;
+      next = ap (λ (p : Progress). p.wires) is;
+      keeps = record {
+        borrow = borrow;
+        name = name;
+        counts = ap (λ (p : Progress). p.counts) is;
+        labels = ap (λ (p : Progress). p.labels) is;
+        outside = passes.only;
+      };
+      faults = passes.only.later.write_faults;
+      wants = passes.only.later.wants;
+    }
+put_by seen old new row (Err fault) borrow name a b c passes short is unbroken =
+    let counts = ap (λ (p : Progress). p.counts) is in
+    let labels = ap (λ (p : Progress). p.labels) is in
     record {
       front = [];
       refused = row;
       back = [];
       at = refl;
       tried = λ list s. tried_more (seen old) (seen new) list row s name counts labels passes.refused;
-      broken = ap (λ (p : Progress). p.broken) err;
+      broken = ap (λ (p : Progress). p.broken) is;
       keeps = record { borrow = borrow; name = name; counts = counts; labels = labels; outside = passes.only };
-      cause = is_cause _ _ old new why (Err why) fault refl is passes.failed passes.memory;
+      cause = cause_seen (λ s. (seen s).outside) old new fault passes.cause;
       faults = passes.only.later.write_faults;
       wants = passes.only.later.wants;
     }

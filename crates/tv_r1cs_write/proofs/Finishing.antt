@@ -1,17 +1,14 @@
 -- The end of a file: the labels, and the last bytes that are held.
 use Rattle.std.proofs.Common.{◌≡◌, ℕ, ◌*◌, List, [], ◌++◌, length, Some, Result, Ok, Err, append_assoc, append-nil, ap, refl, sym, ◌∙◌, arith}
-use Rattle.std.specs.Prelude.{OnOk, IsErrAnd, MatchResult}
 use Rattle.tv_container.specs.Bytes.{section_head}
-use Rattle.tv_container.specs.Faults.{sink_fault}
-use Rattle.tv_container.specs.Writing.{PassesOn}
+use Rattle.tv_container.specs.Taking.{PassesOn}
 use Rattle.tv_core.specs.Constraints.{Constraint}
 use Rattle.tv_core.specs.declared.sink.SinkFault.{SinkFault}
 use Rattle.tv_files.specs.Outside.{Outside}
-use Rattle.tv_files.specs.declared.calls.FileRefusal.{FileRefusal}
 use Rattle.tv_r1cs_write.specs.Bytes.{head_bytes, rows_bytes, label_bytes}
 use Rattle.tv_r1cs_write.specs.Streams.{Progress, Stream, Finishes, begun_bytes, finished_bytes}
 use Rattle.tv_r1cs_write.proofs.Sizes.{length-label_bytes}
-use Rattle.tv_container.proofs.Written.{has_more, has_front, is_cause}
+use Rattle.tv_container.proofs.Written.{has_more, has_front}
 
 -- what stands behind the constraints
 abbrev pub last_bytes : Progress → List ℕ → List ℕ
@@ -25,35 +22,22 @@ finished progress list labels each =
     append_assoc (head_bytes progress.counts progress.labels) (rows_bytes list) (last_bytes progress labels)
     ∙ ap (λ n. head_bytes progress.counts progress.labels ++ (rows_bytes list ++ (section_head 3 n ++ label_bytes labels))) size
 
--- all of it was appended
-finishes : (sink : Stream) (new : Outside) (labels held : List ℕ) → length labels ≡ sink.progress.counts.wires →
-    PassesOn sink.outside new sink.name (sink.progress.held ++ last_bytes sink.progress labels) held (Ok tt) → held ≡ [] → Finishes sink new labels (Ok tt)
-finishes sink new labels held each passes none = record {
+-- the last call answers what became of these bytes
+pub finished_by : (sink : Stream) (new : Outside) (labels held : List ℕ) (outcome : Result (Unit {0}) SinkFault) → length labels ≡ sink.progress.counts.wires →
+    PassesOn sink.outside new sink.name (sink.progress.held ++ last_bytes sink.progress labels) held outcome → held ≡ [] → Finishes sink new labels outcome
+finished_by sink new labels held (Ok unit) each passes none = record {
   whole = λ list stands files told.
       let has = has_more sink.outside new sink.name sink.progress.held (begun_bytes sink.progress list) (last_bytes sink.progress labels) held stands.written passes.done files told in
       has.1 ∙ ap Some (sym (append-nil has.0) ∙ ap (λ rest. has.0 ++ rest) (sym none) ∙ has.2 ∙ finished sink.progress list labels each);
   part = λ list stands. tt;
   only = passes.only;
-  cause = passes.counts;
+  cause = passes.cause;
 }
-
--- an append was refused
-finish_refused : (sink : Stream) (new : Outside) (labels held : List ℕ) (why : FileRefusal) (fault : SinkFault) → length labels ≡ sink.progress.counts.wires →
-    PassesOn sink.outside new sink.name (sink.progress.held ++ last_bytes sink.progress labels) held (Err why) → fault ≡ sink_fault why →
-    Finishes sink new labels (Err fault)
-finish_refused sink new labels held why fault each passes is = record {
+finished_by sink new labels held (Err fault) each passes none = record {
   whole = λ list stands. tt;
   part = λ list stands.
       rw (← finished sink.progress list labels each)
       (has_front sink.outside new sink.name sink.progress.held (begun_bytes sink.progress list) (last_bytes sink.progress labels) stands.written passes.refused);
   only = passes.only;
-  cause = is_cause _ _ sink.outside new why (Err why) fault refl is passes.failed passes.memory;
+  cause = passes.cause;
 }
-
--- the last call answers as they were appended
-pub finished_by : (sink : Stream) (new : Outside) (labels held : List ℕ) (written : Result (Unit {0}) FileRefusal) (result : Result (Unit {0}) SinkFault) →
-    length labels ≡ sink.progress.counts.wires → PassesOn sink.outside new sink.name (sink.progress.held ++ last_bytes sink.progress labels) held written →
-    OnOk written (held ≡ []) → MatchResult written (λ x. result ≡ Ok x) (λ why. IsErrAnd result (λ fault. fault ≡ sink_fault why)) → Finishes sink new labels result
-finished_by sink new labels held (Ok unit) result each passes none is = rw is (finishes sink new labels held each passes none)
-finished_by sink new labels held (Err why) (Ok done) each passes none is = absurd is
-finished_by sink new labels held (Err why) (Err fault) each passes none is = finish_refused sink new labels held why fault each passes is

@@ -1,5 +1,5 @@
 -- A sink that writes its constraints to a file as they come.
-use Rattle.std.specs.Prelude.{◌≡◌, refl, ℕ, ◌+◌, Bool, false, List, ◌++◌, length, Result, OnOk, OnErr}
+use Rattle.std.specs.Prelude.{◌≡◌, refl, ℕ, ◌+◌, Bool, false, is_err, List, ◌++◌, length, Result, OnOk, OnErr}
 use Rattle.std.proofs.Common.{◌∙◌}
 use Rattle.std.specs.Borrow.{GName}
 use Rattle.std.specs.List.{All}
@@ -12,6 +12,7 @@ use Rattle.tv_files.specs.Outside.{Outside}
 use Rattle.tv_core.specs.declared.sink.SinkFault.{SinkFault}
 use Rattle.tv_r1cs_write.specs.Bytes.{file_bytes, head_bytes, rows_bytes}
 use Rattle.tv_r1cs_write.specs.Narrow.{IsNarrow}
+use Rattle.tv_r1cs_write.specs.declared.stream.StreamSink.{StreamSink}
 use Rattle.tv_container.specs.Written.{HasBut, HasCause, HasFront, HasNow}
 
 -- how far writing has come: the counts and the number of labels that the file's head tells, the bytes that
@@ -42,6 +43,22 @@ pub record Stream : Type 0 where
   pub borrow : GName
   pub name : List ℕ
   pub progress : Progress
+
+-- a sink, as it sees the outside
+abbrev pub stream : {D : Type 0} → (D → Outside) → StreamSink D → Stream
+stream seen sink = record {
+  outside = seen sink.files.now;
+  borrow = sink.files.ghost_name;
+  name = sink.name.now;
+  progress = record {
+    counts = sink.counts;
+    labels = sink.labels;
+    held = sink.pending.buffer;
+    wires = sink.wires;
+    constraints = sink.constraints;
+    broken = is_err sink.pending.outcome;
+  };
+}
 
 -- the front of each file of these counts whose constraints begin with the list
 abbrev pub begun_bytes : Progress → List Constraint → List ℕ

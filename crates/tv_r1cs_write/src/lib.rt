@@ -1,13 +1,12 @@
 //! Writing a constraint system to an r1cs file as its constraints come: `StreamSink` is a sink that
-//! keeps nothing but a piece of 4,096 bytes. Contracts above cite `file_bytes`, which is the whole
+//! keeps nothing but 8,192 bytes at most. Contracts above cite `file_bytes`, which is the whole
 //! file of a list, and what was written is read: `system_of` those bytes is the list's system.
 #![tactic(auto)]
 
+mod head;
 mod laws;
+mod parts;
 mod stream;
-mod terms;
-mod writer;
 
 pub use laws::{files_are_fronts, files_are_of_systems, files_are_whole, systems_come_back};
 pub use stream::StreamSink;
-pub use writer::Writer;

@@ -1,24 +1,29 @@
 ghost use Rattle.std.specs.Prelude.{◌≡◌, ◌+◌, ◌≤◌, ◌<◌, ◌^◌, [], length, Ok, IfOk, IfErr};
 ghost use Rattle.std.specs.List.{range_with_len};
 ghost use Rattle.tv_files.specs.Calls.{Creates};
-ghost use Rattle.tv_r1cs_write.specs.Streams.{begun, stream_meaning, Finishes, Stands};
+ghost use Rattle.tv_r1cs_write.specs.Streams.{begun, stream, stream_meaning, Finishes, Stands};
 ghost use Rattle.tv_container.specs.Written.{NotCreated};
 
-use crate::writer::Writer;
-use tv_container::{NotBegun, sink_fault};
+use crate::head::head;
+use crate::parts::{put_row, write_labels, write_own_labels};
+use tv_container::{NotBegun, Pending, sink_fault};
 use tv_core::{Counts, Lc, Put, Sink, Wire};
 use tv_files::Files;
 
 /// A sink that writes each constraint to an r1cs file, which is lent to it.
 ///
-/// It takes no memory: it holds fewer than 4,096 bytes, which it appends when there are so many.
+/// It takes no memory: it holds at most 8,192 bytes, and appends them by 4,096.
 /// What the file begins with counts the constraints and their terms, so these are told before the
 /// first.
 #[derive(Drop)]
 pub struct StreamSink<'a, D: Files> {
     pub(crate) files: &'a mut D,
     pub(crate) name: &'a str,
-    pub(crate) writer: Writer,
+    pub(crate) pending: Pending,
+    pub(crate) counts: Counts,
+    pub(crate) labels: u64,
+    pub(crate) wires: u32,
+    pub(crate) constraints: u32,
 }
 
 impl<'a, D: Files> StreamSink<'a, D> {
@@ -37,14 +42,9 @@ impl<'a, D: Files> StreamSink<'a, D> {
         ensures ok_creates { IfOk result (λ sink. Creates (D.seen files.old) (D.seen sink.files.now)
             name.now (Ok tt)) }
         ensures name { IfOk result (λ sink. sink.name.now ≡ name.now) }
-        ensures begun { IfOk result (λ sink. sink.writer ≡ begun counts counts.wires) }
-        ensures stands { IfOk result (λ sink. Stands
-            (record {
-              outside = D.seen sink.files.now;
-              borrow = sink.files.ghost_name;
-              name = sink.name.now;
-              progress = sink.writer;
-            }) []) }
+        ensures begun { IfOk result (λ sink. (stream D.seen sink).progress
+            ≡ begun counts counts.wires) }
+        ensures stands { IfOk result (λ sink. Stands (stream D.seen sink) []) }
         ensures err_same { IfErr result (λ refused. refused.files.ghost_name
             ≡ files.entry.ghost_name) }
         ensures err_creates { IfErr result (λ refused. NotCreated (D.seen files.old)
@@ -67,14 +67,8 @@ impl<'a, D: Files> StreamSink<'a, D> {
         ensures ok_creates { IfOk result (λ sink. Creates (D.seen files.old) (D.seen sink.files.now)
             name.now (Ok tt)) }
         ensures name { IfOk result (λ sink. sink.name.now ≡ name.now) }
-        ensures begun { IfOk result (λ sink. sink.writer ≡ begun counts labels) }
-        ensures stands { IfOk result (λ sink. Stands
-            (record {
-              outside = D.seen sink.files.now;
-              borrow = sink.files.ghost_name;
-              name = sink.name.now;
-              progress = sink.writer;
-            }) []) }
+        ensures begun { IfOk result (λ sink. (stream D.seen sink).progress ≡ begun counts labels) }
+        ensures stands { IfOk result (λ sink. Stands (stream D.seen sink) []) }
         ensures err_same { IfErr result (λ refused. refused.files.ghost_name
             ≡ files.entry.ghost_name) }
         ensures err_creates { IfErr result (λ refused. NotCreated (D.seen files.old)
@@ -84,7 +78,11 @@ impl<'a, D: Files> StreamSink<'a, D> {
             Ok(()) => Ok(StreamSink {
                 files,
                 name,
-                writer: Writer::begin(counts, labels),
+                pending: Pending::begin(head(&counts, labels)),
+                wires: 1 + counts.outputs + counts.inputs,
+                counts,
+                labels,
+                constraints: 0,
             }),
             Err(why) => Err(NotBegun {
                 files,
@@ -98,66 +96,56 @@ impl<'a, D: Files> StreamSink<'a, D> {
     ///
     /// After a refusal the file has a first part of these bytes.
     pub fn finish(self) -> Put<()>
-        ensures { Finishes (record {
-          outside = D.seen self.entry.files.now;
-          borrow = self.entry.files.ghost_name;
-          name = self.entry.name.now;
-          progress = self.entry.writer;
-        })
-            (D.seen self.exit.0.now) (range_with_len 0 self.entry.writer.counts.wires) result }
+        ensures { Finishes (stream D.seen self.entry) (D.seen self.exit.0.now)
+            (range_with_len 0 self.entry.counts.wires) result }
     {
         let StreamSink {
             files,
             name,
-            mut writer,
+            mut pending,
+            counts,
+            ..
         } = self;
-        writer.finish(files, name).map_err(|why| sink_fault(why))
+        write_own_labels(&mut pending, files, name, counts.wires);
+        pending.outcome
     }
 
     /// Writes these labels, one for each wire, and what is still held. Otherwise as `finish`.
     pub fn finish_labelled(self, labels: &[u32]) -> Put<()>
-        requires { length labels.now ≡ self.writer.counts.wires }
-        ensures { Finishes (record {
-          outside = D.seen self.entry.files.now;
-          borrow = self.entry.files.ghost_name;
-          name = self.entry.name.now;
-          progress = self.entry.writer;
-        })
-            (D.seen self.exit.0.now) labels.now result }
+        requires { length labels.now ≡ self.counts.wires }
+        ensures { Finishes (stream D.seen self.entry) (D.seen self.exit.0.now) labels.now
+            result }
     {
         let StreamSink {
             files,
             name,
-            mut writer,
+            mut pending,
+            ..
         } = self;
-        writer
-            .finish_labelled(files, name, labels)
-            .map_err(|why| sink_fault(why))
+        write_labels(&mut pending, files, name, labels);
+        pending.outcome
     }
 }
 
 impl<D: Files> Sink for StreamSink<'_, D> {
-    ghost meaning = { stream_meaning (λ s. record {
-      outside = D.seen s.files.now;
-      borrow = s.files.ghost_name;
-      name = s.name.now;
-      progress = s.writer;
-    }) };
+    ghost meaning = { stream_meaning (stream D.seen) };
 
     fn wires(&self) -> u32 {
-        self.writer.wires()
+        self.wires
     }
 
     #[tactic(auto, unfolding(tv_core::specs::Circuits::fresh))]
     fn fresh(&mut self) -> Wire {
-        self.writer.fresh()
+        let next = Wire(self.wires);
+        self.wires += 1;
+        next
     }
 
     #[tactic(auto, unfolding(tv_core::specs::Circuits::put))]
     fn put(&mut self, a: &Lc, b: &Lc, c: &Lc) -> Put<()> {
-        self.writer
-            .put(self.files, self.name, a, b, c)
-            .map_err(|why| sink_fault(why))
+        put_row(&mut self.pending, self.files, self.name, a, b, c);
+        self.constraints += 1;
+        self.pending.outcome
     }
 
     ghost counted = { λ sink list stands. stands.counted };

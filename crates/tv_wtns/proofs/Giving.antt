@@ -1,15 +1,14 @@
 -- A value that is written, and one that is refused.
 use Rattle.std.proofs.Common.{◌≡◌, ℕ, ◌<◌, true, List, [], ◌∷◌, ◌++◌, take, Result, Ok, Err, append_assoc, append-nil, ap, refl, sym, ◌∙◌}
-use Rattle.std.specs.Prelude.{OnOk, OnErr, IsErrAnd, MatchResult}
+use Rattle.std.specs.Prelude.{false, is_err}
 use Rattle.std.proofs.lemmas.Grind.{flat_map-append}
 use Rattle.std.proofs.lemmas.List.Elements.{All-push}
 use Rattle.tv_container.specs.Bytes.{eight_bytes}
-use Rattle.tv_container.specs.Faults.{sink_fault}
-use Rattle.tv_container.specs.Writing.{Adds, Passes, PassesOn}
-use Rattle.tv_container.proofs.Written.{has_more, has_front, is_cause}
+use Rattle.tv_container.specs.Taking.{PassesOn}
+use Rattle.tv_container.specs.Writing.{Adds, Passes}
+use Rattle.tv_container.proofs.Written.{cause_seen, has_more, has_front}
 use Rattle.tv_core.specs.Giving.{GivesIn}
 use Rattle.tv_core.specs.declared.sink.SinkFault.{SinkFault}
-use Rattle.tv_files.specs.declared.calls.FileRefusal.{FileRefusal}
 use Rattle.tv_core.specs.declared.field.TheConstants.{P}
 use Rattle.tv_wtns.specs.Bytes.{file_bytes, head_bytes, values_bytes}
 use Rattle.tv_wtns.specs.Takers.{Progress, Taker, Stands, Tried, taker_giving}
@@ -41,33 +40,31 @@ tried_more old new values value stands name count added = record {
       (has_front old.outside new.outside old.name old.progress.held _ (eight_bytes value) stands.written added);
 }
 
--- a taker gives a value by writing it, and answers as it was written
-pub given : {V : Type 0} (seen : V → Taker) (old new : V) (value : ℕ) (written : Result (Unit {0}) FileRefusal) (result : Result (Unit {0}) SinkFault) →
+-- a taker gives a value by taking its bytes, and answers what became of them
+pub given : {V : Type 0} (seen : V → Taker) (old new : V) (value : ℕ) (outcome : Result (Unit {0}) SinkFault) →
     (seen new).borrow ≡ (seen old).borrow → (seen new).name ≡ (seen old).name → value < P →
-    PassesOn (seen old).outside (seen new).outside (seen old).name ((seen old).progress.held ++ eight_bytes value) (seen new).progress.held written →
-    OnOk written ((seen new).progress ≡ record (seen old).progress { held = (seen new).progress.held }) →
-    OnErr written ((seen new).progress ≡ record (seen old).progress { held = (seen new).progress.held; broken = true }) →
-    MatchResult written (λ x. result ≡ Ok x) (λ why. IsErrAnd result (λ fault. fault ≡ sink_fault why)) →
-    GivesIn (taker_giving seen) old new (value ∷ []) result
-given seen old new value (Ok unit) (Ok done) borrow name below passes ok err is = record {
-  stands = λ list s. stands_more (seen old) (seen new) list value s below name ok passes.done;
-  keeps = record { borrow = borrow; name = name; count = ap (λ (p : Progress). p.count) ok; outside = passes.only };
-  faults = passes.only.later.write_faults;
-  wants = passes.only.later.wants;
-}
-given seen old new value (Ok unit) (Err fault) borrow name below passes ok err is = cc
-given seen old new value (Err why) (Ok done) borrow name below passes ok err is = absurd is
-given seen old new value (Err why) (Err fault) borrow name below passes ok err is =
-    let count = ap (λ (p : Progress). p.count) err in
+    PassesOn (seen old).outside (seen new).outside (seen old).name ((seen old).progress.held ++ eight_bytes value) (seen new).progress.held outcome →
+    (seen new).progress ≡ record (seen old).progress { held = (seen new).progress.held; broken = is_err outcome } →
+    (seen old).progress.broken ≡ false → GivesIn (taker_giving seen) old new (value ∷ []) outcome
+given seen old new value (Ok unit) borrow name below passes is unbroken =
+    let same : (seen new).progress ≡ record (seen old).progress { held = (seen new).progress.held } = rw unbroken is in
+    record {
+      stands = λ list s. stands_more (seen old) (seen new) list value s below name same passes.done;
+      keeps = record { borrow = borrow; name = name; count = ap (λ (p : Progress). p.count) is; outside = passes.only };
+      faults = passes.only.later.write_faults;
+      wants = passes.only.later.wants;
+    }
+given seen old new value (Err fault) borrow name below passes is unbroken =
+    let count = ap (λ (p : Progress). p.count) is in
     record {
       front = [];
       refused = value;
       back = [];
       at = refl;
       tried = λ list s. tried_more (seen old) (seen new) list value s name count passes.refused;
-      broken = ap (λ (p : Progress). p.broken) err;
+      broken = ap (λ (p : Progress). p.broken) is;
       keeps = record { borrow = borrow; name = name; count = count; outside = passes.only };
-      cause = is_cause _ _ old new why (Err why) fault refl is passes.failed passes.memory;
+      cause = cause_seen (λ v. (seen v).outside) old new fault passes.cause;
       faults = passes.only.later.write_faults;
       wants = passes.only.later.wants;
     }

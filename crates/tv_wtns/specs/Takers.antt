@@ -1,5 +1,5 @@
 -- A taker of values that writes them to a file as they come.
-use Rattle.std.specs.Prelude.{◌≡◌, refl, ℕ, ◌<◌, Bool, false, List, Result, OnOk, OnErr}
+use Rattle.std.specs.Prelude.{◌≡◌, refl, ℕ, ◌<◌, Bool, false, is_err, List, Result, OnOk, OnErr}
 use Rattle.std.proofs.Common.{◌∙◌}
 use Rattle.std.specs.Borrow.{GName}
 use Rattle.std.specs.List.{All}
@@ -11,6 +11,7 @@ use Rattle.tv_core.specs.declared.field.TheConstants.{P}
 use Rattle.tv_core.specs.declared.sink.SinkFault.{SinkFault}
 use Rattle.tv_files.specs.Outside.{Outside}
 use Rattle.tv_wtns.specs.Bytes.{head_bytes, file_bytes}
+use Rattle.tv_wtns.specs.declared.file_values.FileValues.{FileValues}
 
 -- how far writing has come: the number of values that the file's head tells, the bytes that are still to be
 -- appended, and whether a refusal broke it
@@ -30,6 +31,15 @@ pub record Taker : Type 0 where
   pub borrow : GName
   pub name : List ℕ
   pub progress : Progress
+
+-- a taker, as it sees the outside
+abbrev pub taker_of : {D : Type 0} → (D → Outside) → FileValues D → Taker
+taker_of seen taker = record {
+  outside = seen taker.files.now;
+  borrow = taker.files.ghost_name;
+  name = taker.name.now;
+  progress = record { count = taker.count; held = taker.pending.buffer; broken = is_err taker.pending.outcome };
+}
 
 -- the values are numbers of the field; where contents are told, the name has the first bytes of their file,
 -- and those that are held come next

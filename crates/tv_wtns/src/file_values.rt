@@ -3,22 +3,24 @@
 ghost use Rattle.std.specs.Prelude.{◌≡◌, [], Ok, IfOk, IfErr};
 ghost use Rattle.tv_container.specs.Written.{NotCreated};
 ghost use Rattle.tv_files.specs.Calls.{Creates};
-ghost use Rattle.tv_wtns.specs.Takers.{begun, taker_giving, Finishes, Stands};
+ghost use Rattle.tv_wtns.specs.Bytes.{head_bytes};
+ghost use Rattle.tv_wtns.specs.Takers.{begun, taker_giving, taker_of, Finishes, Stands};
 
-use crate::writer::Writer;
-use tv_container::{NotBegun, sink_fault};
+use crate::assignment::{HEADER_BYTES, WTNS};
+use tv_container::{Buffer, NotBegun, Pending, long_bytes, short_bytes, sink_fault};
 use tv_core::{F, Put, Values};
 use tv_files::Files;
 
 /// A taker that writes each value to a wtns file, which is lent to it.
 ///
-/// It takes no memory: it holds fewer than 4,096 bytes, which it appends when there are so many.
+/// It takes no memory: it holds at most 8,192 bytes, and appends them by 4,096.
 /// What the file begins with counts the values, so their number is told before the first.
 #[derive(Drop)]
 pub struct FileValues<'a, D: Files> {
     pub(crate) files: &'a mut D,
     pub(crate) name: &'a str,
-    pub(crate) writer: Writer,
+    pub(crate) pending: Pending,
+    pub(crate) count: u32,
 }
 
 impl<'a, D: Files> FileValues<'a, D> {
@@ -34,14 +36,8 @@ impl<'a, D: Files> FileValues<'a, D> {
         ensures ok_creates { IfOk result (λ taker. Creates (D.seen files.old)
             (D.seen taker.files.now) name.now (Ok tt)) }
         ensures name { IfOk result (λ taker. taker.name.now ≡ name.now) }
-        ensures begun { IfOk result (λ taker. taker.writer ≡ begun count) }
-        ensures stands { IfOk result (λ taker. Stands
-            (record {
-              outside = D.seen taker.files.now;
-              borrow = taker.files.ghost_name;
-              name = taker.name.now;
-              progress = taker.writer;
-            }) []) }
+        ensures begun { IfOk result (λ taker. (taker_of D.seen taker).progress ≡ begun count) }
+        ensures stands { IfOk result (λ taker. Stands (taker_of D.seen taker) []) }
         ensures err_same { IfErr result (λ refused. refused.files.ghost_name
             ≡ files.entry.ghost_name) }
         ensures err_creates { IfErr result (λ refused. NotCreated (D.seen files.old)
@@ -51,7 +47,8 @@ impl<'a, D: Files> FileValues<'a, D> {
             Ok(()) => Ok(FileValues {
                 files,
                 name,
-                writer: Writer::begin(count),
+                pending: Pending::begin(head(count)),
+                count,
             }),
             Err(why) => Err(NotBegun {
                 files,
@@ -64,35 +61,40 @@ impl<'a, D: Files> FileValues<'a, D> {
     ///
     /// After a refusal the file has a first part of these bytes.
     pub fn finish(self) -> Put<()>
-        ensures { Finishes (record {
-          outside = D.seen self.entry.files.now;
-          borrow = self.entry.files.ghost_name;
-          name = self.entry.name.now;
-          progress = self.entry.writer;
-        })
-            (D.seen self.exit.0.now) result }
+        ensures { Finishes (taker_of D.seen self.entry) (D.seen self.exit.0.now) result }
     {
         let FileValues {
             files,
             name,
-            mut writer,
+            mut pending,
+            ..
         } = self;
-        writer.finish(files, name).map_err(|why| sink_fault(why))
+        pending.renew();
+        pending.flush(files, name);
+        pending.outcome
     }
 }
 
+// All that stands before the values.
+fn head(count: u32) -> Buffer
+    ensures { result ≡ head_bytes count }
+{
+    let mut buffer = Buffer::new();
+    buffer.push_front(WTNS.magic, WTNS.version, WTNS.singles);
+    buffer.push_section(1, HEADER_BYTES);
+    buffer.push_field();
+    buffer.push(&short_bytes(count));
+    buffer.push_section(2, 8 * u64::from(count));
+    buffer
+}
+
 impl<D: Files> Values for FileValues<'_, D> {
-    ghost giving = { taker_giving (λ v. record {
-      outside = D.seen v.files.now;
-      borrow = v.files.ghost_name;
-      name = v.name.now;
-      progress = v.writer;
-    }) };
+    ghost giving = { taker_giving (taker_of D.seen) };
 
     fn give(&mut self, value: F) -> Put<()> {
-        self.writer
-            .give(self.files, self.name, value)
-            .map_err(|why| sink_fault(why))
+        self.pending
+            .put(self.files, self.name, &long_bytes(value.number()));
+        self.pending.outcome
     }
 
     ghost unbroken = { λ taker values stands. stands.whole };

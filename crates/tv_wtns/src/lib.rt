@@ -8,10 +8,8 @@ mod assignment;
 mod file_values;
 mod laws;
 mod values;
-mod writer;
 
 pub use assignment::{assignments_are_below_the_prime, read_first_values, read_values};
 pub use file_values::FileValues;
 pub use laws::{assignments_come_back, files_are_fronts, files_are_of_assignments};
 pub use values::FirstValues;
-pub use writer::Writer;

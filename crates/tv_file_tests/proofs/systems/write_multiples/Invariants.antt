@@ -1,9 +1,10 @@
 use Rattle.std.proofs.Common.{◌≡◌, false}
+use Rattle.std.specs.Prelude.{is_err}
 use Rattle.tv_file_tests.proofs.systems.write_multiples.Given as goal
 
 abbrev pub invariant-loop-i : goal.invariant-loop-i
 invariant-loop-i l = record {
-  whole : l.sink.writer.broken ≡ false;
-  wires : l.sink.writer.wires ≡ 3;
-  count : l.sink.writer.constraints ≡ l.i;
+  whole : is_err l.sink.pending.outcome ≡ false;
+  wires : l.sink.wires ≡ 3;
+  count : l.sink.constraints ≡ l.i;
 }

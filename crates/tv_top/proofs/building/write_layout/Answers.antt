@@ -3,6 +3,7 @@ use Rattle.tv_block.specs.Block.{block_of}
 use Rattle.tv_layout.specs.Layout.{layout_of}
 use Rattle.tv_layout.specs.Systems.{system_of}
 use Rattle.tv_r1cs_write.proofs.Streaming.{IsBegun, streamed_some, streamed_all}
+use Rattle.tv_r1cs_write.specs.Streams.{stream}
 use Rattle.tv_r1cs_write.specs.declared.stream.StreamSink.{StreamSink}
 use Rattle.tv_top.specs.Contents.{Content.{Constraints}}
 use Rattle.tv_top.proofs.Streaming.{writes_nothing, writes_system}
@@ -11,7 +12,7 @@ use Rattle.tv_top.proofs.building.write_layout.Goals as goal
 use Rattle.tv_top.proofs.building.write_layout.Goals.{In-Ok}
 
 begun : (g : given.Over) (c : In-Ok g) →
-    IsBegun (λ (s : StreamSink g.row.D.Denot). record { outside = g.D.Files.seen s.files.now; borrow = s.files.ghost_name; name = s.name.now; progress = s.writer }) c.args.place.name.now (g.D.Files.seen c.args.files.now)
+    IsBegun {S = StreamSink g.row.D.Denot} (stream g.D.Files.seen) c.args.place.name.now (g.D.Files.seen c.args.files.now)
     c.in-Ok.sink (layout_of (block_of g.row.W) g.row.W c.args.net c.args.image.now c.args.n c.args.t) (system_of g.row.W c.args.net c.args.image.now c.args.n c.args.t) c.sizes-counts.result
 begun g c = record {
   creates = c.in-Ok.ensures.ok_creates;

@@ -1,6 +1,6 @@
 use Rattle.std.proofs.Common.{ap, ◌∙◌, rules}
 use Rattle.tv_wtns.proofs.Streaming.{IsBegun, streamed_some, streamed_all}
-use Rattle.tv_wtns.specs.Takers.{Progress}
+use Rattle.tv_wtns.specs.Takers.{Progress, taker_of}
 use Rattle.tv_wtns.specs.declared.file_values.FileValues.{FileValues}
 use Rattle.tv_top.specs.Contents.{Content.{Values}}
 use Rattle.tv_top.proofs.Streaming.{writes_nothing, writes_values}
@@ -9,8 +9,7 @@ use Rattle.tv_top.proofs.witnessing.write_values.Goals as goal
 use Rattle.tv_top.proofs.witnessing.write_values.Goals.{In-Ok}
 
 begun : (g : given.Over) (c : In-Ok g) →
-    IsBegun (λ (v : FileValues g.row.D.Denot). record { outside = g.D.Files.seen v.files.now; borrow = v.files.ghost_name; name = v.name.now; progress = v.writer }) c.args.place.name.now
-    (g.D.Files.seen c.args.files.now) c.in-Ok.taker c.args.filling.values
+    IsBegun {V = FileValues g.row.D.Denot} (taker_of g.D.Files.seen) c.args.place.name.now (g.D.Files.seen c.args.files.now) c.in-Ok.taker c.args.filling.values
 begun g c = record {
   creates = c.in-Ok.ensures.ok_creates;
   named = c.in-Ok.ensures.name;

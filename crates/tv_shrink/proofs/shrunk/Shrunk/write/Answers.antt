@@ -4,7 +4,7 @@ use Rattle.tv_core.proofs.Chain.{puts_then, puts_then_refused}
 use Rattle.tv_core.specs.Circuits.{Circuit}
 use Rattle.tv_core.specs.Sinks.{PutsAll, PutsSome}
 use Rattle.tv_core.specs.declared.lines.Counts.{Counts}
-use Rattle.tv_r1cs_write.specs.Streams.{Stream, begun, stream_meaning}
+use Rattle.tv_r1cs_write.specs.Streams.{Stream, begun, stream, stream_meaning}
 use Rattle.tv_r1cs_write.specs.declared.stream.StreamSink.{StreamSink}
 use Rattle.tv_shrink.specs.Emitting.{rows_circuit, wires_circuit}
 use Rattle.tv_shrink.specs.Shrinking.{Shrunken}
@@ -14,7 +14,7 @@ use Rattle.tv_shrink.proofs.shrunk.Shrunk.write.Goals as goal
 
 pub returns-in-Ok-put_rows : goal.returns-in-Ok-put_rows
 returns-in-Ok-put_rows g c =
-    let seen : StreamSink g.row.D.Denot → Stream = λ s. record { outside = g.D.Files.seen s.files.now; borrow = s.files.ghost_name; name = s.name.now; progress = s.writer } in
+    let seen : StreamSink g.row.D.Denot → Stream = stream g.D.Files.seen in
     let shrunken : Shrunken = record {
       system = record { wires = length c.self.inside.labels.items; outputs = c.self.inside.outputs; inputs = c.self.inside.inputs; constraints = filter_map (λ row. row) c.self.inside.rows };
       labels = c.self.inside.labels.items;
@@ -50,7 +50,7 @@ returns-in-Ok-put_rows g c =
 
 pub returns-in-Err-put_rows : goal.returns-in-Err-put_rows
 returns-in-Err-put_rows g c =
-    let seen : StreamSink g.row.D.Denot → Stream = λ s. record { outside = g.D.Files.seen s.files.now; borrow = s.files.ghost_name; name = s.name.now; progress = s.writer } in
+    let seen : StreamSink g.row.D.Denot → Stream = stream g.D.Files.seen in
     let shrunken : Shrunken = record {
       system = record { wires = length c.self.inside.labels.items; outputs = c.self.inside.outputs; inputs = c.self.inside.inputs; constraints = filter_map (λ row. row) c.self.inside.rows };
       labels = c.self.inside.labels.items;

@@ -1,9 +1,0 @@
-use Rattle.std.proofs.Common.{◌++◌, take, Ok}
-use Rattle.std.specs.List.{range_with_len}
-use Rattle.tv_container.specs.Writing.{PassesOn}
-use Rattle.tv_r1cs_write.specs.Bytes.{label_bytes}
-use Rattle.tv_r1cs_write.proofs.writer.put_own_labels.Given as goal
-
-abbrev pub invariant-loop-label : goal.invariant-loop-label
-invariant-loop-label g l =
-    PassesOn (g.D.Files.seen l.fn.files) (g.D.Files.seen l.files) l.name (l.fn.buffer ++ label_bytes (take l.label (range_with_len 0 l.wires))) l.buffer (Ok tt)
