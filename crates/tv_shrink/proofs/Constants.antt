@@ -1,7 +1,8 @@
 -- Looking into a normal combination.
-use Rattle.std.proofs.Common.{◌≡◌, ℕ, zero, suc, ◌+◌, ◌*◌, ◌%◌, ◌<◌, ◌≤◌, ◌&&◌, [], ◌∷◌, Some, None, refl, sym, ◌∙◌, ap, ap₂, subst, arith, eqb, true, false, cond, length, get_or, eq-eqb, ne_eqb, one-mul, mod-eq_of_lt}
+use Rattle.std.proofs.Common.{◌≡◌, ℕ, zero, suc, ◌+◌, ◌*◌, ◌%◌, ◌<◌, ◌≤◌, ◌&&◌, [], ◌∷◌, Some, None, refl, sym, ◌∙◌, ap, ap₂, subst, arith, eqb, ltb, true, false, inl, inr, cond, length, get_or, eq-eqb, ne_eqb, ltb-true, one-mul, mod-eq_of_lt}
 use Rattle.std.specs.List.{list_all}
-use Rattle.std.proofs.lemmas.Bool.{and_left, and_right, or_from}
+use Rattle.std.proofs.lemmas.Bool.{and_left, and_right, cases_lt, ltb-false, or_from}
+use Rattle.std.specs.List.Sorted.{IsNonDecreasingBy, IsPartitionPoint}
 use Rattle.tv_core.specs.Combinations.{scaled}
 use Rattle.tv_core.specs.Constraints.{Combination}
 use Rattle.tv_core.specs.declared.field.TheConstants.{P}
@@ -87,3 +88,25 @@ scaled_once least [] n = refl
 scaled_once least (t ∷ x) n =
     let first : 1 * t.0 % P ≡ t.0 = ap (λ k. k % P) (one-mul t.0) ∙ mod-eq_of_lt n.2 in
     ap₂ (λ k rest. (k, t.1) ∷ rest) first (scaled_once (t.1 + 1) x n.3)
+
+-- the wires of a normal combination rise
+pub rising : (least : ℕ) (x : Combination) → IsNormalFrom least x → IsNonDecreasingBy (λ t. t.1) x
+rising least [] n i j d le h = absurd (omega arith)
+rising least (t ∷ x) n zero zero d le h = omega arith
+rising least (t ∷ x) n zero (suc j) d le h = let above = above_at (t.1 + 1) j d x n.3 (omega arith) in omega arith
+rising least (t ∷ x) n (suc i) zero d le h = absurd (omega arith)
+rising least (t ∷ x) n (suc i) (suc j) d le h = rising (t.1 + 1) x n.3 i j d (omega arith) (omega arith)
+
+-- so a wire stands where those before it end, or nowhere
+pub split_missing : (w i : ℕ) (x : Combination) → IsNormalFrom 0 x → IsPartitionPoint (λ t. ltb t.1 w ≡ true) (λ t. ltb t.1 w ≡ false) x i → ((d : ℕ × ℕ) → i < length x → (get_or x i d).1 ≡ w → ⊥) →
+    None ≡ cond (has_wire w x) (Some (coefficient w x)) None
+split_missing w i x n point apart =
+    coefficient_missing w x (λ k d h e.
+    elim (cases_lt k i) [
+      | inl before ↦ absurd (let less = ltb-true (get_or x k d).1 w (point.0 k d (omega arith) before) in omega arith)
+      | inr behind ↦
+          let inside : i < length x = omega arith in
+          let least = ltb-false (get_or x i d).1 w (point.1 i d (omega arith) inside) in
+          let most : (get_or x i d).1 ≤ (get_or x k d).1 = rising 0 x n i k d behind h in
+          apart d inside (omega arith)
+    ])

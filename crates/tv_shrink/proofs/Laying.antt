@@ -4,13 +4,12 @@ use Rattle.std.specs.List.{AllByRecursion}
 use Rattle.std.specs.Option.{option_map}
 use Rattle.std.specs.Prelude.{slice_range}
 use Rattle.std.proofs.Math.Seq.{drop-append-add}
-use Rattle.std.proofs.lemmas.List.{append_assoc, length-append, length-drop, length-take, length-take-le, map-append, set-get_or}
+use Rattle.std.proofs.lemmas.List.{append_assoc, length-append, length-drop, length-take-le, map-append}
 use Rattle.tv_core.specs.Constraints.{Combination, Constraint}
-use Rattle.tv_shrink.specs.Moving.{moved, moved_in}
 use Rattle.tv_shrink.specs.Spans.{end_of, laid, row_at, row_terms, span_of, AreApart, AreInside, AreLaid, IsClear, IsFree, IsInside}
 use Rattle.tv_shrink.specs.declared.rows.Span.{Span}
 use Rattle.tv_shrink.proofs.Read.{each_at}
-use Rattle.tv_shrink.proofs.Spans.{inside_more, moved_length, part_kept, push_each, row_appended, row_end, row_kept, rows_kept, same_row, set_each, span_moved, terms_moved}
+use Rattle.tv_shrink.proofs.Spans.{inside_more, part_kept, push_each, row_appended, row_end, row_kept, rows_kept, same_row, set_each}
 
 -- a part of the terms before or behind those that were put
 part_clear : (xs put : Combination) (start i j : ℕ) → start ≤ length xs → i ≤ j → j ≤ length xs → (j ≤ start) ⊎ (start + length put ≤ i) → slice_range (laid start put xs) i j ≡ slice_range xs i j
@@ -193,19 +192,6 @@ rows_laid xs ys put spans rows i start old made row h view inside at terms free 
           ∙ others_kept xs put start low spans i made row h.inside clear here
           ∙ ap (λ rows. set rows i (Some row)) view,
     )
-
--- a constraint whose wires are numbered anew, where it lies
-pub row_renumbered : (numbers : List ℕ) (xs ys : Combination) (spans : List (Option Span)) (rows : List (Option Constraint)) (i : ℕ) (span : Span) → AreLaid (length xs) spans → map (option_map (row_at xs)) spans ≡ rows → i < length spans → get_or spans i None ≡ Some span →
-    ys ≡ laid span.start (moved numbers (slice_range xs span.start (end_of span))) xs →
-    AreLaid (length ys) spans × (map (option_map (row_at ys)) spans ≡ set rows i (Some (moved_in numbers (row_at xs span))))
-row_renumbered numbers xs ys spans rows i span h view inside at is =
-    let ends : end_of span ≤ length xs = subst (IsInside (length xs)) at (each_at (IsInside (length xs)) spans i None h.inside inside) in
-    let part : Combination = slice_range xs span.start (end_of span) in
-    let size : length (moved numbers part) ≡ end_of span - span.start = moved_length numbers part ∙ omega (arith, length-take (end_of span - span.start) (drop span.start xs), length-drop span.start xs) in
-    let same : set spans i (Some span) ≡ spans = ap (set spans i) (sym at) ∙ set-get_or spans i None in
-    let put = rows_laid xs ys (moved numbers part) spans rows i span.start span span (moved_in numbers (row_at xs span)) h view inside at
-    (terms_moved numbers xs span) (inl (refl, omega (arith, size))) is (span_moved numbers xs span ends) in
-    (subst (AreLaid (length ys)) same put.0, ap (map (option_map (row_at ys))) (sym same) ∙ put.1)
 
 -- one more constraint, whose terms are appended
 pub rows_added : (xs ys : Combination) (spans more : List (Option Span)) (row : Constraint) (span : Span) → AreLaid (length xs) spans → ys ≡ xs ++ row_terms row → span ≡ span_of (length xs) row → more ≡ spans ++ Some span ∷ [] →

@@ -5,9 +5,9 @@ pub mod Laying
 pub mod Linear
 pub mod Merging
 pub mod NormalLaws
+pub mod Occurring
 pub mod PassLaws
 pub mod Passes
-pub mod Placing
 pub mod Putting
 pub mod Read
 pub mod ReplacingLaws

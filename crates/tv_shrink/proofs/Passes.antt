@@ -157,35 +157,34 @@ module _ (w : ℕ) (r : Combination) where
               get_or_past rows i None behind ∙ nothing_there (list_any (λ p. eqb p i) (take (k + 1) places)) (get_or start i None) none
         ]
 
-    -- the places of the constraints that had the wire
-    pub held-next : (rows start : List (Option Constraint)) (places found next : List ℕ) (k at : ℕ) → k < length places → get_or places k 0 ≡ at →
-        ((i : ℕ) → get_or rows i None ≡ cond (list_any (λ p. eqb p i) (take k places)) (option_map (replaced_in w r) (get_or start i None)) (get_or start i None)) →
-        ((i : ℕ) → list_any (λ p. eqb p i) found ≡ true → list_any (λ p. eqb p i) next ≡ true) → (row_has w (get_or rows at None) ≡ true → list_any (λ p. eqb p at) next ≡ true) →
-        ((i : ℕ) → list_any (λ p. eqb p i) (take k places) ≡ true → row_has w (get_or start i None) ≡ true → list_any (λ p. eqb p i) found ≡ true) →
-        (i : ℕ) → list_any (λ p. eqb p i) (take (k + 1) places) ≡ true → row_has w (get_or start i None) ≡ true → list_any (λ p. eqb p i) next ≡ true
-    held-next rows start places found next k at h is before kept here held i seen has =
-        elim (cases_Bool (list_any (λ p. eqb p i) (take k places))) [
-          | inl earlier ↦ kept i (held i earlier has)
-          | inr not_yet ↦
-              let same : eqb (get_or places k 0) i ≡ true = ap (λ b. b || eqb (get_or places k 0) i) (sym not_yet) ∙ sym (list_any_more (λ p. eqb p i) places k 0 h) ∙ seen in
-              let there : at ≡ i = sym is ∙ eqb-true (get_or places k 0) i same in
-              let own : get_or rows i None ≡ get_or start i None = before i ∙ ap (λ b. cond b (option_map (replaced_in w r) (get_or start i None)) (get_or start i None)) not_yet in
-              subst (λ j. list_any (λ p. eqb p j) next ≡ true) there (here (ap (λ j. row_has w (get_or rows j None)) there ∙ ap (row_has w) own ∙ has))
-        ]
+    -- what is told of each constraint for which Q was at the start
+    module _ (Q : Option Constraint → Type 0) where
+      pub told-next : (rows start : List (Option Constraint)) (places told next : List ℕ) (k at : ℕ) → k < length places → get_or places k 0 ≡ at →
+          ((i : ℕ) → get_or rows i None ≡ cond (list_any (λ p. eqb p i) (take k places)) (option_map (replaced_in w r) (get_or start i None)) (get_or start i None)) →
+          ((i : ℕ) → list_any (λ p. eqb p i) told ≡ true → list_any (λ p. eqb p i) next ≡ true) → (Q (get_or rows at None) → list_any (λ p. eqb p at) next ≡ true) →
+          ((i : ℕ) → list_any (λ p. eqb p i) (take k places) ≡ true → Q (get_or start i None) → list_any (λ p. eqb p i) told ≡ true) →
+          (i : ℕ) → list_any (λ p. eqb p i) (take (k + 1) places) ≡ true → Q (get_or start i None) → list_any (λ p. eqb p i) next ≡ true
+      told-next rows start places told next k at h is before kept here held i seen has =
+          elim (cases_Bool (list_any (λ p. eqb p i) (take k places))) [
+            | inl earlier ↦ kept i (held i earlier has)
+            | inr not_yet ↦
+                let same : eqb (get_or places k 0) i ≡ true = ap (λ b. b || eqb (get_or places k 0) i) (sym not_yet) ∙ sym (list_any_more (λ p. eqb p i) places k 0 h) ∙ seen in
+                let there : at ≡ i = sym is ∙ eqb-true (get_or places k 0) i same in
+                let own : get_or rows i None ≡ get_or start i None = before i ∙ ap (λ b. cond b (option_map (replaced_in w r) (get_or start i None)) (get_or start i None)) not_yet in
+                subst (λ j. list_any (λ p. eqb p j) next ≡ true) there (here (subst Q (sym (ap (λ j. get_or rows j None) there ∙ own)) has))
+          ]
 
-    pub held-past : (rows start : List (Option Constraint)) (places found : List ℕ) (k at : ℕ) → k < length places → get_or places k 0 ≡ at → length rows ≤ at →
-        ((i : ℕ) → get_or rows i None ≡ cond (list_any (λ p. eqb p i) (take k places)) (option_map (replaced_in w r) (get_or start i None)) (get_or start i None)) →
-        ((i : ℕ) → list_any (λ p. eqb p i) (take k places) ≡ true → row_has w (get_or start i None) ≡ true → list_any (λ p. eqb p i) found ≡ true) →
-        (i : ℕ) → list_any (λ p. eqb p i) (take (k + 1) places) ≡ true → row_has w (get_or start i None) ≡ true → list_any (λ p. eqb p i) found ≡ true
-    held-past rows start places found k at h is past before held =
-        held-next rows start places found found k at h is before (λ i e. e)
-        (λ e. absurd (let no : false ≡ true = sym (ap (row_has w) (get_or_past rows at None past)) ∙ e in cc)) held
+      pub told-past : (rows start : List (Option Constraint)) (places told : List ℕ) (k at : ℕ) → (Q None → ⊥) → k < length places → get_or places k 0 ≡ at → length rows ≤ at →
+          ((i : ℕ) → get_or rows i None ≡ cond (list_any (λ p. eqb p i) (take k places)) (option_map (replaced_in w r) (get_or start i None)) (get_or start i None)) →
+          ((i : ℕ) → list_any (λ p. eqb p i) (take k places) ≡ true → Q (get_or start i None) → list_any (λ p. eqb p i) told ≡ true) →
+          (i : ℕ) → list_any (λ p. eqb p i) (take (k + 1) places) ≡ true → Q (get_or start i None) → list_any (λ p. eqb p i) told ≡ true
+      told-past rows start places told k at none h is past before held =
+          told-next rows start places told told k at h is before (λ i e. e) (λ here. absurd (none (subst Q (get_or_past rows at None past) here))) held
 
-    pub held-all : (start : List (Option Constraint)) (places found : List ℕ) (k : ℕ) → length places ≤ k →
-        ((i : ℕ) → row_has w (get_or start i None) ≡ true → list_any (λ p. eqb p i) places ≡ true) →
-        ((i : ℕ) → list_any (λ p. eqb p i) (take k places) ≡ true → row_has w (get_or start i None) ≡ true → list_any (λ p. eqb p i) found ≡ true) →
-        (i : ℕ) → row_has w (get_or start i None) ≡ true → list_any (λ p. eqb p i) found ≡ true
-    held-all start places found k past covers held i has = held i (ap (λ xs. list_any (λ p. eqb p i) xs) (take_all k places past) ∙ covers i has) has
+      pub told-all : (start : List (Option Constraint)) (places told : List ℕ) (k : ℕ) → length places ≤ k → ((i : ℕ) → Q (get_or start i None) → list_any (λ p. eqb p i) places ≡ true) →
+          ((i : ℕ) → list_any (λ p. eqb p i) (take k places) ≡ true → Q (get_or start i None) → list_any (λ p. eqb p i) told ≡ true) →
+          (i : ℕ) → Q (get_or start i None) → list_any (λ p. eqb p i) told ≡ true
+      told-all start places told k past covers held i has = held i (ap (λ xs. list_any (λ p. eqb p i) xs) (take_all k places past) ∙ covers i has) has
 
     each_replaced : (b : Bool) (row : Option Constraint) {c : Bool} → c ≡ b → (c ≡ false → row_has w row ≡ false) → cond b (option_map (replaced_in w r) row) row ≡ option_map (replaced_in w r) row
     each_replaced true row e lacking = refl
@@ -342,25 +341,27 @@ same_default [] i d e h = absurd (omega arith)
 same_default (x ∷ xs) zero d e h = refl
 same_default (x ∷ xs) (suc i) d e h = same_default xs i d e (omega arith)
 
--- one turn of the loop that adds places
-module _ (publics : ℕ) (lists next : List (List ℕ)) (rows : List ℕ) (k : ℕ) (t : ℕ × ℕ) (r : Combination) (h : k < length r) (at : t ≡ get_or r k t)
-    (added : (w i : ℕ) → publics ≤ w → has_wire w (take k r) ≡ true → list_any (λ p. eqb p i) rows ≡ true → list_any (λ p. eqb p i) (get_or lists w []) ≡ true) where
-  pub spread-private : ((w i : ℕ) → list_any (λ p. eqb p i) (get_or lists w []) ≡ true → list_any (λ p. eqb p i) (get_or next w []) ≡ true) →
-      ((i : ℕ) → list_any (λ p. eqb p i) rows ≡ true → list_any (λ p. eqb p i) (get_or next t.1 []) ≡ true) →
-      (w i : ℕ) → publics ≤ w → has_wire w (take (k + 1) r) ≡ true → list_any (λ p. eqb p i) rows ≡ true → list_any (λ p. eqb p i) (get_or next w []) ≡ true
-  spread-private more here w i above has e =
-      elim (or_cases (has_wire w (take k r)) (eqb t.1 w) (sym (has_next w k t r h at) ∙ has)) [
-        | inl earlier ↦ more w i (added w i above earlier e)
-        | inr same ↦ subst (λ v. list_any (λ p. eqb p i) (get_or next v []) ≡ true) (eqb-true t.1 w same) (here i e)
+-- one turn of the loop that tells wires of a row
+module _ (publics : ℕ) (lists next : List (List ℕ)) (row k : ℕ) (t : ℕ × ℕ) (x : Combination) (known : Option Constraint) (h : k < length x) (at : t ≡ get_or x k t)
+    (added : (w : ℕ) → publics ≤ w → has_wire w (take k x) ≡ true → row_has w known ≡ false → list_any (λ p. eqb p row) (get_or lists w []) ≡ true) where
+  pub filed-more : ((w i : ℕ) → list_any (λ p. eqb p i) (get_or lists w []) ≡ true → list_any (λ p. eqb p i) (get_or next w []) ≡ true) → list_any (λ p. eqb p row) (get_or next t.1 []) ≡ true →
+      (w : ℕ) → publics ≤ w → has_wire w (take (k + 1) x) ≡ true → row_has w known ≡ false → list_any (λ p. eqb p row) (get_or next w []) ≡ true
+  filed-more more here w above has lacks =
+      elim (or_cases (has_wire w (take k x)) (eqb t.1 w) (sym (has_next w k t x h at) ∙ has)) [
+        | inl earlier ↦ more w row (added w above earlier lacks)
+        | inr same ↦ subst (λ v. list_any (λ p. eqb p row) (get_or next v []) ≡ true) (eqb-true t.1 w same) here
       ]
 
-  pub spread-public : t.1 < publics → next ≡ lists →
-      (w i : ℕ) → publics ≤ w → has_wire w (take (k + 1) r) ≡ true → list_any (λ p. eqb p i) rows ≡ true → list_any (λ p. eqb p i) (get_or next w []) ≡ true
-  spread-public below is w i above has e =
-      subst (λ xs. list_any (λ p. eqb p i) (get_or xs w []) ≡ true) (sym is)
-      (elim (or_cases (has_wire w (take k r)) (eqb t.1 w) (sym (has_next w k t r h at) ∙ has)) [
-        | inl earlier ↦ added w i above earlier e
-        | inr here ↦ absurd (omega (arith, eqb-true t.1 w here))
+  pub filed-none : (t.1 < publics) ⊎ (row_has t.1 known ≡ true) → next ≡ lists →
+      (w : ℕ) → publics ≤ w → has_wire w (take (k + 1) x) ≡ true → row_has w known ≡ false → list_any (λ p. eqb p row) (get_or next w []) ≡ true
+  filed-none known_or_public is w above has lacks =
+      subst (λ xs. list_any (λ p. eqb p row) (get_or xs w []) ≡ true) (sym is)
+      (elim (or_cases (has_wire w (take k x)) (eqb t.1 w) (sym (has_next w k t x h at) ∙ has)) [
+        | inl earlier ↦ added w above earlier lacks
+        | inr here ↦ elim known_or_public [
+          | inl below ↦ absurd (omega (arith, eqb-true t.1 w here))
+          | inr there ↦ absurd (let both : true ≡ false = sym there ∙ ap (λ v. row_has v known) (eqb-true t.1 w here) ∙ lacks in cc)
+        ]
       ])
 
 -- what was put out, from the row that was looked at
@@ -474,17 +475,23 @@ dropped-covers publics at rows lists covers i v above has =
       | inr same ↦ covers i v above (ap (row_has v) (sym same) ∙ has)
     ]
 
-pub replaced-covers : (publics w : ℕ) (r : Combination) (rows : List (Option Constraint)) (lists taken next : List (List ℕ)) → has_wire w r ≡ false → publics ≤ w → Covers publics rows lists → taken ≡ set lists w [] →
+pub replaced-covers : (publics w : ℕ) (r : Combination) (rows : List (Option Constraint)) (lists taken next : List (List ℕ)) → has_wire w r ≡ false → Covers publics rows lists → taken ≡ set lists w [] →
     ((v i : ℕ) → list_any (λ p. eqb p i) (get_or taken v []) ≡ true → list_any (λ p. eqb p i) (get_or next v []) ≡ true) →
-    ((v i : ℕ) → publics ≤ v → has_wire v r ≡ true → row_has w (get_or rows i None) ≡ true → list_any (λ p. eqb p i) (get_or next v []) ≡ true) →
+    ((v i : ℕ) → publics ≤ v → has_wire v r ≡ true → row_has w (get_or rows i None) ≡ true → row_has v (get_or rows i None) ≡ false → list_any (λ p. eqb p i) (get_or next v []) ≡ true) →
     Covers publics (all_replaced w r rows) next
-replaced-covers publics w r rows lists taken next lacks private covers is more added i v above has =
+replaced-covers publics w r rows lists taken next lacks covers is more added i v above has =
     let here : row_has v (option_map (replaced_in w r) (get_or rows i None)) ≡ true = ap (row_has v) (sym (changed_at (option_map (replaced_in w r)) rows i refl)) ∙ has in
     elim (row_has_replaced v w r lacks (get_or rows i None) here) [
-      | inl own ↦
-          more v i (ap (λ xs. list_any (λ p. eqb p i) (get_or xs v [])) is ∙ ap (λ xs. list_any (λ p. eqb p i) xs) (get_or-set_other lists w v [] [] own.1) ∙ covers i v above own.0)
-      | inr by ↦ added v i above by.0 by.1
+      | inl own ↦ earlier own.0 own.1
+      | inr by ↦ elim (cases_Bool (row_has v (get_or rows i None))) [
+        | inl own ↦ earlier own (other_wire v w r lacks by.0)
+        | inr comes ↦ added v i above by.0 by.1 comes
+      ]
     ]
+  where
+    earlier : row_has v (get_or rows i None) ≡ true → v ≢ w → list_any (λ p. eqb p i) (get_or next v []) ≡ true
+    earlier own apart =
+        more v i (ap (λ xs. list_any (λ p. eqb p i) (get_or xs v [])) is ∙ ap (λ xs. list_any (λ p. eqb p i) xs) (get_or-set_other lists w v [] [] apart) ∙ covers i v above own)
 
 -- a wire whose places are named is one of those that there are
 pub covered-inside : (publics at w : ℕ) (rows : List (Option Constraint)) (lists : List (List ℕ)) → Covers publics rows lists → publics ≤ w → row_has w (get_or rows at None) ≡ true → w < length lists

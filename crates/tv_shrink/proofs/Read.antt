@@ -1,7 +1,7 @@
 -- Terms that were read, made normal.
-use Rattle.std.proofs.Common.{◌≡◌, ◌⊎◌, ℕ, zero, suc, ◌+◌, ◌%◌, ◌<◌, ◌≤◌, Bool, not, List, [], ◌∷◌, ◌++◌, Option, Some, None, refl, sym, ◌∙◌, ap, ap₂, subst, arith, eqb, ltb, ne_eqb, true, false, inl, inr, cond, map, length, get_or, drop, take, add-one, drop-cons, mod-eq_of_lt, eqb-true, eq-eqb, append-nil, set}
+use Rattle.std.proofs.Common.{◌≡◌, ◌⊎◌, ℕ, zero, suc, ◌+◌, ◌%◌, ◌<◌, ◌≤◌, Bool, not, ◌||◌, List, [], ◌∷◌, ◌++◌, Option, Some, None, refl, sym, ◌∙◌, ap, ap₂, subst, arith, eqb, ltb, ne_eqb, true, false, inl, inr, cond, map, length, get_or, drop, take, add-one, drop-cons, mod-eq_of_lt, eqb-true, eq-eqb, append-nil, set}
 use Rattle.std.proofs.Common.{Result, Ok, Err}
-use Rattle.std.specs.List.{AllByRecursion, All, sum_by}
+use Rattle.std.specs.List.{AllByRecursion, All, list_any, sum_by}
 use Rattle.tv_container.specs.Places.{Fault, ◌>>=◌, wrong}
 use Rattle.tv_container.specs.Reading.{Refuses, Stopped}
 use Rattle.tv_container.specs.declared.why.ReadRefusal.{ReadRefusal}
@@ -14,7 +14,7 @@ use Rattle.tv_shrink.specs.declared.fault.ShrinkFault.{ShrinkFault}
 use Rattle.tv_shrink.specs.declared.fault.ShrinkFault.TheVariants as fault
 use Rattle.std.proofs.lemmas.List.{map_push, take_more}
 use Rattle.std.proofs.lemmas.List.Sums.{sum_by-append}
-use Rattle.std.proofs.lemmas.Bool.{cases_Bool, ltb-false}
+use Rattle.std.proofs.lemmas.Bool.{cases_Bool, ltb-false, or_cases}
 use Rattle.std.proofs.lemmas.List.Elements.{All-more, filter-append, recursion_from_All}
 use Rattle.tv_core.proofs.CombinationLaws.{value-append}
 use Rattle.tv_container.specs.declared.why.ReadWhy.{ReadWhy}
@@ -30,7 +30,7 @@ use Rattle.tv_shrink.specs.Normal.{added, non_zero, normal, normal_constraint, I
 use Rattle.tv_shrink.proofs.NormalLaws.{Over, Over-normal, value-normal, IsNormalFrom-normal}
 use Rattle.tv_shrink.proofs.Unique.{same_values, normal-same}
 use Rattle.tv_shrink.specs.Replacing.{has_wire}
-use Rattle.tv_shrink.specs.Tidy.{AreNormal, IsWithin, RowIsNormal, RowIsWithin}
+use Rattle.tv_shrink.specs.Tidy.{row_has, AreNormal, Covers, IsWithin, RowIsNormal, RowIsWithin}
 use Rattle.tv_shrink.proofs.ReplacingLaws.{Over-has_wire}
 use Rattle.tv_shrink.proofs.Constants.{scaled_once}
 
@@ -102,10 +102,6 @@ over_terms n (t ∷ terms) h = (h.0, over_terms n terms h.1)
 pub over_read : (n : ℕ) (terms : List (ℕ × ℕ)) → All (λ t. t.0 < n) terms → Over (λ v. v < n) (normal (combination_of terms))
 over_read n terms h = Over-normal (λ v. v < n) (combination_of terms) (over_terms n terms (recursion_from_All (λ t. t.0 < n) terms h))
 
--- a wire of a combination whose wires are below a number
-pub wire_below : (n w : ℕ) (x y : Combination) → Over (λ v. v < n) x → y ≡ x → has_wire w y ≡ true → w < n
-wire_below n w x y over is has = Over-has_wire (λ v. v < n) w x over (ap (has_wire w) (sym is) ∙ has)
-
 -- no combination of a constraint is too wide
 none_both : (a b : Option ℕ) → first_number a b ≡ None → (a ≡ None) × (b ≡ None)
 none_both None b e = (refl, e)
@@ -155,6 +151,29 @@ pushed_cases [] row (suc i) = inl refl
 pushed_cases (first ∷ rows) row zero = inl refl
 pushed_cases (first ∷ rows) row (suc i) =
     elim (pushed_cases rows row i) [ inl same ↦ inl same | inr here ↦ inr (omega (arith, here.0), here.1) ]
+
+pub pushed-covers : (publics at : ℕ) (rows next : List (Option Constraint)) (row : Option Constraint) (lists told : List (List ℕ)) → next ≡ rows ++ row ∷ [] → at ≡ length rows → Covers publics rows lists →
+    ((w i : ℕ) → list_any (λ p. eqb p i) (get_or lists w []) ≡ true → list_any (λ p. eqb p i) (get_or told w []) ≡ true) →
+    ((w : ℕ) → publics ≤ w → row_has w (get_or next at None) ≡ true → list_any (λ p. eqb p at) (get_or told w []) ≡ true) → Covers publics next told
+pushed-covers publics at rows next row lists told is same covers more added i w above has =
+    elim (pushed_cases rows row i) [
+      | inl own ↦ more w i (covers i w above (ap (row_has w) (sym (ap (λ xs. get_or xs i None) is ∙ own)) ∙ has))
+      | inr here ↦
+          let there : i ≡ at = here.0 ∙ sym same in
+          subst (λ j. list_any (λ p. eqb p j) (get_or told w []) ≡ true) (sym there) (added w above (subst (λ j. row_has w (get_or next j None) ≡ true) there has))
+    ]
+
+-- a wire of a constraint that is within
+pub row_below : (n w : ℕ) (row : Option Constraint) → RowIsWithin n row → row_has w row ≡ true → w < n
+row_below n w None within has = absurd (let no : false ≡ true = has in cc)
+row_below n w (Some c) within has =
+    elim (or_cases (has_wire w c.a) (has_wire w c.b || has_wire w c.c) has) [
+      | inl in_a ↦ Over-has_wire (λ v. v < n) w c.a within.a in_a
+      | inr later ↦ elim (or_cases (has_wire w c.b) (has_wire w c.c) later) [
+        | inl in_b ↦ Over-has_wire (λ v. v < n) w c.b within.b in_b
+        | inr in_c ↦ Over-has_wire (λ v. v < n) w c.c within.c in_c
+      ]
+    ]
 
 -- one element changed after another
 module _ {A : Type 0} (f : A → A) where

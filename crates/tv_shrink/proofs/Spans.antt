@@ -3,10 +3,10 @@ use Rattle.std.proofs.Common.{◌≡◌, ℕ, zero, suc, ◌+◌, ◌-◌, ◌<�
 use Rattle.std.specs.List.{AllByRecursion}
 use Rattle.std.specs.Option.{option_map}
 use Rattle.std.specs.Prelude.{slice_index, slice_range}
-use Rattle.std.proofs.Math.Seq.{drop-append_seam, take-add, take-append_seam}
-use Rattle.std.proofs.lemmas.List.{append_assoc, drop-append-le, drop-drop, length-append, length-drop, length-map, length-take, map-append, take-append-le}
+use Rattle.std.proofs.Math.Seq.{drop-append_seam, take-append_seam}
+use Rattle.std.proofs.lemmas.List.{append_assoc, drop-append-le, drop-map, length-append, length-drop, length-map, length-take, map-append, take-append-le, take-map}
 use Rattle.tv_core.specs.Constraints.{Combination, Constraint}
-use Rattle.tv_shrink.specs.Moving.{moved, moved_in}
+use Rattle.tv_shrink.specs.Moving.{moved, moved_in, moved_rows}
 use Rattle.tv_shrink.specs.Spans.{end_of, row_at, row_terms, span_of, AreInside}
 use Rattle.tv_shrink.specs.declared.rows.Span.{Span}
 
@@ -85,26 +85,21 @@ row_found f spans rows i span is h at =
     found (x ∷ xs) (suc i) h = found xs i (omega arith)
 
 -- wires numbered anew
-moved_append : (numbers : List ℕ) (xs ys : Combination) → moved numbers (xs ++ ys) ≡ moved numbers xs ++ moved numbers ys
-moved_append numbers xs ys = map-append (λ (t : ℕ × ℕ). (t.0, slice_index numbers t.1)) xs ys
+module _ (numbers : List ℕ) (xs : Combination) where
+  part_moved : (i j : ℕ) → slice_range (moved numbers xs) i j ≡ moved numbers (slice_range xs i j)
+  part_moved i j =
+      let f : ℕ × ℕ → ℕ × ℕ = λ t. (t.0, slice_index numbers t.1) in
+      ap (take (j - i)) (drop-map f i xs) ∙ take-map f (j - i) (drop i xs)
 
-pub moved_length : (numbers : List ℕ) (xs : Combination) → length (moved numbers xs) ≡ length xs
-moved_length numbers xs = length-map xs (λ (t : ℕ × ℕ). (t.0, slice_index numbers t.1))
+  row_moved : (span : Span) → row_at (moved numbers xs) span ≡ moved_in numbers (row_at xs span)
+  row_moved span =
+      same_row _ _ _ _ _ _ (part_moved span.start (span.start + span.a)) (part_moved (span.start + span.a) (span.start + span.a + span.b))
+      (part_moved (span.start + span.a + span.b) (span.start + span.a + span.b + span.c))
 
--- a part of a list is the parts that it is made of
-parts_joined : (xs : Combination) (i j k : ℕ) → i ≤ j → j ≤ k → slice_range xs i k ≡ slice_range xs i j ++ slice_range xs j k
-parts_joined xs i j k h l =
-    ap (λ n. take n (drop i xs)) (let size : k - i ≡ (j - i) + (k - j) = omega arith in size)
-    ∙ take-add (j - i) (k - j) (drop i xs)
-    ∙ ap (λ ys. slice_range xs i j ++ take (k - j) ys) (drop-drop (j - i) i xs ∙ ap (λ n. drop n xs) (let at : i + (j - i) ≡ j = omega arith in at))
-
-pub terms_moved : (numbers : List ℕ) (xs : Combination) (span : Span) → moved numbers (slice_range xs span.start (end_of span)) ≡ row_terms (moved_in numbers (row_at xs span))
-terms_moved numbers xs span =
-    let b = span.start + span.a in
-    let c = b + span.b in
-    ap (moved numbers) (parts_joined xs span.start b (end_of span) (omega arith) (omega arith) ∙ ap (λ ys. slice_range xs span.start b ++ ys) (parts_joined xs b c (end_of span) (omega arith) (omega arith)))
-    ∙ moved_append numbers (slice_range xs span.start b) (slice_range xs b c ++ slice_range xs c (end_of span))
-    ∙ ap (λ ys. moved numbers (slice_range xs span.start b) ++ ys) (moved_append numbers (slice_range xs b c) (slice_range xs c (end_of span)))
+  pub rows_moved : (spans : List (Option Span)) → map (option_map (row_at (moved numbers xs))) spans ≡ moved_rows numbers (map (option_map (row_at xs)) spans)
+  rows_moved [] = refl
+  rows_moved (None ∷ spans) = ap (λ rows. None ∷ rows) (rows_moved spans)
+  rows_moved (Some span ∷ spans) = ap₂ (λ row rows. Some row ∷ rows) (row_moved span) (rows_moved spans)
 
 -- where a constraint was appended, from what the calls gave
 pub span_is : (xs : Combination) (row : Constraint) (start a b c : ℕ) → start ≡ length xs → a ≡ length row.a → b ≡ length row.b → c ≡ length row.c → record { start = start; a = a; b = b; c = c } ≡ span_of (length xs) row
@@ -124,14 +119,6 @@ pub span_copied : (xs terms : Combination) (span : Span) (start : ℕ) → start
 span_copied xs terms span start at inside =
     span_is xs (row_at terms span) start span.a span.b span.c at (part_size terms span.start span.a (omega arith)) (part_size terms (span.start + span.a) span.b (omega arith))
     (part_size terms (span.start + span.a + span.b) span.c (omega arith))
-
--- they stay where they lie
-pub span_moved : (numbers : List ℕ) (xs : Combination) (span : Span) → end_of span ≤ length xs → span ≡ span_of span.start (moved_in numbers (row_at xs span))
-span_moved numbers xs span inside =
-    let row = row_at xs span in
-    let made : ℕ → ℕ → ℕ → Span = λ x y z. record { start = span.start; a = x; b = y; c = z } in
-    ap₂ (λ x y. made x y span.c) (part_size xs span.start span.a (omega arith) ∙ sym (moved_length numbers row.a)) (part_size xs (span.start + span.a) span.b (omega arith) ∙ sym (moved_length numbers row.b))
-    ∙ ap (made (length (moved numbers row.a)) (length (moved numbers row.b))) (part_size xs (span.start + span.a + span.b) span.c (omega arith) ∙ sym (moved_length numbers row.c))
 
 -- one more constraint that was dropped
 pub rows_pushed : (f : Span → Constraint) (spans more : List (Option Span)) (rows : List (Option Constraint)) → map (option_map f) spans ≡ rows → more ≡ spans ++ None ∷ [] → map (option_map f) more ≡ rows ++ None ∷ []

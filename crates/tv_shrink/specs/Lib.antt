@@ -4,8 +4,8 @@ pub mod Laws
 pub mod Merging
 pub mod Moving
 pub mod Normal
+pub mod Occurring
 pub mod Passing
-pub mod Placing
 pub mod Replacing
 pub mod Shrinking
 pub mod Spans

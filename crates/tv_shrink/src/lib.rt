@@ -4,15 +4,14 @@
 //! is what satisfies the system, at the wires that are kept.
 #![tactic(auto)]
 
-mod begun;
 mod emitting;
 mod fault;
 mod laws;
 mod merge;
 mod normal;
 mod numbers;
+mod occurrences;
 mod pass;
-mod places;
 mod reading;
 mod row;
 mod rows;

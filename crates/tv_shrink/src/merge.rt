@@ -18,7 +18,20 @@ pub(crate) struct Side<'a> {
     pub(crate) leaving: Option<Wire>,
 }
 
-impl Side<'_> {
+impl<'a> Side<'a> {
+    /// A multiple of a whole combination.
+    pub(crate) fn whole(terms: &'a [(F, Wire)], factor: F) -> Side<'a>
+        ensures terms { result.terms.now ≡ terms.now }
+        ensures factor { result.factor ≡ factor }
+        ensures leaving { result.leaving ≡ None }
+    {
+        Side {
+            terms,
+            factor,
+            leaving: None,
+        }
+    }
+
     // The first wire that is ahead.
     fn first(&self) -> Wire
         requires { 0 < length self.now.terms.now }

@@ -11,25 +11,25 @@ use std::alloc::{AllocError, Global};
 #[derive(Drop)]
 pub(crate) struct Labels {
     pub(crate) labels: Vec<u32>,
-    pub(crate) places: Vec<u32>,
+    pub(crate) numbers: Vec<u32>,
 }
 
 /// The labels of the wires that are not gone.
 pub(crate) fn label(alloc: Global, gone: &[bool]) -> Result<Labels, AllocError>
     requires { length gone.now < 2 ^ 32 }
     ensures labels { IfOk result (λ l. l.labels.items ≡ kept (length gone.now) gone.now) }
-    ensures len { IfOk result (λ l. length l.places.items ≡ length gone.now) }
-    ensures places { IfOk result (λ l. (w : ℕ) → w < length gone.now
+    ensures len { IfOk result (λ l. length l.numbers.items ≡ length gone.now) }
+    ensures numbers { IfOk result (λ l. (w : ℕ) → w < length gone.now
         → slice_index_or gone.now w false ≡ false
-        → slice_index l.places.items w ≡ place w (kept (length gone.now) gone.now)) }
+        → slice_index l.numbers.items w ≡ place w (kept (length gone.now) gone.now)) }
 {
     let mut labels = Vec::new(alloc);
-    let mut places = Vec::with_capacity(alloc, gone.len())?;
+    let mut numbers = Vec::with_capacity(alloc, gone.len())?;
     for wire in 0..gone.len() {
-        places.push(labels.len() as u32)?;
+        numbers.push(labels.len() as u32)?;
         if !gone[wire] {
             labels.push(wire as u32)?;
         }
     }
-    Ok(Labels { labels, places })
+    Ok(Labels { labels, numbers })
 }

@@ -1,148 +1,89 @@
 //! One pass over the constraints of a system, in which private wires are replaced.
 
 ghost use Rattle.std.specs.Prelude.{◌≡◌, ◌≤◌, ◌<◌, ◌==◌, ℕ, [], true, false, length};
-ghost use Rattle.std.specs.Prelude.{slice_index_or, slice_set, None, Some, OnOk, IfOk};
-ghost use Rattle.std.specs.Prelude.{if◌then◌else◌};
+ghost use Rattle.std.specs.Prelude.{◌^◌, slice_index_or, slice_set, None, OnOk};
 ghost use Rattle.std.specs.List.{fold, list_all, list_any, range_with_len};
 ghost use Rattle.std.specs.Option.{option_map};
 ghost use Rattle.tv_shrink.specs.Normal.{IsNormalFrom};
-ghost use Rattle.tv_shrink.specs.Passing.{all_replaced, attempted, dropped, linear_row, row_fits};
+ghost use Rattle.tv_shrink.specs.Passing.{all_replaced, attempted, dropped, row_fits};
 ghost use Rattle.tv_shrink.specs.Passing.{turn};
 ghost use Rattle.tv_shrink.specs.Replacing.{has_wire, replaced_in, solved};
 ghost use Rattle.tv_shrink.specs.Tidy.{pass_of, row_has, AreNormal, IsKept, RowIsNormal};
 
-use crate::places::Places;
-use crate::row::{Row, solve};
+use crate::occurrences::Occurrences;
+use crate::row::{row_has, solve};
 use crate::rows::Rows;
 use std::alloc::AllocError;
 use tv_core::{F, Wire};
 
-// Puts what the constraint at a place says is 0 into `out`, and tells whether it is there and
-// linear.
-fn linear_form(row: &Option<Row<'_>>, out: &mut Vec<(F, Wire)>) -> Result<bool, AllocError>
-    requires { RowIsNormal row.now }
-    ensures { IfOk result (λ linear. linear_row row.now
-        ≡ (if linear then Some out.new.items else None)) }
-{
-    match row {
-        Some(row) => row.linear_form(out),
-        None => Ok(false),
-    }
-}
-
-// Whether the constraint at a place keeps to its most terms with `r` in place of a wire.
-fn row_fits(
-    row: &Option<Row<'_>>,
-    out: &mut Vec<(F, Wire)>,
-    wire: Wire,
-    r: &[(F, Wire)],
-) -> Result<bool, AllocError>
-    requires normal { RowIsNormal row.now }
-    requires by { IsNormalFrom 0 r.now }
-    ensures { IfOk result (λ answer. answer ≡ row_fits wire r.now row.now) }
-{
-    match row {
-        Some(row) => row.fits(out, wire, r),
-        None => Ok(true),
-    }
-}
-
-/// Whether the constraint at a place, unless it is the one to be dropped, keeps to its most terms
-/// with `r` in place of a wire.
-pub(crate) fn other_fits(
-    rows: &Rows,
-    but: usize,
+// Puts `replacement` in place of a wire in the constraint at a place, if the wire stands there, and
+// tells of each private wire that comes into the constraint that it may stand there.
+fn replace_in(
+    rows: &mut Rows,
+    occurrences: &mut Occurrences,
     at: u32,
-    out: &mut Vec<(F, Wire)>,
+    scratch: &mut Vec<(F, Wire)>,
     wire: Wire,
-    r: &[(F, Wire)],
-) -> Result<bool, AllocError>
-    requires normal { AreNormal rows.now }
-    requires by { IsNormalFrom 0 r.now }
-    ensures { IfOk result (λ answer. answer
-        ≡ row_fits wire r.now (slice_index_or (slice_set rows.now but None) at None)) }
-{
-    let at = at as usize;
-    if at == but || at >= rows.len() {
-        return Ok(true);
-    }
-    row_fits(&rows.get(at), out, wire, r)
-}
-
-// Puts `r` in place of a wire in the constraint at a place, and adds the place to a list, if the
-// wire stood there.
-fn replace_row(
-    rows: &mut Rows,
-    place: u32,
-    found: &mut Vec<u32>,
-    out: &mut Vec<(F, Wire)>,
-    wire: Wire,
-    r: &[(F, Wire)],
-) -> Result<(), AllocError>
-    requires inside { place < length rows.old }
-    requires normal { RowIsNormal (slice_index_or rows.old place None) }
-    requires by { IsNormalFrom 0 r.now }
-    requires fits { row_fits wire r.now (slice_index_or rows.old place None) ≡ true }
-    ensures rows { OnOk result (rows.new ≡ slice_set rows.old place
-        (option_map (replaced_in wire r.now) (slice_index_or rows.old place None))) }
-    ensures kept { OnOk result ((i : ℕ) → list_any (λ p. p == i) found.old.items ≡ true
-        → list_any (λ p. p == i) found.new.items ≡ true) }
-    ensures here { OnOk result (row_has wire (slice_index_or rows.old place None) ≡ true
-        → list_any (λ p. p == place) found.new.items ≡ true) }
-{
-    if rows.replace(place as usize, out, wire, r)? {
-        found.push(place)?;
-    }
-    Ok(())
-}
-
-// Puts `r` in place of a wire in all constraints, of which those with the wire are at these places,
-// and puts the places of those that had it into `found`.
-fn replace_all(
-    rows: &mut Rows,
-    places: &[u32],
-    found: &mut Vec<u32>,
-    out: &mut Vec<(F, Wire)>,
-    wire: Wire,
-    r: &[(F, Wire)],
-) -> Result<(), AllocError>
-    requires normal { AreNormal rows.old }
-    requires by { IsNormalFrom 0 r.now }
-    requires lacks { has_wire wire r.now ≡ false }
-    requires covers { (i : ℕ) → row_has wire (slice_index_or rows.old i None) ≡ true
-        → list_any (λ p. p == i) places.now ≡ true }
-    requires fit { list_all (row_fits wire r.now) rows.old ≡ true }
-    ensures rows { OnOk result (rows.new ≡ all_replaced wire r.now rows.old) }
-    ensures found { OnOk result ((i : ℕ) → row_has wire (slice_index_or rows.old i None) ≡ true
-        → list_any (λ p. p == i) found.new.items ≡ true) }
-{
-    found.clear();
-    for place in places {
-        if (*place as usize) < rows.len() {
-            replace_row(rows, *place, found, out, wire, r)?;
-        }
-    }
-    Ok(())
-}
-
-/// Adds rows to those of each private wire of a combination.
-pub(crate) fn spread(
-    places: &mut Places,
-    rows: &[u32],
-    r: &[(F, Wire)],
+    replacement: &[(F, Wire)],
     publics: u32,
 ) -> Result<(), AllocError>
-    requires inside { (w : ℕ) → publics ≤ w → has_wire w r.now ≡ true → w < length places.old }
-    ensures each { OnOk result (length places.new ≡ length places.old) }
-    ensures more { OnOk result ((w i : ℕ) → list_any (λ p. p == i) (slice_index_or places.old w [])
-        ≡ true → list_any (λ p. p == i) (slice_index_or places.new w []) ≡ true) }
-    ensures added { OnOk result ((w i : ℕ) → publics ≤ w → has_wire w r.now ≡ true
-        → list_any (λ p. p == i) rows.now ≡ true
-        → list_any (λ p. p == i) (slice_index_or places.new w []) ≡ true) }
+    requires inside { at < length rows.old }
+    requires normal { RowIsNormal (slice_index_or rows.old at None) }
+    requires by { IsNormalFrom 0 replacement.now }
+    requires fits { row_fits wire replacement.now (slice_index_or rows.old at None) ≡ true }
+    requires below { (w : ℕ) → publics ≤ w → has_wire w replacement.now ≡ true
+        → w < length occurrences.old }
+    ensures rows { OnOk result (rows.new ≡ slice_set rows.old at
+        (option_map (replaced_in wire replacement.now) (slice_index_or rows.old at None))) }
+    ensures each { OnOk result (length occurrences.new ≡ length occurrences.old) }
+    ensures more { OnOk result ((w i : ℕ)
+        → list_any (λ p. p == i) (slice_index_or occurrences.old w []) ≡ true
+        → list_any (λ p. p == i) (slice_index_or occurrences.new w []) ≡ true) }
+    ensures added { OnOk result ((w : ℕ) → publics ≤ w → has_wire w replacement.now ≡ true
+        → row_has wire (slice_index_or rows.old at None) ≡ true
+        → row_has w (slice_index_or rows.old at None) ≡ false
+        → list_any (λ p. p == at) (slice_index_or occurrences.new w []) ≡ true) }
 {
-    for (_, wire) in r {
-        if wire.0 >= publics {
-            places.extend(wire.0, rows)?;
+    let row = rows.get(at as usize);
+    if !row_has(&row, wire) {
+        return Ok(());
+    }
+    occurrences.file(at, replacement, publics, &row)?;
+    rows.replace(at as usize, scratch, wire, replacement)
+}
+
+// Puts `replacement` in place of a wire in all constraints, of which those that have the wire are
+// named, and tells of each private wire that comes into one that it may stand there.
+fn replace_all(
+    rows: &mut Rows,
+    occurrences: &mut Occurrences,
+    named: &[u32],
+    scratch: &mut Vec<(F, Wire)>,
+    wire: Wire,
+    replacement: &[(F, Wire)],
+    publics: u32,
+) -> Result<(), AllocError>
+    requires normal { AreNormal rows.old }
+    requires by { IsNormalFrom 0 replacement.now }
+    requires lacks { has_wire wire replacement.now ≡ false }
+    requires covers { (i : ℕ) → row_has wire (slice_index_or rows.old i None) ≡ true
+        → list_any (λ p. p == i) named.now ≡ true }
+    requires fit { list_all (row_fits wire replacement.now) rows.old ≡ true }
+    requires below { (w : ℕ) → publics ≤ w → has_wire w replacement.now ≡ true
+        → w < length occurrences.old }
+    ensures rows { OnOk result (rows.new ≡ all_replaced wire replacement.now rows.old) }
+    ensures each { OnOk result (length occurrences.new ≡ length occurrences.old) }
+    ensures more { OnOk result ((w i : ℕ)
+        → list_any (λ p. p == i) (slice_index_or occurrences.old w []) ≡ true
+        → list_any (λ p. p == i) (slice_index_or occurrences.new w []) ≡ true) }
+    ensures added { OnOk result ((w i : ℕ) → publics ≤ w → has_wire w replacement.now ≡ true
+        → row_has wire (slice_index_or rows.old i None) ≡ true
+        → row_has w (slice_index_or rows.old i None) ≡ false
+        → list_any (λ p. p == i) (slice_index_or occurrences.new w []) ≡ true) }
+{
+    for at in named {
+        if (*at as usize) < rows.len() {
+            replace_in(rows, occurrences, *at, scratch, wire, replacement, publics)?;
         }
     }
     Ok(())
@@ -155,11 +96,9 @@ pub(crate) struct Pass {
     pub(crate) rows: Rows,
     /// For each wire whether it was solved for.
     pub(crate) gone: Vec<bool>,
-    pub(crate) places: Places,
-    /// The places of the constraints that may have the wire of this turn.
+    pub(crate) occurrences: Occurrences,
+    /// The constraints that may have the wire of this turn.
     pub(crate) named: Vec<u32>,
-    /// Of those that have it.
-    pub(crate) found: Vec<u32>,
     /// What the constraint of this turn holds to 0.
     pub(crate) form: Vec<(F, Wire)>,
     /// What it makes of its greatest wire.
@@ -173,33 +112,33 @@ impl Pass {
     // named.
     fn substitute(&mut self, wire: Wire) -> Result<(), AllocError>
         requires kept { IsKept self.old.publics self.old.rows self.old.gone.items
-            self.old.places }
+            self.old.occurrences }
         requires private { self.old.publics ≤ wire }
         requires by { IsNormalFrom 0 self.old.solved.items }
         requires lacks { has_wire wire self.old.solved.items ≡ false }
         requires fit { list_all (row_fits wire self.old.solved.items) self.old.rows ≡ true }
         requires named { (i : ℕ) → row_has wire (slice_index_or self.old.rows i None) ≡ true
             → list_any (λ p. p == i) self.old.named.items ≡ true }
-        requires here { wire < length self.old.places }
+        requires here { wire < length self.old.occurrences }
         requires inside { (w : ℕ) → self.old.publics ≤ w → has_wire w self.old.solved.items ≡ true
-            → w < length self.old.places }
+            → w < length self.old.occurrences }
         ensures rows { OnOk result (self.new.rows
             ≡ all_replaced wire self.old.solved.items self.old.rows) }
         ensures gone { OnOk result (self.new.gone.items ≡ slice_set self.old.gone.items wire true) }
         ensures kept { OnOk result (IsKept self.new.publics self.new.rows self.new.gone.items
-            self.new.places) }
+            self.new.occurrences) }
         ensures publics { self.new.publics ≡ self.old.publics }
     {
-        self.places.clear(wire.0);
+        self.occurrences.clear(wire.0);
         replace_all(
             &mut self.rows,
+            &mut self.occurrences,
             &self.named,
-            &mut self.found,
             &mut self.scratch,
             wire,
             &self.solved,
+            self.publics,
         )?;
-        spread(&mut self.places, &self.found, &self.solved, self.publics)?;
         self.gone[wire.0 as usize] = true;
         Ok(())
     }
@@ -209,7 +148,7 @@ impl Pass {
     // first.
     fn eliminate(&mut self, at: usize, wire: Wire) -> Result<(), AllocError>
         requires kept { IsKept self.old.publics self.old.rows self.old.gone.items
-            self.old.places }
+            self.old.occurrences }
         requires within { at < length self.old.rows }
         requires private { self.old.publics ≤ wire }
         requires by { IsNormalFrom 0 self.old.solved.items }
@@ -222,17 +161,17 @@ impl Pass {
             (pass_of self.old.rows self.old.gone.items))
             (pass_of self.old.rows self.old.gone.items)) }
         ensures kept { OnOk result (IsKept self.new.publics self.new.rows self.new.gone.items
-            self.new.places) }
+            self.new.occurrences) }
         ensures publics { self.new.publics ≡ self.old.publics }
         ensures len { OnOk result (length self.new.rows ≡ length self.old.rows) }
     {
         let misfit = self
-            .places
+            .occurrences
             .misfit(&self.rows, at, &mut self.scratch, wire, &self.solved)?;
         if let Some(row) = misfit {
-            return self.places.add(wire.0, row);
+            return self.occurrences.add(wire.0, row);
         }
-        self.places.rows_of(wire.0, &mut self.named)?;
+        self.occurrences.rows_of(wire.0, &mut self.named)?;
         self.rows.remove(at);
         self.substitute(wire)
     }
@@ -240,16 +179,19 @@ impl Pass {
     /// The turn of the constraint at a place.
     pub(crate) fn turn(&mut self, at: usize) -> Result<(), AllocError>
         requires kept { IsKept self.old.publics self.old.rows self.old.gone.items
-            self.old.places }
+            self.old.occurrences }
         requires within { at < length self.old.rows }
         ensures pass { OnOk result (pass_of self.new.rows self.new.gone.items
             ≡ turn self.old.publics (pass_of self.old.rows self.old.gone.items) at) }
         ensures kept { OnOk result (IsKept self.new.publics self.new.rows self.new.gone.items
-            self.new.places) }
+            self.new.occurrences) }
         ensures publics { self.new.publics ≡ self.old.publics }
         ensures len { OnOk result (length self.new.rows ≡ length self.old.rows) }
     {
-        if !linear_form(&self.rows.get(at), &mut self.form)? {
+        let Some(row) = self.rows.get(at) else {
+            return Ok(());
+        };
+        if !row.linear_form(&mut self.form)? {
             return Ok(());
         }
         if self.form.is_empty() {
@@ -264,10 +206,27 @@ impl Pass {
         self.eliminate(at, wire)
     }
 
+    // Leaves out terms that no constraint has, and rows that wires may not stand in, once there may
+    // be more of them than of the others.
+    fn tidy(&mut self) -> Result<(), AllocError>
+        requires kept { IsKept self.old.publics self.old.rows self.old.gone.items
+            self.old.occurrences }
+        requires few { length self.old.rows < 2 ^ 32 }
+        ensures rows { OnOk result (self.new.rows ≡ self.old.rows) }
+        ensures gone { OnOk result (self.new.gone.items ≡ self.old.gone.items) }
+        ensures publics { OnOk result (self.new.publics ≡ self.old.publics) }
+        ensures kept { OnOk result (IsKept self.new.publics self.new.rows self.new.gone.items
+            self.new.occurrences) }
+    {
+        self.rows.tidy()?;
+        self.occurrences.tidy(&self.rows, self.publics)
+    }
+
     /// The whole pass: each constraint has its turn.
     pub(crate) fn run(&mut self) -> Result<(), AllocError>
         requires kept { IsKept self.old.publics self.old.rows self.old.gone.items
-            self.old.places }
+            self.old.occurrences }
+        requires few { length self.old.rows < 2 ^ 32 }
         ensures pass { OnOk result (pass_of self.new.rows self.new.gone.items
             ≡ fold (turn self.old.publics) (pass_of self.old.rows self.old.gone.items)
             (range_with_len 0 (length self.old.rows))) }
@@ -275,7 +234,7 @@ impl Pass {
     {
         for at in 0..self.rows.len() {
             self.turn(at)?;
-            self.rows.tidy()?;
+            self.tidy()?;
         }
         Ok(())
     }

@@ -6,6 +6,7 @@ ghost use Rattle.tv_core.specs.declared.field.TheConstants.{P};
 ghost use Rattle.tv_shrink.specs.Normal.{normal, IsNormalFrom};
 ghost use Rattle.tv_shrink.specs.Replacing.{coefficient, constant_in, fits, fits_in, has_wire};
 ghost use Rattle.tv_shrink.specs.Replacing.{linear_form, replaced, solved};
+ghost use Rattle.tv_shrink.specs.Tidy.{row_has, IsNormalRow, RowIsNormal};
 
 use crate::merge::{Side, merge};
 use std::alloc::AllocError;
@@ -49,12 +50,28 @@ fn coefficient_of(terms: &[(F, Wire)], wire: Wire) -> Option<F>
     ensures { result ≡ (if has_wire wire terms.now then Some (coefficient wire terms.now)
         else None) }
 {
-    for (coefficient, of) in terms {
-        if *of == wire {
-            return Some(*coefficient);
-        }
-    }
-    None
+    let at = terms.partition_point(|(_, of)| of.0 < wire.0);
+    let (coefficient, of) = *terms.get(at)?;
+    if of == wire { Some(coefficient) } else { None }
+}
+
+// Whether a wire stands in a combination.
+fn has_wire(terms: &[(F, Wire)], wire: Wire) -> bool
+    requires { IsNormalFrom 0 terms.now }
+    ensures { result ≡ has_wire wire terms.now }
+{
+    coefficient_of(terms, wire).is_some()
+}
+
+/// Whether a wire stands in a constraint, which may have been dropped.
+pub(crate) fn row_has(row: &Option<Row<'_>>, wire: Wire) -> bool
+    requires { RowIsNormal row.now }
+    ensures { result ≡ row_has wire row.now }
+{
+    let Some(row) = row else {
+        return false;
+    };
+    has_wire(row.a, wire) || has_wire(row.b, wire) || has_wire(row.c, wire)
 }
 
 // Puts a multiple of one combination less another one into `out`.
@@ -68,16 +85,8 @@ fn subtract(
     requires y { IsNormalFrom 0 y.now }
     ensures { OnOk result (out.new.items ≡ normal (scaled factor x.now ++ scaled (P - 1) y.now)) }
 {
-    let mut product = Side {
-        terms: x,
-        factor,
-        leaving: None,
-    };
-    let mut less = Side {
-        terms: y,
-        factor: -F::ONE,
-        leaving: None,
-    };
+    let mut product = Side::whole(x, factor);
+    let mut less = Side::whole(y, -F::ONE);
     out.clear();
     merge(out, &mut product, &mut less)
 }
@@ -104,58 +113,51 @@ pub(crate) fn solve(
     others.append(out)
 }
 
-/// Appends a combination with `r` in place of a wire, and tells whether the wire stands there.
+/// Appends a combination with `replacement` in place of a wire.
 pub(crate) fn append_replaced(
     out: &mut Vec<(F, Wire)>,
     terms: &[(F, Wire)],
     wire: Wire,
-    r: &[(F, Wire)],
-) -> Result<bool, AllocError>
+    replacement: &[(F, Wire)],
+) -> Result<(), AllocError>
     requires normal { IsNormalFrom 0 terms.now }
-    requires by { IsNormalFrom 0 r.now }
-    ensures has { IfOk result (λ has. has ≡ has_wire wire terms.now) }
-    ensures out { OnOk result (out.new.items ≡ out.old.items ++ replaced wire r.now terms.now) }
+    requires by { IsNormalFrom 0 replacement.now }
+    ensures { OnOk result (out.new.items
+        ≡ out.old.items ++ replaced wire replacement.now terms.now) }
 {
     let Some(coefficient) = coefficient_of(terms, wire) else {
-        out.extend_from_slice(terms)?;
-        return Ok(false);
+        return out.extend_from_slice(terms);
     };
     let mut others = Side {
         terms,
         factor: F::ONE,
         leaving: Some(wire),
     };
-    let mut by = Side {
-        terms: r,
-        factor: coefficient,
-        leaving: None,
-    };
-    merge(out, &mut others, &mut by)?;
-    Ok(true)
+    let mut by = Side::whole(replacement, coefficient);
+    merge(out, &mut others, &mut by)
 }
 
-// Whether a combination keeps to its most terms with `r` in place of a wire; `out` is for its use.
-// Costs a merge only where both together have more.
+// Whether a combination keeps to its most terms with `replacement` in place of a wire; `scratch` is
+// for its use. Costs a merge only where it has the wire and both together have more terms.
 fn fits(
-    out: &mut Vec<(F, Wire)>,
+    scratch: &mut Vec<(F, Wire)>,
     terms: &[(F, Wire)],
     wire: Wire,
-    r: &[(F, Wire)],
+    replacement: &[(F, Wire)],
 ) -> Result<bool, AllocError>
     requires normal { IsNormalFrom 0 terms.now }
-    requires by { IsNormalFrom 0 r.now }
-    ensures { IfOk result (λ answer. answer ≡ fits wire r.now terms.now) }
+    requires by { IsNormalFrom 0 replacement.now }
+    ensures { IfOk result (λ answer. answer ≡ fits wire replacement.now terms.now) }
 {
-    if terms.len() + r.len() <= TERMS {
+    if terms.len() + replacement.len() <= TERMS || !has_wire(terms, wire) {
         return Ok(true);
     }
-    out.clear();
-    Ok(!append_replaced(out, terms, wire, r)? || out.len() <= TERMS)
+    scratch.clear();
+    append_replaced(scratch, terms, wire, replacement)?;
+    Ok(scratch.len() <= TERMS)
 }
 
 impl Row<'_> {
-    ghost use Rattle.tv_shrink.specs.Tidy.{IsNormalRow};
-
     /// Puts what the constraint says is 0 into `out`, and tells whether it is linear.
     pub(crate) fn linear_form(&self, out: &mut Vec<(F, Wire)>) -> Result<bool, AllocError>
         requires { IsNormalRow self.now }
@@ -173,22 +175,22 @@ impl Row<'_> {
         Ok(false)
     }
 
-    /// Whether each combination keeps to its most terms with `r` in place of a wire; `out` is for
-    /// its use.
+    /// Whether each combination keeps to its most terms with `replacement` in place of a wire;
+    /// `scratch` is for its use.
     pub(crate) fn fits(
         &self,
-        out: &mut Vec<(F, Wire)>,
+        scratch: &mut Vec<(F, Wire)>,
         wire: Wire,
-        r: &[(F, Wire)],
+        replacement: &[(F, Wire)],
     ) -> Result<bool, AllocError>
         requires normal { IsNormalRow self.now }
-        requires by { IsNormalFrom 0 r.now }
-        ensures { IfOk result (λ answer. answer ≡ fits_in wire r.now self.now) }
+        requires by { IsNormalFrom 0 replacement.now }
+        ensures { IfOk result (λ answer. answer ≡ fits_in wire replacement.now self.now) }
     {
         Ok(
-            fits(out, self.a, wire, r)?
-                && fits(out, self.b, wire, r)?
-                && fits(out, self.c, wire, r)?,
+            fits(scratch, self.a, wire, replacement)?
+                && fits(scratch, self.b, wire, replacement)?
+                && fits(scratch, self.c, wire, replacement)?,
         )
     }
 }

@@ -1,17 +1,17 @@
 //! The constraints of a pass, whose terms lie one after another.
 
 ghost use Rattle.std.specs.Prelude.{◌≡◌, ◌+◌, ◌≤◌, ◌<◌, ◌++◌, [], ◌∷◌, true, length, None, Some};
-ghost use Rattle.std.specs.Prelude.{slice_index, slice_index_or, slice_range, slice_set};
-ghost use Rattle.std.specs.Prelude.{OnOk, OnErr, IfOk, IfErr, if◌then◌else◌};
+ghost use Rattle.std.specs.Prelude.{slice_index, slice_index_or, slice_set};
+ghost use Rattle.std.specs.Prelude.{OnOk, OnErr, IfOk, IfErr};
 ghost use Rattle.std.specs.Option.{option_map};
 ghost use Rattle.tv_r1cs_read.specs.Rows.{combination_of, constraint_of};
 ghost use Rattle.tv_shrink.specs.Answers.{wide, wide_in, IsTooWide};
 ghost use Rattle.tv_shrink.specs.Moving.{moved, moved_in, moved_rows};
 ghost use Rattle.tv_shrink.specs.Normal.{normal, normal_constraint, IsNormalFrom};
 ghost use Rattle.tv_shrink.specs.Passing.{row_fits};
-ghost use Rattle.tv_shrink.specs.Replacing.{fits, fits_in, has_wire, replaced, replaced_in};
+ghost use Rattle.tv_shrink.specs.Replacing.{fits, fits_in, replaced, replaced_in};
 ghost use Rattle.tv_shrink.specs.Spans.{end_of, laid, row_at, row_terms, span_of, IsFree, IsInside};
-ghost use Rattle.tv_shrink.specs.Tidy.{row_has, IsNormalRow, RowIsNormal};
+ghost use Rattle.tv_shrink.specs.Tidy.{AreNormal, IsNormalRow, RowIsNormal};
 
 use crate::fault::ShrinkFault;
 use crate::normal::append_normal;
@@ -79,53 +79,50 @@ fn append_narrow(
     Ok(has as u8)
 }
 
-// Appends a combination with `r` in place of a wire, and tells how many terms it has then, and
-// whether the wire stood there.
+// Appends a combination with `replacement` in place of a wire, and tells how many terms it has
+// then.
 fn append_part(
     out: &mut Vec<(F, Wire)>,
     terms: &[(F, Wire)],
     wire: Wire,
-    r: &[(F, Wire)],
-) -> Result<(u8, bool), AllocError>
+    replacement: &[(F, Wire)],
+) -> Result<u8, AllocError>
     requires normal { IsNormalFrom 0 terms.now }
-    requires by { IsNormalFrom 0 r.now }
+    requires by { IsNormalFrom 0 replacement.now }
     requires few { length terms.now < 256 }
-    requires fits { fits wire r.now terms.now ≡ true }
-    ensures out { OnOk result (out.new.items ≡ out.old.items ++ replaced wire r.now terms.now) }
-    ensures size { IfOk result (λ part. part.0 ≡ length (replaced wire r.now terms.now)) }
-    ensures has { IfOk result (λ part. part.1 ≡ has_wire wire terms.now) }
+    requires fits { fits wire replacement.now terms.now ≡ true }
+    ensures out { OnOk result (out.new.items
+        ≡ out.old.items ++ replaced wire replacement.now terms.now) }
+    ensures size { IfOk result (λ size. size ≡ length (replaced wire replacement.now terms.now)) }
 {
     let start = out.len();
-    let has = append_replaced(out, terms, wire, r)?;
-    let size = out.len() - start;
-    Ok((size as u8, has))
+    append_replaced(out, terms, wire, replacement)?;
+    Ok((out.len() - start) as u8)
 }
 
-// Puts a constraint with `r` in place of a wire into `out`, and tells where its terms lie in it;
-// `None` where the wire doesn't stand in it.
+// Puts a constraint with `replacement` in place of a wire into `out`, and tells where its terms lie
+// in it.
 fn put_replaced(
     out: &mut Vec<(F, Wire)>,
     row: &Row<'_>,
     wire: Wire,
-    r: &[(F, Wire)],
-) -> Result<Option<Span>, AllocError>
+    replacement: &[(F, Wire)],
+) -> Result<Span, AllocError>
     requires normal { IsNormalRow row.now }
-    requires by { IsNormalFrom 0 r.now }
+    requires by { IsNormalFrom 0 replacement.now }
     requires few { (length row.now.a < 256) × (length row.now.b < 256)
         × (length row.now.c < 256) }
-    requires fits { fits_in wire r.now row.now ≡ true }
-    ensures out { OnOk result (out.new.items ≡ row_terms (replaced_in wire r.now row.now)) }
-    ensures made { IfOk result (λ made. made ≡ (if row_has wire (Some row.now)
-        then Some (span_of 0 (replaced_in wire r.now row.now)) else None)) }
+    requires fits { fits_in wire replacement.now row.now ≡ true }
+    ensures out { OnOk result (out.new.items
+        ≡ row_terms (replaced_in wire replacement.now row.now)) }
+    ensures made { IfOk result (λ made. made
+        ≡ span_of 0 (replaced_in wire replacement.now row.now)) }
 {
     out.clear();
-    let (a, in_a) = append_part(out, row.a, wire, r)?;
-    let (b, in_b) = append_part(out, row.b, wire, r)?;
-    let (c, in_c) = append_part(out, row.c, wire, r)?;
-    if in_a || in_b || in_c {
-        return Ok(Some(Span { start: 0, a, b, c }));
-    }
-    Ok(None)
+    let a = append_part(out, row.a, wire, replacement)?;
+    let b = append_part(out, row.b, wire, replacement)?;
+    let c = append_part(out, row.c, wire, replacement)?;
+    Ok(Span { start: 0, a, b, c })
 }
 
 // Puts terms over those of a constraint, if they are no more, or else behind all, and tells where
@@ -171,17 +168,6 @@ fn renumber_terms(terms: &mut [(F, Wire)], numbers: &[u32])
     for term in terms.iter_mut() {
         term.1 = Wire(number_of(numbers, term.1));
     }
-}
-
-// Gives each wire of the terms of a constraint the number at its place.
-fn renumber_span(terms: &mut Vec<(F, Wire)>, span: &Span, numbers: &[u32])
-    requires { end_of span.now ≤ length terms.old.items }
-    ensures { terms.new.items ≡ laid span.now.start
-        (moved numbers.now (slice_range terms.old.items span.now.start (end_of span.now)))
-        terms.old.items }
-{
-    let end = span.start + span.size();
-    renumber_terms(&mut terms[span.start..end], numbers);
 }
 
 /// The constraints of a pass, each of normal combinations, or dropped.
@@ -237,10 +223,8 @@ impl Rows {
         requires { at < length self.now }
         ensures { result ≡ slice_index_or self.now at None }
     {
-        match self.spans[at] {
-            Some(span) => Some(span.row(&self.terms)),
-            None => None,
-        }
+        let span = self.spans[at]?;
+        Some(span.row(&self.terms))
     }
 
     /// Drops the constraint at a place.
@@ -295,71 +279,82 @@ impl Rows {
         ensures { IfOk result (λ rows. rows ≡ self.now) }
     {
         let mut rows = Rows::new(self.alloc);
-        for at in 0..self.spans.len() {
-            rows.push(&self.spans[at], &self.terms)?;
+        for span in &self.spans {
+            rows.push(span, &self.terms)?;
         }
         Ok(rows)
     }
 
     /// Leaves out the terms that no constraint has any more, once there may be more of them than of
-    /// the others: so there are at most twice as many terms as the constraints had together, and
-    /// those that were appended since the call before.
+    /// the others, or than there are constraints: so there are at most twice as many terms as the
+    /// constraints had together, or as there are constraints, and those that were appended since
+    /// the call before.
     pub(crate) fn tidy(&mut self) -> Result<(), AllocError>
         ensures { OnOk result (self.new ≡ self.old) }
     {
-        if self.terms.len() / 2 > self.wanted {
+        if self.terms.len() / 2 > self.wanted.max(self.spans.len()) {
             let rows = self.compacted()?;
             *self = rows;
         }
         Ok(())
     }
 
-    /// Puts `r` in place of a wire in the constraint at a place, and tells whether the wire stood
-    /// there; `out` is for its use.
+    /// Whether the constraint at a place keeps to its most terms with `replacement` in place of a
+    /// wire, as one does that was dropped, is to be dropped, or isn't there; `scratch` is for its
+    /// use.
+    pub(crate) fn other_fits(
+        &self,
+        but: usize,
+        at: u32,
+        scratch: &mut Vec<(F, Wire)>,
+        wire: Wire,
+        replacement: &[(F, Wire)],
+    ) -> Result<bool, AllocError>
+        requires normal { AreNormal self.now }
+        requires by { IsNormalFrom 0 replacement.now }
+        ensures { IfOk result (λ answer. answer ≡ row_fits wire replacement.now
+            (slice_index_or (slice_set self.now but None) at None)) }
+    {
+        let at = at as usize;
+        if at == but || at >= self.len() {
+            return Ok(true);
+        }
+        match self.get(at) {
+            Some(row) => row.fits(scratch, wire, replacement),
+            None => Ok(true),
+        }
+    }
+
+    /// Puts `replacement` in place of a wire in the constraint at a place, unless it was dropped;
+    /// `scratch` is for its use.
     pub(crate) fn replace(
         &mut self,
         at: usize,
-        out: &mut Vec<(F, Wire)>,
+        scratch: &mut Vec<(F, Wire)>,
         wire: Wire,
-        r: &[(F, Wire)],
-    ) -> Result<bool, AllocError>
+        replacement: &[(F, Wire)],
+    ) -> Result<(), AllocError>
         requires inside { at < length self.old }
         requires normal { RowIsNormal (slice_index_or self.old at None) }
-        requires by { IsNormalFrom 0 r.now }
-        requires fits { row_fits wire r.now (slice_index_or self.old at None) ≡ true }
-        ensures rows { OnOk result (self.new ≡ slice_set self.old at
-            (option_map (replaced_in wire r.now) (slice_index_or self.old at None))) }
-        ensures has { IfOk result (λ has. has ≡ row_has wire (slice_index_or self.old at None)) }
+        requires by { IsNormalFrom 0 replacement.now }
+        requires fits { row_fits wire replacement.now (slice_index_or self.old at None) ≡ true }
+        ensures { OnOk result (self.new ≡ slice_set self.old at
+            (option_map (replaced_in wire replacement.now) (slice_index_or self.old at None))) }
     {
         let Some(span) = self.spans[at] else {
-            return Ok(false);
+            return Ok(());
         };
         let row = span.row(&self.terms);
-        let Some(made) = put_replaced(out, &row, wire, r)? else {
-            return Ok(false);
-        };
-        let start = lay(&mut self.terms, &span, out)?;
+        let made = put_replaced(scratch, &row, wire, replacement)?;
+        let start = lay(&mut self.terms, &span, scratch)?;
         self.spans[at] = Some(Span { start, ..made });
-        Ok(true)
-    }
-
-    // Gives each wire of the constraint at a place the number at its place.
-    fn renumber_row(&mut self, at: usize, numbers: &[u32])
-        requires { at < length self.old }
-        ensures { self.new ≡ slice_set self.old at
-            (option_map (moved_in numbers.now) (slice_index_or self.old at None)) }
-    {
-        if let Some(span) = self.spans[at] {
-            renumber_span(&mut self.terms, &span, numbers);
-        }
+        Ok(())
     }
 
     /// Gives each wire of the constraints the number at its place.
     pub(crate) fn renumber(&mut self, numbers: &[u32])
         ensures { self.new ≡ moved_rows numbers.now self.old }
     {
-        for at in 0..self.len() {
-            self.renumber_row(at, numbers);
-        }
+        renumber_terms(&mut self.terms, numbers);
     }
 }

@@ -3,8 +3,8 @@ ghost use Rattle.tv_container.specs.Reading.{Known, IsMissing};
 ghost use Rattle.tv_shrink.specs.Answers.{Halted, HaltsBy, IsOfSize, Shrinks, Tells, TellsRead};
 ghost use Rattle.tv_shrink.specs.declared.fault.ShrinkFault.{ShrinkFault};
 
-use crate::begun::read;
 use crate::fault::ShrinkFault;
+use crate::reading::read;
 use crate::shrunk::{Shrunk, settle};
 use std::alloc::Global;
 use tv_files::Files;
@@ -41,10 +41,17 @@ fn first_fault<D: Files>(
 /// only where a read failed, and a missing name is such a fault.
 ///
 /// Reads the file once, and a refused one for its terms or a combination twice: such a refusal
-/// comes only after memory was taken for the constraints before, of at most 4,194,304 terms. A
-/// replacement costs as much as the constraints that it changes have terms, and a turn that is
-/// given up as much as those that it looks at, up to one that would have too many; the wire's next
-/// turn looks at that one first.
+/// comes only after memory was taken for the constraints before, of at most 4,194,304 terms.
+///
+/// Memory is taken for the constraints as the pass makes them, which may be longer than those that
+/// were read, up to 128 terms a combination: 16 bytes for a term, 24 for a constraint, 8 for each
+/// private wire of one, and 13 for a wire. What replacements leave behind is cleared away after the
+/// turn with which there may be more of it than of the rest, or than of constraints and wires.
+///
+/// A replacement costs as much as the constraints that it changes have terms, and a search in each
+/// of them for each term that takes the wire's place. A turn that is given up costs as much as the
+/// constraints that it looks at, up to one that would have too many terms; the wire's next turn
+/// looks at that one first.
 pub fn shrink<D: Files>(alloc: Global, files: &mut D, name: &str) -> Result<Shrunk, ShrinkFault>
     ensures gives { Known (D.seen files.old) name.now (λ file. MatchResult result
         (λ shrunk. Shrinks shrunk file) (λ fault. Tells fault file)) }
@@ -52,10 +59,7 @@ pub fn shrink<D: Files>(alloc: Global, files: &mut D, name: &str) -> Result<Shru
     ensures missing { IsMissing (D.seen files.old) name.now → result ≡ Err ShrinkFault.Fault }
 {
     match read(alloc, files, name) {
-        Ok(begun) => {
-            let shrunk = settle(alloc, begun)?;
-            Ok(shrunk)
-        }
+        Ok(begun) => Ok(settle(alloc, begun)?),
         Err(fault) if fault.is_of_size() => Err(first_fault(alloc, files, name, fault)),
         Err(fault) => Err(fault),
     }

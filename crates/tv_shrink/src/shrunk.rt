@@ -3,8 +3,8 @@ ghost use Rattle.tv_core.specs.Constraints.{Constraint};
 ghost use Rattle.tv_shrink.specs.Answers.{counted_system, start_rows, IsReady};
 ghost use Rattle.tv_shrink.specs.Shrinking.{shrink};
 
-use crate::begun::Begun;
 use crate::numbers::label;
+use crate::reading::Begun;
 use crate::rows::Rows;
 use std::alloc::{AllocError, Global};
 use std::marker::Model;
@@ -50,20 +50,20 @@ impl Model for Shrunk {
 /// What is left once the pass has run, its wires numbered anew.
 pub(crate) fn settle(alloc: Global, begun: Begun) -> Result<Shrunk, AllocError>
     requires { IsReady begun.counts begun.pass.publics begun.pass.rows begun.pass.gone.items
-        begun.pass.places }
+        begun.pass.occurrences }
     ensures { IfOk result (λ shrunk. (list : List Constraint) → begun.pass.rows
         ≡ start_rows list → shrunk ≡ shrink (counted_system begun.counts list)) }
 {
     let Begun { mut pass, counts } = begun;
     pass.run()?;
-    let numbers = label(alloc, &pass.gone)?;
+    let labels = label(alloc, &pass.gone)?;
     let mut rows = pass.rows;
-    rows.renumber(&numbers.places);
+    rows.renumber(&labels.numbers);
     Ok(Shrunk {
         outputs: counts.outputs,
         inputs: counts.inputs,
         wires: counts.wires,
-        labels: numbers.labels,
+        labels: labels.labels,
         rows,
     })
 }

@@ -14,14 +14,14 @@ loop-wire-preserved c =
       | then-not-gone-wire+in_ok-push-2 w ↦ record {
         labels = ap (λ v. v.items) w.labels-is ∙ w.in_ok-push-2.ensures.items ∙ kept_one c.loop-wire.wire c.args.gone.now c.loop-wire.labels.items c.loop-wire.invariant.labels w.if-not-gone-wire.true;
         len = len;
-        places = λ v h. ap (λ xs. get_or xs v 0) c.in_ok-push.ensures.items
-            ∙ places_more (λ u. length (kept_below u c.args.gone.now)) c.loop-wire.places.items c.loop-wire.wire v c.len.result c.loop-wire.invariant.len c.loop-wire.invariant.places k h;
+        numbers = λ v h. ap (λ xs. get_or xs v 0) c.in_ok-push.ensures.items
+            ∙ places_more (λ u. length (kept_below u c.args.gone.now)) c.loop-wire.numbers.items c.loop-wire.wire v c.len.result c.loop-wire.invariant.len c.loop-wire.invariant.numbers k h;
       }
       | else-not-gone-wire w ↦ record {
         labels = ap (λ v. v.items) w.labels-is ∙ kept_none c.loop-wire.wire c.args.gone.now c.loop-wire.labels.items c.loop-wire.invariant.labels w.if-not-gone-wire.false;
         len = len;
-        places = λ v h. ap (λ xs. get_or xs v 0) c.in_ok-push.ensures.items
-            ∙ places_more (λ u. length (kept_below u c.args.gone.now)) c.loop-wire.places.items c.loop-wire.wire v c.len.result c.loop-wire.invariant.len c.loop-wire.invariant.places k h;
+        numbers = λ v h. ap (λ xs. get_or xs v 0) c.in_ok-push.ensures.items
+            ∙ places_more (λ u. length (kept_below u c.args.gone.now)) c.loop-wire.numbers.items c.loop-wire.wire v c.len.result c.loop-wire.invariant.len c.loop-wire.invariant.numbers k h;
       }
     ]
 
@@ -30,6 +30,6 @@ returns-clause-labels c =
     let all : c.loop-wire.wire ≡ length c.args.gone.now = omega arith in
     c.loop-wire.invariant.labels ∙ ap (λ n. kept_below n c.args.gone.now) all ∙ sym (kept_is (length c.args.gone.now) c.args.gone.now)
 
-pub returns-clause-places : goal.returns-clause-places
-returns-clause-places c =
-    λ w inside stays. c.loop-wire.invariant.places w (omega arith) ∙ sym (place_is (length c.args.gone.now) w c.args.gone.now inside stays)
+pub returns-clause-numbers : goal.returns-clause-numbers
+returns-clause-numbers c =
+    λ w inside stays. c.loop-wire.invariant.numbers w (omega arith) ∙ sym (place_is (length c.args.gone.now) w c.args.gone.now inside stays)

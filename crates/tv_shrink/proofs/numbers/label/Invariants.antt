@@ -5,6 +5,6 @@ use Rattle.tv_shrink.proofs.numbers.label.Given as goal
 abbrev pub invariant-loop-wire : goal.invariant-loop-wire
 invariant-loop-wire l = record {
   labels : l.labels.items ≡ kept_below l.wire l.gone;
-  len : length l.places.items ≡ l.wire;
-  places : (v : ℕ) → v < l.wire → get_or l.places.items v 0 ≡ length (kept_below v l.gone);
+  len : length l.numbers.items ≡ l.wire;
+  numbers : (v : ℕ) → v < l.wire → get_or l.numbers.items v 0 ≡ length (kept_below v l.gone);
 }

@@ -1,15 +1,25 @@
-use Rattle.std.proofs.Common.{◌++◌, sym, ◌∙◌, ap, refl}
-use Rattle.tv_shrink.specs.Replacing.{coefficient, has_wire}
+use Rattle.std.proofs.Common.{◌≡◌, ◌++◌, Result, Ok, Err, OnOk, cond, is_ok, sym, ◌∙◌, ap, ap₂}
+use Rattle.std.proofs.lemmas.Result.{on_ok_weaker}
+use Rattle.tv_core.specs.Combinations.{scaled}
+use Rattle.tv_shrink.specs.Normal.{normal}
+use Rattle.tv_shrink.specs.Replacing.{coefficient, has_wire, without}
 use Rattle.tv_shrink.proofs.Linear.{lacks_by, replaced-made, replaced-lacking}
 use Rattle.tv_shrink.proofs.row.append_replaced.Goals as goal
 
-pub returns-in_default-clause-out : goal.returns-in_default-clause-out
-returns-in_default-clause-out c =
-    c.in_ok-extend_from_slice.ensures.items
-    ∙ ap (λ u. c.args.out.now.items ++ u)
-    (sym (replaced-lacking c.args.wire c.args.r.now c.args.terms.now (sym (lacks_by (has_wire c.args.wire c.args.terms.now) (coefficient c.args.wire c.args.terms.now) (sym c.in_default.is ∙ c.coefficient_of.ensures)))))
+on_ok_if : {T E : Type 0} {A : Type 0} (r : Result T E) (x y z : A) → x ≡ cond (is_ok r) y z → OnOk r (x ≡ y)
+on_ok_if (Ok t) x y z e = e
+on_ok_if (Err t) x y z e = tt
 
-pub returns-clause-out : goal.returns-clause-out
-returns-clause-out c =
-    c.in_ok-merge.ensures
-    ∙ ap (λ u. c.args.out.now.items ++ u) (replaced-made c.args.wire c.in-Some.coefficient c.args.r.now c.args.terms.now _ c.requires.normal (sym c.in-Some.is ∙ c.coefficient_of.ensures) refl)
+pub returns-in_default : goal.returns-in_default
+returns-in_default c =
+    on_ok_weaker c.extend_from_slice.result (λ items. items
+    ∙ ap (λ u. c.args.out.now.items ++ u)
+    (sym (replaced-lacking c.args.wire c.args.replacement.now c.args.terms.now (sym (lacks_by (has_wire c.args.wire c.args.terms.now) (coefficient c.args.wire c.args.terms.now) (sym c.in_default.is ∙ c.coefficient_of.ensures))))))
+    (on_ok_if c.extend_from_slice.result _ _ _ c.extend_from_slice.ensures.items)
+
+pub returns : goal.returns
+returns c =
+    on_ok_weaker c.merge.result (λ merged. merged
+    ∙ ap (λ u. c.args.out.now.items ++ u)
+    (replaced-made c.args.wire c.in-Some.coefficient c.args.replacement.now c.args.terms.now _ c.requires.normal (sym c.in-Some.is ∙ c.coefficient_of.ensures)
+    (ap₂ (λ k r. normal (scaled 1 (without c.args.wire c.args.terms.now) ++ scaled k r)) c.whole-by.ensures.factor c.whole-by.ensures.terms))) c.merge.ensures

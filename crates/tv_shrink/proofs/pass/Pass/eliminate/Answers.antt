@@ -17,11 +17,11 @@ returns-in-Some-clause-pass c =
 pub substitute-requires-clause-fit : goal.substitute-requires-clause-fit
 substitute-requires-clause-fit c =
     let fit = rw c.deref.ensures.value at c.in_ok-misfit.ensures.none (ap Ok c.in_default.is) in
-    rw c.remove.ensures (all-fit-there c.args.wire c.args.at c.args.self.now.solved.items c.args.self.now.publics c.args.self.now.rows c.args.self.now.gone.items c.args.self.now.places c.requires.kept c.requires.private fit)
+    rw c.remove.ensures (all-fit-there c.args.wire c.args.at c.args.self.now.solved.items c.args.self.now.publics c.args.self.now.rows c.args.self.now.gone.items c.args.self.now.occurrences c.requires.kept c.requires.private fit)
 
 pub returns-clause-pass : goal.returns-clause-pass
 returns-clause-pass c =
     let fit = rw c.deref.ensures.value at c.in_ok-misfit.ensures.none (ap Ok c.in_default.is) in
     on_ok_both c.substitute.result (λ rows gone. ap₂ pass_of (rows ∙ ap (all_replaced c.args.wire c.args.self.now.solved.items) c.remove.ensures) gone
     ∙ sym (attempted-all c.args.wire c.args.at c.args.self.now.solved.items c.args.self.now.rows c.args.self.now.gone.items true
-    (sym (all-fit-there c.args.wire c.args.at c.args.self.now.solved.items c.args.self.now.publics c.args.self.now.rows c.args.self.now.gone.items c.args.self.now.places c.requires.kept c.requires.private fit)) refl)) c.substitute.ensures.rows c.substitute.ensures.gone
+    (sym (all-fit-there c.args.wire c.args.at c.args.self.now.solved.items c.args.self.now.publics c.args.self.now.rows c.args.self.now.gone.items c.args.self.now.occurrences c.requires.kept c.requires.private fit)) refl)) c.substitute.ensures.rows c.substitute.ensures.gone

@@ -3,5 +3,5 @@ use Rattle.std.specs.Option.{option_map}
 use Rattle.tv_shrink.specs.Spans.{row_at}
 use Rattle.tv_shrink.proofs.rows.Rows.compacted.Given as goal
 
-abbrev pub invariant-loop-at : goal.invariant-loop-at
-invariant-loop-at l = l.rows ≡ map (option_map (row_at l.self-inside.terms.items)) (take l.at l.self-inside.spans.items)
+abbrev pub invariant-loop-span : goal.invariant-loop-span
+invariant-loop-span l = l.rows ≡ map (option_map (row_at l.self-inside.terms.items)) (take l.span-index l.self-inside.spans.items)

@@ -1,0 +1,15 @@
+use Rattle.std.proofs.Common.{◌≡◌, ◌⊎◌, ◌≤◌, ℕ, true, None, eqb, get_or, set, length, reverse}
+use Rattle.std.specs.List.{list_any}
+use Rattle.tv_shrink.specs.Passing.{row_fits}
+use Rattle.tv_shrink.specs.Occurring.{rows_from}
+use Rattle.tv_shrink.proofs.occurrences.Occurrences.misfit.Given as goal
+
+abbrev pub invariant-loop-number : goal.invariant-loop-number
+invariant-loop-number l = record {
+  inside : l.number ≤ length l.self-inside.entries.items;
+  seen : (i : ℕ) → list_any (λ p. eqb p i) (rows_from (reverse l.self-inside.entries.items) l.initial.number) ≡ true
+      → (row_fits l.wire l.replacement (get_or (set l.rows l.but None) i None) ≡ true) ⊎ (list_any (λ p. eqb p i) (rows_from (reverse l.self-inside.entries.items) l.number) ≡ true);
+}
+
+abbrev pub decreases-loop-number : goal.decreases-loop-number
+decreases-loop-number l = l.number

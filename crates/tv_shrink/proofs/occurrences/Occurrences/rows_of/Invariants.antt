@@ -1,0 +1,12 @@
+use Rattle.std.proofs.Common.{◌≡◌, ◌≤◌, ◌++◌, length, reverse}
+use Rattle.tv_shrink.specs.Occurring.{rows_from}
+use Rattle.tv_shrink.proofs.occurrences.Occurrences.rows_of.Given as goal
+
+abbrev pub invariant-loop-number : goal.invariant-loop-number
+invariant-loop-number l = record {
+  inside : l.number ≤ length l.self-inside.entries.items;
+  so_far : l.rows.items ++ rows_from (reverse l.self-inside.entries.items) l.number ≡ rows_from (reverse l.self-inside.entries.items) l.initial.number;
+}
+
+abbrev pub decreases-loop-number : goal.decreases-loop-number
+decreases-loop-number l = l.number
