@@ -13,6 +13,7 @@ pub mod Read
 pub mod ReplacingLaws
 pub mod Settling
 pub mod Solutions
+pub mod Sorting
 pub mod Spans
 pub mod Unique
 pub mod Whole

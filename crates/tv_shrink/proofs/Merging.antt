@@ -119,7 +119,7 @@ pub normal-least : (w : ℕ) (x : Combination) → IsNormalFrom 0 x → w ≤ fi
 normal-least w [] n h = tt
 normal-least w (t ∷ x) n h = (h, n.1, n.2, n.3)
 
-with_term-front : (k w : ℕ) (x : Combination) → with_term (k % P) w [] ++ x ≡ with_term k w x
+pub with_term-front : (k w : ℕ) (x : Combination) → with_term (k % P) w [] ++ x ≡ with_term k w x
 unfolding with_term
 with_term-front k w x =
     let twice : k % P % P ≡ k % P = omega arith in

@@ -1,5 +1,5 @@
 -- Terms that were read, made normal.
-use Rattle.std.proofs.Common.{◌≡◌, ◌⊎◌, ℕ, zero, suc, ◌+◌, ◌%◌, ◌<◌, ◌≤◌, Bool, not, ◌||◌, List, [], ◌∷◌, ◌++◌, Option, Some, None, refl, sym, ◌∙◌, ap, ap₂, subst, arith, eqb, ltb, ne_eqb, true, false, inl, inr, cond, map, length, get_or, drop, take, add-one, drop-cons, mod-eq_of_lt, eqb-true, eq-eqb, append-nil, set}
+use Rattle.std.proofs.Common.{◌≡◌, ◌⊎◌, ℕ, zero, suc, ◌+◌, ◌<◌, ◌≤◌, ◌||◌, List, [], ◌∷◌, ◌++◌, Option, Some, None, refl, sym, ◌∙◌, ap, ap₂, subst, arith, eqb, ltb, true, false, inl, inr, cond, map, length, get_or, drop, take, add-one, drop-cons, set}
 use Rattle.std.proofs.Common.{Result, Ok, Err}
 use Rattle.std.specs.List.{AllByRecursion, All, list_any, sum_by}
 use Rattle.tv_container.specs.Places.{Fault, ◌>>=◌, wrong}
@@ -12,27 +12,24 @@ use Rattle.tv_r1cs_read.specs.Progress.{Reached, ahead}
 use Rattle.tv_r1cs_read.specs.R1cs.{system_of}
 use Rattle.tv_shrink.specs.declared.fault.ShrinkFault.{ShrinkFault}
 use Rattle.tv_shrink.specs.declared.fault.ShrinkFault.TheVariants as fault
-use Rattle.std.proofs.lemmas.List.{map_push, take_more}
+use Rattle.std.proofs.lemmas.List.{map_push}
 use Rattle.std.proofs.lemmas.List.Sums.{sum_by-append}
 use Rattle.std.proofs.lemmas.Bool.{cases_Bool, ltb-false, or_cases}
-use Rattle.std.proofs.lemmas.List.Elements.{All-more, filter-append, recursion_from_All}
-use Rattle.tv_core.proofs.CombinationLaws.{value-append}
+use Rattle.std.proofs.lemmas.List.Elements.{recursion_from_All}
 use Rattle.tv_container.specs.declared.why.ReadWhy.{ReadWhy}
-use Rattle.tv_core.specs.Combinations.{scaled, top}
+use Rattle.tv_core.specs.Combinations.{top}
 use Rattle.tv_core.specs.declared.lines.Counts.{Counts}
 use Rattle.tv_r1cs_read.specs.Survey.{survey_of, system_counts, terms_of}
-use Rattle.tv_core.specs.Constraints.{Combination, Constraint, System, value}
+use Rattle.tv_core.specs.Constraints.{Combination, Constraint, System}
 use Rattle.tv_core.specs.declared.field.TheConstants.{P}
 use Rattle.tv_r1cs_read.specs.Rows.{combination_of, constraint_of, IsOver}
 use Rattle.tv_r1cs_read.specs.declared.rows.Row.{Row}
 use Rattle.tv_shrink.specs.Answers.{first_number, first_wide, read_fault, start_rows, wide, wide_in, all_terms, most, Halted, IsTooWide, Tells, TellsRead}
-use Rattle.tv_shrink.specs.Normal.{added, non_zero, normal, normal_constraint, IsNormalFrom, with_term}
-use Rattle.tv_shrink.proofs.NormalLaws.{Over, Over-normal, value-normal, IsNormalFrom-normal}
-use Rattle.tv_shrink.proofs.Unique.{same_values, normal-same}
+use Rattle.tv_shrink.specs.Normal.{normal, normal_constraint, IsNormalFrom}
+use Rattle.tv_shrink.proofs.NormalLaws.{Over, Over-normal, IsNormalFrom-normal}
 use Rattle.tv_shrink.specs.Replacing.{has_wire}
 use Rattle.tv_shrink.specs.Tidy.{row_has, AreNormal, Covers, IsWithin, RowIsNormal, RowIsWithin}
 use Rattle.tv_shrink.proofs.ReplacingLaws.{Over-has_wire}
-use Rattle.tv_shrink.proofs.Constants.{scaled_once}
 
 -- one more term before a normal combination
 pub normal_before : (least i : ℕ) (t : ℕ × ℕ) (terms : List (ℕ × ℕ)) → i < length terms → t ≡ get_or terms i t → least ≤ t.0 → 0 < t.1 → t.1 < P →
@@ -40,59 +37,6 @@ pub normal_before : (least i : ℕ) (t : ℕ × ℕ) (terms : List (ℕ × ℕ))
 normal_before least i t terms h at above some small behind =
     let split : drop i terms ≡ t ∷ drop (i + 1) terms = drop-cons terms i t h ∙ ap₂ (λ u rest. u ∷ rest) (sym at) (ap (λ k. drop k terms) (sym (add-one i))) in
     subst (λ xs. IsNormalFrom least (combination_of xs)) (sym split) (above, some, small, behind)
-
--- a normal combination has no zeros
-pub non_zero-normal : (least : ℕ) (x : Combination) → IsNormalFrom least x → non_zero x ≡ x
-non_zero-normal least [] n = refl
-non_zero-normal least (t ∷ x) n =
-    ap (λ b. cond (not b) (t ∷ non_zero x) (non_zero x)) (ne_eqb t.0 0 (λ e. absurd (omega (arith, n.1)))) ∙ ap (λ rest. t ∷ rest) (non_zero-normal (t.1 + 1) x n.3)
-
-pub normal_already : (x : Combination) → IsNormalFrom 0 x → non_zero x ≡ normal x
-normal_already x n = non_zero-normal 0 x n ∙ sym (normal-same x n)
-
--- one term, or none
-one_term : (t : ℕ × ℕ) (b : Bool) → eqb t.0 0 ≡ b → t.0 < P → cond (not b) (t ∷ []) [] ≡ with_term t.0 t.1 []
-unfolding with_term
-one_term t true e small = let same : t.0 % P ≡ 0 = ap (λ n. n % P) (eqb-true t.0 0 e) in ap (λ b. cond b [] ((t.0 % P, t.1) ∷ [])) (sym (eq-eqb (t.0 % P) 0 same))
-one_term t false e small =
-    let same : t.0 % P ≡ t.0 = mod-eq_of_lt small in
-    ap (λ n. (n, t.1) ∷ []) (sym same) ∙ sym (ap (λ n. cond (eqb n 0) [] ((t.0 % P, t.1) ∷ [])) same ∙ ap (λ b. cond b [] ((t.0 % P, t.1) ∷ [])) e)
-
-pub normal_few : (terms : List (ℕ × ℕ)) → All (λ t. t.1 < P) terms → length terms < 2 → non_zero (combination_of terms) ≡ normal (combination_of terms)
-unfolding normal added
-normal_few [] small h = refl
-normal_few (t ∷ []) small h = one_term (t.1, t.0) (eqb t.1 0) refl (small 0 t (omega arith))
-normal_few (t ∷ u ∷ terms) small h = absurd (omega arith)
-
--- the sum of two halves
-pub normal_halves : (x y front back : Combination) → x ≡ normal front → y ≡ normal back → normal (scaled 1 x ++ scaled 1 y) ≡ normal (front ++ back)
-normal_halves x y front back e f =
-    same_values 0 0 (normal (scaled 1 x ++ scaled 1 y)) (normal (front ++ back)) (IsNormalFrom-normal (scaled 1 x ++ scaled 1 y)) (IsNormalFrom-normal (front ++ back)) (λ z.
-    value-normal z (scaled 1 x ++ scaled 1 y)
-    ∙ value-append (scaled 1 x) (scaled 1 y) z
-    ∙ ap₂ (λ u v. (value u z + value v z) % P)
-    (ap (scaled 1) e ∙ scaled_once 0 (normal front) (IsNormalFrom-normal front)) (ap (scaled 1) f ∙ scaled_once 0 (normal back) (IsNormalFrom-normal back))
-    ∙ ap₂ (λ m n. (m + n) % P) (value-normal z front) (value-normal z back)
-    ∙ sym (value-append front back z)
-    ∙ sym (value-normal z (front ++ back)))
-
--- one more term copied, or left out
-module _ (terms : List (ℕ × ℕ)) (i : ℕ) (t : ℕ × ℕ) (x : Combination) (h : i < length terms) (at : t ≡ get_or terms i t) (before : x ≡ non_zero (combination_of (take i terms))) where
-  copied : non_zero (combination_of (take (i + 1) terms)) ≡ x ++ cond (not (eqb t.1 0)) ((t.1, t.0) ∷ []) []
-  copied =
-      ap (λ xs. non_zero (combination_of xs)) (take_more terms i t h ∙ ap (λ u. take i terms ++ u ∷ []) (sym at))
-      ∙ ap non_zero (map_push (λ (u : ℕ × ℕ). (u.1, u.0)) (take i terms) t)
-      ∙ filter-append (λ u. not (eqb u.0 0)) (combination_of (take i terms)) ((t.1, t.0) ∷ [])
-      ∙ ap (λ y. y ++ cond (not (eqb t.1 0)) ((t.1, t.0) ∷ []) []) (sym before)
-
-  pub copied_some : (t.1 ≡ 0 → ⊥) → x ++ (t.1, t.0) ∷ [] ≡ non_zero (combination_of (take (i + 1) terms))
-  copied_some apart = sym (copied ∙ ap (λ b. x ++ cond (not b) ((t.1, t.0) ∷ []) []) (ne_eqb t.1 0 apart))
-
-  pub copied_none : t.1 ≡ 0 → x ≡ non_zero (combination_of (take (i + 1) terms))
-  copied_none none = sym (copied ∙ ap (λ b. x ++ cond (not b) ((t.1, t.0) ∷ []) []) (eq-eqb t.1 0 none) ∙ append-nil x)
-
-pub small_more : (terms : List (ℕ × ℕ)) (i : ℕ) (t : ℕ × ℕ) → i < length terms → t ≡ get_or terms i t → t.1 < P → All (λ u. u.1 < P) (take i terms) → All (λ u. u.1 < P) (take (i + 1) terms)
-small_more terms i t h at small before = All-more (λ u. u.1 < P) terms i t h before (subst (λ u. u.1 < P) at small)
 
 -- the wires of terms that were read
 over_terms : (n : ℕ) (terms : List (ℕ × ℕ)) → AllByRecursion (λ t. t.0 < n) terms → Over (λ v. v < n) (combination_of terms)

@@ -1,6 +1,5 @@
 -- Normal combinations: each wire once, in rising order, with a coefficient other than 0.
-use Rattle.std.specs.Prelude.{ℕ, ◌+◌, ◌%◌, ◌<◌, ◌≤◌, ◌==◌, nat_lt, not, [], ◌∷◌, if◌then◌else◌}
-use Rattle.std.specs.List.{filter}
+use Rattle.std.specs.Prelude.{ℕ, ◌+◌, ◌%◌, ◌<◌, ◌≤◌, ◌==◌, nat_lt, [], ◌∷◌, if◌then◌else◌}
 use Rattle.tv_core.specs.Constraints.{Combination, Constraint}
 use Rattle.tv_core.specs.declared.field.TheConstants.{P}
 
@@ -19,10 +18,6 @@ added t (u ∷ rest) =
 unfoldable pub normal : Combination → Combination
 normal [] = []
 normal (t ∷ rest) = added t (normal rest)
-
--- a combination without its terms of the coefficient 0
-abbrev pub non_zero : Combination → Combination
-non_zero x = filter (λ t. not (t.0 == 0)) x
 
 -- a constraint of such combinations
 abbrev pub normal_constraint : Constraint → Constraint

@@ -1,6 +1,6 @@
 //! Adding multiples of normal combinations.
 
-ghost use Rattle.std.specs.Prelude.{◌≡◌, ◌<◌, ◌+◌, ◌*◌, ◌%◌, [], ◌++◌, length, OnOk, None};
+ghost use Rattle.std.specs.Prelude.{◌≡◌, ◌≤◌, ◌<◌, ◌+◌, ◌*◌, ◌%◌, [], ◌++◌, length, OnOk, None};
 ghost use Rattle.std.specs.Prelude.{min};
 ghost use Rattle.tv_core.specs.Combinations.{scaled};
 ghost use Rattle.tv_core.specs.declared.field.TheConstants.{P};
@@ -77,10 +77,15 @@ impl<'a> Side<'a> {
     }
 }
 
-// Appends a term, unless its coefficient is 0.
+/// Appends a term, unless its coefficient is 0.
 #[tactic(auto, unfolding(crate::specs::Normal::with_term))]
-fn push_term(out: &mut Vec<(F, Wire)>, coefficient: F, wire: Wire) -> Result<(), AllocError>
-    ensures { OnOk result (out.new.items ≡ out.old.items ++ with_term coefficient wire []) }
+pub(crate) fn push_term(
+    out: &mut Vec<(F, Wire)>,
+    coefficient: F,
+    wire: Wire,
+) -> Result<(), AllocError>
+    ensures term { OnOk result (out.new.items ≡ out.old.items ++ with_term coefficient wire []) }
+    ensures longer { length out.old.items ≤ length out.new.items }
 {
     if coefficient != F::ZERO {
         out.push((coefficient, wire))?;

@@ -1,14 +1,13 @@
 //! Combinations made normal.
 
-ghost use Rattle.std.specs.Prelude.{◌≡◌, ◌≤◌, ◌<◌, ◌++◌, length, OnOk, IfOk};
+ghost use Rattle.std.specs.Prelude.{◌≡◌, ◌≤◌, ◌++◌, length, OnOk};
 ghost use Rattle.std.specs.Bool.{OnTrue};
-ghost use Rattle.std.specs.List.{All};
-ghost use Rattle.tv_core.specs.declared.field.TheConstants.{P};
+ghost use Rattle.std.specs.List.Sorted.{IsNonDecreasingBy};
 ghost use Rattle.tv_r1cs_read.specs.Rows.{combination_of};
-ghost use Rattle.tv_shrink.specs.Normal.{non_zero, normal, IsNormalFrom};
+ghost use Rattle.tv_shrink.specs.Normal.{normal, IsNormalFrom};
 
-use crate::merge::{Side, merge};
-use std::alloc::{AllocError, Global};
+use crate::merge::push_term;
+use std::alloc::AllocError;
 use tv_core::{F, Wire};
 
 // Whether the terms are those of a normal combination.
@@ -25,45 +24,6 @@ fn is_normal(terms: &[(u32, F)]) -> bool
     true
 }
 
-// The terms, those with the coefficient 0 left out.
-fn without_zeros(alloc: Global, terms: &[(u32, F)]) -> Result<Vec<(F, Wire)>, AllocError>
-    ensures value { IfOk result (λ x. x.items ≡ non_zero (combination_of terms.now)) }
-    ensures below { OnOk result (All (λ t. t.1 < P) terms.now) }
-{
-    let mut x = Vec::with_capacity(alloc, terms.len())?;
-    for (wire, coefficient) in terms {
-        if coefficient.number() != 0 {
-            x.push((*coefficient, Wire(*wire)))?;
-        }
-    }
-    Ok(x)
-}
-
-// The combination that terms make, made normal. Costs as much as a sort.
-fn normalized(alloc: Global, terms: &[(u32, F)]) -> Result<Vec<(F, Wire)>, AllocError>
-    ensures { IfOk result (λ x. x.items ≡ normal (combination_of terms.now)) }
-{
-    if terms.len() < 2 || is_normal(terms) {
-        return without_zeros(alloc, terms);
-    }
-    let (front, back) = terms.split_at(terms.len() / 2);
-    let x = normalized(alloc, front)?;
-    let y = normalized(alloc, back)?;
-    let mut sum = Vec::with_capacity(alloc, x.len() + y.len())?;
-    let mut left = Side {
-        terms: &x,
-        factor: F::ONE,
-        leaving: None,
-    };
-    let mut right = Side {
-        terms: &y,
-        factor: F::ONE,
-        leaving: None,
-    };
-    merge(&mut sum, &mut left, &mut right)?;
-    Ok(sum)
-}
-
 // Appends the combination that terms make.
 fn append(out: &mut Vec<(F, Wire)>, terms: &[(u32, F)]) -> Result<(), AllocError>
     ensures out { OnOk result (out.new.items ≡ out.old.items ++ combination_of terms.now) }
@@ -75,11 +35,29 @@ fn append(out: &mut Vec<(F, Wire)>, terms: &[(u32, F)]) -> Result<(), AllocError
     Ok(())
 }
 
-/// Appends the combination that terms make, made normal.
+// Appends a combination whose wires don't fall, made normal.
+fn append_sums(out: &mut Vec<(F, Wire)>, terms: &[(F, Wire)]) -> Result<(), AllocError>
+    requires { IsNonDecreasingBy (λ t. t.1) terms.now }
+    ensures out { OnOk result (out.new.items ≡ out.old.items ++ normal terms.now) }
+    ensures longer { length out.old.items ≤ length out.new.items }
+{
+    let mut sum = F::ZERO;
+    for at in 0..terms.len() {
+        let (coefficient, wire) = terms[at];
+        sum = sum + coefficient;
+        if at + 1 == terms.len() || terms[at + 1].1 != wire {
+            push_term(out, sum, wire)?;
+            sum = F::ZERO;
+        }
+    }
+    Ok(())
+}
+
+/// Appends the combination that terms make, made normal; `scratch` is for its use.
 ///
 /// Costs two looks at them where they are normal already, and else as much as a sort.
 pub(crate) fn append_normal(
-    alloc: Global,
+    scratch: &mut Vec<(F, Wire)>,
     out: &mut Vec<(F, Wire)>,
     terms: &[(u32, F)],
 ) -> Result<(), AllocError>
@@ -89,6 +67,8 @@ pub(crate) fn append_normal(
     if is_normal(terms) {
         return append(out, terms);
     }
-    let made = normalized(alloc, terms)?;
-    out.extend_from_slice(&made)
+    scratch.clear();
+    append(scratch, terms)?;
+    scratch.sort_unstable_by_key(|(_, wire)| wire.0);
+    append_sums(out, scratch)
 }

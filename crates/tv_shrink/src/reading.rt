@@ -62,7 +62,7 @@ impl Pass {
         ensures err { IfErr result (λ fault. IsTooWide fault (wide_in (constraint_of row.now))) }
     {
         let at = self.rows.len();
-        self.rows.add(row)?;
+        self.rows.add(row, &mut self.scratch)?;
         self.occurrences
             .file_row(at as u32, &self.rows.get(at), self.publics)?;
         Ok(())

@@ -56,9 +56,9 @@ impl Span {
 }
 
 // Appends the combination that terms make, made normal, and tells how many terms it has; refused
-// where it has more than 128 then.
+// where it has more than 128 then; `scratch` is for its use.
 fn append_narrow(
-    alloc: Global,
+    scratch: &mut Vec<(F, Wire)>,
     out: &mut Vec<(F, Wire)>,
     terms: &[(u32, F)],
 ) -> Result<u8, ShrinkFault>
@@ -71,7 +71,7 @@ fn append_narrow(
     ensures err { IfErr result (λ fault. IsTooWide fault (wide (combination_of terms.now))) }
 {
     let start = out.len();
-    append_normal(alloc, out, terms)?;
+    append_normal(scratch, out, terms)?;
     let has = out.len() - start;
     if has > TERMS {
         return Err(ShrinkFault::Combination { has: has as u64 });
@@ -236,17 +236,21 @@ impl Rows {
     }
 
     /// Appends a constraint that was read, made normal; refused where a combination has more than
-    /// 128 terms then.
-    pub(crate) fn add(&mut self, row: &tv_r1cs_read::Row) -> Result<(), ShrinkFault>
+    /// 128 terms then. `scratch` is for its use.
+    pub(crate) fn add(
+        &mut self,
+        row: &tv_r1cs_read::Row,
+        scratch: &mut Vec<(F, Wire)>,
+    ) -> Result<(), ShrinkFault>
         ensures rows { OnOk result (self.new ≡ self.old
             ++ Some (normal_constraint (constraint_of row.now)) ∷ []) }
         ensures narrow { OnOk result (wide_in (constraint_of row.now) ≡ None) }
         ensures err { IfErr result (λ fault. IsTooWide fault (wide_in (constraint_of row.now))) }
     {
         let start = self.terms.len();
-        let a = append_narrow(self.alloc, &mut self.terms, row.a.as_slice())?;
-        let b = append_narrow(self.alloc, &mut self.terms, row.b.as_slice())?;
-        let c = append_narrow(self.alloc, &mut self.terms, row.c.as_slice())?;
+        let a = append_narrow(scratch, &mut self.terms, row.a.as_slice())?;
+        let b = append_narrow(scratch, &mut self.terms, row.b.as_slice())?;
+        let c = append_narrow(scratch, &mut self.terms, row.c.as_slice())?;
         self.spans.push(Some(Span { start, a, b, c }))?;
         self.wanted = self.terms.len();
         Ok(())

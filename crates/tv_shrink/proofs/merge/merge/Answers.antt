@@ -22,7 +22,7 @@ loop-left-preserved c =
       right = subst (IsNormalFrom 0) (sym c.take_least-coefficient.ensures.right) (normal-rest wire c.loop-left.right.terms.now c.loop-left.invariant.right g);
       all = c.take_least-coefficient.ensures.right_leaving ∙ c.loop-left.invariant.all;
       whole =
-          simp (c.in_ok-push_term.ensures, c.take_least-coefficient.ensures.left_factor, c.take_least-coefficient.ensures.left_leaving, c.take_least-coefficient.ensures.left, c.take_least-coefficient.ensures.right_factor, c.take_least-coefficient.ensures.right)
+          simp (c.in_ok-push_term.ensures.term, c.take_least-coefficient.ensures.left_factor, c.take_least-coefficient.ensures.left_leaving, c.take_least-coefficient.ensures.left, c.take_least-coefficient.ensures.right_factor, c.take_least-coefficient.ensures.right)
           (merge-turn c.loop-left.out.items _ c.loop-left.left.factor c.loop-left.right.factor wire c.take_least-coefficient.result.0 c.loop-left.left.leaving c.loop-left.left.terms.now c.loop-left.right.terms.now
           c.loop-left.invariant.left c.loop-left.invariant.right h g is c.loop-left.invariant.whole);
     }

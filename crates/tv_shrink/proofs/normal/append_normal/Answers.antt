@@ -1,9 +1,26 @@
-use Rattle.std.proofs.Common.{◌≡◌, ◌++◌, OnOk, sym, subst}
+use Rattle.std.proofs.Common.{◌≡◌, ◌∙◌, ◌++◌, ℕ, OnOk, ap, rules, sym, subst}
+use Rattle.std.specs.List.Sorted.{IsNonDecreasingBy}
+use Rattle.std.specs.Prelude.{IsPermutation}
+use Rattle.std.proofs.lemmas.List.Sorted.{IsNonDecreasingBy-from_sort_by_key}
+use Rattle.std.proofs.lemmas.Result.{on_ok_weaker}
 use Rattle.std.proofs.lemmas.Bool.{OnTrue_at}
 use Rattle.tv_r1cs_read.specs.Rows.{combination_of}
+use Rattle.tv_shrink.specs.Normal.{normal}
+use Rattle.tv_shrink.proofs.Sorting.{normal-permuted}
 use Rattle.tv_shrink.proofs.Unique.{normal-same}
 use Rattle.tv_shrink.proofs.normal.append_normal.Goals as goal
 
 pub returns-then-is_normal-clause-out : goal.returns-then-is_normal-clause-out
 returns-then-is_normal-clause-out c =
     subst (λ x. OnOk c.append.result (c.append.new.out.items ≡ c.args.out.now.items ++ x)) (sym (normal-same (combination_of c.args.terms.now) (OnTrue_at c.if-is_normal.true c.is_normal.ensures))) c.append.ensures.out
+
+pub append_sums-requires : goal.append_sums-requires
+append_sums-requires c =
+    subst (IsNonDecreasingBy (λ (t : ℕ × ℕ). t.1)) (sym c.deref.ensures.value)
+    (IsNonDecreasingBy-from_sort_by_key (λ (t : ℕ × ℕ). t.1) c.sort_unstable_by_key.new.self.items c.sort_unstable_by_key.ensures.sorted (λ a r q k. search rules))
+
+pub returns-clause-out : goal.returns-clause-out
+returns-clause-out c =
+    let read : c.append-2.new.out.items ≡ combination_of c.args.terms.now = c.in_ok-append.ensures.out ∙ ap (λ xs. xs ++ combination_of c.args.terms.now) c.clear.ensures.items in
+    let same : IsPermutation (combination_of c.args.terms.now) c.sort_unstable_by_key.new.self.items = subst (λ xs. IsPermutation xs c.sort_unstable_by_key.new.self.items) read c.sort_unstable_by_key.ensures.permutation in
+    on_ok_weaker c.append_sums.result (λ sums. sums ∙ ap (λ x. c.args.out.now.items ++ x) (ap normal c.deref.ensures.value ∙ normal-permuted (combination_of c.args.terms.now) c.sort_unstable_by_key.new.self.items same)) c.append_sums.ensures.out

@@ -1,0 +1,10 @@
+use Rattle.std.proofs.Common.{◌≡◌, ◌≤◌, ◌++◌, drop, length}
+use Rattle.tv_shrink.specs.Normal.{normal}
+use Rattle.tv_shrink.proofs.Sorting.{with_sum}
+use Rattle.tv_shrink.proofs.normal.append_sums.Given as goal
+
+abbrev pub invariant-loop-at : goal.invariant-loop-at
+invariant-loop-at l = record {
+  so_far : l.out.items ++ normal (with_sum l.sum (drop l.at l.terms)) ≡ l.initial.out.items ++ normal l.terms;
+  longer : length l.initial.out.items ≤ length l.out.items;
+}
