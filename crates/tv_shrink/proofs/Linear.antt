@@ -2,13 +2,14 @@
 use Rattle.std.proofs.Common.{◌≡◌, ◌≢◌, ℕ, ◌+◌, ◌-◌, ◌*◌, ◌%◌, ◌<◌, ◌≤◌, Bool, not, ◌||◌, leb, ltb, length, [], ◌∷◌, ◌++◌, Some, None, refl, sym, ◌∙◌, ap, ap₂, arith, eqb, true, false, inl, inr, cond, mul-zero}
 use Rattle.std.proofs.lemmas.Bool.{cases_Bool, cond_both, le-leb, leb-true, or_left, or_right}
 use Rattle.std.proofs.lemmas.List.{length-append, length-map}
+use Rattle.std.specs.Option.{option_or}
 use Rattle.tv_core.proofs.InverseLaws.{mul-inverse_of, inverse_of-below}
 use Rattle.tv_core.specs.Combinations.{scaled}
 use Rattle.tv_core.specs.Constraints.{Combination, Constraint}
 use Rattle.tv_core.specs.Inverse.{inverse_of}
 use Rattle.tv_core.specs.declared.field.TheConstants.{P}
 use Rattle.tv_shrink.specs.Normal.{added, normal, with_term, IsNormalFrom}
-use Rattle.tv_shrink.specs.Replacing.{coefficient, has_wire, without, constant_in, difference, first_of_two, linear_form, solved, replaced, fits}
+use Rattle.tv_shrink.specs.Replacing.{coefficient, has_wire, without, constant_in, difference, linear_form, solved, replaced, fits}
 use Rattle.tv_shrink.proofs.NormalLaws.{IsNormalFrom-lower}
 use Rattle.tv_shrink.proofs.Constants.{scaled_once}
 
@@ -16,16 +17,16 @@ use Rattle.tv_shrink.proofs.Constants.{scaled_once}
 pub linear-first : (c : Constraint) (k : ℕ) (out : Combination) → constant_in c.a ≡ Some k → out ≡ normal (scaled k c.b ++ scaled (P - 1) c.c) → linear_form c ≡ Some out
 unfolding linear_form difference
 linear-first c k out is made =
-    ap (λ o. first_of_two (difference o c.b c.c) (difference (constant_in c.b) c.a c.c)) is ∙ ap Some (sym made)
+    ap (λ o. option_or (difference o c.b c.c) (difference (constant_in c.b) c.a c.c)) is ∙ ap Some (sym made)
 
 pub linear-second : (c : Constraint) (k : ℕ) (out : Combination) → constant_in c.a ≡ None → constant_in c.b ≡ Some k → out ≡ normal (scaled k c.a ++ scaled (P - 1) c.c) → linear_form c ≡ Some out
 unfolding linear_form difference
 linear-second c k out isnt is made =
-    ap₂ (λ o p. first_of_two (difference o c.b c.c) (difference p c.a c.c)) isnt is ∙ ap Some (sym made)
+    ap₂ (λ o p. option_or (difference o c.b c.c) (difference p c.a c.c)) isnt is ∙ ap Some (sym made)
 
 pub linear-none : (c : Constraint) → constant_in c.a ≡ None → constant_in c.b ≡ None → linear_form c ≡ None
 unfolding linear_form difference
-linear-none c isnt is = ap₂ (λ o p. first_of_two (difference o c.b c.c) (difference p c.a c.c)) isnt is
+linear-none c isnt is = ap₂ (λ o p. option_or (difference o c.b c.c) (difference p c.a c.c)) isnt is
 
 -- a combination with another one in place of a wire
 normal-without : (least w : ℕ) (x : Combination) → IsNormalFrom least x → IsNormalFrom least (without w x)

@@ -2,6 +2,7 @@
 use Rattle.std.proofs.Common.{◌≡◌, ◌⊎◌, ℕ, zero, suc, ◌+◌, ◌<◌, ◌≤◌, ◌||◌, List, [], ◌∷◌, ◌++◌, Option, Some, None, refl, sym, ◌∙◌, ap, ap₂, subst, arith, eqb, ltb, true, false, inl, inr, cond, map, length, get_or, drop, take, add-one, drop-cons, set}
 use Rattle.std.proofs.Common.{Result, Ok, Err}
 use Rattle.std.specs.List.{AllByRecursion, All, list_any, sum_by}
+use Rattle.std.specs.Option.{option_or}
 use Rattle.tv_container.specs.Places.{Fault, ◌>>=◌, wrong}
 use Rattle.tv_container.specs.Reading.{Refuses, Stopped}
 use Rattle.tv_container.specs.declared.why.ReadRefusal.{ReadRefusal}
@@ -24,7 +25,7 @@ use Rattle.tv_core.specs.Constraints.{Combination, Constraint, System}
 use Rattle.tv_core.specs.declared.field.TheConstants.{P}
 use Rattle.tv_r1cs_read.specs.Rows.{combination_of, constraint_of, IsOver}
 use Rattle.tv_r1cs_read.specs.declared.rows.Row.{Row}
-use Rattle.tv_shrink.specs.Answers.{first_number, first_wide, read_fault, start_rows, wide, wide_in, all_terms, most, Halted, IsTooWide, Tells, TellsRead}
+use Rattle.tv_shrink.specs.Answers.{first_wide, read_fault, start_rows, wide, wide_in, all_terms, most, Halted, IsTooWide, Tells, TellsRead}
 use Rattle.tv_shrink.specs.Normal.{normal, normal_constraint, IsNormalFrom}
 use Rattle.tv_shrink.proofs.NormalLaws.{Over, Over-normal, IsNormalFrom-normal}
 use Rattle.tv_shrink.specs.Replacing.{has_wire}
@@ -47,7 +48,7 @@ pub over_read : (n : ℕ) (terms : List (ℕ × ℕ)) → All (λ t. t.0 < n) te
 over_read n terms h = Over-normal (λ v. v < n) (combination_of terms) (over_terms n terms (recursion_from_All (λ t. t.0 < n) terms h))
 
 -- no combination of a constraint is too wide
-none_both : (a b : Option ℕ) → first_number a b ≡ None → (a ≡ None) × (b ≡ None)
+none_both : (a b : Option ℕ) → option_or a b ≡ None → (a ≡ None) × (b ≡ None)
 none_both None b e = (refl, e)
 none_both (Some n) b e = absurd (cc)
 
@@ -60,7 +61,7 @@ narrow_short x e =
 
 pub narrow_within : (n : ℕ) (row : Row) → IsOver n row → wide_in (constraint_of row) ≡ None → IsWithin n (normal_constraint (constraint_of row))
 narrow_within n row over e =
-    let first = none_both (wide (combination_of row.a)) (first_number (wide (combination_of row.b)) (wide (combination_of row.c))) e in
+    let first = none_both (wide (combination_of row.a)) (option_or (wide (combination_of row.b)) (wide (combination_of row.c))) e in
     let others = none_both (wide (combination_of row.b)) (wide (combination_of row.c)) first.1 in
     record {
       a = over_read n row.a over.a;
@@ -148,11 +149,11 @@ pub no_wide : first_wide [] ≡ None
 unfolding first_wide
 no_wide = refl
 
-wide_last : (o : Option ℕ) → first_number o None ≡ o
+wide_last : (o : Option ℕ) → option_or o None ≡ o
 wide_last None = refl
 wide_last (Some n) = refl
 
-first_more : (a b o p : Option ℕ) → (o ≡ None → p ≡ b) → first_number a o ≡ None → first_number a p ≡ b
+first_more : (a b o p : Option ℕ) → (o ≡ None → p ≡ b) → option_or a o ≡ None → option_or a p ≡ b
 first_more None b o p later e = later e
 first_more (Some n) b o p later e = absurd (cc)
 
@@ -161,7 +162,7 @@ unfolding first_wide
 wide_more [] c e = wide_last (wide_in c)
 wide_more (d ∷ list) c e = first_more (wide_in d) (wide_in c) (first_wide list) (first_wide (list ++ c ∷ [])) (λ k. wide_more list c k) e
 
-first_stays : (a o p : Option ℕ) (n : ℕ) → (o ≡ Some n → p ≡ Some n) → first_number a o ≡ Some n → first_number a p ≡ Some n
+first_stays : (a o p : Option ℕ) (n : ℕ) → (o ≡ Some n → p ≡ Some n) → option_or a o ≡ Some n → option_or a p ≡ Some n
 first_stays None o p n later e = later e
 first_stays (Some m) o p n later e = e
 

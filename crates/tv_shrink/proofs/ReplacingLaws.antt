@@ -5,6 +5,7 @@ use Rattle.std.specs.Prelude.{slice_index}
 use Rattle.std.proofs.lemmas.Bool.{cond_both, eqb-false, or_cases, or_parts, and_parts, or_left, or_right, cases_lt, cond-false}
 use Rattle.std.proofs.lemmas.Nat.{mul-mod_second}
 use Rattle.std.proofs.lemmas.List.Sums.{sum_by-cons}
+use Rattle.std.specs.Option.{option_or}
 use Rattle.tv_core.proofs.CombinationLaws.{value-cons, value-append, value-scaled, value-below, value-less, wire-below}
 use Rattle.tv_core.proofs.InverseLaws.{mul-inverse_of, inverse_of-below}
 use Rattle.tv_core.proofs.Residues.{add-mod_same, mul-mod_zero, mul-mod_one, same_of_difference}
@@ -14,7 +15,7 @@ use Rattle.tv_core.specs.Inverse.{inverse_of}
 use Rattle.tv_core.specs.Laws.{Assigns}
 use Rattle.tv_core.specs.declared.field.TheConstants.{P}
 use Rattle.tv_shrink.specs.Normal.{normal, IsNormalFrom}
-use Rattle.tv_shrink.specs.Replacing.{coefficient, has_wire, without, constant_in, difference, first_of_two, linear_form, greater_from, greatest_from, solved, replaced}
+use Rattle.tv_shrink.specs.Replacing.{coefficient, has_wire, without, constant_in, difference, linear_form, greater_from, greatest_from, solved, replaced}
 use Rattle.tv_shrink.proofs.NormalLaws.{Over, Over-normal, Over-append, Over-scaled, value-normal, regrouped, exchanged, residue_first, IsNormalFrom-normal}
 
 -- the sum of a wire's coefficients
@@ -127,7 +128,7 @@ all_zero (t ∷ x) e =
 pub none_some : {A : Type 0} (x : A) → None ≡ Some x → ⊥
 none_some x e = cc
 
-first_cases : (o p : Option Combination) (lin : Combination) → first_of_two o p ≡ Some lin → (o ≡ Some lin) ⊎ (p ≡ Some lin)
+first_cases : (o p : Option Combination) (lin : Combination) → option_or o p ≡ Some lin → (o ≡ Some lin) ⊎ (p ≡ Some lin)
 first_cases None p lin e = inr e
 first_cases (Some x) p lin e = inl e
 

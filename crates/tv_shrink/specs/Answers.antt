@@ -1,5 +1,6 @@
 -- What shrinking the system of a file answers.
 use Rattle.std.specs.Prelude.{◌≡◌, ℕ, ◌+◌, ◌^◌, ◌≤◌, ◌<◌, nat_lt, Bool, false, map, replicate, List, [], ◌∷◌, length, Option, None, Some, Ok, Result, MatchResult, if◌then◌else◌}
+use Rattle.std.specs.Option.{option_or}
 use Rattle.tv_container.specs.Places.{wrong}
 use Rattle.tv_container.specs.declared.why.ReadRefusal.{ReadRefusal}
 use Rattle.tv_container.specs.declared.why.ReadRefusal.TheVariants as refusal
@@ -8,7 +9,8 @@ use Rattle.tv_core.specs.Meanings.{terms_in}
 use Rattle.tv_files.specs.Outside.{Outside, OnlyReads, MissesOnly}
 use Rattle.tv_r1cs_read.specs.R1cs.{system_of}
 use Rattle.tv_shrink.specs.declared.fault.ShrinkFault.{ShrinkFault}
-use Rattle.tv_shrink.specs.declared.fault.ShrinkFault.TheVariants.{Bad, Terms, Combination as Wide, Fault as Failed, Memory}
+use Rattle.tv_shrink.specs.declared.fault.ShrinkFault.TheVariants as fault
+use Rattle.tv_shrink.specs.declared.shrinking.TheConstants.{MOST_TERMS}
 use Rattle.tv_core.specs.declared.lines.Counts.{Counts}
 use Rattle.tv_shrink.specs.Normal.{normal, normal_constraint}
 use Rattle.tv_shrink.specs.Tidy.{AreWithin, IsKept}
@@ -17,38 +19,33 @@ use Rattle.tv_word.specs.Counts.{Rose}
 
 -- a refusal of reading, as one of shrinking
 abbrev pub read_fault : ReadRefusal → ShrinkFault
-read_fault (refusal.Bad at why) = Bad at why
-read_fault refusal.Fault = Failed
-read_fault refusal.Memory = Memory
+read_fault (refusal.Bad at why) = fault.Bad at why
+read_fault refusal.Fault = fault.Fault
+read_fault refusal.Memory = fault.Memory
 
 -- how many terms a combination has that, once made normal, has more than 128
 abbrev pub wide : Combination → Option ℕ
 wide x = if nat_lt 128 (length (normal x)) then Some (length (normal x)) else None
 
--- the first of two numbers that there are
-abbrev pub first_number : Option ℕ → Option ℕ → Option ℕ
-first_number None second = second
-first_number (Some n) second = Some n
-
 -- how many terms the first such combination of a constraint has, and of a list of constraints
 abbrev pub wide_in : Constraint → Option ℕ
-wide_in c = first_number (wide c.a) (first_number (wide c.b) (wide c.c))
+wide_in c = option_or (wide c.a) (option_or (wide c.b) (wide c.c))
 
 unfoldable pub first_wide : List Constraint → Option ℕ
 first_wide [] = None
-first_wide (c ∷ list) = first_number (wide_in c) (first_wide list)
+first_wide (c ∷ list) = option_or (wide_in c) (first_wide list)
 
 -- why reading a constraint was refused: for want of memory, or for this many terms
 abbrev pub IsTooWide : ShrinkFault → Option ℕ → Type 0
-IsTooWide (Bad at why) found = ⊥
-IsTooWide (Terms has) found = ⊥
-IsTooWide (Wide has) found = found ≡ Some has
-IsTooWide Failed found = ⊥
-IsTooWide Memory found = Unit {0}
+IsTooWide (fault.Bad at why) found = ⊥
+IsTooWide (fault.Terms has) found = ⊥
+IsTooWide (fault.Combination has) found = found ≡ Some has
+IsTooWide fault.Fault found = ⊥
+IsTooWide fault.Memory found = Unit {0}
 
 -- the most terms of a system
 abbrev pub most : ℕ
-most = 4194304
+most = MOST_TERMS
 
 -- how many terms a system has
 abbrev pub all_terms : System → ℕ
@@ -78,18 +75,18 @@ pub record IsWide (has : ℕ) (file : List ℕ) : Type 0 where
 
 -- what a refusal tells of a file
 abbrev pub Tells : ShrinkFault → List ℕ → Type 0
-Tells (Bad at why) file = system_of file ≡ wrong at why
-Tells (Terms has) file = IsLong has file
-Tells (Wide has) file = IsWide has file
-Tells Failed file = Unit {0}
-Tells Memory file = Unit {0}
+Tells (fault.Bad at why) file = system_of file ≡ wrong at why
+Tells (fault.Terms has) file = IsLong has file
+Tells (fault.Combination has) file = IsWide has file
+Tells fault.Fault file = Unit {0}
+Tells fault.Memory file = Unit {0}
 
 -- shrinking stopped with this refusal, from the outside before it to the outside after it: files and words said
 -- stay and no count falls, a fault is a fault of a read, and `absent` changes only where this name isn't there
-pub record Halted (old new : Outside) (name : List ℕ) (fault : ShrinkFault) : Type 0 where
+pub record Halted (old new : Outside) (name : List ℕ) (why : ShrinkFault) : Type 0 where
   pub only : OnlyReads old new
   pub there : MissesOnly old new name
-  pub cause : fault ≡ Failed → Rose old.read_faults new.read_faults
+  pub cause : why ≡ fault.Fault → Rose old.read_faults new.read_faults
 
 -- what shrinking does to the outside: nothing, or it stopped
 abbrev pub HaltsBy : {A : Type 0} → Outside → Outside → List ℕ → Result A ShrinkFault → Type 0
@@ -124,17 +121,17 @@ pub record IsRead (counts : Counts) (rows : List (Option Constraint)) (file : Li
 
 -- a refusal of a system for its terms or for a combination
 abbrev pub IsOfSize : ShrinkFault → Type 0
-IsOfSize (Bad at why) = ⊥
-IsOfSize (Terms has) = Unit {0}
-IsOfSize (Wide has) = Unit {0}
-IsOfSize Failed = ⊥
-IsOfSize Memory = ⊥
+IsOfSize (fault.Bad at why) = ⊥
+IsOfSize (fault.Terms has) = Unit {0}
+IsOfSize (fault.Combination has) = Unit {0}
+IsOfSize fault.Fault = ⊥
+IsOfSize fault.Memory = ⊥
 
 -- what a refusal to read tells of a file: its first fault, or, where it holds a system, that this has too many terms
 -- or a combination that is too wide
 abbrev pub TellsRead : ShrinkFault → List ℕ → Type 0
-TellsRead (Bad at why) file = system_of file ≡ wrong at why
-TellsRead (Terms has) file = (system : System) → system_of file ≡ Ok system → most < all_terms system
-TellsRead (Wide has) file = (system : System) → system_of file ≡ Ok system → first_wide system.constraints ≡ Some has
-TellsRead Failed file = Unit {0}
-TellsRead Memory file = Unit {0}
+TellsRead (fault.Bad at why) file = system_of file ≡ wrong at why
+TellsRead (fault.Terms has) file = (system : System) → system_of file ≡ Ok system → most < all_terms system
+TellsRead (fault.Combination has) file = (system : System) → system_of file ≡ Ok system → first_wide system.constraints ≡ Some has
+TellsRead fault.Fault file = Unit {0}
+TellsRead fault.Memory file = Unit {0}

@@ -1,6 +1,7 @@
 -- A combination in place of a wire.
 use Rattle.std.specs.Prelude.{ℕ, ◌-◌, ◌%◌, ◌==◌, nat_lt, nat_le, Bool, not, ◌||◌, ◌&&◌, max, [], ◌∷◌, ◌++◌, length, Option, None, Some, if◌then◌else◌}
 use Rattle.std.specs.List.{filter, list_any, list_all, sum_by}
+use Rattle.std.specs.Option.{option_or}
 use Rattle.tv_core.specs.Combinations.{scaled, less}
 use Rattle.tv_core.specs.Constraints.{Combination, Constraint}
 use Rattle.tv_core.specs.Inverse.{inverse_of}
@@ -28,14 +29,9 @@ unfoldable pub difference : Option ℕ → Combination → Combination → Optio
 difference None x y = None
 difference (Some k) x y = Some (normal (less (scaled k x) y))
 
--- the first of two answers that there are
-abbrev pub first_of_two : Option Combination → Option Combination → Option Combination
-first_of_two None second = second
-first_of_two (Some x) second = Some x
-
 -- what a constraint says is 0, where a or else b is a constant
 unfoldable pub linear_form : Constraint → Option Combination
-linear_form c = first_of_two (difference (constant_in c.a) c.b c.c) (difference (constant_in c.b) c.a c.c)
+linear_form c = option_or (difference (constant_in c.a) c.b c.c) (difference (constant_in c.b) c.a c.c)
 
 -- the greater of a wire, where it is not below a number, and of another one, where there is one
 unfoldable pub greater_from : ℕ → ℕ → Option ℕ → Option ℕ

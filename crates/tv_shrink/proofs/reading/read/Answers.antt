@@ -93,7 +93,7 @@ returns-in_err-add-clause-looks g c =
 pub returns-clause-ready : goal.returns-clause-ready
 returns-clause-ready g c = record {
   private = c.loop-row.invariant.publics ∙ c.in_ok-pass.ensures.publics;
-  room = omega (arith, c.loop-row.invariant.publics ∙ c.in_ok-pass.ensures.publics, c.counts-counts.ensures, c.in-Ok.ensures.begun.room, ap (λ (counts : Counts). counts.wires) c.counts-counts.ensures, ap (λ (counts : Counts). counts.outputs) c.counts-counts.ensures, ap (λ (counts : Counts). counts.inputs) c.counts-counts.ensures);
+  room = omega (arith, c.loop-row.invariant.publics ∙ c.in_ok-pass.ensures.publics, c.in-Ok.ensures.begun.room, ap (λ (counts : Counts). counts.wires) c.counts-counts.ensures, ap (λ (counts : Counts). counts.outputs) c.counts-counts.ensures, ap (λ (counts : Counts). counts.inputs) c.counts-counts.ensures);
   none = c.loop-row.invariant.none ∙ c.in_ok-pass.ensures.gone;
   within = subst (λ n. AreWithin n c.loop-row.pass.rows) (sym (ap (λ (counts : Counts). counts.wires) c.counts-counts.ensures)) c.loop-row.invariant.within;
   kept = c.loop-row.invariant.kept;
