@@ -78,9 +78,7 @@ impl Shrunk {
             Err(refused) => return Err(refused.why),
         };
         make_wires(&mut sink, private);
-        match put_rows(&mut sink, &self.rows) {
-            Ok(()) => sink.finish_labelled(&self.labels),
-            Err(fault) => Err(fault),
-        }
+        put_rows(&mut sink, &self.rows)?;
+        sink.finish_labelled(&self.labels)
     }
 }

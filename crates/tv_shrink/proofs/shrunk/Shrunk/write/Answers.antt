@@ -1,5 +1,6 @@
 use Rattle.std.proofs.Common.{◌≡◌, ◌+◌, ◌-◌, ◌≤◌, ◌∙◌, ℕ, refl, rules, arith, ap, length}
 use Rattle.std.specs.List.{filter_map}
+use Rattle.std.proofs.lemmas.Result.{err_from_is_err_and}
 use Rattle.tv_core.proofs.Chain.{puts_then, puts_then_refused}
 use Rattle.tv_core.specs.Circuits.{Circuit}
 use Rattle.tv_core.specs.Sinks.{PutsAll, PutsSome}
@@ -12,8 +13,8 @@ use Rattle.tv_shrink.proofs.Filing.{IsBegun, writes_all, writes_some}
 use Rattle.tv_shrink.proofs.Putting.{circuit_of, circuit_list, circuit_next}
 use Rattle.tv_shrink.proofs.shrunk.Shrunk.write.Goals as goal
 
-pub returns-in-Ok-put_rows : goal.returns-in-Ok-put_rows
-returns-in-Ok-put_rows g c =
+pub returns : goal.returns
+returns g c =
     let seen : StreamSink g.row.D.Denot → Stream = stream g.D.Files.seen in
     let shrunken : Shrunken = record {
       system = record { wires = length c.self.inside.labels.items; outputs = c.self.inside.outputs; inputs = c.self.inside.inputs; constraints = filter_map (λ row. row) c.self.inside.rows };
@@ -43,13 +44,13 @@ returns-in-Ok-put_rows g c =
       each = refl;
     } in
     let more : PutsAll (stream_meaning seen) c.make_wires.new.s c.put_rows.new.s (rows_circuit c.self.inside.rows (length c.self.inside.rows)) tt =
-    c.in-Ok-put_rows.ensures.puts in
+    c.in_ok-put_rows.ensures.puts in
     let puts = puts_then (stream_meaning seen) (wires_circuit n) (λ _. rows_circuit c.self.inside.rows (length c.self.inside.rows)) c.in-Ok.sink c.make_wires.new.s c.put_rows.new.s tt tt c.make_wires.ensures.puts more in
     let writes = writes_all seen shrunken c.args.name.now (g.D.Files.seen c.args.files.now) c.in-Ok.sink circuit counts is c.put_rows.new.s _ tt c.finish_labelled.result puts (rw c.deref.ensures.value at c.finish_labelled.ensures) in
     rw (← c.self.view_is) (search (rules, writes))
 
-pub returns-in-Err-put_rows : goal.returns-in-Err-put_rows
-returns-in-Err-put_rows g c =
+pub returns-in_err-put_rows : goal.returns-in_err-put_rows
+returns-in_err-put_rows g c =
     let seen : StreamSink g.row.D.Denot → Stream = stream g.D.Files.seen in
     let shrunken : Shrunken = record {
       system = record { wires = length c.self.inside.labels.items; outputs = c.self.inside.outputs; inputs = c.self.inside.inputs; constraints = filter_map (λ row. row) c.self.inside.rows };
@@ -78,8 +79,9 @@ returns-in-Err-put_rows g c =
       constraints_fit = omega (arith, c.count_rows-tally.ensures.few, c.self.invariant.3);
       each = refl;
     } in
-    let more : PutsSome (stream_meaning seen) c.make_wires.new.s c.put_rows.new.s (rows_circuit c.self.inside.rows (length c.self.inside.rows)) c.in-Err-put_rows.fault =
-    c.in-Err-put_rows.ensures.puts in
-    let some = puts_then_refused (stream_meaning seen) (wires_circuit n) (λ _. rows_circuit c.self.inside.rows (length c.self.inside.rows)) c.in-Ok.sink c.make_wires.new.s c.put_rows.new.s tt c.in-Err-put_rows.fault c.make_wires.ensures.puts more in
-    let writes = writes_some seen shrunken c.args.name.now (g.D.Files.seen c.args.files.now) c.in-Ok.sink circuit counts is c.put_rows.new.s c.in-Err-put_rows.fault some in
-    rw (← c.self.view_is) (search (rules, writes))
+    let more : PutsSome (stream_meaning seen) c.make_wires.new.s c.put_rows.new.s (rows_circuit c.self.inside.rows (length c.self.inside.rows)) c.in_err-put_rows.field-0.0 =
+    c.in_err-put_rows.ensures.puts in
+    let some = puts_then_refused (stream_meaning seen) (wires_circuit n) (λ _. rows_circuit c.self.inside.rows (length c.self.inside.rows)) c.in-Ok.sink c.make_wires.new.s c.put_rows.new.s tt c.in_err-put_rows.field-0.0 c.make_wires.ensures.puts more in
+    let writes = writes_some seen shrunken c.args.name.now (g.D.Files.seen c.args.files.now) c.in-Ok.sink circuit counts is c.put_rows.new.s c.in_err-put_rows.field-0.0 some in
+    let p = err_from_is_err_and c.from_residual.result c.from_residual.ensures.1 in
+    rw (p.1, p.2, ← c.self.view_is) (search (rules, writes))
