@@ -1,10 +1,8 @@
 -- What a call promises, from what reading found, from writing and from saying a line.
 use Rattle.std.proofs.Common.{◌≡◌, ◌≢◌, ℕ, ◌⊎◌, ◌≤◌, Bool, false, List, [], ◌∷◌, ◌++◌, take, Option, Some, None, option_map, true, Result, Ok, Err, inl, inr, refl, sym, ap, ◌∙◌, arith, rules}
-use Rattle.std.specs.Option.{IfSome}
-use Rattle.std.specs.Prelude.{IfOk}
-use Rattle.tv_top.proofs.Common.{Names, Outside, OnlyWrites, Rose, Amount, Bad, Cut, Ending, Refused, Stopped, Finished, Finish, Quantity, Refusal, Stop, Fault, Memory, Contents, Size, What, Status, words_of, MayStop, quantities_of, IsOfWords, ChangedAt, IsSaid, Answers, Content, bytes_in, AreRead, files_with, IsCutAt, IsCutInWriting, Said, SaidPart, Ends, IsConcluded, Concludes, Writes, Closes, Finishes, Completes, Refuses, IsOneOf, IsFound, Finds, Named, Look, Outcome, Plan, Write, Answer, files_of, answer_of, ending_by, comes_by, writes_by, MayEnd, quantity_what, size_what, bad_status, refusal_status, stop_status, finish_status, ending_status}
+use Rattle.std.specs.Prelude.{IfOk, IsErrAnd, MatchResult}
+use Rattle.tv_top.proofs.Common.{Names, Outside, OnlyWrites, Rose, Amount, Bad, Ending, Refused, Stopped, Finished, Finish, Quantity, Refusal, Stop, Fault, Memory, Contents, Size, What, Status, words_of, MayStop, quantities_of, IsOfWords, ChangedAt, IsSaid, Answers, Content, bytes_in, AreRead, files_with, IsCutAt, IsCutInWriting, Said, SaidPart, Ends, IsConcluded, Concludes, Writes, IsCut, Completes, Does, ending_of, IsOneOf, IsFound, Finds, Named, Look, Outcome, Plan, Answer, files_of, answer_of, ending_by, comes_by, writes_by, MayEnd, quantity_what, size_what, bad_status, refusal_status, stop_status, finish_status, ending_status}
 use Rattle.tv_top.specs.declared.refusal.Bad.TheVariants as bad
-use Rattle.tv_top.specs.declared.refusal.Cut.TheVariants as cut
 use Rattle.tv_top.specs.declared.refusal.Finish.TheVariants as finishes
 use Rattle.tv_top.specs.declared.refusal.Quantity.TheVariants as quantity
 use Rattle.tv_top.specs.declared.refusal.Refusal.TheVariants as refusal
@@ -13,7 +11,7 @@ use Rattle.tv_check.specs.declared.verdict.Verdict.TheVariants as verdict
 use Rattle.tv_top.specs.declared.status.Status.TheVariants as status
 use Rattle.tv_step.specs.declared.end.End.TheVariants as end
 use Rattle.tv_top.specs.Codes.{says}
-use Rattle.tv_top.proofs.Looking.{finds_comes}
+use Rattle.tv_top.proofs.Looking.{finds_comes, finds_wanting}
 
 -- ---- each status comes from one stage
 
@@ -173,13 +171,6 @@ changed_cut word (n ∷ ns) (c ∷ cs) old new (inl (is, inl same)) = (inl (unch
 changed_cut word (n ∷ ns) (c ∷ cs) old new (inl (is, inr part)) = (inr (take part.0 (bytes_in c), unchanged ns _ new part.1), inl is)
 changed_cut word (n ∷ ns) (c ∷ cs) old new (inr later) = let rest = changed_cut word ns cs _ new later in (inr (bytes_in c, rest.0), inr rest.1)
 
--- ---- writing, and what follows on it
-
-pub finishes_by : (writes : List Write) (finish : Finish) (words : ℕ) (written : Result (Unit {0}) Cut) (old mid new : Outside) (result : Status) →
-    Writes writes old mid written → Closes written finish words mid new result → Finishes writes finish words old new result
-finishes_by writes finish words (Ok done) old mid new result writing closes = inl (mid, writing, closes)
-finishes_by writes finish words (Err why) old mid new result writing closes = let same = closes.1 in inr (why, closes.0, rw same writing)
-
 -- ---- the exits
 
 -- words that are refused
@@ -212,9 +203,9 @@ ends_found plan (Err Memory) words files old new result held told read any concl
     let nothing = silent (Stopped Memory) words old new result refl concluded in inr (inr (inr (inr (nothing.0, inl (record { contents = held; said = nothing.1 })))))
 
 -- what is answered isn't a refusal of words, and a fault only where one was found
-found_refuses : (plan : Plan) (found : Result Outcome Stop) (why : Refusal) → ((stop : Stop) → found ≡ Err stop → AreApart plan.amounts plan.sizes) → IsWithin plan.sizes found → IsOfWords (Ok plan) why → ¬ (ending_status (ending_by found) ≡ refusal_status why)
+found_refuses : (plan : Plan) (found : Result Outcome Stop) (why : Refusal) → AreApart plan.amounts plan.sizes → IsWithin plan.sizes found → IsOfWords (Ok plan) why → ¬ (ending_status (ending_by found) ≡ refusal_status why)
 found_refuses plan (Ok outcome) why apart within told e = let h : None ≡ Some why = sym (finish_good outcome.finish).0 ∙ ap of_words e ∙ words_is why in cc
-found_refuses plan (Err stop) why apart within told e = stop_refuses plan stop why (apart stop refl) within told e
+found_refuses plan (Err stop) why apart within told e = stop_refuses plan stop why apart within told e
 
 found_faulty : (found : Result Outcome Stop) (word : ℕ) → ending_status (ending_by found) ≡ status.FileFault word → found ≡ Err (Fault word)
 found_faulty (Ok outcome) word e = absurd ((finish_good outcome.finish).1 word e)
@@ -229,8 +220,8 @@ found_changed names (Ok outcome) old = changed_whole names outcome.files old
 found_changed names (Err stop) old = unchanged names old old refl
 
 -- what was found was written, and the line said
-answers_ended : (plan : Plan) (found : Result Outcome Stop) (words : ℕ) (old mid after new : Outside) (result : Status) → ((stop : Stop) → found ≡ Err stop → AreApart plan.amounts plan.sizes) → IfOk found (λ outcome. plan.ends_by outcome.finish ≡ true) →
-    Finds (λ (o : Outcome). o) (words_of plan.reads) plan.sizes plan.comes old mid found → Writes (writes_by plan.writes found) mid after (Ok tt) → Concludes (ending_by found) words after new result → Answers (Ok plan) words old new result
+answers_ended : (plan : Plan) (found : Result Outcome Stop) (words : ℕ) (old mid after new : Outside) (result : Status) → AreApart plan.amounts plan.sizes → IfOk found (λ outcome. plan.ends_by outcome.finish ≡ true) →
+    Finds (λ (o : Outcome). o) (words_of plan.reads) plan.sizes plan.comes old mid found → Writes {X = Unit {0}} (writes_by plan.writes found) mid after (Ok tt) → Concludes (ending_by found) words after new result → Answers (Ok plan) words old new result
 answers_ended plan found words old mid after new result apart may finds writes concludes =
     let concluded = concluded_since (ending_by found) words old after new result (writes.only.said ∙ finds.only.said) (omega arith) (omega arith) concludes.ended in
     let held : new.contents ≡ files_with (writes_by plan.writes found) old.contents = concludes.contents ∙ writes.ended.0 ∙ ap (files_with (writes_by plan.writes found)) finds.only.contents in
@@ -275,42 +266,66 @@ answers_cut plan outcome words at old mid new result finds only cut ended =
       later = search rules;
     }
 
-answers_finished : (plan : Plan) (outcome : Outcome) (words : ℕ) (old mid new : Outside) (result : Status) → plan.ends_by outcome.finish ≡ true →
-    Finds (λ (o : Outcome). o) (words_of plan.reads) plan.sizes plan.comes old mid (Ok outcome) → Finishes (files_of plan.writes outcome.files) outcome.finish words mid new result → Answers (Ok plan) words old new result
-answers_finished plan outcome words old mid new result may finds (inl (after, writes, concludes)) = answers_ended plan (Ok outcome) words old mid after new result (λ stop e. cc) may finds writes concludes
-answers_finished plan outcome words old mid new result may finds (inr (cut.Fault at, is, writes)) = answers_cut plan outcome words at old mid new result finds writes.only writes.ended.0 (inl (is, writes.ended.1))
-answers_finished plan outcome words old mid new result may finds (inr (cut.Memory, is, writes)) = answers_cut plan outcome words writes.ended.0 old mid new result finds writes.only writes.ended.1 (inr is)
+-- of writing that was cut short nothing is said
+only_since : (ending : Ending) (words : ℕ) (old mid new : Outside) (result : Status) → new.said ≡ mid.said → OnlyWrites old mid → Concludes ending words mid new result → OnlyWrites old new
+only_since ending words old mid new result same only concludes = record { said = same ∙ only.said; absent = λ files told. concludes.absent ∙ only.absent files told; later = search rules }
 
--- ---- the exits of a command, whose plan comes to this of what was found
+still : (outside : Outside) → OnlyWrites outside outside
+still outside = record { said = refl; absent = λ _ _. refl; later = search rules }
 
-pub answers_found : {X A : Type 0} (plan : Plan) (view : X → A) (ends : A → Outcome) (due : Names → Look A) (found : X) (words : ℕ) (old mid new : Outside) (result : Status) →
-    plan.comes ≡ (λ files. comes_by ends (due files)) → plan.ends_by (ends (view found)).finish ≡ true → Finds view (words_of plan.reads) plan.sizes due old mid (Ok found) →
-    Finishes (files_of plan.writes (ends (view found)).files) (ends (view found)).finish words mid new result → Answers (Ok plan) words old new result
-answers_found plan view ends due found words old mid new result is may finds finishes =
-    answers_finished plan (ends (view found)) words old mid new result may (rw is (finds_comes view ends (words_of plan.reads) plan.sizes due old mid (Ok found) finds)) finishes
+answers_halted : (plan : Plan) (outcome : Outcome) (stop : Stop) (words : ℕ) (old mid after new : Outside) (result : Status) → AreApart plan.amounts plan.sizes → Finds (λ (o : Outcome). o) (words_of plan.reads) plan.sizes plan.comes old mid (Ok outcome) →
+    OnlyWrites mid after → IsCut (files_of plan.writes outcome.files) mid after stop → Concludes (Stopped stop) words after new result → Answers (Ok plan) words old new result
+answers_halted plan outcome (Fault at) words old mid after new result apart finds only cut concludes =
+    let nothing = silent (Stopped (Fault at)) words after new result refl concludes.ended in
+    answers_cut plan outcome words at old mid new result finds (only_since (Stopped (Fault at)) words mid after new result nothing.1 only concludes) (rw concludes.contents cut.0) (inl (nothing.0, omega (arith, cut.1, concludes.later.write_faults)))
+answers_halted plan outcome Memory words old mid after new result apart finds only (inl same) concludes =
+    answers_ended plan (Err Memory) words old mid after new result apart tt (finds_wanting (λ (o : Outcome). o) (λ (o : Outcome). o) (words_of plan.reads) plan.sizes plan.comes outcome old mid (Err Memory) refl finds) (record { ended = (same, tt); only = only }) concludes
+answers_halted plan outcome Memory words old mid after new result apart finds only (inr (at, cut)) concludes =
+    let nothing = silent (Stopped Memory) words after new result refl concludes.ended in
+    answers_cut plan outcome words at old mid new result finds (only_since (Stopped Memory) words mid after new result nothing.1 only concludes) (rw concludes.contents cut) (inr nothing.0)
+answers_halted plan outcome (Contents bad) words old mid after new result apart finds only cut concludes = absurd cut
 
-pub answers_stopped : {X A : Type 0} (plan : Plan) (view : X → A) (ends : A → Outcome) (due : Names → Look A) (stop : Stop) (words : ℕ) (old mid new : Outside) (result : Status) →
-    plan.comes ≡ (λ files. comes_by ends (due files)) → AreApart plan.amounts plan.sizes → Finds view (words_of plan.reads) plan.sizes due old mid (Err stop) → Concludes (Stopped stop) words mid new result → Answers (Ok plan) words old new result
-answers_stopped plan view ends due stop words old mid new result is apart finds concludes =
-    answers_ended plan (Err stop) words old mid mid new result (λ _ _. apart) tt (rw is (finds_comes view ends (words_of plan.reads) plan.sizes due old mid (Err stop) finds)) (record { ended = (refl, tt); only = record { said = refl; absent = λ _ _. refl; later = search rules } }) concludes
+-- a plan was carried out, and the line of its end said
+pub answers_done : (plan : Plan) (done : Result Finish Stop) (words : ℕ) (old after new : Outside) (result : Status) → AreApart plan.amounts plan.sizes → Does plan old after done → Concludes (ending_of done) words after new result → Answers (Ok plan) words old new result
+answers_done plan done words old after new result apart (inl (stop, is, finds)) concludes =
+    answers_ended plan (Err stop) words old after after new result apart tt finds (record { ended = (refl, tt); only = still after }) (rw is at concludes)
+answers_done plan (Ok finish) words old after new result apart (inr (outcome, mid, may, finds, completes)) concludes =
+    answers_ended plan (Ok outcome) words old mid after new result apart may finds (record { ended = completes.writes.ended; only = completes.writes.only }) (rw completes.finish at concludes)
+answers_done plan (Err stop) words old after new result apart (inr (outcome, mid, may, finds, completes)) concludes =
+    answers_halted plan outcome stop words old mid after new result apart finds completes.writes.only completes.writes.ended concludes
 
--- memory may be wanting for what follows on a look
-finds_wanting : {X A : Type 0} (view : X → A) (words : List ℕ) (sizes : List Size) (due : Names → Look A) (found : X) (old new : Outside) → Finds view words sizes due old new (Ok found) → Finds view words sizes due old new (Err Memory)
-finds_wanting view words sizes due found old new finds = record { told = λ _ _. tt; absent = finds.absent; only = finds.only; caused = λ word e. cc; limits = λ what has most e. cc }
+-- ---- what a command does, whose plan comes to this of what was found
 
-pub answers_completed : {X A : Type 0} (plan : Plan) (view : X → A) (ends : A → Outcome) (due : Names → Look A) (found : X) (words : ℕ) (old mid new : Outside) (result : Status) →
-    plan.comes ≡ (λ files. comes_by ends (due files)) → plan.ends_by (ends (view found)).finish ≡ true → AreApart plan.amounts plan.sizes → Finds view (words_of plan.reads) plan.sizes due old mid (Ok found) →
-    Completes plan.writes (ends (view found)) words mid new result → Answers (Ok plan) words old new result
-answers_completed plan view ends due found words old mid new result is may apart finds (inl finishes) = answers_found plan view ends due found words old mid new result is may finds finishes
-answers_completed plan view ends due found words old mid new result is may apart finds (inr concludes) =
-    answers_stopped plan view ends due Memory words old mid new result is apart (finds_wanting view (words_of plan.reads) plan.sizes due found old mid finds) concludes
+-- a look was refused, and `?` passes that on
+pub does_stopped : {X A : Type 0} (plan : Plan) (view : X → A) (ends : A → Outcome) (due : Names → Look A) (stop : Stop) (old new : Outside) (result : Result Finish Stop) →
+    plan.comes ≡ (λ files. comes_by ends (due files)) → Finds view (words_of plan.reads) plan.sizes due old new (Err stop) → IsErrAnd result (λ e. e ≡ stop) → Does plan old new result
+does_stopped plan view ends due stop old new (Ok finish) is finds same = absurd same
+does_stopped plan view ends due stop old new (Err other) is finds same = inl (stop, ap Err same, rw is (finds_comes view ends (words_of plan.reads) plan.sizes due old new (Err stop) finds))
+
+pub does_found : {X A : Type 0} (plan : Plan) (view : X → A) (ends : A → Outcome) (due : Names → Look A) (found : X) (old mid new : Outside) (result : Result Finish Stop) →
+    plan.comes ≡ (λ files. comes_by ends (due files)) → plan.ends_by (ends (view found)).finish ≡ true → Finds view (words_of plan.reads) plan.sizes due old mid (Ok found) → Completes plan.writes (ends (view found)) mid new result → Does plan old new result
+does_found plan view ends due found old mid new result is may finds completes = inr (ends (view found), mid, may, rw is (finds_comes view ends (words_of plan.reads) plan.sizes due old mid (Ok found) finds), completes)
+
+-- ---- what was found is completed
+
+-- all is written
+pub completes_whole : {X : Type 0} (places : List Named) (outcome : Outcome) (finish : Finish) (written : X) (old new : Outside) → finish ≡ outcome.finish → Writes (files_of places outcome.files) old new (Ok written) → Completes places outcome old new (Ok finish)
+completes_whole places outcome finish written old new is writes = record { writes = record { ended = writes.ended; only = writes.only }; finish = is }
+
+-- or writing was cut short, and `?` passes that on
+pub completes_cut : {X : Type 0} (places : List Named) (outcome : Outcome) (stop : Stop) (old new : Outside) (result : Result Finish Stop) → Writes {X = X} (files_of places outcome.files) old new (Err stop) → IsErrAnd result (λ e. e ≡ stop) → Completes places outcome old new result
+completes_cut places outcome stop old new (Ok finish) writes is = absurd is
+completes_cut places outcome stop old new (Err other) writes is = rw is (record { writes = record { ended = writes.ended; only = writes.only }; finish = tt })
+
+-- or nothing is written, since there is nothing to write or memory was wanting
+pub completes_nothing : (places : List Named) (outcome : Outcome) (done : Result Finish Stop) (outside : Outside) → MatchResult done (λ finish. outcome ≡ record { files = []; finish = finish }) (λ stop. stop ≡ Memory) → Completes places outcome outside outside done
+completes_nothing places outcome (Ok finish) outside is = rw is (record { writes = record { ended = (refl, tt); only = still outside }; finish = refl })
+completes_nothing places outcome (Err stop) outside is = rw is (record { writes = record { ended = inl refl; only = still outside }; finish = tt })
+
+pub completes_wanting : (places : List Named) (outcome : Outcome) (outside : Outside) (result : Result Finish Stop) → IsErrAnd result (λ e. e ≡ Memory) → Completes places outcome outside outside result
+completes_wanting places outcome outside (Ok finish) is = absurd is
+completes_wanting places outcome outside (Err stop) is = completes_nothing places outcome (Err stop) outside is
 
 -- an outcome may be told in other words
-pub completes_as : (places : List Named) (outcome other : Outcome) (words : ℕ) (old new : Outside) (result : Status) → outcome ≡ other → Completes places other words old new result → Completes places outcome words old new result
-completes_as places outcome other words old new result is completes = rw is completes
-
--- an outcome of which nothing is written
-pub completes_nothing : (places : List Named) (outcome : Outcome) (finish : Option Finish) (words : ℕ) (old new : Outside) (result : Status) → IfSome finish (λ finish. outcome ≡ record { files = []; finish = finish }) →
-    Refuses finish words old new result → Completes places outcome words old new result
-completes_nothing places outcome None words old new result is refuses = inr refuses
-completes_nothing places outcome (Some finish) words old new result is refuses = rw is (inl refuses)
+pub completes_as : (places : List Named) (outcome other : Outcome) (old new : Outside) (result : Result Finish Stop) → outcome ≡ other → Completes places other old new result → Completes places outcome old new result
+completes_as places outcome other old new result is completes = rw is completes

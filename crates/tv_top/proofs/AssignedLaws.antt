@@ -1,18 +1,19 @@
 -- What an assignment that was read comes to: a run, or why it has none.
-use Rattle.std.proofs.Common.{◌≡◌, ◌⊎◌, ◌<◌, ◌≤◌, ℕ, Bool, true, List, Option, Some, None, Result, Ok, Err, inl, inr, ap, arith}
+use Rattle.std.proofs.Common.{◌≡◌, ◌⊎◌, ◌<◌, ◌≤◌, ℕ, Bool, true, List, Result, Ok, Err, inl, inr, refl, ap, arith}
 use Rattle.tv_benes.specs.declared.shape.Net.{Net}
 use Rattle.tv_core.specs.declared.limits.TheConstants.{TAPE_WORDS, STEPS}
 use Rattle.tv_extract.proofs.ExtractLaws.{extracted_is_run, satisfying_have_runs}
 use Rattle.tv_extract.specs.declared.run.ExtractFault.{ExtractFault}
 use Rattle.tv_extract.specs.declared.run.ExtractFault.TheVariants as faults
 use Rattle.tv_extract.specs.declared.run.Run.{Run}
-use Rattle.tv_top.proofs.Common.{Names, Outside, Bad, Finish, Status, Holds, Then, Completes, Refuses, Named, Outcome, ◌>>=◌, input, bits, program_in}
+use Rattle.tv_top.proofs.Common.{Names, Outside, Bad, Finish, Memory, Holds, Then, Completes, Named, name_at, Outcome, ◌>>=◌, input, settled, bits, program_in}
 use Rattle.tv_layout.specs.Places.{WithinLimits}
 use Rattle.tv_top.specs.declared.refusal.Finish.TheVariants.{NotARun}
 use Rattle.tv_top.specs.declared.status.NotRun.{NotRun}
 use Rattle.tv_top.specs.Building.{program_system}
 use Rattle.tv_top.specs.Containers.{witness_in}
 use Rattle.tv_top.specs.Extracting.{Assigned, assigned_of, assigned_run, not_run, not_run_ends, run_ends, HasAssigned}
+use Rattle.tv_top.proofs.Answering.{completes_nothing}
 use Rattle.tv_top.proofs.Claiming.{Shows, if_ok, shows_input, shows_then, shows_made, shows_more}
 use Rattle.tv_top.proofs.ProgramLaws.{has_image, within_limits}
 
@@ -25,14 +26,16 @@ ends_in kind run tells none (Err (faults.NotARun end)) = none _
 ends_in kind run tells none (Err faults.Memory) = none _
 
 -- there is no run, or memory was wanting
-pub completes_none : (places : List Named) (run : Run → Outcome) (found : Result Run ExtractFault) (fault : ExtractFault) (words : ℕ) (old new : Outside) (result : Status) → (fault ≡ faults.Memory) ⊎ (found ≡ Err fault) →
-    Refuses (not_run fault) words old new result → Completes places (run_ends run found) words old new result
-completes_none places run found fault words old new result (inl memory) refused = inr (rw memory at refused)
-completes_none places run found fault words old new result (inr due) refused = rw due (by_end (not_run fault) refused)
+pub completes_none : (places : List Named) (run : Run → Outcome) (found : Result Run ExtractFault) (fault : ExtractFault) (outside : Outside) → (fault ≡ faults.Memory) ⊎ (found ≡ Err fault) →
+    Completes places (run_ends run found) outside outside (not_run fault)
+completes_none places run found fault outside (inl memory) = rw memory (completes_nothing places (run_ends run found) (Err Memory) outside refl)
+completes_none places run found fault outside (inr due) = rw due (by_end fault)
   where
-    by_end : (end : Option Finish) → Refuses end words old new result → Completes places (not_run_ends end) words old new result
-    by_end None refused = inr refused
-    by_end (Some finish) refused = inl refused
+    by_end : (fault : ExtractFault) → Completes places (not_run_ends (not_run fault)) outside outside (not_run fault)
+    by_end faults.Memory = completes_nothing places _ (Err Memory) outside refl
+    by_end (faults.WireCount has wants) = completes_nothing places _ (Ok _) outside refl
+    by_end (faults.WideWire at) = completes_nothing places _ (Ok _) outside refl
+    by_end (faults.NotARun end) = completes_nothing places _ (Ok _) outside refl
 
 -- what the two files hold
 abbrev HasBoth : Names → List ℕ → List ℕ → Result Assigned Bad → Type 0
@@ -47,12 +50,12 @@ assigned_fits n t files text witness assigned few some most (inl (program, holds
 assigned_fits n t files text witness assigned few some most (inl (program, holds, inr (bad, refused, e))) = cc
 assigned_fits n t files text witness assigned few some most (inr (bad, refused, e)) = cc
 
-pub assigned_shown : (net : Net) (files : Names) (text : List ℕ) (n t : ℕ) (witness : List ℕ) → n ≤ TAPE_WORDS → 0 < t → t ≤ STEPS → Shows (assigned_of text witness files).gives (HasAssigned net files text n t witness)
+pub assigned_shown : (net : Net) (files : Names) (text : List ℕ) (n t : ℕ) (witness : List ℕ) → n ≤ TAPE_WORDS → 0 < t → t ≤ STEPS → Shows (assigned_of (name_at 1 text) (name_at 4 witness) files).gives (HasAssigned net files text n t witness)
 unfolding assigned_of assigned_run program_system
 assigned_shown net files text n t witness few some most =
     shows_more _ _ _
-    (shows_then (input 1 program_in text files) (λ program. input 4 witness_in witness files >>= λ z. record { at = 4; gives = Ok (record { program = program; z = z }) }) _ _ (shows_input 1 program_in text files) (λ program _.
-    shows_then (input 4 witness_in witness files) (λ z. record { at = 4; gives = Ok (record { program = program; z = z }) }) _ _ (shows_input 4 witness_in witness files) (λ z _. shows_made (Ok (record { program = program; z = z })))))
+    (shows_then (input (name_at 1 text) program_in files) (λ program. input (name_at 4 witness) witness_in files >>= λ z. settled (Ok (record { program = program; z = z }))) _ _ (shows_input (name_at 1 text) program_in files) (λ program _.
+    shows_then (input (name_at 4 witness) witness_in files) (λ z. settled (Ok (record { program = program; z = z }))) _ _ (shows_input (name_at 4 witness) witness_in files) (λ z _. shows_made (Ok (record { program = program; z = z })))))
     (λ held has. record {
       holds = has;
       run = if_ok held _ (λ assigned _ run is. extracted_is_run (bits assigned.program.width) net assigned.program.words assigned.z n t run is);

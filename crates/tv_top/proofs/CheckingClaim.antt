@@ -21,7 +21,7 @@ use Rattle.tv_top.specs.declared.refusal.Stop.{Stop}
 use Rattle.tv_top.specs.Checking.{check_of, check_ends, check_plan, IsJudged, HasVerdict, OnCheck}
 use Rattle.tv_top.specs.Containers.{system_bad, witness_bad, system_in, witness_in, firsts_in_witness, counts_in, verdict_in}
 use Rattle.tv_top.specs.Finds.{Finds}
-use Rattle.tv_top.specs.Plan.{Look, ◌>>=◌, look_on, held_at, input, map_ok}
+use Rattle.tv_top.specs.Plan.{Named, name_at, Look, ◌>>=◌, look_on, held_at, input, settled, map_ok}
 use Rattle.tv_top.specs.Tapes.{publics_in, tape_sizes}
 use Rattle.tv_top.proofs.ContainerReads.{part_held, read_of}
 use Rattle.tv_top.proofs.Looking.{finds_as}
@@ -32,61 +32,62 @@ use Rattle.tv_top.proofs.Claiming.{Promises, Shows, comes, made_is, shows_input,
 -- what the code looks at: the system, for its faults and its wires; as many values of the witness as there are wires,
 -- with the number of them all; the tape; and the system again, for the verdict, or, where there are more values than
 -- wires or fewer, for its wires
-unfoldable pub check_last : List ℕ → ℕ → Firsts → List ℕ → Names → Look Verdict
+unfoldable pub check_last : Named → ℕ → Firsts → List ℕ → Names → Look Verdict
 check_last system wires first x files =
     if first.count == wires
-    then input 1 (verdict_in first.values x) system files
-    else (input 1 counts_in system files >>= λ counts. record { at = 1; gives = Ok (WireCount first.count counts.wires) })
+    then input system (verdict_in first.values x) files
+    else (input system counts_in files >>= λ counts. settled (Ok (WireCount first.count counts.wires)))
 
-unfoldable pub check_twice : List ℕ → List ℕ → List ℕ → Names → Look Verdict
+unfoldable pub check_twice : Named → Named → Named → Names → Look Verdict
 check_twice system witness tape files = do
-  counts ← input 1 counts_in system files
-  first ← input 2 (firsts_in_witness counts.wires) witness files
-  x ← input 3 publics_in tape files
+  counts ← input system counts_in files
+  first ← input witness (firsts_in_witness counts.wires) files
+  x ← input tape (publics_in tape.word) files
   check_last system counts.wires first x files
 
 -- the last of these, from what the system comes to once more
-abbrev counted : Result Counts Stop → Result Verdict Stop → ℕ → Firsts → Look Verdict
-counted counts again wires first =
-    if first.count == wires then record { at = 1; gives = again } else look_on 1 counts (λ counts. record { at = 1; gives = Ok (WireCount first.count counts.wires) })
+abbrev counted : ℕ → Result Counts Stop → Result Verdict Stop → ℕ → Firsts → Look Verdict
+counted a counts again wires first =
+    if first.count == wires then record { at = a; gives = again } else look_on a counts (λ counts. settled (Ok (WireCount first.count counts.wires)))
 
 -- it is that by all values: the first are all where there are as many as wires
-by_count : (s : System) (z x : List ℕ) (same : Bool) → (length z == s.wires) ≡ same → counted (Ok (system_counts s)) (Ok (judge s (take s.wires z) x)) s.wires (firsts_of s.wires z) ≡ record { at = 1; gives = Ok (judge s z x) }
-by_count s z x true e = rw (take_all s.wires z (omega (arith, eqb-true (length z) s.wires e)), e) refl
-by_count s z x false e = rw e refl
+by_count : (a : ℕ) (s : System) (z x : List ℕ) (same : Bool) → (length z == s.wires) ≡ same → counted a (Ok (system_counts s)) (Ok (judge s (take s.wires z) x)) s.wires (firsts_of s.wires z) ≡ record { at = a; gives = Ok (judge s z x) }
+by_count a s z x true e = rw (take_all s.wires z (omega (arith, eqb-true (length z) s.wires e)), e) refl
+by_count a s z x false e = let last : max a 0 ≡ a = omega arith in rw (e, last) refl
 
 -- each look at a part of what a file holds gives that part
-by_parts : (s : Result System Stop) (z x : Result (List ℕ) Stop) (all : Result Counts Stop) (first : ℕ → Result Firsts Stop) (again : List ℕ → List ℕ → Result Verdict Stop) →
+by_parts : (a b c : ℕ) (s : Result System Stop) (z x : Result (List ℕ) Stop) (all : Result Counts Stop) (first : ℕ → Result Firsts Stop) (again : List ℕ → List ℕ → Result Verdict Stop) →
     all ≡ map_ok system_counts s → ((most : ℕ) → first most ≡ map_ok (firsts_of most) z) → ((z x : List ℕ) → again z x ≡ map_ok (λ s. judge s z x) s) →
-    look_on 1 all (λ counts. look_on 2 (first counts.wires) (λ first. look_on 3 x (λ x. counted all (again first.values x) counts.wires first)))
-    ≡ look_on 1 s (λ s. look_on 2 z (λ z. look_on 3 x (λ x. record { at = 3; gives = Ok (judge s z x) })))
-by_parts (Ok s) (Ok z) (Ok x) all first again is firsts tells =
-    rw (is, firsts s.wires, tells (take s.wires z) x) (ap (λ (look : Look Verdict). record { at = max 1 (max 2 (max 3 look.at)); gives = look.gives }) (by_count s z x (length z == s.wires) refl))
-by_parts (Ok s) (Ok z) (Err why) all first again is firsts tells = rw (is, firsts s.wires) refl
-by_parts (Ok s) (Err why) x all first again is firsts tells = rw (is, firsts s.wires) refl
-by_parts (Err why) z x all first again is firsts tells = rw is refl
+    look_on a all (λ counts. look_on b (first counts.wires) (λ first. look_on c x (λ x. counted a all (again first.values x) counts.wires first)))
+    ≡ look_on a s (λ s. look_on b z (λ z. look_on c x (λ x. settled (Ok (judge s z x)))))
+by_parts a b c (Ok s) (Ok z) (Ok x) all first again is firsts tells =
+    let reach : max a (max b (max c a)) ≡ max a (max b (max c 0)) = omega arith in
+    rw (is, firsts s.wires, tells (take s.wires z) x, ← reach) (ap (λ (look : Look Verdict). record { at = max a (max b (max c look.at)); gives = look.gives }) (by_count a s z x (length z == s.wires) refl))
+by_parts a b c (Ok s) (Ok z) (Err why) all first again is firsts tells = rw (is, firsts s.wires) refl
+by_parts a b c (Ok s) (Err why) x all first again is firsts tells = rw (is, firsts s.wires) refl
+by_parts a b c (Err why) z x all first again is firsts tells = rw is refl
 
-once : (system witness tape : List ℕ) (files : Names) → check_twice system witness tape files ≡ check_of system witness tape files
+once : (system witness tape : Named) (files : Names) → check_twice system witness tape files ≡ check_of system witness tape files
 unfolding check_twice check_last check_of survey_of verdict_of input
 once system witness tape files =
-    by_parts (held_at 1 system_in (files system)) (held_at 2 witness_in (files witness)) (held_at 3 publics_in (files tape)) _
-    (λ most. held_at 2 (firsts_in_witness most) (files witness)) (λ z x. held_at 1 (verdict_in z x) (files system))
-    (part_held 1 system_bad system_of system_counts (files system)) (λ most. part_held 2 witness_bad assignment_of (firsts_of most) (files witness)) (λ z x. part_held 1 system_bad system_of (λ s. judge s z x) (files system))
+    by_parts system.word witness.word tape.word (held_at system.word system_in (files system.name)) (held_at witness.word witness_in (files witness.name)) (held_at tape.word (publics_in tape.word) (files tape.name)) _
+    (λ most. held_at witness.word (firsts_in_witness most) (files witness.name)) (λ z x. held_at system.word (verdict_in z x) (files system.name))
+    (part_held system.word system_bad system_of system_counts (files system.name)) (λ most. part_held witness.word witness_bad assignment_of (firsts_of most) (files witness.name)) (λ z x. part_held system.word system_bad system_of (λ s. judge s z x) (files system.name))
 
 -- the last look: the verdict where there are as many values as wires, and else the wires
-pub finds_verdict : (system : List ℕ) (wires : ℕ) (first : Firsts) (x : List ℕ) (old new : Outside) (found : Result Verdict Stop) → first.count ≡ wires →
-    Finds (λ v. v) (1 ∷ []) [] (input 1 (verdict_in first.values x) system) old new found → Finds (λ v. v) (1 ∷ []) [] (check_last system wires first x) old new found
+pub finds_verdict : (system : Named) (wires : ℕ) (first : Firsts) (x : List ℕ) (old new : Outside) (found : Result Verdict Stop) → first.count ≡ wires →
+    Finds (λ v. v) (system.word ∷ []) [] (input system (verdict_in first.values x)) old new found → Finds (λ v. v) (system.word ∷ []) [] (check_last system wires first x) old new found
 unfolding check_last
 finds_verdict system wires first x old new found same finds = finds_as (λ files. rw (eq-eqb first.count wires same) refl) finds
 
-pub finds_wires : (system : List ℕ) (wires : ℕ) (first : Firsts) (x : List ℕ) (old new : Outside) (found : Result Verdict Stop) → ¬ (first.count ≡ wires) →
-    Finds (λ v. v) (1 ∷ []) [] (λ files. input 1 counts_in system files >>= λ counts. record { at = 1; gives = Ok (WireCount first.count counts.wires) }) old new found → Finds (λ v. v) (1 ∷ []) [] (check_last system wires first x) old new found
+pub finds_wires : (system : Named) (wires : ℕ) (first : Firsts) (x : List ℕ) (old new : Outside) (found : Result Verdict Stop) → ¬ (first.count ≡ wires) →
+    Finds (λ v. v) (system.word ∷ []) [] (λ files. input system counts_in files >>= λ counts. settled (Ok (WireCount first.count counts.wires))) old new found → Finds (λ v. v) (system.word ∷ []) [] (check_last system wires first x) old new found
 unfolding check_last
 finds_wires system wires first x old new found other finds = finds_as (λ files. rw (ne_eqb first.count wires other) refl) finds
 
 -- what was found is what the plan looks for
-pub finds_once : (system witness tape : List ℕ) (old new : Outside) (found : Result Verdict Stop) → Finds (λ v. v) (1 ∷ 2 ∷ 3 ∷ 1 ∷ []) (tape_sizes TapeWords) (check_twice system witness tape) old new found →
-    Finds (λ v. v) (1 ∷ 2 ∷ 3 ∷ []) (tape_sizes TapeWords) (check_of system witness tape) old new found
+pub finds_once : (system witness tape : Named) (old new : Outside) (found : Result Verdict Stop) → Finds (λ v. v) (system.word ∷ witness.word ∷ tape.word ∷ system.word ∷ []) (tape_sizes TapeWords) (check_twice system witness tape) old new found →
+    Finds (λ v. v) (system.word ∷ witness.word ∷ tape.word ∷ []) (tape_sizes TapeWords) (check_of system witness tape) old new found
 finds_once system witness tape old new found finds =
     let same = finds_as (λ files. sym (once system witness tape files)) finds in
     record { told = same.told; absent = same.absent; only = same.only; caused = λ word e. let cause = same.caused word e in (grind (arith, cause.0), cause.1); limits = same.limits }
@@ -106,16 +107,16 @@ verdict_shown s z x room below = record {
   one = λ one other a b. a.is ∙ ap (λ verdict. Ok verdict) (sym ((judged_exactly s z x a.verdict room below).1 a.tells) ∙ (judged_exactly s z x b.verdict room below).1 b.tells) ∙ sym b.is;
 }
 
-all_shown : (system witness tape : List ℕ) (files : Names) → Shows (check_of system witness tape files).gives (HasVerdict files system witness tape)
+all_shown : (system witness tape : List ℕ) (files : Names) → Shows (check_of (name_at 1 system) (name_at 2 witness) (name_at 3 tape) files).gives (HasVerdict files system witness tape)
 unfolding check_of
 all_shown system witness tape files =
-    shows_then (input 1 system_in system files) (λ s. input 2 witness_in witness files >>= λ z. input 3 publics_in tape files >>= λ x. record { at = 3; gives = Ok (judge s z x) }) _ _ (shows_input 1 system_in system files) (λ s in_system.
-    shows_then (input 2 witness_in witness files) (λ z. input 3 publics_in tape files >>= λ x. record { at = 3; gives = Ok (judge s z x) }) _ _ (shows_input 2 witness_in witness files) (λ z in_witness.
-    shows_then (input 3 publics_in tape files) (λ x. record { at = 3; gives = Ok (judge s z x) }) _ _ (shows_input 3 publics_in tape files) (λ x _.
+    shows_then (input (name_at 1 system) system_in files) (λ s. input (name_at 2 witness) witness_in files >>= λ z. input (name_at 3 tape) (publics_in 3) files >>= λ x. settled (Ok (judge s z x))) _ _ (shows_input (name_at 1 system) system_in files) (λ s in_system.
+    shows_then (input (name_at 2 witness) witness_in files) (λ z. input (name_at 3 tape) (publics_in 3) files >>= λ x. settled (Ok (judge s z x))) _ _ (shows_input (name_at 2 witness) witness_in files) (λ z in_witness.
+    shows_then (input (name_at 3 tape) (publics_in 3) files) (λ x. settled (Ok (judge s z x))) _ _ (shows_input (name_at 3 tape) (publics_in 3) files) (λ x _.
     verdict_shown s z x (rw (read_of system_bad (system_of in_system.bytes) s in_system.reads) at (has_room in_system.bytes))
     (assignments_below in_witness.bytes z (read_of witness_bad (assignment_of in_witness.bytes) z in_witness.reads)))))
 
 pub checks : Promises OnCheck
 checks words count old new result answers system witness tape are files told =
-    comes (check_plan system witness tape) check_ends (check_of system witness tape) (HasVerdict files system witness tape) words count files old new result
+    comes (check_plan (name_at 1 system) (name_at 2 witness) (name_at 3 tape)) check_ends (check_of (name_at 1 system) (name_at 2 witness) (name_at 3 tape)) (HasVerdict files system witness tape) words count files old new result
     (rw are refl) (tt, (tt, (tt, tt))) tt refl told answers (all_shown system witness tape files)

@@ -91,9 +91,9 @@ one_then First Second first second one other (inr (bad, is, on)) (inr (why, also
 -- ---- both
 
 -- what is read of a file is what it holds
-pub shows_input : {A : Type 0} (word : ℕ) (read : List ℕ → Result A Bad) (name : List ℕ) (files : Names) → Shows (input word read name files).gives (Holds read (files name))
+pub shows_input : {A : Type 0} (place : Named) (read : List ℕ → Result A Bad) (files : Names) → Shows (input place read files).gives (Holds read (files place.name))
 unfolding input
-shows_input word read name files = record { held = file_held word read (files name); one = one_holds read (files name) }
+shows_input place read files = record { held = file_held place.word read (files place.name); one = one_holds read (files place.name) }
 
 pub shows_then : {A B : Type 0} (look : Look A) (f : A → Look B) (First : Result A Bad → Type 0) (Second : A → Result B Bad → Type 0) → Shows look.gives First → ((x : A) → First (Ok x) → Shows (f x).gives (Second x)) → Shows (look >>= f).gives (Then First Second)
 shows_then look f First Second first second =

@@ -3,10 +3,8 @@ pub use Rattle.tv_files.specs.Outside.{Names, Outside, OnlyWrites, OnlyReads, Mi
 pub use Rattle.tv_word.specs.Counts.{Rose}
 pub use Rattle.tv_top.specs.declared.place.Amount.{Amount}
 pub use Rattle.tv_top.specs.declared.refusal.Bad.{Bad}
-pub use Rattle.tv_top.specs.declared.refusal.Cut.{Cut}
 pub use Rattle.tv_top.specs.declared.refusal.Ending.{Ending}
 pub use Rattle.tv_top.specs.declared.refusal.Finish.{Finish}
-pub use Rattle.tv_top.specs.declared.refusal.Flaw.{Flaw}
 pub use Rattle.tv_top.specs.declared.refusal.Quantity.{Quantity}
 pub use Rattle.tv_top.specs.declared.refusal.Refusal.{Refusal}
 pub use Rattle.tv_top.specs.declared.refusal.Size.{Size}
@@ -19,11 +17,11 @@ pub use Rattle.tv_top.specs.declared.loading.Inputs.{Inputs}
 pub use Rattle.tv_top.specs.declared.programs.Program.{Program}
 pub use Rattle.tv_top.specs.declared.programs.Width.{Width}
 pub use Rattle.tv_top.specs.declared.programs.Width.TheVariants.{Bits16, Bits32}
-pub use Rattle.tv_top.specs.Plan.{Named, Look, Outcome, Plan, Write, Answer, files_of, answer_by, answer_of, ending_by, writes_by, comes_by, AreWithin, ◌>>=◌, held_at, made_of, same_in, same_of, limit_of, request_of, map_ok, look_on, within, first_of, refusal_of}
+pub use Rattle.tv_top.specs.Plan.{Named, name_at, Look, Outcome, Plan, Write, Answer, files_of, answer_by, answer_of, ending_by, writes_by, comes_by, AreWithin, ◌>>=◌, held_at, made_of, settled, same_in, same_of, limit_of, request_of, map_ok, look_on, within, refusal_of}
 unfoldable pub use Rattle.tv_top.specs.Plan.{input}
-pub use Rattle.tv_top.specs.Finds.{IsOneOf, IsFound, Finds, Makes, flaw_stop, limited_bytes}
-pub use Rattle.tv_top.specs.Ends.{AreRead, files_with, IsCutAt, IsCutInWriting, Said, SaidPart, Ends, IsConcluded, Concludes, Writes, Closes, Finishes, Completes, Refuses, IsAnswered, sink_cut, streamed, HasPartOf}
-pub use Rattle.tv_top.specs.Answers.{words_of, MayStop, MayEnd, quantities_of, IsOfWords, ChangedAt, IsSaid, Answers}
+pub use Rattle.tv_top.specs.Finds.{IsOneOf, IsFound, Finds, Makes, limited_bytes, limited_look}
+pub use Rattle.tv_top.specs.Ends.{AreRead, files_with, IsCutAt, IsCutInWriting, Said, SaidPart, Ends, IsConcluded, Concludes, Writes, IsCut, Completes, IsAnswered, sink_stop, streamed, HasPartOf}
+pub use Rattle.tv_top.specs.Answers.{words_of, MayStop, MayEnd, quantities_of, IsOfWords, ChangedAt, IsSaid, Answers, Does, ending_of}
 pub use Rattle.tv_top.specs.Claims.{Holds, Then, IsStopped, status_by, Answered, Comes}
 pub use Rattle.tv_top.specs.Programs.{bits, program_in, program_sizes, image_words, image_bytes, program_result, HasImage, width_told, program_of}
 unfoldable pub use Rattle.tv_top.specs.Programs.{program_by, image_of}

@@ -1,14 +1,14 @@
 -- From what reading a container came to, by what its file holds, to what a look at the file found.
-use Rattle.std.proofs.Common.{◌≡◌, ℕ, ◌≤◌, List, [], ◌∷◌, Option, Some, None, Result, Ok, Err, IsErrAnd, inl, inr, refl, ap}
+use Rattle.std.proofs.Common.{◌≡◌, ℕ, ◌≤◌, List, [], ◌∷◌, Option, Some, None, Result, Ok, Err, IsErrAnd, inl, inr, refl, ap, arith}
 use Rattle.std.specs.Prelude.{MatchResult}
-use Rattle.tv_top.proofs.Common.{Names, Outside, OnlyReads, MissesOnly, Rose, Bad, Size, Stop, MayStop, IsFound, Finds, Look, held_at, made_of, map_ok}
+use Rattle.tv_top.proofs.Common.{Names, Outside, OnlyReads, MissesOnly, Rose, Bad, Size, Stop, MayStop, IsFound, Finds, Named, Look, input, held_at, made_of, map_ok}
 use Rattle.tv_container.specs.Places.{Fault, ◌>>=◌}
 use Rattle.tv_container.specs.Reading.{bytes_of, Known, GivesBy, Looks, Stopped, IsMissing}
 use Rattle.tv_container.specs.declared.why.ReadRefusal.{ReadRefusal}
 use Rattle.tv_container.specs.declared.why.ReadRefusal.TheVariants as refusal
 use Rattle.tv_top.specs.declared.refusal.Bad.TheVariants.{Limit}
 use Rattle.tv_top.specs.declared.refusal.Stop.TheVariants as stop
-use Rattle.tv_top.specs.Containers.{container_result, refusal_stop, stop_of, system_bad, witness_bad}
+use Rattle.tv_top.specs.Containers.{container_result, refusal_stop, system_bad, witness_bad}
 use Rattle.tv_top.proofs.Looking.{finds_still}
 
 -- what a refusal of a reader is: a fault of this word, where it is that of reading, or contents that may be refused so
@@ -64,20 +64,21 @@ read_stops word bad none (refusal.Bad at what) = none (record { at = at; why = w
 read_stops word bad none refusal.Fault = (refl, refl)
 read_stops word bad none refusal.Memory = tt
 
-read_told : {Y A : Type 0} (view : Y → A) (word reach : ℕ) (bad : Fault → Bad) (due : Result A Fault) (result : Result Y ReadRefusal) → word ≤ reach → GivesBy result view due →
-    IsFound view (record { at = reach; gives = made_of (container_result bad due) }) (stop_of word bad result)
-read_told view word reach bad due (Ok y) within gives = rw gives refl
-read_told view word reach bad due (Err (refusal.Bad at what)) within gives = rw (gives.bad at what refl) refl
-read_told view word reach bad due (Err refusal.Fault) within gives = within
-read_told view word reach bad due (Err refusal.Memory) within gives = tt
+read_told : {Y A : Type 0} (view : Y → A) (word : ℕ) (bad : Fault → Bad) (due : Result A Fault) (result : Result Y ReadRefusal) → GivesBy result view due →
+    IsFound view (record { at = word; gives = made_of (container_result bad due) }) (came (refusal_stop word bad) result)
+read_told view word bad due (Ok y) gives = rw gives refl
+read_told view word bad due (Err (refusal.Bad at what)) gives = rw (gives.bad at what refl) refl
+read_told view word bad due (Err refusal.Fault) gives = omega arith
+read_told view word bad due (Err refusal.Memory) gives = tt
 
 -- what reading a container found
-pub finds_read : {Y A : Type 0} (view : Y → A) (word reach : ℕ) (name : List ℕ) (bad : Fault → Bad) (read : List ℕ → Result A Fault) (old new : Outside) (result : Result Y ReadRefusal) →
-    word ≤ reach → NoLimit bad → Known old name (λ file. GivesBy result view (read file)) → Looks old new name result → (IsMissing old name → result ≡ Err refusal.Fault) →
-    Finds view (word ∷ []) [] (λ held. record { at = reach; gives = held_at word (λ file. container_result bad (read file)) (held name) }) old new (stop_of word bad result)
-finds_read view word reach name bad read old new result within none gives looks missing =
-    finds_file view (refusal_stop word bad) refusal.Fault word [] name (λ file. record { at = reach; gives = held_at word (λ file. container_result bad (read file)) file }) old new (Stopped old new name) result refl within refl (read_stops word bad none)
-    (λ why stopped. (stopped.only, stopped.there, stopped.fault)) (λ file there. read_told view word reach bad (read file) result within (gives file there)) looks missing
+pub finds_read : {Y A : Type 0} (view : Y → A) (place : Named) (bad : Fault → Bad) (read : List ℕ → Result A Fault) (old new : Outside) (result : Result Y ReadRefusal) → NoLimit bad →
+    Known old place.name (λ file. GivesBy result view (read file)) → Looks old new place.name result → (IsMissing old place.name → result ≡ Err refusal.Fault) →
+    Finds view (place.word ∷ []) [] (input place (λ file. container_result bad (read file))) old new (came (refusal_stop place.word bad) result)
+unfolding input
+finds_read view place bad read old new result none gives looks missing =
+    finds_file view (refusal_stop place.word bad) refusal.Fault place.word [] place.name (λ file. record { at = place.word; gives = held_at place.word (λ file. container_result bad (read file)) file }) old new (Stopped old new place.name) result refl (omega arith) refl
+    (read_stops place.word bad none) (λ why stopped. (stopped.only, stopped.there, stopped.fault)) (λ file there. read_told view place.word bad (read file) result (gives file there)) looks missing
 
 -- what a container comes to that isn't refused
 pub read_of : {A : Type 0} (bad : Fault → Bad) (read : Result A Fault) (x : A) → container_result bad read ≡ Ok x → read ≡ Ok x

@@ -1,10 +1,11 @@
 -- `extract`: what it promises.
 use Rattle.std.proofs.Common.{refl, arith}
 use Rattle.tv_top.specs.Extracting.{assigned_of, extract_ends, extract_plan, HasAssigned, OnExtract}
+use Rattle.tv_top.specs.Plan.{name_at}
 use Rattle.tv_top.proofs.AssignedLaws.{assigned_shown}
 use Rattle.tv_top.proofs.Claiming.{Promises, comes}
 
 pub extracts : Promises OnExtract
 extracts words count old new result answers text first second witness tape aux last net n t are is_net is_n is_t a b c d e few some most files told =
-    comes (extract_plan net text n t witness tape aux) (extract_ends net n t) (assigned_of text witness) (HasAssigned net files text n t witness) words count files old new result
+    comes (extract_plan net (name_at 1 text) n t (name_at 4 witness) (name_at 5 tape) (name_at 6 aux)) (extract_ends net n t) (assigned_of (name_at 1 text) (name_at 4 witness)) (HasAssigned net files text n t witness) words count files old new result
     (rw (are, is_net, is_n, is_t) refl) ((a, (b, tt)), ((c, (d, tt)), ((e, tt), (tt, tt)))) (omega arith, few, (omega arith, most, tt)) refl told answers (assigned_shown net files text n t witness few some most)

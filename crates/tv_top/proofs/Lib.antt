@@ -10,6 +10,7 @@ pub mod Streaming
 pub mod ProgramLaws
 pub mod LoadingLaws
 pub mod AssignedLaws
+pub mod Plans
 pub mod AssemblingClaim
 pub mod BuildingClaim
 pub mod WitnessingClaim

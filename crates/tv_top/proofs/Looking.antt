@@ -1,9 +1,8 @@
 -- Looks at files, one after another, and what is made of what they find.
 use Rattle.std.proofs.Common.{◌≡◌, ℕ, ◌+◌, nat_le, List, [], ◌∷◌, ◌++◌, length, Option, Some, None, Result, Ok, Err, IsErrAnd, inl, inr, refl, ap, ◌∙◌, ◌≤◌, arith, rules}
 use Rattle.std.proofs.lemmas.Bool.{cond_both}
-use Rattle.tv_top.proofs.Common.{Names, Outside, Bad, Flaw, Size, Stop, Fault, Memory, Contents, IsOneOf, IsFound, Finds, Makes, flaw_stop, limited_bytes, Look, ◌>>=◌, look_on, Outcome, comes_by, map_ok, input, within, held_at, made_of}
+use Rattle.tv_top.proofs.Common.{Names, Outside, Bad, Size, Stop, Fault, Memory, Contents, IsOneOf, IsFound, Finds, Makes, limited_bytes, limited_look, Named, Look, ◌>>=◌, look_on, Outcome, comes_by, map_ok, input, within, held_at, made_of}
 use Rattle.tv_top.specs.declared.refusal.Bad.TheVariants as bad
-use Rattle.tv_top.specs.declared.refusal.Flaw.TheVariants as flaw
 
 left_at : {A : Type 0} (x : A) (some more : List A) → IsOneOf x some → IsOneOf x (some ++ more)
 left_at x [] more at = absurd at
@@ -82,43 +81,24 @@ finds_as is finds = record {
 
 -- ---- what was made of what was read
 
--- what making came to, as what a look comes to by `?`
-abbrev from_made : {X : Type 0} → Result X Flaw → Result X Stop
-from_made (Ok x) = Ok x
-from_made (Err flaw) = Err (flaw_stop flaw)
-
-told_made : {X A : Type 0} (view : X → A) (due : Look A) (held : Result A Bad) (made : Result X Flaw) → due.gives ≡ made_of held → Makes view held made → IsFound view due (from_made made)
+told_made : {X A : Type 0} (view : X → A) (due : Look A) (held : Result A Bad) (made : Result X Stop) → due.gives ≡ made_of held → Makes view held made → IsFound view due made
 told_made view due held (Ok x) is makes = is ∙ ap made_of makes
-told_made view due held (Err (flaw.Contents why)) is makes = is ∙ ap made_of makes
-told_made view due held (Err flaw.Memory) is makes = tt
+told_made view due held (Err (Contents why)) is makes = is ∙ ap made_of makes
+told_made view due held (Err (Fault word)) is makes = absurd makes
+told_made view due held (Err Memory) is makes = tt
 
-no_fault : {X : Type 0} (made : Result X Flaw) (word : ℕ) → ¬ (from_made made ≡ Err (Fault word))
-no_fault (Err flaw.Memory) word e = cc
-no_fault _ word e = cc
+no_fault : {X A : Type 0} (view : X → A) (held : Result A Bad) (made : Result X Stop) (word : ℕ) → Makes view held made → ¬ (made ≡ Err (Fault word))
+no_fault view held (Err (Fault at)) word makes e = makes
+no_fault view held _ word makes e = cc
 
 -- what is made of contents passes the limits of these quantities alone
 abbrev pub IsLimited : {A : Type 0} → Result A Bad → List Size → Type 0
 IsLimited held sizes = (what : Size) (has most : ℕ) → held ≡ Err (bad.Limit what has most) → IsOneOf what sizes
 
-limits_made : {X A : Type 0} (view : X → A) (held : Result A Bad) (made : Result X Flaw) (sizes : List Size) → Makes view held made → IsLimited held sizes →
-    (what : Size) (has most : ℕ) → from_made made ≡ Err (Contents (bad.Limit what has most)) → IsOneOf what sizes
-limits_made view held (Err (flaw.Contents why)) sizes makes limited what has most e = let same : why ≡ bad.Limit what has most = cc in limited what has most (makes ∙ ap Err same)
+limits_made : {X A : Type 0} (view : X → A) (held : Result A Bad) (made : Result X Stop) (sizes : List Size) → Makes view held made → IsLimited held sizes →
+    (what : Size) (has most : ℕ) → made ≡ Err (Contents (bad.Limit what has most)) → IsOneOf what sizes
+limits_made view held (Err (Contents why)) sizes makes limited what has most e = let same : why ≡ bad.Limit what has most = cc in limited what has most (makes ∙ ap Err same)
 limits_made view held _ sizes makes limited what has most e = cc
-
--- a look comes to what is made of what another one gives
-pub finds_made : {X Y A B : Type 0} (view : X → A) (of_read : Y → B) (words : List ℕ) (few sizes : List Size) (look : Names → Look B) (due : Names → Look A) (held : Result A Bad) (read : Y) (made : Result X Flaw) (old new : Outside) →
-    ((files : Names) → (look files).gives ≡ Ok (of_read read) → (due files).gives ≡ made_of held) →
-    Finds of_read words few look old new (Ok read) → Makes view held made → IsLimited held sizes → Finds view words sizes due old new (from_made made)
-finds_made view of_read words few sizes look due held read made old new comes finds makes limited = record {
-  told = λ files told. told_made view (due files) held made (comes files (finds.told files told)) makes;
-  absent = λ files told. elim (finds.absent files told) [
-    | inl same ↦ inl same
-    | inr missing ↦ absurd (let found = finds.told files told in let missed = missing.1 in cc)
-  ];
-  only = finds.only;
-  caused = λ at e. absurd (no_fault made at e);
-  limits = limits_made view held made sizes makes limited;
-}
 
 limited_is : {A : Type 0} (word : ℕ) (what : Size) (most : ℕ) (f : List ℕ → Result A Bad) (file : Option (List ℕ)) (bytes : List ℕ) → limited_bytes word what most file ≡ Ok bytes →
     held_at word (within what most f) file ≡ made_of (f bytes)
@@ -132,23 +112,39 @@ text_is : {A : Type 0} (word : ℕ) (what : Size) (most : ℕ) (f : List ℕ →
 text_is word what most f file bytes text is e = rw is (limited_is word what most f file bytes e)
 
 -- what was made of a file of so many bytes
-pub made_found : {X Y A : Type 0} (view : X → A) (of_read : Y → List ℕ) (word : ℕ) (what : Size) (sizes : List Size) (most : ℕ) (f : List ℕ → Result A Bad) (name : List ℕ) (read : Y) (text : List ℕ) (x : X) (old new : Outside) →
-    Finds of_read (word ∷ []) (what ∷ []) (λ held. record { at = word; gives = limited_bytes word what most (held name) }) old new (Ok read) → text ≡ of_read read → Makes view (f text) (Ok x) →
-    Finds view (word ∷ []) (what ∷ sizes) (input word (within what most f) name) old new (Ok x)
+pub made_found : {X Y A : Type 0} (view : X → A) (of_read : Y → List ℕ) (place : Named) (what : Size) (sizes : List Size) (most : ℕ) (f : List ℕ → Result A Bad) (read : Y) (text : List ℕ) (made : Result X Stop) (old new : Outside) →
+    Finds of_read (place.word ∷ []) (what ∷ []) (limited_look place what most) old new (Ok read) → text ≡ of_read read → Makes view (f text) made → IsLimited (f text) sizes →
+    Finds view (place.word ∷ []) (what ∷ sizes) (input place (within what most f)) old new made
 unfolding input
-made_found view of_read word what sizes most f name read text x old new finds is makes =
-    finds_made view of_read (word ∷ []) (what ∷ []) (what ∷ sizes) (λ held. record { at = word; gives = limited_bytes word what most (held name) }) (input word (within what most f) name) (f text) read (Ok x) old new
-    (λ files e. text_is word what most f (files name) (of_read read) text is e) finds makes (λ size has most e. cc)
+made_found view of_read place what sizes most f read text made old new finds is makes limited = record {
+  told = λ files told. told_made view (input place (within what most f) files) (f text) made (text_is place.word what most f (files place.name) (of_read read) text is (finds.told files told)) makes;
+  absent = λ files told. elim (finds.absent files told) [
+    | inl same ↦ inl same
+    | inr missing ↦ absurd (let found = finds.told files told in let missed = missing.1 in cc)
+  ];
+  only = finds.only;
+  caused = λ at e. absurd (no_fault view (f text) made at makes e);
+  limits = λ size has most e. inr (limits_made view (f text) made sizes makes limited size has most e);
+}
 
--- and what its flaw comes to, which `?` passes on
-pub flaw_found : {X Y A : Type 0} (view : X → A) (of_read : Y → List ℕ) (word : ℕ) (what : Size) (sizes : List Size) (most : ℕ) (f : List ℕ → Result A Bad) (name : List ℕ) (read : Y) (text : List ℕ) (flaw : Flaw) (old new : Outside) (found : Result X Stop) →
-    Finds of_read (word ∷ []) (what ∷ []) (λ held. record { at = word; gives = limited_bytes word what most (held name) }) old new (Ok read) → text ≡ of_read read → Makes view (f text) (Err flaw) → IsLimited (f text) sizes → IsErrAnd found (λ e. e ≡ flaw_stop flaw) →
-    Finds view (word ∷ []) (what ∷ sizes) (input word (within what most f) name) old new found
-unfolding input
-flaw_found view of_read word what sizes most f name read text flaw old new (Ok x) finds is makes limited same = absurd same
-flaw_found view of_read word what sizes most f name read text flaw old new (Err stop) finds is makes limited same =
-    rw same (finds_made view of_read (word ∷ []) (what ∷ []) (what ∷ sizes) (λ held. record { at = word; gives = limited_bytes word what most (held name) }) (input word (within what most f) name) (f text) read (Err flaw) old new
-    (λ files e. text_is word what most f (files name) (of_read read) text is e) finds makes (λ size has most e. inr (limited size has most e)))
+-- what was found, seen in another way
+pub finds_view : {X Y A : Type 0} (view : X → A) (other : Y → A) (words : List ℕ) (sizes : List Size) (due : Names → Look A) (found : X) (same : Y) (old new : Outside) → view found ≡ other same →
+    Finds view words sizes due old new (Ok found) → Finds other words sizes due old new (Ok same)
+finds_view view other words sizes due found same old new is finds = record { told = λ files told. finds.told files told ∙ ap Ok is; absent = finds.absent; only = finds.only; caused = λ word e. cc; limits = λ what has most e. cc }
+
+-- what a look was refused for, which `?` passes on
+pub finds_passed : {X Y A : Type 0} (view : X → A) (other : Y → A) (words : List ℕ) (sizes : List Size) (due : Names → Look A) (stop : Stop) (old new : Outside) (found : Result Y Stop) → IsErrAnd found (λ e. e ≡ stop) →
+    Finds view words sizes due old new (Err stop) → Finds other words sizes due old new found
+finds_passed view other words sizes due stop old new (Ok y) same finds = absurd same
+finds_passed view other words sizes due (Contents why) old new (Err e) same finds = rw same (record { told = finds.told; absent = finds.absent; only = finds.only; caused = λ word e. cc; limits = λ what has most e. finds.limits what has most (let is : Contents why ≡ Contents (bad.Limit what has most) = cc in ap Err is) })
+finds_passed view other words sizes due (Fault word) old new (Err e) same finds = rw same (record { told = finds.told; absent = finds.absent; only = finds.only; caused = λ at e. finds.caused at (let is : Fault word ≡ Fault at = cc in ap Err is); limits = λ what has most e. cc })
+finds_passed view other words sizes due Memory old new (Err e) same finds = rw same (record { told = finds.told; absent = finds.absent; only = finds.only; caused = λ at e. cc; limits = λ what has most e. cc })
+
+-- memory may be wanting for what follows on a look
+pub finds_wanting : {X Y A : Type 0} (view : X → A) (other : Y → A) (words : List ℕ) (sizes : List Size) (due : Names → Look A) (found : X) (old new : Outside) (result : Result Y Stop) → IsErrAnd result (λ e. e ≡ Memory) →
+    Finds view words sizes due old new (Ok found) → Finds other words sizes due old new result
+finds_wanting view other words sizes due found old new (Ok y) is finds = absurd is
+finds_wanting view other words sizes due found old new (Err stop) is finds = rw is (record { told = λ _ _. tt; absent = finds.absent; only = finds.only; caused = λ word e. cc; limits = λ what has most e. cc })
 
 -- ---- what a command comes to by what was found
 

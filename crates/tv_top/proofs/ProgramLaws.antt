@@ -1,5 +1,6 @@
 -- What holds of a program and of tapes that files hold, and of quantities that words tell.
 use Rattle.std.proofs.Common.{◌≡◌, ◌≤◌, ◌^◌, ℕ, ◌+◌, ◌||◌, nat_le, List, [], ◌∷◌, length, Option, Some, None, Result, Ok, Err, inl, inr, refl, arith}
+use Rattle.std.specs.Option.{option_or}
 use Rattle.std.specs.Prelude.{IfOk, nat_lt}
 use Rattle.std.proofs.lemmas.Bool.{ltb-false, or_parts, cond_both}
 use Rattle.tv_asm.proofs.RangeLemmas.{images_short, images_words}
@@ -12,15 +13,13 @@ use Rattle.tv_tape.proofs.Narrowing.{numbers_below, numbers_few}
 use Rattle.tv_tape.specs.Tape.{tape_of}
 use Rattle.tv_tape.specs.declared.items.TapeFault.{TapeFault}
 use Rattle.tv_word.specs.Widths.{IsWidth}
-use Rattle.tv_top.specs.Building.{size_amounts}
 use Rattle.tv_top.specs.Loading.{AreInputs, HasInputs}
 use Rattle.tv_top.specs.Finds.{made_by}
-use Rattle.tv_top.specs.Tapes.{tape_flaw, numbers_of, numbers_in}
-use Rattle.tv_top.proofs.Common.{Names, Inputs, Amount, Program, Width, Bits16, Bits32, Bad, Refusal, Size, Holds, Named, AreWithin, first_of, same_of, limit_of, refusal_of, within, HasImage, bits, image_words, width_told, program_result, program_by, program_of, program_in, program_sizes}
+use Rattle.tv_top.specs.Tapes.{tape_stop, numbers_of, numbers_in}
+use Rattle.tv_top.proofs.Common.{Names, Inputs, Amount, Program, Width, Bits16, Bits32, Bad, Refusal, Size, Holds, Named, AreWithin, same_of, limit_of, refusal_of, within, HasImage, bits, image_words, width_told, program_result, program_by, program_of, program_in}
 use Rattle.tv_top.specs.declared.refusal.Bad.TheVariants as bad
 use Rattle.tv_top.specs.declared.refusal.Refusal.TheVariants.{Limit}
 use Rattle.tv_top.specs.declared.refusal.Size.TheVariants.{TapeWords, AuxWords, TextBytes}
-use Rattle.tv_top.proofs.Answering.{AreApart}
 
 pub is_width : (width : Width) → IsWidth (bits width)
 is_width Bits16 = inl refl
@@ -56,7 +55,7 @@ within_limits program n t image few some most =
 
 -- ---- tapes that files hold
 
-tape_read : (word : ℕ) (what : Size) (read : Result (List ℕ) TapeFault) (numbers : List ℕ) → made_by what (tape_flaw word what) read ≡ Ok numbers → read ≡ Ok numbers
+tape_read : (word : ℕ) (what : Size) (read : Result (List ℕ) TapeFault) (numbers : List ℕ) → made_by what (tape_stop word what) read ≡ Ok numbers → read ≡ Ok numbers
 tape_read word what (Ok words) numbers e = cc
 tape_read word what (Err fault) numbers e = cc
 
@@ -79,7 +78,7 @@ inputs_are text tape aux files inputs (inr (bad, refused, e)) = cc
 
 -- ---- words that aren't refused
 
-not_first : (one other : Option Refusal) → first_of one other ≡ None → other ≡ None
+not_first : (one other : Option Refusal) → option_or one other ≡ None → other ≡ None
 not_first None other e = e
 not_first (Some why) other e = cc
 
@@ -92,7 +91,3 @@ unlimited (one ∷ more) e =
 -- the quantities of words that aren't refused are within their limits
 pub amounts_within : (reads writes : List Named) (amounts : List Amount) → refusal_of reads writes amounts ≡ None → AreWithin amounts
 amounts_within reads writes amounts e = unlimited amounts (not_first (same_of reads writes) (limit_of amounts) e)
-
--- the file of a program text has no such quantities
-pub sizes_apart : (n t : ℕ) → AreApart (size_amounts n t) program_sizes
-sizes_apart n t = ((λ e. cc, (λ e. cc, tt)), ((λ e. cc, (λ e. cc, tt)), tt))

@@ -9,7 +9,7 @@ use Rattle.tv_shrink.proofs.Whole.{systems_are_over}
 use Rattle.tv_shrink.specs.Answers.{most, all_terms, first_wide}
 use Rattle.tv_shrink.specs.Laws.{IsWhole}
 use Rattle.tv_shrink.specs.Shrinking.{Shrunken}
-use Rattle.tv_top.proofs.Common.{Bad, Holds, Then, input, made_of}
+use Rattle.tv_top.proofs.Common.{Bad, Holds, Then, name_at, input, settled}
 use Rattle.tv_top.specs.Containers.{system_bad, system_in}
 use Rattle.tv_top.specs.Shrinking.{terms_bad, narrow_shrunk, shrunk_of, shrunk_look, shrink_ends, shrink_plan, Keeps, IsShrunk, OnShrink}
 use Rattle.tv_top.proofs.Claiming.{Promises, comes, shows_input, shows_then, shows_made, shows_more}
@@ -26,6 +26,6 @@ kept_by system held false (Some has) whole e = rw (← e) tt
 pub shrinks : Promises OnShrink
 unfolding shrunk_look
 shrinks words count old new result answers system out are differ files told =
-    comes (shrink_plan system out) shrink_ends (shrunk_look system) (Then (Holds system_in (files system)) IsShrunk) words count files old new result (rw are refl) ((differ, tt), (tt, tt)) tt refl told answers
-    (shows_then (input 1 system_in system files) (λ s. record { at = 1; gives = made_of (shrunk_of s) }) _ _ (shows_input 1 system_in system files) (λ s holds.
+    comes (shrink_plan (name_at 1 system) (name_at 2 out)) shrink_ends (shrunk_look (name_at 1 system)) (Then (Holds system_in (files system)) IsShrunk) words count files old new result (rw are refl) ((differ, tt), (tt, tt)) tt refl told answers
+    (shows_then (input (name_at 1 system) system_in files) (λ s. settled (shrunk_of s)) _ _ (shows_input (name_at 1 system) system_in files) (λ s holds.
     shows_more _ _ _ (shows_made (shrunk_of s)) (λ held is. record { is = sym is; keeps = kept_by s held (ltb most (all_terms s)) (first_wide s.constraints) (whole s (files system) holds) (sym is) }) (λ held is. sym is.is)))

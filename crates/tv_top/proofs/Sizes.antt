@@ -13,7 +13,7 @@ use Rattle.tv_top.specs.declared.refusal.Bad.TheVariants.{Limit, Image}
 use Rattle.tv_top.specs.declared.refusal.Size.TheVariants.{ImageWords}
 use Rattle.tv_top.specs.Disassembling.{text_of}
 use Rattle.tv_top.specs.Finds.{made_by}
-use Rattle.tv_top.specs.Tapes.{tape_flaw, numbers_of}
+use Rattle.tv_top.specs.Tapes.{tape_stop, numbers_of}
 use Rattle.tv_top.proofs.Looking.{IsLimited, same_err}
 
 program_result_limited : (width : Width) (found : Result (List ℕ) AsmFault) → IsLimited (program_result width found) (ImageWords ∷ [])
@@ -35,7 +35,7 @@ unfolding text_of
 text_limited w image what has most =
     cond_both (length image % (w / 4) == 0) (Ok (disassembly_of w image)) (Err (Image (length image))) (λ made. ¬ (made ≡ Err (Limit what has most))) (λ _ e. cc) (λ _ e. cc)
 
-tape_limited : (word : ℕ) (what : Size) (found : Result (List ℕ) TapeFault) → IsLimited (made_by what (tape_flaw word what) found) (what ∷ [])
+tape_limited : (word : ℕ) (what : Size) (found : Result (List ℕ) TapeFault) → IsLimited (made_by what (tape_stop word what) found) (what ∷ [])
 tape_limited word what (Ok words) other has most e = cc
 tape_limited word what (Err (tape.BadItem at)) other has most e = cc
 tape_limited word what (Err (tape.TooBig at)) other has most e = cc

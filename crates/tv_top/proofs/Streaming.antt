@@ -1,12 +1,14 @@
 -- From a file that was streamed to what writing a plan's file is.
-use Rattle.std.proofs.Common.{ℕ, List, [], ◌∷◌, Result, Ok, Err, inl, refl}
-use Rattle.std.specs.Prelude.{OnOk}
+use Rattle.std.proofs.Common.{◌≡◌, ℕ, List, [], ◌∷◌, length, option_map, Result, Ok, Err, inl, inr, refl, ap, ◌∙◌, arith, rules}
+use Rattle.std.specs.Prelude.{OnOk, MatchResult}
+use Rattle.std.proofs.lemmas.List.{take_all}
 use Rattle.tv_container.proofs.Streamed.{IsStreamed, not_created}
 use Rattle.tv_container.specs.Written.{NotCreated}
 use Rattle.tv_core.specs.Constraints.{System}
 use Rattle.tv_core.specs.declared.sink.SinkFault.{SinkFault}
 use Rattle.tv_core.specs.declared.sink.SinkFault.TheVariants as sink
-use Rattle.tv_top.proofs.Common.{Outside, bytes_in, IsRead, Writes, sink_cut, streamed, Write}
+use Rattle.tv_files.specs.Outside.{with_bytes}
+use Rattle.tv_top.proofs.Common.{Outside, OnlyWrites, Stop, Fault, Memory, Contents, AreRead, IsCut, files_with, bytes_in, IsRead, Writes, sink_stop, streamed, Write}
 use Rattle.tv_r1cs_write.proofs.Streaming.{IsSystemStreamed}
 use Rattle.tv_wtns.proofs.Streaming.{IsAssignmentStreamed}
 use Rattle.tv_top.specs.Contents.{Content, Content.{Constraints, Values}}
@@ -14,11 +16,25 @@ use Rattle.tv_top.specs.Contents.{Content, Content.{Constraints, Values}}
 pub writes_streamed : (w : Write) (old new : Outside) (result : Result (Unit {0}) SinkFault) → IsStreamed old new w.name (bytes_in w.content) result → OnOk result (IsRead w.content) → Writes (w ∷ []) old new (streamed w.word result)
 writes_streamed w old new (Ok done) is read = record { ended = (is.whole, (read, tt)); only = is.only }
 writes_streamed w old new (Err sink.Failed) is read = record { ended = (inl (refl, is.part), is.failed refl); only = is.only }
-writes_streamed w old new (Err sink.Memory) is read = record { ended = (w.word, inl (refl, is.part)); only = is.only }
+writes_streamed w old new (Err sink.Memory) is read = record { ended = inr (w.word, inl (refl, is.part)); only = is.only }
 
 -- the file wasn't created
-pub writes_nothing : (word : ℕ) (name : List ℕ) (content : Content) (old new : Outside) (fault : SinkFault) → NotCreated old new name fault → Writes (record { word = word; name = name; content = content } ∷ []) old new (Err (sink_cut word fault))
+pub writes_nothing : (word : ℕ) (name : List ℕ) (content : Content) (old new : Outside) (fault : SinkFault) → NotCreated old new name fault → Writes {X = Unit {0}} (record { word = word; name = name; content = content } ∷ []) old new (Err (sink_stop word fault))
 writes_nothing word name content old new fault none = writes_streamed (record { word = word; name = name; content = content }) old new (Err fault) (not_created old new name (bytes_in content) fault none) tt
+
+-- these were written behind one that was written whole
+pub writes_more : {X : Type 0} (w : Write) (ws : List Write) (old mid new : Outside) (result : Result X Stop) → mid.contents ≡ option_map (with_bytes w.name (bytes_in w.content)) old.contents → IsRead w.content → OnlyWrites old mid → Writes ws mid new result →
+    Writes (w ∷ ws) old new result
+writes_more {X} w ws old mid new result done read only rest = record { ended = ended ws result rest.ended; only = record { said = rest.only.said ∙ only.said; absent = λ files told. rest.only.absent (with_bytes w.name (bytes_in w.content) files) (done ∙ ap (option_map (with_bytes w.name (bytes_in w.content))) told) ∙ only.absent files told; later = search rules } }
+  where
+    ended : (ws : List Write) (result : Result X Stop) → MatchResult result (λ _. (new.contents ≡ files_with ws mid.contents) × AreRead ws) (λ stop. IsCut ws mid new stop) →
+        MatchResult result (λ _. (new.contents ≡ files_with (w ∷ ws) old.contents) × AreRead (w ∷ ws)) (λ stop. IsCut (w ∷ ws) old new stop)
+    ended ws (Ok x) is = (is.0 ∙ ap (files_with ws) done, (read, is.1))
+    ended ws (Err (Contents bad)) is = absurd is
+    ended ws (Err (Fault at)) is = (inr (rw done at is.0), omega (arith, is.1, only.later.write_faults))
+    ended [] (Err Memory) (inl same) = inr (w.word, inl (refl, inr (length (bytes_in w.content), rw (take_all (length (bytes_in w.content)) (bytes_in w.content) (omega arith)) (same ∙ done))))
+    ended (v ∷ vs) (Err Memory) (inl same) = inr (v.word, inr (inl (refl, inl (same ∙ done))))
+    ended ws (Err Memory) (inr cut) = inr (cut.0, inr (rw done at cut.1))
 
 pub writes_system : (word : ℕ) (name : List ℕ) (system : System) (old new : Outside) (result : Result (Unit {0}) SinkFault) → IsSystemStreamed old new name system result →
     Writes (record { word = word; name = name; content = Constraints system } ∷ []) old new (streamed word result)

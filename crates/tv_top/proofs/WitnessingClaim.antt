@@ -1,14 +1,14 @@
 -- `witness`: what it promises.
-use Rattle.std.proofs.Common.{◌≡◌, ◌≤◌, ℕ, true, [], ◌∷◌, length, refl, sym, arith}
-use Rattle.std.specs.Option.{IfSome}
+use Rattle.std.proofs.Common.{◌≡◌, ◌≤◌, ℕ, true, List, [], ◌∷◌, length, Ok, Err, refl, sym, arith}
 use Rattle.tv_benes.specs.declared.shape.Net.{Net}
 use Rattle.tv_core.specs.declared.limits.TheConstants.{STEPS}
 use Rattle.tv_layout.proofs.Systems.{system_complete}
 use Rattle.tv_step.specs.Machine.{Accepts}
 use Rattle.tv_step.specs.declared.end.End.{End}
 use Rattle.tv_step.specs.declared.end.End.TheVariants.{Answer, Silent}
-use Rattle.tv_top.proofs.Common.{Inputs, bits}
-use Rattle.tv_top.specs.declared.refusal.Finish.TheVariants.{Quiet}
+use Rattle.tv_top.proofs.Common.{Outside, Named, name_at, Memory, Completes, Inputs, bits}
+use Rattle.tv_top.proofs.Answering.{completes_nothing}
+use Rattle.tv_top.specs.declared.refusal.Finish.TheVariants.{Quiet, NoRun}
 use Rattle.tv_top.specs.Contents.{Content.{Values}}
 use Rattle.tv_fill.specs.Filled.{Filled, IsFilling, IsUnfilled}
 use Rattle.tv_fill.specs.declared.fault.FillFault.{FillFault}
@@ -39,15 +39,16 @@ unfolding program_values
 filled w net t inputs filling width is = let fills = rw width at is in rw (fills.answer.2, fills.values) refl
 
 -- and for one that doesn't, unless memory was wanting
-pub unfilled : (w : ℕ) (net : Net) (t : ℕ) (inputs : Inputs) (fault : FillFault) → w ≡ bits inputs.program.width → IsUnfilled w inputs.program.words inputs.tape inputs.aux t fault →
-    IfSome (no_run fault) (λ finish. witness_ends net t inputs ≡ record { files = []; finish = finish })
-unfilled w net t inputs (fills.NoRun (Answer v step)) width is = let none = rw width at is in absurd (none.1 v (accepted t inputs v step (sym none.0)))
-unfilled w net t inputs (fills.NoRun end) width is = let none = rw width at is in rw (sym none.0) refl
-unfilled w net t inputs _ width is = tt
+pub unfilled : (w : ℕ) (net : Net) (t : ℕ) (inputs : Inputs) (fault : FillFault) (places : List Named) (outside : Outside) → w ≡ bits inputs.program.width → IsUnfilled w inputs.program.words inputs.tape inputs.aux t fault →
+    Completes places (witness_ends net t inputs) outside outside (no_run fault)
+unfilled w net t inputs (fills.NoRun (Answer v step)) places outside width is = let none = rw width at is in absurd (none.1 v (accepted t inputs v step (sym none.0)))
+unfilled w net t inputs (fills.NoRun end) places outside width is = let none = rw width at is in rw (← none.0) (completes_nothing places (witness_by net t inputs end) (Ok (NoRun end)) outside refl)
+unfilled w net t inputs fills.Failed places outside width is = completes_nothing places (witness_ends net t inputs) (Err Memory) outside refl
+unfilled w net t inputs fills.Memory places outside width is = completes_nothing places (witness_ends net t inputs) (Err Memory) outside refl
 
 pub witnesses : Promises OnWitness
 witnesses words count old new result answers text tape aux number name last net t are is_net is first second third some most files told =
-    comes (witness_plan net text tape aux t name) (witness_ends net t) (inputs_of text tape aux) (HasWitness net files text tape aux t) words count files old new result
+    comes (witness_plan net (name_at 1 text) (name_at 2 tape) (name_at 3 aux) t (name_at 5 name)) (witness_ends net t) (inputs_of (name_at 1 text) (name_at 2 tape) (name_at 3 aux)) (HasWitness net files text tape aux t) words count files old new result
     (rw (are, is_net, is) refl) ((first, tt), ((second, tt), ((third, tt), (tt, tt)))) (omega arith, most, tt) refl told answers
     (shows_more _ _ _ (inputs_shown text tape aux files) (λ held has. record {
       inputs = has;

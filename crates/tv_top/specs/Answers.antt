@@ -4,6 +4,7 @@ use Rattle.tv_files.specs.Outside.{Names, Outside, Told, NoneFell, with_bytes}
 use Rattle.tv_word.specs.Counts.{Rose}
 use Rattle.tv_top.specs.declared.refusal.Ending.{Ending}
 use Rattle.tv_top.specs.declared.refusal.Ending.TheVariants.{Refused, Stopped, Finished}
+use Rattle.tv_top.specs.declared.refusal.Finish.{Finish}
 use Rattle.tv_top.specs.declared.place.Amount.{Amount}
 use Rattle.tv_top.specs.declared.refusal.Bad.TheVariants as bad
 use Rattle.tv_top.specs.declared.refusal.Quantity.{Quantity}
@@ -16,9 +17,9 @@ use Rattle.tv_top.specs.declared.refusal.Stop.TheVariants as stop
 use Rattle.tv_top.specs.declared.status.Status.{Status}
 use Rattle.tv_top.specs.declared.status.Status.TheVariants.{FileFault, Memory}
 use Rattle.tv_top.specs.Codes.{says}
-use Rattle.tv_top.specs.Ends.{Said, SaidPart, Ends, IsConcluded}
-use Rattle.tv_top.specs.Finds.{IsOneOf}
-use Rattle.tv_top.specs.Plan.{Named, Plan, answer_of}
+use Rattle.tv_top.specs.Ends.{Said, SaidPart, Completes, Ends, IsConcluded}
+use Rattle.tv_top.specs.Finds.{Finds, IsOneOf}
+use Rattle.tv_top.specs.Plan.{Named, Outcome, Plan, answer_of}
 use Rattle.tv_top.specs.Status.{refusal_status, ending_status}
 
 -- the words of names
@@ -75,6 +76,18 @@ ChangedAt (n ∷ ns) old new =
 abbrev pub IsSaid : Ending → ℕ → Outside → Outside → Status → Type 0
 IsSaid ending words old new result = ((result ≡ ending_status ending) × Said old new (says ending))
     ⊎ (((result ≡ FileFault words) ⊎ (result ≡ Memory)) × SaidPart old new (says ending))
+
+-- what a plan does up to its line: a look was refused; or what was found is completed, and its end may be
+abbrev pub Does : Plan → Outside → Outside → Result Finish Stop → Type 0
+Does plan old new result =
+    ((stop : Stop) × (result ≡ Err stop) × Finds (λ (o : Outcome). o) (words_of plan.reads) plan.sizes plan.comes old new (Err stop))
+    ⊎ ((outcome : Outcome) × (mid : Outside) × (plan.ends_by outcome.finish ≡ true)
+    × Finds (λ (o : Outcome). o) (words_of plan.reads) plan.sizes plan.comes old mid (Ok outcome) × Completes plan.writes outcome mid new result)
+
+-- the end of what was done
+abbrev pub ending_of : Result Finish Stop → Ending
+ending_of (Ok finish) = Finished finish
+ending_of (Err stop) = Stopped stop
 
 -- What every call promises, by what its words ask for. The first two are of files whose contents are
 -- told, the others of any files.

@@ -8,26 +8,26 @@ use Rattle.tv_top.specs.declared.refusal.Size.TheVariants.{TextBytes}
 use Rattle.tv_top.specs.declared.status.Status.{Status}
 use Rattle.tv_top.specs.Claims.{Holds, Comes}
 use Rattle.tv_top.specs.Kinds.{is_quiet}
-use Rattle.tv_top.specs.Plan.{Plan, within, input, comes_by, one_name, writes_bytes}
+use Rattle.tv_top.specs.Plan.{Named, Plan, named, within, input, comes_by, one_name, writes_bytes}
 use Rattle.tv_top.specs.Programs.{image_of, program_sizes}
 
 -- the file of a program text, which may have so many bytes: its image, in bytes
 abbrev pub image_in : List ℕ → Result (List ℕ) Bad
 image_in = within TextBytes TEXT_BYTES image_of
 
-abbrev pub asm_plan : List ℕ → List ℕ → Plan
+abbrev pub asm_plan : Named → Named → Plan
 asm_plan text image = record {
-  reads = one_name 1 text;
-  writes = one_name 2 image;
+  reads = text ∷ [];
+  writes = image ∷ [];
   amounts = [];
   sizes = program_sizes;
   ends_by = is_quiet;
-  comes = λ files. comes_by writes_bytes (input 1 image_in text files);
+  comes = λ files. comes_by writes_bytes (input text image_in files);
 }
 
 -- the plan that the command's words ask for
 abbrev pub asm_asks : AsmArgs → Plan
-asm_asks args = asm_plan args.text.now args.image.now
+asm_asks args = asm_plan (named args.text) (named args.image)
 
 -- What `asm` promises over files that told their contents, the two names being different: TEXT holds a
 -- program text of this image, which IMAGE then holds, or it is refused for this.

@@ -19,7 +19,7 @@ use Rattle.tv_top.specs.declared.status.Status.{Status}
 use Rattle.tv_top.specs.Claims.{Holds, Comes}
 use Rattle.tv_top.specs.Contents.{Content.{Constraints}}
 use Rattle.tv_top.specs.Kinds.{is_quiet}
-use Rattle.tv_top.specs.Plan.{Plan, Outcome, input, comes_by, one_name}
+use Rattle.tv_top.specs.Plan.{Named, Plan, Outcome, named, input, comes_by, one_name}
 use Rattle.tv_top.specs.Programs.{bits, program_in, program_sizes}
 
 -- the network that the word behind those of the command tells: none is Benes' one, and `waksman` is Waksman's
@@ -39,19 +39,19 @@ program_system net n t program = system_of (bits program.width) net program.word
 abbrev pub build_ends : Net → ℕ → ℕ → Program → Outcome
 build_ends net n t program = record { files = Constraints (program_system net n t program) ∷ []; finish = Quiet }
 
-abbrev pub build_plan : Net → List ℕ → ℕ → ℕ → List ℕ → Plan
+abbrev pub build_plan : Net → Named → ℕ → ℕ → Named → Plan
 build_plan net text n t system = record {
-  reads = one_name 1 text;
-  writes = one_name 4 system;
+  reads = text ∷ [];
+  writes = system ∷ [];
   amounts = size_amounts n t;
   sizes = program_sizes;
   ends_by = is_quiet;
-  comes = λ files. comes_by (build_ends net n t) (input 1 program_in text files);
+  comes = λ files. comes_by (build_ends net n t) (input text program_in files);
 }
 
 -- the plan that the command's words ask for
 abbrev pub build_asks : BuildArgs → Plan
-build_asks args = build_plan args.net args.text.now args.n args.t args.system.now
+build_asks args = build_plan args.net (named args.text) args.n args.t (named args.system)
 
 -- the file of a program text holds a program, whose system reduces its runs, or it is refused for this
 pub record HasSystem (net : Net) (n t : ℕ) (text : Option (List ℕ)) (held : Result Program Bad) : Type 0 where

@@ -13,23 +13,23 @@ use Rattle.tv_top.specs.declared.status.Status.{Status}
 use Rattle.tv_top.specs.Claims.{Holds, Then, Comes}
 use Rattle.tv_top.specs.Containers.{system_in, witness_in}
 use Rattle.tv_top.specs.Kinds.{is_verdict}
-use Rattle.tv_top.specs.Plan.{Plan, Outcome, Look, ◌>>=◌, input, comes_by}
+use Rattle.tv_top.specs.Plan.{Named, Plan, Outcome, Look, named, settled, ◌>>=◌, input, comes_by}
 use Rattle.tv_top.specs.Tapes.{publics_in, tape_sizes}
 
 -- the system, the witness and the tape, each read to its end and judged before the next, and the verdict on them
-unfoldable pub check_of : List ℕ → List ℕ → List ℕ → Names → Look Verdict
+unfoldable pub check_of : Named → Named → Named → Names → Look Verdict
 check_of system witness tape files = do
-  s ← input 1 system_in system files
-  z ← input 2 witness_in witness files
-  x ← input 3 publics_in tape files
-  record { at = 3; gives = Ok (judge s z x) }
+  s ← input system system_in files
+  z ← input witness witness_in files
+  x ← input tape (publics_in tape.word) files
+  settled (Ok (judge s z x))
 
 abbrev pub check_ends : Verdict → Outcome
 check_ends verdict = record { files = []; finish = finishes.Verdict verdict }
 
-abbrev pub check_plan : List ℕ → List ℕ → List ℕ → Plan
+abbrev pub check_plan : Named → Named → Named → Plan
 check_plan system witness tape = record {
-  reads = record { word = 1; name = system } ∷ record { word = 2; name = witness } ∷ record { word = 3; name = tape } ∷ [];
+  reads = system ∷ witness ∷ tape ∷ [];
   writes = [];
   amounts = [];
   sizes = tape_sizes TapeWords;
@@ -39,7 +39,7 @@ check_plan system witness tape = record {
 
 -- the plan that the command's words ask for
 abbrev pub check_asks : CheckArgs → Plan
-check_asks args = check_plan args.system.now args.witness.now args.tape.now
+check_asks args = check_plan (named args.system) (named args.witness) (named args.tape)
 
 -- the verdict on these is this, and what it tells of them is so: yes, that the assignment satisfies the
 -- system and extends the public numbers
@@ -54,7 +54,7 @@ abbrev pub HasVerdict : Names → List ℕ → List ℕ → List ℕ → Result 
 HasVerdict files system witness tape =
     Then (Holds system_in (files system)) (λ s.
     Then (Holds witness_in (files witness)) (λ z.
-    Then (Holds publics_in (files tape)) (λ x.
+    Then (Holds (publics_in 3) (files tape)) (λ x.
     IsJudged s z x)))
 
 -- What `check` promises over files that told their contents.

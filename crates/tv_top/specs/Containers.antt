@@ -57,8 +57,3 @@ abbrev pub refusal_stop : ℕ → (Fault → Bad) → ReadRefusal → Stop
 refusal_stop word bad (refusal.Bad at why) = stop.Contents (bad (record { at = at; why = why }))
 refusal_stop word bad refusal.Fault = stop.Fault word
 refusal_stop word bad refusal.Memory = stop.Memory
-
--- what reading the container at a word came to, as what a look comes to
-abbrev pub stop_of : {Y : Type 0} → ℕ → (Fault → Bad) → Result Y ReadRefusal → Result Y Stop
-stop_of word bad (Ok y) = Ok y
-stop_of word bad (Err why) = Err (refusal_stop word bad why)

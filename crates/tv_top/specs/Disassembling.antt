@@ -10,19 +10,19 @@ use Rattle.tv_top.specs.declared.programs.Width.{Width}
 use Rattle.tv_top.specs.declared.programs.Width.TheVariants.{Bits16, Bits32}
 use Rattle.tv_top.specs.declared.refusal.Bad.{Bad}
 use Rattle.tv_top.specs.declared.refusal.Bad.TheVariants as bad
-use Rattle.tv_top.specs.declared.refusal.Flaw.{Flaw}
-use Rattle.tv_top.specs.declared.refusal.Flaw.TheVariants.{Contents, Memory}
 use Rattle.tv_top.specs.declared.refusal.Size.TheVariants.{ImageBytes}
+use Rattle.tv_top.specs.declared.refusal.Stop.{Stop}
+use Rattle.tv_top.specs.declared.refusal.Stop.TheVariants.{Contents, Memory}
 use Rattle.tv_top.specs.declared.status.Status.{Status}
 use Rattle.tv_top.specs.Claims.{Holds, Comes}
 use Rattle.tv_top.specs.Kinds.{is_quiet}
 use Rattle.tv_top.specs.Programs.{bits, image_bytes_most}
-use Rattle.tv_top.specs.Plan.{Plan, within, input, comes_by, one_name, writes_bytes}
+use Rattle.tv_top.specs.Plan.{Named, Plan, named, within, input, comes_by, one_name, writes_bytes}
 
 -- what a fault of an image is
-abbrev pub dis_flaw : DisFault → Flaw
-dis_flaw (dis.Ragged len) = Contents (bad.Image len)
-dis_flaw dis.Memory = Memory
+abbrev pub dis_stop : DisFault → Stop
+dis_stop (dis.Ragged len) = Contents (bad.Image len)
+dis_stop dis.Memory = Memory
 
 -- the program text of an image of words of w bits, whose bytes are whole instructions of two words
 unfoldable pub text_of : ℕ → List ℕ → Result (List ℕ) Bad
@@ -38,19 +38,19 @@ width_word [] = Some Bits32
 width_word (word ∷ []) = if bytes_eq word (codes "16") then Some Bits16 else None
 width_word _ = None
 
-abbrev pub disasm_plan : Width → List ℕ → List ℕ → Plan
+abbrev pub disasm_plan : Width → Named → Named → Plan
 disasm_plan width image text = record {
-  reads = one_name 1 image;
-  writes = one_name 2 text;
+  reads = image ∷ [];
+  writes = text ∷ [];
   amounts = [];
   sizes = ImageBytes ∷ [];
   ends_by = is_quiet;
-  comes = λ files. comes_by writes_bytes (input 1 (text_in width) image files);
+  comes = λ files. comes_by writes_bytes (input image (text_in width) files);
 }
 
 -- the plan that the command's words ask for
 abbrev pub disasm_asks : DisasmArgs → Plan
-disasm_asks args = disasm_plan args.width args.image.now args.text.now
+disasm_asks args = disasm_plan args.width (named args.image) (named args.text)
 
 -- What `disasm` promises over files that told their contents, the two names being different: IMAGE holds an
 -- image of words of this width with this program text, which TEXT then holds, or it is refused for this.

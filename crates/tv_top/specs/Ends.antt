@@ -1,21 +1,19 @@
 -- How a call may end, given the answer that its words and files call for.
-use Rattle.std.specs.Prelude.{◌≡◌, ℕ, ◌≤◌, ◌⊎◌, List, [], ◌∷◌, ◌++◌, take, Option, Some, None, option_map, Result, Ok, Err}
+use Rattle.std.specs.Prelude.{◌≡◌, ℕ, ◌≤◌, ◌⊎◌, List, [], ◌∷◌, ◌++◌, take, Option, Some, None, option_map, Result, Ok, Err, IfOk, MatchResult}
 use Rattle.tv_files.specs.Outside.{Names, Outside, NoneFell, OnlyWrites, with_bytes}
 use Rattle.tv_core.specs.declared.sink.SinkFault.{SinkFault}
 use Rattle.tv_core.specs.declared.sink.SinkFault.TheVariants as sink
 use Rattle.tv_word.specs.Counts.{Rose}
-use Rattle.tv_top.specs.declared.refusal.Cut.{Cut}
-use Rattle.tv_top.specs.declared.refusal.Cut.TheVariants as cut
 use Rattle.tv_top.specs.declared.refusal.Ending.{Ending}
-use Rattle.tv_top.specs.declared.refusal.Ending.TheVariants.{Finished, Stopped}
 use Rattle.tv_top.specs.declared.refusal.Finish.{Finish}
+use Rattle.tv_top.specs.declared.refusal.Stop.{Stop}
 use Rattle.tv_top.specs.declared.refusal.Stop.TheVariants as stop
 use Rattle.tv_top.specs.declared.status.Status.{Status}
 use Rattle.tv_top.specs.declared.status.Status.TheVariants.{FileFault, Memory}
 use Rattle.tv_top.specs.Codes.{says}
 use Rattle.tv_top.specs.Contents.{bytes_in, IsRead}
 use Rattle.tv_top.specs.Plan.{Named, Outcome, Write, Answer, files_of}
-use Rattle.tv_top.specs.Status.{ending_status, cut_status}
+use Rattle.tv_top.specs.Status.{ending_status}
 
 -- the files, where they are told, once these were written
 abbrev pub files_with : List Write → Option Names → Option Names
@@ -101,44 +99,27 @@ pub record Concludes (ending : Ending) (words : ℕ) (old new : Outside) (result
   pub later : NoneFell old new
   pub absent : new.absent ≡ old.absent
 
--- how writing these ended
-abbrev pub IsWritten : List Write → Outside → Outside → Result (Unit {0}) Cut → Type 0
-IsWritten writes old new (Ok _) = (new.contents ≡ files_with writes old.contents) × AreRead writes
-IsWritten writes old new (Err (cut.Fault word)) =
-    IsCutAt word writes old.contents new.contents × Rose old.write_faults new.write_faults
-IsWritten writes old new (Err cut.Memory) = (word : ℕ) × IsCutAt word writes old.contents new.contents
+-- writing these was cut short by this: what is written is never refused for its contents
+abbrev pub IsCut : List Write → Outside → Outside → Stop → Type 0
+IsCut writes old new (stop.Fault word) = IsCutAt word writes old.contents new.contents × Rose old.write_faults new.write_faults
+IsCut writes old new stop.Memory = (new.contents ≡ old.contents) ⊎ ((word : ℕ) × IsCutAt word writes old.contents new.contents)
+IsCut writes old new (stop.Contents bad) = ⊥
 
 -- what writing files does
-pub record Writes (writes : List Write) (old new : Outside) (result : Result (Unit {0}) Cut) : Type 0 where
-  pub ended : IsWritten writes old new result
+pub record Writes {X : Type 0} (writes : List Write) (old new : Outside) (result : Result X Stop) : Type 0 where
+  pub ended : MatchResult result (λ _. (new.contents ≡ files_with writes old.contents) × AreRead writes) (λ stop. IsCut writes old new stop)
   pub only : OnlyWrites old new
 
+-- what an outcome comes to once it was found: its files are written, and unless that is cut short, it ends so
+pub record Completes (places : List Named) (outcome : Outcome) (old new : Outside) (result : Result Finish Stop) : Type 0 where
+  pub writes : Writes (files_of places outcome.files) old new result
+  pub finish : IfOk result (λ finish. finish ≡ outcome.finish)
+
 -- what a refusal comes to of a sink that writes the file at a word, and how its writing ended
-abbrev pub sink_cut : ℕ → SinkFault → Cut
-sink_cut word sink.Failed = cut.Fault word
-sink_cut word sink.Memory = cut.Memory
+abbrev pub sink_stop : ℕ → SinkFault → Stop
+sink_stop word sink.Failed = stop.Fault word
+sink_stop word sink.Memory = stop.Memory
 
-abbrev pub streamed : ℕ → Result (Unit {0}) SinkFault → Result (Unit {0}) Cut
+abbrev pub streamed : ℕ → Result (Unit {0}) SinkFault → Result (Unit {0}) Stop
 streamed word (Ok done) = Ok done
-streamed word (Err fault) = Err (sink_cut word fault)
-
--- what follows on writing that ended so: the line of the end is said, or the cut is answered and all stays
-abbrev pub Closes : Result (Unit {0}) Cut → Finish → ℕ → Outside → Outside → Status → Type 0
-Closes (Ok done) finish words old new result = Concludes (Finished finish) words old new result
-Closes (Err cut) finish words old new result = (result ≡ cut_status cut) × (new ≡ old)
-
--- what writing files and then saying the line of the end does
-abbrev pub Finishes : List Write → Finish → ℕ → Outside → Outside → Status → Type 0
-Finishes writes finish words old new result =
-    ((mid : Outside) × Writes writes old mid (Ok tt) × Concludes (Finished finish) words mid new result)
-    ⊎ ((cut : Cut) × (result ≡ cut_status cut) × Writes writes old new (Err cut))
-
--- an outcome is written and its line said; or memory is wanting before anything is written
-abbrev pub Completes : List Named → Outcome → ℕ → Outside → Outside → Status → Type 0
-Completes places outcome words old new result =
-    Finishes (files_of places outcome.files) outcome.finish words old new result ⊎ Concludes (Stopped stop.Memory) words old new result
-
--- nothing is written, and the line of this end is said; or, where there is none, memory was wanting
-abbrev pub Refuses : Option Finish → ℕ → Outside → Outside → Status → Type 0
-Refuses (Some finish) words old new result = Finishes [] finish words old new result
-Refuses None words old new result = Concludes (Stopped stop.Memory) words old new result
+streamed word (Err fault) = Err (sink_stop word fault)

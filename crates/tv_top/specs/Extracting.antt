@@ -1,6 +1,6 @@
 -- `extract TEXT N T WITNESS TAPE AUX`, which may have one more word, `waksman`: the run that an assignment of a
 -- program's system has.
-use Rattle.std.specs.Prelude.{◌≡◌, ◌≢◌, ◌<◌, ◌≤◌, ◌^◌, ℕ, codes, List, [], ◌∷◌, Option, Some, None, Result, Ok, Err, IfOk}
+use Rattle.std.specs.Prelude.{◌≡◌, ◌≢◌, ◌<◌, ◌≤◌, ◌^◌, ℕ, codes, List, [], ◌∷◌, Some, Result, Ok, Err, IfOk}
 use Rattle.tv_benes.specs.declared.shape.Net.{Net}
 use Rattle.tv_core.specs.Constraints.{Sat}
 use Rattle.tv_core.specs.declared.limits.TheConstants.{TAPE_WORDS, STEPS}
@@ -18,6 +18,8 @@ use Rattle.tv_top.specs.declared.programs.Program.{Program}
 use Rattle.tv_top.specs.declared.refusal.Bad.{Bad}
 use Rattle.tv_top.specs.declared.refusal.Finish.{Finish}
 use Rattle.tv_top.specs.declared.refusal.Finish.TheVariants as finishes
+use Rattle.tv_top.specs.declared.refusal.Stop.{Stop}
+use Rattle.tv_top.specs.declared.refusal.Stop.TheVariants.{Memory}
 use Rattle.tv_top.specs.declared.status.NotRun.TheVariants.{WireCount, WideWire, NotARun}
 use Rattle.tv_top.specs.declared.status.Status.{Status}
 use Rattle.tv_extract.specs.Runs.{IsRunOf, HasRunIn}
@@ -26,7 +28,7 @@ use Rattle.tv_top.specs.Claims.{Holds, Then, Comes}
 use Rattle.tv_top.specs.Containers.{witness_in}
 use Rattle.tv_top.specs.Contents.{Content.{Bytes}}
 use Rattle.tv_top.specs.Kinds.{is_extract}
-use Rattle.tv_top.specs.Plan.{Named, Plan, Outcome, Look, ◌>>=◌, input, comes_by}
+use Rattle.tv_top.specs.Plan.{Named, Plan, Outcome, Look, ◌>>=◌, name_at, named, settled, input, comes_by}
 use Rattle.tv_top.specs.Programs.{bits, program_in, program_sizes}
 
 -- a program, and an assignment of its system
@@ -39,27 +41,27 @@ abbrev pub assigned_in : Assignment → Assigned
 assigned_in assignment = record { program = assignment.program; z = assignment.values.items }
 
 -- the two files, the text being judged before the witness is read
-unfoldable pub assigned_of : List ℕ → List ℕ → Names → Look Assigned
+unfoldable pub assigned_of : Named → Named → Names → Look Assigned
 assigned_of text witness files = do
-  program ← input 1 program_in text files
-  z ← input 4 witness_in witness files
-  record { at = 4; gives = Ok (record { program = program; z = z }) }
+  program ← input text program_in files
+  z ← input witness witness_in files
+  settled (Ok (record { program = program; z = z }))
 
 -- the run that the assignment has, or why it has none
 unfoldable pub assigned_run : Net → ℕ → ℕ → Assigned → Result Run ExtractFault
 assigned_run net n t assigned = run_in (bits assigned.program.width) net assigned.program.words n t assigned.z
 
 -- the end where there is none, unless memory was wanting
-abbrev pub not_run : ExtractFault → Option Finish
-not_run (faults.WireCount has wants) = Some (finishes.NotARun (WireCount has wants))
-not_run (faults.WideWire at) = Some (finishes.NotARun (WideWire at))
-not_run (faults.NotARun end) = Some (finishes.NotARun (NotARun end))
-not_run faults.Memory = None
+abbrev pub not_run : ExtractFault → Result Finish Stop
+not_run (faults.WireCount has wants) = Ok (finishes.NotARun (WireCount has wants))
+not_run (faults.WideWire at) = Ok (finishes.NotARun (WideWire at))
+not_run (faults.NotARun end) = Ok (finishes.NotARun (NotARun end))
+not_run faults.Memory = Err Memory
 
 -- what comes of that; a definition never wants memory, so that case stands for nothing
-abbrev pub not_run_ends : Option Finish → Outcome
-not_run_ends (Some finish) = record { files = []; finish = finish }
-not_run_ends None = record { files = []; finish = finishes.NotARun (WireCount 0 0) }
+abbrev pub not_run_ends : Result Finish Stop → Outcome
+not_run_ends (Ok finish) = record { files = []; finish = finish }
+not_run_ends (Err stop) = record { files = []; finish = finishes.NotARun (WireCount 0 0) }
 
 -- what comes of a run, or of there being none
 abbrev pub run_ends : (Run → Outcome) → Result Run ExtractFault → Outcome
@@ -70,19 +72,13 @@ run_ends f (Err fault) = not_run_ends (not_run fault)
 abbrev pub run_written : Run → Outcome
 run_written run = record { files = Bytes (text_of run.tape) ∷ Bytes (text_of run.aux) ∷ []; finish = finishes.Run (Answer run.answer run.step) }
 
-abbrev pub extract_by : Result Run ExtractFault → Outcome
-extract_by found = run_ends run_written found
-
 abbrev pub extract_ends : Net → ℕ → ℕ → Assigned → Outcome
-extract_ends net n t assigned = extract_by (assigned_run net n t assigned)
+extract_ends net n t assigned = run_ends run_written (assigned_run net n t assigned)
 
-abbrev pub extract_writes : List ℕ → List ℕ → List Named
-extract_writes tape aux = record { word = 5; name = tape } ∷ record { word = 6; name = aux } ∷ []
-
-abbrev pub extract_plan : Net → List ℕ → ℕ → ℕ → List ℕ → List ℕ → List ℕ → Plan
+abbrev pub extract_plan : Net → Named → ℕ → ℕ → Named → Named → Named → Plan
 extract_plan net text n t witness tape aux = record {
-  reads = record { word = 1; name = text } ∷ record { word = 4; name = witness } ∷ [];
-  writes = extract_writes tape aux;
+  reads = text ∷ witness ∷ [];
+  writes = tape ∷ aux ∷ [];
   amounts = size_amounts n t;
   sizes = program_sizes;
   ends_by = is_extract;
@@ -91,7 +87,7 @@ extract_plan net text n t witness tape aux = record {
 
 -- the plan that the command's words ask for
 abbrev pub extract_asks : ExtractArgs → Plan
-extract_asks args = extract_plan args.net args.text.now args.n args.t args.witness.now args.tape.now args.aux.now
+extract_asks args = extract_plan args.net (named args.text) args.n args.t (named args.witness) (named args.tape) (named args.aux)
 
 -- the two files hold a program and an assignment, or the first of them that is refused is refused for this; the run
 -- that is found is one of the assignment, and an assignment that satisfies the program's system has one, which reads
@@ -105,7 +101,7 @@ pub record HasAssigned (net : Net) (files : Names) (text : List ℕ) (n t : ℕ)
 -- N and T within their limits.
 abbrev pub Extracts : Net → Names → List ℕ → ℕ → ℕ → List ℕ → List ℕ → List ℕ → Outside → Outside → Status → Type 0
 Extracts net files text n t witness tape aux =
-    Comes (extract_writes tape aux) (extract_ends net n t) (HasAssigned net files text n t witness) files
+    Comes (name_at 5 tape ∷ name_at 6 aux ∷ []) (extract_ends net n t) (HasAssigned net files text n t witness) files
 
 -- What a call promises that has these words, where they are those of `extract`.
 abbrev pub OnExtract : List (List ℕ) → Outside → Outside → Status → Type 0

@@ -4,28 +4,21 @@ use Rattle.tv_files.specs.Outside.{Names, Outside, Told, OnlyReads}
 use Rattle.tv_word.specs.Counts.{Rose}
 use Rattle.tv_top.specs.declared.refusal.Bad.{Bad}
 use Rattle.tv_top.specs.declared.refusal.Bad.TheVariants as bad
-use Rattle.tv_top.specs.declared.refusal.Flaw.{Flaw}
-use Rattle.tv_top.specs.declared.refusal.Flaw.TheVariants as flaw
 use Rattle.tv_top.specs.declared.refusal.Size.{Size}
 use Rattle.tv_top.specs.declared.refusal.Stop.{Stop}
 use Rattle.tv_top.specs.declared.refusal.Stop.TheVariants.{Fault, Memory, Contents}
-use Rattle.tv_top.specs.Plan.{Look}
+use Rattle.tv_top.specs.Plan.{Named, Look}
 
--- what making ends with, as what a look ends with
-abbrev pub flaw_stop : Flaw → Stop
-flaw_stop (flaw.Contents bad) = Contents bad
-flaw_stop flaw.Memory = Memory
-
--- what contents are refused for of which something is made; a definition never wants memory, so that case stands for
--- nothing
-abbrev pub flaw_bad : Size → Flaw → Bad
-flaw_bad what (flaw.Contents why) = why
-flaw_bad what flaw.Memory = bad.Limit what 0 0
+-- what contents are refused for of which something is made; a definition reads no file and never wants memory, so
+-- those cases stand for nothing
+abbrev pub stop_bad : Size → Stop → Bad
+stop_bad what (Contents why) = why
+stop_bad what _ = bad.Limit what 0 0
 
 -- what is made of contents, by what a fault of them is
-abbrev pub made_by : {A E : Type 0} → Size → (E → Flaw) → Result A E → Result A Bad
+abbrev pub made_by : {A E : Type 0} → Size → (E → Stop) → Result A E → Result A Bad
 made_by what of (Ok x) = Ok x
-made_by what of (Err fault) = Err (flaw_bad what (of fault))
+made_by what of (Err fault) = Err (stop_bad what (of fault))
 
 -- it is one of these
 abbrev pub IsOneOf : {A : Type 0} → A → List A → Type 0
@@ -37,6 +30,10 @@ abbrev pub limited_bytes : ℕ → Size → ℕ → Option (List ℕ) → Result
 limited_bytes word what most None = Err (Fault word)
 limited_bytes word what most (Some bytes) =
     if nat_le (length bytes) most then Ok bytes else Err (Contents (bad.Limit what (most + 1) most))
+
+-- a look at the whole file of a name, which may have so many bytes
+abbrev pub limited_look : Named → Size → ℕ → Names → Look (List ℕ)
+limited_look place what most files = record { at = place.word; gives = limited_bytes place.word what most (files place.name) }
 
 -- what was found is what is due; or reading failed at a word that was looked at; or memory was wanting
 abbrev pub IsFound : {X A : Type 0} → (X → A) → Look A → Result X Stop → Type 0
@@ -56,8 +53,9 @@ pub record Finds {X A : Type 0} (view : X → A) (words : List ℕ) (sizes : Lis
   pub caused : (word : ℕ) → found ≡ Err (Fault word) → IsOneOf word words × Rose old.read_faults new.read_faults
   pub limits : (what : Size) (has most : ℕ) → found ≡ Err (Contents (bad.Limit what has most)) → IsOneOf what sizes
 
--- what was made is what is due, or memory was wanting
-abbrev pub Makes : {X A : Type 0} → (X → A) → Result A Bad → Result X Flaw → Type 0
+-- what was made is what is due, or memory was wanting; no file is read
+abbrev pub Makes : {X A : Type 0} → (X → A) → Result A Bad → Result X Stop → Type 0
 Makes view due (Ok x) = due ≡ Ok (view x)
-Makes view due (Err (flaw.Contents bad)) = due ≡ Err bad
-Makes view due (Err flaw.Memory) = Unit {0}
+Makes view due (Err (Contents bad)) = due ≡ Err bad
+Makes view due (Err (Fault word)) = ⊥
+Makes view due (Err Memory) = Unit {0}

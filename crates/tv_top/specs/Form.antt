@@ -4,7 +4,6 @@ use Rattle.std.specs.Str.{bytes_eq}
 use Rattle.tv_word.specs.Numeral.{numeral}
 use Rattle.tv_top.specs.declared.job.Job.{Job}
 use Rattle.tv_top.specs.declared.job.Job.TheVariants.{Asm, Disasm, Run, Build, Witness, Check, Extract, Trial, Shrink, Listing}
-use Rattle.tv_top.specs.declared.place.Place.{Place}
 use Rattle.tv_top.specs.declared.place.Write.{Write}
 use Rattle.tv_top.specs.Assembling.{asm_asks, asm_plan}
 use Rattle.tv_top.specs.Building.{net_word, build_asks, build_plan}
@@ -13,7 +12,7 @@ use Rattle.tv_top.specs.Contents.{Content.{Bytes}}
 use Rattle.tv_top.specs.Disassembling.{width_word, disasm_asks, disasm_plan}
 use Rattle.tv_top.specs.Extracting.{extract_asks, extract_plan}
 use Rattle.tv_top.specs.Listing.{by_word, listing_asks, listing_plan}
-use Rattle.tv_top.specs.Plan.{Plan, Named}
+use Rattle.tv_top.specs.Plan.{Plan, name_at}
 use Rattle.tv_top.specs.Plan as plan
 use Rattle.tv_top.specs.Running.{run_asks, run_plan}
 use Rattle.tv_top.specs.Shrinking.{shrink_asks, shrink_plan}
@@ -32,30 +31,30 @@ with_three f _ _ _ = None
 -- the words behind a command's name, by its form; `disasm`, `build`, `witness` and `extract` may have
 -- one more
 abbrev pub asm_form : List (List ℕ) → Option Plan
-asm_form (text ∷ image ∷ []) = Some (asm_plan text image)
+asm_form (text ∷ image ∷ []) = Some (asm_plan (name_at 1 text) (name_at 2 image))
 asm_form _ = None
 
 abbrev pub disasm_form : List (List ℕ) → Option Plan
-disasm_form (image ∷ text ∷ last) = option_map (λ width. disasm_plan width image text) (width_word last)
+disasm_form (image ∷ text ∷ last) = option_map (λ width. disasm_plan width (name_at 1 image) (name_at 2 text)) (width_word last)
 disasm_form _ = None
 
 abbrev pub run_form : List (List ℕ) → Option Plan
-run_form (text ∷ tape ∷ aux ∷ steps ∷ []) = option_map (run_plan text tape aux) (numeral 10 (2 ^ 64) steps)
+run_form (text ∷ tape ∷ aux ∷ steps ∷ []) = option_map (run_plan (name_at 1 text) (name_at 2 tape) (name_at 3 aux)) (numeral 10 (2 ^ 64) steps)
 run_form _ = None
 
 abbrev pub build_form : List (List ℕ) → Option Plan
 build_form (text ∷ n ∷ t ∷ system ∷ last) =
-    with_three (λ net n t. build_plan net text n t system) (net_word last) (numeral 10 (2 ^ 64) n) (numeral 10 (2 ^ 64) t)
+    with_three (λ net n t. build_plan net (name_at 1 text) n t (name_at 4 system)) (net_word last) (numeral 10 (2 ^ 64) n) (numeral 10 (2 ^ 64) t)
 build_form _ = None
 
 abbrev pub witness_form : List (List ℕ) → Option Plan
 witness_form (text ∷ tape ∷ aux ∷ t ∷ witness ∷ last) =
-    with_two (λ net t. witness_plan net text tape aux t witness) (net_word last) (numeral 10 (2 ^ 64) t)
+    with_two (λ net t. witness_plan net (name_at 1 text) (name_at 2 tape) (name_at 3 aux) t (name_at 5 witness)) (net_word last) (numeral 10 (2 ^ 64) t)
 witness_form _ = None
 
 abbrev pub extract_form : List (List ℕ) → Option Plan
 extract_form (text ∷ n ∷ t ∷ witness ∷ tape ∷ aux ∷ last) =
-    with_three (λ net n t. extract_plan net text n t witness tape aux) (net_word last) (numeral 10 (2 ^ 64) n) (numeral 10 (2 ^ 64) t)
+    with_three (λ net n t. extract_plan net (name_at 1 text) n t (name_at 4 witness) (name_at 5 tape) (name_at 6 aux)) (net_word last) (numeral 10 (2 ^ 64) n) (numeral 10 (2 ^ 64) t)
 extract_form _ = None
 
 abbrev pub trial_form : List (List ℕ) → Option Plan
@@ -64,15 +63,15 @@ trial_form _ = None
 
 abbrev pub listing_form : List (List ℕ) → Option Plan
 listing_form (text ∷ n ∷ t ∷ witness ∷ by ∷ out ∷ []) =
-    with_three (λ by n t. listing_plan by text n t witness out) (by_word by) (numeral 10 (2 ^ 64) n) (numeral 10 (2 ^ 64) t)
+    with_three (λ by n t. listing_plan by (name_at 1 text) n t (name_at 4 witness) (name_at 6 out)) (by_word by) (numeral 10 (2 ^ 64) n) (numeral 10 (2 ^ 64) t)
 listing_form _ = None
 
 abbrev pub check_form : List (List ℕ) → Option Plan
-check_form (system ∷ witness ∷ tape ∷ []) = Some (check_plan system witness tape)
+check_form (system ∷ witness ∷ tape ∷ []) = Some (check_plan (name_at 1 system) (name_at 2 witness) (name_at 3 tape))
 check_form _ = None
 
 abbrev pub shrink_form : List (List ℕ) → Option Plan
-shrink_form (system ∷ out ∷ []) = Some (shrink_plan system out)
+shrink_form (system ∷ out ∷ []) = Some (shrink_plan (name_at 1 system) (name_at 2 out))
 shrink_form _ = None
 
 -- the plan of these words, where they have the form of a command's
@@ -103,9 +102,6 @@ plan_of (Trial args) = trial_asks args
 plan_of (Shrink args) = shrink_asks args
 plan_of (Listing args) = listing_asks args
 
--- the code's place of a name, and its file that is to be written
-abbrev pub named : Place → Named
-named place = record { word = place.word; name = place.name.now }
-
+-- the code's file that is to be written
 abbrev pub to_write : Write → plan.Write
 to_write write = record { word = write.place.word; name = write.place.name.now; content = Bytes write.bytes.now }

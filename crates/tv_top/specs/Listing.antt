@@ -18,7 +18,7 @@ use Rattle.tv_top.specs.Building.{program_system, size_amounts}
 use Rattle.tv_top.specs.Claims.{Comes}
 use Rattle.tv_top.specs.Extracting.{Assigned, assigned_of, assigned_run, run_ends, HasAssigned}
 use Rattle.tv_top.specs.Kinds.{is_listing}
-use Rattle.tv_top.specs.Plan.{Plan, Outcome, comes_by, one_name, writes_bytes}
+use Rattle.tv_top.specs.Plan.{Named, Plan, Outcome, named, comes_by, one_name, writes_bytes}
 use Rattle.tv_top.specs.Programs.{bits, program_sizes}
 
 -- the order that a word tells
@@ -36,10 +36,10 @@ lines_written by n t assigned run = writes_bytes (assigned_text by n t run.step 
 abbrev pub listing_ends : By → ℕ → ℕ → Assigned → Outcome
 listing_ends by n t assigned = run_ends (lines_written by n t assigned) (assigned_run Benes n t assigned)
 
-abbrev pub listing_plan : By → List ℕ → ℕ → ℕ → List ℕ → List ℕ → Plan
+abbrev pub listing_plan : By → Named → ℕ → ℕ → Named → Named → Plan
 listing_plan by text n t witness out = record {
-  reads = record { word = 1; name = text } ∷ record { word = 4; name = witness } ∷ [];
-  writes = one_name 6 out;
+  reads = text ∷ witness ∷ [];
+  writes = out ∷ [];
   amounts = size_amounts n t;
   sizes = program_sizes;
   ends_by = is_listing;
@@ -48,7 +48,7 @@ listing_plan by text n t witness out = record {
 
 -- the plan that the command's words ask for
 abbrev pub listing_asks : ListingArgs → Plan
-listing_asks args = listing_plan args.by args.text.now args.n args.t args.witness.now args.out.now
+listing_asks args = listing_plan args.by (named args.text) args.n args.t (named args.witness) (named args.out)
 
 -- The two files hold what those of `extract` do. And an assignment that satisfies the program's system has a run, of
 -- which its lines are: boot lines, and the lines of the machine's steps on the run's tapes. So its listing is, byte for

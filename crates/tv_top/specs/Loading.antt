@@ -10,24 +10,24 @@ use Rattle.tv_top.specs.declared.refusal.Bad.{Bad}
 use Rattle.tv_top.specs.declared.refusal.Size.{Size}
 use Rattle.tv_top.specs.declared.refusal.Size.TheVariants.{TapeWords, AuxWords}
 use Rattle.tv_top.specs.Claims.{Holds, Then}
-use Rattle.tv_top.specs.Plan.{Look, ◌>>=◌, input}
+use Rattle.tv_top.specs.Plan.{Named, Look, ◌>>=◌, input, settled}
 use Rattle.tv_top.specs.Programs.{HasImage, bits, program_in, program_sizes}
 use Rattle.tv_top.specs.Tapes.{numbers_in, tape_sizes}
 
--- the files of the two tapes: words of a width
-abbrev pub primary_in : ℕ → List ℕ → Result (List ℕ) Bad
-primary_in w = numbers_in 2 TapeWords (2 ^ w) TAPE_WORDS
+-- the files of the two tapes, each at a word: words of a width
+abbrev pub primary_in : ℕ → ℕ → List ℕ → Result (List ℕ) Bad
+primary_in word w = numbers_in word TapeWords (2 ^ w) TAPE_WORDS
 
-abbrev pub aux_in : ℕ → List ℕ → Result (List ℕ) Bad
-aux_in w = numbers_in 3 AuxWords (2 ^ w) AUX_WORDS
+abbrev pub aux_in : ℕ → ℕ → List ℕ → Result (List ℕ) Bad
+aux_in word w = numbers_in word AuxWords (2 ^ w) AUX_WORDS
 
 -- the three files, each read and judged before the next; the text tells the width
-unfoldable pub inputs_of : List ℕ → List ℕ → List ℕ → Names → Look Inputs
+unfoldable pub inputs_of : Named → Named → Named → Names → Look Inputs
 inputs_of text tape aux files = do
-  program ← input 1 program_in text files
-  primary ← input 2 (primary_in (bits program.width)) tape files
-  auxiliary ← input 3 (aux_in (bits program.width)) aux files
-  record { at = 3; gives = Ok (record { program = program; tape = primary; aux = auxiliary }) }
+  program ← input text program_in files
+  primary ← input tape (primary_in tape.word (bits program.width)) files
+  auxiliary ← input aux (aux_in aux.word (bits program.width)) files
+  settled (Ok (record { program = program; tape = primary; aux = auxiliary }))
 
 -- the quantities of which the three files may hold too many
 abbrev pub input_sizes : List Size
@@ -50,6 +50,6 @@ run_end steps inputs =
 abbrev pub HasInputs : Names → List ℕ → List ℕ → List ℕ → Result Inputs Bad → Type 0
 HasInputs files text tape aux =
     Then (Holds program_in (files text)) (λ program.
-    Then (Holds (primary_in (bits program.width)) (files tape)) (λ primary.
-    Then (Holds (aux_in (bits program.width)) (files aux)) (λ auxiliary held.
+    Then (Holds (primary_in 2 (bits program.width)) (files tape)) (λ primary.
+    Then (Holds (aux_in 3 (bits program.width)) (files aux)) (λ auxiliary held.
     held ≡ Ok (record { program = program; tape = primary; aux = auxiliary }))))

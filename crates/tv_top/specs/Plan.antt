@@ -1,8 +1,10 @@
 -- What a command's words come to: a plan, whose parts all clauses share.
 use Rattle.std.specs.Prelude.{ℕ, ◌+◌, ◌≤◌, max, Bool, List, [], ◌∷◌, length, Option, Some, None, Result, Ok, Err, nat_le, nat_lt, ◌||◌, if◌then◌else◌}
+use Rattle.std.specs.Option.{option_or}
 use Rattle.std.specs.Str.{bytes_eq}
 use Rattle.tv_files.specs.Outside.{Names}
 use Rattle.tv_top.specs.declared.place.Amount.{Amount}
+use Rattle.tv_top.specs.declared.place.Place.{Place}
 use Rattle.tv_top.specs.declared.refusal.Bad.{Bad}
 use Rattle.tv_top.specs.declared.refusal.Bad.TheVariants as bad
 use Rattle.tv_top.specs.declared.refusal.Ending.{Ending}
@@ -21,9 +23,16 @@ pub record Named : Type 0 where
   pub word : ℕ
   pub name : List ℕ
 
--- one name, which stands at this word
+-- the name at a word, and it alone
+abbrev pub name_at : ℕ → List ℕ → Named
+name_at word name = record { word = word; name = name }
+
 abbrev pub one_name : ℕ → List ℕ → List Named
-one_name word name = record { word = word; name = name } ∷ []
+one_name word name = name_at word name ∷ []
+
+-- the code's place of a name
+abbrev pub named : Place → Named
+named place = name_at place.word place.name.now
 
 -- a look at files: the last word whose file was looked at, and what came of it
 pub record Look (A : Type 0) : Type 0 where
@@ -52,11 +61,6 @@ pub record Plan : Type 0 where
 
 -- ---- words
 
--- the first that is refused
-abbrev pub first_of : Option Refusal → Option Refusal → Option Refusal
-first_of None later = later
-first_of (Some why) later = Some why
-
 -- the first name that is the same as this one
 abbrev pub same_in : Named → List Named → Option Refusal
 same_in one [] = None
@@ -65,8 +69,8 @@ same_in one (other ∷ others) = if bytes_eq one.name other.name then Some (Same
 -- the first two words that are one name, of which the second is written
 abbrev pub same_of : List Named → List Named → Option Refusal
 same_of [] [] = None
-same_of [] (w ∷ ws) = first_of (same_in w ws) (same_of [] ws)
-same_of (r ∷ rs) ws = first_of (same_in r ws) (same_of rs ws)
+same_of [] (w ∷ ws) = option_or (same_in w ws) (same_of [] ws)
+same_of (r ∷ rs) ws = option_or (same_in r ws) (same_of rs ws)
 
 -- the first quantity that passes its limit, or doesn't reach the least that it may be
 abbrev pub limit_of : List Amount → Option Refusal
@@ -80,7 +84,7 @@ AreWithin (one ∷ more) = (one.least ≤ one.has) × (one.has ≤ one.most) × 
 
 -- what names and quantities are refused for
 abbrev pub refusal_of : List Named → List Named → List Amount → Option Refusal
-refusal_of reads writes amounts = first_of (same_of reads writes) (limit_of amounts)
+refusal_of reads writes amounts = option_or (same_of reads writes) (limit_of amounts)
 
 -- the plan, unless it is refused
 abbrev pub unless : Option Refusal → Plan → Result Plan Refusal
@@ -117,9 +121,13 @@ abbrev pub held_at : {A : Type 0} → ℕ → (List ℕ → Result A Bad) → Op
 held_at word read None = Err (stop.Fault word)
 held_at word read (Some bytes) = made_of (read bytes)
 
--- a look at the file at a word
-unfoldable pub input : {A : Type 0} → ℕ → (List ℕ → Result A Bad) → List ℕ → Names → Look A
-input word read name files = record { at = word; gives = held_at word read (files name) }
+-- a look at the file of a name
+unfoldable pub input : {A : Type 0} → Named → (List ℕ → Result A Bad) → Names → Look A
+input place read files = record { at = place.word; gives = held_at place.word read (files place.name) }
+
+-- what is made of what was found, with no further look
+abbrev pub settled : {A : Type 0} → Result A Bad → Look A
+settled made = record { at = 0; gives = made_of made }
 
 -- what is found, by what it comes to
 abbrev pub map_ok : {A B E : Type 0} → (A → B) → Result A E → Result B E
@@ -137,6 +145,10 @@ pub record Write : Type 0 where
   pub word : ℕ
   pub name : List ℕ
   pub content : Content
+
+-- one file, under this name
+abbrev pub one_write : Named → Content → List Write
+one_write place content = record { word = place.word; name = place.name; content = content } ∷ []
 
 -- each of these goes under the name of its place
 abbrev pub files_of : List Named → List Content → List Write

@@ -13,10 +13,10 @@ use Rattle.tv_top.specs.declared.programs.Width.{Width}
 use Rattle.tv_top.specs.declared.programs.Width.TheVariants.{Bits16, Bits32}
 use Rattle.tv_top.specs.declared.refusal.Bad.{Bad}
 use Rattle.tv_top.specs.declared.refusal.Bad.TheVariants as bad
-use Rattle.tv_top.specs.declared.refusal.Flaw.{Flaw}
-use Rattle.tv_top.specs.declared.refusal.Flaw.TheVariants.{Contents, Memory}
 use Rattle.tv_top.specs.declared.refusal.Size.{Size}
 use Rattle.tv_top.specs.declared.refusal.Size.TheVariants.{ImageWords, TextBytes}
+use Rattle.tv_top.specs.declared.refusal.Stop.{Stop}
+use Rattle.tv_top.specs.declared.refusal.Stop.TheVariants.{Contents, Memory}
 use Rattle.tv_top.specs.Finds.{made_by}
 use Rattle.tv_top.specs.Plan.{within, map_ok}
 
@@ -48,14 +48,14 @@ abbrev pub image_bytes : Program → List ℕ
 image_bytes program = flat_map (word_bytes (bits program.width)) program.words
 
 -- what a fault of a program text is; it is two words more that pass the limit
-abbrev pub asm_flaw : AsmFault → Flaw
-asm_flaw (asm.Bad line why) = Contents (bad.Program line why)
-asm_flaw (asm.TooMany line most) = Contents (bad.Limit ImageWords (most + 2) most)
-asm_flaw asm.Memory = Memory
+abbrev pub asm_stop : AsmFault → Stop
+asm_stop (asm.Bad line why) = Contents (bad.Program line why)
+asm_stop (asm.TooMany line most) = Contents (bad.Limit ImageWords (most + 2) most)
+asm_stop asm.Memory = Memory
 
 -- what a program text for words of a width comes to
 abbrev pub program_result : Width → Result (List ℕ) AsmFault → Result Program Bad
-program_result width found = map_ok (λ words. record { width = width; words = words }) (made_by ImageWords asm_flaw found)
+program_result width found = map_ok (λ words. record { width = width; words = words }) (made_by ImageWords asm_stop found)
 
 -- a program text for words of a width
 unfoldable pub program_by : Width → List ℕ → Result Program Bad

@@ -14,15 +14,15 @@ use Rattle.tv_top.specs.declared.status.Status.{Status}
 use Rattle.tv_top.specs.Claims.{Comes}
 use Rattle.tv_top.specs.Kinds.{is_run}
 use Rattle.tv_top.specs.Loading.{inputs_of, input_sizes, run_end, HasInputs}
-use Rattle.tv_top.specs.Plan.{Plan, Outcome, comes_by}
+use Rattle.tv_top.specs.Plan.{Named, Plan, Outcome, named, comes_by}
 use Rattle.tv_top.specs.Programs.{bits}
 
 abbrev pub run_ends : ℕ → Inputs → Outcome
 run_ends steps inputs = record { files = []; finish = Run (run_end steps inputs) }
 
-abbrev pub run_plan : List ℕ → List ℕ → List ℕ → ℕ → Plan
+abbrev pub run_plan : Named → Named → Named → ℕ → Plan
 run_plan text tape aux steps = record {
-  reads = record { word = 1; name = text } ∷ record { word = 2; name = tape } ∷ record { word = 3; name = aux } ∷ [];
+  reads = text ∷ tape ∷ aux ∷ [];
   writes = [];
   amounts = record { what = Steps; has = steps; least = 1; most = STEPS } ∷ [];
   sizes = input_sizes;
@@ -32,7 +32,7 @@ run_plan text tape aux steps = record {
 
 -- the plan that the command's words ask for
 abbrev pub run_asks : RunArgs → Plan
-run_asks args = run_plan args.text.now args.tape.now args.aux.now args.steps
+run_asks args = run_plan (named args.text) (named args.tape) (named args.aux) args.t
 
 -- the three files hold a program and two tapes, and where the run on them ends with an answer, the machine accepts
 -- by it; or the first of them that is refused is refused for this

@@ -20,7 +20,7 @@ use Rattle.tv_top.specs.Claims.{Holds, Then, Comes}
 use Rattle.tv_top.specs.Containers.{system_in}
 use Rattle.tv_top.specs.Contents.{Content.{Rest}}
 use Rattle.tv_top.specs.Kinds.{is_quiet}
-use Rattle.tv_top.specs.Plan.{Plan, Outcome, Look, ◌>>=◌, made_of, input, comes_by, one_name}
+use Rattle.tv_top.specs.Plan.{Named, Plan, Outcome, Look, ◌>>=◌, named, settled, input, comes_by, one_name}
 
 -- the limits of a system's terms, and of the terms of one combination
 abbrev pub terms_bad : ℕ → Bad
@@ -29,13 +29,13 @@ terms_bad has = bad.Limit SystemTerms has most
 abbrev pub wide_bad : ℕ → Bad
 wide_bad has = bad.Limit CombinationTerms has 128
 
--- what a refusal is of shrinking the system at word 1
-abbrev pub shrink_stop : ShrinkFault → Stop
-shrink_stop (fault.Bad at why) = stop.Contents (bad.System at why)
-shrink_stop (fault.Terms has) = stop.Contents (terms_bad has)
-shrink_stop (fault.Combination has) = stop.Contents (wide_bad has)
-shrink_stop fault.Fault = stop.Fault 1
-shrink_stop fault.Memory = stop.Memory
+-- what a refusal is of shrinking the system at a word
+abbrev pub shrink_stop : ℕ → ShrinkFault → Stop
+shrink_stop word (fault.Bad at why) = stop.Contents (bad.System at why)
+shrink_stop word (fault.Terms has) = stop.Contents (terms_bad has)
+shrink_stop word (fault.Combination has) = stop.Contents (wide_bad has)
+shrink_stop word fault.Fault = stop.Fault word
+shrink_stop word fault.Memory = stop.Memory
 
 -- what is left of a system of combinations that are narrow, or the first one is this wide
 abbrev pub narrow_shrunk : Option ℕ → System → Result Shrunken Bad
@@ -48,10 +48,10 @@ shrunk_of system =
     if nat_lt most (all_terms system) then Err (terms_bad (all_terms system)) else narrow_shrunk (first_wide system.constraints) system
 
 -- the file of a system: what is left of it, unless it is refused itself
-unfoldable pub shrunk_look : List ℕ → Names → Look Shrunken
-shrunk_look name files = do
-  system ← input 1 system_in name files
-  record { at = 1; gives = made_of (shrunk_of system) }
+unfoldable pub shrunk_look : Named → Names → Look Shrunken
+shrunk_look place files = do
+  system ← input place system_in files
+  settled (shrunk_of system)
 
 abbrev pub shrink_ends : Shrunken → Outcome
 shrink_ends shrunken = record { files = Rest shrunken ∷ []; finish = Quiet }
@@ -59,10 +59,10 @@ shrink_ends shrunken = record { files = Rest shrunken ∷ []; finish = Quiet }
 abbrev pub shrink_sizes : List Size
 shrink_sizes = SystemTerms ∷ CombinationTerms ∷ []
 
-abbrev pub shrink_plan : List ℕ → List ℕ → Plan
+abbrev pub shrink_plan : Named → Named → Plan
 shrink_plan system out = record {
-  reads = one_name 1 system;
-  writes = one_name 2 out;
+  reads = system ∷ [];
+  writes = out ∷ [];
   amounts = [];
   sizes = shrink_sizes;
   ends_by = is_quiet;
@@ -71,7 +71,7 @@ shrink_plan system out = record {
 
 -- the plan that the command's words ask for
 abbrev pub shrink_asks : ShrinkArgs → Plan
-shrink_asks args = shrink_plan args.system.now args.out.now
+shrink_asks args = shrink_plan (named args.system) (named args.out)
 
 -- The numbers that satisfy the shrunk system are those that some assignment which satisfies the system has at the kept
 -- wires, and no two such assignments have the same numbers there; wire 0 and all public wires keep their numbers.

@@ -6,8 +6,6 @@ use Rattle.tv_step.specs.declared.end.End.{End}
 use Rattle.tv_step.specs.declared.end.End.TheVariants.{Answer, Undefined, Silent}
 use Rattle.tv_top.specs.declared.refusal.Bad.{Bad}
 use Rattle.tv_top.specs.declared.refusal.Bad.TheVariants as bad
-use Rattle.tv_top.specs.declared.refusal.Cut.{Cut}
-use Rattle.tv_top.specs.declared.refusal.Cut.TheVariants as cut
 use Rattle.tv_top.specs.declared.refusal.Ending.{Ending}
 use Rattle.tv_top.specs.declared.refusal.Ending.TheVariants.{Refused, Stopped, Finished}
 use Rattle.tv_top.specs.declared.refusal.Finish.{Finish}
@@ -74,7 +72,7 @@ bad_status (bad.Witness at why) = BadWitness at why
 bad_status (bad.Image len) = BadImage len
 bad_status (bad.Limit what has most) = Limit (size_what what) has most
 
--- what a look at files is answered that didn't find what it looked for
+-- what is answered where something kept the command from being done
 abbrev pub stop_status : Stop → Status
 stop_status (stop.Fault word) = FileFault word
 stop_status stop.Memory = Memory
@@ -101,11 +99,6 @@ finish_status (finishes.NoRun end) = NoRun end
 finish_status (finishes.NotARun why) = NotARun why
 finish_status (finishes.Verdict verdict) = verdict_status verdict
 finish_status (finishes.Trial trial) = Done
-
--- what is answered where writing or saying was cut short
-abbrev pub cut_status : Cut → Status
-cut_status (cut.Fault word) = FileFault word
-cut_status cut.Memory = Memory
 
 -- what an end is answered, once its line was said
 abbrev pub ending_status : Ending → Status

@@ -1,5 +1,5 @@
 -- The numbers of tapes.
-use Rattle.std.specs.Prelude.{ℕ, ◌+◌, List, [], ◌∷◌, Result}
+use Rattle.std.specs.Prelude.{◌≡◌, ℕ, ◌+◌, List, [], ◌∷◌, Result, Ok}
 use Rattle.tv_core.specs.declared.field.TheConstants.{P}
 use Rattle.tv_tape.specs.Tape.{tape_of}
 use Rattle.tv_tape.specs.declared.items.TapeFault.{TapeFault}
@@ -7,23 +7,23 @@ use Rattle.tv_tape.specs.declared.items.TapeFault.TheVariants as tape
 use Rattle.tv_core.specs.declared.limits.TheConstants.{TEXT_BYTES, CHECK_WORDS}
 use Rattle.tv_top.specs.declared.refusal.Bad.{Bad}
 use Rattle.tv_top.specs.declared.refusal.Bad.TheVariants as bad
-use Rattle.tv_top.specs.declared.refusal.Flaw.{Flaw}
-use Rattle.tv_top.specs.declared.refusal.Flaw.TheVariants.{Contents, Memory}
 use Rattle.tv_top.specs.declared.refusal.Size.{Size}
 use Rattle.tv_top.specs.declared.refusal.Size.TheVariants.{TapeWords, TextBytes}
+use Rattle.tv_top.specs.declared.refusal.Stop.{Stop}
+use Rattle.tv_top.specs.declared.refusal.Stop.TheVariants.{Contents, Memory}
 use Rattle.tv_top.specs.Finds.{made_by}
 use Rattle.tv_top.specs.Plan.{within}
 
 -- what a fault of the tape at a word is; it is one item more that passes the limit
-abbrev pub tape_flaw : ℕ → Size → TapeFault → Flaw
-tape_flaw word what (tape.BadItem at) = Contents (bad.Tape word at)
-tape_flaw word what (tape.TooBig at) = Contents (bad.Tape word at)
-tape_flaw word what (tape.TooMany most) = Contents (bad.Limit what (most + 1) most)
-tape_flaw word what tape.Memory = Memory
+abbrev pub tape_stop : ℕ → Size → TapeFault → Stop
+tape_stop word what (tape.BadItem at) = Contents (bad.Tape word at)
+tape_stop word what (tape.TooBig at) = Contents (bad.Tape word at)
+tape_stop word what (tape.TooMany most) = Contents (bad.Limit what (most + 1) most)
+tape_stop word what tape.Memory = Memory
 
 -- the numbers of the text of the tape at a word: below a bound each, and at most so many of this quantity
 unfoldable pub numbers_of : ℕ → Size → ℕ → ℕ → List ℕ → Result (List ℕ) Bad
-numbers_of word what below most text = made_by what (tape_flaw word what) (tape_of text below most)
+numbers_of word what below most text = made_by what (tape_stop word what) (tape_of text below most)
 
 -- the quantities of which the file of a tape may hold too many, the numbers being of this one
 abbrev pub tape_sizes : Size → List Size
@@ -33,6 +33,10 @@ tape_sizes what = TextBytes ∷ what ∷ []
 abbrev pub numbers_in : ℕ → Size → ℕ → ℕ → List ℕ → Result (List ℕ) Bad
 numbers_in word what below most = within TextBytes TEXT_BYTES (numbers_of word what below most)
 
--- the file of the tape at word 3 that lists public numbers
-abbrev pub publics_in : List ℕ → Result (List ℕ) Bad
-publics_in = numbers_in 3 TapeWords P CHECK_WORDS
+-- the file of the tape at a word that lists public numbers
+abbrev pub publics_in : ℕ → List ℕ → Result (List ℕ) Bad
+publics_in word = numbers_in word TapeWords P CHECK_WORDS
+
+-- some text tells these numbers, below a bound each, and at most so many
+abbrev pub AreTold : ℕ → ℕ → List ℕ → Type 0
+AreTold below most numbers = (text : List ℕ) × (tape_of text below most ≡ Ok numbers)

@@ -22,7 +22,7 @@ use Rattle.tv_top.specs.declared.trialing.TrialArgs.{TrialArgs}
 use Rattle.tv_top.specs.Codes.{trial_text}
 use Rattle.tv_top.specs.Ends.{Added}
 use Rattle.tv_top.specs.Kinds.{is_trial}
-use Rattle.tv_top.specs.Plan.{Plan, Outcome, Look, comes_by}
+use Rattle.tv_top.specs.Plan.{Plan, Outcome, Look, comes_by, settled}
 
 -- the system of k drawn instructions and `answer 0` behind them, for as many steps, and the values for their run
 abbrev pub drawn_system : ℕ → ℕ → System
@@ -50,7 +50,7 @@ trial_ends seed k = record { files = []; finish = finishes.Trial (trial_of seed 
 
 -- no file is looked at
 abbrev pub no_look : Names → Look (Unit {0})
-no_look files = record { at = 0; gives = Ok tt }
+no_look files = settled (Ok tt)
 
 abbrev pub trial_plan : ℕ → ℕ → Plan
 trial_plan seed k = record {

@@ -1,6 +1,6 @@
 -- `witness TEXT TAPE AUX T WITNESS`, which may have one more word, `waksman`: the values of the wires of a program's
 -- system for a run that answers.
-use Rattle.std.specs.Prelude.{◌≡◌, ◌≢◌, ◌<◌, ◌≤◌, ◌^◌, ℕ, codes, List, [], ◌∷◌, Option, Some, None, Result, IfOk}
+use Rattle.std.specs.Prelude.{◌≡◌, ◌≢◌, ◌<◌, ◌≤◌, ◌^◌, ℕ, codes, List, [], ◌∷◌, Some, Result, Ok, Err, IfOk}
 use Rattle.tv_benes.specs.declared.shape.Net.{Net}
 use Rattle.tv_block.specs.Block.{block_of}
 use Rattle.tv_core.specs.declared.limits.TheConstants.{STEPS}
@@ -18,6 +18,8 @@ use Rattle.tv_top.specs.declared.refusal.Bad.{Bad}
 use Rattle.tv_top.specs.declared.refusal.Finish.{Finish}
 use Rattle.tv_top.specs.declared.refusal.Finish.TheVariants.{Quiet, NoRun}
 use Rattle.tv_top.specs.declared.refusal.Quantity.TheVariants.{Steps}
+use Rattle.tv_top.specs.declared.refusal.Stop.{Stop}
+use Rattle.tv_top.specs.declared.refusal.Stop.TheVariants.{Memory}
 use Rattle.tv_top.specs.declared.status.Status.{Status}
 use Rattle.tv_top.specs.declared.witnessing.WitnessArgs.{WitnessArgs}
 use Rattle.tv_top.specs.Building.{net_word}
@@ -25,7 +27,7 @@ use Rattle.tv_top.specs.Claims.{Comes}
 use Rattle.tv_top.specs.Contents.{Content.{Values}}
 use Rattle.tv_top.specs.Kinds.{is_witness}
 use Rattle.tv_top.specs.Loading.{inputs_of, input_sizes, run_end, HasInputs}
-use Rattle.tv_top.specs.Plan.{Plan, Outcome, comes_by, one_name}
+use Rattle.tv_top.specs.Plan.{Named, Plan, Outcome, named, comes_by, one_name}
 use Rattle.tv_top.specs.Programs.{bits}
 
 -- the values for a run that answers v
@@ -42,15 +44,15 @@ abbrev pub witness_ends : Net → ℕ → Inputs → Outcome
 witness_ends net t inputs = witness_by net t inputs (run_end t inputs)
 
 -- the end where there are no values, unless memory was wanting
-abbrev pub no_run : FillFault → Option Finish
-no_run (fills.NoRun end) = Some (NoRun end)
-no_run fills.Failed = None
-no_run fills.Memory = None
+abbrev pub no_run : FillFault → Result Finish Stop
+no_run (fills.NoRun end) = Ok (NoRun end)
+no_run fills.Failed = Err Memory
+no_run fills.Memory = Err Memory
 
-abbrev pub witness_plan : Net → List ℕ → List ℕ → List ℕ → ℕ → List ℕ → Plan
+abbrev pub witness_plan : Net → Named → Named → Named → ℕ → Named → Plan
 witness_plan net text tape aux t witness = record {
-  reads = record { word = 1; name = text } ∷ record { word = 2; name = tape } ∷ record { word = 3; name = aux } ∷ [];
-  writes = one_name 5 witness;
+  reads = text ∷ tape ∷ aux ∷ [];
+  writes = witness ∷ [];
   amounts = record { what = Steps; has = t; least = 1; most = STEPS } ∷ [];
   sizes = input_sizes;
   ends_by = is_witness;
@@ -59,7 +61,7 @@ witness_plan net text tape aux t witness = record {
 
 -- the plan that the command's words ask for
 abbrev pub witness_asks : WitnessArgs → Plan
-witness_asks args = witness_plan args.net args.text.now args.tape.now args.aux.now args.t args.witness.now
+witness_asks args = witness_plan args.net (named args.text) (named args.tape) (named args.aux) args.t (named args.witness)
 
 -- the machine accepts by v, and the values satisfy the system, extend v and the tape, and take the words that the run
 -- reads

@@ -1,19 +1,18 @@
 //! `asm TEXT IMAGE`: the image of a program text.
-ghost use Rattle.std.specs.Prelude.{◌≡◌, [], ◌∷◌, map, string_bytes, IfOk, Ok};
+ghost use Rattle.std.specs.Prelude.{◌≡◌, [], ◌∷◌, map, string_bytes, IfOk};
 ghost use Rattle.std.specs.Prelude.{Some, None, MatchOption};
-ghost use Rattle.tv_top.specs.Answers.{Answers};
+ghost use Rattle.tv_top.specs.Answers.{Does};
 ghost use Rattle.tv_top.specs.Assembling.{image_in, asm_asks};
 ghost use Rattle.tv_top.specs.Finds.{Finds, Makes};
 ghost use Rattle.tv_top.specs.Form.{asm_form};
-ghost use Rattle.tv_top.specs.Plan.{input, refusal_of};
+ghost use Rattle.tv_top.specs.Plan.{input, named, refusal_of};
 ghost use Rattle.tv_top.specs.Programs.{image_bytes, image_of, program_sizes};
 
 use crate::inputs::limited_bytes;
 use crate::place::{Place, Write, refusal_of};
 use crate::programs::{Program, program_of};
-use crate::refusal::{Ending, Finish, Flaw, Refusal, Size, Stop};
-use crate::status::Status;
-use crate::writing::{conclude, finish};
+use crate::refusal::{Finish, Refusal, Size, Stop};
+use crate::writing::write_files;
 use std::alloc::{AllocError, Global};
 use tv_core::limits::TEXT_BYTES;
 use tv_files::Files;
@@ -22,8 +21,8 @@ use tv_word::word_bytes;
 /// The words of `asm`.
 #[derive(Clone, Copy)]
 pub(crate) struct AsmArgs<'a> {
-    pub(crate) text: &'a str,
-    pub(crate) image: &'a str,
+    pub(crate) text: Place<'a>,
+    pub(crate) image: Place<'a>,
 }
 
 impl<'a> AsmArgs<'a> {
@@ -36,8 +35,8 @@ impl<'a> AsmArgs<'a> {
             return None;
         };
         Some(AsmArgs {
-            text: text.as_str(),
-            image: image.as_str(),
+            text: Place::at(1, text.as_str()),
+            image: Place::at(2, image.as_str()),
         })
     }
 
@@ -46,24 +45,20 @@ impl<'a> AsmArgs<'a> {
         ensures { let plan = asm_asks self.entry in
             result ≡ refusal_of plan.reads plan.writes plan.amounts }
     {
-        refusal_of(&[Place::at(1, self.text)], &[Place::at(2, self.image)], &[])
+        refusal_of(&[self.text], &[self.image], &[])
     }
 
-    /// Does the command; `words` is the number of words, its name among them.
-    pub(crate) fn perform<D: Files>(self, alloc: Global, files: &mut D, words: usize) -> Status
-        ensures { Answers (Ok (asm_asks self.entry)) words
-            (D.seen files.old) (D.seen files.new) result }
+    /// Looks at the files, and writes what they come to.
+    pub(crate) fn perform<D: Files>(self, alloc: Global, files: &mut D) -> Result<Finish, Stop>
+        ensures { Does (asm_asks self.entry) (D.seen files.old) (D.seen files.new) result }
     {
-        match read_image(alloc, files, self.text) {
-            Ok(bytes) => {
-                let write = Write {
-                    place: Place::at(2, self.image),
-                    bytes: &bytes,
-                };
-                finish(files, words, &[write], Finish::Quiet)
-            }
-            Err(stop) => conclude(files, words, Ending::Stopped(stop)),
-        }
+        let bytes = read_image(alloc, files, self.text)?;
+        let write = Write {
+            place: self.image,
+            bytes: &bytes,
+        };
+        write_files(files, &[write])?;
+        Ok(Finish::Quiet)
     }
 }
 
@@ -83,19 +78,20 @@ fn image_bytes(alloc: Global, program: &Program) -> Result<Vec<u8>, AllocError>
 
 /// The image of a program text, in bytes.
 #[tactic(auto, unfolding(crate::specs::Programs::image_of))]
-fn image_of(alloc: Global, text: &[u8]) -> Result<Vec<u8>, Flaw>
+fn image_of(alloc: Global, text: &[u8]) -> Result<Vec<u8>, Stop>
     ensures { Makes (λ v. v.items) (image_of text.now) result }
 {
     let program = program_of(alloc, text)?;
     Ok(image_bytes(alloc, &program)?)
 }
 
-/// The image of the program text whose name stands at word 1.
+/// The image of the program text of this name.
 #[tactic(auto, unfolding(crate::specs::Plan::input))]
-fn read_image<D: Files>(alloc: Global, files: &mut D, text: &str) -> Result<Vec<u8>, Stop>
-    ensures { Finds (λ v. v.items) (1 ∷ []) program_sizes (input 1 image_in text.now)
+fn read_image<D: Files>(alloc: Global, files: &mut D, place: Place<'_>) -> Result<Vec<u8>, Stop>
+    ensures { Finds (λ v. v.items) (place.entry.word ∷ []) program_sizes
+        (input (named place.entry) image_in)
         (D.seen files.old) (D.seen files.new) result }
 {
-    let text = limited_bytes(alloc, files, 1, text, Size::TextBytes, TEXT_BYTES)?;
-    Ok(image_of(alloc, &text)?)
+    let text = limited_bytes(alloc, files, place, Size::TextBytes, TEXT_BYTES)?;
+    image_of(alloc, &text)
 }

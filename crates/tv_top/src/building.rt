@@ -1,22 +1,21 @@
 //! `build TEXT N T SYSTEM`, which may have one more word, `waksman`: the system of a program's
 //! runs.
-ghost use Rattle.std.specs.Prelude.{◌≡◌, [], ◌∷◌, map, string_bytes, Ok};
+ghost use Rattle.std.specs.Prelude.{◌≡◌, map, string_bytes};
 ghost use Rattle.std.specs.Prelude.{Some, None, MatchOption};
 ghost use Rattle.tv_layout.specs.Places.{WithinLimits};
 ghost use Rattle.tv_layout.specs.Systems.{system_of};
-ghost use Rattle.tv_top.specs.Answers.{Answers};
+ghost use Rattle.tv_top.specs.Answers.{Does};
 ghost use Rattle.tv_top.specs.Building.{build_asks, net_word, program_system, size_amounts};
 ghost use Rattle.tv_top.specs.Contents.{Content.{Constraints}};
 ghost use Rattle.tv_top.specs.Ends.{Writes};
 ghost use Rattle.tv_top.specs.Form.{build_form};
-ghost use Rattle.tv_top.specs.Plan.{AreWithin, refusal_of};
+ghost use Rattle.tv_top.specs.Plan.{AreWithin, named, one_write, refusal_of};
 ghost use Rattle.tv_top.specs.Programs.{HasImage};
 
 use crate::place::{Amount, Place, refusal_of};
 use crate::programs::{Program, Width, read_program};
-use crate::refusal::{Cut, Ending, Finish, Quantity, Refusal};
-use crate::status::Status;
-use crate::writing::{close, conclude, sink_cut, streamed};
+use crate::refusal::{Finish, Quantity, Refusal, Stop};
+use crate::writing::{sink_stop, streamed};
 use std::alloc::Global;
 use tv_benes::Net;
 use tv_core::limits::TAPE_WORDS;
@@ -28,12 +27,12 @@ use tv_word::decimal_of;
 /// The words of `build`.
 #[derive(Clone, Copy)]
 pub(crate) struct BuildArgs<'a> {
-    pub(crate) text: &'a str,
+    pub(crate) text: Place<'a>,
     /// How many words the tape has.
     pub(crate) n: u64,
     /// The most steps.
     pub(crate) t: u64,
-    pub(crate) system: &'a str,
+    pub(crate) system: Place<'a>,
     pub(crate) net: Net,
 }
 
@@ -50,8 +49,8 @@ impl<'a> BuildArgs<'a> {
             net: net_word(last)?,
             n: decimal_of(n.as_bytes())?,
             t: decimal_of(t.as_bytes())?,
-            text: text.as_str(),
-            system: system.as_str(),
+            text: Place::at(1, text.as_str()),
+            system: Place::at(4, system.as_str()),
         })
     }
 
@@ -60,26 +59,18 @@ impl<'a> BuildArgs<'a> {
         ensures { let plan = build_asks self.entry in
             result ≡ refusal_of plan.reads plan.writes plan.amounts }
     {
-        refusal_of(
-            &[Place::at(1, self.text)],
-            &[Place::at(4, self.system)],
-            &size_amounts(self.n, self.t),
-        )
+        let amounts = size_amounts(self.n, self.t);
+        refusal_of(&[self.text], &[self.system], &amounts)
     }
 
-    /// Does the command; `words` is the number of words, its name among them.
-    pub(crate) fn perform<D: Files>(self, alloc: Global, files: &mut D, words: usize) -> Status
+    /// Looks at the files, and writes what they come to.
+    pub(crate) fn perform<D: Files>(self, alloc: Global, files: &mut D) -> Result<Finish, Stop>
         requires { AreWithin (build_asks self).amounts }
-        ensures { Answers (Ok (build_asks self.entry)) words
-            (D.seen files.old) (D.seen files.new) result }
+        ensures { Does (build_asks self.entry) (D.seen files.old) (D.seen files.new) result }
     {
-        match read_program(alloc, files, self.text) {
-            Ok(program) => {
-                let written = write_system(files, self, &program);
-                close(files, words, written, Finish::Quiet)
-            }
-            Err(stop) => conclude(files, words, Ending::Stopped(stop)),
-        }
+        let program = read_program(alloc, files, self.text)?;
+        write_system(files, self, &program)?;
+        Ok(Finish::Quiet)
     }
 }
 
@@ -102,44 +93,36 @@ fn write_layout<const W: u32, D: Files>(
     n: u32,
     t: u32,
     net: Net,
-) -> Result<(), Cut>
+) -> Result<(), Stop>
     requires { WithinLimits W image.now n t }
-    ensures { Writes (record {
-      word = place.entry.word;
-      name = place.entry.name.now;
-      content = Constraints (system_of W net image.now n t);
-    } ∷ [])
+    ensures { Writes (one_write (named place.entry) (Constraints (system_of W net image.now n t)))
         (D.seen files.old) (D.seen files.new) result }
 {
     let counts = sizes::<W>(image, n, t, net);
     let mut sink = match StreamSink::begin(files, place.name, counts) {
         Ok(sink) => sink,
-        Err(refused) => return Err(sink_cut(place.word, refused.why)),
+        Err(refused) => return Err(sink_stop(place.word, refused.why)),
     };
     match emit_system::<W, _>(image, n, t, net, &mut sink) {
         Ok(()) => streamed(place.word, sink.finish()),
-        Err(fault) => Err(sink_cut(place.word, fault)),
+        Err(fault) => Err(sink_stop(place.word, fault)),
     }
 }
 
-/// Writes the system of a program's runs under the name at word 4.
+/// Writes the system of a program's runs.
 #[tactic(auto, unfolding(crate::specs::Building::program_system))]
-fn write_system<D: Files>(files: &mut D, args: BuildArgs<'_>, program: &Program) -> Result<(), Cut>
+fn write_system<D: Files>(files: &mut D, args: BuildArgs<'_>, program: &Program) -> Result<(), Stop>
     requires image { HasImage program.now }
     requires amounts { AreWithin (build_asks args).amounts }
-    ensures { Writes (record {
-      word = 4;
-      name = args.entry.system.now;
-      content = Constraints (program_system args.entry.net args.entry.n args.entry.t program.now);
-    } ∷ [])
+    ensures { Writes (one_write (named args.entry.system)
+        (Constraints (program_system args.entry.net args.entry.n args.entry.t program.now)))
         (D.seen files.old) (D.seen files.new) result }
 {
-    let place = Place::at(4, args.system);
     let image = program.words.as_slice();
     let (n, t) = (args.n as u32, args.t as u32);
     match program.width {
-        Width::Bits16 => write_layout::<16, D>(files, place, image, n, t, args.net),
-        Width::Bits32 => write_layout::<32, D>(files, place, image, n, t, args.net),
+        Width::Bits16 => write_layout::<16, D>(files, args.system, image, n, t, args.net),
+        Width::Bits32 => write_layout::<32, D>(files, args.system, image, n, t, args.net),
     }
 }
 

@@ -1,21 +1,19 @@
 //! `check SYSTEM WITNESS TAPE`: the three files, each read to its end and judged before the next,
 //! and the verdict on them.
-ghost use Rattle.std.specs.Prelude.{◌≡◌, [], ◌∷◌, map, string_bytes, Ok};
+ghost use Rattle.std.specs.Prelude.{◌≡◌, [], ◌∷◌, map, string_bytes};
 ghost use Rattle.std.specs.Prelude.{Some, None, MatchOption};
-ghost use Rattle.tv_top.specs.Answers.{Answers};
+ghost use Rattle.tv_top.specs.Answers.{Does};
 ghost use Rattle.tv_top.specs.Checking.{check_asks, check_of};
 ghost use Rattle.tv_top.specs.declared.refusal.Size.TheVariants.{TapeWords};
 ghost use Rattle.tv_top.specs.Finds.{Finds};
 ghost use Rattle.tv_top.specs.Form.{check_form};
-ghost use Rattle.tv_top.specs.Plan.{refusal_of};
+ghost use Rattle.tv_top.specs.Plan.{named, refusal_of};
 ghost use Rattle.tv_top.specs.Tapes.{tape_sizes};
 
 use crate::containers::{judge_system, read_first_witness, survey_system};
 use crate::place::{Place, refusal_of};
-use crate::refusal::{Ending, Finish, Refusal, Stop};
-use crate::status::Status;
+use crate::refusal::{Finish, Refusal, Stop};
 use crate::tapes::read_publics;
-use crate::writing::{conclude, finish};
 use std::alloc::Global;
 use tv_check::Verdict;
 use tv_files::Files;
@@ -23,9 +21,9 @@ use tv_files::Files;
 /// The words of `check`.
 #[derive(Clone, Copy)]
 pub(crate) struct CheckArgs<'a> {
-    pub(crate) system: &'a str,
-    pub(crate) witness: &'a str,
-    pub(crate) tape: &'a str,
+    pub(crate) system: Place<'a>,
+    pub(crate) witness: Place<'a>,
+    pub(crate) tape: Place<'a>,
 }
 
 impl<'a> CheckArgs<'a> {
@@ -38,9 +36,9 @@ impl<'a> CheckArgs<'a> {
             return None;
         };
         Some(CheckArgs {
-            system: system.as_str(),
-            witness: witness.as_str(),
-            tape: tape.as_str(),
+            system: Place::at(1, system.as_str()),
+            witness: Place::at(2, witness.as_str()),
+            tape: Place::at(3, tape.as_str()),
         })
     }
 
@@ -49,23 +47,16 @@ impl<'a> CheckArgs<'a> {
         ensures { let plan = check_asks self.entry in
             result ≡ refusal_of plan.reads plan.writes plan.amounts }
     {
-        let reads = [
-            Place::at(1, self.system),
-            Place::at(2, self.witness),
-            Place::at(3, self.tape),
-        ];
+        let reads = [self.system, self.witness, self.tape];
         refusal_of(&reads, &[], &[])
     }
 
-    /// Does the command; `words` is the number of words, its name among them.
-    pub(crate) fn perform<D: Files>(self, alloc: Global, files: &mut D, words: usize) -> Status
-        ensures { Answers (Ok (check_asks self.entry)) words
-            (D.seen files.old) (D.seen files.new) result }
+    /// Looks at the files, and tells the verdict.
+    pub(crate) fn perform<D: Files>(self, alloc: Global, files: &mut D) -> Result<Finish, Stop>
+        ensures { Does (check_asks self.entry) (D.seen files.old) (D.seen files.new) result }
     {
-        match verdict_on(alloc, files, self) {
-            Ok(verdict) => finish(files, words, &[], Finish::Verdict(verdict)),
-            Err(stop) => conclude(files, words, Ending::Stopped(stop)),
-        }
+        let verdict = verdict_on(alloc, files, self)?;
+        Ok(Finish::Verdict(verdict))
     }
 }
 
@@ -74,8 +65,10 @@ impl<'a> CheckArgs<'a> {
 /// the witness as many values are kept as the system has wires; where it has another number of
 /// them, the system is read once more as for any other verdict.
 fn verdict_on<D: Files>(alloc: Global, files: &mut D, args: CheckArgs<'_>) -> Result<Verdict, Stop>
-    ensures { Finds (λ v. v) (1 ∷ 2 ∷ 3 ∷ []) (tape_sizes TapeWords)
-        (check_of args.entry.system.now args.entry.witness.now args.entry.tape.now)
+    ensures { let args = args.entry in
+        Finds (λ v. v) (args.system.word ∷ args.witness.word ∷ args.tape.word ∷ [])
+        (tape_sizes TapeWords)
+        (check_of (named args.system) (named args.witness) (named args.tape))
         (D.seen files.old) (D.seen files.new) result }
 {
     let counts = survey_system(alloc, files, args.system)?;

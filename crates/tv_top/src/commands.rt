@@ -1,6 +1,6 @@
 //! The top call: what the words ask for is done, and one line is said.
-ghost use Rattle.std.specs.Prelude.{length, map, string_bytes, Ok};
-ghost use Rattle.tv_top.specs.Answers.{Answers};
+ghost use Rattle.std.specs.Prelude.{length, map, string_bytes};
+ghost use Rattle.tv_top.specs.Answers.{Answers, Does};
 ghost use Rattle.tv_top.specs.Assembling.{OnAsm};
 ghost use Rattle.tv_top.specs.Building.{OnBuild};
 ghost use Rattle.tv_top.specs.Checking.{OnCheck};
@@ -15,40 +15,42 @@ ghost use Rattle.tv_top.specs.Trialing.{OnTrial};
 ghost use Rattle.tv_top.specs.Witnessing.{OnWitness};
 
 use crate::job::{Job, job_of};
-use crate::refusal::Ending;
+use crate::refusal::{Ending, Finish, Stop};
 use crate::status::Status;
 use crate::writing::conclude;
 use std::alloc::Global;
 use tv_files::Files;
 
-/// Does a job, given the number of words.
-fn perform<D: Files>(alloc: Global, files: &mut D, words: usize, job: Job<'_>) -> Status
+/// Does a job: looks at its files, and writes what they come to.
+fn perform<D: Files>(alloc: Global, files: &mut D, job: Job<'_>) -> Result<Finish, Stop>
     requires { AreWithin (plan_of job).amounts }
-    ensures { Answers (Ok (plan_of job.entry)) words (D.seen files.old) (D.seen files.new) result }
+    ensures { Does (plan_of job.entry) (D.seen files.old) (D.seen files.new) result }
 {
     match job {
-        Job::Asm(args) => args.perform(alloc, files, words),
-        Job::Disasm(args) => args.perform(alloc, files, words),
-        Job::Run(args) => args.perform(alloc, files, words),
-        Job::Build(args) => args.perform(alloc, files, words),
-        Job::Witness(args) => args.perform(alloc, files, words),
-        Job::Check(args) => args.perform(alloc, files, words),
-        Job::Extract(args) => args.perform(alloc, files, words),
-        Job::Trial(args) => args.perform(alloc, files, words),
-        Job::Shrink(args) => args.perform(alloc, files, words),
-        Job::Listing(args) => args.perform(alloc, files, words),
+        Job::Asm(args) => args.perform(alloc, files),
+        Job::Disasm(args) => args.perform(alloc, files),
+        Job::Run(args) => args.perform(alloc, files),
+        Job::Build(args) => args.perform(alloc, files),
+        Job::Witness(args) => args.perform(alloc, files),
+        Job::Check(args) => args.perform(alloc, files),
+        Job::Extract(args) => args.perform(alloc, files),
+        Job::Trial(args) => args.perform(alloc, files),
+        Job::Shrink(args) => args.perform(alloc, files),
+        Job::Listing(args) => args.perform(alloc, files),
     }
 }
 
-/// Does what the words ask for, by the general contract of all commands.
+/// Does what the words ask for and says the line of its end, by the general contract of all
+/// commands.
 fn answer<D: Files>(alloc: Global, words: &[String], files: &mut D) -> Status
     ensures { Answers (request_of (form (map string_bytes words.now))) (length words.now)
         (D.seen files.old) (D.seen files.new) result }
 {
-    match job_of(words) {
-        Ok(job) => perform(alloc, files, words.len(), job),
-        Err(why) => conclude(files, words.len(), Ending::Refused(why)),
-    }
+    let ending = match job_of(words) {
+        Ok(job) => Ending::from(perform(alloc, files, job)),
+        Err(why) => Ending::Refused(why),
+    };
+    conclude(files, words.len(), ending)
 }
 
 /// Does what the words after the program's name ask for, says the line of the status, and answers

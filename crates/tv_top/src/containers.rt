@@ -1,13 +1,14 @@
 //! Systems and assignments, each read from its file to the end.
 ghost use Rattle.std.specs.Prelude.{◌≡◌, [], ◌∷◌};
 ghost use Rattle.tv_shrink.specs.Shrinking.{Shrunken};
-ghost use Rattle.tv_top.specs.Containers.{container_bad, stop_of};
+ghost use Rattle.tv_top.specs.Containers.{container_bad, refusal_stop};
 ghost use Rattle.tv_top.specs.Containers.{counts_in, firsts_in_witness, verdict_in, witness_in};
 ghost use Rattle.tv_top.specs.Finds.{Finds};
-ghost use Rattle.tv_top.specs.Plan.{input};
+ghost use Rattle.tv_top.specs.Plan.{input, named};
 ghost use Rattle.tv_top.specs.Shrinking.{shrink_sizes, shrink_stop, shrunk_look};
 ghost use Rattle.tv_wtns.specs.Wtns.{firsts_in};
 
+use crate::place::Place;
 use crate::refusal::{Bad, Size, Stop};
 use std::alloc::Global;
 use tv_check::{Verdict, check};
@@ -25,84 +26,93 @@ enum Container {
     Witness,
 }
 
-/// What reading the container came to whose name stands at this word, as what a look at files comes
-/// to.
-fn container_read<X: Drop>(
-    word: u32,
-    container: Container,
-    read: Result<X, ReadRefusal>,
-) -> Result<X, Stop>
-    ensures { result ≡ stop_of word (container_bad container) read }
+/// What a refused reading is of the container whose name stands at this word.
+fn container_stop(word: u32, container: Container, why: ReadRefusal) -> Stop
+    ensures { result ≡ refusal_stop word (container_bad container) why }
 {
-    match read {
-        Ok(x) => Ok(x),
-        Err(ReadRefusal::Bad { at, why }) => Err(Stop::Contents(match container {
+    match why {
+        ReadRefusal::Bad { at, why } => Stop::Contents(match container {
             Container::System => Bad::System { at, why },
             Container::Witness => Bad::Witness { at, why },
-        })),
-        Err(ReadRefusal::Fault) => Err(Stop::Fault { word }),
-        Err(ReadRefusal::Memory) => Err(Stop::Memory),
+        }),
+        ReadRefusal::Fault => Stop::Fault { word },
+        ReadRefusal::Memory => Stop::Memory,
     }
 }
 
-/// What the system counts, whose name stands at word 1; it is read to its end.
+/// What the system of this name counts, which is read to its end.
 pub(crate) fn survey_system<D: Files>(
     alloc: Global,
     files: &mut D,
-    name: &str,
+    place: Place<'_>,
 ) -> Result<Counts, Stop>
-    ensures { Finds (λ counts. counts) (1 ∷ []) [] (input 1 counts_in name.now)
+    ensures { Finds (λ counts. counts) (place.entry.word ∷ []) []
+        (input (named place.entry) counts_in)
         (D.seen files.old) (D.seen files.new) result }
 {
-    container_read(1, Container::System, survey(alloc, files, name))
+    survey(alloc, files, place.name).map_err(|why| container_stop(
+        place.word,
+        Container::System,
+        why,
+    ))
 }
 
-/// The assignment of the witness, whose name stands at this word.
+/// The assignment of the witness of this name.
 pub(crate) fn read_witness<D: Files>(
     alloc: Global,
     files: &mut D,
-    word: u32,
-    name: &str,
+    place: Place<'_>,
 ) -> Result<Vec<F>, Stop>
-    ensures { Finds (λ v. v.items) (word ∷ []) [] (input word witness_in name.now)
+    ensures { Finds (λ v. v.items) (place.entry.word ∷ []) [] (input (named place.entry) witness_in)
         (D.seen files.old) (D.seen files.new) result }
 {
-    container_read(word, Container::Witness, read_values(alloc, files, name))
+    read_values(alloc, files, place.name).map_err(|why| container_stop(
+        place.word,
+        Container::Witness,
+        why,
+    ))
 }
 
-/// The first `most` values of the witness, whose name stands at word 2, and how many it has.
+/// The first `most` values of the witness of this name, and how many it has.
 pub(crate) fn read_first_witness<D: Files>(
     alloc: Global,
     files: &mut D,
-    name: &str,
+    place: Place<'_>,
     most: u32,
 ) -> Result<FirstValues, Stop>
-    ensures { Finds firsts_in (2 ∷ []) [] (input 2 (firsts_in_witness most) name.now)
+    ensures { Finds firsts_in (place.entry.word ∷ []) []
+        (input (named place.entry) (firsts_in_witness most))
         (D.seen files.old) (D.seen files.new) result }
 {
-    let read = read_first_values(alloc, files, name, most);
-    container_read(2, Container::Witness, read)
+    read_first_values(alloc, files, place.name, most).map_err(|why| container_stop(
+        place.word,
+        Container::Witness,
+        why,
+    ))
 }
 
-/// The verdict by the system, whose name stands at word 1, on these values and public numbers.
+/// The verdict by the system of this name on these values and public numbers.
 pub(crate) fn judge_system<D: Files>(
     alloc: Global,
     files: &mut D,
-    name: &str,
+    place: Place<'_>,
     values: &[F],
     publics: &[F],
 ) -> Result<Verdict, Stop>
-    ensures { Finds (λ verdict. verdict) (1 ∷ []) []
-        (input 1 (verdict_in values.now publics.now) name.now)
+    ensures { Finds (λ verdict. verdict) (place.entry.word ∷ []) []
+        (input (named place.entry) (verdict_in values.now publics.now))
         (D.seen files.old) (D.seen files.new) result }
 {
-    let read = check(alloc, files, name, values, publics);
-    container_read(1, Container::System, read)
+    check(alloc, files, place.name, values, publics).map_err(|why| container_stop(
+        place.word,
+        Container::System,
+        why,
+    ))
 }
 
-/// What a refusal is of shrinking the system whose name stands at word 1.
-fn shrink_stop(fault: ShrinkFault) -> Stop
-    ensures { result ≡ shrink_stop fault }
+/// What a refusal is of shrinking the system whose name stands at this word.
+fn shrink_stop(word: u32, fault: ShrinkFault) -> Stop
+    ensures { result ≡ shrink_stop word fault }
 {
     match fault {
         ShrinkFault::Bad { at, why } => Stop::Contents(Bad::System { at, why }),
@@ -116,19 +126,20 @@ fn shrink_stop(fault: ShrinkFault) -> Stop
             has,
             most: TERMS as u64,
         }),
-        ShrinkFault::Fault => Stop::Fault { word: 1 },
+        ShrinkFault::Fault => Stop::Fault { word },
         ShrinkFault::Memory => Stop::Memory,
     }
 }
 
-/// What is left of the system whose name stands at word 1.
+/// What is left of the system of this name.
 pub(crate) fn read_shrunk<D: Files>(
     alloc: Global,
     files: &mut D,
-    system: &str,
+    place: Place<'_>,
 ) -> Result<Shrunk, Stop>
-    ensures { Finds (λ (s : Shrunken). s) (1 ∷ []) shrink_sizes (shrunk_look system.now)
+    ensures { Finds (λ (s : Shrunken). s) (place.entry.word ∷ []) shrink_sizes
+        (shrunk_look (named place.entry))
         (D.seen files.old) (D.seen files.new) result }
 {
-    shrink(alloc, files, system).map_err(shrink_stop)
+    shrink(alloc, files, place.name).map_err(|fault| shrink_stop(place.word, fault))
 }

@@ -1,20 +1,19 @@
 //! `disasm IMAGE TEXT` and `disasm IMAGE TEXT 16`: the program text of an image.
-ghost use Rattle.std.specs.Prelude.{◌≡◌, [], ◌∷◌, map, string_bytes, Ok};
+ghost use Rattle.std.specs.Prelude.{◌≡◌, [], ◌∷◌, map, string_bytes};
 ghost use Rattle.std.specs.Prelude.{Some, None, MatchOption};
-ghost use Rattle.tv_top.specs.Answers.{Answers};
+ghost use Rattle.tv_top.specs.Answers.{Does};
 ghost use Rattle.tv_top.specs.Disassembling.{text_of, text_in, width_word, disasm_asks};
 ghost use Rattle.tv_top.specs.declared.refusal.Size.TheVariants.{ImageBytes};
 ghost use Rattle.tv_top.specs.Finds.{Finds, Makes};
 ghost use Rattle.tv_top.specs.Form.{disasm_form};
-ghost use Rattle.tv_top.specs.Plan.{input, refusal_of};
+ghost use Rattle.tv_top.specs.Plan.{input, named, refusal_of};
 ghost use Rattle.tv_top.specs.Programs.{bits};
 
 use crate::inputs::limited_bytes;
 use crate::place::{Place, Write, refusal_of};
 use crate::programs::Width;
-use crate::refusal::{Ending, Finish, Flaw, Refusal, Size, Stop};
-use crate::status::Status;
-use crate::writing::{conclude, finish};
+use crate::refusal::{Finish, Refusal, Size, Stop};
+use crate::writing::write_files;
 use std::alloc::Global;
 use tv_disasm::disassemble;
 use tv_files::Files;
@@ -22,8 +21,8 @@ use tv_files::Files;
 /// The words of `disasm`.
 #[derive(Clone, Copy)]
 pub(crate) struct DisasmArgs<'a> {
-    pub(crate) image: &'a str,
-    pub(crate) text: &'a str,
+    pub(crate) image: Place<'a>,
+    pub(crate) text: Place<'a>,
     pub(crate) width: Width,
 }
 
@@ -38,8 +37,8 @@ impl<'a> DisasmArgs<'a> {
         };
         Some(DisasmArgs {
             width: width_word(last)?,
-            image: image.as_str(),
-            text: text.as_str(),
+            image: Place::at(1, image.as_str()),
+            text: Place::at(2, text.as_str()),
         })
     }
 
@@ -48,30 +47,26 @@ impl<'a> DisasmArgs<'a> {
         ensures { let plan = disasm_asks self.entry in
             result ≡ refusal_of plan.reads plan.writes plan.amounts }
     {
-        refusal_of(&[Place::at(1, self.image)], &[Place::at(2, self.text)], &[])
+        refusal_of(&[self.image], &[self.text], &[])
     }
 
-    /// Does the command; `words` is the number of words, its name among them.
-    pub(crate) fn perform<D: Files>(self, alloc: Global, files: &mut D, words: usize) -> Status
-        ensures { Answers (Ok (disasm_asks self.entry)) words
-            (D.seen files.old) (D.seen files.new) result }
+    /// Looks at the files, and writes what they come to.
+    pub(crate) fn perform<D: Files>(self, alloc: Global, files: &mut D) -> Result<Finish, Stop>
+        ensures { Does (disasm_asks self.entry) (D.seen files.old) (D.seen files.new) result }
     {
-        match read_text(alloc, files, self.width, self.image) {
-            Ok(bytes) => {
-                let write = Write {
-                    place: Place::at(2, self.text),
-                    bytes: &bytes,
-                };
-                finish(files, words, &[write], Finish::Quiet)
-            }
-            Err(stop) => conclude(files, words, Ending::Stopped(stop)),
-        }
+        let bytes = read_text(alloc, files, self.width, self.image)?;
+        let write = Write {
+            place: self.text,
+            bytes: &bytes,
+        };
+        write_files(files, &[write])?;
+        Ok(Finish::Quiet)
     }
 }
 
 /// The program text of an image.
 #[tactic(auto, unfolding(crate::specs::Disassembling::text_of))]
-fn text_of(alloc: Global, width: Width, image: &[u8]) -> Result<Vec<u8>, Flaw>
+fn text_of(alloc: Global, width: Width, image: &[u8]) -> Result<Vec<u8>, Stop>
     ensures { Makes (λ v. v.items) (text_of (bits width) image.now) result }
 {
     match width {
@@ -80,20 +75,21 @@ fn text_of(alloc: Global, width: Width, image: &[u8]) -> Result<Vec<u8>, Flaw>
     }
 }
 
-/// The program text of the image whose name stands at word 1.
+/// The program text of the image of this name.
 #[tactic(auto, unfolding(crate::specs::Plan::input))]
 fn read_text<D: Files>(
     alloc: Global,
     files: &mut D,
     width: Width,
-    image: &str,
+    place: Place<'_>,
 ) -> Result<Vec<u8>, Stop>
-    ensures { Finds (λ v. v.items) (1 ∷ []) (ImageBytes ∷ []) (input 1 (text_in width) image.now)
+    ensures { Finds (λ v. v.items) (place.entry.word ∷ []) (ImageBytes ∷ [])
+        (input (named place.entry) (text_in width))
         (D.seen files.old) (D.seen files.new) result }
 {
     let most = width.image_bytes_most();
-    let image = limited_bytes(alloc, files, 1, image, Size::ImageBytes, most)?;
-    Ok(text_of(alloc, width, &image)?)
+    let image = limited_bytes(alloc, files, place, Size::ImageBytes, most)?;
+    text_of(alloc, width, &image)
 }
 
 /// The width that the words behind the two names tell, which may be none or `16`.

@@ -5,23 +5,22 @@ ghost use Rattle.std.specs.Prelude.{Some, None, MatchOption, Ok, Err, IfOk, IfEr
 ghost use Rattle.tv_core.specs.declared.limits.TheConstants.{TAPE_WORDS, STEPS};
 ghost use Rattle.tv_extract.specs.declared.run.ExtractFault.TheVariants as faults;
 ghost use Rattle.tv_tape.specs.Tape.{text_of};
-ghost use Rattle.tv_top.specs.Answers.{Answers};
+ghost use Rattle.tv_top.specs.Answers.{Does};
 ghost use Rattle.tv_top.specs.Ends.{Completes};
 ghost use Rattle.tv_top.specs.Extracting.{assigned_in, assigned_of, assigned_run};
-ghost use Rattle.tv_top.specs.Extracting.{extract_asks, extract_by, extract_ends, extract_writes};
-ghost use Rattle.tv_top.specs.Extracting.{not_run};
+ghost use Rattle.tv_top.specs.Extracting.{extract_asks, not_run, run_written};
 ghost use Rattle.tv_top.specs.Finds.{Finds};
 ghost use Rattle.tv_top.specs.Form.{extract_form};
-ghost use Rattle.tv_top.specs.Plan.{AreWithin, refusal_of};
+ghost use Rattle.tv_top.specs.Plan.{AreWithin, named, refusal_of};
 ghost use Rattle.tv_top.specs.Programs.{HasImage, program_sizes};
 
 use crate::building::{net_word, size_amounts};
 use crate::containers::read_witness;
 use crate::place::{Place, Write, refusal_of};
 use crate::programs::{Program, Width, read_program};
-use crate::refusal::{Ending, Finish, Refusal, Stop};
-use crate::status::{NotRun, Status};
-use crate::writing::{conclude, finish, refuse};
+use crate::refusal::{Finish, Refusal, Stop};
+use crate::status::NotRun;
+use crate::writing::write_files;
 use std::alloc::{AllocError, Global};
 use tv_benes::Net;
 use tv_core::F;
@@ -34,14 +33,14 @@ use tv_word::decimal_of;
 /// The words of `extract`.
 #[derive(Clone, Copy)]
 pub(crate) struct ExtractArgs<'a> {
-    pub(crate) text: &'a str,
+    pub(crate) text: Place<'a>,
     /// How many words the tape has.
     pub(crate) n: u64,
     /// The most steps.
     pub(crate) t: u64,
-    pub(crate) witness: &'a str,
-    pub(crate) tape: &'a str,
-    pub(crate) aux: &'a str,
+    pub(crate) witness: Place<'a>,
+    pub(crate) tape: Place<'a>,
+    pub(crate) aux: Place<'a>,
     pub(crate) net: Net,
 }
 
@@ -58,10 +57,10 @@ impl<'a> ExtractArgs<'a> {
             net: net_word(last)?,
             n: decimal_of(n.as_bytes())?,
             t: decimal_of(t.as_bytes())?,
-            text: text.as_str(),
-            witness: witness.as_str(),
-            tape: tape.as_str(),
-            aux: aux.as_str(),
+            text: Place::at(1, text.as_str()),
+            witness: Place::at(4, witness.as_str()),
+            tape: Place::at(5, tape.as_str()),
+            aux: Place::at(6, aux.as_str()),
         })
     }
 
@@ -70,22 +69,19 @@ impl<'a> ExtractArgs<'a> {
         ensures { let plan = extract_asks self.entry in
             result ≡ refusal_of plan.reads plan.writes plan.amounts }
     {
-        refusal_of(
-            &[Place::at(1, self.text), Place::at(4, self.witness)],
-            &[Place::at(5, self.tape), Place::at(6, self.aux)],
-            &size_amounts(self.n, self.t),
-        )
+        let amounts = size_amounts(self.n, self.t);
+        refusal_of(&[self.text, self.witness], &[self.tape, self.aux], &amounts)
     }
 
-    /// Does the command; `words` is the number of words, its name among them.
-    pub(crate) fn perform<D: Files>(self, alloc: Global, files: &mut D, words: usize) -> Status
+    /// Looks at the files, and writes what they come to.
+    pub(crate) fn perform<D: Files>(self, alloc: Global, files: &mut D) -> Result<Finish, Stop>
         requires { AreWithin (extract_asks self).amounts }
-        ensures { Answers (Ok (extract_asks self.entry)) words
-            (D.seen files.old) (D.seen files.new) result }
+        ensures { Does (extract_asks self.entry) (D.seen files.old) (D.seen files.new) result }
     {
-        match read_assigned(alloc, files, self.text, self.witness) {
-            Ok(assigned) => extract_on(alloc, files, words, &assigned, self),
-            Err(stop) => conclude(files, words, Ending::Stopped(stop)),
+        let assigned = read_assigned(alloc, files, self.text, self.witness)?;
+        match run_of(alloc, &assigned, self.n as u32, self.t as u32, self.net) {
+            Ok(run) => write_run(alloc, files, &run, self),
+            Err(fault) => not_run(fault),
         }
     }
 }
@@ -97,20 +93,20 @@ pub(crate) struct Assignment {
     pub(crate) values: Vec<F>,
 }
 
-/// The program whose name stands at word 1, and the assignment at word 4.
+/// A program, and then an assignment of its system.
 pub(crate) fn read_assigned<D: Files>(
     alloc: Global,
     files: &mut D,
-    text: &str,
-    witness: &str,
+    text: Place<'_>,
+    witness: Place<'_>,
 ) -> Result<Assignment, Stop>
-    ensures found { Finds assigned_in (1 ∷ 4 ∷ []) program_sizes
-        (assigned_of text.now witness.now)
+    ensures found { Finds assigned_in (text.entry.word ∷ witness.entry.word ∷ []) program_sizes
+        (assigned_of (named text.entry) (named witness.entry))
         (D.seen files.old) (D.seen files.new) result }
     ensures fits { IfOk result (λ assigned. HasImage assigned.program) }
 {
     let program = read_program(alloc, files, text)?;
-    let values = read_witness(alloc, files, 4, witness)?;
+    let values = read_witness(alloc, files, witness)?;
     Ok(Assignment { program, values })
 }
 
@@ -157,64 +153,41 @@ fn texts_of(alloc: Global, run: &Run) -> Result<Texts, AllocError>
     })
 }
 
-/// Writes the tapes of a run under the names at words 5 and 6, and says its answer.
+/// Writes the tapes of a run, and tells its answer.
 fn write_run<D: Files>(
     alloc: Global,
     files: &mut D,
-    words: usize,
     run: &Run,
     args: ExtractArgs<'_>,
-) -> Status
-    ensures { Completes (extract_writes args.entry.tape.now args.entry.aux.now)
-        (extract_by (Ok run.now)) words (D.seen files.old) (D.seen files.new) result }
+) -> Result<Finish, Stop>
+    ensures { Completes (named args.entry.tape ∷ named args.entry.aux ∷ [])
+        (run_written run.now) (D.seen files.old) (D.seen files.new) result }
 {
-    let Ok(texts) = texts_of(alloc, run) else {
-        return conclude(files, words, Ending::Stopped(Stop::Memory));
-    };
-    let first = Write {
-        place: Place::at(5, args.tape),
+    let texts = texts_of(alloc, run)?;
+    let tape = Write {
+        place: args.tape,
         bytes: &texts.tape,
     };
-    let second = Write {
-        place: Place::at(6, args.aux),
+    let aux = Write {
+        place: args.aux,
         bytes: &texts.aux,
     };
-    let end = End::Answer {
+    write_files(files, &[tape, aux])?;
+    Ok(Finish::Run(End::Answer {
         value: run.answer,
         step: run.step,
-    };
-    finish(files, words, &[first, second], Finish::Run(end))
+    }))
 }
 
 /// The end where an assignment has no run, unless memory was wanting.
-pub(crate) fn not_run(fault: ExtractFault) -> Option<Finish>
+pub(crate) fn not_run(fault: ExtractFault) -> Result<Finish, Stop>
     ensures { result ≡ not_run fault }
 {
     let why = match fault {
         ExtractFault::WireCount { has, wants } => NotRun::WireCount { has, wants },
         ExtractFault::WideWire { at } => NotRun::WideWire { at },
         ExtractFault::NotARun { end } => NotRun::NotARun { end },
-        ExtractFault::Memory => return None,
+        ExtractFault::Memory => return Err(Stop::Memory),
     };
-    Some(Finish::NotARun(why))
-}
-
-/// Looks for the run that an assignment has, and writes its tapes.
-fn extract_on<D: Files>(
-    alloc: Global,
-    files: &mut D,
-    words: usize,
-    assigned: &Assignment,
-    args: ExtractArgs<'_>,
-) -> Status
-    requires image { HasImage assigned.now.program }
-    requires amounts { AreWithin (extract_asks args).amounts }
-    ensures { Completes (extract_writes args.entry.tape.now args.entry.aux.now)
-        (extract_ends args.entry.net args.entry.n args.entry.t (assigned_in assigned.now)) words
-        (D.seen files.old) (D.seen files.new) result }
-{
-    match run_of(alloc, assigned, args.n as u32, args.t as u32, args.net) {
-        Ok(run) => write_run(alloc, files, words, &run, args),
-        Err(fault) => refuse(files, words, not_run(fault)),
-    }
+    Ok(Finish::NotARun(why))
 }

@@ -29,7 +29,5 @@ mod writing;
 
 pub use commands::command;
 pub use law::image_comes_back;
-pub use programs::Width;
-pub use refusal::{Bad, Cut, Ending, Finish, Flaw, Quantity, Refusal, Size, Stop, Trial};
 pub use status::{NoWhy, NotRun, Status, What};
 pub use tv_draw::{Drawn, draw};

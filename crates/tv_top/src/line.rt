@@ -5,7 +5,7 @@ ghost use Rattle.tv_top.specs.Codes.{Reads, line, says, end_text, verdict_text, 
 ghost use Rattle.tv_top.specs.Codes.{not_run_text, read_text, limit_text, refusal_text, bad_text};
 ghost use Rattle.tv_top.specs.Codes.{trial_text, finish_text};
 
-use crate::reasons::{Line, MOST, push_asm, push_number, push_read, what_name};
+use crate::reasons::{LINE_BYTES, Line, push_asm, push_number, push_read, what_name};
 use crate::refusal::{Bad, Ending, Finish, Refusal, Stop, Trial};
 use crate::status::{NotRun, What};
 use tv_asm::AsmWhy;
@@ -19,7 +19,7 @@ const USAGE: &str =
 
 /// A line of this text.
 fn text_line(text: &str) -> Line
-    requires { length text.now ≤ MOST }
+    requires { length text.now ≤ LINE_BYTES }
     ensures { result.bytes ≡ text.now }
 {
     let mut line = Line::new();
@@ -29,7 +29,7 @@ fn text_line(text: &str) -> Line
 
 /// A line of a text, a number, and another text.
 fn number_line(text: &str, number: u64, after: &str) -> Line
-    requires { length text.now + length after.now + 20 ≤ MOST }
+    requires { length text.now + length after.now + 20 ≤ LINE_BYTES }
     ensures text { result.bytes ≡ text.now ++ decimal number ++ after.now }
     ensures room { array_string_len result ≤ length text.now + length after.now + 20 }
 {
@@ -41,7 +41,7 @@ fn number_line(text: &str, number: u64, after: &str) -> Line
 
 /// A line of two numbers, each behind a text.
 fn pair_line(text: &str, first: u64, between: &str, second: u64) -> Line
-    requires { length text.now + length between.now + 40 ≤ MOST }
+    requires { length text.now + length between.now + 40 ≤ LINE_BYTES }
     ensures text { result.bytes ≡ text.now ++ decimal first ++ between.now ++ decimal second }
     ensures room { array_string_len result ≤ length text.now + length between.now + 40 }
 {
@@ -67,7 +67,7 @@ fn end_line(end: End) -> Line
 /// The line of a run that doesn't answer, without its own end.
 fn no_run_line(end: End) -> Line
     ensures text { result.bytes ≡ codes "no run: " ++ end_text end }
-    ensures room { array_string_len result < MOST }
+    ensures room { array_string_len result < LINE_BYTES }
 {
     let mut line = text_line("no run: ");
     line.push_str(end_line(end).as_str());
@@ -77,7 +77,7 @@ fn no_run_line(end: End) -> Line
 /// The line of an assignment that has no run, without its end.
 fn not_run_line(why: NotRun) -> Line
     ensures text { result.bytes ≡ codes "not a run: " ++ not_run_text why }
-    ensures room { array_string_len result < MOST }
+    ensures room { array_string_len result < LINE_BYTES }
 {
     match why {
         NotRun::WireCount { has, wants } => {
@@ -97,7 +97,7 @@ fn not_run_line(why: NotRun) -> Line
 /// The line of a verdict, without its end.
 fn verdict_line(verdict: Verdict) -> Line
     ensures text { result.bytes ≡ verdict_text verdict }
-    ensures room { array_string_len result < MOST }
+    ensures room { array_string_len result < LINE_BYTES }
 {
     match verdict {
         Verdict::Yes => text_line("yes"),
@@ -115,7 +115,7 @@ fn verdict_line(verdict: Verdict) -> Line
 fn program_line(number: u64, why: AsmWhy) -> Line
     ensures text { result.bytes ≡
         codes "bad program: line " ++ decimal number ++ codes ": " ++ asm_text why }
-    ensures room { array_string_len result < MOST }
+    ensures room { array_string_len result < LINE_BYTES }
 {
     let mut line = number_line("bad program: line ", number, ": ");
     push_asm(&mut line, why);
@@ -126,7 +126,7 @@ fn program_line(number: u64, why: AsmWhy) -> Line
 fn container_line(text: &str, at: u64, why: ReadWhy) -> Line
     requires { length text.now ≤ 20 }
     ensures text { result.bytes ≡ text.now ++ decimal at ++ codes ": " ++ read_text why }
-    ensures room { array_string_len result < MOST }
+    ensures room { array_string_len result < LINE_BYTES }
 {
     let mut line = number_line(text, at, ": ");
     push_read(&mut line, why);
@@ -136,7 +136,7 @@ fn container_line(text: &str, at: u64, why: ReadWhy) -> Line
 /// The line of a limit, without its end.
 fn limit_line(what: What, has: u64, most: u64) -> Line
     ensures text { result.bytes ≡ limit_text what has most }
-    ensures room { array_string_len result < MOST }
+    ensures room { array_string_len result < LINE_BYTES }
 {
     let mut line = text_line("limit: ");
     line.push_str(what_name(what));
@@ -150,7 +150,7 @@ fn limit_line(what: What, has: u64, most: u64) -> Line
 /// The line of refused words, without its end.
 fn refusal_line(why: Refusal) -> Line
     ensures text { result.bytes ≡ refusal_text why }
-    ensures room { array_string_len result < MOST }
+    ensures room { array_string_len result < LINE_BYTES }
 {
     match why {
         Refusal::Usage => text_line(USAGE),
@@ -167,7 +167,7 @@ fn refusal_line(why: Refusal) -> Line
 /// The line of refused contents, without its end.
 fn bad_line(bad: Bad) -> Line
     ensures text { result.bytes ≡ bad_text bad }
-    ensures room { array_string_len result < MOST }
+    ensures room { array_string_len result < LINE_BYTES }
 {
     match bad {
         Bad::Program { line, why } => program_line(line, why),
@@ -182,7 +182,7 @@ fn bad_line(bad: Bad) -> Line
 /// The line of a trial, without its end.
 fn trial_line(trial: Trial) -> Line
     ensures text { result.bytes ≡ trial_text trial }
-    ensures room { array_string_len result < MOST }
+    ensures room { array_string_len result < LINE_BYTES }
 {
     let steps = u64::from(trial.steps);
     let mut line = pair_line("trial: steps ", steps, ", wires ", u64::from(trial.wires));
@@ -198,7 +198,7 @@ fn trial_line(trial: Trial) -> Line
 /// The line of a good end, without its own end.
 fn finish_line(finish: Finish) -> Option<Line>
     ensures text { Reads (λ line. line.bytes) result (finish_text finish) }
-    ensures room { IfSome result (λ line. array_string_len line < MOST) }
+    ensures room { IfSome result (λ line. array_string_len line < LINE_BYTES) }
 {
     match finish {
         Finish::Quiet => None,
@@ -211,9 +211,9 @@ fn finish_line(finish: Finish) -> Option<Line>
 }
 
 /// The line of an end, without its own end.
-fn text_of(ending: Ending) -> Option<Line>
+fn ending_line(ending: Ending) -> Option<Line>
     ensures text { Reads (λ line. line.bytes) result (line ending) }
-    ensures room { IfSome result (λ line. array_string_len line < MOST) }
+    ensures room { IfSome result (λ line. array_string_len line < LINE_BYTES) }
 {
     match ending {
         Ending::Refused(why) => Some(refusal_line(why)),
@@ -227,7 +227,7 @@ fn text_of(ending: Ending) -> Option<Line>
 pub(crate) fn line_of(ending: Ending) -> Option<Line>
     ensures { Reads (λ line. line.bytes) result (says ending) }
 {
-    let mut line = text_of(ending)?;
+    let mut line = ending_line(ending)?;
     line.push('\n');
     Some(line)
 }

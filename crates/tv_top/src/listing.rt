@@ -1,23 +1,22 @@
 //! `listing TEXT N T WITNESS BY OUT`: the lines of memory and tapes that an assignment of a
 //! program's system has.
-ghost use Rattle.std.specs.Prelude.{◌≡◌, ◌≤◌, map, string_bytes, Ok, IfOk};
+ghost use Rattle.std.specs.Prelude.{◌≡◌, ◌≤◌, [], ◌∷◌, map, string_bytes, IfOk};
 ghost use Rattle.std.specs.Prelude.{Some, None, MatchOption};
-ghost use Rattle.tv_top.specs.Answers.{Answers};
+ghost use Rattle.tv_top.specs.Answers.{Does};
 ghost use Rattle.tv_top.specs.Ends.{Completes};
 ghost use Rattle.tv_top.specs.Extracting.{assigned_in};
 ghost use Rattle.tv_top.specs.Form.{listing_form};
 ghost use Rattle.tv_top.specs.Listing.{assigned_text, by_word, lines_written};
-ghost use Rattle.tv_top.specs.Listing.{listing_asks, listing_ends};
-ghost use Rattle.tv_top.specs.Plan.{AreWithin, one_name, refusal_of};
+ghost use Rattle.tv_top.specs.Listing.{listing_asks};
+ghost use Rattle.tv_top.specs.Plan.{AreWithin, named, refusal_of};
 ghost use Rattle.tv_top.specs.Programs.{HasImage};
 
 use crate::building::size_amounts;
 use crate::extracting::{Assignment, not_run, read_assigned, run_of};
 use crate::place::{Place, Write, refusal_of};
 use crate::programs::Width;
-use crate::refusal::{Ending, Finish, Refusal, Stop};
-use crate::status::Status;
-use crate::writing::{conclude, finish, refuse};
+use crate::refusal::{Finish, Refusal, Stop};
+use crate::writing::write_files;
 use std::alloc::{AllocError, Global};
 use tv_benes::Net;
 use tv_extract::Run;
@@ -28,14 +27,14 @@ use tv_word::decimal_of;
 /// The words of `listing`.
 #[derive(Clone, Copy)]
 pub(crate) struct ListingArgs<'a> {
-    pub(crate) text: &'a str,
+    pub(crate) text: Place<'a>,
     /// How many words the tape has.
     pub(crate) n: u64,
     /// The most steps.
     pub(crate) t: u64,
-    pub(crate) witness: &'a str,
+    pub(crate) witness: Place<'a>,
     pub(crate) by: By,
-    pub(crate) out: &'a str,
+    pub(crate) out: Place<'a>,
 }
 
 impl<'a> ListingArgs<'a> {
@@ -51,9 +50,9 @@ impl<'a> ListingArgs<'a> {
             by: by_word(by.as_str())?,
             n: decimal_of(n.as_bytes())?,
             t: decimal_of(t.as_bytes())?,
-            text: text.as_str(),
-            witness: witness.as_str(),
-            out: out.as_str(),
+            text: Place::at(1, text.as_str()),
+            witness: Place::at(4, witness.as_str()),
+            out: Place::at(6, out.as_str()),
         })
     }
 
@@ -62,22 +61,19 @@ impl<'a> ListingArgs<'a> {
         ensures { let plan = listing_asks self.entry in
             result ≡ refusal_of plan.reads plan.writes plan.amounts }
     {
-        refusal_of(
-            &[Place::at(1, self.text), Place::at(4, self.witness)],
-            &[Place::at(6, self.out)],
-            &size_amounts(self.n, self.t),
-        )
+        let amounts = size_amounts(self.n, self.t);
+        refusal_of(&[self.text, self.witness], &[self.out], &amounts)
     }
 
-    /// Does the command; `words` is the number of words, its name among them.
-    pub(crate) fn perform<D: Files>(self, alloc: Global, files: &mut D, words: usize) -> Status
+    /// Looks at the files, and writes what they come to.
+    pub(crate) fn perform<D: Files>(self, alloc: Global, files: &mut D) -> Result<Finish, Stop>
         requires { AreWithin (listing_asks self).amounts }
-        ensures { Answers (Ok (listing_asks self.entry)) words
-            (D.seen files.old) (D.seen files.new) result }
+        ensures { Does (listing_asks self.entry) (D.seen files.old) (D.seen files.new) result }
     {
-        match read_assigned(alloc, files, self.text, self.witness) {
-            Ok(assigned) => listing_on(alloc, files, words, &assigned, self),
-            Err(stop) => conclude(files, words, Ending::Stopped(stop)),
+        let assigned = read_assigned(alloc, files, self.text, self.witness)?;
+        match run_of(alloc, &assigned, self.n as u32, self.t as u32, Net::Benes) {
+            Ok(run) => write_lines(alloc, files, &assigned, &run, self),
+            Err(fault) => not_run(fault),
         }
     }
 }
@@ -95,7 +91,7 @@ fn by_word(word: &str) -> Option<By>
 
 /// The text of the lines of an assignment up to a step.
 #[tactic(auto, unfolding(crate::specs::Listing::assigned_text))]
-fn text_of(
+fn lines_text(
     alloc: Global,
     assigned: &Assignment,
     step: u64,
@@ -116,48 +112,26 @@ fn text_of(
     }
 }
 
-/// Writes the lines of an assignment up to the step that answers under the name at word 6.
+/// Writes the lines of an assignment up to the step that answers.
 fn write_lines<D: Files>(
     alloc: Global,
     files: &mut D,
-    words: usize,
     assigned: &Assignment,
     run: &Run,
     args: ListingArgs<'_>,
-) -> Status
+) -> Result<Finish, Stop>
     requires image { HasImage assigned.now.program }
     requires amounts { AreWithin (listing_asks args).amounts }
     requires within { run.now.step ≤ args.t }
-    ensures { Completes (one_name 6 args.entry.out.now)
+    ensures { Completes (named args.entry.out ∷ [])
         (lines_written args.entry.by args.entry.n args.entry.t (assigned_in assigned.now) run.now)
-        words (D.seen files.old) (D.seen files.new) result }
-{
-    let Ok(text) = text_of(alloc, assigned, run.step, args) else {
-        return conclude(files, words, Ending::Stopped(Stop::Memory));
-    };
-    let write = Write {
-        place: Place::at(6, args.out),
-        bytes: &text,
-    };
-    finish(files, words, &[write], Finish::Quiet)
-}
-
-/// Looks for the run that an assignment has, and writes its lines.
-fn listing_on<D: Files>(
-    alloc: Global,
-    files: &mut D,
-    words: usize,
-    assigned: &Assignment,
-    args: ListingArgs<'_>,
-) -> Status
-    requires image { HasImage assigned.now.program }
-    requires amounts { AreWithin (listing_asks args).amounts }
-    ensures { Completes (one_name 6 args.entry.out.now)
-        (listing_ends args.entry.by args.entry.n args.entry.t (assigned_in assigned.now)) words
         (D.seen files.old) (D.seen files.new) result }
 {
-    match run_of(alloc, assigned, args.n as u32, args.t as u32, Net::Benes) {
-        Ok(run) => write_lines(alloc, files, words, assigned, &run, args),
-        Err(fault) => refuse(files, words, not_run(fault)),
-    }
+    let text = lines_text(alloc, assigned, run.step, args)?;
+    let write = Write {
+        place: args.out,
+        bytes: &text,
+    };
+    write_files(files, &[write])?;
+    Ok(Finish::Quiet)
 }

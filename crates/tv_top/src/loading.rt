@@ -2,6 +2,7 @@
 ghost use Rattle.std.specs.Prelude.{[], ◌∷◌, IfOk};
 ghost use Rattle.tv_top.specs.Finds.{Finds};
 ghost use Rattle.tv_top.specs.Loading.{AreInputs, input_sizes, inputs_of};
+ghost use Rattle.tv_top.specs.Plan.{named};
 
 use crate::place::Place;
 use crate::programs::{Program, read_program};
@@ -20,24 +21,23 @@ pub(crate) struct Inputs {
     pub(crate) aux: Words,
 }
 
-/// The program whose name stands at word 1, and the tapes at words 2 and 3.
+/// A program, and then the two tapes.
 pub(crate) fn read_inputs<D: Files>(
     alloc: Global,
     files: &mut D,
-    text: &str,
-    tape: &str,
-    aux: &str,
+    text: Place<'_>,
+    tape: Place<'_>,
+    aux: Place<'_>,
 ) -> Result<Inputs, Stop>
-    ensures found { Finds (λ inputs. inputs) (1 ∷ 2 ∷ 3 ∷ []) input_sizes
-        (inputs_of text.now tape.now aux.now)
+    ensures found { Finds (λ inputs. inputs)
+        (text.entry.word ∷ tape.entry.word ∷ aux.entry.word ∷ []) input_sizes
+        (inputs_of (named text.entry) (named tape.entry) (named aux.entry))
         (D.seen files.old) (D.seen files.new) result }
     ensures fit { IfOk result AreInputs }
 {
     let program = read_program(alloc, files, text)?;
     let below = program.width.word_bound();
-    let place = Place::at(2, tape);
-    let tape = read_words(alloc, files, place, Size::TapeWords, below, TAPE_WORDS)?;
-    let place = Place::at(3, aux);
-    let aux = read_words(alloc, files, place, Size::AuxWords, below, AUX_WORDS)?;
+    let tape = read_words(alloc, files, tape, Size::TapeWords, below, TAPE_WORDS)?;
+    let aux = read_words(alloc, files, aux, Size::AuxWords, below, AUX_WORDS)?;
     Ok(Inputs { program, tape, aux })
 }

@@ -2,8 +2,7 @@
 ghost use Rattle.std.specs.Prelude.{◌≡◌, map};
 ghost use Rattle.tv_core.specs.declared.limits.TheConstants.{STEPS};
 ghost use Rattle.tv_top.specs.declared.refusal.Quantity.TheVariants.{Steps};
-ghost use Rattle.tv_top.specs.Form.{named};
-ghost use Rattle.tv_top.specs.Plan.{same_in, same_of, limit_of, refusal_of};
+ghost use Rattle.tv_top.specs.Plan.{named, same_in, same_of, limit_of, refusal_of};
 
 use crate::refusal::{Quantity, Refusal};
 use tv_core::limits::STEPS;

@@ -3,12 +3,13 @@ ghost use Rattle.std.specs.Prelude.{◌≡◌, ◌≤◌, ◌/◌, ◌^◌, [], 
 ghost use Rattle.tv_asm.specs.Header.{width_of};
 ghost use Rattle.tv_top.specs.declared.programs.Width.TheVariants.{Bits16};
 ghost use Rattle.tv_top.specs.Finds.{Finds, Makes};
-ghost use Rattle.tv_top.specs.Plan.{input};
+ghost use Rattle.tv_top.specs.Plan.{input, named};
 ghost use Rattle.tv_top.specs.Programs.{HasImage, bits, image_bytes_most, width_told};
 ghost use Rattle.tv_top.specs.Programs.{program_of, program_in, program_sizes};
 
 use crate::inputs::limited_bytes;
-use crate::refusal::{Flaw, Size, Stop};
+use crate::place::Place;
+use crate::refusal::{Size, Stop};
 use std::alloc::Global;
 use tv_asm::{assemble, width};
 use tv_core::limits::{IMAGE_WORDS, IMAGE_WORDS_16, TEXT_BYTES};
@@ -16,8 +17,8 @@ use tv_files::Files;
 use tv_word::Words;
 
 /// How many bits a word has.
-#[derive(Clone, Copy, Debug, PartialEq, Eq)]
-pub enum Width {
+#[derive(Clone, Copy)]
+pub(crate) enum Width {
     /// 16 bits, which are two bytes.
     Bits16,
     /// 32 bits, which are four bytes.
@@ -78,7 +79,7 @@ fn width_told(text: &[u8]) -> Width
 
 /// The program of a text.
 #[tactic(auto, unfolding(crate::specs::Programs::program_by))]
-pub(crate) fn program_of(alloc: Global, text: &[u8]) -> Result<Program, Flaw>
+pub(crate) fn program_of(alloc: Global, text: &[u8]) -> Result<Program, Stop>
     ensures made { Makes (λ program. program) (program_of text.now) result }
     ensures fits { IfOk result (λ program. HasImage program) }
 {
@@ -94,17 +95,18 @@ pub(crate) fn program_of(alloc: Global, text: &[u8]) -> Result<Program, Flaw>
     }
 }
 
-/// The program of the text whose name stands at word 1.
+/// The program of the text of this name.
 #[tactic(auto, unfolding(crate::specs::Plan::input))]
 pub(crate) fn read_program<D: Files>(
     alloc: Global,
     files: &mut D,
-    name: &str,
+    place: Place<'_>,
 ) -> Result<Program, Stop>
-    ensures found { Finds (λ program. program) (1 ∷ []) program_sizes (input 1 program_in name.now)
+    ensures found { Finds (λ program. program) (place.entry.word ∷ []) program_sizes
+        (input (named place.entry) program_in)
         (D.seen files.old) (D.seen files.new) result }
     ensures fits { IfOk result (λ program. HasImage program) }
 {
-    let text = limited_bytes(alloc, files, 1, name, Size::TextBytes, TEXT_BYTES)?;
-    Ok(program_of(alloc, &text)?)
+    let text = limited_bytes(alloc, files, place, Size::TextBytes, TEXT_BYTES)?;
+    program_of(alloc, &text)
 }

@@ -11,14 +11,14 @@ use tv_container::ReadWhy;
 
 /// The most bytes of a line, its line feed among them: room for the longest, that of `trial`, which
 /// has five numbers.
-pub(crate) const MOST: usize = 192;
+pub(crate) const LINE_BYTES: usize = 192;
 
 /// A line that takes no memory.
-pub(crate) type Line = ArrayString<MOST>;
+pub(crate) type Line = ArrayString<LINE_BYTES>;
 
 /// Adds a number in decimal digits.
 pub(crate) fn push_number(line: &mut Line, number: u64)
-    requires { array_string_len line.old + 20 ≤ MOST }
+    requires { array_string_len line.old + 20 ≤ LINE_BYTES }
     ensures text { line.new.bytes ≡ line.old.bytes ++ decimal number }
     ensures room { array_string_len line.new ≤ array_string_len line.old + 20 }
 {
@@ -28,7 +28,7 @@ pub(crate) fn push_number(line: &mut Line, number: u64)
 
 /// Adds why a line of a program is refused.
 pub(crate) fn push_asm(line: &mut Line, why: AsmWhy)
-    requires { array_string_len line.old + 60 ≤ MOST }
+    requires { array_string_len line.old + 60 ≤ LINE_BYTES }
     ensures text { line.new.bytes ≡ line.old.bytes ++ asm_text why }
     ensures room { array_string_len line.new ≤ array_string_len line.old + 60 }
 {
@@ -52,7 +52,7 @@ pub(crate) fn push_asm(line: &mut Line, why: AsmWhy)
 
 /// Adds a number between two texts.
 fn push_between(line: &mut Line, before: &str, number: u32, after: &str)
-    requires { array_string_len line.old + length before.now + length after.now + 20 ≤ MOST }
+    requires { array_string_len line.old + length before.now + length after.now + 20 ≤ LINE_BYTES }
     ensures text { line.new.bytes ≡ line.old.bytes ++ before.now ++ decimal number ++ after.now }
     ensures room { array_string_len line.new ≤
         array_string_len line.old + length before.now + length after.now + 20 }
@@ -64,7 +64,7 @@ fn push_between(line: &mut Line, before: &str, number: u32, after: &str)
 
 /// Adds why a container is refused.
 pub(crate) fn push_read(line: &mut Line, why: ReadWhy)
-    requires { array_string_len line.old + 60 ≤ MOST }
+    requires { array_string_len line.old + 60 ≤ LINE_BYTES }
     ensures text { line.new.bytes ≡ line.old.bytes ++ read_text why }
     ensures room { array_string_len line.new ≤ array_string_len line.old + 60 }
 {

@@ -1,5 +1,5 @@
-//! What refuses, stops and ends a command, each stage by a type of its own: the words, what files
-//! hold, what is made of it, a look at files, writing, and the good ends.
+//! What refuses, stops and ends a command: refused words, refused contents, what keeps a command
+//! from being done, and the good ends.
 use crate::status::NotRun;
 use std::alloc::AllocError;
 use tv_asm::{AsmFault, AsmWhy};
@@ -9,8 +9,8 @@ use tv_disasm::DisFault;
 use tv_step::End;
 
 /// The quantities that words tell.
-#[derive(Clone, Copy, Debug, PartialEq, Eq)]
-pub enum Quantity {
+#[derive(Clone, Copy)]
+pub(crate) enum Quantity {
     /// The words of a primary tape.
     TapeWords,
     /// The steps of a run.
@@ -20,8 +20,8 @@ pub enum Quantity {
 }
 
 /// The quantities of which files hold so many.
-#[derive(Clone, Copy, Debug, PartialEq, Eq)]
-pub enum Size {
+#[derive(Clone, Copy)]
+pub(crate) enum Size {
     /// The words of the image that a program text has.
     ImageWords,
     /// The bytes of an image file.
@@ -39,8 +39,8 @@ pub enum Size {
 }
 
 /// What words are refused for, before any file is looked at.
-#[derive(Clone, Copy, Debug, PartialEq, Eq)]
-pub enum Refusal {
+#[derive(Clone, Copy)]
+pub(crate) enum Refusal {
     /// The words are no command's.
     Usage,
     /// Two words name one file, which is to be written.
@@ -50,8 +50,8 @@ pub enum Refusal {
 }
 
 /// What the contents of a file are refused for.
-#[derive(Clone, Copy, Debug, PartialEq, Eq)]
-pub enum Bad {
+#[derive(Clone, Copy)]
+pub(crate) enum Bad {
     /// The program text has no image: its first line at fault, counted from 1, and the reason.
     Program { line: u64, why: AsmWhy },
     /// On the tape at this word the item with this number, counted from 0, is none of its numbers.
@@ -66,19 +66,10 @@ pub enum Bad {
     Limit { what: Size, has: u64, most: u64 },
 }
 
-/// What making something of contents ends with.
-#[derive(Clone, Copy, Debug, PartialEq, Eq)]
-pub enum Flaw {
-    /// They are refused for this.
-    Contents(Bad),
-    /// Memory ran out.
-    Memory,
-}
-
-/// What a look at files ends with that doesn't find what it looks for.
-#[derive(Clone, Copy, Debug, PartialEq, Eq)]
-pub enum Stop {
-    /// The file at this word couldn't be read.
+/// What a command ends with that doesn't find, make or write what it is to.
+#[derive(Clone, Copy)]
+pub(crate) enum Stop {
+    /// The file at this word couldn't be read, or not be written.
     Fault { word: u32 },
     /// Memory was wanting.
     Memory,
@@ -86,34 +77,25 @@ pub enum Stop {
     Contents(Bad),
 }
 
-/// What writing files ends with that isn't whole.
-#[derive(Clone, Copy, Debug, PartialEq, Eq)]
-pub enum Cut {
-    /// The file at this word couldn't be written.
-    Fault { word: u32 },
-    /// Memory was wanting.
-    Memory,
-}
-
 /// What a trial comes to.
-#[derive(Clone, Copy, Debug, PartialEq, Eq)]
-pub struct Trial {
+#[derive(Clone, Copy)]
+pub(crate) struct Trial {
     /// How many steps the run has.
-    pub steps: u32,
+    pub(crate) steps: u32,
     /// How many wires its system has.
-    pub wires: u32,
+    pub(crate) wires: u32,
     /// How many constraints the system has.
-    pub constraints: u32,
+    pub(crate) constraints: u32,
     /// The sum, over the constraints, of the products of the values of their first two
     /// combinations, modulo the prime.
-    pub sum: u64,
+    pub(crate) sum: u64,
     /// How many constraints hold.
-    pub satisfied: u32,
+    pub(crate) satisfied: u32,
 }
 
 /// How a command ends whose files were found and written.
-#[derive(Clone, Copy, Debug, PartialEq, Eq)]
-pub enum Finish {
+#[derive(Clone, Copy)]
+pub(crate) enum Finish {
     /// It is done and says nothing.
     Quiet,
     /// The run ends so.
@@ -129,8 +111,8 @@ pub enum Finish {
 }
 
 /// What a line is said of.
-#[derive(Clone, Copy, Debug, PartialEq, Eq)]
-pub enum Ending {
+#[derive(Clone, Copy)]
+pub(crate) enum Ending {
     /// The words are refused, before any file was looked at.
     Refused(Refusal),
     /// What was to be found in the files wasn't, for this.
@@ -139,60 +121,60 @@ pub enum Ending {
     Finished(Finish),
 }
 
-impl From<AllocError> for Flaw {
+impl From<AllocError> for Stop {
     ghost use Rattle.std.specs.Prelude.{◌≡◌};
-    ghost use Rattle.tv_top.specs.declared.refusal.Flaw.TheVariants.{Memory};
+    ghost use Rattle.tv_top.specs.declared.refusal.Stop.TheVariants.{Memory};
 
-    ghost from_gives = { λ _ flaw. flaw ≡ Memory };
+    ghost from_gives = { λ _ stop. stop ≡ Memory };
 
-    fn from(_: AllocError) -> Flaw {
-        Flaw::Memory
+    fn from(_: AllocError) -> Stop {
+        Stop::Memory
     }
 }
 
-impl From<AsmFault> for Flaw {
+impl From<AsmFault> for Stop {
     ghost use Rattle.std.specs.Prelude.{◌≡◌};
-    ghost use Rattle.tv_top.specs.Programs.{asm_flaw};
+    ghost use Rattle.tv_top.specs.Programs.{asm_stop};
 
-    ghost from_gives = { λ fault flaw. flaw ≡ asm_flaw fault };
+    ghost from_gives = { λ fault stop. stop ≡ asm_stop fault };
 
-    fn from(fault: AsmFault) -> Flaw {
+    fn from(fault: AsmFault) -> Stop {
         match fault {
-            AsmFault::Bad { line, why } => Flaw::Contents(Bad::Program { line, why }),
-            AsmFault::TooMany { most, .. } => Flaw::Contents(Bad::Limit {
+            AsmFault::Bad { line, why } => Stop::Contents(Bad::Program { line, why }),
+            AsmFault::TooMany { most, .. } => Stop::Contents(Bad::Limit {
                 what: Size::ImageWords,
                 has: u64::from(most) + 2,
                 most: u64::from(most),
             }),
-            AsmFault::Memory => Flaw::Memory,
+            AsmFault::Memory => Stop::Memory,
         }
     }
 }
 
-impl From<DisFault> for Flaw {
+impl From<DisFault> for Stop {
     ghost use Rattle.std.specs.Prelude.{◌≡◌};
-    ghost use Rattle.tv_top.specs.Disassembling.{dis_flaw};
+    ghost use Rattle.tv_top.specs.Disassembling.{dis_stop};
 
-    ghost from_gives = { λ fault flaw. flaw ≡ dis_flaw fault };
+    ghost from_gives = { λ fault stop. stop ≡ dis_stop fault };
 
-    fn from(fault: DisFault) -> Flaw {
+    fn from(fault: DisFault) -> Stop {
         match fault {
-            DisFault::Ragged { len } => Flaw::Contents(Bad::Image { len }),
-            DisFault::Memory => Flaw::Memory,
+            DisFault::Ragged { len } => Stop::Contents(Bad::Image { len }),
+            DisFault::Memory => Stop::Memory,
         }
     }
 }
 
-impl From<Flaw> for Stop {
+impl From<Result<Finish, Stop>> for Ending {
     ghost use Rattle.std.specs.Prelude.{◌≡◌};
-    ghost use Rattle.tv_top.specs.Finds.{flaw_stop};
+    ghost use Rattle.tv_top.specs.Answers.{ending_of};
 
-    ghost from_gives = { λ flaw stop. stop ≡ flaw_stop flaw };
+    ghost from_gives = { λ done ending. ending ≡ ending_of done };
 
-    fn from(flaw: Flaw) -> Stop {
-        match flaw {
-            Flaw::Contents(bad) => Stop::Contents(bad),
-            Flaw::Memory => Stop::Memory,
+    fn from(done: Result<Finish, Stop>) -> Ending {
+        match done {
+            Ok(finish) => Ending::Finished(finish),
+            Err(stop) => Ending::Stopped(stop),
         }
     }
 }

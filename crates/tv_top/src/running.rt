@@ -1,22 +1,19 @@
 //! `run TEXT TAPE AUX T`: the machine's run on a program and two tapes.
-ghost use Rattle.std.specs.Prelude.{◌≡◌, ◌*◌, ◌/◌, ◌≤◌, ◌^◌, [], length, map, string_bytes};
-ghost use Rattle.std.specs.Prelude.{Some, None, MatchOption, Ok, IfOk};
+ghost use Rattle.std.specs.Prelude.{◌≡◌, ◌*◌, ◌/◌, ◌≤◌, ◌^◌, length, map, string_bytes};
+ghost use Rattle.std.specs.Prelude.{Some, None, MatchOption, IfOk};
 ghost use Rattle.tv_step.specs.Machine.{start, end_of};
 ghost use Rattle.tv_step.specs.Range.{AreWords};
 ghost use Rattle.tv_word.specs.Widths.{IsWidth};
-ghost use Rattle.tv_top.specs.Answers.{Answers};
-ghost use Rattle.tv_top.specs.Ends.{Completes};
+ghost use Rattle.tv_top.specs.Answers.{Does};
 ghost use Rattle.tv_top.specs.Form.{run_form};
 ghost use Rattle.tv_top.specs.Loading.{AreInputs, run_end};
 ghost use Rattle.tv_top.specs.Plan.{refusal_of};
-ghost use Rattle.tv_top.specs.Running.{run_asks, run_ends};
+ghost use Rattle.tv_top.specs.Running.{run_asks};
 
 use crate::loading::{Inputs, read_inputs};
 use crate::place::{Amount, Place, refusal_of};
 use crate::programs::Width;
-use crate::refusal::{Ending, Finish, Refusal, Stop};
-use crate::status::Status;
-use crate::writing::{conclude, finish};
+use crate::refusal::{Finish, Refusal, Stop};
 use std::alloc::{AllocError, Global};
 use tv_files::Files;
 use tv_step::{End, Machine};
@@ -25,11 +22,11 @@ use tv_word::{Words, decimal_of};
 /// The words of `run`.
 #[derive(Clone, Copy)]
 pub(crate) struct RunArgs<'a> {
-    pub(crate) text: &'a str,
-    pub(crate) tape: &'a str,
-    pub(crate) aux: &'a str,
+    pub(crate) text: Place<'a>,
+    pub(crate) tape: Place<'a>,
+    pub(crate) aux: Place<'a>,
     /// The most steps.
-    pub(crate) steps: u64,
+    pub(crate) t: u64,
 }
 
 impl<'a> RunArgs<'a> {
@@ -38,14 +35,14 @@ impl<'a> RunArgs<'a> {
         ensures { MatchOption result (run_form (map string_bytes words.now) ≡ None)
             (λ args. run_form (map string_bytes words.now) ≡ Some (run_asks args)) }
     {
-        let [text, tape, aux, steps] = words else {
+        let [text, tape, aux, t] = words else {
             return None;
         };
         Some(RunArgs {
-            text: text.as_str(),
-            tape: tape.as_str(),
-            aux: aux.as_str(),
-            steps: decimal_of(steps.as_bytes())?,
+            text: Place::at(1, text.as_str()),
+            tape: Place::at(2, tape.as_str()),
+            aux: Place::at(3, aux.as_str()),
+            t: decimal_of(t.as_bytes())?,
         })
     }
 
@@ -54,23 +51,17 @@ impl<'a> RunArgs<'a> {
         ensures { let plan = run_asks self.entry in
             result ≡ refusal_of plan.reads plan.writes plan.amounts }
     {
-        let reads = [
-            Place::at(1, self.text),
-            Place::at(2, self.tape),
-            Place::at(3, self.aux),
-        ];
-        refusal_of(&reads, &[], &[Amount::steps(self.steps)])
+        let reads = [self.text, self.tape, self.aux];
+        refusal_of(&reads, &[], &[Amount::steps(self.t)])
     }
 
-    /// Does the command; `words` is the number of words, its name among them.
-    pub(crate) fn perform<D: Files>(self, alloc: Global, files: &mut D, words: usize) -> Status
-        ensures { Answers (Ok (run_asks self.entry)) words
-            (D.seen files.old) (D.seen files.new) result }
+    /// Looks at the files, and tells how the run ends.
+    pub(crate) fn perform<D: Files>(self, alloc: Global, files: &mut D) -> Result<Finish, Stop>
+        ensures { Does (run_asks self.entry) (D.seen files.old) (D.seen files.new) result }
     {
-        match read_inputs(alloc, files, self.text, self.tape, self.aux) {
-            Ok(inputs) => run_on(alloc, files, words, inputs, self.steps),
-            Err(stop) => conclude(files, words, Ending::Stopped(stop)),
-        }
+        let inputs = read_inputs(alloc, files, self.text, self.tape, self.aux)?;
+        let end = end_of_run(alloc, inputs, self.t)?;
+        Ok(Finish::Run(end))
     }
 }
 
@@ -102,23 +93,5 @@ fn end_of_run(alloc: Global, inputs: Inputs, steps: u64) -> Result<End, AllocErr
     match program.width {
         Width::Bits16 => end_on::<16>(alloc, image, tape, aux, steps),
         Width::Bits32 => end_on::<32>(alloc, image, tape, aux, steps),
-    }
-}
-
-/// Runs the machine on what was read, and says how the run ends.
-fn run_on<D: Files>(
-    alloc: Global,
-    files: &mut D,
-    words: usize,
-    inputs: Inputs,
-    steps: u64,
-) -> Status
-    requires { AreInputs inputs }
-    ensures { Completes [] (run_ends steps inputs) words
-        (D.seen files.old) (D.seen files.new) result }
-{
-    match end_of_run(alloc, inputs, steps) {
-        Ok(end) => finish(files, words, &[], Finish::Run(end)),
-        Err(_) => conclude(files, words, Ending::Stopped(Stop::Memory)),
     }
 }

@@ -1,18 +1,17 @@
 //! `shrink SYSTEM OUT`: a system with fewer private wires and the same solutions.
-ghost use Rattle.std.specs.Prelude.{◌≡◌, [], ◌∷◌, map, string_bytes, Ok, Some, None};
+ghost use Rattle.std.specs.Prelude.{◌≡◌, map, string_bytes, Some, None};
 ghost use Rattle.std.specs.Prelude.{MatchOption};
-ghost use Rattle.tv_top.specs.Answers.{Answers};
+ghost use Rattle.tv_top.specs.Answers.{Does};
 ghost use Rattle.tv_top.specs.Contents.{Content.{Rest}};
 ghost use Rattle.tv_top.specs.Ends.{Writes};
 ghost use Rattle.tv_top.specs.Form.{shrink_form};
-ghost use Rattle.tv_top.specs.Plan.{refusal_of};
+ghost use Rattle.tv_top.specs.Plan.{named, one_write, refusal_of};
 ghost use Rattle.tv_top.specs.Shrinking.{shrink_asks};
 
 use crate::containers::read_shrunk;
 use crate::place::{Place, refusal_of};
-use crate::refusal::{Cut, Ending, Finish, Refusal};
-use crate::status::Status;
-use crate::writing::{close, conclude, streamed};
+use crate::refusal::{Finish, Refusal, Stop};
+use crate::writing::streamed;
 use std::alloc::Global;
 use tv_files::Files;
 use tv_shrink::Shrunk;
@@ -20,8 +19,8 @@ use tv_shrink::Shrunk;
 /// The words of `shrink`.
 #[derive(Clone, Copy)]
 pub(crate) struct ShrinkArgs<'a> {
-    pub(crate) system: &'a str,
-    pub(crate) out: &'a str,
+    pub(crate) system: Place<'a>,
+    pub(crate) out: Place<'a>,
 }
 
 impl<'a> ShrinkArgs<'a> {
@@ -34,8 +33,8 @@ impl<'a> ShrinkArgs<'a> {
             return None;
         };
         Some(ShrinkArgs {
-            system: system.as_str(),
-            out: out.as_str(),
+            system: Place::at(1, system.as_str()),
+            out: Place::at(2, out.as_str()),
         })
     }
 
@@ -44,28 +43,23 @@ impl<'a> ShrinkArgs<'a> {
         ensures { let plan = shrink_asks self.entry in
             result ≡ refusal_of plan.reads plan.writes plan.amounts }
     {
-        refusal_of(&[Place::at(1, self.system)], &[Place::at(2, self.out)], &[])
+        refusal_of(&[self.system], &[self.out], &[])
     }
 
-    /// Does the command; `words` is the number of words, its name among them.
-    pub(crate) fn perform<D: Files>(self, alloc: Global, files: &mut D, words: usize) -> Status
-        ensures { Answers (Ok (shrink_asks self.entry)) words
-            (D.seen files.old) (D.seen files.new) result }
+    /// Looks at the files, and writes what they come to.
+    pub(crate) fn perform<D: Files>(self, alloc: Global, files: &mut D) -> Result<Finish, Stop>
+        ensures { Does (shrink_asks self.entry) (D.seen files.old) (D.seen files.new) result }
     {
-        match read_shrunk(alloc, files, self.system) {
-            Ok(shrunk) => {
-                let written = write_shrunk(files, self.out, &shrunk);
-                close(files, words, written, Finish::Quiet)
-            }
-            Err(stop) => conclude(files, words, Ending::Stopped(stop)),
-        }
+        let shrunk = read_shrunk(alloc, files, self.system)?;
+        write_shrunk(files, self.out, &shrunk)?;
+        Ok(Finish::Quiet)
     }
 }
 
-/// Writes a shrunk system under the name at word 2.
-fn write_shrunk<D: Files>(files: &mut D, out: &str, shrunk: &Shrunk) -> Result<(), Cut>
-    ensures { Writes (record { word = 2; name = out.now; content = Rest shrunk.now } ∷ [])
+/// Writes a shrunk system.
+fn write_shrunk<D: Files>(files: &mut D, place: Place<'_>, shrunk: &Shrunk) -> Result<(), Stop>
+    ensures { Writes (one_write (named place.entry) (Rest shrunk.now))
         (D.seen files.old) (D.seen files.new) result }
 {
-    streamed(2, shrunk.write(files, out))
+    streamed(place.word, shrunk.write(files, place.name))
 }

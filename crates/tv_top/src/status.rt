@@ -2,7 +2,7 @@
 ghost use Rattle.std.specs.Prelude.{◌≡◌};
 ghost use Rattle.tv_top.specs.Status.{code_of};
 
-use crate::refusal::{Bad, Cut, Ending, Finish, Quantity, Refusal, Size, Stop};
+use crate::refusal::{Bad, Ending, Finish, Quantity, Refusal, Size, Stop};
 use tv_asm::AsmWhy;
 use tv_check::Verdict;
 use tv_container::ReadWhy;
@@ -198,21 +198,6 @@ impl From<Stop> for Status {
             },
             Stop::Memory => Status::Memory,
             Stop::Contents(bad) => Status::from(bad),
-        }
-    }
-}
-
-impl From<Cut> for Status {
-    ghost use Rattle.tv_top.specs.Status.{cut_status};
-
-    ghost from_gives = { λ cut status. status ≡ cut_status cut };
-
-    fn from(cut: Cut) -> Status {
-        match cut {
-            Cut::Fault { word } => Status::FileFault {
-                word: u64::from(word),
-            },
-            Cut::Memory => Status::Memory,
         }
     }
 }

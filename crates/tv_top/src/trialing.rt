@@ -1,21 +1,19 @@
 //! `trial SEED K`: the system of a program drawn from a number, tested on the values of its run.
 ghost use Rattle.std.specs.Prelude.{◌≡◌, ◌^◌, ◌<◌, ◌≤◌, length, map, string_bytes};
-ghost use Rattle.std.specs.Prelude.{Some, None, MatchOption, Ok, IfOk};
+ghost use Rattle.std.specs.Prelude.{Some, None, MatchOption, IfOk};
 ghost use Rattle.tv_benes.specs.declared.shape.Net.TheVariants.{Benes};
 ghost use Rattle.tv_core.specs.declared.limits.TheConstants.{DRAWS};
 ghost use Rattle.tv_layout.specs.Places.{WithinLimits};
 ghost use Rattle.tv_layout.specs.Systems.{system_of, run_values};
 ghost use Rattle.tv_step.specs.Machine.{Accepts};
 ghost use Rattle.tv_step.specs.Range.{AreWords};
-ghost use Rattle.tv_top.specs.Answers.{Answers};
+ghost use Rattle.tv_top.specs.Answers.{Does};
 ghost use Rattle.tv_top.specs.Form.{trial_form};
 ghost use Rattle.tv_top.specs.Plan.{AreWithin, refusal_of};
 ghost use Rattle.tv_top.specs.Trialing.{tested, trial_asks, trial_of};
 
 use crate::place::{Amount, refusal_of};
-use crate::refusal::{Ending, Finish, Quantity, Refusal, Stop, Trial};
-use crate::status::Status;
-use crate::writing::{conclude, finish};
+use crate::refusal::{Finish, Quantity, Refusal, Stop, Trial};
 use std::alloc::{AllocError, Global};
 use tv_benes::Net;
 use tv_core::limits::DRAWS;
@@ -63,16 +61,13 @@ impl TrialArgs {
         refusal_of(&[], &[], &[draws])
     }
 
-    /// Does the command; `words` is the number of words, its name among them.
-    pub(crate) fn perform<D: Files>(self, alloc: Global, files: &mut D, words: usize) -> Status
+    /// Tells what the trial comes to; no file is looked at.
+    pub(crate) fn perform<D: Files>(self, alloc: Global, files: &mut D) -> Result<Finish, Stop>
         requires { AreWithin (trial_asks self).amounts }
-        ensures { Answers (Ok (trial_asks self)) words
-            (D.seen files.old) (D.seen files.new) result }
+        ensures { Does (trial_asks self) (D.seen files.old) (D.seen files.new) result }
     {
-        match trial_of(alloc, self.seed, self.k as u32) {
-            Ok(trial) => finish(files, words, &[], Finish::Trial(trial)),
-            Err(AllocError) => conclude(files, words, Ending::Stopped(Stop::Memory)),
-        }
+        let trial = trial_of(alloc, self.seed, self.k as u32)?;
+        Ok(Finish::Trial(trial))
     }
 }
 

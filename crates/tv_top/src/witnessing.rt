@@ -1,13 +1,13 @@
 //! `witness TEXT TAPE AUX T WITNESS`, which may have one more word, `waksman`: the values of the
 //! wires of a program's system for a run that answers.
-ghost use Rattle.std.specs.Prelude.{◌≡◌, [], ◌∷◌, map, string_bytes, Ok};
+ghost use Rattle.std.specs.Prelude.{◌≡◌, [], ◌∷◌, map, string_bytes};
 ghost use Rattle.std.specs.Prelude.{Some, None, MatchOption};
-ghost use Rattle.tv_top.specs.Answers.{Answers};
+ghost use Rattle.tv_top.specs.Answers.{Does};
 ghost use Rattle.tv_top.specs.Contents.{Content.{Values}};
 ghost use Rattle.tv_top.specs.Ends.{Completes, Writes};
 ghost use Rattle.tv_top.specs.Form.{witness_form};
 ghost use Rattle.tv_top.specs.Loading.{AreInputs};
-ghost use Rattle.tv_top.specs.Plan.{AreWithin, one_name, refusal_of};
+ghost use Rattle.tv_top.specs.Plan.{AreWithin, named, one_write, refusal_of};
 ghost use Rattle.tv_top.specs.Programs.{bits};
 ghost use Rattle.tv_top.specs.Witnessing.{no_run, witness_asks, witness_ends};
 
@@ -15,9 +15,8 @@ use crate::building::net_word;
 use crate::loading::{Inputs, read_inputs};
 use crate::place::{Amount, Place, refusal_of};
 use crate::programs::Width;
-use crate::refusal::{Cut, Ending, Finish, Refusal};
-use crate::status::Status;
-use crate::writing::{close, conclude, refuse, sink_cut, streamed};
+use crate::refusal::{Finish, Refusal, Stop};
+use crate::writing::{sink_stop, streamed};
 use std::alloc::Global;
 use tv_benes::Net;
 use tv_files::Files;
@@ -28,12 +27,12 @@ use tv_wtns::FileValues;
 /// The words of `witness`.
 #[derive(Clone, Copy)]
 pub(crate) struct WitnessArgs<'a> {
-    pub(crate) text: &'a str,
-    pub(crate) tape: &'a str,
-    pub(crate) aux: &'a str,
+    pub(crate) text: Place<'a>,
+    pub(crate) tape: Place<'a>,
+    pub(crate) aux: Place<'a>,
     /// The most steps.
     pub(crate) t: u64,
-    pub(crate) witness: &'a str,
+    pub(crate) witness: Place<'a>,
     pub(crate) net: Net,
 }
 
@@ -49,10 +48,10 @@ impl<'a> WitnessArgs<'a> {
         Some(WitnessArgs {
             net: net_word(last)?,
             t: decimal_of(t.as_bytes())?,
-            text: text.as_str(),
-            tape: tape.as_str(),
-            aux: aux.as_str(),
-            witness: witness.as_str(),
+            text: Place::at(1, text.as_str()),
+            tape: Place::at(2, tape.as_str()),
+            aux: Place::at(3, aux.as_str()),
+            witness: Place::at(5, witness.as_str()),
         })
     }
 
@@ -61,24 +60,19 @@ impl<'a> WitnessArgs<'a> {
         ensures { let plan = witness_asks self.entry in
             result ≡ refusal_of plan.reads plan.writes plan.amounts }
     {
-        let reads = [
-            Place::at(1, self.text),
-            Place::at(2, self.tape),
-            Place::at(3, self.aux),
-        ];
-        let writes = [Place::at(5, self.witness)];
-        refusal_of(&reads, &writes, &[Amount::steps(self.t)])
+        let reads = [self.text, self.tape, self.aux];
+        refusal_of(&reads, &[self.witness], &[Amount::steps(self.t)])
     }
 
-    /// Does the command; `words` is the number of words, its name among them.
-    pub(crate) fn perform<D: Files>(self, alloc: Global, files: &mut D, words: usize) -> Status
+    /// Looks at the files, and writes what they come to.
+    pub(crate) fn perform<D: Files>(self, alloc: Global, files: &mut D) -> Result<Finish, Stop>
         requires { AreWithin (witness_asks self).amounts }
-        ensures { Answers (Ok (witness_asks self.entry)) words
-            (D.seen files.old) (D.seen files.new) result }
+        ensures { Does (witness_asks self.entry) (D.seen files.old) (D.seen files.new) result }
     {
-        match read_inputs(alloc, files, self.text, self.tape, self.aux) {
-            Ok(inputs) => witness_on(alloc, files, words, &inputs, self),
-            Err(stop) => conclude(files, words, Ending::Stopped(stop)),
+        let inputs = read_inputs(alloc, files, self.text, self.tape, self.aux)?;
+        match inputs.program.width {
+            Width::Bits16 => write_witness::<16, D>(alloc, files, &inputs, self),
+            Width::Bits32 => write_witness::<32, D>(alloc, files, &inputs, self),
         }
     }
 }
@@ -88,48 +82,43 @@ fn write_values<const W: u32, D: Files>(
     files: &mut D,
     place: Place<'_>,
     filling: Filling<W>,
-) -> Result<(), Cut>
-    ensures { Writes (record {
-      word = place.entry.word;
-      name = place.entry.name.now;
-      content = Values filling.entry.values;
-    } ∷ [])
+) -> Result<(), Stop>
+    ensures { Writes (one_write (named place.entry) (Values filling.entry.values))
         (D.seen files.old) (D.seen files.new) result }
 {
     let mut taker = match FileValues::begin(files, place.name, filling.count()) {
         Ok(taker) => taker,
-        Err(refused) => return Err(sink_cut(place.word, refused.why)),
+        Err(refused) => return Err(sink_stop(place.word, refused.why)),
     };
     match filling.give(&mut taker) {
         Ok(()) => streamed(place.word, taker.finish()),
-        Err(fault) => Err(sink_cut(place.word, fault)),
+        Err(fault) => Err(sink_stop(place.word, fault)),
     }
 }
 
 /// The end where there are no values, unless memory was wanting.
-fn no_run(fault: FillFault) -> Option<Finish>
+fn no_run(fault: FillFault) -> Result<Finish, Stop>
     ensures { result ≡ no_run fault }
 {
     match fault {
-        FillFault::NoRun { end } => Some(Finish::NoRun(end)),
-        FillFault::Failed | FillFault::Memory => None,
+        FillFault::NoRun { end } => Ok(Finish::NoRun(end)),
+        FillFault::Failed | FillFault::Memory => Err(Stop::Memory),
     }
 }
 
-/// Runs the machine on what was read, words of so many bits, and where it answers writes the values
-/// under the name at word 5.
-fn witness_by<const W: u32, D: Files>(
+/// Runs the machine on what was read, words of so many bits, and writes the values where it
+/// answers.
+fn write_witness<const W: u32, D: Files>(
     alloc: Global,
     files: &mut D,
-    words: usize,
     inputs: &Inputs,
     args: WitnessArgs<'_>,
-) -> Status
+) -> Result<Finish, Stop>
     requires width { W ≡ bits inputs.now.program.width }
     requires inputs { AreInputs inputs.now }
     requires amounts { AreWithin (witness_asks args).amounts }
-    ensures { Completes (one_name 5 args.entry.witness.now)
-        (witness_ends args.entry.net args.entry.t inputs.now) words
+    ensures { Completes (named args.entry.witness ∷ [])
+        (witness_ends args.entry.net args.entry.t inputs.now)
         (D.seen files.old) (D.seen files.new) result }
 {
     let image = inputs.program.words.as_slice();
@@ -137,29 +126,9 @@ fn witness_by<const W: u32, D: Files>(
     let aux = inputs.aux.as_slice();
     match prepare::<W>(alloc, image, tape, aux, args.t as u32, args.net) {
         Ok(filling) => {
-            let written = write_values(files, Place::at(5, args.witness), filling);
-            close(files, words, written, Finish::Quiet)
+            write_values(files, args.witness, filling)?;
+            Ok(Finish::Quiet)
         }
-        Err(fault) => refuse(files, words, no_run(fault)),
-    }
-}
-
-/// The same, of words of the width that the program tells.
-fn witness_on<D: Files>(
-    alloc: Global,
-    files: &mut D,
-    words: usize,
-    inputs: &Inputs,
-    args: WitnessArgs<'_>,
-) -> Status
-    requires inputs { AreInputs inputs.now }
-    requires amounts { AreWithin (witness_asks args).amounts }
-    ensures { Completes (one_name 5 args.entry.witness.now)
-        (witness_ends args.entry.net args.entry.t inputs.now) words
-        (D.seen files.old) (D.seen files.new) result }
-{
-    match inputs.program.width {
-        Width::Bits16 => witness_by::<16, D>(alloc, files, words, inputs, args),
-        Width::Bits32 => witness_by::<32, D>(alloc, files, words, inputs, args),
+        Err(fault) => no_run(fault),
     }
 }

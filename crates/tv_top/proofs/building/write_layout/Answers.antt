@@ -29,7 +29,7 @@ begun g c = record {
 
 pub returns-in-Err : goal.returns-in-Err
 returns-in-Err g c =
-    rw c.sink_cut.ensures (search (rules, writes_nothing c.args.place.word c.args.place.name.now (Constraints (system_of g.row.W c.args.net c.args.image.now c.args.n c.args.t)) _ _ c.in-Err.refused.why c.in-Err.ensures.err_creates))
+    rw c.sink_stop.ensures (search (rules, writes_nothing c.args.place.word c.args.place.name.now (Constraints (system_of g.row.W c.args.net c.args.image.now c.args.n c.args.t)) _ _ c.in-Err.refused.why c.in-Err.ensures.err_creates))
 
 pub returns-in-Ok-emit_system : goal.returns-in-Ok-emit_system
 returns-in-Ok-emit_system g c =
@@ -39,4 +39,4 @@ returns-in-Ok-emit_system g c =
 pub returns-in-Err-emit_system : goal.returns-in-Err-emit_system
 returns-in-Err-emit_system g c =
     let is = streamed_some _ _ _ _ _ _ _ (begun g (goal.at.returns-in-Err-emit_system g c).In-Ok) c.emit_system.new.s c.in-Err-emit_system.fault c.in-Err-emit_system.ensures.puts in
-    rw c.sink_cut-in-Err-emit_system.ensures (search (rules, writes_system c.args.place.word _ _ _ _ _ is))
+    rw c.sink_stop-in-Err-emit_system.ensures (search (rules, writes_system c.args.place.word _ _ _ _ _ is))

@@ -1,11 +1,11 @@
-use Rattle.std.proofs.Common.{arith}
+use Rattle.std.proofs.Common.{◌≡◌, rules}
 use Rattle.tv_check.specs.Verdict.{verdict_of}
-use Rattle.tv_top.specs.Containers.{system_bad}
-use Rattle.tv_top.specs.Plan.{input}
-use Rattle.tv_top.proofs.ContainerReads.{finds_read, system_limitless}
+use Rattle.tv_top.specs.Containers.{system_bad, refusal_stop}
+use Rattle.tv_top.specs.Plan.{named}
+use Rattle.tv_top.proofs.ContainerReads.{came, finds_read, system_limitless}
 use Rattle.tv_top.proofs.containers.judge_system.Goals as goal
 
 pub returns : goal.returns
-unfolding input
 returns g c =
-    rw c.container_read.ensures (finds_read (λ verdict. verdict) 1 1 c.args.name.now system_bad (λ file. verdict_of file c.args.values.now c.args.publics.now) _ _ c.check-read.result (omega arith) system_limitless c.check-read.ensures.gives c.check-read.ensures.looks c.check-read.ensures.missing)
+    let came : c.map_err.result ≡ came (refusal_stop c.args.place.word system_bad) c.check.result = search rules in
+    rw came (finds_read (λ verdict. verdict) (named c.args.place) system_bad (λ file. verdict_of file c.args.values.now c.args.publics.now) _ _ c.check.result system_limitless c.check.ensures.gives c.check.ensures.looks c.check.ensures.missing)

@@ -1,12 +1,8 @@
 use Rattle.tv_top.specs.Disassembling.{text_of}
 use Rattle.tv_top.specs.Programs.{bits}
 use Rattle.tv_top.proofs.Sizes.{text_limited}
-use Rattle.tv_top.proofs.Looking.{flaw_found, made_found}
+use Rattle.tv_top.proofs.Looking.{made_found}
 use Rattle.tv_top.proofs.disassembling.read_text.Goals as goal
 
 pub returns : goal.returns
-returns g c = made_found _ _ _ _ _ _ (text_of (bits c.args.width)) _ _ _ _ _ _ (rw c.image_bytes_most-most.ensures at c.in_ok-image.ensures) c.deref.ensures.value c.in_ok-text_of.ensures
-
-pub returns-in_err-text_of : goal.returns-in_err-text_of
-returns-in_err-text_of g c =
-    flaw_found _ _ _ _ _ _ (text_of (bits c.args.width)) _ _ _ _ _ _ _ (rw c.image_bytes_most-most.ensures at c.in_ok-image.ensures) c.deref.ensures.value c.in_err-text_of.ensures (text_limited (bits c.args.width) _) c.from_residual-in_err-text_of.ensures.1
+returns g c = made_found _ _ _ _ _ _ (text_of (bits c.args.width)) _ _ _ _ _ (rw c.image_bytes_most-most.ensures at c.in_ok-image.ensures) c.deref.ensures.value c.text_of.ensures (text_limited (bits c.args.width) _)

@@ -10,19 +10,19 @@ returns-in_err-program-clause-found g c = finds_short _ _ _ _ c.from_residual.en
 pub returns-in_err-tape-clause-found : goal.returns-in_err-tape-clause-found
 unfolding inputs_of
 returns-in_err-tape-clause-found g c =
-    let tape = rw (c.word_bound-below.ensures, c.at-place.ensures) at c.in_err-tape.ensures.found in
+    let tape = rw c.word_bound-below.ensures at c.in_err-tape.ensures.found in
     finds_on _ c.in_ok-program.ensures.found (finds_short _ _ _ _ c.from_residual-in_err-tape.ensures.1 tape)
 
 pub returns-in_err-aux-clause-found : goal.returns-in_err-aux-clause-found
 unfolding inputs_of
 returns-in_err-aux-clause-found g c =
-    let tape = rw (c.word_bound-below.ensures, c.at-place.ensures) at c.in_ok-tape.ensures.found in
-    let aux = rw (c.word_bound-below.ensures, c.at-place-2.ensures) at c.in_err-aux.ensures.found in
+    let tape = rw c.word_bound-below.ensures at c.in_ok-tape.ensures.found in
+    let aux = rw c.word_bound-below.ensures at c.in_err-aux.ensures.found in
     finds_on _ c.in_ok-program.ensures.found (finds_on _ tape (finds_short _ _ _ _ c.from_residual-in_err-aux.ensures.1 aux))
 
 pub returns-clause-found : goal.returns-clause-found
 unfolding inputs_of
 returns-clause-found g c =
-    let tape = rw (c.word_bound-below.ensures, c.at-place.ensures) at c.in_ok-tape.ensures.found in
-    let aux = rw (c.word_bound-below.ensures, c.at-place-2.ensures) at c.in_ok-aux.ensures.found in
+    let tape = rw c.word_bound-below.ensures at c.in_ok-tape.ensures.found in
+    let aux = rw c.word_bound-below.ensures at c.in_ok-aux.ensures.found in
     finds_on _ c.in_ok-program.ensures.found (finds_on _ tape (finds_on _ aux (finds_still (λ files told. refl))))

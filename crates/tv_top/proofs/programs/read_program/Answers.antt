@@ -1,11 +1,7 @@
 use Rattle.tv_top.specs.Programs.{program_of}
 use Rattle.tv_top.proofs.Sizes.{program_limited}
-use Rattle.tv_top.proofs.Looking.{flaw_found, made_found}
+use Rattle.tv_top.proofs.Looking.{made_found}
 use Rattle.tv_top.proofs.programs.read_program.Goals as goal
 
 pub returns-clause-found : goal.returns-clause-found
-returns-clause-found g c = made_found _ _ _ _ _ _ program_of _ _ _ _ _ _ c.in_ok-text.ensures c.deref.ensures.value c.in_ok-program_of.ensures.made
-
-pub returns-in_err-program_of-clause-found : goal.returns-in_err-program_of-clause-found
-returns-in_err-program_of-clause-found g c =
-    flaw_found _ _ _ _ _ _ program_of _ _ _ _ _ _ _ c.in_ok-text.ensures c.deref.ensures.value c.in_err-program_of.ensures.made (program_limited _) c.from_residual-in_err-program_of.ensures.1
+returns-clause-found g c = made_found _ _ _ _ _ _ program_of _ _ _ _ _ c.in_ok-text.ensures c.deref.ensures.value c.program_of.ensures.made (program_limited _)

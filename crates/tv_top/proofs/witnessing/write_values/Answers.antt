@@ -20,7 +20,7 @@ begun g c = record {
 
 pub returns-in-Err : goal.returns-in-Err
 returns-in-Err g c =
-    rw c.sink_cut.ensures (search (rules, writes_nothing c.args.place.word c.args.place.name.now (Values c.args.filling.values) _ _ c.in-Err.refused.why c.in-Err.ensures.err_creates))
+    rw c.sink_stop.ensures (search (rules, writes_nothing c.args.place.word c.args.place.name.now (Values c.args.filling.values) _ _ c.in-Err.refused.why c.in-Err.ensures.err_creates))
 
 pub returns-in-Ok-give : goal.returns-in-Ok-give
 returns-in-Ok-give g c =
@@ -30,4 +30,4 @@ returns-in-Ok-give g c =
 pub returns-in-Err-give : goal.returns-in-Err-give
 returns-in-Err-give g c =
     let is = streamed_some _ _ _ _ _ (begun g (goal.at.returns-in-Err-give g c).In-Ok) c.give.new.v c.in-Err-give.fault c.in-Err-give.ensures.gives in
-    rw c.sink_cut-in-Err-give.ensures (search (rules, writes_values c.args.place.word _ _ _ _ _ is))
+    rw c.sink_stop-in-Err-give.ensures (search (rules, writes_values c.args.place.word _ _ _ _ _ is))

@@ -1,10 +1,13 @@
 use Rattle.std.proofs.Common.{refl}
-use Rattle.tv_top.proofs.Answering.{answers_found, answers_stopped, finishes_by}
-use Rattle.tv_top.proofs.ProgramLaws.{sizes_apart}
+use Rattle.tv_top.specs.Building.{build_asks}
+use Rattle.tv_top.proofs.Answering.{does_stopped, does_found, completes_whole, completes_cut}
 use Rattle.tv_top.proofs.building.BuildArgs.perform.Goals as goal
 
-pub returns-in-Ok : goal.returns-in-Ok
-returns-in-Ok g c = answers_found _ _ _ _ _ _ _ _ _ _ refl refl c.in-Ok.ensures.found (finishes_by _ _ _ _ _ _ _ _ c.write_system-written.ensures c.close.ensures)
+pub returns-in_err-program : goal.returns-in_err-program
+returns-in_err-program g c = does_stopped (build_asks c.args.self) _ _ _ _ _ _ _ refl c.in_err-program.ensures.found c.from_residual.ensures.1
 
-pub returns-in-Err : goal.returns-in-Err
-returns-in-Err g c = answers_stopped _ _ _ _ _ _ _ _ _ _ refl (sizes_apart c.args.self.n c.args.self.t) c.in-Err.ensures.found c.conclude.ensures
+pub returns-in_err-write_system : goal.returns-in_err-write_system
+returns-in_err-write_system g c = does_found (build_asks c.args.self) _ _ _ _ _ _ _ _ refl refl c.in_ok-program.ensures.found (completes_cut _ _ _ _ _ _ c.in_err-write_system.ensures c.from_residual-in_err-write_system.ensures.1)
+
+pub returns : goal.returns
+returns g c = does_found (build_asks c.args.self) _ _ _ _ _ _ _ _ refl refl c.in_ok-program.ensures.found (completes_whole _ _ _ _ _ _ refl c.in_ok-write_system.ensures)

@@ -1,9 +1,10 @@
-use Rattle.std.proofs.Common.{refl}
-use Rattle.tv_top.proofs.Answering.{answers_found, answers_stopped}
+use Rattle.std.proofs.Common.{Ok, refl}
+use Rattle.tv_top.specs.Checking.{check_asks}
+use Rattle.tv_top.proofs.Answering.{does_stopped, does_found, completes_nothing}
 use Rattle.tv_top.proofs.checking.CheckArgs.perform.Goals as goal
 
-pub returns-in-Ok : goal.returns-in-Ok
-returns-in-Ok g c = answers_found _ _ _ _ _ _ _ _ _ _ refl refl c.in-Ok.ensures c.finish.ensures
+pub returns-in_err-verdict : goal.returns-in_err-verdict
+returns-in_err-verdict g c = does_stopped (check_asks c.args.self) _ _ _ _ _ _ _ refl c.in_err-verdict.ensures c.from_residual.ensures.1
 
-pub returns-in-Err : goal.returns-in-Err
-returns-in-Err g c = answers_stopped _ _ _ _ _ _ _ _ _ _ refl tt c.in-Err.ensures c.conclude.ensures
+pub returns : goal.returns
+returns g c = does_found (check_asks c.args.self) _ _ _ _ _ _ _ _ refl refl c.in_ok-verdict.ensures (completes_nothing _ _ (Ok _) _ refl)

@@ -1,9 +1,13 @@
 use Rattle.std.proofs.Common.{refl}
-use Rattle.tv_top.proofs.Answering.{answers_found, answers_stopped}
+use Rattle.tv_top.specs.Disassembling.{disasm_asks}
+use Rattle.tv_top.proofs.Answering.{does_stopped, does_found, completes_whole, completes_cut}
 use Rattle.tv_top.proofs.disassembling.DisasmArgs.perform.Goals as goal
 
-pub returns-in-Ok : goal.returns-in-Ok
-returns-in-Ok g c = answers_found _ _ _ _ _ _ _ _ _ _ refl refl c.in-Ok.ensures (rw (c.deref.ensures.value, c.at.ensures) at c.finish.ensures)
+pub returns-in_err-bytes : goal.returns-in_err-bytes
+returns-in_err-bytes g c = does_stopped (disasm_asks c.args.self) _ _ _ _ _ _ _ refl c.in_err-bytes.ensures c.from_residual.ensures.1
 
-pub returns-in-Err : goal.returns-in-Err
-returns-in-Err g c = answers_stopped _ _ _ _ _ _ _ _ _ _ refl tt c.in-Err.ensures c.conclude.ensures
+pub returns-in_err-write_files : goal.returns-in_err-write_files
+returns-in_err-write_files g c = does_found (disasm_asks c.args.self) _ _ _ _ _ _ _ _ refl refl c.in_ok-bytes.ensures (completes_cut _ _ _ _ _ _ (rw c.deref.ensures.value at c.in_err-write_files.ensures) c.from_residual-in_err-write_files.ensures.1)
+
+pub returns : goal.returns
+returns g c = does_found (disasm_asks c.args.self) _ _ _ _ _ _ _ _ refl refl c.in_ok-bytes.ensures (completes_whole _ _ _ _ _ _ refl (rw c.deref.ensures.value at c.in_ok-write_files.ensures))

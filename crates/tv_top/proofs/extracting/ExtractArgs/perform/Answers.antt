@@ -1,13 +1,17 @@
-use Rattle.std.proofs.Common.{refl}
-use Rattle.tv_top.specs.Extracting.{run_written}
+use Rattle.std.proofs.Common.{refl, ap}
+use Rattle.tv_top.specs.Extracting.{extract_asks, run_ends, run_written}
 use Rattle.tv_top.specs.Kinds.{is_extract}
-use Rattle.tv_top.proofs.Answering.{answers_completed, answers_stopped}
-use Rattle.tv_top.proofs.AssignedLaws.{ends_in}
-use Rattle.tv_top.proofs.ProgramLaws.{sizes_apart}
+use Rattle.tv_top.proofs.Answering.{does_stopped, does_found, completes_as}
+use Rattle.tv_top.proofs.AssignedLaws.{completes_none, ends_in}
 use Rattle.tv_top.proofs.extracting.ExtractArgs.perform.Goals as goal
 
-pub returns-in-Ok : goal.returns-in-Ok
-returns-in-Ok g c = answers_completed _ _ _ _ _ _ _ _ _ _ refl (ends_in is_extract run_written (λ _. refl) (λ _. refl) _) (sizes_apart c.args.self.n c.args.self.t) c.in-Ok.ensures.found c.extract_on.ensures
+pub returns-in_err-assigned : goal.returns-in_err-assigned
+returns-in_err-assigned g c = does_stopped (extract_asks c.args.self) _ _ _ _ _ _ _ refl c.in_err-assigned.ensures.found c.from_residual.ensures.1
 
-pub returns-in-Err : goal.returns-in-Err
-returns-in-Err g c = answers_stopped _ _ _ _ _ _ _ _ _ _ refl (sizes_apart c.args.self.n c.args.self.t) c.in-Err.ensures.found c.conclude.ensures
+pub returns-in-Ok : goal.returns-in-Ok
+returns-in-Ok g c =
+    does_found (extract_asks c.args.self) _ _ _ _ _ _ _ _ refl (ends_in is_extract run_written (λ _. refl) (λ _. refl) _) c.in_ok-assigned.ensures.found (completes_as _ _ _ _ _ _ (ap (run_ends run_written) c.in-Ok.ensures.run) c.write_run.ensures)
+
+pub returns : goal.returns
+returns g c =
+    does_found (extract_asks c.args.self) _ _ _ _ _ _ _ _ refl (ends_in is_extract run_written (λ _. refl) (λ _. refl) _) c.in_ok-assigned.ensures.found (rw c.not_run.ensures (completes_none _ run_written _ _ _ c.in-Err.ensures.fault))

@@ -1,10 +1,13 @@
-use Rattle.std.proofs.Common.{refl}
-use Rattle.tv_top.proofs.Answering.{answers_completed, answers_stopped}
-use Rattle.tv_top.proofs.RunningClaim.{run_apart}
+use Rattle.std.proofs.Common.{Ok, refl}
+use Rattle.tv_top.specs.Running.{run_asks}
+use Rattle.tv_top.proofs.Answering.{does_stopped, does_found, completes_nothing, completes_wanting}
 use Rattle.tv_top.proofs.running.RunArgs.perform.Goals as goal
 
-pub returns-in-Ok : goal.returns-in-Ok
-returns-in-Ok g c = answers_completed _ _ _ _ _ _ _ _ _ _ refl refl (run_apart c.args.self.steps) c.in-Ok.ensures.found c.run_on.ensures
+pub returns-in_err-inputs : goal.returns-in_err-inputs
+returns-in_err-inputs g c = does_stopped (run_asks c.args.self) _ _ _ _ _ _ _ refl c.in_err-inputs.ensures.found c.from_residual.ensures.1
 
-pub returns-in-Err : goal.returns-in-Err
-returns-in-Err g c = answers_stopped _ _ _ _ _ _ _ _ _ _ refl (run_apart c.args.self.steps) c.in-Err.ensures.found c.conclude.ensures
+pub returns-in_err-end : goal.returns-in_err-end
+returns-in_err-end g c = does_found (run_asks c.args.self) _ _ _ _ _ _ _ _ refl refl c.in_ok-inputs.ensures.found (completes_wanting _ _ _ _ c.from_residual-in_err-end.ensures.1)
+
+pub returns : goal.returns
+returns g c = does_found (run_asks c.args.self) _ _ _ _ _ _ _ _ refl refl c.in_ok-inputs.ensures.found (completes_nothing _ _ (Ok _) _ (rw c.in_ok-end.ensures refl))

@@ -1,9 +1,13 @@
 use Rattle.std.proofs.Common.{refl}
-use Rattle.tv_top.proofs.Answering.{answers_found, answers_stopped, finishes_by}
+use Rattle.tv_top.specs.Shrinking.{shrink_asks}
+use Rattle.tv_top.proofs.Answering.{does_stopped, does_found, completes_whole, completes_cut}
 use Rattle.tv_top.proofs.shrinking.ShrinkArgs.perform.Goals as goal
 
-pub returns-in-Ok : goal.returns-in-Ok
-returns-in-Ok g c = answers_found _ _ _ _ _ _ _ _ _ _ refl refl c.in-Ok.ensures (finishes_by _ _ _ _ _ _ _ _ c.write_shrunk-written.ensures c.close.ensures)
+pub returns-in_err-shrunk : goal.returns-in_err-shrunk
+returns-in_err-shrunk g c = does_stopped (shrink_asks c.args.self) _ _ _ _ _ _ _ refl c.in_err-shrunk.ensures c.from_residual.ensures.1
 
-pub returns-in-Err : goal.returns-in-Err
-returns-in-Err g c = answers_stopped _ _ _ _ _ _ _ _ _ _ refl tt c.in-Err.ensures c.conclude.ensures
+pub returns-in_err-write_shrunk : goal.returns-in_err-write_shrunk
+returns-in_err-write_shrunk g c = does_found (shrink_asks c.args.self) _ _ _ _ _ _ _ _ refl refl c.in_ok-shrunk.ensures (completes_cut _ _ _ _ _ _ c.in_err-write_shrunk.ensures c.from_residual-in_err-write_shrunk.ensures.1)
+
+pub returns : goal.returns
+returns g c = does_found (shrink_asks c.args.self) _ _ _ _ _ _ _ _ refl refl c.in_ok-shrunk.ensures (completes_whole _ _ _ _ _ _ refl c.in_ok-write_shrunk.ensures)

@@ -1,11 +1,13 @@
-use Rattle.std.proofs.Common.{inl, inr, refl}
-use Rattle.tv_top.specs.Trialing.{no_look, trial_ends}
-use Rattle.tv_top.proofs.Answering.{answers_completed}
+use Rattle.std.proofs.Common.{Ok, refl}
+use Rattle.tv_top.specs.Trialing.{trial_asks, no_look, trial_ends}
+use Rattle.tv_top.proofs.Answering.{does_found, completes_nothing, completes_wanting}
 use Rattle.tv_top.proofs.Looking.{finds_still}
 use Rattle.tv_top.proofs.trialing.TrialArgs.perform.Goals as goal
 
-pub returns-in-Ok : goal.returns-in-Ok
-returns-in-Ok g c = answers_completed _ (λ (u : Unit {0}). u) (λ _. trial_ends c.args.self.seed c.args.self.k) no_look tt _ _ _ _ _ refl refl (tt, tt) (finds_still (λ _ _. refl)) (inl (rw c.in-Ok.ensures at c.finish.ensures))
+pub returns-in_err-trial : goal.returns-in_err-trial
+returns-in_err-trial g c =
+    does_found (trial_asks c.args.self) (λ (u : Unit {0}). u) (λ _. trial_ends c.args.self.seed c.args.self.k) no_look tt _ _ _ _ refl refl (finds_still (λ _ _. refl)) (completes_wanting _ _ _ _ c.from_residual.ensures.1)
 
-pub returns-in-Err : goal.returns-in-Err
-returns-in-Err g c = answers_completed _ (λ (u : Unit {0}). u) (λ _. trial_ends c.args.self.seed c.args.self.k) no_look tt _ _ _ _ _ refl refl (tt, tt) (finds_still (λ _ _. refl)) (inr c.conclude.ensures)
+pub returns : goal.returns
+returns g c =
+    does_found (trial_asks c.args.self) (λ (u : Unit {0}). u) (λ _. trial_ends c.args.self.seed c.args.self.k) no_look tt _ _ _ _ refl refl (finds_still (λ _ _. refl)) (completes_nothing _ _ (Ok _) _ (rw c.in_ok-trial.ensures refl))

@@ -1,0 +1,12 @@
+use Rattle.std.proofs.Common.{refl}
+use Rattle.tv_top.proofs.Answering.{completes_whole, completes_cut, completes_wanting}
+use Rattle.tv_top.proofs.listing.write_lines.Goals as goal
+
+pub returns-in_err-text : goal.returns-in_err-text
+returns-in_err-text g c = completes_wanting _ _ _ _ c.from_residual.ensures.1
+
+pub returns-in_err-write_files : goal.returns-in_err-write_files
+returns-in_err-write_files g c = completes_cut _ _ _ _ _ _ (rw (c.deref.ensures.value, c.in_ok-text.ensures) at c.in_err-write_files.ensures) c.from_residual-in_err-write_files.ensures.1
+
+pub returns : goal.returns
+returns g c = completes_whole _ _ _ _ _ _ refl (rw (c.deref.ensures.value, c.in_ok-text.ensures) at c.in_ok-write_files.ensures)
