@@ -22,3 +22,4 @@ pub mod DisassemblingClaim
 pub mod RunningClaim
 pub mod CheckingClaim
 pub mod ComesBack
+pub mod TapesComeBack

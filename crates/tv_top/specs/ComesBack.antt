@@ -1,9 +1,16 @@
--- What `asm` makes of what `disasm` writes.
-use Rattle.std.specs.Prelude.{◌≡◌, ℕ, ◌%◌, ◌/◌, ◌<◌, ◌≤◌, List, length, Ok, All}
-use Rattle.tv_core.specs.declared.limits.TheConstants.{TEXT_BYTES}
+-- What one command makes of what another one writes.
+use Rattle.std.specs.Prelude.{◌≡◌, ℕ, ◌%◌, ◌/◌, ◌<◌, ◌≤◌, List, ◌∷◌, length, Result, Ok, All}
+use Rattle.tv_core.specs.declared.limits.TheConstants.{STEPS, TAPE_WORDS, AUX_WORDS, TEXT_BYTES}
 use Rattle.tv_disasm.specs.Disassembly.{disassembly_of}
+use Rattle.tv_extract.specs.Runs.{IsRunOf}
+use Rattle.tv_extract.specs.declared.run.Run.{Run}
+use Rattle.tv_step.specs.Range.{AreWords}
+use Rattle.tv_tape.specs.Tape.{text_of}
 use Rattle.tv_top.specs.declared.programs.Width.{Width}
+use Rattle.tv_top.specs.declared.refusal.Bad.{Bad}
+use Rattle.tv_top.specs.Loading.{primary_in, aux_in}
 use Rattle.tv_top.specs.Programs.{bits, image_bytes_most, image_of}
+use Rattle.tv_top.specs.Tapes.{publics_in}
 
 -- what `disasm` writes of an image that it may read is a text that `asm` may read, whose image in bytes is
 -- that image again
@@ -11,3 +18,22 @@ abbrev pub ImageComesBack : Type 0
 ImageComesBack =
     (width : Width) (image : List ℕ) → All (λ b. b < 256) image → length image % (bits width / 4) ≡ 0 → length image ≤ image_bytes_most width
     → (length (disassembly_of (bits width) image) ≤ TEXT_BYTES) × (image_of (disassembly_of (bits width) image) ≡ Ok image)
+
+-- the text that `extract` writes of words of a width, as many as an auxiliary tape may have, isn't too long for a text
+abbrev pub TapeTextsFit : Type 0
+TapeTextsFit = (width : Width) (words : List ℕ) → AreWords (bits width) words → length words ≤ AUX_WORDS → length (text_of words) ≤ TEXT_BYTES
+
+-- the file of a tape that has that text, of at most so many words, is read as these words
+abbrev pub TapesComeBack : (Width → List ℕ → Result (List ℕ) Bad) → ℕ → Type 0
+TapesComeBack read most = (width : Width) (words : List ℕ) → AreWords (bits width) words → length words ≤ most → read width (text_of words) ≡ Ok words
+
+-- `run` and `witness` read the tapes of a run as they are, and `check` its answer with the primary tape
+pub record IsTaken (width : Width) (run : Run) : Type 0 where
+  pub tape : primary_in (bits width) (text_of run.tape) ≡ Ok run.tape
+  pub aux : aux_in (bits width) (text_of run.aux) ≡ Ok run.aux
+  pub publics : publics_in (text_of (run.answer ∷ run.tape)) ≡ Ok (run.answer ∷ run.tape)
+
+-- and so they do with each run that an assignment has, as `extract` writes it, N and T being within their limits
+abbrev pub ExtractedAreTaken : Type 0
+ExtractedAreTaken =
+    (width : Width) (image z : List ℕ) (n t : ℕ) (run : Run) → n ≤ TAPE_WORDS → t ≤ STEPS → IsRunOf (bits width) image n t z run → IsTaken width run

@@ -1,5 +1,5 @@
-//! The numbers of the limits, and what `asm` makes of what `disasm` writes.
-ghost use Rattle.std.specs.Prelude.{◌≡◌, ◌+◌, ◌-◌, ◌^◌};
+//! The numbers of the limits, and that what one command writes another one takes.
+ghost use Rattle.std.specs.Prelude.{◌≡◌, ◌≤◌, ◌+◌, ◌-◌, ◌^◌};
 ghost use Rattle.tv_core.specs.declared.combination.TheConstants.{TERMS};
 ghost use Rattle.tv_core.specs.declared.field.TheConstants.{P};
 ghost use Rattle.tv_core.specs.declared.limits.TheConstants.{STEPS, IMAGE_WORDS, IMAGE_WORDS_16};
@@ -8,8 +8,11 @@ ghost use Rattle.tv_core.specs.declared.limits.TheConstants.{TEXT_BYTES, DRAWS};
 ghost use Rattle.tv_core.specs.declared.limits.TheConstants.{TIME_BITS, CELL_BITS};
 ghost use Rattle.tv_core.specs.declared.limits.TheConstants.{TAPE_CELLS, NULL_CELL};
 ghost use Rattle.tv_shrink.specs.Answers.{most as system_terms};
-ghost use Rattle.tv_top.specs.ComesBack.{ImageComesBack};
-ghost use Rattle.tv_top.specs.Programs.{image_bytes_most};
+ghost use Rattle.tv_top.specs.ComesBack.{ImageComesBack, TapeTextsFit, TapesComeBack};
+ghost use Rattle.tv_top.specs.ComesBack.{ExtractedAreTaken};
+ghost use Rattle.tv_top.specs.Loading.{primary_in, aux_in};
+ghost use Rattle.tv_top.specs.Programs.{bits, image_bytes_most};
+ghost use Rattle.tv_top.specs.Tapes.{publics_in};
 ghost use Rattle.tv_top.specs.declared.programs.Width.TheVariants.{Bits16, Bits32};
 
 /// The numbers of the limits: the most steps, words of an image and bytes of its file, with words
@@ -41,4 +44,17 @@ pub fn limits_are_these()
 /// that image of it again, byte for byte.
 pub fn image_comes_back()
     ensures { ImageComesBack }
+{}
+
+/// The text that `extract` writes of a tape is within the limit of texts, and `run` and `witness`
+/// read the tape's words of it again, and `check`, of a text that has the answer before them. So
+/// they take the tapes of each run that `extract` tells: a run of `STEPS` steps takes fewer words.
+pub fn tapes_come_back()
+    ensures texts { TapeTextsFit }
+    ensures primary { TapesComeBack (λ width. primary_in (bits width)) TAPE_WORDS }
+    ensures aux { TapesComeBack (λ width. aux_in (bits width)) AUX_WORDS }
+    ensures publics { TapesComeBack (λ width. publics_in) CHECK_WORDS }
+    ensures extracted { ExtractedAreTaken }
+    ensures steps { STEPS ≤ AUX_WORDS + 1 }
+    ensures answer { TAPE_WORDS + 1 ≤ CHECK_WORDS }
 {}

@@ -28,6 +28,6 @@ mod witnessing;
 mod writing;
 
 pub use commands::command;
-pub use law::{image_comes_back, limits_are_these};
+pub use law::{image_comes_back, limits_are_these, tapes_come_back};
 pub use status::{NoWhy, NotRun, Status, What};
 pub use tv_draw::{Drawn, draw};

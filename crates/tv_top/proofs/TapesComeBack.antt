@@ -1,0 +1,111 @@
+-- The tapes that `extract` writes are read again.
+use Rattle.std.proofs.Common.{◌≡◌, ℕ, zero, suc, ◌-◌, ◌*◌, ◌^◌, ◌<◌, ◌≤◌, ◌==◌, Bool, true, false, List, [], ◌∷◌, length, All, Ok, refl, ap, arith}
+use Rattle.std.specs.Prelude.{slice_index}
+use Rattle.std.proofs.lemmas.Bool.{le-leb}
+use Rattle.std.proofs.lemmas.Fmt.{length-decimal-le}
+use Rattle.std.proofs.lemmas.List.{length-append}
+use Rattle.std.proofs.lemmas.List.Elements.{All-cons, All-head, All-tail, All-weaker}
+use Rattle.tv_block.specs.Block.{block_of}
+use Rattle.tv_block.specs.declared.records.Spot.{Spot}
+use Rattle.tv_core.proofs.JoinedLaws.{joined_below-zero, joined_below-suc}
+use Rattle.tv_core.specs.Below.{joined_below}
+use Rattle.tv_core.specs.declared.field.TheConstants.{P}
+use Rattle.tv_core.specs.declared.limits.TheConstants.{TAPE_WORDS, AUX_WORDS, CHECK_WORDS, TEXT_BYTES}
+use Rattle.tv_extract.specs.Runs.{IsRunOf}
+use Rattle.tv_extract.specs.declared.run.Run.{Run}
+use Rattle.tv_layout.specs.Layout.{taken_at, taken_of, block_at}
+use Rattle.tv_layout.specs.Places.{boot_count, zero_wire_at, first_at}
+use Rattle.tv_step.proofs.EndLaws.{end_answers}
+use Rattle.tv_step.proofs.RangeLaws.{start_in_range, run_keeps_range, answer_is_word}
+use Rattle.tv_step.specs.Machine.{start}
+use Rattle.tv_step.specs.Range.{AreWords}
+use Rattle.tv_tape.proofs.Texts.{comes_back}
+use Rattle.tv_tape.specs.Tape.{text_of}
+use Rattle.tv_top.proofs.Common.{Width, Bits16, Bits32, Size, bits}
+use Rattle.tv_top.specs.declared.refusal.Size.TheVariants.{TapeWords, AuxWords}
+use Rattle.tv_top.specs.ComesBack.{TapeTextsFit, TapesComeBack, ExtractedAreTaken}
+use Rattle.tv_top.specs.Loading.{primary_in, aux_in}
+use Rattle.tv_top.specs.Tapes.{numbers_of, numbers_in, publics_in}
+use Rattle.tv_top.proofs.ProgramLaws.{is_width}
+
+-- ---- texts
+
+-- words have at most 32 bits
+word_small : (width : Width) (word : ℕ) → word < 2 ^ bits width → word < 2 ^ 32
+word_small Bits16 word small = omega arith
+word_small Bits32 word small = small
+
+words_small : (width : Width) (words : List ℕ) → AreWords (bits width) words → AreWords 32 words
+words_small width words small = All-weaker (λ word. word < 2 ^ bits width) (λ word. word < 2 ^ 32) (word_small width) words small
+
+-- such words have at most ten digits each
+lines_short : (words : List ℕ) → AreWords 32 words → length (text_of words) ≤ 11 * length words
+lines_short [] small = omega arith
+lines_short (word ∷ more) small =
+    let below : word < 2 ^ 32 = All-head (λ v. v < 2 ^ 32) word more small in
+    let digits = length-decimal-le 10 word (omega arith) (omega arith) (omega arith) in
+    simp length-append (omega (arith, digits, lines_short more (All-tail (λ v. v < 2 ^ 32) word more small)))
+
+pub tape_texts_fit : TapeTextsFit
+tape_texts_fit width words small few = omega (arith, lines_short words (words_small width words small))
+
+-- a text of numbers below a bound is read as them
+read_back : (word : ℕ) (what : Size) (below most : ℕ) (words : List ℕ) → below ≤ 2 ^ 64 → All (λ v. v < below) words → length words ≤ most → length (text_of words) ≤ TEXT_BYTES
+    → numbers_in word what below most (text_of words) ≡ Ok words
+unfolding numbers_of
+read_back word what below most words wide small few short =
+    rw (le-leb (length (text_of words)) TEXT_BYTES short, comes_back words below most wide small few) refl
+
+bound_fits : (width : Width) → 2 ^ bits width ≤ 2 ^ 64
+bound_fits Bits16 = omega arith
+bound_fits Bits32 = omega arith
+
+pub primary_comes_back : TapesComeBack (λ width. primary_in (bits width)) TAPE_WORDS
+primary_comes_back width words small few =
+    read_back 2 TapeWords (2 ^ bits width) TAPE_WORDS words (bound_fits width) small few (tape_texts_fit width words small (omega arith))
+
+pub aux_comes_back : TapesComeBack (λ width. aux_in (bits width)) AUX_WORDS
+aux_comes_back width words small few =
+    read_back 3 AuxWords (2 ^ bits width) AUX_WORDS words (bound_fits width) small few (tape_texts_fit width words small few)
+
+pub publics_come_back : TapesComeBack (λ width. publics_in) CHECK_WORDS
+publics_come_back width words small few =
+    let below = All-weaker (λ v. v < 2 ^ 32) (λ v. v < P) (λ v h. omega arith) words (words_small width words small) in
+    read_back 3 TapeWords P CHECK_WORDS words (omega arith) below few (tape_texts_fit width words small (omega arith))
+
+-- ---- runs
+
+-- a step takes at most one word, and so many steps at most so many
+one_taken : (w : ℕ) (z : List ℕ) (spot : Spot) → length (taken_at (block_of w) z spot) ≤ 1
+one_taken w z spot = by_test (slice_index z spot.taken == 1) refl
+  where
+    by_test : (b : Bool) → (slice_index z spot.taken == 1) ≡ b → length (taken_at (block_of w) z spot) ≤ 1
+    by_test true is = rw is (omega arith)
+    by_test false is = rw is (omega arith)
+
+joined_few : (t : ℕ) (f : ℕ → List ℕ) → ((i : ℕ) → length (f i) ≤ 1) → length (joined_below t f) ≤ t
+joined_few zero f few = omega (arith, ap length (joined_below-zero f))
+joined_few (suc t) f few = omega (arith, ap length (joined_below-suc t f), length-append (joined_below t f) (f t), joined_few t f few, few t)
+
+few_taken : (w : ℕ) (image : List ℕ) (n t : ℕ) (z : List ℕ) → length (taken_of (block_of w) w image n t z) ≤ t
+unfolding taken_of
+few_taken w image n t z =
+    joined_few t (λ i. taken_at (block_of w) z (block_at (block_of w) n (boot_count image n) (zero_wire_at w n) (first_at w n) i).spot) (λ i. one_taken w z _)
+
+-- the answer of a run on tapes of words is a word
+answer_small : (width : Width) (image z : List ℕ) (n t : ℕ) (run : Run) → IsRunOf (bits width) image n t z run → run.answer < 2 ^ bits width
+answer_small width image z n t run is =
+    let w = bits width in
+    let from = start w image run.tape run.aux in
+    let ends = end_answers w t from run.answer run.step is.answers in
+    answer_is_word w (is_width width) _ run.answer (run_keeps_range w (is_width width) from (t - 1) (start_in_range w (is_width width) image run.tape run.aux is.tape_words is.aux_words)) ends.last
+
+pub extracted_are_taken : ExtractedAreTaken
+extracted_are_taken width image z n t run n_fits t_fits is =
+    let few : length run.aux ≤ t = rw is.aux (few_taken (bits width) image n t z) in
+    let publics : AreWords (bits width) (run.answer ∷ run.tape) = All-cons (λ v. v < 2 ^ bits width) run.answer run.tape (answer_small width image z n t run is) is.tape_words in
+    record {
+      tape = primary_comes_back width run.tape is.tape_words (omega (arith, is.many));
+      aux = aux_comes_back width run.aux is.aux_words (omega arith);
+      publics = publics_come_back width (run.answer ∷ run.tape) publics (omega (arith, is.many));
+    }
