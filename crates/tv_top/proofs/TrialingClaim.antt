@@ -38,7 +38,7 @@ trial_is seed k few =
     let is = drawn_is seed k few in
     let accepts = drawn_accepts k (image_drawn seed k) (tape_drawn seed k) (aux_drawn seed k) is in
     let fills = system_complete 32 Benes (image_drawn seed k) (tape_drawn seed k) (aux_drawn seed k) (k + 1) 0 (drawn_within k _ _ few is.image_words is.image_count is.tape_count) is.tape_words is.aux_words accepts in
-    record { accepts = accepts; fills = fills; satisfied = all_hold _ _ fills.sat.holds }
+    record { answers = is.answers; fills = fills; satisfied = all_hold _ _ fills.sat.holds }
 
 -- no file is read or written, so a fault is of saying
 stopped : (words seed k : ℕ) (old new : Outside) (result : Status) → Answers (Ok (trial_plan seed k)) words old new result → IsStopped [] old new result → Tries words seed k old new result

@@ -10,7 +10,8 @@ use Rattle.tv_draw.specs.Drawing.{image_drawn, tape_drawn, aux_drawn}
 use Rattle.tv_files.specs.Outside.{Names, Outside, Told}
 use Rattle.tv_layout.specs.Systems.{system_of, run_values}
 use Rattle.tv_layout.specs.Values.{IsFill}
-use Rattle.tv_step.specs.Machine.{Accepts}
+use Rattle.tv_step.specs.Machine.{start, end_of}
+use Rattle.tv_step.specs.declared.end.End.TheVariants.{Answer}
 use Rattle.tv_word.specs.Counts.{Rose}
 use Rattle.tv_word.specs.Numeral.{numeral}
 use Rattle.tv_top.specs.declared.refusal.Finish.TheVariants as finishes
@@ -66,10 +67,10 @@ trial_plan seed k = record {
 abbrev pub trial_asks : TrialArgs → Plan
 trial_asks args = trial_plan args.seed args.k
 
--- The drawn program answers 0 at its last step, the values satisfy its system and extend 0 and the tape, and so all
--- constraints hold.
+-- The drawn program answers 0 at step k + 1, and no earlier, the values satisfy its system and extend 0 and the tape, and
+-- so all constraints hold.
 pub record IsTrial (seed k : ℕ) : Type 0 where
-  pub accepts : Accepts 32 (image_drawn seed k) (tape_drawn seed k) (aux_drawn seed k) (k + 1) 0
+  pub answers : end_of 32 (k + 1) (start 32 (image_drawn seed k) (tape_drawn seed k) (aux_drawn seed k)) ≡ Answer 0 (k + 1)
   pub fills : IsFill 32 Benes (block_of 32) (image_drawn seed k) (tape_drawn seed k) (aux_drawn seed k) (k + 1) 0 (drawn_values seed k)
   pub satisfied : (trial_of seed k).satisfied ≡ (trial_of seed k).constraints
 
