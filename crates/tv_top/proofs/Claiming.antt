@@ -39,12 +39,12 @@ pub record Shows {A : Type 0} (gives : Result A Stop) (Held : Result A Bad → T
 -- how a call ended, by what is so of what was found
 abbrev Ended : {A : Type 0} → List Named → (A → Outcome) → (Result A Bad → Type 0) → Names → Outside → Outside → Status → Type 0
 Ended {A} places ends Held files old new result =
-    Answered places ends Held files new result ⊎ IsStopped places old new result
+    Answered places ends Held files old new result ⊎ IsStopped places old new result
 
 ended_by : {A : Type 0} (plan : Plan) (ends : A → Outcome) (look : Look A) (gives : Result A Stop) (Held : Result A Bad → Type 0) (words : ℕ) (files : Names) (old new : Outside) (result : Status) → look.gives ≡ gives →
     Answers (Ok plan) words old new result → IsHeld gives Held → IsAnswered (answer_by plan.writes (comes_by ends look)) files old new result → Ended plan.writes ends Held files old new result
-ended_by plan ends look (Ok x) Held words files old new result is answers holds answered = let due = rw is at answered in inl (record { held = Ok x; is = holds (Ok x) refl; status = due.status; contents = due.contents; read = due.read })
-ended_by plan ends look (Err (Contents bad)) Held words files old new result is answers holds answered = let due = rw is at answered in inl (record { held = Err bad; is = holds (Err bad) refl; status = due.status; contents = due.contents; read = tt })
+ended_by plan ends look (Ok x) Held words files old new result is answers holds answered = let due = rw is at answered in inl (record { held = Ok x; is = holds (Ok x) refl; status = due.status; contents = due.contents; read = due.read; said = due.said })
+ended_by plan ends look (Err (Contents bad)) Held words files old new result is answers holds answered = let due = rw is at answered in inl (record { held = Err bad; is = holds (Err bad) refl; status = due.status; contents = due.contents; read = tt; said = due.said })
 ended_by plan ends look (Err (Fault word)) Held words files old new result is answers holds answered = let due = rw is at answered in inr (stopped_by plan words old new result word answers due.status)
 ended_by plan ends look (Err Memory) Held words files old new result is answers holds answered = let due = rw is at answered in inr (inr due.status)
 

@@ -4,10 +4,13 @@ use Rattle.std.specs.Prelude.{◌≡◌, ℕ, ◌⊎◌, List, [], Option, Some,
 use Rattle.tv_files.specs.Outside.{Names, Outside}
 use Rattle.tv_word.specs.Counts.{Rose}
 use Rattle.tv_top.specs.declared.refusal.Bad.{Bad}
+use Rattle.tv_top.specs.declared.refusal.Ending.TheVariants.{Stopped, Finished}
+use Rattle.tv_top.specs.declared.refusal.Stop.TheVariants.{Contents}
 use Rattle.tv_top.specs.declared.status.Status.{Status}
 use Rattle.tv_top.specs.declared.status.Status.TheVariants.{FileFault, Memory}
 use Rattle.tv_top.specs.Answers.{words_of}
-use Rattle.tv_top.specs.Ends.{AreRead, files_with}
+use Rattle.tv_top.specs.Codes.{says}
+use Rattle.tv_top.specs.Ends.{AreRead, Said, files_with}
 use Rattle.tv_top.specs.Finds.{IsOneOf}
 use Rattle.tv_top.specs.Plan.{Named, Outcome, Write, files_of}
 use Rattle.tv_top.specs.Status.{bad_status, finish_status}
@@ -35,25 +38,31 @@ abbrev pub status_by : {A : Type 0} → (A → Outcome) → Result A Bad → Sta
 status_by ends (Ok x) = finish_status (ends x).finish
 status_by ends (Err bad) = bad_status bad
 
+-- the line where files hold this, unless nothing is said
+abbrev pub line_by : {A : Type 0} → (A → Outcome) → Result A Bad → Option (List ℕ)
+line_by ends (Ok x) = says (Finished (ends x).finish)
+line_by ends (Err bad) = says (Stopped (Contents bad))
+
 -- the files that are written where files hold this: none where it is refused
 abbrev pub written_by : {A : Type 0} → List Named → (A → Outcome) → Result A Bad → List Write
 written_by places ends (Ok x) = files_of places (ends x).files
 written_by places ends (Err bad) = []
 
--- The files held this, of which this is so: the answer goes by it, each file that is written holds what is
--- due and is read as that, and no other file changed.
+-- The files held this, of which this is so: the answer and the line that was said go by it, each file that is
+-- written holds what is due and is read as that, and no other file changed.
 pub record Answered {A : Type 0} (places : List Named) (ends : A → Outcome) (Held : Result A Bad → Type 0) (files : Names)
-    (new : Outside) (result : Status) : Type 0 where
+    (old new : Outside) (result : Status) : Type 0 where
   pub held : Result A Bad
   pub is : Held held
   pub status : result ≡ status_by ends held
   pub contents : new.contents ≡ files_with (written_by places ends held) (Some files)
   pub read : AreRead (written_by places ends held)
+  pub said : Said old new (line_by ends held)
 
 -- What a call comes to over files that told their contents: they held something, or were refused for
--- something, of which this is so, and the answer and what the files hold after the call go by it; or it was
+-- something, of which this is so, and the answer, the line and what the files hold after the call go by it; or it was
 -- stopped. And whatever this is so of goes with its own answer: each answer comes exactly where it is due.
 pub record Comes {A : Type 0} (places : List Named) (ends : A → Outcome) (Held : Result A Bad → Type 0) (files : Names)
     (old new : Outside) (result : Status) : Type 0 where
-  pub ended : Answered places ends Held files new result ⊎ IsStopped places old new result
+  pub ended : Answered places ends Held files old new result ⊎ IsStopped places old new result
   pub exactly : (held : Result A Bad) → Held held → (result ≡ status_by ends held) ⊎ IsStopped places old new result
