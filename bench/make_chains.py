@@ -5,10 +5,12 @@ usage: make_chains.py KIND FOLDER TERMS
 
 `rounds`: rounds of a cipher in components. Each round's input is a wire of its own that is equal to the output before it,
 the sum of it, the key and a constant is another, and its fifth power takes three products; so of six constraints, of 20
-terms, three are linear. `chain`: each wire is one more than the wire before it. The numbers are the same at each run.
+terms, three are linear. `chain`: each wire is one more than the wire before it. `dense`: each constraint is linear, over
+60 of 120 wires. The numbers are the same at each run.
 """
 
 import pathlib
+import random
 import struct
 import sys
 
@@ -67,7 +69,16 @@ def chain(count, values):
         yield 4, equal([(0, 1), (w - 1, 1)], w)
 
 
-KINDS = {"rounds": (rounds, 20), "chain": (chain, 4)}
+def dense(count, values):
+    """The constraints of a dense linear system, each with its terms."""
+    numbers = random.Random(1)
+    values += [numbers.randrange(P) for _ in range(120)]
+    for _ in range(count):
+        terms = [(wire, numbers.randrange(1, P)) for wire in sorted(numbers.sample(range(3, 123), 60))]
+        yield 62, row([(0, 1)], terms, [(0, sum(by * values[wire] for wire, by in terms) % P)])
+
+
+KINDS = {"rounds": (rounds, 20), "chain": (chain, 4), "dense": (dense, 62)}
 
 
 def main(kind, folder, most):
