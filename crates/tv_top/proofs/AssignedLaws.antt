@@ -12,7 +12,7 @@ use Rattle.tv_top.specs.declared.refusal.Finish.TheVariants.{NotARun}
 use Rattle.tv_top.specs.declared.status.NotRun.{NotRun}
 use Rattle.tv_top.specs.Building.{program_system}
 use Rattle.tv_top.specs.Containers.{witness_in}
-use Rattle.tv_top.specs.Extracting.{Assigned, assigned_of, assigned_run, not_run, not_run_ends, run_ends, HasAssigned}
+use Rattle.tv_top.specs.Assigned.{Assigned, assigned_of, assigned_run, not_run, not_run_ends, run_ends, HasAssigned}
 use Rattle.tv_top.proofs.Answering.{completes_nothing}
 use Rattle.tv_top.proofs.Claiming.{Shows, if_ok, shows_input, shows_then, shows_made, shows_more}
 use Rattle.tv_top.proofs.ProgramLaws.{has_image, within_limits}

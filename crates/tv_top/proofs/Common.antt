@@ -13,7 +13,7 @@ pub use Rattle.tv_top.specs.declared.refusal.Stop.TheVariants.{Fault, Memory, Co
 pub use Rattle.tv_top.specs.declared.refusal.Ending.TheVariants.{Refused, Stopped, Finished}
 pub use Rattle.tv_top.specs.declared.status.Status.{Status}
 pub use Rattle.tv_top.specs.declared.status.What.{What}
-pub use Rattle.tv_top.specs.declared.loading.Inputs.{Inputs}
+pub use Rattle.tv_top.specs.declared.inputs.Inputs.{Inputs}
 pub use Rattle.tv_top.specs.declared.programs.Program.{Program}
 pub use Rattle.tv_top.specs.declared.programs.Width.{Width}
 pub use Rattle.tv_top.specs.declared.programs.Width.TheVariants.{Bits16, Bits32}

@@ -1,6 +1,7 @@
 -- `extract`: what it promises.
 use Rattle.std.proofs.Common.{refl, arith}
-use Rattle.tv_top.specs.Extracting.{assigned_of, extract_ends, extract_plan, HasAssigned, OnExtract}
+use Rattle.tv_top.specs.Assigned.{assigned_of, HasAssigned}
+use Rattle.tv_top.specs.Extracting.{extract_ends, extract_plan, OnExtract}
 use Rattle.tv_top.specs.Plan.{name_at}
 use Rattle.tv_top.proofs.AssignedLaws.{assigned_shown}
 use Rattle.tv_top.proofs.Claiming.{Promises, comes}

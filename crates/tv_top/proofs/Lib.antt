@@ -8,7 +8,7 @@ pub mod Answering
 pub mod Claiming
 pub mod Streaming
 pub mod ProgramLaws
-pub mod LoadingLaws
+pub mod InputLaws
 pub mod AssignedLaws
 pub mod Plans
 pub mod AssemblingClaim

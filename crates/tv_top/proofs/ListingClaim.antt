@@ -3,7 +3,7 @@ use Rattle.std.proofs.Common.{refl, arith}
 use Rattle.tv_benes.specs.declared.shape.Net.TheVariants.{Benes}
 use Rattle.tv_listing.proofs.Traces.{satisfying_are_listed}
 use Rattle.tv_top.specs.Building.{program_system}
-use Rattle.tv_top.specs.Extracting.{assigned_of}
+use Rattle.tv_top.specs.Assigned.{assigned_of}
 use Rattle.tv_top.specs.Listing.{listing_ends, listing_plan, HasListed, OnListing}
 use Rattle.tv_top.specs.Plan.{name_at}
 use Rattle.tv_top.specs.Programs.{bits}

@@ -6,7 +6,7 @@ use Rattle.tv_top.specs.declared.job.Job.TheVariants.{Run, Build, Witness, Extra
 use Rattle.tv_top.specs.declared.refusal.Quantity.TheVariants.{Steps}
 use Rattle.tv_top.specs.Building.{size_amounts}
 use Rattle.tv_top.specs.Form.{plan_of}
-use Rattle.tv_top.specs.Loading.{input_sizes}
+use Rattle.tv_top.specs.Inputs.{input_sizes}
 use Rattle.tv_top.proofs.Answering.{AreApart}
 use Rattle.tv_top.proofs.Common.{program_sizes}
 

@@ -13,7 +13,7 @@ use Rattle.tv_tape.proofs.Narrowing.{numbers_below, numbers_few}
 use Rattle.tv_tape.specs.Tape.{tape_of}
 use Rattle.tv_tape.specs.declared.items.TapeFault.{TapeFault}
 use Rattle.tv_word.specs.Widths.{IsWidth}
-use Rattle.tv_top.specs.Loading.{AreInputs, HasInputs}
+use Rattle.tv_top.specs.Inputs.{AreInputs, HasInputs}
 use Rattle.tv_top.specs.Finds.{made_by}
 use Rattle.tv_top.specs.Tapes.{tape_stop, numbers_of, numbers_in}
 use Rattle.tv_top.proofs.Common.{Names, Inputs, Amount, Program, Width, Bits16, Bits32, Bad, Refusal, Size, Holds, Named, AreWithin, same_of, limit_of, refusal_of, within, HasImage, bits, image_words, width_told, program_result, program_by, program_of, program_in}

@@ -4,10 +4,10 @@ use Rattle.tv_step.specs.Machine.{start, Accepts}
 use Rattle.tv_step.specs.declared.end.End.TheVariants.{Answer}
 use Rattle.tv_step.proofs.EndLaws.{answer_is_within}
 use Rattle.tv_top.proofs.Common.{Inputs, name_at, bits}
-use Rattle.tv_top.specs.Loading.{inputs_of, run_end}
+use Rattle.tv_top.specs.Inputs.{inputs_of, run_end}
 use Rattle.tv_top.specs.Running.{run_plan, run_ends, HasRun, OnRun}
 use Rattle.tv_top.proofs.Claiming.{Promises, comes, if_ok, shows_more}
-use Rattle.tv_top.proofs.LoadingLaws.{inputs_shown}
+use Rattle.tv_top.proofs.InputLaws.{inputs_shown}
 
 -- an answer is what the machine accepts by
 pub accepted : (steps : ℕ) (inputs : Inputs) (value step : ℕ) → run_end steps inputs ≡ Answer value step → Accepts (bits inputs.program.width) inputs.program.words inputs.tape inputs.aux steps value

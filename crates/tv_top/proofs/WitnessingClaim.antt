@@ -14,10 +14,10 @@ use Rattle.tv_fill.specs.Filled.{Filled, IsFilling, IsUnfilled}
 use Rattle.tv_fill.specs.declared.fault.FillFault.{FillFault}
 use Rattle.tv_fill.specs.declared.fault.FillFault.TheVariants as fills
 use Rattle.tv_top.specs.Kinds.{is_witness}
-use Rattle.tv_top.specs.Loading.{inputs_of, AreInputs}
+use Rattle.tv_top.specs.Inputs.{inputs_of, AreInputs}
 use Rattle.tv_top.specs.Witnessing.{no_run, program_values, witness_by, witness_ends, witness_plan, IsWitness, HasWitness, OnWitness}
 use Rattle.tv_top.proofs.Claiming.{Promises, comes, if_ok, shows_more}
-use Rattle.tv_top.proofs.LoadingLaws.{inputs_shown}
+use Rattle.tv_top.proofs.InputLaws.{inputs_shown}
 use Rattle.tv_top.proofs.ProgramLaws.{within_limits, inputs_are}
 use Rattle.tv_top.proofs.RunningClaim.{accepted}
 

@@ -12,11 +12,12 @@ pub mod Tapes
 pub mod Containers
 pub mod Assembling
 pub mod Disassembling
-pub mod Loading
+pub mod Inputs
 pub mod Running
 pub mod Checking
 pub mod Building
 pub mod Witnessing
+pub mod Assigned
 pub mod Extracting
 pub mod Trialing
 pub mod Shrinking

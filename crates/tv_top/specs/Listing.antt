@@ -16,7 +16,7 @@ use Rattle.tv_top.specs.declared.refusal.Bad.{Bad}
 use Rattle.tv_top.specs.declared.status.Status.{Status}
 use Rattle.tv_top.specs.Building.{program_system, size_amounts}
 use Rattle.tv_top.specs.Claims.{Comes}
-use Rattle.tv_top.specs.Extracting.{Assigned, assigned_of, assigned_run, run_ends, HasAssigned}
+use Rattle.tv_top.specs.Assigned.{Assigned, assigned_of, assigned_run, run_ends, HasAssigned}
 use Rattle.tv_top.specs.Kinds.{is_listing}
 use Rattle.tv_top.specs.Plan.{Named, Plan, Outcome, named, comes_by, one_name, writes_bytes}
 use Rattle.tv_top.specs.Programs.{bits, program_sizes}

@@ -5,7 +5,7 @@ use Rattle.tv_step.specs.Machine.{Accepts}
 use Rattle.tv_step.specs.declared.end.End.TheVariants.{Answer}
 use Rattle.tv_core.specs.declared.limits.TheConstants.{STEPS}
 use Rattle.tv_word.specs.Numeral.{numeral}
-use Rattle.tv_top.specs.declared.loading.Inputs.{Inputs}
+use Rattle.tv_top.specs.declared.inputs.Inputs.{Inputs}
 use Rattle.tv_top.specs.declared.refusal.Bad.{Bad}
 use Rattle.tv_top.specs.declared.refusal.Finish.TheVariants.{Run}
 use Rattle.tv_top.specs.declared.refusal.Quantity.TheVariants.{Steps}
@@ -13,7 +13,7 @@ use Rattle.tv_top.specs.declared.running.RunArgs.{RunArgs}
 use Rattle.tv_top.specs.declared.status.Status.{Status}
 use Rattle.tv_top.specs.Claims.{Comes}
 use Rattle.tv_top.specs.Kinds.{is_run}
-use Rattle.tv_top.specs.Loading.{inputs_of, input_sizes, run_end, HasInputs}
+use Rattle.tv_top.specs.Inputs.{inputs_of, input_sizes, run_end, HasInputs}
 use Rattle.tv_top.specs.Plan.{Named, Plan, Outcome, named, comes_by}
 use Rattle.tv_top.specs.Programs.{bits}
 

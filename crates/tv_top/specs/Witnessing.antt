@@ -13,7 +13,7 @@ use Rattle.tv_step.specs.Machine.{Accepts}
 use Rattle.tv_step.specs.declared.end.End.{End}
 use Rattle.tv_step.specs.declared.end.End.TheVariants.{Answer, Undefined, Silent}
 use Rattle.tv_word.specs.Numeral.{numeral}
-use Rattle.tv_top.specs.declared.loading.Inputs.{Inputs}
+use Rattle.tv_top.specs.declared.inputs.Inputs.{Inputs}
 use Rattle.tv_top.specs.declared.refusal.Bad.{Bad}
 use Rattle.tv_top.specs.declared.refusal.Finish.{Finish}
 use Rattle.tv_top.specs.declared.refusal.Finish.TheVariants.{Quiet, NoRun}
@@ -26,7 +26,7 @@ use Rattle.tv_top.specs.Building.{net_word}
 use Rattle.tv_top.specs.Claims.{Comes}
 use Rattle.tv_top.specs.Contents.{Content.{Values}}
 use Rattle.tv_top.specs.Kinds.{is_witness}
-use Rattle.tv_top.specs.Loading.{inputs_of, input_sizes, run_end, HasInputs}
+use Rattle.tv_top.specs.Inputs.{inputs_of, input_sizes, run_end, HasInputs}
 use Rattle.tv_top.specs.Plan.{Named, Plan, Outcome, named, comes_by, one_name}
 use Rattle.tv_top.specs.Programs.{bits}
 

@@ -8,7 +8,7 @@ ghost use Rattle.tv_top.specs.Form.{asm_form};
 ghost use Rattle.tv_top.specs.Plan.{input, named, refusal_of};
 ghost use Rattle.tv_top.specs.Programs.{image_bytes, image_of, program_sizes};
 
-use crate::inputs::limited_bytes;
+use crate::bytes::limited_bytes;
 use crate::place::{Place, Write, refusal_of};
 use crate::programs::{Program, program_of};
 use crate::refusal::{Finish, Refusal, Size, Stop};

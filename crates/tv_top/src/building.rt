@@ -5,20 +5,19 @@ ghost use Rattle.std.specs.Prelude.{Some, None, MatchOption};
 ghost use Rattle.tv_layout.specs.Places.{WithinLimits};
 ghost use Rattle.tv_layout.specs.Systems.{system_of};
 ghost use Rattle.tv_top.specs.Answers.{Does};
-ghost use Rattle.tv_top.specs.Building.{build_asks, net_word, program_system, size_amounts};
+ghost use Rattle.tv_top.specs.Building.{build_asks, program_system};
 ghost use Rattle.tv_top.specs.Contents.{Content.{Constraints}};
 ghost use Rattle.tv_top.specs.Ends.{Writes};
 ghost use Rattle.tv_top.specs.Form.{build_form};
 ghost use Rattle.tv_top.specs.Plan.{AreWithin, named, one_write, refusal_of};
 ghost use Rattle.tv_top.specs.Programs.{HasImage};
 
-use crate::place::{Amount, Place, refusal_of};
+use crate::place::{Place, net_word, refusal_of, size_amounts};
 use crate::programs::{Program, Width, read_program};
-use crate::refusal::{Finish, Quantity, Refusal, Stop};
+use crate::refusal::{Finish, Refusal, Stop};
 use crate::writing::{sink_stop, streamed};
 use std::alloc::Global;
 use tv_benes::Net;
-use tv_core::limits::TAPE_WORDS;
 use tv_files::Files;
 use tv_layout::{emit_system, sizes};
 use tv_r1cs_write::StreamSink;
@@ -74,17 +73,6 @@ impl<'a> BuildArgs<'a> {
     }
 }
 
-/// The network that the words behind those of a command tell, which may be none or `waksman`.
-pub(crate) fn net_word(last: &[String]) -> Option<Net>
-    ensures { result ≡ net_word (map string_bytes last.now) }
-{
-    match last {
-        [] => Some(Net::Benes),
-        [word] if word.as_str() == "waksman" => Some(Net::Waksman),
-        _ => None,
-    }
-}
-
 /// Writes the system of the runs of an image, its constraints as they come.
 fn write_layout<const W: u32, D: Files>(
     files: &mut D,
@@ -124,17 +112,4 @@ fn write_system<D: Files>(files: &mut D, args: BuildArgs<'_>, program: &Program)
         Width::Bits16 => write_layout::<16, D>(files, args.system, image, n, t, args.net),
         Width::Bits32 => write_layout::<32, D>(files, args.system, image, n, t, args.net),
     }
-}
-
-/// How many words the tape has, and how many steps there are at most.
-pub(crate) fn size_amounts(n: u64, t: u64) -> [Amount; 2]
-    ensures { result ≡ size_amounts n t }
-{
-    let tape_words = Amount {
-        what: Quantity::TapeWords,
-        has: n,
-        least: 0,
-        most: u64::from(TAPE_WORDS),
-    };
-    [tape_words, Amount::steps(t)]
 }

@@ -9,7 +9,7 @@ ghost use Rattle.tv_top.specs.Form.{disasm_form};
 ghost use Rattle.tv_top.specs.Plan.{input, named, refusal_of};
 ghost use Rattle.tv_top.specs.Programs.{bits};
 
-use crate::inputs::limited_bytes;
+use crate::bytes::limited_bytes;
 use crate::place::{Place, Write, refusal_of};
 use crate::programs::Width;
 use crate::refusal::{Finish, Refusal, Size, Stop};

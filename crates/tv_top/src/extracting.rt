@@ -1,30 +1,21 @@
 //! `extract TEXT N T WITNESS TAPE AUX`, which may have one more word, `waksman`: the run that an
 //! assignment of a program's system has.
-ghost use Rattle.std.specs.Prelude.{◌≡◌, ◌⊎◌, ◌≤◌, [], ◌∷◌, map, string_bytes};
-ghost use Rattle.std.specs.Prelude.{Some, None, MatchOption, Ok, Err, IfOk, IfErr};
-ghost use Rattle.tv_core.specs.declared.limits.TheConstants.{TAPE_WORDS, STEPS};
-ghost use Rattle.tv_extract.specs.declared.run.ExtractFault.TheVariants as faults;
+ghost use Rattle.std.specs.Prelude.{◌≡◌, [], ◌∷◌, map, string_bytes, IfOk};
+ghost use Rattle.std.specs.Prelude.{Some, None, MatchOption};
 ghost use Rattle.tv_tape.specs.Tape.{text_of};
 ghost use Rattle.tv_top.specs.Answers.{Does};
 ghost use Rattle.tv_top.specs.Ends.{Completes};
-ghost use Rattle.tv_top.specs.Extracting.{assigned_in, assigned_of, assigned_run};
-ghost use Rattle.tv_top.specs.Extracting.{extract_asks, not_run, run_written};
-ghost use Rattle.tv_top.specs.Finds.{Finds};
+ghost use Rattle.tv_top.specs.Extracting.{extract_asks, run_written};
 ghost use Rattle.tv_top.specs.Form.{extract_form};
 ghost use Rattle.tv_top.specs.Plan.{AreWithin, named, refusal_of};
-ghost use Rattle.tv_top.specs.Programs.{HasImage, program_sizes};
 
-use crate::building::{net_word, size_amounts};
-use crate::containers::read_witness;
-use crate::place::{Place, Write, refusal_of};
-use crate::programs::{Program, Width, read_program};
+use crate::assigned::{not_run, read_assigned, run_of};
+use crate::place::{Place, Write, net_word, refusal_of, size_amounts};
 use crate::refusal::{Finish, Refusal, Stop};
-use crate::status::NotRun;
 use crate::writing::write_files;
 use std::alloc::{AllocError, Global};
 use tv_benes::Net;
-use tv_core::F;
-use tv_extract::{ExtractFault, Run, extract};
+use tv_extract::Run;
 use tv_files::Files;
 use tv_step::End;
 use tv_tape::tape_text;
@@ -86,56 +77,6 @@ impl<'a> ExtractArgs<'a> {
     }
 }
 
-/// A program, and an assignment of its system.
-#[derive(Drop)]
-pub(crate) struct Assignment {
-    pub(crate) program: Program,
-    pub(crate) values: Vec<F>,
-}
-
-/// A program, and then an assignment of its system.
-pub(crate) fn read_assigned<D: Files>(
-    alloc: Global,
-    files: &mut D,
-    text: Place<'_>,
-    witness: Place<'_>,
-) -> Result<Assignment, Stop>
-    ensures found { Finds assigned_in (text.entry.word ∷ witness.entry.word ∷ []) program_sizes
-        (assigned_of (named text.entry) (named witness.entry))
-        (D.seen files.old) (D.seen files.new) result }
-    ensures fits { IfOk result (λ assigned. HasImage assigned.program) }
-{
-    let program = read_program(alloc, files, text)?;
-    let values = read_witness(alloc, files, witness)?;
-    Ok(Assignment { program, values })
-}
-
-/// The run that an assignment has.
-#[tactic(auto, unfolding(crate::specs::Extracting::assigned_run))]
-pub(crate) fn run_of(
-    alloc: Global,
-    assigned: &Assignment,
-    n: u32,
-    t: u32,
-    net: Net,
-) -> Result<Run, ExtractFault>
-    requires image { HasImage assigned.now.program }
-    requires tape { n ≤ TAPE_WORDS }
-    requires some { 1 ≤ t }
-    requires few { t ≤ STEPS }
-    ensures run { IfOk result (λ run.
-        assigned_run net n t (assigned_in assigned.now) ≡ Ok run) }
-    ensures fault { IfErr result (λ fault. (fault ≡ faults.Memory)
-        ⊎ (assigned_run net n t (assigned_in assigned.now) ≡ Err fault)) }
-{
-    let image = assigned.program.words.as_slice();
-    let values = assigned.values.as_slice();
-    match assigned.program.width {
-        Width::Bits16 => extract::<16>(alloc, image, n, t, net, values),
-        Width::Bits32 => extract::<32>(alloc, image, n, t, net, values),
-    }
-}
-
 /// The texts of a run's tapes.
 #[derive(Drop)]
 struct Texts {
@@ -177,17 +118,4 @@ fn write_run<D: Files>(
         value: run.answer,
         step: run.step,
     }))
-}
-
-/// The end where an assignment has no run, unless memory was wanting.
-pub(crate) fn not_run(fault: ExtractFault) -> Result<Finish, Stop>
-    ensures { result ≡ not_run fault }
-{
-    let why = match fault {
-        ExtractFault::WireCount { has, wants } => NotRun::WireCount { has, wants },
-        ExtractFault::WideWire { at } => NotRun::WideWire { at },
-        ExtractFault::NotARun { end } => NotRun::NotARun { end },
-        ExtractFault::Memory => return Err(Stop::Memory),
-    };
-    Ok(Finish::NotARun(why))
 }

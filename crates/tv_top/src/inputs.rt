@@ -1,34 +1,43 @@
-//! Whole files that may have so many bytes.
-ghost use Rattle.std.specs.Prelude.{◌+◌, ◌<◌, ◌^◌, [], ◌∷◌};
-ghost use Rattle.tv_top.specs.Finds.{Finds, limited_look};
+//! A program and the two tapes of its run, each read and judged before the next.
+ghost use Rattle.std.specs.Prelude.{[], ◌∷◌, IfOk};
+ghost use Rattle.tv_top.specs.Finds.{Finds};
+ghost use Rattle.tv_top.specs.Inputs.{AreInputs, input_sizes, inputs_of};
 ghost use Rattle.tv_top.specs.Plan.{named};
 
 use crate::place::Place;
-use crate::refusal::{Bad, Size, Stop};
+use crate::programs::{Program, read_program};
+use crate::refusal::{Size, Stop};
+use crate::tapes::read_words;
 use std::alloc::Global;
-use tv_files::{Files, Slurp, slurp};
+use tv_core::limits::{AUX_WORDS, TAPE_WORDS};
+use tv_files::Files;
+use tv_word::Words;
 
-/// The whole file of this name, which may have `most` bytes of this quantity.
-pub(crate) fn limited_bytes<D: Files>(
+/// A program and the tapes of its run.
+#[derive(Drop)]
+pub(crate) struct Inputs {
+    pub(crate) program: Program,
+    pub(crate) tape: Words,
+    pub(crate) aux: Words,
+}
+
+/// A program, and then the two tapes.
+pub(crate) fn read_inputs<D: Files>(
     alloc: Global,
     files: &mut D,
-    place: Place<'_>,
-    what: Size,
-    most: u64,
-) -> Result<Vec<u8>, Stop>
-    requires { most + 1 < 2 ^ 64 }
-    ensures { let place = named place.entry in
-        Finds (λ v. v.items) (place.word ∷ []) (what ∷ []) (limited_look place what most)
+    text: Place<'_>,
+    tape: Place<'_>,
+    aux: Place<'_>,
+) -> Result<Inputs, Stop>
+    ensures found { Finds (λ inputs. inputs)
+        (text.entry.word ∷ tape.entry.word ∷ aux.entry.word ∷ []) input_sizes
+        (inputs_of (named text.entry) (named tape.entry) (named aux.entry))
         (D.seen files.old) (D.seen files.new) result }
+    ensures fit { IfOk result AreInputs }
 {
-    match slurp(alloc, files, place.name, most) {
-        Ok(bytes) => Ok(bytes),
-        Err(Slurp::TooLong { .. }) => Err(Stop::Contents(Bad::Limit {
-            what,
-            has: most + 1,
-            most,
-        })),
-        Err(Slurp::Fault) => Err(Stop::Fault { word: place.word }),
-        Err(Slurp::Memory) => Err(Stop::Memory),
-    }
+    let program = read_program(alloc, files, text)?;
+    let below = program.width.word_bound();
+    let tape = read_words(alloc, files, tape, Size::TapeWords, below, TAPE_WORDS)?;
+    let aux = read_words(alloc, files, aux, Size::AuxWords, below, AUX_WORDS)?;
+    Ok(Inputs { program, tape, aux })
 }

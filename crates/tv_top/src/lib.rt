@@ -3,7 +3,9 @@
 #![tactic(auto)]
 
 mod assembling;
+mod assigned;
 mod building;
+mod bytes;
 mod checking;
 mod commands;
 mod containers;
@@ -14,7 +16,6 @@ mod job;
 mod law;
 mod line;
 mod listing;
-mod loading;
 mod place;
 mod programs;
 mod reasons;

@@ -4,16 +4,15 @@ ghost use Rattle.std.specs.Prelude.{◌≡◌, ◌≤◌, [], ◌∷◌, map, st
 ghost use Rattle.std.specs.Prelude.{Some, None, MatchOption};
 ghost use Rattle.tv_top.specs.Answers.{Does};
 ghost use Rattle.tv_top.specs.Ends.{Completes};
-ghost use Rattle.tv_top.specs.Extracting.{assigned_in};
+ghost use Rattle.tv_top.specs.Assigned.{assigned_in};
 ghost use Rattle.tv_top.specs.Form.{listing_form};
 ghost use Rattle.tv_top.specs.Listing.{assigned_text, by_word, lines_written};
 ghost use Rattle.tv_top.specs.Listing.{listing_asks};
 ghost use Rattle.tv_top.specs.Plan.{AreWithin, named, refusal_of};
 ghost use Rattle.tv_top.specs.Programs.{HasImage};
 
-use crate::building::size_amounts;
-use crate::extracting::{Assignment, not_run, read_assigned, run_of};
-use crate::place::{Place, Write, refusal_of};
+use crate::assigned::{Assignment, not_run, read_assigned, run_of};
+use crate::place::{Place, Write, refusal_of, size_amounts};
 use crate::programs::Width;
 use crate::refusal::{Finish, Refusal, Stop};
 use crate::writing::write_files;

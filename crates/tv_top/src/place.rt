@@ -1,11 +1,13 @@
-//! The names and quantities that words tell, and what they are refused for.
-ghost use Rattle.std.specs.Prelude.{◌≡◌, map};
+//! The names, quantities and networks that words tell, and what words are refused for.
+ghost use Rattle.std.specs.Prelude.{◌≡◌, map, string_bytes};
 ghost use Rattle.tv_core.specs.declared.limits.TheConstants.{STEPS};
 ghost use Rattle.tv_top.specs.declared.refusal.Quantity.TheVariants.{Steps};
+ghost use Rattle.tv_top.specs.Building.{net_word, size_amounts};
 ghost use Rattle.tv_top.specs.Plan.{named, same_in, same_of, limit_of, refusal_of};
 
 use crate::refusal::{Quantity, Refusal};
-use tv_core::limits::STEPS;
+use tv_benes::Net;
+use tv_core::limits::{STEPS, TAPE_WORDS};
 
 /// A word that is a file's name.
 #[derive(Clone, Copy)]
@@ -50,6 +52,30 @@ impl Amount {
             least: 1,
             most: u64::from(STEPS),
         }
+    }
+}
+
+/// How many words the tape has, and how many steps there are at most.
+pub(crate) fn size_amounts(n: u64, t: u64) -> [Amount; 2]
+    ensures { result ≡ size_amounts n t }
+{
+    let tape_words = Amount {
+        what: Quantity::TapeWords,
+        has: n,
+        least: 0,
+        most: u64::from(TAPE_WORDS),
+    };
+    [tape_words, Amount::steps(t)]
+}
+
+/// The network that the words behind those of a command tell, which may be none or `waksman`.
+pub(crate) fn net_word(last: &[String]) -> Option<Net>
+    ensures { result ≡ net_word (map string_bytes last.now) }
+{
+    match last {
+        [] => Some(Net::Benes),
+        [word] if word.as_str() == "waksman" => Some(Net::Waksman),
+        _ => None,
     }
 }
 

@@ -7,7 +7,7 @@ ghost use Rattle.tv_top.specs.Plan.{input, named};
 ghost use Rattle.tv_top.specs.Programs.{HasImage, bits, image_bytes_most, width_told};
 ghost use Rattle.tv_top.specs.Programs.{program_of, program_in, program_sizes};
 
-use crate::inputs::limited_bytes;
+use crate::bytes::limited_bytes;
 use crate::place::Place;
 use crate::refusal::{Size, Stop};
 use std::alloc::Global;

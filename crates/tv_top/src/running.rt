@@ -6,11 +6,11 @@ ghost use Rattle.tv_step.specs.Range.{AreWords};
 ghost use Rattle.tv_word.specs.Widths.{IsWidth};
 ghost use Rattle.tv_top.specs.Answers.{Does};
 ghost use Rattle.tv_top.specs.Form.{run_form};
-ghost use Rattle.tv_top.specs.Loading.{AreInputs, run_end};
+ghost use Rattle.tv_top.specs.Inputs.{AreInputs, run_end};
 ghost use Rattle.tv_top.specs.Plan.{refusal_of};
 ghost use Rattle.tv_top.specs.Running.{run_asks};
 
-use crate::loading::{Inputs, read_inputs};
+use crate::inputs::{Inputs, read_inputs};
 use crate::place::{Amount, Place, refusal_of};
 use crate::programs::Width;
 use crate::refusal::{Finish, Refusal, Stop};

@@ -6,7 +6,7 @@ ghost use Rattle.tv_top.specs.Finds.{Finds};
 ghost use Rattle.tv_top.specs.Plan.{input, named};
 ghost use Rattle.tv_top.specs.Tapes.{AreTold, tape_stop, numbers_in, publics_in, tape_sizes};
 
-use crate::inputs::limited_bytes;
+use crate::bytes::limited_bytes;
 use crate::place::Place;
 use crate::refusal::{Bad, Size, Stop};
 use std::alloc::{AllocError, Global};

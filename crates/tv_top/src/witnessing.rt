@@ -6,14 +6,13 @@ ghost use Rattle.tv_top.specs.Answers.{Does};
 ghost use Rattle.tv_top.specs.Contents.{Content.{Values}};
 ghost use Rattle.tv_top.specs.Ends.{Completes, Writes};
 ghost use Rattle.tv_top.specs.Form.{witness_form};
-ghost use Rattle.tv_top.specs.Loading.{AreInputs};
+ghost use Rattle.tv_top.specs.Inputs.{AreInputs};
 ghost use Rattle.tv_top.specs.Plan.{AreWithin, named, one_write, refusal_of};
 ghost use Rattle.tv_top.specs.Programs.{bits};
 ghost use Rattle.tv_top.specs.Witnessing.{no_run, witness_asks, witness_ends};
 
-use crate::building::net_word;
-use crate::loading::{Inputs, read_inputs};
-use crate::place::{Amount, Place, refusal_of};
+use crate::inputs::{Inputs, read_inputs};
+use crate::place::{Amount, Place, net_word, refusal_of};
 use crate::programs::Width;
 use crate::refusal::{Finish, Refusal, Stop};
 use crate::writing::{sink_stop, streamed};

@@ -1,5 +1,6 @@
 use Rattle.std.proofs.Common.{refl, ap}
-use Rattle.tv_top.specs.Extracting.{extract_asks, run_ends, run_written}
+use Rattle.tv_top.specs.Assigned.{run_ends}
+use Rattle.tv_top.specs.Extracting.{extract_asks, run_written}
 use Rattle.tv_top.specs.Kinds.{is_extract}
 use Rattle.tv_top.proofs.Answering.{does_stopped, does_found, completes_as}
 use Rattle.tv_top.proofs.AssignedLaws.{completes_none, ends_in}

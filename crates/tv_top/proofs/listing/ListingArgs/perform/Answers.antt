@@ -1,7 +1,7 @@
 use Rattle.std.proofs.Common.{refl, ap}
 use Rattle.tv_benes.specs.declared.shape.Net.TheVariants.{Benes}
 use Rattle.tv_extract.proofs.ExtractLaws.{extracted_is_run}
-use Rattle.tv_top.specs.Extracting.{assigned_in, assigned_run, run_ends}
+use Rattle.tv_top.specs.Assigned.{assigned_in, assigned_run, run_ends}
 use Rattle.tv_top.specs.Kinds.{is_listing}
 use Rattle.tv_top.specs.Listing.{listing_asks, lines_written}
 use Rattle.tv_top.specs.Programs.{bits}

@@ -1,5 +1,5 @@
 use Rattle.std.proofs.Common.{refl}
-use Rattle.tv_top.specs.Loading.{run_end}
+use Rattle.tv_top.specs.Inputs.{run_end}
 use Rattle.tv_top.specs.Witnessing.{witness_asks}
 use Rattle.tv_top.proofs.Answering.{does_stopped, does_found}
 use Rattle.tv_top.proofs.WitnessingClaim.{may_end}

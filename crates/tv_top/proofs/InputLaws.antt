@@ -1,7 +1,7 @@
 -- What is found of a program and two tapes is what their files hold.
 use Rattle.std.proofs.Common.{ℕ, List, Ok}
 use Rattle.tv_top.proofs.Common.{Names, name_at, ◌>>=◌, input, settled, bits, program_in}
-use Rattle.tv_top.specs.Loading.{primary_in, aux_in, inputs_of, HasInputs}
+use Rattle.tv_top.specs.Inputs.{primary_in, aux_in, inputs_of, HasInputs}
 use Rattle.tv_top.proofs.Claiming.{Shows, shows_input, shows_then, shows_made}
 
 pub inputs_shown : (text tape aux : List ℕ) (files : Names) → Shows (inputs_of (name_at 1 text) (name_at 2 tape) (name_at 3 aux) files).gives (HasInputs files text tape aux)

@@ -5,7 +5,7 @@ use Rattle.tv_files.specs.Outside.{Names}
 use Rattle.tv_step.specs.Machine.{start, end_of}
 use Rattle.tv_step.specs.Range.{AreWords}
 use Rattle.tv_step.specs.declared.end.End.{End}
-use Rattle.tv_top.specs.declared.loading.Inputs.{Inputs}
+use Rattle.tv_top.specs.declared.inputs.Inputs.{Inputs}
 use Rattle.tv_top.specs.declared.refusal.Bad.{Bad}
 use Rattle.tv_top.specs.declared.refusal.Size.{Size}
 use Rattle.tv_top.specs.declared.refusal.Size.TheVariants.{TapeWords, AuxWords}

@@ -1,7 +1,7 @@
 use Rattle.std.proofs.Common.{refl}
-use Rattle.tv_top.specs.Loading.{inputs_of}
+use Rattle.tv_top.specs.Inputs.{inputs_of}
 use Rattle.tv_top.proofs.Looking.{finds_on, finds_short, finds_still}
-use Rattle.tv_top.proofs.loading.read_inputs.Goals as goal
+use Rattle.tv_top.proofs.inputs.read_inputs.Goals as goal
 
 pub returns-in_err-program-clause-found : goal.returns-in_err-program-clause-found
 unfolding inputs_of

@@ -1,6 +1,6 @@
 use Rattle.std.proofs.Common.{inl, inr, ap, arith, rules}
 use Rattle.tv_top.specs.Finds.{limited_bytes}
-use Rattle.tv_top.proofs.inputs.limited_bytes.Goals as goal
+use Rattle.tv_top.proofs.bytes.limited_bytes.Goals as goal
 
 pub returns-in-Err-Fault : goal.returns-in-Err-Fault
 returns-in-Err-Fault g c = record {

@@ -1,7 +1,7 @@
 use Rattle.std.proofs.Common.{refl}
-use Rattle.tv_top.specs.Extracting.{assigned_of}
+use Rattle.tv_top.specs.Assigned.{assigned_of}
 use Rattle.tv_top.proofs.Looking.{finds_on, finds_short, finds_still}
-use Rattle.tv_top.proofs.extracting.read_assigned.Goals as goal
+use Rattle.tv_top.proofs.assigned.read_assigned.Goals as goal
 
 pub returns-in_err-program-clause-found : goal.returns-in_err-program-clause-found
 unfolding assigned_of
