@@ -27,7 +27,8 @@ pub struct SystemReader<'a, D: Files> {
 /// A system that was refused at its header: why, and the files again.
 #[derive(Drop)]
 pub struct Unread<'a, D: Files> {
-    pub(crate) files: &'a mut D,
+    /// The files, as the refused call left them.
+    pub files: &'a mut D,
     /// Why.
     pub why: ReadRefusal,
 }

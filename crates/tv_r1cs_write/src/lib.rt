@@ -10,3 +10,4 @@ mod stream;
 
 pub use laws::{files_are_fronts, files_are_of_systems, files_are_whole, systems_come_back};
 pub use stream::StreamSink;
+pub use tv_container::NotBegun;

@@ -12,4 +12,5 @@ mod values;
 pub use assignment::{assignments_are_below_the_prime, read_first_values, read_values};
 pub use file_values::FileValues;
 pub use laws::{assignments_come_back, files_are_fronts, files_are_of_assignments};
+pub use tv_container::NotBegun;
 pub use values::FirstValues;
