@@ -31,12 +31,12 @@ use Rattle.tv_top.proofs.Claiming.{Promises, Shows, comes, made_is, shows_input,
 
 -- what the code looks at: the system, for its faults and its wires; as many values of the witness as there are wires,
 -- with the number of them all; the tape; and the system again, for the verdict, or, where there are more values than
--- wires or fewer, for its wires
+-- wires or fewer, for its faults
 unfoldable pub check_last : Named → ℕ → Firsts → List ℕ → Names → Look Verdict
 check_last system wires first x files =
     if first.count == wires
     then input system (verdict_in first.values x) files
-    else (input system counts_in files >>= λ counts. settled (Ok (WireCount first.count counts.wires)))
+    else (input system counts_in files >>= λ counts. settled (Ok (WireCount first.count wires)))
 
 unfoldable pub check_twice : Named → Named → Named → Names → Look Verdict
 check_twice system witness tape files = do
@@ -48,7 +48,7 @@ check_twice system witness tape files = do
 -- the last of these, from what the system comes to once more
 abbrev counted : ℕ → Result Counts Stop → Result Verdict Stop → ℕ → Firsts → Look Verdict
 counted a counts again wires first =
-    if first.count == wires then record { at = a; gives = again } else look_on a counts (λ counts. settled (Ok (WireCount first.count counts.wires)))
+    if first.count == wires then record { at = a; gives = again } else look_on a counts (λ counts. settled (Ok (WireCount first.count wires)))
 
 -- it is that by all values: the first are all where there are as many as wires
 by_count : (a : ℕ) (s : System) (z x : List ℕ) (same : Bool) → (length z == s.wires) ≡ same → counted a (Ok (system_counts s)) (Ok (judge s (take s.wires z) x)) s.wires (firsts_of s.wires z) ≡ record { at = a; gives = Ok (judge s z x) }
@@ -81,7 +81,7 @@ unfolding check_last
 finds_verdict system wires first x old new found same finds = finds_as (λ files. rw (eq-eqb first.count wires same) refl) finds
 
 pub finds_wires : (system : Named) (wires : ℕ) (first : Firsts) (x : List ℕ) (old new : Outside) (found : Result Verdict Stop) → ¬ (first.count ≡ wires) →
-    Finds (λ v. v) (system.word ∷ []) [] (λ files. input system counts_in files >>= λ counts. settled (Ok (WireCount first.count counts.wires))) old new found → Finds (λ v. v) (system.word ∷ []) [] (check_last system wires first x) old new found
+    Finds (λ v. v) (system.word ∷ []) [] (λ files. input system counts_in files >>= λ counts. settled (Ok (WireCount first.count wires))) old new found → Finds (λ v. v) (system.word ∷ []) [] (check_last system wires first x) old new found
 unfolding check_last
 finds_wires system wires first x old new found other finds = finds_as (λ files. rw (ne_eqb first.count wires other) refl) finds
 

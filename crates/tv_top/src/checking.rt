@@ -75,12 +75,11 @@ fn verdict_on<D: Files>(alloc: Global, files: &mut D, args: CheckArgs<'_>) -> Re
     let first = read_first_witness(alloc, files, args.witness, counts.wires)?;
     let publics = read_publics(alloc, files, args.tape)?;
     if first.count == counts.wires {
-        judge_system(alloc, files, args.system, &first.values, &publics)
-    } else {
-        let counts = survey_system(alloc, files, args.system)?;
-        Ok(Verdict::WireCount {
-            has: u64::from(first.count),
-            wants: u64::from(counts.wires),
-        })
+        return judge_system(alloc, files, args.system, &first.values, &publics);
     }
+    survey_system(alloc, files, args.system)?;
+    Ok(Verdict::WireCount {
+        has: u64::from(first.count),
+        wants: u64::from(counts.wires),
+    })
 }

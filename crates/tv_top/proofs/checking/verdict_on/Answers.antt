@@ -21,14 +21,14 @@ returns-then-first-counts g c =
     finds_once _ _ _ _ _ _ (finds_on _ c.in_ok-counts.ensures (finds_on _ c.in_ok-first.ensures (finds_on _ c.in_ok-publics.ensures
     (finds_verdict _ _ _ _ _ _ _ c.if-first-counts.true (rw (c.deref.ensures.value, c.deref-then-first-counts.ensures.value) at c.judge_system.ensures)))))
 
-pub returns-in_err-counts-2 : goal.returns-in_err-counts-2
+pub returns-in_err-survey_system : goal.returns-in_err-survey_system
 unfolding check_twice
-returns-in_err-counts-2 g c =
+returns-in_err-survey_system g c =
     finds_once _ _ _ _ _ _ (finds_on _ c.in_ok-counts.ensures (finds_on _ c.in_ok-first.ensures (finds_on _ c.in_ok-publics.ensures
-    (finds_wires _ _ _ _ _ _ _ c.if-first-counts.false (finds_short _ _ _ _ c.from_residual-in_err-counts-2.ensures.1 c.in_err-counts-2.ensures)))))
+    (finds_wires _ _ _ _ _ _ _ c.if-first-counts.false (finds_short _ _ _ _ c.from_residual-in_err-survey_system.ensures.1 c.in_err-survey_system.ensures)))))
 
 pub returns : goal.returns
 unfolding check_twice
 returns g c =
     finds_once _ _ _ _ _ _ (finds_on _ c.in_ok-counts.ensures (finds_on _ c.in_ok-first.ensures (finds_on _ c.in_ok-publics.ensures
-    (finds_wires _ _ _ _ _ _ _ c.if-first-counts.false (finds_on _ c.in_ok-counts-2.ensures (finds_still (λ files told. rw (c.from.ensures, c.from-else-first-counts.ensures) refl)))))))
+    (finds_wires _ _ _ _ _ _ _ c.if-first-counts.false (finds_on _ c.in_ok-survey_system.ensures (finds_still (λ files told. rw (c.from.ensures, c.from-2.ensures) refl)))))))
