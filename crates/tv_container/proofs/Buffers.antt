@@ -1,5 +1,5 @@
 -- What appending bytes held and given does, piece by piece.
-use Rattle.std.proofs.Common.{◌≡◌, ℕ, suc, ◌<◌, ◌∷◌, add-one, get_or, ◌+◌, ◌-◌, ◌≤◌, min, ⊎_elim, List, [], ◌++◌, length, take, drop, option_map, Option, Some, None, Result, Ok, Err, IsErrAnd, append_assoc, append-nil, ap, refl, sym, ◌∙◌, subst, arith, rules, inl, inr, ◌⊎◌}
+use Rattle.std.proofs.Common.{◌≡◌, ℕ, ◌<◌, ◌∷◌, add-one, get_or, ◌+◌, ◌-◌, ◌≤◌, min, ⊎_elim, List, [], ◌++◌, length, take, drop, option_map, Option, Some, None, Result, Ok, Err, IsErrAnd, append_assoc, append-nil, ap, refl, sym, ◌∙◌, subst, arith, rules, inl, inr, ◌⊎◌}
 use Rattle.std.proofs.lemmas.Bool.{cases_lt}
 use Rattle.std.proofs.lemmas.List.{take-append-le, take_min, take-take, take-append-drop, drop-take, drop_all, length-take-le, length-drop}
 use Rattle.std.proofs.lemmas.List.Edits.{take-paste}
@@ -18,7 +18,7 @@ use Rattle.tv_core.specs.declared.sink.SinkFault.TheVariants as sink
 use Rattle.tv_files.proofs.Cases.{OnErr-map, OnOk-map}
 use Rattle.tv_files.proofs.NamedFiles.{with_more-none, told-with_more-with_more, with_more-none_before}
 use Rattle.tv_files.specs.Calls.{Appends}
-use Rattle.tv_files.specs.Outside.{Outside, Names, SameCounts, with_more}
+use Rattle.tv_files.specs.Outside.{Outside, Names, with_more}
 use Rattle.tv_files.specs.declared.calls.FileRefusal.{FileRefusal}
 use Rattle.tv_word.specs.Counts.{Rose}
 

@@ -1,5 +1,5 @@
 -- The end of a file: the labels, and the last bytes that are held.
-use Rattle.std.proofs.Common.{◌≡◌, ℕ, ◌*◌, List, [], ◌++◌, length, Some, Result, Ok, Err, append_assoc, append-nil, ap, refl, sym, ◌∙◌, arith}
+use Rattle.std.proofs.Common.{◌≡◌, ℕ, ◌*◌, List, [], ◌++◌, length, Some, Result, Ok, Err, append_assoc, append-nil, ap, sym, ◌∙◌, arith}
 use Rattle.tv_container.specs.Bytes.{section_head}
 use Rattle.tv_container.specs.Taking.{PassesOn}
 use Rattle.tv_core.specs.Constraints.{Constraint}
