@@ -30,5 +30,7 @@ mod writing;
 
 pub use commands::command;
 pub use law::{image_comes_back, limits_are_these, tapes_come_back};
+pub use programs::Width;
+pub use refusal::{Quantity, Refusal};
 pub use status::{NoWhy, NotRun, Status, What};
 pub use tv_draw::{Drawn, draw};

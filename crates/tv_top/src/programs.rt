@@ -17,8 +17,8 @@ use tv_files::Files;
 use tv_word::Words;
 
 /// How many bits a word has.
-#[derive(Clone, Copy)]
-pub(crate) enum Width {
+#[derive(Clone, Copy, Debug, PartialEq, Eq)]
+pub enum Width {
     /// 16 bits, which are two bytes.
     Bits16,
     /// 32 bits, which are four bytes.

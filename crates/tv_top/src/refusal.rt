@@ -9,8 +9,8 @@ use tv_disasm::DisFault;
 use tv_step::End;
 
 /// The quantities that words tell.
-#[derive(Clone, Copy)]
-pub(crate) enum Quantity {
+#[derive(Clone, Copy, Debug, PartialEq, Eq)]
+pub enum Quantity {
     /// The words of a primary tape.
     TapeWords,
     /// The steps of a run.
@@ -39,8 +39,8 @@ pub(crate) enum Size {
 }
 
 /// What words are refused for, before any file is looked at.
-#[derive(Clone, Copy)]
-pub(crate) enum Refusal {
+#[derive(Clone, Copy, Debug, PartialEq, Eq)]
+pub enum Refusal {
     /// The words are no command's.
     Usage,
     /// Two words name one file, which is to be written.
