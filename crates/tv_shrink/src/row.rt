@@ -64,7 +64,6 @@ fn has_wire(terms: &[(F, Wire)], wire: Wire) -> bool
 }
 
 /// Whether a wire stands in a constraint, which may have been dropped.
-#[inline(always)]
 pub(crate) fn row_has(row: &Option<Row<'_>>, wire: Wire) -> bool
     requires { RowIsNormal row.now }
     ensures { result ≡ row_has wire row.now }
