@@ -218,7 +218,7 @@ impl Occurrences {
         Ok(())
     }
 
-    /// Tells of all constraints anew, once half of the entries are more than they wanted when it was
+    /// Tells of all constraints anew, once half of the entries are more than there were when it was
     /// last told of a whole constraint, and than there are constraints, and wires.
     pub(crate) fn tidy(&mut self, rows: &Rows, publics: u32) -> Result<(), AllocError>
         requires covers { Covers publics rows.now self.old }
