@@ -9,3 +9,4 @@ mod networks;
 
 pub use laws::{network_w_is_complete, network_w_is_sound, through_w_is_a_permutation};
 pub use networks::{fill_network_w, network_w, switches_w};
+pub use tv_benes::{Inputs, Net, Outputs};
