@@ -118,13 +118,6 @@ module _ (entries more : List Entry) (heads : List ℕ) (wire row head : ℕ) (l
       ∙ ap (rows_from (record { row = row; next = head } ∷ reverse entries)) last
       ∙ rows_from-last (record { row = row; next = head }) (reverse entries))
 
--- a row that is the first already, or is not
-pub with_row-same : (row first : ℕ) (rows : List ℕ) → first ≡ row → with_row row (first ∷ rows) ≡ first ∷ rows
-with_row-same row first rows e = ap (λ b. cond b (first ∷ rows) (row ∷ first ∷ rows)) (eq-eqb first row e)
-
-pub with_row-other : (row first : ℕ) (rows : List ℕ) → (first ≡ row → ⊥) → with_row row (first ∷ rows) ≡ row ∷ first ∷ rows
-with_row-other row first rows apart = ap (λ b. cond b (first ∷ rows) (row ∷ first ∷ rows)) (ne_eqb first row apart)
-
 -- the rows with one more have those before, and it
 pub any-with_row : (q : ℕ → Bool) (row : ℕ) (rows : List ℕ) → list_any q rows ≡ true → list_any q (with_row row rows) ≡ true
 any-with_row q row [] e = absurd (cc)

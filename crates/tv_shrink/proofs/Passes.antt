@@ -39,15 +39,6 @@ unfolding has_wire
 lacks_over w [] h = refl
 lacks_over w (t ∷ x) h = or_from (eqb t.1 w) (has_wire w x) (ne_eqb t.1 w h.0.1) (lacks_over w x h.1)
 
--- a place that a list names
-any_at : (i : ℕ) (xs : List ℕ) → list_any (λ p. eqb p i) xs ≡ true → (k : ℕ) × (k < length xs) × (get_or xs k 0 ≡ i)
-any_at i [] e = absurd (cc)
-any_at i (x ∷ xs) e =
-    elim (or_cases _ _ e) [
-      | inl here ↦ (0, omega arith, eqb-true x i here)
-      | inr later ↦ let found = any_at i xs later in (suc found.0, omega (arith, found.1), found.2)
-    ]
-
 -- a constraint without the wire
 module _ (w : ℕ) (r : Combination) where
   lacking-fits : (x : Combination) → has_wire w x ≡ false → fits w r x ≡ true
@@ -68,17 +59,8 @@ module _ (w : ℕ) (r : Combination) where
       let others = or_parts (has_wire w c.b) (has_wire w c.c) first.1 in
       same_row c (replaced w r c.a) (replaced w r c.b) (replaced w r c.c) (replaced-lacking w r c.a (sym first.0)) (replaced-lacking w r c.b (sym others.0)) (replaced-lacking w r c.c (sym others.1))
 
-  -- all constraints keep to their most terms where those at the places do
+  -- not all constraints keep to their most terms where one does not
   module _ (rows : List (Option Constraint)) where
-    pub all-fit : (places : List ℕ) → ((i : ℕ) → row_has w (get_or rows i None) ≡ true → list_any (λ p. eqb p i) places ≡ true) →
-        ((k : ℕ) → k < length places → row_fits w r (get_or rows (get_or places k 0) None) ≡ true) → list_all (row_fits w r) rows ≡ true
-    all-fit places covers seen =
-        list_all-from_AllPass (row_fits w r) rows (All-from_get_or (λ row. row_fits w r row ≡ true) rows None (λ i h.
-        elim (cases_Bool (row_has w (get_or rows i None))) [
-          | inl has ↦ let found = any_at i places (covers i has) in subst (λ j. row_fits w r (get_or rows j None) ≡ true) found.2 (seen found.0 found.1)
-          | inr lacks ↦ row-lacking-fits (get_or rows i None) lacks
-        ]))
-
     pub not-all-fit : (i : ℕ) → row_fits w r (get_or rows i None) ≡ false → list_all (row_fits w r) rows ≡ false
     not-all-fit i e =
         elim (cases_lt i (length rows)) [
