@@ -6,7 +6,7 @@ ghost use Rattle.std.specs.Prelude.{OnOk, OnErr, IfOk, IfErr};
 ghost use Rattle.std.specs.Option.{option_map};
 ghost use Rattle.tv_r1cs_read.specs.Rows.{combination_of, constraint_of};
 ghost use Rattle.tv_shrink.specs.Answers.{wide, wide_in, IsTooWide};
-ghost use Rattle.tv_shrink.specs.Moving.{moved, moved_in, moved_rows};
+ghost use Rattle.tv_shrink.specs.Moving.{moved, moved_rows};
 ghost use Rattle.tv_shrink.specs.Normal.{normal, normal_constraint, IsNormalFrom};
 ghost use Rattle.tv_shrink.specs.Passing.{row_fits};
 ghost use Rattle.tv_shrink.specs.Replacing.{fits, fits_in, replaced, replaced_in};
