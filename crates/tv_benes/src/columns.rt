@@ -66,8 +66,8 @@ fn pair_switch<S: Sink>(s: &mut S, scratch: &mut Scratch, x: &Pair, y: &Pair) ->
     )
 }
 
-// `n` switches between items that are two wires each. It is a frame of its own on the stack, so that
-// all levels of a network have one place for their scratch.
+// `n` switches between items that are two wires each. It is a frame of its own on the stack, so
+// that all levels of a network have one place for their scratch.
 #[inline(never)]
 pub(crate) fn column<S: Sink, P: Places>(s: &mut S, n: u32, items: &P) -> Put<()>
     requires room { Room S.meaning s.old (5 * n) (5 * n) }

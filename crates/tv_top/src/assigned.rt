@@ -1,5 +1,5 @@
-//! A program and an assignment of its system, each read and judged before the next, and the run that
-//! the assignment has.
+//! A program and an assignment of its system, each read and judged before the next, and the run
+//! that the assignment has.
 ghost use Rattle.std.specs.Prelude.{◌≡◌, ◌⊎◌, ◌≤◌, [], ◌∷◌, Ok, Err, IfOk, IfErr};
 ghost use Rattle.tv_core.specs.declared.limits.TheConstants.{TAPE_WORDS, STEPS};
 ghost use Rattle.tv_extract.specs.declared.run.ExtractFault.TheVariants as faults;
