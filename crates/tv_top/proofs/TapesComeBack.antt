@@ -3,7 +3,7 @@ use Rattle.std.proofs.Common.{◌≡◌, ℕ, zero, suc, ◌-◌, ◌*◌, ◌^�
 use Rattle.std.specs.Prelude.{slice_index}
 use Rattle.std.proofs.lemmas.Bool.{le-leb}
 use Rattle.std.proofs.lemmas.Fmt.{length-decimal-le}
-use Rattle.std.proofs.lemmas.List.{length-append}
+use Rattle.std.proofs.lemmas.List.{length-append, length-map}
 use Rattle.std.proofs.lemmas.List.Elements.{All-cons, All-head, All-tail, All-weaker}
 use Rattle.tv_block.specs.Block.{block_of}
 use Rattle.tv_block.specs.declared.records.Spot.{Spot}
@@ -13,7 +13,7 @@ use Rattle.tv_core.specs.declared.field.TheConstants.{P}
 use Rattle.tv_core.specs.declared.limits.TheConstants.{TAPE_WORDS, AUX_WORDS, CHECK_WORDS, TEXT_BYTES}
 use Rattle.tv_extract.specs.Runs.{IsRunOf}
 use Rattle.tv_extract.specs.declared.run.Run.{Run}
-use Rattle.tv_layout.specs.Layout.{taken_at, taken_of, block_at}
+use Rattle.tv_layout.specs.Layout.{taken_wire, taken_wires, taken_of, block_at}
 use Rattle.tv_layout.specs.Places.{boot_count, zero_wire_at, first_at}
 use Rattle.tv_step.proofs.EndLaws.{end_answers}
 use Rattle.tv_step.proofs.RangeLaws.{start_in_range, run_keeps_range, answer_is_word}
@@ -24,7 +24,7 @@ use Rattle.tv_tape.specs.Tape.{text_of}
 use Rattle.tv_top.proofs.Common.{Width, Bits16, Bits32, Size, bits}
 use Rattle.tv_top.specs.declared.refusal.Size.TheVariants.{TapeWords, AuxWords}
 use Rattle.tv_top.specs.ComesBack.{TapeTextsFit, TapesComeBack, ExtractedAreTaken}
-use Rattle.tv_top.specs.Loading.{primary_in, aux_in}
+use Rattle.tv_top.specs.Inputs.{primary_in, aux_in}
 use Rattle.tv_top.specs.Tapes.{numbers_of, numbers_in, publics_in}
 use Rattle.tv_top.proofs.ProgramLaws.{is_width}
 
@@ -60,26 +60,26 @@ bound_fits : (width : Width) → 2 ^ bits width ≤ 2 ^ 64
 bound_fits Bits16 = omega arith
 bound_fits Bits32 = omega arith
 
-pub primary_comes_back : TapesComeBack (λ width. primary_in (bits width)) TAPE_WORDS
-primary_comes_back width words small few =
-    read_back 2 TapeWords (2 ^ bits width) TAPE_WORDS words (bound_fits width) small few (tape_texts_fit width words small (omega arith))
+pub primary_comes_back : TapesComeBack (λ word width. primary_in word (bits width)) TAPE_WORDS
+primary_comes_back word width words small few =
+    read_back word TapeWords (2 ^ bits width) TAPE_WORDS words (bound_fits width) small few (tape_texts_fit width words small (omega arith))
 
-pub aux_comes_back : TapesComeBack (λ width. aux_in (bits width)) AUX_WORDS
-aux_comes_back width words small few =
-    read_back 3 AuxWords (2 ^ bits width) AUX_WORDS words (bound_fits width) small few (tape_texts_fit width words small few)
+pub aux_comes_back : TapesComeBack (λ word width. aux_in word (bits width)) AUX_WORDS
+aux_comes_back word width words small few =
+    read_back word AuxWords (2 ^ bits width) AUX_WORDS words (bound_fits width) small few (tape_texts_fit width words small few)
 
-pub publics_come_back : TapesComeBack (λ width. publics_in) CHECK_WORDS
-publics_come_back width words small few =
+pub publics_come_back : TapesComeBack (λ word width. publics_in word) CHECK_WORDS
+publics_come_back word width words small few =
     let below = All-weaker (λ v. v < 2 ^ 32) (λ v. v < P) (λ v h. omega arith) words (words_small width words small) in
-    read_back 3 TapeWords P CHECK_WORDS words (omega arith) below few (tape_texts_fit width words small (omega arith))
+    read_back word TapeWords P CHECK_WORDS words (omega arith) below few (tape_texts_fit width words small (omega arith))
 
 -- ---- runs
 
 -- a step takes at most one word, and so many steps at most so many
-one_taken : (w : ℕ) (z : List ℕ) (spot : Spot) → length (taken_at (block_of w) z spot) ≤ 1
-one_taken w z spot = by_test (slice_index z spot.taken == 1) refl
+one_taken : (z : List ℕ) (spot : Spot) → length (taken_wire z spot) ≤ 1
+one_taken z spot = by_test (slice_index z spot.taken == 1) refl
   where
-    by_test : (b : Bool) → (slice_index z spot.taken == 1) ≡ b → length (taken_at (block_of w) z spot) ≤ 1
+    by_test : (b : Bool) → (slice_index z spot.taken == 1) ≡ b → length (taken_wire z spot) ≤ 1
     by_test true is = rw is (omega arith)
     by_test false is = rw is (omega arith)
 
@@ -88,9 +88,10 @@ joined_few zero f few = omega (arith, ap length (joined_below-zero f))
 joined_few (suc t) f few = omega (arith, ap length (joined_below-suc t f), length-append (joined_below t f) (f t), joined_few t f few, few t)
 
 few_taken : (w : ℕ) (image : List ℕ) (n t : ℕ) (z : List ℕ) → length (taken_of (block_of w) w image n t z) ≤ t
-unfolding taken_of
+unfolding taken_wires
 few_taken w image n t z =
-    joined_few t (λ i. taken_at (block_of w) z (block_at (block_of w) n (boot_count image n) (zero_wire_at w n) (first_at w n) i).spot) (λ i. one_taken w z _)
+    let wires = joined_few t (λ i. taken_wire z (block_at (block_of w) n (boot_count image n) (zero_wire_at w n) (first_at w n) i).spot) (λ i. one_taken z _) in
+    omega (arith, length-map (slice_index z) (taken_wires (block_of w) w image n t z), wires)
 
 -- the answer of a run on tapes of words is a word
 answer_small : (width : Width) (image z : List ℕ) (n t : ℕ) (run : Run) → IsRunOf (bits width) image n t z run → run.answer < 2 ^ bits width
@@ -105,7 +106,7 @@ extracted_are_taken width image z n t run n_fits t_fits is =
     let few : length run.aux ≤ t = rw is.aux (few_taken (bits width) image n t z) in
     let publics : AreWords (bits width) (run.answer ∷ run.tape) = All-cons (λ v. v < 2 ^ bits width) run.answer run.tape (answer_small width image z n t run is) is.tape_words in
     record {
-      tape = primary_comes_back width run.tape is.tape_words (omega (arith, is.many));
-      aux = aux_comes_back width run.aux is.aux_words (omega arith);
-      publics = publics_come_back width (run.answer ∷ run.tape) publics (omega (arith, is.many));
+      tape = primary_comes_back 2 width run.tape is.tape_words (omega (arith, is.many));
+      aux = aux_comes_back 3 width run.aux is.aux_words (omega arith);
+      publics = publics_come_back 3 width (run.answer ∷ run.tape) publics (omega (arith, is.many));
     }

@@ -8,7 +8,7 @@ use Rattle.tv_step.specs.Range.{AreWords}
 use Rattle.tv_tape.specs.Tape.{text_of}
 use Rattle.tv_top.specs.declared.programs.Width.{Width}
 use Rattle.tv_top.specs.declared.refusal.Bad.{Bad}
-use Rattle.tv_top.specs.Loading.{primary_in, aux_in}
+use Rattle.tv_top.specs.Inputs.{primary_in, aux_in}
 use Rattle.tv_top.specs.Programs.{bits, image_bytes_most, image_of}
 use Rattle.tv_top.specs.Tapes.{publics_in}
 
@@ -23,15 +23,15 @@ ImageComesBack =
 abbrev pub TapeTextsFit : Type 0
 TapeTextsFit = (width : Width) (words : List ℕ) → AreWords (bits width) words → length words ≤ AUX_WORDS → length (text_of words) ≤ TEXT_BYTES
 
--- the file of a tape that has that text, of at most so many words, is read as these words
-abbrev pub TapesComeBack : (Width → List ℕ → Result (List ℕ) Bad) → ℕ → Type 0
-TapesComeBack read most = (width : Width) (words : List ℕ) → AreWords (bits width) words → length words ≤ most → read width (text_of words) ≡ Ok words
+-- the file of a tape that has that text, of at most so many words, is read as these words, whichever word names it
+abbrev pub TapesComeBack : (ℕ → Width → List ℕ → Result (List ℕ) Bad) → ℕ → Type 0
+TapesComeBack read most = (word : ℕ) (width : Width) (words : List ℕ) → AreWords (bits width) words → length words ≤ most → read word width (text_of words) ≡ Ok words
 
 -- `run` and `witness` read the tapes of a run as they are, and `check` its answer with the primary tape
 pub record IsTaken (width : Width) (run : Run) : Type 0 where
-  pub tape : primary_in (bits width) (text_of run.tape) ≡ Ok run.tape
-  pub aux : aux_in (bits width) (text_of run.aux) ≡ Ok run.aux
-  pub publics : publics_in (text_of (run.answer ∷ run.tape)) ≡ Ok (run.answer ∷ run.tape)
+  pub tape : primary_in 2 (bits width) (text_of run.tape) ≡ Ok run.tape
+  pub aux : aux_in 3 (bits width) (text_of run.aux) ≡ Ok run.aux
+  pub publics : publics_in 3 (text_of (run.answer ∷ run.tape)) ≡ Ok (run.answer ∷ run.tape)
 
 -- and so they do with each run that an assignment has, as `extract` writes it, N and T being within their limits
 abbrev pub ExtractedAreTaken : Type 0

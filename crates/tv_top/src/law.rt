@@ -10,7 +10,7 @@ ghost use Rattle.tv_core.specs.declared.limits.TheConstants.{TAPE_CELLS, NULL_CE
 ghost use Rattle.tv_shrink.specs.Answers.{most as system_terms};
 ghost use Rattle.tv_top.specs.ComesBack.{ImageComesBack, TapeTextsFit, TapesComeBack};
 ghost use Rattle.tv_top.specs.ComesBack.{ExtractedAreTaken};
-ghost use Rattle.tv_top.specs.Loading.{primary_in, aux_in};
+ghost use Rattle.tv_top.specs.Inputs.{primary_in, aux_in};
 ghost use Rattle.tv_top.specs.Programs.{bits, image_bytes_most};
 ghost use Rattle.tv_top.specs.Tapes.{publics_in};
 ghost use Rattle.tv_top.specs.declared.programs.Width.TheVariants.{Bits16, Bits32};
@@ -51,9 +51,9 @@ pub fn image_comes_back()
 /// they take the tapes of each run that `extract` tells: a run of `STEPS` steps takes fewer words.
 pub fn tapes_come_back()
     ensures texts { TapeTextsFit }
-    ensures primary { TapesComeBack (λ width. primary_in (bits width)) TAPE_WORDS }
-    ensures aux { TapesComeBack (λ width. aux_in (bits width)) AUX_WORDS }
-    ensures publics { TapesComeBack (λ width. publics_in) CHECK_WORDS }
+    ensures primary { TapesComeBack (λ word width. primary_in word (bits width)) TAPE_WORDS }
+    ensures aux { TapesComeBack (λ word width. aux_in word (bits width)) AUX_WORDS }
+    ensures publics { TapesComeBack (λ word width. publics_in word) CHECK_WORDS }
     ensures extracted { ExtractedAreTaken }
     ensures steps { STEPS ≤ AUX_WORDS + 1 }
     ensures answer { TAPE_WORDS + 1 ≤ CHECK_WORDS }
