@@ -91,7 +91,7 @@ few_taken : (w : ℕ) (image : List ℕ) (n t : ℕ) (z : List ℕ) → length (
 unfolding taken_wires
 few_taken w image n t z =
     let wires = joined_few t (λ i. taken_wire z (block_at (block_of w) n (boot_count image n) (zero_wire_at w n) (first_at w n) i).spot) (λ i. one_taken z _) in
-    omega (arith, length-map (slice_index z) (taken_wires (block_of w) w image n t z), wires)
+    omega (arith, length-map (taken_wires (block_of w) w image n t z) (slice_index z), wires)
 
 -- the answer of a run on tapes of words is a word
 answer_small : (width : Width) (image z : List ℕ) (n t : ℕ) (run : Run) → IsRunOf (bits width) image n t z run → run.answer < 2 ^ bits width
