@@ -182,6 +182,7 @@ fn a_label_behind_all_instructions_is_0(rt: HostRuntime) -> Result<(), Fail> {
         text.extend_from_slice(b"jmp _end\n")?;
     }
     text.extend_from_slice(b"_end:")?;
+    assert_eq!(rt; width(&text), 16);
     let image = assemble::<16>(rt.alloc(), &text, 32_768)?;
     assert_eq!(rt; image.as_slice().len(), 32_768);
     assert!(rt; image.as_slice().ends_with(&[0xa400, 0]));
