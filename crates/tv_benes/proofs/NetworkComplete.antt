@@ -7,6 +7,7 @@ use Rattle.tv_core.proofs.LoopLaws.{turns-next}
 use Rattle.tv_core.proofs.Meeting.{Meets-join, HasFrom-split, whole}
 use Rattle.tv_core.specs.Circuits.{Circuit, here, fresh, put, pure, turns, ◌>>=◌}
 use Rattle.tv_core.specs.Laws.{Assigns, Meets, HasFrom}
+use Rattle.tv_core.specs.Lines.{pair_value}
 use Rattle.tv_core.specs.Loops.{times}
 use Rattle.tv_core.specs.declared.lines.Pair.{Pair}
 use Rattle.tv_core.specs.declared.lines.PairNum.{PairNum}
@@ -17,7 +18,7 @@ use Rattle.tv_bits.specs.Select.{selected, pick_of}
 use Rattle.tv_benes.proofs.ThroughLaws.{twice, switches-suc, missing_small, one_switch, alternating-same, through-same}
 use Rattle.tv_benes.specs.Through.{switches, missing, from, passed, to_upper, to_lower, alternating, through}
 use Rattle.tv_benes.proofs.NetworkLaws.{IsSwitch, column_sound, value_alternating, switch_next, column_next, network_next, network_sound}
-use Rattle.tv_benes.specs.Network.{pair_value, switch_of, column_of, last_column_of, network_of, bit_in, bit_number, switch_values, column_values, network_values, NetworkIsComplete}
+use Rattle.tv_benes.specs.Network.{switch_of, column_of, last_column_of, network_of, bit_in, bit_number, switch_values, column_values, network_values, NetworkIsComplete}
 use Rattle.tv_benes.specs.Places.{wires_at, row, output, output_wire, last_wire}
 use Rattle.tv_benes.specs.declared.shape.Net.{Net}
 

@@ -9,6 +9,7 @@ use Rattle.tv_core.proofs.LoopLaws.{turn_met, turns-next}
 use Rattle.tv_core.proofs.Meeting.{Meets-split}
 use Rattle.tv_core.specs.Circuits.{Circuit, here, fresh, put, pure, ◌>>=◌}
 use Rattle.tv_core.specs.Laws.{Assigns, Meets}
+use Rattle.tv_core.specs.Lines.{pair_value}
 use Rattle.tv_core.specs.Loops.{times}
 use Rattle.tv_core.specs.declared.lines.Pair.{Pair}
 use Rattle.tv_core.specs.declared.lines.PairNum.{PairNum}
@@ -17,7 +18,7 @@ use Rattle.tv_bits.proofs.SelectLaws.{select_sound}
 use Rattle.tv_bits.specs.Bit.{IsBit, bit_of}
 use Rattle.tv_bits.specs.Select.{pick_of}
 use Rattle.tv_benes.proofs.ThroughLaws.{twice, switches-suc, missing_small, one_switch, last_bit-same, alternating-same, joined-same, through-same}
-use Rattle.tv_benes.specs.Network.{pair_value, switch_of, column_of, last_column_of, network_of, bit_in, IsNetwork, NetworkIsSound}
+use Rattle.tv_benes.specs.Network.{switch_of, column_of, last_column_of, network_of, bit_in, IsNetwork, NetworkIsSound}
 use Rattle.tv_benes.specs.Places.{wires_at, fifth, row, output, output_wire, column_outputs, last_outputs, last_wire}
 use Rattle.tv_benes.specs.declared.places.Outputs.{Outputs}
 use Rattle.tv_benes.specs.declared.shape.Net.{Net}

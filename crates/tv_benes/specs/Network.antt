@@ -7,16 +7,11 @@ use Rattle.tv_benes.specs.declared.shape.Net.{Net}
 use Rattle.tv_bits.specs.Bit.{IsBit, bit_of}
 use Rattle.tv_bits.specs.Select.{select_of}
 use Rattle.tv_core.specs.Circuits.{Circuit, here, fresh, pure, ◌>>=◌}
-use Rattle.tv_core.specs.Constraints.{value}
 use Rattle.tv_core.specs.Laws.{Assigns, Meets, HasFrom, Fills, InField}
 use Rattle.tv_core.specs.Loops.{times}
 use Rattle.tv_core.specs.declared.field.TheConstants.{P}
 use Rattle.tv_core.specs.declared.lines.Pair.{Pair}
 use Rattle.tv_core.specs.declared.lines.PairNum.{PairNum}
-
--- the numbers of a pair
-abbrev pub pair_value : List ℕ → Pair → PairNum
-pair_value z pair = record { first = value pair.first z; second = value pair.second z }
 
 -- a switch: a bit, and four numbers that it chooses
 unfoldable pub switch_of : Pair → Pair → Circuit (Unit {0})

@@ -1,4 +1,5 @@
-ghost use Rattle.std.specs.Prelude.{◌≡◌, ◌≤◌, ◌<◌, ◌+◌, ◌*◌, [], ◌++◌, length, take, drop, IsTrue, ◌↔◌};
+ghost use Rattle.std.specs.Prelude.{◌≡◌, ◌≤◌, ◌<◌, ◌+◌, ◌*◌, [], ◌++◌, length, take, drop};
+ghost use Rattle.std.specs.Prelude.{IsTrue, ◌↔◌};
 ghost use Rattle.std.specs.List.{All};
 ghost use Rattle.tv_core.specs.declared.field.TheConstants.{P};
 ghost use Rattle.tv_container.specs.Bytes.{eight_bytes, four_bytes, terms_bytes};
@@ -12,8 +13,7 @@ const PIECE: usize = 4096;
 
 /// At most 8,192 bytes that are still to be appended to a file. Contracts see the list of them.
 ///
-/// What takes bytes keeps the place at hand and stores it once: to load it again behind the bytes
-/// would have to wait for them.
+/// What takes bytes stores the place behind them once: to load it again would wait for them.
 #[derive(Drop)]
 pub struct Buffer {
     bytes: [u8; 2 * PIECE],

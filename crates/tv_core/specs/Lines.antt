@@ -1,10 +1,17 @@
--- Lines of memory: at each time one cell is looked at, and its word goes from old to new.
+-- Pairs, and lines of memory: at each time one cell is looked at, and its word goes from old to new.
 use Rattle.std.specs.Prelude.{◌≡◌, ℕ, ◌==◌, if◌then◌else◌, List, [], ◌∷◌, ◌++◌, fold}
+use Rattle.tv_core.specs.Constraints.{value}
 use Rattle.tv_core.specs.declared.lines.Line.{Line as Numbers}
+use Rattle.tv_core.specs.declared.lines.Pair.{Pair}
+use Rattle.tv_core.specs.declared.lines.PairNum.{PairNum}
 
 -- a line of memory: a cell, a time, the cell's word before it, and its word from then on
 abbrev pub Line : Type 0
 Line = Numbers
+
+-- the numbers of a pair of combinations
+abbrev pub pair_value : List ℕ → Pair → PairNum
+pair_value z pair = record { first = value pair.first z; second = value pair.second z }
 
 -- a memory, as the word of each cell, after a line
 abbrev pub written : (ℕ → ℕ) → Line → ℕ → ℕ

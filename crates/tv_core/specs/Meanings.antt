@@ -3,14 +3,29 @@ use Rattle.std.specs.Prelude.{◌≡◌, refl, ℕ, ◌+◌, ◌*◌, ◌%◌, �
 use Rattle.std.proofs.Common.{◌∙◌}
 use Rattle.std.specs.List.{AllByRecursion}
 use Rattle.tv_core.specs.Combinations.{top}
-use Rattle.tv_core.specs.Constraints.{Constraint, Combination, value}
+use Rattle.tv_core.specs.Constraints.{Constraint, Combination, System, value}
 use Rattle.tv_core.specs.Sinks.{Meaning}
 use Rattle.tv_core.specs.Giving.{Giving}
 use Rattle.tv_core.specs.declared.field.TheConstants.{P}
+use Rattle.tv_core.specs.declared.lines.Counts.{Counts}
+
+-- how many terms a constraint has
+abbrev pub terms_of : Constraint → ℕ
+terms_of constraint = length constraint.a + length constraint.b + length constraint.c
 
 -- how many terms the combinations of a list have
 abbrev pub terms_in : List Constraint → ℕ
-terms_in list = sum_by (λ constraint. length constraint.a + length constraint.b + length constraint.c) list
+terms_in list = sum_by (λ constraint. terms_of constraint) list
+
+-- the counts of a system
+abbrev pub system_counts : System → Counts
+system_counts system = record {
+  wires = system.wires;
+  outputs = system.outputs;
+  inputs = system.inputs;
+  constraints = length system.constraints;
+  terms = terms_in system.constraints;
+}
 
 -- a combination of at most 128 terms, whose wires are below a number
 pub record Fits (wires : ℕ) (x : Combination) : Type 0 where

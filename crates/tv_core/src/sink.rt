@@ -13,7 +13,7 @@ pub enum SinkFault {
     /// What it writes to failed.
     #[error("the writing failed")]
     Failed,
-    /// Memory ran out.
+    /// Memory was wanting.
     #[error("out of memory")]
     Memory,
 }

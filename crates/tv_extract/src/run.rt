@@ -32,7 +32,7 @@ pub enum ExtractFault {
     /// The run on its tapes doesn't answer the word at wire 1; this is how it ends.
     #[error("no run")]
     NotARun { end: End },
-    /// Memory ran out.
+    /// Memory was wanting.
     #[error("out of memory")]
     Memory,
 }

@@ -16,7 +16,7 @@ pub enum FillFault {
     /// What the values were written to failed.
     #[error("the writing failed")]
     Failed,
-    /// Memory ran out.
+    /// Memory was wanting.
     #[error("out of memory")]
     Memory,
 }

@@ -5,8 +5,6 @@ use Rattle.tv_block.specs.Block.{block_of}
 use Rattle.tv_block.specs.Complete.{step_values}
 use Rattle.tv_core.specs.Constraints.{System, Sat}
 use Rattle.tv_core.specs.Laws.{HasFrom}
-use Rattle.tv_core.specs.Meanings.{terms_in}
-use Rattle.tv_core.specs.declared.lines.Counts.{Counts}
 use Rattle.tv_step.specs.Machine.{Accepts}
 use Rattle.tv_step.specs.Range.{AreWords}
 use Rattle.tv_layout.specs.Layout.{layout}
@@ -18,16 +16,6 @@ use Rattle.tv_layout.specs.Values.{fill, IsFill}
 -- the system of an image's runs of t steps on tapes of n words, with words of w bits
 abbrev pub system_of : ℕ → Net → List ℕ → ℕ → ℕ → System
 system_of w net image n t = layout (block_of w) w net image n t
-
--- the counts of a system
-abbrev pub counts_of : System → Counts
-counts_of system = record {
-  wires = system.wires;
-  outputs = system.outputs;
-  inputs = system.inputs;
-  constraints = length system.constraints;
-  terms = terms_in system.constraints;
-}
 
 -- the values of its wires for a run that answers v
 abbrev pub run_values : ℕ → Net → List ℕ → List ℕ → List ℕ → ℕ → ℕ → List ℕ

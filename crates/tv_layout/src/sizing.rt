@@ -1,7 +1,7 @@
 ghost use Rattle.std.specs.Prelude.{◌≡◌, ◌+◌, ◌≤◌, ◌<◌, ◌^◌};
-ghost use Rattle.tv_core.specs.Meanings.{IsCounted};
+ghost use Rattle.tv_core.specs.Meanings.{IsCounted, system_counts};
 ghost use Rattle.tv_layout.specs.Places.{WithinLimits};
-ghost use Rattle.tv_layout.specs.Systems.{counts_of, system_of};
+ghost use Rattle.tv_layout.specs.Systems.{system_of};
 
 use crate::costs::{constraint_costs, term_costs, wire_costs};
 use crate::emitting::emit_system;
@@ -14,7 +14,7 @@ use tv_core::{CountSink, Counts};
 /// takes constant time.
 pub fn sizes<const W: u32>(image: &[u32], n: u32, t: u32, net: Net) -> Counts
     requires { WithinLimits W image.now n t }
-    ensures counts { result ≡ counts_of (system_of W net image.now n t) }
+    ensures counts { result ≡ system_counts (system_of W net image.now n t) }
     ensures publics { 2 + n ≤ result.wires }
     ensures terms { result.terms < 2 ^ 60 }
 {

@@ -37,10 +37,7 @@ abbrev pub line_of : LineNum → Line
 line_of line = record { cell = line.cell; time = line.time; old = line.old; new = line.new }
 
 -- ---- combinations
--- their values
-abbrev pub pair_value : List ℕ → Pair → PairNum
-pair_value z pair = record { first = value pair.first z; second = value pair.second z }
-
+-- the values of a line's
 abbrev pub line_value : List ℕ → LineLc → Line
 line_value z line = record { cell = value line.cell z; time = value line.time z; old = value line.old z; new = value line.new z }
 

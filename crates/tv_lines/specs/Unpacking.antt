@@ -3,10 +3,10 @@ use Rattle.std.specs.Prelude.{◌≡◌, ℕ, ◌+◌, ◌≤◌, ◌++◌, List
 use Rattle.tv_bits.specs.Bits.{Spells, bits_of, bits_values}
 use Rattle.tv_core.specs.Circuits.{Circuit, pure, ◌>>=◌}
 use Rattle.tv_core.specs.Laws.{Assigns, Meets, HasFrom, Fills, InField}
-use Rattle.tv_core.specs.Lines.{Line}
+use Rattle.tv_core.specs.Lines.{Line, pair_value}
 use Rattle.tv_core.specs.declared.lines.Pair.{Pair}
 use Rattle.tv_core.specs.declared.lines.PairNum.{PairNum}
-use Rattle.tv_lines.specs.Packing.{cell_bits, time_bits, InRange, packed, unpacked, pair_value}
+use Rattle.tv_lines.specs.Packing.{cell_bits, time_bits, InRange, packed, unpacked}
 use Rattle.tv_lines.specs.declared.rows.LineBits.{LineBits}
 
 -- a line's parts have as many bits as they should

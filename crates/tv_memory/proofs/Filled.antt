@@ -16,7 +16,7 @@ use Rattle.tv_core.proofs.Meeting.{whole, HasFrom-split}
 use Rattle.tv_core.specs.Below.{each_below, joined_below}
 use Rattle.tv_core.specs.Circuits.{here, pure, turns}
 use Rattle.tv_core.specs.Laws.{Assigns, Meets, HasFrom}
-use Rattle.tv_core.specs.Lines.{Line}
+use Rattle.tv_core.specs.Lines.{Line, pair_value}
 use Rattle.tv_core.specs.Loops.{times}
 use Rattle.tv_core.specs.declared.lines.LineLc.{LineLc}
 use Rattle.tv_core.specs.declared.lines.Pair.{Pair}
@@ -28,7 +28,7 @@ use Rattle.tv_lines.proofs.SortedComplete.{sorted_pair_complete}
 use Rattle.tv_lines.proofs.SortedSizes.{sorted_pair_many}
 use Rattle.tv_lines.proofs.UnpackingLaws.{has_widths, unpack_complete, unpack_many}
 use Rattle.tv_lines.specs.Ordered.{Follows, Ordered}
-use Rattle.tv_lines.specs.Packing.{pack, packed, unpacked, pair_value, line_value, InRange}
+use Rattle.tv_lines.specs.Packing.{pack, packed, unpacked, line_value, InRange}
 use Rattle.tv_lines.specs.Placed.{line_in, zero_line, number_in, LinesFrom}
 use Rattle.tv_lines.specs.SortedPair.{first_line_of, sorted_pair_values}
 use Rattle.tv_lines.specs.Unpacking.{SpellsLine, unpack_of, unpack_values}

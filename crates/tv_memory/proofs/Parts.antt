@@ -13,7 +13,7 @@ use Rattle.tv_benes.specs.declared.shape.Net.{Net}
 use Rattle.tv_core.proofs.LoopLaws.{turns-next}
 use Rattle.tv_core.specs.Below.{each_below}
 use Rattle.tv_core.specs.Circuits.{here, pure, turns, ◌>>=◌}
-use Rattle.tv_core.specs.Lines.{Line}
+use Rattle.tv_core.specs.Lines.{Line, pair_value}
 use Rattle.tv_core.specs.declared.lines.LineLc.{LineLc}
 use Rattle.tv_core.specs.declared.lines.Pair.{Pair}
 use Rattle.tv_core.specs.declared.lines.PairNum.{PairNum}
@@ -21,7 +21,7 @@ use Rattle.tv_lines.proofs.FirstLaws.{first_line_next}
 use Rattle.tv_lines.proofs.PackingLaws.{pack_right}
 use Rattle.tv_lines.proofs.SortedSizes.{sorted_pair_next}
 use Rattle.tv_lines.proofs.UnpackingLaws.{unpack_next}
-use Rattle.tv_lines.specs.Packing.{pack, packed, pair_value, line_value, InRange}
+use Rattle.tv_lines.specs.Packing.{pack, packed, line_value, InRange}
 use Rattle.tv_lines.specs.Placed.{no_line, line_in, zero_line, number_in, IsLine, LinesFrom}
 use Rattle.tv_lines.specs.SortedPair.{first_line_of}
 use Rattle.tv_memory.specs.Memory.{bits_at, unpack_one, neighbours_of, sorted_of, level_of}

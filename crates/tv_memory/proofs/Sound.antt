@@ -14,7 +14,7 @@ use Rattle.tv_core.proofs.Meeting.{parts}
 use Rattle.tv_core.specs.Below.{each_below}
 use Rattle.tv_core.specs.Circuits.{here, pure, turns}
 use Rattle.tv_core.specs.Laws.{Assigns, Meets}
-use Rattle.tv_core.specs.Lines.{Line, Honest}
+use Rattle.tv_core.specs.Lines.{Line, Honest, pair_value}
 use Rattle.tv_core.specs.Loops.{times}
 use Rattle.tv_core.specs.declared.lines.LineLc.{LineLc}
 use Rattle.tv_core.specs.declared.lines.Pair.{Pair}
@@ -23,7 +23,7 @@ use Rattle.tv_lines.proofs.PackingLaws.{unpack_packed}
 use Rattle.tv_lines.proofs.TimeOrder.{ordered_honest}
 use Rattle.tv_lines.proofs.UnpackingLaws.{has_widths, unpack_answer, unpack_sound}
 use Rattle.tv_lines.specs.Ordered.{InTimeOrder, Ordered}
-use Rattle.tv_lines.specs.Packing.{pack, packed, unpacked, pair_value, line_value}
+use Rattle.tv_lines.specs.Packing.{pack, packed, unpacked, line_value}
 use Rattle.tv_lines.specs.Placed.{line_in, number_in, LinesFrom}
 use Rattle.tv_lines.specs.SortedPair.{first_line_of}
 use Rattle.tv_lines.specs.Unpacking.{SpellsLine, line_bits, unpack_of}

@@ -3,6 +3,7 @@ use Rattle.std.proofs.Common.{◌≡◌, ℕ, ◌+◌, ◌-◌, Bool, true, fals
 use Rattle.std.proofs.lemmas.List.{length-map}
 use Rattle.std.proofs.lemmas.List.Sums.{sum_by_push}
 use Rattle.tv_core.specs.Constraints.{Constraint}
+use Rattle.tv_core.specs.Meanings.{terms_of}
 use Rattle.tv_r1cs_read.specs.declared.rows.Row.{Row}
 use Rattle.tv_container.specs.declared.sections.Section.{Section}
 use Rattle.tv_container.specs.declared.why.ReadRefusal.{ReadRefusal}
@@ -15,7 +16,7 @@ use Rattle.tv_container.specs.Reading.{Refuses}
 use Rattle.tv_r1cs_read.specs.Rows.{constraint_of, terms_in}
 use Rattle.tv_r1cs_read.specs.Steps.{Passed}
 use Rattle.tv_r1cs_read.specs.Sums.{Ended}
-use Rattle.tv_r1cs_read.specs.Survey.{terms_of, survey_of}
+use Rattle.tv_r1cs_read.specs.Survey.{survey_of}
 use Rattle.tv_container.proofs.Chain.{made, refuses_first}
 use Rattle.tv_r1cs_read.proofs.Constraints.{constraints_from-refuses}
 

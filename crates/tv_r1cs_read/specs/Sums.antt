@@ -2,14 +2,13 @@
 use Rattle.std.specs.Prelude.{◌≡◌, ℕ, ◌+◌, ◌-◌, ◌*◌, ◌≤◌, Bool, List, length, Option, Some, None, Result, Ok, slice_index}
 use Rattle.std.specs.List.{sum_by}
 use Rattle.tv_core.specs.Constraints.{Combination, Constraint, value}
-use Rattle.tv_core.specs.Meanings.{holds}
+use Rattle.tv_core.specs.Meanings.{holds, terms_of}
 use Rattle.tv_container.specs.Places.{Fault}
 use Rattle.tv_container.specs.Reading.{IsPiece, Piece}
 use Rattle.tv_container.specs.declared.why.ReadRefusal.{ReadRefusal}
 use Rattle.tv_r1cs_read.specs.declared.terms.Bounds.{Bounds}
 use Rattle.tv_r1cs_read.specs.R1cs.{Read}
 use Rattle.tv_r1cs_read.specs.Rows.{IsAhead}
-use Rattle.tv_r1cs_read.specs.Survey.{terms_of}
 
 -- of a combination's terms k come to this sum under an assignment, and the others, n of them, are at a place
 pub record IsSummed (answer : Result (Read Combination) Fault) (file : List ℕ) (wires end : ℕ) (z : List ℕ) (k n at sum : ℕ) : Type 0 where

@@ -1,6 +1,6 @@
 //! A count of terms, or a term, at a place of section 2.
 
-ghost use Rattle.std.specs.Prelude.{◌≡◌, ◌+◌, ◌≤◌, ◌<◌, ◌^◌, OnOk, IfOk};
+ghost use Rattle.std.specs.Prelude.{◌+◌, ◌≤◌, ◌<◌, ◌^◌, OnOk, IfOk};
 ghost use Rattle.tv_container.specs.Places.{fit, places};
 ghost use Rattle.tv_container.specs.Reading.{Gives, GivesBy, Holds, ReadsIn};
 ghost use Rattle.tv_r1cs_read.specs.R1cs.{count_at, term_at};

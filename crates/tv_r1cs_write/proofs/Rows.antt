@@ -4,7 +4,6 @@ use Rattle.std.proofs.lemmas.List.{length-append}
 use Rattle.std.proofs.lemmas.List.Elements.{All-head, All-tail}
 use Rattle.std.specs.List.{All}
 use Rattle.tv_container.specs.Bytes.{four_bytes, eight_bytes, term_bytes, terms_bytes}
-use Rattle.tv_container.specs.Places.{number}
 use Rattle.tv_container.specs.declared.sections.Section.{Section}
 use Rattle.tv_container.proofs.BytesAt.{At, at_first, at_rest, number_of_four, number_of_eight, length-four_bytes, length-eight_bytes}
 use Rattle.tv_core.specs.Constraints.{Combination, Constraint}

@@ -9,13 +9,13 @@ use Rattle.tv_container.specs.Writing.{OnlyAppends}
 use Rattle.tv_container.specs.Written.{HasFront}
 use Rattle.tv_core.specs.Circuits.{Circuit}
 use Rattle.tv_core.specs.Constraints.{System}
+use Rattle.tv_core.specs.Meanings.{system_counts}
 use Rattle.tv_core.specs.Sinks.{PutsAll, PutsSome}
 use Rattle.tv_core.specs.declared.lines.Counts.{Counts}
 use Rattle.tv_core.specs.declared.sink.SinkFault.{SinkFault}
 use Rattle.tv_files.specs.Calls.{Creates}
 use Rattle.tv_files.specs.Outside.{Outside}
 use Rattle.tv_r1cs_read.specs.R1cs.{system_of}
-use Rattle.tv_r1cs_read.specs.Survey.{system_counts}
 use Rattle.tv_r1cs_write.proofs.Files.{files_are_fronts, files_of_systems}
 use Rattle.tv_r1cs_write.proofs.Systems.{systems_come_back}
 use Rattle.tv_r1cs_write.specs.Bytes.{system_bytes}

@@ -10,10 +10,9 @@ use Rattle.tv_container.specs.declared.sections.Section.{Section}
 use Rattle.tv_container.proofs.BytesAt.{At, at_first, at_rest, at_start, field_read, length-eight_bytes, length-field_bytes, length-four_bytes, length-front_bytes, length-section_bytes, length-section_head, number_of_four, section_read, sections_counted}
 use Rattle.tv_container.proofs.SectionLemmas.{sections_from-end}
 use Rattle.tv_core.specs.Constraints.{Constraint}
-use Rattle.tv_core.specs.Meanings.{terms_in}
+use Rattle.tv_core.specs.Meanings.{terms_in, system_counts}
 use Rattle.tv_core.specs.declared.lines.Counts.{Counts}
 use Rattle.tv_r1cs_read.specs.R1cs.{checked, counted, header_in, header_of, constraints_from, system_of}
-use Rattle.tv_r1cs_read.specs.Survey.{system_counts}
 use Rattle.tv_r1cs_read.specs.declared.header.Header.{Header}
 use Rattle.tv_r1cs_read.proofs.HeaderLemmas.{header_in-checked}
 use Rattle.tv_r1cs_write.specs.Bytes.{counts_bytes, label_bytes, numbers_bytes, rows_bytes, system_bytes}

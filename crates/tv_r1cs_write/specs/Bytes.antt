@@ -3,9 +3,8 @@ use Rattle.std.specs.Prelude.{◌≡◌, ℕ, ◌+◌, ◌*◌, List, ◌++◌, 
 use Rattle.std.specs.List.{flat_map, range_with_len}
 use Rattle.tv_container.specs.Bytes.{eight_bytes, four_bytes, front_bytes, section_head, section_bytes, field_bytes, terms_bytes}
 use Rattle.tv_core.specs.Constraints.{Combination, Constraint, System}
-use Rattle.tv_core.specs.Meanings.{terms_in}
+use Rattle.tv_core.specs.Meanings.{terms_in, system_counts}
 use Rattle.tv_core.specs.declared.lines.Counts.{Counts}
-use Rattle.tv_r1cs_read.specs.Survey.{system_counts}
 
 -- a combination: four bytes that count its terms, and the terms
 abbrev pub combination_bytes : Combination → List ℕ

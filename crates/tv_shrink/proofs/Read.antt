@@ -7,6 +7,7 @@ use Rattle.tv_container.specs.Places.{Fault, ◌>>=◌, wrong}
 use Rattle.tv_container.specs.Reading.{Refuses, Stopped}
 use Rattle.tv_container.specs.declared.why.ReadRefusal.{ReadRefusal}
 use Rattle.tv_container.specs.declared.why.ReadRefusal.TheVariants as refusal
+use Rattle.tv_core.specs.Meanings.{terms_of, system_counts}
 use Rattle.tv_files.specs.Outside.{Outside}
 use Rattle.tv_r1cs_read.specs.Places.{IsAt, system_with}
 use Rattle.tv_r1cs_read.specs.Progress.{Reached, ahead}
@@ -20,7 +21,7 @@ use Rattle.std.proofs.lemmas.List.Elements.{recursion_from_All}
 use Rattle.tv_container.specs.declared.why.ReadWhy.{ReadWhy}
 use Rattle.tv_core.specs.Combinations.{top}
 use Rattle.tv_core.specs.declared.lines.Counts.{Counts}
-use Rattle.tv_r1cs_read.specs.Survey.{survey_of, system_counts, terms_of}
+use Rattle.tv_r1cs_read.specs.Survey.{survey_of}
 use Rattle.tv_core.specs.Constraints.{Combination, Constraint, System}
 use Rattle.tv_core.specs.declared.field.TheConstants.{P}
 use Rattle.tv_r1cs_read.specs.Rows.{combination_of, constraint_of, IsOver}

@@ -21,7 +21,7 @@ pub enum ShrinkFault {
     /// A read failed.
     #[error("reading failed")]
     Fault,
-    /// Memory ran out.
+    /// Memory was wanting.
     #[error("out of memory")]
     Memory,
 }

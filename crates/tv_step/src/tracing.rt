@@ -21,7 +21,7 @@ pub enum TraceFault {
         /// Its end.
         end: End,
     },
-    /// Memory ran out.
+    /// Memory was wanting.
     #[error("out of memory")]
     Memory,
 }

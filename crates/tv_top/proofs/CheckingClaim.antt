@@ -9,11 +9,12 @@ use Rattle.tv_check.specs.declared.verdict.Verdict.TheVariants.{Yes, WireCount}
 use Rattle.tv_check.proofs.Room.{has_room}
 use Rattle.tv_check.proofs.Verdicts.{yes_exactly, no_exactly}
 use Rattle.tv_core.specs.Constraints.{System}
+use Rattle.tv_core.specs.Meanings.{system_counts}
 use Rattle.tv_core.specs.declared.field.TheConstants.{P}
 use Rattle.tv_core.specs.declared.lines.Counts.{Counts}
 use Rattle.tv_files.specs.Outside.{Names, Outside}
 use Rattle.tv_r1cs_read.specs.R1cs.{system_of}
-use Rattle.tv_r1cs_read.specs.Survey.{survey_of, system_counts}
+use Rattle.tv_r1cs_read.specs.Survey.{survey_of}
 use Rattle.tv_wtns.specs.Wtns.{Firsts, firsts_of, assignment_of}
 use Rattle.tv_wtns.proofs.ValueLaws.{assignments_below}
 use Rattle.tv_top.specs.declared.refusal.Size.TheVariants.{TapeWords}

@@ -1,9 +1,10 @@
 -- Waksman's network: Benes', but that each last column lacks its switch 0, whose two items pass.
 use Rattle.std.specs.Prelude.{ℕ, suc, ◌^◌, Bool, List, IsPermutation}
-use Rattle.tv_benes.specs.Network.{network_of, network_values, pair_value, IsNetwork, IsFilled}
+use Rattle.tv_benes.specs.Network.{network_of, network_values, IsNetwork, IsFilled}
 use Rattle.tv_benes.specs.Through.{through, places}
 use Rattle.tv_benes.specs.declared.shape.Net.TheVariants.{Waksman}
 use Rattle.tv_core.specs.Laws.{Assigns, Meets, HasFrom}
+use Rattle.tv_core.specs.Lines.{pair_value}
 use Rattle.tv_core.specs.declared.lines.Pair.{Pair}
 use Rattle.tv_core.specs.declared.lines.PairNum.{PairNum}
 

@@ -1,7 +1,6 @@
 use Rattle.std.proofs.Common.{◌≡◌, ◌+◌, ◌++◌, ◌∷◌, [], ap₂, sym, ◌∙◌, arith, rules, length, refl}
 use Rattle.std.proofs.lemmas.List.{length_push}
 use Rattle.std.proofs.lemmas.Option.{MatchOption-at_none}
-use Rattle.tv_r1cs_read.specs.Places.{system_with}
 use Rattle.tv_check.proofs.Trying.{tried, answers, judged_more, judge-stays, read_ends, read_passes, verdict_of-refuses}
 use Rattle.tv_check.proofs.checking.check.Goals.{then-not-holds, else-not-holds}
 use Rattle.tv_check.proofs.checking.check.Goals as goal
