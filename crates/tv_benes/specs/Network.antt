@@ -8,6 +8,7 @@ use Rattle.tv_bits.specs.Bit.{IsBit, bit_of}
 use Rattle.tv_bits.specs.Select.{select_of}
 use Rattle.tv_core.specs.Circuits.{Circuit, here, fresh, pure, ◌>>=◌}
 use Rattle.tv_core.specs.Laws.{Assigns, Meets, HasFrom, Fills, InField}
+use Rattle.tv_core.specs.Lines.{pair_value}
 use Rattle.tv_core.specs.Loops.{times}
 use Rattle.tv_core.specs.declared.field.TheConstants.{P}
 use Rattle.tv_core.specs.declared.lines.Pair.{Pair}

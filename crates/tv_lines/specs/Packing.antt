@@ -2,7 +2,7 @@
 use Rattle.std.specs.Prelude.{◌≡◌, ℕ, ◌+◌, ◌*◌, ◌/◌, ◌%◌, ◌^◌, ◌<◌, ◌++◌, List}
 use Rattle.tv_core.specs.Combinations.{scaled}
 use Rattle.tv_core.specs.Constraints.{Combination, value}
-use Rattle.tv_core.specs.Lines.{Line}
+use Rattle.tv_core.specs.Lines.{Line, pair_value}
 use Rattle.tv_core.specs.declared.field.TheConstants.{P}
 use Rattle.tv_core.specs.declared.limits.TheConstants.{CELL_BITS, TIME_BITS}
 use Rattle.tv_core.specs.declared.lines.LineLc.{LineLc}
