@@ -1,6 +1,5 @@
-ghost use Rattle.std.specs.Prelude.{◌≡◌, [], ◌∷◌, ◌++◌, IfOk, OnOk};
+ghost use Rattle.std.specs.Prelude.{◌≡◌};
 
-use std::alloc::{AllocError, Global};
 use std::marker::Model;
 use tv_core::Line;
 
@@ -37,28 +36,27 @@ impl Model for Lines {
 }
 
 impl Lines {
-    /// No lines, with room for so many.
-    pub(crate) fn with_capacity(alloc: Global, lines: usize) -> Result<Lines, AllocError>
-        ensures { IfOk result (λ made. made ≡ []) }
-    {
-        Ok(Lines {
-            items: Vec::with_capacity(alloc, lines)?,
-        })
-    }
-
-    /// Puts three lines at the end.
-    pub(crate) fn push_three(&mut self, lines: [Line; 3]) -> Result<(), AllocError>
-        ensures ok { OnOk result (self.new ≡ self.old ++ lines) }
-    {
-        self.items.extend_from_slice(&lines)?;
-        Ok(())
-    }
-
     /// The lines in order.
     pub fn as_slice(&self) -> &[Line]
         ensures { result.now ≡ self.now }
     {
         self.items.as_slice()
+    }
+}
+
+impl From<Vec<Line>> for Lines {
+    ghost from_gives = { λ items lines. lines ≡ items.items };
+
+    fn from(items: Vec<Line>) -> Lines {
+        Lines { items }
+    }
+}
+
+impl From<Lines> for Vec<Line> {
+    ghost from_gives = { λ lines items. items.items ≡ lines };
+
+    fn from(lines: Lines) -> Vec<Line> {
+        lines.items
     }
 }
 
@@ -78,28 +76,27 @@ impl Model for States {
 }
 
 impl States {
-    /// No states, with room for so many.
-    pub(crate) fn with_capacity(alloc: Global, states: usize) -> Result<States, AllocError>
-        ensures { IfOk result (λ made. made ≡ []) }
-    {
-        Ok(States {
-            items: Vec::with_capacity(alloc, states)?,
-        })
-    }
-
-    /// Puts a state at the end.
-    pub(crate) fn push(&mut self, state: TraceState) -> Result<(), AllocError>
-        ensures ok { OnOk result (self.new ≡ self.old ++ state ∷ []) }
-    {
-        self.items.push(state)?;
-        Ok(())
-    }
-
     /// The states in order.
     pub fn as_slice(&self) -> &[TraceState]
         ensures { result.now ≡ self.now }
     {
         self.items.as_slice()
+    }
+}
+
+impl From<Vec<TraceState>> for States {
+    ghost from_gives = { λ items states. states ≡ items.items };
+
+    fn from(items: Vec<TraceState>) -> States {
+        States { items }
+    }
+}
+
+impl From<States> for Vec<TraceState> {
+    ghost from_gives = { λ states items. items.items ≡ states };
+
+    fn from(states: States) -> Vec<TraceState> {
+        states.items
     }
 }
 

@@ -52,17 +52,17 @@ fn record<const W: u32>(
     ensures states { IfOk result (λ told. told.1 ≡ states_of W n m (state_of machine.old) t) }
 {
     let steps = t as usize;
-    let mut lines = Lines::with_capacity(alloc, 3 * steps)?;
-    let mut states = States::with_capacity(alloc, steps + 1)?;
+    let mut lines = Vec::with_capacity(alloc, 3 * steps)?;
+    let mut states = Vec::with_capacity(alloc, steps + 1)?;
     let mut ended = false;
     states.push(machine.told(n, m, ended))?;
     for taken in 0..t {
         let step = machine.record_step(n, time + 3 * taken, ended)?;
         ended = step.ended;
-        lines.push_three(step.lines)?;
+        lines.extend_from_slice(&step.lines)?;
         states.push(machine.told(n, m, ended))?;
     }
-    Ok((lines, states))
+    Ok((lines.into(), states.into()))
 }
 
 /// The trace of the run of at most `t` steps on an image and two tapes: the value that it answers,

@@ -24,11 +24,11 @@ loop-taken-preserved g c =
     record {
       state = state;
       ended = ended;
-      lines = c.in_ok-push_three.ensures.ok
+      lines = c.in_ok-extend_from_slice.ensures.items
           ∙ ap (λ xs. xs ++ c.in_ok-step.step.lines) before.lines
           ∙ ap (λ xs. lines_of w c.args.n c.args.time first k ++ xs) lines
           ∙ ap (lines_of w c.args.n c.args.time first) more;
-      states = c.in_ok-push-2.ensures.ok
+      states = c.in_ok-push-2.ensures.items
           ∙ ap (λ xs. xs ++ c.told-in-loop-taken.result ∷ []) before.states
           ∙ ap (λ s. states_of w c.args.n c.args.m first k ++ s ∷ []) told
           ∙ ap (states_of w c.args.n c.args.m first) more;

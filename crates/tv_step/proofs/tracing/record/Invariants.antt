@@ -9,6 +9,6 @@ abbrev pub invariant-loop-taken : goal.invariant-loop-taken
 invariant-loop-taken g l = record {
   state : state_of l.machine ≡ state_after g.row.W l.taken (state_of l.initial.machine);
   ended : l.ended ≡ ended_after g.row.W l.taken (state_of l.initial.machine);
-  lines : l.lines ≡ lines_of g.row.W l.n l.time (state_of l.initial.machine) l.taken;
-  states : l.states ≡ states_of g.row.W l.n l.m (state_of l.initial.machine) l.taken;
+  lines : l.lines.items ≡ lines_of g.row.W l.n l.time (state_of l.initial.machine) l.taken;
+  states : l.states.items ≡ states_of g.row.W l.n l.m (state_of l.initial.machine) l.taken;
 }
