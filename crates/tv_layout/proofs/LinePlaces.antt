@@ -27,9 +27,9 @@ use Rattle.tv_memory.specs.Memory.{IsMade}
 use Rattle.tv_word.specs.Widths.{IsWidth}
 use Rattle.tv_layout.proofs.Positions.{steps_next, log_above}
 use Rattle.tv_layout.proofs.Sized.{step_sized, placed_within}
-use Rattle.tv_layout.specs.Layout.{steps_of, state_at, block_at, boot_wires, boot_lines_of, padding_of, lines_of}
+use Rattle.tv_layout.specs.Layout.{steps_of, state_at, block_at, line_of_word, boot_wires, boot_lines_of, padding_of, lines_of}
 use Rattle.tv_layout.specs.Places.{WithinLimits, boot_count, line_count, log_of, tape_at, zero_wire_at, first_at}
-use Rattle.tv_layout.specs.Told.{state_before, line_of_word}
+use Rattle.tv_layout.specs.Told.{state_before}
 
 -- ---- lines that no step makes
 boot_wires_at : (cell time : ℕ) (words : List Combination) (i : ℕ) → i < length words → line_in (boot_wires cell time words) i ≡ line_of_word (cell + i) (time + i) (get_or words i [])
@@ -247,6 +247,3 @@ module _ (w : ℕ) (image : List ℕ) (n t : ℕ) (fits : WithinLimits w image n
 
   pub lines_made : All (IsMade (first_at w n + t * block_made w)) (lines_of (block_of w) w image n t)
   lines_made = All-from_get_or (IsMade _) (lines_of (block_of w) w image n t) no_line (λ i h. line_made i (omega (arith, line_number w image n t fits)))
-
-  pub line_short : (i : ℕ) → i < 2 ^ log_of (line_count image n t) → IsShort (line_in (lines_of (block_of w) w image n t) i)
-  line_short i h = let m = line_made i h in record { cell = m.cell_short; time = m.time_short; old = m.old_short; new = m.new_short }

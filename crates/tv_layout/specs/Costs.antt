@@ -1,7 +1,6 @@
 -- What the parts of a system cost, in wires, in constraints and in terms.
 use Rattle.std.specs.Prelude.{ℕ, ◌+◌, ◌-◌, ◌*◌, ◌^◌, ◌≤◌, ◌==◌, if◌then◌else◌}
-use Rattle.tv_block.specs.Complete.{block_made}
-use Rattle.tv_block.specs.Complete.{block_added}
+use Rattle.tv_block.specs.Complete.{block_made, block_added}
 use Rattle.tv_layout.specs.declared.costs.Amounts.{Amounts}
 use Rattle.tv_layout.specs.declared.costs.Costs.{Costs}
 

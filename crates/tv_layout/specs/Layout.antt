@@ -51,10 +51,14 @@ tie_of last = do
   put (wire last.value) (constant 1) (wire 1)
 
 -- ---- lines that no step makes
+-- a cell that held 0 gets a word
+abbrev pub line_of_word : ℕ → ℕ → Combination → LineLc
+line_of_word cell time word = record { cell = constant cell; time = constant time; old = []; new = word }
+
 -- the lines that write words, the first into this cell at this time
 abbrev pub boot_wires : ℕ → ℕ → List Combination → List LineLc
 boot_wires cell time [] = []
-boot_wires cell time (word ∷ words) = record { cell = constant cell; time = constant time; old = []; new = word } ∷ boot_wires (cell + 1) (time + 1) words
+boot_wires cell time (word ∷ words) = line_of_word cell time word ∷ boot_wires (cell + 1) (time + 1) words
 
 -- those of an image, and of n words of the primary tape
 abbrev pub boot_lines_of : List ℕ → ℕ → List LineLc
@@ -63,7 +67,7 @@ boot_lines_of image n = boot_wires 0 0 (map constant image) ++ boot_wires TAPE_C
 -- lines of the null cell, from a time on
 abbrev pub padding_of : ℕ → ℕ → List LineLc
 padding_of time zero = []
-padding_of time (suc more) = record { cell = constant NULL_CELL; time = constant time; old = []; new = [] } ∷ padding_of (time + 1) more
+padding_of time (suc more) = line_of_word NULL_CELL time [] ∷ padding_of (time + 1) more
 
 -- ---- what a step takes
 -- the wire at which a step has the word that it takes in an assignment: it takes one where its `taken` is 1

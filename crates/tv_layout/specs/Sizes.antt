@@ -3,13 +3,12 @@ use Rattle.std.specs.Prelude.{◌≡◌, ℕ, ◌+◌, ◌-◌, ◌*◌, ◌^◌
 use Rattle.tv_benes.specs.Through.{switches}
 use Rattle.tv_benes.specs.declared.shape.Net.{Net}
 use Rattle.tv_benes.specs.declared.shape.Net.TheVariants.{Benes, Waksman}
-use Rattle.tv_block.specs.Complete.{block_made}
+use Rattle.tv_block.specs.Complete.{block_made, block_added}
 use Rattle.tv_core.specs.Constraints.{System}
 use Rattle.tv_core.specs.Meanings.{terms_in}
 use Rattle.tv_memory.specs.Memory.{memory_made, memory_added}
 use Rattle.tv_layout.specs.Costs.{wire_costs, constraint_costs, term_costs, total_of}
 use Rattle.tv_layout.specs.Places.{WithinLimits, boot_count, line_count, log_of}
-use Rattle.tv_block.specs.Complete.{block_added}
 use Rattle.tv_layout.specs.Systems.{system_of}
 use Rattle.tv_layout.specs.declared.costs.Amounts.{Amounts}
 use Rattle.tv_layout.specs.declared.costs.Costs.{Costs}

@@ -1,18 +1,11 @@
 -- Parts of a system as they are told by their places.
-use Rattle.std.specs.Prelude.{ℕ, zero, suc, ◌+◌, ◌*◌, []}
+use Rattle.std.specs.Prelude.{ℕ, zero, suc, ◌+◌, ◌*◌}
 use Rattle.tv_block.specs.Complete.{block_made}
 use Rattle.tv_block.specs.Places.{next_state}
 use Rattle.tv_block.specs.declared.records.StateWires.{StateWires}
-use Rattle.tv_core.specs.Combinations.{constant}
-use Rattle.tv_core.specs.Constraints.{Combination}
-use Rattle.tv_core.specs.declared.lines.LineLc.{LineLc}
 use Rattle.tv_layout.specs.Layout.{first_state}
 
 -- the state before a step, where the first one's wires begin at `first`: the first state, or that after the step before
 abbrev pub state_before : ℕ → ℕ → ℕ → ℕ → StateWires
 state_before w zero_wire first zero = first_state zero_wire
 state_before w zero_wire first (suc i) = next_state w (first + i * block_made w)
-
--- a line that no step makes: a cell that held 0 gets a word
-abbrev pub line_of_word : ℕ → ℕ → Combination → LineLc
-line_of_word cell time word = record { cell = constant cell; time = constant time; old = []; new = word }

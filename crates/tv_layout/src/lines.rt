@@ -4,10 +4,10 @@ ghost use Rattle.tv_block.specs.Block.{block_of};
 ghost use Rattle.tv_block.specs.Complete.{block_made};
 ghost use Rattle.tv_block.specs.Places.{block_wires, IsShort};
 ghost use Rattle.tv_block.specs.Under.{LineUnder};
-ghost use Rattle.tv_layout.specs.Layout.{lines_of};
+ghost use Rattle.tv_layout.specs.Layout.{lines_of, line_of_word};
 ghost use Rattle.tv_layout.specs.Places.{WithinLimits, line_count, log_of, zero_wire_at, first_at};
 ghost use Rattle.tv_layout.specs.Systems.{system_of};
-ghost use Rattle.tv_layout.specs.Told.{state_before, line_of_word};
+ghost use Rattle.tv_layout.specs.Told.{state_before};
 ghost use Rattle.tv_lines.specs.Placed.{line_in};
 ghost use Rattle.tv_word.specs.Widths.{IsWidth};
 

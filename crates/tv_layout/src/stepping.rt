@@ -1,10 +1,9 @@
 ghost use Rattle.std.specs.Prelude.{◌≡◌, ◌*◌, ◌<◌, ℕ, IfOk};
 ghost use Rattle.tv_block.specs.Block.{block_of};
-ghost use Rattle.tv_block.specs.Complete.{block_made};
+ghost use Rattle.tv_block.specs.Complete.{block_made, block_added};
 ghost use Rattle.tv_core.specs.Sinks.{PutsIn, Grows, Room};
 ghost use Rattle.tv_layout.specs.Layout.{first_state, before_steps, steps_of};
 ghost use Rattle.tv_layout.specs.Reached.{ReachedUnder};
-ghost use Rattle.tv_block.specs.Complete.{block_added};
 ghost use Rattle.tv_word.specs.Widths.{IsWidth};
 
 use tv_block::{Reached, StateWires, step};
