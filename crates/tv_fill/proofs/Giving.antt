@@ -15,12 +15,11 @@ use Rattle.tv_fill.specs.Filled.{front_values, filled_values}
 use Rattle.tv_fill.specs.Told.{told_values}
 
 -- the same parts have the same values
-pub same_filled : (w v first t k : ℕ) (net : Net) {x x2 aux aux2 : List ℕ} {states states2 : List TraceState} {pairs pairs2 : List PairNum} {bits bits2 : List Bool}
-    → x ≡ x2 → aux ≡ aux2 → states ≡ states2 → pairs ≡ pairs2 → bits ≡ bits2 → filled_values w v x aux first t states pairs net k bits ≡ filled_values w v x2 aux2 first t states2 pairs2 net k bits2
-same_filled w v first t k net {x} {x2} {aux} {aux2} {states} {states2} {pairs} {pairs2} {bits} {bits2} p q r s b =
-    ap₂ (λ (x aux : List ℕ). filled_values w v x aux first t states pairs net k bits) p q
-    ∙ (ap₂ (λ (states : List TraceState) (pairs : List PairNum). filled_values w v x2 aux2 first t states pairs net k bits) r s
-    ∙ ap (λ (bits : List Bool). filled_values w v x2 aux2 first t states2 pairs2 net k bits) b)
+pub same_filled : (w v first t k : ℕ) (net : Net) (x aux : List ℕ) {states states2 : List TraceState} {pairs pairs2 : List PairNum} {bits bits2 : List Bool}
+    → states ≡ states2 → pairs ≡ pairs2 → bits ≡ bits2 → filled_values w v x aux first t states pairs net k bits ≡ filled_values w v x aux first t states2 pairs2 net k bits2
+same_filled w v first t k net x aux {states} {states2} {pairs} {pairs2} {bits} {bits2} s p b =
+    ap₂ (λ (states : List TraceState) (pairs : List PairNum). filled_values w v x aux first t states pairs net k bits) s p
+    ∙ ap (λ (bits : List Bool). filled_values w v x aux first t states2 pairs2 net k bits) b
 
 module _ {V : Type 0} (m : Giving V) (w v first t k : ℕ) (net : Net) (x aux : List ℕ) (states : List TraceState) (pairs : List PairNum) (bits : List Bool) where
   abbrev all : List ℕ

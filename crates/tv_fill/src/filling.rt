@@ -25,12 +25,12 @@ use tv_step::{States, Trace, trace};
 /// A run that answers, ready to give the values of its system's wires. Contracts see its answer and
 /// the list of the values.
 #[derive(Drop)]
-pub struct Filling<const W: u32> {
+pub struct Filling<'a, const W: u32> {
     answer: u32,
     // How many values there are.
     count: u32,
-    tape: Vec<u32>,
-    aux: Vec<u32>,
+    tape: &'a [u32],
+    aux: &'a [u32],
     // Where the lines of the steps begin, and how many steps there are.
     first: u32,
     t: u32,
@@ -44,22 +44,22 @@ pub struct Filling<const W: u32> {
     settings: Settings,
 }
 
-impl<const W: u32> Model for Filling<W> {
+impl<'a, const W: u32> Model for Filling<'a, W> {
     ghost use Rattle.tv_fill.specs.Filled.{Filled, filled_values, PartsFit};
 
     ghost Value = { Filled };
 
     ghost view = { λ f. record {
       answer = f.answer;
-      values = filled_values W f.answer f.tape.items
-          f.aux.items f.first f.t f.states f.pairs.items f.net f.k f.settings;
+      values = filled_values W f.answer f.tape.now
+          f.aux.now f.first f.t f.states f.pairs.items f.net f.k f.settings;
     } };
 
-    ghost invariant = { λ f. PartsFit W f.answer f.count f.tape.items f.aux.items f.first f.t
+    ghost invariant = { λ f. PartsFit W f.answer f.count f.tape.now f.aux.now f.first f.t
         f.states f.pairs.items f.spare.items f.net f.k f.settings };
 }
 
-impl<const W: u32> Filling<W> {
+impl<'a, const W: u32> Filling<'a, W> {
     /// What the run answers.
     pub fn answer(&self) -> u32
         ensures { result ≡ self.now.answer }
@@ -95,15 +95,14 @@ impl<const W: u32> Filling<W> {
             k,
             settings,
         } = self;
-        let words = tape.as_slice();
-        fill_front::<W, V>(v, answer, words)?;
+        fill_front::<W, V>(v, answer, tape)?;
         let steps = Steps {
             states: states.as_slice(),
-            aux: aux.as_slice(),
+            aux,
             pairs: pairs.as_slice(),
             first,
         };
-        steps.fill::<W, V>(v, words.len() as u32, t)?;
+        steps.fill::<W, V>(v, tape.len() as u32, t)?;
         fill_memory(
             v,
             net,
@@ -117,21 +116,21 @@ impl<const W: u32> Filling<W> {
 
 /// Runs the machine for at most `t` steps on an image and two tapes, and makes the values of the
 /// wires of its system over a network ready, where it answers. `NoRun` comes exactly where it
-/// doesn't, and tells how it ends. Beside the machine's own memory and copies of the tapes it takes
-/// at most 160 bytes for each of the 2^k lines of the system, and at most 100 bytes a line are held
-/// by what it answers, with the room that the lines are moved in when the values are given. It
+/// doesn't, and tells how it ends. Beside the machine's own memory it takes at most 160 bytes for
+/// each of the 2^k lines of the system, and at most 100 bytes a line are held by what it answers,
+/// with the room that the lines are moved in when the values are given; that borrows the tapes. It
 /// takes the run's time twice, and then a time that grows as k times the lines.
 ///
 /// Words have `W` bits, 16 or 32, and the image fits in memory. It has at most 131,072 of them, and
 /// so has the primary tape; `t` is from 1 to 262,144.
-pub fn prepare<const W: u32>(
+pub fn prepare<'a, const W: u32>(
     alloc: Global,
     image: &[u32],
-    tape: &[u32],
-    aux: &[u32],
+    tape: &'a [u32],
+    aux: &'a [u32],
     t: u32,
     net: Net,
-) -> Result<Filling<W>, FillFault>
+) -> Result<Filling<'a, W>, FillFault>
     requires limits { WithinLimits W image.now (length tape.now) t }
     requires image { length image.now * (W / 8) ≤ 2 ^ W }
     requires tape_words { AreWords W tape.now }
@@ -157,8 +156,8 @@ pub fn prepare<const W: u32>(
     Ok(Filling {
         answer,
         count: sizes::<W>(image, tape.len() as u32, t, net).wires,
-        tape: Vec::from_slice(alloc, tape)?,
-        aux: Vec::from_slice(alloc, aux)?,
+        tape,
+        aux,
         first,
         t,
         states,

@@ -80,7 +80,7 @@ impl<'a> WitnessArgs<'a> {
 fn write_values<const W: u32, D: Files>(
     files: &mut D,
     place: Place<'_>,
-    filling: Filling<W>,
+    filling: Filling<'_, W>,
 ) -> Result<(), Stop>
     ensures { Writes (one_write (named place.entry) (Values filling.entry.values))
         (D.seen files.old) (D.seen files.new) result }

@@ -1,4 +1,4 @@
-use Rattle.std.proofs.Common.{◌≡◌, ℕ, ◌+◌, List, length, map, ap, ap₂, ◌∙◌, arith}
+use Rattle.std.proofs.Common.{◌≡◌, ℕ, ◌+◌, length, map, ap, ◌∙◌, arith}
 use Rattle.tv_core.specs.declared.lines.Counts.{Counts}
 use Rattle.tv_fill.proofs.Prepared.{log_few, lines_fit, lines_in_range, routable, parts_fit, values_are}
 use Rattle.tv_fill.specs.Filled.{filled_values, lines_told}
@@ -40,7 +40,7 @@ invariant_of-result g c =
     c.in_ok-answer.field-0.lines c.in_ok-answer.ensures.trace.lines c.in_ok-answer.field-0.states c.in_ok-answer.ensures.trace.states pairs packed
     c.in_ok-settings.settings set c.in_ok-answer.field-0.answer c.in_ok-answer.ensures.trace.answer c.sizes.result.wires (ap (λ (counts : Counts). counts.wires) c.sizes.ensures.counts)
     c.in_ok-spare.spare.items many in
-    rw (c.in_ok-from_slice.ensures.items, c.in_ok-from_slice-2.ensures.items, c.log_of-k.ensures.is) fit
+    rw c.log_of-k.ensures.is fit
 
 pub returns-clause-filling : goal.returns-clause-filling
 returns-clause-filling g c =
@@ -56,8 +56,7 @@ returns-clause-filling g c =
     let whole =
     values_are w c.args.net c.args.image.now c.args.tape.now c.args.aux.now c.args.t c.requires.limits c.requires.tape_words c.requires.aux_words
     c.in_ok-answer.field-0.lines c.in_ok-answer.ensures.trace.lines states c.in_ok-answer.ensures.trace.states pairs packed bits set v in
-    let values : filled_values w v c.in_ok-from_slice.field-0.items c.in_ok-from_slice-2.field-0.items first c.args.t states pairs c.args.net c.log_of-k.result bits
+    let values : filled_values w v c.args.tape.now c.args.aux.now first c.args.t states pairs c.args.net c.log_of-k.result bits
     ≡ run_values w c.args.net c.args.image.now c.args.tape.now c.args.aux.now c.args.t v =
-    ap₂ (λ (x y : List ℕ). filled_values w v x y first c.args.t states pairs c.args.net c.log_of-k.result bits) c.in_ok-from_slice.ensures.items c.in_ok-from_slice-2.ensures.items
-    ∙ (ap (λ (k : ℕ). filled_values w v c.args.tape.now c.args.aux.now first c.args.t states pairs c.args.net k bits) c.log_of-k.ensures.is ∙ whole) in
+    ap (λ (k : ℕ). filled_values w v c.args.tape.now c.args.aux.now first c.args.t states pairs c.args.net k bits) c.log_of-k.ensures.is ∙ whole in
     record { answer = c.in_ok-answer.ensures.trace.answer; values = values }

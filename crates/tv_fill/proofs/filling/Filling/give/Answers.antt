@@ -13,29 +13,28 @@ pub returns-in_err-fill_front-clause-gives : goal.returns-in_err-fill_front-clau
 returns-in_err-fill_front-clause-gives g c =
     let m = g.V.Values.giving in
     let i = c.self.inside in
-    let is = same_filled g.row.W i.answer i.first i.t i.k i.net {aux = i.aux.items} {states = i.states} {pairs = i.pairs.items} {bits = i.settings} c.as_slice-words.ensures.value refl refl refl refl
-    ∙ ap (λ (f : Filled). f.values) c.self.view_is in
+    let is = ap (λ (f : Filled). f.values) c.self.view_is in
     gives_refused m _ _ _ c.from_residual.result c.from_residual.ensures.1
-    (given_some m _ _ _ _ is _ (front_refused m g.row.W i.answer i.first i.t i.k i.net c.as_slice-words.result.now i.aux.items i.states i.pairs.items i.settings _ _ _ c.in_err-fill_front.ensures.gives))
+    (given_some m _ _ _ _ is _ (front_refused m g.row.W i.answer i.first i.t i.k i.net i.tape.now i.aux.now i.states i.pairs.items i.settings _ _ _ c.in_err-fill_front.ensures.gives))
 
 pub returns-in_err-fill-clause-gives : goal.returns-in_err-fill-clause-gives
 returns-in_err-fill-clause-gives g c =
     let m = g.V.Values.giving in
     let i = c.self.inside in
-    let is = same_filled g.row.W i.answer i.first i.t i.k i.net {bits = i.settings} c.as_slice-words.ensures.value c.as_slice-2.ensures.value c.as_slice.ensures c.as_slice-3.ensures.value refl
+    let is = same_filled g.row.W i.answer i.first i.t i.k i.net i.tape.now i.aux.now {bits = i.settings} c.as_slice.ensures c.as_slice-2.ensures.value refl
     ∙ ap (λ (f : Filled). f.values) c.self.view_is in
     gives_refused m _ _ _ c.from_residual-in_err-fill.result c.from_residual-in_err-fill.ensures.1
     (given_some m _ _ _ _ is _
-    (steps_refused m g.row.W i.answer i.first i.t i.k i.net c.as_slice-words.result.now c.as_slice-2.result.now c.as_slice.result.now c.as_slice-3.result.now i.settings _ _ _ _
+    (steps_refused m g.row.W i.answer i.first i.t i.k i.net i.tape.now i.aux.now c.as_slice.result.now c.as_slice-2.result.now i.settings _ _ _ _
     c.in_ok-fill_front.ensures.gives c.in_err-fill.ensures.gives))
 
 pub returns-clause-gives : goal.returns-clause-gives
 returns-clause-gives g c =
     let m = g.V.Values.giving in
     let i = c.self.inside in
-    let is = same_filled g.row.W i.answer i.first i.t i.k i.net c.as_slice-words.ensures.value c.as_slice-2.ensures.value c.as_slice.ensures c.as_slice-3.ensures.value c.as_slice-4.ensures
+    let is = same_filled g.row.W i.answer i.first i.t i.k i.net i.tape.now i.aux.now c.as_slice.ensures c.as_slice-2.ensures.value c.as_slice-3.ensures
     ∙ ap (λ (f : Filled). f.values) c.self.view_is in
-    let same = ap (λ (ps : List PairNum). routed_values i.net (i.k - 1) (bit_at c.as_slice-4.result.now) (map unpacked ps)) (c.as_mut_slice.ensures.value ∙ sym c.as_slice-3.ensures.value) in
+    let same = ap (λ (ps : List PairNum). routed_values i.net (i.k - 1) (bit_at c.as_slice-3.result.now) (map unpacked ps)) (c.as_mut_slice.ensures.value ∙ sym c.as_slice-2.ensures.value) in
     given_in m _ _ _ _ is _
-    (all_given m g.row.W i.answer i.first i.t i.k i.net c.as_slice-words.result.now c.as_slice-2.result.now c.as_slice.result.now c.as_slice-3.result.now c.as_slice-4.result.now _ _ _ _ _
+    (all_given m g.row.W i.answer i.first i.t i.k i.net i.tape.now i.aux.now c.as_slice.result.now c.as_slice-2.result.now c.as_slice-3.result.now _ _ _ _ _
     c.in_ok-fill_front.ensures.gives c.in_ok-fill.ensures.gives (given_in m _ _ _ _ same _ c.fill_memory.ensures.gives))
