@@ -23,3 +23,6 @@ pub mod RunningClaim
 pub mod CheckingClaim
 pub mod ComesBack
 pub mod TapesComeBack
+pub mod TextFaults
+pub mod TapeFaults
+pub mod RunFaults

@@ -1,5 +1,9 @@
-//! The numbers of the limits, and that what one command writes another one takes.
-ghost use Rattle.std.specs.Prelude.{◌≡◌, ◌≤◌, ◌+◌, ◌-◌, ◌^◌};
+//! The numbers of the limits, that what one command writes another one takes, and that what files
+//! hold never comes to want of memory.
+ghost use Rattle.std.specs.Prelude.{◌≡◌, ◌≢◌, ◌≤◌, ◌+◌, ◌-◌, ◌^◌, ℕ, List, Err};
+ghost use Rattle.tv_asm.specs.Assembly.{assembled};
+ghost use Rattle.tv_asm.specs.declared.fault.AsmFault.TheVariants as asm;
+ghost use Rattle.tv_benes.specs.declared.shape.Net.{Net};
 ghost use Rattle.tv_core.specs.declared.combination.TheConstants.{TERMS};
 ghost use Rattle.tv_core.specs.declared.field.TheConstants.{P};
 ghost use Rattle.tv_core.specs.declared.limits.TheConstants.{STEPS, IMAGE_WORDS, IMAGE_WORDS_16};
@@ -7,7 +11,11 @@ ghost use Rattle.tv_core.specs.declared.limits.TheConstants.{TAPE_WORDS, AUX_WOR
 ghost use Rattle.tv_core.specs.declared.limits.TheConstants.{TEXT_BYTES, DRAWS};
 ghost use Rattle.tv_core.specs.declared.limits.TheConstants.{TIME_BITS, CELL_BITS};
 ghost use Rattle.tv_core.specs.declared.limits.TheConstants.{TAPE_CELLS, NULL_CELL};
+ghost use Rattle.tv_extract.specs.Extracting.{run_in};
+ghost use Rattle.tv_extract.specs.declared.run.ExtractFault.TheVariants as extract;
 ghost use Rattle.tv_shrink.specs.Answers.{most as system_terms};
+ghost use Rattle.tv_tape.specs.Tape.{tape_of};
+ghost use Rattle.tv_tape.specs.declared.items.TapeFault.TheVariants as tape;
 ghost use Rattle.tv_top.specs.ComesBack.{ImageComesBack, TapeTextsFit, TapesComeBack};
 ghost use Rattle.tv_top.specs.ComesBack.{ExtractedAreTaken};
 ghost use Rattle.tv_top.specs.Inputs.{primary_in, aux_in};
@@ -57,4 +65,15 @@ pub fn tapes_come_back()
     ensures extracted { ExtractedAreTaken }
     ensures steps { STEPS ≤ AUX_WORDS + 1 }
     ensures answer { TAPE_WORDS + 1 ≤ CHECK_WORDS }
+{}
+
+/// What a program text, a tape's text and an assignment come to is never want of memory: that is of
+/// the calls alone. So the definitions that turn their faults into ends never come to the cases
+/// that stand for nothing.
+pub fn definitions_want_no_memory()
+    ensures texts { (w most : ℕ) (text : List ℕ) → assembled w most text ≢ Err asm.Memory }
+    ensures tapes { (below most : ℕ) (text : List ℕ) →
+        tape_of text below most ≢ Err tape.Memory }
+    ensures runs { (w : ℕ) (net : Net) (image : List ℕ) (n t : ℕ) (z : List ℕ) →
+        run_in w net image n t z ≢ Err extract.Memory }
 {}

@@ -29,7 +29,7 @@ mod witnessing;
 mod writing;
 
 pub use commands::command;
-pub use law::{image_comes_back, limits_are_these, tapes_come_back};
+pub use law::{definitions_want_no_memory, image_comes_back, limits_are_these, tapes_come_back};
 pub use programs::Width;
 pub use refusal::{Quantity, Refusal};
 pub use status::{NoWhy, NotRun, Status, What};
