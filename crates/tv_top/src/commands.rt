@@ -1,44 +1,25 @@
 //! The top call: what the words ask for is done, and one line is said.
 ghost use Rattle.std.specs.Prelude.{length, map, string_bytes};
-ghost use Rattle.tv_top.specs.Answers.{Answers, Does};
+ghost use Rattle.tv_top.specs.Answers.{Answers};
 ghost use Rattle.tv_top.specs.Assembling.{OnAsm};
 ghost use Rattle.tv_top.specs.Building.{OnBuild};
 ghost use Rattle.tv_top.specs.Checking.{OnCheck};
 ghost use Rattle.tv_top.specs.Disassembling.{OnDisasm};
 ghost use Rattle.tv_top.specs.Extracting.{OnExtract};
-ghost use Rattle.tv_top.specs.Form.{form, plan_of};
+ghost use Rattle.tv_top.specs.Form.{form};
 ghost use Rattle.tv_top.specs.Listing.{OnListing};
-ghost use Rattle.tv_top.specs.Plan.{AreWithin, request_of};
+ghost use Rattle.tv_top.specs.Plan.{request_of};
 ghost use Rattle.tv_top.specs.Running.{OnRun};
 ghost use Rattle.tv_top.specs.Shrinking.{OnShrink};
 ghost use Rattle.tv_top.specs.Trialing.{OnTrial};
 ghost use Rattle.tv_top.specs.Witnessing.{OnWitness};
 
-use crate::job::{Job, job_of};
-use crate::refusal::{Ending, Finish, Stop};
+use crate::job::Job;
+use crate::refusal::Ending;
 use crate::status::Status;
 use crate::writing::conclude;
 use std::alloc::Global;
 use tv_files::Files;
-
-/// Does a job: looks at its files, and writes what they come to.
-fn perform<D: Files>(alloc: Global, files: &mut D, job: Job<'_>) -> Result<Finish, Stop>
-    requires { AreWithin (plan_of job).amounts }
-    ensures { Does (plan_of job.entry) (D.seen files.old) (D.seen files.new) result }
-{
-    match job {
-        Job::Asm(args) => args.perform(alloc, files),
-        Job::Disasm(args) => args.perform(alloc, files),
-        Job::Run(args) => args.perform(alloc, files),
-        Job::Build(args) => args.perform(alloc, files),
-        Job::Witness(args) => args.perform(alloc, files),
-        Job::Check(args) => args.perform(alloc, files),
-        Job::Extract(args) => args.perform(alloc, files),
-        Job::Trial(args) => args.perform(alloc, files),
-        Job::Shrink(args) => args.perform(alloc, files),
-        Job::Listing(args) => args.perform(alloc, files),
-    }
-}
 
 /// Does what the words ask for and says the line of its end, by the general contract of all
 /// commands.
@@ -46,8 +27,8 @@ fn answer<D: Files>(alloc: Global, words: &[String], files: &mut D) -> Status
     ensures { Answers (request_of (form (map string_bytes words.now))) (length words.now)
         (D.seen files.old) (D.seen files.new) result }
 {
-    let ending = match job_of(words) {
-        Ok(job) => Ending::from(perform(alloc, files, job)),
+    let ending = match Job::of(words) {
+        Ok(job) => Ending::from(job.perform(alloc, files)),
         Err(why) => Ending::Refused(why),
     };
     conclude(files, words.len(), ending)

@@ -1,8 +1,9 @@
 //! What words ask for.
 ghost use Rattle.std.specs.Prelude.{◌≡◌, map, string_bytes, Ok, Err, IfOk, MatchResult};
 ghost use Rattle.std.specs.Prelude.{Some, None, MatchOption};
+ghost use Rattle.tv_top.specs.Answers.{Does};
 ghost use Rattle.tv_top.specs.Form.{form, plan_of};
-ghost use Rattle.tv_top.specs.Plan.{request_of, refusal_of};
+ghost use Rattle.tv_top.specs.Plan.{AreWithin, request_of, refusal_of};
 
 use crate::assembling::AsmArgs;
 use crate::building::BuildArgs;
@@ -10,11 +11,13 @@ use crate::checking::CheckArgs;
 use crate::disassembling::DisasmArgs;
 use crate::extracting::ExtractArgs;
 use crate::listing::ListingArgs;
-use crate::refusal::Refusal;
+use crate::refusal::{Finish, Refusal, Stop};
 use crate::running::RunArgs;
 use crate::shrinking::ShrinkArgs;
 use crate::trialing::TrialArgs;
 use crate::witnessing::WitnessArgs;
+use std::alloc::Global;
+use tv_files::Files;
 
 /// A command with its words.
 #[derive(Clone, Copy)]
@@ -41,60 +44,79 @@ pub(crate) enum Job<'a> {
     Listing(ListingArgs<'a>),
 }
 
-/// The job whose form the words have; it may still be refused.
-fn form_of(words: &[String]) -> Option<Job<'_>>
-    ensures { MatchOption result (form (map string_bytes words.now) ≡ None)
-        (λ job. form (map string_bytes words.now) ≡ Some (plan_of job)) }
-{
-    let [name, rest @ ..] = words else {
-        return None;
-    };
-    match name.as_str() {
-        "asm" => Some(Job::Asm(AsmArgs::read(rest)?)),
-        "disasm" => Some(Job::Disasm(DisasmArgs::read(rest)?)),
-        "run" => Some(Job::Run(RunArgs::read(rest)?)),
-        "build" => Some(Job::Build(BuildArgs::read(rest)?)),
-        "witness" => Some(Job::Witness(WitnessArgs::read(rest)?)),
-        "check" => Some(Job::Check(CheckArgs::read(rest)?)),
-        "extract" => Some(Job::Extract(ExtractArgs::read(rest)?)),
-        "trial" => Some(Job::Trial(TrialArgs::read(rest)?)),
-        "shrink" => Some(Job::Shrink(ShrinkArgs::read(rest)?)),
-        "listing" => Some(Job::Listing(ListingArgs::read(rest)?)),
-        _ => None,
+impl<'a> Job<'a> {
+    /// The job whose form the words have; it may still be refused.
+    fn read(words: &'a [String]) -> Option<Job<'a>>
+        ensures { MatchOption result (form (map string_bytes words.now) ≡ None)
+            (λ job. form (map string_bytes words.now) ≡ Some (plan_of job)) }
+    {
+        let [name, rest @ ..] = words else {
+            return None;
+        };
+        match name.as_str() {
+            "asm" => Some(Job::Asm(AsmArgs::read(rest)?)),
+            "disasm" => Some(Job::Disasm(DisasmArgs::read(rest)?)),
+            "run" => Some(Job::Run(RunArgs::read(rest)?)),
+            "build" => Some(Job::Build(BuildArgs::read(rest)?)),
+            "witness" => Some(Job::Witness(WitnessArgs::read(rest)?)),
+            "check" => Some(Job::Check(CheckArgs::read(rest)?)),
+            "extract" => Some(Job::Extract(ExtractArgs::read(rest)?)),
+            "trial" => Some(Job::Trial(TrialArgs::read(rest)?)),
+            "shrink" => Some(Job::Shrink(ShrinkArgs::read(rest)?)),
+            "listing" => Some(Job::Listing(ListingArgs::read(rest)?)),
+            _ => None,
+        }
     }
-}
 
-/// What a job is refused for.
-fn job_refusal(job: Job<'_>) -> Option<Refusal>
-    ensures { let plan = plan_of job.entry in
-        result ≡ refusal_of plan.reads plan.writes plan.amounts }
-{
-    match job {
-        Job::Asm(args) => args.refusal(),
-        Job::Disasm(args) => args.refusal(),
-        Job::Run(args) => args.refusal(),
-        Job::Build(args) => args.refusal(),
-        Job::Witness(args) => args.refusal(),
-        Job::Check(args) => args.refusal(),
-        Job::Extract(args) => args.refusal(),
-        Job::Trial(args) => args.refusal(),
-        Job::Shrink(args) => args.refusal(),
-        Job::Listing(args) => args.refusal(),
+    /// What the words are refused for.
+    fn refusal(self) -> Option<Refusal>
+        ensures { let plan = plan_of self.entry in
+            result ≡ refusal_of plan.reads plan.writes plan.amounts }
+    {
+        match self {
+            Job::Asm(args) => args.refusal(),
+            Job::Disasm(args) => args.refusal(),
+            Job::Run(args) => args.refusal(),
+            Job::Build(args) => args.refusal(),
+            Job::Witness(args) => args.refusal(),
+            Job::Check(args) => args.refusal(),
+            Job::Extract(args) => args.refusal(),
+            Job::Trial(args) => args.refusal(),
+            Job::Shrink(args) => args.refusal(),
+            Job::Listing(args) => args.refusal(),
+        }
     }
-}
 
-/// The job that the words ask for, else the refusal.
-pub(crate) fn job_of(words: &[String]) -> Result<Job<'_>, Refusal>
-    ensures due { let due = request_of (form (map string_bytes words.now)) in
-        MatchResult result (λ job. due ≡ Ok (plan_of job)) (λ why. due ≡ Err why) }
-    ensures unrefused { IfOk result (λ job. let plan = plan_of job in
-        refusal_of plan.reads plan.writes plan.amounts ≡ None) }
-{
-    let Some(job) = form_of(words) else {
-        return Err(Refusal::Usage);
-    };
-    match job_refusal(job) {
-        None => Ok(job),
-        Some(why) => Err(why),
+    /// The job that the words ask for, else the refusal.
+    pub(crate) fn of(words: &'a [String]) -> Result<Job<'a>, Refusal>
+        ensures due { let due = request_of (form (map string_bytes words.now)) in
+            MatchResult result (λ job. due ≡ Ok (plan_of job)) (λ why. due ≡ Err why) }
+        ensures unrefused { IfOk result (λ job. let plan = plan_of job in
+            refusal_of plan.reads plan.writes plan.amounts ≡ None) }
+    {
+        let job = Job::read(words).ok_or(Refusal::Usage)?;
+        match job.refusal() {
+            None => Ok(job),
+            Some(why) => Err(why),
+        }
+    }
+
+    /// Looks at the files, and writes what they come to.
+    pub(crate) fn perform<D: Files>(self, alloc: Global, files: &mut D) -> Result<Finish, Stop>
+        requires { AreWithin (plan_of self).amounts }
+        ensures { Does (plan_of self.entry) (D.seen files.old) (D.seen files.new) result }
+    {
+        match self {
+            Job::Asm(args) => args.perform(alloc, files),
+            Job::Disasm(args) => args.perform(alloc, files),
+            Job::Run(args) => args.perform(alloc, files),
+            Job::Build(args) => args.perform(alloc, files),
+            Job::Witness(args) => args.perform(alloc, files),
+            Job::Check(args) => args.perform(alloc, files),
+            Job::Extract(args) => args.perform(alloc, files),
+            Job::Trial(args) => args.perform(alloc, files),
+            Job::Shrink(args) => args.perform(alloc, files),
+            Job::Listing(args) => args.perform(alloc, files),
+        }
     }
 }
