@@ -10,8 +10,6 @@ use Rattle.tv_r1cs_read.specs.Survey.{survey_of}
 use Rattle.tv_container.specs.declared.why.ReadRefusal.{ReadRefusal}
 use Rattle.tv_container.specs.declared.why.ReadRefusal.TheVariants as refusal
 use Rattle.tv_wtns.specs.Wtns.{Firsts, firsts, assignment_of}
-use Rattle.tv_top.specs.declared.containers.Container.{Container}
-use Rattle.tv_top.specs.declared.containers.Container.TheVariants as container
 use Rattle.tv_top.specs.declared.refusal.Bad.{Bad}
 use Rattle.tv_top.specs.declared.refusal.Bad.TheVariants as bad
 use Rattle.tv_top.specs.declared.refusal.Stop.{Stop}
@@ -23,11 +21,6 @@ system_bad fault = bad.System fault.at fault.why
 
 abbrev pub witness_bad : Fault → Bad
 witness_bad fault = bad.Witness fault.at fault.why
-
--- what a fault of either is
-abbrev pub container_bad : Container → Fault → Bad
-container_bad container.System = system_bad
-container_bad container.Witness = witness_bad
 
 -- what a container comes to, by what its faults are
 abbrev pub container_result : {A : Type 0} → (Fault → Bad) → Result A Fault → Result A Bad

@@ -1,8 +1,8 @@
 //! Systems and assignments, each read from its file to the end.
 ghost use Rattle.std.specs.Prelude.{◌≡◌, [], ◌∷◌};
 ghost use Rattle.tv_shrink.specs.Shrinking.{Shrunken};
-ghost use Rattle.tv_top.specs.Containers.{container_bad, refusal_stop};
 ghost use Rattle.tv_top.specs.Containers.{counts_in, firsts_in_witness, verdict_in, witness_in};
+ghost use Rattle.tv_top.specs.Containers.{refusal_stop, system_bad, witness_bad};
 ghost use Rattle.tv_top.specs.Finds.{Finds};
 ghost use Rattle.tv_top.specs.Plan.{input, named};
 ghost use Rattle.tv_top.specs.Shrinking.{shrink_sizes, shrink_stop, shrunk_look};
@@ -19,22 +19,23 @@ use tv_r1cs_read::survey;
 use tv_shrink::{MOST_TERMS, ShrinkFault, Shrunk, shrink};
 use tv_wtns::{FirstValues, read_first_values, read_values};
 
-/// Which container is read.
-#[derive(Clone, Copy)]
-enum Container {
-    System,
-    Witness,
-}
-
-/// What a refused reading is of the container whose name stands at this word.
-fn container_stop(word: u32, container: Container, why: ReadRefusal) -> Stop
-    ensures { result ≡ refusal_stop word (container_bad container) why }
+/// What a refused reading stops of the system whose name stands at this word.
+fn system_stop(word: u32, why: ReadRefusal) -> Stop
+    ensures { result ≡ refusal_stop word system_bad why }
 {
     match why {
-        ReadRefusal::Bad { at, why } => Stop::Contents(match container {
-            Container::System => Bad::System { at, why },
-            Container::Witness => Bad::Witness { at, why },
-        }),
+        ReadRefusal::Bad { at, why } => Stop::Contents(Bad::System { at, why }),
+        ReadRefusal::Fault => Stop::Fault { word },
+        ReadRefusal::Memory => Stop::Memory,
+    }
+}
+
+/// What a refused reading stops of the assignment whose name stands at this word.
+fn witness_stop(word: u32, why: ReadRefusal) -> Stop
+    ensures { result ≡ refusal_stop word witness_bad why }
+{
+    match why {
+        ReadRefusal::Bad { at, why } => Stop::Contents(Bad::Witness { at, why }),
         ReadRefusal::Fault => Stop::Fault { word },
         ReadRefusal::Memory => Stop::Memory,
     }
@@ -50,11 +51,7 @@ pub(crate) fn survey_system<D: Files>(
         (input (named place.entry) counts_in)
         (D.seen files.old) (D.seen files.new) result }
 {
-    survey(alloc, files, place.name).map_err(|why| container_stop(
-        place.word,
-        Container::System,
-        why,
-    ))
+    survey(alloc, files, place.name).map_err(|why| system_stop(place.word, why))
 }
 
 /// The assignment of the witness of this name.
@@ -66,11 +63,7 @@ pub(crate) fn read_witness<D: Files>(
     ensures { Finds (λ v. v.items) (place.entry.word ∷ []) [] (input (named place.entry) witness_in)
         (D.seen files.old) (D.seen files.new) result }
 {
-    read_values(alloc, files, place.name).map_err(|why| container_stop(
-        place.word,
-        Container::Witness,
-        why,
-    ))
+    read_values(alloc, files, place.name).map_err(|why| witness_stop(place.word, why))
 }
 
 /// The first `most` values of the witness of this name, and how many it has.
@@ -84,11 +77,7 @@ pub(crate) fn read_first_witness<D: Files>(
         (input (named place.entry) (firsts_in_witness most))
         (D.seen files.old) (D.seen files.new) result }
 {
-    read_first_values(alloc, files, place.name, most).map_err(|why| container_stop(
-        place.word,
-        Container::Witness,
-        why,
-    ))
+    read_first_values(alloc, files, place.name, most).map_err(|why| witness_stop(place.word, why))
 }
 
 /// The verdict by the system of this name on these values and public numbers.
@@ -103,11 +92,7 @@ pub(crate) fn judge_system<D: Files>(
         (input (named place.entry) (verdict_in values.now publics.now))
         (D.seen files.old) (D.seen files.new) result }
 {
-    check(alloc, files, place.name, values, publics).map_err(|why| container_stop(
-        place.word,
-        Container::System,
-        why,
-    ))
+    check(alloc, files, place.name, values, publics).map_err(|why| system_stop(place.word, why))
 }
 
 /// What a refusal is of shrinking the system whose name stands at this word.

@@ -66,7 +66,7 @@ pub(crate) enum Bad {
     Limit { what: Size, has: u64, most: u64 },
 }
 
-/// What a command ends with that doesn't find, make or write what it is to.
+/// Why a command didn't find, make or write what it was to.
 #[derive(Clone, Copy)]
 pub(crate) enum Stop {
     /// The file at this word couldn't be read, or not be written.
@@ -110,7 +110,7 @@ pub(crate) enum Finish {
     Trial(Trial),
 }
 
-/// What a line is said of.
+/// How a call ends: what its status and its line are of.
 #[derive(Clone, Copy)]
 pub(crate) enum Ending {
     /// The words are refused, before any file was looked at.
