@@ -122,7 +122,7 @@ AreOther (r ∷ rs) ws = IsOther r ws × AreOther rs ws
 
 other_in : (one : Named) (others : List Named) → IsOther one others → same_in one others ≡ None
 other_in one [] other = refl
-other_in one (next ∷ others) other = rw (false_from_ne_true (bytes_eq one.name next.name) (λ is. other.0 ((bytes_eq-Decides one.name next.name).0 is))) (other_in one others other.1)
+other_in one (next ∷ others) other = rw (false_from_ne_true (bytes_eq next.name one.name) (λ is. other.0 (sym ((bytes_eq-Decides next.name one.name).0 is)))) (other_in one others other.1)
 
 other_of : (reads writes : List Named) → AreOther reads writes → same_of reads writes ≡ None
 other_of [] [] other = refl

@@ -1,5 +1,6 @@
 -- What holds of a program and of tapes that files hold, and of quantities that words tell.
-use Rattle.std.proofs.Common.{◌≡◌, ◌≤◌, ◌^◌, ℕ, ◌+◌, ◌||◌, nat_le, List, [], ◌∷◌, length, Option, Some, None, Result, Ok, Err, inl, inr, refl, arith}
+use Rattle.std.proofs.Common.{◌≡◌, ◌≤◌, ◌^◌, ℕ, ◌+◌, nat_le, List, [], ◌∷◌, length, Option, Some, None, option_map, Result, Ok, Err, inl, inr, refl, arith}
+use Rattle.std.specs.List.{find}
 use Rattle.std.specs.Option.{option_or}
 use Rattle.std.specs.Prelude.{IfOk, nat_lt}
 use Rattle.std.proofs.lemmas.Bool.{ltb-false, or_parts, cond_both}
@@ -16,7 +17,7 @@ use Rattle.tv_word.specs.Widths.{IsWidth}
 use Rattle.tv_top.specs.Inputs.{AreInputs, HasInputs}
 use Rattle.tv_top.specs.Finds.{made_by}
 use Rattle.tv_top.specs.Tapes.{tape_stop, numbers_of, numbers_in}
-use Rattle.tv_top.proofs.Common.{Names, Inputs, Amount, Program, Width, Bits16, Bits32, Bad, Refusal, Size, Holds, Named, AreWithin, same_of, limit_of, refusal_of, within, HasImage, bits, image_words, width_told, program_result, program_by, program_of, program_in}
+use Rattle.tv_top.proofs.Common.{Names, Inputs, Amount, Program, Width, Bits16, Bits32, Bad, Refusal, Size, Holds, Named, AreWithin, same_of, is_out, limit_of, refusal_of, within, HasImage, bits, image_words, width_told, program_result, program_by, program_of, program_in}
 use Rattle.tv_top.specs.declared.refusal.Bad.TheVariants as bad
 use Rattle.tv_top.specs.declared.refusal.Refusal.TheVariants.{Limit}
 use Rattle.tv_top.specs.declared.refusal.Size.TheVariants.{TapeWords, AuxWords, TextBytes}
@@ -85,7 +86,7 @@ not_first (Some why) other e = cc
 unlimited : (amounts : List Amount) → limit_of amounts ≡ None → AreWithin amounts
 unlimited [] e = tt
 unlimited (one ∷ more) e =
-    cond_both (nat_lt one.has one.least || nat_lt one.most one.has) (Some (Limit one.what one.has one.most)) (limit_of more) (λ found. found ≡ None → AreWithin (one ∷ more)) (λ _ e. cc)
+    cond_both (is_out one) (Some one) (find is_out more) (λ found. option_map (λ (one : Amount). Limit one.what one.has one.most) found ≡ None → AreWithin (one ∷ more)) (λ _ e. cc)
     (λ is rest. let tests = or_parts (nat_lt one.has one.least) (nat_lt one.most one.has) is in (ltb-false one.has one.least tests.0, ltb-false one.most one.has tests.1, unlimited more rest)) e
 
 -- the quantities of words that aren't refused are within their limits

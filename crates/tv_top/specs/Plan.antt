@@ -1,5 +1,5 @@
 -- What a command's words come to: a plan, whose parts all clauses share.
-use Rattle.std.specs.Prelude.{ℕ, ◌+◌, ◌≤◌, max, Bool, List, [], ◌∷◌, length, Option, Some, None, Result, Ok, Err, nat_le, nat_lt, ◌||◌, if◌then◌else◌}
+use Rattle.std.specs.Prelude.{ℕ, ◌+◌, ◌≤◌, max, Bool, List, [], ◌∷◌, length, Option, Some, None, option_map, find, Result, Ok, Err, nat_le, nat_lt, ◌||◌, if◌then◌else◌}
 use Rattle.std.specs.Option.{option_or}
 use Rattle.std.specs.Str.{bytes_eq}
 use Rattle.tv_files.specs.Outside.{Names}
@@ -63,8 +63,7 @@ pub record Plan : Type 0 where
 
 -- the first name that is the same as this one
 abbrev pub same_in : Named → List Named → Option Refusal
-same_in one [] = None
-same_in one (other ∷ others) = if bytes_eq one.name other.name then Some (SameName one.word other.word) else same_in one others
+same_in one others = option_map (λ (other : Named). SameName one.word other.word) (find (λ (other : Named). bytes_eq other.name one.name) others)
 
 -- the first two words that are one name, of which the second is written
 abbrev pub same_of : List Named → List Named → Option Refusal
@@ -72,10 +71,13 @@ same_of [] [] = None
 same_of [] (w ∷ ws) = option_or (same_in w ws) (same_of [] ws)
 same_of (r ∷ rs) ws = option_or (same_in r ws) (same_of rs ws)
 
--- the first quantity that passes its limit, or doesn't reach the least that it may be
+-- the quantity passes its limit, or doesn't reach the least that it may be
+abbrev pub is_out : Amount → Bool
+is_out one = nat_lt one.has one.least || nat_lt one.most one.has
+
+-- the first quantity that does
 abbrev pub limit_of : List Amount → Option Refusal
-limit_of [] = None
-limit_of (one ∷ more) = if (nat_lt one.has one.least) || nat_lt one.most one.has then Some (Limit one.what one.has one.most) else limit_of more
+limit_of amounts = option_map (λ (one : Amount). Limit one.what one.has one.most) (find is_out amounts)
 
 -- each quantity is within its limits
 abbrev pub AreWithin : List Amount → Type 0

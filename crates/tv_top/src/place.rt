@@ -25,13 +25,6 @@ impl<'a> Place<'a> {
     }
 }
 
-/// A file that is to be written.
-#[derive(Clone, Copy)]
-pub(crate) struct Write<'a> {
-    pub(crate) place: Place<'a>,
-    pub(crate) bytes: &'a [u8],
-}
-
 /// A quantity that a word tells: how many there are, and how many there may be.
 #[derive(Clone, Copy)]
 pub(crate) struct Amount {
@@ -83,14 +76,11 @@ pub(crate) fn net_word(last: &[String]) -> Option<Net>
 fn same_in(one: Place<'_>, others: &[Place<'_>]) -> Option<Refusal>
     ensures { result ≡ same_in (named one.entry) (map named others.now) }
 {
-    match others {
-        [] => None,
-        [other, ..] if one.name == other.name => Some(Refusal::SameName {
-            first: one.word,
-            second: other.word,
-        }),
-        [_, rest @ ..] => same_in(one, rest),
-    }
+    let other = others.iter().find(|other| other.name == one.name)?;
+    Some(Refusal::SameName {
+        first: one.word,
+        second: other.word,
+    })
 }
 
 /// The first two words that are one name, of which the second is written.
@@ -108,15 +98,14 @@ fn same_of(reads: &[Place<'_>], writes: &[Place<'_>]) -> Option<Refusal>
 fn limit_of(amounts: &[Amount]) -> Option<Refusal>
     ensures { result ≡ limit_of amounts.now }
 {
-    match amounts {
-        [] => None,
-        [one, ..] if one.has < one.least || one.most < one.has => Some(Refusal::Limit {
-            what: one.what,
-            has: one.has,
-            most: one.most,
-        }),
-        [_, rest @ ..] => limit_of(rest),
-    }
+    let one = amounts
+        .iter()
+        .find(|one| one.has < one.least || one.most < one.has)?;
+    Some(Refusal::Limit {
+        what: one.what,
+        has: one.has,
+        most: one.most,
+    })
 }
 
 /// What names and quantities are refused for: one name for two files of which one is written comes
