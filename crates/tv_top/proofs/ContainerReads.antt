@@ -1,5 +1,5 @@
 -- From what reading a container came to, by what its file holds, to what a look at the file found.
-use Rattle.std.proofs.Common.{◌≡◌, ℕ, ◌≤◌, List, [], ◌∷◌, Option, Some, None, Result, Ok, Err, IsErrAnd, inl, inr, refl, ap, arith}
+use Rattle.std.proofs.Common.{◌≡◌, ℕ, ◌≤◌, List, [], ◌∷◌, Option, Some, None, Result, Ok, Err, inl, inr, refl, arith}
 use Rattle.std.specs.Prelude.{MatchResult}
 use Rattle.tv_top.proofs.Common.{Names, Outside, OnlyReads, MissesOnly, Rose, Bad, Size, Stop, MayStop, IsFound, Finds, Named, Look, input, held_at, made_of, map_ok}
 use Rattle.tv_container.specs.Places.{Fault, ◌>>=◌}
@@ -17,15 +17,10 @@ StopsBy word sizes Faulty (stop.Fault at) = (at ≡ word) × Faulty
 StopsBy word sizes Faulty stop.Memory = Unit {0}
 StopsBy word sizes Faulty (stop.Contents bad) = MayStop sizes (stop.Contents bad)
 
--- what a reader came to, as what a look comes to
+-- what a call came to, by what a refusal of it stops
 abbrev pub came : {Y E : Type 0} → (E → Stop) → Result Y E → Result Y Stop
 came stop (Ok y) = Ok y
 came stop (Err why) = Err (stop why)
-
-pub came_of : {Y E : Type 0} (stop : E → Stop) (read : Result Y E) (result : Result Y Stop) → MatchResult read (λ y. result ≡ Ok y) (λ why. IsErrAnd result (λ e. e ≡ stop why)) → result ≡ came stop read
-came_of stop (Ok y) result is = is
-came_of stop (Err why) (Ok y) is = absurd is
-came_of stop (Err why) (Err e) is = ap Err is
 
 module _ {Y E A : Type 0} (view : Y → A) (of : E → Stop) (fault : E) (word : ℕ) (sizes : List Size) (name : List ℕ) (due : Option (List ℕ) → Look A) (old new : Outside) (Stands : E → Type 0) where
   told : (result : Result Y E) → of fault ≡ stop.Fault word → word ≤ (due None).at → Known old name (λ file. IsFound view (due (Some file)) (came of result)) → (IsMissing old name → result ≡ Err fault) → (files : Names) → old.contents ≡ Some files →

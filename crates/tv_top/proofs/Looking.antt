@@ -1,7 +1,7 @@
 -- Looks at files, one after another, and what is made of what they find.
 use Rattle.std.proofs.Common.{◌≡◌, ℕ, ◌+◌, nat_le, List, [], ◌∷◌, ◌++◌, length, Option, Some, None, Result, Ok, Err, IsErrAnd, inl, inr, refl, ap, ◌∙◌, ◌≤◌, arith, rules}
 use Rattle.std.proofs.lemmas.Bool.{cond_both}
-use Rattle.tv_top.proofs.Common.{Names, Outside, Bad, Size, Stop, Fault, Memory, Contents, IsOneOf, IsFound, Finds, Makes, limited_bytes, limited_look, Named, Look, ◌>>=◌, look_on, Outcome, comes_by, map_ok, input, within, held_at, made_of}
+use Rattle.tv_top.proofs.Common.{Names, Outside, Bad, Size, Stop, Fault, Memory, Contents, IsOneOf, IsFound, Finds, Makes, Named, Look, ◌>>=◌, look_on, Outcome, comes_by, map_ok, input, within, held_at, made_of}
 use Rattle.tv_top.specs.declared.refusal.Bad.TheVariants as bad
 
 left_at : {A : Type 0} (x : A) (some more : List A) → IsOneOf x some → IsOneOf x (some ++ more)
@@ -100,24 +100,21 @@ limits_made : {X A : Type 0} (view : X → A) (held : Result A Bad) (made : Resu
 limits_made view held (Err (Contents why)) sizes makes limited what has most e = let same : why ≡ bad.Limit what has most = cc in limited what has most (makes ∙ ap Err same)
 limits_made view held _ sizes makes limited what has most e = cc
 
-limited_is : {A : Type 0} (word : ℕ) (what : Size) (most : ℕ) (f : List ℕ → Result A Bad) (file : Option (List ℕ)) (bytes : List ℕ) → limited_bytes word what most file ≡ Ok bytes →
-    held_at word (within what most f) file ≡ made_of (f bytes)
-limited_is word what most f None bytes e = cc
-limited_is word what most f (Some held) bytes e =
-    cond_both (nat_le (length held) most) (Ok held) (Err (Contents (bad.Limit what (most + 1) most))) (λ read. read ≡ Ok bytes → held_at word (within what most f) (Some held) ≡ made_of (f bytes))
-    (λ fits e. let same : held ≡ bytes = cc in rw (fits, same) refl) (λ _ e. cc) e
-
-text_is : {A : Type 0} (word : ℕ) (what : Size) (most : ℕ) (f : List ℕ → Result A Bad) (file : Option (List ℕ)) (bytes text : List ℕ) → text ≡ bytes → limited_bytes word what most file ≡ Ok bytes →
+-- of a file that may have so many bytes what its bytes come to
+limited_is : {A : Type 0} (word : ℕ) (what : Size) (most : ℕ) (f : List ℕ → Result A Bad) (file : Option (List ℕ)) (bytes text : List ℕ) → text ≡ bytes → held_at word (within what most (λ bytes. Ok bytes)) file ≡ Ok bytes →
     held_at word (within what most f) file ≡ made_of (f text)
-text_is word what most f file bytes text is e = rw is (limited_is word what most f file bytes e)
+limited_is word what most f None bytes text is e = cc
+limited_is word what most f (Some held) bytes text is e =
+    cond_both (nat_le (length held) most) (Ok held) (Err (bad.Limit what (most + 1) most)) (λ read. made_of read ≡ Ok bytes → held_at word (within what most f) (Some held) ≡ made_of (f text))
+    (λ fits e. let same : held ≡ text = cc in rw (fits, same) refl) (λ _ e. cc) e
 
 -- what was made of a file of so many bytes
 pub made_found : {X Y A : Type 0} (view : X → A) (of_read : Y → List ℕ) (place : Named) (what : Size) (sizes : List Size) (most : ℕ) (f : List ℕ → Result A Bad) (read : Y) (text : List ℕ) (made : Result X Stop) (old new : Outside) →
-    Finds of_read (place.word ∷ []) (what ∷ []) (limited_look place what most) old new (Ok read) → text ≡ of_read read → Makes view (f text) made → IsLimited (f text) sizes →
+    Finds of_read (place.word ∷ []) (what ∷ []) (input place (within what most (λ bytes. Ok bytes))) old new (Ok read) → text ≡ of_read read → Makes view (f text) made → IsLimited (f text) sizes →
     Finds view (place.word ∷ []) (what ∷ sizes) (input place (within what most f)) old new made
 unfolding input
 made_found view of_read place what sizes most f read text made old new finds is makes limited = record {
-  told = λ files told. told_made view (input place (within what most f) files) (f text) made (text_is place.word what most f (files place.name) (of_read read) text is (finds.told files told)) makes;
+  told = λ files told. told_made view (input place (within what most f) files) (f text) made (limited_is place.word what most f (files place.name) (of_read read) text is (finds.told files told)) makes;
   absent = λ files told. elim (finds.absent files told) [
     | inl same ↦ inl same
     | inr missing ↦ absurd (let found = finds.told files told in let missed = missing.1 in cc)

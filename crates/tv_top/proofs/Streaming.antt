@@ -8,7 +8,7 @@ use Rattle.tv_core.specs.Constraints.{System}
 use Rattle.tv_core.specs.declared.sink.SinkFault.{SinkFault}
 use Rattle.tv_core.specs.declared.sink.SinkFault.TheVariants as sink
 use Rattle.tv_files.specs.Outside.{with_bytes}
-use Rattle.tv_top.proofs.Common.{Outside, OnlyWrites, Stop, Fault, Memory, Contents, AreRead, IsCut, files_with, bytes_in, IsRead, Writes, sink_stop, streamed, Write}
+use Rattle.tv_top.proofs.Common.{Outside, Stop, Fault, Memory, Contents, AreRead, IsCut, IsCutAt, files_with, bytes_in, IsRead, Writes, sink_stop, streamed, Write}
 use Rattle.tv_r1cs_write.proofs.Streaming.{IsSystemStreamed}
 use Rattle.tv_wtns.proofs.Streaming.{IsAssignmentStreamed}
 use Rattle.tv_top.specs.Contents.{Content, Content.{Constraints, Values}}
@@ -22,19 +22,33 @@ writes_streamed w old new (Err sink.Memory) is read = record { ended = inr (w.wo
 pub writes_nothing : (word : ℕ) (name : List ℕ) (content : Content) (old new : Outside) (fault : SinkFault) → NotCreated old new name fault → Writes {X = Unit {0}} (record { word = word; name = name; content = content } ∷ []) old new (Err (sink_stop word fault))
 writes_nothing word name content old new fault none = writes_streamed (record { word = word; name = name; content = content }) old new (Err fault) (not_created old new name (bytes_in content) fault none) tt
 
--- these were written behind one that was written whole
-pub writes_more : {X : Type 0} (w : Write) (ws : List Write) (old mid new : Outside) (result : Result X Stop) → mid.contents ≡ option_map (with_bytes w.name (bytes_in w.content)) old.contents → IsRead w.content → OnlyWrites old mid → Writes ws mid new result →
-    Writes (w ∷ ws) old new result
-writes_more {X} w ws old mid new result done read only rest = record { ended = ended ws result rest.ended; only = record { said = rest.only.said ∙ only.said; absent = λ files told. rest.only.absent (with_bytes w.name (bytes_in w.content) files) (done ∙ ap (option_map (with_bytes w.name (bytes_in w.content))) told) ∙ only.absent files told; later = search rules } }
+-- one was written whole, and then these
+pub writes_next : {X Y : Type 0} (w : Write) (ws : List Write) (old mid new : Outside) (done : X) (result : Result Y Stop) → Writes (w ∷ []) old mid (Ok done) → Writes ws mid new result → Writes (w ∷ ws) old new result
+writes_next {Y} w ws old mid new done result one rest =
+    record { ended = ended ws result rest.ended; only = record { said = rest.only.said ∙ one.only.said; absent = λ files told. rest.only.absent (with_bytes w.name (bytes_in w.content) files) (one.ended.0 ∙ ap (option_map (with_bytes w.name (bytes_in w.content))) told) ∙ one.only.absent files told; later = search rules } }
   where
-    ended : (ws : List Write) (result : Result X Stop) → MatchResult result (λ _. (new.contents ≡ files_with ws mid.contents) × AreRead ws) (λ stop. IsCut ws mid new stop) →
+    ended : (ws : List Write) (result : Result Y Stop) → MatchResult result (λ _. (new.contents ≡ files_with ws mid.contents) × AreRead ws) (λ stop. IsCut ws mid new stop) →
         MatchResult result (λ _. (new.contents ≡ files_with (w ∷ ws) old.contents) × AreRead (w ∷ ws)) (λ stop. IsCut (w ∷ ws) old new stop)
-    ended ws (Ok x) is = (is.0 ∙ ap (files_with ws) done, (read, is.1))
+    ended ws (Ok x) is = (is.0 ∙ ap (files_with ws) one.ended.0, (one.ended.1.0, is.1))
     ended ws (Err (Contents bad)) is = absurd is
-    ended ws (Err (Fault at)) is = (inr (rw done at is.0), omega (arith, is.1, only.later.write_faults))
-    ended [] (Err Memory) (inl same) = inr (w.word, inl (refl, inr (length (bytes_in w.content), rw (take_all (length (bytes_in w.content)) (bytes_in w.content) (omega arith)) (same ∙ done))))
-    ended (v ∷ vs) (Err Memory) (inl same) = inr (v.word, inr (inl (refl, inl (same ∙ done))))
-    ended ws (Err Memory) (inr cut) = inr (cut.0, inr (rw done at cut.1))
+    ended ws (Err (Fault at)) is = (inr (rw one.ended.0 at is.0), omega (arith, is.1, one.only.later.write_faults))
+    ended [] (Err Memory) (inl same) = inr (w.word, inl (refl, inr (length (bytes_in w.content), rw (take_all (length (bytes_in w.content)) (bytes_in w.content) (omega arith)) (same ∙ one.ended.0))))
+    ended (v ∷ vs) (Err Memory) (inl same) = inr (v.word, inr (inl (refl, inl (same ∙ one.ended.0))))
+    ended ws (Err Memory) (inr cut) = inr (cut.0, inr (rw one.ended.0 at cut.1))
+
+-- or its writing was cut short, and the others are as they were
+pub writes_first : {X : Type 0} (w : Write) (ws : List Write) (old new : Outside) (stop : Stop) → Writes {X = X} (w ∷ []) old new (Err stop) → Writes {X = X} (w ∷ ws) old new (Err stop)
+writes_first w ws old new stop one = record { ended = ended stop one.ended; only = one.only }
+  where
+    front : (word : ℕ) → IsCutAt word (w ∷ []) old.contents new.contents → IsCutAt word (w ∷ ws) old.contents new.contents
+    front word (inl here) = inl here
+    front word (inr never) = absurd never
+
+    ended : (stop : Stop) → IsCut (w ∷ []) old new stop → IsCut (w ∷ ws) old new stop
+    ended (Fault word) cut = (front word cut.0, cut.1)
+    ended Memory (inl same) = inl same
+    ended Memory (inr cut) = inr (cut.0, front cut.0 cut.1)
+    ended (Contents bad) cut = absurd cut
 
 pub writes_system : (word : ℕ) (name : List ℕ) (system : System) (old new : Outside) (result : Result (Unit {0}) SinkFault) → IsSystemStreamed old new name system result →
     Writes (record { word = word; name = name; content = Constraints system } ∷ []) old new (streamed word result)

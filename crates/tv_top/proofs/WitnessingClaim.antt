@@ -1,21 +1,20 @@
 -- `witness`: what it promises.
-use Rattle.std.proofs.Common.{◌≡◌, ◌≤◌, ℕ, true, List, [], ◌∷◌, length, Ok, Err, refl, sym, arith}
+use Rattle.std.proofs.Common.{◌≡◌, ◌≤◌, ℕ, true, List, [], ◌∷◌, length, Ok, refl, sym, arith}
 use Rattle.tv_benes.specs.declared.shape.Net.{Net}
 use Rattle.tv_core.specs.declared.limits.TheConstants.{STEPS}
 use Rattle.tv_layout.proofs.Systems.{system_complete}
 use Rattle.tv_step.specs.Machine.{Accepts}
 use Rattle.tv_step.specs.declared.end.End.{End}
 use Rattle.tv_step.specs.declared.end.End.TheVariants.{Answer, Silent}
-use Rattle.tv_top.proofs.Common.{Outside, Named, name_at, Memory, Completes, Inputs, bits}
+use Rattle.tv_top.proofs.Common.{Outside, Named, name_at, Completes, Inputs, bits}
 use Rattle.tv_top.proofs.Answering.{completes_nothing}
 use Rattle.tv_top.specs.declared.refusal.Finish.TheVariants.{Quiet, NoRun}
 use Rattle.tv_top.specs.Contents.{Content.{Values}}
 use Rattle.tv_fill.specs.Filled.{Filled, IsFilling, IsUnfilled}
-use Rattle.tv_fill.specs.declared.fault.FillFault.{FillFault}
 use Rattle.tv_fill.specs.declared.fault.FillFault.TheVariants as fills
 use Rattle.tv_top.specs.Kinds.{is_witness}
 use Rattle.tv_top.specs.Inputs.{inputs_of, AreInputs}
-use Rattle.tv_top.specs.Witnessing.{no_run, program_values, witness_by, witness_ends, witness_plan, IsWitness, HasWitness, OnWitness}
+use Rattle.tv_top.specs.Witnessing.{program_values, witness_by, witness_ends, witness_plan, IsWitness, HasWitness, OnWitness}
 use Rattle.tv_top.proofs.Claiming.{Promises, comes, if_ok, shows_more}
 use Rattle.tv_top.proofs.InputLaws.{inputs_shown}
 use Rattle.tv_top.proofs.ProgramLaws.{within_limits, inputs_are}
@@ -38,13 +37,11 @@ pub filled : (w : ℕ) (net : Net) (t : ℕ) (inputs : Inputs) (filling : Filled
 unfolding program_values
 filled w net t inputs filling width is = let fills = rw width at is in rw (fills.answer.2, fills.values) refl
 
--- and for one that doesn't, unless memory was wanting
-pub unfilled : (w : ℕ) (net : Net) (t : ℕ) (inputs : Inputs) (fault : FillFault) (places : List Named) (outside : Outside) → w ≡ bits inputs.program.width → IsUnfilled w inputs.program.words inputs.tape inputs.aux t fault →
-    Completes places (witness_ends net t inputs) outside outside (no_run fault)
-unfilled w net t inputs (fills.NoRun (Answer v step)) places outside width is = let none = rw width at is in absurd (none.1 v (accepted t inputs v step (sym none.0)))
-unfilled w net t inputs (fills.NoRun end) places outside width is = let none = rw width at is in rw (← none.0) (completes_nothing places (witness_by net t inputs end) (Ok (NoRun end)) outside refl)
-unfilled w net t inputs fills.Failed places outside width is = completes_nothing places (witness_ends net t inputs) (Err Memory) outside refl
-unfilled w net t inputs fills.Memory places outside width is = completes_nothing places (witness_ends net t inputs) (Err Memory) outside refl
+-- and for one that doesn't there are none
+pub unfilled : (w : ℕ) (net : Net) (t : ℕ) (inputs : Inputs) (end : End) (places : List Named) (outside : Outside) → w ≡ bits inputs.program.width → IsUnfilled w inputs.program.words inputs.tape inputs.aux t (fills.NoRun end) →
+    Completes places (witness_ends net t inputs) outside outside (Ok (NoRun end))
+unfilled w net t inputs (Answer v step) places outside width is = let none = rw width at is in absurd (none.1 v (accepted t inputs v step (sym none.0)))
+unfilled w net t inputs end places outside width is = let none = rw width at is in rw (← none.0) (completes_nothing places (witness_by net t inputs end) (Ok (NoRun end)) outside refl)
 
 pub witnesses : Promises OnWitness
 witnesses words count old new result answers text tape aux number name last net t are is_net is first second third some most files told =

@@ -1,5 +1,5 @@
 -- What reading and judging files comes to, against what is due by what they hold.
-use Rattle.std.specs.Prelude.{◌≡◌, ℕ, ◌+◌, ◌≤◌, ◌⊎◌, List, [], ◌∷◌, length, Option, Some, None, Result, Ok, Err, nat_le, if◌then◌else◌}
+use Rattle.std.specs.Prelude.{◌≡◌, ℕ, ◌≤◌, ◌⊎◌, List, [], ◌∷◌, Result, Ok, Err}
 use Rattle.tv_files.specs.Outside.{Names, Outside, Told, OnlyReads}
 use Rattle.tv_word.specs.Counts.{Rose}
 use Rattle.tv_top.specs.declared.refusal.Bad.{Bad}
@@ -7,7 +7,7 @@ use Rattle.tv_top.specs.declared.refusal.Bad.TheVariants as bad
 use Rattle.tv_top.specs.declared.refusal.Size.{Size}
 use Rattle.tv_top.specs.declared.refusal.Stop.{Stop}
 use Rattle.tv_top.specs.declared.refusal.Stop.TheVariants.{Fault, Memory, Contents}
-use Rattle.tv_top.specs.Plan.{Named, Look}
+use Rattle.tv_top.specs.Plan.{Look}
 
 -- what contents are refused for of which something is made; a definition reads no file and never wants memory, so
 -- those cases stand for nothing
@@ -24,16 +24,6 @@ made_by what of (Err fault) = Err (stop_bad what (of fault))
 abbrev pub IsOneOf : {A : Type 0} → A → List A → Type 0
 IsOneOf x [] = ⊥
 IsOneOf x (y ∷ ys) = (x ≡ y) ⊎ IsOneOf x ys
-
--- the bytes of a file that may have so many: a fault where its name isn't there
-abbrev pub limited_bytes : ℕ → Size → ℕ → Option (List ℕ) → Result (List ℕ) Stop
-limited_bytes word what most None = Err (Fault word)
-limited_bytes word what most (Some bytes) =
-    if nat_le (length bytes) most then Ok bytes else Err (Contents (bad.Limit what (most + 1) most))
-
--- a look at the whole file of a name, which may have so many bytes
-abbrev pub limited_look : Named → Size → ℕ → Names → Look (List ℕ)
-limited_look place what most files = record { at = place.word; gives = limited_bytes place.word what most (files place.name) }
 
 -- what was found is what is due; or reading failed at a word that was looked at; or memory was wanting
 abbrev pub IsFound : {X A : Type 0} → (X → A) → Look A → Result X Stop → Type 0

@@ -4,16 +4,13 @@ use Rattle.std.specs.Str.{bytes_eq}
 use Rattle.tv_word.specs.Numeral.{numeral}
 use Rattle.tv_top.specs.declared.job.Job.{Job}
 use Rattle.tv_top.specs.declared.job.Job.TheVariants.{Asm, Disasm, Run, Build, Witness, Check, Extract, Trial, Shrink, Listing}
-use Rattle.tv_top.specs.declared.place.Write.{Write}
 use Rattle.tv_top.specs.Assembling.{asm_asks, asm_plan}
 use Rattle.tv_top.specs.Building.{net_word, build_asks, build_plan}
 use Rattle.tv_top.specs.Checking.{check_asks, check_plan}
-use Rattle.tv_top.specs.Contents.{Content.{Bytes}}
 use Rattle.tv_top.specs.Disassembling.{width_word, disasm_asks, disasm_plan}
 use Rattle.tv_top.specs.Extracting.{extract_asks, extract_plan}
 use Rattle.tv_top.specs.Listing.{by_word, listing_asks, listing_plan}
 use Rattle.tv_top.specs.Plan.{Plan, name_at}
-use Rattle.tv_top.specs.Plan as plan
 use Rattle.tv_top.specs.Running.{run_asks, run_plan}
 use Rattle.tv_top.specs.Shrinking.{shrink_asks, shrink_plan}
 use Rattle.tv_top.specs.Trialing.{trial_asks, trial_plan}
@@ -101,7 +98,3 @@ plan_of (Extract args) = extract_asks args
 plan_of (Trial args) = trial_asks args
 plan_of (Shrink args) = shrink_asks args
 plan_of (Listing args) = listing_asks args
-
--- the code's file that is to be written
-abbrev pub to_write : Write → plan.Write
-to_write write = record { word = write.place.word; name = write.place.name.now; content = Bytes write.bytes.now }

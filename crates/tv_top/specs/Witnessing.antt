@@ -1,12 +1,10 @@
 -- `witness TEXT TAPE AUX T WITNESS`, which may have one more word, `waksman`: the values of the wires of a program's
 -- system for a run that answers.
-use Rattle.std.specs.Prelude.{◌≡◌, ◌≢◌, ◌<◌, ◌≤◌, ◌^◌, ℕ, codes, List, [], ◌∷◌, Some, Result, Ok, Err, IfOk}
+use Rattle.std.specs.Prelude.{◌≡◌, ◌≢◌, ◌<◌, ◌≤◌, ◌^◌, ℕ, codes, List, [], ◌∷◌, Some, Result, IfOk}
 use Rattle.tv_benes.specs.declared.shape.Net.{Net}
 use Rattle.tv_block.specs.Block.{block_of}
 use Rattle.tv_core.specs.declared.limits.TheConstants.{STEPS}
 use Rattle.tv_files.specs.Outside.{Names, Outside, Told}
-use Rattle.tv_fill.specs.declared.fault.FillFault.{FillFault}
-use Rattle.tv_fill.specs.declared.fault.FillFault.TheVariants as fills
 use Rattle.tv_layout.specs.Systems.{run_values}
 use Rattle.tv_layout.specs.Values.{IsFill}
 use Rattle.tv_step.specs.Machine.{Accepts}
@@ -15,11 +13,8 @@ use Rattle.tv_step.specs.declared.end.End.TheVariants.{Answer, Undefined, Silent
 use Rattle.tv_word.specs.Numeral.{numeral}
 use Rattle.tv_top.specs.declared.inputs.Inputs.{Inputs}
 use Rattle.tv_top.specs.declared.refusal.Bad.{Bad}
-use Rattle.tv_top.specs.declared.refusal.Finish.{Finish}
 use Rattle.tv_top.specs.declared.refusal.Finish.TheVariants.{Quiet, NoRun}
 use Rattle.tv_top.specs.declared.refusal.Quantity.TheVariants.{Steps}
-use Rattle.tv_top.specs.declared.refusal.Stop.{Stop}
-use Rattle.tv_top.specs.declared.refusal.Stop.TheVariants.{Memory}
 use Rattle.tv_top.specs.declared.status.Status.{Status}
 use Rattle.tv_top.specs.declared.witnessing.WitnessArgs.{WitnessArgs}
 use Rattle.tv_top.specs.Building.{net_word}
@@ -42,12 +37,6 @@ witness_by net t inputs (Silent steps) = record { files = []; finish = NoRun (Si
 
 abbrev pub witness_ends : Net → ℕ → Inputs → Outcome
 witness_ends net t inputs = witness_by net t inputs (run_end t inputs)
-
--- the end where there are no values, unless memory was wanting
-abbrev pub no_run : FillFault → Result Finish Stop
-no_run (fills.NoRun end) = Ok (NoRun end)
-no_run fills.Failed = Err Memory
-no_run fills.Memory = Err Memory
 
 abbrev pub witness_plan : Net → Named → Named → Named → ℕ → Named → Plan
 witness_plan net text tape aux t witness = record {

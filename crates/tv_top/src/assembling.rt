@@ -9,10 +9,10 @@ ghost use Rattle.tv_top.specs.Plan.{input, named, refusal_of};
 ghost use Rattle.tv_top.specs.Programs.{image_bytes, image_of, program_sizes};
 
 use crate::bytes::limited_bytes;
-use crate::place::{Place, Write, refusal_of};
+use crate::place::{Place, refusal_of};
 use crate::programs::{Program, program_of};
 use crate::refusal::{Finish, Refusal, Size, Stop};
-use crate::writing::write_files;
+use crate::writing::write_bytes;
 use std::alloc::{AllocError, Global};
 use tv_core::limits::TEXT_BYTES;
 use tv_files::Files;
@@ -53,11 +53,7 @@ impl<'a> AsmArgs<'a> {
         ensures { Does (asm_asks self.entry) (D.seen files.old) (D.seen files.new) result }
     {
         let bytes = read_image(alloc, files, self.text)?;
-        let write = Write {
-            place: self.image,
-            bytes: &bytes,
-        };
-        write_files(files, &[write])?;
+        write_bytes(files, self.image, &bytes)?;
         Ok(Finish::Quiet)
     }
 }

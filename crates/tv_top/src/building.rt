@@ -7,7 +7,7 @@ ghost use Rattle.tv_layout.specs.Systems.{system_of};
 ghost use Rattle.tv_top.specs.Answers.{Does};
 ghost use Rattle.tv_top.specs.Building.{build_asks, program_system};
 ghost use Rattle.tv_top.specs.Contents.{Content.{Constraints}};
-ghost use Rattle.tv_top.specs.Ends.{Writes};
+ghost use Rattle.tv_top.specs.Ends.{Writes, streamed};
 ghost use Rattle.tv_top.specs.Form.{build_form};
 ghost use Rattle.tv_top.specs.Plan.{AreWithin, named, one_write, refusal_of};
 ghost use Rattle.tv_top.specs.Programs.{HasImage};
@@ -15,9 +15,10 @@ ghost use Rattle.tv_top.specs.Programs.{HasImage};
 use crate::place::{Place, net_word, refusal_of, size_amounts};
 use crate::programs::{Program, Width, read_program};
 use crate::refusal::{Finish, Refusal, Stop};
-use crate::writing::{sink_stop, streamed};
+use crate::writing::streamed;
 use std::alloc::Global;
 use tv_benes::Net;
+use tv_core::Put;
 use tv_files::Files;
 use tv_layout::{emit_system, sizes};
 use tv_r1cs_write::StreamSink;
@@ -68,48 +69,46 @@ impl<'a> BuildArgs<'a> {
         ensures { Does (build_asks self.entry) (D.seen files.old) (D.seen files.new) result }
     {
         let program = read_program(alloc, files, self.text)?;
-        write_system(files, self, &program)?;
+        streamed(self.system.word, put_system(files, self, &program))?;
         Ok(Finish::Quiet)
     }
 }
 
-/// Writes the system of the runs of an image, its constraints as they come.
-fn write_layout<const W: u32, D: Files>(
+/// Puts the system of the runs of an image into its file, constraint by constraint.
+fn put_layout<const W: u32, D: Files>(
     files: &mut D,
     place: Place<'_>,
     image: &[u32],
     n: u32,
     t: u32,
     net: Net,
-) -> Result<(), Stop>
+) -> Put<()>
     requires { WithinLimits W image.now n t }
     ensures { Writes (one_write (named place.entry) (Constraints (system_of W net image.now n t)))
-        (D.seen files.old) (D.seen files.new) result }
+        (D.seen files.old) (D.seen files.new) (streamed place.entry.word result) }
 {
     let counts = sizes::<W>(image, n, t, net);
     let mut sink = match StreamSink::begin(files, place.name, counts) {
         Ok(sink) => sink,
-        Err(refused) => return Err(sink_stop(place.word, refused.why)),
+        Err(refused) => return Err(refused.why),
     };
-    match emit_system::<W, _>(image, n, t, net, &mut sink) {
-        Ok(()) => streamed(place.word, sink.finish()),
-        Err(fault) => Err(sink_stop(place.word, fault)),
-    }
+    emit_system::<W, _>(image, n, t, net, &mut sink)?;
+    sink.finish()
 }
 
-/// Writes the system of a program's runs.
+/// Puts the system of a program's runs into its file.
 #[tactic(auto, unfolding(crate::specs::Building::program_system))]
-fn write_system<D: Files>(files: &mut D, args: BuildArgs<'_>, program: &Program) -> Result<(), Stop>
+fn put_system<D: Files>(files: &mut D, args: BuildArgs<'_>, program: &Program) -> Put<()>
     requires image { HasImage program.now }
     requires amounts { AreWithin (build_asks args).amounts }
     ensures { Writes (one_write (named args.entry.system)
         (Constraints (program_system args.entry.net args.entry.n args.entry.t program.now)))
-        (D.seen files.old) (D.seen files.new) result }
+        (D.seen files.old) (D.seen files.new) (streamed args.entry.system.word result) }
 {
     let image = program.words.as_slice();
     let (n, t) = (args.n as u32, args.t as u32);
     match program.width {
-        Width::Bits16 => write_layout::<16, D>(files, args.system, image, n, t, args.net),
-        Width::Bits32 => write_layout::<32, D>(files, args.system, image, n, t, args.net),
+        Width::Bits16 => put_layout::<16, D>(files, args.system, image, n, t, args.net),
+        Width::Bits32 => put_layout::<32, D>(files, args.system, image, n, t, args.net),
     }
 }

@@ -10,10 +10,10 @@ ghost use Rattle.tv_top.specs.Plan.{input, named, refusal_of};
 ghost use Rattle.tv_top.specs.Programs.{bits};
 
 use crate::bytes::limited_bytes;
-use crate::place::{Place, Write, refusal_of};
+use crate::place::{Place, refusal_of};
 use crate::programs::Width;
 use crate::refusal::{Finish, Refusal, Size, Stop};
-use crate::writing::write_files;
+use crate::writing::write_bytes;
 use std::alloc::Global;
 use tv_disasm::disassemble;
 use tv_files::Files;
@@ -55,11 +55,7 @@ impl<'a> DisasmArgs<'a> {
         ensures { Does (disasm_asks self.entry) (D.seen files.old) (D.seen files.new) result }
     {
         let bytes = read_text(alloc, files, self.width, self.image)?;
-        let write = Write {
-            place: self.text,
-            bytes: &bytes,
-        };
-        write_files(files, &[write])?;
+        write_bytes(files, self.text, &bytes)?;
         Ok(Finish::Quiet)
     }
 }

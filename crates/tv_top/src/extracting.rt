@@ -1,8 +1,7 @@
 //! `extract TEXT N T WITNESS TAPE AUX`, which may have one more word, `waksman`: the run that an
 //! assignment of a program's system has.
-ghost use Rattle.std.specs.Prelude.{◌≡◌, [], ◌∷◌, map, string_bytes, IfOk};
+ghost use Rattle.std.specs.Prelude.{◌≡◌, [], ◌∷◌, map, string_bytes};
 ghost use Rattle.std.specs.Prelude.{Some, None, MatchOption};
-ghost use Rattle.tv_tape.specs.Tape.{text_of};
 ghost use Rattle.tv_top.specs.Answers.{Does};
 ghost use Rattle.tv_top.specs.Ends.{Completes};
 ghost use Rattle.tv_top.specs.Extracting.{extract_asks, run_written};
@@ -10,10 +9,10 @@ ghost use Rattle.tv_top.specs.Form.{extract_form};
 ghost use Rattle.tv_top.specs.Plan.{AreWithin, named, refusal_of};
 
 use crate::assigned::{not_run, read_assigned, run_of};
-use crate::place::{Place, Write, net_word, refusal_of, size_amounts};
+use crate::place::{Place, net_word, refusal_of, size_amounts};
 use crate::refusal::{Finish, Refusal, Stop};
-use crate::writing::write_files;
-use std::alloc::{AllocError, Global};
+use crate::writing::write_bytes;
+use std::alloc::Global;
 use tv_benes::Net;
 use tv_extract::Run;
 use tv_files::Files;
@@ -77,23 +76,6 @@ impl<'a> ExtractArgs<'a> {
     }
 }
 
-/// The texts of a run's tapes.
-#[derive(Drop)]
-struct Texts {
-    tape: Vec<u8>,
-    aux: Vec<u8>,
-}
-
-fn texts_of(alloc: Global, run: &Run) -> Result<Texts, AllocError>
-    ensures { IfOk result (λ texts. (texts.tape.items ≡ text_of run.now.tape)
-        × (texts.aux.items ≡ text_of run.now.aux)) }
-{
-    Ok(Texts {
-        tape: tape_text(alloc, run.tape.as_slice())?,
-        aux: tape_text(alloc, run.aux.as_slice())?,
-    })
-}
-
 /// Writes the tapes of a run, and tells its answer.
 fn write_run<D: Files>(
     alloc: Global,
@@ -104,16 +86,10 @@ fn write_run<D: Files>(
     ensures { Completes (named args.entry.tape ∷ named args.entry.aux ∷ [])
         (run_written run.now) (D.seen files.old) (D.seen files.new) result }
 {
-    let texts = texts_of(alloc, run)?;
-    let tape = Write {
-        place: args.tape,
-        bytes: &texts.tape,
-    };
-    let aux = Write {
-        place: args.aux,
-        bytes: &texts.aux,
-    };
-    write_files(files, &[tape, aux])?;
+    let tape = tape_text(alloc, run.tape.as_slice())?;
+    let aux = tape_text(alloc, run.aux.as_slice())?;
+    write_bytes(files, args.tape, &tape)?;
+    write_bytes(files, args.aux, &aux)?;
     Ok(Finish::Run(End::Answer {
         value: run.answer,
         step: run.step,

@@ -12,10 +12,10 @@ ghost use Rattle.tv_top.specs.Plan.{AreWithin, named, refusal_of};
 ghost use Rattle.tv_top.specs.Programs.{HasImage};
 
 use crate::assigned::{Assignment, not_run, read_assigned, run_of};
-use crate::place::{Place, Write, refusal_of, size_amounts};
+use crate::place::{Place, refusal_of, size_amounts};
 use crate::programs::Width;
 use crate::refusal::{Finish, Refusal, Stop};
-use crate::writing::write_files;
+use crate::writing::write_bytes;
 use std::alloc::{AllocError, Global};
 use tv_benes::Net;
 use tv_extract::Run;
@@ -127,10 +127,6 @@ fn write_lines<D: Files>(
         (D.seen files.old) (D.seen files.new) result }
 {
     let text = lines_text(alloc, assigned, run.step, args)?;
-    let write = Write {
-        place: args.out,
-        bytes: &text,
-    };
-    write_files(files, &[write])?;
+    write_bytes(files, args.out, &text)?;
     Ok(Finish::Quiet)
 }

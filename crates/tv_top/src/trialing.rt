@@ -21,7 +21,7 @@ use tv_core::{F, ListValues, TestSink};
 use tv_draw::draw;
 use tv_files::Files;
 use tv_fill::{FillFault, fill_system};
-use tv_layout::{emit_system, sizes};
+use tv_layout::{emit_system, public_wires, sizes};
 use tv_word::decimal_of;
 
 /// The words of `trial`.
@@ -91,7 +91,8 @@ fn values_of(
     match fill_system::<32, ListValues>(alloc, image, tape, aux, t, Net::Benes, &mut values) {
         Ok(()) => Ok(values),
         Err(FillFault::NoRun { .. }) => unreachable!(),
-        Err(FillFault::Failed | FillFault::Memory) => Err(AllocError),
+        Err(FillFault::Failed) => unreachable!(),
+        Err(FillFault::Memory) => Err(AllocError),
     }
 }
 
@@ -101,7 +102,7 @@ fn tested(image: &[u32], n: u32, t: u32, z: &[F]) -> Trial
     ensures { result ≡ tested t (system_of 32 Benes image.now n t) z.now }
 {
     let counts = sizes::<32>(image, n, t, Net::Benes);
-    let mut tests = TestSink::over(z, 2 + n);
+    let mut tests = TestSink::over(z, public_wires(n));
     match emit_system::<32, TestSink>(image, n, t, Net::Benes, &mut tests) {
         Ok(()) => Trial {
             steps: t,

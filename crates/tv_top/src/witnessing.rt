@@ -4,20 +4,21 @@ ghost use Rattle.std.specs.Prelude.{◌≡◌, [], ◌∷◌, map, string_bytes}
 ghost use Rattle.std.specs.Prelude.{Some, None, MatchOption};
 ghost use Rattle.tv_top.specs.Answers.{Does};
 ghost use Rattle.tv_top.specs.Contents.{Content.{Values}};
-ghost use Rattle.tv_top.specs.Ends.{Completes, Writes};
+ghost use Rattle.tv_top.specs.Ends.{Completes, Writes, streamed};
 ghost use Rattle.tv_top.specs.Form.{witness_form};
 ghost use Rattle.tv_top.specs.Inputs.{AreInputs};
 ghost use Rattle.tv_top.specs.Plan.{AreWithin, named, one_write, refusal_of};
 ghost use Rattle.tv_top.specs.Programs.{bits};
-ghost use Rattle.tv_top.specs.Witnessing.{no_run, witness_asks, witness_ends};
+ghost use Rattle.tv_top.specs.Witnessing.{witness_asks, witness_ends};
 
 use crate::inputs::{Inputs, read_inputs};
 use crate::place::{Amount, Place, net_word, refusal_of};
 use crate::programs::Width;
 use crate::refusal::{Finish, Refusal, Stop};
-use crate::writing::{sink_stop, streamed};
+use crate::writing::streamed;
 use std::alloc::Global;
 use tv_benes::Net;
+use tv_core::Put;
 use tv_files::Files;
 use tv_fill::{FillFault, Filling, prepare};
 use tv_word::decimal_of;
@@ -76,33 +77,21 @@ impl<'a> WitnessArgs<'a> {
     }
 }
 
-/// Writes the values of a run, as they are given.
-fn write_values<const W: u32, D: Files>(
+/// Puts the values of a run into its file, one by one.
+fn put_values<const W: u32, D: Files>(
     files: &mut D,
     place: Place<'_>,
     filling: Filling<'_, W>,
-) -> Result<(), Stop>
+) -> Put<()>
     ensures { Writes (one_write (named place.entry) (Values filling.entry.values))
-        (D.seen files.old) (D.seen files.new) result }
+        (D.seen files.old) (D.seen files.new) (streamed place.entry.word result) }
 {
     let mut taker = match FileValues::begin(files, place.name, filling.count()) {
         Ok(taker) => taker,
-        Err(refused) => return Err(sink_stop(place.word, refused.why)),
+        Err(refused) => return Err(refused.why),
     };
-    match filling.give(&mut taker) {
-        Ok(()) => streamed(place.word, taker.finish()),
-        Err(fault) => Err(sink_stop(place.word, fault)),
-    }
-}
-
-/// The end where there are no values, unless memory was wanting.
-fn no_run(fault: FillFault) -> Result<Finish, Stop>
-    ensures { result ≡ no_run fault }
-{
-    match fault {
-        FillFault::NoRun { end } => Ok(Finish::NoRun(end)),
-        FillFault::Failed | FillFault::Memory => Err(Stop::Memory),
-    }
+    filling.give(&mut taker)?;
+    taker.finish()
 }
 
 /// Runs the machine on what was read, words of so many bits, and writes the values where it
@@ -125,9 +114,11 @@ fn write_witness<const W: u32, D: Files>(
     let aux = inputs.aux.as_slice();
     match prepare::<W>(alloc, image, tape, aux, args.t as u32, args.net) {
         Ok(filling) => {
-            write_values(files, args.witness, filling)?;
+            streamed(args.witness.word, put_values(files, args.witness, filling))?;
             Ok(Finish::Quiet)
         }
-        Err(fault) => no_run(fault),
+        Err(FillFault::NoRun { end }) => Ok(Finish::NoRun(end)),
+        Err(FillFault::Failed) => unreachable!(),
+        Err(FillFault::Memory) => Err(Stop::Memory),
     }
 }

@@ -1,12 +1,53 @@
-use Rattle.std.proofs.Common.{inl, inr, ap, arith, rules}
-use Rattle.tv_top.specs.Finds.{limited_bytes}
+use Rattle.std.proofs.Common.{◌≡◌, ℕ, ◌+◌, ◌≤◌, List, length, Some, Result, Ok, Err, IfOk, inl, inr, refl, arith, rules}
+use Rattle.std.proofs.lemmas.Bool.{le-leb, lt-leb}
+use Rattle.tv_files.specs.Outside.{Told}
+use Rattle.tv_files.specs.Whole.{IsLonger}
+use Rattle.tv_files.specs.declared.outcome.Slurp.{Slurp}
+use Rattle.tv_files.specs.declared.outcome.Slurp.TheVariants as slurp
+use Rattle.tv_top.specs.declared.refusal.Bad.TheVariants.{Limit}
+use Rattle.tv_top.specs.Plan.{named}
+use Rattle.tv_top.proofs.Common.{Outside, Size, Stop, Fault, Memory, Contents, IsFound, Named, input, within}
+use Rattle.tv_top.proofs.ContainerReads.{came}
 use Rattle.tv_top.proofs.bytes.limited_bytes.Goals as goal
 
-pub returns-in-Err-Fault : goal.returns-in-Err-Fault
-returns-in-Err-Fault g c = record {
-  told = λ _ _. omega arith;
-  absent = λ files told. elim (c.in-Err-Fault.ensures.there files told) [ inl same ↦ inl same | inr none ↦ inr (c.args.place.word, ap (limited_bytes c.args.place.word c.args.what c.args.most) none) ];
-  only = c.in-Err-Fault.ensures.only;
-  caused = search rules;
-  limits = λ what has most e. cc;
-}
+-- what a refusal of the file at a word stops
+abbrev stop_of : ℕ → Size → ℕ → Slurp → Stop
+stop_of word what most slurp.Fault = Fault word
+stop_of word what most slurp.Memory = Memory
+stop_of word what most (slurp.TooLong limit) = Contents (Limit what (most + 1) most)
+
+module _ {V : Type 0} (view : V → List ℕ) (place : Named) (what : Size) (most : ℕ) where
+  told : (old : Outside) (result : Result V Slurp) → IfOk result (λ v. Told old (λ held. held place.name ≡ Some (view v))) → IfOk result (λ v. length (view v) ≤ most) →
+      ((limit : ℕ) → result ≡ Err (slurp.TooLong limit) → (limit ≡ most) × Told old (λ held. IsLonger most (held place.name))) →
+      Told old (λ files. IsFound view (input place (within what most (λ bytes. Ok bytes)) files) (came (stop_of place.word what most) result))
+  unfolding input
+  told old (Ok v) whole short longer files is = rw (whole files is, le-leb (length (view v)) most short) refl
+  told old (Err (slurp.TooLong limit)) whole short longer files is = let long = (longer limit refl).1 files is in rw (long.1, lt-leb (length long.0) most long.2) refl
+  told old (Err slurp.Fault) whole short longer files is = omega arith
+  told old (Err slurp.Memory) whole short longer files is = tt
+
+  caused : (result : Result V Slurp) (at : ℕ) → came (stop_of place.word what most) result ≡ Err (Fault at) → (at ≡ place.word) × (result ≡ Err slurp.Fault)
+  caused (Err slurp.Fault) at e = (cc, refl)
+  caused (Ok v) at e = cc
+  caused (Err slurp.Memory) at e = cc
+  caused (Err (slurp.TooLong limit)) at e = cc
+
+  limited : (result : Result V Slurp) (size : Size) (has limit : ℕ) → came (stop_of place.word what most) result ≡ Err (Contents (Limit size has limit)) → size ≡ what
+  limited (Err (slurp.TooLong _)) size has limit e = cc
+  limited (Ok v) size has limit e = cc
+  limited (Err slurp.Fault) size has limit e = cc
+  limited (Err slurp.Memory) size has limit e = cc
+
+pub returns : goal.returns
+unfolding input
+returns g c =
+    let came : c.map_err.result ≡ came (stop_of c.args.place.word c.args.what c.args.most) c.slurp.result = search rules in
+    let slurped = c.slurp.ensures in
+    let place = named c.args.place in
+    rw came (record {
+      told = told (λ v. v.items) place c.args.what c.args.most (g.D.Files.seen c.args.files.now) c.slurp.result slurped.whole slurped.short slurped.longer;
+      absent = λ files told. elim (slurped.there files told) [ inl same ↦ inl same | inr none ↦ inr (place.word, rw none refl) ];
+      only = slurped.only;
+      caused = λ at e. let cause = caused (λ v. v.items) place c.args.what c.args.most c.slurp.result at e in (inl cause.0, slurped.fault cause.1);
+      limits = λ size has most e. inl (limited (λ v. v.items) place c.args.what c.args.most c.slurp.result size has most e);
+    })

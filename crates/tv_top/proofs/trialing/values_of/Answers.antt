@@ -1,12 +1,11 @@
-use Rattle.std.proofs.Common.{◌≡◌, ℕ, List, [], false, Ok, Err, sym, ap, ◌∙◌}
+use Rattle.std.proofs.Common.{◌≡◌, ℕ, List, [], false, Ok, Err, refl, sym, ap, ◌∙◌, arith}
 use Rattle.tv_benes.specs.declared.shape.Net.TheVariants.{Benes}
 use Rattle.tv_core.specs.Meanings.{Kept, kept_giving}
 use Rattle.tv_fill.specs.Filled.{FillsIn}
 use Rattle.tv_fill.specs.declared.fault.FillFault.{FillFault}
-use Rattle.tv_fill.specs.declared.fault.FillFault.TheVariants.{NoRun}
+use Rattle.tv_fill.specs.declared.fault.FillFault.TheVariants.{NoRun, Failed, Memory}
 use Rattle.tv_layout.specs.Systems.{run_values}
 use Rattle.tv_step.specs.Machine.{Accepts}
-use Rattle.tv_step.specs.declared.end.End.{End}
 use Rattle.tv_step.specs.declared.end.End.TheVariants.{Answer}
 use Rattle.tv_top.proofs.trialing.values_of.Goals as goal
 
@@ -16,14 +15,23 @@ one_answer image x aux t u v one other =
     let h : Answer u one.0 ≡ Answer v other.0 = sym one.2 ∙ other.2 in
     cc
 
--- and one that answers isn't told to be none
-runs : (image x aux : List ℕ) (t : ℕ) (old new : Kept) (fault : FillFault) (end : End) → Accepts 32 image x aux t 0 → fault ≡ NoRun end → FillsIn kept_giving 32 Benes image x aux t old new (Err fault) → ⊥
-runs image x aux t old new (NoRun other) end accepts is fills = fills.0.1 0 accepts
-runs image x aux t old new _ end accepts is fills = cc
+-- what is given to a list is refused for want of memory alone, where the run answers
+refused : (image x aux : List ℕ) (t : ℕ) (old new : Kept) (fault : FillFault) → Accepts 32 image x aux t 0 → FillsIn kept_giving 32 Benes image x aux t old new (Err fault) → fault ≡ Memory
+refused image x aux t old new (NoRun end) accepts fills = absurd (fills.0.1 0 accepts)
+refused image x aux t old new Failed accepts fills = absurd (let cause = fills.2.cause in omega (arith, cause))
+refused image x aux t old new Memory accepts fills = refl
 
 pub unreachable-requires : goal.unreachable-requires
 unreachable-requires c =
-    runs c.args.image.now c.args.tape.now c.args.aux.now c.args.t c.new-values.result c.fill_system.new.v c.in-Err-NoRun.field-0 c.in-Err-NoRun.field-0-0 c.requires.accepts c.in-Err-NoRun.field-0-is c.in-Err-NoRun.ensures.fills
+    let is = refused c.args.image.now c.args.tape.now c.args.aux.now c.args.t c.new-values.result c.fill_system.new.v c.in-Err-NoRun.field-0 c.requires.accepts c.in-Err-NoRun.ensures.fills in
+    let other = c.in-Err-NoRun.field-0-is in
+    cc
+
+pub unreachable-requires-in-Err-Failed : goal.unreachable-requires-in-Err-Failed
+unreachable-requires-in-Err-Failed c =
+    let is = refused c.args.image.now c.args.tape.now c.args.aux.now c.args.t c.new-values.result c.fill_system.new.v c.in-Err-Failed.field-0 c.requires.accepts c.in-Err-Failed.ensures.fills in
+    let other = c.in-Err-Failed.field-0-is in
+    cc
 
 pub returns-in-Ok : goal.returns-in-Ok
 returns-in-Ok c =

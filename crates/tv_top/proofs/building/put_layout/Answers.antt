@@ -1,4 +1,5 @@
 use Rattle.std.proofs.Common.{refl, rules}
+use Rattle.std.proofs.lemmas.Result.{err_from_is_err_and}
 use Rattle.tv_block.specs.Block.{block_of}
 use Rattle.tv_layout.specs.Layout.{layout_of}
 use Rattle.tv_layout.specs.Systems.{system_of}
@@ -7,9 +8,9 @@ use Rattle.tv_r1cs_write.specs.Streams.{stream}
 use Rattle.tv_r1cs_write.specs.declared.stream.StreamSink.{StreamSink}
 use Rattle.tv_top.specs.Contents.{Content.{Constraints}}
 use Rattle.tv_top.proofs.Streaming.{writes_nothing, writes_system}
-use Rattle.tv_top.proofs.building.write_layout.Given as given
-use Rattle.tv_top.proofs.building.write_layout.Goals as goal
-use Rattle.tv_top.proofs.building.write_layout.Goals.{In-Ok}
+use Rattle.tv_top.proofs.building.put_layout.Given as given
+use Rattle.tv_top.proofs.building.put_layout.Goals as goal
+use Rattle.tv_top.proofs.building.put_layout.Goals.{In-Ok}
 
 begun : (g : given.Over) (c : In-Ok g) →
     IsBegun {S = StreamSink g.row.D.Denot} (stream g.D.Files.seen) c.args.place.name.now (g.D.Files.seen c.args.files.now)
@@ -29,14 +30,15 @@ begun g c = record {
 
 pub returns-in-Err : goal.returns-in-Err
 returns-in-Err g c =
-    rw c.sink_stop.ensures (search (rules, writes_nothing c.args.place.word c.args.place.name.now (Constraints (system_of g.row.W c.args.net c.args.image.now c.args.n c.args.t)) _ _ c.in-Err.refused.why c.in-Err.ensures.err_creates))
+    search (rules, writes_nothing c.args.place.word c.args.place.name.now (Constraints (system_of g.row.W c.args.net c.args.image.now c.args.n c.args.t)) _ _ c.in-Err.refused.why c.in-Err.ensures.err_creates)
 
-pub returns-in-Ok-emit_system : goal.returns-in-Ok-emit_system
-returns-in-Ok-emit_system g c =
-    let is = streamed_all _ _ _ _ _ _ _ (begun g (goal.at.returns-in-Ok-emit_system g c).In-Ok) c.emit_system.new.s _ c.in-Ok-emit_system.field-0 c.finish.result c.in-Ok-emit_system.ensures.puts c.finish.ensures in
-    rw c.streamed.ensures (search (rules, writes_system c.args.place.word _ _ _ _ c.finish.result is))
+pub returns-in_err-emit_system : goal.returns-in_err-emit_system
+returns-in_err-emit_system g c =
+    let is = streamed_some _ _ _ _ _ _ _ (begun g (goal.at.returns-in_err-emit_system g c).In-Ok) c.emit_system.new.s c.in_err-emit_system.field-0.0 c.in_err-emit_system.ensures.puts in
+    let p = err_from_is_err_and c.from_residual.result c.from_residual.ensures.1 in
+    rw (p.1, p.2) (search (rules, writes_system c.args.place.word _ _ _ _ _ is))
 
-pub returns-in-Err-emit_system : goal.returns-in-Err-emit_system
-returns-in-Err-emit_system g c =
-    let is = streamed_some _ _ _ _ _ _ _ (begun g (goal.at.returns-in-Err-emit_system g c).In-Ok) c.emit_system.new.s c.in-Err-emit_system.fault c.in-Err-emit_system.ensures.puts in
-    rw c.sink_stop-in-Err-emit_system.ensures (search (rules, writes_system c.args.place.word _ _ _ _ _ is))
+pub returns : goal.returns
+returns g c =
+    let is = streamed_all _ _ _ _ _ _ _ (begun g (goal.at.returns g c).In-Ok) c.emit_system.new.s _ c.in_ok-emit_system.field-0 c.finish.result c.in_ok-emit_system.ensures.puts c.finish.ensures in
+    search (rules, writes_system c.args.place.word _ _ _ _ c.finish.result is)
