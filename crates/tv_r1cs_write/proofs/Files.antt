@@ -1,13 +1,10 @@
 -- Files as a whole, from before they were created.
-use Rattle.std.proofs.Common.{◌≡◌, ◌⊎◌, inl, inr, ℕ, List, [], ◌++◌, length, Option, Some, None, option_map, append_assoc, ap, refl, sym, ◌∙◌, arith}
+use Rattle.std.proofs.Common.{◌≡◌, inl, inr, ℕ, List, ◌++◌, length, append_assoc, ap, refl, sym, ◌∙◌, arith}
 use Rattle.std.proofs.lemmas.Grind.{flat_map-append}
 use Rattle.tv_container.specs.Bytes.{front_bytes, section_bytes, section_head}
+use Rattle.tv_container.proofs.Streamed.{streamed_whole}
 use Rattle.tv_container.proofs.Written.{but_front, front_front}
 use Rattle.tv_core.specs.Constraints.{Constraint}
-use Rattle.tv_files.proofs.NamedFiles.{with_bytes-here}
-use Rattle.tv_files.proofs.Written.{written_grows}
-use Rattle.tv_files.specs.Outside.{Names, with_bytes}
-use Rattle.tv_files.specs.Whole.{HasBytes}
 use Rattle.tv_r1cs_write.specs.Bytes.{constraint_bytes, counts_bytes, head_bytes, label_bytes, rows_bytes, rows_size}
 use Rattle.tv_r1cs_write.specs.Laws.{FilesAreFronts, FilesAreOfSystems, FilesAreWhole}
 use Rattle.tv_r1cs_write.specs.Streams.{Progress, begun_bytes, finished_bytes}
@@ -42,32 +39,6 @@ files_are_fronts sink list more labels (inr tried) =
 
 -- a name that was created has no bytes, and what it has later is what was appended
 pub files_are_whole : FilesAreWhole
-files_are_whole old begun new name bytes creates appends has = record {
-  whole = by_contents old.contents refl;
-  only = record {
-    said = appends.said ∙ creates.said;
-    absent = λ files told. by_absent files told (appends.there (with_bytes name [] files) (creates.done ∙ ap (option_map (with_bytes name [])) told));
-    later = record {
-      read_faults = omega (arith, creates.later.read_faults, appends.later.read_faults);
-      write_faults = omega (arith, creates.later.write_faults, appends.later.write_faults);
-      say_faults = omega (arith, creates.later.say_faults, appends.later.say_faults);
-      wants = omega (arith, creates.later.wants, appends.later.wants);
-      absent = omega (arith, creates.later.absent, appends.later.absent);
-    };
-  };
-}
-  where
-    grown : HasBytes old new name appends.more
-    grown = written_grows old begun new name [] appends.more creates.done appends.contents
-
-    by_contents : (contents : Option Names) → old.contents ≡ contents → HasBytes old new name bytes
-    by_contents None is = grown ∙ ap (option_map (with_bytes name appends.more)) is ∙ sym (ap (option_map (with_bytes name bytes)) is)
-    by_contents (Some files) is =
-        let told : new.contents ≡ Some (with_bytes name appends.more files) = grown ∙ ap (option_map (with_bytes name appends.more)) is in
-        let both : Some appends.more ≡ Some bytes = sym (with_bytes-here name appends.more files) ∙ has (with_bytes name appends.more files) told in
-        let same : appends.more ≡ bytes = cc in
-        grown ∙ ap (λ l. option_map (with_bytes name l) old.contents) same
-
-    by_absent : (files : Names) → old.contents ≡ Some files → (new.absent ≡ begun.absent) ⊎ (with_bytes name [] files name ≡ None) → new.absent ≡ old.absent
-    by_absent files told (inl same) = same ∙ creates.absent
-    by_absent files told (inr none) = let here : Some [] ≡ None = sym (with_bytes-here name [] files) ∙ none in cc
+files_are_whole old begun new name bytes creates appends has =
+    let is = streamed_whole old begun new name creates appends bytes tt has in
+    record { whole = is.whole; only = is.only }
