@@ -1,5 +1,5 @@
 //! What the definitions say in the words of constraint systems, for all files, assignments and
-//! tapes.
+//! public numbers.
 
 ghost use Rattle.std.specs.Prelude.{◌≡◌, ◌≢◌, ◌↔◌, ◌<◌, ℕ, List, All, IfOk};
 ghost use Rattle.tv_core.specs.Constraints.{System};

@@ -52,6 +52,7 @@ impl Terms {
         self.items.clear();
     }
 
+    // Puts a term behind the others.
     #[inline(always)]
     fn push(&mut self, wire: u32, coefficient: F) -> Result<(), AllocFailed<(u32, F)>>
         ensures { OnOk result (self.new ≡ self.old ++ (wire, coefficient) ∷ []) }

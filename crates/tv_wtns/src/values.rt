@@ -16,7 +16,7 @@ use tv_core::F;
 use tv_files::Files;
 
 /// The bytes of a value.
-const VALUE: u64 = 8;
+const VALUE_BYTES: u64 = 8;
 
 /// The first values of an assignment, and how many values it has.
 #[derive(Drop)]
@@ -52,7 +52,7 @@ pub(crate) fn read_all<D: Files>(
         let (words, _) = window.bytes_from(at).as_chunks::<8>();
         let some = words.len().min(left as usize);
         take_values(&words[..some], at, most, &mut values)?;
-        at += VALUE * some as u64;
+        at += VALUE_BYTES * some as u64;
         left -= some as u32;
     }
     Ok(FirstValues { values, count })
@@ -80,7 +80,7 @@ fn take_values(
     for (index, word) in words.iter().enumerate() {
         let Some(value) = F::canon(number_of(word)) else {
             return Err(ReadRefusal::Bad {
-                at: at + VALUE * index as u64,
+                at: at + VALUE_BYTES * index as u64,
                 why: ReadWhy::NotCanonical,
             });
         };
