@@ -1,59 +1,45 @@
 -- What was created and then appended to is one file that was streamed.
 use Rattle.std.proofs.Common.{◌≡◌, ◌⊎◌, ℕ, List, [], Option, Some, None, option_map, take, Result, Ok, Err, inl, inr, ap, refl, sym, ◌∙◌, arith}
 use Rattle.std.specs.Prelude.{OnOk, OnErr}
+use Rattle.tv_container.proofs.Buffers.{appends_then}
 use Rattle.tv_container.specs.Faults.{sink_fault}
 use Rattle.tv_container.specs.Writing.{OnlyAppends}
-use Rattle.tv_container.specs.Written.{HasNow, HasFront, NotCreated}
+use Rattle.tv_container.specs.Written.{Caused, HasCause, HasNow, HasFront, IsStreamed, NotCreated}
+use Rattle.tv_core.proofs.Chain.{IsCause-after}
 use Rattle.tv_core.specs.Sinks.{IsCause}
 use Rattle.tv_core.specs.declared.sink.SinkFault.{SinkFault}
 use Rattle.tv_core.specs.declared.sink.SinkFault.TheVariants as sink
 use Rattle.tv_files.proofs.NamedFiles.{with_bytes-here}
 use Rattle.tv_files.proofs.Written.{written_grows}
 use Rattle.tv_files.specs.Calls.{Creates}
-use Rattle.tv_files.specs.Outside.{Names, Outside, OnlyWrites, with_bytes}
+use Rattle.tv_files.specs.Outside.{Names, NoneFell, Outside, OnlyWrites, with_bytes}
 use Rattle.tv_files.specs.Whole.{HasBytes, HasPart}
 use Rattle.tv_files.specs.declared.calls.FileRefusal.{FileRefusal}
 use Rattle.tv_files.specs.declared.calls.FileRefusal.TheVariants as file
-use Rattle.tv_word.specs.Counts.{Rose}
 
--- What writing a file comes to whose bytes come one after another, from before it is created to after the last of them: where
--- contents are told, the name has these bytes, or after a refusal is as it was or has the first few of them. Every other file
--- is as it was, and the count that goes with a refusal rose.
-pub record IsStreamed (old new : Outside) (name bytes : List ℕ) (result : Result (Unit {0}) SinkFault) : Type 0 where
-  pub whole : OnOk result (HasBytes old new name bytes)
-  pub part : OnErr result (HasPart old new name bytes)
-  pub only : OnlyWrites old new
-  pub failed : result ≡ Err sink.Failed → Rose old.write_faults new.write_faults
-  pub memory : result ≡ Err sink.Memory → Rose old.wants new.wants
-
--- the count that goes with a fault rose
-abbrev pub Caused : SinkFault → Outside → Outside → Type 0
-Caused fault old new = IsCause fault (λ (outside : Outside). outside.write_faults) (λ (outside : Outside). outside.wants) old new
-
--- the same, however what writes is seen
+-- a count that rose in what writes rose outside, however that is seen
 pub caused_seen : {S : Type 0} (seen : S → Outside) (old new : S) (fault : SinkFault) → IsCause fault (λ s. (seen s).write_faults) (λ s. (seen s).wants) old new → Caused fault (seen old) (seen new)
 caused_seen seen old new sink.Failed rose = rose
 caused_seen seen old new sink.Memory rose = rose
 
--- a count that rose after bytes were appended rose since before
-pub caused_since : (old mid new : Outside) (name : List ℕ) (fault : SinkFault) → OnlyAppends old mid name → Caused fault mid new → Caused fault old new
-caused_since old mid new name sink.Failed appends rose = let before = appends.later.write_faults in omega (arith, rose, before)
-caused_since old mid new name sink.Memory appends rose = let before = appends.later.wants in omega (arith, rose, before)
+-- a count that rose after calls in which none fell rose since before
+since : (old mid new : Outside) (fault : SinkFault) → NoneFell old mid → Caused fault mid new → Caused fault old new
+since old mid new fault later = IsCause-after fault (λ (outside : Outside). outside.write_faults) (λ (outside : Outside). outside.wants) old mid new later.write_faults later.wants
 
-refused : (old new : Outside) (name bytes : List ℕ) (fault : SinkFault) → HasPart old new name bytes → OnlyWrites old new → Caused fault old new → IsStreamed old new name bytes (Err fault)
-refused old new name bytes sink.Failed part only rose = record { whole = tt; part = part; only = only; failed = λ e. rose; memory = λ e. cc }
-refused old new name bytes sink.Memory part only rose = record { whole = tt; part = part; only = only; failed = λ e. cc; memory = λ e. rose }
-
-by_refusal : (old new : Outside) (name bytes : List ℕ) (why : FileRefusal) → Creates old new name (Err why) → Caused (sink_fault why) old new
-by_refusal old new name bytes file.Failed creates = creates.failed refl
-by_refusal old new name bytes file.Memory creates = creates.memory refl
+by_refusal : (old new : Outside) (name : List ℕ) (why : FileRefusal) → Creates old new name (Err why) → Caused (sink_fault why) old new
+by_refusal old new name file.Failed creates = creates.failed refl
+by_refusal old new name file.Memory creates = creates.memory refl
 
 -- it wasn't created
 pub not_created : (old new : Outside) (name bytes : List ℕ) (fault : SinkFault) → NotCreated old new name fault → IsStreamed old new name bytes (Err fault)
 not_created old new name bytes fault none =
-    let part : HasPart old new name bytes = elim none.call.refused [ inl same ↦ inl same | inr empty ↦ inr (0, empty) ] in
-    let only : OnlyWrites old new = record { said = none.call.said; absent = λ files told. none.call.absent; later = none.call.later } in
-    let is = none.is in rw is (refused old new name bytes (sink_fault none.why) part only (by_refusal old new name bytes none.why none.call))
+    let is = none.is in
+    rw is (record {
+      whole = tt;
+      part = elim none.call.refused [ inl same ↦ inl same | inr empty ↦ inr (0, empty) ];
+      cause = by_refusal old new name none.why none.call;
+      only = record { said = none.call.said; absent = λ files told. none.call.absent; later = none.call.later };
+    })
 
 module _ (old begun new : Outside) (name : List ℕ) (creates : Creates old begun name (Ok tt)) (appends : OnlyAppends begun new name) where
   grown : HasBytes old new name appends.more
@@ -96,12 +82,16 @@ module _ (old begun new : Outside) (name : List ℕ) (creates : Creates old begu
 
   -- the last of its bytes was written
   pub streamed_whole : (bytes : List ℕ) (done : Unit {0}) → HasNow new name bytes → IsStreamed old new name bytes (Ok done)
-  streamed_whole bytes done now = record { whole = whole_by bytes old.contents refl now; part = tt; only = only_writes; failed = λ e. cc; memory = λ e. cc }
+  streamed_whole bytes done now = record { whole = whole_by bytes old.contents refl now; part = tt; cause = tt; only = only_writes }
 
   -- or one of them was refused
   pub streamed_part : (bytes : List ℕ) (fault : SinkFault) → HasFront new name bytes → Caused fault begun new → IsStreamed old new name bytes (Err fault)
-  streamed_part bytes fault front cause = refused old new name bytes fault (part_by bytes old.contents refl front) only_writes (since fault cause)
-    where
-      since : (fault : SinkFault) → Caused fault begun new → Caused fault old new
-      since sink.Failed rose = omega (arith, creates.later.write_faults, rose)
-      since sink.Memory rose = omega (arith, creates.later.wants, rose)
+  streamed_part bytes fault front cause = record { whole = tt; part = part_by bytes old.contents refl front; cause = since old begun new fault creates.later cause; only = only_writes }
+
+-- bytes were appended, and then the last of them, or these were refused
+pub streamed_last : (old begun mid new : Outside) (name bytes : List ℕ) (result : Result (Unit {0}) SinkFault) → Creates old begun name (Ok tt) → OnlyAppends begun mid name → OnlyAppends mid new name →
+    OnOk result (HasNow new name bytes) → OnErr result (HasFront new name bytes) → HasCause mid new result → IsStreamed old new name bytes result
+streamed_last old begun mid new name bytes (Ok done) creates appends last now front cause =
+    streamed_whole old begun new name creates (appends_then begun mid new name appends last) bytes done now
+streamed_last old begun mid new name bytes (Err fault) creates appends last now front cause =
+    streamed_part old begun new name creates (appends_then begun mid new name appends last) bytes fault front (since begun mid new fault appends.later cause)

@@ -1,10 +1,11 @@
 -- Bytes that are written to a file a piece at a time, and what of them it has.
-use Rattle.std.specs.Prelude.{◌≡◌, ℕ, List, ◌++◌, take, Some, Result, Err, MatchResult}
+use Rattle.std.specs.Prelude.{◌≡◌, ℕ, List, ◌++◌, take, Some, Result, Err, MatchResult, OnOk, OnErr, IfErr}
 use Rattle.tv_container.specs.Faults.{sink_fault}
 use Rattle.tv_core.specs.Sinks.{IsCause}
 use Rattle.tv_core.specs.declared.sink.SinkFault.{SinkFault}
 use Rattle.tv_files.specs.Calls.{Creates}
-use Rattle.tv_files.specs.Outside.{Outside, Told, SameCounts}
+use Rattle.tv_files.specs.Outside.{Outside, Told, SameCounts, OnlyWrites}
+use Rattle.tv_files.specs.Whole.{HasBytes, HasPart}
 use Rattle.tv_files.specs.declared.calls.FileRefusal.{FileRefusal}
 
 -- where contents are told, the name has these bytes
@@ -25,7 +26,19 @@ pub record NotCreated (old new : Outside) (name : List ℕ) (fault : SinkFault) 
   pub is : fault ≡ sink_fault why
   pub call : Creates old new name (Err why)
 
--- no count changed, or that of the fault's kind rose: faults of writing, or wants of memory
+-- the count of a fault's kind rose: faults of writing, or wants of memory
+abbrev pub Caused : SinkFault → Outside → Outside → Type 0
+Caused fault old new = IsCause fault (λ (outside : Outside). outside.write_faults) (λ (outside : Outside). outside.wants) old new
+
+-- no count changed, or that of the fault's kind rose
 abbrev pub HasCause : Outside → Outside → Result (Unit {0}) SinkFault → Type 0
-HasCause old new result = MatchResult result (λ _. SameCounts old new)
-    (λ fault. IsCause fault (λ (outside : Outside). outside.write_faults) (λ (outside : Outside). outside.wants) old new)
+HasCause old new result = MatchResult result (λ _. SameCounts old new) (λ fault. Caused fault old new)
+
+-- What writing a file comes to whose bytes come one after another, from before it is created to after the last of them: where
+-- contents are told, the name has these bytes, or after a refusal is as it was or has the first few of them. Every other file
+-- is as it was, and the count of the refusal's kind rose.
+pub record IsStreamed (old new : Outside) (name bytes : List ℕ) (result : Result (Unit {0}) SinkFault) : Type 0 where
+  pub whole : OnOk result (HasBytes old new name bytes)
+  pub part : OnErr result (HasPart old new name bytes)
+  pub cause : IfErr result (λ fault. Caused fault old new)
+  pub only : OnlyWrites old new

@@ -1,40 +1,28 @@
 -- From what a sink that writes promises to what streaming a system is.
-use Rattle.std.proofs.Common.{◌≡◌, ◌+◌, ◌^◌, ◌<◌, ◌≤◌, ℕ, List, [], ◌∷◌, ◌++◌, Result, Ok, Err, inr, append_assoc, refl, sym, ap, ◌∙◌}
-use Rattle.std.proofs.lemmas.List.FromFn.{length-range_with_len}
-use Rattle.std.specs.List.{range_with_len}
-use Rattle.std.specs.Prelude.{OnOk}
-use Rattle.tv_container.proofs.Buffers.{appends_then}
-use Rattle.tv_container.proofs.Streamed.{IsStreamed, caused_seen, caused_since, streamed_whole, streamed_part}
-use Rattle.tv_container.specs.Writing.{OnlyAppends}
-use Rattle.tv_container.specs.Written.{HasFront}
+use Rattle.std.proofs.Common.{◌≡◌, ◌+◌, ◌^◌, ◌<◌, ◌≤◌, ℕ, List, [], ◌∷◌, ◌++◌, length, Result, Ok, Err, inr, append_assoc, refl, sym, ap, ◌∙◌}
+use Rattle.std.specs.Prelude.{OnOk, OnErr}
+use Rattle.tv_container.proofs.Streamed.{caused_seen, streamed_last, streamed_part}
+use Rattle.tv_container.specs.Written.{HasFront, HasNow}
 use Rattle.tv_core.specs.Circuits.{Circuit}
 use Rattle.tv_core.specs.Constraints.{System}
 use Rattle.tv_core.specs.Meanings.{system_counts}
 use Rattle.tv_core.specs.Sinks.{PutsAll, PutsSome}
 use Rattle.tv_core.specs.declared.lines.Counts.{Counts}
 use Rattle.tv_core.specs.declared.sink.SinkFault.{SinkFault}
+use Rattle.tv_files.proofs.Cases.{OnErr-map, OnOk-map}
 use Rattle.tv_files.specs.Calls.{Creates}
 use Rattle.tv_files.specs.Outside.{Outside}
 use Rattle.tv_r1cs_read.specs.R1cs.{system_of}
 use Rattle.tv_r1cs_write.proofs.Files.{files_are_fronts, files_of_systems}
 use Rattle.tv_r1cs_write.proofs.Systems.{systems_come_back}
 use Rattle.tv_r1cs_write.specs.Bytes.{system_bytes}
-use Rattle.tv_r1cs_write.specs.Streams.{Stream, Progress, Stands, Finishes, KeepsFile, begun, stream_meaning, finished_bytes}
+use Rattle.tv_r1cs_write.specs.Streams.{Stream, Progress, Stands, Finishes, IsSystemStreamed, KeepsFile, begun, stream_meaning, finished_bytes}
 
--- the file of a system whose wires have the labels 0, 1, ..
-abbrev pub labelled_bytes : System → List ℕ
-labelled_bytes system = system_bytes system system.wires (range_with_len 0 system.wires)
-
--- what streaming a system to a file comes to; a whole file is read as the system again
-pub record IsSystemStreamed (old new : Outside) (name : List ℕ) (system : System) (result : Result (Unit {0}) SinkFault) : Type 0 where
-  pub file : IsStreamed old new name (labelled_bytes system) result
-  pub read : OnOk result (system_of (labelled_bytes system) ≡ Ok system)
-
--- what a sink is that was begun with the counts of a system, whose constraints are a circuit's
-pub record IsBegun {S A : Type 0} (seen : S → Stream) (name : List ℕ) (old : Outside) (sink : S) (circuit : Circuit A) (system : System) (counts : Counts) : Type 0 where
+-- what a sink is that was begun with the counts of a system, whose constraints are a circuit's, and a number of labels
+pub record IsBegun {S A : Type 0} (seen : S → Stream) (name : List ℕ) (old : Outside) (sink : S) (circuit : Circuit A) (system : System) (counts : Counts) (count : ℕ) : Type 0 where
   pub creates : Creates old (seen sink).outside name (Ok tt)
   pub named : (seen sink).name ≡ name
-  pub begins : (seen sink).progress ≡ begun counts counts.wires
+  pub begins : (seen sink).progress ≡ begun counts count
   pub stands : Stands (seen sink) []
   pub counted : counts ≡ system_counts system
   pub list : (circuit (1 + system.outputs + system.inputs)).list ≡ system.constraints
@@ -43,7 +31,8 @@ pub record IsBegun {S A : Type 0} (seen : S → Stream) (name : List ℕ) (old :
   pub wires_fit : counts.wires < 2 ^ 32
   pub constraints_fit : counts.constraints < 2 ^ 32
 
-module _ {S A : Type 0} (seen : S → Stream) (name : List ℕ) (old : Outside) (sink : S) (circuit : Circuit A) (system : System) (counts : Counts) (is : IsBegun seen name old sink circuit system counts) where
+-- `labels` are those of the wires, by the number of these
+module _ {S A : Type 0} (seen : S → Stream) (name : List ℕ) (old : Outside) (sink : S) (circuit : Circuit A) (system : System) (counts : Counts) (count : ℕ) (labels : ℕ → List ℕ) (is : IsBegun seen name old sink circuit system counts count) where
   -- the first wire that is made
   first : (seen sink).progress.wires ≡ 1 + system.outputs + system.inputs
   first = ap (λ (p : Progress). p.wires) is.begins ∙ ap (λ (counts : Counts). 1 + counts.outputs + counts.inputs) is.counted
@@ -52,48 +41,34 @@ module _ {S A : Type 0} (seen : S → Stream) (name : List ℕ) (old : Outside) 
   list = ap (λ n. (circuit n).list) first ∙ is.list
 
   -- the bytes of the file are told by what every call keeps
-  bytes : (new : S) → KeepsFile (seen sink) (seen new) → finished_bytes (seen new).progress system.constraints (range_with_len 0 (seen new).progress.counts.wires) ≡ labelled_bytes system
+  bytes : (new : S) → KeepsFile (seen sink) (seen new) → finished_bytes (seen new).progress system.constraints (labels (seen new).progress.counts.wires) ≡ system_bytes system count (labels system.wires)
   bytes new keeps =
-      rw (keeps.counts, keeps.labels, is.begins, is.counted) (files_of_systems (system_counts system) system.wires system.constraints (range_with_len 0 system.wires) (record { constraints = refl; terms = refl }))
+      rw (keeps.counts, keeps.labels, is.begins, is.counted) (files_of_systems (system_counts system) count system.constraints (labels system.wires) (record { constraints = refl; terms = refl }))
 
   -- a constraint was refused
-  pub streamed_some : (new : S) (fault : SinkFault) → PutsSome (stream_meaning seen) sink new circuit fault → IsSystemStreamed old (seen new).outside name system (Err fault)
+  pub streamed_some : (new : S) (fault : SinkFault) → PutsSome (stream_meaning seen) sink new circuit fault → IsSystemStreamed old (seen new).outside name system count (labels system.wires) (Err fault)
   streamed_some new fault some =
       let tried = some.front ++ some.refused ∷ [] in
       let named : (seen new).name ≡ name = some.keeps.name ∙ is.named in
       let whole : tried ++ some.back ≡ system.constraints = append_assoc some.front (some.refused ∷ []) some.back ∙ sym some.at ∙ list in
-      let front : HasFront (seen new).outside name (labelled_bytes system) = rw (named, whole, bytes new some.keeps) at (files_are_fronts (seen new) tried some.back (range_with_len 0 (seen new).progress.counts.wires) (inr (some.tried [] is.stands))) in
+      let front : HasFront (seen new).outside name (system_bytes system count (labels system.wires)) = rw (named, whole, bytes new some.keeps) at (files_are_fronts (seen new) tried some.back (labels (seen new).progress.counts.wires) (inr (some.tried [] is.stands))) in
       let cause = caused_seen (λ s. (seen s).outside) sink new fault some.cause in
-      record { file = streamed_part old (seen sink).outside (seen new).outside name is.creates (rw is.named at some.keeps.outside) (labelled_bytes system) fault front cause; read = tt }
+      record { file = streamed_part old (seen sink).outside (seen new).outside name is.creates (rw is.named at some.keeps.outside) (system_bytes system count (labels system.wires)) fault front cause; read = tt }
 
   -- all constraints were put, and the file was finished, or finishing it was refused
-  pub streamed_all : (done : S) (new : Outside) (answer : A) (result : Result (Unit {0}) SinkFault) → PutsAll (stream_meaning seen) sink done circuit answer →
-      Finishes (seen done) new (range_with_len 0 (seen done).progress.counts.wires) result → IsSystemStreamed old new name system result
-  streamed_all done new answer result all finishes = by_result result finishes
-    where
-      named : (seen done).name ≡ name
-      named = all.keeps.name ∙ is.named
-
-      stands : Stands (seen done) system.constraints
-      stands = rw list at (all.stands [] is.stands)
-
-      appends : OnlyAppends (seen done).outside new (seen done).name → OnlyAppends (seen sink).outside new name
-      appends only = appends_then (seen sink).outside (seen done).outside new name (rw is.named at all.keeps.outside) (rw named at only)
-
-      wires : (seen done).progress.wires ≡ system.wires
-      wires = all.next ∙ ap (λ n. (circuit n).next) first ∙ is.next
-
-      read : system_of (labelled_bytes system) ≡ Ok system
-      read = systems_come_back system system.wires (range_with_len 0 system.wires)
-          (record { wires = rw is.counted at is.wires_fit; publics = is.publics; constraints = rw is.counted at is.constraints_fit; narrow = rw wires at stands.narrow }) (length-range_with_len 0 system.wires)
-
-      by_result : (result : Result (Unit {0}) SinkFault) → Finishes (seen done) new (range_with_len 0 (seen done).progress.counts.wires) result → IsSystemStreamed old new name system result
-      by_result (Ok unit) finishes = record {
-        file = streamed_whole old (seen sink).outside new name is.creates (appends finishes.only) (labelled_bytes system) unit (rw (named, bytes done all.keeps) at (finishes.whole system.constraints stands));
-        read = read;
-      }
-      by_result (Err fault) finishes = record {
-        file = streamed_part old (seen sink).outside new name is.creates (appends finishes.only) (labelled_bytes system) fault (rw (named, bytes done all.keeps) at (finishes.part system.constraints stands))
-            (caused_since (seen sink).outside (seen done).outside new (seen sink).name fault all.keeps.outside finishes.cause);
-        read = tt;
+  pub streamed_all : (done : S) (new : Outside) (answer : A) (result : Result (Unit {0}) SinkFault) → length (labels system.wires) ≡ system.wires → PutsAll (stream_meaning seen) sink done circuit answer →
+      Finishes (seen done) new (labels (seen done).progress.counts.wires) result → IsSystemStreamed old new name system count (labels system.wires) result
+  streamed_all done new answer result each all finishes =
+      let named : (seen done).name ≡ name = all.keeps.name ∙ is.named in
+      let stands : Stands (seen done) system.constraints = rw list at (all.stands [] is.stands) in
+      let wires : (seen done).progress.wires ≡ system.wires = all.next ∙ ap (λ n. (circuit n).next) first ∙ is.next in
+      let whole = finishes.whole system.constraints stands in
+      let now = OnOk-map result (λ (has : HasNow new (seen done).name (finished_bytes (seen done).progress system.constraints (labels (seen done).progress.counts.wires))). rw (named, bytes done all.keeps) at has) whole in
+      let front = OnErr-map result (λ (has : HasFront new (seen done).name (finished_bytes (seen done).progress system.constraints (labels (seen done).progress.counts.wires))). rw (named, bytes done all.keeps) at has) (finishes.part system.constraints stands) in
+      let read : system_of (system_bytes system count (labels system.wires)) ≡ Ok system =
+      systems_come_back system count (labels system.wires)
+      (record { wires = rw is.counted at is.wires_fit; publics = is.publics; constraints = rw is.counted at is.constraints_fit; narrow = rw wires at stands.narrow }) each in
+      record {
+        file = streamed_last old (seen sink).outside (seen done).outside new name (system_bytes system count (labels system.wires)) result is.creates (rw is.named at all.keeps.outside) (rw named at finishes.only) now front finishes.cause;
+        read = OnOk-map result (λ (has : HasNow new (seen done).name (finished_bytes (seen done).progress system.constraints (labels (seen done).progress.counts.wires))). read) whole;
       }

@@ -1,19 +1,20 @@
 -- A sink that writes its constraints to a file as they come.
-use Rattle.std.specs.Prelude.{◌≡◌, refl, ℕ, ◌+◌, Bool, false, is_err, List, ◌++◌, length, Result, OnOk, OnErr}
+use Rattle.std.specs.Prelude.{◌≡◌, refl, ℕ, ◌+◌, Bool, false, is_err, List, ◌++◌, length, Result, Ok, OnOk, OnErr}
 use Rattle.std.proofs.Common.{◌∙◌}
 use Rattle.std.specs.Borrow.{GName}
 use Rattle.std.specs.List.{All}
 use Rattle.tv_container.proofs.Buffers.{nothing_appended, appends_then}
 use Rattle.tv_container.specs.Writing.{OnlyAppends}
-use Rattle.tv_core.specs.Constraints.{Constraint}
+use Rattle.tv_core.specs.Constraints.{Constraint, System}
 use Rattle.tv_core.specs.Sinks.{Meaning}
 use Rattle.tv_core.specs.declared.lines.Counts.{Counts}
 use Rattle.tv_files.specs.Outside.{Outside}
 use Rattle.tv_core.specs.declared.sink.SinkFault.{SinkFault}
-use Rattle.tv_r1cs_write.specs.Bytes.{file_bytes, head_bytes, rows_bytes}
+use Rattle.tv_r1cs_read.specs.R1cs.{system_of}
+use Rattle.tv_r1cs_write.specs.Bytes.{file_bytes, head_bytes, rows_bytes, system_bytes}
 use Rattle.tv_r1cs_write.specs.Narrow.{IsNarrow}
 use Rattle.tv_r1cs_write.specs.declared.stream.StreamSink.{StreamSink}
-use Rattle.tv_container.specs.Written.{HasBut, HasCause, HasFront, HasNow}
+use Rattle.tv_container.specs.Written.{HasBut, HasCause, HasFront, HasNow, IsStreamed}
 
 -- how far writing has come: the counts and the number of labels that the file's head tells, the bytes that
 -- are still to be appended, how many wires and constraints there are, and whether a refusal broke it
@@ -124,3 +125,8 @@ pub record Finishes (sink : Stream) (new : Outside) (labels : List ℕ) (result 
   pub part : (list : List Constraint) → Stands sink list → OnErr result (HasFront new sink.name (finished_bytes sink.progress list labels))
   pub only : OnlyAppends sink.outside new sink.name
   pub cause : HasCause sink.outside new result
+
+-- what streaming a system, whose wires have these labels, to a file comes to; a whole file is read as the system again
+pub record IsSystemStreamed (old new : Outside) (name : List ℕ) (system : System) (count : ℕ) (labels : List ℕ) (result : Result (Unit {0}) SinkFault) : Type 0 where
+  pub file : IsStreamed old new name (system_bytes system count labels) result
+  pub read : OnOk result (system_of (system_bytes system count labels) ≡ Ok system)

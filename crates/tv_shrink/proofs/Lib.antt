@@ -1,5 +1,4 @@
 pub mod Constants
-pub mod Filing
 pub mod Labels
 pub mod Laying
 pub mod Linear

@@ -1,21 +1,22 @@
 -- From a file that was streamed to what writing a plan's file is.
 use Rattle.std.proofs.Common.{◌≡◌, ℕ, List, [], ◌∷◌, length, option_map, Result, Ok, Err, inl, inr, refl, ap, ◌∙◌, arith, rules}
+use Rattle.std.specs.List.{range_with_len}
 use Rattle.std.specs.Prelude.{OnOk, MatchResult}
 use Rattle.std.proofs.lemmas.List.{take_all}
-use Rattle.tv_container.proofs.Streamed.{IsStreamed, not_created}
-use Rattle.tv_container.specs.Written.{NotCreated}
+use Rattle.tv_container.proofs.Streamed.{not_created}
+use Rattle.tv_container.specs.Written.{IsStreamed, NotCreated}
 use Rattle.tv_core.specs.Constraints.{System}
 use Rattle.tv_core.specs.declared.sink.SinkFault.{SinkFault}
 use Rattle.tv_core.specs.declared.sink.SinkFault.TheVariants as sink
 use Rattle.tv_files.specs.Outside.{with_bytes}
 use Rattle.tv_top.proofs.Common.{Outside, Stop, Fault, Memory, Contents, AreRead, IsCut, IsCutAt, files_with, bytes_in, IsRead, Writes, sink_stop, streamed, Write}
-use Rattle.tv_r1cs_write.proofs.Streaming.{IsSystemStreamed}
+use Rattle.tv_r1cs_write.specs.Streams.{IsSystemStreamed}
 use Rattle.tv_wtns.proofs.Streaming.{IsAssignmentStreamed}
 use Rattle.tv_top.specs.Contents.{Content, Content.{Constraints, Values}}
 
 pub writes_streamed : (w : Write) (old new : Outside) (result : Result (Unit {0}) SinkFault) → IsStreamed old new w.name (bytes_in w.content) result → OnOk result (IsRead w.content) → Writes (w ∷ []) old new (streamed w.word result)
 writes_streamed w old new (Ok done) is read = record { ended = (is.whole, (read, tt)); only = is.only }
-writes_streamed w old new (Err sink.Failed) is read = record { ended = (inl (refl, is.part), is.failed refl); only = is.only }
+writes_streamed w old new (Err sink.Failed) is read = record { ended = (inl (refl, is.part), is.cause); only = is.only }
 writes_streamed w old new (Err sink.Memory) is read = record { ended = inr (w.word, inl (refl, is.part)); only = is.only }
 
 -- the file wasn't created
@@ -50,7 +51,7 @@ writes_first w ws old new stop one = record { ended = ended stop one.ended; only
     ended Memory (inr cut) = inr (cut.0, front cut.0 cut.1)
     ended (Contents bad) cut = absurd cut
 
-pub writes_system : (word : ℕ) (name : List ℕ) (system : System) (old new : Outside) (result : Result (Unit {0}) SinkFault) → IsSystemStreamed old new name system result →
+pub writes_system : (word : ℕ) (name : List ℕ) (system : System) (old new : Outside) (result : Result (Unit {0}) SinkFault) → IsSystemStreamed old new name system system.wires (range_with_len 0 system.wires) result →
     Writes (record { word = word; name = name; content = Constraints system } ∷ []) old new (streamed word result)
 writes_system word name system old new result is = writes_streamed (record { word = word; name = name; content = Constraints system }) old new result is.file is.read
 

@@ -1,12 +1,11 @@
 -- From what a taker that writes promises to what streaming an assignment is.
 use Rattle.std.proofs.Common.{◌≡◌, ◌^◌, ◌<◌, ℕ, List, [], ◌∷◌, ◌++◌, length, Result, Ok, Err, inr, append_assoc, sym, ◌∙◌, refl}
-use Rattle.std.specs.Prelude.{OnOk}
-use Rattle.tv_container.proofs.Buffers.{appends_then}
-use Rattle.tv_container.proofs.Streamed.{IsStreamed, caused_seen, caused_since, streamed_whole, streamed_part}
-use Rattle.tv_container.specs.Writing.{OnlyAppends}
-use Rattle.tv_container.specs.Written.{HasFront}
+use Rattle.std.specs.Prelude.{OnOk, OnErr}
+use Rattle.tv_container.proofs.Streamed.{caused_seen, streamed_last, streamed_part}
+use Rattle.tv_container.specs.Written.{HasFront, HasNow, IsStreamed}
 use Rattle.tv_core.specs.Giving.{GivesAll, GivesSome}
 use Rattle.tv_core.specs.declared.sink.SinkFault.{SinkFault}
+use Rattle.tv_files.proofs.Cases.{OnErr-map, OnOk-map}
 use Rattle.tv_files.specs.Calls.{Creates}
 use Rattle.tv_files.specs.Outside.{Outside}
 use Rattle.tv_wtns.proofs.Files.{come_back, files_are_fronts, files_of_assignments}
@@ -43,24 +42,13 @@ module _ {V : Type 0} (seen : V → Taker) (name : List ℕ) (old : Outside) (ta
 
   -- all values were given, and the file was finished, or finishing it was refused
   pub streamed_all : (done : V) (new : Outside) (result : Result (Unit {0}) SinkFault) → GivesAll (taker_giving seen) taker done values → Finishes (seen done) new result → IsAssignmentStreamed old new name values result
-  streamed_all done new result all finishes = by_result result finishes
-    where
-      named : (seen done).name ≡ name
-      named = all.keeps.name ∙ is.named
-
-      stands : Stands (seen done) values
-      stands = all.stands [] is.stands
-
-      appends : OnlyAppends (seen done).outside new (seen done).name → OnlyAppends (seen taker).outside new name
-      appends only = appends_then (seen taker).outside (seen done).outside new name (rw is.named at all.keeps.outside) (rw named at only)
-
-      by_result : (result : Result (Unit {0}) SinkFault) → Finishes (seen done) new result → IsAssignmentStreamed old new name values result
-      by_result (Ok unit) finishes = record {
-        file = streamed_whole old (seen taker).outside new name is.creates (appends finishes.only) (assignment_bytes values) unit (rw (named, bytes done all.keeps) at (finishes.whole values stands));
-        read = come_back values is.few stands.canonical;
-      }
-      by_result (Err fault) finishes = record {
-        file = streamed_part old (seen taker).outside new name is.creates (appends finishes.only) (assignment_bytes values) fault (rw (named, bytes done all.keeps) at (finishes.part values stands))
-            (caused_since (seen taker).outside (seen done).outside new (seen taker).name fault all.keeps.outside finishes.cause);
-        read = tt;
+  streamed_all done new result all finishes =
+      let named : (seen done).name ≡ name = all.keeps.name ∙ is.named in
+      let stands : Stands (seen done) values = all.stands [] is.stands in
+      let whole = finishes.whole values stands in
+      let now = OnOk-map result (λ (has : HasNow new (seen done).name (file_bytes (seen done).progress.count values)). rw (named, bytes done all.keeps) at has) whole in
+      let front = OnErr-map result (λ (has : HasFront new (seen done).name (file_bytes (seen done).progress.count values)). rw (named, bytes done all.keeps) at has) (finishes.part values stands) in
+      record {
+        file = streamed_last old (seen taker).outside (seen done).outside new name (assignment_bytes values) result is.creates (rw is.named at all.keeps.outside) (rw named at finishes.only) now front finishes.cause;
+        read = OnOk-map result (λ (has : HasNow new (seen done).name (file_bytes (seen done).progress.count values)). come_back values is.few stands.canonical) whole;
       }
