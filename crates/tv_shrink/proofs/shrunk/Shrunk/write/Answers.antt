@@ -1,23 +1,73 @@
-use Rattle.std.proofs.Common.{◌≡◌, ◌+◌, ◌-◌, ◌≤◌, ◌∙◌, ℕ, List, Option, Ok, refl, rules, arith, ap, length}
+use Rattle.std.proofs.Common.{◌≡◌, ◌+◌, ◌-◌, ◌≤◌, ◌∙◌, ℕ, Ok, refl, rules, arith, ap, length}
 use Rattle.std.specs.List.{filter_map}
 use Rattle.std.proofs.lemmas.Result.{err_from_is_err_and}
 use Rattle.tv_container.proofs.Streamed.{not_created}
 use Rattle.tv_core.proofs.Chain.{puts_then, puts_then_refused}
-use Rattle.tv_core.specs.Constraints.{Constraint, System}
+use Rattle.tv_core.specs.Constraints.{System}
+use Rattle.tv_core.specs.Sinks.{PutsAll, PutsSome}
 use Rattle.tv_core.specs.declared.lines.Counts.{Counts}
 use Rattle.tv_r1cs_write.proofs.Streaming.{IsBegun, streamed_all, streamed_some}
 use Rattle.tv_r1cs_write.specs.Streams.{begun, stream, stream_meaning}
 use Rattle.tv_r1cs_write.specs.declared.stream.StreamSink.{StreamSink}
 use Rattle.tv_shrink.specs.Emitting.{rows_circuit, wires_circuit}
-use Rattle.tv_shrink.specs.Shrinking.{Shrunken}
+use Rattle.tv_shrink.specs.Written.{shrunken_bytes}
 use Rattle.tv_shrink.proofs.Putting.{circuit_of, circuit_list, circuit_next}
 use Rattle.tv_shrink.proofs.shrunk.Shrunk.write.Given as given
 use Rattle.tv_shrink.proofs.shrunk.Shrunk.write.Goals as goal
 use Rattle.tv_shrink.proofs.shrunk.Shrunk.write.Goals.{In-Ok}
 
-abbrev private_of : (g : given.Over) → In-Ok g → ℕ
-private_of g c = c.len-2.result - (1 + c.self.inside.outputs + c.self.inside.inputs)
+-- the system that is written, its counts, and how many private wires it has
+abbrev system_in : (g : given.Over) → In-Ok g → System
+system_in g c = record { wires = length c.self.inside.labels.items; outputs = c.self.inside.outputs; inputs = c.self.inside.inputs; constraints = filter_map (λ row. row) c.self.inside.rows }
+
+abbrev counts_in : (g : given.Over) → In-Ok g → Counts
+counts_in g c = record { wires = c.len-2.result; outputs = c.self.inside.outputs; inputs = c.self.inside.inputs; constraints = c.count_rows-tally.result.constraints; terms = c.count_rows-tally.result.terms }
+
+abbrev private_in : (g : given.Over) → In-Ok g → ℕ
+private_in g c = c.len-2.result - (1 + c.self.inside.outputs + c.self.inside.inputs)
 
 is_begun : (g : given.Over) (c : In-Ok g) → IsBegun {S = StreamSink g.row.D.Denot} (stream g.D.Files.seen) c.args.name.now (g.D.Files.seen c.args.files.now) c.in-Ok.sink
-    (circuit_of (private_of g c) c.self.inside.rows) ? ? c.self.inside.wires
-is_begun g c = ?
+    (circuit_of (private_in g c) c.self.inside.rows) (system_in g c) (counts_in g c) c.self.inside.wires
+is_begun g c =
+    let first : ℕ = 1 + c.self.inside.outputs + c.self.inside.inputs in
+    let wires : c.len-2.result ≡ length c.self.inside.labels.items = omega arith in
+    let publics : first ≤ c.len-2.result = omega (arith, c.self.invariant.0, wires) in
+    record {
+      creates = c.in-Ok.ensures.ok_creates;
+      named = c.in-Ok.ensures.name;
+      begins = c.in-Ok.ensures.begun ∙ ap (λ labels. begun (counts_in g c) labels) c.from-labels.ensures;
+      stands = c.in-Ok.ensures.stands;
+      counted = rw (wires, c.count_rows-tally.ensures.constraints, c.count_rows-tally.ensures.terms) refl;
+      list = circuit_list (private_in g c) c.self.inside.rows first;
+      next = circuit_next (private_in g c) c.self.inside.rows first ∙ omega (arith, publics, wires);
+      publics = c.self.invariant.0;
+      wires_fit = omega (arith, wires, c.self.invariant.1);
+      constraints_fit = omega (arith, c.count_rows-tally.ensures.few, c.self.invariant.3);
+    }
+
+pub returns-in-Err : goal.returns-in-Err
+returns-in-Err g c =
+    let none = not_created _ _ _ (shrunken_bytes c.args.self.now) _ c.in-Err.ensures.err_creates in
+    record { file = search (rules, none); read = tt }
+
+pub returns : goal.returns
+returns g c =
+    let ok = (goal.at.returns g c).In-Ok in
+    let seen : StreamSink g.row.D.Denot → _ = stream g.D.Files.seen in
+    let rows = c.self.inside.rows in
+    let more : PutsAll (stream_meaning seen) c.make_wires.new.s c.put_rows.new.s (rows_circuit rows (length rows)) tt = c.in_ok-put_rows.ensures.puts in
+    let puts = puts_then (stream_meaning seen) (wires_circuit (private_in g ok)) (λ _. rows_circuit rows (length rows)) c.in-Ok.sink c.make_wires.new.s c.put_rows.new.s tt tt c.make_wires.ensures.puts more in
+    let written = streamed_all _ _ _ _ _ _ _ _ (λ _. c.self.inside.labels.items) (is_begun g ok) c.put_rows.new.s _ tt c.finish_labelled.result refl puts (rw c.deref.ensures.value at c.finish_labelled.ensures) in
+    rw (← c.self.view_is) (search (rules, written))
+
+pub returns-in_err-put_rows : goal.returns-in_err-put_rows
+returns-in_err-put_rows g c =
+    let ok = (goal.at.returns-in_err-put_rows g c).In-Ok in
+    let seen : StreamSink g.row.D.Denot → _ = stream g.D.Files.seen in
+    let rows = c.self.inside.rows in
+    let fault = c.in_err-put_rows.field-0.0 in
+    let more : PutsSome (stream_meaning seen) c.make_wires.new.s c.put_rows.new.s (rows_circuit rows (length rows)) fault = c.in_err-put_rows.ensures.puts in
+    let some = puts_then_refused (stream_meaning seen) (wires_circuit (private_in g ok)) (λ _. rows_circuit rows (length rows)) c.in-Ok.sink c.make_wires.new.s c.put_rows.new.s tt fault c.make_wires.ensures.puts more in
+    let written = streamed_some _ _ _ _ _ _ _ _ (λ _. c.self.inside.labels.items) (is_begun g ok) c.put_rows.new.s fault some in
+    let p = err_from_is_err_and c.from_residual.result c.from_residual.ensures.1 in
+    rw (p.1, p.2, ← c.self.view_is) (search (rules, written))
