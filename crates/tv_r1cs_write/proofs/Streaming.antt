@@ -1,15 +1,14 @@
 -- From what a sink that writes promises to what streaming a system is.
 use Rattle.std.proofs.Common.{◌≡◌, ◌+◌, ◌^◌, ◌<◌, ◌≤◌, ℕ, List, [], ◌∷◌, ◌++◌, length, Result, Ok, Err, inr, append_assoc, refl, sym, ap, ◌∙◌}
-use Rattle.std.specs.Prelude.{OnOk, OnErr}
 use Rattle.tv_container.proofs.Streamed.{caused_seen, streamed_last, streamed_part}
-use Rattle.tv_container.specs.Written.{HasFront, HasNow}
+use Rattle.tv_container.specs.Written.{HasFront}
 use Rattle.tv_core.specs.Circuits.{Circuit}
 use Rattle.tv_core.specs.Constraints.{System}
 use Rattle.tv_core.specs.Meanings.{system_counts}
 use Rattle.tv_core.specs.Sinks.{PutsAll, PutsSome}
 use Rattle.tv_core.specs.declared.lines.Counts.{Counts}
 use Rattle.tv_core.specs.declared.sink.SinkFault.{SinkFault}
-use Rattle.tv_files.proofs.Cases.{OnErr-map, OnOk-map}
+use Rattle.tv_files.proofs.Cases.{OnOk-map}
 use Rattle.tv_files.specs.Calls.{Creates}
 use Rattle.tv_files.specs.Outside.{Outside}
 use Rattle.tv_r1cs_read.specs.R1cs.{system_of}
@@ -62,13 +61,12 @@ module _ {S A : Type 0} (seen : S → Stream) (name : List ℕ) (old : Outside) 
       let named : (seen done).name ≡ name = all.keeps.name ∙ is.named in
       let stands : Stands (seen done) system.constraints = rw list at (all.stands [] is.stands) in
       let wires : (seen done).progress.wires ≡ system.wires = all.next ∙ ap (λ n. (circuit n).next) first ∙ is.next in
-      let whole = finishes.whole system.constraints stands in
-      let now = OnOk-map result (λ (has : HasNow new (seen done).name (finished_bytes (seen done).progress system.constraints (labels (seen done).progress.counts.wires))). rw (named, bytes done all.keeps) at has) whole in
-      let front = OnErr-map result (λ (has : HasFront new (seen done).name (finished_bytes (seen done).progress system.constraints (labels (seen done).progress.counts.wires))). rw (named, bytes done all.keeps) at has) (finishes.part system.constraints stands) in
+      let now = rw (named, bytes done all.keeps) at (finishes.whole system.constraints stands) in
+      let front = rw (named, bytes done all.keeps) at (finishes.part system.constraints stands) in
       let read : system_of (system_bytes system count (labels system.wires)) ≡ Ok system =
       systems_come_back system count (labels system.wires)
       (record { wires = rw is.counted at is.wires_fit; publics = is.publics; constraints = rw is.counted at is.constraints_fit; narrow = rw wires at stands.narrow }) each in
       record {
         file = streamed_last old (seen sink).outside (seen done).outside new name (system_bytes system count (labels system.wires)) result is.creates (rw is.named at all.keeps.outside) (rw named at finishes.only) now front finishes.cause;
-        read = OnOk-map result (λ (has : HasNow new (seen done).name (finished_bytes (seen done).progress system.constraints (labels (seen done).progress.counts.wires))). read) whole;
+        read = OnOk-map result (λ _. read) now;
       }

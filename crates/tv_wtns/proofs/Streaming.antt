@@ -1,11 +1,11 @@
 -- From what a taker that writes promises to what streaming an assignment is.
 use Rattle.std.proofs.Common.{◌≡◌, ◌^◌, ◌<◌, ℕ, List, [], ◌∷◌, ◌++◌, length, Result, Ok, Err, inr, append_assoc, sym, ◌∙◌, refl}
-use Rattle.std.specs.Prelude.{OnOk, OnErr}
+use Rattle.std.specs.Prelude.{OnOk}
 use Rattle.tv_container.proofs.Streamed.{caused_seen, streamed_last, streamed_part}
-use Rattle.tv_container.specs.Written.{HasFront, HasNow, IsStreamed}
+use Rattle.tv_container.specs.Written.{HasFront, IsStreamed}
 use Rattle.tv_core.specs.Giving.{GivesAll, GivesSome}
 use Rattle.tv_core.specs.declared.sink.SinkFault.{SinkFault}
-use Rattle.tv_files.proofs.Cases.{OnErr-map, OnOk-map}
+use Rattle.tv_files.proofs.Cases.{OnOk-map}
 use Rattle.tv_files.specs.Calls.{Creates}
 use Rattle.tv_files.specs.Outside.{Outside}
 use Rattle.tv_wtns.proofs.Files.{come_back, files_are_fronts, files_of_assignments}
@@ -45,10 +45,9 @@ module _ {V : Type 0} (seen : V → Taker) (name : List ℕ) (old : Outside) (ta
   streamed_all done new result all finishes =
       let named : (seen done).name ≡ name = all.keeps.name ∙ is.named in
       let stands : Stands (seen done) values = all.stands [] is.stands in
-      let whole = finishes.whole values stands in
-      let now = OnOk-map result (λ (has : HasNow new (seen done).name (file_bytes (seen done).progress.count values)). rw (named, bytes done all.keeps) at has) whole in
-      let front = OnErr-map result (λ (has : HasFront new (seen done).name (file_bytes (seen done).progress.count values)). rw (named, bytes done all.keeps) at has) (finishes.part values stands) in
+      let now = rw (named, bytes done all.keeps) at (finishes.whole values stands) in
+      let front = rw (named, bytes done all.keeps) at (finishes.part values stands) in
       record {
         file = streamed_last old (seen taker).outside (seen done).outside new name (assignment_bytes values) result is.creates (rw is.named at all.keeps.outside) (rw named at finishes.only) now front finishes.cause;
-        read = OnOk-map result (λ (has : HasNow new (seen done).name (file_bytes (seen done).progress.count values)). come_back values is.few stands.canonical) whole;
+        read = OnOk-map result (λ _. come_back values is.few stands.canonical) now;
       }
