@@ -1,9 +1,8 @@
 -- What the functions on a constraint's combinations give.
-use Rattle.std.proofs.Common.{◌≡◌, ◌≢◌, ℕ, ◌+◌, ◌-◌, ◌*◌, ◌%◌, ◌<◌, ◌≤◌, Bool, not, ◌||◌, leb, ltb, length, [], ◌∷◌, ◌++◌, Some, None, refl, sym, ◌∙◌, ap, ap₂, arith, eqb, true, false, inl, inr, cond, mul-zero}
-use Rattle.std.proofs.lemmas.Bool.{cases_Bool, cond_both, le-leb, leb-true, or_left, or_right}
+use Rattle.std.proofs.Common.{◌≡◌, ◌≢◌, ℕ, ◌+◌, ◌-◌, ◌*◌, ◌%◌, ◌<◌, ◌≤◌, Bool, not, ◌&&◌, ◌||◌, leb, ltb, length, [], ◌∷◌, ◌++◌, Some, None, refl, sym, ◌∙◌, ap, ap₂, arith, eqb, true, false, inl, inr, cond, mul-zero}
+use Rattle.std.proofs.lemmas.Bool.{and_from, cases_Bool, cond_both, le-leb, leb-true, or_left, or_right}
 use Rattle.std.proofs.lemmas.List.{length-append, length-map}
 use Rattle.std.specs.Option.{option_or}
-use Rattle.tv_core.proofs.InverseLaws.{mul-inverse_of, inverse_of-below}
 use Rattle.tv_core.specs.Combinations.{scaled}
 use Rattle.tv_core.specs.Constraints.{Combination, Constraint}
 use Rattle.tv_core.specs.Inverse.{inverse_of}
@@ -58,18 +57,14 @@ unfolding replaced
 replaced-lacking w r x e = ap (λ b. cond b (normal (without w x ++ scaled (coefficient w x) r)) x) (sym e)
 
 -- what a wire is
-negative : (k i : ℕ) → i < P → k * i % P ≡ 1 → (P - i) % P ≡ P - i
+pub negative : (k i : ℕ) → i < P → k * i % P ≡ 1 → (P - i) % P ≡ P - i
 negative k i small one =
     let some : i ≢ 0 = λ e. let none : k * i % P ≡ 0 = ap (λ j. k * j % P) e ∙ ap (λ n. n % P) (mul-zero k) in omega arith in
     omega arith
 
-pub solve-made : (inverse own w : ℕ) (x out : Combination) → inverse ≡ inverse_of own → 0 < own → own < P → own ≡ coefficient w x → out ≡ normal (scaled ((P - inverse) % P) (without w x)) → out ≡ solved w x
+pub solve-made : (factor own w : ℕ) (x out : Combination) → factor ≡ P - inverse_of own → own ≡ coefficient w x → out ≡ normal (scaled factor (without w x)) → out ≡ solved w x
 unfolding solved
-solve-made inverse own w x out is some below of made =
-    let one = mul-inverse_of own (λ none. omega arith) in
-    made
-    ∙ ap (λ f. normal (scaled f (without w x)))
-    (ap (λ i. (P - i) % P) is ∙ negative own (inverse_of own) (inverse_of-below own) one ∙ ap (λ k. P - inverse_of k) of)
+solve-made factor own w x out is of made = made ∙ ap (λ f. normal (scaled f (without w x))) (is ∙ ap (λ k. P - inverse_of k) of)
 
 -- whether a combination keeps to its most terms
 pub fits-lacking : (w : ℕ) (r x : Combination) (has : Bool) → has ≡ has_wire w x → has ≡ false → not has ≡ fits w r x
@@ -119,6 +114,10 @@ unfolding fits
 fits-few w r x few =
     let short : length (replaced w r x) ≤ 128 = omega (arith, length-replaced w r x) in
     or_right (not (has_wire w x)) (leb (length (replaced w r x)) 128) (le-leb (length (replaced w r x)) 128 short)
+
+-- all three do, where each has few
+pub fits_in-few : (w : ℕ) (r a b c : Combination) → length a + length r ≤ 128 → length b + length r ≤ 128 → length c + length r ≤ 128 → (fits w r a && (fits w r b && fits w r c)) ≡ true
+fits_in-few w r a b c a_few b_few c_few = and_from _ _ (fits-few w r a a_few) (and_from _ _ (fits-few w r b b_few) (fits-few w r c c_few))
 
 -- what fits is short, if the wire stands in it
 fits_short : (w : ℕ) (r x : Combination) → fits w r x ≡ true → has_wire w x ≡ true → length (replaced w r x) ≤ 128

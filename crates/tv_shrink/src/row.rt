@@ -2,6 +2,7 @@
 
 ghost use Rattle.std.specs.Prelude.{◌≡◌, ◌<◌, ◌-◌, ◌++◌, OnOk, IfOk, Some, None, if◌then◌else◌};
 ghost use Rattle.tv_core.specs.Combinations.{scaled};
+ghost use Rattle.tv_core.specs.Inverse.{inverse_of};
 ghost use Rattle.tv_core.specs.declared.field.TheConstants.{P};
 ghost use Rattle.tv_shrink.specs.Normal.{normal, IsNormalFrom};
 ghost use Rattle.tv_shrink.specs.Replacing.{coefficient, constant_in, fits, fits_in, has_wire};
@@ -44,12 +45,23 @@ fn constant_in(terms: &[(F, Wire)]) -> Option<F>
     None
 }
 
-// The coefficient of a wire that stands in a combination.
+// The coefficient of a wire that stands in a combination. A wire that was made last is its last
+// term, or behind that, and takes no search.
 fn coefficient_of(terms: &[(F, Wire)], wire: Wire) -> Option<F>
     requires { IsNormalFrom 0 terms.now }
     ensures { result ≡ (if has_wire wire terms.now then Some (coefficient wire terms.now)
         else None) }
 {
+    if terms.is_empty() {
+        return None;
+    }
+    let (coefficient, last) = terms[terms.len() - 1];
+    if last.0 < wire.0 {
+        return None;
+    }
+    if last == wire {
+        return Some(coefficient);
+    }
     let at = terms.partition_point(|(_, of)| of.0 < wire.0);
     let (coefficient, of) = *terms.get(at)?;
     if of == wire { Some(coefficient) } else { None }
@@ -91,6 +103,18 @@ fn subtract(
     merge(out, &mut product, &mut less)
 }
 
+// -1 divided by a coefficient. A constraint that sets a wire leaves -1 before it: that takes no
+// division.
+fn minus_inverse(coefficient: F) -> F
+    requires { 0 < coefficient }
+    ensures { result ≡ P - inverse_of coefficient }
+{
+    if coefficient == -F::ONE {
+        return F::ONE;
+    }
+    -coefficient.inverse_or_zero()
+}
+
 /// Puts what a wire is, where a combination that has it is 0, into `out`.
 pub(crate) fn solve(
     out: &mut Vec<(F, Wire)>,
@@ -103,10 +127,9 @@ pub(crate) fn solve(
     requires of { own ≡ coefficient wire terms.now }
     ensures { OnOk result (out.new.items ≡ solved wire terms.now) }
 {
-    let inverse = own.inverse_or_zero();
     let mut others = Side {
         terms,
-        factor: -inverse,
+        factor: minus_inverse(own),
         leaving: Some(wire),
     };
     out.clear();
@@ -187,6 +210,10 @@ impl Row<'_> {
         requires by { IsNormalFrom 0 replacement.now }
         ensures { IfOk result (λ answer. answer ≡ fits_in wire replacement.now self.now) }
     {
+        let widest = self.a.len().max(self.b.len()).max(self.c.len());
+        if widest + replacement.len() <= TERMS {
+            return Ok(true);
+        }
         Ok(
             fits(scratch, self.a, wire, replacement)?
                 && fits(scratch, self.b, wire, replacement)?

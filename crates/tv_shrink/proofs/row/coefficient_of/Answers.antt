@@ -1,15 +1,15 @@
-use Rattle.std.proofs.Common.{◌≡◌, ◌∙◌, ◌≤◌, ℕ, arith, get_or, length, ltb, rules, ap}
+use Rattle.std.proofs.Common.{◌≡◌, ◌∙◌, ◌≤◌, ◌<◌, ◌-◌, ℕ, arith, eqb-true, sym, get_or, length, ltb, rules, ap}
 use Rattle.std.proofs.lemmas.List.Sorted.{IsPartitionPoint-from_clause, IsPartitionedBy-ltb}
-use Rattle.tv_shrink.proofs.Constants.{coefficient_found, rising, split_missing}
+use Rattle.tv_shrink.proofs.Constants.{behind_missing, coefficient_found, coefficient_missing, rising, split_missing}
 use Rattle.tv_shrink.proofs.Passes.{same_default}
 use Rattle.tv_shrink.proofs.row.coefficient_of.Goals as goal
 
-pub returns-then-eq : goal.returns-then-eq
-returns-then-eq c =
+pub returns-then-eq-2 : goal.returns-then-eq-2
+returns-then-eq-2 c =
     coefficient_found c.partition_point-at.result c.args.wire c.in_ok-coefficient.field-0.now c.args.terms.now c.requires (grind arith) (search rules) (grind arith)
 
-pub returns-else-eq : goal.returns-else-eq
-returns-else-eq c =
+pub returns-else-eq-2 : goal.returns-else-eq-2
+returns-else-eq-2 c =
     let point = IsPartitionPoint-from_clause (λ (t : ℕ × ℕ). ltb t.1 c.args.wire) _ _ c.partition_point-at.ensures.partitioned (IsPartitionedBy-ltb (λ (t : ℕ × ℕ). t.1) c.args.terms.now c.args.wire (rising 0 c.args.terms.now c.requires)) (λ a r q k. search rules) in
     let at : c.in_ok-coefficient.field-0.now ≡ get_or c.args.terms.now c.partition_point-at.result c.in_ok-coefficient.field-0.now = search rules in
     split_missing c.args.wire c.partition_point-at.result c.args.terms.now c.requires point (λ d h e.
@@ -21,3 +21,24 @@ returns-in_err-coefficient c =
     let point = IsPartitionPoint-from_clause (λ (t : ℕ × ℕ). ltb t.1 c.args.wire) _ _ c.partition_point-at.ensures.partitioned (IsPartitionedBy-ltb (λ (t : ℕ × ℕ). t.1) c.args.terms.now c.args.wire (rising 0 c.args.terms.now c.requires)) (λ a r q k. search rules) in
     let past : length c.args.terms.now ≤ c.partition_point-at.result = grind arith in
     c.from_residual.ensures ∙ split_missing c.args.wire c.partition_point-at.result c.args.terms.now c.requires point (λ d h e. absurd (omega arith))
+
+pub returns-then-is_empty : goal.returns-then-is_empty
+returns-then-is_empty c =
+    let none : length c.args.terms.now ≡ 0 = grind arith in
+    coefficient_missing c.args.wire c.args.terms.now (λ k d h e. absurd (omega arith))
+
+pub returns-then-last-wire : goal.returns-then-last-wire
+returns-then-last-wire c =
+    let some : 0 < length c.args.terms.now = grind arith in
+    let last : ℕ × ℕ = get_or c.args.terms.now (length c.args.terms.now - 1) c.index-terms-terms-2.result in
+    behind_missing c.args.wire last c.args.terms.now c.requires some
+    (λ d. same_default c.args.terms.now (length c.args.terms.now - 1) d c.index-terms-terms-2.result (omega arith))
+    (omega (arith, c.last.view_is, c.wire.view_is, c.if-last-wire.true))
+
+pub returns-then-eq : goal.returns-then-eq
+returns-then-eq c =
+    let some : 0 < length c.args.terms.now = grind arith in
+    let at = length c.args.terms.now - 1 in
+    let last : ℕ × ℕ = get_or c.args.terms.now at c.index-terms-terms.result in
+    let is : last.1 ≡ c.args.wire = ap (λ (t : ℕ × ℕ). t.1) (same_default c.args.terms.now at c.index-terms-terms.result c.index-terms-terms-2.result (omega arith)) ∙ eqb-true _ _ (sym c.eq.ensures ∙ c.if-eq.true) in
+    coefficient_found at c.args.wire last c.args.terms.now c.requires (omega arith) (same_default c.args.terms.now at c.index-terms-terms.result last (omega arith)) is
