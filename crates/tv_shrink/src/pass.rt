@@ -16,6 +16,10 @@ use crate::rows::Rows;
 use std::alloc::AllocError;
 use tv_core::{F, Wire};
 
+// Up to how many terms in a wire's place are told of without a look at which of them the constraint
+// has already: a look costs more than an entry.
+const FEW: usize = 4;
+
 // Puts `replacement` in place of a wire in the constraint at a place, if the wire stands there, and
 // tells of each private wire that comes into the constraint that it may stand there.
 fn replace_in(
@@ -48,7 +52,8 @@ fn replace_in(
     if !row_has(&row, wire) {
         return Ok(());
     }
-    occurrences.file(at, replacement, publics, &row)?;
+    let known = if replacement.len() > FEW { row } else { None };
+    occurrences.file(at, replacement, publics, &known)?;
     rows.replace(at as usize, scratch, wire, replacement)
 }
 

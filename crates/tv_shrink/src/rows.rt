@@ -24,7 +24,7 @@ use tv_core::{F, TERMS, Wire};
 /// then those of `c`, so many of each.
 #[derive(Clone, Copy)]
 struct Span {
-    start: usize,
+    start: u32,
     a: u8,
     b: u8,
     c: u8,
@@ -37,11 +37,12 @@ impl Span {
         ensures row { result ≡ row_at terms.now self.now }
         ensures few { (length result.a < 256) × (length result.b < 256) × (length result.c < 256) }
     {
-        let b = self.start + usize::from(self.a);
+        let start = self.start as usize;
+        let b = start + usize::from(self.a);
         let c = b + usize::from(self.b);
         let end = c + usize::from(self.c);
         Row {
-            a: &terms[self.start..b],
+            a: &terms[start..b],
             b: &terms[b..c],
             c: &terms[c..end],
         }
@@ -125,9 +126,16 @@ fn put_replaced(
     Ok(Span { start: 0, a, b, c })
 }
 
+// The place behind so many terms.
+fn place_behind(terms: &[(F, Wire)]) -> Result<u32, AllocError>
+    ensures { IfOk result (λ place. place ≡ length terms.now) }
+{
+    u32::try_from(terms.len()).map_err(|_| AllocError)
+}
+
 // Puts terms over those of a constraint, if they are no more, or else behind all, and tells where
 // they lie then.
-fn lay(terms: &mut Vec<(F, Wire)>, span: &Span, new: &[(F, Wire)]) -> Result<usize, AllocError>
+fn lay(terms: &mut Vec<(F, Wire)>, span: &Span, new: &[(F, Wire)]) -> Result<u32, AllocError>
     requires { end_of span.now ≤ length terms.old.items }
     ensures puts { IfOk result (λ start. terms.new.items ≡ laid start new.now terms.old.items) }
     ensures free { IfOk result (λ start. IsFree (length terms.old.items) span.now start
@@ -135,10 +143,11 @@ fn lay(terms: &mut Vec<(F, Wire)>, span: &Span, new: &[(F, Wire)]) -> Result<usi
     ensures err { OnErr result (terms.new.items ≡ terms.old.items) }
 {
     if new.len() <= span.size() {
-        terms[span.start..span.start + new.len()].copy_from_slice(new);
+        let start = span.start as usize;
+        terms[start..start + new.len()].copy_from_slice(new);
         return Ok(span.start);
     }
-    let start = terms.len();
+    let start = place_behind(terms)?;
     terms.extend_from_slice(new)?;
     Ok(start)
 }
@@ -174,7 +183,8 @@ fn renumber_terms(terms: &mut [(F, Wire)], numbers: &[u32])
 ///
 /// Their terms lie in one vector, those of no two in one place. New ones lie over those that the
 /// constraint had, or, where they are more, behind all others; those that no constraint has any
-/// more stay until `tidy` leaves them out.
+/// more stay until `tidy` leaves them out. A constraint's begin before place 2^32; one behind that
+/// counts as want of memory.
 #[derive(Drop)]
 pub(crate) struct Rows {
     alloc: Global,
@@ -247,7 +257,7 @@ impl Rows {
         ensures narrow { OnOk result (wide_in (constraint_of row.now) ≡ None) }
         ensures err { IfErr result (λ fault. IsTooWide fault (wide_in (constraint_of row.now))) }
     {
-        let start = self.terms.len();
+        let start = place_behind(&self.terms)?;
         let a = append_narrow(scratch, &mut self.terms, row.a.as_slice())?;
         let b = append_narrow(scratch, &mut self.terms, row.b.as_slice())?;
         let c = append_narrow(scratch, &mut self.terms, row.c.as_slice())?;
@@ -266,7 +276,7 @@ impl Rows {
             self.spans.push(None)?;
             return Ok(());
         };
-        let start = self.terms.len();
+        let start = place_behind(&self.terms)?;
         append_terms(&mut self.terms, &span.row(terms))?;
         self.spans.push(Some(Span {
             start,

@@ -44,14 +44,14 @@ fn first_fault<D: Files>(
 /// comes only after memory was taken for the constraints before, of at most 4,194,304 terms.
 ///
 /// Memory is taken for the constraints as the pass makes them, which may be longer than those that
-/// were read, up to 128 terms a combination: 16 bytes for a term, 24 for a constraint, 8 for each
+/// were read, up to 128 terms a combination: 16 bytes for a term, 12 for a constraint, 8 for each
 /// private wire of one, and 13 for a wire. What replacements leave behind is cleared away after the
 /// turn with which there may be more of it than of the rest, or than of constraints and wires.
 ///
-/// A replacement costs as much as the constraints that it changes have terms, and a search in each
-/// of them for each term that takes the wire's place. A turn that is given up costs as much as the
-/// constraints that it looks at, up to one that would have too many terms; the wire's next turn
-/// looks at that one first.
+/// A replacement costs as much as the constraints that it changes have terms, and one of more than
+/// four terms a search in each of them for each of its own. A turn that is given up costs as much
+/// as the constraints that it looks at, up to one that would have too many terms; the wire's next
+/// turn looks at that one first.
 pub fn shrink<D: Files>(alloc: Global, files: &mut D, name: &str) -> Result<Shrunk, ShrinkFault>
     ensures gives { Known (D.seen files.old) name.now (λ file. MatchResult result
         (λ shrunk. Shrinks shrunk file) (λ fault. Tells fault file)) }

@@ -1,4 +1,4 @@
-use Rattle.std.proofs.Common.{◌∷◌, ◌++◌, ◌∙◌, [], Some, arith, ap, length}
+use Rattle.std.proofs.Common.{◌∷◌, ◌++◌, ◌∙◌, [], Some, ap, length}
 use Rattle.tv_r1cs_read.specs.Rows.{combination_of, constraint_of}
 use Rattle.tv_shrink.specs.Normal.{normal, normal_constraint}
 use Rattle.tv_shrink.proofs.Laying.{rows_added}
@@ -13,7 +13,7 @@ returns-clause-rows c =
     (c.in_ok-a.ensures.ok ∙ ap (λ terms. c.self.inside.terms.items ++ normal (combination_of terms)) c.as_slice.ensures)
     (c.in_ok-b.ensures.ok ∙ ap (λ terms. c.append_narrow.new.out.items ++ normal (combination_of terms)) c.as_slice-2.ensures)
     (c.in_ok-c.ensures.ok ∙ ap (λ terms. c.append_narrow-2.new.out.items ++ normal (combination_of terms)) c.as_slice-3.ensures))
-    (span_is c.self.inside.terms.items row c.len-start.result c.in_ok-a.a c.in_ok-b.b c.in_ok-c.c (omega arith)
+    (span_is c.self.inside.terms.items row c.in_ok-start.start c.in_ok-a.a c.in_ok-b.b c.in_ok-c.c (c.in_ok-start.ensures ∙ ap length c.deref.ensures.value)
     (c.in_ok-a.ensures.size ∙ ap (λ terms. length (normal (combination_of terms))) c.as_slice.ensures)
     (c.in_ok-b.ensures.size ∙ ap (λ terms. length (normal (combination_of terms))) c.as_slice-2.ensures)
     (c.in_ok-c.ensures.size ∙ ap (λ terms. length (normal (combination_of terms))) c.as_slice-3.ensures))
@@ -28,7 +28,7 @@ invariant_of-self-2 c =
     (c.in_ok-a.ensures.ok ∙ ap (λ terms. c.self.inside.terms.items ++ normal (combination_of terms)) c.as_slice.ensures)
     (c.in_ok-b.ensures.ok ∙ ap (λ terms. c.append_narrow.new.out.items ++ normal (combination_of terms)) c.as_slice-2.ensures)
     (c.in_ok-c.ensures.ok ∙ ap (λ terms. c.append_narrow-2.new.out.items ++ normal (combination_of terms)) c.as_slice-3.ensures))
-    (span_is c.self.inside.terms.items row c.len-start.result c.in_ok-a.a c.in_ok-b.b c.in_ok-c.c (omega arith)
+    (span_is c.self.inside.terms.items row c.in_ok-start.start c.in_ok-a.a c.in_ok-b.b c.in_ok-c.c (c.in_ok-start.ensures ∙ ap length c.deref.ensures.value)
     (c.in_ok-a.ensures.size ∙ ap (λ terms. length (normal (combination_of terms))) c.as_slice.ensures)
     (c.in_ok-b.ensures.size ∙ ap (λ terms. length (normal (combination_of terms))) c.as_slice-2.ensures)
     (c.in_ok-c.ensures.size ∙ ap (λ terms. length (normal (combination_of terms))) c.as_slice-3.ensures))

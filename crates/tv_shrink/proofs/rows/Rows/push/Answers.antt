@@ -1,4 +1,4 @@
-use Rattle.std.proofs.Common.{◌≤◌, ◌∷◌, ◌++◌, ◌∙◌, [], sym, ap, ap₂, arith, length, subst}
+use Rattle.std.proofs.Common.{◌≤◌, ◌∷◌, ◌++◌, ◌∙◌, [], sym, ap, ap₂, length, subst}
 use Rattle.std.specs.Option.{option_map}
 use Rattle.tv_shrink.specs.Spans.{end_of, row_at, row_terms, AreLaid, IsInside}
 use Rattle.tv_shrink.proofs.Laying.{laid_more, laid_none, rows_added}
@@ -11,7 +11,7 @@ returns c =
     let inside : end_of c.in-Some.span ≤ length c.args.terms.now = subst (IsInside (length c.args.terms.now)) c.in-Some.is c.requires in
     (rows_added c.self.inside.terms.items c.append_terms.new.out.items c.self.inside.spans.items c.push-2.new.self.items row _ c.self.invariant
     (c.in_ok-append_terms.ensures.out ∙ ap (λ r. c.self.inside.terms.items ++ row_terms r) c.row.ensures.row)
-    (span_copied c.self.inside.terms.items c.args.terms.now c.in-Some.span c.len-start.result (omega arith) inside)
+    (span_copied c.self.inside.terms.items c.args.terms.now c.in-Some.span c.in_ok-start.start (c.in_ok-start.ensures ∙ ap length c.deref.ensures.value) inside)
     c.in_ok-push-2.ensures.items).1
     ∙ ap₂ (λ rows last. rows ++ last ∷ []) c.self.view_is (sym (ap (option_map (row_at c.args.terms.now)) c.in-Some.is))
 
@@ -21,7 +21,7 @@ invariant_of-self-2 c =
     let inside : end_of c.in-Some.span ≤ length c.args.terms.now = subst (IsInside (length c.args.terms.now)) c.in-Some.is c.requires in
     (rows_added c.self.inside.terms.items c.append_terms.new.out.items c.self.inside.spans.items c.push-2.new.self.items row _ c.self.invariant
     (c.in_ok-append_terms.ensures.out ∙ ap (λ r. c.self.inside.terms.items ++ row_terms r) c.row.ensures.row)
-    (span_copied c.self.inside.terms.items c.args.terms.now c.in-Some.span c.len-start.result (omega arith) inside)
+    (span_copied c.self.inside.terms.items c.args.terms.now c.in-Some.span c.in_ok-start.start (c.in_ok-start.ensures ∙ ap length c.deref.ensures.value) inside)
     c.in_ok-push-2.ensures.items).0
 
 pub invariant_of-self-in_default : goal.invariant_of-self-in_default
