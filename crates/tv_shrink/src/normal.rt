@@ -1,6 +1,6 @@
 //! Combinations made normal.
 
-ghost use Rattle.std.specs.Prelude.{◌≡◌, ◌≤◌, ◌++◌, length, OnOk};
+ghost use Rattle.std.specs.Prelude.{◌≡◌, ◌≤◌, ◌++◌, length, take, IfOk, OnOk};
 ghost use Rattle.std.specs.Bool.{OnTrue};
 ghost use Rattle.std.specs.List.Sorted.{IsNonDecreasingBy};
 ghost use Rattle.tv_r1cs_read.specs.Rows.{combination_of};
@@ -10,18 +10,24 @@ use crate::merge::push_term;
 use std::alloc::AllocError;
 use tv_core::{F, Wire};
 
-// Whether the terms are those of a normal combination.
-fn is_normal(terms: &[(u32, F)]) -> bool
-    ensures { OnTrue result (IsNormalFrom 0 (combination_of terms.now)) }
+// Appends the combination that terms make, up to where it isn't normal, and tells whether all of it
+// is.
+fn append_while_normal(out: &mut Vec<(F, Wire)>, terms: &[(u32, F)]) -> Result<bool, AllocError>
+    ensures normal { IfOk result (λ all. OnTrue all (IsNormalFrom 0 (combination_of terms.now))) }
+    ensures out { IfOk result (λ all. OnTrue all (out.new.items
+        ≡ out.old.items ++ combination_of terms.now)) }
+    ensures front { OnOk result (take (length out.old.items) out.new.items ≡ out.old.items) }
+    ensures longer { length out.old.items ≤ length out.new.items }
 {
     let mut least = 0_u64;
     for (wire, coefficient) in terms {
         if u64::from(*wire) < least || coefficient.number() == 0 {
-            return false;
+            return Ok(false);
         }
         least = u64::from(*wire) + 1;
+        out.push((*coefficient, Wire(*wire)))?;
     }
-    true
+    Ok(true)
 }
 
 // Appends the combination that terms make.
@@ -55,7 +61,7 @@ fn append_sums(out: &mut Vec<(F, Wire)>, terms: &[(F, Wire)]) -> Result<(), Allo
 
 /// Appends the combination that terms make, made normal; `scratch` is for its use.
 ///
-/// Costs two looks at them where they are normal already, and else as much as a sort.
+/// Costs one look at them where they are normal already, and else as much as a sort.
 pub(crate) fn append_normal(
     scratch: &mut Vec<(F, Wire)>,
     out: &mut Vec<(F, Wire)>,
@@ -64,9 +70,11 @@ pub(crate) fn append_normal(
     ensures out { OnOk result (out.new.items ≡ out.old.items ++ normal (combination_of terms.now)) }
     ensures longer { length out.old.items ≤ length out.new.items }
 {
-    if is_normal(terms) {
-        return append(out, terms);
+    let start = out.len();
+    if append_while_normal(out, terms)? {
+        return Ok(());
     }
+    out.truncate(start);
     scratch.clear();
     append(scratch, terms)?;
     scratch.sort_unstable_by_key(|(_, wire)| wire.0);

@@ -1,18 +1,18 @@
-use Rattle.std.proofs.Common.{◌≡◌, ◌∙◌, ◌++◌, ℕ, OnOk, ap, rules, sym, subst}
+use Rattle.std.proofs.Common.{◌≡◌, ◌∙◌, ◌++◌, ℕ, ap, ap₂, rules, sym, subst}
 use Rattle.std.specs.List.Sorted.{IsNonDecreasingBy}
 use Rattle.std.specs.Prelude.{IsPermutation}
 use Rattle.std.proofs.lemmas.List.Sorted.{IsNonDecreasingBy-from_sort_by_key}
 use Rattle.std.proofs.lemmas.Result.{on_ok_weaker}
-use Rattle.std.proofs.lemmas.Bool.{OnTrue_at}
 use Rattle.tv_r1cs_read.specs.Rows.{combination_of}
 use Rattle.tv_shrink.specs.Normal.{normal}
 use Rattle.tv_shrink.proofs.Sorting.{normal-permuted}
 use Rattle.tv_shrink.proofs.Unique.{normal-same}
 use Rattle.tv_shrink.proofs.normal.append_normal.Goals as goal
 
-pub returns-then-is_normal-clause-out : goal.returns-then-is_normal-clause-out
-returns-then-is_normal-clause-out c =
-    subst (λ x. OnOk c.append.result (c.append.new.out.items ≡ c.args.out.now.items ++ x)) (sym (normal-same (combination_of c.args.terms.now) (OnTrue_at c.if-is_normal.true c.is_normal.ensures))) c.append.ensures.out
+pub returns-then-branch-clause-out : goal.returns-then-branch-clause-out
+returns-then-branch-clause-out c =
+    let all : c.append_while_normal.new.out.items ≡ c.args.out.now.items ++ combination_of c.args.terms.now = search rules in
+    all ∙ ap (λ x. c.args.out.now.items ++ x) (sym (normal-same (combination_of c.args.terms.now) (search rules)))
 
 pub append_sums-requires : goal.append_sums-requires
 append_sums-requires c =
@@ -21,6 +21,7 @@ append_sums-requires c =
 
 pub returns-clause-out : goal.returns-clause-out
 returns-clause-out c =
-    let read : c.append-2.new.out.items ≡ combination_of c.args.terms.now = c.in_ok-append.ensures.out ∙ ap (λ xs. xs ++ combination_of c.args.terms.now) c.clear.ensures.items in
+    let read : c.append.new.out.items ≡ combination_of c.args.terms.now = c.in_ok-append.ensures.out ∙ ap (λ xs. xs ++ combination_of c.args.terms.now) c.clear.ensures.items in
     let same : IsPermutation (combination_of c.args.terms.now) c.sort_unstable_by_key.new.self.items = subst (λ xs. IsPermutation xs c.sort_unstable_by_key.new.self.items) read c.sort_unstable_by_key.ensures.permutation in
-    on_ok_weaker c.append_sums.result (λ sums. sums ∙ ap (λ x. c.args.out.now.items ++ x) (ap normal c.deref.ensures.value ∙ normal-permuted (combination_of c.args.terms.now) c.sort_unstable_by_key.new.self.items same)) c.append_sums.ensures.out
+    let back : c.truncate.new.self.items ≡ c.args.out.now.items = search rules in
+    on_ok_weaker c.append_sums.result (λ sums. sums ∙ ap₂ (λ y x. y ++ x) back (ap normal c.deref.ensures.value ∙ normal-permuted (combination_of c.args.terms.now) c.sort_unstable_by_key.new.self.items same)) c.append_sums.ensures.out
