@@ -4,11 +4,6 @@
 //! verdict. A read asks for up to 64 KiB. No constraint is kept: a combination that is at hand is summed from
 //! its bytes in 128 bits, after one check of bounds, and reduced once; each product reads its wire's value
 //! once. Only where something is out of order, or a combination isn't at hand, its terms are taken one by one.
-//!
-//! Built with `--cfg pieces` it reads under the rule that `tinyr1cs` keeps to: a call asks for at most 4,096 bytes,
-//! which are copied from 64 KiB that were read ahead.
-//! Built with `--cfg copied` it reads as without, and copies what it read once more, by 4,096 bytes, to no end: what
-//! that takes more is what the rule costs at least.
 
 use std::fmt;
 use std::fs::File;
@@ -19,9 +14,6 @@ use std::process::ExitCode;
 const P: u64 = 0xffff_ffff_0000_0001;
 /// The most bytes that one read of the system gives.
 const PIECE: usize = 65_536;
-/// The most bytes that the window asks for, and how many it reads on for at least.
-const ASKED: usize = if cfg!(pieces) { 4096 } else { PIECE };
-const ROOM: usize = if cfg!(pieces) { 2 * ASKED } else { PIECE };
 const TAPE_PIECE: usize = 4096;
 const WIDEST: u32 = 1_048_576;
 const TAPE_BYTES: usize = 4_194_304;
@@ -124,73 +116,17 @@ impl Sum {
     }
 }
 
-/// A file that is read as it is asked for.
-#[cfg(not(pieces))]
-struct Source<'a> {
-    file: &'a File,
-    #[cfg(copied)]
-    copy: Box<[u8; 4096]>,
-}
-
-#[cfg(not(pieces))]
-impl<'a> Source<'a> {
-    fn over(file: &'a File) -> Source<'a> {
-        Source {
-            file,
-            #[cfg(copied)]
-            copy: Box::new([0; 4096]),
-        }
-    }
-
-    fn read_at(&mut self, into: &mut [u8], at: u64) -> io::Result<usize> {
-        let count = self.file.read_at(into, at)?;
-        #[cfg(copied)]
-        for piece in into[..count].chunks(self.copy.len()) {
-            self.copy[..piece.len()].copy_from_slice(piece);
-            std::hint::black_box(&self.copy);
-        }
-        Ok(count)
-    }
-}
-
-/// A file of which 64 KiB are read ahead.
-#[cfg(pieces)]
-struct Source<'a> {
-    file: &'a File,
-    ahead: Box<[u8; PIECE]>,
-    held: usize,
-    start: u64,
-}
-
-#[cfg(pieces)]
-impl<'a> Source<'a> {
-    fn over(file: &'a File) -> Source<'a> {
-        Source { file, ahead: Box::new([0; PIECE]), held: 0, start: 0 }
-    }
-
-    fn read_at(&mut self, into: &mut [u8], at: u64) -> io::Result<usize> {
-        if at.wrapping_sub(self.start) >= self.held as u64 {
-            self.held = self.file.read_at(&mut self.ahead[..], at)?;
-            self.start = at;
-        }
-        let rest = &self.ahead[(at - self.start) as usize..self.held];
-        let count = rest.len().min(into.len());
-        into[..count].copy_from_slice(&rest[..count]);
-        Ok(count)
-    }
-}
-
 /// The piece of a file that was read last.
 struct Window<'a> {
-    source: Source<'a>,
-    bytes: Box<[u8; ROOM]>,
+    file: &'a File,
+    bytes: Box<[u8; PIECE]>,
     held: usize,
     at: u64,
 }
 
 impl<'a> Window<'a> {
     fn over(file: &'a File) -> Window<'a> {
-        Window { source: Source::over(file), bytes: Box::new([0; ROOM]), held: 0, at: 0 }
+        Window { file, bytes: Box::new([0; PIECE]), held: 0, at: 0 }
     }
 
     /// Reads on until so many bytes at a place are held; false where the file ends before.
@@ -210,8 +146,7 @@ impl<'a> Window<'a> {
         }
         self.at = at;
         while self.held < size {
-            let most = ROOM.min(self.held + ASKED);
-            match self.source.read_at(&mut self.bytes[self.held..most], at + self.held as u64)? {
+            match self.file.read_at(&mut self.bytes[self.held..], at + self.held as u64)? {
                 0 => return Ok(false),
                 count => self.held += count,
             }
@@ -263,7 +198,7 @@ impl Sections {
         for _ in 0..window.u32(8)? {
             sections.next(window, singles)?;
         }
-        if window.source.read_at(&mut [0], sections.end)? != 0 {
+        if window.file.read_at(&mut [0], sections.end)? != 0 {
             return bad(sections.end, Why::Trailing);
         }
         Ok(sections)
@@ -416,9 +351,6 @@ impl<'a> Rows<'a> {
     #[cold]
     #[inline(never)]
     fn far_value<const TRY: bool>(&mut self, values: &[u64]) -> Result<u64, Refusal> {
-        if cfg!(pieces) {
-            self.window.reach(self.at, ASKED)?;
-        }
         if self.end() - self.at < 4 {
             return bad(self.at, Why::Truncated);
         }

@@ -1,8 +1,7 @@
 #!/bin/sh
-# Times `tinyr1cs check` against check.rs, plain Rust as fast as one thread can, and against the same built to read by
-# 4,096 bytes (check.pieces) and built to copy what it read once more (check.copied), on systems of 1, 3, 9, 128 and
+# Times `tinyr1cs check` against check.rs, plain Rust as fast as one thread can, on systems of 1, 3, 9, 128, 2,000 and
 # 1,000,000 terms a combination, of 23 to 36 MB each, and on one with nine terms a constraint; then tells the most memory
-# that tinyr1cs and check.rs held there, and on a system of twice the size. usage: bench/check.sh [ROUNDS]
+# that both held there, and on a system of twice the size. usage: bench/check.sh [ROUNDS]
 set -eu
 
 rounds=${1:-51}
@@ -10,9 +9,6 @@ bench=$(dirname -- "$(realpath -- "$0")")
 folder=$(mktemp -d)
 trap 'rm -rf "$folder"' EXIT
 rustc --edition 2024 -O -C target-cpu=x86-64-v2 -o "$folder/check.rs" "$bench/check.rs"
-for cfg in pieces copied; do
-    rustc --edition 2024 -O -C target-cpu=x86-64-v2 --cfg "$cfg" -o "$folder/check.$cfg" "$bench/check.rs"
-done
 example=$bench/../examples/sum
 "$bench/../bin/tinyr1cs" run "$example.asm" "$example.tape" /dev/null 1000 > /dev/null
 ln -s "$(realpath -- "$bench/../crates/tinyr1cs/out/tinyr1cs")" "$folder/tinyr1cs"
@@ -25,11 +21,10 @@ make() {
 }
 
 timed() {
-    "$bench/compare.py" "$rounds" "$folder/tinyr1cs" "$folder/check.pieces" "$folder/check.copied" "$folder/check.rs" \
-        -- check system.r1cs witness.wtns public.tape
+    "$bench/compare.py" "$rounds" "$folder/tinyr1cs" "$folder/check.rs" -- check system.r1cs witness.wtns public.tape
 }
 
-for system in 1:500000 3:200000 9:70000 128:5000 1000000:1; do
+for system in 1:500000 3:200000 9:70000 128:5000 2000:320 1000000:1; do
     terms=${system%:*}
     echo "terms a combination: $terms"
     make "$terms" "${system#*:}" "$terms"

@@ -206,12 +206,12 @@ mod tests {
         Ok(())
     }
 
-    // What a reading before it read ahead is not given where the file was written to since, by
-    // another of its names too, nor where a reading begins anew.
+    // A reading goes on with what the file has by now, where it was written to since, by another of
+    // its names too, and gives what is there where it begins anew.
     #[test]
     fn reads_what_is_there_by_now(rt: HostRuntime) -> Result<(), Fail> {
         let alloc = rt.alloc();
-        let folder = folder_of(rt, "ahead")?;
+        let folder = folder_of(rt, "meanwhile")?;
         let file = folder.join(alloc, "file")?;
         let same = folder.join(alloc, "./file")?;
         let name = file.as_str();

@@ -1,7 +1,7 @@
 //! The files that are open, by name.
 ghost use Rattle.std.specs.Prelude.{◌≤◌, length, IfOk};
 
-use crate::reader::{AHEAD, Reader};
+use crate::reader::Reader;
 use std::alloc::{AllocError, Global};
 use std::collections::BTreeMap;
 use std::fs::OpenOptions;
@@ -22,8 +22,6 @@ struct Handles<F> {
 pub struct OpenFiles<R: Files> {
     handles: BTreeMap<String, Handles<R::File>>,
     alloc: Global,
-    /// How many writes there were, of any file: two names may be one file's.
-    writes: u64,
 }
 
 impl<R: Files> OpenFiles<R> {
@@ -32,7 +30,6 @@ impl<R: Files> OpenFiles<R> {
         OpenFiles {
             handles: BTreeMap::new(alloc),
             alloc,
-            writes: 0,
         }
     }
 
@@ -49,23 +46,20 @@ impl<R: Files> OpenFiles<R> {
         Ok(self.handles.entry(name)?.or_insert(closed))
     }
 
-    /// Reads from place `at` on what the system gives at once, or gave ahead.
+    /// Reads from place `at` on what the system gives at once.
     pub fn read(&mut self, rt: &R, name: &str, at: u64, into: &mut [u8]) -> io::Result<usize>
         ensures { IfOk result (λ count. count ≤ length into.new) }
     {
-        let alloc = self.alloc;
-        let writes = self.writes;
         let reader = self
             .handles_of(name)?
             .reader
-            .get_or_try_insert_with(|| open_reader(rt, alloc, name))?;
-        reader.read_at(at, writes, into)
+            .get_or_try_insert_with(|| fs::open(rt, name).map(Reader::new))?;
+        reader.read_at(at, into)
     }
 
     /// Makes the name stand for no bytes. Handles that were open on it may be of another file by
     /// now, and are closed first.
     pub fn create(&mut self, rt: &R, name: &str) -> io::Result<()> {
-        self.writes = self.writes.wrapping_add(1);
         let handles = self.handles_of(name)?;
         handles.reader = None;
         handles.writer = None;
@@ -75,17 +69,10 @@ impl<R: Files> OpenFiles<R> {
 
     /// Writes the bytes at the file's end.
     pub fn append(&mut self, rt: &R, name: &str, bytes: &[u8]) -> io::Result<()> {
-        self.writes = self.writes.wrapping_add(1);
         let handles = self.handles_of(name)?;
         let writer = handles
             .writer
             .get_or_try_insert_with(|| OpenOptions::new().append(true).open(rt, name))?;
         writer.write_all(bytes)
     }
-}
-
-/// Opens a file for reading.
-fn open_reader<R: Files>(rt: &R, alloc: Global, name: &str) -> io::Result<Reader<R::File>> {
-    let room = vec![in alloc; 0_u8; AHEAD]?;
-    Ok(Reader::new(fs::open(rt, name)?, room))
 }

@@ -12,13 +12,10 @@ use std::marker::Model;
 use tv_files::{FileRefusal, Files};
 use tv_word::word_at;
 
-/// The most bytes that one call reads.
-const PIECE: usize = 4096;
+/// The most bytes that a window holds, and that one call reads.
+const ROOM: usize = 65_536;
 
-/// The most bytes that a window holds: so few that they stay in the processor's nearest memory.
-const ROOM: usize = 8192;
-
-/// The piece of a file that was read last, at most 8,192 bytes. Contracts see it as its place in
+/// The piece of a file that was read last, at most 65,536 bytes. Contracts see it as its place in
 /// the file and its bytes.
 #[derive(Drop)]
 pub struct Window {
@@ -35,7 +32,7 @@ impl Model for Window {
 
     ghost view = { λ w. record { at = w.at; bytes = take w.held w.bytes } };
 
-    ghost invariant = { λ w. w.held ≤ 8192 };
+    ghost invariant = { λ w. w.held ≤ 65536 };
 }
 
 impl Window {
@@ -104,7 +101,7 @@ impl Window {
     }
 
     /// Reads on to a place until the window holds so many bytes there, and tells whether the file
-    /// has them. It asks for at most 4,096 bytes a call.
+    /// has them. A call asks for as many bytes as there is room for.
     pub fn reach<D: Files>(
         &mut self,
         files: &mut D,
@@ -189,9 +186,9 @@ fn fill<D: Files>(
     bytes: &mut [u8; ROOM],
 ) -> Result<usize, FileRefusal>
     requires small { size ≤ 4096 }
-    requires most { held ≤ 8192 }
+    requires most { held ≤ 65536 }
     requires place { at + size < 2 ^ 64 }
-    ensures within { IfOk result (λ held. held ≤ 8192) }
+    ensures within { IfOk result (λ held. held ≤ 65536) }
     ensures piece { Known (D.seen files.old) name.now
         (λ file. take held bytes.old ≡ take held (drop at file)
         → IfOk result (λ held. take held bytes.new ≡ take held (drop at file))) }
@@ -205,7 +202,7 @@ fn fill<D: Files>(
 {
     let mut held = held;
     while held < size {
-        let count = files.read(name, at + held as u64, &mut bytes[held..held + PIECE])?;
+        let count = files.read(name, at + held as u64, &mut bytes[held..])?;
         if count == 0 {
             return Ok(held);
         }

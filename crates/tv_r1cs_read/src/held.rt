@@ -67,4 +67,20 @@ impl Held {
             to: self.to,
         }
     }
+
+    /// Whether the window holds all of the constraint at the place, and none of its combinations is
+    /// too wide.
+    #[inline(always)]
+    pub(crate) fn has_row(self, window: &Window) -> bool
+        requires before { self.from ≤ self.to }
+        requires holds { self.from < self.to → Holds window.now self.from (self.to - self.from) }
+    {
+        let Some(a) = self.terms(window) else {
+            return false;
+        };
+        let Some(b) = self.behind(a).terms(window) else {
+            return false;
+        };
+        self.behind(a).behind(b).terms(window).is_some()
+    }
 }

@@ -1,4 +1,4 @@
-ghost use Rattle.std.specs.Prelude.{◌≡◌, ℕ, ◌+◌, List, [], None, Err, IfOk, IfSome, MatchResult};
+ghost use Rattle.std.specs.Prelude.{◌≡◌, ℕ, ◌+◌, ◌<◌, List, [], None, Err, IfOk, IfSome, MatchResult};
 ghost use Rattle.tv_files.specs.Outside.{Outside};
 ghost use Rattle.tv_container.specs.Reading.{Looks, Refuses, IsMissing, Known};
 ghost use Rattle.tv_container.specs.declared.why.ReadRefusal.{ReadRefusal};
@@ -10,7 +10,7 @@ ghost use Rattle.tv_r1cs_read.specs.Steps.{Gave, GaveTried, Steps, Tells, WentOn
 use crate::header::{Header, read_header};
 use crate::rows::{Row, read_row};
 use crate::terms::Bounds;
-use crate::tried::try_row;
+use crate::tried::{try_held, try_row};
 use std::marker::Model;
 use tv_container::{ReadRefusal, ReadWhy, Window};
 use tv_core::{Counts, F};
@@ -147,6 +147,28 @@ impl Progress {
             self.end();
             return None;
         }
+        let bounds = self.bounds();
+        let Some(tried) = try_held(&self.window, &bounds, self.at, values) else {
+            return self.try_far(files, name, values);
+        };
+        self.at = tried.next;
+        self.left -= 1;
+        self.terms += tried.terms;
+        Some(tried.holds)
+    }
+
+    // As `try_next`, where there is a constraint and the window doesn't hold all of it, or it isn't
+    // as it should be.
+    #[cold]
+    #[inline(never)]
+    fn try_far<D: Files>(&mut self, files: &mut D, name: &str, values: &[F]) -> Option<bool>
+        requires on { self.old.stopped ≡ None }
+        requires some { 0 < self.old.left }
+        ensures steps { Steps (D.seen files.old) (D.seen files.new) name.now self.old self.new
+            (λ file rows. GaveTried result values.now self.new file rows) }
+        ensures goes { IfSome result (λ _. self.new.stopped ≡ None) }
+        ensures left { IfSome result (λ _. self.new.left + 1 ≡ self.old.left) }
+    {
         let bounds = self.bounds();
         let tried = try_row(
             files,

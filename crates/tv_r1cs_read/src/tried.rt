@@ -157,8 +157,33 @@ fn sum_far(
     (good, sum)
 }
 
-/// Tries the constraint at a place under an assignment; `None` where reading stopped.
+/// Tries the constraint at a place under an assignment, straight from the window; `None` where that
+/// doesn't hold all of it, or it isn't as it should be.
 #[inline(always)]
+#[tactic(auto, unfolding(crate::specs::R1cs::constraint_at))]
+pub(crate) fn try_held(window: &Window, bounds: &Bounds, at: u64, values: &[F]) -> Option<Tried>
+    requires { at ≤ bounds.now.end }
+    ensures within { IfSome result (λ tried. tried.next ≤ bounds.now.end) }
+    ensures size { IfSome result (λ tried. tried.next ≡ at + 12 + 12 * tried.terms) }
+    ensures gives { (file : List ℕ) → IsPiece window.now file → IfSome result
+        (λ tried. IsTried (constraint_at file bounds.now.wires bounds.now.end at) values.now
+        tried.holds tried.terms tried.next) }
+{
+    let held = held_from(window, bounds, at);
+    if !held.has_row(window) {
+        return None;
+    }
+    let a = value_held(window, bounds, held, values)?;
+    let b = value_held(window, bounds, a.behind, values)?;
+    let c = value_held(window, bounds, b.behind, values)?;
+    Some(Tried {
+        holds: a.value * b.value == c.value,
+        terms: u64::from(a.terms) + u64::from(b.terms) + u64::from(c.terms),
+        next: c.behind.from,
+    })
+}
+
+/// Tries the constraint at a place under an assignment; `None` where reading stopped.
 #[tactic(auto, unfolding(crate::specs::R1cs::constraint_at))]
 pub(crate) fn try_row<D: Files>(
     files: &mut D,

@@ -35,8 +35,8 @@ pub(crate) const HEADER_BYTES: u64 = 16;
 ///
 /// `Ok` comes exactly for a file that holds an assignment, and `Bad` tells the first fault of
 /// another one. `Fault` comes only where a read failed, and a missing name is such a fault. It
-/// takes one pass, in reads of at most 4,096 bytes, and memory for the values alone, as they come:
-/// a count without values behind it takes none.
+/// takes one pass, and memory for the values alone, as they come: a count without values behind it
+/// takes none.
 pub fn read_values<D: Files>(
     alloc: Global,
     files: &mut D,

@@ -6,7 +6,7 @@ abbrev pub invariant-loop-held : goal.invariant-loop-held
 invariant-loop-held g l = record {
   outside : g.D.Files.seen l.files ≡ g.D.Files.seen l.initial.files;
   there : IsMissing (g.D.Files.seen l.initial.files) l.name → l.held ≡ l.initial.held;
-  within : l.held ≤ 8192;
+  within : l.held ≤ 65536;
   front : Known (g.D.Files.seen l.initial.files) l.name (λ file. take l.initial.held l.initial.bytes ≡ take l.initial.held (drop l.at file) → take l.held l.bytes ≡ take l.held (drop l.at file));
 }
 
