@@ -1,11 +1,14 @@
-ghost use Rattle.std.specs.Prelude.{◌≡◌, ℕ, ◌+◌, ◌*◌, ◌≤◌, ◌<◌, ◌^◌, [], ◌∷◌, ◌++◌, length, IfOk};
-ghost use Rattle.std.specs.Prelude.{OnOk};
+ghost use Rattle.std.specs.Prelude.{◌≡◌, ℕ, ◌+◌, ◌*◌, ◌≤◌, ◌<◌, ◌^◌, List, [], ◌∷◌, ◌++◌, length};
+ghost use Rattle.std.specs.Prelude.{Ok, IfOk, IfSome, OnOk};
+ghost use Rattle.std.specs.Bool.{OnTrue};
 ghost use Rattle.std.specs.List.{All};
 ghost use Rattle.tv_container.specs.Places.{places};
-ghost use Rattle.tv_container.specs.Reading.{GivesBy, ReadsIn};
-ghost use Rattle.tv_r1cs_read.specs.R1cs.{combination_at, constraint_at};
+ghost use Rattle.tv_container.specs.Reading.{GivesBy, Holds, IsPiece, ReadsIn};
+ghost use Rattle.tv_r1cs_read.specs.Held.{IsHeld};
+ghost use Rattle.tv_r1cs_read.specs.R1cs.{combination_at, constraint_at, terms_at};
 ghost use Rattle.tv_r1cs_read.specs.Rows.{combination_read, constraint_read, terms_in, IsOver};
 
+use crate::held::{Held, held_from};
 use crate::terms::{Bounds, TERM_BYTES, read_count, read_term};
 use std::alloc::{AllocFailed, Global};
 use std::marker::Model;
@@ -117,30 +120,122 @@ pub(crate) fn read_row<D: Files>(
         GivesBy result (constraint_read row.new)
         (constraint_at file bounds.now.wires bounds.now.end at)) }
 {
-    let at = read_combination(files, name, window, bounds, at, &mut row.a)?;
-    let at = read_combination(files, name, window, bounds, at, &mut row.b)?;
-    read_combination(files, name, window, bounds, at, &mut row.c)
+    let held = held_from(window, bounds, at);
+    let held = read_combination(files, name, window, bounds, held, &mut row.a)?;
+    let held = read_combination(files, name, window, bounds, held, &mut row.b)?;
+    let held = read_combination(files, name, window, bounds, held, &mut row.c)?;
+    Ok(held.from)
 }
 
-// Reads the combination at a place, and answers the place behind it.
+// Reads the combination at a place, and answers what the window holds behind it.
 #[inline(always)]
-#[tactic(auto, unfolding(crate::specs::R1cs::combination_at))]
 fn read_combination<D: Files>(
+    files: &mut D,
+    name: &str,
+    window: &mut Window,
+    bounds: &Bounds,
+    held: Held,
+    terms: &mut Terms,
+) -> Result<Held, ReadRefusal>
+    requires { IsHeld window.old bounds.now.end held }
+    ensures held { IfOk result (λ behind. IsHeld window.new bounds.now.end behind) }
+    ensures size { IfOk result (λ behind. behind.from ≡ held.from + 4 + 12 * length terms.new) }
+    ensures wires { OnOk result (All (λ t. t.0 < bounds.now.wires) terms.new) }
+    ensures reads { ReadsIn (D.seen files.old) (D.seen files.new) name.now window.old window.new
+        result
+        (λ file. bounds.now.end ≤ places file →
+        GivesBy result (λ behind. combination_read terms.new behind.from)
+        (combination_at file bounds.now.wires bounds.now.end held.from)) }
+{
+    match held_combination(window, bounds, held, terms)? {
+        Some(behind) => Ok(behind),
+        None => far_combination(files, name, window, bounds, held.from, terms),
+    }
+}
+
+// Takes the combination at a place from the window, and answers what it holds behind it; `None`
+// where it doesn't hold all of it, or it isn't as it should be.
+#[inline(always)]
+fn held_combination(
+    window: &Window,
+    bounds: &Bounds,
+    held: Held,
+    terms: &mut Terms,
+) -> Result<Option<Held>, AllocFailed<(u32, F)>>
+    requires { IsHeld window.now bounds.now.end held }
+    ensures held { IfOk result (λ taken. IfSome taken
+        (λ behind. IsHeld window.now bounds.now.end behind)) }
+    ensures size { IfOk result (λ taken. IfSome taken
+        (λ behind. behind.from ≡ held.from + 4 + 12 * length terms.new)) }
+    ensures wires { IfOk result (λ taken. IfSome taken
+        (λ _. All (λ t. t.0 < bounds.now.wires) terms.new)) }
+    ensures gives { (file : List ℕ) → IsPiece window.now file → IfOk result (λ taken. IfSome taken
+        (λ behind. combination_at file bounds.now.wires bounds.now.end held.from
+        ≡ Ok (combination_read terms.new behind.from))) }
+{
+    let Some(count) = held.terms(window) else {
+        return Ok(None);
+    };
+    if take_terms(window, bounds, held.from + 4, count, terms)? {
+        return Ok(Some(held.behind(count)));
+    }
+    Ok(None)
+}
+
+// Takes the terms at a place, so many, from the window, which holds them, up to the first that
+// isn't as it should be, and tells whether all are.
+#[inline(always)]
+fn take_terms(
+    window: &Window,
+    bounds: &Bounds,
+    at: u64,
+    count: u32,
+    terms: &mut Terms,
+) -> Result<bool, AllocFailed<(u32, F)>>
+    requires held { Holds window.now at (12 * count) }
+    requires within { at + 12 * count ≤ bounds.now.end }
+    ensures size { IfOk result (λ all. OnTrue all (length terms.new ≡ count)) }
+    ensures wires { IfOk result (λ all. OnTrue all (All (λ t. t.0 < bounds.now.wires) terms.new)) }
+    ensures gives { (file : List ℕ) → IsPiece window.now file → IfOk result (λ all. OnTrue all
+        (terms_at file bounds.now.wires bounds.now.end count at
+        ≡ Ok (combination_read terms.new (at + 12 * count)))) }
+{
+    terms.clear();
+    let mut at = at;
+    for _ in 0..count {
+        let wire = window.word(at);
+        if wire >= bounds.wires {
+            return Ok(false);
+        }
+        let Some(coefficient) = F::canon(window.long(at + 4)) else {
+            return Ok(false);
+        };
+        terms.push(wire, coefficient)?;
+        at += TERM_BYTES;
+    }
+    Ok(true)
+}
+
+// Reads the combination at a place term by term, and answers what the window holds behind it.
+#[cold]
+#[inline(never)]
+#[tactic(auto, unfolding(crate::specs::R1cs::combination_at))]
+fn far_combination<D: Files>(
     files: &mut D,
     name: &str,
     window: &mut Window,
     bounds: &Bounds,
     at: u64,
     terms: &mut Terms,
-) -> Result<u64, ReadRefusal>
+) -> Result<Held, ReadRefusal>
     requires { at ≤ bounds.now.end }
-    ensures within { IfOk result (λ next. next ≤ bounds.now.end) }
-    ensures size { IfOk result (λ next. next ≡ at + 4 + 12 * length terms.new) }
+    ensures held { IfOk result (λ behind. IsHeld window.new bounds.now.end behind) }
+    ensures size { IfOk result (λ behind. behind.from ≡ at + 4 + 12 * length terms.new) }
     ensures wires { OnOk result (All (λ t. t.0 < bounds.now.wires) terms.new) }
     ensures reads { ReadsIn (D.seen files.old) (D.seen files.new) name.now window.old window.new
         result
         (λ file. bounds.now.end ≤ places file →
-        GivesBy result (combination_read terms.new)
+        GivesBy result (λ behind. combination_read terms.new behind.from)
         (combination_at file bounds.now.wires bounds.now.end at)) }
 {
     let count = read_count(files, name, window, bounds, at)?;
@@ -151,5 +246,5 @@ fn read_combination<D: Files>(
         terms.push(wire, coefficient)?;
         at += TERM_BYTES;
     }
-    Ok(at)
+    Ok(held_from(window, bounds, at))
 }
