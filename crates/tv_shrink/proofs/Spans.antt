@@ -3,10 +3,10 @@ use Rattle.std.proofs.Common.{◌≡◌, ℕ, zero, suc, ◌+◌, ◌-◌, ◌<�
 use Rattle.std.specs.List.{AllByRecursion}
 use Rattle.std.specs.Option.{option_map}
 use Rattle.std.specs.Prelude.{slice_index, slice_range}
-use Rattle.std.proofs.Math.Seq.{drop-append_seam, take-append_seam}
-use Rattle.std.proofs.lemmas.List.{append_assoc, drop-append-le, drop-map, length-append, length-drop, length-map, length-take, map-append, take-append-le, take-map}
+use Rattle.std.proofs.Math.Seq.{drop-append_seam, take-add, take-append_seam}
+use Rattle.std.proofs.lemmas.List.{append_assoc, drop-append-le, drop-drop, length-append, length-drop, length-map, length-take, map-append, take-append-le}
 use Rattle.tv_core.specs.Constraints.{Combination, Constraint}
-use Rattle.tv_shrink.specs.Moving.{moved, moved_in, moved_rows}
+use Rattle.tv_shrink.specs.Moving.{moved, moved_in}
 use Rattle.tv_shrink.specs.Spans.{end_of, row_at, row_terms, span_of, AreInside}
 use Rattle.tv_shrink.specs.declared.rows.Span.{Span}
 
@@ -84,22 +84,26 @@ row_found f spans rows i span is h at =
     found (x ∷ xs) zero h = refl
     found (x ∷ xs) (suc i) h = found xs i (omega arith)
 
--- wires numbered anew
-module _ (numbers : List ℕ) (xs : Combination) where
-  part_moved : (i j : ℕ) → slice_range (moved numbers xs) i j ≡ moved numbers (slice_range xs i j)
-  part_moved i j =
-      let f : ℕ × ℕ → ℕ × ℕ = λ t. (t.0, slice_index numbers t.1) in
-      ap (take (j - i)) (drop-map f i xs) ∙ take-map f (j - i) (drop i xs)
+-- a part in two
+part_split : (xs : Combination) (i j k : ℕ) → i ≤ j → j ≤ k → slice_range xs i k ≡ slice_range xs i j ++ slice_range xs j k
+part_split xs i j k below behind =
+    let whole : k - i ≡ (j - i) + (k - j) = omega arith in
+    let at : i + (j - i) ≡ j = omega arith in
+    ap (λ n. take n (drop i xs)) whole
+    ∙ take-add (j - i) (k - j) (drop i xs)
+    ∙ ap (λ ys. take (j - i) (drop i xs) ++ take (k - j) ys) (drop-drop (j - i) i xs ∙ ap (λ n. drop n xs) at)
 
-  row_moved : (span : Span) → row_at (moved numbers xs) span ≡ moved_in numbers (row_at xs span)
-  row_moved span =
-      same_row _ _ _ _ _ _ (part_moved span.start (span.start + span.a)) (part_moved (span.start + span.a) (span.start + span.a + span.b))
-      (part_moved (span.start + span.a + span.b) (span.start + span.a + span.b + span.c))
+-- the terms of a constraint, one combination after another
+pub terms_there : (xs : Combination) (span : Span) → slice_range xs span.start (end_of span) ≡ row_terms (row_at xs span)
+terms_there xs span =
+    part_split xs span.start (span.start + span.a) (end_of span) (omega arith) (omega arith)
+    ∙ ap (λ ys. slice_range xs span.start (span.start + span.a) ++ ys) (part_split xs (span.start + span.a) (span.start + span.a + span.b) (end_of span) (omega arith) (omega arith))
 
-  pub rows_moved : (spans : List (Option Span)) → map (option_map (row_at (moved numbers xs))) spans ≡ moved_rows numbers (map (option_map (row_at xs)) spans)
-  rows_moved [] = refl
-  rows_moved (None ∷ spans) = ap (λ rows. None ∷ rows) (rows_moved spans)
-  rows_moved (Some span ∷ spans) = ap₂ (λ row rows. Some row ∷ rows) (row_moved span) (rows_moved spans)
+-- the terms of a constraint whose wires are numbered anew
+pub terms_moved : (numbers : List ℕ) (row : Constraint) → moved numbers (row_terms row) ≡ row_terms (moved_in numbers row)
+terms_moved numbers row =
+    let f : ℕ × ℕ → ℕ × ℕ = λ t. (t.0, slice_index numbers t.1) in
+    map-append f row.a (row.b ++ row.c) ∙ ap (λ ys. map f row.a ++ ys) (map-append f row.b row.c)
 
 -- where a constraint was appended, from what the calls gave
 pub span_is : (xs : Combination) (row : Constraint) (start a b c : ℕ) → start ≡ length xs → a ≡ length row.a → b ≡ length row.b → c ≡ length row.c → record { start = start; a = a; b = b; c = c } ≡ span_of (length xs) row
@@ -112,7 +116,7 @@ terms_appended xs one two three a b c p q r =
     r ∙ ap (λ ys. ys ++ c) (q ∙ ap (λ ys. ys ++ b) p) ∙ append_assoc (xs ++ a) b c ∙ append_assoc xs a (b ++ c)
 
 -- how many terms lie where a constraint's do
-part_size : (xs : Combination) (i n : ℕ) → i + n ≤ length xs → n ≡ length (slice_range xs i (i + n))
+pub part_size : (xs : Combination) (i n : ℕ) → i + n ≤ length xs → n ≡ length (slice_range xs i (i + n))
 part_size xs i n inside = omega (arith, length-take (i + n - i) (drop i xs), length-drop i xs)
 
 pub span_copied : (xs terms : Combination) (span : Span) (start : ℕ) → start ≡ length xs → end_of span ≤ length terms → record { start = start; a = span.a; b = span.b; c = span.c } ≡ span_of (length xs) (row_at terms span)
@@ -124,3 +128,12 @@ span_copied xs terms span start at inside =
 pub rows_pushed : (f : Span → Constraint) (spans more : List (Option Span)) (rows : List (Option Constraint)) → map (option_map f) spans ≡ rows → more ≡ spans ++ None ∷ [] → map (option_map f) more ≡ rows ++ None ∷ []
 rows_pushed f spans more rows view is =
     ap (map (option_map f)) is ∙ map-append (option_map f) spans (None ∷ []) ∙ ap (λ xs. xs ++ None ∷ []) view
+
+-- where a constraint lies whose wires are numbered anew
+pub span_moved : (numbers : List ℕ) (xs : Combination) (span : Span) → end_of span ≤ length xs → span ≡ span_of span.start (moved_in numbers (row_at xs span))
+span_moved numbers xs span inside =
+    let made : ℕ → ℕ → ℕ → Span = λ x y z. record { start = span.start; a = x; b = y; c = z } in
+    let size : (i n : ℕ) → i + n ≤ length xs → n ≡ length (moved numbers (slice_range xs i (i + n))) =
+    λ i n h. part_size xs i n h ∙ sym (length-map {B = ℕ × ℕ} (slice_range xs i (i + n)) (λ (t : ℕ × ℕ). (t.0, slice_index numbers t.1))) in
+    ap₂ (λ x y. made x y span.c) (size span.start span.a (omega arith)) (size (span.start + span.a) span.b (omega arith))
+    ∙ ap (made (length (moved numbers (slice_range xs span.start (span.start + span.a)))) (length (moved numbers (slice_range xs (span.start + span.a) (span.start + span.a + span.b))))) (size (span.start + span.a + span.b) span.c (omega arith))

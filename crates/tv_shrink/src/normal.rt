@@ -12,6 +12,7 @@ use tv_core::{F, Wire};
 
 // Appends the combination that terms make, up to where it isn't normal, and tells whether all of it
 // is.
+#[inline(always)]
 fn append_while_normal(out: &mut Vec<(F, Wire)>, terms: &[(u32, F)]) -> Result<bool, AllocError>
     ensures normal { IfOk result (λ all. OnTrue all (IsNormalFrom 0 (combination_of terms.now))) }
     ensures out { IfOk result (λ all. OnTrue all (out.new.items
@@ -59,9 +60,27 @@ fn append_sums(out: &mut Vec<(F, Wire)>, terms: &[(F, Wire)]) -> Result<(), Allo
     Ok(())
 }
 
+// Appends the combination that terms make, made normal by a sort; `scratch` is for its use.
+#[cold]
+#[inline(never)]
+fn append_sorted(
+    scratch: &mut Vec<(F, Wire)>,
+    out: &mut Vec<(F, Wire)>,
+    terms: &[(u32, F)],
+) -> Result<(), AllocError>
+    ensures out { OnOk result (out.new.items ≡ out.old.items ++ normal (combination_of terms.now)) }
+    ensures longer { length out.old.items ≤ length out.new.items }
+{
+    scratch.clear();
+    append(scratch, terms)?;
+    scratch.sort_unstable_by_key(|(_, wire)| wire.0);
+    append_sums(out, scratch)
+}
+
 /// Appends the combination that terms make, made normal; `scratch` is for its use.
 ///
 /// Costs one look at them where they are normal already, and else as much as a sort.
+#[inline(always)]
 pub(crate) fn append_normal(
     scratch: &mut Vec<(F, Wire)>,
     out: &mut Vec<(F, Wire)>,
@@ -75,8 +94,5 @@ pub(crate) fn append_normal(
         return Ok(());
     }
     out.truncate(start);
-    scratch.clear();
-    append(scratch, terms)?;
-    scratch.sort_unstable_by_key(|(_, wire)| wire.0);
-    append_sums(out, scratch)
+    append_sorted(scratch, out, terms)
 }

@@ -6,7 +6,7 @@ ghost use Rattle.std.specs.Prelude.{OnOk, OnErr, IfOk, IfErr};
 ghost use Rattle.std.specs.Option.{option_map};
 ghost use Rattle.tv_r1cs_read.specs.Rows.{combination_of, constraint_of};
 ghost use Rattle.tv_shrink.specs.Answers.{wide, wide_in, IsTooWide};
-ghost use Rattle.tv_shrink.specs.Moving.{moved, moved_rows};
+ghost use Rattle.tv_shrink.specs.Moving.{moved, moved_in, moved_rows};
 ghost use Rattle.tv_shrink.specs.Normal.{normal, normal_constraint, IsNormalFrom};
 ghost use Rattle.tv_shrink.specs.Passing.{row_fits};
 ghost use Rattle.tv_shrink.specs.Replacing.{fits, fits_in, replaced, replaced_in};
@@ -58,6 +58,7 @@ impl Span {
 
 // Appends the combination that terms make, made normal, and tells how many terms it has; refused
 // where it has more than 128 then; `scratch` is for its use.
+#[inline(always)]
 fn append_narrow(
     scratch: &mut Vec<(F, Wire)>,
     out: &mut Vec<(F, Wire)>,
@@ -177,6 +178,16 @@ fn renumber_terms(terms: &mut [(F, Wire)], numbers: &[u32])
     for term in terms.iter_mut() {
         term.1 = Wire(number_of(numbers, term.1));
     }
+}
+
+// Gives each wire of the terms of a constraint the number at its place.
+fn renumber_span(terms: &mut Vec<(F, Wire)>, span: &Span, numbers: &[u32])
+    requires { end_of span.now ≤ length terms.old.items }
+    ensures { terms.new.items ≡ laid span.now.start
+        (row_terms (moved_in numbers.now (row_at terms.old.items span.now))) terms.old.items }
+{
+    let start = span.start as usize;
+    renumber_terms(&mut terms[start..start + span.size()], numbers);
 }
 
 /// The constraints of a pass, each of normal combinations, or dropped.
@@ -365,10 +376,24 @@ impl Rows {
         Ok(())
     }
 
-    /// Gives each wire of the constraints the number at its place.
+    // Gives each wire of the constraint at a place, unless it was dropped, the number at its place.
+    fn renumber_row(&mut self, at: usize, numbers: &[u32])
+        requires { at < length self.old }
+        ensures { self.new ≡ slice_set self.old at
+            (option_map (moved_in numbers.now) (slice_index_or self.old at None)) }
+    {
+        if let Some(span) = self.spans[at] {
+            renumber_span(&mut self.terms, &span, numbers);
+        }
+    }
+
+    /// Gives each wire of the constraints the number at its place. Costs no look at terms that no
+    /// constraint has any more.
     pub(crate) fn renumber(&mut self, numbers: &[u32])
         ensures { self.new ≡ moved_rows numbers.now self.old }
     {
-        renumber_terms(&mut self.terms, numbers);
+        for at in 0..self.len() {
+            self.renumber_row(at, numbers);
+        }
     }
 }

@@ -1,11 +1,7 @@
-use Rattle.std.proofs.Common.{◌≡◌, ◌∙◌, ◌++◌, ℕ, ap, ap₂, rules, sym, subst}
-use Rattle.std.specs.List.Sorted.{IsNonDecreasingBy}
-use Rattle.std.specs.Prelude.{IsPermutation}
-use Rattle.std.proofs.lemmas.List.Sorted.{IsNonDecreasingBy-from_sort_by_key}
+use Rattle.std.proofs.Common.{◌≡◌, ◌∙◌, ◌++◌, ap, rules, sym}
 use Rattle.std.proofs.lemmas.Result.{on_ok_weaker}
 use Rattle.tv_r1cs_read.specs.Rows.{combination_of}
 use Rattle.tv_shrink.specs.Normal.{normal}
-use Rattle.tv_shrink.proofs.Sorting.{normal-permuted}
 use Rattle.tv_shrink.proofs.Unique.{normal-same}
 use Rattle.tv_shrink.proofs.normal.append_normal.Goals as goal
 
@@ -14,14 +10,7 @@ returns-then-branch-clause-out c =
     let all : c.append_while_normal.new.out.items ≡ c.args.out.now.items ++ combination_of c.args.terms.now = search rules in
     all ∙ ap (λ x. c.args.out.now.items ++ x) (sym (normal-same (combination_of c.args.terms.now) (search rules)))
 
-pub append_sums-requires : goal.append_sums-requires
-append_sums-requires c =
-    subst (IsNonDecreasingBy (λ (t : ℕ × ℕ). t.1)) (sym c.deref.ensures.value)
-    (IsNonDecreasingBy-from_sort_by_key (λ (t : ℕ × ℕ). t.1) c.sort_unstable_by_key.new.self.items c.sort_unstable_by_key.ensures.sorted (λ a r q k. search rules))
-
 pub returns-clause-out : goal.returns-clause-out
 returns-clause-out c =
-    let read : c.append.new.out.items ≡ combination_of c.args.terms.now = c.in_ok-append.ensures.out ∙ ap (λ xs. xs ++ combination_of c.args.terms.now) c.clear.ensures.items in
-    let same : IsPermutation (combination_of c.args.terms.now) c.sort_unstable_by_key.new.self.items = subst (λ xs. IsPermutation xs c.sort_unstable_by_key.new.self.items) read c.sort_unstable_by_key.ensures.permutation in
     let back : c.truncate.new.self.items ≡ c.args.out.now.items = search rules in
-    on_ok_weaker c.append_sums.result (λ sums. sums ∙ ap₂ (λ y x. y ++ x) back (ap normal c.deref.ensures.value ∙ normal-permuted (combination_of c.args.terms.now) c.sort_unstable_by_key.new.self.items same)) c.append_sums.ensures.out
+    on_ok_weaker c.append_sorted.result (λ sorted. sorted ∙ ap (λ y. y ++ normal (combination_of c.args.terms.now)) back) c.append_sorted.ensures.out
