@@ -11,6 +11,7 @@ use std::alloc::AllocError;
 use tv_core::{F, Wire};
 
 // The product. Most factors are 1, which takes none.
+#[inline(always)]
 fn times(factor: F, coefficient: F) -> F
     ensures { result ≡ factor * coefficient % P }
 {
@@ -43,6 +44,7 @@ impl<'a> Side<'a> {
     }
 
     // The first wire that is ahead.
+    #[inline(always)]
     fn first(&self) -> Wire
         requires { 0 < length self.now.terms.now }
         ensures { result ≡ first_wire self.now.terms.now }
@@ -53,6 +55,7 @@ impl<'a> Side<'a> {
 
     // Goes past a wire, if it is the first, and answers its coefficient, which is 0 where it is
     // left out.
+    #[inline(always)]
     fn take(&mut self, wire: Wire) -> F
         ensures coefficient { result ≡ unless_left self.old.leaving wire
             (self.old.factor * head_at wire self.old.terms.now % P) }
@@ -74,6 +77,7 @@ impl<'a> Side<'a> {
     }
 
     /// Appends what it is, made normal, and uses it up.
+    #[inline(always)]
     pub(crate) fn append(&mut self, out: &mut Vec<(F, Wire)>) -> Result<(), AllocError>
         requires { IsNormalFrom 0 self.old.terms.now }
         ensures { OnOk result (out.new.items ≡ out.old.items ++ normal
@@ -88,6 +92,7 @@ impl<'a> Side<'a> {
 }
 
 /// Appends a term, unless its coefficient is 0.
+#[inline(always)]
 #[tactic(auto, unfolding(crate::specs::Normal::with_term))]
 pub(crate) fn push_term(
     out: &mut Vec<(F, Wire)>,
@@ -105,6 +110,7 @@ pub(crate) fn push_term(
 
 // Goes past the least wire that is ahead of both sides, and answers the sum of its coefficients
 // there, and the wire.
+#[inline(always)]
 fn take_least(left: &mut Side<'_>, right: &mut Side<'_>) -> (F, Wire)
     requires left { 0 < length left.old.terms.now }
     requires right { 0 < length right.old.terms.now }
@@ -131,7 +137,8 @@ fn take_least(left: &mut Side<'_>, right: &mut Side<'_>) -> (F, Wire)
     (left.take(wire) + right.take(wire), wire)
 }
 
-/// Appends the sum of two sides, made normal, and uses them up.
+/// Appends the sum of two sides, made normal, and uses them up. Inlined, it keeps them in registers.
+#[inline(always)]
 pub(crate) fn merge(
     out: &mut Vec<(F, Wire)>,
     left: &mut Side<'_>,

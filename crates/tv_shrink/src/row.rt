@@ -47,6 +47,7 @@ fn constant_in(terms: &[(F, Wire)]) -> Option<F>
 
 // The coefficient of a wire that stands in a combination. A wire that was made last is its last
 // term, or behind that, and takes no search.
+#[inline(always)]
 fn coefficient_of(terms: &[(F, Wire)], wire: Wire) -> Option<F>
     requires { IsNormalFrom 0 terms.now }
     ensures { result ≡ (if has_wire wire terms.now then Some (coefficient wire terms.now)
@@ -62,12 +63,22 @@ fn coefficient_of(terms: &[(F, Wire)], wire: Wire) -> Option<F>
     if last == wire {
         return Some(coefficient);
     }
+    searched(terms, wire)
+}
+
+// The coefficient of a wire that stands in a combination, found by a search.
+fn searched(terms: &[(F, Wire)], wire: Wire) -> Option<F>
+    requires { IsNormalFrom 0 terms.now }
+    ensures { result ≡ (if has_wire wire terms.now then Some (coefficient wire terms.now)
+        else None) }
+{
     let at = terms.partition_point(|(_, of)| of.0 < wire.0);
     let (coefficient, of) = *terms.get(at)?;
     if of == wire { Some(coefficient) } else { None }
 }
 
 // Whether a wire stands in a combination.
+#[inline(always)]
 fn has_wire(terms: &[(F, Wire)], wire: Wire) -> bool
     requires { IsNormalFrom 0 terms.now }
     ensures { result ≡ has_wire wire terms.now }
@@ -76,6 +87,7 @@ fn has_wire(terms: &[(F, Wire)], wire: Wire) -> bool
 }
 
 /// Whether a wire stands in a constraint, which may have been dropped.
+#[inline(always)]
 pub(crate) fn row_has(row: &Option<Row<'_>>, wire: Wire) -> bool
     requires { RowIsNormal row.now }
     ensures { result ≡ row_has wire row.now }
@@ -87,6 +99,7 @@ pub(crate) fn row_has(row: &Option<Row<'_>>, wire: Wire) -> bool
 }
 
 // Puts a multiple of one combination less another one into `out`.
+#[inline(never)]
 fn subtract(
     out: &mut Vec<(F, Wire)>,
     factor: F,
