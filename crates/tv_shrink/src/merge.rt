@@ -137,7 +137,8 @@ fn take_least(left: &mut Side<'_>, right: &mut Side<'_>) -> (F, Wire)
     (left.take(wire) + right.take(wire), wire)
 }
 
-/// Appends the sum of two sides, made normal, and uses them up. Inlined, it keeps them in registers.
+/// Appends the sum of two sides, made normal, and uses them up. Inlined, it keeps them in
+/// registers.
 #[inline(always)]
 pub(crate) fn merge(
     out: &mut Vec<(F, Wire)>,

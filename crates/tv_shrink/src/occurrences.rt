@@ -141,6 +141,7 @@ impl Occurrences {
 
     /// Tells of each private wire of a combination that it may stand in a row, but for those that
     /// stand in a constraint of which it was told.
+    #[inline(always)]
     pub(crate) fn file(
         &mut self,
         row: u32,
@@ -169,6 +170,7 @@ impl Occurrences {
 
     /// Tells of each private wire of a constraint, unless it was dropped, that it may stand in the
     /// row at this number.
+    #[inline(never)]
     pub(crate) fn file_row(
         &mut self,
         at: u32,

@@ -53,10 +53,7 @@ fn coefficient_of(terms: &[(F, Wire)], wire: Wire) -> Option<F>
     ensures { result ≡ (if has_wire wire terms.now then Some (coefficient wire terms.now)
         else None) }
 {
-    if terms.is_empty() {
-        return None;
-    }
-    let (coefficient, last) = terms[terms.len() - 1];
+    let (coefficient, last) = *terms.last()?;
     if last.0 < wire.0 {
         return None;
     }

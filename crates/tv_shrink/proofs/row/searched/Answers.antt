@@ -1,6 +1,6 @@
-use Rattle.std.proofs.Common.{◌≡◌, ◌∙◌, ◌≤◌, ◌<◌, ◌-◌, ℕ, arith, eqb-true, sym, get_or, length, ltb, rules, ap}
+use Rattle.std.proofs.Common.{◌≡◌, ◌∙◌, ◌≤◌, ℕ, arith, get_or, length, ltb, rules, ap}
 use Rattle.std.proofs.lemmas.List.Sorted.{IsPartitionPoint-from_clause, IsPartitionedBy-ltb}
-use Rattle.tv_shrink.proofs.Constants.{behind_missing, coefficient_found, coefficient_missing, rising, split_missing}
+use Rattle.tv_shrink.proofs.Constants.{coefficient_found, rising, split_missing}
 use Rattle.tv_shrink.proofs.Passes.{same_default}
 use Rattle.tv_shrink.proofs.row.searched.Goals as goal
 
