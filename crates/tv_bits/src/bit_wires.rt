@@ -24,8 +24,20 @@ impl Bits {
         ensures len { length result ≡ self.now.n }
     {
         let mut lc = Lc::empty();
-        self.plus_to(&mut lc, F::ONE);
+        self.fill(&mut lc);
         lc
+    }
+
+    /// Makes `lc` the number that they spell, as `n` terms, at most 63.
+    pub fn fill(&self, lc: &mut Lc)
+        requires short { self.now.n ≤ 63 }
+        requires within { self.now.first + self.now.n < 2 ^ 32 }
+        ensures terms { lc.new ≡ bits_combination self.now.first self.now.n }
+        ensures top { top lc.new ≤ self.now.first + self.now.n }
+        ensures len { length lc.new ≡ self.now.n }
+    {
+        lc.clear();
+        self.plus_to(lc, F::ONE);
     }
 
     /// Appends `factor` times the number that they spell, as `n` terms, at most 63.

@@ -22,23 +22,28 @@ mod zeros;
 
 pub use bit_wires::Bits;
 pub use booleans::{bit, bit_by, bit_fills, bit_is_complete, bit_is_sound, fill_bit};
-pub use nonzeros::{fill_nonzero, nonzero, nonzero_fills, nonzero_is_complete, nonzero_is_sound};
+pub use nonzeros::{
+    fill_nonzero, nonzero, nonzero_by, nonzero_fills, nonzero_is_complete, nonzero_is_sound,
+};
 pub use pairs::{two_ands, two_ands_are_complete, two_ands_are_sound, two_ands_fill};
 pub use prefixes::{
-    fill_prefix_difference, first_difference, prefix_difference, prefix_difference_fills,
-    prefix_difference_is_complete, prefix_difference_is_sound,
+    fill_prefix_difference, first_difference, prefix_difference, prefix_difference_by,
+    prefix_difference_fills, prefix_difference_is_complete, prefix_difference_is_sound,
 };
 pub use products::{
-    kept, kept_fills, kept_is_complete, kept_is_sound, ratio, ratio_fills, ratio_is_complete,
-    ratio_is_sound, times, times_fills, times_is_complete, times_is_sound,
+    kept, kept_by, kept_fills, kept_is_complete, kept_is_sound, ratio, ratio_by, ratio_fills,
+    ratio_is_complete, ratio_is_sound, times, times_by, times_fills, times_is_complete,
+    times_is_sound,
 };
-pub use rows::{fill_onehot, onehot, onehot_fills, onehot_is_complete, onehot_is_sound, plus_row};
+pub use rows::{
+    fill_onehot, onehot, onehot_by, onehot_fills, onehot_is_complete, onehot_is_sound, plus_row,
+};
 pub use selection::{
-    fill_select, pick, pick_fills, pick_is_complete, pick_is_sound, select, select_fills,
+    fill_select, pick, pick_by, pick_fills, pick_is_complete, pick_is_sound, select, select_fills,
     select_is_complete, select_is_sound, select_terms, select_wires,
 };
 pub use spelling::{
-    bits, bits_are_complete, bits_are_sound, bits_fill, fill_bits, new_bits, new_bits_are_complete,
-    new_bits_are_sound, new_bits_fill,
+    bits, bits_are_complete, bits_are_sound, bits_by, bits_fill, fill_bits, new_bits,
+    new_bits_are_complete, new_bits_are_sound, new_bits_by, new_bits_fill,
 };
-pub use zeros::{fill_zero, zero, zero_fills, zero_is_complete, zero_is_sound};
+pub use zeros::{fill_zero, zero, zero_by, zero_fills, zero_is_complete, zero_is_sound};

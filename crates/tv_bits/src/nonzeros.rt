@@ -15,10 +15,25 @@ pub fn nonzero<S: Sink>(s: &mut S, x: &Lc) -> Put<Wire>
     ensures grows { IfOk result (λ _. Grows S.meaning s.old s.new 2 2) }
     ensures below { IfOk result (λ flag. flag < S.meaning.wires s.new) }
 {
+    nonzero_by(s, &mut Lc::empty(), &mut Lc::empty(), x)
+}
+
+/// The same, by combinations that are filled again.
+pub fn nonzero_by<S: Sink>(s: &mut S, factor: &mut Lc, product: &mut Lc, x: &Lc) -> Put<Wire>
+    requires room { Room S.meaning s.old 2 2 }
+    requires x_made { top x.now ≤ S.meaning.wires s.old }
+    ensures puts { PutsIn S.meaning s.old s.new (nonzero_of x.now) result }
+    ensures grows { IfOk result (λ _. Grows S.meaning s.old s.new 2 2) }
+    ensures below { IfOk result (λ flag. flag < S.meaning.wires s.new) }
+{
     let flag = s.fresh();
     let hint = s.fresh();
-    s.put(x, &Lc::wire(hint), &Lc::wire(flag))?;
-    s.put(x, &Lc::one_less(flag), &Lc::empty())?;
+    factor.set_wire(hint);
+    product.set_wire(flag);
+    s.put(x, factor, product)?;
+    factor.set_difference(Wire(0), flag);
+    product.clear();
+    s.put(x, factor, product)?;
     Ok(flag)
 }
 

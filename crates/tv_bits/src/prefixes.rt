@@ -9,8 +9,8 @@ ghost use Rattle.tv_core.specs.Giving.{GivesIn};
 ghost use Rattle.tv_core.specs.Sinks.{PutsIn, Grows, Room};
 
 use crate::bit_wires::Bits;
-use crate::products::times;
-use tv_core::{F, Lc, Put, Sink, Values};
+use crate::products::times_by;
+use tv_core::{F, Lc, Put, Scratch, Sink, Values};
 
 /// Cuts `x` and `y` into `count` chunks of `chunk` bits, at least 2 chunks, and holds `d` to the
 /// difference of two prefixes: what is left of `x` less what is left of `y`, once the same number
@@ -40,16 +40,42 @@ pub fn prefix_difference<S: Sink>(
         result }
     ensures grows { IfOk result (λ _. Grows S.meaning s.old s.new (count - 2) (count - 1)) }
 {
-    let mut product = Lc::empty();
-    fill_prefix_less(&mut product, x, y, d, 0);
-    let mut factor = Lc::empty();
+    prefix_difference_by(s, &mut Scratch::new(), x, y, d, chunk, count)
+}
+
+/// The same, by combinations that are filled again.
+pub fn prefix_difference_by<S: Sink>(
+    s: &mut S,
+    scratch: &mut Scratch,
+    x: &Bits,
+    y: &Bits,
+    d: &Lc,
+    chunk: u32,
+    count: u32,
+) -> Put<()>
+    requires room { Room S.meaning s.old (count - 2) (count - 1) }
+    requires chunks { 2 ≤ count }
+    requires x_long { chunk * (count - 1) ≤ x.now.n }
+    requires y_long { chunk * (count - 1) ≤ y.now.n }
+    requires x_short { x.now.n ≤ 63 }
+    requires y_short { y.now.n ≤ 63 }
+    requires d_short { x.now.n + y.now.n + length d.now ≤ 128 }
+    requires x_made { x.now.first + x.now.n ≤ S.meaning.wires s.old }
+    requires y_made { y.now.first + y.now.n ≤ S.meaning.wires s.old }
+    requires d_made { top d.now ≤ S.meaning.wires s.old }
+    ensures puts { PutsIn S.meaning s.old s.new (prefix_difference_of x.now y.now d.now chunk count)
+        result }
+    ensures grows { IfOk result (λ _. Grows S.meaning s.old s.new (count - 2) (count - 1)) }
+{
+    fill_prefix_less(&mut scratch.a, x, y, d, 0);
     for i in 0..count - 2 {
-        fill_prefix_less(&mut factor, x, y, d, chunk * (i + 1));
-        let w = times(s, &product, &factor)?;
-        product.set_wire(w);
+        fill_prefix_less(&mut scratch.b, x, y, d, chunk * (i + 1));
+        let w = times_by(s, &mut scratch.c, &scratch.a, &scratch.b)?;
+        scratch.a.set_wire(w);
     }
-    fill_prefix_less(&mut factor, x, y, d, chunk * (count - 1));
-    s.put(&product, &factor, &Lc::empty())
+    fill_prefix_less(&mut scratch.b, x, y, d, chunk * (count - 1));
+    scratch.c.clear();
+    s.put(&scratch.a, &scratch.b, &scratch.c)
 }
 
 // Makes `lc` the difference of the prefixes from place `from` on, less `d`.

@@ -6,7 +6,7 @@ ghost use Rattle.tv_bits.specs.Times.{kept_of, KeptIsSound, KeptIsComplete, Kept
 ghost use Rattle.tv_core.specs.Combinations.{top};
 ghost use Rattle.tv_core.specs.Sinks.{PutsIn, Grows, Room};
 
-use tv_core::{F, Lc, Put, Sink, Wire};
+use tv_core::{Lc, Put, Sink, Wire};
 
 /// A wire that is `x` times `y`. It makes 1 wire and 1 constraint.
 pub fn times<S: Sink>(s: &mut S, x: &Lc, y: &Lc) -> Put<Wire>
@@ -17,10 +17,21 @@ pub fn times<S: Sink>(s: &mut S, x: &Lc, y: &Lc) -> Put<Wire>
     ensures grows { IfOk result (λ _. Grows S.meaning s.old s.new 1 1) }
     ensures below { IfOk result (λ product. product < S.meaning.wires s.new) }
 {
+    times_by(s, &mut Lc::empty(), x, y)
+}
+
+/// The same, by a combination that is filled again.
+pub fn times_by<S: Sink>(s: &mut S, product: &mut Lc, x: &Lc, y: &Lc) -> Put<Wire>
+    requires room { Room S.meaning s.old 1 1 }
+    requires x_made { top x.now ≤ S.meaning.wires s.old }
+    requires y_made { top y.now ≤ S.meaning.wires s.old }
+    ensures puts { PutsIn S.meaning s.old s.new (times_of x.now y.now) result }
+    ensures grows { IfOk result (λ _. Grows S.meaning s.old s.new 1 1) }
+    ensures below { IfOk result (λ product. product < S.meaning.wires s.new) }
+{
     let w = s.fresh();
-    let mut product = Lc::empty();
-    product.plus(F::ONE, w);
-    s.put(x, y, &product)?;
+    product.set_wire(w);
+    s.put(x, y, product)?;
     Ok(w)
 }
 
@@ -33,7 +44,19 @@ pub fn kept<S: Sink>(s: &mut S, x: &Lc) -> Put<Wire>
     ensures grows { IfOk result (λ _. Grows S.meaning s.old s.new 1 1) }
     ensures below { IfOk result (λ w. w < S.meaning.wires s.new) }
 {
-    times(s, x, &Lc::constant(F::ONE))
+    kept_by(s, &mut Lc::empty(), &mut Lc::empty(), x)
+}
+
+/// The same, by combinations that are filled again.
+pub fn kept_by<S: Sink>(s: &mut S, one: &mut Lc, product: &mut Lc, x: &Lc) -> Put<Wire>
+    requires room { Room S.meaning s.old 1 1 }
+    requires x_made { top x.now ≤ S.meaning.wires s.old }
+    ensures puts { PutsIn S.meaning s.old s.new (kept_of x.now) result }
+    ensures grows { IfOk result (λ _. Grows S.meaning s.old s.new 1 1) }
+    ensures below { IfOk result (λ w. w < S.meaning.wires s.new) }
+{
+    one.set_wire(Wire(0));
+    times_by(s, product, x, one)
 }
 
 /// A wire that times `x` is `y`. Where `x` is 0 the wire may hold anything, and `y` is held to 0.
@@ -46,10 +69,21 @@ pub fn ratio<S: Sink>(s: &mut S, x: &Lc, y: &Lc) -> Put<Wire>
     ensures grows { IfOk result (λ _. Grows S.meaning s.old s.new 1 1) }
     ensures below { IfOk result (λ ratio. ratio < S.meaning.wires s.new) }
 {
+    ratio_by(s, &mut Lc::empty(), x, y)
+}
+
+/// The same, by a combination that is filled again.
+pub fn ratio_by<S: Sink>(s: &mut S, ratio: &mut Lc, x: &Lc, y: &Lc) -> Put<Wire>
+    requires room { Room S.meaning s.old 1 1 }
+    requires x_made { top x.now ≤ S.meaning.wires s.old }
+    requires y_made { top y.now ≤ S.meaning.wires s.old }
+    ensures puts { PutsIn S.meaning s.old s.new (ratio_of x.now y.now) result }
+    ensures grows { IfOk result (λ _. Grows S.meaning s.old s.new 1 1) }
+    ensures below { IfOk result (λ ratio. ratio < S.meaning.wires s.new) }
+{
     let w = s.fresh();
-    let mut ratio = Lc::empty();
-    ratio.plus(F::ONE, w);
-    s.put(x, &ratio, y)?;
+    ratio.set_wire(w);
+    s.put(x, ratio, y)?;
     Ok(w)
 }
 

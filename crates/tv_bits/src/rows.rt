@@ -1,5 +1,6 @@
 ghost use Rattle.std.specs.Prelude.{◌≡◌, ◌+◌, ◌≤◌, ◌<◌, ◌^◌, ◌++◌, false, length, max, IfOk};
 ghost use Rattle.std.specs.Prelude.{OnOk};
+ghost use Rattle.tv_bits.specs.Bits.{bits_combination};
 ghost use Rattle.tv_bits.specs.OneHot.{row_sum, onehot_values, mark_of, onehot_of, OneHotIsSound};
 ghost use Rattle.tv_bits.specs.OneHot.{OneHotIsComplete, OneHotSizes};
 ghost use Rattle.tv_core.specs.Combinations.{top};
@@ -33,32 +34,42 @@ pub fn onehot<S: Sink>(s: &mut S, x: &Bits) -> Put<Wire>
     ensures grows { IfOk result (λ _. Grows S.meaning s.old s.new (2 ^ x.now.n) (2 ^ x.now.n + 1)) }
     ensures below { IfOk result (λ first. first + 2 ^ x.now.n ≤ S.meaning.wires s.new) }
 {
+    onehot_by(s, &mut Scratch::new(), x)
+}
+
+/// The same, by combinations that are filled again.
+pub fn onehot_by<S: Sink>(s: &mut S, scratch: &mut Scratch, x: &Bits) -> Put<Wire>
+    requires room { Room S.meaning s.old (2 ^ x.now.n) (2 ^ x.now.n + 1) }
+    requires short { x.now.n ≤ 5 }
+    requires x_made { x.now.first + x.now.n ≤ S.meaning.wires s.old }
+    ensures puts { PutsIn S.meaning s.old s.new (onehot_of x.now) result }
+    ensures grows { IfOk result (λ _. Grows S.meaning s.old s.new (2 ^ x.now.n) (2 ^ x.now.n + 1)) }
+    ensures below { IfOk result (λ first. first + 2 ^ x.now.n ≤ S.meaning.wires s.new) }
+{
     let first = Wire(s.wires());
     let count = row_len(x.n);
-    let number = x.lc();
-    let mut scratch = Scratch::new();
     for i in 0..count {
-        mark(s, &mut scratch, &number, i)?;
+        mark(s, scratch, x, i)?;
     }
-    let mut sum = Lc::empty();
-    plus_row(&mut sum, first, count);
-    let one = Lc::constant(F::ONE);
-    s.put(&sum, &one, &one)?;
+    scratch.a.clear();
+    plus_row(&mut scratch.a, first, count);
+    scratch.b.set_wire(Wire(0));
+    s.put(&scratch.a, &scratch.b, &scratch.b)?;
     Ok(first)
 }
 
-// A wire that is 0 unless `x` is `i`.
-fn mark<S: Sink>(s: &mut S, scratch: &mut Scratch, x: &Lc, i: u32) -> Put<()>
+// A wire that is 0 unless `x` spells `i`.
+fn mark<S: Sink>(s: &mut S, scratch: &mut Scratch, x: &Bits, i: u32) -> Put<()>
     requires room { Room S.meaning s.old 1 1 }
-    requires x_made { top x.now ≤ S.meaning.wires s.old }
-    requires x_short { length x.now ≤ 64 }
-    ensures puts { PutsIn S.meaning s.old s.new (mark_of x.now i) result }
+    requires short { x.now.n ≤ 5 }
+    requires x_made { x.now.first + x.now.n ≤ S.meaning.wires s.old }
+    ensures puts { PutsIn S.meaning s.old s.new
+        (mark_of (bits_combination x.now.first x.now.n) i) result }
     ensures grows { IfOk result (λ _. Grows S.meaning s.old s.new 1 1) }
 {
     let w = s.fresh();
     scratch.a.set_wire(w);
-    scratch.b.clear();
-    scratch.b.plus_terms(x.terms());
+    x.fill(&mut scratch.b);
     scratch.b.plus(-F::from(i), Wire(0));
     scratch.c.clear();
     s.put(&scratch.a, &scratch.b, &scratch.c)

@@ -94,8 +94,8 @@ pub fn pick<S: Sink>(s: &mut S, b: &Lc, x: &Lc, y: &Lc) -> Put<Wire>
     )
 }
 
-// The same of two lists of terms; the second factor and the product are filled again.
-fn pick_by<S: Sink>(
+/// The same of two lists of terms, by a factor and a product that are filled again.
+pub fn pick_by<S: Sink>(
     s: &mut S,
     b: &Lc,
     factor: &mut Lc,

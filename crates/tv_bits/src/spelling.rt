@@ -9,10 +9,21 @@ ghost use Rattle.tv_core.specs.Sinks.{PutsIn, Grows, Room};
 
 use crate::bit_wires::Bits;
 use crate::booleans::bit_by;
-use tv_core::{F, Lc, Put, Sink, Values, Wire};
+use tv_core::{F, Lc, Put, Scratch, Sink, Values, Wire};
 
 /// New wires, each held to 0 or 1. It makes `n` wires and `n` constraints.
 pub fn new_bits<S: Sink>(s: &mut S, n: u32) -> Put<Bits>
+    requires room { Room S.meaning s.old n n }
+    ensures puts { PutsIn S.meaning s.old s.new (new_bits_of n) result }
+    ensures grows { IfOk result (λ _. Grows S.meaning s.old s.new n n) }
+    ensures size { IfOk result (λ bits. bits.n ≡ n) }
+    ensures below { IfOk result (λ bits. bits.first + bits.n ≤ S.meaning.wires s.new) }
+{
+    new_bits_by(s, &mut Lc::empty(), n)
+}
+
+/// The same, by a combination that is filled again.
+pub fn new_bits_by<S: Sink>(s: &mut S, lc: &mut Lc, n: u32) -> Put<Bits>
     requires room { Room S.meaning s.old n n }
     ensures puts { PutsIn S.meaning s.old s.new (new_bits_of n) result }
     ensures grows { IfOk result (λ _. Grows S.meaning s.old s.new n n) }
@@ -23,10 +34,9 @@ pub fn new_bits<S: Sink>(s: &mut S, n: u32) -> Put<Bits>
         first: Wire(s.wires()),
         n,
     };
-    let mut lc = Lc::empty();
     for _turn in 0..n {
         let w = s.fresh();
-        bit_by(s, &mut lc, w)?;
+        bit_by(s, lc, w)?;
     }
     Ok(bits)
 }
@@ -42,8 +52,23 @@ pub fn bits<S: Sink>(s: &mut S, x: &Lc, n: u32) -> Put<Bits>
     ensures size { IfOk result (λ bits. bits.n ≡ n) }
     ensures below { IfOk result (λ bits. bits.first + bits.n ≤ S.meaning.wires s.new) }
 {
-    let made = new_bits(s, n)?;
-    s.put(&made.lc(), &Lc::constant(F::ONE), x)?;
+    bits_by(s, &mut Scratch::new(), x, n)
+}
+
+/// The same, by combinations that are filled again.
+pub fn bits_by<S: Sink>(s: &mut S, scratch: &mut Scratch, x: &Lc, n: u32) -> Put<Bits>
+    requires room { Room S.meaning s.old n (n + 1) }
+    requires x_made { top x.now ≤ S.meaning.wires s.old }
+    requires short { n ≤ 63 }
+    ensures puts { PutsIn S.meaning s.old s.new (bits_of x.now n) result }
+    ensures grows { IfOk result (λ _. Grows S.meaning s.old s.new n (n + 1)) }
+    ensures size { IfOk result (λ bits. bits.n ≡ n) }
+    ensures below { IfOk result (λ bits. bits.first + bits.n ≤ S.meaning.wires s.new) }
+{
+    let made = new_bits_by(s, &mut scratch.a, n)?;
+    made.fill(&mut scratch.a);
+    scratch.b.set_wire(Wire(0));
+    s.put(&scratch.a, &scratch.b, x)?;
     Ok(made)
 }
 

@@ -1,7 +1,7 @@
 use Rattle.tv_core.specs.Loops.{times}
 use Rattle.tv_core.specs.Sinks.{PutsAll, Grows}
 use Rattle.tv_bits.specs.Bits.{new_bit}
-use Rattle.tv_bits.proofs.spelling.new_bits.Given as goal
+use Rattle.tv_bits.proofs.spelling.new_bits_by.Given as goal
 
 abbrev pub invariant-loop-turn : goal.invariant-loop-turn
 invariant-loop-turn g l = record {

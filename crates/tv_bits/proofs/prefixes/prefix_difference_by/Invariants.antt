@@ -4,13 +4,13 @@ use Rattle.tv_core.specs.Combinations.{top}
 use Rattle.tv_core.specs.Constraints.{Combination}
 use Rattle.tv_core.specs.Sinks.{PutsAll, Grows}
 use Rattle.tv_bits.specs.Prefixes.{prefix_less, next_product}
-use Rattle.tv_bits.proofs.prefixes.prefix_difference.Given as goal
+use Rattle.tv_bits.proofs.prefixes.prefix_difference_by.Given as goal
 
 abbrev pub invariant-loop-i : goal.invariant-loop-i
 invariant-loop-i g l =
     let factor : ℕ → Combination = λ j. prefix_less l.x l.y l.d (l.chunk * j) in
     record {
-      puts : PutsAll g.S.Sink.meaning l.initial.s l.s (turns l.i (next_product factor) (factor 0)) l.product;
+      puts : PutsAll g.S.Sink.meaning l.initial.s l.s (turns l.i (next_product factor) (factor 0)) l.scratch.a;
       grows : Grows g.S.Sink.meaning l.initial.s l.s l.i l.i;
-      made : top l.product ≤ g.S.Sink.meaning.wires l.s;
+      made : top l.scratch.a ≤ g.S.Sink.meaning.wires l.s;
     }

@@ -2,7 +2,7 @@ use Rattle.std.proofs.Common.{◌≡◌, arith}
 use Rattle.tv_core.proofs.Chain.{chain, puts_no_turn, puts_turn, turn_refused, refused}
 use Rattle.tv_core.proofs.LoopLaws.{puts_here_as}
 use Rattle.tv_bits.specs.Bits.{new_bit, new_bits_of}
-use Rattle.tv_bits.proofs.spelling.new_bits.Goals as goal
+use Rattle.tv_bits.proofs.spelling.new_bits_by.Goals as goal
 
 pub loop-turn-init : goal.loop-turn-init
 loop-turn-init g c = record {

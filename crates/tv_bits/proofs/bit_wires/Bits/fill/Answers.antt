@@ -2,9 +2,9 @@ use Rattle.std.proofs.Common.{◌∙◌, ap, ◌++◌}
 use Rattle.tv_core.specs.Combinations.{scaled}
 use Rattle.tv_bits.specs.Bits.{bits_combination}
 use Rattle.tv_bits.proofs.SpelledNumbers.{scaled-bits-once}
-use Rattle.tv_bits.proofs.bit_wires.Bits.lc.Goals as goal
+use Rattle.tv_bits.proofs.bit_wires.Bits.fill.Goals as goal
 
 pub returns-clause-terms : goal.returns-clause-terms
 returns-clause-terms c =
     let first = c.args.self.now.first in
-    c.plus_to.ensures.terms ∙ ap (λ l. l ++ scaled 1 (bits_combination first c.args.self.now.n)) c.empty-lc.ensures ∙ scaled-bits-once first c.args.self.now.n
+    c.plus_to.ensures.terms ∙ ap (λ l. l ++ scaled 1 (bits_combination first c.args.self.now.n)) c.clear.ensures ∙ scaled-bits-once first c.args.self.now.n

@@ -4,7 +4,7 @@ use Rattle.tv_core.proofs.LoopLaws.{puts_here_as}
 use Rattle.tv_core.specs.Circuits.{Circuit}
 use Rattle.tv_bits.specs.Bits.{bits_combination}
 use Rattle.tv_bits.specs.OneHot.{mark_of, onehot_of}
-use Rattle.tv_bits.proofs.rows.onehot.Goals as goal
+use Rattle.tv_bits.proofs.rows.onehot_by.Goals as goal
 
 pub loop-i-init : goal.loop-i-init
 loop-i-init g c = record {
@@ -16,9 +16,8 @@ pub loop-i-preserved : goal.loop-i-preserved
 loop-i-preserved g c =
     let piece : ℕ → Unit {0} → Circuit (Unit {0}) = λ i _. mark_of (bits_combination c.args.x.now.first c.args.x.now.n) i in
     let grown = c.in_ok-mark.ensures.grows in
-    let mark = rw c.lc-number.ensures.terms at c.in_ok-mark.ensures.puts in
     record {
-      puts = puts_turn g.S.Sink.meaning _ piece tt _ _ _ _ _ c.loop-i.invariant.puts mark;
+      puts = puts_turn g.S.Sink.meaning _ piece tt _ _ _ _ _ c.loop-i.invariant.puts c.in_ok-mark.ensures.puts;
       grows = record { wires = omega (arith, grown.wires); constraints = omega (arith, grown.constraints); whole = grown.whole };
     }
 
@@ -28,9 +27,8 @@ returns-in_err-mark-clause-puts g c =
     let m = g.S.Sink.meaning in
     let piece : ℕ → Unit {0} → Circuit (Unit {0}) = λ i _. mark_of (bits_combination c.args.x.now.first c.args.x.now.n) i in
     let within : c.loop-i.i < 2 ^ c.args.x.now.n = omega arith in
-    let mark = rw c.lc-number.ensures.terms at c.in_err-mark.ensures.puts in
     let first = puts_here_as m c.args.s.now c.wires.result c.wires.ensures in
-    let turn = turn_refused m (2 ^ c.args.x.now.n) c.loop-i.i piece tt tt c.args.s.now c.loop-i.s c.mark.new.s c.in_err-mark.field-0.0 within c.loop-i.invariant.puts mark in
+    let turn = turn_refused m (2 ^ c.args.x.now.n) c.loop-i.i piece tt tt c.args.s.now c.loop-i.s c.mark.new.s c.in_err-mark.field-0.0 within c.loop-i.invariant.puts c.in_err-mark.ensures.puts in
     refused m _ _ _ c.from_residual.result c.from_residual.ensures.1 (search (chain, first, turn))
 
 pub returns-in_err-put-clause-puts : goal.returns-in_err-put-clause-puts
@@ -40,7 +38,7 @@ returns-in_err-put-clause-puts g c =
     let all : c.loop-i.i ≡ 2 ^ c.args.x.now.n = omega arith in
     let first = puts_here_as m c.args.s.now c.wires.result c.wires.ensures in
     let turns = rw all at c.loop-i.invariant.puts in
-    let sum = rw (c.plus_row.ensures.terms, c.empty-sum.ensures, c.row_len-count.ensures, c.constant-one.ensures) at c.in_err-put.ensures.puts in
+    let sum = rw (c.plus_row.ensures.terms, c.clear.ensures, c.row_len-count.ensures, c.set_wire.ensures.terms) at c.in_err-put.ensures.puts in
     refused m _ _ _ c.from_residual-in_err-put.result c.from_residual-in_err-put.ensures.1 (search (chain, first, turns, sum))
 
 pub returns-clause-puts : goal.returns-clause-puts
@@ -49,5 +47,5 @@ returns-clause-puts g c =
     let all : c.loop-i.i ≡ 2 ^ c.args.x.now.n = omega arith in
     let first = puts_here_as g.S.Sink.meaning c.args.s.now c.wires.result c.wires.ensures in
     let turns = rw all at c.loop-i.invariant.puts in
-    let sum = rw (c.plus_row.ensures.terms, c.empty-sum.ensures, c.row_len-count.ensures, c.constant-one.ensures) at c.in_ok-put.ensures.puts in
+    let sum = rw (c.plus_row.ensures.terms, c.clear.ensures, c.row_len-count.ensures, c.set_wire.ensures.terms) at c.in_ok-put.ensures.puts in
     search (chain, first, turns, sum)

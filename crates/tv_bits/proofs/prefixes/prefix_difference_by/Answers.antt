@@ -4,7 +4,7 @@ use Rattle.tv_core.specs.Combinations.{top}
 use Rattle.tv_core.specs.Constraints.{Combination}
 use Rattle.tv_bits.proofs.ProductChain.{no_product, one_product, product_refused, last_product}
 use Rattle.tv_bits.specs.Prefixes.{prefix_less, prefix_difference_of}
-use Rattle.tv_bits.proofs.prefixes.prefix_difference.Goals as goal
+use Rattle.tv_bits.proofs.prefixes.prefix_difference_by.Goals as goal
 
 pub loop-i-init : goal.loop-i-init
 loop-i-init g c =
@@ -42,5 +42,5 @@ pub returns-clause-puts : goal.returns-clause-puts
 unfolding prefix_difference_of
 returns-clause-puts g c =
     let factor : ℕ → Combination = λ j. prefix_less c.args.x.now c.args.y.now c.args.d.now (c.args.chunk * j) in
-    let last = rw (c.fill_prefix_less-2.ensures.terms, c.empty.ensures) at c.put.ensures.puts in
+    let last = rw (c.fill_prefix_less-2.ensures.terms, c.clear.ensures) at c.put.ensures.puts in
     last_product g.S.Sink.meaning factor c.args.count c.loop-i.i _ _ _ _ _ (omega arith) c.loop-i.invariant.puts last

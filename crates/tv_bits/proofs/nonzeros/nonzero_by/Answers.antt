@@ -1,23 +1,23 @@
 use Rattle.tv_core.proofs.Chain.{chain, refused}
 use Rattle.tv_bits.specs.Nonzero.{nonzero_of}
-use Rattle.tv_bits.proofs.nonzeros.nonzero.Goals as goal
+use Rattle.tv_bits.proofs.nonzeros.nonzero_by.Goals as goal
 
 pub returns-clause-puts : goal.returns-clause-puts
 unfolding nonzero_of
 returns-clause-puts g c =
-    let first = rw (c.wire.ensures, c.wire-2.ensures) at c.in_ok-put.ensures.puts in
-    let second = rw (c.one_less.ensures, c.empty.ensures) at c.in_ok-put-2.ensures.puts in
+    let first = rw (c.set_wire.ensures.terms, c.set_wire-2.ensures.terms) at c.in_ok-put.ensures.puts in
+    let second = rw (c.set_difference.ensures.terms, c.clear.ensures) at c.in_ok-put-2.ensures.puts in
     search (chain, c.fresh-flag.ensures.puts, c.fresh-hint.ensures.puts, first, second)
 
 pub returns-in_err-put-clause-puts : goal.returns-in_err-put-clause-puts
 unfolding nonzero_of
 returns-in_err-put-clause-puts g c =
-    let first = rw (c.wire.ensures, c.wire-2.ensures) at c.in_err-put.ensures.puts in
+    let first = rw (c.set_wire.ensures.terms, c.set_wire-2.ensures.terms) at c.in_err-put.ensures.puts in
     refused g.S.Sink.meaning _ _ _ c.from_residual.result c.from_residual.ensures.1 (search (chain, c.fresh-flag.ensures.puts, c.fresh-hint.ensures.puts, first))
 
 pub returns-in_err-put-2-clause-puts : goal.returns-in_err-put-2-clause-puts
 unfolding nonzero_of
 returns-in_err-put-2-clause-puts g c =
-    let first = rw (c.wire.ensures, c.wire-2.ensures) at c.in_ok-put.ensures.puts in
-    let second = rw (c.one_less.ensures, c.empty.ensures) at c.in_err-put-2.ensures.puts in
+    let first = rw (c.set_wire.ensures.terms, c.set_wire-2.ensures.terms) at c.in_ok-put.ensures.puts in
+    let second = rw (c.set_difference.ensures.terms, c.clear.ensures) at c.in_err-put-2.ensures.puts in
     refused g.S.Sink.meaning _ _ _ c.from_residual-in_err-put-2.result c.from_residual-in_err-put-2.ensures.1 (search (chain, c.fresh-flag.ensures.puts, c.fresh-hint.ensures.puts, first, second))

@@ -2,7 +2,7 @@ use Rattle.tv_core.specs.Loops.{times}
 use Rattle.tv_core.specs.Sinks.{PutsAll, Grows}
 use Rattle.tv_bits.specs.Bits.{bits_combination}
 use Rattle.tv_bits.specs.OneHot.{mark_of}
-use Rattle.tv_bits.proofs.rows.onehot.Given as goal
+use Rattle.tv_bits.proofs.rows.onehot_by.Given as goal
 
 abbrev pub invariant-loop-i : goal.invariant-loop-i
 invariant-loop-i g l = record {
