@@ -13,7 +13,12 @@ use tv_core::{F, Lc, Put, Scratch, Sink, Values, Wire};
 /// The word of the ands of two words' bits. It makes `W / 2` wires and constraints, two ands in
 /// each: the bits number `i` and `i + W / 2`. The lowest pair's is what the others leave of the
 /// word.
-pub(crate) fn and_word<const W: u32, S: Sink>(s: &mut S, x: &Bits, y: &Bits) -> Put<Wire>
+pub(crate) fn and_word<const W: u32, S: Sink>(
+    s: &mut S,
+    scratch: &mut Scratch,
+    x: &Bits,
+    y: &Bits,
+) -> Put<Wire>
     requires width { IsWidth W }
     requires room { Room S.meaning s.old (W / 2) (W / 2) }
     requires x_made { x.now.first + W ≤ S.meaning.wires s.old }
@@ -24,12 +29,11 @@ pub(crate) fn and_word<const W: u32, S: Sink>(s: &mut S, x: &Bits, y: &Bits) -> 
 {
     let word = s.fresh();
     let first = Wire(s.wires());
-    let mut scratch = Scratch::new();
     for i in 0..W / 2 - 1 {
-        new_pair::<W, S>(s, &mut scratch, x, y, i)?;
+        new_pair::<W, S>(s, scratch, x, y, i)?;
     }
     let lowest = lowest_pair::<W>(word, first);
-    pair::<W, S>(s, &mut scratch, x, y, 0, lowest.terms())?;
+    pair::<W, S>(s, scratch, x, y, 0, lowest.terms())?;
     Ok(word)
 }
 

@@ -1,11 +1,13 @@
 ghost use Rattle.std.specs.Prelude.{◌≡◌, ◌<◌, false, IfOk, OnOk};
+ghost use Rattle.tv_bits.specs.Zero.{zero_of};
+ghost use Rattle.tv_core.specs.Combinations.{wire};
 ghost use Rattle.tv_core.specs.Giving.{GivesIn};
 ghost use Rattle.tv_core.specs.Sinks.{PutsIn, Grows, Room};
 ghost use Rattle.tv_logic.specs.Flags.{logic_flags_of, flag_values};
 
 use crate::answers::{LogicFlags, LogicWords};
-use tv_bits::{fill_zero, times, zero};
-use tv_core::{F, Lc, Put, Sink, Values};
+use tv_bits::{fill_zero, times_by, zero_by};
+use tv_core::{F, Put, Scratch, Sink, Values, Wire};
 
 /// The zero flags of four words, the second being 0 exactly where the first and the third are. It
 /// makes 7 wires and 7 constraints.
@@ -21,16 +23,31 @@ pub(crate) fn flags<S: Sink>(s: &mut S, words: &LogicWords) -> Put<LogicFlags>
     ensures xor_below { IfOk result (λ made. made.xor_zero < S.meaning.wires s.new) }
     ensures not_below { IfOk result (λ made. made.not_zero < S.meaning.wires s.new) }
 {
-    let and_zero = zero(s, &Lc::wire(words.and_word))?;
-    let xor_zero = zero(s, &Lc::wire(words.xor_word))?;
-    let not_zero = zero(s, &Lc::wire(words.not_word))?;
-    let or_zero = times(s, &Lc::wire(and_zero), &Lc::wire(xor_zero))?;
+    let mut scratch = Scratch::new();
+    let and_zero = zero_flag(s, &mut scratch, words.and_word)?;
+    let xor_zero = zero_flag(s, &mut scratch, words.xor_word)?;
+    let not_zero = zero_flag(s, &mut scratch, words.not_word)?;
+    scratch.a.set_wire(and_zero);
+    scratch.b.set_wire(xor_zero);
+    let or_zero = times_by(s, &mut scratch.c, &scratch.a, &scratch.b)?;
     Ok(LogicFlags {
         and_zero,
         or_zero,
         xor_zero,
         not_zero,
     })
+}
+
+// A wire that is 1 exactly where a word's wire is 0.
+fn zero_flag<S: Sink>(s: &mut S, scratch: &mut Scratch, word: Wire) -> Put<Wire>
+    requires room { Room S.meaning s.old 2 2 }
+    requires made { word < S.meaning.wires s.old }
+    ensures puts { PutsIn S.meaning s.old s.new (zero_of (wire word)) result }
+    ensures grows { IfOk result (λ _. Grows S.meaning s.old s.new 2 2) }
+    ensures below { IfOk result (λ flag. flag < S.meaning.wires s.new) }
+{
+    scratch.a.set_wire(word);
+    zero_by(s, &mut scratch.b, &mut scratch.c, &scratch.a)
 }
 
 /// Gives the values of the wires that `flags` makes, the arguments being the four words' numbers.

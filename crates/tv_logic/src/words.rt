@@ -8,8 +8,8 @@ ghost use Rattle.tv_word.specs.Widths.{IsWidth};
 
 use crate::ands::{and_word, fill_and};
 use crate::answers::LogicWords;
-use tv_bits::{Bits, kept};
-use tv_core::{F, Lc, Put, Sink, Values, Wire, give_values};
+use tv_bits::{Bits, kept_by};
+use tv_core::{F, Lc, Put, Scratch, Sink, Values, Wire, give_values};
 use tv_word::arithmetic::inverted;
 
 /// The words of the four operations. It makes `W / 2 + 3` wires and constraints.
@@ -27,10 +27,14 @@ pub(crate) fn words<const W: u32, S: Sink>(s: &mut S, x: &Bits, y: &Bits) -> Put
     ensures xor_below { IfOk result (λ made. made.xor_word < S.meaning.wires s.new) }
     ensures not_below { IfOk result (λ made. made.not_word < S.meaning.wires s.new) }
 {
-    let and_word = and_word::<W, S>(s, x, y)?;
-    let or_word = kept(s, &sum_less::<W>(x, y, F::ONE, and_word))?;
-    let xor_word = kept(s, &sum_less::<W>(x, y, F::of(2), and_word))?;
-    let not_word = kept(s, &complement::<W>(y))?;
+    let mut scratch = Scratch::new();
+    let and_word = and_word::<W, S>(s, &mut scratch, x, y)?;
+    fill_sum_less::<W>(&mut scratch.a, x, y, F::ONE, and_word);
+    let or_word = kept_by(s, &mut scratch.b, &mut scratch.c, &scratch.a)?;
+    fill_sum_less::<W>(&mut scratch.a, x, y, F::of(2), and_word);
+    let xor_word = kept_by(s, &mut scratch.b, &mut scratch.c, &scratch.a)?;
+    fill_complement::<W>(&mut scratch.a, y);
+    let not_word = kept_by(s, &mut scratch.b, &mut scratch.c, &scratch.a)?;
     Ok(LogicWords {
         and_word,
         or_word,
@@ -39,33 +43,32 @@ pub(crate) fn words<const W: u32, S: Sink>(s: &mut S, x: &Bits, y: &Bits) -> Put
     })
 }
 
-// The sum of two words, less `k` times a wire.
-fn sum_less<const W: u32>(x: &Bits, y: &Bits, k: F, w: Wire) -> Lc
+// Makes `lc` the sum of two words, less `k` times a wire.
+fn fill_sum_less<const W: u32>(lc: &mut Lc, x: &Bits, y: &Bits, k: F, w: Wire)
     requires width { IsWidth W }
     requires x_word { x.now.n ≡ W }
     requires y_word { y.now.n ≡ W }
     requires x_within { x.now.first + W < 2 ^ 32 }
     requires y_within { y.now.first + W < 2 ^ 32 }
-    ensures terms { result ≡ sum_less W x.now y.now k w }
-    ensures top { top result ≤ max (max (x.now.first + W) (y.now.first + W)) (w + 1) }
+    ensures terms { lc.new ≡ sum_less W x.now y.now k w }
+    ensures top { top lc.new ≤ max (max (x.now.first + W) (y.now.first + W)) (w + 1) }
 {
-    let mut lc = x.lc();
-    y.plus_to(&mut lc, F::ONE);
+    x.fill(lc);
+    y.plus_to(lc, F::ONE);
     lc.plus(-k, w);
-    lc
 }
 
-// The greatest word less another.
-fn complement<const W: u32>(y: &Bits) -> Lc
+// Makes `lc` the greatest word less another.
+fn fill_complement<const W: u32>(lc: &mut Lc, y: &Bits)
     requires width { IsWidth W }
     requires y_word { y.now.n ≡ W }
     requires y_within { y.now.first + W < 2 ^ 32 }
-    ensures terms { result ≡ complement W y.now }
-    ensures top { top result ≤ max 1 (y.now.first + W) }
+    ensures terms { lc.new ≡ complement W y.now }
+    ensures top { top lc.new ≤ max 1 (y.now.first + W) }
 {
-    let mut lc = Lc::constant(F::from(greatest_word::<W>()));
-    y.plus_to(&mut lc, -F::ONE);
-    lc
+    lc.clear();
+    lc.plus(F::from(greatest_word::<W>()), Wire(0));
+    y.plus_to(lc, -F::ONE);
 }
 
 // The greatest word.
