@@ -17,12 +17,12 @@ mod unpacking;
 pub use honesty::{ordered_lines_are_honest, sorted_lines_are_ordered};
 pub use ordering::{
     fill_first_line, fill_sorted_pair, first_line, first_line_fills, first_line_is_complete,
-    first_line_is_sound, neighbours_are_ordered, sorted_pair, sorted_pair_fills,
+    first_line_is_sound, neighbours_are_ordered, sorted_pair, sorted_pair_by, sorted_pair_fills,
     sorted_pair_is_complete, sorted_pair_is_sound,
 };
 pub use packing::{pack, pack_is_one_to_one, pack_is_right, pack_line, unpack_line};
 pub use rows::LineBits;
 pub use unpacking::{
-    fill_unpack, line_bits, unpack, unpack_fills, unpack_is_complete, unpack_is_sound,
+    fill_unpack, line_bits, unpack, unpack_by, unpack_fills, unpack_is_complete, unpack_is_sound,
     unpack_undoes_pack,
 };

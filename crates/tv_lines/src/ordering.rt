@@ -11,8 +11,8 @@ ghost use Rattle.tv_lines.specs.Unpacking.{HasWidths, AreMade};
 
 use crate::rising::{CHUNK, fill_rises, rises, size};
 use crate::rows::LineBits;
-use tv_bits::{fill_bits, fill_zero, kept, new_bits, zero};
-use tv_core::{F, Lc, LineNum, Put, Sink, Values, Wire};
+use tv_bits::{fill_bits, fill_zero, kept_by, new_bits_by, zero_by};
+use tv_core::{F, Lc, LineNum, Put, Scratch, Sink, Values, Wire};
 
 /// Holds two lines to follow each other in address order: the cell of the second is above that of
 /// the first, or in the same cell its time; its old word is the first's new one where the cells are
@@ -26,14 +26,37 @@ pub fn sorted_pair<S: Sink>(s: &mut S, before: &LineBits, after: &LineBits) -> P
     ensures puts { PutsIn S.meaning s.old s.new (sorted_pair_of before.now after.now) result }
     ensures grows { IfOk result (λ _. Grows S.meaning s.old s.new 18 20) }
 {
-    let apart = cells_apart(s, before, after)?;
-    carried(s, apart, before, after)?;
-    let size = new_size(s)?;
-    rises(s, apart, size, before, after)
+    sorted_pair_by(s, &mut Scratch::new(), before, after)
+}
+
+/// The same, by combinations that are filled again.
+pub fn sorted_pair_by<S: Sink>(
+    s: &mut S,
+    scratch: &mut Scratch,
+    before: &LineBits,
+    after: &LineBits,
+) -> Put<()>
+    requires room { Room S.meaning s.old 18 20 }
+    requires before_widths { HasWidths before.now }
+    requires after_widths { HasWidths after.now }
+    requires before_made { AreMade before.now (S.meaning.wires s.old) }
+    requires after_made { AreMade after.now (S.meaning.wires s.old) }
+    ensures puts { PutsIn S.meaning s.old s.new (sorted_pair_of before.now after.now) result }
+    ensures grows { IfOk result (λ _. Grows S.meaning s.old s.new 18 20) }
+{
+    let apart = cells_apart(s, scratch, before, after)?;
+    carried(s, scratch, apart, before, after)?;
+    let size = new_size(s, scratch)?;
+    rises(s, scratch, apart, size, before, after)
 }
 
 // A new wire: by how much the second cell is above the first.
-fn cells_apart<S: Sink>(s: &mut S, before: &LineBits, after: &LineBits) -> Put<Wire>
+fn cells_apart<S: Sink>(
+    s: &mut S,
+    scratch: &mut Scratch,
+    before: &LineBits,
+    after: &LineBits,
+) -> Put<Wire>
     requires room { Room S.meaning s.old 1 1 }
     requires before_widths { HasWidths before.now }
     requires after_widths { HasWidths after.now }
@@ -43,13 +66,19 @@ fn cells_apart<S: Sink>(s: &mut S, before: &LineBits, after: &LineBits) -> Put<W
     ensures grows { IfOk result (λ _. Grows S.meaning s.old s.new 1 1) }
     ensures below { IfOk result (λ apart. apart < S.meaning.wires s.new) }
 {
-    let mut difference = after.cell.lc();
-    before.cell.plus_to(&mut difference, -F::ONE);
-    kept(s, &difference)
+    after.cell.fill(&mut scratch.a);
+    before.cell.plus_to(&mut scratch.a, -F::ONE);
+    kept_by(s, &mut scratch.b, &mut scratch.c, &scratch.a)
 }
 
 // The second line's old word is the first's new one where the cells are not apart, and else 0.
-fn carried<S: Sink>(s: &mut S, apart: Wire, before: &LineBits, after: &LineBits) -> Put<()>
+fn carried<S: Sink>(
+    s: &mut S,
+    scratch: &mut Scratch,
+    apart: Wire,
+    before: &LineBits,
+    after: &LineBits,
+) -> Put<()>
     requires room { Room S.meaning s.old 2 3 }
     requires before_widths { HasWidths before.now }
     requires after_widths { HasWidths after.now }
@@ -59,19 +88,25 @@ fn carried<S: Sink>(s: &mut S, apart: Wire, before: &LineBits, after: &LineBits)
     ensures puts { PutsIn S.meaning s.old s.new (carried_of apart before.now after.now) result }
     ensures grows { IfOk result (λ _. Grows S.meaning s.old s.new 2 3) }
 {
-    let same = zero(s, &Lc::wire(apart))?;
-    s.put(&Lc::wire(same), &before.new.lc(), &after.old.lc())
+    scratch.a.set_wire(apart);
+    let same = zero_by(s, &mut scratch.b, &mut scratch.c, &scratch.a)?;
+    scratch.a.set_wire(same);
+    before.new.fill(&mut scratch.b);
+    after.old.fill(&mut scratch.c);
+    s.put(&scratch.a, &scratch.b, &scratch.c)
 }
 
 // A new wire that is from 1 to 2^11.
-fn new_size<S: Sink>(s: &mut S) -> Put<Wire>
+fn new_size<S: Sink>(s: &mut S, scratch: &mut Scratch) -> Put<Wire>
     requires room { Room S.meaning s.old 12 12 }
     ensures puts { PutsIn S.meaning s.old s.new (size_of 11) result }
     ensures grows { IfOk result (λ _. Grows S.meaning s.old s.new 12 12) }
     ensures below { IfOk result (λ size. size < S.meaning.wires s.new) }
 {
-    let bits = new_bits(s, CHUNK)?;
-    kept(s, &bits.plus_one())
+    let bits = new_bits_by(s, &mut scratch.a, CHUNK)?;
+    bits.fill(&mut scratch.a);
+    scratch.a.plus(F::ONE, Wire(0));
+    kept_by(s, &mut scratch.b, &mut scratch.c, &scratch.a)
 }
 
 /// Holds the first line in address order to an old word of 0. It makes no wire and 1 constraint, of

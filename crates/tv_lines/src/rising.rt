@@ -11,9 +11,9 @@ ghost use Rattle.tv_lines.specs.SortedPair.{rises_of, size};
 ghost use Rattle.tv_lines.specs.Unpacking.{HasWidths, AreMade, key_end};
 
 use crate::rows::LineBits;
-use tv_bits::{Bits, first_difference, times};
+use tv_bits::{Bits, first_difference, times_by};
 use tv_core::limits::TIME_BITS;
-use tv_core::{F, Lc, LineNum, Put, Sink, Values, Wire};
+use tv_core::{F, Lc, LineNum, Put, Scratch, Sink, Values, Wire};
 
 // Cells are cut into three chunks of 11 bits, and times into two.
 pub(crate) const CHUNK: u32 = 11;
@@ -28,6 +28,7 @@ const PREFIXES: u32 = CELL_CHUNKS + TIME_CHUNKS;
 // 4 constraints.
 pub(crate) fn rises<S: Sink>(
     s: &mut S,
+    scratch: &mut Scratch,
     apart: Wire,
     size: Wire,
     before: &LineBits,
@@ -44,16 +45,15 @@ pub(crate) fn rises<S: Sink>(
         result }
     ensures grows { IfOk result (λ _. Grows S.meaning s.old s.new 3 4) }
 {
-    let mut product = Lc::empty();
-    fill_factor(&mut product, 0, apart, size, before, after);
-    let mut factor = Lc::empty();
+    fill_factor(&mut scratch.a, 0, apart, size, before, after);
     for i in 0..PREFIXES - 2 {
-        fill_factor(&mut factor, i + 1, apart, size, before, after);
-        let w = times(s, &product, &factor)?;
-        product.set_wire(w);
+        fill_factor(&mut scratch.b, i + 1, apart, size, before, after);
+        let w = times_by(s, &mut scratch.c, &scratch.a, &scratch.b)?;
+        scratch.a.set_wire(w);
     }
-    fill_factor(&mut factor, PREFIXES - 1, apart, size, before, after);
-    s.put(&product, &factor, &Lc::empty())
+    fill_factor(&mut scratch.b, PREFIXES - 1, apart, size, before, after);
+    scratch.c.clear();
+    s.put(&scratch.a, &scratch.b, &scratch.c)
 }
 
 // Makes `lc` the difference of prefix number `j` less `size`.

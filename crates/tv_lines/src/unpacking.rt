@@ -7,9 +7,9 @@ ghost use Rattle.tv_lines.specs.Unpacking.{HasWidths, AreMade, line_bits, unpack
 ghost use Rattle.tv_lines.specs.Unpacking.{UnpackIsSound, UnpackIsComplete, UnpackSizes};
 
 use crate::rows::LineBits;
-use tv_bits::{Bits, bits, fill_bits};
+use tv_bits::{Bits, bits_by, fill_bits};
 use tv_core::limits::{CELL_BITS, TIME_BITS};
-use tv_core::{Pair, PairNum, Put, Sink, Values, Wire};
+use tv_core::{Pair, PairNum, Put, Scratch, Sink, Values, Wire};
 
 // The bits of a word, which stand below those of the cell or of the time.
 const WORD_BITS: u32 = 32;
@@ -26,8 +26,21 @@ pub fn unpack<S: Sink>(s: &mut S, pair: &Pair) -> Put<LineBits>
     ensures widths { IfOk result (λ line. HasWidths line) }
     ensures below { IfOk result (λ line. AreMade line (S.meaning.wires s.new)) }
 {
-    let first = bits(s, &pair.first, WORD_BITS + CELL_BITS)?;
-    let second = bits(s, &pair.second, WORD_BITS + TIME_BITS)?;
+    unpack_by(s, &mut Scratch::new(), pair)
+}
+
+/// The same, by combinations that are filled again.
+pub fn unpack_by<S: Sink>(s: &mut S, scratch: &mut Scratch, pair: &Pair) -> Put<LineBits>
+    requires room { Room S.meaning s.old 115 117 }
+    requires first_made { top pair.now.first ≤ S.meaning.wires s.old }
+    requires second_made { top pair.now.second ≤ S.meaning.wires s.old }
+    ensures puts { PutsIn S.meaning s.old s.new (unpack_of pair.now) result }
+    ensures grows { IfOk result (λ _. Grows S.meaning s.old s.new 115 117) }
+    ensures widths { IfOk result (λ line. HasWidths line) }
+    ensures below { IfOk result (λ line. AreMade line (S.meaning.wires s.new)) }
+{
+    let first = bits_by(s, scratch, &pair.first, WORD_BITS + CELL_BITS)?;
+    let second = bits_by(s, scratch, &pair.second, WORD_BITS + TIME_BITS)?;
     Ok(line_bits(first.first, second.first))
 }
 

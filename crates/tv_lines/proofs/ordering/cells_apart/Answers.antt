@@ -3,4 +3,4 @@ use Rattle.tv_lines.proofs.ordering.cells_apart.Goals as goal
 
 pub returns-clause-puts : goal.returns-clause-puts
 unfolding apart_of
-returns-clause-puts g c = rw (c.plus_to.ensures.terms, c.lc-difference.ensures.terms, c.neg.ensures) at c.kept.ensures.puts
+returns-clause-puts g c = rw (c.plus_to.ensures.terms, c.fill.ensures.terms, c.neg.ensures) at c.kept_by.ensures.puts

@@ -11,5 +11,5 @@ returns-in_err-bits-clause-puts g c =
 pub returns-clause-puts : goal.returns-clause-puts
 unfolding size_of
 returns-clause-puts g c =
-    let sum = rw c.plus_one.ensures.terms at c.kept.ensures.puts in
+    let sum = rw (c.plus.ensures.terms, c.fill.ensures.terms) at c.kept_by.ensures.puts in
     puts_in_then g.S.Sink.meaning _ _ _ _ _ _ _ c.in_ok-bits.ensures.puts sum

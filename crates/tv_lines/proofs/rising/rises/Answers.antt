@@ -40,5 +40,5 @@ pub returns-clause-puts : goal.returns-clause-puts
 unfolding rises_of
 returns-clause-puts g c =
     let factor : ℕ → Combination = λ j. less (prefix_less 11 3 c.args.apart c.args.before.now c.args.after.now j) (wire c.args.size) in
-    let last = rw (c.fill_factor-2.ensures.terms, c.empty.ensures) at c.put.ensures.puts in
+    let last = rw (c.fill_factor-2.ensures.terms, c.clear.ensures) at c.put.ensures.puts in
     last_product g.S.Sink.meaning factor 5 c.loop-i.i _ _ _ _ _ (omega arith) c.loop-i.invariant.puts last

@@ -11,7 +11,7 @@ abbrev pub invariant-loop-i : goal.invariant-loop-i
 invariant-loop-i g l =
     let factor : ℕ → Combination = λ j. less (prefix_less 11 3 l.apart l.before l.after j) (wire l.size) in
     record {
-      puts : PutsAll g.S.Sink.meaning l.initial.s l.s (turns l.i (next_product factor) (factor 0)) l.product;
+      puts : PutsAll g.S.Sink.meaning l.initial.s l.s (turns l.i (next_product factor) (factor 0)) l.scratch.a;
       grows : Grows g.S.Sink.meaning l.initial.s l.s l.i l.i;
-      made : top l.product ≤ g.S.Sink.meaning.wires l.s;
+      made : top l.scratch.a ≤ g.S.Sink.meaning.wires l.s;
     }
