@@ -6,9 +6,9 @@ ghost use Rattle.tv_muldiv.specs.Product.{product_bits_of, product_of, product_v
 ghost use Rattle.tv_muldiv.specs.Product.{ProductIsSound, ProductIsComplete, ProductSizes};
 
 use crate::records::Product;
-use crate::weighing::{fill_halves, long};
-use tv_bits::{Bits, fill_nonzero, new_bits, nonzero};
-use tv_core::{F, Lc, Put, Sink, Values, Wire};
+use crate::weighing::{fill_halves, fill_long};
+use tv_bits::{Bits, fill_nonzero, new_bits_by, nonzero_by};
+use tv_core::{F, Put, Scratch, Sink, Values, Wire};
 
 /// Wires that spell the low and the high word of the product of two words of `W` bits, and one that
 /// is 1 exactly where the high word isn't 0. It makes `2 W + 2` wires and `2 W + 3` constraints, of
@@ -27,19 +27,26 @@ pub fn product<const W: u32, S: Sink>(s: &mut S, x: &Bits, y: &Bits) -> Put<Prod
     ensures high_below { IfOk result (λ made. made.high.first + W ≤ S.meaning.wires s.new) }
     ensures over_below { IfOk result (λ made. made.over < S.meaning.wires s.new) }
 {
-    let first = product_bits::<W, S>(s, x, y)?;
+    let mut scratch = Scratch::new();
+    let first = product_bits::<W, S>(s, &mut scratch, x, y)?;
     let low = Bits { first, n: W };
     let high = Bits {
         first: first.offset(W),
         n: W,
     };
-    let over = nonzero(s, &high.lc())?;
+    high.fill(&mut scratch.a);
+    let over = nonzero_by(s, &mut scratch.b, &mut scratch.c, &scratch.a)?;
     Ok(Product { low, high, over })
 }
 
 // The first of `2 W` wires that spell the product. The lowest needs no constraint of its own: it is
 // a product of two bits.
-fn product_bits<const W: u32, S: Sink>(s: &mut S, x: &Bits, y: &Bits) -> Put<Wire>
+fn product_bits<const W: u32, S: Sink>(
+    s: &mut S,
+    scratch: &mut Scratch,
+    x: &Bits,
+    y: &Bits,
+) -> Put<Wire>
     requires width { IsWidth W }
     requires room { Room S.meaning s.old (2 * W) (2 * W + 1) }
     requires x_word { x.now.n ≡ W }
@@ -51,9 +58,15 @@ fn product_bits<const W: u32, S: Sink>(s: &mut S, x: &Bits, y: &Bits) -> Put<Wir
     ensures below { IfOk result (λ first. first + 2 * W ≤ S.meaning.wires s.new) }
 {
     let first = s.fresh();
-    new_bits(s, 2 * W - 1)?;
-    s.put(&Lc::wire(x.first), &Lc::wire(y.first), &Lc::wire(first))?;
-    s.put(&x.lc(), &y.lc(), &long::<W>(first))?;
+    new_bits_by(s, &mut scratch.a, 2 * W - 1)?;
+    scratch.a.set_wire(x.first);
+    scratch.b.set_wire(y.first);
+    scratch.c.set_wire(first);
+    s.put(&scratch.a, &scratch.b, &scratch.c)?;
+    x.fill(&mut scratch.a);
+    y.fill(&mut scratch.b);
+    fill_long::<W>(&mut scratch.c, first);
+    s.put(&scratch.a, &scratch.b, &scratch.c)?;
     Ok(first)
 }
 

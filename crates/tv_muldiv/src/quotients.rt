@@ -11,9 +11,10 @@ ghost use Rattle.tv_word.specs.Widths.{IsWidth};
 
 use crate::records::Quot;
 use tv_bits::{
-    Bits, bit, fill_bits, fill_prefix_difference, first_difference, new_bits, prefix_difference,
+    Bits, bit_by, fill_bits, fill_prefix_difference, first_difference, new_bits_by,
+    prefix_difference_by,
 };
-use tv_core::{F, Lc, Put, Sink, Values, Wire, give_values};
+use tv_core::{F, Put, Scratch, Sink, Values, Wire, give_values};
 use tv_word::arithmetic;
 
 // Words are cut into this many chunks.
@@ -38,14 +39,15 @@ pub fn quotient<const W: u32, S: Sink>(s: &mut S, x: &Bits, y: &Bits) -> Put<Quo
     ensures rem_below { IfOk result (λ made. made.rem.first + W ≤ S.meaning.wires s.new) }
     ensures by_zero_below { IfOk result (λ made. made.by_zero < S.meaning.wires s.new) }
 {
-    let made = quotient_wires::<W, S>(s, y)?;
-    division::<W, S>(s, x, y, &made)?;
-    remainder_below::<W, S>(s, y, &made)?;
+    let mut scratch = Scratch::new();
+    let made = quotient_wires::<W, S>(s, &mut scratch, y)?;
+    division::<W, S>(s, &mut scratch, x, y, &made)?;
+    remainder_below::<W, S>(s, &mut scratch, y, &made)?;
     Ok(made)
 }
 
 // Bits for the quotient and the remainder, and the wire that tells whether the divisor is 0.
-fn quotient_wires<const W: u32, S: Sink>(s: &mut S, y: &Bits) -> Put<Quot>
+fn quotient_wires<const W: u32, S: Sink>(s: &mut S, scratch: &mut Scratch, y: &Bits) -> Put<Quot>
     requires width { IsWidth W }
     requires room { Room S.meaning s.old (2 * W + 1) (2 * W + 2) }
     requires y_word { y.now.n ≡ W }
@@ -57,14 +59,14 @@ fn quotient_wires<const W: u32, S: Sink>(s: &mut S, y: &Bits) -> Put<Quot>
     ensures rem_below { IfOk result (λ made. made.rem.first + W ≤ S.meaning.wires s.new) }
     ensures by_zero_below { IfOk result (λ made. made.by_zero < S.meaning.wires s.new) }
 {
-    let quot = new_bits(s, W)?;
-    let rem = new_bits(s, W)?;
-    let by_zero = zero_divisor::<W, S>(s, y)?;
+    let quot = new_bits_by(s, &mut scratch.a, W)?;
+    let rem = new_bits_by(s, &mut scratch.a, W)?;
+    let by_zero = zero_divisor::<W, S>(s, scratch, y)?;
     Ok(Quot { quot, rem, by_zero })
 }
 
 // A bit that is 0 where `y` isn't.
-fn zero_divisor<const W: u32, S: Sink>(s: &mut S, y: &Bits) -> Put<Wire>
+fn zero_divisor<const W: u32, S: Sink>(s: &mut S, scratch: &mut Scratch, y: &Bits) -> Put<Wire>
     requires width { IsWidth W }
     requires room { Room S.meaning s.old 1 2 }
     requires y_word { y.now.n ≡ W }
@@ -74,13 +76,22 @@ fn zero_divisor<const W: u32, S: Sink>(s: &mut S, y: &Bits) -> Put<Wire>
     ensures below { IfOk result (λ by_zero. by_zero < S.meaning.wires s.new) }
 {
     let by_zero = s.fresh();
-    bit(s, by_zero)?;
-    s.put(&Lc::wire(by_zero), &y.lc(), &Lc::empty())?;
+    bit_by(s, &mut scratch.a, by_zero)?;
+    scratch.a.set_wire(by_zero);
+    y.fill(&mut scratch.b);
+    scratch.c.clear();
+    s.put(&scratch.a, &scratch.b, &scratch.c)?;
     Ok(by_zero)
 }
 
 // Holds the quotient times `y` to `x` less the remainder, or both to 0 where the divisor is.
-fn division<const W: u32, S: Sink>(s: &mut S, x: &Bits, y: &Bits, made: &Quot) -> Put<()>
+fn division<const W: u32, S: Sink>(
+    s: &mut S,
+    scratch: &mut Scratch,
+    x: &Bits,
+    y: &Bits,
+    made: &Quot,
+) -> Put<()>
     requires width { IsWidth W }
     requires room { Room S.meaning s.old 1 2 }
     requires x_word { x.now.n ≡ W }
@@ -95,15 +106,17 @@ fn division<const W: u32, S: Sink>(s: &mut S, x: &Bits, y: &Bits, made: &Quot) -
     ensures puts { PutsIn S.meaning s.old s.new (division_of W x.now y.now made.now) result }
     ensures grows { IfOk result (λ _. Grows S.meaning s.old s.new 1 2) }
 {
-    let gate = gate::<W, S>(s, x, made)?;
-    let mut rest = x.lc();
-    made.rem.plus_to(&mut rest, -F::ONE);
-    rest.plus(-F::ONE, gate);
-    s.put(&made.quot.lc(), &y.lc(), &rest)
+    let gate = gate::<W, S>(s, scratch, x, made)?;
+    made.quot.fill(&mut scratch.a);
+    y.fill(&mut scratch.b);
+    x.fill(&mut scratch.c);
+    made.rem.plus_to(&mut scratch.c, -F::ONE);
+    scratch.c.plus(-F::ONE, gate);
+    s.put(&scratch.a, &scratch.b, &scratch.c)
 }
 
 // A wire that is `x` plus the quotient where the divisor is 0, and else 0.
-fn gate<const W: u32, S: Sink>(s: &mut S, x: &Bits, made: &Quot) -> Put<Wire>
+fn gate<const W: u32, S: Sink>(s: &mut S, scratch: &mut Scratch, x: &Bits, made: &Quot) -> Put<Wire>
     requires width { IsWidth W }
     requires room { Room S.meaning s.old 1 1 }
     requires x_word { x.now.n ≡ W }
@@ -116,14 +129,21 @@ fn gate<const W: u32, S: Sink>(s: &mut S, x: &Bits, made: &Quot) -> Put<Wire>
     ensures below { IfOk result (λ gate. gate < S.meaning.wires s.new) }
 {
     let gate = s.fresh();
-    let mut sum = x.lc();
-    made.quot.plus_to(&mut sum, F::ONE);
-    s.put(&Lc::wire(made.by_zero), &sum, &Lc::wire(gate))?;
+    scratch.a.set_wire(made.by_zero);
+    x.fill(&mut scratch.b);
+    made.quot.plus_to(&mut scratch.b, F::ONE);
+    scratch.c.set_wire(gate);
+    s.put(&scratch.a, &scratch.b, &scratch.c)?;
     Ok(gate)
 }
 
 // Holds the remainder below `y`, unless the divisor is 0.
-fn remainder_below<const W: u32, S: Sink>(s: &mut S, y: &Bits, made: &Quot) -> Put<()>
+fn remainder_below<const W: u32, S: Sink>(
+    s: &mut S,
+    scratch: &mut Scratch,
+    y: &Bits,
+    made: &Quot,
+) -> Put<()>
     requires width { IsWidth W }
     requires room { Room S.meaning s.old (W / 4 + 2) (W / 4 + 3) }
     requires y_word { y.now.n ≡ W }
@@ -134,10 +154,10 @@ fn remainder_below<const W: u32, S: Sink>(s: &mut S, y: &Bits, made: &Quot) -> P
     ensures puts { PutsIn S.meaning s.old s.new (remainder_below_of W y.now made.now) result }
     ensures grows { IfOk result (λ _. Grows S.meaning s.old s.new (W / 4 + 2) (W / 4 + 3)) }
 {
-    let above = new_bits(s, W / CHUNKS)?;
+    let above = new_bits_by(s, &mut scratch.a, W / CHUNKS)?;
     let mut difference = above.plus_one();
     difference.plus(-F::ONE, made.by_zero);
-    prefix_difference(s, y, &made.rem, &difference, W / CHUNKS, CHUNKS)
+    prefix_difference_by(s, scratch, y, &made.rem, &difference, W / CHUNKS, CHUNKS)
 }
 
 /// Gives the `2 W + W / 4 + 4` values of the wires that `quotient` makes for bits that spell `x`

@@ -9,9 +9,9 @@ ghost use Rattle.tv_muldiv.specs.SignedHigh.{SignedHighSizes};
 ghost use Rattle.tv_word.specs.Widths.{IsWidth};
 
 use crate::records::High;
-use crate::weighing::{fill_halves, signed_number};
-use tv_bits::{Bits, fill_nonzero, new_bits, nonzero};
-use tv_core::{F, Lc, Put, Sink, Values, Wire};
+use crate::weighing::{fill_halves, fill_signed_number};
+use tv_bits::{Bits, fill_nonzero, new_bits_by, nonzero_by};
+use tv_core::{F, Lc, Put, Scratch, Sink, Values, Wire};
 use tv_word::arithmetic::signed_word;
 
 /// Wires that spell the high word of the product of two words of `W` bits as signed numbers, and
@@ -30,14 +30,21 @@ pub fn signed_high<const W: u32, S: Sink>(s: &mut S, x: &Bits, y: &Bits) -> Put<
     ensures high_below { IfOk result (λ made. made.high.first + W ≤ S.meaning.wires s.new) }
     ensures over_below { IfOk result (λ made. made.over < S.meaning.wires s.new) }
 {
-    let made = signed_bits::<W, S>(s, x, y)?;
-    let over = nonzero(s, &excess::<W>(made.first))?;
+    let mut scratch = Scratch::new();
+    let made = signed_bits::<W, S>(s, &mut scratch, x, y)?;
+    fill_excess::<W>(&mut scratch.a, made.first);
+    let over = nonzero_by(s, &mut scratch.b, &mut scratch.c, &scratch.a)?;
     let high = made.above(W);
     Ok(High { high, over })
 }
 
 // `2 W` bits that spell the product in two's complement.
-fn signed_bits<const W: u32, S: Sink>(s: &mut S, x: &Bits, y: &Bits) -> Put<Bits>
+fn signed_bits<const W: u32, S: Sink>(
+    s: &mut S,
+    scratch: &mut Scratch,
+    x: &Bits,
+    y: &Bits,
+) -> Put<Bits>
     requires width { IsWidth W }
     requires room { Room S.meaning s.old (2 * W) (2 * W + 1) }
     requires x_word { x.now.n ≡ W }
@@ -49,29 +56,27 @@ fn signed_bits<const W: u32, S: Sink>(s: &mut S, x: &Bits, y: &Bits) -> Put<Bits
     ensures size { IfOk result (λ made. made.n ≡ 2 * W) }
     ensures below { IfOk result (λ made. made.first + 2 * W ≤ S.meaning.wires s.new) }
 {
-    let made = new_bits(s, 2 * W)?;
-    s.put(
-        &signed_number(x.first, W),
-        &signed_number(y.first, W),
-        &signed_number(made.first, 2 * W),
-    )?;
+    let made = new_bits_by(s, &mut scratch.a, 2 * W)?;
+    fill_signed_number(&mut scratch.a, x.first, W);
+    fill_signed_number(&mut scratch.b, y.first, W);
+    fill_signed_number(&mut scratch.c, made.first, 2 * W);
+    s.put(&scratch.a, &scratch.b, &scratch.c)?;
     Ok(made)
 }
 
-// The high word of `2 W` bits less 2^`W` - 1 times the highest bit of the low word.
-fn excess<const W: u32>(first: Wire) -> Lc
+// Makes `lc` the high word of `2 W` bits less 2^`W` - 1 times the highest bit of the low word.
+fn fill_excess<const W: u32>(lc: &mut Lc, first: Wire)
     requires width { IsWidth W }
     requires within { first + 2 * W < 2 ^ 32 }
-    ensures terms { result ≡ excess first W }
-    ensures top { top result ≤ first + 2 * W }
+    ensures terms { lc.new ≡ excess first W }
+    ensures top { top lc.new ≤ first + 2 * W }
 {
-    let mut lc = Bits {
+    let high = Bits {
         first: first.offset(W),
         n: W,
-    }
-    .lc();
+    };
+    high.fill(lc);
     lc.plus(-F::of((1 << W) - 1), first.offset(W - 1));
-    lc
 }
 
 /// Gives the `2 W + 2` values of the wires that `signed_high` makes for bits that spell `x` and

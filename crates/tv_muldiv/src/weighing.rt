@@ -1,4 +1,4 @@
-ghost use Rattle.std.specs.Prelude.{◌≡◌, ◌+◌, ◌*◌, ◌≤◌, ◌<◌, ◌^◌, false, length, OnOk};
+ghost use Rattle.std.specs.Prelude.{◌≡◌, ◌+◌, ◌*◌, ◌≤◌, ◌<◌, ◌^◌, false, OnOk};
 ghost use Rattle.tv_bits.specs.Bits.{bits_combination};
 ghost use Rattle.tv_core.specs.Combinations.{top};
 ghost use Rattle.tv_core.specs.Giving.{GivesIn};
@@ -8,40 +8,39 @@ ghost use Rattle.tv_word.specs.Widths.{IsWidth};
 use tv_bits::{Bits, fill_bits};
 use tv_core::{F, Lc, Put, Values, Wire};
 
-/// `n` wires from a first one on, each times its power of 2, but the last times a weight.
-pub(crate) fn weighed(first: Wire, n: u32, weight: F) -> Lc
+// Makes `lc` `n` wires from a first one on, each times its power of 2, but the last times a weight.
+fn fill_weighed(lc: &mut Lc, first: Wire, n: u32, weight: F)
     requires some { 1 ≤ n }
     requires short { n ≤ 64 }
     requires within { first + n < 2 ^ 32 }
-    ensures terms { result ≡ weighed first n weight }
-    ensures top { top result ≤ first + n }
-    ensures len { length result ≡ n }
+    ensures terms { lc.new ≡ weighed first n weight }
+    ensures top { top lc.new ≤ first + n }
 {
     let last = n - 1;
-    let mut lc = Bits { first, n: last }.lc();
+    Bits { first, n: last }.fill(lc);
     lc.plus(weight, first.offset(last));
-    lc
 }
 
-/// The number that `n` wires from a first one on spell in two's complement, `n` from 1 to 64.
-pub(crate) fn signed_number(first: Wire, n: u32) -> Lc
+/// Makes `lc` the number that `n` wires from a first one on spell in two's complement, `n` from 1
+/// to 64.
+pub(crate) fn fill_signed_number(lc: &mut Lc, first: Wire, n: u32)
     requires some { 1 ≤ n }
     requires short { n ≤ 64 }
     requires within { first + n < 2 ^ 32 }
-    ensures terms { result ≡ signed_combination first n }
-    ensures top { top result ≤ first + n }
+    ensures terms { lc.new ≡ signed_combination first n }
+    ensures top { top lc.new ≤ first + n }
 {
-    weighed(first, n, -F::of(1 << (n - 1)))
+    fill_weighed(lc, first, n, -F::of(1 << (n - 1)));
 }
 
-/// The number that `2 W` wires from a first one on spell.
-pub(crate) fn long<const W: u32>(first: Wire) -> Lc
+/// Makes `lc` the number that `2 W` wires from a first one on spell.
+pub(crate) fn fill_long<const W: u32>(lc: &mut Lc, first: Wire)
     requires width { IsWidth W }
     requires within { first + 2 * W < 2 ^ 32 }
-    ensures terms { result ≡ bits_combination first (2 * W) }
-    ensures top { top result ≤ first + 2 * W }
+    ensures terms { lc.new ≡ bits_combination first (2 * W) }
+    ensures top { top lc.new ≤ first + 2 * W }
 {
-    weighed(first, 2 * W, F::of(1 << (2 * W - 1)))
+    fill_weighed(lc, first, 2 * W, F::of(1 << (2 * W - 1)));
 }
 
 /// Gives the `2 W` bits of a number, lowest first.
