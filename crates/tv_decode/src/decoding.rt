@@ -7,8 +7,8 @@ ghost use Rattle.tv_isa.specs.Instruction.{decode};
 ghost use Rattle.tv_word.specs.Widths.{IsWidth};
 
 use crate::records::Fields;
-use tv_bits::{Bits, fill_onehot, onehot};
-use tv_core::{Put, Sink, Values};
+use tv_bits::{Bits, fill_onehot, onehot_by};
+use tv_core::{Put, Scratch, Sink, Values};
 use tv_isa::decode;
 
 /// The fields of the instruction that the bits of two words of `W` bits spell. Of the first word,
@@ -29,10 +29,11 @@ pub fn fields<const W: u32, S: Sink>(s: &mut S, h: &Bits, a: &Bits) -> Put<Field
     ensures source_below { IfOk result (λ made. made.source + 16 ≤ S.meaning.wires s.new) }
     ensures reg_below { IfOk result (λ made. made.reg + 16 ≤ S.meaning.wires s.new) }
 {
-    let op = onehot(s, &h.part(W - 5, 5))?;
-    let dest = onehot(s, &h.part(W - 10, 4))?;
-    let source = onehot(s, &h.part(W - 14, 4))?;
-    let reg = onehot(s, &a.part(0, 4))?;
+    let mut scratch = Scratch::new();
+    let op = onehot_by(s, &mut scratch, &h.part(W - 5, 5))?;
+    let dest = onehot_by(s, &mut scratch, &h.part(W - 10, 4))?;
+    let source = onehot_by(s, &mut scratch, &h.part(W - 14, 4))?;
+    let reg = onehot_by(s, &mut scratch, &a.part(0, 4))?;
     Ok(Fields {
         op,
         imm: h.first.offset(W - 6),
