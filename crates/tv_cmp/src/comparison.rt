@@ -8,9 +8,10 @@ ghost use Rattle.tv_word.specs.Widths.{IsWidth};
 ghost use Rattle.tv_word.specs.Word.{signed};
 
 use tv_bits::{
-    Bits, bit, fill_bits, fill_prefix_difference, first_difference, new_bits, prefix_difference,
+    Bits, bit_by, fill_bits, fill_prefix_difference, first_difference, new_bits_by,
+    prefix_difference_by,
 };
-use tv_core::{F, Lc, Put, Sink, Values, Wire, give_values};
+use tv_core::{F, Lc, Put, Scratch, Sink, Values, Wire, give_values};
 use tv_word::arithmetic::signed_word;
 
 // Words are cut into this many chunks.
@@ -44,10 +45,12 @@ pub fn compare<const W: u32, S: Sink>(s: &mut S, x: &Bits, y: &Bits) -> Put<Cmp>
 {
     let equal = s.fresh();
     let above = s.fresh();
-    order_flags::<W, S>(s, equal, above, x, y)?;
-    let difference = signed_size::<W, S>(s, equal, above)?;
-    prefix_difference(s, x, y, &Lc::wire(difference), W / CHUNKS, CHUNKS)?;
-    let greater = greater::<W, S>(s, above, x, y)?;
+    let mut scratch = Scratch::new();
+    order_flags::<W, S>(s, &mut scratch, equal, above, x, y)?;
+    let difference = signed_size::<W, S>(s, &mut scratch, equal, above)?;
+    let size = Lc::wire(difference);
+    prefix_difference_by(s, &mut scratch, x, y, &size, W / CHUNKS, CHUNKS)?;
+    let greater = greater::<W, S>(s, &mut scratch, above, x, y)?;
     Ok(Cmp {
         equal,
         above,
@@ -58,6 +61,7 @@ pub fn compare<const W: u32, S: Sink>(s: &mut S, x: &Bits, y: &Bits) -> Put<Cmp>
 // Holds `above` to 0 and 1, and `equal` to 0 where the words differ and where `above` is 1.
 fn order_flags<const W: u32, S: Sink>(
     s: &mut S,
+    scratch: &mut Scratch,
     equal: Wire,
     above: Wire,
     x: &Bits,
@@ -74,19 +78,24 @@ fn order_flags<const W: u32, S: Sink>(
     ensures puts { PutsIn S.meaning s.old s.new (order_flags_of W equal above x.now y.now) result }
     ensures grows { IfOk result (λ _. Grows S.meaning s.old s.new 0 3) }
 {
-    bit(s, above)?;
-    let is_equal = Lc::wire(equal);
-    let none = Lc::empty();
-    let mut factor = x.lc();
-    y.plus_to(&mut factor, -F::ONE);
-    s.put(&is_equal, &factor, &none)?;
-    factor.set_wire(above);
-    s.put(&factor, &is_equal, &none)
+    bit_by(s, &mut scratch.a, above)?;
+    scratch.a.set_wire(equal);
+    x.fill(&mut scratch.b);
+    y.plus_to(&mut scratch.b, -F::ONE);
+    scratch.c.clear();
+    s.put(&scratch.a, &scratch.b, &scratch.c)?;
+    scratch.b.set_wire(above);
+    s.put(&scratch.b, &scratch.a, &scratch.c)
 }
 
 // A number from 1 to 2^(`W / 4`): itself where `above` is 1, negative where `above` and `equal` are
 // 0, and 0 where `equal` is 1.
-fn signed_size<const W: u32, S: Sink>(s: &mut S, equal: Wire, above: Wire) -> Put<Wire>
+fn signed_size<const W: u32, S: Sink>(
+    s: &mut S,
+    scratch: &mut Scratch,
+    equal: Wire,
+    above: Wire,
+) -> Put<Wire>
     requires width { IsWidth W }
     requires room { Room S.meaning s.old (W / 4 + 1) (W / 4 + 1) }
     requires equal_made { equal < S.meaning.wires s.old }
@@ -95,25 +104,34 @@ fn signed_size<const W: u32, S: Sink>(s: &mut S, equal: Wire, above: Wire) -> Pu
     ensures grows { IfOk result (λ _. Grows S.meaning s.old s.new (W / 4 + 1) (W / 4 + 1)) }
     ensures below { IfOk result (λ difference. difference < S.meaning.wires s.new) }
 {
-    let size = new_bits(s, W / CHUNKS)?;
+    let size = new_bits_by(s, &mut scratch.a, W / CHUNKS)?;
     let difference = s.fresh();
-    s.put(&sign(equal, above), &size.plus_one(), &Lc::wire(difference))?;
+    set_sign(&mut scratch.a, equal, above);
+    size.fill(&mut scratch.b);
+    scratch.b.plus(F::ONE, Wire(0));
+    scratch.c.set_wire(difference);
+    s.put(&scratch.a, &scratch.b, &scratch.c)?;
     Ok(difference)
 }
 
-// 1 where `above` is 1, 0 where `equal` is 1, and -1 where both are 0.
-fn sign(equal: Wire, above: Wire) -> Lc
-    ensures { result ≡ sign equal above }
+// Makes `lc` 1 where `above` is 1, 0 where `equal` is 1, and -1 where both are 0.
+fn set_sign(lc: &mut Lc, equal: Wire, above: Wire)
+    ensures { lc.new ≡ sign equal above }
 {
-    let mut lc = Lc::empty();
+    lc.clear();
     lc.plus(F::of(2), above);
     lc.plus(F::ONE, equal);
     lc.plus(-F::ONE, Wire(0));
-    lc
 }
 
 // Whether the first word is greater, from whether it is above and the words' sign bits.
-fn greater<const W: u32, S: Sink>(s: &mut S, above: Wire, x: &Bits, y: &Bits) -> Put<Wire>
+fn greater<const W: u32, S: Sink>(
+    s: &mut S,
+    scratch: &mut Scratch,
+    above: Wire,
+    x: &Bits,
+    y: &Bits,
+) -> Put<Wire>
     requires width { IsWidth W }
     requires room { Room S.meaning s.old 1 1 }
     requires x_made { x.now.first + W ≤ S.meaning.wires s.old }
@@ -124,19 +142,21 @@ fn greater<const W: u32, S: Sink>(s: &mut S, above: Wire, x: &Bits, y: &Bits) ->
     ensures below { IfOk result (λ greater. greater < S.meaning.wires s.new) }
 {
     let greater = s.fresh();
-    let is_greater = but_for_signs(above, x.first.offset(W - 1), y.first.offset(W - 1));
-    s.put(&Lc::wire(greater), &Lc::constant(F::ONE), &is_greater)?;
+    let (x, y) = (x.first.offset(W - 1), y.first.offset(W - 1));
+    scratch.a.set_wire(greater);
+    scratch.b.set_wire(Wire(0));
+    set_but_for_signs(&mut scratch.c, above, x, y);
+    s.put(&scratch.a, &scratch.b, &scratch.c)?;
     Ok(greater)
 }
 
-// `above`, and `y` less `x`.
-fn but_for_signs(above: Wire, x: Wire, y: Wire) -> Lc
-    ensures { result ≡ but_for_signs above x y }
+// Makes `lc` `above`, and `y` less `x`.
+fn set_but_for_signs(lc: &mut Lc, above: Wire, x: Wire, y: Wire)
+    ensures { lc.new ≡ but_for_signs above x y }
 {
-    let mut lc = Lc::wire(above);
+    lc.set_wire(above);
     lc.plus(F::ONE, y);
     lc.plus(-F::ONE, x);
-    lc
 }
 
 /// Gives the `W / 4 + 6` values of the wires that `compare` makes for two words of `W` bits.
