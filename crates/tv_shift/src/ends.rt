@@ -8,8 +8,8 @@ ghost use Rattle.tv_shift.specs.Shift.{by_half_of, by_rest_of, ends_of};
 ghost use Rattle.tv_word.specs.Widths.{IsWidth};
 
 use crate::masks::{Parts, half_log};
-use crate::thermometer::power_lc;
-use tv_bits::{Bits, ratio, select_terms, times};
+use crate::thermometer::fill_power;
+use tv_bits::{Bits, ratio_by, select_terms, times_by};
 use tv_core::{F, Lc, Put, Scratch, Sink, Wire};
 
 /// A word shifted by another: to the left, without what leaves its bits, and to the right.
@@ -22,7 +22,12 @@ pub struct Shift {
 }
 
 // The word shifted by half its bits where bit `b` is 1. It makes 2 wires and 2 constraints.
-pub(crate) fn by_half<const W: u32, S: Sink>(s: &mut S, b: Wire, word: Wire) -> Put<Shift>
+pub(crate) fn by_half<const W: u32, S: Sink>(
+    s: &mut S,
+    scratch: &mut Scratch,
+    b: Wire,
+    word: Wire,
+) -> Put<Shift>
     requires width { IsWidth W }
     requires room { Room S.meaning s.old 2 2 }
     requires b_made { b < S.meaning.wires s.old }
@@ -33,38 +38,38 @@ pub(crate) fn by_half<const W: u32, S: Sink>(s: &mut S, b: Wire, word: Wire) -> 
     ensures right { IfOk result (λ half. half.right < S.meaning.wires s.new) }
 {
     let x = Bits { first: word, n: W }.lc();
-    let mut scratch = Scratch::new();
-    let left = select_terms(
-        s,
-        &mut scratch,
-        b,
-        times_half::<W>(word, W / 2).terms(),
-        x.terms(),
-    )?;
+    let mut shifted = Lc::empty();
+    fill_times_half::<W>(&mut shifted, word, W / 2);
+    let left = select_terms(s, scratch, b, shifted.terms(), x.terms())?;
     let high = Bits {
         first: word.offset(W / 2),
         n: W / 2,
     };
-    let right = select_terms(s, &mut scratch, b, high.lc().terms(), x.terms())?;
+    high.fill(&mut shifted);
+    let right = select_terms(s, scratch, b, shifted.terms(), x.terms())?;
     Ok(Shift { left, right })
 }
 
-// Two to the power of half a word's bits, times the number of `n` bits.
-fn times_half<const W: u32>(first: Wire, n: u32) -> Lc
+// Makes `lc` two to the power of half a word's bits, times the number of `n` bits.
+fn fill_times_half<const W: u32>(lc: &mut Lc, first: Wire, n: u32)
     requires width { IsWidth W }
     requires short { n ≤ 16 }
     requires made { first + n < 2 ^ 32 }
-    ensures terms { result ≡ scaled (2 ^ (W / 2) % P) (bits_combination first n) }
-    ensures len { length result ≡ n }
-    ensures top { top result ≤ first + n }
+    ensures terms { lc.new ≡ scaled (2 ^ (W / 2) % P) (bits_combination first n) }
+    ensures len { length lc.new ≡ n }
+    ensures top { top lc.new ≤ first + n }
 {
-    let mut lc = Lc::empty();
-    Bits { first, n }.plus_to(&mut lc, F::of(1 << (W / 2)));
-    lc
+    lc.clear();
+    Bits { first, n }.plus_to(lc, F::of(1 << (W / 2)));
 }
 
 // The word shifted by the low bits of the distance too. It makes 2 wires and 2 constraints.
-pub(crate) fn by_rest<const W: u32, S: Sink>(s: &mut S, parts: &Parts, half: Shift) -> Put<Shift>
+pub(crate) fn by_rest<const W: u32, S: Sink>(
+    s: &mut S,
+    scratch: &mut Scratch,
+    parts: &Parts,
+    half: Shift,
+) -> Put<Shift>
     requires width { IsWidth W }
     requires room { Room S.meaning s.old 2 2 }
     requires made { AreMade W parts.now.places (S.meaning.wires s.old) }
@@ -77,22 +82,29 @@ pub(crate) fn by_rest<const W: u32, S: Sink>(s: &mut S, parts: &Parts, half: Shi
     ensures left { IfOk result (λ near. near.left < S.meaning.wires s.new) }
     ensures right { IfOk result (λ near. near.right < S.meaning.wires s.new) }
 {
-    let power = power_lc(&parts.places.marks(), half_log::<W>());
-    let mut rest = Lc::wire(half.left);
-    rest.minus(&times_half::<W>(parts.high, W / 4));
-    let left = times(s, &power, &rest)?;
+    let marks = parts.places.marks();
+    fill_power(&mut scratch.a, &mut scratch.b, &marks, half_log::<W>());
+    fill_times_half::<W>(&mut scratch.c, parts.high, W / 4);
+    scratch.b.set_wire(half.left);
+    scratch.b.minus(&scratch.c);
+    let left = times_by(s, &mut scratch.c, &scratch.a, &scratch.b)?;
     let low = Bits {
         first: parts.low,
         n: W / 4,
     };
-    rest.set_wire(half.right);
-    low.plus_to(&mut rest, -F::ONE);
-    let right = ratio(s, &power, &rest)?;
+    scratch.b.set_wire(half.right);
+    low.plus_to(&mut scratch.b, -F::ONE);
+    let right = ratio_by(s, &mut scratch.c, &scratch.a, &scratch.b)?;
     Ok(Shift { left, right })
 }
 
 // The words, or 0 where wire `in_range` is 0. It makes 2 wires and 2 constraints.
-pub(crate) fn ends<S: Sink>(s: &mut S, in_range: Wire, near: Shift) -> Put<Shift>
+pub(crate) fn ends<S: Sink>(
+    s: &mut S,
+    scratch: &mut Scratch,
+    in_range: Wire,
+    near: Shift,
+) -> Put<Shift>
     requires room { Room S.meaning s.old 2 2 }
     requires in_range_made { in_range < S.meaning.wires s.old }
     requires left_made { near.left < S.meaning.wires s.old }
@@ -102,8 +114,10 @@ pub(crate) fn ends<S: Sink>(s: &mut S, in_range: Wire, near: Shift) -> Put<Shift
     ensures left { IfOk result (λ end. end.left < S.meaning.wires s.new) }
     ensures right { IfOk result (λ end. end.right < S.meaning.wires s.new) }
 {
-    let gate = Lc::wire(in_range);
-    let left = times(s, &gate, &Lc::wire(near.left))?;
-    let right = times(s, &gate, &Lc::wire(near.right))?;
+    scratch.a.set_wire(in_range);
+    scratch.b.set_wire(near.left);
+    let left = times_by(s, &mut scratch.c, &scratch.a, &scratch.b)?;
+    scratch.b.set_wire(near.right);
+    let right = times_by(s, &mut scratch.c, &scratch.a, &scratch.b)?;
     Ok(Shift { left, right })
 }

@@ -7,7 +7,13 @@ use tv_core::{Put, Scratch, Sink, Wire};
 
 // The first of `n` wires that are the bits of the half that bit `b` chooses, of the word of 2 `n`
 // bits from `word` on. It makes `n` wires and `n` constraints.
-pub(crate) fn halves<S: Sink>(s: &mut S, n: u32, b: Wire, word: Wire) -> Put<Wire>
+pub(crate) fn halves<S: Sink>(
+    s: &mut S,
+    scratch: &mut Scratch,
+    n: u32,
+    b: Wire,
+    word: Wire,
+) -> Put<Wire>
     requires room { Room S.meaning s.old n n }
     requires b_made { b < S.meaning.wires s.old }
     requires word_made { word + (n + n) ≤ S.meaning.wires s.old }
@@ -17,9 +23,8 @@ pub(crate) fn halves<S: Sink>(s: &mut S, n: u32, b: Wire, word: Wire) -> Put<Wir
     ensures below { IfOk result (λ first. first + n ≤ S.meaning.wires s.new) }
 {
     let first = Wire(s.wires());
-    let mut scratch = Scratch::new();
     for i in 0..n {
-        select_wires(s, &mut scratch, b, word.offset(n + i), word.offset(i))?;
+        select_wires(s, scratch, b, word.offset(n + i), word.offset(i))?;
     }
     Ok(first)
 }

@@ -104,7 +104,12 @@ impl Places {
 
 // The first of `W / 4` wires that are a part, two bits a wire. It makes as many wires and
 // constraints.
-pub(crate) fn masked<const W: u32, S: Sink>(s: &mut S, places: &Places, part: Part) -> Put<Wire>
+pub(crate) fn masked<const W: u32, S: Sink>(
+    s: &mut S,
+    scratch: &mut Scratch,
+    places: &Places,
+    part: Part,
+) -> Put<Wire>
     requires width { IsWidth W }
     requires room { Room S.meaning s.old (W / 4) (W / 4) }
     requires made { AreMade W places.now (S.meaning.wires s.old) }
@@ -116,9 +121,8 @@ pub(crate) fn masked<const W: u32, S: Sink>(s: &mut S, places: &Places, part: Pa
     let first = Wire(s.wires());
     let mut mask = Lc::empty();
     let mut mask_above = Lc::empty();
-    let mut scratch = Scratch::new();
     for i in 0..W / 4 {
-        pair::<W, S>(s, &mut scratch, places, part, i, &mut mask, &mut mask_above)?;
+        pair::<W, S>(s, scratch, places, part, i, &mut mask, &mut mask_above)?;
     }
     Ok(first)
 }

@@ -9,8 +9,8 @@ use crate::ends::{Shift, by_half, by_rest, ends};
 use crate::halves::halves;
 use crate::masks::{Part, Parts, Places, half_log, masked};
 use crate::thermometer::thermometer;
-use tv_bits::{Bits, zero};
-use tv_core::{Put, Sink, Wire};
+use tv_bits::{Bits, zero_by};
+use tv_core::{Put, Scratch, Sink, Wire};
 
 /// The word `x` of `W` bits shifted by the word `y`, whatever `y` is: from `W` up both results are
 /// 0. It makes 51 wires and constraints at 32 bits, of 925 terms, and 28 at 16, of 434.
@@ -27,15 +27,22 @@ pub fn shift<const W: u32, S: Sink>(s: &mut S, x: &Bits, y: &Bits) -> Put<Shift>
     ensures right { IfOk result (λ shift. shift.right < S.meaning.wires s.new) }
 {
     let k = half_log::<W>();
-    let parts = parts::<W, S>(s, x.first, y.first)?;
-    let half = by_half::<W, S>(s, y.first.offset(k), x.first)?;
-    let near = by_rest::<W, S>(s, &parts, half)?;
-    let in_range = zero(s, &y.above(k + 1).lc())?;
-    ends(s, in_range, near)
+    let mut scratch = Scratch::new();
+    let parts = parts::<W, S>(s, &mut scratch, x.first, y.first)?;
+    let half = by_half::<W, S>(s, &mut scratch, y.first.offset(k), x.first)?;
+    let near = by_rest::<W, S>(s, &mut scratch, &parts, half)?;
+    y.above(k + 1).fill(&mut scratch.a);
+    let in_range = zero_by(s, &mut scratch.b, &mut scratch.c, &scratch.a)?;
+    ends(s, &mut scratch, in_range, near)
 }
 
 // The chosen half and the marks of the distance.
-fn places<const W: u32, S: Sink>(s: &mut S, word: Wire, distance: Wire) -> Put<Places>
+fn places<const W: u32, S: Sink>(
+    s: &mut S,
+    scratch: &mut Scratch,
+    word: Wire,
+    distance: Wire,
+) -> Put<Places>
     requires width { IsWidth W }
     requires room { Room S.meaning s.old (places_made W) (places_made W) }
     requires word_made { word + W ≤ S.meaning.wires s.old }
@@ -45,8 +52,8 @@ fn places<const W: u32, S: Sink>(s: &mut S, word: Wire, distance: Wire) -> Put<P
     ensures made { IfOk result (λ places. AreMade W places (S.meaning.wires s.new)) }
 {
     let k = half_log::<W>();
-    let chosen = halves(s, W / 2, distance.offset(k), word)?;
-    let products = thermometer(s, k, distance)?;
+    let chosen = halves(s, scratch, W / 2, distance.offset(k), word)?;
+    let products = thermometer(s, scratch, k, distance)?;
     Ok(Places {
         word,
         distance,
@@ -56,7 +63,12 @@ fn places<const W: u32, S: Sink>(s: &mut S, word: Wire, distance: Wire) -> Put<P
 }
 
 // These, and the two parts that fall away.
-fn parts<const W: u32, S: Sink>(s: &mut S, word: Wire, distance: Wire) -> Put<Parts>
+fn parts<const W: u32, S: Sink>(
+    s: &mut S,
+    scratch: &mut Scratch,
+    word: Wire,
+    distance: Wire,
+) -> Put<Parts>
     requires width { IsWidth W }
     requires room { Room S.meaning s.old (parts_made W) (parts_made W) }
     requires word_made { word + W ≤ S.meaning.wires s.old }
@@ -67,9 +79,9 @@ fn parts<const W: u32, S: Sink>(s: &mut S, word: Wire, distance: Wire) -> Put<Pa
     ensures low { IfOk result (λ parts. parts.low + W / 4 ≤ S.meaning.wires s.new) }
     ensures high { IfOk result (λ parts. parts.high + W / 4 ≤ S.meaning.wires s.new) }
 {
-    let places = places::<W, S>(s, word, distance)?;
-    let low = masked::<W, S>(s, &places, Part::Low)?;
-    let high = masked::<W, S>(s, &places, Part::High)?;
+    let places = places::<W, S>(s, scratch, word, distance)?;
+    let low = masked::<W, S>(s, scratch, &places, Part::Low)?;
+    let high = masked::<W, S>(s, scratch, &places, Part::High)?;
     Ok(Parts { places, low, high })
 }
 

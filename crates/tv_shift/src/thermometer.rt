@@ -7,8 +7,8 @@ ghost use Rattle.tv_shift.specs.Thermometer.{products_below, both, mark, level_o
 ghost use Rattle.tv_shift.specs.Thermometer.{level_value, level_values, thermometer_values};
 ghost use Rattle.tv_shift.specs.Thermometer.{power_of};
 
-use tv_bits::times;
-use tv_core::{F, Lc, Put, Sink, Values, Wire};
+use tv_bits::times_by;
+use tv_core::{F, Lc, Put, Scratch, Sink, Values, Wire};
 use tv_word::arithmetic::power;
 
 // Wires of marks: of the bits that they are of, and of the products that they need.
@@ -75,29 +75,32 @@ impl Marks {
     }
 }
 
-// 2^s as a combination, s being the number that the `k` low bits spell.
-pub(crate) fn power_lc(marks: &Marks, k: u32) -> Lc
+// Makes `lc` 2^s, s being the number that the `k` low bits spell; `one_mark` is filled again.
+pub(crate) fn fill_power(lc: &mut Lc, one_mark: &mut Lc, marks: &Marks, k: u32)
     requires few { k ≤ 4 }
     requires bits_made { marks.now.bits + k < 2 ^ 32 }
     requires products_made { marks.now.products + products_below k < 2 ^ 32 }
-    ensures terms { result ≡ power_of (mark marks.now.bits marks.now.products k) (2 ^ k - 1) }
-    ensures top { top result ≤ max 1 (max (marks.now.bits + k)
+    ensures terms { lc.new ≡ power_of (mark marks.now.bits marks.now.products k) (2 ^ k - 1) }
+    ensures top { top lc.new ≤ max 1 (max (marks.now.bits + k)
         (marks.now.products + products_below k)) }
 {
-    let mut lc = Lc::constant(F::ONE);
-    let mut mark = Lc::empty();
+    lc.set_wire(Wire(0));
     let mut coefficient = F::ONE;
     for i in 0..power(k) - 1 {
-        marks.fill_mark(&mut mark, k, i);
-        lc.plus_scaled(coefficient, mark.terms());
+        marks.fill_mark(one_mark, k, i);
+        lc.plus_scaled(coefficient, one_mark.terms());
         coefficient = coefficient + coefficient;
     }
-    lc
 }
 
 // The first of the products that the marks of `k` bits need. It makes 2^k - 1 - k wires and
 // constraints.
-pub(crate) fn thermometer<S: Sink>(s: &mut S, k: u32, bits: Wire) -> Put<Wire>
+pub(crate) fn thermometer<S: Sink>(
+    s: &mut S,
+    scratch: &mut Scratch,
+    k: u32,
+    bits: Wire,
+) -> Put<Wire>
     requires room { Room S.meaning s.old (products_below k) (products_below k) }
     requires few { k ≤ 4 }
     requires bits_made { bits + k ≤ S.meaning.wires s.old }
@@ -111,13 +114,13 @@ pub(crate) fn thermometer<S: Sink>(s: &mut S, k: u32, bits: Wire) -> Put<Wire>
         products: Wire(s.wires()),
     };
     for i in 0..k {
-        level(s, &marks, i)?;
+        level(s, scratch, &marks, i)?;
     }
     Ok(marks.products)
 }
 
 // The products of bit `k` with the marks of the bits below it.
-fn level<S: Sink>(s: &mut S, marks: &Marks, k: u32) -> Put<()>
+fn level<S: Sink>(s: &mut S, scratch: &mut Scratch, marks: &Marks, k: u32) -> Put<()>
     requires room { Room S.meaning s.old (2 ^ k - 1) (2 ^ k - 1) }
     requires few { k ≤ 4 }
     requires bits_made { marks.now.bits + k < S.meaning.wires s.old }
@@ -126,11 +129,10 @@ fn level<S: Sink>(s: &mut S, marks: &Marks, k: u32) -> Put<()>
         result }
     ensures grows { IfOk result (λ _. Grows S.meaning s.old s.new (2 ^ k - 1) (2 ^ k - 1)) }
 {
-    let bit = Lc::wire(marks.bits.offset(k));
-    let mut mark = Lc::empty();
     for j in 0..power(k) - 1 {
-        marks.fill_mark(&mut mark, k, j);
-        times(s, &bit, &mark)?;
+        scratch.a.set_wire(marks.bits.offset(k));
+        marks.fill_mark(&mut scratch.b, k, j);
+        times_by(s, &mut scratch.c, &scratch.a, &scratch.b)?;
     }
     Ok(())
 }

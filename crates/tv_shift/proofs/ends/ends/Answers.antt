@@ -5,19 +5,19 @@ use Rattle.tv_shift.proofs.ends.ends.Goals as goal
 pub returns-in_err-left-clause-puts : goal.returns-in_err-left-clause-puts
 unfolding ends_of
 returns-in_err-left-clause-puts g c =
-    let left = rw (c.wire-gate.ensures, c.wire.ensures) at c.in_err-left.ensures.puts in
+    let left = rw (c.set_wire.ensures.terms, c.set_wire-2.ensures.terms) at c.in_err-left.ensures.puts in
     refused g.S.Sink.meaning _ _ _ c.from_residual.result c.from_residual.ensures.1 (search (chain, left))
 
 pub returns-in_err-right-clause-puts : goal.returns-in_err-right-clause-puts
 unfolding ends_of
 returns-in_err-right-clause-puts g c =
-    let left = rw (c.wire-gate.ensures, c.wire.ensures) at c.in_ok-left.ensures.puts in
-    let right = rw (c.wire-gate.ensures, c.wire-2.ensures) at c.in_err-right.ensures.puts in
+    let left = rw (c.set_wire.ensures.terms, c.set_wire-2.ensures.terms) at c.in_ok-left.ensures.puts in
+    let right = rw (c.set_wire.ensures.terms, c.set_wire-3.ensures.terms) at c.in_err-right.ensures.puts in
     refused g.S.Sink.meaning _ _ _ c.from_residual-in_err-right.result c.from_residual-in_err-right.ensures.1 (search (chain, left, right))
 
 pub returns-clause-puts : goal.returns-clause-puts
 unfolding ends_of
 returns-clause-puts g c =
-    let left = rw (c.wire-gate.ensures, c.wire.ensures) at c.in_ok-left.ensures.puts in
-    let right = rw (c.wire-gate.ensures, c.wire-2.ensures) at c.in_ok-right.ensures.puts in
+    let left = rw (c.set_wire.ensures.terms, c.set_wire-2.ensures.terms) at c.in_ok-left.ensures.puts in
+    let right = rw (c.set_wire.ensures.terms, c.set_wire-3.ensures.terms) at c.in_ok-right.ensures.puts in
     search (chain, left, right)

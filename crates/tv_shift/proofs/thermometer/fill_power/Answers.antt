@@ -3,11 +3,11 @@ use Rattle.std.proofs.Math.Nat.{pow-suc, add-mod, pow-le-pow_right}
 use Rattle.tv_core.specs.Combinations.{scaled, top}
 use Rattle.tv_core.specs.declared.field.TheConstants.{P}
 use Rattle.tv_shift.specs.Thermometer.{mark, power_of}
-use Rattle.tv_shift.proofs.thermometer.power_lc.Goals as goal
+use Rattle.tv_shift.proofs.thermometer.fill_power.Goals as goal
 
 pub loop-i-init : goal.loop-i-init
 unfolding power_of
-loop-i-init c = record { terms = c.constant-lc.ensures; coefficient = refl; short = omega (arith, ap length c.constant-lc.ensures); made = omega (arith, ap top c.constant-lc.ensures) }
+loop-i-init c = record { terms = c.set_wire.ensures.terms; coefficient = refl; short = omega (arith, ap length c.set_wire.ensures.terms); made = omega (arith, ap top c.set_wire.ensures.terms) }
 
 pub plus_scaled-requires : goal.plus_scaled-requires
 plus_scaled-requires c =

@@ -2,7 +2,7 @@ use Rattle.std.proofs.Common.{◌≡◌, ◌+◌, ◌*◌, ◌%◌, ◌^◌, ◌
 use Rattle.tv_core.specs.Combinations.{top}
 use Rattle.tv_core.specs.declared.field.TheConstants.{P}
 use Rattle.tv_shift.specs.Thermometer.{products_below, mark, power_of}
-use Rattle.tv_shift.proofs.thermometer.power_lc.Given as goal
+use Rattle.tv_shift.proofs.thermometer.fill_power.Given as goal
 
 abbrev pub invariant-loop-i : goal.invariant-loop-i
 invariant-loop-i l = record {
