@@ -51,10 +51,27 @@ pub fn choose<S: Sink>(s: &mut S, op: Wire, table: &[WireEntry<'_>]) -> Put<Wire
     ensures grows { IfOk result (λ _. Grows S.meaning s.old s.new 1 (length table.now)) }
     ensures below { IfOk result (λ w. w < S.meaning.wires s.new) }
 {
+    choose_by(s, &mut Scratch::new(), op, table)
+}
+
+/// The same, by combinations that are filled again.
+pub fn choose_by<S: Sink>(
+    s: &mut S,
+    scratch: &mut Scratch,
+    op: Wire,
+    table: &[WireEntry<'_>],
+) -> Put<Wire>
+    requires room { Room S.meaning s.old 1 (length table.now) }
+    requires op_made { op + 32 ≤ S.meaning.wires s.old }
+    requires entries { All (IsEntry (S.meaning.wires s.old)) table.now }
+    requires apart { disjoint (wire_table table.now) ≡ true }
+    ensures puts { PutsIn S.meaning s.old s.new (choose_of op (wire_table table.now)) result }
+    ensures grows { IfOk result (λ _. Grows S.meaning s.old s.new 1 (length table.now)) }
+    ensures below { IfOk result (λ w. w < S.meaning.wires s.new) }
+{
     let w = s.fresh();
-    let mut scratch = Scratch::new();
     for entry in table {
-        choice(s, &mut scratch, op, w, entry.ops, entry.gives)?;
+        choice(s, scratch, op, w, entry.ops, entry.gives)?;
     }
     Ok(w)
 }

@@ -10,7 +10,7 @@ mod tables;
 mod writing;
 
 pub use choices::{
-    choose, choose_fills, choose_is_complete, choose_is_sound, group, group_is_sound,
+    choose, choose_by, choose_fills, choose_is_complete, choose_is_sound, group, group_is_sound,
 };
 pub use reading::{
     fill_read_reg, read_reg, read_reg_fills, read_reg_is_complete, read_reg_is_sound,

@@ -5,7 +5,7 @@ use Rattle.std.proofs.Math.Seq.{drop-cons}
 use Rattle.tv_core.proofs.Chain.{chain, refused}
 use Rattle.tv_regs.proofs.ChoiceChain.{puts_no_entry, puts_entry, entry_refused}
 use Rattle.tv_regs.specs.Choices.{wire_table, choose_of}
-use Rattle.tv_regs.proofs.choices.choose.Goals as goal
+use Rattle.tv_regs.proofs.choices.choose_by.Goals as goal
 
 pub loop-entry-init : goal.loop-entry-init
 loop-entry-init g c = record {

@@ -1,7 +1,7 @@
 use Rattle.std.proofs.Common.{take}
 use Rattle.tv_core.specs.Sinks.{PutsAll, Grows}
 use Rattle.tv_regs.specs.Choices.{wire_table, choices_of}
-use Rattle.tv_regs.proofs.choices.choose.Given as goal
+use Rattle.tv_regs.proofs.choices.choose_by.Given as goal
 
 abbrev pub invariant-loop-entry : goal.invariant-loop-entry
 invariant-loop-entry g l = record {
