@@ -7,7 +7,7 @@ ghost use Rattle.tv_benes.specs.Places.{wires_at, AreMade};
 use crate::places::{Inputs, Places};
 use crate::wire_switches::wire_switch;
 use tv_bits::{bit_by, select_terms};
-use tv_core::{F, Pair, Put, Scratch, Sink, Wire};
+use tv_core::{F, Lc, Pair, Put, Scratch, Sink, Wire};
 
 // A switch between two items, each told by the terms of its two combinations. It makes 5 wires and
 // 5 constraints, with 23 terms where the items are wires.
@@ -94,10 +94,20 @@ pub(crate) fn input_column<S: Sink, I: Inputs>(s: &mut S, n: u32, inputs: &I) ->
     ensures grows { IfOk result (λ _. Grows S.meaning s.old s.new (5 * n) (5 * n)) }
 {
     let mut scratch = Scratch::new();
+    let mut x = no_terms();
+    let mut y = no_terms();
     for j in 0..n {
-        let x = inputs.at(2 * j);
-        let y = inputs.at(2 * j + 1);
+        inputs.fill(2 * j, &mut x);
+        inputs.fill(2 * j + 1, &mut y);
         pair_switch(s, &mut scratch, &x, &y)?;
     }
     Ok(())
+}
+
+// Two combinations without terms, to be filled.
+fn no_terms() -> Pair {
+    Pair {
+        first: Lc::empty(),
+        second: Lc::empty(),
+    }
 }

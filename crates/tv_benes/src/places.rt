@@ -17,6 +17,15 @@ pub trait Inputs {
     fn at(&self, i: u32) -> Pair
         requires { i < count self.now }
         ensures { result ≡ pair self.now i };
+
+    /// Makes `item` the item at place `i`. A network fills the same two again for each switch: an
+    /// input that can tell its combinations without making new ones does so here.
+    fn fill(&self, i: u32, item: &mut Pair)
+        requires { i < count self.now }
+        ensures { item.new ≡ pair self.now i }
+    {
+        *item = self.at(i);
+    }
 }
 
 // Items that are two wires each, of which the first follows from the place.

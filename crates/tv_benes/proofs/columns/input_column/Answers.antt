@@ -21,14 +21,14 @@ pair_switch-requires g c =
     let room = c.requires.room in
     record {
       room = record { whole = grown.whole; constant = omega (arith, room.constant, grown.wires); wires = omega (arith, room.wires, grown.wires); constraints = omega (arith, room.constraints, grown.constraints) };
-      x_made = rw c.at-x.ensures (omega (arith, grown.wires, m.first (2 * c.loop-j.j) even));
-      x2_made = rw c.at-x.ensures (omega (arith, grown.wires, m.second (2 * c.loop-j.j) even));
-      y_made = rw c.at-y.ensures (omega (arith, grown.wires, m.first (2 * c.loop-j.j + 1) odd));
-      y2_made = rw c.at-y.ensures (omega (arith, grown.wires, m.second (2 * c.loop-j.j + 1) odd));
-      x_short = rw c.at-x.ensures (m.first_short (2 * c.loop-j.j) even);
-      x2_short = rw c.at-x.ensures (m.second_short (2 * c.loop-j.j) even);
-      y_short = rw c.at-y.ensures (m.first_short (2 * c.loop-j.j + 1) odd);
-      y2_short = rw c.at-y.ensures (m.second_short (2 * c.loop-j.j + 1) odd);
+      x_made = rw c.fill.ensures (omega (arith, grown.wires, m.first (2 * c.loop-j.j) even));
+      x2_made = rw c.fill.ensures (omega (arith, grown.wires, m.second (2 * c.loop-j.j) even));
+      y_made = rw c.fill-in-loop-j.ensures (omega (arith, grown.wires, m.first (2 * c.loop-j.j + 1) odd));
+      y2_made = rw c.fill-in-loop-j.ensures (omega (arith, grown.wires, m.second (2 * c.loop-j.j + 1) odd));
+      x_short = rw c.fill.ensures (m.first_short (2 * c.loop-j.j) even);
+      x2_short = rw c.fill.ensures (m.second_short (2 * c.loop-j.j) even);
+      y_short = rw c.fill-in-loop-j.ensures (m.first_short (2 * c.loop-j.j + 1) odd);
+      y2_short = rw c.fill-in-loop-j.ensures (m.second_short (2 * c.loop-j.j + 1) odd);
     }
 
 pub loop-j-preserved : goal.loop-j-preserved
@@ -36,7 +36,7 @@ loop-j-preserved g c =
     let pair = g.I.Inputs.pair c.args.inputs.now in
     let piece : ℕ → Unit {0} → Circuit (Unit {0}) = λ j _. switch_of (pair (2 * j)) (pair (2 * j + 1)) in
     let grown = c.in_ok-pair_switch.ensures.grows in
-    let switch = rw (c.at-x.ensures, c.at-y.ensures) at c.in_ok-pair_switch.ensures.puts in
+    let switch = rw (c.fill.ensures, c.fill-in-loop-j.ensures) at c.in_ok-pair_switch.ensures.puts in
     record {
       puts = puts_turn g.S.Sink.meaning _ piece tt _ _ _ _ _ c.loop-j.invariant.puts switch;
       grows = record { wires = omega (arith, grown.wires); constraints = omega (arith, grown.constraints); whole = grown.whole };
@@ -48,7 +48,7 @@ returns-in_err-pair_switch-clause-puts g c =
     let m = g.S.Sink.meaning in
     let pair = g.I.Inputs.pair c.args.inputs.now in
     let piece : ℕ → Unit {0} → Circuit (Unit {0}) = λ j _. switch_of (pair (2 * j)) (pair (2 * j + 1)) in
-    let switch = rw (c.at-x.ensures, c.at-y.ensures) at c.in_err-pair_switch.ensures.puts in
+    let switch = rw (c.fill.ensures, c.fill-in-loop-j.ensures) at c.in_err-pair_switch.ensures.puts in
     refused m _ _ _ c.from_residual.result c.from_residual.ensures.1
     (turn_refused m c.args.n c.loop-j.j piece tt tt c.args.s.now c.loop-j.s c.pair_switch.new.s c.in_err-pair_switch.field-0.0 c.loop-j-test.true c.loop-j.invariant.puts switch)
 
