@@ -1,17 +1,19 @@
 ghost use Rattle.std.specs.Prelude.{◌≡◌, ◌+◌, ◌*◌, ◌<◌, ◌^◌, ℕ};
-ghost use Rattle.tv_block.specs.Block.{word_inverse, cell_of};
+ghost use Rattle.tv_block.specs.Block.{word_inverse};
 ghost use Rattle.tv_block.specs.Complete.{block_made};
 ghost use Rattle.tv_block.specs.declared.records.StateWires.{StateWires};
 ghost use Rattle.tv_block.specs.Places.{tapes_at, data_at, store_at, result_at, next_state};
 ghost use Rattle.tv_block.specs.Places.{first_line, second_line, third_line, block_wires, IsShort};
 ghost use Rattle.tv_block.specs.Under.{StateUnder, LineUnder};
 ghost use Rattle.tv_lines.specs.Placed.{line_in};
+ghost use Rattle.tv_lines.specs.Told.{line_told, HasShortWords};
 ghost use Rattle.tv_word.specs.Widths.{IsWidth};
 
 use crate::records::{Block, Spot, StateWires};
 use tv_bits::Bits;
-use tv_core::{F, Lc, LineLc, P, Wire};
+use tv_core::{F, P, Wire};
 use tv_isa::opcode::ANSWER;
+use tv_lines::{Cell, ToldLine, Word};
 use tv_regs::wires_from;
 
 // Counted from the first wire of the tapes: how many words of the primary tape are taken, whether
@@ -56,15 +58,17 @@ pub fn next_state<const W: u32>(first: Wire) -> StateWires
 
 /// Line 0, 1 or 2 of a step from a state, the step's first wire being `first`: those of the two
 /// words of its instruction, and that of its data word, at `time` and the two times behind it. A
-/// combination has at most 32 terms. A `LineLc` is of some 8 KB.
-pub fn block_line<const W: u32>(first: Wire, state: &StateWires, time: u32, which: u32) -> LineLc
+/// combination has at most 32 terms.
+pub fn block_line<const W: u32>(first: Wire, state: &StateWires, time: u32, which: u32) -> ToldLine
     requires width { IsWidth W }
     requires within { first + block_made W < 2 ^ 32 }
     requires times { time + 2 < 2 ^ 32 }
     requires which { which < 3 }
-    ensures is { result ≡ line_in (block_wires W state.now time first).lines which }
-    ensures short { IsShort result }
-    ensures below { state.now.pc < first + block_made W → LineUnder (first + block_made W) result }
+    ensures is { line_told result ≡ line_in (block_wires W state.now time first).lines which }
+    ensures words { HasShortWords result }
+    ensures short { IsShort (line_told result) }
+    ensures below { state.now.pc < first + block_made W →
+        LineUnder (first + block_made W) (line_told result) }
 {
     match which {
         0 => first_line::<W>(first, state, time),
@@ -97,9 +101,9 @@ pub fn block_wires<const W: u32>(first: Wire, state: &StateWires, _n: u32, time:
     Block {
         next: next_state::<W>(first),
         lines: [
-            block_line::<W>(first, state, time, 0),
-            block_line::<W>(first, state, time, 1),
-            block_line::<W>(first, state, time, 2),
+            block_line::<W>(first, state, time, 0).lc(),
+            block_line::<W>(first, state, time, 1).lc(),
+            block_line::<W>(first, state, time, 2).lc(),
         ],
         spot: block_spot::<W>(first),
         answers: first.offset(2 * W + u32::from(ANSWER)),
@@ -108,57 +112,60 @@ pub fn block_wires<const W: u32>(first: Wire, state: &StateWires, _n: u32, time:
 }
 
 // The line of an instruction's first word, which stays.
-fn first_line<const W: u32>(first: Wire, state: &StateWires, time: u32) -> LineLc
+fn first_line<const W: u32>(first: Wire, state: &StateWires, time: u32) -> ToldLine
     requires width { IsWidth W }
     requires within { first + W < 2 ^ 32 }
-    ensures { result ≡ first_line W state.now time first }
+    ensures is { line_told result ≡ first_line W state.now time first }
+    ensures words { HasShortWords result }
 {
-    let word = Bits { first, n: W };
-    LineLc {
-        cell: cell_at::<W>(state.pc),
-        time: Lc::constant(F::from(time)),
-        old: word.lc(),
-        new: word.lc(),
+    ToldLine {
+        cell: Cell::Multiple(word_inverse::<W>(), state.pc),
+        time,
+        old: word_at::<W>(first),
+        new: word_at::<W>(first),
     }
 }
 
 // The line of its second word, which stands behind the first and stays too.
-fn second_line<const W: u32>(first: Wire, state: &StateWires, time: u32) -> LineLc
+fn second_line<const W: u32>(first: Wire, state: &StateWires, time: u32) -> ToldLine
     requires width { IsWidth W }
     requires within { first + 2 * W < 2 ^ 32 }
     requires times { time + 1 < 2 ^ 32 }
-    ensures { result ≡ second_line W state.now time first }
+    ensures is { line_told result ≡ second_line W state.now time first }
+    ensures words { HasShortWords result }
 {
-    let mut line = first_line::<W>(first.offset(W), state, time + 1);
-    line.cell.plus(F::ONE, Wire(0));
-    line
-}
-
-// The line of a step's data word.
-fn third_line<const W: u32>(first: Wire, time: u32) -> LineLc
-    requires width { IsWidth W }
-    requires within { first + block_made W < 2 ^ 32 }
-    requires times { time + 2 < 2 ^ 32 }
-    ensures { result ≡ third_line W time first }
-{
-    let looked = first.offset(data_at::<W>());
-    let stored = first.offset(store_at::<W>());
-    LineLc {
-        cell: Lc::wire(looked.offset(W + 2)),
-        time: Lc::constant(F::from(time + 2)),
-        old: Lc::wire(looked.offset(W + 3)),
-        new: Lc::wire(stored.offset(3 * (W / 16))),
+    let first = first.offset(W);
+    ToldLine {
+        cell: Cell::Behind(word_inverse::<W>(), state.pc),
+        time: time + 1,
+        old: word_at::<W>(first),
+        new: word_at::<W>(first),
     }
 }
 
-// The cell of the word at which a program counter stands.
-fn cell_at<const W: u32>(pc: Wire) -> Lc
-    requires width { IsWidth W }
-    ensures { result ≡ cell_of W pc }
+// The word whose bits begin at a wire.
+fn word_at<const W: u32>(first: Wire) -> Word
+    ensures { result ≡ Word.Spelled (record { first = first; n = W }) }
 {
-    let mut cell = Lc::empty();
-    cell.plus(word_inverse::<W>(), pc);
-    cell
+    Word::Spelled(Bits { first, n: W })
+}
+
+// The line of a step's data word.
+fn third_line<const W: u32>(first: Wire, time: u32) -> ToldLine
+    requires width { IsWidth W }
+    requires within { first + block_made W < 2 ^ 32 }
+    requires times { time + 2 < 2 ^ 32 }
+    ensures is { line_told result ≡ third_line W time first }
+    ensures words { HasShortWords result }
+{
+    let looked = first.offset(data_at::<W>());
+    let stored = first.offset(store_at::<W>());
+    ToldLine {
+        cell: Cell::Multiple(F::ONE, looked.offset(W + 2)),
+        time: time + 2,
+        old: Word::Wired(looked.offset(W + 3)),
+        new: Word::Wired(stored.offset(3 * (W / 16))),
+    }
 }
 
 // The inverse modulo P of how many bytes a word has, which divides P - 1.

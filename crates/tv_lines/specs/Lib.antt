@@ -2,6 +2,7 @@ pub mod Ordered
 pub mod Packing
 pub mod Placed
 pub mod SortedPair
+pub mod Told
 pub mod Unpacking
 pub use Rattle.tv_bits.specs.Order
 pub use Rattle.tv_bits.specs.Prefixes

@@ -12,6 +12,7 @@ mod ordering;
 mod packing;
 mod rising;
 mod rows;
+mod told;
 mod unpacking;
 
 pub use honesty::{ordered_lines_are_honest, sorted_lines_are_ordered};
@@ -22,6 +23,7 @@ pub use ordering::{
 };
 pub use packing::{pack, pack_is_one_to_one, pack_is_right, pack_line, unpack_line};
 pub use rows::LineBits;
+pub use told::{Cell, ToldLine, Word};
 pub use unpacking::{
     fill_unpack, line_bits, unpack, unpack_by, unpack_fills, unpack_is_complete, unpack_is_sound,
     unpack_undoes_pack,

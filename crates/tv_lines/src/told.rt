@@ -1,0 +1,133 @@
+ghost use Rattle.std.specs.Prelude.{◌≡◌, ◌+◌, ◌^◌, ◌%◌, ◌≤◌, ◌++◌, [], length};
+ghost use Rattle.tv_core.specs.Combinations.{scaled};
+ghost use Rattle.tv_core.specs.declared.field.TheConstants.{P};
+ghost use Rattle.tv_lines.specs.Packing.{pack};
+ghost use Rattle.tv_lines.specs.Told.{cell_told, word_told, line_told, IsShortWord, HasShortWords};
+
+use tv_bits::Bits;
+use tv_core::{F, Lc, LineLc, Pair, Wire};
+
+// By how much the cell and the time stand above the words of a packed line.
+const SHIFT: u64 = 1 << 32;
+
+/// A line of memory, told by what its combinations are made of. It takes some bytes, where they
+/// take 8 KB.
+#[derive(Clone, Copy, PartialEq, Eq, Debug)]
+pub struct ToldLine {
+    /// The number of the cell.
+    pub cell: Cell,
+    /// The time.
+    pub time: u32,
+    /// The word that the cell holds before.
+    pub old: Word,
+    /// The word that it holds from then on.
+    pub new: Word,
+}
+
+/// The number of a cell. A number that is known is a multiple of the constant wire.
+#[derive(Clone, Copy, PartialEq, Eq, Debug)]
+pub enum Cell {
+    /// So many times a wire.
+    Multiple(F, Wire),
+    /// The cell behind that one.
+    Behind(F, Wire),
+}
+
+/// A word of a line.
+#[derive(Clone, Copy, PartialEq, Eq, Debug)]
+pub enum Word {
+    /// 0, without a term.
+    Nothing,
+    /// A number that is known.
+    Number(u32),
+    /// What a wire holds.
+    Wired(Wire),
+    /// What bits spell, at most 32.
+    Spelled(Bits),
+}
+
+impl ToldLine {
+    /// Its combinations.
+    pub fn lc(&self) -> LineLc
+        requires { HasShortWords self.now }
+        ensures { result ≡ line_told self.now }
+    {
+        LineLc {
+            cell: self.cell.lc(),
+            time: Lc::constant(F::from(self.time)),
+            old: self.old.lc(),
+            new: self.new.lc(),
+        }
+    }
+
+    /// Makes `pair` the packed line, as `pack` of its combinations.
+    pub fn pack(&self, pair: &mut Pair)
+        requires { HasShortWords self.now }
+        ensures { pair.new ≡ pack (line_told self.now) }
+    {
+        pair.first.clear();
+        self.old.plus_to(&mut pair.first);
+        self.cell.plus_above(&mut pair.first);
+        pair.second.clear();
+        self.new.plus_to(&mut pair.second);
+        pair.second.plus(F::of(SHIFT) * F::from(self.time), Wire(0));
+    }
+}
+
+impl Cell {
+    // Its combination.
+    fn lc(self) -> Lc
+        ensures { result ≡ cell_told self }
+    {
+        let mut lc = Lc::empty();
+        match self {
+            Cell::Multiple(factor, wire) => lc.plus(factor, wire),
+            Cell::Behind(factor, wire) => {
+                lc.plus(factor, wire);
+                lc.plus(F::ONE, Wire(0));
+            }
+        }
+        lc
+    }
+
+    // Appends 2^32 times it.
+    fn plus_above(self, lc: &mut Lc)
+        requires { length lc.old ≤ 32 }
+        ensures { lc.new ≡ lc.old ++ scaled (2 ^ 32 % P) (cell_told self) }
+    {
+        match self {
+            Cell::Multiple(factor, wire) => lc.plus(F::of(SHIFT) * factor, wire),
+            Cell::Behind(factor, wire) => {
+                lc.plus(F::of(SHIFT) * factor, wire);
+                lc.plus(F::of(SHIFT), Wire(0));
+            }
+        }
+    }
+}
+
+impl Word {
+    // Its combination.
+    fn lc(self) -> Lc
+        requires { IsShortWord self }
+        ensures { result ≡ word_told self }
+    {
+        let mut lc = Lc::empty();
+        self.plus_to(&mut lc);
+        lc
+    }
+
+    // Appends it to a combination without terms.
+    fn plus_to(self, lc: &mut Lc)
+        requires short { IsShortWord self }
+        requires empty { lc.old ≡ [] }
+        ensures terms { lc.new ≡ word_told self }
+        ensures len { length lc.new ≤ 32 }
+    {
+        match self {
+            Word::Nothing => {}
+            Word::Number(number) => lc.plus(F::from(number), Wire(0)),
+            Word::Wired(wire) => lc.plus(F::ONE, wire),
+            Word::Spelled(bits) => bits.plus_to(lc, F::ONE),
+        }
+    }
+}
