@@ -1,5 +1,5 @@
 ghost use Rattle.std.specs.Prelude.{◌≡◌, ℕ, ◌+◌, ◌≤◌, ◌<◌, ◌^◌, true, nat_le, List, [], ◌∷◌, ◌++◌};
-ghost use Rattle.std.specs.Prelude.{length, Some, Ok, IfOk, IfErr, OnOk};
+ghost use Rattle.std.specs.Prelude.{length, Some, Ok, IfOk, IfErr, OnOk, ok_or};
 ghost use Rattle.tv_container.specs.Places.{places};
 ghost use Rattle.tv_container.specs.Reading.{Looks, Gives, IsMissing, IsTold, Known, InPiece};
 ghost use Rattle.tv_container.specs.Reading.{ReadsIn};
@@ -262,6 +262,7 @@ fn reaches_end<D: Files>(
 
 /// The section of a type, where it was found; where there is none it is missing at the file's end.
 pub fn wanted(section: Option<Section>, kind: u32, end: u64) -> Result<Section, ReadRefusal>
+    ensures is { result ≡ ok_or section (ReadRefusal.Bad end (ReadWhy.Missing kind)) }
     ensures gives { (file : List ℕ) → end ≡ length file → (sections : List Section) →
         section ≡ section_of kind sections → Gives result (wanted kind file sections) }
     ensures same { IfOk result (λ found. section ≡ Some found) }
