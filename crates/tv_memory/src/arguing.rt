@@ -10,8 +10,8 @@ ghost use Rattle.tv_memory.specs.Order.{memory_values, AddressOrderIsReached};
 
 use crate::lines::{Lines, Packed};
 use tv_benes::{Net, Outputs, routing_network};
-use tv_core::{Put, Sink, Wire};
-use tv_lines::{LineBits, first_line, line_bits, sorted_pair, unpack};
+use tv_core::{Put, Scratch, Sink, Wire};
+use tv_lines::{LineBits, first_line, line_bits, sorted_pair_by, unpack_by};
 use tv_word::arithmetic::power;
 
 /// Holds 2^`k` lines, `k` being from 1 to 20, that are told in time order to be honest: a
@@ -43,8 +43,9 @@ fn unpack_all<S: Sink>(s: &mut S, n: u32, pairs: &Outputs) -> Put<()>
         result }
     ensures grows { IfOk result (λ _. Grows S.meaning s.old s.new (n * 115) (n * 117)) }
 {
+    let mut scratch = Scratch::new();
     for i in 0..n {
-        unpack(s, &pairs.at(i))?;
+        unpack_by(s, &mut scratch, &pairs.at(i))?;
     }
     Ok(())
 }
@@ -69,8 +70,9 @@ fn sort_neighbours<S: Sink>(s: &mut S, n: u32, first: Wire) -> Put<()>
     ensures puts { PutsIn S.meaning s.old s.new (times n (neighbours_of first)) result }
     ensures grows { IfOk result (λ _. Grows S.meaning s.old s.new (n * 18) (n * 20)) }
 {
+    let mut scratch = Scratch::new();
     for i in 0..n {
-        sorted_pair(s, &bits_at(first, i), &bits_at(first, i + 1))?;
+        sorted_pair_by(s, &mut scratch, &bits_at(first, i), &bits_at(first, i + 1))?;
     }
     Ok(())
 }

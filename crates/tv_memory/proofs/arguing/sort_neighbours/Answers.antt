@@ -13,20 +13,20 @@ loop-i-init g c = record {
 pub loop-i-preserved : goal.loop-i-preserved
 loop-i-preserved g c =
     let piece : ℕ → Unit {0} → Circuit (Unit {0}) = λ i _. neighbours_of c.args.first i in
-    let grown = c.in_ok-sorted_pair.ensures.grows in
-    let pair = rw (c.bits_at.ensures, c.bits_at-in-loop-i.ensures) at c.in_ok-sorted_pair.ensures.puts in
+    let grown = c.in_ok-sorted_pair_by.ensures.grows in
+    let pair = rw (c.bits_at.ensures, c.bits_at-in-loop-i.ensures) at c.in_ok-sorted_pair_by.ensures.puts in
     record {
       puts = puts_turn g.S.Sink.meaning c.loop-i.i piece tt tt tt _ _ _ c.loop-i.invariant.puts pair;
       grows = record { wires = omega (arith, grown.wires); constraints = omega (arith, grown.constraints); whole = grown.whole };
     }
 
-pub returns-in_err-sorted_pair-clause-puts : goal.returns-in_err-sorted_pair-clause-puts
-returns-in_err-sorted_pair-clause-puts g c =
+pub returns-in_err-sorted_pair_by-clause-puts : goal.returns-in_err-sorted_pair_by-clause-puts
+returns-in_err-sorted_pair_by-clause-puts g c =
     let m = g.S.Sink.meaning in
     let piece : ℕ → Unit {0} → Circuit (Unit {0}) = λ i _. neighbours_of c.args.first i in
-    let pair = rw (c.bits_at.ensures, c.bits_at-in-loop-i.ensures) at c.in_err-sorted_pair.ensures.puts in
+    let pair = rw (c.bits_at.ensures, c.bits_at-in-loop-i.ensures) at c.in_err-sorted_pair_by.ensures.puts in
     refused m _ _ _ c.from_residual.result c.from_residual.ensures.1
-    (turn_refused m c.args.n c.loop-i.i piece tt tt c.args.s.now c.loop-i.s c.sorted_pair.new.s c.in_err-sorted_pair.field-0.0 c.loop-i-test.true c.loop-i.invariant.puts pair)
+    (turn_refused m c.args.n c.loop-i.i piece tt tt c.args.s.now c.loop-i.s c.sorted_pair_by.new.s c.in_err-sorted_pair_by.field-0.0 c.loop-i-test.true c.loop-i.invariant.puts pair)
 
 pub returns-clause-puts : goal.returns-clause-puts
 returns-clause-puts g c =
