@@ -9,17 +9,18 @@ ghost use Rattle.tv_word.specs.Widths.{IsWidth};
 
 use crate::records::{Data, Fetched, Groups, Operands, StateWires, Store, Tapes};
 use tv_bits::pick;
-use tv_core::{F, Lc, Put, Sink, Wire};
+use tv_core::{F, Lc, Put, Scratch, Sink, Wire};
 use tv_isa::opcode::{
     ADD, AND, ANSWER, CJMP, CMOV, CMPA, CMPAE, CMPE, CMPG, CMPGE, CNJMP, JMP, LOAD_B, LOAD_W, MOV,
     MULL, NOT, OR, READ, SHL, SHR, SMULH, STORE_B, STORE_W, SUB, UDIV, UMOD, UMULH, XOR,
 };
-use tv_regs::{WireEntry, choose, group, write_reg};
+use tv_regs::{WireEntry, choose_by, group, write_reg};
 
 /// The registers after a step: the result of the instruction goes into its destination, where it
 /// writes one. It makes 19 wires and 35 constraints.
 pub(crate) fn result<const W: u32, S: Sink>(
     s: &mut S,
+    scratch: &mut Scratch,
     state: &StateWires,
     fetched: &Fetched,
     operands: &Operands,
@@ -41,7 +42,7 @@ pub(crate) fn result<const W: u32, S: Sink>(
     ensures below { IfOk result (λ regs. wires_top regs ≤ S.meaning.wires s.new) }
 {
     let op = fetched.fields.op;
-    let word = result_word::<W, S>(s, op, operands, groups, looked, store)?;
+    let word = result_word::<W, S>(s, scratch, op, operands, groups, looked, store)?;
     let moves = group(op, &[CMOV]);
     let writers = group(
         op,
@@ -57,6 +58,7 @@ pub(crate) fn result<const W: u32, S: Sink>(
 // What goes into the destination register. It makes 1 wire and 17 constraints.
 fn result_word<const W: u32, S: Sink>(
     s: &mut S,
+    scratch: &mut Scratch,
     op: Wire,
     operands: &Operands,
     groups: &Groups,
@@ -82,8 +84,9 @@ fn result_word<const W: u32, S: Sink>(
     let signed_high = groups.high.high.lc();
     let quotient = groups.quotient.quot.lc();
     let remainder = groups.quotient.rem.lc();
-    choose(
+    choose_by(
         s,
+        scratch,
         op,
         &[
             entry(&[AND], &[(F::ONE, groups.bitwise.and_word)]),
@@ -110,6 +113,7 @@ fn result_word<const W: u32, S: Sink>(
 /// The flag after a step. It makes 1 wire and 18 constraints.
 pub(crate) fn flag<const W: u32, S: Sink>(
     s: &mut S,
+    scratch: &mut Scratch,
     state: &StateWires,
     op: Wire,
     operands: &Operands,
@@ -136,8 +140,9 @@ pub(crate) fn flag<const W: u32, S: Sink>(
         (-F::ONE, tapes.primary),
         (-F::ONE, tapes.takes),
     ];
-    choose(
+    choose_by(
         s,
+        scratch,
         op,
         &[
             entry(&[AND], &[(F::ONE, groups.bitwise.and_zero)]),

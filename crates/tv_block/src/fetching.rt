@@ -5,23 +5,23 @@ ghost use Rattle.tv_core.specs.Sinks.{PutsIn, Grows, Room};
 ghost use Rattle.tv_word.specs.Widths.{IsWidth};
 
 use crate::records::Fetched;
-use tv_bits::new_bits;
-use tv_core::{F, Lc, Put, Sink};
+use tv_bits::new_bits_by;
+use tv_core::{F, Lc, Put, Scratch, Sink};
 use tv_decode::fields;
 use tv_isa::opcode::UNUSED;
 use tv_regs::group;
 
 /// The instruction of a step: two new words and its fields, its opcode being one that is used. It
 /// makes 2 `W` + 80 wires and 2 `W` + 85 constraints.
-pub(crate) fn fetch<const W: u32, S: Sink>(s: &mut S) -> Put<Fetched>
+pub(crate) fn fetch<const W: u32, S: Sink>(s: &mut S, scratch: &mut Scratch) -> Put<Fetched>
     requires width { IsWidth W }
     requires room { Room S.meaning s.old (2 * W + 80) (2 * W + 85) }
     ensures puts { PutsIn S.meaning s.old s.new (fetch_of W) result }
     ensures grows { IfOk result (λ _. Grows S.meaning s.old s.new (2 * W + 80) (2 * W + 85)) }
     ensures below { IfOk result (λ made. FetchedUnder W (S.meaning.wires s.new) made) }
 {
-    let head = new_bits(s, W)?;
-    let tail = new_bits(s, W)?;
+    let head = new_bits_by(s, &mut scratch.a, W)?;
+    let tail = new_bits_by(s, &mut scratch.a, W)?;
     let fields = fields::<W, S>(s, &head, &tail)?;
     let unused = group(fields.op, &UNUSED);
     s.put(&unused, &Lc::constant(F::ONE), &Lc::empty())?;

@@ -5,8 +5,8 @@ ghost use Rattle.tv_core.specs.Sinks.{PutsIn, Grows, Room};
 ghost use Rattle.tv_word.specs.Widths.{IsWidth};
 
 use crate::records::{Fetched, Operands, StateWires};
-use tv_bits::{bits, pick, select};
-use tv_core::{Lc, Put, Sink};
+use tv_bits::{bits_by, pick, select};
+use tv_core::{Lc, Put, Scratch, Sink};
 use tv_isa::opcode::{STORE_B, STORE_W};
 use tv_regs::{group, read_reg};
 
@@ -14,6 +14,7 @@ use tv_regs::{group, read_reg};
 /// the other word, bit by bit. It makes 2 `W` + 5 wires and 2 `W` + 52 constraints.
 pub(crate) fn operands<const W: u32, S: Sink>(
     s: &mut S,
+    scratch: &mut Scratch,
     state: &StateWires,
     fetched: &Fetched,
 ) -> Put<Operands>
@@ -29,10 +30,10 @@ pub(crate) fn operands<const W: u32, S: Sink>(
     let dest = read_reg(s, fetched.fields.dest, &state.regs)?;
     let reg = read_reg(s, fetched.fields.reg, &state.regs)?;
     let operand = select(s, fetched.fields.imm, &fetched.tail.lc(), &Lc::wire(reg))?;
-    let a = bits(s, &Lc::wire(operand), W)?;
+    let a = bits_by(s, scratch, &Lc::wire(operand), W)?;
     let stores = group(fetched.fields.op, &[STORE_B, STORE_W]);
     let other = pick(s, &stores, &Lc::wire(dest), &Lc::wire(source))?;
-    let x = bits(s, &Lc::wire(other), W)?;
+    let x = bits_by(s, scratch, &Lc::wire(other), W)?;
     Ok(Operands {
         operand,
         other,

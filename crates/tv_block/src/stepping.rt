@@ -17,7 +17,7 @@ use crate::placing::block_wires;
 use crate::records::{Block, Reached, StateWires};
 use crate::storing::store;
 use crate::taping::tapes;
-use tv_core::{Put, Sink, Wire};
+use tv_core::{Put, Scratch, Sink, Wire};
 use tv_isa::opcode::ANSWER;
 
 /// One step of the machine from a state, the primary tape having `n` words; its lines of memory are
@@ -85,17 +85,27 @@ fn compute<const W: u32, S: Sink>(s: &mut S, state: &StateWires, n: u32) -> Put<
     ensures regs { IfOk result (λ made. wires_top made.regs ≤ S.meaning.wires s.new) }
     ensures flag { IfOk result (λ made. made.flag < S.meaning.wires s.new) }
 {
-    let instruction = fetch::<W, S>(s)?;
+    let mut scratch = Scratch::new();
+    let instruction = fetch::<W, S>(s, &mut scratch)?;
     let fetched = &instruction;
     let op = fetched.fields.op;
-    let words = operands::<W, S>(s, state, fetched)?;
+    let words = operands::<W, S>(s, &mut scratch, state, fetched)?;
     let operands = &words;
     let groups = groups::<W, S>(s, &operands.x, &operands.a)?;
     let tapes = tapes::<W, S>(s, n, state, op, &operands.a)?;
-    let looked = data::<W, S>(s, state, op, &operands.a, &tapes)?;
-    let store = store::<W, S>(s, op, operands, &looked)?;
-    let regs = result::<W, S>(s, state, fetched, operands, &groups, &looked, &store)?;
-    let flag = flag::<W, S>(s, state, op, operands, &groups, &tapes)?;
+    let looked = data::<W, S>(s, &mut scratch, state, op, &operands.a, &tapes)?;
+    let store = store::<W, S>(s, &mut scratch, op, operands, &looked)?;
+    let regs = result::<W, S>(
+        s,
+        &mut scratch,
+        state,
+        fetched,
+        operands,
+        &groups,
+        &looked,
+        &store,
+    )?;
+    let flag = flag::<W, S>(s, &mut scratch, state, op, operands, &groups, &tapes)?;
     Ok(Computed {
         fetched: *fetched,
         operands: *operands,

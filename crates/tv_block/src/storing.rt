@@ -9,7 +9,7 @@ ghost use Rattle.tv_core.specs.Sinks.{PutsIn, Grows, Room};
 ghost use Rattle.tv_word.specs.Widths.{IsWidth};
 
 use crate::records::{Data, Operands, Patch, Store};
-use tv_bits::{Bits, pick, select, select_terms, select_wires, times};
+use tv_bits::{Bits, pick, select, select_terms, select_wires, times, times_by};
 use tv_core::{F, Lc, Put, Scratch, Sink, Wire};
 use tv_isa::opcode::{STORE_B, STORE_W};
 use tv_regs::group;
@@ -69,7 +69,13 @@ fn patch_of_two<S: Sink>(s: &mut S, bits: &Bits, a: &Bits, x: &Bits) -> Put<Patc
 }
 
 // The same in a word of four bytes. It makes 5 wires and 5 constraints.
-fn patch_of_four<S: Sink>(s: &mut S, bits: &Bits, a: &Bits, x: &Bits) -> Put<Patch>
+fn patch_of_four<S: Sink>(
+    s: &mut S,
+    scratch: &mut Scratch,
+    bits: &Bits,
+    a: &Bits,
+    x: &Bits,
+) -> Put<Patch>
     requires room { Room S.meaning s.old 5 5 }
     requires bits_word { bits.now.n ≡ 32 }
     requires x_word { x.now.n ≡ 32 }
@@ -81,30 +87,40 @@ fn patch_of_four<S: Sink>(s: &mut S, bits: &Bits, a: &Bits, x: &Bits) -> Put<Pat
     ensures below { IfOk result (λ made. PatchUnder (S.meaning.wires s.new) made) }
 {
     let second = a.first.offset(1);
-    let mut scratch = Scratch::new();
     let low = select_terms(
         s,
-        &mut scratch,
+        scratch,
         a.first,
         byte_at(bits, 1).terms(),
         byte_at(bits, 0).terms(),
     )?;
     let high = select_terms(
         s,
-        &mut scratch,
+        scratch,
         a.first,
         byte_at(bits, 3).terms(),
         byte_at(bits, 2).terms(),
     )?;
-    let byte = select_wires(s, &mut scratch, second, high, low)?;
-    let power = times(s, &power_by(256, a.first), &power_by(65536, second))?;
-    let added = times(s, &Lc::wire(power), &gain(x, byte))?;
+    let byte = select_wires(s, scratch, second, high, low)?;
+    let power = times_by(
+        s,
+        &mut scratch.c,
+        &power_by(256, a.first),
+        &power_by(65536, second),
+    )?;
+    let added = times_by(s, &mut scratch.c, &Lc::wire(power), &gain(x, byte))?;
     Ok(Patch { byte, added })
 }
 
 // The same in a word of `W` bits: at 16 it makes 2 wires and 2 constraints, at 32 it makes 5 of
 // each.
-fn patch<const W: u32, S: Sink>(s: &mut S, bits: &Bits, a: &Bits, x: &Bits) -> Put<Patch>
+fn patch<const W: u32, S: Sink>(
+    s: &mut S,
+    scratch: &mut Scratch,
+    bits: &Bits,
+    a: &Bits,
+    x: &Bits,
+) -> Put<Patch>
     requires width { IsWidth W }
     requires room { Room S.meaning s.old (patch_made W) (patch_made W) }
     requires bits_word { bits.now.n ≡ W }
@@ -119,7 +135,7 @@ fn patch<const W: u32, S: Sink>(s: &mut S, bits: &Bits, a: &Bits, x: &Bits) -> P
     if W == 16 {
         patch_of_two(s, bits, a, x)
     } else {
-        patch_of_four(s, bits, a, x)
+        patch_of_four(s, scratch, bits, a, x)
     }
 }
 
@@ -127,6 +143,7 @@ fn patch<const W: u32, S: Sink>(s: &mut S, bits: &Bits, a: &Bits, x: &Bits) -> P
 /// wires and 4 constraints, at 32 bits 7 of each.
 pub(crate) fn store<const W: u32, S: Sink>(
     s: &mut S,
+    scratch: &mut Scratch,
     op: Wire,
     operands: &Operands,
     looked: &Data,
@@ -141,7 +158,7 @@ pub(crate) fn store<const W: u32, S: Sink>(
         (patch_made W + 2)) }
     ensures below { IfOk result (λ made. StoreUnder (S.meaning.wires s.new) made) }
 {
-    let patch = patch::<W, S>(s, &looked.bits, &operands.a, &operands.x)?;
+    let patch = patch::<W, S>(s, scratch, &looked.bits, &operands.a, &operands.x)?;
     let mut patched = Lc::wire(looked.word);
     patched.plus(F::ONE, patch.added);
     let with_byte = pick(s, &group(op, &[STORE_B]), &patched, &Lc::wire(looked.old))?;

@@ -14,7 +14,7 @@ unfolding data_of
 returns-in_err-word-clause-puts g c =
     let m = g.S.Sink.meaning in
     let p0 = c.in_ok-bits.ensures.puts in
-    let p1 = rw (c.lc.ensures.terms, c.in_ok-bits.ensures.size) at c.in_err-word.ensures.puts in
+    let p1 = rw (c.fill.ensures.terms, c.in_ok-bits.ensures.size) at c.in_err-word.ensures.puts in
     refused m _ _ _ c.from_residual-in_err-word.result c.from_residual-in_err-word.ensures.1 (puts_then_refused m _ _ _ _ _ _ _ p0 (refused_then m _ _ _ _ _ p1))
 
 pub returns-in_err-memory_cell-clause-puts : goal.returns-in_err-memory_cell-clause-puts
@@ -22,8 +22,8 @@ unfolding data_of
 returns-in_err-memory_cell-clause-puts g c =
     let m = g.S.Sink.meaning in
     let p0 = c.in_ok-bits.ensures.puts in
-    let p1 = rw (c.lc.ensures.terms, c.in_ok-bits.ensures.size) at c.in_ok-word.ensures.puts in
-    let p2 = rw (c.group-looks.ensures.terms, c.lc-address.ensures.terms, c.above.ensures.first, c.above.ensures.n, c.requires.a_word, c.constant.ensures, c.from.ensures) at c.in_err-memory_cell.ensures.puts in
+    let p1 = rw (c.fill.ensures.terms, c.in_ok-bits.ensures.size) at c.in_ok-word.ensures.puts in
+    let p2 = rw (c.group-looks.ensures.terms, c.terms.ensures.terms, c.fill-2.ensures.terms, c.above.ensures.first, c.above.ensures.n, c.requires.a_word, c.from.ensures) at c.in_err-memory_cell.ensures.puts in
     refused m _ _ _ c.from_residual-in_err-memory_cell.result c.from_residual-in_err-memory_cell.ensures.1 (puts_then_refused m _ _ _ _ _ _ _ p0 (puts_then_refused m _ _ _ _ _ _ _ p1 (refused_then m _ _ _ _ _ p2)))
 
 pub returns-in_err-cell-clause-puts : goal.returns-in_err-cell-clause-puts
@@ -31,9 +31,9 @@ unfolding data_of
 returns-in_err-cell-clause-puts g c =
     let m = g.S.Sink.meaning in
     let p0 = c.in_ok-bits.ensures.puts in
-    let p1 = rw (c.lc.ensures.terms, c.in_ok-bits.ensures.size) at c.in_ok-word.ensures.puts in
-    let p2 = rw (c.group-looks.ensures.terms, c.lc-address.ensures.terms, c.above.ensures.first, c.above.ensures.n, c.requires.a_word, c.constant.ensures, c.from.ensures) at c.in_ok-memory_cell.ensures.puts in
-    let p3 = rw (c.wire.ensures, c.plus.ensures.terms, c.constant-tape_cell.ensures, c.from-2.ensures, c.wire-2.ensures) at c.in_err-cell.ensures.puts in
+    let p1 = rw (c.fill.ensures.terms, c.in_ok-bits.ensures.size) at c.in_ok-word.ensures.puts in
+    let p2 = rw (c.group-looks.ensures.terms, c.terms.ensures.terms, c.fill-2.ensures.terms, c.above.ensures.first, c.above.ensures.n, c.requires.a_word, c.from.ensures) at c.in_ok-memory_cell.ensures.puts in
+    let p3 = rw c.from-2.ensures at c.in_err-cell.ensures.puts in
     refused m _ _ _ c.from_residual-in_err-cell.result c.from_residual-in_err-cell.ensures.1 (puts_then_refused m _ _ _ _ _ _ _ p0 (puts_then_refused m _ _ _ _ _ _ _ p1 (puts_then_refused m _ _ _ _ _ _ _ p2 (refused_then m _ _ _ _ _ p3))))
 
 pub returns-in_err-old-clause-puts : goal.returns-in_err-old-clause-puts
@@ -41,10 +41,10 @@ unfolding data_of
 returns-in_err-old-clause-puts g c =
     let m = g.S.Sink.meaning in
     let p0 = c.in_ok-bits.ensures.puts in
-    let p1 = rw (c.lc.ensures.terms, c.in_ok-bits.ensures.size) at c.in_ok-word.ensures.puts in
-    let p2 = rw (c.group-looks.ensures.terms, c.lc-address.ensures.terms, c.above.ensures.first, c.above.ensures.n, c.requires.a_word, c.constant.ensures, c.from.ensures) at c.in_ok-memory_cell.ensures.puts in
-    let p3 = rw (c.wire.ensures, c.plus.ensures.terms, c.constant-tape_cell.ensures, c.from-2.ensures, c.wire-2.ensures) at c.in_ok-cell.ensures.puts in
-    let p4 = rw (c.plus-2.ensures.terms, c.group-looks.ensures.terms, c.wire-3.ensures) at c.in_err-old.ensures.puts in
+    let p1 = rw (c.fill.ensures.terms, c.in_ok-bits.ensures.size) at c.in_ok-word.ensures.puts in
+    let p2 = rw (c.group-looks.ensures.terms, c.terms.ensures.terms, c.fill-2.ensures.terms, c.above.ensures.first, c.above.ensures.n, c.requires.a_word, c.from.ensures) at c.in_ok-memory_cell.ensures.puts in
+    let p3 = rw c.from-2.ensures at c.in_ok-cell.ensures.puts in
+    let p4 = rw (c.plus.ensures.terms, c.group-looks.ensures.terms, c.set_wire.ensures.terms) at c.in_err-old.ensures.puts in
     refused m _ _ _ c.from_residual-in_err-old.result c.from_residual-in_err-old.ensures.1 (puts_then_refused m _ _ _ _ _ _ _ p0 (puts_then_refused m _ _ _ _ _ _ _ p1 (puts_then_refused m _ _ _ _ _ _ _ p2 (puts_then_refused m _ _ _ _ _ _ _ p3 (refused_then m _ _ _ _ _ p4)))))
 
 pub returns-in_err-read-clause-puts : goal.returns-in_err-read-clause-puts
@@ -52,11 +52,11 @@ unfolding data_of
 returns-in_err-read-clause-puts g c =
     let m = g.S.Sink.meaning in
     let p0 = c.in_ok-bits.ensures.puts in
-    let p1 = rw (c.lc.ensures.terms, c.in_ok-bits.ensures.size) at c.in_ok-word.ensures.puts in
-    let p2 = rw (c.group-looks.ensures.terms, c.lc-address.ensures.terms, c.above.ensures.first, c.above.ensures.n, c.requires.a_word, c.constant.ensures, c.from.ensures) at c.in_ok-memory_cell.ensures.puts in
-    let p3 = rw (c.wire.ensures, c.plus.ensures.terms, c.constant-tape_cell.ensures, c.from-2.ensures, c.wire-2.ensures) at c.in_ok-cell.ensures.puts in
-    let p4 = rw (c.plus-2.ensures.terms, c.group-looks.ensures.terms, c.wire-3.ensures) at c.in_ok-old.ensures.puts in
-    let p5 = rw (c.plus-3.ensures.terms, c.wire-finds.ensures, c.wire-4.ensures) at c.in_err-read.ensures.puts in
+    let p1 = rw (c.fill.ensures.terms, c.in_ok-bits.ensures.size) at c.in_ok-word.ensures.puts in
+    let p2 = rw (c.group-looks.ensures.terms, c.terms.ensures.terms, c.fill-2.ensures.terms, c.above.ensures.first, c.above.ensures.n, c.requires.a_word, c.from.ensures) at c.in_ok-memory_cell.ensures.puts in
+    let p3 = rw c.from-2.ensures at c.in_ok-cell.ensures.puts in
+    let p4 = rw (c.plus.ensures.terms, c.group-looks.ensures.terms, c.set_wire.ensures.terms) at c.in_ok-old.ensures.puts in
+    let p5 = rw (c.plus-2.ensures.terms, c.set_wire-2.ensures.terms, c.set_wire.ensures.terms) at c.in_err-read.ensures.puts in
     refused m _ _ _ c.from_residual-in_err-read.result c.from_residual-in_err-read.ensures.1 (puts_then_refused m _ _ _ _ _ _ _ p0 (puts_then_refused m _ _ _ _ _ _ _ p1 (puts_then_refused m _ _ _ _ _ _ _ p2 (puts_then_refused m _ _ _ _ _ _ _ p3 (puts_then_refused m _ _ _ _ _ _ _ p4 (refused_then m _ _ _ _ _ p5))))))
 
 pub returns-clause-puts : goal.returns-clause-puts
@@ -64,9 +64,9 @@ unfolding data_of
 returns-clause-puts g c =
     let m = g.S.Sink.meaning in
     let p0 = c.in_ok-bits.ensures.puts in
-    let p1 = rw (c.lc.ensures.terms, c.in_ok-bits.ensures.size) at c.in_ok-word.ensures.puts in
-    let p2 = rw (c.group-looks.ensures.terms, c.lc-address.ensures.terms, c.above.ensures.first, c.above.ensures.n, c.requires.a_word, c.constant.ensures, c.from.ensures) at c.in_ok-memory_cell.ensures.puts in
-    let p3 = rw (c.wire.ensures, c.plus.ensures.terms, c.constant-tape_cell.ensures, c.from-2.ensures, c.wire-2.ensures) at c.in_ok-cell.ensures.puts in
-    let p4 = rw (c.plus-2.ensures.terms, c.group-looks.ensures.terms, c.wire-3.ensures) at c.in_ok-old.ensures.puts in
-    let p5 = rw (c.plus-3.ensures.terms, c.wire-finds.ensures, c.wire-4.ensures) at c.in_ok-read.ensures.puts in
+    let p1 = rw (c.fill.ensures.terms, c.in_ok-bits.ensures.size) at c.in_ok-word.ensures.puts in
+    let p2 = rw (c.group-looks.ensures.terms, c.terms.ensures.terms, c.fill-2.ensures.terms, c.above.ensures.first, c.above.ensures.n, c.requires.a_word, c.from.ensures) at c.in_ok-memory_cell.ensures.puts in
+    let p3 = rw c.from-2.ensures at c.in_ok-cell.ensures.puts in
+    let p4 = rw (c.plus.ensures.terms, c.group-looks.ensures.terms, c.set_wire.ensures.terms) at c.in_ok-old.ensures.puts in
+    let p5 = rw (c.plus-2.ensures.terms, c.set_wire-2.ensures.terms, c.set_wire.ensures.terms) at c.in_ok-read.ensures.puts in
     puts_then m _ _ _ _ _ _ _ p0 (puts_then m _ _ _ _ _ _ _ p1 (puts_then m _ _ _ _ _ _ _ p2 (puts_then m _ _ _ _ _ _ _ p3 (puts_then m _ _ _ _ _ _ _ p4 (puts_then m _ _ _ _ _ _ _ p5 (puts_nothing m _ _))))))
