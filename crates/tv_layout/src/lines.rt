@@ -9,20 +9,22 @@ ghost use Rattle.tv_layout.specs.Places.{WithinLimits, line_count, log_of, zero_
 ghost use Rattle.tv_layout.specs.Systems.{system_of};
 ghost use Rattle.tv_layout.specs.Told.{state_before};
 ghost use Rattle.tv_lines.specs.Placed.{line_in};
+ghost use Rattle.tv_lines.specs.Told.{line_told, word_told, HasShortWords, IsShortWord};
 ghost use Rattle.tv_word.specs.Widths.{IsWidth};
 
 use crate::places::{step_at, tape_wire, zero_wire_at};
 use crate::stepping::first_state;
 use tv_block::{StateWires, block_line, next_state};
 use tv_core::limits::{NULL_CELL, STEPS, TAPE_CELLS, TAPE_WORDS};
-use tv_core::{F, Lc, LineLc};
+use tv_core::{F, LineLc, Pair, Wire};
+use tv_lines::{Cell, ToldLine, Word};
 use tv_memory::Lines;
 
 /// Line `i` of a program's system, in time order: those of the image, of the words of the primary
 /// tape, of the steps, and padding up to 2^k lines, where k is `log_of` of how many there are
 /// before it; `i` is below 2^k, and the rest is what `emit_system` takes. It takes the same time at
 /// each place, and no memory. Its combinations have at most 32 terms, of wires below the system's
-/// number of them, over either network.
+/// number of them, over either network. A `LineLc` is of some 8 KB.
 pub fn line<const W: u32>(image: &[u32], n: u32, t: u32, i: u32) -> LineLc
     requires fits { WithinLimits W image.now n t }
     requires within { i < 2 ^ log_of (line_count image.now n t) }
@@ -30,42 +32,56 @@ pub fn line<const W: u32>(image: &[u32], n: u32, t: u32, i: u32) -> LineLc
     ensures short { IsShort result }
     ensures below { (net : Net) → LineUnder (system_of W net image.now n t).wires result }
 {
+    told_line::<W>(image, n, t, i).lc()
+}
+
+// The same line, told by what it is made of.
+fn told_line<const W: u32>(image: &[u32], n: u32, t: u32, i: u32) -> ToldLine
+    requires fits { WithinLimits W image.now n t }
+    requires within { i < 2 ^ log_of (line_count image.now n t) }
+    ensures is { line_told result ≡ line_in (lines_of (block_of W) W image.now n t) i }
+    ensures words { HasShortWords result }
+    ensures short { IsShort (line_told result) }
+{
     let words = image.len() as u32;
     let boot = words + n;
     if i < words {
-        line_of_word(i, i, Lc::constant(F::from(image[i as usize])))
+        line_of_word(i, i, Word::Number(image[i as usize]))
     } else if i < boot {
         let at = i - words;
-        line_of_word(TAPE_CELLS + at, i, Lc::wire(tape_wire(at)))
+        line_of_word(TAPE_CELLS + at, i, Word::Wired(tape_wire(at)))
     } else if i < boot + 3 * t {
         step_line::<W>(n, boot, i - boot)
     } else {
-        line_of_word(NULL_CELL, i, Lc::empty())
+        line_of_word(NULL_CELL, i, Word::Nothing)
     }
 }
 
 // A line that no step makes.
-fn line_of_word(cell: u32, time: u32, word: Lc) -> LineLc
-    ensures { result ≡ line_of_word cell time word }
+fn line_of_word(cell: u32, time: u32, word: Word) -> ToldLine
+    requires { IsShortWord word }
+    ensures is { line_told result ≡ line_of_word cell time (word_told word) }
+    ensures words { HasShortWords result }
 {
-    LineLc {
-        cell: Lc::constant(F::from(cell)),
-        time: Lc::constant(F::from(time)),
-        old: Lc::empty(),
+    ToldLine {
+        cell: Cell::Multiple(F::from(cell), Wire(0)),
+        time,
+        old: Word::Nothing,
         new: word,
     }
 }
 
 // Line j of the steps, of which the first begins at a time.
-fn step_line<const W: u32>(n: u32, time: u32, j: u32) -> LineLc
+fn step_line<const W: u32>(n: u32, time: u32, j: u32) -> ToldLine
     requires width { IsWidth W }
     requires few { n ≤ TAPE_WORDS }
     requires some { j < 3 * STEPS }
     requires times { time + j + 3 < 2 ^ 32 }
-    ensures is { result ≡ line_in (block_wires W
+    ensures is { line_told result ≡ line_in (block_wires W
         (state_before W (zero_wire_at W n) (first_at W n) (j / 3)) (time + 3 * (j / 3))
         (first_at W n + j / 3 * block_made W)).lines (j % 3) }
-    ensures short { IsShort result }
+    ensures words { HasShortWords result }
+    ensures short { IsShort (line_told result) }
 {
     let step = j / 3;
     let state = state_before::<W>(n, step);
@@ -98,7 +114,7 @@ pub(crate) struct LayoutLines<'a, const W: u32> {
 impl<'a, const W: u32> Lines for LayoutLines<'a, W> {
     ghost lines = { λ l. lines_of (block_of W) W l.image.now l.n l.t };
 
-    fn at(&self, i: u32) -> LineLc {
-        line::<W>(self.image, self.n, self.t, i)
+    fn pack(&self, i: u32, pair: &mut Pair) {
+        told_line::<W>(self.image, self.n, self.t, i).pack(pair);
     }
 }

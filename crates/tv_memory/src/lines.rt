@@ -1,25 +1,19 @@
-ghost use Rattle.std.specs.Prelude.{◌≡◌, ◌≤◌, ◌<◌, List, length};
+ghost use Rattle.std.specs.Prelude.{◌≡◌, ◌<◌, List, length};
 ghost use Rattle.tv_core.specs.declared.lines.LineLc.{LineLc};
 ghost use Rattle.tv_lines.specs.Packing.{pack};
 ghost use Rattle.tv_lines.specs.Placed.{line_in};
 
 use tv_benes::Inputs;
-use tv_core::{LineLc, Pair};
-use tv_lines::pack;
+use tv_core::{Lc, Pair};
 
-/// Lines that are told by their places. Contracts see them as a list. Each of their combinations
-/// has at most 32 terms.
+/// Lines that are told by their places. Contracts see them as a list.
 pub trait Lines {
     ghost lines: { Self → List LineLc };
 
-    /// The line at place `i`.
-    fn at(&self, i: u32) -> LineLc
+    /// Makes `pair` the line at place `i`, packed.
+    fn pack(&self, i: u32, pair: &mut Pair)
         requires { i < length (lines self.now) }
-        ensures is { result ≡ line_in (lines self.now) i }
-        ensures cell_short { length result.cell ≤ 32 }
-        ensures time_short { length result.time ≤ 32 }
-        ensures old_short { length result.old ≤ 32 }
-        ensures new_short { length result.new ≤ 32 };
+        ensures { pair.new ≡ pack (line_in (lines self.now) i) };
 }
 
 // The lines as pairs, for a network.
@@ -34,6 +28,15 @@ impl<'a, L: Lines> Inputs for Packed<'a, L> {
     ghost count = { λ p. length (L.lines p.lines.now) };
 
     fn at(&self, i: u32) -> Pair {
-        pack(&self.lines.at(i))
+        let mut pair = Pair {
+            first: Lc::empty(),
+            second: Lc::empty(),
+        };
+        self.lines.pack(i, &mut pair);
+        pair
+    }
+
+    fn fill(&self, i: u32, item: &mut Pair) {
+        self.lines.pack(i, item);
     }
 }

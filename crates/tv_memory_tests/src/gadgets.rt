@@ -6,8 +6,8 @@ use crate::rows::{line, numbers};
 use std::test::Fail;
 use tv_core::{F, Lc, LineLc, ListValues, Pair, PairNum, TestSink, Values, Wire};
 use tv_lines::{
-    fill_first_line, fill_sorted_pair, fill_unpack, first_line, pack, pack_line, sorted_pair,
-    unpack, unpack_line,
+    Cell, ToldLine, Word, fill_first_line, fill_sorted_pair, fill_unpack, first_line, pack,
+    pack_line, sorted_pair, unpack, unpack_line,
 };
 
 #[test]
@@ -29,6 +29,31 @@ fn a_line_is_packed_by_powers_of_two(rt: HostRuntime) -> Result<(), Fail> {
     let line = line(3, 5, 7, 9);
     assert_eq!(rt; pack_line(&line), packed);
     assert_eq!(rt; unpack_line(&packed), numbers(&line));
+    Ok(())
+}
+
+// A line that is told is packed again into a pair that has terms already.
+#[test]
+fn a_told_line_is_packed_in_place(rt: HostRuntime) -> Result<(), Fail> {
+    let first = ToldLine {
+        cell: Cell::Multiple(F::of(2), Wire(1)),
+        time: 4,
+        old: Word::Number(9),
+        new: Word::Wired(Wire(2)),
+    };
+    let second = ToldLine {
+        cell: Cell::Behind(F::of(2), Wire(1)),
+        time: 5,
+        old: Word::Nothing,
+        new: Word::Wired(Wire(3)),
+    };
+    let z = [1, 3, 5, 7].map(F::of);
+    let mut pair = pack(&first.lc());
+    assert_eq!(rt; pair.first.value_in(&z), F::of(25_769_803_785));
+    assert_eq!(rt; pair.second.value_in(&z), F::of(17_179_869_189));
+    second.pack(&mut pair);
+    assert_eq!(rt; pair.first.value_in(&z), F::of(30_064_771_072));
+    assert_eq!(rt; pair.second.value_in(&z), F::of(21_474_836_487));
     Ok(())
 }
 

@@ -3,7 +3,8 @@ ghost use Rattle.std.specs.Prelude.{◌≡◌, false, IfOk};
 ghost use Rattle.tv_memory_tests.specs.Wired.{eight_lines};
 
 use std::alloc::Global;
-use tv_core::{F, Lc, Line, LineLc, ListValues, Put, Values, Wire};
+use tv_core::{F, Lc, Line, LineLc, ListValues, Pair, Put, Values, Wire};
+use tv_lines::pack;
 use tv_memory::Lines;
 
 /// The first wire behind the lines.
@@ -18,14 +19,14 @@ pub struct Wired {
 impl Lines for Wired {
     ghost lines = { λ _. eight_lines };
 
-    fn at(&self, i: u32) -> LineLc {
+    fn pack(&self, i: u32, pair: &mut Pair) {
         let first = 4 * i + 1;
-        LineLc {
+        *pair = pack(&LineLc {
             cell: Lc::wire(Wire(first)),
             time: Lc::wire(Wire(first + 1)),
             old: Lc::wire(Wire(first + 2)),
             new: Lc::wire(Wire(first + 3)),
-        }
+        });
     }
 }
 

@@ -1,16 +1,14 @@
 use Rattle.std.proofs.Common.{sym, ◌∙◌, arith}
 use Rattle.tv_layout.proofs.LinePlaces.{in_image, in_tape, in_steps, in_padding}
-use Rattle.tv_layout.proofs.SpotPlaces.{line_below}
-use Rattle.tv_layout.proofs.lines.line.Goals as goal
+use Rattle.tv_layout.proofs.lines.told_line.Goals as goal
 
 pub returns-then-i-words-clause-is : goal.returns-then-i-words-clause-is
 returns-then-i-words-clause-is g c =
-    let is = rw (c.constant.ensures, c.from.ensures) at c.line_of_word.ensures in
-    is ∙ sym (in_image g.row.W c.args.image.now c.args.n c.args.t c.requires.fits c.args.i (omega arith))
+    c.line_of_word.ensures.is ∙ sym (in_image g.row.W c.args.image.now c.args.n c.args.t c.requires.fits c.args.i (omega arith))
 
 pub returns-then-i-boot-clause-is : goal.returns-then-i-boot-clause-is
 returns-then-i-boot-clause-is g c =
-    let is = rw (c.wire.ensures, c.tape_wire.ensures) at c.line_of_word-then-i-boot.ensures in
+    let is = rw c.tape_wire.ensures at c.line_of_word-then-i-boot.ensures.is in
     is ∙ sym (in_tape g.row.W c.args.image.now c.args.n c.args.t c.requires.fits c.args.i (omega arith) (omega arith))
 
 pub returns-then-i-boot-2-clause-is : goal.returns-then-i-boot-2-clause-is
@@ -19,17 +17,4 @@ returns-then-i-boot-2-clause-is g c =
 
 pub returns-else-i-boot-2-clause-is : goal.returns-else-i-boot-2-clause-is
 returns-else-i-boot-2-clause-is g c =
-    let is = rw (c.empty.ensures) at c.line_of_word-else-i-boot-2.ensures in
-    is ∙ sym (in_padding g.row.W c.args.image.now c.args.n c.args.t c.requires.fits c.args.i (omega arith) c.requires.within)
-
-pub returns-then-i-words-clause-below : goal.returns-then-i-words-clause-below
-returns-then-i-words-clause-below g c net = line_below g.row.W net c.args.image.now c.args.n c.args.t c.requires.fits c.args.i c.requires.within _ (returns-then-i-words-clause-is g c)
-
-pub returns-then-i-boot-clause-below : goal.returns-then-i-boot-clause-below
-returns-then-i-boot-clause-below g c net = line_below g.row.W net c.args.image.now c.args.n c.args.t c.requires.fits c.args.i c.requires.within _ (returns-then-i-boot-clause-is g c)
-
-pub returns-then-i-boot-2-clause-below : goal.returns-then-i-boot-2-clause-below
-returns-then-i-boot-2-clause-below g c net = line_below g.row.W net c.args.image.now c.args.n c.args.t c.requires.fits c.args.i c.requires.within _ (returns-then-i-boot-2-clause-is g c)
-
-pub returns-else-i-boot-2-clause-below : goal.returns-else-i-boot-2-clause-below
-returns-else-i-boot-2-clause-below g c net = line_below g.row.W net c.args.image.now c.args.n c.args.t c.requires.fits c.args.i c.requires.within _ (returns-else-i-boot-2-clause-is g c)
+    c.line_of_word-else-i-boot-2.ensures.is ∙ sym (in_padding g.row.W c.args.image.now c.args.n c.args.t c.requires.fits c.args.i (omega arith) c.requires.within)

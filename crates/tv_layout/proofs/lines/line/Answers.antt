@@ -1,0 +1,7 @@
+use Rattle.std.proofs.Common.{◌∙◌}
+use Rattle.tv_layout.proofs.SpotPlaces.{line_below}
+use Rattle.tv_layout.proofs.lines.line.Goals as goal
+
+pub returns-clause-below : goal.returns-clause-below
+returns-clause-below g c net =
+    line_below g.row.W net c.args.image.now c.args.n c.args.t c.requires.fits c.args.i c.requires.within _ (c.lc.ensures ∙ c.told_line.ensures.is)
