@@ -1,16 +1,17 @@
 -- Constraints that were read, and those ahead.
-use Rattle.std.proofs.Common.{◌≡◌, ℕ, ◌+◌, ◌-◌, Bool, true, false, cond, eqb, zero, suc, List, [], ◌∷◌, ◌++◌, length, Option, Some, None, MatchOption, Result, Ok, Err, append_assoc, append-nil, arith, ap, refl, sym, ◌∙◌}
+use Rattle.std.proofs.Common.{◌≡◌, ℕ, ◌+◌, ◌-◌, ◌*◌, ◌<◌, Bool, true, false, cond, eqb, zero, suc, List, [], ◌∷◌, ◌++◌, length, Option, Some, None, MatchOption, Result, Ok, Err, append_assoc, append-nil, arith, ap, refl, sym, ◌∙◌}
 use Rattle.std.proofs.lemmas.List.{length-map}
 use Rattle.std.proofs.lemmas.List.Sums.{sum_by_push}
 use Rattle.tv_core.specs.Constraints.{Constraint}
 use Rattle.tv_core.specs.Meanings.{terms_of}
+use Rattle.tv_r1cs_read.specs.declared.header.Header.{Header}
 use Rattle.tv_r1cs_read.specs.declared.rows.Row.{Row}
 use Rattle.tv_container.specs.declared.sections.Section.{Section}
 use Rattle.tv_container.specs.declared.why.ReadRefusal.{ReadRefusal}
 use Rattle.tv_container.specs.declared.why.ReadWhy.TheVariants.{BadCount}
 use Rattle.tv_container.specs.Places.{Fault, ◌>>=◌, wrong}
 use Rattle.tv_r1cs_read.specs.Places.{HasRead, IsAt, IsAll}
-use Rattle.tv_r1cs_read.specs.Progress.{Reached, Follows, ahead}
+use Rattle.tv_r1cs_read.specs.Progress.{Reached, Follows, IsWithin, ahead, terms_given}
 use Rattle.tv_r1cs_read.specs.R1cs.{constraint_at, constraints_from, system_of}
 use Rattle.tv_container.specs.Reading.{Refuses}
 use Rattle.tv_r1cs_read.specs.Rows.{constraint_of, terms_in}
@@ -76,6 +77,11 @@ one_more file old new rows next place follows same count step = record {
   read = rw same (read_more rows _ _ _ next place.read (rw same at step));
   terms = count ∙ ap (λ n. n + terms_of next) place.terms ∙ sym (sum_by_push terms_of rows next);
 }
+
+-- a constraint of so many terms is given
+pub terms_rise : (header : Header) (at left n : ℕ) → IsWithin header at left → 0 < left →
+    terms_given header (at + 12 + 12 * n) (left - 1) ≡ terms_given header at left + n
+terms_rise header at left n is some = omega (arith, is.ahead, is.counted)
 
 -- and it was a row's
 pub next_at : (file : List ℕ) (old new : Reached) (rows : List Constraint) (row : Row) → IsAt old file rows → Follows new file →

@@ -1,5 +1,5 @@
 -- How far reading of a system has come, and what is ahead.
-use Rattle.std.specs.Prelude.{◌≡◌, ℕ, ◌+◌, ◌*◌, ◌^◌, ◌<◌, ◌≤◌, List, Option, None, Result}
+use Rattle.std.specs.Prelude.{◌≡◌, ℕ, ◌+◌, ◌-◌, ◌*◌, ◌/◌, ◌^◌, ◌<◌, ◌≤◌, List, Option, None, Result}
 use Rattle.tv_core.specs.Constraints.{Constraint}
 use Rattle.tv_core.specs.declared.lines.Counts.{Counts}
 use Rattle.tv_r1cs_read.specs.declared.header.Header.{Header}
@@ -18,11 +18,16 @@ pub record Reached : Type 0 where
   pub terms : ℕ
   pub stopped : Option ReadRefusal
 
--- the next constraint's place is in section 2, whose places are below 2^64, and behind the terms that were given
-pub record IsWithin (header : Header) (at terms : ℕ) : Type 0 where
+-- how many terms the constraints had that were given: twelve bytes are of each term, and twelve of each constraint's counts
+abbrev pub terms_given : (header : Header) (at left : ℕ) → ℕ
+terms_given header at left = (at - header.rows.at) / 12 - (header.constraints - left)
+
+-- the next constraint's place is in section 2, whose places are below 2^64, and behind the constraints that were given
+pub record IsWithin (header : Header) (at left : ℕ) : Type 0 where
   pub within : at ≤ header.rows.at + header.rows.size
   pub ends : header.rows.at + header.rows.size < 2 ^ 64
-  pub counted : header.rows.at + 12 * terms ≤ at
+  pub ahead : left ≤ header.constraints
+  pub counted : header.rows.at + 12 * (header.constraints - left) ≤ at
 
 -- no constraint was read, and there is a wire for the constant 1 and each public number
 pub record IsBegun (reached : Reached) : Type 0 where

@@ -25,12 +25,11 @@ pub struct Progress {
     window: Window,
     at: u64,
     left: u32,
-    terms: u64,
     stopped: Option<ReadRefusal>,
 }
 
 impl Model for Progress {
-    ghost use Rattle.tv_r1cs_read.specs.Progress.{Reached, IsWithin};
+    ghost use Rattle.tv_r1cs_read.specs.Progress.{Reached, IsWithin, terms_given};
 
     ghost Value = { Reached };
 
@@ -39,11 +38,11 @@ impl Model for Progress {
       piece = p.window;
       at = p.at;
       left = p.left;
-      terms = p.terms;
+      terms = terms_given p.header p.at p.left;
       stopped = p.stopped;
     } };
 
-    ghost invariant = { λ p. IsWithin p.header p.at p.terms };
+    ghost invariant = { λ p. IsWithin p.header p.at p.left };
 }
 
 impl Progress {
@@ -64,7 +63,6 @@ impl Progress {
             window,
             at: header.rows.at,
             left: header.constraints,
-            terms: 0,
             stopped: None,
         })
     }
@@ -78,7 +76,7 @@ impl Progress {
             outputs: self.header.outputs,
             inputs: self.header.inputs,
             constraints: self.header.constraints,
-            terms: self.terms,
+            terms: self.terms(),
         }
     }
 
@@ -110,7 +108,6 @@ impl Progress {
             Ok(next) => {
                 self.at = next;
                 self.left -= 1;
-                self.terms += row.terms() as u64;
                 Ok(true)
             }
             Err(refusal) => {
@@ -154,7 +151,6 @@ impl Progress {
         };
         self.at = tried.next;
         self.left -= 1;
-        self.terms += tried.terms;
         Some(tried.holds)
     }
 
@@ -182,7 +178,6 @@ impl Progress {
         )?;
         self.at = tried.next;
         self.left -= 1;
-        self.terms += tried.terms;
         Some(tried.holds)
     }
 
@@ -207,6 +202,13 @@ impl Progress {
                 },
             });
         }
+    }
+
+    // The terms of the constraints given so far: twelve bytes are of each, and of each its counts.
+    fn terms(&self) -> u64
+        ensures { result ≡ self.now.terms }
+    {
+        (self.at - self.header.rows.at) / 12 - u64::from(self.header.constraints - self.left)
     }
 
     // What bounds the terms.

@@ -1,6 +1,6 @@
-use Rattle.std.proofs.Common.{◌≡◌, ◌+◌, ◌-◌, ap, refl, sym, ◌∙◌, arith, rules}
+use Rattle.std.proofs.Common.{◌≡◌, ◌+◌, ◌-◌, ◌<◌, refl, sym, ◌∙◌, arith, rules}
 use Rattle.tv_r1cs_read.proofs.Constraints.{constraints_from-refuses, constraints_from-next}
-use Rattle.tv_r1cs_read.proofs.Done.{is_on, next_at, refuses_ahead}
+use Rattle.tv_r1cs_read.proofs.Done.{is_on, next_at, refuses_ahead, terms_rise}
 use Rattle.tv_r1cs_read.proofs.progress.Progress.next.Goals as goal
 
 pub returns-in-Some-stopped-clause-steps : goal.returns-in-Some-stopped-clause-steps
@@ -18,6 +18,7 @@ returns-in-Ok-clause-steps g c = record {
   again = search rules;
   looks = search rules;
   gives = λ rows file told is.
+      let some : 0 < c.self.inside.left = omega arith in
       let place = rw (← c.self.view_is) at is in
       let on = place.follows in
       let left : c.self.inside.left ≡ c.self.inside.left - 1 + 1 = omega arith in
@@ -25,7 +26,7 @@ returns-in-Ok-clause-steps g c = record {
       is_on file _ on.on (next_at file _ _ rows _ place
       (record { piece = c.in-Ok.ensures.reads.piece file told on.piece; within = on.within; on = on.on })
       refl
-      (ap (λ n. c.self.inside.terms + n) c.terms.ensures)
+      (rw c.in-Ok.ensures.size (terms_rise c.self.inside.header c.self.inside.at c.self.inside.left _ c.self.invariant some))
       (constraints_from-next file _ _ _ _ _ _ left (read on.within)));
 }
 

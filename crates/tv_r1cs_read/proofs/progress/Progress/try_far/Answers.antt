@@ -1,6 +1,7 @@
-use Rattle.std.proofs.Common.{◌≡◌, ◌+◌, ◌-◌, ap, refl, arith, rules}
+use Rattle.std.proofs.Common.{◌≡◌, ◌+◌, ◌-◌, ◌<◌, ◌∙◌, ap, refl, arith, rules}
 use Rattle.tv_r1cs_read.proofs.Constraints.{constraints_from-next}
-use Rattle.tv_r1cs_read.proofs.Done.{ended_row, is_on, one_more}
+use Rattle.tv_r1cs_read.proofs.Done.{ended_row, is_on, one_more, terms_rise}
+use Rattle.tv_r1cs_read.specs.Progress.{terms_given}
 use Rattle.tv_r1cs_read.proofs.progress.Progress.try_far.Goals as goal
 
 pub returns-in_err-tried-clause-steps : goal.returns-in_err-tried-clause-steps
@@ -22,6 +23,7 @@ returns-clause-steps g c = record {
   again = search rules;
   looks = search rules;
   gives = λ rows file told is.
+      let some : 0 < c.self.inside.left = omega (arith, rw (← c.self.view_is) at c.requires.some) in
       let place = rw (← c.self.view_is) at is in
       let on = place.follows in
       let left : c.self.inside.left ≡ c.self.inside.left - 1 + 1 = omega (arith, rw (← c.self.view_is) at c.requires.some) in
@@ -31,7 +33,7 @@ returns-clause-steps g c = record {
       is_on file _ gives.0 (record {
         constraint = tried.constraint;
         place = one_more file _ _ rows _ place (record { piece = gives.1.0; within = on.within; on = gives.0 }) refl
-            (ap (λ n. c.self.inside.terms + n) tried.count)
+            (rw c.in_ok-tried.ensures.size (terms_rise c.self.inside.header c.self.inside.at c.self.inside.left _ c.self.invariant some) ∙ ap (λ n. terms_given c.self.inside.header c.self.inside.at c.self.inside.left + n) tried.count)
             (constraints_from-next file _ _ _ _ _ _ left tried.read);
         is = tried.is;
       });
