@@ -1,9 +1,10 @@
 //! `tinyr1cs check` as plain Rust, for comparison: the same checks, the same lines, as fast as one thread can.
 //!
 //! The system is read to its end, then the witness, then the tape, then the system once more with the
-//! verdict. A read asks for up to 64 KiB. No constraint is kept: a combination that is at hand is summed from
-//! its bytes in 128 bits, after one check of bounds, and reduced once; each product reads its wire's value
-//! once. Only where something is out of order, or a combination isn't at hand, its terms are taken one by one.
+//! verdict. A read asks for up to 64 KiB. No constraint is kept: all that are at hand are tried in one loop, whose
+//! state is local. A combination is summed from its bytes in 128 bits, after one check of bounds, and reduced
+//! once; each product reads its wire's value once. Only where something is out of order, or a constraint isn't
+//! at hand, its terms are taken one by one.
 
 use std::fmt;
 use std::fs::File;
@@ -68,29 +69,20 @@ fn bad<T>(at: u64, why: Why) -> Result<T, Refusal> {
     Err(Refusal::Bad { at, why })
 }
 
+/// 2^128 `upper` + `low` modulo P: 2^64 is 2^32 - 1, and 2^96 is -1.
 #[inline(always)]
-fn reduce(x: u128) -> u64 {
-    let (low, high) = (x as u64, (x >> 64) as u64);
-    let (top, middle) = (high >> 32, high & 0xffff_ffff);
-    let (mut sum, borrow) = low.overflowing_sub(top);
-    if borrow {
-        sum = sum.wrapping_add(P);
-    }
-    let (mut sum, carry) = sum.overflowing_add((middle << 32) - middle);
-    if carry || sum >= P {
-        sum = sum.wrapping_sub(P);
-    }
-    sum
+fn reduce(low: u128, upper: u64) -> u64 {
+    let (low, high) = (low as u64, (low >> 64) as u64);
+    let (top, middle) = ((upper << 32) + (high >> 32), high & 0xffff_ffff);
+    let (difference, borrow) = low.overflowing_sub(top);
+    let start = if borrow { difference.wrapping_add(P) } else { difference };
+    let (sum, carry) = start.overflowing_add((middle << 32) - middle);
+    if carry || sum >= P { sum.wrapping_sub(P) } else { sum }
 }
 
 #[inline(always)]
 fn mul(a: u64, b: u64) -> u64 {
-    reduce(u128::from(a) * u128::from(b))
-}
-
-fn sub(a: u64, b: u64) -> u64 {
-    let (difference, borrow) = a.overflowing_sub(b);
-    if borrow { difference.wrapping_add(P) } else { difference }
+    reduce(u128::from(a) * u128::from(b), 0)
 }
 
 /// A sum of products, whose multiples of 2^128 are counted apart.
@@ -108,11 +100,9 @@ impl Sum {
         self.carries += u64::from(carry);
     }
 
-    /// 2^128 is -2^32.
     #[inline(always)]
     fn value(&self) -> u64 {
-        let low = reduce(self.low);
-        if self.carries == 0 { low } else { sub(low, reduce(u128::from(self.carries) << 32)) }
+        reduce(self.low, self.carries)
     }
 }
 
@@ -152,6 +142,12 @@ impl<'a> Window<'a> {
             }
         }
         Ok(true)
+    }
+
+    /// What is held from a place on.
+    fn held_from(&self, at: u64) -> &[u8] {
+        let from = usize::try_from(at.wrapping_sub(self.at)).unwrap_or(usize::MAX);
+        self.bytes[..self.held].get(from..).unwrap_or(&[])
     }
 
     /// What is held from a place on, where there are so many bytes.
@@ -279,65 +275,57 @@ impl<'a> Rows<'a> {
         }
     }
 
-    /// Whether the next constraint holds; `None` after the last. With `TRY` unset nothing is tried, and each
-    /// constraint holds. There is a value for each wire where something is tried.
-    #[inline(always)]
-    fn next<const TRY: bool>(&mut self, values: &[u64]) -> Result<Option<bool>, Refusal> {
-        if self.left == 0 {
-            return self.ended();
+    /// Whether all constraints ahead hold; false behind the first that doesn't. With `TRY` unset nothing is
+    /// tried, and each constraint holds. There is a value for each wire where something is tried.
+    fn all<const TRY: bool>(&mut self, values: &[u64]) -> Result<bool, Refusal> {
+        while self.left > 0 {
+            if !self.far_row::<TRY>(values)? || !self.held_rows::<TRY>(values) {
+                return Ok(false);
+            }
         }
+        self.ended()?;
+        Ok(true)
+    }
+
+    /// Tries the constraints that are at hand and in order, up to the first that doesn't hold.
+    #[inline(never)]
+    fn held_rows<const TRY: bool>(&mut self, values: &[u64]) -> bool {
+        let held = self.window.held_from(self.at);
+        let mut bytes = &held[..held.len().min((self.end() - self.at) as usize)];
+        let (size, mut left, mut holds) = (bytes.len(), self.left, true);
+        while holds && left > 0 {
+            let Some((row_holds, rest)) = held_row::<TRY>(bytes, self.wires, values) else {
+                break;
+            };
+            (bytes, holds) = (rest, row_holds);
+            left -= 1;
+        }
+        self.at += (size - bytes.len()) as u64;
+        self.left = left;
+        holds
+    }
+
+    /// Tries the next constraint, its terms taken as they are read.
+    #[cold]
+    fn far_row<const TRY: bool>(&mut self, values: &[u64]) -> Result<bool, Refusal> {
+        let a = self.far_value::<TRY>(values)?;
+        let b = self.far_value::<TRY>(values)?;
+        let c = self.far_value::<TRY>(values)?;
         self.left -= 1;
-        let a = self.value::<TRY>(values)?;
-        let b = self.value::<TRY>(values)?;
-        let c = self.value::<TRY>(values)?;
-        Ok(Some(!TRY || mul(a, b) == c))
+        Ok(!TRY || mul(a, b) == c)
     }
 
     #[cold]
-    fn ended(&self) -> Result<Option<bool>, Refusal> {
+    fn ended(&self) -> Result<(), Refusal> {
         let wants = self.at - self.section.at;
         if wants != self.section.size {
             return bad(self.section.at, Why::BadCount { has: self.section.size, wants });
         }
-        Ok(None)
+        Ok(())
     }
 
     fn end(&self) -> u64 {
         self.section.at + self.section.size
-    }
-
-    #[inline(always)]
-    fn value<const TRY: bool>(&mut self, values: &[u64]) -> Result<u64, Refusal> {
-        match self.held_value::<TRY>(values) {
-            Some((value, next)) => {
-                self.at = next;
-                Ok(value)
-            }
-            None => self.far_value::<TRY>(values),
-        }
-    }
-
-    /// The value of the next combination, and the place behind it, where all of it is at hand and in order.
-    #[inline(always)]
-    fn held_value<const TRY: bool>(&self, values: &[u64]) -> Option<(u64, u64)> {
-        let held = &self.window.bytes[..self.window.held];
-        let bytes = held.get(usize::try_from(self.at.checked_sub(self.window.at)?).ok()?..)?;
-        let (count, rest) = bytes.split_first_chunk::<4>()?;
-        let count = u32::from_le_bytes(*count);
-        let size = 12 * u64::from(count);
-        let next = self.at + 4 + size;
-        if count > WIDEST || next > self.end() {
-            return None;
-        }
-        let (terms, _) = rest.get(..size as usize)?.as_chunks::<12>();
-        let mut sum = Sum::default();
-        for term in terms {
-            let (wire, coefficient) = self.term(term)?;
-            if TRY {
-                sum.add(coefficient, *values.get(wire as usize)?);
-            }
-        }
-        Some((sum.value(), next))
     }
 
     #[inline(always)]
@@ -348,7 +336,6 @@ impl<'a> Rows<'a> {
     }
 
     /// The value of the next combination, its terms taken as they are read.
-    #[cold]
     #[inline(never)]
     fn far_value<const TRY: bool>(&mut self, values: &[u64]) -> Result<u64, Refusal> {
         if self.end() - self.at < 4 {
@@ -373,8 +360,7 @@ impl<'a> Rows<'a> {
             return bad(self.at, Why::Truncated);
         }
         self.window.bytes_at(self.at, 12)?;
-        let held = &self.window.bytes[(self.at - self.window.at) as usize..self.window.held];
-        let (terms, _) = held.as_chunks::<12>();
+        let (terms, _) = self.window.held_from(self.at).as_chunks::<12>();
         let some = terms.len().min(most).min(usize::try_from(room).unwrap_or(usize::MAX));
         for (i, term) in terms[..some].iter().enumerate() {
             let Some((wire, coefficient)) = self.term(term) else {
@@ -397,9 +383,66 @@ impl<'a> Rows<'a> {
     }
 }
 
+/// Whether the constraint at the beginning of these bytes holds, and what is behind it; `None` where not all of
+/// it is there, or something is out of order.
+#[inline(always)]
+fn held_row<'a, const TRY: bool>(bytes: &'a [u8], wires: u32, values: &[u64]) -> Option<(bool, &'a [u8])> {
+    let (a, rest) = held_value::<TRY, true>(bytes, wires, values)?;
+    let (b, rest) = held_value::<TRY, false>(rest, wires, values)?;
+    let (c, rest) = held_value::<TRY, false>(rest, wires, values)?;
+    Some((!TRY || mul(a, b) == c, rest))
+}
+
+/// The value of the combination at the beginning of these bytes, and what is behind it. Many have one term. The
+/// `FIRST` of a constraint isn't summed in vain where it is wide and the others aren't at hand.
+#[inline(always)]
+fn held_value<'a, const TRY: bool, const FIRST: bool>(
+    bytes: &'a [u8],
+    wires: u32,
+    values: &[u64],
+) -> Option<(u64, &'a [u8])> {
+    let (terms, rest) = held_terms(bytes)?;
+    if let [term] = terms {
+        let (coefficient, value) = held_term::<TRY>(term, wires, values)?;
+        return Some((if TRY { mul(coefficient, value) } else { 0 }, rest));
+    }
+    if FIRST && terms.len() > 16 && !has_two(rest) {
+        return None;
+    }
+    let mut sum = Sum::default();
+    for term in terms {
+        let (coefficient, value) = held_term::<TRY>(term, wires, values)?;
+        if TRY {
+            sum.add(coefficient, value);
+        }
+    }
+    Some((sum.value(), rest))
+}
+
+#[inline(always)]
+fn held_terms(bytes: &[u8]) -> Option<(&[[u8; 12]], &[u8])> {
+    let (count, rest) = bytes.split_first_chunk::<4>()?;
+    let (terms, rest) = rest.split_at_checked(12 * u32::from_le_bytes(*count) as usize)?;
+    Some((terms.as_chunks::<12>().0, rest))
+}
+
+/// A coefficient and its wire's value; the value is 0 with `TRY` unset.
+#[inline(always)]
+fn held_term<const TRY: bool>(term: &[u8; 12], wires: u32, values: &[u64]) -> Option<(u64, u64)> {
+    let wire = u32::from_le_bytes(term[..4].try_into().unwrap());
+    let coefficient = u64::from_le_bytes(term[4..].try_into().unwrap());
+    let value = if TRY { *values.get(wire as usize)? } else { 0 };
+    ((TRY || wire < wires) && coefficient < P).then_some((coefficient, value))
+}
+
+#[cold]
+fn has_two(bytes: &[u8]) -> bool {
+    held_terms(bytes).and_then(|(_, rest)| held_terms(rest)).is_some()
+}
+
 fn survey(file: &File) -> Result<(), Refusal> {
     let mut rows = Rows::begin(file)?;
-    while rows.next::<false>(&[])?.is_some() {}
+    rows.all::<false>(&[])?;
     Ok(())
 }
 
@@ -496,15 +539,14 @@ fn public_verdict(rows: &Rows<'_>, values: &[u64], publics: &[u64]) -> Verdict {
 fn judge(file: &File, values: &[u64], publics: &[u64]) -> Result<Verdict, Refusal> {
     let mut rows = Rows::begin(file)?;
     let mut verdict = public_verdict(&rows, values, publics);
-    let mut at = 0;
-    while matches!(verdict, Verdict::Yes) {
-        match rows.next::<true>(values)? {
-            None => return Ok(verdict),
-            Some(false) => verdict = Verdict::Constraint(at),
-            Some(true) => at += 1,
+    if matches!(verdict, Verdict::Yes) {
+        let all = rows.left;
+        if rows.all::<true>(values)? {
+            return Ok(verdict);
         }
+        verdict = Verdict::Constraint(u64::from(all - rows.left - 1));
     }
-    while rows.next::<false>(&[])?.is_some() {}
+    rows.all::<false>(&[])?;
     Ok(verdict)
 }
 

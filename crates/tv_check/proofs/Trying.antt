@@ -1,6 +1,5 @@
--- Trying constraints one after the other.
-use Rattle.std.proofs.Common.{◌≡◌, ℕ, suc, ◌+◌, ◌==◌, Bool, true, false, cond, List, [], ◌∷◌, ◌++◌, length, take, Option, Some, None, MatchOption, Result, Ok, Err, refl, ◌≢◌, sym, ap, ◌∙◌, append_assoc, append-nil}
-use Rattle.std.specs.Option.{option_map}
+-- The verdict by the constraints that were tried.
+use Rattle.std.proofs.Common.{◌≡◌, ◌≢◌, ℕ, ◌+◌, ◌==◌, Bool, true, false, cond, List, [], ◌∷◌, ◌++◌, length, take, Option, Some, None, MatchOption, Result, Ok, Err, refl, sym, ap, ◌∙◌}
 use Rattle.tv_core.specs.Constraints.{System, Constraint}
 use Rattle.tv_core.specs.Meanings.{holds, first_failure}
 use Rattle.tv_r1cs_read.specs.declared.header.Header.{Header}
@@ -9,66 +8,23 @@ use Rattle.tv_container.specs.Reading.{Refuses, Gives}
 use Rattle.tv_r1cs_read.specs.Places.{IsAll, system_with}
 use Rattle.tv_r1cs_read.specs.Progress.{Reached}
 use Rattle.tv_r1cs_read.specs.R1cs.{system_of}
+use Rattle.tv_r1cs_read.specs.Steps.{Failed}
 use Rattle.tv_container.proofs.Chain.{refuses_first}
-use Rattle.tv_check.proofs.Firsts.{first_failure-cons}
 use Rattle.tv_check.specs.declared.verdict.Verdict.{Verdict}
-use Rattle.tv_check.specs.declared.verdict.Verdict.TheVariants.{Yes, WireCount, NoPublic, NoConstraint}
+use Rattle.tv_check.specs.declared.verdict.Verdict.TheVariants.{Yes, WireCount}
 use Rattle.tv_check.specs.Verdict.{first_difference, constraint_verdict, public_verdict, judge, verdict_of}
 
--- the verdict once one more constraint is tried, the one with this number, which holds or not
-abbrev pub tried : Verdict → ℕ → Bool → Verdict
-tried Yes at true = Yes
-tried Yes at false = NoConstraint at
-tried (WireCount has wants) at holds = WireCount has wants
-tried (NoPublic at) next holds = NoPublic at
-tried (NoConstraint at) next holds = NoConstraint at
+by_failure : (test : Bool) (public failing first : Option ℕ) (has wants : ℕ) → cond test (public_verdict public Yes) (WireCount has wants) ≡ Yes →
+    failing ≡ first → cond test (public_verdict public (constraint_verdict failing)) (WireCount has wants) ≡ constraint_verdict first
+by_failure true None failing first has wants decides is = ap constraint_verdict is
+by_failure true (Some k) failing first has wants decides is = absurd cc
+by_failure false public failing first has wants decides is = absurd cc
 
--- the first that fails among some, else one more at this place
-abbrev with_last : Option ℕ → ℕ → Bool → Option ℕ
-with_last (Some k) at holds = Some k
-with_last None at true = None
-with_last None at false = Some at
-
-behind : (first holds_last : Bool) (failing : Option ℕ) (at : ℕ) →
-    cond first (option_map suc (with_last failing at holds_last)) (Some 0) ≡ with_last (cond first (option_map suc failing) (Some 0)) (suc at) holds_last
-behind true last (Some k) at = refl
-behind true true None at = refl
-behind true false None at = refl
-behind false last failing at = refl
-
-first_failure-more : (z : List ℕ) (done : List Constraint) (next : Constraint) →
-    first_failure z 0 (done ++ next ∷ []) ≡ with_last (first_failure z 0 done) (length done) (holds z next)
-first_failure-more z [] next = last (holds z next)
-  where
-    last : (test : Bool) → cond test (option_map suc None) (Some 0) ≡ with_last None 0 test
-    last true = refl
-    last false = refl
-first_failure-more z (c ∷ cs) next =
-    first_failure-cons z c (cs ++ next ∷ [])
-    ∙ ap (λ rest. cond (holds z c) (option_map suc rest) (Some 0)) (first_failure-more z cs next)
-    ∙ behind (holds z c) (holds z next) (first_failure z 0 cs) (length cs)
-    ∙ ap (λ first. with_last first (length (c ∷ cs)) (holds z next)) (sym (first_failure-cons z c cs))
-
-more : (test : Bool) (public failing : Option ℕ) (has wants at : ℕ) (holds : Bool) →
-    cond test (public_verdict public (constraint_verdict (with_last failing at holds))) (WireCount has wants)
-    ≡ tried (cond test (public_verdict public (constraint_verdict failing)) (WireCount has wants)) at holds
-more true None None has wants at true = refl
-more true None None has wants at false = refl
-more true None (Some k) has wants at holds = refl
-more true (Some k) failing has wants at holds = refl
-more false public failing has wants at holds = refl
-
--- one more constraint is tried
-pub judge-more : (header : Header) (z x : List ℕ) (done : List Constraint) (next : Constraint) →
-    judge (system_with header (done ++ next ∷ [])) z x ≡ tried (judge (system_with header done) z x) (length done) (holds z next)
-judge-more header z x done next =
-    rw (first_failure-more z done next)
-    (more (length z == header.wires) (first_difference (1 ∷ x) (take (1 + header.outputs + header.inputs) z)) (first_failure z 0 done) (length z) header.wires (length done) (holds z next))
-
-pub judged_more : (header : Header) (z x : List ℕ) (done : List Constraint) (next : Constraint) (before now : Verdict) (at : ℕ) (test : Bool) →
-    before ≡ judge (system_with header done) z x → at ≡ length done → test ≡ holds z next → now ≡ tried before at test →
-    now ≡ judge (system_with header (done ++ next ∷ [])) z x
-judged_more header z x done next before now at test judged count is told = told ∙ rw (judged, count, is) (sym (judge-more header z x done next))
+-- where no public wire decides, the first constraint that fails does
+pub judge-failure : (header : Header) (z x : List ℕ) (done : List Constraint) (first : Option ℕ) → judge (system_with header []) z x ≡ Yes →
+    first_failure z 0 done ≡ first → judge (system_with header done) z x ≡ constraint_verdict first
+judge-failure header z x done first decides is =
+    by_failure (length z == header.wires) (first_difference (1 ∷ x) (take (1 + header.outputs + header.inputs) z)) (first_failure z 0 done) first (length z) header.wires decides is
 
 -- the verdict on a system that was read, and what is refused of it
 pub verdict_of-read : (file z x : List ℕ) (system : System) → system_of file ≡ Ok system → verdict_of file z x ≡ Ok (judge system z x)
@@ -79,22 +35,30 @@ pub verdict_of-refuses : (file z x : List ℕ) (why : ReadRefusal) → Refuses w
 unfolding verdict_of
 verdict_of-refuses file z x why refuses = refuses_first why _ _ refuses
 
--- a no stays
-stays : (verdict : Verdict) (at : ℕ) (test : Bool) → verdict ≢ Yes → tried verdict at test ≡ verdict
-stays Yes at test other = absurd (other refl)
-stays (WireCount has wants) at test other = refl
-stays (NoPublic first) at test other = refl
-stays (NoConstraint first) at test other = refl
+-- the first that fails is the first whatever is behind it
+fails_still : (z : List ℕ) (at k : ℕ) (done rest : List Constraint) → first_failure z at done ≡ Some k → first_failure z at (done ++ rest) ≡ Some k
+fails_still z at k [] rest is = absurd cc
+fails_still z at k (c ∷ cs) rest is = by_test (holds z c) (fails_still z (at + 1) k cs rest) is
+  where
+    by_test : (test : Bool) → (first_failure z (at + 1) cs ≡ Some k → first_failure z (at + 1) (cs ++ rest) ≡ Some k) →
+        cond test (first_failure z (at + 1) cs) (Some at) ≡ Some k → cond test (first_failure z (at + 1) (cs ++ rest)) (Some at) ≡ Some k
+    by_test true later is = later is
+    by_test false later is = is
 
--- whatever constraints are behind those that were tried
+by_first : (test : Bool) (public first all : Option ℕ) (has wants : ℕ) → ((k : ℕ) → first ≡ Some k → all ≡ Some k) →
+    cond test (public_verdict public (constraint_verdict first)) (WireCount has wants) ≢ Yes →
+    cond test (public_verdict public (constraint_verdict all)) (WireCount has wants) ≡ cond test (public_verdict public (constraint_verdict first)) (WireCount has wants)
+by_first true None None all has wants still other = absurd (other refl)
+by_first true None (Some k) all has wants still other = rw (still k refl) refl
+by_first true (Some k) first all has wants still other = refl
+by_first false public first all has wants still other = refl
+
+-- a no stays, whatever constraints are behind those that were tried
 pub judge-stays : (header : Header) (z x : List ℕ) (done rest : List Constraint) → judge (system_with header done) z x ≢ Yes →
     judge (system_with header (done ++ rest)) z x ≡ judge (system_with header done) z x
-judge-stays header z x done [] other = rw append-nil refl
-judge-stays header z x done (next ∷ rest) other =
-    let one : judge (system_with header (done ++ next ∷ [])) z x ≡ judge (system_with header done) z x
-    = judge-more header z x done next ∙ stays (judge (system_with header done) z x) (length done) (holds z next) other in
-    let later = judge-stays header z x (done ++ next ∷ []) rest (λ yes. other (sym one ∙ yes)) in
-    ap (λ all. judge (system_with header all) z x) (sym (append_assoc done (next ∷ []) rest)) ∙ later ∙ one
+judge-stays header z x done rest other =
+    by_first (length z == header.wires) (first_difference (1 ∷ x) (take (1 + header.outputs + header.inputs) z)) (first_failure z 0 done) (first_failure z 0 (done ++ rest))
+    (length z) header.wires (λ k is. fails_still z 0 k done rest is) other
 
 -- the verdict on constraints that are all, or the file's first fault
 pub read_ends : (stopped : Option ReadRefusal) (file z x : List ℕ) (reached : Reached) (header : Header) (rows : List Constraint) (verdict : Verdict) →
@@ -104,6 +68,14 @@ read_ends None file z x reached header rows verdict all same is =
     let system = rw same at all.system in
     verdict_of-read file z x (system_with header rows) system ∙ rw (← is) refl
 read_ends (Some why) file z x reached header rows verdict refuses same is = verdict_of-refuses file z x why refuses
+
+-- the same where all of them were tried, and hold
+pub read_holds : (stopped : Option ReadRefusal) (file z x : List ℕ) (reached : Reached) (header : Header) (verdict : Verdict) →
+    MatchOption stopped (Failed None z reached file []) (λ why. Refuses why (system_of file)) → reached.header ≡ header →
+    judge (system_with header []) z x ≡ Yes → verdict ≡ Yes → MatchOption stopped (verdict_of file z x ≡ Ok verdict) (λ why. Refuses why (verdict_of file z x))
+read_holds None file z x reached header verdict all same decides is =
+    read_ends None file z x reached header all.0 verdict all.1 same (is ∙ sym (judge-failure header z x all.0 None decides all.2))
+read_holds (Some why) file z x reached header verdict refuses same decides is = verdict_of-refuses file z x why refuses
 
 -- and on those that were tried, where the verdict is the same whatever was passed behind them
 pub read_passes : (stopped : Option ReadRefusal) (file z x : List ℕ) (reached : Reached) (header : Header) (done : List Constraint) (verdict : Verdict) →

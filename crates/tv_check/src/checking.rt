@@ -17,9 +17,7 @@ use tv_r1cs_read::SystemReader;
 /// The file is read to its end whatever the verdict: `Ok` comes exactly for a file that holds a
 /// system, and `Bad` tells the first fault of another one. `Fault` comes only where a read failed,
 /// and a missing name is such a fault. Takes one pass and no memory; each term is one product up to
-/// the first constraint that doesn't hold, and none behind it or where no constraint decides. It
-/// isn't inlined: among all commands its loops would lack registers.
-#[inline(never)]
+/// the first constraint that doesn't hold, and none behind it or where no constraint decides.
 pub fn check<D: Files>(
     alloc: Global,
     files: &mut D,
@@ -37,15 +35,11 @@ pub fn check<D: Files>(
         Err(unread) => return Err(unread.why),
     };
     let mut verdict = public_verdict(&reader.counts(), values, publics);
-    let mut at = 0_u64;
-    while let Verdict::Yes = verdict {
-        let Some(holds) = reader.try_next(values) else {
-            return ended(&reader, verdict);
-        };
-        if !holds {
-            verdict = Verdict::NoConstraint { at };
+    if let Verdict::Yes = verdict {
+        match reader.first_failure(values) {
+            Some(at) => verdict = Verdict::NoConstraint { at },
+            None => return ended(&reader, verdict),
         }
-        at += 1;
     }
     reader.pass_rest();
     ended(&reader, verdict)

@@ -15,11 +15,9 @@ use Rattle.tv_r1cs_read.specs.Progress.{Reached, Follows, IsWithin, ahead, terms
 use Rattle.tv_r1cs_read.specs.R1cs.{constraint_at, constraints_from, system_of}
 use Rattle.tv_container.specs.Reading.{Refuses}
 use Rattle.tv_r1cs_read.specs.Rows.{constraint_of, terms_in}
-use Rattle.tv_r1cs_read.specs.Steps.{Passed}
-use Rattle.tv_r1cs_read.specs.Sums.{Ended}
+use Rattle.tv_r1cs_read.specs.Steps.{Failed, Passed}
 use Rattle.tv_r1cs_read.specs.Survey.{survey_of}
 use Rattle.tv_container.proofs.Chain.{made, refuses_first}
-use Rattle.tv_r1cs_read.proofs.Constraints.{constraints_from-refuses}
 
 -- the next one goes behind those that were read
 read_more : (done : List Constraint) (all before after : Result (List Constraint) Fault) (next : Constraint) → HasRead done all before →
@@ -106,39 +104,22 @@ all_at file reached rows place none =
       counts = rw (place.header, all, count, place.terms) refl;
     }
 
--- no constraint was passed, and one more
+-- no constraint was passed
 pub passed_none : (file : List ℕ) (reached : Reached) (rows : List Constraint) → IsAt reached file rows →
     (more : List Constraint) × IsAt reached file (rows ++ more)
 passed_none file reached rows place = ([], rw append-nil place)
 
-pub passed_more : (file : List ℕ) (reached : Reached) (rows more : List Constraint) (next : Constraint) →
-    IsAt reached file (rows ++ more ++ next ∷ []) → (more : List Constraint) × IsAt reached file (rows ++ more)
-passed_more file reached rows more next place = (more ++ next ∷ [], rw (← append_assoc rows more (next ∷ [])) place)
-
--- reading ended behind those that were passed
-pub passed_all : (file : List ℕ) (reached : Reached) (rows more : List Constraint) →
-    MatchOption reached.stopped (IsAll reached file (rows ++ more)) (λ why. Refuses why (system_of file)) →
+-- those that were tried last were passed too
+pub passed_all : (file : List ℕ) (z : List ℕ) (reached : Reached) (rows more : List Constraint) →
+    MatchOption reached.stopped (Failed None z reached file (rows ++ more)) (λ why. Refuses why (system_of file)) →
     MatchOption reached.stopped (Passed reached file rows) (λ why. Refuses why (system_of file))
-passed_all file reached rows more ended = by_stop reached.stopped ended
+passed_all file z reached rows more ended = by_stop reached.stopped ended
   where
-    by_stop : (stopped : Option ReadRefusal) → MatchOption stopped (IsAll reached file (rows ++ more)) (λ why. Refuses why (system_of file)) →
+    by_stop : (stopped : Option ReadRefusal) → MatchOption stopped (Failed None z reached file (rows ++ more)) (λ why. Refuses why (system_of file)) →
         MatchOption stopped (Passed reached file rows) (λ why. Refuses why (system_of file))
-    by_stop None all = (more, all)
+    by_stop None all = (more ++ all.0, rw (← append_assoc rows more all.0) all.1)
     by_stop (Some why) refuses = refuses
 
 -- what is given where reading is on
 pub is_on : {Gives : Type 0} (file : List ℕ) (stopped : Option ReadRefusal) → stopped ≡ None → Gives → MatchOption stopped Gives (λ why. Refuses why (system_of file))
 is_on file stopped on gives = rw on gives
-
--- a constraint that was not given stops reading
-pub ended_row : {A : Type 0} (file : List ℕ) (old new : Reached) (rows : List Constraint) (Gives : A → Type 0) → IsAt old file rows →
-    old.left ≡ old.left - 1 + 1 →
-    Ended None new.stopped Gives (λ why. Refuses why (constraint_at file old.header.wires (old.header.rows.at + old.header.rows.size) old.at)) →
-    MatchOption new.stopped (IsAll new file rows) (λ why. Refuses why (system_of file))
-ended_row {A} file old new rows Gives place left ended = by_stop new.stopped ended
-  where
-    by_stop : (stopped : Option ReadRefusal) →
-        Ended {A = A} None stopped Gives (λ why. Refuses why (constraint_at file old.header.wires (old.header.rows.at + old.header.rows.size) old.at)) →
-        MatchOption stopped (IsAll new file rows) (λ why. Refuses why (system_of file))
-    by_stop None none = absurd none
-    by_stop (Some why) refuses = refuses_ahead file old rows why place (constraints_from-refuses file _ _ _ _ _ _ left refuses)

@@ -4,3 +4,4 @@ pub mod Done
 pub mod HeaderLemmas
 pub mod Vectors
 pub mod Summing
+pub mod Failing

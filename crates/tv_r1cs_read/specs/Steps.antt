@@ -1,8 +1,8 @@
 -- What each step of reading a system promises.
-use Rattle.std.specs.Prelude.{◌≡◌, ℕ, ◌+◌, Bool, true, false, List, [], ◌∷◌, ◌++◌, Option, Some, None, MatchOption, Result, MatchResult}
+use Rattle.std.specs.Prelude.{◌≡◌, ℕ, ◌+◌, ◌-◌, ◌<◌, ◌≤◌, Bool, true, false, if◌then◌else◌, List, [], ◌∷◌, ◌++◌, length, Option, Some, None, MatchOption, Result, MatchResult}
 use Rattle.tv_files.specs.Outside.{Outside}
 use Rattle.tv_core.specs.Constraints.{Constraint}
-use Rattle.tv_core.specs.Meanings.{holds}
+use Rattle.tv_core.specs.Meanings.{first_failure}
 use Rattle.tv_container.specs.Reading.{Known, Refuses, Stopped}
 use Rattle.tv_container.specs.declared.why.ReadRefusal.{ReadRefusal}
 use Rattle.tv_r1cs_read.specs.declared.rows.Row.{Row}
@@ -36,16 +36,23 @@ abbrev pub GaveBy : Option Row → Reached → List ℕ → List Constraint → 
 GaveBy (Some row) reached file rows = Gave true row reached file rows
 GaveBy None reached file rows = IsAll reached file rows
 
--- the next constraint holds under an assignment or not
-pub record HasTried (test : Bool) (z : List ℕ) (reached : Reached) (file : List ℕ) (rows : List Constraint) : Type 0 where
-  pub constraint : Constraint
-  pub place : IsAt reached file (rows ++ constraint ∷ [])
-  pub is : test ≡ holds z constraint
+-- constraints ahead were tried: each of them holds, or each but for the last; from any number on that is the first that fails
+pub record WentOver (holds : Bool) (z : List ℕ) (old new : Reached) (file : List ℕ) (rows : List Constraint) : Type 0 where
+  pub more : List Constraint
+  pub place : IsAt new file (rows ++ more)
+  pub count : new.left + length more ≡ old.left
+  pub is : (at : ℕ) → first_failure z at more ≡ (if holds then None else Some (at + length more - 1))
 
--- the next constraint was tried, or there is none, since those before are all
-abbrev pub GaveTried : Option Bool → List ℕ → Reached → List ℕ → List Constraint → Type 0
-GaveTried (Some test) z reached file rows = HasTried test z reached file rows
-GaveTried None z reached file rows = IsAll reached file rows
+-- so many were left, and fewer where one of those that were tried doesn't hold
+abbrev pub Fewer : Bool → ℕ → ℕ → Type 0
+Fewer true old new = new ≤ old
+Fewer false old new = new < old
+
+-- the constraints ahead hold up to one, behind so many, which doesn't, or all hold
+abbrev pub Failed : Option ℕ → List ℕ → Reached → List ℕ → List Constraint → Type 0
+Failed (Some before) z reached file rows =
+    (more : List Constraint) × IsAt reached file (rows ++ more) × (length more ≡ before + 1) × (first_failure z 0 more ≡ Some before)
+Failed None z reached file rows = (more : List Constraint) × IsAll reached file (rows ++ more) × (first_failure z 0 more ≡ None)
 
 -- with those behind them these constraints are all
 abbrev pub Passed : Reached → List ℕ → List Constraint → Type 0

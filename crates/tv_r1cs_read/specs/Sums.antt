@@ -1,28 +1,35 @@
 -- Constraints that are tried as they are read, with no term kept.
-use Rattle.std.specs.Prelude.{◌≡◌, ℕ, ◌+◌, ◌-◌, ◌*◌, ◌≤◌, Bool, List, length, Option, Some, None, Result, Ok, slice_index}
+use Rattle.std.specs.Prelude.{◌≡◌, ℕ, ◌+◌, ◌-◌, ◌*◌, ◌≤◌, Bool, List, length, Result, Ok, slice_index}
 use Rattle.std.specs.List.{sum_by}
 use Rattle.tv_core.specs.Constraints.{Combination, Constraint, value}
 use Rattle.tv_core.specs.Meanings.{holds, terms_of}
 use Rattle.tv_container.specs.Places.{Fault}
 use Rattle.tv_container.specs.Reading.{IsPiece, Piece}
-use Rattle.tv_container.specs.declared.why.ReadRefusal.{ReadRefusal}
 use Rattle.tv_r1cs_read.specs.declared.terms.Bounds.{Bounds}
 use Rattle.tv_r1cs_read.specs.R1cs.{Read}
 use Rattle.tv_r1cs_read.specs.Rows.{IsAhead}
 
--- of a combination's terms k come to this sum under an assignment, and the others, n of them, are at a place
-pub record IsSummed (answer : Result (Read Combination) Fault) (file : List ℕ) (wires end : ℕ) (z : List ℕ) (k n at sum : ℕ) : Type 0 where
+-- of a combination's terms k were added to a first sum under an assignment, which gave this one, and the others, n of them,
+-- are at a place
+pub record IsSummed (answer : Result (Read Combination) Fault) (file : List ℕ) (wires end : ℕ) (z : List ℕ) (first k n at sum : ℕ) : Type 0 where
   pub terms : List (ℕ × ℕ)
   pub count : k ≡ length terms
   pub ahead : IsAhead answer terms file wires end n at
-  pub is : sum ≡ sum_by (λ t. t.1 * slice_index z t.0) terms
+  pub is : sum ≡ first + sum_by (λ t. t.1 * slice_index z t.0) terms
 
 -- Of the terms at a place, so many, that a window holds, the first few are added: a combination whose terms come to a sum
 -- before the place comes to another behind them.
 abbrev pub Adds : Piece → Bounds → List ℕ → (at count few old new : ℕ) → Type 0
 Adds piece bounds z at count few old new =
-    (file : List ℕ) → IsPiece piece file → (answer : Result (Read Combination) Fault) → (k n : ℕ) → count ≤ n →
-    IsSummed answer file bounds.wires bounds.end z k n at old → IsSummed answer file bounds.wires bounds.end z (k + few) (n - few) (at + 12 * few) new
+    (file : List ℕ) → IsPiece piece file → (answer : Result (Read Combination) Fault) → (first k n : ℕ) → count ≤ n →
+    IsSummed answer file bounds.wires bounds.end z first k n at old → IsSummed answer file bounds.wires bounds.end z first (k + few) (n - few) (at + 12 * few) new
+
+-- the combination that was read was added to a first sum, has so many terms, and ends before this place
+pub record ComesTo (answer : Result (Read Combination) Fault) (z : List ℕ) (first sum n next : ℕ) : Type 0 where
+  pub terms : Combination
+  pub count : n ≡ length terms
+  pub read : answer ≡ Ok (record { value = terms; next = next })
+  pub is : sum ≡ first + sum_by (λ t. t.0 * slice_index z t.1) terms
 
 -- the combination that was read has this value, so many terms, and ends before this place
 pub record IsValued (answer : Result (Read Combination) Fault) (z : List ℕ) (v n next : ℕ) : Type 0 where
@@ -37,9 +44,3 @@ pub record IsTried (answer : Result (Read Constraint) Fault) (z : List ℕ) (tes
   pub count : n ≡ terms_of constraint
   pub read : answer ≡ Ok (record { value = constraint; next = next })
   pub is : test ≡ holds z constraint
-
--- a step that keeps its refusal apart gave something, or reading stopped
-abbrev pub Ended : {A : Type 0} → Option A → Option ReadRefusal → (A → Type 0) → (ReadRefusal → Type 0) → Type 0
-Ended (Some value) stopped Gives Stops = (stopped ≡ None) × Gives value
-Ended None (Some why) Gives Stops = Stops why
-Ended None None Gives Stops = ⊥

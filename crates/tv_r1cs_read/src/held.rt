@@ -1,14 +1,18 @@
 //! How much of a constraint the window holds.
 
-ghost use Rattle.std.specs.Prelude.{◌≡◌, ℕ, ◌+◌, ◌-◌, ◌*◌, ◌≤◌, ◌<◌, List, IfSome};
+ghost use Rattle.std.specs.Prelude.{◌≡◌, ℕ, ◌+◌, ◌-◌, ◌*◌, ◌≤◌, ◌<◌, List, IfSome, true, ◌↔◌};
 ghost use Rattle.tv_container.specs.Places.{number};
 ghost use Rattle.tv_container.specs.Reading.{Holds, IsPiece};
 ghost use Rattle.tv_r1cs_read.specs.Held.{IsHeld};
 
-use crate::terms::{Bounds, TERM_BYTES, WIDEST};
+use crate::terms::{Bounds, TERM_BYTES};
 use tv_container::Window;
 
-/// A place, and the one up to which the window holds the bytes from there on.
+/// How many bytes are looked at from a place on: no more than a window holds, so few that a
+/// combination that is among them isn't too wide.
+const SIGHT: u64 = 65_536;
+
+/// A place, and the one up to which the window holds the bytes from there on, at most 65,536.
 #[derive(Clone, Copy)]
 pub(crate) struct Held {
     pub(crate) from: u64,
@@ -28,31 +32,37 @@ pub(crate) fn held_from(window: &Window, bounds: &Bounds, at: u64) -> Held
     let held = window.bytes_from(at).len() as u64;
     Held {
         from: at,
-        to: at + held.min(bounds.end - at),
+        to: at + held.min(bounds.end - at).min(SIGHT),
     }
 }
 
 impl Held {
+    /// Whether so many bytes are held.
+    #[inline(always)]
+    pub(crate) fn has(self, size: u64) -> bool
+        requires { self.from ≤ self.to }
+        ensures { (result ≡ true) ↔ (self.from + size ≤ self.to) }
+    {
+        self.to - self.from >= size
+    }
+
     /// How many terms the combination at the place has; `None` where the window doesn't hold all of
-    /// it, or it is too wide.
+    /// it.
     #[inline(always)]
     pub(crate) fn terms(self, window: &Window) -> Option<u32>
         requires before { self.from ≤ self.to }
+        requires short { self.to ≤ self.from + 65536 }
         requires holds { self.from < self.to → Holds window.now self.from (self.to - self.from) }
-        ensures narrow { IfSome result (λ terms. terms ≤ WIDEST) }
+        ensures narrow { IfSome result (λ terms. terms ≤ 1048576) }
         ensures within { IfSome result (λ terms. self.from + 4 + 12 * terms ≤ self.to) }
         ensures counts { (file : List ℕ) → IsPiece window.now file
             → IfSome result (λ terms. terms ≡ number file 4 self.from) }
     {
-        let size = self.to - self.from;
-        if size < 4 {
+        if !self.has(4) {
             return None;
         }
         let terms = window.word(self.from);
-        if terms > WIDEST || TERM_BYTES * u64::from(terms) > size - 4 {
-            return None;
-        }
-        Some(terms)
+        self.has(4 + TERM_BYTES * u64::from(terms)).then_some(terms)
     }
 
     /// What is held behind the combination at the place, of so many terms.
@@ -68,19 +78,17 @@ impl Held {
         }
     }
 
-    /// Whether the window holds all of the constraint at the place, and none of its combinations is
-    /// too wide.
-    #[inline(always)]
-    pub(crate) fn has_row(self, window: &Window) -> bool
+    /// Whether the window holds all of the two combinations at the place.
+    #[cold]
+    #[inline(never)]
+    pub(crate) fn has_two(self, window: &Window) -> bool
         requires before { self.from ≤ self.to }
+        requires short { self.to ≤ self.from + 65536 }
         requires holds { self.from < self.to → Holds window.now self.from (self.to - self.from) }
     {
-        let Some(a) = self.terms(window) else {
-            return false;
-        };
-        let Some(b) = self.behind(a).terms(window) else {
-            return false;
-        };
-        self.behind(a).behind(b).terms(window).is_some()
+        match self.terms(window) {
+            Some(terms) => self.behind(terms).terms(window).is_some(),
+            None => false,
+        }
     }
 }

@@ -3,6 +3,7 @@
 //! fault.
 #![tactic(auto)]
 
+mod adding;
 mod header;
 mod held;
 mod progress;
@@ -11,6 +12,7 @@ mod rows;
 mod sum;
 mod terms;
 mod tried;
+mod trying;
 
 pub use header::{HEADER_BYTES, Header, R1CS};
 pub use progress::Progress;

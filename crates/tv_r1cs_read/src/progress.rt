@@ -1,17 +1,20 @@
-ghost use Rattle.std.specs.Prelude.{◌≡◌, ℕ, ◌+◌, ◌<◌, List, [], None, Err, IfOk, IfSome};
-ghost use Rattle.std.specs.Prelude.{MatchResult};
+ghost use Rattle.std.specs.Prelude.{◌≡◌, ℕ, ◌+◌, ◌<◌, ◌≤◌, List, [], None, Err, IfOk, IfSome};
+ghost use Rattle.std.specs.Prelude.{IsNone, IsSome, MatchResult, length, true, false};
 ghost use Rattle.tv_files.specs.Outside.{Outside};
 ghost use Rattle.tv_container.specs.Reading.{Looks, Refuses, IsMissing, Known};
 ghost use Rattle.tv_container.specs.declared.why.ReadRefusal.{ReadRefusal};
 ghost use Rattle.tv_r1cs_read.specs.Places.{IsAll, IsAt};
 ghost use Rattle.tv_r1cs_read.specs.Progress.{counts_of, IsBegun};
 ghost use Rattle.tv_r1cs_read.specs.R1cs.{header_of, system_of};
-ghost use Rattle.tv_r1cs_read.specs.Steps.{Gave, GaveTried, Steps, Tells, WentOn};
+ghost use Rattle.tv_r1cs_read.specs.Steps.{Failed, Fewer, Gave, Steps, Tells};
+ghost use Rattle.tv_r1cs_read.specs.Steps.{WentOn, WentOver};
 
 use crate::header::{Header, read_header};
+use crate::held::held_from;
 use crate::rows::{Row, read_row};
 use crate::terms::Bounds;
-use crate::tried::{try_held, try_row};
+use crate::tried::try_row;
+use crate::trying::try_held;
 use std::marker::Model;
 use tv_container::{ReadRefusal, ReadWhy, Window};
 use tv_core::{Counts, F};
@@ -124,61 +127,123 @@ impl Progress {
         self.stopped
     }
 
-    /// Tries the next constraint under an assignment: whether it holds, or `None` after the last
-    /// and where reading stopped.
-    #[inline(always)]
-    pub(crate) fn try_next<D: Files>(
+    /// Tries the constraints ahead under an assignment, up to the first that doesn't hold, and
+    /// answers how many hold before it; `None` where all hold and where reading stopped.
+    pub(crate) fn first_failure<D: Files>(
         &mut self,
         files: &mut D,
         name: &str,
         values: &[F],
-    ) -> Option<bool>
+    ) -> Option<u64>
         ensures steps { Steps (D.seen files.old) (D.seen files.new) name.now self.old self.new
-            (λ file rows. GaveTried result values.now self.new file rows) }
+            (λ file rows. Failed result values.now self.new file rows) }
         ensures goes { IfSome result (λ _. self.new.stopped ≡ None) }
-        ensures left { IfSome result (λ _. self.new.left + 1 ≡ self.old.left) }
+        ensures left { IfSome result (λ before. self.new.left + before + 1 ≡ self.old.left) }
     {
         if self.stopped.is_some() {
             return None;
         }
-        if self.left == 0 {
-            self.end();
-            return None;
+        let all = self.left;
+        while self.left > 0 {
+            if !self.try_some(files, name, values)? {
+                return Some(u64::from(all - self.left - 1));
+            }
         }
-        let bounds = self.bounds();
-        let Some(tried) = try_held(&self.window, &bounds, self.at, values) else {
-            return self.try_far(files, name, values);
-        };
-        self.at = tried.next;
-        self.left -= 1;
-        Some(tried.holds)
+        self.end();
+        None
     }
 
-    // As `try_next`, where there is a constraint and the window doesn't hold all of it, or it isn't
-    // as it should be.
+    // Tries the next constraint, and those behind it that the window holds, up to the first that
+    // doesn't hold, and tells whether all that were tried hold; `None` where reading stopped.
+    fn try_some<D: Files>(&mut self, files: &mut D, name: &str, values: &[F]) -> Option<bool>
+        requires on { self.old.stopped ≡ None }
+        requires some { 0 < self.old.left }
+        ensures steps { Steps (D.seen files.old) (D.seen files.new) name.now self.old self.new
+            (λ file rows. IfSome result
+            (λ holds. WentOver holds values.now self.old self.new file rows)) }
+        ensures goes { IfSome result (λ _. self.new.stopped ≡ None) }
+        ensures stops { IsNone result → IsSome self.new.stopped }
+        ensures left { IfSome result (λ _. self.new.left < self.old.left) }
+    {
+        if !self.try_far(files, name, values)? {
+            return Some(false);
+        }
+        Some(self.try_window(values))
+    }
+
+    // Tries the next constraint, of which the window needn't hold anything; `None` where reading
+    // stopped.
     #[cold]
     #[inline(never)]
     fn try_far<D: Files>(&mut self, files: &mut D, name: &str, values: &[F]) -> Option<bool>
         requires on { self.old.stopped ≡ None }
         requires some { 0 < self.old.left }
         ensures steps { Steps (D.seen files.old) (D.seen files.new) name.now self.old self.new
-            (λ file rows. GaveTried result values.now self.new file rows) }
+            (λ file rows. IfSome result
+            (λ holds. WentOver holds values.now self.old self.new file rows)) }
         ensures goes { IfSome result (λ _. self.new.stopped ≡ None) }
+        ensures stops { IsNone result → IsSome self.new.stopped }
         ensures left { IfSome result (λ _. self.new.left + 1 ≡ self.old.left) }
     {
         let bounds = self.bounds();
-        let tried = try_row(
-            files,
-            name,
-            &mut self.window,
-            &bounds,
-            self.at,
-            values,
-            &mut self.stopped,
-        )?;
-        self.at = tried.next;
-        self.left -= 1;
-        Some(tried.holds)
+        match try_row(files, name, &mut self.window, &bounds, self.at, values) {
+            Ok(tried) => {
+                self.at = tried.next;
+                self.left -= 1;
+                Some(tried.holds)
+            }
+            Err(refusal) => {
+                self.stopped = Some(refusal);
+                None
+            }
+        }
+    }
+
+    // Tries the constraints ahead that the window holds, up to the first that doesn't hold, and
+    // tells whether all that were tried hold. Where some wires have a value and others none it
+    // tries none.
+    fn try_window(&mut self, values: &[F]) -> bool
+        requires { self.old.stopped ≡ None }
+        ensures steps { (outside : Outside) → (name : List ℕ) → Steps outside outside name self.old
+            self.new (λ file rows. WentOver result values.now self.old self.new file rows) }
+        ensures goes { self.new.stopped ≡ None }
+        ensures left { Fewer result self.old.left self.new.left }
+    {
+        if values.is_empty() {
+            return self.try_rows::<true>(values);
+        }
+        if values.len() >= self.header.wires as usize {
+            return self.try_rows::<false>(values);
+        }
+        true
+    }
+
+    // As `try_window`. Where `PASS` there are no values; else each wire has one.
+    #[inline(never)]
+    fn try_rows<const PASS: bool>(&mut self, values: &[F]) -> bool
+        requires on { self.old.stopped ≡ None }
+        requires none { PASS ≡ true → values.now ≡ [] }
+        requires whole { PASS ≡ false → self.old.header.wires ≤ length values.now }
+        ensures steps { (outside : Outside) → (name : List ℕ) → Steps outside outside name self.old
+            self.new (λ file rows. WentOver result values.now self.old self.new file rows) }
+        ensures goes { self.new.stopped ≡ None }
+        ensures left { Fewer result self.old.left self.new.left }
+    {
+        let bounds = self.bounds();
+        let mut held = held_from(&self.window, &bounds, self.at);
+        let mut left = self.left;
+        let mut holds = true;
+        while holds && left > 0 {
+            let Some(tried) = try_held::<PASS>(&self.window, &bounds, held, values) else {
+                break;
+            };
+            held.from = tried.next;
+            left -= 1;
+            holds = tried.holds;
+        }
+        self.at = held.from;
+        self.left = left;
+        holds
     }
 
     // Behind the last counted constraint: stops where section 2 has more bytes.

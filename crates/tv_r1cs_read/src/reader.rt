@@ -4,7 +4,7 @@ ghost use Rattle.tv_container.specs.declared.why.ReadRefusal.{ReadRefusal};
 ghost use Rattle.tv_r1cs_read.specs.Places.{IsAt};
 ghost use Rattle.tv_r1cs_read.specs.Progress.{counts_of, IsBegun};
 ghost use Rattle.tv_r1cs_read.specs.R1cs.{header_of, system_of};
-ghost use Rattle.tv_r1cs_read.specs.Steps.{Gave, GaveBy, GaveTried, Passed, Steps, Tells};
+ghost use Rattle.tv_r1cs_read.specs.Steps.{Failed, Gave, GaveBy, Passed, Steps, Tells};
 ghost use Rattle.tv_r1cs_read.specs.Steps.{WentOn, WentOnBy};
 ghost use Rattle.tv_r1cs_read.specs.Survey.{survey_of};
 
@@ -94,21 +94,21 @@ impl<'a, D: Files> SystemReader<'a, D> {
         self.progress.next(self.files, self.name, row)
     }
 
-    /// Tries the next constraint under an assignment, where a wire past its end counts as 0,
-    /// straight from the file's bytes: whether it holds, or `None` after the last and where reading
-    /// stopped, which `stopped` tells apart. Takes no memory; each term is one product.
-    #[inline(always)]
-    pub fn try_next(&mut self, values: &[F]) -> Option<bool>
+    /// Tries the constraints ahead under an assignment, where a wire past its end counts as 0, up
+    /// to the first that doesn't hold, straight from the file's bytes: how many hold before it, or
+    /// `None` where all hold and where reading stopped, which `stopped` tells apart. Takes no
+    /// memory; each term is one product.
+    pub fn first_failure(&mut self, values: &[F]) -> Option<u64>
         ensures same { self.new.files.ghost_name ≡ self.old.files.ghost_name }
         ensures name { self.new.name.now ≡ self.old.name.now }
         ensures steps { Steps (D.seen self.old.files.now) (D.seen self.new.files.now)
             self.old.name.now self.old.progress self.new.progress
-            (λ file rows. GaveTried result values.now self.new.progress file rows) }
+            (λ file rows. Failed result values.now self.new.progress file rows) }
         ensures goes { IfSome result (λ _. self.new.progress.stopped ≡ None) }
         ensures left { IfSome result
-            (λ _. self.new.progress.left + 1 ≡ self.old.progress.left) }
+            (λ before. self.new.progress.left + before + 1 ≡ self.old.progress.left) }
     {
-        self.progress.try_next(self.files, self.name, values)
+        self.progress.first_failure(self.files, self.name, values)
     }
 
     /// Reads on to the end of the system, giving no constraint: each that is ahead is tested for
@@ -124,7 +124,7 @@ impl<'a, D: Files> SystemReader<'a, D> {
         let None = self.stopped() else {
             return;
         };
-        while let Some(_) = self.try_next(&[]) {}
+        while let Some(_) = self.first_failure(&[]) {}
     }
 
     /// Why reading stopped, where it did: `Bad` is the first fault ahead, and `Fault` comes only

@@ -9,7 +9,7 @@ ghost use Rattle.tv_r1cs_read.specs.R1cs.{combination_at, constraint_at, terms_a
 ghost use Rattle.tv_r1cs_read.specs.Rows.{combination_read, constraint_read, terms_in, IsOver};
 
 use crate::held::{Held, held_from};
-use crate::terms::{Bounds, TERM_BYTES, read_count, read_term};
+use crate::terms::{Bounds, TERM_BYTES, held_term, read_count, read_term};
 use std::alloc::{AllocFailed, Global};
 use std::marker::Model;
 use tv_container::{ReadRefusal, Window};
@@ -203,13 +203,10 @@ fn take_terms(
     terms.clear();
     let mut at = at;
     for _ in 0..count {
-        let wire = window.word(at);
-        if wire >= bounds.wires {
-            return Ok(false);
-        }
-        let Some(coefficient) = F::canon(window.long(at + 4)) else {
+        let Some(term) = held_term(window, bounds, at) else {
             return Ok(false);
         };
+        let (wire, coefficient) = term;
         terms.push(wire, coefficient)?;
         at += TERM_BYTES;
     }

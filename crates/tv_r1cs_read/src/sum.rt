@@ -1,10 +1,10 @@
 //! Sums of products, reduced once.
 
-ghost use Rattle.std.specs.Prelude.{◌≡◌, ◌+◌, ◌*◌, ◌%◌, ◌^◌, ◌<◌};
+ghost use Rattle.std.specs.Prelude.{◌≡◌, ◌+◌, ◌-◌, ◌*◌, ◌%◌, ◌^◌, ◌<◌};
 ghost use Rattle.tv_core.specs.declared.field.TheConstants.{P};
 
 use std::marker::Model;
-use tv_core::F;
+use tv_core::{F, P};
 
 /// A sum of products that isn't reduced: multiples of 2^128 are counted apart. Contracts see it as
 /// the number.
@@ -31,6 +31,18 @@ impl Sum {
         Sum { low: 0, carries: 0 }
     }
 
+    /// 2^128 - 1 less a product: what is added to it comes to 2^128 - 1 again, modulo P, where it
+    /// is the product.
+    #[inline(always)]
+    pub(crate) fn without(x: u64, y: u64) -> Sum
+        ensures { result + x * y ≡ 2 ^ 128 - 1 }
+    {
+        Sum {
+            low: u128::MAX - x as u128 * y as u128,
+            carries: 0,
+        }
+    }
+
     /// Adds a product.
     #[inline(always)]
     pub(crate) fn add(&mut self, x: F, y: F)
@@ -51,5 +63,25 @@ impl Sum {
         ensures { result ≡ self % P }
     {
         F::of_wide(self.low, self.carries)
+    }
+
+    /// A number that is the sum modulo P, and may be P or more: `F::of_wide` less its last step.
+    #[inline(always)]
+    pub(crate) fn residue(self) -> u64
+        requires { self < 2 ^ 151 }
+        ensures { result % P ≡ self % P }
+    {
+        let high = (self.low >> 64) as u64;
+        let low = (self.low % 18_446_744_073_709_551_616) as u64;
+        let middle = high % 4_294_967_296;
+        let top = (self.carries << 32) + (high >> 32);
+        let (difference, borrow) = low.overflowing_sub(top);
+        let start = if borrow {
+            difference.wrapping_add(P)
+        } else {
+            difference
+        };
+        let (sum, carry) = start.overflowing_add((middle << 32) - middle);
+        if carry { sum.wrapping_sub(P) } else { sum }
     }
 }

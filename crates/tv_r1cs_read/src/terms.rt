@@ -1,8 +1,8 @@
 //! A count of terms, or a term, at a place of section 2.
 
-ghost use Rattle.std.specs.Prelude.{◌+◌, ◌≤◌, ◌<◌, ◌^◌, OnOk, IfOk};
+ghost use Rattle.std.specs.Prelude.{◌≡◌, ℕ, ◌+◌, ◌≤◌, ◌<◌, ◌^◌, List, Ok, OnOk, IfOk, IfSome};
 ghost use Rattle.tv_container.specs.Places.{fit, places};
-ghost use Rattle.tv_container.specs.Reading.{Gives, GivesBy, Holds, ReadsIn};
+ghost use Rattle.tv_container.specs.Reading.{Gives, GivesBy, Holds, IsPiece, ReadsIn};
 ghost use Rattle.tv_r1cs_read.specs.R1cs.{count_at, term_at};
 
 use tv_container::{ReadRefusal, ReadWhy, Window};
@@ -122,4 +122,22 @@ pub(crate) fn read_term<D: Files>(
         });
     };
     Ok((wire, coefficient))
+}
+
+/// The term at a place, which the window holds: its wire, and its coefficient; `None` where one of
+/// them isn't as it should be.
+#[inline(always)]
+pub(crate) fn held_term(window: &Window, bounds: &Bounds, at: u64) -> Option<(u32, F)>
+    requires held { Holds window.now at 12 }
+    requires within { at + 12 ≤ bounds.now.end }
+    ensures wire { IfSome result (λ term. term.0 < bounds.now.wires) }
+    ensures gives { (file : List ℕ) → IsPiece window.now file → IfSome result
+        (λ term. term_at file bounds.now.wires bounds.now.end at ≡ Ok (term.1, term.0)) }
+{
+    let wire = window.word(at);
+    if wire >= bounds.wires {
+        return None;
+    }
+    let coefficient = F::canon(window.long(at + 4))?;
+    Some((wire, coefficient))
 }

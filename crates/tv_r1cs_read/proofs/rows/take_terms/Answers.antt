@@ -1,9 +1,7 @@
-use Rattle.std.proofs.Common.{◌≡◌, ℕ, ◌+◌, ◌-◌, ◌*◌, ◌<◌, length, ap, arith, sym, ⊎_elim}
-use Rattle.std.proofs.lemmas.Bool.{cases_lt}
+use Rattle.std.proofs.Common.{◌≡◌, ℕ, ◌+◌, ◌-◌, ◌*◌, ◌<◌, length, ap, arith}
 use Rattle.std.proofs.lemmas.List.{length_push}
 use Rattle.std.proofs.lemmas.List.Elements.{All-nil, All-push}
-use Rattle.tv_core.specs.declared.field.TheConstants.{P}
-use Rattle.tv_r1cs_read.proofs.Ahead.{begins, ends, goes_on, term_at-good}
+use Rattle.tv_r1cs_read.proofs.Ahead.{begins, ends, goes_on}
 use Rattle.tv_r1cs_read.proofs.rows.take_terms.Goals as goal
 
 pub loop-init : goal.loop-init
@@ -19,14 +17,11 @@ loop-init c = record {
 pub loop-preserved : goal.loop-preserved
 loop-preserved c = record {
   place = omega (arith, c.loop.invariant.place);
-  size = omega (arith, ap length c.in_ok-push.ensures, length_push c.loop.terms (c.word-wire.result, c.in-Some.coefficient), c.loop.invariant.size);
-  wires = rw c.in_ok-push.ensures (All-push (λ (t : ℕ × ℕ). t.0 < c.args.bounds.now.wires) _ _ c.loop.invariant.wires c.if-wire-bounds.false);
+  size = omega (arith, ap length c.in_ok-push.ensures, length_push c.loop.terms c.in-Some.term, c.loop.invariant.size);
+  wires = rw c.in_ok-push.ensures (All-push (λ (t : ℕ × ℕ). t.0 < c.args.bounds.now.wires) _ _ c.loop.invariant.wires c.in-Some.ensures.wire);
   ahead = λ file piece.
-      let canonical : c.long.result < P = ⊎_elim (λ below. below) (λ above. cc (c.in-Some.ensures.none.1 above)) (cases_lt c.long.result P) in
       let left : c.args.count - c.loop.counter ≡ c.args.count - (c.loop.counter + 1) + 1 = omega (arith, c.loop-test.true) in
-      let term = term_at-good file c.args.bounds.now.wires c.args.bounds.now.end c.loop.at _ _ (omega (arith, c.loop.invariant.place, c.loop-test.true, c.requires.within))
-      (sym (c.word-wire.ensures file piece)) c.if-wire-bounds.false (sym (c.long.ensures file piece)) canonical in
-      rw (c.in_ok-push.ensures, c.in-Some.ensures.some) (goes_on _ _ file _ _ _ _ _ _ _ (c.loop.invariant.ahead file piece) left term);
+      rw c.in_ok-push.ensures (goes_on _ _ file _ _ _ _ _ _ _ (c.loop.invariant.ahead file piece) left (c.in-Some.ensures.gives file piece));
 }
 
 pub returns-clause-gives : goal.returns-clause-gives

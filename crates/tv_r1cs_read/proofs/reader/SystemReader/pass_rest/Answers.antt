@@ -1,6 +1,6 @@
-use Rattle.std.proofs.Common.{◌++◌, ◌∙◌, sym, rules, refl}
+use Rattle.std.proofs.Common.{[], ◌++◌, ◌∙◌, append_assoc, sym, rules, refl}
 use Rattle.std.proofs.lemmas.Option.{MatchOption-at_none}
-use Rattle.tv_r1cs_read.proofs.Done.{passed_none, passed_more, passed_all}
+use Rattle.tv_r1cs_read.proofs.Done.{passed_all, passed_none}
 use Rattle.tv_r1cs_read.proofs.reader.SystemReader.pass_rest.Goals as goal
 
 pub loop-init : goal.loop-init
@@ -23,17 +23,17 @@ loop-preserved g c = record {
   place = λ rows file told start.
       let before = c.loop.invariant.place rows file told start in
       let seen = rw (← c.loop.invariant.outside, ← c.loop.invariant.name) at told in
-      let tried = MatchOption-at_none _ _ c.in-Some.ensures.goes (c.in-Some.ensures.steps.gives (rows ++ before.0) file seen before.1) in
-      passed_more file _ rows before.0 tried.constraint tried.place;
+      let failed = MatchOption-at_none _ _ c.in-Some.ensures.goes (c.in-Some.ensures.steps.gives (rows ++ before.0) file seen before.1) in
+      (before.0 ++ failed.0, rw (← append_assoc rows before.0 failed.0) failed.1);
 }
 
 pub returns-clause-steps : goal.returns-clause-steps
 returns-clause-steps g c = record {
-  header = c.in_default-try_next.ensures.steps.header ∙ c.loop.invariant.header;
+  header = c.in_default-first_failure.ensures.steps.header ∙ c.loop.invariant.header;
   again = search rules;
   looks = search rules;
   gives = λ rows file told start.
       let before = c.loop.invariant.place rows file told start in
       let seen = rw (← c.loop.invariant.outside, ← c.loop.invariant.name) at told in
-      passed_all file _ rows before.0 (c.in_default-try_next.ensures.steps.gives (rows ++ before.0) file seen before.1);
+      passed_all file [] _ rows before.0 (c.in_default-first_failure.ensures.steps.gives (rows ++ before.0) file seen before.1);
 }
