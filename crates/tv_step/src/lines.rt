@@ -52,14 +52,6 @@ impl From<Vec<Line>> for Lines {
     }
 }
 
-impl From<Lines> for Vec<Line> {
-    ghost from_gives = { λ lines items. items.items ≡ lines };
-
-    fn from(lines: Lines) -> Vec<Line> {
-        lines.items
-    }
-}
-
 /// A list of states.
 #[derive(Drop)]
 pub struct States {
@@ -89,14 +81,6 @@ impl From<Vec<TraceState>> for States {
 
     fn from(items: Vec<TraceState>) -> States {
         States { items }
-    }
-}
-
-impl From<States> for Vec<TraceState> {
-    ghost from_gives = { λ states items. items.items ≡ states };
-
-    fn from(states: States) -> Vec<TraceState> {
-        states.items
     }
 }
 
