@@ -12,16 +12,16 @@ ghost use Rattle.tv_mem.specs.Pages.{Writes, WritesIn};
 use std::alloc::{AllocError, Global};
 
 /// How many bytes a page has.
-pub const PAGE: u32 = 4096;
+pub(crate) const PAGE: u32 = 4096;
 
 /// How many pages a table has places for.
 const PLACES: u32 = 1024;
 
 /// A table: a place for each of `PLACES` pages, as far as one of them was wanted.
-pub type Table = Vec<Option<Box<[u8; 4096]>>>;
+pub(crate) type Table = Vec<Option<Box<[u8; 4096]>>>;
 
 /// The page with a number, where it is held.
-pub fn page(tables: &[Table], number: u32) -> Option<&[u8; 4096]>
+pub(crate) fn page(tables: &[Table], number: u32) -> Option<&[u8; 4096]>
     ensures { option_copied result ≡ page_in tables.now number }
 {
     match tables.get((number / PLACES) as usize) {
@@ -41,7 +41,7 @@ fn page_of(table: &Table, place: usize) -> Option<&[u8; 4096]>
 }
 
 /// The word at a place of a page, the lowest byte first.
-pub fn word_on(page: &[u8; 4096], place: usize) -> u32
+pub(crate) fn word_on(page: &[u8; 4096], place: usize) -> u32
     requires within { place + 4 ≤ 4096 }
     ensures { result ≡ spelled (bytes_from (slice_index page.now) place 4) }
 {
@@ -54,7 +54,7 @@ pub fn word_on(page: &[u8; 4096], place: usize) -> u32
 }
 
 /// The word of 16 bits at a place of a page, the lowest byte first.
-pub fn half_on(page: &[u8; 4096], place: usize) -> u32
+pub(crate) fn half_on(page: &[u8; 4096], place: usize) -> u32
     requires within { place + 2 ≤ 4096 }
     ensures word { result ≡ spelled (bytes_from (slice_index page.now) place 2) }
     ensures small { result < 2 ^ 16 }
@@ -63,7 +63,7 @@ pub fn half_on(page: &[u8; 4096], place: usize) -> u32
 }
 
 /// Of the four bytes of a number, those of a word of `W` bits: the two or four lowest.
-pub fn low_bytes<const W: u32>(bytes: &[u8; 4]) -> &[u8]
+pub(crate) fn low_bytes<const W: u32>(bytes: &[u8; 4]) -> &[u8]
     requires { IsWidth W }
     ensures { (word : ℕ) → bytes.now ≡ word_bytes 32 word → result.now ≡ word_bytes W word }
 {
@@ -72,7 +72,7 @@ pub fn low_bytes<const W: u32>(bytes: &[u8; 4]) -> &[u8]
 
 /// Writes bytes at an address, all in its page. A page that isn't held is made first; where memory
 /// for it is refused, nothing changes.
-pub fn write(
+pub(crate) fn write(
     alloc: Global,
     tables: &mut Vec<Table>,
     at: u32,

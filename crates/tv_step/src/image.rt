@@ -7,7 +7,7 @@ use std::alloc::{AllocError, Global};
 use tv_mem::Memory;
 
 /// A memory that begins with the words of an image, and is 0 behind.
-pub fn memory_with<const W: u32>(alloc: Global, image: &[u32]) -> Result<Memory, AllocError>
+pub(crate) fn memory_with<const W: u32>(alloc: Global, image: &[u32]) -> Result<Memory, AllocError>
     requires width { IsWidth W }
     requires short { length image.now * (W / 8) ≤ 2 ^ W }
     ensures { IfOk result (λ memory. bytes_in memory ≡ image_bytes W image.now) }

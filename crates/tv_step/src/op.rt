@@ -40,7 +40,7 @@ pub enum Op {
 }
 
 /// The instruction with an opcode.
-pub fn op_of(op: u8) -> Op
+pub(crate) fn op_of(op: u8) -> Op
     ensures { result ≡ op_of op }
 {
     match op {
