@@ -15,10 +15,8 @@ use Rattle.tv_logic.proofs.PairSums.{pair_in-small, and-below}
 use Rattle.tv_logic.proofs.WordLaws.{words_sound, words_complete, words_answer, words_next}
 use Rattle.tv_logic.specs.Ands.{pair_in, pair_values}
 use Rattle.tv_logic.specs.Flags.{logic_flags_of, flag_values}
-use Rattle.tv_logic.specs.Logic.{logic_of, logic_made, logic_wires, LogicIsSound, logic_values, LogicIsComplete, LogicSizes}
+use Rattle.tv_logic.specs.Logic.{together, logic_of, logic_made, logic_wires, LogicIsSound, logic_values, LogicIsComplete, LogicSizes}
 use Rattle.tv_logic.specs.Words.{bits_turned, logic_words_of, word_values}
-use Rattle.tv_logic.specs.declared.answers.LogicFlags.{LogicFlags}
-use Rattle.tv_logic.specs.declared.answers.Logic.{Logic}
 use Rattle.tv_logic.specs.declared.answers.LogicWords.{LogicWords}
 use Rattle.tv_word.specs.Widths.{IsWidth}
 use Rattle.tv_word.proofs.WidthLaws.{word_small}
@@ -77,22 +75,10 @@ flags_at w words at next is =
     flags_answer words at
     ∙ flags_same words at at (at + 6) (at + 2) (at + 4) (next + (w / 2 + 3)) (next + (w / 2 + 9)) (next + (w / 2 + 5)) (next + (w / 2 + 7)) is (omega arith) (omega arith) (omega arith)
 
-made_of : LogicWords → LogicFlags → Logic
-made_of words flags = record {
-  and_word = words.and_word;
-  or_word = words.or_word;
-  xor_word = words.xor_word;
-  not_word = words.not_word;
-  and_zero = flags.and_zero;
-  or_zero = flags.or_zero;
-  xor_zero = flags.xor_zero;
-  not_zero = flags.not_zero;
-}
-
 logic_answer : (w : ℕ) → IsWidth w → (x y : Bits) (next : ℕ) → (logic_of w x y next).answer ≡ logic_wires w next
-unfolding logic_of pure ◌>>=◌ made_of
+unfolding logic_of pure ◌>>=◌
 logic_answer w width x y next =
-    ap₂ made_of (words_answer w width x y next) (flags_at w (logic_words_of w x y next).answer (logic_words_of w x y next).next next (words_next w width x y next))
+    ap₂ together (words_answer w width x y next) (flags_at w (logic_words_of w x y next).answer (logic_words_of w x y next).next next (words_next w width x y next))
 
 -- as many values as wires
 logic_fills : (w : ℕ) → IsWidth w → (x y : Bits) (a b : ℕ) → Fills (logic_of w x y) (logic_values w a b)

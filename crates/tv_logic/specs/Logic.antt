@@ -8,23 +8,29 @@ use Rattle.tv_core.specs.Laws.{Assigns, Meets, HasFrom, Fills, InField}
 use Rattle.tv_logic.specs.Flags.{logic_flags_of, flag_values}
 use Rattle.tv_logic.specs.Words.{bits_turned, logic_words_of, word_values}
 use Rattle.tv_logic.specs.declared.answers.Logic.{Logic}
+use Rattle.tv_logic.specs.declared.answers.LogicFlags.{LogicFlags}
+use Rattle.tv_logic.specs.declared.answers.LogicWords.{LogicWords}
 use Rattle.tv_word.specs.Widths.{IsWidth}
+
+-- words and their flags together
+abbrev pub together : LogicWords → LogicFlags → Logic
+together words flags = record {
+  and_word = words.and_word;
+  or_word = words.or_word;
+  xor_word = words.xor_word;
+  not_word = words.not_word;
+  and_zero = flags.and_zero;
+  or_zero = flags.or_zero;
+  xor_zero = flags.xor_zero;
+  not_zero = flags.not_zero;
+}
 
 -- the words of the four operations, and then their zero flags
 unfoldable pub logic_of : ℕ → Bits → Bits → Circuit Logic
 logic_of w x y = do
   words ← logic_words_of w x y
   flags ← logic_flags_of words
-  pure (record {
-    and_word = words.and_word;
-    or_word = words.or_word;
-    xor_word = words.xor_word;
-    not_word = words.not_word;
-    and_zero = flags.and_zero;
-    or_zero = flags.or_zero;
-    xor_zero = flags.xor_zero;
-    not_zero = flags.not_zero;
-  })
+  pure (together words flags)
 
 -- how many wires are made: half a word and 10
 abbrev pub logic_made : ℕ → ℕ
