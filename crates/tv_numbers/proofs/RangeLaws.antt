@@ -1,6 +1,6 @@
 -- The numbers of a step stay in range.
 use Rattle.std.proofs.Common.{◌≡◌, ℕ, zero, suc, ◌+◌, ◌-◌, ◌*◌, ◌/◌, ◌%◌, ◌^◌, ◌<◌, ◌≤◌, ◌==◌, nat_lt, Bool, true, false, not, ◌&&◌, ◌||◌, if◌then◌else◌, List, length, refl, sym, ◌∙◌, arith, inl, inr, true≢false}
-use Rattle.std.specs.Prelude.{◌*ℤ◌, slice_index, slice_set}
+use Rattle.std.specs.Prelude.{slice_index, slice_set}
 use Rattle.std.specs.Int.Bits.{and_lt}
 use Rattle.std.proofs.Math.Nat.{div-le_self, mod-lt, mod-le}
 use Rattle.std.proofs.lemmas.Nat.{or_lt, xor_lt}
@@ -12,13 +12,11 @@ use Rattle.tv_isa.specs.Instruction.{decode}
 use Rattle.tv_isa.specs.declared.instr.Instr.{Instr}
 use Rattle.tv_mem.specs.Bytes.{byte_of}
 use Rattle.tv_word.proofs.ArithmeticLaws.{high_small}
-use Rattle.tv_step.proofs.RangeLaws.{word_at, twos_small}
+use Rattle.tv_step.proofs.RangeLaws.{signed_small, word_at}
 use Rattle.tv_step.specs.Cells.{IsLine}
 use Rattle.tv_step.specs.Range.{AreWords}
 use Rattle.tv_word.proofs.WidthLaws.{for_widths}
-use Rattle.tv_word.specs.Twos.{twos}
 use Rattle.tv_word.specs.Widths.{IsWidth}
-use Rattle.tv_word.specs.Word.{signed}
 use Rattle.tv_numbers.proofs.Cases.{EachGives, chosen_in}
 use Rattle.tv_numbers.specs.Laws.{AtNumbers, NumbersStayInRange}
 use Rattle.tv_numbers.specs.Numbers.{operand_word, other_word, touches, asks, takes_primary, with_byte_in, found, writes, result_in, stepped, old_in, data_line}
@@ -41,12 +39,6 @@ module _ (w : ℕ) (width : IsWidth w) where
       let byte : v / 256 ^ j % 256 < 256 = mod-lt (v / 256 ^ j) (omega arith) in
       for_widths (λ w. v / 256 ^ j % 256 < 2 ^ w) (omega arith) (omega arith) w width
 
-  signed_small : (x a : ℕ) → Word (twos (2 * w) (signed w x *ℤ signed w a) / 2 ^ w)
-  signed_small x a = half (twos_small (2 * w) (signed w x *ℤ signed w a) (for_widths (λ w. 0 < 2 ^ (2 * w)) (omega arith) (omega arith) w width))
-    where
-      half : {v : ℕ} → v < 2 ^ (2 * w) → v / 2 ^ w < 2 ^ w
-      half {v} h = for_widths (λ w. v < 2 ^ (2 * w) → v / 2 ^ w < 2 ^ w) (λ h. omega arith) (λ h. omega arith) w width h
-
   -- ---- the tables
   pub results_small : (x a o : ℕ) (finds : Bool) → Word x → Word a → Word o → EachGives Word (results w x a o finds)
   results_small x a o finds hx ha ho = (
@@ -66,7 +58,7 @@ module _ (w : ℕ) (width : IsWidth w) where
                 (
                   high_small w width x a hx ha,
                   (
-                    signed_small x a,
+                    signed_small w width x a,
                     (
                       cond_both (a == 0) 0 (x / a) Word (λ _. some_words) (λ _. let most = div-le_self x a in omega (arith, most, hx)),
                       (

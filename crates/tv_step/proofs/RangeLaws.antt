@@ -53,7 +53,7 @@ module _ (w : ℕ) (width : IsWidth w) where
   jump_aligned : (a : ℕ) → (a - a % (w / 4)) % (w / 4) ≡ 0
   jump_aligned a = for_widths (λ w. (a - a % (w / 4)) % (w / 4) ≡ 0) (omega arith) (omega arith) w width
 
-  signed_small : (s a : ℕ) → Word (twos (2 * w) (signed w s *ℤ signed w a) / 2 ^ w)
+  pub signed_small : (s a : ℕ) → Word (twos (2 * w) (signed w s *ℤ signed w a) / 2 ^ w)
   signed_small s a = half (twos_small (2 * w) (signed w s *ℤ signed w a) (for_widths (λ w. 0 < 2 ^ (2 * w)) (omega arith) (omega arith) w width))
     where
       half : {v : ℕ} → v < 2 ^ (2 * w) → v / 2 ^ w < 2 ^ w
