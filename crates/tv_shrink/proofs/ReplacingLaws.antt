@@ -7,6 +7,7 @@ use Rattle.std.proofs.lemmas.Nat.{mul-mod_second}
 use Rattle.std.proofs.lemmas.List.Sums.{sum_by-cons}
 use Rattle.std.specs.Option.{option_or}
 use Rattle.tv_core.proofs.CombinationLaws.{value-cons, value-append, value-scaled, value-below, value-less, wire-below}
+use Rattle.tv_core.proofs.DifferenceLaws.{same_of_minus}
 use Rattle.tv_core.proofs.InverseLaws.{mul-inverse_of, inverse_of-below}
 use Rattle.tv_core.proofs.Residues.{add-mod_same, mul-mod_zero, mul-mod_one, same_of_difference}
 use Rattle.tv_core.specs.Constraints.{Combination, Constraint, value, Holds}
@@ -171,15 +172,12 @@ module _ (z : List ℕ) (assigns : Assigns z) where
         | inr second ↦ value-difference (constant_in c.b) c.b c.a c.c lin refl second ∙ ap (λ n. (n % P + (P - value c.c z)) % P) (mul_comm (value c.b z) (value c.a z))
       ]
 
-  zero_where_same : (m n : ℕ) → m < P → n < P → (m + (P - n)) % P ≡ 0 → m ≡ n
-  zero_where_same m n h k e = omega arith
-
   same_where_zero : (m n : ℕ) → m < P → n < P → m ≡ n → (m + (P - n)) % P ≡ 0
   same_where_zero m n h k e = omega arith
 
   pub holds_where_zero : (c : Constraint) (lin : Combination) → linear_form c ≡ Some lin → value lin z ≡ 0 → Holds c z
   holds_where_zero c lin e none =
-      zero_where_same (value c.a z * value c.b z % P) (value c.c z) (mod-lt (value c.a z * value c.b z) (omega arith)) (value-below c.c z) (sym (value-linear_form c lin e) ∙ none)
+      same_of_minus (value c.a z * value c.b z % P) (value c.c z) (mod-lt (value c.a z * value c.b z) (omega arith)) (value-below c.c z) (sym (value-linear_form c lin e) ∙ none)
 
   pub zero_where_holds : (c : Constraint) (lin : Combination) → linear_form c ≡ Some lin → Holds c z → value lin z ≡ 0
   zero_where_holds c lin e holds =
