@@ -2,7 +2,7 @@
 use Rattle.std.proofs.Common.{◌≡◌, ℕ, ◌+◌, ◌-◌, ◌/◌, ◌^◌, ◌<◌, ◌==◌, Bool, true, false, ◌&&◌, ◌||◌, if◌then◌else◌, List, length, drop, nat_lt, Option, Some, None, refl, sym, ◌∙◌, ap, ap₂, subst, arith, true≢false}
 use Rattle.std.specs.Prelude.{is_some}
 use Rattle.std.proofs.lemmas.List.{length-drop}
-use Rattle.std.proofs.lemmas.Bool.{eq-eqb, eqb-true, and_parts, agree_below_at}
+use Rattle.std.proofs.lemmas.Bool.{eq-eqb, eqb-true, and_parts, agree_below_at, false_from_ne_true}
 use Rattle.tv_core.specs.Lines.{Line}
 use Rattle.tv_core.specs.declared.limits.TheConstants.{TAPE_CELLS, NULL_CELL}
 use Rattle.tv_isa.specs.Instruction.{decode}
@@ -40,15 +40,11 @@ stops : (w : ℕ) (op : Op) (st : State) (i d s a : ℕ) → is_unused op ≡ tr
 stops w (Unused op) st i d s a e = (op, refl)
 stops w _ st i d s a e = absurd (true≢false (sym e))
 
-used_where : (b : Bool) → (b ≡ true → ⊥) → b ≡ false
-used_where true h = absurd (h refl)
-used_where false h = refl
-
 pub defined_used : (w : ℕ) (st : State) → IsDefined w st → among unused_ops (fetched w st).op ≡ false
 defined_used w st defined =
     let i = fetched w st in
     let same : is_unused (op_of i.op) ≡ among unused_ops i.op = agree_below_at (λ k. is_unused (op_of k)) (among unused_ops) 32 i.op refl (op_small w (head_at w st) (tail_at w st)) in
-    used_where (among unused_ops i.op) (λ e. let stop = stops w (op_of i.op) st i.dest (reg st i.dest) (reg st i.source) (operand st i) (same ∙ e) in defined stop.0 stop.1)
+    false_from_ne_true (among unused_ops i.op) (λ e. let stop = stops w (op_of i.op) st i.dest (reg st i.dest) (reg st i.source) (operand st i) (same ∙ e) in defined stop.0 stop.1)
 
 -- ---- the view of a state
 pub seen_in_range : SeenInRange
