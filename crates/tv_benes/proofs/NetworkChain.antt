@@ -1,10 +1,10 @@
 -- The parts of a network, put one after another.
-use Rattle.std.proofs.Common.{◌≡◌, ℕ, zero, suc, ◌+◌, ◌-◌, ◌*◌, ◌/◌, ◌^◌, ◌<◌, ◌≤◌, Result, Ok, Err, sym, subst, arith}
+use Rattle.std.proofs.Common.{◌≡◌, ℕ, zero, suc, ◌+◌, ◌-◌, ◌*◌, ◌^◌, ◌≤◌, Result, Ok, Err, sym, subst, arith}
 use Rattle.std.specs.Prelude.{IfOk}
 use Rattle.tv_benes.proofs.Sizes.{network_below}
-use Rattle.tv_benes.proofs.ThroughLaws.{above, column_fits, alternating_keeps, missing_small}
+use Rattle.tv_benes.proofs.ThroughLaws.{above, column_fits, missing_small}
 use Rattle.tv_benes.specs.Network.{column_of, last_column_of, inner_of, network_of}
-use Rattle.tv_benes.specs.Places.{wires_at, row, output_wire, column_outputs, last_outputs, last_wire, AreBelow}
+use Rattle.tv_benes.specs.Places.{wires_at, row, column_outputs, last_outputs, last_wire, AreBelow}
 use Rattle.tv_benes.specs.Through.{switches, missing}
 use Rattle.tv_benes.specs.declared.places.Outputs.{Outputs}
 use Rattle.tv_benes.specs.declared.shape.Net.{Net}
@@ -19,13 +19,6 @@ use Rattle.tv_core.specs.declared.sink.SinkFault.{SinkFault}
 -- outputs that are below are below what is more
 pub below_later : (o : Outputs) (n a b : ℕ) → a ≤ b → AreBelow o n a → AreBelow o n b
 below_later o n a b more below i within = let at = below i within in omega arith
-
--- the items of a last column are wires that there are
-pub last_below : (net : Net) (h end : ℕ) (upper lower : Outputs) → AreBelow upper (2 ^ h) end → AreBelow lower (2 ^ h) end
-    → (i : ℕ) → i < 2 * (2 ^ h - missing net) → last_wire net upper lower i + 1 < end
-last_below net h end upper lower p q i within =
-    let some = missing_small net in
-    alternating_keeps (λ w. w + 1 < end) (output_wire upper) (output_wire lower) (i + 2 * missing net) (p ((i + 2 * missing net) / 2) (omega arith)) (q ((i + 2 * missing net) / 2) (omega arith))
 
 -- a last column
 module _ {S : Type 0} (m : Meaning S) (net : Net) (h : ℕ) (upper lower : Outputs) where

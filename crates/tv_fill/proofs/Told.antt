@@ -39,9 +39,6 @@ handed_is old (Some word) = refl
 
 -- ---- one run
 module _ (w : ℕ) (image x aux : List ℕ) (t : ℕ) (width : IsWidth w) (short : length x < 2 ^ 29) (x_words : AreWords w x) (aux_words : AreWords w aux) where
-  abbrev st : State
-  st = start w image x aux
-
   abbrev now : ℕ → State
   now i = state_after w i (start w image x aux)
 

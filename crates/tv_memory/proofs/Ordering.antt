@@ -54,9 +54,6 @@ module _ (lines : List Line) (few : length lines ≤ 2 ^ 20) (from : LinesFrom 0
   place_of_key : (i : ℕ) → i < length lines → key (number_in lines i) % 2 ^ 20 ≡ i
   place_of_key i h = let t = time_is i zero_line h in time_of_key (number_in lines i) (omega arith) ∙ t
 
-  abbrev keys : List ℕ
-  keys = map key lines
-
   abbrev sorted : List Line
   sorted = map (λ k. number_in lines (k % 2 ^ 20)) (rising (map key lines))
 

@@ -95,13 +95,3 @@ all_permute p seen s = record {
     found : (x : ℕ) → ((x < length p) ⊎ (length p ≤ x)) → IsFound p x
     found x (inl h) = let k = s.only x h (all_seen seen (s.count ∙ sym s.long) x (omega (arith, s.long))) in record { place = k.0; fits = λ l. (k.1, k.2) }
     found x (inr h) = record { place = 0; fits = λ l. absurd (omega arith) }
-
--- and where one is too large or seen again, it is no permutation
-pub not_below : (p : List ℕ) (i : ℕ) → i < length p → length p ≤ slice_index p i → Permutes (length p) p → false ≡ true
-not_below p i h large perm = absurd (omega (arith, perm.below i h))
-
-pub not_once : (p : List ℕ) (i : ℕ) (seen : List Bool) → IsSeen p i seen → i < length p → get_or seen (slice_index p i) false ≡ true → Permutes (length p) p → false ≡ true
-not_once p i seen s h again perm =
-    let before = s.only (slice_index p i) (perm.below i h) again in
-    let same : before.0 ≡ i = perm.once before.0 i (omega (arith, before.1)) h before.2 in
-    absurd (omega (arith, before.1))

@@ -3,7 +3,6 @@
 use Rattle.std.proofs.Common.{◌≡◌, ◌≢◌, ℕ, zero, suc, ◌+◌, ◌*◌, ◌<◌, ◌≤◌, ◌==◌, ◌⊎◌, inl, inr, Bool, true, false, not, if◌then◌else◌, List, length, get_or, set, Some, None, is_none, sum_by, refl, sym, ◌∙◌, ap, subst, arith, length-set, get_or-set_same, get_or-set_other, eq-eqb}
 use Rattle.std.specs.Prelude.{slice_index}
 use Rattle.std.proofs.lemmas.Bool.{cases_eq}
-use Rattle.std.proofs.lemmas.Bool.Decides.{nat_tests}
 use Rattle.std.proofs.lemmas.List.Sums.{sum_by-set, get_or-le-sum_by}
 use Rattle.tv_route.proofs.Pairing.{IsPairing}
 use Rattle.tv_route.specs.Route.{Mark, other, walk}
@@ -68,9 +67,6 @@ module _ (marks : List Mark) (x y : ℕ) (x_in : x < length marks) (y_in : y < l
 -- an input that is settled is not free
 not_free : (marks : List Mark) (z : ℕ) (b : Bool) → get_or marks z None ≡ Some b → get_or marks z None ≡ None → ⊥
 not_free marks z b e f = cc
-
-apart-eqb : (a b : ℕ) → a ≢ b → (a == b) ≡ false
-apart-eqb a b e = grind (arith, nat_tests)
 
 pub if_same : {X : Type 0} (a b : ℕ) (x y : X) → a ≡ b → (if a == b then x else y) ≡ x
 if_same a b x y e = ap (λ c. if c then x else y) (eq-eqb a b e)

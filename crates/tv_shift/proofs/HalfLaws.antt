@@ -25,10 +25,6 @@ half_bit-next n b x i at = refl
 turn-next : (n b x next i : ℕ) → (times i (half_bit_of n b x) next).next ≡ next + i
 turn-next n b x next i = turns-next (λ i _. half_bit_of n b x i) tt next 1 i (λ i a at. half_bit-next n b x i at) ∙ ap (λ k. next + k) (mul-one i)
 
-pub halves_answer : (n b x next : ℕ) → (halves_of n b x next).answer ≡ next
-unfolding halves_of here pure ◌>>=◌
-halves_answer n b x next = refl
-
 pub halves_next : (n b x next : ℕ) → (halves_of n b x next).next ≡ next + n
 unfolding halves_of here pure ◌>>=◌
 halves_next n b x next = turn-next n b x next n

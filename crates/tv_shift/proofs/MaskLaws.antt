@@ -64,10 +64,6 @@ pair-next mask digit n i at = refl
 turn-next : (mask digit : ℕ → Combination) (n next i : ℕ) → (times i (masked_pair_of mask digit n) next).next ≡ next + i
 turn-next mask digit n next i = turns-next (λ i _. masked_pair_of mask digit n i) tt next 1 i (λ i a at. pair-next mask digit n i at) ∙ ap (λ k. next + k) (mul-one i)
 
-pub masked_answer : (mask digit : ℕ → Combination) (n next : ℕ) → (masked_of mask digit n next).answer ≡ next
-unfolding masked_of here pure ◌>>=◌
-masked_answer mask digit n next = refl
-
 pub masked_next : (mask digit : ℕ → Combination) (n next : ℕ) → (masked_of mask digit n next).next ≡ next + n
 unfolding masked_of here pure ◌>>=◌
 masked_next mask digit n next = turn-next mask digit n next n

@@ -65,10 +65,6 @@ levels-next bits products next (suc k) =
     let more : products_below k + (2 ^ k - 1) ≡ products_below (suc k) = (let same : k + 1 ≡ suc k = omega arith in products-more k ∙ ap products_below same) in
     level-next bits products k (times k (level_of bits products) next).next ∙ omega (arith, levels-next bits products next k, more)
 
-pub thermometer_answer : (k bits next : ℕ) → (thermometer_of k bits next).answer ≡ next
-unfolding thermometer_of here pure ◌>>=◌
-thermometer_answer k bits next = refl
-
 pub thermometer_next : (k bits next : ℕ) → (thermometer_of k bits next).next ≡ next + products_below k
 unfolding thermometer_of here pure ◌>>=◌
 thermometer_next k bits next = levels-next bits next next k

@@ -61,14 +61,6 @@ rows_from-at entries heads number entry some inside linked at =
     ∙ sym (get_or-reverse entries (length entries - number) entry low)
     ∙ ap (λ n. get_or (reverse entries) (n - number) entry) (sym same))
 
--- no entries
-none_linked : (n : ℕ) → AllByRecursion (λ head. head ≤ 0) (replicate n 0)
-none_linked zero = tt
-none_linked (suc n) = (omega arith, none_linked n)
-
-pub no_entries : (n : ℕ) → AreLinked [] (replicate n 0)
-no_entries n = record { back = tt; within = none_linked n }
-
 pub no_rows : (n : ℕ) → map (rows_from (reverse [])) (replicate n 0) ≡ replicate n []
 no_rows zero = refl
 no_rows (suc n) = ap (λ rows. [] ∷ rows) (no_rows n)

@@ -63,10 +63,6 @@ pub rows_weaker : (R S : Option Constraint → Type 0) → ((row : Option Constr
 rows_weaker R S weaker [] h = tt
 rows_weaker R S weaker (row ∷ rows) h = (weaker row h.0, rows_weaker R S weaker rows h.1)
 
-pub RowOver-weaker : (Q R : ℕ → Type 0) → ((v : ℕ) → Q v → R v) → (row : Option Constraint) → RowOver Q row → RowOver R row
-RowOver-weaker Q R weaker None h = tt
-RowOver-weaker Q R weaker (Some c) h = (Over-weaker Q R c.a weaker h.0, Over-weaker Q R c.b weaker h.1, Over-weaker Q R c.c weaker h.2)
-
 -- a constraint whose combinations have the same values holds as well
 pub same_holds : (c d : Constraint) (y z : List ℕ) → value c.a y ≡ value d.a z → value c.b y ≡ value d.b z → value c.c y ≡ value d.c z → Holds c y → Holds d z
 same_holds c d y z a b e h = ap₂ (λ m n. m * n % P) (sym a) (sym b) ∙ h ∙ e

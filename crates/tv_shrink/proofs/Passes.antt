@@ -1,5 +1,5 @@
 -- What the loops of a pass keep.
-use Rattle.std.proofs.Common.{◌≡◌, ◌≢◌, ◌⊎◌, ℕ, zero, suc, ◌+◌, ◌<◌, ◌≤◌, Bool, not, ◌||◌, ◌&&◌, List, [], ◌∷◌, ◌++◌, Option, Some, None, refl, sym, ◌∙◌, ap, subst, arith, eqb, true, false, inl, inr, cond, map, length, get_or, set, length-set, take, leb, ltb, ◌-◌, ltb-true, lt-ltb, le-ltb, eqb-true, eq-eqb, ne_eqb, take_all, add-one}
+use Rattle.std.proofs.Common.{◌≡◌, ◌≢◌, ◌⊎◌, ℕ, zero, suc, ◌+◌, ◌<◌, ◌≤◌, Bool, not, ◌||◌, ◌&&◌, List, [], ◌∷◌, ◌++◌, Option, Some, None, refl, sym, ◌∙◌, ap, subst, arith, eqb, true, false, inl, inr, cond, map, length, get_or, set, take, leb, ltb, ◌-◌, ltb-true, lt-ltb, le-ltb, eqb-true, eq-eqb, ne_eqb, take_all, add-one}
 use Rattle.std.specs.List.{fold, list_any, list_all, range_with_len}
 use Rattle.std.specs.Option.{option_map}
 use Rattle.std.proofs.lemmas.Bool.{cond_both, cases_Bool, cases_eq, cases_lt, or_cases, or_parts, or_from, or_left, or_right, and_from, false_from_ne_true}
@@ -18,7 +18,7 @@ use Rattle.tv_shrink.specs.Replacing.{coefficient, greater_from, greatest_from, 
 use Rattle.tv_shrink.specs.Tidy.{RowIsNormal, AreNormal, Covers, IsKept, pass_of, row_has}
 use Rattle.tv_shrink.proofs.Linear.{replaced-lacking}
 use Rattle.tv_shrink.proofs.NormalLaws.{Over, Over-weaker, IsNormalFrom-normal}
-use Rattle.tv_shrink.proofs.PassLaws.{rows_at, rows_changed, rows_dropped}
+use Rattle.tv_shrink.proofs.PassLaws.{rows_at, rows_changed}
 use Rattle.tv_shrink.proofs.ReplacingLaws.{none_some, Over-linear_form, Over-solved, Over-has_wire, Over-replaced, Over-lacking, found_later}
 use Rattle.tv_shrink.proofs.Constants.{above_at, found_at}
 
@@ -430,31 +430,12 @@ changed_at change [] i none = sym none
 changed_at change (row ∷ rows) zero none = refl
 changed_at change (row ∷ rows) (suc i) none = changed_at change rows i none
 
-pub dropped_there : (rows : List (Option Constraint)) (at : ℕ) → get_or (set rows at None) at None ≡ None
-dropped_there [] at = refl
-dropped_there (row ∷ rows) zero = refl
-dropped_there (row ∷ rows) (suc at) = dropped_there rows at
-
-pub dropped-fits : (w : ℕ) (r : Combination) (rows : List (Option Constraint)) (but at : ℕ) → (at ≡ but) ⊎ (length rows ≤ at) → true ≡ row_fits w r (get_or (set rows but None) at None)
-dropped-fits w r rows but at here =
-    elim here [
-      | inl same ↦ sym (ap (row_fits w r) (ap (λ i. get_or (set rows but None) i None) same ∙ dropped_there rows but))
-      | inr past ↦ sym (ap (row_fits w r) (get_or_past (set rows but None) at None (omega (arith, length-set rows but None))))
-    ]
-
 pub dropped-named : (w at : ℕ) (rows : List (Option Constraint)) (places : List ℕ) → ((i : ℕ) → row_has w (get_or rows i None) ≡ true → list_any (λ p. eqb p i) places ≡ true) →
     (i : ℕ) → row_has w (get_or (set rows at None) i None) ≡ true → list_any (λ p. eqb p i) places ≡ true
 dropped-named w at rows places covers i has =
     elim (dropped_cases rows at i) [
       | inl none ↦ absurd (let no : false ≡ true = sym (ap (row_has w) none) ∙ has in cc)
       | inr same ↦ covers i (ap (row_has w) (sym same) ∙ has)
-    ]
-
-pub dropped-covers : (publics at : ℕ) (rows : List (Option Constraint)) (lists : List (List ℕ)) → Covers publics rows lists → Covers publics (set rows at None) lists
-dropped-covers publics at rows lists covers i v above has =
-    elim (dropped_cases rows at i) [
-      | inl none ↦ absurd (let no : false ≡ true = sym (ap (row_has v) none) ∙ has in cc)
-      | inr same ↦ covers i v above (ap (row_has v) (sym same) ∙ has)
     ]
 
 pub replaced-covers : (publics w : ℕ) (r : Combination) (rows : List (Option Constraint)) (lists taken next : List (List ℕ)) → has_wire w r ≡ false → Covers publics rows lists → taken ≡ set lists w [] →
@@ -475,14 +456,6 @@ replaced-covers publics w r rows lists taken next lacks covers is more added i v
     earlier own apart =
         more v i (ap (λ xs. list_any (λ p. eqb p i) (get_or xs v [])) is ∙ ap (λ xs. list_any (λ p. eqb p i) xs) (get_or-set_other lists w v [] [] apart) ∙ covers i v above own)
 
--- a wire whose places are named is one of those that there are
-pub covered-inside : (publics at w : ℕ) (rows : List (Option Constraint)) (lists : List (List ℕ)) → Covers publics rows lists → publics ≤ w → row_has w (get_or rows at None) ≡ true → w < length lists
-covered-inside publics at w rows lists covers above has =
-    elim (cases_lt w (length lists)) [
-      | inl inside ↦ inside
-      | inr past ↦ absurd (let no : false ≡ true = sym (ap (λ xs. list_any (λ p. eqb p at) xs) (get_or_past lists w [] past)) ∙ covers at w above has in cc)
-    ]
-
 -- all but the one at a place keep to their most terms where those that the wire is told of do
 pub all-fit-there : (w at : ℕ) (r : Combination) (publics : ℕ) (rows : List (Option Constraint)) (gone : List Bool) (lists : List (List ℕ)) → IsKept publics rows gone lists → publics ≤ w →
     ((i : ℕ) → list_any (λ p. eqb p i) (get_or lists w []) ≡ true → row_fits w r (get_or (set rows at None) i None) ≡ true) → list_all (row_fits w r) (set rows at None) ≡ true
@@ -492,13 +465,6 @@ all-fit-there w at r publics rows gone lists kept above fit =
       | inl has ↦ fit i (dropped-named w at rows (get_or lists w []) (λ j there. kept.covers j w above there) i has)
       | inr lacks ↦ row-lacking-fits w r (get_or (set rows at None) i None) lacks
     ]))
-
-pub dropped-kept : (publics at : ℕ) (rows : List (Option Constraint)) (gone : List Bool) (lists : List (List ℕ)) → IsKept publics rows gone lists → IsKept publics (set rows at None) gone lists
-dropped-kept publics at rows gone lists kept = record {
-  normal = rows_dropped RowIsNormal tt rows at kept.normal;
-  covers = dropped-covers publics at rows lists kept.covers;
-  each = kept.each;
-}
 
 pub nil_of : (x : Combination) → length x ≡ 0 → x ≡ []
 nil_of [] e = refl

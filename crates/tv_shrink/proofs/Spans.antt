@@ -124,11 +124,6 @@ span_copied xs terms span start at inside =
     span_is xs (row_at terms span) start span.a span.b span.c at (part_size terms span.start span.a (omega arith)) (part_size terms (span.start + span.a) span.b (omega arith))
     (part_size terms (span.start + span.a + span.b) span.c (omega arith))
 
--- one more constraint that was dropped
-pub rows_pushed : (f : Span → Constraint) (spans more : List (Option Span)) (rows : List (Option Constraint)) → map (option_map f) spans ≡ rows → more ≡ spans ++ None ∷ [] → map (option_map f) more ≡ rows ++ None ∷ []
-rows_pushed f spans more rows view is =
-    ap (map (option_map f)) is ∙ map-append (option_map f) spans (None ∷ []) ∙ ap (λ xs. xs ++ None ∷ []) view
-
 -- where a constraint lies whose wires are numbered anew
 pub span_moved : (numbers : List ℕ) (xs : Combination) (span : Span) → end_of span ≤ length xs → span ≡ span_of span.start (moved_in numbers (row_at xs span))
 span_moved numbers xs span inside =
