@@ -16,8 +16,10 @@ use Rattle.tv_layout.specs.Systems.{run_values}
 use Rattle.tv_lines.specs.Packing.{unpacked}
 use Rattle.tv_memory.specs.Memory.{routed_values}
 use Rattle.tv_step.specs.Cells.{boot_lines}
-use Rattle.tv_step.specs.Machine.{start, end_of, Accepts}
+use Rattle.tv_step.specs.Machine.{Accepts}
+use Rattle.tv_step.specs.Tracing.{IsRefused}
 use Rattle.tv_step.specs.declared.lines.TraceState.{TraceState}
+use Rattle.tv_step.specs.declared.tracing.TraceFault.TheVariants as traces
 use Rattle.tv_word.specs.Widths.{IsWidth}
 
 -- a filling: the run's answer, and the values that it gives
@@ -62,9 +64,9 @@ pub record IsFilling (w : ℕ) (net : Net) (image x aux : List ℕ) (t : ℕ) (f
   pub answer : Accepts w image x aux t filling.answer
   pub values : filling.values ≡ run_values w net image x aux t filling.answer
 
--- there are none: the run ends so, and answers nothing; or memory was wanting
+-- there are none: the run has no trace, since it ends so and answers nothing; or memory was wanting
 abbrev pub IsUnfilled : ℕ → List ℕ → List ℕ → List ℕ → ℕ → FillFault → Type 0
-IsUnfilled w image x aux t (NoRun end) = (end ≡ end_of w t (start w image x aux)) × ((v : ℕ) → Accepts w image x aux t v → ⊥)
+IsUnfilled w image x aux t (NoRun end) = IsRefused w image x aux t (traces.NoRun end)
 IsUnfilled w image x aux t Failed = ⊥
 IsUnfilled w image x aux t Memory = Unit {0}
 
