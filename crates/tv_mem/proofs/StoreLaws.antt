@@ -48,25 +48,19 @@ held_bytes None i = zero_bytes 4096 i
     ]
 held_bytes (Some page) i = refl
 
--- the byte at an address in the page that was written to
-in_page : (old new : Found) (at x : ℕ) (bytes : List ℕ) → Writes old new at bytes → nat_eq (x / 4096) (at / 4096) ≡ true →
-    byte_at new x ≡ slice_index (page_with (page_bytes (old (at / 4096))) (at % 4096) bytes) (x % 4096)
-in_page old new at x bytes writes same =
+-- the byte at an address, by whether it lies in the page that was written to
+read_after : (old new : Found) (at x : ℕ) (bytes : List ℕ) (here : Bool) → Writes old new at bytes → nat_eq (x / 4096) (at / 4096) ≡ here →
+    byte_at new x ≡ byte_in (cond here (Some (page_with (page_bytes (old (at / 4096))) (at % 4096) bytes)) (old (x / 4096))) (x % 4096)
+read_after old new at x bytes here writes is =
     let page : Option (List ℕ) = Some (page_with (page_bytes (old (at / 4096))) (at % 4096) bytes) in
-    ap (λ found. byte_in found (x % 4096)) (writes.changes (x / 4096) ∙ ap (λ here. cond here page (old (x / 4096))) same)
-
--- in another page
-elsewhere : (old new : Found) (at x : ℕ) (bytes : List ℕ) → Writes old new at bytes → nat_eq (x / 4096) (at / 4096) ≡ false → byte_at new x ≡ byte_at old x
-elsewhere old new at x bytes writes other =
-    let page : Option (List ℕ) = Some (page_with (page_bytes (old (at / 4096))) (at % 4096) bytes) in
-    ap (λ found. byte_in found (x % 4096)) (writes.changes (x / 4096) ∙ ap (λ here. cond here page (old (x / 4096))) other)
+    ap (λ found. byte_in found (x % 4096)) (writes.changes (x / 4096) ∙ ap (λ here. cond here page (old (x / 4096))) is)
 
 -- what was written is there
 pub written_there : (old new : Found) (at j : ℕ) (bytes : List ℕ) → Writes old new at bytes → j < length bytes → byte_at new (at + j) ≡ slice_index bytes j
 written_there old new at j bytes writes inside =
     let same : (at + j) / 4096 ≡ at / 4096 = omega (arith, writes.within, inside) in
     let place : (at + j) % 4096 ≡ at % 4096 + j = omega (arith, writes.within, inside) in
-    in_page old new at (at + j) bytes writes (eq-eqb ((at + j) / 4096) (at / 4096) same)
+    read_after old new at (at + j) bytes true writes (eq-eqb ((at + j) / 4096) (at / 4096) same)
     ∙ ap (λ n. slice_index (page_with (page_bytes (old (at / 4096))) (at % 4096) bytes) n) place
     ∙ there (page_bytes (old (at / 4096))) (at % 4096) bytes j (omega (arith, writes.whole, writes.within)) inside
 
@@ -74,11 +68,11 @@ written_there old new at j bytes writes inside =
 pub kept_elsewhere : (old new : Found) (at x : ℕ) (bytes : List ℕ) → Writes old new at bytes → (x < at) ⊎ (at + length bytes ≤ x) → byte_at new x ≡ byte_at old x
 kept_elsewhere old new at x bytes writes outside =
     elim (eqb_tells (x / 4096) (at / 4096)) [
-      | inr other ↦ elsewhere old new at x bytes writes other.0
+      | inr other ↦ read_after old new at x bytes false writes other.0
       | inl same ↦
           let page : List ℕ = page_bytes (old (at / 4096)) in
           let fits : at % 4096 ≤ length page = omega (arith, writes.whole, writes.within) in
-          in_page old new at x bytes writes same.0
+          read_after old new at x bytes true writes same.0
           ∙ elim outside [
             | inl before ↦ below page (at % 4096) bytes (x % 4096) fits (omega (arith, same.1, before))
             | inr behind ↦ above page (at % 4096) bytes (x % 4096) fits (omega (arith, same.1, behind))
