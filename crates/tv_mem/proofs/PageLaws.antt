@@ -5,7 +5,8 @@ use Rattle.std.specs.Box.{box_value}
 use Rattle.std.specs.Global.{Global}
 use Rattle.std.proofs.lemmas.Bool.{eq-eqb, ne_eqb}
 use Rattle.std.proofs.lemmas.Bool.Decides.{eqb_tells}
-use Rattle.std.proofs.lemmas.List.{get_or-set_same, get_or-set_other}
+use Rattle.std.proofs.lemmas.List.{get_or-set_same, get_or-set_other, length-set}
+use Rattle.std.proofs.lemmas.Option.{slice_get-get_or}
 use Rattle.tv_mem.specs.Pages.{Found, Table, page_of, page_at, page_in, Same, Changes}
 
 empty_place : (places : List (Option (Box (List ℕ) Global))) (q : ℕ) → slice_index_or (places ++ None ∷ []) q None ≡ slice_index_or places q None
@@ -45,9 +46,8 @@ pub same_with_a_table : (old : Found) (tables : List Table) (table : Table) → 
 same_with_a_table old tables table same none q = get_more tables table (q / 1024) (q % 1024) none ∙ same q
 
 get_set_same : (tables : List Table) (i : ℕ) (table : Table) → i < length tables → slice_get (slice_set tables i table) i ≡ Some table
-get_set_same [] i table h = absurd (omega arith)
-get_set_same (first ∷ tables) zero table h = refl
-get_set_same (first ∷ tables) (suc i) table h = get_set_same tables i table (omega arith)
+get_set_same tables i table h =
+    slice_get-get_or (slice_set tables i table) i table (omega (arith, length-set tables i table)) ∙ ap (λ t. Some t) (get_or-set_same tables i table table h)
 
 get_set_other : (tables : List Table) (i j : ℕ) (table : Table) → j ≢ i → slice_get (slice_set tables i table) j ≡ slice_get tables j
 get_set_other [] i j table h = refl
@@ -55,11 +55,6 @@ get_set_other (first ∷ tables) zero zero table h = absurd (h refl)
 get_set_other (first ∷ tables) zero (suc j) table h = refl
 get_set_other (first ∷ tables) (suc i) zero table h = refl
 get_set_other (first ∷ tables) (suc i) (suc j) table h = get_set_other tables i j table (λ e. h (ap suc e))
-
-pub get_is : (tables : List Table) (i : ℕ) (past : Table) → i < length tables → slice_get tables i ≡ Some (slice_index_or tables i past)
-get_is [] i past h = absurd (omega arith)
-get_is (first ∷ tables) zero past h = refl
-get_is (first ∷ tables) (suc i) past h = get_is tables i past (omega arith)
 
 module _ (old : Found) (tables : List Table) (same : Same old (page_in tables)) (number : ℕ) (table new : Table) (within : number / 1024 < length tables) (was : slice_get tables (number / 1024) ≡ Some table) where
   -- the page with a number, by its table before the change
