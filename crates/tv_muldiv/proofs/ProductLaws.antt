@@ -2,10 +2,9 @@
 use Rattle.std.proofs.Common.{◌≡◌, ℕ, ◌+◌, ◌-◌, ◌*◌, ◌/◌, ◌%◌, ◌^◌, ◌<◌, ◌≤◌, List, [], inl, inr, refl, sym, subst, ◌∙◌, ap, ap₂, arith, length-append, add-zero, mod-eq_of_lt}
 use Rattle.std.specs.Prelude.{slice_index}
 use Rattle.std.specs.Int.{bit_at}
-use Rattle.std.proofs.Math.Nat.{div-one}
 use Rattle.std.proofs.lemmas.Bool.{cases_eq}
 use Rattle.std.proofs.lemmas.Nat.{mul-le, mul-mod}
-use Rattle.std.proofs.lemmas.Nat.Bits.{bit_at-lt}
+use Rattle.std.proofs.lemmas.Nat.Bits.{bit_at-lt, bit_at_lowest}
 use Rattle.tv_core.proofs.CombinationLaws.{value-wire}
 use Rattle.tv_core.proofs.FieldLaws.{InField-append}
 use Rattle.tv_core.proofs.Meeting.{Meets-split, Meets-join, HasFrom-split}
@@ -40,17 +39,14 @@ product_most w width a b h k = mul-le a b (2 ^ w - 1) (2 ^ w - 1) (omega arith) 
 pub product_small : (w : ℕ) → IsWidth w → (a b : ℕ) → a < 2 ^ w → b < 2 ^ w → (a * b < P) × (a * b < 2 ^ (2 * w))
 product_small w width a b h k = let most = product_most w width a b h k in (grind arith, grind arith)
 
-bit_at-first : (v : ℕ) → bit_at v 0 ≡ v % 2
-bit_at-first v = ap (λ n. n % 2) (div-one v)
-
 -- the lowest bit of a product is the product of the lowest bits
 first_of_product : (a b : ℕ) → bit_at (a * b) 0 ≡ bit_at a 0 * bit_at b 0
 first_of_product a b =
     let small = product_bit (a % 2) (b % 2) (omega arith) (omega arith) in
-    bit_at-first (a * b) ∙ mul-mod a b 2 ∙ mod-eq_of_lt small ∙ sym (ap₂ (λ m n. m * n) (bit_at-first a) (bit_at-first b))
+    bit_at_lowest (a * b) ∙ mul-mod a b 2 ∙ mod-eq_of_lt small ∙ sym (ap₂ (λ m n. m * n) (bit_at_lowest a) (bit_at_lowest b))
 
 odd : (m n p w : ℕ) → bit_at m 0 ≡ p → IsBit p → p % P ≡ w → w ≡ bit_at n 0 → m % 2 ≡ n % 2
-odd m n p w lowest small whole same = sym (bit_at-first m) ∙ lowest ∙ sym (mod-eq_of_lt (let below : p < P = omega arith in below)) ∙ whole ∙ same ∙ bit_at-first n
+odd m n p w lowest small whole same = sym (bit_at_lowest m) ∙ lowest ∙ sym (mod-eq_of_lt (let below : p < P = omega arith in below)) ∙ whole ∙ same ∙ bit_at_lowest n
 
 -- ---- the bits of the product
 module _ (z : List ℕ) (assigns : Assigns z) where
