@@ -1,3 +1,4 @@
+//! The values of a network's wires, for its inputs and the bits of its switches.
 ghost use Rattle.std.specs.Prelude.{◌≡◌, suc, false, ◌+◌, ◌-◌, ◌*◌, ◌^◌, ◌<◌, ◌≤◌, OnOk};
 ghost use Rattle.tv_benes.specs.Items.{bit_at, pair_at, item_of, depth_of, ArePlaces};
 ghost use Rattle.tv_benes.specs.Network.{switch_values, column_values, last_column_values};

@@ -1,3 +1,4 @@
+//! The items that come to the switches of a network, found among those handed in.
 ghost use Rattle.std.specs.Prelude.{◌≡◌, suc, if◌then◌else◌, ◌+◌, ◌*◌, ◌<◌, ◌≤◌, ◌^◌};
 ghost use Rattle.tv_benes.specs.Items.{bit_at, pair_at, item_of, depth_of, ArePlaces};
 ghost use Rattle.tv_benes.specs.Through.{switches, from, last_bit, through};

@@ -1,3 +1,4 @@
+//! What is proved of networks, from the definitions.
 ghost use Rattle.tv_benes.specs.Network.{NetworkIsSound, NetworkIsComplete, NetworkFills};
 ghost use Rattle.tv_benes.specs.Through.{NumbersArePermuted, PairsArePermuted, PlacesTell};
 

@@ -1,3 +1,4 @@
+//! Either network, put into a sink.
 ghost use Rattle.std.specs.Prelude.{◌≡◌, ◌+◌, ◌-◌, ◌*◌, ◌^◌, ◌<◌, ◌≤◌, IfOk};
 ghost use Rattle.tv_benes.specs.Network.{last_column_of, inner_of, network_of};
 ghost use Rattle.tv_benes.specs.Places.{row, AreMade, AreBelow};

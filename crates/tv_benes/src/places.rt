@@ -1,3 +1,4 @@
+//! Where the items stand that go into a network, pass through it and come out of it.
 ghost use Rattle.std.specs.Prelude.{◌≡◌, ℕ, ◌+◌, ◌^◌, ◌<◌};
 ghost use Rattle.tv_core.specs.declared.lines.Pair.{Pair};
 ghost use Rattle.tv_benes.specs.Places.{fifth, output, output_wire, column_outputs, last_outputs};

@@ -1,3 +1,4 @@
+//! The values of a network's wires, while the items move to where they come out.
 ghost use Rattle.std.specs.Prelude.{◌≡◌, suc, false, [], ◌∷◌, ◌+◌, ◌-◌, ◌*◌, ◌^◌, ◌<◌, ◌≤◌, length};
 ghost use Rattle.std.specs.Prelude.{OnOk, if◌then◌else◌};
 ghost use Rattle.tv_benes.specs.Items.{bit_at, pair_at};

@@ -1,3 +1,4 @@
+//! The two networks, and how many switches they have.
 ghost use Rattle.std.specs.Prelude.{◌≡◌, ◌-◌, ◌^◌, ◌<◌, ◌≤◌};
 ghost use Rattle.tv_benes.specs.Through.{switches, missing};
 ghost use Rattle.tv_benes.specs.declared.shape.Net.TheVariants.{Benes};

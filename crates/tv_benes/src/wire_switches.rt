@@ -1,3 +1,4 @@
+//! One switch, between two items that are two wires each.
 ghost use Rattle.std.specs.Prelude.{◌+◌, ◌<◌, IfOk};
 ghost use Rattle.tv_core.specs.Combinations.{wire};
 ghost use Rattle.tv_core.specs.Sinks.{PutsIn, Grows, Room};

@@ -1,3 +1,4 @@
+//! What the gadget answers.
 use tv_core::Wire;
 
 /// The fields of an instruction: a bit, and the first wires of rows of which one wire is 1.

@@ -1,3 +1,4 @@
+//! A program and its tapes, drawn from a seed.
 ghost use Rattle.std.specs.Prelude.{◌≡◌, ◌++◌, ◌≤◌, ◌<◌, ◌^◌, IfOk, OnOk};
 ghost use Rattle.tv_draw.specs.Drawing.{state_at, words_drawn, image_drawn, tape_drawn, aux_drawn};
 ghost use Rattle.tv_draw.specs.Drawing.{IsDrawn};

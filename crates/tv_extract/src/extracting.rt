@@ -1,3 +1,4 @@
+//! The run that an assignment has, or what is wrong first.
 ghost use Rattle.std.specs.Prelude.{◌≡◌, ◌⊎◌, ◌*◌, ◌/◌, ◌<◌, ◌≤◌, ◌^◌, length};
 ghost use Rattle.std.specs.Prelude.{slice_index, Ok, Err, IfOk, IfErr};
 ghost use Rattle.std.specs.List.{range_with_len};

@@ -1,3 +1,4 @@
+//! Runs that answer, and why an assignment has none.
 ghost use Rattle.std.specs.Prelude.{◌≡◌};
 ghost use Rattle.tv_extract.specs.declared.run.ExtractFault.TheVariants.{Memory};
 

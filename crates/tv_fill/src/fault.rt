@@ -1,3 +1,4 @@
+//! Why the values of a run are not given.
 ghost use Rattle.std.specs.Prelude.{◌≡◌};
 ghost use Rattle.tv_fill.specs.Faults.{trace_fault, taker_fault};
 ghost use Rattle.tv_fill.specs.declared.fault.FillFault.TheVariants.{Memory};

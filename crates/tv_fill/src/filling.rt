@@ -1,3 +1,4 @@
+//! The values of a run, made ready and given.
 ghost use Rattle.std.specs.Prelude.{◌≡◌, ◌*◌, ◌/◌, ◌^◌, ◌<◌, ◌≤◌, false, length, map, IfOk};
 ghost use Rattle.std.specs.Prelude.{IfErr, OnOk};
 ghost use Rattle.tv_core.specs.Giving.{GivesIn};

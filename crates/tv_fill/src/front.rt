@@ -1,3 +1,4 @@
+//! The values before those of the steps.
 ghost use Rattle.std.specs.Prelude.{◌≡◌, false, length, slice_index, OnOk};
 ghost use Rattle.tv_bits.specs.Bits.{bits_values};
 ghost use Rattle.tv_core.specs.Below.{joined_below};

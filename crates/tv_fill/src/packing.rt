@@ -1,3 +1,4 @@
+//! The lines of a run, packed.
 ghost use Rattle.std.specs.Prelude.{◌≡◌, ◌+◌, ◌^◌, ◌≤◌, [], ◌∷◌, ◌++◌, length, map, All};
 ghost use Rattle.std.specs.Prelude.{IfOk, OnOk};
 ghost use Rattle.tv_layout.specs.Sound.{padding};

@@ -1,3 +1,4 @@
+//! The values of the steps of a run.
 ghost use Rattle.std.specs.Prelude.{◌≡◌, ℕ, ◌+◌, ◌*◌, ◌<◌, ◌≤◌, ◌^◌, true, false, length, OnOk};
 ghost use Rattle.tv_core.specs.Below.{joined_below};
 ghost use Rattle.tv_core.specs.Giving.{GivesIn};

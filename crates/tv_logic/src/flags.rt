@@ -1,3 +1,4 @@
+//! The zero flags of the four words.
 ghost use Rattle.std.specs.Prelude.{◌≡◌, ◌<◌, false, IfOk, OnOk};
 ghost use Rattle.tv_bits.specs.Zero.{zero_of};
 ghost use Rattle.tv_core.specs.Combinations.{wire};

@@ -1,3 +1,4 @@
+//! A memory of bytes, read and written by bytes and words.
 ghost use Rattle.std.specs.Prelude.{◌≡◌, ◌+◌, ◌^◌, ◌<◌, ◌*◌, ◌/◌, ◌||◌, ◌==◌, false, OnOk, OnErr};
 ghost use Rattle.std.specs.Prelude.{IsOk, IsTrue, ℕ};
 ghost use Rattle.tv_word.specs.Widths.{IsWidth};

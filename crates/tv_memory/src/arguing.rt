@@ -1,3 +1,4 @@
+//! The argument, put into a sink, and its laws.
 ghost use Rattle.std.specs.Prelude.{◌≡◌, ◌+◌, ◌-◌, ◌*◌, ◌^◌, ◌≤◌, ◌<◌, length, All, IfOk};
 ghost use Rattle.tv_benes.specs.Places.{output, AreBelow};
 ghost use Rattle.tv_benes.specs.declared.shape.Net.{Net};

@@ -1,3 +1,4 @@
+//! The values of the argument's wires.
 ghost use Rattle.std.specs.Prelude.{◌≡◌, ◌+◌, ◌-◌, ◌^◌, ◌≤◌, false, length, map, OnOk};
 ghost use Rattle.tv_benes.specs.Items.{bit_at, pair_at};
 ghost use Rattle.tv_core.specs.Below.{joined_below};

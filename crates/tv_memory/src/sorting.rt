@@ -1,3 +1,4 @@
+//! The address order of packed lines.
 ghost use Rattle.std.specs.Prelude.{◌≡◌, ◌%◌, ◌^◌, map, IfOk};
 ghost use Rattle.tv_lines.specs.Ordered.{key};
 ghost use Rattle.tv_lines.specs.Packing.{unpacked};

@@ -1,3 +1,4 @@
+//! The quotient and the remainder of two words.
 ghost use Rattle.std.specs.Prelude.{◌≡◌, ◌+◌, ◌*◌, ◌/◌, ◌^◌, ◌≤◌, ◌<◌, [], ◌∷◌, false, IfOk, OnOk};
 ghost use Rattle.tv_bits.specs.Zero.{zero_flag};
 ghost use Rattle.tv_core.specs.Giving.{GivesIn};

@@ -1,3 +1,4 @@
+//! What the gadgets answer.
 use tv_bits::Bits;
 use tv_core::Wire;
 

@@ -1,3 +1,4 @@
+//! Numbers that wires spell, also in two's complement, and the bits of a number.
 ghost use Rattle.std.specs.Prelude.{◌≡◌, ◌+◌, ◌*◌, ◌≤◌, ◌<◌, ◌^◌, false, OnOk};
 ghost use Rattle.tv_bits.specs.Bits.{bits_combination};
 ghost use Rattle.tv_core.specs.Combinations.{top};

@@ -1,3 +1,4 @@
+//! What is proved of settings and permutations, from the definitions.
 ghost use Rattle.tv_route.specs.Permutations.{RearrangedIsPermutation};
 ghost use Rattle.tv_route.specs.Route.{RouteIsRight};
 

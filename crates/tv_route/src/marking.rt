@@ -1,3 +1,4 @@
+//! Which inputs of a network go through its lower half.
 ghost use Rattle.std.specs.Prelude.{◌≡◌, ℕ, ◌*◌, ◌^◌, ◌<◌, ◌≤◌, length};
 ghost use Rattle.std.specs.Prelude.{slice_index, IfOk};
 ghost use Rattle.tv_route.specs.Permutations.{Permutes};

@@ -1,3 +1,4 @@
+//! The settings of a network for a permutation.
 ghost use Rattle.std.specs.Prelude.{◌≡◌, suc, ◌+◌, ◌-◌, ◌*◌, ◌/◌, ◌^◌, ◌<◌, ◌≤◌, ◌++◌};
 ghost use Rattle.std.specs.Prelude.{if◌then◌else◌, length, slice_index, IfOk, OnOk};
 ghost use Rattle.tv_benes.specs.Through.{missing, places};

@@ -1,3 +1,4 @@
+//! The test for permutations.
 ghost use Rattle.std.specs.Prelude.{◌↔◌, length, IfOk, IsTrue};
 ghost use Rattle.tv_route.specs.Permutations.{Permutes};
 

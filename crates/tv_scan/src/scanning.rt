@@ -1,3 +1,4 @@
+//! A line held to the latest earlier line of its cell.
 ghost use Rattle.std.specs.Prelude.{◌≡◌, ◌+◌, ◌*◌, ◌≤◌, ◌<◌, ◌∷◌, ◌++◌, ◌==◌, [], false};
 ghost use Rattle.std.specs.Prelude.{if◌then◌else◌, length, map, All, IfOk, OnOk};
 ghost use Rattle.tv_bits.specs.Zero.{zero_values};

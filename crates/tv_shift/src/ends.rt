@@ -1,3 +1,4 @@
+//! The last steps of a shift: by half a word, by the rest, and 0 where it is too far.
 ghost use Rattle.std.specs.Prelude.{◌≡◌, ◌+◌, ◌/◌, ◌%◌, ◌≤◌, ◌<◌, ◌^◌, length, IfOk};
 ghost use Rattle.tv_bits.specs.Bits.{bits_combination};
 ghost use Rattle.tv_core.specs.Combinations.{top, scaled};

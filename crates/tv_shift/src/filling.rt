@@ -1,3 +1,4 @@
+//! The values of a shift's wires.
 ghost use Rattle.std.specs.Prelude.{◌≡◌, ◌/◌, ◌%◌, ◌<◌, ◌^◌, ◌==◌, false, OnOk};
 ghost use Rattle.std.specs.Int.{bit_at};
 ghost use Rattle.tv_core.specs.Giving.{GivesIn};

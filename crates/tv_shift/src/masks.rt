@@ -1,3 +1,4 @@
+//! The bits of a word that fall away in a shift.
 ghost use Rattle.std.specs.Prelude.{◌≡◌, ◌+◌, ◌*◌, ◌/◌, ◌≤◌, ◌<◌, ◌^◌, length, max};
 ghost use Rattle.std.specs.Prelude.{false, IfOk, OnOk};
 ghost use Rattle.std.specs.Int.{bit_at};

@@ -1,3 +1,4 @@
+//! The shift of a word by another.
 ghost use Rattle.std.specs.Prelude.{◌≡◌, ◌+◌, ◌/◌, ◌≤◌, ◌<◌, IfOk};
 ghost use Rattle.tv_core.specs.Sinks.{PutsIn, Grows, Room};
 ghost use Rattle.tv_shift.specs.Masks.{AreMade};

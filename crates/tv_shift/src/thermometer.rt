@@ -1,3 +1,4 @@
+//! Marks of a number: which numbers are below it.
 ghost use Rattle.std.specs.Prelude.{◌≡◌, ◌+◌, ◌-◌, ◌*◌, ◌≤◌, ◌<◌, ◌^◌, ◌++◌, length, max};
 ghost use Rattle.std.specs.Prelude.{false, IfOk, OnOk};
 ghost use Rattle.tv_core.specs.Combinations.{top};

@@ -1,3 +1,4 @@
+//! Why a system is not shrunk.
 ghost use Rattle.std.specs.Prelude.{◌≡◌, ◌↔◌, IsTrue};
 ghost use Rattle.tv_shrink.specs.Answers.{read_fault, IsOfSize};
 ghost use Rattle.tv_shrink.specs.declared.fault.ShrinkFault.TheVariants.{Memory};

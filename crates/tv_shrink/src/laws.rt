@@ -1,3 +1,4 @@
+//! What is proved of shrunk systems, from the definitions.
 ghost use Rattle.tv_shrink.specs.Laws.{KeepsPublics, KeepsSolutions, SolutionsAreOne};
 ghost use Rattle.tv_shrink.specs.Laws.{SystemsAreOver};
 

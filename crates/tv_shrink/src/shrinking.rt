@@ -1,3 +1,4 @@
+//! A system in a file, shrunk.
 ghost use Rattle.std.specs.Prelude.{◌≡◌, Err, MatchResult};
 ghost use Rattle.tv_container.specs.Reading.{Known, IsMissing};
 ghost use Rattle.tv_shrink.specs.Answers.{Halted, HaltsBy, IsOfSize, Shrinks, Tells, TellsRead};

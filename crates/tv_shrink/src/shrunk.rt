@@ -1,3 +1,4 @@
+//! A shrunk system, its wires numbered anew.
 ghost use Rattle.std.specs.Prelude.{◌≡◌, ◌+◌, ◌≤◌, ◌<◌, ◌^◌, List, length, IfOk};
 ghost use Rattle.tv_core.specs.Constraints.{Constraint};
 ghost use Rattle.tv_shrink.specs.Answers.{counted_system, start_rows, IsReady};

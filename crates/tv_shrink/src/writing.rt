@@ -1,3 +1,4 @@
+//! A shrunk system, written to a file.
 ghost use Rattle.std.specs.Prelude.{◌≡◌, ◌*◌, ◌+◌, ◌-◌, ◌≤◌, ◌<◌, ◌^◌, length};
 ghost use Rattle.std.specs.List.{filter_map};
 ghost use Rattle.tv_core.specs.Meanings.{terms_in};

@@ -1,3 +1,4 @@
+//! The program counter.
 ghost use Rattle.std.specs.Prelude.{◌≡◌, ◌+◌, ◌-◌, ◌/◌, ◌%◌, ◌^◌, ◌<◌};
 ghost use Rattle.tv_word.specs.Widths.{IsWidth};
 

@@ -1,3 +1,5 @@
+//! What comes of a step, and how a run ends.
+
 /// What comes of a step.
 #[derive(Clone, Copy, PartialEq, Eq, Debug)]
 pub enum Outcome {

@@ -1,3 +1,4 @@
+//! Memory that begins with an image.
 ghost use Rattle.std.specs.Prelude.{◌≡◌, ◌≤◌, ◌*◌, ◌/◌, ◌^◌, IfOk, length};
 ghost use Rattle.tv_word.specs.Widths.{IsWidth};
 ghost use Rattle.tv_mem.specs.Pages.{bytes_in};

@@ -1,3 +1,4 @@
+//! What a trace is made of: its lines and its states.
 ghost use Rattle.std.specs.Prelude.{◌≡◌};
 
 use std::marker::Model;

@@ -1,3 +1,4 @@
+//! What each opcode does.
 ghost use Rattle.std.specs.Prelude.{◌≡◌};
 ghost use Rattle.tv_step.specs.Ops.{op_of};
 

@@ -1,3 +1,4 @@
+//! The sixteen registers.
 ghost use Rattle.std.specs.Prelude.{◌≡◌, ◌^◌, ◌<◌, replicate, slice_index, slice_set};
 ghost use Rattle.tv_word.specs.Widths.{IsWidth};
 

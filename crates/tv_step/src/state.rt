@@ -1,3 +1,4 @@
+//! The state of the machine.
 ghost use Rattle.std.specs.Prelude.{◌<◌, ◌^◌, All};
 
 use crate::counter::Counter;

@@ -1,3 +1,4 @@
+//! The numbers of a tape's text.
 ghost use Rattle.std.specs.Prelude.{◌≡◌, ◌⊎◌, Ok, Err, IfOk, IfErr};
 ghost use Rattle.tv_word.specs.Numeral.{is_numeral};
 ghost use Rattle.tv_tape.specs.Tape.{is_separator, number_of, tape_of};

@@ -1,3 +1,4 @@
+//! What is proved of tapes and their texts, from the definitions.
 ghost use Rattle.std.specs.Prelude.{◌≡◌, ◌<◌, ◌≤◌, ◌^◌, ℕ, List, length, All, IfOk, Ok};
 ghost use Rattle.tv_tape.specs.Tape.{tape_of, text_of};
 

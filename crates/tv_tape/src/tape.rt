@@ -1,3 +1,4 @@
+//! A tape that is read from its front.
 ghost use Rattle.std.specs.Prelude.{◌≡◌, [], ◌∷◌, None, IfSome, length, slice_get};
 
 use std::marker::Model;

@@ -1,3 +1,4 @@
+//! The text of a tape.
 ghost use Rattle.std.specs.Prelude.{◌≡◌, ◌++◌, IfOk, OnOk, codes, decimal};
 ghost use Rattle.tv_tape.specs.Tape.{text_of};
 

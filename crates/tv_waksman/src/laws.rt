@@ -1,3 +1,4 @@
+//! What is proved of Waksman's network, from the definitions.
 ghost use Rattle.tv_waksman.specs.Waksman.{ThroughWIsPermutation, NetworkWIsSound};
 ghost use Rattle.tv_waksman.specs.Waksman.{NetworkWIsComplete};
 
