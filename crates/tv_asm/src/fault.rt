@@ -1,3 +1,4 @@
+//! Why a line is refused, and why a text has no image.
 ghost use Rattle.std.specs.Prelude.{◌≡◌};
 ghost use Rattle.tv_asm.specs.declared.fault.AsmFault.TheVariants.{Memory};
 

@@ -1,3 +1,4 @@
+//! The two words of an instruction, from its name and operands.
 ghost use Rattle.std.specs.Prelude.{◌≡◌, ◌<◌, ◌≤◌, length, IfOk};
 ghost use Rattle.std.specs.List.{position_or_len};
 ghost use Rattle.tv_asm.specs.Instruction.{operands_in, operand_at, operand_count, fields, counted};

@@ -1,3 +1,4 @@
+//! Operands: registers, addresses of labels, and numbers.
 ghost use Rattle.std.specs.Prelude.{◌≡◌, ◌^◌, ◌<◌, ◌≤◌, IfOk, IfSome};
 ghost use Rattle.tv_word.specs.Numeral.{numeral};
 ghost use Rattle.tv_word.specs.Widths.{IsWidth};

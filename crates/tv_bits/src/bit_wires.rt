@@ -1,3 +1,4 @@
+//! Wires that follow each other, as the bits of a number.
 ghost use Rattle.std.specs.Prelude.{◌≡◌, ◌+◌, ◌-◌, ◌≤◌, ◌<◌, ◌^◌, ◌++◌, length, max};
 ghost use Rattle.tv_bits.specs.Bits.{bits_combination, part};
 ghost use Rattle.tv_core.specs.Combinations.{constant, scaled, top};

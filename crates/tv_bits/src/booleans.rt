@@ -1,3 +1,4 @@
+//! A wire that is held to 0 or 1.
 ghost use Rattle.std.specs.Prelude.{◌≡◌, ◌<◌, [], false, IfOk, OnOk};
 ghost use Rattle.tv_bits.specs.Bit.{bit_of, BitIsSound, BitIsComplete, BitSizes};
 ghost use Rattle.tv_core.specs.Giving.{GivesIn};

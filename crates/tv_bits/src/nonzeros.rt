@@ -1,3 +1,4 @@
+//! Whether a combination isn't 0.
 ghost use Rattle.std.specs.Prelude.{◌≡◌, ◌≤◌, ◌<◌, false, IfOk, OnOk};
 ghost use Rattle.tv_bits.specs.Nonzero.{nonzero_of, nonzero_values, NonzeroIsSound};
 ghost use Rattle.tv_bits.specs.Nonzero.{NonzeroIsComplete, NonzeroSizes};

@@ -1,3 +1,4 @@
+//! Two ands in one constraint.
 ghost use Rattle.std.specs.Prelude.{◌≡◌, ◌≤◌, length, max, IfOk};
 ghost use Rattle.tv_bits.specs.Pairs.{side, two_ands_of, TwoAndsAreSound, TwoAndsAreComplete};
 ghost use Rattle.tv_bits.specs.Pairs.{TwoAndsSizes};

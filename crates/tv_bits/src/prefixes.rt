@@ -1,3 +1,4 @@
+//! The order of two numbers, by a difference of their prefixes.
 ghost use Rattle.std.specs.Prelude.{◌≡◌, ◌+◌, ◌-◌, ◌*◌, ◌≤◌, ◌<◌, ◌^◌, false, length, max, IfOk};
 ghost use Rattle.std.specs.Prelude.{OnOk};
 ghost use Rattle.tv_bits.specs.Order.{first_difference};

@@ -1,3 +1,4 @@
+//! A product, a ratio, or a combination's value as a new wire.
 ghost use Rattle.std.specs.Prelude.{◌≤◌, ◌<◌, IfOk};
 ghost use Rattle.tv_bits.specs.Ratio.{ratio_of, RatioIsSound, RatioIsComplete, RatioDivides};
 ghost use Rattle.tv_bits.specs.Ratio.{RatioSizes};

@@ -1,3 +1,4 @@
+//! One-hot rows.
 ghost use Rattle.std.specs.Prelude.{◌≡◌, ◌+◌, ◌≤◌, ◌<◌, ◌^◌, ◌++◌, false, length, max, IfOk};
 ghost use Rattle.std.specs.Prelude.{OnOk};
 ghost use Rattle.tv_bits.specs.Bits.{bits_combination};

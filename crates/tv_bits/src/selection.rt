@@ -1,3 +1,4 @@
+//! The choice that a bit makes between two combinations.
 ghost use Rattle.std.specs.Prelude.{◌≡◌, ◌≤◌, ◌<◌, false, length, IfOk, OnOk};
 ghost use Rattle.tv_bits.specs.Select.{selected, select_of, select_values, SelectIsSound};
 ghost use Rattle.tv_bits.specs.Select.{SelectIsComplete, SelectSizes, pick_of, PickIsSound};

@@ -1,3 +1,4 @@
+//! Numbers spelt by bits.
 ghost use Rattle.std.specs.Prelude.{◌≡◌, ◌+◌, ◌≤◌, ◌<◌, false, IfOk, OnOk};
 ghost use Rattle.std.specs.Int.{bit_at};
 ghost use Rattle.tv_bits.specs.Bits.{bits_values, new_bits_of, bits_of, NewBitsAreSound};

@@ -1,3 +1,4 @@
+//! The comparison of two words, as numbers and as signed numbers.
 ghost use Rattle.std.specs.Prelude.{◌≡◌, ◌+◌, ◌-◌, ◌/◌, ◌≤◌, ◌<◌, ◌^◌, int_lt, false, IfOk, OnOk};
 ghost use Rattle.tv_cmp.specs.Compare.{sign, but_for_signs, order_flags_of, signed_size_of};
 ghost use Rattle.tv_cmp.specs.Compare.{greater_of, compare_of, size, signed_size, compare_values};

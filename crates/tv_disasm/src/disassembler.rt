@@ -1,3 +1,4 @@
+//! The program text of an image, an instruction at a time.
 ghost use Rattle.std.specs.Prelude.{◌≡◌, ◌+◌, ◌/◌, ◌%◌, ◌≤◌, ◌⊎◌, length, IfOk, IfErr};
 ghost use Rattle.tv_disasm.specs.Disassembly.{disassembly_of};
 ghost use Rattle.tv_word.specs.Widths.{IsWidth};

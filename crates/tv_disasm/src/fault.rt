@@ -1,3 +1,4 @@
+//! Why an image has no program text.
 ghost use Rattle.std.specs.Prelude.{◌≡◌};
 ghost use Rattle.tv_disasm.specs.declared.fault.DisFault.TheVariants.{Memory};
 

@@ -1,3 +1,4 @@
+//! The line of two words.
 ghost use Rattle.std.specs.Prelude.{◌≡◌, ◌++◌, ◌-◌, ◌/◌, ◌<◌, drop, OnOk};
 ghost use Rattle.tv_word.specs.Widths.{IsWidth};
 ghost use Rattle.tv_disasm.specs.Disassembly.{digit_char, hexadecimal, instruction_text};

@@ -1,3 +1,4 @@
+//! The operands of an instruction, as its line has them.
 ghost use Rattle.std.specs.Prelude.{◌≡◌, ◌++◌, OnOk, codes, decimal};
 ghost use Rattle.tv_disasm.specs.Disassembly.{joined, last_text, operand_texts, register_text};
 

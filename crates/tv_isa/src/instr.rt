@@ -1,3 +1,4 @@
+//! An instruction's fields, and the two words that hold them.
 ghost use Rattle.std.specs.Prelude.{◌≡◌, ◌<◌, ◌^◌, slice_index};
 ghost use Rattle.tv_word.specs.Widths.{IsWidth};
 ghost use Rattle.tv_isa.specs.Instruction.{IsInstruction, decode, encode};

@@ -1,3 +1,4 @@
+//! Instructions found in the table.
 ghost use Rattle.std.specs.Prelude.{◌≡◌, ◌<◌, IfSome, map};
 ghost use Rattle.std.specs.Option.{option_map};
 ghost use Rattle.tv_isa.specs.Table.{row_of, with_opcode, with_name, shape_of, instructions};

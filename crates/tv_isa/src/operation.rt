@@ -1,3 +1,4 @@
+//! The table of the instructions.
 use crate::opcode;
 
 /// The operands that an instruction names, in the order of its text.

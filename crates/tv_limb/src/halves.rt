@@ -1,3 +1,4 @@
+//! The halves of a word.
 ghost use Rattle.std.specs.Prelude.{◌≡◌, ◌+◌, ◌^◌, ◌<◌, ◌≤◌, ◌/◌, length};
 ghost use Rattle.tv_core.specs.Combinations.{top};
 ghost use Rattle.tv_word.specs.Widths.{IsWidth};

@@ -1,3 +1,4 @@
+//! A number in two parts.
 ghost use Rattle.std.specs.Prelude.{◌≡◌, ◌+◌, ◌^◌, ◌<◌, ◌≤◌};
 ghost use Rattle.tv_limb.specs.Split.{split_at};
 

@@ -1,3 +1,4 @@
+//! The text of the lines that an assignment has.
 ghost use Rattle.std.specs.Prelude.{◌≡◌, ◌≤◌, IfOk, map, take};
 ghost use Rattle.tv_layout.specs.Places.{WithinLimits, line_count};
 ghost use Rattle.tv_listing.specs.Listing.{assigned_lines, lines_at, text_by};

@@ -1,3 +1,4 @@
+//! Lines in numbers, and the orders in which they are told.
 ghost use Rattle.std.specs.Prelude.{◌≡◌};
 ghost use Rattle.tv_listing.specs.Row.{row_line};
 ghost use Rattle.tv_lines.specs.Packing.{line_value};

@@ -1,3 +1,4 @@
+//! The text of the lines of a trace.
 ghost use Rattle.std.specs.Prelude.{◌≡◌, ◌*◌, ◌≤◌, ◌++◌, length, map, OnOk, IfOk};
 ghost use Rattle.tv_core.specs.declared.limits.TheConstants.{IMAGE_WORDS, TAPE_WORDS};
 ghost use Rattle.tv_listing.specs.Listing.{traced_lines, text_by};

@@ -1,3 +1,4 @@
+//! The text of lines in an order.
 ghost use Rattle.std.specs.Prelude.{◌≡◌, ◌++◌, [], ◌∷◌, IfOk, OnOk, decimal, map};
 ghost use Rattle.tv_listing.specs.Listing.{by_cell, line_text, text_of, text_by};
 ghost use Rattle.tv_listing.specs.Row.{row_line};

@@ -1,3 +1,4 @@
+//! What a file begins with.
 ghost use Rattle.std.specs.Prelude.{◌≡◌, ◌+◌, ◌≤◌, ◌<◌, ◌^◌, ◌++◌, length};
 ghost use Rattle.tv_r1cs_write.specs.Bytes.{head_bytes, numbers_bytes};
 

@@ -1,3 +1,4 @@
+//! What is proved of files, from the definitions.
 ghost use Rattle.tv_r1cs_write.specs.Laws.{FilesAreFronts, FilesAreOfSystems, FilesAreWhole};
 ghost use Rattle.tv_r1cs_write.specs.Laws.{SystemsComeBack};
 

@@ -1,3 +1,4 @@
+//! Constraints and labels, written behind what a file begins with.
 ghost use Rattle.std.specs.Prelude.{◌≡◌, ◌*◌, ◌^◌, ◌<◌, ◌++◌, [], length, Ok};
 ghost use Rattle.tv_container.specs.Bytes.{section_head};
 ghost use Rattle.tv_container.specs.Taking.{Took};

@@ -1,3 +1,4 @@
+//! The sink that writes to a file.
 ghost use Rattle.std.specs.Prelude.{◌≡◌, ◌+◌, ◌≤◌, ◌<◌, ◌^◌, [], length, Ok, IfOk, IfErr};
 ghost use Rattle.std.specs.List.{range_with_len};
 ghost use Rattle.tv_files.specs.Calls.{Creates};

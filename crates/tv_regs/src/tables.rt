@@ -1,3 +1,4 @@
+//! Tables of what opcodes choose.
 use tv_core::{F, Wire};
 
 /// An entry of a table of combinations: some opcodes, and the terms of the one that they choose.

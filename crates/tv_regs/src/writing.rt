@@ -1,3 +1,4 @@
+//! The registers, one of which is written by the row of its number.
 ghost use Rattle.std.specs.Prelude.{◌≡◌, ◌+◌, ◌≤◌, ◌<◌, ◌^◌, false, length, IfOk, OnOk};
 ghost use Rattle.std.specs.List.{range_with_len};
 ghost use Rattle.tv_core.specs.Combinations.{top};
