@@ -24,8 +24,8 @@ pub fn group(op: Wire, ops: &[u8]) -> Lc
     lc
 }
 
-// Makes `lc` the same.
-fn fill_group(lc: &mut Lc, op: Wire, ops: &[u8])
+/// Makes `lc` the same.
+pub fn fill_group(lc: &mut Lc, op: Wire, ops: &[u8])
     requires within { op + 32 < 2 ^ 32 }
     requires few { length ops.now ≤ 32 }
     requires opcodes { All (λ k. k < 32) ops.now }

@@ -10,13 +10,14 @@ mod tables;
 mod writing;
 
 pub use choices::{
-    choose, choose_by, choose_fills, choose_is_complete, choose_is_sound, group, group_is_sound,
+    choose, choose_by, choose_fills, choose_is_complete, choose_is_sound, fill_group, group,
+    group_is_sound,
 };
 pub use reading::{
-    fill_read_reg, read_reg, read_reg_fills, read_reg_is_complete, read_reg_is_sound,
+    fill_read_reg, read_reg, read_reg_by, read_reg_fills, read_reg_is_complete, read_reg_is_sound,
 };
 pub use tables::WireEntry;
 pub use writing::{
-    fill_write_reg, wires_from, write_reg, write_reg_fills, write_reg_is_complete,
+    fill_write_reg, wires_from, write_reg, write_reg_by, write_reg_fills, write_reg_is_complete,
     write_reg_is_sound,
 };
