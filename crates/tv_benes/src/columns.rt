@@ -66,40 +66,46 @@ fn pair_switch<S: Sink>(s: &mut S, scratch: &mut Scratch, x: &Pair, y: &Pair) ->
     )
 }
 
-// `n` switches between items that are two wires each. It is a frame of its own on the stack, so
-// that all levels of a network have one place for their scratch.
-#[inline(never)]
-pub(crate) fn column<S: Sink, P: Places>(s: &mut S, n: u32, items: &P) -> Put<()>
+// `n` switches between items that are two wires each.
+pub(crate) fn column<S: Sink, P: Places>(
+    s: &mut S,
+    scratch: &mut Scratch,
+    n: u32,
+    items: &P,
+) -> Put<()>
     requires room { Room S.meaning s.old (5 * n) (5 * n) }
     requires made { (i : ℕ) → i < 2 * n → P.place items.now i + 1 < S.meaning.wires s.old }
     ensures puts { PutsIn S.meaning s.old s.new (column_of n (λ i. wires_at (P.place items.now i)))
         result }
     ensures grows { IfOk result (λ _. Grows S.meaning s.old s.new (5 * n) (5 * n)) }
 {
-    let mut scratch = Scratch::new();
     for j in 0..n {
         let x = items.at(2 * j);
         let y = items.at(2 * j + 1);
-        wire_switch(s, &mut scratch, x, y)?;
+        wire_switch(s, scratch, x, y)?;
     }
     Ok(())
 }
 
 // `n` switches between the items that go into a network.
-pub(crate) fn input_column<S: Sink, I: Inputs>(s: &mut S, n: u32, inputs: &I) -> Put<()>
+pub(crate) fn input_column<S: Sink, I: Inputs>(
+    s: &mut S,
+    scratch: &mut Scratch,
+    n: u32,
+    inputs: &I,
+) -> Put<()>
     requires room { Room S.meaning s.old (5 * n) (5 * n) }
     requires count { I.count inputs.now ≡ 2 * n }
     requires made { AreMade (I.pair inputs.now) (2 * n) (S.meaning.wires s.old) }
     ensures puts { PutsIn S.meaning s.old s.new (column_of n (I.pair inputs.now)) result }
     ensures grows { IfOk result (λ _. Grows S.meaning s.old s.new (5 * n) (5 * n)) }
 {
-    let mut scratch = Scratch::new();
     let mut x = no_terms();
     let mut y = no_terms();
     for j in 0..n {
         inputs.fill(2 * j, &mut x);
         inputs.fill(2 * j + 1, &mut y);
-        pair_switch(s, &mut scratch, &x, &y)?;
+        pair_switch(s, scratch, &x, &y)?;
     }
     Ok(())
 }

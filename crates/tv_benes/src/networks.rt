@@ -9,7 +9,7 @@ ghost use Rattle.tv_core.specs.Sinks.{PutsIn, Grows, Room};
 use crate::columns::{column, input_column};
 use crate::places::{Inputs, LastItems, Outputs, Row, column_outputs, last_outputs};
 use crate::shape::Net;
-use tv_core::{Put, Sink, Wire};
+use tv_core::{Put, Scratch, Sink, Wire};
 use tv_word::arithmetic::power;
 
 /// Benes' network on 2^`k` items, `k` being from 1 to 31. It makes 5 wires and 5 constraints a
@@ -45,13 +45,21 @@ pub fn routing_network<S: Sink, I: Inputs>(s: &mut S, net: Net, k: u32, inputs: 
 {
     let h = k - 1;
     let first = Wire(s.wires());
-    input_column(s, power(h), inputs)?;
-    inner(s, net, h, first)
+    let mut scratch = Scratch::new();
+    input_column(s, &mut scratch, power(h), inputs)?;
+    inner(s, &mut scratch, net, h, first)
 }
 
-// A network of level `h` on the pairs of wires that stand at every fifth place from `from` on.
+// A network of level `h` on the pairs of wires that stand at every fifth place from `from` on. All
+// columns fill the same combinations.
 #[cycle(network)]
-fn row_network<S: Sink>(s: &mut S, net: Net, h: u32, from: Wire) -> Put<Outputs>
+fn row_network<S: Sink>(
+    s: &mut S,
+    scratch: &mut Scratch,
+    net: Net,
+    h: u32,
+    from: Wire,
+) -> Put<Outputs>
     requires level { h < 31 }
     requires room { Room S.meaning s.old (5 * switches net h) (5 * switches net h) }
     requires made { from + 10 * 2 ^ h ≤ S.meaning.wires s.old + 3 }
@@ -60,13 +68,13 @@ fn row_network<S: Sink>(s: &mut S, net: Net, h: u32, from: Wire) -> Put<Outputs>
         (5 * switches net h)) }
 {
     let first = Wire(s.wires());
-    column(s, power(h), &Row(from))?;
-    inner(s, net, h, first)
+    column(s, scratch, power(h), &Row(from))?;
+    inner(s, scratch, net, h, first)
 }
 
 // What a network of level `h` has behind its first column, whose wires begin at `first`.
 #[cycle(network)]
-fn inner<S: Sink>(s: &mut S, net: Net, h: u32, first: Wire) -> Put<Outputs>
+fn inner<S: Sink>(s: &mut S, scratch: &mut Scratch, net: Net, h: u32, first: Wire) -> Put<Outputs>
     requires level { h < 31 }
     requires room { Room S.meaning s.old (5 * (switches net h - 2 ^ h))
         (5 * (switches net h - 2 ^ h)) }
@@ -78,14 +86,15 @@ fn inner<S: Sink>(s: &mut S, net: Net, h: u32, first: Wire) -> Put<Outputs>
     if h == 0 {
         return Ok(column_outputs(first));
     }
-    let upper = row_network(s, net, h - 1, first.offset(1))?;
-    let lower = row_network(s, net, h - 1, first.offset(3))?;
-    last_column(s, net, h, &upper, &lower)
+    let upper = row_network(s, scratch, net, h - 1, first.offset(1))?;
+    let lower = row_network(s, scratch, net, h - 1, first.offset(3))?;
+    last_column(s, scratch, net, h, &upper, &lower)
 }
 
 // The last column of a network of level `h`, over the outputs of the two networks before it.
 fn last_column<S: Sink>(
     s: &mut S,
+    scratch: &mut Scratch,
     net: Net,
     h: u32,
     upper: &Outputs,
@@ -102,6 +111,6 @@ fn last_column<S: Sink>(
 {
     let n = power(h) - net.missing();
     let first = Wire(s.wires());
-    column(s, n, &LastItems { net, upper, lower })?;
+    column(s, scratch, n, &LastItems { net, upper, lower })?;
     Ok(last_outputs(net, first, upper, lower))
 }

@@ -77,6 +77,16 @@ impl Outputs {
         }
     }
 
+    /// Makes `item` output `i`.
+    pub fn fill(&self, i: u32, item: &mut Pair)
+        requires { output_wire self.now i + 1 < 2 ^ 32 }
+        ensures { item.new ≡ output self.now i }
+    {
+        let first = self.wire(i);
+        item.first.set_wire(first);
+        item.second.set_wire(first.offset(1));
+    }
+
     // The first wire of output `i`.
     pub(crate) fn wire(&self, i: u32) -> Wire
         requires { output_wire self.now i < 2 ^ 32 }
