@@ -9,7 +9,7 @@ ghost use Rattle.tv_memory.specs.Memory.{IsMade, bits_at, unpack_one, neighbours
 ghost use Rattle.tv_memory.specs.Memory.{memory_of, memory_made, memory_added, OrderedIsMet};
 ghost use Rattle.tv_memory.specs.Order.{memory_values, AddressOrderIsReached};
 
-use crate::lines::{Lines, Packed};
+use crate::lines::{Lines, Packed, no_terms};
 use tv_benes::{Net, Outputs, routing_network};
 use tv_core::{Put, Scratch, Sink, Wire};
 use tv_lines::{LineBits, first_line, line_bits, sorted_pair_by, unpack_by};
@@ -45,8 +45,10 @@ fn unpack_all<S: Sink>(s: &mut S, n: u32, pairs: &Outputs) -> Put<()>
     ensures grows { IfOk result (λ _. Grows S.meaning s.old s.new (n * 115) (n * 117)) }
 {
     let mut scratch = Scratch::new();
+    let mut pair = no_terms();
     for i in 0..n {
-        unpack_by(s, &mut scratch, &pairs.at(i))?;
+        pairs.fill(i, &mut pair);
+        unpack_by(s, &mut scratch, &pair)?;
     }
     Ok(())
 }

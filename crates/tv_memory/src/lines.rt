@@ -28,15 +28,20 @@ impl<'a, L: Lines> Inputs for Packed<'a, L> {
     ghost count = { λ p. length (L.lines p.lines.now) };
 
     fn at(&self, i: u32) -> Pair {
-        let mut pair = Pair {
-            first: Lc::empty(),
-            second: Lc::empty(),
-        };
+        let mut pair = no_terms();
         self.lines.pack(i, &mut pair);
         pair
     }
 
     fn fill(&self, i: u32, item: &mut Pair) {
         self.lines.pack(i, item);
+    }
+}
+
+// Two combinations without terms, to be filled.
+pub(crate) fn no_terms() -> Pair {
+    Pair {
+        first: Lc::empty(),
+        second: Lc::empty(),
     }
 }

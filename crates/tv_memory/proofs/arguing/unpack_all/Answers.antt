@@ -17,7 +17,7 @@ loop-i-preserved g c =
     let m = g.S.Sink.meaning in
     let piece : ℕ → Unit {0} → Circuit (Unit {0}) = λ i _. unpack_one (output c.args.pairs.now i) in
     let grown = c.in_ok-unpack_by.ensures.grows in
-    let bits = rw c.at.ensures at c.in_ok-unpack_by.ensures.puts in
+    let bits = rw c.fill.ensures at c.in_ok-unpack_by.ensures.puts in
     record {
       puts = puts_turn m c.loop-i.i piece tt tt tt _ _ _ c.loop-i.invariant.puts (puts_then m (unpack_of (output c.args.pairs.now c.loop-i.i)) (λ _. pure tt) _ _ _ _ tt bits (puts_nothing m _ tt));
       grows = record { wires = omega (arith, grown.wires); constraints = omega (arith, grown.constraints); whole = grown.whole };
@@ -27,7 +27,7 @@ pub returns-in_err-unpack_by-clause-puts : goal.returns-in_err-unpack_by-clause-
 returns-in_err-unpack_by-clause-puts g c =
     let m = g.S.Sink.meaning in
     let piece : ℕ → Unit {0} → Circuit (Unit {0}) = λ i _. unpack_one (output c.args.pairs.now i) in
-    let bits = rw c.at.ensures at c.in_err-unpack_by.ensures.puts in
+    let bits = rw c.fill.ensures at c.in_err-unpack_by.ensures.puts in
     refused m _ _ _ c.from_residual.result c.from_residual.ensures.1
     (turn_refused m c.args.n c.loop-i.i piece tt tt c.args.s.now c.loop-i.s c.unpack_by.new.s c.in_err-unpack_by.field-0.0 c.loop-i-test.true c.loop-i.invariant.puts
     (refused_then m (unpack_of (output c.args.pairs.now c.loop-i.i)) (λ _. pure tt) _ _ _ bits))
