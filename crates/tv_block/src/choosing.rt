@@ -8,13 +8,13 @@ ghost use Rattle.tv_regs.specs.Reading.{wires_top};
 ghost use Rattle.tv_word.specs.Widths.{IsWidth};
 
 use crate::records::{Data, Fetched, Groups, Operands, StateWires, Store, Tapes};
-use tv_bits::pick;
-use tv_core::{F, Lc, Put, Scratch, Sink, Wire};
+use tv_bits::pick_by;
+use tv_core::{F, Put, Scratch, Sink, Wire};
 use tv_isa::opcode::{
     ADD, AND, ANSWER, CJMP, CMOV, CMPA, CMPAE, CMPE, CMPG, CMPGE, CNJMP, JMP, LOAD_B, LOAD_W, MOV,
     MULL, NOT, OR, READ, SHL, SHR, SMULH, STORE_B, STORE_W, SUB, UDIV, UMOD, UMULH, XOR,
 };
-use tv_regs::{WireEntry, choose_by, group, write_reg};
+use tv_regs::{WireEntry, choose_by, fill_group, group, write_reg_by};
 
 /// The registers after a step: the result of the instruction goes into its destination, where it
 /// writes one. It makes 19 wires and 35 constraints.
@@ -43,7 +43,6 @@ pub(crate) fn result<const W: u32, S: Sink>(
 {
     let op = fetched.fields.op;
     let word = result_word::<W, S>(s, scratch, op, operands, groups, looked, store)?;
-    let moves = group(op, &[CMOV]);
     let writers = group(
         op,
         &[
@@ -51,8 +50,17 @@ pub(crate) fn result<const W: u32, S: Sink>(
             LOAD_W, READ,
         ],
     );
-    let writes = pick(s, &moves, &Lc::wire(state.flag), &writers)?;
-    write_reg(s, fetched.fields.dest, writes, &Lc::wire(word), &state.regs)
+    fill_group(&mut scratch.a, op, &[CMOV]);
+    let writes = pick_by(
+        s,
+        &scratch.a,
+        &mut scratch.b,
+        &mut scratch.c,
+        &[(F::ONE, state.flag)],
+        writers.terms(),
+    )?;
+    let dest = fetched.fields.dest;
+    write_reg_by(s, scratch, dest, writes, &[(F::ONE, word)], &state.regs)
 }
 
 // What goes into the destination register. It makes 1 wire and 17 constraints.

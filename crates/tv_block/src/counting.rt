@@ -6,18 +6,19 @@ ghost use Rattle.tv_core.specs.Sinks.{PutsIn, Grows, Room};
 ghost use Rattle.tv_word.specs.Widths.{IsWidth};
 
 use crate::records::StateWires;
-use tv_bits::{Bits, select_terms, zero};
+use tv_bits::{Bits, select_terms, zero_by};
 use tv_core::{F, Lc, Put, Scratch, Sink, Wire};
 use tv_isa::opcode::{
     ADD, AND, ANSWER, CJMP, CMOV, CMPA, CMPAE, CMPE, CMPG, CMPGE, CNJMP, JMP, LOAD_B, LOAD_W, MOV,
     MULL, NOT, OR, READ, SHL, SHR, SMULH, STORE_B, STORE_W, SUB, UDIV, UMOD, UMULH, XOR,
 };
-use tv_regs::{WireEntry, choose};
+use tv_regs::{WireEntry, choose_by};
 
 /// The program counter after a step, `op` being its opcode's row and `a` the bits of its operand.
 /// It makes 4 wires and 8 constraints.
 pub(crate) fn counter<const W: u32, S: Sink>(
     s: &mut S,
+    scratch: &mut Scratch,
     state: &StateWires,
     op: Wire,
     a: &Bits,
@@ -32,15 +33,12 @@ pub(crate) fn counter<const W: u32, S: Sink>(
     ensures grows { IfOk result (λ _. Grows S.meaning s.old s.new 4 8) }
     ensures below { IfOk result (λ w. w < S.meaning.wires s.new) }
 {
-    let mut scratch = Scratch::new();
     set_but_for_last::<W>(&mut scratch.a, state.pc);
-    let wraps = zero(s, &scratch.a)?;
+    let wraps = zero_by(s, &mut scratch.b, &mut scratch.c, &scratch.a)?;
     let target = target::<W>(a);
     let behind = behind::<W>(state.pc, wraps);
-    let jumped = select_terms(s, &mut scratch, state.flag, target.terms(), &behind)?;
-    let unless = &mut scratch.a;
-    unless.clear();
-    unless.plus_terms(target.terms());
+    let jumped = select_terms(s, scratch, state.flag, target.terms(), &behind)?;
+    let mut unless = Lc::from_terms(target.terms());
     unless.plus_terms(&behind);
     unless.plus(-F::ONE, jumped);
     let table = [
@@ -68,7 +66,7 @@ pub(crate) fn counter<const W: u32, S: Sink>(
             gives: &behind,
         },
     ];
-    choose(s, op, &table)
+    choose_by(s, scratch, op, &table)
 }
 
 // Makes `lc` the program counter less the last place of an instruction.

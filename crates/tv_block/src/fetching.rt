@@ -6,10 +6,10 @@ ghost use Rattle.tv_word.specs.Widths.{IsWidth};
 
 use crate::records::Fetched;
 use tv_bits::new_bits_by;
-use tv_core::{F, Lc, Put, Scratch, Sink};
+use tv_core::{Put, Scratch, Sink, Wire};
 use tv_decode::fields;
 use tv_isa::opcode::UNUSED;
-use tv_regs::group;
+use tv_regs::fill_group;
 
 /// The instruction of a step: two new words and its fields, its opcode being one that is used. It
 /// makes 2 `W` + 80 wires and 2 `W` + 85 constraints.
@@ -23,7 +23,9 @@ pub(crate) fn fetch<const W: u32, S: Sink>(s: &mut S, scratch: &mut Scratch) -> 
     let head = new_bits_by(s, &mut scratch.a, W)?;
     let tail = new_bits_by(s, &mut scratch.a, W)?;
     let fields = fields::<W, S>(s, &head, &tail)?;
-    let unused = group(fields.op, &UNUSED);
-    s.put(&unused, &Lc::constant(F::ONE), &Lc::empty())?;
+    fill_group(&mut scratch.a, fields.op, &UNUSED);
+    scratch.b.set_wire(Wire(0));
+    scratch.c.clear();
+    s.put(&scratch.a, &scratch.b, &scratch.c)?;
     Ok(Fetched { head, tail, fields })
 }

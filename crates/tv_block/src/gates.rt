@@ -3,10 +3,17 @@ ghost use Rattle.tv_block.specs.Gates.{if_zero_of, unless_zero_of, taking_of};
 ghost use Rattle.tv_core.specs.Combinations.{wire, less, top};
 ghost use Rattle.tv_core.specs.Sinks.{PutsIn, Grows, Room};
 
-use tv_core::{F, Lc, Put, Sink, Wire};
+use tv_core::{F, Lc, Put, Scratch, Sink, Wire};
 
-/// A wire that is `g` where `x` is 0, and 0 where it isn't. It makes 2 wires and 2 constraints.
-pub(crate) fn if_zero<S: Sink>(s: &mut S, g: &Lc, x: &Lc) -> Put<Wire>
+/// A wire that is `g` where `x` is 0, and 0 where it isn't. It makes 2 wires and 2 constraints,
+/// from combinations that are filled again.
+pub(crate) fn if_zero<S: Sink>(
+    s: &mut S,
+    factor: &mut Lc,
+    product: &mut Lc,
+    g: &Lc,
+    x: &Lc,
+) -> Put<Wire>
     requires room { Room S.meaning s.old 2 2 }
     requires g_made { top g.now ≤ S.meaning.wires s.old }
     requires g_short { length g.now ≤ 64 }
@@ -17,18 +24,24 @@ pub(crate) fn if_zero<S: Sink>(s: &mut S, g: &Lc, x: &Lc) -> Put<Wire>
 {
     let w = s.fresh();
     let hint = s.fresh();
-    let mut factor = Lc::wire(hint);
-    let mut product = Lc::empty();
-    set_but_for(&mut product, g, w);
-    s.put(x, &factor, &product)?;
+    factor.set_wire(hint);
+    set_but_for(product, g, w);
+    s.put(x, factor, product)?;
     factor.set_wire(w);
     product.clear();
-    s.put(x, &factor, &product)?;
+    s.put(x, factor, product)?;
     Ok(w)
 }
 
-/// A wire that is `g` where `x` isn't 0, and 0 where it is. It makes 2 wires and 2 constraints.
-pub(crate) fn unless_zero<S: Sink>(s: &mut S, g: &Lc, x: &Lc) -> Put<Wire>
+/// A wire that is `g` where `x` isn't 0, and 0 where it is. It makes 2 wires and 2 constraints,
+/// from combinations that are filled again.
+pub(crate) fn unless_zero<S: Sink>(
+    s: &mut S,
+    factor: &mut Lc,
+    product: &mut Lc,
+    g: &Lc,
+    x: &Lc,
+) -> Put<Wire>
     requires room { Room S.meaning s.old 2 2 }
     requires g_made { top g.now ≤ S.meaning.wires s.old }
     requires g_short { length g.now ≤ 64 }
@@ -39,12 +52,12 @@ pub(crate) fn unless_zero<S: Sink>(s: &mut S, g: &Lc, x: &Lc) -> Put<Wire>
 {
     let w = s.fresh();
     let hint = s.fresh();
-    let mut factor = Lc::wire(hint);
-    let mut product = Lc::wire(w);
-    s.put(x, &factor, &product)?;
-    set_but_for(&mut factor, g, w);
+    factor.set_wire(hint);
+    product.set_wire(w);
+    s.put(x, factor, product)?;
+    set_but_for(factor, g, w);
     product.clear();
-    s.put(x, &factor, &product)?;
+    s.put(x, factor, product)?;
     Ok(w)
 }
 
@@ -52,6 +65,7 @@ pub(crate) fn unless_zero<S: Sink>(s: &mut S, g: &Lc, x: &Lc) -> Put<Wire>
 /// where a word is taken. It makes 2 constraints.
 pub(crate) fn taking<S: Sink>(
     s: &mut S,
+    scratch: &mut Scratch,
     asked: Wire,
     before: Wire,
     takes: Wire,
@@ -65,15 +79,16 @@ pub(crate) fn taking<S: Sink>(
     ensures puts { PutsIn S.meaning s.old s.new (taking_of asked before takes ended) result }
     ensures grows { IfOk result (λ _. Grows S.meaning s.old s.new 0 2) }
 {
-    let mut gained = Lc::empty();
-    gained.set_difference(ended, before);
-    let mut factor = Lc::wire(asked);
-    let mut product = Lc::wire(takes);
-    product.plus_terms(gained.terms());
-    s.put(&factor, &Lc::one_less(before), &product)?;
-    factor.set_wire(takes);
-    product.clear();
-    s.put(&factor, &gained, &product)
+    scratch.a.set_wire(asked);
+    scratch.b.set_difference(Wire(0), before);
+    scratch.c.set_wire(takes);
+    scratch.c.plus(F::ONE, ended);
+    scratch.c.plus(-F::ONE, before);
+    s.put(&scratch.a, &scratch.b, &scratch.c)?;
+    scratch.a.set_wire(takes);
+    scratch.b.set_difference(ended, before);
+    scratch.c.clear();
+    s.put(&scratch.a, &scratch.b, &scratch.c)
 }
 
 // Makes `lc` a combination less a wire.

@@ -5,10 +5,10 @@ ghost use Rattle.tv_core.specs.Sinks.{PutsIn, Grows, Room};
 ghost use Rattle.tv_word.specs.Widths.{IsWidth};
 
 use crate::records::{Fetched, Operands, StateWires};
-use tv_bits::{bits_by, pick, select};
-use tv_core::{Lc, Put, Scratch, Sink};
+use tv_bits::{bits_by, pick_by, select_terms};
+use tv_core::{F, Put, Scratch, Sink};
 use tv_isa::opcode::{STORE_B, STORE_W};
-use tv_regs::{group, read_reg};
+use tv_regs::{fill_group, read_reg_by};
 
 /// The operands of an instruction: the three registers that it names, and of them the operand and
 /// the other word, bit by bit. It makes 2 `W` + 5 wires and 2 `W` + 52 constraints.
@@ -26,14 +26,25 @@ pub(crate) fn operands<const W: u32, S: Sink>(
     ensures grows { IfOk result (λ _. Grows S.meaning s.old s.new (2 * W + 5) (2 * W + 52)) }
     ensures below { IfOk result (λ made. OperandsUnder W (S.meaning.wires s.new) made) }
 {
-    let source = read_reg(s, fetched.fields.source, &state.regs)?;
-    let dest = read_reg(s, fetched.fields.dest, &state.regs)?;
-    let reg = read_reg(s, fetched.fields.reg, &state.regs)?;
-    let operand = select(s, fetched.fields.imm, &fetched.tail.lc(), &Lc::wire(reg))?;
-    let a = bits_by(s, scratch, &Lc::wire(operand), W)?;
-    let stores = group(fetched.fields.op, &[STORE_B, STORE_W]);
-    let other = pick(s, &stores, &Lc::wire(dest), &Lc::wire(source))?;
-    let x = bits_by(s, scratch, &Lc::wire(other), W)?;
+    let fields = fetched.fields;
+    let source = read_reg_by(s, scratch, fields.source, &state.regs)?;
+    let dest = read_reg_by(s, scratch, fields.dest, &state.regs)?;
+    let reg = read_reg_by(s, scratch, fields.reg, &state.regs)?;
+    let mut word = fetched.tail.lc();
+    let operand = select_terms(s, scratch, fields.imm, word.terms(), &[(F::ONE, reg)])?;
+    word.set_wire(operand);
+    let a = bits_by(s, scratch, &word, W)?;
+    fill_group(&mut scratch.a, fields.op, &[STORE_B, STORE_W]);
+    let other = pick_by(
+        s,
+        &scratch.a,
+        &mut scratch.b,
+        &mut scratch.c,
+        &[(F::ONE, dest)],
+        &[(F::ONE, source)],
+    )?;
+    word.set_wire(other);
+    let x = bits_by(s, scratch, &word, W)?;
     Ok(Operands {
         operand,
         other,

@@ -53,10 +53,11 @@ pub fn step<const W: u32, S: Sink>(s: &mut S, state: &StateWires, n: u32) -> Put
     ensures answers_below { IfOk result (λ made. made.answers < S.meaning.wires s.new) }
     ensures value_below { IfOk result (λ made. made.value < S.meaning.wires s.new) }
 {
-    let computed = compute::<W, S>(s, state, n)?;
+    let mut scratch = Scratch::new();
+    let computed = compute::<W, S>(s, &mut scratch, state, n)?;
     let made = &computed;
     let op = made.fetched.fields.op;
-    let pc = counter::<W, S>(s, state, op, &made.operands.a)?;
+    let pc = counter::<W, S>(s, &mut scratch, state, op, &made.operands.a)?;
     Ok(Reached {
         next: StateWires {
             pc,
@@ -71,7 +72,12 @@ pub fn step<const W: u32, S: Sink>(s: &mut S, state: &StateWires, n: u32) -> Put
 }
 
 // All of a step but its program counter.
-fn compute<const W: u32, S: Sink>(s: &mut S, state: &StateWires, n: u32) -> Put<Computed>
+fn compute<const W: u32, S: Sink>(
+    s: &mut S,
+    scratch: &mut Scratch,
+    state: &StateWires,
+    n: u32,
+) -> Put<Computed>
     requires width { IsWidth W }
     requires room { Room S.meaning s.old (compute_made W) (compute_added W) }
     requires state_made { StateUnder (S.meaning.wires s.old) state.now }
@@ -85,27 +91,19 @@ fn compute<const W: u32, S: Sink>(s: &mut S, state: &StateWires, n: u32) -> Put<
     ensures regs { IfOk result (λ made. wires_top made.regs ≤ S.meaning.wires s.new) }
     ensures flag { IfOk result (λ made. made.flag < S.meaning.wires s.new) }
 {
-    let mut scratch = Scratch::new();
-    let instruction = fetch::<W, S>(s, &mut scratch)?;
+    let instruction = fetch::<W, S>(s, scratch)?;
     let fetched = &instruction;
     let op = fetched.fields.op;
-    let words = operands::<W, S>(s, &mut scratch, state, fetched)?;
+    let words = operands::<W, S>(s, scratch, state, fetched)?;
     let operands = &words;
     let groups = groups::<W, S>(s, &operands.x, &operands.a)?;
-    let tapes = tapes::<W, S>(s, n, state, op, &operands.a)?;
-    let looked = data::<W, S>(s, &mut scratch, state, op, &operands.a, &tapes)?;
-    let store = store::<W, S>(s, &mut scratch, op, operands, &looked)?;
+    let tapes = tapes::<W, S>(s, scratch, n, state, op, &operands.a)?;
+    let looked = data::<W, S>(s, scratch, state, op, &operands.a, &tapes)?;
+    let store = store::<W, S>(s, scratch, op, operands, &looked)?;
     let regs = result::<W, S>(
-        s,
-        &mut scratch,
-        state,
-        fetched,
-        operands,
-        &groups,
-        &looked,
-        &store,
+        s, scratch, state, fetched, operands, &groups, &looked, &store,
     )?;
-    let flag = flag::<W, S>(s, &mut scratch, state, op, operands, &groups, &tapes)?;
+    let flag = flag::<W, S>(s, scratch, state, op, operands, &groups, &tapes)?;
     Ok(Computed {
         fetched: *fetched,
         operands: *operands,

@@ -1,58 +1,73 @@
-ghost use Rattle.std.specs.Prelude.{◌≡◌, ◌+◌, ◌*◌, ◌≤◌, ◌<◌, ◌^◌, length, max, IfOk};
+ghost use Rattle.std.specs.Prelude.{◌≡◌, ◌+◌, ◌*◌, ◌≤◌, ◌<◌, ◌^◌, max, IfOk};
 ghost use Rattle.tv_block.specs.Store.{byte_of_bits, power_by, patch_of_two, patch_of_four};
 ghost use Rattle.tv_block.specs.Store.{patch_of, store_of};
 ghost use Rattle.tv_block.specs.Under.{OperandsUnder, DataUnder, PatchUnder, StoreUnder};
 ghost use Rattle.tv_block.specs.Under.{patch_made};
 ghost use Rattle.tv_bits.specs.Bits.{bits_combination};
+ghost use Rattle.tv_bits.specs.Select.{select_of};
 ghost use Rattle.tv_core.specs.Combinations.{wire, less, top};
 ghost use Rattle.tv_core.specs.Sinks.{PutsIn, Grows, Room};
 ghost use Rattle.tv_word.specs.Widths.{IsWidth};
 
 use crate::records::{Data, Operands, Patch, Store};
-use tv_bits::{Bits, pick, select, select_terms, select_wires, times, times_by};
+use tv_bits::{Bits, pick_by, select_wires, times_by};
 use tv_core::{F, Lc, Put, Scratch, Sink, Wire};
 use tv_isa::opcode::{STORE_B, STORE_W};
-use tv_regs::group;
+use tv_regs::fill_group;
 
-// Byte number `j` of a row of bits.
-fn byte_at(bits: &Bits, j: u32) -> Lc
-    requires enough { 8 * j + 8 ≤ bits.now.n }
-    requires within { bits.now.first + bits.now.n < 2 ^ 32 }
-    ensures terms { result ≡ byte_of_bits bits.now j }
-    ensures top { top result ≤ bits.now.first + 8 * j + 8 }
-    ensures len { length result ≡ 8 }
+// A wire that is byte number `j` + 1 of a row of bits where the bit `b` is 1, and byte `j` where it
+// is 0. It makes 1 wire and 1 constraint.
+fn select_byte<S: Sink>(s: &mut S, scratch: &mut Scratch, b: Wire, bits: &Bits, j: u32) -> Put<Wire>
+    requires room { Room S.meaning s.old 1 1 }
+    requires enough { 8 * (j + 1) + 8 ≤ bits.now.n }
+    requires b_made { b < S.meaning.wires s.old }
+    requires bits_made { bits.now.first + bits.now.n ≤ S.meaning.wires s.old }
+    ensures puts { PutsIn S.meaning s.old s.new
+        (select_of b (byte_of_bits bits.now (j + 1)) (byte_of_bits bits.now j)) result }
+    ensures grows { IfOk result (λ _. Grows S.meaning s.old s.new 1 1) }
+    ensures below { IfOk result (λ chosen. chosen < S.meaning.wires s.new) }
 {
-    bits.part(8 * j, 8).lc()
+    let chosen = s.fresh();
+    let low = bits.part(8 * j, 8);
+    scratch.a.set_wire(b);
+    bits.part(8 * (j + 1), 8).fill(&mut scratch.b);
+    low.plus_to(&mut scratch.b, -F::ONE);
+    scratch.c.set_wire(chosen);
+    low.plus_to(&mut scratch.c, -F::ONE);
+    s.put(&scratch.a, &scratch.b, &scratch.c)?;
+    Ok(chosen)
 }
 
-// A combination that is `k` where the bit `b` is 1, and else 1.
-fn power_by(k: u32, b: Wire) -> Lc
+// Makes `lc` a combination that is `k` where the bit `b` is 1, and else 1.
+fn fill_power(lc: &mut Lc, k: u32, b: Wire)
     requires { 1 ≤ k }
-    ensures terms { result ≡ power_by k b }
-    ensures top { top result ≡ b + 1 }
-    ensures len { length result ≡ 2 }
+    ensures terms { lc.new ≡ power_by k b }
+    ensures top { top lc.new ≤ b + 1 }
 {
-    let mut power = Lc::constant(F::ONE);
-    power.plus(F::from(k - 1), b);
-    power
+    lc.set_wire(Wire(0));
+    lc.plus(F::from(k - 1), b);
 }
 
-// What a byte gains where the lowest one of `x` takes its place.
-fn gain(x: &Bits, byte: Wire) -> Lc
+// Makes `lc` what a byte gains where the lowest one of `x` takes its place.
+fn fill_gain(lc: &mut Lc, x: &Bits, byte: Wire)
     requires enough { 8 ≤ x.now.n }
     requires within { x.now.first + x.now.n < 2 ^ 32 }
-    ensures terms { result ≡ less (bits_combination x.now.first 8) (wire byte) }
-    ensures top { top result ≤ max (x.now.first + 8) (byte + 1) }
-    ensures len { length result ≡ 9 }
+    ensures terms { lc.new ≡ less (bits_combination x.now.first 8) (wire byte) }
+    ensures top { top lc.new ≤ max (x.now.first + 8) (byte + 1) }
 {
-    let mut gain = x.part(0, 8).lc();
-    gain.plus(-F::ONE, byte);
-    gain
+    x.part(0, 8).fill(lc);
+    lc.plus(-F::ONE, byte);
 }
 
 // The byte at the address `a` in a word of two bytes, and what the word gains by the lowest byte of
 // `x` in its place. It makes 2 wires and 2 constraints.
-fn patch_of_two<S: Sink>(s: &mut S, bits: &Bits, a: &Bits, x: &Bits) -> Put<Patch>
+fn patch_of_two<S: Sink>(
+    s: &mut S,
+    scratch: &mut Scratch,
+    bits: &Bits,
+    a: &Bits,
+    x: &Bits,
+) -> Put<Patch>
     requires room { Room S.meaning s.old 2 2 }
     requires bits_word { bits.now.n ≡ 16 }
     requires x_word { x.now.n ≡ 16 }
@@ -63,8 +78,10 @@ fn patch_of_two<S: Sink>(s: &mut S, bits: &Bits, a: &Bits, x: &Bits) -> Put<Patc
     ensures grows { IfOk result (λ _. Grows S.meaning s.old s.new 2 2) }
     ensures below { IfOk result (λ made. PatchUnder (S.meaning.wires s.new) made) }
 {
-    let byte = select(s, a.first, &byte_at(bits, 1), &byte_at(bits, 0))?;
-    let added = times(s, &power_by(256, a.first), &gain(x, byte))?;
+    let byte = select_byte(s, scratch, a.first, bits, 0)?;
+    fill_power(&mut scratch.a, 256, a.first);
+    fill_gain(&mut scratch.b, x, byte);
+    let added = times_by(s, &mut scratch.c, &scratch.a, &scratch.b)?;
     Ok(Patch { byte, added })
 }
 
@@ -87,28 +104,15 @@ fn patch_of_four<S: Sink>(
     ensures below { IfOk result (λ made. PatchUnder (S.meaning.wires s.new) made) }
 {
     let second = a.first.offset(1);
-    let low = select_terms(
-        s,
-        scratch,
-        a.first,
-        byte_at(bits, 1).terms(),
-        byte_at(bits, 0).terms(),
-    )?;
-    let high = select_terms(
-        s,
-        scratch,
-        a.first,
-        byte_at(bits, 3).terms(),
-        byte_at(bits, 2).terms(),
-    )?;
+    let low = select_byte(s, scratch, a.first, bits, 0)?;
+    let high = select_byte(s, scratch, a.first, bits, 2)?;
     let byte = select_wires(s, scratch, second, high, low)?;
-    let power = times_by(
-        s,
-        &mut scratch.c,
-        &power_by(256, a.first),
-        &power_by(65536, second),
-    )?;
-    let added = times_by(s, &mut scratch.c, &Lc::wire(power), &gain(x, byte))?;
+    fill_power(&mut scratch.a, 256, a.first);
+    fill_power(&mut scratch.b, 65536, second);
+    let power = times_by(s, &mut scratch.c, &scratch.a, &scratch.b)?;
+    scratch.a.set_wire(power);
+    fill_gain(&mut scratch.b, x, byte);
+    let added = times_by(s, &mut scratch.c, &scratch.a, &scratch.b)?;
     Ok(Patch { byte, added })
 }
 
@@ -133,7 +137,7 @@ fn patch<const W: u32, S: Sink>(
     ensures below { IfOk result (λ made. PatchUnder (S.meaning.wires s.new) made) }
 {
     if W == 16 {
-        patch_of_two(s, bits, a, x)
+        patch_of_two(s, scratch, bits, a, x)
     } else {
         patch_of_four(s, scratch, bits, a, x)
     }
@@ -159,14 +163,23 @@ pub(crate) fn store<const W: u32, S: Sink>(
     ensures below { IfOk result (λ made. StoreUnder (S.meaning.wires s.new) made) }
 {
     let patch = patch::<W, S>(s, scratch, &looked.bits, &operands.a, &operands.x)?;
-    let mut patched = Lc::wire(looked.word);
-    patched.plus(F::ONE, patch.added);
-    let with_byte = pick(s, &group(op, &[STORE_B]), &patched, &Lc::wire(looked.old))?;
-    let new = pick(
+    fill_group(&mut scratch.a, op, &[STORE_B]);
+    let with_byte = pick_by(
         s,
-        &group(op, &[STORE_W]),
-        &Lc::wire(operands.other),
-        &Lc::wire(with_byte),
+        &scratch.a,
+        &mut scratch.b,
+        &mut scratch.c,
+        &[(F::ONE, looked.word), (F::ONE, patch.added)],
+        &[(F::ONE, looked.old)],
+    )?;
+    fill_group(&mut scratch.a, op, &[STORE_W]);
+    let new = pick_by(
+        s,
+        &scratch.a,
+        &mut scratch.b,
+        &mut scratch.c,
+        &[(F::ONE, operands.other)],
+        &[(F::ONE, with_byte)],
     )?;
     Ok(Store {
         byte: patch.byte,

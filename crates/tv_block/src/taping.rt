@@ -6,8 +6,8 @@ ghost use Rattle.tv_word.specs.Widths.{IsWidth};
 
 use crate::gates::{if_zero, taking, unless_zero};
 use crate::records::{StateWires, Tapes};
-use tv_bits::{Bits, kept, times};
-use tv_core::{F, Lc, Put, Sink, Wire};
+use tv_bits::{Bits, kept_by, times_by};
+use tv_core::{F, Put, Scratch, Sink, Wire};
 use tv_isa::opcode::READ;
 use tv_regs::group;
 
@@ -15,6 +15,7 @@ use tv_regs::group;
 /// the bits of its operand. It makes 8 wires and 8 constraints.
 pub(crate) fn tapes<const W: u32, S: Sink>(
     s: &mut S,
+    scratch: &mut Scratch,
     n: u32,
     state: &StateWires,
     op: Wire,
@@ -30,19 +31,23 @@ pub(crate) fn tapes<const W: u32, S: Sink>(
     ensures grows { IfOk result (λ _. Grows S.meaning s.old s.new 8 8) }
     ensures below { IfOk result (λ made. TapesUnder (S.meaning.wires s.new) made) }
 {
-    let reads = if_zero(s, &group(op, &[READ]), &a.above(1).lc())?;
-    let aux = times(s, &Lc::wire(reads), &Lc::wire(a.first))?;
-    let mut asked = Lc::wire(reads);
-    asked.plus(-F::ONE, aux);
-    let mut left = Lc::constant(F::from(n));
-    left.plus(-F::ONE, state.taken_of_primary);
-    let primary = unless_zero(s, &asked, &left)?;
-    let mut sum = Lc::wire(state.taken_of_primary);
-    sum.plus(F::ONE, primary);
-    let taken = kept(s, &sum)?;
+    let mut asked = group(op, &[READ]);
+    a.above(1).fill(&mut scratch.a);
+    let reads = if_zero(s, &mut scratch.b, &mut scratch.c, &asked, &scratch.a)?;
+    scratch.a.set_wire(reads);
+    scratch.b.set_wire(a.first);
+    let aux = times_by(s, &mut scratch.c, &scratch.a, &scratch.b)?;
+    asked.set_difference(reads, aux);
+    scratch.a.clear();
+    scratch.a.plus(F::from(n), Wire(0));
+    scratch.a.plus(-F::ONE, state.taken_of_primary);
+    let primary = unless_zero(s, &mut scratch.b, &mut scratch.c, &asked, &scratch.a)?;
+    scratch.a.set_wire(state.taken_of_primary);
+    scratch.a.plus(F::ONE, primary);
+    let taken = kept_by(s, &mut scratch.b, &mut scratch.c, &scratch.a)?;
     let takes = s.fresh();
     let ended = s.fresh();
-    taking(s, aux, state.aux_ended, takes, ended)?;
+    taking(s, scratch, aux, state.aux_ended, takes, ended)?;
     Ok(Tapes {
         primary,
         taken,

@@ -29,7 +29,7 @@ returns-in_err-put-clause-puts g c =
     let p0 = c.in_ok-head.ensures.puts in
     let p1 = c.in_ok-tail.ensures.puts in
     let p2 = c.in_ok-fields.ensures.puts in
-    let p3 = rw (c.group-unused.ensures.terms, c.constant.ensures, c.empty.ensures) at c.in_err-put.ensures.puts in
+    let p3 = rw (c.fill_group.ensures.terms, c.set_wire.ensures.terms, c.clear.ensures) at c.in_err-put.ensures.puts in
     refused g.S.Sink.meaning _ _ _ c.from_residual-in_err-put.result c.from_residual-in_err-put.ensures.1 (search (chain, p0, p1, p2, p3) depth 7)
 
 pub returns-clause-puts : goal.returns-clause-puts
@@ -38,5 +38,5 @@ returns-clause-puts g c =
     let p0 = c.in_ok-head.ensures.puts in
     let p1 = c.in_ok-tail.ensures.puts in
     let p2 = c.in_ok-fields.ensures.puts in
-    let p3 = rw (c.group-unused.ensures.terms, c.constant.ensures, c.empty.ensures) at c.in_ok-put.ensures.puts in
+    let p3 = rw (c.fill_group.ensures.terms, c.set_wire.ensures.terms, c.clear.ensures) at c.in_ok-put.ensures.puts in
     search (chain, p0, p1, p2, p3) depth 7
