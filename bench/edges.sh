@@ -1,6 +1,7 @@
 #!/bin/bash
-# The program at its edges: closed streams, full disks, folders, absent names, files that are cut while they are read,
-# a witness longer than the memory that there is, long words and words that aren't UTF-8, and one file under two paths.
+# The program at its edges: closed streams, full disks, folders, absent names, pipes, files that are cut while they are
+# read, a witness longer than the memory that there is, long words and words that aren't UTF-8, and one file under two
+# paths.
 #
 #     bench/edges.sh [BINARY]
 #
@@ -8,7 +9,8 @@
 # command, where `$t` is the program. Each runs in a folder of its own that holds a program P, whose image I is, its
 # system S and witness V, the text BAD, empty tapes E, a folder D, a program R that reads a word of either tape, the
 # tape F and its witness VR, and a system Q of 4 wires. The last line counts; the status is 1 where one failed. A command
-# that hangs is ended after 60 seconds and failed. It stands outside the gate.
+# that hangs is ended after 60 seconds and failed. The last cases are of bin/tinyr1cs, and need the kit's `rt`. It stands
+# outside the gate.
 set -u
 
 top=$(dirname -- "$(dirname -- "$(realpath -- "$0")")")
@@ -19,6 +21,7 @@ export t
 export LC_ALL=C
 passed=0
 failed=0
+limit=60
 
 mkdir -p "$scratch/base/D" && cd "$scratch/base" || exit 2
 echo 'answer 0' >P
@@ -41,7 +44,7 @@ edge() {
     local seen_status seen_changed
     rm -rf -- "$scratch/case" && cp -r "$scratch/base" "$scratch/case" && cd "$scratch/case" || exit 2
     sums >"$scratch/before"
-    timeout 60 bash -c "$command" >"$scratch/out" 2>"$scratch/err" </dev/null
+    timeout "$limit" bash -c "$command" >"$scratch/out" 2>"$scratch/err" </dev/null
     seen_status=$?
     sums >"$scratch/after"
     seen_changed=$(comm -3 "$scratch/before" "$scratch/after" | sed 's/.* \.\///' | sort -u | tr '\n' ' ' | sed 's/ $//')
@@ -88,6 +91,33 @@ edge 0 '' '' 'OUT' '$t witness P E E 1 OUT >&- 2>&- && cmp -s V OUT'
 edge 0 '' '' 'OUT' '$t listing P 0 1 V time OUT >&- 2>&- && test $(wc -l <OUT) = 5'
 edge 0 '' '' 'OUT' '$t shrink S OUT >&- 2>&- && test -s OUT'
 
+# A closed stream that is named as a file: it is neither read nor written, and is a fault of its name.
+edge 8 '' 'file fault: /dev/stdin\n' '' '$t asm /dev/stdin OUT <&-'
+edge 8 '' 'file fault: /dev/stdin\n' '' '$t disasm /dev/stdin OUT <&-'
+edge 8 '' 'file fault: /dev/stdin\n' '' '$t build /dev/stdin 0 1 OUT <&-'
+edge 8 '' 'file fault: /dev/stdin\n' '' '$t run P E /dev/stdin 4 <&-'
+edge 8 '' 'file fault: /dev/stdin\n' '' '$t run P /dev/stdin E 4 <&-'
+edge 8 '' 'file fault: /dev/stdin\n' '' '$t witness P E /dev/stdin 4 OUT <&-'
+edge 8 '' 'file fault: /dev/stdin\n' '' '$t check /dev/stdin V A <&-'
+edge 8 '' 'file fault: /dev/stdin\n' '' '$t check S /dev/stdin A <&-'
+edge 8 '' 'file fault: /dev/stdin\n' '' '$t check S V /dev/stdin <&-'
+edge 8 '' 'file fault: /dev/stdin\n' '' '$t extract P 0 1 /dev/stdin TAPE AUX <&-'
+edge 8 '' 'file fault: /dev/stdin\n' '' '$t listing P 0 1 /dev/stdin time OUT <&-'
+edge 8 '' 'file fault: /dev/stdin\n' '' '$t shrink /dev/stdin OUT <&-'
+edge 8 '' 'file fault: /dev/stdin\n' '' '$t asm P /dev/stdin <&-'
+edge 8 '' 'file fault: /dev/stdout\n' '' '$t asm P /dev/stdout >&-'
+edge 8 '' 'file fault: /dev/stdout\n' '' '$t asm /dev/stdout OUT >&-'
+edge 8 '' 'file fault: /dev/stdout\n' '' '$t disasm I /dev/stdout >&-'
+edge 8 '' 'file fault: /dev/stdout\n' '' '$t build P 0 1 /dev/stdout >&-'
+edge 8 '' 'file fault: /dev/stdout\n' '' '$t witness P E E 1 /dev/stdout >&-'
+edge 8 '' 'file fault: /dev/stdout\n' '' '$t extract P 0 1 V /dev/stdout AUX >&-'
+edge 8 '' 'file fault: /dev/stdout\n' '' '$t listing P 0 1 V time /dev/stdout >&-'
+edge 8 '' 'file fault: /dev/stdout\n' '' '$t shrink S /dev/stdout >&-'
+edge 8 '' '' '' '$t asm P /dev/stderr 2>&-'
+edge 8 '' '' '' '$t asm /dev/stderr OUT 2>&-'
+edge 8 '' '' '' '$t build P 0 1 /dev/stderr 2>&-'
+edge 8 '' '' '' '$t check S V /dev/stderr 2>&-'
+
 # An output whose reader is gone.
 edge 8 '' '' '' '{ sleep 0.2; $t check S V A 2>/dev/null; echo $? >s; } | true; s=$(cat s); rm s; exit $s'
 edge 8 '' '' '' '{ sleep 0.2; $t trial 0 1 2>/dev/null; echo $? >s; } | true; s=$(cat s); rm s; exit $s'
@@ -108,8 +138,8 @@ edge 8 '' 'file fault: /dev/full\n' '' '$t extract R 1 4 VR /dev/full AUX'
 edge 8 '' 'file fault: /dev/full\n' 'TAPE' '$t extract R 1 4 VR TAPE /dev/full; s=$?; cmp -s F TAPE && exit $s'
 edge 8 '' '' '' '$t check S V ABSENT 2>/dev/full'
 edge 8 '' '' 'OUT' '(ulimit -f 8; trap "" XFSZ; $t build P 0 1 OUT 2>/dev/null); s=$?; test $(stat -c %s OUT) -le 8192 && exit $s'
-edge 8 '' '' 'OUT' '(ulimit -f 8; trap "" XFSZ; $t witness P E E 1 OUT 2>/dev/null); s=$?; n=$(stat -c %s OUT)
-    test $n -le 8192 && cmp -s -n $n V OUT && exit $s'
+edge 8 '' '' 'OUT' '(ulimit -f 4; trap "" XFSZ; $t witness P E E 1 OUT 2>/dev/null); s=$?; n=$(stat -c %s OUT)
+    test $n -le 4096 && cmp -s -n $n V OUT && exit $s'
 
 # A name that is a folder, and one that isn't there.
 edge 8 '' 'file fault: D\n' '' '$t asm D IMAGE'
@@ -137,9 +167,42 @@ edge 8 '' 'file fault: D/ABSENT/OUT\n' '' '$t build P 0 1 D/ABSENT/OUT'
 edge 8 '' 'file fault: ABSENT\n' '' '$t witness P ABSENT E 1 OLD'
 edge 8 '' 'file fault: \n' '' '$t asm "" IMAGE'
 
-# Files that a pipe gives, which can't be read at places.
+# Pipes, both under the name of a standard stream and named. What is written may go into one, whatever the file.
+edge 0 '' '' '' 'set -o pipefail; $t asm P /dev/stdout | cmp - I'
+edge 0 '' '' '' 'set -o pipefail; $t disasm I /dev/stdout | $t asm /dev/stdin /dev/stdout | cmp - I'
+edge 0 '' '' '' 'set -o pipefail; $t build P 0 1 /dev/stdout | cmp - S'
+edge 0 '' '' '' 'set -o pipefail; $t build P 0 65 /dev/stdout | md5sum >a; $t build P 0 65 b; md5sum <b | cmp a - && rm a b'
+edge 0 '' '' '' 'set -o pipefail; $t witness P E E 1 /dev/stdout | cmp - V'
+edge 0 '' '' '' 'set -o pipefail; $t listing P 0 1 V time /dev/stdout | wc -l | grep -qx 5'
+edge 0 '' '' '' 'set -o pipefail; $t shrink S a; $t shrink S /dev/stdout | cmp - a && rm a'
+edge 0 'answer 0 at step 4\n' '' '' 'mkfifo p; cmp F p & $t extract R 1 4 VR p AUX && wait $! && cmp F AUX && rm p AUX'
+edge 0 '' '' '' 'mkfifo p; cmp S p & $t build P 0 1 p && wait $! && rm p'
+edge 0 '' '' '' 'mkfifo p; cmp V p & $t witness P E E 1 p && wait $! && rm p'
+
+# A pipe whose reader is gone is a fault, also in the midst of what is written.
+edge 8 '' 'file fault: /dev/stdout\n' '' '{ $t build P 0 65 /dev/stdout; echo $? >s; } | head -c 100 >/dev/null; s=$(cat s); rm s; exit $s'
+edge 8 '' 'file fault: p\n' '' 'mkfifo p; head -c 100 p >/dev/null & $t witness P E E 65 p; s=$?; rm p; exit $s'
+
+# Texts, images and tapes are read from their first byte on, so each may be a pipe.
+edge 0 '' '' 'IMAGE' 'set -o pipefail; cat P | $t asm /dev/stdin IMAGE && cmp -s I IMAGE'
+edge 0 '' '' 'OUT' 'set -o pipefail; cat I | $t disasm /dev/stdin OUT && $t asm OUT IMAGE && cmp -s I IMAGE && rm IMAGE'
+edge 0 'answer 0 at step 4\n' '' '' '$t run <(cat R) <(cat F) <(cat F) 4'
+edge 0 '' '' 'OUT' '$t build <(cat P) 0 1 OUT && cmp -s S OUT'
+edge 0 '' '' 'OUT' '$t witness <(cat R) <(cat F) <(cat F) 4 OUT && cmp -s VR OUT'
+edge 0 'answer 0 at step 4\n' '' 'AUX TAPE' '$t extract <(cat R) 1 4 VR TAPE AUX && cmp -s F TAPE && cmp -s F AUX'
+edge 0 '' '' 'OUT' '$t listing <(cat P) 0 1 V time OUT && test $(wc -l <OUT) = 5'
+edge 0 'yes\n' '' '' 'set -o pipefail; cat A | $t check S V /dev/stdin'
+edge 3 'bad program: line 1: unknown name\n' '' '' '$t asm <(cat BAD) OLD'
+
+# Systems and values are read at places, and by check a system twice: a pipe is a fault there, and nothing is written.
+# (Values of at most 65,536 bytes that lie in the pipe at once are read without going to a place.)
 edge 8 '' 'file fault: /dev/stdin\n' '' 'cat S | $t check /dev/stdin V A'
-edge 8 '' 'file fault: /dev/stdin\n' '' 'cat S | $t shrink /dev/stdin OUT'
+edge 8 '' 'file fault: /dev/stdin\n' '' 'cat Q | $t check /dev/stdin V A'
+edge 8 '' 'file fault: /dev/stdin\n' '' '$t witness P E E 65 a; cat a | $t check S /dev/stdin A; s=$?; rm a; exit $s'
+edge 8 '' 'file fault: /dev/stdin\n' '' 'cat S | $t shrink /dev/stdin OLD'
+edge 8 '' 'file fault: /dev/stdin\n' '' '$t witness P E E 65 a; cat a | $t extract P 0 65 /dev/stdin OLD AUX; s=$?; rm a; exit $s'
+edge 8 '' 'file fault: /dev/stdin\n' '' '$t witness P E E 65 a; cat a | $t listing P 0 65 /dev/stdin time OLD; s=$?; rm a; exit $s'
+edge 8 '' 'file fault: p\n' '' 'mkfifo p; cat S >p & $t check p V A; s=$?; rm p; exit $s'
 
 # A section that ends at a place that no file of the file system has is one that the file is too short for.
 edge 5 'bad system: byte 12: truncated\n' '' 'HUGE' \
@@ -208,6 +271,44 @@ edge 0 'answer 0 at step 1\n' '' 'TAPE' '$t extract P 0 1 V TAPE ./TAPE && test 
 edge 0 '' '' 'V' '$t listing P 0 1 V time ./V && test $(wc -l <V) = 5'
 edge 0 '' '' 'P' '$t listing P 0 1 V cell ./P && test $(wc -l <P) = 5'
 edge 0 '' '' 'S' '$t shrink S OUT && $t shrink S ./S && cmp -s S OUT && rm OUT'
+
+# bin/tinyr1cs in a repository of one small program: built at the first call, run at the second, and never run where the
+# prover refuses the sources that are there now.
+export repo=$scratch/repo
+limit=600
+mkdir -p "$repo/crates/tinyr1cs/src" && cp -r "$top/bin" "$repo" || exit 2
+echo 'tinyr1cs:' >"$repo/crates.txt"
+echo 'Handles allowed: none.' >"$repo/HANDLES"
+echo yes >"$repo/crates/tinyr1cs/stdout"
+cat >"$repo/crates/tinyr1cs/src/main.rt" <<'END'
+// Says yes.
+#![tactic(auto)]
+
+ghost use Rattle.std.specs.Prelude.{◌≡◌};
+
+use std::io;
+
+fn one() -> u8
+    ensures { result ≡ 1 }
+{
+    1
+}
+
+fn main(rt: HostRuntime) -> io::Result<()> {
+    if one() == 1 {
+        println!(rt; "yes")?;
+    }
+    Ok(())
+}
+END
+edge 127 '' '' '' 'cd $repo; PATH=/usr/bin:/bin bin/tinyr1cs 2>/dev/null'
+edge 0 'yes\n' '' '' 'cd $repo; bin/tinyr1cs 2>/dev/null'
+edge 0 'yes\n' '' '' 'cd $repo; bin/tinyr1cs'
+edge 127 '' '' '' 'cd $repo; sed -i "s/^    1$/    2/" crates/tinyr1cs/src/main.rt; bin/tinyr1cs 2>err; s=$?
+    tail -n 1 err | grep -qx "tinyr1cs: not built of these sources" && grep -q "^fn tinyr1cs::one: no" err && exit $s'
+edge 127 '' '' '' 'cd $repo; bin/tinyr1cs 2>/dev/null'
+edge 0 'yes\n' '' '' 'cd $repo; sed -i "s/^    2$/    1/" crates/tinyr1cs/src/main.rt; bin/tinyr1cs'
+edge 0 'yes\n' '' '' 'cd $repo; echo "not a program" >crates/tinyr1cs/out/tinyr1cs; bin/tinyr1cs 2>/dev/null'
 
 echo "edges: $passed passed, $failed failed"
 [ "$failed" -eq 0 ]

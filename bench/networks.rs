@@ -1,4 +1,4 @@
-//! What `bench/networks.rattle` times, in plain Rust. usage: networks count|forget|fill|move|route|sort K
+//! What `bench/networks.rattle` times, in plain Rust. usage: networks count|forget|fill|move|route K
 
 use std::env;
 
@@ -197,15 +197,6 @@ fn route(p: &[u32]) -> Vec<bool> {
     bits
 }
 
-fn address_order(pairs: &[Pair]) -> Vec<u32> {
-    let mut keys: Vec<u64> = pairs
-        .iter()
-        .map(|(first, second)| (first >> 32 << 20) + (second >> 32))
-        .collect();
-    keys.sort_unstable();
-    keys.into_iter().map(|key| key as u32 & 0xf_ffff).collect()
-}
-
 struct Random(u64);
 
 impl Random {
@@ -242,10 +233,7 @@ fn shuffled(many: u32) -> Vec<u32> {
     p
 }
 
-/// How often lines are sorted.
-const TURNS: u32 = 10;
-
-/// How many switches or lines, and a sum.
+/// How many switches, and a sum.
 fn part(name: &str, k: u32) -> (u64, u64) {
     let many = 1u32 << k;
     let first = 2 * many + 1;
@@ -267,20 +255,10 @@ fn part(name: &str, k: u32) -> (u64, u64) {
             fill(&mut values, &mut lines(many), &mut spare, &mut bits);
             (switches(k), values.sum)
         }
-        "route" => {
+        _ => {
             let bits = route(&shuffled(many));
             let set = (0u64..).zip(&bits).filter(|(_, bit)| **bit);
             (bits.len() as u64, set.map(|(i, _)| i).sum())
-        }
-        _ => {
-            let pairs = lines(many);
-            let mut sum = 0u64;
-            for _ in 0..TURNS {
-                for place in address_order(&pairs) {
-                    sum = sum.wrapping_mul(31).wrapping_add(u64::from(place));
-                }
-            }
-            (u64::from(TURNS) * u64::from(many), sum)
         }
     }
 }

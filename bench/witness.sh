@@ -18,7 +18,7 @@ split() {
         NF < 3 { next }
         { part = "others" }
         $3 ~ /^tv_(step|mem|isa|tape|word)::/ { part = "trace" }
-        $3 ~ /sort|address_order/ { part = "sort" }
+        $3 ~ /sort|predecessors/ { part = "sort" }
         $3 ~ /^tv_route::/ { part = "route" }
         $3 ~ /^tv_(bits|limb|cmp|logic|shift|muldiv|decode|regs|block|numbers)::/ { part = "steps" }
         $3 ~ /^tv_(benes|waksman)::/ { part = "network" }
