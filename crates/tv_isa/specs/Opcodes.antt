@@ -1,5 +1,6 @@
 -- Tables by opcode: for some opcodes what stands for them.
 use Rattle.std.specs.Prelude.{ℕ, ◌==◌, Bool, true, false, if◌then◌else◌, List, [], ◌∷◌}
+use Rattle.tv_isa.specs.declared.opcode.TheConstants.{USED}
 
 -- whether an opcode is among these
 abbrev pub among : List ℕ → ℕ → Bool
@@ -15,3 +16,7 @@ pub record Entry (A : Type 0) : Type 0 where
 abbrev pub chosen : List (Entry ℕ) → ℕ → ℕ
 chosen [] op = 0
 chosen (e ∷ es) op = if among e.ops op then e.gives else chosen es op
+
+-- whether an instruction has this opcode
+abbrev pub is_used : ℕ → Bool
+is_used op = among USED op

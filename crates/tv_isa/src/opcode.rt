@@ -89,3 +89,9 @@ pub const ANSWER: u8 = 31;
 
 /// The three that no instruction has.
 pub const UNUSED: [u8; 3] = [23, 24, 25];
+
+/// The 29 that instructions have, in order.
+pub const USED: [u8; 29] = [
+    AND, OR, XOR, NOT, ADD, SUB, MULL, UMULH, SMULH, UDIV, UMOD, SHL, SHR, CMPE, CMPA, CMPAE, CMPG,
+    CMPGE, MOV, CMOV, JMP, CJMP, CNJMP, STORE_B, LOAD_B, STORE_W, LOAD_W, READ, ANSWER,
+];
