@@ -1,4 +1,6 @@
 pub mod BitLaws
+pub mod DoubleRowLaws
+pub mod GateLaws
 pub mod NewBitsLaws
 pub mod NonzeroLaws
 pub mod OneHotLaws
@@ -7,9 +9,11 @@ pub mod OrderLaws
 pub mod OrderRows
 pub mod PrefixLaws
 pub mod ProductChain
+pub mod RowNumbers
 pub mod SelectLaws
 pub mod SizeLaws
 pub mod SpelledNumbers
 pub mod SpellingLaws
 pub mod TimesLaws
 pub mod ZeroLaws
+pub mod ZeroSignLaws

@@ -1,5 +1,7 @@
 pub mod Bit
 pub mod Bits
+pub mod DoubleRow
+pub mod Gate
 pub mod Nonzero
 pub mod OneHot
 pub mod Order
@@ -7,8 +9,10 @@ pub mod Pairs
 pub mod Prefixes
 pub mod Ratio
 pub mod Select
+pub mod SignedWords
 pub mod Times
 pub mod Zero
+pub mod ZeroSign
 pub use Rattle.tv_core.specs.Combinations
 pub use Rattle.tv_core.specs.Giving
 pub use Rattle.tv_core.specs.Sinks

@@ -1,27 +1,38 @@
 //! Gadgets over single bits and numbers: a bit, a number spelt by bits, the tests for 0, a choice,
-//! a one-hot row, a product, a ratio and a combination's value as a new wire, two ands in one
-//! constraint, and an order by prefixes.
+//! a one-hot row, a product, a ratio and a combination's value as a new wire, an equation under a
+//! gate, a row of twice a word's width, a sign where a wire is 0, two ands in one constraint, and an
+//! order by prefixes.
 //!
-//! Contracts above cite `Spells`, which says that wires spell a number, and `IsOneHot`, that one
-//! wire of a row is 1. The law `.._fills` of a gadget says which wires it answers, where it ends,
-//! and that its values, those that its generator `fill_..` gives, are one number of the field for
-//! each wire that it makes, whatever the next wire is. `times`, `kept` and `ratio` have no
-//! generator: who knows the number gives it.
+//! Contracts above cite `Spells`, which says that wires spell a number, `IsOneHot`, that one wire
+//! of a row is 1, and `IsRow`, that two words are the halves of a number below P. The law
+//! `.._fills` of a gadget says which wires it answers, where it ends, and that its values, those
+//! that its generator `fill_..` gives, are one number of the field for each wire that it makes,
+//! whatever the next wire is. `times`, `kept` and `ratio` have no generator: who knows the number
+//! gives it. The law `.._costs` says how many constraints and terms there are.
 #![tactic(auto)]
 
 mod bit_wires;
 mod booleans;
+mod double_rows;
+mod gates;
 mod nonzeros;
 mod pairs;
 mod prefixes;
 mod products;
 mod rows;
 mod selection;
+mod signed_words;
 mod spelling;
+mod zero_signs;
 mod zeros;
 
 pub use bit_wires::Bits;
 pub use booleans::{bit, bit_by, bit_fills, bit_is_complete, bit_is_sound, fill_bit};
+pub use double_rows::{
+    DoubleRow, double_row, double_row_costs, double_row_fills, double_row_is_complete,
+    double_row_is_sound, fill_double_row,
+};
+pub use gates::{gated, gated_costs, gated_fills, gated_is_complete, gated_is_sound};
 pub use nonzeros::{
     fill_nonzero, nonzero, nonzero_by, nonzero_fills, nonzero_is_complete, nonzero_is_sound,
 };
@@ -42,8 +53,13 @@ pub use selection::{
     fill_select, pick, pick_by, pick_fills, pick_is_complete, pick_is_sound, select, select_fills,
     select_is_complete, select_is_sound, select_terms, select_wires,
 };
+pub use signed_words::{SignedWord, sign_of};
 pub use spelling::{
     bits, bits_are_complete, bits_are_sound, bits_by, bits_fill, fill_bits, new_bits,
     new_bits_are_complete, new_bits_are_sound, new_bits_by, new_bits_fill,
+};
+pub use zero_signs::{
+    fill_zero_sign, zero_sign, zero_sign_costs, zero_sign_fills, zero_sign_is_complete,
+    zero_sign_is_sound,
 };
 pub use zeros::{fill_zero, zero, zero_by, zero_fills, zero_is_complete, zero_is_sound};

@@ -1,0 +1,67 @@
+-- The laws of an equation that a gate turns on.
+use Rattle.std.proofs.Common.{◌≡◌, ℕ, ◌+◌, ◌-◌, ◌*◌, ◌%◌, List, ◌++◌, length, refl, sym, ◌∙◌, ap, arith, mod-eq_of_lt, zero-mul, one-mul, mul-zero, add-zero}
+use Rattle.std.proofs.lemmas.List.{length-append, length-map}
+use Rattle.std.proofs.lemmas.List.Sums.{sum_by-append}
+use Rattle.tv_core.proofs.CombinationLaws.{value-below, value-less, value-empty}
+use Rattle.tv_core.proofs.DifferenceLaws.{same_of_minus}
+use Rattle.tv_core.proofs.FieldLaws.{InField-none}
+use Rattle.tv_core.specs.Circuits.{put}
+use Rattle.tv_core.specs.Combinations.{less, scaled}
+use Rattle.tv_core.specs.Constraints.{Combination, Constraint, value}
+use Rattle.tv_core.specs.Meanings.{terms_in}
+use Rattle.tv_core.specs.declared.field.TheConstants.{P}
+use Rattle.tv_bits.specs.Gate.{gated_of, GatedIsSound, GatedIsComplete, GatedSizes, GatedCosts}
+
+pub gated_sound : GatedIsSound
+unfolding gated_of put
+gated_sound z next gate x y one meets =
+    let difference : value (less x y) z ≡ 0 =
+    sym (mod-eq_of_lt (value-below (less x y) z)) ∙ ap (λ n. n % P) (sym (one-mul (value (less x y) z))) ∙ ap (λ n. n * value (less x y) z % P) (sym one)
+    ∙ meets.0 ∙ value-empty z in
+    same_of_minus (value x z) (value y z) (value-below x z) (value-below y z) (sym (value-less x y z) ∙ difference)
+
+no_difference : (z : List ℕ) (x y : Combination) → value x z ≡ value y z → value (less x y) z ≡ 0
+no_difference z x y same = let below = value-below y z in value-less x y z ∙ ap (λ n. (n + (P - value y z)) % P) same ∙ omega arith
+
+pub gated_complete : GatedIsComplete
+unfolding gated_of put
+gated_complete = record {
+  same = λ z next gate x y same. (
+    ap (λ n. value gate z * n % P) (no_difference z x y same) ∙ ap (λ n. n % P) (mul-zero (value gate z))
+        ∙ sym (value-empty z),
+    tt,
+  );
+  off = λ z next gate x y none. (ap (λ n. n * value (less x y) z % P) none ∙ ap (λ n. n % P) (zero-mul (value (less x y) z)) ∙ sym (value-empty z), tt);
+}
+
+pub gated_next : (gate x y : Combination) (next : ℕ) → (gated_of gate x y next).next ≡ next
+unfolding gated_of put
+gated_next gate x y next = refl
+
+pub gated_sizes : GatedSizes
+gated_sizes = record {
+  end = gated_next;
+  fills = λ gate x y next. gated_next gate x y next ∙ sym (add-zero next);
+  in_field = InField-none;
+}
+
+-- how many terms there are in combinations and in lists that are put together
+pub length-scaled : (k : ℕ) (x : Combination) → length (scaled k x) ≡ length x
+length-scaled k x = length-map x (λ t. (k * t.0 % P, t.1))
+
+pub length-less : (x y : Combination) → length (less x y) ≡ length x + length y
+length-less x y = length-append x (scaled (P - 1) y) ∙ ap (λ n. length x + n) (length-scaled (P - 1) y)
+
+pub terms-append : (a b : List Constraint) → terms_in (a ++ b) ≡ terms_in a + terms_in b
+terms-append a b = sum_by-append (λ (c : Constraint). length c.a + length c.b + length c.c) a b
+
+pub gated_constraints : (gate x y : Combination) (next : ℕ) → length (gated_of gate x y next).list ≡ 1
+unfolding gated_of put
+gated_constraints gate x y next = refl
+
+pub gated_terms : (gate x y : Combination) (next : ℕ) → terms_in (gated_of gate x y next).list ≡ length gate + length x + length y
+unfolding gated_of put
+gated_terms gate x y next = omega (arith, length-less x y)
+
+pub gated_cost_laws : GatedCosts
+gated_cost_laws = record { constraints = gated_constraints; terms = gated_terms }

@@ -1,0 +1,99 @@
+-- The laws of the sign where a wire is 0.
+use Rattle.std.proofs.Common.{◌≡◌, ◌≢◌, ℕ, ◌+◌, ◌-◌, ◌*◌, ◌%◌, ◌<◌, [], ◌∷◌, inl, inr, refl, sym, ◌∙◌, ap, ap₂, arith, zero-mul, mul-zero}
+use Rattle.std.proofs.Common.{length, length-append}
+use Rattle.std.specs.Prelude.{slice_index}
+use Rattle.std.proofs.lemmas.Bool.{cases_eq}
+use Rattle.std.proofs.lemmas.Bool.Decides.{nat_tests}
+use Rattle.tv_core.proofs.CombinationLaws.{value-below, value-wire, value-less, wire-below}
+use Rattle.tv_core.proofs.FieldLaws.{InField-none, InField-cons}
+use Rattle.tv_core.proofs.PrimeLaws.{p_zero_product_below}
+use Rattle.tv_core.specs.Circuits.{fresh, put, pure, ◌>>=◌}
+use Rattle.tv_core.specs.Combinations.{wire}
+use Rattle.tv_core.specs.Constraints.{Combination, value}
+use Rattle.tv_core.specs.Inverse.{inverse_of}
+use Rattle.tv_core.specs.Meanings.{terms_in}
+use Rattle.tv_core.specs.declared.field.TheConstants.{P}
+use Rattle.tv_bits.proofs.TimesLaws.{ratio_divides, residue_below}
+use Rattle.tv_bits.specs.Ratio.{ratio}
+use Rattle.tv_bits.specs.ZeroSign.{sign_at_zero, zero_sign_of, ZeroSignIsSound, ZeroSignIsComplete, ZeroSignSizes, ZeroSignCosts}
+
+-- the sign by its two cases
+sign-zero : (y sign : ℕ) → y ≡ 0 → sign_at_zero y sign ≡ sign
+sign-zero y sign none = rw none refl
+
+sign-other : (y sign : ℕ) → y ≢ 0 → sign_at_zero y sign ≡ 0
+sign-other y sign some = grind (arith, nat_tests)
+
+-- the two constraints, as numbers: y, the hint h, the sign and f
+difference_none : (sign f : ℕ) → sign < P → f < P → (sign + (P - f)) % P ≡ 0 → f ≡ sign
+difference_none sign f h k e = omega arith
+
+sign_is : (y h sign f : ℕ) → y < P → sign < P → f < P → y * h % P ≡ (sign + (P - f)) % P → y * f % P ≡ 0 → f ≡ sign_at_zero y sign
+sign_is y h sign f y_small sign_small f_small first second = elim (cases_eq y 0) [
+  | inl none ↦
+      let nothing = sym first ∙ ap (λ n. n * h % P) none ∙ ap (λ n. n % P) (zero-mul h) in
+      difference_none sign f sign_small f_small nothing ∙ sym (sign-zero y sign none)
+  | inr some ↦ elim (p_zero_product_below y f y_small f_small second) [
+    | inl none ↦ absurd (some none)
+    | inr zero ↦ zero ∙ sym (sign-other y sign some)
+  ]
+]
+
+-- and the other way round
+difference_same : (sign : ℕ) → sign < P → (sign + (P - sign)) % P ≡ 0
+difference_same sign small = omega arith
+
+difference_zero : (sign : ℕ) → sign < P → (sign + (P - 0)) % P ≡ sign
+difference_zero sign small = omega arith
+
+sign_meets : (y sign : ℕ) → y < P → sign < P → (y * ratio y sign % P ≡ (sign + (P - sign_at_zero y sign)) % P) × (y * sign_at_zero y sign % P ≡ 0)
+sign_meets y sign h k = elim (cases_eq y 0) [
+  | inl none ↦ (
+    ap (λ n. n * ratio y sign % P) none ∙ ap (λ n. n % P) (zero-mul (ratio y sign))
+        ∙ sym (ap (λ f. (sign + (P - f)) % P) (sign-zero y sign none) ∙ difference_same sign k),
+    ap (λ n. n * sign_at_zero y sign % P) none ∙ ap (λ n. n % P) (zero-mul (sign_at_zero y sign)),
+  )
+  | inr some ↦ (
+    ratio_divides y sign k (λ none. absurd (some (omega arith))) ∙ sym (ap (λ f. (sign + (P - f)) % P) (sign-other y sign some) ∙ difference_zero sign k),
+    ap (λ f. y * f % P) (sign-other y sign some) ∙ ap (λ n. n % P) (mul-zero y),
+  )
+]
+
+pub zero_sign_sound : ZeroSignIsSound
+unfolding zero_sign_of ◌>>=◌ fresh put pure
+zero_sign_sound z next y f sign assigns meets =
+    sign_is (slice_index z y) (slice_index z next) (value sign z) (slice_index z f) (wire-below assigns y) (value-below sign z) (wire-below assigns f)
+    (sym (ap₂ (λ m n. m * n % P) (value-wire assigns y) (value-wire assigns next)) ∙ meets.0 ∙ value-less sign (wire f) z
+    ∙ ap (λ n. (value sign z + (P - n)) % P) (value-wire assigns f))
+    (sym (ap₂ (λ m n. m * n % P) (value-wire assigns y) (value-wire assigns f)) ∙ meets.1.0)
+
+pub zero_sign_complete : ZeroSignIsComplete
+unfolding zero_sign_of ◌>>=◌ fresh put pure
+zero_sign_complete z next y f sign assigns is has =
+    let numbers = sign_meets (slice_index z y) (value sign z) (wire-below assigns y) (value-below sign z) in
+    let difference = value-less sign (wire f) z ∙ ap (λ n. (value sign z + (P - n)) % P) (value-wire assigns f ∙ is) in (
+      ap₂ (λ m n. m * n % P) (value-wire assigns y) (value-wire assigns next ∙ has.0) ∙ numbers.0 ∙ sym difference,
+      (ap₂ (λ m n. m * n % P) (value-wire assigns y) (value-wire assigns f ∙ is) ∙ numbers.1, tt),
+    )
+
+zero_sign_next : (y f : ℕ) (sign : Combination) (next : ℕ) → (zero_sign_of y f sign next).next ≡ next + 1
+unfolding zero_sign_of fresh put pure ◌>>=◌
+zero_sign_next y f sign next = refl
+
+pub zero_sign_sizes : ZeroSignSizes
+zero_sign_sizes = record {
+  end = zero_sign_next;
+  fills = λ y f sign v s next. zero_sign_next y f sign next;
+  in_field = λ v s. InField-cons (ratio v s) [] (residue_below (s * inverse_of v)) InField-none;
+}
+
+zero_sign_count : (y f : ℕ) (sign : Combination) (next : ℕ) → length (zero_sign_of y f sign next).list ≡ 2
+unfolding zero_sign_of fresh put pure ◌>>=◌
+zero_sign_count y f sign next = refl
+
+zero_sign_terms : (y f : ℕ) (sign : Combination) (next : ℕ) → terms_in (zero_sign_of y f sign next).list ≡ length sign + 5
+unfolding zero_sign_of fresh put pure ◌>>=◌
+zero_sign_terms y f sign next = omega (arith, length-append sign ((P - 1, f) ∷ []))
+
+pub zero_sign_costs : ZeroSignCosts
+zero_sign_costs = record { constraints = zero_sign_count; terms = zero_sign_terms }

@@ -1,0 +1,20 @@
+use Rattle.tv_core.proofs.Chain.{chain, refused}
+use Rattle.tv_core.proofs.TailCalls.{puts_in_then}
+use Rattle.tv_bits.specs.ZeroSign.{zero_sign_of}
+use Rattle.tv_bits.proofs.zero_signs.zero_sign.Goals as goal
+
+pub returns-in_err-put-clause-puts : goal.returns-in_err-put-clause-puts
+unfolding zero_sign_of
+returns-in_err-put-clause-puts g c =
+    let terms = rw (c.plus_terms.ensures.terms, c.clear.ensures, c.neg.ensures) at c.plus.ensures.terms in
+    let first = rw (c.set_wire.ensures.terms, c.set_wire-2.ensures.terms, terms) at c.in_err-put.ensures.puts in
+    refused g.S.Sink.meaning _ _ _ c.from_residual.result c.from_residual.ensures.1 (search (chain, c.fresh-hint.ensures.puts, first))
+
+pub returns-clause-puts : goal.returns-clause-puts
+unfolding zero_sign_of
+returns-clause-puts g c =
+    let m = g.S.Sink.meaning in
+    let terms = rw (c.plus_terms.ensures.terms, c.clear.ensures, c.neg.ensures) at c.plus.ensures.terms in
+    let first = rw (c.set_wire.ensures.terms, c.set_wire-2.ensures.terms, terms) at c.in_ok-put.ensures.puts in
+    let second = rw (c.set_wire.ensures.terms, c.set_wire-3.ensures.terms, c.clear-2.ensures) at c.put-2.ensures.puts in
+    puts_in_then m _ _ _ _ _ _ _ c.fresh-hint.ensures.puts (puts_in_then m _ _ _ _ _ _ _ first second)

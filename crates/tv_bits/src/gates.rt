@@ -1,0 +1,57 @@
+//! An equation that a gate turns on. A gate is a combination whose value is 0 or 1.
+ghost use Rattle.std.specs.Prelude.{◌≡◌, ◌+◌, ◌≤◌, length, IfOk};
+ghost use Rattle.tv_bits.specs.Gate.{gated_of, GatedIsSound, GatedIsComplete, GatedSizes};
+ghost use Rattle.tv_bits.specs.Gate.{GatedCosts};
+ghost use Rattle.tv_core.specs.Combinations.{top};
+ghost use Rattle.tv_core.specs.Sinks.{PutsIn, Grows, Room};
+
+use tv_core::{F, Lc, Put, Scratch, Sink, Wire};
+
+/// Constrains `x` and `y` to the same value where `gate` is 1, and to nothing where it is 0:
+/// `gate` times their difference is 0. `x` and `y` have at most 128 terms together. It makes no
+/// wire and 1 constraint.
+pub fn gated<S: Sink>(
+    s: &mut S,
+    scratch: &mut Scratch,
+    gate: &Lc,
+    x: &[(F, Wire)],
+    y: &[(F, Wire)],
+) -> Put<()>
+    requires room { Room S.meaning s.old 0 1 }
+    requires gate_made { top gate.now ≤ S.meaning.wires s.old }
+    requires x_made { top x.now ≤ S.meaning.wires s.old }
+    requires y_made { top y.now ≤ S.meaning.wires s.old }
+    requires short { length x.now + length y.now ≤ 128 }
+    ensures puts { PutsIn S.meaning s.old s.new (gated_of gate.now x.now y.now) result }
+    ensures grows { IfOk result (λ _. Grows S.meaning s.old s.new 0 1) }
+{
+    scratch.b.clear();
+    scratch.b.plus_terms(x);
+    scratch.b.plus_scaled(-F::ONE, y);
+    scratch.c.clear();
+    s.put(gate, &scratch.b, &scratch.c)
+}
+
+/// Where the gate is 1 and an assignment meets what `gated` put, the two values are the same.
+#[tactic(auto, using(crate::proofs::GateLaws::gated_sound))]
+pub fn gated_is_sound()
+    ensures { GatedIsSound }
+{}
+
+/// Where the two values are the same, or the gate is 0, an assignment meets what `gated` put.
+#[tactic(auto, using(crate::proofs::GateLaws::gated_complete))]
+pub fn gated_is_complete()
+    ensures { GatedIsComplete }
+{}
+
+/// Says that `gated` makes no wire.
+#[tactic(auto, using(crate::proofs::GateLaws::gated_sizes))]
+pub fn gated_fills()
+    ensures { GatedSizes }
+{}
+
+/// Says how many constraints and terms `gated` puts.
+#[tactic(auto, using(crate::proofs::GateLaws::gated_cost_laws))]
+pub fn gated_costs()
+    ensures { GatedCosts }
+{}

@@ -1,0 +1,75 @@
+//! A wire that is a sign where another is 0.
+ghost use Rattle.std.specs.Prelude.{◌≡◌, ◌≤◌, ◌<◌, false, length, IfOk, OnOk};
+ghost use Rattle.tv_bits.specs.ZeroSign.{zero_sign_of, zero_sign_values, ZeroSignIsSound};
+ghost use Rattle.tv_bits.specs.ZeroSign.{ZeroSignIsComplete, ZeroSignSizes, ZeroSignCosts};
+ghost use Rattle.tv_core.specs.Combinations.{top};
+ghost use Rattle.tv_core.specs.Giving.{GivesIn};
+ghost use Rattle.tv_core.specs.Sinks.{PutsIn, Grows, Room};
+
+use tv_core::{F, Put, Scratch, Sink, Values, Wire};
+
+/// Constrains the wire `f` to `sign` where the wire `y` is 0, and else to 0. `sign` has at most 127
+/// terms and may have any value, such as 1 or -1. It makes 1 wire and 2 constraints, of 5 terms and
+/// those of `sign`.
+pub fn zero_sign<S: Sink>(
+    s: &mut S,
+    scratch: &mut Scratch,
+    y: Wire,
+    f: Wire,
+    sign: &[(F, Wire)],
+) -> Put<()>
+    requires room { Room S.meaning s.old 1 2 }
+    requires y_made { y < S.meaning.wires s.old }
+    requires f_made { f < S.meaning.wires s.old }
+    requires sign_made { top sign.now ≤ S.meaning.wires s.old }
+    requires sign_short { length sign.now ≤ 127 }
+    ensures puts { PutsIn S.meaning s.old s.new (zero_sign_of y f sign.now) result }
+    ensures grows { IfOk result (λ _. Grows S.meaning s.old s.new 1 2) }
+{
+    let hint = s.fresh();
+    scratch.a.set_wire(y);
+    scratch.b.set_wire(hint);
+    scratch.c.clear();
+    scratch.c.plus_terms(sign);
+    scratch.c.plus(-F::ONE, f);
+    s.put(&scratch.a, &scratch.b, &scratch.c)?;
+    scratch.b.set_wire(f);
+    scratch.c.clear();
+    s.put(&scratch.a, &scratch.b, &scratch.c)
+}
+
+/// Assigns the value of the wire that `zero_sign` makes, `y` and `sign` being those of its
+/// arguments.
+pub fn fill_zero_sign<V: Values>(v: &mut V, y: F, sign: F) -> Put<()>
+    requires { V.giving.broken v.old ≡ false }
+    ensures gives { GivesIn V.giving v.old v.new (zero_sign_values y sign) result }
+    ensures whole { OnOk result (V.giving.broken v.new ≡ false) }
+{
+    v.give(sign * y.inverse_or_zero())
+}
+
+/// Where an assignment meets what `zero_sign` put, it has the sign at `f` where it has 0 at `y`,
+/// and else 0.
+#[tactic(auto, using(crate::proofs::ZeroSignLaws::zero_sign_sound))]
+pub fn zero_sign_is_sound()
+    ensures { ZeroSignIsSound }
+{}
+
+/// Where an assignment has the sign at `f` if it has 0 at `y`, else 0 there, and the value that
+/// `fill_zero_sign` assigns, it meets what `zero_sign` put.
+#[tactic(auto, using(crate::proofs::ZeroSignLaws::zero_sign_complete))]
+pub fn zero_sign_is_complete()
+    ensures { ZeroSignIsComplete }
+{}
+
+/// Says that `fill_zero_sign` assigns one number of the field for each wire that `zero_sign` makes.
+#[tactic(auto, using(crate::proofs::ZeroSignLaws::zero_sign_sizes))]
+pub fn zero_sign_fills()
+    ensures { ZeroSignSizes }
+{}
+
+/// Says how many constraints and terms `zero_sign` puts.
+#[tactic(auto, using(crate::proofs::ZeroSignLaws::zero_sign_costs))]
+pub fn zero_sign_costs()
+    ensures { ZeroSignCosts }
+{}
