@@ -1,4 +1,7 @@
 pub mod AddLaws
 pub mod LimbLaws
+pub mod RowDifferenceLaws
+pub mod RowDifferenceNumbers
+pub mod RowSumLaws
 pub mod SplitLaws
 pub mod SubLaws

@@ -2,16 +2,25 @@
 //! the difference of two words with carry and borrow. A word has `W` bits, 16 or 32. Contracts
 //! above cite `SpellsParts`, which says which numbers the two parts of an answer spell; what a
 //! gadget answers and how many wires it makes stand in `SplitSizes`, `AddSizes` and `SubSizes`.
+//! `row_sum` and `row_difference` hold a row of twice the width to the sum of two words, or to
+//! their difference and order, under a gate.
 #![tactic(auto)]
 
 mod differences;
 mod halves;
 mod parts;
+mod row_differences;
+mod row_sums;
 mod splitting;
 mod sums;
 
 pub use differences::{fill_sub, sub, sub_fills, sub_is_complete, sub_is_sound};
 pub use halves::{limbs, limbs_are_sound};
 pub use parts::Split;
+pub use row_differences::{
+    difference_halves, fill_row_difference, row_difference, row_difference_costs,
+    row_difference_fills, row_difference_is_complete, row_difference_is_sound,
+};
+pub use row_sums::{row_sum, row_sum_costs, row_sum_fills, row_sum_is_complete, row_sum_is_sound};
 pub use splitting::{fill_split, split, split_fills, split_is_complete, split_is_sound};
 pub use sums::{add, add_fills, add_is_complete, add_is_sound, fill_add};

@@ -1,0 +1,66 @@
+//! The sum of two words in a row of twice their width.
+ghost use Rattle.std.specs.Prelude.{◌+◌, ◌≤◌, ◌<◌, IfOk};
+ghost use Rattle.tv_bits.specs.DoubleRow.{row_number};
+ghost use Rattle.tv_core.specs.Combinations.{top};
+ghost use Rattle.tv_core.specs.Sinks.{PutsIn, Grows, Room};
+ghost use Rattle.tv_limb.specs.RowSum.{row_sum_of, RowSumIsSound, RowSumIsComplete};
+ghost use Rattle.tv_limb.specs.RowSum.{RowSumSizes, RowSumCosts};
+ghost use Rattle.tv_word.specs.Widths.{IsWidth};
+
+use tv_bits::{DoubleRow, gated};
+use tv_core::{F, Lc, Put, Scratch, Sink, Wire};
+
+/// Constrains a row to the sum of two words of `W` bits where `gate` is 1, and to nothing where it
+/// is 0: its low half is the sum modulo 2^`W`, and its high half the carry. It makes no wire and 1
+/// constraint, of 4 terms beside those of `gate`.
+pub fn row_sum<const W: u32, S: Sink>(
+    s: &mut S,
+    scratch: &mut Scratch,
+    gate: &Lc,
+    x: Wire,
+    y: Wire,
+    row: &DoubleRow,
+) -> Put<()>
+    requires width { IsWidth W }
+    requires room { Room S.meaning s.old 0 1 }
+    requires gate_made { top gate.now ≤ S.meaning.wires s.old }
+    requires x_made { x < S.meaning.wires s.old }
+    requires y_made { y < S.meaning.wires s.old }
+    requires row_made { top (row_number W row.now) ≤ S.meaning.wires s.old }
+    ensures puts { PutsIn S.meaning s.old s.new (row_sum_of W gate.now x y row.now) result }
+    ensures grows { IfOk result (λ _. Grows S.meaning s.old s.new 0 1) }
+{
+    gated(
+        s,
+        scratch,
+        gate,
+        &[(F::ONE, x), (F::ONE, y)],
+        &row.number::<W>(),
+    )
+}
+
+/// Where the gate is 1, the wires hold words and an assignment meets what `row_sum` put, the row
+/// holds their sum.
+#[tactic(auto, using(crate::proofs::RowSumLaws::row_sum_sound))]
+pub fn row_sum_is_sound()
+    ensures { RowSumIsSound }
+{}
+
+/// Where the row holds the sum of the words, or the gate is 0, an assignment meets what `row_sum`
+/// put; and the sum of two words is a row.
+#[tactic(auto, using(crate::proofs::RowSumLaws::row_sum_complete))]
+pub fn row_sum_is_complete()
+    ensures { RowSumIsComplete }
+{}
+
+/// Says that `row_sum` makes no wire.
+#[tactic(auto, using(crate::proofs::RowSumLaws::row_sum_sizes))]
+pub fn row_sum_fills()
+    ensures { RowSumSizes }
+{}
+
+/// Says how many constraints and terms `row_sum` puts.
+#[tactic(auto, using(crate::proofs::RowSumLaws::row_sum_cost_laws))]
+pub fn row_sum_costs()
+    ensures { RowSumCosts }
+{}
