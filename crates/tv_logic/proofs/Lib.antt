@@ -1,4 +1,6 @@
 pub mod AndLaws
+pub mod DigitLaws
+pub mod DigitNumbers
 pub mod FlagLaws
 pub mod LogicLaws
 pub mod PairSums

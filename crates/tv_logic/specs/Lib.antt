@@ -1,4 +1,5 @@
 pub mod Ands
+pub mod Digits
 pub mod Flags
 pub mod Logic
 pub mod Words

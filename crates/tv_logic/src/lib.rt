@@ -1,13 +1,16 @@
 //! The bitwise operations of two words of 16 or of 32 bits, with their zero flags. The word of ands
 //! takes a constraint for two ands; the other words are linear in it. Contracts above cite
-//! `IsLogic`, and `LogicSizes` for the wires.
+//! `IsLogic`, and `LogicSizes` for the wires. `bitwise` holds a row of twice a word's width to the
+//! and and the exclusive or, under a gate, in two constraints.
 #![tactic(auto)]
 
 mod ands;
 mod answers;
+mod digits;
 mod flags;
 mod gadget;
 mod words;
 
 pub use answers::{Logic, LogicFlags, LogicWords};
+pub use digits::{bitwise, bitwise_costs, bitwise_fills, bitwise_is_complete, bitwise_is_sound};
 pub use gadget::{fill_logic, logic, logic_fills, logic_is_complete, logic_is_sound};
