@@ -3,5 +3,9 @@ pub mod HalvesLaws
 pub mod ProductLaws
 pub mod QuotientLaws
 pub mod QuotientNumbers
+pub mod RowDivisionLaws
+pub mod RowDivisionNumbers
+pub mod RowProductLaws
+pub mod RowSignedProductLaws
 pub mod SignedHighLaws
 pub mod SignedNumbers

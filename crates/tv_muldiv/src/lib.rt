@@ -1,12 +1,16 @@
-//! Gadgets that multiply and divide words of `W` bits, 16 or 32: the product of two words, the high
-//! word of their signed product, and their quotient and remainder. Contracts above cite
+//! Gadgets that multiply and divide words of `W` bits, 16 or 32: the product of two words, the
+//! high word of their signed product, and their quotient and remainder. Contracts above cite
 //! `IsProduct`, `IsSignedHigh` and `IsQuotient`, which say what wires hold in whole numbers, words
-//! being `W` wires that spell them.
+//! being `W` wires that spell them. `row_product`, `row_signed_product` and `row_division` hold a
+//! row of twice the width to these, under a gate.
 #![tactic(auto)]
 
 mod products;
 mod quotients;
 mod records;
+mod row_divisions;
+mod row_products;
+mod row_signed_products;
 mod signed_products;
 mod weighing;
 
@@ -15,6 +19,19 @@ pub use quotients::{
     fill_quotient, quotient, quotient_fills, quotient_is_complete, quotient_is_sound,
 };
 pub use records::{High, Product, Quot};
+pub use row_divisions::{
+    below_divisor, fill_row_division, row_division, row_division_costs, row_division_fills,
+    row_division_is_complete, row_division_is_sound,
+};
+pub use row_products::{
+    fill_row_product, row_product, row_product_costs, row_product_fills, row_product_is_complete,
+    row_product_is_sound,
+};
+pub use row_signed_products::{
+    fill_row_signed_product, row_signed_product, row_signed_product_costs,
+    row_signed_product_fills, row_signed_product_is_complete, row_signed_product_is_sound,
+    signed_product_halves,
+};
 pub use signed_products::{
     fill_signed_high, signed_high, signed_high_fills, signed_high_is_complete, signed_high_is_sound,
 };

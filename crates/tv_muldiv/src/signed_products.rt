@@ -97,7 +97,7 @@ pub fn fill_signed_high<const W: u32, V: Values>(v: &mut V, x: u32, y: u32) -> P
 
 // The product of two words as signed numbers, in two's complement of `2 W` bits.
 #[tactic(auto, using(crate::proofs::SignedNumbers::product_cast))]
-fn product_twos<const W: u32>(x: u32, y: u32) -> u64
+pub(crate) fn product_twos<const W: u32>(x: u32, y: u32) -> u64
     requires width { IsWidth W }
     requires x_word { x < 2 ^ W }
     requires y_word { y < 2 ^ W }

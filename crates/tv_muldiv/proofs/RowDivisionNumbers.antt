@@ -1,0 +1,169 @@
+-- The numbers of a division in a row.
+use Rattle.std.proofs.Common.{◌≡◌, ◌≢◌, ℕ, ◌+◌, ◌-◌, ◌*◌, ◌/◌, ◌%◌, ◌^◌, ◌<◌, ◌≤◌, ◌==◌, if◌then◌else◌, inl, inr, refl, sym, ◌∙◌, ap, ap₂, arith, mod-lt}
+use Rattle.std.proofs.Common.{zero-mul, one-mul, mul_comm}
+use Rattle.std.proofs.Math.Nat.{mod-mod, div-add-mod, div-le_self}
+use Rattle.std.proofs.lemmas.Bool.{cases_eq}
+use Rattle.std.proofs.lemmas.Bool.Decides.{nat_tests}
+use Rattle.std.proofs.lemmas.Nat.{mul-le, div-mul-add, mod-mul-add, mul-mod_second}
+use Rattle.tv_bits.proofs.RowNumbers.{row_below}
+use Rattle.tv_bits.proofs.ZeroLaws.{zero_flag-zero, zero_flag-other}
+use Rattle.tv_bits.specs.Bit.{IsBit}
+use Rattle.tv_bits.specs.DoubleRow.{IsRow}
+use Rattle.tv_bits.specs.Zero.{zero_flag}
+use Rattle.tv_core.proofs.Residues.{add-mod_same}
+use Rattle.tv_core.specs.declared.field.TheConstants.{P}
+use Rattle.tv_muldiv.specs.Quotient.{quotient_in, remainder_in}
+use Rattle.tv_muldiv.specs.RowDivision.{below_divisor}
+use Rattle.tv_word.specs.Widths.{IsWidth}
+
+-- what the constraints say of the numbers at the wires: words a and b, the row's halves, the bit, the word that it keeps,
+-- the product of the high half, and the bits' number
+pub record Divides (w a b low high by_zero kept product bits : ℕ) : Type 0 where
+  pub keeps : by_zero * a % P ≡ kept
+  pub multiplies : high * ((b + by_zero) % P) % P ≡ product
+  pub parts : a % P ≡ (low + kept + product) % P
+  pub below : (b + 2 ^ w * by_zero) % P ≡ (1 + low + bits) % P
+
+pub record IsDivided (a b low high by_zero : ℕ) : Type 0 where
+  pub rem : low ≡ remainder_in a b
+  pub quot : high ≡ quotient_in a b
+  pub zero : by_zero ≡ zero_flag b
+
+some_if : (b m : ℕ) → b ≢ 0 → (if b == 0 then 0 else m) ≡ m
+some_if b m some = grind (arith, nat_tests)
+
+none_if : (b m : ℕ) → b ≡ 0 → (if b == 0 then 0 else m) ≡ 0
+none_if b m none = rw none refl
+
+module _ (w : ℕ) (width : IsWidth w) (a b low high by_zero kept product bits : ℕ) (h : a < 2 ^ w) (g : b < 2 ^ w) (l : bits < 2 ^ w) (bit : IsBit by_zero)
+    (r : IsRow w low high) (d : Divides w a b low high by_zero kept product bits) where
+  -- the product as a whole number and the sum, modulo P
+  sum : a % P ≡ (low + kept + high * (b + by_zero)) % P
+  sum =
+      let p : product % P ≡ high * (b + by_zero) % P = ap (λ n. n % P) (sym d.multiplies) ∙ mod-mod (high * ((b + by_zero) % P)) P
+      ∙ mul-mod_second high (b + by_zero) P in
+      d.parts ∙ add-mod_same (low + kept) (low + kept) product (high * (b + by_zero)) P refl p
+
+  -- the divisor is another than 0
+  some_divisor : by_zero ≡ 0 → IsDivided a b low high by_zero
+  some_divisor none =
+      let less : low < b = let e = d.below in let low_word = r.low_word in grind arith in
+      let keeps : kept ≡ 0 = sym d.keeps ∙ ap (λ n. n * a % P) none ∙ ap (λ n. n % P) (zero-mul a) in
+      let same : b + by_zero ≡ b = omega arith in
+      let most = mul-le high b (2 ^ w - 1) (2 ^ w - 1) (let high_word = r.high_word in omega arith) (omega arith) in
+      let e : a % P ≡ (low + kept + high * b) % P = sum ∙ ap (λ n. (low + kept + high * n) % P) same in
+      let whole : high * b + low ≡ a = let low_word = r.low_word in grind arith in
+      let some : b ≢ 0 = λ zero. omega arith in
+      record {
+        quot = sym (some_if b (a / b) some ∙ ap (λ n. n / b) (sym whole) ∙ div-mul-add high b low less);
+        rem = sym (some_if b (a % b) some ∙ ap (λ n. n % b) (sym whole) ∙ mod-mul-add high b low less);
+        zero = none ∙ sym (zero_flag-other b some);
+      }
+
+  -- the divisor is 0: that b + 1 is 2 ^ w is the one place where the row is to be below P
+  small_sum : high * (b + 1) + low < P
+  small_sum = elim (cases_eq b (2 ^ w - 1)) [
+    | inl edge ↦
+        let power : b + 1 ≡ 2 ^ w = grind arith in
+        let below = row_below w width low high r in
+        let same : high * (b + 1) + low ≡ low + 2 ^ w * high = ap (λ n. high * n + low) power ∙ omega (arith, mul_comm high (2 ^ w)) in
+        omega arith
+    | inr lower ↦
+        let high_word = r.high_word in
+        let low_word = r.low_word in
+        let most = mul-le high (b + 1) (2 ^ w - 1) (2 ^ w - 1) (omega arith) (omega arith) in
+        grind arith
+  ]
+
+  no_divisor : by_zero ≡ 1 → IsDivided a b low high by_zero
+  no_divisor one =
+      let keeps : kept ≡ a = sym d.keeps ∙ ap (λ n. n * a % P) one ∙ ap (λ n. n % P) (one-mul a) ∙ grind arith in
+      let same : b + by_zero ≡ b + 1 = omega arith in
+      let e : a % P ≡ (low + kept + high * (b + 1)) % P = sum ∙ ap (λ n. (low + kept + high * n) % P) same in
+      let below = small_sum in
+      let nothing : high * (b + 1) + low ≡ 0 = grind arith in
+      let rem : low ≡ 0 = omega arith in
+      let quot : high ≡ 0 = grind arith in
+      let zero : b ≡ 0 = let e = d.below in grind arith in
+      record { quot = quot ∙ sym (none_if b (a / b) zero); rem = rem ∙ sym (none_if b (a % b) zero); zero = one ∙ sym (zero_flag-zero b zero) }
+
+  pub Divides-sound : IsDivided a b low high by_zero
+  Divides-sound = elim (cases_eq by_zero 0) [
+    | inl none ↦ some_divisor none
+    | inr some ↦ no_divisor (omega arith)
+  ]
+
+-- ---- the honest division
+quotient-zero : (a b : ℕ) → b ≡ 0 → quotient_in a b ≡ 0
+quotient-zero a b e = rw e refl
+
+remainder-zero : (a b : ℕ) → b ≡ 0 → remainder_in a b ≡ 0
+remainder-zero a b e = rw e refl
+
+quotient-other : (a b : ℕ) → b ≢ 0 → quotient_in a b ≡ a / b
+quotient-other a b e = grind (arith, nat_tests)
+
+remainder-other : (a b : ℕ) → b ≢ 0 → remainder_in a b ≡ a % b
+remainder-other a b e = grind (arith, nat_tests)
+
+remainder-less : (a b : ℕ) → b ≢ 0 → remainder_in a b < b
+remainder-less a b some = let less : a % b < b = mod-lt a (omega arith) in omega (arith, remainder-other a b some)
+
+parts_some : (a b : ℕ) → b ≢ 0 → quotient_in a b * b + remainder_in a b ≡ a
+parts_some a b some = ap₂ (λ q r. q * b + r) (quotient-other a b some) (remainder-other a b some) ∙ ap (λ n. n + a % b) (mul_comm (a / b) b) ∙ div-add-mod a b
+
+edge_some : (w a b : ℕ) → a < 2 ^ w → b ≢ 0 → quotient_in a b ≡ 2 ^ w - 1 → remainder_in a b ≡ 0
+edge_some w a b h some full =
+    let whole : (2 ^ w - 1) * b + remainder_in a b ≡ a = ap (λ q. q * b + remainder_in a b) (sym full) ∙ parts_some a b some in
+    let most : (2 ^ w - 1) * 1 ≤ (2 ^ w - 1) * b = mul-le (2 ^ w - 1) 1 (2 ^ w - 1) b (omega arith) (omega arith) in
+    omega arith
+
+module _ (w : ℕ) (width : IsWidth w) (a b : ℕ) (h : a < 2 ^ w) (k : b < 2 ^ w) where
+  pub division_row : IsRow w (remainder_in a b) (quotient_in a b)
+  division_row = elim (cases_eq b 0) [
+    | inl none ↦ let q = quotient-zero a b none in let r = remainder-zero a b none in record { low_word = grind arith; high_word = grind arith; edge = λ e. r }
+    | inr some ↦
+        let q = quotient-other a b some in
+        let less = remainder-less a b some in
+        let most = div-le_self a b in
+        record { low_word = omega arith; high_word = omega arith; edge = edge_some w a b h some }
+  ]
+
+  pub below_word : below_divisor w a b < 2 ^ w
+  below_word = elim (cases_eq b 0) [
+    | inl none ↦ let z = zero_flag-zero b none in let r = remainder-zero a b none in grind arith
+    | inr some ↦ let z = zero_flag-other b some in let less = remainder-less a b some in grind arith
+  ]
+
+  met_zero : b ≡ 0 → Divides w a b (remainder_in a b) (quotient_in a b) (zero_flag b) (zero_flag b * a % P) (quotient_in a b * ((b + zero_flag b) % P) % P)
+      (below_divisor w a b)
+  met_zero none =
+      let z = zero_flag-zero b none in
+      let r = remainder-zero a b none in
+      let q = quotient-zero a b none in
+      record {
+        keeps = refl;
+        multiplies = refl;
+        parts = sym (ap₂ (λ m n. (remainder_in a b + m + n) % P) (ap (λ m. m * a % P) z
+            ∙ ap (λ n. n % P) (one-mul a)) (ap (λ m. m * ((b + zero_flag b) % P) % P) q ∙ ap (λ n. n % P) (zero-mul ((b + zero_flag b) % P))) ∙ grind arith);
+        below = ap (λ n. n % P) (grind arith);
+      }
+
+  met_some : b ≢ 0 → Divides w a b (remainder_in a b) (quotient_in a b) (zero_flag b) (zero_flag b * a % P) (quotient_in a b * ((b + zero_flag b) % P) % P)
+      (below_divisor w a b)
+  met_some some =
+      let z = zero_flag-other b some in
+      let less = remainder-less a b some in
+      let one : (b + zero_flag b) % P ≡ b = grind arith in
+      let whole = parts_some a b some in
+      record {
+        keeps = refl;
+        multiplies = refl;
+        parts = sym (ap₂ (λ m n. (remainder_in a b + m + n) % P) (ap (λ m. m * a % P) z
+            ∙ ap (λ n. n % P) (zero-mul a)) (ap (λ m. quotient_in a b * m % P) one) ∙ grind arith);
+        below = ap (λ n. n % P) (grind arith);
+      }
+
+  pub division_met : Divides w a b (remainder_in a b) (quotient_in a b) (zero_flag b) (zero_flag b * a % P) (quotient_in a b * ((b + zero_flag b) % P) % P)
+      (below_divisor w a b)
+  division_met = elim (cases_eq b 0) [ inl none ↦ met_zero none | inr some ↦ met_some some ]

@@ -1,0 +1,102 @@
+-- The laws of a product in a row.
+use Rattle.std.proofs.Common.{◌≡◌, ℕ, ◌+◌, ◌-◌, ◌*◌, ◌%◌, ◌^◌, ◌<◌, ◌≤◌, List, length, sym, ◌∙◌, ap, ap₂, arith}
+use Rattle.std.specs.Prelude.{slice_index}
+use Rattle.std.proofs.lemmas.Nat.{mul-le}
+use Rattle.tv_bits.proofs.DoubleRowLaws.{value-row_number}
+use Rattle.tv_bits.proofs.GateLaws.{gated_sound, gated_complete, gated_next, gated_constraints, gated_terms, terms-append}
+use Rattle.tv_bits.proofs.RowNumbers.{row_below, row_is, row_low, row_high, row_of, row_whole}
+use Rattle.tv_bits.proofs.TimesLaws.{times_sound, times_complete, times_sizes}
+use Rattle.tv_bits.specs.DoubleRow.{whole, row_number}
+use Rattle.tv_bits.specs.Gate.{gated_of}
+use Rattle.tv_bits.specs.Times.{times_of}
+use Rattle.tv_bits.specs.declared.double_rows.DoubleRow.{DoubleRow}
+use Rattle.tv_core.proofs.CombinationLaws.{value-wire}
+use Rattle.tv_core.specs.Circuits.{fresh, put, pure, ◌>>=◌}
+use Rattle.tv_core.specs.Combinations.{wire}
+use Rattle.tv_core.specs.Constraints.{Combination, value}
+use Rattle.tv_core.specs.Laws.{Assigns, Meets, HasFrom}
+use Rattle.tv_core.specs.Meanings.{terms_in}
+use Rattle.tv_core.specs.declared.field.TheConstants.{P}
+use Rattle.tv_muldiv.specs.RowProduct.{IsRowProduct, row_product_of, row_product_values, RowProductIsSound, RowProductIsComplete, RowProductSizes}
+use Rattle.tv_muldiv.specs.RowProduct.{RowProductCosts}
+use Rattle.tv_word.specs.Widths.{IsWidth}
+
+-- the numbers
+product_small : (w : ℕ) → IsWidth w → (a b : ℕ) → a < 2 ^ w → b < 2 ^ w → a * b < P
+product_small w width a b h k = let most = mul-le a b (2 ^ w - 1) (2 ^ w - 1) (omega arith) (omega arith) in grind arith
+
+product_short : (w : ℕ) → IsWidth w → (a b : ℕ) → a < 2 ^ w → b < 2 ^ w → a * b ≤ 2 ^ w * (2 ^ w - 1)
+product_short w width a b h k = let most = mul-le a b (2 ^ w - 1) (2 ^ w - 1) (omega arith) (omega arith) in grind arith
+
+-- the wire that is made
+product_is : (z : List ℕ) (next x y : ℕ) → Assigns z → Meets z (times_of (wire x) (wire y) next).list
+    → slice_index z (times_of (wire x) (wire y) next).answer ≡ slice_index z x * slice_index z y % P
+product_is z next x y assigns meets = times_sound z next (wire x) (wire y) assigns meets ∙ ap₂ (λ m n. m * n % P) (value-wire assigns x) (value-wire assigns y)
+
+pub product_met : (z : List ℕ) (next x y : ℕ) → Assigns z → HasFrom z next (row_product_values (slice_index z x) (slice_index z y))
+    → Meets z (times_of (wire x) (wire y) next).list
+product_met z next x y assigns has = times_complete z next (wire x) (wire y) assigns (
+  has.0
+      ∙ sym (ap₂ (λ m n. m * n % P) (value-wire assigns x) (value-wire assigns y)),
+  tt,
+)
+
+pub row_product_sound : RowProductIsSound
+unfolding row_product_of times_of fresh put pure ◌>>=◌
+row_product_sound w width z next gate x y row assigns one a_word b_word r meets =
+    let low = slice_index z row.low in
+    let high = slice_index z row.high in
+    let a = slice_index z x in
+    let b = slice_index z y in
+    let same = sym (value-row_number w z row assigns) ∙ gated_sound z (next + 1) gate (row_number w row) (wire next) one meets.1 ∙ value-wire assigns next
+    ∙ product_is z next x y assigns (meets.0, tt) in
+    let is : whole w low high ≡ a * b = row_is (whole w low high) (a * b) (row_below w width low high r) (product_small w width a b a_word b_word) same in
+    record { low = row_low w width low high (a * b) r.low_word is; high = row_high w width low high (a * b) r.low_word is }
+
+row_product_on : (w : ℕ) (z : List ℕ) (next x y : ℕ) (row : DoubleRow) → Assigns z → IsRowProduct w z row (slice_index z x) (slice_index z y)
+    → slice_index z next ≡ slice_index z x * slice_index z y % P → value (row_number w row) z ≡ value (wire next) z
+row_product_on w z next x y row assigns is product =
+    let a = slice_index z x in
+    let b = slice_index z y in
+    let numbers : whole w (slice_index z row.low) (slice_index z row.high) ≡ a * b = ap₂ (whole w) is.low is.high ∙ row_whole w (a * b) in
+    value-row_number w z row assigns ∙ ap (λ n. n % P) numbers ∙ sym product ∙ sym (value-wire assigns next)
+
+pub row_product_complete : RowProductIsComplete
+unfolding row_product_of times_of fresh put pure ◌>>=◌
+row_product_complete = record {
+  row = λ w width a b h k. row_of w width (a * b) (product_short w width a b h k);
+  on = λ w z next gate x y row assigns is has. (
+    (product_met z next x y assigns has).0,
+    gated_complete.same z (next + 1) gate (row_number w row) (wire next)
+        (row_product_on w z next x y row assigns is has.0),
+  );
+  off = λ w z next gate x y row assigns none has.
+      ((product_met z next x y assigns has).0, gated_complete.off z (next + 1) gate (row_number w row) (wire next) none);
+}
+
+pub row_product_next : (w : ℕ) (gate : Combination) (x y : ℕ) (row : DoubleRow) (next : ℕ) → (row_product_of w gate x y row next).next ≡ next + 1
+unfolding row_product_of times_of fresh put pure ◌>>=◌
+row_product_next w gate x y row next = gated_next gate (row_number w row) (wire next) (next + 1)
+
+pub row_product_sizes : RowProductSizes
+row_product_sizes = record {
+  end = row_product_next;
+  fills = λ w gate x y row a b next. row_product_next w gate x y row next;
+  in_field = times_sizes.in_field;
+}
+
+row_product_constraints : (w : ℕ) (gate : Combination) (x y : ℕ) (row : DoubleRow) (next : ℕ) → length (row_product_of w gate x y row next).list ≡ 2
+unfolding row_product_of times_of fresh put pure ◌>>=◌
+row_product_constraints w gate x y row next = omega (arith, gated_constraints gate (row_number w row) (wire next) (next + 1))
+
+row_product_terms : (w : ℕ) (gate : Combination) (x y : ℕ) (row : DoubleRow) (next : ℕ) → terms_in (row_product_of w gate x y row next).list ≡ length gate + 6
+unfolding row_product_of times_of fresh put pure ◌>>=◌
+row_product_terms w gate x y row next =
+    omega (
+      arith,
+      terms-append (times_of (wire x) (wire y) next).list (gated_of gate (row_number w row) (wire next) (next + 1)).list,
+      gated_terms gate (row_number w row) (wire next) (next + 1),
+    )
+
+pub row_product_cost_laws : RowProductCosts
+row_product_cost_laws = record { constraints = row_product_constraints; terms = row_product_terms }

@@ -1,0 +1,21 @@
+use Rattle.tv_bits.specs.Gate.{gated_of}
+use Rattle.tv_bits.specs.Times.{times_of}
+use Rattle.tv_core.proofs.Chain.{chain, refused}
+use Rattle.tv_core.proofs.TailCalls.{puts_in_then}
+use Rattle.tv_core.specs.Combinations.{wire}
+use Rattle.tv_muldiv.specs.RowSignedProduct.{signed_word, signed_row, row_signed_product_of}
+use Rattle.tv_muldiv.proofs.row_signed_products.row_signed_product.Goals as goal
+
+pub returns-in_err-product-clause-puts : goal.returns-in_err-product-clause-puts
+unfolding row_signed_product_of
+returns-in_err-product-clause-puts g c =
+    refused g.S.Sink.meaning _ _ _ c.from_residual.result c.from_residual.ensures.1 (search (chain, c.in_err-product.ensures.puts))
+
+pub returns-clause-puts : goal.returns-clause-puts
+unfolding row_signed_product_of gated_of
+returns-clause-puts g c =
+    let a = c.args in
+    let w = g.row.W in
+    let last = rw (c.fill_difference.ensures.terms, c.clear.ensures) at c.put.ensures.puts in
+    puts_in_then g.S.Sink.meaning (times_of (signed_word w a.x.now) (signed_word w a.y.now))
+    (λ product. gated_of a.gate.now (signed_row w a.row.now) (wire product)) _ _ _ _ _ c.in_ok-product.ensures.puts last
