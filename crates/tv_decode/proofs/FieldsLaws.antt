@@ -20,7 +20,7 @@ use Rattle.tv_isa.specs.declared.instr.Instr.{Instr}
 use Rattle.tv_word.specs.Widths.{IsWidth}
 
 -- some of a word's bits spell a field of it
-field_spelled : (z : List ℕ) (w first low count more v : ℕ) → low + (count + more) ≡ w → Spells z first w v → Spells z (first + low) count (field low count v)
+pub field_spelled : (z : List ℕ) (w first low count more v : ℕ) → low + (count + more) ≡ w → Spells z first w v → Spells z (first + low) count (field low count v)
 field_spelled z w first low count more v size s =
     Spells-low z (first + low) count more (v / 2 ^ low) (Spells-high z first low (count + more) v (subst (λ n. Spells z first n v) (sym size) s))
 

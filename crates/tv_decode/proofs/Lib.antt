@@ -1,1 +1,2 @@
 pub mod FieldsLaws
+pub mod InstructionLaws

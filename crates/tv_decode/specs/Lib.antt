@@ -1,4 +1,5 @@
 pub mod Fields
+pub mod Instructions
 pub use Rattle.tv_core.specs.Giving
 pub use Rattle.tv_core.specs.Sinks
 pub use Rattle.tv_isa.specs.Instruction

@@ -1,4 +1,5 @@
 //! What the gadget answers.
+use tv_bits::Bits;
 use tv_core::Wire;
 
 /// The fields of an instruction: a bit, and the first wires of rows of which one wire is 1.
@@ -14,4 +15,19 @@ pub struct Fields {
     pub source: Wire,
     /// The row of the register that the second word's lowest four bits name, of 16 wires.
     pub reg: Wire,
+}
+
+/// The wires of an instruction of two words of `W` bits.
+#[derive(Clone, Copy, PartialEq, Eq, Debug)]
+pub struct InstructionWires {
+    /// The bits of the first word below its opcode, `W - 5`.
+    pub low: Bits,
+    /// The first wire of the one-hot row of the 29 used opcodes, in their order.
+    pub op: Wire,
+    /// The `W` bits of the second word.
+    pub second: Bits,
+    /// The first word.
+    pub head: Wire,
+    /// The second word.
+    pub tail: Wire,
 }

@@ -1,0 +1,445 @@
+-- The laws of an instruction with a row of the used opcodes.
+use Rattle.std.proofs.Common.{◌⊎◌, ◌≡◌, ◌≢◌, ℕ, zero, suc, ◌+◌, ◌-◌, ◌*◌, ◌%◌, ◌^◌, ◌<◌, ◌≤◌, ◌==◌, ◌&&◌, not, Bool, true, false, if◌then◌else◌, List, [], ◌∷◌, ◌++◌, length, inl, inr, refl, sym, ◌∙◌, ap, ap₂, subst, arith, mod-lt, eq-eqb, mul-zero, mul-one, zero-mul}
+use Rattle.std.specs.Prelude.{slice_index}
+use Rattle.std.proofs.lemmas.Bool.{cases_eq, cases_lt, and_parts, eqb-true, eqb-false, not-true}
+use Rattle.std.proofs.lemmas.Bool.Decides.{nat_tests}
+use Rattle.std.proofs.lemmas.List.{length-append}
+use Rattle.std.proofs.lemmas.Nat.{pow_pos}
+use Rattle.tv_bits.proofs.BitLaws.{bit_cases}
+use Rattle.tv_bits.proofs.NewBitsLaws.{bits_spell, bits_met}
+use Rattle.tv_bits.proofs.OneHotLaws.{value-onehot, one_at-same, one_at-other}
+use Rattle.tv_bits.proofs.SizeLaws.{bits_in_field, length-bits}
+use Rattle.tv_bits.proofs.SpelledNumbers.{Spells-low, Spells-bit_at, Spells-below, Spells-from_values, value-bits_below}
+use Rattle.tv_bits.proofs.SpellingLaws.{new_bits_next, new_bits_complete}
+use Rattle.tv_bits.proofs.TimesLaws.{kept_sound, kept_complete, kept_answer, kept_next}
+use Rattle.tv_bits.specs.Bit.{IsBit, bit_of}
+use Rattle.tv_bits.specs.Bits.{Spells, spelled, bits_combination, bits_values, new_bit, new_bits_of}
+use Rattle.tv_bits.specs.OneHot.{IsOneHot, row_sum, one_at}
+use Rattle.tv_bits.specs.Times.{kept_of, times_of}
+use Rattle.tv_core.proofs.BelowLaws.{sum_below-zero, sum_below-suc, sum_below-add, sum_below-same, sum_below-single, sum_below-zeros, value-weighted, has_each, length-each_below}
+use Rattle.tv_core.proofs.CombinationLaws.{value-below, value-append, value-cons, value-constant}
+use Rattle.tv_core.proofs.FieldLaws.{InField-none, InField-cons, InField-append, InField-each_below}
+use Rattle.tv_core.proofs.Meeting.{Meets-split, Meets-join, HasFrom-split}
+use Rattle.tv_core.specs.Below.{sum_below, weighted}
+use Rattle.tv_core.specs.Circuits.{here, fresh, put, pure, turns, ◌>>=◌}
+use Rattle.tv_core.specs.Constraints.{Combination, value}
+use Rattle.tv_core.specs.Laws.{Assigns, Meets, HasFrom, InField}
+use Rattle.tv_core.specs.Meanings.{terms_in}
+use Rattle.tv_core.specs.declared.field.TheConstants.{P}
+use Rattle.tv_decode.specs.Instructions.{place, opcode_at, IsOpcodeRow, opcode_values, group_times, distinct, number_of, opcode_weight, head_of, instruction_of, instruction_wires, instruction_values, IsDecoded, InstructionIsSound, InstructionIsComplete, InstructionSizes, InstructionCosts, OpcodeWireIsRight, GroupIsRight}
+use Rattle.tv_decode.specs.declared.records.InstructionWires.{InstructionWires}
+use Rattle.tv_decode.proofs.FieldsLaws.{field_spelled}
+use Rattle.tv_isa.specs.Instruction.{field, decode}
+use Rattle.tv_isa.specs.Opcodes.{among, is_used}
+use Rattle.tv_word.proofs.WidthLaws.{for_widths}
+use Rattle.tv_word.specs.Widths.{IsWidth}
+
+-- ---- places in the row
+-- a used opcode is below 32, and not one of the three unused
+used_is : (k : ℕ) → is_used k ≡ true → (k < 23) ⊎ ((26 ≤ k) × (k < 32))
+used_is k u = grind (arith, nat_tests)
+
+place-low : (k : ℕ) → k < 23 → place k ≡ k
+place-low k h = grind (arith, nat_tests)
+
+place-high : (k : ℕ) → 26 ≤ k → place k ≡ k - 3
+place-high k h = grind (arith, nat_tests)
+
+used_from : (k : ℕ) → k < 32 → (k < 23) ⊎ (26 ≤ k) → is_used k ≡ true
+used_from k h (inl low) = grind (arith, nat_tests)
+used_from k h (inr high) = grind (arith, nat_tests)
+
+place_below : (k : ℕ) → is_used k ≡ true → place k < 29
+place_below k u = elim (used_is k u) [ inl low ↦ omega (arith, place-low k low) | inr high ↦ omega (arith, place-high k high.0, high.1) ]
+
+at_place : (k : ℕ) → is_used k ≡ true → opcode_at (place k) ≡ k
+at_place k u = elim (used_is k u) [ inl low ↦ grind (arith, nat_tests) | inr high ↦ grind (arith, nat_tests) ]
+
+at_below : (j : ℕ) → j < 29 → opcode_at j < 32
+at_below j h = grind (arith, nat_tests)
+
+at_used : (j : ℕ) → j < 29 → is_used (opcode_at j) ≡ true
+at_used j h = used_from (opcode_at j) (at_below j h) (parts j h)
+  where
+    parts : (j : ℕ) → j < 29 → (opcode_at j < 23) ⊎ (26 ≤ opcode_at j)
+    parts j h = elim (cases_lt j 23) [ inl low ↦ inl (grind (arith, nat_tests)) | inr high ↦ inr (grind (arith, nat_tests)) ]
+
+place_at : (j : ℕ) → j < 29 → place (opcode_at j) ≡ j
+place_at j h = elim (cases_lt j 23) [ inl low ↦ grind (arith, nat_tests) | inr high ↦ grind (arith, nat_tests) ]
+
+-- ---- one of some bits is 1 where their sum is
+sum_small : (n : ℕ) (f : ℕ → ℕ) → ((i : ℕ) → i < n → IsBit (f i)) → sum_below n f ≤ n
+sum_small zero f bits = omega (arith, sum_below-zero f)
+sum_small (suc n) f bits = omega (arith, sum_below-suc n f, bits n (omega arith), sum_small n f (λ i h. bits i (omega arith)))
+
+sum_none : (n : ℕ) (f : ℕ → ℕ) → sum_below n f ≡ 0 → (i : ℕ) → i < n → f i ≡ 0
+sum_none zero f none i h = absurd (omega arith)
+sum_none (suc n) f none i h = elim (cases_eq i n) [
+  | inl last ↦ ap f last ∙ omega (arith, sum_below-suc n f)
+  | inr apart ↦ sum_none n f (omega (arith, sum_below-suc n f)) i (omega arith)
+]
+
+-- the number of the one that is 1
+record One (n : ℕ) (f : ℕ → ℕ) : Type 0 where
+  pub number : ℕ
+  pub within : number < n
+  pub hot : f number ≡ 1
+  pub cold : (i : ℕ) → i < n → i ≢ number → f i ≡ 0
+
+one_of_sum : (n : ℕ) (f : ℕ → ℕ) → ((i : ℕ) → i < n → IsBit (f i)) → sum_below n f ≡ 1 → One n f
+one_of_sum zero f bits one = absurd (omega (arith, sum_below-zero f))
+one_of_sum (suc n) f bits one = elim (bit_cases (f n) (bits n (omega arith))) [
+  | inl none ↦
+      let rest = one_of_sum n f (λ i h. bits i (omega arith)) (omega (arith, sum_below-suc n f)) in
+      let inside = rest.within in
+      record {
+        number = rest.number;
+        within = omega arith;
+        hot = rest.hot;
+        cold = λ i h apart. elim (cases_eq i n) [ inl last ↦ ap f last ∙ none | inr before ↦ rest.cold i (omega arith) apart ];
+      }
+  | inr last ↦ record {
+    number = n;
+    within = omega arith;
+    hot = last;
+    cold = λ i h apart. sum_none n f (omega (arith, sum_below-suc n f)) i (omega arith);
+  }
+]
+
+plain : (n : ℕ) → 1 * n ≡ n
+plain n = omega arith
+
+-- the row, from its bits and their sum
+row_of : (z : List ℕ) (first : ℕ) → Assigns z → ((i : ℕ) → i < 29 → IsBit (slice_index z (first + i))) → value (row_sum first 29) z ≡ 1
+    → One 29 (λ i. slice_index z (first + i))
+row_of z first assigns bits sum =
+    let f : ℕ → ℕ = λ i. slice_index z (first + i) in
+    let same = sum_below-same 29 (λ i. 1 * f i) f (λ i h. plain (f i)) in
+    one_of_sum 29 f bits (omega (arith, value-weighted first 29 (λ _. 1) z, sum, same, sum_small 29 f bits))
+
+-- ---- the numbers of the first word: v below the opcode k
+module _ (w : ℕ) (width : IsWidth w) (v k : ℕ) (low : v < 2 ^ (w - 5)) (high : k < 32) where
+  whole_below : v + k * 2 ^ (w - 5) < 2 ^ w
+  whole_below = grind arith
+
+  whole_op : field (w - 5) 5 (v + k * 2 ^ (w - 5)) ≡ k
+  whole_op = grind arith
+
+  whole_imm : field (w - 6) 1 (v + k * 2 ^ (w - 5)) ≡ field (w - 6) 1 v
+  whole_imm = grind arith
+
+  whole_dest : field (w - 10) 4 (v + k * 2 ^ (w - 5)) ≡ field (w - 10) 4 v
+  whole_dest = grind arith
+
+  whole_source : field (w - 14) 4 (v + k * 2 ^ (w - 5)) ≡ field (w - 14) 4 v
+  whole_source = grind arith
+
+whole_again : (w : ℕ) → IsWidth w → (h : ℕ) → h < 2 ^ w → h % 2 ^ (w - 5) + field (w - 5) 5 h * 2 ^ (w - 5) ≡ h
+whole_again w width h small = grind arith
+
+-- ---- groups of opcodes
+abbrev flag : Bool → ℕ
+flag b = if b then 1 else 0
+
+wire_here : (z : List ℕ) (first op k : ℕ) → IsOpcodeRow z first op → k ≡ op → slice_index z (first + place k) ≡ 1
+wire_here z first op k is same = ap (λ n. slice_index z (first + place n)) same ∙ is.row.hot
+
+wire_there : (z : List ℕ) (first op k : ℕ) → IsOpcodeRow z first op → is_used k ≡ true → k ≢ op → slice_index z (first + place k) ≡ 0
+wire_there z first op k is u apart =
+    is.row.cold (place k) (place_below k u) (λ same. apart (sym (at_place k u) ∙ ap opcode_at same ∙ at_place op is.used))
+
+pub opcode_wire : OpcodeWireIsRight
+opcode_wire z first op k is u = elim (cases_eq k op) [
+  | inl same ↦ wire_here z first op k is same ∙ sym (ap flag (eq-eqb k op same))
+  | inr apart ↦ wire_there z first op k is u apart ∙ sym (none_at k op apart)
+]
+  where
+    none_at : (a b : ℕ) → a ≢ b → flag (a == b) ≡ 0
+    none_at a b apart = grind (arith, nat_tests)
+
+cold_sum : (c n v : ℕ) → n ≡ 0 → v < P → (c * n + v) % P ≡ v
+cold_sum c n v e h = rw e (omega arith)
+
+hot_sum : (c n v : ℕ) → c < P → n ≡ 1 → v ≡ 0 → (c * n + v) % P ≡ c
+hot_sum c n v h e f = rw (e, f) (omega arith)
+
+abbrev chosen_if : ℕ → Bool → ℕ
+chosen_if c b = if b then c else 0
+
+pub group_right : GroupIsRight
+group_right z c first op [] small is parts = refl
+group_right z c first op (j ∷ js) small is parts =
+    let split = and_parts (is_used j && not (among js j)) (distinct js) parts in
+    let here = and_parts (is_used j) (not (among js j)) split.0 in
+    value-cons c (first + place j) (group_times c first js) z ∙ by_test (j == op) refl here (group_right z c first op js small is split.1)
+  where
+    by_test : (t : Bool) → (j == op) ≡ t → (is_used j ≡ true) × (not (among js j) ≡ true) → value (group_times c first js) z ≡ chosen_if c (among js op)
+        → (c * slice_index z (first + place j) + value (group_times c first js) z) % P ≡ chosen_if c (among (j ∷ js) op)
+    by_test true t here rest =
+        let same : j ≡ op = eqb-true j op t in
+        let none : among js op ≡ false = ap (among js) (sym same) ∙ not-true (among js j) here.1 in
+        hot_sum c (slice_index z (first + place j)) (value (group_times c first js) z) small (wire_here z first op j is same) (rest ∙ ap (chosen_if c) none)
+        ∙ sym (ap (λ b. chosen_if c (if b then true else among js op)) t)
+    by_test false t here rest =
+        cold_sum c (slice_index z (first + place j)) (value (group_times c first js) z) (wire_there z first op j is here.0 (eqb-false j op t)) (value-below (group_times c first js) z) ∙ rest
+        ∙ sym (ap (λ b. chosen_if c (if b then true else among js op)) t)
+
+-- ---- the first word's combination
+zero_both : (a b : ℕ) → 0 * a * b ≡ 0
+zero_both a b = ap (λ n. n * b) (zero-mul a) ∙ zero-mul b
+
+module _ (z : List ℕ) (w : ℕ) (width : IsWidth w) (low op v p : ℕ) (s : Spells z low (w - 5) v) (row : IsOneHot z op 29 p) where
+  weight_small : opcode_weight w p < P
+  weight_small = let h = at_below p row.within in grind arith
+
+  short : w - 5 ≤ 63
+  short = omega arith
+
+  sum_weights : sum_below 28 (λ i. opcode_weight w (i + 1) * slice_index z (op + 1 + i)) ≡ opcode_weight w p
+  sum_weights =
+      let g : ℕ → ℕ = λ i. opcode_weight w i * slice_index z (op + i) in
+      let all = sum_below-single 29 p g row.within (λ i h apart. ap (λ n. opcode_weight w i * n) (row.cold i h apart) ∙ mul-zero (opcode_weight w i)) in
+      let here : g p ≡ opcode_weight w p = ap (λ n. opcode_weight w p * n) row.hot ∙ mul-one (opcode_weight w p) in
+      let cut = sum_below-add 1 28 g in
+      let none : sum_below 1 g ≡ 0 = sum_below-zeros 1 g (λ i h. first_none i h) in
+      let moved = sum_below-same 28 (λ i. opcode_weight w (i + 1) * slice_index z (op + 1 + i)) (λ i. g (1 + i)) (λ i h. ap₂ (λ a b. opcode_weight w a * slice_index z b) (one_more i) (one_past i)) in
+      omega (arith, moved, cut, none, all, here)
+    where
+      first_none : (i : ℕ) → i < 1 → opcode_weight w i * slice_index z (op + i) ≡ 0
+      first_none i h = let zero_i : i ≡ 0 = omega arith in ap (λ n. opcode_weight w n * slice_index z (op + i)) zero_i
+          ∙ zero_both (2 ^ (w - 5)) (slice_index z (op + i))
+
+      one_more : (i : ℕ) → i + 1 ≡ 1 + i
+      one_more i = omega arith
+
+      one_past : (i : ℕ) → op + 1 + i ≡ op + (1 + i)
+      one_past i = omega arith
+
+  pub value-head : value (head_of w low op) z ≡ v + opcode_weight w p
+  value-head =
+      let number = value-bits_below s short in
+      let weights = value-weighted (op + 1) 28 (λ j. opcode_weight w (j + 1)) z ∙ ap (λ n. n % P) sum_weights in
+      let below = Spells-below s in
+      let op_below = at_below p row.within in
+      let fits : v + opcode_weight w p < 2 ^ w = whole_below w width v (opcode_at p) below op_below in
+      let word : 2 ^ w < P = grind arith in
+      value-append (bits_combination low (w - 5)) (weighted (op + 1) 28 (λ j. opcode_weight w (j + 1))) z ∙ ap₂ (λ a b. (a + b) % P) number weights
+      ∙ joined v (opcode_weight w p) (omega (arith, fits, word))
+    where
+      joined : (a b : ℕ) → a + b < P → (a + b % P) % P ≡ a + b
+      joined a b h = omega arith
+
+-- ---- what two words and their row say of the wires
+reg_spelled : (z : List ℕ) (w : ℕ) → IsWidth w → (first a : ℕ) → Spells z first w a → Spells z (first + 0) 4 (a % 16)
+reg_spelled z w width first a r =
+    let same : first ≡ first + 0 = omega arith in
+    let size : w ≡ 4 + (w - 4) = omega arith in
+    subst (λ k. Spells z k 4 (a % 16)) same (Spells-low z first 4 (w - 4) a (subst (λ n. Spells z first n a) size r))
+
+by_parity : (n : ℕ) → n < 2 → n ≡ (if n == 1 then 1 else 0)
+by_parity n small = elim (bit_cases n small) [ inl none ↦ rw none refl | inr one ↦ rw one refl ]
+
+module _ (z : List ℕ) (w : ℕ) (width : IsWidth w) (made : InstructionWires) (v p a : ℕ) (low : Spells z made.low.first (w - 5) v) (row : IsOneHot z made.op 29 p) (second : Spells z made.second.first w a) where
+  abbrev h : ℕ
+  h = v + opcode_weight w p
+
+  decoded : slice_index z made.head ≡ h → slice_index z made.tail ≡ a → IsDecoded z w made h a
+  decoded head tail =
+      let below = Spells-below low in
+      let k = opcode_at p in
+      let op_below = at_below p row.within in
+      let op = whole_op w width v k below op_below in
+      let used : is_used k ≡ true = at_used p row.within in
+      let row_at : IsOneHot z made.op 29 (place k) = subst (IsOneHot z made.op 29) (sym (place_at p row.within)) row in
+      let bit = Spells-bit_at low (w - 6) (omega arith) in
+      let imm_small : field (w - 6) 1 h < 2 = omega arith in
+      let dest = value-bits_below (field_spelled z (w - 5) made.low.first (w - 10) 4 1 v (omega arith) low) (omega arith) in
+      let source = value-bits_below (field_spelled z (w - 5) made.low.first (w - 14) 4 5 v (omega arith) low) (omega arith) in
+      record {
+        head_word = whole_below w width v k below op_below;
+        tail_word = Spells-below second;
+        head = head;
+        tail = tail;
+        opcode = subst (IsOpcodeRow z made.op) (sym op) (record { used = used; row = row_at });
+        imm = bit ∙ sym (whole_imm w width v k below op_below) ∙ by_parity (field (w - 6) 1 h) imm_small;
+        dest = dest ∙ sym (whole_dest w width v k below op_below);
+        source = source ∙ sym (whole_source w width v k below op_below);
+        register = value-bits_below (reg_spelled z w width made.second.first a second) (omega arith);
+        second = second;
+      }
+
+-- ---- the circuit
+one_times : (n : ℕ) → n < P → n * (1 % P) % P ≡ 1 % P → n ≡ 1
+one_times n h e = omega arith
+
+pub instruction_sound : InstructionIsSound
+unfolding instruction_of new_bits_of here pure put ◌>>=◌
+instruction_sound w width z next assigns meets =
+    let low = new_bits_of (w - 5) next in
+    let row = new_bits_of 29 low.next in
+    let second = new_bits_of w row.next in
+    let m1 = Meets-split z low.list _ meets in
+    let m2 = Meets-split z row.list _ m1.1 in
+    let m3 = Meets-split z second.list _ m2.1 in
+    let sum = value-below (row_sum low.next 29) z in
+    let ones = m3.1.0 in
+    let head_at = second.next in
+    let m4 = Meets-split z (kept_of (head_of w next low.next) head_at).list _ m3.1.1 in
+    let tail_at = (kept_of (head_of w next low.next) head_at).next in
+    let m5 = Meets-split z (kept_of (bits_combination row.next w) tail_at).list _ m4.1 in
+    let v = spelled z next (w - 5) in
+    let a = spelled z row.next w in
+    let low_spells : Spells z next (w - 5) v = bits_spell z (w - 5) next assigns m1.0 in
+    let second_spells : Spells z row.next w a = bits_spell z w row.next assigns m3.0 in
+    let row_bits = (bits_spell z 29 low.next assigns m2.0).bits in
+    let product = ap (λ n. value (row_sum low.next 29) z * n % P) (sym (value-constant assigns 1)) ∙ ones ∙ value-constant assigns 1 in
+    let one = row_of z low.next assigns row_bits (one_times (value (row_sum low.next 29) z) sum product) in
+    let is : IsOneHot z low.next 29 one.number = record { within = one.within; hot = one.hot; cold = one.cold } in
+    let head = kept_sound z head_at (head_of w next low.next) assigns m4.0 ∙ value-head z w width next low.next v one.number low_spells is in
+    let tail = kept_sound z tail_at (bits_combination row.next w) assigns m5.0 ∙ value-bits_below second_spells (omega arith) in
+    let made = (instruction_of w next).answer in
+    let all = decoded z w width made v one.number a low_spells is second_spells head tail in
+    rw (head, tail) all
+
+-- what is had after some values of a known number
+had_after : (z : List ℕ) (at next n : ℕ) (xs rest : List ℕ) → length xs ≡ n → next ≡ at + n → HasFrom z at (xs ++ rest) → HasFrom z at xs × HasFrom z next rest
+had_after z at next n xs rest size place has =
+    let split = HasFrom-split z at xs rest has in
+    (split.0, subst (λ k. HasFrom z k rest) (ap (λ k. at + k) size ∙ sym place) split.1)
+
+one_at-bit : (v i : ℕ) → one_at v i < 2
+one_at-bit v i = grind (arith, nat_tests)
+
+pub instruction_met : (w : ℕ) → IsWidth w → (z : List ℕ) (next head tail : ℕ) → Assigns z → head < 2 ^ w → tail < 2 ^ w → is_used (decode w head tail).op ≡ true
+    → HasFrom z next (instruction_values w head tail)
+    → Meets z (instruction_of w next).list × ((slice_index z (instruction_of w next).answer.head ≡ head) × (slice_index z (instruction_of w next).answer.tail ≡ tail))
+unfolding instruction_of new_bits_of here pure put ◌>>=◌
+instruction_met w width z next head tail assigns head_word tail_word used has =
+    let low = new_bits_of (w - 5) next in
+    let row = new_bits_of 29 low.next in
+    let second = new_bits_of w row.next in
+    let k = field (w - 5) 5 head in
+    let v = head % 2 ^ (w - 5) in
+    let p = place k in
+    let words : List ℕ = bits_values tail w ++ head ∷ tail ∷ [] in
+    let h1 = had_after z next low.next (w - 5) (bits_values v (w - 5)) (opcode_values k ++ words) (length-bits v (w - 5)) (new_bits_next (w - 5) next) has in
+    let h2 = had_after z low.next row.next 29 (opcode_values k) words (length-each_below 29 (one_at p)) (new_bits_next 29 low.next) h1.1 in
+    let h3 = had_after z row.next second.next w (bits_values tail w) (head ∷ tail ∷ []) (length-bits tail w) (new_bits_next w row.next) h2.1 in
+    let each = has_each z low.next 29 (one_at p) h2.0 in
+    let within = place_below k used in
+    let is : IsOneHot z low.next 29 p = record {
+      within = within;
+      hot = each p within ∙ one_at-same p;
+      cold = λ i h apart. each i h
+          ∙ one_at-other p i apart;
+    } in
+    let v_below : v < 2 ^ (w - 5) = mod-lt head (pow_pos (w - 5)) in
+    let low_spells = Spells-from_values z next (w - 5) v v_below h1.0 in
+    let second_spells = Spells-from_values z row.next w tail tail_word h3.0 in
+    let m1 = new_bits_complete z next (w - 5) v assigns h1.0 in
+    let m2 = bits_met z 29 low.next assigns (λ i h. subst IsBit (sym (each i h)) (one_at-bit p i)) in
+    let m3 = new_bits_complete z row.next w tail assigns h3.0 in
+    let one : value (row_sum low.next 29) z ≡ 1 % P = value-onehot z low.next 29 p (λ _. 1) is in
+    let ones = ap₂ (λ a b. a * b % P) one (value-constant assigns 1) ∙ sym (value-constant assigns 1) in
+    let same : v + opcode_weight w p ≡ head = ap (λ n. v + n * 2 ^ (w - 5)) (at_place k used) ∙ whole_again w width head head_word in
+    let m4 = kept_complete z second.next (head_of w next low.next) assigns (h3.1.0 ∙ sym (value-head z w width next low.next v p low_spells is ∙ same), tt) in
+    let m5 = kept_complete z (kept_of (head_of w next low.next) second.next).next (bits_combination row.next w) assigns (tail_had z second.next (head_of w next low.next) tail h3.1.1.0 ∙ sym (value-bits_below second_spells (omega arith)), tt) in (
+      Meets-join z low.list _ m1 (Meets-join z row.list _ m2 (Meets-join z second.list _ m3 (ones, Meets-join z (kept_of (head_of w next low.next) second.next).list _ m4 (Meets-join z (kept_of (bits_combination row.next w) _).list _ m5 tt)))),
+      (
+        ap (slice_index z) (kept_answer (head_of w next low.next) second.next) ∙ h3.1.0,
+        ap (slice_index z) (kept_answer (bits_combination row.next w) (kept_of (head_of w next low.next) second.next).next)
+            ∙ tail_had z second.next (head_of w next low.next) tail h3.1.1.0,
+      ),
+    )
+  where
+    tail_had : (z : List ℕ) (at : ℕ) (x : Combination) (tail : ℕ) → slice_index z (at + 1) ≡ tail → slice_index z (kept_of x at).next ≡ tail
+    tail_had z at x tail e = ap (slice_index z) (kept_next x at) ∙ e
+
+pub instruction_complete : InstructionIsComplete
+instruction_complete w width z next head tail assigns head_word tail_word used has =
+    let met = instruction_met w width z next head tail assigns head_word tail_word used has in
+    let sound = instruction_sound w width z next assigns met.0 in
+    (met.0, subst (λ a. IsDecoded z w (instruction_of w next).answer head a) met.1.1 (subst (λ h. IsDecoded z w (instruction_of w next).answer h (slice_index z (instruction_of w next).answer.tail)) met.1.0 sound))
+
+-- ---- where the circuit ends, and what it answers
+abbrev wires_at : ℕ → ℕ → ℕ → ℕ → ℕ → ℕ → InstructionWires
+wires_at w first op second head tail = record { low = record { first = first; n = w - 5 }; op = op; second = record { first = second; n = w }; head = head; tail = tail }
+
+pub instruction_end : (w : ℕ) → IsWidth w → (next : ℕ) → (instruction_of w next).next ≡ next + (2 * w + 26)
+unfolding instruction_of here pure put ◌>>=◌
+instruction_end w width next =
+    let low = new_bits_of (w - 5) next in
+    let row = new_bits_of 29 low.next in
+    let second = new_bits_of w row.next in
+    let head = kept_of (head_of w low.answer.first row.answer.first) second.next in
+    omega (
+      arith,
+      new_bits_next (w - 5) next,
+      new_bits_next 29 low.next,
+      new_bits_next w row.next,
+      kept_next (head_of w low.answer.first row.answer.first) second.next,
+      kept_next (number_of second.answer) head.next,
+    )
+
+pub instruction_answer : (w next : ℕ) → (instruction_of w next).answer ≡ instruction_wires w next
+unfolding instruction_of new_bits_of here pure put ◌>>=◌
+instruction_answer w next =
+    let low = new_bits_of (w - 5) next in
+    let row = new_bits_of 29 low.next in
+    let second = new_bits_of w row.next in
+    let e1 : low.next ≡ next + (w - 5) = new_bits_next (w - 5) next in
+    let e2 : row.next ≡ next + (w - 5) + 29 = new_bits_next 29 low.next ∙ ap (λ n. n + 29) e1 in
+    let e3 : second.next ≡ next + (w - 5) + 29 + w = new_bits_next w row.next ∙ ap (λ n. n + w) e2 in
+    let e4 = kept_next (head_of w next low.next) second.next ∙ ap (λ n. n + 1) e3 in
+    all_wires w next e1 e2 (kept_answer (head_of w next low.next) second.next
+    ∙ e3) (kept_answer (bits_combination row.next w) (kept_of (head_of w next low.next) second.next).next ∙ e4)
+  where
+    all_wires : (w first : ℕ) {op second head tail a b c d : ℕ} → op ≡ a → second ≡ b → head ≡ c → tail ≡ d
+        → wires_at w first op second head tail ≡ wires_at w first a b c d
+    all_wires w first e f g h = rw (e, f, g, h) refl
+
+length-instruction : (w : ℕ) → IsWidth w → (head tail : ℕ) → length (instruction_values w head tail) ≡ 2 * w + 26
+length-instruction w width head tail =
+    let v = head % 2 ^ (w - 5) in
+    let k = field (w - 5) 5 head in
+    let words : List ℕ = bits_values tail w ++ head ∷ tail ∷ [] in
+    omega (
+      arith,
+      length-append (bits_values v (w - 5)) (opcode_values k ++ words),
+      length-append (opcode_values k) words,
+      length-append (bits_values tail w) (head ∷ tail ∷ []),
+      length-bits v (w - 5),
+      length-each_below 29 (one_at (place k)),
+      length-bits tail w,
+    )
+
+instruction_in_field : (w : ℕ) → IsWidth w → (head tail : ℕ) → head < 2 ^ w → tail < 2 ^ w → InField (instruction_values w head tail)
+instruction_in_field w width head tail hs ts =
+    let v = head % 2 ^ (w - 5) in
+    let k = field (w - 5) 5 head in
+    let words : List ℕ = bits_values tail w ++ head ∷ tail ∷ [] in
+    let word : 2 ^ w < P = grind arith in
+    let both = InField-cons head (tail ∷ []) (omega (arith, hs, word)) (InField-cons tail [] (omega (arith, ts, word)) InField-none) in
+    let last = InField-append (bits_values tail w) (head ∷ tail ∷ []) (bits_in_field tail w) both in
+    let row = InField-each_below (one_at (place k)) (λ i. let bit = one_at-bit (place k) i in omega arith) 29 in
+    InField-append (bits_values v (w - 5)) (opcode_values k ++ words) (bits_in_field v (w - 5)) (InField-append (opcode_values k) words row last)
+
+pub instruction_sizes : InstructionSizes
+instruction_sizes = record {
+  answer = instruction_answer;
+  end = instruction_end;
+  fills = λ w width head tail next. instruction_end w width next ∙ ap (λ k. next + k) (sym (length-instruction w width head tail));
+  in_field = instruction_in_field;
+}
+
+-- ---- how many constraints and terms
+instruction_constraints : (w : ℕ) → IsWidth w → (next : ℕ) → length (instruction_of w next).list ≡ 2 * w + 27
+unfolding instruction_of new_bits_of new_bit bit_of times_of turns here fresh put pure ◌>>=◌
+instruction_constraints w width next = for_widths (λ w. length (instruction_of w next).list ≡ 2 * w + 27) refl refl w width
+
+instruction_terms : (w : ℕ) → IsWidth w → (next : ℕ) → terms_in (instruction_of w next).list ≡ 8 * w + 130
+unfolding instruction_of new_bits_of new_bit bit_of times_of turns here fresh put pure ◌>>=◌ weighted
+instruction_terms w width next = for_widths (λ w. terms_in (instruction_of w next).list ≡ 8 * w + 130) refl refl w width
+
+pub instruction_costs : InstructionCosts
+instruction_costs = record { constraints = instruction_constraints; terms = instruction_terms }

@@ -1,0 +1,70 @@
+use Rattle.std.proofs.Common.{◌∙◌}
+use Rattle.tv_core.proofs.Chain.{chain, refused}
+use Rattle.tv_decode.proofs.InstructionLaws.{instruction_answer}
+use Rattle.tv_decode.specs.Instructions.{instruction_of}
+use Rattle.tv_decode.proofs.instructions.instruction.Goals as goal
+
+pub returns-in_err-low-clause-puts : goal.returns-in_err-low-clause-puts
+unfolding instruction_of
+returns-in_err-low-clause-puts g c =
+    let low = c.in_err-low.ensures.puts in
+    refused g.S.Sink.meaning _ _ _ c.from_residual.result c.from_residual.ensures.1 (search (chain, low) depth 4)
+
+pub returns-in_err-row-clause-puts : goal.returns-in_err-row-clause-puts
+unfolding instruction_of
+returns-in_err-row-clause-puts g c =
+    let low = c.in_ok-low.ensures.puts in
+    let row = c.in_err-row.ensures.puts in
+    refused g.S.Sink.meaning _ _ _ c.from_residual-in_err-row.result c.from_residual-in_err-row.ensures.1 (search (chain, low, row) depth 5)
+
+pub returns-in_err-second-clause-puts : goal.returns-in_err-second-clause-puts
+unfolding instruction_of
+returns-in_err-second-clause-puts g c =
+    let low = c.in_ok-low.ensures.puts in
+    let row = c.in_ok-row.ensures.puts in
+    let second = c.in_err-second.ensures.puts in
+    refused g.S.Sink.meaning _ _ _ c.from_residual-in_err-second.result c.from_residual-in_err-second.ensures.1 (search (chain, low, row, second) depth 6)
+
+pub returns-in_err-one_opcode-clause-puts : goal.returns-in_err-one_opcode-clause-puts
+unfolding instruction_of
+returns-in_err-one_opcode-clause-puts g c =
+    let low = c.in_ok-low.ensures.puts in
+    let row = c.in_ok-row.ensures.puts in
+    let second = c.in_ok-second.ensures.puts in
+    let one_opcode = c.in_err-one_opcode.ensures.puts in
+    refused g.S.Sink.meaning _ _ _ c.from_residual-in_err-one_opcode.result c.from_residual-in_err-one_opcode.ensures.1 (search (chain, low, row, second, one_opcode) depth 7)
+
+pub returns-in_err-head-clause-puts : goal.returns-in_err-head-clause-puts
+unfolding instruction_of
+returns-in_err-head-clause-puts g c =
+    let low = c.in_ok-low.ensures.puts in
+    let row = c.in_ok-row.ensures.puts in
+    let second = c.in_ok-second.ensures.puts in
+    let one_opcode = c.in_ok-one_opcode.ensures.puts in
+    let head = rw (c.plus_opcodes.ensures.terms, c.fill.ensures.terms, c.in_ok-low.ensures.size) at c.in_err-head.ensures.puts in
+    refused g.S.Sink.meaning _ _ _ c.from_residual-in_err-head.result c.from_residual-in_err-head.ensures.1 (search (chain, low, row, second, one_opcode, head) depth 8)
+
+pub returns-in_err-tail-clause-puts : goal.returns-in_err-tail-clause-puts
+unfolding instruction_of
+returns-in_err-tail-clause-puts g c =
+    let low = c.in_ok-low.ensures.puts in
+    let row = c.in_ok-row.ensures.puts in
+    let second = c.in_ok-second.ensures.puts in
+    let one_opcode = c.in_ok-one_opcode.ensures.puts in
+    let head = rw (c.plus_opcodes.ensures.terms, c.fill.ensures.terms, c.in_ok-low.ensures.size) at c.in_ok-head.ensures.puts in
+    let tail = rw (c.fill-2.ensures.terms) at c.in_err-tail.ensures.puts in
+    refused g.S.Sink.meaning _ _ _ c.from_residual-in_err-tail.result c.from_residual-in_err-tail.ensures.1 (search (chain, low, row, second, one_opcode, head, tail) depth 9)
+
+pub returns-clause-puts : goal.returns-clause-puts
+unfolding instruction_of
+returns-clause-puts g c =
+    let low = c.in_ok-low.ensures.puts in
+    let row = c.in_ok-row.ensures.puts in
+    let second = c.in_ok-second.ensures.puts in
+    let one_opcode = c.in_ok-one_opcode.ensures.puts in
+    let head = rw (c.plus_opcodes.ensures.terms, c.fill.ensures.terms, c.in_ok-low.ensures.size) at c.in_ok-head.ensures.puts in
+    let tail = rw (c.fill-2.ensures.terms) at c.in_ok-tail.ensures.puts in
+    search (chain, low, row, second, one_opcode, head, tail) depth 10
+
+pub returns-clause-places : goal.returns-clause-places
+returns-clause-places g c = (returns-clause-puts g c).answers ∙ instruction_answer g.row.W _
