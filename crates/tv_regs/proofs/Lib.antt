@@ -3,3 +3,7 @@ pub mod ChoiceLaws
 pub mod Gates
 pub mod ReadLaws
 pub mod WriteLaws
+pub mod TripleLaws
+pub mod TripleNumbers
+pub mod UpdateLaws
+mod Inverses

@@ -32,7 +32,7 @@ use Rattle.tv_bits.proofs.SelectLaws.{times_one, times_zero}
 
 -- ---- the sums of the registers before and after
 -- sums that differ at one number
-sum_apart : (n k : ℕ) (f g : ℕ → ℕ) → k < n → ((j : ℕ) → j < n → j ≢ k → f j ≡ g j) → sum_below n f + g k ≡ sum_below n g + f k
+pub sum_apart : (n k : ℕ) (f g : ℕ → ℕ) → k < n → ((j : ℕ) → j < n → j ≢ k → f j ≡ g j) → sum_below n f + g k ≡ sum_below n g + f k
 sum_apart zero k f g h same = absurd (omega arith)
 sum_apart (suc n) k f g h same = elim (cases_eq k n) [
   | inl last ↦
@@ -44,7 +44,7 @@ sum_apart (suc n) k f g h same = elim (cases_eq k n) [
       omega (arith, sum_below-suc n f, sum_below-suc n g)
 ]
 
-value-regs_sum : (z : List ℕ) (regs : List ℕ) → value (regs_sum regs) z ≡ sum_below 16 (λ j. 1 * slice_index z (slice_index regs j)) % P
+pub value-regs_sum : (z : List ℕ) (regs : List ℕ) → value (regs_sum regs) z ≡ sum_below 16 (λ j. 1 * slice_index z (slice_index regs j)) % P
 unfolding each_below sum_below
 value-regs_sum z regs = ap (λ k. k % P) (sum_by-map {Y = ℕ × ℕ} (λ t. t.0 * slice_index z t.1) (λ j. (1, slice_index regs j)) (range_with_len 0 16))
 
@@ -116,11 +116,11 @@ pub length-written : (on : Bool) (x i : ℕ) (words : List ℕ) → length (writ
 length-written true x i words = length-set words i x
 length-written false x i words = refl
 
-written_other : (on : Bool) (x i j : ℕ) (words : List ℕ) → j ≢ i → slice_index (written_regs on x i words) j ≡ slice_index words j
+pub written_other : (on : Bool) (x i j : ℕ) (words : List ℕ) → j ≢ i → slice_index (written_regs on x i words) j ≡ slice_index words j
 written_other true x i j words apart = get_or-set_other words i j x 0 apart
 written_other false x i j words apart = refl
 
-written_here : (on : Bool) (x i : ℕ) (words : List ℕ) → i < length words → slice_index (written_regs on x i words) i ≡ (if on then x else slice_index words i)
+pub written_here : (on : Bool) (x i : ℕ) (words : List ℕ) → i < length words → slice_index (written_regs on x i words) i ≡ (if on then x else slice_index words i)
 written_here true x i words h = get_or-set_same words i x 0 h
 written_here false x i words h = refl
 
@@ -157,7 +157,7 @@ write_reg_sound z next sel on x regs i size assigns row bit meets =
     ])
 
 -- what an assignment has at one place of a list
-has_at : (z : List ℕ) (first : ℕ) (xs : List ℕ) → HasFrom z first xs → (j : ℕ) → j < length xs → slice_index z (first + j) ≡ slice_index xs j
+pub has_at : (z : List ℕ) (first : ℕ) (xs : List ℕ) → HasFrom z first xs → (j : ℕ) → j < length xs → slice_index z (first + j) ≡ slice_index xs j
 has_at z first [] has j h = absurd (omega arith)
 has_at z first (x ∷ xs) has zero h = ap (λ k. slice_index z k) (add-zero first) ∙ has.0
 has_at z first (x ∷ xs) has (suc j) h =

@@ -1,3 +1,5 @@
 pub mod Choices
 pub mod Reading
 pub mod Writing
+pub mod Triple
+pub mod Update

@@ -7,6 +7,8 @@
 mod choices;
 mod reading;
 mod tables;
+mod triple;
+mod update;
 mod writing;
 
 pub use choices::{
@@ -17,6 +19,14 @@ pub use reading::{
     fill_read_reg, read_reg, read_reg_by, read_reg_fills, read_reg_is_complete, read_reg_is_sound,
 };
 pub use tables::WireEntry;
+pub use triple::{
+    Names, Triple, fill_triple, read_triple, triple_costs, triple_fills, triple_is_complete,
+    triple_is_sound,
+};
+pub use update::{
+    Write, fill_update, update_costs, update_fills, update_is_complete, update_is_sound,
+    update_register,
+};
 pub use writing::{
     fill_write_reg, wires_from, write_reg, write_reg_by, write_reg_fills, write_reg_is_complete,
     write_reg_is_sound,

@@ -97,7 +97,7 @@ fn tie<S: Sink>(
 }
 
 // Makes `lc` the sum of the registers.
-fn set_sum(lc: &mut Lc, regs: &[Wire; 16])
+pub(crate) fn set_sum(lc: &mut Lc, regs: &[Wire; 16])
     ensures terms { lc.new ≡ regs_sum regs.now }
     ensures len { length lc.new ≡ 16 }
     ensures top { top lc.new ≤ wires_top regs.now }
@@ -135,7 +135,7 @@ pub fn fill_write_reg<V: Values>(v: &mut V, sel: u32, on: bool, x: u32, regs: &[
 }
 
 // The registers after a write.
-fn written_regs(on: bool, x: u32, sel: u32, regs: &[u32; 16]) -> [u32; 16]
+pub(crate) fn written_regs(on: bool, x: u32, sel: u32, regs: &[u32; 16]) -> [u32; 16]
     requires within { sel < 16 }
     ensures { result ≡ written_regs on x sel regs.now }
 {

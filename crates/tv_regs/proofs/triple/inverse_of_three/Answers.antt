@@ -1,0 +1,10 @@
+use Rattle.std.proofs.Common.{◌*◌, ◌%◌, ◌∙◌, ap₂}
+use Rattle.tv_core.specs.declared.field.TheConstants.{P}
+use Rattle.tv_regs.proofs.Inverses.{inverse_product}
+use Rattle.tv_regs.specs.Triple.{minus}
+use Rattle.tv_regs.proofs.triple.inverse_of_three.Goals as goal
+
+pub returns : goal.returns
+returns c =
+    c.mul.ensures ∙ ap₂ (λ x y. x * y % P) c.inverse_of_two.ensures c.inverse_difference.ensures
+    ∙ inverse_product (minus c.args.n c.args.o * minus c.args.n c.args.b % P) (minus c.args.n c.args.d)

@@ -1,0 +1,62 @@
+use Rattle.std.proofs.Common.{◌≡◌, ℕ, ◌<◌, length, arith}
+use Rattle.std.proofs.lemmas.Grind.{get_or_default_zero}
+use Rattle.tv_core.proofs.Chain.{chain, puts_no_turn, puts_turn, turn_refused, refused}
+use Rattle.tv_core.proofs.LoopLaws.{puts_here_as}
+use Rattle.tv_core.specs.Circuits.{Circuit}
+use Rattle.tv_regs.proofs.Gates.{wires_top-at}
+use Rattle.tv_regs.specs.Update.{stays_turn, update_of}
+use Rattle.tv_regs.proofs.update.update_register.Goals as goal
+
+pub loop-i-init : goal.loop-i-init
+loop-i-init g c = record {
+  puts = puts_no_turn g.S.Sink.meaning _ (λ i _. stays_turn c.args.write.now.dest c.args.regs.now i) tt;
+  grows = record { wires = omega arith; constraints = omega arith; whole = c.requires.room.whole };
+}
+
+pub loop-i-preserved : goal.loop-i-preserved
+loop-i-preserved g c =
+    let piece : ℕ → Unit {0} → Circuit (Unit {0}) = λ i _. stays_turn c.args.write.now.dest c.args.regs.now i in
+    let grown = c.in_ok-stays.ensures.grows in
+    let within : c.loop-i.i < length c.args.regs.now = omega arith in
+    let turn = rw (get_or_default_zero c.args.regs.now c.loop-i.i c.index-regs-i.result within) at c.in_ok-stays.ensures.puts in
+    record {
+      puts = puts_turn g.S.Sink.meaning _ piece tt _ _ _ _ _ c.loop-i.invariant.puts turn;
+      grows = record { wires = omega (arith, grown.wires); constraints = omega (arith, grown.constraints); whole = grown.whole };
+    }
+
+pub stays-requires-clause-reg_made : goal.stays-requires-clause-reg_made
+stays-requires-clause-reg_made g c =
+    let inside : c.loop-i.i < length c.args.regs.now = omega arith in
+    omega (arith, wires_top-at c.args.regs.now c.loop-i.i c.index-regs-i.result inside)
+
+pub returns-in_err-stays-clause-puts : goal.returns-in_err-stays-clause-puts
+unfolding update_of
+returns-in_err-stays-clause-puts g c =
+    let m = g.S.Sink.meaning in
+    let piece : ℕ → Unit {0} → Circuit (Unit {0}) = λ i _. stays_turn c.args.write.now.dest c.args.regs.now i in
+    let within : c.loop-i.i < 16 = omega arith in
+    let inside : c.loop-i.i < length c.args.regs.now = omega arith in
+    let stays = rw (get_or_default_zero c.args.regs.now c.loop-i.i c.index-regs-i.result inside) at c.in_err-stays.ensures.puts in
+    let first = puts_here_as m c.args.s.now c.wires.result c.wires.ensures in
+    let turn = turn_refused m 16 c.loop-i.i piece tt tt c.args.s.now c.loop-i.s c.stays.new.s c.in_err-stays.field-0.0 within c.loop-i.invariant.puts stays in
+    refused m _ _ _ c.from_residual.result c.from_residual.ensures.1 (search (chain, first, turn))
+
+pub returns-in_err-put-clause-puts : goal.returns-in_err-put-clause-puts
+unfolding update_of
+returns-in_err-put-clause-puts g c =
+    let m = g.S.Sink.meaning in
+    let all : c.loop-i.i ≡ 16 = omega arith in
+    let first = puts_here_as m c.args.s.now c.wires.result c.wires.ensures in
+    let turns = rw all at c.loop-i.invariant.puts in
+    let last = rw (c.set_wire.ensures.terms, c.set_rise.ensures.terms, c.set_sum_rise.ensures.terms, c.set_sum.ensures.terms) at c.in_err-put.ensures.puts in
+    refused m _ _ _ c.from_residual-in_err-put.result c.from_residual-in_err-put.ensures.1 (search (chain, first, turns, last))
+
+pub returns-clause-puts : goal.returns-clause-puts
+unfolding update_of
+returns-clause-puts g c =
+    let m = g.S.Sink.meaning in
+    let all : c.loop-i.i ≡ 16 = omega arith in
+    let first = puts_here_as m c.args.s.now c.wires.result c.wires.ensures in
+    let turns = rw all at c.loop-i.invariant.puts in
+    let last = rw (c.set_wire.ensures.terms, c.set_rise.ensures.terms, c.set_sum_rise.ensures.terms, c.set_sum.ensures.terms) at c.in_ok-put.ensures.puts in
+    rw c.wires_from.ensures.wires (search (chain, first, turns, last) depth 8)

@@ -1,0 +1,148 @@
+//! The registers, one of which is written by its number.
+ghost use Rattle.std.specs.Prelude.{◌≡◌, ◌+◌, ◌-◌, ◌++◌, ◌≤◌, ◌<◌, ◌^◌, false, length};
+ghost use Rattle.std.specs.Prelude.{max, IfOk, OnOk};
+ghost use Rattle.tv_bits.specs.OneHot.{row_sum};
+ghost use Rattle.tv_core.specs.Combinations.{scaled, top};
+ghost use Rattle.tv_core.specs.Giving.{GivesIn};
+ghost use Rattle.tv_core.specs.Sinks.{PutsIn, Grows, Room};
+ghost use Rattle.tv_core.specs.declared.field.TheConstants.{P};
+ghost use Rattle.tv_regs.specs.Reading.{wires_top};
+ghost use Rattle.tv_regs.specs.Update.{number_less, rise, stays_of, update_of, AreMade};
+ghost use Rattle.tv_regs.specs.Update.{UpdateIsSound, UpdateIsComplete, UpdateSizes};
+ghost use Rattle.tv_regs.specs.Update.{UpdateCosts};
+ghost use Rattle.tv_regs.specs.Writing.{written_regs};
+
+use crate::writing::{set_sum, wires_from, written_regs};
+use tv_bits::plus_row;
+use tv_core::{F, Lc, Put, Scratch, Sink, Values, Wire, give_words};
+
+/// The wires of a write to one register. Contracts see their numbers.
+#[derive(Clone, Copy, PartialEq, Eq, Debug)]
+pub struct Write {
+    /// 1 where the register is written, 0 where none is.
+    pub on: Wire,
+    /// The register's number.
+    pub dest: Wire,
+    /// The word that stands in the register.
+    pub word: Wire,
+    /// The word that is written.
+    pub value: Wire,
+}
+
+/// Constrains new registers: where `on` is 1, the register whose number `dest` holds becomes
+/// `value`, and where it is 0 none changes. It makes 16 wires and 17 constraints, of 98 terms.
+pub fn update_register<S: Sink>(
+    s: &mut S,
+    scratch: &mut Scratch,
+    write: &Write,
+    regs: &[Wire; 16],
+) -> Put<[Wire; 16]>
+    requires room { Room S.meaning s.old 16 17 }
+    requires made { AreMade (S.meaning.wires s.old) write.now }
+    requires regs_made { wires_top regs.now ≤ S.meaning.wires s.old }
+    ensures puts { PutsIn S.meaning s.old s.new
+        (update_of write.now.on write.now.dest write.now.word write.now.value regs.now) result }
+    ensures grows { IfOk result (λ _. Grows S.meaning s.old s.new 16 17) }
+    ensures below { IfOk result (λ made. wires_top made ≤ S.meaning.wires s.new) }
+{
+    let first = Wire(s.wires());
+    for i in 0..16 {
+        stays(s, scratch, write.dest, regs[i as usize], i)?;
+    }
+    set_sum(&mut scratch.a, regs);
+    set_sum_rise(&mut scratch.c, &scratch.a, first);
+    set_rise(&mut scratch.b, write.word, write.value);
+    scratch.a.set_wire(write.on);
+    s.put(&scratch.a, &scratch.b, &scratch.c)?;
+    Ok(wires_from(first))
+}
+
+// A wire that is the register, unless `dest` holds `i`.
+fn stays<S: Sink>(s: &mut S, scratch: &mut Scratch, dest: Wire, reg: Wire, i: u32) -> Put<()>
+    requires room { Room S.meaning s.old 1 1 }
+    requires within { i < 16 }
+    requires dest_made { dest < S.meaning.wires s.old }
+    requires reg_made { reg < S.meaning.wires s.old }
+    ensures puts { PutsIn S.meaning s.old s.new (stays_of dest reg i) result }
+    ensures grows { IfOk result (λ _. Grows S.meaning s.old s.new 1 1) }
+{
+    let new = s.fresh();
+    set_number_less(&mut scratch.a, dest, i);
+    set_rise(&mut scratch.b, reg, new);
+    scratch.c.clear();
+    s.put(&scratch.a, &scratch.b, &scratch.c)
+}
+
+// Makes `lc` the number that `dest` holds less `i`.
+fn set_number_less(lc: &mut Lc, dest: Wire, i: u32)
+    requires within { i < 16 }
+    ensures terms { lc.new ≡ number_less dest i }
+    ensures top { top lc.new ≤ dest + 1 }
+{
+    lc.clear();
+    if i > 0 {
+        lc.plus(-F::from(i), Wire(0));
+    }
+    lc.plus(F::ONE, dest);
+}
+
+// Makes `lc` the wire `new` less the wire `old`.
+fn set_rise(lc: &mut Lc, old: Wire, new: Wire)
+    ensures terms { lc.new ≡ rise old new }
+    ensures top { top lc.new ≡ max (old + 1) (new + 1) }
+{
+    lc.clear();
+    lc.plus(-F::ONE, old);
+    lc.plus(F::ONE, new);
+}
+
+// Makes `lc` the sum of sixteen wires that follow each other, less `sum`.
+fn set_sum_rise(lc: &mut Lc, sum: &Lc, first: Wire)
+    requires within { first + 16 < 2 ^ 32 }
+    requires short { length sum.now ≤ 64 }
+    ensures terms { lc.new ≡ scaled (P - 1) sum.now ++ row_sum first 16 }
+    ensures top { top lc.new ≤ max (top sum.now) (first + 16) }
+{
+    lc.clear();
+    lc.minus(sum);
+    plus_row(lc, first, 16);
+}
+
+/// Assigns the 16 values of the wires that `update_register` makes: the registers after the write
+/// of `x` to the one with this number, below 16.
+pub fn fill_update<V: Values>(v: &mut V, dest: u32, on: bool, x: u32, regs: &[u32; 16]) -> Put<()>
+    requires within { dest < 16 }
+    requires whole { V.giving.broken v.old ≡ false }
+    ensures gives { GivesIn V.giving v.old v.new (written_regs on x dest regs.now) result }
+    ensures whole { OnOk result (V.giving.broken v.new ≡ false) }
+{
+    give_words(v, &written_regs(on, x, dest, regs))
+}
+
+/// Where an assignment has a bit at `on`, the number of a register at `dest` and its word at
+/// `word`, and meets what `update_register` put, the wires that it answered hold the registers
+/// after the write.
+#[tactic(auto, using(crate::proofs::UpdateLaws::update_sound))]
+pub fn update_is_sound()
+    ensures { UpdateIsSound }
+{}
+
+/// Where an assignment has so, and the values that `fill_update` assigns, it meets what
+/// `update_register` put.
+#[tactic(auto, using(crate::proofs::UpdateLaws::update_complete))]
+pub fn update_is_complete()
+    ensures { UpdateIsComplete }
+{}
+
+/// Says which wires `update_register` answers and how many it makes, whatever the next wire is, and
+/// that `fill_update` assigns one value for each of them.
+#[tactic(auto, using(crate::proofs::UpdateLaws::update_sizes))]
+pub fn update_fills()
+    ensures { UpdateSizes }
+{}
+
+/// Says how many constraints and terms `update_register` puts.
+#[tactic(auto, using(crate::proofs::UpdateLaws::update_costs))]
+pub fn update_costs()
+    ensures { UpdateCosts }
+{}
