@@ -6,6 +6,12 @@
 #[cfg(test)]
 mod answers;
 #[cfg(test)]
+mod bit_rows;
+#[cfg(test)]
 mod gadgets;
 #[cfg(test)]
+mod rows;
+#[cfg(test)]
 mod sizes;
+#[cfg(test)]
+mod step_parts;
