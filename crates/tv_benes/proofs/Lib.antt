@@ -1,5 +1,7 @@
 pub mod Bounds
 pub mod ColumnChain
+pub mod CostLaws
+pub mod Measures
 pub mod Moved
 pub mod NetworkChain
 pub mod NetworkComplete

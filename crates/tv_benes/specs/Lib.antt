@@ -1,3 +1,4 @@
+pub mod Costs
 pub mod Items
 pub mod Network
 pub mod Places

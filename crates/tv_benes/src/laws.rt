@@ -1,4 +1,5 @@
 //! What is proved of networks, from the definitions.
+ghost use Rattle.tv_benes.specs.Costs.{NetworkIsCounted};
 ghost use Rattle.tv_benes.specs.Network.{NetworkIsSound, NetworkIsComplete, NetworkFills};
 ghost use Rattle.tv_benes.specs.Through.{NumbersArePermuted, PairsArePermuted, PlacesTell};
 
@@ -34,4 +35,10 @@ pub fn network_is_complete()
 #[tactic(auto, using(crate::proofs::Sizes::network_sizes))]
 pub fn network_fills()
     ensures { NetworkFills }
+{}
+
+/// A network costs five constraints a switch. A switch between items that are wires has 23 terms;
+/// in the first column, 11 and three for each term of its two items.
+pub fn network_is_counted()
+    ensures { NetworkIsCounted }
 {}

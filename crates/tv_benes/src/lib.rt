@@ -8,6 +8,7 @@
 #![tactic(auto)]
 
 mod columns;
+mod costs;
 mod filling;
 mod items;
 mod laws;
@@ -17,9 +18,11 @@ mod routing;
 mod shape;
 mod wire_switches;
 
+pub use costs::network_terms;
 pub use filling::{fill_network, fill_routing_network};
 pub use laws::{
-    network_fills, network_is_complete, network_is_sound, places_tell, through_is_a_permutation,
+    network_fills, network_is_complete, network_is_counted, network_is_sound, places_tell,
+    through_is_a_permutation,
 };
 pub use networks::{network, routing_network};
 pub use places::{Inputs, Outputs};
