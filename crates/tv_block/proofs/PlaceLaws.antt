@@ -1,6 +1,8 @@
--- Records of a step by their fields.
-use Rattle.std.proofs.Common.{◌≡◌, ℕ, List, [], ◌∷◌, ◌∙◌, ap}
+-- Records of a step by their fields, and a state that is one wire.
+use Rattle.std.proofs.Common.{◌≡◌, ℕ, zero, suc, ◌<◌, ◌≤◌, List, [], ◌∷◌, replicate, ◌∙◌, ap, arith}
 use Rattle.tv_core.specs.declared.lines.LineLc.{LineLc}
+use Rattle.tv_regs.specs.Reading.{wires_top}
+use Rattle.tv_block.specs.Under.{StateUnder}
 use Rattle.tv_block.specs.declared.records.Block.{Block}
 use Rattle.tv_block.specs.declared.records.Spot.{Spot}
 use Rattle.tv_block.specs.declared.records.StateWires.{StateWires}
@@ -19,3 +21,11 @@ pub same_wires : (a b : StateWires) (c d e f g h : LineLc) (i j : Spot) (k l m n
 same_wires a b c d e f g h i j k l m n e1 e2 e3 e4 e5 e6 e7 =
     ap (λ x. wires_from x c e g i k m) e1 ∙ (ap (λ x. wires_from b x e g i k m) e2 ∙ (ap (λ x. wires_from b d x g i k m) e3 ∙ (ap (λ x. wires_from b d f x i k m) e4
     ∙ (ap (λ x. wires_from b d f h x k m) e5 ∙ (ap (λ x. wires_from b d f h j x m) e6 ∙ ap (λ x. wires_from b d f h j l x) e7)))))
+
+-- a state all of which is one wire
+same_top : (k wires w : ℕ) → w < wires → wires_top (replicate k w) ≤ wires
+same_top zero wires w h = omega arith
+same_top (suc k) wires w h = let more = same_top k wires w h in omega arith
+
+pub one_wire_under : (wires w : ℕ) → w < wires → StateUnder wires (state_from w (replicate 16 w) w w w)
+one_wire_under wires w h = record { pc = h; regs = same_top 16 wires w h; flag = h; taken = h; ended = h }

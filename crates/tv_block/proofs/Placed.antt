@@ -43,7 +43,7 @@ use Rattle.tv_block.specs.Places.{operands_at, tapes_at, data_at, store_at, resu
 use Rattle.tv_block.specs.Result.{result_of, result_table, flag_table}
 use Rattle.tv_block.specs.Store.{store_of}
 use Rattle.tv_block.specs.Tapes.{tapes_of}
-use Rattle.tv_block.specs.Under.{LineUnder}
+use Rattle.tv_block.specs.Under.{LineUnder, SpotUnder}
 use Rattle.tv_block.specs.declared.records.Block.{Block}
 use Rattle.tv_block.specs.declared.records.Data.{Data}
 use Rattle.tv_block.specs.declared.records.Fetched.{Fetched}
@@ -206,5 +206,14 @@ lines_below w width state time at pc =
     let third : LineUnder (at + block_made w) (third_line w time at) = record { cell = omega (arith, width); time = omega arith; old = omega (arith, width); new = omega (arith, width) } in
     all_three (LineUnder (at + block_made w)) _ _ _ (first_below w state time at pc) (second_below w state time at pc) third
 
+pub spot_below : (w : ℕ) → IsWidth w → (at : ℕ) → SpotUnder (at + block_made w) (record { taken = at + (tapes_at w + 6); word = at + (data_at w + w) })
+spot_below w width at = record { taken = omega (arith, width); word = omega (arith, width) }
+
 pub block_places : BlockPlaces
-block_places = record { answer = block_placed; short = short_lines; below = lines_below }
+block_places = record {
+  answer = block_placed;
+  short = short_lines;
+  below = lines_below;
+  after = λ w width next. omega (arith, width);
+  spot = λ w width state time next. spot_below w width next;
+}

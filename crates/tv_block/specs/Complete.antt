@@ -76,7 +76,7 @@ operations_made w = (w + 1) + (w + 1) + (w / 4 + 6) + logic_made w + shift_made 
 abbrev pub compute_made : ℕ → ℕ
 compute_made w = (2 * w + 80) + (2 * w + 5) + operations_made w + 8 + (w + 5) + (3 * (w / 16) + 1) + 19 + 1
 
--- and with it: 654 at 32 bits, 404 at 16
+-- and with it
 abbrev pub block_made : ℕ → ℕ
 block_made w = compute_made w + 4
 
@@ -84,7 +84,7 @@ block_made w = compute_made w + 4
 abbrev pub compute_added : ℕ → ℕ
 compute_added w = (2 * w + 85) + (2 * w + 52) + (operations_made w + 9) + 8 + (w + 5) + (3 * (w / 16) + 1) + 35 + 18
 
--- and with it: 752 at 32 bits, 502 at 16
+-- and with it
 abbrev pub block_added : ℕ → ℕ
 block_added w = compute_added w + 8
 
@@ -96,10 +96,6 @@ pub record BlockSizes : Type 0 where
       → Fills (block_of w n state time) (block_values w n v h u o takes)
   pub in_field : (w : ℕ) → IsWidth w → (n : ℕ) (v : View) (h u o : ℕ) (takes : Bool) → n < 2 ^ 29 → ViewInRange w n v → u < 2 ^ w → o < 2 ^ w
       → InField (block_values w n v h u o takes)
-
--- The constraints are as many whatever a step is given.
-abbrev pub BlockIsCounted : Type 0
-BlockIsCounted = (w : ℕ) → IsWidth w → (n : ℕ) (state : StateWires) (time next : ℕ) → length (block_of w n state time next).list ≡ block_added w
 
 -- The values of a machine's step, from a state in range of which `gone` words of the primary tape are taken, with the
 -- word that it takes of the auxiliary tape, are one number of the field for each wire, whatever its opcode is.

@@ -1,5 +1,6 @@
 pub mod Block
 pub mod Complete
+pub mod Costs
 pub mod Data
 pub mod Fetch
 pub mod Filling

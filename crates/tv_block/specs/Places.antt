@@ -11,7 +11,7 @@ use Rattle.tv_block.specs.Block.{block_of, cell_of}
 use Rattle.tv_block.specs.Complete.{operations_made, block_made}
 use Rattle.tv_block.specs.declared.records.Block.{Block}
 use Rattle.tv_block.specs.declared.records.StateWires.{StateWires}
-use Rattle.tv_block.specs.Under.{LineUnder}
+use Rattle.tv_block.specs.Under.{LineUnder, SpotUnder}
 
 -- ---- where the parts begin, from a block's first wire on
 -- the operands: after the two words, 32 wires of the opcode's row and 48 of the registers' rows
@@ -77,9 +77,12 @@ pub record IsShort (line : LineLc) : Type 0 where
   pub old : length line.old ≤ 32
   pub new : length line.new ≤ 32
 
--- a block answers those wires, and its lines are short, of the state's program counter and wires that the block makes
+-- a block answers those wires; its lines are short, and of the state's program counter and wires that the block makes;
+-- so are the state after it, and where it takes a word
 pub record BlockPlaces : Type 0 where
   pub answer : (w : ℕ) → IsWidth w → (n : ℕ) (state : StateWires) (time next : ℕ) → (block_of w n state time next).answer ≡ block_wires w state time next
   pub short : (w : ℕ) → IsWidth w → (state : StateWires) (time next : ℕ) → All IsShort (block_wires w state time next).lines
   pub below : (w : ℕ) → IsWidth w → (state : StateWires) (time next : ℕ) → state.pc < next + block_made w
       → All (LineUnder (next + block_made w)) (block_wires w state time next).lines
+  pub after : (w : ℕ) → IsWidth w → (next : ℕ) → (next_state w next).pc < next + block_made w
+  pub spot : (w : ℕ) → IsWidth w → (state : StateWires) (time next : ℕ) → SpotUnder (next + block_made w) (block_wires w state time next).spot

@@ -9,6 +9,7 @@ use Rattle.tv_block.specs.declared.records.Fetched.{Fetched}
 use Rattle.tv_block.specs.declared.records.Groups.{Groups}
 use Rattle.tv_block.specs.declared.records.Operands.{Operands}
 use Rattle.tv_block.specs.declared.records.Patch.{Patch}
+use Rattle.tv_block.specs.declared.records.Spot.{Spot}
 use Rattle.tv_block.specs.declared.records.StateWires.{StateWires}
 use Rattle.tv_block.specs.declared.records.Store.{Store}
 use Rattle.tv_block.specs.declared.records.Tapes.{Tapes}
@@ -98,3 +99,7 @@ pub record LineUnder (wires : ℕ) (line : LineLc) : Type 0 where
 -- how many wires and constraints the byte of the data word makes
 abbrev pub patch_made : ℕ → ℕ
 patch_made w = 3 * (w / 16) - 1
+
+pub record SpotUnder (wires : ℕ) (spot : Spot) : Type 0 where
+  pub taken : spot.taken < wires
+  pub word : spot.word < wires

@@ -18,11 +18,11 @@ use crate::step_numbers::{StepNumbers, step_numbers};
 use tv_core::{Put, Values};
 use tv_step::TraceState;
 
-/// Gives the values of the wires that a step makes, 404 at 16 bits and 654 at 32, from the state
-/// before it: `n` is how many words the primary tape has, below 2^29, and `olds` are the old words
-/// of the step's three lines: the two words of its instruction, and the word in the cell that it
-/// looks at, 0 in the null cell. `aux` is the word that it takes of the auxiliary tape, `None`
-/// where it takes none. The values are the same at each time.
+/// Gives the values of the wires that a step makes, from the state before it: `n` is how many words
+/// the primary tape has, below 2^29, and `olds` are the old words of the step's three lines: the
+/// two words of its instruction, and the word in the cell that it looks at, 0 in the null cell.
+/// `aux` is the word that it takes of the auxiliary tape, `None` where it takes none. The values
+/// are the same at each time.
 ///
 /// It takes no memory, and refuses only where `v` does.
 pub fn fill_block<const W: u32, V: Values>(

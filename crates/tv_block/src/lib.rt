@@ -6,6 +6,7 @@
 
 mod choosing;
 mod computed;
+mod costs;
 mod counting;
 mod fetching;
 mod filling_block;
@@ -27,6 +28,7 @@ mod storing;
 mod taping;
 
 pub use computed::Computed;
+pub use costs::{LineTerms, StepCosts, step_costs};
 pub use filling_block::{fill_block, fill_traced_step};
 pub use laws::{
     block_fills, block_is_complete, block_is_counted, block_is_placed, block_is_sound,

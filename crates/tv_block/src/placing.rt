@@ -4,7 +4,7 @@ ghost use Rattle.tv_block.specs.Complete.{block_made};
 ghost use Rattle.tv_block.specs.declared.records.StateWires.{StateWires};
 ghost use Rattle.tv_block.specs.Places.{tapes_at, data_at, store_at, result_at, next_state};
 ghost use Rattle.tv_block.specs.Places.{first_line, second_line, third_line, block_wires, IsShort};
-ghost use Rattle.tv_block.specs.Under.{StateUnder, LineUnder};
+ghost use Rattle.tv_block.specs.Under.{StateUnder, LineUnder, SpotUnder};
 ghost use Rattle.tv_lines.specs.Placed.{line_in};
 ghost use Rattle.tv_lines.specs.Told.{line_told, HasShortWords};
 ghost use Rattle.tv_word.specs.Widths.{IsWidth};
@@ -81,7 +81,8 @@ pub fn block_line<const W: u32>(first: Wire, state: &StateWires, time: u32, whic
 pub fn block_spot<const W: u32>(first: Wire) -> Spot
     requires width { IsWidth W }
     requires within { first + block_made W < 2 ^ 32 }
-    ensures { (state : StateWires) (time : ℕ) → result ≡ (block_wires W state time first).spot }
+    ensures is { (state : StateWires) (time : ℕ) → result ≡ (block_wires W state time first).spot }
+    ensures below { SpotUnder (first + block_made W) result }
 {
     let tapes = first.offset(tapes_at::<W>());
     Spot {

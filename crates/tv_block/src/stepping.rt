@@ -21,8 +21,8 @@ use tv_core::{Put, Scratch, Sink, Wire};
 use tv_isa::opcode::ANSWER;
 
 /// One step of the machine from a state, the primary tape having `n` words; its lines of memory are
-/// at `time` and the two times behind it. At 32 bits it makes 654 wires and 752 constraints, at 16
-/// bits 404 and 502. A `Block` is of some 24 KB: `step` answers what the next step needs of it.
+/// at `time` and the two times behind it. It makes as many wires and constraints as `step_costs`
+/// says. A `Block` is of some 24 KB: `step` answers what the next step needs of it.
 pub fn block<const W: u32, S: Sink>(s: &mut S, state: &StateWires, n: u32, time: u32) -> Put<Block>
     requires width { IsWidth W }
     requires room { Room S.meaning s.old (block_made W) (block_added W) }

@@ -1,0 +1,5 @@
+use Rattle.tv_block.proofs.CountLaws.{block_counted}
+use Rattle.tv_block.proofs.laws.block_is_counted.Goals as goal
+
+pub returns : goal.returns
+returns c = block_counted

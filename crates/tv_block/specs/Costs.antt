@@ -1,0 +1,51 @@
+-- What a step costs, by the width alone.
+use Rattle.std.specs.Prelude.{◌≡◌, ℕ, ◌^◌, ◌≤◌, ◌==◌, if◌then◌else◌, [], ◌∷◌, length, map, All}
+use Rattle.tv_core.specs.Meanings.{terms_in}
+use Rattle.tv_core.specs.declared.lines.LineLc.{LineLc}
+use Rattle.tv_word.specs.Widths.{IsWidth}
+use Rattle.tv_block.specs.Block.{block_of}
+use Rattle.tv_block.specs.Complete.{block_made, block_added}
+use Rattle.tv_block.specs.Places.{block_wires}
+use Rattle.tv_block.specs.declared.costs.LineTerms.{LineTerms}
+use Rattle.tv_block.specs.declared.costs.StepCosts.{StepCosts}
+use Rattle.tv_block.specs.declared.records.StateWires.{StateWires}
+
+-- the terms of a line's parts
+abbrev pub line_terms : LineLc → LineTerms
+line_terms line = record { cell = length line.cell; old = length line.old; new = length line.new }
+
+abbrev pub terms_are : ℕ → ℕ → ℕ → LineTerms
+terms_are cell old new = record { cell = cell; old = old; new = new }
+
+-- how many terms the constraints of a step have
+abbrev pub block_terms : ℕ → ℕ
+block_terms w = if w == 16 then 3488 else 5758
+
+-- a fetched word has a term for each bit
+abbrev pub step_costs : ℕ → StepCosts
+step_costs w = record {
+  wires = block_made w;
+  constraints = block_added w;
+  terms = block_terms w;
+  lines = terms_are 1 w w ∷ terms_are 2 w w ∷ terms_are 1 1 1 ∷ [];
+}
+
+-- at most so much, which is what a system takes a step to cost
+pub record HasFewTerms (terms : LineTerms) : Type 0 where
+  pub cell : terms.cell ≤ 32
+  pub old : terms.old ≤ 32
+  pub new : terms.new ≤ 32
+
+pub record IsCheap (costs : StepCosts) : Type 0 where
+  pub wires : costs.wires ≤ 2 ^ 11
+  pub constraints : costs.constraints ≤ 2 ^ 11
+  pub terms : costs.terms ≤ 2 ^ 14
+  pub lines : All HasFewTerms costs.lines
+
+-- A step costs the same whatever it is given, and its lines have so many terms, and one for each time.
+pub record BlockIsCounted : Type 0 where
+  pub constraints : (w : ℕ) → IsWidth w → (n : ℕ) (state : StateWires) (time next : ℕ) → length (block_of w n state time next).list ≡ block_added w
+  pub terms : (w : ℕ) → IsWidth w → (n : ℕ) (state : StateWires) (time next : ℕ) → terms_in (block_of w n state time next).list ≡ block_terms w
+  pub lines : (w : ℕ) → IsWidth w → (state : StateWires) (time next : ℕ) → map line_terms (block_wires w state time next).lines ≡ (step_costs w).lines
+  pub times : (w : ℕ) → IsWidth w → (state : StateWires) (time next : ℕ) → All (λ line. length line.time ≡ 1) (block_wires w state time next).lines
+  pub cheap : (w : ℕ) → IsWidth w → IsCheap (step_costs w)

@@ -1,0 +1,60 @@
+//! What a step costs.
+ghost use Rattle.std.specs.Prelude.{◌≡◌};
+ghost use Rattle.tv_block.specs.Costs.{step_costs, terms_are, IsCheap};
+ghost use Rattle.tv_word.specs.Widths.{IsWidth};
+
+/// How many terms the combinations of a line have, beside its time, which has one.
+#[derive(Clone, Copy, PartialEq, Eq, Debug)]
+pub struct LineTerms {
+    /// The terms of its cell.
+    pub cell: u32,
+    /// The terms of the word that the cell holds before.
+    pub old: u32,
+    /// The terms of the word that the cell holds after.
+    pub new: u32,
+}
+
+/// What a step costs, whatever it is given.
+#[derive(Clone, Copy, PartialEq, Eq, Debug)]
+pub struct StepCosts {
+    /// The wires that it makes.
+    pub wires: u32,
+    /// Its constraints.
+    pub constraints: u32,
+    /// The terms of its constraints.
+    pub terms: u32,
+    /// The terms of its three lines.
+    pub lines: [LineTerms; 3],
+}
+
+/// Returns what a step costs with words of `W` bits. The numbers stand here alone: they are proved
+/// of the step's circuit (`block_is_counted`).
+pub fn step_costs<const W: u32>() -> StepCosts
+    requires { IsWidth W }
+    ensures is { result ≡ step_costs W }
+    ensures cheap { IsCheap result }
+{
+    let lines = [terms(1, W, W), terms(2, W, W), terms(1, 1, 1)];
+    if W == 16 {
+        StepCosts {
+            wires: 404,
+            constraints: 502,
+            terms: 3488,
+            lines,
+        }
+    } else {
+        StepCosts {
+            wires: 654,
+            constraints: 752,
+            terms: 5758,
+            lines,
+        }
+    }
+}
+
+// The terms of a line.
+fn terms(cell: u32, old: u32, new: u32) -> LineTerms
+    ensures { result ≡ terms_are cell old new }
+{
+    LineTerms { cell, old, new }
+}
