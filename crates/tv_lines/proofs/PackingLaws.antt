@@ -1,11 +1,11 @@
 -- Packing and unpacking, as numbers.
-use Rattle.std.proofs.Common.{◌≡◌, ℕ, ◌+◌, ◌*◌, ◌/◌, ◌%◌, ◌^◌, ◌<◌, List, sym, ◌∙◌, ap, arith}
+use Rattle.std.proofs.Common.{◌≡◌, ℕ, ◌+◌, ◌*◌, ◌/◌, ◌%◌, ◌^◌, ◌<◌, List, [], sym, ◌∙◌, ap, arith}
 use Rattle.tv_core.proofs.CombinationLaws.{value-append, value-scaled}
 use Rattle.tv_core.specs.Combinations.{scaled}
 use Rattle.tv_core.specs.Constraints.{Combination, value}
 use Rattle.tv_core.specs.Lines.{Line}
 use Rattle.tv_core.specs.declared.field.TheConstants.{P}
-use Rattle.tv_lines.specs.Packing.{InRange, unpacked, joined, PackIsRight, PackIsOneToOne, UnpackUndoesPack}
+use Rattle.tv_lines.specs.Packing.{InRange, unpacked, joined, ItemIsRight, PackIsRight, PackIsOneToOne, UnpackUndoesPack}
 use Rattle.tv_core.proofs.LineLaws.{pair_same}
 
 joined_value : (z : List ℕ) (low high : Combination) → value (joined low high) z ≡ (2 ^ 32 * value high z + value low z) % P
@@ -18,6 +18,10 @@ pub pack_right : PackIsRight
 pack_right z line range = pair_same _ _ _ _
     (joined_value z line.old line.cell ∙ below_p (value line.cell z) (value line.old z) range.cell range.old)
     (joined_value z line.new line.time ∙ below_p (value line.time z) (value line.new z) (omega (arith, range.time)) range.new)
+
+pub item_right : ItemIsRight
+item_right z line range = pack_right z (record { cell = line.cell; time = line.time; old = []; new = line.new })
+    (record { cell = range.cell; time = range.time; old = omega arith; new = range.new })
 
 -- the numbers of a packed line's pair are small
 pub packed_first : (line : Line) → InRange line → line.cell * 2 ^ 32 + line.old < 2 ^ 63

@@ -1,7 +1,9 @@
 pub mod Ordered
 pub mod Packing
 pub mod Placed
+pub mod Predecessor
 pub mod SortedPair
+pub mod Starts
 pub mod Told
 pub mod Unpacking
 pub use Rattle.tv_bits.specs.Order

@@ -1,5 +1,5 @@
 -- A line as a pair of numbers: the cell above the old word, and the time above the new word.
-use Rattle.std.specs.Prelude.{◌≡◌, ℕ, ◌+◌, ◌*◌, ◌/◌, ◌%◌, ◌^◌, ◌<◌, ◌++◌, List}
+use Rattle.std.specs.Prelude.{◌≡◌, ℕ, ◌+◌, ◌*◌, ◌/◌, ◌%◌, ◌^◌, ◌<◌, [], ◌++◌, List}
 use Rattle.tv_core.specs.Combinations.{scaled}
 use Rattle.tv_core.specs.Constraints.{Combination, value}
 use Rattle.tv_core.specs.Lines.{Line, pair_value}
@@ -32,6 +32,13 @@ packed line = record { first = line.cell * 2 ^ 32 + line.old; second = line.time
 abbrev pub unpacked : PairNum → Line
 unpacked pair = record { cell = pair.first / 2 ^ 32; time = pair.second / 2 ^ 32; old = pair.first % 2 ^ 32; new = pair.second % 2 ^ 32 }
 
+-- a line without its old word, and its item: the pair of that line
+abbrev pub without_old : Line → Line
+without_old line = record { cell = line.cell; time = line.time; old = 0; new = line.new }
+
+abbrev pub packed_item : Line → PairNum
+packed_item line = packed (without_old line)
+
 -- the line of four residues
 abbrev pub line_of : LineNum → Line
 line_of line = record { cell = line.cell; time = line.time; old = line.old; new = line.new }
@@ -48,10 +55,18 @@ joined low high = low ++ scaled (2 ^ 32 % P) high
 abbrev pub pack : LineLc → Pair
 pack line = record { first = joined line.old line.cell; second = joined line.new line.time }
 
+-- a line's item in combinations
+abbrev pub pack_item : LineLc → Pair
+pack_item line = pack (record { cell = line.cell; time = line.time; old = []; new = line.new })
+
 -- ---- the laws
 -- the values of a packed line are the packed values, for a line in range
 abbrev pub PackIsRight : Type 0
 PackIsRight = (z : List ℕ) (line : LineLc) → InRange (line_value z line) → pair_value z (pack line) ≡ packed (line_value z line)
+
+-- so are those of an item
+abbrev pub ItemIsRight : Type 0
+ItemIsRight = (z : List ℕ) (line : LineLc) → InRange (line_value z line) → pair_value z (pack_item line) ≡ packed_item (line_value z line)
 
 -- two lines in range that are packed to one pair are one
 abbrev pub PackIsOneToOne : Type 0

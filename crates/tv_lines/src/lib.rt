@@ -1,17 +1,25 @@
 //! Gadgets over lines of memory: a line as two numbers and back, and lines in address order.
 //!
 //! A line is (cell, time, old, new): at a time the word of a cell goes from old to new. `pack`
-//! makes it a pair of numbers, which a network can carry, and `unpack` takes such a pair apart.
-//! `first_line` and `sorted_pair`, along a list, hold its lines to address order: `Ordered`. Laws
-//! on plain lists of lines say what that is for: lines in time order are honest where an ordered
-//! list has the same lines, and sorted honest lines are ordered.
+//! makes it a pair of numbers, which a network can carry, and `unpack` takes such a pair apart. A
+//! line's item is the pair of the line with its old word left out.
+//!
+//! `follows` checks a line at its own place, against the item of its predecessor in address order:
+//! nothing of the item is unpacked. `boot_line` and `least_line` check lines of which more is
+//! known. On these the memory argument stands.
+//!
+//! `first_line` and `sorted_pair`, along a list of unpacked lines, constrain them to be in address
+//! order: `Ordered`. Laws on plain lists of lines say what that is for: lines in time order are
+//! honest where an ordered list has the same lines, and sorted honest lines are ordered.
 #![tactic(auto)]
 
 mod honesty;
 mod ordering;
 mod packing;
+mod predecessor;
 mod rising;
 mod rows;
+mod starts;
 mod told;
 mod unpacking;
 
@@ -21,8 +29,19 @@ pub use ordering::{
     first_line_is_sound, neighbours_are_ordered, sorted_pair, sorted_pair_by, sorted_pair_fills,
     sorted_pair_is_complete, sorted_pair_is_sound,
 };
-pub use packing::{pack, pack_is_one_to_one, pack_is_right, pack_line, unpack_line};
+pub use packing::{
+    item_is_right, pack, pack_is_one_to_one, pack_is_right, pack_item, pack_line, unpack_item,
+    unpack_line,
+};
+pub use predecessor::{
+    fill_follows, follows, follows_costs, follows_fills, follows_is_complete, follows_is_sound,
+    follows_reaches, follows_rises,
+};
 pub use rows::LineBits;
+pub use starts::{
+    boot_line, boot_line_fills, boot_line_is_complete, boot_line_is_sound, least_line,
+    least_line_fills, least_line_is_complete, least_line_is_sound,
+};
 pub use told::{Cell, ToldLine, Word};
 pub use unpacking::{
     fill_unpack, line_bits, unpack, unpack_by, unpack_fills, unpack_is_complete, unpack_is_sound,

@@ -1,7 +1,7 @@
 ghost use Rattle.std.specs.Prelude.{◌≡◌, ◌+◌, ◌*◌, ◌/◌, ◌%◌, ◌^◌, ◌<◌, ◌≤◌, length, max};
 ghost use Rattle.tv_core.specs.Combinations.{top};
 ghost use Rattle.tv_lines.specs.Packing.{joined, line_of, pack, packed, unpacked, PackIsRight};
-ghost use Rattle.tv_lines.specs.Packing.{PackIsOneToOne};
+ghost use Rattle.tv_lines.specs.Packing.{packed_item, ItemIsRight, PackIsOneToOne};
 
 use tv_core::{F, Lc, Line, LineLc, LineNum, Pair, PairNum};
 
@@ -49,6 +49,33 @@ pub fn pack_line(line: &Line) -> PairNum
     }
 }
 
+/// Returns the numbers of a line's item, for a line in range: 2^32 times the cell; the new word and
+/// 2^32 times the time. The old word is left out.
+pub fn pack_item(line: &Line) -> PairNum
+    requires cell { line.now.cell < 2 ^ 31 }
+    requires time { line.now.time < 2 ^ 20 }
+    ensures { result ≡ packed_item line.now }
+{
+    PairNum {
+        first: joined_words(0, line.cell),
+        second: joined_words(line.new, line.time),
+    }
+}
+
+/// Returns the line of an item: that of which the pair is packed, its old word 0 for an item.
+pub fn unpack_item(pair: &PairNum) -> Line
+    ensures { result ≡ unpacked pair.now }
+{
+    let (old, cell) = words(pair.first);
+    let (new, time) = words(pair.second);
+    Line {
+        cell,
+        time,
+        old,
+        new,
+    }
+}
+
 // The one word, and 2^32 times the other.
 fn joined_words(low: u32, high: u32) -> F
     requires { high < 2 ^ 31 }
@@ -71,19 +98,33 @@ pub fn unpack_line(pair: &PairNum) -> LineNum
     }
 }
 
-// What is left of a number by 2^32, and how often 2^32 goes into it.
+// What is left of a number by 2^32, and how often 2^32 goes into it, as field elements.
 fn split_words(number: F) -> (F, F)
     ensures low { result.0 ≡ number % 2 ^ 32 }
     ensures high { result.1 ≡ number / 2 ^ 32 }
 {
+    let (low, high) = words(number);
+    (F::from(low), F::from(high))
+}
+
+// The same as words.
+fn words(number: F) -> (u32, u32)
+    ensures low { result.0 ≡ number % 2 ^ 32 }
+    ensures high { result.1 ≡ number / 2 ^ 32 }
+{
     let number = number.number();
-    (F::of(number % (1 << 32)), F::of(number >> 32))
+    ((number % (1 << 32)) as u32, (number >> 32) as u32)
 }
 
 /// For a line in range, a cell below 2^31, a time below 2^20 and two words, the values of the
 /// packed line are its packed values, as whole numbers.
 pub fn pack_is_right()
     ensures { PackIsRight }
+{}
+
+/// For a line in range, the values of its item are the item's numbers, as whole numbers.
+pub fn item_is_right()
+    ensures { ItemIsRight }
 {}
 
 /// Two lines in range that are packed to the same pair of numbers are the same.

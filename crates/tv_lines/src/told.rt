@@ -1,16 +1,17 @@
-ghost use Rattle.std.specs.Prelude.{◌≡◌, ◌+◌, ◌^◌, ◌%◌, ◌≤◌, ◌++◌, [], length};
-ghost use Rattle.tv_core.specs.Combinations.{scaled};
+ghost use Rattle.std.specs.Prelude.{◌≡◌, ◌+◌, ◌-◌, ◌^◌, ◌%◌, ◌≤◌, ◌++◌, [], length, max};
+ghost use Rattle.tv_core.specs.Combinations.{scaled, top};
 ghost use Rattle.tv_core.specs.declared.field.TheConstants.{P};
-ghost use Rattle.tv_lines.specs.Packing.{pack};
+ghost use Rattle.tv_lines.specs.Packing.{pack_item};
+ghost use Rattle.tv_lines.specs.Predecessor.{less_above};
 ghost use Rattle.tv_lines.specs.Told.{cell_told, word_told, line_told, IsShortWord, HasShortWords};
 
 use tv_bits::Bits;
 use tv_core::{F, Lc, LineLc, Pair, Wire};
 
 // By how much the cell and the time stand above the words of a packed line.
-const SHIFT: u64 = 1 << 32;
+pub(crate) const SHIFT: u64 = 1 << 32;
 
-/// A line of memory, told by what its combinations are made of. It takes some bytes, where they
+/// A line of memory in compact form: the parts of its combinations. It takes some bytes, where they
 /// take 8 KB.
 #[derive(Clone, Copy, PartialEq, Eq, Debug)]
 pub struct ToldLine {
@@ -60,13 +61,13 @@ impl ToldLine {
         }
     }
 
-    /// Makes `pair` the packed line, as `pack` of its combinations.
-    pub fn pack(&self, pair: &mut Pair)
+    /// Writes the line's item into `pair`: 2^32 times the cell; the new word and 2^32 times the
+    /// time. It is the line as `pack` writes it, with its old word left out.
+    pub fn item(&self, pair: &mut Pair)
         requires { HasShortWords self.now }
-        ensures { pair.new ≡ pack (line_told self.now) }
+        ensures { pair.new ≡ pack_item (line_told self.now) }
     {
         pair.first.clear();
-        self.old.plus_to(&mut pair.first);
         self.cell.plus_above(&mut pair.first);
         pair.second.clear();
         self.new.plus_to(&mut pair.second);
@@ -88,6 +89,21 @@ impl Cell {
             }
         }
         lc
+    }
+
+    // Appends it, 2^32 times and negated.
+    pub(crate) fn minus_above_from(self, lc: &mut Lc)
+        requires room { length lc.old ≤ 126 }
+        ensures terms { lc.new ≡ less_above lc.old (cell_told self) }
+        ensures top { top lc.new ≡ max (top lc.old) (top (cell_told self)) }
+    {
+        match self {
+            Cell::Multiple(factor, wire) => lc.plus(-F::of(SHIFT) * factor, wire),
+            Cell::Behind(factor, wire) => {
+                lc.plus(-F::of(SHIFT) * factor, wire);
+                lc.plus(-F::of(SHIFT), Wire(0));
+            }
+        }
     }
 
     // Appends 2^32 times it.
@@ -116,8 +132,24 @@ impl Word {
         lc
     }
 
+    // Appends it, negated.
+    pub(crate) fn minus_from(self, lc: &mut Lc)
+        requires short { IsShortWord self }
+        requires room { length lc.old ≤ 96 }
+        ensures terms { lc.new ≡ lc.old ++ scaled (P - 1) (word_told self) }
+        ensures len { length lc.new ≤ length lc.old + 32 }
+        ensures top { top lc.new ≡ max (top lc.old) (top (word_told self)) }
+    {
+        match self {
+            Word::Nothing => {}
+            Word::Number(number) => lc.plus(-F::ONE * F::from(number), Wire(0)),
+            Word::Wired(wire) => lc.plus(-F::ONE, wire),
+            Word::Spelled(bits) => bits.plus_to(lc, -F::ONE),
+        }
+    }
+
     // Appends it to a combination without terms.
-    fn plus_to(self, lc: &mut Lc)
+    pub(crate) fn plus_to(self, lc: &mut Lc)
         requires short { IsShortWord self }
         requires empty { lc.old ≡ [] }
         ensures terms { lc.new ≡ word_told self }

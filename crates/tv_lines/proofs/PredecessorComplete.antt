@@ -1,0 +1,118 @@
+-- A line that follows is complete.
+use Rattle.std.proofs.Common.{◌≡◌, ◌≢◌, ◌⊎◌, ℕ, ◌+◌, ◌-◌, ◌*◌, ◌%◌, ◌^◌, ◌<◌, ◌≤◌, ◌==◌, if◌then◌else◌, Bool, true, false, List, [], ◌∷◌, ◌++◌, length, inl, inr, refl, sym, subst, ◌∙◌, ap, ap₂, arith}
+use Rattle.std.proofs.Math.Nat.{pow-le-pow_right}
+use Rattle.std.proofs.lemmas.Bool.{cases_eq, eq-eqb, ne_eqb}
+use Rattle.std.specs.Int.{bit_at}
+use Rattle.std.specs.Prelude.{slice_index}
+use Rattle.tv_bits.specs.Bits.{Spells, bits_values, new_bits_of}
+use Rattle.tv_bits.specs.Times.{kept_of}
+use Rattle.tv_bits.specs.declared.bit_wires.Bits.{Bits}
+use Rattle.tv_bits.proofs.SpelledNumbers.{Spells-from_values}
+use Rattle.tv_bits.proofs.SpellingLaws.{new_bits_answer, new_bits_next, new_bits_complete}
+use Rattle.tv_bits.proofs.TimesLaws.{kept_answer, kept_next, kept_complete}
+use Rattle.tv_core.proofs.BelowLaws.{length-each_below}
+use Rattle.tv_core.proofs.CombinationLaws.{value-wire}
+use Rattle.tv_core.proofs.Meeting.{Meets-join, HasFrom-split}
+use Rattle.tv_core.specs.Circuits.{put, ◌>>=◌}
+use Rattle.tv_core.specs.Combinations.{wire}
+use Rattle.tv_core.specs.Constraints.{value}
+use Rattle.tv_core.specs.Laws.{Assigns, Meets, HasFrom}
+use Rattle.tv_core.specs.Lines.{Line, pair_value}
+use Rattle.tv_core.specs.declared.field.TheConstants.{P}
+use Rattle.tv_core.specs.declared.lines.LineLc.{LineLc}
+use Rattle.tv_core.specs.declared.lines.Pair.{Pair}
+use Rattle.tv_core.specs.declared.lines.PairNum.{PairNum}
+use Rattle.tv_lines.specs.Ordered.{Follows}
+use Rattle.tv_lines.specs.Packing.{InRange, line_value}
+use Rattle.tv_lines.proofs.PredecessorValues.{value-excess, value-cells, value-times}
+use Rattle.tv_lines.specs.Predecessor.{excess, cell_difference, time_difference, either_of, follows_of, reach_between, excess_between, follows_values, FollowsIsComplete}
+
+-- ---- the values in their two cases
+pub reach_same : (p l : Line) → p.cell ≡ l.cell → reach_between p l ≡ l.time - p.time - 1
+reach_same p l same = ap (λ b. if b then l.time - p.time - 1 else l.cell - p.cell - 1) (eq-eqb p.cell l.cell same)
+
+pub reach_apart : (p l : Line) → p.cell ≢ l.cell → reach_between p l ≡ l.cell - p.cell - 1
+reach_apart p l apart = ap (λ b. if b then l.time - p.time - 1 else l.cell - p.cell - 1) (ne_eqb p.cell l.cell apart)
+
+pub excess_same : (p l : Line) → p.cell ≡ l.cell → excess_between p l ≡ 2 ^ 32 * (l.time - p.time) - l.old
+excess_same p l same = ap (λ b. if b then 2 ^ 32 * (l.time - p.time) - l.old else 0) (eq-eqb p.cell l.cell same)
+
+pub excess_apart : (p l : Line) → p.cell ≢ l.cell → excess_between p l ≡ 0
+excess_apart p l apart = ap (λ b. if b then 2 ^ 32 * (l.time - p.time) - l.old else 0) (ne_eqb p.cell l.cell apart)
+
+-- what the three constraints ask of two numbers
+record Fit (p l : Line) (r e : ℕ) : Type 0 where
+  is : e ≡ (2 ^ 32 * (r + 1 + p.cell) + (P - (2 ^ 32 * l.cell + l.old))) % P
+  either : (e ≡ 0) ⊎ (((2 ^ 32 * p.cell + (P - 2 ^ 32 * l.cell)) % P ≡ 0) × (((e + (2 ^ 32 * p.time + p.new)) % P + (P - 2 ^ 32 * l.time)) % P ≡ 0))
+
+-- the numbers alone
+excess_number : (c s t o n : ℕ) → c < 2 ^ 31 → s < t → t < 2 ^ 20 → o < 2 ^ 32 → o ≡ n
+    → 2 ^ 32 * (t - s) - o ≡ (2 ^ 32 * (t - s - 1 + 1 + c) + (P - (2 ^ 32 * c + o))) % P
+excess_number c s t o n h i j k e = omega arith
+
+excess_time : (s t o n : ℕ) → s < t → t < 2 ^ 20 → o < 2 ^ 32 → o ≡ n → ((2 ^ 32 * (t - s) - o + (2 ^ 32 * s + n)) % P + (P - 2 ^ 32 * t)) % P ≡ 0
+excess_time s t o n i j k e = omega arith
+
+later : (p l : Line) → Follows p l → p.cell ≡ l.cell → p.time < l.time
+later p l follows same = elim follows.rises [ inl higher ↦ absurd (omega arith) | inr both ↦ both.1 ]
+
+above : (p l : Line) → Follows p l → p.cell ≢ l.cell → p.cell < l.cell
+above p l follows apart = elim follows.rises [ inl higher ↦ higher | inr both ↦ absurd (apart both.0) ]
+
+fit : (p l : Line) → InRange p → InRange l → Follows p l → Fit p l (reach_between p l) (excess_between p l)
+fit p l in_p in_l follows = elim (cases_eq p.cell l.cell) [
+  | inl same ↦
+      let lt : p.time < l.time = later p l follows same in
+      let word : l.old ≡ p.new = follows.carried same in
+      rw (reach_same p l same, excess_same p l same)
+      (record {
+        is = excess_number l.cell p.time l.time l.old p.new in_l.cell lt in_l.time in_l.old word
+            ∙ ap (λ c. (2 ^ 32 * (l.time - p.time - 1 + 1 + c) + (P - (2 ^ 32 * l.cell + l.old))) % P) (sym same);
+        either = inr (omega (arith, same, in_l.cell), excess_time p.time l.time l.old p.new lt in_l.time in_l.old word);
+      })
+  | inr apart ↦
+      let lt : p.cell < l.cell = above p l follows apart in
+      let word : l.old ≡ 0 = follows.fresh apart in
+      rw (reach_apart p l apart, excess_apart p l apart) (record { is = omega (arith, in_l.cell); either = inl refl })
+]
+
+-- ---- the circuit
+either_complete : (z : List ℕ) (next e : ℕ) (line : LineLc) (item : Pair) → Assigns z
+    → (slice_index z e ≡ 0) ⊎ ((value (cell_difference line item) z ≡ 0) × (value (time_difference e line item) z ≡ 0)) → Meets z
+    (either_of e line item next).list
+unfolding either_of put ◌>>=◌
+either_complete z next e line item assigns (inl none) =
+    let is = value-wire assigns e ∙ none in
+    (ap (λ n. n * value (cell_difference line item) z % P) is ∙ omega arith, (ap (λ n. n * value (time_difference e line item) z % P) is ∙ omega arith, tt))
+either_complete z next e line item assigns (inr (cells, times)) =
+    (ap (λ n. value (wire e) z * n % P) cells ∙ omega arith, (ap (λ n. value (wire e) z * n % P) times ∙ omega arith, tt))
+
+pub follows_complete : FollowsIsComplete
+unfolding follows_of ◌>>=◌
+follows_complete z next m line item p l short assigns is_l is_p in_p in_l follows fits has =
+    let reach = new_bits_of m next in
+    let kept = kept_of (excess reach.answer line item) reach.next in
+    let r : ℕ = reach_between p l in
+    let e : ℕ = excess_between p l in
+    let both = HasFrom-split z next (bits_values r m) (e ∷ []) has in
+    let at : next + length (bits_values r m) ≡ reach.next = ap (λ n. next + n) (length-each_below m (bit_at r)) ∙ sym (new_bits_next m next) in
+    let there : slice_index z reach.next ≡ e = (subst (λ n. HasFrom z n (e ∷ [])) at both.1).0 in
+    let there' : slice_index z kept.answer ≡ e = ap (λ w. slice_index z w) (kept_answer (excess reach.answer line item) reach.next) ∙ there in
+    let s : Spells z reach.answer.first m r = subst (λ (b : Bits). Spells z b.first m r) (sym (new_bits_answer m next))
+    (Spells-from_values z next m r fits both.0) in
+    let n : reach.answer.n ≡ m = ap (λ (b : Bits). b.n) (new_bits_answer m next) in
+    let power : 2 ^ m ≤ 2 ^ 31 = pow-le-pow_right (omega arith) short in
+    let small : r < 2 ^ 31 = omega (arith, fits) in
+    let is_first : value item.first z ≡ 2 ^ 32 * p.cell = ap (λ (x : PairNum). x.first) is_p ∙ omega arith in
+    let is_second : value item.second z ≡ 2 ^ 32 * p.time + p.new = ap (λ (x : PairNum). x.second) is_p ∙ omega arith in
+    let is_cell : value line.cell z ≡ l.cell = ap (λ (x : Line). x.cell) is_l in
+    let is_time : value line.time z ≡ l.time = ap (λ (x : Line). x.time) is_l in
+    let is_old : value line.old z ≡ l.old = ap (λ (x : Line). x.old) is_l in
+    let f : Fit p l r e = fit p l in_p in_l follows in
+    let sum = value-excess z line item assigns reach.answer m r p.cell l.old l.cell n short small s is_first is_old is_cell in_p.cell in_l.old in_l.cell in
+    let cells = value-cells z line item assigns p.cell l.cell is_first is_cell in_l.cell in
+    let times = value-times z line item assigns kept.answer e _ l.time there' is_second is_time (omega (arith, in_l.time)) in
+    Meets-join z reach.list _ (new_bits_complete z next m r assigns both.0)
+    (Meets-join z kept.list _ (kept_complete z reach.next (excess reach.answer line item) assigns (there ∙ f.is ∙ sym sum, tt))
+    (either_complete z kept.next kept.answer line item assigns
+    (elim f.either [ inl none ↦ inl (there' ∙ none) | inr two ↦ inr (cells ∙ two.0, times ∙ two.1) ])))

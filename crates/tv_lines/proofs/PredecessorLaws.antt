@@ -1,0 +1,95 @@
+-- The laws of a line that follows.
+use Rattle.std.proofs.Common.{◌≡◌, ◌≢◌, ◌⊎◌, ℕ, ◌+◌, ◌-◌, ◌*◌, ◌%◌, ◌^◌, ◌<◌, ◌≤◌, List, [], ◌∷◌, ◌++◌, length, inl, inr, sym, subst, ◌∙◌, ap, ap₂, arith}
+use Rattle.std.specs.Prelude.{slice_index}
+use Rattle.std.proofs.Math.Nat.{pow-le-pow_right}
+use Rattle.tv_bits.specs.Bits.{Spells, spelled, bits_values, new_bits_of}
+use Rattle.tv_bits.specs.Times.{kept_of}
+use Rattle.tv_bits.specs.declared.bit_wires.Bits.{Bits}
+use Rattle.tv_bits.proofs.SpelledNumbers.{Spells-below}
+use Rattle.tv_bits.proofs.SpellingLaws.{new_bits_answer, new_bits_next, new_bits_sound, new_bits_complete}
+use Rattle.tv_bits.proofs.TimesLaws.{kept_answer, kept_next, kept_sound, kept_complete}
+use Rattle.tv_core.proofs.CombinationLaws.{value-wire, value-below, wire-below}
+use Rattle.tv_core.proofs.Meeting.{Meets-split, Meets-join, HasFrom-split}
+use Rattle.tv_core.proofs.PrimeLaws.{p_zero_product_below}
+use Rattle.tv_core.specs.Circuits.{put, ◌>>=◌}
+use Rattle.tv_core.specs.Combinations.{wire}
+use Rattle.tv_core.specs.Constraints.{value}
+use Rattle.tv_core.specs.Laws.{Assigns, Meets, HasFrom}
+use Rattle.tv_core.specs.Lines.{Line, pair_value}
+use Rattle.tv_core.specs.declared.field.TheConstants.{P}
+use Rattle.tv_core.specs.declared.lines.LineLc.{LineLc}
+use Rattle.tv_core.specs.declared.lines.Pair.{Pair}
+use Rattle.tv_core.specs.declared.lines.PairNum.{PairNum}
+use Rattle.tv_lines.specs.Ordered.{Follows}
+use Rattle.tv_lines.specs.Packing.{InRange, line_value}
+use Rattle.tv_lines.proofs.PredecessorNumbers.{other_cells, same_cells, same_times}
+use Rattle.tv_lines.proofs.PredecessorValues.{value-excess, value-cells, value-times}
+use Rattle.tv_lines.specs.Packing.{packed_item}
+use Rattle.tv_lines.specs.Predecessor.{excess, cell_difference, time_difference, either_of, follows_of, FollowsIsSound}
+
+-- what e, the cells and the times are as numbers, and what follows from them
+met_follows : (p l : Line) (r e : ℕ) → InRange p → InRange l → r < 2 ^ 31 → e ≡ (2 ^ 32 * (r + 1 + p.cell) + (P - (2 ^ 32 * l.cell + l.old))) % P
+    → (e ≡ 0) ⊎ (((2 ^ 32 * p.cell + (P - 2 ^ 32 * l.cell)) % P ≡ 0) × (((e + (2 ^ 32 * p.time + p.new)) % P + (P - 2 ^ 32 * l.time)) % P ≡ 0))
+    → Follows p l
+met_follows p l r e in_p in_l small is (inl none) =
+    let known = other_cells r p.cell l.cell l.old small in_p.cell in_l.cell in_l.old (sym is ∙ none) in
+    record {
+      rises = inl (omega (arith, known.1));
+      carried = λ same. absurd (omega (arith, known.1));
+      fresh = λ apart. known.0;
+    }
+met_follows p l r e in_p in_l small is (inr (cells, times)) =
+    let same : p.cell ≡ l.cell = same_cells p.cell l.cell in_p.cell in_l.cell cells in
+    let whole : ((2 ^ 32 * (r + 1 + l.cell) + (P - (2 ^ 32 * l.cell + l.old))) % P + (2 ^ 32 * p.time + p.new) + (P - 2 ^ 32 * l.time)) % P ≡ 0 =
+    let is' : e ≡ (2 ^ 32 * (r + 1 + l.cell) + (P - (2 ^ 32 * l.cell + l.old))) % P = is
+    ∙ ap (λ c. (2 ^ 32 * (r + 1 + c) + (P - (2 ^ 32 * l.cell + l.old))) % P) same in
+    let added : (e + (2 ^ 32 * p.time + p.new) + (P - 2 ^ 32 * l.time)) % P ≡ 0 = omega (arith, times) in
+    ap (λ x. (x + (2 ^ 32 * p.time + p.new) + (P - 2 ^ 32 * l.time)) % P) (sym is') ∙ added in
+    let known = same_times r l.cell l.old l.time p.time p.new small in_l.cell in_l.old in_l.time in_p.time in_p.new whole in
+    record {
+      rises = inr (same, omega (arith, known.1));
+      carried = λ _. known.0;
+      fresh = λ apart. absurd (apart same);
+    }
+
+-- a product of e that is 0, and another
+either_zero : (e x y : ℕ) → e < P → x < P → y < P → e * x % P ≡ 0 → e * y % P ≡ 0 → (e ≡ 0) ⊎ ((x ≡ 0) × (y ≡ 0))
+either_zero e x y h i j p q = elim (p_zero_product_below e x h i p) [
+  | inl none ↦ inl none
+  | inr first ↦ elim (p_zero_product_below e y h j q) [ inl none ↦ inl none | inr second ↦ inr (first, second) ]
+]
+
+pub either_sound : (z : List ℕ) (next e : ℕ) (line : LineLc) (item : Pair) → Assigns z → Meets z (either_of e line item next).list
+    → (slice_index z e ≡ 0) ⊎ ((value (cell_difference line item) z ≡ 0) × (value (time_difference e line item) z ≡ 0))
+unfolding either_of put ◌>>=◌
+either_sound z next e line item assigns meets =
+    let is = value-wire assigns e in
+    either_zero (slice_index z e) _ _ (wire-below assigns e) (value-below (cell_difference line item) z) (value-below (time_difference e line item) z)
+    (ap (λ n. n * value (cell_difference line item) z % P) (sym is) ∙ meets.0)
+    (ap (λ n. n * value (time_difference e line item) z % P) (sym is) ∙ meets.1.0)
+
+pub follows_sound : FollowsIsSound
+unfolding follows_of ◌>>=◌
+follows_sound z next m line item p l short assigns is_l is_p in_p in_l meets =
+    let reach = new_bits_of m next in
+    let kept = kept_of (excess reach.answer line item) reach.next in
+    let one = Meets-split z reach.list _ meets in
+    let two = Meets-split z kept.list _ one.1 in
+    let r : ℕ = spelled z reach.answer.first m in
+    let s : Spells z reach.answer.first m r = new_bits_sound z next m assigns one.0 in
+    let n : reach.answer.n ≡ m = ap (λ (b : Bits). b.n) (new_bits_answer m next) in
+    let power : 2 ^ m ≤ 2 ^ 31 = pow-le-pow_right (omega arith) short in
+    let small : r < 2 ^ 31 = omega (arith, Spells-below s) in
+    let is_first : value item.first z ≡ 2 ^ 32 * p.cell = ap (λ (x : PairNum). x.first) is_p ∙ omega arith in
+    let is_second : value item.second z ≡ 2 ^ 32 * p.time + p.new = ap (λ (x : PairNum). x.second) is_p ∙ omega arith in
+    let is_cell : value line.cell z ≡ l.cell = ap (λ (x : Line). x.cell) is_l in
+    let is_time : value line.time z ≡ l.time = ap (λ (x : Line). x.time) is_l in
+    let is_old : value line.old z ≡ l.old = ap (λ (x : Line). x.old) is_l in
+    let is_e : slice_index z kept.answer ≡ (2 ^ 32 * (r + 1 + p.cell) + (P - (2 ^ 32 * l.cell + l.old))) % P =
+    kept_sound z reach.next (excess reach.answer line item) assigns two.0
+    ∙ value-excess z line item assigns reach.answer m r p.cell l.old l.cell n short small s is_first is_old is_cell in_p.cell in_l.old in_l.cell in
+    let cells = value-cells z line item assigns p.cell l.cell is_first is_cell in_l.cell in
+    let times = value-times z line item assigns kept.answer (slice_index z kept.answer) _ l.time (λ i. slice_index z kept.answer) is_second is_time
+    (omega (arith, in_l.time)) in
+    met_follows p l r (slice_index z kept.answer) in_p in_l small is_e
+    (elim (either_sound z kept.next kept.answer line item assigns two.1) [ inl none ↦ inl none | inr both ↦ inr (sym cells ∙ both.0, sym times ∙ both.1) ])

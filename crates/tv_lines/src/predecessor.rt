@@ -1,0 +1,188 @@
+//! A line checked, at its own place in time order, against its predecessor in address order.
+ghost use Rattle.std.specs.Prelude.{◌≡◌, ◌+◌, ◌-◌, ◌≤◌, ◌<◌, ◌^◌, [], false, length, max};
+ghost use Rattle.std.specs.Prelude.{IfOk, OnOk};
+ghost use Rattle.tv_core.specs.Combinations.{top, wire};
+ghost use Rattle.tv_core.specs.Giving.{GivesIn};
+ghost use Rattle.tv_core.specs.Sinks.{PutsIn, Grows, Room};
+ghost use Rattle.tv_lines.specs.Packing.{unpacked};
+ghost use Rattle.tv_lines.specs.Predecessor.{IsLineMade, IsItemMade, follows_of, follows_values};
+ghost use Rattle.tv_lines.specs.Predecessor.{excess, cell_difference, time_difference, either_of};
+ghost use Rattle.tv_lines.specs.Predecessor.{reach_between, excess_between};
+ghost use Rattle.tv_lines.specs.Predecessor.{FollowsIsSound, FollowsIsComplete, FollowsSizes};
+ghost use Rattle.tv_lines.specs.Predecessor.{FollowsCosts, FollowsReaches, FollowsRises};
+ghost use Rattle.tv_lines.specs.Told.{cell_told, line_told, word_told, HasShortWords};
+
+use crate::packing::unpack_item;
+use crate::told::{SHIFT, ToldLine};
+use tv_bits::{Bits, fill_bits, kept_by, new_bits_by};
+use tv_core::{F, Lc, Line, Pair, PairNum, Put, Scratch, Sink, Values, Wire};
+
+/// Constrains `line` to follow the line of `item` in address order, at a distance of `m` bits, at
+/// most 31. The distance is that of the cells, or of the times where the cells are the same. It
+/// makes `m + 1` wires and `m + 3` constraints: each bit is 0 or 1, and
+///
+/// - `[2^32 (1 + reach) + item.first - old - 2^32 cell] [1] = [e]`
+/// - `[e] [item.first - 2^32 cell] = [0]`
+/// - `[e] [e + item.second - 2^32 time] = [0]`
+///
+/// With 32 bits of reach a wrong old word would wrap modulo P.
+pub fn follows<S: Sink>(
+    s: &mut S,
+    scratch: &mut Scratch,
+    m: u32,
+    line: &ToldLine,
+    item: &Pair,
+) -> Put<()>
+    requires short { m ≤ 31 }
+    requires room { Room S.meaning s.old (m + 1) (m + 3) }
+    requires line { IsLineMade (S.meaning.wires s.old) line.now }
+    requires item { IsItemMade (S.meaning.wires s.old) item.now }
+    ensures puts { PutsIn S.meaning s.old s.new (follows_of m (line_told line.now) item.now)
+        result }
+    ensures grows { IfOk result (λ _. Grows S.meaning s.old s.new (m + 1) (m + 3)) }
+{
+    let reach = new_bits_by(s, &mut scratch.a, m)?;
+    set_excess(&mut scratch.a, &reach, line, item);
+    let e = kept_by(s, &mut scratch.b, &mut scratch.c, &scratch.a)?;
+    either(s, scratch, e, line, item)
+}
+
+// Writes what the wire `e` is.
+fn set_excess(lc: &mut Lc, reach: &Bits, line: &ToldLine, item: &Pair)
+    requires short { reach.now.n ≤ 31 }
+    requires within { reach.now.first + reach.now.n < 2 ^ 32 }
+    requires words { HasShortWords line.now }
+    requires first_short { length item.now.first ≤ 32 }
+    ensures terms { lc.new ≡ excess reach.now (line_told line.now) item.now }
+    ensures top { top lc.new ≤ max (reach.now.first + reach.now.n) (max 1
+        (max (top (cell_told line.now.cell))
+        (max (top (word_told line.now.old)) (top item.now.first)))) }
+{
+    lc.clear();
+    reach.plus_to(lc, F::of(SHIFT));
+    lc.plus(F::of(SHIFT), Wire(0));
+    lc.plus_terms(item.first.terms());
+    line.old.minus_from(lc);
+    line.cell.minus_above_from(lc);
+}
+
+// Constrains `e` to be 0, or the cells to be the same and the times to differ by it.
+fn either<S: Sink>(
+    s: &mut S,
+    scratch: &mut Scratch,
+    e: Wire,
+    line: &ToldLine,
+    item: &Pair,
+) -> Put<()>
+    requires room { Room S.meaning s.old 0 2 }
+    requires e_made { e < S.meaning.wires s.old }
+    requires line { IsLineMade (S.meaning.wires s.old) line.now }
+    requires item { IsItemMade (S.meaning.wires s.old) item.now }
+    ensures puts { PutsIn S.meaning s.old s.new (either_of e (line_told line.now) item.now) result }
+    ensures grows { IfOk result (λ _. Grows S.meaning s.old s.new 0 2) }
+{
+    set_either(scratch, e, line, item);
+    s.put(&scratch.a, &scratch.b, &scratch.c)?;
+    set_times(&mut scratch.b, e, line, item);
+    s.put(&scratch.a, &scratch.b, &scratch.c)
+}
+
+// Writes the factors `e` and the difference of the cells, and the product 0.
+fn set_either(scratch: &mut Scratch, e: Wire, line: &ToldLine, item: &Pair)
+    requires first_short { length item.now.first ≤ 32 }
+    ensures a { scratch.new.a ≡ wire e }
+    ensures b { scratch.new.b ≡ cell_difference (line_told line.now) item.now }
+    ensures c { scratch.new.c ≡ [] }
+    ensures top { top scratch.new.b ≤ max (top (cell_told line.now.cell)) (top item.now.first) }
+{
+    scratch.a.set_wire(e);
+    scratch.b.clear();
+    scratch.b.plus_terms(item.first.terms());
+    line.cell.minus_above_from(&mut scratch.b);
+    scratch.c.clear();
+}
+
+// Writes `e` and the difference of the times.
+fn set_times(lc: &mut Lc, e: Wire, line: &ToldLine, item: &Pair)
+    requires second_short { length item.now.second ≤ 32 }
+    ensures terms { lc.new ≡ time_difference e (line_told line.now) item.now }
+    ensures top { top lc.new ≤ max (e + 1) (max 1 (top item.now.second)) }
+{
+    lc.set_wire(e);
+    lc.plus_terms(item.second.terms());
+    lc.plus(-F::of(SHIFT) * F::from(line.time), Wire(0));
+}
+
+/// Assigns the wires of `follows` for a line and the item of its predecessor: the bits of the
+/// reach, lowest first, and the excess `e`. The line's new word is not read.
+pub fn fill_follows<V: Values>(v: &mut V, m: u32, item: &PairNum, line: &Line) -> Put<()>
+    requires whole { V.giving.broken v.old ≡ false }
+    requires short { m ≤ 31 }
+    ensures gives { GivesIn V.giving v.old v.new (follows_values m (unpacked item.now) line.now)
+        result }
+    ensures whole { OnOk result (V.giving.broken v.new ≡ false) }
+{
+    let before = unpack_item(item);
+    fill_bits(v, F::from(reach_between(&before, line)), m)?;
+    v.give(F::of(excess_between(&before, line)))
+}
+
+// How far `after` is after `before`, less 1.
+fn reach_between(before: &Line, after: &Line) -> u32
+    ensures { result ≡ reach_between before.now after.now }
+{
+    if before.cell == after.cell {
+        after.time.saturating_sub(before.time).saturating_sub(1)
+    } else {
+        after.cell.saturating_sub(before.cell).saturating_sub(1)
+    }
+}
+
+// The excess.
+fn excess_between(before: &Line, after: &Line) -> u64
+    ensures is { result ≡ excess_between before.now after.now }
+    ensures below { result < 2 ^ 64 - 2 ^ 32 + 1 }
+{
+    if before.cell == after.cell {
+        (SHIFT * u64::from(after.time.saturating_sub(before.time))).saturating_sub(u64::from(
+            after.old,
+        ))
+    } else {
+        0
+    }
+}
+
+/// In an assignment that meets the constraints of `follows`, the line follows that of the item:
+/// its cell is above, or its time in the same cell, and its old word is the other's new word where
+/// the cells are the same, and else 0.
+pub fn follows_is_sound()
+    ensures { FollowsIsSound }
+{}
+
+/// Where the line follows that of the item at a distance of `m` bits, an assignment with the values
+/// of `fill_follows` meets the constraints of `follows`.
+pub fn follows_is_complete()
+    ensures { FollowsIsComplete }
+{}
+
+/// `fill_follows` assigns as many values as `follows` makes wires, each below P for lines in range.
+pub fn follows_fills()
+    ensures { FollowsSizes }
+{}
+
+/// The constraints of `follows`, and their terms, by the lengths of its arguments: 137 terms at 31
+/// bits where each combination has one term.
+pub fn follows_costs()
+    ensures { FollowsCosts }
+{}
+
+/// 31 bits of reach suffice for lines in range; `k` bits suffice for times below 2^k where the cell
+/// is at most the one after the predecessor's.
+pub fn follows_reaches()
+    ensures { FollowsReaches }
+{}
+
+/// The key, the cell above the time, rises from a line to one that follows it.
+pub fn follows_rises()
+    ensures { FollowsRises }
+{}

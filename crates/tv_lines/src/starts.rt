@@ -1,0 +1,84 @@
+//! Lines that begin a cell: boot lines, and the least line of all.
+ghost use Rattle.std.specs.Prelude.{◌≡◌, ◌≤◌, length, max, IfOk};
+ghost use Rattle.tv_core.specs.Combinations.{top, constant};
+ghost use Rattle.tv_core.specs.Sinks.{PutsIn, Grows, Room};
+ghost use Rattle.tv_lines.specs.Predecessor.{IsLineMade, IsItemMade, less_above};
+ghost use Rattle.tv_lines.specs.Starts.{boot_line_of, BootLineIsSound, BootLineIsComplete};
+ghost use Rattle.tv_lines.specs.Starts.{BootLineSizes, least_line_of, LeastLineIsSound};
+ghost use Rattle.tv_lines.specs.Starts.{LeastLineIsComplete, LeastLineSizes};
+ghost use Rattle.tv_lines.specs.Told.{line_told};
+
+use crate::told::{SHIFT, ToldLine};
+use tv_core::{F, Lc, Pair, Put, Scratch, Sink, Wire};
+
+/// Constrains the line of `item` to be of cell `c`. A boot line of cell `c + 1`, whose old word is
+/// the constant 0, so follows it. It makes no wire and 1 constraint,
+/// `[item.first - 2^32 c] [1] = [0]`.
+pub fn boot_line<S: Sink>(s: &mut S, scratch: &mut Scratch, c: u32, item: &Pair) -> Put<()>
+    requires room { Room S.meaning s.old 0 1 }
+    requires item { IsItemMade (S.meaning.wires s.old) item.now }
+    ensures puts { PutsIn S.meaning s.old s.new (boot_line_of c item.now) result }
+    ensures grows { IfOk result (λ _. Grows S.meaning s.old s.new 0 1) }
+{
+    set_cells(&mut scratch.a, c, item);
+    scratch.b.set_wire(Wire(0));
+    scratch.c.clear();
+    s.put(&scratch.a, &scratch.b, &scratch.c)
+}
+
+// Writes the item's cell less `c`, 2^32 times.
+fn set_cells(lc: &mut Lc, c: u32, item: &Pair)
+    requires first_short { length item.now.first ≤ 32 }
+    ensures terms { lc.new ≡ less_above item.now.first (constant c) }
+    ensures top { top lc.new ≤ max 1 (top item.now.first) }
+{
+    lc.clear();
+    lc.plus_terms(item.first.terms());
+    lc.plus(-F::of(SHIFT) * F::from(c), Wire(0));
+}
+
+/// Constrains the old word of `line` to be 0, as that of the least line is. It makes no wire and 1
+/// constraint, `[old] [1] = [0]`.
+pub fn least_line<S: Sink>(s: &mut S, scratch: &mut Scratch, line: &ToldLine) -> Put<()>
+    requires room { Room S.meaning s.old 0 1 }
+    requires line { IsLineMade (S.meaning.wires s.old) line.now }
+    ensures puts { PutsIn S.meaning s.old s.new (least_line_of (line_told line.now)) result }
+    ensures grows { IfOk result (λ _. Grows S.meaning s.old s.new 0 1) }
+{
+    scratch.a.clear();
+    line.old.plus_to(&mut scratch.a);
+    scratch.b.set_wire(Wire(0));
+    scratch.c.clear();
+    s.put(&scratch.a, &scratch.b, &scratch.c)
+}
+
+/// In an assignment that meets the constraint of `boot_line`, a line of the next cell whose old
+/// word is 0 follows that of the item.
+pub fn boot_line_is_sound()
+    ensures { BootLineIsSound }
+{}
+
+/// Where the item is of that cell, an assignment meets the constraint of `boot_line`.
+pub fn boot_line_is_complete()
+    ensures { BootLineIsComplete }
+{}
+
+/// `boot_line` makes no wire, and one constraint.
+pub fn boot_line_fills()
+    ensures { BootLineSizes }
+{}
+
+/// In an assignment that meets the constraint of `least_line`, the line's old word is 0.
+pub fn least_line_is_sound()
+    ensures { LeastLineIsSound }
+{}
+
+/// Where the line's old word is 0, an assignment meets the constraint of `least_line`.
+pub fn least_line_is_complete()
+    ensures { LeastLineIsComplete }
+{}
+
+/// `least_line` makes no wire, and one constraint.
+pub fn least_line_fills()
+    ensures { LeastLineSizes }
+{}
