@@ -1,9 +1,15 @@
+pub mod CheckCosts
 pub mod Complete
-pub mod Filled
+pub mod Costs
+pub mod Counting
 pub mod FillingLaws
+pub mod Honesty
 pub mod Made
 pub mod Ordering
 pub mod Parts
+pub mod Previous
+pub mod Reached
 pub mod Rising
 pub mod Sizes
 pub mod Sound
+pub mod Written

@@ -12,17 +12,18 @@ use Rattle.tv_lines.specs.Ordered.{InTimeOrder, Ordered, key}
 use Rattle.tv_lines.specs.Placed.{zero_line, number_in, LinesFrom}
 use Rattle.tv_memory.proofs.Parts.{placed}
 use Rattle.tv_memory.proofs.Rising.{rising_moves, rising_rises}
-use Rattle.tv_memory.specs.Memory.{place_at}
-use Rattle.tv_memory.specs.Order.{rising, address_order, AddressOrderIsRight}
+use Rattle.tv_memory.specs.Order.{place_at, rising, address_order, AddressOrderIsRight}
 
 module _ {X Y : Type 0} (f : X → Y) (d : X) where
   by_places : (pre ls : List X) (a : ℕ) → length pre ≡ a → map (λ i. f (get_or (pre ++ ls) i d)) (range_with_len a (length ls)) ≡ map f ls
   by_places pre [] a e = refl
   by_places pre (l ∷ ls) a e =
-      let here : get_or (pre ++ l ∷ ls) a d ≡ l = ap (λ n. get_or (pre ++ l ∷ ls) n d) (sym e ∙ sym (add-zero (length pre))) ∙ get_or-append-add pre (l ∷ ls) 0 d in
+      let here : get_or (pre ++ l ∷ ls) a d ≡ l = ap (λ n. get_or (pre ++ l ∷ ls) n d) (sym e ∙ sym (add-zero (length pre)))
+      ∙ get_or-append-add pre (l ∷ ls) 0 d in
       let more : length (pre ++ l ∷ []) ≡ a + 1 = length-append pre (l ∷ []) ∙ omega arith in
       let rest = by_places (pre ++ l ∷ []) ls (a + 1) more in
-      ap₂ (λ (u : Y) (us : List Y). u ∷ us) (ap f here) (ap (λ w. map (λ i. f (get_or w i d)) (range_with_len (a + 1) (length ls))) (sym (append_assoc pre (l ∷ []) ls)) ∙ rest)
+      ap₂ (λ (u : Y) (us : List Y). u ∷ us) (ap f here) (ap (λ w. map (λ i. f (get_or w i d)) (range_with_len (a + 1) (length ls)))
+      (sym (append_assoc pre (l ∷ []) ls)) ∙ rest)
 
   -- a list is what stands at its places
   pub each_place : (ls : List X) → each_below (length ls) (λ i. f (get_or ls i d)) ≡ map f ls
@@ -65,7 +66,8 @@ module _ (lines : List Line) (few : length lines ≤ 2 ^ 20) (from : LinesFrom 0
       ∙ same_places (length lines) (λ i. key (number_in lines i) % 2 ^ 20) (λ i. i) place_of_key
 
   permuted : IsPermutation (places (length lines) (λ i. i)) (address_order lines)
-  permuted = subst (λ ps. IsPermutation ps (address_order lines)) places_of_keys (IsPermutation-map (λ k. k % 2 ^ 20) (map key lines) (rising (map key lines)) (rising_moves (map key lines)))
+  permuted = subst (λ ps. IsPermutation ps (address_order lines)) places_of_keys
+      (IsPermutation-map (λ k. k % 2 ^ 20) (map key lines) (rising (map key lines)) (rising_moves (map key lines)))
 
   -- the lines that they tell are the lines
   lines_of_keys : map (λ k. number_in lines (k % 2 ^ 20)) (map key lines) ≡ lines
@@ -79,7 +81,8 @@ module _ (lines : List Line) (few : length lines ≤ 2 ^ 20) (from : LinesFrom 0
       map_same (l ∷ ls) = ap (λ rest. l ∷ rest) (map_same ls)
 
   moved : IsPermutation lines sorted
-  moved = subst (λ ls. IsPermutation ls sorted) lines_of_keys (IsPermutation-map (λ k. number_in lines (k % 2 ^ 20)) (map key lines) (rising (map key lines)) (rising_moves (map key lines)))
+  moved = subst (λ ls. IsPermutation ls sorted) lines_of_keys
+      (IsPermutation-map (λ k. number_in lines (k % 2 ^ 20)) (map key lines) (rising (map key lines)) (rising_moves (map key lines)))
 
   -- the line that a key tells has it
   keeps : All (λ k. key (number_in lines (k % 2 ^ 20)) ≡ k) (rising (map key lines))

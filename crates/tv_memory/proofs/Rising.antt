@@ -19,7 +19,8 @@ put_moves l (m ∷ ls) = by (nat_le l m) (put_moves l ls)
 
 pub rising_moves : (ls : List ℕ) → IsPermutation ls (rising ls)
 rising_moves [] = IsPermutation-refl []
-rising_moves (l ∷ ls) = IsPermutation-trans (l ∷ ls) (l ∷ rising ls) (put_in l (rising ls)) (IsPermutation-cons l ls (rising ls) (rising_moves ls)) (put_moves l (rising ls))
+rising_moves (l ∷ ls) = IsPermutation-trans (l ∷ ls) (l ∷ rising ls) (put_in l (rising ls)) (IsPermutation-cons l ls (rising ls) (rising_moves ls))
+    (put_moves l (rising ls))
 
 -- each is at least k; and each is at least those before it
 abbrev From : ℕ → List ℕ → Type 0
@@ -76,7 +77,11 @@ from_of k (l ∷ ls) each = (each 0 0 (omega arith), from_of k ls (λ j d h. eac
 
 rises_of : (ls : List ℕ) → IsNonDecreasing ls → Rises ls
 rises_of [] r = tt
-rises_of (l ∷ ls) r = (from_of l ls (λ j d h. r 0 (suc j) d (omega arith) (omega arith)), rises_of ls (λ i j d h k. r (suc i) (suc j) d (omega arith) (omega arith)))
+rises_of (l ∷ ls) r = (
+  from_of l ls (λ j d h. r 0 (suc j) d (omega arith) (omega arith)),
+  rises_of ls
+      (λ i j d h k. r (suc i) (suc j) d (omega arith) (omega arith)),
+)
 
 -- how often a number occurs
 one : ℕ → ℕ → ℕ
@@ -122,4 +127,5 @@ one_list (x ∷ xs) (y ∷ ys) r s same =
 -- a rising list with the numbers of another is that list's rising order
 pub rising_is : (ls sorted : List ℕ) → IsPermutation ls sorted → IsNonDecreasing sorted → sorted ≡ rising ls
 rising_is ls sorted moved order =
-    one_list sorted (rising ls) (rises_of sorted order) (rises ls) (λ c. sum_by-IsPermutation (one c) ls sorted moved ∙ sym (sum_by-IsPermutation (one c) ls (rising ls) (rising_moves ls)))
+    one_list sorted (rising ls) (rises_of sorted order) (rises ls)
+    (λ c. sum_by-IsPermutation (one c) ls sorted moved ∙ sym (sum_by-IsPermutation (one c) ls (rising ls) (rising_moves ls)))

@@ -1,4 +1,6 @@
 pub mod Argument
+pub mod Checks
+pub mod Costs
 pub mod Memory
 pub mod Order
 pub use Rattle.tv_benes.specs.Items

@@ -1,116 +1,112 @@
-//! The argument, put into a sink, and its laws.
-ghost use Rattle.std.specs.Prelude.{◌≡◌, ◌+◌, ◌-◌, ◌*◌, ◌^◌, ◌≤◌, ◌<◌, length, All, IfOk};
+//! The argument's constraints, and its laws.
+ghost use Rattle.std.specs.Prelude.{◌≡◌, ◌^◌, ◌≤◌, ◌<◌, length, All, IfOk};
 ghost use Rattle.tv_benes.specs.Places.{output, AreBelow};
 ghost use Rattle.tv_benes.specs.declared.shape.Net.{Net};
+ghost use Rattle.tv_core.specs.Below.{sum_below};
 ghost use Rattle.tv_core.specs.Loops.{times};
 ghost use Rattle.tv_core.specs.Sinks.{PutsIn, Grows, Room};
+ghost use Rattle.tv_lines.specs.Placed.{line_in};
+ghost use Rattle.tv_lines.specs.Predecessor.{IsLineMade, IsItemMade};
+ghost use Rattle.tv_lines.specs.Told.{line_told};
 ghost use Rattle.tv_memory.specs.Argument.{ArgumentIsSound, ArgumentIsComplete};
-ghost use Rattle.tv_memory.specs.Memory.{IsMade, bits_at, unpack_one, neighbours_of, sorted_of};
-ghost use Rattle.tv_memory.specs.Memory.{memory_of, memory_made, memory_added, OrderedIsMet};
-ghost use Rattle.tv_memory.specs.Order.{memory_values, AddressOrderIsReached};
+ghost use Rattle.tv_memory.specs.Checks.{AreShort, IsShort, check_of, check_made, check_added};
+ghost use Rattle.tv_memory.specs.Memory.{IsMade, memory_of, memory_made, memory_added};
+ghost use Rattle.tv_memory.specs.Memory.{MemoryCosts};
+ghost use Rattle.tv_memory.specs.Order.{memory_values};
 
-use crate::lines::{Lines, Packed, no_terms};
+use crate::kinds::Kind;
+use crate::lines::{LineItems, Lines, no_terms};
 use tv_benes::{Net, Outputs, routing_network};
-use tv_core::{Put, Scratch, Sink, Wire};
-use tv_lines::{LineBits, first_line, line_bits, sorted_pair_by, unpack_by};
-use tv_word::arithmetic::power;
+use tv_core::{Pair, Put, Scratch, Sink};
+use tv_lines::{ToldLine, boot_line, follows, least_line};
 
-/// Holds 2^`k` lines, `k` being from 1 to 20, that are told in time order to be honest: a
-/// permutation network takes them to address order. It asks for each line once, and takes no
-/// memory. It makes 5 wires and 5 constraints for each switch of the network; and for the lines 133
-/// wires each, less 18, and 137 constraints each, less 19.
+/// Constrains 2^`k` lines in time order, `k` from 1 to 20, to be honest: each finds the word that
+/// the last earlier line of its cell leaves, or 0. A permutation network brings to each line the
+/// item of its predecessor in address order, and the line is checked against it at its own place,
+/// as its kind says. It asks for each line twice, and takes no memory. It makes 5 wires and 5
+/// constraints for each switch, and those of the checks: `m + 1` wires and `m + 3` constraints for
+/// a line within `m` bits, 1 constraint for a boot line or the least line.
 pub fn memory<S: Sink, L: Lines>(s: &mut S, net: Net, k: u32, lines: &L) -> Put<()>
     requires some { 1 ≤ k }
     requires few { k ≤ 20 }
     requires many { length (L.lines lines.now) ≡ 2 ^ k }
-    requires room { Room S.meaning s.old (memory_made net k) (memory_added net k) }
+    requires checks { AreShort (L.checks lines.now) (2 ^ k) }
+    requires room { Room S.meaning s.old (memory_made net (L.checks lines.now) k)
+        (memory_added net (L.checks lines.now) k) }
     requires made { All (IsMade (S.meaning.wires s.old)) (L.lines lines.now) }
-    ensures puts { PutsIn S.meaning s.old s.new (memory_of net k (L.lines lines.now)) result }
-    ensures grows { IfOk result (λ _. Grows S.meaning s.old s.new (memory_made net k)
-        (memory_added net k)) }
+    ensures puts { PutsIn S.meaning s.old s.new
+        (memory_of net (L.checks lines.now) k (L.lines lines.now)) result }
+    ensures grows { IfOk result (λ _. Grows S.meaning s.old s.new
+        (memory_made net (L.checks lines.now) k) (memory_added net (L.checks lines.now) k)) }
 {
-    let last = routing_network(s, net, k, &Packed { lines })?;
-    let first = Wire(s.wires());
-    let n = power(k);
-    unpack_all(s, n, &last)?;
-    sort_all(s, n, first)
+    let last = routing_network(s, net, k, &LineItems { lines })?;
+    check_all(s, lines, &last)
 }
 
-// The bits of n pairs.
-fn unpack_all<S: Sink>(s: &mut S, n: u32, pairs: &Outputs) -> Put<()>
-    requires room { Room S.meaning s.old (n * 115) (n * 117) }
-    requires made { AreBelow pairs.now n (S.meaning.wires s.old) }
-    ensures puts { PutsIn S.meaning s.old s.new (times n (λ i. unpack_one (output pairs.now i)))
-        result }
-    ensures grows { IfOk result (λ _. Grows S.meaning s.old s.new (n * 115) (n * 117)) }
+// Checks each line against what the network brings to its place.
+fn check_all<S: Sink, L: Lines>(s: &mut S, lines: &L, last: &Outputs) -> Put<()>
+    requires checks { AreShort (L.checks lines.now) (length (L.lines lines.now)) }
+    requires room { Room S.meaning s.old
+        (sum_below (L.checks lines.now).count (λ i. check_made ((L.checks lines.now).kind i)))
+        (sum_below (L.checks lines.now).count (λ i. check_added ((L.checks lines.now).kind i))) }
+    requires made { All (IsMade (S.meaning.wires s.old)) (L.lines lines.now) }
+    requires below { AreBelow last.now (length (L.lines lines.now)) (S.meaning.wires s.old) }
+    ensures puts { PutsIn S.meaning s.old s.new (times (L.checks lines.now).count
+        (λ i. check_of ((L.checks lines.now).kind i) (output last.now i)
+        (line_in (L.lines lines.now) i))) result }
+    ensures grows { IfOk result (λ _. Grows S.meaning s.old s.new
+        (sum_below (L.checks lines.now).count (λ i. check_made ((L.checks lines.now).kind i)))
+        (sum_below (L.checks lines.now).count (λ i. check_added ((L.checks lines.now).kind i)))) }
 {
     let mut scratch = Scratch::new();
-    let mut pair = no_terms();
-    for i in 0..n {
-        pairs.fill(i, &mut pair);
-        unpack_by(s, &mut scratch, &pair)?;
+    let mut item = no_terms();
+    for i in 0..lines.checked() {
+        last.fill(i, &mut item);
+        check(s, &mut scratch, lines.kind(i), &lines.line(i), &item)?;
     }
     Ok(())
 }
 
-// Holds n lines whose bits stand from a wire on to address order.
-fn sort_all<S: Sink>(s: &mut S, n: u32, first: Wire) -> Put<()>
-    requires some { 1 ≤ n }
-    requires room { Room S.meaning s.old ((n - 1) * 18) (1 + (n - 1) * 20) }
-    requires made { first + n * 115 ≤ S.meaning.wires s.old }
-    ensures puts { PutsIn S.meaning s.old s.new (sorted_of n first) result }
-    ensures grows { IfOk result (λ _. Grows S.meaning s.old s.new ((n - 1) * 18)
-        (1 + (n - 1) * 20)) }
+// Checks a line of a kind against an item.
+fn check<S: Sink>(
+    s: &mut S,
+    scratch: &mut Scratch,
+    kind: Kind,
+    line: &ToldLine,
+    item: &Pair,
+) -> Put<()>
+    requires short { IsShort kind }
+    requires room { Room S.meaning s.old (check_made kind) (check_added kind) }
+    requires line { IsLineMade (S.meaning.wires s.old) line.now }
+    requires item { IsItemMade (S.meaning.wires s.old) item.now }
+    ensures puts { PutsIn S.meaning s.old s.new (check_of kind item.now (line_told line.now)) result }
+    ensures grows { IfOk result
+        (λ _. Grows S.meaning s.old s.new (check_made kind) (check_added kind)) }
 {
-    first_line(s, &bits_at(first, 0))?;
-    sort_neighbours(s, n - 1, first)
-}
-
-// Holds n lines and the one after each to follow each other.
-fn sort_neighbours<S: Sink>(s: &mut S, n: u32, first: Wire) -> Put<()>
-    requires room { Room S.meaning s.old (n * 18) (n * 20) }
-    requires made { first + (n + 1) * 115 ≤ S.meaning.wires s.old }
-    ensures puts { PutsIn S.meaning s.old s.new (times n (neighbours_of first)) result }
-    ensures grows { IfOk result (λ _. Grows S.meaning s.old s.new (n * 18) (n * 20)) }
-{
-    let mut scratch = Scratch::new();
-    for i in 0..n {
-        sorted_pair_by(s, &mut scratch, &bits_at(first, i), &bits_at(first, i + 1))?;
+    match kind {
+        Kind::Fresh => Ok(()),
+        Kind::Least => least_line(s, scratch, line),
+        Kind::Boot(cell) => boot_line(s, scratch, cell, item),
+        Kind::Within(bits) => follows(s, scratch, bits, line, item),
     }
-    Ok(())
 }
 
-// The bits of line i, of lines that were unpacked from a wire on.
-fn bits_at(first: Wire, i: u32) -> LineBits
-    requires { first + (i + 1) * 115 < 2 ^ 32 }
-    ensures { result ≡ bits_at first i }
-{
-    let at = first.offset(i * 115);
-    line_bits(at, at.offset(63))
-}
-
-/// Lines that have the times 0, 1, 2, .. are honest in every assignment that meets what `memory`
-/// put, whatever it has at the wires of the network and behind it.
+/// Lines at the times 0, 1, 2, .. that are of their kinds are honest in every assignment that meets
+/// the constraints of `memory`, whatever it has at the wires of the network and of the checks.
 pub fn memory_is_sound()
     ensures { (net : Net) → ArgumentIsSound (memory_of net) }
 {}
 
-/// For honest lines that have the times 0, 1, 2, .. there are values, as many as wires and each
-/// below P, with which an assignment meets what `memory` put: those of their address order and of
-/// its settings.
+/// For honest lines at the times 0, 1, 2, .. that are of their kinds and near their predecessors
+/// there are values, as many as wires and each below P, with which an assignment meets the
+/// constraints of `memory`.
 pub fn memory_is_complete()
     ensures { (net : Net) → ArgumentIsComplete (memory_of net) (memory_values net)
         (memory_made net) }
 {}
 
-/// The settings for the address order of lines that have the times 0, 1, 2, .. take them there: the
-/// values that `fill_memory` gives by them are those for which `memory_is_complete` stands.
-pub fn address_order_is_reached()
-    ensures { AddressOrderIsReached }
-{}
-
-/// Where the lines at some places are in address order, and bits send these places through the
-/// network, an assignment that has their values meets what `memory` put.
-pub fn ordered_is_met()
-    ensures { OrderedIsMet }
+/// The constraints of `memory`, and their terms, by the kinds of the lines and the lengths of their
+/// combinations.
+pub fn memory_costs()
+    ensures { MemoryCosts }
 {}

@@ -1,72 +1,70 @@
 //! The values of the argument's wires.
-ghost use Rattle.std.specs.Prelude.{◌≡◌, ◌+◌, ◌-◌, ◌^◌, ◌≤◌, false, length, map, OnOk};
+ghost use Rattle.std.specs.Prelude.{◌≡◌, ◌^◌, ◌≤◌, ◌<◌, false, length, OnOk};
 ghost use Rattle.tv_benes.specs.Items.{bit_at, pair_at};
-ghost use Rattle.tv_core.specs.Below.{joined_below};
 ghost use Rattle.tv_core.specs.Giving.{GivesIn};
 ghost use Rattle.tv_lines.specs.Packing.{unpacked};
-ghost use Rattle.tv_lines.specs.SortedPair.{sorted_pair_values};
-ghost use Rattle.tv_lines.specs.Unpacking.{unpack_values};
-ghost use Rattle.tv_memory.specs.Memory.{routed_values};
+ghost use Rattle.tv_memory.specs.Checks.{AreShort, IsShort, check_values};
+ghost use Rattle.tv_memory.specs.Memory.{checks_values, routed_values};
 
+use crate::kinds::Kind;
+use crate::lines::LineNumbers;
 use tv_benes::{Net, route_items};
-use tv_core::{PairNum, Put, Values};
-use tv_lines::{fill_sorted_pair, fill_unpack, unpack_line};
+use tv_core::{Line, PairNum, Put, Values};
+use tv_lines::fill_follows;
 
-/// Gives the values of the wires that `memory` makes, for 2^`k` packed lines in time order, `k`
-/// being from 1 to 20, that the settings `bits` send through the network: they meet it where the
-/// lines are honest and come out in address order. The pairs are moved along where they stand, with
-/// `spare` as room for as many, whatever it holds; how both stand afterwards isn't told. It takes
-/// time linear in the number of wires, and no memory.
-pub fn fill_memory<V: Values>(
+/// Assigns the wires of `memory` for 2^`k` lines in time order, `k` from 1 to 20. `items` are the
+/// lines' items, and the settings `bits` send them through the network; the values meet the
+/// constraints where the lines are honest and the settings bring to each the item of its
+/// predecessor. The items are moved in place, with `spare` as room for as many, whatever it holds;
+/// the contents of both are unspecified afterwards. It asks `lines` for each line that makes wires
+/// of its own. It takes time linear in the number of wires, and no memory.
+pub fn fill_memory<V: Values, L: LineNumbers>(
     v: &mut V,
     net: Net,
     k: u32,
-    pairs: &mut [PairNum],
+    items: &mut [PairNum],
     spare: &mut [PairNum],
     bits: &[bool],
+    lines: &L,
 ) -> Put<()>
     requires whole { V.giving.broken v.old ≡ false }
     requires some { 1 ≤ k }
     requires few { k ≤ 20 }
-    requires pairs { length pairs.old ≡ 2 ^ k }
+    requires items { length items.old ≡ 2 ^ k }
     requires spare { length spare.old ≡ 2 ^ k }
-    ensures gives { GivesIn V.giving v.old v.new
-        (routed_values net (k - 1) (bit_at bits.now) (map unpacked pairs.old)) result }
+    requires checks { AreShort (L.checks lines.now) (2 ^ k) }
+    ensures gives { GivesIn V.giving v.old v.new (routed_values net (L.checks lines.now) k
+        (bit_at bits.now) items.old (L.lines lines.now)) result }
     ensures whole { OnOk result (V.giving.broken v.new ≡ false) }
 {
-    route_items(v, net, k, pairs, spare, bits)?;
-    fill_bits_of_lines(v, pairs)?;
-    fill_neighbours(v, pairs)
+    route_items(v, net, k, items, spare, bits)?;
+    fill_checks(v, items, lines)
 }
 
-// The bits of lines.
-fn fill_bits_of_lines<V: Values>(v: &mut V, pairs: &[PairNum]) -> Put<()>
+// Assigns the wires of the checks, against the items at the lines' places.
+fn fill_checks<V: Values, L: LineNumbers>(v: &mut V, items: &[PairNum], lines: &L) -> Put<()>
     requires whole { V.giving.broken v.old ≡ false }
+    requires checks { AreShort (L.checks lines.now) (length items.now) }
     ensures gives { GivesIn V.giving v.old v.new
-        (joined_below (length pairs.now) (λ i. unpack_values (pair_at pairs.now i))) result }
+        (checks_values (L.checks lines.now) (pair_at items.now) (L.lines lines.now)) result }
     ensures whole { OnOk result (V.giving.broken v.new ≡ false) }
 {
-    for pair in pairs {
-        fill_unpack(v, pair)?;
+    for i in 0..lines.checked() {
+        fill_check(v, lines.kind(i), &items[i as usize], &lines.line(i))?;
     }
     Ok(())
 }
 
-// The values of each two lines that follow each other.
-fn fill_neighbours<V: Values>(v: &mut V, pairs: &[PairNum]) -> Put<()>
+// Assigns the wires of one check.
+fn fill_check<V: Values>(v: &mut V, kind: Kind, item: &PairNum, line: &Line) -> Put<()>
     requires whole { V.giving.broken v.old ≡ false }
-    requires some { 1 ≤ length pairs.now }
+    requires short { IsShort kind }
     ensures gives { GivesIn V.giving v.old v.new
-        (joined_below (length pairs.now - 1)
-        (λ i. sorted_pair_values (unpacked (pair_at pairs.now i))
-        (unpacked (pair_at pairs.now (i + 1))))) result }
+        (check_values kind (unpacked item.now) line.now) result }
     ensures whole { OnOk result (V.giving.broken v.new ≡ false) }
 {
-    let mut before = unpack_line(&pairs[0]);
-    for pair in &pairs[1..] {
-        let after = unpack_line(pair);
-        fill_sorted_pair(v, &before, &after)?;
-        before = after;
+    match kind {
+        Kind::Fresh | Kind::Least | Kind::Boot(_) => Ok(()),
+        Kind::Within(bits) => fill_follows(v, bits, item, line),
     }
-    Ok(())
 }

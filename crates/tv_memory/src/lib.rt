@@ -1,6 +1,9 @@
-//! The memory argument: constraints that hold a list of lines, told one by one in time order, to be
-//! honest. The lines go through a permutation network, and behind it they are held to address
-//! order.
+//! The memory argument: constraints that hold a list of lines, given in time order, to be honest.
+//!
+//! A permutation network brings to each line, at its own place, the item of its predecessor in
+//! address order, and the line is checked against it there: its cell is above, or its time in the
+//! same cell, and its old word is what the predecessor leaves, or 0. Nothing is unpacked after the
+//! network. How a line is checked is known from its place: its `Kind`.
 //!
 //! `memory` keeps no list and takes no memory. Contracts above cite the two records of
 //! `specs/Argument.antt`, which say what any argument about memory has to give; that this one does
@@ -8,13 +11,15 @@
 #![tactic(auto)]
 
 mod arguing;
+mod check_costs;
 mod filling;
+mod kinds;
 mod lines;
 mod sorting;
 
-pub use arguing::{
-    address_order_is_reached, memory, memory_is_complete, memory_is_sound, ordered_is_met,
-};
+pub use arguing::{memory, memory_costs, memory_is_complete, memory_is_sound};
+pub use check_costs::{check_added, check_made, check_terms, checks_are_cheap, network_made};
 pub use filling::fill_memory;
-pub use lines::Lines;
-pub use sorting::{address_order, address_order_is_right};
+pub use kinds::Kind;
+pub use lines::{LineNumbers, Lines};
+pub use sorting::{address_order_is_right, predecessors, predecessors_are_right};

@@ -1,40 +1,82 @@
+//! Lines by their places: in compact form for the constraints, in numbers for their values.
 ghost use Rattle.std.specs.Prelude.{◌≡◌, ◌<◌, List, length};
+ghost use Rattle.tv_core.specs.Lines.{Line};
 ghost use Rattle.tv_core.specs.declared.lines.LineLc.{LineLc};
-ghost use Rattle.tv_lines.specs.Packing.{pack};
-ghost use Rattle.tv_lines.specs.Placed.{line_in};
+ghost use Rattle.tv_lines.specs.Placed.{line_in, number_in};
+ghost use Rattle.tv_lines.specs.Told.{line_told, HasShortWords};
+ghost use Rattle.tv_memory.specs.Checks.{Checks};
+ghost use Rattle.tv_memory.specs.Memory.{items_of};
 
+use crate::kinds::Kind;
 use tv_benes::Inputs;
-use tv_core::{Lc, Pair};
+use tv_core::{Lc, Line, Pair};
+use tv_lines::ToldLine;
 
-/// Lines that are told by their places. Contracts see them as a list.
+/// Lines by their places, and how each is checked. Contracts see them as a list and as `Checks`.
 pub trait Lines {
     ghost lines: { Self → List LineLc };
 
-    /// Makes `pair` the line at place `i`, packed.
-    fn pack(&self, i: u32, pair: &mut Pair)
+    ghost checks: { Self → Checks };
+
+    /// Returns the line at place `i`, in compact form.
+    fn line(&self, i: u32) -> ToldLine
         requires { i < length (lines self.now) }
-        ensures { pair.new ≡ pack (line_in (lines self.now) i) };
+        ensures is { line_told result ≡ line_in (lines self.now) i }
+        ensures words { HasShortWords result };
+
+    /// Returns how many lines are checked: those at places below this. The others are padding.
+    fn checked(&self) -> u32
+        ensures { result ≡ (checks self.now).count };
+
+    /// Returns how the line at place `i` is checked.
+    fn kind(&self, i: u32) -> Kind
+        requires { i < (checks self.now).count }
+        ensures { result ≡ (checks self.now).kind i };
 }
 
-// The lines as pairs, for a network.
+/// The numbers of lines by their places, and how each is checked, for the values of the checks.
+/// Contracts see them as a list and as `Checks`.
+pub trait LineNumbers {
+    ghost lines: { Self → List Line };
+
+    ghost checks: { Self → Checks };
+
+    /// Returns the line at place `i`, but for its new word, which may be any.
+    fn line(&self, i: u32) -> Line
+        requires { i < (checks self.now).count }
+        ensures cell { result.cell ≡ (number_in (lines self.now) i).cell }
+        ensures time { result.time ≡ (number_in (lines self.now) i).time }
+        ensures old { result.old ≡ (number_in (lines self.now) i).old };
+
+    /// Returns how many lines are checked: those at places below this.
+    fn checked(&self) -> u32
+        ensures { result ≡ (checks self.now).count };
+
+    /// Returns how the line at place `i` is checked.
+    fn kind(&self, i: u32) -> Kind
+        requires { i < (checks self.now).count }
+        ensures { result ≡ (checks self.now).kind i };
+}
+
+// The lines' items, for a network.
 #[derive(Clone, Copy)]
-pub(crate) struct Packed<'a, L> {
+pub(crate) struct LineItems<'a, L> {
     pub(crate) lines: &'a L,
 }
 
-impl<'a, L: Lines> Inputs for Packed<'a, L> {
-    ghost pair = { λ p i. pack (line_in (L.lines p.lines.now) i) };
+impl<'a, L: Lines> Inputs for LineItems<'a, L> {
+    ghost pair = { λ p i. items_of (L.lines p.lines.now) i };
 
     ghost count = { λ p. length (L.lines p.lines.now) };
 
     fn at(&self, i: u32) -> Pair {
         let mut pair = no_terms();
-        self.lines.pack(i, &mut pair);
+        self.fill(i, &mut pair);
         pair
     }
 
     fn fill(&self, i: u32, item: &mut Pair) {
-        self.lines.pack(i, item);
+        self.lines.line(i).item(item);
     }
 }
 

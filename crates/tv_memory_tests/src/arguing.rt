@@ -2,31 +2,35 @@
 ghost use Rattle.std.specs.Prelude.{◌≤◌};
 ghost use Rattle.tv_core.specs.Sinks.{Room};
 
-use crate::rows::{ORDER, honest, packed_all};
-use crate::wired::{FIRST, Wired, wires_of};
+use crate::rows::{PREDECESSORS, honest, items, line};
+use crate::wired::{FIRST, Numbered, Wired, wires_of};
 use std::alloc::Global;
 use std::test::Fail;
 use tv_benes::Net;
-use tv_core::{ListValues, Put, Sink, TestSink};
-use tv_memory::{address_order, fill_memory, memory};
+use tv_core::{CountSink, F, Line, ListValues, Put, Sink, TestSink};
+use tv_memory::{fill_memory, memory, predecessors};
 use tv_route::{is_permutation, routing_settings};
 
 fn put<S: Sink>(s: &mut S, net: Net) -> Put<()>
-    requires room { Room S.meaning s.old 1200 1200 }
-    requires lines { 33 ≤ S.meaning.wires s.old }
+    requires room { Room S.meaning s.old 400 400 }
+    requires lines { 25 ≤ S.meaning.wires s.old }
 {
     memory(s, net, 3, &Wired { first: 1 })
 }
 
-// 1, the lines, and the values for their address order.
-fn assignment(alloc: Global, net: Net) -> Result<ListValues, Fail> {
-    let lines = honest();
-    let mut pairs = packed_all(alloc, &lines)?;
-    let mut values = wires_of(alloc, &lines)?;
-    if pairs.len() != 8 || !is_permutation(alloc, &ORDER)? {
-        return Err(Fail::from("no order"));
+// 1, the lines, and the values for their predecessors, of which each is at its place.
+fn assignment(
+    alloc: Global,
+    net: Net,
+    lines: &[Line; 8],
+    before: &[u32],
+) -> Result<ListValues, Fail> {
+    let mut pairs = items(alloc, lines)?;
+    let mut values = wires_of(alloc, lines)?;
+    if before.len() != 8 || !is_permutation(alloc, before)? {
+        return Err(Fail::from("no permutation"));
     }
-    let settings = routing_settings(alloc, net, &ORDER)?;
+    let settings = routing_settings(alloc, net, before)?;
     let mut spare = pairs.clone()?;
     fill_memory(
         &mut values,
@@ -35,30 +39,79 @@ fn assignment(alloc: Global, net: Net) -> Result<ListValues, Fail> {
         &mut pairs,
         &mut spare,
         settings.as_slice(),
+        &Numbered { lines },
     )?;
     Ok(values)
 }
 
+// How many constraints these values meet.
+fn held(z: &[F], net: Net) -> Put<u32> {
+    let mut tests = TestSink::over(z, FIRST);
+    put(&mut tests, net)?;
+    Ok(tests.held())
+}
+
 #[test]
-fn a_sort_finds_the_address_order(rt: HostRuntime) -> Result<(), Fail> {
-    let pairs = packed_all(rt.alloc(), &honest())?;
-    let order = address_order(rt.alloc(), &pairs)?;
-    assert_eq!(rt; order.as_slice(), ORDER.as_slice());
+fn a_sort_finds_the_predecessors(rt: HostRuntime) -> Result<(), Fail> {
+    let found = predecessors(rt.alloc(), &items(rt.alloc(), &honest())?)?;
+    assert_eq!(rt; found.as_slice(), PREDECESSORS.as_slice());
     Ok(())
 }
 
 #[test]
 fn honest_lines_meet_it(rt: HostRuntime) -> Result<(), Fail> {
-    for (net, constraints, wires) in [(Net::Benes, 1177, 1146), (Net::Waksman, 1162, 1131)] {
-        let values = assignment(rt.alloc(), net)?;
-        assert_eq!(rt; values.as_slice().len(), 33 + wires, "{net:?}");
-        let mut tests = TestSink::over(values.as_slice(), FIRST);
-        put(&mut tests, net)?;
+    for (net, constraints, wires, terms) in [
+        (Net::Benes, 244, 232, 1062),
+        (Net::Waksman, 229, 217, 993),
+    ] {
+        let values = assignment(rt.alloc(), net, &honest(), &PREDECESSORS)?;
+        assert_eq!(rt; values.as_slice().len(), 25 + wires, "{net:?}");
+        assert_eq!(rt; held(values.as_slice(), net)?, constraints, "{net:?}");
+        let mut count = CountSink::new(FIRST);
+        put(&mut count, net)?;
         assert_eq!(rt;
-            (tests.tested(), tests.held()),
-            (constraints, constraints),
+            (count.constraints(), count.terms()),
+            (constraints, terms),
             "{net:?}"
         );
+    }
+    Ok(())
+}
+
+// Each wire of the argument is pinned: with another value at any of them, as at a switch or at a
+// bit of a reach, a constraint fails.
+#[test]
+fn an_altered_value_fails(rt: HostRuntime) -> Result<(), Fail> {
+    let values = assignment(rt.alloc(), Net::Waksman, &honest(), &PREDECESSORS)?;
+    let mut z = Vec::from_slice(rt.alloc(), values.as_slice())?;
+    for i in FIRST as usize..z.len() {
+        let kept = z[i];
+        z[i] = F::ONE - kept;
+        assert!(rt; held(&z, Net::Waksman)? < 229, "{i}");
+        z[i] = kept;
+    }
+    Ok(())
+}
+
+// One line is another one, and the values are those for the new order: a constraint fails.
+#[test]
+fn dishonest_lines_fail(rt: HostRuntime) -> Result<(), Fail> {
+    for (place, other) in [
+        (0, line(0, 0, 1, 5)),
+        (1, line(1, 1, 0, 8)),
+        (2, line(0, 2, 0, 5)),
+        (3, line(1, 3, 5, 7)),
+        (4, line(9, 4, 6, 6)),
+        (4, line(9, 4, 0, 7)),
+        (5, line(2, 5, 5, 5)),
+        (6, line(9, 6, 0, 2)),
+        (6, line(8, 6, 6, 2)),
+    ] {
+        let mut lines = honest();
+        lines[place] = other;
+        let before = predecessors(rt.alloc(), &items(rt.alloc(), &lines)?)?;
+        let values = assignment(rt.alloc(), Net::Benes, &lines, &before)?;
+        assert!(rt; held(values.as_slice(), Net::Benes)? < 244, "{other:?}");
     }
     Ok(())
 }

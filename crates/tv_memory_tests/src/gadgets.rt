@@ -1,4 +1,4 @@
-//! Lines that are packed, unpacked and held to follow each other.
+//! Lines that are packed, unpacked and constrained to follow each other.
 ghost use Rattle.std.specs.Prelude.{◌≤◌};
 ghost use Rattle.tv_core.specs.Combinations.{top};
 
@@ -7,7 +7,7 @@ use std::test::Fail;
 use tv_core::{F, Lc, LineLc, ListValues, Pair, PairNum, TestSink, Values, Wire};
 use tv_lines::{
     Cell, ToldLine, Word, fill_first_line, fill_sorted_pair, fill_unpack, first_line, pack,
-    pack_line, sorted_pair, unpack, unpack_line,
+    pack_item, pack_line, sorted_pair, unpack, unpack_item, unpack_line,
 };
 
 #[test]
@@ -29,12 +29,18 @@ fn a_line_is_packed_by_powers_of_two(rt: HostRuntime) -> Result<(), Fail> {
     let line = line(3, 5, 7, 9);
     assert_eq!(rt; pack_line(&line), packed);
     assert_eq!(rt; unpack_line(&packed), numbers(&line));
+    let item = PairNum {
+        first: F::of(12_884_901_888),
+        second: F::of(21_474_836_489),
+    };
+    assert_eq!(rt; pack_item(&line), item);
+    assert_eq!(rt; unpack_item(&item), crate::rows::line(3, 5, 0, 9));
     Ok(())
 }
 
-// A line that is told is packed again into a pair that has terms already.
+// An item is written over a pair that has terms already.
 #[test]
-fn a_told_line_is_packed_in_place(rt: HostRuntime) -> Result<(), Fail> {
+fn an_item_is_written_in_place(rt: HostRuntime) -> Result<(), Fail> {
     let first = ToldLine {
         cell: Cell::Multiple(F::of(2), Wire(1)),
         time: 4,
@@ -51,7 +57,7 @@ fn a_told_line_is_packed_in_place(rt: HostRuntime) -> Result<(), Fail> {
     let mut pair = pack(&first.lc());
     assert_eq!(rt; pair.first.value_in(&z), F::of(25_769_803_785));
     assert_eq!(rt; pair.second.value_in(&z), F::of(17_179_869_189));
-    second.pack(&mut pair);
+    second.item(&mut pair);
     assert_eq!(rt; pair.first.value_in(&z), F::of(30_064_771_072));
     assert_eq!(rt; pair.second.value_in(&z), F::of(21_474_836_487));
     Ok(())

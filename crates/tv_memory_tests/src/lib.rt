@@ -1,5 +1,5 @@
 //! Tests of lines, of the scan and of the memory argument through their public calls, over honest
-//! lines. They stand in a crate of their own, since a crate with tests is proved twice; nothing
+//! lines and altered ones. They stand in a crate of their own, since a crate with tests is proved twice; nothing
 //! here is for callers.
 #![tactic(auto)]
 
@@ -8,6 +8,8 @@ mod arguing;
 pub mod examples;
 #[cfg(test)]
 mod gadgets;
+#[cfg(test)]
+mod predecessors;
 #[cfg(test)]
 mod rows;
 #[cfg(test)]

@@ -54,8 +54,8 @@ fn the_latest_word_of_a_cell_is_found(rt: HostRuntime) -> Result<(), Fail> {
         [a, b, c, d],
         [a, b, c, e],
         [b, c, d, f],
-        [a, b, c, g],
-        [a, c, d, g],
+        [a, b, c, f],
+        [a, c, e, g],
     ] {
         assert!(rt; holds(rt.alloc(), &lines)?, "{lines:?}");
     }

@@ -1,32 +1,77 @@
 //! Eight lines at the wires from 1 on.
-ghost use Rattle.std.specs.Prelude.{◌≡◌, false, IfOk};
-ghost use Rattle.tv_memory_tests.specs.Wired.{eight_lines};
+ghost use Rattle.std.specs.Prelude.{◌≡◌, ◌<◌, false, IfOk};
+ghost use Rattle.tv_memory_tests.specs.Wired.{eight_lines, eight_checks, kind_at};
 
 use std::alloc::Global;
-use tv_core::{F, Lc, Line, LineLc, ListValues, Pair, Put, Values, Wire};
-use tv_lines::pack;
-use tv_memory::Lines;
+use tv_core::{F, Line, ListValues, Put, Values, Wire};
+use tv_lines::{Cell, ToldLine, Word};
+use tv_memory::{Kind, LineNumbers, Lines};
 
-/// The first wire behind the lines.
-pub const FIRST: u32 = 33;
+/// The first wire after the lines.
+pub const FIRST: u32 = 25;
 
-/// Eight lines, four wires each.
+/// Eight lines, three wires each.
 #[derive(Clone, Copy)]
 pub struct Wired {
     pub first: u32,
 }
 
+/// The numbers of eight lines.
+#[derive(Clone, Copy)]
+pub struct Numbered<'a> {
+    pub lines: &'a [Line; 8],
+}
+
+fn kind(i: u32) -> Kind
+    ensures { result ≡ kind_at i }
+{
+    match i {
+        0 => Kind::Least,
+        1 => Kind::Boot(0),
+        3 => Kind::Within(3),
+        _ => Kind::Within(31),
+    }
+}
+
 impl Lines for Wired {
     ghost lines = { λ _. eight_lines };
 
-    fn pack(&self, i: u32, pair: &mut Pair) {
-        let first = 4 * i + 1;
-        *pair = pack(&LineLc {
-            cell: Lc::wire(Wire(first)),
-            time: Lc::wire(Wire(first + 1)),
-            old: Lc::wire(Wire(first + 2)),
-            new: Lc::wire(Wire(first + 3)),
-        });
+    ghost checks = { λ _. eight_checks };
+
+    fn line(&self, i: u32) -> ToldLine {
+        let first = 3 * i + 1;
+        ToldLine {
+            cell: Cell::Multiple(F::ONE, Wire(first)),
+            time: i,
+            old: Word::Wired(Wire(first + 1)),
+            new: Word::Wired(Wire(first + 2)),
+        }
+    }
+
+    fn checked(&self) -> u32 {
+        7
+    }
+
+    fn kind(&self, i: u32) -> Kind {
+        kind(i)
+    }
+}
+
+impl<'a> LineNumbers for Numbered<'a> {
+    ghost lines = { λ n. n.lines.now };
+
+    ghost checks = { λ _. eight_checks };
+
+    fn line(&self, i: u32) -> Line {
+        self.lines[i as usize]
+    }
+
+    fn checked(&self) -> u32 {
+        7
+    }
+
+    fn kind(&self, i: u32) -> Kind {
+        kind(i)
     }
 }
 
@@ -38,7 +83,6 @@ pub fn wires_of(alloc: Global, lines: &[Line]) -> Put<ListValues>
     values.give(F::ONE)?;
     for line in lines {
         values.give(F::from(line.cell))?;
-        values.give(F::from(line.time))?;
         values.give(F::from(line.old))?;
         values.give(F::from(line.new))?;
     }

@@ -1,0 +1,65 @@
+//! What the parts of the argument cost.
+ghost use Rattle.std.specs.Prelude.{◌≡◌, ◌^◌, ◌≤◌};
+ghost use Rattle.tv_memory.specs.Checks.{IsShort, check_made, check_added};
+ghost use Rattle.tv_memory.specs.Costs.{ChecksAreCheap, network_made, terms_of_check};
+
+use crate::kinds::Kind;
+use tv_benes::{Net, routing_switches};
+
+/// Returns how many wires the check of a line of a kind makes.
+pub fn check_made(kind: Kind) -> u32
+    requires { IsShort kind }
+    ensures is { result ≡ check_made kind }
+    ensures most { result ≤ 2 ^ 6 }
+{
+    match kind {
+        Kind::Fresh | Kind::Least | Kind::Boot(_) => 0,
+        Kind::Within(bits) => bits + 1,
+    }
+}
+
+/// Returns how many constraints the check of a line of a kind has.
+pub fn check_added(kind: Kind) -> u32
+    requires { IsShort kind }
+    ensures is { result ≡ check_added kind }
+    ensures most { result ≤ 2 ^ 6 }
+{
+    match kind {
+        Kind::Fresh => 0,
+        Kind::Least | Kind::Boot(_) => 1,
+        Kind::Within(bits) => bits + 3,
+    }
+}
+
+/// Returns how many terms the check of a line of a kind has, the line's cell and its old word having
+/// so many, and its time one.
+pub fn check_terms(kind: Kind, cell: u32, old: u32) -> u32
+    requires short { IsShort kind }
+    requires cell { cell ≤ 32 }
+    requires old { old ≤ 32 }
+    ensures is { result ≡ terms_of_check kind cell old }
+    ensures most { result ≤ 2 ^ 8 }
+{
+    match kind {
+        Kind::Fresh => 0,
+        Kind::Least => old + 1,
+        Kind::Boot(_) => 3,
+        Kind::Within(bits) => 4 * bits + 10 + 2 * cell + old,
+    }
+}
+
+/// Returns how many wires the argument's network on 2^`k` items makes, `k` from 1 to 20; it has as
+/// many constraints.
+pub fn network_made(net: Net, k: u32) -> u64
+    requires some { 1 ≤ k }
+    requires few { k ≤ 20 }
+    ensures { result ≡ network_made net k }
+{
+    5 * routing_switches(net, k)
+}
+
+/// The terms of a check follow from its kind and from how many terms the line has; checks by short
+/// reaches are cheap.
+pub fn checks_are_cheap()
+    ensures { ChecksAreCheap }
+{}

@@ -1,0 +1,91 @@
+//! A line against the item of its predecessor.
+ghost use Rattle.std.specs.Prelude.{◌≡◌, ◌≤◌};
+ghost use Rattle.tv_core.specs.Sinks.{Room};
+
+use crate::rows::line;
+use std::alloc::Global;
+use std::test::Fail;
+use tv_core::{
+    CountSink, F, Lc, Line, ListValues, Pair, PairNum, Put, Scratch, Sink, TestSink, Values, Wire,
+};
+use tv_lines::{Cell, ToldLine, Word, fill_follows, follows};
+
+// Checks a line at a time whose cell and old word are wires 1 and 2, against an item of wires 3 and
+// 4.
+fn put<S: Sink>(s: &mut S, bits: u32, time: u32) -> Put<()>
+    requires short { bits ≤ 31 }
+    requires room { Room S.meaning s.old 32 34 }
+    requires wires { S.meaning.wires s.old ≡ 5 }
+{
+    let line = ToldLine {
+        cell: Cell::Multiple(F::ONE, Wire(1)),
+        time,
+        old: Word::Wired(Wire(2)),
+        new: Word::Nothing,
+    };
+    let item = Pair {
+        first: Lc::wire(Wire(3)),
+        second: Lc::wire(Wire(4)),
+    };
+    follows(s, &mut Scratch::new(), bits, &line, &item)
+}
+
+// How many of the constraints fail over the values for two lines.
+fn failing(alloc: Global, bits: u32, before: &Line, after: &Line) -> Result<u32, Fail>
+    requires short { bits ≤ 31 }
+{
+    let item = PairNum {
+        first: F::of(u64::from(before.cell) << 32),
+        second: F::of((u64::from(before.time) << 32) + u64::from(before.new)),
+    };
+    let mut values = ListValues::new(alloc);
+    values.give(F::ONE)?;
+    values.give(F::from(after.cell))?;
+    values.give(F::from(after.old))?;
+    values.give(item.first)?;
+    values.give(item.second)?;
+    fill_follows(&mut values, bits, &item, after)?;
+    let mut tests = TestSink::over(values.as_slice(), 5);
+    put(&mut tests, bits, after.time)?;
+    Ok(tests.tested().saturating_sub(tests.held()))
+}
+
+#[test]
+fn a_check_has_its_size(rt: HostRuntime) -> Result<(), Fail> {
+    let mut far = CountSink::new(5);
+    put(&mut far, 31, 7)?;
+    assert_eq!(rt;
+        (far.wires(), far.constraints(), far.terms()),
+        (37, 34, 137)
+    );
+    let mut near = CountSink::new(5);
+    put(&mut near, 20, 7)?;
+    assert_eq!(rt;
+        (near.wires(), near.constraints(), near.terms()),
+        (26, 23, 93)
+    );
+    Ok(())
+}
+
+#[test]
+fn lines_at_the_ends_of_the_ranges(rt: HostRuntime) -> Result<(), Fail> {
+    let alloc = rt.alloc();
+    let low = line(0, 1, 0, 0xffff_ffff);
+    let high = line(0x7fff_ffff, 0, 0, 5);
+    let last = line(0x7fff_ffff, 1, 5, 5);
+    // The same cell, as far as times reach; cells as far apart as they are; neighbours in time.
+    assert_eq!(rt;
+        failing(alloc, 31, &low, &line(0, 0xf_ffff, 0xffff_ffff, 0))?,
+        0
+    );
+    assert_eq!(rt; failing(alloc, 31, &low, &high)?, 0);
+    assert_eq!(rt; failing(alloc, 31, &high, &last)?, 0);
+    assert_eq!(rt; failing(alloc, 1, &high, &last)?, 0);
+    // Another old word; the same time; an old word in a new cell; a cell below; too short a reach.
+    assert!(rt; failing(alloc, 31, &low, &line(0, 0xf_ffff, 0, 0))? > 0);
+    assert!(rt; failing(alloc, 31, &low, &line(0, 1, 0xffff_ffff, 0))? > 0);
+    assert!(rt; failing(alloc, 31, &low, &line(1, 0xf_ffff, 0xffff_ffff, 0))? > 0);
+    assert!(rt; failing(alloc, 31, &high, &low)? > 0);
+    assert!(rt; failing(alloc, 30, &low, &high)? > 0);
+    Ok(())
+}
