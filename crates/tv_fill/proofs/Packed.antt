@@ -1,12 +1,11 @@
--- Lines, packed one after another.
-use Rattle.std.proofs.Common.{◌≡◌, ℕ, zero, suc, ◌+◌, ◌≤◌, ◌^◌, List, [], ◌∷◌, ◌++◌, map, sym, ap, ◌∙◌, arith, add-zero}
+-- Items of lines, one after another.
+use Rattle.std.proofs.Common.{◌≡◌, ℕ, zero, suc, ◌+◌, ◌≤◌, ◌^◌, List, [], ◌∷◌, ◌++◌, map, sym, ap, ◌∙◌, arith, add-zero, append_assoc}
 use Rattle.std.proofs.Math.Nat.{pow-le-pow_right}
 use Rattle.std.proofs.lemmas.List.{map-append}
 use Rattle.tv_core.specs.Lines.{Line}
 use Rattle.tv_core.specs.declared.lines.PairNum.{PairNum}
 use Rattle.tv_layout.specs.Sound.{padding}
-use Rattle.tv_lines.proofs.PackingLaws.{unpack_packed}
-use Rattle.tv_lines.specs.Packing.{InRange, packed, unpacked}
+use Rattle.tv_lines.specs.Packing.{packed_item}
 use Rattle.tv_step.specs.Trace.{null_line}
 
 -- 2 ^ k is at most 2 ^ 20
@@ -14,8 +13,8 @@ pub power_few : (k : ℕ) → k ≤ 20 → 2 ^ k ≤ 2 ^ 20
 power_few k few = pow-le-pow_right (omega arith) few
 
 -- one line more
-pub pushed : (pairs : List PairNum) (pair : PairNum) (line : Line) → InRange line → pair ≡ packed line → map unpacked (pairs ++ pair ∷ []) ≡ map unpacked pairs ++ line ∷ []
-pushed pairs pair line range is = map-append unpacked pairs (pair ∷ []) ∙ ap (λ (l : Line). map unpacked pairs ++ l ∷ []) (ap unpacked is ∙ unpack_packed line range)
+pub item_more : (front : List PairNum) (lines : List Line) (line : Line) → (front ++ map packed_item lines) ++ packed_item line ∷ [] ≡ front ++ map packed_item (lines ++ line ∷ [])
+item_more front lines line = append_assoc front (map packed_item lines) (packed_item line ∷ []) ∙ ap (λ items. front ++ items) (sym (map-append packed_item lines (line ∷ [])))
 
 pub padding_more : (time more : ℕ) → padding time (suc more) ≡ padding time more ++ null_line (time + more) ∷ []
 padding_more time zero = ap (λ (t : ℕ). let line : Line = null_line t in line ∷ []) (sym (add-zero time))

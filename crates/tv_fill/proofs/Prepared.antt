@@ -1,7 +1,7 @@
 -- That what was prepared gives the values of a run's system.
-use Rattle.std.proofs.Common.{◌≡◌, ℕ, ◌+◌, ◌-◌, ◌*◌, ◌≤◌, ◌^◌, Bool, List, [], ◌∷◌, ◌++◌, length, map, All, sym, ap, ap₂, ◌∙◌, subst, arith, append_assoc}
+use Rattle.std.proofs.Common.{◌≡◌, ℕ, ◌+◌, ◌-◌, ◌*◌, ◌≤◌, ◌^◌, Bool, List, [], ◌∷◌, ◌++◌, length, map, All, refl, sym, ap, ap₂, ◌∙◌, subst, arith, append_assoc}
 use Rattle.std.proofs.lemmas.List.{length-append, length-map}
-use Rattle.std.proofs.lemmas.List.Elements.{All-cons, All-nil}
+use Rattle.std.proofs.lemmas.List.Elements.{All-cons, All-nil, All-head, All-tail}
 use Rattle.std.specs.Prelude.{slice_index}
 use Rattle.tv_benes.specs.Items.{bit_at}
 use Rattle.tv_benes.specs.declared.shape.Net.{Net}
@@ -12,19 +12,22 @@ use Rattle.tv_core.specs.Lines.{Line}
 use Rattle.tv_core.specs.declared.lines.PairNum.{PairNum}
 use Rattle.tv_layout.proofs.Boot.{length-boot_lines, length-padding}
 use Rattle.tv_layout.proofs.Positions.{log_above, log_within, log_some}
-use Rattle.tv_layout.proofs.RunLines.{run_placed}
+use Rattle.tv_layout.proofs.RunLines.{run_placed, run_few}
 use Rattle.tv_layout.proofs.Systems.{system_complete}
 use Rattle.tv_layout.proofs.Whole.{few, short, filled, spare}
+use Rattle.tv_layout.specs.Checks.{checks_of}
 use Rattle.tv_layout.specs.Places.{WithinLimits, line_count, log_of}
 use Rattle.tv_layout.specs.Sound.{padding, all_lines}
 use Rattle.tv_layout.specs.Systems.{run_values, system_of}
 use Rattle.tv_layout.specs.Values.{fill, step_values as run_step}
-use Rattle.tv_lines.specs.Packing.{InRange, unpacked}
+use Rattle.tv_lines.proofs.PackingLaws.{unpack_packed}
+use Rattle.tv_lines.specs.Packing.{InRange, unpacked, packed_item, without_old}
 use Rattle.tv_lines.specs.Placed.{LinesFrom}
-use Rattle.tv_memory.proofs.Complete.{order_permutes, order_reached}
+use Rattle.tv_memory.proofs.Reached.{predecessors_right}
+use Rattle.tv_memory.specs.Checks.{Checks}
 use Rattle.tv_memory.specs.Memory.{routed_values}
-use Rattle.tv_memory.specs.Order.{address_order, memory_values}
-use Rattle.tv_route.specs.Permutations.{IsRoutable}
+use Rattle.tv_memory.specs.Order.{memory_values, predecessors}
+use Rattle.tv_route.specs.Permutations.{Permutes, IsRoutable}
 use Rattle.tv_route.specs.Route.{route_of}
 use Rattle.tv_step.proofs.PlaceLaws.{lines_are_three_a_step, states_are_one_more}
 use Rattle.tv_step.specs.Cells.{boot_lines, run_lines}
@@ -33,7 +36,7 @@ use Rattle.tv_step.specs.Range.{AreWords}
 use Rattle.tv_step.specs.Trace.{lines_of, states_of}
 use Rattle.tv_step.specs.declared.lines.TraceState.{TraceState}
 use Rattle.tv_fill.proofs.Told.{told_in_range, told_steps}
-use Rattle.tv_fill.specs.Filled.{front_values, filled_values, lines_told, PartsFit}
+use Rattle.tv_fill.specs.Filled.{front_values, filled_values, lines_told, checks_told, PartsFit}
 use Rattle.tv_fill.specs.Told.{told_values}
 
 -- ---- lines in their places
@@ -50,6 +53,18 @@ all_in_range t [] few h = All-nil InRange
 all_in_range t (x ∷ xs) few h =
     let time = h.0 in
     All-cons InRange x xs (record { cell = h.1.cell; time = omega arith; old = h.1.old; new = h.1.new }) (all_in_range (t + 1) xs (omega arith) h.2)
+
+-- ---- items
+unpacked_items : (ls : List Line) → All InRange ls → map unpacked (map packed_item ls) ≡ map without_old ls
+unpacked_items [] h = refl
+unpacked_items (l ∷ ls) h =
+    let range = All-head InRange l ls h in
+    ap₂ (λ (a : Line) (b : List Line). a ∷ b) (unpack_packed (without_old l) (record { cell = range.cell; time = range.time; old = omega arith; new = range.new }))
+    (unpacked_items ls (All-tail InRange l ls h))
+
+old_left_out : (t : ℕ) (ls : List Line) → LinesFrom t ls → LinesFrom t (map without_old ls)
+old_left_out t [] h = tt
+old_left_out t (l ∷ ls) h = (h.0, record { cell = h.1.cell; old = omega arith; new = h.1.new }, old_left_out (t + 1) ls h.2)
 
 module _ (w : ℕ) (net : Net) (image x aux : List ℕ) (t : ℕ) (fits : WithinLimits w image (length x) t) (x_words : AreWords w x) (aux_words : AreWords w aux) where
   abbrev n : ℕ
@@ -81,70 +96,105 @@ module _ (w : ℕ) (net : Net) (image x aux : List ℕ) (t : ℕ) (fits : Within
       (LinesFrom-left 0 (run_lines w image x aux t) _ (run_placed w image x aux t fits x_words aux_words)) in
       rw are (all_in_range (length image + length x) step_lines (omega (arith, steps_many, few_lines)) placed)
 
+  -- all lines of the run
+  abbrev whole : List Line
+  whole = all_lines w image x aux t
+
+  whole_many : length whole ≡ 2 ^ k
+  whole_many =
+      let a = length-append (run_lines w image x aux t) (padding (line_count image (length x) t) (spare image (length x) t)) in
+      let b = length-append (boot_lines image x) step_lines in
+      let c = length-padding (line_count image (length x) t) (spare image (length x) t) in
+      omega (arith, a, b, c, length-boot_lines image x, steps_many, filled image (length x) t w fits)
+
+  whole_few : length whole ≤ 2 ^ 20
+  whole_few = run_few w image x aux t fits x_words aux_words
+
+  placed : LinesFrom 0 whole
+  placed = run_placed w image x aux t fits x_words aux_words
+
+  whole_in_range : All InRange whole
+  whole_in_range = all_in_range 0 whole (omega (arith, whole_few)) placed
+
   module _ (lines : List Line) (lines_are : lines ≡ step_lines) (states : List TraceState) (states_are : states ≡ states_of w (length x) (length aux) (start w image x aux) t)
-      (pairs : List PairNum) (pairs_are : map unpacked pairs ≡ lines_told image x lines k) where
-    -- the packed lines are all lines of the run
-    pub all_packed : map unpacked pairs ≡ all_lines w image x aux t
-    all_packed =
-        pairs_are ∙ ap (λ (ls : List Line). lines_told image x ls k) lines_are
+      (items : List PairNum) (items_are : items ≡ map packed_item (lines_told image x lines k)) where
+    told_whole : lines_told image x lines k ≡ whole
+    told_whole =
+        ap (λ (ls : List Line). lines_told image x ls k) lines_are
         ∙ ap (λ (c : ℕ). (boot_lines image x ++ step_lines) ++ padding (length image + length x + c) (2 ^ k - (length image + length x + c))) steps_many
 
-    all_many : length (all_lines w image x aux t) ≡ 2 ^ k
-    all_many =
-        let a = length-append (run_lines w image x aux t) (padding (line_count image (length x) t) (spare image (length x) t)) in
-        let b = length-append (boot_lines image x) step_lines in
-        let c = length-padding (line_count image (length x) t) (spare image (length x) t) in
-        omega (arith, a, b, c, length-boot_lines image x, steps_many, filled image (length x) t w fits)
+    -- the items are those of all lines of the run
+    all_packed : items ≡ map packed_item whole
+    all_packed = items_are ∙ ap (map packed_item) told_whole
 
-    pairs_many : length pairs ≡ 2 ^ k
-    pairs_many = sym (length-map pairs unpacked) ∙ ap length all_packed ∙ all_many
+    unpacked_are : map unpacked items ≡ map without_old whole
+    unpacked_are = ap (map unpacked) all_packed ∙ unpacked_items whole whole_in_range
 
-    pub routable : IsRoutable (address_order (map unpacked pairs))
+    items_many : length items ≡ 2 ^ k
+    items_many = ap length all_packed ∙ length-map whole packed_item ∙ whole_many
+
+    pub items_few : length items ≤ 2 ^ 20
+    items_few = omega (arith, items_many, whole_few, whole_many)
+
+    pub items_placed : LinesFrom 0 (map unpacked items)
+    items_placed = subst (LinesFrom 0) (sym unpacked_are) (old_left_out 0 whole placed)
+
+    -- so are their predecessors
+    order_is : predecessors (map unpacked items) ≡ predecessors whole
+    order_is = ap predecessors unpacked_are ∙ predecessors_right.items whole
+
+    pub routable : IsRoutable (predecessors (map unpacked items))
     routable =
-        rw all_packed
+        rw order_is
         (record {
           k = k;
           some = log_some (line_count image (length x) t);
           few = omega (arith, log_few);
-          permutes = order_permutes k (all_lines w image x aux t) log_few all_many (run_placed w image x aux t fits x_words aux_words);
+          permutes = subst (λ n. Permutes n (predecessors whole)) whole_many (predecessors_right.permutes whole whole_few placed);
         })
 
-    -- the settings sort them
-    sorted : (bits : List Bool) → bits ≡ route_of net (address_order (map unpacked pairs)) → routed_values net (k - 1) (bit_at bits) (map unpacked pairs) ≡ memory_values net k (all_lines w image x aux t)
-    sorted bits bits_are =
-        ap (λ (b : List Bool). routed_values net (k - 1) (bit_at b) (map unpacked pairs)) bits_are
-        ∙ ap (λ (ls : List Line). routed_values net (k - 1) (bit_at (route_of net (address_order ls))) ls) all_packed
-        ∙ order_reached net k (all_lines w image x aux t) (log_some (line_count image (length x) t)) log_few all_many (run_placed w image x aux t fits x_words aux_words)
+    checks_are : checks_told (length image) (length x) (length lines) k ≡ checks_of image (length x) t
+    checks_are = ap (λ (n : ℕ). checks_told (length image) (length x) n k) (ap length lines_are ∙ steps_many)
+
+    -- the settings bring the values of the memory argument
+    brought : (bits : List Bool) → bits ≡ route_of net (predecessors (map unpacked items))
+        → routed_values net (checks_told (length image) (length x) (length lines) k) k (bit_at bits) items (lines_told image x lines k) ≡ memory_values net (checks_of image (length x) t) k whole
+    brought bits bits_are =
+        let bits_is : bits ≡ route_of net (predecessors whole) = bits_are ∙ ap (route_of net) order_is in
+        ap (λ (c : Checks). routed_values net c k (bit_at bits) items (lines_told image x lines k)) checks_are
+        ∙ ap₂ (λ (ps : List PairNum) (ls : List Line). routed_values net (checks_of image (length x) t) k (bit_at bits) ps ls) all_packed told_whole
+        ∙ ap (λ (b : List Bool). routed_values net (checks_of image (length x) t) k (bit_at b) (map packed_item whole) whole) bits_is
+        ∙ predecessors_right.reached net (checks_of image (length x) t) k whole (log_some (line_count image (length x) t)) log_few whole_many placed (log_above (line_count image (length x) t) few_lines)
 
     -- and the values are those of the run
-    pub values_are : (bits : List Bool) → bits ≡ route_of net (address_order (map unpacked pairs)) → (v : ℕ)
-        → filled_values w v x aux (length image + length x) t states pairs net k bits ≡ run_values w net image x aux t v
+    pub values_are : (bits : List Bool) → bits ≡ route_of net (predecessors (map unpacked items)) → (v : ℕ)
+        → filled_values w v image x aux t states lines items net k bits ≡ run_values w net image x aux t v
     unfolding filled_values fill
     values_are bits bits_are v =
         let tape_bits : List ℕ = joined_below (length x) (λ i. bits_values (slice_index x i) w) in
         let steps : List ℕ = joined_below t (run_step (step_values w) w image x aux) in
-        let memory : List ℕ = memory_values net k (all_lines w image x aux t) in
-        let told : joined_below t (told_values w (length x) states aux pairs (length image + length x)) ≡ steps =
-        ap (λ (s : List TraceState). joined_below t (told_values w (length x) s aux pairs (length image + length x))) states_are
-        ∙ told_steps w image x aux t fits.width (short image (length x) t w fits) x_words aux_words pairs all_packed in
-        ap₂ (λ (a b : List ℕ). front_values w v x ++ (a ++ b)) told (sorted bits bits_are)
+        let memory : List ℕ = memory_values net (checks_of image (length x) t) k whole in
+        let told : joined_below t (told_values w (length x) states aux lines) ≡ steps =
+        ap₂ (λ (s : List TraceState) (ls : List Line). joined_below t (told_values w (length x) s aux ls)) states_are lines_are
+        ∙ told_steps w image x aux t fits.width (short image (length x) t w fits) x_words aux_words in
+        ap₂ (λ (a b : List ℕ). front_values w v x ++ (a ++ b)) told (brought bits bits_are)
         ∙ append_assoc (1 ∷ v ∷ x) (tape_bits ++ 0 ∷ []) (steps ++ memory)
         ∙ ap (λ (l : List ℕ). (1 ∷ v ∷ x) ++ l) (append_assoc tape_bits (0 ∷ []) (steps ++ memory))
 
     -- and there are as many as the system has wires
-    pub parts_fit : (bits : List Bool) → bits ≡ route_of net (address_order (map unpacked pairs)) → (v : ℕ) → Accepts w image x aux t v
-        → (count : ℕ) → count ≡ (system_of w net image (length x) t).wires → (spare : List PairNum) → length spare ≡ length pairs
-        → PartsFit w v count x aux (length image + length x) t states pairs spare net k bits
+    pub parts_fit : (bits : List Bool) → bits ≡ route_of net (predecessors (map unpacked items)) → (v : ℕ) → Accepts w image x aux t v
+        → (count : ℕ) → count ≡ (system_of w net image (length x) t).wires → (spare : List PairNum) → length spare ≡ length items
+        → PartsFit w v count image x aux t states lines items spare net k bits
     parts_fit bits bits_are v accepts count count_is spare spare_is = record {
       width = fits.width;
       short = short image (length x) t w fits;
       some = log_some (line_count image (length x) t);
       few = log_few;
       states_many = ap length states_are ∙ states_are_one_more w (length x) (length aux) (start w image x aux) t;
-      pairs_many = pairs_many;
-      spare_many = spare_is ∙ pairs_many;
-      tape_fits = omega arith;
-      steps_fit = log_above (line_count image (length x) t) few_lines;
-      steps = λ i h. rw states_are (told_in_range w image x aux t fits.width (short image (length x) t w fits) x_words aux_words pairs all_packed i h);
+      lines_many = ap length lines_are ∙ steps_many;
+      items_many = items_many;
+      spare_many = spare_is ∙ items_many;
+      lines_fit = lines_fit lines lines_are;
+      steps = λ i h. rw (states_are, lines_are) (told_in_range w image x aux t fits.width (short image (length x) t w fits) x_words aux_words i h);
       counted = count_is ∙ sym (system_complete w net image x aux t v fits x_words aux_words accepts).sat.each_wire ∙ sym (ap length (values_are bits bits_are v));
     }

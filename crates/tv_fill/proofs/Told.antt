@@ -1,7 +1,6 @@
--- What a trace and packed lines tell of a run's steps.
-use Rattle.std.proofs.Common.{◌≡◌, ℕ, ◌+◌, ◌-◌, ◌*◌, ◌<◌, ◌≤◌, ◌^◌, Bool, true, List, length, map, get_or, Option, Some, None, refl, sym, ap, ap₂, ◌∙◌, arith}
+-- What a trace tells of a run's steps.
+use Rattle.std.proofs.Common.{◌≡◌, ℕ, ◌+◌, ◌-◌, ◌*◌, ◌<◌, ◌≤◌, ◌^◌, Bool, true, List, length, Option, Some, None, refl, sym, ap, ap₂, ◌∙◌, arith}
 use Rattle.std.proofs.lemmas.Bool.{ltb-true}
-use Rattle.std.proofs.lemmas.List.{length-append, get_or_append_left, get_or-append_right, get_or-map, length-map}
 use Rattle.std.specs.Prelude.{slice_index, slice_index_or, nat_lt, is_some, unwrap_or, if◌then◌else◌}
 use Rattle.tv_block.proofs.ToldFills.{same_values, steps_are_given}
 use Rattle.tv_block.specs.Complete.{step_values, olds_of}
@@ -9,19 +8,13 @@ use Rattle.tv_block.specs.Told.{GivesStep, head_told, tail_told, data_told}
 use Rattle.tv_block.specs.Values.{block_values}
 use Rattle.tv_core.specs.Below.{joined_below}
 use Rattle.tv_core.specs.Lines.{Line}
-use Rattle.tv_core.specs.declared.lines.PairNum.{PairNum}
-use Rattle.tv_layout.proofs.Boot.{length-boot_lines}
-use Rattle.tv_layout.specs.Places.{line_count, log_of}
-use Rattle.tv_layout.specs.Sound.{padding, all_lines}
 use Rattle.tv_layout.specs.Values.{step_values as run_step}
-use Rattle.tv_lines.specs.Packing.{unpacked}
-use Rattle.tv_lines.specs.Placed.{zero_line, number_in}
+use Rattle.tv_lines.specs.Placed.{zero_line}
 use Rattle.tv_memory.proofs.FillingLaws.{joined_below-same}
 use Rattle.tv_numbers.specs.Shown.{handed}
-use Rattle.tv_step.proofs.PlaceLaws.{lines_by_place, states_by_place, lines_are_three_a_step}
+use Rattle.tv_step.proofs.PlaceLaws.{lines_by_place, states_by_place}
 use Rattle.tv_step.proofs.RangeLaws.{start_in_range, run_keeps_range}
 use Rattle.tv_step.proofs.ReadLaws.{taken_by_counts}
-use Rattle.tv_step.specs.Cells.{boot_lines, run_lines}
 use Rattle.tv_step.specs.Machine.{start, state_after}
 use Rattle.tv_step.specs.Range.{AreWords, InRange}
 use Rattle.tv_step.specs.Reads.{word_taken, ended_after}
@@ -30,7 +23,7 @@ use Rattle.tv_step.specs.Trace.{step_lines, lines_of, states_of, state_told}
 use Rattle.tv_step.specs.declared.lines.TraceState.{TraceState}
 use Rattle.tv_word.specs.Widths.{IsWidth}
 use Rattle.tv_block.specs.Filling.{view_of}
-use Rattle.tv_fill.specs.Told.{no_state, no_pair, state_at, old_at, takes_at, taken_at, data_at, told_values, StepInRange}
+use Rattle.tv_fill.specs.Told.{no_state, state_at, old_at, takes_at, taken_at, data_at, told_values, StepInRange}
 
 -- the word that is handed in
 handed_is : (old : ℕ) (word : Option ℕ) → unwrap_or word old ≡ handed old word
@@ -71,67 +64,45 @@ module _ (w : ℕ) (image x aux : List ℕ) (t : ℕ) (width : IsWidth w) (short
       omega arith
 
   -- lines
-  module _ (pairs : List PairNum) (is : map unpacked pairs ≡ all_lines w image x aux t) where
-    line_is : (i j : ℕ) → i < t → j < 3 → number_in (all_lines w image x aux t) (first + (3 * i + j)) ≡ slice_index_or (step_lines w (length x) (now i) (first + 3 * i)) j zero_line
-    line_is i j h k =
-        let lines : List Line = lines_of w (length x) (length image + length x) (start w image x aux) t in
-        let many = lines_are_three_a_step w (length x) (length image + length x) (start w image x aux) t in
-        let boot = length-boot_lines image x in
-        let all = length-append (boot_lines image x) lines in
-        let place : first + (3 * i + j) - first ≡ 3 * i + j = omega arith in
-        get_or_append_left (run_lines w image x aux t) _ zero_line (first + (3 * i + j)) (omega (arith, many, boot, all))
-        ∙ (get_or-append_right (boot_lines image x) lines first (first + (3 * i + j)) zero_line boot (omega arith)
-        ∙ (ap (λ (p : ℕ). get_or lines p zero_line) place
-        ∙ lines_by_place w (length x) (length image + length x) (start w image x aux) t i j zero_line h k))
+  abbrev pub run_steps : List Line
+  run_steps = lines_of w (length x) (length image + length x) (start w image x aux) t
 
-    pairs_many : (i : ℕ) → i < t → first + 3 * i + 2 < length pairs
-    pairs_many i h =
-        let many = lines_are_three_a_step w (length x) (length image + length x) (start w image x aux) t in
-        let boot = length-boot_lines image x in
-        let all = length-append (boot_lines image x) (lines_of w (length x) (length image + length x) (start w image x aux) t) in
-        let whole = length-append (run_lines w image x aux t) (padding (line_count image (length x) t) (2 ^ log_of (line_count image (length x) t) - line_count image (length x) t)) in
-        let as_long = sym (length-map pairs unpacked) ∙ ap length is in
-        omega (arith, many, boot, all, whole, as_long)
+  old_is : (i j : ℕ) → i < t → j < 3 → old_at run_steps (3 * i + j) ≡ (slice_index_or (step_lines w (length x) (now i) (first + 3 * i)) j zero_line).old
+  old_is i j h k = ap (λ (l : Line). l.old) (lines_by_place w (length x) (length image + length x) (start w image x aux) t i j zero_line h k)
 
-    old_is : (i j : ℕ) → i < t → j < 3 → old_at pairs (first + (3 * i + j)) ≡ (slice_index_or (step_lines w (length x) (now i) (first + 3 * i)) j zero_line).old
-    old_is i j h k =
-        let within = pairs_many i h in
-        ap (λ (l : Line). l.old) (sym (get_or-map unpacked pairs (first + (3 * i + j)) no_pair zero_line (omega arith)) ∙ ap (λ (ls : List Line). number_in ls (first + (3 * i + j))) is ∙ line_is i j h k)
+  given : (i : ℕ) → GivesStep w (length x) (length aux) (first + 3 * i) (now i) (ended_after w i (start w image x aux))
+  given i = steps_are_given w width (length x) (length aux) (first + 3 * i) (now i) (ended_after w i (start w image x aux)) short (range i)
 
-    given : (i : ℕ) → GivesStep w (length x) (length aux) (first + 3 * i) (now i) (ended_after w i (start w image x aux))
-    given i = steps_are_given w width (length x) (length aux) (first + 3 * i) (now i) (ended_after w i (start w image x aux)) short (range i)
+  head_is : (i : ℕ) → i < t → old_at run_steps (3 * i) ≡ head_told w (length x) (now i) (first + 3 * i)
+  head_is i h = let place : 3 * i ≡ 3 * i + 0 = omega arith in ap (old_at run_steps) place ∙ old_is i 0 h (omega arith)
 
-    head_is : (i : ℕ) → i < t → old_at pairs (first + 3 * i) ≡ head_told w (length x) (now i) (first + 3 * i)
-    head_is i h = let place : first + 3 * i ≡ first + (3 * i + 0) = omega arith in ap (old_at pairs) place ∙ old_is i 0 h (omega arith)
+  tail_is : (i : ℕ) → i < t → old_at run_steps (3 * i + 1) ≡ tail_told w (length x) (now i) (first + 3 * i)
+  tail_is i h = old_is i 1 h (omega arith)
 
-    tail_is : (i : ℕ) → i < t → old_at pairs (first + 3 * i + 1) ≡ tail_told w (length x) (now i) (first + 3 * i)
-    tail_is i h = let place : first + 3 * i + 1 ≡ first + (3 * i + 1) = omega arith in ap (old_at pairs) place ∙ old_is i 1 h (omega arith)
+  -- the word that is taken, by the counts
+  taken_is : (i : ℕ) → i < t → taken_at run_states aux i ≡ word_taken w (now i)
+  taken_is i h =
+      ap₂ (λ (b : Bool) (c : ℕ). if b then Some c else None) (takes_is i h) (ap (slice_index aux) (aux_is i (omega arith)))
+      ∙ sym (taken_by_counts w i (start w image x aux))
 
-    -- the word that is taken, by the counts
-    taken_is : (i : ℕ) → i < t → taken_at run_states aux i ≡ word_taken w (now i)
-    taken_is i h =
-        ap₂ (λ (b : Bool) (c : ℕ). if b then Some c else None) (takes_is i h) (ap (slice_index aux) (aux_is i (omega arith)))
-        ∙ sym (taken_by_counts w i (start w image x aux))
+  data_is : (i : ℕ) → i < t → data_at run_states aux run_steps i ≡ data_told w (length x) (now i) (first + 3 * i)
+  data_is i h =
+      let third : ℕ = slice_index (olds_of w (length x) (now i) (first + 3 * i)) 2 in
+      ap₂ (λ (word : Option ℕ) (old : ℕ). unwrap_or word old) (taken_is i h) (old_is i 2 h (omega arith))
+      ∙ handed_is third (word_taken w (now i))
 
-    data_is : (i : ℕ) → i < t → data_at run_states aux pairs first i ≡ data_told w (length x) (now i) (first + 3 * i)
-    data_is i h =
-        let place : first + 3 * i + 2 ≡ first + (3 * i + 2) = omega arith in
-        let third : ℕ = slice_index (olds_of w (length x) (now i) (first + 3 * i)) 2 in
-        ap₂ (λ (word : Option ℕ) (old : ℕ). unwrap_or word old) (taken_is i h) (ap (old_at pairs) place ∙ old_is i 2 h (omega arith))
-        ∙ handed_is third (word_taken w (now i))
+  pub told_in_range : (i : ℕ) → i < t → StepInRange w (length x) run_states aux run_steps i
+  told_in_range i h = record {
+    view = rw (state_is i (omega arith)) (given i).range;
+    head = rw (head_is i h) (given i).head_word;
+    tail = rw (tail_is i h) (given i).tail_word;
+    data_word = rw (data_is i h) (given i).data_word;
+    there = there i h;
+  }
 
-    pub told_in_range : (i : ℕ) → i < t → StepInRange w (length x) run_states aux pairs first i
-    told_in_range i h = record {
-      view = rw (state_is i (omega arith)) (given i).range;
-      head = rw (head_is i h) (given i).head_word;
-      tail = rw (tail_is i h) (given i).tail_word;
-      data_word = rw (data_is i h) (given i).data_word;
-      there = there i h;
-    }
+  told_step : (i : ℕ) → i < t → told_values w (length x) run_states aux run_steps i ≡ run_step (step_values w) w image x aux i
+  unfolding told_values
+  told_step i h = same_values (block_values w (length x)) (ap view_of (state_is i (omega arith))) (head_is i h) (tail_is i h) (data_is i h) (ap is_some (taken_is i h)) ∙ (given i).values
 
-    told_step : (i : ℕ) → i < t → told_values w (length x) run_states aux pairs first i ≡ run_step (step_values w) w image x aux i
-    unfolding told_values
-    told_step i h = same_values (block_values w (length x)) (ap view_of (state_is i (omega arith))) (head_is i h) (tail_is i h) (data_is i h) (ap is_some (taken_is i h)) ∙ (given i).values
-
-    pub told_steps : joined_below t (told_values w (length x) run_states aux pairs first) ≡ joined_below t (run_step (step_values w) w image x aux)
-    told_steps = joined_below-same t _ _ (λ i h. told_step i h)
+  pub told_steps : joined_below t (told_values w (length x) run_states aux run_steps) ≡ joined_below t (run_step (step_values w) w image x aux)
+  told_steps = joined_below-same t _ _ (λ i h. told_step i h)

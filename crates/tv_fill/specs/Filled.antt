@@ -1,5 +1,5 @@
 -- What is given for a run, and what comes of asking for it.
-use Rattle.std.specs.Prelude.{◌≡◌, ◌⊎◌, ℕ, ◌+◌, ◌-◌, ◌*◌, ◌^◌, ◌<◌, ◌≤◌, Bool, List, [], ◌∷◌, ◌++◌, length, map, slice_index, Result, Ok, Err}
+use Rattle.std.specs.Prelude.{◌≡◌, ◌⊎◌, ℕ, ◌+◌, ◌-◌, ◌*◌, ◌^◌, ◌<◌, ◌≤◌, Bool, List, [], ◌∷◌, ◌++◌, length, slice_index, Result, Ok, Err}
 use Rattle.tv_benes.specs.Items.{bit_at}
 use Rattle.tv_benes.specs.declared.shape.Net.{Net}
 use Rattle.tv_bits.specs.Bits.{bits_values}
@@ -11,9 +11,10 @@ use Rattle.tv_core.specs.declared.sink.SinkFault.TheVariants as sinks
 use Rattle.tv_fill.specs.Told.{told_values, StepInRange}
 use Rattle.tv_fill.specs.declared.fault.FillFault.{FillFault}
 use Rattle.tv_fill.specs.declared.fault.FillFault.TheVariants.{NoRun, Failed, Memory}
+use Rattle.tv_layout.specs.Checks.{least_place, line_kind}
 use Rattle.tv_layout.specs.Sound.{padding}
 use Rattle.tv_layout.specs.Systems.{run_values}
-use Rattle.tv_lines.specs.Packing.{unpacked}
+use Rattle.tv_memory.specs.Checks.{Checks}
 use Rattle.tv_memory.specs.Memory.{routed_values}
 use Rattle.tv_step.specs.Cells.{boot_lines}
 use Rattle.tv_step.specs.Machine.{Accepts}
@@ -32,31 +33,36 @@ pub record Filled : Type 0 where
 abbrev pub front_values : ℕ → ℕ → List ℕ → List ℕ
 front_values w v x = (1 ∷ v ∷ x) ++ (joined_below (length x) (λ i. bits_values (slice_index x i) w) ++ 0 ∷ [])
 
--- then the t steps, and the memory argument over 2 ^ k packed lines, in the order that a network's bits tell
-unfoldable pub filled_values : ℕ → ℕ → List ℕ → List ℕ → ℕ → ℕ → List TraceState → List PairNum → Net → ℕ → List Bool → List ℕ
-filled_values w v x aux first t states pairs net k bits =
-    front_values w v x
-    ++ (joined_below t (told_values w (length x) states aux pairs first) ++ routed_values net (k - 1) (bit_at bits) (map unpacked pairs))
-
 -- the lines of an image's and a tape's words, those of steps, and padding up to 2 ^ k
 abbrev pub lines_told : List ℕ → List ℕ → List Line → ℕ → List Line
 lines_told image x steps k =
     let count = length image + length x + length steps in
     (boot_lines image x ++ steps) ++ padding count (2 ^ k - count)
 
+-- how they are checked, by how many there are of each
+abbrev pub checks_told : ℕ → ℕ → ℕ → ℕ → Checks
+checks_told words n steps k = record { count = words + n + steps; least = least_place words n; kind = line_kind k words n }
+
+-- then the t steps, and the memory argument over 2 ^ k lines, whose items a network with these bits moves
+unfoldable pub filled_values : ℕ → ℕ → List ℕ → List ℕ → List ℕ → ℕ → List TraceState → List Line → List PairNum → Net → ℕ → List Bool → List ℕ
+filled_values w v image x aux t states lines items net k bits =
+    front_values w v x
+    ++ (joined_below t (told_values w (length x) states aux lines)
+    ++ routed_values net (checks_told (length image) (length x) (length lines) k) k (bit_at bits) items (lines_told image x lines k))
+
 -- the parts fit each other, and the count is that of their values
-pub record PartsFit (w v count : ℕ) (x aux : List ℕ) (first t : ℕ) (states : List TraceState) (pairs spare : List PairNum) (net : Net) (k : ℕ) (bits : List Bool) : Type 0 where
+pub record PartsFit (w v count : ℕ) (image x aux : List ℕ) (t : ℕ) (states : List TraceState) (lines : List Line) (items spare : List PairNum) (net : Net) (k : ℕ) (bits : List Bool) : Type 0 where
   pub width : IsWidth w
   pub short : length x < 2 ^ 29
   pub some : 1 ≤ k
   pub few : k ≤ 20
   pub states_many : length states ≡ t + 1
-  pub pairs_many : length pairs ≡ 2 ^ k
+  pub lines_many : length lines ≡ 3 * t
+  pub items_many : length items ≡ 2 ^ k
   pub spare_many : length spare ≡ 2 ^ k
-  pub tape_fits : length x ≤ first
-  pub steps_fit : first + 3 * t ≤ 2 ^ k
-  pub steps : (i : ℕ) → i < t → StepInRange w (length x) states aux pairs first i
-  pub counted : count ≡ length (filled_values w v x aux first t states pairs net k bits)
+  pub lines_fit : length image + length x + length lines ≤ 2 ^ k
+  pub steps : (i : ℕ) → i < t → StepInRange w (length x) states aux lines i
+  pub counted : count ≡ length (filled_values w v image x aux t states lines items net k bits)
 
 -- ---- for a run
 -- the run of at most t steps answers, and the values are those of its system

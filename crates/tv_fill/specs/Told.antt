@@ -1,25 +1,23 @@
--- The values of steps, as a trace's states and packed lines tell them.
-use Rattle.std.specs.Prelude.{◌≡◌, ℕ, ◌+◌, ◌*◌, ◌%◌, ◌^◌, ◌<◌, Bool, true, false, nat_lt, if◌then◌else◌, List, [], length, slice_index, slice_index_or, Option, Some, None, is_some, unwrap_or}
+-- The values of steps, from a trace's states and lines.
+use Rattle.std.specs.Prelude.{◌≡◌, ℕ, ◌+◌, ◌*◌, ◌^◌, ◌<◌, Bool, true, false, nat_lt, if◌then◌else◌, List, [], length, slice_index, slice_index_or, Option, Some, None, is_some, unwrap_or}
 use Rattle.tv_block.specs.Filling.{view_of}
 use Rattle.tv_block.specs.Values.{block_values}
-use Rattle.tv_core.specs.declared.lines.PairNum.{PairNum}
+use Rattle.tv_core.specs.Lines.{Line}
+use Rattle.tv_lines.specs.Placed.{number_in}
 use Rattle.tv_numbers.specs.Views.{ViewInRange}
 use Rattle.tv_step.specs.declared.lines.TraceState.{TraceState}
 
--- what stands past the end of a list of states, and of pairs
+-- what stands past the end of a list of states
 abbrev pub no_state : TraceState
 no_state = record { pc = 0; regs = []; flag = false; primary = 0; aux = 0; ended = false }
-
-abbrev pub no_pair : PairNum
-no_pair = record { first = 0; second = 0 }
 
 -- the state before step i
 abbrev pub state_at : List TraceState → ℕ → TraceState
 state_at states i = slice_index_or states i no_state
 
--- the old word of packed line i
-abbrev pub old_at : List PairNum → ℕ → ℕ
-old_at pairs i = (slice_index_or pairs i no_pair).first % 2 ^ 32
+-- the old word of line i
+abbrev pub old_at : List Line → ℕ → ℕ
+old_at lines i = (number_in lines i).old
 
 -- step i takes a word of the auxiliary tape where one more is gone after it
 abbrev pub takes_at : List TraceState → ℕ → Bool
@@ -28,19 +26,19 @@ takes_at states i = nat_lt (state_at states i).aux (state_at states (i + 1)).aux
 abbrev pub taken_at : List TraceState → List ℕ → ℕ → Option ℕ
 taken_at states aux i = if takes_at states i then Some (slice_index aux (state_at states i).aux) else None
 
--- its data word, the first step's lines standing at a place: the word that it takes, or else the old of its third line
-abbrev pub data_at : List TraceState → List ℕ → List PairNum → ℕ → ℕ → ℕ
-data_at states aux pairs first i = unwrap_or (taken_at states aux i) (old_at pairs (first + 3 * i + 2))
+-- its data word: the word that it takes, or else the old of its third line
+abbrev pub data_at : List TraceState → List ℕ → List Line → ℕ → ℕ
+data_at states aux lines i = unwrap_or (taken_at states aux i) (old_at lines (3 * i + 2))
 
 -- the values of step i, with a primary tape of n words
-unfoldable pub told_values : ℕ → ℕ → List TraceState → List ℕ → List PairNum → ℕ → ℕ → List ℕ
-told_values w n states aux pairs first i =
-    block_values w n (view_of (state_at states i)) (old_at pairs (first + 3 * i)) (old_at pairs (first + 3 * i + 1)) (data_at states aux pairs first i) (is_some (taken_at states aux i))
+unfoldable pub told_values : ℕ → ℕ → List TraceState → List ℕ → List Line → ℕ → List ℕ
+told_values w n states aux lines i =
+    block_values w n (view_of (state_at states i)) (old_at lines (3 * i)) (old_at lines (3 * i + 1)) (data_at states aux lines i) (is_some (taken_at states aux i))
 
 -- what is told of it is in range
-pub record StepInRange (w n : ℕ) (states : List TraceState) (aux : List ℕ) (pairs : List PairNum) (first i : ℕ) : Type 0 where
+pub record StepInRange (w n : ℕ) (states : List TraceState) (aux : List ℕ) (lines : List Line) (i : ℕ) : Type 0 where
   pub view : ViewInRange w n (view_of (state_at states i))
-  pub head : old_at pairs (first + 3 * i) < 2 ^ w
-  pub tail : old_at pairs (first + 3 * i + 1) < 2 ^ w
-  pub data_word : data_at states aux pairs first i < 2 ^ w
+  pub head : old_at lines (3 * i) < 2 ^ w
+  pub tail : old_at lines (3 * i + 1) < 2 ^ w
+  pub data_word : data_at states aux lines i < 2 ^ w
   pub there : takes_at states i ≡ true → (state_at states i).aux < length aux

@@ -5,23 +5,25 @@ ghost use Rattle.tv_core.specs.Giving.{GivesIn};
 ghost use Rattle.tv_fill.specs.Filled.{IsFilling, IsUnfilled, FillsIn};
 ghost use Rattle.tv_layout.specs.Places.{WithinLimits};
 ghost use Rattle.tv_lines.specs.Packing.{unpacked};
-ghost use Rattle.tv_memory.specs.Order.{address_order};
+ghost use Rattle.tv_lines.specs.Placed.{LinesFrom};
+ghost use Rattle.tv_memory.specs.Order.{predecessors};
 ghost use Rattle.tv_route.specs.Permutations.{IsRoutable};
 ghost use Rattle.tv_route.specs.Route.{route_of};
 ghost use Rattle.tv_step.specs.Range.{AreWords};
 
 use crate::fault::FillFault;
 use crate::front::fill_front;
-use crate::packing::pack_lines;
+use crate::packing::pack_items;
+use crate::run_lines::RunLines;
 use crate::steps::Steps;
 use std::alloc::{AllocError, Global};
 use std::marker::Model;
 use tv_benes::Net;
 use tv_core::{F, PairNum, Put, Values};
 use tv_layout::{log_of, sizes};
-use tv_memory::{address_order, fill_memory};
+use tv_memory::{fill_memory, predecessors};
 use tv_route::{Settings, routing_settings};
-use tv_step::{States, Trace, trace};
+use tv_step::{Lines, States, Trace, trace};
 
 /// A run that answers, ready to give the values of its system's wires. Contracts see its answer and
 /// the list of the values.
@@ -30,18 +32,19 @@ pub struct Filling<'a, const W: u32> {
     answer: u32,
     // How many values there are.
     count: u32,
+    image: &'a [u32],
     tape: &'a [u32],
     aux: &'a [u32],
-    // Where the lines of the steps begin, and how many steps there are.
-    first: u32,
+    // How many steps there are, their states, and their lines.
     t: u32,
     states: States,
-    // 2^`k` lines, in time order, and room for as many.
-    pairs: Vec<PairNum>,
+    lines: Lines,
+    // The items of 2^`k` lines, in time order, and room for as many.
+    items: Vec<PairNum>,
     spare: Vec<PairNum>,
     net: Net,
     k: u32,
-    // Those that send the lines to address order.
+    // Those that send to each line the item of its predecessor in address order.
     settings: Settings,
 }
 
@@ -52,12 +55,12 @@ impl<'a, const W: u32> Model for Filling<'a, W> {
 
     ghost view = { λ f. record {
       answer = f.answer;
-      values = filled_values W f.answer f.tape.now
-          f.aux.now f.first f.t f.states f.pairs.items f.net f.k f.settings;
+      values = filled_values W f.answer f.image.now f.tape.now
+          f.aux.now f.t f.states f.lines f.items.items f.net f.k f.settings;
     } };
 
-    ghost invariant = { λ f. PartsFit W f.answer f.count f.tape.now f.aux.now f.first f.t
-        f.states f.pairs.items f.spare.items f.net f.k f.settings };
+    ghost invariant = { λ f. PartsFit W f.answer f.count f.image.now f.tape.now f.aux.now f.t
+        f.states f.lines f.items.items f.spare.items f.net f.k f.settings };
 }
 
 impl<'a, const W: u32> Filling<'a, W> {
@@ -85,12 +88,13 @@ impl<'a, const W: u32> Filling<'a, W> {
         let Filling {
             answer,
             count: _,
+            image,
             tape,
             aux,
-            first,
             t,
             states,
-            mut pairs,
+            lines,
+            mut items,
             mut spare,
             net,
             k,
@@ -100,17 +104,22 @@ impl<'a, const W: u32> Filling<'a, W> {
         let steps = Steps {
             states: states.as_slice(),
             aux,
-            pairs: pairs.as_slice(),
-            first,
+            lines: lines.as_slice(),
         };
         steps.fill::<W, V>(v, tape.len() as u32, t)?;
         fill_memory(
             v,
             net,
             k,
-            pairs.as_mut_slice(),
+            items.as_mut_slice(),
             spare.as_mut_slice(),
             settings.as_slice(),
+            &RunLines {
+                image,
+                tape,
+                steps: lines.as_slice(),
+                k,
+            },
         )
     }
 }
@@ -119,14 +128,14 @@ impl<'a, const W: u32> Filling<'a, W> {
 /// wires of its system over a network ready, where it answers. `NoRun` comes exactly where it
 /// doesn't, and tells how it ends. Beside the machine's own memory it takes at most 160 bytes for
 /// each of the 2^k lines of the system, and at most 100 bytes a line are held by what it answers,
-/// with the room that the lines are moved in when the values are given; that borrows the tapes. It
-/// takes the run's time twice, and then a time that grows as k times the lines.
+/// with the room that the items are moved in when the values are given; that borrows the image and
+/// the tapes. It takes the run's time twice, and then a time that grows as k times the lines.
 ///
 /// Words have `W` bits, 16 or 32, and the image fits in memory. It has at most 131,072 of them, and
 /// so has the primary tape; `t` is from 1 to 262,144.
 pub fn prepare<'a, const W: u32>(
     alloc: Global,
-    image: &[u32],
+    image: &'a [u32],
     tape: &'a [u32],
     aux: &'a [u32],
     t: u32,
@@ -145,24 +154,24 @@ pub fn prepare<'a, const W: u32>(
         lines,
         states,
     } = trace::<W>(alloc, image, tape, aux, t)?;
-    let first = (image.len() + tape.len()) as u32;
-    let k = log_of(first + 3 * t);
-    let pairs = pack_lines(alloc, image, tape, lines, k)?;
-    let settings = settings_to_sort(alloc, net, &pairs)?;
+    let k = log_of((image.len() + tape.len()) as u32 + 3 * t);
+    let items = pack_items(alloc, image, tape, lines.as_slice(), k)?;
+    let settings = settings_to_predecessors(alloc, net, &items)?;
     let zeros = PairNum {
         first: F::ZERO,
         second: F::ZERO,
     };
-    let spare = Vec::from_elem(alloc, zeros, pairs.len())?;
+    let spare = Vec::from_elem(alloc, zeros, items.len())?;
     Ok(Filling {
         answer,
         count: sizes::<W>(image, tape.len() as u32, t, net).wires,
+        image,
         tape,
         aux,
-        first,
         t,
         states,
-        pairs,
+        lines,
+        items,
         spare,
         net,
         k,
@@ -170,14 +179,20 @@ pub fn prepare<'a, const W: u32>(
     })
 }
 
-// The settings that send packed lines, whose times are their places, to address order. The order is
-// kept no longer.
-fn settings_to_sort(alloc: Global, net: Net, pairs: &[PairNum]) -> Result<Settings, AllocError>
-    requires { IsRoutable (address_order (map unpacked pairs.now)) }
+// The settings that send to each line the item of its predecessor, for items of lines whose times
+// are their places. The order is kept no longer.
+fn settings_to_predecessors(
+    alloc: Global,
+    net: Net,
+    items: &[PairNum],
+) -> Result<Settings, AllocError>
+    requires few { length items.now ≤ 2 ^ 20 }
+    requires times { LinesFrom 0 (map unpacked items.now) }
+    requires routable { IsRoutable (predecessors (map unpacked items.now)) }
     ensures { IfOk result (λ settings. settings
-        ≡ route_of net (address_order (map unpacked pairs.now))) }
+        ≡ route_of net (predecessors (map unpacked items.now))) }
 {
-    let order = address_order(alloc, pairs)?;
+    let order = predecessors(alloc, items)?;
     routing_settings(alloc, net, &order)
 }
 

@@ -1,5 +1,6 @@
-//! The values of a system's wires for a run that answers: its trace is made once, its lines are
-//! packed, the settings are found that sort them, and the values follow in the order of the wires.
+//! The values of a system's wires for a run that answers: its trace is made once, the items of its
+//! lines are packed, the settings are found that bring to each line its predecessor's, and the
+//! values follow in the order of the wires.
 #![tactic(auto)]
 
 mod fault;
@@ -7,6 +8,7 @@ mod filling;
 mod front;
 mod laws;
 mod packing;
+mod run_lines;
 mod steps;
 
 pub use fault::FillFault;

@@ -7,27 +7,25 @@ ghost use Rattle.tv_fill.specs.Told.{state_at, old_at, takes_at, taken_at, told_
 ghost use Rattle.tv_fill.specs.Told.{StepInRange};
 
 use tv_block::fill_traced_step;
-use tv_core::{PairNum, Put, Values};
-use tv_lines::unpack_line;
+use tv_core::{Line, Put, Values};
 use tv_step::TraceState;
 
 // The steps of a run: the states before, between and after them, the words of the auxiliary tape,
-// and the packed lines, of which theirs begin at place `first`, three a step.
+// and their lines, three a step.
 #[derive(Clone, Copy)]
 pub(crate) struct Steps<'a> {
     pub(crate) states: &'a [TraceState],
     pub(crate) aux: &'a [u32],
-    pub(crate) pairs: &'a [PairNum],
-    pub(crate) first: u32,
+    pub(crate) lines: &'a [Line],
 }
 
 impl<'a> Steps<'a> {
-    // The old word of packed line `i`.
+    // The old word of line `i`.
     fn old(&self, i: u32) -> u32
-        requires { i < length self.now.pairs.now }
-        ensures { result ≡ old_at self.now.pairs.now i }
+        requires { i < length self.now.lines.now }
+        ensures { result ≡ old_at self.now.lines.now i }
     {
-        unpack_line(&self.pairs[i as usize]).old.number() as u32
+        self.lines[i as usize].old
     }
 
     // The word of the auxiliary tape that step `i` takes.
@@ -52,16 +50,15 @@ impl<'a> Steps<'a> {
         requires width { IsWidth W }
         requires short { n < 2 ^ 29 }
         requires states { i + 1 < length self.now.states.now }
-        requires lines { self.now.first + 3 * i + 2 < length self.now.pairs.now }
-        requires near { self.now.first + 3 * i + 2 < 2 ^ 32 }
-        requires range { StepInRange W n self.now.states.now self.now.aux.now self.now.pairs.now
-            self.now.first i }
+        requires lines { 3 * i + 2 < length self.now.lines.now }
+        requires near { 3 * i + 2 < 2 ^ 32 }
+        requires range { StepInRange W n self.now.states.now self.now.aux.now self.now.lines.now i }
         requires whole { V.giving.broken v.old ≡ false }
         ensures gives { GivesIn V.giving v.old v.new (told_values W n self.now.states.now
-            self.now.aux.now self.now.pairs.now self.now.first i) result }
+            self.now.aux.now self.now.lines.now i) result }
         ensures whole { OnOk result (V.giving.broken v.new ≡ false) }
     {
-        let at = self.first + 3 * i;
+        let at = 3 * i;
         let head = self.old(at);
         let tail = self.old(at + 1);
         let taken = self.taken(i);
@@ -75,13 +72,13 @@ impl<'a> Steps<'a> {
         requires width { IsWidth W }
         requires short { n < 2 ^ 29 }
         requires states { t < length self.now.states.now }
-        requires lines { self.now.first + 3 * t ≤ length self.now.pairs.now }
-        requires near { self.now.first + 3 * t < 2 ^ 32 }
+        requires lines { 3 * t ≤ length self.now.lines.now }
+        requires near { 3 * t < 2 ^ 32 }
         requires range { (i : ℕ) → i < t → StepInRange W n self.now.states.now self.now.aux.now
-            self.now.pairs.now self.now.first i }
+            self.now.lines.now i }
         requires whole { V.giving.broken v.old ≡ false }
         ensures gives { GivesIn V.giving v.old v.new (joined_below t (told_values W n
-            self.now.states.now self.now.aux.now self.now.pairs.now self.now.first)) result }
+            self.now.states.now self.now.aux.now self.now.lines.now)) result }
         ensures whole { OnOk result (V.giving.broken v.new ≡ false) }
     {
         for i in 0..t {

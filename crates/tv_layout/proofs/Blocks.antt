@@ -1,10 +1,13 @@
 -- What a circuit of one step has to give. A system's laws stand on these records alone; that the circuit of tv_block gives
 -- them is proved in Systems.
-use Rattle.std.specs.Prelude.{◌≡◌, ℕ, ◌+◌, ◌^◌, ◌<◌, Bool, List, length, Option, Some, is_some}
+use Rattle.std.specs.Prelude.{◌≡◌, ℕ, ◌+◌, ◌/◌, ◌^◌, ◌<◌, ◌≤◌, Bool, List, length, Option, Some, is_some}
 use Rattle.tv_block.specs.Block.{did, IsMachineStep}
 use Rattle.tv_block.specs.Fetch.{state_in}
+use Rattle.tv_block.specs.declared.records.Block.{Block}
 use Rattle.tv_block.specs.declared.records.StateWires.{StateWires}
 use Rattle.tv_core.specs.Laws.{Assigns, Meets, HasFrom, InField}
+use Rattle.tv_core.specs.declared.limits.TheConstants.{NULL_CELL}
+use Rattle.tv_step.specs.Rows.{word_size}
 use Rattle.tv_numbers.specs.Numbers.{Did, lines_in}
 use Rattle.tv_numbers.specs.Shown.{MayTake}
 use Rattle.tv_numbers.specs.Views.{ViewInRange, Matches}
@@ -20,11 +23,24 @@ pub record BlockSizes (block : BlockCircuit) (made : ℕ) : Type 0 where
   pub next : (n : ℕ) (state : StateWires) (time next : ℕ) → (block n state time next).next ≡ next + made
   pub three : (n : ℕ) (state : StateWires) (time next : ℕ) → length (block n state time next).answer.lines ≡ 3
 
+-- the cells of a step's lines: it fetches its instruction's two words from neighbouring cells, which stand before the
+-- null cell, and no line is of a cell after that; one of the null cell leaves 0
+pub record HasCells (w : ℕ) (b : Did) : Type 0 where
+  pub first : b.first.cell ≡ b.now.pc / word_size w
+  pub second : b.second.cell ≡ b.first.cell + 1
+  pub low : b.second.cell < NULL_CELL
+  pub within : b.data_line.cell ≤ NULL_CELL
+  pub null : b.data_line.cell ≡ NULL_CELL → b.data_line.new ≡ 0
+
+pub record IsSoundStep (w : ℕ) (z x : List ℕ) (time : ℕ) (state : StateWires) (made : Block) : Type 0 where
+  pub machine : IsMachineStep w z x time state made
+  pub cells : HasCells w (did z state made)
+
 -- an assignment that meets what it puts, the state before being in range, has a step of the machine there
 abbrev pub BlockIsSound : ℕ → BlockCircuit → Type 0
 BlockIsSound w block = (z x : List ℕ) (state : StateWires) (time next : ℕ) → length x < 2 ^ 29 → time + 2 < 2 ^ 32 → Assigns z
     → ViewInRange w (length x) (state_in z state) → Meets z (block (length x) state time next).list
-    → IsMachineStep w z x time state (block (length x) state time next).answer
+    → IsSoundStep w z x time state (block (length x) state time next).answer
 
 -- ---- completeness
 -- the state's wires hold a state of the machine that goes on or answers, and z has the values for it and for a word

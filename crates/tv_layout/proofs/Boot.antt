@@ -68,7 +68,7 @@ boot_placed cell time [] h i = tt
 boot_placed cell time (v ∷ vs) h i =
     (refl, record { cell = omega arith; old = omega arith; new = All-head (λ v. v < 2 ^ 32) v vs h }, boot_placed (cell + 1) (time + 1) vs (All-tail (λ v. v < 2 ^ 32) v vs h) (omega arith))
 
-length-boot_from : (cell time : ℕ) (words : List ℕ) → length (boot_from cell time words) ≡ length words
+pub length-boot_from : (cell time : ℕ) (words : List ℕ) → length (boot_from cell time words) ≡ length words
 length-boot_from cell time [] = refl
 length-boot_from cell time (v ∷ vs) = ap suc (length-boot_from (cell + 1) (time + 1) vs)
 

@@ -36,6 +36,8 @@ use Rattle.tv_layout.proofs.Taking.{taken_of_is}
 use Rattle.tv_layout.proofs.Whole.{few, short, early, spare, lines_valued, lines_many}
 use Rattle.tv_layout.proofs.Blocks.{BlockSizes, BlockIsSound, BlockIsComplete}
 use Rattle.tv_layout.specs.Blocks.{BlockCircuit, BlockValues}
+use Rattle.tv_layout.proofs.Checked.{are_of_kinds, are_near}
+use Rattle.tv_layout.specs.Checks.{checks_of}
 use Rattle.tv_layout.specs.Layout.{steps_of, lines_of, layout_of, layout, taken_of}
 use Rattle.tv_layout.specs.Places.{WithinLimits, boot_count, line_count, log_of, tape_at, zero_wire_at, first_at}
 use Rattle.tv_layout.specs.Sound.{padding, all_lines}
@@ -65,7 +67,7 @@ module _ (w : ℕ) (net : Net) (block : BlockCircuit) (made : ℕ) (values : Blo
   blocks = joined_below t (step_values values w image x aux)
 
   abbrev lasts : List ℕ
-  lasts = memory_values net (log_of (line_count image (length x) t)) (all_lines w image x aux t)
+  lasts = memory_values net (checks_of image (length x) t) (log_of (line_count image (length x) t)) (all_lines w image x aux t)
 
   abbrev z : List ℕ
   z = 1 ∷ ((v ∷ x) ++ (bits ++ (0 ∷ (blocks ++ lasts))))
@@ -94,7 +96,7 @@ module _ (w : ℕ) (net : Net) (block : BlockCircuit) (made : ℕ) (values : Blo
       InField-cons 1 ((v ∷ x) ++ (bits ++ (0 ∷ (blocks ++ lasts)))) (omega arith) (InField-append (v ∷ x) (bits ++ (0 ∷ (blocks ++ lasts))) (InField-cons v x answer tape)
       (InField-append bits (0 ∷ (blocks ++ lasts)) (InField-joined_below (λ i. bits_values (slice_index x i) w) (length x) (λ i h. bits_in_field (slice_index x i) w))
       (InField-cons 0 (blocks ++ lasts) (omega arith) (InField-append blocks lasts (InField-joined_below (step_values values w image x aux) t (λ i h. block_small i))
-      ((memory_complete net).below (log_of (line_count image (length x) t)) (all_lines w image x aux t) (run_few w image x aux t fits x_words aux_words) (run_placed w image x aux t fits x_words aux_words))))))
+      ((memory_complete net).below (checks_of image (length x) t) (log_of (line_count image (length x) t)) (all_lines w image x aux t) (run_few w image x aux t fits x_words aux_words) (run_placed w image x aux t fits x_words aux_words))))))
 
   assigns : Assigns z
   assigns = record { below = in_field; one = refl }
@@ -146,10 +148,13 @@ module _ (w : ℕ) (net : Net) (block : BlockCircuit) (made : ℕ) (values : Blo
         zero_wire = zero_wire_met w fits.width z assigns (zero_wire_at w (length x)) has_parts.zero_wire;
         steps = met_steps;
         tie = tie_met w fits.width z assigns (last_of block made sizes w net image (length x) t) (memory_at w made (length x) t) v said.0 said.1 has_parts.public.0 answer_small;
-        honest = (memory_complete net).met z (log_of count) (lines_of block w image (length x) t) (memory_at w made (length x) t) (log_some count) (log_within count (few image (length x) t w fits))
+        honest = (memory_complete net).met z (checks_of image (length x) t) (log_of count) (lines_of block w image (length x) t) (memory_at w made (length x) t) (log_some count) (log_within count (few image (length x) t w fits))
             (lines_many w block made sizes law image x z t fits assigns x_words has_parts.public.1 has_parts.zero_wire met_steps)
-            (subst (LinesFrom 0) (sym lines_are) (run_placed w image x aux t fits x_words aux_words)) (subst Honest (sym lines_are) (run_honest w image x aux t fits x_words aux_words)) assigns
-            (subst (λ l. HasFrom z (memory_at w made (length x) t) (memory_values net (log_of count) l)) (sym lines_are) has_parts.last);
+            (subst (LinesFrom 0) (sym lines_are) (run_placed w image x aux t fits x_words aux_words))
+            (are_of_kinds w block made sizes law image x z t fits assigns x_words has_parts.public.1 has_parts.zero_wire met_steps)
+            (are_near w block made sizes law image x z t fits assigns x_words has_parts.public.1 has_parts.zero_wire met_steps)
+            (subst Honest (sym lines_are) (run_honest w image x aux t fits x_words aux_words)) assigns
+            (subst (λ l. HasFrom z (memory_at w made (length x) t) (memory_values net (checks_of image (length x) t) (log_of count) l)) (sym lines_are) has_parts.last);
       })
 
   -- as many values as wires
@@ -158,8 +163,8 @@ module _ (w : ℕ) (net : Net) (block : BlockCircuit) (made : ℕ) (values : Blo
       let a = length-append (v ∷ x) (bits ++ (0 ∷ (blocks ++ lasts))) in
       let b = length-append bits (0 ∷ (blocks ++ lasts)) in
       let c = length-append blocks lasts in
-      let m = (memory_complete net).many (log_of count) (all_lines w image x aux t) in
-      let e = layout_next block made sizes w net image (length x) t (memory_made net (log_of count)) (λ at. (memory_complete net).next (log_of count) (lines_of block w image (length x) t) at) in
+      let m = (memory_complete net).many (checks_of image (length x) t) (log_of count) (all_lines w image x aux t) in
+      let e = layout_next block made sizes w net image (length x) t (memory_made net (checks_of image (length x) t) (log_of count)) (λ at. (memory_complete net).next (checks_of image (length x) t) (log_of count) (lines_of block w image (length x) t) at) in
       omega (arith, a, b, c, m, length-bits, length-blocks, e)
 
   taken_is : taken_of block w image (length x) t z ≡ Reads w image x aux t

@@ -1,12 +1,16 @@
 pub mod Blocks
 pub mod Boot
+pub mod CheckSums
+pub mod Checked
 pub mod Ends
 pub mod Fill
 pub mod ItemTerms
 pub mod Limits
+pub mod LineKinds
 pub mod LinePlaces
 pub mod Machine
-pub mod Measures
+pub mod MemoryCosts
+pub mod NumberPlaces
 pub mod PartCosts
 pub mod Positions
 pub mod Reducing
@@ -16,6 +20,7 @@ pub mod RunLines
 pub mod Sized
 pub mod Sound
 pub mod SpotPlaces
+pub mod StepCells
 pub mod StepFill
 pub mod Steps
 pub mod StepsFill

@@ -10,23 +10,22 @@ use Rattle.std.proofs.lemmas.List.FromFn.{length-map-range_with_len, get_or-map-
 use Rattle.tv_block.proofs.Placed.{block_places}
 use Rattle.tv_block.specs.Block.{block_of}
 use Rattle.tv_block.specs.Complete.{block_made}
-use Rattle.tv_block.specs.Places.{next_state, first_line, second_line, third_line, block_wires, IsShort}
+use Rattle.tv_block.specs.Places.{next_state, block_wires, IsShort}
+use Rattle.tv_block.specs.Under.{LineUnder}
 use Rattle.tv_block.specs.declared.records.Block.{Block}
 use Rattle.tv_block.specs.declared.records.StateWires.{StateWires}
-use Rattle.tv_core.proofs.BelowLaws.{top-weighted}
 use Rattle.tv_core.proofs.JoinedLaws.{joined_below-suc, length-joined_below}
 use Rattle.tv_core.specs.Below.{joined_below}
 use Rattle.tv_core.specs.Circuits.{pure, turns, ◌>>=◌}
 use Rattle.tv_core.specs.Combinations.{wire, constant, top}
 use Rattle.tv_core.specs.Constraints.{Combination}
-use Rattle.tv_core.specs.declared.field.TheConstants.{P}
 use Rattle.tv_core.specs.declared.limits.TheConstants.{TAPE_CELLS, NULL_CELL}
 use Rattle.tv_core.specs.declared.lines.LineLc.{LineLc}
 use Rattle.tv_lines.specs.Placed.{no_line, line_in}
 use Rattle.tv_memory.specs.Memory.{IsMade}
 use Rattle.tv_word.specs.Widths.{IsWidth}
 use Rattle.tv_layout.proofs.Positions.{steps_next, log_above}
-use Rattle.tv_layout.proofs.Sized.{step_sized, placed_within}
+use Rattle.tv_layout.proofs.Sized.{step_sized}
 use Rattle.tv_layout.specs.Layout.{steps_of, state_at, block_at, line_of_word, boot_wires, boot_lines_of, padding_of, lines_of}
 use Rattle.tv_layout.specs.Places.{WithinLimits, boot_count, line_count, log_of, tape_at, zero_wire_at, first_at}
 use Rattle.tv_layout.specs.Told.{state_before}
@@ -196,27 +195,20 @@ short_made wires line short cell time old new = record {
   new_short = short.new;
 }
 
-module _ (w : ℕ) (width : IsWidth w) (state : StateWires) (time at wires : ℕ) (pc : state.pc < at) (end : at + block_made w ≤ wires) where
-  short_lines : (k : ℕ) → k < 3 → IsShort (line_in (block_wires w state time at).lines k)
-  short_lines k h = All-get_or IsShort (block_wires w state time at).lines k no_line h (block_places.short w width state time at)
-
-  block_line_made : (k : ℕ) → k < 3 → IsMade wires (line_in (block_wires w state time at).lines k)
-  block_line_made zero h =
-      let within = placed_within w width in
-      let word : top (first_line w state time at).old ≤ wires = omega (arith, top-weighted at w (λ i. 2 ^ i % P), within.head) in
-      short_made wires (first_line w state time at) (short_lines 0 h) (omega arith) (omega arith) word word
-  block_line_made (suc zero) h =
-      let within = placed_within w width in
-      let word : top (second_line w state time at).old ≤ wires = omega (arith, top-weighted (at + w) w (λ i. 2 ^ i % P), within.tail) in
-      short_made wires (second_line w state time at) (short_lines 1 h) (omega arith) (omega arith) word word
-  block_line_made (suc (suc zero)) h =
-      let within = placed_within w width in
-      short_made wires (third_line w time at) (short_lines 2 h) (omega (arith, within.cell)) (omega arith) (omega (arith, within.old)) (omega (arith, within.new))
-  block_line_made (suc (suc (suc k))) h = absurd (omega arith)
+-- a step's lines, after the wires of which its program counter is one
+block_line_made : (w : ℕ) → IsWidth w → (state : StateWires) (time at wires : ℕ) → state.pc < at → at + block_made w ≤ wires
+    → (k : ℕ) → k < 3 → IsMade wires (line_in (block_wires w state time at).lines k)
+block_line_made w width state time at wires pc end k h =
+    let short : IsShort (line_in (block_wires w state time at).lines k) =
+    All-get_or IsShort (block_wires w state time at).lines k no_line h (block_places.short w width state time at) in
+    let under : LineUnder (at + block_made w) (line_in (block_wires w state time at).lines k) =
+    All-get_or (LineUnder (at + block_made w)) (block_wires w state time at).lines k no_line h (block_places.below w width state time at (omega arith)) in
+    short_made wires (line_in (block_wires w state time at).lines k) short
+    (omega (arith, under.cell, end)) (omega (arith, under.time, end)) (omega (arith, under.old, end)) (omega (arith, under.new, end))
 
 pc_before : (w : ℕ) (width : IsWidth w) (zero_wire first i : ℕ) → zero_wire < first → (state_before w zero_wire first i).pc < first + i * block_made w
 pc_before w width zero_wire first zero h = omega arith
-pc_before w width zero_wire first (suc i) h = omega (arith, (placed_within w width).pc)
+pc_before w width zero_wire first (suc i) h = omega (arith, block_places.after w width (first + i * block_made w))
 
 module _ (w : ℕ) (image : List ℕ) (n t : ℕ) (fits : WithinLimits w image n t) where
   abbrev made : ℕ → Type 0

@@ -1,74 +1,30 @@
--- What the parts of a system cost: at each width they are lists of one shape whatever they are given, so this computes.
-use Rattle.std.proofs.Common.{◌≡◌, ℕ, ◌+◌, ◌-◌, ◌*◌, ◌%◌, List, [], ◌++◌, length, refl, ap, ◌∙◌, arith}
-use Rattle.std.proofs.lemmas.List.{length-append, length-map}
-use Rattle.std.proofs.lemmas.List.Sums.{sum_by-append}
-use Rattle.tv_benes.specs.Network.{switch_of}
-use Rattle.tv_benes.specs.Places.{wires_at}
-use Rattle.tv_block.specs.declared.records.StateWires.{StateWires}
-use Rattle.tv_core.specs.Combinations.{scaled}
-use Rattle.tv_core.specs.Constraints.{Combination, Constraint}
-use Rattle.tv_core.specs.Meanings.{terms_in}
-use Rattle.tv_core.specs.declared.field.TheConstants.{P}
-use Rattle.tv_core.specs.declared.lines.Pair.{Pair}
-use Rattle.tv_lines.specs.SortedPair.{apart_of, carried_of, size_of, rises_of, sorted_pair_of, first_line_of}
-use Rattle.tv_lines.specs.Unpacking.{unpack_of}
-use Rattle.tv_memory.specs.Memory.{unpack_one, bits_at, neighbours_of}
-use Rattle.tv_word.proofs.WidthLaws.{for_widths}
-use Rattle.tv_word.specs.Widths.{IsWidth}
-use Rattle.tv_layout.proofs.Measures.{Measures, pair_terms}
-use Rattle.tv_layout.specs.Costs.{constraint_costs, term_costs, block_terms}
-use Rattle.tv_layout.specs.Layout.{word_of, zero_wire_of, tie_of}
-use Rattle.tv_block.proofs.CountLaws.{block_counted}
-use Rattle.tv_block.specs.declared.records.Reached.{Reached}
-use Rattle.tv_core.specs.Below.{each_below, weighted}
-use Rattle.tv_core.specs.Circuits.{pure, here, fresh, put, ◌>>=◌, turns}
+-- What a system costs, by a measure of its parts.
+use Rattle.std.proofs.Common.{◌≡◌, ℕ, ◌+◌, ◌*◌, List, ◌++◌, length, refl, ap, ap₂, ◌∙◌, arith}
+use Rattle.std.proofs.lemmas.List.{append-nil}
+use Rattle.tv_benes.proofs.Measures.{IsMeasure, lengths, terms, same_turns}
+use Rattle.tv_benes.specs.declared.shape.Net.{Net}
 use Rattle.tv_bits.specs.Bit.{bit_of}
 use Rattle.tv_bits.specs.Bits.{new_bit, new_bits_of, bits_of}
-use Rattle.tv_bits.specs.Nonzero.{nonzero_of}
-use Rattle.tv_bits.specs.OneHot.{mark_of, onehot_of}
-use Rattle.tv_bits.specs.Order.{first_difference}
-use Rattle.tv_bits.specs.Pairs.{two_ands_of}
-use Rattle.tv_bits.specs.Prefixes.{next_product, zero_product_of, prefix_difference_of}
-use Rattle.tv_bits.specs.Ratio.{ratio_of}
-use Rattle.tv_bits.specs.Select.{pick_of}
-use Rattle.tv_bits.specs.Times.{times_of}
-use Rattle.tv_bits.specs.Zero.{zero_of}
-use Rattle.tv_limb.specs.Difference.{sub_of}
-use Rattle.tv_limb.specs.Split.{split_of}
-use Rattle.tv_limb.specs.Sum.{add_of}
-use Rattle.tv_cmp.specs.Compare.{order_flags_of, signed_size_of, greater_of, compare_of}
-use Rattle.tv_logic.specs.Ands.{and_pair_of, new_and_pair_of, and_of}
-use Rattle.tv_logic.specs.Flags.{logic_flags_of}
-use Rattle.tv_logic.specs.Logic.{logic_of}
-use Rattle.tv_logic.specs.Words.{logic_words_of}
-use Rattle.tv_shift.specs.Halves.{half_bit_of, halves_of}
-use Rattle.tv_shift.specs.Masks.{masked_pair_of, masked_of, mask_at, digit_at}
-use Rattle.tv_shift.specs.Shift.{places_of, parts_of, by_half_of, by_rest_of, ends_of, shift_of}
-use Rattle.tv_shift.specs.Thermometer.{both, mark, level_product_of, level_of, thermometer_of, power_of}
-use Rattle.tv_muldiv.specs.Product.{product_bits_of, product_of}
-use Rattle.tv_muldiv.specs.Quotient.{zero_divisor_of, quotient_wires_of, gate_of, division_of, remainder_below_of, quotient_of}
-use Rattle.tv_muldiv.specs.SignedHigh.{signed_bits_of, signed_high_of}
-use Rattle.tv_decode.specs.Fields.{fields_of}
-use Rattle.tv_regs.specs.Choices.{choice_of, choices_of, choose_of}
-use Rattle.tv_regs.specs.Reading.{read_of, read_reg_of}
-use Rattle.tv_regs.specs.Writing.{write_of, tie_of as written_of, write_reg_of}
-use Rattle.tv_block.specs.Block.{compute_of, block_of}
-use Rattle.tv_block.specs.Data.{data_of}
-use Rattle.tv_block.specs.Fetch.{fetch_of}
-use Rattle.tv_block.specs.Gates.{if_zero_of, unless_zero_of, taking_of}
-use Rattle.tv_block.specs.Groups.{groups_of}
-use Rattle.tv_block.specs.Operands.{operands_of}
-use Rattle.tv_block.specs.Pc.{pc_of}
-use Rattle.tv_block.specs.Result.{result_of}
-use Rattle.tv_block.specs.Store.{patch_of_two, patch_of_four, patch_of, store_of}
-use Rattle.tv_block.specs.Tapes.{tapes_of}
+use Rattle.tv_block.proofs.CountLaws.{block_counted}
+use Rattle.tv_block.specs.Block.{block_of}
+use Rattle.tv_block.specs.Complete.{block_made, block_added}
+use Rattle.tv_block.specs.Costs.{block_terms}
+use Rattle.tv_block.specs.declared.records.Reached.{Reached}
+use Rattle.tv_block.specs.declared.records.StateWires.{StateWires}
+use Rattle.tv_core.specs.Below.{each_below, weighted}
+use Rattle.tv_core.specs.Circuits.{pure, here, fresh, put, ◌>>=◌, turns}
+use Rattle.tv_core.specs.Constraints.{Constraint}
+use Rattle.tv_core.specs.Meanings.{terms_in}
+use Rattle.tv_memory.specs.Memory.{memory_of}
+use Rattle.tv_word.proofs.WidthLaws.{for_widths}
+use Rattle.tv_word.specs.Widths.{IsWidth}
+use Rattle.tv_layout.proofs.Positions.{layout_list, memory_at}
+use Rattle.tv_layout.proofs.Sized.{step_sized}
+use Rattle.tv_layout.specs.Checks.{checks_of}
+use Rattle.tv_layout.specs.Layout.{word_of, words_of, zero_wire_of, step_of, steps_of, tie_of, before_steps, lines_of, layout_of}
+use Rattle.tv_layout.specs.Places.{boot_count, line_count, log_of, tape_at, zero_wire_at, first_at}
 
--- ---- a step
-step_terms : (w : ℕ) → IsWidth w → (n : ℕ) (state : StateWires) (time next : ℕ) → terms_in (block_of w n state time next).list ≡ block_terms w
-unfolding weighted pure here fresh put ◌>>=◌ turns bit_of new_bit new_bits_of bits_of nonzero_of mark_of onehot_of first_difference two_ands_of next_product zero_product_of prefix_difference_of ratio_of times_of zero_of sub_of split_of add_of order_flags_of signed_size_of greater_of compare_of and_pair_of new_and_pair_of and_of logic_flags_of logic_of logic_words_of half_bit_of halves_of masked_pair_of masked_of mask_at digit_at places_of parts_of by_half_of by_rest_of ends_of shift_of both mark level_product_of level_of thermometer_of power_of product_bits_of product_of zero_divisor_of quotient_wires_of gate_of division_of remainder_below_of quotient_of signed_bits_of signed_high_of fields_of choice_of choices_of choose_of pick_of read_of read_reg_of write_of write_reg_of compute_of block_of data_of fetch_of if_zero_of unless_zero_of taking_of groups_of operands_of pc_of result_of patch_of_two patch_of_four patch_of store_of tapes_of written_of each_below
-step_terms w width n state time next = for_widths (λ w. terms_in (block_of w n state time next).list ≡ block_terms w) refl refl w width
-
--- ---- words, and lines behind the network
+-- ---- words, the wire that is held to 0, and the end
 word_count : (w : ℕ) → IsWidth w → (first i next : ℕ) → length (word_of w first i next).list ≡ w + 1
 unfolding weighted pure here fresh put ◌>>=◌ turns bit_of new_bit new_bits_of bits_of each_below
 word_count w width first i next = for_widths (λ w. length (word_of w first i next).list ≡ w + 1) refl refl w width
@@ -77,31 +33,6 @@ word_terms : (w : ℕ) → IsWidth w → (first i next : ℕ) → terms_in (word
 unfolding weighted pure here fresh put ◌>>=◌ turns bit_of new_bit new_bits_of bits_of each_below
 word_terms w width first i next = for_widths (λ w. terms_in (word_of w first i next).list ≡ 4 * w + 2) refl refl w width
 
-line_count : (at next : ℕ) → length (unpack_one (wires_at at) next).list ≡ 117
-unfolding weighted pure here fresh put ◌>>=◌ turns bit_of new_bit new_bits_of bits_of next_product zero_product_of times_of zero_of each_below apart_of carried_of size_of rises_of sorted_pair_of first_line_of unpack_of
-line_count at next = refl
-
-line_terms : (at next : ℕ) → terms_in (unpack_one (wires_at at) next).list ≡ 464
-unfolding weighted pure here fresh put ◌>>=◌ turns bit_of new_bit new_bits_of bits_of next_product zero_product_of times_of zero_of each_below apart_of carried_of size_of rises_of sorted_pair_of first_line_of unpack_of
-line_terms at next = refl
-
-first_count : (first next : ℕ) → length (first_line_of (bits_at first 0) next).list ≡ 1
-unfolding weighted pure here fresh put ◌>>=◌ turns bit_of new_bit new_bits_of bits_of next_product zero_product_of times_of zero_of each_below apart_of carried_of size_of rises_of sorted_pair_of first_line_of unpack_of
-first_count first next = refl
-
-first_terms : (first next : ℕ) → terms_in (first_line_of (bits_at first 0) next).list ≡ 33
-unfolding weighted pure here fresh put ◌>>=◌ turns bit_of new_bit new_bits_of bits_of next_product zero_product_of times_of zero_of each_below apart_of carried_of size_of rises_of sorted_pair_of first_line_of unpack_of
-first_terms first next = refl
-
-pair_count : (first i next : ℕ) → length (neighbours_of first i next).list ≡ 20
-unfolding weighted pure here fresh put ◌>>=◌ turns bit_of new_bit new_bits_of bits_of next_product zero_product_of times_of zero_of each_below apart_of carried_of size_of rises_of sorted_pair_of first_line_of unpack_of
-pair_count first i next = refl
-
-pair_terms_are : (first i next : ℕ) → terms_in (neighbours_of first i next).list ≡ 312
-unfolding weighted pure here fresh put ◌>>=◌ turns bit_of new_bit new_bits_of bits_of next_product zero_product_of times_of zero_of each_below apart_of carried_of size_of rises_of sorted_pair_of first_line_of unpack_of
-pair_terms_are first i next = refl
-
--- ---- the wire that is held to 0, and the end
 none_count : (next : ℕ) → length (zero_wire_of next).list ≡ 1
 unfolding zero_wire_of pure fresh put ◌>>=◌
 none_count next = refl
@@ -118,57 +49,54 @@ tie_terms : (last : Reached) (next : ℕ) → terms_in (tie_of last next).list �
 unfolding tie_of pure put ◌>>=◌
 tie_terms last next = refl
 
--- ---- a switch
-switch_count : (x y : Pair) (next : ℕ) → length (switch_of x y next).list ≡ 5
-unfolding switch_of bit_of pick_of pure fresh put ◌>>=◌
-switch_count x y next = refl
+-- ---- the whole
+record Parts (m : List Constraint → ℕ) (w word zero_wire step tie : ℕ) : Type 0 where
+  words : (first i next : ℕ) → m (word_of w first i next).list ≡ word
+  zero : (next : ℕ) → m (zero_wire_of next).list ≡ zero_wire
+  steps : (n : ℕ) (state : StateWires) (time next : ℕ) → m (block_of w n state time next).list ≡ step
+  ties : (last : Reached) (next : ℕ) → m (tie_of last next).list ≡ tie
 
-less_length : (x y : Combination) → length (x ++ scaled (P - 1) y) ≡ length x + length y
-less_length x y = length-append x (scaled (P - 1) y) ∙ ap (λ k. length x + k) (length-map y (λ t. ((P - 1) * t.0 % P, t.1)))
+module _ (m : List Constraint → ℕ) (law : IsMeasure m) (w : ℕ) (width : IsWidth w) (word zero_wire step tie : ℕ) (parts : Parts m w word zero_wire step tie) where
+  steps_cost : (n time t zero next : ℕ) → m (steps_of (block_of w) n time t zero next).list ≡ t * step
+  unfolding steps_of pure ◌>>=◌
+  steps_cost n time t zero next =
+      same_turns m law (step_of (block_of w) n time) (before_steps zero) next step t
+      (λ i last at. ap m (append-nil (block_of w n last.next (time + 3 * i) at).list) ∙ parts.steps n last.next (time + 3 * i) at)
 
-switch_terms : (x y : Pair) (next : ℕ) → terms_in (switch_of x y next).list ≡ 11 + 3 * (pair_terms x + pair_terms y)
-unfolding switch_of bit_of pick_of pure fresh put ◌>>=◌
-switch_terms x y next =
-    omega (
-      arith,
-      less_length y.first x.first,
-      less_length y.second x.second,
-      less_length x.first y.first,
-      less_length x.second y.second,
-      less_length [] x.first,
-      less_length [] x.second,
-      less_length [] y.first,
-      less_length [] y.second,
-    )
+  words_cost : (first n next : ℕ) → m (words_of w first n next).list ≡ n * word
+  unfolding words_of
+  words_cost first n next = same_turns m law (λ i _. word_of w first i) tt next word n (λ i a at. parts.words first i at)
 
--- ---- all of them
-terms_add : (a b : List Constraint) → terms_in (a ++ b) ≡ terms_in a + terms_in b
-terms_add a b = sum_by-append (λ (c : Constraint). length c.a + length c.b + length c.c) a b
+  layout_cost : (net : Net) (image : List ℕ) (n t memory : ℕ)
+      → ((at : ℕ) → m (memory_of net (checks_of image n t) (log_of (line_count image n t)) (lines_of (block_of w) w image n t) at).list ≡ memory)
+      → m (layout_of (block_of w) w net image n t (2 + n)).list ≡ n * word + zero_wire + t * step + tie + memory
+  layout_cost net image n t memory is =
+      let words = (words_of w tape_at n (2 + n)).list in
+      let none = (zero_wire_of (zero_wire_at w n)).list in
+      let steps = (steps_of (block_of w) n (boot_count image n) t (zero_wire_at w n) (first_at w n)).list in
+      let last = (steps_of (block_of w) n (boot_count image n) t (zero_wire_at w n) (first_at w n)).answer in
+      let end = (tie_of last (memory_at w (block_made w) n t)).list in
+      let rest = (memory_of net (checks_of image n t) (log_of (line_count image n t)) (lines_of (block_of w) w image n t) (memory_at w (block_made w) n t)).list in
+      ap m (layout_list (block_of w) (block_made w) (step_sized w width) w net image n t)
+      ∙ law.adds words (none ++ (steps ++ (end ++ rest))) ∙ ap₂ (λ a b. a + b) (words_cost tape_at n (2 + n))
+      (law.adds none (steps ++ (end ++ rest)) ∙ ap₂ (λ a b. a + b) (parts.zero (zero_wire_at w n))
+      (law.adds steps (end ++ rest) ∙ ap₂ (λ a b. a + b) (steps_cost n (boot_count image n) t (zero_wire_at w n) (first_at w n))
+      (law.adds end rest ∙ ap₂ (λ a b. a + b) (parts.ties last (memory_at w (block_made w) n t)) (is (memory_at w (block_made w) n t)))))
+      ∙ regroup (n * word) zero_wire (t * step) tie memory
+    where
+      regroup : (a b c d e : ℕ) → a + (b + (c + (d + e))) ≡ a + b + c + d + e
+      regroup a b c d e = omega arith
 
-pub counts_measured : (w : ℕ) → IsWidth w → Measures length w (constraint_costs w)
-counts_measured w width = record {
-  nothing = refl;
-  adds = λ a b. length-append a b;
-  word = word_count w width;
-  zero_wire = none_count;
-  step = block_counted w width;
-  tie = tie_count;
-  switch = λ x y next. switch_count x y next ∙ omega arith;
-  line = line_count;
-  first = first_count;
-  pair = pair_count;
-}
+-- ---- in constraints and in terms
+module _ (w : ℕ) (width : IsWidth w) (net : Net) (image : List ℕ) (n t memory : ℕ) where
+  pub layout_count : ((at : ℕ) → length (memory_of net (checks_of image n t) (log_of (line_count image n t)) (lines_of (block_of w) w image n t) at).list ≡ memory)
+      → length (layout_of (block_of w) w net image n t (2 + n)).list ≡ n * (w + 1) + 1 + t * block_added w + 2 + memory
+  layout_count is =
+      layout_cost length lengths w width (w + 1) 1 (block_added w) 2
+      (record { words = word_count w width; zero = none_count; steps = block_counted.constraints w width; ties = tie_count }) net image n t memory is
 
-pub terms_measured : (w : ℕ) → IsWidth w → Measures terms_in w (term_costs w)
-terms_measured w width = record {
-  nothing = refl;
-  adds = terms_add;
-  word = word_terms w width;
-  zero_wire = none_terms;
-  step = step_terms w width;
-  tie = tie_terms;
-  switch = switch_terms;
-  line = line_terms;
-  first = first_terms;
-  pair = pair_terms_are;
-}
+  pub layout_terms : ((at : ℕ) → terms_in (memory_of net (checks_of image n t) (log_of (line_count image n t)) (lines_of (block_of w) w image n t) at).list ≡ memory)
+      → terms_in (layout_of (block_of w) w net image n t (2 + n)).list ≡ n * (4 * w + 2) + 2 + t * block_terms w + 6 + memory
+  layout_terms is =
+      layout_cost terms_in terms w width (4 * w + 2) 2 (block_terms w) 6
+      (record { words = word_terms w width; zero = none_terms; steps = block_counted.terms w width; ties = tie_terms }) net image n t memory is

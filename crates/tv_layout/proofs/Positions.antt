@@ -12,6 +12,7 @@ use Rattle.tv_core.specs.Laws.{Meets}
 use Rattle.tv_memory.specs.Memory.{memory_of}
 use Rattle.tv_layout.proofs.Blocks.{BlockSizes}
 use Rattle.tv_layout.specs.Blocks.{BlockCircuit}
+use Rattle.tv_layout.specs.Checks.{checks_of}
 use Rattle.tv_layout.specs.Layout.{word_of, words_of, zero_wire_of, tie_of, step_of, steps_of, before_steps, lines_of, layout_of}
 use Rattle.tv_layout.specs.Places.{log_from, log_of, boot_count, line_count, tape_at, zero_wire_at, first_at}
 use Rattle.tv_block.specs.declared.records.Reached.{Reached}
@@ -51,7 +52,7 @@ module _ (block : BlockCircuit) (made : ℕ) (sizes : BlockSizes block made) whe
         ++ ((zero_wire_of (zero_wire_at w n)).list
         ++ ((steps_of block n (boot_count image n) t (zero_wire_at w n) (first_at w n)).list
         ++ ((tie_of last_of (memory_at w made n t)).list
-        ++ (memory_of net (log_of (line_count image n t)) (lines_of block w image n t) (memory_at w made n t)).list)))
+        ++ (memory_of net (checks_of image n t) (log_of (line_count image n t)) (lines_of block w image n t) (memory_at w made n t)).list)))
     unfolding layout_of zero_wire_of tie_of fresh put pure ◌>>=◌
     layout_list = rw (words_next w tape_at n (2 + n)) (rw (steps_next n (boot_count image n) t (zero_wire_at w n) (first_at w n)) refl)
 
@@ -60,7 +61,7 @@ module _ (block : BlockCircuit) (made : ℕ) (sizes : BlockSizes block made) whe
       pub zero_wire : Meets z (zero_wire_of (zero_wire_at w n)).list
       pub steps : Meets z (steps_of block n (boot_count image n) t (zero_wire_at w n) (first_at w n)).list
       pub tie : Meets z (tie_of last_of (memory_at w made n t)).list
-      pub honest : Meets z (memory_of net (log_of (line_count image n t)) (lines_of block w image n t) (memory_at w made n t)).list
+      pub honest : Meets z (memory_of net (checks_of image n t) (log_of (line_count image n t)) (lines_of block w image n t) (memory_at w made n t)).list
 
     pub layout_met : (z : List ℕ) → Meets z (layout_of block w net image n t (2 + n)).list → LayoutMet z
     layout_met z meets =
@@ -75,7 +76,7 @@ module _ (block : BlockCircuit) (made : ℕ) (sizes : BlockSizes block made) whe
         rw layout_list (Meets-join z _ _ m.words (Meets-join z _ _ m.zero_wire (Meets-join z _ _ m.steps (Meets-join z _ _ m.tie m.honest))))
 
     -- where it ends
-    pub layout_next : (memory_made : ℕ) → ((at : ℕ) → (memory_of net (log_of (line_count image n t)) (lines_of block w image n t) at).next ≡ at + memory_made)
+    pub layout_next : (memory_made : ℕ) → ((at : ℕ) → (memory_of net (checks_of image n t) (log_of (line_count image n t)) (lines_of block w image n t) at).next ≡ at + memory_made)
         → (layout_of block w net image n t (2 + n)).next ≡ memory_at w made n t + memory_made
     unfolding layout_of zero_wire_of tie_of fresh put pure ◌>>=◌
     layout_next memory_made ends =

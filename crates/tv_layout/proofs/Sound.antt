@@ -27,6 +27,8 @@ use Rattle.tv_layout.proofs.Whole.{few, short, early, spare, lines, lines_valued
 use Rattle.tv_block.specs.Fetch.{state_in}
 use Rattle.tv_layout.proofs.Blocks.{BlockSizes, BlockIsSound}
 use Rattle.tv_layout.specs.Blocks.{BlockCircuit}
+use Rattle.tv_layout.proofs.Checked.{are_of_kinds}
+use Rattle.tv_layout.specs.Checks.{checks_of}
 use Rattle.tv_layout.specs.Layout.{steps_of, state_at, lines_of, taken_of, layout}
 use Rattle.tv_layout.specs.Places.{WithinLimits, boot_count, line_count, log_of, tape_at, zero_wire_at, first_at}
 use Rattle.tv_layout.specs.Sound.{padding, IsRun}
@@ -118,8 +120,9 @@ layout_sound w net block made sizes law image x z t fits has sat =
     let zero_there = zero_wire_there w fits.width z assigns (zero_wire_at w (length x)) met.zero_wire in
     let tie = tie_there w fits.width z assigns (last_of block made sizes w net image (length x) t) _ met.tie in
     let count : ℕ = line_count image (length x) t in
-    let honest = memory_sound net z (log_of count) (lines_of block w image (length x) t) _ (log_some count) (log_within count (few image (length x) t w fits))
+    let honest = memory_sound net z (checks_of image (length x) t) (log_of count) (lines_of block w image (length x) t) _ (log_some count) (log_within count (few image (length x) t w fits))
     (lines_many w block made sizes law image x z t fits assigns words has zero_there met.steps)
     (subst (LinesFrom 0) (sym (lines_valued w block made sizes law image x z t fits assigns words has zero_there met.steps)) (all_placed w block made sizes law image x z t fits assigns words has zero_there met.steps))
+    (are_of_kinds w block made sizes law image x z t fits assigns words has zero_there met.steps)
     assigns met.honest in
     is_run w block made sizes law image x z t fits assigns words has zero_there met.steps honest tie.0 tie.1

@@ -55,7 +55,7 @@ module _ (w : ℕ) (width : IsWidth w) (block : BlockCircuit) (made : ℕ) (valu
   shows = complete.shows z x state time at st (word_taken w st) given
 
   pub sound : IsMachineStep w z x time state step
-  sound = law z x state time at given.short given.early given.assigns given.range step_met
+  sound = (law z x state time at given.short given.early given.assigns given.range step_met).machine
 
   olds : HoldsOlds w x b st
   olds =

@@ -23,7 +23,7 @@ use Rattle.tv_word.specs.Widths.{IsWidth}
 use Rattle.tv_layout.proofs.Boot.{LinesFrom-append}
 use Rattle.tv_block.specs.Fetch.{state_in}
 use Rattle.tv_block.specs.Block.{IsMachineStep, did, reached}
-use Rattle.tv_layout.proofs.Blocks.{BlockSizes, BlockIsSound}
+use Rattle.tv_layout.proofs.Blocks.{BlockSizes, HasCells, BlockIsSound}
 use Rattle.tv_layout.proofs.Taking.{taken_in}
 use Rattle.tv_layout.specs.Blocks.{BlockCircuit}
 use Rattle.tv_layout.specs.Layout.{before_steps, step_of, steps_of, state_at, block_at}
@@ -103,7 +103,7 @@ module _ (block : BlockCircuit) (made : ℕ) (sizes : BlockSizes block made) (z 
     step_met i h = (parts z _ (λ b. pure (reached b)) _ (turn_met z (step_of block (length x) time) (before_steps zero_wire) first t i h met)).0
 
     step_sound : (i : ℕ) → i < t → ViewInRange w (length x) (state_in z (state i)) → IsMachineStep w z x (time + 3 * i) (state i) (step i)
-    step_sound i h held = law z x (state i) (time + 3 * i) _ short (omega arith) assigns held (step_met i h)
+    step_sound i h held = (law z x (state i) (time + 3 * i) _ short (omega arith) assigns held (step_met i h)).machine
 
     -- the state before each step is in range
     pub held : (i : ℕ) → i ≤ t → ViewInRange w (length x) (state_in z (state i))
@@ -112,6 +112,10 @@ module _ (block : BlockCircuit) (made : ℕ) (sizes : BlockSizes block made) (z 
 
     pub does : (i : ℕ) → i < t → DoesStep w x (time + 3 * i) (did_at i)
     does i h = (step_sound i h (held i (omega arith))).does
+
+    -- the cells of its lines
+    pub cells : (i : ℕ) → i < t → HasCells w (did_at i)
+    cells i h = (law z x (state i) (time + 3 * i) _ short (omega arith) assigns (held i (omega arith)) (step_met i h)).cells
 
     -- lines in their places
     fits : (line : Line) → IsLine w line → Fits line

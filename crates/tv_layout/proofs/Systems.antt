@@ -1,22 +1,29 @@
 -- The circuit of tv_block gives what a system takes of a step.
-use Rattle.std.proofs.Common.{ℕ, ◌-◌, length, arith}
-use Rattle.tv_block.proofs.BlockLaws.{block_sound}
+use Rattle.std.proofs.Common.{ℕ, ◌-◌, length, sym, subst, arith}
+use Rattle.tv_block.proofs.BlockLaws.{step_in, block_sound}
 use Rattle.tv_block.proofs.MachineFills.{machine_step_met, machine_values_fit}
 use Rattle.tv_block.specs.Block.{block_of}
 use Rattle.tv_block.specs.Complete.{block_made, step_values}
+use Rattle.tv_block.specs.Fetch.{state_in}
 use Rattle.tv_numbers.proofs.RangeLaws.{flag_small}
 use Rattle.tv_numbers.specs.Views.{flag_of}
 use Rattle.tv_word.specs.Widths.{IsWidth}
 use Rattle.tv_layout.proofs.Fill.{fill_complete}
 use Rattle.tv_layout.proofs.Reducing.{layout_reduces}
 use Rattle.tv_layout.proofs.Sound.{layout_sound}
-use Rattle.tv_layout.proofs.Blocks.{BlockIsSound, BlockIsComplete}
+use Rattle.tv_layout.proofs.Blocks.{HasCells, BlockIsSound, BlockIsComplete}
 use Rattle.tv_layout.proofs.Sized.{step_sized}
+use Rattle.tv_layout.proofs.StepCells.{numbers_have_cells}
 use Rattle.tv_layout.specs.Systems.{SystemIsSound, SystemIsComplete, SystemReduces}
 
 module _ (w : ℕ) (width : IsWidth w) where
   pub step_sound : BlockIsSound w (block_of w)
-  step_sound z x state time next short early assigns range met = block_sound w width z x state time next short early assigns range met
+  step_sound z x state time next short early assigns range met =
+      let is = step_in w width z (length x) state time next short early assigns range met in
+      record {
+        machine = block_sound w width z x state time next short early assigns range met;
+        cells = subst (HasCells w) (sym is.same) (numbers_have_cells w width (length x) time (state_in z state) is.head is.tail is.word is.takes is.at_numbers);
+      }
 
   pub step_complete : BlockIsComplete w (block_of w) (block_made w) (step_values w)
   step_complete = record {

@@ -13,6 +13,7 @@ use Rattle.tv_core.specs.declared.limits.TheConstants.{TAPE_CELLS, NULL_CELL}
 use Rattle.tv_core.specs.declared.lines.LineLc.{LineLc}
 use Rattle.tv_memory.specs.Memory.{memory_of}
 use Rattle.tv_layout.specs.Blocks.{BlockCircuit}
+use Rattle.tv_layout.specs.Checks.{checks_of}
 use Rattle.tv_layout.specs.Places.{boot_count, line_count, log_of, tape_at, zero_wire_at, first_at}
 use Rattle.tv_block.specs.Block.{reached}
 use Rattle.tv_block.specs.declared.records.Block.{Block}
@@ -116,7 +117,7 @@ module _ (block : BlockCircuit) where
     zero_wire ← zero_wire_of
     last ← steps_of n (boot_count image n) t zero_wire
     _ ← tie_of last
-    memory_of net (log_of (line_count image n t)) (lines_of w image n t)
+    memory_of net (checks_of image n t) (log_of (line_count image n t)) (lines_of w image n t)
 
   -- the system: its public wires are the answer and the n words of the tape
   abbrev pub layout : ℕ → Net → List ℕ → ℕ → ℕ → System

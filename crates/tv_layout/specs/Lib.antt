@@ -1,5 +1,5 @@
 pub mod Blocks
-pub mod Costs
+pub mod Checks
 pub mod Layout
 pub mod Places
 pub mod Reached

@@ -7,6 +7,7 @@ use Rattle.tv_core.specs.Constraints.{Sat, Extends}
 use Rattle.tv_memory.specs.Order.{memory_values}
 use Rattle.tv_step.specs.Machine.{start, state_after}
 use Rattle.tv_step.specs.Reads.{word_taken, ended_after, Reads}
+use Rattle.tv_layout.specs.Checks.{checks_of}
 use Rattle.tv_layout.specs.Blocks.{BlockCircuit, BlockValues, values_for, told}
 use Rattle.tv_layout.specs.Layout.{taken_of, layout}
 use Rattle.tv_layout.specs.Places.{boot_count, line_count, log_of}
@@ -23,7 +24,7 @@ module _ (values : BlockValues) where
   unfoldable pub fill : ℕ → Net → List ℕ → List ℕ → List ℕ → ℕ → ℕ → List ℕ
   fill w net image x aux t v =
       1 ∷ ((v ∷ x) ++ (joined_below (length x) (λ i. bits_values (slice_index x i) w)
-      ++ (0 ∷ (joined_below t (step_values w image x aux) ++ memory_values net (log_of (line_count image (length x) t)) (all_lines w image x aux t)))))
+      ++ (0 ∷ (joined_below t (step_values w image x aux) ++ memory_values net (checks_of image (length x) t) (log_of (line_count image (length x) t)) (all_lines w image x aux t)))))
 
 -- the values satisfy the system and extend the answer and the tape, and the words taken are those that the run reads
 pub record IsFill (w : ℕ) (net : Net) (block : BlockCircuit) (image x aux : List ℕ) (t v : ℕ) (z : List ℕ) : Type 0 where

@@ -44,7 +44,7 @@ pub fn emit_system<const W: u32, S: Sink>(
     let last = steps::<W, S>(s, n, t, zero_wire)?;
     tie(s, &last)?;
     let k = log_of(image.len() as u32 + n + 3 * t);
-    memory(s, net, k, &LayoutLines::<W> { image, n, t })
+    memory(s, net, k, &LayoutLines::<W> { image, n, t, k })
 }
 
 // So many wires from a first one on are words.

@@ -23,11 +23,9 @@ pub fn systems_reduce()
     ensures { SystemReduces }
 {}
 
-/// The counts of a system are what its parts cost, all together. At 32 bits a step is 654 wires,
-/// 752 constraints and 5,758 terms, at 16 bits 404, 502 and 3,488; a switch is 5 wires, 5
-/// constraints and 23 terms; a line behind the network is 133 wires, 137 constraints and 776 terms,
-/// beside the terms with which it goes in. For 2^k lines of T steps on n words, wires and
-/// constraints are each at most 2,048 T + 5 · 2^k (2k - 1) + 200 · 2^k + 40 (n + 1) + 64, or with
+/// The counts of a system are those of its parts, all together: of a step what `step_costs` says,
+/// and of the memory argument what `memory_costs` says. For 2^k lines of T steps on n words, wires
+/// and constraints are each at most 2,048 T + 5 · 2^k (2k - 1) + 200 · 2^k + 40 (n + 1) + 64, or with
 /// 10 (2^k (k - 1) + 1) over Waksman's network, and within the limits numbers of 32 bits.
 pub fn systems_are_sized()
     ensures { SystemIsSized }

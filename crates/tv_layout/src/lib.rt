@@ -7,7 +7,7 @@
 //! wires follow from places.
 #![tactic(auto)]
 
-mod costs;
+mod checks;
 mod emitting;
 mod laws;
 mod lines;
@@ -17,6 +17,7 @@ mod spots;
 mod stepping;
 mod totals;
 
+pub use checks::line_kind;
 pub use emitting::emit_system;
 pub use laws::{systems_are_complete, systems_are_sized, systems_are_sound, systems_reduce};
 pub use lines::line;

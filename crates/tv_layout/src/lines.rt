@@ -4,6 +4,7 @@ ghost use Rattle.tv_block.specs.Block.{block_of};
 ghost use Rattle.tv_block.specs.Complete.{block_made};
 ghost use Rattle.tv_block.specs.Places.{block_wires, IsShort};
 ghost use Rattle.tv_block.specs.Under.{LineUnder};
+ghost use Rattle.tv_layout.specs.Checks.{checks_of};
 ghost use Rattle.tv_layout.specs.Layout.{lines_of, line_of_word};
 ghost use Rattle.tv_layout.specs.Places.{WithinLimits, line_count, log_of, zero_wire_at, first_at};
 ghost use Rattle.tv_layout.specs.Systems.{system_of};
@@ -12,13 +13,14 @@ ghost use Rattle.tv_lines.specs.Placed.{line_in};
 ghost use Rattle.tv_lines.specs.Told.{line_told, word_told, HasShortWords, IsShortWord};
 ghost use Rattle.tv_word.specs.Widths.{IsWidth};
 
+use crate::checks::line_kind;
 use crate::places::{step_at, tape_wire, zero_wire_at};
 use crate::stepping::first_state;
 use tv_block::{StateWires, block_line, next_state};
 use tv_core::limits::{NULL_CELL, STEPS, TAPE_CELLS, TAPE_WORDS};
-use tv_core::{F, LineLc, Pair, Wire};
+use tv_core::{F, LineLc, Wire};
 use tv_lines::{Cell, ToldLine, Word};
-use tv_memory::Lines;
+use tv_memory::{Kind, Lines};
 
 /// Line `i` of a program's system, in time order: those of the image, of the words of the primary
 /// tape, of the steps, and padding up to 2^k lines, where k is `log_of` of how many there are
@@ -35,7 +37,7 @@ pub fn line<const W: u32>(image: &[u32], n: u32, t: u32, i: u32) -> LineLc
     told_line::<W>(image, n, t, i).lc()
 }
 
-// The same line, told by what it is made of.
+// The same line in compact form.
 fn told_line<const W: u32>(image: &[u32], n: u32, t: u32, i: u32) -> ToldLine
     requires fits { WithinLimits W image.now n t }
     requires within { i < 2 ^ log_of (line_count image.now n t) }
@@ -102,19 +104,32 @@ fn state_before<const W: u32>(n: u32, step: u32) -> StateWires
     }
 }
 
-// All lines of a program's system, told one by one by their places.
+// All lines of a program's system, by their places.
 #[derive(Clone, Copy)]
 pub(crate) struct LayoutLines<'a, const W: u32> {
     pub(crate) image: &'a [u32],
     pub(crate) n: u32,
     pub(crate) t: u32,
+    // There are 2^`k`.
+    pub(crate) k: u32,
     ghost fits: { ∥ WithinLimits W image.now n t ∥₁ },
+    ghost log: { k ≡ log_of (line_count image.now n t) },
 }
 
 impl<'a, const W: u32> Lines for LayoutLines<'a, W> {
     ghost lines = { λ l. lines_of (block_of W) W l.image.now l.n l.t };
 
-    fn pack(&self, i: u32, pair: &mut Pair) {
-        told_line::<W>(self.image, self.n, self.t, i).pack(pair);
+    ghost checks = { λ l. checks_of l.image.now l.n l.t };
+
+    fn line(&self, i: u32) -> ToldLine {
+        told_line::<W>(self.image, self.n, self.t, i)
+    }
+
+    fn checked(&self) -> u32 {
+        self.image.len() as u32 + self.n + 3 * self.t
+    }
+
+    fn kind(&self, i: u32) -> Kind {
+        line_kind(self.image.len() as u32, self.n, self.k, i)
     }
 }

@@ -3,7 +3,7 @@ ghost use Rattle.tv_block.specs.Complete.{block_made};
 ghost use Rattle.tv_layout.specs.Places.{log_of, tape_at, zero_wire_at, first_at};
 ghost use Rattle.tv_word.specs.Widths.{IsWidth};
 
-use crate::costs::wire_costs;
+use tv_block::step_costs;
 use tv_core::Wire;
 use tv_core::limits::{STEPS, TAPE_WORDS};
 use tv_word::arithmetic::power;
@@ -60,5 +60,5 @@ pub(crate) fn step_at<const W: u32>(n: u32, step: u32) -> Wire
     requires some { step < STEPS }
     ensures { result ≡ first_at W n + step * block_made W }
 {
-    zero_wire_at::<W>(n).offset(1 + step * wire_costs::<W>().step)
+    zero_wire_at::<W>(n).offset(1 + step * step_costs::<W>().wires)
 }

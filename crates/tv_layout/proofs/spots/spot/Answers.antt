@@ -1,9 +1,8 @@
 use Rattle.std.proofs.Common.{◌+◌, ◌*◌, sym, ap, ◌∙◌}
 use Rattle.tv_block.specs.Places.{block_wires}
 use Rattle.tv_block.specs.declared.records.Block.{Block}
-use Rattle.tv_block.specs.declared.records.Spot.{Spot}
 use Rattle.tv_layout.proofs.LinePlaces.{block_is}
-use Rattle.tv_layout.proofs.SpotPlaces.{taken_below, word_below}
+use Rattle.tv_layout.proofs.SpotPlaces.{of_step}
 use Rattle.tv_layout.specs.Places.{zero_wire_at, first_at}
 use Rattle.tv_layout.specs.Told.{state_before}
 use Rattle.tv_layout.proofs.spots.spot.Goals as goal
@@ -12,20 +11,14 @@ pub returns-clause-is : goal.returns-clause-is
 returns-clause-is g c time =
     let w = g.row.W in
     let state = state_before w (zero_wire_at w c.args.n) (first_at w c.args.n) c.args.step in
-    c.block_spot.ensures state (time + 3 * c.args.step)
+    c.block_spot.ensures.is state (time + 3 * c.args.step)
     ∙ ap (λ at. (block_wires w state (time + 3 * c.args.step) at).spot) c.step_at.ensures
     ∙ sym (ap (λ (b : Block). b.spot) (block_is w c.requires.fits.width c.args.n time (zero_wire_at w c.args.n) (first_at w c.args.n) c.args.step))
 
 pub returns-clause-taken : goal.returns-clause-taken
 returns-clause-taken g c net =
-    let w = g.row.W in
-    let state = state_before w (zero_wire_at w c.args.n) (first_at w c.args.n) c.args.step in
-    let at = ap (λ (s : Spot). s.taken) (c.block_spot.ensures state 0) in
-    taken_below w net _ c.args.n c.args.t c.args.step c.requires.fits c.requires.within _ _ c.step_at.ensures at
+    of_step g.row.W net _ c.args.n c.args.t c.args.step c.requires.fits c.requires.within _ _ c.step_at.ensures c.block_spot.ensures.below.taken
 
 pub returns-clause-word : goal.returns-clause-word
 returns-clause-word g c net =
-    let w = g.row.W in
-    let state = state_before w (zero_wire_at w c.args.n) (first_at w c.args.n) c.args.step in
-    let at = ap (λ (s : Spot). s.word) (c.block_spot.ensures state 0) in
-    word_below w net _ c.args.n c.args.t c.args.step c.requires.fits c.requires.within _ _ c.step_at.ensures at
+    of_step g.row.W net _ c.args.n c.args.t c.args.step c.requires.fits c.requires.within _ _ c.step_at.ensures c.block_spot.ensures.below.word

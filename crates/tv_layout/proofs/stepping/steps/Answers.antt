@@ -1,13 +1,9 @@
-use Rattle.std.proofs.Common.{◌≡◌, ℕ, zero, suc, ◌+◌, ◌*◌, ◌<◌, ◌≤◌, replicate, arith}
+use Rattle.std.proofs.Common.{◌≡◌, ◌+◌, ◌*◌, ◌<◌, arith}
 use Rattle.tv_block.specs.Block.{block_of}
 use Rattle.tv_core.proofs.Chain.{puts_no_turn, puts_turn, turn_refused, refused}
-use Rattle.tv_regs.specs.Reading.{wires_top}
+use Rattle.tv_block.proofs.PlaceLaws.{one_wire_under}
 use Rattle.tv_layout.specs.Layout.{before_steps, step_of, steps_of}
 use Rattle.tv_layout.proofs.stepping.steps.Goals as goal
-
-none_top : (k wires zero_wire : ℕ) → zero_wire < wires → wires_top (replicate k zero_wire) ≤ wires
-none_top zero wires zero_wire h = omega arith
-none_top (suc k) wires zero_wire h = let more = none_top k wires zero_wire h in omega arith
 
 pub loop-step-init : goal.loop-step-init
 loop-step-init g c =
@@ -16,7 +12,7 @@ loop-step-init g c =
       puts = λ time. rw (c.before_steps-last.ensures) (puts_no_turn g.S.Sink.meaning _ (step_of (block_of g.row.W) c.args.n time) (before_steps c.args.zero_wire));
       grows = record { wires = omega arith; constraints = omega arith; whole = c.requires.room.whole };
       below = rw (c.before_steps-last.ensures) (record {
-        next = record { pc = made; regs = none_top 16 _ _ made; flag = made; taken = made; ended = made };
+        next = one_wire_under _ _ made;
         answers = made;
         value = made;
       });

@@ -1,6 +1,6 @@
-use Rattle.std.proofs.Common.{length, ap, arith}
+use Rattle.std.proofs.Common.{arith}
 use Rattle.tv_fill.proofs.Packed.{power_few}
-use Rattle.tv_fill.proofs.packing.pack_lines.Goals as goal
+use Rattle.tv_fill.proofs.packing.pack_items.Goals as goal
 
 pub push_words-requires-clause-times : goal.push_words-requires-clause-times
 push_words-requires-clause-times c = omega (arith, power_few c.args.k c.requires.few, c.requires.fits)
@@ -12,4 +12,4 @@ pub push_words-requires-2-clause-times : goal.push_words-requires-2-clause-times
 push_words-requires-2-clause-times c = omega (arith, power_few c.args.k c.requires.few, c.requires.fits)
 
 pub push_padding-requires : goal.push_padding-requires
-push_padding-requires c = omega (arith, power_few c.args.k c.requires.few, c.requires.fits, c.power-size.ensures, ap length c.as_slice-steps.ensures)
+push_padding-requires c = omega (arith, power_few c.args.k c.requires.few, c.requires.fits, c.power-size.ensures)

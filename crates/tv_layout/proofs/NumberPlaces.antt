@@ -1,0 +1,124 @@
+-- All lines of a system in numbers, by their places.
+use Rattle.std.proofs.Common.{◌≡◌, ℕ, zero, suc, ◌+◌, ◌-◌, ◌*◌, ◌/◌, ◌%◌, ◌<◌, ◌≤◌, List, [], ◌∷◌, ◌++◌, length, inl, inr, refl, sym, ap, ap₂, ◌∙◌, arith, subst, add-zero, zero-add}
+use Rattle.std.proofs.lemmas.Bool.{cases_lt}
+use Rattle.std.proofs.lemmas.List.{length-append, get_or_append_left, get_or-append_right}
+use Rattle.std.specs.Prelude.{slice_index}
+use Rattle.tv_core.proofs.JoinedLaws.{joined_below-suc, length-joined_below}
+use Rattle.tv_core.specs.Below.{joined_below}
+use Rattle.tv_core.specs.Lines.{Line}
+use Rattle.tv_core.specs.declared.limits.TheConstants.{TAPE_CELLS}
+use Rattle.tv_lines.specs.Placed.{zero_line, number_in}
+use Rattle.tv_step.specs.Cells.{boot_from, boot_lines}
+use Rattle.tv_step.specs.Trace.{null_line}
+use Rattle.tv_layout.proofs.Boot.{length-boot_from, length-boot_lines, length-padding}
+use Rattle.tv_layout.specs.Sound.{padding}
+
+-- a line that writes a word into a cell at a time
+abbrev pub written_at : ℕ → ℕ → ℕ → Line
+written_at cell time word = record { cell = cell; time = time; old = 0; new = word }
+
+pub boot_from_at : (cell time : ℕ) (words : List ℕ) (i : ℕ) → i < length words → number_in (boot_from cell time words) i ≡ written_at (cell + i) (time + i) (slice_index words i)
+boot_from_at cell time [] i h = absurd (omega arith)
+boot_from_at cell time (v ∷ vs) zero h = rw (add-zero cell, add-zero time) refl
+boot_from_at cell time (v ∷ vs) (suc i) h =
+    let a : cell + suc i ≡ cell + 1 + i = omega arith in
+    let b : time + suc i ≡ time + 1 + i = omega arith in
+    rw (a, b) (boot_from_at (cell + 1) (time + 1) vs i (omega arith))
+
+padding_at : (time more i : ℕ) → i < more → number_in (padding time more) i ≡ null_line (time + i)
+padding_at time zero i h = absurd (omega arith)
+padding_at time (suc more) zero h = rw (add-zero time) refl
+padding_at time (suc more) (suc i) h = let a : time + suc i ≡ time + 1 + i = omega arith in rw a (padding_at (time + 1) more i (omega arith))
+
+module _ (image x : List ℕ) (t : ℕ) (f : ℕ → List Line) (three : (i : ℕ) → length (f i) ≡ 3) (more : ℕ) where
+  abbrev boot : ℕ
+  boot = length image + length x
+
+  abbrev count : ℕ
+  count = length image + length x + 3 * t
+
+  abbrev front : List Line
+  front = boot_lines image x ++ joined_below t f
+
+  abbrev pub all : List Line
+  all = (boot_lines image x ++ joined_below t f) ++ padding (length image + length x + 3 * t) more
+
+  long-steps : (n : ℕ) → length (joined_below n f) ≡ n * 3
+  long-steps n = length-joined_below n 3 f (λ i h. three i)
+
+  long-front : length front ≡ count
+  long-front = length-append (boot_lines image x) (joined_below t f) ∙ omega (arith, length-boot_lines image x, long-steps t)
+
+  pub long : length all ≡ count + more
+  long = length-append front (padding count more) ∙ omega (arith, long-front, length-padding count more)
+
+  -- ---- at each place
+  pub at_image : (i : ℕ) → i < length image → number_in all i ≡ written_at i i (slice_index image i)
+  at_image i h =
+      get_or_append_left front _ zero_line i (omega (arith, long-front))
+      ∙ get_or_append_left (boot_lines image x) (joined_below t f) zero_line i (omega (arith, length-boot_lines image x))
+      ∙ get_or_append_left (boot_from 0 0 image) (boot_from TAPE_CELLS (length image) x) zero_line i (omega (arith, length-boot_from 0 0 image))
+      ∙ boot_from_at 0 0 image i h
+      ∙ ap (λ p. written_at p p (slice_index image i)) (zero-add i)
+
+  pub at_tape : (i : ℕ) → i < length x → number_in all (length image + i) ≡ written_at (TAPE_CELLS + i) (length image + i) (slice_index x i)
+  at_tape i h =
+      let e : length image + i - length image ≡ i = omega arith in
+      get_or_append_left front _ zero_line (length image + i) (omega (arith, long-front))
+      ∙ get_or_append_left (boot_lines image x) (joined_below t f) zero_line (length image + i) (omega (arith, length-boot_lines image x))
+      ∙ get_or-append_right (boot_from 0 0 image) (boot_from TAPE_CELLS (length image) x) (length image) (length image + i) zero_line (length-boot_from 0 0 image) (omega arith)
+      ∙ ap (number_in (boot_from TAPE_CELLS (length image) x)) e
+      ∙ boot_from_at TAPE_CELLS (length image) x i h
+
+  step_in : (n j r : ℕ) → j < n → r < 3 → number_in (joined_below n f) (3 * j + r) ≡ number_in (f j) r
+  step_in zero j r h i = absurd (omega arith)
+  step_in (suc n) j r h i = ap (λ l. number_in l (3 * j + r)) (joined_below-suc n f) ∙ elim (cases_lt j n) [
+    | inl here ↦ get_or_append_left (joined_below n f) (f n) zero_line (3 * j + r) (omega (arith, long-steps n)) ∙ step_in n j r here i
+    | inr last ↦
+        let same : j ≡ n = omega (arith, last, h) in
+        let place : 3 * j + r - n * 3 ≡ r = omega (arith, same) in
+        get_or-append_right (joined_below n f) (f n) (n * 3) (3 * j + r) zero_line (long-steps n) (omega (arith, same))
+        ∙ ap₂ (λ (m p : ℕ). number_in (f m) p) (sym same) place
+  ]
+
+  pub at_step : (j r : ℕ) → j < t → r < 3 → number_in all (length image + length x + (3 * j + r)) ≡ number_in (f j) r
+  at_step j r h i =
+      let e : length image + length x + (3 * j + r) - (length image + length x) ≡ 3 * j + r = omega arith in
+      get_or_append_left front _ zero_line (boot + (3 * j + r)) (omega (arith, long-front))
+      ∙ get_or-append_right (boot_lines image x) (joined_below t f) boot (boot + (3 * j + r)) zero_line (length-boot_lines image x) (omega arith)
+      ∙ ap (number_in (joined_below t f)) e
+      ∙ step_in t j r h i
+
+  pub at_padding : (i : ℕ) → count ≤ i → i < count + more → number_in all i ≡ null_line i
+  at_padding i h k =
+      let e : count + (i - count) ≡ i = omega arith in
+      get_or-append_right front (padding count more) count i zero_line long-front h ∙ padding_at count more (i - count) (omega arith) ∙ ap null_line e
+
+  -- so what holds at each place of its line holds at each place
+  pub each_checked : (Q : ℕ → Line → Type 0) → ((i : ℕ) → i < length image → Q i (written_at i i (slice_index image i)))
+      → ((i : ℕ) → i < length x → Q (length image + i) (written_at (TAPE_CELLS + i) (length image + i) (slice_index x i)))
+      → ((j r : ℕ) → j < t → r < 3 → Q (length image + length x + (3 * j + r)) (number_in (f j) r))
+      → (i : ℕ) → i < count → Q i (number_in all i)
+  each_checked Q on_image on_tape on_steps i h = elim (cases_lt i (length image)) [
+    | inl here ↦ subst (Q i) (sym (at_image i here)) (on_image i here)
+    | inr past ↦ elim (cases_lt i boot) [
+      | inl here ↦
+          let e : length image + (i - length image) ≡ i = omega arith in
+          let tape : i - length image < length x = omega (arith, past, here) in
+          subst (λ p. Q p (number_in all p)) e (subst (Q (length image + (i - length image))) (sym (at_tape (i - length image) tape)) (on_tape (i - length image) tape))
+      | inr later ↦
+          let j : ℕ = (i - boot) / 3 in
+          let r : ℕ = (i - boot) % 3 in
+          let e : boot + (3 * j + r) ≡ i = omega arith in
+          let within : j < t = omega (arith, h, later) in
+          let small : r < 3 = omega arith in
+          subst (λ p. Q p (number_in all p)) e (subst (Q (boot + (3 * j + r))) (sym (at_step j r within small)) (on_steps j r within small))
+    ]
+  ]
+
+-- what holds of three numbers holds of each below 3
+pub below_three : (Q : ℕ → Type 0) → Q 0 → Q 1 → Q 2 → (r : ℕ) → r < 3 → Q r
+below_three Q a b c zero h = a
+below_three Q a b c (suc zero) h = b
+below_three Q a b c (suc (suc zero)) h = c
+below_three Q a b c (suc (suc (suc r))) h = absurd (omega arith)
