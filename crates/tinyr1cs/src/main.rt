@@ -1,7 +1,7 @@
 //! The program `tinyr1cs`: `tv_top::command` on the words of the command line and the system's
 //! files. What a command promises is `command`'s contract, over any files. Here stand the edge that
 //! isn't proved beyond its counts, `DiskFiles`, and the ends that come before a command: status 8
-//! where nothing can be opened that keeps the numbers of closed streams from files, 14 for a word
+//! where the folder that keeps closed streams' numbers from files can't be opened, 14 for a word
 //! that isn't UTF-8, and 9 for want of memory.
 #![tactic(auto)]
 
@@ -35,7 +35,7 @@ fn main(rt: HostRuntime) -> ExitCode {
     match standard::occupy(&rt) {
         Ok(_held) => run(rt),
         Err(_) => {
-            complain(&rt, Complaint::FileFault("/dev/null"));
+            complain(&rt, Complaint::FileFault("/"));
             ExitCode::from(FILE_FAULT)
         }
     }

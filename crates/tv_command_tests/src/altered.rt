@@ -67,13 +67,13 @@ const CASES: [Case<'static>; 7] = [
         ..ZERO
     },
     Case {
-        changes: &[(902, 2)],
+        changes: &[(757, 2)],
         check: (1, "no: constraint "),
         extract: (0, "answer 0 at step 1\n"),
         ..ZERO
     },
     Case {
-        changes: &[(1802, 1)],
+        changes: &[(824, 1)],
         check: (1, "no: constraint "),
         extract: (0, "answer 0 at step 1\n"),
         ..ZERO
@@ -118,11 +118,11 @@ fn values_are_counted(rt: HostRuntime) -> Result<(), Fail> {
     let alloc = rt.alloc();
     let mut files = filled(&rt, alloc, "answer 0", "", 1)?;
     files.set("public", b"0")?;
-    let cut = shortened(alloc, witness_of(&files), 1_802)?;
+    let cut = shortened(alloc, witness_of(&files), 824)?;
     files.set("witness", &cut)?;
-    let line = "no: 1802 wires, 1803 wanted\n";
+    let line = "no: 824 wires, 825 wanted\n";
     says(&rt, alloc, &mut files, CHECK, 1, line)?;
     let words = "extract text 0 1 witness tape.out aux.out";
-    let line = "not a run: 1802 wires, 1803 wanted\n";
+    let line = "not a run: 824 wires, 825 wanted\n";
     says(&rt, alloc, &mut files, words, 11, line)
 }

@@ -9,17 +9,14 @@ use tv_files::MemFiles;
 // The words of a trial; the steps, wires and constraints of its system, and its sum, as a reader of
 // the files that `build` and `witness` write for the same program tells it.
 const TRIALS: [(&str, [u64; 4]); 3] = [
-    (
-        "trial 0 63",
-        [64, 131_763, 140_082, 8_046_451_723_389_178_934],
-    ),
+    ("trial 0 63", [64, 68_453, 75_239, 588_709_620_394_889_240]),
     (
         "trial 0 64",
-        [65, 132_417, 140_834, 11_782_814_881_718_278_300],
+        [65, 69_181, 76_073, 13_548_445_415_233_295_446],
     ),
     (
         "trial 0 1023",
-        [1024, 2_271_283, 2_404_402, 15_930_336_205_174_970_139],
+        [1024, 1_261_669, 1_370_215, 1_774_630_863_165_115_192],
     ),
 ];
 

@@ -18,7 +18,7 @@ use Rattle.tv_core.specs.declared.sink.SinkFault.TheVariants as sink
 use Rattle.tv_files.proofs.Cases.{OnErr-map, OnOk-map}
 use Rattle.tv_files.proofs.NamedFiles.{with_more-none, told-with_more-with_more, with_more-none_before}
 use Rattle.tv_files.specs.Calls.{Appends}
-use Rattle.tv_files.specs.Outside.{Outside, Names, with_more}
+use Rattle.tv_files.specs.Outside.{Outside, Names, SameCounts, with_more}
 use Rattle.tv_files.specs.declared.calls.FileRefusal.{FileRefusal}
 use Rattle.tv_word.specs.Counts.{Rose}
 
@@ -124,6 +124,25 @@ appends_then old mid new name p q = record {
           | inr none ↦ inr (with_more-none_before name p.more files none)
         ]
 
+pub counts_stay : (outside : Outside) → SameCounts outside outside
+counts_stay outside = record { read_faults = refl; write_faults = refl; say_faults = refl; wants = refl; absent = refl }
+
+-- counts that stayed, and stayed again
+pub counts_then : {old mid new : Outside} → SameCounts old mid → SameCounts mid new → SameCounts old new
+counts_then p q = record {
+  read_faults = q.read_faults ∙ p.read_faults;
+  write_faults = q.write_faults ∙ p.write_faults;
+  say_faults = q.say_faults ∙ p.say_faults;
+  wants = q.wants ∙ p.wants;
+  absent = q.absent ∙ p.absent;
+}
+
+-- what called bytes to be refused is the cause after calls that left the counts
+pub cause_then : (old mid new : Outside) (outcome : Result (Unit {0}) SinkFault) → SameCounts old mid → HasCause mid new outcome → HasCause old new outcome
+cause_then old mid new (Ok unit) p same = counts_then p same
+cause_then old mid new (Err sink.Failed) p rose = subst (λ n. Rose n new.write_faults) p.write_faults rose
+cause_then old mid new (Err sink.Memory) p rose = subst (λ n. Rose n new.wants) p.wants rose
+
 -- bytes are passed on, and then others
 passes_then : (old mid new : Outside) (name held first second between after : List ℕ) (outcome : Result (Unit {0}) SinkFault) →
     PassesOn old mid name (held ++ first) between (Ok tt) → PassesOn mid new name (between ++ second) after outcome →
@@ -132,7 +151,7 @@ passes_then old mid new name held first second between after outcome p q = recor
   done = OnOk-map outcome done q.done;
   refused = OnErr-map outcome part q.refused;
   only = appends_then old mid new name p.only q.only;
-  cause = by_outcome outcome q.cause;
+  cause = cause_then old mid new outcome p.cause q.cause;
 }
   where
     whole : held ++ (first ++ second) ≡ p.done.front ++ (between ++ second)
@@ -153,17 +172,6 @@ passes_then old mid new name held first second between after outcome p q = recor
       length p.done.front + d.0,
       subst (λ bytes. Adds old new name bytes) (sym (front d.0)) (adds_then old mid new name p.done.front (take d.0 (between ++ second)) p.done.contents d.1),
     )
-
-    by_outcome : (outcome : Result (Unit {0}) SinkFault) → HasCause mid new outcome → HasCause old new outcome
-    by_outcome (Ok unit) same = record {
-      read_faults = same.read_faults ∙ p.cause.read_faults;
-      write_faults = same.write_faults ∙ p.cause.write_faults;
-      say_faults = same.say_faults ∙ p.cause.say_faults;
-      wants = same.wants ∙ p.cause.wants;
-      absent = same.absent ∙ p.cause.absent;
-    }
-    by_outcome (Err sink.Failed) rose = subst (λ n. Rose n new.write_faults) p.cause.write_faults rose
-    by_outcome (Err sink.Memory) rose = subst (λ n. Rose n new.wants) p.cause.wants rose
 
 -- the first bytes are refused, and no others are tried
 passes_cut : (old new : Outside) (name held first second between after : List ℕ) (fault : SinkFault) →

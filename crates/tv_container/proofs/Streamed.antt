@@ -1,18 +1,17 @@
 -- What was created and then appended to is one file that was streamed.
 use Rattle.std.proofs.Common.{◌≡◌, ◌⊎◌, ℕ, List, [], Option, Some, None, option_map, take, Result, Ok, Err, inl, inr, ap, refl, sym, ◌∙◌, arith}
 use Rattle.std.specs.Prelude.{OnOk, OnErr}
-use Rattle.tv_container.proofs.Buffers.{appends_then}
+use Rattle.tv_container.proofs.Buffers.{appends_then, cause_then, counts_then}
 use Rattle.tv_container.specs.Faults.{sink_fault}
 use Rattle.tv_container.specs.Writing.{OnlyAppends}
 use Rattle.tv_container.specs.Written.{Caused, HasCause, HasNow, HasFront, IsStreamed, NotCreated}
-use Rattle.tv_core.proofs.Chain.{IsCause-after}
 use Rattle.tv_core.specs.Sinks.{IsCause}
 use Rattle.tv_core.specs.declared.sink.SinkFault.{SinkFault}
 use Rattle.tv_core.specs.declared.sink.SinkFault.TheVariants as sink
 use Rattle.tv_files.proofs.NamedFiles.{with_bytes-here}
 use Rattle.tv_files.proofs.Written.{written_grows}
 use Rattle.tv_files.specs.Calls.{Creates}
-use Rattle.tv_files.specs.Outside.{Names, NoneFell, Outside, OnlyWrites, with_bytes}
+use Rattle.tv_files.specs.Outside.{Names, Outside, OnlyWrites, SameCounts, with_bytes}
 use Rattle.tv_files.specs.Whole.{HasBytes, HasPart}
 use Rattle.tv_files.specs.declared.calls.FileRefusal.{FileRefusal}
 use Rattle.tv_files.specs.declared.calls.FileRefusal.TheVariants as file
@@ -21,10 +20,6 @@ use Rattle.tv_files.specs.declared.calls.FileRefusal.TheVariants as file
 pub caused_seen : {S : Type 0} (seen : S → Outside) (old new : S) (fault : SinkFault) → IsCause fault (λ s. (seen s).write_faults) (λ s. (seen s).wants) old new → Caused fault (seen old) (seen new)
 caused_seen seen old new sink.Failed rose = rose
 caused_seen seen old new sink.Memory rose = rose
-
--- a count that rose after calls in which none fell rose since before
-since : (old mid new : Outside) (fault : SinkFault) → NoneFell old mid → Caused fault mid new → Caused fault old new
-since old mid new fault later = IsCause-after fault (λ (outside : Outside). outside.write_faults) (λ (outside : Outside). outside.wants) old mid new later.write_faults later.wants
 
 by_refusal : (old new : Outside) (name : List ℕ) (why : FileRefusal) → Creates old new name (Err why) → Caused (sink_fault why) old new
 by_refusal old new name file.Failed creates = creates.failed refl
@@ -80,18 +75,22 @@ module _ (old begun new : Outside) (name : List ℕ) (creates : Creates old begu
       let same : appends.more ≡ take part.0 bytes = cc in
       inr (part.0, grown ∙ ap (λ l. option_map (with_bytes name l) old.contents) same)
 
+  -- all of its bytes were written, and nothing else changed
+  pub written_whole : (bytes : List ℕ) → HasNow new name bytes → HasBytes old new name bytes × OnlyWrites old new
+  written_whole bytes now = (whole_by bytes old.contents refl now, only_writes)
+
   -- the last of its bytes was written
-  pub streamed_whole : (bytes : List ℕ) (done : Unit {0}) → HasNow new name bytes → IsStreamed old new name bytes (Ok done)
-  streamed_whole bytes done now = record { whole = whole_by bytes old.contents refl now; part = tt; cause = tt; only = only_writes }
+  pub streamed_whole : (bytes : List ℕ) (done : Unit {0}) → HasNow new name bytes → SameCounts begun new → IsStreamed old new name bytes (Ok done)
+  streamed_whole bytes done now same = record { whole = whole_by bytes old.contents refl now; part = tt; cause = counts_then creates.counts same; only = only_writes }
 
   -- or one of them was refused
   pub streamed_part : (bytes : List ℕ) (fault : SinkFault) → HasFront new name bytes → Caused fault begun new → IsStreamed old new name bytes (Err fault)
-  streamed_part bytes fault front cause = record { whole = tt; part = part_by bytes old.contents refl front; cause = since old begun new fault creates.later cause; only = only_writes }
+  streamed_part bytes fault front cause = record { whole = tt; part = part_by bytes old.contents refl front; cause = cause_then old begun new (Err fault) creates.counts cause; only = only_writes }
 
 -- bytes were appended, and then the last of them, or these were refused
-pub streamed_last : (old begun mid new : Outside) (name bytes : List ℕ) (result : Result (Unit {0}) SinkFault) → Creates old begun name (Ok tt) → OnlyAppends begun mid name → OnlyAppends mid new name →
+pub streamed_last : (old begun mid new : Outside) (name bytes : List ℕ) (result : Result (Unit {0}) SinkFault) → Creates old begun name (Ok tt) → OnlyAppends begun mid name → SameCounts begun mid → OnlyAppends mid new name →
     OnOk result (HasNow new name bytes) → OnErr result (HasFront new name bytes) → HasCause mid new result → IsStreamed old new name bytes result
-streamed_last old begun mid new name bytes (Ok done) creates appends last now front cause =
-    streamed_whole old begun new name creates (appends_then begun mid new name appends last) bytes done now
-streamed_last old begun mid new name bytes (Err fault) creates appends last now front cause =
-    streamed_part old begun new name creates (appends_then begun mid new name appends last) bytes fault front (since begun mid new fault appends.later cause)
+streamed_last old begun mid new name bytes (Ok done) creates appends same last now front cause =
+    streamed_whole old begun new name creates (appends_then begun mid new name appends last) bytes done now (counts_then same cause)
+streamed_last old begun mid new name bytes (Err fault) creates appends same last now front cause =
+    streamed_part old begun new name creates (appends_then begun mid new name appends last) bytes fault front (cause_then begun mid new (Err fault) same cause)

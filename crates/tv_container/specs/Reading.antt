@@ -1,5 +1,5 @@
 -- What reading a file may answer and do, over any files.
-use Rattle.std.specs.Prelude.{◌≡◌, ◌≢◌, ℕ, ◌+◌, ◌≤◌, List, length, take, drop, Option, Some, None, Result, Ok, OnOk, MatchResult, option_and_then}
+use Rattle.std.specs.Prelude.{◌≡◌, ◌≢◌, ◌⊎◌, ℕ, ◌+◌, ◌≤◌, List, length, take, drop, Option, Some, None, Result, Ok, OnOk, MatchResult, option_and_then}
 use Rattle.tv_files.specs.Outside.{Names, Outside, OnlyReads, MissesOnly}
 use Rattle.tv_container.specs.Places.{Fault, wrong}
 use Rattle.tv_container.specs.declared.why.ReadRefusal.{ReadRefusal}
@@ -21,13 +21,20 @@ pub record IsMissing (outside : Outside) (name : List ℕ) : Type 0 where
   pub told : outside.contents ≡ Some files
   pub none : files name ≡ None
 
+-- what a refusal leaves: all, where it tells what is wrong; a fault is a fault of a read; and where memory
+-- ran out all is as before, or the files wanted it
+abbrev pub Leaves : ReadRefusal → Outside → Outside → Type 0
+Leaves (refusal.Bad at what) old new = new ≡ old
+Leaves refusal.Fault old new = Rose old.read_faults new.read_faults
+Leaves refusal.Memory old new = (new ≡ old) ⊎ Rose old.wants new.wants
+
 -- reading stopped with this refusal, from the outside before it to the outside after it: files and
--- words said stay and no count falls, a fault is a fault of a read, and `absent` changes only where this
--- name isn't there
+-- words said stay and no count falls, `absent` changes only where this name isn't there, and no fault is
+-- passed over
 pub record Stopped (old new : Outside) (name : List ℕ) (why : ReadRefusal) : Type 0 where
   pub only : OnlyReads old new
   pub there : MissesOnly old new name
-  pub fault : why ≡ refusal.Fault → Rose old.read_faults new.read_faults
+  pub leaves : Leaves why old new
 
 -- reading a name leaves all outside as it was, or it stopped
 abbrev pub Looks : {A : Type 0} → Outside → Outside → List ℕ → Result A ReadRefusal → Type 0

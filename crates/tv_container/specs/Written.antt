@@ -1,5 +1,5 @@
 -- Bytes that are written to a file a piece at a time, and what of them it has.
-use Rattle.std.specs.Prelude.{◌≡◌, ℕ, List, ◌++◌, take, Some, Result, Err, MatchResult, OnOk, OnErr, IfErr}
+use Rattle.std.specs.Prelude.{◌≡◌, ℕ, List, ◌++◌, take, Some, Result, Err, MatchResult, OnOk, OnErr}
 use Rattle.tv_container.specs.Faults.{sink_fault}
 use Rattle.tv_core.specs.Sinks.{IsCause}
 use Rattle.tv_core.specs.declared.sink.SinkFault.{SinkFault}
@@ -36,9 +36,9 @@ HasCause old new result = MatchResult result (λ _. SameCounts old new) (λ faul
 
 -- What writing a file comes to whose bytes come one after another, from before it is created to after the last of them: where
 -- contents are told, the name has these bytes, or after a refusal is as it was or has the first few of them. Every other file
--- is as it was, and the count of the refusal's kind rose.
+-- is as it was, and no count changed, or that of the refusal's kind rose.
 pub record IsStreamed (old new : Outside) (name bytes : List ℕ) (result : Result (Unit {0}) SinkFault) : Type 0 where
   pub whole : OnOk result (HasBytes old new name bytes)
   pub part : OnErr result (HasPart old new name bytes)
-  pub cause : IfErr result (λ fault. Caused fault old new)
+  pub cause : HasCause old new result
   pub only : OnlyWrites old new

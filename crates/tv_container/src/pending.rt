@@ -33,13 +33,6 @@ impl Pending {
         }
     }
 
-    /// Forgets a refusal, which the call that met it told: bytes are appended again.
-    pub fn renew(&mut self)
-        ensures { self.new ≡ record self.old { outcome = Ok tt } }
-    {
-        self.outcome = Ok(());
-    }
-
     /// Takes bytes.
     #[inline]
     pub fn put<D: Files>(&mut self, files: &mut D, name: &str, more: &[u8])

@@ -1,10 +1,20 @@
 -- Whole files.
-use Rattle.std.specs.Prelude.{◌≡◌, ℕ, ◌<◌, ◌⊎◌, List, length, take, Option, Some, option_map}
-use Rattle.tv_files.specs.Outside.{Outside, with_bytes}
+use Rattle.std.specs.Prelude.{◌≡◌, ℕ, ◌<◌, ◌⊎◌, List, length, take, Option, Some, option_map, Result, Ok, Err}
+use Rattle.tv_files.specs.Outside.{Outside, SameCounts, with_bytes}
+use Rattle.tv_files.specs.declared.outcome.Slurp.{Slurp}
+use Rattle.tv_files.specs.declared.outcome.Slurp.TheVariants.{Fault, Memory, TooLong}
+use Rattle.tv_word.specs.Counts.{Rose}
 
 -- the name is there, with more than `most` bytes
 abbrev pub IsLonger : ℕ → Option (List ℕ) → Type 0
 IsLonger most file = (bytes : List ℕ) × (file ≡ Some bytes) × (most < length bytes)
+
+-- what reading a whole file leaves of the counts: all, unless a read failed, or the files ran out of memory
+abbrev pub Leaves : {A : Type 0} → Result A Slurp → Outside → Outside → Type 0
+Leaves (Ok bytes) old new = SameCounts old new
+Leaves (Err (TooLong most)) old new = SameCounts old new
+Leaves (Err Fault) old new = Rose old.read_faults new.read_faults
+Leaves (Err Memory) old new = SameCounts old new ⊎ Rose old.wants new.wants
 
 -- where contents are told, the name stands for these bytes now, and every other name for what it did
 abbrev pub HasBytes : Outside → Outside → List ℕ → List ℕ → Type 0

@@ -1,7 +1,7 @@
 //! Whole files, over any `Files`: read into memory, or written from it.
 ghost use Rattle.std.specs.Prelude.{◌≡◌, ℕ, ◌≤◌, length, Some, None, IfOk, OnOk, OnErr};
 ghost use Rattle.tv_files.specs.Outside.{OnlyReads, OnlyWrites, SameCounts, Told, MissesOnly};
-ghost use Rattle.tv_files.specs.Whole.{IsLonger, HasBytes, HasPart};
+ghost use Rattle.tv_files.specs.Whole.{IsLonger, HasBytes, HasPart, Leaves};
 ghost use Rattle.tv_word.specs.Counts.{Rose};
 
 use crate::calls::{FileRefusal, Files};
@@ -30,14 +30,10 @@ pub fn slurp<D: Files>(
     ensures short { IfOk result (λ v. length v.items ≤ most) }
     ensures longer { (limit : ℕ) → result ≡ Err (Slurp.TooLong limit) →
         (limit ≡ most) × Told (D.seen files.old) (λ held. IsLonger most (held name.now)) }
-    ensures fault { result ≡ Err Slurp.Fault →
-        Rose (D.seen files.old).read_faults (D.seen files.new).read_faults }
     ensures missing { Told (D.seen files.old)
         (λ held. held name.now ≡ None → result ≡ Err Slurp.Fault) }
     ensures only { OnlyReads (D.seen files.old) (D.seen files.new) }
-    ensures counts { OnOk result (SameCounts (D.seen files.old) (D.seen files.new)) }
-    ensures longer_counts { (limit : ℕ) → result ≡ Err (Slurp.TooLong limit) →
-        SameCounts (D.seen files.old) (D.seen files.new) }
+    ensures leaves { Leaves result (D.seen files.old) (D.seen files.new) }
     ensures there { MissesOnly (D.seen files.old) (D.seen files.new) name.now }
 {
     let mut contents = Vec::new(alloc);

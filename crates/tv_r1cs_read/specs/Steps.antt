@@ -58,12 +58,16 @@ Failed None z reached file rows = (more : List Constraint) × IsAll reached file
 abbrev pub Passed : Reached → List ℕ → List Constraint → Type 0
 Passed reached file rows = (more : List Constraint) × IsAll reached file (rows ++ more)
 
+-- nothing was counted
+abbrev pub Stays : Reached → Reached → Type 0
+Stays old new = (new.terms ≡ old.terms) × (new.left ≡ old.left)
+
 -- a row was counted, whose wires are the system's, or nothing was
 abbrev pub WentOn : Bool → Row → Reached → Reached → Type 0
 WentOn true row old new = (new.terms ≡ old.terms + terms_in row) × (new.left + 1 ≡ old.left) × IsOver old.header.wires row
-WentOn false row old new = (new.terms ≡ old.terms) × (new.left ≡ old.left)
+WentOn false row old new = Stays old new
 
 -- the same of a row of its own
 abbrev pub WentOnBy : Option Row → Reached → Reached → Type 0
 WentOnBy (Some row) old new = WentOn true row old new
-WentOnBy None old new = (new.terms ≡ old.terms) × (new.left ≡ old.left)
+WentOnBy None old new = Stays old new

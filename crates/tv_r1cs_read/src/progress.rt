@@ -6,7 +6,7 @@ ghost use Rattle.tv_container.specs.declared.why.ReadRefusal.{ReadRefusal};
 ghost use Rattle.tv_r1cs_read.specs.Places.{IsAll, IsAt};
 ghost use Rattle.tv_r1cs_read.specs.Progress.{counts_of, IsBegun};
 ghost use Rattle.tv_r1cs_read.specs.R1cs.{header_of, system_of};
-ghost use Rattle.tv_r1cs_read.specs.Steps.{Failed, Fewer, Gave, Steps, Tells};
+ghost use Rattle.tv_r1cs_read.specs.Steps.{Failed, Fewer, Gave, Stays, Steps, Tells};
 ghost use Rattle.tv_r1cs_read.specs.Steps.{WentOn, WentOver};
 
 use crate::header::{Header, read_header};
@@ -94,7 +94,8 @@ impl Progress {
         ensures steps { Steps (D.seen files.old) (D.seen files.new) name.now self.old self.new
             (λ file rows. IfOk result (λ more. Gave more row.new self.new file rows)) }
         ensures tells { Tells result self.new.stopped }
-        ensures counts { IfOk result (λ more. WentOn more row.new self.old self.new) }
+        ensures counts { MatchResult result (λ more. WentOn more row.new self.old self.new)
+            (λ _. Stays self.old self.new) }
     {
         if let Some(refusal) = self.stopped {
             return Err(refusal);

@@ -4,8 +4,8 @@ ghost use Rattle.tv_container.specs.declared.why.ReadRefusal.{ReadRefusal};
 ghost use Rattle.tv_r1cs_read.specs.Places.{IsAt};
 ghost use Rattle.tv_r1cs_read.specs.Progress.{counts_of, IsBegun};
 ghost use Rattle.tv_r1cs_read.specs.R1cs.{header_of, system_of};
-ghost use Rattle.tv_r1cs_read.specs.Steps.{Failed, Gave, GaveBy, Passed, Steps, Tells};
-ghost use Rattle.tv_r1cs_read.specs.Steps.{WentOn, WentOnBy};
+ghost use Rattle.tv_r1cs_read.specs.Steps.{Failed, Gave, GaveBy, Passed, Stays, Steps};
+ghost use Rattle.tv_r1cs_read.specs.Steps.{Tells, WentOn, WentOnBy};
 ghost use Rattle.tv_r1cs_read.specs.Survey.{survey_of};
 
 use crate::progress::Progress;
@@ -68,7 +68,7 @@ impl<'a, D: Files> SystemReader<'a, D> {
         }
     }
 
-    /// What the system counts, and the terms of the rows given so far.
+    /// What the system counts, and the terms of the rows given so far: a refused row adds none.
     pub fn counts(&self) -> Counts
         ensures { result ≡ counts_of self.now.progress }
     {
@@ -88,8 +88,9 @@ impl<'a, D: Files> SystemReader<'a, D> {
             self.old.name.now self.old.progress self.new.progress
             (λ file rows. IfOk result (λ more. Gave more row.new self.new.progress file rows)) }
         ensures tells { Tells result self.new.progress.stopped }
-        ensures counts { IfOk result (λ more. WentOn more row.new self.old.progress
-            self.new.progress) }
+        ensures counts { MatchResult result
+            (λ more. WentOn more row.new self.old.progress self.new.progress)
+            (λ _. Stays self.old.progress self.new.progress) }
     {
         self.progress.next(self.files, self.name, row)
     }
@@ -144,7 +145,9 @@ impl<'a, D: Files> SystemReader<'a, D> {
             self.old.name.now self.old.progress self.new.progress
             (λ file rows. IfOk result (λ row. GaveBy row self.new.progress file rows)) }
         ensures tells { Tells result self.new.progress.stopped }
-        ensures counts { IfOk result (λ row. WentOnBy row self.old.progress self.new.progress) }
+        ensures counts { MatchResult result
+            (λ row. WentOnBy row self.old.progress self.new.progress)
+            (λ _. Stays self.old.progress self.new.progress) }
     {
         let mut row = Row::new(self.alloc);
         if self.next_into(&mut row)? {

@@ -86,6 +86,7 @@ put_by seen old new row (Ok unit) borrow name a b c passes short is unbroken =
         counts = ap (λ (p : Progress). p.counts) is;
         labels = ap (λ (p : Progress). p.labels) is;
         outside = passes.only;
+        quiet = λ _. (unbroken, passes.cause);
       };
       faults = passes.only.later.write_faults;
       wants = passes.only.later.wants;
@@ -100,7 +101,7 @@ put_by seen old new row (Err fault) borrow name a b c passes short is unbroken =
       at = refl;
       tried = λ list s. tried_more (seen old) (seen new) list row s name counts labels passes.refused;
       broken = ap (λ (p : Progress). p.broken) is;
-      keeps = record { borrow = borrow; name = name; counts = counts; labels = labels; outside = passes.only };
+      keeps = record { borrow = borrow; name = name; counts = counts; labels = labels; outside = passes.only; quiet = λ whole. let broken = ap (λ (p : Progress). p.broken) is in cc };
       cause = cause_seen (λ s. (seen s).outside) old new fault passes.cause;
       faults = passes.only.later.write_faults;
       wants = passes.only.later.wants;

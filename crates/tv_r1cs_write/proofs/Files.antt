@@ -2,7 +2,7 @@
 use Rattle.std.proofs.Common.{◌≡◌, inl, inr, ℕ, List, ◌++◌, length, append_assoc, ap, refl, sym, ◌∙◌, arith}
 use Rattle.std.proofs.lemmas.Grind.{flat_map-append}
 use Rattle.tv_container.specs.Bytes.{front_bytes, section_bytes, section_head}
-use Rattle.tv_container.proofs.Streamed.{streamed_whole}
+use Rattle.tv_container.proofs.Streamed.{written_whole}
 use Rattle.tv_container.proofs.Written.{but_front, front_front}
 use Rattle.tv_core.specs.Constraints.{Constraint}
 use Rattle.tv_r1cs_write.specs.Bytes.{constraint_bytes, counts_bytes, head_bytes, label_bytes, rows_bytes, rows_size}
@@ -40,5 +40,5 @@ files_are_fronts sink list more labels (inr tried) =
 -- a name that was created has no bytes, and what it has later is what was appended
 pub files_are_whole : FilesAreWhole
 files_are_whole old begun new name bytes creates appends has =
-    let is = streamed_whole old begun new name creates appends bytes tt has in
-    record { whole = is.whole; only = is.only }
+    let is = written_whole old begun new name creates appends bytes has in
+    record { whole = is.0; only = is.1 }

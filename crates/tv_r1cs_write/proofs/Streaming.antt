@@ -67,6 +67,6 @@ module _ {S A : Type 0} (seen : S → Stream) (name : List ℕ) (old : Outside) 
       systems_come_back system count (labels system.wires)
       (record { wires = rw is.counted at is.wires_fit; publics = is.publics; constraints = rw is.counted at is.constraints_fit; narrow = rw wires at stands.narrow }) each in
       record {
-        file = streamed_last old (seen sink).outside (seen done).outside new name (system_bytes system count (labels system.wires)) result is.creates (rw is.named at all.keeps.outside) (rw named at finishes.only) now front finishes.cause;
+        file = streamed_last old (seen sink).outside (seen done).outside new name (system_bytes system count (labels system.wires)) result is.creates (rw is.named at all.keeps.outside) (all.keeps.quiet stands.whole).1 (rw named at finishes.only) now front finishes.cause;
         read = OnOk-map result (λ _. read) now;
       }

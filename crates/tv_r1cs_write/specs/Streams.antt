@@ -3,12 +3,12 @@ use Rattle.std.specs.Prelude.{◌≡◌, refl, ℕ, ◌+◌, Bool, false, is_err
 use Rattle.std.proofs.Common.{◌∙◌}
 use Rattle.std.specs.Borrow.{GName}
 use Rattle.std.specs.List.{All}
-use Rattle.tv_container.proofs.Buffers.{nothing_appended, appends_then}
+use Rattle.tv_container.proofs.Buffers.{nothing_appended, appends_then, counts_stay, counts_then}
 use Rattle.tv_container.specs.Writing.{OnlyAppends}
 use Rattle.tv_core.specs.Constraints.{Constraint, System}
 use Rattle.tv_core.specs.Sinks.{Meaning}
 use Rattle.tv_core.specs.declared.lines.Counts.{Counts}
-use Rattle.tv_files.specs.Outside.{Outside}
+use Rattle.tv_files.specs.Outside.{Outside, SameCounts}
 use Rattle.tv_core.specs.declared.sink.SinkFault.{SinkFault}
 use Rattle.tv_r1cs_read.specs.R1cs.{system_of}
 use Rattle.tv_r1cs_write.specs.Bytes.{file_bytes, head_bytes, rows_bytes, system_bytes}
@@ -78,14 +78,15 @@ pub record Stands (stream : Stream) (list : List Constraint) : Type 0 where
 pub record Tried (stream : Stream) (list : List Constraint) : Type 0 where
   pub written : HasFront stream.outside stream.name (begun_bytes stream.progress list)
 
--- what every call keeps: the file is the same, through the same borrow, its head tells the same counts,
--- and the outside is as it was but for bytes appended to the file
+-- what every call keeps: the file is the same, through the same borrow, its head tells the same counts, the
+-- outside is as it was but for bytes appended to the file, and until a refusal breaks the sink no count changes
 pub record KeepsFile (old new : Stream) : Type 0 where
   pub borrow : new.borrow ≡ old.borrow
   pub name : new.name ≡ old.name
   pub counts : new.progress.counts ≡ old.progress.counts
   pub labels : new.progress.labels ≡ old.progress.labels
   pub outside : OnlyAppends old.outside new.outside old.name
+  pub quiet : new.progress.broken ≡ false → (old.progress.broken ≡ false) × SameCounts old.outside new.outside
 
 -- what such a sink means, however it is seen as a stream; its faults are those of writing
 abbrev pub stream_meaning : {S : Type 0} → (S → Stream) → Meaning S
@@ -104,6 +105,7 @@ stream_meaning {S} seen = record {
     counts = refl;
     labels = refl;
     outside = nothing_appended (seen sink).outside (seen sink).name;
+    quiet = λ whole. (whole, counts_stay (seen sink).outside);
   };
   keeps_then = λ old mid new p q. record {
     borrow = q.borrow ∙ p.borrow;
@@ -111,6 +113,7 @@ stream_meaning {S} seen = record {
     counts = q.counts ∙ p.counts;
     labels = q.labels ∙ p.labels;
     outside = appends_then (seen old).outside (seen mid).outside (seen new).outside (seen old).name p.outside (rw p.name at q.outside);
+    quiet = λ whole. let late = q.quiet whole in let early = p.quiet late.0 in (early.0, counts_then early.1 late.1);
   };
 }
 

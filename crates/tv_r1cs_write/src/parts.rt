@@ -1,5 +1,5 @@
 //! Constraints and labels, written behind what a file begins with.
-ghost use Rattle.std.specs.Prelude.{◌≡◌, ◌*◌, ◌^◌, ◌<◌, ◌++◌, [], length, Ok};
+ghost use Rattle.std.specs.Prelude.{◌≡◌, ◌*◌, ◌^◌, ◌<◌, ◌++◌, [], length};
 ghost use Rattle.tv_container.specs.Bytes.{section_head};
 ghost use Rattle.tv_container.specs.Taking.{Took};
 ghost use Rattle.tv_r1cs_write.specs.Bytes.{combination_bytes, constraint_bytes, label_bytes};
@@ -44,11 +44,10 @@ pub(crate) fn write_own_labels<D: Files>(
     name: &str,
     wires: u32,
 )
-    ensures took { Took name.now (D.seen files.old) (record pending.old { outcome = Ok tt })
-        (D.seen files.new) pending.new (section_head 3 (8 * wires) ++ own_label_bytes wires) }
+    ensures took { Took name.now (D.seen files.old) pending.old (D.seen files.new) pending.new
+        (section_head 3 (8 * wires) ++ own_label_bytes wires) }
     ensures none { pending.new.buffer ≡ [] }
 {
-    pending.renew();
     pending.put_pair(files, name, 3, 8 * u64::from(wires));
     put_own_labels(pending, files, name, wires);
     pending.flush(files, name);
@@ -62,12 +61,10 @@ pub(crate) fn write_labels<D: Files>(
     labels: &[u32],
 )
     requires { length labels.now < 2 ^ 32 }
-    ensures took { Took name.now (D.seen files.old) (record pending.old { outcome = Ok tt })
-        (D.seen files.new) pending.new (section_head 3 (8 * length labels.now)
-        ++ label_bytes labels.now) }
+    ensures took { Took name.now (D.seen files.old) pending.old (D.seen files.new) pending.new
+        (section_head 3 (8 * length labels.now) ++ label_bytes labels.now) }
     ensures none { pending.new.buffer ≡ [] }
 {
-    pending.renew();
     pending.put_pair(files, name, 3, 8 * labels.len() as u64);
     put_labels(pending, files, name, labels);
     pending.flush(files, name);

@@ -1,5 +1,5 @@
 //! The sink that writes to a file.
-ghost use Rattle.std.specs.Prelude.{◌≡◌, ◌+◌, ◌≤◌, ◌<◌, ◌^◌, [], length, Ok, IfOk, IfErr};
+ghost use Rattle.std.specs.Prelude.{◌≡◌, ◌+◌, ◌≤◌, ◌<◌, ◌^◌, [], false, length, Ok, IfOk, IfErr};
 ghost use Rattle.std.specs.List.{range_with_len};
 ghost use Rattle.tv_files.specs.Calls.{Creates};
 ghost use Rattle.tv_r1cs_write.specs.Streams.{begun, stream, stream_meaning, Finishes, Stands};
@@ -93,10 +93,11 @@ impl<'a, D: Files> StreamSink<'a, D> {
     }
 
     /// Writes the labels 0, 1, .. of the wires, and what is still held: the file is that of the
-    /// list.
+    /// list. No constraint was refused before.
     ///
     /// After a refusal the file has a first part of these bytes.
     pub fn finish(self) -> Put<()>
+        requires whole { (stream D.seen self).progress.broken ≡ false }
         ensures { Finishes (stream D.seen self.entry) (D.seen self.exit.0.now)
             (range_with_len 0 self.entry.counts.wires) result }
     {
@@ -113,7 +114,8 @@ impl<'a, D: Files> StreamSink<'a, D> {
 
     /// Writes these labels, one for each wire, and what is still held. Otherwise as `finish`.
     pub fn finish_labelled(self, labels: &[u32]) -> Put<()>
-        requires { length labels.now ≡ self.counts.wires }
+        requires whole { (stream D.seen self).progress.broken ≡ false }
+        requires labels { length labels.now ≡ self.counts.wires }
         ensures { Finishes (stream D.seen self.entry) (D.seen self.exit.0.now) labels.now
             result }
     {

@@ -26,7 +26,7 @@ use Rattle.tv_core.specs.Constraints.{Combination, Constraint, System}
 use Rattle.tv_core.specs.declared.field.TheConstants.{P}
 use Rattle.tv_r1cs_read.specs.Rows.{combination_of, constraint_of, IsOver}
 use Rattle.tv_r1cs_read.specs.declared.rows.Row.{Row}
-use Rattle.tv_shrink.specs.Answers.{first_wide, read_fault, start_rows, wide, wide_in, all_terms, most, Halted, IsTooWide, Tells, TellsRead}
+use Rattle.tv_shrink.specs.Answers.{first_wide, read_fault, start_rows, wide, wide_in, all_terms, most, Halted, IsTooWide, Leaves, Tells, TellsRead}
 use Rattle.tv_shrink.specs.Normal.{normal, normal_constraint, IsNormalFrom}
 use Rattle.tv_shrink.proofs.NormalLaws.{Over, Over-normal, IsNormalFrom-normal}
 use Rattle.tv_shrink.specs.Replacing.{has_wire}
@@ -179,9 +179,16 @@ tells_read refusal.Fault file refuses = tt
 tells_read refusal.Memory file refuses = tt
 
 pub halted : (old new : Outside) (name : List ℕ) (why : ReadRefusal) → Stopped old new name why → Halted old new name (read_fault why)
-halted old new name (refusal.Bad at what) stopped = record { only = stopped.only; there = stopped.there; cause = λ e. absurd (cc) }
-halted old new name refusal.Fault stopped = record { only = stopped.only; there = stopped.there; cause = λ e. stopped.fault refl }
-halted old new name refusal.Memory stopped = record { only = stopped.only; there = stopped.there; cause = λ e. absurd (cc) }
+halted old new name (refusal.Bad at what) stopped = record { only = stopped.only; there = stopped.there; leaves = stopped.leaves }
+halted old new name refusal.Fault stopped = record { only = stopped.only; there = stopped.there; leaves = stopped.leaves }
+halted old new name refusal.Memory stopped = record { only = stopped.only; there = stopped.there; leaves = stopped.leaves }
+
+left_here : (outside : Outside) (found : ShrinkFault) → (found ≡ fault.Fault → ⊥) → Leaves found outside outside
+left_here outside (fault.Bad at why) apart = refl
+left_here outside (fault.Terms has) apart = refl
+left_here outside (fault.Combination has) apart = refl
+left_here outside fault.Fault apart = absurd (apart refl)
+left_here outside fault.Memory apart = inl refl
 
 -- nothing was read since
 pub stayed : (outside : Outside) (name : List ℕ) (found : ShrinkFault) → (found ≡ fault.Fault → ⊥) → Halted outside outside name found
@@ -192,7 +199,7 @@ stayed outside name found apart = record {
     later = record { read_faults = omega arith; write_faults = omega arith; say_faults = omega arith; wants = omega arith; absent = omega arith };
   };
   there = λ files told. inl refl;
-  cause = λ is. absurd (apart is);
+  leaves = left_here outside found apart;
 }
 
 pub wide_halted : (outside : Outside) (name : List ℕ) (why : ShrinkFault) (found : Option ℕ) → IsTooWide why found → Halted outside outside name why

@@ -1,5 +1,5 @@
 -- What shrinking the system of a file answers.
-use Rattle.std.specs.Prelude.{◌≡◌, ℕ, ◌+◌, ◌^◌, ◌≤◌, ◌<◌, nat_lt, Bool, false, map, replicate, List, [], ◌∷◌, length, Option, None, Some, Ok, Result, MatchResult, if◌then◌else◌}
+use Rattle.std.specs.Prelude.{◌≡◌, ◌⊎◌, ℕ, ◌+◌, ◌^◌, ◌≤◌, ◌<◌, nat_lt, Bool, false, map, replicate, List, [], ◌∷◌, length, Option, None, Some, Ok, Result, MatchResult, if◌then◌else◌}
 use Rattle.std.specs.Option.{option_or}
 use Rattle.tv_container.specs.Places.{wrong}
 use Rattle.tv_container.specs.declared.why.ReadRefusal.{ReadRefusal}
@@ -81,12 +81,21 @@ Tells (fault.Combination has) file = IsWide has file
 Tells fault.Fault file = Unit {0}
 Tells fault.Memory file = Unit {0}
 
+-- what a refusal leaves: all, where it tells what is wrong; a fault is a fault of a read; and where memory ran out
+-- all is as before, or the files wanted it
+abbrev pub Leaves : ShrinkFault → Outside → Outside → Type 0
+Leaves (fault.Bad at why) old new = new ≡ old
+Leaves (fault.Terms has) old new = new ≡ old
+Leaves (fault.Combination has) old new = new ≡ old
+Leaves fault.Fault old new = Rose old.read_faults new.read_faults
+Leaves fault.Memory old new = (new ≡ old) ⊎ Rose old.wants new.wants
+
 -- shrinking stopped with this refusal, from the outside before it to the outside after it: files and words said
--- stay and no count falls, a fault is a fault of a read, and `absent` changes only where this name isn't there
+-- stay and no count falls, `absent` changes only where this name isn't there, and no fault is passed over
 pub record Halted (old new : Outside) (name : List ℕ) (why : ShrinkFault) : Type 0 where
   pub only : OnlyReads old new
   pub there : MissesOnly old new name
-  pub cause : why ≡ fault.Fault → Rose old.read_faults new.read_faults
+  pub leaves : Leaves why old new
 
 -- what shrinking does to the outside: nothing, or it stopped
 abbrev pub HaltsBy : {A : Type 0} → Outside → Outside → List ℕ → Result A ShrinkFault → Type 0

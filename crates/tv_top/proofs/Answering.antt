@@ -1,7 +1,7 @@
 -- What a call promises, from what reading found, from writing and from saying a line.
 use Rattle.std.proofs.Common.{◌≡◌, ◌≢◌, ℕ, ◌⊎◌, ◌≤◌, Bool, false, List, [], ◌∷◌, ◌++◌, take, Option, Some, None, option_map, true, Result, Ok, Err, inl, inr, refl, sym, ap, ◌∙◌, arith, rules}
 use Rattle.std.specs.Prelude.{IfOk, IsErrAnd, MatchResult}
-use Rattle.tv_top.proofs.Common.{Names, Outside, OnlyWrites, Rose, Amount, Bad, Ending, Refused, Stopped, Finished, Finish, Quantity, Refusal, Stop, Fault, Memory, Contents, Size, What, Status, words_of, MayStop, quantities_of, IsOfWords, ChangedAt, IsSaid, Answers, Content, bytes_in, AreRead, files_with, IsCutAt, IsCutInWriting, Said, SaidPart, Ends, IsConcluded, Concludes, Writes, IsCut, Completes, Does, ending_of, IsOneOf, IsFound, Finds, Named, Look, Outcome, Plan, Answer, files_of, answer_of, ending_by, comes_by, writes_by, MayEnd, quantity_what, size_what, bad_status, refusal_status, stop_status, finish_status, ending_status}
+use Rattle.tv_top.proofs.Common.{Names, Outside, OnlyWrites, Rose, Amount, Bad, Ending, Refused, Stopped, Finished, Finish, Quantity, Refusal, Stop, Fault, Memory, Contents, Size, What, Status, words_of, MayStop, quantities_of, IsOfWords, ChangedAt, IsSaid, Answers, Content, bytes_in, AreRead, files_with, IsCutAt, IsCutInWriting, Said, SaidPart, Ends, IsConcluded, Concludes, Writes, IsCut, Completes, Does, ending_of, IsOneOf, IsFound, Finds, Leaves, IsQuiet, IsUntouched, SameCounts, Named, Look, Outcome, Plan, Answer, files_of, answer_of, ending_by, comes_by, writes_by, MayEnd, quantity_what, size_what, bad_status, refusal_status, stop_status, finish_status, ending_status}
 use Rattle.tv_top.specs.declared.refusal.Bad.TheVariants as bad
 use Rattle.tv_top.specs.declared.refusal.Finish.TheVariants as finishes
 use Rattle.tv_top.specs.declared.refusal.Quantity.TheVariants as quantity
@@ -10,6 +10,7 @@ use Rattle.tv_top.specs.declared.status.What.TheVariants.{Draws, Steps, TapeWord
 use Rattle.tv_check.specs.declared.verdict.Verdict.TheVariants as verdict
 use Rattle.tv_top.specs.declared.status.Status.TheVariants as status
 use Rattle.tv_step.specs.declared.end.End.TheVariants as end
+use Rattle.tv_container.proofs.Buffers.{counts_stay, counts_then}
 use Rattle.tv_top.specs.Codes.{says}
 use Rattle.tv_top.proofs.Looking.{finds_comes, finds_wanting}
 
@@ -66,6 +67,48 @@ finish_good : (finish : Finish) → (of_words (finish_status finish) ≡ None) �
 finish_good (finishes.Run (end.Silent steps)) = (refl, λ word e. cc)
 finish_good (finishes.Verdict verdict.Yes) = (refl, λ word e. cc)
 finish_good _ = (refl, λ word e. cc)
+
+-- ---- want of memory
+
+abbrev is_memory : Status → Bool
+is_memory status.Memory = true
+is_memory _ = false
+
+bad_other : (b : Bad) → is_memory (bad_status b) ≡ false
+bad_other (bad.Image len) = refl
+bad_other _ = refl
+
+finish_other : (finish : Finish) → is_memory (finish_status finish) ≡ false
+finish_other (finishes.Run (end.Silent steps)) = refl
+finish_other (finishes.Verdict verdict.Yes) = refl
+finish_other _ = refl
+
+refusal_other : (why : Refusal) → is_memory (refusal_status why) ≡ false
+refusal_other (refusal.Limit what has most) = refl
+refusal_other _ = refl
+
+not_memory : (result : Status) → is_memory result ≡ false → ¬ (result ≡ status.Memory)
+not_memory result other e = let same : is_memory result ≡ true = ap is_memory e in cc
+
+-- it is answered at the end of its own alone
+ending_memory : (ending : Ending) → ending_status ending ≡ status.Memory → ending ≡ Stopped Memory
+ending_memory (Refused why) e = absurd (not_memory (refusal_status why) (refusal_other why) e)
+ending_memory (Finished finish) e = absurd (not_memory (finish_status finish) (finish_other finish) e)
+ending_memory (Stopped (Contents b)) e = absurd (not_memory (bad_status b) (bad_other b) e)
+ending_memory (Stopped (Fault word)) e = cc
+ending_memory (Stopped Memory) e = refl
+
+memory_concluded : (ending : Ending) (words : ℕ) (old new : Outside) (result : Status) → IsConcluded ending words old new result → result ≡ status.Memory →
+    ((ending ≡ Stopped Memory) × (new.said ≡ old.said)) ⊎ Rose old.wants new.wants
+memory_concluded ending words old new result (inl answered) e = let is = ending_memory ending (sym answered.0 ∙ e) in inl (is, rw is at answered.1)
+memory_concluded ending words old new result (inr (inl fault)) e = cc
+memory_concluded ending words old new result (inr (inr memory)) e = inr memory.1
+
+-- counts that stayed, and then an end
+quiet_since : (old mid new : Outside) (result : Status) → SameCounts old mid → IsQuiet mid new result → IsQuiet old new result
+quiet_since old mid new result same (inl later) = inl (counts_then same later)
+quiet_since old mid new result same (inr (inl fault)) = inr (inl fault)
+quiet_since old mid new result same (inr (inr memory)) = inr (inr (memory.0, omega (arith, memory.1, same.wants)))
 
 -- ---- a limit on a quantity that words tell is of no file
 
@@ -184,6 +227,11 @@ answers_refused request words why old new result refused concludes = rw refused 
     | inl is ↦ absurd (let h : None ≡ Some why = ap of_words (sym is) ∙ words_is why in cc)
     | inr cause ↦ inr (inr cause)
   ];
+  quiet = concludes.quiet;
+  wanting = λ e. elim (memory_concluded (Refused why) words old new result concludes.ended e) [
+    | inl is ↦ let never = is.0 in cc
+    | inr rose ↦ inr rose
+  ];
   said = (Refused why, refl, said_concluded (Refused why) words old new result concludes.ended);
   contents = concludes.contents;
   later = concludes.later;
@@ -219,6 +267,22 @@ found_changed : (names : List Named) (found : Result Outcome Stop) (old : Option
 found_changed names (Ok outcome) old = changed_whole names outcome.files old
 found_changed names (Err stop) old = unchanged names old old refl
 
+same_counts : {old mid new : Outside} → mid ≡ old → SameCounts mid new → SameCounts old new
+same_counts is same = rw is at same
+
+-- what was found leaves all counts, but for a fault, or memory that the files wanted
+quiet_found : (found : Result Outcome Stop) (words : ℕ) (old mid after new : Outside) (result : Status) → Leaves found old mid → SameCounts mid after → Concludes (ending_by found) words after new result → IsQuiet old new result
+quiet_found (Ok outcome) words old mid after new result is same concludes = quiet_since old after new result (same_counts is same) concludes.quiet
+quiet_found (Err (Contents b)) words old mid after new result is same concludes = quiet_since old after new result (same_counts is same) concludes.quiet
+quiet_found (Err (Fault word)) words old mid after new result is same concludes = inr (inl (word, (silent (Stopped (Fault word)) words after new result refl concludes.ended).0))
+quiet_found (Err Memory) words old mid after new result (inl is) same concludes = quiet_since old after new result (same_counts is same) concludes.quiet
+quiet_found (Err Memory) words old mid after new result (inr rose) same concludes =
+    inr (inr ((silent (Stopped Memory) words after new result refl concludes.ended).0, omega (arith, rose, same.wants, concludes.later.wants)))
+
+found_memory : (found : Result Outcome Stop) → ending_by found ≡ Stopped Memory → found ≡ Err Memory
+found_memory (Ok outcome) e = cc
+found_memory (Err stop) e = let same : stop ≡ Memory = cc in ap Err same
+
 -- what was found was written, and the line said
 answers_ended : (plan : Plan) (found : Result Outcome Stop) (words : ℕ) (old mid after new : Outside) (result : Status) → AreApart plan.amounts plan.sizes → IfOk found (λ outcome. plan.ends_by outcome.finish ≡ true) →
     Finds (λ (o : Outcome). o) (words_of plan.reads) plan.sizes plan.comes old mid found → Writes {X = Unit {0}} (writes_by plan.writes found) mid after (Ok tt) → Concludes (ending_by found) words after new result → Answers (Ok plan) words old new result
@@ -237,6 +301,11 @@ answers_ended plan found words old mid after new result apart may finds writes c
         | inl is ↦ let cause = finds.caused word (found_faulty found word is) in inl (cause.0, omega (arith, cause.1))
         | inr cause ↦ inr (inr cause)
       ];
+      quiet = quiet_found found words old mid after new result finds.leaves writes.quiet concludes;
+      wanting = λ e. elim (memory_concluded (ending_by found) words old new result concluded e) [
+        | inl is ↦ inl (record { contents = held ∙ ap (λ f. files_with (writes_by plan.writes f) old.contents) (found_memory found is.0); said = is.1 })
+        | inr rose ↦ inr rose
+      ];
       said = (ending_by found, found_ends plan found may finds.limits, said_concluded (ending_by found) words old new result concluded);
       contents = rw held (found_changed plan.writes found old.contents);
       later = search rules;
@@ -244,24 +313,26 @@ answers_ended plan found words old mid after new result apart may finds writes c
 
 -- a plan whose files were found, and writing was cut short at a word, by a fault or by want of memory
 answers_cut : (plan : Plan) (outcome : Outcome) (words at : ℕ) (old mid new : Outside) (result : Status) → Finds (λ (o : Outcome). o) (words_of plan.reads) plan.sizes plan.comes old mid (Ok outcome) → OnlyWrites mid new →
-    IsCutAt at (files_of plan.writes outcome.files) mid.contents new.contents → ((result ≡ status.FileFault at) × Rose mid.write_faults new.write_faults) ⊎ (result ≡ status.Memory) → Answers (Ok plan) words old new result
+    IsCutAt at (files_of plan.writes outcome.files) mid.contents new.contents → ((result ≡ status.FileFault at) × Rose mid.write_faults new.write_faults) ⊎ ((result ≡ status.Memory) × Rose mid.wants new.wants) → Answers (Ok plan) words old new result
 answers_cut plan outcome words at old mid new result finds only cut ended =
     let said : new.said ≡ old.said = only.said ∙ finds.only.said in
     let held : IsCutAt at (files_of plan.writes outcome.files) old.contents new.contents = rw finds.only.contents at cut in
     record {
       ends = λ files told. let here : IsCutInWriting at (found_answer plan (plan.comes files).at outcome) files old new = record { contents = rw told at held; said = said } in
-          rw (finds.told files told) (elim ended [ inl fault ↦ inr (inr (inl (at, fault.0, here))) | inr memory ↦ inr (inr (inr (inr (memory, inr (inl (at, here)))))) ]);
+          rw (finds.told files told) (elim ended [ inl fault ↦ inr (inr (inl (at, fault.0, here))) | inr memory ↦ inr (inr (inr (inr (memory.0, inr (inl (at, here)))))) ]);
       absent = λ files told. elim (finds.absent files told) [
         | inl here ↦ inl (only.absent files (finds.only.contents ∙ told) ∙ here)
         | inr missing ↦ inr (missing.0, ap ending_by missing.1)
       ];
       refused = λ why e. cc;
-      refuses = λ why told e. absurd (let h : None ≡ Some why = elim ended [ inl fault ↦ ap of_words (sym fault.0 ∙ e) ∙ words_is why | inr memory ↦ ap of_words (sym memory ∙ e) ∙ words_is why ] in cc);
+      refuses = λ why told e. absurd (let h : None ≡ Some why = elim ended [ inl fault ↦ ap of_words (sym fault.0 ∙ e) ∙ words_is why | inr memory ↦ ap of_words (sym memory.0 ∙ e) ∙ words_is why ] in cc);
       caused = λ word e. elim ended [
         | inl fault ↦ let is = fault.0 in let same : at ≡ word = cc in inr (inl (rw same at (changed_cut at plan.writes outcome.files old.contents new.contents held).1, let rose = fault.1 in omega (arith, rose)))
-        | inr memory ↦ cc
+        | inr memory ↦ let is = memory.0 in cc
       ];
-      said = elim ended [ inl fault ↦ (Stopped (Fault at), tt, inl (fault.0, said)) | inr memory ↦ (Stopped Memory, tt, inl (memory, said)) ];
+      quiet = elim ended [ inl fault ↦ inr (inl (at, fault.0)) | inr memory ↦ inr (inr (memory.0, let rose = memory.1 in omega (arith, rose, finds.only.later.wants))) ];
+      wanting = λ e. elim ended [ inl fault ↦ (let is = fault.0 in cc) | inr memory ↦ inr (let rose = memory.1 in omega (arith, rose, finds.only.later.wants)) ];
+      said = elim ended [ inl fault ↦ (Stopped (Fault at), tt, inl (fault.0, said)) | inr memory ↦ (Stopped Memory, tt, inl (memory.0, said)) ];
       contents = (changed_cut at plan.writes outcome.files old.contents new.contents held).0;
       later = search rules;
     }
@@ -273,26 +344,35 @@ only_since ending words old mid new result same only concludes = record { said =
 still : (outside : Outside) → OnlyWrites outside outside
 still outside = record { said = refl; absent = λ _ _. refl; later = search rules }
 
+nothing_written : {X : Type 0} {x : X} (outside : Outside) → Writes [] outside outside (Ok x)
+nothing_written outside = record { ended = (refl, tt); quiet = counts_stay outside; only = still outside }
+
 answers_halted : (plan : Plan) (outcome : Outcome) (stop : Stop) (words : ℕ) (old mid after new : Outside) (result : Status) → AreApart plan.amounts plan.sizes → Finds (λ (o : Outcome). o) (words_of plan.reads) plan.sizes plan.comes old mid (Ok outcome) →
     OnlyWrites mid after → IsCut (files_of plan.writes outcome.files) mid after stop → Concludes (Stopped stop) words after new result → Answers (Ok plan) words old new result
 answers_halted plan outcome (Fault at) words old mid after new result apart finds only cut concludes =
     let nothing = silent (Stopped (Fault at)) words after new result refl concludes.ended in
     answers_cut plan outcome words at old mid new result finds (only_since (Stopped (Fault at)) words mid after new result nothing.1 only concludes) (rw concludes.contents cut.0) (inl (nothing.0, omega (arith, cut.1, concludes.later.write_faults)))
-answers_halted plan outcome Memory words old mid after new result apart finds only (inl same) concludes =
-    answers_ended plan (Err Memory) words old mid after new result apart tt (finds_wanting (λ (o : Outcome). o) (λ (o : Outcome). o) (words_of plan.reads) plan.sizes plan.comes outcome old mid (Err Memory) refl finds) (record { ended = (same, tt); only = only }) concludes
-answers_halted plan outcome Memory words old mid after new result apart finds only (inr (at, cut)) concludes =
+answers_halted plan outcome Memory words old mid after new result apart finds only (at, cut, rose) concludes =
     let nothing = silent (Stopped Memory) words after new result refl concludes.ended in
-    answers_cut plan outcome words at old mid new result finds (only_since (Stopped Memory) words mid after new result nothing.1 only concludes) (rw concludes.contents cut) (inr nothing.0)
+    answers_cut plan outcome words at old mid new result finds (only_since (Stopped Memory) words mid after new result nothing.1 only concludes) (rw concludes.contents cut) (inr (nothing.0, omega (arith, rose, concludes.later.wants)))
 answers_halted plan outcome (Contents bad) words old mid after new result apart finds only cut concludes = absurd cut
 
 -- a plan was carried out, and the line of its end said
 pub answers_done : (plan : Plan) (done : Result Finish Stop) (words : ℕ) (old after new : Outside) (result : Status) → AreApart plan.amounts plan.sizes → Does plan old after done → Concludes (ending_of done) words after new result → Answers (Ok plan) words old new result
 answers_done plan done words old after new result apart (inl (stop, is, finds)) concludes =
-    answers_ended plan (Err stop) words old after after new result apart tt finds (record { ended = (refl, tt); only = still after }) (rw is at concludes)
+    answers_ended plan (Err stop) words old after after new result apart tt finds (nothing_written after) (rw is at concludes)
 answers_done plan (Ok finish) words old after new result apart (inr (outcome, mid, may, finds, completes)) concludes =
-    answers_ended plan (Ok outcome) words old mid after new result apart may finds (record { ended = completes.writes.ended; only = completes.writes.only }) (rw completes.finish at concludes)
+    elim completes.writes [
+      | inl writes ↦ answers_ended plan (Ok outcome) words old mid after new result apart may finds (record { ended = writes.ended; quiet = writes.quiet; only = writes.only }) (rw completes.finish at concludes)
+      | inr wanting ↦ let never = wanting.0 in cc
+    ]
 answers_done plan (Err stop) words old after new result apart (inr (outcome, mid, may, finds, completes)) concludes =
-    answers_halted plan outcome stop words old mid after new result apart finds completes.writes.only completes.writes.ended concludes
+    elim completes.writes [
+      | inl writes ↦ answers_halted plan outcome stop words old mid after new result apart finds writes.only writes.ended concludes
+      | inr wanting ↦ let is = wanting.0 in let memory : stop ≡ Memory = cc in
+          answers_ended plan (Err Memory) words old mid mid new result apart tt (finds_wanting (λ (o : Outcome). o) (λ (o : Outcome). o) (words_of plan.reads) plan.sizes plan.comes outcome old mid (Err Memory) refl finds) (nothing_written mid)
+          (rw (memory, wanting.1) at concludes)
+    ]
 
 -- ---- what a command does, whose plan comes to this of what was found
 
@@ -310,17 +390,17 @@ does_found plan view ends due found old mid new result is may finds completes = 
 
 -- all is written
 pub completes_whole : {X : Type 0} (places : List Named) (outcome : Outcome) (finish : Finish) (written : X) (old new : Outside) → finish ≡ outcome.finish → Writes (files_of places outcome.files) old new (Ok written) → Completes places outcome old new (Ok finish)
-completes_whole places outcome finish written old new is writes = record { writes = record { ended = writes.ended; only = writes.only }; finish = is }
+completes_whole places outcome finish written old new is writes = record { writes = inl (record { ended = writes.ended; quiet = writes.quiet; only = writes.only }); finish = is }
 
 -- or writing was cut short, and `?` passes that on
 pub completes_cut : {X : Type 0} (places : List Named) (outcome : Outcome) (stop : Stop) (old new : Outside) (result : Result Finish Stop) → Writes {X = X} (files_of places outcome.files) old new (Err stop) → IsErrAnd result (λ e. e ≡ stop) → Completes places outcome old new result
 completes_cut places outcome stop old new (Ok finish) writes is = absurd is
-completes_cut places outcome stop old new (Err other) writes is = rw is (record { writes = record { ended = writes.ended; only = writes.only }; finish = tt })
+completes_cut places outcome stop old new (Err other) writes is = rw is (record { writes = inl (record { ended = writes.ended; quiet = tt; only = writes.only }); finish = tt })
 
 -- or nothing is written, since there is nothing to write or memory was wanting
 pub completes_nothing : (places : List Named) (outcome : Outcome) (done : Result Finish Stop) (outside : Outside) → MatchResult done (λ finish. outcome ≡ record { files = []; finish = finish }) (λ stop. stop ≡ Memory) → Completes places outcome outside outside done
-completes_nothing places outcome (Ok finish) outside is = rw is (record { writes = record { ended = (refl, tt); only = still outside }; finish = refl })
-completes_nothing places outcome (Err stop) outside is = rw is (record { writes = record { ended = inl refl; only = still outside }; finish = tt })
+completes_nothing places outcome (Ok finish) outside is = rw is (record { writes = inl (nothing_written outside); finish = refl })
+completes_nothing places outcome (Err stop) outside is = rw is (record { writes = inr (refl, refl); finish = tt })
 
 pub completes_wanting : (places : List Named) (outcome : Outcome) (outside : Outside) (result : Result Finish Stop) → IsErrAnd result (λ e. e ≡ Memory) → Completes places outcome outside outside result
 completes_wanting places outcome outside (Ok finish) is = absurd is

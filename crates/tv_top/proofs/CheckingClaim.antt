@@ -91,7 +91,7 @@ pub finds_once : (system witness tape : Named) (old new : Outside) (found : Resu
     Finds (λ v. v) (system.word ∷ witness.word ∷ tape.word ∷ []) (tape_sizes TapeWords) (check_of system witness tape) old new found
 finds_once system witness tape old new found finds =
     let same = finds_as (λ files. sym (once system witness tape files)) finds in
-    record { told = same.told; absent = same.absent; only = same.only; caused = λ word e. let cause = same.caused word e in (grind (arith, cause.0), cause.1); limits = same.limits }
+    record { told = same.told; absent = same.absent; only = same.only; leaves = same.leaves; caused = λ word e. let cause = same.caused word e in (grind (arith, cause.0), cause.1); limits = same.limits }
 
 -- ---- verdicts
 

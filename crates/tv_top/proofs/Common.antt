@@ -1,5 +1,5 @@
 -- The names that most proofs here cite, passed on from one place. Declares nothing.
-pub use Rattle.tv_files.specs.Outside.{Names, Outside, OnlyWrites, OnlyReads, MissesOnly}
+pub use Rattle.tv_files.specs.Outside.{Names, Outside, OnlyWrites, OnlyReads, MissesOnly, SameCounts}
 pub use Rattle.tv_word.specs.Counts.{Rose}
 pub use Rattle.tv_top.specs.declared.place.Amount.{Amount}
 pub use Rattle.tv_top.specs.declared.refusal.Bad.{Bad}
@@ -19,8 +19,8 @@ pub use Rattle.tv_top.specs.declared.programs.Width.{Width}
 pub use Rattle.tv_top.specs.declared.programs.Width.TheVariants.{Bits16, Bits32}
 pub use Rattle.tv_top.specs.Plan.{Named, name_at, Look, Outcome, Plan, Write, Answer, files_of, answer_by, answer_of, ending_by, writes_by, comes_by, AreWithin, ◌>>=◌, held_at, made_of, settled, same_in, same_of, is_out, limit_of, request_of, map_ok, look_on, within, refusal_of}
 unfoldable pub use Rattle.tv_top.specs.Plan.{input}
-pub use Rattle.tv_top.specs.Finds.{IsOneOf, IsFound, Finds, Makes}
-pub use Rattle.tv_top.specs.Ends.{AreRead, files_with, IsCutAt, IsCutInWriting, Said, SaidPart, Ends, IsConcluded, Concludes, Writes, IsCut, Completes, IsAnswered, sink_stop, streamed, HasPartOf}
+pub use Rattle.tv_top.specs.Finds.{IsOneOf, IsFound, Finds, Leaves, Makes, Spares}
+pub use Rattle.tv_top.specs.Ends.{AreRead, files_with, IsCutAt, IsCutInWriting, Said, SaidPart, Ends, IsConcluded, IsQuiet, IsUntouched, Concludes, Writes, IsCut, Completes, IsAnswered, sink_stop, streamed, HasPartOf}
 pub use Rattle.tv_top.specs.Answers.{words_of, MayStop, MayEnd, quantities_of, IsOfWords, ChangedAt, IsSaid, Answers, Does, ending_of}
 pub use Rattle.tv_top.specs.Claims.{Holds, Then, IsStopped, status_by, Answered, Comes}
 pub use Rattle.tv_top.specs.Programs.{bits, program_in, program_sizes, image_words, image_bytes, program_result, HasImage, width_told, program_of}

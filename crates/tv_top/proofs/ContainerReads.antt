@@ -1,8 +1,9 @@
 -- From what reading a container came to, by what its file holds, to what a look at the file found.
 use Rattle.std.proofs.Common.{◌≡◌, ℕ, ◌≤◌, List, [], ◌∷◌, Option, Some, None, Result, Ok, Err, inl, inr, refl, arith}
 use Rattle.std.specs.Prelude.{MatchResult}
-use Rattle.tv_top.proofs.Common.{Names, Outside, OnlyReads, MissesOnly, Rose, Bad, Size, Stop, MayStop, IsFound, Finds, Named, Look, input, held_at, made_of, map_ok}
+use Rattle.tv_top.proofs.Common.{Names, Outside, OnlyReads, MissesOnly, Rose, Bad, Size, Stop, MayStop, IsFound, Finds, Spares, Named, Look, input, held_at, made_of, map_ok}
 use Rattle.tv_container.specs.Places.{Fault, ◌>>=◌}
+use Rattle.tv_container.specs.Reading as reading
 use Rattle.tv_container.specs.Reading.{bytes_of, Known, GivesBy, Looks, Stopped, IsMissing}
 use Rattle.tv_container.specs.declared.why.ReadRefusal.{ReadRefusal}
 use Rattle.tv_container.specs.declared.why.ReadRefusal.TheVariants as refusal
@@ -31,14 +32,15 @@ module _ {Y E A : Type 0} (view : Y → A) (of : E → Stop) (fault : E) (word :
 
   -- a file was read by a reader that stands so after a refusal
   pub finds_file : (result : Result Y E) → of fault ≡ stop.Fault word → word ≤ (due None).at → (due None).gives ≡ Err (stop.Fault word) → ((why : E) → StopsBy word sizes (why ≡ fault) (of why)) →
-      ((why : E) → Stands why → OnlyReads old new × MissesOnly old new name × (why ≡ fault → Rose old.read_faults new.read_faults)) → Known old name (λ file. IsFound view (due (Some file)) (came of result)) →
+      ((why : E) → Stands why → OnlyReads old new × MissesOnly old new name × Spares (of why) old new × (why ≡ fault → Rose old.read_faults new.read_faults)) → Known old name (λ file. IsFound view (due (Some file)) (came of result)) →
       MatchResult result (λ _. new ≡ old) Stands → (IsMissing old name → result ≡ Err fault) → Finds view (word ∷ []) sizes (λ held. due (held name)) old new (came of result)
   finds_file (Ok y) faulty within none stops stands gives looks missing = rw looks (finds_still (λ files tells. told (Ok y) faulty within gives missing files tells (files name) refl))
   finds_file (Err why) faulty within none stops stands gives looks missing = record {
     told = λ files tells. told (Err why) faulty within gives missing files tells (files name) refl;
     absent = λ files tells. elim ((stands why looks).1 files tells) [ inl same ↦ inl same | inr missed ↦ inr (word, rw missed none) ];
     only = (stands why looks).0;
-    caused = λ at e. let same : of why ≡ stop.Fault at = cc in let is = rw same at (stops why) in (inl is.0, (stands why looks).2 is.1);
+    leaves = (stands why looks).2;
+    caused = λ at e. let same : of why ≡ stop.Fault at = cc in let is = rw same at (stops why) in (inl is.0, (stands why looks).3 is.1);
     limits = λ what has most e. let same : of why ≡ stop.Contents (Limit what has most) = cc in rw same at (stops why);
   }
 
@@ -59,6 +61,16 @@ read_stops word bad none (refusal.Bad at what) = none (record { at = at; why = w
 read_stops word bad none refusal.Fault = (refl, refl)
 read_stops word bad none refusal.Memory = tt
 
+read_spares : (word : ℕ) (bad : Fault → Bad) (why : ReadRefusal) (old new : Outside) → reading.Leaves why old new → Spares (refusal_stop word bad why) old new
+read_spares word bad (refusal.Bad at what) old new leaves = leaves
+read_spares word bad refusal.Fault old new leaves = tt
+read_spares word bad refusal.Memory old new leaves = leaves
+
+read_caused : (why : ReadRefusal) (old new : Outside) → reading.Leaves why old new → why ≡ refusal.Fault → Rose old.read_faults new.read_faults
+read_caused refusal.Fault old new rose is = rose
+read_caused (refusal.Bad at what) old new leaves is = cc
+read_caused refusal.Memory old new leaves is = cc
+
 read_told : {Y A : Type 0} (view : Y → A) (word : ℕ) (bad : Fault → Bad) (due : Result A Fault) (result : Result Y ReadRefusal) → GivesBy result view due →
     IsFound view (record { at = word; gives = made_of (container_result bad due) }) (came (refusal_stop word bad) result)
 read_told view word bad due (Ok y) gives = rw gives refl
@@ -73,7 +85,7 @@ pub finds_read : {Y A : Type 0} (view : Y → A) (place : Named) (bad : Fault �
 unfolding input
 finds_read view place bad read old new result none gives looks missing =
     finds_file view (refusal_stop place.word bad) refusal.Fault place.word [] place.name (λ file. record { at = place.word; gives = held_at place.word (λ file. container_result bad (read file)) file }) old new (Stopped old new place.name) result refl (omega arith) refl
-    (read_stops place.word bad none) (λ why stopped. (stopped.only, stopped.there, stopped.fault)) (λ file there. read_told view place.word bad (read file) result (gives file there)) looks missing
+    (read_stops place.word bad none) (λ why stopped. (stopped.only, stopped.there, read_spares place.word bad why old new stopped.leaves, read_caused why old new stopped.leaves)) (λ file there. read_told view place.word bad (read file) result (gives file there)) looks missing
 
 -- what a container comes to that isn't refused
 pub read_of : {A : Type 0} (bad : Fault → Bad) (read : Result A Fault) (x : A) → container_result bad read ≡ Ok x → read ≡ Ok x

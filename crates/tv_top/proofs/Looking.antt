@@ -1,8 +1,20 @@
 -- Looks at files, one after another, and what is made of what they find.
-use Rattle.std.proofs.Common.{◌≡◌, ℕ, ◌+◌, nat_le, List, [], ◌∷◌, ◌++◌, length, Option, Some, None, Result, Ok, Err, IsErrAnd, inl, inr, refl, ap, ◌∙◌, ◌≤◌, arith, rules}
+use Rattle.std.proofs.Common.{◌≡◌, ℕ, ◌+◌, nat_le, List, [], ◌∷◌, ◌++◌, length, Option, Some, None, Result, Ok, Err, IsErrAnd, inl, inr, refl, ap, subst, ◌∙◌, ◌≤◌, arith, rules}
 use Rattle.std.proofs.lemmas.Bool.{cond_both}
-use Rattle.tv_top.proofs.Common.{Names, Outside, Bad, Size, Stop, Fault, Memory, Contents, IsOneOf, IsFound, Finds, Makes, Named, Look, ◌>>=◌, look_on, Outcome, comes_by, map_ok, input, within, held_at, made_of}
+use Rattle.tv_top.proofs.Common.{Names, Outside, OnlyReads, SameCounts, Bad, Size, Stop, Fault, Memory, Contents, IsOneOf, IsFound, Finds, Leaves, Makes, Named, Look, ◌>>=◌, look_on, Outcome, comes_by, map_ok, input, within, held_at, made_of}
 use Rattle.tv_top.specs.declared.refusal.Bad.TheVariants as bad
+
+-- the outside is as it was where its contents, what was said and its counts are
+pub same_outside : {old new : Outside} → OnlyReads old new → SameCounts old new → new ≡ old
+same_outside only same = λ i. record {
+  contents = only.contents i;
+  said = only.said i;
+  read_faults = same.read_faults i;
+  write_faults = same.write_faults i;
+  say_faults = same.say_faults i;
+  wants = same.wants i;
+  absent = same.absent i;
+}
 
 left_at : {A : Type 0} (x : A) (some more : List A) → IsOneOf x some → IsOneOf x (some ++ more)
 left_at x [] more at = absurd at
@@ -34,6 +46,7 @@ finds_stop view to some more few many due f old new stop one = record {
   told = λ files told. told_short view to (due files) (f files) stop (one.told files told);
   absent = λ files told. elim (one.absent files told) [ inl same ↦ inl same | inr missing ↦ inr (missing.0, rw missing.1 refl) ];
   only = one.only;
+  leaves = one.leaves;
   caused = λ word e. let same : stop ≡ Fault word = cc in let cause = one.caused word (ap Err same) in (left_at word some more cause.0, cause.1);
   limits = λ what has most e. let same : stop ≡ Contents (bad.Limit what has most) = cc in left_at what few many (one.limits what has most (ap Err same));
 }
@@ -49,7 +62,7 @@ finds_short more many f (Err other) same one = rw same (finds_stop _ _ _ _ _ _ _
 -- after one that gives something is found what the others come to
 pub finds_on : {X A Y B : Type 0} {view : X → A} {to : Y → B} {some more : List ℕ} {few many : List Size} {due : Names → Look A} {old mid new : Outside} {x : X} {found : Result Y Stop} (f : Names → A → Look B) →
     Finds view some few due old mid (Ok x) → Finds to more many (λ files. f files (view x)) mid new found → Finds to (some ++ more) (few ++ many) (λ files. due files >>= f files) old new found
-finds_on {view} {to} {some} {more} {few} {many} {due} {x} {found} f one two = record {
+finds_on {view} {to} {some} {more} {few} {many} {due} {new} {x} {found} f one two = record {
   told = λ files told. told_on to (due files) (f files) (view x) found (one.told files told) (two.told files (one.only.contents ∙ told));
   absent = λ files told. elim (two.absent files (one.only.contents ∙ told)) [
     | inl same ↦ elim (one.absent files told) [
@@ -59,6 +72,7 @@ finds_on {view} {to} {some} {more} {few} {many} {due} {x} {found} f one two = re
     | inr missing ↦ inr (missing.0, let gave = one.told files told in rw gave missing.1)
   ];
   only = record { contents = two.only.contents ∙ one.only.contents; said = two.only.said ∙ one.only.said; later = search rules };
+  leaves = subst (λ o. Leaves found o new) one.leaves two.leaves;
   caused = λ word e. let cause = two.caused word e in (right_at word some more cause.0, omega (arith, cause.1));
   limits = λ what has most e. right_at what few many (two.limits what has most e);
 }
@@ -66,7 +80,7 @@ finds_on {view} {to} {some} {more} {few} {many} {due} {x} {found} f one two = re
 -- what was found once all is as it was
 pub finds_still : {X A : Type 0} {view : X → A} {words : List ℕ} {sizes : List Size} {due : Names → Look A} {outside : Outside} {x : X} → ((files : Names) → outside.contents ≡ Some files → (due files).gives ≡ Ok (view x)) →
     Finds view words sizes due outside outside (Ok x)
-finds_still is = record { told = is; absent = λ files told. inl refl; only = record { contents = refl; said = refl; later = search rules }; caused = λ word e. cc; limits = λ what has most e. cc }
+finds_still is = record { told = is; absent = λ files told. inl refl; only = record { contents = refl; said = refl; later = search rules }; leaves = refl; caused = λ word e. cc; limits = λ what has most e. cc }
 
 -- a look that comes to the same
 pub finds_as : {X A : Type 0} {view : X → A} {words : List ℕ} {sizes : List Size} {due other : Names → Look A} {old new : Outside} {found : Result X Stop} → ((files : Names) → due files ≡ other files) →
@@ -75,6 +89,7 @@ finds_as is finds = record {
   told = λ files told. rw (is files) (finds.told files told);
   absent = λ files told. rw (is files) (finds.absent files told);
   only = finds.only;
+  leaves = finds.leaves;
   caused = finds.caused;
   limits = finds.limits;
 }
@@ -100,6 +115,13 @@ limits_made : {X A : Type 0} (view : X → A) (held : Result A Bad) (made : Resu
 limits_made view held (Err (Contents why)) sizes makes limited what has most e = let same : why ≡ bad.Limit what has most = cc in limited what has most (makes ∙ ap Err same)
 limits_made view held _ sizes makes limited what has most e = cc
 
+-- making reads no file
+leaves_made : {X A : Type 0} (view : X → A) (held : Result A Bad) (made : Result X Stop) (old new : Outside) → Makes view held made → new ≡ old → Leaves made old new
+leaves_made view held (Ok x) old new makes same = same
+leaves_made view held (Err (Contents why)) old new makes same = same
+leaves_made view held (Err (Fault word)) old new makes same = tt
+leaves_made view held (Err Memory) old new makes same = inl same
+
 -- of a file that may have so many bytes what its bytes come to
 limited_is : {A : Type 0} (word : ℕ) (what : Size) (most : ℕ) (f : List ℕ → Result A Bad) (file : Option (List ℕ)) (bytes text : List ℕ) → text ≡ bytes → held_at word (within what most (λ bytes. Ok bytes)) file ≡ Ok bytes →
     held_at word (within what most f) file ≡ made_of (f text)
@@ -120,6 +142,7 @@ made_found view of_read place what sizes most f read text made old new finds is 
     | inr missing ↦ absurd (let found = finds.told files told in let missed = missing.1 in cc)
   ];
   only = finds.only;
+  leaves = leaves_made view (f text) made old new makes finds.leaves;
   caused = λ at e. absurd (no_fault view (f text) made at makes e);
   limits = λ size has most e. inr (limits_made view (f text) made sizes makes limited size has most e);
 }
@@ -127,21 +150,21 @@ made_found view of_read place what sizes most f read text made old new finds is 
 -- what was found, seen in another way
 pub finds_view : {X Y A : Type 0} (view : X → A) (other : Y → A) (words : List ℕ) (sizes : List Size) (due : Names → Look A) (found : X) (same : Y) (old new : Outside) → view found ≡ other same →
     Finds view words sizes due old new (Ok found) → Finds other words sizes due old new (Ok same)
-finds_view view other words sizes due found same old new is finds = record { told = λ files told. finds.told files told ∙ ap Ok is; absent = finds.absent; only = finds.only; caused = λ word e. cc; limits = λ what has most e. cc }
+finds_view view other words sizes due found same old new is finds = record { told = λ files told. finds.told files told ∙ ap Ok is; absent = finds.absent; only = finds.only; leaves = finds.leaves; caused = λ word e. cc; limits = λ what has most e. cc }
 
 -- what a look was refused for, which `?` passes on
 pub finds_passed : {X Y A : Type 0} (view : X → A) (other : Y → A) (words : List ℕ) (sizes : List Size) (due : Names → Look A) (stop : Stop) (old new : Outside) (found : Result Y Stop) → IsErrAnd found (λ e. e ≡ stop) →
     Finds view words sizes due old new (Err stop) → Finds other words sizes due old new found
 finds_passed view other words sizes due stop old new (Ok y) same finds = absurd same
-finds_passed view other words sizes due (Contents why) old new (Err e) same finds = rw same (record { told = finds.told; absent = finds.absent; only = finds.only; caused = λ word e. cc; limits = λ what has most e. finds.limits what has most (let is : Contents why ≡ Contents (bad.Limit what has most) = cc in ap Err is) })
-finds_passed view other words sizes due (Fault word) old new (Err e) same finds = rw same (record { told = finds.told; absent = finds.absent; only = finds.only; caused = λ at e. finds.caused at (let is : Fault word ≡ Fault at = cc in ap Err is); limits = λ what has most e. cc })
-finds_passed view other words sizes due Memory old new (Err e) same finds = rw same (record { told = finds.told; absent = finds.absent; only = finds.only; caused = λ at e. cc; limits = λ what has most e. cc })
+finds_passed view other words sizes due (Contents why) old new (Err e) same finds = rw same (record { told = finds.told; absent = finds.absent; only = finds.only; leaves = finds.leaves; caused = λ word e. cc; limits = λ what has most e. finds.limits what has most (let is : Contents why ≡ Contents (bad.Limit what has most) = cc in ap Err is) })
+finds_passed view other words sizes due (Fault word) old new (Err e) same finds = rw same (record { told = finds.told; absent = finds.absent; only = finds.only; leaves = finds.leaves; caused = λ at e. finds.caused at (let is : Fault word ≡ Fault at = cc in ap Err is); limits = λ what has most e. cc })
+finds_passed view other words sizes due Memory old new (Err e) same finds = rw same (record { told = finds.told; absent = finds.absent; only = finds.only; leaves = finds.leaves; caused = λ at e. cc; limits = λ what has most e. cc })
 
 -- memory may be wanting for what follows on a look
 pub finds_wanting : {X Y A : Type 0} (view : X → A) (other : Y → A) (words : List ℕ) (sizes : List Size) (due : Names → Look A) (found : X) (old new : Outside) (result : Result Y Stop) → IsErrAnd result (λ e. e ≡ Memory) →
     Finds view words sizes due old new (Ok found) → Finds other words sizes due old new result
 finds_wanting view other words sizes due found old new (Ok y) is finds = absurd is
-finds_wanting view other words sizes due found old new (Err stop) is finds = rw is (record { told = λ _ _. tt; absent = finds.absent; only = finds.only; caused = λ word e. cc; limits = λ what has most e. cc })
+finds_wanting view other words sizes due found old new (Err stop) is finds = rw is (record { told = λ _ _. tt; absent = finds.absent; only = finds.only; leaves = inl finds.leaves; caused = λ word e. cc; limits = λ what has most e. cc })
 
 -- ---- what a command comes to by what was found
 
@@ -150,6 +173,10 @@ told_comes view f due (Ok x) is = ap (map_ok f) is
 told_comes view f due (Err (Contents why)) is = ap (map_ok f) is
 told_comes view f due (Err (Fault word)) within = within
 told_comes view f due (Err Memory) any = tt
+
+leaves_comes : {X Y : Type 0} (f : X → Y) (found : Result X Stop) (old new : Outside) → Leaves found old new → Leaves (map_ok f found) old new
+leaves_comes f (Ok x) old new leaves = leaves
+leaves_comes f (Err stop) old new leaves = leaves
 
 pub same_err : {X Y E : Type 0} (f : X → Y) (found : Result X E) (why : E) → map_ok f found ≡ Err why → found ≡ Err why
 same_err f (Ok x) why e = cc
@@ -161,6 +188,7 @@ finds_comes view f words sizes due old new found finds = record {
   told = λ files told. told_comes view f (due files) found (finds.told files told);
   absent = λ files told. elim (finds.absent files told) [ inl same ↦ inl same | inr missing ↦ inr (missing.0, ap (map_ok f) missing.1) ];
   only = finds.only;
+  leaves = leaves_comes (λ x. f (view x)) found old new finds.leaves;
   caused = λ word e. finds.caused word (same_err (λ x. f (view x)) found (Fault word) e);
   limits = λ what has most e. finds.limits what has most (same_err (λ x. f (view x)) found (Contents (bad.Limit what has most)) e);
 }

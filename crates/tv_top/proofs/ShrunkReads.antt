@@ -11,7 +11,7 @@ use Rattle.tv_shrink.specs.declared.fault.ShrinkFault.{ShrinkFault}
 use Rattle.tv_shrink.specs.declared.fault.ShrinkFault.TheVariants as fault
 use Rattle.tv_top.specs.Containers.{system_in}
 use Rattle.tv_top.specs.Shrinking.{shrink_sizes, shrink_stop, shrunk_of, shrunk_look}
-use Rattle.tv_top.proofs.Common.{Outside, Bad, IsFound, Finds, Named, Look, ◌>>=◌, look_on, held_at, input, made_of, settled}
+use Rattle.tv_top.proofs.Common.{Outside, Rose, Bad, IsFound, Finds, Spares, Named, Look, ◌>>=◌, look_on, held_at, input, made_of, settled}
 use Rattle.tv_top.proofs.ContainerReads.{StopsBy, came, finds_file}
 
 shrink_stops : (word : ℕ) (why : ShrinkFault) → StopsBy word shrink_sizes (why ≡ fault.Fault) (shrink_stop word why)
@@ -19,6 +19,17 @@ shrink_stops word (fault.Terms has) = inl refl
 shrink_stops word (fault.Combination has) = inr (inl refl)
 shrink_stops word fault.Fault = (refl, refl)
 shrink_stops word _ = tt
+
+shrink_spares : (word : ℕ) (why : ShrinkFault) (old new : Outside) → shrinking.Leaves why old new → Spares (shrink_stop word why) old new
+shrink_spares word fault.Fault old new leaves = tt
+shrink_spares word (fault.Bad at why) old new leaves = leaves
+shrink_spares word (fault.Terms has) old new leaves = leaves
+shrink_spares word (fault.Combination has) old new leaves = leaves
+shrink_spares word fault.Memory old new leaves = leaves
+
+shrink_caused : (why : ShrinkFault) (old new : Outside) → shrinking.Leaves why old new → why ≡ fault.Fault → Rose old.read_faults new.read_faults
+shrink_caused fault.Fault old new rose is = rose
+shrink_caused _ old new leaves is = cc
 
 -- what is left of the system of a file that may be there
 abbrev shrunk_due : ℕ → Option (List ℕ) → Look Shrunken
@@ -43,4 +54,4 @@ pub finds_shrunk : (place : Named) (old new : Outside) (result : Result Shrunken
 unfolding shrunk_look input
 finds_shrunk place old new result gives halts missing =
     finds_file (λ (s : Shrunken). s) (shrink_stop place.word) fault.Fault place.word shrink_sizes place.name (shrunk_due place.word) old new (Halted old new place.name) result refl (omega arith) refl (shrink_stops place.word)
-    (λ why halted. (halted.only, halted.there, halted.cause)) (λ file there. shrink_told place.word result file (gives file there)) halts missing
+    (λ why halted. (halted.only, halted.there, shrink_spares place.word why old new halted.leaves, shrink_caused why old new halted.leaves)) (λ file there. shrink_told place.word result file (gives file there)) halts missing

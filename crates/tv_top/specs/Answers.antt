@@ -17,7 +17,7 @@ use Rattle.tv_top.specs.declared.refusal.Stop.TheVariants as stop
 use Rattle.tv_top.specs.declared.status.Status.{Status}
 use Rattle.tv_top.specs.declared.status.Status.TheVariants.{FileFault, Memory}
 use Rattle.tv_top.specs.Codes.{says}
-use Rattle.tv_top.specs.Ends.{Said, SaidPart, Completes, Ends, IsConcluded}
+use Rattle.tv_top.specs.Ends.{Said, SaidPart, Completes, Ends, IsConcluded, IsQuiet, IsUntouched}
 use Rattle.tv_top.specs.Finds.{Finds, IsOneOf}
 use Rattle.tv_top.specs.Plan.{Named, Outcome, Plan, answer_of}
 use Rattle.tv_top.specs.Status.{refusal_status, ending_status}
@@ -106,6 +106,10 @@ pub record Answers (request : Result Plan Refusal) (words : ℕ) (old new : Outs
       → (IsOneOf word (words_of (reads_of request)) × Rose old.read_faults new.read_faults)
       ⊎ (IsOneOf word (words_of (writes_of request)) × Rose old.write_faults new.write_faults)
       ⊎ ((word ≡ words) × Rose old.say_faults new.say_faults)
+  -- no fault is passed over, nor is want of memory: where the answer is neither, all counts are as before
+  pub quiet : IsQuiet old new result
+  -- memory that the files didn't want ran out before anything was written or said
+  pub wanting : result ≡ Memory → IsUntouched old new ⊎ Rose old.wants new.wants
   -- the line of an end that may be was said; a fault and want of memory leave a prefix of one
   pub said : (ending : Ending) × MayEnd request ending × IsSaid ending words old new result
   -- every file but those that are to be written is as it was, and no count fell

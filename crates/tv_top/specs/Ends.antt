@@ -1,6 +1,6 @@
 -- How a call may end, given the answer that its words and files call for.
-use Rattle.std.specs.Prelude.{◌≡◌, ℕ, ◌≤◌, ◌⊎◌, List, [], ◌∷◌, ◌++◌, take, Option, Some, None, option_map, Result, Ok, Err, IfOk, MatchResult}
-use Rattle.tv_files.specs.Outside.{Names, Outside, NoneFell, OnlyWrites, with_bytes}
+use Rattle.std.specs.Prelude.{◌≡◌, ℕ, ◌≤◌, ◌⊎◌, List, [], ◌∷◌, ◌++◌, take, Option, Some, None, option_map, Result, Ok, Err, IfOk, OnOk, MatchResult}
+use Rattle.tv_files.specs.Outside.{Names, Outside, NoneFell, OnlyWrites, SameCounts, with_bytes}
 use Rattle.tv_core.specs.declared.sink.SinkFault.{SinkFault}
 use Rattle.tv_core.specs.declared.sink.SinkFault.TheVariants as sink
 use Rattle.tv_word.specs.Counts.{Rose}
@@ -92,9 +92,14 @@ IsConcluded ending words old new result =
     ⊎ ((result ≡ FileFault words) × Rose old.say_faults new.say_faults × SaidPart old new (says ending))
     ⊎ ((result ≡ Memory) × Rose old.wants new.wants × SaidPart old new (says ending))
 
+-- no count changed; or the answer is a fault, or memory that the files wanted
+abbrev pub IsQuiet : Outside → Outside → Status → Type 0
+IsQuiet old new result = SameCounts old new ⊎ ((word : ℕ) × (result ≡ FileFault word)) ⊎ ((result ≡ Memory) × Rose old.wants new.wants)
+
 -- what saying the line of an end does
 pub record Concludes (ending : Ending) (words : ℕ) (old new : Outside) (result : Status) : Type 0 where
   pub ended : IsConcluded ending words old new result
+  pub quiet : IsQuiet old new result
   pub contents : new.contents ≡ old.contents
   pub later : NoneFell old new
   pub absent : new.absent ≡ old.absent
@@ -102,17 +107,19 @@ pub record Concludes (ending : Ending) (words : ℕ) (old new : Outside) (result
 -- writing these was cut short by this: what is written is never refused for its contents
 abbrev pub IsCut : List Write → Outside → Outside → Stop → Type 0
 IsCut writes old new (stop.Fault word) = IsCutAt word writes old.contents new.contents × Rose old.write_faults new.write_faults
-IsCut writes old new stop.Memory = (new.contents ≡ old.contents) ⊎ ((word : ℕ) × IsCutAt word writes old.contents new.contents)
+IsCut writes old new stop.Memory = (word : ℕ) × IsCutAt word writes old.contents new.contents × Rose old.wants new.wants
 IsCut writes old new (stop.Contents bad) = ⊥
 
 -- what writing files does
 pub record Writes {X : Type 0} (writes : List Write) (old new : Outside) (result : Result X Stop) : Type 0 where
   pub ended : MatchResult result (λ _. (new.contents ≡ files_with writes old.contents) × AreRead writes) (λ stop. IsCut writes old new stop)
+  pub quiet : OnOk result (SameCounts old new)
   pub only : OnlyWrites old new
 
--- what an outcome comes to once it was found: its files are written, and unless that is cut short, it ends so
+-- what an outcome comes to once it was found: its files are written, and unless that is cut short, it ends so; or
+-- memory ran out before the first of them
 pub record Completes (places : List Named) (outcome : Outcome) (old new : Outside) (result : Result Finish Stop) : Type 0 where
-  pub writes : Writes (files_of places outcome.files) old new result
+  pub writes : Writes (files_of places outcome.files) old new result ⊎ ((result ≡ Err stop.Memory) × (new ≡ old))
   pub finish : IfOk result (λ finish. finish ≡ outcome.finish)
 
 -- what a refusal comes to of a sink that writes the file at a word, and how its writing ended

@@ -1,5 +1,5 @@
 -- What reading and judging files comes to, against what is due by what they hold.
-use Rattle.std.specs.Prelude.{◌≡◌, ℕ, ◌≤◌, ◌⊎◌, List, [], ◌∷◌, Result, Ok, Err}
+use Rattle.std.specs.Prelude.{◌≡◌, ℕ, ◌≤◌, ◌⊎◌, List, [], ◌∷◌, Result, Ok, Err, MatchResult}
 use Rattle.tv_files.specs.Outside.{Names, Outside, Told, OnlyReads}
 use Rattle.tv_word.specs.Counts.{Rose}
 use Rattle.tv_top.specs.declared.refusal.Bad.{Bad}
@@ -32,6 +32,16 @@ IsFound view due (Err (Contents bad)) = due.gives ≡ Err (Contents bad)
 IsFound view due (Err (Fault word)) = word ≤ due.at
 IsFound view due (Err Memory) = Unit {0}
 
+-- what a refused look leaves: all, but for the cause of a fault, or of memory that the files wanted
+abbrev pub Spares : Stop → Outside → Outside → Type 0
+Spares (Contents bad) old new = new ≡ old
+Spares (Fault word) old new = Unit {0}
+Spares Memory old new = (new ≡ old) ⊎ Rose old.wants new.wants
+
+-- what a look leaves: all, unless it was refused
+abbrev pub Leaves : {X : Type 0} → Result X Stop → Outside → Outside → Type 0
+Leaves found old new = MatchResult found (λ _. new ≡ old) (λ stop. Spares stop old new)
+
 -- Files were read, those whose names stand at these words, and this was found. What they hold may pass the
 -- limits of these quantities alone, be their contents told or not.
 pub record Finds {X A : Type 0} (view : X → A) (words : List ℕ) (sizes : List Size) (due : Names → Look A)
@@ -40,6 +50,7 @@ pub record Finds {X A : Type 0} (view : X → A) (words : List ℕ) (sizes : Lis
   pub absent : Told old (λ files.
       (new.absent ≡ old.absent) ⊎ ((word : ℕ) × ((due files).gives ≡ Err (Fault word))))
   pub only : OnlyReads old new
+  pub leaves : Leaves found old new
   pub caused : (word : ℕ) → found ≡ Err (Fault word) → IsOneOf word words × Rose old.read_faults new.read_faults
   pub limits : (what : Size) (has most : ℕ) → found ≡ Err (Contents (bad.Limit what has most)) → IsOneOf what sizes
 

@@ -50,7 +50,7 @@ given seen old new value (Ok unit) borrow name below passes is unbroken =
     let same : (seen new).progress ≡ record (seen old).progress { held = (seen new).progress.held } = rw unbroken is in
     record {
       stands = λ list s. stands_more (seen old) (seen new) list value s below name same passes.done;
-      keeps = record { borrow = borrow; name = name; count = ap (λ (p : Progress). p.count) is; outside = passes.only };
+      keeps = record { borrow = borrow; name = name; count = ap (λ (p : Progress). p.count) is; outside = passes.only; quiet = λ _. (unbroken, passes.cause) };
       faults = passes.only.later.write_faults;
       wants = passes.only.later.wants;
     }
@@ -63,7 +63,7 @@ given seen old new value (Err fault) borrow name below passes is unbroken =
       at = refl;
       tried = λ list s. tried_more (seen old) (seen new) list value s name count passes.refused;
       broken = ap (λ (p : Progress). p.broken) is;
-      keeps = record { borrow = borrow; name = name; count = count; outside = passes.only };
+      keeps = record { borrow = borrow; name = name; count = count; outside = passes.only; quiet = λ whole. let broken = ap (λ (p : Progress). p.broken) is in cc };
       cause = cause_seen (λ v. (seen v).outside) old new fault passes.cause;
       faults = passes.only.later.write_faults;
       wants = passes.only.later.wants;

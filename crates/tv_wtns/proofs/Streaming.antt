@@ -48,6 +48,6 @@ module _ {V : Type 0} (seen : V → Taker) (name : List ℕ) (old : Outside) (ta
       let now = rw (named, bytes done all.keeps) at (finishes.whole values stands) in
       let front = rw (named, bytes done all.keeps) at (finishes.part values stands) in
       record {
-        file = streamed_last old (seen taker).outside (seen done).outside new name (assignment_bytes values) result is.creates (rw is.named at all.keeps.outside) (rw named at finishes.only) now front finishes.cause;
+        file = streamed_last old (seen taker).outside (seen done).outside new name (assignment_bytes values) result is.creates (rw is.named at all.keeps.outside) (all.keeps.quiet stands.whole).1 (rw named at finishes.only) now front finishes.cause;
         read = OnOk-map result (λ _. come_back values is.few stands.canonical) now;
       }

@@ -3,13 +3,13 @@ use Rattle.std.specs.Prelude.{◌≡◌, refl, ℕ, ◌<◌, Bool, false, is_err
 use Rattle.std.proofs.Common.{◌∙◌}
 use Rattle.std.specs.Borrow.{GName}
 use Rattle.std.specs.List.{All}
-use Rattle.tv_container.proofs.Buffers.{nothing_appended, appends_then}
+use Rattle.tv_container.proofs.Buffers.{nothing_appended, appends_then, counts_stay, counts_then}
 use Rattle.tv_container.specs.Writing.{OnlyAppends}
 use Rattle.tv_container.specs.Written.{HasBut, HasCause, HasFront, HasNow}
 use Rattle.tv_core.specs.Giving.{Giving}
 use Rattle.tv_core.specs.declared.field.TheConstants.{P}
 use Rattle.tv_core.specs.declared.sink.SinkFault.{SinkFault}
-use Rattle.tv_files.specs.Outside.{Outside}
+use Rattle.tv_files.specs.Outside.{Outside, SameCounts}
 use Rattle.tv_wtns.specs.Bytes.{head_bytes, file_bytes}
 use Rattle.tv_wtns.specs.declared.file_values.FileValues.{FileValues}
 
@@ -52,13 +52,14 @@ pub record Stands (taker : Taker) (values : List ℕ) : Type 0 where
 pub record Tried (taker : Taker) (values : List ℕ) : Type 0 where
   pub written : HasFront taker.outside taker.name (file_bytes taker.progress.count values)
 
--- what every call keeps: the file is the same, through the same borrow, its head tells the same count, and
--- the outside is as it was but for bytes appended to the file
+-- what every call keeps: the file is the same, through the same borrow, its head tells the same count, the
+-- outside is as it was but for bytes appended to the file, and until a refusal breaks the taker no count changes
 pub record KeepsFile (old new : Taker) : Type 0 where
   pub borrow : new.borrow ≡ old.borrow
   pub name : new.name ≡ old.name
   pub count : new.progress.count ≡ old.progress.count
   pub outside : OnlyAppends old.outside new.outside old.name
+  pub quiet : new.progress.broken ≡ false → (old.progress.broken ≡ false) × SameCounts old.outside new.outside
 
 -- what such a taker means, however it is seen; its faults are those of writing
 abbrev pub taker_giving : {V : Type 0} → (V → Taker) → Giving V
@@ -74,12 +75,14 @@ taker_giving {V} seen = record {
     name = refl;
     count = refl;
     outside = nothing_appended (seen taker).outside (seen taker).name;
+    quiet = λ whole. (whole, counts_stay (seen taker).outside);
   };
   keeps_then = λ old mid new p q. record {
     borrow = q.borrow ∙ p.borrow;
     name = q.name ∙ p.name;
     count = q.count ∙ p.count;
     outside = appends_then (seen old).outside (seen mid).outside (seen new).outside (seen old).name p.outside (rw p.name at q.outside);
+    quiet = λ whole. let late = q.quiet whole in let early = p.quiet late.0 in (early.0, counts_then early.1 late.1);
   };
 }
 

@@ -1,6 +1,6 @@
 //! A taker of values that writes them to a file.
 
-ghost use Rattle.std.specs.Prelude.{◌≡◌, [], Ok, IfOk, IfErr};
+ghost use Rattle.std.specs.Prelude.{◌≡◌, [], false, Ok, IfOk, IfErr};
 ghost use Rattle.tv_container.specs.Written.{NotCreated};
 ghost use Rattle.tv_files.specs.Calls.{Creates};
 ghost use Rattle.tv_wtns.specs.Bytes.{head_bytes};
@@ -57,10 +57,11 @@ impl<'a, D: Files> FileValues<'a, D> {
         }
     }
 
-    /// Appends what is still held: the file is that of the values given.
+    /// Appends what is still held: the file is that of the values given. None of them was refused.
     ///
     /// After a refusal the file has a first part of these bytes.
     pub fn finish(self) -> Put<()>
+        requires whole { (taker_of D.seen self).progress.broken ≡ false }
         ensures { Finishes (taker_of D.seen self.entry) (D.seen self.exit.0.now) result }
     {
         let FileValues {
@@ -69,7 +70,6 @@ impl<'a, D: Files> FileValues<'a, D> {
             mut pending,
             ..
         } = self;
-        pending.renew();
         pending.flush(files, name);
         pending.outcome
     }

@@ -1,4 +1,4 @@
-use Rattle.std.proofs.Common.{◌≡◌, ◌+◌, ◌*◌, arith}
+use Rattle.std.proofs.Common.{◌≡◌, arith}
 use Rattle.tv_r1cs_read.proofs.Summing.{held}
 use Rattle.tv_r1cs_read.proofs.trying.sum_held.Goals as goal
 

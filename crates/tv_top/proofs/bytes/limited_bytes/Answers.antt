@@ -1,13 +1,15 @@
 use Rattle.std.proofs.Common.{◌≡◌, ℕ, ◌+◌, ◌≤◌, List, length, Some, Result, Ok, Err, IfOk, inl, inr, refl, arith, rules}
 use Rattle.std.proofs.lemmas.Bool.{le-leb, lt-leb}
 use Rattle.tv_files.specs.Outside.{Told}
+use Rattle.tv_files.specs.Whole as whole
 use Rattle.tv_files.specs.Whole.{IsLonger}
 use Rattle.tv_files.specs.declared.outcome.Slurp.{Slurp}
 use Rattle.tv_files.specs.declared.outcome.Slurp.TheVariants as slurp
 use Rattle.tv_top.specs.declared.refusal.Bad.TheVariants.{Limit}
 use Rattle.tv_top.specs.Plan.{named}
-use Rattle.tv_top.proofs.Common.{Outside, Size, Stop, Fault, Memory, Contents, IsFound, Named, input, within}
+use Rattle.tv_top.proofs.Common.{Outside, OnlyReads, Rose, Leaves, Size, Stop, Fault, Memory, Contents, IsFound, Named, input, within}
 use Rattle.tv_top.proofs.ContainerReads.{came}
+use Rattle.tv_top.proofs.Looking.{same_outside}
 use Rattle.tv_top.proofs.bytes.limited_bytes.Goals as goal
 
 -- what a refusal of the file at a word stops
@@ -32,6 +34,19 @@ module _ {V : Type 0} (view : V → List ℕ) (place : Named) (what : Size) (mos
   caused (Err slurp.Memory) at e = cc
   caused (Err (slurp.TooLong limit)) at e = cc
 
+  spared : (result : Result V Slurp) (old new : Outside) → OnlyReads old new → whole.Leaves result old new → Leaves (came (stop_of place.word what most) result) old new
+  spared (Ok v) old new only same = same_outside only same
+  spared (Err (slurp.TooLong limit)) old new only same = same_outside only same
+  spared (Err slurp.Fault) old new only rose = tt
+  spared (Err slurp.Memory) old new only (inl same) = inl (same_outside only same)
+  spared (Err slurp.Memory) old new only (inr rose) = inr rose
+
+  faulty : (result : Result V Slurp) (old new : Outside) → whole.Leaves result old new → result ≡ Err slurp.Fault → Rose old.read_faults new.read_faults
+  faulty (Err slurp.Fault) old new rose is = rose
+  faulty (Ok v) old new leaves is = cc
+  faulty (Err slurp.Memory) old new leaves is = cc
+  faulty (Err (slurp.TooLong limit)) old new leaves is = cc
+
   limited : (result : Result V Slurp) (size : Size) (has limit : ℕ) → came (stop_of place.word what most) result ≡ Err (Contents (Limit size has limit)) → size ≡ what
   limited (Err (slurp.TooLong _)) size has limit e = cc
   limited (Ok v) size has limit e = cc
@@ -48,6 +63,7 @@ returns g c =
       told = told (λ v. v.items) place c.args.what c.args.most (g.D.Files.seen c.args.files.now) c.slurp.result slurped.whole slurped.short slurped.longer;
       absent = λ files told. elim (slurped.there files told) [ inl same ↦ inl same | inr none ↦ inr (place.word, rw none refl) ];
       only = slurped.only;
-      caused = λ at e. let cause = caused (λ v. v.items) place c.args.what c.args.most c.slurp.result at e in (inl cause.0, slurped.fault cause.1);
+      leaves = spared (λ v. v.items) place c.args.what c.args.most c.slurp.result _ _ slurped.only slurped.leaves;
+      caused = λ at e. let cause = caused (λ v. v.items) place c.args.what c.args.most c.slurp.result at e in (inl cause.0, faulty (λ v. v.items) place c.args.what c.args.most c.slurp.result _ _ slurped.leaves cause.1);
       limits = λ size has most e. inl (limited (λ v. v.items) place c.args.what c.args.most c.slurp.result size has most e);
     })

@@ -1,5 +1,5 @@
 use Rattle.std.proofs.Common.{refl, append-nil, arith}
-use Rattle.tv_container.proofs.Buffers.{nothing_appended}
+use Rattle.tv_container.proofs.Buffers.{counts_stay, nothing_appended}
 use Rattle.tv_core.specs.Circuits.{fresh}
 use Rattle.tv_r1cs_write.proofs.Constraints.{narrow_more}
 use Rattle.tv_r1cs_write.proofs.stream.StreamSinkSink.fresh.Goals as goal
@@ -12,7 +12,7 @@ returns-clause-puts g c =
       answers = refl;
       stands = λ list s. rw (append-nil list) (record { counted = s.counted; whole = s.whole; narrow = narrow_more sink.wires list s.narrow; written = s.written });
       next = refl;
-      keeps = record { borrow = refl; name = refl; counts = refl; labels = refl; outside = nothing_appended (g.D.Files.seen sink.files.now) sink.name.now };
+      keeps = record { borrow = refl; name = refl; counts = refl; labels = refl; outside = nothing_appended (g.D.Files.seen sink.files.now) sink.name.now; quiet = λ whole. (whole, counts_stay (g.D.Files.seen sink.files.now)) };
       faults = omega arith;
       wants = omega arith;
     }
