@@ -1,0 +1,268 @@
+-- What the parts of a step that are made of gadgets alone say: opcode, registers, test and registers written.
+use Rattle.std.proofs.Common.{◌≡◌, ℕ, zero, suc, ◌+◌, ◌-◌, ◌*◌, ◌/◌, ◌%◌, ◌^◌, ◌<◌, ◌==◌, nat_lt, Bool, true, false, if◌then◌else◌, List, [], ◌∷◌, ◌++◌, length, inl, inr, refl, sym, ◌∙◌, ap, ap₂, subst, arith, true≢false}
+use Rattle.std.specs.List.{AllByRecursion, list_all}
+use Rattle.std.specs.Prelude.{slice_index, slice_set}
+use Rattle.std.proofs.lemmas.Bool.{cases_eq, ne_eqb, eqb-true, and_parts}
+use Rattle.std.proofs.lemmas.Bool.Decides.{nat_tests}
+use Rattle.tv_bits.proofs.SpelledNumbers.{value-bits_below, Spells-high}
+use Rattle.tv_bits.specs.Bit.{IsBit}
+use Rattle.tv_bits.specs.Bits.{Spells, bits_combination}
+use Rattle.tv_bits.specs.declared.bit_wires.Bits.{Bits}
+use Rattle.tv_core.proofs.CombinationLaws.{value-append, value-wire, value-scaled, value-below, wire-below}
+use Rattle.tv_core.proofs.Meeting.{Meets-split}
+use Rattle.tv_core.specs.Circuits.{fresh, put, pure, ◌>>=◌}
+use Rattle.tv_core.specs.Combinations.{wire, scaled}
+use Rattle.tv_core.specs.Constraints.{Combination, value}
+use Rattle.tv_core.specs.Laws.{Assigns, Meets}
+use Rattle.tv_core.specs.declared.field.TheConstants.{P}
+use Rattle.tv_decode.proofs.InstructionLaws.{opcode_wire}
+use Rattle.tv_decode.specs.Instructions.{place, number_of, dest_bits, source_bits, register_bits, IsOpcodeRow, IsDecoded}
+use Rattle.tv_decode.specs.declared.records.InstructionWires.{InstructionWires}
+use Rattle.tv_isa.specs.Instruction.{decode}
+use Rattle.tv_isa.specs.Opcodes.{among, is_used}
+use Rattle.tv_isa.specs.declared.instr.Instr.{Instr}
+use Rattle.tv_isa.specs.declared.opcode.TheConstants.{USED}
+use Rattle.tv_numbers.specs.Numbers.{other_word, result_in, stepped}
+use Rattle.tv_numbers.specs.Tables.{unused_ops, store_ops, writer_ops}
+use Rattle.tv_numbers.specs.Views.{View, flag_of}
+use Rattle.tv_regs.proofs.TripleLaws.{triple_sound}
+use Rattle.tv_regs.proofs.UpdateLaws.{update_sound}
+use Rattle.tv_regs.specs.Reading.{words_at}
+use Rattle.tv_regs.specs.Triple.{AreNumbers}
+use Rattle.tv_regs.specs.Writing.{written_regs}
+use Rattle.tv_regs.specs.declared.triple.Triple.{Triple}
+use Rattle.tv_word.proofs.WidthLaws.{width_short, for_widths}
+use Rattle.tv_word.specs.Widths.{IsWidth}
+use Rattle.tv_cycle.proofs.AccumulationLaws.{accumulated_sound}
+use Rattle.tv_cycle.proofs.OpcodeLaws.{opcode_terms_sound, opcode_sum_sound}
+use Rattle.tv_cycle.proofs.TapeFills.{flag_test}
+use Rattle.tv_cycle.proofs.TapeLaws.{among_one, flag_small}
+use Rattle.tv_cycle.specs.Accumulation.{accumulated_of}
+use Rattle.tv_cycle.specs.Cycle.{registers_of, written_of}
+use Rattle.tv_cycle.specs.Flag.{sign_at}
+use Rattle.tv_cycle.specs.OpcodeSums.{place_of, opcode_sum, opcode_terms, distinct, IsOpcode}
+use Rattle.tv_cycle.specs.Results.{place_bits, sign_of, result_of, tested_of, results_of}
+use Rattle.tv_cycle.specs.States.{state_in}
+use Rattle.tv_cycle.specs.declared.records.Sources.{Sources}
+use Rattle.tv_cycle.specs.declared.records.StateWires.{StateWires}
+use Rattle.tv_cycle.specs.declared.records.TapeWires.{TapeWires}
+
+-- ---- the opcode
+pub used_again : (k : ℕ) → k < 32 → among unused_ops k ≡ false → is_used k ≡ true
+used_again k h u = grind (arith, nat_tests)
+
+same_place : (k : ℕ) → k < 32 → among unused_ops k ≡ false → place k ≡ place_of k
+same_place k h u = grind (arith, nat_tests)
+
+not_unused : (k : ℕ) → is_used k ≡ true → among unused_ops k ≡ false
+not_unused k u = grind (arith, nat_tests)
+
+pub opcode_of_row : (z : List ℕ) (op k : ℕ) → k < 32 → IsOpcodeRow z op k → IsOpcode z op k
+opcode_of_row z op k small is = record {
+  within = small;
+  used = not_unused k is.used;
+  row = λ j h u. ap (λ p. slice_index z (op + p)) (sym (same_place j h u)) ∙ opcode_wire z op k j is (used_again j h u);
+}
+
+pub op_below : (w head tail : ℕ) → (decode w head tail).op < 32
+op_below w head tail = omega arith
+
+pub dest_below : (w head tail : ℕ) → (decode w head tail).dest < 16
+dest_below w head tail = omega arith
+
+pub source_below : (w head tail : ℕ) → (decode w head tail).source < 16
+source_below w head tail = omega arith
+
+-- what holds of each opcode of a list holds of one that is among them
+pub among_each : (Q : ℕ → Type 0) (ks : List ℕ) → AllByRecursion Q ks → (k : ℕ) → among ks k ≡ true → Q k
+among_each Q [] each k e = absurd (true≢false (sym e))
+among_each Q (j ∷ ks) each k e = elim (cases_eq j k) [
+  | inl same ↦ subst Q same each.0
+  | inr apart ↦ among_each Q ks each.1 k (sym (ap (λ b. if b then true else among ks k) (ne_eqb j k apart)) ∙ e)
+]
+
+-- ---- registers
+-- the wires are those of the other word, of the register that the second word names, and of the destination
+pub record AreRegisters (z : List ℕ) (t : Triple) (v : View) (i : Instr) : Type 0 where
+  pub other : slice_index z t.other_word ≡ other_word v i
+  pub named : slice_index z t.named_word ≡ slice_index v.regs (i.a % 16)
+  pub dest : slice_index z t.dest ≡ i.dest
+  pub dest_word : slice_index z t.dest_word ≡ slice_index v.regs i.dest
+
+pub word_by : (b : Bool) (g d s : ℕ) (words : List ℕ) → g ≡ flag_of b
+    → slice_index words (if g == 1 then d else s) ≡ (if b then slice_index words d else slice_index words s)
+word_by true g d s words e = rw e refl
+word_by false g d s words e = rw e refl
+
+pub registers_sound : (w : ℕ) → IsWidth w → (z : List ℕ) (next : ℕ) (state : StateWires) (i : InstructionWires) (head tail : ℕ)
+    → length state.regs ≡ 16 → Assigns z → IsDecoded z w i head tail → Meets z (registers_of w state i next).list
+    → AreRegisters z (registers_of w state i next).answer (state_in z state) (decode w head tail)
+registers_sound w width z next state i head tail size assigns is meets =
+    let ins : Instr = decode w head tail in
+    let words = words_at z state.regs in
+    let stores = opcode_sum i.op store_ops in
+    let row = opcode_of_row z i.op ins.op (op_below w head tail) is.opcode in
+    let store_is : value stores z ≡ flag_of (among store_ops ins.op) = opcode_sum_sound z i.op ins.op store_ops row refl in
+    let target = number_of (dest_bits w i) in
+    let source = number_of (source_bits w i) in
+    let named = number_of (register_bits i) in
+    let numbers : AreNumbers z stores target source named = record {
+      store = subst IsBit (sym store_is) (flag_small (among store_ops ins.op));
+      dest = subst (λ n. n < 16) (sym is.dest) (dest_below w head tail);
+      other = subst (λ n. n < 16) (sym is.source) (source_below w head tail);
+      third = subst (λ n. n < 16) (sym is.register) (omega arith);
+    } in
+    let read = triple_sound z next stores target source named state.regs size assigns numbers meets in
+    record {
+      other =
+          read.other_word ∙ word_by (among store_ops ins.op) (value stores z) (value target z) (value source z) words store_is
+          ∙ ap₂ (λ d s. if among store_ops ins.op then slice_index words d else slice_index words s) is.dest is.source;
+      named = read.named_word ∙ ap (slice_index words) is.register;
+      dest = read.dest ∙ is.dest;
+      dest_word = read.dest_word ∙ ap (slice_index words) is.dest;
+    }
+
+-- ---- the registers after the step
+on_is : (a c : Bool) (f : ℕ) → f < 2 → (c ≡ true → a ≡ false) → (flag_of a + flag_of c * f) % P ≡ flag_of (if c then f == 1 else a)
+on_is a true f small none = rw (none refl) (bit f small)
+  where
+    bit : (f : ℕ) → f < 2 → (0 + 1 * f) % P ≡ flag_of (f == 1)
+    bit zero small = refl
+    bit (suc zero) small = refl
+    bit (suc (suc k)) small = absurd (omega arith)
+on_is true false f small none = omega arith
+on_is false false f small none = omega arith
+
+writes_among : (k f : ℕ) → (if k == 19 then f == 1 else among writer_ops k) ≡ true → among (19 ∷ writer_ops) k ≡ true
+writes_among k f e = elim (cases_eq k 19) [
+  | inl same ↦ ap (among (19 ∷ writer_ops)) same
+  | inr apart ↦
+      ap (λ b. if b then true else among writer_ops k) (ne_eqb 19 k (λ s. apart (sym s)))
+      ∙ (sym (ap (λ b. if b then f == 1 else among writer_ops k) (ne_eqb k 19 apart)) ∙ e)
+]
+
+written_by : (b : Bool) (x y d : ℕ) (words : List ℕ) → (b ≡ true → x ≡ y)
+    → written_regs b x d words ≡ (if b then slice_set words d y else words)
+written_by true x y d words e = ap (slice_set words d) (e refl)
+written_by false x y d words e = refl
+
+pub written_sound : (w : ℕ) (z : List ℕ) (next n : ℕ) (state : StateWires) (op : ℕ) (regs : Triple) (result : ℕ)
+    (v : View) (i : Instr) (o : ℕ) (takes : Bool) → length state.regs ≡ 16 → Assigns z → IsOpcode z op i.op → i.dest < 16 → v.flag < 2
+    → slice_index z state.flag ≡ v.flag
+    → words_at z state.regs ≡ v.regs → AreRegisters z regs v i
+    → (among (19 ∷ writer_ops) i.op ≡ true → slice_index z result ≡ result_in w n v i o takes)
+    → Meets z (written_of op state regs result next).list → words_at z (written_of op state regs result next).answer ≡ (stepped w n v i o takes).regs
+unfolding written_of ◌>>=◌
+written_sound w z next n state op regs result v i o takes size assigns row within bit flag words are is meets =
+    let writes : Bool = if i.op == 19 then v.flag == 1 else among writer_ops i.op in
+    let on = accumulated_of (opcode_sum op writer_ops) (opcode_sum op (19 ∷ [])) (wire state.flag) next in
+    let m1 = Meets-split z on.list _ meets in
+    let by_flag : value (opcode_sum op (19 ∷ [])) z * value (wire state.flag) z ≡ flag_of (i.op == 19) * v.flag =
+    ap₂ (λ c f. c * f) (opcode_sum_sound z op i.op (19 ∷ []) row refl ∙ ap flag_of (among_one 19 i.op)) (value-wire assigns state.flag ∙ flag) in
+    let on_at : slice_index z on.answer ≡ flag_of writes =
+    accumulated_sound z next (opcode_sum op writer_ops) (opcode_sum op (19 ∷ [])) (wire state.flag) assigns m1.0
+    ∙ ap₂ (λ a b. (a + b) % P) (opcode_sum_sound z op i.op writer_ops row refl) by_flag
+    ∙ on_is (among writer_ops i.op) (i.op == 19) v.flag bit (none i.op) in
+    update_sound z on.next on.answer regs.dest regs.dest_word result state.regs i.dest assigns (record {
+      size = size;
+      bit = subst IsBit (sym on_at) (flag_small writes);
+      number = are.dest;
+      within = within;
+      old = are.dest_word ∙ ap (λ l. slice_index l i.dest) (sym words);
+    }) m1.1
+    ∙ ap₂ (λ b l. written_regs b (slice_index z result) i.dest l) (ap (λ k. k == 1) on_at ∙ flag_test writes) words
+    ∙ written_by writes (slice_index z result) (result_in w n v i o takes) i.dest v.regs (λ e. is (writes_among i.op v.flag e))
+  where
+    none : (k : ℕ) → (k == 19) ≡ true → among writer_ops k ≡ false
+    none k e = elim (cases_eq k 19) [ inl same ↦ ap (among writer_ops) same | inr apart ↦ absurd (true≢false (sym e ∙ ne_eqb k 19 apart)) ]
+
+-- ---- the sign of the test
+abbrev term_at : ℕ → List ℕ → ℕ → ℕ
+term_at c ks k = if among ks k then c else 0
+
+abbrev sign_sum : ℕ → ℕ
+sign_sum k =
+    (term_at 1 (0 ∷ 1 ∷ 2 ∷ 3 ∷ []) k + (term_at (P - 1) (4 ∷ []) k + (term_at 1 (5 ∷ []) k + (term_at (P - 1) (6 ∷ 7 ∷ 8 ∷ []) k
+    + (term_at 1 (9 ∷ 10 ∷ 11 ∷ 12 ∷ 13 ∷ []) k + term_at (P - 1) (14 ∷ 15 ∷ 16 ∷ 17 ∷ []) k) % P) % P) % P) % P) % P
+
+each_tested : (test : ℕ → Bool) (ks : List ℕ) → list_all test ks ≡ true → AllByRecursion (λ k. test k ≡ true) ks
+each_tested test [] e = tt
+each_tested test (k ∷ ks) e = let parts = and_parts (test k) (list_all test ks) e in (parts.0, each_tested test ks parts.1)
+
+sign_number : (k : ℕ) → is_used k ≡ true → sign_sum k ≡ sign_at k
+sign_number k used =
+    let each = each_tested (λ k. sign_sum k == sign_at k) USED refl in
+    eqb-true (sign_sum k) (sign_at k) (among_each (λ k. (sign_sum k == sign_at k) ≡ true) USED each k used)
+
+pub sign_value : (z : List ℕ) (op k : ℕ) → IsOpcode z op k → value (sign_of op) z ≡ sign_at k
+sign_value z op k row =
+    let terms_are : (c : ℕ) (ks : List ℕ) → c < P → distinct ks ≡ true → value (opcode_terms c op ks) z ≡ term_at c ks k =
+    λ c ks small apart. opcode_terms_sound z c op k ks small row apart in
+    let fifth : Combination = opcode_terms (P - 1) op (14 ∷ 15 ∷ 16 ∷ 17 ∷ []) in
+    let fourth : Combination = opcode_sum op (9 ∷ 10 ∷ 11 ∷ 12 ∷ 13 ∷ []) ++ fifth in
+    let third : Combination = opcode_terms (P - 1) op (6 ∷ 7 ∷ 8 ∷ []) ++ fourth in
+    let second : Combination = opcode_sum op (5 ∷ []) ++ third in
+    let first : Combination = opcode_terms (P - 1) op (4 ∷ []) ++ second in
+    value-append (opcode_sum op (0 ∷ 1 ∷ 2 ∷ 3 ∷ [])) first z
+    ∙ ap₂ add (terms_are 1 (0 ∷ 1 ∷ 2 ∷ 3 ∷ []) (omega arith) refl) (value-append (opcode_terms (P - 1) op (4 ∷ [])) second z
+    ∙ ap₂ add (terms_are (P - 1) (4 ∷ []) (omega arith) refl) (value-append (opcode_sum op (5 ∷ [])) third z
+    ∙ ap₂ add (terms_are 1 (5 ∷ []) (omega arith) refl) (value-append (opcode_terms (P - 1) op (6 ∷ 7 ∷ 8 ∷ [])) fourth z
+    ∙ ap₂ add (terms_are (P - 1) (6 ∷ 7 ∷ 8 ∷ []) (omega arith) refl) (value-append (opcode_sum op (9 ∷ 10 ∷ 11 ∷ 12 ∷ 13 ∷ [])) fifth z
+    ∙ ap₂ add (terms_are 1 (9 ∷ 10 ∷ 11 ∷ 12 ∷ 13 ∷ []) (omega arith) refl)
+    (terms_are (P - 1) (14 ∷ 15 ∷ 16 ∷ 17 ∷ []) (omega arith) refl)))))
+    ∙ sign_number k (used_again k row.within row.used)
+  where
+    add : ℕ → ℕ → ℕ
+    add a b = (a + b) % P
+
+-- ---- the test at a shift, which says nothing of the halves
+held_by : (b : Bool) (g v : ℕ) → v < P → g ≡ flag_of b → g * v % P ≡ 0 → b ≡ true → v ≡ 0
+held_by true g v h e m is = omega (arith, ap (λ n. n * v % P) (sym e) ∙ m)
+held_by false g v h e m is = absurd (true≢false (sym is))
+
+same_number : (v y : ℕ) → v < P → y < P → ((P - 1) * v % P + y) % P ≡ 0 → y ≡ v
+same_number v y h k e = omega arith
+
+shift_place : (w : ℕ) → IsWidth w → (z : List ℕ) (next op : ℕ) (a : Bits) (from : Sources) (result k at : ℕ) → Assigns z → IsOpcode z op k
+    → Spells z a.first w at → Meets z (tested_of w op a from result next).list → among (11 ∷ 12 ∷ []) k ≡ true
+    → slice_index z (tested_of w op a from result next).answer ≡ at / 2 ^ place_bits w
+unfolding tested_of fresh put pure ◌>>=◌
+shift_place w width z next op a from result k at assigns row spells meets e =
+    let most = width_short w width in
+    let size : w ≡ place_bits w + (w - place_bits w) = omega (arith, width) in
+    let high = bits_combination (a.first + place_bits w) (w - place_bits w) in
+    let less = scaled (P - 1) high ++ wire next in
+    let spells_high = Spells-high z a.first (place_bits w) (w - place_bits w) at (subst (λ k. Spells z a.first k at) size spells) in
+    let high_is : value high z ≡ at / 2 ^ place_bits w = value-bits_below spells_high (omega arith) in
+    let small : at / 2 ^ place_bits w < P = subst (λ m. m < P) high_is (value-below high z) in
+    let less_is : value less z ≡ ((P - 1) * (at / 2 ^ place_bits w) % P + slice_index z next) % P =
+    value-append (scaled (P - 1) high) (wire next) z
+    ∙ ap₂ (λ p q. (p + q) % P) (value-scaled (P - 1) high z ∙ ap (λ m. (P - 1) * m % P) high_is) (value-wire assigns next) in
+    let gate = opcode_sum_sound z op k (11 ∷ 12 ∷ []) row refl in
+    same_number (at / 2 ^ place_bits w) (slice_index z next) small (wire-below assigns next)
+    (sym less_is ∙ held_by (among (11 ∷ 12 ∷ []) k) (value (opcode_sum op (11 ∷ 12 ∷ [])) z) (value less z) (value-below less z) gate meets.1.1.1.0 e)
+
+pub shift_tested : (w : ℕ) → IsWidth w → (z : List ℕ) (next : ℕ) (state : StateWires) (op : ℕ) (a : Bits) (from : Sources) (t : TapeWires)
+    (k at : ℕ) → Assigns z → IsOpcode z op k → Spells z a.first w at → Meets z (results_of w state op a from t next).list
+    → among (11 ∷ 12 ∷ []) k ≡ true
+    → slice_index z (results_of w state op a from t next).answer.tested ≡ at / 2 ^ place_bits w
+unfolding results_of pure ◌>>=◌
+shift_tested w width z next state op a from t k at assigns row spells meets e =
+    let word = result_of w state op from t next in
+    let tested = tested_of w op a from word.answer word.next in
+    let m1 = Meets-split z word.list _ meets in
+    let m2 = Meets-split z tested.list _ m1.1 in
+    shift_place w width z word.next op a from word.answer k at assigns row spells m2.0 e
+
+-- the operand is below w where the bits above the place in a word are 0
+pub within_word : (w : ℕ) → IsWidth w → (at : ℕ) → (if at / 2 ^ place_bits w == 0 then 1 else 0) ≡ flag_of (nat_lt at w)
+within_word w width = for_widths Within (λ at. grind (arith, nat_tests)) (λ at. grind (arith, nat_tests)) w width
+  where
+    Within : ℕ → Type 0
+    Within w = (at : ℕ) → (if at / 2 ^ place_bits w == 0 then 1 else 0) ≡ flag_of (nat_lt at w)
+
+pub sign_shift : (k : ℕ) → among (11 ∷ 12 ∷ []) k ≡ true → sign_at k ≡ 1
+sign_shift = among_each (λ k. sign_at k ≡ 1) (11 ∷ 12 ∷ []) (refl, (refl, tt))
+
+pub sign_division : (k : ℕ) → among (9 ∷ 10 ∷ []) k ≡ true → sign_at k ≡ 1
+sign_division = among_each (λ k. sign_at k ≡ 1) (9 ∷ 10 ∷ []) (refl, (refl, tt))

@@ -1,0 +1,86 @@
+-- The values of a step's wires, and what an assignment that has them meets and shows.
+use Rattle.std.specs.Prelude.{◌≡◌, ℕ, ◌+◌, ◌%◌, ◌^◌, ◌<◌, Bool, if◌then◌else◌, List, ◌∷◌, ◌++◌}
+use Rattle.tv_bits.specs.ZeroSign.{sign_at_zero, zero_sign_values}
+use Rattle.tv_core.specs.Laws.{Assigns, Meets, HasFrom}
+use Rattle.tv_decode.specs.Instructions.{instruction_values}
+use Rattle.tv_isa.specs.Instruction.{decode}
+use Rattle.tv_isa.specs.Opcodes.{among}
+use Rattle.tv_isa.specs.declared.instr.Instr.{Instr}
+use Rattle.tv_numbers.specs.Laws.{AtNumbers}
+use Rattle.tv_numbers.specs.Numbers.{operand_word, other_word, found, did_of}
+use Rattle.tv_numbers.specs.Tables.{store_ops}
+use Rattle.tv_numbers.specs.Views.{View}
+use Rattle.tv_regs.specs.Triple.{triple_values}
+use Rattle.tv_word.specs.Widths.{IsWidth}
+use Rattle.tv_cycle.specs.Arithmetic.{spelled_word, low_number, high_number, arithmetic_values}
+use Rattle.tv_cycle.specs.Cycle.{cycle_of, did}
+use Rattle.tv_cycle.specs.Flag.{sign_at, flag_values}
+use Rattle.tv_cycle.specs.Memory.{memory_values}
+use Rattle.tv_cycle.specs.Operand.{operand_values}
+use Rattle.tv_cycle.specs.Pc.{pc_values}
+use Rattle.tv_cycle.specs.Results.{result_number, tested_number, results_values}
+use Rattle.tv_cycle.specs.States.{state_in}
+use Rattle.tv_cycle.specs.Tapes.{tapes_values}
+use Rattle.tv_cycle.specs.Written.{written_values}
+use Rattle.tv_cycle.specs.declared.records.StateWires.{StateWires}
+
+-- the halves of the row of an instruction, where the data word is o
+abbrev pub row_low : ℕ → View → Instr → ℕ → ℕ
+row_low w v i o = low_number w i.op (other_word v i) (operand_word v i) o
+
+abbrev pub row_high : ℕ → View → Instr → ℕ
+row_high w v i = high_number w i.op (other_word v i) (operand_word v i)
+
+-- from a view by an instruction, with a row of these halves, and whether a word of the auxiliary tape is taken
+module _ (w n : ℕ) (v : View) (i : Instr) (low high : ℕ) (takes : Bool) where
+  -- the number that is tested, and the test
+  abbrev pub tested_in : ℕ
+  tested_in =
+      let finds = found w n v i low takes in
+      tested_number w i.op (operand_word v i) low high (result_number w i.op (operand_word v i) low high finds)
+
+  abbrev pub test_in : ℕ
+  test_in = sign_at_zero tested_in (sign_at i.op)
+
+  -- the values of the parts after the tapes, f being the test: memory, the result, the sign of the test, the registers
+  -- written, the flag and the program counter
+  abbrev pub effects_values : ℕ → List ℕ
+  effects_values f =
+      memory_values w n v i (spelled_word w i.op (other_word v i) (operand_word v i)) low takes
+      ++ (results_values w i.op (operand_word v i) low high (found w n v i low takes)
+      ++ (zero_sign_values tested_in (sign_at i.op)
+      ++ (written_values w n v i low takes
+      ++ (flag_values w n v i low takes f
+      ++ pc_values w v i))))
+
+-- the number of the other register
+abbrev pub other_register : Instr → ℕ
+other_register i = if among store_ops i.op then i.dest else i.source
+
+-- the values of a step's wires: from the view before it, its instruction of the words head and tail, its data word o, and
+-- whether it takes that of the auxiliary tape
+abbrev pub cycle_values : ℕ → ℕ → View → ℕ → ℕ → ℕ → Bool → List ℕ
+cycle_values w n v head tail o takes =
+    let i = decode w head tail in
+    let low = row_low w v i o in
+    let high = row_high w v i in
+    let f = test_in w n v i low high takes in
+    instruction_values w head tail
+    ++ (triple_values (other_register i) (tail % 16) i.dest v.regs
+    ++ (operand_values w (operand_word v i)
+    ++ f ∷ (arithmetic_values w i.op (other_word v i) (operand_word v i) f low high
+    ++ (tapes_values w n v i low takes
+    ++ effects_values w n v i low high takes f))))
+
+-- z meets what a step puts, and the numbers in its wires are the step by these words: the data word that they show is the
+-- low half of the row, which is o where the instruction loads, stores or reads
+pub record MeetsStep (w : ℕ) (z : List ℕ) (n : ℕ) (state : StateWires) (time next head tail o : ℕ) (takes : Bool) : Type 0 where
+  pub met : Meets z (cycle_of w n state time next).list
+  pub shows : did z state (cycle_of w n state time next).answer
+      ≡ did_of w n time (state_in z state) head tail (row_low w (state_in z state) (decode w head tail) o) takes
+
+-- so it is of an assignment that has a step's values at the wires that are made, the step being in range
+abbrev pub CycleIsComplete : Type 0
+CycleIsComplete = (w : ℕ) → IsWidth w → (z : List ℕ) (n : ℕ) (state : StateWires) (time next head tail o : ℕ) (takes : Bool) → time + 2 < 2 ^ 32 → Assigns z
+    → AtNumbers w n (state_in z state) head tail o takes → HasFrom z next (cycle_values w n (state_in z state) head tail o takes)
+    → MeetsStep w z n state time next head tail o takes

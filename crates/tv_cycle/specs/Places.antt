@@ -1,0 +1,90 @@
+-- Where a step's wires stand: all that it answers follows from its first wire, the wires of the state before it, and the
+-- time.
+use Rattle.std.specs.Prelude.{◌≡◌, ℕ, ◌+◌, ◌-◌, ◌*◌, ◌/◌, [], ◌∷◌, ◌++◌, length}
+use Rattle.std.specs.List.{range_with_len}
+use Rattle.tv_core.specs.Combinations.{wire, constant}
+use Rattle.tv_core.specs.declared.lines.LineLc.{LineLc}
+use Rattle.tv_isa.specs.declared.opcode.TheConstants.{ANSWER}
+use Rattle.tv_word.specs.Widths.{IsWidth}
+use Rattle.tv_cycle.specs.Cycle.{cell_of, cycle_of}
+use Rattle.tv_cycle.specs.OpcodeSums.{place_of}
+use Rattle.tv_cycle.specs.declared.block.Block.{Block}
+use Rattle.tv_cycle.specs.declared.records.StateWires.{StateWires}
+
+-- how many wires and constraints a step makes
+abbrev pub cycle_made : ℕ → ℕ
+cycle_made w = 6 * w + 3 * (w / 16) + 113
+
+abbrev pub cycle_added : ℕ → ℕ
+cycle_added w = 6 * w + 3 * (w / 16) + 126
+
+-- ---- where the parts begin, from a step's first wire on
+-- the registers that are read, after the instruction; the operand; the arithmetic, after the wire of the test
+abbrev pub registers_at : ℕ → ℕ
+registers_at w = 2 * w + 26
+
+abbrev pub operand_at : ℕ → ℕ
+operand_at w = 2 * w + 57
+
+abbrev pub arithmetic_at : ℕ → ℕ
+arithmetic_at w = 3 * w + 59
+
+-- the tapes, memory, the result, the registers written, the flag, and the program counter
+abbrev pub tapes_at : ℕ → ℕ
+tapes_at w = 6 * w + w / 16 + 71
+
+abbrev pub memory_at : ℕ → ℕ
+memory_at w = tapes_at w + 7
+
+abbrev pub results_at : ℕ → ℕ
+results_at w = memory_at w + w / 8 + 5
+
+abbrev pub written_at : ℕ → ℕ
+written_at w = results_at w + 6
+
+abbrev pub flag_at : ℕ → ℕ
+flag_at w = written_at w + 17
+
+abbrev pub pc_at : ℕ → ℕ
+pc_at w = flag_at w + 3
+
+-- ---- what a step answers
+-- the wires of the state after a step whose first wire is `at`
+abbrev pub next_state : ℕ → ℕ → StateWires
+next_state w at = record {
+  pc = at + (pc_at w + 3);
+  regs = range_with_len (at + (written_at w + 1)) 16;
+  flag = at + (flag_at w + 2);
+  taken_of_primary = at + (tapes_at w + 3);
+  aux_ended = at + (tapes_at w + 6);
+}
+
+-- its three lines
+abbrev pub first_line : ℕ → StateWires → ℕ → ℕ → LineLc
+first_line w state time at = record { cell = cell_of w state.pc; time = constant time; old = wire (at + (2 * w + 24)); new = wire (at + (2 * w + 24)) }
+
+abbrev pub second_line : ℕ → StateWires → ℕ → ℕ → LineLc
+second_line w state time at = record { cell = cell_of w state.pc ++ constant 1; time = constant (time + 1); old = wire (at + (2 * w + 25)); new = wire (at + (2 * w + 25)) }
+
+abbrev pub third_line : ℕ → ℕ → ℕ → LineLc
+third_line w time at = record {
+  cell = wire (at + (memory_at w + 1));
+  time = constant (time + 2);
+  old = wire (at + (memory_at w + 2));
+  new = wire (at + (memory_at w + (w / 8 + 4)));
+}
+
+abbrev pub cycle_wires : ℕ → StateWires → ℕ → ℕ → Block
+cycle_wires w state time at = record {
+  next = next_state w at;
+  lines = first_line w state time at ∷ second_line w state time at ∷ third_line w time at ∷ [];
+  spot = record { taken = at + (tapes_at w + 5); word = at + (arithmetic_at w + 3 * w) };
+  answers = at + (w - 5 + place_of ANSWER);
+  value = at + operand_at w;
+}
+
+-- a step answers those wires, makes so many, and puts so many constraints
+pub record CyclePlaces : Type 0 where
+  pub answer : (w : ℕ) → IsWidth w → (n : ℕ) (state : StateWires) (time next : ℕ) → (cycle_of w n state time next).answer ≡ cycle_wires w state time next
+  pub end : (w : ℕ) → IsWidth w → (n : ℕ) (state : StateWires) (time next : ℕ) → (cycle_of w n state time next).next ≡ next + cycle_made w
+  pub constraints : (w : ℕ) → IsWidth w → (n : ℕ) (state : StateWires) (time next : ℕ) → length (cycle_of w n state time next).list ≡ cycle_added w

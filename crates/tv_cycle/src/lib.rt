@@ -1,0 +1,62 @@
+//! A step of the machine as a circuit of 324 constraints, 225 at 16 bits: its parts, each with code,
+//! values and laws, and their composition `cycle_of`, which is sound and complete. The program
+//! doesn't stand on it yet.
+#![tactic(auto)]
+
+mod accumulation;
+mod arithmetic;
+mod block;
+mod cycle;
+mod flag;
+mod laws;
+mod memory;
+mod opcode_sums;
+mod operand;
+mod pc;
+mod places;
+mod records;
+mod results;
+mod step_numbers;
+mod tapes;
+mod written;
+
+ghost use Rattle.tv_cycle.specs.Cycle.{CycleCosts};
+
+pub use accumulation::{
+    accumulated, accumulated_fills, accumulated_is_complete, accumulated_is_sound,
+};
+pub use arithmetic::{
+    arithmetic_costs, arithmetic_fills, arithmetic_is_complete, arithmetic_is_sound,
+    fill_arithmetic, put_arithmetic, row_halves, shift_test_is_sound,
+};
+pub use block::Block;
+pub use cycle::cycle_is_complete;
+pub use flag::{fill_flag, flag_costs, flag_fills, flag_is_complete, flag_is_sound, put_flag};
+pub use laws::cycle_is_sound;
+pub use memory::{
+    fill_memory, memory_costs, memory_fills, memory_is_complete, memory_is_sound, put_memory,
+};
+pub use opcode_sums::{opcode_sum_is_sound, opcode_wire, plus_opcodes, set_opcodes};
+pub use operand::{
+    fill_operand, operand_costs, operand_fills, operand_is_complete, operand_is_sound, put_operand,
+};
+pub use pc::{fill_pc, pc_costs, pc_fills, pc_is_complete, pc_is_sound, put_pc};
+pub use places::cycle_is_placed;
+pub use records::{
+    ArithmeticWires, DataWires, LineWires, OperandWires, ResultWires, Sources, Spot, StateWires,
+    StoreWires, TapeWires,
+};
+pub use results::{
+    fill_results, put_results, results_are_complete, results_are_sound, results_cost, results_fill,
+    set_sign,
+};
+pub use step_numbers::StepNumbers;
+pub use tapes::{
+    fill_tapes, put_tapes, tapes_are_complete, tapes_are_sound, tapes_cost, tapes_fill,
+};
+pub use written::{fill_written, put_written, written_costs, written_fills, written_is_complete};
+
+/// Says how many constraints, wires and terms a step costs.
+pub fn cycle_costs()
+    ensures { CycleCosts }
+{}
