@@ -1,7 +1,7 @@
 """Draws Benes' network on eight items as docs/network.svg: python3 docs/network.py > docs/network.svg
 
 Switch j of a first column takes items 2j and 2j + 1; its first output is item j of the upper network, its
-second item j of the lower one. Switch j of a last column takes output j of each, and gives outputs 2j and 2j + 1.
+second item j of the lower one. Switch j of a last column takes output j of each; its outputs are 2j and 2j + 1.
 The switches that Waksman's network leaves out are drawn hollow.
 """
 
@@ -39,6 +39,7 @@ def main():
     x = lambda column: 70 + GAP * column
     width, height = x(columns - 1) + 70, y(size - 1) + 30
     print(f'<svg xmlns="http://www.w3.org/2000/svg" viewBox="0 0 {width} {height}" font-family="sans-serif" font-size="14">')
+    print(f'<rect width="{width}" height="{height}" fill="#fff"/>')
     print('<g stroke="#555" fill="none">')
     for row in rows:
         print(f'<path d="M30 {y(row)} H{x(0) - 18}"/>')

@@ -1,67 +1,72 @@
 """Draws the parts of a step's constraints as docs/step.svg: python3 docs/step.py > docs/step.svg
 
-A box is a part, with what it makes and its wires and constraints at 32 bits; the main arrows are drawn, from a part to
-one that takes what it makes. On the left is the state before the step, on the right what the step answers.
+The boxes stand on a diagonal, in the order in which the parts are put: first the state before the step, then the parts,
+with their wires and constraints at 32 bits, then what the step returns. What a part makes leaves it to the right, and
+goes down into each part that takes it, at a dot; lines that cross without a dot don't meet. The parts and what they take
+are those of `compute_of` and `block_of` in crates/tv_block/specs/Block.antt.
 """
 
-WIDTH, HEIGHT = 980, 560
-
-BOXES = {  # name: (x, y, lines of text)
-    "state": (20, 230, ["state before", "pc, 16 registers,", "flag, taken, ended"]),
-    "fetch": (200, 40, ["instruction", "two new words, fields", "144 wires, 149 constraints"]),
-    "operands": (200, 150, ["operands", "operand and other word, bits", "69 wires, 116 constraints"]),
-    "groups": (200, 260, ["operations", "sum, difference, order, ..", "365 wires, 374 constraints"]),
-    "tapes": (200, 370, ["tapes", "what is taken, ended bit", "8 wires, 8 constraints"]),
-    "data": (450, 370, ["data word", "a new word, its cell", "37 wires, 37 constraints"]),
-    "store": (450, 260, ["loads and stores", "byte, word after the step", "7 wires, 7 constraints"]),
-    "result": (450, 150, ["registers", "result, write", "19 wires, 35 constraints"]),
-    "flag": (450, 40, ["flag", "a choice by the opcode", "1 wire, 18 constraints"]),
-    "pc": (450, 480, ["program counter", "wraps, jumps", "4 wires, 8 constraints"]),
-    "next": (740, 110, ["state after", "pc, 16 registers,", "flag, taken, ended"]),
-    "lines": (740, 300, ["three lines of memory", "two of the instruction,", "one of the data word"]),
-    "spot": (740, 430, ["answers and value;", "whether a word of the", "auxiliary tape is taken"]),
-}
-
-ARROWS = [
-    ("state", "operands"), ("fetch", "operands"), ("operands", "groups"), ("state", "tapes"),
-    ("tapes", "data"), ("data", "store"), ("store", "result"), ("groups", "result"), ("groups", "flag"),
-    ("fetch", "flag"), ("state", "pc"), ("flag", "next"), ("result", "next"), ("store", "lines"),
-    ("data", "lines"), ("data", "spot"), ("pc", "next"),
+BOXES = [  # name, what it makes, its size, what it takes
+    ("state before", "pc, registers, flag, tapes", "", []),
+    ("instruction", "two words, opcode's row", "144 wires, 149 constraints", []),
+    ("operands", "operand and other word", "69 wires, 116 constraints", ["state before", "instruction"]),
+    ("operations", "sum, difference, order, ..", "365 wires, 374 constraints", ["operands"]),
+    ("tapes", "what is taken, ended", "8 wires, 8 constraints", ["state before", "instruction", "operands"]),
+    ("data word", "a new word, its cell", "37 wires, 37 constraints", ["state before", "instruction", "operands", "tapes"]),
+    ("loads and stores", "byte, word after the step", "7 wires, 7 constraints", ["instruction", "operands", "data word"]),
+    ("registers", "result, registers", "19 wires, 35 constraints", ["state before", "instruction", "operands", "operations", "data word", "loads and stores"]),
+    ("flag", "flag", "1 wire, 18 constraints", ["state before", "instruction", "operands", "operations", "tapes"]),
+    ("program counter", "pc", "4 wires, 8 constraints", ["state before", "instruction", "operands"]),
+    ("state after", "pc, registers, flag, tapes", "", ["tapes", "registers", "flag", "program counter"]),
+    ("three lines of memory", "two fetched, one of data", "", ["state before", "instruction", "data word", "loads and stores"]),
+    ("answer, taken word", "whether, and which", "", ["instruction", "operands", "tapes", "data word"]),
 ]
 
-BOX_WIDTH, BOX_HEIGHT = 200, 72
+WIDTH, HEIGHT = 190, 52  # of a box
+ACROSS, DOWN = 62, 64  # from a box to the next one
+MARGIN = 16
+
+NUMBER = {name: i for i, (name, *_) in enumerate(BOXES)}
+PARTS = range(1, 10)  # the boxes that are parts
 
 
-def size(name):
-    return (150 if name == "state" else BOX_WIDTH), BOX_HEIGHT
+def corner(i):
+    return MARGIN + ACROSS * i, MARGIN + DOWN * i
 
 
-def ends(start, end):
-    """Where the arrow between two boxes begins and ends: at the sides that face each other."""
-    (x, y, _), (u, v, _) = BOXES[start], BOXES[end]
-    (w, h), (p, q) = size(start), size(end)
-    if x + w <= u:
-        return (x + w, y + h / 2), (u, v + q / 2)
-    if y < v:
-        return (x + w / 2, y + h), (u + p / 2, v)
-    return (x + w / 2, y), (u + p / 2, v + q)
+def row(i):
+    """The height at which what box i makes goes to the right."""
+    return corner(i)[1] + HEIGHT / 2
+
+
+def column(i):
+    """Where what box i takes comes down: right of all boxes before it."""
+    return corner(i)[0] + WIDTH - ACROSS / 2
 
 
 def main():
-    print(f'<svg xmlns="http://www.w3.org/2000/svg" viewBox="0 0 {WIDTH} {HEIGHT}" font-family="sans-serif" font-size="13">')
+    last = corner(len(BOXES) - 1)
+    width, height = last[0] + WIDTH + MARGIN, last[1] + HEIGHT + MARGIN
+    print(f'<svg xmlns="http://www.w3.org/2000/svg" viewBox="0 0 {width} {height}" font-family="sans-serif" font-size="12">')
     print('<defs><marker id="tip" markerWidth="8" markerHeight="8" refX="7" refY="4" orient="auto"><path d="M0 0 L8 4 L0 8 z" fill="#555"/></marker></defs>')
-    print('<g stroke="#555" fill="none" marker-end="url(#tip)">')
-    for start, end in ARROWS:
-        (x, y), (u, v) = ends(start, end)
-        print(f'<path marker-end="url(#tip)" d="M{x:g} {y:g} L{u:g} {v:g}"/>')
-    print("</g>")
-    for name, (x, y, texts) in BOXES.items():
-        w, h = size(name)
-        fill = "#fff" if name in ("state", "next", "lines", "spot") else "#cde"
-        print(f'<rect x="{x}" y="{y}" width="{w}" height="{h}" fill="{fill}" stroke="#000"/>')
-        for row, text in enumerate(texts):
-            weight = ' font-weight="bold"' if row == 0 else ""
-            print(f'<text x="{x + w / 2:g}" y="{y + 20 + 20 * row}" text-anchor="middle"{weight}>{text}</text>')
+    print(f'<rect width="{width}" height="{height}" fill="#fff"/>')
+    takers = {i: [j for j, box in enumerate(BOXES) if BOXES[i][0] in box[3]] for i in range(len(BOXES))}
+    for i, (name, *_, taken) in enumerate(BOXES):
+        if takers[i]:
+            print(f'<path d="M{corner(i)[0] + WIDTH} {row(i):g} H{column(takers[i][-1]):g}" stroke="#555" fill="none"/>')
+        if taken:
+            top = min(row(NUMBER[one]) for one in taken)
+            print(f'<path d="M{column(i):g} {top:g} V{corner(i)[1]}" stroke="#555" fill="none" marker-end="url(#tip)"/>')
+        for one in taken:
+            print(f'<circle cx="{column(i):g}" cy="{row(NUMBER[one]):g}" r="3" fill="#555"/>')
+    for i, (name, makes, size, _) in enumerate(BOXES):
+        x, y = corner(i)
+        fill = "#cde" if i in PARTS else "#fff"
+        print(f'<rect x="{x}" y="{y}" width="{WIDTH}" height="{HEIGHT}" fill="{fill}" stroke="#000"/>')
+        texts = [text for text in (name, makes, size) if text]
+        for line, text in enumerate(texts):
+            weight = ' font-weight="bold"' if line == 0 else ""
+            print(f'<text x="{x + WIDTH / 2:g}" y="{y + (17 if len(texts) == 3 else 24) + 15 * line}" text-anchor="middle"{weight}>{text}</text>')
     print("</svg>")
 
 

@@ -1,35 +1,36 @@
 """Draws a system's wires and constraints as docs/system.svg: python3 docs/system.py > docs/system.svg
 
-Above the wires in their order, below them the constraints that hold each part; an arrow leads from wires to the
-constraints over them.
+Above the wires in their order, below them the constraints that hold each part; a bracket spans the wires that the
+constraints under it are about. The order is that of `layout_of` in crates/tv_layout/specs/Layout.antt.
 """
 
-WIDTH, HEIGHT = 1000, 330
+WIDTH, HEIGHT = 944, 330
 
 WIRES = [  # text, width, private
-    (["0", "the 1"], 60, False),
-    (["1", "answer"], 70, False),
-    (["2 .. n + 1", "tape"], 90, False),
-    (["W n", "bits of the", "tape's words"], 100, True),
-    (["1", "a wire", "that is 0"], 80, True),
-    (["654 or 404", "step 0"], 110, True),
-    (["654 or 404", "step 1"], 110, True),
-    (["..", "T steps"], 80, True),
-    (["5 a switch", "network"], 110, True),
-    (["133 a line, less 18", "lines in", "address order"], 150, True),
+    (["0", "the 1"], 56, False),
+    (["1", "answer"], 66, False),
+    (["2 .. n + 1", "tape"], 86, False),
+    (["W n", "bits of the", "tape's words"], 96, True),
+    (["1", "a wire", "that is 0"], 76, True),
+    (["R", "step 1"], 96, True),
+    (["R", "step 2"], 96, True),
+    (["..", "T steps"], 76, True),
+    (["5 a switch", "network"], 106, True),
+    (["m + 1 a line", "within m bits:", "reach and e"], 150, True),
 ]
 
 CONSTRAINTS = [  # text, over the wires from .. to ..
-    (["each word of the", "tape is a word"], 2, 3),
-    (["0"], 4, 4),
-    (["each step from the state", "that the one before leads to"], 4, 7),
-    (["the last step answers,", "and its value is wire 1"], 1, 7),
-    (["memory: the lines are honest"], 5, 9),
+    (["each word of the tape is a word"], 2, 3),
+    (["it is 0"], 4, 4),
+    (["each step from the state that the one before leads to"], 4, 7),
+    (["the last step answers, and its value is wire 1"], 1, 7),
+    (["memory: the lines are honest"], 2, 9),
 ]
 
 
 def main():
     print(f'<svg xmlns="http://www.w3.org/2000/svg" viewBox="0 0 {WIDTH} {HEIGHT}" font-family="sans-serif" font-size="12">')
+    print(f'<rect width="{WIDTH}" height="{HEIGHT}" fill="#fff"/>')
     x, places = 20, []
     for texts, width, private in WIRES:
         places.append((x, width))
