@@ -1,7 +1,7 @@
 -- The laws of an instruction with a row of the used opcodes.
-use Rattle.std.proofs.Common.{◌⊎◌, ◌≡◌, ◌≢◌, ℕ, zero, suc, ◌+◌, ◌-◌, ◌*◌, ◌%◌, ◌^◌, ◌<◌, ◌≤◌, ◌==◌, ◌&&◌, not, Bool, true, false, if◌then◌else◌, List, [], ◌∷◌, ◌++◌, length, inl, inr, refl, sym, ◌∙◌, ap, ap₂, subst, arith, mod-lt, eq-eqb, mul-zero, mul-one, zero-mul}
+use Rattle.std.proofs.Common.{◌⊎◌, ◌≡◌, ◌≢◌, ℕ, zero, suc, ◌+◌, ◌-◌, ◌*◌, ◌%◌, ◌^◌, ◌<◌, ◌≤◌, ◌==◌, Bool, true, if◌then◌else◌, List, [], ◌∷◌, ◌++◌, length, inl, inr, refl, sym, ◌∙◌, ap, ap₂, subst, arith, mod-lt, eq-eqb, mul-zero, mul-one, zero-mul}
 use Rattle.std.specs.Prelude.{slice_index}
-use Rattle.std.proofs.lemmas.Bool.{cases_eq, cases_lt, and_parts, eqb-true, eqb-false, not-true}
+use Rattle.std.proofs.lemmas.Bool.{cases_eq, cases_lt}
 use Rattle.std.proofs.lemmas.Bool.Decides.{nat_tests}
 use Rattle.std.proofs.lemmas.List.{length-append}
 use Rattle.std.proofs.lemmas.Nat.{pow_pos}
@@ -17,7 +17,7 @@ use Rattle.tv_bits.specs.Bits.{Spells, spelled, bits_combination, bits_values, n
 use Rattle.tv_bits.specs.OneHot.{IsOneHot, row_sum, one_at}
 use Rattle.tv_bits.specs.Times.{kept_of, times_of}
 use Rattle.tv_core.proofs.BelowLaws.{sum_below-zero, sum_below-suc, sum_below-add, sum_below-same, sum_below-single, sum_below-zeros, value-weighted, has_each, length-each_below}
-use Rattle.tv_core.proofs.CombinationLaws.{value-below, value-append, value-cons, value-constant}
+use Rattle.tv_core.proofs.CombinationLaws.{value-below, value-append, value-constant}
 use Rattle.tv_core.proofs.FieldLaws.{InField-none, InField-cons, InField-append, InField-each_below}
 use Rattle.tv_core.proofs.Meeting.{Meets-split, Meets-join, HasFrom-split}
 use Rattle.tv_core.specs.Below.{sum_below, weighted}
@@ -26,11 +26,11 @@ use Rattle.tv_core.specs.Constraints.{Combination, value}
 use Rattle.tv_core.specs.Laws.{Assigns, Meets, HasFrom, InField}
 use Rattle.tv_core.specs.Meanings.{terms_in}
 use Rattle.tv_core.specs.declared.field.TheConstants.{P}
-use Rattle.tv_decode.specs.Instructions.{place, opcode_at, IsOpcodeRow, opcode_values, group_times, distinct, number_of, opcode_weight, head_of, instruction_of, instruction_wires, instruction_values, IsDecoded, InstructionIsSound, InstructionIsComplete, InstructionSizes, InstructionCosts, OpcodeWireIsRight, GroupIsRight}
+use Rattle.tv_decode.specs.Instructions.{place, opcode_at, IsOpcodeRow, opcode_values, number_of, opcode_weight, head_of, instruction_of, instruction_wires, instruction_values, IsDecoded, InstructionIsSound, InstructionIsComplete, InstructionSizes, InstructionCosts, OpcodeWireIsRight}
 use Rattle.tv_decode.specs.declared.records.InstructionWires.{InstructionWires}
 use Rattle.tv_decode.proofs.FieldsLaws.{field_spelled}
 use Rattle.tv_isa.specs.Instruction.{field, decode}
-use Rattle.tv_isa.specs.Opcodes.{among, is_used}
+use Rattle.tv_isa.specs.Opcodes.{is_used}
 use Rattle.tv_word.proofs.WidthLaws.{for_widths}
 use Rattle.tv_word.specs.Widths.{IsWidth}
 
@@ -137,7 +137,7 @@ module _ (w : ℕ) (width : IsWidth w) (v k : ℕ) (low : v < 2 ^ (w - 5)) (high
 whole_again : (w : ℕ) → IsWidth w → (h : ℕ) → h < 2 ^ w → h % 2 ^ (w - 5) + field (w - 5) 5 h * 2 ^ (w - 5) ≡ h
 whole_again w width h small = grind arith
 
--- ---- groups of opcodes
+-- ---- the row
 abbrev flag : Bool → ℕ
 flag b = if b then 1 else 0
 
@@ -156,33 +156,6 @@ opcode_wire z first op k is u = elim (cases_eq k op) [
   where
     none_at : (a b : ℕ) → a ≢ b → flag (a == b) ≡ 0
     none_at a b apart = grind (arith, nat_tests)
-
-cold_sum : (c n v : ℕ) → n ≡ 0 → v < P → (c * n + v) % P ≡ v
-cold_sum c n v e h = rw e (omega arith)
-
-hot_sum : (c n v : ℕ) → c < P → n ≡ 1 → v ≡ 0 → (c * n + v) % P ≡ c
-hot_sum c n v h e f = rw (e, f) (omega arith)
-
-abbrev chosen_if : ℕ → Bool → ℕ
-chosen_if c b = if b then c else 0
-
-pub group_right : GroupIsRight
-group_right z c first op [] small is parts = refl
-group_right z c first op (j ∷ js) small is parts =
-    let split = and_parts (is_used j && not (among js j)) (distinct js) parts in
-    let here = and_parts (is_used j) (not (among js j)) split.0 in
-    value-cons c (first + place j) (group_times c first js) z ∙ by_test (j == op) refl here (group_right z c first op js small is split.1)
-  where
-    by_test : (t : Bool) → (j == op) ≡ t → (is_used j ≡ true) × (not (among js j) ≡ true) → value (group_times c first js) z ≡ chosen_if c (among js op)
-        → (c * slice_index z (first + place j) + value (group_times c first js) z) % P ≡ chosen_if c (among (j ∷ js) op)
-    by_test true t here rest =
-        let same : j ≡ op = eqb-true j op t in
-        let none : among js op ≡ false = ap (among js) (sym same) ∙ not-true (among js j) here.1 in
-        hot_sum c (slice_index z (first + place j)) (value (group_times c first js) z) small (wire_here z first op j is same) (rest ∙ ap (chosen_if c) none)
-        ∙ sym (ap (λ b. chosen_if c (if b then true else among js op)) t)
-    by_test false t here rest =
-        cold_sum c (slice_index z (first + place j)) (value (group_times c first js) z) (wire_there z first op j is here.0 (eqb-false j op t)) (value-below (group_times c first js) z) ∙ rest
-        ∙ sym (ap (λ b. chosen_if c (if b then true else among js op)) t)
 
 -- ---- the first word's combination
 zero_both : (a b : ℕ) → 0 * a * b ≡ 0

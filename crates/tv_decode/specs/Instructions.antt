@@ -1,5 +1,5 @@
 -- The two words of an instruction, with a one-hot row of the used opcodes in place of the opcode's bits.
-use Rattle.std.specs.Prelude.{◌≡◌, ℕ, ◌+◌, ◌-◌, ◌*◌, ◌%◌, ◌^◌, ◌<◌, ◌==◌, ◌&&◌, Bool, true, not, nat_lt, if◌then◌else◌, List, [], ◌∷◌, ◌++◌, length, map, slice_index}
+use Rattle.std.specs.Prelude.{◌≡◌, ℕ, ◌+◌, ◌-◌, ◌*◌, ◌%◌, ◌^◌, ◌<◌, ◌==◌, true, nat_lt, if◌then◌else◌, List, [], ◌∷◌, ◌++◌, length, slice_index}
 use Rattle.tv_bits.specs.Bits.{Spells, part, bits_combination, bits_values, new_bits_of}
 use Rattle.tv_bits.specs.OneHot.{IsOneHot, row_sum, one_at}
 use Rattle.tv_bits.specs.Times.{kept_of}
@@ -10,10 +10,9 @@ use Rattle.tv_core.specs.Combinations.{constant}
 use Rattle.tv_core.specs.Constraints.{Combination, value}
 use Rattle.tv_core.specs.Laws.{Assigns, Meets, HasFrom, Fills, InField}
 use Rattle.tv_core.specs.Meanings.{terms_in}
-use Rattle.tv_core.specs.declared.field.TheConstants.{P}
 use Rattle.tv_decode.specs.declared.records.InstructionWires.{InstructionWires}
 use Rattle.tv_isa.specs.Instruction.{field, decode}
-use Rattle.tv_isa.specs.Opcodes.{among, is_used}
+use Rattle.tv_isa.specs.Opcodes.{is_used}
 use Rattle.tv_isa.specs.declared.opcode.TheConstants.{USED, UNUSED, STORE_B}
 use Rattle.tv_word.specs.Widths.{IsWidth}
 
@@ -38,18 +37,6 @@ pub record IsOpcodeRow (z : List ℕ) (first op : ℕ) : Type 0 where
 -- the values of the row
 abbrev pub opcode_values : ℕ → List ℕ
 opcode_values op = each_below opcodes (one_at (place op))
-
--- the wires of these opcodes, each times c, and their sum
-abbrev pub group_times : ℕ → ℕ → List ℕ → Combination
-group_times c first ks = map (λ k. (c, first + place k)) ks
-
-abbrev pub group : ℕ → List ℕ → Combination
-group first ks = group_times 1 first ks
-
--- these are used opcodes, and none of them stands twice
-abbrev pub distinct : List ℕ → Bool
-distinct [] = true
-distinct (k ∷ ks) = (is_used k && not (among ks k)) && distinct ks
 
 -- ---- the circuit
 -- the bits that name the source and the destination, and the register that the second word names; and the immediate bit
@@ -142,8 +129,3 @@ pub record InstructionCosts : Type 0 where
 -- the wire of an opcode is 1 exactly where it is the instruction's
 abbrev pub OpcodeWireIsRight : Type 0
 OpcodeWireIsRight = (z : List ℕ) (first op k : ℕ) → IsOpcodeRow z first op → is_used k ≡ true → slice_index z (first + place k) ≡ (if k == op then 1 else 0)
-
--- a group is c where the instruction's opcode is one of the group's, and else 0
-abbrev pub GroupIsRight : Type 0
-GroupIsRight = (z : List ℕ) (c first op : ℕ) (ks : List ℕ) → c < P → IsOpcodeRow z first op → distinct ks ≡ true
-    → value (group_times c first ks) z ≡ (if among ks op then c else 0)

@@ -10,13 +10,13 @@ ghost use Rattle.tv_core.specs.Circuits.{put};
 ghost use Rattle.tv_core.specs.Combinations.{constant, top};
 ghost use Rattle.tv_core.specs.Giving.{GivesIn};
 ghost use Rattle.tv_core.specs.Sinks.{PutsIn, Grows, Room};
-ghost use Rattle.tv_decode.specs.Instructions.{place, opcode_at, opcode_weight, head_of, group};
-ghost use Rattle.tv_decode.specs.Instructions.{group_times, opcode_values, instruction_of};
+ghost use Rattle.tv_decode.specs.Instructions.{place, opcode_at, opcode_weight, head_of};
+ghost use Rattle.tv_decode.specs.Instructions.{opcode_values, instruction_of};
 ghost use Rattle.tv_decode.specs.Instructions.{instruction_wires, instruction_values};
 ghost use Rattle.tv_decode.specs.Instructions.{source_bits, dest_bits, register_bits, imm_wire};
 ghost use Rattle.tv_decode.specs.Instructions.{InstructionIsSound, InstructionIsComplete};
 ghost use Rattle.tv_decode.specs.Instructions.{InstructionSizes, InstructionCosts};
-ghost use Rattle.tv_decode.specs.Instructions.{OpcodeWireIsRight, GroupIsRight};
+ghost use Rattle.tv_decode.specs.Instructions.{OpcodeWireIsRight};
 ghost use Rattle.tv_isa.specs.Instruction.{decode};
 ghost use Rattle.tv_word.specs.Widths.{IsWidth};
 
@@ -123,34 +123,6 @@ fn place(k: u32) -> u32
     }
 }
 
-/// Makes `lc` the sum of the wires of these opcodes in the row that begins at `op`: 1 where the
-/// instruction has one of them, else 0.
-pub fn set_group(lc: &mut Lc, op: Wire, ops: &[u8])
-    requires within { op + 29 < 2 ^ 32 }
-    requires few { length ops.now ≤ 64 }
-    requires opcodes { All (λ k. k < 32) ops.now }
-    ensures terms { lc.new ≡ group op ops.now }
-    ensures top { top lc.new ≤ op + 29 }
-    ensures len { length lc.new ≡ length ops.now }
-{
-    lc.clear();
-    plus_group(lc, F::ONE, op, ops);
-}
-
-/// Appends the wires of these opcodes, each times `factor`; all together are at most 128 terms.
-pub fn plus_group(lc: &mut Lc, factor: F, op: Wire, ops: &[u8])
-    requires within { op + 29 < 2 ^ 32 }
-    requires room { length lc.old + length ops.now ≤ 128 }
-    requires opcodes { All (λ k. k < 32) ops.now }
-    ensures terms { lc.new ≡ lc.old ++ group_times factor op ops.now }
-    ensures top { top lc.new ≤ max (top lc.old) (op + 29) }
-    ensures len { length lc.new ≡ length lc.old + length ops.now }
-{
-    for k in ops {
-        lc.plus(factor, op.offset(place(u32::from(*k))));
-    }
-}
-
 impl InstructionWires {
     /// The bits that name the source register.
     pub fn source<const W: u32>(&self) -> Bits
@@ -189,16 +161,6 @@ impl InstructionWires {
         ensures { result ≡ imm_wire W self.now }
     {
         self.low.first.offset(W - 6)
-    }
-
-    /// The wire of a used opcode.
-    pub fn opcode(&self, k: u8) -> Wire
-        requires used { k < 32 }
-        requires within { self.now.op + 29 < 2 ^ 32 }
-        ensures wire { result ≡ self.now.op + place k }
-        ensures below { result < self.now.op + 29 }
-    {
-        self.op.offset(place(u32::from(k)))
     }
 }
 
@@ -268,11 +230,4 @@ pub fn instruction_costs()
 #[tactic(auto, using(crate::proofs::InstructionLaws::opcode_wire))]
 pub fn opcode_wire_is_right()
     ensures { OpcodeWireIsRight }
-{}
-
-/// A group of used opcodes, none of which stands twice, is its factor where the instruction's
-/// opcode is one of them, and else 0.
-#[tactic(auto, using(crate::proofs::InstructionLaws::group_right))]
-pub fn group_is_right()
-    ensures { GroupIsRight }
 {}

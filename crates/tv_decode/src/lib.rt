@@ -9,7 +9,7 @@ mod records;
 
 pub use decoding::{fields, fields_are_complete, fields_are_sound, fields_fill, fill_fields};
 pub use instructions::{
-    fill_instruction, group_is_right, instruction, instruction_costs, instruction_fills,
-    instruction_is_complete, instruction_is_sound, opcode_wire_is_right, plus_group, set_group,
+    fill_instruction, instruction, instruction_costs, instruction_fills, instruction_is_complete,
+    instruction_is_sound, opcode_wire_is_right,
 };
 pub use records::{Fields, InstructionWires};

@@ -4,7 +4,7 @@ pub mod Placed
 pub mod Predecessor
 pub mod SortedPair
 pub mod Starts
-pub mod Told
+pub mod Compact
 pub mod Unpacking
 pub use Rattle.tv_bits.specs.Order
 pub use Rattle.tv_bits.specs.Prefixes

@@ -15,15 +15,14 @@ use Rattle.tv_core.specs.declared.lines.LineLc.{LineLc}
 use Rattle.tv_core.specs.declared.lines.Pair.{Pair}
 use Rattle.tv_lines.specs.Ordered.{Follows, key}
 use Rattle.tv_lines.specs.Packing.{InRange, line_value, packed_item, time_bits}
-use Rattle.tv_lines.specs.Told.{cell_told, word_told, HasShortWords}
-use Rattle.tv_lines.specs.declared.told.ToldLine.{ToldLine}
+use Rattle.tv_lines.specs.Compact.{cell_lc, word_lc}
+use Rattle.tv_lines.specs.declared.compact.CompactLine.{CompactLine}
 
 -- ---- what goes in
 -- the parts of a compact line that are checked are made of wires below a number
-pub record IsLineMade (wires : ℕ) (line : ToldLine) : Type 0 where
-  pub words : HasShortWords line
-  pub cell : top (cell_told line.cell) ≤ wires
-  pub old : top (word_told line.old) ≤ wires
+pub record IsLineMade (wires : ℕ) (line : CompactLine) : Type 0 where
+  pub cell : top (cell_lc line.cell) ≤ wires
+  pub old : top (word_lc line.old) ≤ wires
 
 -- an item's combinations have at most 32 terms each, over wires below a number
 pub record IsItemMade (wires : ℕ) (item : Pair) : Type 0 where

@@ -13,6 +13,7 @@
 //! honest where an ordered list has the same lines, and sorted honest lines are ordered.
 #![tactic(auto)]
 
+mod compact;
 mod honesty;
 mod ordering;
 mod packing;
@@ -20,13 +21,13 @@ mod predecessor;
 mod rising;
 mod rows;
 mod starts;
-mod told;
 mod unpacking;
 
+pub use compact::{Cell, CompactLine, Word};
 pub use honesty::{ordered_lines_are_honest, sorted_lines_are_ordered};
 pub use ordering::{
     fill_first_line, fill_sorted_pair, first_line, first_line_fills, first_line_is_complete,
-    first_line_is_sound, neighbours_are_ordered, sorted_pair, sorted_pair_by, sorted_pair_fills,
+    first_line_is_sound, neighbours_are_ordered, sorted_pair, sorted_pair_fills,
     sorted_pair_is_complete, sorted_pair_is_sound,
 };
 pub use packing::{
@@ -42,8 +43,7 @@ pub use starts::{
     boot_line, boot_line_fills, boot_line_is_complete, boot_line_is_sound, least_line,
     least_line_fills, least_line_is_complete, least_line_is_sound,
 };
-pub use told::{Cell, ToldLine, Word};
 pub use unpacking::{
-    fill_unpack, line_bits, unpack, unpack_by, unpack_fills, unpack_is_complete, unpack_is_sound,
+    fill_unpack, line_bits, unpack, unpack_fills, unpack_is_complete, unpack_is_sound,
     unpack_undoes_pack,
 };

@@ -26,28 +26,11 @@ pub fn sorted_pair<S: Sink>(s: &mut S, before: &LineBits, after: &LineBits) -> P
     ensures puts { PutsIn S.meaning s.old s.new (sorted_pair_of before.now after.now) result }
     ensures grows { IfOk result (λ _. Grows S.meaning s.old s.new 18 20) }
 {
-    sorted_pair_by(s, &mut Scratch::new(), before, after)
-}
-
-/// The same, by combinations that are filled again.
-pub fn sorted_pair_by<S: Sink>(
-    s: &mut S,
-    scratch: &mut Scratch,
-    before: &LineBits,
-    after: &LineBits,
-) -> Put<()>
-    requires room { Room S.meaning s.old 18 20 }
-    requires before_widths { HasWidths before.now }
-    requires after_widths { HasWidths after.now }
-    requires before_made { AreMade before.now (S.meaning.wires s.old) }
-    requires after_made { AreMade after.now (S.meaning.wires s.old) }
-    ensures puts { PutsIn S.meaning s.old s.new (sorted_pair_of before.now after.now) result }
-    ensures grows { IfOk result (λ _. Grows S.meaning s.old s.new 18 20) }
-{
-    let apart = cells_apart(s, scratch, before, after)?;
-    carried(s, scratch, apart, before, after)?;
-    let size = new_size(s, scratch)?;
-    rises(s, scratch, apart, size, before, after)
+    let mut scratch = Scratch::new();
+    let apart = cells_apart(s, &mut scratch, before, after)?;
+    carried(s, &mut scratch, apart, before, after)?;
+    let size = new_size(s, &mut scratch)?;
+    rises(s, &mut scratch, apart, size, before, after)
 }
 
 // A new wire: by how much the second cell is above the first.

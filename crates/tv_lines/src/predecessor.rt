@@ -10,10 +10,10 @@ ghost use Rattle.tv_lines.specs.Predecessor.{excess, cell_difference, time_diffe
 ghost use Rattle.tv_lines.specs.Predecessor.{reach_between, excess_between};
 ghost use Rattle.tv_lines.specs.Predecessor.{FollowsIsSound, FollowsIsComplete, FollowsSizes};
 ghost use Rattle.tv_lines.specs.Predecessor.{FollowsCosts, FollowsReaches, FollowsRises};
-ghost use Rattle.tv_lines.specs.Told.{cell_told, line_told, word_told, HasShortWords};
+ghost use Rattle.tv_lines.specs.Compact.{cell_lc, line_lc, word_lc};
 
+use crate::compact::{CompactLine, SHIFT};
 use crate::packing::unpack_item;
-use crate::told::{SHIFT, ToldLine};
 use tv_bits::{Bits, fill_bits, kept_by, new_bits_by};
 use tv_core::{F, Lc, Line, Pair, PairNum, Put, Scratch, Sink, Values, Wire};
 
@@ -30,14 +30,14 @@ pub fn follows<S: Sink>(
     s: &mut S,
     scratch: &mut Scratch,
     m: u32,
-    line: &ToldLine,
+    line: &CompactLine,
     item: &Pair,
 ) -> Put<()>
     requires short { m ≤ 31 }
     requires room { Room S.meaning s.old (m + 1) (m + 3) }
     requires line { IsLineMade (S.meaning.wires s.old) line.now }
     requires item { IsItemMade (S.meaning.wires s.old) item.now }
-    ensures puts { PutsIn S.meaning s.old s.new (follows_of m (line_told line.now) item.now)
+    ensures puts { PutsIn S.meaning s.old s.new (follows_of m (line_lc line.now) item.now)
         result }
     ensures grows { IfOk result (λ _. Grows S.meaning s.old s.new (m + 1) (m + 3)) }
 {
@@ -48,15 +48,14 @@ pub fn follows<S: Sink>(
 }
 
 // Writes what the wire `e` is.
-fn set_excess(lc: &mut Lc, reach: &Bits, line: &ToldLine, item: &Pair)
+fn set_excess(lc: &mut Lc, reach: &Bits, line: &CompactLine, item: &Pair)
     requires short { reach.now.n ≤ 31 }
     requires within { reach.now.first + reach.now.n < 2 ^ 32 }
-    requires words { HasShortWords line.now }
     requires first_short { length item.now.first ≤ 32 }
-    ensures terms { lc.new ≡ excess reach.now (line_told line.now) item.now }
+    ensures terms { lc.new ≡ excess reach.now (line_lc line.now) item.now }
     ensures top { top lc.new ≤ max (reach.now.first + reach.now.n) (max 1
-        (max (top (cell_told line.now.cell))
-        (max (top (word_told line.now.old)) (top item.now.first)))) }
+        (max (top (cell_lc line.now.cell))
+        (max (top (word_lc line.now.old)) (top item.now.first)))) }
 {
     lc.clear();
     reach.plus_to(lc, F::of(SHIFT));
@@ -71,14 +70,14 @@ fn either<S: Sink>(
     s: &mut S,
     scratch: &mut Scratch,
     e: Wire,
-    line: &ToldLine,
+    line: &CompactLine,
     item: &Pair,
 ) -> Put<()>
     requires room { Room S.meaning s.old 0 2 }
     requires e_made { e < S.meaning.wires s.old }
     requires line { IsLineMade (S.meaning.wires s.old) line.now }
     requires item { IsItemMade (S.meaning.wires s.old) item.now }
-    ensures puts { PutsIn S.meaning s.old s.new (either_of e (line_told line.now) item.now) result }
+    ensures puts { PutsIn S.meaning s.old s.new (either_of e (line_lc line.now) item.now) result }
     ensures grows { IfOk result (λ _. Grows S.meaning s.old s.new 0 2) }
 {
     set_either(scratch, e, line, item);
@@ -88,12 +87,12 @@ fn either<S: Sink>(
 }
 
 // Writes the factors `e` and the difference of the cells, and the product 0.
-fn set_either(scratch: &mut Scratch, e: Wire, line: &ToldLine, item: &Pair)
+fn set_either(scratch: &mut Scratch, e: Wire, line: &CompactLine, item: &Pair)
     requires first_short { length item.now.first ≤ 32 }
     ensures a { scratch.new.a ≡ wire e }
-    ensures b { scratch.new.b ≡ cell_difference (line_told line.now) item.now }
+    ensures b { scratch.new.b ≡ cell_difference (line_lc line.now) item.now }
     ensures c { scratch.new.c ≡ [] }
-    ensures top { top scratch.new.b ≤ max (top (cell_told line.now.cell)) (top item.now.first) }
+    ensures top { top scratch.new.b ≤ max (top (cell_lc line.now.cell)) (top item.now.first) }
 {
     scratch.a.set_wire(e);
     scratch.b.clear();
@@ -103,9 +102,9 @@ fn set_either(scratch: &mut Scratch, e: Wire, line: &ToldLine, item: &Pair)
 }
 
 // Writes `e` and the difference of the times.
-fn set_times(lc: &mut Lc, e: Wire, line: &ToldLine, item: &Pair)
+fn set_times(lc: &mut Lc, e: Wire, line: &CompactLine, item: &Pair)
     requires second_short { length item.now.second ≤ 32 }
-    ensures terms { lc.new ≡ time_difference e (line_told line.now) item.now }
+    ensures terms { lc.new ≡ time_difference e (line_lc line.now) item.now }
     ensures top { top lc.new ≤ max (e + 1) (max 1 (top item.now.second)) }
 {
     lc.set_wire(e);

@@ -6,9 +6,9 @@ ghost use Rattle.tv_lines.specs.Predecessor.{IsLineMade, IsItemMade, less_above}
 ghost use Rattle.tv_lines.specs.Starts.{boot_line_of, BootLineIsSound, BootLineIsComplete};
 ghost use Rattle.tv_lines.specs.Starts.{BootLineSizes, least_line_of, LeastLineIsSound};
 ghost use Rattle.tv_lines.specs.Starts.{LeastLineIsComplete, LeastLineSizes};
-ghost use Rattle.tv_lines.specs.Told.{line_told};
+ghost use Rattle.tv_lines.specs.Compact.{line_lc};
 
-use crate::told::{SHIFT, ToldLine};
+use crate::compact::{CompactLine, SHIFT};
 use tv_core::{F, Lc, Pair, Put, Scratch, Sink, Wire};
 
 /// Constrains the line of `item` to be of cell `c`. A boot line of cell `c + 1`, whose old word is
@@ -39,10 +39,10 @@ fn set_cells(lc: &mut Lc, c: u32, item: &Pair)
 
 /// Constrains the old word of `line` to be 0, as that of the least line is. It makes no wire and 1
 /// constraint, `[old] [1] = [0]`.
-pub fn least_line<S: Sink>(s: &mut S, scratch: &mut Scratch, line: &ToldLine) -> Put<()>
+pub fn least_line<S: Sink>(s: &mut S, scratch: &mut Scratch, line: &CompactLine) -> Put<()>
     requires room { Room S.meaning s.old 0 1 }
     requires line { IsLineMade (S.meaning.wires s.old) line.now }
-    ensures puts { PutsIn S.meaning s.old s.new (least_line_of (line_told line.now)) result }
+    ensures puts { PutsIn S.meaning s.old s.new (least_line_of (line_lc line.now)) result }
     ensures grows { IfOk result (λ _. Grows S.meaning s.old s.new 0 1) }
 {
     scratch.a.clear();

@@ -26,21 +26,9 @@ pub fn unpack<S: Sink>(s: &mut S, pair: &Pair) -> Put<LineBits>
     ensures widths { IfOk result (λ line. HasWidths line) }
     ensures below { IfOk result (λ line. AreMade line (S.meaning.wires s.new)) }
 {
-    unpack_by(s, &mut Scratch::new(), pair)
-}
-
-/// The same, by combinations that are filled again.
-pub fn unpack_by<S: Sink>(s: &mut S, scratch: &mut Scratch, pair: &Pair) -> Put<LineBits>
-    requires room { Room S.meaning s.old 115 117 }
-    requires first_made { top pair.now.first ≤ S.meaning.wires s.old }
-    requires second_made { top pair.now.second ≤ S.meaning.wires s.old }
-    ensures puts { PutsIn S.meaning s.old s.new (unpack_of pair.now) result }
-    ensures grows { IfOk result (λ _. Grows S.meaning s.old s.new 115 117) }
-    ensures widths { IfOk result (λ line. HasWidths line) }
-    ensures below { IfOk result (λ line. AreMade line (S.meaning.wires s.new)) }
-{
-    let first = bits_by(s, scratch, &pair.first, WORD_BITS + CELL_BITS)?;
-    let second = bits_by(s, scratch, &pair.second, WORD_BITS + TIME_BITS)?;
+    let mut scratch = Scratch::new();
+    let first = bits_by(s, &mut scratch, &pair.first, WORD_BITS + CELL_BITS)?;
+    let second = bits_by(s, &mut scratch, &pair.second, WORD_BITS + TIME_BITS)?;
     Ok(line_bits(first.first, second.first))
 }
 

@@ -1,4 +1,3 @@
-pub mod Choices
 pub mod Reading
 pub mod Writing
 pub mod Triple

@@ -17,26 +17,10 @@ pub fn read_reg<S: Sink>(s: &mut S, sel: Wire, regs: &[Wire; 16]) -> Put<Wire>
     ensures grows { IfOk result (λ _. Grows S.meaning s.old s.new 1 16) }
     ensures below { IfOk result (λ w. w < S.meaning.wires s.new) }
 {
-    read_reg_by(s, &mut Scratch::new(), sel, regs)
-}
-
-/// The same, by combinations that are filled again.
-pub fn read_reg_by<S: Sink>(
-    s: &mut S,
-    scratch: &mut Scratch,
-    sel: Wire,
-    regs: &[Wire; 16],
-) -> Put<Wire>
-    requires room { Room S.meaning s.old 1 16 }
-    requires sel_made { sel + 16 ≤ S.meaning.wires s.old }
-    requires regs_made { wires_top regs.now ≤ S.meaning.wires s.old }
-    ensures puts { PutsIn S.meaning s.old s.new (read_reg_of sel regs.now) result }
-    ensures grows { IfOk result (λ _. Grows S.meaning s.old s.new 1 16) }
-    ensures below { IfOk result (λ w. w < S.meaning.wires s.new) }
-{
+    let mut scratch = Scratch::new();
     let w = s.fresh();
     for i in 0..16 {
-        read(s, scratch, w, sel.offset(i), regs[i as usize])?;
+        read(s, &mut scratch, w, sel.offset(i), regs[i as usize])?;
     }
     Ok(w)
 }

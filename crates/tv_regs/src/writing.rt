@@ -32,34 +32,13 @@ pub fn write_reg<S: Sink>(
     ensures grows { IfOk result (λ _. Grows S.meaning s.old s.new 17 17) }
     ensures below { IfOk result (λ made. wires_top made ≤ S.meaning.wires s.new) }
 {
-    write_reg_by(s, &mut Scratch::new(), sel, on, x.terms(), regs)
-}
-
-/// The same for a list of terms, by combinations that are filled again.
-pub fn write_reg_by<S: Sink>(
-    s: &mut S,
-    scratch: &mut Scratch,
-    sel: Wire,
-    on: Wire,
-    x: &[(F, Wire)],
-    regs: &[Wire; 16],
-) -> Put<[Wire; 16]>
-    requires room { Room S.meaning s.old 17 17 }
-    requires sel_made { sel + 16 ≤ S.meaning.wires s.old }
-    requires on_made { on < S.meaning.wires s.old }
-    requires x_made { top x.now ≤ S.meaning.wires s.old }
-    requires x_short { length x.now ≤ 64 }
-    requires regs_made { wires_top regs.now ≤ S.meaning.wires s.old }
-    ensures puts { PutsIn S.meaning s.old s.new (write_reg_of sel on x.now regs.now) result }
-    ensures grows { IfOk result (λ _. Grows S.meaning s.old s.new 17 17) }
-    ensures below { IfOk result (λ made. wires_top made ≤ S.meaning.wires s.new) }
-{
+    let mut scratch = Scratch::new();
     let v = s.fresh();
     let first = Wire(s.wires());
     for i in 0..16 {
-        select_wires(s, scratch, sel.offset(i), v, regs[i as usize])?;
+        select_wires(s, &mut scratch, sel.offset(i), v, regs[i as usize])?;
     }
-    tie(s, scratch, on, x, v, first, regs)?;
+    tie(s, &mut scratch, on, x, v, first, regs)?;
     Ok(wires_from(first))
 }
 
@@ -68,7 +47,7 @@ fn tie<S: Sink>(
     s: &mut S,
     scratch: &mut Scratch,
     on: Wire,
-    x: &[(F, Wire)],
+    x: &Lc,
     v: Wire,
     first: Wire,
     regs: &[Wire; 16],
@@ -88,7 +67,7 @@ fn tie<S: Sink>(
     plus_row(&mut scratch.c, first, 16);
     scratch.c.minus(&scratch.a);
     scratch.b.clear();
-    scratch.b.plus_terms(x);
+    scratch.b.plus_terms(x.terms());
     plus_row(&mut scratch.b, first, 16);
     scratch.b.plus(-F::ONE, v);
     scratch.b.minus(&scratch.a);

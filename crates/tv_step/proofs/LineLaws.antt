@@ -31,13 +31,13 @@ tape_told : (w n : ℕ) (st : State) (found : Option ℕ) (time : ℕ) → tape_
 tape_told w n st None time = refl
 tape_told w n st (Some v) time = rw (le-ltb (TAPE_CELLS + (n - length st.primary)) TAPE_CELLS (omega arith)) refl
 
-pub line_told : (w n : ℕ) → IsWidth w → (op : Op) (st : State) (a time : ℕ) → a < 2 ^ w → line_of w n op st a time ≡ told w st time (line_of w n op st a time)
-line_told w n width StoreB st a time small = memory_told w width st a time small
-line_told w n width LoadB st a time small = memory_told w width st a time small
-line_told w n width StoreW st a time small = memory_told w width st a time small
-line_told w n width LoadW st a time small = memory_told w width st a time small
-line_told w n width Read st a time small = tape_told w n st (if a == 0 then slice_get st.primary 0 else None) time
-line_told w n width _ st a time small = refl
+pub line_lc : (w n : ℕ) → IsWidth w → (op : Op) (st : State) (a time : ℕ) → a < 2 ^ w → line_of w n op st a time ≡ told w st time (line_of w n op st a time)
+line_lc w n width StoreB st a time small = memory_told w width st a time small
+line_lc w n width LoadB st a time small = memory_told w width st a time small
+line_lc w n width StoreW st a time small = memory_told w width st a time small
+line_lc w n width LoadW st a time small = memory_told w width st a time small
+line_lc w n width Read st a time small = tape_told w n st (if a == 0 then slice_get st.primary 0 else None) time
+line_lc w n width _ st a time small = refl
 
 -- ---- memory where nothing is stored
 module _ (w : ℕ) (st : State) where

@@ -4,7 +4,7 @@ use Rattle.tv_core.specs.Lines.{Line}
 use Rattle.tv_core.specs.declared.limits.TheConstants.{TAPE_CELLS}
 use Rattle.tv_isa.specs.declared.instr.Instr.{Instr}
 use Rattle.tv_mem.specs.Bytes.{word_in}
-use Rattle.tv_step.proofs.LineLaws.{line_told}
+use Rattle.tv_step.proofs.LineLaws.{line_lc}
 use Rattle.tv_step.proofs.ViewLaws.{came_after}
 use Rattle.tv_step.specs.Machine.{executed, operand, state_after}
 use Rattle.tv_step.specs.Ops.{op_of}
@@ -29,5 +29,5 @@ returns-clause-line g c =
     c.line_after.ensures
     ∙ ap (λ b. after b (state_of c.executes.new.self)) before
     ∙ ap (after (looked_at (line instr).cell c.args.time (line instr).old)) left
-    ∙ sym (line_told w c.args.n c.requires.width (op_of instr.op) st (operand st instr) c.args.time small)
+    ∙ sym (line_lc w c.args.n c.requires.width (op_of instr.op) st (operand st instr) c.args.time small)
     ∙ ap line c.requires.fetched

@@ -4,7 +4,7 @@ use Rattle.tv_core.proofs.Chain.{chain, puts_no_turn, puts_turn, turn_refused, r
 use Rattle.tv_core.specs.Circuits.{Circuit}
 use Rattle.tv_regs.proofs.Gates.{wires_top-at}
 use Rattle.tv_regs.specs.Reading.{read_turn, read_reg_of}
-use Rattle.tv_regs.proofs.reading.read_reg_by.Goals as goal
+use Rattle.tv_regs.proofs.reading.read_reg.Goals as goal
 
 pub loop-i-init : goal.loop-i-init
 loop-i-init g c = record {

@@ -1,7 +1,7 @@
 use Rattle.tv_core.proofs.Chain.{chain, refused}
 use Rattle.tv_core.proofs.TailCalls.{puts_in_then}
 use Rattle.tv_lines.specs.SortedPair.{sorted_pair_of}
-use Rattle.tv_lines.proofs.ordering.sorted_pair_by.Goals as goal
+use Rattle.tv_lines.proofs.ordering.sorted_pair.Goals as goal
 
 pub returns-in_err-apart-clause-puts : goal.returns-in_err-apart-clause-puts
 unfolding sorted_pair_of

@@ -5,7 +5,7 @@ use Rattle.tv_core.proofs.LoopLaws.{puts_here_as}
 use Rattle.tv_core.specs.Circuits.{Circuit}
 use Rattle.tv_regs.proofs.Gates.{wires_top-at}
 use Rattle.tv_regs.specs.Writing.{write_of, write_turn, write_reg_of}
-use Rattle.tv_regs.proofs.writing.write_reg_by.Goals as goal
+use Rattle.tv_regs.proofs.writing.write_reg.Goals as goal
 
 pub loop-i-init : goal.loop-i-init
 loop-i-init g c = record {

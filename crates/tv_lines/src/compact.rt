@@ -3,9 +3,8 @@ ghost use Rattle.tv_core.specs.Combinations.{scaled, top};
 ghost use Rattle.tv_core.specs.declared.field.TheConstants.{P};
 ghost use Rattle.tv_lines.specs.Packing.{pack_item};
 ghost use Rattle.tv_lines.specs.Predecessor.{less_above};
-ghost use Rattle.tv_lines.specs.Told.{cell_told, word_told, line_told, IsShortWord, HasShortWords};
+ghost use Rattle.tv_lines.specs.Compact.{cell_lc, word_lc, line_lc};
 
-use tv_bits::Bits;
 use tv_core::{F, Lc, LineLc, Pair, Wire};
 
 // By how much the cell and the time stand above the words of a packed line.
@@ -14,7 +13,7 @@ pub(crate) const SHIFT: u64 = 1 << 32;
 /// A line of memory in compact form: the parts of its combinations. It takes some bytes, where they
 /// take 8 KB.
 #[derive(Clone, Copy, PartialEq, Eq, Debug)]
-pub struct ToldLine {
+pub struct CompactLine {
     /// The number of the cell.
     pub cell: Cell,
     /// The time.
@@ -30,8 +29,8 @@ pub struct ToldLine {
 pub enum Cell {
     /// So many times a wire.
     Multiple(F, Wire),
-    /// The cell behind that one.
-    Behind(F, Wire),
+    /// The cell after that one.
+    After(F, Wire),
 }
 
 /// A word of a line.
@@ -43,15 +42,12 @@ pub enum Word {
     Number(u32),
     /// What a wire holds.
     Wired(Wire),
-    /// What bits spell, at most 32.
-    Spelled(Bits),
 }
 
-impl ToldLine {
+impl CompactLine {
     /// Its combinations.
     pub fn lc(&self) -> LineLc
-        requires { HasShortWords self.now }
-        ensures { result ≡ line_told self.now }
+        ensures { result ≡ line_lc self.now }
     {
         LineLc {
             cell: self.cell.lc(),
@@ -64,8 +60,7 @@ impl ToldLine {
     /// Writes the line's item into `pair`: 2^32 times the cell; the new word and 2^32 times the
     /// time. It is the line as `pack` writes it, with its old word left out.
     pub fn item(&self, pair: &mut Pair)
-        requires { HasShortWords self.now }
-        ensures { pair.new ≡ pack_item (line_told self.now) }
+        ensures { pair.new ≡ pack_item (line_lc self.now) }
     {
         pair.first.clear();
         self.cell.plus_above(&mut pair.first);
@@ -78,12 +73,12 @@ impl ToldLine {
 impl Cell {
     // Its combination.
     fn lc(self) -> Lc
-        ensures { result ≡ cell_told self }
+        ensures { result ≡ cell_lc self }
     {
         let mut lc = Lc::empty();
         match self {
             Cell::Multiple(factor, wire) => lc.plus(factor, wire),
-            Cell::Behind(factor, wire) => {
+            Cell::After(factor, wire) => {
                 lc.plus(factor, wire);
                 lc.plus(F::ONE, Wire(0));
             }
@@ -94,12 +89,12 @@ impl Cell {
     // Appends it, 2^32 times and negated.
     pub(crate) fn minus_above_from(self, lc: &mut Lc)
         requires room { length lc.old ≤ 126 }
-        ensures terms { lc.new ≡ less_above lc.old (cell_told self) }
-        ensures top { top lc.new ≡ max (top lc.old) (top (cell_told self)) }
+        ensures terms { lc.new ≡ less_above lc.old (cell_lc self) }
+        ensures top { top lc.new ≡ max (top lc.old) (top (cell_lc self)) }
     {
         match self {
             Cell::Multiple(factor, wire) => lc.plus(-F::of(SHIFT) * factor, wire),
-            Cell::Behind(factor, wire) => {
+            Cell::After(factor, wire) => {
                 lc.plus(-F::of(SHIFT) * factor, wire);
                 lc.plus(-F::of(SHIFT), Wire(0));
             }
@@ -109,11 +104,11 @@ impl Cell {
     // Appends 2^32 times it.
     fn plus_above(self, lc: &mut Lc)
         requires { length lc.old ≤ 32 }
-        ensures { lc.new ≡ lc.old ++ scaled (2 ^ 32 % P) (cell_told self) }
+        ensures { lc.new ≡ lc.old ++ scaled (2 ^ 32 % P) (cell_lc self) }
     {
         match self {
             Cell::Multiple(factor, wire) => lc.plus(F::of(SHIFT) * factor, wire),
-            Cell::Behind(factor, wire) => {
+            Cell::After(factor, wire) => {
                 lc.plus(F::of(SHIFT) * factor, wire);
                 lc.plus(F::of(SHIFT), Wire(0));
             }
@@ -124,8 +119,7 @@ impl Cell {
 impl Word {
     // Its combination.
     fn lc(self) -> Lc
-        requires { IsShortWord self }
-        ensures { result ≡ word_told self }
+        ensures { result ≡ word_lc self }
     {
         let mut lc = Lc::empty();
         self.plus_to(&mut lc);
@@ -134,32 +128,28 @@ impl Word {
 
     // Appends it, negated.
     pub(crate) fn minus_from(self, lc: &mut Lc)
-        requires short { IsShortWord self }
-        requires room { length lc.old ≤ 96 }
-        ensures terms { lc.new ≡ lc.old ++ scaled (P - 1) (word_told self) }
-        ensures len { length lc.new ≤ length lc.old + 32 }
-        ensures top { top lc.new ≡ max (top lc.old) (top (word_told self)) }
+        requires room { length lc.old ≤ 127 }
+        ensures terms { lc.new ≡ lc.old ++ scaled (P - 1) (word_lc self) }
+        ensures len { length lc.new ≤ length lc.old + 1 }
+        ensures top { top lc.new ≡ max (top lc.old) (top (word_lc self)) }
     {
         match self {
             Word::Nothing => {}
             Word::Number(number) => lc.plus(-F::ONE * F::from(number), Wire(0)),
             Word::Wired(wire) => lc.plus(-F::ONE, wire),
-            Word::Spelled(bits) => bits.plus_to(lc, -F::ONE),
         }
     }
 
     // Appends it to a combination without terms.
     pub(crate) fn plus_to(self, lc: &mut Lc)
-        requires short { IsShortWord self }
         requires empty { lc.old ≡ [] }
-        ensures terms { lc.new ≡ word_told self }
-        ensures len { length lc.new ≤ 32 }
+        ensures terms { lc.new ≡ word_lc self }
+        ensures len { length lc.new ≤ 1 }
     {
         match self {
             Word::Nothing => {}
             Word::Number(number) => lc.plus(F::from(number), Wire(0)),
             Word::Wired(wire) => lc.plus(F::ONE, wire),
-            Word::Spelled(bits) => bits.plus_to(lc, F::ONE),
         }
     }
 }

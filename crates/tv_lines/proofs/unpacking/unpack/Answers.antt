@@ -1,6 +1,6 @@
 use Rattle.tv_core.proofs.Chain.{chain, refused}
 use Rattle.tv_lines.specs.Unpacking.{unpack_of}
-use Rattle.tv_lines.proofs.unpacking.unpack_by.Goals as goal
+use Rattle.tv_lines.proofs.unpacking.unpack.Goals as goal
 
 pub returns-in_err-first-clause-puts : goal.returns-in_err-first-clause-puts
 unfolding unpack_of

@@ -1,7 +1,7 @@
 use Rattle.tv_core.specs.Loops.{times}
 use Rattle.tv_core.specs.Sinks.{PutsAll, Grows}
 use Rattle.tv_regs.specs.Reading.{read_turn}
-use Rattle.tv_regs.proofs.reading.read_reg_by.Given as goal
+use Rattle.tv_regs.proofs.reading.read_reg.Given as goal
 
 abbrev pub invariant-loop-i : goal.invariant-loop-i
 invariant-loop-i g l = record {
