@@ -1,216 +1,458 @@
--- Where an assignment has the values of the whole step.
-use Rattle.std.proofs.Common.{◌≡◌, ℕ, ◌+◌, ◌==◌, Bool, List, [], ◌∷◌, ◌++◌, length, refl, sym, ◌∙◌, ap, ap₂, subst, arith, length-append}
+-- Where an assignment has a step's values.
+use Rattle.std.proofs.Common.{◌≡◌, ℕ, ◌+◌, ◌-◌, ◌/◌, ◌%◌, ◌^◌, ◌<◌, ◌==◌, nat_lt, Bool, true, false, if◌then◌else◌, List, [], ◌∷◌, ◌++◌, length, refl}
+use Rattle.std.proofs.Common.{sym, ◌∙◌, ap, ap₂, subst, arith}
 use Rattle.std.specs.Prelude.{slice_index}
-use Rattle.std.proofs.lemmas.List.{length-map}
-use Rattle.tv_bits.proofs.SpelledNumbers.{value-bits_below}
-use Rattle.tv_bits.specs.Bits.{Spells}
-use Rattle.tv_bits.specs.OneHot.{IsOneHot}
-use Rattle.tv_core.proofs.Meeting.{Meets-join}
-use Rattle.tv_core.specs.Circuits.{pure, ◌>>=◌}
-use Rattle.tv_core.specs.Laws.{Assigns, Meets, HasFrom, Fills}
+use Rattle.tv_bits.proofs.SpelledNumbers.{Spells-below, Spells-bit_at, Spells-from_values}
+use Rattle.tv_bits.proofs.ZeroSignLaws.{zero_sign_complete, zero_sign_sizes}
+use Rattle.tv_bits.specs.Bit.{IsBit}
+use Rattle.tv_bits.specs.Bits.{Spells, bits_values}
+use Rattle.tv_bits.specs.DoubleRow.{double_row_values}
+use Rattle.tv_bits.specs.ZeroSign.{sign_at_zero, zero_sign_values}
+use Rattle.tv_core.proofs.CombinationLaws.{value-wire}
+use Rattle.tv_core.proofs.Meeting.{Meets-join, HasFrom-split}
+use Rattle.tv_core.specs.Circuits.{fresh, pure, ◌>>=◌}
+use Rattle.tv_core.specs.Constraints.{value}
+use Rattle.tv_core.specs.Laws.{Assigns, Meets, HasFrom}
+use Rattle.tv_decode.proofs.InstructionLaws.{instruction_complete, instruction_sizes}
+use Rattle.tv_decode.specs.Instructions.{instruction_values, imm_wire, dest_bits, source_bits, register_bits, number_of, IsDecoded}
 use Rattle.tv_isa.specs.Instruction.{decode}
+use Rattle.tv_isa.specs.Opcodes.{among}
 use Rattle.tv_isa.specs.declared.instr.Instr.{Instr}
-use Rattle.tv_numbers.proofs.RangeLaws.{operand_small, other_small}
 use Rattle.tv_numbers.specs.Laws.{AtNumbers}
-use Rattle.tv_numbers.specs.Numbers.{Did, operand_word, other_word, stepped, did_of}
+use Rattle.tv_numbers.specs.Numbers.{Did, did_of, operand_word, other_word, found}
+use Rattle.tv_numbers.specs.Tables.{store_ops}
 use Rattle.tv_numbers.specs.Views.{View, flag_of}
-use Rattle.tv_regs.proofs.ChoiceLaws.{choose_next}
-use Rattle.tv_regs.specs.Choices.{choose_of}
-use Rattle.tv_word.proofs.WidthLaws.{width_short}
+use Rattle.tv_regs.proofs.TripleLaws.{triple_complete, triple_sizes}
+use Rattle.tv_regs.specs.Triple.{AreNumbers, other_number, triple_values}
 use Rattle.tv_word.specs.Widths.{IsWidth}
-use Rattle.tv_block.proofs.BlockLaws.{step_in}
-use Rattle.tv_block.proofs.DataFills.{data_filled, data_fills, data_next, data_word}
-use Rattle.tv_block.proofs.DataLaws.{AreData, data_sound, one_tape}
-use Rattle.tv_block.proofs.FetchFills.{fetch_filled, fetch_fills, fetch_next}
-use Rattle.tv_block.proofs.GateFills.{some_had}
-use Rattle.tv_block.proofs.GroupFills.{groups_filled, groups_fills, groups_next}
-use Rattle.tv_block.proofs.OperandFills.{operands_filled, operands_fills, operands_next}
-use Rattle.tv_block.proofs.PartLaws.{operands_sound, groups_sound}
-use Rattle.tv_block.proofs.PcFills.{pc_filled, pc_fills, pc_next}
-use Rattle.tv_block.proofs.ResultFills.{flag_filled, result_filled, result_fills, result_next}
-use Rattle.tv_block.proofs.StoreFills.{store_filled, store_fills, store_next}
-use Rattle.tv_block.proofs.StoreLaws.{store_sound}
-use Rattle.tv_block.proofs.TableLaws.{flag_test}
-use Rattle.tv_block.proofs.TapeFills.{tapes_filled, tapes_fills, tapes_next, tapes_takes}
-use Rattle.tv_block.proofs.TapeLaws.{took, tapes_sound}
-use Rattle.tv_block.specs.Block.{compute_of, block_of, did, IsStep}
-use Rattle.tv_block.specs.Complete.{compute_made, block_made, BlockIsComplete}
-use Rattle.tv_block.specs.Data.{data_of}
-use Rattle.tv_block.specs.Fetch.{state_in, fetch_of}
-use Rattle.tv_block.specs.Groups.{groups_of}
-use Rattle.tv_block.specs.Operands.{operands_of}
-use Rattle.tv_block.specs.Pc.{pc_of}
-use Rattle.tv_block.specs.Result.{result_of, flag_table}
-use Rattle.tv_block.specs.Store.{store_of}
-use Rattle.tv_block.specs.Tapes.{tapes_of}
-use Rattle.tv_block.specs.Values.{fetch_values, operands_values, groups_values, tapes_values, data_values, store_values, result_values, pc_values, compute_values, block_values}
-use Rattle.tv_block.specs.declared.records.StateWires.{StateWires}
+use Rattle.tv_parts.proofs.ArithmeticCounts.{arithmetic_sizes}
+use Rattle.tv_parts.proofs.ArithmeticFills.{arithmetic_complete, row_spelled}
+use Rattle.tv_parts.proofs.ArithmeticLaws.{arithmetic_sound}
+use Rattle.tv_parts.proofs.FlagFills.{flag_complete, flag_sizes}
+use Rattle.tv_parts.proofs.MemoryFills.{memory_complete, memory_sizes}
+use Rattle.tv_parts.proofs.OpcodeLaws.{opcode_sum_sound}
+use Rattle.tv_parts.proofs.OperandLaws.{operand_complete, operand_sizes}
+use Rattle.tv_parts.proofs.PcFills.{pc_complete}
+use Rattle.tv_parts.proofs.ResultFills.{results_complete, results_sizes}
+use Rattle.tv_parts.proofs.TapeFills.{tapes_filled, tapes_sizes}
+use Rattle.tv_parts.proofs.TapeLaws.{flag_small}
+use Rattle.tv_parts.proofs.WrittenFills.{written_complete, written_sizes}
+use Rattle.tv_parts.specs.Arithmetic.{shift_ops, division_ops, spelled_word, arithmetic_values, sums_values, products_values, shifts_values}
+use Rattle.tv_parts.specs.Arithmetic.{HasArithmetic, IsArithmetic}
+use Rattle.tv_parts.specs.Flag.{sign_at, flag_values}
+use Rattle.tv_parts.specs.Memory.{memory_values}
+use Rattle.tv_parts.specs.OpcodeSums.{opcode_sum, IsOpcode}
+use Rattle.tv_parts.specs.Operand.{operand_values, IsOperand}
+use Rattle.tv_parts.specs.Pc.{pc_values}
+use Rattle.tv_parts.specs.Results.{place_bits, sign_of, result_number, tested_number, results_values}
+use Rattle.tv_parts.specs.States.{state_in}
+use Rattle.tv_parts.specs.Tapes.{took, tapes_values}
+use Rattle.tv_parts.specs.Written.{written_values}
+use Rattle.tv_parts.specs.declared.records.ResultWires.{ResultWires}
+use Rattle.tv_parts.specs.declared.records.StateWires.{StateWires}
+use Rattle.tv_block.proofs.BlockChain.{instruction, op, triple, operand, test, made, tapes, memory, results, zero, written, flag, pc}
+use Rattle.tv_block.proofs.BlockLaws.{state_sixteen, register_word, other_below, Before, operand_in, tapes_in, memory_in, results_in, zero_word, step_in}
+use Rattle.tv_block.proofs.PartLaws.{used_again, opcode_of_row, op_below, dest_below, source_below, among_each, AreRegisters, registers_sound}
+use Rattle.tv_block.proofs.PartLaws.{sign_value, within_word}
+use Rattle.tv_block.specs.Block.{computed_of, data_of, sources_of, effects_of, block_of, did, IsStep}
+use Rattle.tv_block.specs.Complete.{BlockIsComplete}
+use Rattle.tv_block.specs.Values.{row_low, row_high, tested_in, test_in, effects_values, other_register, block_values}
 
--- ---- sizes
-joined : (n0 n1 n2 n3 n4 n5 n6 n7 n8 a b c d e f g h : ℕ) → n1 ≡ n0 + a → n2 ≡ n1 + b → n3 ≡ n2 + c → n4 ≡ n3 + d → n5 ≡ n4 + e → n6 ≡ n5 + f → n7 ≡ n6 + g → n8 ≡ n7 + h
-    → n8 ≡ n0 + (a + b + c + d + e + f + g + h)
-joined n0 n1 n2 n3 n4 n5 n6 n7 n8 a b c d e f g h p q r s t u v w = omega arith
+-- an assignment that has two lists has the first, and from the next wire on the second
+some_had : (z : List ℕ) (at next : ℕ) (xs ys : List ℕ) → next ≡ at + length xs → HasFrom z at (xs ++ ys) → HasFrom z at xs × HasFrom z next ys
+some_had z at next xs ys e h = let both = HasFrom-split z at xs ys h in (both.0, subst (λ k. HasFrom z k ys) (sym e) both.1)
 
-pub compute_next : (w : ℕ) → IsWidth w → (n : ℕ) (state : StateWires) (at : ℕ) → (compute_of w n state at).next ≡ at + compute_made w
-unfolding compute_of pure ◌>>=◌
-compute_next w width n state at =
-    let f = fetch_of w at in
-    let p = operands_of w state f.answer f.next in
-    let g = groups_of w p.answer.x p.answer.a p.next in
-    let t = tapes_of w n state f.answer.fields.op p.answer.a g.next in
-    let d = data_of w state f.answer.fields.op p.answer.a t.answer t.next in
-    let s = store_of w f.answer.fields.op p.answer d.answer d.next in
-    let r = result_of w state f.answer p.answer g.answer d.answer s.answer s.next in
-    joined at f.next p.next g.next t.next d.next s.next r.next _ _ _ _ _ _ _ _ _
-    (fetch_next w at) (operands_next w state f.answer f.next) (groups_next w width p.answer.x p.answer.a p.next) (tapes_next w n state f.answer.fields.op p.answer.a g.next)
-    (data_next w state f.answer.fields.op p.answer.a t.answer t.next) (store_next w width f.answer.fields.op p.answer d.answer d.next) (result_next w state f.answer p.answer g.answer d.answer s.answer s.next)
-    (choose_next f.answer.fields.op (flag_table w state p.answer g.answer t.answer) r.next)
+-- the register that is read beside the two others
+register_by : (b : Bool) (g d s : ℕ) → g ≡ flag_of b → (if g == 1 then d else s) ≡ (if b then d else s)
+register_by true g d s e = rw e refl
+register_by false g d s e = rw e refl
 
-one : (first next last : ℕ) (xs ys : List ℕ) → next ≡ first + length xs → last ≡ next + length ys → last ≡ first + length (xs ++ ys)
-one first next last xs ys e f = omega (arith, length-append xs ys)
+-- ---- the test at a shift and at a division
+-- the test at an opcode, as `test_in` has it at an instruction's
+abbrev test_by : ℕ → ℕ → View → Instr → ℕ → ℕ → Bool → ℕ → ℕ
+test_by w n v i low high takes k =
+    let result = result_number w k (operand_word v i) low high (found w n v i low takes) in
+    sign_at_zero (tested_number w k (operand_word v i) low high result) (sign_at k)
 
-pub compute_fills : (w : ℕ) → IsWidth w → (n : ℕ) (state : StateWires) (v : View) (h u o : ℕ) (takes : Bool) → length v.regs ≡ 16 → Fills (compute_of w n state) (compute_values w n v h u o takes)
-unfolding compute_of pure ◌>>=◌
-compute_fills w width n state v h u o takes size at =
-    let i : Instr = decode w h u in
-    let f = fetch_of w at in
-    let p = operands_of w state f.answer f.next in
-    let g = groups_of w p.answer.x p.answer.a p.next in
-    let t = tapes_of w n state f.answer.fields.op p.answer.a g.next in
-    let d = data_of w state f.answer.fields.op p.answer.a t.answer t.next in
-    let s = store_of w f.answer.fields.op p.answer d.answer d.next in
-    let r = result_of w state f.answer p.answer g.answer d.answer s.answer s.next in
-    let v8 : List ℕ = (stepped w n v i o takes).flag ∷ [] in
-    let v7 : List ℕ = result_values w n v i o takes ++ v8 in
-    let v6 : List ℕ = store_values w n v i o takes ++ v7 in
-    let v5 : List ℕ = data_values w n v i o takes ++ v6 in
-    let v4 : List ℕ = tapes_values w n v i o takes ++ v5 in
-    let v3 : List ℕ = groups_values w (other_word v i) (operand_word v i) ++ v4 in
-    let v2 : List ℕ = operands_values w v i ++ v3 in
-    one at f.next _ (fetch_values w h u) v2 (fetch_fills w h u at)
-    (one f.next p.next _ (operands_values w v i) v3 (operands_fills w state f.answer v i f.next)
-    (one p.next g.next _ (groups_values w (other_word v i) (operand_word v i)) v4 (groups_fills w width p.answer.x p.answer.a (other_word v i) (operand_word v i) p.next)
-    (one g.next t.next _ (tapes_values w n v i o takes) v5 (tapes_fills w n state f.answer.fields.op p.answer.a v i o takes g.next)
-    (one t.next d.next _ (data_values w n v i o takes) v6 (data_fills w n state f.answer.fields.op p.answer.a t.answer v i o takes t.next)
-    (one d.next s.next _ (store_values w n v i o takes) v7 (store_fills w width n f.answer.fields.op p.answer d.answer v i o takes d.next)
-    (one s.next r.next _ (result_values w n v i o takes) v8 (result_fills w n state f.answer p.answer g.answer d.answer s.answer v i o takes size s.next)
-    (choose_next f.answer.fields.op (flag_table w state p.answer g.answer t.answer) r.next)))))))
+test_shift : (w n : ℕ) (v : View) (i : Instr) (low high : ℕ) (takes : Bool) → IsWidth w → among shift_ops i.op ≡ true
+    → test_in w n v i low high takes ≡ flag_of (nat_lt (operand_word v i) w)
+test_shift w n v i low high takes width e =
+    among_each (λ k. test_by w n v i low high takes k ≡ (if operand_word v i / 2 ^ place_bits w == 0 then 1 else 0)) shift_ops (refl, (refl, tt)) i.op e
+    ∙ within_word w width (operand_word v i)
 
-pub block_next : (w : ℕ) → IsWidth w → (n : ℕ) (state : StateWires) (time next : ℕ) → (block_of w n state time next).next ≡ next + block_made w
-unfolding block_of pure ◌>>=◌
-block_next w width n state time next =
-    let c = compute_of w n state next in
-    omega (arith, compute_next w width n state next, pc_next w state c.answer.fetched.fields.op c.answer.operands.a c.next)
+test_division : (w n : ℕ) (v : View) (i : Instr) (low high : ℕ) (takes : Bool) → among division_ops i.op ≡ true
+    → test_in w n v i low high takes ≡ flag_of (operand_word v i == 0)
+test_division w n v i low high takes =
+    among_each (λ k. test_by w n v i low high takes k ≡ (if operand_word v i == 0 then 1 else 0)) division_ops (refl, (refl, tt)) i.op
 
-pub block_fills : (w : ℕ) → IsWidth w → (n : ℕ) (state : StateWires) (time : ℕ) (v : View) (h u o : ℕ) (takes : Bool) → length v.regs ≡ 16 → Fills (block_of w n state time) (block_values w n v h u o takes)
-unfolding block_of pure ◌>>=◌
-block_fills w width n state time v h u o takes size next =
-    let c = compute_of w n state next in
-    one next c.next _ (compute_values w n v h u o takes) (pc_values w n v (decode w h u) o takes) (compute_fills w width n state v h u o takes size next)
-    (pc_fills w n state c.answer.fetched.fields.op c.answer.operands.a v (decode w h u) o takes c.next)
+-- ---- the parts up to the arithmetic
+-- the values of the parts after it, from the halves of the row and the test
+abbrev later_values : ℕ → ℕ → View → Instr → Bool → ℕ → ℕ → ℕ → List ℕ
+later_values w n v i takes low high f = tapes_values w n v i low takes ++ effects_values w n v i low high takes f
 
--- ---- all but the program counter
-pub record Filled (w : ℕ) (z : List ℕ) (n : ℕ) (state : StateWires) (at h u o : ℕ) (takes : Bool) : Type 0 where
-  pub met : Meets z (compute_of w n state at).list
-  pub op : IsOneHot z (compute_of w n state at).answer.fetched.fields.op 32 (decode w h u).op
-  pub operand : Spells z (compute_of w n state at).answer.operands.a.first w (operand_word (state_in z state) (decode w h u))
-  pub head : Spells z (compute_of w n state at).answer.fetched.head.first w h
-  pub tail : Spells z (compute_of w n state at).answer.fetched.tail.first w u
-  pub takes_is : slice_index z (compute_of w n state at).answer.takes ≡ flag_of takes
-  pub word_is : slice_index z (compute_of w n state at).answer.data_word.word ≡ o
+had_later : (w n : ℕ) (v : View) (i : Instr) (takes : Bool) (z : List ℕ) (at l h f low high test : ℕ) → low ≡ l → high ≡ h → test ≡ f
+    → HasFrom z at (later_values w n v i takes l h f) → HasFrom z at (later_values w n v i takes low high test)
+had_later w n v i takes z at l h f low high test p q r has =
+    subst (λ k. HasFrom z at (later_values w n v i takes k high test)) (sym p)
+    (subst (λ k. HasFrom z at (later_values w n v i takes l k test)) (sym q)
+    (subst (λ k. HasFrom z at (later_values w n v i takes l h k)) (sym r) has))
 
-pub compute_filled : (w : ℕ) → IsWidth w → (z : List ℕ) (at n : ℕ) (state : StateWires) (h u o : ℕ) (takes : Bool) → Assigns z → AtNumbers w n (state_in z state) h u o takes
-    → HasFrom z at (compute_values w n (state_in z state) h u o takes) → Filled w z n state at h u o takes
-unfolding compute_of pure ◌>>=◌
-compute_filled w width z at n state h u o takes assigns is has =
-    let now = state_in z state in
-    let range = is.range in
-    let size : length state.regs ≡ 16 = sym (length-map state.regs (λ k. slice_index z k)) ∙ range.registers in
-    let i : Instr = decode w h u in
-    let x = other_word now i in
-    let y = operand_word now i in
-    let f = fetch_of w at in
-    let p = operands_of w state f.answer f.next in
-    let g = groups_of w p.answer.x p.answer.a p.next in
-    let t = tapes_of w n state f.answer.fields.op p.answer.a g.next in
-    let d = data_of w state f.answer.fields.op p.answer.a t.answer t.next in
-    let s = store_of w f.answer.fields.op p.answer d.answer d.next in
-    let r = result_of w state f.answer p.answer g.answer d.answer s.answer s.next in
-    let e = choose_of f.answer.fields.op (flag_table w state p.answer g.answer t.answer) r.next in
-    let r8 : List ℕ = (stepped w n now i o takes).flag ∷ [] in
-    let r7 : List ℕ = result_values w n now i o takes ++ r8 in
-    let r6 : List ℕ = store_values w n now i o takes ++ r7 in
-    let r5 : List ℕ = data_values w n now i o takes ++ r6 in
-    let r4 : List ℕ = tapes_values w n now i o takes ++ r5 in
-    let r3 : List ℕ = groups_values w x y ++ r4 in
-    let r2 : List ℕ = operands_values w now i ++ r3 in
-    let y_small = operand_small w width n now h u o takes is in
-    let x_small = other_small w width n now h u o takes is in
-    let h1 = some_had z at f.next (fetch_values w h u) r2 (fetch_fills w h u at) has in
-    let fetched = fetch_filled w width z at h u assigns is.head_word is.tail_word is.used h1.0 in
-    let h2 = some_had z f.next p.next (operands_values w now i) r3 (operands_fills w state f.answer now i f.next) h1.1 in
-    let m2 = operands_filled w width z f.next state f.answer h u size assigns fetched.is y_small x_small h2.0 in
-    let operands = operands_sound w width z f.next state f.answer h u size assigns fetched.is m2 in
-    let h3 = some_had z p.next g.next (groups_values w x y) r4 (groups_fills w width p.answer.x p.answer.a x y p.next) h2.1 in
-    let m3 = groups_filled w width z p.next p.answer.x p.answer.a x y assigns operands.x operands.a h3.0 in
-    let groups = groups_sound w width z p.next p.answer.x p.answer.a x y assigns operands.x operands.a m3 in
-    let h4 = some_had z g.next t.next (tapes_values w n now i o takes) r5 (tapes_fills w n state f.answer.fields.op p.answer.a now i o takes g.next) h3.1 in
-    let m4 = tapes_filled w width z g.next n state f.answer.fields.op p.answer.a now i o takes is.short range.taken range.ended refl refl assigns fetched.is.fields.op operands.a is.asked h4.0 in
-    let tapes = tapes_sound w width z g.next n state f.answer.fields.op p.answer.a now i is.short range.taken range.ended refl refl assigns fetched.is.fields.op operands.a m4 in
-    let is_takes = tapes_takes w z g.next n state f.answer.fields.op p.answer.a now i o takes h4.0 in
-    let same : took z t.answer ≡ takes = ap (λ k. k == 1) is_takes ∙ flag_test takes in
-    let h5 = some_had z t.next d.next (data_values w n now i o takes) r6 (data_fills w n state f.answer.fields.op p.answer.a t.answer now i o takes t.next) h4.1 in
-    let m5 = data_filled w width z t.next n state f.answer.fields.op p.answer.a t.answer now i o takes is.short range.taken is.data_word refl assigns fetched.is.fields.op operands.a tapes is_takes is.asked h5.0 in
-    let data_all = data_sound w width z t.next n state f.answer.fields.op p.answer.a t.answer now i is.short range.taken refl assigns fetched.is.fields.op operands.a tapes m5 in
-    let word = data_word w z t.next n state f.answer.fields.op p.answer.a t.answer now i o takes is.data_word h5.0 in
-    let data_ : AreData w z d.answer n now i takes o = subst (λ b. AreData w z d.answer n now i b o) same (subst (λ k. AreData w z d.answer n now i (took z t.answer) k) (sym word.number) data_all) in
-    let h6 = some_had z d.next s.next (store_values w n now i o takes) r7 (store_fills w width n f.answer.fields.op p.answer d.answer now i o takes d.next) h5.1 in
-    let m6 = store_filled w width z d.next n f.answer.fields.op p.answer d.answer now i takes o assigns fetched.is.fields.op operands data_ h6.0 in
-    let store = store_sound w width z d.next n f.answer.fields.op p.answer d.answer now i takes o assigns fetched.is.fields.op operands data_ m6 in
-    let h7 = some_had z s.next r.next (result_values w n now i o takes) r8 (result_fills w n state f.answer p.answer g.answer d.answer s.answer now i o takes range.registers s.next) h6.1 in
-    let m7 = result_filled w width z s.next n state f.answer p.answer g.answer d.answer s.answer now i takes o size assigns fetched.is.fields.op fetched.is.fields.dest operands groups data_ store range.flag refl refl h7.0 in
-    let m8 = flag_filled w width z r.next f.answer.fields.op n now i o takes state p.answer g.answer t.answer assigns fetched.is.fields.op operands groups tapes same (one_tape now i n (took z t.answer) tapes.asked) refl h7.1 in
+module _ (w : ℕ) (z : List ℕ) (n : ℕ) (state : StateWires) (at head tail : ℕ) where
+  abbrev now : View
+  now = state_in z state
+
+  abbrev instr : Instr
+  instr = decode w head tail
+
+  abbrev x_of : ℕ
+  x_of = other_word now instr
+
+  abbrev a_of : ℕ
+  a_of = operand_word now instr
+
+  abbrev low_at : ℕ
+  low_at = slice_index z (made w n state at).answer.row.low
+
+  abbrev high_at : ℕ
+  high_at = slice_index z (made w n state at).answer.row.high
+
+  -- z meets them, and their wires hold what the parts after them take, with o as the data word
+  pub record Front (o : ℕ) (takes : Bool) : Type 0 where
+    pub met1 : Meets z (instruction w n state at).list
+    pub met2 : Meets z (triple w n state at).list
+    pub met3 : Meets z (operand w n state at).list
+    pub met4 : Meets z (made w n state at).list
+    pub decoded : IsDecoded z w (instruction w n state at).answer head tail
+    pub row : IsOpcode z (op w n state at) instr.op
+    pub are : AreRegisters z (triple w n state at).answer now instr
+    pub is : IsOperand w z (operand w n state at).answer a_of
+    pub tests : slice_index z (test w n state at) ≡ test_in w n now instr low_at high_at takes
+    pub does : IsArithmetic w z (made w n state at).answer (test w n state at) (operand w n state at).answer instr.op x_of a_of
+    pub spelled : Spells z (made w n state at).answer.x.first w (spelled_word w instr.op x_of a_of)
+    pub low : low_at ≡ row_low w now instr o
+    pub rest : HasFrom z (made w n state at).next (later_values w n now instr takes low_at high_at (slice_index z (test w n state at)))
+
+pub front : (w : ℕ) → IsWidth w → (z : List ℕ) (n : ℕ) (state : StateWires) (at head tail o : ℕ) (takes : Bool) → Assigns z
+    → AtNumbers w n (state_in z state) head tail o takes → HasFrom z at (block_values w n (state_in z state) head tail o takes)
+    → Front w z n state at head tail o takes
+front w width z n state at head tail o takes assigns in_range has =
+    let v = state_in z state in
+    let range = in_range.range in
+    let i : Instr = decode w head tail in
+    let x = other_word v i in
+    let a = operand_word v i in
+    let low = row_low w v i o in
+    let high = row_high w v i in
+    let f = test_in w n v i low high takes in
+    let known : Before w z n state = record { width = width; assigns = assigns; short = in_range.short; range = range } in
+    let size = state_sixteen w z n state range in
+    let r4 : List ℕ = later_values w n v i takes low high f in
+    let r3 : List ℕ = f ∷ (arithmetic_values w i.op x a f low high ++ r4) in
+    let r2 : List ℕ = operand_values w a ++ r3 in
+    let r1 : List ℕ = triple_values (other_register i) (tail % 16) i.dest v.regs ++ r2 in
+    let ins = instruction w n state at in
+    let regs = triple w n state at in
+    let taken = operand w n state at in
+    let does_made = made w n state at in
+    let h1 = some_had z at ins.next (instruction_values w head tail) r1 (instruction_sizes.fills w width head tail at) has in
+    let used = used_again i.op (op_below w head tail) in_range.used in
+    let first = instruction_complete w width z at head tail assigns in_range.head_word in_range.tail_word used h1.0 in
+    let decoded = first.1 in
+    let row = opcode_of_row z ins.answer.op i.op (op_below w head tail) decoded.opcode in
+    let stores = opcode_sum ins.answer.op store_ops in
+    let target = number_of (dest_bits w ins.answer) in
+    let source = number_of (source_bits w ins.answer) in
+    let named = number_of (register_bits ins.answer) in
+    let store_is : value stores z ≡ flag_of (among store_ops i.op) = opcode_sum_sound z ins.answer.op i.op store_ops row refl in
+    let numbers : AreNumbers z stores target source named = record {
+      store = subst IsBit (sym store_is) (flag_small (among store_ops i.op));
+      dest = subst (λ k. k < 16) (sym decoded.dest) (dest_below w head tail);
+      other = subst (λ k. k < 16) (sym decoded.source) (source_below w head tail);
+      third = subst (λ k. k < 16) (sym decoded.register) (omega arith);
+    } in
+    let other_is : other_number z stores target source ≡ other_register i =
+    register_by (among store_ops i.op) (value stores z) (value target z) (value source z) store_is
+    ∙ ap₂ (λ d s. if among store_ops i.op then d else s) decoded.dest decoded.source in
+    let h2 = some_had z ins.next regs.next (triple_values (other_register i) (tail % 16) i.dest v.regs) r2
+    (triple_sizes.fills stores target source named state.regs (other_register i) (tail % 16) i.dest v.regs ins.next) h1.1 in
+    let had2 : HasFrom z ins.next (triple_values (other_number z stores target source) (value named z) (value target z) v.regs) =
+    subst (λ k. HasFrom z ins.next (triple_values k (value named z) (value target z) v.regs)) (sym other_is)
+    (subst (λ k. HasFrom z ins.next (triple_values (other_register i) k (value target z) v.regs)) (sym decoded.register)
+    (subst (λ k. HasFrom z ins.next (triple_values (other_register i) (tail % 16) k v.regs)) (sym decoded.dest) h2.0)) in
+    let m2 = triple_complete z ins.next stores target source named state.regs size assigns numbers had2 in
+    let are = registers_sound w width z ins.next state ins.answer head tail size assigns decoded m2 in
+    let imm = imm_wire w ins.answer in
+    let h3 = some_had z regs.next taken.next (operand_values w a) r3 (operand_sizes.fills w imm ins.answer.tail regs.answer.named_word a regs.next) h2.1 in
+    let m3 = operand_complete w width z regs.next imm ins.answer.tail regs.answer.named_word i.imm tail (slice_index v.regs (tail % 16)) (record {
+      assigns = assigns;
+      bit = decoded.imm;
+      whole = decoded.tail;
+      held = are.named;
+      second_word = in_range.tail_word;
+      named_word = register_word w n v (tail % 16) range (omega arith);
+    }) h3.0 in
+    let is = operand_in known head tail regs.next ins.answer regs.answer.named_word decoded are.named m3 in
+    let f_is : slice_index z taken.next ≡ f = h3.1.0 in
+    let h4 = some_had z (taken.next + 1) does_made.next (arithmetic_values w i.op x a f low high) r4
+    (arithmetic_sizes.fills w width ins.answer.op regs.answer.other_word taken.next taken.answer i.op x a f low high (taken.next + 1)) h3.1.1 in
+    let divided : among division_ops i.op ≡ true → slice_index z taken.next ≡ flag_of (a == 0) = (λ e. f_is ∙ test_division w n v i low high takes e) in
+    let x_word = other_below w n v head tail range in
+    let operation : HasArithmetic w z ins.answer.op regs.answer.other_word taken.next taken.answer i.op x a = record {
+      assigns = assigns;
+      opcode = row;
+      word = x_word;
+      held = are.other;
+      taken = is;
+      shifts = λ e. f_is ∙ test_shift w n v i low high takes width e;
+      divides = λ e. subst IsBit (sym (divided e)) (flag_small (a == 0));
+    } in
+    let m4 = arithmetic_complete w width z (taken.next + 1) ins.answer.op regs.answer.other_word taken.next taken.answer i.op x a o
+    operation divided in_range.data_word (subst (λ g. HasFrom z (taken.next + 1) (arithmetic_values w i.op x a g low high)) (sym f_is) h4.0) in
+    let does = arithmetic_sound w width z (taken.next + 1) ins.answer.op regs.answer.other_word taken.next taken.answer i.op x a operation m4.0 in
+    let row_bits : List ℕ = double_row_values w low high (flag_of (among (8 ∷ []) i.op)) in
+    let after_row : List ℕ = sums_values w i.op x a ++ (products_values w i.op x a ++ shifts_values w x a f low high) in
+    let bits_had = HasFrom-split z (taken.next + 1) (bits_values (spelled_word w i.op x a) w ++ row_bits) after_row h4.0 in
+    let bits_at = HasFrom-split z (taken.next + 1) (bits_values (spelled_word w i.op x a) w) row_bits bits_had.0 in
+    let first_is = arithmetic_sizes.answer w width ins.answer.op regs.answer.other_word taken.next taken.answer (taken.next + 1) in
+    let bits_from : Spells z (taken.next + 1) w (spelled_word w i.op x a) =
+    Spells-from_values z (taken.next + 1) w (spelled_word w i.op x a) (row_spelled w width i.op x a x_word (Spells-below is.bits)) bits_at.0 in
     record {
-      met = Meets-join z f.list _ fetched.met (Meets-join z p.list _ m2 (Meets-join z g.list _ m3 (Meets-join z t.list _ m4 (Meets-join z d.list _ m5 (Meets-join z s.list _ m6 (Meets-join z r.list _ m7 (Meets-join z e.list [] m8 tt)))))));
-      op = fetched.is.fields.op;
-      operand = operands.a;
-      head = fetched.is.head;
-      tail = fetched.is.tail;
-      takes_is = is_takes;
-      word_is = data_.word;
+      met1 = first.0;
+      met2 = m2;
+      met3 = m3;
+      met4 = m4.0;
+      decoded = decoded;
+      row = row;
+      are = are;
+      is = is;
+      tests = f_is ∙ ap₂ (λ l h. test_in w n v i l h takes) (sym m4.1) (sym m4.2);
+      does = does;
+      spelled = subst (λ k. Spells z k w (spelled_word w i.op x a)) (sym (ap (λ m. m.x.first) first_is)) bits_from;
+      low = m4.1;
+      rest = had_later w n v i takes z does_made.next low high f _ _ _ m4.1 m4.2 f_is h4.1;
     }
 
 -- ---- the whole step
--- the numbers in the wires are those that were handed in
-handed_in : (w : ℕ) → IsWidth w → (z : List ℕ) (n : ℕ) (state : StateWires) (time at h u o : ℕ) (takes : Bool) (is : IsStep w z n time state (block_of w n state time at).answer)
-    → Filled w z n state at h u o takes → did z state (block_of w n state time at).answer ≡ did_of w n time (state_in z state) h u o takes
-unfolding block_of pure ◌>>=◌
-handed_in w width z n state time at h u o takes is filled =
-    let now = state_in z state in
-    let most = width_short w width in
-    let head : is.head ≡ h = sym (ap (λ (b : Did). b.first.old) is.same) ∙ value-bits_below filled.head (omega arith) in
-    let tail : is.tail ≡ u = sym (ap (λ (b : Did). b.second.old) is.same) ∙ value-bits_below filled.tail (omega arith) in
-    let word : is.word ≡ o = sym (ap (λ (b : Did). b.word) is.same) ∙ filled.word_is in
-    let took_it : is.takes ≡ takes = sym (ap (λ (b : Did). b.takes) is.same) ∙ ap (λ k. k == 1) filled.takes_is ∙ flag_test takes in
+-- the numbers in the wires are those that were assigned
+shown : (w : ℕ) (z : List ℕ) (n : ℕ) (state : StateWires) (time at head tail low : ℕ) (takes : Bool)
+    (is : IsStep w z n time state (block_of w n state time at).answer) → Assigns z
+    → slice_index z (instruction w n state at).answer.head ≡ head → slice_index z (instruction w n state at).answer.tail ≡ tail
+    → slice_index z (made w n state at).answer.row.low ≡ low → took z (tapes w n state at).answer ≡ takes
+    → did z state (block_of w n state time at).answer ≡ did_of w n time (state_in z state) head tail low takes
+unfolding block_of computed_of effects_of fresh pure ◌>>=◌
+shown w z n state time at head tail low takes is assigns head_at tail_at low_at takes_at =
+    let v = state_in z state in
+    let head_is : is.head ≡ head = sym (ap (λ (b : Did). b.first.old) is.same) ∙ value-wire assigns (instruction w n state at).answer.head ∙ head_at in
+    let tail_is : is.tail ≡ tail = sym (ap (λ (b : Did). b.second.old) is.same) ∙ value-wire assigns (instruction w n state at).answer.tail ∙ tail_at in
+    let word_is : is.word ≡ low = sym (ap (λ (b : Did). b.word) is.same) ∙ low_at in
+    let takes_is : is.takes ≡ takes = sym (ap (λ (b : Did). b.takes) is.same) ∙ takes_at in
     is.same
-    ∙ ap (λ k. did_of w n time now k is.tail is.word is.takes) head
-    ∙ ap (λ k. did_of w n time now h k is.word is.takes) tail
-    ∙ ap₂ (λ k b. did_of w n time now h u k b) word took_it
+    ∙ ap (λ k. did_of w n time v k is.tail is.word is.takes) head_is
+    ∙ ap (λ k. did_of w n time v head k is.word is.takes) tail_is
+    ∙ ap₂ (λ k b. did_of w n time v head tail k b) word_is takes_is
 
-block_filled : (w : ℕ) → IsWidth w → (z : List ℕ) (n : ℕ) (state : StateWires) (time at h u o : ℕ) (takes : Bool) → Assigns z → AtNumbers w n (state_in z state) h u o takes
-    → HasFrom z at (block_values w n (state_in z state) h u o takes) → Meets z (block_of w n state time at).list × Filled w z n state at h u o takes
+-- an assignment that has the values of the parts after the arithmetic meets these
+record Back (w : ℕ) (z : List ℕ) (n : ℕ) (state : StateWires) (at : ℕ) (takes : Bool) : Type 0 where
+  pub met5 : Meets z (tapes w n state at).list
+  pub met6 : Meets z (memory w n state at).list
+  pub met7 : Meets z (results w n state at).list
+  pub met8 : Meets z (zero w n state at).list
+  pub met9 : Meets z (written w n state at).list
+  pub met10 : Meets z (flag w n state at).list
+  pub met11 : Meets z (pc w n state at).list
+  pub takes_is : took z (tapes w n state at).answer ≡ takes
+
+back : (w : ℕ) → IsWidth w → (z : List ℕ) (n : ℕ) (state : StateWires) (at head tail o : ℕ) (takes : Bool) → Assigns z
+    → AtNumbers w n (state_in z state) head tail o takes → Front w z n state at head tail o takes → Back w z n state at takes
+back w width z n state at head tail o takes assigns in_range fore =
+    let v = state_in z state in
+    let range = in_range.range in
+    let i : Instr = decode w head tail in
+    let x = other_word v i in
+    let a = operand_word v i in
+    let known : Before w z n state = record { width = width; assigns = assigns; short = in_range.short; range = range } in
+    let size = state_sixteen w z n state range in
+    let ins = instruction w n state at in
+    let row_op = ins.answer.op in
+    let regs = triple w n state at in
+    let taken = operand w n state at in
+    let f = slice_index z taken.next in
+    let arith_made = made w n state at in
+    let low = slice_index z arith_made.answer.row.low in
+    let high = slice_index z arith_made.answer.row.high in
+    let spelled = spelled_word w i.op x a in
+    let x_word = other_below w n v head tail range in
+    let t = tapes w n state at in
+    let h5 = some_had z arith_made.next t.next (tapes_values w n v i low takes) (effects_values w n v i low high takes f)
+    (tapes_sizes.fills w n state row_op taken.answer.bits v i low takes arith_made.next) fore.rest in
+    let m5 = tapes_filled w width z arith_made.next n state row_op taken.answer.bits v i low takes (record {
+      assigns = assigns;
+      short = in_range.short;
+      within = range.taken;
+      bit = range.ended;
+      before = refl;
+      ended = refl;
+      opcode = fore.row;
+      operand = fore.is.bits;
+    }) in_range.asked h5.0 in
+    let b = took z t.answer in
+    let are_tapes = tapes_in known head tail fore.row fore.is arith_made.next m5.0 in
+    let rest : HasFrom z t.next (effects_values w n v i low high b f) = subst (λ k. HasFrom z t.next (effects_values w n v i low high k f)) (sym m5.1) h5.1 in
+    let tests : f ≡ test_in w n v i low high b = fore.tests ∙ ap (λ k. test_in w n v i low high k) (sym m5.1) in
+    let finds = found w n v i low b in
+    let result = result_number w i.op a low high finds in
+    let y = tested_in w n v i low high b in
+    let r6 : List ℕ = pc_values w v i in
+    let r5 : List ℕ = flag_values w n v i low b f ++ r6 in
+    let r4 : List ℕ = written_values w n v i low b ++ r5 in
+    let r3 : List ℕ = zero_sign_values y (sign_at i.op) ++ r4 in
+    let r2 : List ℕ = results_values w i.op a low high finds ++ r3 in
+    let d = data_of arith_made.answer regs.answer.other_word in
+    let mem = memory w n state at in
+    let h6 = some_had z t.next mem.next (memory_values w n v i spelled low b) r2
+    (memory_sizes.fills w width n state row_op taken.answer.bits d t.answer v i spelled low b t.next) rest in
+    let m6 = memory_complete w width z t.next n state row_op taken.answer.bits d t.answer v i spelled low (record {
+      assigns = assigns;
+      short = in_range.short;
+      within = range.taken;
+      before = refl;
+      opcode = fore.row;
+      operand = fore.is.bits;
+      bits = fore.does.row.low;
+      word = refl;
+      spelled = fore.spelled;
+      stored = λ e. ap (λ k. spelled_word w k x a) e;
+      other = fore.are.other;
+      both = fore.does.both;
+      tapes = are_tapes;
+    }) h6.0 in
+    let stored = memory_in known head tail fore.row fore.is fore.does are_tapes t.next regs.answer.other_word fore.are.other m6 in
+    let from = sources_of w arith_made.answer taken.answer.word mem.answer.byte in
+    let res = results w n state at in
+    let h7 = some_had z mem.next res.next (results_values w i.op a low high finds) r3
+    (results_sizes.fills w state row_op taken.answer.bits from t.answer i.op a low high finds mem.next) h6.1 in
+    let m7 = results_complete w width z mem.next n state row_op taken.answer.bits from t.answer v i low high (record {
+      assigns = assigns;
+      within = range.taken;
+      short = in_range.short;
+      before = refl;
+      opcode = fore.row;
+      operand = fore.is.bits;
+      value = fore.is.word;
+      low_wire = refl;
+      high_wire = refl;
+      top = Spells-bit_at fore.does.row.low (w - 1) (omega (arith, width));
+      byte = stored.byte;
+      other = x_word;
+      halves = fore.does.halves;
+      tapes = are_tapes;
+    }) h7.0 in
+    let are_results = results_in known head tail fore.row fore.is fore.does are_tapes mem.next mem.answer.byte stored.byte m7 in
+    let places = results_sizes.answer w state row_op taken.answer.bits from t.answer mem.next in
+    let tested_at : slice_index z res.answer.tested ≡ y =
+    ap (λ (r : ResultWires). slice_index z r.tested) places ∙ ap (slice_index z) (fourth mem.next) ∙ h7.0.1.1.1.1.0 in
+    let sign_is = sign_value z row_op i.op fore.row in
+    let test_at : f ≡ sign_at_zero (slice_index z res.answer.tested) (value (sign_of row_op) z) = tests ∙ ap₂ sign_at_zero (sym tested_at) (sym sign_is) in
+    let zeros = zero w n state at in
+    let h8 = some_had z res.next zeros.next (zero_sign_values y (sign_at i.op)) r4
+    (zero_sign_sizes.fills res.answer.tested taken.next (sign_of row_op) y (sign_at i.op) res.next) h7.1 in
+    let had8 : HasFrom z res.next (zero_sign_values (slice_index z res.answer.tested) (value (sign_of row_op) z)) =
+    subst (λ k. HasFrom z res.next (zero_sign_values k (value (sign_of row_op) z))) (sym tested_at)
+    (subst (λ k. HasFrom z res.next (zero_sign_values y k)) (sym sign_is) h8.0) in
+    let m8 = zero_sign_complete z res.next res.answer.tested taken.next (sign_of row_op) assigns test_at had8 in
+    let wrote = written w n state at in
+    let h9 = some_had z zeros.next wrote.next (written_values w n v i low b) r5
+    (written_sizes.fills row_op state regs.answer res.answer.word w n v i low b range.registers zeros.next) h8.1 in
+    let m9 = written_complete w z zeros.next n state row_op regs.answer res.answer.word v i low b (record {
+      assigns = assigns;
+      opcode = fore.row;
+      size = size;
+      words = refl;
+      bit = range.flag;
+      flag = refl;
+      within = dest_below w head tail;
+      dest = fore.are.dest;
+      dest_word = fore.are.dest_word;
+      word = are_results.word;
+    }) h9.0 in
+    let flags = flag w n state at in
+    let h10 = some_had z wrote.next flags.next (flag_values w n v i low b f) r6
+    (flag_sizes.fills w state row_op arith_made.answer.x taken.next t.answer n v i low b f wrote.next) h9.1 in
+    let word_at = slice_index z res.answer.word in
+    let zero_at = slice_index z res.answer.tested in
+    let m10 = flag_complete w width z wrote.next n state row_op arith_made.answer.x taken.next t.answer v i low high word_at zero_at low (record {
+      assigns = assigns;
+      short = in_range.short;
+      within = range.taken;
+      bit = range.flag;
+      before = refl;
+      flag = refl;
+      opcode = fore.row;
+      other = x_word;
+      operand = Spells-below fore.is.bits;
+      lowest = λ e. ap (slice_index z) (plus_none arith_made.answer.x.first) ∙ Spells-bit_at (fore.does.same (no_division e)) 0 (omega (arith, width));
+      top = λ e. Spells-bit_at (fore.does.same (no_division e)) (w - 1) (omega (arith, width));
+      test = tests ∙ ap (λ k. sign_at_zero k (sign_at i.op)) (sym tested_at);
+      tested = are_results.tested;
+      result_word = zero_word known head tail fore.row fore.is fore.does are_tapes res.answer are_results;
+      divides = fore.does.by_zero;
+      halves = fore.does.halves;
+      tapes = are_tapes;
+    }) h10.0 in
+    let m11 = pc_complete w width z flags.next state row_op taken.answer.bits v i (record {
+      assigns = assigns;
+      small = range.pc_fits;
+      aligned = range.pc_aligned;
+      bit = range.flag;
+      pc = refl;
+      flag = refl;
+      opcode = fore.row;
+      operand = fore.is.bits;
+    }) h10.1 in
+    record { met5 = m5.0; met6 = m6; met7 = m7; met8 = m8; met9 = m9; met10 = m10; met11 = m11; takes_is = m5.1 }
+  where
+    fourth : (k : ℕ) → k + 4 ≡ k + 1 + 1 + 1 + 1
+    fourth k = omega arith
+
+    plus_none : (k : ℕ) → k ≡ k + 0
+    plus_none k = omega arith
+
+    no_division : among shift_ops (decode w head tail).op ≡ true → among division_ops (decode w head tail).op ≡ false
+    no_division = among_each (λ k. among division_ops k ≡ false) shift_ops (refl, (refl, tt)) (decode w head tail).op
+
+-- what it works out, and what it does
+computed_met : (w n : ℕ) (z : List ℕ) (state : StateWires) (at head tail o : ℕ) (takes : Bool) → Front w z n state at head tail o takes
+    → Meets z (computed_of w state at).list
+unfolding computed_of fresh pure ◌>>=◌
+computed_met w n z state at head tail o takes fore =
+    Meets-join z (instruction w n state at).list _ fore.met1 (Meets-join z (triple w n state at).list _ fore.met2
+    (Meets-join z (operand w n state at).list _ fore.met3 (Meets-join z (made w n state at).list [] fore.met4 tt)))
+
+effects_met : (w n : ℕ) (z : List ℕ) (state : StateWires) (at : ℕ) (takes : Bool) → Back w z n state at takes
+    → Meets z (effects_of w n state (computed_of w state at).answer (computed_of w state at).next).list
+unfolding computed_of effects_of fresh pure ◌>>=◌
+effects_met w n z state at takes aft =
+    Meets-join z (tapes w n state at).list _ aft.met5 (Meets-join z (memory w n state at).list _ aft.met6
+    (Meets-join z (results w n state at).list _ aft.met7 (Meets-join z (zero w n state at).list _ aft.met8
+    (Meets-join z (written w n state at).list _ aft.met9 (Meets-join z (flag w n state at).list _ aft.met10
+    (Meets-join z (pc w n state at).list [] aft.met11 tt))))))
+
+step_met : (w n time : ℕ) (z : List ℕ) (state : StateWires) (at : ℕ) → Meets z (computed_of w state at).list
+    → Meets z (effects_of w n state (computed_of w state at).answer (computed_of w state at).next).list → Meets z (block_of w n state time at).list
 unfolding block_of pure ◌>>=◌
-block_filled w width z n state time at h u o takes assigns is has =
-    let now = state_in z state in
-    let range = is.range in
-    let c = compute_of w n state at in
-    let split = some_had z at c.next (compute_values w n now h u o takes) (pc_values w n now (decode w h u) o takes) (compute_fills w width n state now h u o takes range.registers at) has in
-    let filled = compute_filled w width z at n state h u o takes assigns is split.0 in
-    let last = pc_filled w width z c.next n state c.answer.fetched.fields.op c.answer.operands.a now (decode w h u) o takes range.pc_fits range.pc_aligned range.flag refl refl assigns filled.op filled.operand split.1 in
-    (Meets-join z c.list _ filled.met (Meets-join z (pc_of w state c.answer.fetched.fields.op c.answer.operands.a c.next).list [] last tt), filled)
+step_met w n time z state at fore aft =
+    Meets-join z (computed_of w state at).list _ fore
+    (Meets-join z (effects_of w n state (computed_of w state at).answer (computed_of w state at).next).list [] aft tt)
 
 pub block_complete : BlockIsComplete
-block_complete w width z n state time next h u o takes early assigns is has =
-    let both = block_filled w width z n state time next h u o takes assigns is has in
-    let step = step_in w width z n state time next is.short early assigns is.range both.0 in
-    record { met = both.0; shows = handed_in w width z n state time next h u o takes step both.1 }
+block_complete w width z n state time next head tail o takes early assigns is has =
+    let fore = front w width z n state next head tail o takes assigns is has in
+    let aft = back w width z n state next head tail o takes assigns is fore in
+    let met =
+    step_met w n time z state next (computed_met w n z state next head tail o takes fore) (effects_met w n z state next takes aft) in
+    let step = step_in w width z n state time next is.short early assigns is.range met in
+    let low = row_low w (state_in z state) (decode w head tail) o in
+    record {
+      met = met;
+      shows = shown w z n state time next head tail low takes step assigns fore.decoded.head fore.decoded.tail fore.low aft.takes_is;
+    }

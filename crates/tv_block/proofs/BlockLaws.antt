@@ -1,159 +1,378 @@
--- The law of the whole step.
-use Rattle.std.proofs.Common.{◌≡◌, ℕ, ◌+◌, ◌*◌, ◌/◌, ◌%◌, ◌^◌, ◌<◌, ◌==◌, Bool, true, List, [], length, inl, inr, refl, sym, ◌∙◌, ap, ap₂, subst, arith}
+-- The law of a whole step.
+use Rattle.std.proofs.Common.{◌≡◌, ◌≢◌, ℕ, ◌+◌, ◌-◌, ◌*◌, ◌/◌, ◌%◌, ◌^◌, ◌<◌, ◌==◌, nat_lt, Bool, true, false, if◌then◌else◌, List, [], ◌∷◌, ◌++◌}
+use Rattle.std.proofs.Common.{length, inl, inr, refl, sym, ◌∙◌, ap, ap₂, subst, arith}
 use Rattle.std.specs.Prelude.{slice_index}
 use Rattle.std.proofs.lemmas.Bool.{cases_eq, eq-eqb, ne_eqb}
 use Rattle.std.proofs.lemmas.List.{length-map}
-use Rattle.tv_bits.proofs.SpelledNumbers.{value-bits_below, Spells-below}
-use Rattle.tv_bits.specs.Bits.{spelled}
-use Rattle.tv_bits.specs.OneHot.{IsOneHot}
+use Rattle.std.proofs.lemmas.List.Elements.{All-get_or}
+use Rattle.tv_bits.proofs.SpelledNumbers.{Spells-below, Spells-bit_at}
+use Rattle.tv_bits.proofs.ZeroSignLaws.{zero_sign_sound}
+use Rattle.tv_bits.specs.Bit.{IsBit}
+use Rattle.tv_bits.specs.ZeroSign.{zero_sign_of}
 use Rattle.tv_core.proofs.CombinationLaws.{value-append, value-wire, value-constant, value-cons}
 use Rattle.tv_core.proofs.Meeting.{Meets-split}
-use Rattle.tv_core.specs.Circuits.{pure, ◌>>=◌}
+use Rattle.tv_core.specs.Circuits.{fresh, pure, ◌>>=◌}
 use Rattle.tv_core.specs.Combinations.{constant}
+use Rattle.tv_core.specs.Constraints.{value}
 use Rattle.tv_core.specs.Laws.{Assigns, Meets}
 use Rattle.tv_core.specs.Lines.{Line}
 use Rattle.tv_core.specs.declared.field.TheConstants.{P}
+use Rattle.tv_decode.proofs.InstructionLaws.{instruction_sound}
+use Rattle.tv_decode.specs.Instructions.{imm_wire, instruction_of, IsDecoded}
+use Rattle.tv_decode.specs.declared.records.InstructionWires.{InstructionWires}
 use Rattle.tv_isa.specs.Instruction.{decode}
+use Rattle.tv_isa.specs.Opcodes.{among, chosen}
 use Rattle.tv_isa.specs.declared.instr.Instr.{Instr}
+use Rattle.tv_isa.specs.declared.opcode.TheConstants.{CMPE, CMOV, ANSWER}
+use Rattle.tv_mem.specs.Bytes.{byte_of}
+use Rattle.tv_numbers.proofs.LineRows.{same_line}
 use Rattle.tv_numbers.proofs.RangeLaws.{numbers_stay_in_range}
 use Rattle.tv_numbers.proofs.StepLaws.{numbers_do, same_view}
 use Rattle.tv_numbers.specs.Laws.{DoesStep}
-use Rattle.tv_numbers.specs.Numbers.{Did, asks, stepped}
+use Rattle.tv_numbers.specs.Numbers.{Did, operand_word, other_word, result_in, stepped}
+use Rattle.tv_numbers.specs.Tables.{store_ops, writer_ops, pcs}
 use Rattle.tv_numbers.specs.Views.{View, flag_of, ViewInRange}
-use Rattle.tv_regs.specs.Choices.{choose_of}
-use Rattle.tv_regs.specs.Reading.{words_at}
-use Rattle.tv_word.proofs.WidthLaws.{width_short, for_widths}
+use Rattle.tv_step.specs.Rows.{word_size}
+use Rattle.tv_word.proofs.WidthLaws.{for_widths}
 use Rattle.tv_word.specs.Widths.{IsWidth}
-use Rattle.tv_block.proofs.DataLaws.{AreData, data_sound, one_tape}
-use Rattle.tv_block.proofs.PartLaws.{IsFetched, head_in, tail_in, AreOperands, fetch_sound, operands_sound, groups_sound}
-use Rattle.tv_block.proofs.PcLaws.{pc_sound}
-use Rattle.tv_block.proofs.StoreLaws.{AreStore, store_sound}
-use Rattle.tv_block.proofs.TableLaws.{flag_sound, result_sound, flag_test}
-use Rattle.tv_block.proofs.TapeLaws.{took, tapes_sound}
-use Rattle.tv_block.specs.Block.{compute_of, word_inverse, cell_of, block_of, BlockIsStep, BlockIsSound}
-use Rattle.tv_block.specs.Data.{data_of}
-use Rattle.tv_block.specs.Fetch.{state_in, fetch_of}
-use Rattle.tv_block.specs.Groups.{groups_of}
-use Rattle.tv_block.specs.Operands.{operands_of}
-use Rattle.tv_block.specs.Pc.{pc_of}
-use Rattle.tv_block.specs.Result.{result_of, flag_table}
-use Rattle.tv_block.specs.Store.{store_of}
-use Rattle.tv_block.specs.Tapes.{tapes_of}
-use Rattle.tv_block.specs.declared.computed.Computed.{Computed}
-use Rattle.tv_block.specs.declared.records.StateWires.{StateWires}
-use Rattle.tv_numbers.proofs.LineRows.{same_line}
+use Rattle.tv_parts.proofs.ArithmeticLaws.{arithmetic_sound}
+use Rattle.tv_parts.proofs.FlagFills.{flag_sound}
+use Rattle.tv_parts.proofs.MemoryFills.{memory_sound}
+use Rattle.tv_parts.proofs.OpcodeLaws.{opcode_wire_is}
+use Rattle.tv_parts.proofs.OperandLaws.{operand_sound}
+use Rattle.tv_parts.proofs.PcFills.{pc_sound}
+use Rattle.tv_parts.proofs.ResultFills.{results_sound}
+use Rattle.tv_parts.proofs.ShiftTests.{shift_test_sound}
+use Rattle.tv_parts.proofs.TapeFills.{flag_test}
+use Rattle.tv_parts.proofs.TapeLaws.{tapes_sound}
+use Rattle.tv_parts.specs.Arithmetic.{shift_ops, division_ops, arithmetic_of, IsArithmetic}
+use Rattle.tv_parts.specs.Flag.{sign_at, next_flag_of}
+use Rattle.tv_parts.specs.Memory.{memory_of, AreStored}
+use Rattle.tv_parts.specs.OpcodeSums.{IsOpcode}
+use Rattle.tv_parts.specs.Operand.{operand_of, IsOperand}
+use Rattle.tv_parts.specs.Pc.{pc_of}
+use Rattle.tv_parts.specs.Results.{sign_of, results_of, zero_ops, AreResults}
+use Rattle.tv_parts.specs.States.{state_in}
+use Rattle.tv_parts.specs.Tapes.{tapes_of, took, AreTapes}
+use Rattle.tv_parts.specs.Written.{written_of}
+use Rattle.tv_parts.specs.declared.records.ArithmeticWires.{ArithmeticWires}
+use Rattle.tv_parts.specs.declared.records.OperandWires.{OperandWires}
+use Rattle.tv_parts.specs.declared.records.ResultWires.{ResultWires}
+use Rattle.tv_parts.specs.declared.records.StateWires.{StateWires}
+use Rattle.tv_parts.specs.declared.records.TapeWires.{TapeWires}
+use Rattle.tv_block.proofs.PartLaws.{opcode_of_row, op_below, dest_below, source_below, among_each, registers_sound, written_sound, sign_value}
+use Rattle.tv_block.proofs.PartLaws.{sign_shift, sign_division}
+use Rattle.tv_block.specs.Block.{registers_of, data_of, sources_of, computed_of, effects_of, block_of, word_inverse, cell_of, BlockIsStep, BlockIsSound}
 
--- what is computed before the program counter is that of a step in numbers
-pub record AreComputed (w : ℕ) (z : List ℕ) (c : Computed) (n : ℕ) (now : View) (head tail o : ℕ) (takes : Bool) : Type 0 where
-  pub fetched : IsFetched w z c.fetched head tail
-  pub operands : AreOperands w z c.operands now (decode w head tail)
-  pub data_ : AreData w z c.data_word n now (decode w head tail) takes o
-  pub store : AreStore w z c.store n now (decode w head tail) takes o
-  pub takes_is : slice_index z c.takes ≡ flag_of takes
-  pub asked : takes ≡ true → asks now (decode w head tail) ≡ true
-  pub taken : slice_index z c.taken ≡ (stepped w n now (decode w head tail) o takes).taken
-  pub ended : slice_index z c.ended ≡ (stepped w n now (decode w head tail) o takes).ended
-  pub regs : words_at z c.regs ≡ (stepped w n now (decode w head tail) o takes).regs
-  pub flag : slice_index z c.flag ≡ (stepped w n now (decode w head tail) o takes).flag
+-- ---- the state
+pub state_sixteen : (w : ℕ) (z : List ℕ) (n : ℕ) (state : StateWires) → ViewInRange w n (state_in z state) → length state.regs ≡ 16
+state_sixteen w z n state range = sym (length-map state.regs (λ k. slice_index z k)) ∙ range.registers
 
--- the wires of a state in range are sixteen registers'
-wires_sixteen : (w : ℕ) (z : List ℕ) (n : ℕ) (state : StateWires) → ViewInRange w n (state_in z state) → length state.regs ≡ 16
-wires_sixteen w z n state range = sym (length-map state.regs (λ k. slice_index z k)) ∙ range.registers
+pub register_word : (w n : ℕ) (v : View) (j : ℕ) → ViewInRange w n v → j < 16 → slice_index v.regs j < 2 ^ w
+register_word w n v j range h = let size = range.registers in All-get_or (λ k. k < 2 ^ w) v.regs j 0 (omega arith) range.words
 
-compute_sound : (w : ℕ) → IsWidth w → (z : List ℕ) (at n : ℕ) (state : StateWires) → n < 2 ^ 29 → Assigns z → ViewInRange w n (state_in z state) → Meets z (compute_of w n state at).list
-    → AreComputed w z (compute_of w n state at).answer n (state_in z state) (head_in w z (compute_of w n state at).answer.fetched) (tail_in w z (compute_of w n state at).answer.fetched)
-    (spelled z (compute_of w n state at).answer.data_word.bits.first w) (slice_index z (compute_of w n state at).answer.takes == 1)
-unfolding compute_of pure ◌>>=◌
-compute_sound w width z at n state short assigns range meets =
-    let now = state_in z state in
-    let size = wires_sixteen w z n state range in
-    let f = fetch_of w at in
-    let p = operands_of w state f.answer f.next in
-    let g = groups_of w p.answer.x p.answer.a p.next in
-    let t = tapes_of w n state f.answer.fields.op p.answer.a g.next in
-    let d = data_of w state f.answer.fields.op p.answer.a t.answer t.next in
-    let s = store_of w f.answer.fields.op p.answer d.answer d.next in
-    let r = result_of w state f.answer p.answer g.answer d.answer s.answer s.next in
-    let e = choose_of f.answer.fields.op (flag_table w state p.answer g.answer t.answer) r.next in
-    let m1 = Meets-split z f.list _ meets in
-    let m2 = Meets-split z p.list _ m1.1 in
-    let m3 = Meets-split z g.list _ m2.1 in
-    let m4 = Meets-split z t.list _ m3.1 in
-    let m5 = Meets-split z d.list _ m4.1 in
-    let m6 = Meets-split z s.list _ m5.1 in
-    let m7 = Meets-split z r.list _ m6.1 in
-    let m8 = Meets-split z e.list [] m7.1 in
-    let i : Instr = decode w (head_in w z f.answer) (tail_in w z f.answer) in
-    let o = spelled z d.answer.bits.first w in
-    let takes = took z t.answer in
-    let fetched = fetch_sound w width z at assigns m1.0 in
-    let operands = operands_sound w width z f.next state f.answer _ _ size assigns fetched m2.0 in
-    let groups = groups_sound w width z p.next p.answer.x p.answer.a _ _ assigns operands.x operands.a m3.0 in
-    let tapes = tapes_sound w width z g.next n state f.answer.fields.op p.answer.a now i short range.taken range.ended refl refl assigns fetched.fields.op operands.a m4.0 in
-    let data_ = data_sound w width z t.next n state f.answer.fields.op p.answer.a t.answer now i short range.taken refl assigns fetched.fields.op operands.a tapes m5.0 in
-    let store = store_sound w width z d.next n f.answer.fields.op p.answer d.answer now i takes o assigns fetched.fields.op operands data_ m6.0 in
-    record {
-      fetched = fetched;
-      operands = operands;
-      data_ = data_;
-      store = store;
-      takes_is = tapes.takes;
-      asked = tapes.asked;
-      taken = tapes.taken;
-      ended = tapes.ended;
-      regs = result_sound w width z s.next n state f.answer p.answer g.answer d.answer s.answer now i takes o size assigns fetched.fields.op fetched.fields.dest operands groups data_ store range.flag refl refl m7.0;
-      flag = flag_sound w width z r.next f.answer.fields.op n now i o state p.answer g.answer t.answer assigns fetched.fields.op operands groups tapes (one_tape now i n takes tapes.asked) refl fetched.used m8.0;
-    }
+pub either_word : (b : Bool) (x y top : ℕ) → x < top → y < top → (if b then x else y) < top
+either_word true x y top h k = h
+either_word false x y top h k = k
+
+pub other_below : (w n : ℕ) (v : View) (head tail : ℕ) → ViewInRange w n v → other_word v (decode w head tail) < 2 ^ w
+other_below w n v head tail range =
+    let i : Instr = decode w head tail in
+    either_word (among store_ops i.op) (slice_index v.regs i.dest) (slice_index v.regs i.source) (2 ^ w)
+    (register_word w n v i.dest range (dest_below w head tail)) (register_word w n v i.source range (source_below w head tail))
+
+-- a result that is tested for 0 is one that is written, but at cmpe
+zero_writes : (k : ℕ) → among zero_ops k ≡ true → k ≢ CMPE → among (CMOV ∷ writer_ops) k ≡ true
+zero_writes = among_each (λ k. k ≢ CMPE → among (CMOV ∷ writer_ops) k ≡ true) zero_ops
+    (λ _. refl, (λ _. refl, (λ _. refl, (λ _. refl, (λ apart. absurd (apart refl), tt)))))
+
+-- ---- the parts, each over the wires of the parts before it
+-- z has a state in range at the wires before the step
+pub record Before (w : ℕ) (z : List ℕ) (n : ℕ) (state : StateWires) : Type 0 where
+  pub width : IsWidth w
+  pub assigns : Assigns z
+  pub short : n < 2 ^ 29
+  pub range : ViewInRange w n (state_in z state)
+
+-- f is the sign of an opcode's test where y is 0, and else 0
+abbrev pub Tests : List ℕ → ℕ → ℕ → ℕ → Type 0
+Tests z k y f = slice_index z f ≡ (if slice_index z y == 0 then sign_at k else 0)
+
+-- head and tail are the words of the instruction
+module _ {w : ℕ} {z : List ℕ} {n : ℕ} {state : StateWires} (known : Before w z n state) (head tail : ℕ) where
+  abbrev v : View
+  v = state_in z state
+
+  abbrev i : Instr
+  i = decode w head tail
+
+  abbrev x : ℕ
+  x = other_word v i
+
+  abbrev a : ℕ
+  a = operand_word v i
+
+  pub operand_in : (next : ℕ) (made : InstructionWires) (named : ℕ) → IsDecoded z w made head tail → slice_index z named ≡ slice_index v.regs (i.a % 16)
+      → Meets z (operand_of w (imm_wire w made) made.tail named next).list
+      → IsOperand w z (operand_of w (imm_wire w made) made.tail named next).answer a
+  operand_in next made named is held meets =
+      operand_sound w known.width z next (imm_wire w made) made.tail named i.imm tail (slice_index v.regs (tail % 16)) (record {
+        assigns = known.assigns;
+        bit = is.imm;
+        whole = is.tail;
+        held = held;
+        second_word = is.tail_word;
+        named_word = register_word w n v (tail % 16) known.range (omega arith);
+      }) meets
+
+  test_in : (next op y f : ℕ) → IsOpcode z op i.op → Meets z (zero_sign_of y f (sign_of op) next).list → Tests z i.op y f
+  test_in next op y f row meets =
+      zero_sign_sound z next y f (sign_of op) known.assigns meets ∙ ap (λ s. if slice_index z y == 0 then s else 0) (sign_value z op i.op row)
+
+  module _ {op : ℕ} {taken : OperandWires} (row : IsOpcode z op i.op) (is : IsOperand w z taken a) where
+    pub arithmetic_in : (next other y f : ℕ) → slice_index z other ≡ x → Tests z i.op y f
+        → (among shift_ops i.op ≡ true → (if slice_index z y == 0 then 1 else 0) ≡ flag_of (nat_lt a w))
+        → Meets z (arithmetic_of w op other f taken next).list
+        → IsArithmetic w z (arithmetic_of w op other f taken next).answer f taken i.op x a
+    arithmetic_in next other y f held test shifted meets =
+        arithmetic_sound w known.width z next op other f taken i.op x a (record {
+          assigns = known.assigns;
+          opcode = row;
+          word = other_below w n v head tail known.range;
+          held = held;
+          taken = is;
+          shifts = λ e. test ∙ ap (λ s. if slice_index z y == 0 then s else 0) (sign_shift i.op e) ∙ shifted e;
+          divides = λ e.
+              subst IsBit (sym (test ∙ ap (λ s. if slice_index z y == 0 then s else 0) (sign_division i.op e)))
+              (either_word (slice_index z y == 0) 1 0 2 (omega arith) (omega arith));
+        }) meets
+
+    pub tapes_in : (next : ℕ) → Meets z (tapes_of w n state op taken.bits next).list → AreTapes z (tapes_of w n state op taken.bits next).answer n v i
+    tapes_in next meets =
+        tapes_sound w known.width z next n state op taken.bits v i (record {
+          assigns = known.assigns;
+          short = known.short;
+          within = known.range.taken;
+          bit = known.range.ended;
+          before = refl;
+          ended = refl;
+          opcode = row;
+          operand = is.bits;
+        }) meets
+
+    pc_in : (next : ℕ) → Meets z (pc_of w state op taken.bits next).list
+        → slice_index z (pc_of w state op taken.bits next).answer ≡ chosen (pcs w v.pc a v.flag) i.op
+    pc_in next meets =
+        pc_sound w known.width z next state op taken.bits v i (record {
+          assigns = known.assigns;
+          small = known.range.pc_fits;
+          aligned = known.range.pc_aligned;
+          bit = known.range.flag;
+          pc = refl;
+          flag = refl;
+          opcode = row;
+          operand = is.bits;
+        }) meets
+
+    module _ {f : ℕ} {made : ArithmeticWires} {t : TapeWires} (does : IsArithmetic w z made f taken i.op x a) (tapes : AreTapes z t n v i) where
+      abbrev low : ℕ
+      low = slice_index z made.row.low
+
+      abbrev high : ℕ
+      high = slice_index z made.row.high
+
+      pub memory_in : (next other : ℕ) → slice_index z other ≡ x → Meets z (memory_of w state op taken.bits (data_of made other) t next).list
+          → AreStored w z (memory_of w state op taken.bits (data_of made other) t next).answer n v i low (took z t)
+      memory_in next other held meets =
+          memory_sound w known.width z next n state op taken.bits (data_of made other) t v i does.bits.0 low (record {
+            assigns = known.assigns;
+            short = known.short;
+            within = known.range.taken;
+            before = refl;
+            opcode = row;
+            operand = is.bits;
+            bits = does.row.low;
+            word = refl;
+            spelled = does.bits.1;
+            stored = λ e. does.bits.1.number ∙ sym (does.same (ap (among division_ops) e)).number;
+            other = held;
+            both = does.both;
+            tapes = tapes;
+          }) meets
+
+      pub results_in : (next byte : ℕ) → slice_index z byte ≡ byte_of low (a % word_size w)
+          → Meets z (results_of w state op taken.bits (sources_of w made taken.word byte) t next).list
+          → AreResults w z (results_of w state op taken.bits (sources_of w made taken.word byte) t next).answer n v i low high (took z t)
+      results_in next byte is_byte meets =
+          let width = known.width in
+          results_sound w width z next n state op taken.bits (sources_of w made taken.word byte) t v i low high (record {
+            assigns = known.assigns;
+            within = known.range.taken;
+            short = known.short;
+            before = refl;
+            opcode = row;
+            operand = is.bits;
+            value = is.word;
+            low_wire = refl;
+            high_wire = refl;
+            top = Spells-bit_at does.row.low (w - 1) (omega (arith, width));
+            byte = is_byte;
+            other = other_below w n v head tail known.range;
+            halves = does.halves;
+            tapes = tapes;
+          }) meets
+
+      -- a result that is tested for 0 is the table's, and at cmpe the low half
+      pub zero_word : (r : ResultWires) → AreResults w z r n v i low high (took z t) → among zero_ops i.op ≡ true
+          → slice_index z r.word ≡ (if i.op == CMPE then low else result_in w n v i low (took z t))
+      zero_word r results e = elim (cases_eq i.op CMPE) [
+        | inl same ↦ results.compared same ∙ sym (ap (λ b. if b then low else result_in w n v i low (took z t)) (eq-eqb i.op CMPE same))
+        | inr apart ↦ results.word (zero_writes i.op e apart) ∙ sym (ap (λ b. if b then low else result_in w n v i low (took z t)) (ne_eqb i.op CMPE apart))
+      ]
+
+      flag_in : (next : ℕ) (r : ResultWires) → AreResults w z r n v i low high (took z t) → Tests z i.op r.tested f
+          → Meets z (next_flag_of w state op made.x f t next).list
+          → slice_index z (next_flag_of w state op made.x f t next).answer ≡ (stepped w n v i low (took z t)).flag
+      flag_in next r results test meets =
+          let width = known.width in
+          flag_sound w width z next n state op made.x f t v i low high (slice_index z r.word) (slice_index z r.tested) low (record {
+            assigns = known.assigns;
+            short = known.short;
+            within = known.range.taken;
+            bit = known.range.flag;
+            before = refl;
+            flag = refl;
+            opcode = row;
+            other = other_below w n v head tail known.range;
+            operand = Spells-below is.bits;
+            lowest = λ e. ap (slice_index z) (plus_none made.x.first) ∙ Spells-bit_at (does.same (no_division e)) 0 (omega (arith, width));
+            top = λ e. Spells-bit_at (does.same (no_division e)) (w - 1) (omega (arith, width));
+            test = test;
+            tested = results.tested;
+            result_word = zero_word r results;
+            divides = does.by_zero;
+            halves = does.halves;
+            tapes = tapes;
+          }) meets
+        where
+          plus_none : (k : ℕ) → k ≡ k + 0
+          plus_none k = omega arith
+
+          no_division : among shift_ops i.op ≡ true → among division_ops i.op ≡ false
+          no_division = among_each (λ k. among division_ops k ≡ false) shift_ops (refl, (refl, tt)) i.op
 
 -- ---- cells and times
 by_parts : (w : ℕ) → IsWidth w → (q : ℕ) → q < 2 ^ w / (w / 8) → (word_inverse w * (w / 8 * q) + 0) % P ≡ q
-by_parts w width = for_widths (λ w. (q : ℕ) → q < 2 ^ w / (w / 8) → (word_inverse w * (w / 8 * q) + 0) % P ≡ q) (λ q h. omega arith) (λ q h. omega arith) w width
+by_parts w width = for_widths ByParts (λ q h. omega arith) (λ q h. omega arith) w width
+  where
+    ByParts : ℕ → Type 0
+    ByParts w = (q : ℕ) → q < 2 ^ w / (w / 8) → (word_inverse w * (w / 8 * q) + 0) % P ≡ q
 
 -- a multiple of an instruction's bytes is one of a word's
-whole_word : (w : ℕ) → IsWidth w → (pc : ℕ) → pc % (w / 4) ≡ 0 → pc ≡ w / 8 * (pc / (w / 8))
-whole_word w width = for_widths (λ w. (pc : ℕ) → pc % (w / 4) ≡ 0 → pc ≡ w / 8 * (pc / (w / 8))) (λ pc h. omega arith) (λ pc h. omega arith) w width
+record IsPlace (w pc : ℕ) : Type 0 where
+  pub whole : pc ≡ w / 8 * (pc / (w / 8))
+  pub small : pc / (w / 8) < 2 ^ w / (w / 8)
+  pub next : (pc / (w / 8) + 1 % P) % P ≡ pc / (w / 8) + 1
 
-place_small : (w : ℕ) → IsWidth w → (pc : ℕ) → pc < 2 ^ w → pc % (w / 4) ≡ 0 → pc / (w / 8) < 2 ^ w / (w / 8)
-place_small w width = for_widths (λ w. (pc : ℕ) → pc < 2 ^ w → pc % (w / 4) ≡ 0 → pc / (w / 8) < 2 ^ w / (w / 8)) (λ pc h k. omega arith) (λ pc h k. omega arith) w width
+is_place : (w : ℕ) → IsWidth w → (pc : ℕ) → pc < 2 ^ w → pc % (w / 4) ≡ 0 → IsPlace w pc
+is_place w width = for_widths Places at_16 at_32 w width
+  where
+    Places : ℕ → Type 0
+    Places w = (pc : ℕ) → pc < 2 ^ w → pc % (w / 4) ≡ 0 → IsPlace w pc
 
-cell_value : (w : ℕ) → IsWidth w → (pc : ℕ) → pc < 2 ^ w → pc % (w / 4) ≡ 0 → (word_inverse w * pc + 0) % P ≡ pc / (w / 8)
-cell_value w width pc h e = ap (λ n. (word_inverse w * n + 0) % P) (whole_word w width pc e) ∙ by_parts w width (pc / (w / 8)) (place_small w width pc h e)
+    at_16 : Places 16
+    at_16 pc h e = record { whole = omega arith; small = omega arith; next = omega arith }
 
-next_cell : (w : ℕ) → IsWidth w → (pc : ℕ) → pc < 2 ^ w → (pc / (w / 8) + 1 % P) % P ≡ pc / (w / 8) + 1
-next_cell w width = for_widths (λ w. (pc : ℕ) → pc < 2 ^ w → (pc / (w / 8) + 1 % P) % P ≡ pc / (w / 8) + 1) (λ pc h. omega arith) (λ pc h. omega arith) w width
+    at_32 : Places 32
+    at_32 pc h e = record { whole = omega arith; small = omega arith; next = omega arith }
+
+cell_value : (w : ℕ) → IsWidth w → (pc : ℕ) → IsPlace w pc → (word_inverse w * pc + 0) % P ≡ pc / (w / 8)
+cell_value w width pc is = ap (λ n. (word_inverse w * n + 0) % P) is.whole ∙ by_parts w width (pc / (w / 8)) is.small
 
 small_time : (t : ℕ) → t < 2 ^ 33 → t % P ≡ t
 small_time t h = omega arith
 
-pub same_did : (a b : View) (c d : View) (e f g h k l : Line) (m n : Bool) (o p : ℕ) (q r : Bool) (s t : ℕ) → a ≡ b → c ≡ d → e ≡ f → g ≡ h → k ≡ l → m ≡ n → o ≡ p → q ≡ r → s ≡ t
-    → ◌≡◌ {A = Did} (record { now = a; after = c; first = e; second = g; data_line = k; takes = m; word = o; answers = q; value = s }) (record { now = b; after = d; first = f; second = h; data_line = l; takes = n; word = p; answers = r; value = t })
+same_did : (a b c d : View) (e f g h k l : Line) (m n : Bool) (o p : ℕ) (q r : Bool) (s t : ℕ)
+    → a ≡ b → c ≡ d → e ≡ f → g ≡ h → k ≡ l → m ≡ n → o ≡ p → q ≡ r → s ≡ t
+    → ◌≡◌ {A = Did} (record { now = a; after = c; first = e; second = g; data_line = k; takes = m; word = o; answers = q; value = s })
+    (record { now = b; after = d; first = f; second = h; data_line = l; takes = n; word = p; answers = r; value = t })
 same_did a b c d e f g h k l m n o p q r s t e1 e2 e3 e4 e5 e6 e7 e8 e9 = cc
 
-hot_is : (z : List ℕ) (op k : ℕ) → IsOneHot z op 32 k → slice_index z (op + 31) ≡ flag_of (k == 31)
-hot_is z op k row = elim (cases_eq k 31) [
-  | inl same ↦ ap (λ n. slice_index z (op + n)) (sym same) ∙ row.hot ∙ sym (ap flag_of (eq-eqb k 31 same))
-  | inr apart ↦ row.cold 31 (omega arith) (λ e. apart (sym e)) ∙ sym (ap flag_of (ne_eqb k 31 apart))
-]
+-- the cells of the instruction's words
+module _ {w : ℕ} {z : List ℕ} {n : ℕ} {state : StateWires} (known : Before w z n state) where
+  place : IsPlace w (slice_index z state.pc)
+  place = is_place w known.width (slice_index z state.pc) known.range.pc_fits known.range.pc_aligned
 
+  head_cell : value (cell_of w state.pc) z ≡ slice_index z state.pc / (w / 8)
+  head_cell = value-cons (word_inverse w) state.pc [] z ∙ cell_value w known.width (slice_index z state.pc) place
+
+  tail_cell : value (cell_of w state.pc ++ constant 1) z ≡ slice_index z state.pc / (w / 8) + 1
+  tail_cell = value-append (cell_of w state.pc) (constant 1) z ∙ ap₂ (λ m k. (m + k) % P) head_cell (value-constant known.assigns 1) ∙ place.next
+
+  time_is : (t : ℕ) → t < 2 ^ 33 → value (constant t) z ≡ t
+  time_is t h = value-constant known.assigns t ∙ small_time t h
+
+-- ---- the step
 pub step_in : BlockIsStep
-unfolding block_of pure ◌>>=◌
+unfolding block_of computed_of effects_of fresh pure ◌>>=◌
 step_in w width z n state time at short early assigns range meets =
-    let most = width_short w width in
-    let c = compute_of w n state at in
-    let pc = pc_of w state c.answer.fetched.fields.op c.answer.operands.a c.next in
-    let m1 = Meets-split z c.list _ meets in
-    let m2 = Meets-split z pc.list [] m1.1 in
-    let is = compute_sound w width z at n state short assigns range m1.0 in
-    let head = head_in w z c.answer.fetched in
-    let tail = tail_in w z c.answer.fetched in
+    let decoded = instruction_of w at in
+    let op = decoded.answer.op in
+    let regs = registers_of w state decoded.answer decoded.next in
+    let operand = operand_of w (imm_wire w decoded.answer) decoded.answer.tail regs.answer.named_word regs.next in
+    let test = operand.next in
+    let made = arithmetic_of w op regs.answer.other_word test operand.answer (operand.next + 1) in
+    let tapes = tapes_of w n state op operand.answer.bits made.next in
+    let d = data_of made.answer regs.answer.other_word in
+    let memory = memory_of w state op operand.answer.bits d tapes.answer tapes.next in
+    let from = sources_of w made.answer operand.answer.word memory.answer.byte in
+    let results = results_of w state op operand.answer.bits from tapes.answer memory.next in
+    let zeros = zero_sign_of results.answer.tested test (sign_of op) results.next in
+    let written = written_of op state regs.answer results.answer.word zeros.next in
+    let flag = next_flag_of w state op made.answer.x test tapes.answer written.next in
+    let pc = pc_of w state op operand.answer.bits flag.next in
+    let computed = computed_of w state at in
+    let effects = effects_of w n state computed.answer computed.next in
+    let first = Meets-split z computed.list _ meets in
+    let second = Meets-split z effects.list [] first.1 in
+    let m1 = Meets-split z decoded.list _ first.0 in
+    let m2 = Meets-split z regs.list _ m1.1 in
+    let m3 = Meets-split z operand.list _ m2.1 in
+    let m4 = Meets-split z made.list [] m3.1 in
+    let m5 = Meets-split z tapes.list _ second.0 in
+    let m6 = Meets-split z memory.list _ m5.1 in
+    let m7 = Meets-split z results.list _ m6.1 in
+    let m8 = Meets-split z zeros.list _ m7.1 in
+    let m9 = Meets-split z written.list _ m8.1 in
+    let m10 = Meets-split z flag.list _ m9.1 in
+    let m11 = Meets-split z pc.list [] m10.1 in
+    let head = slice_index z decoded.answer.head in
+    let tail = slice_index z decoded.answer.tail in
     let i : Instr = decode w head tail in
-    let o = spelled z c.answer.data_word.bits.first w in
-    let takes = slice_index z c.answer.takes == 1 in
-    let is_pc = pc_sound w width z c.next state c.answer.fetched.fields.op c.answer.operands.a (state_in z state) i range.pc_fits range.pc_aligned range.flag refl refl assigns is.fetched.fields.op is.fetched.used is.operands.a m2.0 in
-    let cell = value-cons (word_inverse w) state.pc [] z ∙ cell_value w width (slice_index z state.pc) range.pc_fits range.pc_aligned in
-    let head_is = value-bits_below is.fetched.head (omega arith) in
-    let tail_is = value-bits_below is.fetched.tail (omega arith) in
-    let answers = hot_is z c.answer.fetched.fields.op i.op is.fetched.fields.op in
+    let v = state_in z state in
+    let o = slice_index z made.answer.row.low in
+    let takes = took z tapes.answer in
+    let known : Before w z n state = record { width = width; assigns = assigns; short = short; range = range } in
+    let size = state_sixteen w z n state range in
+    let is_decoded = instruction_sound w width z at assigns m1.0 in
+    let row = opcode_of_row z op i.op (op_below w head tail) is_decoded.opcode in
+    let are = registers_sound w width z decoded.next state decoded.answer head tail size assigns is_decoded m2.0 in
+    let is = operand_in known head tail regs.next decoded.answer regs.answer.named_word is_decoded are.named m3.0 in
+    let is_test = test_in known head tail results.next op results.answer.tested test row m8.0 in
+    let shifted : among shift_ops i.op ≡ true → (if slice_index z results.answer.tested == 0 then 1 else 0) ≡ flag_of (nat_lt (operand_word v i) w) =
+    (λ e. shift_test_sound w width z memory.next state op operand.answer.bits from tapes.answer i.op (operand_word v i) assigns row e is.bits m7.0) in
+    let does = arithmetic_in known head tail row is (operand.next + 1) regs.answer.other_word results.answer.tested test are.other is_test shifted m4.0 in
+    let are_tapes = tapes_in known head tail row is made.next m5.0 in
+    let stored = memory_in known head tail row is does are_tapes tapes.next regs.answer.other_word are.other m6.0 in
+    let are_results = results_in known head tail row is does are_tapes memory.next memory.answer.byte stored.byte m7.0 in
+    let regs_are =
+    written_sound w z zeros.next n state op regs.answer results.answer.word v i o takes
+    size assigns row (dest_below w head tail) range.flag refl refl are are_results.word m9.0 in
+    let flag_is = flag_in known head tail row is does are_tapes written.next results.answer are_results is_test m10.0 in
+    let pc_is = pc_in known head tail row is flag.next m11.0 in
+    let head_is = value-wire assigns decoded.answer.head in
+    let tail_is = value-wire assigns decoded.answer.tail in
+    let answers = opcode_wire_is z op i.op ANSWER row (omega arith) refl in
     record {
       head = head;
       tail = tail;
@@ -162,29 +381,32 @@ step_in w width z n state time at short early assigns range meets =
       at_numbers = record {
         short = short;
         range = range;
-        head_word = Spells-below is.fetched.head;
-        tail_word = Spells-below is.fetched.tail;
-        data_word = Spells-below is.data_.bits;
-        used = is.fetched.used;
-        asked = is.asked;
+        head_word = is_decoded.head_word;
+        tail_word = is_decoded.tail_word;
+        data_word = does.halves.low_word;
+        used = row.used;
+        asked = are_tapes.asked;
       };
       same = same_did _ _ _ _ _ _ _ _ _ _ _ _ _ _ _ _ _ _ refl
-          (same_view _ _ _ _ _ _ _ _ _ _ is_pc is.regs is.flag is.taken is.ended)
-          (same_line _ _ _ _ _ _ _ _ cell (value-constant assigns time ∙ small_time time (omega arith)) head_is head_is)
-          (same_line _ _ _ _ _ _ _ _ (value-append (cell_of w state.pc) (constant 1) z ∙ ap₂ (λ m k. (m + k) % P) cell (value-constant assigns 1) ∙ next_cell w width (slice_index z state.pc) range.pc_fits) (value-constant assigns (time + 1) ∙ small_time (time + 1) (omega arith)) tail_is tail_is)
-          (same_line _ _ _ _ _ _ _ _ (value-wire assigns c.answer.data_word.cell ∙ is.data_.cell) (value-constant assigns (time + 2) ∙ small_time (time + 2) (omega arith)) (value-wire assigns c.answer.data_word.old ∙ is.data_.old) (value-wire assigns c.answer.store.new ∙ is.store.new))
-          refl is.data_.word (ap (λ k. k == 1) answers ∙ flag_test (i.op == 31)) is.operands.operand;
-      taken = is.takes_is;
+          (same_view _ _ _ _ _ _ _ _ _ _ pc_is regs_are flag_is are_tapes.taken are_tapes.ended)
+          (same_line _ _ _ _ _ _ _ _ (head_cell known) (time_is known time (omega arith)) head_is head_is)
+          (same_line _ _ _ _ _ _ _ _ (tail_cell known) (time_is known (time + 1) (omega arith)) tail_is tail_is)
+          (same_line _ _ _ _ _ _ _ _ (value-wire assigns memory.answer.line.cell ∙ stored.cell) (time_is known (time + 2) (omega arith))
+          (value-wire assigns memory.answer.line.old ∙ stored.old) (value-wire assigns memory.answer.new ∙ stored.new))
+          refl refl (ap (λ k. k == 1) answers ∙ flag_test (i.op == ANSWER)) is.word;
+      taken = are_tapes.takes;
       answers = answers;
     }
 
 pub block_sound : BlockIsSound
 block_sound w width z x state time next short early assigns range meets =
-    let made = (block_of w (length x) state time next).answer in
+    let v = state_in z state in
     let step = step_in w width z (length x) state time next short early assigns range meets in
+    let after = numbers_stay_in_range w width (length x) time v step.head step.tail step.word step.takes step.at_numbers in
+    let does = numbers_do w width x time v step.head step.tail step.word step.takes step.at_numbers in
     record {
-      range = subst (λ (b : Did). ViewInRange w (length x) b.after) (sym step.same) (numbers_stay_in_range w width (length x) time (state_in z state) step.head step.tail step.word step.takes step.at_numbers);
-      does = subst (DoesStep w x time) (sym step.same) (numbers_do w width x time (state_in z state) step.head step.tail step.word step.takes step.at_numbers);
+      range = subst (λ (b : Did). ViewInRange w (length x) b.after) (sym step.same) after;
+      does = subst (DoesStep w x time) (sym step.same) does;
       takes = step.taken ∙ sym (ap (λ (b : Did). flag_of b.takes) step.same);
       answers = step.answers ∙ sym (ap (λ (b : Did). flag_of b.answers) step.same);
     }

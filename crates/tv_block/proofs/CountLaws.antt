@@ -1,106 +1,195 @@
--- What a step costs: at each width its constraints are a list of one shape whatever it is given, so this computes.
-use Rattle.std.proofs.Common.{◌≡◌, ℕ, ◌+◌, ◌%◌, ◌^◌, ◌≤◌, List, [], ◌∷◌, length, map, All, refl, arith}
-use Rattle.std.proofs.lemmas.List.Elements.{All-nil, All-cons}
-use Rattle.tv_core.proofs.BelowLaws.{length-weighted}
-use Rattle.tv_core.specs.Below.{each_below, weighted}
-use Rattle.tv_core.specs.Meanings.{terms_in}
-use Rattle.tv_core.specs.declared.field.TheConstants.{P}
+-- What a step costs: its constraints, their terms, and the terms of its lines.
+use Rattle.std.proofs.Common.{◌≡◌, ℕ, ◌+◌, ◌-◌, ◌*◌, ◌/◌, ◌^◌, ◌≤◌, length, All, refl, arith}
+use Rattle.tv_bits.proofs.ZeroSignLaws.{zero_sign_sizes, zero_sign_costs}
+use Rattle.tv_bits.specs.ZeroSign.{zero_sign_of}
+use Rattle.tv_core.specs.Below.{weighted}
+use Rattle.tv_core.specs.Circuits.{fresh}
 use Rattle.tv_core.specs.declared.lines.LineLc.{LineLc}
-use Rattle.tv_core.specs.Circuits.{pure, here, fresh, put, ◌>>=◌, turns}
-use Rattle.tv_bits.specs.Bit.{bit_of}
-use Rattle.tv_bits.specs.Bits.{new_bit, new_bits_of, bits_of}
-use Rattle.tv_bits.specs.Nonzero.{nonzero_of}
-use Rattle.tv_bits.specs.OneHot.{mark_of, onehot_of}
-use Rattle.tv_bits.specs.Order.{first_difference}
-use Rattle.tv_bits.specs.Pairs.{two_ands_of}
-use Rattle.tv_bits.specs.Prefixes.{next_product, zero_product_of, prefix_difference_of}
-use Rattle.tv_bits.specs.Ratio.{ratio_of}
-use Rattle.tv_bits.specs.Select.{pick_of}
-use Rattle.tv_bits.specs.Times.{times_of}
-use Rattle.tv_bits.specs.Zero.{zero_of}
-use Rattle.tv_limb.specs.Difference.{sub_of}
-use Rattle.tv_limb.specs.Split.{split_of}
-use Rattle.tv_limb.specs.Sum.{add_of}
-use Rattle.tv_cmp.specs.Compare.{order_flags_of, signed_size_of, greater_of, compare_of}
-use Rattle.tv_logic.specs.Ands.{and_pair_of, new_and_pair_of, and_of}
-use Rattle.tv_logic.specs.Flags.{logic_flags_of}
-use Rattle.tv_logic.specs.Logic.{logic_of}
-use Rattle.tv_logic.specs.Words.{logic_words_of}
-use Rattle.tv_shift.specs.Halves.{half_bit_of, halves_of}
-use Rattle.tv_shift.specs.Masks.{masked_pair_of, masked_of, mask_at, digit_at}
-use Rattle.tv_shift.specs.Shift.{places_of, parts_of, by_half_of, by_rest_of, ends_of, shift_of}
-use Rattle.tv_shift.specs.Thermometer.{both, mark, level_product_of, level_of, thermometer_of, power_of}
-use Rattle.tv_muldiv.specs.Product.{product_bits_of, product_of}
-use Rattle.tv_muldiv.specs.Quotient.{zero_divisor_of, quotient_wires_of, gate_of, division_of, remainder_below_of, quotient_of}
-use Rattle.tv_muldiv.specs.SignedHigh.{signed_bits_of, signed_high_of}
-use Rattle.tv_decode.specs.Fields.{fields_of}
-use Rattle.tv_regs.specs.Choices.{choice_of, choices_of, choose_of}
-use Rattle.tv_regs.specs.Reading.{read_of, read_reg_of}
-use Rattle.tv_regs.specs.Writing.{write_of, tie_of, write_reg_of}
-use Rattle.tv_block.specs.Block.{compute_of, block_of}
-use Rattle.tv_block.specs.Data.{data_of}
-use Rattle.tv_block.specs.Fetch.{fetch_of}
-use Rattle.tv_block.specs.Gates.{if_zero_of, unless_zero_of, taking_of}
-use Rattle.tv_block.specs.Groups.{groups_of}
-use Rattle.tv_block.specs.Operands.{operands_of}
-use Rattle.tv_block.specs.Pc.{pc_of}
-use Rattle.tv_block.specs.Result.{result_of}
-use Rattle.tv_block.specs.Store.{patch_of_two, patch_of_four, patch_of, store_of}
-use Rattle.tv_block.specs.Tapes.{tapes_of}
-use Rattle.tv_block.specs.Complete.{block_made, block_added}
-use Rattle.tv_block.specs.Costs.{line_terms, terms_are, block_terms, step_costs, HasFewTerms, IsCheap, BlockIsCounted}
-use Rattle.tv_block.specs.Places.{first_line, second_line, third_line, block_wires}
-use Rattle.tv_block.specs.declared.costs.LineTerms.{LineTerms}
-use Rattle.tv_block.specs.declared.records.StateWires.{StateWires}
-use Rattle.tv_word.proofs.WidthLaws.{for_widths, width_short}
+use Rattle.tv_decode.proofs.InstructionLaws.{instruction_sizes, instruction_costs}
+use Rattle.tv_decode.specs.Instructions.{instruction_of, dest_bits, source_bits, register_bits, number_of}
+use Rattle.tv_decode.specs.declared.records.InstructionWires.{InstructionWires}
+use Rattle.tv_numbers.specs.Tables.{store_ops}
+use Rattle.tv_regs.proofs.TripleLaws.{triple_sizes, triple_costs}
+use Rattle.tv_word.proofs.WidthLaws.{for_widths}
 use Rattle.tv_word.specs.Widths.{IsWidth}
+use Rattle.tv_parts.proofs.ArithmeticCounts.{arithmetic_sizes, arithmetic_cost_laws}
+use Rattle.tv_parts.proofs.FlagFills.{flag_sizes, flag_costs}
+use Rattle.tv_parts.proofs.MemoryFills.{memory_sizes, memory_costs}
+use Rattle.tv_parts.proofs.OperandLaws.{operand_sizes, operand_cost_laws}
+use Rattle.tv_parts.proofs.PcFills.{pc_sizes, pc_costs}
+use Rattle.tv_parts.proofs.ResultFills.{results_sizes, results_costs}
+use Rattle.tv_parts.proofs.Sized.{Sized, sized_then, sized_pure, sized_as}
+use Rattle.tv_parts.proofs.TapeFills.{tapes_sizes, tapes_costs}
+use Rattle.tv_parts.proofs.WrittenFills.{written_sizes, written_costs}
+use Rattle.tv_parts.specs.Arithmetic.{arithmetic_of}
+use Rattle.tv_parts.specs.Flag.{next_flag_of}
+use Rattle.tv_parts.specs.Memory.{memory_of}
+use Rattle.tv_parts.specs.OpcodeSums.{opcode_sum}
+use Rattle.tv_parts.specs.Operand.{operand_of}
+use Rattle.tv_parts.specs.Pc.{pc_of}
+use Rattle.tv_parts.specs.Results.{sign_of, results_of}
+use Rattle.tv_parts.specs.Tapes.{tapes_of}
+use Rattle.tv_parts.specs.Written.{written_of}
+use Rattle.tv_parts.specs.declared.records.OperandWires.{OperandWires}
+use Rattle.tv_parts.specs.declared.records.StateWires.{StateWires}
+use Rattle.tv_parts.specs.declared.records.TapeWires.{TapeWires}
+use Rattle.tv_block.proofs.PlaceLaws.{all_three}
+use Rattle.tv_block.specs.Block.{registers_of, data_of, sources_of, computed_of, effects_of, block_of}
+use Rattle.tv_block.specs.Complete.{block_made, block_added}
+use Rattle.tv_block.specs.Costs.{terms_are, block_terms, step_costs, HasFewTerms, IsCheap, BlockIsCounted}
+use Rattle.tv_block.specs.Places.{first_line, second_line, third_line, block_wires}
+use Rattle.tv_block.specs.declared.records.Computed.{Computed}
 
-block_count : (w : ℕ) → IsWidth w → (n : ℕ) (state : StateWires) (time next : ℕ) → length (block_of w n state time next).list ≡ block_added w
-unfolding pure here fresh put ◌>>=◌ turns bit_of new_bit new_bits_of bits_of nonzero_of mark_of onehot_of two_ands_of next_product zero_product_of prefix_difference_of ratio_of times_of zero_of sub_of split_of add_of order_flags_of signed_size_of greater_of compare_of and_pair_of new_and_pair_of and_of logic_flags_of logic_of logic_words_of half_bit_of halves_of masked_pair_of masked_of places_of parts_of by_half_of by_rest_of ends_of shift_of level_product_of level_of thermometer_of product_bits_of product_of zero_divisor_of quotient_wires_of gate_of division_of remainder_below_of quotient_of signed_bits_of signed_high_of fields_of choice_of choices_of choose_of pick_of read_of read_reg_of write_of tie_of write_reg_of compute_of block_of data_of fetch_of if_zero_of unless_zero_of taking_of groups_of operands_of pc_of result_of patch_of_two patch_of_four patch_of store_of tapes_of
-block_count = for_widths (λ w. (n : ℕ) (state : StateWires) (time next : ℕ) → length (block_of w n state time next).list ≡ block_added w) (λ n state time next. refl) (λ n state time next. refl)
+fresh_sized : Sized fresh 1 0 0
+unfolding fresh
+fresh_sized = record { end = λ next. refl; count = λ next. refl; size = λ next. refl }
 
-block_term_count : (w : ℕ) → IsWidth w → (n : ℕ) (state : StateWires) (time next : ℕ) → terms_in (block_of w n state time next).list ≡ block_terms w
-unfolding weighted pure here fresh put ◌>>=◌ turns bit_of new_bit new_bits_of bits_of nonzero_of mark_of onehot_of first_difference two_ands_of next_product zero_product_of prefix_difference_of ratio_of times_of zero_of sub_of split_of add_of order_flags_of signed_size_of greater_of compare_of and_pair_of new_and_pair_of and_of logic_flags_of logic_of logic_words_of half_bit_of halves_of masked_pair_of masked_of mask_at digit_at places_of parts_of by_half_of by_rest_of ends_of shift_of both mark level_product_of level_of thermometer_of power_of product_bits_of product_of zero_divisor_of quotient_wires_of gate_of division_of remainder_below_of quotient_of signed_bits_of signed_high_of fields_of choice_of choices_of choose_of pick_of read_of read_reg_of write_of write_reg_of compute_of block_of data_of fetch_of if_zero_of unless_zero_of taking_of groups_of operands_of pc_of result_of patch_of_two patch_of_four patch_of store_of tapes_of tie_of each_below
-block_term_count w width n state time next = for_widths (λ w. terms_in (block_of w n state time next).list ≡ block_terms w) refl refl w width
+module _ (w : ℕ) (width : IsWidth w) where
+  -- ---- what a step works out
+  instruction_sized : Sized (instruction_of w) (2 * w + 26) (2 * w + 27) (8 * w + 130)
+  instruction_sized = record { end = instruction_sizes.end w width; count = instruction_costs.constraints w width; size = instruction_costs.terms w width }
+
+  registers_sized : (state : StateWires) (i : InstructionWires) → Sized (registers_of w state i) 31 28 212
+  unfolding weighted
+  registers_sized state i =
+      let stores = opcode_sum i.op store_ops in
+      let target = number_of (dest_bits w i) in
+      let source = number_of (source_bits w i) in
+      let named = number_of (register_bits i) in
+      record {
+        end = triple_sizes.end stores target source named state.regs;
+        count = triple_costs.constraints stores target source named state.regs;
+        size = triple_costs.terms stores target source named state.regs;
+      }
+
+  operand_sized : (imm tail register : ℕ) → Sized (operand_of w imm tail register) (w + 1) (w + 2) (4 * w + 7)
+  operand_sized imm tail register = record {
+    end = operand_sizes.end w imm tail register;
+    count = operand_cost_laws.constraints w imm tail register;
+    size = operand_cost_laws.terms w imm tail register;
+  }
+
+  arithmetic_sized : (op other f : ℕ) (operand : OperandWires)
+      → Sized (arithmetic_of w op other f operand) (3 * w + w / 16 + 12) (3 * w + w / 16 + 22) (16 * w + w / 4 + 102)
+  arithmetic_sized op other f operand = record {
+    end = arithmetic_sizes.end w width op other f operand;
+    count = arithmetic_cost_laws.constraints w width op other f operand;
+    size = arithmetic_cost_laws.terms w width op other f operand;
+  }
+
+  computed_sized : (state : StateWires) → Sized (computed_of w state) (6 * w + w / 16 + 71) (6 * w + w / 16 + 79) (28 * w + w / 4 + 451)
+  unfolding computed_of
+  computed_sized state =
+      sized_as (computed_of w state) _ _ _ (6 * w + w / 16 + 71) (6 * w + w / 16 + 79) (28 * w + w / 4 + 451)
+      (sized_then (instruction_of w) _ _ _ _ _ _ _ instruction_sized
+      (λ a. sized_then (registers_of w state (instruction_of w a).answer) _ _ _ _ _ _ _ (registers_sized state (instruction_of w a).answer)
+      (λ b. sized_then (operand_of w _ _ _) _ _ _ _ _ _ _ (operand_sized _ _ _)
+      (λ c. sized_then fresh _ _ _ _ _ _ _ fresh_sized
+      (λ d. sized_then (arithmetic_of w _ _ _ _) _ _ _ _ _ _ _ (arithmetic_sized _ _ _ _)
+      (λ e. sized_pure _))))))
+      (omega arith) (omega arith) (omega arith)
+
+  -- ---- what it does
+  module _ (n : ℕ) (state : StateWires) (c : Computed) where
+    tapes_sized : Sized (tapes_of w n state c.instruction.op c.operand.bits) 7 7 (2 * w + 25)
+    tapes_sized = record {
+      end = tapes_sizes.end w n state c.instruction.op c.operand.bits;
+      count = tapes_costs.constraints w n state c.instruction.op c.operand.bits;
+      size = tapes_costs.terms w width n state c.instruction.op c.operand.bits;
+    }
+
+    memory_sized : (t : TapeWires)
+        → Sized (memory_of w state c.instruction.op c.operand.bits (data_of c.made c.regs.other_word) t) (w / 8 + 5) (w / 8 + 5) (3 * w + 36)
+    memory_sized t = record {
+      end = memory_sizes.end w width state c.instruction.op c.operand.bits (data_of c.made c.regs.other_word) t;
+      count = memory_costs.constraints w width state c.instruction.op c.operand.bits (data_of c.made c.regs.other_word) t;
+      size = memory_costs.terms w width state c.instruction.op c.operand.bits (data_of c.made c.regs.other_word) t;
+    }
+
+    results_sized : (byte : ℕ) (t : TapeWires)
+        → Sized (results_of w state c.instruction.op c.operand.bits (sources_of w c.made c.operand.word byte) t) 5 8 (w - w / 16 + 55)
+    results_sized byte t = record {
+      end = results_sizes.end w state c.instruction.op c.operand.bits (sources_of w c.made c.operand.word byte) t;
+      count = results_costs.constraints w state c.instruction.op c.operand.bits (sources_of w c.made c.operand.word byte) t;
+      size = results_costs.terms w width state c.instruction.op c.operand.bits (sources_of w c.made c.operand.word byte) t;
+    }
+
+    zero_sized : (tested : ℕ) → Sized (zero_sign_of tested c.test (sign_of c.instruction.op)) 1 2 23
+    zero_sized tested = record {
+      end = zero_sign_sizes.end tested c.test (sign_of c.instruction.op);
+      count = zero_sign_costs.constraints tested c.test (sign_of c.instruction.op);
+      size = zero_sign_costs.terms tested c.test (sign_of c.instruction.op);
+    }
+
+    written_sized : (result : ℕ) → Sized (written_of c.instruction.op state c.regs result) 17 18 118
+    written_sized result = record {
+      end = written_sizes.end c.instruction.op state c.regs result;
+      count = written_costs.constraints c.instruction.op state c.regs result;
+      size = written_costs.terms c.instruction.op state c.regs result;
+    }
+
+    flag_sized : (t : TapeWires) → Sized (next_flag_of w state c.instruction.op c.made.x c.test t) 3 3 35
+    flag_sized t = record {
+      end = flag_sizes.end w state c.instruction.op c.made.x c.test t;
+      count = flag_costs.constraints w state c.instruction.op c.made.x c.test t;
+      size = flag_costs.terms w state c.instruction.op c.made.x c.test t;
+    }
+
+    pc_sized : Sized (pc_of w state c.instruction.op c.operand.bits) 4 4 (w - w / 16 + 24)
+    pc_sized = record {
+      end = pc_sizes.end w state c.instruction.op c.operand.bits;
+      count = pc_costs.constraints w state c.instruction.op c.operand.bits;
+      size = pc_costs.terms w width state c.instruction.op c.operand.bits;
+    }
+
+    effects_sized : Sized (effects_of w n state c) (w / 8 + 42) (w / 8 + 47) (7 * w - 2 * (w / 16) + 316)
+    unfolding effects_of
+    effects_sized =
+        sized_as (effects_of w n state c) _ _ _ (w / 8 + 42) (w / 8 + 47) (7 * w - 2 * (w / 16) + 316)
+        (sized_then (tapes_of w n state c.instruction.op c.operand.bits) _ _ _ _ _ _ _ tapes_sized
+        (λ h. sized_then (memory_of w state c.instruction.op c.operand.bits _ _) _ _ _ _ _ _ _ (memory_sized _)
+        (λ i. sized_then (results_of w state c.instruction.op c.operand.bits _ _) _ _ _ _ _ _ _ (results_sized _ _)
+        (λ j. sized_then (zero_sign_of _ c.test (sign_of c.instruction.op)) _ _ _ _ _ _ _ (zero_sized _)
+        (λ k. sized_then (written_of c.instruction.op state c.regs _) _ _ _ _ _ _ _ (written_sized _)
+        (λ l. sized_then (next_flag_of w state c.instruction.op c.made.x c.test _) _ _ _ _ _ _ _ (flag_sized _)
+        (λ m. sized_then (pc_of w state c.instruction.op c.operand.bits) _ _ _ _ _ _ _ pc_sized
+        (λ last. sized_pure _))))))))
+        (omega arith) (omega arith) (omega arith)
+
+  -- ---- the whole
+  block_sized : (n : ℕ) (state : StateWires) (time : ℕ) → Sized (block_of w n state time) (block_made w) (block_added w) (block_terms w)
+  unfolding block_of
+  block_sized n state time =
+      sized_as (block_of w n state time) _ _ _ (block_made w) (block_added w) (block_terms w)
+      (sized_then (computed_of w state) _ _ _ _ _ _ _ (computed_sized state)
+      (λ a. sized_then (effects_of w n state (computed_of w state a).answer) _ _ _ _ _ _ _ (effects_sized n state (computed_of w state a).answer)
+      (λ b. sized_pure _)))
+      (omega (arith, width)) (omega (arith, width))
+      (for_widths (λ w. 28 * w + w / 4 + 451 + (7 * w - 2 * (w / 16) + 316 + 0) ≡ block_terms w) refl refl w width)
 
 -- ---- its lines
-same_lines : (a b c d g : ℕ) → a ≡ g → b ≡ g → c ≡ g → d ≡ g
-    → ◌≡◌ {A = List LineTerms} (terms_are 1 a b ∷ terms_are 2 c d ∷ terms_are 1 1 1 ∷ []) (terms_are 1 g g ∷ terms_are 2 g g ∷ terms_are 1 1 1 ∷ [])
-same_lines a b c d g h i j k = rw (h, i, j, k) refl
-
-lines_are : (w : ℕ) (state : StateWires) (time at : ℕ) → map line_terms (block_wires w state time at).lines ≡ (step_costs w).lines
-lines_are w state time at =
-    let head = length-weighted at w (λ i. 2 ^ i % P) in
-    let tail = length-weighted (at + w) w (λ i. 2 ^ i % P) in
-    same_lines _ _ _ _ w head head tail tail
-
-all_of : {A : Type 0} (Q : A → Type 0) (x y z : A) → Q x → Q y → Q z → All Q (x ∷ y ∷ z ∷ [])
-all_of Q x y z p q r = All-cons Q x (y ∷ z ∷ []) p (All-cons Q y (z ∷ []) q (All-cons Q z [] r (All-nil Q)))
-
 times_are : (w : ℕ) (state : StateWires) (time at : ℕ) → All (λ (line : LineLc). length line.time ≡ 1) (block_wires w state time at).lines
 times_are w state time at =
-    all_of (λ (line : LineLc). length line.time ≡ 1) (first_line w state time at) (second_line w state time at) (third_line w time at) refl refl refl
+    all_three (λ (line : LineLc). length line.time ≡ 1) (first_line w state time at) (second_line w state time at) (third_line w time at) refl refl refl
 
-short_lines : (w : ℕ) → IsWidth w → All HasFewTerms (step_costs w).lines
-short_lines w width =
-    let short = width_short w width in
-    let word : (cell : ℕ) → cell ≤ 2 → HasFewTerms (terms_are cell w w) = λ cell h. record { cell = omega (arith, h); old = omega (arith, short); new = omega (arith, short) } in
-    let last : HasFewTerms (terms_are 1 1 1) = record { cell = omega arith; old = omega arith; new = omega arith } in
-    all_of HasFewTerms (terms_are 1 w w) (terms_are 2 w w) (terms_are 1 1 1) (word 1 (omega arith)) (word 2 (omega arith)) last
+short_lines : (w : ℕ) → All HasFewTerms (step_costs w).lines
+short_lines w =
+    let line : (cell : ℕ) → cell ≤ 2 → HasFewTerms (terms_are cell 1 1) = λ cell h. record { cell = omega (arith, h); old = omega arith; new = omega arith } in
+    all_three HasFewTerms (terms_are 1 1 1) (terms_are 2 1 1) (terms_are 1 1 1) (line 1 (omega arith)) (line 2 (omega arith)) (line 1 (omega arith))
 
 cheap : (w : ℕ) → IsWidth w → IsCheap (step_costs w)
 cheap w width = record {
   wires = for_widths (λ w. block_made w ≤ 2 ^ 11) (omega arith) (omega arith) w width;
   constraints = for_widths (λ w. block_added w ≤ 2 ^ 11) (omega arith) (omega arith) w width;
   terms = for_widths (λ w. block_terms w ≤ 2 ^ 14) (omega arith) (omega arith) w width;
-  lines = short_lines w width;
+  lines = short_lines w;
 }
 
 pub block_counted : BlockIsCounted
 block_counted = record {
-  constraints = block_count;
-  terms = block_term_count;
-  lines = λ w width state time next. lines_are w state time next;
+  constraints = λ w width n state time. (block_sized w width n state time).count;
+  terms = λ w width n state time. (block_sized w width n state time).size;
+  lines = λ w width state time next. refl;
   times = λ w width state time next. times_are w state time next;
   cheap = cheap;
 }

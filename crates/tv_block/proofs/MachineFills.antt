@@ -1,37 +1,114 @@
 -- That an assignment with the values of a machine's step meets the block, and shows that step.
-use Rattle.std.proofs.Common.{◌≡◌, ℕ, ◌+◌, ◌/◌, ◌^◌, ◌<◌, Bool, true, false, if◌then◌else◌, List, [], ◌∷◌, length, refl, ◌∙◌, ap, subst, arith, Option, Some, None}
+use Rattle.std.proofs.Common.{◌≡◌, ℕ, ◌+◌, ◌/◌, ◌^◌, ◌<◌, ◌==◌, ◌&&◌, ◌||◌, Bool, true, false, if◌then◌else◌, List, [], ◌∷◌, length, nat_lt, refl}
+use Rattle.std.proofs.Common.{◌∙◌, ap, subst, arith, Option, Some, None}
 use Rattle.std.specs.Prelude.{slice_get, is_some}
+use Rattle.std.proofs.lemmas.Bool.{and_parts, eqb-true}
+use Rattle.std.proofs.lemmas.Bool.Decides.{nat_tests}
 use Rattle.std.proofs.lemmas.List.Elements.{All-head}
 use Rattle.tv_core.specs.Lines.{Line}
+use Rattle.tv_isa.specs.Instruction.{decode}
+use Rattle.tv_isa.specs.Opcodes.{among}
+use Rattle.tv_isa.specs.declared.instr.Instr.{Instr}
+use Rattle.tv_isa.specs.declared.opcode.TheConstants.{STORE_B, STORE_W, READ}
 use Rattle.tv_mem.proofs.WordLaws.{words_are_small}
 use Rattle.tv_numbers.proofs.ShownLaws.{machine_shows, seen_in_range}
-use Rattle.tv_numbers.specs.Numbers.{Did, lines_in}
+use Rattle.tv_numbers.specs.Numbers.{other_word, operand_word, touches, takes_primary, asks, with_byte_in, data_line, Did, did_of, lines_in}
 use Rattle.tv_numbers.specs.Shown.{handed, head_at, tail_at, data_at}
+use Rattle.tv_numbers.specs.Tables.{memory_ops}
 use Rattle.tv_numbers.specs.Views.{View, seen}
 use Rattle.tv_step.proofs.CellLaws.{lines_in_range}
 use Rattle.tv_step.specs.Cells.{IsLine}
 use Rattle.tv_step.specs.Range.{AreWords}
 use Rattle.tv_step.specs.Reads.{reads_aux, word_taken}
 use Rattle.tv_step.specs.State.{State}
-use Rattle.tv_step.specs.Trace.{data_line}
-use Rattle.tv_block.proofs.BlockFills.{block_complete, block_fills, block_next}
-use Rattle.tv_block.proofs.SizeFills.{block_in_field}
-use Rattle.tv_block.specs.Block.{block_of}
+use Rattle.tv_step.specs.Trace.{data_line as traced_line}
+use Rattle.tv_parts.specs.Arithmetic.{low_number}
+use Rattle.tv_parts.specs.States.{state_in}
+use Rattle.tv_parts.specs.declared.records.StateWires.{StateWires}
+use Rattle.tv_block.proofs.BlockFills.{block_complete}
+use Rattle.tv_block.proofs.PartLaws.{among_each}
+use Rattle.tv_block.proofs.SizeFills.{block_sizes}
 use Rattle.tv_block.specs.Complete.{MachineStepIsMet, MachineValuesFit}
-use Rattle.tv_block.specs.Fetch.{state_in}
-use Rattle.tv_block.specs.declared.records.StateWires.{StateWires}
+use Rattle.tv_block.specs.Values.{row_low}
 
+-- ---- the data word
+-- the opcodes at which a step has one: it is the low half of the row
+abbrev data_ops : List ℕ
+data_ops = READ ∷ memory_ops
+
+low_is_data : (w : ℕ) (v : View) (i : Instr) (o : ℕ) → among data_ops i.op ≡ true → row_low w v i o ≡ o
+low_is_data w v i o =
+    among_each (λ k. low_number w k (other_word v i) (operand_word v i) o ≡ o) data_ops (refl, (refl, (refl, (refl, (refl, tt))))) i.op
+
+asks_data : (v : View) (i : Instr) → asks v i ≡ true → among data_ops i.op ≡ true
+asks_data v i e =
+    let both = and_parts ((i.op == READ) && (operand_word v i == 1)) (v.ended == 0) e in
+    let read = and_parts (i.op == READ) (operand_word v i == 1) both.0 in
+    ap (among data_ops) (eqb-true i.op READ read.0)
+
+-- at the others nothing of the data line depends on it
+record HasNone (k : ℕ) : Type 0 where
+  memory : among memory_ops k ≡ false
+  read : (k == READ) ≡ false
+  word : (k == STORE_W) ≡ false
+  byte : (k == STORE_B) ≡ false
+
+has_none : (k : ℕ) → among data_ops k ≡ false → HasNone k
+has_none k e = record {
+  memory = grind (arith, nat_tests);
+  read = grind (arith, nat_tests);
+  word = grind (arith, nat_tests);
+  byte = grind (arith, nat_tests);
+}
+
+-- a line, by whether it is one of memory or of the primary tape, and whether it stores a word or a byte
+abbrev line_by : Bool → Bool → Bool → Bool → ℕ → ℕ → ℕ → ℕ → ℕ → ℕ → Line
+line_by touched primary sw sb cell time x r b o = record {
+  cell = cell;
+  time = time;
+  old = if touched || primary then o else 0;
+  new = if sw then x else if sb then with_byte_in o r b else (if touched || primary then o else 0);
+}
+
+no_word : (touched primary sw sb : Bool) (cell time x r b low o : ℕ) → touched ≡ false → primary ≡ false → sw ≡ false → sb ≡ false
+    → line_by touched primary sw sb cell time x r b low ≡ line_by touched primary sw sb cell time x r b o
+no_word touched primary sw sb cell time x r b low o e f g h = rw (e, f, g, h) refl
+
+same_data_line : (w n : ℕ) (v : View) (i : Instr) (o : ℕ) (takes : Bool) (time : ℕ)
+    → data_line w n v i (row_low w v i o) takes time ≡ data_line w n v i o takes time
+same_data_line w n v i o takes time = by (among data_ops i.op) refl
+  where
+    by : (b : Bool) → among data_ops i.op ≡ b → data_line w n v i (row_low w v i o) takes time ≡ data_line w n v i o takes time
+    by true e = ap (λ k. data_line w n v i k takes time) (low_is_data w v i o e)
+    by false e =
+        let none = has_none i.op e in
+        no_word (touches v i) (takes_primary v i n) (i.op == STORE_W) (i.op == STORE_B) _ time (other_word v i) _ _ (row_low w v i o) o
+        none.memory (ap (λ r. (r && (operand_word v i == 0)) && nat_lt v.taken n) none.read) none.word none.byte
+
+same_lines : (w n time : ℕ) (v : View) (head tail o : ℕ) (takes : Bool)
+    → lines_in (did_of w n time v head tail (row_low w v (decode w head tail) o) takes) ≡ lines_in (did_of w n time v head tail o takes)
+same_lines w n time v head tail o takes =
+    let b = did_of w n time v head tail o takes in
+    ap (λ (line : Line). b.first ∷ b.second ∷ line ∷ []) (same_data_line w n v (decode w head tail) o takes (time + 2))
+
+-- ---- the machine's step
 pub machine_step_met : MachineStepIsMet
 machine_step_met w width z x state time next st word given =
-    let now = state_in z state in
-    let made = (block_of w (length x) state time next).answer in
-    let shown = machine_shows w width x time now st word given.short given.range given.matches given.machine given.defined given.may in
-    let is = block_complete w width z (length x) state time next (head_at w st) (tail_at w st) (data_at w x time st word) (is_some word) given.early given.assigns shown.range given.has in
+    let n = length x in
+    let v = state_in z state in
+    let head = head_at w st in
+    let tail = tail_at w st in
+    let i : Instr = decode w head tail in
+    let o = data_at w x time st word in
+    let shown = machine_shows w width x time v st word given.short given.range given.matches given.machine given.defined given.may in
+    let is = block_complete w width z n state time next head tail o (is_some word) given.early given.assigns shown.range given.has in
     record {
       met = is.met;
-      lines = ap lines_in is.shows ∙ shown.lines;
+      lines = ap lines_in is.shows ∙ same_lines w n time v head tail o (is_some word) ∙ shown.lines;
       takes = ap (λ (b : Did). b.takes) is.shows;
-      same = λ v e. ap (λ (b : Did). b.word) is.shows ∙ ap (handed (data_line w (length x) st (time + 2)).old) e;
+      same = λ u e.
+          ap (λ (b : Did). b.word) is.shows ∙ low_is_data w v i o (asks_data v i (shown.range.asked (ap is_some e)))
+          ∙ ap (handed (traced_line w n st (time + 2)).old) e;
     }
 
 -- ---- sizes
@@ -39,7 +116,8 @@ first_small : (w : ℕ) (words : List ℕ) → AreWords w words → (v : ℕ) �
 first_small w [] h v e = cc
 first_small w (u ∷ us) h v e = let same : u ≡ v = cc in subst (λ k. k < 2 ^ w) same (All-head (λ v. v < 2 ^ w) u us h)
 
-pub taken_small : (w : ℕ) (st : State) (reads : Bool) (old : ℕ) → AreWords w st.aux → old < 2 ^ w → handed old (if reads then slice_get st.aux 0 else None) < 2 ^ w
+pub taken_small : (w : ℕ) (st : State) (reads : Bool) (old : ℕ) → AreWords w st.aux → old < 2 ^ w
+    → handed old (if reads then slice_get st.aux 0 else None) < 2 ^ w
 taken_small w st false old aux h = h
 taken_small w st true old aux h = by (slice_get st.aux 0) refl
   where
@@ -50,14 +128,15 @@ taken_small w st true old aux h = by (slice_get st.aux 0) refl
 pub machine_values_fit : MachineValuesFit
 machine_values_fit w width n time st gone ended short within bit range =
     let now : View = seen st gone ended in
-    let line : Line = data_line w n st (time + 2) in
+    let line : Line = traced_line w n st (time + 2) in
     let word : Option ℕ = word_taken w st in
     let o : ℕ = handed line.old word in
     let view = seen_in_range w n st gone ended range within bit in
     let fits : IsLine w line = lines_in_range w width n st time short range 2 line (omega arith) in
+    let head_small = words_are_small w width st.memory range.bytes (st.pc / (w / 8)) in
     let tail_small = words_are_small w width st.memory range.bytes (st.pc / (w / 8) + 1) in
     let data_small : o < 2 ^ w = taken_small w st (reads_aux w st) line.old range.aux fits.old in
     let wires : StateWires = record { pc = 0; regs = []; flag = 0; taken_of_primary = 0; aux_ended = 0 } in
-    let count = block_fills w width n wires time now (head_at w st) (tail_at w st) o (is_some word) view.registers 0 in
-    let ends = block_next w width n wires time 0 in
-    (omega (arith, count, ends), block_in_field w width n now (head_at w st) (tail_at w st) o (is_some word) short view tail_small data_small)
+    let count = block_sizes.fills w width n wires time now (head_at w st) (tail_at w st) o (is_some word) view.registers 0 in
+    let ends = block_sizes.end w width n wires time 0 in
+    (omega (arith, count, ends), block_sizes.in_field w width n now (head_at w st) (tail_at w st) o (is_some word) short view head_small tail_small data_small)

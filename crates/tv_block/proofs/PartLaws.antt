@@ -1,208 +1,228 @@
--- The laws of the first parts of a step: its instruction, its operands, and the operations on them.
-use Rattle.std.proofs.Common.{◌≡◌, ℕ, ◌*◌, ◌%◌, Bool, true, false, if◌then◌else◌, refl, sym, ◌∙◌, ap, ap₂, subst, arith, List, length, ◌+◌, ◌^◌}
-use Rattle.std.specs.Prelude.{slice_index}
-use Rattle.tv_bits.proofs.SelectLaws.{select_sound, pick_sound}
-use Rattle.tv_bits.proofs.SpelledNumbers.{value-bits_below}
-use Rattle.tv_bits.proofs.SpellingLaws.{new_bits_sound, bits_sound, bits_answer}
+-- What the parts of a step that are made of gadgets alone say: opcode, registers, test and registers written.
+use Rattle.std.proofs.Common.{◌≡◌, ℕ, zero, suc, ◌+◌, ◌-◌, ◌*◌, ◌/◌, ◌%◌, ◌^◌, ◌<◌, ◌==◌, nat_lt, Bool, true, false, if◌then◌else◌, List, [], ◌∷◌}
+use Rattle.std.proofs.Common.{◌++◌, length, inl, inr, refl, sym, ◌∙◌, ap, ap₂, subst, arith, true≢false}
+use Rattle.std.specs.List.{AllByRecursion, list_all}
+use Rattle.std.specs.Prelude.{slice_index, slice_set}
+use Rattle.std.proofs.lemmas.Bool.{cases_eq, ne_eqb, eqb-true, and_parts}
+use Rattle.std.proofs.lemmas.Bool.Decides.{nat_tests}
 use Rattle.tv_bits.specs.Bit.{IsBit}
-use Rattle.tv_bits.specs.Bits.{Spells, bits_combination, new_bits_of, bits_of, spelled}
-use Rattle.tv_bits.specs.Select.{selected, select_of, pick_of}
-use Rattle.tv_bits.specs.declared.bit_wires.Bits.{Bits}
-use Rattle.tv_cmp.proofs.CompareLaws.{compare_sound}
-use Rattle.tv_cmp.specs.Compare.{compare_of, IsCompared}
-use Rattle.tv_core.proofs.CombinationLaws.{value-wire, value-constant}
+use Rattle.tv_core.proofs.CombinationLaws.{value-append, value-wire}
 use Rattle.tv_core.proofs.Meeting.{Meets-split}
-use Rattle.tv_core.specs.Circuits.{put, pure, ◌>>=◌}
+use Rattle.tv_core.specs.Circuits.{◌>>=◌}
 use Rattle.tv_core.specs.Combinations.{wire}
+use Rattle.tv_core.specs.Constraints.{Combination, value}
 use Rattle.tv_core.specs.Laws.{Assigns, Meets}
 use Rattle.tv_core.specs.declared.field.TheConstants.{P}
-use Rattle.tv_decode.proofs.FieldsLaws.{fields_sound}
-use Rattle.tv_decode.specs.Fields.{fields_of, AreFields}
+use Rattle.tv_decode.proofs.InstructionLaws.{opcode_wire}
+use Rattle.tv_decode.specs.Instructions.{place, number_of, dest_bits, source_bits, register_bits, IsOpcodeRow, IsDecoded}
+use Rattle.tv_decode.specs.declared.records.InstructionWires.{InstructionWires}
 use Rattle.tv_isa.specs.Instruction.{decode}
-use Rattle.tv_isa.specs.Opcodes.{among}
+use Rattle.tv_isa.specs.Opcodes.{among, is_used}
 use Rattle.tv_isa.specs.declared.instr.Instr.{Instr}
-use Rattle.tv_limb.proofs.AddLaws.{add_sound}
-use Rattle.tv_limb.proofs.SubLaws.{sub_sound}
-use Rattle.tv_limb.specs.Difference.{sub_of, difference, borrow}
-use Rattle.tv_limb.specs.Split.{SpellsParts}
-use Rattle.tv_limb.specs.Sum.{add_of, carry}
-use Rattle.tv_logic.proofs.LogicLaws.{logic_sound}
-use Rattle.tv_logic.specs.Logic.{logic_of, IsLogic}
-use Rattle.tv_muldiv.proofs.ProductLaws.{product_sound}
-use Rattle.tv_muldiv.proofs.QuotientLaws.{quotient_sound}
-use Rattle.tv_muldiv.proofs.SignedHighLaws.{signed_high_sound}
-use Rattle.tv_muldiv.specs.Product.{product_of, IsProduct}
-use Rattle.tv_muldiv.specs.Quotient.{quotient_of, IsQuotient}
-use Rattle.tv_muldiv.specs.SignedHigh.{signed_high_of, IsSignedHigh}
-use Rattle.tv_numbers.specs.Numbers.{operand_word, other_word}
-use Rattle.tv_numbers.specs.Tables.{unused_ops, store_ops}
-use Rattle.tv_numbers.specs.Views.{flag_of, View}
-use Rattle.tv_regs.proofs.ChoiceLaws.{group_sound}
-use Rattle.tv_regs.proofs.ReadLaws.{read_reg_sound}
-use Rattle.tv_regs.specs.Choices.{group}
-use Rattle.tv_regs.specs.Reading.{read_reg_of}
-use Rattle.tv_shift.proofs.ShiftLaws.{shift_sound}
-use Rattle.tv_shift.specs.Shift.{shift_of, IsShifted}
-use Rattle.tv_word.proofs.WidthLaws.{width_short}
+use Rattle.tv_isa.specs.declared.opcode.TheConstants.{CMOV, USED}
+use Rattle.tv_numbers.specs.Numbers.{other_word, result_in, stepped}
+use Rattle.tv_numbers.specs.Tables.{unused_ops, store_ops, writer_ops}
+use Rattle.tv_numbers.specs.Views.{View, flag_of}
+use Rattle.tv_regs.proofs.TripleLaws.{triple_sound}
+use Rattle.tv_regs.proofs.UpdateLaws.{update_sound}
+use Rattle.tv_regs.specs.Reading.{words_at}
+use Rattle.tv_regs.specs.Triple.{AreNumbers}
+use Rattle.tv_regs.specs.Writing.{written_regs}
+use Rattle.tv_regs.specs.declared.triple.Triple.{Triple}
+use Rattle.tv_word.proofs.WidthLaws.{for_widths}
 use Rattle.tv_word.specs.Widths.{IsWidth}
-use Rattle.tv_block.specs.Fetch.{state_in, fetch_of}
-use Rattle.tv_block.specs.Groups.{groups_of}
-use Rattle.tv_block.specs.Operands.{operands_of}
-use Rattle.tv_block.specs.declared.records.Fetched.{Fetched}
-use Rattle.tv_block.specs.declared.records.Groups.{Groups}
-use Rattle.tv_block.specs.declared.records.Operands.{Operands}
-use Rattle.tv_block.specs.declared.records.StateWires.{StateWires}
+use Rattle.tv_parts.proofs.AccumulationLaws.{accumulated_sound}
+use Rattle.tv_parts.proofs.OpcodeLaws.{opcode_terms_sound, opcode_sum_sound}
+use Rattle.tv_parts.proofs.TapeFills.{flag_test}
+use Rattle.tv_parts.proofs.TapeLaws.{among_one, flag_small}
+use Rattle.tv_parts.specs.Accumulation.{accumulated_of}
+use Rattle.tv_parts.specs.Arithmetic.{shift_ops, division_ops}
+use Rattle.tv_parts.specs.Flag.{sign_at}
+use Rattle.tv_parts.specs.OpcodeSums.{place_of, opcode_sum, opcode_terms, distinct, IsOpcode}
+use Rattle.tv_parts.specs.Results.{place_bits, sign_of}
+use Rattle.tv_parts.specs.States.{state_in}
+use Rattle.tv_parts.specs.Written.{written_of}
+use Rattle.tv_parts.specs.declared.records.StateWires.{StateWires}
+use Rattle.tv_block.specs.Block.{registers_of}
 
--- a flag that is 0 is of a test that failed
-flag_zero : (b : Bool) → flag_of b * (1 % P) % P ≡ 0 → b ≡ false
-flag_zero true e = absurd (omega arith)
-flag_zero false e = refl
+-- ---- the opcode
+pub used_again : (k : ℕ) → k < 32 → among unused_ops k ≡ false → is_used k ≡ true
+used_again k h u = grind (arith, nat_tests)
 
-pub flag-bit : (b : Bool) → IsBit (flag_of b)
-flag-bit true = omega arith
-flag-bit false = omega arith
+same_place : (k : ℕ) → k < 32 → among unused_ops k ≡ false → place k ≡ place_of k
+same_place k h u = grind (arith, nat_tests)
 
--- ---- the instruction
--- the wires are those of the instruction of the words v and u, whose opcode is used
-pub record IsFetched (w : ℕ) (z : List ℕ) (f : Fetched) (v u : ℕ) : Type 0 where
-  pub head : Spells z f.head.first w v
-  pub tail : Spells z f.tail.first w u
-  pub fields : AreFields z f.fields (decode w v u)
-  pub used : among unused_ops (decode w v u).op ≡ false
+not_unused : (k : ℕ) → is_used k ≡ true → among unused_ops k ≡ false
+not_unused k u = grind (arith, nat_tests)
 
--- the words that were fetched
-abbrev pub head_in : ℕ → List ℕ → Fetched → ℕ
-head_in w z f = spelled z f.head.first w
+pub opcode_of_row : (z : List ℕ) (op k : ℕ) → k < 32 → IsOpcodeRow z op k → IsOpcode z op k
+opcode_of_row z op k small is = record {
+  within = small;
+  used = not_unused k is.used;
+  row = λ j h u. ap (λ p. slice_index z (op + p)) (sym (same_place j h u)) ∙ opcode_wire z op k j is (used_again j h u);
+}
 
-abbrev pub tail_in : ℕ → List ℕ → Fetched → ℕ
-tail_in w z f = spelled z f.tail.first w
+pub op_below : (w head tail : ℕ) → (decode w head tail).op < 32
+op_below w head tail = omega arith
 
--- an assignment that meets what was put has an instruction there
-abbrev pub FetchIsSound : Type 0
-FetchIsSound = (w : ℕ) → IsWidth w → (z : List ℕ) (next : ℕ) → Assigns z → Meets z (fetch_of w next).list
-    → IsFetched w z (fetch_of w next).answer (head_in w z (fetch_of w next).answer) (tail_in w z (fetch_of w next).answer)
+pub dest_below : (w head tail : ℕ) → (decode w head tail).dest < 16
+dest_below w head tail = omega arith
 
-pub fetch_sound : FetchIsSound
-unfolding fetch_of put pure ◌>>=◌
-fetch_sound w width z next assigns meets =
-    let head = new_bits_of w next in
-    let tail = new_bits_of w head.next in
-    let fields = fields_of w head.answer tail.answer tail.next in
-    let m1 = Meets-split z head.list _ meets in
-    let m2 = Meets-split z tail.list _ m1.1 in
-    let m3 = Meets-split z fields.list _ m2.1 in
-    let s = new_bits_sound z next w assigns m1.0 in
-    let r = new_bits_sound z head.next w assigns m2.0 in
-    let f = fields_sound w width z tail.next head.answer tail.answer _ _ assigns s r m3.0 in
+pub source_below : (w head tail : ℕ) → (decode w head tail).source < 16
+source_below w head tail = omega arith
+
+-- what holds of each opcode of a list holds of one that is among them
+pub among_each : (Q : ℕ → Type 0) (ks : List ℕ) → AllByRecursion Q ks → (k : ℕ) → among ks k ≡ true → Q k
+among_each Q [] each k e = absurd (true≢false (sym e))
+among_each Q (j ∷ ks) each k e = elim (cases_eq j k) [
+  | inl same ↦ subst Q same each.0
+  | inr apart ↦ among_each Q ks each.1 k (sym (ap (λ b. if b then true else among ks k) (ne_eqb j k apart)) ∙ e)
+]
+
+-- ---- registers
+-- the wires are those of the other word, of the register that the second word names, and of the destination
+pub record AreRegisters (z : List ℕ) (t : Triple) (v : View) (i : Instr) : Type 0 where
+  pub other : slice_index z t.other_word ≡ other_word v i
+  pub named : slice_index z t.named_word ≡ slice_index v.regs (i.a % 16)
+  pub dest : slice_index z t.dest ≡ i.dest
+  pub dest_word : slice_index z t.dest_word ≡ slice_index v.regs i.dest
+
+pub word_by : (b : Bool) (g d s : ℕ) (words : List ℕ) → g ≡ flag_of b
+    → slice_index words (if g == 1 then d else s) ≡ (if b then slice_index words d else slice_index words s)
+word_by true g d s words e = rw e refl
+word_by false g d s words e = rw e refl
+
+pub registers_sound : (w : ℕ) → IsWidth w → (z : List ℕ) (next : ℕ) (state : StateWires) (i : InstructionWires) (head tail : ℕ)
+    → length state.regs ≡ 16 → Assigns z → IsDecoded z w i head tail → Meets z (registers_of w state i next).list
+    → AreRegisters z (registers_of w state i next).answer (state_in z state) (decode w head tail)
+registers_sound w width z next state i head tail size assigns is meets =
+    let ins : Instr = decode w head tail in
+    let words = words_at z state.regs in
+    let stores = opcode_sum i.op store_ops in
+    let row = opcode_of_row z i.op ins.op (op_below w head tail) is.opcode in
+    let store_is : value stores z ≡ flag_of (among store_ops ins.op) = opcode_sum_sound z i.op ins.op store_ops row refl in
+    let target = number_of (dest_bits w i) in
+    let source = number_of (source_bits w i) in
+    let named = number_of (register_bits i) in
+    let numbers : AreNumbers z stores target source named = record {
+      store = subst IsBit (sym store_is) (flag_small (among store_ops ins.op));
+      dest = subst (λ n. n < 16) (sym is.dest) (dest_below w head tail);
+      other = subst (λ n. n < 16) (sym is.source) (source_below w head tail);
+      third = subst (λ n. n < 16) (sym is.register) (omega arith);
+    } in
+    let read = triple_sound z next stores target source named state.regs size assigns numbers meets in
     record {
-      head = s;
-      tail = r;
-      fields = f;
-      used = flag_zero _ (ap₂ (λ m n. m * n % P) (sym (group_sound z fields.answer.op _ unused_ops f.op refl)) (sym (value-constant assigns 1)) ∙ m3.1.0);
+      other =
+          read.other_word ∙ word_by (among store_ops ins.op) (value stores z) (value target z) (value source z) words store_is
+          ∙ ap₂ (λ d s. if among store_ops ins.op then slice_index words d else slice_index words s) is.dest is.source;
+      named = read.named_word ∙ ap (slice_index words) is.register;
+      dest = read.dest ∙ is.dest;
+      dest_word = read.dest_word ∙ ap (slice_index words) is.dest;
     }
 
--- ---- the operands
--- the wires are those of the operands of an instruction, of w bits, the state before it being v
-pub record AreOperands (w : ℕ) (z : List ℕ) (o : Operands) (v : View) (i : Instr) : Type 0 where
-  pub operand : slice_index z o.operand ≡ operand_word v i
-  pub other : slice_index z o.other ≡ other_word v i
-  pub a : Spells z o.a.first w (operand_word v i)
-  pub x : Spells z o.x.first w (other_word v i)
-  pub a_size : o.a.n ≡ w
-  pub x_size : o.x.n ≡ w
+-- ---- the registers after the step
+on_is : (a c : Bool) (f : ℕ) → f < 2 → (c ≡ true → a ≡ false) → (flag_of a + flag_of c * f) % P ≡ flag_of (if c then f == 1 else a)
+on_is a true f small none = rw (none refl) (bit f small)
+  where
+    bit : (f : ℕ) → f < 2 → (0 + 1 * f) % P ≡ flag_of (f == 1)
+    bit zero small = refl
+    bit (suc zero) small = refl
+    bit (suc (suc k)) small = absurd (omega arith)
+on_is true false f small none = omega arith
+on_is false false f small none = omega arith
 
--- an assignment that meets what was put has the operands there
-abbrev pub OperandsAreSound : Type 0
-OperandsAreSound = (w : ℕ) → IsWidth w → (z : List ℕ) (next : ℕ) (state : StateWires) (f : Fetched) (v u : ℕ) → length state.regs ≡ 16 → Assigns z
-    → IsFetched w z f v u → Meets z (operands_of w state f next).list
-    → AreOperands w z (operands_of w state f next).answer (state_in z state) (decode w v u)
+writes_among : (k f : ℕ) → (if k == CMOV then f == 1 else among writer_ops k) ≡ true → among (CMOV ∷ writer_ops) k ≡ true
+writes_among k f e = elim (cases_eq k CMOV) [
+  | inl same ↦ ap (among (CMOV ∷ writer_ops)) same
+  | inr apart ↦
+      ap (λ b. if b then true else among writer_ops k) (ne_eqb CMOV k (λ s. apart (sym s)))
+      ∙ (sym (ap (λ b. if b then f == 1 else among writer_ops k) (ne_eqb k CMOV apart)) ∙ e)
+]
 
--- a choice by a bit
-pub selected_by : (b : Bool) (n x y : ℕ) → n ≡ flag_of b → selected n x y ≡ (if b then x else y)
-selected_by true n x y e = rw e refl
-selected_by false n x y e = rw e refl
+written_by : (b : Bool) (x y d : ℕ) (words : List ℕ) → (b ≡ true → x ≡ y)
+    → written_regs b x d words ≡ (if b then slice_set words d y else words)
+written_by true x y d words e = ap (slice_set words d) (e refl)
+written_by false x y d words e = refl
 
-pub operands_sound : OperandsAreSound
-unfolding operands_of pure ◌>>=◌
-operands_sound w width z next state f v u size assigns is meets =
-    let i = decode w v u in
-    let short = width_short w width in
-    let now = state_in z state in
-    let source = read_reg_of f.fields.source state.regs next in
-    let dest = read_reg_of f.fields.dest state.regs source.next in
-    let reg = read_reg_of f.fields.reg state.regs dest.next in
-    let operand = select_of f.fields.imm (bits_combination f.tail.first w) (wire reg.answer) reg.next in
-    let a = bits_of (wire operand.answer) w operand.next in
-    let other = pick_of (group f.fields.op store_ops) (wire dest.answer) (wire source.answer) a.next in
-    let x = bits_of (wire other.answer) w other.next in
-    let m1 = Meets-split z source.list _ meets in
-    let m2 = Meets-split z dest.list _ m1.1 in
-    let m3 = Meets-split z reg.list _ m2.1 in
-    let m4 = Meets-split z operand.list _ m3.1 in
-    let m5 = Meets-split z a.list _ m4.1 in
-    let m6 = Meets-split z other.list _ m5.1 in
-    let m7 = Meets-split z x.list _ m6.1 in
-    let s = read_reg_sound z next f.fields.source state.regs i.source size assigns is.fields.source m1.0 in
-    let d = read_reg_sound z source.next f.fields.dest state.regs i.dest size assigns is.fields.dest m2.0 in
-    let r = read_reg_sound z dest.next f.fields.reg state.regs (i.a % 16) size assigns is.fields.reg m3.0 in
-    let imm = subst IsBit (sym is.fields.imm) (flag-bit i.imm) in
-    let o = select_sound z reg.next f.fields.imm (bits_combination f.tail.first w) (wire reg.answer) assigns imm m4.0
-    ∙ selected_by i.imm _ _ _ is.fields.imm ∙ ap₂ (λ m n. if i.imm then m else n) (value-bits_below is.tail (omega arith)) (value-wire assigns reg.answer ∙ r) in
-    let stores = group_sound z f.fields.op i.op store_ops is.fields.op refl in
-    let p = pick_sound z a.next (group f.fields.op store_ops) (wire dest.answer) (wire source.answer) assigns (subst IsBit (sym stores) (flag-bit (among store_ops i.op))) m6.0
-    ∙ selected_by (among store_ops i.op) _ _ _ stores ∙ ap₂ (λ m n. if among store_ops i.op then m else n) (value-wire assigns dest.answer ∙ d) (value-wire assigns source.answer ∙ s) in
-    record {
-      operand = o;
-      other = p;
-      a = subst (Spells z a.answer.first w) (value-wire assigns operand.answer ∙ o) (bits_sound z operand.next (wire operand.answer) w (omega arith) assigns m5.0);
-      x = subst (Spells z x.answer.first w) (value-wire assigns other.answer ∙ p) (bits_sound z other.next (wire other.answer) w (omega arith) assigns m7.0);
-      a_size = ap (λ (b : Bits). b.n) (bits_answer (wire operand.answer) w operand.next);
-      x_size = ap (λ (b : Bits). b.n) (bits_answer (wire other.answer) w other.next);
-    }
+pub written_sound : (w : ℕ) (z : List ℕ) (next n : ℕ) (state : StateWires) (op : ℕ) (regs : Triple) (result : ℕ)
+    (v : View) (i : Instr) (o : ℕ) (takes : Bool) → length state.regs ≡ 16 → Assigns z → IsOpcode z op i.op → i.dest < 16 → v.flag < 2
+    → slice_index z state.flag ≡ v.flag
+    → words_at z state.regs ≡ v.regs → AreRegisters z regs v i
+    → (among (CMOV ∷ writer_ops) i.op ≡ true → slice_index z result ≡ result_in w n v i o takes)
+    → Meets z (written_of op state regs result next).list → words_at z (written_of op state regs result next).answer ≡ (stepped w n v i o takes).regs
+unfolding written_of ◌>>=◌
+written_sound w z next n state op regs result v i o takes size assigns row within bit flag words are is meets =
+    let writes : Bool = if i.op == CMOV then v.flag == 1 else among writer_ops i.op in
+    let on = accumulated_of (opcode_sum op writer_ops) (opcode_sum op (CMOV ∷ [])) (wire state.flag) next in
+    let m1 = Meets-split z on.list _ meets in
+    let by_flag : value (opcode_sum op (CMOV ∷ [])) z * value (wire state.flag) z ≡ flag_of (i.op == CMOV) * v.flag =
+    ap₂ (λ c f. c * f) (opcode_sum_sound z op i.op (CMOV ∷ []) row refl ∙ ap flag_of (among_one CMOV i.op)) (value-wire assigns state.flag ∙ flag) in
+    let on_at : slice_index z on.answer ≡ flag_of writes =
+    accumulated_sound z next (opcode_sum op writer_ops) (opcode_sum op (CMOV ∷ [])) (wire state.flag) assigns m1.0
+    ∙ ap₂ (λ a b. (a + b) % P) (opcode_sum_sound z op i.op writer_ops row refl) by_flag
+    ∙ on_is (among writer_ops i.op) (i.op == CMOV) v.flag bit (none i.op) in
+    update_sound z on.next on.answer regs.dest regs.dest_word result state.regs i.dest assigns (record {
+      size = size;
+      bit = subst IsBit (sym on_at) (flag_small writes);
+      number = are.dest;
+      within = within;
+      old = are.dest_word ∙ ap (λ l. slice_index l i.dest) (sym words);
+    }) m1.1
+    ∙ ap₂ (λ b l. written_regs b (slice_index z result) i.dest l) (ap (λ k. k == 1) on_at ∙ flag_test writes) words
+    ∙ written_by writes (slice_index z result) (result_in w n v i o takes) i.dest v.regs (λ e. is (writes_among i.op v.flag e))
+  where
+    none : (k : ℕ) → (k == CMOV) ≡ true → among writer_ops k ≡ false
+    none k e = elim (cases_eq k CMOV) [ inl same ↦ ap (among writer_ops) same | inr apart ↦ absurd (true≢false (sym e ∙ ne_eqb k CMOV apart)) ]
 
--- ---- the operations
--- the wires are those of the operations on the words x and a
-pub record AreGroups (w : ℕ) (z : List ℕ) (g : Groups) (x a : ℕ) : Type 0 where
-  pub sum : SpellsParts w 1 z g.sum ((x + a) % 2 ^ w) (carry w x a)
-  pub difference : SpellsParts w 1 z g.difference (difference w x a) (borrow x a)
-  pub order : IsCompared w z g.order x a
-  pub bitwise : IsLogic w z g.bitwise x a
-  pub shifted : IsShifted w z g.shifted x a
-  pub product : IsProduct w z g.product x a
-  pub high : IsSignedHigh w z g.high x a
-  pub quotient : IsQuotient w z g.quotient x a
+-- ---- the sign of the test
+abbrev term_at : ℕ → List ℕ → ℕ → ℕ
+term_at c ks k = if among ks k then c else 0
 
--- an assignment that meets what was put has the operations' answers there
-abbrev pub GroupsAreSound : Type 0
-GroupsAreSound = (w : ℕ) → IsWidth w → (z : List ℕ) (next : ℕ) (x a : Bits) (v u : ℕ) → Assigns z → Spells z x.first w v → Spells z a.first w u
-    → Meets z (groups_of w x a next).list → AreGroups w z (groups_of w x a next).answer v u
+abbrev sign_sum : ℕ → ℕ
+sign_sum k =
+    (term_at 1 (0 ∷ 1 ∷ 2 ∷ 3 ∷ []) k + (term_at (P - 1) (4 ∷ []) k + (term_at 1 (5 ∷ []) k + (term_at (P - 1) (6 ∷ 7 ∷ 8 ∷ []) k
+    + (term_at 1 (9 ∷ 10 ∷ 11 ∷ 12 ∷ 13 ∷ []) k + term_at (P - 1) (14 ∷ 15 ∷ 16 ∷ 17 ∷ []) k) % P) % P) % P) % P) % P
 
-pub groups_sound : GroupsAreSound
-unfolding groups_of pure ◌>>=◌
-groups_sound w width z next x a v u assigns s r meets =
-    let sum = add_of w x a next in
-    let difference = sub_of w x a sum.next in
-    let order = compare_of w x a difference.next in
-    let bitwise = logic_of w x a order.next in
-    let shifted = shift_of w x a bitwise.next in
-    let product = product_of w x a shifted.next in
-    let high = signed_high_of w x a product.next in
-    let quotient = quotient_of w x a high.next in
-    let m1 = Meets-split z sum.list _ meets in
-    let m2 = Meets-split z difference.list _ m1.1 in
-    let m3 = Meets-split z order.list _ m2.1 in
-    let m4 = Meets-split z bitwise.list _ m3.1 in
-    let m5 = Meets-split z shifted.list _ m4.1 in
-    let m6 = Meets-split z product.list _ m5.1 in
-    let m7 = Meets-split z high.list _ m6.1 in
-    let m8 = Meets-split z quotient.list _ m7.1 in
-    record {
-      sum = add_sound w width z next x a v u assigns s r m1.0;
-      difference = sub_sound w width z sum.next x a v u assigns s r m2.0;
-      order = compare_sound w width z difference.next x a v u assigns s r m3.0;
-      bitwise = logic_sound w width z order.next x a v u assigns s r m4.0;
-      shifted = shift_sound w width z bitwise.next x a v u assigns s r m5.0;
-      product = product_sound w width z shifted.next x a v u assigns s r m6.0;
-      high = signed_high_sound w width z product.next x a v u assigns s r m7.0;
-      quotient = quotient_sound w width z high.next x a v u assigns s r m8.0;
-    }
+each_tested : (test : ℕ → Bool) (ks : List ℕ) → list_all test ks ≡ true → AllByRecursion (λ k. test k ≡ true) ks
+each_tested test [] e = tt
+each_tested test (k ∷ ks) e = let parts = and_parts (test k) (list_all test ks) e in (parts.0, each_tested test ks parts.1)
+
+sign_number : (k : ℕ) → is_used k ≡ true → sign_sum k ≡ sign_at k
+sign_number k used =
+    let each = each_tested (λ k. sign_sum k == sign_at k) USED refl in
+    eqb-true (sign_sum k) (sign_at k) (among_each (λ k. (sign_sum k == sign_at k) ≡ true) USED each k used)
+
+pub sign_value : (z : List ℕ) (op k : ℕ) → IsOpcode z op k → value (sign_of op) z ≡ sign_at k
+sign_value z op k row =
+    let terms_are : (c : ℕ) (ks : List ℕ) → c < P → distinct ks ≡ true → value (opcode_terms c op ks) z ≡ term_at c ks k =
+    λ c ks small apart. opcode_terms_sound z c op k ks small row apart in
+    let fifth : Combination = opcode_terms (P - 1) op (14 ∷ 15 ∷ 16 ∷ 17 ∷ []) in
+    let fourth : Combination = opcode_sum op (9 ∷ 10 ∷ 11 ∷ 12 ∷ 13 ∷ []) ++ fifth in
+    let third : Combination = opcode_terms (P - 1) op (6 ∷ 7 ∷ 8 ∷ []) ++ fourth in
+    let second : Combination = opcode_sum op (5 ∷ []) ++ third in
+    let first : Combination = opcode_terms (P - 1) op (4 ∷ []) ++ second in
+    value-append (opcode_sum op (0 ∷ 1 ∷ 2 ∷ 3 ∷ [])) first z
+    ∙ ap₂ add (terms_are 1 (0 ∷ 1 ∷ 2 ∷ 3 ∷ []) (omega arith) refl) (value-append (opcode_terms (P - 1) op (4 ∷ [])) second z
+    ∙ ap₂ add (terms_are (P - 1) (4 ∷ []) (omega arith) refl) (value-append (opcode_sum op (5 ∷ [])) third z
+    ∙ ap₂ add (terms_are 1 (5 ∷ []) (omega arith) refl) (value-append (opcode_terms (P - 1) op (6 ∷ 7 ∷ 8 ∷ [])) fourth z
+    ∙ ap₂ add (terms_are (P - 1) (6 ∷ 7 ∷ 8 ∷ []) (omega arith) refl) (value-append (opcode_sum op (9 ∷ 10 ∷ 11 ∷ 12 ∷ 13 ∷ [])) fifth z
+    ∙ ap₂ add (terms_are 1 (9 ∷ 10 ∷ 11 ∷ 12 ∷ 13 ∷ []) (omega arith) refl)
+    (terms_are (P - 1) (14 ∷ 15 ∷ 16 ∷ 17 ∷ []) (omega arith) refl)))))
+    ∙ sign_number k (used_again k row.within row.used)
+  where
+    add : ℕ → ℕ → ℕ
+    add a b = (a + b) % P
+
+-- ---- the test at a shift and at a division
+-- the operand is below w where the bits above the place in a word are 0
+pub within_word : (w : ℕ) → IsWidth w → (at : ℕ) → (if at / 2 ^ place_bits w == 0 then 1 else 0) ≡ flag_of (nat_lt at w)
+within_word w width = for_widths Within (λ at. grind (arith, nat_tests)) (λ at. grind (arith, nat_tests)) w width
+  where
+    Within : ℕ → Type 0
+    Within w = (at : ℕ) → (if at / 2 ^ place_bits w == 0 then 1 else 0) ≡ flag_of (nat_lt at w)
+
+pub sign_shift : (k : ℕ) → among shift_ops k ≡ true → sign_at k ≡ 1
+sign_shift = among_each (λ k. sign_at k ≡ 1) shift_ops (refl, (refl, tt))
+
+pub sign_division : (k : ℕ) → among division_ops k ≡ true → sign_at k ≡ 1
+sign_division = among_each (λ k. sign_at k ≡ 1) division_ops (refl, (refl, tt))

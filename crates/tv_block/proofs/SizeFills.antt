@@ -1,67 +1,188 @@
--- That the values of the whole step are numbers of the field, and as many as its wires.
-use Rattle.std.proofs.Common.{◌≡◌, ℕ, ◌/◌, ◌%◌, ◌^◌, ◌<◌, Bool, List, [], ◌∷◌, ◌++◌, length, refl, arith}
+-- That the values of a step are one number of the field for each of its wires.
+use Rattle.std.proofs.Common.{◌≡◌, ℕ, ◌+◌, ◌-◌, ◌*◌, ◌/◌, ◌%◌, ◌^◌, ◌<◌, ◌==◌, Bool, if◌then◌else◌}
+use Rattle.std.proofs.Common.{List, [], ◌∷◌, ◌++◌, length, length-append, refl, sym, ◌∙◌, ap, ap₂, arith}
+use Rattle.std.specs.Prelude.{slice_index, slice_set}
 use Rattle.std.proofs.lemmas.Bool.{cond_both}
-use Rattle.tv_step.proofs.RangeLaws.{word_at}
-use Rattle.std.specs.Prelude.{slice_index}
-use Rattle.std.proofs.lemmas.List.Elements.{All-from_get_or}
-use Rattle.tv_core.proofs.FieldLaws.{InField-append, InField-cons, InField-none}
-use Rattle.tv_core.specs.Circuits.{pure, ◌>>=◌}
-use Rattle.tv_core.specs.Laws.{InField}
+use Rattle.std.proofs.lemmas.List.Elements.{All-from_get_or, All-set}
+use Rattle.tv_bits.proofs.ZeroSignLaws.{zero_sign_sizes}
+use Rattle.tv_bits.specs.ZeroSign.{sign_at_zero, zero_sign_of, zero_sign_values}
+use Rattle.tv_core.proofs.FieldLaws.{InField-append, InField-cons}
+use Rattle.tv_core.specs.Circuits.{Circuit, pure, ◌>>=◌}
+use Rattle.tv_core.specs.Laws.{Fills, InField}
 use Rattle.tv_core.specs.declared.field.TheConstants.{P}
+use Rattle.tv_decode.proofs.InstructionLaws.{instruction_sizes}
+use Rattle.tv_decode.specs.Instructions.{instruction_of, instruction_values}
 use Rattle.tv_isa.specs.Instruction.{decode}
+use Rattle.tv_isa.specs.Opcodes.{among}
 use Rattle.tv_isa.specs.declared.instr.Instr.{Instr}
 use Rattle.tv_numbers.proofs.Cases.{chosen_in}
-use Rattle.tv_numbers.proofs.RangeLaws.{some_words, results_small, flags_small, pcs_small, zero_place}
-use Rattle.tv_numbers.specs.Numbers.{source_word, dest_word, operand_word, other_word, found, result_in, stepped}
-use Rattle.tv_numbers.specs.Tables.{results, flags, pcs}
-use Rattle.tv_numbers.specs.Views.{View, ViewInRange}
+use Rattle.tv_numbers.proofs.RangeLaws.{some_words, results_small}
+use Rattle.tv_numbers.specs.Numbers.{operand_word, other_word, found, writes, result_in, stepped}
+use Rattle.tv_numbers.specs.Tables.{results}
+use Rattle.tv_numbers.specs.Views.{View, flag_of, ViewInRange}
+use Rattle.tv_regs.proofs.TripleLaws.{triple_sizes}
+use Rattle.tv_regs.specs.Triple.{triple_of, triple_values}
+use Rattle.tv_regs.specs.declared.triple.Triple.{Triple}
+use Rattle.tv_step.proofs.RangeLaws.{word_at}
 use Rattle.tv_word.specs.Widths.{IsWidth}
-use Rattle.tv_block.proofs.BlockFills.{block_next, block_fills}
-use Rattle.tv_block.proofs.DataFills.{data_in_field}
-use Rattle.tv_block.proofs.FetchFills.{fetch_in_field}
-use Rattle.tv_block.proofs.GroupFills.{groups_in_field}
-use Rattle.tv_block.proofs.OperandFills.{operands_in_field}
-use Rattle.tv_block.proofs.PcFills.{pc_in_field}
-use Rattle.tv_block.proofs.ResultFills.{result_in_field}
-use Rattle.tv_block.proofs.StoreFills.{store_in_field}
-use Rattle.tv_block.proofs.TapeFills.{tapes_in_field}
-use Rattle.tv_block.specs.Block.{block_of}
-use Rattle.tv_block.specs.Complete.{BlockSizes}
-use Rattle.tv_block.specs.Values.{fetch_values, operands_values, groups_values, tapes_values, data_values, store_values, result_values, pc_values, compute_values, block_values}
-use Rattle.tv_block.specs.declared.records.StateWires.{StateWires}
-use Rattle.tv_shift.proofs.ShiftSizes.{word-below}
+use Rattle.tv_parts.proofs.ArithmeticCounts.{arithmetic_sizes}
+use Rattle.tv_parts.proofs.ArithmeticNumbers.{numbers_are_words}
+use Rattle.tv_parts.proofs.FlagFills.{flag_sizes}
+use Rattle.tv_parts.proofs.MemoryFills.{memory_sizes}
+use Rattle.tv_parts.proofs.OperandLaws.{operand_sizes}
+use Rattle.tv_parts.proofs.PcFills.{pc_sizes}
+use Rattle.tv_parts.proofs.ResultFills.{results_sizes}
+use Rattle.tv_parts.proofs.ResultLaws.{small_word}
+use Rattle.tv_parts.proofs.TapeFills.{tapes_sizes}
+use Rattle.tv_parts.proofs.WrittenFills.{written_sizes}
+use Rattle.tv_parts.specs.Arithmetic.{spelled_word, arithmetic_of, arithmetic_values}
+use Rattle.tv_parts.specs.Flag.{sign_at, next_flag_of, flag_values}
+use Rattle.tv_parts.specs.Memory.{memory_of, memory_values}
+use Rattle.tv_parts.specs.Operand.{operand_of, operand_values}
+use Rattle.tv_parts.specs.Pc.{pc_of, pc_values}
+use Rattle.tv_parts.specs.Results.{plus_ops, minus_ops, results_of, results_values}
+use Rattle.tv_parts.specs.Tapes.{tapes_of, tapes_values}
+use Rattle.tv_parts.specs.Written.{written_of, written_values}
+use Rattle.tv_parts.specs.declared.records.ArithmeticWires.{ArithmeticWires}
+use Rattle.tv_parts.specs.declared.records.OperandWires.{OperandWires}
+use Rattle.tv_parts.specs.declared.records.StateWires.{StateWires}
+use Rattle.tv_parts.specs.declared.records.TapeWires.{TapeWires}
+use Rattle.tv_block.proofs.BlockChain.{block_end}
+use Rattle.tv_block.specs.Block.{data_of, sources_of, block_of}
+use Rattle.tv_block.specs.Complete.{block_made, BlockSizes}
+use Rattle.tv_block.specs.Values.{row_low, row_high, tested_in, test_in, other_register, block_values}
 
-pub block_in_field : (w : ℕ) → IsWidth w → (n : ℕ) (v : View) (h u o : ℕ) (takes : Bool) → n < 2 ^ 29 → ViewInRange w n v → u < 2 ^ w → o < 2 ^ w → InField (block_values w n v h u o takes)
-block_in_field w width n v h u o takes short range us os =
-    let i : Instr = decode w h u in
+-- ---- as many as the wires
+-- a list has n numbers
+record HasLength (values : List ℕ) (n : ℕ) : Type 0 where
+  is : length values ≡ n
+
+-- the values that fill a circuit are as many as it makes wires
+counted : {A : Type 0} (circuit : Circuit A) (values : List ℕ) (made : ℕ) → ((next : ℕ) → (circuit next).next ≡ next + made) → Fills circuit values
+    → HasLength values made
+counted circuit values made end fills = let e = end 0 in let f = fills 0 in record { is = omega (arith, e, f) }
+
+joined : (xs ys : List ℕ) (m n : ℕ) → HasLength xs m → HasLength ys n → HasLength (xs ++ ys) (m + n)
+joined xs ys m n e f = record { is = length-append xs ys ∙ ap₂ (λ m n. m + n) e.is f.is }
+
+one_more : (y : ℕ) (ys : List ℕ) (n : ℕ) → HasLength ys n → HasLength (y ∷ ys) (1 + n)
+one_more y ys n e = let k = e.is in record { is = omega (arith, k) }
+
+-- the values of a part fill its circuit whatever wires that is of, so those of other wires serve here
+block_length : (w : ℕ) → IsWidth w → (n : ℕ) (state : StateWires) (v : View) (head tail o : ℕ) (takes : Bool) → length v.regs ≡ 16
+    → length (block_values w n v head tail o takes) ≡ block_made w
+block_length w width n state v head tail o takes size =
+    let i : Instr = decode w head tail in
     let x = other_word v i in
     let a = operand_word v i in
+    let low = row_low w v i o in
+    let high = row_high w v i in
+    let f = test_in w n v i low high takes in
+    let finds : Bool = found w n v i low takes in
+    let y = tested_in w n v i low high takes in
+    let regs : Triple = (triple_of [] [] [] [] [] 0).answer in
+    let b : OperandWires = (operand_of w 0 0 0 0).answer in
+    let m : ArithmeticWires = (arithmetic_of w 0 0 0 b 0).answer in
+    let t : TapeWires = (tapes_of w n state 0 b.bits 0).answer in
+    let e1 =
+    counted (instruction_of w) (instruction_values w head tail) (2 * w + 26) (instruction_sizes.end w width)
+    (instruction_sizes.fills w width head tail) in
+    let e2 =
+    counted (triple_of [] [] [] [] []) (triple_values (other_register i) (tail % 16) i.dest v.regs) 31 (triple_sizes.end [] [] [] [] [])
+    (triple_sizes.fills [] [] [] [] [] (other_register i) (tail % 16) i.dest v.regs) in
+    let e3 = counted (operand_of w 0 0 0) (operand_values w a) (w + 1) (operand_sizes.end w 0 0 0) (operand_sizes.fills w 0 0 0 a) in
+    let e4 =
+    counted (arithmetic_of w 0 0 0 b) (arithmetic_values w i.op x a f low high) (3 * w + w / 16 + 12) (arithmetic_sizes.end w width 0 0 0 b)
+    (arithmetic_sizes.fills w width 0 0 0 b i.op x a f low high) in
+    let e5 =
+    counted (tapes_of w n state 0 b.bits) (tapes_values w n v i low takes) 7 (tapes_sizes.end w n state 0 b.bits)
+    (tapes_sizes.fills w n state 0 b.bits v i low takes) in
+    let e6 =
+    counted (memory_of w state 0 b.bits (data_of m 0) t) (memory_values w n v i (spelled_word w i.op x a) low takes) (w / 8 + 5)
+    (memory_sizes.end w width state 0 b.bits (data_of m 0) t)
+    (memory_sizes.fills w width n state 0 b.bits (data_of m 0) t v i (spelled_word w i.op x a) low takes) in
+    let e7 =
+    counted (results_of w state 0 b.bits (sources_of w m 0 0) t) (results_values w i.op a low high finds) 5
+    (results_sizes.end w state 0 b.bits (sources_of w m 0 0) t)
+    (results_sizes.fills w state 0 b.bits (sources_of w m 0 0) t i.op a low high finds) in
+    let e8 = counted (zero_sign_of 0 0 []) (zero_sign_values y (sign_at i.op)) 1 (zero_sign_sizes.end 0 0 []) (zero_sign_sizes.fills 0 0 [] y (sign_at i.op)) in
+    let e9 =
+    counted (written_of 0 state regs 0) (written_values w n v i low takes) 17 (written_sizes.end 0 state regs 0)
+    (written_sizes.fills 0 state regs 0 w n v i low takes size) in
+    let e10 =
+    counted (next_flag_of w state 0 m.x 0 t) (flag_values w n v i low takes f) 3 (flag_sizes.end w state 0 m.x 0 t)
+    (flag_sizes.fills w state 0 m.x 0 t n v i low takes f) in
+    let e11 = counted (pc_of w state 0 b.bits) (pc_values w v i) 4 (pc_sizes.end w state 0 b.bits) (pc_sizes.fills w state 0 b.bits v i) in
+    let all : HasLength (block_values w n v head tail o takes) _ =
+    joined _ _ _ _ e1 (joined _ _ _ _ e2 (joined _ _ _ _ e3 (one_more f _ _ (joined _ _ _ _ e4 (joined _ _ _ _ e5
+    (joined _ _ _ _ e6 (joined _ _ _ _ e7 (joined _ _ _ _ e8 (joined _ _ _ _ e9 (joined _ _ _ _ e10 e11)))))))))) in
+    all.is ∙ omega (arith, width)
+
+block_fills : (w : ℕ) → IsWidth w → (n : ℕ) (state : StateWires) (time : ℕ) (v : View) (head tail o : ℕ) (takes : Bool) → length v.regs ≡ 16
+    → Fills (block_of w n state time) (block_values w n v head tail o takes)
+block_fills w width n state time v head tail o takes size next =
+    block_end w width n state time next ∙ ap (λ m. next + m) (sym (block_length w width n state v head tail o takes size))
+
+-- ---- numbers of the field
+-- the test is a sign or 0
+test_small : (k y : ℕ) → sign_at_zero y (sign_at k) < P
+test_small k y =
+    cond_both (y == 0) (sign_at k) 0 (λ s. s < P)
+    (λ _. cond_both (among plus_ops k) 1 (if among minus_ops k then P - 1 else 0) (λ s. s < P) (λ _. omega arith)
+    (λ _. cond_both (among minus_ops k) (P - 1) 0 (λ s. s < P) (λ _. omega arith) (λ _. omega arith)))
+    (λ _. omega arith)
+
+block_in_field : (w : ℕ) → IsWidth w → (n : ℕ) (v : View) (head tail o : ℕ) (takes : Bool) → n < 2 ^ 29 → ViewInRange w n v
+    → head < 2 ^ w → tail < 2 ^ w → o < 2 ^ w → InField (block_values w n v head tail o takes)
+block_in_field w width n v head tail o takes short range head_word tail_word o_word =
+    let i : Instr = decode w head tail in
+    let x = other_word v i in
+    let a = operand_word v i in
+    let low = row_low w v i o in
+    let high = row_high w v i in
+    let f = test_in w n v i low high takes in
+    let finds : Bool = found w n v i low takes in
+    let y = tested_in w n v i low high takes in
     let register : (j : ℕ) → slice_index v.regs j < 2 ^ w = λ j. word_at w width v.regs j range.words in
-    let field : (y : ℕ) → y < 2 ^ w → y < P = word-below w width in
-    let a_small : a < 2 ^ w = cond_both i.imm i.a (slice_index v.regs (i.a % 16)) (λ y. y < 2 ^ w) (λ _. us) (λ _. register (i.a % 16)) in
-    let x_small : x < 2 ^ w = cond_both _ (slice_index v.regs i.dest) (slice_index v.regs i.source) (λ y. y < 2 ^ w) (λ _. register i.dest) (λ _. register i.source) in
-    let result : result_in w n v i o takes < 2 ^ w = chosen_in (λ y. y < 2 ^ w) (results w x a o (found w n v i o takes)) i.op (some_words w width) (results_small w width x a o (found w n v i o takes) x_small a_small os) in
-    let flag : (stepped w n v i o takes).flag < 2 = chosen_in (λ f. f < 2) (flags w x a (found w n v i o takes) v.flag) i.op (omega arith) (flags_small w width x a (found w n v i o takes) v.flag range.flag) in
-    let pc = chosen_in (λ p. (p < 2 ^ w) × (p % (w / 4) ≡ 0)) (pcs w v.pc a v.flag) i.op (zero_place w width) (pcs_small w width v.pc a v.flag (range.pc_fits, range.pc_aligned) a_small) in
-    let regs : InField v.regs = All-from_get_or (λ y. y < P) v.regs 0 (λ j _. field (slice_index v.regs j) (register j)) in
-    let r8 : List ℕ = (stepped w n v i o takes).flag ∷ [] in
-    let r7 : List ℕ = result_values w n v i o takes ++ r8 in
-    let r6 : List ℕ = store_values w n v i o takes ++ r7 in
-    let r5 : List ℕ = data_values w n v i o takes ++ r6 in
-    let r4 : List ℕ = tapes_values w n v i o takes ++ r5 in
-    let r3 : List ℕ = groups_values w x a ++ r4 in
-    let r2 : List ℕ = operands_values w v i ++ r3 in
-    InField-append (compute_values w n v h u o takes) (pc_values w n v i o takes)
-    (InField-append (fetch_values w h u) r2 (fetch_in_field w h u)
-    (InField-append (operands_values w v i) r3
-    (operands_in_field w v i (field (source_word v i) (register i.source)) (field (dest_word v i) (register i.dest)) (field (slice_index v.regs (i.a % 16)) (register (i.a % 16))) (field a a_small) (field x x_small))
-    (InField-append (groups_values w x a) r4 (groups_in_field w width x a x_small a_small)
-    (InField-append (tapes_values w n v i o takes) r5 (tapes_in_field w n v i o takes short range.taken range.ended)
-    (InField-append (data_values w n v i o takes) r6 (data_in_field w width n v i o takes short range.taken a_small os)
-    (InField-append (store_values w n v i o takes) r7 (store_in_field w width n v i o takes x_small os)
-    (InField-append (result_values w n v i o takes) r8 (result_in_field w n v i o takes (field (result_in w n v i o takes) result) regs)
-    (InField-cons (stepped w n v i o takes).flag [] (omega arith) InField-none))))))))
-    (pc_in_field w width n v i o takes a_small pc.0)
+    let field : (k : ℕ) → k < 2 ^ w → k < P = small_word w width in
+    let a_word : a < 2 ^ w =
+    cond_both i.imm i.a (slice_index v.regs (i.a % 16)) (λ k. k < 2 ^ w) (λ _. tail_word) (λ _. register (i.a % 16)) in
+    let x_word : x < 2 ^ w =
+    cond_both _ (slice_index v.regs i.dest) (slice_index v.regs i.source) (λ k. k < 2 ^ w) (λ _. register i.dest) (λ _. register i.source) in
+    let halves = numbers_are_words w width x a o x_word a_word o_word i.op (omega arith) in
+    let result : result_in w n v i low takes < 2 ^ w =
+    chosen_in (λ k. k < 2 ^ w) (results w x a low finds) i.op (some_words w width)
+    (results_small w width x a low finds x_word a_word halves.0) in
+    let regs : InField v.regs = All-from_get_or (λ k. k < P) v.regs 0 (λ j _. field (slice_index v.regs j) (register j)) in
+    let after : InField (stepped w n v i low takes).regs =
+    cond_both (writes w n v i low takes) (slice_set v.regs i.dest (result_in w n v i low takes)) v.regs InField
+    (λ _. All-set (λ k. k < P) v.regs i.dest (result_in w n v i low takes) (field (result_in w n v i low takes) result) regs) (λ _. regs) in
+    let other : other_register i < 16 = cond_both _ i.dest i.source (λ k. k < 16) (λ _. omega arith) (λ _. omega arith) in
+    let on : flag_of (writes w n v i low takes) < P = cond_both (writes w n v i low takes) 1 0 (λ k. k < P) (λ _. omega arith) (λ _. omega arith) in
+    let r10 : List ℕ = flag_values w n v i low takes f ++ pc_values w v i in
+    let r9 : List ℕ = written_values w n v i low takes ++ r10 in
+    let r8 : List ℕ = zero_sign_values y (sign_at i.op) ++ r9 in
+    let r7 : List ℕ = results_values w i.op a low high finds ++ r8 in
+    let r6 : List ℕ = memory_values w n v i (spelled_word w i.op x a) low takes ++ r7 in
+    let r5 : List ℕ = tapes_values w n v i low takes ++ r6 in
+    let r4 : List ℕ = arithmetic_values w i.op x a f low high ++ r5 in
+    let r3 : List ℕ = operand_values w a ++ f ∷ r4 in
+    let r2 : List ℕ = triple_values (other_register i) (tail % 16) i.dest v.regs ++ r3 in
+    InField-append (instruction_values w head tail) r2 (instruction_sizes.in_field w width head tail head_word tail_word)
+    (InField-append (triple_values (other_register i) (tail % 16) i.dest v.regs) r3
+    (triple_sizes.in_field (other_register i) (tail % 16) i.dest v.regs other (omega arith) (omega arith) regs)
+    (InField-append (operand_values w a) (f ∷ r4) (operand_sizes.in_field w a (field a a_word))
+    (InField-cons f r4 (test_small i.op y)
+    (InField-append (arithmetic_values w i.op x a f low high) r5
+    (arithmetic_sizes.in_field w width i.op x a f low high (field low halves.0) (field high halves.1))
+    (InField-append (tapes_values w n v i low takes) r6 (tapes_sizes.in_field w n v i low takes short range.taken range.ended)
+    (InField-append (memory_values w n v i (spelled_word w i.op x a) low takes) r7
+    (memory_sizes.in_field w width n v i (spelled_word w i.op x a) low takes short range.taken a_word x_word halves.0)
+    (InField-append (results_values w i.op a low high finds) r8 (results_sizes.in_field w width i.op a low high finds a_word halves.0 halves.1)
+    (InField-append (zero_sign_values y (sign_at i.op)) r9 (zero_sign_sizes.in_field y (sign_at i.op))
+    (InField-append (written_values w n v i low takes) r10 (InField-cons _ (stepped w n v i low takes).regs on after)
+    (InField-append (flag_values w n v i low takes f) (pc_values w v i) (flag_sizes.in_field w n v i low takes f range.flag)
+    (pc_sizes.in_field w width v i range.pc_fits a_word)))))))))))
 
 three_lines : (w n : ℕ) (state : StateWires) (time next : ℕ) → length (block_of w n state time next).answer.lines ≡ 3
 unfolding block_of pure ◌>>=◌
@@ -69,7 +190,7 @@ three_lines w n state time next = refl
 
 pub block_sizes : BlockSizes
 block_sizes = record {
-  end = block_next;
+  end = block_end;
   three = three_lines;
   fills = block_fills;
   in_field = block_in_field;

@@ -1,17 +1,18 @@
--- A step that is told in part, and where the state after it stands.
+-- A step of which a part is returned, and where the state after it stands.
 use Rattle.std.proofs.Common.{ℕ, ◌+◌, ◌++◌, refl, sym, ◌∙◌, subst, arith}
 use Rattle.std.proofs.lemmas.List.{append-nil}
 use Rattle.tv_block.specs.Complete.{block_made}
 use Rattle.tv_block.specs.Places.{next_state}
-use Rattle.tv_block.specs.Under.{StateUnder}
 use Rattle.tv_core.specs.Circuits.{Circuit, pure, ◌>>=◌}
 use Rattle.tv_core.specs.Sinks.{Meaning, PutsAll, PutsSome}
 use Rattle.tv_core.specs.declared.sink.SinkFault.{SinkFault}
+use Rattle.tv_parts.specs.States.{StateUnder}
 use Rattle.tv_word.specs.Widths.{IsWidth}
 
 -- what puts a circuit and answers a part of its answer puts the circuit
 module _ {S : Type 0} (m : Meaning S) {A B : Type 0} where
-  pub puts_whole : (first : Circuit A) (f : A → B) (old new : S) (b : B) → PutsAll m old new (first >>= λ a. pure (f a)) b → PutsAll m old new first (first (m.wires old)).answer
+  pub puts_whole : (first : Circuit A) (f : A → B) (old new : S) (b : B)
+      → PutsAll m old new (first >>= λ a. pure (f a)) b → PutsAll m old new first (first (m.wires old)).answer
   unfolding ◌>>=◌ pure
   puts_whole first f old new b p = record {
     answers = refl;
@@ -22,7 +23,8 @@ module _ {S : Type 0} (m : Meaning S) {A B : Type 0} where
     wants = p.wants;
   }
 
-  pub puts_some : (first : Circuit A) (f : A → B) (old new : S) (fault : SinkFault) → PutsSome m old new (first >>= λ a. pure (f a)) fault → PutsSome m old new first fault
+  pub puts_some : (first : Circuit A) (f : A → B) (old new : S) (fault : SinkFault)
+      → PutsSome m old new (first >>= λ a. pure (f a)) fault → PutsSome m old new first fault
   unfolding ◌>>=◌ pure
   puts_some first f old new fault p = record {
     front = p.front;

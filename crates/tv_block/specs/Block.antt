@@ -1,48 +1,81 @@
--- One step as a circuit, and what it says.
+-- One step as a circuit of nine parts: instruction, registers, rows, arithmetic, tapes, memory, result, registers written,
+-- flag and program counter.
 use Rattle.std.specs.Prelude.{◌≡◌, ℕ, ◌+◌, ◌-◌, ◌/◌, ◌^◌, ◌<◌, ◌==◌, Bool, List, [], ◌∷◌, ◌++◌, length, slice_index}
-use Rattle.tv_bits.specs.Bits.{bits_combination}
-use Rattle.tv_core.specs.Circuits.{Circuit, pure, ◌>>=◌}
+use Rattle.tv_bits.specs.ZeroSign.{zero_sign_of}
+use Rattle.tv_core.specs.Circuits.{Circuit, fresh, pure, ◌>>=◌}
 use Rattle.tv_core.specs.Combinations.{wire, constant}
 use Rattle.tv_core.specs.Constraints.{Combination}
 use Rattle.tv_core.specs.Laws.{Assigns, Meets}
 use Rattle.tv_core.specs.declared.field.TheConstants.{P}
+use Rattle.tv_decode.specs.Instructions.{instruction_of, dest_bits, source_bits, register_bits, imm_wire, number_of}
+use Rattle.tv_decode.specs.declared.records.InstructionWires.{InstructionWires}
 use Rattle.tv_isa.specs.Instruction.{decode}
 use Rattle.tv_isa.specs.declared.opcode.TheConstants.{ANSWER}
 use Rattle.tv_lines.specs.Packing.{line_value}
 use Rattle.tv_lines.specs.Placed.{line_in}
 use Rattle.tv_numbers.specs.Laws.{AtNumbers, DoesStep}
 use Rattle.tv_numbers.specs.Numbers.{Did, did_of}
+use Rattle.tv_numbers.specs.Tables.{store_ops}
 use Rattle.tv_numbers.specs.Views.{flag_of, ViewInRange}
+use Rattle.tv_regs.specs.Triple.{triple_of}
+use Rattle.tv_regs.specs.declared.triple.Triple.{Triple}
 use Rattle.tv_word.specs.Widths.{IsWidth}
-use Rattle.tv_regs.specs.Choices.{choose_of}
-use Rattle.tv_block.specs.Data.{data_of}
-use Rattle.tv_block.specs.Fetch.{fetch_of, state_in}
-use Rattle.tv_block.specs.Groups.{groups_of}
-use Rattle.tv_block.specs.Operands.{operands_of}
-use Rattle.tv_block.specs.Pc.{pc_of}
-use Rattle.tv_block.specs.Result.{result_of, flag_table}
-use Rattle.tv_block.specs.Store.{store_of}
-use Rattle.tv_block.specs.Tapes.{tapes_of}
-use Rattle.tv_block.specs.declared.computed.Computed.{Computed}
+use Rattle.tv_parts.specs.Arithmetic.{arithmetic_of}
+use Rattle.tv_parts.specs.Flag.{next_flag_of}
+use Rattle.tv_parts.specs.Memory.{memory_of}
+use Rattle.tv_parts.specs.OpcodeSums.{place_of, opcode_sum}
+use Rattle.tv_parts.specs.Operand.{operand_of}
+use Rattle.tv_parts.specs.Pc.{pc_of}
+use Rattle.tv_parts.specs.Results.{sign_of, results_of}
+use Rattle.tv_parts.specs.States.{state_in}
+use Rattle.tv_parts.specs.Tapes.{tapes_of}
+use Rattle.tv_parts.specs.Written.{written_of}
+use Rattle.tv_parts.specs.declared.records.ArithmeticWires.{ArithmeticWires}
+use Rattle.tv_parts.specs.declared.records.DataWires.{DataWires}
+use Rattle.tv_parts.specs.declared.records.Sources.{Sources}
 use Rattle.tv_block.specs.declared.records.Block.{Block}
+use Rattle.tv_block.specs.declared.records.Computed.{Computed}
+use Rattle.tv_block.specs.declared.records.Effects.{Effects}
 use Rattle.tv_block.specs.declared.records.Reached.{Reached}
-use Rattle.tv_block.specs.declared.records.StateWires.{StateWires}
+use Rattle.tv_parts.specs.declared.records.StateWires.{StateWires}
 
 -- ---- the circuit
--- all of a step but its program counter
-unfoldable pub compute_of : ℕ → ℕ → StateWires → Circuit Computed
-compute_of w n state = do
-  fetched ← fetch_of w
-  operands ← operands_of w state fetched
-  groups ← groups_of w operands.x operands.a
-  tapes ← tapes_of w n state fetched.fields.op operands.a
-  data_ ← data_of w state fetched.fields.op operands.a tapes
-  store ← store_of w fetched.fields.op operands data_
-  regs ← result_of w state fetched operands groups data_ store
-  flag ← choose_of fetched.fields.op (flag_table w state operands groups tapes)
-  pure (record { fetched = fetched; operands = operands; data_word = data_; store = store; taken = tapes.taken; takes = tapes.takes; ended = tapes.ended; regs = regs; flag = flag })
+-- three registers, by the numbers that the instruction names: at stores the other one is the destination
+abbrev pub registers_of : ℕ → StateWires → InstructionWires → Circuit Triple
+registers_of w state i =
+    triple_of (opcode_sum i.op store_ops) (number_of (dest_bits w i)) (number_of (source_bits w i)) (number_of (register_bits i)) state.regs
 
--- the inverse modulo P of how many bytes a word has, which divides P - 1
+-- what a step works out: its instruction, the registers that it reads, its operand, and the row that holds what the
+-- operation makes; the test of its flag has a wire before the row's
+unfoldable pub computed_of : ℕ → StateWires → Circuit Computed
+computed_of w state = do
+  i ← instruction_of w
+  regs ← registers_of w state i
+  operand ← operand_of w (imm_wire w i) i.tail regs.named_word
+  test ← fresh
+  made ← arithmetic_of w i.op regs.other_word test operand
+  pure (record { instruction = i; regs = regs; operand = operand; test = test; made = made })
+
+-- what memory and the result are made from
+abbrev pub data_of : ArithmeticWires → ℕ → DataWires
+data_of m other = record { bits = m.row.first; word = m.row.low; x = m.x; other = other; both = m.both }
+
+abbrev pub sources_of : ℕ → ArithmeticWires → ℕ → ℕ → Sources
+sources_of w m operand byte = record { low = m.row.low; high = m.row.high; top = m.row.first + (w - 1); operand = operand; byte = byte }
+
+-- what it does: to the tapes, memory, the registers, the flag and the program counter
+unfoldable pub effects_of : ℕ → ℕ → StateWires → Computed → Circuit Effects
+effects_of w n state c = do
+  tapes ← tapes_of w n state c.instruction.op c.operand.bits
+  memory ← memory_of w state c.instruction.op c.operand.bits (data_of c.made c.regs.other_word) tapes
+  results ← results_of w state c.instruction.op c.operand.bits (sources_of w c.made c.operand.word memory.byte) tapes
+  _ ← zero_sign_of results.tested c.test (sign_of c.instruction.op)
+  written ← written_of c.instruction.op state c.regs results.word
+  flag ← next_flag_of w state c.instruction.op c.made.x c.test tapes
+  pc ← pc_of w state c.instruction.op c.operand.bits
+  pure (record { tapes = tapes; memory = memory; regs = written; flag = flag; pc = pc })
+
+-- the inverse modulo P of the number of a word's bytes, which divides P - 1
 abbrev pub word_inverse : ℕ → ℕ
 word_inverse w = P - (P - 1) / (w / 8)
 
@@ -50,22 +83,22 @@ word_inverse w = P - (P - 1) / (w / 8)
 abbrev pub cell_of : ℕ → ℕ → Combination
 cell_of w pc = (word_inverse w, pc) ∷ []
 
--- one step from a state, the primary tape having n words; its instruction's words are looked at at two times from
--- `time` on, and its data word at a third
+-- one step from a state, the primary tape having n words; the lines of its instruction's words have two times from `time`
+-- on, and that of its data word a third
 unfoldable pub block_of : ℕ → ℕ → StateWires → ℕ → Circuit Block
 block_of w n state time = do
-  c ← compute_of w n state
-  pc ← pc_of w state c.fetched.fields.op c.operands.a
+  c ← computed_of w state
+  e ← effects_of w n state c
   pure (record {
-    next = record { pc = pc; regs = c.regs; flag = c.flag; taken_of_primary = c.taken; aux_ended = c.ended };
+    next = record { pc = e.pc; regs = e.regs; flag = e.flag; taken_of_primary = e.tapes.taken; aux_ended = e.tapes.ended };
     lines =
-        (record { cell = cell_of w state.pc; time = constant time; old = bits_combination c.fetched.head.first w; new = bits_combination c.fetched.head.first w })
-        ∷ (record { cell = cell_of w state.pc ++ constant 1; time = constant (time + 1); old = bits_combination c.fetched.tail.first w; new = bits_combination c.fetched.tail.first w })
-        ∷ (record { cell = wire c.data_word.cell; time = constant (time + 2); old = wire c.data_word.old; new = wire c.store.new })
+        (record { cell = cell_of w state.pc; time = constant time; old = wire c.instruction.head; new = wire c.instruction.head })
+        ∷ (record { cell = cell_of w state.pc ++ constant 1; time = constant (time + 1); old = wire c.instruction.tail; new = wire c.instruction.tail })
+        ∷ (record { cell = wire e.memory.line.cell; time = constant (time + 2); old = wire e.memory.line.old; new = wire e.memory.new })
         ∷ [];
-    spot = record { taken = c.takes; word = c.data_word.word };
-    answers = c.fetched.fields.op + ANSWER;
-    value = c.operands.operand;
+    spot = record { taken = e.tapes.takes; word = c.made.row.low };
+    answers = c.instruction.op + place_of ANSWER;
+    value = c.operand.word;
   })
 
 -- what a step leads to, of all that a block answers: that doesn't depend on the time
@@ -94,7 +127,7 @@ did z state made = record {
 }
 
 -- the numbers in a block's wires are those of a step, by its instruction's words, its data word, and whether it takes
--- that of the auxiliary tape; the wires that tell whether it takes a word and whether it answers hold 0 or 1
+-- that of the auxiliary tape; the wires that say whether it takes a word and whether it answers hold 0 or 1
 pub record IsStep (w : ℕ) (z : List ℕ) (n time : ℕ) (state : StateWires) (made : Block) : Type 0 where
   pub head : ℕ
   pub tail : ℕ
@@ -105,21 +138,21 @@ pub record IsStep (w : ℕ) (z : List ℕ) (n time : ℕ) (state : StateWires) (
   pub taken : slice_index z made.spot.taken ≡ flag_of takes
   pub answers : slice_index z made.answers ≡ flag_of ((decode w head tail).op == ANSWER)
 
--- So they are where an assignment meets what a block puts, the state before being in range, whatever memory holds.
+-- so they are where an assignment meets a step's constraints, the state before it being in range, whatever memory holds
 abbrev pub BlockIsStep : Type 0
 BlockIsStep = (w : ℕ) → IsWidth w → (z : List ℕ) (n : ℕ) (state : StateWires) (time next : ℕ) → n < 2 ^ 29 → time + 2 < 2 ^ 32 → Assigns z
     → ViewInRange w n (state_in z state) → Meets z (block_of w n state time next).list
     → IsStep w z n time state (block_of w n state time next).answer
 
--- An assignment that meets what a block puts, the state before being in range, has a step there: the state after is in
--- range, and the numbers are those of the machine's step; the wires that tell whether it takes a word and whether it
--- answers hold 0 or 1.
+-- the numbers in a block's wires are those of a step of the machine, x being its primary tape, and the state after it is in
+-- range; the wires that say whether it takes a word and whether it answers hold 0 or 1
 pub record IsMachineStep (w : ℕ) (z x : List ℕ) (time : ℕ) (state : StateWires) (made : Block) : Type 0 where
   pub range : ViewInRange w (length x) (state_in z made.next)
   pub does : DoesStep w x time (did z state made)
   pub takes : slice_index z made.spot.taken ≡ flag_of (did z state made).takes
   pub answers : slice_index z made.answers ≡ flag_of (did z state made).answers
 
+-- so they are where an assignment meets a step's constraints, the state before it being in range
 abbrev pub BlockIsSound : Type 0
 BlockIsSound = (w : ℕ) → IsWidth w → (z x : List ℕ) (state : StateWires) (time next : ℕ) → length x < 2 ^ 29 → time + 2 < 2 ^ 32 → Assigns z
     → ViewInRange w (length x) (state_in z state) → Meets z (block_of w (length x) state time next).list

@@ -2,35 +2,35 @@
 use Rattle.std.specs.Prelude.{◌≡◌, ℕ, ◌+◌, ◌*◌, ◌/◌, ◌^◌, ◌<◌, ◌≤◌, Bool, List, length, map, is_some, Option, Some, slice_index}
 use Rattle.tv_core.specs.Laws.{Assigns, Meets, HasFrom, Fills, InField}
 use Rattle.tv_core.specs.Lines.{Line}
-use Rattle.tv_logic.specs.Logic.{logic_made}
+use Rattle.tv_isa.specs.Instruction.{decode}
 use Rattle.tv_numbers.specs.Laws.{AtNumbers}
 use Rattle.tv_numbers.specs.Numbers.{lines_in, did_of}
 use Rattle.tv_numbers.specs.Shown.{handed, MayTake}
 use Rattle.tv_numbers.specs.Views.{View, seen, ViewInRange, Matches}
-use Rattle.tv_shift.specs.Shift.{shift_made}
 use Rattle.tv_step.specs.Range.{InRange}
 use Rattle.tv_step.specs.Reads.{word_taken}
 use Rattle.tv_step.specs.Runs.{IsDefined}
 use Rattle.tv_step.specs.State.{State}
 use Rattle.tv_step.specs.Trace.{step_lines}
 use Rattle.tv_word.specs.Widths.{IsWidth}
+use Rattle.tv_parts.specs.States.{state_in}
+use Rattle.tv_parts.specs.declared.records.StateWires.{StateWires}
 use Rattle.tv_block.specs.Block.{block_of, did}
-use Rattle.tv_block.specs.Fetch.{state_in}
-use Rattle.tv_block.specs.Values.{block_values}
-use Rattle.tv_block.specs.declared.records.StateWires.{StateWires}
+use Rattle.tv_block.specs.Values.{row_low, block_values}
 
 -- ---- of numbers
--- z meets what a block puts, and the numbers in the block's wires are the step that was handed in: that by the words
--- h and u of the instruction, with the data word o
-pub record MeetsStep (w : ℕ) (z : List ℕ) (n : ℕ) (state : StateWires) (time next h u o : ℕ) (takes : Bool) : Type 0 where
+-- z meets what a block puts, and the numbers in its wires are the step by these words: the data word that they show is the
+-- low half of the row, which is o where the instruction loads, stores or reads
+pub record MeetsStep (w : ℕ) (z : List ℕ) (n : ℕ) (state : StateWires) (time next head tail o : ℕ) (takes : Bool) : Type 0 where
   pub met : Meets z (block_of w n state time next).list
-  pub shows : did z state (block_of w n state time next).answer ≡ did_of w n time (state_in z state) h u o takes
+  pub shows : did z state (block_of w n state time next).answer
+      ≡ did_of w n time (state_in z state) head tail (row_low w (state_in z state) (decode w head tail) o) takes
 
--- So it is of an assignment that has a step's values at the wires that were made, the step being in range.
+-- so it is of an assignment that has a step's values at the wires that are made, the step being in range
 abbrev pub BlockIsComplete : Type 0
-BlockIsComplete = (w : ℕ) → IsWidth w → (z : List ℕ) (n : ℕ) (state : StateWires) (time next h u o : ℕ) (takes : Bool) → time + 2 < 2 ^ 32 → Assigns z
-    → AtNumbers w n (state_in z state) h u o takes → HasFrom z next (block_values w n (state_in z state) h u o takes)
-    → MeetsStep w z n state time next h u o takes
+BlockIsComplete = (w : ℕ) → IsWidth w → (z : List ℕ) (n : ℕ) (state : StateWires) (time next head tail o : ℕ) (takes : Bool) → time + 2 < 2 ^ 32 → Assigns z
+    → AtNumbers w n (state_in z state) head tail o takes → HasFrom z next (block_values w n (state_in z state) head tail o takes)
+    → MeetsStep w z n state time next head tail o takes
 
 -- ---- of the machine
 -- the values by the olds of the step's three lines, and the word that it takes of the auxiliary tape
@@ -66,38 +66,35 @@ MachineStepIsMet = (w : ℕ) → IsWidth w → (z x : List ℕ) (state : StateWi
     → HasMachineStep w z x state time next st word → MeetsMachineStep w z x state time next st word
 
 -- ---- sizes
--- how many wires the operations of all groups make: sum, difference, comparison, bitwise operations, shifts, product,
--- high product, quotient
-abbrev pub operations_made : ℕ → ℕ
-operations_made w = (w + 1) + (w + 1) + (w / 4 + 6) + logic_made w + shift_made w + (2 * w + 2) + (2 * w + 2) + (2 * w + w / 4 + 4)
+-- how many wires and constraints a step makes: for what it works out, for what it does, and in all
+abbrev pub computed_made : ℕ → ℕ
+computed_made w = 6 * w + w / 16 + 71
 
--- how many wires a step makes before its program counter: the instruction, its operands, the operations, the tapes, the
--- data word, the word after, the registers, the flag
-abbrev pub compute_made : ℕ → ℕ
-compute_made w = (2 * w + 80) + (2 * w + 5) + operations_made w + 8 + (w + 5) + (3 * (w / 16) + 1) + 19 + 1
+abbrev pub computed_added : ℕ → ℕ
+computed_added w = 6 * w + w / 16 + 79
 
--- and with it
+abbrev pub effects_made : ℕ → ℕ
+effects_made w = w / 8 + 42
+
+abbrev pub effects_added : ℕ → ℕ
+effects_added w = w / 8 + 47
+
 abbrev pub block_made : ℕ → ℕ
-block_made w = compute_made w + 4
+block_made w = 6 * w + 3 * (w / 16) + 113
 
--- how many constraints a step makes before its program counter, of the parts in this order
-abbrev pub compute_added : ℕ → ℕ
-compute_added w = (2 * w + 85) + (2 * w + 52) + (operations_made w + 9) + 8 + (w + 5) + (3 * (w / 16) + 1) + 35 + 18
-
--- and with it
 abbrev pub block_added : ℕ → ℕ
-block_added w = compute_added w + 8
+block_added w = 6 * w + 3 * (w / 16) + 126
 
--- The wires are as many whatever a step is given; the values are one number of the field for each.
+-- the wires are as many whatever a step is given; the values are one number of the field for each
 pub record BlockSizes : Type 0 where
   pub end : (w : ℕ) → IsWidth w → (n : ℕ) (state : StateWires) (time next : ℕ) → (block_of w n state time next).next ≡ next + block_made w
   pub three : (w n : ℕ) (state : StateWires) (time next : ℕ) → length (block_of w n state time next).answer.lines ≡ 3
-  pub fills : (w : ℕ) → IsWidth w → (n : ℕ) (state : StateWires) (time : ℕ) (v : View) (h u o : ℕ) (takes : Bool) → length v.regs ≡ 16
-      → Fills (block_of w n state time) (block_values w n v h u o takes)
-  pub in_field : (w : ℕ) → IsWidth w → (n : ℕ) (v : View) (h u o : ℕ) (takes : Bool) → n < 2 ^ 29 → ViewInRange w n v → u < 2 ^ w → o < 2 ^ w
-      → InField (block_values w n v h u o takes)
+  pub fills : (w : ℕ) → IsWidth w → (n : ℕ) (state : StateWires) (time : ℕ) (v : View) (head tail o : ℕ) (takes : Bool) → length v.regs ≡ 16
+      → Fills (block_of w n state time) (block_values w n v head tail o takes)
+  pub in_field : (w : ℕ) → IsWidth w → (n : ℕ) (v : View) (head tail o : ℕ) (takes : Bool) → n < 2 ^ 29 → ViewInRange w n v
+      → head < 2 ^ w → tail < 2 ^ w → o < 2 ^ w → InField (block_values w n v head tail o takes)
 
--- The values of a machine's step, from a state in range of which `gone` words of the primary tape are taken, with the
+-- the values of a machine's step, from a state in range of which `gone` words of the primary tape are taken, with the
 -- word that it takes of the auxiliary tape, are one number of the field for each wire, whatever its opcode is.
 abbrev pub MachineValuesFit : Type 0
 MachineValuesFit = (w : ℕ) → IsWidth w → (n time : ℕ) (st : State) (gone ended : ℕ) → n < 2 ^ 29 → gone ≤ n → ended < 2 → InRange w st

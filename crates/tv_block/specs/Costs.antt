@@ -3,12 +3,12 @@ use Rattle.std.specs.Prelude.{◌≡◌, ℕ, ◌^◌, ◌≤◌, ◌==◌, if�
 use Rattle.tv_core.specs.Meanings.{terms_in}
 use Rattle.tv_core.specs.declared.lines.LineLc.{LineLc}
 use Rattle.tv_word.specs.Widths.{IsWidth}
+use Rattle.tv_parts.specs.declared.records.StateWires.{StateWires}
 use Rattle.tv_block.specs.Block.{block_of}
 use Rattle.tv_block.specs.Complete.{block_made, block_added}
 use Rattle.tv_block.specs.Places.{block_wires}
 use Rattle.tv_block.specs.declared.costs.LineTerms.{LineTerms}
 use Rattle.tv_block.specs.declared.costs.StepCosts.{StepCosts}
-use Rattle.tv_block.specs.declared.records.StateWires.{StateWires}
 
 -- the terms of a line's parts
 abbrev pub line_terms : LineLc → LineTerms
@@ -19,15 +19,14 @@ terms_are cell old new = record { cell = cell; old = old; new = new }
 
 -- how many terms the constraints of a step have
 abbrev pub block_terms : ℕ → ℕ
-block_terms w = if w == 16 then 3488 else 5758
+block_terms w = if w == 16 then 1329 else 1891
 
--- a fetched word has a term for each bit
 abbrev pub step_costs : ℕ → StepCosts
 step_costs w = record {
   wires = block_made w;
   constraints = block_added w;
   terms = block_terms w;
-  lines = terms_are 1 w w ∷ terms_are 2 w w ∷ terms_are 1 1 1 ∷ [];
+  lines = terms_are 1 1 1 ∷ terms_are 2 1 1 ∷ terms_are 1 1 1 ∷ [];
 }
 
 -- at most so much, which is what a system takes a step to cost

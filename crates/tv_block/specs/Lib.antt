@@ -1,17 +1,7 @@
 pub mod Block
 pub mod Complete
 pub mod Costs
-pub mod Data
-pub mod Fetch
-pub mod Filling
-pub mod Gates
-pub mod Groups
-pub mod Operands
-pub mod Pc
 pub mod Places
-pub mod Result
-pub mod Store
-pub mod Tapes
 pub mod Told
 pub mod Under
 pub mod Values

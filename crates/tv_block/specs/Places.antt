@@ -1,76 +1,89 @@
--- Where a step's wires stand: all that a block answers follows from its first wire, the wires of the state before it,
--- and the time.
-use Rattle.std.specs.Prelude.{◌≡◌, ℕ, ◌+◌, ◌*◌, ◌/◌, ◌≤◌, ◌<◌, [], ◌∷◌, ◌++◌, length, All}
+-- Where a step's wires stand: all that it answers follows from its first wire, the wires of the state before it, and the
+-- time.
+use Rattle.std.specs.Prelude.{◌≡◌, ℕ, ◌+◌, ◌-◌, ◌*◌, ◌/◌, ◌≤◌, ◌<◌, [], ◌∷◌, ◌++◌, length, All}
 use Rattle.std.specs.List.{range_with_len}
-use Rattle.tv_bits.specs.Bits.{bits_combination}
 use Rattle.tv_core.specs.Combinations.{wire, constant}
 use Rattle.tv_core.specs.declared.lines.LineLc.{LineLc}
 use Rattle.tv_isa.specs.declared.opcode.TheConstants.{ANSWER}
 use Rattle.tv_word.specs.Widths.{IsWidth}
-use Rattle.tv_block.specs.Block.{block_of, cell_of}
-use Rattle.tv_block.specs.Complete.{operations_made, block_made}
-use Rattle.tv_block.specs.declared.records.Block.{Block}
-use Rattle.tv_block.specs.declared.records.StateWires.{StateWires}
+use Rattle.tv_parts.specs.OpcodeSums.{place_of}
+use Rattle.tv_parts.specs.declared.records.StateWires.{StateWires}
+use Rattle.tv_block.specs.Block.{cell_of, block_of}
+use Rattle.tv_block.specs.Complete.{block_made}
 use Rattle.tv_block.specs.Under.{LineUnder, SpotUnder}
+use Rattle.tv_block.specs.declared.records.Block.{Block}
 
--- ---- where the parts begin, from a block's first wire on
--- the operands: after the two words, 32 wires of the opcode's row and 48 of the registers' rows
-abbrev pub operands_at : ℕ → ℕ
-operands_at w = 2 * w + 80
+-- ---- where the parts begin, from a step's first wire on
+-- the registers that are read, after the instruction; the operand; the arithmetic, after the wire of the test
+abbrev pub registers_at : ℕ → ℕ
+registers_at w = 2 * w + 26
 
--- the tapes: after two rows of bits and five wires of the operands, and the wires of the eight gadgets
+abbrev pub operand_at : ℕ → ℕ
+operand_at w = 2 * w + 57
+
+abbrev pub arithmetic_at : ℕ → ℕ
+arithmetic_at w = 3 * w + 59
+
+-- the tapes, memory, the result, the registers written, the flag, and the program counter
 abbrev pub tapes_at : ℕ → ℕ
-tapes_at w = 4 * w + 85 + operations_made w
+tapes_at w = 6 * w + w / 16 + 71
 
--- the data word, its byte and the word after the step, the registers, and the program counter
-abbrev pub data_at : ℕ → ℕ
-data_at w = tapes_at w + 8
+abbrev pub memory_at : ℕ → ℕ
+memory_at w = tapes_at w + 7
 
-abbrev pub store_at : ℕ → ℕ
-store_at w = data_at w + (w + 5)
+abbrev pub results_at : ℕ → ℕ
+results_at w = memory_at w + w / 8 + 5
 
-abbrev pub result_at : ℕ → ℕ
-result_at w = store_at w + (3 * (w / 16) + 1)
+abbrev pub written_at : ℕ → ℕ
+written_at w = results_at w + 6
+
+abbrev pub flag_at : ℕ → ℕ
+flag_at w = written_at w + 17
 
 abbrev pub pc_at : ℕ → ℕ
-pc_at w = result_at w + 20
+pc_at w = flag_at w + 3
 
--- ---- what it answers
--- the wires of the state after a block whose first wire is `at`
+-- ---- what a step answers
+-- the wires of the state after a step whose first wire is `at`
 abbrev pub next_state : ℕ → ℕ → StateWires
 next_state w at = record {
   pc = at + (pc_at w + 3);
-  regs = range_with_len (at + (result_at w + 3)) 16;
-  flag = at + (result_at w + 19);
-  taken_of_primary = at + (tapes_at w + 5);
-  aux_ended = at + (tapes_at w + 7);
+  regs = range_with_len (at + (written_at w + 1)) 16;
+  flag = at + (flag_at w + 2);
+  taken_of_primary = at + (tapes_at w + 3);
+  aux_ended = at + (tapes_at w + 6);
 }
 
 -- its three lines
 abbrev pub first_line : ℕ → StateWires → ℕ → ℕ → LineLc
-first_line w state time at = record { cell = cell_of w state.pc; time = constant time; old = bits_combination at w; new = bits_combination at w }
+first_line w state time at = record { cell = cell_of w state.pc; time = constant time; old = wire (at + (2 * w + 24)); new = wire (at + (2 * w + 24)) }
 
 abbrev pub second_line : ℕ → StateWires → ℕ → ℕ → LineLc
-second_line w state time at = record { cell = cell_of w state.pc ++ constant 1; time = constant (time + 1); old = bits_combination (at + w) w; new = bits_combination (at + w) w }
+second_line w state time at = record {
+  cell = cell_of w state.pc ++ constant 1;
+  time = constant (time + 1);
+  old = wire (at + (2 * w + 25));
+  new = wire (at + (2 * w + 25));
+}
 
 abbrev pub third_line : ℕ → ℕ → ℕ → LineLc
 third_line w time at = record {
-  cell = wire (at + (data_at w + (w + 2)));
+  cell = wire (at + (memory_at w + 1));
   time = constant (time + 2);
-  old = wire (at + (data_at w + (w + 3)));
-  new = wire (at + (store_at w + 3 * (w / 16)));
+  old = wire (at + (memory_at w + 2));
+  new = wire (at + (memory_at w + (w / 8 + 4)));
 }
 
 abbrev pub block_wires : ℕ → StateWires → ℕ → ℕ → Block
 block_wires w state time at = record {
   next = next_state w at;
   lines = first_line w state time at ∷ second_line w state time at ∷ third_line w time at ∷ [];
-  spot = record { taken = at + (tapes_at w + 6); word = at + (data_at w + w) };
-  answers = at + (2 * w + ANSWER);
-  value = at + (operands_at w + 3);
+  spot = record { taken = at + (tapes_at w + 5); word = at + (arithmetic_at w + 3 * w) };
+  answers = at + (w - 5 + place_of ANSWER);
+  value = at + operand_at w;
 }
 
--- a line's combinations have at most 32 terms
+-- the combinations of a line have at most 32 terms
 pub record IsShort (line : LineLc) : Type 0 where
   pub cell : length line.cell ≤ 32
   pub time : length line.time ≤ 32

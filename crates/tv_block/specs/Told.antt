@@ -1,4 +1,4 @@
--- What the values of a machine's step are given from: the numbers of its state, the olds of its lines, and the word
+-- What the values of a machine's step are worked out from: the numbers of its state, the olds of its lines, and the word
 -- that it takes.
 use Rattle.std.specs.Prelude.{◌≡◌, ℕ, ◌-◌, ◌^◌, ◌<◌, Bool, length, is_some, slice_index}
 use Rattle.tv_numbers.specs.Shown.{handed}
@@ -8,8 +8,8 @@ use Rattle.tv_step.specs.Reads.{word_taken}
 use Rattle.tv_step.specs.State.{State}
 use Rattle.tv_step.specs.Trace.{told_of}
 use Rattle.tv_word.specs.Widths.{IsWidth}
+use Rattle.tv_parts.specs.Traced.{traced_view}
 use Rattle.tv_block.specs.Complete.{olds_of, step_values}
-use Rattle.tv_block.specs.Filling.{view_of}
 use Rattle.tv_block.specs.Values.{block_values}
 
 -- the words of a step's instruction, and its data word, which it takes of the auxiliary tape or finds in its cell
@@ -25,11 +25,11 @@ data_told w n st time = handed (slice_index (olds_of w n st time) 2) (word_taken
 -- they are in range, and the values that they give are those of the machine's step; n and m are how many words the
 -- tapes have had
 pub record GivesStep (w n m time : ℕ) (st : State) (ended : Bool) : Type 0 where
-  pub range : ViewInRange w n (view_of (told_of n m st ended))
+  pub range : ViewInRange w n (traced_view (told_of n m st ended))
   pub head_word : head_told w n st time < 2 ^ w
   pub tail_word : tail_told w n st time < 2 ^ w
   pub data_word : data_told w n st time < 2 ^ w
-  pub values : block_values w n (view_of (told_of n m st ended)) (head_told w n st time) (tail_told w n st time) (data_told w n st time) (is_some (word_taken w st))
+  pub values : block_values w n (traced_view (told_of n m st ended)) (head_told w n st time) (tail_told w n st time) (data_told w n st time) (is_some (word_taken w st))
       ≡ step_values w n (seen st (n - length st.primary) (flag_of ended)) (olds_of w n st time) (word_taken w st)
 
 -- so it is of each step from a state in range

@@ -34,19 +34,19 @@ pub fn step_costs<const W: u32>() -> StepCosts
     ensures is { result ≡ step_costs W }
     ensures cheap { IsCheap result }
 {
-    let lines = [terms(1, W, W), terms(2, W, W), terms(1, 1, 1)];
+    let lines = [terms(1, 1, 1), terms(2, 1, 1), terms(1, 1, 1)];
     if W == 16 {
         StepCosts {
-            wires: 404,
-            constraints: 502,
-            terms: 3488,
+            wires: 212,
+            constraints: 225,
+            terms: 1329,
             lines,
         }
     } else {
         StepCosts {
-            wires: 654,
-            constraints: 752,
-            terms: 5758,
+            wires: 311,
+            constraints: 324,
+            terms: 1891,
             lines,
         }
     }

@@ -1,3 +1,4 @@
+//! The laws of a step.
 ghost use Rattle.tv_block.specs.Block.{BlockIsStep, BlockIsSound};
 ghost use Rattle.tv_block.specs.Complete.{BlockIsComplete, BlockSizes};
 ghost use Rattle.tv_block.specs.Complete.{MachineStepIsMet, MachineValuesFit};
@@ -5,21 +6,24 @@ ghost use Rattle.tv_block.specs.Costs.{BlockIsCounted};
 ghost use Rattle.tv_block.specs.Places.{BlockPlaces};
 ghost use Rattle.tv_block.specs.Told.{StepsAreGiven};
 
-/// Where an assignment meets what a block puts and has a state in range at the wires before it, the
-/// numbers at its wires are those of a step, by the words of a used instruction and the data word
-/// that they hold, whatever memory holds: the lines, what is taken, the answer, and the next state,
-/// which is in range. From each state of the machine that the numbers are of and whose cells hold
-/// the lines' old words, that is the machine's step.
+/// A step's circuit is sound. Where an assignment meets the constraints of a step and has a state
+/// in range at the wires before it, the numbers in its wires are those of a step, by the words of
+/// an instruction whose opcode is used and a data word, whatever memory holds: the lines, what is
+/// taken, the answer, and the state after it, which is in range. From each state of the machine
+/// that the numbers are of and whose cells hold the lines' old words, that is the machine's step.
+/// The wires that say whether it takes a word of the auxiliary tape and whether it answers hold 0
+/// or 1.
 pub fn block_is_sound()
     ensures numbers { BlockIsStep }
     ensures machine { BlockIsSound }
 {}
 
 /// A step's circuit is complete. An assignment that has the values of a step in numbers at the
-/// wires that are made meets what `block` puts, and the numbers in the block's wires are that
-/// step. And so of each step of the machine from a state in range that goes on or answers, with
-/// the olds of its lines and a word that it may take: the lines are then those of the machine's
-/// step, and the word is the one that was handed in.
+/// wires that are made meets the constraints, and the numbers in its wires are that step; the data
+/// word that they show is the low half of the operation's row, which is the step's data word where
+/// it loads, stores or reads. So it is of each step of the machine from a state in range that goes
+/// on or answers, by the old words of its lines and a word of the auxiliary tape that it may take:
+/// the lines are then those of the machine's step, and the word is the one that was passed.
 pub fn block_is_complete()
     ensures numbers { BlockIsComplete }
     ensures machine { MachineStepIsMet }
@@ -32,10 +36,11 @@ pub fn block_fills()
     ensures machine { MachineValuesFit }
 {}
 
-/// The values of a machine's step from a state in range are those that `fill_traced_step` gives by
-/// what a trace tells: the numbers of the state, the olds of the step's three lines, the first two
-/// of which are the words of its instruction, and the word that it takes of the auxiliary tape, for
-/// the third where there is one. All that `fill_traced_step` requires of these holds.
+/// The values of a machine's step from a state in range are those that `fill_traced_step` assigns
+/// from what a trace holds: the numbers of the state, the old words of the step's three lines, of
+/// which the first two are the words of its instruction, and the word that it takes of the
+/// auxiliary tape, in place of the third where there is one. All that `fill_traced_step` requires
+/// of these holds.
 pub fn steps_are_given()
     ensures { StepsAreGiven }
 {}
@@ -47,9 +52,9 @@ pub fn block_is_placed()
     ensures { BlockPlaces }
 {}
 
-/// A step costs what `step_costs` says, by the width alone: so many constraints with so many terms,
-/// and so many terms of its three lines. With its wires, which `block_fills` counts, that is at most
-/// 2,048 wires, 2,048 constraints and 16,384 terms.
+/// A step costs what `step_costs` says, by the width alone: its constraints, their terms, and the
+/// terms of its three lines. With its wires, which `block_fills` counts, that is at most 2,048
+/// wires, 2,048 constraints and 16,384 terms.
 pub fn block_is_counted()
     ensures { BlockIsCounted }
 {}

@@ -1,44 +1,54 @@
-ghost use Rattle.std.specs.Prelude.{◌≡◌, ◌+◌, ◌*◌, ◌<◌, ◌^◌, ℕ};
+ghost use Rattle.std.specs.Prelude.{◌≡◌, ◌+◌, ◌<◌, ◌^◌, ℕ};
 ghost use Rattle.tv_block.specs.Block.{word_inverse};
 ghost use Rattle.tv_block.specs.Complete.{block_made};
-ghost use Rattle.tv_block.specs.declared.records.StateWires.{StateWires};
-ghost use Rattle.tv_block.specs.Places.{tapes_at, data_at, store_at, result_at, next_state};
-ghost use Rattle.tv_block.specs.Places.{first_line, second_line, third_line, block_wires, IsShort};
-ghost use Rattle.tv_block.specs.Under.{StateUnder, LineUnder, SpotUnder};
+ghost use Rattle.tv_block.specs.Places.{tapes_at, memory_at, written_at, next_state, block_wires};
+ghost use Rattle.tv_block.specs.Places.{first_line, second_line, third_line, IsShort};
+ghost use Rattle.tv_block.specs.Under.{LineUnder, SpotUnder};
 ghost use Rattle.tv_lines.specs.Placed.{line_in};
-ghost use Rattle.tv_lines.specs.Told.{line_told, HasShortWords};
+ghost use Rattle.tv_lines.specs.Compact.{line_lc};
+ghost use Rattle.tv_parts.specs.States.{StateUnder};
+ghost use Rattle.tv_parts.specs.declared.records.StateWires.{StateWires};
 ghost use Rattle.tv_word.specs.Widths.{IsWidth};
 
-use crate::records::{Block, Spot, StateWires};
-use tv_bits::Bits;
+use crate::records::Block;
 use tv_core::{F, P, Wire};
 use tv_isa::opcode::ANSWER;
-use tv_lines::{Cell, ToldLine, Word};
+use tv_lines::{Cell, CompactLine, Word};
+use tv_parts::{Spot, StateWires, opcode_wire};
 use tv_regs::wires_from;
+
+// Counted from a step's first wire, 2 W or 6 W less: the two words of its instruction and its
+// operand; the low half of the row of its operation.
+const HEAD: u32 = 24;
+
+const TAIL: u32 = 25;
+
+const OPERAND: u32 = 57;
+
+const LOW: u32 = 59;
 
 // Counted from the first wire of the tapes: how many words of the primary tape are taken, whether
 // one of the auxiliary tape is, whether that has ended, and how many wires these are.
-const TAKEN: u32 = 5;
+const TAKEN: u32 = 3;
 
-const TAKES: u32 = 6;
+const TAKES: u32 = 5;
 
-const ENDED: u32 = 7;
+const ENDED: u32 = 6;
 
-const TAPES: u32 = 8;
+const TAPES: u32 = 7;
 
-// Counted from the first wire of the result: the registers, the flag and the program counter.
-const REGISTERS: u32 = 3;
+// Counted from the first wire of memory, W / 8 less: how many wires it and the result have.
+const MEMORY_AND_RESULT: u32 = 11;
 
-const FLAG: u32 = REGISTERS + 16;
+// Counted from the first wire of the registers written: the registers, the flag and the program
+// counter.
+const REGISTERS: u32 = 1;
 
-const COUNTER: u32 = FLAG + 4;
+const FLAG: u32 = 19;
 
-// The wires of an instruction's fields, and those of the registers that it names.
-const FIELDS: u32 = 80;
+const PC: u32 = 23;
 
-const NAMED: u32 = 3;
-
-/// The state after a step whose first wire is `first`.
+/// Returns the state after a step whose first wire is `first`.
 pub fn next_state<const W: u32>(first: Wire) -> StateWires
     requires width { IsWidth W }
     requires within { first + block_made W < 2 ^ 32 }
@@ -46,29 +56,33 @@ pub fn next_state<const W: u32>(first: Wire) -> StateWires
     ensures below { StateUnder (first + block_made W) result }
 {
     let tapes = first.offset(tapes_at::<W>());
-    let result = first.offset(result_at::<W>());
+    let written = first.offset(written_at::<W>());
     StateWires {
-        pc: result.offset(COUNTER),
-        regs: wires_from(result.offset(REGISTERS)),
-        flag: result.offset(FLAG),
+        pc: written.offset(PC),
+        regs: wires_from(written.offset(REGISTERS)),
+        flag: written.offset(FLAG),
         taken_of_primary: tapes.offset(TAKEN),
         aux_ended: tapes.offset(ENDED),
     }
 }
 
-/// Line 0, 1 or 2 of a step from a state, the step's first wire being `first`: those of the two
-/// words of its instruction, and that of its data word, at `time` and the two times behind it. A
+/// Returns line 0, 1 or 2 of a step from a state, the step's first wire being `first`: those of the
+/// two words of its instruction, and that of its data word, at `time` and the two times after it. A
 /// combination has at most 32 terms.
-pub fn block_line<const W: u32>(first: Wire, state: &StateWires, time: u32, which: u32) -> ToldLine
+pub fn block_line<const W: u32>(
+    first: Wire,
+    state: &StateWires,
+    time: u32,
+    which: u32,
+) -> CompactLine
     requires width { IsWidth W }
     requires within { first + block_made W < 2 ^ 32 }
     requires times { time + 2 < 2 ^ 32 }
     requires which { which < 3 }
-    ensures is { line_told result ≡ line_in (block_wires W state.now time first).lines which }
-    ensures words { HasShortWords result }
-    ensures short { IsShort (line_told result) }
+    ensures is { line_lc result ≡ line_in (block_wires W state.now time first).lines which }
+    ensures short { IsShort (line_lc result) }
     ensures below { state.now.pc < first + block_made W →
-        LineUnder (first + block_made W) (line_told result) }
+        LineUnder (first + block_made W) (line_lc result) }
 {
     match which {
         0 => first_line::<W>(first, state, time),
@@ -77,7 +91,7 @@ pub fn block_line<const W: u32>(first: Wire, state: &StateWires, time: u32, whic
     }
 }
 
-/// Where a step whose first wire is `first` takes a word of the auxiliary tape.
+/// Returns where a step whose first wire is `first` takes a word of the auxiliary tape.
 pub fn block_spot<const W: u32>(first: Wire) -> Spot
     requires width { IsWidth W }
     requires within { first + block_made W < 2 ^ 32 }
@@ -87,12 +101,12 @@ pub fn block_spot<const W: u32>(first: Wire) -> Spot
     let tapes = first.offset(tapes_at::<W>());
     Spot {
         taken: tapes.offset(TAKES),
-        word: tapes.offset(TAPES + W),
+        word: first.offset(6 * W + LOW),
     }
 }
 
-/// All that `block` answers for a step from a state, the step's first wire being `first`. It is the
-/// same however many words the primary tape has.
+/// Returns all that `block` answers for a step from a state, the step's first wire being `first`.
+/// It is the same however many words the primary tape has.
 pub fn block_wires<const W: u32>(first: Wire, state: &StateWires, _n: u32, time: u32) -> Block
     requires width { IsWidth W }
     requires within { first + block_made W < 2 ^ 32 }
@@ -107,65 +121,55 @@ pub fn block_wires<const W: u32>(first: Wire, state: &StateWires, _n: u32, time:
             block_line::<W>(first, state, time, 2).lc(),
         ],
         spot: block_spot::<W>(first),
-        answers: first.offset(2 * W + u32::from(ANSWER)),
-        value: first.offset(2 * W + FIELDS + NAMED),
+        answers: opcode_wire(first.offset(W - 5), ANSWER),
+        value: first.offset(2 * W + OPERAND),
     }
 }
 
 // The line of an instruction's first word, which stays.
-fn first_line<const W: u32>(first: Wire, state: &StateWires, time: u32) -> ToldLine
+fn first_line<const W: u32>(first: Wire, state: &StateWires, time: u32) -> CompactLine
     requires width { IsWidth W }
-    requires within { first + W < 2 ^ 32 }
-    ensures is { line_told result ≡ first_line W state.now time first }
-    ensures words { HasShortWords result }
+    requires within { first + block_made W < 2 ^ 32 }
+    ensures is { line_lc result ≡ first_line W state.now time first }
 {
-    ToldLine {
+    let head = first.offset(2 * W + HEAD);
+    CompactLine {
         cell: Cell::Multiple(word_inverse::<W>(), state.pc),
         time,
-        old: word_at::<W>(first),
-        new: word_at::<W>(first),
+        old: Word::Wired(head),
+        new: Word::Wired(head),
     }
 }
 
-// The line of its second word, which stands behind the first and stays too.
-fn second_line<const W: u32>(first: Wire, state: &StateWires, time: u32) -> ToldLine
+// The line of its second word, which is in the next cell and stays too.
+fn second_line<const W: u32>(first: Wire, state: &StateWires, time: u32) -> CompactLine
     requires width { IsWidth W }
-    requires within { first + 2 * W < 2 ^ 32 }
+    requires within { first + block_made W < 2 ^ 32 }
     requires times { time + 1 < 2 ^ 32 }
-    ensures is { line_told result ≡ second_line W state.now time first }
-    ensures words { HasShortWords result }
+    ensures is { line_lc result ≡ second_line W state.now time first }
 {
-    let first = first.offset(W);
-    ToldLine {
-        cell: Cell::Behind(word_inverse::<W>(), state.pc),
+    let tail = first.offset(2 * W + TAIL);
+    CompactLine {
+        cell: Cell::After(word_inverse::<W>(), state.pc),
         time: time + 1,
-        old: word_at::<W>(first),
-        new: word_at::<W>(first),
+        old: Word::Wired(tail),
+        new: Word::Wired(tail),
     }
-}
-
-// The word whose bits begin at a wire.
-fn word_at<const W: u32>(first: Wire) -> Word
-    ensures { result ≡ Word.Spelled (record { first = first; n = W }) }
-{
-    Word::Spelled(Bits { first, n: W })
 }
 
 // The line of a step's data word.
-fn third_line<const W: u32>(first: Wire, time: u32) -> ToldLine
+fn third_line<const W: u32>(first: Wire, time: u32) -> CompactLine
     requires width { IsWidth W }
     requires within { first + block_made W < 2 ^ 32 }
     requires times { time + 2 < 2 ^ 32 }
-    ensures is { line_told result ≡ third_line W time first }
-    ensures words { HasShortWords result }
+    ensures is { line_lc result ≡ third_line W time first }
 {
-    let looked = first.offset(data_at::<W>());
-    let stored = first.offset(store_at::<W>());
-    ToldLine {
-        cell: Cell::Multiple(F::ONE, looked.offset(W + 2)),
+    let memory = first.offset(memory_at::<W>());
+    CompactLine {
+        cell: Cell::Multiple(F::ONE, memory.offset(1)),
         time: time + 2,
-        old: Word::Wired(looked.offset(W + 3)),
-        new: Word::Wired(stored.offset(3 * (W / 16))),
+        old: Word::Wired(memory.offset(2)),
+        new: Word::Wired(memory.offset(W / 8 + 4)),
     }
 }
 
@@ -177,35 +181,27 @@ fn word_inverse<const W: u32>() -> F
     F::of(P - (P - 1) / u64::from(W / 8))
 }
 
-// Where the wires of the tapes begin, counted from a step's first wire: after the instruction's
-// words and fields, the operands, and the operations.
+// Where the wires of the tapes begin, counted from a step's first wire: after what a step works
+// out.
 fn tapes_at<const W: u32>() -> u32
     requires width { IsWidth W }
     ensures { result ≡ tapes_at W }
 {
-    14 * W + W / 2 + 116 - W / 16
+    6 * W + W / 16 + 71
 }
 
-// Where those of the data word begin.
-fn data_at<const W: u32>() -> u32
+// Where those of memory begin.
+fn memory_at<const W: u32>() -> u32
     requires width { IsWidth W }
-    ensures { result ≡ data_at W }
+    ensures { result ≡ memory_at W }
 {
     tapes_at::<W>() + TAPES
 }
 
-// Where those of loads and stores begin.
-fn store_at<const W: u32>() -> u32
+// Where those of the registers written begin.
+fn written_at<const W: u32>() -> u32
     requires width { IsWidth W }
-    ensures { result ≡ store_at W }
+    ensures { result ≡ written_at W }
 {
-    data_at::<W>() + W + 5
-}
-
-// Where those of the result and the registers begin.
-fn result_at<const W: u32>() -> u32
-    requires width { IsWidth W }
-    ensures { result ≡ result_at W }
-{
-    store_at::<W>() + 3 * (W / 16) + 1
+    memory_at::<W>() + W / 8 + MEMORY_AND_RESULT
 }

@@ -1,43 +1,24 @@
+//! What the values of a step's wires are worked out from.
 ghost use Rattle.std.specs.Prelude.{◌≡◌, ◌<◌, ◌^◌, ◌||◌, if◌then◌else◌};
-ghost use Rattle.tv_block.specs.Filling.{view_of, AreNumbers};
+ghost use Rattle.tv_block.specs.Values.{row_low, row_high, other_register};
 ghost use Rattle.tv_isa.specs.Instruction.{IsInstruction, decode};
 ghost use Rattle.tv_isa.specs.Opcodes.{among};
-ghost use Rattle.tv_numbers.specs.Numbers.{operand_word, other_word};
+ghost use Rattle.tv_numbers.specs.Numbers.{operand_word, other_word, takes_primary};
 ghost use Rattle.tv_numbers.specs.Tables.{memory_ops};
 ghost use Rattle.tv_numbers.specs.Views.{ViewInRange};
+ghost use Rattle.tv_parts.specs.Arithmetic.{spelled_word};
+ghost use Rattle.tv_parts.specs.Traced.{traced_view, AreNumbers};
+ghost use Rattle.tv_step.specs.Range.{AreWords};
 ghost use Rattle.tv_word.specs.Widths.{IsWidth};
 
-use tv_isa::opcode::{LOAD_B, LOAD_W, READ, STORE_B, STORE_W};
+use tv_isa::opcode::{READ, STORE_B, STORE_W};
 use tv_isa::{Instr, decode};
+use tv_parts::{StepNumbers, row_halves, spelled_word, touches};
 use tv_step::TraceState;
 
-/// What the values of a step are worked out from, beside the state before it. Each is worked out
-/// once.
-#[derive(Clone, Copy, PartialEq, Eq, Debug)]
-pub(crate) struct StepNumbers {
-    /// How many words the primary tape has.
-    pub n: u32,
-    /// The instruction.
-    pub instr: Instr,
-    /// The operand.
-    pub operand: u32,
-    /// The other word: what is stored, or else the one in the source register.
-    pub other: u32,
-    /// The data word.
-    pub word: u32,
-    /// Whether it takes a word of the primary tape.
-    pub primary: bool,
-    /// Whether it takes the data word of the auxiliary tape.
-    pub aux: bool,
-    /// Whether a read finds a word.
-    pub found: bool,
-    /// The word in the cell that it looks at, before it; 0 where that is the null cell.
-    pub old: u32,
-}
-
-/// The numbers of a step from a state: `n` is how many words the primary tape has, `head` and
-/// `tail` are the words of the instruction, and `word` is the data word, which the step takes of
-/// the auxiliary tape where `takes`.
+/// Returns the numbers of a step from a state: `n` is the number of the primary tape's words,
+/// `head` and `tail` are the words of the instruction, and `word` is the data word, which the step
+/// takes of the auxiliary tape where `takes`.
 pub(crate) fn step_numbers<const W: u32>(
     n: u32,
     state: &TraceState,
@@ -47,34 +28,44 @@ pub(crate) fn step_numbers<const W: u32>(
     takes: bool,
 ) -> StepNumbers
     requires width { IsWidth W }
-    requires range { ViewInRange W n (view_of state.now) }
+    requires range { ViewInRange W n (traced_view state.now) }
     requires tail_word { tail < 2 ^ W }
     requires data_word { word < 2 ^ W }
     ensures count { result.n ≡ n }
     ensures instr { result.instr ≡ decode W head tail }
-    ensures word { result.word ≡ word }
     ensures aux { result.aux ≡ takes }
-    ensures numbers { AreNumbers W (view_of state.now) result }
+    ensures low { result.low ≡ row_low W (traced_view state.now) (decode W head tail) word }
+    ensures high { result.high ≡ row_high W (traced_view state.now) (decode W head tail) }
+    ensures spelled { result.spelled ≡ spelled_word W result.instr.op result.other result.operand }
+    ensures numbers { AreNumbers W (traced_view state.now) result }
 {
     let instr = decode::<W>(head, tail);
-    let operand = operand(state, &instr);
-    let primary = instr.op == READ && operand == 0 && state.primary < n;
+    let operand = operand::<W>(state, &instr);
+    let other = other::<W>(state, &instr);
+    let (low, high) = row_halves::<W>(instr.op, other, operand, word);
+    let primary = takes_primary(n, state, &instr, operand);
     StepNumbers {
         n,
         instr,
         operand,
-        other: other(state, &instr),
-        word,
+        other,
+        spelled: spelled_word::<W>(instr.op, other, operand),
+        low,
+        high,
         primary,
         aux: takes,
         found: primary || takes,
-        old: old(instr.op, primary, word),
+        old: old(instr.op, primary, low),
     }
 }
 
 // The operand: the second word, or the register that it names.
-fn operand(state: &TraceState, instr: &Instr) -> u32
-    ensures { result ≡ operand_word (view_of state.now) instr.now }
+fn operand<const W: u32>(state: &TraceState, instr: &Instr) -> u32
+    requires width { IsWidth W }
+    requires words { AreWords W state.now.regs }
+    requires second_word { instr.now.a < 2 ^ W }
+    ensures operand { result ≡ operand_word (traced_view state.now) instr.now }
+    ensures word { result < 2 ^ W }
 {
     if instr.imm {
         instr.a
@@ -84,22 +75,35 @@ fn operand(state: &TraceState, instr: &Instr) -> u32
 }
 
 // The other word: what is stored, or else the one in the source register.
-fn other(state: &TraceState, instr: &Instr) -> u32
+fn other<const W: u32>(state: &TraceState, instr: &Instr) -> u32
+    requires width { IsWidth W }
+    requires words { AreWords W state.now.regs }
     requires range { IsInstruction instr.now }
-    ensures { result ≡ other_word (view_of state.now) instr.now }
+    ensures other { result ≡ other_word (traced_view state.now) instr.now }
+    ensures word { result < 2 ^ W }
+{
+    state.regs[usize::from(other_register(instr))]
+}
+
+/// Returns the number of the register that holds the other word.
+pub(crate) fn other_register(instr: &Instr) -> u8
+    requires range { IsInstruction instr.now }
+    ensures number { result ≡ other_register instr.now }
+    ensures within { result < 16 }
 {
     if instr.op == STORE_B || instr.op == STORE_W {
-        state.regs[usize::from(instr.dest)]
+        instr.dest
     } else {
-        state.regs[usize::from(instr.source)]
+        instr.source
     }
 }
 
-/// Whether an instruction loads or stores.
-pub(crate) fn touches(op: u8) -> bool
-    ensures { result ≡ among memory_ops op }
+// Whether a word of the primary tape is taken.
+fn takes_primary(n: u32, state: &TraceState, instr: &Instr, operand: u32) -> bool
+    requires { operand ≡ operand_word (traced_view state.now) instr.now }
+    ensures { result ≡ takes_primary (traced_view state.now) instr.now n }
 {
-    matches!(op, STORE_B | LOAD_B | STORE_W | LOAD_W)
+    instr.op == READ && operand == 0 && state.primary < n
 }
 
 // The word in the cell that an instruction looks at, where that isn't the null cell.

@@ -1,28 +1,34 @@
-ghost use Rattle.std.specs.Prelude.{◌+◌, ◌≤◌, ◌<◌, ◌^◌, ℕ, IfOk};
-ghost use Rattle.tv_block.specs.Block.{compute_of, block_of, step_of};
-ghost use Rattle.tv_block.specs.Complete.{compute_made, compute_added, block_made, block_added};
-ghost use Rattle.tv_block.specs.Under.{StateUnder, FetchedUnder, OperandsUnder};
+//! A step's constraints.
+ghost use Rattle.std.specs.Prelude.{◌+◌, ◌/◌, ◌≤◌, ◌<◌, ◌^◌, ℕ, IfOk};
+ghost use Rattle.tv_bits.specs.ZeroSign.{zero_sign_of};
+ghost use Rattle.tv_block.specs.Block.{registers_of, computed_of, data_of, sources_of, effects_of};
+ghost use Rattle.tv_block.specs.Block.{block_of, step_of};
+ghost use Rattle.tv_block.specs.Complete.{computed_made, computed_added};
+ghost use Rattle.tv_block.specs.Complete.{effects_made, effects_added, block_made, block_added};
+ghost use Rattle.tv_block.specs.Under.{InstructionUnder, ComputedUnder, EffectsUnder};
 ghost use Rattle.tv_core.specs.Sinks.{PutsIn, Grows, Room};
-ghost use Rattle.tv_regs.specs.Reading.{wires_top};
+ghost use Rattle.tv_parts.specs.Memory.{memory_of};
+ghost use Rattle.tv_parts.specs.Results.{sign_of, results_of};
+ghost use Rattle.tv_parts.specs.States.{StateUnder, TripleUnder, TapesUnder, StoreUnder};
+ghost use Rattle.tv_parts.specs.States.{ResultUnder};
 ghost use Rattle.tv_word.specs.Widths.{IsWidth};
 
-use crate::choosing::{flag, result};
-use crate::computed::Computed;
-use crate::counting::counter;
-use crate::fetching::fetch;
-use crate::grouping::groups;
-use crate::looking::data;
-use crate::operating::operands;
 use crate::placing::block_wires;
-use crate::records::{Block, Reached, StateWires};
-use crate::storing::store;
-use crate::taping::tapes;
-use tv_core::{Put, Scratch, Sink, Wire};
-use tv_isa::opcode::ANSWER;
+use crate::records::{Block, Computed, Effects, Reached};
+use tv_bits::zero_sign;
+use tv_core::{Lc, Put, Scratch, Sink, Wire};
+use tv_decode::{InstructionWires, instruction};
+use tv_isa::opcode::{ANSWER, STORE_B, STORE_W};
+use tv_parts::{
+    DataWires, ResultWires, Sources, StateWires, StoreWires, TapeWires, opcode_wire,
+    put_arithmetic, put_flag, put_memory, put_operand, put_pc, put_results, put_tapes, put_written,
+    set_opcodes, set_sign,
+};
+use tv_regs::{Names, Triple, read_triple};
 
-/// One step of the machine from a state, the primary tape having `n` words; its lines of memory are
-/// at `time` and the two times behind it. It makes as many wires and constraints as `step_costs`
-/// says. A `Block` is of some 24 KB: `step` answers what the next step needs of it.
+/// One step of the machine from a state, the primary tape having `n` words; its lines of memory
+/// have `time` and the two times after it. It makes as many wires and constraints as `step_costs`
+/// says. A `Block` has some 24 KB: `step` returns what the next step needs of it.
 pub fn block<const W: u32, S: Sink>(s: &mut S, state: &StateWires, n: u32, time: u32) -> Put<Block>
     requires width { IsWidth W }
     requires room { Room S.meaning s.old (block_made W) (block_added W) }
@@ -41,7 +47,7 @@ pub fn block<const W: u32, S: Sink>(s: &mut S, state: &StateWires, n: u32, time:
     Ok(block_wires::<W>(first, state, n, time))
 }
 
-/// The same, of which only the state after it and the answer are told: these are the same whatever
+/// The same, returning only the state after the step and its answer: these are the same whatever
 /// the time of its lines is.
 pub fn step<const W: u32, S: Sink>(s: &mut S, state: &StateWires, n: u32) -> Put<Reached>
     requires width { IsWidth W }
@@ -54,65 +60,190 @@ pub fn step<const W: u32, S: Sink>(s: &mut S, state: &StateWires, n: u32) -> Put
     ensures value_below { IfOk result (λ made. made.value < S.meaning.wires s.new) }
 {
     let mut scratch = Scratch::new();
-    let computed = compute::<W, S>(s, &mut scratch, state, n)?;
-    let made = &computed;
-    let op = made.fetched.fields.op;
-    let pc = counter::<W, S>(s, &mut scratch, state, op, &made.operands.a)?;
+    let computed = compute::<W, S>(s, &mut scratch, state)?;
+    let acted = act::<W, S>(s, &mut scratch, state, n, &computed)?;
+    let effects = &acted;
     Ok(Reached {
         next: StateWires {
-            pc,
-            regs: made.regs,
-            flag: made.flag,
-            taken_of_primary: made.taken,
-            aux_ended: made.ended,
+            pc: effects.pc,
+            regs: effects.regs,
+            flag: effects.flag,
+            taken_of_primary: effects.tapes.taken,
+            aux_ended: effects.tapes.ended,
         },
-        answers: op.offset(u32::from(ANSWER)),
-        value: made.operands.operand,
+        answers: opcode_wire(computed.instruction.op, ANSWER),
+        value: computed.operand.word,
     })
 }
 
-// All of a step but its program counter.
+// Constrains the instruction, the registers that it reads, its operand and the row of its
+// operation.
 fn compute<const W: u32, S: Sink>(
     s: &mut S,
     scratch: &mut Scratch,
     state: &StateWires,
-    n: u32,
 ) -> Put<Computed>
     requires width { IsWidth W }
-    requires room { Room S.meaning s.old (compute_made W) (compute_added W) }
+    requires room { Room S.meaning s.old (computed_made W) (computed_added W) }
     requires state_made { StateUnder (S.meaning.wires s.old) state.now }
-    ensures puts { PutsIn S.meaning s.old s.new (compute_of W n state.now) result }
-    ensures grows { IfOk result (λ _. Grows S.meaning s.old s.new (compute_made W)
-        (compute_added W)) }
-    ensures fetched { IfOk result (λ made. FetchedUnder W (S.meaning.wires s.new) made.fetched) }
-    ensures operands { IfOk result (λ made. OperandsUnder W (S.meaning.wires s.new) made.operands) }
-    ensures taken { IfOk result (λ made. made.taken < S.meaning.wires s.new) }
-    ensures ended { IfOk result (λ made. made.ended < S.meaning.wires s.new) }
-    ensures regs { IfOk result (λ made. wires_top made.regs ≤ S.meaning.wires s.new) }
-    ensures flag { IfOk result (λ made. made.flag < S.meaning.wires s.new) }
+    ensures puts { PutsIn S.meaning s.old s.new (computed_of W state.now) result }
+    ensures grows { IfOk result (λ _. Grows S.meaning s.old s.new (computed_made W)
+        (computed_added W)) }
+    ensures below { IfOk result (λ made. ComputedUnder W (S.meaning.wires s.new) made) }
 {
-    let instruction = fetch::<W, S>(s, scratch)?;
-    let fetched = &instruction;
-    let op = fetched.fields.op;
-    let words = operands::<W, S>(s, scratch, state, fetched)?;
-    let operands = &words;
-    let groups = groups::<W, S>(s, &operands.x, &operands.a)?;
-    let tapes = tapes::<W, S>(s, scratch, n, state, op, &operands.a)?;
-    let looked = data::<W, S>(s, scratch, state, op, &operands.a, &tapes)?;
-    let store = store::<W, S>(s, scratch, op, operands, &looked)?;
-    let regs = result::<W, S>(
-        s, scratch, state, fetched, operands, &groups, &looked, &store,
-    )?;
-    let flag = flag::<W, S>(s, scratch, state, op, operands, &groups, &tapes)?;
+    let instruction = instruction::<W, S>(s, scratch)?;
+    let regs = registers::<W, S>(s, scratch, state, &instruction)?;
+    let imm = instruction.imm::<W>();
+    let operand = put_operand::<W, S>(s, scratch, imm, instruction.tail, regs.named_word)?;
+    let test = s.fresh();
+    let made = put_arithmetic::<W, S>(s, scratch, instruction.op, regs.other_word, test, &operand)?;
     Ok(Computed {
-        fetched: *fetched,
-        operands: *operands,
-        data_word: looked,
-        store,
-        taken: tapes.taken,
-        takes: tapes.takes,
-        ended: tapes.ended,
+        instruction,
+        regs,
+        operand,
+        test,
+        made,
+    })
+}
+
+// Constrains wires to the words of the registers that an instruction names.
+fn registers<const W: u32, S: Sink>(
+    s: &mut S,
+    scratch: &mut Scratch,
+    state: &StateWires,
+    i: &InstructionWires,
+) -> Put<Triple>
+    requires width { IsWidth W }
+    requires room { Room S.meaning s.old 31 28 }
+    requires state_made { StateUnder (S.meaning.wires s.old) state.now }
+    requires instruction_made { InstructionUnder W (S.meaning.wires s.old) i.now }
+    ensures puts { PutsIn S.meaning s.old s.new (registers_of W state.now i.now) result }
+    ensures grows { IfOk result (λ _. Grows S.meaning s.old s.new 31 28) }
+    ensures below { IfOk result (λ regs. TripleUnder (S.meaning.wires s.new) regs) }
+{
+    let mut stores = Lc::empty();
+    set_opcodes(&mut stores, i.op, &[STORE_B, STORE_W]);
+    let names = Names {
+        dest: i.dest::<W>(),
+        source: i.source::<W>(),
+        named: i.register::<W>(),
+    };
+    read_triple(s, scratch, &stores, &names, &state.regs)
+}
+
+// Constrains what a step does to the tapes, memory, the registers, the flag and the program
+// counter.
+fn act<const W: u32, S: Sink>(
+    s: &mut S,
+    scratch: &mut Scratch,
+    state: &StateWires,
+    n: u32,
+    c: &Computed,
+) -> Put<Effects>
+    requires width { IsWidth W }
+    requires room { Room S.meaning s.old (effects_made W) (effects_added W) }
+    requires state_made { StateUnder (S.meaning.wires s.old) state.now }
+    requires computed_made { ComputedUnder W (S.meaning.wires s.old) c.now }
+    ensures puts { PutsIn S.meaning s.old s.new (effects_of W n state.now c.now) result }
+    ensures grows { IfOk result (λ _. Grows S.meaning s.old s.new (effects_made W)
+        (effects_added W)) }
+    ensures below { IfOk result (λ made. EffectsUnder (S.meaning.wires s.new) made) }
+{
+    let op = c.instruction.op;
+    let a = &c.operand.bits;
+    let tapes = put_tapes::<W, S>(s, scratch, n, state, op, a)?;
+    let memory = store::<W, S>(s, scratch, state, c, &tapes)?;
+    let results = results::<W, S>(s, scratch, state, c, memory.byte, &tapes)?;
+    put_test(s, scratch, op, results.tested, c.test)?;
+    let regs = put_written(s, scratch, op, state, &c.regs, results.word)?;
+    let flag = put_flag::<W, S>(s, scratch, state, op, &c.made.x, c.test, &tapes)?;
+    let pc = put_pc::<W, S>(s, scratch, state, op, a)?;
+    Ok(Effects {
+        tapes,
+        memory,
         regs,
         flag,
+        pc,
     })
+}
+
+// Constrains the data line and the word in its cell after the step.
+fn store<const W: u32, S: Sink>(
+    s: &mut S,
+    scratch: &mut Scratch,
+    state: &StateWires,
+    c: &Computed,
+    tapes: &TapeWires,
+) -> Put<StoreWires>
+    requires width { IsWidth W }
+    requires room { Room S.meaning s.old (W / 8 + 5) (W / 8 + 5) }
+    requires state_made { StateUnder (S.meaning.wires s.old) state.now }
+    requires computed_made { ComputedUnder W (S.meaning.wires s.old) c.now }
+    requires tapes_made { TapesUnder (S.meaning.wires s.old) tapes.now }
+    ensures puts { PutsIn S.meaning s.old s.new (memory_of W state.now c.now.instruction.op
+        c.now.operand.bits (data_of c.now.made c.now.regs.other_word) tapes.now) result }
+    ensures grows { IfOk result (λ _. Grows S.meaning s.old s.new (W / 8 + 5) (W / 8 + 5)) }
+    ensures below { IfOk result (λ made. StoreUnder (S.meaning.wires s.new) made) }
+{
+    let data = DataWires {
+        bits: c.made.row.first,
+        word: c.made.row.low,
+        x: c.made.x,
+        other: c.regs.other_word,
+        both: c.made.both,
+    };
+    let op = c.instruction.op;
+    put_memory::<W, S>(s, scratch, state, op, &c.operand.bits, &data, tapes)
+}
+
+// Constrains the result and the number whose test for 0 is the flag.
+fn results<const W: u32, S: Sink>(
+    s: &mut S,
+    scratch: &mut Scratch,
+    state: &StateWires,
+    c: &Computed,
+    byte: Wire,
+    tapes: &TapeWires,
+) -> Put<ResultWires>
+    requires width { IsWidth W }
+    requires room { Room S.meaning s.old 5 8 }
+    requires state_made { StateUnder (S.meaning.wires s.old) state.now }
+    requires computed_made { ComputedUnder W (S.meaning.wires s.old) c.now }
+    requires byte_made { byte < S.meaning.wires s.old }
+    requires tapes_made { TapesUnder (S.meaning.wires s.old) tapes.now }
+    ensures puts { PutsIn S.meaning s.old s.new (results_of W state.now c.now.instruction.op
+        c.now.operand.bits (sources_of W c.now.made c.now.operand.word byte) tapes.now) result }
+    ensures grows { IfOk result (λ _. Grows S.meaning s.old s.new 5 8) }
+    ensures below { IfOk result (λ made. ResultUnder (S.meaning.wires s.new) made) }
+{
+    let sources = Sources {
+        low: c.made.row.low,
+        high: c.made.row.high,
+        top: c.made.row.first.offset(W - 1),
+        operand: c.operand.word,
+        byte,
+    };
+    let op = c.instruction.op;
+    put_results::<W, S>(s, scratch, state, op, &c.operand.bits, &sources, tapes)
+}
+
+// Constrains the test of the flag to the sign of its opcode where the tested number is 0, else to
+// 0.
+fn put_test<S: Sink>(
+    s: &mut S,
+    scratch: &mut Scratch,
+    op: Wire,
+    tested: Wire,
+    test: Wire,
+) -> Put<()>
+    requires room { Room S.meaning s.old 1 2 }
+    requires op_made { op + 29 ≤ S.meaning.wires s.old }
+    requires tested_made { tested < S.meaning.wires s.old }
+    requires test_made { test < S.meaning.wires s.old }
+    ensures puts { PutsIn S.meaning s.old s.new (zero_sign_of tested test (sign_of op)) result }
+    ensures grows { IfOk result (λ _. Grows S.meaning s.old s.new 1 2) }
+{
+    let mut sign = Lc::empty();
+    set_sign(&mut sign, op);
+    zero_sign(s, scratch, tested, test, sign.terms())
 }

@@ -74,8 +74,8 @@ fn meets_each<const W: u32>(
 
 #[test]
 fn each_instruction_is_met_by_its_values(rt: HostRuntime) -> Result<(), Fail> {
-    meets_each::<32>(&rt, rt.alloc(), HEADER_32, 752)?;
-    meets_each::<16>(&rt, rt.alloc(), HEADER_16, 502)
+    meets_each::<32>(&rt, rt.alloc(), HEADER_32, 324)?;
+    meets_each::<16>(&rt, rt.alloc(), HEADER_16, 225)
 }
 
 // Whether a read of the auxiliary tape after its end, to which a word is handed out, is refused.

@@ -17,7 +17,7 @@ fn size_of<const W: u32>() -> Put<(u32, u32)>
 
 #[test]
 fn a_step_is_as_large_as_said(rt: HostRuntime) -> Result<(), Fail> {
-    assert_eq!(rt; size_of::<32>()?, (654, 752));
-    assert_eq!(rt; size_of::<16>()?, (404, 502));
+    assert_eq!(rt; size_of::<32>()?, (311, 324));
+    assert_eq!(rt; size_of::<16>()?, (212, 225));
     Ok(())
 }

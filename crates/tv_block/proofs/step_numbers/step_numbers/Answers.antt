@@ -1,28 +1,31 @@
-use Rattle.std.proofs.Common.{ℕ, ◌%◌, ◌^◌, ◌<◌, arith}
-use Rattle.std.proofs.lemmas.Bool.{cond_both}
-use Rattle.std.proofs.lemmas.Grind.{common_steps}
-use Rattle.std.specs.Prelude.{slice_index}
+use Rattle.std.proofs.Common.{Bool, ◌||◌, if◌then◌else◌, sym, ◌∙◌, ap}
 use Rattle.tv_isa.specs.Opcodes.{among}
-use Rattle.tv_isa.specs.declared.instr.Instr.{Instr}
-use Rattle.tv_numbers.specs.Tables.{store_ops}
-use Rattle.tv_step.proofs.RangeLaws.{word_at}
+use Rattle.tv_numbers.specs.Tables.{memory_ops}
+use Rattle.tv_parts.proofs.ArithmeticNumbers.{numbers_are_words}
 use Rattle.tv_block.proofs.step_numbers.step_numbers.Goals as goal
+use Rattle.tv_block.proofs.step_numbers.step_numbers.Goals.{then-primary, else-primary}
 
 pub returns-clause-numbers : goal.returns-clause-numbers
 returns-clause-numbers g c =
-    let w = g.row.W in
-    let i : Instr = c.decode-instr.result in
-    let regs = c.args.state.now.regs in
-    let register : (j : ℕ) → slice_index regs j < 2 ^ w = λ j. word_at w c.requires.width regs j c.requires.range.words in
-    let tail : i.a < 2 ^ w = rw c.decode-instr.ensures.fields c.requires.tail_word in
+    let operand = c.operand-operand.ensures in
+    let other = c.other-other.ensures in
+    let instr = c.decode-instr.ensures.range in
+    let primary = c.takes_primary-primary.ensures in
+    let x = c.other-other.result in
+    let a = c.operand-operand.result in
+    let words = numbers_are_words g.row.W c.requires.width x a c.args.word other.word operand.word c.requires.data_word c.decode-instr.result.op instr.op in
     record {
-      fields = c.decode-instr.ensures.range;
-      operand = c.operand-operand.ensures;
-      other = c.other.ensures;
-      primary = grind (arith, common_steps);
-      finds = grind (arith, common_steps);
-      old = grind (arith, common_steps);
-      operand_fits = rw c.operand-operand.ensures (cond_both i.imm i.a (slice_index regs (i.a % 16)) (λ y. y < 2 ^ w) (λ _. tail) (λ _. register (i.a % 16)));
-      other_fits = rw c.other.ensures (cond_both (among store_ops i.op) (slice_index regs i.dest) (slice_index regs i.source) (λ y. y < 2 ^ w) (λ _. register i.dest) (λ _. register i.source));
-      word_fits = c.requires.data_word;
+      fields = instr;
+      operand = operand.operand;
+      other = other.other;
+      primary = primary;
+      finds = elim c.if-primary.branch [
+        | then-primary w ↦ w.result-is ∙ w.if-primary.true ∙ ap (λ b. b || c.args.takes) (sym w.if-primary.true ∙ primary)
+        | else-primary w ↦ w.result-is ∙ ap (λ b. b || c.args.takes) (sym w.if-primary.false ∙ primary)
+      ];
+      old = c.old.ensures ∙ ap (λ (b : Bool). if among memory_ops c.decode-instr.result.op || b then c.row_halves-low.result.0 else 0) primary;
+      operand_word = operand.word;
+      other_word = other.word;
+      low_word = rw c.row_halves-low.ensures.low words.0;
+      high_word = rw c.row_halves-low.ensures.high words.1;
     }

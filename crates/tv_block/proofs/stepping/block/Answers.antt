@@ -4,7 +4,7 @@ use Rattle.tv_block.proofs.StepLaws.{puts_whole, puts_some, next_under}
 use Rattle.tv_block.specs.Block.{block_of}
 use Rattle.tv_block.specs.Complete.{block_made}
 use Rattle.tv_block.specs.Places.{next_state, block_wires}
-use Rattle.tv_block.specs.Under.{StateUnder}
+use Rattle.tv_parts.specs.States.{StateUnder}
 use Rattle.tv_block.specs.declared.records.Block.{Block}
 use Rattle.tv_core.proofs.Chain.{refused}
 use Rattle.tv_core.specs.Sinks.{PutsAll}
@@ -28,5 +28,6 @@ pub returns-clause-next_below : goal.returns-clause-next_below
 returns-clause-next_below g c =
     let m = g.S.Sink.meaning in
     let at : c.wires.result + block_made g.row.W ≡ m.wires c.step.new.s = omega (arith, c.wires.ensures, c.in_ok-step.ensures.grows.wires) in
-    let under : StateUnder (m.wires c.step.new.s) (next_state g.row.W c.wires.result) = subst (λ k. StateUnder k (next_state g.row.W c.wires.result)) at (next_under g.row.W c.requires.width c.wires.result) in
+    let next = next_state g.row.W c.wires.result in
+    let under : StateUnder (m.wires c.step.new.s) next = subst (λ k. StateUnder k next) at (next_under g.row.W c.requires.width c.wires.result) in
     subst (λ state. StateUnder (m.wires c.step.new.s) state) (ap (λ (made : Block). made.next) (sym c.block_wires.ensures)) under

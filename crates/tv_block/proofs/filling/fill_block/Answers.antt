@@ -1,0 +1,10 @@
+use Rattle.std.proofs.Common.{refl, List, ℕ, subst}
+use Rattle.tv_block.proofs.ToldFills.{same_values}
+use Rattle.tv_block.specs.Values.{block_values}
+use Rattle.tv_core.specs.Giving.{GivesIn}
+use Rattle.tv_block.proofs.filling.fill_block.Goals as goal
+
+pub returns-clause-gives : goal.returns-clause-gives
+returns-clause-gives g c =
+    let same = same_values (block_values g.row.W c.args.n) c.traced.ensures refl refl c.data_word-word.ensures c.is_some.ensures in
+    subst (λ (l : List ℕ). GivesIn g.V.Values.giving c.args.v.now c.fill_traced_step.new.v l c.fill_traced_step.result) same c.fill_traced_step.ensures.gives

@@ -1,0 +1,5 @@
+use Rattle.tv_block.proofs.stepping.registers.Goals as goal
+
+pub returns-clause-puts : goal.returns-clause-puts
+returns-clause-puts g c =
+    rw (c.set_opcodes.ensures.terms, c.dest.ensures, c.source.ensures, c.register.ensures) at c.read_triple.ensures.puts

@@ -1,0 +1,478 @@
+-- What the double row holds by the operation of an opcode, and the halves that this makes.
+use Rattle.std.proofs.Common.{◌≡◌, ℕ, ◌+◌, ◌-◌, ◌*◌, ◌/◌, ◌%◌, ◌^◌, ◌<◌, ◌==◌, nat_lt, not, Bool, true, false, if◌then◌else◌, List, [], ◌∷◌, refl, sym}
+use Rattle.std.proofs.Common.{◌∙◌, ap, subst, arith, mod-lt, mod-eq_of_lt, zero-mul, true≢false}
+use Rattle.std.proofs.Math.Nat.{zero-div}
+use Rattle.std.specs.Prelude.{◌&&◌, slice_index, bit_and, bit_xor}
+use Rattle.std.proofs.lemmas.Bool.{and_parts, ltb-true, eqb-true, not-true}
+use Rattle.std.proofs.lemmas.Bool.Decides.{nat_tests}
+use Rattle.tv_bits.specs.DoubleRow.{IsRow}
+use Rattle.tv_bits.specs.declared.double_rows.DoubleRow.{DoubleRow}
+use Rattle.tv_isa.specs.Opcodes.{among, chosen}
+use Rattle.tv_limb.proofs.RowDifferenceLaws.{row_difference_complete}
+use Rattle.tv_limb.proofs.RowSumLaws.{row_sum_complete}
+use Rattle.tv_limb.specs.RowDifference.{IsRowDifference}
+use Rattle.tv_limb.specs.RowSum.{IsRowSum}
+use Rattle.tv_limb.specs.Sum.{carry}
+use Rattle.tv_logic.proofs.DigitLaws.{bitwise_complete}
+use Rattle.tv_muldiv.proofs.RowDivisionLaws.{row_division_complete}
+use Rattle.tv_muldiv.proofs.RowProductLaws.{row_product_complete}
+use Rattle.tv_muldiv.proofs.RowSignedProductLaws.{row_signed_product_complete}
+use Rattle.tv_muldiv.specs.RowDivision.{IsRowDivision}
+use Rattle.tv_muldiv.specs.RowProduct.{IsRowProduct}
+use Rattle.tv_muldiv.specs.RowSignedProduct.{IsRowSignedProduct}
+use Rattle.tv_numbers.specs.Tables.{unused_ops}
+use Rattle.tv_numbers.specs.Views.{flag_of}
+use Rattle.tv_shift.proofs.RowShiftLaws.{left_shift_complete, right_shift_complete}
+use Rattle.tv_shift.specs.RowShift.{left_low, right_high, IsLeftShift, IsRightShift}
+use Rattle.tv_word.proofs.WidthLaws.{width_short}
+use Rattle.tv_word.specs.Widths.{IsWidth}
+use Rattle.tv_parts.proofs.OpcodeCases.{for_opcode, unused}
+use Rattle.tv_parts.specs.Arithmetic.{bitwise_ops, difference_ops, strict_ops, signed_ops, product_ops, division_ops, shifted_word, low_number, high_number}
+use Rattle.tv_parts.specs.Rows.{covers, low_halves, high_halves, AreHalves}
+
+-- ---- groups of opcodes
+pub out : {A : Type 0} → false ≡ true → A
+out e = absurd (true≢false (sym e))
+
+-- an opcode of one group is in no other that has none of its opcodes
+-- no opcode stands in both lists
+abbrev pub apart : List ℕ → List ℕ → Bool
+apart [] ks = true
+apart (j ∷ js) ks = not (among ks j) && apart js ks
+
+pub apart_is : (ks js : List ℕ) (k : ℕ) → apart ks js ≡ true → among ks k ≡ true → among js k ≡ false
+apart_is [] js k is t = out t
+apart_is (i ∷ ks) js k is t =
+    let parts = and_parts (not (among js i)) (apart ks js) is in
+    by_test (i == k) refl (not-true (among js i) parts.0) (apart_is ks js k parts.1) t
+  where
+    by_test : (b : Bool) → (i == k) ≡ b → among js i ≡ false → (among ks k ≡ true → among js k ≡ false) → among (i ∷ ks) k ≡ true → among js k ≡ false
+    by_test true e here rest t = ap (among js) (sym (eqb-true i k e)) ∙ here
+    by_test false e here rest t = rest (sym (ap (λ b. if b then true else among ks k) e) ∙ t)
+
+-- one proof for each opcode of a group
+abbrev pub EachOf : (ℕ → Type 0) → List ℕ → Type 0
+EachOf Q [] = Unit {0}
+EachOf Q (k ∷ ks) = Q k × EachOf Q ks
+
+each_of : (Q : ℕ → Type 0) (ks : List ℕ) → EachOf Q ks → (k : ℕ) → among ks k ≡ true → Q k
+each_of Q [] each k t = out t
+each_of Q (i ∷ ks) each k t = by_test (i == k) refl each.0 (each_of Q ks each.1 k) t
+  where
+    by_test : (b : Bool) → (i == k) ≡ b → Q i → (among ks k ≡ true → Q k) → among (i ∷ ks) k ≡ true → Q k
+    by_test true e here rest t = subst Q (eqb-true i k e) here
+    by_test false e here rest t = rest (sym (ap (λ b. if b then true else among ks k) e) ∙ t)
+
+-- ---- what the row holds
+pub record Operated (w : ℕ) (z : List ℕ) (row : DoubleRow) (f k x a : ℕ) : Type 0 where
+  pub bitwise : among bitwise_ops k ≡ true → (slice_index z row.low ≡ bit_and x a) × (slice_index z row.high ≡ bit_xor x a)
+  pub sum : among (4 ∷ []) k ≡ true → IsRowSum w z row x a
+  pub difference : among difference_ops k ≡ true → IsRowDifference w z row (flag_of (among signed_ops k)) (flag_of (among strict_ops k)) x a
+  pub product : among product_ops k ≡ true → IsRowProduct w z row x a
+  pub signed_product : among (8 ∷ []) k ≡ true → IsRowSignedProduct w z row x a
+  pub division : among division_ops k ≡ true → IsRowDivision z row f x a
+  pub left : among (11 ∷ []) k ≡ true → IsLeftShift w z row (shifted_word w x a) (a % w)
+  pub right : among (12 ∷ []) k ≡ true → IsRightShift w z row (shifted_word w x a) (a % w)
+
+minus_none : (n : ℕ) → n - 0 ≡ n
+minus_none n = omega arith
+
+carried : (w : ℕ) → IsWidth w → (x a : ℕ) → x < 2 ^ w → a < 2 ^ w → carry w x a ≡ (x + a) / 2 ^ w
+carried w width x a h k = grind (arith, nat_tests)
+
+shifted_left_is : (w x a : ℕ) → x < 2 ^ w → left_low w (shifted_word w x a) (a % w) ≡ (if nat_lt a w then x * 2 ^ a % 2 ^ w else 0)
+shifted_left_is w x a h = by_test (nat_lt a w) refl
+  where
+    none : 0 % 2 ^ w ≡ 0
+    none = mod-eq_of_lt (let positive : 0 < 2 ^ w = omega arith in positive)
+
+    by_test : (b : Bool) → nat_lt a w ≡ b → (if b then x else 0) * 2 ^ (a % w) % 2 ^ w ≡ (if b then x * 2 ^ a % 2 ^ w else 0)
+    by_test true e = ap (λ n. x * 2 ^ n % 2 ^ w) (mod-eq_of_lt (ltb-true a w e))
+    by_test false e = ap (λ n. n % 2 ^ w) (zero-mul (2 ^ (a % w))) ∙ none
+
+shifted_right_is : (w x a : ℕ) → right_high (shifted_word w x a) (a % w) ≡ (if nat_lt a w then x / 2 ^ a else 0)
+shifted_right_is w x a = by_test (nat_lt a w) refl
+  where
+    by_test : (b : Bool) → nat_lt a w ≡ b → (if b then x else 0) / 2 ^ (a % w) ≡ (if b then x / 2 ^ a else 0)
+    by_test true e = ap (λ n. x / 2 ^ n) (mod-eq_of_lt (ltb-true a w e))
+    by_test false e = zero-div (2 ^ (a % w))
+
+module _ (w : ℕ) (width : IsWidth w) (z : List ℕ) (row : DoubleRow) (f x a : ℕ) (x_word : x < 2 ^ w) (a_word : a < 2 ^ w) where
+  Low : ℕ → Type 0
+  Low k = Operated w z row f k x a → covers (low_halves w x a) k ≡ true → slice_index z row.low ≡ chosen (low_halves w x a) k
+
+  High : ℕ → Type 0
+  High k = Operated w z row f k x a → covers (high_halves w x a) k ≡ true → slice_index z row.high ≡ chosen (high_halves w x a) k
+
+  low_difference : (k : ℕ) → among difference_ops k ≡ true → flag_of (among strict_ops k) ≡ 0 → Operated w z row f k x a
+      → slice_index z row.low ≡ (x + (2 ^ w - a)) % 2 ^ w
+  low_difference k t strict o =
+      (o.difference t).low ∙ ap (λ n. (x + (2 ^ w - a) - n) % 2 ^ w) strict ∙ ap (λ n. n % 2 ^ w) (minus_none (x + (2 ^ w - a)))
+
+  low_is : (k : ℕ) → k < 32 → among unused_ops k ≡ false → Low k
+  unfolding Low
+  low_is = for_opcode Low (
+    (λ _ _. out),
+    (
+      (λ _ _. out),
+      (
+        (λ _ _. out),
+        (
+          (λ _ _. out),
+          (
+            (λ _ _. out),
+            (
+              (λ _ _. out),
+              (
+                unused,
+                (
+                  unused,
+                  (
+                    unused,
+                    (
+                      (λ _ _. out),
+                      (
+                        (λ _ _. out),
+                        (
+                          (λ _ _. out),
+                          (
+                            (λ _ _. out),
+                            (
+                              (λ _ _. out),
+                              (
+                                (λ _ _. out),
+                                (
+                                  (λ _ _. out),
+                                  (
+                                    (λ _ _. out),
+                                    (
+                                      (λ _ _. out),
+                                      (
+                                        (λ _ o _. low_difference 13 refl refl o),
+                                        (
+                                          (λ _ _. out),
+                                          (
+                                            (λ _ o _. (o.left refl).low ∙ shifted_left_is w x a x_word),
+                                            (
+                                              (λ _ o _. (o.division refl).rem),
+                                              (
+                                                (λ _ _. out),
+                                                (
+                                                  (λ _ o _. (o.signed_product refl).low),
+                                                  (
+                                                    (λ _ _. out),
+                                                    (
+                                                      (λ _ o _. (o.product refl).low),
+                                                      (
+                                                        (λ _ o _. low_difference 5 refl refl o),
+                                                        (
+                                                          (λ _ o _. (o.sum refl).low),
+                                                          (
+                                                            (λ _ _. out),
+                                                            (
+                                                              (λ _ o _. (o.bitwise refl).0),
+                                                              ((λ _ o _. (o.bitwise refl).0), ((λ _ o _. (o.bitwise refl).0), tt)),
+                                                            ),
+                                                          ),
+                                                        ),
+                                                      ),
+                                                    ),
+                                                  ),
+                                                ),
+                                              ),
+                                            ),
+                                          ),
+                                        ),
+                                      ),
+                                    ),
+                                  ),
+                                ),
+                              ),
+                            ),
+                          ),
+                        ),
+                      ),
+                    ),
+                  ),
+                ),
+              ),
+            ),
+          ),
+        ),
+      ),
+    ),
+  )
+
+  high_is : (k : ℕ) → k < 32 → among unused_ops k ≡ false → High k
+  unfolding High
+  high_is = for_opcode High (
+    (λ _ _. out),
+    (
+      (λ _ _. out),
+      (
+        (λ _ _. out),
+        (
+          (λ _ _. out),
+          (
+            (λ _ _. out),
+            (
+              (λ _ _. out),
+              (
+                unused,
+                (
+                  unused,
+                  (
+                    unused,
+                    (
+                      (λ _ _. out),
+                      (
+                        (λ _ _. out),
+                        (
+                          (λ _ _. out),
+                          (
+                            (λ _ _. out),
+                            (
+                              (λ _ _. out),
+                              (
+                                (λ _ o _. (o.difference refl).high),
+                                (
+                                  (λ _ o _. (o.difference refl).high),
+                                  (
+                                    (λ _ o _. (o.difference refl).high),
+                                    (
+                                      (λ _ o _. (o.difference refl).high),
+                                      (
+                                        (λ _ o _. (o.difference refl).high),
+                                        (
+                                          (λ _ o _. (o.right refl).high ∙ shifted_right_is w x a),
+                                          (
+                                            (λ _ _. out),
+                                            (
+                                              (λ _ _. out),
+                                              (
+                                                (λ _ o _. (o.division refl).quot),
+                                                (
+                                                  (λ _ o _. (o.signed_product refl).high),
+                                                  (
+                                                    (λ _ o _. (o.product refl).high),
+                                                    (
+                                                      (λ _ o _. (o.product refl).high),
+                                                      (
+                                                        (λ _ o _. (o.difference refl).high),
+                                                        (
+                                                          (λ _ o _. (o.sum refl).high ∙ carried w width x a x_word a_word),
+                                                          (
+                                                            (λ _ _. out),
+                                                            (
+                                                              (λ _ o _. (o.bitwise refl).1),
+                                                              ((λ _ o _. (o.bitwise refl).1), ((λ _ o _. (o.bitwise refl).1), tt)),
+                                                            ),
+                                                          ),
+                                                        ),
+                                                      ),
+                                                    ),
+                                                  ),
+                                                ),
+                                              ),
+                                            ),
+                                          ),
+                                        ),
+                                      ),
+                                    ),
+                                  ),
+                                ),
+                              ),
+                            ),
+                          ),
+                        ),
+                      ),
+                    ),
+                  ),
+                ),
+              ),
+            ),
+          ),
+        ),
+      ),
+    ),
+  )
+
+  pub halves_by : (k : ℕ) → k < 32 → among unused_ops k ≡ false → slice_index z row.low < 2 ^ w → slice_index z row.high < 2 ^ w
+      → Operated w z row f k x a → AreHalves w x a k (slice_index z row.low) (slice_index z row.high)
+  unfolding Low High
+  halves_by k within used low high o = record { low_word = low; high_word = high; low_half = low_is k within used o; high_half = high_is k within used o }
+
+-- ---- the other way round: a row that holds the numbers
+module _ (w : ℕ) (width : IsWidth w) (z : List ℕ) (row : DoubleRow) (f k x a o : ℕ) where
+  module _ (low : slice_index z row.low ≡ low_number w k x a o) (high : slice_index z row.high ≡ high_number w k x a)
+      (by_zero : among division_ops k ≡ true → slice_index z f ≡ flag_of (a == 0)) where
+    at : (ks : List ℕ) (T : ℕ → Type 0) → EachOf (λ j. slice_index z row.low ≡ low_number w j x a o → slice_index z row.high ≡ high_number w j x a → T j) ks
+        → among ks k ≡ true → T k
+    at ks T each t = each_of (λ j. slice_index z row.low ≡ low_number w j x a o → slice_index z row.high ≡ high_number w j x a → T j) ks each k t low high
+
+    pub operated_by : Operated w z row f k x a
+    operated_by = record {
+      bitwise = at bitwise_ops (λ _. (slice_index z row.low ≡ bit_and x a) × (slice_index z row.high ≡ bit_xor x a))
+          ((λ l h. (l, h)), ((λ l h. (l, h)), ((λ l h. (l, h)), tt)));
+      sum = at (4 ∷ []) (λ _. IsRowSum w z row x a) ((λ l h. record { low = l; high = h }), tt);
+      difference = at difference_ops (λ j. IsRowDifference w z row (flag_of (among signed_ops j)) (flag_of (among strict_ops j)) x a) (
+        (λ l h. record { low = l; high = h }),
+        (
+          (λ l h. record { low = l; high = h }),
+          (
+            (λ l h. record { low = l; high = h }),
+            ((λ l h. record { low = l; high = h }), ((λ l h. record { low = l; high = h }), ((λ l h. record { low = l; high = h }), tt))),
+          ),
+        ),
+      );
+      product = at product_ops (λ _. IsRowProduct w z row x a) ((λ l h. record { low = l; high = h }), ((λ l h. record { low = l; high = h }), tt));
+      signed_product = at (8 ∷ []) (λ _. IsRowSignedProduct w z row x a) ((λ l h. record { low = l; high = h }), tt);
+      division = λ t. at division_ops (λ _. IsRowDivision z row f x a)
+          ((λ l h. record { rem = l; quot = h; zero = by_zero t }), ((λ l h. record { rem = l; quot = h; zero = by_zero t }), tt)) t;
+      left = at (11 ∷ []) (λ _. IsLeftShift w z row (shifted_word w x a) (a % w)) ((λ l h. record { low = l; high = h }), tt);
+      right = at (12 ∷ []) (λ _. IsRightShift w z row (shifted_word w x a) (a % w)) ((λ l h. record { low = l; high = h }), tt);
+    }
+
+-- ---- the numbers are words, and a row but at smulh
+pub record FitsRow (w low high : ℕ) (signed : Bool) : Type 0 where
+  pub low_word : low < 2 ^ w
+  pub high_word : high < 2 ^ w
+  pub row : signed ≡ false → IsRow w low high
+
+of_row : (w low high : ℕ) (signed : Bool) → IsRow w low high → FitsRow w low high signed
+of_row w low high signed r = record { low_word = r.low_word; high_word = r.high_word; row = λ _. r }
+
+data_row : (w : ℕ) → IsWidth w → (o : ℕ) → o < 2 ^ w → IsRow w o 0
+data_row w width o h = record { low_word = h; high_word = omega arith; edge = λ full. absurd (no_edge w width full) }
+  where
+    no_edge : (w : ℕ) → IsWidth w → 0 ≡ 2 ^ w - 1 → ⊥
+    no_edge w width full = grind arith
+
+pub shifted_below : (w x a : ℕ) → x < 2 ^ w → shifted_word w x a < 2 ^ w
+shifted_below w x a h = either (nat_lt a w)
+  where
+    either : (b : Bool) → (if b then x else 0) < 2 ^ w
+    either true = h
+    either false = omega arith
+
+pub place_below : (w : ℕ) → IsWidth w → (a : ℕ) → a % w < w
+place_below w width a = mod-lt a (let most = width_short w width in let positive : 0 < w = omega arith in positive)
+
+module _ (w : ℕ) (width : IsWidth w) (x a o : ℕ) (x_word : x < 2 ^ w) (a_word : a < 2 ^ w) (o_word : o < 2 ^ w) where
+  abbrev Fitting : ℕ → Type 0
+  Fitting k = FitsRow w (low_number w k x a o) (high_number w k x a) (among (8 ∷ []) k)
+
+  by_data : FitsRow w o 0 false
+  by_data = of_row w o 0 false (data_row w width o o_word)
+
+  by_bits : FitsRow w (bit_and x a) (bit_xor x a) false
+  by_bits = of_row w (bit_and x a) (bit_xor x a) false (bitwise_complete.row w width x a x_word a_word)
+
+  pub numbers_fit : (k : ℕ) → k < 32 → among unused_ops k ≡ false → Fitting k
+  numbers_fit =
+      let v = shifted_word w x a in
+      let v_word = shifted_below w x a x_word in
+      let place = place_below w width a in
+      let signed = row_signed_product_complete.words w width x a in
+      for_opcode Fitting (
+        (λ _. by_data),
+        (
+          (λ _. by_data),
+          (
+            (λ _. by_data),
+            (
+              (λ _. by_data),
+              (
+                (λ _. by_data),
+                (
+                  (λ _. by_data),
+                  (
+                    unused,
+                    (
+                      unused,
+                      (
+                        unused,
+                        (
+                          (λ _. by_data),
+                          (
+                            (λ _. by_data),
+                            (
+                              (λ _. by_data),
+                              (
+                                (λ _. by_data),
+                                (
+                                  (λ _. by_data),
+                                  (
+                                    (λ _. of_row w _ _ false (row_difference_complete.row w width 1 0 x a)),
+                                    (
+                                      (λ _. of_row w _ _ false (row_difference_complete.row w width 1 1 x a)),
+                                      (
+                                        (λ _. of_row w _ _ false (row_difference_complete.row w width 0 0 x a)),
+                                        (
+                                          (λ _. of_row w _ _ false (row_difference_complete.row w width 0 1 x a)),
+                                          (
+                                            (λ _. of_row w _ _ false (row_difference_complete.row w width 0 0 x a)),
+                                            (
+                                              (λ _. of_row w _ _ false (right_shift_complete.row w width v (a % w) v_word place)),
+                                              (
+                                                (λ _. of_row w _ _ false (left_shift_complete.row w width v (a % w) v_word place)),
+                                                (
+                                                  (λ _. of_row w _ _ false (row_division_complete.row w width x a x_word a_word)),
+                                                  (
+                                                    (λ _. of_row w _ _ false (row_division_complete.row w width x a x_word a_word)),
+                                                    (
+                                                      (λ _. record { low_word = signed.0; high_word = signed.1; row = λ e. absurd (true≢false e) }),
+                                                      (
+                                                        (λ _. of_row w _ _ false (row_product_complete.row w width x a x_word a_word)),
+                                                        (
+                                                          (λ _. of_row w _ _ false (row_product_complete.row w width x a x_word a_word)),
+                                                          (
+                                                            (λ _. of_row w _ _ false (row_difference_complete.row w width 0 0 x a)),
+                                                            (
+                                                              (λ _. of_row w _ _ false (row_sum_complete.row w width x a x_word a_word)),
+                                                              (
+                                                                (λ _. by_data),
+                                                                ((λ _. by_bits), ((λ _. by_bits), ((λ _. by_bits), tt))),
+                                                              ),
+                                                            ),
+                                                          ),
+                                                        ),
+                                                      ),
+                                                    ),
+                                                  ),
+                                                ),
+                                              ),
+                                            ),
+                                          ),
+                                        ),
+                                      ),
+                                    ),
+                                  ),
+                                ),
+                              ),
+                            ),
+                          ),
+                        ),
+                      ),
+                    ),
+                  ),
+                ),
+              ),
+            ),
+          ),
+        ),
+      )
+
+  -- at every opcode
+  abbrev AreWords : ℕ → Type 0
+  AreWords k = (low_number w k x a o < 2 ^ w) × (high_number w k x a < 2 ^ w)
+
+  pub numbers_are_words : (k : ℕ) → k < 32 → AreWords k
+  numbers_are_words k within = by_use (among unused_ops k) refl
+    where
+      free : AreWords 23
+      free = (by_data.low_word, by_data.high_word)
+
+      by_use : (b : Bool) → among unused_ops k ≡ b → AreWords k
+      by_use true e = each_of AreWords unused_ops (free, (free, (free, tt))) k e
+      by_use false e = let fits = numbers_fit k within e in (fits.low_word, fits.high_word)

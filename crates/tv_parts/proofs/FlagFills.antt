@@ -1,0 +1,240 @@
+-- The laws of the flag after a step.
+use Rattle.std.proofs.Common.{◌≡◌, ℕ, ◌+◌, ◌-◌, ◌*◌, ◌%◌, ◌^◌, ◌<◌, ◌==◌, ◌&&◌, Bool, true, false, if◌then◌else◌, List, [], ◌∷◌, ◌++◌, length, inl, inr, refl, sym, ◌∙◌, ap, ap₂, arith, mod-lt, true≢false}
+use Rattle.std.specs.Int.{bit_at}
+use Rattle.std.specs.Prelude.{slice_index, nat_lt}
+use Rattle.std.proofs.lemmas.Bool.{cases_eq, eqb-true, ne_eqb, and_parts}
+use Rattle.tv_bits.proofs.TimesLaws.{times_sound, times_complete, times_next}
+use Rattle.tv_bits.specs.Times.{times_of}
+use Rattle.tv_bits.specs.declared.bit_wires.Bits.{Bits}
+use Rattle.tv_core.proofs.CombinationLaws.{value-wire, value-append, value-cons, wire-below}
+use Rattle.tv_core.proofs.FieldLaws.{InField-cons, InField-none}
+use Rattle.tv_core.proofs.Meeting.{Meets-split, Meets-join}
+use Rattle.tv_core.specs.Circuits.{fresh, put, pure, ◌>>=◌}
+use Rattle.tv_core.specs.Combinations.{wire}
+use Rattle.tv_core.specs.Constraints.{value}
+use Rattle.tv_core.specs.Laws.{InField}
+use Rattle.tv_core.specs.Meanings.{terms_in}
+use Rattle.tv_core.specs.declared.field.TheConstants.{P}
+use Rattle.tv_isa.specs.Opcodes.{among, chosen}
+use Rattle.tv_isa.specs.declared.instr.Instr.{Instr}
+use Rattle.tv_numbers.specs.Numbers.{operand_word, other_word, takes_primary, asks, found}
+use Rattle.tv_numbers.specs.Tables.{keeper_ops, flags}
+use Rattle.tv_numbers.proofs.Cases.{chosen_in}
+use Rattle.tv_numbers.specs.Views.{View, flag_of}
+use Rattle.tv_word.specs.Widths.{IsWidth}
+use Rattle.tv_parts.proofs.AccumulationLaws.{accumulated_sound, accumulated_complete}
+use Rattle.tv_parts.proofs.FlagLaws.{raised_ops, flag_sum, FlagCase, flag_number}
+use Rattle.tv_parts.proofs.OpcodeLaws.{opcode_sum_sound}
+use Rattle.tv_parts.proofs.TapeFills.{flag_in_field, either}
+use Rattle.tv_parts.proofs.TapeGates.{value-two}
+use Rattle.tv_parts.proofs.TapeLaws.{among_one}
+use Rattle.tv_parts.specs.Accumulation.{closed_of}
+use Rattle.tv_parts.specs.Flag.{tested_in, next_flag_of, HasFlag, flag_in, flag_values, FlagIsSound, FlagIsComplete, FlagSizes, FlagCosts}
+use Rattle.tv_parts.specs.OpcodeSums.{opcode_sum}
+use Rattle.tv_parts.specs.Tapes.{took}
+use Rattle.tv_parts.specs.declared.records.StateWires.{StateWires}
+use Rattle.tv_parts.specs.declared.records.TapeWires.{TapeWires}
+
+-- ---- what is taken of the tapes
+-- nothing but at a read
+pub no_primary : (v : View) (i : Instr) (n : ℕ) → (i.op == 30) ≡ false → takes_primary v i n ≡ false
+no_primary v i n e = ap (λ b. (b && (operand_word v i == 0)) && nat_lt v.taken n) e
+
+pub no_auxiliary : (v : View) (i : Instr) (t : Bool) → (t ≡ true → asks v i ≡ true) → (i.op == 30) ≡ false → t ≡ false
+no_auxiliary v i true asked e = absurd (true≢false (sym (asked refl) ∙ ap (λ b. (b && (operand_word v i == 1)) && (v.ended == 0)) e))
+no_auxiliary v i false asked e = refl
+
+-- and of one tape alone
+pub one_tape : (v : View) (i : Instr) (n : ℕ) (t : Bool) → (t ≡ true → asks v i ≡ true) → takes_primary v i n ≡ true → t ≡ false
+one_tape v i n true asked p =
+    let first = and_parts ((i.op == 30) && (operand_word v i == 0)) (nat_lt v.taken n) p in
+    let zeroth = and_parts (i.op == 30) (operand_word v i == 0) first.0 in
+    let other = and_parts ((i.op == 30) && (operand_word v i == 1)) (v.ended == 0) (asked refl) in
+    let one = and_parts (i.op == 30) (operand_word v i == 1) other.0 in
+    absurd (apart (operand_word v i) (eqb-true (operand_word v i) 0 zeroth.1) (eqb-true (operand_word v i) 1 one.1))
+  where
+    apart : (a : ℕ) → a ≡ 0 → a ≡ 1 → ⊥
+    apart a e f = absurd (omega arith)
+one_tape v i n false asked p = refl
+
+-- ---- the combinations' values
+-- a shift's bit in place of the test, as a product with its opcode's wire
+bit_product : (b : Bool) (f bit : ℕ) → f < P → bit < 2 → flag_of b * (((P - 1) * f + 1 * bit) % P) % P ≡ (if b then (bit + (P - f)) % P else 0)
+bit_product true f bit h k = omega arith
+bit_product false f bit h k = omega arith
+
+sum_of : (b g f t u l r k : ℕ) (p : Bool) → b < 2 ^ 29 → f < P → g < 2 → u < 2 → l < P → r < P → k < 2 → t ≡ (if p then b + 1 else b)
+    → ((1 * b + (g + (1 * f + ((P - 1) * t + ((P - 1) * u + (1 * l + (1 * r + 0) % P) % P) % P) % P) % P) % P) % P + k) % P ≡ (g + f + (P - flag_of p) + (P - u) + l + r + k) % P
+sum_of b g f t u l r k true hb hf hg hu hl hr hk e = omega arith
+sum_of b g f t u l r k false hb hf hg hu hl hr hk e = omega arith
+
+flag_below : (b : Bool) → flag_of b < 2
+flag_below true = omega arith
+flag_below false = omega arith
+
+bit_below : (x i : ℕ) → bit_at x i < 2
+bit_below x i = omega arith
+
+module _ (w : ℕ) (width : IsWidth w) (z : List ℕ) (n : ℕ) (state : StateWires) (op : ℕ) (x : Bits) (f : ℕ) (t : TapeWires) (v : View) (i : Instr) (low high result y : ℕ) (has : HasFlag w z n state op x f t v i low high result y) where
+  abbrev primary : Bool
+  primary = takes_primary v i n
+
+  case_of : FlagCase w width (other_word v i) (operand_word v i) low high result y (slice_index z f) v.flag primary (took z t) has.other has.operand has.bit i.op
+  case_of = record {
+    reads = λ e. (no_primary v i n e, no_auxiliary v i (took z t) has.tapes.asked e);
+    apart = one_tape v i n (took z t) has.tapes.asked;
+    test = has.test;
+    tested = has.tested;
+    divides = has.divides;
+    result_is = has.result_word;
+    halves = has.halves;
+  }
+
+  -- the gate of a shift times its bit less the test
+  shift_value : (k bit at : ℕ) → value (opcode_sum op (k ∷ [])) z ≡ flag_of (i.op == k) → bit < 2 → (i.op ≡ k → slice_index z at ≡ bit)
+      → value (opcode_sum op (k ∷ [])) z * value ((P - 1, f) ∷ (1, at) ∷ []) z % P ≡ (if i.op == k then (bit + (P - slice_index z f)) % P else 0)
+  shift_value k bit at gate small is = elim (cases_eq i.op k) [
+    | inl same ↦ ap₂ (λ m j. m * j % P) gate (value-two z (P - 1) 1 f at ∙ ap (λ b. ((P - 1) * slice_index z f + 1 * b) % P) (is same)) ∙ bit_product (i.op == k) (slice_index z f) bit (wire-below has.assigns f) small
+    | inr other ↦ ap (λ b. b * value ((P - 1, f) ∷ (1, at) ∷ []) z % P) (gate ∙ ap flag_of (ne_eqb i.op k other)) ∙ none _ ∙ sym (ap (λ b. if b then (bit + (P - slice_index z f)) % P else 0) (ne_eqb i.op k other))
+  ]
+    where
+      none : (m : ℕ) → 0 * m % P ≡ 0
+      none m = omega arith
+
+  left_is : value (opcode_sum op (11 ∷ [])) z * value ((P - 1, f) ∷ (1, x.first + (w - 1)) ∷ []) z % P ≡ (if i.op == 11 then (bit_at (other_word v i) (w - 1) + (P - slice_index z f)) % P else 0)
+  left_is = shift_value 11 (bit_at (other_word v i) (w - 1)) (x.first + (w - 1)) (opcode_sum_sound z op i.op (11 ∷ []) has.opcode refl ∙ ap flag_of (among_one 11 i.op)) (bit_below (other_word v i) (w - 1)) (λ e. has.top (ap (among (11 ∷ 12 ∷ [])) e))
+
+  right_is : value (opcode_sum op (12 ∷ [])) z * value ((P - 1, f) ∷ (1, x.first) ∷ []) z % P ≡ (if i.op == 12 then (bit_at (other_word v i) 0 + (P - slice_index z f)) % P else 0)
+  right_is = shift_value 12 (bit_at (other_word v i) 0) x.first (opcode_sum_sound z op i.op (12 ∷ []) has.opcode refl ∙ ap flag_of (among_one 12 i.op)) (bit_below (other_word v i) 0) (λ e. has.lowest (ap (among (11 ∷ 12 ∷ [])) e))
+
+  -- the sum of the last constraint
+  flag_value : (left right : ℕ) → slice_index z left ≡ (if i.op == 11 then (bit_at (other_word v i) (w - 1) + (P - slice_index z f)) % P else 0) → slice_index z right ≡ (if i.op == 12 then (bit_at (other_word v i) 0 + (P - slice_index z f)) % P else 0)
+      → (value (tested_in state.taken_of_primary op f t left right) z + value (opcode_sum op keeper_ops) z * value (wire state.flag) z) % P ≡ flag_in w n v i low (took z t)
+  flag_value left right is_left is_right =
+      let before = state.taken_of_primary in
+      let rest = (1, f) ∷ (P - 1, t.taken) ∷ (P - 1, t.takes) ∷ (1, left) ∷ (1, right) ∷ [] in
+      let kept = opcode_sum_sound z op i.op keeper_ops has.opcode refl in
+      let raises = opcode_sum_sound z op i.op raised_ops has.opcode refl in
+      let rest_is = value-cons 1 f ((P - 1, t.taken) ∷ (P - 1, t.takes) ∷ (1, left) ∷ (1, right) ∷ []) z
+      ∙ ap (λ m. (1 * slice_index z f + m) % P) (value-cons (P - 1) t.taken ((P - 1, t.takes) ∷ (1, left) ∷ (1, right) ∷ []) z
+      ∙ ap (λ m. ((P - 1) * slice_index z t.taken + m) % P) (value-cons (P - 1) t.takes ((1, left) ∷ (1, right) ∷ []) z
+      ∙ ap₂ (λ u m. ((P - 1) * u + m) % P) has.tapes.takes (value-cons 1 left ((1, right) ∷ []) z ∙ ap (λ m. (1 * slice_index z left + m) % P) (value-cons 1 right [] z)))) in
+      let sum = value-cons 1 before (opcode_sum op raised_ops ++ rest) z ∙ ap₂ (λ b m. (1 * b + m) % P) has.before (value-append (opcode_sum op raised_ops) rest z ∙ ap₂ (λ g m. (g + m) % P) raises rest_is) in
+      ap₂ (λ m k. (m + k) % P) sum (ap₂ (λ m k. m * k) kept (value-wire has.assigns state.flag ∙ has.flag))
+      ∙ sum_of v.taken (flag_of (among raised_ops i.op)) (slice_index z f) (slice_index z t.taken) (flag_of (took z t)) (slice_index z left) (slice_index z right) (flag_of (among keeper_ops i.op) * v.flag) primary
+      (omega (arith, has.within, has.short)) (wire-below has.assigns f) (flag_below (among raised_ops i.op)) (flag_below (took z t)) (wire-below has.assigns left) (wire-below has.assigns right) (product_small (among keeper_ops i.op)) has.tapes.taken
+      ∙ ap₂ (λ l r. flag_sum i.op (slice_index z f) (flag_of primary) (flag_of (took z t)) l r v.flag) is_left is_right
+      ∙ flag_number w width (other_word v i) (operand_word v i) low high result y (slice_index z f) v.flag primary (took z t) has.other has.operand has.bit i.op has.opcode.within has.opcode.used case_of
+    where
+      product_small : (b : Bool) → flag_of b * v.flag < 2
+      product_small true = omega (arith, has.bit)
+      product_small false = omega arith
+
+-- ---- the laws
+-- the table's flag doesn't depend on the data word
+pub flag_sound : FlagIsSound
+unfolding next_flag_of ◌>>=◌
+flag_sound w width z next n state op x f t v i low high result y o has meets =
+    let assigns = has.assigns in
+    let left = times_of (opcode_sum op (11 ∷ [])) ((P - 1, f) ∷ (1, x.first + (w - 1)) ∷ []) next in
+    let right = times_of (opcode_sum op (12 ∷ [])) ((P - 1, f) ∷ (1, x.first) ∷ []) left.next in
+    let m1 = Meets-split z left.list _ meets in
+    let m2 = Meets-split z right.list _ m1.1 in
+    let is_left = times_sound z next (opcode_sum op (11 ∷ [])) ((P - 1, f) ∷ (1, x.first + (w - 1)) ∷ []) assigns m1.0 ∙ left_is w width z n state op x f t v i low high result y has in
+    let is_right = times_sound z left.next (opcode_sum op (12 ∷ [])) ((P - 1, f) ∷ (1, x.first) ∷ []) assigns m2.0 ∙ right_is w width z n state op x f t v i low high result y has in
+    accumulated_sound z right.next (tested_in state.taken_of_primary op f t left.answer right.answer) (opcode_sum op keeper_ops) (wire state.flag) assigns m2.1
+    ∙ flag_value w width z n state op x f t v i low high result y has left.answer right.answer is_left is_right
+
+pub flag_complete : FlagIsComplete
+unfolding next_flag_of ◌>>=◌
+flag_complete w width z next n state op x f t v i low high result y o has values =
+    let assigns = has.assigns in
+    let left = times_of (opcode_sum op (11 ∷ [])) ((P - 1, f) ∷ (1, x.first + (w - 1)) ∷ []) next in
+    let right = times_of (opcode_sum op (12 ∷ [])) ((P - 1, f) ∷ (1, x.first) ∷ []) left.next in
+    let e1 : left.next ≡ next + 1 = times_next (opcode_sum op (11 ∷ [])) ((P - 1, f) ∷ (1, x.first + (w - 1)) ∷ []) next in
+    let e2 : right.next ≡ next + 1 + 1 = times_next (opcode_sum op (12 ∷ [])) ((P - 1, f) ∷ (1, x.first) ∷ []) left.next ∙ ap (λ m. m + 1) e1 in
+    let left_number = left_is w width z n state op x f t v i low high result y has in
+    let right_number = right_is w width z n state op x f t v i low high result y has in
+    let m1 = times_complete z next (opcode_sum op (11 ∷ [])) ((P - 1, f) ∷ (1, x.first + (w - 1)) ∷ []) assigns (values.0 ∙ sym left_number, tt) in
+    let m2 = times_complete z left.next (opcode_sum op (12 ∷ [])) ((P - 1, f) ∷ (1, x.first) ∷ []) assigns (ap (λ k. slice_index z k) e1 ∙ values.1.0 ∙ sym right_number, tt) in
+    let is_left = times_sound z next (opcode_sum op (11 ∷ [])) ((P - 1, f) ∷ (1, x.first + (w - 1)) ∷ []) assigns m1 ∙ left_number in
+    let is_right = times_sound z left.next (opcode_sum op (12 ∷ [])) ((P - 1, f) ∷ (1, x.first) ∷ []) assigns m2 ∙ right_number in
+    let m3 = accumulated_complete z right.next (tested_in state.taken_of_primary op f t left.answer right.answer) (opcode_sum op keeper_ops) (wire state.flag) assigns
+    (ap (λ k. slice_index z k) e2 ∙ values.1.1.0 ∙ sym (flag_value w width z n state op x f t v i low high result y has left.answer right.answer is_left is_right), tt) in
+    Meets-join z left.list _ m1 (Meets-join z right.list _ m2 m3)
+
+flag_answer : (w : ℕ) (state : StateWires) (op : ℕ) (x : Bits) (f : ℕ) (t : TapeWires) (next : ℕ) → (next_flag_of w state op x f t next).answer ≡ next + 2
+unfolding next_flag_of times_of closed_of fresh put pure ◌>>=◌
+flag_answer w state op x f t next = omega arith
+
+flag_next : (w : ℕ) (state : StateWires) (op : ℕ) (x : Bits) (f : ℕ) (t : TapeWires) (next : ℕ) → (next_flag_of w state op x f t next).next ≡ next + 3
+unfolding next_flag_of times_of closed_of fresh put pure ◌>>=◌
+flag_next w state op x f t next = omega arith
+
+flag_count : (w : ℕ) (state : StateWires) (op : ℕ) (x : Bits) (f : ℕ) (t : TapeWires) (next : ℕ) → length (next_flag_of w state op x f t next).list ≡ 3
+unfolding next_flag_of times_of closed_of fresh put pure ◌>>=◌
+flag_count w state op x f t next = refl
+
+flag_terms : (w : ℕ) (state : StateWires) (op : ℕ) (x : Bits) (f : ℕ) (t : TapeWires) (next : ℕ) → terms_in (next_flag_of w state op x f t next).list ≡ 35
+unfolding next_flag_of times_of closed_of fresh put pure ◌>>=◌
+flag_terms w state op x f t next = refl
+
+pub flag_costs : FlagCosts
+flag_costs = record { constraints = flag_count; terms = flag_terms }
+
+-- ---- sizes
+flags_below : (w x a : ℕ) (found : Bool) (flag k : ℕ) → flag < 2 → chosen (flags w x a found flag) k < P
+flags_below w x a found flag k h =
+    chosen_in (λ n. n < P) (flags w x a found flag) k (omega arith) (
+      flag_in_field _,
+      (
+        flag_in_field _,
+        (
+          flag_in_field _,
+          (
+            flag_in_field _,
+            (
+              flag_in_field _,
+              (
+                flag_in_field _,
+                (
+                  flag_in_field _,
+                  (
+                    flag_in_field _,
+                    (
+                      flag_in_field _,
+                      (
+                        flag_in_field _,
+                        (
+                          flag_in_field _,
+                          (
+                            flag_in_field _,
+                            (flag_in_field _, (flag_in_field _, (flag_in_field _, (flag_in_field _, (flag_in_field _, (omega arith, tt)))))),
+                          ),
+                        ),
+                      ),
+                    ),
+                  ),
+                ),
+              ),
+            ),
+          ),
+        ),
+      ),
+    )
+
+flag_values_below : (w n : ℕ) (v : View) (i : Instr) (o : ℕ) (takes : Bool) (f : ℕ) → v.flag < 2 → InField (flag_values w n v i o takes f)
+flag_values_below w n v i o takes f h =
+    let v2 : List ℕ = flag_in w n v i o takes ∷ [] in
+    let v1 : List ℕ = (if i.op == 12 then (bit_at (other_word v i) 0 + (P - f)) % P else 0) ∷ v2 in
+    InField-cons (if i.op == 11 then (bit_at (other_word v i) (w - 1) + (P - f)) % P else 0) v1 (either (i.op == 11) _ 0 (mod-lt _ (omega arith)) (omega arith))
+    (InField-cons (if i.op == 12 then (bit_at (other_word v i) 0 + (P - f)) % P else 0) v2 (either (i.op == 12) _ 0 (mod-lt _ (omega arith)) (omega arith))
+    (InField-cons (flag_in w n v i o takes) [] (flags_below w (other_word v i) (operand_word v i) (found w n v i o takes) v.flag i.op h) InField-none))
+
+pub flag_sizes : FlagSizes
+flag_sizes = record {
+  answer = flag_answer;
+  end = flag_next;
+  fills = λ w state op x f t n v i o takes g next. flag_next w state op x f t next;
+  in_field = flag_values_below;
+}

@@ -1,0 +1,291 @@
+-- The laws of the data line and of the bytes of its word.
+use Rattle.std.proofs.Common.{◌≡◌, ℕ, zero, suc, ◌+◌, ◌-◌, ◌*◌, ◌/◌, ◌%◌, ◌^◌, ◌<◌, ◌==◌, ◌||◌, Bool, true, false, if◌then◌else◌, List, [], ◌∷◌, ◌++◌, inl, inr, refl, sym, ◌∙◌, ap, ap₂, subst, arith, true≢false}
+use Rattle.std.specs.Int.{bit_at}
+use Rattle.std.specs.Prelude.{slice_index}
+use Rattle.std.proofs.lemmas.Bool.{cases_eq, ne_eqb}
+use Rattle.tv_bits.proofs.BitLaws.{bit_cases}
+use Rattle.tv_bits.proofs.SpelledNumbers.{value-bits_below, Spells-below, Spells-high, Spells-low, Spells-bit_at}
+use Rattle.tv_bits.specs.Bit.{IsBit}
+use Rattle.tv_bits.specs.Bits.{Spells, bits_combination}
+use Rattle.tv_bits.specs.declared.bit_wires.Bits.{Bits}
+use Rattle.tv_core.proofs.CombinationLaws.{value-wire, value-append, value-cons, value-scaled, value-constant, value-below}
+use Rattle.tv_core.proofs.Meeting.{Meets-split, Meets-join}
+use Rattle.tv_core.specs.Circuits.{put, ◌>>=◌}
+use Rattle.tv_core.specs.Combinations.{wire, constant, scaled}
+use Rattle.tv_core.specs.Constraints.{Combination, value}
+use Rattle.tv_core.specs.Laws.{Assigns, Meets, HasFrom}
+use Rattle.tv_core.specs.declared.field.TheConstants.{P}
+use Rattle.tv_core.specs.declared.limits.TheConstants.{TAPE_CELLS, NULL_CELL}
+use Rattle.tv_isa.specs.Opcodes.{among}
+use Rattle.tv_isa.specs.declared.instr.Instr.{Instr}
+use Rattle.tv_mem.specs.Bytes.{byte_of}
+use Rattle.tv_numbers.specs.Numbers.{operand_word, touches, takes_primary, old_in, with_byte_in, data_line}
+use Rattle.tv_numbers.specs.Tables.{memory_ops}
+use Rattle.tv_numbers.specs.Views.{View, flag_of}
+use Rattle.tv_step.specs.Rows.{word_size}
+use Rattle.tv_step.specs.Trace.{tape_cell}
+use Rattle.tv_word.proofs.WidthLaws.{width_short, for_widths}
+use Rattle.tv_word.specs.Widths.{IsWidth}
+use Rattle.tv_parts.proofs.AccumulationLaws.{accumulated_sound, accumulated_complete, accumulated_next}
+use Rattle.tv_parts.proofs.FlagFills.{no_primary}
+use Rattle.tv_parts.proofs.OpcodeLaws.{opcode_sum_sound}
+use Rattle.tv_parts.proofs.ResultLaws.{small_word}
+use Rattle.tv_parts.proofs.TapeGates.{value-two, value-three}
+use Rattle.tv_parts.specs.Accumulation.{accumulated_of}
+use Rattle.tv_parts.specs.Memory.{byte_of_pair, byte_of_four, byte_at_of, byte_values, gained, HasMemory}
+use Rattle.tv_parts.specs.OpcodeSums.{opcode_sum}
+use Rattle.tv_parts.specs.Tapes.{primary_in, took}
+use Rattle.tv_parts.specs.declared.records.DataWires.{DataWires}
+use Rattle.tv_parts.specs.declared.records.StateWires.{StateWires}
+use Rattle.tv_parts.specs.declared.records.TapeWires.{TapeWires}
+
+-- ---- numbers of the line
+-- y and a flag times x less y
+located_by : (b : Bool) (x y d : ℕ) → x < P → y < P → d ≡ (x + (P - y)) % P → (y + flag_of b * d) % P ≡ (if b then x else y)
+located_by true x y d h k e = omega arith
+located_by false x y d h k e = omega arith
+
+null_number : (n : ℕ) → n < P → ((P - NULL_CELL) * 1 + n) % P ≡ (n + (P - NULL_CELL)) % P
+null_number n h = omega arith
+
+tape_number : (b c : ℕ) → b < 2 ^ 29 → c < P → (TAPE_CELLS * 1 + 1 * b + (P - 1) * c) % P ≡ (tape_cell b + (P - c)) % P
+tape_number b c h k = omega arith
+
+rise_is : (p : Bool) (b t : ℕ) → b < 2 ^ 29 → t ≡ (if p then b + 1 else b) → ((P - 1) * b + 1 * t) % P ≡ flag_of p
+rise_is true b t h e = omega arith
+rise_is false b t h e = omega arith
+
+held_is : (m p : Bool) (b t : ℕ) → b < 2 ^ 29 → t ≡ (if p then b + 1 else b) → (m ≡ true → p ≡ false) → ((P - 1) * b + (flag_of m + t) % P) % P ≡ flag_of (m || p)
+held_is true p b t h e none = rw (e, none refl) (omega arith)
+held_is false true b t h e none = rw e (omega arith)
+held_is false false b t h e none = rw e (omega arith)
+
+pub flag_times : (b : Bool) (n : ℕ) → n < P → flag_of b * n % P ≡ (if b then n else 0)
+flag_times true n h = omega arith
+flag_times false n h = omega arith
+
+word_power : (w : ℕ) → IsWidth w → 2 ^ (w / 16) ≡ w / 8
+word_power w width = for_widths (λ w. 2 ^ (w / 16) ≡ w / 8) refl refl w width
+
+-- ---- numbers of the byte
+picked_by : (bit x y : ℕ) → IsBit bit → x < P → y < P → (y + bit * (((P - 1) * y % P + x) % P)) % P ≡ (if bit == 1 then x else y)
+picked_by bit x y s h k = elim (bit_cases bit s) [
+  | inl none ↦ rw none (let d : (y + 0 * (((P - 1) * y % P + x) % P)) % P ≡ y = omega arith in d)
+  | inr one ↦ rw one (let d : (y + 1 * (((P - 1) * y % P + x) % P)) % P ≡ x = omega arith in d)
+]
+
+pub byte_small : (o j : ℕ) → byte_of o j < P
+byte_small o j = omega arith
+
+-- ---- the power
+pub power_two : (a b0 : ℕ) → IsBit b0 → a % 2 ≡ b0 → (1 * 1 + 255 * b0) % P ≡ 256 ^ (a % 2)
+power_two a b0 s e = elim (bit_cases b0 s) [
+  | inl z0 ↦ rw z0 (let p : a % 2 ≡ 0 = omega arith in sym (ap (λ n. 256 ^ n) p))
+  | inr o0 ↦ rw o0 (let p : a % 2 ≡ 1 = omega arith in sym (ap (λ n. 256 ^ n) p))
+]
+
+pub power_four : (a b0 b1 : ℕ) → IsBit b0 → IsBit b1 → a % 4 ≡ b0 + 2 * b1 → (1 * 1 + 255 * b0 + 65535 * b1 + 16711425 * (b0 * b1 % P)) % P ≡ 256 ^ (a % 4)
+power_four a b0 b1 s t e = elim (bit_cases b0 s) [
+  | inl z0 ↦ elim (bit_cases b1 t) [
+    | inl z1 ↦ rw (z0, z1) (let p : a % 4 ≡ 0 = omega arith in sym (ap (λ n. 256 ^ n) p))
+    | inr o1 ↦ rw (z0, o1) (let p : a % 4 ≡ 2 = omega arith in sym (ap (λ n. 256 ^ n) p))
+  ]
+  | inr o0 ↦ elim (bit_cases b1 t) [
+    | inl z1 ↦ rw (o0, z1) (let p : a % 4 ≡ 1 = omega arith in sym (ap (λ n. 256 ^ n) p))
+    | inr o1 ↦ rw (o0, o1) (let p : a % 4 ≡ 3 = omega arith in sym (ap (λ n. 256 ^ n) p))
+  ]
+]
+
+-- the word with a byte put in place
+pub put_in_by : (o r b : ℕ) → r < 4 → o < 2 ^ 32 → b < 256 → (o + gained o r b) % P ≡ with_byte_in o r b
+put_in_by o r b h small bs = at r h
+  where
+    at : (r : ℕ) → r < 4 → (o + gained o r b) % P ≡ with_byte_in o r b
+    at zero h = omega arith
+    at (suc zero) h = omega arith
+    at (suc (suc zero)) h = omega arith
+    at (suc (suc (suc zero))) h = omega arith
+    at (suc (suc (suc (suc k)))) h = absurd (omega arith)
+
+-- the new word: at store.w the other word, at store.b the old one with the byte, else the old one
+pub new_by : (sw sb : Bool) (x o old gain put : ℕ) → x < P → o < P → gain < P → old < P → (sw ≡ true → sb ≡ false) → (sw ≡ true → old ≡ o) → (sb ≡ true → old ≡ o) → (sb ≡ true → (o + gain) % P ≡ put)
+    → ((old + (if sb then gain else 0)) % P + flag_of sw * ((1 * x + (P - 1) * o) % P)) % P ≡ (if sw then x else if sb then put else old)
+new_by true sb x o old gain put hx ho hg small none is_old also e = rw (none refl, is_old refl) (omega arith)
+new_by false true x o old gain put hx ho hg small none is_old also e = rw (also refl) (let d : (o + gain) % P ≡ put = e refl in omega arith)
+new_by false false x o old gain put hx ho hg small none is_old also e = omega arith
+
+pub place_small : (w : ℕ) → IsWidth w → (at : ℕ) → at % (w / 8) < 4
+place_small w width = for_widths (λ w. (at : ℕ) → at % (w / 8) < 4) (λ at. omega arith) (λ at. omega arith) w width
+
+-- ---- the values
+module _ (w : ℕ) (width : IsWidth w) (z : List ℕ) (n : ℕ) (state : StateWires) (op : ℕ) (a : Bits) (d : DataWires) (t : TapeWires) (v : View) (i : Instr) (x o : ℕ) (has : HasMemory w z n state op a d t v i x o) where
+  abbrev at : ℕ
+  at = operand_word v i
+
+  abbrev p : Bool
+  p = takes_primary v i n
+
+  abbrev m : Bool
+  m = touches v i
+
+  abbrev takes : Bool
+  takes = took z t
+
+  abbrev located_number : ℕ
+  located_number = if m then at / word_size w else NULL_CELL
+
+  pub early : v.taken < 2 ^ 29
+  early = omega (arith, has.within, has.short)
+
+  pub word_below : o < P
+  word_below = small_word w width o (Spells-below has.bits)
+
+  gate : value (opcode_sum op memory_ops) z ≡ flag_of m
+  gate = opcode_sum_sound z op i.op memory_ops has.opcode refl
+
+  abbrev cell_bits : Combination
+  cell_bits = bits_combination (a.first + w / 16) (w - w / 16)
+
+  cell_is : value cell_bits z ≡ at / word_size w
+  cell_is =
+      let most = width_short w width in
+      let size : w ≡ w / 16 + (w - w / 16) = omega arith in
+      value-bits_below (Spells-high z a.first (w / 16) (w - w / 16) at (subst (λ k. Spells z a.first k at) size has.operand)) (omega arith) ∙ ap (λ k. at / k) (word_power w width)
+
+  cell_small : at / word_size w < P
+  cell_small = subst (λ k. k < P) cell_is (value-below cell_bits z)
+
+  pub located_is : (value (constant NULL_CELL) z + value (opcode_sum op memory_ops) z * value ((P - NULL_CELL, 0) ∷ cell_bits) z) % P ≡ located_number
+  located_is =
+      ap₂ (λ c k. (c + k) % P) (value-constant has.assigns NULL_CELL)
+      (ap₂ (λ g k. g * k) gate (value-cons (P - NULL_CELL) 0 cell_bits z ∙ ap₂ (λ j k. ((P - NULL_CELL) * j + k) % P) has.assigns.one cell_is ∙ null_number (at / word_size w) cell_small))
+      ∙ located_by m (at / word_size w) NULL_CELL _ cell_small (omega arith) refl
+
+  located_small : located_number < P
+  located_small = lower m (at / word_size w) cell_small
+    where
+      lower : (b : Bool) (k : ℕ) → k < P → (if b then k else NULL_CELL) < P
+      lower true k h = h
+      lower false k h = omega arith
+
+  pub line_cell : (located : ℕ) → slice_index z located ≡ located_number
+      → (value (wire located) z + value (primary_in state t) z * value ((TAPE_CELLS, 0) ∷ (1, state.taken_of_primary) ∷ (P - 1, located) ∷ []) z) % P ≡ (data_line w n v i o takes 0).cell
+  line_cell located is =
+      ap₂ (λ c k. (c + k) % P) (value-wire has.assigns located ∙ is)
+      (ap₂ (λ g k. g * k)
+      (value-two z (P - 1) 1 state.taken_of_primary t.taken ∙ ap (λ b. ((P - 1) * b + 1 * slice_index z t.taken) % P) has.before ∙ rise_is p v.taken (slice_index z t.taken) early has.tapes.taken)
+      (value-three z TAPE_CELLS 1 (P - 1) 0 state.taken_of_primary located ∙ ap₂ (λ j b. (TAPE_CELLS * j + 1 * b + (P - 1) * slice_index z located) % P) has.assigns.one has.before
+      ∙ ap (λ c. (TAPE_CELLS * 1 + 1 * v.taken + (P - 1) * c) % P) is ∙ tape_number v.taken located_number early located_small))
+      ∙ located_by p (tape_cell v.taken) located_number _ (omega (arith, early)) located_small refl
+
+  no_take : m ≡ true → p ≡ false
+  no_take e = elim (cases_eq i.op 30) [
+    | inl same ↦ absurd (true≢false (sym e ∙ ap (among memory_ops) same))
+    | inr other ↦ no_primary v i n (ne_eqb i.op 30 other)
+  ]
+
+  pub line_old : value ((P - 1, state.taken_of_primary) ∷ (opcode_sum op memory_ops ++ wire t.taken)) z * value (wire d.word) z % P ≡ old_in w n v i o takes
+  line_old =
+      ap₂ (λ g k. g * k % P)
+      (value-cons (P - 1) state.taken_of_primary (opcode_sum op memory_ops ++ wire t.taken) z
+      ∙ ap₂ (λ b k. ((P - 1) * b + k) % P) has.before (value-append (opcode_sum op memory_ops) (wire t.taken) z ∙ ap₂ (λ g k. (g + k) % P) gate (value-wire has.assigns t.taken))
+      ∙ held_is m p v.taken (slice_index z t.taken) early has.tapes.taken no_take)
+      (value-wire has.assigns d.word ∙ has.word)
+      ∙ flag_times (m || p) o word_below
+
+-- ---- the byte
+pub byte_value : (z : List ℕ) (w bits first o j m : ℕ) → first ≡ bits + 8 * j → 8 * j + (8 + m) ≡ w → Spells z bits w o → value (bits_combination first 8) z ≡ o / 2 ^ (8 * j) % 2 ^ 8
+byte_value z w bits first o j m e size s =
+    ap (λ k. value (bits_combination k 8) z) e
+    ∙ value-bits_below (Spells-low z (bits + 8 * j) 8 m (o / 2 ^ (8 * j)) (Spells-high z bits (8 * j) (8 + m) o (subst (λ n. Spells z bits n o) (sym size) s))) (omega arith)
+
+pair_value : (z : List ℕ) (bits bit low high : ℕ) → Assigns z → IsBit (slice_index z bit) → value (bits_combination bits 8) z ≡ low → value (bits_combination (bits + 8) 8) z ≡ high
+    → (value (bits_combination bits 8) z + value (wire bit) z * value (scaled (P - 1) (bits_combination bits 8) ++ bits_combination (bits + 8) 8) z) % P ≡ (if slice_index z bit == 1 then high else low)
+pair_value z bits bit low high assigns s e f =
+    ap₂ (λ l r. (l + r) % P) e (ap₂ (λ b r. b * r) (value-wire assigns bit) (value-append (scaled (P - 1) (bits_combination bits 8)) (bits_combination (bits + 8) 8) z
+    ∙ ap₂ (λ l r. (l + r) % P) (value-scaled (P - 1) (bits_combination bits 8) z ∙ ap (λ l. (P - 1) * l % P) e) f))
+    ∙ picked_by (slice_index z bit) high low s (subst (λ n. n < P) f (value-below (bits_combination (bits + 8) 8) z)) (subst (λ n. n < P) e (value-below (bits_combination bits 8) z))
+
+pub low_bit : (z : List ℕ) (first w at : ℕ) → 0 < w → Spells z first w at → slice_index z first ≡ at % 2
+low_bit z first w at some s = ap (λ k. slice_index z k) (let e : first ≡ first + 0 = omega arith in e) ∙ Spells-bit_at s 0 some ∙ (let e : bit_at at 0 ≡ at % 2 = omega arith in e)
+
+pub next_bit : (z : List ℕ) (first w at : ℕ) → 1 < w → Spells z first w at → slice_index z (first + 1) ≡ at / 2 % 2
+next_bit z first w at some s = Spells-bit_at s 1 some ∙ (let e : bit_at at 1 ≡ at / 2 % 2 = omega arith in e)
+
+pub parity_bit : (n : ℕ) → IsBit (n % 2)
+parity_bit n = omega arith
+
+module _ (z : List ℕ) (next bits a o at : ℕ) (assigns : Assigns z) where
+  -- one of two bytes, from number j on
+  pair_is : (w j k : ℕ) → (first : ℕ) → first ≡ bits + 8 * j → 8 * j + (16 + k) ≡ w → Spells z bits w o → slice_index z a ≡ at % 2
+      → (value (bits_combination first 8) z + value (wire a) z * value (scaled (P - 1) (bits_combination first 8) ++ bits_combination (first + 8) 8) z) % P
+      ≡ (if at % 2 == 1 then o / 2 ^ (8 * (j + 1)) % 2 ^ 8 else o / 2 ^ (8 * j) % 2 ^ 8)
+  pair_is w j k first e size s b =
+      pair_value z first a (o / 2 ^ (8 * j) % 2 ^ 8) (o / 2 ^ (8 * (j + 1)) % 2 ^ 8) assigns (subst IsBit (sym b) (parity_bit at))
+      (byte_value z w bits first o j (8 + k) e (omega (arith, size)) s) (byte_value z w bits (first + 8) o (j + 1) k (omega (arith, e)) (omega (arith, size)) s)
+      ∙ ap (λ c. if c == 1 then o / 2 ^ (8 * (j + 1)) % 2 ^ 8 else o / 2 ^ (8 * j) % 2 ^ 8) b
+
+  choice_low : (if at % 2 == 1 then byte_of o 1 else byte_of o 0) ≡ byte_of o (at % 2)
+  choice_low = elim (bit_cases (at % 2) (parity_bit at)) [ inl none ↦ rw none refl | inr one ↦ rw one refl ]
+
+  choice_high : (if at % 2 == 1 then byte_of o 3 else byte_of o 2) ≡ byte_of o (2 + at % 2)
+  choice_high = elim (bit_cases (at % 2) (parity_bit at)) [ inl none ↦ rw none refl | inr one ↦ rw one refl ]
+
+  pub choice_four : (if at / 2 % 2 == 1 then byte_of o (2 + at % 2) else byte_of o (at % 2)) ≡ byte_of o (at % 4)
+  choice_four = elim (bit_cases (at / 2 % 2) (parity_bit (at / 2))) [
+    | inl none ↦ rw none (ap (byte_of o) (omega arith))
+    | inr one ↦ rw one (ap (byte_of o) (omega arith))
+  ]
+
+  abbrev Byte : ℕ → Type 0
+  Byte w = Spells z bits w o → Spells z a w at → (Meets z (byte_at_of w bits a next).list → slice_index z (byte_at_of w bits a next).answer ≡ byte_of o (at % (w / 8)))
+      × (HasFrom z next (byte_values w o at) → Meets z (byte_at_of w bits a next).list)
+
+  two_byte : Byte 16
+  unfolding byte_at_of byte_of_pair
+  two_byte s r =
+      let value_is = pair_is 16 0 0 bits (omega arith) refl s (low_bit z a 16 at (omega arith) r) ∙ choice_low in (
+        (λ meets. accumulated_sound z next (bits_combination bits 8) (wire a) (scaled (P - 1) (bits_combination bits 8) ++ bits_combination (bits + 8) 8) assigns meets ∙ value_is),
+        (λ has. accumulated_complete z next (bits_combination bits 8) (wire a) (scaled (P - 1) (bits_combination bits 8) ++ bits_combination (bits + 8) 8) assigns (has.0 ∙ sym value_is, tt)),
+      )
+
+  four_byte : Byte 32
+  unfolding byte_at_of byte_of_four byte_of_pair ◌>>=◌
+  four_byte s r =
+      let b0 = low_bit z a 32 at (omega arith) r in
+      let b1 = next_bit z a 32 at (omega arith) r in
+      let low_is = pair_is 32 0 16 bits (omega arith) refl s b0 ∙ choice_low in
+      let high_is = pair_is 32 2 0 (bits + 16) (omega arith) refl s b0 ∙ choice_high in
+      let low_bits = bits_combination bits 8 in
+      let low_rest = scaled (P - 1) low_bits ++ bits_combination (bits + 8) 8 in
+      let high_bits = bits_combination (bits + 16) 8 in
+      let high_rest = scaled (P - 1) high_bits ++ bits_combination (bits + 16 + 8) 8 in
+      let low = accumulated_of low_bits (wire a) low_rest next in
+      let high = accumulated_of high_bits (wire a) high_rest low.next in
+      let e1 : low.next ≡ next + 1 = accumulated_next low_bits (wire a) low_rest next in
+      let e2 : high.next ≡ next + 1 + 1 = accumulated_next high_bits (wire a) high_rest low.next ∙ ap (λ k. k + 1) e1 in
+      let last : slice_index z low.answer ≡ byte_of o (at % 2) → slice_index z high.answer ≡ byte_of o (2 + at % 2)
+      → (value (wire low.answer) z + value (wire (a + 1)) z * value ((P - 1, low.answer) ∷ (1, high.answer) ∷ []) z) % P ≡ byte_of o (at % 4) =
+      λ l h. ap₂ (λ m k. (m + k) % P) (value-wire assigns low.answer ∙ l) (ap₂ (λ b k. b * k) (value-wire assigns (a + 1) ∙ b1) (value-two z (P - 1) 1 low.answer high.answer ∙ ap₂ (λ m k. ((P - 1) * m + 1 * k) % P) l h))
+      ∙ four_number (at / 2 % 2) (byte_of o (2 + at % 2)) (byte_of o (at % 2)) (parity_bit (at / 2)) (byte_small o (2 + at % 2)) (byte_small o (at % 2)) ∙ choice_four in (
+        (λ meets.
+            let m1 = Meets-split z low.list _ meets in
+            let m2 = Meets-split z high.list _ m1.1 in
+            accumulated_sound z high.next (wire low.answer) (wire (a + 1)) ((P - 1, low.answer) ∷ (1, high.answer) ∷ []) assigns m2.1
+            ∙ last (accumulated_sound z next low_bits (wire a) low_rest assigns m1.0 ∙ low_is) (accumulated_sound z low.next high_bits (wire a) high_rest assigns m2.0 ∙ high_is)),
+        (λ has.
+            let m1 = accumulated_complete z next low_bits (wire a) low_rest assigns (has.0 ∙ sym low_is, tt) in
+            let m2 = accumulated_complete z low.next high_bits (wire a) high_rest assigns (ap (λ k. slice_index z k) e1 ∙ has.1.0 ∙ sym high_is, tt) in
+            let value_is = last (accumulated_sound z next low_bits (wire a) low_rest assigns m1 ∙ low_is) (accumulated_sound z low.next high_bits (wire a) high_rest assigns m2 ∙ high_is) in
+            let m3 = accumulated_complete z high.next (wire low.answer) (wire (a + 1)) ((P - 1, low.answer) ∷ (1, high.answer) ∷ []) assigns (ap (λ k. slice_index z k) e2 ∙ has.1.1.0 ∙ sym value_is, tt) in
+            Meets-join z low.list _ m1 (Meets-join z high.list _ m2 m3)),
+      )
+    where
+      four_number : (b x y : ℕ) → IsBit b → x < P → y < P → (y + b * (((P - 1) * y + 1 * x) % P)) % P ≡ (if b == 1 then x else y)
+      four_number b x y s h k = elim (bit_cases b s) [
+        | inl none ↦ rw none (let d : (y + 0 * (((P - 1) * y + 1 * x) % P)) % P ≡ y = omega arith in d)
+        | inr one ↦ rw one (let d : (y + 1 * (((P - 1) * y + 1 * x) % P)) % P ≡ x = omega arith in d)
+      ]
+
+  pub byte_laws : (w : ℕ) → IsWidth w → Byte w
+  byte_laws w width = for_widths Byte two_byte four_byte w width

@@ -1,0 +1,43 @@
+use Rattle.tv_core.proofs.Chain.{puts_then_refused, refused_then, refused}
+use Rattle.tv_core.proofs.TailCalls.{puts_in_then}
+use Rattle.tv_parts.specs.Arithmetic.{sums_of}
+use Rattle.tv_parts.proofs.arithmetic.put_sums.Goals as goal
+
+pub returns-in_err-row_sum-clause-puts : goal.returns-in_err-row_sum-clause-puts
+unfolding sums_of
+returns-in_err-row_sum-clause-puts g c =
+    let m = g.S.Sink.meaning in
+    let p0 = rw c.set_opcodes.ensures.terms at c.in_err-row_sum.ensures.puts in
+    refused m _ _ _ c.from_residual.result c.from_residual.ensures.1 (refused_then m _ _ _ _ _ p0)
+
+pub returns-in_err-row_difference-clause-puts : goal.returns-in_err-row_difference-clause-puts
+unfolding sums_of
+returns-in_err-row_difference-clause-puts g c =
+    let m = g.S.Sink.meaning in
+    let p0 = rw c.set_opcodes.ensures.terms at c.in_ok-row_sum.ensures.puts in
+    let p1 = rw (
+      c.set_opcodes-2.ensures.terms,
+      c.set_opcodes-3.ensures.terms,
+      c.opcode_wire.ensures,
+      c.opcode_wire-2.ensures,
+      c.with_sign-left.ensures,
+      c.with_sign-right.ensures,
+    ) at c.in_err-row_difference.ensures.puts in
+    refused m _ _ _ c.from_residual-in_err-row_difference.result c.from_residual-in_err-row_difference.ensures.1
+    (puts_then_refused m _ _ _ _ _ _ _ p0 (refused_then m _ _ _ _ _ p1))
+
+pub returns-clause-puts : goal.returns-clause-puts
+unfolding sums_of
+returns-clause-puts g c =
+    let m = g.S.Sink.meaning in
+    let p0 = rw c.set_opcodes.ensures.terms at c.in_ok-row_sum.ensures.puts in
+    let p1 = rw (
+      c.set_opcodes-2.ensures.terms,
+      c.set_opcodes-3.ensures.terms,
+      c.opcode_wire.ensures,
+      c.opcode_wire-2.ensures,
+      c.with_sign-left.ensures,
+      c.with_sign-right.ensures,
+    ) at c.in_ok-row_difference.ensures.puts in
+    let p2 = rw c.set_opcodes-4.ensures.terms at c.bitwise.ensures.puts in
+    puts_in_then m _ _ _ _ _ _ _ p0 (puts_in_then m _ _ _ _ _ _ _ p1 p2)

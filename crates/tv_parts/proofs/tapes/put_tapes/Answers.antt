@@ -1,0 +1,37 @@
+use Rattle.tv_core.proofs.Chain.{puts_then_refused, refused_then, refused}
+use Rattle.tv_core.proofs.TailCalls.{puts_in_then}
+use Rattle.tv_parts.specs.Tapes.{tapes_of}
+use Rattle.tv_parts.proofs.tapes.put_tapes.Goals as goal
+
+pub returns-in_err-reads-clause-puts : goal.returns-in_err-reads-clause-puts
+unfolding tapes_of
+returns-in_err-reads-clause-puts g c =
+    let m = g.S.Sink.meaning in
+    let p0 = rw (c.fill.ensures.terms, c.above.ensures.first, c.above.ensures.n, c.requires.a_word, c.opcode_wire.ensures) at c.in_err-reads.ensures.puts in
+    refused m _ _ _ c.from_residual.result c.from_residual.ensures.1 (refused_then m _ _ _ _ _ p0)
+
+pub returns-in_err-aux-clause-puts : goal.returns-in_err-aux-clause-puts
+unfolding tapes_of
+returns-in_err-aux-clause-puts g c =
+    let m = g.S.Sink.meaning in
+    let p0 = rw (c.fill.ensures.terms, c.above.ensures.first, c.above.ensures.n, c.requires.a_word, c.opcode_wire.ensures) at c.in_ok-reads.ensures.puts in
+    let p1 = rw (c.set_wire.ensures.terms, c.set_wire-2.ensures.terms) at c.in_err-aux.ensures.puts in
+    refused m _ _ _ c.from_residual-in_err-aux.result c.from_residual-in_err-aux.ensures.1 (puts_then_refused m _ _ _ _ _ _ _ p0 (refused_then m _ _ _ _ _ p1))
+
+pub returns-in_err-taken-clause-puts : goal.returns-in_err-taken-clause-puts
+unfolding tapes_of
+returns-in_err-taken-clause-puts g c =
+    let m = g.S.Sink.meaning in
+    let p0 = rw (c.fill.ensures.terms, c.above.ensures.first, c.above.ensures.n, c.requires.a_word, c.opcode_wire.ensures) at c.in_ok-reads.ensures.puts in
+    let p1 = rw (c.set_wire.ensures.terms, c.set_wire-2.ensures.terms) at c.in_ok-aux.ensures.puts in
+    let p2 = c.in_err-taken.ensures.puts in
+    refused m _ _ _ c.from_residual-in_err-taken.result c.from_residual-in_err-taken.ensures.1 (puts_then_refused m _ _ _ _ _ _ _ p0 (puts_then_refused m _ _ _ _ _ _ _ p1 (refused_then m _ _ _ _ _ p2)))
+
+pub returns-clause-puts : goal.returns-clause-puts
+unfolding tapes_of
+returns-clause-puts g c =
+    let m = g.S.Sink.meaning in
+    let p0 = rw (c.fill.ensures.terms, c.above.ensures.first, c.above.ensures.n, c.requires.a_word, c.opcode_wire.ensures) at c.in_ok-reads.ensures.puts in
+    let p1 = rw (c.set_wire.ensures.terms, c.set_wire-2.ensures.terms) at c.in_ok-aux.ensures.puts in
+    let p2 = c.in_ok-taken.ensures.puts in
+    puts_in_then m _ _ _ _ _ _ _ p0 (puts_in_then m _ _ _ _ _ _ _ p1 (puts_in_then m _ _ _ _ _ _ _ p2 c.auxiliary.ensures.puts))

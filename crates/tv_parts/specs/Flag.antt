@@ -1,0 +1,100 @@
+-- The flag after a step.
+use Rattle.std.specs.Prelude.{◌≡◌, ℕ, ◌+◌, ◌-◌, ◌%◌, ◌^◌, ◌<◌, ◌≤◌, Bool, true, ◌==◌, if◌then◌else◌, List, [], ◌∷◌, ◌++◌, length, slice_index}
+use Rattle.std.specs.Int.{bit_at}
+use Rattle.tv_bits.specs.Bit.{IsBit}
+use Rattle.tv_bits.specs.Times.{times_of}
+use Rattle.tv_bits.specs.declared.bit_wires.Bits.{Bits}
+use Rattle.tv_core.specs.Circuits.{Circuit, ◌>>=◌}
+use Rattle.tv_core.specs.Combinations.{wire}
+use Rattle.tv_core.specs.Constraints.{Combination}
+use Rattle.tv_core.specs.Laws.{Assigns, Meets, HasFrom, Fills, InField}
+use Rattle.tv_core.specs.Meanings.{terms_in}
+use Rattle.tv_core.specs.declared.field.TheConstants.{P}
+use Rattle.tv_isa.specs.Opcodes.{among, chosen}
+use Rattle.tv_isa.specs.declared.instr.Instr.{Instr}
+use Rattle.tv_isa.specs.declared.opcode.TheConstants.{ADD, MULL, UMULH, SMULH, UDIV, UMOD, SHL, SHR, CMPE, CMPA, CMPAE, CMPG, CMPGE, READ}
+use Rattle.tv_numbers.specs.Numbers.{operand_word, other_word, found, result_in}
+use Rattle.tv_numbers.specs.Tables.{flags, keeper_ops}
+use Rattle.tv_numbers.specs.Views.{View, flag_of}
+use Rattle.tv_word.specs.Widths.{IsWidth}
+use Rattle.tv_parts.specs.Accumulation.{accumulated_of}
+use Rattle.tv_parts.specs.OpcodeSums.{opcode_sum, IsOpcode}
+use Rattle.tv_parts.specs.Results.{plus_ops, minus_ops, zero_ops, tested_numbers}
+use Rattle.tv_parts.specs.Rows.{covers, AreHalves}
+use Rattle.tv_parts.specs.Tapes.{took, AreTapes}
+use Rattle.tv_parts.specs.declared.records.StateWires.{StateWires}
+use Rattle.tv_parts.specs.declared.records.TapeWires.{TapeWires}
+
+-- the flag where it isn't kept, without the shifts' bits: the test f, 1 more where its sign is negative, and 1 less what
+-- is taken of a tape at read
+abbrev pub tested_in : ℕ → ℕ → ℕ → TapeWires → ℕ → ℕ → Combination
+tested_in before op f t left right =
+    (1, before) ∷ (opcode_sum op (ADD ∷ MULL ∷ UMULH ∷ SMULH ∷ CMPA ∷ CMPAE ∷ CMPG ∷ CMPGE ∷ READ ∷ []) ++ (1, f) ∷ (P - 1, t.taken) ∷ (P - 1, t.takes) ∷ (1, left) ∷ (1, right) ∷ [])
+
+-- the top bit of x at the shift to the left, in place of f, and its lowest bit at that to the right; the flag stays at
+-- the opcodes that keep it
+unfoldable pub next_flag_of : ℕ → StateWires → ℕ → Bits → ℕ → TapeWires → Circuit ℕ
+next_flag_of w state op x f t = do
+  left ← times_of (opcode_sum op (SHL ∷ [])) ((P - 1, f) ∷ (1, x.first + (w - 1)) ∷ [])
+  right ← times_of (opcode_sum op (SHR ∷ [])) ((P - 1, f) ∷ (1, x.first) ∷ [])
+  accumulated_of (tested_in state.taken_of_primary op f t left right) (opcode_sum op keeper_ops) (wire state.flag)
+
+-- the sign of an opcode's test
+abbrev pub sign_at : ℕ → ℕ
+sign_at k = if among plus_ops k then 1 else if among minus_ops k then P - 1 else 0
+
+-- z has what the flag is made from: f is the sign where the number y that is tested is 0, and else 0; at a division,
+-- where nothing is said of y, f tells whether the operand is 0
+pub record HasFlag (w : ℕ) (z : List ℕ) (n : ℕ) (state : StateWires) (op : ℕ) (x : Bits) (f : ℕ) (t : TapeWires) (v : View) (i : Instr) (low high result y : ℕ) : Type 0 where
+  pub assigns : Assigns z
+  pub short : n < 2 ^ 29
+  pub within : v.taken ≤ n
+  pub bit : IsBit v.flag
+  pub before : slice_index z state.taken_of_primary ≡ v.taken
+  pub flag : slice_index z state.flag ≡ v.flag
+  pub opcode : IsOpcode z op i.op
+  pub other : other_word v i < 2 ^ w
+  pub operand : operand_word v i < 2 ^ w
+  pub lowest : among (SHL ∷ SHR ∷ []) i.op ≡ true → slice_index z x.first ≡ bit_at (other_word v i) 0
+  pub top : among (SHL ∷ SHR ∷ []) i.op ≡ true → slice_index z (x.first + (w - 1)) ≡ bit_at (other_word v i) (w - 1)
+  pub test : slice_index z f ≡ (if y == 0 then sign_at i.op else 0)
+  pub tested : covers (tested_numbers w (operand_word v i) low high result) i.op ≡ true → y ≡ chosen (tested_numbers w (operand_word v i) low high result) i.op
+  pub result_word : among zero_ops i.op ≡ true → result ≡ (if i.op == CMPE then low else result_in w n v i low (took z t))
+  pub divides : among (UDIV ∷ UMOD ∷ []) i.op ≡ true → slice_index z f ≡ flag_of (operand_word v i == 0)
+  pub halves : AreHalves w (other_word v i) (operand_word v i) i.op low high
+  pub tapes : AreTapes z t n v i
+
+-- the table's flag
+abbrev pub flag_in : ℕ → ℕ → View → Instr → ℕ → Bool → ℕ
+flag_in w n v i o takes = chosen (flags w (other_word v i) (operand_word v i) (found w n v i o takes) v.flag) i.op
+
+-- an assignment that meets the constraints has it at the wire that is answered
+abbrev pub FlagIsSound : Type 0
+FlagIsSound = (w : ℕ) → IsWidth w → (z : List ℕ) (next n : ℕ) (state : StateWires) (op : ℕ) (x : Bits) (f : ℕ) (t : TapeWires) (v : View) (i : Instr) (low high result y o : ℕ)
+    → HasFlag w z n state op x f t v i low high result y → Meets z (next_flag_of w state op x f t next).list
+    → slice_index z (next_flag_of w state op x f t next).answer ≡ flag_in w n v i o (took z t)
+
+-- the values of the wires that are made: at a shift the bit less f, and the flag
+abbrev pub flag_values : ℕ → ℕ → View → Instr → ℕ → Bool → ℕ → List ℕ
+flag_values w n v i o takes f =
+    (if i.op == SHL then (bit_at (other_word v i) (w - 1) + (P - f)) % P else 0) ∷ (if i.op == SHR then (bit_at (other_word v i) 0 + (P - f)) % P else 0)
+    ∷ flag_in w n v i o takes ∷ []
+
+-- an assignment that has these values at the wires that are made meets the constraints
+abbrev pub FlagIsComplete : Type 0
+FlagIsComplete = (w : ℕ) → IsWidth w → (z : List ℕ) (next n : ℕ) (state : StateWires) (op : ℕ) (x : Bits) (f : ℕ) (t : TapeWires) (v : View) (i : Instr) (low high result y o : ℕ)
+    → HasFlag w z n state op x f t v i low high result y → HasFrom z next (flag_values w n v i o (took z t) (slice_index z f))
+    → Meets z (next_flag_of w state op x f t next).list
+
+-- which wire is answered, and that the values are one number of the field for each wire that is made
+pub record FlagSizes : Type 0 where
+  pub answer : (w : ℕ) (state : StateWires) (op : ℕ) (x : Bits) (f : ℕ) (t : TapeWires) (next : ℕ) → (next_flag_of w state op x f t next).answer ≡ next + 2
+  pub end : (w : ℕ) (state : StateWires) (op : ℕ) (x : Bits) (f : ℕ) (t : TapeWires) (next : ℕ) → (next_flag_of w state op x f t next).next ≡ next + 3
+  pub fills : (w : ℕ) (state : StateWires) (op : ℕ) (x : Bits) (f : ℕ) (t : TapeWires) (n : ℕ) (v : View) (i : Instr) (o : ℕ) (takes : Bool) (g : ℕ)
+      → Fills (next_flag_of w state op x f t) (flag_values w n v i o takes g)
+  pub in_field : (w n : ℕ) (v : View) (i : Instr) (o : ℕ) (takes : Bool) (f : ℕ) → v.flag < 2 → InField (flag_values w n v i o takes f)
+
+-- three constraints of 35 terms
+pub record FlagCosts : Type 0 where
+  pub constraints : (w : ℕ) (state : StateWires) (op : ℕ) (x : Bits) (f : ℕ) (t : TapeWires) (next : ℕ) → length (next_flag_of w state op x f t next).list ≡ 3
+  pub terms : (w : ℕ) (state : StateWires) (op : ℕ) (x : Bits) (f : ℕ) (t : TapeWires) (next : ℕ) → terms_in (next_flag_of w state op x f t next).list ≡ 35

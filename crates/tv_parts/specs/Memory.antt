@@ -1,0 +1,146 @@
+-- The data line of a step, and the bytes of its word.
+use Rattle.std.specs.Prelude.{◌≡◌, ℕ, ◌+◌, ◌-◌, ◌*◌, ◌/◌, ◌%◌, ◌^◌, ◌<◌, ◌≤◌, Bool, ◌==◌, if◌then◌else◌, List, [], ◌∷◌, ◌++◌, length, slice_index}
+use Rattle.tv_bits.specs.Bits.{Spells, bits_combination}
+use Rattle.tv_bits.specs.Times.{times_of}
+use Rattle.tv_bits.specs.declared.bit_wires.Bits.{Bits}
+use Rattle.tv_core.specs.Circuits.{Circuit, pure, ◌>>=◌}
+use Rattle.tv_core.specs.Combinations.{wire, constant, scaled}
+use Rattle.tv_core.specs.Constraints.{Combination}
+use Rattle.tv_core.specs.Laws.{Assigns, Meets, HasFrom, Fills, InField}
+use Rattle.tv_core.specs.Meanings.{terms_in}
+use Rattle.tv_core.specs.declared.field.TheConstants.{P}
+use Rattle.tv_core.specs.declared.limits.TheConstants.{TAPE_CELLS, NULL_CELL}
+use Rattle.tv_isa.specs.declared.instr.Instr.{Instr}
+use Rattle.tv_isa.specs.declared.opcode.TheConstants.{STORE_B, STORE_W}
+use Rattle.tv_mem.specs.Bytes.{byte_of}
+use Rattle.tv_numbers.specs.Numbers.{operand_word, other_word, touches, old_in, data_line}
+use Rattle.tv_numbers.specs.Tables.{memory_ops}
+use Rattle.tv_numbers.specs.Views.{View}
+use Rattle.tv_step.specs.Rows.{word_size}
+use Rattle.tv_word.specs.Widths.{IsWidth}
+use Rattle.tv_parts.specs.Accumulation.{accumulated_of}
+use Rattle.tv_parts.specs.OpcodeSums.{opcode_sum, IsOpcode}
+use Rattle.tv_parts.specs.Tapes.{primary_in, took, AreTapes}
+use Rattle.tv_parts.specs.declared.records.DataWires.{DataWires}
+use Rattle.tv_parts.specs.declared.records.LineWires.{LineWires}
+use Rattle.tv_parts.specs.declared.records.StateWires.{StateWires}
+use Rattle.tv_parts.specs.declared.records.StoreWires.{StoreWires}
+use Rattle.tv_parts.specs.declared.records.TapeWires.{TapeWires}
+
+-- ---- the cell
+-- the cell of the data line, and the word that it holds before the step: at a load or store that of the operand's
+-- address, all bits but those that tell a byte of a word; where a word of tape 0 is taken, its cell; else the null cell,
+-- which holds 0. The wire `word` is the data word
+unfoldable pub line_of : ℕ → StateWires → ℕ → Bits → ℕ → TapeWires → Circuit LineWires
+line_of w state op a word t = do
+  located ← accumulated_of (constant NULL_CELL) (opcode_sum op memory_ops) ((P - NULL_CELL, 0) ∷ bits_combination (a.first + w / 16) (w - w / 16))
+  cell ← accumulated_of (wire located) (primary_in state t) ((TAPE_CELLS, 0) ∷ (1, state.taken_of_primary) ∷ (P - 1, located) ∷ [])
+  old ← times_of ((P - 1, state.taken_of_primary) ∷ (opcode_sum op memory_ops ++ wire t.taken)) (wire word)
+  pure (record { cell = cell; old = old })
+
+-- ---- the byte at the operand's address
+-- a new wire: of the two bytes from the wire `bits` on the one that a bit chooses
+unfoldable pub byte_of_pair : ℕ → ℕ → Circuit ℕ
+byte_of_pair bits bit = accumulated_of (bits_combination bits 8) (wire bit) (scaled (P - 1) (bits_combination bits 8) ++ bits_combination (bits + 8) 8)
+
+-- of the four bytes the one that two bits choose
+unfoldable pub byte_of_four : ℕ → ℕ → Circuit ℕ
+byte_of_four bits a = do
+  low ← byte_of_pair bits a
+  high ← byte_of_pair (bits + 16) a
+  accumulated_of (wire low) (wire (a + 1)) ((P - 1, low) ∷ (1, high) ∷ [])
+
+-- in words of two bytes the lowest bit of the address a chooses the byte, and in those of four its two lowest bits
+unfoldable pub byte_at_of : ℕ → ℕ → ℕ → Circuit ℕ
+byte_at_of w bits a = if w == 16 then byte_of_pair bits a else byte_of_four bits a
+
+-- ---- the word after the step
+-- 256 to the power of the byte's number; `both` is the product of the two lowest bits of the address
+abbrev pub power_in : ℕ → ℕ → ℕ → Combination
+power_in w a both = if w == 16 then (1, 0) ∷ (255, a) ∷ [] else (1, 0) ∷ (255, a) ∷ (65535, a + 1) ∷ (16711425, both) ∷ []
+
+-- the word with the lowest byte of x in place of that byte at store.b, the other word at store.w, and else as it was
+unfoldable pub new_of : ℕ → ℕ → DataWires → Bits → LineWires → ℕ → Circuit ℕ
+new_of w op d a line byte = do
+  change ← times_of (power_in w a.first d.both) (bits_combination d.x.first 8 ++ (P - 1, byte) ∷ [])
+  changed ← times_of (opcode_sum op (STORE_B ∷ [])) (wire change)
+  accumulated_of (wire line.old ++ wire changed) (opcode_sum op (STORE_W ∷ [])) ((1, d.other) ∷ (P - 1, d.word) ∷ [])
+
+-- ---- all of it
+unfoldable pub memory_of : ℕ → StateWires → ℕ → Bits → DataWires → TapeWires → Circuit StoreWires
+memory_of w state op a d t = do
+  line ← line_of w state op a d.word t
+  byte ← byte_at_of w d.bits a.first
+  new ← new_of w op d a line byte
+  pure (record { line = line; byte = byte; new = new })
+
+-- the values of the wires that are made: the cell of a load or store, or the null cell; the cell; the word in it
+abbrev pub line_values : ℕ → ℕ → View → Instr → ℕ → Bool → List ℕ
+line_values w n v i o takes =
+    (if touches v i then operand_word v i / word_size w else NULL_CELL) ∷ (data_line w n v i o takes 0).cell ∷ old_in w n v i o takes ∷ []
+
+-- of words of four bytes the bytes that the lowest bit chooses in either half, and in all words the byte
+abbrev pub byte_values : ℕ → ℕ → ℕ → List ℕ
+byte_values w o a = if w == 16 then byte_of o (a % 2) ∷ [] else byte_of o (a % 2) ∷ byte_of o (2 + a % 2) ∷ byte_of o (a % 4) ∷ []
+
+-- what the word gains by another byte, at store.b and else, and the word after the step
+abbrev pub gained : ℕ → ℕ → ℕ → ℕ
+gained o j b = 256 ^ j * ((b + (P - byte_of o j)) % P) % P
+
+abbrev pub new_values : ℕ → ℕ → View → Instr → ℕ → ℕ → Bool → List ℕ
+new_values w n v i x o takes =
+    let change : ℕ = gained o (operand_word v i % word_size w) (x % 256) in
+    change ∷ (if i.op == STORE_B then change else 0) ∷ (data_line w n v i o takes 0).new ∷ []
+
+abbrev pub memory_values : ℕ → ℕ → View → Instr → ℕ → ℕ → Bool → List ℕ
+memory_values w n v i x o takes = line_values w n v i o takes ++ (byte_values w o (operand_word v i) ++ new_values w n v i x o takes)
+
+-- ---- the laws
+-- z has what memory is read and written by: the data word o with its bits, a word x whose lowest byte is stored, and
+-- which is the other word at store.b, and the product of the operand's two lowest bits
+pub record HasMemory (w : ℕ) (z : List ℕ) (n : ℕ) (state : StateWires) (op : ℕ) (a : Bits) (d : DataWires) (t : TapeWires) (v : View) (i : Instr) (x o : ℕ) : Type 0 where
+  pub assigns : Assigns z
+  pub short : n < 2 ^ 29
+  pub within : v.taken ≤ n
+  pub before : slice_index z state.taken_of_primary ≡ v.taken
+  pub opcode : IsOpcode z op i.op
+  pub operand : Spells z a.first w (operand_word v i)
+  pub bits : Spells z d.bits w o
+  pub word : slice_index z d.word ≡ o
+  pub spelled : Spells z d.x.first w x
+  pub stored : i.op ≡ STORE_B → x ≡ other_word v i
+  pub other : slice_index z d.other ≡ other_word v i
+  pub both : slice_index z d.both ≡ slice_index z a.first * slice_index z (a.first + 1) % P
+  pub tapes : AreTapes z t n v i
+
+-- the wires are those of the data line, and of the byte at the operand's address
+pub record AreStored (w : ℕ) (z : List ℕ) (s : StoreWires) (n : ℕ) (v : View) (i : Instr) (o : ℕ) (takes : Bool) : Type 0 where
+  pub cell : slice_index z s.line.cell ≡ (data_line w n v i o takes 0).cell
+  pub old : slice_index z s.line.old ≡ (data_line w n v i o takes 0).old
+  pub new : slice_index z s.new ≡ (data_line w n v i o takes 0).new
+  pub byte : slice_index z s.byte ≡ byte_of o (operand_word v i % word_size w)
+
+-- an assignment that meets the constraints has them at the wires that are answered
+abbrev pub MemoryIsSound : Type 0
+MemoryIsSound = (w : ℕ) → IsWidth w → (z : List ℕ) (next n : ℕ) (state : StateWires) (op : ℕ) (a : Bits) (d : DataWires) (t : TapeWires) (v : View) (i : Instr) (x o : ℕ)
+    → HasMemory w z n state op a d t v i x o → Meets z (memory_of w state op a d t next).list → AreStored w z (memory_of w state op a d t next).answer n v i o (took z t)
+
+-- an assignment that has these values at the wires that are made meets the constraints
+abbrev pub MemoryIsComplete : Type 0
+MemoryIsComplete = (w : ℕ) → IsWidth w → (z : List ℕ) (next n : ℕ) (state : StateWires) (op : ℕ) (a : Bits) (d : DataWires) (t : TapeWires) (v : View) (i : Instr) (x o : ℕ)
+    → HasMemory w z n state op a d t v i x o → HasFrom z next (memory_values w n v i x o (took z t)) → Meets z (memory_of w state op a d t next).list
+
+-- which wires are answered, and that the values are one number of the field for each wire that is made
+pub record MemorySizes : Type 0 where
+  pub answer : (w : ℕ) → IsWidth w → (state : StateWires) (op : ℕ) (a : Bits) (d : DataWires) (t : TapeWires) (next : ℕ) → (memory_of w state op a d t next).answer
+      ≡ record { line = record { cell = next + 1; old = next + 2 }; byte = next + (w / 8 + 1); new = next + (w / 8 + 4) }
+  pub end : (w : ℕ) → IsWidth w → (state : StateWires) (op : ℕ) (a : Bits) (d : DataWires) (t : TapeWires) (next : ℕ) → (memory_of w state op a d t next).next ≡ next + (w / 8 + 5)
+  pub fills : (w : ℕ) → IsWidth w → (n : ℕ) (state : StateWires) (op : ℕ) (a : Bits) (d : DataWires) (t : TapeWires) (v : View) (i : Instr) (x o : ℕ) (takes : Bool)
+      → Fills (memory_of w state op a d t) (memory_values w n v i x o takes)
+  pub in_field : (w : ℕ) → IsWidth w → (n : ℕ) (v : View) (i : Instr) (x o : ℕ) (takes : Bool) → n < 2 ^ 29 → v.taken ≤ n → operand_word v i < 2 ^ w → other_word v i < 2 ^ w → o < 2 ^ w
+      → InField (memory_values w n v i x o takes)
+
+-- nine constraints, or seven for words of two bytes, of 3 w + 36 terms
+pub record MemoryCosts : Type 0 where
+  pub constraints : (w : ℕ) → IsWidth w → (state : StateWires) (op : ℕ) (a : Bits) (d : DataWires) (t : TapeWires) (next : ℕ) → length (memory_of w state op a d t next).list ≡ w / 8 + 5
+  pub terms : (w : ℕ) → IsWidth w → (state : StateWires) (op : ℕ) (a : Bits) (d : DataWires) (t : TapeWires) (next : ℕ) → terms_in (memory_of w state op a d t next).list ≡ 3 * w + 36

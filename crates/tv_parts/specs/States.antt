@@ -1,0 +1,93 @@
+-- The wires of a state.
+use Rattle.std.specs.Prelude.{◌≡◌, ℕ, ◌+◌, ◌*◌, ◌≤◌, ◌<◌, List, slice_index}
+use Rattle.tv_numbers.specs.Views.{View}
+use Rattle.tv_regs.specs.Reading.{words_at, wires_top}
+use Rattle.tv_regs.specs.declared.triple.Triple.{Triple}
+use Rattle.tv_parts.specs.declared.records.ArithmeticWires.{ArithmeticWires}
+use Rattle.tv_parts.specs.declared.records.DataWires.{DataWires}
+use Rattle.tv_parts.specs.declared.records.LineWires.{LineWires}
+use Rattle.tv_parts.specs.declared.records.OperandWires.{OperandWires}
+use Rattle.tv_parts.specs.declared.records.ResultWires.{ResultWires}
+use Rattle.tv_parts.specs.declared.records.RowWires.{RowWires}
+use Rattle.tv_parts.specs.declared.records.Sources.{Sources}
+use Rattle.tv_parts.specs.declared.records.StateWires.{StateWires}
+use Rattle.tv_parts.specs.declared.records.StoreWires.{StoreWires}
+use Rattle.tv_parts.specs.declared.records.TapeWires.{TapeWires}
+
+-- the numbers in a state's wires
+abbrev pub state_in : List ℕ → StateWires → View
+state_in z state = record {
+  pc = slice_index z state.pc;
+  regs = words_at z state.regs;
+  flag = slice_index z state.flag;
+  taken = slice_index z state.taken_of_primary;
+  ended = slice_index z state.aux_ended;
+}
+
+-- a state's wires are below a number
+pub record StateUnder (wires : ℕ) (state : StateWires) : Type 0 where
+  pub pc : state.pc < wires
+  pub regs : wires_top state.regs ≤ wires
+  pub flag : state.flag < wires
+  pub taken : state.taken_of_primary < wires
+  pub ended : state.aux_ended < wires
+
+-- and those of the tapes
+pub record TapesUnder (wires : ℕ) (t : TapeWires) : Type 0 where
+  pub taken : t.taken < wires
+  pub takes : t.takes < wires
+  pub ended : t.ended < wires
+
+-- those of the registers that are read
+pub record TripleUnder (wires : ℕ) (regs : Triple) : Type 0 where
+  pub dest : regs.dest < wires
+  pub other : regs.other_word < wires
+  pub named : regs.named_word < wires
+  pub dest_word : regs.dest_word < wires
+
+-- those that memory is read and written by
+pub record DataUnder (w wires : ℕ) (d : DataWires) : Type 0 where
+  pub bits : d.bits + w ≤ wires
+  pub word : d.word < wires
+  pub x_size : d.x.n ≡ w
+  pub x : d.x.first + w ≤ wires
+  pub other : d.other < wires
+  pub both : d.both < wires
+
+pub record LineUnder (wires : ℕ) (line : LineWires) : Type 0 where
+  pub cell : line.cell < wires
+  pub old : line.old < wires
+
+pub record StoreUnder (wires : ℕ) (s : StoreWires) : Type 0 where
+  pub line : LineUnder wires s.line
+  pub byte : s.byte < wires
+  pub new : s.new < wires
+
+-- those that the result is made from, and the result's
+pub record SourcesUnder (wires : ℕ) (from : Sources) : Type 0 where
+  pub low : from.low < wires
+  pub high : from.high < wires
+  pub top : from.top < wires
+  pub operand : from.operand < wires
+  pub byte : from.byte < wires
+
+pub record ResultUnder (wires : ℕ) (r : ResultWires) : Type 0 where
+  pub word : r.word < wires
+  pub tested : r.tested < wires
+
+-- those of the operand, of the bits on which the operations work, and of what they make
+pub record OperandUnder (w wires : ℕ) (a : OperandWires) : Type 0 where
+  pub word : a.word < wires
+  pub size : a.bits.n ≡ w
+  pub bits : a.bits.first + w ≤ wires
+
+pub record RowUnder (w wires : ℕ) (r : RowWires) : Type 0 where
+  pub size : r.x.n ≡ w
+  pub x : r.x.first + w ≤ wires
+  pub bits : r.row.first + 2 * w ≤ wires
+  pub low : r.row.low < wires
+  pub high : r.row.high < wires
+
+pub record ArithmeticUnder (w wires : ℕ) (made : ArithmeticWires) : Type 0 where
+  pub rows : RowUnder w wires (record { x = made.x; row = made.row })
+  pub both : made.both < wires

@@ -1,0 +1,60 @@
+-- The registers that a step writes.
+use Rattle.std.specs.Prelude.{◌≡◌, ℕ, ◌+◌, ◌<◌, Bool, true, List, [], ◌∷◌, length, slice_index}
+use Rattle.std.specs.List.{range_with_len}
+use Rattle.tv_bits.specs.Bit.{IsBit}
+use Rattle.tv_core.specs.Circuits.{Circuit, ◌>>=◌}
+use Rattle.tv_core.specs.Combinations.{wire}
+use Rattle.tv_core.specs.Laws.{Assigns, Meets, HasFrom, Fills}
+use Rattle.tv_core.specs.Meanings.{terms_in}
+use Rattle.tv_isa.specs.Opcodes.{among}
+use Rattle.tv_isa.specs.declared.instr.Instr.{Instr}
+use Rattle.tv_isa.specs.declared.opcode.TheConstants.{CMOV}
+use Rattle.tv_numbers.specs.Numbers.{writes, stepped, result_in}
+use Rattle.tv_numbers.specs.Tables.{writer_ops}
+use Rattle.tv_numbers.specs.Views.{View, flag_of}
+use Rattle.tv_regs.specs.Reading.{words_at}
+use Rattle.tv_regs.specs.Update.{update_of}
+use Rattle.tv_regs.specs.declared.triple.Triple.{Triple}
+use Rattle.tv_parts.specs.Accumulation.{accumulated_of}
+use Rattle.tv_parts.specs.OpcodeSums.{opcode_sum, IsOpcode}
+use Rattle.tv_parts.specs.declared.records.StateWires.{StateWires}
+
+-- whether the destination is written, and the registers after it
+unfoldable pub written_of : ℕ → StateWires → Triple → ℕ → Circuit (List ℕ)
+written_of op state regs result = do
+  on ← accumulated_of (opcode_sum op writer_ops) (opcode_sum op (CMOV ∷ [])) (wire state.flag)
+  update_of on regs.dest regs.dest_word result state.regs
+
+-- the values of the wires that are made: whether the destination is written, and the registers
+abbrev pub written_values : ℕ → ℕ → View → Instr → ℕ → Bool → List ℕ
+written_values w n v i o takes = flag_of (writes w n v i o takes) ∷ (stepped w n v i o takes).regs
+
+-- z has what is written, and where: the destination's number and word, and at the opcodes that may write it the result
+pub record HasWritten (w : ℕ) (z : List ℕ) (n : ℕ) (state : StateWires) (op : ℕ) (regs : Triple) (result : ℕ) (v : View) (i : Instr) (o : ℕ) (takes : Bool) : Type 0 where
+  pub assigns : Assigns z
+  pub opcode : IsOpcode z op i.op
+  pub size : length state.regs ≡ 16
+  pub words : words_at z state.regs ≡ v.regs
+  pub bit : IsBit v.flag
+  pub flag : slice_index z state.flag ≡ v.flag
+  pub within : i.dest < 16
+  pub dest : slice_index z regs.dest ≡ i.dest
+  pub dest_word : slice_index z regs.dest_word ≡ slice_index v.regs i.dest
+  pub word : among (CMOV ∷ writer_ops) i.op ≡ true → slice_index z result ≡ result_in w n v i o takes
+
+-- an assignment that has these values at the wires that are made meets the constraints
+abbrev pub WrittenIsComplete : Type 0
+WrittenIsComplete = (w : ℕ) (z : List ℕ) (next n : ℕ) (state : StateWires) (op : ℕ) (regs : Triple) (result : ℕ) (v : View) (i : Instr) (o : ℕ) (takes : Bool)
+    → HasWritten w z n state op regs result v i o takes → HasFrom z next (written_values w n v i o takes) → Meets z (written_of op state regs result next).list
+
+-- which wires are answered, and that the values are one number of the field for each wire that is made
+pub record WrittenSizes : Type 0 where
+  pub answer : (op : ℕ) (state : StateWires) (regs : Triple) (result next : ℕ) → (written_of op state regs result next).answer ≡ range_with_len (next + 1) 16
+  pub end : (op : ℕ) (state : StateWires) (regs : Triple) (result next : ℕ) → (written_of op state regs result next).next ≡ next + 17
+  pub fills : (op : ℕ) (state : StateWires) (regs : Triple) (result w n : ℕ) (v : View) (i : Instr) (o : ℕ) (takes : Bool) → length v.regs ≡ 16
+      → Fills (written_of op state regs result) (written_values w n v i o takes)
+
+-- eighteen constraints of 118 terms
+pub record WrittenCosts : Type 0 where
+  pub constraints : (op : ℕ) (state : StateWires) (regs : Triple) (result next : ℕ) → length (written_of op state regs result next).list ≡ 18
+  pub terms : (op : ℕ) (state : StateWires) (regs : Triple) (result next : ℕ) → terms_in (written_of op state regs result next).list ≡ 118

@@ -1,0 +1,42 @@
+//! A product added to a sum, as a new wire.
+ghost use Rattle.std.specs.Prelude.{◌≤◌, ◌<◌, length, IfOk};
+ghost use Rattle.tv_core.specs.Combinations.{top};
+ghost use Rattle.tv_core.specs.Sinks.{PutsIn, Grows, Room};
+ghost use Rattle.tv_parts.specs.Accumulation.{closed_of, AccumulatedIsSound};
+ghost use Rattle.tv_parts.specs.Accumulation.{AccumulatedIsComplete, AccumulatedSizes};
+
+use tv_core::{F, Lc, Put, Sink, Wire};
+
+/// Returns a wire that is `f` times `g` plus a sum, of which `product` has the terms with their
+/// coefficients negated; the wire is appended to `product`. It makes 1 wire and 1 constraint.
+pub fn accumulated<S: Sink>(s: &mut S, product: &mut Lc, f: &Lc, g: &Lc) -> Put<Wire>
+    requires room { Room S.meaning s.old 1 1 }
+    requires f_made { top f.now ≤ S.meaning.wires s.old }
+    requires g_made { top g.now ≤ S.meaning.wires s.old }
+    requires sum_made { top product.old ≤ S.meaning.wires s.old }
+    requires short { length product.old ≤ 64 }
+    ensures puts { PutsIn S.meaning s.old s.new (closed_of product.old f.now g.now) result }
+    ensures grows { IfOk result (λ _. Grows S.meaning s.old s.new 1 1) }
+    ensures below { IfOk result (λ sum. sum < S.meaning.wires s.new) }
+{
+    let sum = s.fresh();
+    product.plus(F::ONE, sum);
+    s.put(f, g, product)?;
+    Ok(sum)
+}
+
+/// In an assignment that meets the constraint the wire holds the sum.
+pub fn accumulated_is_sound()
+    ensures { AccumulatedIsSound }
+{}
+
+/// An assignment that has the sum at the wire meets the constraint.
+pub fn accumulated_is_complete()
+    ensures { AccumulatedIsComplete }
+{}
+
+/// Says which wire `accumulated` answers, and that its value is one number of the field.
+#[tactic(auto, using(crate::proofs::AccumulationLaws::accumulated_sizes))]
+pub fn accumulated_fills()
+    ensures { AccumulatedSizes }
+{}

@@ -1,0 +1,222 @@
+//! The flag after a step.
+ghost use Rattle.std.specs.Prelude.{◌≡◌, ◌+◌, ◌-◌, ◌*◌, ◌/◌, ◌≤◌, ◌<◌, ◌^◌, ◌++◌, ◌%◌, false, length, max, IfOk, OnOk};
+ghost use Rattle.std.specs.Int.{bit_at};
+ghost use Rattle.tv_core.specs.Combinations.{wire, scaled, top};
+ghost use Rattle.tv_core.specs.Giving.{GivesIn};
+ghost use Rattle.tv_core.specs.Sinks.{PutsIn, Grows, Room};
+ghost use Rattle.tv_core.specs.declared.field.TheConstants.{P};
+ghost use Rattle.tv_parts.specs.Flag.{tested_in, next_flag_of, FlagIsSound, FlagIsComplete};
+ghost use Rattle.tv_parts.specs.Flag.{FlagSizes, FlagCosts, flag_values};
+ghost use Rattle.tv_parts.specs.States.{StateUnder, TapesUnder};
+ghost use Rattle.tv_parts.specs.Traced.{traced_view, AreNumbers};
+ghost use Rattle.tv_isa.specs.Opcodes.{chosen};
+ghost use Rattle.tv_numbers.specs.Tables.{flags};
+ghost use Rattle.tv_numbers.specs.Views.{flag_of};
+ghost use Rattle.tv_word.specs.Widths.{IsWidth};
+
+use crate::accumulation::accumulated;
+use crate::opcode_sums::{opcode_wire, plus_opcodes, set_opcodes};
+use crate::records::{StateWires, TapeWires};
+use crate::step_numbers::StepNumbers;
+use crate::tapes::set_terms;
+use tv_bits::{Bits, times_by};
+use tv_core::{F, Lc, Put, Scratch, Sink, Values, Wire, give_values};
+use tv_isa::opcode::{
+    ADD, AND, ANSWER, CJMP, CMOV, CMPA, CMPAE, CMPE, CMPG, CMPGE, CNJMP, JMP, LOAD_B, LOAD_W, MOV,
+    MULL, NOT, OR, READ, SHL, SHR, SMULH, STORE_B, STORE_W, SUB, UDIV, UMOD, UMULH, XOR,
+};
+use tv_step::TraceState;
+use tv_word::arithmetic::{
+    both, carries, differing, either, high_signed, inverted, is_wide, sign_bit, signed_word,
+};
+
+/// Constrains the flag after a step: `op` is the row of its opcode, `x` the bits of its other word,
+/// and `f` its test. It makes 3 wires and 3 constraints.
+pub fn put_flag<const W: u32, S: Sink>(
+    s: &mut S,
+    scratch: &mut Scratch,
+    state: &StateWires,
+    op: Wire,
+    x: &Bits,
+    f: Wire,
+    tapes: &TapeWires,
+) -> Put<Wire>
+    requires width { IsWidth W }
+    requires room { Room S.meaning s.old 3 3 }
+    requires state_made { StateUnder (S.meaning.wires s.old) state.now }
+    requires op_made { op + 29 ≤ S.meaning.wires s.old }
+    requires x_made { x.now.first + W ≤ S.meaning.wires s.old }
+    requires f_made { f < S.meaning.wires s.old }
+    requires tapes_made { TapesUnder (S.meaning.wires s.old) tapes.now }
+    ensures puts { PutsIn S.meaning s.old s.new (next_flag_of W state.now op x.now f tapes.now)
+        result }
+    ensures grows { IfOk result (λ _. Grows S.meaning s.old s.new 3 3) }
+    ensures below { IfOk result (λ w. w < S.meaning.wires s.new) }
+{
+    let minus = -F::ONE;
+    scratch.a.set_wire(opcode_wire(op, SHL));
+    let highest = x.first.offset(W - 1);
+    set_terms(&mut scratch.b, &[(minus, f), (F::ONE, highest)]);
+    let left = times_by(s, &mut scratch.c, &scratch.a, &scratch.b)?;
+    scratch.a.set_wire(opcode_wire(op, SHR));
+    set_terms(&mut scratch.b, &[(minus, f), (F::ONE, x.first)]);
+    let right = times_by(s, &mut scratch.c, &scratch.a, &scratch.b)?;
+    set_opcodes(
+        &mut scratch.a,
+        op,
+        &[
+            MOV, CMOV, JMP, CJMP, CNJMP, STORE_B, LOAD_B, STORE_W, LOAD_W, ANSWER,
+        ],
+    );
+    scratch.b.set_wire(state.flag);
+    set_tested(
+        &mut scratch.c,
+        state.taken_of_primary,
+        op,
+        f,
+        tapes,
+        left,
+        right,
+    );
+    accumulated(s, &mut scratch.c, &scratch.a, &scratch.b)
+}
+
+// Sets `lc` to the flag where it isn't kept, with its coefficients negated.
+fn set_tested(
+    lc: &mut Lc,
+    before: Wire,
+    op: Wire,
+    f: Wire,
+    tapes: &TapeWires,
+    left: Wire,
+    right: Wire,
+)
+    requires within { op + 29 ≤ 2 ^ 32 }
+    ensures terms { lc.new ≡ scaled (P - 1) (tested_in before op f tapes.now left right) }
+    ensures top { top lc.new ≤ max (max (before + 1) (op + 29)) (max (f + 1) (max
+        (max (tapes.now.taken + 1) (tapes.now.takes + 1)) (max (left + 1) (right + 1)))) }
+    ensures len { length lc.new ≡ 15 }
+{
+    let minus = -F::ONE;
+    set_terms(lc, &[(minus, before)]);
+    plus_opcodes(
+        lc,
+        minus,
+        op,
+        &[ADD, MULL, UMULH, SMULH, CMPA, CMPAE, CMPG, CMPGE, READ],
+    );
+    lc.plus_scaled(
+        minus,
+        &[
+            (F::ONE, f),
+            (minus, tapes.taken),
+            (minus, tapes.takes),
+            (F::ONE, left),
+            (F::ONE, right),
+        ],
+    );
+}
+
+/// Assigns the 3 values of the wires that `put_flag` makes, `f` being the value of the test.
+pub fn fill_flag<const W: u32, V: Values>(
+    v: &mut V,
+    state: &TraceState,
+    step: &StepNumbers,
+    f: F,
+) -> Put<()>
+    requires width { IsWidth W }
+    requires step { AreNumbers W (traced_view state.now) step.now }
+    requires whole { V.giving.broken v.old ≡ false }
+    ensures gives { GivesIn V.giving v.old v.new
+        (flag_values W step.now.n (traced_view state.now) step.now.instr step.now.low step.now.aux
+        f) result }
+    ensures whole { OnOk result (V.giving.broken v.new ≡ false) }
+{
+    give_values(v, &flag_values::<W>(state, step, f))
+}
+
+// The values of the wires that `put_flag` makes.
+fn flag_values<const W: u32>(state: &TraceState, step: &StepNumbers, f: F) -> [F; 3]
+    requires width { IsWidth W }
+    requires step { AreNumbers W (traced_view state.now) step.now }
+    ensures { result ≡ flag_values W step.now.n (traced_view state.now) step.now.instr step.now.low
+        step.now.aux f }
+{
+    let op = step.instr.op;
+    let x = step.other;
+    let left = if op == SHL {
+        bit::<W>(x, W - 1) - f
+    } else {
+        F::ZERO
+    };
+    let right = if op == SHR {
+        bit::<W>(x, 0) - f
+    } else {
+        F::ZERO
+    };
+    let flag = flag_after::<W>(op, x, step.operand, step.found, state.flag);
+    [left, right, F::from(flag)]
+}
+
+// A bit of a word.
+fn bit<const W: u32>(x: u32, i: u32) -> F
+    requires width { IsWidth W }
+    requires within { i < W }
+    ensures { result ≡ bit_at x i }
+{
+    F::from((x >> i) % 2)
+}
+
+// The flag after an instruction, where `x` is the other word and `a` the operand; `found` says
+// whether a read finds a word.
+fn flag_after<const W: u32>(op: u8, x: u32, a: u32, found: bool, flag: bool) -> bool
+    requires width { IsWidth W }
+    requires x_word { x < 2 ^ W }
+    requires a_word { a < 2 ^ W }
+    ensures { flag_of result ≡ chosen (flags W x a found (flag_of flag)) op }
+{
+    match op {
+        AND => both::<W>(x, a) == 0,
+        OR => either::<W>(x, a) == 0,
+        XOR => differing::<W>(x, a) == 0,
+        NOT => inverted::<W>(a) == 0,
+        ADD => carries::<W>(x, a),
+        SUB => x < a,
+        MULL | UMULH => is_wide::<W>(x, a),
+        SMULH => high_signed::<W>(x, a).1,
+        UDIV | UMOD => a == 0,
+        SHL => sign_bit::<W>(x),
+        SHR => x % 2 == 1,
+        CMPE => x == a,
+        CMPA => x > a,
+        CMPAE => x >= a,
+        CMPG => signed_word::<W>(x) > signed_word::<W>(a),
+        CMPGE => signed_word::<W>(x) >= signed_word::<W>(a),
+        READ => !found,
+        MOV..=CNJMP | STORE_B..=LOAD_W | ANSWER => flag,
+        _ => false,
+    }
+}
+
+/// An assignment that meets the constraints has the flag after the step.
+pub fn flag_is_sound()
+    ensures { FlagIsSound }
+{}
+
+/// An assignment that has the flag after the step meets the constraints.
+pub fn flag_is_complete()
+    ensures { FlagIsComplete }
+{}
+
+/// Says which wire `put_flag` answers, and that `fill_flag` assigns one number to each wire that it
+/// makes.
+#[tactic(auto, using(crate::proofs::FlagFills::flag_sizes))]
+pub fn flag_fills()
+    ensures { FlagSizes }
+{}
+
+/// Says how many constraints and terms the flag costs.
+#[tactic(auto, using(crate::proofs::FlagFills::flag_costs))]
+pub fn flag_costs()
+    ensures { FlagCosts }
+{}

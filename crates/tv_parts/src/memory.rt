@@ -1,0 +1,398 @@
+//! The data line of a step, and the bytes of its word.
+ghost use Rattle.std.specs.Prelude.{◌≡◌, ◌+◌, ◌-◌, ◌*◌, ◌/◌, ◌%◌, ◌≤◌, ◌<◌, ◌^◌, ◌++◌, false, length, max};
+ghost use Rattle.std.specs.Prelude.{IfOk, OnOk};
+ghost use Rattle.tv_core.specs.Combinations.{wire, scaled, top};
+ghost use Rattle.tv_core.specs.Giving.{GivesIn};
+ghost use Rattle.tv_core.specs.Sinks.{PutsIn, Grows, Room};
+ghost use Rattle.tv_parts.specs.Memory.{line_of, byte_of_pair, byte_of_four, byte_at_of};
+ghost use Rattle.tv_parts.specs.Memory.{power_in, new_of, memory_of};
+ghost use Rattle.tv_parts.specs.Memory.{MemoryIsSound, MemoryIsComplete, MemorySizes, MemoryCosts};
+ghost use Rattle.tv_parts.specs.States.{StateUnder, TapesUnder, DataUnder, LineUnder, StoreUnder};
+ghost use Rattle.tv_parts.specs.Memory.{line_values, byte_values, gained, new_values, memory_values};
+ghost use Rattle.tv_parts.specs.Traced.{traced_view, AreNumbers};
+ghost use Rattle.tv_isa.specs.Opcodes.{among};
+ghost use Rattle.tv_mem.specs.Bytes.{byte_of};
+ghost use Rattle.tv_numbers.specs.Numbers.{with_byte_in};
+ghost use Rattle.tv_numbers.specs.Tables.{memory_ops};
+ghost use Rattle.tv_step.specs.Rows.{word_size};
+ghost use Rattle.tv_word.specs.Widths.{IsWidth};
+
+use crate::accumulation::accumulated;
+use crate::opcode_sums::{opcode_wire, plus_opcodes, set_opcodes};
+use crate::records::{DataWires, LineWires, StateWires, StoreWires, TapeWires};
+use crate::step_numbers::StepNumbers;
+use crate::tapes::set_terms;
+use tv_bits::{Bits, times_by};
+use tv_core::limits::{NULL_CELL, TAPE_CELLS};
+use tv_core::{F, Lc, Put, Scratch, Sink, Values, Wire, give_values};
+use tv_isa::opcode::{LOAD_B, LOAD_W, STORE_B, STORE_W};
+use tv_step::TraceState;
+
+/// Constrains the data line of a step and the byte at its operand's address: `op` is the row of its
+/// opcode, and `a` the bits of its operand. For words of 32 bits it makes 9 wires and 9
+/// constraints, and 7 of each for words of 16 bits.
+pub fn put_memory<const W: u32, S: Sink>(
+    s: &mut S,
+    scratch: &mut Scratch,
+    state: &StateWires,
+    op: Wire,
+    a: &Bits,
+    d: &DataWires,
+    tapes: &TapeWires,
+) -> Put<StoreWires>
+    requires width { IsWidth W }
+    requires room { Room S.meaning s.old (W / 8 + 5) (W / 8 + 5) }
+    requires state_made { StateUnder (S.meaning.wires s.old) state.now }
+    requires op_made { op + 29 ≤ S.meaning.wires s.old }
+    requires a_word { a.now.n ≡ W }
+    requires a_made { a.now.first + W ≤ S.meaning.wires s.old }
+    requires data_made { DataUnder W (S.meaning.wires s.old) d.now }
+    requires tapes_made { TapesUnder (S.meaning.wires s.old) tapes.now }
+    ensures puts { PutsIn S.meaning s.old s.new (memory_of W state.now op a.now d.now tapes.now)
+        result }
+    ensures grows { IfOk result (λ _. Grows S.meaning s.old s.new (W / 8 + 5) (W / 8 + 5)) }
+    ensures below { IfOk result (λ made. StoreUnder (S.meaning.wires s.new) made) }
+{
+    let line = put_line::<W, S>(s, scratch, state, op, a, d.word, tapes)?;
+    let byte = byte_at::<W, S>(s, scratch, d.bits, a.first)?;
+    let new = put_new::<W, S>(s, scratch, op, d, a, &line, byte)?;
+    Ok(StoreWires { line, byte, new })
+}
+
+// Constrains the cell of the data line, and the word in it before the step.
+fn put_line<const W: u32, S: Sink>(
+    s: &mut S,
+    scratch: &mut Scratch,
+    state: &StateWires,
+    op: Wire,
+    a: &Bits,
+    word: Wire,
+    tapes: &TapeWires,
+) -> Put<LineWires>
+    requires width { IsWidth W }
+    requires room { Room S.meaning s.old 3 3 }
+    requires state_made { StateUnder (S.meaning.wires s.old) state.now }
+    requires op_made { op + 29 ≤ S.meaning.wires s.old }
+    requires a_word { a.now.n ≡ W }
+    requires a_made { a.now.first + W ≤ S.meaning.wires s.old }
+    requires word_made { word < S.meaning.wires s.old }
+    requires tapes_made { TapesUnder (S.meaning.wires s.old) tapes.now }
+    ensures puts { PutsIn S.meaning s.old s.new (line_of W state.now op a.now word tapes.now)
+        result }
+    ensures grows { IfOk result (λ _. Grows S.meaning s.old s.new 3 3) }
+    ensures below { IfOk result (λ made. LineUnder (S.meaning.wires s.new) made) }
+{
+    let minus = -F::ONE;
+    let before = state.taken_of_primary;
+    set_opcodes(&mut scratch.a, op, &[STORE_B, LOAD_B, STORE_W, LOAD_W]);
+    set_terms(&mut scratch.b, &[(-F::from(NULL_CELL), Wire(0))]);
+    a.above(W / 16).plus_to(&mut scratch.b, F::ONE);
+    scratch.c.clear();
+    scratch
+        .c
+        .plus_scaled(minus, &[(F::from(NULL_CELL), Wire(0))]);
+    let located = accumulated(s, &mut scratch.c, &scratch.a, &scratch.b)?;
+    set_terms(&mut scratch.a, &[(minus, before), (F::ONE, tapes.taken)]);
+    set_terms(
+        &mut scratch.b,
+        &[
+            (F::from(TAPE_CELLS), Wire(0)),
+            (F::ONE, before),
+            (minus, located),
+        ],
+    );
+    scratch.c.clear();
+    scratch.c.plus_scaled(minus, &[(F::ONE, located)]);
+    let cell = accumulated(s, &mut scratch.c, &scratch.a, &scratch.b)?;
+    set_terms(&mut scratch.a, &[(minus, before)]);
+    plus_opcodes(
+        &mut scratch.a,
+        F::ONE,
+        op,
+        &[STORE_B, LOAD_B, STORE_W, LOAD_W],
+    );
+    scratch.a.plus(F::ONE, tapes.taken);
+    scratch.b.set_wire(word);
+    let old = times_by(s, &mut scratch.c, &scratch.a, &scratch.b)?;
+    Ok(LineWires { cell, old })
+}
+
+// Constrains the byte of a word that the lowest bits of an address choose.
+fn byte_at<const W: u32, S: Sink>(
+    s: &mut S,
+    scratch: &mut Scratch,
+    bits: Wire,
+    a: Wire,
+) -> Put<Wire>
+    requires width { IsWidth W }
+    requires room { Room S.meaning s.old (W / 8 - 1) (W / 8 - 1) }
+    requires bits_made { bits + W ≤ S.meaning.wires s.old }
+    requires a_made { a + W ≤ S.meaning.wires s.old }
+    ensures puts { PutsIn S.meaning s.old s.new (byte_at_of W bits a) result }
+    ensures grows { IfOk result (λ _. Grows S.meaning s.old s.new (W / 8 - 1) (W / 8 - 1)) }
+    ensures below { IfOk result (λ w. w < S.meaning.wires s.new) }
+{
+    if W == 16 {
+        byte_of_pair(s, scratch, bits, a)
+    } else {
+        byte_of_four(s, scratch, bits, a)
+    }
+}
+
+// Of the two bytes of 8 wires each from `bits` on the one that a bit chooses.
+fn byte_of_pair<S: Sink>(s: &mut S, scratch: &mut Scratch, bits: Wire, bit: Wire) -> Put<Wire>
+    requires room { Room S.meaning s.old 1 1 }
+    requires bits_made { bits + 16 ≤ S.meaning.wires s.old }
+    requires bit_made { bit < S.meaning.wires s.old }
+    ensures puts { PutsIn S.meaning s.old s.new (byte_of_pair bits bit) result }
+    ensures grows { IfOk result (λ _. Grows S.meaning s.old s.new 1 1) }
+    ensures below { IfOk result (λ w. w < S.meaning.wires s.new) }
+{
+    let minus = -F::ONE;
+    let low = Bits { first: bits, n: 8 };
+    let high = Bits {
+        first: bits.offset(8),
+        n: 8,
+    };
+    scratch.a.set_wire(bit);
+    scratch.b.clear();
+    low.plus_to(&mut scratch.b, minus);
+    high.plus_to(&mut scratch.b, F::ONE);
+    scratch.c.clear();
+    low.plus_to(&mut scratch.c, minus);
+    accumulated(s, &mut scratch.c, &scratch.a, &scratch.b)
+}
+
+// Of four bytes the one that two bits choose.
+fn byte_of_four<S: Sink>(s: &mut S, scratch: &mut Scratch, bits: Wire, a: Wire) -> Put<Wire>
+    requires room { Room S.meaning s.old 3 3 }
+    requires bits_made { bits + 32 ≤ S.meaning.wires s.old }
+    requires a_made { a + 2 ≤ S.meaning.wires s.old }
+    ensures puts { PutsIn S.meaning s.old s.new (byte_of_four bits a) result }
+    ensures grows { IfOk result (λ _. Grows S.meaning s.old s.new 3 3) }
+    ensures below { IfOk result (λ w. w < S.meaning.wires s.new) }
+{
+    let minus = -F::ONE;
+    let low = byte_of_pair(s, scratch, bits, a)?;
+    let high = byte_of_pair(s, scratch, bits.offset(16), a)?;
+    scratch.a.set_wire(a.offset(1));
+    set_terms(&mut scratch.b, &[(minus, low), (F::ONE, high)]);
+    scratch.c.clear();
+    scratch.c.plus_scaled(minus, &[(F::ONE, low)]);
+    accumulated(s, &mut scratch.c, &scratch.a, &scratch.b)
+}
+
+// Constrains the word in the cell after the step.
+fn put_new<const W: u32, S: Sink>(
+    s: &mut S,
+    scratch: &mut Scratch,
+    op: Wire,
+    d: &DataWires,
+    a: &Bits,
+    line: &LineWires,
+    byte: Wire,
+) -> Put<Wire>
+    requires width { IsWidth W }
+    requires room { Room S.meaning s.old 3 3 }
+    requires op_made { op + 29 ≤ S.meaning.wires s.old }
+    requires data_made { DataUnder W (S.meaning.wires s.old) d.now }
+    requires a_made { a.now.first + W ≤ S.meaning.wires s.old }
+    requires line_made { LineUnder (S.meaning.wires s.old) line.now }
+    requires byte_made { byte < S.meaning.wires s.old }
+    ensures puts { PutsIn S.meaning s.old s.new (new_of W op d.now a.now line.now byte) result }
+    ensures grows { IfOk result (λ _. Grows S.meaning s.old s.new 3 3) }
+    ensures below { IfOk result (λ w. w < S.meaning.wires s.new) }
+{
+    let minus = -F::ONE;
+    set_power::<W>(&mut scratch.a, a.first, d.both);
+    let lowest = Bits {
+        first: d.x.first,
+        n: 8,
+    };
+    lowest.fill(&mut scratch.b);
+    scratch.b.plus(minus, byte);
+    let change = times_by(s, &mut scratch.c, &scratch.a, &scratch.b)?;
+    scratch.a.set_wire(opcode_wire(op, STORE_B));
+    scratch.b.set_wire(change);
+    let changed = times_by(s, &mut scratch.c, &scratch.a, &scratch.b)?;
+    scratch.a.set_wire(opcode_wire(op, STORE_W));
+    set_terms(&mut scratch.b, &[(F::ONE, d.other), (minus, d.word)]);
+    scratch.c.clear();
+    scratch
+        .c
+        .plus_scaled(minus, &[(F::ONE, line.old), (F::ONE, changed)]);
+    accumulated(s, &mut scratch.c, &scratch.a, &scratch.b)
+}
+
+// Sets `lc` to 256 to the power of the number that the lowest bits of an address spell.
+fn set_power<const W: u32>(lc: &mut Lc, a: Wire, both: Wire)
+    requires width { IsWidth W }
+    requires within { a + 2 < 2 ^ 32 }
+    ensures terms { lc.new ≡ power_in W a both }
+    ensures top { top lc.new ≤ max (a + 2) (both + 1) }
+{
+    set_terms(lc, &[(F::ONE, Wire(0)), (F::from(255), a)]);
+    if W == 32 {
+        lc.plus(F::from(65_535), a.offset(1));
+        lc.plus(F::from(16_711_425), both);
+    }
+}
+
+/// Assigns the values of the wires that `put_memory` makes.
+pub fn fill_memory<const W: u32, V: Values>(
+    v: &mut V,
+    state: &TraceState,
+    step: &StepNumbers,
+) -> Put<()>
+    requires width { IsWidth W }
+    requires step { AreNumbers W (traced_view state.now) step.now }
+    requires short { step.now.n < 2 ^ 29 }
+    requires taken { state.now.primary ≤ step.now.n }
+    requires whole { V.giving.broken v.old ≡ false }
+    ensures gives { GivesIn V.giving v.old v.new
+        (memory_values W step.now.n (traced_view state.now) step.now.instr step.now.spelled
+        step.now.low step.now.aux) result }
+    ensures whole { OnOk result (V.giving.broken v.new ≡ false) }
+{
+    give_values(v, &line_values::<W>(state, step))?;
+    fill_bytes::<W, V>(v, step.low, step.operand)?;
+    give_values(v, &new_values::<W>(state, step))
+}
+
+// The values of the wires that `put_line` makes.
+fn line_values<const W: u32>(state: &TraceState, step: &StepNumbers) -> [F; 3]
+    requires width { IsWidth W }
+    requires step { AreNumbers W (traced_view state.now) step.now }
+    requires short { step.now.n < 2 ^ 29 }
+    requires taken { state.now.primary ≤ step.now.n }
+    ensures { result ≡ line_values W step.now.n (traced_view state.now) step.now.instr step.now.low
+        step.now.aux }
+{
+    let located = if touches(step.instr.op) {
+        step.operand / (W / 8)
+    } else {
+        NULL_CELL
+    };
+    let cell = if step.primary {
+        TAPE_CELLS + state.primary
+    } else {
+        located
+    };
+    [F::from(located), F::from(cell), F::from(step.old)]
+}
+
+/// Says whether an instruction loads or stores.
+pub fn touches(op: u8) -> bool
+    ensures { result ≡ among memory_ops op }
+{
+    matches!(op, STORE_B | LOAD_B | STORE_W | LOAD_W)
+}
+
+// Assigns the values of the wires that `byte_at` makes, for a word and an address.
+fn fill_bytes<const W: u32, V: Values>(v: &mut V, word: u32, at: u32) -> Put<()>
+    requires whole { V.giving.broken v.old ≡ false }
+    ensures gives { GivesIn V.giving v.old v.new (byte_values W word at) result }
+    ensures whole { OnOk result (V.giving.broken v.new ≡ false) }
+{
+    if W == 16 {
+        give_values(v, &[F::from(byte_of(word, at % 2))])
+    } else {
+        give_values(
+            v,
+            &[
+                F::from(byte_of(word, at % 2)),
+                F::from(byte_of(word, 2 + at % 2)),
+                F::from(byte_of(word, at % 4)),
+            ],
+        )
+    }
+}
+
+// The values of the wires that `put_new` makes.
+fn new_values<const W: u32>(state: &TraceState, step: &StepNumbers) -> [F; 3]
+    requires width { IsWidth W }
+    requires step { AreNumbers W (traced_view state.now) step.now }
+    ensures { result ≡ new_values W step.now.n (traced_view state.now) step.now.instr
+        step.now.spelled step.now.low step.now.aux }
+{
+    let change = gained(step.low, step.operand % (W / 8), step.spelled % 256);
+    let changed = if step.instr.op == STORE_B {
+        change
+    } else {
+        F::ZERO
+    };
+    let new = if step.instr.op == STORE_W {
+        step.other
+    } else if step.instr.op == STORE_B {
+        with_byte::<W>(step.low, step.operand % (W / 8), step.other % 256)
+    } else {
+        step.old
+    };
+    [change, changed, F::from(new)]
+}
+
+// 256 to the power of a byte's number.
+fn power_of(j: u32) -> u32
+    requires { j < 4 }
+    ensures power { result ≡ 256 ^ j }
+    ensures some { 1 ≤ result }
+{
+    match j {
+        0 => 1,
+        1 => 256,
+        2 => 65_536,
+        _ => 16_777_216,
+    }
+}
+
+/// A byte of a word, by its number from the lowest on.
+pub(crate) fn byte_of(word: u32, j: u32) -> u32
+    requires { j < 4 }
+    ensures { result ≡ byte_of word j }
+{
+    word / power_of(j) % 256
+}
+
+// What a word gains by another byte in place of its byte number `j`.
+fn gained(word: u32, j: u32, byte: u32) -> F
+    requires { j < 4 }
+    ensures { result ≡ gained word j byte }
+{
+    F::from(power_of(j)) * (F::from(byte) - F::from(byte_of(word, j)))
+}
+
+// A word with another byte in place of its byte number `j`.
+fn with_byte<const W: u32>(word: u32, j: u32, byte: u32) -> u32
+    requires width { IsWidth W }
+    requires fits { word < 2 ^ W }
+    requires place { j < W / 8 }
+    requires byte { byte < 256 }
+    ensures { result ≡ with_byte_in word j byte }
+{
+    let power = u64::from(power_of(j));
+    let old = u64::from(byte_of(word, j));
+    (u64::from(word) + u64::from(byte) * power - old * power) as u32
+}
+
+/// An assignment that meets the constraints has the data line of the step, and the byte.
+pub fn memory_is_sound()
+    ensures { MemoryIsSound }
+{}
+
+/// An assignment that has the data line of the step and the byte meets the constraints.
+pub fn memory_is_complete()
+    ensures { MemoryIsComplete }
+{}
+
+/// Says which wires `put_memory` answers, and that `fill_memory` assigns one number to each wire
+/// that it makes.
+#[tactic(auto, using(crate::proofs::MemoryFills::memory_sizes))]
+pub fn memory_fills()
+    ensures { MemorySizes }
+{}
+
+/// Says how many constraints and terms memory costs.
+#[tactic(auto, using(crate::proofs::MemoryFills::memory_costs))]
+pub fn memory_costs()
+    ensures { MemoryCosts }
+{}

@@ -1,0 +1,96 @@
+//! The operand of an instruction.
+ghost use Rattle.std.specs.Prelude.{◌≡◌, ◌+◌, ◌-◌, ◌≤◌, ◌<◌, ◌^◌, false, length, IfOk, OnOk};
+ghost use Rattle.tv_bits.specs.Bits.{bits_of};
+ghost use Rattle.tv_core.specs.Combinations.{wire, scaled, top};
+ghost use Rattle.tv_core.specs.Giving.{GivesIn};
+ghost use Rattle.tv_core.specs.Sinks.{PutsIn, Grows, Room};
+ghost use Rattle.tv_core.specs.declared.field.TheConstants.{P};
+ghost use Rattle.tv_parts.specs.Operand.{operand_of, operand_values, OperandIsSound};
+ghost use Rattle.tv_parts.specs.Operand.{OperandIsComplete, OperandSizes, OperandCosts};
+ghost use Rattle.tv_parts.specs.States.{OperandUnder};
+ghost use Rattle.tv_word.specs.Widths.{IsWidth};
+
+use crate::accumulation::accumulated;
+use crate::records::OperandWires;
+use crate::tapes::set_terms;
+use tv_bits::{Bits, fill_bits, new_bits_by};
+use tv_core::{F, Put, Scratch, Sink, Values, Wire};
+
+/// Constrains the operand of an instruction, with its bits: the second word `tail` where the
+/// immediate bit `imm` is 1, else the register that this names. It makes `W + 1` wires and `W + 2`
+/// constraints, of `4 W + 7` terms.
+pub fn put_operand<const W: u32, S: Sink>(
+    s: &mut S,
+    scratch: &mut Scratch,
+    imm: Wire,
+    tail: Wire,
+    register: Wire,
+) -> Put<OperandWires>
+    requires width { IsWidth W }
+    requires room { Room S.meaning s.old (W + 1) (W + 2) }
+    requires imm_made { imm < S.meaning.wires s.old }
+    requires tail_made { tail < S.meaning.wires s.old }
+    requires register_made { register < S.meaning.wires s.old }
+    ensures puts { PutsIn S.meaning s.old s.new (operand_of W imm tail register) result }
+    ensures grows { IfOk result (λ _. Grows S.meaning s.old s.new (W + 1) (W + 2)) }
+    ensures below { IfOk result (λ made. OperandUnder W (S.meaning.wires s.new) made) }
+{
+    let minus = -F::ONE;
+    scratch.a.set_wire(imm);
+    set_terms(&mut scratch.b, &[(F::ONE, tail), (minus, register)]);
+    scratch.c.clear();
+    scratch.c.plus_scaled(minus, &[(F::ONE, register)]);
+    let word = accumulated(s, &mut scratch.c, &scratch.a, &scratch.b)?;
+    let bits = bits_of_wire::<W, S>(s, scratch, word)?;
+    Ok(OperandWires { word, bits })
+}
+
+// The bits of the word at a wire.
+fn bits_of_wire<const W: u32, S: Sink>(s: &mut S, scratch: &mut Scratch, word: Wire) -> Put<Bits>
+    requires width { IsWidth W }
+    requires room { Room S.meaning s.old W (W + 1) }
+    requires word_made { word < S.meaning.wires s.old }
+    ensures puts { PutsIn S.meaning s.old s.new (bits_of (wire word) W) result }
+    ensures grows { IfOk result (λ _. Grows S.meaning s.old s.new W (W + 1)) }
+    ensures size { IfOk result (λ bits. bits.n ≡ W) }
+    ensures below { IfOk result (λ bits. bits.first + W ≤ S.meaning.wires s.new) }
+{
+    let bits = new_bits_by(s, &mut scratch.a, W)?;
+    bits.fill(&mut scratch.a);
+    scratch.b.set_wire(Wire(0));
+    scratch.c.set_wire(word);
+    s.put(&scratch.a, &scratch.b, &scratch.c)?;
+    Ok(bits)
+}
+
+/// Assigns the `W + 1` values of the wires that `put_operand` makes for an operand.
+pub fn fill_operand<const W: u32, V: Values>(v: &mut V, a: u32) -> Put<()>
+    requires width { IsWidth W }
+    requires whole { V.giving.broken v.old ≡ false }
+    ensures gives { GivesIn V.giving v.old v.new (operand_values W a) result }
+    ensures whole { OnOk result (V.giving.broken v.new ≡ false) }
+{
+    v.give(F::from(a))?;
+    fill_bits(v, F::from(a), W)
+}
+
+/// An assignment that meets the constraints has the operand and its bits.
+pub fn operand_is_sound()
+    ensures { OperandIsSound }
+{}
+
+/// An assignment that has the operand and its bits meets the constraints.
+pub fn operand_is_complete()
+    ensures { OperandIsComplete }
+{}
+
+/// Says which wires `put_operand` answers, and that `fill_operand` assigns one number to each wire
+/// that it makes.
+pub fn operand_fills()
+    ensures { OperandSizes }
+{}
+
+/// Says how many constraints and terms the operand costs.
+pub fn operand_costs()
+    ensures { OperandCosts }
+{}

@@ -1,0 +1,221 @@
+//! The program counter after a step.
+ghost use Rattle.std.specs.Prelude.{◌≡◌, ◌+◌, ◌-◌, ◌*◌, ◌/◌, ◌≤◌, ◌<◌, ◌^◌, ◌++◌, ◌%◌, ◌==◌, if◌then◌else◌, false, length, max, IfOk, OnOk};
+ghost use Rattle.tv_core.specs.Combinations.{wire, scaled, top};
+ghost use Rattle.tv_core.specs.Sinks.{PutsIn, Grows, Room};
+ghost use Rattle.tv_core.specs.declared.field.TheConstants.{P};
+ghost use Rattle.tv_parts.specs.Pc.{from_last, after_in, jump_in, pc_of, PcIsSound, PcIsComplete, PcSizes};
+ghost use Rattle.tv_parts.specs.Pc.{PcCosts, pc_values};
+ghost use Rattle.tv_parts.specs.Traced.{traced_view, AreNumbers};
+ghost use Rattle.tv_isa.specs.Opcodes.{chosen};
+ghost use Rattle.tv_numbers.specs.Tables.{behind_pc, target, pcs};
+ghost use Rattle.tv_numbers.specs.Views.{flag_of};
+ghost use Rattle.tv_core.specs.Inverse.{inverse_of};
+ghost use Rattle.tv_core.specs.Giving.{GivesIn};
+ghost use Rattle.tv_parts.specs.States.{StateUnder};
+ghost use Rattle.tv_word.specs.Widths.{IsWidth};
+
+use crate::accumulation::accumulated;
+use crate::opcode_sums::opcode_wire;
+use crate::records::StateWires;
+use crate::step_numbers::StepNumbers;
+use crate::tapes::{if_zero, inverse_where, set_terms};
+use tv_bits::{Bits, times_by};
+use tv_core::{F, Lc, Put, Scratch, Sink, Values, Wire, give_values};
+use tv_isa::opcode::{AND, ANSWER, CJMP, CMOV, CNJMP, JMP, READ, STORE_B};
+use tv_step::TraceState;
+use tv_word::arithmetic::sum;
+
+/// Constrains the program counter after a step: `op` is the row of its opcode, and `a` the bits of
+/// its operand. It makes 4 wires and 4 constraints.
+pub fn put_pc<const W: u32, S: Sink>(
+    s: &mut S,
+    scratch: &mut Scratch,
+    state: &StateWires,
+    op: Wire,
+    a: &Bits,
+) -> Put<Wire>
+    requires width { IsWidth W }
+    requires room { Room S.meaning s.old 4 4 }
+    requires state_made { StateUnder (S.meaning.wires s.old) state.now }
+    requires op_made { op + 29 ≤ S.meaning.wires s.old }
+    requires a_word { a.now.n ≡ W }
+    requires a_made { a.now.first + W ≤ S.meaning.wires s.old }
+    ensures puts { PutsIn S.meaning s.old s.new (pc_of W state.now op a.now) result }
+    ensures grows { IfOk result (λ _. Grows S.meaning s.old s.new 4 4) }
+    ensures below { IfOk result (λ w. w < S.meaning.wires s.new) }
+{
+    let minus = -F::ONE;
+    let answers = opcode_wire(op, ANSWER);
+    let unless = opcode_wire(op, CNJMP);
+    let goes = [(F::ONE, Wire(0)), (minus, answers)];
+    set_from_last::<W>(&mut scratch.a, state.pc);
+    let wraps = if_zero(s, &mut scratch.b, &mut scratch.c, &goes, &scratch.a)?;
+    scratch.a.set_wire(state.flag);
+    set_terms(
+        &mut scratch.b,
+        &[(F::ONE, opcode_wire(op, CJMP)), (minus, unless)],
+    );
+    let by_flag = times_by(s, &mut scratch.c, &scratch.a, &scratch.b)?;
+    set_terms(
+        &mut scratch.a,
+        &[
+            (F::ONE, opcode_wire(op, JMP)),
+            (F::ONE, unless),
+            (F::ONE, by_flag),
+        ],
+    );
+    set_jump::<W>(&mut scratch.b, state.pc, answers, a, wraps);
+    set_after::<W>(&mut scratch.c, state.pc, answers, wraps);
+    accumulated(s, &mut scratch.c, &scratch.a, &scratch.b)
+}
+
+// Sets `lc` to the program counter less the last instruction's.
+fn set_from_last<const W: u32>(lc: &mut Lc, pc: Wire)
+    requires width { IsWidth W }
+    ensures terms { lc.new ≡ from_last W pc }
+    ensures top { top lc.new ≡ pc + 1 }
+{
+    let last = F::of((1 << W) - u64::from(W / 4));
+    set_terms(lc, &[(-last, Wire(0)), (F::ONE, pc)]);
+}
+
+// Sets `lc` to the place to which a jump goes less the place after the instruction.
+fn set_jump<const W: u32>(lc: &mut Lc, pc: Wire, answers: Wire, a: &Bits, wraps: Wire)
+    requires width { IsWidth W }
+    requires word { a.now.n ≡ W }
+    requires within { a.now.first + W < 2 ^ 32 }
+    ensures terms { lc.new ≡ jump_in W pc answers a.now wraps }
+    ensures top { top lc.new ≤ max (max (pc + 1) (answers + 1)) (max (a.now.first + W) (wraps + 1)) }
+{
+    let size = F::from(W / 4);
+    set_terms(lc, &[(-size, Wire(0)), (-F::ONE, pc), (size, answers)]);
+    a.above(W / 16 + 1).plus_to(lc, size);
+    lc.plus(F::of(1 << W), wraps);
+}
+
+// Sets `lc` to the place after the instruction, with its coefficients negated.
+fn set_after<const W: u32>(lc: &mut Lc, pc: Wire, answers: Wire, wraps: Wire)
+    requires width { IsWidth W }
+    ensures terms { lc.new ≡ scaled (P - 1) (after_in W pc answers wraps) }
+    ensures top { top lc.new ≤ max (max (pc + 1) (answers + 1)) (wraps + 1) }
+    ensures len { length lc.new ≡ 4 }
+{
+    let size = F::from(W / 4);
+    lc.clear();
+    lc.plus_scaled(
+        -F::ONE,
+        &[
+            (size, Wire(0)),
+            (F::ONE, pc),
+            (-size, answers),
+            (-F::of(1 << W), wraps),
+        ],
+    );
+}
+
+/// Assigns the 4 values of the wires that `put_pc` makes.
+pub fn fill_pc<const W: u32, V: Values>(
+    v: &mut V,
+    state: &TraceState,
+    step: &StepNumbers,
+) -> Put<()>
+    requires width { IsWidth W }
+    requires step { AreNumbers W (traced_view state.now) step.now }
+    requires whole { V.giving.broken v.old ≡ false }
+    ensures gives { GivesIn V.giving v.old v.new (pc_values W (traced_view state.now)
+        step.now.instr) result }
+    ensures whole { OnOk result (V.giving.broken v.new ≡ false) }
+{
+    give_values(v, &pc_values::<W>(state, step))
+}
+
+// The values of the wires that `put_pc` makes.
+fn pc_values<const W: u32>(state: &TraceState, step: &StepNumbers) -> [F; 4]
+    requires width { IsWidth W }
+    requires step { AreNumbers W (traced_view state.now) step.now }
+    ensures { result ≡ pc_values W (traced_view state.now) step.now.instr }
+{
+    let op = step.instr.op;
+    let from = less_last::<W>(state.pc);
+    let by_flag = F::from(op == CJMP) - F::from(op == CNJMP);
+    [
+        F::from(from == F::ZERO && op != ANSWER),
+        inverse_where(from, op != ANSWER),
+        F::from(state.flag) * by_flag,
+        F::from(pc_after::<W>(op, state.pc, step.operand, state.flag)),
+    ]
+}
+
+// The program counter less the last instruction's.
+fn less_last<const W: u32>(pc: u32) -> F
+    requires width { IsWidth W }
+    ensures { result ≡ (pc + (P - (2 ^ W - W / 4))) % P }
+{
+    F::from(pc) - F::of((1 << W) - u64::from(W / 4))
+}
+
+// The place after an instruction, which is the first one after the last.
+fn place_after<const W: u32>(pc: u32) -> u32
+    requires width { IsWidth W }
+    ensures { result ≡ behind_pc W pc }
+{
+    sum::<W>(pc, W / 4)
+}
+
+// The place to which a jump goes.
+fn target<const W: u32>(a: u32) -> u32
+    requires width { IsWidth W }
+    ensures { result ≡ target W a }
+{
+    a - a % (W / 4)
+}
+
+// The place to which a jump goes where the flag is set, and else the place after it.
+fn jumped<const W: u32>(pc: u32, a: u32, flag: bool) -> u32
+    requires width { IsWidth W }
+    ensures { result ≡ (if flag_of flag == 1 then target W a else behind_pc W pc) }
+{
+    if flag {
+        target::<W>(a)
+    } else {
+        place_after::<W>(pc)
+    }
+}
+
+// The program counter after an instruction.
+fn pc_after<const W: u32>(op: u8, pc: u32, a: u32, flag: bool) -> u32
+    requires width { IsWidth W }
+    ensures { result ≡ chosen (pcs W pc a (flag_of flag)) op }
+{
+    match op {
+        JMP => target::<W>(a),
+        CJMP => jumped::<W>(pc, a, flag),
+        CNJMP => jumped::<W>(pc, a, !flag),
+        ANSWER => pc,
+        AND..=CMOV | STORE_B..=READ => place_after::<W>(pc),
+        _ => 0,
+    }
+}
+
+/// An assignment that meets the constraints has the program counter after the step.
+pub fn pc_is_sound()
+    ensures { PcIsSound }
+{}
+
+/// An assignment that has the program counter after the step meets the constraints.
+pub fn pc_is_complete()
+    ensures { PcIsComplete }
+{}
+
+/// Says which wire `put_pc` answers, and that `fill_pc` assigns one number to each wire that it
+/// makes.
+#[tactic(auto, using(crate::proofs::PcFills::pc_sizes))]
+pub fn pc_fills()
+    ensures { PcSizes }
+{}
+
+/// Says how many constraints and terms the program counter costs.
+#[tactic(auto, using(crate::proofs::PcFills::pc_costs))]
+pub fn pc_costs()
+    ensures { PcCosts }
+{}

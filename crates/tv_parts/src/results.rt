@@ -1,0 +1,312 @@
+//! The result of a step, and the number whose test for 0 is its flag.
+ghost use Rattle.std.specs.Prelude.{◌≡◌, ◌+◌, ◌-◌, ◌*◌, ◌/◌, ◌%◌, ◌≤◌, ◌<◌, ◌^◌, ◌++◌, ◌==◌, ◌||◌};
+ghost use Rattle.std.specs.Prelude.{if◌then◌else◌, length, max, IfOk};
+ghost use Rattle.std.specs.Int.{bit_at};
+ghost use Rattle.tv_core.specs.Combinations.{wire, scaled, top};
+ghost use Rattle.tv_core.specs.Sinks.{PutsIn, Grows, Room};
+ghost use Rattle.tv_core.specs.declared.field.TheConstants.{P};
+ghost use Rattle.tv_parts.specs.Results.{parts_in, signs_in, result_of, tested_of, results_of};
+ghost use Rattle.tv_parts.specs.Results.{sign_of};
+ghost use Rattle.tv_parts.specs.Results.{ResultsAreSound, ResultsAreComplete, ResultsSizes};
+ghost use Rattle.tv_parts.specs.Results.{ResultsCosts};
+ghost use Rattle.tv_parts.specs.States.{StateUnder, TapesUnder, SourcesUnder, ResultUnder};
+ghost use Rattle.tv_parts.specs.Results.{low_part, high_part, moved_part, result_number};
+ghost use Rattle.tv_parts.specs.Results.{tested_number, results_values, place_bits};
+ghost use Rattle.tv_isa.specs.declared.opcode.TheConstants.{NOT, LOAD_B};
+ghost use Rattle.tv_mem.specs.Bytes.{byte_of};
+ghost use Rattle.tv_step.specs.Rows.{word_size};
+ghost use Rattle.tv_word.specs.Widths.{IsWidth};
+
+use crate::accumulation::accumulated;
+use crate::memory::byte_of;
+use crate::opcode_sums::{opcode_wire, plus_opcodes, set_opcodes};
+use crate::records::{ResultWires, Sources, StateWires, TapeWires};
+use crate::step_numbers::StepNumbers;
+use crate::tapes::set_terms;
+use tv_bits::{Bits, times_by};
+use tv_core::{F, Lc, Put, Scratch, Sink, Wire};
+use tv_isa::opcode::{
+    ADD, AND, CMOV, CMPA, CMPAE, CMPE, CMPG, CMPGE, LOAD_B, LOAD_W, MOV, MULL, NOT, OR, SHL, SHR,
+    SMULH, SUB, UDIV, UMOD, UMULH, XOR,
+};
+use tv_word::arithmetic::sign_bit;
+
+/// Constrains the result of a step, and the number whose test for 0 is its flag: `op` is the row of
+/// its opcode, and `a` the bits of its operand. It makes 5 wires and 8 constraints.
+pub fn put_results<const W: u32, S: Sink>(
+    s: &mut S,
+    scratch: &mut Scratch,
+    state: &StateWires,
+    op: Wire,
+    a: &Bits,
+    from: &Sources,
+    tapes: &TapeWires,
+) -> Put<ResultWires>
+    requires width { IsWidth W }
+    requires room { Room S.meaning s.old 5 8 }
+    requires state_made { StateUnder (S.meaning.wires s.old) state.now }
+    requires op_made { op + 29 ≤ S.meaning.wires s.old }
+    requires a_word { a.now.n ≡ W }
+    requires a_made { a.now.first + W ≤ S.meaning.wires s.old }
+    requires from_made { SourcesUnder (S.meaning.wires s.old) from.now }
+    requires tapes_made { TapesUnder (S.meaning.wires s.old) tapes.now }
+    ensures puts { PutsIn S.meaning s.old s.new (results_of W state.now op a.now from.now tapes.now)
+        result }
+    ensures grows { IfOk result (λ _. Grows S.meaning s.old s.new 5 8) }
+    ensures below { IfOk result (λ made. ResultUnder (S.meaning.wires s.new) made) }
+{
+    let word = put_result::<W, S>(s, scratch, state, op, from, tapes)?;
+    let tested = put_tested::<W, S>(s, scratch, op, a, from, word)?;
+    Ok(ResultWires { word, tested })
+}
+
+// Constrains the result.
+fn put_result<const W: u32, S: Sink>(
+    s: &mut S,
+    scratch: &mut Scratch,
+    state: &StateWires,
+    op: Wire,
+    from: &Sources,
+    tapes: &TapeWires,
+) -> Put<Wire>
+    requires width { IsWidth W }
+    requires room { Room S.meaning s.old 4 4 }
+    requires state_made { StateUnder (S.meaning.wires s.old) state.now }
+    requires op_made { op + 29 ≤ S.meaning.wires s.old }
+    requires from_made { SourcesUnder (S.meaning.wires s.old) from.now }
+    requires tapes_made { TapesUnder (S.meaning.wires s.old) tapes.now }
+    ensures puts { PutsIn S.meaning s.old s.new (result_of W state.now op from.now tapes.now)
+        result }
+    ensures grows { IfOk result (λ _. Grows S.meaning s.old s.new 4 4) }
+    ensures below { IfOk result (λ w. w < S.meaning.wires s.new) }
+{
+    let minus = -F::ONE;
+    let not = opcode_wire(op, NOT);
+    set_terms(&mut scratch.a, &[(minus, state.taken_of_primary)]);
+    plus_opcodes(
+        &mut scratch.a,
+        F::ONE,
+        op,
+        &[AND, OR, ADD, SUB, MULL, UMOD, SHL, CMPE, LOAD_W],
+    );
+    scratch
+        .a
+        .plus_terms(&[(F::ONE, tapes.taken), (F::ONE, tapes.takes)]);
+    scratch.b.set_wire(from.low);
+    let low = times_by(s, &mut scratch.c, &scratch.a, &scratch.b)?;
+    set_opcodes(&mut scratch.a, op, &[OR, XOR, UMULH, SMULH, UDIV, SHR]);
+    scratch.b.set_wire(from.high);
+    let high = times_by(s, &mut scratch.c, &scratch.a, &scratch.b)?;
+    set_terms(&mut scratch.a, &[(minus, not)]);
+    plus_opcodes(&mut scratch.a, F::ONE, op, &[MOV, CMOV]);
+    scratch.b.set_wire(from.operand);
+    let moved = times_by(s, &mut scratch.c, &scratch.a, &scratch.b)?;
+    scratch.a.set_wire(opcode_wire(op, LOAD_B));
+    scratch.b.set_wire(from.byte);
+    set_parts::<W>(&mut scratch.c, not, low, high, moved);
+    accumulated(s, &mut scratch.c, &scratch.a, &scratch.b)
+}
+
+// Sets `lc` to the parts of the result but the byte, with their coefficients negated.
+fn set_parts<const W: u32>(lc: &mut Lc, not: Wire, low: Wire, high: Wire, moved: Wire)
+    requires width { IsWidth W }
+    ensures terms { lc.new ≡ scaled (P - 1) (parts_in W not low high moved) }
+    ensures top { top lc.new ≤ max (max (not + 1) (low + 1)) (max (high + 1) (moved + 1)) }
+    ensures len { length lc.new ≡ 4 }
+{
+    lc.clear();
+    lc.plus_scaled(
+        -F::ONE,
+        &[
+            (F::of((1 << W) - 1), not),
+            (F::ONE, low),
+            (F::ONE, high),
+            (F::ONE, moved),
+        ],
+    );
+}
+
+// Sets `lc` to what is 0 where `y` is what smulh tests.
+fn set_signs<const W: u32>(lc: &mut Lc, sign: Wire, high: Wire, y: Wire)
+    requires width { IsWidth W }
+    ensures terms { lc.new ≡ signs_in W sign high y }
+    ensures top { top lc.new ≤ max (sign + 1) (max (high + 1) (y + 1)) }
+    ensures len { length lc.new ≡ 3 }
+{
+    let largest = F::of((1 << W) - 1);
+    set_terms(lc, &[(largest, sign), (-F::ONE, high), (F::ONE, y)]);
+}
+
+// Constrains the number that is tested.
+fn put_tested<const W: u32, S: Sink>(
+    s: &mut S,
+    scratch: &mut Scratch,
+    op: Wire,
+    a: &Bits,
+    from: &Sources,
+    word: Wire,
+) -> Put<Wire>
+    requires width { IsWidth W }
+    requires room { Room S.meaning s.old 1 4 }
+    requires op_made { op + 29 ≤ S.meaning.wires s.old }
+    requires a_word { a.now.n ≡ W }
+    requires a_made { a.now.first + W ≤ S.meaning.wires s.old }
+    requires from_made { SourcesUnder (S.meaning.wires s.old) from.now }
+    requires result_made { word < S.meaning.wires s.old }
+    ensures puts { PutsIn S.meaning s.old s.new (tested_of W op a.now from.now word) result }
+    ensures grows { IfOk result (λ _. Grows S.meaning s.old s.new 1 4) }
+    ensures below { IfOk result (λ w. w < S.meaning.wires s.new) }
+{
+    let minus = -F::ONE;
+    let y = s.fresh();
+    scratch.c.clear();
+    set_opcodes(&mut scratch.a, op, &[AND, OR, XOR, NOT, CMPE]);
+    set_terms(&mut scratch.b, &[(minus, word), (F::ONE, y)]);
+    s.put(&scratch.a, &scratch.b, &scratch.c)?;
+    set_opcodes(
+        &mut scratch.a,
+        op,
+        &[ADD, SUB, MULL, UMULH, CMPA, CMPAE, CMPG, CMPGE],
+    );
+    set_terms(&mut scratch.b, &[(minus, from.high), (F::ONE, y)]);
+    s.put(&scratch.a, &scratch.b, &scratch.c)?;
+    scratch.a.set_wire(opcode_wire(op, SMULH));
+    set_signs::<W>(&mut scratch.b, from.top, from.high, y);
+    s.put(&scratch.a, &scratch.b, &scratch.c)?;
+    set_opcodes(&mut scratch.a, op, &[SHL, SHR]);
+    scratch.b.clear();
+    a.above(W / 16 + 3).plus_to(&mut scratch.b, minus);
+    scratch.b.plus(F::ONE, y);
+    s.put(&scratch.a, &scratch.b, &scratch.c)?;
+    Ok(y)
+}
+
+/// Sets `lc` to the sign of the flag's test.
+pub fn set_sign(lc: &mut Lc, op: Wire)
+    requires within { op + 29 ≤ 2 ^ 32 }
+    ensures terms { lc.new ≡ sign_of op }
+    ensures top { top lc.new ≤ op + 29 }
+    ensures len { length lc.new ≡ 18 }
+{
+    let minus = -F::ONE;
+    set_opcodes(lc, op, &[AND, OR, XOR, NOT]);
+    plus_opcodes(lc, minus, op, &[ADD]);
+    plus_opcodes(lc, F::ONE, op, &[SUB]);
+    plus_opcodes(lc, minus, op, &[MULL, UMULH, SMULH]);
+    plus_opcodes(lc, F::ONE, op, &[UDIV, UMOD, SHL, SHR, CMPE]);
+    plus_opcodes(lc, minus, op, &[CMPA, CMPAE, CMPG, CMPGE]);
+}
+
+/// Returns the values of the wires that `put_results` makes; the last is the number that is tested.
+pub fn results_values<const W: u32>(step: &StepNumbers) -> [F; 5]
+    requires width { IsWidth W }
+    requires operand { step.now.operand < 2 ^ W }
+    requires low { step.now.low < 2 ^ W }
+    requires high { step.now.high < 2 ^ W }
+    ensures { result ≡ results_values W step.now.instr.op step.now.operand step.now.low
+        step.now.high step.now.found }
+{
+    let op = step.instr.op;
+    let low = low_part(op, step.low, step.found);
+    let high = high_part(op, step.high);
+    let moved = moved_part(op, step.operand);
+    let rest = rest_part::<W>(op, step.operand, step.low);
+    let result = low + high + moved + rest;
+    let tested = tested_number::<W>(op, step.operand, step.low, step.high, result);
+    [low, high, moved, result, tested]
+}
+
+// The low half of the row where the result has it as a part, else 0.
+fn low_part(op: u8, low: u32, found: bool) -> F
+    ensures { result ≡ low_part op low found }
+{
+    match op {
+        AND | OR | ADD | SUB | MULL | UMOD | SHL | CMPE | LOAD_W => F::from(low),
+        _ if found => F::from(low),
+        _ => F::ZERO,
+    }
+}
+
+// The high half of the row where the result has it as a part, else 0.
+fn high_part(op: u8, high: u32) -> F
+    ensures { result ≡ high_part op high }
+{
+    match op {
+        OR | XOR | UMULH | SMULH | UDIV | SHR => F::from(high),
+        _ => F::ZERO,
+    }
+}
+
+// The operand where the result has it as a part, negated at not, else 0.
+fn moved_part(op: u8, a: u32) -> F
+    ensures { result ≡ moved_part op a }
+{
+    match op {
+        NOT => -F::from(a),
+        MOV | CMOV => F::from(a),
+        _ => F::ZERO,
+    }
+}
+
+// The greatest word at not, and the byte at a load of one, else 0.
+fn rest_part<const W: u32>(op: u8, a: u32, low: u32) -> F
+    requires width { IsWidth W }
+    ensures { result ≡ (if op == NOT then 2 ^ W - 1 else if op == LOAD_B then byte_of low (a %
+        word_size W) else 0) }
+{
+    match op {
+        NOT => F::of((1 << W) - 1),
+        LOAD_B => F::from(byte_of(low, a % (W / 8))),
+        _ => F::ZERO,
+    }
+}
+
+// The number that is tested, which is the operand at a division.
+fn tested_number<const W: u32>(op: u8, a: u32, low: u32, high: u32, word: F) -> F
+    requires width { IsWidth W }
+    ensures { result ≡ tested_number W op a low high word }
+{
+    match op {
+        UDIV | UMOD => F::from(a),
+        AND | OR | XOR | NOT | CMPE => word,
+        ADD | SUB | MULL | UMULH | CMPA | CMPAE | CMPG | CMPGE => F::from(high),
+        SMULH => signs::<W>(low, high),
+        SHL | SHR => F::from(a >> (W / 16 + 3)),
+        _ => F::ZERO,
+    }
+}
+
+// The high half less 2^W - 1 times the low half's top bit.
+fn signs<const W: u32>(low: u32, high: u32) -> F
+    requires width { IsWidth W }
+    ensures { result ≡ (high + (P - (2 ^ W - 1) * bit_at low (W - 1))) % P }
+{
+    if sign_bit::<W>(low) {
+        F::from(high) - F::of((1 << W) - 1)
+    } else {
+        F::from(high)
+    }
+}
+
+/// An assignment that meets the constraints has the result, and the number that is tested.
+pub fn results_are_sound()
+    ensures { ResultsAreSound }
+{}
+
+/// An assignment that has the result and the number that is tested meets the constraints.
+pub fn results_are_complete()
+    ensures { ResultsAreComplete }
+{}
+
+/// Says which wires `put_results` answers, and that `results_values` returns one number for each
+/// wire that it makes.
+#[tactic(auto, using(crate::proofs::ResultFills::results_sizes))]
+pub fn results_fill()
+    ensures { ResultsSizes }
+{}
+
+/// Says how many constraints and terms the result costs.
+#[tactic(auto, using(crate::proofs::ResultFills::results_costs))]
+pub fn results_cost()
+    ensures { ResultsCosts }
+{}
