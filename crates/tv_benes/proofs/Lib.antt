@@ -1,7 +1,9 @@
 pub mod Bounds
 pub mod ColumnChain
 pub mod CostLaws
+pub mod Ends
 pub mod Measures
+pub mod Most
 pub mod Moved
 pub mod NetworkChain
 pub mod NetworkComplete

@@ -1,9 +1,9 @@
 -- Items that are moved along: lists of what stands at each place, and that a network does the same
 -- with items that are the same at the places that it has.
 use Rattle.std.proofs.Common.{◌≡◌, ℕ, zero, suc, ◌+◌, ◌-◌, ◌*◌, ◌/◌, ◌^◌, ◌<◌, ◌≤◌, inl, inr}
-use Rattle.std.proofs.Common.{Bool, false, if◌then◌else◌, List, [], ◌∷◌, ◌++◌, length, get_or, set}
+use Rattle.std.proofs.Common.{Bool, if◌then◌else◌, List, [], ◌∷◌, ◌++◌, length, get_or, set}
 use Rattle.std.proofs.Common.{refl, sym, ◌∙◌, ap, ap₂, subst, arith, length-append}
-use Rattle.std.proofs.lemmas.Bool.{cases_lt, lt-ltb, le-ltb, ne_eqb}
+use Rattle.std.proofs.lemmas.Bool.{cases_lt, lt-ltb, le-ltb}
 use Rattle.std.proofs.lemmas.List.{append-nil, get_or_default, length-set}
 use Rattle.std.proofs.lemmas.List.Edits.{fill_by_more}
 use Rattle.std.proofs.lemmas.List.FromFn.{fill_by_all}
@@ -13,14 +13,15 @@ use Rattle.tv_benes.proofs.ColumnChain.{one_switch, switch_refused, values_as}
 use Rattle.tv_benes.proofs.Permuting.{alternating-even, alternating-odd}
 use Rattle.tv_benes.proofs.Permuting.{places-length, places-at, places-same}
 use Rattle.tv_benes.proofs.Sources.{from_from, last_even, last_odd}
-use Rattle.tv_benes.proofs.ThroughLaws.{twice, missing_small}
+use Rattle.tv_benes.proofs.ThroughLaws.{twice, missing_small, kept_bit}
 use Rattle.tv_benes.proofs.ThroughLaws.{passed-same, alternating-same, joined-same, through-same}
 use Rattle.tv_benes.specs.Items.{pair_at}
-use Rattle.tv_benes.specs.Network.{switch_values, column_values, last_column_values, network_values}
+use Rattle.tv_benes.specs.Levels.{other, innermost}
+use Rattle.tv_benes.specs.Network.{switch_values, column_values, last_column_values, level_values}
 use Rattle.tv_benes.specs.Through.{switches, missing, from, passed, to_upper, to_lower, alternating}
 use Rattle.tv_benes.specs.Through.{joined, last_bit, through, places}
+use Rattle.tv_benes.specs.declared.shape.Form.{Form}
 use Rattle.tv_benes.specs.declared.shape.Net.{Net}
-use Rattle.tv_benes.specs.declared.shape.Net.TheVariants.{Benes, Waksman}
 use Rattle.tv_core.proofs.GivingChain.{gives_then}
 use Rattle.tv_core.specs.Giving.{Giving, GivesAll, GivesSome}
 use Rattle.tv_core.specs.declared.lines.PairNum.{PairNum}
@@ -35,21 +36,21 @@ abbrev pub taken : Net → (ℕ → PairNum) → (ℕ → PairNum) → ℕ → P
 taken net u l i = alternating u l (i + 2 * missing net)
 
 -- ---- the same items have the same values
-pub column_values-same : (n : ℕ) (bit : ℕ → Bool) (item item' : ℕ → PairNum)
-    → SameBelow (2 * n) item item' → column_values n bit item ≡ column_values n bit item'
+pub column_values-same : (form : Form) (n : ℕ) (bit : ℕ → Bool) (item item' : ℕ → PairNum)
+    → SameBelow (2 * n) item item' → column_values form n bit item ≡ column_values form n bit item'
 unfolding column_values
-column_values-same zero bit item item' same = refl
-column_values-same (suc n) bit item item' same =
-    ap₂ (λ xs ys. xs ++ ys) (column_values-same n bit item item' (λ j h. same j (omega arith)))
-    (values_as (bit n) (bit n) _ _ _ _ refl (same (2 * n) (omega arith)) (same (2 * n + 1) (omega arith)))
+column_values-same form zero bit item item' same = refl
+column_values-same form (suc n) bit item item' same =
+    ap₂ (λ xs ys. xs ++ ys) (column_values-same form n bit item item' (λ j h. same j (omega arith)))
+    (values_as form (bit n) (bit n) _ _ _ _ refl (same (2 * n) (omega arith)) (same (2 * n + 1) (omega arith)))
 
-pub taken_values-same : (net : Net) (n : ℕ) (bit : ℕ → Bool) (u u' l l' : ℕ → PairNum)
+pub taken_values-same : (net : Net) (form : Form) (n : ℕ) (bit : ℕ → Bool) (u u' l l' : ℕ → PairNum)
     → 1 ≤ n → SameBelow n u u' → SameBelow n l l'
-    → column_values (n - missing net) bit (taken net u l) ≡ column_values (n - missing net) bit (taken net u' l')
-taken_values-same net n bit u u' l l' some up low =
+    → column_values form (n - missing net) bit (taken net u l) ≡ column_values form (n - missing net) bit (taken net u' l')
+taken_values-same net form n bit u u' l l' some up low =
     let one = missing_small net in
     let m = missing net in
-    column_values-same (n - m) bit (taken net u l) (taken net u' l') (λ i h.
+    column_values-same form (n - m) bit (taken net u l) (taken net u' l') (λ i h.
     alternating-same u u' l l' (i + 2 * m) (up ((i + 2 * m) / 2) (omega arith)) (low ((i + 2 * m) / 2) (omega arith)))
 
 module _ (n : ℕ) (bit : ℕ → Bool) (item item' : ℕ → PairNum) (same : SameBelow (2 * n) item item') where
@@ -59,11 +60,11 @@ module _ (n : ℕ) (bit : ℕ → Bool) (item item' : ℕ → PairNum) (same : S
   lower-same : SameBelow n (to_lower bit item) (to_lower bit item')
   lower-same j h = passed-same (bit j) (bit j) _ _ _ _ refl (same (2 * j + 1) (omega arith)) (same (2 * j) (omega arith))
 
-pub network_values-same : (net : Net) (h : ℕ) (bit : ℕ → Bool) (item item' : ℕ → PairNum)
-    → SameBelow (2 ^ suc h) item item' → network_values net h bit item ≡ network_values net h bit item'
-unfolding network_values
-network_values-same net zero bit item item' same = column_values-same 1 bit item item' (λ j h. same j (omega arith))
-network_values-same net (suc h) bit item item' same =
+pub level_values-same : (net : Net) (form : Form) (h : ℕ) (bit : ℕ → Bool) (item item' : ℕ → PairNum)
+    → SameBelow (2 ^ suc h) item item' → level_values net form h bit item ≡ level_values net form h bit item'
+unfolding level_values
+level_values-same net form zero bit item item' same = column_values-same (innermost net form) 1 bit item item' (λ j h. same j (omega arith))
+level_values-same net form (suc h) bit item item' same =
     let n = 2 ^ suc h in
     let s = switches net h in
     let two = twice (suc h) in
@@ -74,10 +75,10 @@ network_values-same net (suc h) bit item item' same =
     let u' = through net h (from n bit) (to_upper bit item') in
     let l = through net h (from (n + s) bit) (to_lower bit item) in
     let l' = through net h (from (n + s) bit) (to_lower bit item') in
-    ap₂ (λ xs ys. xs ++ ys) (column_values-same n bit item item' same')
-    (ap₂ (λ xs ys. xs ++ ys) (network_values-same net h (from n bit) (to_upper bit item) (to_upper bit item') up)
-    (ap₂ (λ xs ys. xs ++ ys) (network_values-same net h (from (n + s) bit) (to_lower bit item) (to_lower bit item') low)
-    (taken_values-same net n (from (n + 2 * s) bit) u u' l l' (pow_pos (suc h))
+    ap₂ (λ xs ys. xs ++ ys) (column_values-same form n bit item item' same')
+    (ap₂ (λ xs ys. xs ++ ys) (level_values-same net (other form) h (from n bit) (to_upper bit item) (to_upper bit item') up)
+    (ap₂ (λ xs ys. xs ++ ys) (level_values-same net (other form) h (from (n + s) bit) (to_lower bit item) (to_lower bit item') low)
+    (taken_values-same net form n (from (n + 2 * s) bit) u u' l l' (pow_pos (suc h))
     (through-same net h (from n bit) (from n bit) (to_upper bit item) (to_upper bit item') (λ j k. refl) up)
     (through-same net h (from (n + s) bit) (from (n + s) bit) (to_lower bit item) (to_lower bit item') (λ j k. refl) low))))
 
@@ -122,61 +123,55 @@ join_more bit u l xs j p q within first second before k h =
 no_refusal : {V : Type 0} (m : Giving V) (old new : V) (fault : SinkFault) → GivesSome m old new [] fault → ⊥
 no_refusal m old new fault p = let long = ap length p.at ∙ length-append p.front (p.refused ∷ p.back) in omega (arith, long)
 
--- the bit of a switch that there is
-kept_bit : (net : Net) (bit : ℕ → Bool) (j : ℕ) → missing net ≤ j → last_bit net bit j ≡ bit (j - missing net)
-kept_bit Waksman bit zero h = absurd (omega arith)
-kept_bit Waksman bit (suc j) h = ap (λ (c : Bool). if c then false else bit (suc j - 1)) (ne_eqb (suc j) 0 (λ e. absurd (omega arith)))
-kept_bit Benes bit j h = let same : j ≡ j - 0 = omega arith in ap bit same
-
-module _ {V : Type 0} (m : Giving V) (net : Net) (bit : ℕ → Bool) (u l : ℕ → PairNum) where
+module _ {V : Type 0} (m : Giving V) (net : Net) (form : Form) (bit : ℕ → Bool) (u l : ℕ → PairNum) where
   -- the values of switch j of them all
   abbrev pub values_of : ℕ → List ℕ
-  values_of j = if nat_lt j (missing net) then [] else switch_values (last_bit net bit j) (u j) (l j)
+  values_of j = if nat_lt j (missing net) then [] else switch_values form (last_bit net bit j) (u j) (l j)
 
   left_out : (j : ℕ) → j < missing net → values_of j ≡ []
-  left_out j h = ap (λ (c : Bool). if c then [] else switch_values (last_bit net bit j) (u j) (l j)) (lt-ltb j (missing net) h)
+  left_out j h = ap (λ (c : Bool). if c then [] else switch_values form (last_bit net bit j) (u j) (l j)) (lt-ltb j (missing net) h)
 
   put_in : (j : ℕ) → missing net ≤ j
-      → values_of j ≡ switch_values (bit (j - missing net)) (taken net u l (2 * (j - missing net))) (taken net u l (2 * (j - missing net) + 1))
+      → values_of j ≡ switch_values form (bit (j - missing net)) (taken net u l (2 * (j - missing net))) (taken net u l (2 * (j - missing net) + 1))
   put_in j h =
       let back : j ≡ j - missing net + missing net = omega arith in
-      ap (λ (c : Bool). if c then [] else switch_values (last_bit net bit j) (u j) (l j)) (le-ltb j (missing net) h)
-      ∙ values_as _ _ _ _ _ _ (kept_bit net bit j h) (ap u back ∙ sym (last_even u l (j - missing net) (missing net)))
+      ap (λ (c : Bool). if c then [] else switch_values form (last_bit net bit j) (u j) (l j)) (le-ltb j (missing net) h)
+      ∙ values_as form _ _ _ _ _ _ (kept_bit net bit j h) (ap u back ∙ sym (last_even u l (j - missing net) (missing net)))
       (ap l back ∙ sym (last_odd u l (j - missing net) (missing net)))
 
-  pub last_given : (j : ℕ) (old mid new : V) → GivesAll m old mid (column_values (j - missing net) bit (taken net u l))
-      → GivesAll m mid new (values_of j) → GivesAll m old new (column_values (j + 1 - missing net) bit (taken net u l))
+  pub last_given : (j : ℕ) (old mid new : V) → GivesAll m old mid (column_values form (j - missing net) bit (taken net u l))
+      → GivesAll m mid new (values_of j) → GivesAll m old new (column_values form (j + 1 - missing net) bit (taken net u l))
   last_given j old mid new p q = elim (cases_lt j (missing net)) [
     | inl h ↦
         let one = missing_small net in
         let same : j - missing net ≡ j + 1 - missing net = omega arith in
         let nothing = subst (λ (values : List ℕ). GivesAll m mid new values) (left_out j h) q in
-        subst (λ (n : ℕ). GivesAll m old new (column_values n bit (taken net u l))) same
-        (subst (λ (values : List ℕ). GivesAll m old new values) (append-nil (column_values (j - missing net) bit (taken net u l)))
+        subst (λ (n : ℕ). GivesAll m old new (column_values form n bit (taken net u l))) same
+        (subst (λ (values : List ℕ). GivesAll m old new values) (append-nil (column_values form (j - missing net) bit (taken net u l)))
         (gives_then m _ _ old mid new p nothing))
     | inr h ↦
         let next : j - missing net + 1 ≡ j + 1 - missing net = omega arith in
-        subst (λ (n : ℕ). GivesAll m old new (column_values n bit (taken net u l))) next
-        (one_switch m bit (taken net u l) (j - missing net) old mid new p (subst (λ (values : List ℕ). GivesAll m mid new values) (put_in j h) q))
+        subst (λ (n : ℕ). GivesAll m old new (column_values form n bit (taken net u l))) next
+        (one_switch m form bit (taken net u l) (j - missing net) old mid new p (subst (λ (values : List ℕ). GivesAll m mid new values) (put_in j h) q))
   ]
 
   pub last_refused : (n j : ℕ) (old mid new : V) (fault : SinkFault) → j < n
-      → GivesAll m old mid (column_values (j - missing net) bit (taken net u l)) → GivesSome m mid new (values_of j) fault
-      → GivesSome m old new (column_values (n - missing net) bit (taken net u l)) fault
+      → GivesAll m old mid (column_values form (j - missing net) bit (taken net u l)) → GivesSome m mid new (values_of j) fault
+      → GivesSome m old new (column_values form (n - missing net) bit (taken net u l)) fault
   last_refused n j old mid new fault within p q = elim (cases_lt j (missing net)) [
     | inl h ↦ absurd (no_refusal m mid new fault (subst (λ (values : List ℕ). GivesSome m mid new values fault) (left_out j h) q))
     | inr h ↦
-        switch_refused m bit (taken net u l) (n - missing net) (j - missing net) old mid new fault (omega arith) p
+        switch_refused m form bit (taken net u l) (n - missing net) (j - missing net) old mid new fault (omega arith) p
         (subst (λ (values : List ℕ). GivesSome m mid new values fault) (put_in j h) q)
   ]
 
 -- ---- the lowest level
-pub network_values-two : (net : Net) (h : ℕ) (bit : ℕ → Bool) (item : ℕ → PairNum) → h ≡ 0
-    → network_values net h bit item ≡ switch_values (bit 0) (item 0) (item 1)
-unfolding network_values column_values
-network_values-two net h bit item lowest = ap (λ l. network_values net l bit item) lowest ∙ by
+pub level_values-two : (net : Net) (form : Form) (h : ℕ) (bit : ℕ → Bool) (item : ℕ → PairNum) → h ≡ 0
+    → level_values net form h bit item ≡ switch_values (innermost net form) (bit 0) (item 0) (item 1)
+unfolding level_values column_values
+level_values-two net form h bit item lowest = ap (λ l. level_values net form l bit item) lowest ∙ by
   where
-    by : network_values net 0 bit item ≡ switch_values (bit 0) (item 0) (item 1)
+    by : level_values net form 0 bit item ≡ switch_values (innermost net form) (bit 0) (item 0) (item 1)
     by = refl
 
 pub through-two : (net : Net) (h : ℕ) (bit : ℕ → Bool) (item : ℕ → PairNum) → h ≡ 0
@@ -189,16 +184,16 @@ through-two net h bit item lowest = ap (λ l. places (2 ^ suc l) (through net l 
 
 -- ---- a level above it
 -- what a network of level k does with a list, and with the items f that the list has below n
-pub record DoesSame (net : Net) (k n : ℕ) (bit bit' : ℕ → Bool) (f : ℕ → PairNum) (xs : List PairNum) : Type 0 where
-  pub values : network_values net k bit (pair_at xs) ≡ network_values net k bit' f
+pub record DoesSame (net : Net) (form : Form) (k n : ℕ) (bit bit' : ℕ → Bool) (f : ℕ → PairNum) (xs : List PairNum) : Type 0 where
+  pub values : level_values net form k bit (pair_at xs) ≡ level_values net form k bit' f
   pub moved : (ys : List PairNum) → ys ≡ places (2 ^ suc k) (through net k bit (pair_at xs)) → ys ≡ places n (through net k bit' f)
 
-does_same : (net : Net) (k n : ℕ) → n ≡ 2 ^ suc k → (bit bit' : ℕ → Bool) → ◌≡◌ {A = ℕ → Bool} bit bit' → (f : ℕ → PairNum) (xs : List PairNum)
-    → xs ≡ places n f → DoesSame net k n bit bit' f xs
-does_same net k n size bit bit' same f xs is =
+does_same : (net : Net) (form : Form) (k n : ℕ) → n ≡ 2 ^ suc k → (bit bit' : ℕ → Bool) → ◌≡◌ {A = ℕ → Bool} bit bit' → (f : ℕ → PairNum) (xs : List PairNum)
+    → xs ≡ places n f → DoesSame net form k n bit bit' f xs
+does_same net form k n size bit bit' same f xs is =
     let each : SameBelow (2 ^ suc k) (pair_at xs) f = λ j h. pair_at-places n f xs is j (omega arith) in
     record {
-      values = network_values-same net k bit (pair_at xs) f each ∙ ap (λ (b : ℕ → Bool). network_values net k b f) same;
+      values = level_values-same net form k bit (pair_at xs) f each ∙ ap (λ (b : ℕ → Bool). level_values net form k b f) same;
       moved = λ ys moved.
           moved ∙ places-same (2 ^ suc k) (through net k bit (pair_at xs)) (through net k bit f)
           (through-same net k bit bit (pair_at xs) f (λ j h. refl) each)
@@ -207,7 +202,7 @@ does_same net k n size bit bit' same f xs is =
 
 -- a network of level h = k + 1 on these items, whose bits begin at `at` among b: n switches, twice s, and n less
 -- those that are missing
-module _ (net : Net) (h k : ℕ) (level : h ≡ suc k) (at n s : ℕ) (size : n ≡ 2 ^ h) (inner : s ≡ switches net k) (b : ℕ → Bool) (item : ℕ → PairNum) where
+module _ (net : Net) (form : Form) (h k : ℕ) (level : h ≡ suc k) (at n s : ℕ) (size : n ≡ 2 ^ h) (inner : s ≡ switches net k) (b : ℕ → Bool) (item : ℕ → PairNum) where
   bit : ℕ → Bool
   bit = from at b
 
@@ -223,15 +218,15 @@ module _ (net : Net) (h k : ℕ) (level : h ≡ suc k) (at n s : ℕ) (size : n 
   lower_out = through net k (from (2 ^ h + switches net k) (from at b)) (to_lower (from at b) item)
 
   pub upper_does : (xs : List PairNum) → xs ≡ places (2 ^ h) (to_upper (from at b) item)
-      → DoesSame net k (2 ^ h) (from (at + n) b) (from (2 ^ h) (from at b)) (to_upper (from at b) item) xs
+      → DoesSame net (other form) k (2 ^ h) (from (at + n) b) (from (2 ^ h) (from at b)) (to_upper (from at b) item) xs
   unfolding bit
-  upper_does xs is = does_same net k (2 ^ h) (ap (λ j. 2 ^ j) level) _ _ (bits_at (at + n) (2 ^ h) (omega arith)) (to_upper bit item) xs is
+  upper_does xs is = does_same net (other form) k (2 ^ h) (ap (λ j. 2 ^ j) level) _ _ (bits_at (at + n) (2 ^ h) (omega arith)) (to_upper bit item) xs is
 
   pub lower_does : (xs : List PairNum) → xs ≡ places (2 ^ h) (to_lower (from at b) item)
-      → DoesSame net k (2 ^ h) (from (at + n + s) b) (from (2 ^ h + switches net k) (from at b)) (to_lower (from at b) item) xs
+      → DoesSame net (other form) k (2 ^ h) (from (at + n + s) b) (from (2 ^ h + switches net k) (from at b)) (to_lower (from at b) item) xs
   unfolding bit
   lower_does xs is =
-      does_same net k (2 ^ h) (ap (λ j. 2 ^ j) level) _ _ (bits_at (at + n + s) (2 ^ h + switches net k) (omega arith)) (to_lower bit item) xs is
+      does_same net (other form) k (2 ^ h) (ap (λ j. 2 ^ j) level) _ _ (bits_at (at + n + s) (2 ^ h + switches net k) (omega arith)) (to_lower bit item) xs is
 
   -- the last column
   module _ (us ls : List PairNum) (up : us ≡ places (2 ^ h) upper_out) (low : ls ≡ places (2 ^ h) lower_out) where
@@ -248,14 +243,14 @@ module _ (net : Net) (h k : ℕ) (level : h ≡ suc k) (at n s : ℕ) (size : n 
     lower_of : ℕ → ℕ → PairNum
     lower_of l = through net k (from (2 ^ l + switches net k) bit) (to_lower bit item)
 
-    pub moved_values : column_values (length us - missing net) (from (at + n + 2 * s) b) (taken net (pair_at us) (pair_at ls))
-        ≡ last_column_values net k (from at b) item
+    pub moved_values : column_values form (length us - missing net) (from (at + n + 2 * s) b) (taken net (pair_at us) (pair_at ls))
+        ≡ last_column_values net form k (from at b) item
     unfolding bit upper_of lower_of
     moved_values =
-        ap₂ (λ (m : ℕ) (f : ℕ → Bool). column_values (m - missing net) f (taken net (pair_at us) (pair_at ls))) long last_bits
-        ∙ taken_values-same net (2 ^ h) (from (2 ^ h + 2 * switches net k) bit) (pair_at us) upper_out (pair_at ls) lower_out (pow_pos h)
+        ap₂ (λ (m : ℕ) (f : ℕ → Bool). column_values form (m - missing net) f (taken net (pair_at us) (pair_at ls))) long last_bits
+        ∙ taken_values-same net form (2 ^ h) (from (2 ^ h + 2 * switches net k) bit) (pair_at us) upper_out (pair_at ls) lower_out (pow_pos h)
         (pair_at-places (2 ^ h) upper_out us up) (pair_at-places (2 ^ h) lower_out ls low)
-        ∙ ap (λ l. column_values (2 ^ l - missing net) (from (2 ^ l + 2 * switches net k) bit) (taken net (upper_of l) (lower_of l))) level
+        ∙ ap (λ l. column_values form (2 ^ l - missing net) (from (2 ^ l + 2 * switches net k) bit) (taken net (upper_of l) (lower_of l))) level
 
     pub moved_items : places (2 * length us) (joined (last_bit net (from (at + n + 2 * s) b)) (pair_at us) (pair_at ls))
         ≡ places (2 ^ suc h) (through net h (from at b) item)

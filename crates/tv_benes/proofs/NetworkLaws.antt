@@ -1,49 +1,84 @@
 -- The laws of the network.
-use Rattle.std.proofs.Common.{◌≡◌, ◌≢◌, ℕ, zero, suc, ◌+◌, ◌*◌, ◌/◌, ◌%◌, ◌^◌, ◌<◌, ◌==◌, Bool, true, false, if◌then◌else◌, List, [], ◌++◌, refl, sym, ◌∙◌, ap, ap₂, subst, arith, add-zero, ◌-◌, inl, inr}
+use Rattle.std.proofs.Common.{◌≡◌, ℕ, zero, suc, ◌+◌, ◌-◌, ◌*◌, ◌/◌, ◌%◌, ◌^◌, ◌<◌, ◌≤◌, ◌==◌, Bool, true, false, if◌then◌else◌, List, [], ◌++◌, refl, sym, ◌∙◌, ap, ap₂, subst, arith, inl, inr}
 use Rattle.std.specs.Prelude.{slice_index}
-use Rattle.std.proofs.lemmas.Bool.{cases_lt, cases_eq}
-use Rattle.std.proofs.lemmas.Bool.Decides.{nat_tests}
+use Rattle.std.proofs.lemmas.Bool.{cases_lt}
 use Rattle.std.proofs.lemmas.Nat.{pow_pos}
-use Rattle.tv_core.proofs.CombinationLaws.{value-wire}
+use Rattle.tv_core.proofs.CombinationLaws.{value-append, value-below, value-less, value-wire}
+use Rattle.tv_core.proofs.LineLaws.{pair_same}
 use Rattle.tv_core.proofs.LoopLaws.{turn_met, turns-next}
 use Rattle.tv_core.proofs.Meeting.{Meets-split}
 use Rattle.tv_core.specs.Circuits.{Circuit, here, fresh, put, pure, ◌>>=◌}
+use Rattle.tv_core.specs.Combinations.{wire, less}
+use Rattle.tv_core.specs.Constraints.{Combination, value}
 use Rattle.tv_core.specs.Laws.{Assigns, Meets}
 use Rattle.tv_core.specs.Lines.{pair_value}
-use Rattle.tv_core.specs.Loops.{times}
+use Rattle.tv_core.specs.declared.field.TheConstants.{P}
 use Rattle.tv_core.specs.declared.lines.Pair.{Pair}
 use Rattle.tv_core.specs.declared.lines.PairNum.{PairNum}
-use Rattle.tv_bits.proofs.BitLaws.{bit_sound}
-use Rattle.tv_bits.proofs.SelectLaws.{select_sound}
+use Rattle.tv_bits.proofs.BitLaws.{bit_sound, bit_cases}
+use Rattle.tv_bits.proofs.SelectLaws.{select_sound, selected-zero, selected-one}
 use Rattle.tv_bits.specs.Bit.{IsBit, bit_of}
-use Rattle.tv_bits.specs.Select.{pick_of}
-use Rattle.tv_benes.proofs.ThroughLaws.{twice, switches-suc, missing_small, one_switch, last_bit-same, alternating-same, joined-same, through-same}
-use Rattle.tv_benes.specs.Network.{switch_of, column_of, last_column_of, network_of, bit_in, IsNetwork, NetworkIsSound}
-use Rattle.tv_benes.specs.Places.{wires_at, fifth, row, output, output_wire, column_outputs, last_outputs, last_wire}
-use Rattle.tv_benes.specs.declared.places.Outputs.{Outputs}
+use Rattle.tv_bits.specs.Select.{selected, pick_of}
+use Rattle.tv_benes.proofs.Ends.{upper_item, lower_item, place_first, place_upper, place_lower, place_last, end_passes, end_made, end_two}
+use Rattle.tv_benes.proofs.Sources.{last_even, last_odd}
+use Rattle.tv_benes.proofs.ThroughLaws.{twice, switches-suc, missing_small, one_switch, last_bit-same, kept_bit, left_bit, alternating-same, joined-same, through-same}
+use Rattle.tv_benes.specs.Levels.{width, other, innermost, bound, level_wires}
+use Rattle.tv_benes.specs.Network.{switch_of, column_of, last_column_of, level_of, NetworkIsSound}
+use Rattle.tv_benes.specs.Places.{switch_wire, first_of, second_of, bit_place, ItemsOf, item_in, to_upper_of, to_lower_of, EndsOf, end_in, last_ends, last_pair}
+use Rattle.tv_benes.specs.Through.{switches, missing, last_bit, from, passed, to_upper, to_lower, alternating, joined, through}
+use Rattle.tv_benes.specs.declared.shape.Form.{Form}
+use Rattle.tv_benes.specs.declared.shape.Form.TheVariants.{Bound, Open}
 use Rattle.tv_benes.specs.declared.shape.Net.{Net}
 use Rattle.tv_benes.specs.declared.shape.Net.TheVariants.{Benes, Waksman}
-use Rattle.tv_benes.proofs.Permuting.{alternating-even, alternating-odd}
-use Rattle.tv_benes.specs.Through.{switches, missing, last_bit, from, passed, to_upper, to_lower, alternating, joined, through}
-use Rattle.tv_core.proofs.LineLaws.{pair_same}
 
 passed_pair : (b : Bool) (x y : PairNum) → ◌≡◌ {A = PairNum} (record { first = passed b x.first y.first; second = passed b x.second y.second }) (passed b x y)
 passed_pair true x y = refl
 passed_pair false x y = refl
 
 -- ---- a switch
-pub switch_next : (x y : Pair) (next : ℕ) → (switch_of x y next).next ≡ next + 5
+pub switch_next : (form : Form) (x y : Pair) (next : ℕ) → (switch_of form x y next).next ≡ next + width form
 unfolding switch_of bit_of pick_of fresh put pure ◌>>=◌
-switch_next x y next = omega arith
+switch_next Bound x y next = omega arith
+switch_next Open x y next = omega arith
 
-pub record IsSwitch (z : List ℕ) (x y : PairNum) (at : ℕ) : Type 0 where
+-- a switch whose bit stands at a wire: two items, and what it passes first and second
+pub record IsSwitch (z : List ℕ) (x y p q : PairNum) (at : ℕ) : Type 0 where
   pub bit : IsBit (slice_index z at)
-  pub first : pair_value z (wires_at (at + 1)) ≡ passed (slice_index z at == 1) x y
-  pub second : pair_value z (wires_at (at + 3)) ≡ passed (slice_index z at == 1) y x
+  pub first : p ≡ passed (slice_index z at == 1) x y
+  pub second : q ≡ passed (slice_index z at == 1) y x
 
-switch_sound : (z : List ℕ) (x y : Pair) (next : ℕ) → Assigns z → Meets z (switch_of x y next).list → IsSwitch z (pair_value z x) (pair_value z y) next
+-- sums with the product of a bit and a difference
+less_product : (b x y m : ℕ) → x < P → y < P → IsBit b → m ≡ selected b ((x + (P - y)) % P) 0 → (x + (P - m)) % P ≡ passed (b == 1) x y
+less_product b x y m xs ys bit is = elim (bit_cases b bit) [
+  | inl none ↦ let same : m ≡ 0 = is ∙ selected-zero b _ _ none in rw (same, none) (omega arith)
+  | inr one ↦ let same : m ≡ (x + (P - y)) % P = is ∙ selected-one b _ _ one in rw one (omega arith)
+]
+
+with_product : (b x y m : ℕ) → x < P → y < P → IsBit b → m ≡ selected b ((x + (P - y)) % P) 0 → (y + m) % P ≡ passed (b == 1) y x
+with_product b x y m xs ys bit is = elim (bit_cases b bit) [
+  | inl none ↦ let same : m ≡ 0 = is ∙ selected-zero b _ _ none in rw (same, none) (omega arith)
+  | inr one ↦ let same : m ≡ (x + (P - y)) % P = is ∙ selected-one b _ _ one in rw one (omega arith)
+]
+
+-- a wire that holds such a product
+module _ (z : List ℕ) (assigns : Assigns z) (b m : ℕ) (x y : Combination) (bit : IsBit b) (is : slice_index z m ≡ selected b (value (less x y) z) (value [] z)) where
+  product_is : slice_index z m ≡ selected b ((value x z + (P - value y z)) % P) 0
+  product_is = is ∙ ap (λ n. selected b n 0) (value-less x y z)
+
+  value_less : value (less x (wire m)) z ≡ passed (b == 1) (value x z) (value y z)
+  value_less =
+      value-less x (wire m) z ∙ ap (λ n. (value x z + (P - n)) % P) (value-wire assigns m)
+      ∙ less_product b (value x z) (value y z) (slice_index z m) (value-below x z) (value-below y z) bit product_is
+
+  value_with : value (y ++ wire m) z ≡ passed (b == 1) (value y z) (value x z)
+  value_with =
+      value-append y (wire m) z ∙ ap (λ n. (value y z + n) % P) (value-wire assigns m)
+      ∙ with_product b (value x z) (value y z) (slice_index z m) (value-below x z) (value-below y z) bit product_is
+
+switch_sound : (z : List ℕ) (form : Form) (x y : Pair) (next : ℕ) → Assigns z → Meets z (switch_of form x y next).list
+    → IsSwitch z (pair_value z x) (pair_value z y) (pair_value z (first_of form next x)) (pair_value z (second_of form next y)) next
 unfolding switch_of bit_of pick_of fresh put pure ◌>>=◌
-switch_sound z x y next assigns meets =
+switch_sound z Bound x y next assigns meets =
     let b = slice_index z next in
     let bit : IsBit b = bit_sound z next next assigns (meets.0, tt) in
     let p = select_sound z (next + 1) next y.first x.first assigns bit (meets.1.0, tt) in
@@ -57,215 +92,281 @@ switch_sound z x y next assigns meets =
       first = pair_same _ _ _ _ (value-wire assigns (next + 1) ∙ p) (value-wire assigns (next + 1 + 1) ∙ p') ∙ passed_pair (b == 1) (pair_value z x) (pair_value z y);
       second = pair_same _ _ _ _ (value-wire assigns (next + 3) ∙ ap (λ k. slice_index z k) (sym at3) ∙ q) (value-wire assigns (next + 3 + 1) ∙ ap (λ k. slice_index z k) (sym at4) ∙ q') ∙ passed_pair (b == 1) (pair_value z y) (pair_value z x);
     }
+switch_sound z Open x y next assigns meets =
+    let b = slice_index z next in
+    let bit : IsBit b = bit_sound z next next assigns (meets.0, tt) in
+    let m = select_sound z (next + 1) next (less x.first y.first) [] assigns bit (meets.1.0, tt) in
+    let m' = select_sound z (next + 1 + 1) next (less x.second y.second) [] assigns bit (meets.1.1.0, tt) in
+    let at2 : next + 1 + 1 ≡ next + 2 = omega arith in
+    let m2 = ap (λ k. slice_index z k) (sym at2) ∙ m' in
+    record {
+      bit = bit;
+      first = pair_same _ _ _ _ (value_less z assigns b (next + 1) x.first y.first bit m) (value_less z assigns b (next + 2) x.second y.second bit m2) ∙ passed_pair (b == 1) (pair_value z x) (pair_value z y);
+      second = pair_same _ _ _ _ (value_with z assigns b (next + 1) x.first y.first bit m) (value_with z assigns b (next + 2) x.second y.second bit m2) ∙ passed_pair (b == 1) (pair_value z y) (pair_value z x);
+    }
 
 -- ---- a column
-pub column_next : (n : ℕ) (item : ℕ → Pair) (next : ℕ) → (column_of n item next).next ≡ next + 5 * n
+pub column_next : (form : Form) (n : ℕ) (item : ℕ → Pair) (next : ℕ) → (column_of form n item next).next ≡ switch_wire form next n
 unfolding column_of
-column_next n item next = turns-next (λ j _. switch_of (item (2 * j)) (item (2 * j + 1))) tt next 5 n (λ j a at. switch_next (item (2 * j)) (item (2 * j + 1)) at) ∙ omega arith
+column_next form n item next =
+    turns-next (λ j _. switch_of form (item (2 * j)) (item (2 * j + 1))) tt next (width form) n (λ j a at. switch_next form (item (2 * j)) (item (2 * j + 1)) at)
 
-pub column_sound : (z : List ℕ) (n : ℕ) (item : ℕ → Pair) (next : ℕ) → Assigns z → Meets z (column_of n item next).list
-    → (j : ℕ) → j < n → IsSwitch z (pair_value z (item (2 * j))) (pair_value z (item (2 * j + 1))) (next + 5 * j)
+-- switch j of a column on items, whose wires begin at `next`
+abbrev pub IsSwitchOf : List ℕ → Form → (ℕ → Pair) → ℕ → ℕ → Type 0
+IsSwitchOf z form item next j =
+    IsSwitch z (pair_value z (item (2 * j))) (pair_value z (item (2 * j + 1))) (pair_value z (first_of form (switch_wire form next j) (item (2 * j))))
+    (pair_value z (second_of form (switch_wire form next j) (item (2 * j + 1)))) (switch_wire form next j)
+
+pub column_sound : (z : List ℕ) (form : Form) (n : ℕ) (item : ℕ → Pair) (next : ℕ) → Assigns z → Meets z (column_of form n item next).list
+    → (j : ℕ) → j < n → IsSwitchOf z form item next j
 unfolding column_of
-column_sound z n item next assigns meets j within =
-    let piece : ℕ → Unit {0} → Circuit (Unit {0}) = λ j _. switch_of (item (2 * j)) (item (2 * j + 1)) in
-    let place : (times j (λ j. switch_of (item (2 * j)) (item (2 * j + 1))) next).next ≡ next + 5 * j = turns-next piece tt next 5 j (λ j a at. switch_next (item (2 * j)) (item (2 * j + 1)) at) ∙ omega arith in
-    subst (λ k. IsSwitch z (pair_value z (item (2 * j))) (pair_value z (item (2 * j + 1))) k) place
-    (switch_sound z (item (2 * j)) (item (2 * j + 1)) _ assigns (turn_met z piece tt next n j within meets))
+column_sound z form n item next assigns meets j within =
+    let piece : ℕ → Unit {0} → Circuit (Unit {0}) = λ j _. switch_of form (item (2 * j)) (item (2 * j + 1)) in
+    subst (λ k. IsSwitch z (pair_value z (item (2 * j))) (pair_value z (item (2 * j + 1))) (pair_value z (first_of form k (item (2 * j)))) (pair_value z (second_of form k (item (2 * j + 1)))) k)
+    (column_next form j item next)
+    (switch_sound z form (item (2 * j)) (item (2 * j + 1)) _ assigns (turn_met z piece tt next n j within meets))
+
+-- ---- the network
+-- what a last column makes of its switches, and the parts of a network
+pub bound-suc : (net : Net) (form : Form) (h : ℕ) → level_wires net form (suc h) + missing net * width form ≡ 2 * (2 ^ suc h * width form) + 2 * level_wires net (other form) h
+unfolding bound
+bound-suc net Bound h = let size = switches-suc net h in let one = missing_small net in let some = pow_pos (suc h) in omega arith
+bound-suc net Open h = let size = switches-suc net h in omega arith
+
+pub one_wires : (net : Net) (form : Form) → level_wires net form 0 ≡ width (innermost net form)
+unfolding bound
+one_wires Benes Bound = refl
+one_wires Benes Open = refl
+one_wires Waksman form = refl
+
+-- the last column's wires
+pub less_missing : (net : Net) (form : Form) (n : ℕ) → 1 ≤ n → (n - missing net) * width form + missing net * width form ≡ n * width form
+less_missing Benes Bound n some = omega arith
+less_missing Benes Open n some = omega arith
+less_missing Waksman Bound n some = omega arith
+less_missing Waksman Open n some = omega arith
+
+pub level_next : (net : Net) (form : Form) (h : ℕ) (items : ItemsOf form) (next : ℕ) → (level_of net form h items next).next ≡ next + level_wires net form h
+unfolding level_of last_column_of here pure ◌>>=◌
+level_next net form zero items next = column_next (innermost net form) 1 (item_in form items) next ∙ omega (arith, one_wires net form)
+level_next net form (suc h) items next =
+    let n = 2 ^ suc h in
+    let c = (column_of form n (item_in form items) next).next in
+    let u = level_of net (other form) h (to_upper_of form next items) c in
+    let l = level_of net (other form) h (to_lower_of form next items) u.next in
+    let last = last_pair net form u.answer l.answer in
+    omega (
+      arith,
+      bound-suc net form h,
+      less_missing net form n (pow_pos (suc h)),
+      column_next form n (item_in form items) next,
+      level_next net (other form) h (to_upper_of form next items) c,
+      level_next net (other form) h (to_lower_of form next items) u.next,
+      column_next form (n - missing net) last l.next,
+    )
+
+pub network_next : (net : Net) (h : ℕ) (item : ℕ → Pair) (next : ℕ) → (level_of net Bound h item next).next ≡ next + level_wires net Bound h
+network_next net h item next = level_next net Bound h item next
+
+-- the bit of switch j of a network with such an outermost level
+abbrev pub level_bit : List ℕ → Net → Form → ℕ → ℕ → ℕ → Bool
+level_bit z net form h first j = slice_index z (bit_place net form h first j) == 1
+
+-- what an assignment that meets what was put has: 0 or 1 at each switch, and of items v the outputs
+pub record IsLevel (z : List ℕ) (net : Net) (form : Form) (h first : ℕ) (v out : ℕ → PairNum) : Type 0 where
+  pub bits : (j : ℕ) → j < switches net h → IsBit (slice_index z (bit_place net form h first j))
+  pub outputs : (i : ℕ) → i < 2 ^ suc h → out i ≡ through net h (level_bit z net form h first) v i
+
+-- a network within others, and the two columns around them
+module _ (z : List ℕ) (net : Net) (form : Form) (h first u l g : ℕ) (at_u : u ≡ switch_wire form first (2 ^ suc h)) (at_l : l ≡ u + level_wires net (other form) h) (at_g : g ≡ l + level_wires net (other form) h) where
+  n : ℕ
+  n = 2 ^ suc h
+
+  s : ℕ
+  s = switches net h
+
+  wires : ℕ
+  wires = level_wires net (other form) h
+
+  bit : ℕ → Bool
+  bit = level_bit z net form (suc h) first
+
+  places : (j : ℕ) → ((j < 2 ^ suc h → bit_place net form (suc h) first j ≡ switch_wire form first j))
+  places j k = place_first net form h first j k
+
+  upper_place : (i j : ℕ) → i ≡ 2 ^ suc h + j → j < switches net h → bit_place net form (suc h) first i ≡ bit_place net (other form) h u j
+  upper_place i j e k = place_upper net form h first i j e k ∙ ap (λ w. bit_place net (other form) h w j) (sym at_u)
+
+  lower_place : (i j : ℕ) → i ≡ 2 ^ suc h + switches net h + j → j < switches net h → bit_place net form (suc h) first i ≡ bit_place net (other form) h l j
+  lower_place i j e k = place_lower net form h first i j e k ∙ ap (λ w. bit_place net (other form) h w j) (sym (at_l ∙ ap (λ w. w + level_wires net (other form) h) at_u))
+
+  last_place : (i j : ℕ) → i ≡ 2 ^ suc h + 2 * switches net h + j → bit_place net form (suc h) first i ≡ switch_wire form g j
+  last_place i j e =
+      place_last net form h first i j e
+      ∙ ap (λ w. switch_wire form w j) (sym (at_g ∙ ap (λ w. w + level_wires net (other form) h) (at_l ∙ ap (λ w. w + level_wires net (other form) h) at_u)))
+
+  -- what holds of the parts' bits holds of all
+  pub each_bit : (Q : ℕ → ℕ → Type 0) → ((j : ℕ) → j < 2 ^ suc h → Q j (switch_wire form first j)) → ((j : ℕ) → j < switches net h → Q (2 ^ suc h + j) (bit_place net (other form) h u j))
+      → ((j : ℕ) → j < switches net h → Q (2 ^ suc h + switches net h + j) (bit_place net (other form) h l j))
+      → ((j : ℕ) → j + missing net < 2 ^ suc h → Q (2 ^ suc h + 2 * switches net h + j) (switch_wire form g j))
+      → (j : ℕ) → j < switches net (suc h) → Q j (bit_place net form (suc h) first j)
+  each_bit Q in_first in_upper in_lower in_last j k =
+      let size = switches-suc net h in
+      let one = missing_small net in
+      elim (cases_lt j (2 ^ suc h)) [
+        | inl a ↦ subst (λ w. Q j w) (sym (places j a)) (in_first j a)
+        | inr a ↦ elim (cases_lt j (2 ^ suc h + switches net h)) [
+          | inl b ↦ let r : 2 ^ suc h + (j - 2 ^ suc h) ≡ j = omega arith in
+              subst (λ w. Q j w) (sym (upper_place j (j - 2 ^ suc h) (sym r) (omega arith))) (subst (λ i. Q i (bit_place net (other form) h u (j - 2 ^ suc h))) r (in_upper (j - 2 ^ suc h) (omega arith)))
+          | inr b ↦ elim (cases_lt j (2 ^ suc h + 2 * switches net h)) [
+            | inl c ↦ let r : 2 ^ suc h + switches net h + (j - (2 ^ suc h + switches net h)) ≡ j = omega arith in
+                subst (λ w. Q j w) (sym (lower_place j (j - (2 ^ suc h + switches net h)) (sym r) (omega arith))) (subst (λ i. Q i (bit_place net (other form) h l (j - (2 ^ suc h + switches net h)))) r (in_lower (j - (2 ^ suc h + switches net h)) (omega arith)))
+            | inr c ↦ let r : 2 ^ suc h + 2 * switches net h + (j - (2 ^ suc h + 2 * switches net h)) ≡ j = omega arith in
+                subst (λ w. Q j w) (sym (last_place j (j - (2 ^ suc h + 2 * switches net h)) (sym r))) (subst (λ i. Q i (switch_wire form g (j - (2 ^ suc h + 2 * switches net h)))) r (in_last (j - (2 ^ suc h + 2 * switches net h)) (omega arith)))
+          ]
+        ]
+      ]
+
+  -- the two networks are sound, and so is the whole
+  module _ (v up_in low_in up_out low_out p q out : ℕ → PairNum)
+      (in_column : (j : ℕ) → j < 2 ^ suc h → IsSwitch z (v (2 * j)) (v (2 * j + 1)) (up_in j) (low_in j) (switch_wire form first j))
+      (upper : IsLevel z net (other form) h u up_in up_out) (lower : IsLevel z net (other form) h l low_in low_out)
+      (out_column : (j : ℕ) → missing net ≤ j → j < 2 ^ suc h → IsSwitch z (up_out j) (low_out j) (p j) (q j) (switch_wire form g (j - missing net)))
+      (passes : (i : ℕ) → i < 2 * missing net → out i ≡ alternating up_out low_out i)
+      (made : (i : ℕ) → 2 * missing net ≤ i → out i ≡ alternating p q i) where
+    last : ℕ → Bool
+    last j = slice_index z (switch_wire form g j) == 1
+
+    outputs_by : (i : ℕ) → i < 2 ^ suc (suc h) → out i ≡ joined (last_bit net last) up_out low_out i
+    unfolding last
+    outputs_by i within =
+        let two = twice (suc h) in
+        elim (cases_lt i (2 * missing net)) [
+          | inl left ↦
+              let none = left_bit net last (i / 2) (omega arith) in
+              passes i left
+              ∙ alternating-same up_out (λ j. passed (last_bit net last j) (up_out j) (low_out j)) low_out (λ j. passed (last_bit net last j) (low_out j) (up_out j)) i
+              (ap (λ b. passed b (up_out (i / 2)) (low_out (i / 2))) (sym none)) (ap (λ b. passed b (low_out (i / 2)) (up_out (i / 2))) (sym none))
+          | inr kept ↦
+              let is = kept_bit net last (i / 2) (omega arith) in
+              let switch = out_column (i / 2) (omega arith) (omega arith) in
+              made i kept
+              ∙ alternating-same p (λ j. passed (last_bit net last j) (up_out j) (low_out j)) q (λ j. passed (last_bit net last j) (low_out j) (up_out j)) i
+              (switch.first ∙ ap (λ b. passed b (up_out (i / 2)) (low_out (i / 2))) (sym is)) (switch.second ∙ ap (λ b. passed b (low_out (i / 2)) (up_out (i / 2))) (sym is))
+        ]
+
+    at_bit : (a b : ℕ) → a ≡ b → (slice_index z a == 1) ≡ (slice_index z b == 1)
+    at_bit a b e = ap (λ w. slice_index z w == 1) e
+
+    pub join_sound : IsLevel z net form (suc h) first v out
+    unfolding through last bit
+    join_sound =
+        let size = switches-suc net h in
+        let two = twice (suc h) in
+        let n = 2 ^ suc h in
+        let s = switches net h in
+        let up_items : (j : ℕ) → j < n → up_in j ≡ to_upper bit v j = λ j k. (in_column j k).first ∙ ap (λ b. passed b (v (2 * j)) (v (2 * j + 1))) (at_bit _ _ (sym (places j k))) in
+        let low_items : (j : ℕ) → j < n → low_in j ≡ to_lower bit v j = λ j k. (in_column j k).second ∙ ap (λ b. passed b (v (2 * j + 1)) (v (2 * j))) (at_bit _ _ (sym (places j k))) in
+        let same_upper : (j : ℕ) → j < n → up_out j ≡ through net h (from n bit) (to_upper bit v) j =
+        λ j k. upper.outputs j k ∙ through-same net h (level_bit z net (other form) h u) (from n bit) up_in (to_upper bit v) (λ i b. at_bit _ _ (sym (upper_place (n + i) i refl b))) up_items j k in
+        let same_lower : (j : ℕ) → j < n → low_out j ≡ through net h (from (n + s) bit) (to_lower bit v) j =
+        λ j k. lower.outputs j k ∙ through-same net h (level_bit z net (other form) h l) (from (n + s) bit) low_in (to_lower bit v) (λ i b. at_bit _ _ (sym (lower_place (n + s + i) i refl b))) low_items j k in
+        record {
+          bits = each_bit (λ _ w. IsBit (slice_index z w)) (λ j k. (in_column j k).bit) upper.bits lower.bits (λ j k. kept j (out_column (j + missing net) (omega arith) (omega arith)).bit);
+          outputs = λ i k.
+              outputs_by i k
+              ∙ joined-same (last_bit net last) (last_bit net (from (n + 2 * s) bit)) up_out (through net h (from n bit) (to_upper bit v)) low_out (through net h (from (n + s) bit) (to_lower bit v)) i
+              (last_bit-same net last (from (n + 2 * s) bit) n (i / 2) (omega arith) (λ j _. at_bit _ _ (sym (last_place (n + 2 * s + j) j refl)))) (same_upper (i / 2) (omega arith)) (same_lower (i / 2) (omega arith));
+        }
+      where
+        kept : (j : ℕ) → IsBit (slice_index z (switch_wire form g (j + missing net - missing net))) → IsBit (slice_index z (switch_wire form g j))
+        kept j is = let same : j + missing net - missing net ≡ j = omega arith in subst (λ k. IsBit (slice_index z (switch_wire form g k))) same is
+
+-- the two networks within and the two columns around them, over an assignment
+module _ (z : List ℕ) (net : Net) (form : Form) (h next : ℕ) (items : ItemsOf form) where
+  -- a switch of the first column passes the items of the two networks
+  pub first_switch : (j : ℕ) → IsSwitchOf z form (item_in form items) next j
+      → IsSwitch z (pair_value z (item_in form items (2 * j))) (pair_value z (item_in form items (2 * j + 1))) (pair_value z (item_in (other form) (to_upper_of form next items) j))
+      (pair_value z (item_in (other form) (to_lower_of form next items) j)) (switch_wire form next j)
+  first_switch j switch = record {
+    bit = switch.bit;
+    first = ap (pair_value z) (upper_item form next items j) ∙ switch.first;
+    second = ap (pair_value z) (lower_item form next items j) ∙ switch.second;
+  }
+
+-- a switch of a last column, by the outputs of the two networks before it
+pub last_switch : (z : List ℕ) (net : Net) (form : Form) (u l : EndsOf (other form)) (g j : ℕ) → missing net ≤ j → IsSwitchOf z form (last_pair net form u l) g (j - missing net)
+    → IsSwitch z (pair_value z (end_in net (other form) u j)) (pair_value z (end_in net (other form) l j)) (pair_value z (first_of form (switch_wire form g (j - missing net)) (end_in net (other form) u j)))
+    (pair_value z (second_of form (switch_wire form g (j - missing net)) (end_in net (other form) l j))) (switch_wire form g (j - missing net))
+last_switch z net form u l g j some switch =
+    let back : j - missing net + missing net ≡ j = omega arith in
+    let at = switch_wire form g (j - missing net) in
+    let even = last_even (end_in net (other form) u) (end_in net (other form) l) (j - missing net) (missing net) ∙ ap (end_in net (other form) u) back in
+    let odd = last_odd (end_in net (other form) u) (end_in net (other form) l) (j - missing net) (missing net) ∙ ap (end_in net (other form) l) back in
+    record {
+      bit = switch.bit;
+      first = ap (λ x. pair_value z (first_of form at x)) (sym even) ∙ switch.first ∙ ap₂ (λ x y. passed (slice_index z at == 1) (pair_value z x) (pair_value z y)) even odd;
+      second = ap (λ x. pair_value z (second_of form at x)) (sym odd) ∙ switch.second ∙ ap₂ (λ x y. passed (slice_index z at == 1) (pair_value z y) (pair_value z x)) even odd;
+    }
 
 -- what a pair chosen by parity is
-pub value_alternating : (z : List ℕ) (a b : ℕ → ℕ) (i : ℕ) → pair_value z (wires_at (alternating a b i)) ≡ alternating (λ j. pair_value z (wires_at (a j))) (λ j. pair_value z (wires_at (b j))) i
+pub value_alternating : (z : List ℕ) (a b : ℕ → Pair) (i : ℕ) → pair_value z (alternating a b i) ≡ alternating (λ j. pair_value z (a j)) (λ j. pair_value z (b j)) i
 value_alternating z a b i = by (i % 2 == 0)
   where
-    by : (c : Bool) → pair_value z (wires_at (if c then a (i / 2) else b (i / 2))) ≡ (if c then pair_value z (wires_at (a (i / 2))) else pair_value z (wires_at (b (i / 2))))
+    by : (c : Bool) → pair_value z (if c then a (i / 2) else b (i / 2)) ≡ (if c then pair_value z (a (i / 2)) else pair_value z (b (i / 2)))
     by true = refl
     by false = refl
 
--- what a column gives at its outputs
-row_outputs : (z : List ℕ) (n first : ℕ) (x y : ℕ → PairNum) → ((j : ℕ) → j < n → IsSwitch z (x j) (y j) (first + 5 * j))
-    → (i : ℕ) → i < 2 * n → pair_value z (wires_at (alternating (fifth (first + 1)) (fifth (first + 3)) i)) ≡ joined (bit_in z first) x y i
-row_outputs z n first x y each i within =
-    let switch = each (i / 2) (omega arith) in
-    let one : first + 5 * (i / 2) + 1 ≡ first + 1 + 5 * (i / 2) = omega arith in
-    let three : first + 5 * (i / 2) + 3 ≡ first + 3 + 5 * (i / 2) = omega arith in
-    value_alternating z (fifth (first + 1)) (fifth (first + 3)) i
-    ∙ alternating-same (λ j. pair_value z (row (first + 1) j)) (λ j. passed (bit_in z first j) (x j) (y j)) (λ j. pair_value z (row (first + 3) j)) (λ j. passed (bit_in z first j) (y j) (x j)) i
-    (ap (λ k. pair_value z (wires_at k)) (sym one) ∙ switch.first) (ap (λ k. pair_value z (wires_at k)) (sym three) ∙ switch.second)
-
--- the outputs, by their first two and the others
-pub output_zero : (o : Outputs) (i : ℕ) → i ≡ 0 → output_wire o i ≡ o.first
-output_zero o i e = ap (λ k. output_wire o k) e
-
-pub output_one : (o : Outputs) (i : ℕ) → i ≡ 1 → output_wire o i ≡ o.second
-output_one o i e = ap (λ k. output_wire o k) e
-
-pub if_apart : {X : Type 0} (i k : ℕ) (x y : X) → i ≢ k → (if i == k then x else y) ≡ y
-if_apart i k x y e = ap (λ (c : Bool). if c then x else y) (apart_eq i k e)
-  where
-    apart_eq : (a b : ℕ) → a ≢ b → (a == b) ≡ false
-    apart_eq a b e = grind (arith, nat_tests)
-
-pub output_other : (o : Outputs) (i : ℕ) → 1 < i → output_wire o i ≡ alternating (fifth (o.others + 1)) (fifth (o.others + 3)) (i - 2)
-output_other o i h = if_apart i 0 _ _ (λ e. let f : i ≡ 0 = e in omega arith) ∙ if_apart i 1 _ _ (λ e. let f : i ≡ 1 = e in omega arith)
-
-alternating_moved : {X : Type 0} (a a' b b' : ℕ → X) (i k : ℕ) → i % 2 ≡ k % 2 → a (i / 2) ≡ a' (k / 2) → b (i / 2) ≡ b' (k / 2) → alternating a b i ≡ alternating a' b' k
-alternating_moved a a' b b' i k e p q = ap (λ r. if r == 0 then a (i / 2) else b (i / 2)) e ∙ ap₂ (λ x y. if k % 2 == 0 then x else y) p q
-
--- joined at places moved by one switch
-joined_moved : (bit bit' : ℕ → Bool) (x y : ℕ → PairNum) (i : ℕ) → 1 < i → bit (i / 2) ≡ bit' (i / 2 - 1) → joined bit x y i ≡ joined bit' (λ j. x (j + 1)) (λ j. y (j + 1)) (i - 2)
-joined_moved bit bit' x y i h e =
-    let half : (i - 2) / 2 ≡ i / 2 - 1 = omega arith in
-    let place : i / 2 ≡ (i - 2) / 2 + 1 = omega arith in
-    let bits : bit (i / 2) ≡ bit' ((i - 2) / 2) = e ∙ ap bit' (sym half) in
-    alternating_moved (λ j. passed (bit j) (x j) (y j)) (λ j. passed (bit' j) (x (j + 1)) (y (j + 1))) (λ j. passed (bit j) (y j) (x j)) (λ j. passed (bit' j) (y (j + 1)) (x (j + 1))) i (i - 2) (omega arith)
-    (ap (λ c. passed c (x (i / 2)) (y (i / 2))) bits ∙ ap (λ k. passed (bit' ((i - 2) / 2)) (x k) (y k)) place)
-    (ap (λ c. passed c (y (i / 2)) (x (i / 2))) bits ∙ ap (λ k. passed (bit' ((i - 2) / 2)) (y k) (x k)) place)
-
--- the outputs of a whole column are those of its switches
-whole_outputs : (g i : ℕ) → output_wire (column_outputs g) i ≡ alternating (fifth (g + 1)) (fifth (g + 3)) i
-whole_outputs g i = elim (cases_eq i 0) [
-  | inl none ↦ let at : g + 1 ≡ g + 1 + 5 * 0 = omega arith in output_zero (column_outputs g) i none ∙ at ∙ ap (alternating (fifth (g + 1)) (fifth (g + 3))) (sym none)
-  | inr some ↦ elim (cases_eq i 1) [
-    | inl one ↦ let at : g + 3 ≡ g + 3 + 5 * 0 = omega arith in output_one (column_outputs g) i one ∙ at ∙ ap (alternating (fifth (g + 1)) (fifth (g + 3))) (sym one)
-    | inr more ↦
-        let first : g + 5 + 1 + 5 * ((i - 2) / 2) ≡ g + 1 + 5 * (i / 2) = omega arith in
-        let second : g + 5 + 3 + 5 * ((i - 2) / 2) ≡ g + 3 + 5 * (i / 2) = omega arith in
-        output_other (column_outputs g) i (omega arith)
-        ∙ alternating_moved (fifth (g + 5 + 1)) (fifth (g + 1)) (fifth (g + 5 + 3)) (fifth (g + 3)) (i - 2) i (omega arith) first second
-  ]
-]
-
-last_column_outputs : (z : List ℕ) (net : Net) (n g : ℕ) (upper lower : Outputs) (x y : ℕ → PairNum) → 0 < n
-    → pair_value z (wires_at upper.first) ≡ x 0 → pair_value z (wires_at lower.first) ≡ y 0
-    → ((j : ℕ) → j + missing net < n → IsSwitch z (x (j + missing net)) (y (j + missing net)) (g + 5 * j))
-    → (i : ℕ) → i < 2 * n → pair_value z (output (last_outputs net g upper lower) i) ≡ joined (last_bit net (bit_in z g)) x y i
-last_column_outputs z Benes n g upper lower x y some ux ly each i within =
-    let each' : (j : ℕ) → j < n → IsSwitch z (x j) (y j) (g + 5 * j) = λ j h. subst (λ k. IsSwitch z (x k) (y k) (g + 5 * j)) (add-zero j) (each j (omega arith)) in
-    ap (λ w. pair_value z (wires_at w)) (whole_outputs g i) ∙ row_outputs z n g x y each' i within
-last_column_outputs z Waksman n g upper lower x y some ux ly each i within =
-    let last : Outputs = last_outputs Waksman g upper lower in
-    elim (cases_eq i 0) [
-      | inl none ↦ ap (λ w. pair_value z (wires_at w)) (output_zero last i none) ∙ ux ∙ ap (joined (last_bit Waksman (bit_in z g)) x y) (sym none)
-      | inr more ↦ elim (cases_eq i 1) [
-        | inl one ↦ ap (λ w. pair_value z (wires_at w)) (output_one last i one) ∙ ly ∙ ap (joined (last_bit Waksman (bit_in z g)) x y) (sym one)
-        | inr many ↦
-            let two : 1 < i = omega arith in
-            let late : last_bit Waksman (bit_in z g) (i / 2) ≡ bit_in z g (i / 2 - 1) = if_apart (i / 2) 0 _ _ (λ e. let f : i / 2 ≡ 0 = e in omega arith) in
-            ap (λ w. pair_value z (wires_at w)) (output_other last i two)
-            ∙ row_outputs z (n - 1) g (λ j. x (j + 1)) (λ j. y (j + 1)) (λ j h. each j (omega arith)) (i - 2) (omega arith)
-            ∙ sym (joined_moved (last_bit Waksman (bit_in z g)) (bit_in z g) x y i two late)
-      ]
-    ]
-
--- ---- the network
-pub network_next : (net : Net) (h : ℕ) (item : ℕ → Pair) (next : ℕ) → (network_of net h item next).next ≡ next + 5 * switches net h
-unfolding network_of last_column_of here pure ◌>>=◌
-network_next net zero item next = column_next 1 item next ∙ omega (arith, one_switch net)
-network_next net (suc h) item next =
-    let n = 2 ^ suc h in
-    let c = (column_of n item next).next in
-    let u = network_of net h (row (next + 1)) c in
-    let l = network_of net h (row (next + 3)) u.next in
-    let last : ℕ → Pair = λ i. wires_at (last_wire net u.answer l.answer i) in
-    omega (arith, switches-suc net h, missing_small net, pow_pos (suc h), column_next n item next, network_next net h (row (next + 1)) c, network_next net h (row (next + 3)) u.next, column_next (n - missing net) last l.next)
-
-pub bit_in-far : (z : List ℕ) (first a b j : ℕ) → b ≡ first + 5 * a → bit_in z b j ≡ from a (bit_in z first) j
-bit_in-far z first a b j e =
-    let same : b + 5 * j ≡ first + 5 * (a + j) = omega arith in
-    ap (λ k. slice_index z k == 1) same
-
--- the halves that were put are networks; so is the whole
-join_sound : (z : List ℕ) (net : Net) (h first u l g : ℕ) (up low : Outputs) (item : ℕ → Pair)
-    → ((j : ℕ) → j < 2 ^ suc h → IsSwitch z (pair_value z (item (2 * j))) (pair_value z (item (2 * j + 1))) (first + 5 * j))
-    → u ≡ first + 5 * 2 ^ suc h → IsNetwork z net h u (row (first + 1)) up
-    → l ≡ first + 5 * (2 ^ suc h + switches net h) → IsNetwork z net h l (row (first + 3)) low
-    → g ≡ first + 5 * (2 ^ suc h + 2 * switches net h)
-    → ((j : ℕ) → j + missing net < 2 ^ suc h → IsSwitch z (pair_value z (output up (j + missing net))) (pair_value z (output low (j + missing net))) (g + 5 * j))
-    → IsNetwork z net (suc h) first item (last_outputs net g up low)
-unfolding through
-join_sound z net h first u l g up low item in_column at_u upper at_l lower at_g out_column =
-    let n = 2 ^ suc h in
-    let s = switches net h in
-    let size = switches-suc net h in
-    let two = twice (suc h) in
-    let bit = bit_in z first in
-    let items : ℕ → PairNum = λ j. pair_value z (item j) in
-    let up_items : (j : ℕ) → j < n → pair_value z (row (first + 1) j) ≡ to_upper bit items j =
-    λ j k. let place : first + 5 * j + 1 ≡ first + 1 + 5 * j = omega arith in ap (λ w. pair_value z (wires_at w)) (sym place) ∙ (in_column j k).first in
-    let low_items : (j : ℕ) → j < n → pair_value z (row (first + 3) j) ≡ to_lower bit items j =
-    λ j k. let place : first + 5 * j + 3 ≡ first + 3 + 5 * j = omega arith in ap (λ w. pair_value z (wires_at w)) (sym place) ∙ (in_column j k).second in
-    let same_upper : (j : ℕ) → j < n → pair_value z (output up j) ≡ through net h (from n bit) (to_upper bit items) j =
-    λ j k. upper.outputs j k ∙ through-same net h (bit_in z u) (from n bit) (λ i. pair_value z (row (first + 1) i)) (to_upper bit items) (λ i _. bit_in-far z first n u i at_u) up_items j k in
-    let same_lower : (j : ℕ) → j < n → pair_value z (output low j) ≡ through net h (from (n + s) bit) (to_lower bit items) j =
-    λ j k. lower.outputs j k ∙ through-same net h (bit_in z l) (from (n + s) bit) (λ i. pair_value z (row (first + 3) i)) (to_lower bit items) (λ i _. bit_in-far z first (n + s) l i at_l) low_items j k in
-    record {
-      bits = λ j k. IsBit-at j k;
-      outputs = λ i k.
-          last_column_outputs z net n g up low (λ j. pair_value z (output up j)) (λ j. pair_value z (output low j)) (pow_pos (suc h)) refl refl out_column i (omega arith)
-          ∙ joined-same (last_bit net (bit_in z g)) (last_bit net (from (n + 2 * s) bit)) (λ j. pair_value z (output up j)) (through net h (from n bit) (to_upper bit items)) (λ j. pair_value z (output low j)) (through net h (from (n + s) bit) (to_lower bit items)) i
-          (last_bit-same net (bit_in z g) (from (n + 2 * s) bit) n (i / 2) (omega arith) (λ j _. bit_in-far z first (n + 2 * s) g j at_g)) (same_upper (i / 2) (omega arith)) (same_lower (i / 2) (omega arith));
-    }
-  where
-    n : ℕ
-    n = 2 ^ suc h
-
-    s : ℕ
-    s = switches net h
-
-    moved : (a b j : ℕ) → a + 5 * b ≡ first + 5 * j → IsBit (slice_index z (a + 5 * b)) → IsBit (slice_index z (first + 5 * j))
-    moved a b j e b_is = subst (λ w. IsBit (slice_index z w)) e b_is
-
-    IsBit-at : (j : ℕ) → j < switches net (suc h) → IsBit (slice_index z (first + 5 * j))
-    IsBit-at j k =
-        let size = switches-suc net h in
-        let one = missing_small net in
-        elim (cases_lt j n) [
-          | inl a ↦ (in_column j a).bit
-          | inr a ↦ elim (cases_lt j (n + s)) [
-            | inl b ↦ moved u (j - n) j (omega arith) (upper.bits (j - n) (omega arith))
-            | inr b ↦ elim (cases_lt j (n + 2 * s)) [
-              | inl c ↦ moved l (j - (n + s)) j (omega arith) (lower.bits (j - (n + s)) (omega arith))
-              | inr c ↦ moved g (j - (n + 2 * s)) j (omega arith) (out_column (j - (n + 2 * s)) (omega arith)).bit
-            ]
-          ]
-        ]
-
--- a switch of the last column, by its items
-last_items : (z : List ℕ) (up low : Outputs) (m j at : ℕ) → let last : ℕ → Pair = λ i. wires_at (alternating (output_wire up) (output_wire low) i) in
-    IsSwitch z (pair_value z (last (2 * j + 2 * m))) (pair_value z (last (2 * j + 1 + 2 * m))) at → IsSwitch z (pair_value z (output up (j + m))) (pair_value z (output low (j + m))) at
-last_items z up low m j at switch =
-    let even : 2 * j + 2 * m ≡ 2 * (j + m) = omega arith in
-    let odd : 2 * j + 1 + 2 * m ≡ 2 * (j + m) + 1 = omega arith in
-    let last : ℕ → ℕ = alternating (output_wire up) (output_wire low) in
-    subst (λ w. IsSwitch z (pair_value z (wires_at w)) (pair_value z (output low (j + m))) at) (ap last even ∙ alternating-even (output_wire up) (output_wire low) (j + m))
-    (subst (λ w. IsSwitch z (pair_value z (wires_at (last (2 * j + 2 * m)))) (pair_value z (wires_at w)) at) (ap last odd ∙ alternating-odd (output_wire up) (output_wire low) (j + m)) switch)
-
-pub network_sound : NetworkIsSound
-unfolding network_of last_column_of here pure ◌>>=◌ through
-network_sound z net next zero item assigns meets =
-    let column = Meets-split z (column_of 1 item next).list [] meets in
-    let each = column_sound z 1 item next assigns column.0 in
+pub level_sound : (z : List ℕ) (net : Net) (form : Form) (next h : ℕ) (items : ItemsOf form) → Assigns z → Meets z (level_of net form h items next).list
+    → IsLevel z net form h next (λ j. pair_value z (item_in form items j)) (λ i. pair_value z (end_in net form (level_of net form h items next).answer i))
+unfolding level_of last_column_of here pure ◌>>=◌ through bit_place
+level_sound z net form next zero items assigns meets =
+    let f = innermost net form in
+    let item = item_in form items in
+    let column = Meets-split z (column_of f 1 item next).list [] meets in
+    let each = column_sound z f 1 item next assigns column.0 in
     let one = one_switch net in
+    let start : next + 0 * width f ≡ next = omega arith in
     record {
-      bits = λ j k. (each j (omega arith)).bit;
-      outputs = λ i k. ap (λ w. pair_value z (wires_at w)) (whole_outputs next i) ∙ row_outputs z 1 next (λ j. pair_value z (item (2 * j))) (λ j. pair_value z (item (2 * j + 1))) each i k;
+      bits = λ j k. subst (λ w. IsBit (slice_index z w)) start (each 0 (omega arith)).bit;
+      outputs = λ i k.
+          let same : i / 2 ≡ 0 = omega arith in
+          let switch = subst (λ j. IsSwitchOf z f item next j) (sym same) (each 0 (omega arith)) in
+          let bit_same = ap (λ w. slice_index z w == 1) (ap (λ j. next + j * width f) same ∙ start) in
+          ap (pair_value z) (end_two net form next items i k)
+          ∙ value_alternating z (λ j. first_of f (switch_wire f next j) (item (2 * j))) (λ j. second_of f (switch_wire f next j) (item (2 * j + 1))) i
+          ∙ alternating-same (λ j. pair_value z (first_of f (switch_wire f next j) (item (2 * j)))) (λ j. passed (level_bit z net form 0 next j) (pair_value z (item (2 * j))) (pair_value z (item (2 * j + 1))))
+          (λ j. pair_value z (second_of f (switch_wire f next j) (item (2 * j + 1)))) (λ j. passed (level_bit z net form 0 next j) (pair_value z (item (2 * j + 1))) (pair_value z (item (2 * j)))) i
+          (switch.first ∙ ap (λ b. passed b (pair_value z (item (2 * (i / 2)))) (pair_value z (item (2 * (i / 2) + 1)))) bit_same)
+          (switch.second ∙ ap (λ b. passed b (pair_value z (item (2 * (i / 2) + 1))) (pair_value z (item (2 * (i / 2))))) bit_same);
     }
-network_sound z net next (suc h) item assigns meets =
+level_sound z net form next (suc h) items assigns meets =
     let n = 2 ^ suc h in
-    let c = column_of n item next in
-    let u = network_of net h (row (next + 1)) c.next in
-    let l = network_of net h (row (next + 3)) u.next in
-    let last : ℕ → Pair = λ i. wires_at (last_wire net u.answer l.answer i) in
-    let d = column_of (n - missing net) last l.next in
+    let item = item_in form items in
+    let c = column_of form n item next in
+    let u = level_of net (other form) h (to_upper_of form next items) c.next in
+    let l = level_of net (other form) h (to_lower_of form next items) u.next in
+    let last = last_pair net form u.answer l.answer in
+    let d = column_of form (n - missing net) last l.next in
+    let up_out : ℕ → Pair = end_in net (other form) u.answer in
+    let low_out : ℕ → Pair = end_in net (other form) l.answer in
     let first = Meets-split z c.list (u.list ++ (l.list ++ (d.list ++ []))) meets in
     let second = Meets-split z u.list (l.list ++ (d.list ++ [])) first.1 in
     let third = Meets-split z l.list (d.list ++ []) second.1 in
     let fourth = Meets-split z d.list [] third.1 in
-    let at_u = column_next n item next in
-    let at_l = network_next net h (row (next + 1)) c.next in
-    let at_d = network_next net h (row (next + 3)) u.next in
-    join_sound z net h next c.next u.next l.next u.answer l.answer item
-    (column_sound z n item next assigns first.0)
-    at_u (network_sound z net c.next h (row (next + 1)) assigns second.0)
-    (omega (arith, at_u, at_l)) (network_sound z net u.next h (row (next + 3)) assigns third.0)
-    (omega (arith, at_u, at_l, at_d))
-    (λ j k. last_items z u.answer l.answer (missing net) j (l.next + 5 * j) (column_sound z (n - missing net) last l.next assigns fourth.0 j (omega arith)))
+    join_sound z net form h next c.next u.next l.next (column_next form n item next) (level_next net (other form) h (to_upper_of form next items) c.next) (level_next net (other form) h (to_lower_of form next items) u.next)
+    (λ j. pair_value z (item j)) (λ j. pair_value z (item_in (other form) (to_upper_of form next items) j)) (λ j. pair_value z (item_in (other form) (to_lower_of form next items) j))
+    (λ j. pair_value z (up_out j)) (λ j. pair_value z (low_out j))
+    (λ j. pair_value z (first_of form (switch_wire form l.next (j - missing net)) (up_out j))) (λ j. pair_value z (second_of form (switch_wire form l.next (j - missing net)) (low_out j)))
+    (λ i. pair_value z (end_in net form (last_ends net form l.next u.answer l.answer) i))
+    (λ j k. first_switch z net form h next items j (column_sound z form n item next assigns first.0 j k))
+    (level_sound z net (other form) c.next h (to_upper_of form next items) assigns second.0) (level_sound z net (other form) u.next h (to_lower_of form next items) assigns third.0)
+    (λ j some k. last_switch z net form u.answer l.answer l.next j some (column_sound z form (n - missing net) last l.next assigns fourth.0 (j - missing net) (omega arith)))
+    (λ i k. ap (pair_value z) (end_passes net form l.next u.answer l.answer i k) ∙ value_alternating z up_out low_out i)
+    (λ i k. ap (pair_value z) (end_made net form l.next u.answer l.answer i k)
+    ∙ value_alternating z (λ j. first_of form (switch_wire form l.next (j - missing net)) (up_out j)) (λ j. second_of form (switch_wire form l.next (j - missing net)) (low_out j)) i)
+
+pub network_sound : NetworkIsSound
+network_sound z net next h item assigns meets =
+    let level = level_sound z net Bound next h item assigns meets in
+    record { bits = level.bits; outputs = level.outputs }

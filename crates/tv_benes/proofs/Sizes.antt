@@ -1,24 +1,30 @@
--- How many wires a network makes, which of them its outputs are, and that its values are in the field.
-use Rattle.std.proofs.Common.{◌≡◌, ℕ, zero, suc, ◌+◌, ◌-◌, ◌*◌, ◌/◌, ◌^◌, ◌<◌, ◌≤◌, Bool, true, false, [], ◌∷◌, ◌++◌, sym, ◌∙◌, ap, subst, arith, inl, inr}
-use Rattle.std.proofs.lemmas.Bool.{cases_eq}
+-- Which wires the outputs of a network are made of, and that its values are in the field.
+use Rattle.std.proofs.Common.{◌≡◌, mod-lt, ℕ, zero, suc, ◌+◌, ◌-◌, ◌*◌, ◌/◌, ◌^◌, ◌<◌, ◌≤◌, Bool, true, false, [], ◌∷◌, ◌++◌, length, sym, ◌∙◌, ap, subst, arith, inl, inr}
+use Rattle.std.proofs.lemmas.Bool.{cases_eq, cases_lt}
 use Rattle.std.proofs.lemmas.List.Elements.{All-nil, All-cons, All-append}
 use Rattle.std.proofs.lemmas.Nat.{pow_pos}
-use Rattle.tv_benes.proofs.NetworkComplete.{network_values-length}
-use Rattle.tv_benes.proofs.NetworkLaws.{column_next, network_next, output_zero, output_one, output_other}
+use Rattle.tv_benes.proofs.Ends.{output_zero, output_one, output_other, sum_passes, sum_made}
+use Rattle.tv_benes.proofs.NetworkComplete.{level_values-length}
+use Rattle.tv_benes.proofs.NetworkLaws.{column_next, level_next}
 use Rattle.tv_benes.proofs.ThroughLaws.{twice, missing_small, alternating_keeps, upper_keeps, lower_keeps, through_keeps}
-use Rattle.tv_benes.specs.Network.{column_of, network_of, last_column_of, switch_values, column_values, network_values, NetworkFills}
-use Rattle.tv_benes.specs.Places.{wires_at, fifth, row, column_outputs, last_wire, AreBelow}
+use Rattle.tv_benes.specs.Levels.{other, innermost}
+use Rattle.tv_benes.specs.Network.{column_of, level_of, last_column_of, product, switch_values, column_values, level_values, NetworkFills}
+use Rattle.tv_benes.specs.Places.{wires_at, fifth, row, switch_wire, first_of, second_of, passed_to, ItemsOf, to_upper_of, to_lower_of, output, output_wire, column_outputs, sum_at, EndsOf, two_ends, last_ends, last_pair, AreMade, AreBelow}
 use Rattle.tv_benes.specs.Through.{switches, missing, from, to_upper, to_lower, alternating, through}
 use Rattle.tv_benes.specs.declared.places.Outputs.{Outputs}
+use Rattle.tv_benes.specs.declared.places.Sums.{Sums}
+use Rattle.tv_benes.specs.declared.shape.Form.{Form}
+use Rattle.tv_benes.specs.declared.shape.Form.TheVariants.{Bound, Open}
 use Rattle.tv_benes.specs.declared.shape.Net.{Net}
 use Rattle.tv_benes.specs.declared.shape.Net.TheVariants.{Benes, Waksman}
 use Rattle.tv_core.specs.Circuits.{here, pure, ◌>>=◌}
+use Rattle.tv_core.specs.Combinations.{top}
 use Rattle.tv_core.specs.Laws.{InField}
 use Rattle.tv_core.specs.declared.field.TheConstants.{P}
 use Rattle.tv_core.specs.declared.lines.Pair.{Pair}
 use Rattle.tv_core.specs.declared.lines.PairNum.{PairNum}
 
--- ---- the outputs
+-- ---- outputs that are wires
 fifth_below : (a b end i : ℕ) → a + 5 * (i / 2) + 1 < end → b + 5 * (i / 2) + 1 < end → alternating (fifth a) (fifth b) i + 1 < end
 fifth_below a b end i p q = alternating_keeps (λ w. w + 1 < end) (fifth a) (fifth b) i p q
 
@@ -31,58 +37,165 @@ outputs_below o n end first second others i within = elim (cases_eq i 0) [
   ]
 ]
 
-pub network_below : (net : Net) (h next : ℕ) (item : ℕ → Pair) → AreBelow (network_of net h item next).answer (2 ^ suc h) (network_of net h item next).next
-unfolding network_of last_column_of here pure ◌>>=◌
-network_below net zero next item =
-    let at = column_next 1 item next in
-    outputs_below (column_outputs next) 0 (column_of 1 item next).next (omega arith) (omega arith) (omega arith)
-network_below Benes (suc h) next item =
-    let c = (column_of (2 ^ suc h) item next).next in
-    let u = network_of Benes h (row (next + 1)) c in
-    let l = network_of Benes h (row (next + 3)) u.next in
-    let last : ℕ → Pair = λ i. wires_at (last_wire Benes u.answer l.answer i) in
-    let some = pow_pos (suc h) in
-    let at = column_next (2 ^ suc h - 0) last l.next in
-    let count : 2 * (2 ^ suc h - 1 + 1) ≡ 2 ^ suc (suc h) = omega (arith, twice (suc h)) in
-    subst (λ n. AreBelow (column_outputs l.next) n (column_of (2 ^ suc h - 0) last l.next).next) count
-    (outputs_below (column_outputs l.next) (2 ^ suc h - 1) (column_of (2 ^ suc h - 0) last l.next).next (omega arith) (omega arith) (omega arith))
-network_below Waksman (suc h) next item =
-    let c = (column_of (2 ^ suc h) item next).next in
-    let u = network_of Waksman h (row (next + 1)) c in
-    let l = network_of Waksman h (row (next + 3)) u.next in
-    let last : ℕ → Pair = λ i. wires_at (last_wire Waksman u.answer l.answer i) in
-    let some = pow_pos (suc h) in
-    let at_l = network_next Waksman h (row (next + 3)) u.next in
-    let at = column_next (2 ^ suc h - 1) last l.next in
-    let upper : u.answer.first + 1 < u.next = network_below Waksman h c (row (next + 1)) 0 (omega arith) in
-    let lower : l.answer.first + 1 < l.next = network_below Waksman h u.next (row (next + 3)) 0 (omega arith) in
-    let count : 2 * (2 ^ suc h - 1 + 1) ≡ 2 ^ suc (suc h) = omega (arith, twice (suc h)) in
-    let outputs : Outputs = record { first = u.answer.first; second = l.answer.first; others = l.next } in
-    subst (λ n. AreBelow outputs n (column_of (2 ^ suc h - 1) last l.next).next) count
-    (outputs_below outputs (2 ^ suc h - 1) (column_of (2 ^ suc h - 1) last l.next).next (omega arith) (omega arith) (omega arith))
+pub below_later : (o : Outputs) (n a b : ℕ) → a ≤ b → AreBelow o n a → AreBelow o n b
+below_later o n a b more below i within = let at = below i within in omega arith
+
+-- ---- pairs that are made of wires below a number
+pub record IsPairMade (pair : Pair) (wires : ℕ) : Type 0 where
+  pub first : top pair.first ≤ wires
+  pub second : top pair.second ≤ wires
+  pub first_short : length pair.first ≤ 64
+  pub second_short : length pair.second ≤ 64
+
+pub made_by : (pair : ℕ → Pair) (count wires : ℕ) → ((i : ℕ) → i < count → IsPairMade (pair i) wires) → AreMade pair count wires
+made_by pair count wires each = record {
+  first = λ i h. (each i h).first;
+  second = λ i h. (each i h).second;
+  first_short = λ i h. (each i h).first_short;
+  second_short = λ i h. (each i h).second_short;
+}
+
+made_at : (pair : ℕ → Pair) (count wires : ℕ) → AreMade pair count wires → (i : ℕ) → i < count → IsPairMade (pair i) wires
+made_at pair count wires made i h = record { first = made.first i h; second = made.second i h; first_short = made.first_short i h; second_short = made.second_short i h }
+
+pub wires_made : (w wires : ℕ) → w + 1 < wires → IsPairMade (wires_at w) wires
+wires_made w wires h = record { first = omega arith; second = omega arith; first_short = omega arith; second_short = omega arith }
+
+first_made : (w at wires : ℕ) → w + 1 < wires → at + 2 < wires → IsPairMade (first_of Open at (wires_at w)) wires
+first_made w at wires h k = record { first = omega arith; second = omega arith; first_short = omega arith; second_short = omega arith }
+
+second_made : (w at wires : ℕ) → w + 1 < wires → at + 2 < wires → IsPairMade (second_of Open at (wires_at w)) wires
+second_made w at wires h k = record { first = omega arith; second = omega arith; first_short = omega arith; second_short = omega arith }
+
+pub row_made : (from count wires : ℕ) → from + 5 * count ≤ wires + 3 → AreMade (row from) count wires
+row_made from count wires h = made_by (row from) count wires (λ i k. wires_made (from + 5 * i) wires (omega arith))
+
+-- what an open column passes to the two networks within
+pub passed_made : (lower : Bool) (first from n wires : ℕ) → from + 10 * n ≤ wires + 3 → first + 3 * n ≤ wires → AreMade (passed_to lower first from) n wires
+passed_made true first from n wires h k = made_by (passed_to true first from) n wires (λ j l. second_made (from + 5 * (2 * j + 1)) (first + j * 3) wires (omega arith) (omega arith))
+passed_made false first from n wires h k = made_by (passed_to false first from) n wires (λ j l. first_made (from + 5 * (2 * j)) (first + j * 3) wires (omega arith) (omega arith))
+
+-- the outputs of an open network, whose last column has n switches but for those that are missing
+pub sums_made : (net : Net) (o : Sums) (n wires : ℕ) → AreBelow o.upper n wires → AreBelow o.lower n wires → o.others + 3 * (n - missing net) ≤ wires → AreMade (sum_at net o) (2 * n) wires
+sums_made net o n wires upper lower others = made_by (sum_at net o) (2 * n) wires each
+  where
+    each : (i : ℕ) → i < 2 * n → IsPairMade (sum_at net o i) wires
+    each i h = elim (cases_lt i (2 * missing net)) [
+      | inl k ↦ subst (λ (p : Pair). IsPairMade p wires) (sym (sum_passes net o i k))
+          (wires_made (alternating (output_wire o.upper) (output_wire o.lower) i) wires
+          (alternating_keeps (λ w. w + 1 < wires) (output_wire o.upper) (output_wire o.lower) i (upper (i / 2) (omega arith)) (lower (i / 2) (omega arith))))
+      | inr k ↦ subst (λ (p : Pair). IsPairMade p wires) (sym (sum_made net o i k))
+          (alternating_keeps (λ (p : Pair). IsPairMade p wires) (λ j. first_of Open (switch_wire Open o.others (j - missing net)) (output o.upper j))
+          (λ j. second_of Open (switch_wire Open o.others (j - missing net)) (output o.lower j)) i
+          (first_made (output_wire o.upper (i / 2)) (switch_wire Open o.others (i / 2 - missing net)) wires (upper (i / 2) (omega arith)) (omega arith))
+          (second_made (output_wire o.lower (i / 2)) (switch_wire Open o.others (i / 2 - missing net)) wires (lower (i / 2) (omega arith)) (omega arith)))
+    ]
+
+pub made_later : (pair : ℕ → Pair) (n a b : ℕ) → a ≤ b → AreMade pair n a → AreMade pair n b
+made_later pair n a b more made = made_by pair n b (λ i h. let m = made_at pair n a made i h in record { first = omega (arith, m.first); second = omega (arith, m.second); first_short = m.first_short; second_short = m.second_short })
+
+-- the items of a bound last column
+pub last_made : (net : Net) (u l : Sums) (n wires : ℕ) → 1 ≤ n → AreMade (sum_at net u) n wires → AreMade (sum_at net l) n wires → AreMade (last_pair net Bound u l) (2 * (n - missing net)) wires
+last_made net u l n wires some upper lower = let one = missing_small net in
+    made_by (last_pair net Bound u l) (2 * (n - missing net)) wires (λ i h.
+    alternating_keeps (λ (p : Pair). IsPairMade p wires) (sum_at net u) (sum_at net l) (i + 2 * missing net)
+    (made_at (sum_at net u) n wires upper ((i + 2 * missing net) / 2) (omega arith)) (made_at (sum_at net l) n wires lower ((i + 2 * missing net) / 2) (omega arith)))
+
+-- ---- the outputs of a network
+-- the items of an open one are wires that there are
+abbrev pub HasItems : (form : Form) → ItemsOf form → ℕ → ℕ → Type 0
+HasItems Bound item h next = Unit {0}
+HasItems Open from h next = from + 10 * 2 ^ h ≤ next + 3
+
+abbrev pub HasEnds : Net → (form : Form) → EndsOf form → ℕ → ℕ → Type 0
+HasEnds net Bound o n wires = AreBelow o n wires
+HasEnds net Open o n wires = AreMade (sum_at net o) n wires
+
+lone_below : (w wires : ℕ) → w + 1 < wires → AreBelow (record { first = w; second = w; others = w }) 1 wires
+lone_below w wires h i k = let none : i ≡ 0 = omega arith in subst (λ v. v + 1 < wires) (sym (output_zero (record { first = w; second = w; others = w }) i none)) h
+
+-- the outputs of a bound last column of n switches but for those that are missing
+bound_below : (net : Net) (n g end : ℕ) (u l : Sums) → 2 ≤ n → AreMade (sum_at net u) n g → AreMade (sum_at net l) n g → end ≡ switch_wire Bound g (n - missing net)
+    → AreBelow (last_ends net Bound g u l) (2 * n) end
+bound_below net n g end u l some upper lower at = let count : 2 * (n - 1 + 1) ≡ 2 * n = omega arith in subst (λ c. AreBelow (last_ends net Bound g u l) c end) count (by net upper lower at)
+  where
+    by : (net : Net) → AreMade (sum_at net u) n g → AreMade (sum_at net l) n g → end ≡ switch_wire Bound g (n - missing net) → AreBelow (last_ends net Bound g u l) (2 * (n - 1 + 1)) end
+    by Benes upper lower at = outputs_below (column_outputs g) (n - 1) end (omega arith) (omega arith) (omega arith)
+    by Waksman upper lower at =
+        let first = upper.second 0 (omega arith) in
+        let second = lower.second 0 (omega arith) in
+        outputs_below (record { first = u.upper.first; second = l.upper.first; others = g }) (n - 1) end (omega arith) (omega arith) (omega arith)
+
+pub level_below : (net : Net) (form : Form) (h next : ℕ) (items : ItemsOf form) → HasItems form items h next → HasEnds net form (level_of net form h items next).answer (2 ^ suc h) (level_of net form h items next).next
+unfolding level_of last_column_of here pure ◌>>=◌
+level_below Benes Bound zero next items has = let at = column_next Bound 1 items next in outputs_below (column_outputs next) 0 (column_of Bound 1 items next).next (omega arith) (omega arith) (omega arith)
+level_below Waksman Bound zero next items has = let at = column_next Bound 1 items next in outputs_below (column_outputs next) 0 (column_of Bound 1 items next).next (omega arith) (omega arith) (omega arith)
+level_below Benes Open zero next from has =
+    let end = (column_of Open 1 (row from) next).next in
+    let at = column_next Open 1 (row from) next in
+    sums_made Benes (two_ends Benes Open next from) 1 end (lone_below from end (omega arith)) (lone_below (from + 5) end (omega arith)) (omega arith)
+level_below Waksman Open zero next from has =
+    let end = (column_of Bound 1 (row from) next).next in
+    let at = column_next Bound 1 (row from) next in
+    sums_made Waksman (two_ends Waksman Open next from) 1 end (lone_below (next + 1) end (omega arith)) (lone_below (next + 3) end (omega arith)) (omega arith)
+level_below net Bound (suc h) next item has =
+    let n = 2 ^ suc h in
+    let c = column_of Bound n item next in
+    let u = level_of net Open h (next + 1) c.next in
+    let l = level_of net Open h (next + 3) u.next in
+    let c_next = column_next Bound n item next in
+    let u_next = level_next net Open h (next + 1) c.next in
+    let l_next = level_next net Open h (next + 3) u.next in
+    let double = twice h in
+    let some = pow_pos h in
+    let upper = level_below net Open h c.next (next + 1) (omega arith) in
+    let lower = level_below net Open h u.next (next + 3) (omega arith) in
+    subst (λ c. AreBelow (last_ends net Bound l.next u.answer l.answer) c (column_of Bound (n - missing net) (last_pair net Bound u.answer l.answer) l.next).next) (sym (twice (suc h)))
+    (bound_below net n l.next (column_of Bound (n - missing net) (last_pair net Bound u.answer l.answer) l.next).next u.answer l.answer (omega arith) (made_later (sum_at net u.answer) n u.next l.next (omega arith) upper) lower
+    (column_next Bound (n - missing net) (last_pair net Bound u.answer l.answer) l.next))
+level_below net Open (suc h) next from has =
+    let n = 2 ^ suc h in
+    let c = column_of Open n (row from) next in
+    let u = level_of net Bound h (to_upper_of Open next from) c.next in
+    let l = level_of net Bound h (to_lower_of Open next from) u.next in
+    let last = column_of Open (n - missing net) (last_pair net Open u.answer l.answer) l.next in
+    let u_next = level_next net Bound h (to_upper_of Open next from) c.next in
+    let l_next = level_next net Bound h (to_lower_of Open next from) u.next in
+    let at = column_next Open (n - missing net) (last_pair net Open u.answer l.answer) l.next in
+    let o : Sums = record { upper = u.answer; lower = l.answer; others = l.next } in
+    subst (λ c. AreMade (sum_at net o) c last.next) (sym (twice (suc h)))
+    (sums_made net o n last.next (below_later u.answer n u.next last.next (omega arith) (level_below net Bound h c.next (to_upper_of Open next from) tt))
+    (below_later l.answer n l.next last.next (omega arith) (level_below net Bound h u.next (to_lower_of Open next from) tt)) (omega arith))
+
+pub network_below : (net : Net) (h next : ℕ) (item : ℕ → Pair) → AreBelow (level_of net Bound h item next).answer (2 ^ suc h) (level_of net Bound h item next).next
+network_below net h next item = level_below net Bound h next item tt
 
 -- ---- the values
-
 five_small : (a b c d e : ℕ) → a < P → b < P → c < P → d < P → e < P → InField (a ∷ b ∷ c ∷ d ∷ e ∷ [])
 five_small a b c d e p q r s t =
     let Q : ℕ → Type 0 = λ n. n < P in
     All-cons Q a (b ∷ c ∷ d ∷ e ∷ []) p (All-cons Q b (c ∷ d ∷ e ∷ []) q (All-cons Q c (d ∷ e ∷ []) r (All-cons Q d (e ∷ []) s (All-cons Q e [] t (All-nil Q)))))
 
-switch_small : (b : Bool) (x y : PairNum) → (x.first < P) × (x.second < P) → (y.first < P) × (y.second < P) → InField (switch_values b x y)
-switch_small true x y p q = five_small 1 y.first y.second x.first x.second (omega arith) q.0 q.1 p.0 p.1
-switch_small false x y p q = five_small 0 x.first x.second y.first y.second (omega arith) p.0 p.1 q.0 q.1
+three_small : (a b c : ℕ) → a < P → b < P → c < P → InField (a ∷ b ∷ c ∷ [])
+three_small a b c p q r = let Q : ℕ → Type 0 = λ n. n < P in All-cons Q a (b ∷ c ∷ []) p (All-cons Q b (c ∷ []) q (All-cons Q c [] r (All-nil Q)))
 
-column_small : (n : ℕ) (bit : ℕ → Bool) (v : ℕ → PairNum) → ((j : ℕ) → j < 2 * n → ((v j).first < P) × ((v j).second < P)) → InField (column_values n bit v)
+switch_small : (form : Form) (b : Bool) (x y : PairNum) → (x.first < P) × (x.second < P) → (y.first < P) × (y.second < P) → InField (switch_values form b x y)
+switch_small Bound true x y p q = five_small 1 y.first y.second x.first x.second (omega arith) q.0 q.1 p.0 p.1
+switch_small Bound false x y p q = five_small 0 x.first x.second y.first y.second (omega arith) p.0 p.1 q.0 q.1
+switch_small Open true x y p q = three_small 1 (product true x.first y.first) (product true x.second y.second) (omega arith) (mod-lt _ (omega arith)) (mod-lt _ (omega arith))
+switch_small Open false x y p q = three_small 0 0 0 (omega arith) (omega arith) (omega arith)
+
+column_small : (form : Form) (n : ℕ) (bit : ℕ → Bool) (v : ℕ → PairNum) → ((j : ℕ) → j < 2 * n → ((v j).first < P) × ((v j).second < P)) → InField (column_values form n bit v)
 unfolding column_values
-column_small zero bit v each = All-nil (λ n. n < P)
-column_small (suc n) bit v each =
-    All-append (λ n. n < P) (column_values n bit v) (switch_values (bit n) (v (2 * n)) (v (2 * n + 1))) (column_small n bit v (λ j k. each j (omega arith)))
-    (switch_small (bit n) (v (2 * n)) (v (2 * n + 1)) (each (2 * n) (omega arith)) (each (2 * n + 1) (omega arith)))
+column_small form zero bit v each = All-nil (λ n. n < P)
+column_small form (suc n) bit v each =
+    All-append (λ n. n < P) (column_values form n bit v) (switch_values form (bit n) (v (2 * n)) (v (2 * n + 1))) (column_small form n bit v (λ j k. each j (omega arith)))
+    (switch_small form (bit n) (v (2 * n)) (v (2 * n + 1)) (each (2 * n) (omega arith)) (each (2 * n + 1) (omega arith)))
 
-network_small : (net : Net) (h : ℕ) (bit : ℕ → Bool) (v : ℕ → PairNum) → ((j : ℕ) → j < 2 ^ suc h → ((v j).first < P) × ((v j).second < P)) → InField (network_values net h bit v)
-unfolding network_values
-network_small net zero bit v each = column_small 1 bit v (λ j k. each j (omega arith))
-network_small net (suc h) bit v each =
+level_small : (net : Net) (form : Form) (h : ℕ) (bit : ℕ → Bool) (v : ℕ → PairNum) → ((j : ℕ) → j < 2 ^ suc h → ((v j).first < P) × ((v j).second < P)) → InField (level_values net form h bit v)
+unfolding level_values
+level_small net form zero bit v each = column_small (innermost net form) 1 bit v (λ j k. each j (omega arith))
+level_small net form (suc h) bit v each =
     let n = 2 ^ suc h in
     let s = switches net h in
     let Q : PairNum → Type 0 = λ p. (p.first < P) × (p.second < P) in
@@ -96,19 +209,19 @@ network_small net (suc h) bit v each =
     let u = through net h (from n bit) up in
     let l = through net h (from (n + s) bit) low in
     let last : ℕ → PairNum = λ i. alternating u l (i + 2 * missing net) in
-    let vu = network_values net h (from n bit) up in
-    let vl = network_values net h (from (n + s) bit) low in
-    let vd = column_values (n - missing net) (from (n + 2 * s) bit) last in
+    let vu = level_values net (other form) h (from n bit) up in
+    let vl = level_values net (other form) h (from (n + s) bit) low in
+    let vd = column_values form (n - missing net) (from (n + 2 * s) bit) last in
     let lasts : (j : ℕ) → j < 2 * (n - missing net) → ((last j).first < P) × ((last j).second < P) =
     λ j k. alternating_keeps Q u l (j + 2 * missing net) (through_keeps Q net h (from n bit) up ups ((j + 2 * missing net) / 2) (omega arith)) (through_keeps Q net h (from (n + s) bit) low lows ((j + 2 * missing net) / 2) (omega arith)) in
-    All-append (λ n. n < P) (column_values n bit v) (vu ++ (vl ++ vd)) (column_small n bit v each')
-    (All-append (λ n. n < P) vu (vl ++ vd) (network_small net h (from n bit) up ups)
-    (All-append (λ n. n < P) vl vd (network_small net h (from (n + s) bit) low lows) (column_small (n - missing net) (from (n + 2 * s) bit) last lasts)))
+    All-append (λ n. n < P) (column_values form n bit v) (vu ++ (vl ++ vd)) (column_small form n bit v each')
+    (All-append (λ n. n < P) vu (vl ++ vd) (level_small net (other form) h (from n bit) up ups)
+    (All-append (λ n. n < P) vl vd (level_small net (other form) h (from (n + s) bit) low lows) (column_small form (n - missing net) (from (n + 2 * s) bit) last lasts)))
 
 pub network_sizes : NetworkFills
 network_sizes = record {
-  fills = λ net h item bit v next. network_next net h item next ∙ ap (λ k. next + k) (sym (network_values-length net h bit v));
-  ends = λ net h next item. network_next net h item next;
-  below = λ net h next item. subst (λ end. AreBelow (network_of net h item next).answer (2 ^ suc h) end) (network_next net h item next) (network_below net h next item);
-  small = network_small;
+  fills = λ net h item bit v next. level_next net Bound h item next ∙ ap (λ k. next + k) (sym (level_values-length net Bound h bit v));
+  ends = λ net h next item. level_next net Bound h item next;
+  below = λ net h next item. subst (λ end. AreBelow (level_of net Bound h item next).answer (2 ^ suc h) end) (level_next net Bound h item next) (network_below net h next item);
+  small = λ net h bit v each. level_small net Bound h bit v each;
 }

@@ -1,5 +1,6 @@
 -- What goes through a network, by places.
 use Rattle.std.proofs.Common.{◌≡◌, ℕ, zero, suc, ◌+◌, ◌-◌, ◌*◌, ◌/◌, ◌%◌, ◌^◌, ◌<◌, ◌≤◌, ◌==◌, Bool, true, false, if◌then◌else◌, refl, sym, ◌∙◌, ap, ap₂, arith}
+use Rattle.std.proofs.lemmas.Bool.{ne_eqb}
 use Rattle.std.proofs.lemmas.Nat.{pow_pos}
 use Rattle.tv_benes.specs.Through.{switches, from, passed, to_upper, to_lower, alternating, joined, last_bit, missing, through, PlacesTell}
 use Rattle.tv_benes.specs.declared.shape.Net.{Net}
@@ -32,6 +33,16 @@ pub last_bit-same : (net : Net) (bit bit' : ℕ → Bool) (n j : ℕ) → j < n 
 last_bit-same Waksman bit bit' n zero h same = refl
 last_bit-same Waksman bit bit' n (suc j) h same = let place : suc j - 1 ≡ j = omega arith in ap (λ x. if suc j == 0 then false else x) (ap bit place ∙ same j (omega arith) ∙ ap bit' (sym place))
 last_bit-same Benes bit bit' n j h same = same j (omega arith)
+
+-- the bit of a switch of a last column that there is, and of one that it lacks
+pub kept_bit : (net : Net) (bit : ℕ → Bool) (j : ℕ) → missing net ≤ j → last_bit net bit j ≡ bit (j - missing net)
+kept_bit Waksman bit zero h = absurd (omega arith)
+kept_bit Waksman bit (suc j) h = ap (λ (c : Bool). if c then false else bit (suc j - 1)) (ne_eqb (suc j) 0 (λ e. absurd (omega arith)))
+kept_bit Benes bit j h = let same : j ≡ j - 0 = omega arith in ap bit same
+
+pub left_bit : (net : Net) (bit : ℕ → Bool) (j : ℕ) → j < missing net → last_bit net bit j ≡ false
+left_bit Waksman bit j h = let none : j ≡ 0 = omega arith in ap (λ k. last_bit Waksman bit k) none
+left_bit Benes bit j h = absurd (omega arith)
 
 module _ {X : Type 0} where
   pub passed-same : (b c : Bool) (x x' y y' : X) → b ≡ c → x ≡ x' → y ≡ y' → passed b x y ≡ passed c x' y'

@@ -1,5 +1,6 @@
 pub mod Costs
 pub mod Items
+pub mod Levels
 pub mod Network
 pub mod Places
 pub mod Through

@@ -3,14 +3,15 @@ ghost use Rattle.tv_core.specs.Combinations.{top};
 ghost use Rattle.tv_core.specs.Sinks.{PutsIn, Grows, Room};
 ghost use Rattle.tv_benes.specs.Network.{switch_of, column_of};
 ghost use Rattle.tv_benes.specs.Places.{wires_at, AreMade};
+ghost use Rattle.tv_benes.specs.declared.shape.Form.TheVariants.{Bound, Open};
 
-use crate::places::{Inputs, Places};
-use crate::wire_switches::wire_switch;
+use crate::open_switches::open_switch;
+use crate::places::{Pairs, Places};
 use tv_bits::{bit_by, select_terms};
 use tv_core::{F, Lc, Pair, Put, Scratch, Sink, Wire};
 
-// A switch between two items, each told by the terms of its two combinations. It makes 5 wires and
-// 5 constraints, with 23 terms where the items are wires.
+// A bound switch between two items, each by the terms of its two combinations. It makes 5 wires and
+// 5 constraints, of 11 terms and three for each term of the items.
 fn switch<S: Sink>(
     s: &mut S,
     scratch: &mut Scratch,
@@ -29,7 +30,7 @@ fn switch<S: Sink>(
     requires y_short { length y.now ≤ 64 }
     requires y2_short { length y_second.now ≤ 64 }
     ensures puts { PutsIn S.meaning s.old s.new
-        (switch_of (record { first = x.now; second = x_second.now })
+        (switch_of Bound (record { first = x.now; second = x_second.now })
         (record { first = y.now; second = y_second.now })) result }
     ensures grows { IfOk result (λ _. Grows S.meaning s.old s.new 5 5) }
 {
@@ -42,8 +43,8 @@ fn switch<S: Sink>(
     Ok(())
 }
 
-// A switch between two pairs of combinations.
-fn pair_switch<S: Sink>(s: &mut S, scratch: &mut Scratch, x: &Pair, y: &Pair) -> Put<()>
+// A bound switch between two pairs of combinations.
+pub(crate) fn bound_switch<S: Sink>(s: &mut S, scratch: &mut Scratch, x: &Pair, y: &Pair) -> Put<()>
     requires room { Room S.meaning s.old 5 5 }
     requires x_made { top x.now.first ≤ S.meaning.wires s.old }
     requires x2_made { top x.now.second ≤ S.meaning.wires s.old }
@@ -53,7 +54,7 @@ fn pair_switch<S: Sink>(s: &mut S, scratch: &mut Scratch, x: &Pair, y: &Pair) ->
     requires x2_short { length x.now.second ≤ 64 }
     requires y_short { length y.now.first ≤ 64 }
     requires y2_short { length y.now.second ≤ 64 }
-    ensures puts { PutsIn S.meaning s.old s.new (switch_of x.now y.now) result }
+    ensures puts { PutsIn S.meaning s.old s.new (switch_of Bound x.now y.now) result }
     ensures grows { IfOk result (λ _. Grows S.meaning s.old s.new 5 5) }
 {
     switch(
@@ -66,48 +67,64 @@ fn pair_switch<S: Sink>(s: &mut S, scratch: &mut Scratch, x: &Pair, y: &Pair) ->
     )
 }
 
-// `n` switches between items that are two wires each.
-pub(crate) fn column<S: Sink, P: Places>(
+// `n` open switches between items that are two wires each.
+pub(crate) fn open_column<S: Sink, P: Places>(
     s: &mut S,
     scratch: &mut Scratch,
     n: u32,
     items: &P,
 ) -> Put<()>
-    requires room { Room S.meaning s.old (5 * n) (5 * n) }
+    requires room { Room S.meaning s.old (3 * n) (3 * n) }
     requires made { (i : ℕ) → i < 2 * n → P.place items.now i + 1 < S.meaning.wires s.old }
-    ensures puts { PutsIn S.meaning s.old s.new (column_of n (λ i. wires_at (P.place items.now i)))
-        result }
-    ensures grows { IfOk result (λ _. Grows S.meaning s.old s.new (5 * n) (5 * n)) }
+    ensures puts { PutsIn S.meaning s.old s.new
+        (column_of Open n (λ i. wires_at (P.place items.now i))) result }
+    ensures grows { IfOk result (λ _. Grows S.meaning s.old s.new (3 * n) (3 * n)) }
 {
     for j in 0..n {
         let x = items.at(2 * j);
         let y = items.at(2 * j + 1);
-        wire_switch(s, scratch, x, y)?;
+        open_switch(s, scratch, x, y)?;
     }
     Ok(())
 }
 
-// `n` switches between the items that go into a network.
-pub(crate) fn input_column<S: Sink, I: Inputs>(
+// `n` bound switches.
+pub(crate) fn bound_column<S: Sink, T: Pairs>(
     s: &mut S,
-    scratch: &mut Scratch,
+    buffers: &mut Buffers,
     n: u32,
-    inputs: &I,
+    items: &T,
 ) -> Put<()>
     requires room { Room S.meaning s.old (5 * n) (5 * n) }
-    requires count { I.count inputs.now ≡ 2 * n }
-    requires made { AreMade (I.pair inputs.now) (2 * n) (S.meaning.wires s.old) }
-    ensures puts { PutsIn S.meaning s.old s.new (column_of n (I.pair inputs.now)) result }
+    requires count { 2 * n ≤ T.count items.now }
+    requires made { AreMade (T.pair items.now) (2 * n) (S.meaning.wires s.old) }
+    ensures puts { PutsIn S.meaning s.old s.new (column_of Bound n (T.pair items.now)) result }
     ensures grows { IfOk result (λ _. Grows S.meaning s.old s.new (5 * n) (5 * n)) }
 {
-    let mut x = no_terms();
-    let mut y = no_terms();
     for j in 0..n {
-        inputs.fill(2 * j, &mut x);
-        inputs.fill(2 * j + 1, &mut y);
-        pair_switch(s, scratch, &x, &y)?;
+        items.fill(2 * j, &mut buffers.x);
+        items.fill(2 * j + 1, &mut buffers.y);
+        bound_switch(s, &mut buffers.scratch, &buffers.x, &buffers.y)?;
     }
     Ok(())
+}
+
+// What all columns of a network fill again: two items, and the combinations of a constraint.
+#[derive(Drop)]
+pub(crate) struct Buffers {
+    pub(crate) scratch: Scratch,
+    pub(crate) x: Pair,
+    pub(crate) y: Pair,
+}
+
+impl Buffers {
+    pub(crate) fn new() -> Buffers {
+        Buffers {
+            scratch: Scratch::new(),
+            x: no_terms(),
+            y: no_terms(),
+        }
+    }
 }
 
 // Two combinations without terms, to be filled.

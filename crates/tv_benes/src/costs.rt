@@ -4,9 +4,9 @@ ghost use Rattle.tv_benes.specs.Costs.{network_terms};
 
 use crate::shape::{Net, long_power, routing_switches};
 
-/// Returns how many terms the constraints of either network have, for 2^`k` items with `items` terms
-/// in all, `k` being from 1 to 31: 23 a switch, where its two items are wires, and in the first
-/// column 11 a switch and three for each term of the items.
+/// Returns how many terms the constraints of either network have, for 2^`k` items with `items`
+/// terms in all, `k` being from 1 to 31: in the first column 11 a switch and three for each term of
+/// the items, and 23 a switch after it.
 pub fn network_terms(net: Net, k: u32, items: u64) -> u64
     requires some { 1 ≤ k }
     requires few { k ≤ 31 }

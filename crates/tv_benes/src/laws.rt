@@ -30,15 +30,15 @@ pub fn network_is_complete()
     ensures { NetworkIsComplete }
 {}
 
-/// A network makes five wires a switch, as many as it has values; its outputs are among them; and
-/// its values are numbers of the field where its inputs are.
+/// A network makes three wires a switch and two more a bound one, as many as it has values; its
+/// outputs are among them; and its values are numbers of the field where its inputs are.
 #[tactic(auto, using(crate::proofs::Sizes::network_sizes))]
 pub fn network_fills()
     ensures { NetworkFills }
 {}
 
-/// A network costs five constraints a switch. A switch between items that are wires has 23 terms;
-/// in the first column, 11 and three for each term of its two items.
+/// A network costs a constraint for each wire that it makes: three a switch, of 11 terms, where its
+/// level is open, and five, of 11 and three for each term of its two items, where it is bound.
 pub fn network_is_counted()
     ensures { NetworkIsCounted }
 {}

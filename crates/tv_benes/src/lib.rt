@@ -13,10 +13,10 @@ mod filling;
 mod items;
 mod laws;
 mod networks;
+mod open_switches;
 mod places;
 mod routing;
 mod shape;
-mod wire_switches;
 
 pub use costs::network_terms;
 pub use filling::{fill_network, fill_routing_network};
@@ -27,4 +27,4 @@ pub use laws::{
 pub use networks::{network, routing_network};
 pub use places::{Inputs, Outputs};
 pub use routing::route_items;
-pub use shape::{Net, routing_switches, switches};
+pub use shape::{Net, network_wires, routing_switches, switches};

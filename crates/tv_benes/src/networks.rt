@@ -1,30 +1,37 @@
 //! Either network, put into a sink.
-ghost use Rattle.std.specs.Prelude.{◌≡◌, ◌+◌, ◌-◌, ◌*◌, ◌^◌, ◌<◌, ◌≤◌, IfOk};
-ghost use Rattle.tv_benes.specs.Network.{last_column_of, inner_of, network_of};
-ghost use Rattle.tv_benes.specs.Places.{row, AreMade, AreBelow};
-ghost use Rattle.tv_benes.specs.Through.{switches, missing};
+ghost use Rattle.std.specs.Prelude.{◌≡◌, true, false, ◌+◌, ◌-◌, ◌*◌, ◌^◌, ◌<◌, ◌≤◌, IfOk};
+ghost use Rattle.tv_benes.specs.Levels.{level_wires, network_wires};
+ghost use Rattle.tv_benes.specs.Network.{last_column_of, inner_of, level_of, network_of};
+ghost use Rattle.tv_benes.specs.Places.{column_outputs, passed_to, two_ends, sum_at, AreMade};
+ghost use Rattle.tv_benes.specs.Places.{AreBelow};
+ghost use Rattle.tv_benes.specs.Through.{missing};
+ghost use Rattle.tv_benes.specs.declared.shape.Form.TheVariants.{Bound, Open};
 ghost use Rattle.tv_benes.specs.declared.shape.Net.TheVariants.{Benes};
 ghost use Rattle.tv_core.specs.Sinks.{PutsIn, Grows, Room};
 
-use crate::columns::{column, input_column};
-use crate::places::{Inputs, LastItems, Outputs, Row, column_outputs, last_outputs};
+use crate::columns::{Buffers, bound_column, open_column};
+use crate::places::{
+    Given, Inputs, LastItems, LastSums, Outputs, Passed, Row, Sums, column_outputs, last_outputs,
+    lone,
+};
 use crate::shape::Net;
-use tv_core::{Put, Scratch, Sink, Wire};
+use tv_core::{Put, Sink, Wire};
 use tv_word::arithmetic::power;
 
 /// Benes' network on 2^`k` items, `k` being from 1 to 31. It makes 5 wires and 5 constraints a
-/// switch, of 23 terms where the items are wires; it keeps no list, and asks `inputs` for each item
-/// once.
+/// switch in the levels that are bound, the first, third and so on from outside, and 3 a switch in
+/// the others, which are open; it keeps no list, and asks `inputs` for each item once.
 pub fn network<S: Sink, I: Inputs>(s: &mut S, k: u32, inputs: &I) -> Put<Outputs>
     requires some { 1 ≤ k }
     requires few { k ≤ 31 }
-    requires room { Room S.meaning s.old (5 * switches Benes (k - 1)) (5 * switches Benes (k - 1)) }
+    requires room { Room S.meaning s.old (network_wires Benes (k - 1))
+        (network_wires Benes (k - 1)) }
     requires count { I.count inputs.now ≡ 2 ^ k }
     requires made { AreMade (I.pair inputs.now) (2 ^ k) (S.meaning.wires s.old) }
     ensures puts { PutsIn S.meaning s.old s.new (network_of Benes (k - 1) (I.pair inputs.now))
         result }
-    ensures grows { IfOk result (λ _. Grows S.meaning s.old s.new (5 * switches Benes (k - 1))
-        (5 * switches Benes (k - 1))) }
+    ensures grows { IfOk result (λ _. Grows S.meaning s.old s.new (network_wires Benes (k - 1))
+        (network_wires Benes (k - 1))) }
     ensures below { IfOk result (λ outputs. AreBelow outputs (2 ^ k) (S.meaning.wires s.new)) }
 {
     routing_network(s, Net::Benes, k, inputs)
@@ -34,83 +41,212 @@ pub fn network<S: Sink, I: Inputs>(s: &mut S, k: u32, inputs: &I) -> Put<Outputs
 pub fn routing_network<S: Sink, I: Inputs>(s: &mut S, net: Net, k: u32, inputs: &I) -> Put<Outputs>
     requires some { 1 ≤ k }
     requires few { k ≤ 31 }
-    requires room { Room S.meaning s.old (5 * switches net (k - 1)) (5 * switches net (k - 1)) }
+    requires room { Room S.meaning s.old (network_wires net (k - 1)) (network_wires net (k - 1)) }
     requires count { I.count inputs.now ≡ 2 ^ k }
     requires made { AreMade (I.pair inputs.now) (2 ^ k) (S.meaning.wires s.old) }
     ensures puts { PutsIn S.meaning s.old s.new (network_of net (k - 1) (I.pair inputs.now))
         result }
-    ensures grows { IfOk result (λ _. Grows S.meaning s.old s.new (5 * switches net (k - 1))
-        (5 * switches net (k - 1))) }
+    ensures grows { IfOk result (λ _. Grows S.meaning s.old s.new (network_wires net (k - 1))
+        (network_wires net (k - 1))) }
     ensures below { IfOk result (λ outputs. AreBelow outputs (2 ^ k) (S.meaning.wires s.new)) }
 {
     let h = k - 1;
     let first = Wire(s.wires());
-    let mut scratch = Scratch::new();
-    input_column(s, &mut scratch, power(h), inputs)?;
-    inner(s, &mut scratch, net, h, first)
+    let mut buffers = Buffers::new();
+    bound_column(s, &mut buffers, power(h), &Given { inputs })?;
+    bound_inner(s, &mut buffers, net, h, first)
 }
 
-// A network of level `h` on the pairs of wires that stand at every fifth place from `from` on. All
-// columns fill the same combinations.
+// A bound network of level `h` on what an open column passes.
 #[cycle(network)]
-fn row_network<S: Sink>(
+fn bound_network<S: Sink>(
     s: &mut S,
-    scratch: &mut Scratch,
+    buffers: &mut Buffers,
     net: Net,
     h: u32,
-    from: Wire,
+    items: &Passed,
 ) -> Put<Outputs>
-    requires level { h < 31 }
-    requires room { Room S.meaning s.old (5 * switches net h) (5 * switches net h) }
-    requires made { from + 10 * 2 ^ h ≤ S.meaning.wires s.old + 3 }
-    ensures puts { PutsIn S.meaning s.old s.new (network_of net h (row from)) result }
-    ensures grows { IfOk result (λ _. Grows S.meaning s.old s.new (5 * switches net h)
-        (5 * switches net h)) }
+    requires level { h < 29 }
+    requires room { Room S.meaning s.old (level_wires net Bound h) (level_wires net Bound h) }
+    requires from { items.now.from + 20 * 2 ^ h ≤ S.meaning.wires s.old + 3 }
+    requires first { items.now.first + 6 * 2 ^ h ≤ S.meaning.wires s.old }
+    ensures puts { PutsIn S.meaning s.old s.new
+        (level_of net Bound h (passed_to items.now.lower items.now.first items.now.from)) result }
+    ensures grows { IfOk result (λ _. Grows S.meaning s.old s.new (level_wires net Bound h)
+        (level_wires net Bound h)) }
 {
     let first = Wire(s.wires());
-    column(s, scratch, power(h), &Row(from))?;
-    inner(s, scratch, net, h, first)
+    bound_column(s, buffers, power(h), items)?;
+    bound_inner(s, buffers, net, h, first)
 }
 
-// What a network of level `h` has behind its first column, whose wires begin at `first`.
+// What a bound network of level `h` has after its first column, whose wires begin at `first`.
 #[cycle(network)]
-fn inner<S: Sink>(s: &mut S, scratch: &mut Scratch, net: Net, h: u32, first: Wire) -> Put<Outputs>
+fn bound_inner<S: Sink>(
+    s: &mut S,
+    buffers: &mut Buffers,
+    net: Net,
+    h: u32,
+    first: Wire,
+) -> Put<Outputs>
     requires level { h < 31 }
-    requires room { Room S.meaning s.old (5 * (switches net h - 2 ^ h))
-        (5 * (switches net h - 2 ^ h)) }
+    requires room { Room S.meaning s.old (level_wires net Bound h - 5 * 2 ^ h)
+        (level_wires net Bound h - 5 * 2 ^ h) }
     requires made { S.meaning.wires s.old ≡ first + 5 * 2 ^ h }
-    ensures puts { PutsIn S.meaning s.old s.new (inner_of net h first) result }
-    ensures grows { IfOk result (λ _. Grows S.meaning s.old s.new (5 * (switches net h - 2 ^ h))
-        (5 * (switches net h - 2 ^ h))) }
+    ensures puts { PutsIn S.meaning s.old s.new
+        (inner_of net Bound h (first + 1) (first + 3) (column_outputs first)) result }
+    ensures grows { IfOk result (λ _. Grows S.meaning s.old s.new
+        (level_wires net Bound h - 5 * 2 ^ h) (level_wires net Bound h - 5 * 2 ^ h)) }
 {
     if h == 0 {
         return Ok(column_outputs(first));
     }
-    let upper = row_network(s, scratch, net, h - 1, first.offset(1))?;
-    let lower = row_network(s, scratch, net, h - 1, first.offset(3))?;
-    last_column(s, scratch, net, h, &upper, &lower)
+    let upper = open_network(s, buffers, net, h - 1, first.offset(1))?;
+    let lower = open_network(s, buffers, net, h - 1, first.offset(3))?;
+    bound_last(s, buffers, net, h, &upper, &lower)
 }
 
-// The last column of a network of level `h`, over the outputs of the two networks before it.
-fn last_column<S: Sink>(
+// An open network of level `h` on the pairs of wires that stand at every fifth place from `from`
+// on.
+#[cycle(network)]
+fn open_network<S: Sink>(
     s: &mut S,
-    scratch: &mut Scratch,
+    buffers: &mut Buffers,
     net: Net,
     h: u32,
-    upper: &Outputs,
-    lower: &Outputs,
+    from: Wire,
+) -> Put<Sums>
+    requires level { h < 30 }
+    requires room { Room S.meaning s.old (level_wires net Open h) (level_wires net Open h) }
+    requires made { from + 10 * 2 ^ h ≤ S.meaning.wires s.old + 3 }
+    ensures puts { PutsIn S.meaning s.old s.new (level_of net Open h from) result }
+    ensures grows { IfOk result (λ _. Grows S.meaning s.old s.new (level_wires net Open h)
+        (level_wires net Open h)) }
+{
+    if h == 0 {
+        return open_two(s, buffers, net, from);
+    }
+    let first = Wire(s.wires());
+    open_column(s, &mut buffers.scratch, power(h), &Row(from))?;
+    open_inner(s, buffers, net, h, first, from)
+}
+
+// What an open network of level `h` has after its first column.
+#[cycle(network)]
+fn open_inner<S: Sink>(
+    s: &mut S,
+    buffers: &mut Buffers,
+    net: Net,
+    h: u32,
+    first: Wire,
+    from: Wire,
+) -> Put<Sums>
+    requires level { h < 30 }
+    requires some { 1 ≤ h }
+    requires room { Room S.meaning s.old (level_wires net Open h - 3 * 2 ^ h)
+        (level_wires net Open h - 3 * 2 ^ h) }
+    requires made { S.meaning.wires s.old ≡ first + 3 * 2 ^ h }
+    requires from { from + 10 * 2 ^ h ≤ first + 3 }
+    ensures puts { PutsIn S.meaning s.old s.new (inner_of net Open h
+        (passed_to false first from) (passed_to true first from) (two_ends net Open first from))
+        result }
+    ensures grows { IfOk result (λ _. Grows S.meaning s.old s.new
+        (level_wires net Open h - 3 * 2 ^ h) (level_wires net Open h - 3 * 2 ^ h)) }
+{
+    let passed = Passed {
+        from,
+        first,
+        lower: false,
+    };
+    let upper = bound_network(s, buffers, net, h - 1, &passed)?;
+    let passed = Passed {
+        from,
+        first,
+        lower: true,
+    };
+    let lower = bound_network(s, buffers, net, h - 1, &passed)?;
+    open_last(s, buffers, net, h, &upper, &lower)
+}
+
+// An open network on the two pairs of wires from `from` on and five places later.
+fn open_two<S: Sink>(s: &mut S, buffers: &mut Buffers, net: Net, from: Wire) -> Put<Sums>
+    requires room { Room S.meaning s.old (level_wires net Open 0) (level_wires net Open 0) }
+    requires made { from + 7 ≤ S.meaning.wires s.old }
+    ensures puts { PutsIn S.meaning s.old s.new (level_of net Open 0 from) result }
+    ensures grows { IfOk result (λ _. Grows S.meaning s.old s.new (level_wires net Open 0)
+        (level_wires net Open 0)) }
+{
+    let first = Wire(s.wires());
+    match net {
+        Net::Benes => {
+            open_column(s, &mut buffers.scratch, 1, &Row(from))?;
+            Ok(Sums {
+                upper: lone(from),
+                lower: lone(from.offset(5)),
+                others: first,
+            })
+        }
+        Net::Waksman => {
+            bound_column(s, buffers, 1, &Row(from))?;
+            Ok(Sums {
+                upper: lone(first.offset(1)),
+                lower: lone(first.offset(3)),
+                others: first,
+            })
+        }
+    }
+}
+
+// The last column of a bound network of level `h`, over the outputs of the two networks before it.
+fn bound_last<S: Sink>(
+    s: &mut S,
+    buffers: &mut Buffers,
+    net: Net,
+    h: u32,
+    upper: &Sums,
+    lower: &Sums,
 ) -> Put<Outputs>
     requires level { h < 31 }
     requires some { 1 ≤ h }
     requires room { Room S.meaning s.old (5 * (2 ^ h - missing net)) (5 * (2 ^ h - missing net)) }
-    requires upper_below { AreBelow upper.now (2 ^ h) (S.meaning.wires s.old) }
-    requires lower_below { AreBelow lower.now (2 ^ h) (S.meaning.wires s.old) }
-    ensures puts { PutsIn S.meaning s.old s.new (last_column_of net h upper.now lower.now) result }
+    requires upper { AreMade (sum_at net upper.now) (2 ^ h) (S.meaning.wires s.old) }
+    requires lower { AreMade (sum_at net lower.now) (2 ^ h) (S.meaning.wires s.old) }
+    ensures puts { PutsIn S.meaning s.old s.new (last_column_of net Bound h upper.now lower.now)
+        result }
     ensures grows { IfOk result (λ _. Grows S.meaning s.old s.new (5 * (2 ^ h - missing net))
         (5 * (2 ^ h - missing net))) }
 {
     let n = power(h) - net.missing();
     let first = Wire(s.wires());
-    column(s, scratch, n, &LastItems { net, upper, lower })?;
+    bound_column(s, buffers, n, &LastSums { net, upper, lower })?;
     Ok(last_outputs(net, first, upper, lower))
+}
+
+// The last column of an open network of level `h`, over the outputs of the two networks before it.
+fn open_last<S: Sink>(
+    s: &mut S,
+    buffers: &mut Buffers,
+    net: Net,
+    h: u32,
+    upper: &Outputs,
+    lower: &Outputs,
+) -> Put<Sums>
+    requires level { h < 30 }
+    requires some { 1 ≤ h }
+    requires room { Room S.meaning s.old (3 * (2 ^ h - missing net)) (3 * (2 ^ h - missing net)) }
+    requires upper { AreBelow upper.now (2 ^ h) (S.meaning.wires s.old) }
+    requires lower { AreBelow lower.now (2 ^ h) (S.meaning.wires s.old) }
+    ensures puts { PutsIn S.meaning s.old s.new (last_column_of net Open h upper.now lower.now)
+        result }
+    ensures grows { IfOk result (λ _. Grows S.meaning s.old s.new (3 * (2 ^ h - missing net))
+        (3 * (2 ^ h - missing net))) }
+{
+    let n = power(h) - net.missing();
+    let first = Wire(s.wires());
+    open_column(s, &mut buffers.scratch, n, &LastItems { net, upper, lower })?;
+    Ok(Sums {
+        upper: *upper,
+        lower: *lower,
+        others: first,
+    })
 }

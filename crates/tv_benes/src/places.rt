@@ -1,11 +1,15 @@
 //! Where the items stand that go into a network, pass through it and come out of it.
-ghost use Rattle.std.specs.Prelude.{◌≡◌, ℕ, ◌+◌, ◌^◌, ◌<◌};
+ghost use Rattle.std.specs.Prelude.{◌≡◌, ℕ, ◌+◌, ◌*◌, ◌^◌, ◌<◌, ◌≤◌};
+ghost use Rattle.tv_core.specs.Combinations.{top};
 ghost use Rattle.tv_core.specs.declared.lines.Pair.{Pair};
-ghost use Rattle.tv_benes.specs.Places.{fifth, output, output_wire, column_outputs, last_outputs};
-ghost use Rattle.tv_benes.specs.Places.{last_wire};
+ghost use Rattle.tv_benes.specs.Places.{wires_at, fifth, row, first_of, second_of, passed_to};
+ghost use Rattle.tv_benes.specs.Places.{output, output_wire, column_outputs, lone, sum_at};
+ghost use Rattle.tv_benes.specs.Places.{last_wire, last_ends, last_pair};
+ghost use Rattle.tv_benes.specs.Through.{alternating, missing};
+ghost use Rattle.tv_benes.specs.declared.shape.Form.TheVariants.{Bound, Open};
 
 use crate::shape::Net;
-use tv_core::{Lc, Pair, Wire};
+use tv_core::{F, Lc, Pair, Wire};
 
 /// The items that go into a network, told by place: contracts see them as the function `pair`, for
 /// places below `count`. A network asks for each of them once.
@@ -29,17 +33,103 @@ pub trait Inputs {
     }
 }
 
+// The items of a bound column, by their places.
+pub(crate) trait Pairs {
+    ghost pair: { Self → ℕ → Pair };
+
+    ghost count: { Self → ℕ };
+
+    // Makes `item` the item at place `i`.
+    fn fill(&self, i: u32, item: &mut Pair)
+        requires within { i < count self.now }
+        requires first { top (pair self.now i).first ≤ 2 ^ 32 }
+        requires second { top (pair self.now i).second ≤ 2 ^ 32 }
+        ensures { item.new ≡ pair self.now i };
+}
+
+// The items that go into a network.
+#[derive(Drop)]
+pub(crate) struct Given<'a, I> {
+    pub(crate) inputs: &'a I,
+}
+
+impl<'a, I: Inputs> Pairs for Given<'a, I> {
+    ghost pair = { λ given. I.pair given.inputs.now };
+
+    ghost count = { λ given. I.count given.inputs.now };
+
+    fn fill(&self, i: u32, item: &mut Pair) {
+        self.inputs.fill(i, item);
+    }
+}
+
+// What an open column passes to one of the two networks within: the column's items are a row of
+// wires from `from` on, and its own wires begin at `first`.
+#[derive(Drop)]
+pub(crate) struct Passed {
+    pub(crate) from: Wire,
+    pub(crate) first: Wire,
+    pub(crate) lower: bool,
+}
+
+impl Pairs for Passed {
+    ghost pair = { λ p. passed_to p.lower p.first p.from };
+
+    ghost count = { λ _. 2 ^ 30 };
+
+    fn fill(&self, i: u32, item: &mut Pair) {
+        let switch = self.first.offset(3 * i);
+        if self.lower {
+            set_second(item, switch, self.from.offset(5 * (2 * i + 1)));
+        } else {
+            set_first(item, switch, self.from.offset(5 * (2 * i)));
+        }
+    }
+}
+
+// Makes `item` the pair of wires from `w` on.
+fn set_wires(item: &mut Pair, w: Wire)
+    requires { w + 1 < 2 ^ 32 }
+    ensures { item.new ≡ wires_at w }
+{
+    item.first.set_wire(w);
+    item.second.set_wire(w.offset(1));
+}
+
+// Makes `item` what an open switch passes first, whose wires begin at `switch`, and whose first
+// item is the pair of wires from `w` on.
+fn set_first(item: &mut Pair, switch: Wire, w: Wire)
+    requires switch { switch + 2 < 2 ^ 32 }
+    requires wires { w + 1 < 2 ^ 32 }
+    ensures { item.new ≡ first_of Open switch (wires_at w) }
+{
+    item.first.set_difference(w, switch.offset(1));
+    item.second.set_difference(w.offset(1), switch.offset(2));
+}
+
+// Makes `item` what it passes second, its second item being that pair.
+fn set_second(item: &mut Pair, switch: Wire, w: Wire)
+    requires switch { switch + 2 < 2 ^ 32 }
+    requires wires { w + 1 < 2 ^ 32 }
+    ensures { item.new ≡ second_of Open switch (wires_at w) }
+{
+    item.first.set_wire(w);
+    item.first.plus(F::ONE, switch.offset(1));
+    item.second.set_wire(w.offset(1));
+    item.second.plus(F::ONE, switch.offset(2));
+}
+
 // Items that are two wires each, of which the first follows from the place.
 pub(crate) trait Places {
     ghost place: { Self → ℕ → ℕ };
 
     fn at(&self, i: u32) -> Wire
         requires near { place self.now i < 2 ^ 32 }
-        requires small { i < 2 ^ 31 }
+        requires small { i < 3 * 2 ^ 30 }
         ensures { result ≡ place self.now i };
 }
 
-// Every fifth pair of wires: what the switches of a column pass first, or second.
+// Every fifth pair of wires: what the switches of a bound column pass first, or second.
 #[derive(Clone, Copy)]
 pub(crate) struct Row(pub(crate) Wire);
 
@@ -48,6 +138,16 @@ impl Places for Row {
 
     fn at(&self, i: u32) -> Wire {
         self.0.offset(5 * i)
+    }
+}
+
+impl Pairs for Row {
+    ghost pair = { λ r. row r.0 };
+
+    ghost count = { λ _. 2 ^ 28 };
+
+    fn fill(&self, i: u32, item: &mut Pair) {
+        set_wires(item, self.0.offset(5 * i));
     }
 }
 
@@ -82,9 +182,7 @@ impl Outputs {
         requires { output_wire self.now i + 1 < 2 ^ 32 }
         ensures { item.new ≡ output self.now i }
     {
-        let first = self.wire(i);
-        item.first.set_wire(first);
-        item.second.set_wire(first.offset(1));
+        set_wires(item, self.wire(i));
     }
 
     // The first wire of output `i`.
@@ -115,22 +213,99 @@ pub(crate) fn column_outputs(first: Wire) -> Outputs
     }
 }
 
-// The outputs of a last column whose wires begin at `first`.
-pub(crate) fn last_outputs(net: Net, first: Wire, upper: &Outputs, lower: &Outputs) -> Outputs
+// The outputs of an open network: those of the two networks within, less the products that the
+// switches of its last column make, and with them. The wires of that column begin at `others`.
+#[derive(Drop)]
+pub(crate) struct Sums {
+    pub(crate) upper: Outputs,
+    pub(crate) lower: Outputs,
+    pub(crate) others: Wire,
+}
+
+impl Sums {
+    // Makes `item` output `i`.
+    fn fill(&self, net: Net, i: u32, item: &mut Pair)
+        requires few { i ≤ 2 ^ 30 }
+        requires first { top (sum_at net self.now i).first ≤ 2 ^ 32 }
+        requires second { top (sum_at net self.now i).second ≤ 2 ^ 32 }
+        ensures { item.new ≡ sum_at net self.now i }
+    {
+        let j = i / 2;
+        if i < 2 * net.missing() {
+            set_wires(item, self.passing(i));
+        } else if i % 2 == 0 {
+            let switch = self.others.offset(3 * (j - net.missing()));
+            set_first(item, switch, self.upper.wire(j));
+        } else {
+            let switch = self.others.offset(3 * (j - net.missing()));
+            set_second(item, switch, self.lower.wire(j));
+        }
+    }
+
+    // The first wire of item `i` of its last column.
+    fn passing(&self, i: u32) -> Wire
+        requires { alternating (output_wire self.now.upper) (output_wire self.now.lower) i
+            < 2 ^ 32 }
+        ensures { result ≡ alternating (output_wire self.now.upper) (output_wire self.now.lower) i }
+    {
+        if i % 2 == 0 {
+            self.upper.wire(i / 2)
+        } else {
+            self.lower.wire(i / 2)
+        }
+    }
+}
+
+// Outputs of which only the first counts.
+pub(crate) fn lone(w: Wire) -> Outputs
+    ensures { result ≡ lone w }
+{
+    Outputs {
+        first: w,
+        second: w,
+        others: w,
+    }
+}
+
+// The outputs of a bound last column whose wires begin at `first`.
+pub(crate) fn last_outputs(net: Net, first: Wire, upper: &Sums, lower: &Sums) -> Outputs
     requires { first + 5 < 2 ^ 32 }
-    ensures { result ≡ last_outputs net first upper.now lower.now }
+    ensures { result ≡ last_ends net Bound first upper.now lower.now }
 {
     match net {
         Net::Benes => column_outputs(first),
         Net::Waksman => Outputs {
-            first: upper.first,
-            second: lower.first,
+            first: upper.upper.first,
+            second: lower.upper.first,
             others: first,
         },
     }
 }
 
-// The items of a last column: the outputs of the two networks before it, in turn.
+// The items of a bound last column: the outputs of the two networks before it, in turn.
+#[derive(Drop)]
+pub(crate) struct LastSums<'a> {
+    pub(crate) net: Net,
+    pub(crate) upper: &'a Sums,
+    pub(crate) lower: &'a Sums,
+}
+
+impl<'a> Pairs for LastSums<'a> {
+    ghost pair = { λ items. last_pair items.net Bound items.upper.now items.lower.now };
+
+    ghost count = { λ _. 2 ^ 31 };
+
+    fn fill(&self, i: u32, item: &mut Pair) {
+        let i = i + 2 * self.net.missing();
+        if i % 2 == 0 {
+            self.upper.fill(self.net, i / 2, item);
+        } else {
+            self.lower.fill(self.net, i / 2, item);
+        }
+    }
+}
+
+// The items of an open last column: the outputs of the two networks before it, in turn.
 #[derive(Drop)]
 pub(crate) struct LastItems<'a> {
     pub(crate) net: Net,

@@ -2,14 +2,15 @@
 ghost use Rattle.std.specs.Prelude.{◌≡◌, suc, false, [], ◌∷◌, ◌+◌, ◌-◌, ◌*◌, ◌^◌, ◌<◌, ◌≤◌, length};
 ghost use Rattle.std.specs.Prelude.{OnOk, if◌then◌else◌};
 ghost use Rattle.tv_benes.specs.Items.{bit_at, pair_at};
-ghost use Rattle.tv_benes.specs.Network.{switch_values, column_values, network_values};
+ghost use Rattle.tv_benes.specs.Network.{switch_values, column_values, level_values};
+ghost use Rattle.tv_benes.specs.Network.{network_values};
 ghost use Rattle.tv_benes.specs.Through.{switches, missing, from, passed, to_upper, to_lower};
 ghost use Rattle.tv_benes.specs.Through.{alternating, joined, last_bit, through, places};
 ghost use Rattle.tv_core.specs.Giving.{GivesIn};
 
 use crate::filling::fill_switch;
 use crate::items::{bit, last_bit};
-use crate::shape::{Net, level_switches, long_power};
+use crate::shape::{Form, Net, level_switches, long_power};
 use tv_core::{PairNum, Put, Values};
 
 /// Gives the values of the wires that `routing_network` makes, as `fill_routing_network` does, and
@@ -36,7 +37,7 @@ pub fn route_items<V: Values>(
     ensures moved { OnOk result (items.new
         ≡ places (2 ^ k) (through net (k - 1) (bit_at bits.now) (pair_at items.old))) }
 {
-    route_level(v, net, k - 1, items, spare, bits, 0)
+    route_level(v, net, Form::Bound, k - 1, items, spare, bits, 0)
 }
 
 // The same for a network of level `h`, whose bits begin at `at`. The items pass to the halves of
@@ -44,6 +45,7 @@ pub fn route_items<V: Values>(
 fn route_level<V: Values>(
     v: &mut V,
     net: Net,
+    form: Form,
     h: u32,
     items: &mut [PairNum],
     spare: &mut [PairNum],
@@ -56,30 +58,31 @@ fn route_level<V: Values>(
     requires spare { length spare.old ≡ 2 ^ suc h }
     requires place { at + switches net h < 2 ^ 62 }
     ensures gives { GivesIn V.giving v.old v.new
-        (network_values net h (from at (bit_at bits.now)) (pair_at items.old)) result }
+        (level_values net form h (from at (bit_at bits.now)) (pair_at items.old)) result }
     ensures whole { OnOk result (V.giving.broken v.new ≡ false) }
     ensures moved { OnOk result (items.new
         ≡ places (2 ^ suc h) (through net h (from at (bit_at bits.now)) (pair_at items.old))) }
 {
     if h == 0 {
-        return route_two(v, items, bit(bits, at));
+        return route_two(v, form.innermost(net), items, bit(bits, at));
     }
     let n = long_power(h);
     let s = level_switches(net, h - 1);
+    let inner = form.other();
     let (upper, lower) = spare.split_at_mut(n as usize);
-    first_column(v, items, upper, lower, bits, at)?;
+    first_column(v, form, items, upper, lower, bits, at)?;
     let (upper_spare, lower_spare) = items.split_at_mut(n as usize);
-    route_level(v, net, h - 1, upper, upper_spare, bits, at + n)?;
-    route_level(v, net, h - 1, lower, lower_spare, bits, at + n + s)?;
-    last_column(v, net, upper, lower, items, bits, at + n + 2 * s)
+    route_level(v, net, inner, h - 1, upper, upper_spare, bits, at + n)?;
+    route_level(v, net, inner, h - 1, lower, lower_spare, bits, at + n + s)?;
+    last_column(v, net, form, upper, lower, items, bits, at + n + 2 * s)
 }
 
 // The one switch of a network on two items, whose bit is `b`.
-fn route_two<V: Values>(v: &mut V, items: &mut [PairNum], b: bool) -> Put<()>
+fn route_two<V: Values>(v: &mut V, form: Form, items: &mut [PairNum], b: bool) -> Put<()>
     requires whole { V.giving.broken v.old ≡ false }
     requires two { length items.old ≡ 2 }
     ensures gives { GivesIn V.giving v.old v.new
-        (switch_values b (pair_at items.old 0) (pair_at items.old 1)) result }
+        (switch_values form b (pair_at items.old 0) (pair_at items.old 1)) result }
     ensures whole { OnOk result (V.giving.broken v.new ≡ false) }
     ensures moved { OnOk result (items.new ≡ passed b (pair_at items.old 0) (pair_at items.old 1)
         ∷ passed b (pair_at items.old 1) (pair_at items.old 0) ∷ []) }
@@ -88,7 +91,7 @@ fn route_two<V: Values>(v: &mut V, items: &mut [PairNum], b: bool) -> Put<()>
     let y = items[1];
     items[0] = passed(b, &x, &y);
     items[1] = passed(b, &y, &x);
-    fill_switch(v, b, x, y)
+    fill_switch(v, form, b, x, y)
 }
 
 // What a switch gives first, its bit being `b`, its first item `x` and its second `y`.
@@ -101,6 +104,7 @@ fn passed(b: bool, x: &PairNum, y: &PairNum) -> PairNum
 // A first column, whose bits begin at `at`: what its switches give first and what they give second.
 fn first_column<V: Values>(
     v: &mut V,
+    form: Form,
     items: &[PairNum],
     upper: &mut [PairNum],
     lower: &mut [PairNum],
@@ -112,7 +116,8 @@ fn first_column<V: Values>(
     requires lower { length lower.old ≡ length upper.old }
     requires place { at + length upper.old < 2 ^ 62 }
     ensures gives { GivesIn V.giving v.old v.new
-        (column_values (length upper.old) (from at (bit_at bits.now)) (pair_at items.now)) result }
+        (column_values form (length upper.old) (from at (bit_at bits.now)) (pair_at items.now))
+        result }
     ensures whole { OnOk result (V.giving.broken v.new ≡ false) }
     ensures upper { OnOk result (upper.new
         ≡ places (length upper.old) (to_upper (from at (bit_at bits.now)) (pair_at items.now))) }
@@ -125,7 +130,7 @@ fn first_column<V: Values>(
         let b = bit(bits, at + j as u64);
         upper[j] = passed(b, &x, &y);
         lower[j] = passed(b, &y, &x);
-        fill_switch(v, b, x, y)?;
+        fill_switch(v, form, b, x, y)?;
     }
     Ok(())
 }
@@ -134,6 +139,7 @@ fn first_column<V: Values>(
 fn last_column<V: Values>(
     v: &mut V,
     net: Net,
+    form: Form,
     upper: &[PairNum],
     lower: &[PairNum],
     items: &mut [PairNum],
@@ -145,7 +151,7 @@ fn last_column<V: Values>(
     requires lower { length lower.now ≡ length upper.now }
     requires place { at + length upper.now ≤ 2 ^ 62 }
     ensures gives { GivesIn V.giving v.old v.new
-        (column_values (length upper.now - missing net) (from at (bit_at bits.now))
+        (column_values form (length upper.now - missing net) (from at (bit_at bits.now))
         (λ i. alternating (pair_at upper.now) (pair_at lower.now) (i + 2 * missing net))) result }
     ensures whole { OnOk result (V.giving.broken v.new ≡ false) }
     ensures joined { OnOk result (items.new ≡ places (2 * length upper.now)
@@ -159,21 +165,28 @@ fn last_column<V: Values>(
         let b = last_bit(net, bits, at, j as u64);
         items[2 * j] = passed(b, &x, &y);
         items[2 * j + 1] = passed(b, &y, &x);
-        fill_unless(v, j < skipped, b, x, y)?;
+        fill_unless(v, form, j < skipped, b, x, y)?;
     }
     Ok(())
 }
 
 // The values of a switch, unless it is left out.
-fn fill_unless<V: Values>(v: &mut V, left_out: bool, b: bool, x: PairNum, y: PairNum) -> Put<()>
+fn fill_unless<V: Values>(
+    v: &mut V,
+    form: Form,
+    left_out: bool,
+    b: bool,
+    x: PairNum,
+    y: PairNum,
+) -> Put<()>
     requires whole { V.giving.broken v.old ≡ false }
     ensures gives { GivesIn V.giving v.old v.new
-        (if left_out then [] else switch_values b x y) result }
+        (if left_out then [] else switch_values form b x y) result }
     ensures whole { OnOk result (V.giving.broken v.new ≡ false) }
 {
     if left_out {
         Ok(())
     } else {
-        fill_switch(v, b, x, y)
+        fill_switch(v, form, b, x, y)
     }
 }

@@ -4,9 +4,9 @@ use Rattle.std.proofs.lemmas.List.{length-append}
 use Rattle.tv_benes.proofs.CostLaws.{network_counted}
 use Rattle.tv_benes.proofs.Measures.{lengths, terms, turns_cost}
 use Rattle.tv_benes.specs.Costs.{items_terms, network_terms, pair_terms}
+use Rattle.tv_benes.specs.Levels.{network_wires}
 use Rattle.tv_benes.specs.Network.{network_of}
 use Rattle.tv_benes.specs.Places.{output}
-use Rattle.tv_benes.specs.Through.{switches}
 use Rattle.tv_benes.specs.declared.places.Outputs.{Outputs}
 use Rattle.tv_benes.specs.declared.shape.Net.{Net}
 use Rattle.tv_core.proofs.BelowLaws.{sum_below-zero, sum_below-suc}
@@ -42,7 +42,7 @@ check_term (Within m) last i next line = follows_cost.terms m line (output last 
 
 -- ---- the argument
 level_count : (net : Net) (checks : Checks) (h : ℕ) (lines : List LineLc) (next : ℕ)
-    → length (level_of net checks h lines next).list ≡ 5 * switches net h + sum_below checks.count (λ i. check_added (checks.kind i))
+    → length (level_of net checks h lines next).list ≡ network_wires net h + sum_below checks.count (λ i. check_added (checks.kind i))
 unfolding level_of ◌>>=◌
 level_count net checks h lines next =
     let network = network_of net h (items_of lines) next in

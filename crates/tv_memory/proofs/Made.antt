@@ -12,8 +12,8 @@ use Rattle.tv_core.specs.declared.lines.LineLc.{LineLc}
 use Rattle.tv_lines.specs.Packing.{joined}
 use Rattle.tv_lines.specs.Placed.{no_line, line_in}
 use Rattle.tv_lines.specs.Predecessor.{IsLineMade, IsItemMade}
-use Rattle.tv_lines.specs.Told.{line_told, HasShortWords}
-use Rattle.tv_lines.specs.declared.told.ToldLine.{ToldLine}
+use Rattle.tv_lines.specs.Compact.{line_lc}
+use Rattle.tv_lines.specs.declared.compact.CompactLine.{CompactLine}
 use Rattle.tv_memory.specs.Memory.{IsMade, items_of}
 
 joined_top : (wires : ℕ) (low high : Combination) → top low ≤ wires → top high ≤ wires → top (joined low high) ≤ wires
@@ -36,12 +36,11 @@ are_made wires n lines many all = record {
 }
 
 -- a line in compact form, of which the combinations are made
-pub line_made : (wires more i : ℕ) (lines : List LineLc) (line : ToldLine) → wires ≤ more → All (IsMade wires) lines → i < length lines
-    → line_told line ≡ line_in lines i → HasShortWords line → IsLineMade more line
-line_made wires more i lines line grown all h is words =
+pub line_made : (wires more i : ℕ) (lines : List LineLc) (line : CompactLine) → wires ≤ more → All (IsMade wires) lines → i < length lines
+    → line_lc line ≡ line_in lines i → IsLineMade more line
+line_made wires more i lines line grown all h is =
     let l = at wires lines i h all in
     record {
-      words = words;
       cell = omega (arith, l.cell, ap (λ (l : LineLc). top l.cell) is);
       old = omega (arith, l.old, ap (λ (l : LineLc). top l.old) is);
     }

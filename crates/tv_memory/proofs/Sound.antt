@@ -73,13 +73,13 @@ module _ (z : List ℕ) (net : Net) (checks : Checks) (h : ℕ) (lines : List Li
 
   -- the place whose item comes out at a place
   abbrev place : ℕ → ℕ
-  place = through net h (bit_in z next) (λ j. j)
+  place = through net h (bit_in z net h next) (λ j. j)
 
   long : length numbers ≡ 2 ^ suc h
   long = length-map lines (line_value z) ∙ many
 
   moved : PermutesPlaces (2 ^ suc h) place
-  moved = through_permutes net h (bit_in z next) (λ j. j)
+  moved = through_permutes net h (bit_in z net h next) (λ j. j)
 
   same_lines : ◌≡◌ {A = ℕ → Line} (number_in numbers) line
   same_lines = λ d i. number_is z h lines few many from i d
@@ -97,7 +97,7 @@ module _ (z : List ℕ) (net : Net) (checks : Checks) (h : ℕ) (lines : List Li
       → pair_value z (output (network_of net h item next).answer i) ≡ packed_item (line (place i))
   brings met i k =
       (network_sound z net next h item assigns met).outputs i k
-      ∙ through_places net h (bit_in z next) (λ j. pair_value z (item j)) i
+      ∙ through_places net h (bit_in z net h next) (λ j. pair_value z (item j)) i
       ∙ item_right z (line_in lines (place i)) (ranged (place i))
 
   pub level_sound : Meets z (level_of net checks h lines next).list → Honest (map (line_value z) lines)

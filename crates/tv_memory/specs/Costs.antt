@@ -1,6 +1,6 @@
 -- What the parts of the memory argument cost, in numbers alone.
 use Rattle.std.specs.Prelude.{◌≡◌, ℕ, ◌+◌, ◌-◌, ◌*◌, ◌^◌, ◌≤◌, length}
-use Rattle.tv_benes.specs.Through.{switches}
+use Rattle.tv_benes.specs.Levels.{network_wires}
 use Rattle.tv_benes.specs.declared.shape.Net.{Net}
 use Rattle.tv_core.specs.Below.{sum_below}
 use Rattle.tv_core.specs.declared.lines.LineLc.{LineLc}
@@ -17,7 +17,7 @@ terms_of_check (Within m) cell old = 4 * m + 10 + 2 * cell + old
 
 -- the wires and the constraints of the network
 abbrev pub network_made : Net → ℕ → ℕ
-network_made net k = 5 * switches net (k - 1)
+network_made net k = network_wires net (k - 1)
 
 -- The terms of a check follow from how many its line's parts have; and checks with short reaches are cheap.
 pub record ChecksAreCheap : Type 0 where

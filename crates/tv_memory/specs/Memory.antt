@@ -3,9 +3,10 @@
 use Rattle.std.specs.Prelude.{◌≡◌, ℕ, ◌+◌, ◌-◌, ◌*◌, ◌^◌, ◌≤◌, Bool, List, ◌++◌, length}
 use Rattle.tv_benes.specs.Costs.{network_terms}
 use Rattle.tv_benes.specs.Items.{pair_at}
+use Rattle.tv_benes.specs.Levels.{network_wires}
 use Rattle.tv_benes.specs.Network.{network_of, network_values}
 use Rattle.tv_benes.specs.Places.{output}
-use Rattle.tv_benes.specs.Through.{switches, through}
+use Rattle.tv_benes.specs.Through.{through}
 use Rattle.tv_benes.specs.declared.shape.Net.{Net}
 use Rattle.tv_core.specs.Below.{joined_below, sum_below}
 use Rattle.tv_core.specs.Circuits.{Circuit, ◌>>=◌}
@@ -49,10 +50,10 @@ memory_of net checks k lines = level_of net checks (k - 1) lines
 
 -- how many wires it makes, and how many constraints
 abbrev pub memory_made : Net → Checks → ℕ → ℕ
-memory_made net checks k = 5 * switches net (k - 1) + sum_below checks.count (λ i. check_made (checks.kind i))
+memory_made net checks k = network_wires net (k - 1) + sum_below checks.count (λ i. check_made (checks.kind i))
 
 abbrev pub memory_added : Net → Checks → ℕ → ℕ
-memory_added net checks k = 5 * switches net (k - 1) + sum_below checks.count (λ i. check_added (checks.kind i))
+memory_added net checks k = network_wires net (k - 1) + sum_below checks.count (λ i. check_added (checks.kind i))
 
 -- ---- what it costs
 -- the terms of a line's item

@@ -7,7 +7,7 @@ ghost use Rattle.tv_core.specs.Loops.{times};
 ghost use Rattle.tv_core.specs.Sinks.{PutsIn, Grows, Room};
 ghost use Rattle.tv_lines.specs.Placed.{line_in};
 ghost use Rattle.tv_lines.specs.Predecessor.{IsLineMade, IsItemMade};
-ghost use Rattle.tv_lines.specs.Told.{line_told};
+ghost use Rattle.tv_lines.specs.Compact.{line_lc};
 ghost use Rattle.tv_memory.specs.Argument.{ArgumentIsSound, ArgumentIsComplete};
 ghost use Rattle.tv_memory.specs.Checks.{AreShort, IsShort, check_of, check_made, check_added};
 ghost use Rattle.tv_memory.specs.Memory.{IsMade, memory_of, memory_made, memory_added};
@@ -18,14 +18,14 @@ use crate::kinds::Kind;
 use crate::lines::{LineItems, Lines, no_terms};
 use tv_benes::{Net, Outputs, routing_network};
 use tv_core::{Pair, Put, Scratch, Sink};
-use tv_lines::{ToldLine, boot_line, follows, least_line};
+use tv_lines::{CompactLine, boot_line, follows, least_line};
 
 /// Constrains 2^`k` lines in time order, `k` from 1 to 20, to be honest: each finds the word that
 /// the last earlier line of its cell leaves, or 0. A permutation network brings to each line the
 /// item of its predecessor in address order, and the line is checked against it at its own place,
-/// as its kind says. It asks for each line twice, and takes no memory. It makes 5 wires and 5
-/// constraints for each switch, and those of the checks: `m + 1` wires and `m + 3` constraints for
-/// a line within `m` bits, 1 constraint for a boot line or the least line.
+/// as its kind says. It asks for each line twice, and takes no memory. It makes the
+/// network's wires, with a constraint for each, and those of the checks: `m + 1` wires and `m + 3`
+/// constraints for a line within `m` bits, 1 constraint for a boot line or the least line.
 pub fn memory<S: Sink, L: Lines>(s: &mut S, net: Net, k: u32, lines: &L) -> Put<()>
     requires some { 1 ≤ k }
     requires few { k ≤ 20 }
@@ -72,14 +72,14 @@ fn check<S: Sink>(
     s: &mut S,
     scratch: &mut Scratch,
     kind: Kind,
-    line: &ToldLine,
+    line: &CompactLine,
     item: &Pair,
 ) -> Put<()>
     requires short { IsShort kind }
     requires room { Room S.meaning s.old (check_made kind) (check_added kind) }
     requires line { IsLineMade (S.meaning.wires s.old) line.now }
     requires item { IsItemMade (S.meaning.wires s.old) item.now }
-    ensures puts { PutsIn S.meaning s.old s.new (check_of kind item.now (line_told line.now)) result }
+    ensures puts { PutsIn S.meaning s.old s.new (check_of kind item.now (line_lc line.now)) result }
     ensures grows { IfOk result
         (λ _. Grows S.meaning s.old s.new (check_made kind) (check_added kind)) }
 {

@@ -4,7 +4,7 @@ ghost use Rattle.tv_memory.specs.Checks.{IsShort, check_made, check_added};
 ghost use Rattle.tv_memory.specs.Costs.{ChecksAreCheap, network_made, terms_of_check};
 
 use crate::kinds::Kind;
-use tv_benes::{Net, routing_switches};
+use tv_benes::{Net, network_wires};
 
 /// Returns how many wires the check of a line of a kind makes.
 pub fn check_made(kind: Kind) -> u32
@@ -55,7 +55,7 @@ pub fn network_made(net: Net, k: u32) -> u64
     requires few { k ≤ 20 }
     ensures { result ≡ network_made net k }
 {
-    5 * routing_switches(net, k)
+    network_wires(net, k)
 }
 
 /// The terms of a check follow from its kind and from how many terms the line has; checks by short

@@ -3,14 +3,14 @@ ghost use Rattle.std.specs.Prelude.{◌≡◌, ◌<◌, List, length};
 ghost use Rattle.tv_core.specs.Lines.{Line};
 ghost use Rattle.tv_core.specs.declared.lines.LineLc.{LineLc};
 ghost use Rattle.tv_lines.specs.Placed.{line_in, number_in};
-ghost use Rattle.tv_lines.specs.Told.{line_told, HasShortWords};
+ghost use Rattle.tv_lines.specs.Compact.{line_lc};
 ghost use Rattle.tv_memory.specs.Checks.{Checks};
 ghost use Rattle.tv_memory.specs.Memory.{items_of};
 
 use crate::kinds::Kind;
 use tv_benes::Inputs;
 use tv_core::{Lc, Line, Pair};
-use tv_lines::ToldLine;
+use tv_lines::CompactLine;
 
 /// Lines by their places, and how each is checked. Contracts see them as a list and as `Checks`.
 pub trait Lines {
@@ -19,10 +19,9 @@ pub trait Lines {
     ghost checks: { Self → Checks };
 
     /// Returns the line at place `i`, in compact form.
-    fn line(&self, i: u32) -> ToldLine
+    fn line(&self, i: u32) -> CompactLine
         requires { i < length (lines self.now) }
-        ensures is { line_told result ≡ line_in (lines self.now) i }
-        ensures words { HasShortWords result };
+        ensures is { line_lc result ≡ line_in (lines self.now) i };
 
     /// Returns how many lines are checked: those at places below this. The others are padding.
     fn checked(&self) -> u32

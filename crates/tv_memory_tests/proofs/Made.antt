@@ -1,7 +1,7 @@
 -- The eight lines are short, and made of the first wires.
 use Rattle.std.proofs.Common.{◌≡◌, ℕ, ◌+◌, ◌*◌, ◌<◌, ◌≤◌, List, [], ◌∷◌, ◌++◌, length, All, refl, sym, ◌∙◌, subst, arith, rules}
 use Rattle.std.proofs.lemmas.List.Elements.{All-from_get_or}
-use Rattle.tv_benes.specs.Through.{switches}
+use Rattle.tv_benes.specs.Levels.{bound, network_wires}
 use Rattle.tv_benes.specs.declared.shape.Net.{Net}
 use Rattle.tv_benes.specs.declared.shape.Net.TheVariants.{Benes, Waksman}
 use Rattle.tv_core.proofs.BelowLaws.{length-each_below}
@@ -49,9 +49,11 @@ pub more_placed : (t : ℕ) (ls : List Line) (l : Line) → LinesFrom t ls → l
 more_placed t [] l from time is = (time ∙ omega arith, is, tt)
 more_placed t (m ∷ ls) l from time is = (from.0, from.1, more_placed (t + 1) ls l from.2 (time ∙ omega arith) is)
 
-pub few_switches : (net : Net) → switches net 2 ≤ 20
-few_switches Benes = omega arith
-few_switches Waksman = omega arith
+-- a network on them makes 84 wires by Benes, 73 by Waksman
+pub few_wires : (net : Net) → network_wires net 2 ≤ 84
+unfolding bound
+few_wires Benes = omega arith
+few_wires Waksman = omega arith
 
 -- its checks make 132 wires and put 144 constraints
 pub checks_made : sum_below 7 (λ i. check_made (kind_at i)) ≡ 132

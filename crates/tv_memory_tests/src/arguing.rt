@@ -61,8 +61,8 @@ fn a_sort_finds_the_predecessors(rt: HostRuntime) -> Result<(), Fail> {
 #[test]
 fn honest_lines_meet_it(rt: HostRuntime) -> Result<(), Fail> {
     for (net, constraints, wires, terms) in [
-        (Net::Benes, 244, 232, 1062),
-        (Net::Waksman, 229, 217, 993),
+        (Net::Benes, 228, 216, 1062),
+        (Net::Waksman, 217, 205, 993),
     ] {
         let values = assignment(rt.alloc(), net, &honest(), &PREDECESSORS)?;
         assert_eq!(rt; values.as_slice().len(), 25 + wires, "{net:?}");
@@ -87,7 +87,7 @@ fn an_altered_value_fails(rt: HostRuntime) -> Result<(), Fail> {
     for i in FIRST as usize..z.len() {
         let kept = z[i];
         z[i] = F::ONE - kept;
-        assert!(rt; held(&z, Net::Waksman)? < 229, "{i}");
+        assert!(rt; held(&z, Net::Waksman)? < 217, "{i}");
         z[i] = kept;
     }
     Ok(())
@@ -111,7 +111,7 @@ fn dishonest_lines_fail(rt: HostRuntime) -> Result<(), Fail> {
         lines[place] = other;
         let before = predecessors(rt.alloc(), &items(rt.alloc(), &lines)?)?;
         let values = assignment(rt.alloc(), Net::Benes, &lines, &before)?;
-        assert!(rt; held(values.as_slice(), Net::Benes)? < 244, "{other:?}");
+        assert!(rt; held(values.as_slice(), Net::Benes)? < 228, "{other:?}");
     }
     Ok(())
 }

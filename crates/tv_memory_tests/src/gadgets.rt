@@ -6,7 +6,7 @@ use crate::rows::{line, numbers};
 use std::test::Fail;
 use tv_core::{F, Lc, LineLc, ListValues, Pair, PairNum, TestSink, Values, Wire};
 use tv_lines::{
-    Cell, ToldLine, Word, fill_first_line, fill_sorted_pair, fill_unpack, first_line, pack,
+    Cell, CompactLine, Word, fill_first_line, fill_sorted_pair, fill_unpack, first_line, pack,
     pack_item, pack_line, sorted_pair, unpack, unpack_item, unpack_line,
 };
 
@@ -41,14 +41,14 @@ fn a_line_is_packed_by_powers_of_two(rt: HostRuntime) -> Result<(), Fail> {
 // An item is written over a pair that has terms already.
 #[test]
 fn an_item_is_written_in_place(rt: HostRuntime) -> Result<(), Fail> {
-    let first = ToldLine {
+    let first = CompactLine {
         cell: Cell::Multiple(F::of(2), Wire(1)),
         time: 4,
         old: Word::Number(9),
         new: Word::Wired(Wire(2)),
     };
-    let second = ToldLine {
-        cell: Cell::Behind(F::of(2), Wire(1)),
+    let second = CompactLine {
+        cell: Cell::After(F::of(2), Wire(1)),
         time: 5,
         old: Word::Nothing,
         new: Word::Wired(Wire(3)),

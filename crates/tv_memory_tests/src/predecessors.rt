@@ -8,7 +8,7 @@ use std::test::Fail;
 use tv_core::{
     CountSink, F, Lc, Line, ListValues, Pair, PairNum, Put, Scratch, Sink, TestSink, Values, Wire,
 };
-use tv_lines::{Cell, ToldLine, Word, fill_follows, follows};
+use tv_lines::{Cell, CompactLine, Word, fill_follows, follows};
 
 // Checks a line at a time whose cell and old word are wires 1 and 2, against an item of wires 3 and
 // 4.
@@ -17,7 +17,7 @@ fn put<S: Sink>(s: &mut S, bits: u32, time: u32) -> Put<()>
     requires room { Room S.meaning s.old 32 34 }
     requires wires { S.meaning.wires s.old ≡ 5 }
 {
-    let line = ToldLine {
+    let line = CompactLine {
         cell: Cell::Multiple(F::ONE, Wire(1)),
         time,
         old: Word::Wired(Wire(2)),

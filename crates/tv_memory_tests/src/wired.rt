@@ -4,7 +4,7 @@ ghost use Rattle.tv_memory_tests.specs.Wired.{eight_lines, eight_checks, kind_at
 
 use std::alloc::Global;
 use tv_core::{F, Line, ListValues, Put, Values, Wire};
-use tv_lines::{Cell, ToldLine, Word};
+use tv_lines::{Cell, CompactLine, Word};
 use tv_memory::{Kind, LineNumbers, Lines};
 
 /// The first wire after the lines.
@@ -38,9 +38,9 @@ impl Lines for Wired {
 
     ghost checks = { λ _. eight_checks };
 
-    fn line(&self, i: u32) -> ToldLine {
+    fn line(&self, i: u32) -> CompactLine {
         let first = 3 * i + 1;
-        ToldLine {
+        CompactLine {
             cell: Cell::Multiple(F::ONE, Wire(first)),
             time: i,
             old: Word::Wired(Wire(first + 1)),

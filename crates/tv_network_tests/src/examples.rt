@@ -1,5 +1,6 @@
 //! What the definitions of the networks say of their sizes.
 ghost use Rattle.std.specs.Prelude.{◌≡◌};
+ghost use Rattle.tv_benes.specs.Levels.{network_wires};
 ghost use Rattle.tv_benes.specs.Through.{switches};
 ghost use Rattle.tv_benes.specs.declared.shape.Net.TheVariants.{Benes, Waksman};
 
@@ -11,4 +12,13 @@ pub fn networks_have_so_many_switches()
     ensures waksman_of_8 { switches Waksman 2 ≡ 17 }
     ensures benes { switches Benes 19 ≡ 20447232 }
     ensures waksman { switches Waksman 19 ≡ 19922945 }
+{}
+
+/// How many wires they make, with a constraint for each: three a switch, and two more for one of a
+/// bound level, of which Benes' networks have k 2^(k - 1).
+pub fn networks_make_so_many_wires()
+    ensures benes_of_8 { network_wires Benes 2 ≡ 84 }
+    ensures waksman_of_8 { network_wires Waksman 2 ≡ 73 }
+    ensures benes { network_wires Benes 19 ≡ 82313216 }
+    ensures waksman { network_wires Waksman 19 ≡ 81089881 }
 {}

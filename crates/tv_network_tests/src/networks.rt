@@ -1,7 +1,7 @@
 //! Worked rows, and numbers of switches.
 use crate::sending::{moved, sent_by_its_own};
 use std::test::*;
-use tv_benes::{Net, switches};
+use tv_benes::{Net, network_wires, switches};
 use tv_waksman::switches_w;
 
 const O: bool = false;
@@ -34,5 +34,22 @@ fn rows_come_out_in_order(rt: HostRuntime) -> Result<(), Fail> {
 fn networks_have_so_many_switches(rt: HostRuntime) -> Result<(), Fail> {
     assert_eq!(rt; [switches(1), switches(2), switches(3)], [1, 6, 20]);
     assert_eq!(rt; [switches_w(1), switches_w(2), switches_w(3)], [1, 5, 17]);
+    Ok(())
+}
+
+#[test]
+fn networks_make_so_many_wires(rt: HostRuntime) -> Result<(), Fail> {
+    for (net, wires) in [
+        (Net::Benes, [5, 26, 84, 232]),
+        (Net::Waksman, [5, 25, 73, 217]),
+    ] {
+        let made = [
+            network_wires(net, 1),
+            network_wires(net, 2),
+            network_wires(net, 3),
+            network_wires(net, 4),
+        ];
+        assert_eq!(rt; made, wires, "{net:?}");
+    }
     Ok(())
 }

@@ -7,8 +7,8 @@ use crate::items::{APART, Wires, numbers, wires_of};
 use std::alloc::Global;
 use std::test::Fail;
 use tv_benes::{
-    Net, Outputs, fill_network, fill_routing_network, network, route_items, routing_network,
-    routing_switches,
+    Net, Outputs, fill_network, fill_routing_network, network, network_wires, route_items,
+    routing_network,
 };
 use tv_core::{F, ListValues, PairNum, TestSink, give_values};
 use tv_waksman::{fill_network_w, network_w};
@@ -75,8 +75,8 @@ pub fn sent(alloc: Global, net: Net, k: u32, bits: &[bool]) -> Result<Vec<u32>, 
     requires few { k ≤ 20 }
 {
     let many = power(k);
-    if routing_switches(net, k) > 100_000_000 {
-        return Err(Fail::from("too many switches"));
+    if network_wires(net, k) > 500_000_000 {
+        return Err(Fail::from("too many wires"));
     }
     let items = numbers(alloc, many)?;
     let mut values = beginning(alloc, &items)?;
@@ -92,15 +92,34 @@ pub fn sent_by_its_own(alloc: Global, net: Net, bits: &[bool]) -> Result<Vec<u32
     let items = numbers(alloc, 4)?;
     let mut values = beginning(alloc, &items)?;
     match net {
-        Net::Benes => fill_network(&mut values, 2, &items, bits)?,
-        Net::Waksman => fill_network_w(&mut values, 2, &items, bits)?,
+        Net::Benes => {
+            fill_network(&mut values, 2, &items, bits)?;
+            sent_by_benes(alloc, values.as_slice())
+        }
+        Net::Waksman => {
+            fill_network_w(&mut values, 2, &items, bits)?;
+            sent_by_waksman(alloc, values.as_slice())
+        }
     }
-    let z = values.as_slice();
+}
+
+// Which of four items comes out at each place of Benes' network, over an assignment.
+fn sent_by_benes(alloc: Global, z: &[F]) -> Result<Vec<u32>, Fail> {
+    if network_wires(Net::Benes, 2) > 26 {
+        return Err(Fail::from("too many wires"));
+    }
     let mut tests = TestSink::over(z, 9);
-    let outputs = match net {
-        Net::Benes => network(&mut tests, 2, &Wires { many: 4 })?,
-        Net::Waksman => network_w(&mut tests, 2, &Wires { many: 4 })?,
-    };
+    let outputs = network(&mut tests, 2, &Wires { many: 4 })?;
+    come_out(alloc, z, &tests, &outputs, 4)
+}
+
+// The same of Waksman's.
+fn sent_by_waksman(alloc: Global, z: &[F]) -> Result<Vec<u32>, Fail> {
+    if network_wires(Net::Waksman, 2) > 25 {
+        return Err(Fail::from("too many wires"));
+    }
+    let mut tests = TestSink::over(z, 9);
+    let outputs = network_w(&mut tests, 2, &Wires { many: 4 })?;
     come_out(alloc, z, &tests, &outputs, 4)
 }
 

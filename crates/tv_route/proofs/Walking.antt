@@ -6,7 +6,7 @@ use Rattle.std.proofs.lemmas.Bool.{cases_eq}
 use Rattle.std.proofs.lemmas.List.Sums.{sum_by-set, get_or-le-sum_by}
 use Rattle.tv_route.proofs.Pairing.{IsPairing}
 use Rattle.tv_route.specs.Route.{Mark, other, walk}
-use Rattle.tv_benes.proofs.NetworkLaws.{if_apart}
+use Rattle.tv_benes.proofs.Ends.{if_apart}
 
 -- how much of an input is not settled
 abbrev pub open_mark : Mark → ℕ

@@ -1,5 +1,6 @@
 pub mod Waksman
 pub use Rattle.tv_benes.specs.Items
+pub use Rattle.tv_benes.specs.Levels
 pub use Rattle.tv_benes.specs.Network
 pub use Rattle.tv_benes.specs.Places
 pub use Rattle.tv_benes.specs.Through

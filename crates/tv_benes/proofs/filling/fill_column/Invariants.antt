@@ -7,6 +7,6 @@ use Rattle.tv_benes.proofs.filling.fill_column.Given as goal
 
 abbrev pub invariant-loop-j : goal.invariant-loop-j
 invariant-loop-j g l = record {
-  gives : GivesAll g.V.Values.giving l.initial.v l.v (column_values l.j (from l.at (bit_at l.bits)) (item_of l.bits l.items));
+  gives : GivesAll g.V.Values.giving l.initial.v l.v (column_values l.form l.j (from l.at (bit_at l.bits)) (item_of l.bits l.items));
   whole : g.V.Values.giving.broken l.v ≡ false;
 }

@@ -28,7 +28,7 @@ returns-clause-gives g c =
     let at_d : at + c.long_power-n.result + 2 * c.level_switches-s.result + j ≡ at + (2 ^ suc h + 2 * switches net h + j) = omega (arith, c.level_switches-s.ensures) in
     let x = c.read-x.ensures ∙ upper_item net h at (at + c.long_power-n.result) b item (j + c.long_missing.result) c.source-from_upper.result at_u c.source-from_upper.ensures.is ∙ ap u place ∙ sym (last_even u l j skipped) in
     let y = c.read-y.ensures ∙ lower_item net h at (at + c.long_power-n.result + c.level_switches-s.result) b item (j + c.long_missing.result) c.source-from_lower.result at_l c.source-from_lower.ensures.is ∙ ap l place ∙ sym (last_odd u l j skipped) in
-    let is = values_as _ _ _ _ _ _ (c.bit.ensures ∙ ap b at_d) x y in
+    let is = values_as c.args.form _ _ _ _ _ _ (c.bit.ensures ∙ ap b at_d) x y in
     subst (λ (list : List ℕ). GivesIn m c.args.v.now c.fill_switch.new.v list c.fill_switch.result) is c.fill_switch.ensures.gives
 
 pub source-from_lower-requires-clause-place : goal.source-from_lower-requires-clause-place

@@ -2,9 +2,10 @@ use Rattle.std.proofs.Common.{◌≡◌, ℕ, Bool, List, [], ◌∷◌, suc, �
 use Rattle.std.proofs.Common.{sym, ◌∙◌, subst, arith}
 use Rattle.std.proofs.lemmas.Result.{on_ok_weaker}
 use Rattle.tv_benes.proofs.ColumnChain.{column_refused, upper_refused, lower_refused, level_given, values_as}
-use Rattle.tv_benes.proofs.Moved.{upper_does, lower_does, moved_values, moved_items, network_values-two, through-two}
+use Rattle.tv_benes.proofs.Moved.{upper_does, lower_does, moved_values, moved_items, level_values-two, through-two}
 use Rattle.tv_benes.proofs.ThroughLaws.{above, missing_small}
 use Rattle.tv_benes.specs.Items.{bit_at, pair_at}
+use Rattle.tv_benes.specs.Levels.{innermost}
 use Rattle.tv_benes.specs.Through.{from, passed, to_upper, to_lower, places}
 use Rattle.tv_core.proofs.GivingChain.{gives_refused}
 use Rattle.tv_core.specs.Giving.{GivesAll, GivesSome, GivesIn}
@@ -16,9 +17,9 @@ returns-then-h-eq0-clause-gives g t c =
     let m = g.V.Values.giving in
     let b : ℕ → Bool = bit_at c.args.bits.now in
     let first : c.args.at ≡ c.args.at + 0 = omega arith in
-    let is = values_as _ _ _ _ _ _ (c.bit.ensures ∙ ap b first) refl refl
-    ∙ sym (network_values-two c.args.net c.args.h (from c.args.at b) (pair_at c.args.items.now) c.if-h-eq0.true) in
-    subst (λ (l : List ℕ). GivesIn m c.args.v.now c.route_two.new.v l c.route_two.result) is c.route_two.ensures.gives
+    let is = values_as (innermost c.args.net c.args.form) _ _ _ _ _ _ (c.bit.ensures ∙ ap b first) refl refl
+    ∙ sym (level_values-two c.args.net c.args.form c.args.h (from c.args.at b) (pair_at c.args.items.now) c.if-h-eq0.true) in
+    subst (λ (l : List ℕ). GivesIn m c.args.v.now c.route_two.new.v l c.route_two.result) is (rw c.innermost.ensures at c.route_two.ensures.gives)
 
 pub returns-then-h-eq0-clause-moved : goal.returns-then-h-eq0-clause-moved
 returns-then-h-eq0-clause-moved g t c =
@@ -36,7 +37,7 @@ returns-in_err-first_column-clause-gives g t c =
     let long : length c.split_at_mut-upper.result.0.now ≡ 2 ^ c.args.h = c.split_at_mut-upper.ensures.front_len ∙ c.long_power-n.ensures in
     let column = rw long at c.in_err-first_column.ensures.gives in
     gives_refused m _ _ _ c.from_residual.result c.from_residual.ensures.1
-    (column_refused m c.args.net c.args.h (from c.args.at (bit_at c.args.bits.now)) (pair_at c.args.items.now) _ _ _ column)
+    (column_refused m c.args.net c.args.form c.args.h (c.args.h - 1) (from c.args.at (bit_at c.args.bits.now)) (pair_at c.args.items.now) (above c.args.net c.args.h c.if-h-eq0.false).level _ _ _ column)
 
 -- ---- the two networks
 pub route_level-requires : goal.route_level-requires
@@ -89,10 +90,10 @@ returns-in_err-route_level-clause-gives g t c =
     let long : length c.split_at_mut-upper.result.0.now ≡ 2 ^ h = c.split_at_mut-upper.ensures.front_len ∙ c.long_power-n.ensures in
     let column = rw long at c.in_ok-first_column.ensures.gives in
     let to_u = c.in_ok-first_column.ensures.upper ∙ ap (λ n. places n (to_upper bit item)) long in
-    let up = upper_does net h (h - 1) below.level c.args.at c.long_power-n.result c.level_switches-s.result c.long_power-n.ensures c.level_switches-s.ensures b item c.first_column.new.upper to_u in
-    let upper = subst (λ (l : List ℕ). GivesSome m c.first_column.new.v c.route_level.new.v l c.in_err-route_level.field-0.0) up.values c.in_err-route_level.ensures.gives in
+    let up = upper_does net c.args.form h (h - 1) below.level c.args.at c.long_power-n.result c.level_switches-s.result c.long_power-n.ensures c.level_switches-s.ensures b item c.first_column.new.upper to_u in
+    let upper = subst (λ (l : List ℕ). GivesSome m c.first_column.new.v c.route_level.new.v l c.in_err-route_level.field-0.0) up.values (rw c.other-inner.ensures at c.in_err-route_level.ensures.gives) in
     gives_refused m _ _ _ c.from_residual-in_err-route_level.result c.from_residual-in_err-route_level.ensures.1
-    (upper_refused m net h (h - 1) bit item below.level _ _ column _ _ upper)
+    (upper_refused m net c.args.form h (h - 1) bit item below.level _ _ column _ _ upper)
 
 pub returns-in_err-route_level-2-clause-gives : goal.returns-in_err-route_level-2-clause-gives
 returns-in_err-route_level-2-clause-gives g t c =
@@ -107,12 +108,12 @@ returns-in_err-route_level-2-clause-gives g t c =
     let column = rw long at c.in_ok-first_column.ensures.gives in
     let to_u = c.in_ok-first_column.ensures.upper ∙ ap (λ n. places n (to_upper bit item)) long in
     let to_l = c.in_ok-first_column.ensures.lower ∙ ap (λ n. places n (to_lower bit item)) long in
-    let up = upper_does net h (h - 1) below.level c.args.at c.long_power-n.result c.level_switches-s.result c.long_power-n.ensures c.level_switches-s.ensures b item c.first_column.new.upper to_u in
-    let low = lower_does net h (h - 1) below.level c.args.at c.long_power-n.result c.level_switches-s.result c.long_power-n.ensures c.level_switches-s.ensures b item c.first_column.new.lower to_l in
-    let upper = subst (λ (l : List ℕ). GivesAll m c.first_column.new.v c.route_level.new.v l) up.values c.in_ok-route_level.ensures.gives in
-    let lower = subst (λ (l : List ℕ). GivesSome m c.route_level.new.v c.route_level-2.new.v l c.in_err-route_level-2.field-0.0) low.values c.in_err-route_level-2.ensures.gives in
+    let up = upper_does net c.args.form h (h - 1) below.level c.args.at c.long_power-n.result c.level_switches-s.result c.long_power-n.ensures c.level_switches-s.ensures b item c.first_column.new.upper to_u in
+    let low = lower_does net c.args.form h (h - 1) below.level c.args.at c.long_power-n.result c.level_switches-s.result c.long_power-n.ensures c.level_switches-s.ensures b item c.first_column.new.lower to_l in
+    let upper = subst (λ (l : List ℕ). GivesAll m c.first_column.new.v c.route_level.new.v l) up.values (rw c.other-inner.ensures at c.in_ok-route_level.ensures.gives) in
+    let lower = subst (λ (l : List ℕ). GivesSome m c.route_level.new.v c.route_level-2.new.v l c.in_err-route_level-2.field-0.0) low.values (rw c.other-inner.ensures at c.in_err-route_level-2.ensures.gives) in
     gives_refused m _ _ _ c.from_residual-in_err-route_level-2.result c.from_residual-in_err-route_level-2.ensures.1
-    (lower_refused m net h (h - 1) bit item below.level _ _ column _ upper _ _ lower)
+    (lower_refused m net c.args.form h (h - 1) bit item below.level _ _ column _ upper _ _ lower)
 
 -- ---- the last column
 pub last_column-requires-clause-place : goal.last_column-requires-clause-place
@@ -135,13 +136,13 @@ returns-clause-gives g t c =
     let column = rw long at c.in_ok-first_column.ensures.gives in
     let to_u = c.in_ok-first_column.ensures.upper ∙ ap (λ n. places n (to_upper bit item)) long in
     let to_l = c.in_ok-first_column.ensures.lower ∙ ap (λ n. places n (to_lower bit item)) long in
-    let up = upper_does net h (h - 1) below.level c.args.at c.long_power-n.result c.level_switches-s.result c.long_power-n.ensures c.level_switches-s.ensures b item c.first_column.new.upper to_u in
-    let low = lower_does net h (h - 1) below.level c.args.at c.long_power-n.result c.level_switches-s.result c.long_power-n.ensures c.level_switches-s.ensures b item c.first_column.new.lower to_l in
-    let upper = subst (λ (l : List ℕ). GivesAll m c.first_column.new.v c.route_level.new.v l) up.values c.in_ok-route_level.ensures.gives in
-    let lower = subst (λ (l : List ℕ). GivesAll m c.route_level.new.v c.route_level-2.new.v l) low.values c.in_ok-route_level-2.ensures.gives in
-    let last = moved_values net h (h - 1) below.level c.args.at c.long_power-n.result c.level_switches-s.result c.long_power-n.ensures c.level_switches-s.ensures b item c.route_level.new.items c.route_level-2.new.items
+    let up = upper_does net c.args.form h (h - 1) below.level c.args.at c.long_power-n.result c.level_switches-s.result c.long_power-n.ensures c.level_switches-s.ensures b item c.first_column.new.upper to_u in
+    let low = lower_does net c.args.form h (h - 1) below.level c.args.at c.long_power-n.result c.level_switches-s.result c.long_power-n.ensures c.level_switches-s.ensures b item c.first_column.new.lower to_l in
+    let upper = subst (λ (l : List ℕ). GivesAll m c.first_column.new.v c.route_level.new.v l) up.values (rw c.other-inner.ensures at c.in_ok-route_level.ensures.gives) in
+    let lower = subst (λ (l : List ℕ). GivesAll m c.route_level.new.v c.route_level-2.new.v l) low.values (rw c.other-inner.ensures at c.in_ok-route_level-2.ensures.gives) in
+    let last = moved_values net c.args.form h (h - 1) below.level c.args.at c.long_power-n.result c.level_switches-s.result c.long_power-n.ensures c.level_switches-s.ensures b item c.route_level.new.items c.route_level-2.new.items
     (up.moved c.route_level.new.items c.in_ok-route_level.ensures.moved) (low.moved c.route_level-2.new.items c.in_ok-route_level-2.ensures.moved) in
-    level_given m net h (h - 1) bit item below.level _ _ column _ upper _ _ c.last_column.result lower
+    level_given m net c.args.form h (h - 1) bit item below.level _ _ column _ upper _ _ c.last_column.result lower
     (subst (λ (l : List ℕ). GivesIn m c.route_level-2.new.v c.last_column.new.v l c.last_column.result) last c.last_column.ensures.gives)
 
 pub returns-clause-moved : goal.returns-clause-moved
@@ -155,8 +156,8 @@ returns-clause-moved g t c =
     let long : length c.split_at_mut-upper.result.0.now ≡ 2 ^ h = c.split_at_mut-upper.ensures.front_len ∙ c.long_power-n.ensures in
     let to_u = c.in_ok-first_column.ensures.upper ∙ ap (λ n. places n (to_upper bit item)) long in
     let to_l = c.in_ok-first_column.ensures.lower ∙ ap (λ n. places n (to_lower bit item)) long in
-    let up = upper_does net h (h - 1) below.level c.args.at c.long_power-n.result c.level_switches-s.result c.long_power-n.ensures c.level_switches-s.ensures b item c.first_column.new.upper to_u in
-    let low = lower_does net h (h - 1) below.level c.args.at c.long_power-n.result c.level_switches-s.result c.long_power-n.ensures c.level_switches-s.ensures b item c.first_column.new.lower to_l in
-    let last = moved_items net h (h - 1) below.level c.args.at c.long_power-n.result c.level_switches-s.result c.long_power-n.ensures c.level_switches-s.ensures b item c.route_level.new.items c.route_level-2.new.items
+    let up = upper_does net c.args.form h (h - 1) below.level c.args.at c.long_power-n.result c.level_switches-s.result c.long_power-n.ensures c.level_switches-s.ensures b item c.first_column.new.upper to_u in
+    let low = lower_does net c.args.form h (h - 1) below.level c.args.at c.long_power-n.result c.level_switches-s.result c.long_power-n.ensures c.level_switches-s.ensures b item c.first_column.new.lower to_l in
+    let last = moved_items net c.args.form h (h - 1) below.level c.args.at c.long_power-n.result c.level_switches-s.result c.long_power-n.ensures c.level_switches-s.ensures b item c.route_level.new.items c.route_level-2.new.items
     (up.moved c.route_level.new.items c.in_ok-route_level.ensures.moved) (low.moved c.route_level-2.new.items c.in_ok-route_level-2.ensures.moved) in
     on_ok_weaker c.last_column.result (λ joined. joined ∙ last) c.last_column.ensures.joined

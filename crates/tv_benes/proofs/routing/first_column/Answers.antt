@@ -10,7 +10,7 @@ use Rattle.tv_benes.proofs.routing.first_column.Goals as goal
 
 pub loop-j-init : goal.loop-j-init
 loop-j-init g c = record {
-  gives = no_switch g.V.Values.giving (from c.args.at (bit_at c.args.bits.now)) (pair_at c.args.items.now) _;
+  gives = no_switch g.V.Values.giving c.args.form (from c.args.at (bit_at c.args.bits.now)) (pair_at c.args.items.now) _;
   whole = c.requires.whole;
   upper = λ k h. absurd (omega arith);
   lower = λ k h. absurd (omega arith);
@@ -24,11 +24,11 @@ loop-j-preserved g c =
     let item = pair_at c.args.items.now in
     let x = read_item c.args.items.now (2 * j) c.index-items-j.result (omega arith) c.index-items-j.is in
     let y = read_item c.args.items.now (2 * j + 1) c.index-items-j-in-loop-j.result (omega arith) c.index-items-j-in-loop-j.is in
-    let switch = subst (λ l. GivesAll m c.loop-j.v c.fill_switch.new.v l) (values_as _ _ _ _ _ _ c.bit-b.ensures x y) c.in_ok-fill_switch.ensures.gives in
+    let switch = subst (λ l. GivesAll m c.loop-j.v c.fill_switch.new.v l) (values_as c.args.form _ _ _ _ _ _ c.bit-b.ensures x y) c.in_ok-fill_switch.ensures.gives in
     let up = c.passed.ensures ∙ passed-same _ _ _ _ _ _ c.bit-b.ensures x y in
     let low = c.passed-in-loop-j.ensures ∙ passed-same _ _ _ _ _ _ c.bit-b.ensures y x in
     record {
-      gives = one_switch m bit item j _ _ _ c.loop-j.invariant.gives switch;
+      gives = one_switch m c.args.form bit item j _ _ _ c.loop-j.invariant.gives switch;
       whole = c.in_ok-fill_switch.ensures.whole;
       upper = place_more (to_upper bit item) c.loop-j.upper j c.passed.result (omega arith) up c.loop-j.invariant.upper;
       lower = place_more (to_lower bit item) c.loop-j.lower j c.passed-in-loop-j.result (omega arith) low c.loop-j.invariant.lower;
@@ -42,9 +42,9 @@ returns-in_err-fill_switch-clause-gives g c =
     let item = pair_at c.args.items.now in
     let x = read_item c.args.items.now (2 * j) c.index-items-j.result (omega arith) c.index-items-j.is in
     let y = read_item c.args.items.now (2 * j + 1) c.index-items-j-in-loop-j.result (omega arith) c.index-items-j-in-loop-j.is in
-    let switch = subst (λ l. GivesSome m c.loop-j.v c.fill_switch.new.v l c.in_err-fill_switch.field-0.0) (values_as _ _ _ _ _ _ c.bit-b.ensures x y) c.in_err-fill_switch.ensures.gives in
+    let switch = subst (λ l. GivesSome m c.loop-j.v c.fill_switch.new.v l c.in_err-fill_switch.field-0.0) (values_as c.args.form _ _ _ _ _ _ c.bit-b.ensures x y) c.in_err-fill_switch.ensures.gives in
     gives_refused m _ _ _ c.from_residual.result c.from_residual.ensures.1
-    (switch_refused m bit item (length c.args.upper.now) j _ _ _ _ c.loop-j-test.true c.loop-j.invariant.gives switch)
+    (switch_refused m c.args.form bit item (length c.args.upper.now) j _ _ _ _ c.loop-j-test.true c.loop-j.invariant.gives switch)
 
 pub returns-clause-gives : goal.returns-clause-gives
 returns-clause-gives g c =

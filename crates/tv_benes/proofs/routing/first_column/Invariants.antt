@@ -10,7 +10,7 @@ invariant-loop-j g l =
     let bit = from l.at (bit_at l.bits) in
     let item = pair_at l.items in
     record {
-      gives : GivesAll g.V.Values.giving l.initial.v l.v (column_values l.j bit item);
+      gives : GivesAll g.V.Values.giving l.initial.v l.v (column_values l.form l.j bit item);
       whole : g.V.Values.giving.broken l.v ≡ false;
       upper : (k : ℕ) → k < l.j → pair_at l.upper k ≡ to_upper bit item k;
       lower : (k : ℕ) → k < l.j → pair_at l.lower k ≡ to_lower bit item k;

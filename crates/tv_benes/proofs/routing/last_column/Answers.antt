@@ -18,7 +18,7 @@ loop-j-init g c =
     let item : ℕ → _ = λ i. alternating (pair_at c.args.upper.now) (pair_at c.args.lower.now) (i + 2 * missing net) in
     let none : 0 ≡ 0 - missing net = omega arith in
     record {
-      gives = subst (λ (n : ℕ). GivesAll m c.args.v.now c.args.v.now (column_values n bit item)) none (no_switch m bit item _);
+      gives = subst (λ (n : ℕ). GivesAll m c.args.v.now c.args.v.now (column_values c.args.form n bit item)) none (no_switch m c.args.form bit item _);
       whole = c.requires.whole;
       joined = λ k h. absurd (omega arith);
     }
@@ -33,12 +33,12 @@ loop-j-preserved g c =
     let w = pair_at c.args.lower.now in
     let x = read_item c.args.upper.now j c.index-upper-j.result (omega arith) c.index-upper-j.is in
     let y = read_item c.args.lower.now j c.index-lower-j.result (omega arith) c.index-lower-j.is in
-    let values = ap₂ (λ n l. if nat_lt j n then [] else l) c.missing-skipped.ensures (values_as _ _ _ _ _ _ c.last_bit-b.ensures x y) in
+    let values = ap₂ (λ n l. if nat_lt j n then [] else l) c.missing-skipped.ensures (values_as c.args.form _ _ _ _ _ _ c.last_bit-b.ensures x y) in
     let switch = subst (λ (l : List ℕ). GivesAll m c.loop-j.v c.fill_unless.new.v l) values c.in_ok-fill_unless.ensures.gives in
     let first = c.passed.ensures ∙ passed-same _ _ _ _ _ _ c.last_bit-b.ensures x y in
     let second = c.passed-in-loop-j.ensures ∙ passed-same _ _ _ _ _ _ c.last_bit-b.ensures y x in
     record {
-      gives = last_given m net bit u w j _ _ _ c.loop-j.invariant.gives switch;
+      gives = last_given m net c.args.form bit u w j _ _ _ c.loop-j.invariant.gives switch;
       whole = c.in_ok-fill_unless.ensures.whole;
       joined = join_more (last_bit net bit) u w c.loop-j.items j c.passed.result c.passed-in-loop-j.result (omega arith) first second c.loop-j.invariant.joined;
     }
@@ -51,10 +51,10 @@ returns-in_err-fill_unless-clause-gives g c =
     let bit = from c.args.at (bit_at c.args.bits.now) in
     let x = read_item c.args.upper.now j c.index-upper-j.result (omega arith) c.index-upper-j.is in
     let y = read_item c.args.lower.now j c.index-lower-j.result (omega arith) c.index-lower-j.is in
-    let values = ap₂ (λ n l. if nat_lt j n then [] else l) c.missing-skipped.ensures (values_as _ _ _ _ _ _ c.last_bit-b.ensures x y) in
+    let values = ap₂ (λ n l. if nat_lt j n then [] else l) c.missing-skipped.ensures (values_as c.args.form _ _ _ _ _ _ c.last_bit-b.ensures x y) in
     let switch = subst (λ (l : List ℕ). GivesSome m c.loop-j.v c.fill_unless.new.v l c.in_err-fill_unless.field-0.0) values c.in_err-fill_unless.ensures.gives in
     gives_refused m _ _ _ c.from_residual.result c.from_residual.ensures.1
-    (last_refused m net bit (pair_at c.args.upper.now) (pair_at c.args.lower.now) (length c.args.upper.now) j _ _ _ _ c.loop-j-test.true c.loop-j.invariant.gives switch)
+    (last_refused m net c.args.form bit (pair_at c.args.upper.now) (pair_at c.args.lower.now) (length c.args.upper.now) j _ _ _ _ c.loop-j-test.true c.loop-j.invariant.gives switch)
 
 pub returns-clause-gives : goal.returns-clause-gives
 returns-clause-gives g c =

@@ -11,7 +11,7 @@ invariant-loop-j g l =
     let u = pair_at l.upper in
     let w = pair_at l.lower in
     record {
-      gives : GivesAll g.V.Values.giving l.initial.v l.v (column_values (l.j - missing l.net) bit (λ i. alternating u w (i + 2 * missing l.net)));
+      gives : GivesAll g.V.Values.giving l.initial.v l.v (column_values l.form (l.j - missing l.net) bit (λ i. alternating u w (i + 2 * missing l.net)));
       whole : g.V.Values.giving.broken l.v ≡ false;
       joined : (k : ℕ) → k < 2 * l.j → pair_at l.items k ≡ joined (last_bit l.net bit) u w k;
     }

@@ -1,5 +1,5 @@
 use Rattle.std.proofs.Common.{arith}
-use Rattle.tv_memory_tests.proofs.Made.{eight, eight_made, few_switches, checks_made, checks_added}
+use Rattle.tv_memory_tests.proofs.Made.{eight, eight_made, few_wires, checks_made, checks_added}
 use Rattle.tv_memory_tests.proofs.arguing.put.Goals as goal
 
 pub memory-requires-clause-many : goal.memory-requires-clause-many
@@ -11,8 +11,8 @@ memory-requires-clause-room g c =
     record {
       whole = room.whole;
       constant = room.constant;
-      wires = omega (arith, room.wires, few_switches c.args.net, checks_made);
-      constraints = omega (arith, room.constraints, few_switches c.args.net, checks_added);
+      wires = omega (arith, room.wires, few_wires c.args.net, checks_made);
+      constraints = omega (arith, room.constraints, few_wires c.args.net, checks_added);
     }
 
 pub memory-requires-clause-made : goal.memory-requires-clause-made

@@ -14,7 +14,7 @@ overflow_add-result c = omega (arith, eight)
 pub overflow_add-result-2 : goal.overflow_add-result-2
 overflow_add-result-2 c = omega (arith, eight)
 
-pub returns-clause-is : goal.returns-clause-is
-returns-clause-is c =
+pub returns : goal.returns
+returns c =
     let low : c.args.i < 8 = omega (arith, eight) in
-    line_made c.args.i ∙ sym (line_is c.args.i low)
+    record { is = line_made c.args.i ∙ sym (line_is c.args.i low) }

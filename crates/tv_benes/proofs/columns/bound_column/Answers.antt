@@ -2,18 +2,19 @@ use Rattle.std.proofs.Common.{◌≡◌, ℕ, ◌+◌, ◌*◌, ◌<◌, arith}
 use Rattle.tv_core.proofs.Chain.{puts_no_turn, puts_turn, turn_refused, refused}
 use Rattle.tv_core.specs.Circuits.{Circuit}
 use Rattle.tv_benes.specs.Network.{switch_of, column_of}
-use Rattle.tv_benes.proofs.columns.input_column.Goals as goal
+use Rattle.tv_benes.specs.declared.shape.Form.TheVariants.{Bound}
+use Rattle.tv_benes.proofs.columns.bound_column.Goals as goal
 
 pub loop-j-init : goal.loop-j-init
 loop-j-init g c =
-    let pair = g.I.Inputs.pair c.args.inputs.now in
+    let pair = g.T.Pairs.pair c.args.items.now in
     record {
-      puts = puts_no_turn g.S.Sink.meaning _ (λ j _. switch_of (pair (2 * j)) (pair (2 * j + 1))) tt;
+      puts = puts_no_turn g.S.Sink.meaning _ (λ j _. switch_of Bound (pair (2 * j)) (pair (2 * j + 1))) tt;
       grows = record { wires = omega arith; constraints = omega arith; whole = c.requires.room.whole };
     }
 
-pub pair_switch-requires : goal.pair_switch-requires
-pair_switch-requires g c =
+pub bound_switch-requires : goal.bound_switch-requires
+bound_switch-requires g c =
     let m = c.requires.made in
     let even : 2 * c.loop-j.j < 2 * c.args.n = omega arith in
     let odd : 2 * c.loop-j.j + 1 < 2 * c.args.n = omega arith in
@@ -33,24 +34,24 @@ pair_switch-requires g c =
 
 pub loop-j-preserved : goal.loop-j-preserved
 loop-j-preserved g c =
-    let pair = g.I.Inputs.pair c.args.inputs.now in
-    let piece : ℕ → Unit {0} → Circuit (Unit {0}) = λ j _. switch_of (pair (2 * j)) (pair (2 * j + 1)) in
-    let grown = c.in_ok-pair_switch.ensures.grows in
-    let switch = rw (c.fill.ensures, c.fill-in-loop-j.ensures) at c.in_ok-pair_switch.ensures.puts in
+    let pair = g.T.Pairs.pair c.args.items.now in
+    let piece : ℕ → Unit {0} → Circuit (Unit {0}) = λ j _. switch_of Bound (pair (2 * j)) (pair (2 * j + 1)) in
+    let grown = c.in_ok-bound_switch.ensures.grows in
+    let switch = rw (c.fill.ensures, c.fill-in-loop-j.ensures) at c.in_ok-bound_switch.ensures.puts in
     record {
       puts = puts_turn g.S.Sink.meaning _ piece tt _ _ _ _ _ c.loop-j.invariant.puts switch;
       grows = record { wires = omega (arith, grown.wires); constraints = omega (arith, grown.constraints); whole = grown.whole };
     }
 
-pub returns-in_err-pair_switch-clause-puts : goal.returns-in_err-pair_switch-clause-puts
+pub returns-in_err-bound_switch-clause-puts : goal.returns-in_err-bound_switch-clause-puts
 unfolding column_of
-returns-in_err-pair_switch-clause-puts g c =
+returns-in_err-bound_switch-clause-puts g c =
     let m = g.S.Sink.meaning in
-    let pair = g.I.Inputs.pair c.args.inputs.now in
-    let piece : ℕ → Unit {0} → Circuit (Unit {0}) = λ j _. switch_of (pair (2 * j)) (pair (2 * j + 1)) in
-    let switch = rw (c.fill.ensures, c.fill-in-loop-j.ensures) at c.in_err-pair_switch.ensures.puts in
+    let pair = g.T.Pairs.pair c.args.items.now in
+    let piece : ℕ → Unit {0} → Circuit (Unit {0}) = λ j _. switch_of Bound (pair (2 * j)) (pair (2 * j + 1)) in
+    let switch = rw (c.fill.ensures, c.fill-in-loop-j.ensures) at c.in_err-bound_switch.ensures.puts in
     refused m _ _ _ c.from_residual.result c.from_residual.ensures.1
-    (turn_refused m c.args.n c.loop-j.j piece tt tt c.args.s.now c.loop-j.s c.pair_switch.new.s c.in_err-pair_switch.field-0.0 c.loop-j-test.true c.loop-j.invariant.puts switch)
+    (turn_refused m c.args.n c.loop-j.j piece tt tt c.args.s.now c.loop-j.s c.bound_switch.new.s c.in_err-bound_switch.field-0.0 c.loop-j-test.true c.loop-j.invariant.puts switch)
 
 pub returns-clause-puts : goal.returns-clause-puts
 unfolding column_of

@@ -1,0 +1,66 @@
+//! One open switch, between two items that are two wires each.
+ghost use Rattle.std.specs.Prelude.{◌+◌, ◌<◌, IfOk};
+ghost use Rattle.tv_core.specs.Combinations.{wire};
+ghost use Rattle.tv_core.specs.Sinks.{PutsIn, Grows, Room};
+ghost use Rattle.tv_benes.specs.Network.{product_of, switch_of};
+ghost use Rattle.tv_benes.specs.Places.{wires_at};
+ghost use Rattle.tv_benes.specs.declared.shape.Form.TheVariants.{Open};
+
+use tv_bits::bit_by;
+use tv_core::{Put, Scratch, Sink, Wire};
+
+// The product of the bit `b` and the difference of two wires. It makes 1 wire and 1 constraint, of
+// 4 terms.
+fn product<S: Sink>(s: &mut S, scratch: &mut Scratch, b: Wire, x: Wire, y: Wire) -> Put<Wire>
+    requires room { Room S.meaning s.old 1 1 }
+    requires b_made { b < S.meaning.wires s.old }
+    requires x_made { x < S.meaning.wires s.old }
+    requires y_made { y < S.meaning.wires s.old }
+    ensures puts { PutsIn S.meaning s.old s.new (product_of b (wire x) (wire y)) result }
+    ensures grows { IfOk result (λ _. Grows S.meaning s.old s.new 1 1) }
+{
+    let m = s.fresh();
+    scratch.a.set_wire(b);
+    scratch.b.set_difference(x, y);
+    scratch.c.set_wire(m);
+    s.put(&scratch.a, &scratch.b, &scratch.c)?;
+    Ok(m)
+}
+
+// An open switch between two items that are two wires each. It makes 3 wires and 3 constraints, of
+// 11 terms.
+fn switch<S: Sink>(
+    s: &mut S,
+    scratch: &mut Scratch,
+    x: Wire,
+    x_second: Wire,
+    y: Wire,
+    y_second: Wire,
+) -> Put<()>
+    requires room { Room S.meaning s.old 3 3 }
+    requires x_made { x < S.meaning.wires s.old }
+    requires x2_made { x_second < S.meaning.wires s.old }
+    requires y_made { y < S.meaning.wires s.old }
+    requires y2_made { y_second < S.meaning.wires s.old }
+    ensures puts { PutsIn S.meaning s.old s.new
+        (switch_of Open (record { first = wire x; second = wire x_second })
+        (record { first = wire y; second = wire y_second })) result }
+    ensures grows { IfOk result (λ _. Grows S.meaning s.old s.new 3 3) }
+{
+    let b = s.fresh();
+    bit_by(s, &mut scratch.a, b)?;
+    product(s, scratch, b, x, y)?;
+    product(s, scratch, b, x_second, y_second)?;
+    Ok(())
+}
+
+// The same, the second wire of each item being the one after its first.
+pub(crate) fn open_switch<S: Sink>(s: &mut S, scratch: &mut Scratch, x: Wire, y: Wire) -> Put<()>
+    requires room { Room S.meaning s.old 3 3 }
+    requires x_made { x + 1 < S.meaning.wires s.old }
+    requires y_made { y + 1 < S.meaning.wires s.old }
+    ensures puts { PutsIn S.meaning s.old s.new (switch_of Open (wires_at x) (wires_at y)) result }
+    ensures grows { IfOk result (λ _. Grows S.meaning s.old s.new 3 3) }
+{
+    switch(s, scratch, x, x.offset(1), y, y.offset(1))
+}
