@@ -22,7 +22,7 @@ use Rattle.tv_step.specs.State.{State}
 use Rattle.tv_step.specs.Trace.{step_lines, lines_of, states_of, state_told}
 use Rattle.tv_step.specs.declared.lines.TraceState.{TraceState}
 use Rattle.tv_word.specs.Widths.{IsWidth}
-use Rattle.tv_block.specs.Filling.{view_of}
+use Rattle.tv_parts.specs.Traced.{traced_view}
 use Rattle.tv_fill.specs.Told.{no_state, state_at, old_at, takes_at, taken_at, data_at, told_values, StepInRange}
 
 -- the word that is handed in
@@ -102,7 +102,7 @@ module _ (w : ℕ) (image x aux : List ℕ) (t : ℕ) (width : IsWidth w) (short
 
   told_step : (i : ℕ) → i < t → told_values w (length x) run_states aux run_steps i ≡ run_step (step_values w) w image x aux i
   unfolding told_values
-  told_step i h = same_values (block_values w (length x)) (ap view_of (state_is i (omega arith))) (head_is i h) (tail_is i h) (data_is i h) (ap is_some (taken_is i h)) ∙ (given i).values
+  told_step i h = same_values (block_values w (length x)) (ap traced_view (state_is i (omega arith))) (head_is i h) (tail_is i h) (data_is i h) (ap is_some (taken_is i h)) ∙ (given i).values
 
   pub told_steps : joined_below t (told_values w (length x) run_states aux run_steps) ≡ joined_below t (run_step (step_values w) w image x aux)
   told_steps = joined_below-same t _ _ (λ i h. told_step i h)

@@ -1,6 +1,6 @@
 -- The values of steps, from a trace's states and lines.
 use Rattle.std.specs.Prelude.{◌≡◌, ℕ, ◌+◌, ◌*◌, ◌^◌, ◌<◌, Bool, true, false, nat_lt, if◌then◌else◌, List, [], length, slice_index, slice_index_or, Option, Some, None, is_some, unwrap_or}
-use Rattle.tv_block.specs.Filling.{view_of}
+use Rattle.tv_parts.specs.Traced.{traced_view}
 use Rattle.tv_block.specs.Values.{block_values}
 use Rattle.tv_core.specs.Lines.{Line}
 use Rattle.tv_lines.specs.Placed.{number_in}
@@ -33,11 +33,11 @@ data_at states aux lines i = unwrap_or (taken_at states aux i) (old_at lines (3 
 -- the values of step i, with a primary tape of n words
 unfoldable pub told_values : ℕ → ℕ → List TraceState → List ℕ → List Line → ℕ → List ℕ
 told_values w n states aux lines i =
-    block_values w n (view_of (state_at states i)) (old_at lines (3 * i)) (old_at lines (3 * i + 1)) (data_at states aux lines i) (is_some (taken_at states aux i))
+    block_values w n (traced_view (state_at states i)) (old_at lines (3 * i)) (old_at lines (3 * i + 1)) (data_at states aux lines i) (is_some (taken_at states aux i))
 
 -- what is told of it is in range
 pub record StepInRange (w n : ℕ) (states : List TraceState) (aux : List ℕ) (lines : List Line) (i : ℕ) : Type 0 where
-  pub view : ViewInRange w n (view_of (state_at states i))
+  pub view : ViewInRange w n (traced_view (state_at states i))
   pub head : old_at lines (3 * i) < 2 ^ w
   pub tail : old_at lines (3 * i + 1) < 2 ^ w
   pub data_word : data_at states aux lines i < 2 ^ w

@@ -2,9 +2,9 @@
 -- them is proved in Systems.
 use Rattle.std.specs.Prelude.{◌≡◌, ℕ, ◌+◌, ◌/◌, ◌^◌, ◌<◌, ◌≤◌, Bool, List, length, Option, Some, is_some}
 use Rattle.tv_block.specs.Block.{did, IsMachineStep}
-use Rattle.tv_block.specs.Fetch.{state_in}
+use Rattle.tv_parts.specs.States.{state_in}
 use Rattle.tv_block.specs.declared.records.Block.{Block}
-use Rattle.tv_block.specs.declared.records.StateWires.{StateWires}
+use Rattle.tv_parts.specs.declared.records.StateWires.{StateWires}
 use Rattle.tv_core.specs.Laws.{Assigns, Meets, HasFrom, InField}
 use Rattle.tv_core.specs.declared.limits.TheConstants.{NULL_CELL}
 use Rattle.tv_step.specs.Rows.{word_size}

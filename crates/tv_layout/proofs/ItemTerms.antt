@@ -11,7 +11,7 @@ use Rattle.tv_block.specs.Complete.{block_made}
 use Rattle.tv_block.specs.Costs.{line_terms as parts_of, step_costs}
 use Rattle.tv_block.specs.Places.{block_wires}
 use Rattle.tv_block.specs.declared.records.Block.{Block}
-use Rattle.tv_block.specs.declared.records.StateWires.{StateWires}
+use Rattle.tv_parts.specs.declared.records.StateWires.{StateWires}
 use Rattle.tv_core.proofs.BelowLaws.{sum_below-zero, sum_below-suc, sum_below-add, sum_below-same}
 use Rattle.tv_core.proofs.JoinedLaws.{joined_below-zero, joined_below-suc}
 use Rattle.tv_core.specs.Below.{sum_below, joined_below}

@@ -10,7 +10,7 @@ use Rattle.tv_block.specs.Complete.{block_made}
 use Rattle.tv_block.specs.Costs.{line_terms}
 use Rattle.tv_block.specs.Places.{block_wires}
 use Rattle.tv_block.specs.declared.costs.LineTerms.{LineTerms}
-use Rattle.tv_block.specs.declared.records.StateWires.{StateWires}
+use Rattle.tv_parts.specs.declared.records.StateWires.{StateWires}
 use Rattle.tv_core.specs.Below.{sum_below}
 use Rattle.tv_core.specs.declared.limits.TheConstants.{CELL_BITS, TAPE_CELLS}
 use Rattle.tv_core.specs.declared.lines.LineLc.{LineLc}

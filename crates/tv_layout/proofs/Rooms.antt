@@ -2,6 +2,7 @@
 use Rattle.std.proofs.Common.{◌≡◌, ℕ, suc, ◌+◌, ◌-◌, ◌*◌, ◌<◌, ◌≤◌, ◌^◌, List, length, ap, ◌∙◌, arith}
 use Rattle.std.proofs.Math.Nat.{mul-le-mul, mul-le-mul_left, pow-le-pow_right}
 use Rattle.std.proofs.lemmas.Nat.{pow_pos}
+use Rattle.tv_benes.proofs.Most.{switches_most, network_few}
 use Rattle.tv_benes.specs.Through.{switches}
 use Rattle.tv_benes.specs.declared.shape.Net.{Net}
 use Rattle.tv_benes.specs.declared.shape.Net.TheVariants.{Benes, Waksman}
@@ -9,6 +10,7 @@ use Rattle.tv_block.proofs.CountLaws.{block_counted}
 use Rattle.tv_block.specs.Complete.{block_made, block_added}
 use Rattle.tv_memory.proofs.CheckCosts.{checks_cheap}
 use Rattle.tv_memory.specs.Checks.{AreShort}
+use Rattle.tv_memory.specs.Costs.{network_made}
 use Rattle.tv_word.proofs.WidthLaws.{width_short}
 use Rattle.tv_layout.proofs.LineKinds.{kinds_short}
 use Rattle.tv_layout.proofs.MemoryCosts.{wires_are, constraints_are}
@@ -18,9 +20,8 @@ use Rattle.tv_layout.specs.Places.{WithinLimits, line_count, log_of}
 use Rattle.tv_layout.specs.Sizes.{memory_wires, memory_constraints, system_made, system_added, network_most, size_most}
 
 -- ---- the network
-switches_most : (net : Net) (h : ℕ) → switches net h ≤ (2 * h + 1) * 2 ^ h
-switches_most Benes h = omega arith
-switches_most Waksman h = let some = pow_pos h in omega arith
+pub made_few : (net : Net) (k : ℕ) → network_made net k ≤ 5 * switches net (k - 1)
+made_few net k = network_few net (k - 1)
 
 pub switches_few : (net : Net) (h : ℕ) → h ≤ 19 → switches net h ≤ 39 * 2 ^ 19
 switches_few net h few =
@@ -73,10 +74,10 @@ module _ (w : ℕ) (net : Net) (image : List ℕ) (n t : ℕ) (fits : WithinLimi
       network_is net (k - 1) ∙ ap (network_most net) same
 
   memory_few : memory_wires w net image n t ≤ 5 * switches net (k - 1) + 2 ^ k * 2 ^ 6
-  memory_few = let sum = checks_cheap.few_made (checks_of image n t) (2 ^ k) (checks_short w image n t fits) in omega (arith, sum, wires_are w image n t fits net)
+  memory_few = let sum = checks_cheap.few_made (checks_of image n t) (2 ^ k) (checks_short w image n t fits) in omega (arith, sum, wires_are w image n t fits net, made_few net k)
 
   constraints_few : memory_constraints w net image n t ≤ 5 * switches net (k - 1) + 2 ^ k * 2 ^ 6
-  constraints_few = let sum = checks_cheap.few_added (checks_of image n t) (2 ^ k) (checks_short w image n t fits) in omega (arith, sum, constraints_are w image n t fits net)
+  constraints_few = let sum = checks_cheap.few_added (checks_of image n t) (2 ^ k) (checks_short w image n t fits) in omega (arith, sum, constraints_are w image n t fits net, made_few net k)
 
   wires_small : 2 + n + system_made w net image n t ≤ size_most net k n t
   wires_small =

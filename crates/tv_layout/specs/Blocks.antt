@@ -2,7 +2,7 @@
 use Rattle.std.specs.Prelude.{ℕ, ◌-◌, Bool, List, length, Option}
 use Rattle.tv_block.specs.Complete.{olds_of}
 use Rattle.tv_block.specs.declared.records.Block.{Block}
-use Rattle.tv_block.specs.declared.records.StateWires.{StateWires}
+use Rattle.tv_parts.specs.declared.records.StateWires.{StateWires}
 use Rattle.tv_core.specs.Circuits.{Circuit}
 use Rattle.tv_numbers.specs.Views.{View, flag_of, seen}
 use Rattle.tv_step.specs.State.{State}

@@ -18,8 +18,8 @@ use Rattle.tv_layout.specs.Places.{boot_count, line_count, log_of, tape_at, zero
 use Rattle.tv_block.specs.Block.{reached}
 use Rattle.tv_block.specs.declared.records.Block.{Block}
 use Rattle.tv_block.specs.declared.records.Reached.{Reached}
-use Rattle.tv_block.specs.declared.records.Spot.{Spot}
-use Rattle.tv_block.specs.declared.records.StateWires.{StateWires}
+use Rattle.tv_parts.specs.declared.records.Spot.{Spot}
+use Rattle.tv_parts.specs.declared.records.StateWires.{StateWires}
 
 -- ---- the parts
 -- n wires from a first one on hold words of w bits

@@ -8,7 +8,7 @@ use Rattle.tv_step.specs.Machine.{start, state_after, Accepts}
 use Rattle.tv_step.specs.Range.{AreWords}
 use Rattle.tv_step.specs.Reads.{word_taken, words_in, Reads}
 use Rattle.tv_step.specs.Trace.{null_line}
-use Rattle.tv_block.specs.Fetch.{state_in}
+use Rattle.tv_parts.specs.States.{state_in}
 use Rattle.tv_layout.specs.Blocks.{BlockCircuit}
 use Rattle.tv_layout.specs.Layout.{state_at, block_at, lines_of, taken_at, taken_of}
 use Rattle.tv_layout.specs.Places.{boot_count, line_count, log_of, zero_wire_at, first_at}

@@ -10,7 +10,7 @@ ghost use Rattle.tv_layout.specs.Places.{WithinLimits, line_count, log_of, zero_
 ghost use Rattle.tv_layout.specs.Systems.{system_of};
 ghost use Rattle.tv_layout.specs.Told.{state_before};
 ghost use Rattle.tv_lines.specs.Placed.{line_in};
-ghost use Rattle.tv_lines.specs.Told.{line_told, word_told, HasShortWords, IsShortWord};
+ghost use Rattle.tv_lines.specs.Compact.{line_lc, word_lc};
 ghost use Rattle.tv_word.specs.Widths.{IsWidth};
 
 use crate::checks::line_kind;
@@ -19,7 +19,7 @@ use crate::stepping::first_state;
 use tv_block::{StateWires, block_line, next_state};
 use tv_core::limits::{NULL_CELL, STEPS, TAPE_CELLS, TAPE_WORDS};
 use tv_core::{F, LineLc, Wire};
-use tv_lines::{Cell, ToldLine, Word};
+use tv_lines::{Cell, CompactLine, Word};
 use tv_memory::{Kind, Lines};
 
 /// Line `i` of a program's system, in time order: those of the image, of the words of the primary
@@ -38,12 +38,11 @@ pub fn line<const W: u32>(image: &[u32], n: u32, t: u32, i: u32) -> LineLc
 }
 
 // The same line in compact form.
-fn told_line<const W: u32>(image: &[u32], n: u32, t: u32, i: u32) -> ToldLine
+fn told_line<const W: u32>(image: &[u32], n: u32, t: u32, i: u32) -> CompactLine
     requires fits { WithinLimits W image.now n t }
     requires within { i < 2 ^ log_of (line_count image.now n t) }
-    ensures is { line_told result ≡ line_in (lines_of (block_of W) W image.now n t) i }
-    ensures words { HasShortWords result }
-    ensures short { IsShort (line_told result) }
+    ensures is { line_lc result ≡ line_in (lines_of (block_of W) W image.now n t) i }
+    ensures short { IsShort (line_lc result) }
 {
     let words = image.len() as u32;
     let boot = words + n;
@@ -60,12 +59,10 @@ fn told_line<const W: u32>(image: &[u32], n: u32, t: u32, i: u32) -> ToldLine
 }
 
 // A line that no step makes.
-fn line_of_word(cell: u32, time: u32, word: Word) -> ToldLine
-    requires { IsShortWord word }
-    ensures is { line_told result ≡ line_of_word cell time (word_told word) }
-    ensures words { HasShortWords result }
+fn line_of_word(cell: u32, time: u32, word: Word) -> CompactLine
+    ensures is { line_lc result ≡ line_of_word cell time (word_lc word) }
 {
-    ToldLine {
+    CompactLine {
         cell: Cell::Multiple(F::from(cell), Wire(0)),
         time,
         old: Word::Nothing,
@@ -74,16 +71,15 @@ fn line_of_word(cell: u32, time: u32, word: Word) -> ToldLine
 }
 
 // Line j of the steps, of which the first begins at a time.
-fn step_line<const W: u32>(n: u32, time: u32, j: u32) -> ToldLine
+fn step_line<const W: u32>(n: u32, time: u32, j: u32) -> CompactLine
     requires width { IsWidth W }
     requires few { n ≤ TAPE_WORDS }
     requires some { j < 3 * STEPS }
     requires times { time + j + 3 < 2 ^ 32 }
-    ensures is { line_told result ≡ line_in (block_wires W
+    ensures is { line_lc result ≡ line_in (block_wires W
         (state_before W (zero_wire_at W n) (first_at W n) (j / 3)) (time + 3 * (j / 3))
         (first_at W n + j / 3 * block_made W)).lines (j % 3) }
-    ensures words { HasShortWords result }
-    ensures short { IsShort (line_told result) }
+    ensures short { IsShort (line_lc result) }
 {
     let step = j / 3;
     let state = state_before::<W>(n, step);
@@ -121,7 +117,7 @@ impl<'a, const W: u32> Lines for LayoutLines<'a, W> {
 
     ghost checks = { λ l. checks_of l.image.now l.n l.t };
 
-    fn line(&self, i: u32) -> ToldLine {
+    fn line(&self, i: u32) -> CompactLine {
         told_line::<W>(self.image, self.n, self.t, i)
     }
 

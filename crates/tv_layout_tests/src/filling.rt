@@ -16,18 +16,18 @@ const WIDE: [u32; 2] = [0xfc00_0000, 0];
 const NARROW: [u32; 2] = [0xfc00, 0];
 
 /// A network, and how many wires, constraints and terms the systems over it have, with words of 32
-/// and of 16 bits. There are 2 + 3 lines, so k = 3, and 8 items with 2 · 3 + (2 W + 8) + 2 · 3 terms;
-/// over Benes' network 20 switches, over Waksman's 17, the first 4 of which are a column:
+/// and of 16 bits. There are 2 + 3 lines, so k = 3, and 8 items with 2 · 3 + 10 + 2 · 3 terms;
+/// over Benes' network 20 switches, 12 of them bound, over Waksman's 17, 11 of them bound:
 ///
-///     wires:       2 + 1 + R + 5 · switches + (3 + 65)
-///     constraints: 1 + S + 2 + 5 · switches + (2 - 1) + (3 + 71)
+///     wires:       2 + 1 + R + 3 · switches + 2 · bound + (3 + 65)
+///     constraints: 1 + S + 2 + 3 · switches + 2 · bound + (2 - 1) + (3 + 71)
 ///     terms:       2 + Z + 6 + 23 (switches - 4) + 11 · 4 + 3 items
-///                  + 3 + (136 + W) + (4 · 3 + 14 + W) + 137
+///                  + 3 + 137 + (4 · 3 + 15) + 137
 ///
-/// with R = 654, S = 752, Z = 5758 at 32 bits and R = 404, S = 502, Z = 3488 at 16.
+/// with R = 311, S = 324, Z = 1891 at 32 bits and R = 212, S = 225, Z = 1329 at 16.
 const SIZES: [(Net, [u64; 3], [u64; 3]); 2] = [
-    (Net::Benes, [825, 930, 6796], [575, 680, 4398]),
-    (Net::Waksman, [810, 915, 6727], [560, 665, 4329]),
+    (Net::Benes, [466, 486, 2681], [367, 387, 2119]),
+    (Net::Waksman, [455, 475, 2612], [356, 376, 2050]),
 ];
 
 // What a system's sizes are said to be, and what a sink counts.
