@@ -189,3 +189,7 @@ places_more f [] n v k each before is h = let first : v ≡ 0 = omega arith in l
 places_more f (x ∷ places) n zero k each before is h = before 0 (omega arith)
 places_more f (x ∷ places) n (suc v) k each before is h =
     places_more (λ u. f (suc u)) places (n - 1) v k (omega arith) (λ u l. before (suc u) (omega arith)) (is ∙ ap f (omega arith)) (omega arith)
+
+-- a wire's place is the same among the labels of more wires
+pub place_among : (few many w : ℕ) (gone : List Bool) → few ≤ many → w < few → get_or gone w false ≡ false → place w (kept few gone) ≡ place w (kept many gone)
+place_among few many w gone le h stays = place_is few w gone h stays ∙ sym (place_is many w gone (omega arith) stays)

@@ -7,7 +7,7 @@ use Rattle.std.proofs.Math.Seq.{drop-append-add}
 use Rattle.std.proofs.lemmas.List.{append_assoc, length-append, length-drop, length-take-le, map-append}
 use Rattle.tv_core.specs.Constraints.{Combination, Constraint}
 use Rattle.tv_shrink.specs.Spans.{end_of, laid, row_at, row_terms, span_of, AreApart, AreInside, AreLaid, IsClear, IsFree, IsInside}
-use Rattle.tv_shrink.specs.declared.rows.Span.{Span}
+use Rattle.tv_shrink.specs.declared.arena.Span.{Span}
 use Rattle.tv_shrink.proofs.Read.{each_at}
 use Rattle.tv_shrink.proofs.Spans.{inside_more, part_kept, push_each, row_appended, row_end, row_kept, rows_kept, same_row, set_each}
 

@@ -10,9 +10,11 @@ pub mod Passes
 pub mod Putting
 pub mod Read
 pub mod ReplacingLaws
+pub mod Room
 pub mod Settling
 pub mod Solutions
 pub mod Sorting
 pub mod Spans
+pub mod States
 pub mod Unique
 pub mod Whole

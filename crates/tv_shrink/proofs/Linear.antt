@@ -1,6 +1,6 @@
 -- What the functions on a constraint's combinations give.
-use Rattle.std.proofs.Common.{◌≡◌, ◌≢◌, ℕ, ◌+◌, ◌-◌, ◌*◌, ◌%◌, ◌<◌, ◌≤◌, Bool, not, ◌&&◌, ◌||◌, leb, ltb, length, [], ◌∷◌, ◌++◌, Some, None, refl, sym, ◌∙◌, ap, ap₂, arith, eqb, true, false, inl, inr, cond, mul-zero}
-use Rattle.std.proofs.lemmas.Bool.{and_from, cases_Bool, cond_both, le-leb, leb-true, or_left, or_right}
+use Rattle.std.proofs.Common.{◌≡◌, ◌≢◌, ℕ, ◌+◌, ◌-◌, ◌*◌, ◌%◌, ◌<◌, ◌≤◌, Bool, not, ◌||◌, leb, ltb, length, [], ◌∷◌, ◌++◌, Some, None, refl, sym, ◌∙◌, ap, ap₂, arith, eqb, true, false, inl, inr, cond, mul-zero}
+use Rattle.std.proofs.lemmas.Bool.{cases_Bool, cond_both, le-leb, leb-true, or_left, or_right}
 use Rattle.std.proofs.lemmas.List.{length-append, length-map}
 use Rattle.std.specs.Option.{option_or}
 use Rattle.tv_core.specs.Combinations.{scaled}
@@ -114,10 +114,6 @@ unfolding fits
 fits-few w r x few =
     let short : length (replaced w r x) ≤ 128 = omega (arith, length-replaced w r x) in
     or_right (not (has_wire w x)) (leb (length (replaced w r x)) 128) (le-leb (length (replaced w r x)) 128 short)
-
--- all three do, where each has few
-pub fits_in-few : (w : ℕ) (r a b c : Combination) → length a + length r ≤ 128 → length b + length r ≤ 128 → length c + length r ≤ 128 → (fits w r a && (fits w r b && fits w r c)) ≡ true
-fits_in-few w r a b c a_few b_few c_few = and_from _ _ (fits-few w r a a_few) (and_from _ _ (fits-few w r b b_few) (fits-few w r c c_few))
 
 -- what fits is short, if the wire stands in it
 fits_short : (w : ℕ) (r x : Combination) → fits w r x ≡ true → has_wire w x ≡ true → length (replaced w r x) ≤ 128

@@ -133,7 +133,7 @@ module _ (start : List (Option Constraint)) (wires publics : ℕ) (positive : 0 
     lin_over : Over (Stays wires pass.gone) lin × IsNormalFrom 0 lin
     lin_over = Over-linear_form (Stays wires pass.gone) c lin row_over.0 row_over.1 row_over.2 says
 
-    wire_is : (publics ≤ w) × (w < wires)
+    pub wire_is : (publics ≤ w) × (w < wires)
     wire_is = let is = greatest_is publics w lin greatest in (is.0, (Over-has_wire (Stays wires pass.gone) w lin lin_over.0 is.1).0)
 
     -- where the row holds, the wire has its combination's value, and the other way round
@@ -278,7 +278,7 @@ module _ (start : List (Option Constraint)) (wires publics : ℕ) (positive : 0 
   row-sound i None pass at sound = unlinear i pass sound
   row-sound i (Some c) pass at sound = treated-sound i c (linear_form c) pass at refl sound
 
-  turn-sound : (i : ℕ) (pass : Pass) → Sound start wires publics pass → Sound start wires publics (turn publics pass i)
+  pub turn-sound : (i : ℕ) (pass : Pass) → Sound start wires publics pass → Sound start wires publics (turn publics pass i)
   unfolding turn
   turn-sound i pass sound = row-sound i (get_or pass.rows i None) pass refl sound
 

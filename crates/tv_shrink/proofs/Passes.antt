@@ -15,10 +15,10 @@ use Rattle.tv_core.specs.Constraints.{Combination, Constraint}
 use Rattle.tv_shrink.specs.Normal.{normal, IsNormalFrom}
 use Rattle.tv_shrink.specs.Passing.{Pass, all_replaced, attempted, dropped, substituted, eliminated, linear_row, row_fits, treated, turn}
 use Rattle.tv_shrink.specs.Replacing.{coefficient, greater_from, greatest_from, has_wire, without, solved, replaced, replaced_in, fits}
-use Rattle.tv_shrink.specs.Tidy.{RowIsNormal, AreNormal, Covers, IsKept, pass_of, row_has}
+use Rattle.tv_shrink.specs.Tidy.{RowIsNormal, AreNormal, Covers, pass_of, row_has}
 use Rattle.tv_shrink.proofs.Linear.{replaced-lacking}
 use Rattle.tv_shrink.proofs.NormalLaws.{Over, Over-weaker, IsNormalFrom-normal}
-use Rattle.tv_shrink.proofs.PassLaws.{rows_at, rows_changed}
+use Rattle.tv_shrink.proofs.PassLaws.{rows_at}
 use Rattle.tv_shrink.proofs.ReplacingLaws.{none_some, Over-linear_form, Over-solved, Over-has_wire, Over-replaced, Over-lacking, found_later}
 use Rattle.tv_shrink.proofs.Constants.{above_at, found_at}
 
@@ -59,17 +59,6 @@ module _ (w : ℕ) (r : Combination) where
       let others = or_parts (has_wire w c.b) (has_wire w c.c) first.1 in
       same_row c (replaced w r c.a) (replaced w r c.b) (replaced w r c.c) (replaced-lacking w r c.a (sym first.0)) (replaced-lacking w r c.b (sym others.0)) (replaced-lacking w r c.c (sym others.1))
 
-  -- not all constraints keep to their most terms where one does not
-  module _ (rows : List (Option Constraint)) where
-    pub not-all-fit : (i : ℕ) → row_fits w r (get_or rows i None) ≡ false → list_all (row_fits w r) rows ≡ false
-    not-all-fit i e =
-        elim (cases_lt i (length rows)) [
-          | inl h ↦ false_from_ne_true (list_all (row_fits w r) rows) (λ all.
-              let fits_there : row_fits w r (get_or rows i None) ≡ true = AllPass-from_list_all (row_fits w r) rows all i None h in
-              let both : true ≡ false = sym fits_there ∙ e in cc)
-          | inr past ↦ absurd (let both : true ≡ false = ap (row_fits w r) (sym (get_or_past rows i None past)) ∙ e in cc)
-        ]
-
   -- once a wire is replaced, it is there no more
   module _ (lacks : has_wire w r ≡ false) where
     lacks-replaced : (x : Combination) → has_wire w (replaced w r x) ≡ false
@@ -88,7 +77,7 @@ module _ (w : ℕ) (r : Combination) where
     replaced_seen true row = replaced-twice row
     replaced_seen false row = refl
 
-    pub replaced-next : (rows start : List (Option Constraint)) (places : List ℕ) (k at : ℕ) → k < length places → get_or places k 0 ≡ at → at < length rows →
+    replaced-next : (rows start : List (Option Constraint)) (places : List ℕ) (k at : ℕ) → k < length places → get_or places k 0 ≡ at → at < length rows →
         ((i : ℕ) → get_or rows i None ≡ cond (list_any (λ p. eqb p i) (take k places)) (option_map (replaced_in w r) (get_or start i None)) (get_or start i None)) →
         (i : ℕ) → get_or (set rows at (option_map (replaced_in w r) (get_or rows at None))) i None ≡ cond (list_any (λ p. eqb p i) (take (k + 1) places)) (option_map (replaced_in w r) (get_or start i None)) (get_or start i None)
     replaced-next rows start places k at h is inside before i =
@@ -117,7 +106,7 @@ module _ (w : ℕ) (r : Combination) where
         (and_from (fits w r (replaced w r c.b)) (fits w r (replaced w r c.c)) (lacking-fits (replaced w r c.b) (lacks-replaced c.b)) (lacking-fits (replaced w r c.c) (lacks-replaced c.c)))
 
     -- a constraint keeps to its most terms, and is normal, also where the wire was replaced in it already
-    pub still_fits : (rows start : List (Option Constraint)) (seen : Bool) (at : ℕ) → list_all (row_fits w r) start ≡ true → at < length start → get_or rows at None ≡ cond seen (option_map (replaced_in w r) (get_or start at None)) (get_or start at None) → row_fits w r (get_or rows at None) ≡ true
+    still_fits : (rows start : List (Option Constraint)) (seen : Bool) (at : ℕ) → list_all (row_fits w r) start ≡ true → at < length start → get_or rows at None ≡ cond seen (option_map (replaced_in w r) (get_or start at None)) (get_or start at None) → row_fits w r (get_or rows at None) ≡ true
     still_fits rows start seen at all h is = ap (row_fits w r) is ∙ fits_seen seen (get_or start at None) (AllPass-from_list_all (row_fits w r) start all at None h)
 
     nothing_there : (b : Bool) (row : Option Constraint) → row ≡ None → None ≡ cond b (option_map (replaced_in w r) row) row
@@ -125,7 +114,7 @@ module _ (w : ℕ) (r : Combination) where
     nothing_there false row e = sym e
 
     -- a place past the end names no constraint
-    pub replaced-past : (rows start : List (Option Constraint)) (places : List ℕ) (k at : ℕ) → k < length places → get_or places k 0 ≡ at → length rows ≤ at → length rows ≡ length start →
+    replaced-past : (rows start : List (Option Constraint)) (places : List ℕ) (k at : ℕ) → k < length places → get_or places k 0 ≡ at → length rows ≤ at → length rows ≡ length start →
         ((i : ℕ) → get_or rows i None ≡ cond (list_any (λ p. eqb p i) (take k places)) (option_map (replaced_in w r) (get_or start i None)) (get_or start i None)) →
         (i : ℕ) → get_or rows i None ≡ cond (list_any (λ p. eqb p i) (take (k + 1) places)) (option_map (replaced_in w r) (get_or start i None)) (get_or start i None)
     replaced-past rows start places k at h is past each before i =
@@ -139,34 +128,27 @@ module _ (w : ℕ) (r : Combination) where
               get_or_past rows i None behind ∙ nothing_there (list_any (λ p. eqb p i) (take (k + 1) places)) (get_or start i None) none
         ]
 
-    -- what is told of each constraint for which Q was at the start
-    module _ (Q : Option Constraint → Type 0) where
-      pub told-next : (rows start : List (Option Constraint)) (places told next : List ℕ) (k at : ℕ) → k < length places → get_or places k 0 ≡ at →
-          ((i : ℕ) → get_or rows i None ≡ cond (list_any (λ p. eqb p i) (take k places)) (option_map (replaced_in w r) (get_or start i None)) (get_or start i None)) →
-          ((i : ℕ) → list_any (λ p. eqb p i) told ≡ true → list_any (λ p. eqb p i) next ≡ true) → (Q (get_or rows at None) → list_any (λ p. eqb p at) next ≡ true) →
-          ((i : ℕ) → list_any (λ p. eqb p i) (take k places) ≡ true → Q (get_or start i None) → list_any (λ p. eqb p i) told ≡ true) →
-          (i : ℕ) → list_any (λ p. eqb p i) (take (k + 1) places) ≡ true → Q (get_or start i None) → list_any (λ p. eqb p i) next ≡ true
-      told-next rows start places told next k at h is before kept here held i seen has =
-          elim (cases_Bool (list_any (λ p. eqb p i) (take k places))) [
-            | inl earlier ↦ kept i (held i earlier has)
-            | inr not_yet ↦
-                let same : eqb (get_or places k 0) i ≡ true = ap (λ b. b || eqb (get_or places k 0) i) (sym not_yet) ∙ sym (list_any_more (λ p. eqb p i) places k 0 h) ∙ seen in
-                let there : at ≡ i = sym is ∙ eqb-true (get_or places k 0) i same in
-                let own : get_or rows i None ≡ get_or start i None = before i ∙ ap (λ b. cond b (option_map (replaced_in w r) (get_or start i None)) (get_or start i None)) not_yet in
-                subst (λ j. list_any (λ p. eqb p j) next ≡ true) there (here (subst Q (sym (ap (λ j. get_or rows j None) there ∙ own)) has))
-          ]
+    set_beyond : (rows : List (Option Constraint)) (at : ℕ) (row : Option Constraint) → length rows ≤ at → set rows at row ≡ rows
+    set_beyond [] at row h = refl
+    set_beyond (first ∷ rows) zero row h = absurd (omega arith)
+    set_beyond (first ∷ rows) (suc at) row h = ap (λ rest. first ∷ rest) (set_beyond rows at row (omega arith))
 
-      pub told-past : (rows start : List (Option Constraint)) (places told : List ℕ) (k at : ℕ) → (Q None → ⊥) → k < length places → get_or places k 0 ≡ at → length rows ≤ at →
-          ((i : ℕ) → get_or rows i None ≡ cond (list_any (λ p. eqb p i) (take k places)) (option_map (replaced_in w r) (get_or start i None)) (get_or start i None)) →
-          ((i : ℕ) → list_any (λ p. eqb p i) (take k places) ≡ true → Q (get_or start i None) → list_any (λ p. eqb p i) told ≡ true) →
-          (i : ℕ) → list_any (λ p. eqb p i) (take (k + 1) places) ≡ true → Q (get_or start i None) → list_any (λ p. eqb p i) told ≡ true
-      told-past rows start places told k at none h is past before held =
-          told-next rows start places told told k at h is before (λ i e. e) (λ here. absurd (none (subst Q (get_or_past rows at None past) here))) held
+    -- either way
+    pub replaced-step : (rows start : List (Option Constraint)) (places : List ℕ) (k at : ℕ) → k < length places → get_or places k 0 ≡ at → length rows ≡ length start →
+        ((i : ℕ) → get_or rows i None ≡ cond (list_any (λ p. eqb p i) (take k places)) (option_map (replaced_in w r) (get_or start i None)) (get_or start i None)) →
+        (i : ℕ) → get_or (set rows at (option_map (replaced_in w r) (get_or rows at None))) i None ≡ cond (list_any (λ p. eqb p i) (take (k + 1) places)) (option_map (replaced_in w r) (get_or start i None)) (get_or start i None)
+    replaced-step rows start places k at h is each before i =
+        elim (cases_lt at (length rows)) [
+          | inl inside ↦ replaced-next rows start places k at h is inside before i
+          | inr past ↦ ap (λ xs. get_or xs i None) (set_beyond rows at (option_map (replaced_in w r) (get_or rows at None)) past) ∙ replaced-past rows start places k at h is past each before i
+        ]
 
-      pub told-all : (start : List (Option Constraint)) (places told : List ℕ) (k : ℕ) → length places ≤ k → ((i : ℕ) → Q (get_or start i None) → list_any (λ p. eqb p i) places ≡ true) →
-          ((i : ℕ) → list_any (λ p. eqb p i) (take k places) ≡ true → Q (get_or start i None) → list_any (λ p. eqb p i) told ≡ true) →
-          (i : ℕ) → Q (get_or start i None) → list_any (λ p. eqb p i) told ≡ true
-      told-all start places told k past covers held i has = held i (ap (λ xs. list_any (λ p. eqb p i) xs) (take_all k places past) ∙ covers i has) has
+    pub still_fit : (rows start : List (Option Constraint)) (seen : Bool) (at : ℕ) → list_all (row_fits w r) start ≡ true → length rows ≡ length start → get_or rows at None ≡ cond seen (option_map (replaced_in w r) (get_or start at None)) (get_or start at None) → row_fits w r (get_or rows at None) ≡ true
+    still_fit rows start seen at all each is =
+        elim (cases_lt at (length start)) [
+          | inl inside ↦ still_fits rows start seen at all inside is
+          | inr past ↦ ap (row_fits w r) (get_or_past rows at None (omega arith))
+        ]
 
     each_replaced : (b : Bool) (row : Option Constraint) {c : Bool} → c ≡ b → (c ≡ false → row_has w row ≡ false) → cond b (option_map (replaced_in w r) row) row ≡ option_map (replaced_in w r) row
     each_replaced true row e lacking = refl
@@ -193,9 +175,10 @@ module _ (w : ℕ) (r : Combination) where
   normal-replaced_row None n = tt
   normal-replaced_row (Some c) n = record { a = normal-replaced c.a n.a; b = normal-replaced c.b n.b; c = normal-replaced c.c n.c }
 
-  pub normal-seen : (seen : Bool) (row : Option Constraint) → RowIsNormal row → RowIsNormal (cond seen (option_map (replaced_in w r) row) row)
-  normal-seen true row n = normal-replaced_row row n
-  normal-seen false row n = n
+pub normal-set : (rows : List (Option Constraint)) (i : ℕ) (row : Option Constraint) → AreNormal rows → RowIsNormal row → AreNormal (set rows i row)
+normal-set [] i row n here = tt
+normal-set (first ∷ rows) zero row n here = (here, n.1)
+normal-set (first ∷ rows) (suc i) row n here = (n.0, normal-set rows i row n.1 here)
 
 pub normal-at : (rows : List (Option Constraint)) (i : ℕ) → AreNormal rows → RowIsNormal (get_or rows i None)
 normal-at rows i n = rows_at RowIsNormal tt rows i n
@@ -323,27 +306,23 @@ same_default [] i d e h = absurd (omega arith)
 same_default (x ∷ xs) zero d e h = refl
 same_default (x ∷ xs) (suc i) d e h = same_default xs i d e (omega arith)
 
--- one turn of the loop that tells wires of a row
-module _ (publics : ℕ) (lists next : List (List ℕ)) (row k : ℕ) (t : ℕ × ℕ) (x : Combination) (known : Option Constraint) (h : k < length x) (at : t ≡ get_or x k t)
-    (added : (w : ℕ) → publics ≤ w → has_wire w (take k x) ≡ true → row_has w known ≡ false → list_any (λ p. eqb p row) (get_or lists w []) ≡ true) where
+-- one turn of the loop that files a row
+module _ (publics : ℕ) (lists next : List (List ℕ)) (row k : ℕ) (t : ℕ × ℕ) (x : Combination) (h : k < length x) (at : t ≡ get_or x k t)
+    (added : (w : ℕ) → publics ≤ w → has_wire w (take k x) ≡ true → list_any (λ p. eqb p row) (get_or lists w []) ≡ true) where
   pub filed-more : ((w i : ℕ) → list_any (λ p. eqb p i) (get_or lists w []) ≡ true → list_any (λ p. eqb p i) (get_or next w []) ≡ true) → list_any (λ p. eqb p row) (get_or next t.1 []) ≡ true →
-      (w : ℕ) → publics ≤ w → has_wire w (take (k + 1) x) ≡ true → row_has w known ≡ false → list_any (λ p. eqb p row) (get_or next w []) ≡ true
-  filed-more more here w above has lacks =
+      (w : ℕ) → publics ≤ w → has_wire w (take (k + 1) x) ≡ true → list_any (λ p. eqb p row) (get_or next w []) ≡ true
+  filed-more more here w above has =
       elim (or_cases (has_wire w (take k x)) (eqb t.1 w) (sym (has_next w k t x h at) ∙ has)) [
-        | inl earlier ↦ more w row (added w above earlier lacks)
+        | inl earlier ↦ more w row (added w above earlier)
         | inr same ↦ subst (λ v. list_any (λ p. eqb p row) (get_or next v []) ≡ true) (eqb-true t.1 w same) here
       ]
 
-  pub filed-none : (t.1 < publics) ⊎ (row_has t.1 known ≡ true) → next ≡ lists →
-      (w : ℕ) → publics ≤ w → has_wire w (take (k + 1) x) ≡ true → row_has w known ≡ false → list_any (λ p. eqb p row) (get_or next w []) ≡ true
-  filed-none known_or_public is w above has lacks =
+  pub filed-none : t.1 < publics → next ≡ lists → (w : ℕ) → publics ≤ w → has_wire w (take (k + 1) x) ≡ true → list_any (λ p. eqb p row) (get_or next w []) ≡ true
+  filed-none public is w above has =
       subst (λ xs. list_any (λ p. eqb p row) (get_or xs w []) ≡ true) (sym is)
       (elim (or_cases (has_wire w (take k x)) (eqb t.1 w) (sym (has_next w k t x h at) ∙ has)) [
-        | inl earlier ↦ added w above earlier lacks
-        | inr here ↦ elim known_or_public [
-          | inl below ↦ absurd (omega (arith, eqb-true t.1 w here))
-          | inr there ↦ absurd (let both : true ≡ false = sym there ∙ ap (λ v. row_has v known) (eqb-true t.1 w here) ∙ lacks in cc)
-        ]
+        | inl earlier ↦ added w above earlier
+        | inr here ↦ absurd (omega (arith, eqb-true t.1 w here))
       ])
 
 -- what was put out, from the row that was looked at
@@ -371,15 +350,8 @@ unfolding attempted dropped substituted
 attempted-all w at r rows gone all is e =
     ap (λ b. cond b (pass_of (all_replaced w r (set rows at None)) (set gone w true)) (pass_of rows gone)) (sym is ∙ e)
 
--- the rows are normal once a wire is replaced
-pub normal-all_replaced : (w : ℕ) (r : Combination) (rows : List (Option Constraint)) → AreNormal rows → AreNormal (all_replaced w r rows)
-normal-all_replaced w r rows n = rows_changed RowIsNormal RowIsNormal (option_map (replaced_in w r)) (normal-replaced_row w r) rows n
-
 -- and the places name each row that a private wire stands in
 module _ (v w : ℕ) (r : Combination) (lacks : has_wire w r ≡ false) where
-  other_wire : has_wire v r ≡ true → v ≢ w
-  other_wire has same = let both : true ≡ false = sym has ∙ ap (λ u. has_wire u r) same ∙ lacks in cc
-
   r_over : (x : Combination) → Over (λ u. ((has_wire u x ≡ true) ⊎ (has_wire u r ≡ true)) × (u ≢ w)) r
   r_over x =
       Over-weaker (λ u. (has_wire u r ≡ true) × (u ≢ w)) (λ u. ((has_wire u x ≡ true) ⊎ (has_wire u r ≡ true)) × (u ≢ w)) r (λ u h. (inr h.0, h.1))
@@ -418,51 +390,41 @@ module _ (v w : ℕ) (r : Combination) (lacks : has_wire w r ≡ false) where
         ]
       ]
 
-dropped_cases : (rows : List (Option Constraint)) (at i : ℕ) → (get_or (set rows at None) i None ≡ None) ⊎ (get_or (set rows at None) i None ≡ get_or rows i None)
-dropped_cases [] at i = inl refl
-dropped_cases (row ∷ rows) zero zero = inl refl
-dropped_cases (row ∷ rows) zero (suc i) = inr refl
-dropped_cases (row ∷ rows) (suc at) zero = inr refl
-dropped_cases (row ∷ rows) (suc at) (suc i) = dropped_cases rows at i
+set_cases : (rows : List (Option Constraint)) (at i : ℕ) (row : Option Constraint) → (get_or (set rows at row) i None ≡ get_or rows i None) ⊎ ((i ≡ at) × (get_or (set rows at row) i None ≡ row))
+set_cases [] at i row = inl refl
+set_cases (first ∷ rows) zero zero row = inr (refl, refl)
+set_cases (first ∷ rows) zero (suc i) row = inl refl
+set_cases (first ∷ rows) (suc at) zero row = inl refl
+set_cases (first ∷ rows) (suc at) (suc i) row = elim (set_cases rows at i row) [ inl same ↦ inl same | inr here ↦ inr (ap suc here.0, here.1) ]
 
-changed_at : (change : Option Constraint → Option Constraint) (rows : List (Option Constraint)) (i : ℕ) → change None ≡ None → get_or (map change rows) i None ≡ change (get_or rows i None)
-changed_at change [] i none = sym none
-changed_at change (row ∷ rows) zero none = refl
-changed_at change (row ∷ rows) (suc i) none = changed_at change rows i none
-
-pub dropped-named : (w at : ℕ) (rows : List (Option Constraint)) (places : List ℕ) → ((i : ℕ) → row_has w (get_or rows i None) ≡ true → list_any (λ p. eqb p i) places ≡ true) →
-    (i : ℕ) → row_has w (get_or (set rows at None) i None) ≡ true → list_any (λ p. eqb p i) places ≡ true
-dropped-named w at rows places covers i has =
-    elim (dropped_cases rows at i) [
-      | inl none ↦ absurd (let no : false ≡ true = sym (ap (row_has w) none) ∙ has in cc)
-      | inr same ↦ covers i (ap (row_has w) (sym same) ∙ has)
+pub covers-dropped : (publics at : ℕ) (rows : List (Option Constraint)) (lists : List (List ℕ)) → Covers publics rows lists → Covers publics (set rows at None) lists
+covers-dropped publics at rows lists covers i w above has =
+    elim (set_cases rows at i None) [
+      | inl same ↦ covers i w above (ap (row_has w) (sym same) ∙ has)
+      | inr here ↦ absurd (let no : false ≡ true = sym (ap (row_has w) here.1) ∙ has in cc)
     ]
 
-pub replaced-covers : (publics w : ℕ) (r : Combination) (rows : List (Option Constraint)) (lists taken next : List (List ℕ)) → has_wire w r ≡ false → Covers publics rows lists → taken ≡ set lists w [] →
-    ((v i : ℕ) → list_any (λ p. eqb p i) (get_or taken v []) ≡ true → list_any (λ p. eqb p i) (get_or next v []) ≡ true) →
-    ((v i : ℕ) → publics ≤ v → has_wire v r ≡ true → row_has w (get_or rows i None) ≡ true → row_has v (get_or rows i None) ≡ false → list_any (λ p. eqb p i) (get_or next v []) ≡ true) →
-    Covers publics (all_replaced w r rows) next
-replaced-covers publics w r rows lists taken next lacks covers is more added i v above has =
-    let here : row_has v (option_map (replaced_in w r) (get_or rows i None)) ≡ true = ap (row_has v) (sym (changed_at (option_map (replaced_in w r)) rows i refl)) ∙ has in
-    elim (row_has_replaced v w r lacks (get_or rows i None) here) [
-      | inl own ↦ earlier own.0 own.1
-      | inr by ↦ elim (cases_Bool (row_has v (get_or rows i None))) [
-        | inl own ↦ earlier own (other_wire v w r lacks by.0)
-        | inr comes ↦ added v i above by.0 by.1 comes
-      ]
+pub covers-more : (publics : ℕ) (rows : List (Option Constraint)) (lists next : List (List ℕ)) → Covers publics rows lists →
+    ((v i : ℕ) → list_any (λ p. eqb p i) (get_or lists v []) ≡ true → list_any (λ p. eqb p i) (get_or next v []) ≡ true) → Covers publics rows next
+covers-more publics rows lists next covers more i w above has = more w i (covers i w above has)
+
+pub covers-replaced : (publics w at : ℕ) (r : Combination) (rows : List (Option Constraint)) (lists : List (List ℕ)) → has_wire w r ≡ false → Covers publics rows lists →
+    ((v : ℕ) → publics ≤ v → has_wire v r ≡ true → list_any (λ p. eqb p at) (get_or lists v []) ≡ true) → Covers publics (set rows at (option_map (replaced_in w r) (get_or rows at None))) lists
+covers-replaced publics w at r rows lists lacks covers added i v above has =
+    elim (set_cases rows at i (option_map (replaced_in w r) (get_or rows at None))) [
+      | inl own ↦ covers i v above (ap (row_has v) (sym own) ∙ has)
+      | inr here ↦
+          subst (λ j. list_any (λ p. eqb p j) (get_or lists v []) ≡ true) (sym here.0)
+          (elim (row_has_replaced v w r lacks (get_or rows at None) (ap (row_has v) (sym here.1) ∙ has)) [ inl own ↦ covers at v above own.0 | inr by ↦ added v above by.0 ])
     ]
-  where
-    earlier : row_has v (get_or rows i None) ≡ true → v ≢ w → list_any (λ p. eqb p i) (get_or next v []) ≡ true
-    earlier own apart =
-        more v i (ap (λ xs. list_any (λ p. eqb p i) (get_or xs v [])) is ∙ ap (λ xs. list_any (λ p. eqb p i) xs) (get_or-set_other lists w v [] [] apart) ∙ covers i v above own)
 
 -- all but the one at a place keep to their most terms where those that the wire is told of do
-pub all-fit-there : (w at : ℕ) (r : Combination) (publics : ℕ) (rows : List (Option Constraint)) (gone : List Bool) (lists : List (List ℕ)) → IsKept publics rows gone lists → publics ≤ w →
+pub all-fit-there : (w at : ℕ) (r : Combination) (publics : ℕ) (rows : List (Option Constraint)) (lists : List (List ℕ)) → Covers publics rows lists → publics ≤ w →
     ((i : ℕ) → list_any (λ p. eqb p i) (get_or lists w []) ≡ true → row_fits w r (get_or (set rows at None) i None) ≡ true) → list_all (row_fits w r) (set rows at None) ≡ true
-all-fit-there w at r publics rows gone lists kept above fit =
+all-fit-there w at r publics rows lists covers above fit =
     list_all-from_AllPass (row_fits w r) (set rows at None) (All-from_get_or (λ row. row_fits w r row ≡ true) (set rows at None) None (λ i h.
     elim (cases_Bool (row_has w (get_or (set rows at None) i None))) [
-      | inl has ↦ fit i (dropped-named w at rows (get_or lists w []) (λ j there. kept.covers j w above there) i has)
+      | inl has ↦ fit i (covers-dropped publics at rows lists covers i w above has)
       | inr lacks ↦ row-lacking-fits w r (get_or (set rows at None) i None) lacks
     ]))
 

@@ -1,13 +1,14 @@
 -- Terms that were read, made normal.
-use Rattle.std.proofs.Common.{◌≡◌, ◌⊎◌, ℕ, zero, suc, ◌+◌, ◌<◌, ◌≤◌, ◌||◌, List, [], ◌∷◌, ◌++◌, Option, Some, None, refl, sym, ◌∙◌, ap, ap₂, subst, arith, eqb, ltb, true, false, inl, inr, cond, map, length, get_or, drop, take, add-one, drop-cons, set}
+use Rattle.std.proofs.Common.{◌≡◌, ℕ, zero, suc, ◌+◌, ◌<◌, ◌≤◌, List, [], ◌∷◌, ◌++◌, Option, Some, None, refl, sym, ◌∙◌, ap, ap₂, subst, arith, ltb, inl, inr, cond, map, length, get_or, drop, take, add-one, drop-cons, set}
 use Rattle.std.proofs.Common.{Result, Ok, Err}
-use Rattle.std.specs.List.{AllByRecursion, All, list_any, sum_by}
+use Rattle.std.specs.List.{AllByRecursion, All}
 use Rattle.std.specs.Option.{option_or}
 use Rattle.tv_container.specs.Places.{Fault, ◌>>=◌, wrong}
+use Rattle.tv_container.proofs.Chain.{stopped_here}
 use Rattle.tv_container.specs.Reading.{Refuses, Stopped}
 use Rattle.tv_container.specs.declared.why.ReadRefusal.{ReadRefusal}
 use Rattle.tv_container.specs.declared.why.ReadRefusal.TheVariants as refusal
-use Rattle.tv_core.specs.Meanings.{terms_of, system_counts}
+use Rattle.tv_core.specs.Meanings.{system_counts}
 use Rattle.tv_files.specs.Outside.{Outside}
 use Rattle.tv_r1cs_read.specs.Places.{IsAt, system_with}
 use Rattle.tv_r1cs_read.specs.Progress.{Reached, ahead}
@@ -15,8 +16,7 @@ use Rattle.tv_r1cs_read.specs.R1cs.{system_of}
 use Rattle.tv_shrink.specs.declared.fault.ShrinkFault.{ShrinkFault}
 use Rattle.tv_shrink.specs.declared.fault.ShrinkFault.TheVariants as fault
 use Rattle.std.proofs.lemmas.List.{map_push}
-use Rattle.std.proofs.lemmas.List.Sums.{sum_by-append}
-use Rattle.std.proofs.lemmas.Bool.{cases_Bool, ltb-false, or_cases}
+use Rattle.std.proofs.lemmas.Bool.{cases_Bool, ltb-false}
 use Rattle.std.proofs.lemmas.List.Elements.{recursion_from_All}
 use Rattle.tv_container.specs.declared.why.ReadWhy.{ReadWhy}
 use Rattle.tv_core.specs.Combinations.{top}
@@ -26,12 +26,10 @@ use Rattle.tv_core.specs.Constraints.{Combination, Constraint, System}
 use Rattle.tv_core.specs.declared.field.TheConstants.{P}
 use Rattle.tv_r1cs_read.specs.Rows.{combination_of, constraint_of, IsOver}
 use Rattle.tv_r1cs_read.specs.declared.rows.Row.{Row}
-use Rattle.tv_shrink.specs.Answers.{first_wide, read_fault, start_rows, wide, wide_in, all_terms, most, Halted, IsTooWide, Leaves, Tells, TellsRead}
+use Rattle.tv_shrink.specs.Answers.{first_wide, read_fault, start_rows, wide, wide_in, all_terms, most, Halted, IsLong, IsSmall, IsTooWide, Tells}
 use Rattle.tv_shrink.specs.Normal.{normal, normal_constraint, IsNormalFrom}
 use Rattle.tv_shrink.proofs.NormalLaws.{Over, Over-normal, IsNormalFrom-normal}
-use Rattle.tv_shrink.specs.Replacing.{has_wire}
-use Rattle.tv_shrink.specs.Tidy.{row_has, AreNormal, Covers, IsWithin, RowIsNormal, RowIsWithin}
-use Rattle.tv_shrink.proofs.ReplacingLaws.{Over-has_wire}
+use Rattle.tv_shrink.specs.Tidy.{AreNormal, IsWithin, RowIsNormal}
 
 -- one more term before a normal combination
 pub normal_before : (least i : ℕ) (t : ℕ × ℕ) (terms : List (ℕ × ℕ)) → i < length terms → t ≡ get_or terms i t → least ≤ t.0 → 0 < t.1 → t.1 < P →
@@ -77,49 +75,9 @@ pub rows-push : (R : Option Constraint → Type 0) (rows : List (Option Constrai
 rows-push R [] row h r = (r, tt)
 rows-push R (first ∷ rows) row h r = (h.0, rows-push R rows row h.1 r)
 
--- the last row
-last_row : (rows : List (Option Constraint)) (row : Option Constraint) → get_or (rows ++ row ∷ []) (length rows) None ≡ row
-last_row [] row = refl
-last_row (first ∷ rows) row = last_row rows row
-
-pub pushed_within : (wires at : ℕ) (rows next : List (Option Constraint)) (row : Constraint) → next ≡ rows ++ Some row ∷ [] → at ≡ length rows → IsWithin wires row → RowIsWithin wires (get_or next at None)
-pushed_within wires at rows next row is same within =
-    subst (RowIsWithin wires) (sym (ap₂ (λ xs i. get_or xs i None) is same ∙ last_row rows (Some row))) within
-
 pub pushed_normal : (rows next : List (Option Constraint)) (row : Constraint) → next ≡ rows ++ Some (normal_constraint row) ∷ [] → AreNormal rows → AreNormal next
 pushed_normal rows next row is normal =
     subst AreNormal (sym is) (rows-push RowIsNormal rows (Some (normal_constraint row)) normal (record { a = IsNormalFrom-normal row.a; b = IsNormalFrom-normal row.b; c = IsNormalFrom-normal row.c }))
-
--- one more row
-pushed_cases : (rows : List (Option Constraint)) (row : Option Constraint) (i : ℕ) → (get_or (rows ++ row ∷ []) i None ≡ get_or rows i None) ⊎ ((i ≡ length rows) × (get_or (rows ++ row ∷ []) i None ≡ row))
-pushed_cases [] row zero = inr (refl, refl)
-pushed_cases [] row (suc i) = inl refl
-pushed_cases (first ∷ rows) row zero = inl refl
-pushed_cases (first ∷ rows) row (suc i) =
-    elim (pushed_cases rows row i) [ inl same ↦ inl same | inr here ↦ inr (omega (arith, here.0), here.1) ]
-
-pub pushed-covers : (publics at : ℕ) (rows next : List (Option Constraint)) (row : Option Constraint) (lists told : List (List ℕ)) → next ≡ rows ++ row ∷ [] → at ≡ length rows → Covers publics rows lists →
-    ((w i : ℕ) → list_any (λ p. eqb p i) (get_or lists w []) ≡ true → list_any (λ p. eqb p i) (get_or told w []) ≡ true) →
-    ((w : ℕ) → publics ≤ w → row_has w (get_or next at None) ≡ true → list_any (λ p. eqb p at) (get_or told w []) ≡ true) → Covers publics next told
-pushed-covers publics at rows next row lists told is same covers more added i w above has =
-    elim (pushed_cases rows row i) [
-      | inl own ↦ more w i (covers i w above (ap (row_has w) (sym (ap (λ xs. get_or xs i None) is ∙ own)) ∙ has))
-      | inr here ↦
-          let there : i ≡ at = here.0 ∙ sym same in
-          subst (λ j. list_any (λ p. eqb p j) (get_or told w []) ≡ true) (sym there) (added w above (subst (λ j. row_has w (get_or next j None) ≡ true) there has))
-    ]
-
--- a wire of a constraint that is within
-pub row_below : (n w : ℕ) (row : Option Constraint) → RowIsWithin n row → row_has w row ≡ true → w < n
-row_below n w None within has = absurd (let no : false ≡ true = has in cc)
-row_below n w (Some c) within has =
-    elim (or_cases (has_wire w c.a) (has_wire w c.b || has_wire w c.c) has) [
-      | inl in_a ↦ Over-has_wire (λ v. v < n) w c.a within.a in_a
-      | inr later ↦ elim (or_cases (has_wire w c.b) (has_wire w c.c) later) [
-        | inl in_b ↦ Over-has_wire (λ v. v < n) w c.b within.b in_b
-        | inr in_c ↦ Over-has_wire (λ v. v < n) w c.c within.c in_c
-      ]
-    ]
 
 -- one element changed after another
 module _ {A : Type 0} (f : A → A) where
@@ -172,8 +130,8 @@ unfolding first_wide
 wide_front [] more n e = absurd (cc)
 wide_front (d ∷ list) more n e = first_stays (wide_in d) (first_wide list) (first_wide (list ++ more)) n (λ k. wide_front list more n k) e
 
--- what a refusal to read tells
-pub tells_read : (why : ReadRefusal) (file : List ℕ) → Refuses why (system_of file) → TellsRead (read_fault why) file
+-- what a refusal to read says of the file
+pub tells_read : (why : ReadRefusal) (file : List ℕ) → Refuses why (system_of file) → Tells (read_fault why) file
 tells_read (refusal.Bad at what) file refuses = refuses.bad at what refl
 tells_read refusal.Fault file refuses = tt
 tells_read refusal.Memory file refuses = tt
@@ -183,30 +141,18 @@ halted old new name (refusal.Bad at what) stopped = record { only = stopped.only
 halted old new name refusal.Fault stopped = record { only = stopped.only; there = stopped.there; leaves = stopped.leaves }
 halted old new name refusal.Memory stopped = record { only = stopped.only; there = stopped.there; leaves = stopped.leaves }
 
-left_here : (outside : Outside) (found : ShrinkFault) → (found ≡ fault.Fault → ⊥) → Leaves found outside outside
-left_here outside (fault.Bad at why) apart = refl
-left_here outside (fault.Terms has) apart = refl
-left_here outside (fault.Combination has) apart = refl
-left_here outside fault.Fault apart = absurd (apart refl)
-left_here outside fault.Memory apart = inl refl
-
--- nothing was read since
-pub stayed : (outside : Outside) (name : List ℕ) (found : ShrinkFault) → (found ≡ fault.Fault → ⊥) → Halted outside outside name found
-stayed outside name found apart = record {
-  only = record {
-    contents = refl;
-    said = refl;
-    later = record { read_faults = omega arith; write_faults = omega arith; say_faults = omega arith; wants = omega arith; absent = omega arith };
-  };
-  there = λ files told. inl refl;
-  leaves = left_here outside found apart;
-}
-
+-- a constraint that is too wide leaves all as it was
 pub wide_halted : (outside : Outside) (name : List ℕ) (why : ShrinkFault) (found : Option ℕ) → IsTooWide why found → Halted outside outside name why
-wide_halted outside name why found e = stayed outside name why (λ is. subst (λ f. IsTooWide f found) is e)
+wide_halted outside name (fault.Bad at why) found e = absurd e
+wide_halted outside name (fault.Terms has) found e = absurd e
+wide_halted outside name (fault.Combination has) found e =
+    let here = stopped_here outside name refusal.Memory (record { told = λ is. absurd (cc) }) in
+    record { only = here.only; there = here.there; leaves = refl }
+wide_halted outside name fault.Fault found e = absurd e
+wide_halted outside name fault.Memory found e = halted outside outside name refusal.Memory (stopped_here outside name refusal.Memory (record { told = λ is. absurd (cc) }))
 
 -- where reading has come to some constraints, they are the system's first
-pub is_front : (reached : Reached) (file : List ℕ) (done : List Constraint) (system : System) → IsAt reached file done → system_of file ≡ Ok system → (others : List Constraint) × (system.constraints ≡ done ++ others)
+is_front : (reached : Reached) (file : List ℕ) (done : List Constraint) (system : System) → IsAt reached file done → system_of file ≡ Ok system → (others : List Constraint) × (system.constraints ≡ done ++ others)
 unfolding system_of
 is_front reached file done system at is = by_list (ahead reached file) refl
   where
@@ -221,28 +167,26 @@ is_front reached file done system at is = by_list (ahead reached file) refl
         let whole = rw (at.header, all) at is in
         absurd (cc)
 
--- a constraint that is too wide
-pub wide_read : (fault : ShrinkFault) (reached : Reached) (file : List ℕ) (done : List Constraint) (c : Constraint) → first_wide done ≡ None → IsAt reached file (done ++ c ∷ []) → IsTooWide fault (wide_in c) → TellsRead fault file
-wide_read (fault.Bad place why) reached file done c none at err = absurd err
-wide_read (fault.Terms has) reached file done c none at err = absurd err
-wide_read (fault.Combination has) reached file done c none at err = λ system is.
-    let front = is_front reached file (done ++ c ∷ []) system at is in
-    ap first_wide front.1 ∙ wide_front (done ++ c ∷ []) front.0 has (wide_more done c none ∙ err)
-wide_read fault.Fault reached file done c none at err = absurd err
-wide_read fault.Memory reached file done c none at err = tt
+-- a constraint that is too wide, in the file of a system within the limit of terms
+pub wide_read : (why : ShrinkFault) (reached : Reached) (file : List ℕ) (done : List Constraint) (c : Constraint) → IsSmall file → first_wide done ≡ None → IsAt reached file (done ++ c ∷ []) → IsTooWide why (wide_in c) → Tells why file
+wide_read (fault.Bad place why) reached file done c small none at err = absurd err
+wide_read (fault.Terms has) reached file done c small none at err = absurd err
+wide_read (fault.Combination has) reached file done c small none at err =
+    let front = is_front reached file (done ++ c ∷ []) small.system at small.is in
+    record { system = small.system; is = small.is; few = small.few; first = ap first_wide front.1 ∙ wide_front (done ++ c ∷ []) front.0 has (wide_more done c none ∙ err) }
+wide_read fault.Fault reached file done c small none at err = absurd err
+wide_read fault.Memory reached file done c small none at err = tt
 
--- constraints that are too many terms already
-pub long_read : (reached : Reached) (file : List ℕ) (done : List Constraint) (has : ℕ) → IsAt reached file done → most < reached.terms → TellsRead (fault.Terms has) file
-long_read reached file done has at many = λ system is.
-    let front = is_front reached file done system at is in
-    omega (arith, at.terms, ap (sum_by terms_of) front.1, sum_by-append terms_of done front.0)
+-- a system within the limit of terms is the only one that its file holds
+pub few_terms : (file : List ℕ) (system : System) → IsSmall file → system_of file ≡ Ok system → all_terms system ≤ most
+few_terms file system small is = let both : Ok small.system ≡ Ok system = sym small.is ∙ is in let same : small.system ≡ system = cc in subst (λ s. all_terms s ≤ most) same small.few
 
--- a wire whose row is within, at a place
+-- one more constraint
 pub start_more : (done : List Constraint) (c : Constraint) → start_rows (done ++ c ∷ []) ≡ start_rows done ++ Some (normal_constraint c) ∷ []
 start_more done c = map_push (λ d. Some (normal_constraint d)) done c
 
 -- what a survey tells of a system
-pub survey_refused : (file : List ℕ) (at : ℕ) (why : ReadWhy) → survey_of file ≡ wrong at why → system_of file ≡ wrong at why
+survey_refused : (file : List ℕ) (at : ℕ) (why : ReadWhy) → survey_of file ≡ wrong at why → system_of file ≡ wrong at why
 unfolding survey_of
 survey_refused file at why e = by_system (system_of file) e
   where
@@ -250,7 +194,7 @@ survey_refused file at why e = by_system (system_of file) e
     by_system (Ok system) e = absurd (cc)
     by_system (Err fault) e = let same : fault ≡ record { at = at; why = why } = cc in ap Err same
 
-pub survey_system : (file : List ℕ) (counts : Counts) → survey_of file ≡ Ok counts → (system : System) × (system_of file ≡ Ok system) × (counts ≡ system_counts system)
+survey_system : (file : List ℕ) (counts : Counts) → survey_of file ≡ Ok counts → (system : System) × (system_of file ≡ Ok system) × (counts ≡ system_counts system)
 unfolding survey_of
 survey_system file counts e = by_system (system_of file) refl
   where
@@ -258,17 +202,21 @@ survey_system file counts e = by_system (system_of file) refl
     by_system (Ok system) is = let counted = rw is at e in let same : system_counts system ≡ counts = cc in (system, is, sym same)
     by_system (Err fault) is = let counted = rw is at e in absurd (cc)
 
+-- and whether the system is within the limit of terms
+pub survey_small : (file : List ℕ) (counts : Counts) → survey_of file ≡ Ok counts → counts.terms ≤ most → IsSmall file
+survey_small file counts e few =
+    let found = survey_system file counts e in
+    record { system = found.0; is = found.1; few = omega (arith, ap (λ (c : Counts). c.terms) found.2) }
+
+pub survey_long : (file : List ℕ) (counts : Counts) → survey_of file ≡ Ok counts → most < counts.terms → IsLong counts.terms file
+survey_long file counts e many =
+    let found = survey_system file counts e in
+    record { system = found.0; is = found.1; terms = ap (λ (c : Counts). c.terms) found.2; many = many }
+
 pub tells_survey : (why : ReadRefusal) (file : List ℕ) → Refuses why (survey_of file) → Tells (read_fault why) file
 tells_survey (refusal.Bad at what) file refuses = survey_refused file at what (refuses.bad at what refl)
 tells_survey refusal.Fault file refuses = tt
 tells_survey refusal.Memory file refuses = tt
-
-pub tells_both : (fault : ShrinkFault) (file : List ℕ) (system : System) → system_of file ≡ Ok system → all_terms system ≤ most → TellsRead fault file → Tells fault file
-tells_both (fault.Bad at why) file system is few tells = tells
-tells_both (fault.Terms has) file system is few tells = absurd (let many = tells system is in omega arith)
-tells_both (fault.Combination has) file system is few tells = record { system = system; is = is; few = few; first = tells system is }
-tells_both fault.Fault file system is few tells = tt
-tells_both fault.Memory file system is few tells = tt
 
 pub top_within : (n : ℕ) (x : Combination) → Over (λ v. v < n) x → top x ≤ n
 top_within n [] h = omega arith

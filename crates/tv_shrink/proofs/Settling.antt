@@ -1,10 +1,10 @@
 -- What is left once a pass has run, its wires numbered anew.
-use Rattle.std.proofs.Common.{◌≡◌, ℕ, ◌+◌, ◌^◌, ◌<◌, ◌≤◌, Bool, not, ◌&&◌, List, [], ◌∷◌, Option, Some, None, refl, sym, ◌∙◌, ap, ap₂, subst, arith, true, false, inl, inr, cond, map, length, get_or, leb, leb-true, replicate}
+use Rattle.std.proofs.Common.{◌≡◌, ℕ, ◌+◌, ◌-◌, ◌++◌, ◌^◌, ◌<◌, ◌≤◌, Bool, not, ◌&&◌, List, [], ◌∷◌, Option, Some, None, refl, sym, ◌∙◌, ap, ap₂, subst, arith, true, false, inl, inr, cond, map, length, get_or, leb, leb-true, replicate}
 use Rattle.std.specs.List.{AllByRecursion, filter_map, fold, list_all, range_with_len}
 use Rattle.std.specs.Option.{option_map}
 use Rattle.std.specs.Prelude.{slice_index}
 use Rattle.std.proofs.lemmas.Bool.{or_cases, and_parts, not-true}
-use Rattle.std.proofs.lemmas.List.{length-map, length-replicate, length-take}
+use Rattle.std.proofs.lemmas.List.{length-map, length-replicate, length-take, replicate-append-replicate}
 use Rattle.std.proofs.lemmas.List.FromFn.{length-range_with_len}
 use Rattle.tv_core.specs.Constraints.{Combination, Constraint, System}
 use Rattle.tv_core.specs.declared.lines.Counts.{Counts}
@@ -14,11 +14,12 @@ use Rattle.tv_shrink.specs.Normal.{normal_constraint}
 use Rattle.tv_shrink.specs.Passing.{Pass, all_replaced, attempted, begun, dropped, eliminated, passed, row_fits, substituted, treated, turn, linear_row}
 use Rattle.tv_shrink.specs.Replacing.{fits, greatest_from, has_wire, replaced, replaced_in, solved}
 use Rattle.tv_shrink.specs.Shrinking.{kept, left_over, place, renumbered, renumbered_in, shrink}
-use Rattle.tv_shrink.specs.Tidy.{AreWithin, pass_of}
+use Rattle.tv_shrink.specs.Tidy.{AreWithin, pass_of, rows_top}
 use Rattle.tv_shrink.proofs.Labels.{front-kept, inside-kept, kept_is, kept_short}
 use Rattle.tv_shrink.proofs.Linear.{replaced-lacking}
 use Rattle.tv_shrink.proofs.NormalLaws.{Over, Over-weaker}
 use Rattle.tv_shrink.proofs.PassLaws.{RowsOver, Sound, Stays, rows_dropped, turns-sound}
+use Rattle.tv_shrink.proofs.Room.{kept_behind, roomy, rows_top_within, turns-roomy, within_top}
 use Rattle.tv_shrink.proofs.Solutions.{none_gone}
 
 -- combinations of at most 128 terms
@@ -86,43 +87,49 @@ over_start wires (Some c ∷ rows) h =
     Over-weaker (λ v. v < wires) (Stays wires (replicate wires false)) x (λ v l. (l, none_gone wires v)) k in
     (((each c.a h.0.a, each c.b h.0.b, each c.c h.0.c), rest.0), ((h.0.short_a, h.0.short_b, h.0.short_c), rest.1))
 
-within_end : (wires : ℕ) (gone : List Bool) (rows : List (Option Constraint)) → RowsOver (Stays wires gone) rows → AllByRecursion RowIsShort rows → AreWithin wires rows
-within_end wires gone [] h k = tt
-within_end wires gone (None ∷ rows) h k = (tt, within_end wires gone rows h.1 k.1)
-within_end wires gone (Some c ∷ rows) h k =
-    let each = λ (x : Combination) (o : Over (Stays wires gone) x). Over-weaker (Stays wires gone) (λ v. v < wires) x (λ v s. s.0) o in
-    (record { a = each c.a h.0.0; b = each c.b h.0.1; c = each c.c h.0.2; short_a = k.0.0; short_b = k.0.1; short_c = k.0.2 }, within_end wires gone rows h.1 k.1)
+short_end : (rows : List (Option Constraint)) → AllByRecursion RowIsShort rows → (room : ℕ) (gone : List Bool) → RowsOver (Stays room gone) rows → AreWithin room rows
+short_end [] k room gone h = tt
+short_end (None ∷ rows) k room gone h = (tt, short_end rows k.1 room gone h.1)
+short_end (Some c ∷ rows) k room gone h =
+    let each = λ (x : Combination) (o : Over (Stays room gone) x). Over-weaker (Stays room gone) (λ v. v < room) x (λ v s. s.0) o in
+    (record { a = each c.a h.0.0; b = each c.b h.0.1; c = each c.c h.0.2; short_a = k.0.0; short_b = k.0.1; short_c = k.0.2 }, short_end rows k.1 room gone h.1)
 
--- a pass that is ready and has run
-module _ (counts : Counts) (publics : ℕ) (rows : List (Option Constraint)) (gone : List Bool) (lists : List (List ℕ)) (ready : IsReady counts publics rows gone lists) where
-  ready-sound : Sound rows counts.wires publics (pass_of rows (replicate counts.wires false))
-  ready-sound = record {
-    over = (over_start counts.wires rows ready.within).0;
-    each = length-replicate counts.wires false;
-    private = λ v e. absurd (let both : true ≡ false = sym e ∙ none_gone counts.wires v in cc);
+-- a pass over constraints of these wires, before its first turn and after its last
+module _ (room publics : ℕ) (positive : 0 < publics) (rows : List (Option Constraint)) (within : AreWithin room rows) where
+  start-sound : Sound rows room publics (pass_of rows (replicate room false))
+  start-sound = record {
+    over = (over_start room rows within).0;
+    each = length-replicate room false;
+    private = λ v e. absurd (let both : true ≡ false = sym e ∙ none_gone room v in cc);
     down = λ z assigns h. h;
     up = λ z assigns each h. record { y = z; assigns = assigns; each = each; holds = h; agree = λ v e. refl };
-    unique = λ y z ay az hy hz agree v. agree v (none_gone counts.wires v);
+    unique = λ y z ay az hy hz agree v. agree v (none_gone room v);
   }
 
-  pub run-sound : Sound rows counts.wires publics (fold (turn publics) (pass_of rows gone) (range_with_len 0 (length rows)))
-  run-sound =
-      subst (λ g. Sound rows counts.wires publics (fold (turn publics) (pass_of rows g) (range_with_len 0 (length rows)))) (sym ready.none)
-      (turns-sound rows counts.wires publics (omega (arith, ready.private)) (range_with_len 0 (length rows)) (pass_of rows (replicate counts.wires false)) ready-sound)
+  run-sound : Sound rows room publics (fold (turn publics) (pass_of rows (replicate room false)) (range_with_len 0 (length rows)))
+  run-sound = turns-sound rows room publics positive (range_with_len 0 (length rows)) (pass_of rows (replicate room false)) start-sound
 
-  pub run-within : AreWithin counts.wires (fold (turn publics) (pass_of rows gone) (range_with_len 0 (length rows))).rows
+  run-within : AreWithin room (fold (turn publics) (pass_of rows (replicate room false)) (range_with_len 0 (length rows))).rows
   run-within =
-      within_end counts.wires (fold (turn publics) (pass_of rows gone) (range_with_len 0 (length rows))).gone (fold (turn publics) (pass_of rows gone) (range_with_len 0 (length rows))).rows run-sound.over
-      (short-turns publics (range_with_len 0 (length rows)) (pass_of rows gone) (over_start counts.wires rows ready.within).1)
+      let last = fold (turn publics) (pass_of rows (replicate room false)) (range_with_len 0 (length rows)) in
+      short_end last.rows (short-turns publics (range_with_len 0 (length rows)) (pass_of rows (replicate room false)) (over_start room rows within).1) room last.gone run-sound.over
 
--- numbers by which the wires that stay get their places
-module _ (wires : ℕ) (gone : List Bool) (numbers : List ℕ) (numbered : (w : ℕ) → w < wires → get_or gone w false ≡ false → slice_index numbers w ≡ place w (kept wires gone)) where
-  moved-renumbered : (x : Combination) → Over (Stays wires gone) x → moved numbers x ≡ renumbered (kept wires gone) x
+  -- with room for all wires the same is left
+  run-roomy : (wires : ℕ) → room ≤ wires → fold (turn publics) (pass_of rows (replicate wires false)) (range_with_len 0 (length rows))
+      ≡ roomy (replicate (wires - room) false) (fold (turn publics) (pass_of rows (replicate room false)) (range_with_len 0 (length rows)))
+  run-roomy wires h =
+      let more : replicate wires false ≡ replicate room false ++ replicate (wires - room) false = ap (λ n. replicate n false) (omega arith) ∙ sym (replicate-append-replicate room (wires - room) false) in
+      ap (λ gone. fold (turn publics) (pass_of rows gone) (range_with_len 0 (length rows))) more
+      ∙ turns-roomy (replicate (wires - room) false) rows room publics positive (range_with_len 0 (length rows)) (pass_of rows (replicate room false)) start-sound
+
+-- numbers by which the wires that stay get their places; the constraints are of the first wires
+module _ (wires room : ℕ) (gone : List Bool) (enough : room ≤ wires) (numbers : List ℕ) (numbered : (w : ℕ) → w < room → get_or gone w false ≡ false → slice_index numbers w ≡ place w (kept wires gone)) where
+  moved-renumbered : (x : Combination) → Over (Stays room gone) x → moved numbers x ≡ renumbered (kept wires gone) x
   unfolding renumbered
   moved-renumbered [] h = refl
   moved-renumbered (t ∷ x) h = ap₂ (λ w rest. (t.0, w) ∷ rest) (numbered t.1 h.0.0 h.0.1) (moved-renumbered x h.1)
 
-  pub rows-renumbered : (rows : List (Option Constraint)) → RowsOver (Stays wires gone) rows → moved_rows numbers rows ≡ map (option_map (renumbered_in (kept wires gone))) rows
+  pub rows-renumbered : (rows : List (Option Constraint)) → RowsOver (Stays room gone) rows → moved_rows numbers rows ≡ map (option_map (renumbered_in (kept wires gone))) rows
   rows-renumbered [] h = refl
   rows-renumbered (None ∷ rows) h = ap (λ rest. None ∷ rest) (rows-renumbered rows h.1)
   rows-renumbered (Some c ∷ rows) h =
@@ -133,11 +140,11 @@ module _ (wires : ℕ) (gone : List Bool) (numbers : List ℕ) (numbered : (w : 
       same_parts c p q r = ap₂ (λ x y. record { a = x; b = y; c = moved numbers c.c }) p q ∙ ap (λ x. record { a = renumbered (kept wires gone) c.a; b = renumbered (kept wires gone) c.b; c = x }) r
 
   -- the rows are of the wires that are kept
-  over-moved : (x : Combination) → Over (Stays wires gone) x → Over (λ v. v < length (kept wires gone)) (moved numbers x)
+  over-moved : (x : Combination) → Over (Stays room gone) x → Over (λ v. v < length (kept wires gone)) (moved numbers x)
   over-moved [] h = tt
-  over-moved (t ∷ x) h = (omega (arith, numbered t.1 h.0.0 h.0.1, inside-kept wires gone t.1 h.0.0 h.0.1), over-moved x h.1)
+  over-moved (t ∷ x) h = (omega (arith, numbered t.1 h.0.0 h.0.1, inside-kept wires gone t.1 (omega (arith, h.0.0)) h.0.1), over-moved x h.1)
 
-  pub within-moved : (rows : List (Option Constraint)) → RowsOver (Stays wires gone) rows → AreWithin wires rows → AreWithin (length (kept wires gone)) (moved_rows numbers rows)
+  pub within-moved : (rows : List (Option Constraint)) → RowsOver (Stays room gone) rows → AreWithin room rows → AreWithin (length (kept wires gone)) (moved_rows numbers rows)
   within-moved [] h k = tt
   within-moved (None ∷ rows) h k = (tt, within-moved rows h.1 k.1)
   within-moved (Some c ∷ rows) h k = (
@@ -170,16 +177,19 @@ enough_labels wires publics gone h later =
 pub few_labels : (wires : ℕ) (gone : List Bool) → length (kept wires gone) ≤ wires
 few_labels wires gone = omega (arith, ap length (kept_is wires gone), kept_short wires gone)
 
--- the shrunk system
-pub shrink_is : (counts : Counts) (publics : ℕ) (list : List Constraint) (rows : List (Option Constraint)) (gone : List Bool) (last : Pass) → publics ≡ 1 + counts.outputs + counts.inputs → rows ≡ start_rows list → gone ≡ replicate counts.wires false →
-    last ≡ fold (turn publics) (pass_of rows gone) (range_with_len 0 (length rows)) →
+-- the shrunk system, from a pass with room for the first wires
+shrink_is : (counts : Counts) (list : List Constraint) (room : ℕ) → room ≤ counts.wires → AreWithin room (start_rows list) → (last : Pass) →
+    last ≡ fold (turn (1 + counts.outputs + counts.inputs)) (pass_of (start_rows list) (replicate room false)) (range_with_len 0 (length (start_rows list))) →
     left_over (counted_system counts list) last.rows (kept counts.wires last.gone) ≡ shrink (counted_system counts list)
 unfolding shrink passed begun
-shrink_is counts publics list rows gone last is same none ran =
-    ap (λ (pass : Pass). left_over (counted_system counts list) pass.rows (kept counts.wires pass.gone))
-    (ran
-    ∙ ap (λ n. fold (turn publics) (pass_of rows gone) (range_with_len 0 n)) (ap length same ∙ length-map list (λ c. Some (normal_constraint c)))
-    ∙ ap₂ (λ m pass. fold (turn m) pass (range_with_len 0 (length list))) is (ap₂ pass_of same none))
+shrink_is counts list room enough within last ran =
+    let publics = 1 + counts.outputs + counts.inputs in
+    let behind = replicate (counts.wires - room) false in
+    let whole = fold (turn publics) (pass_of (start_rows list) (replicate counts.wires false)) (range_with_len 0 (length (start_rows list))) in
+    let same : roomy behind last ≡ whole = ap (roomy behind) ran ∙ sym (run-roomy room publics (omega arith) (start_rows list) within counts.wires enough) in
+    ap (left_over (counted_system counts list) last.rows) (sym (kept_behind counts.wires (counts.wires - room) last.gone))
+    ∙ ap (λ (pass : Pass). left_over (counted_system counts list) pass.rows (kept counts.wires pass.gone))
+    (same ∙ ap (λ n. fold (turn publics) (pass_of (start_rows list) (replicate counts.wires false)) (range_with_len 0 n)) (length-map list (λ c. Some (normal_constraint c))))
 
 -- what is left, from its parts
 left_is : (system : System) (rows : List (Option Constraint)) (labels : List ℕ) →
@@ -188,28 +198,38 @@ unfolding left_over
 left_is system rows labels = refl
 
 -- what is left, by what the calls gave
-module _ (counts : Counts) (publics : ℕ) (rows : List (Option Constraint)) (gone : List Bool) (lists : List (List ℕ)) (ready : IsReady counts publics rows gone lists)
-    (left : List (Option Constraint)) (flags slice : List Bool) (ran : pass_of left flags ≡ fold (turn publics) (pass_of rows gone) (range_with_len 0 (length rows))) (lent : slice ≡ flags) where
-  sound : Sound rows counts.wires publics (pass_of left flags)
-  sound = subst (Sound rows counts.wires publics) (sym ran) (run-sound counts publics rows gone lists ready)
+module _ (counts : Counts) (rows : List (Option Constraint)) (ready : IsReady counts rows)
+    (publics : ℕ) (private : publics ≡ 1 + counts.outputs + counts.inputs) (left : List (Option Constraint)) (flags slice : List Bool)
+    (ran : pass_of left flags ≡ fold (turn publics) (pass_of rows (replicate (rows_top rows) false)) (range_with_len 0 (length rows))) (lent : slice ≡ flags) where
+  pub enough_room : rows_top rows ≤ counts.wires
+  enough_room = rows_top_within counts.wires rows ready.within
 
-  pub slice_each : length slice ≡ counts.wires
+  positive : 0 < publics
+  positive = omega (arith, private)
+
+  within : AreWithin (rows_top rows) rows
+  within = within_top counts.wires (rows_top rows) rows (omega arith) ready.within
+
+  sound : Sound rows (rows_top rows) publics (pass_of left flags)
+  sound = subst (Sound rows (rows_top rows) publics) (sym ran) (run-sound (rows_top rows) publics positive rows within)
+
+  pub slice_each : length slice ≡ rows_top rows
   slice_each = ap length lent ∙ sound.each
 
-  left_within : AreWithin counts.wires left
-  left_within = subst (λ (pass : Pass). AreWithin counts.wires pass.rows) (sym ran) (run-within counts publics rows gone lists ready)
+  left_within : AreWithin (rows_top rows) left
+  left_within = subst (λ (pass : Pass). AreWithin (rows_top rows) pass.rows) (sym ran) (run-within (rows_top rows) publics positive rows within)
 
-  module _ (labels numbers given : List ℕ) (moved_on : List (Option Constraint)) (labelled : labels ≡ kept (length slice) slice) (lend : given ≡ numbers)
-      (numbered : (w : ℕ) → w < length slice → get_or slice w false ≡ false → slice_index numbers w ≡ place w (kept (length slice) slice)) (renumbered_on : moved_on ≡ moved_rows given left) where
+  module _ (labels numbers given : List ℕ) (moved_on : List (Option Constraint)) (labelled : labels ≡ kept counts.wires slice) (lend : given ≡ numbers)
+      (numbered : (w : ℕ) → w < length slice → get_or slice w false ≡ false → slice_index numbers w ≡ place w (kept counts.wires slice)) (renumbered_on : moved_on ≡ moved_rows given left) where
     labels_are : labels ≡ kept counts.wires flags
-    labels_are = labelled ∙ ap₂ kept slice_each lent
+    labels_are = labelled ∙ ap (kept counts.wires) lent
 
-    numbers_are : (w : ℕ) → w < counts.wires → get_or flags w false ≡ false → slice_index given w ≡ place w (kept counts.wires flags)
+    numbers_are : (w : ℕ) → w < rows_top rows → get_or flags w false ≡ false → slice_index given w ≡ place w (kept counts.wires flags)
     numbers_are w h stays =
-        ap (λ xs. slice_index xs w) lend ∙ numbered w (omega (arith, slice_each)) (ap (λ xs. get_or xs w false) lent ∙ stays) ∙ ap (place w) (ap₂ kept slice_each lent)
+        ap (λ xs. slice_index xs w) lend ∙ numbered w (omega (arith, slice_each)) (ap (λ xs. get_or xs w false) lent ∙ stays) ∙ ap (λ g. place w (kept counts.wires g)) lent
 
-    pub labels_enough : publics ≤ length labels
-    labels_enough = subst (λ xs. publics ≤ length xs) (sym labels_are) (enough_labels counts.wires publics flags ready.room sound.private)
+    pub labels_enough : 1 + counts.outputs + counts.inputs ≤ length labels
+    labels_enough = omega (arith, private, ap length labels_are, enough_labels counts.wires publics flags (omega (arith, private, ready.room)) sound.private)
 
     pub labels_few : length labels < 2 ^ 32
     labels_few = omega (arith, ap length labels_are, few_labels counts.wires flags, ready.fits)
@@ -217,15 +237,16 @@ module _ (counts : Counts) (publics : ℕ) (rows : List (Option Constraint)) (go
     pub rows_within : AreWithin (length labels) moved_on
     rows_within =
         subst (λ xs. AreWithin (length xs) moved_on) (sym labels_are)
-        (subst (AreWithin (length (kept counts.wires flags))) (sym renumbered_on) (within-moved counts.wires flags given numbers_are left sound.over left_within))
+        (subst (AreWithin (length (kept counts.wires flags))) (sym renumbered_on) (within-moved counts.wires (rows_top rows) flags enough_room given numbers_are left sound.over left_within))
 
     pub system_is : (list : List Constraint) → rows ≡ start_rows list →
         record { system = record { wires = length labels; outputs = counts.outputs; inputs = counts.inputs; constraints = filter_map (λ row. row) moved_on }; labels = labels; wires = counts.wires }
         ≡ shrink (counted_system counts list)
     system_is list same =
         ap₂ (λ xs rest. record { system = record { wires = length xs; outputs = counts.outputs; inputs = counts.inputs; constraints = filter_map (λ (row : Option Constraint). row) rest }; labels = xs; wires = counts.wires })
-        labels_are (renumbered_on ∙ rows-renumbered counts.wires flags given numbers_are left sound.over)
+        labels_are (renumbered_on ∙ rows-renumbered counts.wires (rows_top rows) flags enough_room given numbers_are left sound.over)
         ∙ ap (λ cs. record { system = record { wires = length (kept counts.wires flags); outputs = counts.outputs; inputs = counts.inputs; constraints = cs }; labels = kept counts.wires flags; wires = counts.wires })
         (left_rows (renumbered_in (kept counts.wires flags)) left)
         ∙ left_is (counted_system counts list) left (kept counts.wires flags)
-        ∙ shrink_is counts publics list rows gone (pass_of left flags) ready.private same ready.none ran
+        ∙ shrink_is counts list (rows_top rows) enough_room (subst (AreWithin (rows_top rows)) same within) (pass_of left flags)
+        (ran ∙ ap₂ (λ n rs. fold (turn n) (pass_of rs (replicate (rows_top rows) false)) (range_with_len 0 (length rs))) private same)

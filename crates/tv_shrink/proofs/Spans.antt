@@ -8,7 +8,7 @@ use Rattle.std.proofs.lemmas.List.{append_assoc, drop-append-le, drop-drop, leng
 use Rattle.tv_core.specs.Constraints.{Combination, Constraint}
 use Rattle.tv_shrink.specs.Moving.{moved, moved_in}
 use Rattle.tv_shrink.specs.Spans.{end_of, row_at, row_terms, span_of, AreInside}
-use Rattle.tv_shrink.specs.declared.rows.Span.{Span}
+use Rattle.tv_shrink.specs.declared.arena.Span.{Span}
 
 -- a part of a list that has more behind it
 pub part_kept : (xs more : Combination) (i j : ℕ) → i ≤ j → j ≤ length xs → slice_range (xs ++ more) i j ≡ slice_range xs i j

@@ -1,5 +1,5 @@
 -- What shrinking the system of a file answers.
-use Rattle.std.specs.Prelude.{◌≡◌, ◌⊎◌, ℕ, ◌+◌, ◌^◌, ◌≤◌, ◌<◌, nat_lt, Bool, false, map, replicate, List, [], ◌∷◌, length, Option, None, Some, Ok, Result, MatchResult, if◌then◌else◌}
+use Rattle.std.specs.Prelude.{◌≡◌, ◌⊎◌, ℕ, ◌+◌, ◌^◌, ◌≤◌, ◌<◌, nat_lt, map, List, [], ◌∷◌, length, Option, None, Some, Ok, Result, MatchResult, if◌then◌else◌}
 use Rattle.std.specs.Option.{option_or}
 use Rattle.tv_container.specs.Places.{wrong}
 use Rattle.tv_container.specs.declared.why.ReadRefusal.{ReadRefusal}
@@ -13,7 +13,7 @@ use Rattle.tv_shrink.specs.declared.fault.ShrinkFault.TheVariants as fault
 use Rattle.tv_shrink.specs.declared.shrinking.TheConstants.{MOST_TERMS}
 use Rattle.tv_core.specs.declared.lines.Counts.{Counts}
 use Rattle.tv_shrink.specs.Normal.{normal, normal_constraint}
-use Rattle.tv_shrink.specs.Tidy.{AreWithin, IsKept}
+use Rattle.tv_shrink.specs.Tidy.{AreNormal, AreWithin}
 use Rattle.tv_shrink.specs.Shrinking.{Shrunken, shrink}
 use Rattle.tv_word.specs.Counts.{Rose}
 
@@ -50,6 +50,12 @@ most = MOST_TERMS
 -- how many terms a system has
 abbrev pub all_terms : System → ℕ
 all_terms system = terms_in system.constraints
+
+-- a file holds a system, of at most so many terms
+pub record IsSmall (file : List ℕ) : Type 0 where
+  pub system : System
+  pub is : system_of file ≡ Ok system
+  pub few : all_terms system ≤ most
 
 -- a file's system has at most so many terms, no combination of it is too wide, and this is the shrunk system
 pub record Shrinks (shrunken : Shrunken) (file : List ℕ) : Type 0 where
@@ -109,14 +115,12 @@ start_rows list = map (λ c. Some (normal_constraint c)) list
 abbrev pub counted_system : Counts → List Constraint → System
 counted_system counts list = record { wires = counts.wires; outputs = counts.outputs; inputs = counts.inputs; constraints = list }
 
--- a pass is ready: no wire is gone, the constraints are of wires that there are, the private ones are behind wire 0
--- and the public ones, and it is told where each may stand
-pub record IsReady (counts : Counts) (publics : ℕ) (rows : List (Option Constraint)) (gone : List Bool) (lists : List (List ℕ)) : Type 0 where
-  pub private : publics ≡ 1 + counts.outputs + counts.inputs
-  pub room : publics ≤ counts.wires
-  pub none : gone ≡ replicate counts.wires false
+-- a pass over these constraints may begin: they are normal, and of wires that there are, and there is a wire for the
+-- constant 1 and each public number
+pub record IsReady (counts : Counts) (rows : List (Option Constraint)) : Type 0 where
+  pub room : 1 + counts.outputs + counts.inputs ≤ counts.wires
   pub within : AreWithin counts.wires rows
-  pub kept : IsKept publics rows gone lists
+  pub normal : AreNormal rows
   pub few : length rows < 2 ^ 32
   pub fits : counts.wires < 2 ^ 32
 
@@ -127,20 +131,3 @@ pub record IsRead (counts : Counts) (rows : List (Option Constraint)) (file : Li
   pub same : rows ≡ start_rows list
   pub few : terms_in list ≤ most
   pub narrow : first_wide list ≡ None
-
--- a refusal of a system for its terms or for a combination
-abbrev pub IsOfSize : ShrinkFault → Type 0
-IsOfSize (fault.Bad at why) = ⊥
-IsOfSize (fault.Terms has) = Unit {0}
-IsOfSize (fault.Combination has) = Unit {0}
-IsOfSize fault.Fault = ⊥
-IsOfSize fault.Memory = ⊥
-
--- what a refusal to read tells of a file: its first fault, or, where it holds a system, that this has too many terms
--- or a combination that is too wide
-abbrev pub TellsRead : ShrinkFault → List ℕ → Type 0
-TellsRead (fault.Bad at why) file = system_of file ≡ wrong at why
-TellsRead (fault.Terms has) file = (system : System) → system_of file ≡ Ok system → most < all_terms system
-TellsRead (fault.Combination has) file = (system : System) → system_of file ≡ Ok system → first_wide system.constraints ≡ Some has
-TellsRead fault.Fault file = Unit {0}
-TellsRead fault.Memory file = Unit {0}

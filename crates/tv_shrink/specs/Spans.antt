@@ -2,7 +2,7 @@
 use Rattle.std.specs.Prelude.{◌≡◌, ◌⊎◌, ℕ, ◌+◌, ◌≤◌, List, [], ◌∷◌, ◌++◌, length, Option, None, Some, drop, slice_range, take}
 use Rattle.std.specs.List.{AllByRecursion}
 use Rattle.tv_core.specs.Constraints.{Combination, Constraint}
-use Rattle.tv_shrink.specs.declared.rows.Span.{Span}
+use Rattle.tv_shrink.specs.declared.arena.Span.{Span}
 
 -- the place behind a constraint's terms
 abbrev pub end_of : Span → ℕ

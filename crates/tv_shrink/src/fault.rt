@@ -1,6 +1,6 @@
 //! Why a system is not shrunk.
-ghost use Rattle.std.specs.Prelude.{◌≡◌, ◌↔◌, IsTrue};
-ghost use Rattle.tv_shrink.specs.Answers.{read_fault, IsOfSize};
+ghost use Rattle.std.specs.Prelude.{◌≡◌};
+ghost use Rattle.tv_shrink.specs.Answers.{read_fault};
 ghost use Rattle.tv_shrink.specs.declared.fault.ShrinkFault.TheVariants.{Memory};
 
 use std::alloc::{AllocError, AllocFailed};
@@ -25,18 +25,6 @@ pub enum ShrinkFault {
     /// Memory was wanting.
     #[error("out of memory")]
     Memory,
-}
-
-impl ShrinkFault {
-    /// Whether a system was refused for its terms or for a combination.
-    pub(crate) fn is_of_size(&self) -> bool
-        ensures { IsTrue result ↔ IsOfSize self.now }
-    {
-        matches!(
-            self,
-            ShrinkFault::Terms { .. } | ShrinkFault::Combination { .. }
-        )
-    }
 }
 
 impl From<ReadRefusal> for ShrinkFault {

@@ -4,6 +4,7 @@
 //! is what satisfies the system, at the wires that are kept.
 #![tactic(auto)]
 
+mod arena;
 mod emitting;
 mod fault;
 mod laws;
@@ -17,6 +18,7 @@ mod row;
 mod rows;
 mod shrinking;
 mod shrunk;
+mod state;
 mod writing;
 
 pub use fault::ShrinkFault;

@@ -10,17 +10,6 @@ ghost use Rattle.tv_shrink.specs.Normal.{normal, with_term, IsNormalFrom};
 use std::alloc::AllocError;
 use tv_core::{F, Wire};
 
-// The product. Most factors are 1, which takes none.
-#[inline(always)]
-fn times(factor: F, coefficient: F) -> F
-    ensures { result ≡ factor * coefficient % P }
-{
-    if factor == F::ONE {
-        return coefficient;
-    }
-    factor * coefficient
-}
-
 /// A multiple of a combination of which one wire may be left out, from its first terms on.
 #[derive(Clone, Copy)]
 pub(crate) struct Side<'a> {
@@ -72,7 +61,7 @@ impl<'a> Side<'a> {
         self.terms = rest;
         match self.leaving {
             Some(left) if left.0 == wire.0 => F::ZERO,
-            _ => times(self.factor, *coefficient),
+            _ => self.factor * *coefficient,
         }
     }
 

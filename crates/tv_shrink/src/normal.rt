@@ -10,7 +10,7 @@ use crate::merge::push_term;
 use std::alloc::AllocError;
 use tv_core::{F, Wire};
 
-// Appends the combination that terms make, up to where it isn't normal, and tells whether all of it
+// Appends the combination that terms make, up to where it isn't normal, and returns whether all of it
 // is.
 #[inline(always)]
 fn append_while_normal(out: &mut Vec<(F, Wire)>, terms: &[(u32, F)]) -> Result<bool, AllocError>

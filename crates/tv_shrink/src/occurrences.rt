@@ -1,7 +1,8 @@
 //! In which rows each wire may stand.
 
 ghost use Rattle.std.specs.Prelude.{◌≡◌, ◌==◌, ◌≤◌, ◌<◌, [], ◌∷◌, ℕ, List, true, length};
-ghost use Rattle.std.specs.Prelude.{replicate, reverse, slice_index_or, slice_set, OnOk, IfOk};
+ghost use Rattle.std.specs.Prelude.{replicate, reverse, slice_index_or, slice_set, OnOk, OnErr};
+ghost use Rattle.std.specs.Prelude.{IfOk};
 ghost use Rattle.std.specs.Prelude.{◌^◌, false, None, Ok, IfSome};
 ghost use Rattle.std.specs.Prelude.{if◌then◌else◌};
 ghost use Rattle.std.specs.List.{list_any};
@@ -11,7 +12,7 @@ ghost use Rattle.tv_shrink.specs.Occurring.{rows_from, with_row, LeadBack};
 ghost use Rattle.tv_shrink.specs.Replacing.{has_wire};
 ghost use Rattle.tv_shrink.specs.Tidy.{row_has, AreNormal, Covers, RowIsNormal};
 
-use crate::row::{Row, row_has};
+use crate::row::Row;
 use crate::rows::Rows;
 use std::alloc::{AllocError, Global};
 use std::marker::Model;
@@ -38,15 +39,17 @@ fn tells(entries: &[Entry], number: u32, row: u32) -> bool
     entries[number as usize - 1].row == row
 }
 
-/// For each wire a list of rows that it may stand in, the last told of it first.
+/// For each wire a list of rows that it may stand in, the one filed last first.
 ///
-/// An entry takes eight bytes, and a wire four; those of rows that were forgotten stay until `tidy`
-/// tells of all anew. There are fewer than 2^32 entries; one more counts as want of memory.
+/// An entry takes eight bytes, and a wire four. Entries of rows that a wire has left stay until
+/// `tidy` files all constraints anew, in memory beside that of before. There are fewer than 2^32
+/// entries; one more counts as want of memory.
 #[derive(Drop)]
 pub(crate) struct Occurrences {
+    alloc: Global,
     heads: Vec<u32>,
     entries: Vec<Entry>,
-    // How many entries there were when it was last told of a whole constraint.
+    // How many entries there were when a whole constraint was last filed.
     wanted: usize,
 }
 
@@ -63,15 +66,36 @@ impl Model for Occurrences {
 }
 
 impl Occurrences {
-    /// No rows, for so many wires.
-    pub(crate) fn new(alloc: Global, wires: u32) -> Result<Occurrences, AllocError>
+    // No rows, for so many wires.
+    fn new(alloc: Global, wires: usize) -> Result<Occurrences, AllocError>
         ensures { IfOk result (λ lists. lists ≡ replicate wires []) }
     {
         Ok(Occurrences {
-            heads: Vec::from_elem(alloc, 0, wires as usize)?,
+            alloc,
+            heads: Vec::from_elem(alloc, 0, wires)?,
             entries: Vec::new(alloc),
             wanted: 0,
         })
+    }
+
+    /// For so many wires the rows that the private ones stand in.
+    pub(crate) fn of(
+        alloc: Global,
+        wires: usize,
+        rows: &Rows,
+        publics: u32,
+    ) -> Result<Occurrences, AllocError>
+        requires inside { (i w : ℕ) → publics ≤ w
+            → row_has w (slice_index_or rows.now i None) ≡ true → w < wires }
+        requires few { length rows.now < 2 ^ 32 }
+        ensures each { IfOk result (λ lists. length lists ≡ wires) }
+        ensures covers { IfOk result (λ lists. Covers publics rows.now lists) }
+    {
+        let mut lists = Occurrences::new(alloc, wires)?;
+        for at in 0..rows.len() {
+            lists.file_row(at as u32, &rows.get(at), publics)?;
+        }
+        Ok(lists)
     }
 
     /// Puts the rows that a wire may stand in into `rows`, whose memory serves again.
@@ -121,11 +145,12 @@ impl Occurrences {
         Ok(None)
     }
 
-    /// Tells that a wire may stand in a row.
+    /// Files that a wire may stand in a row.
     pub(crate) fn add(&mut self, wire: u32, row: u32) -> Result<(), AllocError>
         requires { wire < length self.old }
-        ensures { OnOk result (self.new ≡ slice_set self.old wire
+        ensures adds { OnOk result (self.new ≡ slice_set self.old wire
             (with_row row (slice_index_or self.old wire []))) }
+        ensures err { OnErr result (self.new ≡ self.old) }
     {
         let next = self.heads[wire as usize];
         if tells(&self.entries, next, row) {
@@ -139,37 +164,31 @@ impl Occurrences {
         Ok(())
     }
 
-    /// Tells of each private wire of a combination that it may stand in a row, but for those that
-    /// stand in a constraint of which it was told.
+    /// Files each private wire of a combination: it may stand in this row.
     #[inline(always)]
     pub(crate) fn file(
         &mut self,
         row: u32,
         terms: &[(F, Wire)],
         publics: u32,
-        known: &Option<Row<'_>>,
     ) -> Result<(), AllocError>
-        requires inside { (w : ℕ) → publics ≤ w → has_wire w terms.now ≡ true
-            → w < length self.old }
-        requires normal { RowIsNormal known.now }
-        ensures each { OnOk result (length self.new ≡ length self.old) }
-        ensures more { OnOk result ((w i : ℕ)
+        requires { (w : ℕ) → publics ≤ w → has_wire w terms.now ≡ true → w < length self.old }
+        ensures each { length self.new ≡ length self.old }
+        ensures more { (w i : ℕ)
             → list_any (λ p. p == i) (slice_index_or self.old w []) ≡ true
-            → list_any (λ p. p == i) (slice_index_or self.new w []) ≡ true) }
+            → list_any (λ p. p == i) (slice_index_or self.new w []) ≡ true }
         ensures added { OnOk result ((w : ℕ) → publics ≤ w → has_wire w terms.now ≡ true
-            → row_has w known.now ≡ false
             → list_any (λ p. p == row) (slice_index_or self.new w []) ≡ true) }
     {
         for (_, wire) in terms {
-            if wire.0 >= publics && !row_has(known, *wire) {
+            if wire.0 >= publics {
                 self.add(wire.0, row)?;
             }
         }
         Ok(())
     }
 
-    /// Tells of each private wire of a constraint, unless it was dropped, that it may stand in the
-    /// row at this number.
+    /// Files each private wire of a constraint, unless it was dropped, in the row at this number.
     #[inline(never)]
     pub(crate) fn file_row(
         &mut self,
@@ -189,57 +208,26 @@ impl Occurrences {
         let Some(row) = row else {
             return Ok(());
         };
-        self.file(at, row.a, publics, &None)?;
-        self.file(at, row.b, publics, &None)?;
-        self.file(at, row.c, publics, &None)?;
+        self.file(at, row.a, publics)?;
+        self.file(at, row.b, publics)?;
+        self.file(at, row.c, publics)?;
         self.wanted = self.entries.len();
         Ok(())
     }
 
-    // Forgets all rows of all wires; the memory serves again.
-    fn clear_all(&mut self)
-        ensures { self.new ≡ replicate (length self.old) [] }
-    {
-        self.entries.clear();
-        self.wanted = 0;
-        self.heads.fill(0);
-    }
-
-    // Tells of all constraints anew, in place of what it was told before.
-    fn refile(&mut self, rows: &Rows, publics: u32) -> Result<(), AllocError>
-        requires inside { (i w : ℕ) → publics ≤ w
-            → row_has w (slice_index_or rows.now i None) ≡ true → w < length self.old }
-        requires few { length rows.now < 2 ^ 32 }
-        ensures each { OnOk result (length self.new ≡ length self.old) }
-        ensures covers { OnOk result (Covers publics rows.now self.new) }
-    {
-        self.clear_all();
-        for at in 0..rows.len() {
-            self.file_row(at as u32, &rows.get(at), publics)?;
-        }
-        Ok(())
-    }
-
-    /// Tells of all constraints anew, once half of the entries are more than there were when it was
-    /// last told of a whole constraint, and than there are constraints, and wires.
+    /// Files all constraints anew, once half of the entries are more than there were when a whole
+    /// constraint was last filed, and than there are constraints, and wires.
     pub(crate) fn tidy(&mut self, rows: &Rows, publics: u32) -> Result<(), AllocError>
         requires covers { Covers publics rows.now self.old }
         requires few { length rows.now < 2 ^ 32 }
-        ensures each { OnOk result (length self.new ≡ length self.old) }
-        ensures covers { OnOk result (Covers publics rows.now self.new) }
+        ensures each { length self.new ≡ length self.old }
+        ensures covers { Covers publics rows.now self.new }
     {
         let wanted = self.wanted.max(rows.len()).max(self.heads.len());
         if self.entries.len() / 2 > wanted {
-            self.refile(rows, publics)?;
+            let lists = Occurrences::of(self.alloc, self.heads.len(), rows, publics)?;
+            *self = lists;
         }
         Ok(())
-    }
-
-    /// Forgets the rows of a wire.
-    pub(crate) fn clear(&mut self, wire: u32)
-        requires { wire < length self.old }
-        ensures { self.new ≡ slice_set self.old wire [] }
-    {
-        self.heads[wire as usize] = 0;
     }
 }

@@ -1,194 +1,25 @@
-//! The constraints of a pass, whose terms lie one after another.
+//! The constraints of a pass.
 
-ghost use Rattle.std.specs.Prelude.{◌≡◌, ◌+◌, ◌≤◌, ◌<◌, ◌++◌, [], ◌∷◌, true, length, None, Some};
-ghost use Rattle.std.specs.Prelude.{slice_index, slice_index_or, slice_set};
-ghost use Rattle.std.specs.Prelude.{OnOk, OnErr, IfOk, IfErr};
+ghost use Rattle.std.specs.Prelude.{◌≡◌, ◌+◌, ◌<◌, ◌++◌, [], ◌∷◌, true, length, None, Some};
+ghost use Rattle.std.specs.Prelude.{slice_index_or, slice_set, OnOk, OnErr, IfOk, IfErr};
 ghost use Rattle.std.specs.Option.{option_map};
-ghost use Rattle.tv_r1cs_read.specs.Rows.{combination_of, constraint_of};
-ghost use Rattle.tv_shrink.specs.Answers.{wide, wide_in, IsTooWide};
-ghost use Rattle.tv_shrink.specs.Moving.{moved, moved_in, moved_rows};
-ghost use Rattle.tv_shrink.specs.Normal.{normal, normal_constraint, IsNormalFrom};
+ghost use Rattle.tv_r1cs_read.specs.Rows.{constraint_of};
+ghost use Rattle.tv_shrink.specs.Answers.{wide_in, IsTooWide};
+ghost use Rattle.tv_shrink.specs.Moving.{moved_in, moved_rows};
+ghost use Rattle.tv_shrink.specs.Normal.{normal_constraint, IsNormalFrom};
 ghost use Rattle.tv_shrink.specs.Passing.{row_fits};
-ghost use Rattle.tv_shrink.specs.Replacing.{fits, fits_in, replaced, replaced_in};
-ghost use Rattle.tv_shrink.specs.Spans.{end_of, laid, row_at, row_terms, span_of, IsFree, IsInside};
-ghost use Rattle.tv_shrink.specs.Tidy.{AreNormal, IsNormalRow, RowIsNormal};
+ghost use Rattle.tv_shrink.specs.Replacing.{replaced_in};
+ghost use Rattle.tv_shrink.specs.Spans.{row_at, IsInside};
+ghost use Rattle.tv_shrink.specs.Tidy.{rows_top, AreNormal, RowIsNormal};
 
+use crate::arena::{
+    Span, append_narrow, append_terms, lay, place_behind, put_replaced, renumber_span,
+};
 use crate::fault::ShrinkFault;
-use crate::normal::append_normal;
-use crate::row::{Row, append_replaced};
+use crate::row::Row;
 use std::alloc::{AllocError, Global};
 use std::marker::Model;
-use tv_core::{F, TERMS, Wire};
-
-/// Where the terms of a constraint lie: those of `a` from a place on, behind them those of `b`, and
-/// then those of `c`, so many of each.
-#[derive(Clone, Copy)]
-struct Span {
-    start: u32,
-    a: u8,
-    b: u8,
-    c: u8,
-}
-
-impl Span {
-    // The constraint whose terms lie there.
-    fn row<'a>(&self, terms: &'a [(F, Wire)]) -> Row<'a>
-        requires { end_of self.now ≤ length terms.now }
-        ensures row { result ≡ row_at terms.now self.now }
-        ensures few { (length result.a < 256) × (length result.b < 256) × (length result.c < 256) }
-    {
-        let start = self.start as usize;
-        let b = start + usize::from(self.a);
-        let c = b + usize::from(self.b);
-        let end = c + usize::from(self.c);
-        Row {
-            a: &terms[start..b],
-            b: &terms[b..c],
-            c: &terms[c..end],
-        }
-    }
-
-    // How many terms lie there.
-    fn size(&self) -> usize
-        ensures { result ≡ self.now.a + self.now.b + self.now.c }
-    {
-        usize::from(self.a) + usize::from(self.b) + usize::from(self.c)
-    }
-}
-
-// Appends the combination that terms make, made normal, and tells how many terms it has; refused
-// where it has more than 128 then; `scratch` is for its use.
-#[inline(always)]
-fn append_narrow(
-    scratch: &mut Vec<(F, Wire)>,
-    out: &mut Vec<(F, Wire)>,
-    terms: &[(u32, F)],
-) -> Result<u8, ShrinkFault>
-    ensures ok { OnOk result (out.new.items
-        ≡ out.old.items ++ normal (combination_of terms.now)) }
-    ensures size { IfOk result (λ n. n ≡ length (normal (combination_of terms.now))) }
-    ensures short { IfOk result (λ n. n ≤ 128) }
-    ensures longer { length out.old.items ≤ length out.new.items }
-    ensures narrow { OnOk result (wide (combination_of terms.now) ≡ None) }
-    ensures err { IfErr result (λ fault. IsTooWide fault (wide (combination_of terms.now))) }
-{
-    let start = out.len();
-    append_normal(scratch, out, terms)?;
-    let has = out.len() - start;
-    if has > TERMS {
-        return Err(ShrinkFault::Combination { has: has as u64 });
-    }
-    Ok(has as u8)
-}
-
-// Appends a combination with `replacement` in place of a wire, and tells how many terms it has
-// then.
-fn append_part(
-    out: &mut Vec<(F, Wire)>,
-    terms: &[(F, Wire)],
-    wire: Wire,
-    replacement: &[(F, Wire)],
-) -> Result<u8, AllocError>
-    requires normal { IsNormalFrom 0 terms.now }
-    requires by { IsNormalFrom 0 replacement.now }
-    requires few { length terms.now < 256 }
-    requires fits { fits wire replacement.now terms.now ≡ true }
-    ensures out { OnOk result (out.new.items
-        ≡ out.old.items ++ replaced wire replacement.now terms.now) }
-    ensures size { IfOk result (λ size. size ≡ length (replaced wire replacement.now terms.now)) }
-{
-    let start = out.len();
-    append_replaced(out, terms, wire, replacement)?;
-    Ok((out.len() - start) as u8)
-}
-
-// Puts a constraint with `replacement` in place of a wire into `out`, and tells where its terms lie
-// in it.
-fn put_replaced(
-    out: &mut Vec<(F, Wire)>,
-    row: &Row<'_>,
-    wire: Wire,
-    replacement: &[(F, Wire)],
-) -> Result<Span, AllocError>
-    requires normal { IsNormalRow row.now }
-    requires by { IsNormalFrom 0 replacement.now }
-    requires few { (length row.now.a < 256) × (length row.now.b < 256)
-        × (length row.now.c < 256) }
-    requires fits { fits_in wire replacement.now row.now ≡ true }
-    ensures out { OnOk result (out.new.items
-        ≡ row_terms (replaced_in wire replacement.now row.now)) }
-    ensures made { IfOk result (λ made. made
-        ≡ span_of 0 (replaced_in wire replacement.now row.now)) }
-{
-    out.clear();
-    let a = append_part(out, row.a, wire, replacement)?;
-    let b = append_part(out, row.b, wire, replacement)?;
-    let c = append_part(out, row.c, wire, replacement)?;
-    Ok(Span { start: 0, a, b, c })
-}
-
-// The place behind so many terms.
-fn place_behind(terms: &[(F, Wire)]) -> Result<u32, AllocError>
-    ensures { IfOk result (λ place. place ≡ length terms.now) }
-{
-    u32::try_from(terms.len()).map_err(|_| AllocError)
-}
-
-// Puts terms over those of a constraint, if they are no more, or else behind all, and tells where
-// they lie then.
-fn lay(terms: &mut Vec<(F, Wire)>, span: &Span, new: &[(F, Wire)]) -> Result<u32, AllocError>
-    requires { end_of span.now ≤ length terms.old.items }
-    ensures puts { IfOk result (λ start. terms.new.items ≡ laid start new.now terms.old.items) }
-    ensures free { IfOk result (λ start. IsFree (length terms.old.items) span.now start
-        (length new.now)) }
-    ensures err { OnErr result (terms.new.items ≡ terms.old.items) }
-{
-    if new.len() <= span.size() {
-        let start = span.start as usize;
-        terms[start..start + new.len()].copy_from_slice(new);
-        return Ok(span.start);
-    }
-    let start = place_behind(terms)?;
-    terms.extend_from_slice(new)?;
-    Ok(start)
-}
-
-// Appends the terms of a constraint.
-fn append_terms(out: &mut Vec<(F, Wire)>, row: &Row<'_>) -> Result<(), AllocError>
-    ensures out { OnOk result (out.new.items ≡ out.old.items ++ row_terms row.now) }
-    ensures longer { length out.old.items ≤ length out.new.items }
-{
-    out.extend_from_slice(row.a)?;
-    out.extend_from_slice(row.b)?;
-    out.extend_from_slice(row.c)?;
-    Ok(())
-}
-
-// The number at a wire's place, 0 where there is none.
-fn number_of(numbers: &[u32], wire: Wire) -> u32
-    ensures { result ≡ slice_index numbers.now wire }
-{
-    numbers.get(wire.0 as usize).copied().unwrap_or(0)
-}
-
-// Gives each wire the number at its place.
-fn renumber_terms(terms: &mut [(F, Wire)], numbers: &[u32])
-    ensures { terms.new ≡ moved numbers.now terms.old }
-{
-    for term in terms.iter_mut() {
-        term.1 = Wire(number_of(numbers, term.1));
-    }
-}
-
-// Gives each wire of the terms of a constraint the number at its place.
-fn renumber_span(terms: &mut Vec<(F, Wire)>, span: &Span, numbers: &[u32])
-    requires { end_of span.now ≤ length terms.old.items }
-    ensures { terms.new.items ≡ laid span.now.start
-        (row_terms (moved_in numbers.now (row_at terms.old.items span.now))) terms.old.items }
-{
-    let start = span.start as usize;
-    renumber_terms(&mut terms[start..start + span.size()], numbers);
-}
+use tv_core::{F, Wire};
 
 /// The constraints of a pass, each of normal combinations, or dropped.
 ///
@@ -246,6 +77,20 @@ impl Rows {
     {
         let span = self.spans[at]?;
         Some(span.row(&self.terms))
+    }
+
+    /// One more than the greatest wire that stands in a constraint; 0 where there is none.
+    pub(crate) fn top(&self) -> usize
+        requires { AreNormal self.now }
+        ensures { result ≡ rows_top self.now }
+    {
+        let mut top = 0;
+        for at in 0..self.len() {
+            if let Some(row) = self.get(at) {
+                top = top.max(row.top());
+            }
+        }
+        top
     }
 
     /// Drops the constraint at a place.
@@ -315,7 +160,7 @@ impl Rows {
     /// constraints had together, or as there are constraints, and those that were appended since
     /// the call before.
     pub(crate) fn tidy(&mut self) -> Result<(), AllocError>
-        ensures { OnOk result (self.new ≡ self.old) }
+        ensures { self.new ≡ self.old }
     {
         if self.terms.len() / 2 > self.wanted.max(self.spans.len()) {
             let rows = self.compacted()?;
@@ -363,8 +208,9 @@ impl Rows {
         requires normal { RowIsNormal (slice_index_or self.old at None) }
         requires by { IsNormalFrom 0 replacement.now }
         requires fits { row_fits wire replacement.now (slice_index_or self.old at None) ≡ true }
-        ensures { OnOk result (self.new ≡ slice_set self.old at
+        ensures replaces { OnOk result (self.new ≡ slice_set self.old at
             (option_map (replaced_in wire replacement.now) (slice_index_or self.old at None))) }
+        ensures err { OnErr result (self.new ≡ self.old) }
     {
         let Some(span) = self.spans[at] else {
             return Ok(());

@@ -5,7 +5,8 @@ ghost use Rattle.tv_shrink.specs.Answers.{counted_system, start_rows, IsReady};
 ghost use Rattle.tv_shrink.specs.Shrinking.{shrink};
 
 use crate::numbers::label;
-use crate::reading::Begun;
+use crate::pass::Pass;
+use crate::reading::NormalSystem;
 use crate::rows::Rows;
 use std::alloc::{AllocError, Global};
 use std::marker::Model;
@@ -49,16 +50,17 @@ impl Model for Shrunk {
 }
 
 /// What is left once the pass has run, its wires numbered anew.
-pub(crate) fn settle(alloc: Global, begun: Begun) -> Result<Shrunk, AllocError>
-    requires { IsReady begun.counts begun.pass.publics begun.pass.rows begun.pass.gone.items
-        begun.pass.occurrences }
-    ensures { IfOk result (λ shrunk. (list : List Constraint) → begun.pass.rows
-        ≡ start_rows list → shrunk ≡ shrink (counted_system begun.counts list)) }
+pub(crate) fn settle(alloc: Global, system: NormalSystem) -> Result<Shrunk, AllocError>
+    requires { IsReady system.counts system.rows }
+    ensures { IfOk result (λ shrunk. (list : List Constraint) → system.rows ≡ start_rows list
+        → shrunk ≡ shrink (counted_system system.counts list)) }
 {
-    let Begun { mut pass, counts } = begun;
+    let NormalSystem { rows, counts } = system;
+    let publics = 1 + counts.outputs + counts.inputs;
+    let mut pass = Pass::begin(alloc, rows, publics)?;
     pass.run()?;
-    let labels = label(alloc, &pass.gone)?;
-    let mut rows = pass.rows;
+    let (mut rows, gone) = pass.state.into_parts();
+    let labels = label(alloc, &gone, counts.wires)?;
     rows.renumber(&labels.numbers);
     Ok(Shrunk {
         outputs: counts.outputs,

@@ -1,35 +1,28 @@
-use Rattle.std.proofs.Common.{◌≡◌, ◌+◌, length, get_or, sym, ◌∙◌, ap, arith}
-use Rattle.tv_shrink.proofs.Labels.{kept_below, kept_is, kept_one, kept_none, kept_short, place_is, places_more}
+use Rattle.std.proofs.Common.{◌≡◌, ◌∙◌, ap, arith, length, refl, sym}
+use Rattle.std.specs.Prelude.{slice_index}
+use Rattle.std.proofs.lemmas.List.{get_or_past}
+use Rattle.tv_shrink.proofs.Labels.{kept_below, kept_is, kept_one, place_among}
 use Rattle.tv_shrink.proofs.numbers.label.Goals as goal
-use Rattle.tv_shrink.proofs.numbers.label.Goals.{then-not-gone-wire+in_ok-push-2, else-not-gone-wire}
 
-pub overflow_cast-len : goal.overflow_cast-len
-overflow_cast-len c = omega (arith, kept_short c.loop-wire.wire c.args.gone.now, ap length c.loop-wire.invariant.labels)
+pub loop-wire-init : goal.loop-wire-init
+loop-wire-init c = record {
+  labels = c.in_ok-first.ensures.labels ∙ kept_is (length c.args.gone.now) c.args.gone.now;
+  numbers = refl;
+}
 
 pub loop-wire-preserved : goal.loop-wire-preserved
-loop-wire-preserved c =
-    let len : length c.push.new.self.items ≡ c.loop-wire.wire + 1 = grind arith in
-    let k : c.len.result ≡ length (kept_below c.loop-wire.wire c.args.gone.now) = omega (arith, ap length c.loop-wire.invariant.labels) in
-    elim c.if-not-gone-wire.branch [
-      | then-not-gone-wire+in_ok-push-2 w ↦ record {
-        labels = ap (λ v. v.items) w.labels-is ∙ w.in_ok-push-2.ensures.items ∙ kept_one c.loop-wire.wire c.args.gone.now c.loop-wire.labels.items c.loop-wire.invariant.labels w.if-not-gone-wire.true;
-        len = len;
-        numbers = λ v h. ap (λ xs. get_or xs v 0) c.in_ok-push.ensures.items
-            ∙ places_more (λ u. length (kept_below u c.args.gone.now)) c.loop-wire.numbers.items c.loop-wire.wire v c.len.result c.loop-wire.invariant.len c.loop-wire.invariant.numbers k h;
-      }
-      | else-not-gone-wire w ↦ record {
-        labels = ap (λ v. v.items) w.labels-is ∙ kept_none c.loop-wire.wire c.args.gone.now c.loop-wire.labels.items c.loop-wire.invariant.labels w.if-not-gone-wire.false;
-        len = len;
-        numbers = λ v h. ap (λ xs. get_or xs v 0) c.in_ok-push.ensures.items
-            ∙ places_more (λ u. length (kept_below u c.args.gone.now)) c.loop-wire.numbers.items c.loop-wire.wire v c.len.result c.loop-wire.invariant.len c.loop-wire.invariant.numbers k h;
-      }
-    ]
+loop-wire-preserved c = record {
+  labels = c.in_ok-push.ensures.items ∙ kept_one c.loop-wire.wire c.args.gone.now c.loop-wire.first.labels.items c.loop-wire.invariant.labels (get_or_past c.args.gone.now c.loop-wire.wire _ (omega (arith, c.loop-wire.auto.wire)));
+  numbers = c.loop-wire.invariant.numbers;
+}
 
 pub returns-clause-labels : goal.returns-clause-labels
 returns-clause-labels c =
-    let all : c.loop-wire.wire ≡ length c.args.gone.now = omega arith in
-    c.loop-wire.invariant.labels ∙ ap (λ n. kept_below n c.args.gone.now) all ∙ sym (kept_is (length c.args.gone.now) c.args.gone.now)
+    let all : c.loop-wire.wire ≡ c.args.wires = omega (arith, c.loop-wire.auto.wire-end c.requires, c.loop-wire-test.false) in
+    c.loop-wire.invariant.labels ∙ ap (λ n. kept_below n c.args.gone.now) all ∙ sym (kept_is c.args.wires c.args.gone.now)
 
 pub returns-clause-numbers : goal.returns-clause-numbers
-returns-clause-numbers c =
-    λ w inside stays. c.loop-wire.invariant.numbers w (omega arith) ∙ sym (place_is (length c.args.gone.now) w c.args.gone.now inside stays)
+returns-clause-numbers c = λ w inside stays.
+    ap (λ (numbers : _). slice_index numbers.items w) c.loop-wire.invariant.numbers
+    ∙ c.in_ok-first.ensures.numbers w inside stays
+    ∙ place_among (length c.args.gone.now) c.args.wires w c.args.gone.now c.requires inside stays

@@ -1,27 +1,46 @@
-use Rattle.std.proofs.Common.{Result, Ok, Err, OnOk, None, true, false, refl, sym, ◌∙◌, ap, ap₂, set}
+use Rattle.std.proofs.Common.{◌≡◌, ◌∙◌, None, true, false, ap, ap₂, arith, length, refl, set, sym}
+use Rattle.std.specs.List.{list_all}
 use Rattle.std.proofs.lemmas.Result.{on_ok_weaker}
-use Rattle.tv_shrink.specs.Passing.{all_replaced}
-use Rattle.tv_shrink.specs.Tidy.{pass_of}
-use Rattle.tv_shrink.proofs.Passes.{all-fit-there, attempted-all, not-all-fit, not-attempted}
+use Rattle.tv_shrink.specs.Passing.{dropped, row_fits, substituted}
+use Rattle.tv_shrink.specs.Replacing.{has_wire}
+use Rattle.tv_shrink.specs.Tidy.{State}
+use Rattle.tv_shrink.proofs.Passes.{attempted-all, not-attempted}
+use Rattle.tv_shrink.proofs.States.{staged}
 use Rattle.tv_shrink.proofs.pass.Pass.eliminate.Goals as goal
+use Rattle.tv_shrink.proofs.pass.Pass.eliminate.Goals.{After-deref-2}
 
-on_ok_both : {T E P Q R : Type 0} (r : Result T E) → (P → Q → R) → OnOk r P → OnOk r Q → OnOk r R
-on_ok_both (Ok x) f p q = f p q
-on_ok_both (Err e) f p q = tt
+-- the constraint was dropped
+removed : (c : After-deref-2) → c.remove.new.self ≡ record { publics = c.args.self.now.state.publics; pass = dropped c.args.at c.args.self.now.state.pass }
+removed c = c.remove.ensures ∙ ap (λ (s : State). record { publics = s.publics; pass = dropped c.args.at s.pass }) c.others_fit.ensures.same
 
-pub returns-in-Some-clause-pass : goal.returns-in-Some-clause-pass
-returns-in-Some-clause-pass c =
-    let off = rw (c.in-Some.is, c.deref.ensures.value) at c.in_ok-misfit.ensures.some in
-    on_ok_weaker c.add.result (λ added. sym (not-attempted c.args.wire c.args.at c.args.self.now.solved.items c.args.self.now.rows c.args.self.now.gone.items false (sym (not-all-fit c.args.wire c.args.self.now.solved.items (set c.args.self.now.rows c.args.at None) c.in-Some.row off)) refl)) c.add.ensures
+-- all others fit
+fits : (c : After-deref-2) → list_all (row_fits c.args.wire c.args.self.now.solved.items) (set c.args.self.now.state.pass.rows c.args.at None) ≡ true
+fits c = ap (λ r. list_all (row_fits c.args.wire r) (set c.args.self.now.state.pass.rows c.args.at None)) (sym c.deref.ensures.value) ∙ sym c.in_ok-others_fit.ensures.fit ∙ c.if-not-branch.false
+
+pub returns-then-not-branch : goal.returns-then-not-branch
+returns-then-not-branch c =
+    let pass = c.args.self.now.state.pass in
+    let off = ap (λ r. list_all (row_fits c.args.wire r) (set pass.rows c.args.at None)) (sym c.deref.ensures.value) ∙ sym c.in_ok-others_fit.ensures.fit ∙ c.if-not-branch.true in
+    c.others_fit.ensures.same ∙ staged c.args.self.now.state _ (not-attempted c.args.wire c.args.at c.args.self.now.solved.items pass.rows pass.gone false (sym off) refl)
+
+pub substitute-requires-clause-here : goal.substitute-requires-clause-here
+unfolding dropped
+substitute-requires-clause-here c = omega (arith, ap (λ (s : State). length s.pass.gone) (removed c), c.requires.here)
 
 pub substitute-requires-clause-fit : goal.substitute-requires-clause-fit
-substitute-requires-clause-fit c =
-    let fit = rw c.deref.ensures.value at c.in_ok-misfit.ensures.none (ap Ok c.in_default.is) in
-    rw c.remove.ensures (all-fit-there c.args.wire c.args.at c.args.self.now.solved.items c.args.self.now.publics c.args.self.now.rows c.args.self.now.gone.items c.args.self.now.occurrences c.requires.kept c.requires.private fit)
+unfolding dropped
+substitute-requires-clause-fit c = ap₂ (λ r (s : State). list_all (row_fits c.args.wire r) s.pass.rows) c.deref-2.ensures.value (removed c) ∙ fits c
 
-pub returns-clause-pass : goal.returns-clause-pass
-returns-clause-pass c =
-    let fit = rw c.deref.ensures.value at c.in_ok-misfit.ensures.none (ap Ok c.in_default.is) in
-    on_ok_both c.substitute.result (λ rows gone. ap₂ pass_of (rows ∙ ap (all_replaced c.args.wire c.args.self.now.solved.items) c.remove.ensures) gone
-    ∙ sym (attempted-all c.args.wire c.args.at c.args.self.now.solved.items c.args.self.now.rows c.args.self.now.gone.items true
-    (sym (all-fit-there c.args.wire c.args.at c.args.self.now.solved.items c.args.self.now.publics c.args.self.now.rows c.args.self.now.gone.items c.args.self.now.occurrences c.requires.kept c.requires.private fit)) refl)) c.substitute.ensures.rows c.substitute.ensures.gone
+pub substitute-requires-clause-below : goal.substitute-requires-clause-below
+unfolding dropped
+substitute-requires-clause-below c = λ w above has.
+    omega (arith, ap (λ (s : State). length s.pass.gone) (removed c), c.requires.below w (omega (arith, ap (λ (s : State). s.publics) (removed c), above)) (ap (has_wire w) (sym c.deref-2.ensures.value) ∙ has))
+
+pub returns : goal.returns
+unfolding dropped substituted
+returns c =
+    let pass = c.args.self.now.state.pass in
+    on_ok_weaker c.substitute.result (λ new. new
+    ∙ ap₂ (λ r (s : State). record { publics = s.publics; pass = substituted c.args.wire r s.pass }) c.deref-2.ensures.value (removed (goal.at.returns c).After-deref-2)
+    ∙ ap (λ p. record { publics = c.args.self.now.state.publics; pass = p })
+    (sym (attempted-all c.args.wire c.args.at c.args.self.now.solved.items pass.rows pass.gone true (sym (fits (goal.at.returns c).After-deref-2)) refl))) c.substitute.ensures

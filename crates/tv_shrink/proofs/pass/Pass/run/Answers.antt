@@ -1,16 +1,18 @@
-use Rattle.std.proofs.Common.{sym, ◌∙◌, ap, ap₂, length}
+use Rattle.std.proofs.Common.{◌∙◌, ap, arith, length, sym}
+use Rattle.std.specs.List.{range_with_len}
 use Rattle.tv_shrink.specs.Passing.{turn}
-use Rattle.tv_shrink.specs.Tidy.{pass_of}
+use Rattle.tv_shrink.specs.Tidy.{State}
 use Rattle.tv_shrink.proofs.Passes.{passed-more}
+use Rattle.tv_shrink.proofs.States.{turns_length}
 use Rattle.tv_shrink.proofs.pass.Pass.run.Goals as goal
 
+pub turn-requires : goal.turn-requires
+turn-requires c =
+    omega (arith, c.loop-at-test.true, c.len-at-end.ensures, ap (λ (s : State). length s.pass.rows) c.loop-at.invariant, turns_length c.args.self.now.state.publics (range_with_len 0 c.loop-at.at) c.args.self.now.state.pass)
+
 pub loop-at-preserved : goal.loop-at-preserved
-loop-at-preserved c = record {
-  kept = c.in_ok-tidy.ensures.kept;
-  publics = c.in_ok-tidy.ensures.publics ∙ c.in_ok-turn.ensures.publics ∙ c.loop-at.invariant.publics;
-  len = ap length c.in_ok-tidy.ensures.rows ∙ c.in_ok-turn.ensures.len ∙ c.loop-at.invariant.len;
-  pass = ap₂ pass_of c.in_ok-tidy.ensures.rows c.in_ok-tidy.ensures.gone
-      ∙ c.in_ok-turn.ensures.pass
-      ∙ ap₂ (λ publics pass. turn publics pass c.loop-at.at) c.loop-at.invariant.publics c.loop-at.invariant.pass
-      ∙ sym (passed-more c.args.self.now.publics c.loop-at.at (pass_of c.args.self.now.rows c.args.self.now.gone.items));
-}
+loop-at-preserved c =
+    c.in_ok-tidy.ensures
+    ∙ c.in_ok-turn.ensures
+    ∙ ap (λ (s : State). record { publics = s.publics; pass = turn s.publics s.pass c.loop-at.at }) c.loop-at.invariant
+    ∙ ap (λ p. record { publics = c.args.self.now.state.publics; pass = p }) (sym (passed-more c.args.self.now.state.publics c.loop-at.at c.args.self.now.state.pass))

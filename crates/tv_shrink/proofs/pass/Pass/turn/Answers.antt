@@ -1,76 +1,93 @@
-use Rattle.std.proofs.Common.{◌≡◌, ◌<◌, ◌≤◌, Some, None, sym, ◌∙◌, ap, subst, arith, length, get_or}
+use Rattle.std.proofs.Common.{◌≡◌, ◌<◌, ◌≤◌, ◌-◌, ◌∙◌, ℕ, Some, None, true, ap, arith, get_or, length, subst, sym}
 use Rattle.std.proofs.lemmas.Result.{on_ok_weaker}
 use Rattle.tv_shrink.specs.Normal.{IsNormalFrom}
 use Rattle.tv_shrink.specs.Passing.{attempted, dropped, linear_row}
 use Rattle.tv_shrink.specs.Replacing.{coefficient, has_wire, solved}
-use Rattle.tv_shrink.specs.Tidy.{pass_of}
+use Rattle.tv_shrink.specs.Tidy.{row_has}
 use Rattle.tv_shrink.proofs.Passes.{form_there, form_missing, form-normal, last_at, last-own, nil_of, solved-lacks, solved-normal, solved-wires, turn-empty, turn-private, turn-public, turn-unlinear, wire-there}
+use Rattle.tv_shrink.proofs.States.{staged}
 use Rattle.tv_shrink.proofs.pass.Pass.turn.Goals as goal
+use Rattle.tv_shrink.proofs.pass.Pass.turn.Goals.{After-wire, In_ok-solve}
 
-pub returns-in_default-clause-pass : goal.returns-in_default-clause-pass
-returns-in_default-clause-pass c =
-    sym (turn-unlinear c.args.self.now.publics c.args.at (pass_of c.args.self.now.rows c.args.self.now.gone.items) (ap linear_row (sym c.get.ensures ∙ c.in_default.is)))
+-- what the constraint says is 0, and the last term of it
+says : (c : After-wire) → linear_row (get_or c.args.self.now.state.pass.rows c.args.at None) ≡ Some c.linear_form.new.out.items
+says c =
+    form_there c.args.self.now.state.pass.rows c.args.at (Some c.in-Some.row) c.linear_form.new.out.items c.in_ok-linear_form.field-0 (sym c.in-Some.is ∙ c.get.ensures.row) c.in_ok-linear_form.ensures c.if-not-branch.false
 
-pub returns-then-not-branch-clause-pass : goal.returns-then-not-branch-clause-pass
-returns-then-not-branch-clause-pass c =
-    sym (turn-unlinear c.args.self.now.publics c.args.at (pass_of c.args.self.now.rows c.args.self.now.gone.items)
-    (form_missing c.args.self.now.rows c.args.at (Some c.in-Some.row) c.linear_form.new.out.items c.in_ok-linear_form.field-0 (sym c.in-Some.is ∙ c.get.ensures) c.in_ok-linear_form.ensures c.if-not-branch.true))
+some : (c : After-wire) → 0 < length c.linear_form.new.out.items
+some c = grind arith
 
-pub returns-then-is_empty-clause-pass : goal.returns-then-is_empty-clause-pass
-unfolding dropped
-returns-then-is_empty-clause-pass c =
+last : (c : After-wire) → c.index.result.now ≡ get_or c.linear_form.new.out.items (length c.linear_form.new.out.items - 1) c.index.result.now
+last c = last_at c.linear_form.new.out.items c.len.result c.index.result.now (omega arith) c.index.ensures
+
+form_is : (c : After-wire) → IsNormalFrom 0 c.linear_form.new.out.items
+form_is c = form-normal (get_or c.args.self.now.state.pass.rows c.args.at None) c.linear_form.new.out.items (says c)
+
+own : (c : After-wire) → (0 < c.index.result.now.0) × (has_wire c.index.result.now.1 c.linear_form.new.out.items ≡ true) × (c.index.result.now.0 ≡ coefficient c.index.result.now.1 c.linear_form.new.out.items)
+own c = last-own c.index.result.now c.linear_form.new.out.items (form_is c) (some c) (last c)
+
+solution : (c : In_ok-solve) → c.solve.new.out.items ≡ solved c.index.result.now.1 c.linear_form.new.out.items
+solution c = c.in_ok-solve.ensures ∙ ap (solved c.index.result.now.1) c.deref.ensures.value
+
+-- a wire of the constraint is one that there is room for
+there : (c : After-wire) → (w : ℕ) → c.args.self.now.state.publics ≤ w → row_has w (get_or c.args.self.now.state.pass.rows c.args.at None) ≡ true → w < length c.args.self.now.state.pass.gone
+there c w above has = c.get.ensures.below w above (ap (row_has w) c.get.ensures.row ∙ has)
+
+pub returns-in_default : goal.returns-in_default
+returns-in_default c =
+    staged c.args.self.now.state _ (turn-unlinear c.args.self.now.state.publics c.args.at c.args.self.now.state.pass (ap linear_row (sym c.get.ensures.row ∙ c.in_default.is)))
+
+pub returns-then-not-branch : goal.returns-then-not-branch
+returns-then-not-branch c =
+    staged c.args.self.now.state _ (turn-unlinear c.args.self.now.state.publics c.args.at c.args.self.now.state.pass
+    (form_missing c.args.self.now.state.pass.rows c.args.at (Some c.in-Some.row) c.linear_form.new.out.items c.in_ok-linear_form.field-0 (sym c.in-Some.is ∙ c.get.ensures.row) c.in_ok-linear_form.ensures c.if-not-branch.true))
+
+pub returns-then-is_empty : goal.returns-then-is_empty
+returns-then-is_empty c =
     let none : length c.linear_form.new.out.items ≡ 0 = grind arith in
-    ap (λ rows. pass_of rows c.args.self.now.gone.items) c.remove.ensures
-    ∙ sym (turn-empty c.args.self.now.publics c.args.at (pass_of c.args.self.now.rows c.args.self.now.gone.items)
-    ((form_there c.args.self.now.rows c.args.at (Some c.in-Some.row) c.linear_form.new.out.items c.in_ok-linear_form.field-0 (sym c.in-Some.is ∙ c.get.ensures) c.in_ok-linear_form.ensures c.if-not-branch.false) ∙ ap Some (nil_of c.linear_form.new.out.items none)))
+    let form = form_there c.args.self.now.state.pass.rows c.args.at (Some c.in-Some.row) c.linear_form.new.out.items c.in_ok-linear_form.field-0 (sym c.in-Some.is ∙ c.get.ensures.row) c.in_ok-linear_form.ensures c.if-not-branch.false in
+    c.remove.ensures
+    ∙ ap (λ p. record { publics = c.args.self.now.state.publics; pass = p })
+    (sym (turn-empty c.args.self.now.state.publics c.args.at c.args.self.now.state.pass (form ∙ ap Some (nil_of c.linear_form.new.out.items none))))
 
-pub returns-then-wire-self-clause-pass : goal.returns-then-wire-self-clause-pass
-returns-then-wire-self-clause-pass c =
-    let n : c.len.result ≡ length c.linear_form.new.out.items = omega arith in
-    let some : 0 < length c.linear_form.new.out.items = grind arith in
-    sym (turn-public c.args.self.now.publics c.args.at c.index.result.now (pass_of c.args.self.now.rows c.args.self.now.gone.items) c.linear_form.new.out.items some
-    (form_there c.args.self.now.rows c.args.at (Some c.in-Some.row) c.linear_form.new.out.items c.in_ok-linear_form.field-0 (sym c.in-Some.is ∙ c.get.ensures) c.in_ok-linear_form.ensures c.if-not-branch.false)
-    (last_at c.linear_form.new.out.items c.len.result c.index.result.now n c.index.ensures) (omega (arith, c.wire.view_is)))
+pub returns-then-wire-publics : goal.returns-then-wire-publics
+returns-then-wire-publics c =
+    let w = (goal.at.returns-then-wire-publics c).After-wire in
+    staged c.args.self.now.state _ (turn-public c.args.self.now.state.publics c.args.at c.index.result.now c.args.self.now.state.pass c.linear_form.new.out.items (some w) (says w) (last w)
+    (omega (arith, c.wire.view_is, c.publics.ensures, c.if-wire-publics.true)))
 
 pub solve-requires-clause-normal : goal.solve-requires-clause-normal
-solve-requires-clause-normal c =
-    subst (IsNormalFrom 0) (sym c.deref.ensures.value) (form-normal (get_or c.args.self.now.rows c.args.at None) c.linear_form.new.out.items (form_there c.args.self.now.rows c.args.at (Some c.in-Some.row) c.linear_form.new.out.items c.in_ok-linear_form.field-0 (sym c.in-Some.is ∙ c.get.ensures) c.in_ok-linear_form.ensures c.if-not-branch.false))
+solve-requires-clause-normal c = subst (IsNormalFrom 0) (sym c.deref.ensures.value) (form_is (goal.at.solve-requires-clause-normal c).After-wire)
 
 pub solve-requires-clause-apart : goal.solve-requires-clause-apart
-solve-requires-clause-apart c =
-    let n : c.len.result ≡ length c.linear_form.new.out.items = omega arith in
-    let some : 0 < length c.linear_form.new.out.items = grind arith in
-    (last-own c.index.result.now c.linear_form.new.out.items (form-normal (get_or c.args.self.now.rows c.args.at None) c.linear_form.new.out.items (form_there c.args.self.now.rows c.args.at (Some c.in-Some.row) c.linear_form.new.out.items c.in_ok-linear_form.field-0 (sym c.in-Some.is ∙ c.get.ensures) c.in_ok-linear_form.ensures c.if-not-branch.false)) some (last_at c.linear_form.new.out.items c.len.result c.index.result.now n c.index.ensures)).0
+solve-requires-clause-apart c = (own (goal.at.solve-requires-clause-apart c).After-wire).0
 
 pub solve-requires-clause-of : goal.solve-requires-clause-of
-solve-requires-clause-of c =
-    let n : c.len.result ≡ length c.linear_form.new.out.items = omega arith in
-    let some : 0 < length c.linear_form.new.out.items = grind arith in
-    (last-own c.index.result.now c.linear_form.new.out.items (form-normal (get_or c.args.self.now.rows c.args.at None) c.linear_form.new.out.items (form_there c.args.self.now.rows c.args.at (Some c.in-Some.row) c.linear_form.new.out.items c.in_ok-linear_form.field-0 (sym c.in-Some.is ∙ c.get.ensures) c.in_ok-linear_form.ensures c.if-not-branch.false)) some (last_at c.linear_form.new.out.items c.len.result c.index.result.now n c.index.ensures)).2 ∙ ap (coefficient c.index.result.now.1) (sym c.deref.ensures.value)
+solve-requires-clause-of c = (own (goal.at.solve-requires-clause-of c).After-wire).2 ∙ ap (coefficient c.index.result.now.1) (sym c.deref.ensures.value)
+
+pub eliminate-requires-clause-here : goal.eliminate-requires-clause-here
+eliminate-requires-clause-here c =
+    let w = (goal.at.eliminate-requires-clause-here c).After-wire in
+    there w c.index.result.now.1 (omega (arith, c.wire.view_is, c.publics.ensures, c.if-wire-publics.false))
+    (wire-there c.index.result.now.1 (get_or c.args.self.now.state.pass.rows c.args.at None) c.linear_form.new.out.items (says w) (own w).1)
 
 pub eliminate-requires-clause-by : goal.eliminate-requires-clause-by
-eliminate-requires-clause-by c = subst (IsNormalFrom 0) (sym (c.in_ok-solve.ensures ∙ ap (solved c.index.result.now.1) c.deref.ensures.value)) (solved-normal c.index.result.now.1 c.linear_form.new.out.items)
+eliminate-requires-clause-by c = subst (IsNormalFrom 0) (sym (solution (goal.at.eliminate-requires-clause-by c).In_ok-solve)) (solved-normal c.index.result.now.1 c.linear_form.new.out.items)
 
 pub eliminate-requires-clause-lacks : goal.eliminate-requires-clause-lacks
-eliminate-requires-clause-lacks c = ap (has_wire c.index.result.now.1) (c.in_ok-solve.ensures ∙ ap (solved c.index.result.now.1) c.deref.ensures.value) ∙ solved-lacks c.index.result.now.1 c.linear_form.new.out.items
+eliminate-requires-clause-lacks c = ap (has_wire c.index.result.now.1) (solution (goal.at.eliminate-requires-clause-lacks c).In_ok-solve) ∙ solved-lacks c.index.result.now.1 c.linear_form.new.out.items
 
-pub eliminate-requires-clause-from : goal.eliminate-requires-clause-from
-eliminate-requires-clause-from c =
-    λ w has. solved-wires c.index.result.now.1 (get_or c.args.self.now.rows c.args.at None) c.linear_form.new.out.items (form_there c.args.self.now.rows c.args.at (Some c.in-Some.row) c.linear_form.new.out.items c.in_ok-linear_form.field-0 (sym c.in-Some.is ∙ c.get.ensures) c.in_ok-linear_form.ensures c.if-not-branch.false) w (ap (has_wire w) (sym (c.in_ok-solve.ensures ∙ ap (solved c.index.result.now.1) c.deref.ensures.value)) ∙ has)
+pub eliminate-requires-clause-below : goal.eliminate-requires-clause-below
+eliminate-requires-clause-below c = λ v above has.
+    let w = (goal.at.eliminate-requires-clause-below c).After-wire in
+    there w v above (solved-wires c.index.result.now.1 (get_or c.args.self.now.state.pass.rows c.args.at None) c.linear_form.new.out.items (says w) v (ap (has_wire v) (sym (solution (goal.at.eliminate-requires-clause-below c).In_ok-solve)) ∙ has))
 
-pub eliminate-requires-clause-there : goal.eliminate-requires-clause-there
-eliminate-requires-clause-there c =
-    let n : c.len.result ≡ length c.linear_form.new.out.items = omega arith in
-    let some : 0 < length c.linear_form.new.out.items = grind arith in
-    wire-there c.index.result.now.1 (get_or c.args.self.now.rows c.args.at None) c.linear_form.new.out.items (form_there c.args.self.now.rows c.args.at (Some c.in-Some.row) c.linear_form.new.out.items c.in_ok-linear_form.field-0 (sym c.in-Some.is ∙ c.get.ensures) c.in_ok-linear_form.ensures c.if-not-branch.false) (last-own c.index.result.now c.linear_form.new.out.items (form-normal (get_or c.args.self.now.rows c.args.at None) c.linear_form.new.out.items (form_there c.args.self.now.rows c.args.at (Some c.in-Some.row) c.linear_form.new.out.items c.in_ok-linear_form.field-0 (sym c.in-Some.is ∙ c.get.ensures) c.in_ok-linear_form.ensures c.if-not-branch.false)) some (last_at c.linear_form.new.out.items c.len.result c.index.result.now n c.index.ensures)).1
-
-pub returns-clause-pass : goal.returns-clause-pass
-returns-clause-pass c =
-    let n : c.len.result ≡ length c.linear_form.new.out.items = omega arith in
-    let some : 0 < length c.linear_form.new.out.items = grind arith in
-    let above : c.args.self.now.publics ≤ c.index.result.now.1 = omega (arith, c.wire.view_is) in
-    on_ok_weaker c.eliminate.result (λ pass. pass
-    ∙ ap (λ r. attempted c.index.result.now.1 r (dropped c.args.at (pass_of c.args.self.now.rows c.args.self.now.gone.items)) (pass_of c.args.self.now.rows c.args.self.now.gone.items)) (c.in_ok-solve.ensures ∙ ap (solved c.index.result.now.1) c.deref.ensures.value)
-    ∙ sym (turn-private c.args.self.now.publics c.args.at c.index.result.now (pass_of c.args.self.now.rows c.args.self.now.gone.items) c.linear_form.new.out.items some
-    (form_there c.args.self.now.rows c.args.at (Some c.in-Some.row) c.linear_form.new.out.items c.in_ok-linear_form.field-0 (sym c.in-Some.is ∙ c.get.ensures) c.in_ok-linear_form.ensures c.if-not-branch.false)
-    (last_at c.linear_form.new.out.items c.len.result c.index.result.now n c.index.ensures) above)) c.eliminate.ensures.pass
+pub returns : goal.returns
+returns c =
+    let w = (goal.at.returns c).After-wire in
+    let state = c.args.self.now.state in
+    let above : state.publics ≤ c.index.result.now.1 = omega (arith, c.wire.view_is, c.publics.ensures, c.if-wire-publics.false) in
+    on_ok_weaker c.eliminate.result (λ new. new
+    ∙ ap (λ p. record { publics = state.publics; pass = p })
+    (ap (λ r. attempted c.index.result.now.1 r (dropped c.args.at state.pass) state.pass) (solution (goal.at.returns c).In_ok-solve)
+    ∙ sym (turn-private state.publics c.args.at c.index.result.now state.pass c.linear_form.new.out.items (some w) (says w) (last w) above))) c.eliminate.ensures

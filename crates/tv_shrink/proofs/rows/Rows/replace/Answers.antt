@@ -2,7 +2,7 @@ use Rattle.std.proofs.Common.{◌≡◌, None, Some, sym, ◌∙◌, ap, arith, 
 use Rattle.std.specs.Option.{option_map}
 use Rattle.tv_shrink.specs.Replacing.{replaced_in}
 use Rattle.tv_shrink.specs.Spans.{row_at, row_terms}
-use Rattle.tv_shrink.specs.declared.rows.Span.{Span}
+use Rattle.tv_shrink.specs.declared.arena.Span.{Span}
 use Rattle.tv_shrink.proofs.Laying.{held_at, laid_more, rows_laid}
 use Rattle.tv_shrink.proofs.Spans.{row_found}
 use Rattle.tv_shrink.proofs.rows.Rows.replace.Goals as goal
@@ -21,8 +21,8 @@ invariant_of-self-2 c =
     c.self.invariant c.self.view_is found.0 (held_at c.self.inside.spans.items c.args.at c.index.result.now c.in-Some.span found.0 c.index.ensures c.in-Some.is)
     put c.in_ok-start.ensures.free c.in_ok-start.ensures.puts (ap (λ (s : Span). let at : Span = record { start = c.in_ok-start.start; a = s.a; b = s.b; c = s.c } in at) made)).0
 
-pub returns : goal.returns
-returns c =
+pub returns-clause-replaces : goal.returns-clause-replaces
+returns-clause-replaces c =
     let f = row_at c.self.inside.terms.items in
     let found = row_found f c.self.inside.spans.items c.args.self.now c.args.at c.index.result.now c.self.view_is c.requires.inside c.index.ensures in
     let row = replaced_in c.args.wire c.args.replacement.now c.row-row.result in
