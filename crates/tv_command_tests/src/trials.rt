@@ -9,14 +9,17 @@ use tv_files::MemFiles;
 // The words of a trial; the steps, wires and constraints of its system, and its sum, as a reader of
 // the files that `build` and `witness` write for the same program tells it.
 const TRIALS: [(&str, [u64; 4]); 3] = [
-    ("trial 0 63", [64, 68_453, 75_239, 588_709_620_394_889_240]),
+    (
+        "trial 0 63",
+        [64, 42_405, 43_751, 8_456_464_668_782_517_470],
+    ),
     (
         "trial 0 64",
-        [65, 69_181, 76_073, 13_548_445_415_233_295_446],
+        [65, 42_790, 44_157, 3_458_697_785_488_810_411],
     ),
     (
         "trial 0 1023",
-        [1024, 1_261_669, 1_370_215, 1_774_630_863_165_115_192],
+        [1024, 812_133, 833_639, 7_947_521_144_264_278_364],
     ),
 ];
 

@@ -22,22 +22,22 @@ use Rattle.tv_layout.specs.Places.{WithinLimits, tape_at}
 use Rattle.tv_layout.specs.Systems.{system_of}
 use Rattle.tv_extract.specs.Extracting.{◌>>=◌, word_at, words_at, answering, run_in}
 use Rattle.tv_extract.specs.Runs.{IsRunOf, ExtractedIsRun, HasRunIn, SatisfyingHaveRuns}
-use Rattle.tv_extract.specs.declared.run.ExtractFault.{ExtractFault}
+use Rattle.tv_extract.specs.declared.run.NotRun.{NotRun}
 use Rattle.tv_extract.specs.declared.run.Run.{Run}
 
 -- ---- chains of answers
-then_ok : {A B : Type 0} (first : Result A ExtractFault) (f : A → Result B ExtractFault) (b : B) → (first >>= f) ≡ Ok b → (a : A) × (first ≡ Ok a) × (f a ≡ Ok b)
+then_ok : {A B : Type 0} (first : Result A NotRun) (f : A → Result B NotRun) (b : B) → (first >>= f) ≡ Ok b → (a : A) × (first ≡ Ok a) × (f a ≡ Ok b)
 then_ok (Ok a) f b e = (a, refl, e)
 then_ok (Err fault) f b e = absurd cc
 
-then_of : {A B : Type 0} (first : Result A ExtractFault) (f : A → Result B ExtractFault) (a : A) → first ≡ Ok a → (first >>= f) ≡ f a
+then_of : {A B : Type 0} (first : Result A NotRun) (f : A → Result B NotRun) (a : A) → first ≡ Ok a → (first >>= f) ≡ f a
 then_of first f a e = ap (λ r. r >>= f) e
 
-abbrev SameOk : {A : Type 0} → Result A ExtractFault → A → Type 0
+abbrev SameOk : {A : Type 0} → Result A NotRun → A → Type 0
 SameOk (Ok a) b = a ≡ b
 SameOk (Err fault) b = Unit {0}
 
-ok_same : {A : Type 0} (a b : A) (first : Result A ExtractFault) → first ≡ Ok a → first ≡ Ok b → a ≡ b
+ok_same : {A : Type 0} (a b : A) (first : Result A NotRun) → first ≡ Ok a → first ≡ Ok b → a ≡ b
 ok_same a b first e f = subst (λ r. SameOk r b) e (subst (λ r. SameOk r b) (sym f) refl)
 
 -- ---- words at wires
@@ -50,7 +50,7 @@ word_ok w z wire v e = by_test (nat_lt (slice_index z wire) (2 ^ w)) refl
         let is : v ≡ slice_index z wire = ok_same v (slice_index z wire) (word_at w z wire) e same in
         (is, subst (λ u. u < 2 ^ w) (sym is) (ltb-true (slice_index z wire) (2 ^ w) test))
     by_test false test =
-        let other : word_at w z wire ≡ Err (ExtractFault.WideWire wire) = rw test refl in
+        let other : word_at w z wire ≡ Err (NotRun.WideWire wire) = rw test refl in
         absurd cc
 
 word_is : (w : ℕ) (z : List ℕ) (wire : ℕ) → slice_index z wire < 2 ^ w → word_at w z wire ≡ Ok (slice_index z wire)
@@ -97,7 +97,7 @@ answering_ok answer tape aux (ends.Answer v step) run e = by_test (v == answer) 
         let is : run ≡ record { answer = answer; tape = tape; aux = aux; step = step } = ok_same run _ (answering answer tape aux (ends.Answer v step)) e ok in
         rw is (ap (λ u. ends.Answer u step) same, refl, refl, refl)
     by_test false test =
-        let other : answering answer tape aux (ends.Answer v step) ≡ Err (ExtractFault.NotARun (ends.Answer v step)) = rw test refl in
+        let other : answering answer tape aux (ends.Answer v step) ≡ Err (NotRun.NotARun (ends.Answer v step)) = rw test refl in
         absurd cc
 answering_ok answer tape aux (ends.Undefined op step) run e = absurd cc
 answering_ok answer tape aux (ends.Silent steps) run e = absurd cc
@@ -112,24 +112,24 @@ pub words_small : (w : ℕ) (z wires words : List ℕ) → words_at w z wires �
 words_small w z wires words e = (words_ok w z wires words e).1
 
 module _ (w : ℕ) (net : Net) (image : List ℕ) (n t : ℕ) (z : List ℕ) where
-  pub run_miscounted : length z ≢ (system_of w net image n t).wires → run_in w net image n t z ≡ Err (ExtractFault.WireCount (length z) (system_of w net image n t).wires)
+  pub run_miscounted : length z ≢ (system_of w net image n t).wires → run_in w net image n t z ≡ Err (NotRun.WireCount (length z) (system_of w net image n t).wires)
   unfolding run_in
   run_miscounted other = by_test (length z == (system_of w net image n t).wires) refl
     where
-      by_test : (b : Bool) → (length z == (system_of w net image n t).wires) ≡ b → run_in w net image n t z ≡ Err (ExtractFault.WireCount (length z) (system_of w net image n t).wires)
+      by_test : (b : Bool) → (length z == (system_of w net image n t).wires) ≡ b → run_in w net image n t z ≡ Err (NotRun.WireCount (length z) (system_of w net image n t).wires)
       by_test true is = absurd (other (eqb-true (length z) (system_of w net image n t).wires is))
       by_test false is = rw is refl
 
-  pub run_wide : (fault : ExtractFault) → length z ≡ (system_of w net image n t).wires → word_at w z 1 ≡ Err fault → run_in w net image n t z ≡ Err fault
+  pub run_wide : (fault : NotRun) → length z ≡ (system_of w net image n t).wires → word_at w z 1 ≡ Err fault → run_in w net image n t z ≡ Err fault
   unfolding run_in
   run_wide fault many refused = rw (eq-eqb (length z) (system_of w net image n t).wires many, refused) refl
 
-  pub run_wide_tape : (answer : ℕ) (fault : ExtractFault) → length z ≡ (system_of w net image n t).wires → word_at w z 1 ≡ Ok answer
+  pub run_wide_tape : (answer : ℕ) (fault : NotRun) → length z ≡ (system_of w net image n t).wires → word_at w z 1 ≡ Ok answer
       → words_at w z (range_with_len tape_at n) ≡ Err fault → run_in w net image n t z ≡ Err fault
   unfolding run_in
   run_wide_tape answer fault many first refused = rw (eq-eqb (length z) (system_of w net image n t).wires many, first, refused) refl
 
-  pub run_wide_aux : (answer : ℕ) (tape : List ℕ) (fault : ExtractFault) → length z ≡ (system_of w net image n t).wires → word_at w z 1 ≡ Ok answer
+  pub run_wide_aux : (answer : ℕ) (tape : List ℕ) (fault : NotRun) → length z ≡ (system_of w net image n t).wires → word_at w z 1 ≡ Ok answer
       → words_at w z (range_with_len tape_at n) ≡ Ok tape → words_at w z (taken_wires (block_of w) w image n t z) ≡ Err fault → run_in w net image n t z ≡ Err fault
   unfolding run_in
   run_wide_aux answer tape fault many first second refused = rw (eq-eqb (length z) (system_of w net image n t).wires many, first, second, refused) refl
@@ -145,7 +145,7 @@ pub extracted_is_run : ExtractedIsRun
 unfolding run_in
 extracted_is_run w net image z n t run e = by_test (length z == (system_of w net image n t).wires) refl
   where
-    chain : Result Run ExtractFault
+    chain : Result Run NotRun
     chain =
         word_at w z 1
         >>= (λ answer. words_at w z (range_with_len tape_at n)
@@ -177,7 +177,7 @@ extracted_is_run w net image z n t run e = by_test (length z == (system_of w net
     by_test : (b : Bool) → (length z == (system_of w net image n t).wires) ≡ b → IsRunOf w image n t z run
     by_test true test = let same : run_in w net image n t z ≡ chain = rw test refl in of_chain (sym same ∙ e)
     by_test false test =
-        let other : run_in w net image n t z ≡ Err (ExtractFault.WireCount (length z) (system_of w net image n t).wires) = rw test refl in
+        let other : run_in w net image n t z ≡ Err (NotRun.WireCount (length z) (system_of w net image n t).wires) = rw test refl in
         absurd cc
 
 pub satisfying_have_runs : SatisfyingHaveRuns

@@ -3,14 +3,14 @@ use Rattle.std.proofs.Common.{◌≡◌, ◌≢◌, ℕ, zero, suc, ◌+◌, ◌
 use Rattle.std.proofs.lemmas.Bool.{eq-eqb, eqb-true}
 use Rattle.std.specs.Prelude.{◌==◌, slice_index}
 use Rattle.tv_block.specs.Block.{block_of}
-use Rattle.tv_block.specs.declared.records.Spot.{Spot}
+use Rattle.tv_parts.specs.declared.records.Spot.{Spot}
 use Rattle.tv_core.proofs.JoinedLaws.{joined_below-zero, joined_below-suc}
 use Rattle.tv_core.specs.Below.{joined_below}
 use Rattle.tv_layout.specs.Layout.{block_at, taken_wire, taken_wires}
 use Rattle.tv_layout.specs.Places.{boot_count, zero_wire_at, first_at}
 use Rattle.tv_extract.proofs.WordLaws.{words_then, words_refused}
 use Rattle.tv_extract.specs.Extracting.{word_at, words_at}
-use Rattle.tv_extract.specs.declared.run.ExtractFault.{ExtractFault}
+use Rattle.tv_extract.specs.declared.run.NotRun.{NotRun}
 
 -- joined lists up to n begin with those up to i
 data Begins (f : ℕ → List ℕ) (i n : ℕ) : Type 0 where
@@ -72,7 +72,7 @@ module _ (w : ℕ) (image : List ℕ) (n : ℕ) (z : List ℕ) where
       ap (words_at w z) (more_wires i spot is ∙ ap (λ l. taken_wires (block_of w) w image n i z ++ l) (takes_none z spot other) ∙ append-nil (taken_wires (block_of w) w image n i z)) ∙ before
 
   -- its word is wide
-  pub taken_refused : (i t : ℕ) (spot : Spot) (words : List ℕ) (fault : ExtractFault) → i < t → spot ≡ (block_at (block_of w) n (boot_count image n) (zero_wire_at w n) (first_at w n) i).spot
+  pub taken_refused : (i t : ℕ) (spot : Spot) (words : List ℕ) (fault : NotRun) → i < t → spot ≡ (block_at (block_of w) n (boot_count image n) (zero_wire_at w n) (first_at w n) i).spot
       → words_at w z (taken_wires (block_of w) w image n i z) ≡ Ok words → slice_index z spot.taken ≡ 1 → word_at w z spot.word ≡ Err fault
       → words_at w z (taken_wires (block_of w) w image n t z) ≡ Err fault
   unfolding taken_wires

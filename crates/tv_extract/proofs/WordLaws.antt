@@ -3,13 +3,13 @@ use Rattle.std.proofs.Common.{◌≡◌, ℕ, suc, ◌+◌, ◌-◌, ◌<◌, Li
 use Rattle.std.specs.List.{range_with_len}
 use Rattle.tv_core.proofs.BelowLaws.{range-more, range-append}
 use Rattle.tv_extract.specs.Extracting.{word_at, words_at}
-use Rattle.tv_extract.specs.declared.run.ExtractFault.{ExtractFault}
+use Rattle.tv_extract.specs.declared.run.NotRun.{NotRun}
 
 -- what is known of the rest of a list
 abbrev Then : ℕ → List ℕ → List ℕ → List ℕ → List ℕ → Type 0
 Then w z xs ys more = (rest : List ℕ) → words_at w z xs ≡ Ok rest → words_at w z (xs ++ ys) ≡ Ok (rest ++ more)
 
-abbrev Refused : ℕ → List ℕ → List ℕ → List ℕ → ExtractFault → Type 0
+abbrev Refused : ℕ → List ℕ → List ℕ → List ℕ → NotRun → Type 0
 Refused w z xs ys fault = (rest : List ℕ) → words_at w z xs ≡ Ok rest → words_at w z (xs ++ ys) ≡ Err fault
 
 pub words_then : (w : ℕ) (z xs ys words more : List ℕ) → words_at w z xs ≡ Ok words → words_at w z ys ≡ Ok more → words_at w z (xs ++ ys) ≡ Ok (words ++ more)
@@ -20,7 +20,7 @@ words_then w z [] ys words more e f = by_front words e
     by_front (v ∷ rest) e = absurd cc
 words_then w z (x ∷ xs) ys words more e f = by_word (word_at w z x) refl (λ rest rests. words_then w z xs ys rest more rests f)
   where
-    by_words : (v : ℕ) (rest : Result (List ℕ) ExtractFault) → word_at w z x ≡ Ok v → words_at w z xs ≡ rest → Then w z xs ys more → words_at w z (x ∷ xs ++ ys) ≡ Ok (words ++ more)
+    by_words : (v : ℕ) (rest : Result (List ℕ) NotRun) → word_at w z x ≡ Ok v → words_at w z xs ≡ rest → Then w z xs ys more → words_at w z (x ∷ xs ++ ys) ≡ Ok (words ++ more)
     by_words v (Ok rest) is rests later =
         let whole : words_at w z (x ∷ xs) ≡ Ok (v ∷ rest) = rw (is, rests) refl in
         let same : v ∷ rest ≡ words = cc in
@@ -29,24 +29,24 @@ words_then w z (x ∷ xs) ys words more e f = by_word (word_at w z x) refl (λ r
         let whole : words_at w z (x ∷ xs) ≡ Err fault = rw (is, rests) refl in
         absurd cc
 
-    by_word : (first : Result ℕ ExtractFault) → word_at w z x ≡ first → Then w z xs ys more → words_at w z (x ∷ xs ++ ys) ≡ Ok (words ++ more)
+    by_word : (first : Result ℕ NotRun) → word_at w z x ≡ first → Then w z xs ys more → words_at w z (x ∷ xs ++ ys) ≡ Ok (words ++ more)
     by_word (Ok v) is later = by_words v (words_at w z xs) is refl later
     by_word (Err fault) is later =
         let whole : words_at w z (x ∷ xs) ≡ Err fault = rw is refl in
         absurd cc
 
-pub words_refused : (w : ℕ) (z xs ys : List ℕ) (wire : ℕ) (words : List ℕ) (fault : ExtractFault) → words_at w z xs ≡ Ok words → word_at w z wire ≡ Err fault
+pub words_refused : (w : ℕ) (z xs ys : List ℕ) (wire : ℕ) (words : List ℕ) (fault : NotRun) → words_at w z xs ≡ Ok words → word_at w z wire ≡ Err fault
     → words_at w z (xs ++ wire ∷ ys) ≡ Err fault
 words_refused w z [] ys wire words fault e refused = rw refused refl
 words_refused w z (x ∷ xs) ys wire words fault e refused = by_word (word_at w z x) refl (λ rest rests. words_refused w z xs ys wire rest fault rests refused)
   where
-    by_words : (v : ℕ) (rest : Result (List ℕ) ExtractFault) → word_at w z x ≡ Ok v → words_at w z xs ≡ rest → Refused w z xs (wire ∷ ys) fault → words_at w z (x ∷ xs ++ wire ∷ ys) ≡ Err fault
+    by_words : (v : ℕ) (rest : Result (List ℕ) NotRun) → word_at w z x ≡ Ok v → words_at w z xs ≡ rest → Refused w z xs (wire ∷ ys) fault → words_at w z (x ∷ xs ++ wire ∷ ys) ≡ Err fault
     by_words v (Ok rest) is rests later = rw (is, later rest rests) refl
     by_words v (Err other) is rests later =
         let whole : words_at w z (x ∷ xs) ≡ Err other = rw (is, rests) refl in
         absurd cc
 
-    by_word : (first : Result ℕ ExtractFault) → word_at w z x ≡ first → Refused w z xs (wire ∷ ys) fault → words_at w z (x ∷ xs ++ wire ∷ ys) ≡ Err fault
+    by_word : (first : Result ℕ NotRun) → word_at w z x ≡ first → Refused w z xs (wire ∷ ys) fault → words_at w z (x ∷ xs ++ wire ∷ ys) ≡ Err fault
     by_word (Ok v) is later = by_words v (words_at w z xs) is refl later
     by_word (Err other) is later =
         let whole : words_at w z (x ∷ xs) ≡ Err other = rw is refl in
@@ -63,7 +63,7 @@ row_more w z first n words v e is =
     ∙ ap (words_at w z) (range-more first n)
     ∙ words_then w z (range_with_len first n) ((first + n) ∷ []) words (v ∷ []) e (one_word w z (first + n) v is)
 
-pub row_refused : (w : ℕ) (z : List ℕ) (first n i : ℕ) (words : List ℕ) (fault : ExtractFault) → i < n → words_at w z (range_with_len first i) ≡ Ok words
+pub row_refused : (w : ℕ) (z : List ℕ) (first n i : ℕ) (words : List ℕ) (fault : NotRun) → i < n → words_at w z (range_with_len first i) ≡ Ok words
     → word_at w z (first + i) ≡ Err fault → words_at w z (range_with_len first n) ≡ Err fault
 row_refused w z first n i words fault within e refused =
     let more : n ≡ i + suc (n - i - 1) = omega arith in

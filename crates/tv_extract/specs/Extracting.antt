@@ -1,5 +1,5 @@
 -- The run that an assignment of a program's system has, whether or not it satisfies the system.
-use Rattle.std.specs.Prelude.{ℕ, ◌^◌, ◌==◌, nat_lt, if◌then◌else◌, List, [], ◌∷◌, length, slice_index, Result, Ok, Err}
+use Rattle.std.specs.Prelude.{◌≡◌, ℕ, ◌^◌, ◌==◌, nat_lt, if◌then◌else◌, List, [], ◌∷◌, length, slice_index, Result, Ok, Err}
 use Rattle.std.specs.List.{range_with_len}
 use Rattle.tv_benes.specs.declared.shape.Net.{Net}
 use Rattle.tv_block.specs.Block.{block_of}
@@ -10,25 +10,27 @@ use Rattle.tv_layout.specs.Layout.{taken_wires}
 use Rattle.tv_layout.specs.Places.{tape_at}
 use Rattle.tv_layout.specs.Systems.{system_of}
 use Rattle.tv_extract.specs.declared.run.ExtractFault.{ExtractFault}
-use Rattle.tv_extract.specs.declared.run.ExtractFault.TheVariants.{WireCount, WideWire, NotARun}
+use Rattle.tv_extract.specs.declared.run.ExtractFault.TheVariants.{NoRun, Memory}
+use Rattle.tv_extract.specs.declared.run.NotRun.{NotRun}
+use Rattle.tv_extract.specs.declared.run.NotRun.TheVariants.{WireCount, WideWire, NotARun}
 use Rattle.tv_extract.specs.declared.run.Run.{Run}
 
 infixl 10 ◌>>=◌
-abbrev pub ◌>>=◌ : {A B : Type 0} → Result A ExtractFault → (A → Result B ExtractFault) → Result B ExtractFault
+abbrev pub ◌>>=◌ : {A B : Type 0} → Result A NotRun → (A → Result B NotRun) → Result B NotRun
 (Ok x) >>= f = f x
 (Err fault) >>= f = Err fault
 
 -- the word at a wire, which is refused where the number there is wide: none of w bits
-abbrev pub word_at : ℕ → List ℕ → ℕ → Result ℕ ExtractFault
+abbrev pub word_at : ℕ → List ℕ → ℕ → Result ℕ NotRun
 word_at w z wire = if nat_lt (slice_index z wire) (2 ^ w) then Ok (slice_index z wire) else Err (WideWire wire)
 
 -- those at wires, where none is wide; else the first that is
-abbrev pub words_at : ℕ → List ℕ → List ℕ → Result (List ℕ) ExtractFault
+abbrev pub words_at : ℕ → List ℕ → List ℕ → Result (List ℕ) NotRun
 words_at w z [] = Ok []
 words_at w z (wire ∷ wires) = word_at w z wire >>= (λ word. words_at w z wires >>= (λ words. Ok (word ∷ words)))
 
 -- a run that ends so, and has to answer a word
-abbrev pub answering : ℕ → List ℕ → List ℕ → End → Result Run ExtractFault
+abbrev pub answering : ℕ → List ℕ → List ℕ → End → Result Run NotRun
 answering answer tape aux (ends.Answer v step) =
     if v == answer then Ok (record { answer = answer; tape = tape; aux = aux; step = step }) else Err (NotARun (ends.Answer v step))
 answering answer tape aux (ends.Undefined op step) = Err (NotARun (ends.Undefined op step))
@@ -36,7 +38,7 @@ answering answer tape aux (ends.Silent steps) = Err (NotARun (ends.Silent steps)
 
 -- the run on the words at the public wires and those that are taken: first the number of values is compared with
 -- the wires, then each of these words is looked at, and then the machine has to answer the word at wire 1
-unfoldable pub run_in : ℕ → Net → List ℕ → ℕ → ℕ → List ℕ → Result Run ExtractFault
+unfoldable pub run_in : ℕ → Net → List ℕ → ℕ → ℕ → List ℕ → Result Run NotRun
 run_in w net image n t z =
     if length z == (system_of w net image n t).wires
     then (word_at w z 1
@@ -44,3 +46,8 @@ run_in w net image n t z =
     >>= (λ tape. words_at w z (taken_wires (block_of w) w image n t z)
     >>= (λ aux. answering answer tape aux (end_of w t (start w image tape aux))))))
     else Err (WireCount (length z) (system_of w net image n t).wires)
+
+-- what an extraction is refused for: what is due is refused for that, or memory was wanting
+abbrev pub IsFaultOf : {A : Type 0} → Result A NotRun → ExtractFault → Type 0
+IsFaultOf due (NoRun why) = due ≡ Err why
+IsFaultOf due Memory = Unit {0}

@@ -1,15 +1,14 @@
 //! The run that an assignment has, or what is wrong first.
-ghost use Rattle.std.specs.Prelude.{◌≡◌, ◌⊎◌, ◌*◌, ◌/◌, ◌<◌, ◌≤◌, ◌^◌, length};
-ghost use Rattle.std.specs.Prelude.{slice_index, Ok, Err, IfOk, IfErr};
+ghost use Rattle.std.specs.Prelude.{◌≡◌, ◌*◌, ◌/◌, ◌<◌, ◌≤◌, ◌^◌, length};
+ghost use Rattle.std.specs.Prelude.{slice_index, Ok, IfOk, IfErr};
 ghost use Rattle.std.specs.List.{range_with_len};
 ghost use Rattle.tv_block.specs.Block.{block_of};
 ghost use Rattle.tv_layout.specs.Layout.{taken_wires};
 ghost use Rattle.tv_layout.specs.Places.{WithinLimits, tape_at};
 ghost use Rattle.tv_word.specs.Widths.{IsWidth};
-ghost use Rattle.tv_extract.specs.Extracting.{word_at, words_at, run_in, answering};
-ghost use Rattle.tv_extract.specs.declared.run.ExtractFault.TheVariants.{Memory};
+ghost use Rattle.tv_extract.specs.Extracting.{word_at, words_at, run_in, answering, IsFaultOf};
 
-use crate::run::{ExtractFault, Run};
+use crate::run::{ExtractFault, NotRun, Run};
 use std::alloc::Global;
 use tv_benes::Net;
 use tv_core::{F, Wire};
@@ -38,20 +37,19 @@ pub fn extract<const W: u32>(
     requires fits { WithinLimits W image.now n t }
     requires image { length image.now * (W / 8) ≤ 2 ^ W }
     ensures run { IfOk result (λ run. run_in W net image.now n t values.now ≡ Ok run) }
-    ensures fault { IfErr result (λ fault. (fault ≡ Memory)
-        ⊎ (run_in W net image.now n t values.now ≡ Err fault)) }
+    ensures fault { IfErr result (IsFaultOf (run_in W net image.now n t values.now)) }
 {
     let wants = u64::from(sizes::<W>(image, n, t, net).wires);
     let has = values.len() as u64;
     if has != wants {
-        return Err(ExtractFault::WireCount { has, wants });
+        return Err(ExtractFault::NoRun(NotRun::WireCount { has, wants }));
     }
     let answer = word::<W>(values, ANSWER)?;
     let tape = tape_words::<W>(alloc, n, values)?;
     let aux = taken_words::<W>(alloc, image, n, t, net, values)?;
     let mut machine = Machine::<W>::start_on(alloc, image, tape.as_slice(), aux.as_slice())?;
     let end = machine.run(u64::from(t))?;
-    answering(answer, tape, aux, end)
+    Ok(answering(answer, tape, aux, end)?)
 }
 
 // The number at a wire, 0 where there is none.
@@ -62,7 +60,7 @@ fn number(values: &[F], wire: Wire) -> F
 }
 
 // The word at a wire.
-fn word<const W: u32>(values: &[F], wire: Wire) -> Result<u32, ExtractFault>
+fn word<const W: u32>(values: &[F], wire: Wire) -> Result<u32, NotRun>
     requires width { IsWidth W }
     ensures is { result ≡ word_at W values.now wire }
 {
@@ -70,7 +68,7 @@ fn word<const W: u32>(values: &[F], wire: Wire) -> Result<u32, ExtractFault>
     if number < 1 << W {
         Ok(number as u32)
     } else {
-        Err(ExtractFault::WideWire {
+        Err(NotRun::WideWire {
             at: u64::from(wire.0),
         })
     }
@@ -83,8 +81,7 @@ fn tape_words<const W: u32>(alloc: Global, n: u32, values: &[F]) -> Result<Words
     requires few { n < 2 ^ 29 }
     ensures words { IfOk result (λ words. words_at W values.now (range_with_len tape_at n)
         ≡ Ok words) }
-    ensures fault { IfErr result (λ fault. (fault ≡ Memory)
-        ⊎ (words_at W values.now (range_with_len tape_at n) ≡ Err fault)) }
+    ensures fault { IfErr result (IsFaultOf (words_at W values.now (range_with_len tape_at n))) }
 {
     let mut words = Words::new(alloc);
     for i in 0..n {
@@ -106,9 +103,8 @@ fn taken_words<const W: u32>(
     requires fits { WithinLimits W image.now n t }
     ensures words { IfOk result (λ words. words_at W values.now
         (taken_wires (block_of W) W image.now n t values.now) ≡ Ok words) }
-    ensures fault { IfErr result (λ fault. (fault ≡ Memory)
-        ⊎ (words_at W values.now (taken_wires (block_of W) W image.now n t values.now)
-        ≡ Err fault)) }
+    ensures fault { IfErr result (IsFaultOf
+        (words_at W values.now (taken_wires (block_of W) W image.now n t values.now))) }
 {
     let mut words = Words::new(alloc);
     for step in 0..t {
@@ -121,7 +117,7 @@ fn taken_words<const W: u32>(
 }
 
 // The run that ends so, where it answers the word.
-fn answering(answer: u32, tape: Words, aux: Words, end: End) -> Result<Run, ExtractFault>
+fn answering(answer: u32, tape: Words, aux: Words, end: End) -> Result<Run, NotRun>
     ensures { result ≡ answering answer tape aux end }
 {
     match end {
@@ -131,6 +127,6 @@ fn answering(answer: u32, tape: Words, aux: Words, end: End) -> Result<Run, Extr
             aux,
             step,
         }),
-        _ => Err(ExtractFault::NotARun { end }),
+        _ => Err(NotRun::NotARun { end }),
     }
 }

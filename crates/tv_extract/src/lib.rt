@@ -9,4 +9,4 @@ mod run;
 
 pub use extracting::extract;
 pub use laws::{extracted_are_runs, satisfying_have_runs};
-pub use run::{ExtractFault, Run};
+pub use run::{ExtractFault, NotRun, Run};

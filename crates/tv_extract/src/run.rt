@@ -1,6 +1,6 @@
 //! Runs that answer, and why an assignment has none.
 ghost use Rattle.std.specs.Prelude.{◌≡◌};
-ghost use Rattle.tv_extract.specs.declared.run.ExtractFault.TheVariants.{Memory};
+ghost use Rattle.tv_extract.specs.declared.run.ExtractFault.TheVariants.{NoRun, Memory};
 
 use std::alloc::AllocError;
 use thiserror::Error;
@@ -23,7 +23,7 @@ pub struct Run {
 
 /// Why an assignment has no run.
 #[derive(Clone, Copy, PartialEq, Eq, Debug, Error)]
-pub enum ExtractFault {
+pub enum NotRun {
     /// It has `has` values, and the system `wants` wires.
     #[error("{has} wires, {wants} wanted")]
     WireCount { has: u64, wants: u64 },
@@ -33,9 +33,25 @@ pub enum ExtractFault {
     /// The run on its tapes doesn't answer the word at wire 1; this is how it ends.
     #[error("no run")]
     NotARun { end: End },
+}
+
+/// Why no run was extracted.
+#[derive(Clone, Copy, PartialEq, Eq, Debug, Error)]
+pub enum ExtractFault {
+    /// The assignment has none.
+    #[error("{0}")]
+    NoRun(NotRun),
     /// Memory was wanting.
     #[error("out of memory")]
     Memory,
+}
+
+impl From<NotRun> for ExtractFault {
+    ghost from_gives = { λ why fault. fault ≡ NoRun why };
+
+    fn from(why: NotRun) -> ExtractFault {
+        ExtractFault::NoRun(why)
+    }
 }
 
 impl From<AllocError> for ExtractFault {

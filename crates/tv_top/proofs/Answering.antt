@@ -1,7 +1,7 @@
 -- What a call promises, from what reading found, from writing and from saying a line.
 use Rattle.std.proofs.Common.{◌≡◌, ◌≢◌, ℕ, ◌⊎◌, ◌≤◌, Bool, false, List, [], ◌∷◌, ◌++◌, take, Option, Some, None, option_map, true, Result, Ok, Err, inl, inr, refl, sym, ap, ◌∙◌, arith, rules}
 use Rattle.std.specs.Prelude.{IfOk, IsErrAnd, MatchResult}
-use Rattle.tv_top.proofs.Common.{Names, Outside, OnlyWrites, Rose, Amount, Bad, Ending, Refused, Stopped, Finished, Finish, Quantity, Refusal, Stop, Fault, Memory, Contents, Size, What, Status, words_of, MayStop, quantities_of, IsOfWords, ChangedAt, IsSaid, Answers, Content, bytes_in, AreRead, files_with, IsCutAt, IsCutInWriting, Said, SaidPart, Ends, IsConcluded, Concludes, Writes, IsCut, Completes, Does, ending_of, IsOneOf, IsFound, Finds, Leaves, IsQuiet, IsUntouched, SameCounts, Named, Look, Outcome, Plan, Answer, files_of, answer_of, ending_by, comes_by, writes_by, MayEnd, quantity_what, size_what, bad_status, refusal_status, stop_status, finish_status, ending_status}
+use Rattle.tv_top.proofs.Common.{Names, Outside, OnlyWrites, Rose, Amount, Bad, Ending, Refused, Stopped, Finished, Finish, Quantity, Refusal, Stop, Fault, Memory, Contents, Size, What, Status, words_of, MayStop, quantities_of, IsOfWords, ChangedAt, IsSaid, Answers, Content, bytes_in, AreRead, files_with, IsCutAt, IsCutInWriting, Said, SaidPart, Ends, IsConcluded, Concludes, Writes, IsCut, Completes, Does, ending_of, IsOneOf, IsFound, Finds, Leaves, IsQuiet, SameCounts, Named, Look, Outcome, Plan, Answer, files_of, answer_of, ending_by, comes_by, writes_by, MayEnd, quantity_what, size_what, bad_status, refusal_status, stop_status, finish_status, ending_status}
 use Rattle.tv_top.specs.declared.refusal.Bad.TheVariants as bad
 use Rattle.tv_top.specs.declared.refusal.Finish.TheVariants as finishes
 use Rattle.tv_top.specs.declared.refusal.Quantity.TheVariants as quantity

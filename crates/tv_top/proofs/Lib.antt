@@ -25,4 +25,3 @@ pub mod ComesBack
 pub mod TapesComeBack
 pub mod TextFaults
 pub mod TapeFaults
-pub mod RunFaults

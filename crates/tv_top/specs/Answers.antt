@@ -5,7 +5,7 @@ use Rattle.tv_word.specs.Counts.{Rose}
 use Rattle.tv_top.specs.declared.refusal.Ending.{Ending}
 use Rattle.tv_top.specs.declared.refusal.Ending.TheVariants.{Refused, Stopped, Finished}
 use Rattle.tv_top.specs.declared.refusal.Finish.{Finish}
-use Rattle.tv_top.specs.declared.place.Amount.{Amount}
+use Rattle.tv_top.specs.declared.amount.Amount.{Amount}
 use Rattle.tv_top.specs.declared.refusal.Bad.TheVariants as bad
 use Rattle.tv_top.specs.declared.refusal.Quantity.{Quantity}
 use Rattle.tv_top.specs.declared.refusal.Refusal.{Refusal}

@@ -10,7 +10,7 @@ use Rattle.tv_layout.specs.Reduces.{Reduces}
 use Rattle.tv_layout.specs.Systems.{system_of}
 use Rattle.tv_word.specs.Numeral.{numeral}
 use Rattle.tv_top.specs.declared.building.BuildArgs.{BuildArgs}
-use Rattle.tv_top.specs.declared.place.Amount.{Amount}
+use Rattle.tv_top.specs.declared.amount.Amount.{Amount}
 use Rattle.tv_top.specs.declared.programs.Program.{Program}
 use Rattle.tv_top.specs.declared.refusal.Bad.{Bad}
 use Rattle.tv_top.specs.declared.refusal.Finish.TheVariants.{Quiet}

@@ -1,4 +1,4 @@
--- `check SYSTEM WITNESS TAPE`: the verdict on a system, an assignment and public numbers.
+-- `check SYSTEM WITNESS PUBLIC`: the verdict on a system, an assignment and public numbers.
 use Rattle.std.specs.Prelude.{◌≡◌, ℕ, codes, List, [], ◌∷◌, Result, Ok}
 use Rattle.tv_check.specs.Meaning.{Tells}
 use Rattle.tv_check.specs.Verdict.{judge}

@@ -18,8 +18,8 @@ use Rattle.tv_top.specs.declared.refusal.Refusal.{Refusal}
 use Rattle.tv_top.specs.declared.refusal.Refusal.TheVariants as refusal
 use Rattle.tv_top.specs.declared.refusal.Stop.TheVariants as stop
 use Rattle.tv_top.specs.declared.refusal.Trial.{Trial}
-use Rattle.tv_top.specs.declared.status.NotRun.{NotRun}
-use Rattle.tv_top.specs.declared.status.NotRun.TheVariants as not_runs
+use Rattle.tv_extract.specs.declared.run.NotRun.{NotRun}
+use Rattle.tv_extract.specs.declared.run.NotRun.TheVariants as not_runs
 use Rattle.tv_top.specs.declared.status.What.{What}
 use Rattle.tv_top.specs.declared.status.What.TheVariants.{ImageWords, ImageBytes, TapeWords, AuxWords, TextBytes, SystemTerms, CombinationTerms, Steps, Draws}
 use Rattle.tv_top.specs.Status.{quantity_what, size_what}

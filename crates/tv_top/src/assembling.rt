@@ -9,9 +9,9 @@ ghost use Rattle.tv_top.specs.Plan.{input, named, refusal_of};
 ghost use Rattle.tv_top.specs.Programs.{image_bytes, image_of, program_sizes};
 
 use crate::bytes::limited_bytes;
-use crate::place::{Place, refusal_of};
+use crate::place::Place;
 use crate::programs::{Program, program_of};
-use crate::refusal::{Finish, Refusal, Size, Stop};
+use crate::refusal::{Finish, Refusal, Size, Stop, refusal_of};
 use crate::writing::write_bytes;
 use std::alloc::{AllocError, Global};
 use tv_core::limits::TEXT_BYTES;

@@ -1,50 +1,76 @@
 //! A program and an assignment of its system, each read and judged before the next, and the run
 //! that the assignment has.
-ghost use Rattle.std.specs.Prelude.{◌≡◌, ◌⊎◌, ◌≤◌, [], ◌∷◌, Ok, Err, IfOk, IfErr};
+ghost use Rattle.std.specs.Prelude.{◌≡◌, ◌≤◌, [], ◌∷◌, Ok, IfOk, IfErr};
 ghost use Rattle.tv_core.specs.declared.limits.TheConstants.{TAPE_WORDS, STEPS};
-ghost use Rattle.tv_extract.specs.declared.run.ExtractFault.TheVariants as faults;
-ghost use Rattle.tv_top.specs.Assigned.{assigned_in, assigned_of, assigned_run, not_run};
+ghost use Rattle.tv_extract.specs.Extracting.{IsFaultOf};
+ghost use Rattle.tv_top.specs.Assigned.{kept_in, kept_of, kept_run, not_run};
+ghost use Rattle.tv_top.specs.Building.{program_system};
 ghost use Rattle.tv_top.specs.Finds.{Finds};
 ghost use Rattle.tv_top.specs.Plan.{named};
 ghost use Rattle.tv_top.specs.Programs.{HasImage, program_sizes};
 
-use crate::containers::read_witness;
+use crate::containers::read_first_witness;
 use crate::place::Place;
 use crate::programs::{Program, Width, read_program};
 use crate::refusal::{Finish, Stop};
-use crate::status::NotRun;
 use std::alloc::Global;
 use tv_benes::Net;
-use tv_core::F;
-use tv_extract::{ExtractFault, Run, extract};
+use tv_extract::{ExtractFault, NotRun, Run, extract};
 use tv_files::Files;
+use tv_layout::sizes;
+use tv_wtns::FirstValues;
 
-/// A program, and an assignment of its system.
+/// A program, and of an assignment as many values as the program's system has wires.
 #[derive(Drop)]
 pub(crate) struct Assignment {
     pub(crate) program: Program,
-    pub(crate) values: Vec<F>,
+    pub(crate) first: FirstValues,
 }
 
-/// A program, and then an assignment of its system.
+/// How many wires the system of a program has.
+#[tactic(auto, unfolding(crate::specs::Building::program_system))]
+fn wires_of(program: &Program, n: u32, t: u32, net: Net) -> u32
+    requires image { HasImage program.now }
+    requires tape { n ≤ TAPE_WORDS }
+    requires some { 1 ≤ t }
+    requires few { t ≤ STEPS }
+    ensures { result ≡ (program_system net n t program.now).wires }
+{
+    let image = program.words.as_slice();
+    match program.width {
+        Width::Bits16 => sizes::<16>(image, n, t, net).wires,
+        Width::Bits32 => sizes::<32>(image, n, t, net).wires,
+    }
+}
+
+/// A program, and then an assignment, of whose values as many are kept as the program's system has
+/// wires.
 pub(crate) fn read_assigned<D: Files>(
     alloc: Global,
     files: &mut D,
     text: Place<'_>,
+    n: u32,
+    t: u32,
+    net: Net,
     witness: Place<'_>,
 ) -> Result<Assignment, Stop>
-    ensures found { Finds assigned_in (text.entry.word ∷ witness.entry.word ∷ []) program_sizes
-        (assigned_of (named text.entry) (named witness.entry))
+    requires tape { n ≤ TAPE_WORDS }
+    requires some { 1 ≤ t }
+    requires few { t ≤ STEPS }
+    ensures found { Finds kept_in (text.entry.word ∷ witness.entry.word ∷ []) program_sizes
+        (kept_of net n t (named text.entry) (named witness.entry))
         (D.seen files.old) (D.seen files.new) result }
     ensures fits { IfOk result (λ assigned. HasImage assigned.program) }
 {
     let program = read_program(alloc, files, text)?;
-    let values = read_witness(alloc, files, witness)?;
-    Ok(Assignment { program, values })
+    let wires = wires_of(&program, n, t, net);
+    let first = read_first_witness(alloc, files, witness, wires)?;
+    Ok(Assignment { program, first })
 }
 
-/// The run that an assignment has.
-#[tactic(auto, unfolding(crate::specs::Assigned::assigned_run))]
+/// The run that an assignment has, or why it has none: first of all because it has more values than
+/// the program's system has wires, or fewer.
+#[tactic(auto, using(crate::proofs::AssignedLaws::kept))]
 pub(crate) fn run_of(
     alloc: Global,
     assigned: &Assignment,
@@ -56,13 +82,19 @@ pub(crate) fn run_of(
     requires tape { n ≤ TAPE_WORDS }
     requires some { 1 ≤ t }
     requires few { t ≤ STEPS }
-    ensures run { IfOk result (λ run.
-        assigned_run net n t (assigned_in assigned.now) ≡ Ok run) }
-    ensures fault { IfErr result (λ fault. (fault ≡ faults.Memory)
-        ⊎ (assigned_run net n t (assigned_in assigned.now) ≡ Err fault)) }
+    ensures run { IfOk result (λ run. kept_run net n t (kept_in assigned.now) ≡ Ok run) }
+    ensures fault { IfErr result (IsFaultOf (kept_run net n t (kept_in assigned.now))) }
 {
+    let has = assigned.first.count;
+    let wants = wires_of(&assigned.program, n, t, net);
+    if has != wants {
+        return Err(ExtractFault::NoRun(NotRun::WireCount {
+            has: u64::from(has),
+            wants: u64::from(wants),
+        }));
+    }
     let image = assigned.program.words.as_slice();
-    let values = assigned.values.as_slice();
+    let values = assigned.first.values.as_slice();
     match assigned.program.width {
         Width::Bits16 => extract::<16>(alloc, image, n, t, net, values),
         Width::Bits32 => extract::<32>(alloc, image, n, t, net, values),
@@ -73,11 +105,8 @@ pub(crate) fn run_of(
 pub(crate) fn not_run(fault: ExtractFault) -> Result<Finish, Stop>
     ensures { result ≡ not_run fault }
 {
-    let why = match fault {
-        ExtractFault::WireCount { has, wants } => NotRun::WireCount { has, wants },
-        ExtractFault::WideWire { at } => NotRun::WideWire { at },
-        ExtractFault::NotARun { end } => NotRun::NotARun { end },
-        ExtractFault::Memory => return Err(Stop::Memory),
-    };
-    Ok(Finish::NotARun(why))
+    match fault {
+        ExtractFault::NoRun(why) => Ok(Finish::NotARun(why)),
+        ExtractFault::Memory => Err(Stop::Memory),
+    }
 }

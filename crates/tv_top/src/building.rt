@@ -12,9 +12,11 @@ ghost use Rattle.tv_top.specs.Form.{build_form};
 ghost use Rattle.tv_top.specs.Plan.{AreWithin, named, one_write, refusal_of};
 ghost use Rattle.tv_top.specs.Programs.{HasImage};
 
-use crate::place::{Place, net_word, refusal_of, size_amounts};
+use crate::amount::size_amounts;
+use crate::network::net_word;
+use crate::place::Place;
 use crate::programs::{Program, Width, read_program};
-use crate::refusal::{Finish, Refusal, Stop};
+use crate::refusal::{Finish, Refusal, Stop, refusal_of};
 use crate::writing::streamed;
 use std::alloc::Global;
 use tv_benes::Net;

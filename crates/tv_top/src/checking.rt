@@ -1,4 +1,4 @@
-//! `check SYSTEM WITNESS TAPE`: the three files, each read to its end and judged before the next,
+//! `check SYSTEM WITNESS PUBLIC`: the three files, each read to its end and judged before the next,
 //! and the verdict on them.
 ghost use Rattle.std.specs.Prelude.{◌≡◌, [], ◌∷◌, map, string_bytes};
 ghost use Rattle.std.specs.Prelude.{Some, None, MatchOption};
@@ -11,8 +11,8 @@ ghost use Rattle.tv_top.specs.Plan.{named, refusal_of};
 ghost use Rattle.tv_top.specs.Tapes.{tape_sizes};
 
 use crate::containers::{judge_system, read_first_witness, survey_system};
-use crate::place::{Place, refusal_of};
-use crate::refusal::{Finish, Refusal, Stop};
+use crate::place::Place;
+use crate::refusal::{Finish, Refusal, Stop, refusal_of};
 use crate::tapes::read_publics;
 use std::alloc::Global;
 use tv_check::Verdict;

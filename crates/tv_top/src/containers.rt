@@ -1,7 +1,7 @@
 //! Systems and assignments, each read from its file to the end.
 ghost use Rattle.std.specs.Prelude.{◌≡◌, [], ◌∷◌};
 ghost use Rattle.tv_shrink.specs.Shrinking.{Shrunken};
-ghost use Rattle.tv_top.specs.Containers.{counts_in, firsts_in_witness, verdict_in, witness_in};
+ghost use Rattle.tv_top.specs.Containers.{counts_in, firsts_in_witness, verdict_in};
 ghost use Rattle.tv_top.specs.Containers.{refusal_stop, system_bad, witness_bad};
 ghost use Rattle.tv_top.specs.Finds.{Finds};
 ghost use Rattle.tv_top.specs.Plan.{input, named};
@@ -17,7 +17,7 @@ use tv_core::{Counts, F, TERMS};
 use tv_files::Files;
 use tv_r1cs_read::survey;
 use tv_shrink::{MOST_TERMS, ShrinkFault, Shrunk, shrink};
-use tv_wtns::{FirstValues, read_first_values, read_values};
+use tv_wtns::{FirstValues, read_first_values};
 
 /// What a refused reading stops of the system whose name stands at this word.
 fn system_stop(word: u32, why: ReadRefusal) -> Stop
@@ -52,18 +52,6 @@ pub(crate) fn survey_system<D: Files>(
         (D.seen files.old) (D.seen files.new) result }
 {
     survey(alloc, files, place.name).map_err(|why| system_stop(place.word, why))
-}
-
-/// The assignment of the witness of this name.
-pub(crate) fn read_witness<D: Files>(
-    alloc: Global,
-    files: &mut D,
-    place: Place<'_>,
-) -> Result<Vec<F>, Stop>
-    ensures { Finds (λ v. v.items) (place.entry.word ∷ []) [] (input (named place.entry) witness_in)
-        (D.seen files.old) (D.seen files.new) result }
-{
-    read_values(alloc, files, place.name).map_err(|why| witness_stop(place.word, why))
 }
 
 /// The first `most` values of the witness of this name, and how many it has.

@@ -10,9 +10,9 @@ ghost use Rattle.tv_top.specs.Plan.{input, named, refusal_of};
 ghost use Rattle.tv_top.specs.Programs.{bits};
 
 use crate::bytes::limited_bytes;
-use crate::place::{Place, refusal_of};
+use crate::place::Place;
 use crate::programs::Width;
-use crate::refusal::{Finish, Refusal, Size, Stop};
+use crate::refusal::{Finish, Refusal, Size, Stop, refusal_of};
 use crate::writing::write_bytes;
 use std::alloc::Global;
 use tv_disasm::disassemble;

@@ -8,9 +8,11 @@ ghost use Rattle.tv_top.specs.Extracting.{extract_asks, run_written};
 ghost use Rattle.tv_top.specs.Form.{extract_form};
 ghost use Rattle.tv_top.specs.Plan.{AreWithin, named, refusal_of};
 
+use crate::amount::size_amounts;
 use crate::assigned::{not_run, read_assigned, run_of};
-use crate::place::{Place, net_word, refusal_of, size_amounts};
-use crate::refusal::{Finish, Refusal, Stop};
+use crate::network::net_word;
+use crate::place::Place;
+use crate::refusal::{Finish, Refusal, Stop, refusal_of};
 use crate::writing::write_bytes;
 use std::alloc::Global;
 use tv_benes::Net;
@@ -68,8 +70,9 @@ impl<'a> ExtractArgs<'a> {
         requires { AreWithin (extract_asks self).amounts }
         ensures { Does (extract_asks self.entry) (D.seen files.old) (D.seen files.new) result }
     {
-        let assigned = read_assigned(alloc, files, self.text, self.witness)?;
-        match run_of(alloc, &assigned, self.n as u32, self.t as u32, self.net) {
+        let (n, t) = (self.n as u32, self.t as u32);
+        let assigned = read_assigned(alloc, files, self.text, n, t, self.net, self.witness)?;
+        match run_of(alloc, &assigned, n, t, self.net) {
             Ok(run) => write_run(alloc, files, &run, self),
             Err(fault) => not_run(fault),
         }

@@ -3,7 +3,6 @@
 ghost use Rattle.std.specs.Prelude.{◌≡◌, ◌≢◌, ◌≤◌, ◌+◌, ◌-◌, ◌^◌, ℕ, List, Err};
 ghost use Rattle.tv_asm.specs.Assembly.{assembled};
 ghost use Rattle.tv_asm.specs.declared.fault.AsmFault.TheVariants as asm;
-ghost use Rattle.tv_benes.specs.declared.shape.Net.{Net};
 ghost use Rattle.tv_core.specs.declared.combination.TheConstants.{TERMS};
 ghost use Rattle.tv_core.specs.declared.field.TheConstants.{P};
 ghost use Rattle.tv_core.specs.declared.limits.TheConstants.{STEPS, IMAGE_WORDS, IMAGE_WORDS_16};
@@ -11,8 +10,6 @@ ghost use Rattle.tv_core.specs.declared.limits.TheConstants.{TAPE_WORDS, AUX_WOR
 ghost use Rattle.tv_core.specs.declared.limits.TheConstants.{TEXT_BYTES, DRAWS};
 ghost use Rattle.tv_core.specs.declared.limits.TheConstants.{TIME_BITS, CELL_BITS};
 ghost use Rattle.tv_core.specs.declared.limits.TheConstants.{TAPE_CELLS, NULL_CELL};
-ghost use Rattle.tv_extract.specs.Extracting.{run_in};
-ghost use Rattle.tv_extract.specs.declared.run.ExtractFault.TheVariants as extract;
 ghost use Rattle.tv_shrink.specs.Answers.{most as system_terms};
 ghost use Rattle.tv_tape.specs.Tape.{tape_of};
 ghost use Rattle.tv_tape.specs.declared.items.TapeFault.TheVariants as tape;
@@ -67,13 +64,11 @@ pub fn tapes_come_back()
     ensures answer { TAPE_WORDS + 1 ≤ CHECK_WORDS }
 {}
 
-/// What a program text, a tape's text and an assignment come to is never want of memory: that is of
-/// the calls alone. So the definitions that turn their faults into ends never come to the cases
-/// that stand for nothing.
+/// What a program text and a tape's text come to is never want of memory: that is of the calls
+/// alone. So the definition that turns their faults into refusals never comes to the cases that
+/// stand for nothing.
 pub fn definitions_want_no_memory()
     ensures texts { (w most : ℕ) (text : List ℕ) → assembled w most text ≢ Err asm.Memory }
     ensures tapes { (below most : ℕ) (text : List ℕ) →
         tape_of text below most ≢ Err tape.Memory }
-    ensures runs { (w : ℕ) (net : Net) (image : List ℕ) (n t : ℕ) (z : List ℕ) →
-        run_in w net image n t z ≢ Err extract.Memory }
 {}

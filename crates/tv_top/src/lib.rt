@@ -2,6 +2,7 @@
 //! has said its line. Its contract is the program's promise; the binary only calls it.
 #![tactic(auto)]
 
+mod amount;
 mod assembling;
 mod assigned;
 mod building;
@@ -16,6 +17,7 @@ mod job;
 mod law;
 mod line;
 mod listing;
+mod network;
 mod place;
 mod programs;
 mod reasons;
@@ -32,5 +34,6 @@ pub use commands::command;
 pub use law::{definitions_want_no_memory, image_comes_back, limits_are_these, tapes_come_back};
 pub use programs::Width;
 pub use refusal::{Quantity, Refusal};
-pub use status::{NoWhy, NotRun, Status, What};
+pub use status::{NoWhy, Status, What};
 pub use tv_draw::{Drawn, draw};
+pub use tv_extract::NotRun;

@@ -7,10 +7,11 @@ ghost use Rattle.tv_top.specs.Codes.{trial_text, finish_text};
 
 use crate::reasons::{LINE_BYTES, Line, push_asm, push_number, push_read, what_name};
 use crate::refusal::{Bad, Ending, Finish, Refusal, Stop, Trial};
-use crate::status::{NotRun, What};
+use crate::status::What;
 use tv_asm::AsmWhy;
 use tv_check::Verdict;
 use tv_container::ReadWhy;
+use tv_extract::NotRun;
 use tv_step::End;
 
 /// What is said of words that are no command's.

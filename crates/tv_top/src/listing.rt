@@ -11,10 +11,11 @@ ghost use Rattle.tv_top.specs.Listing.{listing_asks};
 ghost use Rattle.tv_top.specs.Plan.{AreWithin, named, refusal_of};
 ghost use Rattle.tv_top.specs.Programs.{HasImage};
 
+use crate::amount::size_amounts;
 use crate::assigned::{Assignment, not_run, read_assigned, run_of};
-use crate::place::{Place, refusal_of, size_amounts};
+use crate::place::Place;
 use crate::programs::Width;
-use crate::refusal::{Finish, Refusal, Stop};
+use crate::refusal::{Finish, Refusal, Stop, refusal_of};
 use crate::writing::write_bytes;
 use std::alloc::{AllocError, Global};
 use tv_benes::Net;
@@ -69,8 +70,9 @@ impl<'a> ListingArgs<'a> {
         requires { AreWithin (listing_asks self).amounts }
         ensures { Does (listing_asks self.entry) (D.seen files.old) (D.seen files.new) result }
     {
-        let assigned = read_assigned(alloc, files, self.text, self.witness)?;
-        match run_of(alloc, &assigned, self.n as u32, self.t as u32, Net::Benes) {
+        let (n, t, net) = (self.n as u32, self.t as u32, Net::Benes);
+        let assigned = read_assigned(alloc, files, self.text, n, t, net, self.witness)?;
+        match run_of(alloc, &assigned, n, t, net) {
             Ok(run) => write_lines(alloc, files, &assigned, &run, self),
             Err(fault) => not_run(fault),
         }
@@ -103,7 +105,7 @@ fn lines_text(
         assigned_text args.entry.by args.entry.n args.entry.t step (assigned_in assigned.now)) }
 {
     let image = assigned.program.words.as_slice();
-    let values = assigned.values.as_slice();
+    let values = assigned.first.values.as_slice();
     let (n, t) = (args.n as u32, args.t as u32);
     match assigned.program.width {
         Width::Bits16 => listing::<16>(alloc, image, n, t, step, values, args.by),

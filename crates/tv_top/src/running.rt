@@ -10,10 +10,11 @@ ghost use Rattle.tv_top.specs.Inputs.{AreInputs, run_end};
 ghost use Rattle.tv_top.specs.Plan.{refusal_of};
 ghost use Rattle.tv_top.specs.Running.{run_asks};
 
+use crate::amount::Amount;
 use crate::inputs::{Inputs, read_inputs};
-use crate::place::{Amount, Place, refusal_of};
+use crate::place::Place;
 use crate::programs::Width;
-use crate::refusal::{Finish, Refusal, Stop};
+use crate::refusal::{Finish, Refusal, Stop, refusal_of};
 use std::alloc::{AllocError, Global};
 use tv_files::Files;
 use tv_step::{End, Machine};

@@ -9,8 +9,8 @@ ghost use Rattle.tv_top.specs.Plan.{named, one_write, refusal_of};
 ghost use Rattle.tv_top.specs.Shrinking.{shrink_asks};
 
 use crate::containers::read_shrunk;
-use crate::place::{Place, refusal_of};
-use crate::refusal::{Finish, Refusal, Stop};
+use crate::place::Place;
+use crate::refusal::{Finish, Refusal, Stop, refusal_of};
 use crate::writing::streamed;
 use std::alloc::Global;
 use tv_files::Files;

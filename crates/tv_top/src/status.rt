@@ -6,6 +6,7 @@ use crate::refusal::{Bad, Ending, Finish, Quantity, Refusal, Size, Stop};
 use tv_asm::AsmWhy;
 use tv_check::Verdict;
 use tv_container::ReadWhy;
+use tv_extract::NotRun;
 use tv_step::End;
 
 /// Why `check` or `run` says no.
@@ -20,17 +21,6 @@ pub enum NoWhy {
     Wires { has: u64, wants: u64 },
     /// The run ends otherwise than by an answer.
     End { end: End },
-}
-
-/// Why `extract` or `listing` finds no run.
-#[derive(Clone, Copy, Debug, PartialEq, Eq)]
-pub enum NotRun {
-    /// The witness has `has` values, the program's system `wants` wires.
-    WireCount { has: u64, wants: u64 },
-    /// The number at this wire, which is public or that of a word taken, is no word.
-    WideWire { at: u64 },
-    /// The run on the witness's tapes doesn't answer the word at wire 1, but ends so.
-    NotARun { end: End },
 }
 
 /// The quantities that have a limit.

@@ -12,8 +12,8 @@ ghost use Rattle.tv_top.specs.Form.{trial_form};
 ghost use Rattle.tv_top.specs.Plan.{AreWithin, refusal_of};
 ghost use Rattle.tv_top.specs.Trialing.{tested, trial_asks, trial_of};
 
-use crate::place::{Amount, refusal_of};
-use crate::refusal::{Finish, Quantity, Refusal, Stop, Trial};
+use crate::amount::Amount;
+use crate::refusal::{Finish, Quantity, Refusal, Stop, Trial, refusal_of};
 use std::alloc::{AllocError, Global};
 use tv_benes::Net;
 use tv_core::limits::DRAWS;

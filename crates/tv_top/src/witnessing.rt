@@ -11,10 +11,12 @@ ghost use Rattle.tv_top.specs.Plan.{AreWithin, named, one_write, refusal_of};
 ghost use Rattle.tv_top.specs.Programs.{bits};
 ghost use Rattle.tv_top.specs.Witnessing.{witness_asks, witness_ends};
 
+use crate::amount::Amount;
 use crate::inputs::{Inputs, read_inputs};
-use crate::place::{Amount, Place, net_word, refusal_of};
+use crate::network::net_word;
+use crate::place::Place;
 use crate::programs::Width;
-use crate::refusal::{Finish, Refusal, Stop};
+use crate::refusal::{Finish, Refusal, Stop, refusal_of};
 use crate::writing::streamed;
 use std::alloc::Global;
 use tv_benes::Net;
