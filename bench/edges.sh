@@ -31,6 +31,7 @@ echo 'old bytes' >OLD
 "$t" asm P I && "$t" build P 0 1 S && "$t" witness P E E 1 V && printf '0\n' >A || exit 2
 printf 'read r1, 0\nread r2, 1\nsub r3, r1, r2\nanswer r3\n' >R
 echo 7 >F && "$t" witness R F F 4 VR || exit 2
+wires=$((($(stat -c %s V) - 52) / 8))
 cp "$top/crates/tinyr1cs/data/system.r1cs" Q || exit 2
 
 # The names and sums of all files here.
@@ -138,8 +139,8 @@ edge 8 '' 'file fault: /dev/full\n' '' '$t extract R 1 4 VR /dev/full AUX'
 edge 8 '' 'file fault: /dev/full\n' 'TAPE' '$t extract R 1 4 VR TAPE /dev/full; s=$?; cmp -s F TAPE && exit $s'
 edge 8 '' '' '' '$t check S V ABSENT 2>/dev/full'
 edge 8 '' '' 'OUT' '(ulimit -f 8; trap "" XFSZ; $t build P 0 1 OUT 2>/dev/null); s=$?; test $(stat -c %s OUT) -le 8192 && exit $s'
-edge 8 '' '' 'OUT' '(ulimit -f 4; trap "" XFSZ; $t witness P E E 1 OUT 2>/dev/null); s=$?; n=$(stat -c %s OUT)
-    test $n -le 4096 && cmp -s -n $n V OUT && exit $s'
+edge 8 '' '' 'OUT' '(ulimit -f 2; trap "" XFSZ; $t witness P E E 1 OUT 2>/dev/null); s=$?; n=$(stat -c %s OUT)
+    test $n -le 2048 && cmp -s -n $n V OUT && exit $s'
 
 # A name that is a folder, and one that isn't there.
 edge 8 '' 'file fault: D\n' '' '$t asm D IMAGE'
@@ -208,17 +209,24 @@ edge 8 '' 'file fault: p\n' '' 'mkfifo p; cat S >p & $t check p V A; s=$?; rm p;
 edge 5 'bad system: byte 12: truncated\n' '' 'HUGE' \
     'printf "r1cs\1\0\0\0\1\0\0\0\1\0\0\0\0\0\0\0\0\0\4\0" >HUGE; $t check HUGE V A'
 
-# A witness of 4,000,000 values, all 0, over a system of 4 wires, in less memory than these values take: they are counted,
-# and the last is judged.
+# A witness of 4,000,000 values, all 0 but the last, over a system of few wires, in less memory than these values take:
+# they are counted, and the last is judged.
 export long='
 long() {
+    local last=$1 s
+    shift
     printf "wtns\2\0\0\0\2\0\0\0\1\0\0\0\20\0\0\0\0\0\0\0\10\0\0\0\1\0\0\0\377\377\377\377\0\11\75\0\2\0\0\0\0\110\350\1\0\0\0\0" >LONG
-    truncate -s 32000044 LONG && printf "$1" >>LONG
-    (ulimit -v 16384; $t check Q LONG A); s=$?
+    truncate -s 32000044 LONG && printf "$last" >>LONG
+    (ulimit -v 16384; "$@"); s=$?
     rm LONG; return $s
 }'
-edge 1 'no: 4000000 wires, 4 wanted\n' '' '' 'eval "$long"; long "\0\0\0\0\0\0\0\0"'
-edge 6 'bad witness: byte 32000044: not below p\n' '' '' 'eval "$long"; long "\1\0\0\0\377\377\377\377"'
+zero='\0\0\0\0\0\0\0\0'
+prime='\1\0\0\0\377\377\377\377'
+edge 1 'no: 4000000 wires, 4 wanted\n' '' '' 'eval "$long"; long "'$zero'" $t check Q LONG A'
+edge 6 'bad witness: byte 32000044: not below p\n' '' '' 'eval "$long"; long "'$prime'" $t check Q LONG A'
+edge 11 "not a run: 4000000 wires, $wires wanted\n" '' '' 'eval "$long"; long "'$zero'" $t extract P 0 1 LONG OLD AUX'
+edge 6 'bad witness: byte 32000044: not below p\n' '' '' 'eval "$long"; long "'$prime'" $t extract P 0 1 LONG OLD AUX'
+edge 11 "not a run: 4000000 wires, $wires wanted\n" '' '' 'eval "$long"; long "'$zero'" $t listing P 0 1 LONG time OLD'
 
 # A file that is cut while it is read, at 20 moments: the answer is one of those of a file that it was, or of its front
 # and a lost end, and none hangs.

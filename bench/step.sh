@@ -8,7 +8,7 @@ bench=$(cd "$(dirname "$0")" && pwd)
 scratch=$(mktemp -d)
 trap 'rm -rf "$scratch"' EXIT
 mkdir "$scratch/crates"
-crates='word|core|tape|isa|mem|step|numbers|bits|limb|logic|cmp|shift|muldiv|lines|decode|regs|block'
+crates='word|core|tape|isa|mem|step|numbers|bits|limb|logic|shift|muldiv|lines|decode|regs|parts|block'
 for name in ${crates//|/ }; do
     cp -r "$bench/../crates/tv_$name" "$scratch/crates"
 done

@@ -3,23 +3,25 @@
 The boxes stand on a diagonal, in the order in which the parts are put: first the state before the step, then the parts,
 with their wires and constraints at 32 bits, then what the step returns. What a part makes leaves it to the right, and
 goes down into each part that takes it, at a dot; lines that cross without a dot don't meet. The parts and what they take
-are those of `compute_of` and `block_of` in crates/tv_block/specs/Block.antt.
+are those of `computed_of` and `effects_of` in crates/tv_block/specs/Block.antt; arithmetic takes the test too, and binds
+it with the result.
 """
 
 BOXES = [  # name, what it makes, its size, what it takes
     ("state before", "pc, registers, flag, tapes", "", []),
-    ("instruction", "two words, opcode's row", "144 wires, 149 constraints", []),
-    ("operands", "operand and other word", "69 wires, 116 constraints", ["state before", "instruction"]),
-    ("operations", "sum, difference, order, ..", "365 wires, 374 constraints", ["operands"]),
-    ("tapes", "what is taken, ended", "8 wires, 8 constraints", ["state before", "instruction", "operands"]),
-    ("data word", "a new word, its cell", "37 wires, 37 constraints", ["state before", "instruction", "operands", "tapes"]),
-    ("loads and stores", "byte, word after the step", "7 wires, 7 constraints", ["instruction", "operands", "data word"]),
-    ("registers", "result, registers", "19 wires, 35 constraints", ["state before", "instruction", "operands", "operations", "data word", "loads and stores"]),
-    ("flag", "flag", "1 wire, 18 constraints", ["state before", "instruction", "operands", "operations", "tapes"]),
-    ("program counter", "pc", "4 wires, 8 constraints", ["state before", "instruction", "operands"]),
-    ("state after", "pc, registers, flag, tapes", "", ["tapes", "registers", "flag", "program counter"]),
-    ("three lines of memory", "two fetched, one of data", "", ["state before", "instruction", "data word", "loads and stores"]),
-    ("answer, taken word", "whether, and which", "", ["instruction", "operands", "tapes", "data word"]),
+    ("instruction", "two words, opcode's row", "90 wires, 91 constraints", []),
+    ("registers read", "other, named, destination", "31 wires, 28 constraints", ["state before", "instruction"]),
+    ("operand", "operand, its bits", "33 wires, 34 constraints", ["instruction", "registers read"]),
+    ("arithmetic", "a row of 2 W bits", "110 wires, 120 constraints", ["instruction", "registers read", "operand"]),
+    ("tapes", "what is taken, ended", "7 wires, 7 constraints", ["state before", "instruction", "operand"]),
+    ("memory", "cell, old and new word, byte", "9 wires, 9 constraints", ["state before", "instruction", "registers read", "operand", "arithmetic", "tapes"]),
+    ("result and test", "result, test for 0", "7 wires, 10 constraints", ["instruction", "operand", "arithmetic", "tapes", "memory"]),
+    ("registers written", "registers", "17 wires, 18 constraints", ["state before", "instruction", "registers read", "result and test"]),
+    ("flag", "flag", "3 wires, 3 constraints", ["state before", "instruction", "arithmetic", "tapes", "result and test"]),
+    ("program counter", "pc", "4 wires, 4 constraints", ["state before", "instruction", "operand"]),
+    ("state after", "pc, registers, flag, tapes", "", ["tapes", "registers written", "flag", "program counter"]),
+    ("three lines of memory", "two fetched, one of data", "", ["state before", "instruction", "memory"]),
+    ("answer, taken word", "whether, and which", "", ["instruction", "operand", "arithmetic", "tapes"]),
 ]
 
 WIDTH, HEIGHT = 190, 52  # of a box
@@ -27,7 +29,7 @@ ACROSS, DOWN = 62, 64  # from a box to the next one
 MARGIN = 16
 
 NUMBER = {name: i for i, (name, *_) in enumerate(BOXES)}
-PARTS = range(1, 10)  # the boxes that are parts
+PARTS = range(1, 11)  # the boxes that are parts
 
 
 def corner(i):
