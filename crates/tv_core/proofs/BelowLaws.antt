@@ -1,5 +1,6 @@
 -- Laws of sums and lists over the numbers below n, and of combinations of wires in a row.
-use Rattle.std.proofs.Common.{◌≡◌, ◌≢◌, ℕ, zero, suc, ◌+◌, ◌*◌, ◌%◌, ◌^◌, ◌<◌, ◌≤◌, List, [], ◌∷◌, ◌++◌, map, sum_by, length, refl, sym, ◌∙◌, ap, ap₂, arith, inl, inr, add-one, add-zero, zero-add, mul-add, mul-zero}
+use Rattle.std.proofs.Common.{◌≡◌, ◌≢◌, ℕ, zero, suc, ◌+◌, ◌*◌, ◌%◌, ◌^◌, ◌<◌, ◌≤◌, List, [], ◌∷◌, ◌++◌, map, sum_by, length, refl, sym, ◌∙◌, ap, ap₂, arith}
+use Rattle.std.proofs.Common.{inl, inr, add-one, add-zero, zero-add, mul-add, mul-zero}
 use Rattle.std.specs.Prelude.{slice_index}
 use Rattle.std.specs.List.{range_with_len}
 use Rattle.std.proofs.Math.Nat.{pow-suc}
@@ -64,7 +65,8 @@ pub sum_below-single : (n k : ℕ) (f : ℕ → ℕ) → k < n → ((i : ℕ) �
 sum_below-single zero k f h none = absurd (omega arith)
 sum_below-single (suc n) k f h none =
     elim (cases_eq k n) [
-      | inl same ↦ sum_below-suc n f ∙ ap₂ (λ a b. a + b) (sum_below-zeros n f (λ i less. none i (omega arith) (omega arith))) (ap f (sym same)) ∙ zero-add (f k)
+      | inl same ↦ sum_below-suc n f ∙ ap₂ (λ a b. a + b) (sum_below-zeros n f (λ i less. none i (omega arith) (omega arith))) (ap f (sym same))
+          ∙ zero-add (f k)
       | inr apart ↦ omega (arith, sum_below-suc n f, sum_below-single n k f (omega arith) (λ i less. none i (omega arith)), none n (omega arith) (omega arith))
     ]
 
@@ -78,7 +80,8 @@ sum_below-add m (suc n) f =
 pub sum_below-mul : (k n : ℕ) (f : ℕ → ℕ) → sum_below n (λ i. k * f i) ≡ k * sum_below n f
 sum_below-mul k zero f = sum_below-zero (λ i. k * f i) ∙ sym (ap (λ s. k * s) (sum_below-zero f) ∙ mul-zero k)
 sum_below-mul k (suc n) f =
-    sum_below-suc n (λ i. k * f i) ∙ ap (λ s. s + k * f n) (sum_below-mul k n f) ∙ sym (mul-add k (sum_below n f) (f n)) ∙ ap (λ s. k * s) (sym (sum_below-suc n f))
+    sum_below-suc n (λ i. k * f i) ∙ ap (λ s. s + k * f n) (sum_below-mul k n f) ∙ sym (mul-add k (sum_below n f) (f n))
+    ∙ ap (λ s. k * s) (sym (sum_below-suc n f))
 
 -- ---- lists
 pub each_below-zero : {A : Type 0} (f : ℕ → A) → each_below 0 f ≡ []
@@ -113,7 +116,8 @@ weighted-zero first c = refl
 
 pub weighted-suc : (first n : ℕ) (c : ℕ → ℕ) → weighted first (suc n) c ≡ weighted first n c ++ (c n, first + n) ∷ []
 unfolding weighted
-weighted-suc first n c = ap (λ m. map (λ i. (c i, first + i)) (range_with_len 0 m)) (sym (add-one n)) ∙ map-range_with_len_more (λ i. (c i, first + i)) 0 n n (zero-add n)
+weighted-suc first n c = ap (λ m. map (λ i. (c i, first + i)) (range_with_len 0 m)) (sym (add-one n))
+    ∙ map-range_with_len_more (λ i. (c i, first + i)) 0 n n (zero-add n)
 
 pub length-weighted : (first n : ℕ) (c : ℕ → ℕ) → length (weighted first n c) ≡ n
 unfolding weighted

@@ -23,7 +23,8 @@ module _ {S : Type 0} (m : Meaning S) where
         let same : second a (m.wires mid) ≡ second (first (m.wires old)).answer (first (m.wires old)).next = rw (p.answers, p.next) in
         record {
           answers = q.answers ∙ ap (λ made. made.answer) same;
-          stands = λ list s. subst (λ l. m.stands new l) (append_assoc list _ _ ∙ ap (λ made. list ++ ((first (m.wires old)).list ++ made.list)) same) (q.stands _ (p.stands list s));
+          stands = λ list s. subst (λ l. m.stands new l) (append_assoc list _ _ ∙ ap (λ made. list ++ ((first (m.wires old)).list ++ made.list)) same)
+              (q.stands _ (p.stands list s));
           next = q.next ∙ ap (λ made. made.next) same;
           keeps = m.keeps_then old mid new p.keeps q.keeps;
           faults = omega (arith, p.faults, q.faults);
@@ -41,7 +42,8 @@ module _ {S : Type 0} (m : Meaning S) where
           refused = q.refused;
           back = q.back;
           at = ap (λ made. done ++ made.list) (sym same) ∙ ap (λ l. done ++ l) q.at ∙ sym (append_assoc done q.front _);
-          tried = λ list s. subst (λ l. m.tried new l) (append_assoc list done _ ∙ ap (λ l. list ++ l) (sym (append_assoc done q.front _))) (q.tried (list ++ done) (p.stands list s));
+          tried = λ list s. subst (λ l. m.tried new l) (append_assoc list done _ ∙ ap (λ l. list ++ l) (sym (append_assoc done q.front _)))
+              (q.tried (list ++ done) (p.stands list s));
           broken = q.broken;
           keeps = m.keeps_then old mid new p.keeps q.keeps;
           cause = IsCause-after fault m.faults m.wants old mid new p.faults p.wants q.cause;

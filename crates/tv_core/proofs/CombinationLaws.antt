@@ -25,7 +25,8 @@ value-cons c w x z = ap (λ n. n % P) (sum_by-cons (λ t. t.0 * slice_index z t.
 pub value-scaled : (k : ℕ) (x : Combination) (z : List ℕ) → value (scaled k x) z ≡ k * value x z % P
 value-scaled k x z =
     let term : (ℕ × ℕ) → ℕ = λ t. t.0 * slice_index z t.1 in
-    let each : (t : ℕ × ℕ) → (k * t.0 % P) * slice_index z t.1 % P ≡ k * term t % P = λ t. mul-mod_first (k * t.0) (slice_index z t.1) P ∙ ap (λ n. n % P) (mul_assoc k t.0 (slice_index z t.1)) in
+    let each : (t : ℕ × ℕ) → (k * t.0 % P) * slice_index z t.1 % P ≡ k * term t % P = λ t. mul-mod_first (k * t.0) (slice_index z t.1) P
+    ∙ ap (λ n. n % P) (mul_assoc k t.0 (slice_index z t.1)) in
     ap (λ n. n % P) (sum_by-map term (λ t. (k * t.0 % P, t.1)) x)
     ∙ sum_by-mod_same (λ t. (k * t.0 % P) * slice_index z t.1) (λ t. k * term t) P x each
     ∙ ap (λ n. n % P) (sum_by-mul k term x)
@@ -45,7 +46,11 @@ top-scaled k (t ∷ x) = ap (λ n. max (t.1 + 1) n) (top-scaled k x)
 
 module _ {z : List ℕ} (assigns : Assigns z) where
   pub wire-below : (w : ℕ) → slice_index z w < P
-  wire-below w = elim (cases_lt w (length z)) [ inl within ↦ All-get_or (λ v. v < P) z w 0 within assigns.below | inr past ↦ omega (arith, get_or_past z w 0 past) ]
+  wire-below w = elim (cases_lt w (length z)) [
+    | inl within ↦ All-get_or (λ v. v < P) z w 0 within assigns.below
+    | inr past ↦ omega
+        (arith, get_or_past z w 0 past)
+  ]
 
   pub value-wire : (w : ℕ) → value (wire w) z ≡ slice_index z w
   value-wire w = let small = wire-below w in omega arith
@@ -63,7 +68,8 @@ value-once z x assigns =
     ap (λ k. value x z * k % P) (value-constant assigns 1) ∙ omega arith
 
 pub value-less : (x y : Combination) (z : List ℕ) → value (less x y) z ≡ (value x z + (P - value y z)) % P
-value-less x y z = value-append x (scaled (P - 1) y) z ∙ ap (λ n. (value x z + n) % P) (value-scaled (P - 1) y z) ∙ negated (value x z) (value y z) (value-below y z)
+value-less x y z = value-append x (scaled (P - 1) y) z ∙ ap (λ n. (value x z + n) % P) (value-scaled (P - 1) y z)
+    ∙ negated (value x z) (value y z) (value-below y z)
 
 pub value-empty : (z : List ℕ) → value [] z ≡ 0
 value-empty z = refl

@@ -16,13 +16,15 @@ module _ {V : Type 0} (m : Giving V) where
     wants = omega (arith, p.wants, q.wants);
   }
 
-  pub gives_then_refused : (xs ys : List ℕ) (old mid new : V) (fault : SinkFault) → GivesAll m old mid xs → GivesSome m mid new ys fault → GivesSome m old new (xs ++ ys) fault
+  pub gives_then_refused : (xs ys : List ℕ) (old mid new : V) (fault : SinkFault) → GivesAll m old mid xs → GivesSome m mid new ys fault
+      → GivesSome m old new (xs ++ ys) fault
   gives_then_refused xs ys old mid new fault p q = record {
     front = xs ++ q.front;
     refused = q.refused;
     back = q.back;
     at = ap (λ l. xs ++ l) q.at ∙ sym (append_assoc xs q.front _);
-    tried = λ list s. subst (λ l. m.tried new l) (append_assoc list xs _ ∙ ap (λ l. list ++ l) (sym (append_assoc xs q.front _))) (q.tried (list ++ xs) (p.stands list s));
+    tried = λ list s. subst (λ l. m.tried new l) (append_assoc list xs _ ∙ ap (λ l. list ++ l) (sym (append_assoc xs q.front _)))
+        (q.tried (list ++ xs) (p.stands list s));
     broken = q.broken;
     keeps = m.keeps_then old mid new p.keeps q.keeps;
     cause = IsCause-after fault m.faults m.wants old mid new p.faults p.wants q.cause;
@@ -56,7 +58,8 @@ module _ {V : Type 0} (m : Giving V) where
   pub gives_one_then : (x : ℕ) (ys : List ℕ) (old mid new : V) → GivesAll m old mid (x ∷ []) → GivesAll m mid new ys → GivesAll m old new (x ∷ ys)
   gives_one_then x ys = gives_then (x ∷ []) ys
 
-  pub gives_one_then_refused : (x : ℕ) (ys : List ℕ) (old mid new : V) (fault : SinkFault) → GivesAll m old mid (x ∷ []) → GivesSome m mid new ys fault → GivesSome m old new (x ∷ ys) fault
+  pub gives_one_then_refused : (x : ℕ) (ys : List ℕ) (old mid new : V) (fault : SinkFault) → GivesAll m old mid (x ∷ []) → GivesSome m mid new ys fault
+      → GivesSome m old new (x ∷ ys) fault
   gives_one_then_refused x ys = gives_then_refused (x ∷ []) ys
 
   pub gives_one_refused_then : (x : ℕ) (ys : List ℕ) (old new : V) (fault : SinkFault) → GivesSome m old new (x ∷ []) fault → GivesSome m old new (x ∷ ys) fault

@@ -5,7 +5,8 @@ use Rattle.std.specs.Prelude.{slice_index}
 use Rattle.tv_core.specs.Below.{each_below}
 use Rattle.tv_core.specs.Laws.{HasFrom}
 
-has_range_of : (z : List ℕ) (first a n : ℕ) (f : ℕ → ℕ) → ((i : ℕ) → i < n → slice_index z (first + i) ≡ f (a + i)) → HasFrom z first (map f (range_with_len a n))
+has_range_of : (z : List ℕ) (first a n : ℕ) (f : ℕ → ℕ) → ((i : ℕ) → i < n → slice_index z (first + i) ≡ f (a + i))
+    → HasFrom z first (map f (range_with_len a n))
 has_range_of z first a zero f each = tt
 has_range_of z first a (suc n) f each = (
   ap (λ k. slice_index z k) (sym (add-zero first)) ∙ each 0 (omega arith) ∙ ap f (add-zero a),

@@ -1,12 +1,13 @@
 -- Lists f 0, f 1, .. one after another: how long they are, what an assignment has of them, and loops that give them.
-use Rattle.std.proofs.Common.{◌≡◌, ℕ, zero, suc, ◌+◌, ◌-◌, ◌*◌, ◌<◌, List, [], ◌∷◌, ◌++◌, length, refl, inl, inr, sym, ap, ◌∙◌, subst, arith, add-one, zero-add, zero-mul, length-append}
+use Rattle.std.proofs.Common.{◌≡◌, ℕ, zero, suc, ◌+◌, ◌-◌, ◌*◌, ◌<◌, List, [], ◌∷◌, ◌++◌, length, refl, inl, inr, sym, ap, ◌∙◌, subst, arith, add-one}
+use Rattle.std.proofs.Common.{zero-add, zero-mul, length-append}
 use Rattle.std.specs.List.{range_with_len, flat_map}
 use Rattle.std.proofs.lemmas.Bool.{cases_eq}
 use Rattle.std.proofs.lemmas.Grind.{flat_map-append}
 use Rattle.std.proofs.lemmas.List.{append-nil}
 use Rattle.tv_core.proofs.BelowLaws.{range-more}
 use Rattle.tv_core.proofs.GivingChain.{gives_then, gives_then_refused, gives_refused_then, gives_nothing}
-use Rattle.tv_core.proofs.Meeting.{HasFrom-split, HasFrom-join}
+use Rattle.tv_core.proofs.Meeting.{HasFrom-split}
 use Rattle.tv_core.specs.Below.{joined_below}
 use Rattle.tv_core.specs.Giving.{Giving, GivesAll, GivesSome}
 use Rattle.tv_core.specs.Laws.{HasFrom}
@@ -19,7 +20,8 @@ joined_below-zero f = refl
 pub joined_below-suc : {A : Type 0} (n : ℕ) (f : ℕ → List A) → joined_below (suc n) f ≡ joined_below n f ++ f n
 unfolding joined_below
 joined_below-suc n f =
-    ap (flat_map f) (range-more 0 n) ∙ flat_map-append f (range_with_len 0 n) ((0 + n) ∷ []) ∙ ap (λ l. flat_map f (range_with_len 0 n) ++ l) (append-nil (f (0 + n)) ∙ ap f (zero-add n))
+    ap (flat_map f) (range-more 0 n) ∙ flat_map-append f (range_with_len 0 n) ((0 + n) ∷ [])
+    ∙ ap (λ l. flat_map f (range_with_len 0 n) ++ l) (append-nil (f (0 + n)) ∙ ap f (zero-add n))
 
 -- lists of one length each
 pub length-joined_below : {A : Type 0} (n made : ℕ) (f : ℕ → List A) → ((i : ℕ) → i < n → length (f i) ≡ made) → length (joined_below n f) ≡ n * made
@@ -41,18 +43,7 @@ has_each_list z first (suc n) made f each has i h =
       | inr apart ↦ has_each_list z first n made f (λ i h. each i (omega arith)) parts.0 i (omega arith)
     ]
 
--- and the other way round
-pub has_of_each_list : (z : List ℕ) (first n made : ℕ) (f : ℕ → List ℕ) → ((i : ℕ) → i < n → length (f i) ≡ made)
-    → ((i : ℕ) → i < n → HasFrom z (first + i * made) (f i)) → HasFrom z first (joined_below n f)
-has_of_each_list z first zero made f each has = subst (HasFrom z first) (sym (joined_below-zero f)) tt
-has_of_each_list z first (suc n) made f each has =
-    let size = length-joined_below n made f (λ i h. each i (omega arith)) in
-    subst (HasFrom z first) (sym (joined_below-suc n f))
-    (HasFrom-join z first (joined_below n f) (f n)
-    (has_of_each_list z first n made f (λ i h. each i (omega arith)) (λ i h. has i (omega arith)))
-    (subst (λ k. HasFrom z (first + k) (f n)) (sym size) (has n (omega arith))))
-
--- each turn gives a list
+-- each turn makes a list
 module _ {V : Type 0} (m : Giving V) (f : ℕ → List ℕ) where
   pub gives_no_list : (v : V) → GivesAll m v v (joined_below 0 f)
   gives_no_list v = rw joined_below-zero (gives_nothing m v)
@@ -60,13 +51,15 @@ module _ {V : Type 0} (m : Giving V) (f : ℕ → List ℕ) where
   pub gives_list : (n : ℕ) (old mid new : V) → GivesAll m old mid (joined_below n f) → GivesAll m mid new (f n) → GivesAll m old new (joined_below (n + 1) f)
   gives_list n old mid new p q = rw (add-one, joined_below-suc) (gives_then m (joined_below n f) (f n) old mid new p q)
 
-  refused_by : (n more : ℕ) (old new : V) (fault : SinkFault) → GivesSome m old new (joined_below (suc n) f) fault → GivesSome m old new (joined_below (suc n + more) f) fault
+  refused_by : (n more : ℕ) (old new : V) (fault : SinkFault) → GivesSome m old new (joined_below (suc n) f) fault
+      → GivesSome m old new (joined_below (suc n + more) f) fault
   refused_by n zero old new fault p = let same : suc n + 0 ≡ suc n = omega arith in rw same p
   refused_by n (suc more) old new fault p =
       let same : suc n + suc more ≡ suc (suc n + more) = omega arith in
       rw (same, joined_below-suc) (gives_refused_then m (joined_below (suc n + more) f) (f (suc n + more)) old new fault (refused_by n more old new fault p))
 
-  pub gives_list_refused : (n i : ℕ) (old mid new : V) (fault : SinkFault) → i < n → GivesAll m old mid (joined_below i f) → GivesSome m mid new (f i) fault → GivesSome m old new (joined_below n f) fault
+  pub gives_list_refused : (n i : ℕ) (old mid new : V) (fault : SinkFault) → i < n → GivesAll m old mid (joined_below i f) → GivesSome m mid new (f i) fault
+      → GivesSome m old new (joined_below n f) fault
   gives_list_refused n i old mid new fault h p q =
       let same : suc i + (n - suc i) ≡ n = omega arith in
       let last = joined_below-suc i f in

@@ -1,10 +1,11 @@
+pub mod Adding
+pub mod ApartLaws
 pub mod BelowLaws
 pub mod Chain
 pub mod CombinationLaws
 pub mod DifferenceLaws
 pub mod Euclid
 pub mod FieldLaws
-pub mod FillLaws
 pub mod Fitting
 pub mod GivingChain
 pub mod GivingTails
@@ -14,6 +15,8 @@ pub mod JoinedLaws
 pub mod LineLaws
 pub mod LoopLaws
 pub mod Meeting
+pub mod NormalCircuits
+pub mod NormalLaws
 pub mod Pigeonhole
 pub mod PrimeLaws
 pub mod PrimeProof
@@ -21,3 +24,4 @@ pub mod Residues
 pub mod RowLaws
 pub mod TailCalls
 pub mod Testing
+pub mod Unique

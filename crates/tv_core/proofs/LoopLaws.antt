@@ -25,13 +25,15 @@ module _ {A : Type 0} (z : List ℕ) (piece : ℕ → A → Circuit A) (x : A) (
       ]
 
   -- and the other way round
-  pub turns_met : (n : ℕ) → ((i : ℕ) → i < n → Meets z (piece i (turns i piece x next).answer (turns i piece x next).next).list) → Meets z (turns n piece x next).list
+  pub turns_met : (n : ℕ) → ((i : ℕ) → i < n → Meets z (piece i (turns i piece x next).answer (turns i piece x next).next).list)
+      → Meets z (turns n piece x next).list
   unfolding turns pure
   turns_met zero each = tt
   turns_met (suc n) each = whole z (turns n piece x) (piece n) next (turns_met n (λ i h. each i (omega arith))) (each n (omega arith))
 
 -- where n turns end that make as many wires each
-pub turns-next : {A : Type 0} (piece : ℕ → A → Circuit A) (x : A) (next made n : ℕ) → ((i : ℕ) (a : A) (at : ℕ) → (piece i a at).next ≡ at + made) → (turns n piece x next).next ≡ next + n * made
+pub turns-next : {A : Type 0} (piece : ℕ → A → Circuit A) (x : A) (next made n : ℕ) → ((i : ℕ) (a : A) (at : ℕ) → (piece i a at).next ≡ at + made)
+    → (turns n piece x next).next ≡ next + n * made
 unfolding turns pure ◌>>=◌
 turns-next piece x next made zero each = omega arith
 turns-next piece x next made (suc n) each =
@@ -49,13 +51,15 @@ module _ {V : Type 0} (m : Giving V) (f : ℕ → ℕ) where
   pub gives_turn : (n : ℕ) (old mid new : V) → GivesAll m old mid (each_below n f) → GivesAll m mid new (f n ∷ []) → GivesAll m old new (each_below (n + 1) f)
   gives_turn n old mid new p q = rw (add-one, each_below-suc) (gives_then m (each_below n f) (f n ∷ []) old mid new p q)
 
-  refused_by : (n more : ℕ) (old new : V) (fault : SinkFault) → GivesSome m old new (each_below (suc n) f) fault → GivesSome m old new (each_below (suc n + more) f) fault
+  refused_by : (n more : ℕ) (old new : V) (fault : SinkFault) → GivesSome m old new (each_below (suc n) f) fault
+      → GivesSome m old new (each_below (suc n + more) f) fault
   refused_by n zero old new fault p = let same : suc n + 0 ≡ suc n = omega arith in rw same p
   refused_by n (suc more) old new fault p =
       let same : suc n + suc more ≡ suc (suc n + more) = omega arith in
       rw (same, each_below-suc) (gives_refused_then m (each_below (suc n + more) f) (f (suc n + more) ∷ []) old new fault (refused_by n more old new fault p))
 
-  pub gives_turn_refused : (n i : ℕ) (old mid new : V) (fault : SinkFault) → i < n → GivesAll m old mid (each_below i f) → GivesSome m mid new (f i ∷ []) fault → GivesSome m old new (each_below n f) fault
+  pub gives_turn_refused : (n i : ℕ) (old mid new : V) (fault : SinkFault) → i < n → GivesAll m old mid (each_below i f) → GivesSome m mid new (f i ∷ []) fault
+      → GivesSome m old new (each_below n f) fault
   gives_turn_refused n i old mid new fault h p q =
       let same : suc i + (n - suc i) ≡ n = omega arith in
       let last = each_below-suc i f in

@@ -30,9 +30,3 @@ HasFrom-split z first (x ∷ xs) ys h =
     let rest = HasFrom-split z (first + 1) xs ys h.1 in
     let same : first + 1 + length xs ≡ first + suc (length xs) = omega arith in
     ((h.0, rest.0), rw same at rest.1)
-
-pub HasFrom-join : (z : List ℕ) (first : ℕ) (xs ys : List ℕ) → HasFrom z first xs → HasFrom z (first + length xs) ys → HasFrom z first (xs ++ ys)
-HasFrom-join z first [] ys h k = rw add-zero at k
-HasFrom-join z first (x ∷ xs) ys h k =
-    let same : first + suc (length xs) ≡ first + 1 + length xs = omega arith in
-    (h.0, HasFrom-join z (first + 1) xs ys h.1 (rw same at k))

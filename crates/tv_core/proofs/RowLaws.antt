@@ -1,8 +1,9 @@
 -- Rows over terms, to which more terms are appended.
-use Rattle.std.proofs.Common.{◌≡◌, ℕ, ◌+◌, ◌-◌, ◌≤◌, List, [], ◌∷◌, ◌++◌, All, map, take, drop, length, get_or, slice_range, refl, sym, ◌∙◌, ap, ap₂, append_assoc, arith, length-append, length-drop}
+use Rattle.std.proofs.Common.{◌≡◌, ℕ, ◌+◌, ◌-◌, ◌≤◌, List, [], ◌∷◌, ◌++◌, All, map, take, drop, length, slice_range, refl, sym, ◌∙◌, ap, ap₂, append_assoc}
+use Rattle.std.proofs.Common.{arith, length-append, length-drop}
 use Rattle.std.proofs.Math.Seq.{drop-append_seam, take-append_seam}
 use Rattle.std.proofs.lemmas.List.{append-nil, take-append-le, drop-append-le, map-append}
-use Rattle.std.proofs.lemmas.List.Elements.{All-push, recursion_from_All}
+use Rattle.std.proofs.lemmas.List.Elements.{recursion_from_All}
 use Rattle.std.specs.List.{AllByRecursion}
 use Rattle.tv_core.specs.Constraints.{Combination, Constraint}
 use Rattle.tv_core.specs.Rows.{constraint_at, Within, row_after}
@@ -26,7 +27,8 @@ constraint_at-append terms more row w =
     let c = slice_range-append terms more (row.start + row.b_end) (row.start + row.c_end) (omega (arith, w.c_from)) (omega (arith, w.within)) in
     rw (a, b, c) refl
 
-constraints-append : (terms more : Combination) (rows : List Row) → AllByRecursion (Within terms) rows → map (constraint_at (terms ++ more)) rows ≡ map (constraint_at terms) rows
+constraints-append : (terms more : Combination) (rows : List Row) → AllByRecursion (Within terms) rows
+    → map (constraint_at (terms ++ more)) rows ≡ map (constraint_at terms) rows
 constraints-append terms more [] w = refl
 constraints-append terms more (row ∷ rows) w = ap₂ (λ x xs. x ∷ xs) (constraint_at-append terms more row w.0) (constraints-append terms more rows w.1)
 
@@ -41,38 +43,16 @@ constraint_at-after terms a b c =
     let lb = length terms + (length a + length b) in
     let lc = length terms + (length a + length b + length c) in
     let first : slice_range all (length terms) la ≡ a = slice_range-seam all terms a (b ++ c) (length terms) la refl refl refl in
-    let second : slice_range all la lb ≡ b = slice_range-seam all (terms ++ a) b c la lb (sym (append_assoc terms a (b ++ c))) (sym (length-append terms a)) (omega arith) in
-    let third : slice_range all lb lc ≡ c = slice_range-seam all (terms ++ (a ++ b)) c [] lb lc (simp (append_assoc, append-nil)) (omega (arith, length-append terms (a ++ b), length-append a b)) (omega arith) in
+    let second : slice_range all la lb ≡ b = slice_range-seam all (terms ++ a) b c la lb (sym (append_assoc terms a (b ++ c))) (sym (length-append terms a))
+    (omega arith) in
+    let third : slice_range all lb lc ≡ c = slice_range-seam all (terms ++ (a ++ b)) c [] lb lc (simp (append_assoc, append-nil))
+    (omega (arith, length-append terms (a ++ b), length-append a b)) (omega arith) in
     constraint_same _ _ _ a b c first second third
-
-Within-append : (terms more : Combination) (row : Row) → Within terms row → Within (terms ++ more) row
-Within-append terms more row w = record {
-  a_length = w.a_length;
-  b_from = w.b_from;
-  b_length = w.b_length;
-  c_from = w.c_from;
-  c_length = w.c_length;
-  within = omega (arith, w.within, length-append terms more);
-}
 
 -- one constraint more
 pub constraints-push : (terms a b c : Combination) (rows : List Row) → All (Within terms) rows
-    → map (constraint_at (terms ++ (a ++ (b ++ c)))) (rows ++ row_after terms a b c ∷ []) ≡ map (constraint_at terms) rows ++ (record { a = a; b = b; c = c }) ∷ []
+    → map (constraint_at (terms ++ (a ++ (b ++ c)))) (rows ++ row_after terms a b c ∷ []) ≡ map (constraint_at terms) rows
+    ++ (record { a = a; b = b; c = c }) ∷ []
 constraints-push terms a b c rows w =
-    map-append _ rows _ ∙ ap₂ (λ xs x. xs ++ x ∷ []) (constraints-append terms (a ++ (b ++ c)) rows (recursion_from_All _ rows w)) (constraint_at-after terms a b c)
-
-pub Within-push : (terms a b c : Combination) (rows : List Row) → length a ≤ 128 → length b ≤ 128 → length c ≤ 128 → All (Within terms) rows
-    → All (Within (terms ++ (a ++ (b ++ c)))) (rows ++ row_after terms a b c ∷ [])
-Within-push terms a b c rows h k l w =
-    let all = terms ++ (a ++ (b ++ c)) in
-    let size : length all ≡ length terms + (length a + (length b + length c)) = simp length-append in
-    All-push (Within all) rows (row_after terms a b c)
-    (λ i d below. Within-append terms (a ++ (b ++ c)) (get_or rows i d) (w i d below))
-    (record {
-      a_length = h;
-      b_from = omega arith;
-      b_length = omega arith;
-      c_from = omega arith;
-      c_length = omega arith;
-      within = omega arith;
-    })
+    map-append _ rows _ ∙ ap₂ (λ xs x. xs ++ x ∷ []) (constraints-append terms (a ++ (b ++ c)) rows (recursion_from_All _ rows w))
+    (constraint_at-after terms a b c)

@@ -1,5 +1,6 @@
 -- A tested list with one constraint more.
-use Rattle.std.proofs.Common.{◌≡◌, ℕ, ◌+◌, ◌%◌, Bool, true, false, not, if◌then◌else◌, List, [], ◌∷◌, ◌++◌, length, Option, Some, None, sum_by, count_by, refl, sym, ◌∙◌, ap, ap₂, arith, length-append, add-zero, zero-add}
+use Rattle.std.proofs.Common.{◌≡◌, ℕ, ◌+◌, ◌%◌, Bool, true, false, not, if◌then◌else◌, List, [], ◌∷◌, ◌++◌, length, Option, Some, None, sum_by, count_by}
+use Rattle.std.proofs.Common.{refl, sym, ◌∙◌, ap, ap₂, arith, length-append, add-zero, zero-add}
 use Rattle.std.specs.Bool.{then_some}
 use Rattle.std.specs.Int.{from_bool}
 use Rattle.std.specs.Option.{option_or}
@@ -57,7 +58,10 @@ IsTested-push old new constraint list b is z tested held first_failed sum before
     let all = list ++ constraint ∷ [] in
     record {
       tested = tested ∙ omega (arith, before.tested, length-append list (constraint ∷ []));
-      held = held ∙ ap₂ (λ m n. m + n) before.held one ∙ sym (sum_by_push (λ c. if holds old.z c then 1 else 0) list constraint) ∙ ap (λ y. count_by (holds y) all) (sym z);
-      first_failed = first_failed ∙ ap₂ option_or before.first_failed place ∙ sym (first_failure-push old.z 0 list constraint) ∙ ap (λ y. first_failure y 0 all) (sym z);
-      sum = sum ∙ ap (λ n. (n + product_in old.z constraint) % P) before.sum ∙ mod-add-mod _ P _ ∙ ap (λ n. n % P) (sym (sum_by_push (product_in old.z) list constraint)) ∙ ap (λ y. sum_by (product_in y) all % P) (sym z);
+      held = held ∙ ap₂ (λ m n. m + n) before.held one ∙ sym (sum_by_push (λ c. if holds old.z c then 1 else 0) list constraint)
+          ∙ ap (λ y. count_by (holds y) all) (sym z);
+      first_failed = first_failed ∙ ap₂ option_or before.first_failed place ∙ sym (first_failure-push old.z 0 list constraint)
+          ∙ ap (λ y. first_failure y 0 all) (sym z);
+      sum = sum ∙ ap (λ n. (n + product_in old.z constraint) % P) before.sum ∙ mod-add-mod _ P _
+          ∙ ap (λ n. n % P) (sym (sum_by_push (product_in old.z) list constraint)) ∙ ap (λ y. sum_by (product_in y) all % P) (sym z);
     }

@@ -8,6 +8,7 @@ pub mod Laws
 pub mod Lines
 pub mod Loops
 pub mod Meanings
+pub mod Normal
 pub mod Prime
 pub mod Rows
 pub mod Sinks

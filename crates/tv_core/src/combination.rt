@@ -1,6 +1,7 @@
 ghost use Rattle.std.specs.Prelude.{◌≡◌, ℕ, ◌+◌, ◌<◌, ◌≤◌, List, [], ◌∷◌, ◌++◌, length, max};
 ghost use Rattle.tv_core.specs.Constraints.{value};
 ghost use Rattle.tv_core.specs.Combinations.{wire, constant, one_less, scaled, less, top};
+ghost use Rattle.tv_core.specs.Normal.{normal, place, put_at, IsNormal};
 
 use crate::field::F;
 use crate::wire::Wire;
@@ -144,6 +145,69 @@ impl Lc {
         self.plus_scaled(-F::ONE, other.terms());
     }
 
+    /// Adds a term to a normal combination, at its wire's place. It costs one comparison where the
+    /// wire is above all others.
+    pub fn add(&mut self, coefficient: F, wire: Wire)
+        requires normal { IsNormal self.old }
+        requires room { length self.old < 128 }
+        ensures terms { self.new ≡ normal (self.old ++ (coefficient, wire) ∷ []) }
+        ensures normal { IsNormal self.new }
+        ensures len { length self.new ≤ length self.old + 1 }
+        ensures top { top self.new ≤ max (top self.old) (wire + 1) }
+    {
+        let at = place(self.terms(), wire);
+        if at == self.terms.len() {
+            self.put_at(at, coefficient, wire);
+            return;
+        }
+        let (before, found) = self.terms[at];
+        if found.0 != wire.0 {
+            self.put_at(at, coefficient, wire);
+            return;
+        }
+        let _ = self.terms.remove(at);
+        self.put_at(at, coefficient + before, wire);
+    }
+
+    /// Adds these terms to a normal combination, each at its wire's place.
+    pub fn add_terms(&mut self, terms: &[(F, Wire)])
+        requires normal { IsNormal self.old }
+        requires room { length self.old + length terms.now ≤ 128 }
+        ensures terms { self.new ≡ normal (self.old ++ terms.now) }
+        ensures normal { IsNormal self.new }
+        ensures len { length self.new ≤ length self.old + length terms.now }
+        ensures top { top self.new ≤ max (top self.old) (top terms.now) }
+    {
+        for (coefficient, wire) in terms {
+            self.add(*coefficient, *wire);
+        }
+    }
+
+    /// Adds `factor` times each of these terms to a normal combination, each at its wire's place.
+    pub fn add_scaled(&mut self, factor: F, terms: &[(F, Wire)])
+        requires normal { IsNormal self.old }
+        requires room { length self.old + length terms.now ≤ 128 }
+        ensures terms { self.new ≡ normal (self.old ++ scaled factor terms.now) }
+        ensures normal { IsNormal self.new }
+        ensures len { length self.new ≤ length self.old + length terms.now }
+        ensures top { top self.new ≤ max (top self.old) (top terms.now) }
+    {
+        for (coefficient, wire) in terms {
+            self.add(factor * *coefficient, *wire);
+        }
+    }
+
+    // Inserts a term at a place, unless its coefficient is 0.
+    fn put_at(&mut self, at: usize, coefficient: F, wire: Wire)
+        requires within { at ≤ length self.old }
+        requires room { length self.old < 128 }
+        ensures { self.new ≡ put_at coefficient wire at self.old }
+    {
+        if coefficient != F::ZERO {
+            self.terms.insert(at, (coefficient, wire));
+        }
+    }
+
     /// The terms, in order.
     pub fn terms(&self) -> &[(F, Wire)]
         ensures terms { result.now ≡ self.now }
@@ -164,4 +228,21 @@ impl Lc {
         }
         sum
     }
+}
+
+// How many terms of a normal combination stand before a wire's place, sought from the last term on.
+fn place(terms: &[(F, Wire)], wire: Wire) -> usize
+    requires { IsNormal terms.now }
+    ensures place { result ≡ place wire terms.now }
+    ensures within { result ≤ length terms.now }
+{
+    let mut at = terms.len();
+    while at > 0 {
+        let (_, before) = terms[at - 1];
+        if before.0 < wire.0 {
+            return at;
+        }
+        at -= 1;
+    }
+    at
 }

@@ -1,15 +1,16 @@
 -- Looking into a normal combination.
-use Rattle.std.proofs.Common.{◌≡◌, ℕ, zero, suc, ◌+◌, ◌-◌, ◌*◌, ◌%◌, ◌<◌, ◌≤◌, ◌&&◌, [], ◌∷◌, Some, None, refl, sym, ◌∙◌, ap, ap₂, subst, arith, eqb, ltb, true, false, inl, inr, cond, length, get_or, eq-eqb, ne_eqb, ltb-true, one-mul, mod-eq_of_lt}
+use Rattle.std.proofs.Common.{◌≡◌, ℕ, zero, suc, ◌+◌, ◌-◌, ◌*◌, ◌%◌, ◌<◌, ◌≤◌, ◌&&◌, [], ◌∷◌, Some, None, refl, sym, ◌∙◌, ap, ap₂, subst, arith, eqb, ltb}
+use Rattle.std.proofs.Common.{true, false, inl, inr, cond, length, get_or, eq-eqb, ne_eqb, ltb-true, one-mul, mod-eq_of_lt}
 use Rattle.std.specs.List.{list_all}
 use Rattle.std.proofs.lemmas.Bool.{and_left, and_right, cases_lt, ltb-false, or_from}
 use Rattle.std.specs.List.Sorted.{IsNonDecreasingBy, IsPartitionPoint}
 use Rattle.tv_core.specs.Combinations.{scaled}
 use Rattle.tv_core.specs.Constraints.{Combination}
 use Rattle.tv_core.specs.declared.field.TheConstants.{P}
-use Rattle.tv_shrink.specs.Normal.{IsNormalFrom}
-use Rattle.tv_shrink.specs.Replacing.{coefficient, has_wire, constant_in}
+use Rattle.tv_core.specs.Normal.{coefficient, IsNormalFrom}
+use Rattle.tv_shrink.specs.Replacing.{has_wire, constant_in}
 use Rattle.tv_shrink.proofs.ReplacingLaws.{found_here, found_later}
-use Rattle.tv_shrink.proofs.Unique.{coefficient-first, coefficient-other}
+use Rattle.tv_core.proofs.Unique.{coefficient-first, coefficient-other}
 
 -- constants
 pub constant_in-none : constant_in [] ≡ Some 0
@@ -59,7 +60,8 @@ above_at least i d [] n h = absurd (omega arith)
 above_at least zero d (t ∷ x) n h = n.0
 above_at least (suc i) d (t ∷ x) n h = let later = above_at (t.1 + 1) i d x n.3 (omega arith) in omega (arith, n.0)
 
-pub found_at : (least i w : ℕ) (d : ℕ × ℕ) (x : Combination) → IsNormalFrom least x → i < length x → (get_or x i d).1 ≡ w → (has_wire w x ≡ true) × (coefficient w x ≡ (get_or x i d).0)
+pub found_at : (least i w : ℕ) (d : ℕ × ℕ) (x : Combination) → IsNormalFrom least x → i < length x → (get_or x i d).1 ≡ w → (has_wire w x ≡ true)
+    × (coefficient w x ≡ (get_or x i d).0)
 found_at least i w d [] n h is = absurd (omega arith)
 found_at least zero w d (t ∷ x) n h is = (found_here w t x (sym is), subst (λ v. coefficient v (t ∷ x) ≡ t.0) is (coefficient-first t x n.2 n.3))
 found_at least (suc i) w d (t ∷ x) n h is =
@@ -68,7 +70,8 @@ found_at least (suc i) w d (t ∷ x) n h is =
     let above = above_at (t.1 + 1) i d x n.3 inside in
     (found_later w t x later.0, coefficient-other t w x (λ e. absurd (omega arith)) ∙ later.1)
 
-pub coefficient_found : (i w : ℕ) (t : ℕ × ℕ) (x : Combination) → IsNormalFrom 0 x → i < length x → t ≡ get_or x i t → t.1 ≡ w → Some t.0 ≡ cond (has_wire w x) (Some (coefficient w x)) None
+pub coefficient_found : (i w : ℕ) (t : ℕ × ℕ) (x : Combination) → IsNormalFrom 0 x → i < length x → t ≡ get_or x i t → t.1 ≡ w
+    → Some t.0 ≡ cond (has_wire w x) (Some (coefficient w x)) None
 coefficient_found i w t x n h at is =
     let found = found_at 0 i w t x n h (ap (λ u. u.1) (sym at) ∙ is) in
     ap Some (ap (λ u. u.0) at ∙ sym found.1) ∙ sym (ap (λ b. cond b (Some (coefficient w x)) None) found.0)
@@ -79,7 +82,8 @@ lacks_each w [] each = refl
 lacks_each w (t ∷ x) each =
     or_from (eqb t.1 w) (has_wire w x) (ne_eqb t.1 w (λ e. each 0 t (omega arith) e)) (lacks_each w x (λ k d h e. each (suc k) d (omega arith) e))
 
-pub coefficient_missing : (w : ℕ) (x : Combination) → ((k : ℕ) (d : ℕ × ℕ) → k < length x → (get_or x k d).1 ≡ w → ⊥) → None ≡ cond (has_wire w x) (Some (coefficient w x)) None
+pub coefficient_missing : (w : ℕ) (x : Combination) → ((k : ℕ) (d : ℕ × ℕ) → k < length x → (get_or x k d).1 ≡ w → ⊥)
+    → None ≡ cond (has_wire w x) (Some (coefficient w x)) None
 coefficient_missing w x each = sym (ap (λ b. cond b (Some (coefficient w x)) None) (lacks_each w x each))
 
 -- once times a combination
@@ -98,7 +102,8 @@ rising least (t ∷ x) n (suc i) zero d le h = absurd (omega arith)
 rising least (t ∷ x) n (suc i) (suc j) d le h = rising (t.1 + 1) x n.3 i j d (omega arith) (omega arith)
 
 -- so a wire stands where those before it end, or nowhere
-pub split_missing : (w i : ℕ) (x : Combination) → IsNormalFrom 0 x → IsPartitionPoint (λ t. ltb t.1 w ≡ true) (λ t. ltb t.1 w ≡ false) x i → ((d : ℕ × ℕ) → i < length x → (get_or x i d).1 ≡ w → ⊥) →
+pub split_missing : (w i : ℕ) (x : Combination) → IsNormalFrom 0 x → IsPartitionPoint (λ t. ltb t.1 w ≡ true) (λ t. ltb t.1 w ≡ false) x i
+    → ((d : ℕ × ℕ) → i < length x → (get_or x i d).1 ≡ w → ⊥) →
     None ≡ cond (has_wire w x) (Some (coefficient w x)) None
 split_missing w i x n point apart =
     coefficient_missing w x (λ k d h e.
@@ -112,7 +117,8 @@ split_missing w i x n point apart =
     ])
 
 -- and nowhere where the last wire is below it
-pub behind_missing : (w : ℕ) (t : ℕ × ℕ) (x : Combination) → IsNormalFrom 0 x → 0 < length x → ((d : ℕ × ℕ) → get_or x (length x - 1) d ≡ t) → t.1 < w → None ≡ cond (has_wire w x) (Some (coefficient w x)) None
+pub behind_missing : (w : ℕ) (t : ℕ × ℕ) (x : Combination) → IsNormalFrom 0 x → 0 < length x → ((d : ℕ × ℕ) → get_or x (length x - 1) d ≡ t) → t.1 < w
+    → None ≡ cond (has_wire w x) (Some (coefficient w x)) None
 behind_missing w t x n some at below =
     coefficient_missing w x (λ k d h e.
     let most : (get_or x k d).1 ≤ (get_or x (length x - 1) d).1 = rising 0 x n k (length x - 1) d (omega arith) (omega arith) in

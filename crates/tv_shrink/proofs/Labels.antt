@@ -1,5 +1,6 @@
 -- The wires that are kept, and the place of each among them.
-use Rattle.std.proofs.Common.{◌≡◌, ◌≢◌, ℕ, zero, suc, ◌+◌, ◌<◌, ◌≤◌, Bool, not, List, [], ◌∷◌, ◌++◌, refl, sym, ◌∙◌, ap, ap₂, arith, ◌-◌, append-nil, eqb, true, false, inl, inr, cond, map, length, get_or, take, eqb-true, eq-eqb, ne_eqb, one-add}
+use Rattle.std.proofs.Common.{◌≡◌, ◌≢◌, ℕ, zero, suc, ◌+◌, ◌<◌, ◌≤◌, Bool, not, List, [], ◌∷◌, ◌++◌, refl, sym, ◌∙◌, ap, ap₂, arith, ◌-◌, append-nil, eqb}
+use Rattle.std.proofs.Common.{true, false, inl, inr, cond, map, length, get_or, take, eqb-true, eq-eqb, ne_eqb, one-add}
 use Rattle.std.specs.List.{AllByRecursion, filter, list_any, range_with_len}
 use Rattle.std.specs.Prelude.{slice_index}
 use Rattle.std.proofs.lemmas.Bool.{cond_both, cases_Bool, eqb-false, or_left, or_right, or_cases, false_from_ne_true, not-true, cond-true, cond-false}
@@ -15,20 +16,24 @@ place-later : (w x : ℕ) (xs : List ℕ) → eqb x w ≡ false → place w (x �
 place-later w x xs e = cond-true (not (eqb x w)) _ 0 (ap not e) ∙ one-add (place w xs)
 
 -- a wire that is there stands at its place
-at_place_step : (w x : ℕ) (xs : List ℕ) (b : Bool) → eqb x w ≡ b → (list_any (λ v. eqb v w) xs ≡ true → get_or xs (place w xs) 0 ≡ w) → list_any (λ v. eqb v w) (x ∷ xs) ≡ true → get_or (x ∷ xs) (place w (x ∷ xs)) 0 ≡ w
+at_place_step : (w x : ℕ) (xs : List ℕ) (b : Bool) → eqb x w ≡ b → (list_any (λ v. eqb v w) xs ≡ true → get_or xs (place w xs) 0 ≡ w)
+    → list_any (λ v. eqb v w) (x ∷ xs) ≡ true → get_or (x ∷ xs) (place w (x ∷ xs)) 0 ≡ w
 at_place_step w x xs true e later h = ap (λ k. get_or (x ∷ xs) k 0) (place-here w x xs e) ∙ eqb-true x w e
 at_place_step w x xs false e later h =
-    let there : list_any (λ v. eqb v w) xs ≡ true = elim (or_cases _ _ h) [ inl here ↦ absurd (let both : true ≡ false = sym here ∙ e in cc) | inr behind ↦ behind ] in
+    let there : list_any (λ v. eqb v w) xs ≡ true = elim
+    (or_cases _ _ h) [ inl here ↦ absurd (let both : true ≡ false = sym here ∙ e in cc) | inr behind ↦ behind ] in
     ap (λ k. get_or (x ∷ xs) k 0) (place-later w x xs e) ∙ later there
 
 at_place : (w : ℕ) (xs : List ℕ) → list_any (λ v. eqb v w) xs ≡ true → get_or xs (place w xs) 0 ≡ w
 at_place w [] h = absurd (let no : false ≡ true = h in cc)
 at_place w (x ∷ xs) h = at_place_step w x xs (eqb x w) refl (at_place w xs) h
 
-place_inside_step : (w x : ℕ) (xs : List ℕ) (b : Bool) → eqb x w ≡ b → (list_any (λ v. eqb v w) xs ≡ true → place w xs < length xs) → list_any (λ v. eqb v w) (x ∷ xs) ≡ true → place w (x ∷ xs) < length (x ∷ xs)
+place_inside_step : (w x : ℕ) (xs : List ℕ) (b : Bool) → eqb x w ≡ b → (list_any (λ v. eqb v w) xs ≡ true → place w xs < length xs)
+    → list_any (λ v. eqb v w) (x ∷ xs) ≡ true → place w (x ∷ xs) < length (x ∷ xs)
 place_inside_step w x xs true e later h = omega (arith, place-here w x xs e)
 place_inside_step w x xs false e later h =
-    let there : list_any (λ v. eqb v w) xs ≡ true = elim (or_cases _ _ h) [ inl here ↦ absurd (let both : true ≡ false = sym here ∙ e in cc) | inr behind ↦ behind ] in
+    let there : list_any (λ v. eqb v w) xs ≡ true = elim
+    (or_cases _ _ h) [ inl here ↦ absurd (let both : true ≡ false = sym here ∙ e in cc) | inr behind ↦ behind ] in
     omega (arith, place-later w x xs e, later there)
 
 place_inside : (w : ℕ) (xs : List ℕ) → list_any (λ v. eqb v w) xs ≡ true → place w xs < length xs
@@ -48,7 +53,8 @@ Rising-filter : (p : ℕ → Bool) (a n : ℕ) → Rising a (filter p (range_wit
 Rising-filter p a zero = tt
 Rising-filter p a (suc n) =
     cond_both (p a) (a ∷ filter p (range_with_len (a + 1) n)) (filter p (range_with_len (a + 1) n)) (Rising a)
-    (λ e. (omega arith, Rising-filter p (a + 1) n)) (λ e. Rising-lower a (a + 1) (filter p (range_with_len (a + 1) n)) (omega arith) (Rising-filter p (a + 1) n))
+    (λ e. (omega arith, Rising-filter p (a + 1) n))
+    (λ e. Rising-lower a (a + 1) (filter p (range_with_len (a + 1) n)) (omega arith) (Rising-filter p (a + 1) n))
 
 Rising-at : (least : ℕ) (xs : List ℕ) (k : ℕ) → Rising least xs → k < length xs → least ≤ get_or xs k 0
 Rising-at least [] k r h = absurd (omega arith)
@@ -90,11 +96,13 @@ module _ (wires : ℕ) (gone : List Bool) where
   unfolding kept
   at_place-kept w h stays = at_place w (kept wires gone) (any_filter (λ v. not (get_or gone v false)) 0 wires w (ap not stays) (omega arith) (omega arith))
 
-  filter_stay : (a n : ℕ) → a + n ≤ wires → AllByRecursion (λ w. (w < wires) × (get_or gone w false ≡ false)) (filter (λ w. not (get_or gone w false)) (range_with_len a n))
+  filter_stay : (a n : ℕ) → a + n ≤ wires → AllByRecursion (λ w. (w < wires) × (get_or gone w false ≡ false))
+      (filter (λ w. not (get_or gone w false)) (range_with_len a n))
   filter_stay a zero h = tt
   filter_stay a (suc n) h =
       let rest = filter_stay (a + 1) n (omega arith) in
-      cond_both (not (get_or gone a false)) (a ∷ filter (λ w. not (get_or gone w false)) (range_with_len (a + 1) n)) (filter (λ w. not (get_or gone w false)) (range_with_len (a + 1) n))
+      cond_both (not (get_or gone a false)) (a ∷ filter (λ w. not (get_or gone w false)) (range_with_len (a + 1) n))
+      (filter (λ w. not (get_or gone w false)) (range_with_len (a + 1) n))
       (AllByRecursion (λ w. (w < wires) × (get_or gone w false ≡ false)))
       (λ e. ((omega arith, not-true (get_or gone a false) e), rest)) (λ e. rest)
 
@@ -126,9 +134,11 @@ front_kept p a (suc n) (suc m) h each =
 pub none_below : (publics w : ℕ) (gone : List Bool) → ((v : ℕ) → get_or gone v false ≡ true → publics ≤ v) → w < publics → get_or gone w false ≡ false
 none_below publics w gone later h = false_from_ne_true (get_or gone w false) (λ e. let above = later w e in omega arith)
 
-pub front-kept : (wires publics : ℕ) (gone : List Bool) → publics ≤ wires → ((v : ℕ) → get_or gone v false ≡ true → publics ≤ v) → take publics (kept wires gone) ≡ range_with_len 0 publics
+pub front-kept : (wires publics : ℕ) (gone : List Bool) → publics ≤ wires → ((v : ℕ) → get_or gone v false ≡ true → publics ≤ v)
+    → take publics (kept wires gone) ≡ range_with_len 0 publics
 unfolding kept
-front-kept wires publics gone h later = front_kept (λ w. not (get_or gone w false)) 0 publics wires h (λ w k. ap not (none_below publics w gone later (omega arith)))
+front-kept wires publics gone h later = front_kept (λ w. not (get_or gone w false)) 0 publics wires h
+    (λ w k. ap not (none_below publics w gone later (omega arith)))
 
 -- how the labels are made
 first_of : (w n : ℕ) → range_with_len (0 + w) (1 + n) ≡ w ∷ range_with_len (w + 1) n
@@ -164,28 +174,35 @@ unfolding kept
 place_is wires w gone h stays =
     let split : wires ≡ w + (1 + (wires - w - 1)) = omega arith in
     ap (λ n. place w (kept_below n gone)) split
-    ∙ ap (place w) (ap (filter (λ v. not (get_or gone v false))) (range-append 0 w (1 + (wires - w - 1)) ∙ ap (λ xs. range_with_len 0 w ++ xs) (first_of w (wires - w - 1)))
+    ∙ ap (place w) (ap (filter (λ v. not (get_or gone v false)))
+    (range-append 0 w (1 + (wires - w - 1)) ∙ ap (λ xs. range_with_len 0 w ++ xs) (first_of w (wires - w - 1)))
     ∙ filter-append (λ v. not (get_or gone v false)) (range_with_len 0 w) (w ∷ range_with_len (w + 1) (wires - w - 1))
-    ∙ ap (λ b. kept_below w gone ++ cond b (w ∷ filter (λ v. not (get_or gone v false)) (range_with_len (w + 1) (wires - w - 1))) (filter (λ v. not (get_or gone v false)) (range_with_len (w + 1) (wires - w - 1)))) (ap not stays))
-    ∙ place-after w (kept_below w gone) (filter (λ v. not (get_or gone v false)) (range_with_len (w + 1) (wires - w - 1))) (below_range (λ v. not (get_or gone v false)) 0 w w (omega arith))
+    ∙ ap (λ b. kept_below w gone ++ cond b (w ∷ filter (λ v. not (get_or gone v false)) (range_with_len (w + 1) (wires - w - 1)))
+    (filter (λ v. not (get_or gone v false)) (range_with_len (w + 1) (wires - w - 1)))) (ap not stays))
+    ∙ place-after w (kept_below w gone) (filter (λ v. not (get_or gone v false)) (range_with_len (w + 1) (wires - w - 1)))
+    (below_range (λ v. not (get_or gone v false)) 0 w w (omega arith))
 
 filter_short : (p : ℕ → Bool) (a n : ℕ) → length (filter p (range_with_len a n)) ≤ n
 filter_short p a zero = omega arith
 filter_short p a (suc n) =
     let rest = filter_short p (a + 1) n in
-    cond_both (p a) (a ∷ filter p (range_with_len (a + 1) n)) (filter p (range_with_len (a + 1) n)) (λ xs. length xs ≤ suc n) (λ e. omega arith) (λ e. omega arith)
+    cond_both (p a) (a ∷ filter p (range_with_len (a + 1) n)) (filter p (range_with_len (a + 1) n)) (λ xs. length xs ≤ suc n) (λ e. omega arith)
+    (λ e. omega arith)
 
 pub kept_short : (n : ℕ) (gone : List Bool) → length (kept_below n gone) ≤ n
 kept_short n gone = filter_short (λ w. not (get_or gone w false)) 0 n
 
-pub kept_one : (n : ℕ) (gone : List Bool) (labels : List ℕ) → labels ≡ kept_below n gone → get_or gone n false ≡ false → labels ++ (n ∷ []) ≡ kept_below (n + 1) gone
+pub kept_one : (n : ℕ) (gone : List Bool) (labels : List ℕ) → labels ≡ kept_below n gone → get_or gone n false ≡ false
+    → labels ++ (n ∷ []) ≡ kept_below (n + 1) gone
 kept_one n gone labels is stays = ap (λ xs. xs ++ (n ∷ [])) is ∙ sym (kept_more n gone ∙ ap (λ b. kept_below n gone ++ cond (not b) (n ∷ []) []) stays)
 
 pub kept_none : (n : ℕ) (gone : List Bool) (labels : List ℕ) → labels ≡ kept_below n gone → get_or gone n false ≡ true → labels ≡ kept_below (n + 1) gone
 kept_none n gone labels is goes = is ∙ sym (kept_more n gone ∙ ap (λ b. kept_below n gone ++ cond (not b) (n ∷ []) []) goes ∙ append-nil (kept_below n gone))
 
-pub places_more : (f : ℕ → ℕ) (places : List ℕ) (n v k : ℕ) → length places ≡ n → ((u : ℕ) → u < n → get_or places u 0 ≡ f u) → k ≡ f n → v < n + 1 → get_or (places ++ (k ∷ [])) v 0 ≡ f v
-places_more f [] n v k each before is h = let first : v ≡ 0 = omega arith in let none : n ≡ 0 = omega arith in ap (λ u. get_or (k ∷ []) u 0) first ∙ is ∙ ap f (none ∙ sym first)
+pub places_more : (f : ℕ → ℕ) (places : List ℕ) (n v k : ℕ) → length places ≡ n → ((u : ℕ) → u < n → get_or places u 0 ≡ f u) → k ≡ f n → v < n + 1
+    → get_or (places ++ (k ∷ [])) v 0 ≡ f v
+places_more f [] n v k each before is h = let first : v ≡ 0 = omega arith in let none : n ≡ 0 = omega arith in ap (λ u. get_or (k ∷ []) u 0) first ∙ is
+    ∙ ap f (none ∙ sym first)
 places_more f (x ∷ places) n zero k each before is h = before 0 (omega arith)
 places_more f (x ∷ places) n (suc v) k each before is h =
     places_more (λ u. f (suc u)) places (n - 1) v k (omega arith) (λ u l. before (suc u) (omega arith)) (is ∙ ap f (omega arith)) (omega arith)

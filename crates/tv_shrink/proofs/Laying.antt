@@ -1,5 +1,6 @@
 -- Terms put over others, and the constraints whose terms are not among those.
-use Rattle.std.proofs.Common.{◌≡◌, ◌⊎◌, ℕ, zero, suc, ◌+◌, ◌-◌, ◌<◌, ◌≤◌, List, [], ◌∷◌, ◌++◌, Option, Some, None, refl, sym, ◌∙◌, ap, ap₂, subst, arith, inl, inr, map, length, get_or, set, take, drop, take-append-drop}
+use Rattle.std.proofs.Common.{◌≡◌, ◌⊎◌, ℕ, zero, suc, ◌+◌, ◌-◌, ◌<◌, ◌≤◌, List, [], ◌∷◌, ◌++◌, Option, Some, None, refl, sym, ◌∙◌, ap, ap₂, subst, arith, inl}
+use Rattle.std.proofs.Common.{inr, map, length, get_or, set, take, drop, take-append-drop}
 use Rattle.std.specs.List.{AllByRecursion}
 use Rattle.std.specs.Option.{option_map}
 use Rattle.std.specs.Prelude.{slice_range}
@@ -12,7 +13,8 @@ use Rattle.tv_shrink.proofs.Read.{each_at}
 use Rattle.tv_shrink.proofs.Spans.{inside_more, part_kept, push_each, row_appended, row_end, row_kept, rows_kept, same_row, set_each}
 
 -- a part of the terms before or behind those that were put
-part_clear : (xs put : Combination) (start i j : ℕ) → start ≤ length xs → i ≤ j → j ≤ length xs → (j ≤ start) ⊎ (start + length put ≤ i) → slice_range (laid start put xs) i j ≡ slice_range xs i j
+part_clear : (xs put : Combination) (start i j : ℕ) → start ≤ length xs → i ≤ j → j ≤ length xs → (j ≤ start) ⊎ (start + length put ≤ i)
+    → slice_range (laid start put xs) i j ≡ slice_range xs i j
 part_clear xs put start i j h below inside (inl before) =
     let size : length (take start xs) ≡ start = length-take-le start xs h in
     part_kept (take start xs) (put ++ drop (start + length put) xs) i j below (omega arith)
@@ -31,7 +33,8 @@ part_clear xs put start i j h below inside (inr behind) =
     ∙ ap (λ n. drop n xs) (let at : length (take e xs) + (i - e) ≡ i = omega arith in at))
 
 -- a constraint there
-row_clear : (xs put : Combination) (start : ℕ) (span : Span) → start ≤ length xs → end_of span ≤ length xs → (end_of span ≤ start) ⊎ (start + length put ≤ span.start) → row_at (laid start put xs) span ≡ row_at xs span
+row_clear : (xs put : Combination) (start : ℕ) (span : Span) → start ≤ length xs → end_of span ≤ length xs → (end_of span ≤ start)
+    ⊎ (start + length put ≤ span.start) → row_at (laid start put xs) span ≡ row_at xs span
 row_clear xs put start span h inside (inl before) =
     same_row _ _ _ _ _ _
     (part_clear xs put start span.start (span.start + span.a) h (omega arith) (omega arith) (inl (omega arith)))
@@ -47,17 +50,20 @@ row_clear xs put start span h inside (inr behind) =
 row_laid : (xs : Combination) (row : Constraint) (start : ℕ) → start ≤ length xs → row_at (laid start (row_terms row) xs) (span_of start row) ≡ row
 row_laid xs row start h =
     let size : length (take start xs) ≡ start = length-take-le start xs h in
-    let terms : length (row_terms row) ≡ length row.a + (length row.b + length row.c) = omega (arith, length-append row.a (row.b ++ row.c), length-append row.b row.c) in
+    let terms : length (row_terms row) ≡ length row.a + (length row.b + length row.c) = omega
+    (arith, length-append row.a (row.b ++ row.c), length-append row.b row.c) in
     let inside : end_of (span_of start row) ≤ length (take start xs ++ row_terms row) = omega (arith, length-append (take start xs) (row_terms row)) in
     ap (λ ys. row_at ys (span_of start row)) (sym (append_assoc (take start xs) (row_terms row) (drop (start + length (row_terms row)) xs)))
     ∙ row_kept (take start xs ++ row_terms row) (drop (start + length (row_terms row)) xs) (span_of start row) inside
     ∙ ap (λ n. row_at (take start xs ++ row_terms row) (span_of n row)) (sym size)
     ∙ row_appended (take start xs) row
 
-laid_longer : (start : ℕ) (put xs : Combination) → start ≤ length xs → (length xs ≤ length (laid start put xs)) × (start + length put ≤ length (laid start put xs))
+laid_longer : (start : ℕ) (put xs : Combination) → start ≤ length xs → (length xs ≤ length (laid start put xs))
+    × (start + length put ≤ length (laid start put xs))
 laid_longer start put xs h =
     let size : length (laid start put xs) ≡ start + (length put + length (drop (start + length put) xs)) =
-    length-append (take start xs) (put ++ drop (start + length put) xs) ∙ ap₂ (λ m n. m + n) (length-take-le start xs h) (length-append put (drop (start + length put) xs)) in
+    length-append (take start xs) (put ++ drop (start + length put) xs)
+    ∙ ap₂ (λ m n. m + n) (length-take-le start xs h) (length-append put (drop (start + length put) xs)) in
     (omega (arith, length-drop (start + length put) xs), omega arith)
 
 -- what holds of all constraints but the one at a place
@@ -86,17 +92,22 @@ apart_back : (s t : Span) → IsClear s.start (end_of s) (Some t) → IsClear t.
 apart_back s t (inl h) = inr h
 apart_back s t (inr h) = inl h
 
-others_apart : (spans : List (Option Span)) (i : ℕ) (span : Span) → AreApart spans → i < length spans → get_or spans i None ≡ Some span → OthersAre (IsClear span.start (end_of span)) i spans
+others_apart : (spans : List (Option Span)) (i : ℕ) (span : Span) → AreApart spans → i < length spans → get_or spans i None ≡ Some span
+    → OthersAre (IsClear span.start (end_of span)) i spans
 others_apart [] i span apart h at = tt
 others_apart (first ∷ spans) zero span apart h at = let here : AreApart (Some span ∷ spans) = subst (λ s. AreApart (s ∷ spans)) at apart in here.0
 others_apart (None ∷ spans) (suc i) span apart h at = (tt, others_apart spans i span apart (omega arith) at)
 others_apart (Some first ∷ spans) (suc i) span apart h at =
-    let inside : i < length spans = omega arith in
-    (apart_back first span (subst (IsClear first.start (end_of first)) at (each_at (IsClear first.start (end_of first)) spans i None apart.0 inside)), others_apart spans i span apart.1 inside at)
+    let inside : i < length spans = omega arith in (
+      apart_back first span (subst (IsClear first.start (end_of first)) at (each_at (IsClear first.start (end_of first)) spans i None apart.0 inside)),
+      others_apart spans i span apart.1 inside at,
+    )
 
 -- so a free place is apart from all others
-free_clear : (n : ℕ) (spans : List (Option Span)) (i : ℕ) (span : Span) (start size : ℕ) → AreLaid n spans → i < length spans → get_or spans i None ≡ Some span → IsFree n span start size → OthersAre (IsClear start (start + size)) i spans
-free_clear n spans i span start size h inside at (inl over) = others_weaker (IsClear span.start (end_of span)) (IsClear start (start + size)) narrower spans i (others_apart spans i span h.apart inside at)
+free_clear : (n : ℕ) (spans : List (Option Span)) (i : ℕ) (span : Span) (start size : ℕ) → AreLaid n spans → i < length spans → get_or spans i None ≡ Some span
+    → IsFree n span start size → OthersAre (IsClear start (start + size)) i spans
+free_clear n spans i span start size h inside at (inl over) = others_weaker (IsClear span.start (end_of span)) (IsClear start (start + size)) narrower spans i
+    (others_apart spans i span h.apart inside at)
   where
     narrower : (s : Option Span) → IsClear span.start (end_of span) s → IsClear start (start + size) s
     narrower None clear = tt
@@ -109,7 +120,8 @@ free_clear n spans i span start size h inside at (inr last) = each_other (IsInsi
     before (Some s) is = inl (omega arith)
 
 -- constraints stay apart with one more, one fewer, or one that was put
-pub apart_set : (spans : List (Option Span)) (i : ℕ) (span : Span) → AreApart spans → OthersAre (IsClear span.start (end_of span)) i spans → AreApart (set spans i (Some span))
+pub apart_set : (spans : List (Option Span)) (i : ℕ) (span : Span) → AreApart spans → OthersAre (IsClear span.start (end_of span)) i spans
+    → AreApart (set spans i (Some span))
 apart_set [] i span apart others = tt
 apart_set (None ∷ spans) zero span apart others = (others, apart)
 apart_set (Some first ∷ spans) zero span apart others = (others, apart.1)
@@ -133,7 +145,8 @@ apart_push n (None ∷ spans) span inside apart behind = apart_push n spans span
 apart_push n (Some first ∷ spans) span inside apart behind =
     (push_each (IsClear first.start (end_of first)) spans (Some span) apart.0 (inr (omega (arith, inside.0))), apart_push n spans span inside.1 apart.1 behind)
 
-laid_pushed : (n m : ℕ) (spans : List (Option Span)) (span : Span) → AreLaid n spans → n ≤ m → n ≤ span.start → end_of span ≤ m → AreLaid m (spans ++ Some span ∷ [])
+laid_pushed : (n m : ℕ) (spans : List (Option Span)) (span : Span) → AreLaid n spans → n ≤ m → n ≤ span.start → end_of span ≤ m
+    → AreLaid m (spans ++ Some span ∷ [])
 laid_pushed n m spans span h more behind ends = record {
   inside = push_each (IsInside m) spans (Some span) (inside_more n m spans more h.inside) ends;
   apart = apart_push n spans span h.inside h.apart behind;
@@ -152,26 +165,32 @@ laid_more n m spans more h = record { inside = inside_more n m spans more h.insi
 
 -- the constraints where one was put in place of another one
 module _ (xs put : Combination) (start : ℕ) (h : start ≤ length xs) where
-  one_kept : (span : Option Span) → IsInside (length xs) span → IsClear start (start + length put) span → option_map (row_at (laid start put xs)) span ≡ option_map (row_at xs) span
+  one_kept : (span : Option Span) → IsInside (length xs) span → IsClear start (start + length put) span
+      → option_map (row_at (laid start put xs)) span ≡ option_map (row_at xs) span
   one_kept None inside clear = refl
   one_kept (Some span) inside clear = ap Some (row_clear xs put start span h inside clear)
 
-  all_kept : (spans : List (Option Span)) → AreInside (length xs) spans → AllByRecursion (IsClear start (start + length put)) spans → map (option_map (row_at (laid start put xs))) spans ≡ map (option_map (row_at xs)) spans
+  all_kept : (spans : List (Option Span)) → AreInside (length xs) spans → AllByRecursion (IsClear start (start + length put)) spans
+      → map (option_map (row_at (laid start put xs))) spans ≡ map (option_map (row_at xs)) spans
   all_kept [] inside clear = refl
   all_kept (span ∷ spans) inside clear = ap₂ (λ row rows. row ∷ rows) (one_kept span inside.0 clear.0) (all_kept spans inside.1 clear.1)
 
-  others_kept : (spans : List (Option Span)) (i : ℕ) (made : Span) (row : Constraint) → AreInside (length xs) spans → OthersAre (IsClear start (start + length put)) i spans → row_at (laid start put xs) made ≡ row →
+  others_kept : (spans : List (Option Span)) (i : ℕ) (made : Span) (row : Constraint) → AreInside (length xs) spans
+      → OthersAre (IsClear start (start + length put)) i spans → row_at (laid start put xs) made ≡ row →
       map (option_map (row_at (laid start put xs))) (set spans i (Some made)) ≡ set (map (option_map (row_at xs)) spans) i (Some row)
   others_kept [] i made row inside clear is = refl
   others_kept (span ∷ spans) zero made row inside clear is = ap₂ (λ first rows. Some first ∷ rows) is (all_kept spans inside.1 clear)
-  others_kept (span ∷ spans) (suc i) made row inside clear is = ap₂ (λ first rows. first ∷ rows) (one_kept span inside.0 clear.0) (others_kept spans i made row inside.1 clear.1 is)
+  others_kept (span ∷ spans) (suc i) made row inside clear is = ap₂ (λ first rows. first ∷ rows) (one_kept span inside.0 clear.0)
+      (others_kept spans i made row inside.1 clear.1 is)
 
-pub held_at : (spans : List (Option Span)) (i : ℕ) (span : Option Span) (held : Span) → i < length spans → span ≡ get_or spans i span → span ≡ Some held → get_or spans i None ≡ Some held
+pub held_at : (spans : List (Option Span)) (i : ℕ) (span : Option Span) (held : Span) → i < length spans → span ≡ get_or spans i span → span ≡ Some held
+    → get_or spans i None ≡ Some held
 held_at [] i span held h at is = absurd (omega arith)
 held_at (first ∷ spans) zero span held h at is = sym at ∙ is
 held_at (first ∷ spans) (suc i) span held h at is = held_at spans i span held (omega arith) at is
 
-pub rows_laid : (xs ys put : Combination) (spans : List (Option Span)) (rows : List (Option Constraint)) (i start : ℕ) (old made : Span) (row : Constraint) → AreLaid (length xs) spans → map (option_map (row_at xs)) spans ≡ rows → i < length spans → get_or spans i None ≡ Some old →
+pub rows_laid : (xs ys put : Combination) (spans : List (Option Span)) (rows : List (Option Constraint)) (i start : ℕ) (old made : Span) (row : Constraint)
+    → AreLaid (length xs) spans → map (option_map (row_at xs)) spans ≡ rows → i < length spans → get_or spans i None ≡ Some old →
     put ≡ row_terms row → IsFree (length xs) old start (length put) → ys ≡ laid start put xs → made ≡ span_of start row →
     AreLaid (length ys) (set spans i (Some made)) × (map (option_map (row_at ys)) (set spans i (Some made)) ≡ set rows i (Some row))
 rows_laid xs ys put spans rows i start old made row h view inside at terms free is made_is =
@@ -179,13 +198,16 @@ rows_laid xs ys put spans rows i start old made row h view inside at terms free 
     let low : start ≤ length xs = elim free [ inl over ↦ omega (arith, over.0) | inr last ↦ omega arith ] in
     let clear = free_clear (length xs) spans i old start (length put) h inside at free in
     let longer = laid_longer start put xs low in
-    let size : length put ≡ length row.a + (length row.b + length row.c) = ap length terms ∙ length-append row.a (row.b ++ row.c) ∙ ap (λ n. length row.a + n) (length-append row.b row.c) in
+    let size : length put ≡ length row.a + (length row.b + length row.c) = ap length terms ∙ length-append row.a (row.b ++ row.c)
+    ∙ ap (λ n. length row.a + n) (length-append row.b row.c) in
     let ends : end_of made ≡ start + length put = ap end_of made_is ∙ omega arith in
     let first : made.start ≡ start = ap (λ (s : Span). s.start) made_is in
-    let others : OthersAre (IsClear made.start (end_of made)) i spans = subst (λ m. OthersAre (IsClear m (end_of made)) i spans) (sym first) (subst (λ m. OthersAre (IsClear start m) i spans) (sym ends) clear) in
+    let others : OthersAre (IsClear made.start (end_of made)) i spans = subst (λ m. OthersAre (IsClear m (end_of made)) i spans) (sym first)
+    (subst (λ m. OthersAre (IsClear start m) i spans) (sym ends) clear) in
     let here : row_at (laid start put xs) made ≡ row = ap₂ (λ p m. row_at (laid start p xs) m) terms made_is ∙ row_laid xs row start low in (
       record {
-        inside = set_each (IsInside (length ys)) spans i (Some made) (inside_more (length xs) (length ys) spans (omega (arith, longer.0, ap length is)) h.inside) (omega (arith, longer.1, ends, ap length is));
+        inside = set_each (IsInside (length ys)) spans i (Some made)
+            (inside_more (length xs) (length ys) spans (omega (arith, longer.0, ap length is)) h.inside) (omega (arith, longer.1, ends, ap length is));
         apart = apart_set spans i made h.apart others;
       },
       ap (λ terms. map (option_map (row_at terms)) (set spans i (Some made))) is
@@ -194,7 +216,8 @@ rows_laid xs ys put spans rows i start old made row h view inside at terms free 
     )
 
 -- one more constraint, whose terms are appended
-pub rows_added : (xs ys : Combination) (spans more : List (Option Span)) (row : Constraint) (span : Span) → AreLaid (length xs) spans → ys ≡ xs ++ row_terms row → span ≡ span_of (length xs) row → more ≡ spans ++ Some span ∷ [] →
+pub rows_added : (xs ys : Combination) (spans more : List (Option Span)) (row : Constraint) (span : Span) → AreLaid (length xs) spans → ys ≡ xs ++ row_terms row
+    → span ≡ span_of (length xs) row → more ≡ spans ++ Some span ∷ [] →
     AreLaid (length ys) more × (map (option_map (row_at ys)) more ≡ map (option_map (row_at xs)) spans ++ Some row ∷ [])
 rows_added xs ys spans more row span h is at pushed =
     let ends : end_of span ≡ length ys = ap end_of at ∙ row_end xs row ∙ ap length (sym is) in
@@ -203,5 +226,6 @@ rows_added xs ys spans more row span h is at pushed =
       subst (AreLaid (length ys)) (sym pushed) (laid_pushed (length xs) (length ys) spans span h longer (omega arith) (omega (arith, ends))),
       ap₂ (λ terms list. map (option_map (row_at terms)) list) is pushed
           ∙ map-append (option_map (row_at (xs ++ row_terms row))) spans (Some span ∷ [])
-          ∙ ap₂ (λ rows last. rows ++ Some last ∷ []) (rows_kept xs (row_terms row) spans h.inside) (ap (row_at (xs ++ row_terms row)) at ∙ row_appended xs row),
+          ∙ ap₂ (λ rows last. rows ++ Some last ∷ []) (rows_kept xs (row_terms row) spans h.inside)
+          (ap (row_at (xs ++ row_terms row)) at ∙ row_appended xs row),
     )

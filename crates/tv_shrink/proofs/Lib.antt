@@ -3,7 +3,6 @@ pub mod Labels
 pub mod Laying
 pub mod Linear
 pub mod Merging
-pub mod NormalLaws
 pub mod Occurring
 pub mod PassLaws
 pub mod Passes
@@ -16,5 +15,4 @@ pub mod Solutions
 pub mod Sorting
 pub mod Spans
 pub mod States
-pub mod Unique
 pub mod Whole

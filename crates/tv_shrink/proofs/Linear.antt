@@ -1,5 +1,6 @@
--- What the functions on a constraint's combinations give.
-use Rattle.std.proofs.Common.{◌≡◌, ◌≢◌, ℕ, ◌+◌, ◌-◌, ◌*◌, ◌%◌, ◌<◌, ◌≤◌, Bool, not, ◌||◌, leb, ltb, length, [], ◌∷◌, ◌++◌, Some, None, refl, sym, ◌∙◌, ap, ap₂, arith, eqb, true, false, inl, inr, cond, mul-zero}
+-- What the functions on a constraint's combinations return.
+use Rattle.std.proofs.Common.{◌≡◌, ◌≢◌, ℕ, ◌+◌, ◌-◌, ◌*◌, ◌%◌, ◌<◌, ◌≤◌, Bool, not, ◌||◌, leb, ltb, length, [], ◌∷◌, ◌++◌, Some, None, refl, sym, ◌∙◌, ap}
+use Rattle.std.proofs.Common.{ap₂, arith, eqb, true, false, inl, inr, cond, mul-zero}
 use Rattle.std.proofs.lemmas.Bool.{cases_Bool, cond_both, le-leb, leb-true, or_left, or_right}
 use Rattle.std.proofs.lemmas.List.{length-append, length-map}
 use Rattle.std.specs.Option.{option_or}
@@ -7,18 +8,20 @@ use Rattle.tv_core.specs.Combinations.{scaled}
 use Rattle.tv_core.specs.Constraints.{Combination, Constraint}
 use Rattle.tv_core.specs.Inverse.{inverse_of}
 use Rattle.tv_core.specs.declared.field.TheConstants.{P}
-use Rattle.tv_shrink.specs.Normal.{added, normal, with_term, IsNormalFrom}
-use Rattle.tv_shrink.specs.Replacing.{coefficient, has_wire, without, constant_in, difference, linear_form, solved, replaced, fits}
-use Rattle.tv_shrink.proofs.NormalLaws.{IsNormalFrom-lower}
+use Rattle.tv_core.specs.Normal.{coefficient, normal, IsNormalFrom}
+use Rattle.tv_shrink.specs.Replacing.{has_wire, without, constant_in, difference, linear_form, solved, replaced, fits}
+use Rattle.tv_core.proofs.NormalLaws.{IsNormalFrom-lower, length-normal}
 use Rattle.tv_shrink.proofs.Constants.{scaled_once}
 
 -- what a constraint says is 0
-pub linear-first : (c : Constraint) (k : ℕ) (out : Combination) → constant_in c.a ≡ Some k → out ≡ normal (scaled k c.b ++ scaled (P - 1) c.c) → linear_form c ≡ Some out
+pub linear-first : (c : Constraint) (k : ℕ) (out : Combination) → constant_in c.a ≡ Some k → out ≡ normal (scaled k c.b ++ scaled (P - 1) c.c)
+    → linear_form c ≡ Some out
 unfolding linear_form difference
 linear-first c k out is made =
     ap (λ o. option_or (difference o c.b c.c) (difference (constant_in c.b) c.a c.c)) is ∙ ap Some (sym made)
 
-pub linear-second : (c : Constraint) (k : ℕ) (out : Combination) → constant_in c.a ≡ None → constant_in c.b ≡ Some k → out ≡ normal (scaled k c.a ++ scaled (P - 1) c.c) → linear_form c ≡ Some out
+pub linear-second : (c : Constraint) (k : ℕ) (out : Combination) → constant_in c.a ≡ None → constant_in c.b ≡ Some k
+    → out ≡ normal (scaled k c.a ++ scaled (P - 1) c.c) → linear_form c ≡ Some out
 unfolding linear_form difference
 linear-second c k out isnt is made =
     ap₂ (λ o p. option_or (difference o c.b c.c) (difference p c.a c.c)) isnt is ∙ ap Some (sym made)
@@ -44,7 +47,8 @@ pub lacks_by : {A : Type 0} (b : Bool) (own : A) → None ≡ cond b (Some own) 
 lacks_by true own e = absurd (cc)
 lacks_by false own e = refl
 
-pub replaced-made : (w k : ℕ) (r x out : Combination) → IsNormalFrom 0 x → Some k ≡ cond (has_wire w x) (Some (coefficient w x)) None → out ≡ normal (scaled 1 (without w x) ++ scaled k r) → out ≡ replaced w r x
+pub replaced-made : (w k : ℕ) (r x out : Combination) → IsNormalFrom 0 x → Some k ≡ cond (has_wire w x) (Some (coefficient w x)) None
+    → out ≡ normal (scaled 1 (without w x) ++ scaled k r) → out ≡ replaced w r x
 unfolding replaced
 replaced-made w k r x out n e made =
     let has = has_by (has_wire w x) k (coefficient w x) e in
@@ -62,7 +66,8 @@ negative k i small one =
     let some : i ≢ 0 = λ e. let none : k * i % P ≡ 0 = ap (λ j. k * j % P) e ∙ ap (λ n. n % P) (mul-zero k) in omega arith in
     omega arith
 
-pub solve-made : (factor own w : ℕ) (x out : Combination) → factor ≡ P - inverse_of own → own ≡ coefficient w x → out ≡ normal (scaled factor (without w x)) → out ≡ solved w x
+pub solve-made : (factor own w : ℕ) (x out : Combination) → factor ≡ P - inverse_of own → own ≡ coefficient w x → out ≡ normal (scaled factor (without w x))
+    → out ≡ solved w x
 unfolding solved
 solve-made factor own w x out is of made = made ∙ ap (λ f. normal (scaled f (without w x))) (is ∙ ap (λ k. P - inverse_of k) of)
 
@@ -77,24 +82,6 @@ fits-having w r x out has is e made =
     ap (λ y. leb (length y) 128) made ∙ sym (ap (λ b. not b || leb (length (replaced w r x)) 128) (sym is ∙ e))
 
 -- a combination has no more terms with another one in place of a wire than both together
-length-with_term : (k w : ℕ) (x : Combination) → length (with_term k w x) ≤ length x + 1
-unfolding with_term
-length-with_term k w x = cond_both (eqb (k % P) 0) x ((k % P, w) ∷ x) (λ y. length y ≤ length x + 1) (λ _. omega arith) (λ _. omega arith)
-
-length-added : (t : ℕ × ℕ) (x : Combination) → length (added t x) ≤ length x + 1
-unfolding added
-length-added t [] = length-with_term t.0 t.1 []
-length-added t (u ∷ rest) =
-    cond_both (ltb t.1 u.1) (with_term t.0 t.1 (u ∷ rest)) _ (λ y. length y ≤ length (u ∷ rest) + 1)
-    (λ _. length-with_term t.0 t.1 (u ∷ rest))
-    (λ _. cond_both (eqb t.1 u.1) (with_term (t.0 + u.0) t.1 rest) (u ∷ added t rest) (λ y. length y ≤ length (u ∷ rest) + 1)
-    (λ _. let more = length-with_term (t.0 + u.0) t.1 rest in omega arith) (λ _. let more = length-added t rest in omega arith))
-
-length-normal : (x : Combination) → length (normal x) ≤ length x
-unfolding normal
-length-normal [] = omega arith
-length-normal (t ∷ rest) = omega (arith, length-added t (normal rest), length-normal rest)
-
 length-without : (w : ℕ) (x : Combination) → length (without w x) ≤ length x
 unfolding without
 length-without w [] = omega arith
@@ -106,7 +93,13 @@ length-replaced : (w : ℕ) (r x : Combination) → length (replaced w r x) ≤ 
 unfolding replaced
 length-replaced w r x =
     cond_both (has_wire w x) (normal (without w x ++ scaled (coefficient w x) r)) x (λ y. length y ≤ length x + length r)
-    (λ _. omega (arith, length-normal (without w x ++ scaled (coefficient w x) r), length-append (without w x) (scaled (coefficient w x) r), length-without w x, length-map {B = ℕ × ℕ} r (λ (t : ℕ × ℕ). (coefficient w x * t.0 % P, t.1))))
+    (λ _. omega (
+      arith,
+      length-normal (without w x ++ scaled (coefficient w x) r),
+      length-append (without w x) (scaled (coefficient w x) r),
+      length-without w x,
+      length-map {B = ℕ × ℕ} r (λ (t : ℕ × ℕ). (coefficient w x * t.0 % P, t.1)),
+    ))
     (λ _. omega arith)
 
 pub fits-few : (w : ℕ) (r x : Combination) → length x + length r ≤ 128 → fits w r x ≡ true

@@ -1,18 +1,20 @@
--- What one step of adding two combinations gives.
-use Rattle.std.proofs.Common.{◌≡◌, ◌≢◌, ◌⊎◌, ℕ, ◌+◌, ◌*◌, ◌%◌, ◌^◌, ◌<◌, ◌≤◌, not, Bool, List, [], ◌∷◌, ◌++◌, Option, Some, None, refl, sym, ◌∙◌, ap, ap₂, subst, arith, eqb, true, false, inl, inr, cond, eqb-true, eq-eqb, ne_eqb, add-mul, mod-lt, mul-zero, length, append_assoc, append-nil}
+-- One step of adding two combinations.
+use Rattle.std.proofs.Common.{◌≡◌, ◌≢◌, ◌⊎◌, ℕ, ◌+◌, ◌*◌, ◌%◌, ◌^◌, ◌<◌, ◌≤◌, not, Bool, List, [], ◌∷◌, ◌++◌, Option, Some, None, refl, sym, ◌∙◌, ap, ap₂}
+use Rattle.std.proofs.Common.{subst, arith, eqb, true, false, inl, inr, cond, eqb-true, eq-eqb, ne_eqb, add-mul, mod-lt, mul-zero, length, append_assoc}
+use Rattle.std.proofs.Common.{append-nil}
 use Rattle.std.specs.Prelude.{slice_index}
 use Rattle.std.proofs.lemmas.Bool.{cond_both, eqb-false, cases_Bool, cond-true, cond-false}
 use Rattle.tv_core.proofs.CombinationLaws.{value-cons, value-append, value-below}
 use Rattle.tv_core.specs.Combinations.{scaled}
 use Rattle.tv_core.specs.Constraints.{Combination, value}
 use Rattle.tv_core.specs.declared.field.TheConstants.{P}
-use Rattle.tv_shrink.specs.Normal.{normal, IsNormalFrom, with_term}
+use Rattle.tv_core.specs.Normal.{normal, IsNormalFrom, with_term}
 use Rattle.tv_shrink.specs.Replacing.{without}
 use Rattle.tv_shrink.specs.Merging.{leaving_out, first_wire, head_at, tail_at, unless_left}
-use Rattle.tv_shrink.proofs.NormalLaws.{Over, Over-append, Over-scaled, normal_from, IsNormalFrom-lower}
-use Rattle.tv_shrink.proofs.Unique.{normal-step}
+use Rattle.tv_core.proofs.NormalLaws.{Over, Over-append, Over-scaled, normal_from, IsNormalFrom-lower}
+use Rattle.tv_core.proofs.Unique.{normal-step}
 
--- what one side gives of a wire
+-- what one side has of a wire
 abbrev pub given : ℕ → Option ℕ → ℕ → Combination → ℕ
 given factor leaving w x = unless_left leaving w (factor * head_at w x % P)
 
@@ -42,7 +44,8 @@ module _ (factor : ℕ) (z : List ℕ) where
   nothing n v small = omega arith
 
   -- where the first wire is the one that is taken
-  taken : (leaving : Option ℕ) (w : ℕ) (t : ℕ × ℕ) (x : Combination) → t.1 ≡ w → value (side factor leaving (t ∷ x)) z ≡ (unless_left leaving w (factor * t.0 % P) * slice_index z w + value (side factor leaving x) z) % P
+  taken : (leaving : Option ℕ) (w : ℕ) (t : ℕ × ℕ) (x : Combination) → t.1 ≡ w
+      → value (side factor leaving (t ∷ x)) z ≡ (unless_left leaving w (factor * t.0 % P) * slice_index z w + value (side factor leaving x) z) % P
   taken None w t x e = first_term t x ∙ ap (λ v. (factor * t.0 % P * slice_index z v + value (scaled factor x) z) % P) e
   taken (Some v) w t x e =
       elim (cases_Bool (eqb t.1 v)) [
@@ -66,15 +69,18 @@ module _ (factor : ℕ) (z : List ℕ) where
       (λ e. subst (λ k. v ≡ (k * n + v) % P) (sym (ap (λ k. k % P) (mul-zero factor))) (nothing n v small))
 
   split_head : (leaving : Option ℕ) (w : ℕ) (t : ℕ × ℕ) (x : Combination) (b : Bool) → eqb t.1 w ≡ b →
-      value (side factor leaving (t ∷ x)) z ≡ (unless_left leaving w (factor * cond b t.0 0 % P) * slice_index z w + value (side factor leaving (cond b x (t ∷ x))) z) % P
+      value (side factor leaving (t ∷ x)) z ≡ (unless_left leaving w (factor * cond b t.0 0 % P) * slice_index z w + value
+      (side factor leaving (cond b x (t ∷ x))) z) % P
   split_head leaving w t x true e = taken leaving w t x (eqb-true t.1 w e)
-  split_head leaving w t x false e = none_given leaving w (slice_index z w) (value (side factor leaving (t ∷ x)) z) (value-below (side factor leaving (t ∷ x)) z)
+  split_head leaving w t x false e = none_given leaving w (slice_index z w) (value (side factor leaving (t ∷ x)) z)
+      (value-below (side factor leaving (t ∷ x)) z)
 
-  value-side : (leaving : Option ℕ) (w : ℕ) (x : Combination) → value (side factor leaving x) z ≡ (given factor leaving w x * slice_index z w + value (side factor leaving (tail_at w x)) z) % P
+  value-side : (leaving : Option ℕ) (w : ℕ) (x : Combination)
+      → value (side factor leaving x) z ≡ (given factor leaving w x * slice_index z w + value (side factor leaving (tail_at w x)) z) % P
   value-side leaving w [] = none_given leaving w (slice_index z w) (value (side factor leaving []) z) (value-below (side factor leaving []) z)
   value-side leaving w (t ∷ x) = split_head leaving w t x (eqb t.1 w) refl
 
--- the rest of a side lies behind the wire
+-- the rest of a side has later wires
 Over-above : (w : ℕ) (x : Combination) → IsNormalFrom w x → Over (λ v. w ≤ v) x
 Over-above w [] n = tt
 Over-above w (t ∷ x) n = (n.0, Over-above w x (IsNormalFrom-lower w (t.1 + 1) x (omega (arith, n.0)) n.3))
@@ -89,7 +95,8 @@ normal-tail_at w (t ∷ x) n =
 Over-filter : (Q : ℕ → Type 0) (v : ℕ) (x : Combination) → Over Q x → Over Q (without v x)
 unfolding without
 Over-filter Q v [] h = tt
-Over-filter Q v (t ∷ x) h = cond_both (not (eqb t.1 v)) (t ∷ without v x) (without v x) (Over Q) (λ e. (h.0, Over-filter Q v x h.1)) (λ e. Over-filter Q v x h.1)
+Over-filter Q v (t ∷ x) h = cond_both (not (eqb t.1 v)) (t ∷ without v x) (without v x) (Over Q) (λ e. (h.0, Over-filter Q v x h.1))
+    (λ e. Over-filter Q v x h.1)
 
 Over-side : (Q : ℕ → Type 0) (factor : ℕ) (leaving : Option ℕ) (x : Combination) → Over Q x → Over Q (side factor leaving x)
 Over-side Q factor None x h = Over-scaled Q factor x h
@@ -104,15 +111,18 @@ pub merge-step : (left right w : ℕ) (leaving : Option ℕ) (x y : Combination)
     normal (side left leaving x ++ side right None y)
     ≡ with_term (given left leaving w x + given right None w y) w (normal (side left leaving (tail_at w x) ++ side right None (tail_at w y)))
 merge-step left right w leaving x y n m =
-    normal-step (side left leaving x ++ side right None y) (side left leaving (tail_at w x) ++ side right None (tail_at w y)) (given left leaving w x + given right None w y) w
+    normal-step (side left leaving x ++ side right None y) (side left leaving (tail_at w x) ++ side right None (tail_at w y))
+    (given left leaving w x + given right None w y) w
     (normal_from (w + 1) (side left leaving (tail_at w x) ++ side right None (tail_at w y))
     (Over-append (λ v. w + 1 ≤ v) (side left leaving (tail_at w x)) (side right None (tail_at w y))
     (Over-side (λ v. w + 1 ≤ v) left leaving (tail_at w x) (Over-above (w + 1) (tail_at w x) (normal-tail_at w x n)))
     (Over-side (λ v. w + 1 ≤ v) right None (tail_at w y) (Over-above (w + 1) (tail_at w y) (normal-tail_at w y m)))))
     (λ z. value-append (side left leaving x) (side right None y) z
     ∙ ap₂ (λ p q. (p + q) % P) (value-side left z leaving w x) (value-side right z None w y)
-    ∙ both_sums (given left leaving w x) (given right None w y) (slice_index z w) (value (side left leaving (tail_at w x)) z) (value (side right None (tail_at w y)) z)
-    ∙ ap (λ v. ((given left leaving w x + given right None w y) * slice_index z w + v) % P) (sym (value-append (side left leaving (tail_at w x)) (side right None (tail_at w y)) z)))
+    ∙ both_sums (given left leaving w x) (given right None w y) (slice_index z w) (value (side left leaving (tail_at w x)) z)
+    (value (side right None (tail_at w y)) z)
+    ∙ ap (λ v. ((given left leaving w x + given right None w y) * slice_index z w + v) % P)
+    (sym (value-append (side left leaving (tail_at w x)) (side right None (tail_at w y)) z)))
 
 -- a side from the least wire on
 pub normal-least : (w : ℕ) (x : Combination) → IsNormalFrom 0 x → w ≤ first_wire x → IsNormalFrom w x
@@ -130,14 +140,16 @@ with_term-front k w x =
     either_way false = refl
 
 -- one turn of the loop that adds two sides
-pub merge-turn : (out total : Combination) (left right w k : ℕ) (leaving : Option ℕ) (x y : Combination) → IsNormalFrom 0 x → IsNormalFrom 0 y → w ≤ first_wire x → w ≤ first_wire y →
+pub merge-turn : (out total : Combination) (left right w k : ℕ) (leaving : Option ℕ) (x y : Combination) → IsNormalFrom 0 x → IsNormalFrom 0 y
+    → w ≤ first_wire x → w ≤ first_wire y →
     k ≡ (given left leaving w x + given right None w y) % P →
     out ++ normal (side left leaving x ++ side right None y) ≡ total →
     (out ++ with_term k w []) ++ normal (side left leaving (tail_at w x) ++ side right None (tail_at w y)) ≡ total
 merge-turn out total left right w k leaving x y n m h g is before =
     append_assoc out (with_term k w []) (normal (side left leaving (tail_at w x) ++ side right None (tail_at w y)))
     ∙ ap (λ e. out ++ (with_term e w [] ++ normal (side left leaving (tail_at w x) ++ side right None (tail_at w y)))) is
-    ∙ ap (λ u. out ++ u) (with_term-front (given left leaving w x + given right None w y) w (normal (side left leaving (tail_at w x) ++ side right None (tail_at w y))))
+    ∙ ap (λ u. out ++ u) (with_term-front (given left leaving w x + given right None w y) w
+    (normal (side left leaving (tail_at w x) ++ side right None (tail_at w y))))
     ∙ ap (λ u. out ++ u) (sym (merge-step left right w leaving x y (normal-least w x n h) (normal-least w y m g)))
     ∙ before
 
@@ -167,7 +179,8 @@ given-left left right w l r x y h =
     omega arith
 
 -- one turn of the loop that appends one side
-pub append-turn : (out total : Combination) (factor w k : ℕ) (leaving : Option ℕ) (x : Combination) → IsNormalFrom 0 x → w ≤ first_wire x → w < 2 ^ 32 → k ≡ given factor leaving w x →
+pub append-turn : (out total : Combination) (factor w k : ℕ) (leaving : Option ℕ) (x : Combination) → IsNormalFrom 0 x → w ≤ first_wire x → w < 2 ^ 32
+    → k ≡ given factor leaving w x →
     out ++ normal (side factor leaving x) ≡ total → (out ++ with_term k w []) ++ normal (side factor leaving (tail_at w x)) ≡ total
 append-turn out total factor w k leaving x n h small is before =
     ap (λ u. (out ++ with_term k w []) ++ normal u) (sym (append-nil (side factor leaving (tail_at w x))))
@@ -184,12 +197,14 @@ none_made : (factor : ℕ) (leaving : Option ℕ) → normal (side factor leavin
 unfolding normal
 none_made factor leaving = ap normal (side-none factor leaving)
 
-pub nothing_left : (out total : Combination) (factor : ℕ) (leaving : Option ℕ) (x : Combination) → x ≡ [] → out ++ normal (side factor leaving x) ≡ total → out ≡ total
+pub nothing_left : (out total : Combination) (factor : ℕ) (leaving : Option ℕ) (x : Combination) → x ≡ [] → out ++ normal (side factor leaving x) ≡ total
+    → out ≡ total
 nothing_left out total factor leaving x e before =
     sym (append-nil out) ∙ ap (λ u. out ++ u) (sym (none_made factor leaving)) ∙ ap (λ u. out ++ normal (side factor leaving u)) (sym e) ∙ before
 
 -- where one side is used up, what the other one is is appended
-pub either_left : (out one two total : Combination) (left right : ℕ) (leaving : Option ℕ) (x y : Combination) → (x ≡ []) ⊎ (y ≡ []) → one ≡ out ++ normal (side left leaving x) → two ≡ one ++ normal (side right None y) →
+pub either_left : (out one two total : Combination) (left right : ℕ) (leaving : Option ℕ) (x y : Combination) → (x ≡ []) ⊎ (y ≡ [])
+    → one ≡ out ++ normal (side left leaving x) → two ≡ one ++ normal (side right None y) →
     out ++ normal (side left leaving x ++ side right None y) ≡ total → two ≡ total
 either_left out one two total left right leaving x y (inl e) first second before =
     second

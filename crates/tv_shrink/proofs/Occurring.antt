@@ -1,5 +1,6 @@
 -- The rows that wires may stand in.
-use Rattle.std.proofs.Common.{◌≡◌, ℕ, zero, suc, ◌+◌, ◌-◌, ◌<◌, ◌≤◌, Bool, List, [], ◌∷◌, ◌++◌, true, false, refl, sym, ◌∙◌, ap, ap₂, subst, arith, eqb, eq-eqb, ne_eqb, cond, inl, inr, map, length, get_or, set, replicate, reverse}
+use Rattle.std.proofs.Common.{◌≡◌, ℕ, zero, suc, ◌+◌, ◌-◌, ◌<◌, ◌≤◌, Bool, List, [], ◌∷◌, ◌++◌, true, false, refl, sym, ◌∙◌, ap, ap₂, subst, arith, eqb}
+use Rattle.std.proofs.Common.{eq-eqb, ne_eqb, cond, inl, inr, map, length, get_or, set, replicate, reverse}
 use Rattle.std.specs.List.{AllByRecursion, list_any}
 use Rattle.std.proofs.lemmas.Bool.{cond_both, cases_eq, or_left, or_right}
 use Rattle.std.proofs.lemmas.List.{get_or-map, get_or-reverse, get_or-set_other, get_or-set_same, length-map, length-reverse, map-set, reverse-append}
@@ -21,10 +22,12 @@ rows_from-before entry before number h =
 -- and comes before them
 pub rows_from-last : (entry : Entry) (before : List Entry) → rows_from (entry ∷ before) (suc (length before)) ≡ entry.row ∷ rows_from before entry.next
 rows_from-last entry before =
-    ap (λ b. cond b (entry.row ∷ rows_from before entry.next) (rows_from before (suc (length before)))) (eq-eqb (suc (length before)) (suc (length before)) refl)
+    ap (λ b. cond b (entry.row ∷ rows_from before entry.next) (rows_from before (suc (length before))))
+    (eq-eqb (suc (length before)) (suc (length before)) refl)
 
 -- an entry's row, and those of the entries that it leads to
-rows_from-step : (entries : List Entry) (number : ℕ) (entry : Entry) → 0 < number → number ≤ length entries → LeadBack entries → entry ≡ get_or entries (length entries - number) entry →
+rows_from-step : (entries : List Entry) (number : ℕ) (entry : Entry) → 0 < number → number ≤ length entries → LeadBack entries
+    → entry ≡ get_or entries (length entries - number) entry →
     (rows_from entries number ≡ entry.row ∷ rows_from entries entry.next) × (entry.next < number)
 rows_from-step [] number entry some inside back at = absurd (omega arith)
 rows_from-step (first ∷ before) number entry some inside back at =
@@ -36,7 +39,8 @@ rows_from-step (first ∷ before) number entry some inside back at =
           let low : entry.next ≤ length before = omega (arith, back.0) in (
             ap (rows_from (first ∷ before)) same
                 ∙ rows_from-last first before
-                ∙ ap₂ (λ row rows. row ∷ rows) (ap (λ (e : Entry). e.row) (sym is)) (ap (rows_from before) (sym next) ∙ sym (rows_from-before first before entry.next low)),
+                ∙ ap₂ (λ row rows. row ∷ rows) (ap (λ (e : Entry). e.row) (sym is))
+                (ap (rows_from before) (sym next) ∙ sym (rows_from-before first before entry.next low)),
             omega arith,
           )
       | inr apart ↦
@@ -49,7 +53,8 @@ rows_from-step (first ∷ before) number entry some inside back at =
           )
     ]
 
-pub rows_from-at : (entries : List Entry) (heads : List ℕ) (number : ℕ) (entry : Entry) → 0 < number → number ≤ length entries → AreLinked entries heads → entry ≡ get_or entries (number - 1) entry →
+pub rows_from-at : (entries : List Entry) (heads : List ℕ) (number : ℕ) (entry : Entry) → 0 < number → number ≤ length entries → AreLinked entries heads
+    → entry ≡ get_or entries (number - 1) entry →
     (rows_from (reverse entries) number ≡ entry.row ∷ rows_from (reverse entries) entry.next) × (entry.next < number)
 rows_from-at entries heads number entry some inside linked at =
     let same : length (reverse entries) ≡ length entries = length-reverse entries in
@@ -73,21 +78,25 @@ heads_more : (n m : ℕ) (heads : List ℕ) → n ≤ m → AllByRecursion (λ h
 heads_more n m [] h k = tt
 heads_more n m (head ∷ heads) h k = (omega (arith, k.0), heads_more n m heads h k.1)
 
-heads_set : (n number : ℕ) (heads : List ℕ) (wire : ℕ) → number ≤ n → AllByRecursion (λ head. head ≤ n) heads → AllByRecursion (λ head. head ≤ n) (set heads wire number)
+heads_set : (n number : ℕ) (heads : List ℕ) (wire : ℕ) → number ≤ n → AllByRecursion (λ head. head ≤ n) heads
+    → AllByRecursion (λ head. head ≤ n) (set heads wire number)
 heads_set n number [] wire h k = tt
 heads_set n number (head ∷ heads) zero h k = (h, k.1)
 heads_set n number (head ∷ heads) (suc wire) h k = (k.0, heads_set n number heads wire h k.1)
 
-pub linked_set : (entries : List Entry) (heads : List ℕ) (wire number : ℕ) → number ≤ length entries → AreLinked entries heads → AreLinked entries (set heads wire number)
+pub linked_set : (entries : List Entry) (heads : List ℕ) (wire number : ℕ) → number ≤ length entries → AreLinked entries heads
+    → AreLinked entries (set heads wire number)
 linked_set entries heads wire number h linked = record { back = linked.back; within = heads_set (length entries) number heads wire h linked.within }
 
-pub linked_push : (entries more : List Entry) (heads : List ℕ) (entry : Entry) → more ≡ entries ++ entry ∷ [] → length more ≡ length entries + 1 → entry.next ≤ length entries → AreLinked entries heads → AreLinked more heads
+pub linked_push : (entries more : List Entry) (heads : List ℕ) (entry : Entry) → more ≡ entries ++ entry ∷ [] → length more ≡ length entries + 1
+    → entry.next ≤ length entries → AreLinked entries heads → AreLinked more heads
 linked_push entries more heads entry is each h linked = record {
   back = subst LeadBack (sym (ap reverse is ∙ reverse_push entries entry)) (omega (arith, length-reverse entries), linked.back);
   within = heads_more (length entries) (length more) heads (omega arith) linked.within;
 }
 
-rows_pushed : (entries : List Entry) (entry : Entry) (heads : List ℕ) → AllByRecursion (λ head. head ≤ length entries) heads → map (rows_from (reverse (entries ++ entry ∷ []))) heads ≡ map (rows_from (reverse entries)) heads
+rows_pushed : (entries : List Entry) (entry : Entry) (heads : List ℕ) → AllByRecursion (λ head. head ≤ length entries) heads
+    → map (rows_from (reverse (entries ++ entry ∷ []))) heads ≡ map (rows_from (reverse entries)) heads
 rows_pushed entries entry [] h = refl
 rows_pushed entries entry (head ∷ heads) h =
     let same : length (reverse entries) ≡ length entries = length-reverse entries in
@@ -96,11 +105,13 @@ rows_pushed entries entry (head ∷ heads) h =
     (rows_pushed entries entry heads h.1)
 
 -- a wire's rows with one more before them
-module _ (entries more : List Entry) (heads : List ℕ) (wire row head : ℕ) (linked : AreLinked entries heads) (is : more ≡ entries ++ record { row = row; next = head } ∷ []) (below : head ≤ length entries) where
+module _ (entries more : List Entry) (heads : List ℕ) (wire row head : ℕ) (linked : AreLinked entries heads)
+    (is : more ≡ entries ++ record { row = row; next = head } ∷ []) (below : head ≤ length entries) where
   pub rows_more : map (rows_from (reverse more)) heads ≡ map (rows_from (reverse entries)) heads
   rows_more = ap (λ es. map (rows_from (reverse es)) heads) is ∙ rows_pushed entries (record { row = row; next = head }) heads linked.within
 
-  pub rows_added : (number : ℕ) → number ≡ length entries + 1 → map (rows_from (reverse more)) (set heads wire number) ≡ set (map (rows_from (reverse entries)) heads) wire (row ∷ rows_from (reverse entries) head)
+  pub rows_added : (number : ℕ) → number ≡ length entries + 1
+      → map (rows_from (reverse more)) (set heads wire number) ≡ set (map (rows_from (reverse entries)) heads) wire (row ∷ rows_from (reverse entries) head)
   rows_added number each =
       let same : length (reverse entries) ≡ length entries = length-reverse entries in
       let last : number ≡ suc (length (reverse entries)) = omega arith in
@@ -120,29 +131,35 @@ pub with_row-has : (row : ℕ) (rows : List ℕ) → list_any (λ p. eqb p row) 
 with_row-has row [] = or_left (eqb row row) false (eq-eqb row row refl)
 with_row-has row (first ∷ rows) =
     cond_both (eqb first row) (first ∷ rows) (row ∷ first ∷ rows) (λ xs. list_any (λ p. eqb p row) xs ≡ true)
-    (λ same. or_left (eqb first row) (list_any (λ p. eqb p row) rows) same) (λ _. or_left (eqb row row) (list_any (λ p. eqb p row) (first ∷ rows)) (eq-eqb row row refl))
+    (λ same. or_left (eqb first row) (list_any (λ p. eqb p row) rows) same)
+    (λ _. or_left (eqb row row) (list_any (λ p. eqb p row) (first ∷ rows)) (eq-eqb row row refl))
 
 -- told of one wire
-pub told-more : (q : ℕ → Bool) (lists : List (List ℕ)) (v w row : ℕ) → v < length lists → list_any q (get_or lists w []) ≡ true → list_any q (get_or (set lists v (with_row row (get_or lists v []))) w []) ≡ true
+pub told-more : (q : ℕ → Bool) (lists : List (List ℕ)) (v w row : ℕ) → v < length lists → list_any q (get_or lists w []) ≡ true
+    → list_any q (get_or (set lists v (with_row row (get_or lists v []))) w []) ≡ true
 told-more q lists v w row h e =
     elim (cases_eq w v) [
       | inl same ↦
-          ap (λ xs. list_any q xs) (ap (λ u. get_or (set lists v (with_row row (get_or lists v []))) u []) same ∙ get_or-set_same lists v (with_row row (get_or lists v [])) [] h)
+          ap (λ xs. list_any q xs) (ap (λ u. get_or (set lists v (with_row row (get_or lists v []))) u []) same
+          ∙ get_or-set_same lists v (with_row row (get_or lists v [])) [] h)
           ∙ any-with_row q row (get_or lists v []) (ap (λ u. list_any q (get_or lists u [])) (sym same) ∙ e)
       | inr apart ↦ ap (λ xs. list_any q xs) (get_or-set_other lists v w (with_row row (get_or lists v [])) [] apart) ∙ e
     ]
 
-pub told-added : (lists : List (List ℕ)) (v row : ℕ) → v < length lists → list_any (λ p. eqb p row) (get_or (set lists v (with_row row (get_or lists v []))) v []) ≡ true
+pub told-added : (lists : List (List ℕ)) (v row : ℕ) → v < length lists
+    → list_any (λ p. eqb p row) (get_or (set lists v (with_row row (get_or lists v []))) v []) ≡ true
 told-added lists v row h =
     ap (λ xs. list_any (λ p. eqb p row) xs) (get_or-set_same lists v (with_row row (get_or lists v [])) [] h) ∙ with_row-has row (get_or lists v [])
 
 -- whether an entry tells of a row
-pub tells_none : (entries : List Entry) (number row : ℕ) → number ≡ 0 → with_row row (rows_from (reverse entries) number) ≡ row ∷ rows_from (reverse entries) number
+pub tells_none : (entries : List Entry) (number row : ℕ) → number ≡ 0
+    → with_row row (rows_from (reverse entries) number) ≡ row ∷ rows_from (reverse entries) number
 tells_none entries number row e =
     let none : rows_from (reverse entries) number ≡ [] = ap (rows_from (reverse entries)) e ∙ rows_from-none (reverse entries) in
     ap (with_row row) none ∙ ap (λ rows. row ∷ rows) (sym none)
 
-pub tells_row : (entries : List Entry) (number row : ℕ) (entry : Entry) (same : Bool) → 0 < number → number ≤ length entries → LeadBack (reverse entries) → entry ≡ get_or entries (number - 1) entry → same ≡ eqb entry.row row →
+pub tells_row : (entries : List Entry) (number row : ℕ) (entry : Entry) (same : Bool) → 0 < number → number ≤ length entries → LeadBack (reverse entries)
+    → entry ≡ get_or entries (number - 1) entry → same ≡ eqb entry.row row →
     with_row row (rows_from (reverse entries) number) ≡ cond same (rows_from (reverse entries) number) (row ∷ rows_from (reverse entries) number)
 tells_row entries number row entry same some inside back at is =
     let found = (rows_from-at entries [] number entry some inside (record { back = back; within = tt }) at).0 in
@@ -156,7 +173,8 @@ within_at n [] wire head h inside at = absurd (omega arith)
 within_at n (first ∷ heads) zero head h inside at = omega (arith, h.0)
 within_at n (first ∷ heads) (suc wire) head h inside at = within_at n heads wire head h.1 (omega arith) at
 
-pub head_inside : (entries : List Entry) (heads : List ℕ) (lists : List (List ℕ)) (wire head : ℕ) → AreLinked entries heads → map (rows_from (reverse entries)) heads ≡ lists → wire < length lists → head ≡ get_or heads wire head →
+pub head_inside : (entries : List Entry) (heads : List ℕ) (lists : List (List ℕ)) (wire head : ℕ) → AreLinked entries heads
+    → map (rows_from (reverse entries)) heads ≡ lists → wire < length lists → head ≡ get_or heads wire head →
     (head ≤ length entries) × (get_or lists wire [] ≡ rows_from (reverse entries) head)
 head_inside entries heads lists wire head linked is inside at =
     let wide : wire < length heads = omega (arith, length-map heads (rows_from (reverse entries)), ap length is) in (

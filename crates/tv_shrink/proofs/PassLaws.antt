@@ -1,5 +1,6 @@
 -- A pass keeps a system's solutions: what it leaves says the same of the wires that are not gone.
-use Rattle.std.proofs.Common.{◌≡◌, ◌≢◌, ℕ, zero, suc, ◌*◌, ◌%◌, ◌<◌, ◌≤◌, Bool, List, [], ◌∷◌, Option, Some, None, refl, sym, ◌∙◌, ap, ap₂, subst, arith, true, false, inl, inr, map, length, get_or, set, get_or-set_other, get_or-set_same, length-set}
+use Rattle.std.proofs.Common.{◌≡◌, ◌≢◌, ℕ, zero, suc, ◌*◌, ◌%◌, ◌<◌, ◌≤◌, Bool, List, [], ◌∷◌, Option, Some, None, refl, sym, ◌∙◌, ap, ap₂, subst, arith}
+use Rattle.std.proofs.Common.{true, false, inl, inr, map, length, get_or, set, get_or-set_other, get_or-set_same, length-set}
 use Rattle.std.specs.List.{AllByRecursion, list_all, fold}
 use Rattle.std.specs.Option.{option_map}
 use Rattle.std.specs.Prelude.{slice_index}
@@ -9,11 +10,12 @@ use Rattle.tv_core.proofs.CombinationLaws.{value-below}
 use Rattle.tv_core.specs.Constraints.{Combination, Constraint, value, Holds}
 use Rattle.tv_core.specs.Laws.{Assigns}
 use Rattle.tv_core.specs.declared.field.TheConstants.{P}
-use Rattle.tv_shrink.specs.Normal.{IsNormalFrom}
+use Rattle.tv_core.specs.Normal.{IsNormalFrom}
 use Rattle.tv_shrink.specs.Replacing.{linear_form, greatest_from, solved, replaced, replaced_in}
 use Rattle.tv_shrink.specs.Passing.{Pass, dropped, substituted, row_fits, attempted, eliminated, treated, linear_row, turn}
-use Rattle.tv_shrink.proofs.NormalLaws.{Over, Over-weaker, value-local}
-use Rattle.tv_shrink.proofs.ReplacingLaws.{value-replaced, solved-from_zero, zero-from_solved, holds_where_zero, zero_where_holds, Over-linear_form, Over-solved, Over-replaced, Over-has_wire, greatest_is, coefficient-apart}
+use Rattle.tv_core.proofs.NormalLaws.{Over, Over-weaker, value-local}
+use Rattle.tv_shrink.proofs.ReplacingLaws.{value-replaced, solved-from_zero, zero-from_solved, holds_where_zero, zero_where_holds, Over-linear_form}
+use Rattle.tv_shrink.proofs.ReplacingLaws.{Over-solved, Over-replaced, Over-has_wire, greatest_is, coefficient-apart}
 
 -- what holds of the wires of a constraint, where it was not dropped
 abbrev pub RowOver : (ℕ → Type 0) → Option Constraint → Type 0
@@ -59,7 +61,8 @@ module _ (R S : Option Constraint → Type 0) (change : Option Constraint → Op
   rows_unchanged [] h = tt
   rows_unchanged (row ∷ rows) h = (turns row h.0, rows_unchanged rows h.1)
 
-pub rows_weaker : (R S : Option Constraint → Type 0) → ((row : Option Constraint) → R row → S row) → (rows : List (Option Constraint)) → AllByRecursion R rows → AllByRecursion S rows
+pub rows_weaker : (R S : Option Constraint → Type 0) → ((row : Option Constraint) → R row → S row) → (rows : List (Option Constraint)) → AllByRecursion R rows
+    → AllByRecursion S rows
 rows_weaker R S weaker [] h = tt
 rows_weaker R S weaker (row ∷ rows) h = (weaker row h.0, rows_weaker R S weaker rows h.1)
 
@@ -68,17 +71,21 @@ pub same_holds : (c d : Constraint) (y z : List ℕ) → value c.a y ≡ value d
 same_holds c d y z a b e h = ap₂ (λ m n. m * n % P) (sym a) (sym b) ∙ h ∙ e
 
 -- a row under another assignment that agrees at its wires
-row_local : (Q : ℕ → Type 0) (y z : List ℕ) → ((v : ℕ) → Q v → slice_index y v ≡ slice_index z v) → (row : Option Constraint) → RowOver Q row × RowHolds y row → RowHolds z row
+row_local : (Q : ℕ → Type 0) (y z : List ℕ) → ((v : ℕ) → Q v → slice_index y v ≡ slice_index z v) → (row : Option Constraint) → RowOver Q row × RowHolds y row
+    → RowHolds z row
 row_local Q y z same None h = tt
 row_local Q y z same (Some c) h =
     same_holds c c y z (value-local Q y z c.a h.0.0 same) (value-local Q y z c.b h.0.1 same) (value-local Q y z c.c h.0.2 same) h.1
 
-both_hold : (R S : Option Constraint → Type 0) (rows : List (Option Constraint)) → AllByRecursion R rows → AllByRecursion S rows → AllByRecursion (λ row. R row × S row) rows
+both_hold : (R S : Option Constraint → Type 0) (rows : List (Option Constraint)) → AllByRecursion R rows → AllByRecursion S rows
+    → AllByRecursion (λ row. R row × S row) rows
 both_hold R S [] h k = tt
 both_hold R S (row ∷ rows) h k = ((h.0, k.0), both_hold R S rows h.1 k.1)
 
-rows_local : (Q : ℕ → Type 0) (y z : List ℕ) → ((v : ℕ) → Q v → slice_index y v ≡ slice_index z v) → (rows : List (Option Constraint)) → RowsOver Q rows → RowsHold y rows → RowsHold z rows
-rows_local Q y z same rows h k = rows_weaker (λ row. RowOver Q row × RowHolds y row) (RowHolds z) (row_local Q y z same) rows (both_hold (RowOver Q) (RowHolds y) rows h k)
+rows_local : (Q : ℕ → Type 0) (y z : List ℕ) → ((v : ℕ) → Q v → slice_index y v ≡ slice_index z v) → (rows : List (Option Constraint)) → RowsOver Q rows
+    → RowsHold y rows → RowsHold z rows
+rows_local Q y z same rows h k = rows_weaker (λ row. RowOver Q row × RowHolds y row) (RowHolds z) (row_local Q y z same) rows
+    (both_hold (RowOver Q) (RowHolds y) rows h k)
 
 -- a wire that there is, and that is not gone
 abbrev pub Stays : ℕ → List Bool → ℕ → Type 0
@@ -114,7 +121,8 @@ Assigns-set z w n assigns h small = record {
 
 module _ (start : List (Option Constraint)) (wires publics : ℕ) (positive : 0 < publics) where
   -- a row that says nothing is dropped
-  dropped-sound : (i : ℕ) (c : Constraint) (pass : Pass) → get_or pass.rows i None ≡ Some c → linear_form c ≡ Some [] → Sound start wires publics pass → Sound start wires publics (dropped i pass)
+  dropped-sound : (i : ℕ) (c : Constraint) (pass : Pass) → get_or pass.rows i None ≡ Some c → linear_form c ≡ Some [] → Sound start wires publics pass
+      → Sound start wires publics (dropped i pass)
   unfolding dropped
   dropped-sound i c pass at says sound = record {
     over = rows_dropped (RowOver (Stays wires pass.gone)) tt pass.rows i sound.over;
@@ -126,7 +134,8 @@ module _ (start : List (Option Constraint)) (wires publics : ℕ) (positive : 0 
     unique = sound.unique;
   }
 
-  module _ (i w : ℕ) (c : Constraint) (lin : Combination) (pass : Pass) (at : get_or pass.rows i None ≡ Some c) (says : linear_form c ≡ Some lin) (greatest : greatest_from publics lin ≡ Some w) (sound : Sound start wires publics pass) where
+  module _ (i w : ℕ) (c : Constraint) (lin : Combination) (pass : Pass) (at : get_or pass.rows i None ≡ Some c) (says : linear_form c ≡ Some lin)
+      (greatest : greatest_from publics lin ≡ Some w) (sound : Sound start wires publics pass) where
     row_over : Over (Stays wires pass.gone) c.a × Over (Stays wires pass.gone) c.b × Over (Stays wires pass.gone) c.c
     row_over = subst (RowOver (Stays wires pass.gone)) at (rows_at (RowOver (Stays wires pass.gone)) tt pass.rows i sound.over)
 
@@ -151,13 +160,15 @@ module _ (start : List (Option Constraint)) (wires publics : ℕ) (positive : 0 
     solved_over : Over (λ v. Stays wires pass.gone v × (v ≢ w)) (solved w lin)
     solved_over = Over-solved (Stays wires pass.gone) w lin lin_over.0
 
-    forward : (z : List ℕ) → slice_index z w ≡ value (solved w lin) z → (row : Option Constraint) → RowHolds z row → RowHolds z (option_map (replaced_in w (solved w lin)) row)
+    forward : (z : List ℕ) → slice_index z w ≡ value (solved w lin) z → (row : Option Constraint) → RowHolds z row
+        → RowHolds z (option_map (replaced_in w (solved w lin)) row)
     forward z is None h = tt
     forward z is (Some d) h =
         let same = λ (x : Combination). sym (value-replaced w z (solved w lin) x is) in
         same_holds d (replaced_in w (solved w lin) d) z z (same d.a) (same d.b) (same d.c) h
 
-    backward : (z : List ℕ) → slice_index z w ≡ value (solved w lin) z → (row : Option Constraint) → RowHolds z (option_map (replaced_in w (solved w lin)) row) → RowHolds z row
+    backward : (z : List ℕ) → slice_index z w ≡ value (solved w lin) z → (row : Option Constraint) → RowHolds z (option_map (replaced_in w (solved w lin)) row)
+        → RowHolds z row
     backward z is None h = tt
     backward z is (Some d) h =
         let same = λ (x : Combination). value-replaced w z (solved w lin) x is in
@@ -166,11 +177,13 @@ module _ (start : List (Option Constraint)) (wires publics : ℕ) (positive : 0 
     stays_on : (v : ℕ) → Stays wires pass.gone v × (v ≢ w) → Stays wires (set pass.gone w true) v
     stays_on v h = (h.0.0, get_or-set_other pass.gone w v true false h.1 ∙ h.0.1)
 
-    over_row : (row : Option Constraint) → RowOver (Stays wires pass.gone) row → RowOver (Stays wires (set pass.gone w true)) (option_map (replaced_in w (solved w lin)) row)
+    over_row : (row : Option Constraint) → RowOver (Stays wires pass.gone) row
+        → RowOver (Stays wires (set pass.gone w true)) (option_map (replaced_in w (solved w lin)) row)
     over_row None h = tt
     over_row (Some d) h =
         let each = λ (x : Combination) (k : Over (Stays wires pass.gone) x).
-        Over-weaker (λ v. Stays wires pass.gone v × (v ≢ w)) (Stays wires (set pass.gone w true)) (replaced w (solved w lin) x) stays_on (Over-replaced (Stays wires pass.gone) w (solved w lin) x k solved_over) in
+        Over-weaker (λ v. Stays wires pass.gone v × (v ≢ w)) (Stays wires (set pass.gone w true)) (replaced w (solved w lin) x) stays_on
+        (Over-replaced (Stays wires pass.gone) w (solved w lin) x k solved_over) in
         (each d.a h.0, each d.b h.1, each d.c h.2)
 
     rows_over : RowsOver (Stays wires (set pass.gone w true)) (map (option_map (replaced_in w (solved w lin))) (set pass.rows i None))
@@ -191,7 +204,8 @@ module _ (start : List (Option Constraint)) (wires publics : ℕ) (positive : 0 
     set_is_solved z each =
         let inside : w < length z = omega (arith, wire_is.1) in
         get_or-set_same z w (value (solved w lin) z) 0 inside
-        ∙ sym (value-local (λ v. Stays wires pass.gone v × (v ≢ w)) (set z w (value (solved w lin) z)) z (solved w lin) solved_over (λ v h. differs_only z v h.1))
+        ∙ sym (value-local (λ v. Stays wires pass.gone v × (v ≢ w)) (set z w (value (solved w lin) z)) z (solved w lin) solved_over
+        (λ v h. differs_only z v h.1))
 
     gone_there : get_or (set pass.gone w true) w false ≡ true
     gone_there = get_or-set_same pass.gone w true false (omega (arith, sound.each, wire_is.1))
@@ -209,19 +223,24 @@ module _ (start : List (Option Constraint)) (wires publics : ℕ) (positive : 0 
           | inr apart ↦ sound.private v (sym (get_or-set_other pass.gone w v true false apart) ∙ e)
         ]
 
-    rows_up : (z : List ℕ) → Assigns z → length z ≡ wires → RowsHold z (map (option_map (replaced_in w (solved w lin))) (set pass.rows i None)) → RowsHold (set z w (value (solved w lin) z)) pass.rows
+    rows_up : (z : List ℕ) → Assigns z → length z ≡ wires → RowsHold z (map (option_map (replaced_in w (solved w lin))) (set pass.rows i None))
+        → RowsHold (set z w (value (solved w lin) z)) pass.rows
     rows_up z assigns each h =
         let is = set_is_solved z each in
-        let fine : Assigns (set z w (value (solved w lin) z)) = Assigns-set z w (value (solved w lin) z) assigns (omega (arith, wire_is.0)) (value-below (solved w lin) z) in
+        let fine : Assigns (set z w (value (solved w lin) z)) = Assigns-set z w (value (solved w lin) z) assigns (omega (arith, wire_is.0))
+        (value-below (solved w lin) z) in
         let moved = rows_local (Stays wires (set pass.gone w true)) z (set z w (value (solved w lin) z)) (λ v k. sym (differs_only z v (gone_apart v k.1)))
         (map (option_map (replaced_in w (solved w lin))) (set pass.rows i None)) rows_over h in
         rows_back (RowHolds (set z w (value (solved w lin) z))) tt pass.rows i
-        (rows_unchanged (RowHolds (set z w (value (solved w lin) z))) (RowHolds (set z w (value (solved w lin) z))) (option_map (replaced_in w (solved w lin))) (backward (set z w (value (solved w lin) z)) is) (set pass.rows i None) moved)
+        (rows_unchanged (RowHolds (set z w (value (solved w lin) z))) (RowHolds (set z w (value (solved w lin) z))) (option_map (replaced_in w (solved w lin)))
+        (backward (set z w (value (solved w lin) z)) is) (set pass.rows i None) moved)
         (row_holds (set z w (value (solved w lin) z)) fine is)
 
-    substituted-up : (z : List ℕ) → Assigns z → length z ≡ wires → RowsHold z (map (option_map (replaced_in w (solved w lin))) (set pass.rows i None)) → Extended start wires (set pass.gone w true) z
+    substituted-up : (z : List ℕ) → Assigns z → length z ≡ wires → RowsHold z (map (option_map (replaced_in w (solved w lin))) (set pass.rows i None))
+        → Extended start wires (set pass.gone w true) z
     substituted-up z assigns each h =
-        let fine : Assigns (set z w (value (solved w lin) z)) = Assigns-set z w (value (solved w lin) z) assigns (omega (arith, wire_is.0)) (value-below (solved w lin) z) in
+        let fine : Assigns (set z w (value (solved w lin) z)) = Assigns-set z w (value (solved w lin) z) assigns (omega (arith, wire_is.0))
+        (value-below (solved w lin) z) in
         let before = sound.up (set z w (value (solved w lin) z)) fine (length-set z w (value (solved w lin) z) ∙ each) (rows_up z assigns each h) in
         record {
           y = before.y;
@@ -231,7 +250,8 @@ module _ (start : List (Option Constraint)) (wires publics : ℕ) (positive : 0 
           agree = λ v e. before.agree v (still v e) ∙ differs_only z v (gone_apart v e);
         }
 
-    substituted-unique : (y z : List ℕ) → Assigns y → Assigns z → RowsHold y start → RowsHold z start → Agree (set pass.gone w true) y z → (v : ℕ) → slice_index y v ≡ slice_index z v
+    substituted-unique : (y z : List ℕ) → Assigns y → Assigns z → RowsHold y start → RowsHold z start → Agree (set pass.gone w true) y z → (v : ℕ)
+        → slice_index y v ≡ slice_index z v
     substituted-unique y z ay az hy hz agree =
         let there : slice_index y w ≡ slice_index z w =
         is_solved y ay (sound.down y ay hy)
@@ -259,12 +279,14 @@ module _ (start : List (Option Constraint)) (wires publics : ℕ) (positive : 0 
         cond_both (list_all (row_fits w (solved w lin)) (dropped i pass).rows) (substituted w (solved w lin) (dropped i pass)) pass (Sound start wires publics)
         (λ e. substituted-sound) (λ e. sound)
 
-  eliminated-sound : (i : ℕ) (c : Constraint) (lin : Combination) (o : Option ℕ) (pass : Pass) → get_or pass.rows i None ≡ Some c → linear_form c ≡ Some lin → greatest_from publics lin ≡ o → Sound start wires publics pass → Sound start wires publics (eliminated i lin o pass)
+  eliminated-sound : (i : ℕ) (c : Constraint) (lin : Combination) (o : Option ℕ) (pass : Pass) → get_or pass.rows i None ≡ Some c → linear_form c ≡ Some lin
+      → greatest_from publics lin ≡ o → Sound start wires publics pass → Sound start wires publics (eliminated i lin o pass)
   unfolding eliminated
   eliminated-sound i c lin None pass at says greatest sound = sound
   eliminated-sound i c lin (Some w) pass at says greatest sound = attempted-sound i w c lin pass at says greatest sound
 
-  treated-sound : (i : ℕ) (c : Constraint) (o : Option Combination) (pass : Pass) → get_or pass.rows i None ≡ Some c → linear_form c ≡ o → Sound start wires publics pass → Sound start wires publics (treated publics i o pass)
+  treated-sound : (i : ℕ) (c : Constraint) (o : Option Combination) (pass : Pass) → get_or pass.rows i None ≡ Some c → linear_form c ≡ o
+      → Sound start wires publics pass → Sound start wires publics (treated publics i o pass)
   unfolding treated
   treated-sound i c None pass at says sound = sound
   treated-sound i c (Some []) pass at says sound = dropped-sound i c pass at says sound
@@ -274,7 +296,8 @@ module _ (start : List (Option Constraint)) (wires publics : ℕ) (positive : 0 
   unfolding treated
   unlinear i pass sound = sound
 
-  row-sound : (i : ℕ) (o : Option Constraint) (pass : Pass) → get_or pass.rows i None ≡ o → Sound start wires publics pass → Sound start wires publics (treated publics i (linear_row o) pass)
+  row-sound : (i : ℕ) (o : Option Constraint) (pass : Pass) → get_or pass.rows i None ≡ o → Sound start wires publics pass
+      → Sound start wires publics (treated publics i (linear_row o) pass)
   row-sound i None pass at sound = unlinear i pass sound
   row-sound i (Some c) pass at sound = treated-sound i c (linear_form c) pass at refl sound
 

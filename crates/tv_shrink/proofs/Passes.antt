@@ -1,5 +1,7 @@
 -- What the loops of a pass keep.
-use Rattle.std.proofs.Common.{◌≡◌, ◌≢◌, ◌⊎◌, ℕ, zero, suc, ◌+◌, ◌<◌, ◌≤◌, Bool, not, ◌||◌, ◌&&◌, List, [], ◌∷◌, ◌++◌, Option, Some, None, refl, sym, ◌∙◌, ap, subst, arith, eqb, true, false, inl, inr, cond, map, length, get_or, set, take, leb, ltb, ◌-◌, ltb-true, lt-ltb, le-ltb, eqb-true, eq-eqb, ne_eqb, take_all, add-one}
+use Rattle.std.proofs.Common.{◌≡◌, ◌≢◌, ◌⊎◌, ℕ, zero, suc, ◌+◌, ◌<◌, ◌≤◌, Bool, not, ◌||◌, ◌&&◌, List, [], ◌∷◌, ◌++◌, Option, Some, None, refl, sym, ◌∙◌, ap}
+use Rattle.std.proofs.Common.{subst, arith, eqb, true, false, inl, inr, cond, map, length, get_or, set, take, leb, ltb, ◌-◌, ltb-true, lt-ltb, le-ltb}
+use Rattle.std.proofs.Common.{eqb-true, eq-eqb, ne_eqb, take_all, add-one}
 use Rattle.std.specs.List.{fold, list_any, list_all, range_with_len}
 use Rattle.std.specs.Option.{option_map}
 use Rattle.std.proofs.lemmas.Bool.{cond_both, cases_Bool, cases_eq, cases_lt, or_cases, or_parts, or_from, or_left, or_right, and_from, false_from_ne_true}
@@ -12,12 +14,12 @@ use Rattle.tv_core.specs.Combinations.{scaled}
 use Rattle.tv_core.specs.Inverse.{inverse_of}
 use Rattle.tv_core.specs.declared.field.TheConstants.{P}
 use Rattle.tv_core.specs.Constraints.{Combination, Constraint}
-use Rattle.tv_shrink.specs.Normal.{normal, IsNormalFrom}
+use Rattle.tv_core.specs.Normal.{coefficient, normal, IsNormalFrom}
 use Rattle.tv_shrink.specs.Passing.{Pass, all_replaced, attempted, dropped, substituted, eliminated, linear_row, row_fits, treated, turn}
-use Rattle.tv_shrink.specs.Replacing.{coefficient, greater_from, greatest_from, has_wire, without, solved, replaced, replaced_in, fits}
-use Rattle.tv_shrink.specs.Tidy.{RowIsNormal, AreNormal, Covers, pass_of, row_has}
+use Rattle.tv_shrink.specs.Replacing.{greater_from, greatest_from, has_wire, without, solved, replaced, replaced_in, fits}
+use Rattle.tv_shrink.specs.Tidy.{RowIsNormal, RowsAreNormal, Covers, pass_of, row_has}
 use Rattle.tv_shrink.proofs.Linear.{replaced-lacking}
-use Rattle.tv_shrink.proofs.NormalLaws.{Over, Over-weaker, IsNormalFrom-normal}
+use Rattle.tv_core.proofs.NormalLaws.{Over, Over-weaker, IsNormalFrom-normal}
 use Rattle.tv_shrink.proofs.PassLaws.{rows_at}
 use Rattle.tv_shrink.proofs.ReplacingLaws.{none_some, Over-linear_form, Over-solved, Over-has_wire, Over-replaced, Over-lacking, found_later}
 use Rattle.tv_shrink.proofs.Constants.{above_at, found_at}
@@ -28,7 +30,8 @@ or_false false = refl
 
 same_row : (c : Constraint) (a b e : Combination) → a ≡ c.a → b ≡ c.b → e ≡ c.c → Some (record { a = a; b = b; c = e }) ≡ Some c
 same_row c a b e p q s =
-    ap (λ y. Some (record { a = y; b = b; c = e })) p ∙ ap (λ y. Some (record { a = c.a; b = y; c = e })) q ∙ ap (λ y. Some (record { a = c.a; b = c.b; c = y })) s
+    ap (λ y. Some (record { a = y; b = b; c = e })) p ∙ ap (λ y. Some (record { a = c.a; b = y; c = e })) q
+    ∙ ap (λ y. Some (record { a = c.a; b = c.b; c = y })) s
 
 pub all_units : (x : Combination) → Over (λ v. Unit {0}) x
 all_units [] = tt
@@ -50,14 +53,16 @@ module _ (w : ℕ) (r : Combination) where
   row-lacking-fits (Some c) e =
       let first = or_parts (has_wire w c.a) (has_wire w c.b || has_wire w c.c) e in
       let others = or_parts (has_wire w c.b) (has_wire w c.c) first.1 in
-      and_from (fits w r c.a) (fits w r c.b && fits w r c.c) (lacking-fits c.a first.0) (and_from (fits w r c.b) (fits w r c.c) (lacking-fits c.b others.0) (lacking-fits c.c others.1))
+      and_from (fits w r c.a) (fits w r c.b && fits w r c.c) (lacking-fits c.a first.0)
+      (and_from (fits w r c.b) (fits w r c.c) (lacking-fits c.b others.0) (lacking-fits c.c others.1))
 
   pub row-lacking-same : (row : Option Constraint) → row_has w row ≡ false → option_map (replaced_in w r) row ≡ row
   row-lacking-same None e = refl
   row-lacking-same (Some c) e =
       let first = or_parts (has_wire w c.a) (has_wire w c.b || has_wire w c.c) e in
       let others = or_parts (has_wire w c.b) (has_wire w c.c) first.1 in
-      same_row c (replaced w r c.a) (replaced w r c.b) (replaced w r c.c) (replaced-lacking w r c.a (sym first.0)) (replaced-lacking w r c.b (sym others.0)) (replaced-lacking w r c.c (sym others.1))
+      same_row c (replaced w r c.a) (replaced w r c.b) (replaced w r c.c) (replaced-lacking w r c.a (sym first.0)) (replaced-lacking w r c.b (sym others.0))
+      (replaced-lacking w r c.c (sym others.1))
 
   -- once a wire is replaced, it is there no more
   module _ (lacks : has_wire w r ≡ false) where
@@ -70,21 +75,26 @@ module _ (w : ℕ) (r : Combination) where
     replaced-twice None = refl
     replaced-twice (Some c) =
         same_row (replaced_in w r c) (replaced w r (replaced w r c.a)) (replaced w r (replaced w r c.b)) (replaced w r (replaced w r c.c))
-        (replaced-lacking w r (replaced w r c.a) (sym (lacks-replaced c.a))) (replaced-lacking w r (replaced w r c.b) (sym (lacks-replaced c.b))) (replaced-lacking w r (replaced w r c.c) (sym (lacks-replaced c.c)))
+        (replaced-lacking w r (replaced w r c.a) (sym (lacks-replaced c.a))) (replaced-lacking w r (replaced w r c.b) (sym (lacks-replaced c.b)))
+        (replaced-lacking w r (replaced w r c.c) (sym (lacks-replaced c.c)))
 
     -- one turn of the loop that replaces
-    replaced_seen : (seen : Bool) (row : Option Constraint) → option_map (replaced_in w r) (cond seen (option_map (replaced_in w r) row) row) ≡ option_map (replaced_in w r) row
+    replaced_seen : (seen : Bool) (row : Option Constraint)
+        → option_map (replaced_in w r) (cond seen (option_map (replaced_in w r) row) row) ≡ option_map (replaced_in w r) row
     replaced_seen true row = replaced-twice row
     replaced_seen false row = refl
 
     replaced-next : (rows start : List (Option Constraint)) (places : List ℕ) (k at : ℕ) → k < length places → get_or places k 0 ≡ at → at < length rows →
-        ((i : ℕ) → get_or rows i None ≡ cond (list_any (λ p. eqb p i) (take k places)) (option_map (replaced_in w r) (get_or start i None)) (get_or start i None)) →
-        (i : ℕ) → get_or (set rows at (option_map (replaced_in w r) (get_or rows at None))) i None ≡ cond (list_any (λ p. eqb p i) (take (k + 1) places)) (option_map (replaced_in w r) (get_or start i None)) (get_or start i None)
+        ((i : ℕ) → get_or rows i None ≡ cond (list_any (λ p. eqb p i) (take k places)) (option_map (replaced_in w r) (get_or start i None))
+        (get_or start i None)) →
+        (i : ℕ) → get_or (set rows at (option_map (replaced_in w r) (get_or rows at None))) i None
+        ≡ cond (list_any (λ p. eqb p i) (take (k + 1) places)) (option_map (replaced_in w r) (get_or start i None)) (get_or start i None)
     replaced-next rows start places k at h is inside before i =
         let next = list_any_more (λ p. eqb p i) places k 0 h in
         elim (cases_eq i at) [
           | inl here ↦
-              let now : list_any (λ p. eqb p i) (take (k + 1) places) ≡ true = next ∙ or_right (list_any (λ p. eqb p i) (take k places)) (eqb (get_or places k 0) i) (eq-eqb (get_or places k 0) i (is ∙ sym here)) in
+              let now : list_any (λ p. eqb p i) (take (k + 1) places) ≡ true = next
+              ∙ or_right (list_any (λ p. eqb p i) (take k places)) (eqb (get_or places k 0) i) (eq-eqb (get_or places k 0) i (is ∙ sym here)) in
               ap (λ j. get_or (set rows at (option_map (replaced_in w r) (get_or rows at None))) j None) here
               ∙ get_or-set_same rows at (option_map (replaced_in w r) (get_or rows at None)) None inside
               ∙ ap (option_map (replaced_in w r)) (ap (λ j. get_or rows j None) (sym here) ∙ before i)
@@ -92,7 +102,8 @@ module _ (w : ℕ) (r : Combination) where
               ∙ sym (ap (λ b. cond b (option_map (replaced_in w r) (get_or start i None)) (get_or start i None)) now)
           | inr apart ↦
               let now : list_any (λ p. eqb p i) (take (k + 1) places) ≡ list_any (λ p. eqb p i) (take k places) =
-              next ∙ ap (λ b. list_any (λ p. eqb p i) (take k places) || b) (ne_eqb (get_or places k 0) i (λ e. apart (sym e ∙ is))) ∙ or_false (list_any (λ p. eqb p i) (take k places)) in
+              next ∙ ap (λ b. list_any (λ p. eqb p i) (take k places) || b) (ne_eqb (get_or places k 0) i (λ e. apart (sym e ∙ is)))
+              ∙ or_false (list_any (λ p. eqb p i) (take k places)) in
               get_or-set_other rows at i (option_map (replaced_in w r) (get_or rows at None)) None apart
               ∙ before i
               ∙ sym (ap (λ b. cond b (option_map (replaced_in w r) (get_or start i None)) (get_or start i None)) now)
@@ -102,26 +113,36 @@ module _ (w : ℕ) (r : Combination) where
     fits_seen false row e = e
     fits_seen true None e = refl
     fits_seen true (Some c) e =
-        and_from (fits w r (replaced w r c.a)) (fits w r (replaced w r c.b) && fits w r (replaced w r c.c)) (lacking-fits (replaced w r c.a) (lacks-replaced c.a))
-        (and_from (fits w r (replaced w r c.b)) (fits w r (replaced w r c.c)) (lacking-fits (replaced w r c.b) (lacks-replaced c.b)) (lacking-fits (replaced w r c.c) (lacks-replaced c.c)))
+        and_from (fits w r (replaced w r c.a)) (fits w r (replaced w r c.b) && fits w r (replaced w r c.c))
+        (lacking-fits (replaced w r c.a) (lacks-replaced c.a))
+        (and_from (fits w r (replaced w r c.b)) (fits w r (replaced w r c.c)) (lacking-fits (replaced w r c.b) (lacks-replaced c.b))
+        (lacking-fits (replaced w r c.c) (lacks-replaced c.c)))
 
     -- a constraint keeps to its most terms, and is normal, also where the wire was replaced in it already
-    still_fits : (rows start : List (Option Constraint)) (seen : Bool) (at : ℕ) → list_all (row_fits w r) start ≡ true → at < length start → get_or rows at None ≡ cond seen (option_map (replaced_in w r) (get_or start at None)) (get_or start at None) → row_fits w r (get_or rows at None) ≡ true
-    still_fits rows start seen at all h is = ap (row_fits w r) is ∙ fits_seen seen (get_or start at None) (AllPass-from_list_all (row_fits w r) start all at None h)
+    still_fits : (rows start : List (Option Constraint)) (seen : Bool) (at : ℕ) → list_all (row_fits w r) start ≡ true → at < length start
+        → get_or rows at None ≡ cond seen (option_map (replaced_in w r) (get_or start at None)) (get_or start at None)
+        → row_fits w r (get_or rows at None) ≡ true
+    still_fits rows start seen at all h is = ap (row_fits w r) is
+        ∙ fits_seen seen (get_or start at None) (AllPass-from_list_all (row_fits w r) start all at None h)
 
     nothing_there : (b : Bool) (row : Option Constraint) → row ≡ None → None ≡ cond b (option_map (replaced_in w r) row) row
     nothing_there true row e = sym (ap (option_map (replaced_in w r)) e)
     nothing_there false row e = sym e
 
     -- a place past the end names no constraint
-    replaced-past : (rows start : List (Option Constraint)) (places : List ℕ) (k at : ℕ) → k < length places → get_or places k 0 ≡ at → length rows ≤ at → length rows ≡ length start →
-        ((i : ℕ) → get_or rows i None ≡ cond (list_any (λ p. eqb p i) (take k places)) (option_map (replaced_in w r) (get_or start i None)) (get_or start i None)) →
-        (i : ℕ) → get_or rows i None ≡ cond (list_any (λ p. eqb p i) (take (k + 1) places)) (option_map (replaced_in w r) (get_or start i None)) (get_or start i None)
+    replaced-past : (rows start : List (Option Constraint)) (places : List ℕ) (k at : ℕ) → k < length places → get_or places k 0 ≡ at → length rows ≤ at
+        → length rows ≡ length start →
+        ((i : ℕ) → get_or rows i None ≡ cond (list_any (λ p. eqb p i) (take k places)) (option_map (replaced_in w r) (get_or start i None))
+        (get_or start i None)) →
+        (i : ℕ) → get_or rows i None ≡ cond (list_any (λ p. eqb p i) (take (k + 1) places)) (option_map (replaced_in w r) (get_or start i None))
+        (get_or start i None)
     replaced-past rows start places k at h is past each before i =
         elim (cases_lt i (length rows)) [
           | inl inside ↦
               let now : list_any (λ p. eqb p i) (take (k + 1) places) ≡ list_any (λ p. eqb p i) (take k places) =
-              list_any_more (λ p. eqb p i) places k 0 h ∙ ap (λ b. list_any (λ p. eqb p i) (take k places) || b) (ne_eqb (get_or places k 0) i (λ e. absurd (omega arith))) ∙ or_false (list_any (λ p. eqb p i) (take k places)) in
+              list_any_more (λ p. eqb p i) places k 0 h
+              ∙ ap (λ b. list_any (λ p. eqb p i) (take k places) || b) (ne_eqb (get_or places k 0) i (λ e. absurd (omega arith)))
+              ∙ or_false (list_any (λ p. eqb p i) (take k places)) in
               before i ∙ sym (ap (λ b. cond b (option_map (replaced_in w r) (get_or start i None)) (get_or start i None)) now)
           | inr behind ↦
               let none : get_or start i None ≡ None = get_or_past start i None (omega arith) in
@@ -134,53 +155,63 @@ module _ (w : ℕ) (r : Combination) where
     set_beyond (first ∷ rows) (suc at) row h = ap (λ rest. first ∷ rest) (set_beyond rows at row (omega arith))
 
     -- either way
-    pub replaced-step : (rows start : List (Option Constraint)) (places : List ℕ) (k at : ℕ) → k < length places → get_or places k 0 ≡ at → length rows ≡ length start →
-        ((i : ℕ) → get_or rows i None ≡ cond (list_any (λ p. eqb p i) (take k places)) (option_map (replaced_in w r) (get_or start i None)) (get_or start i None)) →
-        (i : ℕ) → get_or (set rows at (option_map (replaced_in w r) (get_or rows at None))) i None ≡ cond (list_any (λ p. eqb p i) (take (k + 1) places)) (option_map (replaced_in w r) (get_or start i None)) (get_or start i None)
+    pub replaced-step : (rows start : List (Option Constraint)) (places : List ℕ) (k at : ℕ) → k < length places → get_or places k 0 ≡ at
+        → length rows ≡ length start →
+        ((i : ℕ) → get_or rows i None ≡ cond (list_any (λ p. eqb p i) (take k places)) (option_map (replaced_in w r) (get_or start i None))
+        (get_or start i None)) →
+        (i : ℕ) → get_or (set rows at (option_map (replaced_in w r) (get_or rows at None))) i None
+        ≡ cond (list_any (λ p. eqb p i) (take (k + 1) places)) (option_map (replaced_in w r) (get_or start i None)) (get_or start i None)
     replaced-step rows start places k at h is each before i =
         elim (cases_lt at (length rows)) [
           | inl inside ↦ replaced-next rows start places k at h is inside before i
-          | inr past ↦ ap (λ xs. get_or xs i None) (set_beyond rows at (option_map (replaced_in w r) (get_or rows at None)) past) ∙ replaced-past rows start places k at h is past each before i
+          | inr past ↦ ap (λ xs. get_or xs i None) (set_beyond rows at (option_map (replaced_in w r) (get_or rows at None)) past)
+              ∙ replaced-past rows start places k at h is past each before i
         ]
 
-    pub still_fit : (rows start : List (Option Constraint)) (seen : Bool) (at : ℕ) → list_all (row_fits w r) start ≡ true → length rows ≡ length start → get_or rows at None ≡ cond seen (option_map (replaced_in w r) (get_or start at None)) (get_or start at None) → row_fits w r (get_or rows at None) ≡ true
+    pub still_fit : (rows start : List (Option Constraint)) (seen : Bool) (at : ℕ) → list_all (row_fits w r) start ≡ true → length rows ≡ length start
+        → get_or rows at None ≡ cond seen (option_map (replaced_in w r) (get_or start at None)) (get_or start at None)
+        → row_fits w r (get_or rows at None) ≡ true
     still_fit rows start seen at all each is =
         elim (cases_lt at (length start)) [
           | inl inside ↦ still_fits rows start seen at all inside is
           | inr past ↦ ap (row_fits w r) (get_or_past rows at None (omega arith))
         ]
 
-    each_replaced : (b : Bool) (row : Option Constraint) {c : Bool} → c ≡ b → (c ≡ false → row_has w row ≡ false) → cond b (option_map (replaced_in w r) row) row ≡ option_map (replaced_in w r) row
+    each_replaced : (b : Bool) (row : Option Constraint) {c : Bool} → c ≡ b → (c ≡ false → row_has w row ≡ false)
+        → cond b (option_map (replaced_in w r) row) row ≡ option_map (replaced_in w r) row
     each_replaced true row e lacking = refl
     each_replaced false row e lacking = sym (row-lacking-same row (lacking e))
 
     pub replaced-all : (rows start : List (Option Constraint)) (places : List ℕ) (k : ℕ) → length places ≤ k → length rows ≡ length start →
         ((i : ℕ) → row_has w (get_or start i None) ≡ true → list_any (λ p. eqb p i) places ≡ true) →
-        ((i : ℕ) → get_or rows i None ≡ cond (list_any (λ p. eqb p i) (take k places)) (option_map (replaced_in w r) (get_or start i None)) (get_or start i None)) →
+        ((i : ℕ) → get_or rows i None ≡ cond (list_any (λ p. eqb p i) (take k places)) (option_map (replaced_in w r) (get_or start i None))
+        (get_or start i None)) →
         rows ≡ map (option_map (replaced_in w r)) start
     replaced-all rows start places k past each covers before =
         ext_get_or None rows (map (option_map (replaced_in w r)) start) (each ∙ sym (length-map start (option_map (replaced_in w r)))) (λ i h.
         let inside : i < length start = omega arith in
         before i
         ∙ ap (λ xs. cond (list_any (λ p. eqb p i) xs) (option_map (replaced_in w r) (get_or start i None)) (get_or start i None)) (take_all k places past)
-        ∙ each_replaced (list_any (λ p. eqb p i) places) (get_or start i None) refl (λ e. false_from_ne_true (row_has w (get_or start i None)) (λ has. let both : true ≡ false = sym (covers i has) ∙ e in cc))
+        ∙ each_replaced (list_any (λ p. eqb p i) places) (get_or start i None) refl
+        (λ e. false_from_ne_true (row_has w (get_or start i None)) (λ has. let both : true ≡ false = sym (covers i has) ∙ e in cc))
         ∙ sym (get_or-map (option_map (replaced_in w r)) start i None None inside))
 
   -- what is replaced stays normal
   normal-replaced : (x : Combination) → IsNormalFrom 0 x → IsNormalFrom 0 (replaced w r x)
   unfolding replaced
-  normal-replaced x n = cond_both (has_wire w x) (normal (without w x ++ scaled (coefficient w x) r)) x (IsNormalFrom 0) (λ e. IsNormalFrom-normal (without w x ++ scaled (coefficient w x) r)) (λ e. n)
+  normal-replaced x n = cond_both (has_wire w x) (normal (without w x ++ scaled (coefficient w x) r)) x (IsNormalFrom 0)
+      (λ e. IsNormalFrom-normal (without w x ++ scaled (coefficient w x) r)) (λ e. n)
 
   pub normal-replaced_row : (row : Option Constraint) → RowIsNormal row → RowIsNormal (option_map (replaced_in w r) row)
   normal-replaced_row None n = tt
   normal-replaced_row (Some c) n = record { a = normal-replaced c.a n.a; b = normal-replaced c.b n.b; c = normal-replaced c.c n.c }
 
-pub normal-set : (rows : List (Option Constraint)) (i : ℕ) (row : Option Constraint) → AreNormal rows → RowIsNormal row → AreNormal (set rows i row)
+pub normal-set : (rows : List (Option Constraint)) (i : ℕ) (row : Option Constraint) → RowsAreNormal rows → RowIsNormal row → RowsAreNormal (set rows i row)
 normal-set [] i row n here = tt
 normal-set (first ∷ rows) zero row n here = (here, n.1)
 normal-set (first ∷ rows) (suc i) row n here = (n.0, normal-set rows i row n.1 here)
 
-pub normal-at : (rows : List (Option Constraint)) (i : ℕ) → AreNormal rows → RowIsNormal (get_or rows i None)
+pub normal-at : (rows : List (Option Constraint)) (i : ℕ) → RowsAreNormal rows → RowIsNormal (get_or rows i None)
 normal-at rows i n = rows_at RowIsNormal tt rows i n
 
 -- a wire of the first terms
@@ -204,9 +235,12 @@ over_itself (t ∷ x) = (has_first t x, Over-weaker (λ w. has_wire w x ≡ true
 
 row_over : (c : Constraint) → Over (λ w. row_has w (Some c) ≡ true) c.a × Over (λ w. row_has w (Some c) ≡ true) c.b × Over (λ w. row_has w (Some c) ≡ true) c.c
 row_over c = (
-  Over-weaker (λ w. has_wire w c.a ≡ true) (λ w. row_has w (Some c) ≡ true) c.a (λ w e. or_left (has_wire w c.a) (has_wire w c.b || has_wire w c.c) e) (over_itself c.a),
-  Over-weaker (λ w. has_wire w c.b ≡ true) (λ w. row_has w (Some c) ≡ true) c.b (λ w e. or_right (has_wire w c.a) (has_wire w c.b || has_wire w c.c) (or_left (has_wire w c.b) (has_wire w c.c) e)) (over_itself c.b),
-  Over-weaker (λ w. has_wire w c.c ≡ true) (λ w. row_has w (Some c) ≡ true) c.c (λ w e. or_right (has_wire w c.a) (has_wire w c.b || has_wire w c.c) (or_right (has_wire w c.b) (has_wire w c.c) e)) (over_itself c.c),
+  Over-weaker (λ w. has_wire w c.a ≡ true) (λ w. row_has w (Some c) ≡ true) c.a (λ w e. or_left (has_wire w c.a) (has_wire w c.b || has_wire w c.c) e)
+      (over_itself c.a),
+  Over-weaker (λ w. has_wire w c.b ≡ true) (λ w. row_has w (Some c) ≡ true) c.b
+      (λ w e. or_right (has_wire w c.a) (has_wire w c.b || has_wire w c.c) (or_left (has_wire w c.b) (has_wire w c.c) e)) (over_itself c.b),
+  Over-weaker (λ w. has_wire w c.c ≡ true) (λ w. row_has w (Some c) ≡ true) c.c
+      (λ w e. or_right (has_wire w c.a) (has_wire w c.b || has_wire w c.c) (or_right (has_wire w c.b) (has_wire w c.c) e)) (over_itself c.c),
 )
 
 -- what a row says is 0 is normal, and of its wires
@@ -219,7 +253,8 @@ form-over None form e = absurd (none_some form e)
 form-over (Some c) form e = let own = row_over c in (Over-linear_form (λ w. row_has w (Some c) ≡ true) c form own.0 own.1 own.2 e).0
 
 -- what a wire of it is has only wires of the row, and not that wire
-pub solved-wires : (w : ℕ) (row : Option Constraint) (form : Combination) → linear_row row ≡ Some form → (v : ℕ) → has_wire v (solved w form) ≡ true → row_has v row ≡ true
+pub solved-wires : (w : ℕ) (row : Option Constraint) (form : Combination) → linear_row row ≡ Some form → (v : ℕ) → has_wire v (solved w form) ≡ true
+    → row_has v row ≡ true
 solved-wires w row form e v has =
     (Over-has_wire (λ u. (row_has u row ≡ true) × (u ≢ w)) v (solved w form) (Over-solved (λ u. row_has u row ≡ true) w form (form-over row form e)) has).0
 
@@ -240,7 +275,8 @@ last-above least d x n h = above_at least (length x - 1) d x n (omega arith)
 last-behind : (t u d : ℕ × ℕ) (x : Combination) → get_or (t ∷ u ∷ x) (length (t ∷ u ∷ x) - 1) d ≡ get_or (u ∷ x) (length (u ∷ x) - 1) d
 last-behind t u d x = let e : length (t ∷ u ∷ x) - 1 ≡ suc (length (u ∷ x) - 1) = omega arith in ap (λ k. get_or (t ∷ u ∷ x) k d) e
 
-greatest-last_step : (publics : ℕ) (t : ℕ × ℕ) (last : ℕ) → t.1 < last → greater_from publics t.1 (cond (ltb last publics) None (Some last)) ≡ cond (ltb last publics) None (Some last)
+greatest-last_step : (publics : ℕ) (t : ℕ × ℕ) (last : ℕ) → t.1 < last
+    → greater_from publics t.1 (cond (ltb last publics) None (Some last)) ≡ cond (ltb last publics) None (Some last)
 unfolding greater_from
 greatest-last_step publics t last h = by_order (ltb last publics) refl
   where
@@ -274,23 +310,28 @@ pub turn-empty : (publics at : ℕ) (pass : Pass) → linear_row (get_or pass.ro
 unfolding turn treated
 turn-empty publics at pass e = ap (λ o. treated publics at o pass) e
 
-turn-form : (publics at : ℕ) (pass : Pass) (form : Combination) → 0 < length form → linear_row (get_or pass.rows at None) ≡ Some form → turn publics pass at ≡ eliminated at form (greatest_from publics form) pass
+turn-form : (publics at : ℕ) (pass : Pass) (form : Combination) → 0 < length form → linear_row (get_or pass.rows at None) ≡ Some form
+    → turn publics pass at ≡ eliminated at form (greatest_from publics form) pass
 unfolding turn treated
 turn-form publics at pass [] h e = absurd (omega arith)
 turn-form publics at pass (t ∷ x) h e = ap (λ o. treated publics at o pass) e
 
-pub turn-public : (publics at : ℕ) (t : ℕ × ℕ) (pass : Pass) (form : Combination) → 0 < length form → linear_row (get_or pass.rows at None) ≡ Some form → t ≡ get_or form (length form - 1) t → t.1 < publics → turn publics pass at ≡ pass
+pub turn-public : (publics at : ℕ) (t : ℕ × ℕ) (pass : Pass) (form : Combination) → 0 < length form → linear_row (get_or pass.rows at None) ≡ Some form
+    → t ≡ get_or form (length form - 1) t → t.1 < publics → turn publics pass at ≡ pass
 unfolding eliminated
 turn-public publics at t pass form h e last below =
     turn-form publics at pass form h e
-    ∙ ap (λ o. eliminated at form o pass) (greatest-last publics 0 t form (form-normal (get_or pass.rows at None) form e) h ∙ ap (λ u. cond (ltb u.1 publics) None (Some u.1)) (sym last) ∙ ap (λ b. cond b None (Some t.1)) (lt-ltb t.1 publics below))
+    ∙ ap (λ o. eliminated at form o pass) (greatest-last publics 0 t form (form-normal (get_or pass.rows at None) form e) h
+    ∙ ap (λ u. cond (ltb u.1 publics) None (Some u.1)) (sym last) ∙ ap (λ b. cond b None (Some t.1)) (lt-ltb t.1 publics below))
 
-pub turn-private : (publics at : ℕ) (t : ℕ × ℕ) (pass : Pass) (form : Combination) → 0 < length form → linear_row (get_or pass.rows at None) ≡ Some form → t ≡ get_or form (length form - 1) t → publics ≤ t.1 →
+pub turn-private : (publics at : ℕ) (t : ℕ × ℕ) (pass : Pass) (form : Combination) → 0 < length form → linear_row (get_or pass.rows at None) ≡ Some form
+    → t ≡ get_or form (length form - 1) t → publics ≤ t.1 →
     turn publics pass at ≡ attempted t.1 (solved t.1 form) (dropped at pass) pass
 unfolding eliminated
 turn-private publics at t pass form h e last above =
     turn-form publics at pass form h e
-    ∙ ap (λ o. eliminated at form o pass) (greatest-last publics 0 t form (form-normal (get_or pass.rows at None) form e) h ∙ ap (λ u. cond (ltb u.1 publics) None (Some u.1)) (sym last) ∙ ap (λ b. cond b None (Some t.1)) (le-ltb t.1 publics above))
+    ∙ ap (λ o. eliminated at form o pass) (greatest-last publics 0 t form (form-normal (get_or pass.rows at None) form e) h
+    ∙ ap (λ u. cond (ltb u.1 publics) None (Some u.1)) (sym last) ∙ ap (λ b. cond b None (Some t.1)) (le-ltb t.1 publics above))
 
 -- the last term
 pub last-own : (t : ℕ × ℕ) (form : Combination) → IsNormalFrom 0 form → 0 < length form → t ≡ get_or form (length form - 1) t →
@@ -309,7 +350,8 @@ same_default (x ∷ xs) (suc i) d e h = same_default xs i d e (omega arith)
 -- one turn of the loop that files a row
 module _ (publics : ℕ) (lists next : List (List ℕ)) (row k : ℕ) (t : ℕ × ℕ) (x : Combination) (h : k < length x) (at : t ≡ get_or x k t)
     (added : (w : ℕ) → publics ≤ w → has_wire w (take k x) ≡ true → list_any (λ p. eqb p row) (get_or lists w []) ≡ true) where
-  pub filed-more : ((w i : ℕ) → list_any (λ p. eqb p i) (get_or lists w []) ≡ true → list_any (λ p. eqb p i) (get_or next w []) ≡ true) → list_any (λ p. eqb p row) (get_or next t.1 []) ≡ true →
+  pub filed-more : ((w i : ℕ) → list_any (λ p. eqb p i) (get_or lists w []) ≡ true → list_any (λ p. eqb p i) (get_or next w []) ≡ true)
+      → list_any (λ p. eqb p row) (get_or next t.1 []) ≡ true →
       (w : ℕ) → publics ≤ w → has_wire w (take (k + 1) x) ≡ true → list_any (λ p. eqb p row) (get_or next w []) ≡ true
   filed-more more here w above has =
       elim (or_cases (has_wire w (take k x)) (eqb t.1 w) (sym (has_next w k t x h at) ∙ has)) [
@@ -317,7 +359,8 @@ module _ (publics : ℕ) (lists next : List (List ℕ)) (row k : ℕ) (t : ℕ �
         | inr same ↦ subst (λ v. list_any (λ p. eqb p row) (get_or next v []) ≡ true) (eqb-true t.1 w same) here
       ]
 
-  pub filed-none : t.1 < publics → next ≡ lists → (w : ℕ) → publics ≤ w → has_wire w (take (k + 1) x) ≡ true → list_any (λ p. eqb p row) (get_or next w []) ≡ true
+  pub filed-none : t.1 < publics → next ≡ lists → (w : ℕ) → publics ≤ w → has_wire w (take (k + 1) x) ≡ true
+      → list_any (λ p. eqb p row) (get_or next w []) ≡ true
   filed-none public is w above has =
       subst (λ xs. list_any (λ p. eqb p row) (get_or xs w []) ≡ true) (sym is)
       (elim (or_cases (has_wire w (take k x)) (eqb t.1 w) (sym (has_next w k t x h at) ∙ has)) [
@@ -326,11 +369,13 @@ module _ (publics : ℕ) (lists next : List (List ℕ)) (row k : ℕ) (t : ℕ �
       ])
 
 -- what was put out, from the row that was looked at
-pub form_there : (rows : List (Option Constraint)) (at : ℕ) (row : Option Constraint) (form : Combination) (b : Bool) → row ≡ get_or rows at None → linear_row row ≡ cond b (Some form) None → b ≡ true → linear_row (get_or rows at None) ≡ Some form
+pub form_there : (rows : List (Option Constraint)) (at : ℕ) (row : Option Constraint) (form : Combination) (b : Bool) → row ≡ get_or rows at None
+    → linear_row row ≡ cond b (Some form) None → b ≡ true → linear_row (get_or rows at None) ≡ Some form
 form_there rows at row form b is says e =
     ap linear_row (sym is) ∙ says ∙ ap (λ c. cond c (Some form) None) e
 
-pub form_missing : (rows : List (Option Constraint)) (at : ℕ) (row : Option Constraint) (form : Combination) (b : Bool) → row ≡ get_or rows at None → linear_row row ≡ cond b (Some form) None → b ≡ false → linear_row (get_or rows at None) ≡ None
+pub form_missing : (rows : List (Option Constraint)) (at : ℕ) (row : Option Constraint) (form : Combination) (b : Bool) → row ≡ get_or rows at None
+    → linear_row row ≡ cond b (Some form) None → b ≡ false → linear_row (get_or rows at None) ≡ None
 form_missing rows at row form b is says e =
     ap linear_row (sym is) ∙ says ∙ ap (λ c. cond c (Some form) None) e
 
@@ -338,13 +383,15 @@ pub last_at : (form : Combination) (n : ℕ) (t : ℕ × ℕ) → n ≡ length f
 last_at form n t e is = is ∙ ap (λ m. get_or form (m - 1) t) e
 
 -- the attempt, by whether all keep to their most terms
-pub not-attempted : (w at : ℕ) (r : Combination) (rows : List (Option Constraint)) (gone : List Bool) (all : Bool) → all ≡ list_all (row_fits w r) (set rows at None) → all ≡ false →
+pub not-attempted : (w at : ℕ) (r : Combination) (rows : List (Option Constraint)) (gone : List Bool) (all : Bool)
+    → all ≡ list_all (row_fits w r) (set rows at None) → all ≡ false →
     attempted w r (dropped at (pass_of rows gone)) (pass_of rows gone) ≡ pass_of rows gone
 unfolding attempted dropped
 not-attempted w at r rows gone all is e =
     ap (λ b. cond b (substituted w r (record { rows = set rows at None; gone = gone })) (pass_of rows gone)) (sym is ∙ e)
 
-pub attempted-all : (w at : ℕ) (r : Combination) (rows : List (Option Constraint)) (gone : List Bool) (all : Bool) → all ≡ list_all (row_fits w r) (set rows at None) → all ≡ true →
+pub attempted-all : (w at : ℕ) (r : Combination) (rows : List (Option Constraint)) (gone : List Bool) (all : Bool)
+    → all ≡ list_all (row_fits w r) (set rows at None) → all ≡ true →
     attempted w r (dropped at (pass_of rows gone)) (pass_of rows gone) ≡ pass_of (all_replaced w r (set rows at None)) (set gone w true)
 unfolding attempted dropped substituted
 attempted-all w at r rows gone all is e =
@@ -370,7 +417,8 @@ module _ (v w : ℕ) (r : Combination) (lacks : has_wire w r ≡ false) where
             inl (own, λ same. let both : true ≡ false = sym own ∙ ap (λ u. has_wire u x) same ∙ missing in cc)
       ]
 
-  row_has_replaced : (row : Option Constraint) → row_has v (option_map (replaced_in w r) row) ≡ true → ((row_has v row ≡ true) × (v ≢ w)) ⊎ ((has_wire v r ≡ true) × (row_has w row ≡ true))
+  row_has_replaced : (row : Option Constraint) → row_has v (option_map (replaced_in w r) row) ≡ true → ((row_has v row ≡ true) × (v ≢ w))
+      ⊎ ((has_wire v r ≡ true) × (row_has w row ≡ true))
   row_has_replaced None has = absurd (let no : false ≡ true = has in cc)
   row_has_replaced (Some c) has =
       elim (or_cases (has_wire v (replaced w r c.a)) (has_wire v (replaced w r c.b) || has_wire v (replaced w r c.c)) has) [
@@ -390,14 +438,16 @@ module _ (v w : ℕ) (r : Combination) (lacks : has_wire w r ≡ false) where
         ]
       ]
 
-set_cases : (rows : List (Option Constraint)) (at i : ℕ) (row : Option Constraint) → (get_or (set rows at row) i None ≡ get_or rows i None) ⊎ ((i ≡ at) × (get_or (set rows at row) i None ≡ row))
+set_cases : (rows : List (Option Constraint)) (at i : ℕ) (row : Option Constraint) → (get_or (set rows at row) i None ≡ get_or rows i None)
+    ⊎ ((i ≡ at) × (get_or (set rows at row) i None ≡ row))
 set_cases [] at i row = inl refl
 set_cases (first ∷ rows) zero zero row = inr (refl, refl)
 set_cases (first ∷ rows) zero (suc i) row = inl refl
 set_cases (first ∷ rows) (suc at) zero row = inl refl
 set_cases (first ∷ rows) (suc at) (suc i) row = elim (set_cases rows at i row) [ inl same ↦ inl same | inr here ↦ inr (ap suc here.0, here.1) ]
 
-pub covers-dropped : (publics at : ℕ) (rows : List (Option Constraint)) (lists : List (List ℕ)) → Covers publics rows lists → Covers publics (set rows at None) lists
+pub covers-dropped : (publics at : ℕ) (rows : List (Option Constraint)) (lists : List (List ℕ)) → Covers publics rows lists
+    → Covers publics (set rows at None) lists
 covers-dropped publics at rows lists covers i w above has =
     elim (set_cases rows at i None) [
       | inl same ↦ covers i w above (ap (row_has w) (sym same) ∙ has)
@@ -408,19 +458,24 @@ pub covers-more : (publics : ℕ) (rows : List (Option Constraint)) (lists next 
     ((v i : ℕ) → list_any (λ p. eqb p i) (get_or lists v []) ≡ true → list_any (λ p. eqb p i) (get_or next v []) ≡ true) → Covers publics rows next
 covers-more publics rows lists next covers more i w above has = more w i (covers i w above has)
 
-pub covers-replaced : (publics w at : ℕ) (r : Combination) (rows : List (Option Constraint)) (lists : List (List ℕ)) → has_wire w r ≡ false → Covers publics rows lists →
-    ((v : ℕ) → publics ≤ v → has_wire v r ≡ true → list_any (λ p. eqb p at) (get_or lists v []) ≡ true) → Covers publics (set rows at (option_map (replaced_in w r) (get_or rows at None))) lists
+pub covers-replaced : (publics w at : ℕ) (r : Combination) (rows : List (Option Constraint)) (lists : List (List ℕ)) → has_wire w r ≡ false
+    → Covers publics rows lists →
+    ((v : ℕ) → publics ≤ v → has_wire v r ≡ true → list_any (λ p. eqb p at) (get_or lists v []) ≡ true)
+    → Covers publics (set rows at (option_map (replaced_in w r) (get_or rows at None))) lists
 covers-replaced publics w at r rows lists lacks covers added i v above has =
     elim (set_cases rows at i (option_map (replaced_in w r) (get_or rows at None))) [
       | inl own ↦ covers i v above (ap (row_has v) (sym own) ∙ has)
       | inr here ↦
           subst (λ j. list_any (λ p. eqb p j) (get_or lists v []) ≡ true) (sym here.0)
-          (elim (row_has_replaced v w r lacks (get_or rows at None) (ap (row_has v) (sym here.1) ∙ has)) [ inl own ↦ covers at v above own.0 | inr by ↦ added v above by.0 ])
+          (elim (row_has_replaced v w r lacks (get_or rows at None)
+          (ap (row_has v) (sym here.1) ∙ has)) [ inl own ↦ covers at v above own.0 | inr by ↦ added v above by.0 ])
     ]
 
--- all but the one at a place keep to their most terms where those that the wire is told of do
-pub all-fit-there : (w at : ℕ) (r : Combination) (publics : ℕ) (rows : List (Option Constraint)) (lists : List (List ℕ)) → Covers publics rows lists → publics ≤ w →
-    ((i : ℕ) → list_any (λ p. eqb p i) (get_or lists w []) ≡ true → row_fits w r (get_or (set rows at None) i None) ≡ true) → list_all (row_fits w r) (set rows at None) ≡ true
+-- all but the one at a place keep to their most terms where those that the wire may stand in do
+pub all-fit-there : (w at : ℕ) (r : Combination) (publics : ℕ) (rows : List (Option Constraint)) (lists : List (List ℕ)) → Covers publics rows lists
+    → publics ≤ w →
+    ((i : ℕ) → list_any (λ p. eqb p i) (get_or lists w []) ≡ true → row_fits w r (get_or (set rows at None) i None) ≡ true)
+    → list_all (row_fits w r) (set rows at None) ≡ true
 all-fit-there w at r publics rows lists covers above fit =
     list_all-from_AllPass (row_fits w r) (set rows at None) (All-from_get_or (λ row. row_fits w r row ≡ true) (set rows at None) None (λ i h.
     elim (cases_Bool (row_has w (get_or (set rows at None) i None))) [
@@ -432,7 +487,8 @@ pub nil_of : (x : Combination) → length x ≡ 0 → x ≡ []
 nil_of [] e = refl
 nil_of (t ∷ x) e = absurd (omega arith)
 
-pub passed-more : (publics n : ℕ) (pass : Pass) → fold (turn publics) pass (range_with_len 0 (n + 1)) ≡ turn publics (fold (turn publics) pass (range_with_len 0 n)) n
+pub passed-more : (publics n : ℕ) (pass : Pass)
+    → fold (turn publics) pass (range_with_len 0 (n + 1)) ≡ turn publics (fold (turn publics) pass (range_with_len 0 n)) n
 passed-more publics n pass =
     ap (λ k. fold (turn publics) pass (range_with_len 0 k)) (add-one n)
     ∙ ap (fold (turn publics) pass) (range-more 0 n)

@@ -1,5 +1,6 @@
 -- A shrunk system as it is put into a sink, and its file.
-use Rattle.std.proofs.Common.{◌≡◌, ◌+◌, ◌<◌, ◌≤◌, ℕ, zero, suc, List, [], ◌∷◌, ◌++◌, length, take, Option, Some, None, refl, sym, ap, ap₂, ◌∙◌, subst, arith, get_or, append-nil}
+use Rattle.std.proofs.Common.{◌≡◌, ◌+◌, ◌<◌, ◌≤◌, ℕ, zero, suc, List, [], ◌∷◌, ◌++◌, length, take, Option, Some, None, refl, sym, ap, ap₂, ◌∙◌, subst, arith}
+use Rattle.std.proofs.Common.{get_or, append-nil}
 use Rattle.std.specs.List.{filter_map}
 use Rattle.std.proofs.lemmas.List.Elements.{filter_map-append}
 use Rattle.std.proofs.lemmas.List.Sums.{sum_by_push}
@@ -70,18 +71,23 @@ unfolding ◌>>=◌
 circuit_next n rows next = rows_next rows (length rows) (wires_circuit n next).next ∙ wires_next n next
 
 -- one more row counted
-row_taken : (rows : List (Option Constraint)) (i : ℕ) (row : Option Constraint) → i < length rows → row ≡ get_or rows i None → filter_map (λ r. r) (take (i + 1) rows) ≡ filter_map (λ r. r) (take i rows) ++ filter_map (λ r. r) (row ∷ [])
+row_taken : (rows : List (Option Constraint)) (i : ℕ) (row : Option Constraint) → i < length rows → row ≡ get_or rows i None
+    → filter_map (λ r. r) (take (i + 1) rows) ≡ filter_map (λ r. r) (take i rows) ++ filter_map (λ r. r) (row ∷ [])
 row_taken rows i row h at =
     ap (filter_map (λ r. r)) (take_more rows i None h ∙ ap (λ r. take i rows ++ r ∷ []) (sym at)) ∙ filter_map-append (λ r. r) (take i rows) (row ∷ [])
 
-pub some_taken : (rows : List (Option Constraint)) (i : ℕ) (row : Option Constraint) (c : Constraint) → i < length rows → row ≡ get_or rows i None → row ≡ Some c → filter_map (λ r. r) (take (i + 1) rows) ≡ filter_map (λ r. r) (take i rows) ++ c ∷ []
+pub some_taken : (rows : List (Option Constraint)) (i : ℕ) (row : Option Constraint) (c : Constraint) → i < length rows → row ≡ get_or rows i None
+    → row ≡ Some c → filter_map (λ r. r) (take (i + 1) rows) ≡ filter_map (λ r. r) (take i rows) ++ c ∷ []
 some_taken rows i row c h at is = row_taken rows i row h at ∙ ap (λ r. filter_map (λ r. r) (take i rows) ++ filter_map (λ r. r) (r ∷ [])) is
 
-pub none_taken : (rows : List (Option Constraint)) (i : ℕ) (row : Option Constraint) → i < length rows → row ≡ get_or rows i None → row ≡ None → filter_map (λ r. r) (take (i + 1) rows) ≡ filter_map (λ r. r) (take i rows)
-none_taken rows i row h at is = row_taken rows i row h at ∙ ap (λ r. filter_map (λ r. r) (take i rows) ++ filter_map (λ r. r) (r ∷ [])) is ∙ append-nil (filter_map (λ r. r) (take i rows))
+pub none_taken : (rows : List (Option Constraint)) (i : ℕ) (row : Option Constraint) → i < length rows → row ≡ get_or rows i None → row ≡ None
+    → filter_map (λ r. r) (take (i + 1) rows) ≡ filter_map (λ r. r) (take i rows)
+none_taken rows i row h at is = row_taken rows i row h at ∙ ap (λ r. filter_map (λ r. r) (take i rows) ++ filter_map (λ r. r) (r ∷ [])) is
+    ∙ append-nil (filter_map (λ r. r) (take i rows))
 
 pub terms_more : (list : List Constraint) (c : Constraint) → terms_in (list ++ c ∷ []) ≡ terms_in list + (length c.a + length c.b + length c.c)
 terms_more list c = sum_by_push (λ (d : Constraint). length d.a + length d.b + length d.c) list c
 
-pub short_at : (wires i : ℕ) (rows : List (Option Constraint)) (row : Option Constraint) (c : Constraint) → AreWithin wires rows → i < length rows → row ≡ get_or rows i None → row ≡ Some c → IsWithin wires c
+pub short_at : (wires i : ℕ) (rows : List (Option Constraint)) (row : Option Constraint) (c : Constraint) → AreWithin wires rows → i < length rows
+    → row ≡ get_or rows i None → row ≡ Some c → IsWithin wires c
 short_at wires i rows row c within h at is = subst (RowIsWithin wires) (sym at ∙ is) (each_at (RowIsWithin wires) rows i None within h)

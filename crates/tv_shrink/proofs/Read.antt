@@ -1,5 +1,6 @@
 -- Terms that were read, made normal.
-use Rattle.std.proofs.Common.{◌≡◌, ℕ, zero, suc, ◌+◌, ◌<◌, ◌≤◌, List, [], ◌∷◌, ◌++◌, Option, Some, None, refl, sym, ◌∙◌, ap, ap₂, subst, arith, ltb, inl, inr, cond, map, length, get_or, drop, take, add-one, drop-cons, set}
+use Rattle.std.proofs.Common.{◌≡◌, ℕ, zero, suc, ◌+◌, ◌<◌, ◌≤◌, List, [], ◌∷◌, ◌++◌, Option, Some, None, refl, sym, ◌∙◌, ap, ap₂, subst, arith, ltb, inl, inr}
+use Rattle.std.proofs.Common.{cond, map, length, get_or, drop, take, add-one, drop-cons, set}
 use Rattle.std.proofs.Common.{Result, Ok, Err}
 use Rattle.std.specs.List.{AllByRecursion, All}
 use Rattle.std.specs.Option.{option_or}
@@ -27,9 +28,9 @@ use Rattle.tv_core.specs.declared.field.TheConstants.{P}
 use Rattle.tv_r1cs_read.specs.Rows.{combination_of, constraint_of, IsOver}
 use Rattle.tv_r1cs_read.specs.declared.rows.Row.{Row}
 use Rattle.tv_shrink.specs.Answers.{first_wide, read_fault, start_rows, wide, wide_in, all_terms, most, Halted, IsLong, IsSmall, IsTooWide, Tells}
-use Rattle.tv_shrink.specs.Normal.{normal, normal_constraint, IsNormalFrom}
-use Rattle.tv_shrink.proofs.NormalLaws.{Over, Over-normal, IsNormalFrom-normal}
-use Rattle.tv_shrink.specs.Tidy.{AreNormal, IsWithin, RowIsNormal}
+use Rattle.tv_core.specs.Normal.{normal, normal_constraint, IsNormalFrom}
+use Rattle.tv_core.proofs.NormalLaws.{Over, Over-normal, IsNormalFrom-normal}
+use Rattle.tv_shrink.specs.Tidy.{RowsAreNormal, IsWithin, RowIsNormal}
 
 -- one more term before a normal combination
 pub normal_before : (least i : ℕ) (t : ℕ × ℕ) (terms : List (ℕ × ℕ)) → i < length terms → t ≡ get_or terms i t → least ≤ t.0 → 0 < t.1 → t.1 < P →
@@ -71,13 +72,16 @@ narrow_within n row over e =
       short_c = narrow_short (combination_of row.c) others.1;
     }
 
-pub rows-push : (R : Option Constraint → Type 0) (rows : List (Option Constraint)) (row : Option Constraint) → AllByRecursion R rows → R row → AllByRecursion R (rows ++ row ∷ [])
+pub rows-push : (R : Option Constraint → Type 0) (rows : List (Option Constraint)) (row : Option Constraint) → AllByRecursion R rows → R row
+    → AllByRecursion R (rows ++ row ∷ [])
 rows-push R [] row h r = (r, tt)
 rows-push R (first ∷ rows) row h r = (h.0, rows-push R rows row h.1 r)
 
-pub pushed_normal : (rows next : List (Option Constraint)) (row : Constraint) → next ≡ rows ++ Some (normal_constraint row) ∷ [] → AreNormal rows → AreNormal next
+pub pushed_normal : (rows next : List (Option Constraint)) (row : Constraint) → next ≡ rows ++ Some (normal_constraint row) ∷ [] → RowsAreNormal rows
+    → RowsAreNormal next
 pushed_normal rows next row is normal =
-    subst AreNormal (sym is) (rows-push RowIsNormal rows (Some (normal_constraint row)) normal (record { a = IsNormalFrom-normal row.a; b = IsNormalFrom-normal row.b; c = IsNormalFrom-normal row.c }))
+    subst RowsAreNormal (sym is) (rows-push RowIsNormal rows (Some (normal_constraint row)) normal
+    (record { a = IsNormalFrom-normal row.a; b = IsNormalFrom-normal row.b; c = IsNormalFrom-normal row.c }))
 
 -- one element changed after another
 module _ {A : Type 0} (f : A → A) where
@@ -87,12 +91,14 @@ module _ {A : Type 0} (f : A → A) where
   untouched (x ∷ xs) zero d = refl
   untouched (x ∷ xs) (suc i) d = untouched xs i d
 
-  touched : (xs : List A) (i : ℕ) (d : A) → i < length xs → set (map f (take i xs) ++ drop i xs) i (f (get_or xs i d)) ≡ map f (take (suc i) xs) ++ drop (suc i) xs
+  touched : (xs : List A) (i : ℕ) (d : A) → i < length xs
+      → set (map f (take i xs) ++ drop i xs) i (f (get_or xs i d)) ≡ map f (take (suc i) xs) ++ drop (suc i) xs
   touched [] i d h = absurd (omega arith)
   touched (x ∷ xs) zero d h = refl
   touched (x ∷ xs) (suc i) d h = ap (λ rest. f x ∷ rest) (touched xs i d (omega arith))
 
-  pub touched_more : (xs ys : List A) (i : ℕ) (y d : A) → i < length xs → ys ≡ map f (take i xs) ++ drop i xs → y ≡ get_or ys i d → set ys i (f y) ≡ map f (take (i + 1) xs) ++ drop (i + 1) xs
+  pub touched_more : (xs ys : List A) (i : ℕ) (y d : A) → i < length xs → ys ≡ map f (take i xs) ++ drop i xs → y ≡ get_or ys i d
+      → set ys i (f y) ≡ map f (take (i + 1) xs) ++ drop (i + 1) xs
   touched_more xs ys i y d h is at =
       ap₂ (λ zs z. set zs i (f z)) is (at ∙ ap (λ zs. get_or zs i d) is ∙ untouched xs i d)
       ∙ touched xs i d h
@@ -149,10 +155,12 @@ wide_halted outside name (fault.Combination has) found e =
     let here = stopped_here outside name refusal.Memory (record { told = λ is. absurd (cc) }) in
     record { only = here.only; there = here.there; leaves = refl }
 wide_halted outside name fault.Fault found e = absurd e
-wide_halted outside name fault.Memory found e = halted outside outside name refusal.Memory (stopped_here outside name refusal.Memory (record { told = λ is. absurd (cc) }))
+wide_halted outside name fault.Memory found e = halted outside outside name refusal.Memory
+    (stopped_here outside name refusal.Memory (record { told = λ is. absurd (cc) }))
 
 -- where reading has come to some constraints, they are the system's first
-is_front : (reached : Reached) (file : List ℕ) (done : List Constraint) (system : System) → IsAt reached file done → system_of file ≡ Ok system → (others : List Constraint) × (system.constraints ≡ done ++ others)
+is_front : (reached : Reached) (file : List ℕ) (done : List Constraint) (system : System) → IsAt reached file done → system_of file ≡ Ok system
+    → (others : List Constraint) × (system.constraints ≡ done ++ others)
 unfolding system_of
 is_front reached file done system at is = by_list (ahead reached file) refl
   where
@@ -168,24 +176,32 @@ is_front reached file done system at is = by_list (ahead reached file) refl
         absurd (cc)
 
 -- a constraint that is too wide, in the file of a system within the limit of terms
-pub wide_read : (why : ShrinkFault) (reached : Reached) (file : List ℕ) (done : List Constraint) (c : Constraint) → IsSmall file → first_wide done ≡ None → IsAt reached file (done ++ c ∷ []) → IsTooWide why (wide_in c) → Tells why file
+pub wide_read : (why : ShrinkFault) (reached : Reached) (file : List ℕ) (done : List Constraint) (c : Constraint) → IsSmall file → first_wide done ≡ None
+    → IsAt reached file (done ++ c ∷ []) → IsTooWide why (wide_in c) → Tells why file
 wide_read (fault.Bad place why) reached file done c small none at err = absurd err
 wide_read (fault.Terms has) reached file done c small none at err = absurd err
 wide_read (fault.Combination has) reached file done c small none at err =
     let front = is_front reached file (done ++ c ∷ []) small.system at small.is in
-    record { system = small.system; is = small.is; few = small.few; first = ap first_wide front.1 ∙ wide_front (done ++ c ∷ []) front.0 has (wide_more done c none ∙ err) }
+    record {
+      system = small.system;
+      is = small.is;
+      few = small.few;
+      first = ap first_wide front.1
+          ∙ wide_front (done ++ c ∷ []) front.0 has (wide_more done c none ∙ err);
+    }
 wide_read fault.Fault reached file done c small none at err = absurd err
 wide_read fault.Memory reached file done c small none at err = tt
 
 -- a system within the limit of terms is the only one that its file holds
 pub few_terms : (file : List ℕ) (system : System) → IsSmall file → system_of file ≡ Ok system → all_terms system ≤ most
-few_terms file system small is = let both : Ok small.system ≡ Ok system = sym small.is ∙ is in let same : small.system ≡ system = cc in subst (λ s. all_terms s ≤ most) same small.few
+few_terms file system small is = let both : Ok small.system ≡ Ok system = sym small.is
+    ∙ is in let same : small.system ≡ system = cc in subst (λ s. all_terms s ≤ most) same small.few
 
 -- one more constraint
 pub start_more : (done : List Constraint) (c : Constraint) → start_rows (done ++ c ∷ []) ≡ start_rows done ++ Some (normal_constraint c) ∷ []
 start_more done c = map_push (λ d. Some (normal_constraint d)) done c
 
--- what a survey tells of a system
+-- what a survey says of a system
 survey_refused : (file : List ℕ) (at : ℕ) (why : ReadWhy) → survey_of file ≡ wrong at why → system_of file ≡ wrong at why
 unfolding survey_of
 survey_refused file at why e = by_system (system_of file) e
@@ -194,7 +210,8 @@ survey_refused file at why e = by_system (system_of file) e
     by_system (Ok system) e = absurd (cc)
     by_system (Err fault) e = let same : fault ≡ record { at = at; why = why } = cc in ap Err same
 
-survey_system : (file : List ℕ) (counts : Counts) → survey_of file ≡ Ok counts → (system : System) × (system_of file ≡ Ok system) × (counts ≡ system_counts system)
+survey_system : (file : List ℕ) (counts : Counts) → survey_of file ≡ Ok counts → (system : System) × (system_of file ≡ Ok system)
+    × (counts ≡ system_counts system)
 unfolding survey_of
 survey_system file counts e = by_system (system_of file) refl
   where

@@ -1,5 +1,7 @@
 -- A combination in place of a wire: the value stays where the wire has the combination's value.
-use Rattle.std.proofs.Common.{◌≡◌, ◌≢◌, ◌⊎◌, ℕ, ◌+◌, ◌-◌, ◌*◌, ◌%◌, ◌<◌, ◌≤◌, Bool, not, List, [], ◌∷◌, ◌++◌, Option, Some, None, refl, sym, ◌∙◌, ap, subst, arith, ltb, eqb, true, false, inl, inr, cond, max, ltb-false, eqb-true, eq-eqb, ne_eqb, add-mul, mul-add, mul_assoc, mul_comm, one-mul, mod-lt, mod-eq_of_lt}
+use Rattle.std.proofs.Common.{◌≡◌, ◌≢◌, ◌⊎◌, ℕ, ◌+◌, ◌-◌, ◌*◌, ◌%◌, ◌<◌, ◌≤◌, Bool, not, List, [], ◌∷◌, ◌++◌, Option, Some, None, refl, sym, ◌∙◌, ap, subst}
+use Rattle.std.proofs.Common.{arith, ltb, eqb, true, false, inl, inr, cond, max, ltb-false, eqb-true, eq-eqb, ne_eqb, add-mul, mul-add, mul_assoc, mul_comm}
+use Rattle.std.proofs.Common.{one-mul, mod-lt, mod-eq_of_lt}
 use Rattle.std.specs.List.{list_all, sum_by}
 use Rattle.std.specs.Prelude.{slice_index}
 use Rattle.std.proofs.lemmas.Bool.{cond_both, eqb-false, or_cases, or_parts, and_parts, or_left, or_right, cases_lt, cond-false}
@@ -15,9 +17,9 @@ use Rattle.tv_core.specs.Combinations.{scaled, less}
 use Rattle.tv_core.specs.Inverse.{inverse_of}
 use Rattle.tv_core.specs.Laws.{Assigns}
 use Rattle.tv_core.specs.declared.field.TheConstants.{P}
-use Rattle.tv_shrink.specs.Normal.{normal, IsNormalFrom}
-use Rattle.tv_shrink.specs.Replacing.{coefficient, has_wire, without, constant_in, difference, linear_form, greater_from, greatest_from, solved, replaced}
-use Rattle.tv_shrink.proofs.NormalLaws.{Over, Over-normal, Over-append, Over-scaled, value-normal, regrouped, exchanged, residue_first, IsNormalFrom-normal}
+use Rattle.tv_core.specs.Normal.{coefficient, normal, IsNormalFrom}
+use Rattle.tv_shrink.specs.Replacing.{has_wire, without, constant_in, difference, linear_form, greater_from, greatest_from, solved, replaced}
+use Rattle.tv_core.proofs.NormalLaws.{Over, Over-normal, Over-append, Over-scaled, value-normal, regrouped, exchanged, residue_first, IsNormalFrom-normal}
 
 -- the sum of a wire's coefficients
 abbrev pub summed : ℕ → Combination → ℕ
@@ -84,8 +86,10 @@ solves : (i k v rest : ℕ) → i < P → k * i % P ≡ 1 → (k * v + rest) % P
 solves i k v rest small one none =
     let times : (k * v + rest) * i % P ≡ 0 = mul-mod_zero (k * v + rest) i P none in
     let apart : (k * v + rest) * i ≡ k * i * v + i * rest =
-    add-mul (k * v) rest i ∙ ap (λ n. n + rest * i) (mul_assoc k v i ∙ ap (λ n. k * n) (mul_comm v i) ∙ sym (mul_assoc k i v)) ∙ ap (λ n. k * i * v + n) (mul_comm rest i) in
-    let undone : (v + i * rest) % P ≡ 0 = add-mod_same v (k * i * v) (i * rest) (i * rest) P (sym (mul-mod_one (k * i) v P one)) refl ∙ ap (λ n. n % P) (sym apart) ∙ times in
+    add-mul (k * v) rest i ∙ ap (λ n. n + rest * i) (mul_assoc k v i ∙ ap (λ n. k * n) (mul_comm v i) ∙ sym (mul_assoc k i v))
+    ∙ ap (λ n. k * i * v + n) (mul_comm rest i) in
+    let undone : (v + i * rest) % P ≡ 0 = add-mod_same v (k * i * v) (i * rest) (i * rest) P (sym (mul-mod_one (k * i) v P one)) refl
+    ∙ ap (λ n. n % P) (sym apart) ∙ times in
     same_of_difference v ((P - i) * rest) (i * rest) P (both_parts i rest small) undone
 
 is_solved : (i k rest : ℕ) → i < P → k * i % P ≡ 1 → (k * ((P - i) * rest % P) + rest) % P ≡ 0
@@ -109,14 +113,16 @@ module _ (w : ℕ) (x : Combination) (z : List ℕ) (assigns : Assigns z) (apart
   solved-from_zero none =
       let small = wire-below assigns w in
       sym (mod-eq_of_lt small)
-      ∙ solves (inverse_of (coefficient w x)) (coefficient w x) (slice_index z w) (value (without w x) z) (inverse_of-below (coefficient w x)) (mul-inverse_of (coefficient w x) apart) (sym (value-split w z x) ∙ none)
+      ∙ solves (inverse_of (coefficient w x)) (coefficient w x) (slice_index z w) (value (without w x) z) (inverse_of-below (coefficient w x))
+      (mul-inverse_of (coefficient w x) apart) (sym (value-split w z x) ∙ none)
       ∙ sym value-solved
 
   pub zero-from_solved : slice_index z w ≡ value (solved w x) z → value x z ≡ 0
   zero-from_solved is =
       value-split w z x
       ∙ ap (λ n. (coefficient w x * n + value (without w x) z) % P) (is ∙ value-solved)
-      ∙ is_solved (inverse_of (coefficient w x)) (coefficient w x) (value (without w x) z) (inverse_of-below (coefficient w x)) (mul-inverse_of (coefficient w x) apart)
+      ∙ is_solved (inverse_of (coefficient w x)) (coefficient w x) (value (without w x) z) (inverse_of-below (coefficient w x))
+      (mul-inverse_of (coefficient w x) apart)
 
 -- constants, and what a constraint says is 0
 all_zero : (x : Combination) → list_all (λ t. eqb t.1 0) x ≡ true → without 0 x ≡ []
@@ -153,7 +159,8 @@ module _ (z : List ℕ) (assigns : Assigns z) where
   unfolding constant_in
   value-constant_in x k e = constant_of (list_all (λ t. eqb t.1 0) x) x k refl e
 
-  value-difference : (o : Option ℕ) (x y c lin : Combination) → constant_in x ≡ o → difference o y c ≡ Some lin → value lin z ≡ (value x z * value y z % P + (P - value c z)) % P
+  value-difference : (o : Option ℕ) (x y c lin : Combination) → constant_in x ≡ o → difference o y c ≡ Some lin
+      → value lin z ≡ (value x z * value y z % P + (P - value c z)) % P
   unfolding difference
   value-difference None x y c lin e same = absurd (none_some lin same)
   value-difference (Some k) x y c lin e same =
@@ -169,7 +176,8 @@ module _ (z : List ℕ) (assigns : Assigns z) where
   value-linear_form c lin e =
       elim (first_cases (difference (constant_in c.a) c.b c.c) (difference (constant_in c.b) c.a c.c) lin e) [
         | inl first ↦ value-difference (constant_in c.a) c.a c.b c.c lin refl first
-        | inr second ↦ value-difference (constant_in c.b) c.b c.a c.c lin refl second ∙ ap (λ n. (n % P + (P - value c.c z)) % P) (mul_comm (value c.b z) (value c.a z))
+        | inr second ↦ value-difference (constant_in c.b) c.b c.a c.c lin refl second
+            ∙ ap (λ n. (n % P + (P - value c.c z)) % P) (mul_comm (value c.b z) (value c.a z))
       ]
 
   same_where_zero : (m n : ℕ) → m < P → n < P → m ≡ n → (m + (P - n)) % P ≡ 0
@@ -177,7 +185,8 @@ module _ (z : List ℕ) (assigns : Assigns z) where
 
   pub holds_where_zero : (c : Constraint) (lin : Combination) → linear_form c ≡ Some lin → value lin z ≡ 0 → Holds c z
   holds_where_zero c lin e none =
-      same_of_minus (value c.a z * value c.b z % P) (value c.c z) (mod-lt (value c.a z * value c.b z) (omega arith)) (value-below c.c z) (sym (value-linear_form c lin e) ∙ none)
+      same_of_minus (value c.a z * value c.b z % P) (value c.c z) (mod-lt (value c.a z * value c.b z) (omega arith)) (value-below c.c z)
+      (sym (value-linear_form c lin e) ∙ none)
 
   pub zero_where_holds : (c : Constraint) (lin : Combination) → linear_form c ≡ Some lin → Holds c z → value lin z ≡ 0
   zero_where_holds c lin e holds =
@@ -194,9 +203,11 @@ module _ (Q : ℕ → Type 0) where
   Over-difference None x y lin h k same = absurd (none_some lin same)
   Over-difference (Some c) x y lin h k same =
       let is : normal (less (scaled c x) y) ≡ lin = cc in
-      subst (λ l. Over Q l × IsNormalFrom 0 l) is (Over-normal Q (less (scaled c x) y) (Over-less (scaled c x) y (Over-scaled Q c x h) k), IsNormalFrom-normal (less (scaled c x) y))
+      subst (λ l. Over Q l × IsNormalFrom 0 l) is
+      (Over-normal Q (less (scaled c x) y) (Over-less (scaled c x) y (Over-scaled Q c x h) k), IsNormalFrom-normal (less (scaled c x) y))
 
-  pub Over-linear_form : (c : Constraint) (lin : Combination) → Over Q c.a → Over Q c.b → Over Q c.c → linear_form c ≡ Some lin → Over Q lin × IsNormalFrom 0 lin
+  pub Over-linear_form : (c : Constraint) (lin : Combination) → Over Q c.a → Over Q c.b → Over Q c.c → linear_form c ≡ Some lin → Over Q lin
+      × IsNormalFrom 0 lin
   unfolding linear_form
   Over-linear_form c lin h k l e =
       elim (first_cases (difference (constant_in c.a) c.b c.c) (difference (constant_in c.b) c.a c.c) lin e) [
@@ -204,7 +215,8 @@ module _ (Q : ℕ → Type 0) where
         | inr second ↦ Over-difference (constant_in c.b) c.a c.c lin h l second
       ]
 
-  apart_step : (w : ℕ) (b : Bool) (t : ℕ × ℕ) (x y : Combination) → eqb t.1 w ≡ b → Q t.1 → Over (λ v. Q v × (v ≢ w)) y → Over (λ v. Q v × (v ≢ w)) (cond (not b) (t ∷ y) y)
+  apart_step : (w : ℕ) (b : Bool) (t : ℕ × ℕ) (x y : Combination) → eqb t.1 w ≡ b → Q t.1 → Over (λ v. Q v × (v ≢ w)) y
+      → Over (λ v. Q v × (v ≢ w)) (cond (not b) (t ∷ y) y)
   apart_step w true t x y e q h = h
   apart_step w false t x y e q h = ((q, eqb-false t.1 w e), h)
 
@@ -217,7 +229,8 @@ module _ (Q : ℕ → Type 0) where
   unfolding solved
   Over-solved w x h =
       let R : ℕ → Type 0 = λ v. Q v × (v ≢ w) in
-      Over-normal R (scaled (P - inverse_of (coefficient w x)) (without w x)) (Over-scaled R (P - inverse_of (coefficient w x)) (without w x) (Over-without w x h))
+      Over-normal R (scaled (P - inverse_of (coefficient w x)) (without w x))
+      (Over-scaled R (P - inverse_of (coefficient w x)) (without w x) (Over-without w x h))
 
   pub Over-lacking : (w : ℕ) (x : Combination) → Over Q x → has_wire w x ≡ false → Over (λ v. Q v × (v ≢ w)) x
   unfolding has_wire
@@ -229,7 +242,8 @@ module _ (Q : ℕ → Type 0) where
   Over-replaced w r x h k =
       let R : ℕ → Type 0 = λ v. Q v × (v ≢ w) in
       cond_both (has_wire w x) (normal (without w x ++ scaled (coefficient w x) r)) x (Over R)
-      (λ e. Over-normal R (without w x ++ scaled (coefficient w x) r) (Over-append R (without w x) (scaled (coefficient w x) r) (Over-without w x h) (Over-scaled R (coefficient w x) r k)))
+      (λ e. Over-normal R (without w x ++ scaled (coefficient w x) r)
+      (Over-append R (without w x) (scaled (coefficient w x) r) (Over-without w x h) (Over-scaled R (coefficient w x) r k)))
       (λ e. Over-lacking w x h e)
 
   -- a wire that stands in a combination is one of its wires
@@ -251,7 +265,8 @@ pub found_later : (w : ℕ) (t : ℕ × ℕ) (x : Combination) → has_wire w x 
 unfolding has_wire
 found_later w t x e = or_right (eqb t.1 w) (has_wire w x) e
 
-greatest_step : (least w : ℕ) (t : ℕ × ℕ) (x : Combination) (o : Option ℕ) → ((v : ℕ) → o ≡ Some v → (least ≤ v) × (has_wire v x ≡ true)) → greater_from least t.1 o ≡ Some w → (least ≤ w) × (has_wire w (t ∷ x) ≡ true)
+greatest_step : (least w : ℕ) (t : ℕ × ℕ) (x : Combination) (o : Option ℕ) → ((v : ℕ) → o ≡ Some v → (least ≤ v) × (has_wire v x ≡ true))
+    → greater_from least t.1 o ≡ Some w → (least ≤ w) × (has_wire w (t ∷ x) ≡ true)
 unfolding greater_from
 greatest_step least w t x None before e = let is = lone least t.1 w (ltb t.1 least) refl e in (omega (arith, is.0, is.1), found_here w t x is.0)
 greatest_step least w t x (Some v) before e =
@@ -274,8 +289,10 @@ summed-none least w (t ∷ x) n h =
     ∙ ap (λ b. cond b t.0 0 + summed w x) (ne_eqb t.1 w (λ e. absurd (omega (arith, n.0))))
     ∙ ap (λ k. 0 + k) (summed-none (t.1 + 1) w x n.3 (omega (arith, n.0)))
 
-summed_step : (w : ℕ) (b : Bool) (t : ℕ × ℕ) (x : Combination) → eqb t.1 w ≡ b → (0 < t.0) × (t.0 < P) → IsNormalFrom (t.1 + 1) x → ((b ≡ false) → (0 < summed w x) × (summed w x < P)) → (0 < cond b t.0 0 + summed w x) × (cond b t.0 0 + summed w x < P)
-summed_step w true t x e small n later = let none = summed-none (t.1 + 1) w x n (omega (arith, eqb-true t.1 w e)) in (omega (arith, small.0), omega (arith, small.1))
+summed_step : (w : ℕ) (b : Bool) (t : ℕ × ℕ) (x : Combination) → eqb t.1 w ≡ b → (0 < t.0) × (t.0 < P) → IsNormalFrom (t.1 + 1) x
+    → ((b ≡ false) → (0 < summed w x) × (summed w x < P)) → (0 < cond b t.0 0 + summed w x) × (cond b t.0 0 + summed w x < P)
+summed_step w true t x e small n later = let none = summed-none (t.1 + 1) w x n (omega (arith, eqb-true t.1 w e)) in
+    (omega (arith, small.0), omega (arith, small.1))
 summed_step w false t x e small n later = let is = later refl in (omega (arith, is.0), omega (arith, is.1))
 
 has_later : (w : ℕ) (t : ℕ × ℕ) (x : Combination) → has_wire w (t ∷ x) ≡ true → eqb t.1 w ≡ false → has_wire w x ≡ true

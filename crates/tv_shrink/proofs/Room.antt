@@ -1,16 +1,17 @@
 -- A pass that has room for the wires up to the greatest that stands in a constraint is one over all wires.
-use Rattle.std.proofs.Common.{◌≡◌, ℕ, zero, suc, ◌+◌, ◌-◌, ◌<◌, ◌≤◌, ◌||◌, Bool, not, List, [], ◌∷◌, ◌++◌, Option, Some, None, refl, ◌∙◌, ap, ap₂, arith, true, false, inl, inr, cond, max, length, get_or, take, replicate, add-one}
+use Rattle.std.proofs.Common.{◌≡◌, ℕ, zero, suc, ◌+◌, ◌-◌, ◌<◌, ◌≤◌, ◌||◌, Bool, not, List, [], ◌∷◌, ◌++◌, Option, Some, None, refl, ◌∙◌, ap, ap₂, arith}
+use Rattle.std.proofs.Common.{true, false, inl, inr, cond, max, length, get_or, take, replicate, add-one}
 use Rattle.std.specs.List.{filter, fold, list_all, range_with_len}
 use Rattle.std.proofs.lemmas.Bool.{or_cases}
 use Rattle.std.proofs.lemmas.List.{set-append_left}
 use Rattle.tv_core.specs.Combinations.{top}
 use Rattle.tv_core.specs.Constraints.{Combination, Constraint}
-use Rattle.tv_shrink.specs.Normal.{IsNormalFrom}
+use Rattle.tv_core.specs.Normal.{IsNormalFrom}
 use Rattle.tv_shrink.specs.Passing.{Pass, attempted, dropped, eliminated, linear_row, row_fits, substituted, treated, turn}
 use Rattle.tv_shrink.specs.Replacing.{greatest_from, has_wire, solved}
 use Rattle.tv_shrink.specs.Shrinking.{kept}
 use Rattle.tv_shrink.specs.Tidy.{row_has, row_top, rows_top, AreWithin, RowIsWithin}
-use Rattle.tv_shrink.proofs.NormalLaws.{Over}
+use Rattle.tv_core.proofs.NormalLaws.{Over}
 use Rattle.tv_shrink.proofs.PassLaws.{Sound, turn-sound, wire_is}
 use Rattle.tv_shrink.proofs.Constants.{above_at}
 use Rattle.tv_shrink.proofs.ReplacingLaws.{Over-has_wire}
@@ -52,12 +53,14 @@ below_top zero w (row ∷ rows) has = omega (arith, row_below_top w row has)
 below_top (suc i) w (row ∷ rows) has = omega (arith, below_top i w rows has)
 
 -- one more constraint
-top_next : (rows : List (Option Constraint)) (i : ℕ) → i < length rows → rows_top (take (suc i) rows) ≡ max (rows_top (take i rows)) (row_top (get_or rows i None))
+top_next : (rows : List (Option Constraint)) (i : ℕ) → i < length rows
+    → rows_top (take (suc i) rows) ≡ max (rows_top (take i rows)) (row_top (get_or rows i None))
 top_next [] i h = absurd (omega arith)
 top_next (row ∷ rows) zero h = omega arith
 top_next (row ∷ rows) (suc i) h = omega (arith, top_next rows i (omega arith))
 
-pub top_more : (rows : List (Option Constraint)) (i : ℕ) → i < length rows → rows_top (take (i + 1) rows) ≡ max (rows_top (take i rows)) (row_top (get_or rows i None))
+pub top_more : (rows : List (Option Constraint)) (i : ℕ) → i < length rows
+    → rows_top (take (i + 1) rows) ≡ max (rows_top (take i rows)) (row_top (get_or rows i None))
 top_more rows i h = ap (λ k. rows_top (take k rows)) (add-one i) ∙ top_next rows i h
 
 -- constraints of the wires that there are
@@ -84,7 +87,7 @@ pub within_top : (n m : ℕ) (rows : List (Option Constraint)) → rows_top rows
 within_top n m [] h within = tt
 within_top n m (row ∷ rows) h within = (row_within_top n m row (omega (arith, h)) within.0, within_top n m rows (omega (arith, h)) within.1)
 
--- wires behind those that a pass has room for stay
+-- wires above those that a pass has room for stay
 pub stays_behind : (gone : List Bool) (k w : ℕ) → get_or (gone ++ replicate k false) w false ≡ get_or gone w false
 stays_behind [] k w = none_gone k w
 stays_behind (b ∷ gone) k zero = refl
@@ -97,7 +100,8 @@ filter_same p q (x ∷ xs) same = ap₂ (λ b rest. cond b (x ∷ rest) rest) (s
 pub kept_behind : (wires k : ℕ) (gone : List Bool) → kept wires (gone ++ replicate k false) ≡ kept wires gone
 unfolding kept
 kept_behind wires k gone =
-    filter_same (λ w. not (get_or (gone ++ replicate k false) w false)) (λ w. not (get_or gone w false)) (range_with_len 0 wires) (λ w. ap not (stays_behind gone k w))
+    filter_same (λ w. not (get_or (gone ++ replicate k false) w false)) (λ w. not (get_or gone w false)) (range_with_len 0 wires)
+    (λ w. ap not (stays_behind gone k w))
 
 -- the pass with room for more wires
 abbrev pub roomy : List Bool → Pass → Pass
@@ -108,7 +112,8 @@ module _ (more : List Bool) where
   unfolding dropped
   dropped-roomy i pass = refl
 
-  attempted-roomy : (w : ℕ) (r : Combination) (others pass : Pass) → w < length others.gone → attempted w r (roomy more others) (roomy more pass) ≡ roomy more (attempted w r others pass)
+  attempted-roomy : (w : ℕ) (r : Combination) (others pass : Pass) → w < length others.gone
+      → attempted w r (roomy more others) (roomy more pass) ≡ roomy more (attempted w r others pass)
   unfolding attempted substituted
   attempted-roomy w r others pass h = by_test (list_all (row_fits w r) others.rows)
     where
@@ -120,14 +125,16 @@ module _ (more : List Bool) where
   unfolding dropped
   dropped_room i pass = refl
 
-  eliminated-roomy : (i : ℕ) (x : Combination) (o : Option ℕ) (pass : Pass) → ((w : ℕ) → o ≡ Some w → w < length pass.gone) → eliminated i x o (roomy more pass) ≡ roomy more (eliminated i x o pass)
+  eliminated-roomy : (i : ℕ) (x : Combination) (o : Option ℕ) (pass : Pass) → ((w : ℕ) → o ≡ Some w → w < length pass.gone)
+      → eliminated i x o (roomy more pass) ≡ roomy more (eliminated i x o pass)
   unfolding eliminated
   eliminated-roomy i x None pass h = refl
   eliminated-roomy i x (Some w) pass h =
       ap (λ others. attempted w (solved w x) others (roomy more pass)) (dropped-roomy i pass)
       ∙ attempted-roomy w (solved w x) (dropped i pass) pass (omega (arith, h w refl, dropped_room i pass))
 
-  treated-roomy : (publics i : ℕ) (o : Option Combination) (pass : Pass) → ((x : Combination) (w : ℕ) → o ≡ Some x → greatest_from publics x ≡ Some w → w < length pass.gone) →
+  treated-roomy : (publics i : ℕ) (o : Option Combination) (pass : Pass)
+      → ((x : Combination) (w : ℕ) → o ≡ Some x → greatest_from publics x ≡ Some w → w < length pass.gone) →
       treated publics i o (roomy more pass) ≡ roomy more (treated publics i o pass)
   unfolding treated
   treated-roomy publics i None pass h = refl
@@ -135,7 +142,8 @@ module _ (more : List Bool) where
   treated-roomy publics i (Some (t ∷ x)) pass h = eliminated-roomy i (t ∷ x) (greatest_from publics (t ∷ x)) pass (λ w e. h (t ∷ x) w refl e)
 
   module _ (start : List (Option Constraint)) (room publics : ℕ) (positive : 0 < publics) where
-    inside : (i : ℕ) (pass : Pass) → Sound start room publics pass → (row : Option Constraint) → get_or pass.rows i None ≡ row → (x : Combination) (w : ℕ) → linear_row row ≡ Some x → greatest_from publics x ≡ Some w → w < length pass.gone
+    inside : (i : ℕ) (pass : Pass) → Sound start room publics pass → (row : Option Constraint) → get_or pass.rows i None ≡ row → (x : Combination) (w : ℕ)
+        → linear_row row ≡ Some x → greatest_from publics x ≡ Some w → w < length pass.gone
     inside i pass sound None at x w says greatest = absurd (cc)
     inside i pass sound (Some c) at x w says greatest = omega (arith, sound.each, (wire_is start room publics positive i w c x pass at says greatest sound).1)
 
@@ -143,7 +151,8 @@ module _ (more : List Bool) where
     unfolding turn
     turn-roomy i pass sound = treated-roomy publics i (linear_row (get_or pass.rows i None)) pass (inside i pass sound (get_or pass.rows i None) refl)
 
-    pub turns-roomy : (places : List ℕ) (pass : Pass) → Sound start room publics pass → fold (turn publics) (roomy more pass) places ≡ roomy more (fold (turn publics) pass places)
+    pub turns-roomy : (places : List ℕ) (pass : Pass) → Sound start room publics pass
+        → fold (turn publics) (roomy more pass) places ≡ roomy more (fold (turn publics) pass places)
     turns-roomy [] pass sound = refl
     turns-roomy (i ∷ places) pass sound =
         ap (λ p. fold (turn publics) p places) (turn-roomy i pass sound)

@@ -1,5 +1,6 @@
 -- What is left once a pass has run, its wires numbered anew.
-use Rattle.std.proofs.Common.{◌≡◌, ℕ, ◌+◌, ◌-◌, ◌++◌, ◌^◌, ◌<◌, ◌≤◌, Bool, not, ◌&&◌, List, [], ◌∷◌, Option, Some, None, refl, sym, ◌∙◌, ap, ap₂, subst, arith, true, false, inl, inr, cond, map, length, get_or, leb, leb-true, replicate}
+use Rattle.std.proofs.Common.{◌≡◌, ℕ, ◌+◌, ◌-◌, ◌++◌, ◌^◌, ◌<◌, ◌≤◌, Bool, not, ◌&&◌, List, [], ◌∷◌, Option, Some, None, refl, sym, ◌∙◌, ap, ap₂, subst}
+use Rattle.std.proofs.Common.{arith, true, false, inl, inr, cond, map, length, get_or, leb, leb-true, replicate}
 use Rattle.std.specs.List.{AllByRecursion, filter_map, fold, list_all, range_with_len}
 use Rattle.std.specs.Option.{option_map}
 use Rattle.std.specs.Prelude.{slice_index}
@@ -10,14 +11,14 @@ use Rattle.tv_core.specs.Constraints.{Combination, Constraint, System}
 use Rattle.tv_core.specs.declared.lines.Counts.{Counts}
 use Rattle.tv_shrink.specs.Answers.{counted_system, start_rows, IsReady}
 use Rattle.tv_shrink.specs.Moving.{moved, moved_in, moved_rows}
-use Rattle.tv_shrink.specs.Normal.{normal_constraint}
+use Rattle.tv_core.specs.Normal.{normal_constraint}
 use Rattle.tv_shrink.specs.Passing.{Pass, all_replaced, attempted, begun, dropped, eliminated, passed, row_fits, substituted, treated, turn, linear_row}
 use Rattle.tv_shrink.specs.Replacing.{fits, greatest_from, has_wire, replaced, replaced_in, solved}
 use Rattle.tv_shrink.specs.Shrinking.{kept, left_over, place, renumbered, renumbered_in, shrink}
 use Rattle.tv_shrink.specs.Tidy.{AreWithin, pass_of, rows_top}
 use Rattle.tv_shrink.proofs.Labels.{front-kept, inside-kept, kept_is, kept_short}
 use Rattle.tv_shrink.proofs.Linear.{replaced-lacking}
-use Rattle.tv_shrink.proofs.NormalLaws.{Over, Over-weaker}
+use Rattle.tv_core.proofs.NormalLaws.{Over, Over-weaker}
 use Rattle.tv_shrink.proofs.PassLaws.{RowsOver, Sound, Stays, rows_dropped, turns-sound}
 use Rattle.tv_shrink.proofs.Room.{kept_behind, roomy, rows_top_within, turns-roomy, within_top}
 use Rattle.tv_shrink.proofs.Solutions.{none_gone}
@@ -42,15 +43,18 @@ short_row w r (Some c) h e =
     let others = and_parts (fits w r c.b) (fits w r c.c) first.1 in
     (short_fits w r c.a h.0 first.0, short_fits w r c.b h.1 others.0, short_fits w r c.c h.2 others.1)
 
-short_rows : (w : ℕ) (r : Combination) (rows : List (Option Constraint)) → AllByRecursion RowIsShort rows → list_all (row_fits w r) rows ≡ true → AllByRecursion RowIsShort (all_replaced w r rows)
+short_rows : (w : ℕ) (r : Combination) (rows : List (Option Constraint)) → AllByRecursion RowIsShort rows → list_all (row_fits w r) rows ≡ true
+    → AllByRecursion RowIsShort (all_replaced w r rows)
 short_rows w r [] h e = tt
-short_rows w r (row ∷ rows) h e = let both = and_parts (row_fits w r row) (list_all (row_fits w r) rows) e in (short_row w r row h.0 both.0, short_rows w r rows h.1 both.1)
+short_rows w r (row ∷ rows) h e = let both = and_parts (row_fits w r row) (list_all (row_fits w r) rows) e in
+    (short_row w r row h.0 both.0, short_rows w r rows h.1 both.1)
 
 short-dropped : (i : ℕ) (pass : Pass) → AllByRecursion RowIsShort pass.rows → AllByRecursion RowIsShort (dropped i pass).rows
 unfolding dropped
 short-dropped i pass h = rows_dropped RowIsShort tt pass.rows i h
 
-short-attempted : (w : ℕ) (r : Combination) (others pass : Pass) → AllByRecursion RowIsShort others.rows → AllByRecursion RowIsShort pass.rows → AllByRecursion RowIsShort (attempted w r others pass).rows
+short-attempted : (w : ℕ) (r : Combination) (others pass : Pass) → AllByRecursion RowIsShort others.rows → AllByRecursion RowIsShort pass.rows
+    → AllByRecursion RowIsShort (attempted w r others pass).rows
 unfolding attempted substituted
 short-attempted w r others pass h k = by_test (list_all (row_fits w r) others.rows) refl
   where
@@ -58,12 +62,14 @@ short-attempted w r others pass h k = by_test (list_all (row_fits w r) others.ro
     by_test true e = short_rows w r others.rows h e
     by_test false e = k
 
-short-eliminated : (i : ℕ) (x : Combination) (o : Option ℕ) (pass : Pass) → AllByRecursion RowIsShort pass.rows → AllByRecursion RowIsShort (eliminated i x o pass).rows
+short-eliminated : (i : ℕ) (x : Combination) (o : Option ℕ) (pass : Pass) → AllByRecursion RowIsShort pass.rows
+    → AllByRecursion RowIsShort (eliminated i x o pass).rows
 unfolding eliminated
 short-eliminated i x None pass h = h
 short-eliminated i x (Some w) pass h = short-attempted w (solved w x) (dropped i pass) pass (short-dropped i pass h) h
 
-short-treated : (publics i : ℕ) (o : Option Combination) (pass : Pass) → AllByRecursion RowIsShort pass.rows → AllByRecursion RowIsShort (treated publics i o pass).rows
+short-treated : (publics i : ℕ) (o : Option Combination) (pass : Pass) → AllByRecursion RowIsShort pass.rows
+    → AllByRecursion RowIsShort (treated publics i o pass).rows
 unfolding treated
 short-treated publics i None pass h = h
 short-treated publics i (Some []) pass h = short-dropped i pass h
@@ -73,12 +79,14 @@ short-turn : (publics i : ℕ) (pass : Pass) → AllByRecursion RowIsShort pass.
 unfolding turn
 short-turn publics i pass h = short-treated publics i (linear_row (get_or pass.rows i None)) pass h
 
-short-turns : (publics : ℕ) (places : List ℕ) (pass : Pass) → AllByRecursion RowIsShort pass.rows → AllByRecursion RowIsShort (fold (turn publics) pass places).rows
+short-turns : (publics : ℕ) (places : List ℕ) (pass : Pass) → AllByRecursion RowIsShort pass.rows
+    → AllByRecursion RowIsShort (fold (turn publics) pass places).rows
 short-turns publics [] pass h = h
 short-turns publics (i ∷ places) pass h = short-turns publics places (turn publics pass i) (short-turn publics i pass h)
 
 -- rows within, as rows of wires that are not gone, and short ones
-over_start : (wires : ℕ) (rows : List (Option Constraint)) → AreWithin wires rows → RowsOver (Stays wires (replicate wires false)) rows × AllByRecursion RowIsShort rows
+over_start : (wires : ℕ) (rows : List (Option Constraint)) → AreWithin wires rows → RowsOver (Stays wires (replicate wires false)) rows
+    × AllByRecursion RowIsShort rows
 over_start wires [] h = (tt, tt)
 over_start wires (None ∷ rows) h = let rest = over_start wires rows h.1 in ((tt, rest.0), (tt, rest.1))
 over_start wires (Some c ∷ rows) h =
@@ -87,7 +95,8 @@ over_start wires (Some c ∷ rows) h =
     Over-weaker (λ v. v < wires) (Stays wires (replicate wires false)) x (λ v l. (l, none_gone wires v)) k in
     (((each c.a h.0.a, each c.b h.0.b, each c.c h.0.c), rest.0), ((h.0.short_a, h.0.short_b, h.0.short_c), rest.1))
 
-short_end : (rows : List (Option Constraint)) → AllByRecursion RowIsShort rows → (room : ℕ) (gone : List Bool) → RowsOver (Stays room gone) rows → AreWithin room rows
+short_end : (rows : List (Option Constraint)) → AllByRecursion RowIsShort rows → (room : ℕ) (gone : List Bool) → RowsOver (Stays room gone) rows
+    → AreWithin room rows
 short_end [] k room gone h = tt
 short_end (None ∷ rows) k room gone h = (tt, short_end rows k.1 room gone h.1)
 short_end (Some c ∷ rows) k room gone h =
@@ -112,39 +121,47 @@ module _ (room publics : ℕ) (positive : 0 < publics) (rows : List (Option Cons
   run-within : AreWithin room (fold (turn publics) (pass_of rows (replicate room false)) (range_with_len 0 (length rows))).rows
   run-within =
       let last = fold (turn publics) (pass_of rows (replicate room false)) (range_with_len 0 (length rows)) in
-      short_end last.rows (short-turns publics (range_with_len 0 (length rows)) (pass_of rows (replicate room false)) (over_start room rows within).1) room last.gone run-sound.over
+      short_end last.rows (short-turns publics (range_with_len 0 (length rows)) (pass_of rows (replicate room false))
+      (over_start room rows within).1) room last.gone run-sound.over
 
   -- with room for all wires the same is left
   run-roomy : (wires : ℕ) → room ≤ wires → fold (turn publics) (pass_of rows (replicate wires false)) (range_with_len 0 (length rows))
       ≡ roomy (replicate (wires - room) false) (fold (turn publics) (pass_of rows (replicate room false)) (range_with_len 0 (length rows)))
   run-roomy wires h =
-      let more : replicate wires false ≡ replicate room false ++ replicate (wires - room) false = ap (λ n. replicate n false) (omega arith) ∙ sym (replicate-append-replicate room (wires - room) false) in
+      let more : replicate wires false ≡ replicate room false ++ replicate (wires - room) false = ap (λ n. replicate n false) (omega arith)
+      ∙ sym (replicate-append-replicate room (wires - room) false) in
       ap (λ gone. fold (turn publics) (pass_of rows gone) (range_with_len 0 (length rows))) more
-      ∙ turns-roomy (replicate (wires - room) false) rows room publics positive (range_with_len 0 (length rows)) (pass_of rows (replicate room false)) start-sound
+      ∙ turns-roomy (replicate (wires - room) false) rows room publics positive (range_with_len 0 (length rows))
+      (pass_of rows (replicate room false)) start-sound
 
 -- numbers by which the wires that stay get their places; the constraints are of the first wires
-module _ (wires room : ℕ) (gone : List Bool) (enough : room ≤ wires) (numbers : List ℕ) (numbered : (w : ℕ) → w < room → get_or gone w false ≡ false → slice_index numbers w ≡ place w (kept wires gone)) where
+module _ (wires room : ℕ) (gone : List Bool) (enough : room ≤ wires) (numbers : List ℕ)
+    (numbered : (w : ℕ) → w < room → get_or gone w false ≡ false → slice_index numbers w ≡ place w (kept wires gone)) where
   moved-renumbered : (x : Combination) → Over (Stays room gone) x → moved numbers x ≡ renumbered (kept wires gone) x
   unfolding renumbered
   moved-renumbered [] h = refl
   moved-renumbered (t ∷ x) h = ap₂ (λ w rest. (t.0, w) ∷ rest) (numbered t.1 h.0.0 h.0.1) (moved-renumbered x h.1)
 
-  pub rows-renumbered : (rows : List (Option Constraint)) → RowsOver (Stays room gone) rows → moved_rows numbers rows ≡ map (option_map (renumbered_in (kept wires gone))) rows
+  pub rows-renumbered : (rows : List (Option Constraint)) → RowsOver (Stays room gone) rows
+      → moved_rows numbers rows ≡ map (option_map (renumbered_in (kept wires gone))) rows
   rows-renumbered [] h = refl
   rows-renumbered (None ∷ rows) h = ap (λ rest. None ∷ rest) (rows-renumbered rows h.1)
   rows-renumbered (Some c ∷ rows) h =
       ap₂ (λ row rest. Some row ∷ rest)
       (same_parts c (moved-renumbered c.a h.0.0) (moved-renumbered c.b h.0.1) (moved-renumbered c.c h.0.2)) (rows-renumbered rows h.1)
     where
-      same_parts : (c : Constraint) → moved numbers c.a ≡ renumbered (kept wires gone) c.a → moved numbers c.b ≡ renumbered (kept wires gone) c.b → moved numbers c.c ≡ renumbered (kept wires gone) c.c → moved_in numbers c ≡ renumbered_in (kept wires gone) c
-      same_parts c p q r = ap₂ (λ x y. record { a = x; b = y; c = moved numbers c.c }) p q ∙ ap (λ x. record { a = renumbered (kept wires gone) c.a; b = renumbered (kept wires gone) c.b; c = x }) r
+      same_parts : (c : Constraint) → moved numbers c.a ≡ renumbered (kept wires gone) c.a → moved numbers c.b ≡ renumbered (kept wires gone) c.b
+          → moved numbers c.c ≡ renumbered (kept wires gone) c.c → moved_in numbers c ≡ renumbered_in (kept wires gone) c
+      same_parts c p q r = ap₂ (λ x y. record { a = x; b = y; c = moved numbers c.c }) p q
+          ∙ ap (λ x. record { a = renumbered (kept wires gone) c.a; b = renumbered (kept wires gone) c.b; c = x }) r
 
   -- the rows are of the wires that are kept
   over-moved : (x : Combination) → Over (Stays room gone) x → Over (λ v. v < length (kept wires gone)) (moved numbers x)
   over-moved [] h = tt
   over-moved (t ∷ x) h = (omega (arith, numbered t.1 h.0.0 h.0.1, inside-kept wires gone t.1 (omega (arith, h.0.0)) h.0.1), over-moved x h.1)
 
-  pub within-moved : (rows : List (Option Constraint)) → RowsOver (Stays room gone) rows → AreWithin room rows → AreWithin (length (kept wires gone)) (moved_rows numbers rows)
+  pub within-moved : (rows : List (Option Constraint)) → RowsOver (Stays room gone) rows → AreWithin room rows
+      → AreWithin (length (kept wires gone)) (moved_rows numbers rows)
   within-moved [] h k = tt
   within-moved (None ∷ rows) h k = (tt, within-moved rows h.1 k.1)
   within-moved (Some c ∷ rows) h k = (
@@ -163,13 +180,15 @@ module _ (wires room : ℕ) (gone : List Bool) (enough : room ≤ wires) (number
       short_moved x s = let same : length (moved numbers x) ≡ length x = length-map x (λ (t : ℕ × ℕ). (t.0, slice_index numbers t.1)) in omega arith
 
 -- the rows that are left
-pub left_rows : (f : Constraint → Constraint) (rows : List (Option Constraint)) → filter_map (λ row. row) (map (option_map f) rows) ≡ filter_map (option_map f) rows
+pub left_rows : (f : Constraint → Constraint) (rows : List (Option Constraint))
+    → filter_map (λ row. row) (map (option_map f) rows) ≡ filter_map (option_map f) rows
 left_rows f [] = refl
 left_rows f (None ∷ rows) = left_rows f rows
 left_rows f (Some c ∷ rows) = ap (λ rest. f c ∷ rest) (left_rows f rows)
 
 -- there is a label for wire 0 and each public wire
-pub enough_labels : (wires publics : ℕ) (gone : List Bool) → publics ≤ wires → ((v : ℕ) → get_or gone v false ≡ true → publics ≤ v) → publics ≤ length (kept wires gone)
+pub enough_labels : (wires publics : ℕ) (gone : List Bool) → publics ≤ wires → ((v : ℕ) → get_or gone v false ≡ true → publics ≤ v)
+    → publics ≤ length (kept wires gone)
 enough_labels wires publics gone h later =
     let front = front-kept wires publics gone h later in
     omega (arith, ap length front, length-take publics (kept wires gone), length-range_with_len 0 publics)
@@ -189,18 +208,29 @@ shrink_is counts list room enough within last ran =
     let same : roomy behind last ≡ whole = ap (roomy behind) ran ∙ sym (run-roomy room publics (omega arith) (start_rows list) within counts.wires enough) in
     ap (left_over (counted_system counts list) last.rows) (sym (kept_behind counts.wires (counts.wires - room) last.gone))
     ∙ ap (λ (pass : Pass). left_over (counted_system counts list) pass.rows (kept counts.wires pass.gone))
-    (same ∙ ap (λ n. fold (turn publics) (pass_of (start_rows list) (replicate counts.wires false)) (range_with_len 0 n)) (length-map list (λ c. Some (normal_constraint c))))
+    (same ∙ ap (λ n. fold (turn publics) (pass_of (start_rows list) (replicate counts.wires false)) (range_with_len 0 n))
+    (length-map list (λ c. Some (normal_constraint c))))
 
 -- what is left, from its parts
 left_is : (system : System) (rows : List (Option Constraint)) (labels : List ℕ) →
-    record { system = record { wires = length labels; outputs = system.outputs; inputs = system.inputs; constraints = filter_map (option_map (renumbered_in labels)) rows }; labels = labels; wires = system.wires } ≡ left_over system rows labels
+    record {
+      system = record {
+        wires = length labels;
+        outputs = system.outputs;
+        inputs = system.inputs;
+        constraints = filter_map (option_map (renumbered_in labels)) rows;
+      };
+      labels = labels;
+      wires = system.wires;
+    } ≡ left_over system rows labels
 unfolding left_over
 left_is system rows labels = refl
 
 -- what is left, by what the calls gave
 module _ (counts : Counts) (rows : List (Option Constraint)) (ready : IsReady counts rows)
     (publics : ℕ) (private : publics ≡ 1 + counts.outputs + counts.inputs) (left : List (Option Constraint)) (flags slice : List Bool)
-    (ran : pass_of left flags ≡ fold (turn publics) (pass_of rows (replicate (rows_top rows) false)) (range_with_len 0 (length rows))) (lent : slice ≡ flags) where
+    (ran : pass_of left flags ≡ fold (turn publics) (pass_of rows (replicate (rows_top rows) false)) (range_with_len 0 (length rows)))
+    (lent : slice ≡ flags) where
   pub enough_room : rows_top rows ≤ counts.wires
   enough_room = rows_top_within counts.wires rows ready.within
 
@@ -220,13 +250,15 @@ module _ (counts : Counts) (rows : List (Option Constraint)) (ready : IsReady co
   left_within = subst (λ (pass : Pass). AreWithin (rows_top rows) pass.rows) (sym ran) (run-within (rows_top rows) publics positive rows within)
 
   module _ (labels numbers given : List ℕ) (moved_on : List (Option Constraint)) (labelled : labels ≡ kept counts.wires slice) (lend : given ≡ numbers)
-      (numbered : (w : ℕ) → w < length slice → get_or slice w false ≡ false → slice_index numbers w ≡ place w (kept counts.wires slice)) (renumbered_on : moved_on ≡ moved_rows given left) where
+      (numbered : (w : ℕ) → w < length slice → get_or slice w false ≡ false → slice_index numbers w ≡ place w (kept counts.wires slice))
+      (renumbered_on : moved_on ≡ moved_rows given left) where
     labels_are : labels ≡ kept counts.wires flags
     labels_are = labelled ∙ ap (kept counts.wires) lent
 
     numbers_are : (w : ℕ) → w < rows_top rows → get_or flags w false ≡ false → slice_index given w ≡ place w (kept counts.wires flags)
     numbers_are w h stays =
-        ap (λ xs. slice_index xs w) lend ∙ numbered w (omega (arith, slice_each)) (ap (λ xs. get_or xs w false) lent ∙ stays) ∙ ap (λ g. place w (kept counts.wires g)) lent
+        ap (λ xs. slice_index xs w) lend ∙ numbered w (omega (arith, slice_each)) (ap (λ xs. get_or xs w false) lent ∙ stays)
+        ∙ ap (λ g. place w (kept counts.wires g)) lent
 
     pub labels_enough : 1 + counts.outputs + counts.inputs ≤ length labels
     labels_enough = omega (arith, private, ap length labels_are, enough_labels counts.wires publics flags (omega (arith, private, ready.room)) sound.private)
@@ -237,15 +269,33 @@ module _ (counts : Counts) (rows : List (Option Constraint)) (ready : IsReady co
     pub rows_within : AreWithin (length labels) moved_on
     rows_within =
         subst (λ xs. AreWithin (length xs) moved_on) (sym labels_are)
-        (subst (AreWithin (length (kept counts.wires flags))) (sym renumbered_on) (within-moved counts.wires (rows_top rows) flags enough_room given numbers_are left sound.over left_within))
+        (subst (AreWithin (length (kept counts.wires flags))) (sym renumbered_on)
+        (within-moved counts.wires (rows_top rows) flags enough_room given numbers_are left sound.over left_within))
 
     pub system_is : (list : List Constraint) → rows ≡ start_rows list →
-        record { system = record { wires = length labels; outputs = counts.outputs; inputs = counts.inputs; constraints = filter_map (λ row. row) moved_on }; labels = labels; wires = counts.wires }
+        record {
+          system = record { wires = length labels; outputs = counts.outputs; inputs = counts.inputs; constraints = filter_map (λ row. row) moved_on };
+          labels = labels;
+          wires = counts.wires;
+        }
         ≡ shrink (counted_system counts list)
     system_is list same =
-        ap₂ (λ xs rest. record { system = record { wires = length xs; outputs = counts.outputs; inputs = counts.inputs; constraints = filter_map (λ (row : Option Constraint). row) rest }; labels = xs; wires = counts.wires })
+        ap₂ (λ xs rest. record {
+          system = record {
+            wires = length xs;
+            outputs = counts.outputs;
+            inputs = counts.inputs;
+            constraints = filter_map (λ (row : Option Constraint). row) rest;
+          };
+          labels = xs;
+          wires = counts.wires;
+        })
         labels_are (renumbered_on ∙ rows-renumbered counts.wires (rows_top rows) flags enough_room given numbers_are left sound.over)
-        ∙ ap (λ cs. record { system = record { wires = length (kept counts.wires flags); outputs = counts.outputs; inputs = counts.inputs; constraints = cs }; labels = kept counts.wires flags; wires = counts.wires })
+        ∙ ap (λ cs. record {
+          system = record { wires = length (kept counts.wires flags); outputs = counts.outputs; inputs = counts.inputs; constraints = cs };
+          labels = kept counts.wires flags;
+          wires = counts.wires;
+        })
         (left_rows (renumbered_in (kept counts.wires flags)) left)
         ∙ left_is (counted_system counts list) left (kept counts.wires flags)
         ∙ shrink_is counts list (rows_top rows) enough_room (subst (AreWithin (rows_top rows)) same within) (pass_of left flags)

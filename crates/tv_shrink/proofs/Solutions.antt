@@ -1,5 +1,6 @@
 -- The solutions of a shrunk system are those of the system at the wires that are kept.
-use Rattle.std.proofs.Common.{◌≡◌, ℕ, zero, suc, ◌+◌, ◌*◌, ◌%◌, ◌<◌, ◌≤◌, List, [], ◌∷◌, Option, Some, None, refl, sym, ◌∙◌, ap, ap₂, subst, arith, true, false, inl, inr, map, length, get_or, take, replicate}
+use Rattle.std.proofs.Common.{◌≡◌, ℕ, zero, suc, ◌+◌, ◌*◌, ◌%◌, ◌<◌, ◌≤◌, List, [], ◌∷◌, Option, Some, None, refl, sym, ◌∙◌, ap, ap₂, subst, arith, true}
+use Rattle.std.proofs.Common.{false, inl, inr, map, length, get_or, take, replicate}
 use Rattle.std.specs.List.{AllByRecursion, All, filter_map, range_with_len}
 use Rattle.std.specs.Option.{option_map}
 use Rattle.std.specs.Prelude.{slice_index}
@@ -12,10 +13,10 @@ use Rattle.tv_core.specs.Constraints.{Combination, Constraint, System, value, Ho
 use Rattle.tv_core.specs.Laws.{Assigns, Meets}
 use Rattle.tv_core.specs.declared.field.TheConstants.{P}
 use Rattle.tv_shrink.specs.Laws.{AreOver, IsWhole, KeepsSolutions, SolutionsAreOne, KeepsPublics}
-use Rattle.tv_shrink.specs.Normal.{normal_constraint}
+use Rattle.tv_core.specs.Normal.{normal_constraint}
 use Rattle.tv_shrink.specs.Passing.{begun, passed}
 use Rattle.tv_shrink.specs.Shrinking.{kept, place, renumbered, renumbered_in, left_over, shrink, at_wires}
-use Rattle.tv_shrink.proofs.NormalLaws.{Over, Over-normal, Over-weaker, value-normal}
+use Rattle.tv_core.proofs.NormalLaws.{Over, Over-normal, Over-weaker, value-normal}
 use Rattle.tv_shrink.proofs.PassLaws.{RowsOver, RowsHold, Stays, Agree, Extended, Sound, same_holds, turns-sound}
 use Rattle.tv_shrink.proofs.Labels.{place-at, Rising-kept, at_place-kept, inside-kept, kept_stay, none_below, looked_up, front-kept}
 
@@ -43,11 +44,13 @@ none_gone zero v = refl
 none_gone (suc n) zero = refl
 none_gone (suc n) (suc v) = none_gone n v
 
-start_over : (wires : ℕ) (list : List Constraint) → AllByRecursion (AreOver wires) list → RowsOver (Stays wires (replicate wires false)) (map (λ c. Some (normal_constraint c)) list)
+start_over : (wires : ℕ) (list : List Constraint) → AllByRecursion (AreOver wires) list
+    → RowsOver (Stays wires (replicate wires false)) (map (λ c. Some (normal_constraint c)) list)
 start_over wires [] h = tt
 start_over wires (c ∷ list) h =
     let each = λ (x : Combination) (k : All (λ t. t.1 < wires) x).
-    Over-normal (Stays wires (replicate wires false)) x (Over-weaker (λ v. v < wires) (Stays wires (replicate wires false)) x (λ v l. (l, none_gone wires v)) (over-from_All wires x k)) in
+    Over-normal (Stays wires (replicate wires false)) x
+    (Over-weaker (λ v. v < wires) (Stays wires (replicate wires false)) x (λ v l. (l, none_gone wires v)) (over-from_All wires x k)) in
     ((each c.a h.0.a, each c.b h.0.b, each c.c h.0.c), start_over wires list h.1)
 
 module _ (system : System) (whole : IsWhole system) where
@@ -64,7 +67,8 @@ module _ (system : System) (whole : IsWhole system) where
 
   passed-sound : Sound (begun system).rows system.wires (1 + system.outputs + system.inputs) (passed system)
   unfolding passed
-  passed-sound = turns-sound (begun system).rows system.wires (1 + system.outputs + system.inputs) (omega arith) (range_with_len 0 (length system.constraints)) (begun system) begun-sound
+  passed-sound = turns-sound (begun system).rows system.wires (1 + system.outputs + system.inputs) (omega arith) (range_with_len 0 (length system.constraints))
+      (begun system) begun-sound
 
   meets_begun : (z : List ℕ) → Meets z system.constraints → RowsHold z (begun system).rows
   unfolding begun
@@ -88,14 +92,19 @@ module _ (Q : ℕ → Type 0) (labels small z : List ℕ) (same : (v : ℕ) → 
   rows_renumbered : (rows : List (Option Constraint)) → RowsOver Q rows → RowsHold z rows → Meets small (filter_map (option_map (renumbered_in labels)) rows)
   rows_renumbered [] h k = tt
   rows_renumbered (None ∷ rows) h k = rows_renumbered rows h.1 k.1
-  rows_renumbered (Some c ∷ rows) h k =
-      (same_holds c (renumbered_in labels c) z small (sym (value-renumbered c.a h.0.0)) (sym (value-renumbered c.b h.0.1)) (sym (value-renumbered c.c h.0.2)) k.0, rows_renumbered rows h.1 k.1)
+  rows_renumbered (Some c ∷ rows) h k = (
+    same_holds c (renumbered_in labels c) z small (sym (value-renumbered c.a h.0.0)) (sym (value-renumbered c.b h.0.1))
+        (sym (value-renumbered c.c h.0.2)) k.0,
+    rows_renumbered rows h.1 k.1,
+  )
 
   renumbered_rows : (rows : List (Option Constraint)) → RowsOver Q rows → Meets small (filter_map (option_map (renumbered_in labels)) rows) → RowsHold z rows
   renumbered_rows [] h k = tt
   renumbered_rows (None ∷ rows) h k = (tt, renumbered_rows rows h.1 k)
-  renumbered_rows (Some c ∷ rows) h k =
-      (same_holds (renumbered_in labels c) c small z (value-renumbered c.a h.0.0) (value-renumbered c.b h.0.1) (value-renumbered c.c h.0.2) k.0, renumbered_rows rows h.1 k.1)
+  renumbered_rows (Some c ∷ rows) h k = (
+    same_holds (renumbered_in labels c) c small z (value-renumbered c.a h.0.0) (value-renumbered c.b h.0.1) (value-renumbered c.c h.0.2) k.0,
+    renumbered_rows rows h.1 k.1,
+  )
 
 -- numbers below P, looked up
 below_all : (small : List ℕ) → All (λ v. v < P) small → (k : ℕ) → slice_index small k < P
@@ -168,7 +177,8 @@ module _ (system : System) (whole : IsWhole system) where
       Sat-from_Meets (left_over system (passed system).rows (labels_of system)).system (at_wires (labels_of system) z)
       (length-map (labels_of system) (λ w. slice_index z w))
       (assigns_down z assigns)
-      (rows_renumbered (Stays system.wires (passed system).gone) (labels_of system) (at_wires (labels_of system) z) z (at_places z) (passed system).rows sound.over left)
+      (rows_renumbered (Stays system.wires (passed system).gone) (labels_of system) (at_wires (labels_of system) z) z (at_places z)
+      (passed system).rows sound.over left)
 
   -- an assignment of all wires, with the numbers of the kept ones
   module _ (small : List ℕ) where
@@ -184,23 +194,30 @@ module _ (system : System) (whole : IsWhole system) where
 
     assigns_up : Assigns small → Assigns spread
     assigns_up assigns = record {
-      below = All-from_recursion (λ v. v < P) spread (below_looked_up (λ v. slice_index small (place v (labels_of system))) (range_with_len 0 system.wires) (λ v. below_all small assigns.below (place v (labels_of system))));
+      below = All-from_recursion (λ v. v < P) spread
+          (below_looked_up (λ v. slice_index small (place v (labels_of system))) (range_with_len 0 system.wires)
+          (λ v. below_all small assigns.below (place v (labels_of system))));
       one = spread_at 0 some_wire ∙ ap (λ k. slice_index small k) place_first ∙ assigns.one;
     }
 
-    extended : Assigns small → Meets small (filter_map (option_map (renumbered_in (labels_of system))) (passed system).rows) → Extended (begun system).rows system.wires (passed system).gone spread
+    extended : Assigns small → Meets small (filter_map (option_map (renumbered_in (labels_of system))) (passed system).rows)
+        → Extended (begun system).rows system.wires (passed system).gone spread
     extended assigns meets =
         let sound = passed-sound system whole in
         sound.up spread (assigns_up assigns) (length-map-range_with_len (λ v. slice_index small (place v (labels_of system))) 0 system.wires)
-        (renumbered_rows (Stays system.wires (passed system).gone) (labels_of system) small spread (λ v h. sym (spread_at v h.0)) (passed system).rows sound.over meets)
+        (renumbered_rows (Stays system.wires (passed system).gone) (labels_of system) small spread (λ v h. sym (spread_at v h.0))
+        (passed system).rows sound.over meets)
 
-    comes_back : length small ≡ length (labels_of system) → (more : Extended (begun system).rows system.wires (passed system).gone spread) → small ≡ at_wires (labels_of system) more.y
+    comes_back : length small ≡ length (labels_of system) → (more : Extended (begun system).rows system.wires (passed system).gone spread)
+        → small ≡ at_wires (labels_of system) more.y
     comes_back each more =
         sym (looked_up (labels_of system) small (Rising-kept system.wires (passed system).gone) each)
-        ∙ same_looked_up (Stays system.wires (passed system).gone) (λ w. slice_index small (place w (labels_of system))) (λ w. slice_index more.y w) (labels_of system) (kept_stay system.wires (passed system).gone)
+        ∙ same_looked_up (Stays system.wires (passed system).gone) (λ w. slice_index small (place w (labels_of system))) (λ w. slice_index more.y w)
+        (labels_of system) (kept_stay system.wires (passed system).gone)
         (λ v h. sym (more.agree v h.1 ∙ spread_at v h.0))
 
-    solution_up : Sat (left_over system (passed system).rows (labels_of system)).system small → (z : List ℕ) × Sat system z × (small ≡ at_wires (labels_of system) z)
+    solution_up : Sat (left_over system (passed system).rows (labels_of system)).system small → (z : List ℕ) × Sat system z
+        × (small ≡ at_wires (labels_of system) z)
     unfolding left_over
     solution_up sat =
         let assigns = Assigns-from_Sat (left_over system (passed system).rows (labels_of system)).system small sat in
@@ -220,7 +237,8 @@ module _ (system : System) (whole : IsWhole system) where
     one_solution =
         let ay = Assigns-from_Sat system y sat_y in
         let az = Assigns-from_Sat system z sat_z in
-        let each = (passed-sound system whole).unique y z ay az (meets_begun system whole y (Meets-from_Sat system y sat_y)) (meets_begun system whole z (Meets-from_Sat system z sat_z)) agree_all in
+        let each = (passed-sound system whole).unique y z ay az (meets_begun system whole y (Meets-from_Sat system y sat_y))
+        (meets_begun system whole z (Meets-from_Sat system z sat_z)) agree_all in
         ext_get_or 0 y z (sat_y.each_wire ∙ sym sat_z.each_wire) (λ i h. each i)
 
 pub keeps_solutions : KeepsSolutions

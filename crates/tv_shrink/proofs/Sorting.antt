@@ -1,20 +1,17 @@
 -- Terms in the order of their wires, the coefficients of each wire added up.
-use Rattle.std.proofs.Common.{◌≡◌, ◌≢◌, ℕ, zero, suc, ◌+◌, ◌*◌, ◌%◌, ◌<◌, ◌≤◌, List, [], ◌∷◌, ◌++◌, refl, sym, ◌∙◌, ap, ap₂, arith, length, get_or, drop, add-one, add-mul, drop-cons}
+use Rattle.std.proofs.Common.{◌≡◌, ◌≢◌, ℕ, zero, suc, ◌+◌, ◌*◌, ◌%◌, ◌<◌, ◌≤◌, List, [], ◌∷◌, ◌++◌, refl, sym, ◌∙◌, ap, ap₂, arith, length, get_or, drop}
+use Rattle.std.proofs.Common.{add-one, add-mul, drop-cons}
 use Rattle.std.specs.List.Sorted.{IsNonDecreasingBy}
 use Rattle.std.specs.Prelude.{slice_index, IsPermutation}
 use Rattle.std.proofs.lemmas.List.Sorted.{sum_by-IsPermutation}
 use Rattle.tv_core.proofs.CombinationLaws.{value-below, value-cons}
 use Rattle.tv_core.specs.Constraints.{Combination, value}
 use Rattle.tv_core.specs.declared.field.TheConstants.{P}
-use Rattle.tv_shrink.specs.Normal.{normal, with_term}
+use Rattle.tv_core.specs.Normal.{normal, with_term}
 use Rattle.tv_shrink.proofs.Merging.{with_term-front}
-use Rattle.tv_shrink.proofs.NormalLaws.{Over, normal_from, regrouped, residue_first, value-normal, IsNormalFrom-normal}
+use Rattle.tv_core.proofs.NormalLaws.{Over, normal_from, regrouped, residue_first}
 use Rattle.tv_shrink.proofs.Passes.{same_default}
-use Rattle.tv_shrink.proofs.Unique.{normal-step, same_values}
-
--- combinations of the same values, made normal
-by_values : (x y : Combination) → ((z : List ℕ) → value x z ≡ value y z) → normal x ≡ normal y
-by_values x y same = same_values 0 0 (normal x) (normal y) (IsNormalFrom-normal x) (IsNormalFrom-normal y) (λ z. value-normal z x ∙ same z ∙ sym (value-normal z y))
+use Rattle.tv_core.proofs.Unique.{by_values, normal-step}
 
 -- the order of the terms does not matter
 pub normal-permuted : (xs ys : Combination) → IsPermutation xs ys → normal ys ≡ normal xs
@@ -70,10 +67,12 @@ module _ (terms : Combination) (i sum : ℕ) (t : ℕ × ℕ) (h : i < length te
   from_here : drop i terms ≡ t ∷ drop (i + 1) terms
   from_here = drop-cons terms i t h ∙ ap₂ (λ u rest. u ∷ rest) (sym at) (ap (λ k. drop k terms) (sym (add-one i)))
 
-  pub sum_goes_on : (u : ℕ × ℕ) → i + 1 < length terms → u ≡ get_or terms (i + 1) u → u.1 ≡ t.1 → normal (with_sum sum (drop i terms)) ≡ normal (with_sum ((sum + t.0) % P) (drop (i + 1) terms))
+  pub sum_goes_on : (u : ℕ × ℕ) → i + 1 < length terms → u ≡ get_or terms (i + 1) u → u.1 ≡ t.1
+      → normal (with_sum sum (drop i terms)) ≡ normal (with_sum ((sum + t.0) % P) (drop (i + 1) terms))
   sum_goes_on u inside next same =
       ap (λ xs. normal (with_sum sum xs)) from_here
-      ∙ sum_more sum t (drop (i + 1) terms) u (drop (suc (i + 1)) terms) (drop-cons terms (i + 1) u inside ∙ ap (λ v. v ∷ drop (suc (i + 1)) terms) (sym next)) (sym same)
+      ∙ sum_more sum t (drop (i + 1) terms) u (drop (suc (i + 1)) terms) (drop-cons terms (i + 1) u inside ∙ ap (λ v. v ∷ drop (suc (i + 1)) terms) (sym next))
+      (sym same)
 
   pub sum_ends : IsNonDecreasingBy (λ u. u.1) terms → ((d : ℕ × ℕ) → i + 1 < length terms → (get_or terms (i + 1) d).1 ≡ t.1 → ⊥) →
       normal (with_sum sum (drop i terms)) ≡ with_term ((sum + t.0) % P) t.1 [] ++ normal (with_sum 0 (drop (i + 1) terms))

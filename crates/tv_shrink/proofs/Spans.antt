@@ -1,5 +1,6 @@
 -- Constraints whose terms lie one after another in a list.
-use Rattle.std.proofs.Common.{◌≡◌, ℕ, zero, suc, ◌+◌, ◌-◌, ◌<◌, ◌≤◌, List, [], ◌∷◌, ◌++◌, Option, Some, None, refl, sym, ◌∙◌, ap, ap₂, arith, append-nil, map, length, get_or, set, take, drop}
+use Rattle.std.proofs.Common.{◌≡◌, ℕ, zero, suc, ◌+◌, ◌-◌, ◌<◌, ◌≤◌, List, [], ◌∷◌, ◌++◌, Option, Some, None, refl, sym, ◌∙◌, ap, ap₂, arith, append-nil, map}
+use Rattle.std.proofs.Common.{length, get_or, set, take, drop}
 use Rattle.std.specs.List.{AllByRecursion}
 use Rattle.std.specs.Option.{option_map}
 use Rattle.std.specs.Prelude.{slice_index, slice_range}
@@ -22,7 +23,8 @@ part_between xs ys zs i j first last =
     let n : j - i ≡ length ys = omega arith in
     ap₂ (λ m k. take m (drop k (xs ++ (ys ++ zs)))) n first ∙ ap (take (length ys)) (drop-append_seam xs (ys ++ zs)) ∙ take-append_seam ys zs
 
-pub same_row : (a b c d e f : Combination) → a ≡ d → b ≡ e → c ≡ f → record { a = a; b = b; c = c } ≡ (let row : Constraint = record { a = d; b = e; c = f } in row)
+pub same_row : (a b c d e f : Combination) → a ≡ d → b ≡ e → c ≡ f
+    → record { a = a; b = b; c = c } ≡ (let row : Constraint = record { a = d; b = e; c = f } in row)
 same_row a b c d e f p q r =
     let made : Combination → Combination → Combination → Constraint = λ x y z. record { a = x; b = y; c = z } in
     ap₂ (λ x y. made x y c) p q ∙ ap (made d e) r
@@ -41,9 +43,11 @@ row_appended xs row =
     same_row _ _ _ row.a row.b row.c
     (part_between xs row.a (row.b ++ row.c) (length xs) (length xs + length row.a) refl refl)
     (ap (λ ys. slice_range ys (length xs + length row.a) (length xs + length row.a + length row.b)) (sym (append_assoc xs row.a (row.b ++ row.c)))
-    ∙ part_between (xs ++ row.a) row.b row.c (length xs + length row.a) (length xs + length row.a + length row.b) (sym (length-append xs row.a)) (omega (arith, length-append xs row.a)))
+    ∙ part_between (xs ++ row.a) row.b row.c (length xs + length row.a) (length xs + length row.a + length row.b) (sym (length-append xs row.a))
+    (omega (arith, length-append xs row.a)))
     (ap (λ ys. slice_range ys (length xs + length row.a + length row.b) (length xs + length row.a + length row.b + length row.c))
-    (sym (append_assoc xs row.a (row.b ++ row.c)) ∙ sym (append_assoc (xs ++ row.a) row.b row.c) ∙ ap (λ ys. xs ++ row.a ++ row.b ++ ys) (sym (append-nil row.c)))
+    (sym (append_assoc xs row.a (row.b ++ row.c)) ∙ sym (append_assoc (xs ++ row.a) row.b row.c)
+    ∙ ap (λ ys. xs ++ row.a ++ row.b ++ ys) (sym (append-nil row.c)))
     ∙ part_between (xs ++ row.a ++ row.b) row.c [] (length xs + length row.a + length row.b) (length xs + length row.a + length row.b + length row.c)
     (omega (arith, length-append (xs ++ row.a) row.b, length-append xs row.a)) (omega (arith, length-append (xs ++ row.a) row.b, length-append xs row.a)))
 
@@ -52,7 +56,8 @@ pub row_end : (xs : Combination) (row : Constraint) → end_of (span_of (length 
 row_end xs row = omega (arith, length-append xs (row.a ++ (row.b ++ row.c)), length-append row.a (row.b ++ row.c), length-append row.b row.c)
 
 -- all constraints, with more terms behind theirs
-pub rows_kept : (xs more : Combination) (spans : List (Option Span)) → AreInside (length xs) spans → map (option_map (row_at (xs ++ more))) spans ≡ map (option_map (row_at xs)) spans
+pub rows_kept : (xs more : Combination) (spans : List (Option Span)) → AreInside (length xs) spans
+    → map (option_map (row_at (xs ++ more))) spans ≡ map (option_map (row_at xs)) spans
 rows_kept xs more [] inside = refl
 rows_kept xs more (None ∷ spans) inside = ap (λ rows. None ∷ rows) (rows_kept xs more spans inside.1)
 rows_kept xs more (Some span ∷ spans) inside = ap₂ (λ row rows. Some row ∷ rows) (row_kept xs more span inside.0) (rows_kept xs more spans inside.1)
@@ -73,7 +78,8 @@ module _ (R : Option Span → Type 0) where
   push_each (first ∷ spans) span each here = (each.0, push_each spans span each.1 here)
 
 -- the constraint at a place
-pub row_found : (f : Span → Constraint) (spans : List (Option Span)) (rows : List (Option Constraint)) (i : ℕ) (span : Option Span) → map (option_map f) spans ≡ rows → i < length rows → span ≡ get_or spans i span →
+pub row_found : (f : Span → Constraint) (spans : List (Option Span)) (rows : List (Option Constraint)) (i : ℕ) (span : Option Span)
+    → map (option_map f) spans ≡ rows → i < length rows → span ≡ get_or spans i span →
     (i < length spans) × (get_or rows i None ≡ option_map f span)
 row_found f spans rows i span is h at =
     let wide : i < length spans = omega (arith, length-map spans (option_map f), ap length is) in
@@ -97,7 +103,8 @@ part_split xs i j k below behind =
 pub terms_there : (xs : Combination) (span : Span) → slice_range xs span.start (end_of span) ≡ row_terms (row_at xs span)
 terms_there xs span =
     part_split xs span.start (span.start + span.a) (end_of span) (omega arith) (omega arith)
-    ∙ ap (λ ys. slice_range xs span.start (span.start + span.a) ++ ys) (part_split xs (span.start + span.a) (span.start + span.a + span.b) (end_of span) (omega arith) (omega arith))
+    ∙ ap (λ ys. slice_range xs span.start (span.start + span.a) ++ ys)
+    (part_split xs (span.start + span.a) (span.start + span.a + span.b) (end_of span) (omega arith) (omega arith))
 
 -- the terms of a constraint whose wires are numbered anew
 pub terms_moved : (numbers : List ℕ) (row : Constraint) → moved numbers (row_terms row) ≡ row_terms (moved_in numbers row)
@@ -106,7 +113,8 @@ terms_moved numbers row =
     map-append f row.a (row.b ++ row.c) ∙ ap (λ ys. map f row.a ++ ys) (map-append f row.b row.c)
 
 -- where a constraint was appended, from what the calls gave
-pub span_is : (xs : Combination) (row : Constraint) (start a b c : ℕ) → start ≡ length xs → a ≡ length row.a → b ≡ length row.b → c ≡ length row.c → record { start = start; a = a; b = b; c = c } ≡ span_of (length xs) row
+pub span_is : (xs : Combination) (row : Constraint) (start a b c : ℕ) → start ≡ length xs → a ≡ length row.a → b ≡ length row.b → c ≡ length row.c
+    → record { start = start; a = a; b = b; c = c } ≡ span_of (length xs) row
 span_is xs row start a b c at p q r =
     let made : ℕ → ℕ → ℕ → ℕ → Span = λ s x y z. record { start = s; a = x; b = y; c = z } in
     ap₂ (λ s x. made s x b c) at p ∙ ap₂ (λ y z. made (length xs) (length row.a) y z) q r
@@ -119,9 +127,11 @@ terms_appended xs one two three a b c p q r =
 pub part_size : (xs : Combination) (i n : ℕ) → i + n ≤ length xs → n ≡ length (slice_range xs i (i + n))
 part_size xs i n inside = omega (arith, length-take (i + n - i) (drop i xs), length-drop i xs)
 
-pub span_copied : (xs terms : Combination) (span : Span) (start : ℕ) → start ≡ length xs → end_of span ≤ length terms → record { start = start; a = span.a; b = span.b; c = span.c } ≡ span_of (length xs) (row_at terms span)
+pub span_copied : (xs terms : Combination) (span : Span) (start : ℕ) → start ≡ length xs → end_of span ≤ length terms
+    → record { start = start; a = span.a; b = span.b; c = span.c } ≡ span_of (length xs) (row_at terms span)
 span_copied xs terms span start at inside =
-    span_is xs (row_at terms span) start span.a span.b span.c at (part_size terms span.start span.a (omega arith)) (part_size terms (span.start + span.a) span.b (omega arith))
+    span_is xs (row_at terms span) start span.a span.b span.c at (part_size terms span.start span.a (omega arith))
+    (part_size terms (span.start + span.a) span.b (omega arith))
     (part_size terms (span.start + span.a + span.b) span.c (omega arith))
 
 -- where a constraint lies whose wires are numbered anew
@@ -131,4 +141,5 @@ span_moved numbers xs span inside =
     let size : (i n : ℕ) → i + n ≤ length xs → n ≡ length (moved numbers (slice_range xs i (i + n))) =
     λ i n h. part_size xs i n h ∙ sym (length-map {B = ℕ × ℕ} (slice_range xs i (i + n)) (λ (t : ℕ × ℕ). (t.0, slice_index numbers t.1))) in
     ap₂ (λ x y. made x y span.c) (size span.start span.a (omega arith)) (size (span.start + span.a) span.b (omega arith))
-    ∙ ap (made (length (moved numbers (slice_range xs span.start (span.start + span.a)))) (length (moved numbers (slice_range xs (span.start + span.a) (span.start + span.a + span.b))))) (size (span.start + span.a + span.b) span.c (omega arith))
+    ∙ ap (made (length (moved numbers (slice_range xs span.start (span.start + span.a))))
+    (length (moved numbers (slice_range xs (span.start + span.a) (span.start + span.a + span.b))))) (size (span.start + span.a + span.b) span.c (omega arith))

@@ -1,5 +1,6 @@
 -- What the steps of a pass keep.
-use Rattle.std.proofs.Common.{◌≡◌, ℕ, zero, suc, arith, ◌∷◌, ◌<◌, ◌≤◌, ◌^◌, Bool, List, [], Option, None, Some, Result, Ok, Err, OnOk, refl, sym, ◌∙◌, ap, ap₂, subst, replicate, true, false, eqb, length, length-set, get_or, set}
+use Rattle.std.proofs.Common.{◌≡◌, ℕ, zero, suc, arith, ◌∷◌, ◌<◌, ◌≤◌, ◌^◌, Bool, List, [], Option, None, Some, Result, Ok, Err, OnOk, refl, sym, ◌∙◌, ap}
+use Rattle.std.proofs.Common.{ap₂, subst, replicate, true, false, eqb, length, length-set, get_or, set}
 use Rattle.std.specs.Prelude.{OnErr}
 use Rattle.std.specs.List.{fold, list_all, list_any, range_with_len}
 use Rattle.std.specs.Option.{option_map}
@@ -13,14 +14,21 @@ use Rattle.tv_shrink.proofs.Passes.{covers-more, covers-replaced, normal-at, nor
 
 -- a constraint without the wire
 pub unchanged : (s : State) (w at : ℕ) (r : Combination) → row_has w (get_or s.pass.rows at None) ≡ false →
-    s ≡ record { publics = s.publics; pass = record { rows = set s.pass.rows at (option_map (replaced_in w r) (get_or s.pass.rows at None)); gone = s.pass.gone } }
+    s ≡ record {
+      publics = s.publics;
+      pass = record {
+        rows = set s.pass.rows at (option_map (replaced_in w r) (get_or s.pass.rows at None));
+        gone = s.pass.gone;
+      };
+    }
 unchanged s w at r lacks =
     let same : s.pass.rows ≡ set s.pass.rows at (option_map (replaced_in w r) (get_or s.pass.rows at None)) =
     sym (ap (set s.pass.rows at) (row-lacking-same w r (get_or s.pass.rows at None) lacks) ∙ set-get_or s.pass.rows at None) in
     ap (λ rows. record { publics = s.publics; pass = record { rows = rows; gone = s.pass.gone } }) same
 
 -- once a wire is replaced in a constraint, or memory ran out, all are normal, and filed
-module _ (publics w at : ℕ) (r : Combination) (rows : List (Option Constraint)) (gone : List Bool) (lists next : List (List ℕ)) (kept : IsKept publics rows gone lists) (lacks : has_wire w r ≡ false) (each : length next ≡ length lists)
+module _ (publics w at : ℕ) (r : Combination) (rows : List (Option Constraint)) (gone : List Bool) (lists next : List (List ℕ))
+    (kept : IsKept publics rows gone lists) (lacks : has_wire w r ≡ false) (each : length next ≡ length lists)
     (more : (v i : ℕ) → list_any (λ p. eqb p i) (get_or lists v []) ≡ true → list_any (λ p. eqb p i) (get_or next v []) ≡ true)
     (added : (v : ℕ) → publics ≤ v → has_wire v r ≡ true → list_any (λ p. eqb p at) (get_or next v []) ≡ true) where
   kept_filed : IsKept publics rows gone next
@@ -36,13 +44,16 @@ module _ (publics w at : ℕ) (r : Combination) (rows : List (Option Constraint)
         few = subst (λ n. n < 2 ^ 32) (sym (length-set rows at row)) kept.few;
       }
 
-  pub kept_replaced : {T E : Type 0} (result : Result T E) (new : List (Option Constraint)) → OnOk result (new ≡ set rows at (option_map (replaced_in w r) (get_or rows at None))) → OnErr result (new ≡ rows) → IsKept publics new gone next
+  pub kept_replaced : {T E : Type 0} (result : Result T E) (new : List (Option Constraint))
+      → OnOk result (new ≡ set rows at (option_map (replaced_in w r) (get_or rows at None))) → OnErr result (new ≡ rows) → IsKept publics new gone next
   kept_replaced (Ok value) new is err = subst (λ xs. IsKept publics xs gone next) (sym is) kept_changed
   kept_replaced (Err why) new is err = subst (λ xs. IsKept publics xs gone next) (sym err) kept_filed
 
 -- and at the end the wire is gone
-pub substituted_is : (s : State) (w v : ℕ) (r : Combination) (publics : ℕ) (rows : List (Option Constraint)) (gone : List Bool) → publics ≡ s.publics → rows ≡ all_replaced w r s.pass.rows → gone ≡ s.pass.gone → v ≡ w →
-    (let new : State = record { publics = publics; pass = record { rows = rows; gone = set gone v true } } in new) ≡ record { publics = s.publics; pass = substituted w r s.pass }
+pub substituted_is : (s : State) (w v : ℕ) (r : Combination) (publics : ℕ) (rows : List (Option Constraint)) (gone : List Bool) → publics ≡ s.publics
+    → rows ≡ all_replaced w r s.pass.rows → gone ≡ s.pass.gone → v ≡ w →
+    (let new : State = record { publics = publics; pass = record { rows = rows; gone = set gone v true } } in new)
+    ≡ record { publics = s.publics; pass = substituted w r s.pass }
 unfolding substituted
 substituted_is s w v r publics rows gone p q g e = rw (p, q, g, e) refl
 
@@ -52,20 +63,24 @@ listed_inside q [] w e = absurd (let no : false ≡ true = e in cc)
 listed_inside q (rows ∷ lists) zero e = omega arith
 listed_inside q (rows ∷ lists) (suc w) e = omega (arith, listed_inside q lists w e)
 
-pub kept_below : (publics : ℕ) (rows : List (Option Constraint)) (gone : List Bool) (lists : List (List ℕ)) → IsKept publics rows gone lists → (i w : ℕ) → publics ≤ w → row_has w (get_or rows i None) ≡ true → w < length gone
+pub kept_below : (publics : ℕ) (rows : List (Option Constraint)) (gone : List Bool) (lists : List (List ℕ)) → IsKept publics rows gone lists → (i w : ℕ)
+    → publics ≤ w → row_has w (get_or rows i None) ≡ true → w < length gone
 kept_below publics rows gone lists kept i w above has = omega (arith, kept.each, listed_inside (λ p. eqb p i) lists w (kept.covers i w above has))
 
 -- the state with another pass
 pub staged : (s : State) (pass : Pass) → pass ≡ s.pass → s ≡ record { publics = s.publics; pass = pass }
 staged s pass e = ap (λ p. record { publics = s.publics; pass = p }) (sym e)
 
-pub dropped_is : (s : State) (at publics : ℕ) (rows : List (Option Constraint)) (gone : List Bool) → publics ≡ s.publics → rows ≡ set s.pass.rows at None → gone ≡ s.pass.gone →
-    (let new : State = record { publics = publics; pass = record { rows = rows; gone = gone } } in new) ≡ record { publics = s.publics; pass = dropped at s.pass }
+pub dropped_is : (s : State) (at publics : ℕ) (rows : List (Option Constraint)) (gone : List Bool) → publics ≡ s.publics → rows ≡ set s.pass.rows at None
+    → gone ≡ s.pass.gone →
+    (let new : State = record { publics = publics; pass = record { rows = rows; gone = gone } } in new)
+    ≡ record { publics = s.publics; pass = dropped at s.pass }
 unfolding dropped
 dropped_is s at publics rows gone p q g = rw (p, q, g) refl
 
 -- no turn changes how many constraints there are
-attempted_length : (w : ℕ) (r : Combination) (others pass : Pass) → length others.rows ≡ length pass.rows → length (attempted w r others pass).rows ≡ length pass.rows
+attempted_length : (w : ℕ) (r : Combination) (others pass : Pass) → length others.rows ≡ length pass.rows
+    → length (attempted w r others pass).rows ≡ length pass.rows
 unfolding attempted substituted
 attempted_length w r others pass e =
     cond_both (list_all (row_fits w r) others.rows) (substituted w r others) pass (λ p. length p.rows ≡ length pass.rows)
@@ -97,7 +112,8 @@ turns_length publics (i ∷ places) pass = turns_length publics places (turn pub
 -- what a pass leaves that began with these constraints
 module _ (start end : State) (left : List (Option Constraint)) (flags : List Bool) (publics : ℕ) (rows : List (Option Constraint))
     (begins : start ≡ record { publics = publics; pass = record { rows = rows; gone = replicate (rows_top rows) false } })
-    (runs : end ≡ record { publics = start.publics; pass = fold (turn start.publics) start.pass (range_with_len 0 (length start.pass.rows)) }) (is : left ≡ end.pass.rows) (goes : flags ≡ end.pass.gone) where
+    (runs : end ≡ record { publics = start.publics; pass = fold (turn start.publics) start.pass (range_with_len 0 (length start.pass.rows)) })
+    (is : left ≡ end.pass.rows) (goes : flags ≡ end.pass.gone) where
   pub ran : pass_of left flags ≡ fold (turn publics) (pass_of rows (replicate (rows_top rows) false)) (range_with_len 0 (length rows))
   ran =
       ap₂ pass_of is goes

@@ -14,7 +14,8 @@ use Rattle.tv_r1cs_read.specs.R1cs.{term_at, terms_at, count_at, combination_at,
 use Rattle.tv_r1cs_write.specs.Narrow.{IsOver}
 use Rattle.tv_shrink.specs.Laws.{AreOver, SystemsAreOver}
 
-bind_if : {A B : Type 0} (read : Result A Fault) (f : A → Result B Fault) (P : A → Type 0) (Q : B → Type 0) → IfOk read P → ((x : A) → P x → IfOk (f x) Q) → IfOk (read >>= f) Q
+bind_if : {A B : Type 0} (read : Result A Fault) (f : A → Result B Fault) (P : A → Type 0) (Q : B → Type 0) → IfOk read P → ((x : A) → P x → IfOk (f x) Q)
+    → IfOk (read >>= f) Q
 bind_if (Ok x) f P Q is h = h x is
 bind_if (Err fault) f P Q is h = tt
 
@@ -22,7 +23,8 @@ any : {A : Type 0} (read : Result A Fault) → IfOk read (λ _. Unit {0})
 any (Ok x) = tt
 any (Err fault) = tt
 
-unless_not : {B : Type 0} (test : Bool) (at : ℕ) (why : ReadWhy) (f : Unit {0} → Result B Fault) (Q : B → Type 0) → (test ≡ true → IfOk (f tt) Q) → IfOk (unless (not test) at why >>= f) Q
+unless_not : {B : Type 0} (test : Bool) (at : ℕ) (why : ReadWhy) (f : Unit {0} → Result B Fault) (Q : B → Type 0) → (test ≡ true → IfOk (f tt) Q)
+    → IfOk (unless (not test) at why >>= f) Q
 unless_not true at why f Q h = h refl
 unless_not false at why f Q h = tt
 
@@ -31,7 +33,8 @@ unfolding term_at
 term_over file wires end at =
     bind_if (fit 12 at end) _ _ _ (any (fit 12 at end)) (λ _ _.
     unless_not (ltb (number file 4 at) wires) at (WireRange (number file 4 at) wires) _ _ (λ below.
-    bind_if (unless (not (ltb (number file 8 (at + 4)) P)) (at + 4) NotCanonical) _ _ _ (any (unless (not (ltb (number file 8 (at + 4)) P)) (at + 4) NotCanonical)) (λ _ _.
+    bind_if (unless (not (ltb (number file 8 (at + 4)) P)) (at + 4) NotCanonical) _ _ _
+    (any (unless (not (ltb (number file 8 (at + 4)) P)) (at + 4) NotCanonical)) (λ _ _.
     ltb-true (number file 4 at) wires below)))
 
 terms_over : (file : List ℕ) (wires end n at : ℕ) → IfOk (terms_at file wires end n at) (λ read. IsOver wires read.value)
@@ -75,4 +78,5 @@ pub systems_are_over : SystemsAreOver
 unfolding system_of
 systems_are_over file =
     bind_if (header_of file) _ _ _ (any (header_of file)) (λ header _.
-    bind_if (constraints_from file header.wires header.rows header.constraints header.rows.at) _ _ _ (constraints_over file header.wires header.rows header.constraints header.rows.at) (λ list each. each))
+    bind_if (constraints_from file header.wires header.rows header.constraints header.rows.at) _ _ _
+    (constraints_over file header.wires header.rows header.constraints header.rows.at) (λ list each. each))

@@ -12,8 +12,8 @@ use Rattle.tv_shrink.specs.declared.fault.ShrinkFault.{ShrinkFault}
 use Rattle.tv_shrink.specs.declared.fault.ShrinkFault.TheVariants as fault
 use Rattle.tv_shrink.specs.declared.shrinking.TheConstants.{MOST_TERMS}
 use Rattle.tv_core.specs.declared.lines.Counts.{Counts}
-use Rattle.tv_shrink.specs.Normal.{normal, normal_constraint}
-use Rattle.tv_shrink.specs.Tidy.{AreNormal, AreWithin}
+use Rattle.tv_core.specs.Normal.{normal, normal_constraint}
+use Rattle.tv_shrink.specs.Tidy.{RowsAreNormal, AreWithin}
 use Rattle.tv_shrink.specs.Shrinking.{Shrunken, shrink}
 use Rattle.tv_word.specs.Counts.{Rose}
 
@@ -51,13 +51,13 @@ most = MOST_TERMS
 abbrev pub all_terms : System → ℕ
 all_terms system = terms_in system.constraints
 
--- a file holds a system, of at most so many terms
+-- a file holds a system of no more terms than the limit
 pub record IsSmall (file : List ℕ) : Type 0 where
   pub system : System
   pub is : system_of file ≡ Ok system
   pub few : all_terms system ≤ most
 
--- a file's system has at most so many terms, no combination of it is too wide, and this is the shrunk system
+-- a file's system has no more terms than the limit, no combination of it is too wide, and this is the shrunk system
 pub record Shrinks (shrunken : Shrunken) (file : List ℕ) : Type 0 where
   pub system : System
   pub is : system_of file ≡ Ok system
@@ -79,7 +79,7 @@ pub record IsWide (has : ℕ) (file : List ℕ) : Type 0 where
   pub few : all_terms system ≤ most
   pub first : first_wide system.constraints ≡ Some has
 
--- what a refusal tells of a file
+-- what a refusal says of a file
 abbrev pub Tells : ShrinkFault → List ℕ → Type 0
 Tells (fault.Bad at why) file = system_of file ≡ wrong at why
 Tells (fault.Terms has) file = IsLong has file
@@ -87,7 +87,7 @@ Tells (fault.Combination has) file = IsWide has file
 Tells fault.Fault file = Unit {0}
 Tells fault.Memory file = Unit {0}
 
--- what a refusal leaves: all, where it tells what is wrong; a fault is a fault of a read; and where memory ran out
+-- what a refusal leaves: all, where it says what is wrong; a fault is a fault of a read; and where memory ran out
 -- all is as before, or the files wanted it
 abbrev pub Leaves : ShrinkFault → Outside → Outside → Type 0
 Leaves (fault.Bad at why) old new = new ≡ old
@@ -120,7 +120,7 @@ counted_system counts list = record { wires = counts.wires; outputs = counts.out
 pub record IsReady (counts : Counts) (rows : List (Option Constraint)) : Type 0 where
   pub room : 1 + counts.outputs + counts.inputs ≤ counts.wires
   pub within : AreWithin counts.wires rows
-  pub normal : AreNormal rows
+  pub normal : RowsAreNormal rows
   pub few : length rows < 2 ^ 32
   pub fits : counts.wires < 2 ^ 32
 

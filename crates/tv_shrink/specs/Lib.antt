@@ -3,7 +3,6 @@ pub mod Emitting
 pub mod Laws
 pub mod Merging
 pub mod Moving
-pub mod Normal
 pub mod Occurring
 pub mod Passing
 pub mod Replacing

@@ -3,7 +3,7 @@ use Rattle.std.specs.Prelude.{ℕ, ◌+◌, Bool, true, false, List, [], ◌∷�
 use Rattle.std.specs.List.{fold, list_all, range_with_len}
 use Rattle.std.specs.Option.{option_map}
 use Rattle.tv_core.specs.Constraints.{Combination, Constraint, System}
-use Rattle.tv_shrink.specs.Normal.{normal_constraint}
+use Rattle.tv_core.specs.Normal.{normal_constraint}
 use Rattle.tv_shrink.specs.Replacing.{linear_form, greatest_from, solved, replaced_in, fits_in}
 
 -- how far the pass has come: at each constraint's place what it is by now, or nothing where it was dropped,

@@ -6,11 +6,7 @@ use Rattle.tv_core.specs.Combinations.{scaled, less}
 use Rattle.tv_core.specs.Constraints.{Combination, Constraint}
 use Rattle.tv_core.specs.Inverse.{inverse_of}
 use Rattle.tv_core.specs.declared.field.TheConstants.{P}
-use Rattle.tv_shrink.specs.Normal.{normal}
-
--- the coefficient of a wire, modulo P
-unfoldable pub coefficient : ℕ → Combination → ℕ
-coefficient w x = sum_by (λ t. if t.1 == w then t.0 else 0) x % P
+use Rattle.tv_core.specs.Normal.{coefficient, normal}
 
 -- whether a wire stands in a combination
 unfoldable pub has_wire : ℕ → Combination → Bool

@@ -3,15 +3,9 @@ use Rattle.std.specs.Prelude.{◌≡◌, ℕ, ◌^◌, ◌<◌, ◌≤◌, ◌==
 use Rattle.std.specs.List.{AllByRecursion, list_any}
 use Rattle.tv_core.specs.Combinations.{top}
 use Rattle.tv_core.specs.Constraints.{Constraint}
-use Rattle.tv_shrink.specs.Normal.{IsNormalFrom}
+use Rattle.tv_core.specs.Normal.{IsNormalConstraint}
 use Rattle.tv_shrink.specs.Passing.{Pass}
 use Rattle.tv_shrink.specs.Replacing.{has_wire}
-
--- a constraint of normal combinations
-pub record IsNormalRow (row : Constraint) : Type 0 where
-  pub a : IsNormalFrom 0 row.a
-  pub b : IsNormalFrom 0 row.b
-  pub c : IsNormalFrom 0 row.c
 
 -- each combination of a constraint has at most 128 terms, whose wires are below a number
 pub record IsWithin (wires : ℕ) (row : Constraint) : Type 0 where
@@ -33,11 +27,11 @@ AreWithin wires rows = AllByRecursion (RowIsWithin wires) rows
 -- a constraint that was dropped, or is one of normal combinations
 abbrev pub RowIsNormal : Option Constraint → Type 0
 RowIsNormal None = Unit {0}
-RowIsNormal (Some row) = IsNormalRow row
+RowIsNormal (Some row) = IsNormalConstraint row
 
 -- each constraint that was not dropped is one of normal combinations
-abbrev pub AreNormal : List (Option Constraint) → Type 0
-AreNormal rows = AllByRecursion RowIsNormal rows
+abbrev pub RowsAreNormal : List (Option Constraint) → Type 0
+RowsAreNormal rows = AllByRecursion RowIsNormal rows
 
 -- one more than the greatest wire of a constraint that was not dropped, and of such constraints; 0 where there is none
 abbrev pub row_top : Option Constraint → ℕ
@@ -69,7 +63,7 @@ Covers publics rows lists =
 
 -- the constraints are normal, fewer than 2 ^ 32, and for each wire it is known whether it is gone and where it may stand
 pub record IsKept (publics : ℕ) (rows : List (Option Constraint)) (gone : List Bool) (lists : List (List ℕ)) : Type 0 where
-  pub normal : AreNormal rows
+  pub normal : RowsAreNormal rows
   pub covers : Covers publics rows lists
   pub each : length gone ≡ length lists
   pub few : length rows < 2 ^ 32

@@ -5,10 +5,9 @@ ghost use Rattle.std.specs.Prelude.{OnOk, OnErr, IfOk, IfErr};
 ghost use Rattle.tv_r1cs_read.specs.Rows.{combination_of};
 ghost use Rattle.tv_shrink.specs.Answers.{wide, IsTooWide};
 ghost use Rattle.tv_shrink.specs.Moving.{moved, moved_in};
-ghost use Rattle.tv_shrink.specs.Normal.{normal, IsNormalFrom};
+ghost use Rattle.tv_core.specs.Normal.{normal, IsNormalFrom, IsNormalConstraint};
 ghost use Rattle.tv_shrink.specs.Replacing.{fits, fits_in, replaced, replaced_in};
 ghost use Rattle.tv_shrink.specs.Spans.{end_of, laid, row_at, row_terms, span_of, IsFree};
-ghost use Rattle.tv_shrink.specs.Tidy.{IsNormalRow};
 
 use crate::fault::ShrinkFault;
 use crate::normal::append_normal;
@@ -16,8 +15,8 @@ use crate::row::{Row, append_replaced};
 use std::alloc::AllocError;
 use tv_core::{F, TERMS, Wire};
 
-/// Where the terms of a constraint lie: those of `a` from a place on, behind them those of `b`, and
-/// then those of `c`, so many of each.
+/// Where the terms of a constraint lie: those of `a` from `start` on, after them those of `b`, then
+/// those of `c`; the fields `a`, `b` and `c` are their numbers.
 #[derive(Clone, Copy)]
 pub(crate) struct Span {
     pub(crate) start: u32,
@@ -98,15 +97,15 @@ fn append_part(
     Ok((out.len() - start) as u8)
 }
 
-/// Puts a constraint with `replacement` in place of a wire into `out`, and returns where its terms lie
-/// in it.
+/// Puts a constraint with `replacement` in place of a wire into `out`, and returns where its terms
+/// lie in it.
 pub(crate) fn put_replaced(
     out: &mut Vec<(F, Wire)>,
     row: &Row<'_>,
     wire: Wire,
     replacement: &[(F, Wire)],
 ) -> Result<Span, AllocError>
-    requires normal { IsNormalRow row.now }
+    requires normal { IsNormalConstraint row.now }
     requires by { IsNormalFrom 0 replacement.now }
     requires few { (length row.now.a < 256) × (length row.now.b < 256)
         × (length row.now.c < 256) }
@@ -123,15 +122,15 @@ pub(crate) fn put_replaced(
     Ok(Span { start: 0, a, b, c })
 }
 
-/// The place behind so many terms.
+/// Returns the place after these terms.
 pub(crate) fn place_behind(terms: &[(F, Wire)]) -> Result<u32, AllocError>
     ensures { IfOk result (λ place. place ≡ length terms.now) }
 {
     u32::try_from(terms.len()).map_err(|_| AllocError)
 }
 
-/// Puts terms over those of a constraint, if they are no more, or else behind all, and returns where
-/// they lie then.
+/// Puts terms over those of a constraint, if they are no more, or else after all others, and
+/// returns their place.
 pub(crate) fn lay(
     terms: &mut Vec<(F, Wire)>,
     span: &Span,

@@ -5,7 +5,7 @@ ghost use Rattle.std.specs.Prelude.{min};
 ghost use Rattle.tv_core.specs.Combinations.{scaled};
 ghost use Rattle.tv_core.specs.declared.field.TheConstants.{P};
 ghost use Rattle.tv_shrink.specs.Merging.{first_wire, head_at, leaving_out, tail_at, unless_left};
-ghost use Rattle.tv_shrink.specs.Normal.{normal, with_term, IsNormalFrom};
+ghost use Rattle.tv_core.specs.Normal.{normal, with_term, IsNormalFrom};
 
 use std::alloc::AllocError;
 use tv_core::{F, Wire};
@@ -82,7 +82,7 @@ impl<'a> Side<'a> {
 
 /// Appends a term, unless its coefficient is 0.
 #[inline(always)]
-#[tactic(auto, unfolding(crate::specs::Normal::with_term))]
+#[tactic(auto, unfolding(tv_core::specs::Normal::with_term))]
 pub(crate) fn push_term(
     out: &mut Vec<(F, Wire)>,
     coefficient: F,

@@ -4,14 +4,14 @@ ghost use Rattle.std.specs.Prelude.{◌≡◌, ◌≤◌, ◌++◌, length, take
 ghost use Rattle.std.specs.Bool.{OnTrue};
 ghost use Rattle.std.specs.List.Sorted.{IsNonDecreasingBy};
 ghost use Rattle.tv_r1cs_read.specs.Rows.{combination_of};
-ghost use Rattle.tv_shrink.specs.Normal.{normal, IsNormalFrom};
+ghost use Rattle.tv_core.specs.Normal.{normal, IsNormalFrom};
 
 use crate::merge::push_term;
 use std::alloc::AllocError;
 use tv_core::{F, Wire};
 
-// Appends the combination that terms make, up to where it isn't normal, and returns whether all of it
-// is.
+// Appends the combination that terms make, up to where it isn't normal, and returns whether all of
+// it is.
 #[inline(always)]
 fn append_while_normal(out: &mut Vec<(F, Wire)>, terms: &[(u32, F)]) -> Result<bool, AllocError>
     ensures normal { IfOk result (λ all. OnTrue all (IsNormalFrom 0 (combination_of terms.now))) }

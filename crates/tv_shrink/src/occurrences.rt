@@ -6,11 +6,11 @@ ghost use Rattle.std.specs.Prelude.{IfOk};
 ghost use Rattle.std.specs.Prelude.{◌^◌, false, None, Ok, IfSome};
 ghost use Rattle.std.specs.Prelude.{if◌then◌else◌};
 ghost use Rattle.std.specs.List.{list_any};
-ghost use Rattle.tv_shrink.specs.Normal.{IsNormalFrom};
+ghost use Rattle.tv_core.specs.Normal.{IsNormalFrom};
 ghost use Rattle.tv_shrink.specs.Passing.{row_fits};
 ghost use Rattle.tv_shrink.specs.Occurring.{rows_from, with_row, LeadBack};
 ghost use Rattle.tv_shrink.specs.Replacing.{has_wire};
-ghost use Rattle.tv_shrink.specs.Tidy.{row_has, AreNormal, Covers, RowIsNormal};
+ghost use Rattle.tv_shrink.specs.Tidy.{row_has, RowsAreNormal, Covers, RowIsNormal};
 
 use crate::row::Row;
 use crate::rows::Rows;
@@ -25,7 +25,7 @@ struct Entry {
     next: u32,
 }
 
-// Whether the entry of this number, where there is one, tells of a row.
+// Whether the entry of this number, where there is one, is of a row.
 fn tells(entries: &[Entry], number: u32, row: u32) -> bool
     requires inside { number ≤ length entries.now }
     requires back { LeadBack (reverse entries.now) }
@@ -66,7 +66,7 @@ impl Model for Occurrences {
 }
 
 impl Occurrences {
-    // No rows, for so many wires.
+    // No rows, for `wires` wires.
     fn new(alloc: Global, wires: usize) -> Result<Occurrences, AllocError>
         ensures { IfOk result (λ lists. lists ≡ replicate wires []) }
     {
@@ -78,7 +78,7 @@ impl Occurrences {
         })
     }
 
-    /// For so many wires the rows that the private ones stand in.
+    /// Lists, for the private ones of the first `wires` wires, the rows that each stands in.
     pub(crate) fn of(
         alloc: Global,
         wires: usize,
@@ -114,7 +114,7 @@ impl Occurrences {
     }
 
     /// The first of the rows that a wire may stand in, but for the one at a place, that doesn't
-    /// keep to its most terms with `replacement` in the wire's place. It looks at no row behind it.
+    /// keep to its most terms with `replacement` in the wire's place. It looks at no row after it.
     pub(crate) fn misfit(
         &self,
         rows: &Rows,
@@ -124,7 +124,7 @@ impl Occurrences {
         replacement: &[(F, Wire)],
     ) -> Result<Option<u32>, AllocError>
         requires here { wire < length self.now }
-        requires normal { AreNormal rows.now }
+        requires normal { RowsAreNormal rows.now }
         requires by { IsNormalFrom 0 replacement.now }
         ensures some { IfOk result (λ found. IfSome found (λ row.
             row_fits wire replacement.now

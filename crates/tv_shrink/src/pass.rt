@@ -3,10 +3,10 @@
 ghost use Rattle.std.specs.Prelude.{◌≡◌, ◌≤◌, ◌<◌, ◌^◌, ℕ, true, false, length, replicate};
 ghost use Rattle.std.specs.Prelude.{IfOk, OnOk};
 ghost use Rattle.std.specs.List.{fold, range_with_len};
-ghost use Rattle.tv_shrink.specs.Normal.{IsNormalFrom};
+ghost use Rattle.tv_core.specs.Normal.{IsNormalFrom};
 ghost use Rattle.tv_shrink.specs.Passing.{attempted, dropped, turn};
 ghost use Rattle.tv_shrink.specs.Replacing.{has_wire};
-ghost use Rattle.tv_shrink.specs.Tidy.{rows_top, AreNormal};
+ghost use Rattle.tv_shrink.specs.Tidy.{rows_top, RowsAreNormal};
 
 use crate::row::solve;
 use crate::rows::Rows;
@@ -31,7 +31,7 @@ pub(crate) struct Pass {
 impl Pass {
     /// A pass over these constraints, none of which has had its turn.
     pub(crate) fn begin(alloc: Global, rows: Rows, publics: u32) -> Result<Pass, AllocError>
-        requires normal { AreNormal rows }
+        requires normal { RowsAreNormal rows }
         requires few { length rows < 2 ^ 32 }
         ensures { IfOk result (λ pass. pass.state ≡ record {
           publics = publics;

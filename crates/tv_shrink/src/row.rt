@@ -4,10 +4,10 @@ ghost use Rattle.std.specs.Prelude.{◌≡◌, ◌<◌, ◌-◌, ◌++◌, OnOk,
 ghost use Rattle.tv_core.specs.Combinations.{scaled, top};
 ghost use Rattle.tv_core.specs.Inverse.{inverse_of};
 ghost use Rattle.tv_core.specs.declared.field.TheConstants.{P};
-ghost use Rattle.tv_shrink.specs.Normal.{normal, IsNormalFrom};
-ghost use Rattle.tv_shrink.specs.Replacing.{coefficient, constant_in, fits, fits_in, has_wire};
+ghost use Rattle.tv_core.specs.Normal.{coefficient, normal, IsNormalFrom, IsNormalConstraint};
+ghost use Rattle.tv_shrink.specs.Replacing.{constant_in, fits, fits_in, has_wire};
 ghost use Rattle.tv_shrink.specs.Replacing.{linear_form, replaced, solved};
-ghost use Rattle.tv_shrink.specs.Tidy.{row_has, row_top, IsNormalRow, RowIsNormal};
+ghost use Rattle.tv_shrink.specs.Tidy.{row_has, row_top, RowIsNormal};
 
 use crate::merge::{Side, merge};
 use std::alloc::AllocError;
@@ -46,7 +46,7 @@ fn constant_in(terms: &[(F, Wire)]) -> Option<F>
 }
 
 // The coefficient of a wire that stands in a combination. A wire that was made last is its last
-// term, or behind that, and takes no search.
+// term, or above that, and takes no search.
 #[inline(always)]
 fn coefficient_of(terms: &[(F, Wire)], wire: Wire) -> Option<F>
     requires { IsNormalFrom 0 terms.now }
@@ -205,7 +205,7 @@ fn fits(
 impl Row<'_> {
     /// One more than the greatest wire of the constraint; 0 where it has no terms.
     pub(crate) fn top(&self) -> usize
-        requires { IsNormalRow self.now }
+        requires { IsNormalConstraint self.now }
         ensures { result ≡ row_top (Some self.now) }
     {
         top(self.a).max(top(self.b).max(top(self.c)))
@@ -213,7 +213,7 @@ impl Row<'_> {
 
     /// Puts what the constraint says is 0 into `out`, and returns whether it is linear.
     pub(crate) fn linear_form(&self, out: &mut Vec<(F, Wire)>) -> Result<bool, AllocError>
-        requires { IsNormalRow self.now }
+        requires { IsNormalConstraint self.now }
         ensures { IfOk result (λ linear. linear_form self.now
             ≡ (if linear then Some out.new.items else None)) }
     {
@@ -236,7 +236,7 @@ impl Row<'_> {
         wire: Wire,
         replacement: &[(F, Wire)],
     ) -> Result<bool, AllocError>
-        requires normal { IsNormalRow self.now }
+        requires normal { IsNormalConstraint self.now }
         requires by { IsNormalFrom 0 replacement.now }
         ensures { IfOk result (λ answer. answer ≡ fits_in wire replacement.now self.now) }
     {

@@ -6,11 +6,11 @@ ghost use Rattle.std.specs.Option.{option_map};
 ghost use Rattle.tv_r1cs_read.specs.Rows.{constraint_of};
 ghost use Rattle.tv_shrink.specs.Answers.{wide_in, IsTooWide};
 ghost use Rattle.tv_shrink.specs.Moving.{moved_in, moved_rows};
-ghost use Rattle.tv_shrink.specs.Normal.{normal_constraint, IsNormalFrom};
+ghost use Rattle.tv_core.specs.Normal.{normal_constraint, IsNormalFrom};
 ghost use Rattle.tv_shrink.specs.Passing.{row_fits};
 ghost use Rattle.tv_shrink.specs.Replacing.{replaced_in};
 ghost use Rattle.tv_shrink.specs.Spans.{row_at, IsInside};
-ghost use Rattle.tv_shrink.specs.Tidy.{rows_top, AreNormal, RowIsNormal};
+ghost use Rattle.tv_shrink.specs.Tidy.{rows_top, RowsAreNormal, RowIsNormal};
 
 use crate::arena::{
     Span, append_narrow, append_terms, lay, place_behind, put_replaced, renumber_span,
@@ -24,15 +24,15 @@ use tv_core::{F, Wire};
 /// The constraints of a pass, each of normal combinations, or dropped.
 ///
 /// Their terms lie in one vector, those of no two in one place. New ones lie over those that the
-/// constraint had, or, where they are more, behind all others; those that no constraint has any
-/// more stay until `tidy` leaves them out. A constraint's begin before place 2^32; one behind that
+/// constraint had, or, where they are more, after all others; those that no constraint has any
+/// more stay until `tidy` leaves them out. A constraint's begin before place 2^32; one after that
 /// counts as want of memory.
 #[derive(Drop)]
 pub(crate) struct Rows {
     alloc: Global,
     spans: Vec<Option<Span>>,
     terms: Vec<(F, Wire)>,
-    // How many terms there were when none had been left behind.
+    // How many terms there were when each still stood in a constraint.
     wanted: usize,
 }
 
@@ -81,7 +81,7 @@ impl Rows {
 
     /// One more than the greatest wire that stands in a constraint; 0 where there is none.
     pub(crate) fn top(&self) -> usize
-        requires { AreNormal self.now }
+        requires { RowsAreNormal self.now }
         ensures { result ≡ rows_top self.now }
     {
         let mut top = 0;
@@ -180,7 +180,7 @@ impl Rows {
         wire: Wire,
         replacement: &[(F, Wire)],
     ) -> Result<bool, AllocError>
-        requires normal { AreNormal self.now }
+        requires normal { RowsAreNormal self.now }
         requires by { IsNormalFrom 0 replacement.now }
         ensures { IfOk result (λ answer. answer ≡ row_fits wire replacement.now
             (slice_index_or (slice_set self.now but None) at None)) }

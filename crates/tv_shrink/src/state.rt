@@ -4,10 +4,10 @@ ghost use Rattle.std.specs.Prelude.{◌≡◌, ◌≤◌, ◌<◌, ◌^◌, ℕ,
 ghost use Rattle.std.specs.Prelude.{slice_index_or, slice_set, None, Some, IfOk, IfSome, OnOk};
 ghost use Rattle.std.specs.List.{list_all};
 ghost use Rattle.std.specs.Option.{option_map};
-ghost use Rattle.tv_shrink.specs.Normal.{IsNormalFrom};
+ghost use Rattle.tv_core.specs.Normal.{IsNormalFrom};
 ghost use Rattle.tv_shrink.specs.Passing.{dropped, row_fits, substituted};
 ghost use Rattle.tv_shrink.specs.Replacing.{has_wire, replaced_in};
-ghost use Rattle.tv_shrink.specs.Tidy.{row_has, rows_top, AreNormal, RowIsNormal};
+ghost use Rattle.tv_shrink.specs.Tidy.{row_has, rows_top, RowsAreNormal, RowIsNormal};
 
 use crate::occurrences::Occurrences;
 use crate::row::{Row, row_has};
@@ -45,7 +45,7 @@ impl Model for State {
 impl State {
     /// The start of a pass over these constraints, before any has had its turn.
     pub(crate) fn begin(alloc: Global, rows: Rows, publics: u32) -> Result<State, AllocError>
-        requires normal { AreNormal rows }
+        requires normal { RowsAreNormal rows }
         requires few { length rows < 2 ^ 32 }
         ensures { IfOk result (λ state. state ≡ record {
           publics = publics;

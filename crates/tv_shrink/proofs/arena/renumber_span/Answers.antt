@@ -16,12 +16,16 @@ returns c =
     let new = c.renumber_terms.new.terms in
     let whole : all ≡ xs = c.deref_mut.ensures.value in
     let end : span.start + c.size.result ≡ end_of span = omega (arith, c.size.ensures) in
-    let there : new ≡ moved numbers (slice_range xs span.start (end_of span)) = c.renumber_terms.ensures ∙ ap₂ (λ k ys. moved numbers (slice_range ys span.start k)) end whole in
+    let there : new ≡ moved numbers (slice_range xs span.start (end_of span)) = c.renumber_terms.ensures
+    ∙ ap₂ (λ k ys. moved numbers (slice_range ys span.start k)) end whole in
     let is : new ≡ row_terms (moved_in numbers (row_at xs span)) = there ∙ ap (moved numbers) (terms_there xs span) ∙ terms_moved numbers (row_at xs span) in
     let each = length-map {B = ℕ × ℕ} (slice_range all span.start (span.start + c.size.result)) (λ (t : ℕ × ℕ). (t.0, slice_index numbers t.1)) in
-    let size : length new ≡ c.size.result = ap length c.renumber_terms.ensures ∙ each ∙ sym (part_size all span.start c.size.result (omega (arith, end, c.requires, ap length whole))) in
-    let behind : post_of span.start (span.start + c.size.result - span.start) all ≡ drop (span.start + length (row_terms (moved_in numbers (row_at xs span)))) xs =
+    let size : length new ≡ c.size.result = ap length c.renumber_terms.ensures ∙ each
+    ∙ sym (part_size all span.start c.size.result (omega (arith, end, c.requires, ap length whole))) in
+    let behind : post_of span.start (span.start + c.size.result - span.start) all
+    ≡ drop (span.start + length (row_terms (moved_in numbers (row_at xs span)))) xs =
     Post-is span.start (span.start + c.size.result) all (omega arith) ∙ ap₂ (λ k ys. drop k ys) (omega (arith, size, ap length is)) whole in
-    let long = same_len_mid span.start (span.start + c.size.result - span.start) all new (ap length c.renumber_terms.ensures ∙ each) ∙ c.deref_mut.ensures.len in
+    let long = same_len_mid span.start (span.start + c.size.result - span.start) all new (ap length c.renumber_terms.ensures ∙ each)
+    ∙ c.deref_mut.ensures.len in
     with_items_is c.args.terms.now _ long
     ∙ ap₂ (λ ys zs. take span.start ys ++ zs) whole (ap₂ (λ ys zs. ys ++ zs) is behind)

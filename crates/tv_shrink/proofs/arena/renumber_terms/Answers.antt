@@ -7,4 +7,5 @@ pub loop-term-preserved : goal.loop-term-preserved
 loop-term-preserved c =
     let term : ℕ × ℕ = get_or c.loop-term.terms c.loop-term.term-index c.term-item.result in
     ap (λ w. set c.loop-term.terms c.loop-term.term-index (term.0, w)) c.number_of.ensures
-    ∙ touched_more (λ (t : ℕ × ℕ). (t.0, slice_index c.args.numbers.now t.1)) c.args.terms.now c.loop-term.terms c.loop-term.term-index term c.term-item.result (omega arith) c.loop-term.invariant refl
+    ∙ touched_more (λ (t : ℕ × ℕ). (t.0, slice_index c.args.numbers.now t.1)) c.args.terms.now c.loop-term.terms c.loop-term.term-index term c.term-item.result
+    (omega arith) c.loop-term.invariant refl

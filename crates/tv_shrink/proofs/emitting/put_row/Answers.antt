@@ -26,4 +26,5 @@ put-requires-clause-c_made g c =
     subst (λ x. top x ≤ n) (sym (c.refill-3.ensures ∙ ap (λ row. row.c) c.row.view_is)) (top_within n c.in-Some.row.c within.c)
 
 pub returns-in_default-clause-puts : goal.returns-in_default-clause-puts
-returns-in_default-clause-puts g c = subst (λ row. PutsAll g.S.Sink.meaning c.args.s.now c.args.s.now (row_circuit row) tt) (sym c.in_default.is) (puts_nothing g.S.Sink.meaning c.args.s.now tt)
+returns-in_default-clause-puts g c = subst (λ row. PutsAll g.S.Sink.meaning c.args.s.now c.args.s.now (row_circuit row) tt) (sym c.in_default.is)
+    (puts_nothing g.S.Sink.meaning c.args.s.now tt)

@@ -36,4 +36,5 @@ returns-in_err-put_row-clause-puts g c =
     let is = c.get.ensures in
     let one = subst (λ row. PutsSome m c.loop-at.s c.put_row.new.s (row_circuit row) c.in_err-put_row.field-0.0) is c.in_err-put_row.ensures.puts in
     refused m c.args.s.now c.put_row.new.s (rows_circuit c.args.rows.now (length c.args.rows.now)) c.from_residual.result c.from_residual.ensures.1
-    (turn_refused m (length c.args.rows.now) c.loop-at.at piece tt tt c.args.s.now c.loop-at.s c.put_row.new.s c.in_err-put_row.field-0.0 (omega (arith, c.loop-at-test.true)) c.loop-at.invariant.puts one)
+    (turn_refused m (length c.args.rows.now) c.loop-at.at piece tt tt c.args.s.now c.loop-at.s c.put_row.new.s c.in_err-put_row.field-0.0
+    (omega (arith, c.loop-at-test.true)) c.loop-at.invariant.puts one)

@@ -3,7 +3,7 @@ use Rattle.std.proofs.lemmas.Result.{on_ok_weaker}
 use Rattle.tv_core.specs.Combinations.{scaled}
 use Rattle.tv_core.specs.declared.field.TheConstants.{P}
 use Rattle.tv_shrink.specs.Merging.{first_wire, head_at, leaving_out, unless_left}
-use Rattle.tv_shrink.specs.Normal.{normal, IsNormalFrom}
+use Rattle.tv_core.specs.Normal.{normal, IsNormalFrom}
 use Rattle.tv_shrink.proofs.Merging.{either_left, empty_from, given, merge-turn, normal-rest}
 use Rattle.tv_shrink.proofs.merge.merge.Goals as goal
 use Rattle.tv_shrink.proofs.merge.merge.Goals.{then-loop-left-test+else-not-is_empty, else-loop-left-test}
@@ -14,16 +14,27 @@ loop-left-preserved c =
     let wire = c.take_least-coefficient.result.1 in
     let h : c.take_least-coefficient.result.1 ≤ first_wire c.loop-left.left.terms.now = omega (arith, c.take_least-coefficient.ensures.wire) in
     let g : c.take_least-coefficient.result.1 ≤ first_wire c.loop-left.right.terms.now = omega (arith, c.take_least-coefficient.ensures.wire) in
-    let is : c.take_least-coefficient.result.0 ≡ (given c.loop-left.left.factor c.loop-left.left.leaving wire c.loop-left.left.terms.now + given c.loop-left.right.factor None wire c.loop-left.right.terms.now) % P =
+    let is : c.take_least-coefficient.result.0
+    ≡ (given c.loop-left.left.factor c.loop-left.left.leaving wire c.loop-left.left.terms.now + given c.loop-left.right.factor None wire
+    c.loop-left.right.terms.now) % P =
     c.take_least-coefficient.ensures.coefficient
-    ∙ ap (λ l. (given c.loop-left.left.factor c.loop-left.left.leaving wire c.loop-left.left.terms.now + unless_left l wire (c.loop-left.right.factor * head_at wire c.loop-left.right.terms.now % P)) % P) c.loop-left.invariant.all in
+    ∙ ap (λ l. (given c.loop-left.left.factor c.loop-left.left.leaving wire c.loop-left.left.terms.now + unless_left l wire
+    (c.loop-left.right.factor * head_at wire c.loop-left.right.terms.now % P)) % P) c.loop-left.invariant.all in
     record {
       left = subst (IsNormalFrom 0) (sym c.take_least-coefficient.ensures.left) (normal-rest wire c.loop-left.left.terms.now c.loop-left.invariant.left h);
       right = subst (IsNormalFrom 0) (sym c.take_least-coefficient.ensures.right) (normal-rest wire c.loop-left.right.terms.now c.loop-left.invariant.right g);
       all = c.take_least-coefficient.ensures.right_leaving ∙ c.loop-left.invariant.all;
       whole =
-          simp (c.in_ok-push_term.ensures.term, c.take_least-coefficient.ensures.left_factor, c.take_least-coefficient.ensures.left_leaving, c.take_least-coefficient.ensures.left, c.take_least-coefficient.ensures.right_factor, c.take_least-coefficient.ensures.right)
-          (merge-turn c.loop-left.out.items _ c.loop-left.left.factor c.loop-left.right.factor wire c.take_least-coefficient.result.0 c.loop-left.left.leaving c.loop-left.left.terms.now c.loop-left.right.terms.now
+          simp (
+            c.in_ok-push_term.ensures.term,
+            c.take_least-coefficient.ensures.left_factor,
+            c.take_least-coefficient.ensures.left_leaving,
+            c.take_least-coefficient.ensures.left,
+            c.take_least-coefficient.ensures.right_factor,
+            c.take_least-coefficient.ensures.right,
+          )
+          (merge-turn c.loop-left.out.items _ c.loop-left.left.factor c.loop-left.right.factor wire c.take_least-coefficient.result.0 c.loop-left.left.leaving
+          c.loop-left.left.terms.now c.loop-left.right.terms.now
           c.loop-left.invariant.left c.loop-left.invariant.right h g is c.loop-left.invariant.whole);
     }
 
@@ -34,7 +45,10 @@ returns c =
       | then-loop-left-test+else-not-is_empty w ↦ inr (empty_from c.loop-left.right.terms.now (sym w.is_empty-in-loop-left.ensures ∙ w.if-not-is_empty.false))
       | else-loop-left-test w ↦ inl (empty_from c.loop-left.left.terms.now (sym c.is_empty.ensures ∙ w.loop-left-test.false))
     ] in
-    on_ok_weaker c.append-2.result (λ appended. either_left c.loop-left.out.items c.append.new.out.items c.append-2.new.out.items _ c.loop-left.left.factor c.loop-left.right.factor c.loop-left.left.leaving c.loop-left.left.terms.now c.loop-left.right.terms.now used
+    on_ok_weaker c.append-2.result
+    (λ appended. either_left c.loop-left.out.items c.append.new.out.items c.append-2.new.out.items _ c.loop-left.left.factor c.loop-left.right.factor
+    c.loop-left.left.leaving c.loop-left.left.terms.now c.loop-left.right.terms.now used
     c.in_ok-append.ensures
-    (appended ∙ ap (λ l. c.append.new.out.items ++ normal (scaled c.loop-left.right.factor (leaving_out l c.loop-left.right.terms.now))) c.loop-left.invariant.all)
+    (appended ∙ ap (λ l. c.append.new.out.items
+    ++ normal (scaled c.loop-left.right.factor (leaving_out l c.loop-left.right.terms.now))) c.loop-left.invariant.all)
     c.loop-left.invariant.whole) c.append-2.ensures

@@ -1,7 +1,7 @@
 use Rattle.std.proofs.Common.{◌≡◌, ◌+◌, ◌++◌, length, None}
 use Rattle.tv_core.specs.Combinations.{scaled}
 use Rattle.tv_shrink.specs.Merging.{leaving_out}
-use Rattle.tv_shrink.specs.Normal.{normal, IsNormalFrom}
+use Rattle.tv_core.specs.Normal.{normal, IsNormalFrom}
 use Rattle.tv_shrink.proofs.merge.merge.Given as goal
 
 abbrev pub invariant-loop-left : goal.invariant-loop-left
@@ -10,7 +10,8 @@ invariant-loop-left l = record {
   right : IsNormalFrom 0 l.right.terms.now;
   all : l.right.leaving ≡ None;
   whole : l.out.items ++ normal (scaled l.left.factor (leaving_out l.left.leaving l.left.terms.now) ++ scaled l.right.factor l.right.terms.now)
-      ≡ l.initial.out.items ++ normal (scaled l.initial.left.factor (leaving_out l.initial.left.leaving l.initial.left.terms.now) ++ scaled l.initial.right.factor l.initial.right.terms.now);
+      ≡ l.initial.out.items ++ normal (scaled l.initial.left.factor (leaving_out l.initial.left.leaving l.initial.left.terms.now)
+      ++ scaled l.initial.right.factor l.initial.right.terms.now);
 }
 
 abbrev pub decreases-loop-left : goal.decreases-loop-left

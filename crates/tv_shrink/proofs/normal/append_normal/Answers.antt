@@ -1,8 +1,8 @@
 use Rattle.std.proofs.Common.{◌≡◌, ◌∙◌, ◌++◌, ap, rules, sym}
 use Rattle.std.proofs.lemmas.Result.{on_ok_weaker}
 use Rattle.tv_r1cs_read.specs.Rows.{combination_of}
-use Rattle.tv_shrink.specs.Normal.{normal}
-use Rattle.tv_shrink.proofs.Unique.{normal-same}
+use Rattle.tv_core.specs.Normal.{normal}
+use Rattle.tv_core.proofs.Unique.{normal-same}
 use Rattle.tv_shrink.proofs.normal.append_normal.Goals as goal
 
 pub returns-then-branch-clause-out : goal.returns-then-branch-clause-out

@@ -1,9 +1,10 @@
 use Rattle.std.proofs.Common.{◌≡◌, ◌∙◌, ◌++◌, ◌+◌, ◌<◌, ℕ, [], append-nil, append_assoc, ap, ap₂, arith, drop, get_or, length, sym}
-use Rattle.tv_shrink.specs.Normal.{normal, with_term}
+use Rattle.tv_core.specs.Normal.{normal, with_term}
 use Rattle.tv_shrink.proofs.Passes.{same_default}
 use Rattle.tv_shrink.proofs.Sorting.{no_sum, sum_ends, sum_goes_on, sum_past, with_sum}
 use Rattle.tv_shrink.proofs.normal.append_sums.Goals as goal
-use Rattle.tv_shrink.proofs.normal.append_sums.Goals.{then-at-terms+in_ok-push_term, then-at-terms-via-then-at-terms, then-at-terms-via-else-at-terms+then-ne, else-at-terms+else-ne}
+use Rattle.tv_shrink.proofs.normal.append_sums.Goals.{then-at-terms+in_ok-push_term, then-at-terms-via-then-at-terms, then-at-terms-via-else-at-terms+then-ne}
+use Rattle.tv_shrink.proofs.normal.append_sums.Goals.{else-at-terms+else-ne}
 
 pub loop-at-init : goal.loop-at-init
 loop-at-init c = record { so_far = ap (λ x. c.args.out.now.items ++ x) (no_sum c.args.terms.now); longer = omega arith }
@@ -15,7 +16,8 @@ loop-at-preserved c =
     let h = c.loop-at-test.true in
     let t : ℕ × ℕ = get_or terms i c.index-terms-at.result in
     let at : t ≡ get_or terms i t = same_default terms i c.index-terms-at.result t h in
-    let wire : (get_or terms i c.index-terms-at-in-loop-at.result).1 ≡ t.1 = ap (λ u. u.1) (same_default terms i c.index-terms-at-in-loop-at.result c.index-terms-at.result h) in
+    let wire : (get_or terms i c.index-terms-at-in-loop-at.result).1
+    ≡ t.1 = ap (λ u. u.1) (same_default terms i c.index-terms-at-in-loop-at.result c.index-terms-at.result h) in
     elim c.if-at-terms.branch [
       | then-at-terms+in_ok-push_term w ↦
           let done = sum_ends terms i c.loop-at.sum t h at c.requires (λ d inside e. elim w.then-at-terms.branch [
@@ -26,8 +28,10 @@ loop-at-preserved c =
           ]) in
           record {
             so_far = ap₂ (λ xs s. xs ++ normal (with_sum s (drop (i + 1) terms))) (ap (λ v. v.items) w.out-is ∙ w.in_ok-push_term.ensures.term) w.sum-is
-                ∙ append_assoc c.loop-at.out.items (with_term c.add-sum.result (get_or terms i c.index-terms-at-in-loop-at.result).1 []) (normal (with_sum 0 (drop (i + 1) terms)))
-                ∙ ap (λ x. c.loop-at.out.items ++ x) (ap₂ (λ k v. with_term k v [] ++ normal (with_sum 0 (drop (i + 1) terms))) c.add-sum.ensures wire ∙ sym done)
+                ∙ append_assoc c.loop-at.out.items (with_term c.add-sum.result (get_or terms i c.index-terms-at-in-loop-at.result).1 [])
+                (normal (with_sum 0 (drop (i + 1) terms)))
+                ∙ ap (λ x. c.loop-at.out.items ++ x) (ap₂ (λ k v. with_term k v [] ++ normal (with_sum 0 (drop (i + 1) terms))) c.add-sum.ensures wire
+                ∙ sym done)
                 ∙ c.loop-at.invariant.so_far;
             longer = omega (arith, c.loop-at.invariant.longer, w.push_term.ensures.longer, ap (λ v. length v.items) w.out-is);
           }
@@ -46,4 +50,5 @@ loop-at-preserved c =
 
 pub returns-clause-out : goal.returns-clause-out
 returns-clause-out c =
-    sym (append-nil c.loop-at.out.items) ∙ ap (λ x. c.loop-at.out.items ++ x) (sym (sum_past c.loop-at.sum c.loop-at.at c.args.terms.now c.loop-at-test.false)) ∙ c.loop-at.invariant.so_far
+    sym (append-nil c.loop-at.out.items) ∙ ap (λ x. c.loop-at.out.items ++ x) (sym (sum_past c.loop-at.sum c.loop-at.at c.args.terms.now c.loop-at-test.false))
+    ∙ c.loop-at.invariant.so_far

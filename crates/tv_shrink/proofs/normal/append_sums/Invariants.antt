@@ -1,5 +1,5 @@
 use Rattle.std.proofs.Common.{◌≡◌, ◌≤◌, ◌++◌, drop, length}
-use Rattle.tv_shrink.specs.Normal.{normal}
+use Rattle.tv_core.specs.Normal.{normal}
 use Rattle.tv_shrink.proofs.Sorting.{with_sum}
 use Rattle.tv_shrink.proofs.normal.append_sums.Given as goal
 

@@ -1,6 +1,6 @@
 use Rattle.std.proofs.Common.{◌≡◌, ◌≤◌, ◌++◌, drop, length, take}
 use Rattle.tv_r1cs_read.specs.Rows.{combination_of}
-use Rattle.tv_shrink.specs.Normal.{IsNormalFrom}
+use Rattle.tv_core.specs.Normal.{IsNormalFrom}
 use Rattle.tv_shrink.proofs.normal.append_while_normal.Given as goal
 
 abbrev pub invariant-loop-wire : goal.invariant-loop-wire

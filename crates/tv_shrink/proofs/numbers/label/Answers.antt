@@ -12,7 +12,8 @@ loop-wire-init c = record {
 
 pub loop-wire-preserved : goal.loop-wire-preserved
 loop-wire-preserved c = record {
-  labels = c.in_ok-push.ensures.items ∙ kept_one c.loop-wire.wire c.args.gone.now c.loop-wire.first.labels.items c.loop-wire.invariant.labels (get_or_past c.args.gone.now c.loop-wire.wire _ (omega (arith, c.loop-wire.auto.wire)));
+  labels = c.in_ok-push.ensures.items ∙ kept_one c.loop-wire.wire c.args.gone.now c.loop-wire.first.labels.items c.loop-wire.invariant.labels
+      (get_or_past c.args.gone.now c.loop-wire.wire _ (omega (arith, c.loop-wire.auto.wire)));
   numbers = c.loop-wire.invariant.numbers;
 }
 

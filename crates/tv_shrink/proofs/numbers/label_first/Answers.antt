@@ -12,16 +12,24 @@ loop-wire-preserved c =
     let k : c.len.result ≡ length (kept_below c.loop-wire.wire c.args.gone.now) = omega (arith, ap length c.loop-wire.invariant.labels) in
     elim c.if-not-gone-wire.branch [
       | then-not-gone-wire+in_ok-push-2 w ↦ record {
-        labels = ap (λ v. v.items) w.labels-is ∙ w.in_ok-push-2.ensures.items ∙ kept_one c.loop-wire.wire c.args.gone.now c.loop-wire.labels.items c.loop-wire.invariant.labels w.if-not-gone-wire.true;
+        labels = ap (λ v. v.items) w.labels-is ∙ w.in_ok-push-2.ensures.items
+            ∙ kept_one c.loop-wire.wire c.args.gone.now c.loop-wire.labels.items c.loop-wire.invariant.labels w.if-not-gone-wire.true;
         len = len;
         numbers = λ v h. ap (λ xs. get_or xs v 0) c.in_ok-push.ensures.items
-            ∙ places_more (λ u. length (kept_below u c.args.gone.now)) c.loop-wire.numbers.items c.loop-wire.wire v c.len.result c.loop-wire.invariant.len c.loop-wire.invariant.numbers k h;
+            ∙ places_more
+            (λ u. length
+            (kept_below u c.args.gone.now)) c.loop-wire.numbers.items c.loop-wire.wire v c.len.result c.loop-wire.invariant.len c.loop-wire.invariant.numbers
+            k h;
       }
       | else-not-gone-wire w ↦ record {
-        labels = ap (λ v. v.items) w.labels-is ∙ kept_none c.loop-wire.wire c.args.gone.now c.loop-wire.labels.items c.loop-wire.invariant.labels w.if-not-gone-wire.false;
+        labels = ap (λ v. v.items) w.labels-is
+            ∙ kept_none c.loop-wire.wire c.args.gone.now c.loop-wire.labels.items c.loop-wire.invariant.labels w.if-not-gone-wire.false;
         len = len;
         numbers = λ v h. ap (λ xs. get_or xs v 0) c.in_ok-push.ensures.items
-            ∙ places_more (λ u. length (kept_below u c.args.gone.now)) c.loop-wire.numbers.items c.loop-wire.wire v c.len.result c.loop-wire.invariant.len c.loop-wire.invariant.numbers k h;
+            ∙ places_more
+            (λ u. length
+            (kept_below u c.args.gone.now)) c.loop-wire.numbers.items c.loop-wire.wire v c.len.result c.loop-wire.invariant.len c.loop-wire.invariant.numbers
+            k h;
       }
     ]
 

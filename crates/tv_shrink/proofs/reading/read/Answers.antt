@@ -8,9 +8,10 @@ use Rattle.tv_r1cs_read.specs.Places.{system_with}
 use Rattle.tv_r1cs_read.specs.R1cs.{system_of}
 use Rattle.tv_r1cs_read.specs.Rows.{constraint_of, IsOver}
 use Rattle.tv_shrink.specs.Answers.{counted_system, wide_in, HaltsBy}
-use Rattle.tv_shrink.specs.Normal.{normal_constraint}
-use Rattle.tv_shrink.specs.Tidy.{AreNormal, AreWithin, RowIsWithin}
-use Rattle.tv_shrink.proofs.Read.{few_terms, halted, narrow_within, no_wide, pushed_normal, rows-push, start_more, tells_read, wide_halted, wide_more, wide_read}
+use Rattle.tv_core.specs.Normal.{normal_constraint}
+use Rattle.tv_shrink.specs.Tidy.{RowsAreNormal, AreWithin, RowIsWithin}
+use Rattle.tv_shrink.proofs.Read.{few_terms, halted, narrow_within, no_wide, pushed_normal, rows-push, start_more, tells_read, wide_halted, wide_more}
+use Rattle.tv_shrink.proofs.Read.{wide_read}
 use Rattle.tv_shrink.proofs.reading.read.Goals as goal
 
 pub loop-scratch-init : goal.loop-scratch-init
@@ -22,7 +23,7 @@ loop-scratch-init g c = record {
   header = search rules;
   counted = omega (arith, ap length c.new-rows.ensures);
   within = subst (AreWithin c.in-Ok.reader.progress.header.wires) (sym c.new-rows.ensures) tt;
-  normal = subst AreNormal (sym c.new-rows.ensures) tt;
+  normal = subst RowsAreNormal (sym c.new-rows.ensures) tt;
   place = λ file begun start. ([], start, c.new-rows.ensures, no_wide);
 }
 
@@ -30,16 +31,20 @@ pub returns-in_err-next_into-clause-gives : goal.returns-in_err-next_into-clause
 returns-in_err-next_into-clause-gives g c = λ file told.
     let begun = rw (← c.in-Ok.ensures.ok_looks, ← c.in-Ok.ensures.name) at told in
     let before = c.loop-scratch.invariant.place file begun (c.in-Ok.ensures.gives file told) in
-    let refuses = MatchOption-at_some _ _ _ c.in_err-next_into.ensures.tells (c.in_err-next_into.ensures.steps.gives before.0 file (rw (← c.loop-scratch.invariant.outside, ← c.loop-scratch.invariant.name) at begun) before.1) in
+    let refuses = MatchOption-at_some _ _ _ c.in_err-next_into.ensures.tells
+    (c.in_err-next_into.ensures.steps.gives before.0 file (rw (← c.loop-scratch.invariant.outside, ← c.loop-scratch.invariant.name) at begun) before.1) in
     let p = err_from_is_err_and c.from_residual.result c.from_residual.ensures.1 in
     rw (p.1, p.2) (tells_read c.in_err-next_into.field-0.0 file refuses)
 
 pub returns-in_err-next_into-clause-looks : goal.returns-in_err-next_into-clause-looks
 returns-in_err-next_into-clause-looks g c =
     let p = err_from_is_err_and c.from_residual.result c.from_residual.ensures.1 in
-    let stopped = rw (c.loop-scratch.invariant.outside, c.in-Ok.ensures.ok_looks, c.loop-scratch.invariant.name, c.in-Ok.ensures.name) at (MatchOption-at_some _ _ _ c.in_err-next_into.ensures.tells (c.in_err-next_into.ensures.steps.looks c.loop-scratch.invariant.on)) in
-    let halts : (new : Outside) → new ≡ g.D.Files.seen c.next_into.new.self.files.now → HaltsBy (g.D.Files.seen c.args.files.now) new c.args.name.now c.from_residual.result =
-    λ new is. rw (p.1, p.2, is) (halted (g.D.Files.seen c.args.files.now) (g.D.Files.seen c.next_into.new.self.files.now) c.args.name.now c.in_err-next_into.field-0.0 stopped) in
+    let stopped = rw (c.loop-scratch.invariant.outside, c.in-Ok.ensures.ok_looks, c.loop-scratch.invariant.name, c.in-Ok.ensures.name) at
+    (MatchOption-at_some _ _ _ c.in_err-next_into.ensures.tells (c.in_err-next_into.ensures.steps.looks c.loop-scratch.invariant.on)) in
+    let halts : (new : Outside) → new ≡ g.D.Files.seen c.next_into.new.self.files.now
+    → HaltsBy (g.D.Files.seen c.args.files.now) new c.args.name.now c.from_residual.result =
+    λ new is. rw (p.1, p.2, is) (halted (g.D.Files.seen c.args.files.now)
+    (g.D.Files.seen c.next_into.new.self.files.now) c.args.name.now c.in_err-next_into.field-0.0 stopped) in
     halts _ (search rules)
 
 pub loop-scratch-preserved : goal.loop-scratch-preserved
@@ -48,20 +53,30 @@ loop-scratch-preserved g c =
     let one = constraint_of c.next_into.new.row in
     record {
       same = search rules;
-      outside = MatchOption-at_none _ _ c.in_ok-next_into.ensures.tells (c.in_ok-next_into.ensures.steps.looks c.loop-scratch.invariant.on) ∙ c.loop-scratch.invariant.outside;
+      outside = MatchOption-at_none _ _ c.in_ok-next_into.ensures.tells (c.in_ok-next_into.ensures.steps.looks c.loop-scratch.invariant.on)
+          ∙ c.loop-scratch.invariant.outside;
       name = search rules;
       on = c.in_ok-next_into.ensures.tells;
       header = c.in_ok-next_into.ensures.steps.header ∙ c.loop-scratch.invariant.header;
-      counted = omega (arith, counts.1, c.loop-scratch.invariant.counted, ap length c.in_ok-add.ensures.rows, length_push c.loop-scratch.rows (Some (normal_constraint one)));
+      counted = omega (
+        arith,
+        counts.1,
+        c.loop-scratch.invariant.counted,
+        ap length c.in_ok-add.ensures.rows,
+        length_push c.loop-scratch.rows (Some (normal_constraint one)),
+      );
       within =
           let wires = c.in-Ok.reader.progress.header.wires in
           let over : IsOver wires c.next_into.new.row = subst (λ header. IsOver header.wires c.next_into.new.row) c.loop-scratch.invariant.header counts.2 in
-          subst (AreWithin wires) (sym c.in_ok-add.ensures.rows) (rows-push (RowIsWithin wires) c.loop-scratch.rows (Some (normal_constraint one)) c.loop-scratch.invariant.within (narrow_within wires c.next_into.new.row over c.in_ok-add.ensures.narrow));
+          subst (AreWithin wires) (sym c.in_ok-add.ensures.rows)
+          (rows-push (RowIsWithin wires) c.loop-scratch.rows (Some (normal_constraint one)) c.loop-scratch.invariant.within
+          (narrow_within wires c.next_into.new.row over c.in_ok-add.ensures.narrow));
       normal = pushed_normal c.loop-scratch.rows c.add.new.self one c.in_ok-add.ensures.rows c.loop-scratch.invariant.normal;
       place = λ file begun start.
           let before = c.loop-scratch.invariant.place file begun start in
           let told = rw (← c.loop-scratch.invariant.outside, ← c.loop-scratch.invariant.name) at begun in
-          let at = rw c.if-branch.true at (MatchOption-at_none _ _ c.in_ok-next_into.ensures.tells (c.in_ok-next_into.ensures.steps.gives before.0 file told before.1)) in (
+          let at = rw c.if-branch.true at (MatchOption-at_none _ _ c.in_ok-next_into.ensures.tells
+          (c.in_ok-next_into.ensures.steps.gives before.0 file told before.1)) in (
             before.0 ++ one ∷ [],
             at,
             c.in_ok-add.ensures.rows ∙ ap (λ rows. rows ++ Some (normal_constraint one) ∷ []) before.2 ∙ sym (start_more before.0 one),
@@ -73,20 +88,30 @@ pub returns-in_err-add-clause-gives : goal.returns-in_err-add-clause-gives
 returns-in_err-add-clause-gives g c = λ file told.
     let begun = rw (← c.in-Ok.ensures.ok_looks, ← c.in-Ok.ensures.name) at told in
     let before = c.loop-scratch.invariant.place file begun (c.in-Ok.ensures.gives file told) in
-    let at = rw c.if-branch.true at (MatchOption-at_none _ _ c.in_ok-next_into.ensures.tells (c.in_ok-next_into.ensures.steps.gives before.0 file (rw (← c.loop-scratch.invariant.outside, ← c.loop-scratch.invariant.name) at begun) before.1)) in
+    let at = rw c.if-branch.true at (MatchOption-at_none _ _ c.in_ok-next_into.ensures.tells
+    (c.in_ok-next_into.ensures.steps.gives before.0 file (rw (← c.loop-scratch.invariant.outside, ← c.loop-scratch.invariant.name) at begun) before.1)) in
     let p = err_from_is_err_and c.from_residual-in_err-add.result c.from_residual-in_err-add.ensures.1 in
-    rw (p.1, p.2) (wide_read c.in_err-add.field-0.0 c.next_into.new.self.progress file before.0 (constraint_of c.next_into.new.row) (c.requires.small file told) before.3 at c.in_err-add.ensures.err)
+    rw (p.1, p.2) (wide_read c.in_err-add.field-0.0 c.next_into.new.self.progress file before.0 (constraint_of c.next_into.new.row)
+    (c.requires.small file told) before.3 at c.in_err-add.ensures.err)
 
 pub returns-in_err-add-clause-looks : goal.returns-in_err-add-clause-looks
 returns-in_err-add-clause-looks g c =
     let p = err_from_is_err_and c.from_residual-in_err-add.result c.from_residual-in_err-add.ensures.1 in
-    let halts : (new : Outside) → new ≡ g.D.Files.seen c.args.files.now → HaltsBy (g.D.Files.seen c.args.files.now) new c.args.name.now c.from_residual-in_err-add.result =
-    λ new is. rw (p.1, p.2, is) (wide_halted (g.D.Files.seen c.args.files.now) c.args.name.now c.in_err-add.field-0.0 (wide_in (constraint_of c.next_into.new.row)) c.in_err-add.ensures.err) in
+    let halts : (new : Outside) → new ≡ g.D.Files.seen c.args.files.now
+    → HaltsBy (g.D.Files.seen c.args.files.now) new c.args.name.now c.from_residual-in_err-add.result =
+    λ new is. rw (p.1, p.2, is) (wide_halted (g.D.Files.seen c.args.files.now) c.args.name.now c.in_err-add.field-0.0
+    (wide_in (constraint_of c.next_into.new.row)) c.in_err-add.ensures.err) in
     halts _ (search rules)
 
 pub returns-clause-ready : goal.returns-clause-ready
 returns-clause-ready g c = record {
-  room = omega (arith, c.in-Ok.ensures.begun.room, ap (λ (counts : Counts). counts.wires) c.counts-counts.ensures, ap (λ (counts : Counts). counts.outputs) c.counts-counts.ensures, ap (λ (counts : Counts). counts.inputs) c.counts-counts.ensures);
+  room = omega (
+    arith,
+    c.in-Ok.ensures.begun.room,
+    ap (λ (counts : Counts). counts.wires) c.counts-counts.ensures,
+    ap (λ (counts : Counts). counts.outputs) c.counts-counts.ensures,
+    ap (λ (counts : Counts). counts.inputs) c.counts-counts.ensures,
+  );
   within = subst (λ n. AreWithin n c.loop-scratch.rows) (sym (ap (λ (counts : Counts). counts.wires) c.counts-counts.ensures)) c.loop-scratch.invariant.within;
   normal = c.loop-scratch.invariant.normal;
   few = omega (arith, c.loop-scratch.invariant.counted, c.in-Ok.ensures.begun.left, ap (λ (counts : Counts). counts.constraints) c.counts-counts.ensures);
@@ -97,7 +122,15 @@ pub returns-clause-gives : goal.returns-clause-gives
 returns-clause-gives g c = λ file told.
     let begun = rw (← c.in-Ok.ensures.ok_looks, ← c.in-Ok.ensures.name) at told in
     let before = c.loop-scratch.invariant.place file begun (c.in-Ok.ensures.gives file told) in
-    let all = rw c.if-branch.false at (MatchOption-at_none _ _ c.in_ok-next_into.ensures.tells (c.in_ok-next_into.ensures.steps.gives before.0 file (rw (← c.loop-scratch.invariant.outside, ← c.loop-scratch.invariant.name) at begun) before.1)) in
+    let all = rw c.if-branch.false at (MatchOption-at_none _ _ c.in_ok-next_into.ensures.tells
+    (c.in_ok-next_into.ensures.steps.gives before.0 file (rw (← c.loop-scratch.invariant.outside, ← c.loop-scratch.invariant.name) at begun) before.1)) in
     let is : system_of file ≡ Ok (counted_system c.counts-counts.result before.0) =
-    all.system ∙ ap (λ system. Ok system) (ap (λ header. system_with header before.0) (c.in_ok-next_into.ensures.steps.header ∙ c.loop-scratch.invariant.header) ∙ sym (ap (λ counts. counted_system counts before.0) c.counts-counts.ensures)) in
-    record { list = before.0; is = is; same = before.2; few = few_terms file (counted_system c.counts-counts.result before.0) (c.requires.small file told) is; narrow = before.3 }
+    all.system ∙ ap (λ system. Ok system) (ap (λ header. system_with header before.0) (c.in_ok-next_into.ensures.steps.header ∙ c.loop-scratch.invariant.header)
+    ∙ sym (ap (λ counts. counted_system counts before.0) c.counts-counts.ensures)) in
+    record {
+      list = before.0;
+      is = is;
+      same = before.2;
+      few = few_terms file (counted_system c.counts-counts.result before.0) (c.requires.small file told) is;
+      narrow = before.3;
+    }

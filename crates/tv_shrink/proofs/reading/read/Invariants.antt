@@ -3,7 +3,7 @@ use Rattle.tv_core.specs.Constraints.{Constraint}
 use Rattle.tv_container.specs.Reading.{Known}
 use Rattle.tv_r1cs_read.specs.Places.{IsAt}
 use Rattle.tv_shrink.specs.Answers.{first_wide, start_rows}
-use Rattle.tv_shrink.specs.Tidy.{AreNormal, AreWithin}
+use Rattle.tv_shrink.specs.Tidy.{RowsAreNormal, AreWithin}
 use Rattle.tv_shrink.proofs.reading.read.Given as goal
 
 abbrev pub invariant-loop-scratch : goal.invariant-loop-scratch
@@ -15,7 +15,7 @@ invariant-loop-scratch g l = record {
   header : l.reader.progress.header ≡ l.initial.reader.progress.header;
   counted : length l.rows + l.reader.progress.left ≡ l.initial.reader.progress.left;
   within : AreWithin l.initial.reader.progress.header.wires l.rows;
-  normal : AreNormal l.rows;
+  normal : RowsAreNormal l.rows;
   place : Known (g.D.Files.seen l.initial.reader.files.now) l.initial.reader.name.now (λ file. IsAt l.initial.reader.progress file [] →
       (done : List Constraint) × IsAt l.reader.progress file done × (l.rows ≡ start_rows done) × (first_wide done ≡ None));
 }

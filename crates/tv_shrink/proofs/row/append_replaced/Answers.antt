@@ -1,8 +1,8 @@
 use Rattle.std.proofs.Common.{◌≡◌, ◌++◌, Result, Ok, Err, OnOk, cond, is_ok, sym, ◌∙◌, ap, ap₂}
 use Rattle.std.proofs.lemmas.Result.{on_ok_weaker}
 use Rattle.tv_core.specs.Combinations.{scaled}
-use Rattle.tv_shrink.specs.Normal.{normal}
-use Rattle.tv_shrink.specs.Replacing.{coefficient, has_wire, without}
+use Rattle.tv_core.specs.Normal.{coefficient, normal}
+use Rattle.tv_shrink.specs.Replacing.{has_wire, without}
 use Rattle.tv_shrink.proofs.Linear.{lacks_by, replaced-made, replaced-lacking}
 use Rattle.tv_shrink.proofs.row.append_replaced.Goals as goal
 
@@ -14,7 +14,8 @@ pub returns-in_default : goal.returns-in_default
 returns-in_default c =
     on_ok_weaker c.extend_from_slice.result (λ items. items
     ∙ ap (λ u. c.args.out.now.items ++ u)
-    (sym (replaced-lacking c.args.wire c.args.replacement.now c.args.terms.now (sym (lacks_by (has_wire c.args.wire c.args.terms.now) (coefficient c.args.wire c.args.terms.now) (sym c.in_default.is ∙ c.coefficient_of.ensures))))))
+    (sym (replaced-lacking c.args.wire c.args.replacement.now c.args.terms.now
+    (sym (lacks_by (has_wire c.args.wire c.args.terms.now) (coefficient c.args.wire c.args.terms.now) (sym c.in_default.is ∙ c.coefficient_of.ensures))))))
     (on_ok_if c.extend_from_slice.result _ _ _ c.extend_from_slice.ensures.items)
 
 pub returns : goal.returns

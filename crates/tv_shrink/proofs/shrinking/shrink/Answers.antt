@@ -5,7 +5,8 @@ use Rattle.tv_shrink.proofs.shrinking.shrink.Goals as goal
 
 pub read-requires : goal.read-requires
 read-requires g c = record {
-  small = λ file told. survey_small file c.in_ok-counts.counts (c.in_ok-counts.ensures.gives file (rw c.in_ok-counts.ensures.looks at told)) c.if-counts-gt-MOST_TERMS.false;
+  small = λ file told. survey_small file c.in_ok-counts.counts
+      (c.in_ok-counts.ensures.gives file (rw c.in_ok-counts.ensures.looks at told)) c.if-counts-gt-MOST_TERMS.false;
 }
 
 pub returns-in_err-counts-clause-gives : goal.returns-in_err-counts-clause-gives

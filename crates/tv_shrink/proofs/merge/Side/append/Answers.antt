@@ -1,6 +1,6 @@
 use Rattle.std.proofs.Common.{◌≤◌, ◌<◌, ◌^◌, arith, sym, ◌∙◌, subst}
 use Rattle.tv_shrink.specs.Merging.{first_wire}
-use Rattle.tv_shrink.specs.Normal.{IsNormalFrom}
+use Rattle.tv_core.specs.Normal.{IsNormalFrom}
 use Rattle.tv_shrink.proofs.Merging.{append-turn, empty_from, normal-rest, nothing_left}
 use Rattle.tv_shrink.proofs.merge.Side.append.Goals as goal
 
@@ -13,7 +13,8 @@ loop-self-preserved c =
       rising = subst (IsNormalFrom 0) (sym c.take.ensures.terms) (normal-rest c.first-wire.result c.loop-self.self.terms.now c.loop-self.invariant.rising h);
       whole =
           simp (c.in_ok-push_term.ensures.term, c.take.ensures.factor, c.take.ensures.leaving, c.take.ensures.terms)
-          (append-turn c.loop-self.out.items _ c.loop-self.self.factor c.first-wire.result c.take.result c.loop-self.self.leaving c.loop-self.self.terms.now c.loop-self.invariant.rising h small c.take.ensures.coefficient c.loop-self.invariant.whole);
+          (append-turn c.loop-self.out.items _ c.loop-self.self.factor c.first-wire.result c.take.result c.loop-self.self.leaving c.loop-self.self.terms.now
+          c.loop-self.invariant.rising h small c.take.ensures.coefficient c.loop-self.invariant.whole);
     }
 
 pub returns : goal.returns

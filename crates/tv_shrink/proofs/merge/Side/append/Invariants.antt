@@ -1,7 +1,7 @@
 use Rattle.std.proofs.Common.{◌≡◌, ◌++◌, length}
 use Rattle.tv_core.specs.Combinations.{scaled}
 use Rattle.tv_shrink.specs.Merging.{leaving_out}
-use Rattle.tv_shrink.specs.Normal.{normal, IsNormalFrom}
+use Rattle.tv_core.specs.Normal.{normal, IsNormalFrom}
 use Rattle.tv_shrink.proofs.merge.Side.append.Given as goal
 
 abbrev pub invariant-loop-self : goal.invariant-loop-self

@@ -8,23 +8,28 @@ use Rattle.tv_shrink.proofs.occurrences.Occurrences.misfit.Goals as goal
 
 pub loop-number-init : goal.loop-number-init
 loop-number-init c =
-    let head = head_inside c.self.inside.entries.items c.self.inside.heads.items c.args.self.now c.args.wire c.index-number.result.now c.self.invariant c.self.view_is c.requires.here (c.index-number.ensures ∙ ap (λ w. get_or c.self.inside.heads.items w c.index-number.result.now) c.wire.view_is) in
+    let head = head_inside c.self.inside.entries.items c.self.inside.heads.items c.args.self.now c.args.wire c.index-number.result.now c.self.invariant
+    c.self.view_is c.requires.here (c.index-number.ensures ∙ ap (λ w. get_or c.self.inside.heads.items w c.index-number.result.now) c.wire.view_is) in
     record { inside = head.0; seen = λ i e. inr e }
 
 pub loop-number-smaller : goal.loop-number-smaller
 loop-number-smaller c =
-    (rows_from-at c.self.inside.entries.items c.self.inside.heads.items c.loop-number.number c.index-entry.result.now (omega (arith, c.loop-number-test.true)) c.loop-number.invariant.inside c.self.invariant c.index-entry.ensures).1
+    (rows_from-at c.self.inside.entries.items c.self.inside.heads.items c.loop-number.number c.index-entry.result.now
+    (omega (arith, c.loop-number-test.true)) c.loop-number.invariant.inside c.self.invariant c.index-entry.ensures).1
 
 pub loop-number-preserved : goal.loop-number-preserved
 loop-number-preserved c =
-    let found = rows_from-at c.self.inside.entries.items c.self.inside.heads.items c.loop-number.number c.index-entry.result.now (omega (arith, c.loop-number-test.true)) c.loop-number.invariant.inside c.self.invariant c.index-entry.ensures in
-    let here : row_fits c.args.wire c.args.replacement.now (get_or (set c.args.rows.now c.args.but None) c.index-entry.result.now.row None) ≡ true = sym c.in_ok-other_fits.ensures ∙ c.if-not-branch.false in
+    let found = rows_from-at c.self.inside.entries.items c.self.inside.heads.items c.loop-number.number c.index-entry.result.now
+    (omega (arith, c.loop-number-test.true)) c.loop-number.invariant.inside c.self.invariant c.index-entry.ensures in
+    let here : row_fits c.args.wire c.args.replacement.now (get_or (set c.args.rows.now c.args.but None) c.index-entry.result.now.row None)
+    ≡ true = sym c.in_ok-other_fits.ensures ∙ c.if-not-branch.false in
     record {
       inside = omega (arith, found.1, c.loop-number.invariant.inside);
       seen = λ i e. elim (c.loop-number.invariant.seen i e) [
         | inl fits ↦ inl fits
         | inr later ↦ elim (or_cases _ _ (sym (ap (list_any (λ p. eqb p i)) found.0) ∙ later)) [
-          | inl same ↦ inl (subst (λ j. row_fits c.args.wire c.args.replacement.now (get_or (set c.args.rows.now c.args.but None) j None) ≡ true) (eqb-true c.index-entry.result.now.row i same) here)
+          | inl same ↦ inl (subst (λ j. row_fits c.args.wire c.args.replacement.now (get_or (set c.args.rows.now c.args.but None) j None) ≡ true)
+              (eqb-true c.index-entry.result.now.row i same) here)
           | inr rest ↦ inr rest
         ]
       ];
@@ -32,9 +37,12 @@ loop-number-preserved c =
 
 pub returns-clause-none : goal.returns-clause-none
 returns-clause-none c e i any =
-    let head = head_inside c.self.inside.entries.items c.self.inside.heads.items c.args.self.now c.args.wire c.index-number.result.now c.self.invariant c.self.view_is c.requires.here (c.index-number.ensures ∙ ap (λ w. get_or c.self.inside.heads.items w c.index-number.result.now) c.wire.view_is) in
+    let head = head_inside c.self.inside.entries.items c.self.inside.heads.items c.args.self.now c.args.wire c.index-number.result.now c.self.invariant
+    c.self.view_is c.requires.here (c.index-number.ensures ∙ ap (λ w. get_or c.self.inside.heads.items w c.index-number.result.now) c.wire.view_is) in
     let end : c.loop-number.number ≡ 0 = omega (arith, c.loop-number-test.false) in
     elim (c.loop-number.invariant.seen i (sym (ap (list_any (λ p. eqb p i)) head.1) ∙ any)) [
       | inl fits ↦ fits
-      | inr later ↦ absurd (let no : false ≡ true = sym (ap (list_any (λ p. eqb p i)) (ap (rows_from (reverse c.self.inside.entries.items)) end ∙ rows_from-none (reverse c.self.inside.entries.items))) ∙ later in cc)
+      | inr later ↦ absurd (let no : false ≡ true = sym
+          (ap (list_any (λ p. eqb p i)) (ap (rows_from (reverse c.self.inside.entries.items)) end ∙ rows_from-none (reverse c.self.inside.entries.items)))
+          ∙ later in cc)
     ]

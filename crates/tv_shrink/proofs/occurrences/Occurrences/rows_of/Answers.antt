@@ -6,15 +6,18 @@ use Rattle.tv_shrink.proofs.occurrences.Occurrences.rows_of.Goals as goal
 
 pub loop-number-smaller : goal.loop-number-smaller
 loop-number-smaller c =
-    (rows_from-at c.self.inside.entries.items c.self.inside.heads.items c.loop-number.number c.index-entry.result.now (omega (arith, c.loop-number-test.true)) c.loop-number.invariant.inside c.self.invariant c.index-entry.ensures).1
+    (rows_from-at c.self.inside.entries.items c.self.inside.heads.items c.loop-number.number c.index-entry.result.now
+    (omega (arith, c.loop-number-test.true)) c.loop-number.invariant.inside c.self.invariant c.index-entry.ensures).1
 
 pub loop-number-preserved : goal.loop-number-preserved
 loop-number-preserved c =
-    let found = rows_from-at c.self.inside.entries.items c.self.inside.heads.items c.loop-number.number c.index-entry.result.now (omega (arith, c.loop-number-test.true)) c.loop-number.invariant.inside c.self.invariant c.index-entry.ensures in
+    let found = rows_from-at c.self.inside.entries.items c.self.inside.heads.items c.loop-number.number c.index-entry.result.now
+    (omega (arith, c.loop-number-test.true)) c.loop-number.invariant.inside c.self.invariant c.index-entry.ensures in
     record {
       inside = omega (arith, found.1, c.loop-number.invariant.inside);
       so_far = ap (λ rows. rows ++ rows_from (reverse c.self.inside.entries.items) c.index-entry.result.now.next) c.in_ok-push.ensures.items
-          ∙ append_assoc c.loop-number.rows.items (c.index-entry.result.now.row ∷ []) (rows_from (reverse c.self.inside.entries.items) c.index-entry.result.now.next)
+          ∙ append_assoc c.loop-number.rows.items (c.index-entry.result.now.row ∷ [])
+          (rows_from (reverse c.self.inside.entries.items) c.index-entry.result.now.next)
           ∙ ap (λ rows. c.loop-number.rows.items ++ rows) (sym found.0)
           ∙ c.loop-number.invariant.so_far;
     }
@@ -22,9 +25,11 @@ loop-number-preserved c =
 pub returns : goal.returns
 returns c =
     let none : c.loop-number.number ≡ 0 = omega (arith, c.loop-number-test.false) in
-    let wide : c.args.wire < length c.self.inside.heads.items = omega (arith, length-map c.self.inside.heads.items (rows_from (reverse c.self.inside.entries.items)), ap length c.self.view_is) in
+    let wide : c.args.wire < length c.self.inside.heads.items = omega
+    (arith, length-map c.self.inside.heads.items (rows_from (reverse c.self.inside.entries.items)), ap length c.self.view_is) in
     sym (append-nil c.loop-number.rows.items)
-    ∙ ap (λ rows. c.loop-number.rows.items ++ rows) (sym (ap (rows_from (reverse c.self.inside.entries.items)) none ∙ rows_from-none (reverse c.self.inside.entries.items)))
+    ∙ ap (λ rows. c.loop-number.rows.items ++ rows)
+    (sym (ap (rows_from (reverse c.self.inside.entries.items)) none ∙ rows_from-none (reverse c.self.inside.entries.items)))
     ∙ c.loop-number.invariant.so_far
     ∙ ap (rows_from (reverse c.self.inside.entries.items)) c.index-number.ensures
     ∙ sym (get_or-map (rows_from (reverse c.self.inside.entries.items)) c.self.inside.heads.items c.args.wire _ [] wide)

@@ -15,13 +15,16 @@ removed c = c.remove.ensures ∙ ap (λ (s : State). record { publics = s.public
 
 -- all others fit
 fits : (c : After-deref-2) → list_all (row_fits c.args.wire c.args.self.now.solved.items) (set c.args.self.now.state.pass.rows c.args.at None) ≡ true
-fits c = ap (λ r. list_all (row_fits c.args.wire r) (set c.args.self.now.state.pass.rows c.args.at None)) (sym c.deref.ensures.value) ∙ sym c.in_ok-others_fit.ensures.fit ∙ c.if-not-branch.false
+fits c = ap (λ r. list_all (row_fits c.args.wire r) (set c.args.self.now.state.pass.rows c.args.at None)) (sym c.deref.ensures.value)
+    ∙ sym c.in_ok-others_fit.ensures.fit ∙ c.if-not-branch.false
 
 pub returns-then-not-branch : goal.returns-then-not-branch
 returns-then-not-branch c =
     let pass = c.args.self.now.state.pass in
-    let off = ap (λ r. list_all (row_fits c.args.wire r) (set pass.rows c.args.at None)) (sym c.deref.ensures.value) ∙ sym c.in_ok-others_fit.ensures.fit ∙ c.if-not-branch.true in
-    c.others_fit.ensures.same ∙ staged c.args.self.now.state _ (not-attempted c.args.wire c.args.at c.args.self.now.solved.items pass.rows pass.gone false (sym off) refl)
+    let off = ap (λ r. list_all (row_fits c.args.wire r) (set pass.rows c.args.at None)) (sym c.deref.ensures.value) ∙ sym c.in_ok-others_fit.ensures.fit
+    ∙ c.if-not-branch.true in
+    c.others_fit.ensures.same ∙ staged c.args.self.now.state _
+    (not-attempted c.args.wire c.args.at c.args.self.now.solved.items pass.rows pass.gone false (sym off) refl)
 
 pub substitute-requires-clause-here : goal.substitute-requires-clause-here
 unfolding dropped
@@ -34,13 +37,19 @@ substitute-requires-clause-fit c = ap₂ (λ r (s : State). list_all (row_fits c
 pub substitute-requires-clause-below : goal.substitute-requires-clause-below
 unfolding dropped
 substitute-requires-clause-below c = λ w above has.
-    omega (arith, ap (λ (s : State). length s.pass.gone) (removed c), c.requires.below w (omega (arith, ap (λ (s : State). s.publics) (removed c), above)) (ap (has_wire w) (sym c.deref-2.ensures.value) ∙ has))
+    omega (
+      arith,
+      ap (λ (s : State). length s.pass.gone) (removed c),
+      c.requires.below w (omega (arith, ap (λ (s : State). s.publics) (removed c), above)) (ap (has_wire w) (sym c.deref-2.ensures.value) ∙ has),
+    )
 
 pub returns : goal.returns
 unfolding dropped substituted
 returns c =
     let pass = c.args.self.now.state.pass in
     on_ok_weaker c.substitute.result (λ new. new
-    ∙ ap₂ (λ r (s : State). record { publics = s.publics; pass = substituted c.args.wire r s.pass }) c.deref-2.ensures.value (removed (goal.at.returns c).After-deref-2)
+    ∙ ap₂ (λ r (s : State). record { publics = s.publics; pass = substituted c.args.wire r s.pass }) c.deref-2.ensures.value
+    (removed (goal.at.returns c).After-deref-2)
     ∙ ap (λ p. record { publics = c.args.self.now.state.publics; pass = p })
-    (sym (attempted-all c.args.wire c.args.at c.args.self.now.solved.items pass.rows pass.gone true (sym (fits (goal.at.returns c).After-deref-2)) refl))) c.substitute.ensures
+    (sym (attempted-all c.args.wire c.args.at c.args.self.now.solved.items pass.rows pass.gone true
+    (sym (fits (goal.at.returns c).After-deref-2)) refl))) c.substitute.ensures

@@ -5,4 +5,7 @@ use Rattle.tv_shrink.proofs.pass.Pass.run.Given as goal
 
 abbrev pub invariant-loop-at : goal.invariant-loop-at
 invariant-loop-at l =
-    l.self.state ≡ record { publics = l.initial.self.state.publics; pass = fold (turn l.initial.self.state.publics) l.initial.self.state.pass (range_with_len 0 l.at) }
+    l.self.state ≡ record {
+      publics = l.initial.self.state.publics;
+      pass = fold (turn l.initial.self.state.publics) l.initial.self.state.pass (range_with_len 0 l.at);
+    }

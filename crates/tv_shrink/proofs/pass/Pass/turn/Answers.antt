@@ -1,10 +1,11 @@
 use Rattle.std.proofs.Common.{◌≡◌, ◌<◌, ◌≤◌, ◌-◌, ◌∙◌, ℕ, Some, None, true, ap, arith, get_or, length, subst, sym}
 use Rattle.std.proofs.lemmas.Result.{on_ok_weaker}
-use Rattle.tv_shrink.specs.Normal.{IsNormalFrom}
+use Rattle.tv_core.specs.Normal.{coefficient, IsNormalFrom}
 use Rattle.tv_shrink.specs.Passing.{attempted, dropped, linear_row}
-use Rattle.tv_shrink.specs.Replacing.{coefficient, has_wire, solved}
+use Rattle.tv_shrink.specs.Replacing.{has_wire, solved}
 use Rattle.tv_shrink.specs.Tidy.{row_has}
-use Rattle.tv_shrink.proofs.Passes.{form_there, form_missing, form-normal, last_at, last-own, nil_of, solved-lacks, solved-normal, solved-wires, turn-empty, turn-private, turn-public, turn-unlinear, wire-there}
+use Rattle.tv_shrink.proofs.Passes.{form_there, form_missing, form-normal, last_at, last-own, nil_of, solved-lacks, solved-normal, solved-wires, turn-empty}
+use Rattle.tv_shrink.proofs.Passes.{turn-private, turn-public, turn-unlinear, wire-there}
 use Rattle.tv_shrink.proofs.States.{staged}
 use Rattle.tv_shrink.proofs.pass.Pass.turn.Goals as goal
 use Rattle.tv_shrink.proofs.pass.Pass.turn.Goals.{After-wire, In_ok-solve}
@@ -12,7 +13,8 @@ use Rattle.tv_shrink.proofs.pass.Pass.turn.Goals.{After-wire, In_ok-solve}
 -- what the constraint says is 0, and the last term of it
 says : (c : After-wire) → linear_row (get_or c.args.self.now.state.pass.rows c.args.at None) ≡ Some c.linear_form.new.out.items
 says c =
-    form_there c.args.self.now.state.pass.rows c.args.at (Some c.in-Some.row) c.linear_form.new.out.items c.in_ok-linear_form.field-0 (sym c.in-Some.is ∙ c.get.ensures.row) c.in_ok-linear_form.ensures c.if-not-branch.false
+    form_there c.args.self.now.state.pass.rows c.args.at (Some c.in-Some.row) c.linear_form.new.out.items c.in_ok-linear_form.field-0
+    (sym c.in-Some.is ∙ c.get.ensures.row) c.in_ok-linear_form.ensures c.if-not-branch.false
 
 some : (c : After-wire) → 0 < length c.linear_form.new.out.items
 some c = grind arith
@@ -23,29 +25,34 @@ last c = last_at c.linear_form.new.out.items c.len.result c.index.result.now (om
 form_is : (c : After-wire) → IsNormalFrom 0 c.linear_form.new.out.items
 form_is c = form-normal (get_or c.args.self.now.state.pass.rows c.args.at None) c.linear_form.new.out.items (says c)
 
-own : (c : After-wire) → (0 < c.index.result.now.0) × (has_wire c.index.result.now.1 c.linear_form.new.out.items ≡ true) × (c.index.result.now.0 ≡ coefficient c.index.result.now.1 c.linear_form.new.out.items)
+own : (c : After-wire) → (0 < c.index.result.now.0) × (has_wire c.index.result.now.1 c.linear_form.new.out.items ≡ true)
+    × (c.index.result.now.0 ≡ coefficient c.index.result.now.1 c.linear_form.new.out.items)
 own c = last-own c.index.result.now c.linear_form.new.out.items (form_is c) (some c) (last c)
 
 solution : (c : In_ok-solve) → c.solve.new.out.items ≡ solved c.index.result.now.1 c.linear_form.new.out.items
 solution c = c.in_ok-solve.ensures ∙ ap (solved c.index.result.now.1) c.deref.ensures.value
 
 -- a wire of the constraint is one that there is room for
-there : (c : After-wire) → (w : ℕ) → c.args.self.now.state.publics ≤ w → row_has w (get_or c.args.self.now.state.pass.rows c.args.at None) ≡ true → w < length c.args.self.now.state.pass.gone
+there : (c : After-wire) → (w : ℕ) → c.args.self.now.state.publics ≤ w → row_has w (get_or c.args.self.now.state.pass.rows c.args.at None) ≡ true
+    → w < length c.args.self.now.state.pass.gone
 there c w above has = c.get.ensures.below w above (ap (row_has w) c.get.ensures.row ∙ has)
 
 pub returns-in_default : goal.returns-in_default
 returns-in_default c =
-    staged c.args.self.now.state _ (turn-unlinear c.args.self.now.state.publics c.args.at c.args.self.now.state.pass (ap linear_row (sym c.get.ensures.row ∙ c.in_default.is)))
+    staged c.args.self.now.state _ (turn-unlinear c.args.self.now.state.publics c.args.at c.args.self.now.state.pass
+    (ap linear_row (sym c.get.ensures.row ∙ c.in_default.is)))
 
 pub returns-then-not-branch : goal.returns-then-not-branch
 returns-then-not-branch c =
     staged c.args.self.now.state _ (turn-unlinear c.args.self.now.state.publics c.args.at c.args.self.now.state.pass
-    (form_missing c.args.self.now.state.pass.rows c.args.at (Some c.in-Some.row) c.linear_form.new.out.items c.in_ok-linear_form.field-0 (sym c.in-Some.is ∙ c.get.ensures.row) c.in_ok-linear_form.ensures c.if-not-branch.true))
+    (form_missing c.args.self.now.state.pass.rows c.args.at (Some c.in-Some.row) c.linear_form.new.out.items c.in_ok-linear_form.field-0
+    (sym c.in-Some.is ∙ c.get.ensures.row) c.in_ok-linear_form.ensures c.if-not-branch.true))
 
 pub returns-then-is_empty : goal.returns-then-is_empty
 returns-then-is_empty c =
     let none : length c.linear_form.new.out.items ≡ 0 = grind arith in
-    let form = form_there c.args.self.now.state.pass.rows c.args.at (Some c.in-Some.row) c.linear_form.new.out.items c.in_ok-linear_form.field-0 (sym c.in-Some.is ∙ c.get.ensures.row) c.in_ok-linear_form.ensures c.if-not-branch.false in
+    let form = form_there c.args.self.now.state.pass.rows c.args.at (Some c.in-Some.row) c.linear_form.new.out.items c.in_ok-linear_form.field-0
+    (sym c.in-Some.is ∙ c.get.ensures.row) c.in_ok-linear_form.ensures c.if-not-branch.false in
     c.remove.ensures
     ∙ ap (λ p. record { publics = c.args.self.now.state.publics; pass = p })
     (sym (turn-empty c.args.self.now.state.publics c.args.at c.args.self.now.state.pass (form ∙ ap Some (nil_of c.linear_form.new.out.items none))))
@@ -53,7 +60,9 @@ returns-then-is_empty c =
 pub returns-then-wire-publics : goal.returns-then-wire-publics
 returns-then-wire-publics c =
     let w = (goal.at.returns-then-wire-publics c).After-wire in
-    staged c.args.self.now.state _ (turn-public c.args.self.now.state.publics c.args.at c.index.result.now c.args.self.now.state.pass c.linear_form.new.out.items (some w) (says w) (last w)
+    staged c.args.self.now.state _
+    (turn-public c.args.self.now.state.publics c.args.at c.index.result.now c.args.self.now.state.pass c.linear_form.new.out.items (some w) (says w)
+    (last w)
     (omega (arith, c.wire.view_is, c.publics.ensures, c.if-wire-publics.true)))
 
 pub solve-requires-clause-normal : goal.solve-requires-clause-normal
@@ -72,15 +81,18 @@ eliminate-requires-clause-here c =
     (wire-there c.index.result.now.1 (get_or c.args.self.now.state.pass.rows c.args.at None) c.linear_form.new.out.items (says w) (own w).1)
 
 pub eliminate-requires-clause-by : goal.eliminate-requires-clause-by
-eliminate-requires-clause-by c = subst (IsNormalFrom 0) (sym (solution (goal.at.eliminate-requires-clause-by c).In_ok-solve)) (solved-normal c.index.result.now.1 c.linear_form.new.out.items)
+eliminate-requires-clause-by c = subst (IsNormalFrom 0) (sym (solution (goal.at.eliminate-requires-clause-by c).In_ok-solve))
+    (solved-normal c.index.result.now.1 c.linear_form.new.out.items)
 
 pub eliminate-requires-clause-lacks : goal.eliminate-requires-clause-lacks
-eliminate-requires-clause-lacks c = ap (has_wire c.index.result.now.1) (solution (goal.at.eliminate-requires-clause-lacks c).In_ok-solve) ∙ solved-lacks c.index.result.now.1 c.linear_form.new.out.items
+eliminate-requires-clause-lacks c = ap (has_wire c.index.result.now.1) (solution (goal.at.eliminate-requires-clause-lacks c).In_ok-solve)
+    ∙ solved-lacks c.index.result.now.1 c.linear_form.new.out.items
 
 pub eliminate-requires-clause-below : goal.eliminate-requires-clause-below
 eliminate-requires-clause-below c = λ v above has.
     let w = (goal.at.eliminate-requires-clause-below c).After-wire in
-    there w v above (solved-wires c.index.result.now.1 (get_or c.args.self.now.state.pass.rows c.args.at None) c.linear_form.new.out.items (says w) v (ap (has_wire v) (sym (solution (goal.at.eliminate-requires-clause-below c).In_ok-solve)) ∙ has))
+    there w v above (solved-wires c.index.result.now.1 (get_or c.args.self.now.state.pass.rows c.args.at None) c.linear_form.new.out.items (says w) v
+    (ap (has_wire v) (sym (solution (goal.at.eliminate-requires-clause-below c).In_ok-solve)) ∙ has))
 
 pub returns : goal.returns
 returns c =
@@ -90,4 +102,5 @@ returns c =
     on_ok_weaker c.eliminate.result (λ new. new
     ∙ ap (λ p. record { publics = state.publics; pass = p })
     (ap (λ r. attempted c.index.result.now.1 r (dropped c.args.at state.pass) state.pass) (solution (goal.at.returns c).In_ok-solve)
-    ∙ sym (turn-private state.publics c.args.at c.index.result.now state.pass c.linear_form.new.out.items (some w) (says w) (last w) above))) c.eliminate.ensures
+    ∙ sym (turn-private state.publics c.args.at c.index.result.now state.pass c.linear_form.new.out.items (some w) (says w)
+    (last w) above))) c.eliminate.ensures

@@ -25,11 +25,13 @@ invariant_of-self-2 c =
     c.in_ok-push-2.ensures.items).0
 
 pub invariant_of-self-in_default : goal.invariant_of-self-in_default
-invariant_of-self-in_default c = subst (AreLaid (length c.self.inside.terms.items)) (sym c.in_ok-push.ensures.items) (laid_none (length c.self.inside.terms.items) c.self.inside.spans.items c.self.invariant)
+invariant_of-self-in_default c = subst (AreLaid (length c.self.inside.terms.items)) (sym c.in_ok-push.ensures.items)
+    (laid_none (length c.self.inside.terms.items) c.self.inside.spans.items c.self.invariant)
 
 pub invariant_of-self-in_err-append_terms : goal.invariant_of-self-in_err-append_terms
 invariant_of-self-in_err-append_terms c = laid_more _ _ c.self.inside.spans.items c.append_terms.ensures.longer c.self.invariant
 
 pub invariant_of-self-in_err-push-2 : goal.invariant_of-self-in_err-push-2
 invariant_of-self-in_err-push-2 c =
-    subst (AreLaid (length c.append_terms.new.out.items)) (sym c.in_err-push-2.ensures.items) (laid_more _ _ c.self.inside.spans.items c.append_terms.ensures.longer c.self.invariant)
+    subst (AreLaid (length c.append_terms.new.out.items)) (sym c.in_err-push-2.ensures.items)
+    (laid_more _ _ c.self.inside.spans.items c.append_terms.ensures.longer c.self.invariant)

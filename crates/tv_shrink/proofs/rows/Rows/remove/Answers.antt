@@ -6,7 +6,8 @@ use Rattle.tv_shrink.proofs.Laying.{laid_dropped}
 use Rattle.tv_shrink.proofs.rows.Rows.remove.Goals as goal
 
 pub returns : goal.returns
-returns c = map-set (option_map (row_at c.self.inside.terms.items)) c.self.inside.spans.items c.args.at None ∙ ap (λ rows. set rows c.args.at None) c.self.view_is
+returns c = map-set (option_map (row_at c.self.inside.terms.items)) c.self.inside.spans.items c.args.at None
+    ∙ ap (λ rows. set rows c.args.at None) c.self.view_is
 
 pub invariant_of-self : goal.invariant_of-self
 invariant_of-self c = laid_dropped (length c.self.inside.terms.items) c.self.inside.spans.items c.args.at c.self.invariant

@@ -17,10 +17,12 @@ returns-in-Some c =
     let row = moved_in c.args.numbers.now (row_at xs span) in
     let found = row_found (row_at xs) spans c.args.self.now c.args.at c.index.result.now c.self.view_is c.requires c.index.ensures in
     let held = held_at spans c.args.at c.index.result.now span found.0 c.index.ensures c.in-Some.is in
-    let inside : end_of span ≤ length xs = subst (IsInside (length xs)) held (each_at (IsInside (length xs)) spans c.args.at None c.self.invariant.inside found.0) in
+    let inside : end_of span ≤ length xs = subst (IsInside (length xs)) held
+    (each_at (IsInside (length xs)) spans c.args.at None c.self.invariant.inside found.0) in
     let same : set spans c.args.at (Some span) ≡ spans = ap (set spans c.args.at) (sym held) ∙ set-get_or spans c.args.at None in
     let moved = span_moved c.args.numbers.now xs span inside in
-    let laid = rows_laid xs ys (row_terms row) spans c.args.self.now c.args.at span.start span span row c.self.invariant c.self.view_is found.0 held refl (inl (refl, omega (arith, ap end_of moved, length-append row.a (row.b ++ row.c), length-append row.b row.c))) c.renumber_span.ensures moved in
+    let laid = rows_laid xs ys (row_terms row) spans c.args.self.now c.args.at span.start span span row c.self.invariant c.self.view_is found.0 held refl
+    (inl (refl, omega (arith, ap end_of moved, length-append row.a (row.b ++ row.c), length-append row.b row.c))) c.renumber_span.ensures moved in
     ap (map (option_map (row_at ys))) (sym same)
     ∙ laid.1
     ∙ ap (λ r. set c.args.self.now c.args.at (option_map (moved_in c.args.numbers.now) r)) (sym (found.1 ∙ ap (option_map (row_at xs)) c.in-Some.is))

@@ -18,15 +18,27 @@ use Rattle.tv_shrink.proofs.shrunk.Shrunk.write.Goals.{In-Ok}
 
 -- the system that is written, its counts, and how many private wires it has
 abbrev system_in : (g : given.Over) → In-Ok g → System
-system_in g c = record { wires = length c.self.inside.labels.items; outputs = c.self.inside.outputs; inputs = c.self.inside.inputs; constraints = filter_map (λ row. row) c.self.inside.rows }
+system_in g c = record {
+  wires = length c.self.inside.labels.items;
+  outputs = c.self.inside.outputs;
+  inputs = c.self.inside.inputs;
+  constraints = filter_map (λ row. row) c.self.inside.rows;
+}
 
 abbrev counts_in : (g : given.Over) → In-Ok g → Counts
-counts_in g c = record { wires = c.len-2.result; outputs = c.self.inside.outputs; inputs = c.self.inside.inputs; constraints = c.count_rows-tally.result.constraints; terms = c.count_rows-tally.result.terms }
+counts_in g c = record {
+  wires = c.len-2.result;
+  outputs = c.self.inside.outputs;
+  inputs = c.self.inside.inputs;
+  constraints = c.count_rows-tally.result.constraints;
+  terms = c.count_rows-tally.result.terms;
+}
 
 abbrev private_in : (g : given.Over) → In-Ok g → ℕ
 private_in g c = c.len-2.result - (1 + c.self.inside.outputs + c.self.inside.inputs)
 
-is_begun : (g : given.Over) (c : In-Ok g) → IsBegun {S = StreamSink g.row.D.Denot} (stream g.D.Files.seen) c.args.name.now (g.D.Files.seen c.args.files.now) c.in-Ok.sink
+is_begun : (g : given.Over) (c : In-Ok g)
+    → IsBegun {S = StreamSink g.row.D.Denot} (stream g.D.Files.seen) c.args.name.now (g.D.Files.seen c.args.files.now) c.in-Ok.sink
     (circuit_of (private_in g c) c.self.inside.rows) (system_in g c) (counts_in g c) c.self.inside.wires
 is_begun g c =
     let first : ℕ = 1 + c.self.inside.outputs + c.self.inside.inputs in
@@ -56,8 +68,10 @@ returns g c =
     let seen : StreamSink g.row.D.Denot → _ = stream g.D.Files.seen in
     let rows = c.self.inside.rows in
     let more : PutsAll (stream_meaning seen) c.make_wires.new.s c.put_rows.new.s (rows_circuit rows (length rows)) tt = c.in_ok-put_rows.ensures.puts in
-    let puts = puts_then (stream_meaning seen) (wires_circuit (private_in g ok)) (λ _. rows_circuit rows (length rows)) c.in-Ok.sink c.make_wires.new.s c.put_rows.new.s tt tt c.make_wires.ensures.puts more in
-    let written = streamed_all _ _ _ _ _ _ _ _ (λ _. c.self.inside.labels.items) (is_begun g ok) c.put_rows.new.s _ tt c.finish_labelled.result refl puts (rw c.deref.ensures.value at c.finish_labelled.ensures) in
+    let puts = puts_then (stream_meaning seen) (wires_circuit (private_in g ok))
+    (λ _. rows_circuit rows (length rows)) c.in-Ok.sink c.make_wires.new.s c.put_rows.new.s tt tt c.make_wires.ensures.puts more in
+    let written = streamed_all _ _ _ _ _ _ _ _ (λ _. c.self.inside.labels.items) (is_begun g ok) c.put_rows.new.s _ tt c.finish_labelled.result refl puts
+    (rw c.deref.ensures.value at c.finish_labelled.ensures) in
     rw (← c.self.view_is) (search (rules, written))
 
 pub returns-in_err-put_rows : goal.returns-in_err-put_rows
@@ -67,7 +81,8 @@ returns-in_err-put_rows g c =
     let rows = c.self.inside.rows in
     let fault = c.in_err-put_rows.field-0.0 in
     let more : PutsSome (stream_meaning seen) c.make_wires.new.s c.put_rows.new.s (rows_circuit rows (length rows)) fault = c.in_err-put_rows.ensures.puts in
-    let some = puts_then_refused (stream_meaning seen) (wires_circuit (private_in g ok)) (λ _. rows_circuit rows (length rows)) c.in-Ok.sink c.make_wires.new.s c.put_rows.new.s tt fault c.make_wires.ensures.puts more in
+    let some = puts_then_refused (stream_meaning seen) (wires_circuit (private_in g ok))
+    (λ _. rows_circuit rows (length rows)) c.in-Ok.sink c.make_wires.new.s c.put_rows.new.s tt fault c.make_wires.ensures.puts more in
     let written = streamed_some _ _ _ _ _ _ _ _ (λ _. c.self.inside.labels.items) (is_begun g ok) c.put_rows.new.s fault some in
     let p = err_from_is_err_and c.from_residual.result c.from_residual.ensures.1 in
     rw (p.1, p.2, ← c.self.view_is) (search (rules, written))

@@ -12,5 +12,6 @@ returns-clause-below c = λ w above has.
     omega (
       arith,
       ap (λ (s : State). length s.pass.gone) c.self.view_is,
-      kept_below c.self.inside.publics c.self.inside.rows c.self.inside.gone.items c.self.inside.occurrences c.self.invariant c.args.at w (omega (arith, ap (λ (s : State). s.publics) c.self.view_is, above)) (ap (row_has w) (sym c.get.ensures) ∙ has),
+      kept_below c.self.inside.publics c.self.inside.rows c.self.inside.gone.items c.self.inside.occurrences c.self.invariant c.args.at w
+          (omega (arith, ap (λ (s : State). s.publics) c.self.view_is, above)) (ap (row_has w) (sym c.get.ensures) ∙ has),
     )

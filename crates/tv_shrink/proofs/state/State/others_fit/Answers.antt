@@ -9,4 +9,5 @@ pub returns-in_default-clause-fit : goal.returns-in_default-clause-fit
 returns-in_default-clause-fit c =
     let private : c.self.inside.publics ≤ c.args.wire = omega (arith, ap (λ (s : State). s.publics) c.self.view_is, c.requires.private) in
     sym (ap (λ (s : State). list_all (row_fits c.args.wire c.args.replacement.now) (set s.pass.rows c.args.but None)) (sym c.self.view_is)
-    ∙ all-fit-there c.args.wire c.args.but c.args.replacement.now c.self.inside.publics c.self.inside.rows c.self.inside.occurrences c.self.invariant.covers private (c.in_ok-misfit.ensures.none (ap Ok c.in_default.is)))
+    ∙ all-fit-there c.args.wire c.args.but c.args.replacement.now c.self.inside.publics c.self.inside.rows c.self.inside.occurrences c.self.invariant.covers
+    private (c.in_ok-misfit.ensures.none (ap Ok c.in_default.is)))

@@ -10,7 +10,9 @@ use Rattle.tv_shrink.proofs.state.State.substitute.Goals as goal
 pub replace_at-requires-clause-fits : goal.replace_at-requires-clause-fits
 replace_at-requires-clause-fits c =
     let at = get_or c.deref-at-items.result.now c.loop-at.at-index 0 in
-    still_fit c.args.wire c.args.replacement.now c.requires.lacks c.loop-at.self.pass.rows c.args.self.now.pass.rows (list_any (λ p. eqb p at) (take c.loop-at.at-index c.deref-at-items.result.now)) at c.requires.fit c.loop-at.invariant.each (c.loop-at.invariant.so_far at)
+    still_fit c.args.wire c.args.replacement.now c.requires.lacks c.loop-at.self.pass.rows c.args.self.now.pass.rows
+    (list_any (λ p. eqb p at) (take c.loop-at.at-index c.deref-at-items.result.now)) at c.requires.fit c.loop-at.invariant.each
+    (c.loop-at.invariant.so_far at)
 
 pub loop-at-preserved : goal.loop-at-preserved
 loop-at-preserved c =
@@ -20,20 +22,24 @@ loop-at-preserved c =
     record {
       publics = ap (λ (s : State). s.publics) is ∙ c.loop-at.invariant.publics;
       gone = ap (λ (s : State). s.pass.gone) is ∙ c.loop-at.invariant.gone;
-      each = ap (λ (s : State). length s.pass.rows) is ∙ length-set rows at (option_map (replaced_in c.args.wire c.args.replacement.now) (get_or rows at None)) ∙ c.loop-at.invariant.each;
+      each = ap (λ (s : State). length s.pass.rows) is ∙ length-set rows at (option_map (replaced_in c.args.wire c.args.replacement.now) (get_or rows at None))
+          ∙ c.loop-at.invariant.each;
       so_far = λ i. ap (λ (s : State). get_or s.pass.rows i None) is
-          ∙ replaced-step c.args.wire c.args.replacement.now c.requires.lacks rows c.args.self.now.pass.rows c.deref-at-items.result.now c.loop-at.at-index at c.loop-at-test.true refl c.loop-at.invariant.each c.loop-at.invariant.so_far i;
+          ∙ replaced-step c.args.wire c.args.replacement.now c.requires.lacks rows c.args.self.now.pass.rows c.deref-at-items.result.now c.loop-at.at-index
+          at c.loop-at-test.true refl c.loop-at.invariant.each c.loop-at.invariant.so_far i;
     }
 
 pub returns : goal.returns
 returns c =
     let private : c.self.inside.publics ≤ c.args.wire = omega (arith, ap (λ (s : State). s.publics) c.self.view_is, c.requires.private) in
     let names : (i : ℕ) → row_has c.args.wire (get_or c.args.self.now.pass.rows i None) ≡ true → list_any (λ p. eqb p i) c.deref-at-items.result.now ≡ true =
-    λ i has. ap (list_any (λ p. eqb p i)) (c.deref-at-items.ensures.value ∙ c.in_ok-rows_of.ensures ∙ ap (λ w. get_or c.self.inside.occurrences w []) c.wire.view_is)
+    λ i has. ap (list_any (λ p. eqb p i)) (c.deref-at-items.ensures.value ∙ c.in_ok-rows_of.ensures
+    ∙ ap (λ w. get_or c.self.inside.occurrences w []) c.wire.view_is)
     ∙ c.self.invariant.covers i c.args.wire private (ap (λ (s : State). row_has c.args.wire (get_or s.pass.rows i None)) c.self.view_is ∙ has) in
     substituted_is c.args.self.now c.args.wire c.wire-2.inside.0 c.args.replacement.now c.self-2.inside.publics c.self-2.inside.rows c.self-2.inside.gone.items
     (ap (λ (s : State). s.publics) c.self-2.view_is ∙ c.loop-at.invariant.publics)
     (ap (λ (s : State). s.pass.rows) c.self-2.view_is
-    ∙ replaced-all c.args.wire c.args.replacement.now c.requires.lacks c.loop-at.self.pass.rows c.args.self.now.pass.rows c.deref-at-items.result.now c.loop-at.at-index (omega arith) c.loop-at.invariant.each names c.loop-at.invariant.so_far)
+    ∙ replaced-all c.args.wire c.args.replacement.now c.requires.lacks c.loop-at.self.pass.rows c.args.self.now.pass.rows c.deref-at-items.result.now
+    c.loop-at.at-index (omega arith) c.loop-at.invariant.each names c.loop-at.invariant.so_far)
     (ap (λ (s : State). s.pass.gone) c.self-2.view_is ∙ c.loop-at.invariant.gone)
     c.wire-2.view_is

@@ -1,5 +1,6 @@
 -- Normal combinations: their values, and their wires.
-use Rattle.std.proofs.Common.{◌≡◌, ℕ, ◌+◌, ◌*◌, ◌%◌, ◌<◌, ◌≤◌, ◌≢◌, List, [], ◌∷◌, ◌++◌, refl, sym, ◌∙◌, ap, arith, ltb, eqb, ltb-true, ltb-false, eqb-true, add-mul}
+use Rattle.std.proofs.Common.{◌≡◌, ℕ, ◌+◌, ◌*◌, ◌%◌, ◌<◌, ◌≤◌, ◌≢◌, length, List, [], ◌∷◌, ◌++◌, refl, sym, ◌∙◌, ap, arith, ltb, eqb, ltb-true, ltb-false}
+use Rattle.std.proofs.Common.{eqb-true, add-mul}
 use Rattle.std.specs.List.{AllByRecursion}
 use Rattle.std.specs.Prelude.{slice_index}
 use Rattle.std.proofs.lemmas.Bool.{cond_both, eqb-false}
@@ -7,9 +8,9 @@ use Rattle.std.proofs.lemmas.Nat.{mul-mod_first}
 use Rattle.tv_core.proofs.CombinationLaws.{value-cons, value-below}
 use Rattle.tv_core.proofs.Residues.{add-mod_same, mul-mod_zero}
 use Rattle.tv_core.specs.Constraints.{Combination, value}
-use Rattle.tv_core.specs.Combinations.{scaled}
+use Rattle.tv_core.specs.Combinations.{scaled, top}
 use Rattle.tv_core.specs.declared.field.TheConstants.{P}
-use Rattle.tv_shrink.specs.Normal.{with_term, added, normal, IsNormalFrom}
+use Rattle.tv_core.specs.Normal.{with_term, added, normal, IsNormalFrom}
 
 -- sums modulo P
 no_term : (n v : ℕ) → v < P → n % P ≡ 0 → v ≡ (n + v) % P
@@ -43,7 +44,8 @@ module _ (z : List ℕ) where
         ∙ regrouped (t.0 * slice_index z t.1) (u.0 * slice_index z u.1) (value rest z)
         ∙ ap (λ n. (t.0 * slice_index z t.1 + n) % P) (sym (value-cons u.0 u.1 rest z))
 
-    later_wire : value (added t rest) z ≡ (t.0 * slice_index z t.1 + value rest z) % P → value (u ∷ added t rest) z ≡ (t.0 * slice_index z t.1 + value (u ∷ rest) z) % P
+    later_wire : value (added t rest) z ≡ (t.0 * slice_index z t.1 + value rest z) % P
+        → value (u ∷ added t rest) z ≡ (t.0 * slice_index z t.1 + value (u ∷ rest) z) % P
     later_wire before =
         value-cons u.0 u.1 (added t rest) z
         ∙ ap (λ n. (u.0 * slice_index z u.1 + n) % P) before
@@ -101,14 +103,16 @@ module _ (Q : ℕ → Type 0) where
   pub value-local : (y z : List ℕ) (x : Combination) → Over Q x → ((v : ℕ) → Q v → slice_index y v ≡ slice_index z v) → value x y ≡ value x z
   value-local y z [] h same = refl
   value-local y z (t ∷ x) h same =
-      value-cons t.0 t.1 x y ∙ ap (λ n. (t.0 * n + value x y) % P) (same t.1 h.0) ∙ ap (λ n. (t.0 * slice_index z t.1 + n) % P) (value-local y z x h.1 same) ∙ sym (value-cons t.0 t.1 x z)
+      value-cons t.0 t.1 x y ∙ ap (λ n. (t.0 * n + value x y) % P) (same t.1 h.0) ∙ ap (λ n. (t.0 * slice_index z t.1 + n) % P) (value-local y z x h.1 same)
+      ∙ sym (value-cons t.0 t.1 x z)
 
 pub Over-weaker : (Q R : ℕ → Type 0) (x : Combination) → ((v : ℕ) → Q v → R v) → Over Q x → Over R x
 Over-weaker Q R [] weaker h = tt
 Over-weaker Q R (t ∷ x) weaker h = (weaker t.1 h.0, Over-weaker Q R x weaker h.1)
 
 -- a normal combination
-pub IsNormalFrom-with_term : (least k w : ℕ) (x : Combination) → least ≤ w → IsNormalFrom (w + 1) x → IsNormalFrom least x → IsNormalFrom least (with_term k w x)
+pub IsNormalFrom-with_term : (least k w : ℕ) (x : Combination) → least ≤ w → IsNormalFrom (w + 1) x → IsNormalFrom least x
+    → IsNormalFrom least (with_term k w x)
 unfolding with_term
 IsNormalFrom-with_term least k w x h behind n =
     cond_both (eqb (k % P) 0) x ((k % P, w) ∷ x) (IsNormalFrom least) (λ e. n)
@@ -118,7 +122,7 @@ pub IsNormalFrom-lower : (least more : ℕ) (x : Combination) → least ≤ more
 IsNormalFrom-lower least more [] h n = tt
 IsNormalFrom-lower least more (t ∷ x) h n = (omega (arith, n.0), n.1, n.2, n.3)
 
-IsNormalFrom-added : (least : ℕ) (t : ℕ × ℕ) (x : Combination) → least ≤ t.1 → IsNormalFrom least x → IsNormalFrom least (added t x)
+pub IsNormalFrom-added : (least : ℕ) (t : ℕ × ℕ) (x : Combination) → least ≤ t.1 → IsNormalFrom least x → IsNormalFrom least (added t x)
 unfolding added
 IsNormalFrom-added least t [] h n = IsNormalFrom-with_term least t.0 t.1 [] h tt tt
 IsNormalFrom-added least t (u ∷ rest) h n =
@@ -126,7 +130,8 @@ IsNormalFrom-added least t (u ∷ rest) h n =
     (λ e. let below = ltb-true t.1 u.1 e in IsNormalFrom-with_term least t.0 t.1 (u ∷ rest) h (omega arith, n.1, n.2, n.3) n)
     (λ e. let above = ltb-false t.1 u.1 e in cond_both (eqb t.1 u.1) (with_term (t.0 + u.0) t.1 rest) (u ∷ added t rest) (IsNormalFrom least)
     (λ same. let is = eqb-true t.1 u.1 same in
-    IsNormalFrom-with_term least (t.0 + u.0) t.1 rest h (IsNormalFrom-lower (t.1 + 1) (u.1 + 1) rest (omega arith) n.3) (IsNormalFrom-lower least (u.1 + 1) rest (omega (arith, n.0)) n.3))
+    IsNormalFrom-with_term least (t.0 + u.0) t.1 rest h (IsNormalFrom-lower (t.1 + 1) (u.1 + 1) rest (omega arith) n.3)
+    (IsNormalFrom-lower least (u.1 + 1) rest (omega (arith, n.0)) n.3))
     (λ apart. let isnt = eqb-false t.1 u.1 apart in (n.0, n.1, n.2, IsNormalFrom-added (u.1 + 1) t rest (omega arith) n.3)))
 
 pub normal_from : (least : ℕ) (x : Combination) → Over (λ v. least ≤ v) x → IsNormalFrom least (normal x)
@@ -140,3 +145,34 @@ each_over (t ∷ x) = (omega arith, each_over x)
 
 pub IsNormalFrom-normal : (x : Combination) → IsNormalFrom 0 (normal x)
 IsNormalFrom-normal x = normal_from 0 x (each_over x)
+
+-- ---- its length, and its greatest wire
+length-with_term : (k w : ℕ) (x : Combination) → length (with_term k w x) ≤ length x + 1
+unfolding with_term
+length-with_term k w x = cond_both (eqb (k % P) 0) x ((k % P, w) ∷ x) (λ y. length y ≤ length x + 1) (λ _. omega arith) (λ _. omega arith)
+
+length-added : (t : ℕ × ℕ) (x : Combination) → length (added t x) ≤ length x + 1
+unfolding added
+length-added t [] = length-with_term t.0 t.1 []
+length-added t (u ∷ rest) =
+    cond_both (ltb t.1 u.1) (with_term t.0 t.1 (u ∷ rest)) _ (λ y. length y ≤ length (u ∷ rest) + 1)
+    (λ _. length-with_term t.0 t.1 (u ∷ rest))
+    (λ _. cond_both (eqb t.1 u.1) (with_term (t.0 + u.0) t.1 rest) (u ∷ added t rest) (λ y. length y ≤ length (u ∷ rest) + 1)
+    (λ _. omega (arith, length-with_term (t.0 + u.0) t.1 rest))
+    (λ _. omega (arith, length-added t rest)))
+
+pub length-normal : (x : Combination) → length (normal x) ≤ length x
+unfolding normal
+length-normal [] = omega arith
+length-normal (t ∷ rest) = omega (arith, length-added t (normal rest), length-normal rest)
+
+below_top : (n : ℕ) (x : Combination) → top x ≤ n → Over (λ v. v < n) x
+below_top n [] h = tt
+below_top n (t ∷ x) h = (omega arith, below_top n x (omega arith))
+
+top_below : (n : ℕ) (x : Combination) → Over (λ v. v < n) x → top x ≤ n
+top_below n [] h = omega arith
+top_below n (t ∷ x) h = omega (arith, h.0, top_below n x h.1)
+
+pub top-normal : (x : Combination) → top (normal x) ≤ top x
+top-normal x = top_below (top x) (normal x) (Over-normal (λ v. v < top x) x (below_top (top x) x (omega arith)))
