@@ -15,7 +15,11 @@ pub product_bit : (a b : ℕ) → IsBit a → IsBit b → IsBit (a * b)
 product_bit a b h k = elim (bit_cases a h) [ inl p ↦ rw p (omega arith) | inr p ↦ rw p (omega (arith, k)) ]
 
 square : (b : ℕ) → IsBit b → b * b % P ≡ b
-square b h = elim (eq-zero-or-pos b) [ inl none ↦ ap (λ n. n * n % P) none ∙ sym none | inr some ↦ let one : b ≡ 1 = omega arith in ap (λ n. n * n % P) one ∙ sym one ]
+square b h = elim (eq-zero-or-pos b) [
+  | inl none ↦ ap (λ n. n * n % P) none ∙ sym none
+  | inr some ↦ let one : b ≡ 1 = omega arith in ap (λ n. n * n % P) one
+      ∙ sym one
+]
 
 pub bit_sound : BitIsSound
 unfolding bit_of put

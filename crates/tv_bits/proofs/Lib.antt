@@ -3,6 +3,7 @@ pub mod DoubleRowLaws
 pub mod GateLaws
 pub mod NewBitsLaws
 pub mod NonzeroLaws
+pub mod NormalLaws
 pub mod OneHotLaws
 pub mod PairLaws
 pub mod OrderLaws

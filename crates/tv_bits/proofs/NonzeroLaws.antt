@@ -39,8 +39,11 @@ flag_meets x small =
       | inl none ↦
           let times : (n : ℕ) → x * n % P ≡ 0 = λ n. ap (λ y. y * n % P) none ∙ ap (λ y. y % P) (zero-mul n) in
           (times (inverse_of x) ∙ sym (nonzero_flag-zero x none), times ((1 + (P - nonzero_flag x)) % P))
-      | inr some ↦
-          (mul-inverse_of x (λ none. some (omega arith)) ∙ sym (nonzero_flag-other x some), ap (λ f. x * ((1 + (P - f)) % P) % P) (nonzero_flag-other x some) ∙ ap (λ n. n % P) (mul-zero x))
+      | inr some ↦ (
+        mul-inverse_of x (λ none. some (omega arith)) ∙ sym (nonzero_flag-other x some),
+        ap (λ f. x * ((1 + (P - f)) % P) % P) (nonzero_flag-other x some)
+            ∙ ap (λ n. n % P) (mul-zero x),
+      )
     ]
 
 pub nonzero_sound : NonzeroIsSound

@@ -1,5 +1,6 @@
 -- The laws of a one-hot row, and what a sum over one is.
-use Rattle.std.proofs.Common.{◌⊎◌, ◌≡◌, ◌≢◌, ℕ, ◌+◌, ◌-◌, ◌*◌, ◌%◌, ◌^◌, ◌<◌, ◌≤◌, if◌then◌else◌, List, inl, inr, refl, sym, ◌∙◌, ap, ap₂, arith, mod-lt, mod-eq_of_lt, eq-eqb, mul-one, mul-zero, zero-mul}
+use Rattle.std.proofs.Common.{◌⊎◌, ◌≡◌, ◌≢◌, ℕ, ◌+◌, ◌-◌, ◌*◌, ◌%◌, ◌^◌, ◌<◌, ◌≤◌, if◌then◌else◌, List, inl, inr, refl, sym, ◌∙◌, ap, ap₂, arith, mod-lt}
+use Rattle.std.proofs.Common.{mod-eq_of_lt, eq-eqb, mul-one, mul-zero, zero-mul}
 use Rattle.std.specs.Prelude.{slice_index}
 use Rattle.std.proofs.Math.Nat.{pow-le-pow_right}
 use Rattle.std.proofs.lemmas.Bool.{cases_eq}
@@ -23,10 +24,12 @@ use Rattle.tv_bits.specs.OneHot.{IsOneHot, row_sum, one_at, onehot_values, mark_
 use Rattle.tv_bits.specs.declared.bit_wires.Bits.{Bits}
 
 -- ---- sums over a row of which one wire alone is not 0
-value-cold : (z : List ℕ) (first count v : ℕ) (c : ℕ → ℕ) → v < count → ((i : ℕ) → i < count → i ≢ v → slice_index z (first + i) ≡ 0) → value (weighted first count c) z ≡ c v * slice_index z (first + v) % P
+value-cold : (z : List ℕ) (first count v : ℕ) (c : ℕ → ℕ) → v < count → ((i : ℕ) → i < count → i ≢ v → slice_index z (first + i) ≡ 0)
+    → value (weighted first count c) z ≡ c v * slice_index z (first + v) % P
 value-cold z first count v c within cold =
     value-weighted first count c z
-    ∙ ap (λ n. n % P) (sum_below-single count v (λ i. c i * slice_index z (first + i)) within (λ i h apart. ap (λ n. c i * n) (cold i h apart) ∙ mul-zero (c i)))
+    ∙ ap (λ n. n % P) (sum_below-single count v (λ i. c i * slice_index z (first + i)) within
+    (λ i h apart. ap (λ n. c i * n) (cold i h apart) ∙ mul-zero (c i)))
 
 -- a weighted sum is the weight of the wire that is 1
 pub value-onehot : (z : List ℕ) (first count v : ℕ) (c : ℕ → ℕ) → IsOneHot z first count v → value (weighted first count c) z ≡ c v % P
@@ -41,7 +44,8 @@ mark-next x i at = refl
 turn-next : (x : Combination) (next n : ℕ) → (times n (mark_of x) next).next ≡ next + n
 turn-next x next n = turns-next (λ i _. mark_of x i) tt next 1 n (λ i a at. mark-next x i at) ∙ ap (λ k. next + k) (mul-one n)
 
-mark_value : (z : List ℕ) (x : Combination) (i at : ℕ) → Assigns z → value (wire at) z * value (less x (constant (i % P))) z % P ≡ slice_index z at * ((value x z + (P - i % P)) % P) % P
+mark_value : (z : List ℕ) (x : Combination) (i at : ℕ) → Assigns z
+    → value (wire at) z * value (less x (constant (i % P))) z % P ≡ slice_index z at * ((value x z + (P - i % P)) % P) % P
 mark_value z x i at assigns =
     let number : value (constant (i % P)) z ≡ i % P = value-constant assigns (i % P) ∙ omega arith in
     ap₂ (λ m n. m * n % P) (value-wire assigns at) (value-less x (constant (i % P)) z ∙ ap (λ n. (value x z + (P - n)) % P) number)
@@ -95,8 +99,10 @@ onehot_sound z next x v short assigns s meets =
     let is : value number z ≡ v = value-bits s ∙ mod-eq_of_lt (Spells-small s short) in
     let both = Meets-split z (times count (mark_of number) next).list _ meets in
     let cold : (i : ℕ) → i < count → i ≢ v → slice_index z (next + i) ≡ 0 =
-    λ i h apart. rw turn-next at (mark_sound z number i (times i (mark_of number) next).next assigns (omega arith) (λ same. apart (same ∙ is)) (turn_met z (λ i _. mark_of number i) tt next count i h both.0)) in
-    let sum = ap₂ (λ a b. a * b % P) (sym (value-cold z next count v (λ _. 1) within cold)) (sym (value-constant assigns 1)) ∙ both.1.0 ∙ value-constant assigns 1 in
+    λ i h apart. rw turn-next at (mark_sound z number i (times i (mark_of number) next).next assigns (omega arith) (λ same. apart (same ∙ is))
+    (turn_met z (λ i _. mark_of number i) tt next count i h both.0)) in
+    let sum = ap₂ (λ a b. a * b % P) (sym (value-cold z next count v (λ _. 1) within cold)) (sym (value-constant assigns 1)) ∙ both.1.0
+    ∙ value-constant assigns 1 in
     record { within = within; hot = one_of (slice_index z (next + v)) (wire-below assigns (next + v)) sum; cold = cold }
 
 -- the values make a one-hot row
@@ -117,7 +123,8 @@ onehot_complete z next x v assigns s has =
     let number = bits_combination x.first x.n in
     let count = 2 ^ x.n in
     let row = IsOneHot-from_values z next x.n v (Spells-below s) has in
-    let marks = turns_met z (λ i _. mark_of number i) tt next count (λ i h. mark_complete z number i (times i (mark_of number) next).next v assigns (value-bits s) (λ apart. rw turn-next (row.cold i h apart))) in
+    let marks = turns_met z (λ i _. mark_of number i) tt next count
+    (λ i h. mark_complete z number i (times i (mark_of number) next).next v assigns (value-bits s) (λ apart. rw turn-next (row.cold i h apart))) in
     let one : value (row_sum next count) z ≡ 1 % P = value-onehot z next count v (λ _. 1) row in
     let sum = ap₂ (λ a b. a * b % P) one (value-constant assigns 1) ∙ sym (value-constant assigns 1) in
     Meets-join z (times count (mark_of number) next).list _ marks (sum, tt)

@@ -1,5 +1,6 @@
 -- A number is above another exactly where a prefix of it is, by no more than a chunk.
-use Rattle.std.proofs.Common.{◌≡◌, ◌≢◌, ℕ, zero, suc, ◌+◌, ◌-◌, ◌*◌, ◌/◌, ◌%◌, ◌^◌, ◌<◌, ◌≤◌, if◌then◌else◌, inl, inr, refl, sym, ◌∙◌, ap, arith, mod-lt, div-one, mul-zero, eq-eqb, ne_eqb}
+use Rattle.std.proofs.Common.{◌≡◌, ◌≢◌, ℕ, zero, suc, ◌+◌, ◌-◌, ◌*◌, ◌/◌, ◌%◌, ◌^◌, ◌<◌, ◌≤◌, if◌then◌else◌, inl, inr, refl, sym, ◌∙◌, ap, arith, mod-lt}
+use Rattle.std.proofs.Common.{div-one, mul-zero, eq-eqb, ne_eqb}
 use Rattle.std.proofs.Math.Nat.{pow-le-pow_right, pow-zero, div-eq_of_lt, div-le_self, div-mul-le_self, div-add-mod}
 use Rattle.std.proofs.lemmas.Bool.{cases_eq, cases_lt}
 use Rattle.std.proofs.lemmas.Nat.{pow_pos, shr-shr, le-div}
@@ -63,7 +64,8 @@ record IsFirst (c t x y : ℕ) : Type 0 where
   below : first_difference c t x y < 2 ^ c
 
 first_is : (c t x y : ℕ) → y < x → x / 2 ^ (c * t) ≡ y / 2 ^ (c * t) → IsFirst c t x y
-first_is c zero x y h same = absurd (let whole : (n : ℕ) → n / 2 ^ (c * 0) ≡ n = λ n. ap (λ k. n / 2 ^ k) (mul-zero c) ∙ ap (λ k. n / k) (pow-zero 2) ∙ div-one n in omega (arith, whole x, whole y))
+first_is c zero x y h same = absurd (let whole : (n : ℕ) → n / 2 ^ (c * 0) ≡ n = λ n. ap (λ k. n / 2 ^ k) (mul-zero c) ∙ ap (λ k. n / k) (pow-zero 2)
+    ∙ div-one n in omega (arith, whole x, whole y))
 first_is c (suc t) x y h same =
     let p = c * t in
     let place : p + c ≡ c * suc t = omega arith in
@@ -75,7 +77,13 @@ first_is c (suc t) x y h same =
           record { chunk = rest.chunk; within = omega (arith, rest.within); above = rest.above; is = more ∙ rest.is; below = omega (arith, rest.below) }
       | inr some ↦
           let here = first_difference-apart c t x y some in
-          record { chunk = t; within = omega arith; above = omega (arith, prefix_le x y p (omega arith)); is = here; below = omega (arith, within_chunk (x / 2 ^ p) (y / 2 ^ p) (2 ^ c) (pow_pos c) shorter) }
+          record {
+            chunk = t;
+            within = omega arith;
+            above = omega (arith, prefix_le x y p (omega arith));
+            is = here;
+            below = omega (arith, within_chunk (x / 2 ^ p) (y / 2 ^ p) (2 ^ c) (pow_pos c) shorter);
+          }
     ]
 
 difference_of_above : (a b : ℕ) → b < a → a < 2 ^ 63 → (a + (P - b)) % P ≡ a - b
@@ -86,7 +94,8 @@ module _ (n c t x y : ℕ) (whole : n ≤ c * t) (short : n ≤ 63) (below : x <
   first : IsFirst c t x y
   first =
       let power : 2 ^ n ≤ 2 ^ (c * t) = pow-le-pow_right (omega arith) whole in
-      first_is c t x y above (div-eq_of_lt (let small : x < 2 ^ (c * t) = omega arith in small) ∙ sym (div-eq_of_lt (let small : y < 2 ^ (c * t) = omega arith in small)))
+      first_is c t x y above (div-eq_of_lt (let small : x < 2 ^ (c * t) = omega arith in small)
+      ∙ sym (div-eq_of_lt (let small : y < 2 ^ (c * t) = omega arith in small)))
 
   pub first_difference-some : 0 < first_difference c t x y
   first_difference-some = omega (arith, first.is, first.above)

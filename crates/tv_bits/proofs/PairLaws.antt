@@ -57,14 +57,16 @@ module _ (u v w e f γ m : ℕ) (sum : u * u ≡ u + 2 * e) (difference : w ≡ 
   -- 2 cancels, by its inverse
   met_of : (u + γ * v) * (u + negative γ * v) % P ≡ (u + 2 * m + negative (γ * γ) * w) % P → m % P ≡ (e + γ * γ * f) % P
   met_of h =
-      let both = sym left_side ∙ add-mod_same ((u + γ * v) * (u + negative γ * v)) (u + 2 * m + negative (γ * γ) * w) (γ * γ * w) (γ * γ * w) P h refl ∙ right_side in
+      let both = sym left_side ∙ add-mod_same ((u + γ * v) * (u + negative γ * v)) (u + 2 * m + negative (γ * γ) * w) (γ * γ * w) (γ * γ * w) P h refl
+      ∙ right_side in
       sym (mul_cancel-mod ((P + 1) / 2) 2 (e + γ * γ * f) m P refl (add_cancel-mod u (2 * (e + γ * γ * f)) (2 * m) P both))
 
   of_met : m % P ≡ (e + γ * γ * f) % P → (u + γ * v) * (u + negative γ * v) % P ≡ (u + 2 * m + negative (γ * γ) * w) % P
   of_met h =
       let twice = add-mod_same u u (2 * m) (2 * (e + γ * γ * f)) P refl (mul-mod_same 2 2 m (e + γ * γ * f) P refl h) in
       let both = left_side ∙ sym twice ∙ sym right_side in
-      add_cancel-mod (γ * γ * w) ((u + γ * v) * (u + negative γ * v)) (u + 2 * m + negative (γ * γ) * w) P (ap (λ k. k % P) (omega arith) ∙ both ∙ ap (λ k. k % P) (omega arith))
+      add_cancel-mod (γ * γ * w) ((u + γ * v) * (u + negative γ * v)) (u + 2 * m + negative (γ * γ) * w) P
+      (ap (λ k. k % P) (omega arith) ∙ both ∙ ap (λ k. k % P) (omega arith))
 
 -- ---- the values of the combinations
 module _ {z : List ℕ} (assigns : Assigns z) where
@@ -76,15 +78,20 @@ module _ {z : List ℕ} (assigns : Assigns z) where
   value-side : (x_a y_a x_b y_b : Combination) (c k d : ℕ) → d + value y_b z ≡ 1 + k * value x_b z
       → value (side x_a y_a x_b y_b c k) z ≡ (value x_a z + value y_a z + c * d) % P
   value-side x_a y_a x_b y_b c k d gap =
-      let first : value (constant c ++ x_a) z ≡ (c + value x_a z) % P = value-append (constant c) x_a z ∙ ap (λ n. (n + value x_a z) % P) (value-constant assigns c) ∙ omega arith in
-      let second : value ((constant c ++ x_a) ++ y_a) z ≡ (c + value x_a z + value y_a z) % P = value-append (constant c ++ x_a) y_a z ∙ ap (λ n. (n + value y_a z) % P) first ∙ omega arith in
+      let first : value (constant c ++ x_a) z ≡ (c + value x_a z) % P = value-append (constant c) x_a z
+      ∙ ap (λ n. (n + value x_a z) % P) (value-constant assigns c) ∙ omega arith in
+      let second : value ((constant c ++ x_a) ++ y_a) z ≡ (c + value x_a z + value y_a z) % P = value-append (constant c ++ x_a) y_a z
+      ∙ ap (λ n. (n + value y_a z) % P) first ∙ omega arith in
       let third : value (plus_times ((constant c ++ x_a) ++ y_a) (c * k % P) x_b) z ≡ (c + value x_a z + value y_a z + c * k * value x_b z) % P =
       value-plus_times ((constant c ++ x_a) ++ y_a) (c * k % P) x_b
-      ∙ add-mod_same _ (c + value x_a z + value y_a z) (c * k % P * value x_b z) (c * k * value x_b z) P (ap (λ n. n % P) second ∙ omega arith) (mul-mod_first (c * k) (value x_b z) P) in
+      ∙ add-mod_same _ (c + value x_a z + value y_a z) (c * k % P * value x_b z) (c * k * value x_b z) P (ap (λ n. n % P) second ∙ omega arith)
+      (mul-mod_first (c * k) (value x_b z) P) in
       let times : c * (d + value y_b z) ≡ c * (1 + k * value x_b z) = ap (λ n. c * n) gap in
-      let regroup : (n : ℕ) → c + value x_a z + value y_a z + c * k * value x_b z + n * value y_b z ≡ value x_a z + value y_a z + c * d + (c * value y_b z + n * value y_b z) = λ n. omega (arith, times) in
+      let regroup : (n : ℕ) → c + value x_a z + value y_a z + c * k * value x_b z + n * value y_b z
+      ≡ value x_a z + value y_a z + c * d + (c * value y_b z + n * value y_b z) = λ n. omega (arith, times) in
       value-plus_times (plus_times ((constant c ++ x_a) ++ y_a) (c * k % P) x_b) (negative c) y_b
-      ∙ add-mod_same _ (c + value x_a z + value y_a z + c * k * value x_b z) (negative c * value y_b z) (negative c * value y_b z) P (ap (λ n. n % P) third ∙ omega arith) refl
+      ∙ add-mod_same _ (c + value x_a z + value y_a z + c * k * value x_b z) (negative c * value y_b z) (negative c * value y_b z) P
+      (ap (λ n. n % P) third ∙ omega arith) refl
       ∙ ap (λ n. n % P) (regroup (negative c))
       ∙ nothing (value x_a z + value y_a z + c * d) c (value y_b z)
 
@@ -108,14 +115,16 @@ pub two_ands_sound : TwoAndsAreSound
 unfolding two_ands_of put
 two_ands_sound z next x_a y_a x_b y_b γ m assigns p q r s meets =
     sym (mod-eq_of_lt (value-below m z))
-    ∙ met_of _ _ _ (value x_a z * value y_a z) (value x_b z * value y_b z) γ (value m z) (square_sum (value x_a z) (value y_a z) p q) (square_gap (value x_b z) (value y_b z) r s)
+    ∙ met_of _ _ _ (value x_a z * value y_a z) (value x_b z * value y_b z) γ (value m z) (square_sum (value x_a z) (value y_a z) p q)
+    (square_gap (value x_b z) (value y_b z) r s)
     (sym (product z assigns x_a y_a x_b y_b γ m r s) ∙ meets.0 ∙ rest z assigns x_a y_a x_b y_b γ m r s)
 
 pub two_ands_complete : TwoAndsAreComplete
 unfolding two_ands_of put
 two_ands_complete z next x_a y_a x_b y_b γ m assigns p q r s is = (
   product z assigns x_a y_a x_b y_b γ m r s
-      ∙ of_met _ _ _ (value x_a z * value y_a z) (value x_b z * value y_b z) γ (value m z) (square_sum (value x_a z) (value y_a z) p q) (square_gap (value x_b z) (value y_b z) r s)
+      ∙ of_met _ _ _ (value x_a z * value y_a z) (value x_b z * value y_b z) γ (value m z) (square_sum (value x_a z) (value y_a z) p q)
+      (square_gap (value x_b z) (value y_b z) r s)
       (mod-eq_of_lt (value-below m z) ∙ is)
       ∙ sym (rest z assigns x_a y_a x_b y_b γ m r s),
   tt,

@@ -1,5 +1,6 @@
 -- The laws of a product that is 0, and of a number that is a difference of prefixes.
-use Rattle.std.proofs.Common.{◌≡◌, ℕ, zero, suc, ◌+◌, ◌-◌, ◌*◌, ◌/◌, ◌%◌, ◌^◌, ◌<◌, ◌≤◌, List, [], length, inl, inr, refl, sym, subst, ◌∙◌, ap, ap₂, arith, mod-lt, mul-zero, zero-mul, mul-one, one-mul, mod-eq_of_lt}
+use Rattle.std.proofs.Common.{◌≡◌, ℕ, zero, suc, ◌+◌, ◌-◌, ◌*◌, ◌/◌, ◌%◌, ◌^◌, ◌<◌, ◌≤◌, List, [], length, inl, inr, refl, sym, subst, ◌∙◌, ap, ap₂, arith}
+use Rattle.std.proofs.Common.{mod-lt, mul-zero, zero-mul, mul-one, one-mul, mod-eq_of_lt}
 use Rattle.std.specs.Prelude.{slice_index}
 use Rattle.std.proofs.Math.Nat.{mul-le-mul_left}
 use Rattle.std.proofs.lemmas.Bool.{cases_eq}
@@ -19,7 +20,8 @@ use Rattle.tv_core.specs.declared.field.TheConstants.{P}
 use Rattle.tv_bits.proofs.SpelledNumbers.{Spells-high, value-bits_below}
 use Rattle.tv_bits.specs.Bits.{Spells}
 use Rattle.tv_bits.specs.Order.{prefix_difference}
-use Rattle.tv_bits.specs.Prefixes.{next_product, zero_product_of, product_below, products_values, prefix, prefix_less, prefix_less_in, prefix_difference_of, PrefixDifferenceIsSound, PrefixDifferenceIsComplete, PrefixDifferenceSizes}
+use Rattle.tv_bits.specs.Prefixes.{next_product, zero_product_of, product_below, products_values, prefix, prefix_less, prefix_less_in, prefix_difference_of}
+use Rattle.tv_bits.specs.Prefixes.{PrefixDifferenceIsSound, PrefixDifferenceIsComplete, PrefixDifferenceSizes}
 use Rattle.tv_bits.specs.Times.{times_of}
 use Rattle.tv_bits.specs.declared.bit_wires.Bits.{Bits}
 
@@ -62,7 +64,8 @@ products_sound z factor next (suc k) assigns meets none =
     let both = parts z before (next_product factor k) next meets in
     let product = turn_sound z factor k (before next).answer (before next).next assigns both.1 ∙ none in
     elim (p_zero_product_below _ _ (value-below (before next).answer z) (value-below (factor (k + 1)) z) product) [
-      | inl first ↦ let rest = products_sound z factor next k assigns both.0 first in record { place = rest.place; within = omega (arith, rest.within); is = rest.is }
+      | inl first ↦ let rest = products_sound z factor next k assigns both.0 first in
+          record { place = rest.place; within = omega (arith, rest.within); is = rest.is }
       | inr last ↦ record { place = k + 1; within = omega arith; is = last }
     ]
 
@@ -91,7 +94,8 @@ products_complete z factor f next (suc k) assigns is has =
     let place : suc k + 1 ≡ suc (k + 1) = omega arith in
     let again : k + 2 ≡ suc k + 1 = omega arith in
     let product : value (before next).answer z * value (factor (k + 1)) z % P ≡ product_below (suc k + 1) f % P =
-    ap₂ (λ m n. m * n % P) rest.1 (is (k + 1) (omega arith)) ∙ mul-mod_first (product_below (k + 1) f) (f (k + 1)) P ∙ ap (λ n. n % P) (sym (product_below-suc (k + 1) (suc k + 1) f place)) in
+    ap₂ (λ m n. m * n % P) rest.1 (is (k + 1) (omega arith)) ∙ mul-mod_first (product_below (k + 1) f) (f (k + 1)) P
+    ∙ ap (λ n. n % P) (sym (product_below-suc (k + 1) (suc k + 1) f place)) in
     let given : slice_index z (before next).next ≡ product_below (suc k + 1) f % P =
     ap (λ n. slice_index z n) (products-next factor next k) ∙ has k (omega arith) ∙ ap (λ n. product_below n f % P) again in
     let turn = turn_complete z factor k (before next).answer (before next).next assigns (product ∙ sym given) in
@@ -109,7 +113,8 @@ zero_product_sound z factor t next two assigns meets =
     ]
 
 -- f being the factors' values
-pub zero_product_complete : (z : List ℕ) (factor : ℕ → Combination) (f : ℕ → ℕ) (t i next : ℕ) → 2 ≤ t → Assigns z → ((j : ℕ) → j < t → value (factor j) z ≡ f j)
+pub zero_product_complete : (z : List ℕ) (factor : ℕ → Combination) (f : ℕ → ℕ) (t i next : ℕ) → 2 ≤ t → Assigns z
+    → ((j : ℕ) → j < t → value (factor j) z ≡ f j)
     → i < t → f i ≡ 0 → HasFrom z next (products_values f t) → Meets z (zero_product_of factor t next).list
 unfolding zero_product_of put
 zero_product_complete z factor f t i next two assigns is within none has =
@@ -128,11 +133,13 @@ value-prefix z x p v within short s =
     let whole : x.n ≡ p + (x.n - p) = omega arith in
     value-bits_below (Spells-high z x.first p (x.n - p) v (subst (λ n. Spells z x.first n v) whole s)) (omega arith)
 
-module _ (z : List ℕ) (x y : Bits) (d : Combination) (v w : ℕ) (x_short : x.n ≤ 63) (y_short : y.n ≤ 63) (s : Spells z x.first x.n v) (r : Spells z y.first y.n w) where
+module _ (z : List ℕ) (x y : Bits) (d : Combination) (v w : ℕ) (x_short : x.n ≤ 63) (y_short : y.n ≤ 63) (s : Spells z x.first x.n v)
+    (r : Spells z y.first y.n w) where
   value-prefix_less : (p : ℕ) → p ≤ x.n → p ≤ y.n → value (prefix_less x y d p) z ≡ prefix_less_in v w (value d z) p
   value-prefix_less p h k =
       value-less (less (prefix x p) (prefix y p)) d z
-      ∙ ap (λ n. (n + (P - value d z)) % P) (value-less (prefix x p) (prefix y p) z ∙ ap₂ (λ a b. (a + (P - b)) % P) (value-prefix z x p v h x_short s) (value-prefix z y p w k y_short r))
+      ∙ ap (λ n. (n + (P - value d z)) % P) (value-less (prefix x p) (prefix y p) z
+      ∙ ap₂ (λ a b. (a + (P - b)) % P) (value-prefix z x p v h x_short s) (value-prefix z y p w k y_short r))
 
 -- a place of t chunks lies within
 place_within : (c t n i : ℕ) → i < t → c * (t - 1) ≤ n → c * i ≤ n
@@ -150,7 +157,8 @@ unfolding prefix_difference_of
 prefix_difference_sound z next x y d c t v w two x_long y_long x_short y_short assigns s r meets =
     let found = zero_product_sound z (λ j. prefix_less x y d (c * j)) t next two assigns meets in
     let p = c * found.0 in
-    let none = sym (value-prefix_less z x y d v w x_short y_short s r p (place_within c t x.n found.0 found.1 x_long) (place_within c t y.n found.0 found.1 y_long)) ∙ found.2 in
+    let none = sym (value-prefix_less z x y d v w x_short y_short s r p (place_within c t x.n found.0 found.1 x_long)
+    (place_within c t y.n found.0 found.1 y_long)) ∙ found.2 in
     record { chunk = found.0; within = found.1; is = same_of_minus (prefix_difference v w p) (value d z) (mod-lt _ (omega arith)) (value-below d z) none }
 
 pub prefix_difference_complete : PrefixDifferenceIsComplete
@@ -166,7 +174,8 @@ pub first_factor : (x y d c : ℕ) → prefix_less_in x y d 0 ≡ product_below 
 first_factor x y d c =
     sym (mod-eq_of_lt (mod-lt _ (omega arith))) ∙ ap (λ n. n % P) (ap (λ p. prefix_less_in x y d p) (sym (mul-zero c)) ∙ sym (one-mul _))
 
-pub next_factor : (i : ℕ) (f : ℕ → ℕ) (product factor : ℕ) → product ≡ product_below (i + 1) f % P → factor ≡ f (i + 1) → product * factor % P ≡ product_below (i + 2) f % P
+pub next_factor : (i : ℕ) (f : ℕ → ℕ) (product factor : ℕ) → product ≡ product_below (i + 1) f % P → factor ≡ f (i + 1)
+    → product * factor % P ≡ product_below (i + 2) f % P
 next_factor i f product factor is has =
     let place : i + 2 ≡ suc (i + 1) = omega arith in
     ap₂ (λ m n. m * n % P) is has ∙ mul-mod_first (product_below (i + 1) f) (f (i + 1)) P ∙ ap (λ n. n % P) (sym (product_below-suc (i + 1) (i + 2) f place))

@@ -20,7 +20,8 @@ module _ {S : Type 0} (m : Meaning S) (factor : ℕ → Combination) where
   unfolding next_product
   one_product n old mid new before after w p q is =
       subst (λ l. PutsAll m old new (turns (n + 1) (next_product factor) (factor 0)) l) (sym is)
-      (puts_turn m n (next_product factor) (factor 0) before (wire w) old mid new p (puts_then m (times_of before (factor (n + 1))) (λ a. pure (wire a)) mid new new w (wire w) q (puts_nothing m new (wire w))))
+      (puts_turn m n (next_product factor) (factor 0) before (wire w) old mid new p
+      (puts_then m (times_of before (factor (n + 1))) (λ a. pure (wire a)) mid new new w (wire w) q (puts_nothing m new (wire w))))
 
   pub product_refused : (t i : ℕ) (old mid new : S) (before : Combination) (fault : SinkFault) → i < t - 2
       → PutsAll m old mid (turns i (next_product factor) (factor 0)) before → PutsSome m mid new (times_of before (factor (i + 1))) fault
@@ -28,7 +29,8 @@ module _ {S : Type 0} (m : Meaning S) (factor : ℕ → Combination) where
   unfolding next_product zero_product_of
   product_refused t i old mid new before fault h p q =
       refused_then m (turns (t - 2) (next_product factor) (factor 0)) (λ product. put product (factor (t - 1)) []) old new fault
-      (turn_refused m (t - 2) i (next_product factor) (factor 0) before old mid new fault h p (refused_then m (times_of before (factor (i + 1))) (λ a. pure (wire a)) mid new fault q))
+      (turn_refused m (t - 2) i (next_product factor) (factor 0) before old mid new fault h p
+      (refused_then m (times_of before (factor (i + 1))) (λ a. pure (wire a)) mid new fault q))
 
   pub last_product : (t i : ℕ) (old mid new : S) (product : Combination) (result : Result (Unit {0}) SinkFault) → i ≡ t - 2
       → PutsAll m old mid (turns i (next_product factor) (factor 0)) product → PutsIn m mid new (put product (factor (t - 1)) []) result

@@ -1,16 +1,18 @@
 -- The laws of a choice.
 use Rattle.std.proofs.Common.{◌≡◌, mod-lt, ℕ, ◌+◌, ◌-◌, ◌*◌, ◌%◌, ◌<◌, List, inl, inr, refl, sym, ◌∙◌, ap, subst, arith}
 use Rattle.std.specs.Prelude.{slice_index}
-use Rattle.tv_core.proofs.CombinationLaws.{value-less, value-below, value-wire, wire-below}
+use Rattle.tv_core.proofs.CombinationLaws.{value-append, value-scaled, value-less, value-below, value-wire, wire-below}
 use Rattle.tv_core.proofs.DifferenceLaws.{same_of_minus, cancel_minus}
+use Rattle.tv_core.proofs.NormalLaws.{value-normal}
 use Rattle.tv_core.specs.Circuits.{fresh, put, pure, ◌>>=◌}
 use Rattle.tv_core.specs.Combinations.{wire, less}
 use Rattle.tv_core.specs.Constraints.{Combination, value}
 use Rattle.tv_core.specs.Laws.{Assigns}
+use Rattle.tv_core.specs.Normal.{normal}
 use Rattle.tv_core.specs.declared.field.TheConstants.{P}
 use Rattle.tv_bits.proofs.BitLaws.{bit_cases}
 use Rattle.tv_bits.specs.Bit.{IsBit}
-use Rattle.tv_bits.specs.Select.{selected, pick_of, select_of, PickIsSound, PickIsComplete, SelectIsSound, SelectIsComplete}
+use Rattle.tv_bits.specs.Select.{selected, wire_less, pick_of, select_of, PickIsSound, PickIsComplete, SelectIsSound, SelectIsComplete}
 
 -- the constraint, as numbers
 pub selected-zero : (b x y : ℕ) → b ≡ 0 → selected b x y ≡ y
@@ -47,11 +49,14 @@ pick_next b x y next = refl
 
 -- the two sides of the constraint
 module _ (z : List ℕ) (assigns : Assigns z) (b : Combination) (w : ℕ) (x y : Combination) where
-  left : value b z * value (less x y) z % P ≡ value b z * ((value x z + (P - value y z)) % P) % P
-  left = ap (λ n. value b z * n % P) (value-less x y z)
+  value-factor : value (normal (less x y)) z ≡ (value x z + (P - value y z)) % P
+  value-factor = value-normal z (less x y) ∙ value-less x y z
 
-  right : value (less (wire w) y) z ≡ (slice_index z w + (P - value y z)) % P
-  right = value-less (wire w) y z ∙ ap (λ n. (n + (P - value y z)) % P) (value-wire assigns w)
+  left : value b z * value (normal (less x y)) z % P ≡ value b z * ((value x z + (P - value y z)) % P) % P
+  left = ap (λ n. value b z * n % P) value-factor
+
+  right : value (wire_less w y) z ≡ (slice_index z w + (P - value y z)) % P
+  right = let small = value-below y z in rw (value-append, value-scaled, value-wire assigns) (omega arith)
 
 pub pick_sound : PickIsSound
 unfolding pick_of fresh put pure ◌>>=◌
@@ -61,8 +66,11 @@ pick_sound z next b x y assigns bit meets =
 
 pub pick_complete : PickIsComplete
 unfolding pick_of fresh put pure ◌>>=◌
-pick_complete z next b x y assigns bit has =
-    (left z assigns b next x y ∙ complete_by (value b z) (value x z) (value y z) (slice_index z next) (value-below y z) bit has.0 ∙ sym (right z assigns b next x y), tt)
+pick_complete z next b x y assigns bit has = (
+  left z assigns b next x y ∙ complete_by (value b z) (value x z) (value y z) (slice_index z next) (value-below y z) bit has.0
+      ∙ sym (right z assigns b next x y),
+  tt,
+)
 
 -- ---- the same where the bit is a wire
 pub select_answer : (b : ℕ) (x y : Combination) (next : ℕ) → (select_of b x y next).answer ≡ next

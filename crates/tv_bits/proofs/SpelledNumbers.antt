@@ -1,5 +1,6 @@
 -- What wires spell: the number's bits, its parts, and the value of the combination of their powers.
-use Rattle.std.proofs.Common.{◌≡◌, ◌≢◌, ℕ, zero, suc, ◌+◌, ◌-◌, ◌*◌, ◌/◌, ◌%◌, ◌^◌, ◌<◌, ◌≤◌, List, [], ◌∷◌, ◌++◌, inl, inr, refl, sym, subst, ◌∙◌, ap, ap₂, arith, mod-eq_of_lt, mul_comm, mul_assoc, add_comm, zero-add}
+use Rattle.std.proofs.Common.{◌≡◌, ◌≢◌, ℕ, zero, suc, ◌+◌, ◌-◌, ◌*◌, ◌/◌, ◌%◌, ◌^◌, ◌<◌, ◌≤◌, List, [], ◌∷◌, ◌++◌, inl, inr, refl, sym, subst, ◌∙◌, ap, ap₂}
+use Rattle.std.proofs.Common.{arith, mod-eq_of_lt, mul_comm, mul_assoc, add_comm, zero-add}
 use Rattle.std.specs.Int.{bit_at}
 use Rattle.std.specs.Prelude.{slice_index}
 use Rattle.std.proofs.Math.Nat.{pow-suc, pow-le-pow_right, mul-le-mul_left}
@@ -7,7 +8,8 @@ use Rattle.std.proofs.lemmas.Bool.{cases_eq, cases_lt}
 use Rattle.std.proofs.lemmas.List.{map-append}
 use Rattle.std.proofs.lemmas.Nat.{pow-add, mod-pow-add, mul-mod_first, mul-mod_second, shr_high, mod_low}
 use Rattle.std.proofs.lemmas.Nat.Bits.{bit_at-lt, bit_at_cat_low}
-use Rattle.tv_core.proofs.BelowLaws.{sum_below-zero, sum_below-suc, sum_below-same, sum_below-mod_same, sum_below-add, sum_below-mul, weighted-zero, weighted-suc, value-weighted, has_each}
+use Rattle.tv_core.proofs.BelowLaws.{sum_below-zero, sum_below-suc, sum_below-same, sum_below-mod_same, sum_below-add, sum_below-mul, weighted-zero}
+use Rattle.tv_core.proofs.BelowLaws.{weighted-suc, value-weighted, has_each}
 use Rattle.tv_core.proofs.CombinationLaws.{value-append, value-constant}
 use Rattle.tv_core.specs.Below.{sum_below}
 use Rattle.tv_core.specs.Combinations.{constant, scaled}
@@ -90,7 +92,8 @@ module _ {z : List ℕ} {first n v : ℕ} (s : Spells z first n v) where
   pub value-bits : value (bits_combination first n) z ≡ v % P
   value-bits =
       value-weighted first n (λ i. 2 ^ i % P) z
-      ∙ sum_below-mod_same n (λ i. 2 ^ i % P * slice_index z (first + i)) (λ i. 2 ^ i * slice_index z (first + i)) P (λ i h. mul-mod_first (2 ^ i) (slice_index z (first + i)) P)
+      ∙ sum_below-mod_same n (λ i. 2 ^ i % P * slice_index z (first + i)) (λ i. 2 ^ i * slice_index z (first + i)) P
+      (λ i h. mul-mod_first (2 ^ i) (slice_index z (first + i)) P)
       ∙ ap (λ k. k % P) (sym s.number)
 
   pub Spells-small : n ≤ 63 → v < P
@@ -112,7 +115,8 @@ module _ {z : List ℕ} {first n v : ℕ} (s : Spells z first n v) where
 pub Spells-from_bits : (z : List ℕ) (first n v : ℕ) → v < 2 ^ n → ((i : ℕ) → i < n → slice_index z (first + i) ≡ bit_at v i) → Spells z first n v
 Spells-from_bits z first n v below each = record {
   bits = λ i h. omega (arith, each i h, bit_at-lt v i);
-  number = sym (sum_below-same n (λ i. 2 ^ i * slice_index z (first + i)) (λ i. 2 ^ i * bit_at v i) (λ i h. ap (λ b. 2 ^ i * b) (each i h)) ∙ picked-bit_at n v ∙ mod-eq_of_lt below);
+  number = sym (sum_below-same n (λ i. 2 ^ i * slice_index z (first + i)) (λ i. 2 ^ i * bit_at v i) (λ i h. ap (λ b. 2 ^ i * b) (each i h)) ∙ picked-bit_at n v
+      ∙ mod-eq_of_lt below);
 }
 
 pub Spells-from_values : (z : List ℕ) (first n v : ℕ) → v < 2 ^ n → HasFrom z first (bits_values v n) → Spells z first n v
@@ -136,7 +140,8 @@ spelled-parts z first m n =
     λ i. ap₂ (λ p w. p * slice_index z w) (pow-add 2 m i) (add_assoc' first m i) ∙ mul_assoc (2 ^ m) (2 ^ i) (slice_index z (first + m + i)) in
     let high = sum_below-same n (λ i. 2 ^ (m + i) * slice_index z (first + (m + i))) (λ i. 2 ^ m * (2 ^ i * slice_index z (first + m + i))) (λ i h. term i) in
     let factor = sum_below-mul (2 ^ m) n (λ i. 2 ^ i * slice_index z (first + m + i)) in
-    sum_below-add m n (λ i. 2 ^ i * slice_index z (first + i)) ∙ ap (λ k. spelled z first m + k) (high ∙ factor ∙ mul_comm (2 ^ m) (spelled z (first + m) n)) ∙ add_comm (spelled z first m) (spelled z (first + m) n * 2 ^ m)
+    sum_below-add m n (λ i. 2 ^ i * slice_index z (first + i)) ∙ ap (λ k. spelled z first m + k) (high ∙ factor ∙ mul_comm (2 ^ m) (spelled z (first + m) n))
+    ∙ add_comm (spelled z first m) (spelled z (first + m) n * 2 ^ m)
   where
     add_assoc' : (a b c : ℕ) → a + (b + c) ≡ a + b + c
     add_assoc' a b c = omega arith
@@ -153,13 +158,15 @@ high_bits z first m n bits = record {
 pub Spells-low : (z : List ℕ) (first m n v : ℕ) → Spells z first (m + n) v → Spells z first m (v % 2 ^ m)
 Spells-low z first m n v s =
     let low = low_bits z first m n s.bits in
-    let same : spelled z first m ≡ v % 2 ^ m = sym (ap (λ k. k % 2 ^ m) (s.number ∙ spelled-parts z first m n) ∙ mod_low (spelled z (first + m) n) m (spelled z first m) (Spells-below low)) in
+    let same : spelled z first m ≡ v % 2 ^ m = sym
+    (ap (λ k. k % 2 ^ m) (s.number ∙ spelled-parts z first m n) ∙ mod_low (spelled z (first + m) n) m (spelled z first m) (Spells-below low)) in
     rw same at low
 
 pub Spells-high : (z : List ℕ) (first m n v : ℕ) → Spells z first (m + n) v → Spells z (first + m) n (v / 2 ^ m)
 Spells-high z first m n v s =
     let low = low_bits z first m n s.bits in
-    let same : spelled z (first + m) n ≡ v / 2 ^ m = sym (ap (λ k. k / 2 ^ m) (s.number ∙ spelled-parts z first m n) ∙ shr_high (spelled z (first + m) n) m (spelled z first m) (Spells-below low)) in
+    let same : spelled z (first + m) n ≡ v / 2 ^ m = sym
+    (ap (λ k. k / 2 ^ m) (s.number ∙ spelled-parts z first m n) ∙ shr_high (spelled z (first + m) n) m (spelled z first m) (Spells-below low)) in
     subst (λ k. Spells z (first + m) n k) same (high_bits z first m n s.bits)
 
 pub Spells-join : (z : List ℕ) (first m n low high : ℕ) → Spells z first m low → Spells z (first + m) n high → Spells z first (m + n) (high * 2 ^ m + low)

@@ -16,7 +16,8 @@ use Rattle.tv_core.specs.declared.field.TheConstants.{P}
 use Rattle.tv_bits.proofs.BitLaws.{bit_sound, bit_complete}
 use Rattle.tv_bits.proofs.SpelledNumbers.{Spells-small, Spells-from_values, value-bits}
 use Rattle.tv_bits.specs.Bit.{IsBit, bit_of}
-use Rattle.tv_bits.specs.Bits.{Spells, spelled, bits_combination, new_bit, new_bits_of, bits_of, NewBitsAreSound, NewBitsAreComplete, BitsAreSound, BitsAreComplete}
+use Rattle.tv_bits.specs.Bits.{Spells, spelled, bits_combination, new_bit, new_bits_of, bits_of, NewBitsAreSound, NewBitsAreComplete, BitsAreSound}
+use Rattle.tv_bits.specs.Bits.{BitsAreComplete}
 
 -- a turn makes one wire, and holds it to 0 or 1
 new_bit-next : (at : ℕ) → (new_bit at).next ≡ at + 1
@@ -71,7 +72,8 @@ new_bits_sound z next n assigns meets = record {
 pub new_bits_complete : NewBitsAreComplete
 unfolding new_bits_of here pure ◌>>=◌
 new_bits_complete z next n x assigns has =
-    Meets-join z (times n (λ _. new_bit) next).list [] (turns_bits z next n assigns (λ i h. omega (arith, has_each z next n (bit_at x) has i h, bit_at-lt x i))) tt
+    Meets-join z (times n (λ _. new_bit) next).list []
+    (turns_bits z next n assigns (λ i h. omega (arith, has_each z next n (bit_at x) has i h, bit_at-lt x i))) tt
 
 -- one times the value of the bits is that value
 pub times_one_right : (b : ℕ) → b < P → b * (1 % P) % P ≡ b
@@ -93,4 +95,5 @@ pub bits_complete : BitsAreComplete
 unfolding bits_of new_bits_of here put pure ◌>>=◌
 bits_complete z next x n small assigns has =
     let made = new_bits_complete z next n (value x z) assigns has in
-    Meets-join z (new_bits_of n next).list _ made (summed z next n (value x z) (value-below x z) assigns (Spells-from_values z next n (value x z) small has), tt)
+    Meets-join z (new_bits_of n next).list _ made
+    (summed z next n (value x z) (value-below x z) assigns (Spells-from_values z next n (value x z) small has), tt)

@@ -39,8 +39,11 @@ flag_meets x small =
       | inl none ↦
           let times : (n : ℕ) → x * n % P ≡ 0 = λ n. ap (λ y. y * n % P) none ∙ ap (λ y. y % P) (zero-mul n) in
           (times (inverse_of x) ∙ ap (λ f. (1 + (P - f)) % P) (sym (zero_flag-zero x none)), times (zero_flag x))
-      | inr some ↦
-          (mul-inverse_of x (λ none. some (omega arith)) ∙ ap (λ f. (1 + (P - f)) % P) (sym (zero_flag-other x some)), ap (λ f. x * f % P) (zero_flag-other x some) ∙ ap (λ n. n % P) (mul-zero x))
+      | inr some ↦ (
+        mul-inverse_of x (λ none. some (omega arith))
+            ∙ ap (λ f. (1 + (P - f)) % P) (sym (zero_flag-other x some)),
+        ap (λ f. x * f % P) (zero_flag-other x some) ∙ ap (λ n. n % P) (mul-zero x),
+      )
     ]
 
 pub zero_sound : ZeroIsSound

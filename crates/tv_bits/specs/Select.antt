@@ -1,24 +1,30 @@
 -- One of two numbers, by a bit.
-use Rattle.std.specs.Prelude.{◌≡◌, ℕ, ◌+◌, ◌<◌, ◌==◌, if◌then◌else◌, List, [], ◌∷◌, slice_index}
+use Rattle.std.specs.Prelude.{◌≡◌, ℕ, ◌+◌, ◌-◌, ◌<◌, ◌≤◌, ◌==◌, if◌then◌else◌, List, [], ◌∷◌, ◌++◌, slice_index}
 use Rattle.tv_bits.specs.Bit.{IsBit}
 use Rattle.tv_core.specs.Circuits.{Circuit, fresh, put, pure, ◌>>=◌}
-use Rattle.tv_core.specs.Combinations.{wire, less}
+use Rattle.tv_core.specs.Combinations.{wire, scaled, less, top}
 use Rattle.tv_core.specs.Constraints.{Combination, value}
 use Rattle.tv_core.specs.Laws.{Assigns, Meets, HasFrom, Fills, InField}
+use Rattle.tv_core.specs.Normal.{normal, IsNormal, AreNormal}
 use Rattle.tv_core.specs.declared.field.TheConstants.{P}
 
 -- x where b is 1, else y
 abbrev pub selected : ℕ → ℕ → ℕ → ℕ
 selected b x y = if b == 1 then x else y
 
--- a new wire that is x where b is 1, and y where it is 0: b times x less y is the wire less y
+-- a new wire less y: its term is the last one, as it is after the wires of y
+abbrev pub wire_less : ℕ → Combination → Combination
+wire_less w y = scaled (P - 1) y ++ wire w
+
+-- a new wire that is x where b is 1, and y where it is 0: b times x less y is the wire less y. As x and y may share
+-- wires, their difference is made normal
 unfoldable pub pick_of : Combination → Combination → Combination → Circuit ℕ
 pick_of b x y = do
   w ← fresh
-  _ ← put b (less x y) (less (wire w) y)
+  _ ← put b (normal (less x y)) (wire_less w y)
   pure w
 
--- the same where the bit is a wire
+-- such a wire, the bit being a wire
 abbrev pub select_of : ℕ → Combination → Combination → Circuit ℕ
 select_of b x y = pick_of (wire b) x y
 
@@ -36,14 +42,14 @@ abbrev pub SelectIsComplete : Type 0
 SelectIsComplete = (z : List ℕ) (next b : ℕ) (x y : Combination) → Assigns z → IsBit (slice_index z b)
     → HasFrom z next (select_values (slice_index z b) (value x z) (value y z)) → Meets z (select_of b x y next).list
 
--- which wire is answered, and that the values are one number of the field for each wire that is made
+-- which wire is answered, and that there is one value, a number of the field, for the wire that is made
 pub record SelectSizes : Type 0 where
   pub answer : (b : ℕ) (x y : Combination) (next : ℕ) → (select_of b x y next).answer ≡ next
   pub end : (b : ℕ) (x y : Combination) (next : ℕ) → (select_of b x y next).next ≡ next + 1
   pub fills : (b : ℕ) (x y : Combination) (c v w : ℕ) → Fills (select_of b x y) (select_values c v w)
   pub in_field : (c v w : ℕ) → v < P → w < P → InField (select_values c v w)
 
--- ---- the same by a combination that is a bit
+-- ---- a choice by a combination that is a bit
 -- where b is a bit, an assignment that meets what was put has at the wire that was answered the value that b selects
 abbrev pub PickIsSound : Type 0
 PickIsSound = (z : List ℕ) (next : ℕ) (b x y : Combination) → Assigns z → IsBit (value b z) → Meets z (pick_of b x y next).list
@@ -54,9 +60,15 @@ abbrev pub PickIsComplete : Type 0
 PickIsComplete = (z : List ℕ) (next : ℕ) (b x y : Combination) → Assigns z → IsBit (value b z)
     → HasFrom z next (select_values (value b z) (value x z) (value y z)) → Meets z (pick_of b x y next).list
 
--- which wire is answered, and that the values are one number of the field for each wire that is made
+-- which wire is answered, and that there is one value, a number of the field, for the wire that is made
 pub record PickSizes : Type 0 where
   pub answer : (b x y : Combination) (next : ℕ) → (pick_of b x y next).answer ≡ next
   pub end : (b x y : Combination) (next : ℕ) → (pick_of b x y next).next ≡ next + 1
   pub fills : (b x y : Combination) (c v w : ℕ) → Fills (pick_of b x y) (select_values c v w)
   pub in_field : (c v w : ℕ) → v < P → w < P → InField (select_values c v w)
+
+-- ---- what is put is normal
+-- where b and y are normal and the wires of y are below the next one, whatever x is. A wire is normal, so this holds of
+-- both forms
+abbrev pub SelectIsNormal : Type 0
+SelectIsNormal = (b x y : Combination) (next : ℕ) → IsNormal b → IsNormal y → top y ≤ next → AreNormal (pick_of b x y next).list

@@ -16,7 +16,7 @@ pub struct Bits {
 }
 
 impl Bits {
-    /// The number that they spell, as a combination of `n` terms, at most 63.
+    /// Returns the number whose bits they are, as a combination of `n` terms, at most 63.
     pub fn lc(&self) -> Lc
         requires short { self.now.n ≤ 63 }
         requires within { self.now.first + self.now.n < 2 ^ 32 }
@@ -29,7 +29,7 @@ impl Bits {
         lc
     }
 
-    /// Makes `lc` the number that they spell, as `n` terms, at most 63.
+    /// Makes `lc` the number whose bits they are, as `n` terms, at most 63.
     pub fn fill(&self, lc: &mut Lc)
         requires short { self.now.n ≤ 63 }
         requires within { self.now.first + self.now.n < 2 ^ 32 }
@@ -41,7 +41,7 @@ impl Bits {
         self.plus_to(lc, F::ONE);
     }
 
-    /// Appends `factor` times the number that they spell, as `n` terms, at most 63.
+    /// Appends `factor` times the number whose bits they are, as `n` terms, at most 63.
     pub fn plus_to(&self, lc: &mut Lc, factor: F)
         requires short { self.now.n ≤ 63 }
         requires within { self.now.first + self.now.n < 2 ^ 32 }
@@ -59,8 +59,8 @@ impl Bits {
         }
     }
 
-    /// One more than the number that they spell, as a combination of `n + 1` terms; `n` is at most
-    /// 63.
+    /// Returns one more than the number whose bits they are, as a combination of `n + 1` terms; `n`
+    /// is at most 63.
     pub fn plus_one(&self) -> Lc
         requires short { self.now.n ≤ 63 }
         requires within { self.now.first + self.now.n < 2 ^ 32 }
@@ -73,7 +73,7 @@ impl Bits {
         lc
     }
 
-    /// The bits from place `from` on, as bits of their own: those of the number divided by
+    /// Returns the bits from place `from` on, as bits of their own: those of the number divided by
     /// 2^`from`.
     pub fn above(&self, from: u32) -> Bits
         requires enough { from ≤ self.now.n }
@@ -84,8 +84,8 @@ impl Bits {
         self.part(from, self.n - from)
     }
 
-    /// `n` of the bits, from place `low` on, as bits of their own: they spell the remainder by
-    /// 2^`n` of the number divided by 2^`low`.
+    /// Returns `n` of the bits, from place `low` on, as bits of their own: those of the remainder
+    /// by 2^`n` of the number divided by 2^`low`.
     pub fn part(&self, low: u32, n: u32) -> Bits
         requires enough { low + n ≤ self.now.n }
         requires within { self.now.first + self.now.n < 2 ^ 32 }

@@ -1,4 +1,4 @@
-//! A wire that is held to 0 or 1.
+//! A wire that is constrained to 0 or 1.
 ghost use Rattle.std.specs.Prelude.{◌≡◌, ◌<◌, [], false, IfOk, OnOk};
 ghost use Rattle.tv_bits.specs.Bit.{bit_of, BitIsSound, BitIsComplete, BitSizes};
 ghost use Rattle.tv_core.specs.Giving.{GivesIn};
@@ -6,7 +6,7 @@ ghost use Rattle.tv_core.specs.Sinks.{PutsIn, Grows, Room};
 
 use tv_core::{F, Lc, Put, Sink, Values, Wire};
 
-/// Holds a wire to 0 or 1. It makes no wire and 1 constraint.
+/// Constrains a wire to 0 or 1. It makes no wire and 1 constraint.
 pub fn bit<S: Sink>(s: &mut S, w: Wire) -> Put<()>
     requires room { Room S.meaning s.old 0 1 }
     requires made { w < S.meaning.wires s.old }
@@ -16,7 +16,7 @@ pub fn bit<S: Sink>(s: &mut S, w: Wire) -> Put<()>
     bit_by(s, &mut Lc::empty(), w)
 }
 
-/// The same, by a combination that is filled again: to make one costs more than to put it.
+/// Like `bit`, but reuses a combination of the caller: to make one costs more than to put it.
 pub fn bit_by<S: Sink>(s: &mut S, lc: &mut Lc, w: Wire) -> Put<()>
     requires room { Room S.meaning s.old 0 1 }
     requires made { w < S.meaning.wires s.old }
@@ -27,7 +27,7 @@ pub fn bit_by<S: Sink>(s: &mut S, lc: &mut Lc, w: Wire) -> Put<()>
     s.put(lc, lc, lc)
 }
 
-/// Gives nothing, since `bit` makes no wire.
+/// Assigns nothing, since `bit` makes no wire.
 pub fn fill_bit<V: Values>(v: &mut V, _w: F) -> Put<()>
     requires { V.giving.broken v.old ≡ false }
     ensures gives { GivesIn V.giving v.old v.new [] result }
@@ -48,7 +48,7 @@ pub fn bit_is_complete()
     ensures { BitIsComplete }
 {}
 
-/// Says that `bit` makes no wire, for which `fill_bit` gives no number.
+/// Says that `bit` makes no wire, and that `fill_bit` assigns no number.
 #[tactic(auto, using(crate::proofs::SizeLaws::bit_sizes))]
 pub fn bit_fills()
     ensures { BitSizes }

@@ -17,20 +17,20 @@ use crate::products::{kept_by, ratio_by};
 use crate::spelling::{fill_bits, new_bits_by};
 use tv_core::{F, Lc, Put, Scratch, Sink, Values, Wire, give_values};
 
-/// A row of bits of twice a word's width, and the two words that its halves spell. Its number is
+/// A row of bits of twice a word's width, and the two words that its halves hold. Its number is
 /// `low` plus 2^w `high`, below P unless the row is signed.
 #[derive(Clone, Copy, PartialEq, Eq, Debug)]
 pub struct DoubleRow {
     /// The wire of the lowest bit; the others follow it.
     pub first: Wire,
-    /// The wire of the word that the low half spells.
+    /// The wire of the word that the low half holds.
     pub low: Wire,
-    /// The wire of the word that the high half spells.
+    /// The wire of the word that the high half holds.
     pub high: Wire,
 }
 
 impl DoubleRow {
-    /// The row's number as 2 terms, for words of `W` bits.
+    /// Returns the row's number as 2 terms, for words of `W` bits.
     pub fn number<const W: u32>(&self) -> [(F, Wire); 2]
         requires width { IsWidth W }
         ensures { result ≡ row_number W self.now }
@@ -65,7 +65,7 @@ pub fn double_row<const W: u32, S: Sink>(
     Ok(row)
 }
 
-// Bits, and the two words that they spell as wires.
+// Makes the bits, and the two words that they hold as wires.
 fn row_wires<const W: u32, S: Sink>(s: &mut S, scratch: &mut Scratch) -> Put<DoubleRow>
     requires width { IsWidth W }
     requires room { Room S.meaning s.old (2 * W + 2) (2 * W + 2) }
@@ -81,7 +81,7 @@ fn row_wires<const W: u32, S: Sink>(s: &mut S, scratch: &mut Scratch) -> Put<Dou
     Ok(DoubleRow { first, low, high })
 }
 
-// A wire that holds the word spelt by the bits from `first` on.
+// Makes a wire for the word whose bits stand from `first` on.
 fn word<const W: u32, S: Sink>(s: &mut S, scratch: &mut Scratch, first: Wire) -> Put<Wire>
     requires width { IsWidth W }
     requires room { Room S.meaning s.old 1 1 }
@@ -147,8 +147,8 @@ fn above_edge<const W: u32>(high: u32, signed: bool) -> F
     F::from(high) - F::of((1 << W) - 1) - F::from(signed)
 }
 
-/// Where an assignment meets what `double_row` put, the bits spell the two words at its wires,
-/// which are a row unless it is signed.
+/// Where an assignment meets what `double_row` put, the bits are those of the two words at its
+/// wires, which are a row unless it is signed.
 #[tactic(auto, using(crate::proofs::DoubleRowLaws::double_row_sound))]
 pub fn double_row_is_sound()
     ensures { DoubleRowIsSound }
@@ -161,7 +161,7 @@ pub fn double_row_is_complete()
     ensures { DoubleRowIsComplete }
 {}
 
-/// Says which wires `double_row` answers and how many it makes, whatever the next wire is, and that
+/// Says which wires `double_row` returns and how many it makes, whatever the next wire is, and that
 /// `fill_double_row` assigns one value to each of them, below P.
 #[tactic(auto, using(crate::proofs::DoubleRowLaws::double_row_sizes))]
 pub fn double_row_fills()

@@ -8,18 +8,8 @@ ghost use Rattle.tv_core.specs.Sinks.{PutsIn, Grows, Room};
 
 use tv_core::{F, Lc, Put, Sink, Values, Wire, give_values};
 
-/// A wire that is 0 exactly where `x` is 0, and else 1. It makes 2 wires and 2 constraints.
-pub fn nonzero<S: Sink>(s: &mut S, x: &Lc) -> Put<Wire>
-    requires room { Room S.meaning s.old 2 2 }
-    requires x_made { top x.now ≤ S.meaning.wires s.old }
-    ensures puts { PutsIn S.meaning s.old s.new (nonzero_of x.now) result }
-    ensures grows { IfOk result (λ _. Grows S.meaning s.old s.new 2 2) }
-    ensures below { IfOk result (λ flag. flag < S.meaning.wires s.new) }
-{
-    nonzero_by(s, &mut Lc::empty(), &mut Lc::empty(), x)
-}
-
-/// The same, by combinations that are filled again.
+/// Makes a wire that is 0 exactly where `x` is 0, and else 1, and fills `factor` and `product` for
+/// it. It makes 2 wires and 2 constraints.
 pub fn nonzero_by<S: Sink>(s: &mut S, factor: &mut Lc, product: &mut Lc, x: &Lc) -> Put<Wire>
     requires room { Room S.meaning s.old 2 2 }
     requires x_made { top x.now ≤ S.meaning.wires s.old }
@@ -38,7 +28,7 @@ pub fn nonzero_by<S: Sink>(s: &mut S, factor: &mut Lc, product: &mut Lc, x: &Lc)
     Ok(flag)
 }
 
-/// Gives the values of the wires that `nonzero` makes, `x` being that of its combination.
+/// Assigns the values of the wires that `nonzero_by` makes, `x` being that of its combination.
 pub fn fill_nonzero<V: Values>(v: &mut V, x: F) -> Put<()>
     requires { V.giving.broken v.old ≡ false }
     ensures gives { GivesIn V.giving v.old v.new (nonzero_values x) result }
@@ -53,20 +43,20 @@ fn nonzero_values(x: F) -> [F; 2]
     [F::from(x != F::ZERO), x.inverse_or_zero()]
 }
 
-/// Where an assignment meets what `nonzero` put, its flag is right.
+/// Where an assignment meets what `nonzero_by` put, its flag is right.
 #[tactic(auto, using(crate::proofs::NonzeroLaws::nonzero_sound))]
 pub fn nonzero_is_sound()
     ensures { NonzeroIsSound }
 {}
 
-/// Where an assignment has the values that `fill_nonzero` gives, it meets what `nonzero` put.
+/// Where an assignment has the values that `fill_nonzero` assigns, it meets what `nonzero_by` put.
 #[tactic(auto, using(crate::proofs::NonzeroLaws::nonzero_complete))]
 pub fn nonzero_is_complete()
     ensures { NonzeroIsComplete }
 {}
 
-/// Says which wire `nonzero` answers, and that `fill_nonzero` gives one number for each wire that
-/// it makes.
+/// Says which wire `nonzero_by` returns, and that `fill_nonzero` assigns one number to each wire
+/// that it makes.
 #[tactic(auto, using(crate::proofs::NonzeroLaws::nonzero_sizes))]
 pub fn nonzero_fills()
     ensures { NonzeroSizes }

@@ -7,9 +7,9 @@ ghost use Rattle.tv_core.specs.Sinks.{PutsIn, Grows, Room};
 
 use tv_core::{F, Lc, Put, Scratch, Sink, Wire};
 
-/// Holds `m` to the product of `x_a` and `y_a` plus `gamma` squared times that of `x_b` and `y_b`,
-/// where these four are 0 or 1. They have at most 8 terms each, and `m` at most 64. It makes no
-/// wire and 1 constraint, from combinations that are filled again.
+/// Constrains `m` to the product of `x_a` and `y_a` plus `gamma` squared times that of `x_b` and
+/// `y_b`, where these four are 0 or 1. They have at most 8 terms each, and `m` at most 64. It makes
+/// no wire and 1 constraint.
 pub fn two_ands<S: Sink>(
     s: &mut S,
     scratch: &mut Scratch,

@@ -13,38 +13,12 @@ use crate::bit_wires::Bits;
 use crate::products::times_by;
 use tv_core::{F, Lc, Put, Scratch, Sink, Values};
 
-/// Cuts `x` and `y` into `count` chunks of `chunk` bits, at least 2 chunks, and holds `d` to the
-/// difference of two prefixes: what is left of `x` less what is left of `y`, once the same number
-/// of lowest chunks, from none to `count - 1`, is dropped from both. So with `d` from 1 to
+/// Cuts `x` and `y` into `count` chunks of `chunk` bits, at least 2 chunks, and constrains `d` to
+/// the difference of two prefixes: what is left of `x` less what is left of `y`, once the same
+/// number of lowest chunks, from none to `count - 1`, is dropped from both. So with `d` from 1 to
 /// 2^`chunk` the number of `x` is above that of `y`. The numbers have at least
 /// `chunk * (count - 1)` bits and at most 63 each, and `x`, `y` and `d` at most 128 terms together.
 /// It makes `count - 2` wires and `count - 1` constraints.
-pub fn prefix_difference<S: Sink>(
-    s: &mut S,
-    x: &Bits,
-    y: &Bits,
-    d: &Lc,
-    chunk: u32,
-    count: u32,
-) -> Put<()>
-    requires room { Room S.meaning s.old (count - 2) (count - 1) }
-    requires chunks { 2 ≤ count }
-    requires x_long { chunk * (count - 1) ≤ x.now.n }
-    requires y_long { chunk * (count - 1) ≤ y.now.n }
-    requires x_short { x.now.n ≤ 63 }
-    requires y_short { y.now.n ≤ 63 }
-    requires d_short { x.now.n + y.now.n + length d.now ≤ 128 }
-    requires x_made { x.now.first + x.now.n ≤ S.meaning.wires s.old }
-    requires y_made { y.now.first + y.now.n ≤ S.meaning.wires s.old }
-    requires d_made { top d.now ≤ S.meaning.wires s.old }
-    ensures puts { PutsIn S.meaning s.old s.new (prefix_difference_of x.now y.now d.now chunk count)
-        result }
-    ensures grows { IfOk result (λ _. Grows S.meaning s.old s.new (count - 2) (count - 1)) }
-{
-    prefix_difference_by(s, &mut Scratch::new(), x, y, d, chunk, count)
-}
-
-/// The same, by combinations that are filled again.
 pub fn prefix_difference_by<S: Sink>(
     s: &mut S,
     scratch: &mut Scratch,
@@ -98,8 +72,8 @@ fn fill_prefix_less(lc: &mut Lc, x: &Bits, y: &Bits, d: &Lc, from: u32)
     lc.minus(d);
 }
 
-/// Gives the values of the wires that `prefix_difference` makes for the numbers `x` and `y`, both
-/// below 2^63, and for `d`; `count` is at least 2, and `chunk * (count - 1)` below 64.
+/// Assigns the values of the wires that `prefix_difference_by` makes for the numbers `x` and `y`,
+/// both below 2^63, and for `d`; `count` is at least 2, and `chunk * (count - 1)` below 64.
 pub fn fill_prefix_difference<V: Values>(
     v: &mut V,
     x: u64,
@@ -134,10 +108,10 @@ fn prefix_less_in(x: u64, y: u64, d: F, from: u32) -> F
     F::of(x >> from) - F::of(y >> from) - d
 }
 
-/// By how much `x` is above `y` in the shortest prefix in which they differ, the two being cut into
-/// `count` chunks of `chunk` bits; 0 where none differs and where `x` is below `y`. It is what
-/// `prefix_difference` is given to hold where `x` is above: at least 1 there, and for numbers of at
-/// most `count * chunk` bits at most 2^`chunk` - 1.
+/// Returns by how much `x` is above `y` in the shortest prefix in which they differ, the two being
+/// cut into `count` chunks of `chunk` bits; 0 where none differs and where `x` is below `y`. It is
+/// what a caller of `prefix_difference_by` chooses as `d` where `x` is above: at least 1 there, and
+/// for numbers of at most `count * chunk` bits at most 2^`chunk` - 1.
 pub fn first_difference(x: u64, y: u64, chunk: u32, count: u32) -> u64
     requires short { chunk * (count - 1) < 64 }
     ensures { result ≡ first_difference chunk count x y }
@@ -152,7 +126,7 @@ pub fn first_difference(x: u64, y: u64, chunk: u32, count: u32) -> u64
     difference
 }
 
-/// Where an assignment meets what `prefix_difference` put for bits that spell two numbers, `d` is
+/// Where an assignment meets what `prefix_difference_by` put for the bits of two numbers, `d` is
 /// the difference of some prefixes of the two.
 #[tactic(auto, using(crate::proofs::PrefixLaws::prefix_difference_sound))]
 pub fn prefix_difference_is_sound()
@@ -160,14 +134,14 @@ pub fn prefix_difference_is_sound()
 {}
 
 /// Where `d` is the difference of some prefixes, and an assignment has the values that
-/// `fill_prefix_difference` gives, it meets what `prefix_difference` put.
+/// `fill_prefix_difference` assigns, it meets what `prefix_difference_by` put.
 #[tactic(auto, using(crate::proofs::PrefixLaws::prefix_difference_complete))]
 pub fn prefix_difference_is_complete()
     ensures { PrefixDifferenceIsComplete }
 {}
 
-/// Says where `prefix_difference` ends, and that `fill_prefix_difference` gives one number for each
-/// wire that it makes.
+/// Says where `prefix_difference_by` ends, and that `fill_prefix_difference` assigns one number to
+/// each wire that it makes.
 #[tactic(auto, using(crate::proofs::PrefixLaws::prefix_difference_sizes))]
 pub fn prefix_difference_fills()
     ensures { PrefixDifferenceSizes }

@@ -9,19 +9,8 @@ ghost use Rattle.tv_core.specs.Sinks.{PutsIn, Grows, Room};
 
 use tv_core::{Lc, Put, Sink, Wire};
 
-/// A wire that is `x` times `y`. It makes 1 wire and 1 constraint.
-pub fn times<S: Sink>(s: &mut S, x: &Lc, y: &Lc) -> Put<Wire>
-    requires room { Room S.meaning s.old 1 1 }
-    requires x_made { top x.now ≤ S.meaning.wires s.old }
-    requires y_made { top y.now ≤ S.meaning.wires s.old }
-    ensures puts { PutsIn S.meaning s.old s.new (times_of x.now y.now) result }
-    ensures grows { IfOk result (λ _. Grows S.meaning s.old s.new 1 1) }
-    ensures below { IfOk result (λ product. product < S.meaning.wires s.new) }
-{
-    times_by(s, &mut Lc::empty(), x, y)
-}
-
-/// The same, by a combination that is filled again.
+/// Makes a wire that is `x` times `y`, and fills `product` with it. It makes 1 wire and 1
+/// constraint.
 pub fn times_by<S: Sink>(s: &mut S, product: &mut Lc, x: &Lc, y: &Lc) -> Put<Wire>
     requires room { Room S.meaning s.old 1 1 }
     requires x_made { top x.now ≤ S.meaning.wires s.old }
@@ -36,19 +25,8 @@ pub fn times_by<S: Sink>(s: &mut S, product: &mut Lc, x: &Lc, y: &Lc) -> Put<Wir
     Ok(w)
 }
 
-/// A wire that holds the value of `x`. It makes 1 wire and 1 constraint, of 2 terms and those of
-/// `x`.
-pub fn kept<S: Sink>(s: &mut S, x: &Lc) -> Put<Wire>
-    requires room { Room S.meaning s.old 1 1 }
-    requires x_made { top x.now ≤ S.meaning.wires s.old }
-    ensures puts { PutsIn S.meaning s.old s.new (kept_of x.now) result }
-    ensures grows { IfOk result (λ _. Grows S.meaning s.old s.new 1 1) }
-    ensures below { IfOk result (λ w. w < S.meaning.wires s.new) }
-{
-    kept_by(s, &mut Lc::empty(), &mut Lc::empty(), x)
-}
-
-/// The same, by combinations that are filled again.
+/// Makes a wire that holds the value of `x`, and fills `one` and `product` for it. It makes 1 wire
+/// and 1 constraint, of 2 terms and those of `x`.
 pub fn kept_by<S: Sink>(s: &mut S, one: &mut Lc, product: &mut Lc, x: &Lc) -> Put<Wire>
     requires room { Room S.meaning s.old 1 1 }
     requires x_made { top x.now ≤ S.meaning.wires s.old }
@@ -60,20 +38,8 @@ pub fn kept_by<S: Sink>(s: &mut S, one: &mut Lc, product: &mut Lc, x: &Lc) -> Pu
     times_by(s, product, x, one)
 }
 
-/// A wire that times `x` is `y`. Where `x` is 0 the wire may hold anything, and `y` is held to 0.
-/// It makes 1 wire and 1 constraint.
-pub fn ratio<S: Sink>(s: &mut S, x: &Lc, y: &Lc) -> Put<Wire>
-    requires room { Room S.meaning s.old 1 1 }
-    requires x_made { top x.now ≤ S.meaning.wires s.old }
-    requires y_made { top y.now ≤ S.meaning.wires s.old }
-    ensures puts { PutsIn S.meaning s.old s.new (ratio_of x.now y.now) result }
-    ensures grows { IfOk result (λ _. Grows S.meaning s.old s.new 1 1) }
-    ensures below { IfOk result (λ ratio. ratio < S.meaning.wires s.new) }
-{
-    ratio_by(s, &mut Lc::empty(), x, y)
-}
-
-/// The same, by a combination that is filled again.
+/// Makes a wire that times `x` is `y`, and fills `ratio` with it. Where `x` is 0 the wire may hold
+/// anything, and `y` is constrained to 0. It makes 1 wire and 1 constraint.
 pub fn ratio_by<S: Sink>(s: &mut S, ratio: &mut Lc, x: &Lc, y: &Lc) -> Put<Wire>
     requires room { Room S.meaning s.old 1 1 }
     requires x_made { top x.now ≤ S.meaning.wires s.old }
@@ -88,61 +54,61 @@ pub fn ratio_by<S: Sink>(s: &mut S, ratio: &mut Lc, x: &Lc, y: &Lc) -> Put<Wire>
     Ok(w)
 }
 
-/// Where an assignment meets what `times` put, the wire holds the product.
+/// Where an assignment meets what `times_by` put, the wire holds the product.
 #[tactic(auto, using(crate::proofs::TimesLaws::times_sound))]
 pub fn times_is_sound()
     ensures { TimesIsSound }
 {}
 
-/// Where an assignment has the product at the wire that was made, it meets what `times` put.
+/// Where an assignment has the product at the wire that was made, it meets what `times_by` put.
 #[tactic(auto, using(crate::proofs::TimesLaws::times_complete))]
 pub fn times_is_complete()
     ensures { TimesIsComplete }
 {}
 
-/// Says which wire `times` answers, and that its value, the product, is one number of the field for
-/// each wire that it makes.
+/// Says which wire `times_by` returns, and that there is one value for it, the product, a number of
+/// the field.
 #[tactic(auto, using(crate::proofs::TimesLaws::times_sizes))]
 pub fn times_fills()
     ensures { TimesSizes }
 {}
 
-/// Where an assignment meets what `kept` put, its wire holds the value.
+/// Where an assignment meets what `kept_by` put, its wire holds the value.
 #[tactic(auto, using(crate::proofs::TimesLaws::kept_sound))]
 pub fn kept_is_sound()
     ensures { KeptIsSound }
 {}
 
-/// Where an assignment has the value at the wire that was made, it meets what `kept` put.
+/// Where an assignment has the value at the wire that was made, it meets what `kept_by` put.
 #[tactic(auto, using(crate::proofs::TimesLaws::kept_complete))]
 pub fn kept_is_complete()
     ensures { KeptIsComplete }
 {}
 
-/// Says which wire `kept` answers, and that its value, the number kept, is one number of the field
-/// for each wire that it makes.
+/// Says which wire `kept_by` returns, and that there is one value for it, the number kept, a number
+/// of the field.
 #[tactic(auto, using(crate::proofs::TimesLaws::kept_sizes))]
 pub fn kept_fills()
     ensures { KeptSizes }
 {}
 
-/// Where an assignment meets what `ratio` put, the wire times the first number is the second.
+/// Where an assignment meets what `ratio_by` put, the wire times the first number is the second.
 #[tactic(auto, using(crate::proofs::TimesLaws::ratio_sound))]
 pub fn ratio_is_sound()
     ensures { RatioIsSound }
 {}
 
 /// Where an assignment has a number at the wire that times the first number is the second, it meets
-/// what `ratio` put; and the second times the inverse of the first, 0 where the first is 0, is one,
-/// unless the first number is 0 and the second isn't.
+/// what `ratio_by` put; and the second times the inverse of the first, 0 where the first is 0, is
+/// one, unless the first number is 0 and the second isn't.
 #[tactic(auto, using(crate::proofs::TimesLaws::ratio_laws))]
 pub fn ratio_is_complete()
     ensures meets { RatioIsComplete }
     ensures divides { RatioDivides }
 {}
 
-/// Says which wire `ratio` answers, and that its value, the second number times the inverse of the
-/// first, is one number of the field for each wire that it makes.
+/// Says which wire `ratio_by` returns, and that there is one value for it, the second number times
+/// the inverse of the first, a number of the field.
 #[tactic(auto, using(crate::proofs::TimesLaws::ratio_sizes))]
 pub fn ratio_fills()
     ensures { RatioSizes }

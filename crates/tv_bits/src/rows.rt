@@ -25,8 +25,8 @@ pub fn plus_row(lc: &mut Lc, first: Wire, count: u32)
     }
 }
 
-/// The first of 2^n wires of which the one whose number the bits spell is 1, and each other one 0;
-/// there are at most 5 bits. It makes 2^n wires and 2^n + 1 constraints.
+/// Makes 2^n wires of which the one whose number the bits hold is 1, and each other one 0, and
+/// returns the first; there are at most 5 bits. It makes 2^n wires and 2^n + 1 constraints.
 pub fn onehot<S: Sink>(s: &mut S, x: &Bits) -> Put<Wire>
     requires room { Room S.meaning s.old (2 ^ x.now.n) (2 ^ x.now.n + 1) }
     requires short { x.now.n ≤ 5 }
@@ -38,7 +38,7 @@ pub fn onehot<S: Sink>(s: &mut S, x: &Bits) -> Put<Wire>
     onehot_by(s, &mut Scratch::new(), x)
 }
 
-/// The same, by combinations that are filled again.
+/// Like `onehot`, but reuses the caller's scratch combinations.
 pub fn onehot_by<S: Sink>(s: &mut S, scratch: &mut Scratch, x: &Bits) -> Put<Wire>
     requires room { Room S.meaning s.old (2 ^ x.now.n) (2 ^ x.now.n + 1) }
     requires short { x.now.n ≤ 5 }
@@ -59,7 +59,7 @@ pub fn onehot_by<S: Sink>(s: &mut S, scratch: &mut Scratch, x: &Bits) -> Put<Wir
     Ok(first)
 }
 
-// A wire that is 0 unless `x` spells `i`.
+// Makes a wire that is 0 unless the bits `x` are those of `i`.
 fn mark<S: Sink>(s: &mut S, scratch: &mut Scratch, x: &Bits, i: u32) -> Put<()>
     requires room { Room S.meaning s.old 1 1 }
     requires short { x.now.n ≤ 5 }
@@ -76,7 +76,7 @@ fn mark<S: Sink>(s: &mut S, scratch: &mut Scratch, x: &Bits, i: u32) -> Put<()>
     s.put(&scratch.a, &scratch.b, &scratch.c)
 }
 
-/// Gives the values of the wires that `onehot` makes for `n` bits that spell `x`.
+/// Assigns the values of the wires that `onehot` makes for the `n` bits of `x`.
 pub fn fill_onehot<V: Values>(v: &mut V, x: u32, n: u32) -> Put<()>
     requires whole { V.giving.broken v.old ≡ false }
     requires short { n ≤ 5 }
@@ -96,21 +96,21 @@ fn row_len(n: u32) -> u32
     1 << n
 }
 
-/// Where an assignment meets what `onehot` put for bits that spell a number, that number's wire is
-/// 1 and each other one 0.
+/// Where an assignment meets what `onehot` put for the bits of a number, that number's wire is 1
+/// and each other one 0.
 #[tactic(auto, using(crate::proofs::OneHotLaws::onehot_sound))]
 pub fn onehot_is_sound()
     ensures { OneHotIsSound }
 {}
 
-/// Where bits spell a number and an assignment has the values that `fill_onehot` gives for it, it
-/// meets what `onehot` put.
+/// Where wires hold the bits of a number and an assignment has the values that `fill_onehot`
+/// assigns for it, it meets what `onehot` put.
 #[tactic(auto, using(crate::proofs::OneHotLaws::onehot_complete))]
 pub fn onehot_is_complete()
     ensures { OneHotIsComplete }
 {}
 
-/// Says which wire `onehot` answers, and that `fill_onehot` gives one number for each wire that it
+/// Says which wire `onehot` returns, and that `fill_onehot` assigns one number to each wire that it
 /// makes.
 #[tactic(auto, using(crate::proofs::SizeLaws::onehot_sizes))]
 pub fn onehot_fills()

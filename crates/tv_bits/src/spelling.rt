@@ -1,4 +1,4 @@
-//! Numbers spelt by bits.
+//! Numbers cut into bits.
 ghost use Rattle.std.specs.Prelude.{◌≡◌, ◌+◌, ◌≤◌, ◌<◌, false, IfOk, OnOk};
 ghost use Rattle.std.specs.Int.{bit_at};
 ghost use Rattle.tv_bits.specs.Bits.{bits_values, new_bits_of, bits_of, NewBitsAreSound};
@@ -12,7 +12,7 @@ use crate::bit_wires::Bits;
 use crate::booleans::bit_by;
 use tv_core::{F, Lc, Put, Scratch, Sink, Values, Wire};
 
-/// New wires, each held to 0 or 1. It makes `n` wires and `n` constraints.
+/// Makes new wires, each constrained to 0 or 1. It makes `n` wires and `n` constraints.
 pub fn new_bits<S: Sink>(s: &mut S, n: u32) -> Put<Bits>
     requires room { Room S.meaning s.old n n }
     ensures puts { PutsIn S.meaning s.old s.new (new_bits_of n) result }
@@ -23,7 +23,7 @@ pub fn new_bits<S: Sink>(s: &mut S, n: u32) -> Put<Bits>
     new_bits_by(s, &mut Lc::empty(), n)
 }
 
-/// The same, by a combination that is filled again.
+/// Like `new_bits`, but reuses a combination of the caller.
 pub fn new_bits_by<S: Sink>(s: &mut S, lc: &mut Lc, n: u32) -> Put<Bits>
     requires room { Room S.meaning s.old n n }
     ensures puts { PutsIn S.meaning s.old s.new (new_bits_of n) result }
@@ -42,8 +42,8 @@ pub fn new_bits_by<S: Sink>(s: &mut S, lc: &mut Lc, n: u32) -> Put<Bits>
     Ok(bits)
 }
 
-/// New wires that spell `x` in `n` bits, of which there are at most 63; so `x` is held below 2^n.
-/// It makes `n` wires and `n + 1` constraints.
+/// Makes new wires that are the `n`-bit decomposition of `x`, for `n` of at most 63; so `x` is
+/// constrained to less than 2^n. It makes `n` wires and `n + 1` constraints.
 pub fn bits<S: Sink>(s: &mut S, x: &Lc, n: u32) -> Put<Bits>
     requires room { Room S.meaning s.old n (n + 1) }
     requires x_made { top x.now ≤ S.meaning.wires s.old }
@@ -56,7 +56,7 @@ pub fn bits<S: Sink>(s: &mut S, x: &Lc, n: u32) -> Put<Bits>
     bits_by(s, &mut Scratch::new(), x, n)
 }
 
-/// The same, by combinations that are filled again.
+/// Like `bits`, but reuses the caller's scratch combinations.
 pub fn bits_by<S: Sink>(s: &mut S, scratch: &mut Scratch, x: &Lc, n: u32) -> Put<Bits>
     requires room { Room S.meaning s.old n (n + 1) }
     requires x_made { top x.now ≤ S.meaning.wires s.old }
@@ -73,7 +73,7 @@ pub fn bits_by<S: Sink>(s: &mut S, scratch: &mut Scratch, x: &Lc, n: u32) -> Put
     Ok(made)
 }
 
-/// Gives the `n` lowest bits of `x`, lowest first: the values of the wires that `bits` makes for
+/// Assigns the `n` lowest bits of `x`, lowest first: the values of the wires that `bits` makes for
 /// it, and `new_bits` for any number.
 pub fn fill_bits<V: Values>(v: &mut V, x: F, n: u32) -> Put<()>
     requires whole { V.giving.broken v.old ≡ false }
@@ -101,34 +101,34 @@ pub fn new_bits_are_sound()
     ensures { NewBitsAreSound }
 {}
 
-/// Where an assignment has the values that `fill_bits` gives for any number, it meets what
+/// Where an assignment has the values that `fill_bits` assigns for any number, it meets what
 /// `new_bits` put.
 #[tactic(auto, using(crate::proofs::SpellingLaws::new_bits_complete))]
 pub fn new_bits_are_complete()
     ensures { NewBitsAreComplete }
 {}
 
-/// Where an assignment meets what `bits` put, the wires spell the value.
+/// Where an assignment meets what `bits` put, the wires hold the bits of the value.
 #[tactic(auto, using(crate::proofs::SpellingLaws::bits_sound))]
 pub fn bits_are_sound()
     ensures { BitsAreSound }
 {}
 
-/// Where the value is below 2^n and an assignment has the values that `fill_bits` gives, it meets
-/// what `bits` put.
+/// Where the value is below 2^n and an assignment has the values that `fill_bits` assigns, it
+/// meets what `bits` put.
 #[tactic(auto, using(crate::proofs::SpellingLaws::bits_complete))]
 pub fn bits_are_complete()
     ensures { BitsAreComplete }
 {}
 
-/// Says which wires `new_bits` answers, and that `fill_bits` gives one number for each wire that it
-/// makes.
+/// Says which wires `new_bits` returns, and that `fill_bits` assigns one number to each wire that
+/// it makes.
 #[tactic(auto, using(crate::proofs::SizeLaws::new_bits_sizes))]
 pub fn new_bits_fill()
     ensures { NewBitsSizes }
 {}
 
-/// Says which wires `bits` answers, and that `fill_bits` gives one number for each wire that it
+/// Says which wires `bits` returns, and that `fill_bits` assigns one number to each wire that it
 /// makes.
 #[tactic(auto, using(crate::proofs::SizeLaws::bits_sizes))]
 pub fn bits_fill()

@@ -7,7 +7,7 @@ ghost use Rattle.tv_bits.specs.Zero.{zero_of, zero_values, ZeroIsSound, ZeroIsCo
 
 use tv_core::{F, Lc, Put, Sink, Values, Wire, give_values};
 
-/// A wire that is 1 exactly where `x` is 0, and else 0. It makes 2 wires and 2 constraints.
+/// Makes a wire that is 1 exactly where `x` is 0, and else 0. It makes 2 wires and 2 constraints.
 pub fn zero<S: Sink>(s: &mut S, x: &Lc) -> Put<Wire>
     requires room { Room S.meaning s.old 2 2 }
     requires x_made { top x.now ≤ S.meaning.wires s.old }
@@ -18,7 +18,7 @@ pub fn zero<S: Sink>(s: &mut S, x: &Lc) -> Put<Wire>
     zero_by(s, &mut Lc::empty(), &mut Lc::empty(), x)
 }
 
-/// The same, by combinations that are filled again.
+/// Like `zero`, but reuses two combinations of the caller.
 pub fn zero_by<S: Sink>(s: &mut S, factor: &mut Lc, product: &mut Lc, x: &Lc) -> Put<Wire>
     requires room { Room S.meaning s.old 2 2 }
     requires x_made { top x.now ≤ S.meaning.wires s.old }
@@ -37,7 +37,7 @@ pub fn zero_by<S: Sink>(s: &mut S, factor: &mut Lc, product: &mut Lc, x: &Lc) ->
     Ok(flag)
 }
 
-/// Gives the values of the wires that `zero` makes, `x` being that of its combination.
+/// Assigns the values of the wires that `zero` makes, `x` being that of its combination.
 pub fn fill_zero<V: Values>(v: &mut V, x: F) -> Put<()>
     requires { V.giving.broken v.old ≡ false }
     ensures gives { GivesIn V.giving v.old v.new (zero_values x) result }
@@ -58,13 +58,13 @@ pub fn zero_is_sound()
     ensures { ZeroIsSound }
 {}
 
-/// Where an assignment has the values that `fill_zero` gives, it meets what `zero` put.
+/// Where an assignment has the values that `fill_zero` assigns, it meets what `zero` put.
 #[tactic(auto, using(crate::proofs::ZeroLaws::zero_complete))]
 pub fn zero_is_complete()
     ensures { ZeroIsComplete }
 {}
 
-/// Says which wire `zero` answers, and that `fill_zero` gives one number for each wire that it
+/// Says which wire `zero` returns, and that `fill_zero` assigns one number to each wire that it
 /// makes.
 #[tactic(auto, using(crate::proofs::SizeLaws::zero_sizes))]
 pub fn zero_fills()

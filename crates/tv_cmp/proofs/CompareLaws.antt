@@ -1,5 +1,6 @@
 -- The laws of the comparison.
-use Rattle.std.proofs.Common.{◌≡◌, ℕ, ◌+◌, ◌-◌, ◌*◌, ◌/◌, ◌%◌, ◌^◌, ◌<◌, ◌≤◌, List, [], ◌∷◌, ◌++◌, ◌==◌, Bool, true, false, if◌then◌else◌, nat_lt, int_lt, length, length-append, refl, sym, subst, ◌∙◌, ap, ap₂, arith}
+use Rattle.std.proofs.Common.{◌≡◌, ℕ, ◌+◌, ◌-◌, ◌*◌, ◌/◌, ◌%◌, ◌^◌, ◌<◌, ◌≤◌, List, [], ◌∷◌, ◌++◌, ◌==◌, Bool, true, false, if◌then◌else◌, nat_lt, int_lt}
+use Rattle.std.proofs.Common.{length, length-append, refl, sym, subst, ◌∙◌, ap, ap₂, arith}
 use Rattle.std.specs.Int.{bit_at}
 use Rattle.std.specs.Prelude.{slice_index}
 use Rattle.tv_bits.proofs.BitLaws.{bit_sound, bit_complete}
@@ -14,7 +15,8 @@ use Rattle.tv_bits.specs.Prefixes.{prefix_less_in, prefix_difference_of, prefix_
 use Rattle.tv_bits.specs.declared.bit_wires.Bits.{Bits}
 use Rattle.tv_cmp.proofs.Decisions.{sign_in, decided, settled}
 use Rattle.tv_cmp.proofs.Flags.{greater_is, greater_flag-bit}
-use Rattle.tv_cmp.specs.Compare.{above_flag, greater_flag, equal_flag, word_bits, sign, but_for_signs, order_flags_of, signed_size_of, greater_of, compare_of, size, signed_size, compare_values, CompareIsSound, CompareIsComplete, CompareSizes}
+use Rattle.tv_cmp.specs.Compare.{above_flag, greater_flag, equal_flag, word_bits, sign, but_for_signs, order_flags_of, signed_size_of, greater_of, compare_of}
+use Rattle.tv_cmp.specs.Compare.{size, signed_size, compare_values, CompareIsSound, CompareIsComplete, CompareSizes}
 use Rattle.tv_word.proofs.WidthLaws.{width_short}
 use Rattle.tv_word.specs.Widths.{IsWidth}
 use Rattle.tv_word.specs.Word.{signed}
@@ -40,7 +42,8 @@ module _ (z : List ℕ) (assigns : Assigns z) where
   module _ (w : ℕ) (short : w ≤ 32) (e a : ℕ) (x y : Bits) (at u v : ℕ) (s : Spells z x.first w u) (r : Spells z y.first w v) where
     apart_value : value (wire e) z * value (less (bits_combination x.first w) (bits_combination y.first w)) z % P ≡ slice_index z e * ((u + (P - v)) % P) % P
     apart_value = ap₂ (λ m n. m * n % P) (value-wire assigns e)
-        (value-less (bits_combination x.first w) (bits_combination y.first w) z ∙ ap₂ (λ m n. (m + (P - n)) % P) (value-bits_below s (omega arith)) (value-bits_below r (omega arith)))
+        (value-less (bits_combination x.first w) (bits_combination y.first w) z
+        ∙ ap₂ (λ m n. (m + (P - n)) % P) (value-bits_below s (omega arith)) (value-bits_below r (omega arith)))
 
     one_value : value (wire a) z * value (wire e) z % P ≡ slice_index z a * slice_index z e % P
     one_value = ap₂ (λ m n. m * n % P) (value-wire assigns a) (value-wire assigns e)
@@ -52,7 +55,8 @@ module _ (z : List ℕ) (assigns : Assigns z) where
         let both = Meets-split z (bit_of a at).list _ meets in
         (bit_sound z at a assigns both.0, sym apart_value ∙ both.1.0, sym one_value ∙ both.1.1.0)
 
-    order_flags_complete : slice_index z a < 2 → slice_index z e * ((u + (P - v)) % P) % P ≡ 0 → slice_index z a * slice_index z e % P ≡ 0 → Meets z (order_flags_of w e a x y at).list
+    order_flags_complete : slice_index z a < 2 → slice_index z e * ((u + (P - v)) % P) % P ≡ 0 → slice_index z a * slice_index z e % P ≡ 0
+        → Meets z (order_flags_of w e a x y at).list
     unfolding order_flags_of put ◌>>=◌
     order_flags_complete bit apart one =
         Meets-join z (bit_of a at).list _ (bit_complete z at a assigns bit) (apart_value ∙ apart, (one_value ∙ one, tt))
@@ -99,15 +103,27 @@ unfolding compare_of greater_of fresh put pure ◌>>=◌
 compare_answer w x y next =
     ap (λ g. record { equal = next; above = next + 1; greater = g }) (last w x y next)
   where
-    last : (w : ℕ) (x y : Bits) (next : ℕ) → (prefix_difference_of (word_bits w x) (word_bits w y) (wire (signed_size_of (w / 4) next (next + 1) (order_flags_of w next (next + 1) x y (next + 1 + 1)).next).answer) (w / 4) 4 (signed_size_of (w / 4) next (next + 1) (order_flags_of w next (next + 1) x y (next + 1 + 1)).next).next).next ≡ next + (w / 4 + 5)
-    last w x y next = prefix_difference_next (word_bits w x) (word_bits w y) (wire (signed_size_of (w / 4) next (next + 1) (order_flags_of w next (next + 1) x y (next + 1 + 1)).next).answer) (w / 4) 4 _
-        ∙ omega (arith, signed_size_next (w / 4) next (next + 1) (order_flags_of w next (next + 1) x y (next + 1 + 1)).next, order_flags_next w next (next + 1) x y (next + 1 + 1))
+    last : (w : ℕ) (x y : Bits) (next : ℕ) → (prefix_difference_of (word_bits w x) (word_bits w y)
+        (wire (signed_size_of (w / 4) next (next + 1) (order_flags_of w next (next + 1) x y (next + 1 + 1)).next).answer) (w / 4) 4
+        (signed_size_of (w / 4) next (next + 1) (order_flags_of w next (next + 1) x y (next + 1 + 1)).next).next).next ≡ next + (w / 4 + 5)
+    last w x y next = prefix_difference_next (word_bits w x) (word_bits w y)
+        (wire (signed_size_of (w / 4) next (next + 1) (order_flags_of w next (next + 1) x y (next + 1 + 1)).next).answer) (w / 4) 4 _
+        ∙ omega (
+          arith,
+          signed_size_next (w / 4) next (next + 1) (order_flags_of w next (next + 1) x y (next + 1 + 1)).next,
+          order_flags_next w next (next + 1) x y (next + 1 + 1),
+        )
 
 pub compare_next : (w : ℕ) (x y : Bits) (next : ℕ) → (compare_of w x y next).next ≡ next + (w / 4 + 6)
 unfolding compare_of greater_of fresh put pure ◌>>=◌
 compare_next w x y next =
     let size = signed_size_of (w / 4) next (next + 1) (order_flags_of w next (next + 1) x y (next + 1 + 1)).next in
-    omega (arith, prefix_difference_next (word_bits w x) (word_bits w y) (wire size.answer) (w / 4) 4 size.next, signed_size_next (w / 4) next (next + 1) (order_flags_of w next (next + 1) x y (next + 1 + 1)).next, order_flags_next w next (next + 1) x y (next + 1 + 1))
+    omega (
+      arith,
+      prefix_difference_next (word_bits w x) (word_bits w y) (wire size.answer) (w / 4) 4 size.next,
+      signed_size_next (w / 4) next (next + 1) (order_flags_of w next (next + 1) x y (next + 1 + 1)).next,
+      order_flags_next w next (next + 1) x y (next + 1 + 1),
+    )
 
 -- ---- the laws
 -- whether the first is greater, from whether it is above and the sign bits
@@ -133,9 +149,11 @@ compare_sound w width z next x y u v assigns s r meets =
     let third = Meets-split z prefix.list _ second.1 in
     let held = order_flags_sound z assigns w short e a x y (next + 1 + 1) u v s r first.0 in
     let sized = signed_size_sound z assigns (w / 4) e a flags.next (omega arith) second.0 in
-    let difference = prefix_difference_sound z made.next (word_bits w x) (word_bits w y) (wire made.answer) (w / 4) 4 u v (omega arith) (omega arith) (omega arith) (omega arith) (omega arith) assigns
+    let difference = prefix_difference_sound z made.next (word_bits w x) (word_bits w y) (wire made.answer) (w / 4) 4 u v (omega arith) (omega arith)
+    (omega arith) (omega arith) (omega arith) assigns
     s r third.0 in
-    let decision = decided w width u v (slice_index z e) (slice_index z a) sized.0 (slice_index z made.answer) (Spells-below s) (Spells-below r) (wire-below assigns e) sized.1 sized.2 (record {
+    let decision = decided w width u v (slice_index z e) (slice_index z a) sized.0 (slice_index z made.answer) (Spells-below s) (Spells-below r)
+    (wire-below assigns e) sized.1 sized.2 (record {
       bit = held.0;
       apart = held.1;
       one = held.2;
@@ -146,7 +164,8 @@ compare_sound w width z next x y u v assigns s r meets =
     record {
       equal = decision.0;
       above = decision.1;
-      greater = sign_bits w width _ _ _ _ u v (Spells-below s) (Spells-below r) decision.1 (Spells-bit_at s (w - 1) (grind arith)) (Spells-bit_at r (w - 1) (grind arith)) (wire-below assigns prefix.next) signs;
+      greater = sign_bits w width _ _ _ _ u v (Spells-below s) (Spells-below r) decision.1 (Spells-bit_at s (w - 1) (grind arith))
+          (Spells-bit_at r (w - 1) (grind arith)) (wire-below assigns prefix.next) signs;
     }
 
 pub compare_complete : CompareIsComplete
@@ -167,17 +186,22 @@ compare_complete w width z next x y u v assigns s r has =
     let flags_end = order_flags_next w e a x y at in
     let made_end : made.next ≡ at + w / 4 + 1 = signed_size_next (w / 4) e a flags.next ∙ ap (λ n. n + w / 4 + 1) flags_end in
     let made_at : made.answer ≡ at + w / 4 = signed_size_answer (w / 4) e a flags.next ∙ ap (λ n. n + w / 4) flags_end in
-    let prefix_end : prefix.next ≡ at + w / 4 + 1 + 2 = prefix_difference_next (word_bits w x) (word_bits w y) (wire made.answer) (w / 4) 4 made.next ∙ ap (λ n. n + 2) made_end in
+    let prefix_end : prefix.next ≡ at + w / 4 + 1 + 2 = prefix_difference_next (word_bits w x) (word_bits w y) (wire made.answer) (w / 4) 4 made.next
+    ∙ ap (λ n. n + 2) made_end in
     let difference : value (wire made.answer) z ≡ signed_size w u v = value-wire assigns made.answer ∙ ap (λ k. slice_index z k) made_at ∙ rest.0 in
     let flags_met = order_flags_complete z assigns w short e a x y at u v s r
     (omega (arith, has.1.0, held.1.bit)) (ap (λ n. n * ((u + (P - v)) % P) % P) has.0 ∙ held.1.apart) (ap₂ (λ m n. m * n % P) has.1.0 has.0 ∙ held.1.one) in
-    let made_met = signed_size_complete z assigns (w / 4) e a flags.next (size w u v - 1) (omega arith) held.0 (subst (λ n. HasFrom z n (bits_values (size w u v - 1) (w / 4))) (sym flags_end) sizes.0)
+    let made_met = signed_size_complete z assigns (w / 4) e a flags.next (size w u v - 1) (omega arith) held.0
+    (subst (λ n. HasFrom z n (bits_values (size w u v - 1) (w / 4))) (sym flags_end) sizes.0)
     (ap₂ (λ m n. sign_in m n * (size w u v - 1 + 1) % P) has.0 has.1.0 ∙ held.1.signed ∙ sym rest.0 ∙ ap (λ n. slice_index z (n + w / 4)) (sym flags_end)) in
-    let prefix_met = prefix_difference_complete z made.next (word_bits w x) (word_bits w y) (wire made.answer) (w / 4) 4 u v (omega arith) (omega arith) (omega arith) (omega arith) (omega arith) assigns
+    let prefix_met = prefix_difference_complete z made.next (word_bits w x) (word_bits w y) (wire made.answer) (w / 4) 4 u v (omega arith) (omega arith)
+    (omega arith) (omega arith) (omega arith) assigns
     s r (subst (λ n. IsPrefixDifference (w / 4) 4 u v n) (sym difference) held.1.prefix)
-    (subst (λ n. HasFrom z n (prefix_difference_values u v (value (wire made.answer) z) (w / 4) 4)) (sym made_end) (subst (λ n. HasFrom z (at + w / 4 + 1) (prefix_difference_values u v n (w / 4) 4)) (sym difference) products.0)) in
+    (subst (λ n. HasFrom z n (prefix_difference_values u v (value (wire made.answer) z) (w / 4) 4)) (sym made_end)
+    (subst (λ n. HasFrom z (at + w / 4 + 1) (prefix_difference_values u v n (w / 4) 4)) (sym difference) products.0)) in
     let greater : slice_index z prefix.next ≡ greater_flag w u v = ap (λ n. slice_index z n) prefix_end ∙ last.0 in
-    let signs = but_for_bits w width (slice_index z a) (slice_index z (x.first + (w - 1))) (slice_index z (y.first + (w - 1))) u v (Spells-below s) (Spells-below r) has.1.0 (Spells-bit_at s (w - 1) (grind arith)) (Spells-bit_at r (w - 1) (grind arith)) in
+    let signs = but_for_bits w width (slice_index z a) (slice_index z (x.first + (w - 1))) (slice_index z (y.first + (w - 1))) u v (Spells-below s)
+    (Spells-below r) has.1.0 (Spells-bit_at s (w - 1) (grind arith)) (Spells-bit_at r (w - 1) (grind arith)) in
     let greater_met = greater_value z assigns prefix.next ∙ greater ∙ signs ∙ sym (value-but_for_signs z assigns a (x.first + (w - 1)) (y.first + (w - 1))) in
     Meets-join z flags.list _ flags_met (Meets-join z made.list _ made_met (Meets-join z prefix.list _ prefix_met (greater_met, tt)))
 
@@ -207,7 +231,8 @@ compare_in_field w u v =
     let products_in = products_in_field (λ j. prefix_less_in u v (signed_size w u v) (w / 4 * j)) 4 in
     let rest_in = InField-cons (signed_size w u v) (products ++ last) (omega arith) (InField-append products last products_in last_in) in
     let all_in = InField-append bits rest (bits_in_field (size w u v - 1) (w / 4)) rest_in in
-    InField-cons (equal_flag u v) (above_flag u v ∷ (bits ++ rest)) (small_flag (u == v)) (InField-cons (above_flag u v) (bits ++ rest) (small_flag (nat_lt v u)) all_in)
+    InField-cons (equal_flag u v) (above_flag u v ∷ (bits ++ rest)) (small_flag (u == v))
+    (InField-cons (above_flag u v) (bits ++ rest) (small_flag (nat_lt v u)) all_in)
 
 pub compare_sizes : CompareSizes
 compare_sizes = record {

@@ -45,17 +45,21 @@ three_and_five_16 = refl
 
 -- 14 wires and 16 constraints, and at 16 bits 10 and 12
 wires_made : (compare_of 32 (record { first = 1; n = 32 }) (record { first = 33; n = 32 }) 65).next ≡ 79
-unfolding compare_of order_flags_of signed_size_of greater_of bit_of new_bit new_bits_of times_of next_product zero_product_of prefix_difference_of here fresh put pure turns ◌>>=◌
+unfolding compare_of order_flags_of signed_size_of greater_of bit_of new_bit new_bits_of times_of next_product zero_product_of prefix_difference_of here fresh
+    put pure turns ◌>>=◌
 wires_made = refl
 
 constraints_put : length (compare_of 32 (record { first = 1; n = 32 }) (record { first = 33; n = 32 }) 65).list ≡ 16
-unfolding compare_of order_flags_of signed_size_of greater_of bit_of new_bit new_bits_of times_of next_product zero_product_of prefix_difference_of here fresh put pure turns ◌>>=◌
+unfolding compare_of order_flags_of signed_size_of greater_of bit_of new_bit new_bits_of times_of next_product zero_product_of prefix_difference_of here fresh
+    put pure turns ◌>>=◌
 constraints_put = refl
 
 wires_made_16 : (compare_of 16 (record { first = 1; n = 16 }) (record { first = 17; n = 16 }) 33).next ≡ 43
-unfolding compare_of order_flags_of signed_size_of greater_of bit_of new_bit new_bits_of times_of next_product zero_product_of prefix_difference_of here fresh put pure turns ◌>>=◌
+unfolding compare_of order_flags_of signed_size_of greater_of bit_of new_bit new_bits_of times_of next_product zero_product_of prefix_difference_of here fresh
+    put pure turns ◌>>=◌
 wires_made_16 = refl
 
 constraints_put_16 : length (compare_of 16 (record { first = 1; n = 16 }) (record { first = 17; n = 16 }) 33).list ≡ 12
-unfolding compare_of order_flags_of signed_size_of greater_of bit_of new_bit new_bits_of times_of next_product zero_product_of prefix_difference_of here fresh put pure turns ◌>>=◌
+unfolding compare_of order_flags_of signed_size_of greater_of bit_of new_bit new_bits_of times_of next_product zero_product_of prefix_difference_of here fresh
+    put pure turns ◌>>=◌
 constraints_put_16 = refl

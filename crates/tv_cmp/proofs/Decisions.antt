@@ -2,7 +2,8 @@
 use Rattle.std.proofs.Common.{◌≡◌, ◌≢◌, ℕ, ◌+◌, ◌-◌, ◌*◌, ◌/◌, ◌%◌, ◌^◌, ◌<◌, ◌≤◌, inl, inr, sym, subst, ◌∙◌, ap, ap₂, arith, mod-lt, zero-mul}
 use Rattle.std.proofs.lemmas.Bool.{cases_eq, cases_lt}
 use Rattle.tv_bits.proofs.BitLaws.{bit_cases}
-use Rattle.tv_bits.proofs.OrderLaws.{IsPrefixDifference-above, IsPrefixDifference-first, IsPrefixDifference-turned, IsPrefixDifference-back, IsPrefixDifference-same, IsPrefixDifference-none, first_difference-some, first_difference-below, first_difference-none}
+use Rattle.tv_bits.proofs.OrderLaws.{IsPrefixDifference-above, IsPrefixDifference-first, IsPrefixDifference-turned, IsPrefixDifference-back}
+use Rattle.tv_bits.proofs.OrderLaws.{IsPrefixDifference-same, IsPrefixDifference-none, first_difference-some, first_difference-below, first_difference-none}
 use Rattle.tv_bits.specs.Order.{IsPrefixDifference, first_difference}
 use Rattle.tv_cmp.proofs.Flags.{equal_flag-same, equal_flag-apart, above_flag-above, above_flag-not}
 use Rattle.tv_cmp.specs.Compare.{equal_flag, above_flag, size, signed_size}
@@ -23,12 +24,17 @@ pub record Holds (c x y e a d t : ℕ) : Type 0 where
   pub signed : sign_in e a * d % P ≡ t
   pub prefix : IsPrefixDifference c 4 x y t
 
-module _ (w : ℕ) (width : IsWidth w) (x y e a d t : ℕ) (h : x < 2 ^ w) (k : y < 2 ^ w) (small : e < P) (some : 0 < d) (most : d ≤ 2 ^ (w / 4)) (holds : Holds (w / 4) x y e a d t) where
+module _ (w : ℕ) (width : IsWidth w) (x y e a d t : ℕ) (h : x < 2 ^ w) (k : y < 2 ^ w) (small : e < P) (some : 0 < d) (most : d ≤ 2 ^ (w / 4))
+    (holds : Holds (w / 4) x y e a d t) where
   -- where the words are the same, the sign is 0
   sign_none : x ≡ y → sign_in e a ≡ 0
   sign_none same =
       let none : t ≡ 0 = IsPrefixDifference-same (w / 4) 4 x t (grind arith) (subst (λ n. IsPrefixDifference (w / 4) 4 x n t) (sym same) holds.prefix) in
-      elim (p_zero_product_below (sign_in e a) d (mod-lt _ (grind arith)) (grind arith) (holds.signed ∙ none)) [ inl zero ↦ zero | inr zero ↦ absurd (grind arith) ]
+      elim (p_zero_product_below (sign_in e a) d (mod-lt _ (grind arith)) (grind arith) (holds.signed ∙ none)) [
+        | inl zero ↦ zero
+        | inr zero ↦ absurd
+            (grind arith)
+      ]
 
   same_flags : x ≡ y → (e ≡ 1) × (a ≡ 0)
   same_flags same =
@@ -60,7 +66,8 @@ module _ (w : ℕ) (width : IsWidth w) (x y e a d t : ℕ) (h : x < 2 ^ w) (k : 
       let sign : sign_in e a ≡ P - 1 = grind arith in
       let is : t ≡ P - d = sym holds.signed ∙ ap (λ n. n * d % P) sign ∙ grind arith in
       IsPrefixDifference-above w (w / 4) 4 y x d (grind arith) (grind arith) k h some most
-      (IsPrefixDifference-turned (w / 4) 4 x y d (grind arith) (grind arith) some (grind arith) (subst (λ n. IsPrefixDifference (w / 4) 4 x y n) is holds.prefix))
+      (IsPrefixDifference-turned (w / 4) 4 x y d (grind arith) (grind arith) some (grind arith)
+      (subst (λ n. IsPrefixDifference (w / 4) 4 x y n) is holds.prefix))
 
   pub decided : (e ≡ equal_flag x y) × (a ≡ above_flag x y)
   decided = elim (cases_eq x y) [
@@ -91,7 +98,8 @@ module _ (w : ℕ) (width : IsWidth w) (x y : ℕ) (h : x < 2 ^ w) (k : y < 2 ^ 
           apart = ap₂ (λ m n. m * n % P) e (let zero : (x + (P - y)) % P ≡ 0 = grind arith in zero);
           one = ap₂ (λ m n. m * n % P) a e;
           signed = ap₂ (λ m n. sign_in m n * (size w x y - 1 + 1) % P) e a ∙ ap (λ n. n % P) (zero-mul (size w x y - 1 + 1)) ∙ sym none;
-          prefix = subst (λ n. IsPrefixDifference (w / 4) 4 x y n) (sym none) (subst (λ n. IsPrefixDifference (w / 4) 4 x n 0) same (IsPrefixDifference-none (w / 4) 4 x (grind arith) (grind arith)));
+          prefix = subst (λ n. IsPrefixDifference (w / 4) 4 x y n) (sym none)
+              (subst (λ n. IsPrefixDifference (w / 4) 4 x n 0) same (IsPrefixDifference-none (w / 4) 4 x (grind arith) (grind arith)));
         },
       )
 
@@ -130,7 +138,8 @@ module _ (w : ℕ) (width : IsWidth w) (x y : ℕ) (h : x < 2 ^ w) (k : y < 2 ^ 
           one = ap₂ (λ m n. m * n % P) a e;
           signed = ap₂ (λ m n. sign_in m n * (size w x y - 1 + 1) % P) e a ∙ ap (λ n. (P - 1) * n % P) all ∙ grind (arith, below, some) ∙ sym is;
           prefix = subst (λ n. IsPrefixDifference (w / 4) 4 x y n) (sym is)
-              (IsPrefixDifference-back (w / 4) 4 x y (first_difference (w / 4) 4 y x) (grind arith) (grind arith) some (grind (arith, below)) (IsPrefixDifference-first w (w / 4) 4 y x (grind arith) (grind arith) k under));
+              (IsPrefixDifference-back (w / 4) 4 x y (first_difference (w / 4) 4 y x) (grind arith) (grind arith) some (grind (arith, below))
+              (IsPrefixDifference-first w (w / 4) 4 y x (grind arith) (grind arith) k under));
         },
       )
 

@@ -29,7 +29,7 @@ pub struct Cmp {
     pub greater: Wire,
 }
 
-/// Compares the words that `x` and `y` spell, each in `W` bits. It makes `W / 4 + 6` wires and
+/// Compares the words whose bits are `x` and `y`, `W` of each. It makes `W / 4 + 6` wires and
 /// `W / 4 + 8` constraints, of `8 W + 24` terms: 14, 16 and 280 at 32 bits.
 pub fn compare<const W: u32, S: Sink>(s: &mut S, x: &Bits, y: &Bits) -> Put<Cmp>
     requires width { IsWidth W }
@@ -59,7 +59,7 @@ pub fn compare<const W: u32, S: Sink>(s: &mut S, x: &Bits, y: &Bits) -> Put<Cmp>
     })
 }
 
-// Holds `above` to 0 and 1, and `equal` to 0 where the words differ and where `above` is 1.
+// Constrains `above` to 0 or 1, and `equal` to 0 where the words differ and where `above` is 1.
 fn order_flags<const W: u32, S: Sink>(
     s: &mut S,
     scratch: &mut Scratch,
@@ -89,8 +89,8 @@ fn order_flags<const W: u32, S: Sink>(
     s.put(&scratch.b, &scratch.a, &scratch.c)
 }
 
-// A number from 1 to 2^(`W / 4`): itself where `above` is 1, negative where `above` and `equal` are
-// 0, and 0 where `equal` is 1.
+// Makes a wire for a number from 1 to 2^(`W / 4`): itself where `above` is 1, negative where
+// `above` and `equal` are 0, and 0 where `equal` is 1.
 fn signed_size<const W: u32, S: Sink>(
     s: &mut S,
     scratch: &mut Scratch,
@@ -125,7 +125,8 @@ fn set_sign(lc: &mut Lc, equal: Wire, above: Wire)
     lc.plus(-F::ONE, Wire(0));
 }
 
-// Whether the first word is greater, from whether it is above and the words' sign bits.
+// Makes a wire for whether the first word is greater, from whether it is above and the words' sign
+// bits.
 fn greater<const W: u32, S: Sink>(
     s: &mut S,
     scratch: &mut Scratch,
@@ -151,7 +152,7 @@ fn greater<const W: u32, S: Sink>(
     Ok(greater)
 }
 
-// Makes `lc` `above`, and `y` less `x`.
+// Makes `lc` the sum of `above` and `y`, less `x`.
 fn set_but_for_signs(lc: &mut Lc, above: Wire, x: Wire, y: Wire)
     ensures { lc.new ≡ but_for_signs above x y }
 {
@@ -160,7 +161,7 @@ fn set_but_for_signs(lc: &mut Lc, above: Wire, x: Wire, y: Wire)
     lc.plus(-F::ONE, x);
 }
 
-/// Gives the `W / 4 + 6` values of the wires that `compare` makes for two words of `W` bits.
+/// Assigns the `W / 4 + 6` values of the wires that `compare` makes for two words of `W` bits.
 pub fn fill_compare<const W: u32, V: Values>(v: &mut V, x: u32, y: u32) -> Put<()>
     requires width { IsWidth W }
     requires x_word { x < 2 ^ W }
@@ -184,8 +185,8 @@ pub fn fill_compare<const W: u32, V: Values>(v: &mut V, x: u32, y: u32) -> Put<(
     v.give(F::from(is_greater::<W>(x, y)))
 }
 
-// How far the shortest prefixes that differ are apart, less 1, and how far the first is above the
-// second.
+// Returns how far the shortest prefixes that differ are apart, less 1, and how far the first is
+// above the second.
 fn sizes<const W: u32>(x: u32, y: u32) -> (F, F)
     requires { IsWidth W }
     ensures size { result.0 ≡ size W x y - 1 }
@@ -207,22 +208,22 @@ fn is_greater<const W: u32>(x: u32, y: u32) -> bool
     signed_word::<W>(x) > signed_word::<W>(y)
 }
 
-/// Where an assignment meets what `compare` put for bits that spell two words of `W` bits, the
-/// wires that it answered hold how the words compare.
+/// Where an assignment meets what `compare` put for the bits of two words of `W` bits, the wires
+/// that it returned hold how the words compare.
 #[tactic(auto, using(crate::proofs::CompareLaws::compare_sound))]
 pub fn compare_is_sound()
     ensures { CompareIsSound }
 {}
 
-/// Where bits spell two words and an assignment has the values that `fill_compare` gives for them,
-/// it meets what `compare` put.
+/// Where wires hold the bits of two words and an assignment has the values that `fill_compare`
+/// assigns for them, it meets what `compare` put.
 #[tactic(auto, using(crate::proofs::CompareLaws::compare_complete))]
 pub fn compare_is_complete()
     ensures { CompareIsComplete }
 {}
 
-/// Says which wires `compare` answers and how many it makes, whatever the next wire is, and that
-/// `fill_compare` gives one value for each of them, below P.
+/// Says which wires `compare` returns and how many it makes, whatever the next wire is, and that
+/// `fill_compare` assigns one value to each of them, below P.
 #[tactic(auto, using(crate::proofs::CompareLaws::compare_sizes))]
 pub fn compare_fills()
     ensures { CompareSizes }

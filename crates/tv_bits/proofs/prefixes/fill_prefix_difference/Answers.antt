@@ -32,4 +32,5 @@ returns-in_err-give-clause-gives g c =
     let product = c.mul-product.ensures ∙ next_factor c.loop-i.i factor _ _ c.loop-i.invariant.product c.prefix_less_in.ensures in
     let one = rw product at c.in_err-give.ensures.gives in
     gives_refused g.V.Values.giving _ _ _ c.from_residual.result c.from_residual.ensures.1
-    (gives_turn_refused g.V.Values.giving (λ i. product_below (i + 2) factor % P) (c.args.count - 2) c.loop-i.i _ _ _ _ (omega arith) c.loop-i.invariant.gives one)
+    (gives_turn_refused g.V.Values.giving (λ i. product_below (i + 2) factor % P) (c.args.count - 2) c.loop-i.i _ _ _ _
+    (omega arith) c.loop-i.invariant.gives one)

@@ -9,6 +9,7 @@ loop-i-init c = sym (first_difference-zero c.args.chunk c.args.x c.args.y)
 pub loop-i-preserved : goal.loop-i-preserved
 loop-i-preserved c =
     rw add-one (elim c.if-x-y.branch [
-      | then-x-y w ↦ w.difference-is ∙ w.saturating_sub-difference.ensures ∙ sym (first_difference-apart c.args.chunk c.loop-i.i c.args.x c.args.y w.if-x-y.true)
+      | then-x-y w ↦ w.difference-is ∙ w.saturating_sub-difference.ensures
+          ∙ sym (first_difference-apart c.args.chunk c.loop-i.i c.args.x c.args.y w.if-x-y.true)
       | else-x-y w ↦ w.difference-is ∙ c.loop-i.invariant ∙ sym (first_difference-same c.args.chunk c.loop-i.i c.args.x c.args.y w.if-x-y.false)
     ])

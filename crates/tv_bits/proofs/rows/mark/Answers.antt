@@ -12,5 +12,13 @@ pub returns-clause-puts : goal.returns-clause-puts
 unfolding mark_of
 returns-clause-puts g c =
     let minus = negated c.args.i (omega arith) in
-    let zero = rw (c.set_wire.ensures.terms, c.plus.ensures.terms, c.fill.ensures.terms, c.clear.ensures, c.neg.ensures, c.from.ensures, minus) at c.put.ensures.puts in
+    let zero = rw (
+      c.set_wire.ensures.terms,
+      c.plus.ensures.terms,
+      c.fill.ensures.terms,
+      c.clear.ensures,
+      c.neg.ensures,
+      c.from.ensures,
+      minus,
+    ) at c.put.ensures.puts in
     puts_in_then g.S.Sink.meaning _ _ _ _ _ _ _ c.fresh-w.ensures.puts zero

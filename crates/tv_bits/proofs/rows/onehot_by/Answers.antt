@@ -28,7 +28,9 @@ returns-in_err-mark-clause-puts g c =
     let piece : ℕ → Unit {0} → Circuit (Unit {0}) = λ i _. mark_of (bits_combination c.args.x.now.first c.args.x.now.n) i in
     let within : c.loop-i.i < 2 ^ c.args.x.now.n = omega arith in
     let first = puts_here_as m c.args.s.now c.wires.result c.wires.ensures in
-    let turn = turn_refused m (2 ^ c.args.x.now.n) c.loop-i.i piece tt tt c.args.s.now c.loop-i.s c.mark.new.s c.in_err-mark.field-0.0 within c.loop-i.invariant.puts c.in_err-mark.ensures.puts in
+    let turn = turn_refused m
+    (2 ^ c.args.x.now.n) c.loop-i.i piece tt tt c.args.s.now c.loop-i.s c.mark.new.s c.in_err-mark.field-0.0 within c.loop-i.invariant.puts
+    c.in_err-mark.ensures.puts in
     refused m _ _ _ c.from_residual.result c.from_residual.ensures.1 (search (chain, first, turn))
 
 pub returns-in_err-put-clause-puts : goal.returns-in_err-put-clause-puts

@@ -10,15 +10,31 @@ pub loop-i-init : goal.loop-i-init
 loop-i-init c = sym (ap (λ l. c.args.lc.now ++ l) (weighted-zero c.args.first (λ _. 1)) ∙ append-nil c.args.lc.now)
 
 pub plus-requires : goal.plus-requires
-plus-requires c = omega (arith, ap length c.loop-i.invariant, length-append c.args.lc.now (row_sum c.args.first c.loop-i.i), length-weighted c.args.first c.loop-i.i (λ _. 1))
+plus-requires c = omega (
+  arith,
+  ap length c.loop-i.invariant,
+  length-append c.args.lc.now (row_sum c.args.first c.loop-i.i),
+  length-weighted c.args.first c.loop-i.i (λ _. 1),
+)
 
 pub loop-i-preserved : goal.loop-i-preserved
 loop-i-preserved c =
     let term = rw c.offset.ensures at c.plus.ensures.terms in
-    rw (add-one, weighted-suc) (term ∙ ap (λ l. l ++ (1, c.args.first + c.loop-i.i) ∷ []) c.loop-i.invariant ∙ append_assoc c.args.lc.now (row_sum c.args.first c.loop-i.i) _)
+    rw (add-one, weighted-suc) (term ∙ ap (λ l. l ++ (1, c.args.first + c.loop-i.i) ∷ []) c.loop-i.invariant
+    ∙ append_assoc c.args.lc.now (row_sum c.args.first c.loop-i.i) _)
 
 pub returns-clause-top : goal.returns-clause-top
-returns-clause-top c = omega (arith, ap top c.loop-i.invariant, top-append c.args.lc.now (row_sum c.args.first c.loop-i.i), top-weighted c.args.first c.loop-i.i (λ _. 1))
+returns-clause-top c = omega (
+  arith,
+  ap top c.loop-i.invariant,
+  top-append c.args.lc.now (row_sum c.args.first c.loop-i.i),
+  top-weighted c.args.first c.loop-i.i (λ _. 1),
+)
 
 pub returns-clause-len : goal.returns-clause-len
-returns-clause-len c = omega (arith, ap length c.loop-i.invariant, length-append c.args.lc.now (row_sum c.args.first c.loop-i.i), length-weighted c.args.first c.loop-i.i (λ _. 1))
+returns-clause-len c = omega (
+  arith,
+  ap length c.loop-i.invariant,
+  length-append c.args.lc.now (row_sum c.args.first c.loop-i.i),
+  length-weighted c.args.first c.loop-i.i (λ _. 1),
+)

@@ -15,7 +15,8 @@ unfolding new_bit
 loop-turn-preserved g c =
     let grown = c.in_ok-bit_by.ensures.grows in
     record {
-      puts = puts_turn g.S.Sink.meaning _ (λ _ _. new_bit) tt _ _ _ _ _ c.loop-turn.invariant.puts (search (chain, c.fresh-w.ensures.puts, c.in_ok-bit_by.ensures.puts));
+      puts = puts_turn g.S.Sink.meaning _ (λ _ _. new_bit) tt _ _ _ _ _ c.loop-turn.invariant.puts
+          (search (chain, c.fresh-w.ensures.puts, c.in_ok-bit_by.ensures.puts));
       grows = record { wires = omega (arith, grown.wires); constraints = omega (arith, grown.constraints); whole = grown.whole };
     }
 
@@ -23,7 +24,9 @@ pub returns-in_err-bit_by-clause-puts : goal.returns-in_err-bit_by-clause-puts
 unfolding new_bits_of new_bit
 returns-in_err-bit_by-clause-puts g c =
     let m = g.S.Sink.meaning in
-    let turn = turn_refused m c.args.n c.loop-turn._turn (λ _ _. new_bit) tt tt c.args.s.now c.loop-turn.s c.bit_by.new.s c.in_err-bit_by.field-0.0 c.loop-turn-test.true c.loop-turn.invariant.puts (search (chain, c.fresh-w.ensures.puts, c.in_err-bit_by.ensures.puts)) in
+    let turn = turn_refused m c.args.n c.loop-turn._turn
+    (λ _ _. new_bit) tt tt c.args.s.now c.loop-turn.s c.bit_by.new.s c.in_err-bit_by.field-0.0 c.loop-turn-test.true c.loop-turn.invariant.puts
+    (search (chain, c.fresh-w.ensures.puts, c.in_err-bit_by.ensures.puts)) in
     let first = puts_here_as m c.args.s.now c.wires.result c.wires.ensures in
     refused m _ _ _ c.from_residual.result c.from_residual.ensures.1 (search (chain, first, turn))
 

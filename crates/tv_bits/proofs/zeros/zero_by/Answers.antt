@@ -13,11 +13,13 @@ pub returns-in_err-put-clause-puts : goal.returns-in_err-put-clause-puts
 unfolding zero_of
 returns-in_err-put-clause-puts g c =
     let first = rw (c.set_wire.ensures.terms, c.set_difference.ensures.terms) at c.in_err-put.ensures.puts in
-    refused g.S.Sink.meaning _ _ _ c.from_residual.result c.from_residual.ensures.1 (search (chain, c.fresh-flag.ensures.puts, c.fresh-hint.ensures.puts, first))
+    refused g.S.Sink.meaning _ _ _ c.from_residual.result c.from_residual.ensures.1
+    (search (chain, c.fresh-flag.ensures.puts, c.fresh-hint.ensures.puts, first))
 
 pub returns-in_err-put-2-clause-puts : goal.returns-in_err-put-2-clause-puts
 unfolding zero_of
 returns-in_err-put-2-clause-puts g c =
     let first = rw (c.set_wire.ensures.terms, c.set_difference.ensures.terms) at c.in_ok-put.ensures.puts in
     let second = rw (c.set_wire-2.ensures.terms, c.clear.ensures) at c.in_err-put-2.ensures.puts in
-    refused g.S.Sink.meaning _ _ _ c.from_residual-in_err-put-2.result c.from_residual-in_err-put-2.ensures.1 (search (chain, c.fresh-flag.ensures.puts, c.fresh-hint.ensures.puts, first, second))
+    refused g.S.Sink.meaning _ _ _ c.from_residual-in_err-put-2.result c.from_residual-in_err-put-2.ensures.1
+    (search (chain, c.fresh-flag.ensures.puts, c.fresh-hint.ensures.puts, first, second))

@@ -33,7 +33,8 @@ returns-in_err-fill_prefix_difference-clause-gives g c =
     let difference = rw c.sizes-size.ensures.signed at c.in_ok-give.ensures.gives in
     let products = rw (c.sizes-size.ensures.signed, c.from-3.ensures, c.from-4.ensures) at c.in_err-fill_prefix_difference.ensures.gives in
     gives_refused m _ _ _ c.from_residual-in_err-fill_prefix_difference.result c.from_residual-in_err-fill_prefix_difference.ensures.1
-    (gives_then_refused m _ _ _ _ _ _ flags (gives_then_refused m _ _ _ _ _ _ size (gives_then_refused m _ _ _ _ _ _ difference (gives_refused_then m _ _ _ _ _ products))))
+    (gives_then_refused m _ _ _ _ _ _ flags (gives_then_refused m _ _ _ _ _ _ size
+    (gives_then_refused m _ _ _ _ _ _ difference (gives_refused_then m _ _ _ _ _ products))))
 
 pub returns-clause-gives : goal.returns-clause-gives
 returns-clause-gives g c =

@@ -5,11 +5,23 @@ use Rattle.tv_cmp.proofs.comparison.greater.Goals as goal
 pub returns-in_err-put-clause-puts : goal.returns-in_err-put-clause-puts
 unfolding greater_of
 returns-in_err-put-clause-puts g c =
-    let signs = rw (c.set_but_for_signs.ensures, c.offset-x.ensures, c.offset-y.ensures, c.set_wire.ensures.terms, c.set_wire-2.ensures.terms) at c.in_err-put.ensures.puts in
+    let signs = rw (
+      c.set_but_for_signs.ensures,
+      c.offset-x.ensures,
+      c.offset-y.ensures,
+      c.set_wire.ensures.terms,
+      c.set_wire-2.ensures.terms,
+    ) at c.in_err-put.ensures.puts in
     refused g.S.Sink.meaning _ _ _ c.from_residual.result c.from_residual.ensures.1 (search (chain, c.fresh-greater.ensures.puts, signs))
 
 pub returns-clause-puts : goal.returns-clause-puts
 unfolding greater_of
 returns-clause-puts g c =
-    let signs = rw (c.set_but_for_signs.ensures, c.offset-x.ensures, c.offset-y.ensures, c.set_wire.ensures.terms, c.set_wire-2.ensures.terms) at c.in_ok-put.ensures.puts in
+    let signs = rw (
+      c.set_but_for_signs.ensures,
+      c.offset-x.ensures,
+      c.offset-y.ensures,
+      c.set_wire.ensures.terms,
+      c.set_wire-2.ensures.terms,
+    ) at c.in_ok-put.ensures.puts in
     search (chain, c.fresh-greater.ensures.puts, signs)

@@ -11,13 +11,29 @@ returns-in_err-bit_by-clause-puts g c =
 pub returns-in_err-put-clause-puts : goal.returns-in_err-put-clause-puts
 unfolding order_flags_of
 returns-in_err-put-clause-puts g c =
-    let same = rw (c.plus_to.ensures.terms, c.neg.ensures, c.fill.ensures.terms, c.set_wire.ensures.terms, c.clear.ensures, c.requires.x_word, c.requires.y_word) at c.in_err-put.ensures.puts in
+    let same = rw (
+      c.plus_to.ensures.terms,
+      c.neg.ensures,
+      c.fill.ensures.terms,
+      c.set_wire.ensures.terms,
+      c.clear.ensures,
+      c.requires.x_word,
+      c.requires.y_word,
+    ) at c.in_err-put.ensures.puts in
     refused g.S.Sink.meaning _ _ _ c.from_residual-in_err-put.result c.from_residual-in_err-put.ensures.1 (search (chain, c.in_ok-bit_by.ensures.puts, same))
 
 pub returns-clause-puts : goal.returns-clause-puts
 unfolding order_flags_of
 returns-clause-puts g c =
     let m = g.S.Sink.meaning in
-    let same = rw (c.plus_to.ensures.terms, c.neg.ensures, c.fill.ensures.terms, c.set_wire.ensures.terms, c.clear.ensures, c.requires.x_word, c.requires.y_word) at c.in_ok-put.ensures.puts in
+    let same = rw (
+      c.plus_to.ensures.terms,
+      c.neg.ensures,
+      c.fill.ensures.terms,
+      c.set_wire.ensures.terms,
+      c.clear.ensures,
+      c.requires.x_word,
+      c.requires.y_word,
+    ) at c.in_ok-put.ensures.puts in
     let one = rw (c.set_wire-2.ensures.terms, c.set_wire.ensures.terms, c.clear.ensures) at c.put-2.ensures.puts in
     puts_in_then m _ _ _ _ _ _ _ c.in_ok-bit_by.ensures.puts (puts_in_then m _ _ _ _ _ _ _ same one)

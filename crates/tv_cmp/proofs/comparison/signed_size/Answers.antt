@@ -11,7 +11,8 @@ pub returns-in_err-put-clause-puts : goal.returns-in_err-put-clause-puts
 unfolding signed_size_of
 returns-in_err-put-clause-puts g c =
     let product = rw (c.set_sign.ensures, c.plus.ensures.terms, c.fill.ensures.terms, c.set_wire.ensures.terms) at c.in_err-put.ensures.puts in
-    refused g.S.Sink.meaning _ _ _ c.from_residual-in_err-put.result c.from_residual-in_err-put.ensures.1 (search (chain, c.in_ok-size.ensures.puts, c.fresh-difference.ensures.puts, product))
+    refused g.S.Sink.meaning _ _ _ c.from_residual-in_err-put.result c.from_residual-in_err-put.ensures.1
+    (search (chain, c.in_ok-size.ensures.puts, c.fresh-difference.ensures.puts, product))
 
 pub returns-clause-puts : goal.returns-clause-puts
 unfolding signed_size_of
