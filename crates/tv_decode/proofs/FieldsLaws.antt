@@ -20,7 +20,8 @@ use Rattle.tv_isa.specs.declared.instr.Instr.{Instr}
 use Rattle.tv_word.specs.Widths.{IsWidth}
 
 -- some of a word's bits spell a field of it
-pub field_spelled : (z : List ℕ) (w first low count more v : ℕ) → low + (count + more) ≡ w → Spells z first w v → Spells z (first + low) count (field low count v)
+pub field_spelled : (z : List ℕ) (w first low count more v : ℕ) → low + (count + more) ≡ w → Spells z first w v
+    → Spells z (first + low) count (field low count v)
 field_spelled z w first low count more v size s =
     Spells-low z (first + low) count more (v / 2 ^ low) (Spells-high z first low (count + more) v (subst (λ n. Spells z first n v) (sym size) s))
 
@@ -70,7 +71,8 @@ row_had : (z : List ℕ) (at x n : ℕ) (rest : List ℕ) (b : Bits) → b.n ≡
     → HasFrom z at (onehot_values x n) × HasFrom z (onehot_of b at).next rest
 row_had z at x n rest b size has =
     let split = HasFrom-split z at (onehot_values x n) rest has in
-    let place : at + length (onehot_values x n) ≡ (onehot_of b at).next = ap (λ k. at + k) (length-each_below (2 ^ n) (one_at x)) ∙ ap (λ k. at + 2 ^ k) (sym size) ∙ sym (onehot_next b at) in
+    let place : at + length (onehot_values x n) ≡ (onehot_of b at).next = ap (λ k. at + k) (length-each_below (2 ^ n) (one_at x))
+    ∙ ap (λ k. at + 2 ^ k) (sym size) ∙ sym (onehot_next b at) in
     (split.0, subst (λ k. HasFrom z k rest) place split.1)
 
 pub fields_complete : FieldsAreComplete
@@ -130,5 +132,6 @@ fields_sizes = record {
   answer = fields_answer;
   end = fields_next;
   fills = λ w h a i next. fields_next w h a next ∙ ap (λ n. next + n) (sym (fields_length i));
-  in_field = λ i. InField-append _ _ (onehot_in_field i.op 5) (InField-append _ _ (onehot_in_field i.dest 4) (InField-append _ _ (onehot_in_field i.source 4) (onehot_in_field (i.a % 16) 4)));
+  in_field = λ i. InField-append _ _ (onehot_in_field i.op 5)
+      (InField-append _ _ (onehot_in_field i.dest 4) (InField-append _ _ (onehot_in_field i.source 4) (onehot_in_field (i.a % 16) 4)));
 }

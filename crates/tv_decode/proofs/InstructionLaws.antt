@@ -1,5 +1,6 @@
 -- The laws of an instruction with a row of the used opcodes.
-use Rattle.std.proofs.Common.{◌⊎◌, ◌≡◌, ◌≢◌, ℕ, zero, suc, ◌+◌, ◌-◌, ◌*◌, ◌%◌, ◌^◌, ◌<◌, ◌≤◌, ◌==◌, Bool, true, if◌then◌else◌, List, [], ◌∷◌, ◌++◌, length, inl, inr, refl, sym, ◌∙◌, ap, ap₂, subst, arith, mod-lt, eq-eqb, mul-zero, mul-one, zero-mul}
+use Rattle.std.proofs.Common.{◌⊎◌, ◌≡◌, ◌≢◌, ℕ, zero, suc, ◌+◌, ◌-◌, ◌*◌, ◌%◌, ◌^◌, ◌<◌, ◌≤◌, ◌==◌, Bool, true, if◌then◌else◌, List, [], ◌∷◌, ◌++◌, length}
+use Rattle.std.proofs.Common.{inl, inr, refl, sym, ◌∙◌, ap, ap₂, subst, arith, mod-lt, eq-eqb, mul-zero, mul-one, zero-mul}
 use Rattle.std.specs.Prelude.{slice_index}
 use Rattle.std.proofs.lemmas.Bool.{cases_eq, cases_lt}
 use Rattle.std.proofs.lemmas.Bool.Decides.{nat_tests}
@@ -16,7 +17,8 @@ use Rattle.tv_bits.specs.Bit.{IsBit, bit_of}
 use Rattle.tv_bits.specs.Bits.{Spells, spelled, bits_combination, bits_values, new_bit, new_bits_of}
 use Rattle.tv_bits.specs.OneHot.{IsOneHot, row_sum, one_at}
 use Rattle.tv_bits.specs.Times.{kept_of, times_of}
-use Rattle.tv_core.proofs.BelowLaws.{sum_below-zero, sum_below-suc, sum_below-add, sum_below-same, sum_below-single, sum_below-zeros, value-weighted, has_each, length-each_below}
+use Rattle.tv_core.proofs.BelowLaws.{sum_below-zero, sum_below-suc, sum_below-add, sum_below-same, sum_below-single, sum_below-zeros, value-weighted}
+use Rattle.tv_core.proofs.BelowLaws.{has_each, length-each_below}
 use Rattle.tv_core.proofs.CombinationLaws.{value-below, value-append, value-constant}
 use Rattle.tv_core.proofs.FieldLaws.{InField-none, InField-cons, InField-append, InField-each_below}
 use Rattle.tv_core.proofs.Meeting.{Meets-split, Meets-join, HasFrom-split}
@@ -26,7 +28,9 @@ use Rattle.tv_core.specs.Constraints.{Combination, value}
 use Rattle.tv_core.specs.Laws.{Assigns, Meets, HasFrom, InField}
 use Rattle.tv_core.specs.Meanings.{terms_in}
 use Rattle.tv_core.specs.declared.field.TheConstants.{P}
-use Rattle.tv_decode.specs.Instructions.{place, opcode_at, IsOpcodeRow, opcode_values, number_of, opcode_weight, head_of, instruction_of, instruction_wires, instruction_values, IsDecoded, InstructionIsSound, InstructionIsComplete, InstructionSizes, InstructionCosts, OpcodeWireIsRight}
+use Rattle.tv_decode.specs.Instructions.{place, opcode_at, IsOpcodeRow, opcode_values, number_of, opcode_weight, head_of, instruction_of, instruction_wires}
+use Rattle.tv_decode.specs.Instructions.{instruction_values, IsDecoded, InstructionIsSound, InstructionIsComplete, InstructionSizes, InstructionCosts}
+use Rattle.tv_decode.specs.Instructions.{OpcodeWireIsRight}
 use Rattle.tv_decode.specs.declared.records.InstructionWires.{InstructionWires}
 use Rattle.tv_decode.proofs.FieldsLaws.{field_spelled}
 use Rattle.tv_isa.specs.Instruction.{field, decode}
@@ -55,7 +59,7 @@ place_below k u = elim (used_is k u) [ inl low ↦ omega (arith, place-low k low
 at_place : (k : ℕ) → is_used k ≡ true → opcode_at (place k) ≡ k
 at_place k u = elim (used_is k u) [ inl low ↦ grind (arith, nat_tests) | inr high ↦ grind (arith, nat_tests) ]
 
-at_below : (j : ℕ) → j < 29 → opcode_at j < 32
+pub at_below : (j : ℕ) → j < 29 → opcode_at j < 32
 at_below j h = grind (arith, nat_tests)
 
 at_used : (j : ℕ) → j < 29 → is_used (opcode_at j) ≡ true
@@ -175,7 +179,8 @@ module _ (z : List ℕ) (w : ℕ) (width : IsWidth w) (low op v p : ℕ) (s : Sp
       let here : g p ≡ opcode_weight w p = ap (λ n. opcode_weight w p * n) row.hot ∙ mul-one (opcode_weight w p) in
       let cut = sum_below-add 1 28 g in
       let none : sum_below 1 g ≡ 0 = sum_below-zeros 1 g (λ i h. first_none i h) in
-      let moved = sum_below-same 28 (λ i. opcode_weight w (i + 1) * slice_index z (op + 1 + i)) (λ i. g (1 + i)) (λ i h. ap₂ (λ a b. opcode_weight w a * slice_index z b) (one_more i) (one_past i)) in
+      let moved = sum_below-same 28 (λ i. opcode_weight w (i + 1) * slice_index z (op + 1 + i)) (λ i. g (1 + i))
+      (λ i h. ap₂ (λ a b. opcode_weight w a * slice_index z b) (one_more i) (one_past i)) in
       omega (arith, moved, cut, none, all, here)
     where
       first_none : (i : ℕ) → i < 1 → opcode_weight w i * slice_index z (op + i) ≡ 0
@@ -212,7 +217,8 @@ reg_spelled z w width first a r =
 by_parity : (n : ℕ) → n < 2 → n ≡ (if n == 1 then 1 else 0)
 by_parity n small = elim (bit_cases n small) [ inl none ↦ rw none refl | inr one ↦ rw one refl ]
 
-module _ (z : List ℕ) (w : ℕ) (width : IsWidth w) (made : InstructionWires) (v p a : ℕ) (low : Spells z made.low.first (w - 5) v) (row : IsOneHot z made.op 29 p) (second : Spells z made.second.first w a) where
+module _ (z : List ℕ) (w : ℕ) (width : IsWidth w) (made : InstructionWires) (v p a : ℕ) (low : Spells z made.low.first (w - 5) v)
+    (row : IsOneHot z made.op 29 p) (second : Spells z made.second.first w a) where
   abbrev h : ℕ
   h = v + opcode_weight w p
 
@@ -285,7 +291,8 @@ one_at-bit v i = grind (arith, nat_tests)
 
 pub instruction_met : (w : ℕ) → IsWidth w → (z : List ℕ) (next head tail : ℕ) → Assigns z → head < 2 ^ w → tail < 2 ^ w → is_used (decode w head tail).op ≡ true
     → HasFrom z next (instruction_values w head tail)
-    → Meets z (instruction_of w next).list × ((slice_index z (instruction_of w next).answer.head ≡ head) × (slice_index z (instruction_of w next).answer.tail ≡ tail))
+    → Meets z (instruction_of w next).list × ((slice_index z (instruction_of w next).answer.head ≡ head)
+    × (slice_index z (instruction_of w next).answer.tail ≡ tail))
 unfolding instruction_of new_bits_of here pure put ◌>>=◌
 instruction_met w width z next head tail assigns head_word tail_word used has =
     let low = new_bits_of (w - 5) next in
@@ -316,8 +323,14 @@ instruction_met w width z next head tail assigns head_word tail_word used has =
     let ones = ap₂ (λ a b. a * b % P) one (value-constant assigns 1) ∙ sym (value-constant assigns 1) in
     let same : v + opcode_weight w p ≡ head = ap (λ n. v + n * 2 ^ (w - 5)) (at_place k used) ∙ whole_again w width head head_word in
     let m4 = kept_complete z second.next (head_of w next low.next) assigns (h3.1.0 ∙ sym (value-head z w width next low.next v p low_spells is ∙ same), tt) in
-    let m5 = kept_complete z (kept_of (head_of w next low.next) second.next).next (bits_combination row.next w) assigns (tail_had z second.next (head_of w next low.next) tail h3.1.1.0 ∙ sym (value-bits_below second_spells (omega arith)), tt) in (
-      Meets-join z low.list _ m1 (Meets-join z row.list _ m2 (Meets-join z second.list _ m3 (ones, Meets-join z (kept_of (head_of w next low.next) second.next).list _ m4 (Meets-join z (kept_of (bits_combination row.next w) _).list _ m5 tt)))),
+    let m5 = kept_complete z (kept_of (head_of w next low.next) second.next).next (bits_combination row.next w) assigns
+    (tail_had z second.next (head_of w next low.next) tail h3.1.1.0 ∙ sym (value-bits_below second_spells (omega arith)), tt) in (
+      Meets-join z low.list _ m1 (Meets-join z row.list _ m2
+          (Meets-join z second.list _ m3 (
+            ones,
+            Meets-join z (kept_of (head_of w next low.next) second.next).list _ m4
+                (Meets-join z (kept_of (bits_combination row.next w) _).list _ m5 tt),
+          ))),
       (
         ap (slice_index z) (kept_answer (head_of w next low.next) second.next) ∙ h3.1.0,
         ap (slice_index z) (kept_answer (bits_combination row.next w) (kept_of (head_of w next low.next) second.next).next)
@@ -331,12 +344,21 @@ instruction_met w width z next head tail assigns head_word tail_word used has =
 pub instruction_complete : InstructionIsComplete
 instruction_complete w width z next head tail assigns head_word tail_word used has =
     let met = instruction_met w width z next head tail assigns head_word tail_word used has in
-    let sound = instruction_sound w width z next assigns met.0 in
-    (met.0, subst (λ a. IsDecoded z w (instruction_of w next).answer head a) met.1.1 (subst (λ h. IsDecoded z w (instruction_of w next).answer h (slice_index z (instruction_of w next).answer.tail)) met.1.0 sound))
+    let sound = instruction_sound w width z next assigns met.0 in (
+      met.0,
+      subst (λ a. IsDecoded z w (instruction_of w next).answer head a) met.1.1
+          (subst (λ h. IsDecoded z w (instruction_of w next).answer h (slice_index z (instruction_of w next).answer.tail)) met.1.0 sound),
+    )
 
 -- ---- where the circuit ends, and what it answers
 abbrev wires_at : ℕ → ℕ → ℕ → ℕ → ℕ → ℕ → InstructionWires
-wires_at w first op second head tail = record { low = record { first = first; n = w - 5 }; op = op; second = record { first = second; n = w }; head = head; tail = tail }
+wires_at w first op second head tail = record {
+  low = record { first = first; n = w - 5 };
+  op = op;
+  second = record { first = second; n = w };
+  head = head;
+  tail = tail;
+}
 
 pub instruction_end : (w : ℕ) → IsWidth w → (next : ℕ) → (instruction_of w next).next ≡ next + (2 * w + 26)
 unfolding instruction_of here pure put ◌>>=◌

@@ -1,2 +1,3 @@
 pub mod FieldsLaws
 pub mod InstructionLaws
+pub mod NormalLaws

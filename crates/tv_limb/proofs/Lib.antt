@@ -1,5 +1,6 @@
 pub mod AddLaws
 pub mod LimbLaws
+pub mod NormalLaws
 pub mod RowDifferenceLaws
 pub mod RowDifferenceNumbers
 pub mod RowSumLaws

@@ -44,7 +44,8 @@ module _ (w : ℕ) (width : IsWidth w) (z : List ℕ) (assigns : Assigns z) (x y
       ∙ ap₂ (λ m n. (m + (P - n)) % P) (value-bits_below p (omega arith)) (value-bits_below q (omega arith))
 
   left : (first n v : ℕ) → Spells z first (w + 1) v
-      → value (less_borrow w (split_at w (record { first = first; n = n }))) z * value (constant 1) z % P ≡ (v % 2 ^ w + (P - 2 ^ w % P) % P * (v / 2 ^ w) % P) % P
+      → value (less_borrow w (split_at w (record { first = first; n = n }))) z * value (constant 1) z % P
+      ≡ (v % 2 ^ w + (P - 2 ^ w % P) % P * (v / 2 ^ w) % P) % P
   left first n v s =
       let short = width_short w width in
       let bits = bits_combination first w in

@@ -11,9 +11,9 @@ use crate::parts::{Split, split_at_word};
 use tv_bits::{Bits, fill_bits, new_bits};
 use tv_core::{F, Lc, Put, Sink, Values};
 
-/// The difference of two words of `W` bits modulo 2^`W`, and the borrow as one bit, which is 1
-/// where `x` is below `y`. It makes `W + 1` wires and `W + 2` constraints, of `6 W + 5` terms: 33,
-/// 34 and 197 at 32 bits.
+/// Constrains new bits to the difference of two words of `W` bits modulo 2^`W`, and one more to the
+/// borrow, which is 1 where `x` is below `y`. It makes `W + 1` wires and `W + 2` constraints, of
+/// `6 W + 5` terms: 33, 34 and 197 at 32 bits.
 pub fn sub<const W: u32, S: Sink>(s: &mut S, x: &Bits, y: &Bits) -> Put<Split>
     requires width { IsWidth W }
     requires room { Room S.meaning s.old (W + 1) (W + 2) }
@@ -65,8 +65,8 @@ fn difference_of_words<const W: u32>(x: &Bits, y: &Bits) -> Lc
     lc
 }
 
-/// Gives the `W + 1` values of the wires that `sub` makes: the bits of the difference, and then the
-/// borrow.
+/// Assigns the `W + 1` values of the wires that `sub` makes: the bits of the difference, and then
+/// the borrow.
 pub fn fill_sub<const W: u32, V: Values>(v: &mut V, x: u32, y: u32) -> Put<()>
     requires width { IsWidth W }
     requires x_word { x < 2 ^ W }
@@ -96,15 +96,15 @@ pub fn sub_is_sound()
     ensures { SubIsSound }
 {}
 
-/// Where the inputs spell words and an assignment has the values that `fill_sub` gives for them, it
-/// meets what `sub` put.
+/// Where the inputs spell words and an assignment has the values that `fill_sub` assigns for them,
+/// it meets what `sub` put.
 #[tactic(auto, using(crate::proofs::SubLaws::sub_complete))]
 pub fn sub_is_complete()
     ensures { SubIsComplete }
 {}
 
-/// Says which wires `sub` answers and how many it makes, whatever the next wire is, and that
-/// `fill_sub` gives one value for each of them, below P.
+/// Says which wires `sub` returns and how many it makes, whatever the next wire is, and that
+/// `fill_sub` assigns one value below P to each of them.
 #[tactic(auto, using(crate::proofs::SubLaws::sub_sizes))]
 pub fn sub_fills()
     ensures { SubSizes }

@@ -7,8 +7,8 @@ ghost use Rattle.tv_limb.specs.Limbs.{low_limb, high_limb, LimbsAreSound};
 use tv_bits::Bits;
 use tv_core::Lc;
 
-/// The low and the high half of a word of `W` bits, as combinations of `W / 2` terms each. It puts
-/// nothing.
+/// Returns the low and the high half of a word of `W` bits, as combinations of `W / 2` terms each.
+/// It makes no wire and no constraint.
 pub fn limbs<const W: u32>(x: &Bits) -> (Lc, Lc)
     requires width { IsWidth W }
     requires x_word { x.now.n ≡ W }

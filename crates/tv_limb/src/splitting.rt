@@ -10,9 +10,9 @@ use crate::parts::{Split, split_at_word};
 use tv_bits::{bits, fill_bits};
 use tv_core::{F, Lc, Put, Sink, Values};
 
-/// `x` in two parts, its lowest `W` bits and the `n - W` above, so that it is the low part plus
-/// 2^`W` times the high part; `n` is from `W` to 63, and `x` is held below 2^n. It makes `n` wires
-/// and `n + 1` constraints, of `4 n + 1` terms beside those of `x`.
+/// Constrains `x` to two parts, its lowest `W` bits and the `n - W` above, so that it is the low
+/// part plus 2^`W` times the high part; `n` is from `W` to 63, and `x` is held below 2^n. It makes
+/// `n` wires and `n + 1` constraints, of `4 n + 1` terms beside those of `x`.
 pub fn split<const W: u32, S: Sink>(s: &mut S, x: &Lc, n: u32) -> Put<Split>
     requires room { Room S.meaning s.old n (n + 1) }
     requires x_made { top x.now ≤ S.meaning.wires s.old }
@@ -30,8 +30,8 @@ pub fn split<const W: u32, S: Sink>(s: &mut S, x: &Lc, n: u32) -> Put<Split>
     Ok(split_at_word::<W>(made))
 }
 
-/// Gives the values of the wires that `split` makes: the `n` lowest bits of `x`, lowest first, the
-/// same at both widths.
+/// Assigns the values of the wires that `split` makes: the `n` lowest bits of `x`, lowest first,
+/// the same at both widths.
 pub fn fill_split<const W: u32, V: Values>(v: &mut V, x: F, n: u32) -> Put<()>
     requires whole { V.giving.broken v.old ≡ false }
     requires short { n ≤ 63 }
@@ -48,15 +48,15 @@ pub fn split_is_sound()
     ensures { SplitIsSound }
 {}
 
-/// Where the value is below 2^n and an assignment has the values that `fill_split` gives, it meets
-/// what `split` put.
+/// Where the value is below 2^n and an assignment has the values that `fill_split` assigns, it
+/// meets what `split` put.
 #[tactic(auto, using(crate::proofs::SplitLaws::split_complete))]
 pub fn split_is_complete()
     ensures { SplitIsComplete }
 {}
 
-/// Says which wires `split` answers and how many it makes, whatever the next wire is, and that
-/// `fill_split` gives one value for each of them, below P.
+/// Says which wires `split` returns and how many it makes, whatever the next wire is, and that
+/// `fill_split` assigns one value below P to each of them.
 #[tactic(auto, using(crate::proofs::SplitLaws::split_sizes))]
 pub fn split_fills()
     ensures { SplitSizes }

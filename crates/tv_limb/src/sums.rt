@@ -10,8 +10,8 @@ use crate::splitting::split;
 use tv_bits::{Bits, fill_bits};
 use tv_core::{F, Put, Sink, Values};
 
-/// The sum of two words of `W` bits: its lowest `W` bits, and the carry as one bit. It makes
-/// `W + 1` wires and `W + 2` constraints, of `6 W + 5` terms: 33, 34 and 197 at 32 bits.
+/// Constrains new bits to the sum of two words of `W` bits modulo 2^`W`, and one more to the carry.
+/// It makes `W + 1` wires and `W + 2` constraints, of `6 W + 5` terms: 33, 34 and 197 at 32 bits.
 pub fn add<const W: u32, S: Sink>(s: &mut S, x: &Bits, y: &Bits) -> Put<Split>
     requires width { IsWidth W }
     requires room { Room S.meaning s.old (W + 1) (W + 2) }
@@ -31,7 +31,7 @@ pub fn add<const W: u32, S: Sink>(s: &mut S, x: &Bits, y: &Bits) -> Put<Split>
     split::<W, S>(s, &sum, W + 1)
 }
 
-/// Gives the `W + 1` values of the wires that `add` makes: the bits of the sum, the carry last.
+/// Assigns the `W + 1` values of the wires that `add` makes: the bits of the sum, the carry last.
 pub fn fill_add<const W: u32, V: Values>(v: &mut V, x: u32, y: u32) -> Put<()>
     requires width { IsWidth W }
     requires whole { V.giving.broken v.old ≡ false }
@@ -47,15 +47,15 @@ pub fn add_is_sound()
     ensures { AddIsSound }
 {}
 
-/// Where the inputs spell words and an assignment has the values that `fill_add` gives for them, it
-/// meets what `add` put.
+/// Where the inputs spell words and an assignment has the values that `fill_add` assigns for them,
+/// it meets what `add` put.
 #[tactic(auto, using(crate::proofs::AddLaws::add_complete))]
 pub fn add_is_complete()
     ensures { AddIsComplete }
 {}
 
-/// Says which wires `add` answers and how many it makes, whatever the next wire is, and that
-/// `fill_add` gives one value for each of them, below P.
+/// Says which wires `add` returns and how many it makes, whatever the next wire is, and that
+/// `fill_add` assigns one value below P to each of them.
 #[tactic(auto, using(crate::proofs::AddLaws::add_sizes))]
 pub fn add_fills()
     ensures { AddSizes }

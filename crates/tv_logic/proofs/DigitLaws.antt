@@ -50,7 +50,7 @@ number-twice n d =
     sum_below-same n (λ j. BASE ^ j * (2 * d j)) (λ j. 2 * (BASE ^ j * d j)) (λ j h. omega arith) ∙ sum_below-mul 2 n (λ j. BASE ^ j * d j)
 
 -- the sum of four, as residues, and that it is 0 where the first two are the others
-flat : (p q r s : ℕ) → (1 * p % P + (1 * q % P + ((P - 2) * r % P + (P - 1) * s % P) % P) % P) % P ≡ (p + q + (P - 2) * r + (P - 1) * s) % P
+flat : (p q r s : ℕ) → (1 * q % P + (1 * p % P + ((P - 2) * r % P + (P - 1) * s % P) % P) % P) % P ≡ (p + q + (P - 2) * r + (P - 1) * s) % P
 flat p q r s = omega arith
 
 none_same : (p q r s : ℕ) → (p + q + (P - 2) * r + (P - 1) * s) % P ≡ 0 → (p + q) % P ≡ (2 * r + s) % P
@@ -73,8 +73,8 @@ module _ (z : List ℕ) (w n x y row a b both one from : ℕ) (within : from + n
       let ones = digits_combination (P - 1) (row + from + w) n in
       let last = ap (λ k. value (digits_combination (P - 1) k n) z) place ∙ value-digits z (P - 1) (row + w) w one from n s within in
       let third = value-append boths ones z ∙ ap₂ (λ i j. (i + j) % P) (value-digits z (P - 2) row w both from n r within) last in
-      let second = value-append ys (boths ++ ones) z ∙ ap₂ (λ i j. (i + j) % P) (value-digits z 1 y w b from n q within) third in
-      value-append xs (ys ++ (boths ++ ones)) z ∙ ap₂ (λ i j. (i + j) % P) (value-digits z 1 x w a from n p within) second
+      let second = value-append xs (boths ++ ones) z ∙ ap₂ (λ i j. (i + j) % P) (value-digits z 1 x w a from n p within) third in
+      value-append ys (xs ++ (boths ++ ones)) z ∙ ap₂ (λ i j. (i + j) % P) (value-digits z 1 y w b from n q within) second
       ∙ flat (digits a) (digits b) (digits both) (digits one)
 
   left : number_of n (sums a b from) ≡ digits a + digits b
@@ -194,8 +194,8 @@ length-sum w n x y row =
     let ones = digits_combination (P - 1) (row + w) n in
     omega (
       arith,
-      length-append xs (ys ++ (boths ++ ones)),
-      length-append ys (boths ++ ones),
+      length-append ys (xs ++ (boths ++ ones)),
+      length-append xs (boths ++ ones),
       length-append boths ones,
       length-digits 1 x n,
       length-digits 1 y n,

@@ -32,16 +32,19 @@ both_sound : (z : List ℕ) (next a b : ℕ) → Assigns z → Meets z (times_of
 both_sound z next a b assigns meets =
     times_sound z next (wire a) (wire b) assigns meets ∙ ap₂ (λ m n. m * n % P) (value-wire assigns a) (value-wire assigns b)
 
-both_complete : (z : List ℕ) (next a b : ℕ) → Assigns z → slice_index z next ≡ slice_index z a * slice_index z b % P → Meets z (times_of (wire a) (wire b) next).list
+both_complete : (z : List ℕ) (next a b : ℕ) → Assigns z → slice_index z next ≡ slice_index z a * slice_index z b % P
+    → Meets z (times_of (wire a) (wire b) next).list
 both_complete z next a b assigns is =
     times_complete z next (wire a) (wire b) assigns (is ∙ sym (ap₂ (λ m n. m * n % P) (value-wire assigns a) (value-wire assigns b)), tt)
 
 -- ---- a wire's flag
-flag_sound : (z : List ℕ) (next w v : ℕ) → Assigns z → slice_index z w ≡ v → Meets z (zero_of (wire w) next).list → slice_index z (zero_of (wire w) next).answer ≡ zero_flag v
+flag_sound : (z : List ℕ) (next w v : ℕ) → Assigns z → slice_index z w ≡ v → Meets z (zero_of (wire w) next).list
+    → slice_index z (zero_of (wire w) next).answer ≡ zero_flag v
 flag_sound z next w v assigns is meets = zero_sound z next (wire w) assigns meets ∙ ap zero_flag (value-wire assigns w ∙ is)
 
 flag_complete : (z : List ℕ) (next w v : ℕ) → Assigns z → slice_index z w ≡ v → HasFrom z next (zero_values v) → Meets z (zero_of (wire w) next).list
-flag_complete z next w v assigns is has = zero_complete z next (wire w) assigns (subst (λ k. HasFrom z next (zero_values k)) (sym (value-wire assigns w ∙ is)) has)
+flag_complete z next w v assigns is has = zero_complete z next (wire w) assigns
+    (subst (λ k. HasFrom z next (zero_values k)) (sym (value-wire assigns w ∙ is)) has)
 
 -- wires that hold the flags of numbers, the second being 0 where the first and the third are
 pub record HoldFlags (z : List ℕ) (flags : LogicFlags) (ands ors xors nots : ℕ) : Type 0 where
@@ -81,7 +84,8 @@ module _ (words : LogicWords) (next : ℕ) where
   flags_next = times_next (wire ands_wire) (wire xors_wire) or_from ∙ omega (arith, or_from_is)
 
   pub flags_same : (a b c d e f g h : ℕ) → a ≡ e → b ≡ f → c ≡ g → d ≡ h
-      → ◌≡◌ {A = LogicFlags} (record { and_zero = a; or_zero = b; xor_zero = c; not_zero = d }) (record { and_zero = e; or_zero = f; xor_zero = g; not_zero = h })
+      → ◌≡◌ {A = LogicFlags} (record { and_zero = a; or_zero = b; xor_zero = c; not_zero = d })
+      (record { and_zero = e; or_zero = f; xor_zero = g; not_zero = h })
   flags_same a b c d e f g h p q r s = cc
 
   pub flags_answer : (logic_flags_of words next).answer ≡ record { and_zero = next; or_zero = next + 6; xor_zero = next + 2; not_zero = next + 4 }
@@ -93,7 +97,8 @@ module _ (words : LogicWords) (next : ℕ) where
       (zero_answer (wire words.xor_word) xor_from ∙ xor_from_is)
       (zero_answer (wire words.not_word) not_from ∙ not_from_is ∙ omega arith)
 
-module _ (z : List ℕ) (next : ℕ) (words : LogicWords) (ands ors xors nots : ℕ) (assigns : Assigns z) (p : slice_index z words.and_word ≡ ands) (q : slice_index z words.xor_word ≡ xors) (r : slice_index z words.not_word ≡ nots) (sum : ors ≡ ands + xors) where
+module _ (z : List ℕ) (next : ℕ) (words : LogicWords) (ands ors xors nots : ℕ) (assigns : Assigns z) (p : slice_index z words.and_word ≡ ands)
+    (q : slice_index z words.xor_word ≡ xors) (r : slice_index z words.not_word ≡ nots) (sum : ors ≡ ands + xors) where
   pub flags_sound : Meets z (logic_flags_of words next).list → HoldFlags z (logic_flags_of words next).answer ands ors xors nots
   unfolding logic_flags_of pure ◌>>=◌
   flags_sound meets =
@@ -105,7 +110,8 @@ module _ (z : List ℕ) (next : ℕ) (words : LogicWords) (ands ors xors nots : 
       let of_xor = flag_sound z (xor_from words next) words.xor_word xors assigns q xors_met.0 in
       record {
         of_and = of_and;
-        of_or = both_sound z (or_from words next) (ands_wire words next) (xors_wire words next) assigns ors_met.0 ∙ ap₂ (λ m n. m * n % P) of_and of_xor ∙ flag-sum ands xors ors sum;
+        of_or = both_sound z (or_from words next) (ands_wire words next) (xors_wire words next) assigns ors_met.0 ∙ ap₂ (λ m n. m * n % P) of_and of_xor
+            ∙ flag-sum ands xors ors sum;
         of_xor = of_xor;
         of_not = flag_sound z (not_from words next) words.not_word nots assigns r nots_met.0;
       }
@@ -116,7 +122,8 @@ module _ (z : List ℕ) (next : ℕ) (words : LogicWords) (ands ors xors nots : 
       let one = HasFrom-split z next (zero_values ands) (zero_values xors ++ (zero_values nots ++ zero_flag ors ∷ [])) has in
       let two = HasFrom-split z (next + 2) (zero_values xors) (zero_values nots ++ zero_flag ors ∷ []) one.1 in
       let three = HasFrom-split z (next + 2 + 2) (zero_values nots) (zero_flag ors ∷ []) two.1 in
-      let at : (m n : ℕ) → m ≡ n → (v : ℕ) → HasFrom z n (zero_values v) → HasFrom z m (zero_values v) = λ m n e v h. subst (λ k. HasFrom z k (zero_values v)) (sym e) h in
+      let at : (m n : ℕ) → m ≡ n → (v : ℕ) → HasFrom z n (zero_values v)
+      → HasFrom z m (zero_values v) = λ m n e v h. subst (λ k. HasFrom z k (zero_values v)) (sym e) h in
       let ands_met = flag_complete z next words.and_word ands assigns p one.0 in
       let xors_met = flag_complete z (xor_from words next) words.xor_word xors assigns q (at _ _ (xor_from_is words next) xors two.0) in
       let nots_met = flag_complete z (not_from words next) words.not_word nots assigns r (at _ _ (not_from_is words next) nots three.0) in
@@ -126,4 +133,5 @@ module _ (z : List ℕ) (next : ℕ) (words : LogicWords) (ands ors xors nots : 
       Meets-join z (zero_of (wire words.and_word) next).list _ ands_met
       (Meets-join z (zero_of (wire words.xor_word) (xor_from words next)).list _ xors_met
       (Meets-join z (zero_of (wire words.not_word) (not_from words next)).list _ nots_met
-      (Meets-join z (times_of (wire (ands_wire words next)) (wire (xors_wire words next)) (or_from words next)).list [] (both_complete z (or_from words next) (ands_wire words next) (xors_wire words next) assigns of_or) tt)))
+      (Meets-join z (times_of (wire (ands_wire words next)) (wire (xors_wire words next)) (or_from words next)).list []
+      (both_complete z (or_from words next) (ands_wire words next) (xors_wire words next) assigns of_or) tt)))

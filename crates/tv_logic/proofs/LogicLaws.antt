@@ -61,7 +61,8 @@ logic_complete w width z next x y a b assigns p q has =
     let at = (logic_words_of w x y next).next in
     let size : length (word_values w a b) ≡ w / 2 + 3 = words_size w width a b in
     let place : next + length (word_values w a b) ≡ at = omega (arith, words_next w width x y next, size) in
-    let flags_met = flags_complete z at made (bit_and a b) (bit_or a b) (bit_xor a b) (bits_turned w b) assigns words.ands words.xors words.nots (or-sum a b) (subst (λ k. HasFrom z k flag_list) place split.1) in
+    let flags_met = flags_complete z at made (bit_and a b) (bit_or a b) (bit_xor a b) (bits_turned w b) assigns words.ands words.xors words.nots (or-sum a b)
+    (subst (λ k. HasFrom z k flag_list) place split.1) in
     Meets-join z (logic_words_of w x y next).list _ words_met (Meets-join z (logic_flags_of made at).list [] flags_met tt)
 
 -- what the circuit answers, and where it ends
@@ -70,15 +71,22 @@ unfolding logic_of pure ◌>>=◌
 logic_next w width x y next = flags_next (logic_words_of w x y next).answer (logic_words_of w x y next).next ∙ omega (arith, words_next w width x y next)
 
 flags_at : (w : ℕ) (words : LogicWords) (at next : ℕ) → at ≡ next + (w / 2 + 3)
-    → (logic_flags_of words at).answer ≡ record { and_zero = next + (w / 2 + 3); or_zero = next + (w / 2 + 9); xor_zero = next + (w / 2 + 5); not_zero = next + (w / 2 + 7) }
+    → (logic_flags_of words at).answer ≡ record {
+      and_zero = next + (w / 2 + 3);
+      or_zero = next + (w / 2 + 9);
+      xor_zero = next + (w / 2 + 5);
+      not_zero = next + (w / 2 + 7);
+    }
 flags_at w words at next is =
     flags_answer words at
-    ∙ flags_same words at at (at + 6) (at + 2) (at + 4) (next + (w / 2 + 3)) (next + (w / 2 + 9)) (next + (w / 2 + 5)) (next + (w / 2 + 7)) is (omega arith) (omega arith) (omega arith)
+    ∙ flags_same words at at (at + 6) (at + 2) (at + 4) (next + (w / 2 + 3)) (next + (w / 2 + 9)) (next + (w / 2 + 5)) (next + (w / 2 + 7)) is (omega arith)
+    (omega arith) (omega arith)
 
 logic_answer : (w : ℕ) → IsWidth w → (x y : Bits) (next : ℕ) → (logic_of w x y next).answer ≡ logic_wires w next
 unfolding logic_of pure ◌>>=◌
 logic_answer w width x y next =
-    ap₂ together (words_answer w width x y next) (flags_at w (logic_words_of w x y next).answer (logic_words_of w x y next).next next (words_next w width x y next))
+    ap₂ together (words_answer w width x y next)
+    (flags_at w (logic_words_of w x y next).answer (logic_words_of w x y next).next next (words_next w width x y next))
 
 -- as many values as wires
 logic_fills : (w : ℕ) → IsWidth w → (x y : Bits) (a b : ℕ) → Fills (logic_of w x y) (logic_values w a b)
@@ -111,7 +119,8 @@ words-below w width a b h k =
 
 flags-below : (ands ors xors nots : ℕ) → InField (flag_values ands ors xors nots)
 flags-below ands ors xors nots =
-    let last = InField-append (zero_values nots) (zero_flag ors ∷ []) (zero_in_field nots) (InField-cons (zero_flag ors) [] (zero_flag-below ors) InField-none) in
+    let last = InField-append (zero_values nots) (zero_flag ors ∷ []) (zero_in_field nots)
+    (InField-cons (zero_flag ors) [] (zero_flag-below ors) InField-none) in
     InField-append (zero_values ands) (zero_values xors ++ (zero_values nots ++ zero_flag ors ∷ [])) (zero_in_field ands)
     (InField-append (zero_values xors) (zero_values nots ++ zero_flag ors ∷ []) (zero_in_field xors) last)
 

@@ -15,7 +15,8 @@ use Rattle.tv_word.specs.Widths.{IsWidth}
 pairs-sum : (h a : ℕ) → sum_below h (λ i. 2 ^ i * (bit_at a i + 2 ^ h * bit_at a (h + i))) ≡ a % 2 ^ (h + h)
 pairs-sum h a =
     let bit : ℕ → ℕ = λ i. 2 ^ i * bit_at a i in
-    let each : (i : ℕ) → 2 ^ i * (bit_at a i + 2 ^ h * bit_at a (h + i)) ≡ bit i + bit (h + i) = λ i. omega (arith, ap (λ k. k * bit_at a (h + i)) (pow-add 2 h i)) in
+    let each : (i : ℕ) → 2 ^ i * (bit_at a i + 2 ^ h * bit_at a (h + i))
+    ≡ bit i + bit (h + i) = λ i. omega (arith, ap (λ k. k * bit_at a (h + i)) (pow-add 2 h i)) in
     sum_below-same h (λ i. 2 ^ i * (bit_at a i + 2 ^ h * bit_at a (h + i))) (λ i. bit i + bit (h + i)) (λ i k. each i)
     ∙ sum_below-plus h bit (λ i. bit (h + i))
     ∙ sym (sum_below-add h h bit)

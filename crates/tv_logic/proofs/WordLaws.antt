@@ -1,5 +1,6 @@
 -- The laws of the words that are linear in the inputs and the word of ands.
-use Rattle.std.proofs.Common.{◌≡◌, ℕ, ◌+◌, ◌-◌, ◌*◌, ◌/◌, ◌%◌, ◌^◌, ◌<◌, ◌≤◌, List, [], ◌∷◌, ◌++◌, length, bit_and, bit_or, bit_xor, sym, subst, ◌∙◌, ap, ap₂, arith}
+use Rattle.std.proofs.Common.{◌≡◌, ℕ, ◌+◌, ◌-◌, ◌*◌, ◌/◌, ◌%◌, ◌^◌, ◌<◌, ◌≤◌, List, [], ◌∷◌, ◌++◌, length, bit_and, bit_or, bit_xor, sym, subst, ◌∙◌, ap, ap₂}
+use Rattle.std.proofs.Common.{arith}
 use Rattle.std.specs.Int.Bits.{or_add_and, xor_add_and}
 use Rattle.std.specs.Prelude.{slice_index}
 use Rattle.tv_bits.proofs.TimesLaws.{kept_answer, kept_next, kept_sound, kept_complete}
@@ -43,15 +44,18 @@ module _ (w : ℕ) (width : IsWidth w) (z : List ℕ) (assigns : Assigns z) (x y
       let right = bits_combination y.first w in
       let last : value ((negative k, at) ∷ []) z ≡ negative k * slice_index z at % P = ap (λ n. n % P) (omega arith) in
       value-append (left ++ scaled 1 right) ((negative k, at) ∷ []) z
-      ∙ ap₂ (λ m n. (m + n) % P) (value-append left (scaled 1 right) z ∙ ap₂ (λ m n. (m + n) % P) (value-bits_below p short) (value-scaled 1 right z ∙ ap (λ n. 1 * n % P) (value-bits_below q short))) last
+      ∙ ap₂ (λ m n. (m + n) % P) (value-append left (scaled 1 right) z
+      ∙ ap₂ (λ m n. (m + n) % P) (value-bits_below p short) (value-scaled 1 right z ∙ ap (λ n. 1 * n % P) (value-bits_below q short))) last
 
   value-or : (at : ℕ) → slice_index z at ≡ bit_and a b → value (sum_less w x y 1 at) z ≡ bit_or a b
   value-or at is =
-      value-sum_less 1 at ∙ ap (λ k. ((a + 1 * b % P) % P + (P - 1) * k % P) % P) is ∙ or_number a b (bit_and a b) (bit_or a b) (word_small w width a (Spells-below p)) (word_small w width b (Spells-below q)) (or_add_and a b)
+      value-sum_less 1 at ∙ ap (λ k. ((a + 1 * b % P) % P + (P - 1) * k % P) % P) is
+      ∙ or_number a b (bit_and a b) (bit_or a b) (word_small w width a (Spells-below p)) (word_small w width b (Spells-below q)) (or_add_and a b)
 
   value-xor : (at : ℕ) → slice_index z at ≡ bit_and a b → value (sum_less w x y 2 at) z ≡ bit_xor a b
   value-xor at is =
-      value-sum_less 2 at ∙ ap (λ k. ((a + 1 * b % P) % P + (P - 2) * k % P) % P) is ∙ xor_number a b (bit_and a b) (bit_xor a b) (word_small w width a (Spells-below p)) (word_small w width b (Spells-below q)) (xor_add_and a b)
+      value-sum_less 2 at ∙ ap (λ k. ((a + 1 * b % P) % P + (P - 2) * k % P) % P) is
+      ∙ xor_number a b (bit_and a b) (bit_xor a b) (word_small w width a (Spells-below p)) (word_small w width b (Spells-below q)) (xor_add_and a b)
 
   value-not : value (complement w y) z ≡ bits_turned w b
   value-not =
@@ -88,10 +92,12 @@ module _ (w : ℕ) (width : IsWidth w) (x y : Bits) (next : ℕ) where
   words_next = kept_next (complement w y) not_from ∙ omega (arith, not_from_is)
 
   words_same : (a b c d e f g h : ℕ) → a ≡ e → b ≡ f → c ≡ g → d ≡ h
-      → ◌≡◌ {A = LogicWords} (record { and_word = a; or_word = b; xor_word = c; not_word = d }) (record { and_word = e; or_word = f; xor_word = g; not_word = h })
+      → ◌≡◌ {A = LogicWords} (record { and_word = a; or_word = b; xor_word = c; not_word = d })
+      (record { and_word = e; or_word = f; xor_word = g; not_word = h })
   words_same a b c d e f g h p q r s = cc
 
-  pub words_answer : (logic_words_of w x y next).answer ≡ record { and_word = next; or_word = next + w / 2; xor_word = next + (w / 2 + 1); not_word = next + (w / 2 + 2) }
+  pub words_answer : (logic_words_of w x y next).answer
+      ≡ record { and_word = next; or_word = next + w / 2; xor_word = next + (w / 2 + 1); not_word = next + (w / 2 + 2) }
   unfolding logic_words_of pure ◌>>=◌
   words_answer =
       words_same _ _ _ _ next (next + w / 2) (next + (w / 2 + 1)) (next + (w / 2 + 2))
@@ -100,7 +106,8 @@ module _ (w : ℕ) (width : IsWidth w) (x y : Bits) (next : ℕ) where
       (kept_answer (sum_less w x y 2 (and_of w x y next).answer) xor_from ∙ xor_from_is ∙ omega arith)
       (kept_answer (complement w y) not_from ∙ not_from_is ∙ omega arith)
 
-pub words_sound : (w : ℕ) → IsWidth w → (z : List ℕ) (next : ℕ) (x y : Bits) (a b : ℕ) → Assigns z → Spells z x.first w a → Spells z y.first w b → Meets z (logic_words_of w x y next).list
+pub words_sound : (w : ℕ) → IsWidth w → (z : List ℕ) (next : ℕ) (x y : Bits) (a b : ℕ) → Assigns z → Spells z x.first w a → Spells z y.first w b
+    → Meets z (logic_words_of w x y next).list
     → HoldWords w z (logic_words_of w x y next).answer a b
 unfolding logic_words_of pure ◌>>=◌
 words_sound w width z next x y a b assigns p q meets =
@@ -117,7 +124,8 @@ words_sound w width z next x y a b assigns p q meets =
       nots = kept_sound z (not_from w width x y next) (complement w y) assigns nots_met.0 ∙ value-not w width z assigns x y a b p q;
     }
 
-pub words_complete : (w : ℕ) → IsWidth w → (z : List ℕ) (next : ℕ) (x y : Bits) (a b : ℕ) → Assigns z → Spells z x.first w a → Spells z y.first w b → HasFrom z next (word_values w a b)
+pub words_complete : (w : ℕ) → IsWidth w → (z : List ℕ) (next : ℕ) (x y : Bits) (a b : ℕ) → Assigns z → Spells z x.first w a → Spells z y.first w b
+    → HasFrom z next (word_values w a b)
     → Meets z (logic_words_of w x y next).list
 unfolding logic_words_of pure ◌>>=◌
 words_complete w width z next x y a b assigns p q has =
@@ -131,6 +139,9 @@ words_complete w width z next x y a b assigns p q has =
     let xors = ap (λ k. slice_index z k) (xor_from_is w width x y next) ∙ rest.1.0 ∙ sym (value-xor w width z assigns x y a b p q at ands) in
     let nots = ap (λ k. slice_index z k) (not_from_is w width x y next) ∙ rest.1.1.0 ∙ sym (value-not w width z assigns x y a b p q) in
     Meets-join z (and_of w x y next).list _ (and_complete w width z next x y a b assigns p q (has.0, split.0))
-    (Meets-join z (kept_of (sum_less w x y 1 at) (or_from w width x y next)).list _ (kept_complete z (or_from w width x y next) (sum_less w x y 1 at) assigns (ors, tt))
-    (Meets-join z (kept_of (sum_less w x y 2 at) (xor_from w width x y next)).list _ (kept_complete z (xor_from w width x y next) (sum_less w x y 2 at) assigns (xors, tt))
-    (Meets-join z (kept_of (complement w y) (not_from w width x y next)).list [] (kept_complete z (not_from w width x y next) (complement w y) assigns (nots, tt)) tt)))
+    (Meets-join z (kept_of (sum_less w x y 1 at) (or_from w width x y next)).list _
+    (kept_complete z (or_from w width x y next) (sum_less w x y 1 at) assigns (ors, tt))
+    (Meets-join z (kept_of (sum_less w x y 2 at) (xor_from w width x y next)).list _
+    (kept_complete z (xor_from w width x y next) (sum_less w x y 2 at) assigns (xors, tt))
+    (Meets-join z (kept_of (complement w y) (not_from w width x y next)).list []
+    (kept_complete z (not_from w width x y next) (complement w y) assigns (nots, tt)) tt)))

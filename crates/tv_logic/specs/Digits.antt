@@ -17,10 +17,10 @@ use Rattle.tv_word.specs.Widths.{IsWidth}
 abbrev pub digits_combination : ℕ → ℕ → ℕ → Combination
 digits_combination k first n = weighted first n (λ j. k * BASE ^ j % P)
 
--- the number whose digits are x + y - 2 both - one, of n wires from x, y and row on for x, y and both, and from row + w on for one
+-- the number whose digits are y + x - 2 both - one, of n wires from y, x and row on for y, x and both, and from row + w on for one
 abbrev pub digit_sum : ℕ → ℕ → ℕ → ℕ → ℕ → Combination
 digit_sum w n x y row =
-    digits_combination 1 x n ++ (digits_combination 1 y n ++ (digits_combination (P - 2) row n ++ digits_combination (P - 1) (row + w) n))
+    digits_combination 1 y n ++ (digits_combination 1 x n ++ (digits_combination (P - 2) row n ++ digits_combination (P - 1) (row + w) n))
 
 -- this number is 0 where the gate is 1
 unfoldable pub digits_of : ℕ → ℕ → Combination → ℕ → ℕ → ℕ → Circuit (Unit {0})

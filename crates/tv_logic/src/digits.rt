@@ -69,8 +69,8 @@ fn digits<const W: u32, S: Sink>(
     ensures grows { IfOk result (λ _. Grows S.meaning s.old s.new 0 1) }
 {
     scratch.b.clear();
-    plus_digits(&mut scratch.b, F::ONE, x, n);
     plus_digits(&mut scratch.b, F::ONE, y, n);
+    plus_digits(&mut scratch.b, F::ONE, x, n);
     plus_digits(&mut scratch.b, -F::of(2), row, n);
     plus_digits(&mut scratch.b, -F::ONE, row.offset(W), n);
     scratch.c.clear();

@@ -1,5 +1,6 @@
 pub mod Examples
 pub mod HalvesLaws
+pub mod NormalLaws
 pub mod ProductLaws
 pub mod QuotientLaws
 pub mod QuotientNumbers

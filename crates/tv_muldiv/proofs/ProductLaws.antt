@@ -1,5 +1,6 @@
 -- The laws of the product.
-use Rattle.std.proofs.Common.{◌≡◌, ℕ, ◌+◌, ◌-◌, ◌*◌, ◌/◌, ◌%◌, ◌^◌, ◌<◌, ◌≤◌, List, [], inl, inr, refl, sym, subst, ◌∙◌, ap, ap₂, arith, length-append, add-zero, mod-eq_of_lt}
+use Rattle.std.proofs.Common.{◌≡◌, ℕ, ◌+◌, ◌-◌, ◌*◌, ◌/◌, ◌%◌, ◌^◌, ◌<◌, ◌≤◌, List, [], inl, inr, refl, sym, subst, ◌∙◌, ap, ap₂, arith, length-append}
+use Rattle.std.proofs.Common.{add-zero, mod-eq_of_lt}
 use Rattle.std.specs.Prelude.{slice_index}
 use Rattle.std.specs.Int.{bit_at}
 use Rattle.std.proofs.lemmas.Bool.{cases_eq}
@@ -46,7 +47,8 @@ first_of_product a b =
     bit_at_lowest (a * b) ∙ mul-mod a b 2 ∙ mod-eq_of_lt small ∙ sym (ap₂ (λ m n. m * n) (bit_at_lowest a) (bit_at_lowest b))
 
 odd : (m n p w : ℕ) → bit_at m 0 ≡ p → IsBit p → p % P ≡ w → w ≡ bit_at n 0 → m % 2 ≡ n % 2
-odd m n p w lowest small whole same = sym (bit_at_lowest m) ∙ lowest ∙ sym (mod-eq_of_lt (let below : p < P = omega arith in below)) ∙ whole ∙ same ∙ bit_at_lowest n
+odd m n p w lowest small whole same = sym (bit_at_lowest m) ∙ lowest ∙ sym (mod-eq_of_lt (let below : p < P = omega arith in below)) ∙ whole ∙ same
+    ∙ bit_at_lowest n
 
 -- ---- the bits of the product
 module _ (z : List ℕ) (assigns : Assigns z) where
@@ -55,7 +57,8 @@ module _ (z : List ℕ) (assigns : Assigns z) where
   lowest first some s = value-wire assigns first ∙ ap (λ k. slice_index z k) (sym (add-zero first)) ∙ Spells-bit_at s 0 some
 
   module _ (w : ℕ) (width : IsWidth w) (next : ℕ) (x y : Bits) (a b : ℕ) (p : Spells z x.first w a) (q : Spells z y.first w b) where
-    bits_of_product : IsBit (slice_index z next) → ((i : ℕ) → i < 2 * w - 1 → IsBit (slice_index z (next + 1 + i))) → (i : ℕ) → i < 2 * w → IsBit (slice_index z (next + i))
+    bits_of_product : IsBit (slice_index z next) → ((i : ℕ) → i < 2 * w - 1 → IsBit (slice_index z (next + 1 + i))) → (i : ℕ) → i < 2 * w
+        → IsBit (slice_index z (next + i))
     bits_of_product first rest i h = elim (cases_eq i 0) [
       | inl none ↦ let same : next ≡ next + i = omega arith in subst (λ k. IsBit (slice_index z k)) same first
       | inr some ↦ let same : next + 1 + (i - 1) ≡ next + i = omega arith in subst (λ k. IsBit (slice_index z k)) same (rest (i - 1) (omega arith))
@@ -75,8 +78,10 @@ module _ (z : List ℕ) (assigns : Assigns z) where
         let whole : a * b % P ≡ spelled z next (2 * w) % P =
         sym (ap₂ (λ m n. m * n % P) (value-bits_below p (omega arith)) (value-bits_below q (omega arith))) ∙ both.1.1.0 ∙ value-bits s in
         let parity : a * b % 2 ≡ spelled z next (2 * w) % 2 =
-        odd (a * b) (spelled z next (2 * w)) (bit_at a 0 * bit_at b 0) (slice_index z next) (first_of_product a b) small first (sym (value-wire assigns next) ∙ lowest next (omega arith) s) in
-        let same : spelled z next (2 * w) ≡ a * b = sym (exact w width (a * b) (spelled z next (2 * w)) (product_small w width a b (Spells-below p) (Spells-below q)).0 (Spells-below s) whole parity) in
+        odd (a * b) (spelled z next (2 * w)) (bit_at a 0 * bit_at b 0) (slice_index z next) (first_of_product a b) small first
+        (sym (value-wire assigns next) ∙ lowest next (omega arith) s) in
+        let same : spelled z next (2 * w) ≡ a * b = sym
+        (exact w width (a * b) (spelled z next (2 * w)) (product_small w width a b (Spells-below p) (Spells-below q)).0 (Spells-below s) whole parity) in
         subst (λ v. Spells z next (2 * w) v) same s
 
     product_bits_complete : Spells z next (2 * w) (a * b) → Meets z (product_bits_of w x y next).list
@@ -102,7 +107,8 @@ unfolding product_bits_of fresh put pure ◌>>=◌
 product_bits_next w width x y next = new_bits_next (2 * w - 1) (next + 1) ∙ grind arith
 
 -- ---- the product
-pub product_answer : (w : ℕ) → IsWidth w → (x y : Bits) (next : ℕ) → (product_of w x y next).answer ≡ record { low = record { first = next; n = w }; high = record { first = next + w; n = w }; over = next + 2 * w }
+pub product_answer : (w : ℕ) → IsWidth w → (x y : Bits) (next : ℕ)
+    → (product_of w x y next).answer ≡ record { low = record { first = next; n = w }; high = record { first = next + w; n = w }; over = next + 2 * w }
 unfolding product_of nonzero_of fresh put pure ◌>>=◌
 product_answer w width x y next = rw (product_bits_answer, product_bits_next w width x y next) refl
 
@@ -118,11 +124,13 @@ product_parts w width z x y next meets =
     let both = rw (product_bits_answer, product_bits_next w width x y next) at (Meets-split z (product_bits_of w x y next).list _ meets) in
     (both.0, (Meets-split z (nonzero_of (bits_combination (next + w) w) (next + 2 * w)).list [] both.1).0)
 
-product_whole : (w : ℕ) → IsWidth w → (z : List ℕ) (x y : Bits) (next : ℕ) → Meets z (product_bits_of w x y next).list → Meets z (nonzero_of (bits_combination (next + w) w) (next + 2 * w)).list
+product_whole : (w : ℕ) → IsWidth w → (z : List ℕ) (x y : Bits) (next : ℕ) → Meets z (product_bits_of w x y next).list
+    → Meets z (nonzero_of (bits_combination (next + w) w) (next + 2 * w)).list
     → Meets z (product_of w x y next).list
 unfolding product_of pure ◌>>=◌
 product_whole w width z x y next p q =
-    Meets-join z (product_bits_of w x y next).list _ p (rw (product_bits_answer, product_bits_next w width x y next) (Meets-join z (nonzero_of (bits_combination (next + w) w) (next + 2 * w)).list [] q tt))
+    Meets-join z (product_bits_of w x y next).list _ p
+    (rw (product_bits_answer, product_bits_next w width x y next) (Meets-join z (nonzero_of (bits_combination (next + w) w) (next + 2 * w)).list [] q tt))
 
 pub product_sound : ProductIsSound
 product_sound w width z next x y a b assigns p q meets =
@@ -134,7 +142,8 @@ product_sound w width z next x y a b assigns p q meets =
     rw (product_answer w width x y next) (record {
       low = Spells-low z next w w (a * b) two;
       high = high;
-      over = rw nonzero_answer at (nonzero_sound z (next + 2 * w) (bits_combination (next + w) w) assigns both.1) ∙ ap nonzero_flag (value-bits_below high (omega arith));
+      over = rw nonzero_answer at (nonzero_sound z (next + 2 * w) (bits_combination (next + w) w) assigns both.1)
+          ∙ ap nonzero_flag (value-bits_below high (omega arith));
     })
 
 pub product_complete : ProductIsComplete
@@ -152,6 +161,12 @@ pub product_sizes : ProductSizes
 product_sizes = record {
   answer = product_answer;
   end = product_next;
-  fills = λ w width x y a b next. omega (arith, product_next w width x y next, length-append (halves_values w (a * b)) (nonzero_values (a * b / 2 ^ w)), length-halves w (a * b));
-  in_field = λ w a b. InField-append (halves_values w (a * b)) (nonzero_values (a * b / 2 ^ w)) (halves_in_field w (a * b)) (nonzero_sizes.in_field (a * b / 2 ^ w));
+  fills = λ w width x y a b next. omega (
+    arith,
+    product_next w width x y next,
+    length-append (halves_values w (a * b)) (nonzero_values (a * b / 2 ^ w)),
+    length-halves w (a * b),
+  );
+  in_field = λ w a b. InField-append (halves_values w (a * b)) (nonzero_values (a * b / 2 ^ w)) (halves_in_field w (a * b))
+      (nonzero_sizes.in_field (a * b / 2 ^ w));
 }

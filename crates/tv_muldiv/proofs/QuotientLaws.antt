@@ -28,7 +28,8 @@ use Rattle.tv_bits.specs.declared.bit_wires.Bits.{Bits}
 use Rattle.tv_word.proofs.WidthLaws.{width_short}
 use Rattle.tv_word.specs.Widths.{IsWidth}
 use Rattle.tv_muldiv.proofs.QuotientNumbers.{Divides, Divides-sound, Divides-complete, quotient-small, remainder-small, above-below, above-difference}
-use Rattle.tv_muldiv.specs.Quotient.{quotient_in, remainder_in, gate_in, above_in, words_values, above_values, zero_divisor_of, quotient_wires_of, gate_of, division_of, remainder_below_of, quotient_of, quotient_values, QuotientIsSound, QuotientIsComplete, QuotientSizes}
+use Rattle.tv_muldiv.specs.Quotient.{quotient_in, remainder_in, gate_in, above_in, words_values, above_values, zero_divisor_of, quotient_wires_of, gate_of}
+use Rattle.tv_muldiv.specs.Quotient.{division_of, remainder_below_of, quotient_of, quotient_values, QuotientIsSound, QuotientIsComplete, QuotientSizes}
 use Rattle.tv_muldiv.specs.declared.records.Quot.{Quot}
 
 -- the wires that are answered
@@ -48,7 +49,8 @@ quotient_wires_answer : (w : ℕ) (y : Bits) (next : ℕ) → (quotient_wires_of
 unfolding quotient_wires_of pure ◌>>=◌ made_at
 quotient_wires_answer w y next =
     let place : next + w + w ≡ next + 2 * w = omega arith in
-    simp (new_bits_answer, new_bits_next, zero_divisor_answer) (ap (λ k. record { quot = record { first = next; n = w }; rem = record { first = next + w; n = w }; by_zero = k }) place)
+    simp (new_bits_answer, new_bits_next, zero_divisor_answer)
+    (ap (λ k. record { quot = record { first = next; n = w }; rem = record { first = next + w; n = w }; by_zero = k }) place)
 
 quotient_wires_next : (w : ℕ) (y : Bits) (next : ℕ) → (quotient_wires_of w y next).next ≡ next + 2 * w + 1
 unfolding quotient_wires_of pure ◌>>=◌
@@ -64,7 +66,7 @@ remainder_below_next : (w : ℕ) (y : Bits) (made : Quot) (next : ℕ) → (rema
 unfolding remainder_below_of ◌>>=◌
 remainder_below_next w y made next = prefix_difference_next _ _ _ (w / 4) 4 (new_bits_of (w / 4) next).next ∙ omega (arith, new_bits_next (w / 4) next)
 
--- ---- the bit that tells whether the divisor is 0
+-- ---- the bit that is 1 where the divisor is 0
 module _ (w : ℕ) (width : IsWidth w) (z : List ℕ) (assigns : Assigns z) (y : Bits) (b : ℕ) (q : Spells z y.first w b) (next : ℕ) where
   divisor : value (wire next) z * value (bits_combination y.first w) z % P ≡ slice_index z next * b % P
   divisor = let short = width_short w width in ap₂ (λ m n. m * n % P) (value-wire assigns next) (value-bits_below q (omega arith))
@@ -90,7 +92,8 @@ quotient_wires_parts w z y next meets =
     let third = Meets-split z (zero_divisor_of w y (next + 2 * w)).list [] (rw (new_bits_next, place) at second.1) in
     (first.0, second.0, third.0)
 
-quotient_wires_whole : (w : ℕ) (z : List ℕ) (y : Bits) (next : ℕ) → Meets z (new_bits_of w next).list → Meets z (new_bits_of w (next + w)).list → Meets z (zero_divisor_of w y (next + 2 * w)).list
+quotient_wires_whole : (w : ℕ) (z : List ℕ) (y : Bits) (next : ℕ) → Meets z (new_bits_of w next).list → Meets z (new_bits_of w (next + w)).list
+    → Meets z (zero_divisor_of w y (next + 2 * w)).list
     → Meets z (quotient_wires_of w y next).list
 unfolding quotient_wires_of pure ◌>>=◌
 quotient_wires_whole w z y next p q r =
@@ -99,26 +102,31 @@ quotient_wires_whole w z y next p q r =
     Meets-join z (new_bits_of w next).list _ p (rw (new_bits_next w next) (Meets-join z (new_bits_of w (next + w)).list _ q (rw (new_bits_next, place) last)))
 
 -- ---- the division
-module _ (w : ℕ) (width : IsWidth w) (z : List ℕ) (assigns : Assigns z) (x y : Bits) (a b quot rem : ℕ) (p : Spells z x.first w a) (q : Spells z y.first w b) (made : Quot)
+module _ (w : ℕ) (width : IsWidth w) (z : List ℕ) (assigns : Assigns z) (x y : Bits) (a b quot rem : ℕ) (p : Spells z x.first w a) (q : Spells z y.first w b)
+    (made : Quot)
     (s : Spells z made.quot.first w quot) (t : Spells z made.rem.first w rem) (next : ℕ) where
-  gate_left : value (wire made.by_zero) z * value (bits_combination x.first w ++ scaled 1 (bits_combination made.quot.first w)) z % P ≡ slice_index z made.by_zero * ((a + quot) % P) % P
+  gate_left : value (wire made.by_zero) z * value (bits_combination x.first w ++ scaled 1 (bits_combination made.quot.first w)) z % P
+      ≡ slice_index z made.by_zero * ((a + quot) % P) % P
   gate_left =
       let short = width_short w width in
       let small = Spells-below p in
       let sum : (a + 1 * quot % P) % P ≡ (a + quot) % P = omega arith in
       let second = value-scaled 1 (bits_combination made.quot.first w) z ∙ ap (λ n. 1 * n % P) (value-bits_below s (omega arith)) in
       ap₂ (λ m n. m * n % P) (value-wire assigns made.by_zero)
-      (value-append (bits_combination x.first w) (scaled 1 (bits_combination made.quot.first w)) z ∙ ap₂ (λ m n. (m + n) % P) (value-bits_below p (omega arith)) second ∙ sum)
+      (value-append (bits_combination x.first w) (scaled 1 (bits_combination made.quot.first w)) z
+      ∙ ap₂ (λ m n. (m + n) % P) (value-bits_below p (omega arith)) second ∙ sum)
 
   whole_left : value (bits_combination made.quot.first w) z * value (bits_combination y.first w) z % P ≡ quot * b % P
   whole_left = let short = width_short w width in ap₂ (λ m n. m * n % P) (value-bits_below s (omega arith)) (value-bits_below q (omega arith))
 
-  whole_right : value (less (less (bits_combination x.first w) (bits_combination made.rem.first w)) (wire next)) z ≡ ((a + (P - rem)) % P + (P - slice_index z next)) % P
+  whole_right : value (less (less (bits_combination x.first w) (bits_combination made.rem.first w)) (wire next)) z
+      ≡ ((a + (P - rem)) % P + (P - slice_index z next)) % P
   whole_right =
       let short = width_short w width in
       value-less (less (bits_combination x.first w) (bits_combination made.rem.first w)) (wire next) z
       ∙ ap₂ (λ m n. (m + (P - n)) % P)
-      (value-less (bits_combination x.first w) (bits_combination made.rem.first w) z ∙ ap₂ (λ m n. (m + (P - n)) % P) (value-bits_below p (omega arith)) (value-bits_below t (omega arith)))
+      (value-less (bits_combination x.first w) (bits_combination made.rem.first w) z
+      ∙ ap₂ (λ m n. (m + (P - n)) % P) (value-bits_below p (omega arith)) (value-bits_below t (omega arith)))
       (value-wire assigns next)
 
   division_sound : Meets z (division_of w x y made next).list
@@ -126,14 +134,17 @@ module _ (w : ℕ) (width : IsWidth w) (z : List ℕ) (assigns : Assigns z) (x y
   unfolding division_of gate_of fresh put pure ◌>>=◌
   division_sound meets = (sym gate_left ∙ meets.0 ∙ value-wire assigns next, sym whole_left ∙ meets.1.0 ∙ whole_right)
 
-  division_complete : slice_index z made.by_zero * ((a + quot) % P) % P ≡ slice_index z next → quot * b % P ≡ ((a + (P - rem)) % P + (P - slice_index z next)) % P
+  division_complete : slice_index z made.by_zero * ((a + quot) % P) % P ≡ slice_index z next
+      → quot * b % P ≡ ((a + (P - rem)) % P + (P - slice_index z next)) % P
       → Meets z (division_of w x y made next).list
   unfolding division_of gate_of fresh put pure ◌>>=◌
   division_complete e f = (gate_left ∙ e ∙ sym (value-wire assigns next), (whole_left ∙ f ∙ sym whole_right, tt))
 
 -- ---- the remainder below the divisor
-module _ (w : ℕ) (width : IsWidth w) (z : List ℕ) (assigns : Assigns z) (y : Bits) (b rem : ℕ) (q : Spells z y.first w b) (quot : Bits) (at flag : ℕ) (t : Spells z at w rem) (next : ℕ) where
-  value-above : (above : ℕ) → Spells z next (w / 4) above → value (less (bits_combination next (w / 4) ++ constant 1) (wire flag)) z ≡ ((above + 1) % P + (P - slice_index z flag)) % P
+module _ (w : ℕ) (width : IsWidth w) (z : List ℕ) (assigns : Assigns z) (y : Bits) (b rem : ℕ) (q : Spells z y.first w b) (quot : Bits) (at flag : ℕ)
+    (t : Spells z at w rem) (next : ℕ) where
+  value-above : (above : ℕ) → Spells z next (w / 4) above
+      → value (less (bits_combination next (w / 4) ++ constant 1) (wire flag)) z ≡ ((above + 1) % P + (P - slice_index z flag)) % P
   value-above above s =
       let short = width_short w width in
       let one : value (constant 1) z ≡ 1 = value-constant assigns 1 ∙ omega arith in
@@ -150,17 +161,21 @@ module _ (w : ℕ) (width : IsWidth w) (z : List ℕ) (assigns : Assigns z) (y :
       let both = Meets-split z (new_bits_of (w / 4) next).list _ meets in
       let s = bits_spell z (w / 4) next assigns both.0 in
       let rest = rw (new_bits_answer, new_bits_next) at both.1 in
-      let found = prefix_difference_sound z (next + w / 4) (record { first = y.first; n = w }) (record { first = at; n = w }) (less (bits_combination next (w / 4) ++ constant 1) (wire flag)) (w / 4) 4 b rem
+      let found = prefix_difference_sound z (next + w / 4) (record { first = y.first; n = w }) (record { first = at; n = w })
+      (less (bits_combination next (w / 4) ++ constant 1) (wire flag)) (w / 4) 4 b rem
       (omega arith) (omega arith) (omega arith) (omega arith) (omega arith) assigns q t rest in
       (spelled z next (w / 4), Spells-below s, rw (value-above (spelled z next (w / 4)) s) at found)
 
-  remainder_below_complete : (above d : ℕ) → Spells z next (w / 4) above → d ≡ ((above + 1) % P + (P - slice_index z flag)) % P → IsPrefixDifference (w / 4) 4 b rem d
-      → HasFrom z (next + w / 4) (prefix_difference_values b rem d (w / 4) 4) → Meets z (remainder_below_of w y (record { quot = quot; rem = record { first = at; n = w }; by_zero = flag }) next).list
+  remainder_below_complete : (above d : ℕ) → Spells z next (w / 4) above → d ≡ ((above + 1) % P + (P - slice_index z flag)) % P
+      → IsPrefixDifference (w / 4) 4 b rem d
+      → HasFrom z (next + w / 4) (prefix_difference_values b rem d (w / 4) 4)
+      → Meets z (remainder_below_of w y (record { quot = quot; rem = record { first = at; n = w }; by_zero = flag }) next).list
   unfolding remainder_below_of ◌>>=◌
   remainder_below_complete above d s is i has =
       let short = width_short w width in
       let same : d ≡ value (less (bits_combination next (w / 4) ++ constant 1) (wire flag)) z = is ∙ sym (value-above above s) in
-      let rest = prefix_difference_complete z (next + w / 4) (record { first = y.first; n = w }) (record { first = at; n = w }) (less (bits_combination next (w / 4) ++ constant 1) (wire flag)) (w / 4) 4 b rem
+      let rest = prefix_difference_complete z (next + w / 4) (record { first = y.first; n = w }) (record { first = at; n = w })
+      (less (bits_combination next (w / 4) ++ constant 1) (wire flag)) (w / 4) 4 b rem
       (omega arith) (omega arith) (omega arith) (omega arith) (omega arith) assigns q t (rw same at i) (rw same at has) in
       Meets-join z (new_bits_of (w / 4) next).list _ (bits_met z (w / 4) next assigns s.bits) (rw (new_bits_answer, new_bits_next) rest)
 
@@ -187,14 +202,16 @@ quotient_parts w z x y next meets =
     let third = Meets-split z (remainder_below_of w y (made_at w next) (next + 2 * w + 2)).list [] (rw (division_next, place) at second.1) in
     (first.0, second.0, third.0)
 
-quotient_whole : (w : ℕ) (z : List ℕ) (x y : Bits) (next : ℕ) → Meets z (quotient_wires_of w y next).list → Meets z (division_of w x y (made_at w next) (next + 2 * w + 1)).list
+quotient_whole : (w : ℕ) (z : List ℕ) (x y : Bits) (next : ℕ) → Meets z (quotient_wires_of w y next).list
+    → Meets z (division_of w x y (made_at w next) (next + 2 * w + 1)).list
     → Meets z (remainder_below_of w y (made_at w next) (next + 2 * w + 2)).list → Meets z (quotient_of w x y next).list
 unfolding quotient_of pure ◌>>=◌
 quotient_whole w z x y next p q r =
     let place : next + 2 * w + 1 + 1 ≡ next + 2 * w + 2 = omega arith in
     let last = Meets-join z (remainder_below_of w y (made_at w next) (next + 2 * w + 2)).list [] r tt in
     Meets-join z (quotient_wires_of w y next).list _ p
-    (rw (quotient_wires_answer, quotient_wires_next) (Meets-join z (division_of w x y (made_at w next) (next + 2 * w + 1)).list _ q (rw (division_next, place) last)))
+    (rw (quotient_wires_answer, quotient_wires_next)
+    (Meets-join z (division_of w x y (made_at w next) (next + 2 * w + 1)).list _ q (rw (division_next, place) last)))
 
 pub quotient_sound : QuotientIsSound
 unfolding made_at
@@ -208,7 +225,8 @@ quotient_sound w width z next x y a b assigns p q meets =
     let flag = zero_divisor_sound w width z assigns y b q (next + 2 * w) wires.2 in
     let whole = division_sound w width z assigns x y a b quot rem p q (made_at w next) s t (next + 2 * w + 1) all.1 in
     let found = remainder_below_sound w width z assigns y b rem q (record { first = next; n = w }) (next + w) (next + 2 * w) t (next + 2 * w + 2) all.2 in
-    let divides : Divides w a b quot rem (slice_index z (next + 2 * w)) (slice_index z (next + 2 * w + 1)) found.0 = record { bit = flag.0; zero = flag.1; gated = whole.0; whole = whole.1; below = found.2 } in
+    let divides : Divides w a b quot rem (slice_index z (next + 2 * w))
+    (slice_index z (next + 2 * w + 1)) found.0 = record { bit = flag.0; zero = flag.1; gated = whole.0; whole = whole.1; below = found.2 } in
     let divided = Divides-sound w width a b quot rem (slice_index z (next + 2 * w)) (slice_index z (next + 2 * w + 1)) found.0
     (Spells-below p) (Spells-below q) (Spells-below s) (Spells-below t) found.1 divides in
     rw quotient_answer (record {
@@ -233,7 +251,8 @@ quotient_complete w width z next x y a b assigns p q has =
     let words = rw length-each_below at (HasFrom-split z next (each_below w (bit_at (quotient_in a b))) (each_below w (bit_at (remainder_in a b))) both.0) in
     let gate : slice_index z (next + 2 * w + 1) ≡ gate_in a b = both.1.1.0 in
     let rest : HasFrom z (next + 2 * w + 2) (above_values w a b) = rw above_place at both.1.1.1 in
-    let last = rw length-each_below at (HasFrom-split z (next + 2 * w + 2) (each_below (w / 4) (bit_at (above - 1))) (prefix_difference_values b (remainder_in a b) above (w / 4) 4) rest) in
+    let last = rw length-each_below at (HasFrom-split z (next + 2 * w + 2) (each_below (w / 4) (bit_at (above - 1)))
+    (prefix_difference_values b (remainder_in a b) above (w / 4) 4) rest) in
     let s = Spells-from_values z next w (quotient_in a b) (quotient-small a b (2 ^ w) a_small) words.0 in
     let t = Spells-from_values z (next + w) w (remainder_in a b) (remainder-small a b (2 ^ w) b_small) words.1 in
     let bits = Spells-from_values z (next + 2 * w + 2) (w / 4) (above - 1) (omega (arith, above-below w width a b b_small)) last.0 in
@@ -242,8 +261,10 @@ quotient_complete w width z next x y a b assigns p q has =
     let difference = above-difference w width a b b_small in
     let wires = quotient_wires_whole w z y next (bits_met z w next assigns s.bits) (bits_met z w (next + w) assigns t.bits)
     (zero_divisor_complete w width z assigns y b q (next + 2 * w) (rw flag divides.bit) (rw flag divides.zero)) in
-    let division = division_complete w width z assigns x y a b (quotient_in a b) (remainder_in a b) p q (made_at w next) s t (next + 2 * w + 1) (rw (flag, gate) divides.gated) (rw gate divides.whole) in
-    let below = remainder_below_complete w width z assigns y b (remainder_in a b) q (record { first = next; n = w }) (next + w) (next + 2 * w) t (next + 2 * w + 2) (above - 1) above bits
+    let division = division_complete w width z assigns x y a b (quotient_in a b) (remainder_in a b) p q (made_at w next) s t (next + 2 * w + 1)
+    (rw (flag, gate) divides.gated) (rw gate divides.whole) in
+    let below = remainder_below_complete w width z assigns y b (remainder_in a b) q (record { first = next; n = w }) (next + w) (next + 2 * w) t
+    (next + 2 * w + 2) (above - 1) above bits
     (rw flag (sym difference)) (rw difference at divides.below) last.1 in
     quotient_whole w z x y next wires division below
 

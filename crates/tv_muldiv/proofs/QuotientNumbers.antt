@@ -1,11 +1,13 @@
 -- Division by numbers modulo P.
-use Rattle.std.proofs.Common.{◌≡◌, ◌≢◌, ℕ, ◌+◌, ◌-◌, ◌*◌, ◌/◌, ◌%◌, ◌^◌, ◌<◌, ◌≤◌, inl, inr, refl, sym, ◌∙◌, ap, ap₂, arith, mod-lt, mul_comm, mul-zero, one-mul, zero-mul}
+use Rattle.std.proofs.Common.{◌≡◌, ◌≢◌, ℕ, ◌+◌, ◌-◌, ◌*◌, ◌/◌, ◌%◌, ◌^◌, ◌<◌, ◌≤◌, inl, inr, refl, sym, ◌∙◌, ap, ap₂, arith, mod-lt, mul_comm, mul-zero}
+use Rattle.std.proofs.Common.{one-mul, zero-mul}
 use Rattle.std.proofs.Math.Nat.{div-add-mod, div-le_self}
 use Rattle.std.proofs.lemmas.Bool.{cases_eq}
 use Rattle.std.proofs.lemmas.Bool.Decides.{nat_tests}
 use Rattle.std.proofs.lemmas.Nat.{mul-le, div-mul-add, mod-mul-add}
 use Rattle.tv_core.specs.declared.field.TheConstants.{P}
-use Rattle.tv_bits.proofs.OrderLaws.{IsPrefixDifference-above, first_difference-some, first_difference-below, IsPrefixDifference-first, first_difference-none, IsPrefixDifference-none}
+use Rattle.tv_bits.proofs.OrderLaws.{IsPrefixDifference-above, first_difference-some, first_difference-below, IsPrefixDifference-first, first_difference-none}
+use Rattle.tv_bits.proofs.OrderLaws.{IsPrefixDifference-none}
 use Rattle.tv_bits.proofs.ZeroLaws.{zero_flag-zero, zero_flag-other}
 use Rattle.tv_bits.specs.Bit.{IsBit}
 use Rattle.tv_bits.specs.Order.{IsPrefixDifference}
@@ -90,10 +92,12 @@ no_gate flag c gate none e = sym e ∙ ap (λ n. n * c % P) none ∙ ap (λ n. n
 gate_is : (flag c gate : ℕ) → flag ≡ 1 → flag * c % P ≡ gate → gate ≡ c % P
 gate_is flag c gate one e = sym e ∙ ap (λ n. n * c % P) one ∙ ap (λ n. n % P) (one-mul c)
 
-whole_of : (w : ℕ) → IsWidth w → (a r m gate : ℕ) → a < 2 ^ w → r < 2 ^ w → m ≤ (2 ^ w - 1) * (2 ^ w - 1) → gate ≡ 0 → m % P ≡ ((a + (P - r)) % P + (P - gate)) % P → m + r ≡ a
+whole_of : (w : ℕ) → IsWidth w → (a r m gate : ℕ) → a < 2 ^ w → r < 2 ^ w → m ≤ (2 ^ w - 1) * (2 ^ w - 1) → gate ≡ 0
+    → m % P ≡ ((a + (P - r)) % P + (P - gate)) % P → m + r ≡ a
 whole_of w width a r m gate h k l none e = grind arith
 
-nothing_of : (w : ℕ) → IsWidth w → (a q r m gate : ℕ) → a < 2 ^ w → q < 2 ^ w → r < 2 ^ w → m ≡ 0 → gate ≡ (a + q) % P % P → m % P ≡ ((a + (P - r)) % P + (P - gate)) % P → (q ≡ 0) × (r ≡ 0)
+nothing_of : (w : ℕ) → IsWidth w → (a q r m gate : ℕ) → a < 2 ^ w → q < 2 ^ w → r < 2 ^ w → m ≡ 0 → gate ≡ (a + q) % P % P
+    → m % P ≡ ((a + (P - r)) % P + (P - gate)) % P → (q ≡ 0) × (r ≡ 0)
 nothing_of w width a q r m gate h k l none is e = (grind arith, grind arith)
 
 pub record IsDivided (a b q r by_zero : ℕ) : Type 0 where
@@ -101,14 +105,17 @@ pub record IsDivided (a b q r by_zero : ℕ) : Type 0 where
   pub rem : r ≡ remainder_in a b
   pub zero : by_zero ≡ zero_flag b
 
-module _ (w : ℕ) (width : IsWidth w) (a b q r by_zero gate above : ℕ) (h : a < 2 ^ w) (k : b < 2 ^ w) (l : q < 2 ^ w) (m : r < 2 ^ w) (small : above < 2 ^ (w / 4))
+module _ (w : ℕ) (width : IsWidth w) (a b q r by_zero gate above : ℕ) (h : a < 2 ^ w) (k : b < 2 ^ w) (l : q < 2 ^ w) (m : r < 2 ^ w)
+    (small : above < 2 ^ (w / 4))
     (d : Divides w a b q r by_zero gate above) where
   divided_by_some : by_zero ≡ 0 → IsDivided a b q r by_zero
   divided_by_some none =
       let difference : ((above + 1) % P + (P - by_zero)) % P ≡ above + 1 = grind arith in
-      let less : r < b = IsPrefixDifference-above w (w / 4) 4 b r (above + 1) (grind arith) (grind arith) k m (omega arith) (omega arith) (rw difference at d.below) in
+      let less : r < b = IsPrefixDifference-above w (w / 4) 4 b r (above + 1) (grind arith) (grind arith) k m (omega arith) (omega arith)
+      (rw difference at d.below) in
       let some : b ≢ 0 = λ zero. omega arith in
-      let whole : q * b + r ≡ a = whole_of w width a r (q * b) gate h m (mul-le q b (2 ^ w - 1) (2 ^ w - 1) (omega arith) (omega arith)) (no_gate by_zero ((a + q) % P) gate none d.gated) d.whole in
+      let whole : q * b + r ≡ a = whole_of w width a r (q * b) gate h m (mul-le q b (2 ^ w - 1) (2 ^ w - 1) (omega arith) (omega arith))
+      (no_gate by_zero ((a + q) % P) gate none d.gated) d.whole in
       record {
         quot = sym (quotient-other a b some ∙ ap (λ n. n / b) (sym whole) ∙ div-mul-add q b r less);
         rem = sym (remainder-other a b some ∙ ap (λ n. n % b) (sym whole) ∙ mod-mul-add q b r less);
@@ -140,8 +147,10 @@ module _ (w : ℕ) (width : IsWidth w) (a b : ℕ) (h : a < 2 ^ w) (k : b < 2 ^ 
 
   gated : zero_flag b * ((a + quotient_in a b) % P) % P ≡ gate_in a b
   gated = elim (cases_eq b 0) [
-    | inl none ↦ ap (λ n. n * ((a + quotient_in a b) % P) % P) (zero_flag-zero b none) ∙ (let quot = quotient-zero a b none in let gate = gate-zero a b none in grind arith)
-    | inr some ↦ ap (λ n. n * ((a + quotient_in a b) % P) % P) (zero_flag-other b some) ∙ ap (λ n. n % P) (zero-mul ((a + quotient_in a b) % P)) ∙ sym (gate-other a b some)
+    | inl none ↦ ap (λ n. n * ((a + quotient_in a b) % P) % P) (zero_flag-zero b none)
+        ∙ (let quot = quotient-zero a b none in let gate = gate-zero a b none in grind arith)
+    | inr some ↦ ap (λ n. n * ((a + quotient_in a b) % P) % P) (zero_flag-other b some) ∙ ap (λ n. n % P) (zero-mul ((a + quotient_in a b) % P))
+        ∙ sym (gate-other a b some)
   ]
 
   whole_some : b ≢ 0 → quotient_in a b * b + remainder_in a b ≡ a
@@ -149,7 +158,8 @@ module _ (w : ℕ) (width : IsWidth w) (a b : ℕ) (h : a < 2 ^ w) (k : b < 2 ^ 
 
   whole : quotient_in a b * b % P ≡ ((a + (P - remainder_in a b)) % P + (P - gate_in a b)) % P
   whole = elim (cases_eq b 0) [
-    | inl none ↦ ap (λ n. quotient_in a b * n % P) none ∙ ap (λ n. n % P) (mul-zero (quotient_in a b)) ∙ (let rem = remainder-zero a b none in let gate = gate-zero a b none in grind arith)
+    | inl none ↦ ap (λ n. quotient_in a b * n % P) none ∙ ap (λ n. n % P) (mul-zero (quotient_in a b))
+        ∙ (let rem = remainder-zero a b none in let gate = gate-zero a b none in grind arith)
     | inr some ↦ let whole = whole_some some in let gate = gate-other a b some in grind arith
   ]
 

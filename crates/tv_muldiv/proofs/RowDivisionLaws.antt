@@ -2,7 +2,6 @@
 use Rattle.std.proofs.Common.{◌≡◌, ℕ, ◌+◌, ◌-◌, ◌*◌, ◌%◌, ◌^◌, ◌<◌, List, [], ◌∷◌, ◌++◌, length, refl, sym, ◌∙◌, ap, ap₂, arith, zero-mul, one-mul}
 use Rattle.std.proofs.Common.{mod-eq_of_lt}
 use Rattle.std.specs.Prelude.{slice_index}
-use Rattle.std.proofs.lemmas.Nat.{mul-mod_first}
 use Rattle.tv_bits.proofs.GateLaws.{gated_sound, gated_complete}
 use Rattle.tv_bits.proofs.SpelledNumbers.{Spells-below, value-bits_below}
 use Rattle.tv_bits.proofs.TimesLaws.{times_sound, times_complete, residue_below}
@@ -17,6 +16,7 @@ use Rattle.tv_bits.specs.declared.double_rows.DoubleRow.{DoubleRow}
 use Rattle.tv_core.proofs.BelowLaws.{length-weighted}
 use Rattle.tv_core.proofs.CombinationLaws.{value-below, value-append, value-cons, value-wire, value-empty, wire-below}
 use Rattle.tv_core.proofs.FieldLaws.{InField-none, InField-cons}
+use Rattle.tv_core.proofs.NormalLaws.{residue_first}
 use Rattle.tv_core.specs.Circuits.{fresh, put, pure, ◌>>=◌}
 use Rattle.tv_core.specs.Combinations.{wire}
 use Rattle.tv_core.specs.Constraints.{Combination, value}
@@ -42,19 +42,26 @@ module _ (z : List ℕ) (assigns : Assigns z) where
       (P - 1) * slice_index z row.low + 2 ^ w * slice_index z by_zero) % P
   value-room w x y by_zero row =
       let f = slice_index z by_zero in
-      let last : value ((2 ^ w % P, by_zero) ∷ []) z ≡ 2 ^ w * f % P
-      = value-cons (2 ^ w % P) by_zero [] z ∙ ap (λ n. (2 ^ w % P * f + n) % P) (value-empty z) ∙ once (2 ^ w % P * f) ∙ mul-mod_first (2 ^ w) f P in
-      let low = value-cons (P - 1) row.low ((2 ^ w % P, by_zero) ∷ []) z ∙ ap (λ n. ((P - 1) * slice_index z row.low + n) % P) last in
-      let second = value-cons 1 y ((P - 1, row.low) ∷ (2 ^ w % P, by_zero) ∷ []) z ∙ ap (λ n. (1 * slice_index z y + n) % P) low in
-      let first = value-cons (P - 1) x ((1, y) ∷ (P - 1, row.low) ∷ (2 ^ w % P, by_zero) ∷ []) z ∙ ap (λ n. ((P - 1) * slice_index z x + n) % P) second in
-      value-cons (P - 1) 0 ((P - 1, x) ∷ (1, y) ∷ (P - 1, row.low) ∷ (2 ^ w % P, by_zero) ∷ []) z
+      let last : value ((P - 1, row.low) ∷ []) z ≡ (P - 1) * slice_index z row.low % P
+      = value-cons (P - 1) row.low [] z ∙ ap (λ n. ((P - 1) * slice_index z row.low + n) % P) (value-empty z) ∙ once ((P - 1) * slice_index z row.low) in
+      let bit = value-cons (2 ^ w % P) by_zero ((P - 1, row.low) ∷ []) z ∙ ap (λ n. (2 ^ w % P * f + n) % P) last
+      ∙ both (2 ^ w) f ((P - 1) * slice_index z row.low) in
+      let second = value-cons 1 y ((2 ^ w % P, by_zero) ∷ (P - 1, row.low) ∷ []) z ∙ ap (λ n. (1 * slice_index z y + n) % P) bit in
+      let first = value-cons (P - 1) x ((1, y) ∷ (2 ^ w % P, by_zero) ∷ (P - 1, row.low) ∷ []) z ∙ ap (λ n. ((P - 1) * slice_index z x + n) % P) second in
+      value-cons (P - 1) 0 ((P - 1, x) ∷ (1, y) ∷ (2 ^ w % P, by_zero) ∷ (P - 1, row.low) ∷ []) z
       ∙ ap₂ (λ m n. ((P - 1) * m + n) % P) assigns.one first
       ∙ flat ((P - 1) * slice_index z x) (slice_index z y) ((P - 1) * slice_index z row.low) (2 ^ w * f)
     where
       once : (n : ℕ) → (n + 0) % P ≡ n % P
       once n = omega arith
 
-      flat : (x y l f : ℕ) → ((P - 1) * 1 + (x + (1 * y + (l + f % P) % P) % P) % P) % P ≡ (P - 1 + x + y + l + f) % P
+      flat_last : (m l : ℕ) → (m + l % P) % P ≡ (m + l) % P
+      flat_last m l = omega arith
+
+      both : (k f l : ℕ) → (k % P * f + l % P) % P ≡ (k * f + l) % P
+      both k f l = residue_first k f (l % P) ∙ flat_last (k * f) l
+
+      flat : (x y l f : ℕ) → ((P - 1) * 1 + (x + (1 * y + (f + l) % P) % P) % P) % P ≡ (P - 1 + x + y + l + f) % P
       flat x y l f = omega arith
 
   value-bits_less : (w : ℕ) → IsWidth w → (x : ℕ) (bits : Bits) (v : ℕ) → Spells z bits.first w v

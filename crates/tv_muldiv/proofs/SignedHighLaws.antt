@@ -17,7 +17,8 @@ use Rattle.tv_muldiv.proofs.HalvesLaws.{length-halves, halves_spell, halves_in_f
 use Rattle.tv_bits.proofs.NonzeroLaws.{nonzero_answer, nonzero_sound, nonzero_complete, nonzero_sizes}
 use Rattle.tv_muldiv.proofs.SignedNumbers.{signed_value, most_product, Stands, Stands-product, Stands-signed, Stands-exact, Stands-meets, twos-below, over_flag}
 use Rattle.tv_bits.specs.Nonzero.{nonzero_of, nonzero_flag, nonzero_values}
-use Rattle.tv_muldiv.specs.SignedHigh.{signed_product, product_twos, signed_bits_of, excess, excess_in, signed_high_of, SignedHighIsSound, SignedHighIsComplete, SignedHighSizes}
+use Rattle.tv_muldiv.specs.SignedHigh.{signed_product, product_twos, signed_bits_of, excess, excess_in, signed_high_of, SignedHighIsSound}
+use Rattle.tv_muldiv.specs.SignedHigh.{SignedHighIsComplete, SignedHighSizes}
 use Rattle.tv_muldiv.specs.Weighed.{signed_combination, halves_values}
 use Rattle.tv_word.proofs.WidthLaws.{width_short}
 use Rattle.tv_word.specs.Widths.{IsWidth}
@@ -58,7 +59,8 @@ module _ (z : List ℕ) where
     product_stands x y a b p q =
         let short = width_short w width in
         rw (value-signed x.first w a (omega arith) (omega arith) p, value-signed y.first w b (omega arith) (omega arith) q)
-        (Stands-product _ _ (signed w a) (signed w b) (2 ^ (w - 1)) (2 ^ (w - 1)) (Stands-signed w width a (Spells-below p)) (Stands-signed w width b (Spells-below q)))
+        (Stands-product _ _ (signed w a) (signed w b) (2 ^ (w - 1)) (2 ^ (w - 1)) (Stands-signed w width a (Spells-below p))
+        (Stands-signed w width b (Spells-below q)))
 
 -- ---- the bits of the product
 signed_bits_answer : (w : ℕ) (x y : Bits) (next : ℕ) → (signed_bits_of w x y next).answer ≡ record { first = next; n = 2 * w }
@@ -69,7 +71,8 @@ signed_bits_next : (w : ℕ) (x y : Bits) (next : ℕ) → (signed_bits_of w x y
 unfolding signed_bits_of put pure ◌>>=◌
 signed_bits_next w x y next = new_bits_next (2 * w) next
 
-module _ (w : ℕ) (width : IsWidth w) (z : List ℕ) (assigns : Assigns z) (next : ℕ) (x y : Bits) (a b : ℕ) (p : Spells z x.first w a) (q : Spells z y.first w b) where
+module _ (w : ℕ) (width : IsWidth w) (z : List ℕ) (assigns : Assigns z) (next : ℕ) (x y : Bits) (a b : ℕ) (p : Spells z x.first w a)
+    (q : Spells z y.first w b) where
   signed_bits_sound : Meets z (signed_bits_of w x y next).list → Spells z next (2 * w) (product_twos w a b)
   unfolding signed_bits_of put pure ◌>>=◌
   signed_bits_sound meets =
@@ -91,7 +94,8 @@ module _ (w : ℕ) (width : IsWidth w) (z : List ℕ) (assigns : Assigns z) (nex
       (rw new_bits_answer (product ∙ sym (value-signed z next (2 * w) (product_twos w a b) (omega arith) (omega arith) s), tt))
 
 -- ---- the high word
-pub signed_high_answer : (w : ℕ) (x y : Bits) (next : ℕ) → (signed_high_of w x y next).answer ≡ record { high = record { first = next + w; n = w }; over = next + 2 * w }
+pub signed_high_answer : (w : ℕ) (x y : Bits) (next : ℕ)
+    → (signed_high_of w x y next).answer ≡ record { high = record { first = next + w; n = w }; over = next + 2 * w }
 unfolding signed_high_of nonzero_of fresh put pure ◌>>=◌
 signed_high_answer w x y next = rw (signed_bits_answer, signed_bits_next) refl
 
@@ -111,7 +115,8 @@ high_whole : (w : ℕ) (z : List ℕ) (x y : Bits) (next : ℕ) → Meets z (sig
     → Meets z (signed_high_of w x y next).list
 unfolding signed_high_of pure ◌>>=◌
 high_whole w z x y next p q =
-    Meets-join z (signed_bits_of w x y next).list _ p (rw (signed_bits_answer, signed_bits_next) (Meets-join z (nonzero_of (excess next w) (next + 2 * w)).list [] q tt))
+    Meets-join z (signed_bits_of w x y next).list _ p
+    (rw (signed_bits_answer, signed_bits_next) (Meets-join z (nonzero_of (excess next w) (next + 2 * w)).list [] q tt))
 
 pub signed_high_sound : SignedHighIsSound
 signed_high_sound w width z next x y a b assigns p q meets =
@@ -122,7 +127,8 @@ signed_high_sound w width z next x y a b assigns p q meets =
     let flag = over_flag w width product (product_twos w a b) (signed_product w a b) (product_stands z w width x y a b p q) refl in
     rw signed_high_answer (record {
       high = Spells-high z next w w (product_twos w a b) two;
-      over = rw nonzero_answer at (nonzero_sound z (next + 2 * w) (excess next w) assigns both.1) ∙ ap nonzero_flag (value-excess z w width next (product_twos w a b) s) ∙ flag;
+      over = rw nonzero_answer at (nonzero_sound z (next + 2 * w) (excess next w) assigns both.1)
+          ∙ ap nonzero_flag (value-excess z w width next (product_twos w a b) s) ∙ flag;
     })
 
 pub signed_high_complete : SignedHighIsComplete

@@ -1,5 +1,6 @@
 -- Signed numbers as residues modulo P.
-use Rattle.std.proofs.Common.{◌⊎◌, ◌≡◌, ◌≢◌, ℕ, zero, suc, ◌+◌, ◌-◌, ◌*◌, ◌%◌, ◌^◌, ◌<◌, ◌≤◌, ℤ, pos, negsuc, neg_ℤ, ◌*ℤ◌, ◌-ℤ◌, w64, Bool, true, false, if◌then◌else◌, inl, inr, refl, sym, ◌∙◌, ap, ap₂, arith, zero-mul, mul-zero, mul_comm}
+use Rattle.std.proofs.Common.{◌⊎◌, ◌≡◌, ◌≢◌, ℕ, zero, suc, ◌+◌, ◌-◌, ◌*◌, ◌%◌, ◌^◌, ◌<◌, ◌≤◌, ℤ, pos, negsuc, neg_ℤ, ◌*ℤ◌, ◌-ℤ◌, w64, Bool, true, false}
+use Rattle.std.proofs.Common.{if◌then◌else◌, inl, inr, refl, sym, ◌∙◌, ap, ap₂, arith, zero-mul, mul-zero, mul_comm}
 use Rattle.std.specs.Int.{bit_at, cast_unsigned}
 use Rattle.std.proofs.Math.IntN.{pos-*ℤ-pos, pos-*ℤ-negsuc, negsuc-*ℤ-pos, negsuc-*ℤ-negsuc}
 use Rattle.std.proofs.lemmas.Bool.{cases_lt, lt-ltb, le-ltb}
@@ -114,7 +115,8 @@ product_short w width m h = grind arith
 exact_pos : (w : ℕ) → IsWidth w → (v m n : ℕ) → m ≤ most_product w → n < 2 ^ (2 * w) → v % P ≡ m % P → v % P ≡ signed_value (2 * w) n → n ≡ m % 2 ^ (2 * w)
 exact_pos w width v m n small long e f = grind arith
 
-exact_neg : (w : ℕ) → IsWidth w → (v m n : ℕ) → m ≤ most_product w → n < 2 ^ (2 * w) → (v + m) % P ≡ 0 → v % P ≡ signed_value (2 * w) n → n ≡ (2 ^ (2 * w) - m) % 2 ^ (2 * w)
+exact_neg : (w : ℕ) → IsWidth w → (v m n : ℕ) → m ≤ most_product w → n < 2 ^ (2 * w) → (v + m) % P ≡ 0 → v % P ≡ signed_value (2 * w) n
+    → n ≡ (2 ^ (2 * w) - m) % 2 ^ (2 * w)
 exact_neg w width v m n small long e f = grind arith
 
 -- 2 w bits that are a small signed number modulo P are it in two's complement, and the other way round
@@ -154,19 +156,23 @@ cast_twos w width v s p = elim p.is [
 pub product_cast : (w : ℕ) → IsWidth w → (a b : ℕ) → a < 2 ^ w → b < 2 ^ w → cast_unsigned w64 (signed w a *ℤ signed w b) % 2 ^ (2 * w) ≡ product_twos w a b
 product_cast w width a b h k =
     cast_twos w width _ (signed w a *ℤ signed w b)
-    (Stands-product (signed_value w a) (signed_value w b) (signed w a) (signed w b) (2 ^ (w - 1)) (2 ^ (w - 1)) (Stands-signed w width a h) (Stands-signed w width b k))
+    (Stands-product (signed_value w a) (signed_value w b) (signed w a) (signed w b) (2 ^ (w - 1)) (2 ^ (w - 1)) (Stands-signed w width a h)
+    (Stands-signed w width b k))
 
 -- ---- whether it fits a word
-excess_pos : (w : ℕ) → IsWidth w → (m n : ℕ) → m ≤ most_product w → n ≡ m % 2 ^ (2 * w) → (m < 2 ^ (w - 1) → excess_in w n ≡ 0) × (2 ^ (w - 1) ≤ m → excess_in w n ≢ 0)
+excess_pos : (w : ℕ) → IsWidth w → (m n : ℕ) → m ≤ most_product w → n ≡ m % 2 ^ (2 * w) → (m < 2 ^ (w - 1) → excess_in w n ≡ 0)
+    × (2 ^ (w - 1) ≤ m → excess_in w n ≢ 0)
 excess_pos w width m n small e = (λ h. grind arith, λ h none. grind arith)
 
-excess_neg : (w : ℕ) → IsWidth w → (m n : ℕ) → m ≤ most_product w → n ≡ (2 ^ (2 * w) - m) % 2 ^ (2 * w) → (m ≤ 2 ^ (w - 1) → excess_in w n ≡ 0) × (2 ^ (w - 1) < m → excess_in w n ≢ 0)
+excess_neg : (w : ℕ) → IsWidth w → (m n : ℕ) → m ≤ most_product w → n ≡ (2 ^ (2 * w) - m) % 2 ^ (2 * w) → (m ≤ 2 ^ (w - 1) → excess_in w n ≡ 0)
+    × (2 ^ (w - 1) < m → excess_in w n ≢ 0)
 excess_neg w width m n small e = (λ h. grind arith, λ h none. grind arith)
 
 as_flag : (w : ℕ) (s : ℤ) (t : Bool) (d : ℕ) → fits w s ≡ t → nonzero_flag d ≡ (if t then 0 else 1) → nonzero_flag d ≡ (if fits w s then 0 else 1)
 as_flag w s t d e f = f ∙ ap (λ b. if b then 0 else 1) (sym e)
 
-pub over_flag : (w : ℕ) → IsWidth w → (v n : ℕ) (s : ℤ) → Stands v s (most_product w) → n ≡ twos (2 * w) s → nonzero_flag (excess_in w n) ≡ (if fits w s then 0 else 1)
+pub over_flag : (w : ℕ) → IsWidth w → (v n : ℕ) (s : ℤ) → Stands v s (most_product w) → n ≡ twos (2 * w) s
+    → nonzero_flag (excess_in w n) ≡ (if fits w s then 0 else 1)
 over_flag w width v n s p e = elim p.is [
   | inl x ↦
       let both = excess_pos w width p.size n p.small (e ∙ ap (twos (2 * w)) x.0) in

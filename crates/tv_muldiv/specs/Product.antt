@@ -17,8 +17,8 @@ pub record IsProduct (w : ℕ) (z : List ℕ) (made : Product) (a b : ℕ) : Typ
   pub high : Spells z made.high.first w (a * b / 2 ^ w)
   pub over : slice_index z made.over ≡ nonzero_flag (a * b / 2 ^ w)
 
--- 2 w new wires that spell the product of words of w bits: their number is the product modulo P, and the
--- lowest is the product of the lowest bits, which tells the product from the product plus P, P being odd
+-- 2 w new wires that spell the product of words of w bits: their number is the product modulo P, and the lowest is
+-- the product of the lowest bits, which the product and the product plus P don't share, P being odd
 unfoldable pub product_bits_of : ℕ → Bits → Bits → Circuit ℕ
 product_bits_of w x y = do
   first ← fresh
@@ -27,7 +27,7 @@ product_bits_of w x y = do
   _ ← put (bits_combination x.first w) (bits_combination y.first w) (bits_combination first (2 * w))
   pure first
 
--- these wires as two words, and a wire that tells whether the high one is another than 0
+-- these wires as two words, and a wire that is 1 where the high one is another than 0, else 0
 unfoldable pub product_of : ℕ → Bits → Bits → Circuit Product
 product_of w x y = do
   first ← product_bits_of w x y

@@ -56,8 +56,8 @@ division_of w x y made = do
   gate ← gate_of w x made
   put (bits_combination made.quot.first w) (bits_combination y.first w) (less (less (bits_combination x.first w) (bits_combination made.rem.first w)) (wire gate))
 
--- the remainder is below y, or the divisor is 0: one more than some new bits, less the wire that tells
--- whether the divisor is 0, is a difference of prefixes of y and of the remainder
+-- the remainder is below y, or the divisor is 0: one more than some new bits, less the wire that is 1
+-- where the divisor is 0, is a difference of prefixes of y and of the remainder
 unfoldable pub remainder_below_of : ℕ → Bits → Quot → Circuit (Unit {0})
 remainder_below_of w y made = do
   above ← new_bits_of (w / 4)
@@ -71,7 +71,7 @@ quotient_of w x y = do
   _ ← remainder_below_of w y made
   pure made
 
--- what the gate is, and by how much the divisor is above the remainder in the prefix that tells it
+-- what the gate is, and by how much the divisor is above the remainder in the prefix that shows it
 abbrev pub gate_in : ℕ → ℕ → ℕ
 gate_in a b = if b == 0 then a else 0
 

@@ -29,7 +29,7 @@ below_divisor w a b = b + 2 ^ w * zero_flag b - 1 - remainder_in a b
 
 -- that number as a combination less x, and the number of some bits less x
 abbrev pub room_below : ℕ → ℕ → ℕ → ℕ → DoubleRow → Combination
-room_below w x y by_zero row = (P - 1, 0) ∷ (P - 1, x) ∷ (1, y) ∷ (P - 1, row.low) ∷ (2 ^ w % P, by_zero) ∷ []
+room_below w x y by_zero row = (P - 1, 0) ∷ (P - 1, x) ∷ (1, y) ∷ (2 ^ w % P, by_zero) ∷ (P - 1, row.low) ∷ []
 
 abbrev pub bits_less : ℕ → ℕ → Bits → Combination
 bits_less w x bits = (P - 1, x) ∷ bits_combination bits.first w

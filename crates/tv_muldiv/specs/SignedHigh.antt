@@ -43,7 +43,7 @@ excess first w = bits_combination (first + w) w ++ (P - (2 ^ w - 1), first + (w 
 abbrev pub excess_in : ℕ → ℕ → ℕ
 excess_in w v = (v / 2 ^ w + (P - (2 ^ w - 1)) * bit_at v (w - 1)) % P
 
--- these bits, and a wire that tells whether the product is no signed number of w bits
+-- these bits, and a wire that is 1 where the product is no signed number of w bits, else 0
 unfoldable pub signed_high_of : ℕ → Bits → Bits → Circuit High
 signed_high_of w x y = do
   made ← signed_bits_of w x y

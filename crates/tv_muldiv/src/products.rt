@@ -11,9 +11,9 @@ use crate::weighing::{fill_halves, fill_long};
 use tv_bits::{Bits, fill_nonzero, new_bits_by, nonzero_by};
 use tv_core::{F, Put, Scratch, Sink, Values, Wire};
 
-/// Wires that spell the low and the high word of the product of two words of `W` bits, and one that
-/// is 1 exactly where the high word isn't 0. It makes `2 W + 2` wires and `2 W + 3` constraints, of
-/// `12 W + 4` terms: 66, 67 and 388 at 32 bits.
+/// Constrains new bits to the low and the high word of the product of two words of `W` bits, and a
+/// wire to 1 exactly where the high word isn't 0, else 0. It makes `2 W + 2` wires and `2 W + 3`
+/// constraints, of `12 W + 4` terms: 66, 67 and 388 at 32 bits.
 pub fn product<const W: u32, S: Sink>(s: &mut S, x: &Bits, y: &Bits) -> Put<Product>
     requires width { IsWidth W }
     requires room { Room S.meaning s.old (2 * W + 2) (2 * W + 3) }
@@ -71,7 +71,7 @@ fn product_bits<const W: u32, S: Sink>(
     Ok(first)
 }
 
-/// Gives the `2 W + 2` values of the wires that `product` makes for bits that spell `x` and `y`.
+/// Assigns the `2 W + 2` values of the wires that `product` makes for bits that spell `x` and `y`.
 pub fn fill_product<const W: u32, V: Values>(v: &mut V, x: u32, y: u32) -> Put<()>
     requires width { IsWidth W }
     requires x_word { x < 2 ^ W }
@@ -91,15 +91,15 @@ pub fn product_is_sound()
     ensures { ProductIsSound }
 {}
 
-/// Where bits spell words and an assignment has the values that `fill_product` gives, it meets what
-/// `product` put.
+/// Where bits spell words and an assignment has the values that `fill_product` assigns, it meets
+/// what `product` put.
 #[tactic(auto, using(crate::proofs::ProductLaws::product_complete))]
 pub fn product_is_complete()
     ensures { ProductIsComplete }
 {}
 
-/// Says which wires `product` answers and how many it makes, whatever the next wire is, and that
-/// `fill_product` gives one value for each of them, below P.
+/// Says which wires `product` returns and how many it makes, whatever the next wire is, and that
+/// `fill_product` assigns one value below P to each of them.
 #[tactic(auto, using(crate::proofs::ProductLaws::product_sizes))]
 pub fn product_fills()
     ensures { ProductSizes }

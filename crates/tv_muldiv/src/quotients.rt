@@ -21,10 +21,10 @@ use tv_word::arithmetic;
 // Words are cut into this many chunks.
 const CHUNKS: u32 = 4;
 
-/// Wires that spell the quotient and the remainder of two words of `W` bits, both 0 where the
-/// divisor `y` is, and one that is 1 exactly where the divisor is 0. It makes `2 W + W / 4 + 4`
-/// wires and `2 W + W / 4 + 7` constraints, of `19 W + 3 W / 4 + 19` terms: 76, 79 and 651 at 32
-/// bits.
+/// Constrains new bits to the quotient and the remainder of two words of `W` bits, both 0 where the
+/// divisor `y` is, and a wire to 1 exactly where the divisor is 0, else 0. It makes
+/// `2 W + W / 4 + 4` wires and `2 W + W / 4 + 7` constraints, of `19 W + 3 W / 4 + 19` terms: 76,
+/// 79 and 651 at 32 bits.
 pub fn quotient<const W: u32, S: Sink>(s: &mut S, x: &Bits, y: &Bits) -> Put<Quot>
     requires width { IsWidth W }
     requires room { Room S.meaning s.old (2 * W + W / 4 + 4) (2 * W + W / 4 + 7) }
@@ -47,7 +47,7 @@ pub fn quotient<const W: u32, S: Sink>(s: &mut S, x: &Bits, y: &Bits) -> Put<Quo
     Ok(made)
 }
 
-// Bits for the quotient and the remainder, and the wire that tells whether the divisor is 0.
+// Bits for the quotient and the remainder, and the wire that is 1 where the divisor is 0.
 fn quotient_wires<const W: u32, S: Sink>(s: &mut S, scratch: &mut Scratch, y: &Bits) -> Put<Quot>
     requires width { IsWidth W }
     requires room { Room S.meaning s.old (2 * W + 1) (2 * W + 2) }
@@ -161,7 +161,7 @@ fn remainder_below<const W: u32, S: Sink>(
     prefix_difference_by(s, scratch, y, &made.rem, &difference, W / CHUNKS, CHUNKS)
 }
 
-/// Gives the `2 W + W / 4 + 4` values of the wires that `quotient` makes for bits that spell `x`
+/// Assigns the `2 W + W / 4 + 4` values of the wires that `quotient` makes for bits that spell `x`
 /// and `y`.
 pub fn fill_quotient<const W: u32, V: Values>(v: &mut V, x: u32, y: u32) -> Put<()>
     requires width { IsWidth W }
@@ -220,15 +220,15 @@ pub fn quotient_is_sound()
     ensures { QuotientIsSound }
 {}
 
-/// Where bits spell words and an assignment has the values that `fill_quotient` gives, it meets
+/// Where bits spell words and an assignment has the values that `fill_quotient` assigns, it meets
 /// what `quotient` put.
 #[tactic(auto, using(crate::proofs::QuotientLaws::quotient_complete))]
 pub fn quotient_is_complete()
     ensures { QuotientIsComplete }
 {}
 
-/// Says which wires `quotient` answers and how many it makes, whatever the next wire is, and that
-/// `fill_quotient` gives one value for each of them, below P.
+/// Says which wires `quotient` returns and how many it makes, whatever the next wire is, and that
+/// `fill_quotient` assigns one value below P to each of them.
 #[tactic(auto, using(crate::proofs::QuotientLaws::quotient_sizes))]
 pub fn quotient_fills()
     ensures { QuotientSizes }

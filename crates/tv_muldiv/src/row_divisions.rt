@@ -88,8 +88,8 @@ fn fill_room_below<const W: u32>(lc: &mut Lc, x: Wire, y: Wire, by_zero: Wire, r
     lc.plus(-F::ONE, Wire(0));
     lc.plus(-F::ONE, x);
     lc.plus(F::ONE, y);
-    lc.plus(-F::ONE, row.low);
     lc.plus(F::of(1 << W), by_zero);
+    lc.plus(-F::ONE, row.low);
 }
 
 // Makes `lc` the number of the bits, less `x`.

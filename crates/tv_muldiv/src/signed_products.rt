@@ -15,9 +15,10 @@ use tv_bits::{Bits, fill_nonzero, new_bits_by, nonzero_by};
 use tv_core::{F, Lc, Put, Scratch, Sink, Values, Wire};
 use tv_word::arithmetic::signed_word;
 
-/// Wires that spell the high word of the product of two words of `W` bits as signed numbers, and
-/// one that is 1 exactly where that product lies outside -2^(`W - 1`) .. 2^(`W - 1`) - 1. It makes
-/// `2 W + 2` wires and `2 W + 3` constraints, of `12 W + 6` terms: 66, 67 and 390 at 32 bits.
+/// Constrains new bits to the high word of the product of two words of `W` bits as signed numbers,
+/// and a wire to 1 exactly where that product lies outside -2^(`W - 1`) .. 2^(`W - 1`) - 1, else 0.
+/// It makes `2 W + 2` wires and `2 W + 3` constraints, of `12 W + 6` terms: 66, 67 and 390 at 32
+/// bits.
 pub fn signed_high<const W: u32, S: Sink>(s: &mut S, x: &Bits, y: &Bits) -> Put<High>
     requires width { IsWidth W }
     requires room { Room S.meaning s.old (2 * W + 2) (2 * W + 3) }
@@ -80,7 +81,7 @@ fn fill_excess<const W: u32>(lc: &mut Lc, first: Wire)
     lc.plus(-F::of((1 << W) - 1), first.offset(W - 1));
 }
 
-/// Gives the `2 W + 2` values of the wires that `signed_high` makes for bits that spell `x` and
+/// Assigns the `2 W + 2` values of the wires that `signed_high` makes for bits that spell `x` and
 /// `y`.
 pub fn fill_signed_high<const W: u32, V: Values>(v: &mut V, x: u32, y: u32) -> Put<()>
     requires width { IsWidth W }
@@ -135,15 +136,15 @@ pub fn signed_high_is_sound()
     ensures { SignedHighIsSound }
 {}
 
-/// Where bits spell words and an assignment has the values that `fill_signed_high` gives, it meets
-/// what `signed_high` put.
+/// Where bits spell words and an assignment has the values that `fill_signed_high` assigns, it
+/// meets what `signed_high` put.
 #[tactic(auto, using(crate::proofs::SignedHighLaws::signed_high_complete))]
 pub fn signed_high_is_complete()
     ensures { SignedHighIsComplete }
 {}
 
-/// Says which wires `signed_high` answers and how many it makes, whatever the next wire is, and
-/// that `fill_signed_high` gives one value for each of them, below P.
+/// Says which wires `signed_high` returns and how many it makes, whatever the next wire is, and
+/// that `fill_signed_high` assigns one value below P to each of them.
 #[tactic(auto, using(crate::proofs::SignedHighLaws::signed_high_sizes))]
 pub fn signed_high_fills()
     ensures { SignedHighSizes }

@@ -44,7 +44,7 @@ pub(crate) fn fill_long<const W: u32>(lc: &mut Lc, first: Wire)
     fill_weighed(lc, first, 2 * W, F::of(1 << (2 * W - 1)));
 }
 
-/// Gives the `2 W` bits of a number, lowest first.
+/// Assigns the `2 W` bits of a number, lowest first.
 pub(crate) fn fill_halves<const W: u32, V: Values>(v: &mut V, number: u64) -> Put<()>
     requires width { IsWidth W }
     requires small { number < 2 ^ (2 * W) }

@@ -23,7 +23,8 @@ module _ (z : List ℕ) (assigns : Assigns z) where
   pub difference_value : (w r : ℕ) → value (less (wire w) (wire r)) z ≡ (slice_index z w + (P - slice_index z r)) % P
   difference_value w r = value-less (wire w) (wire r) z ∙ ap₂ (λ m n. (m + (P - n)) % P) (value-wire assigns w) (value-wire assigns r)
 
-  pub product_value : (s w r : ℕ) → value (wire s) z * value (less (wire w) (wire r)) z % P ≡ slice_index z s * ((slice_index z w + (P - slice_index z r)) % P) % P
+  pub product_value : (s w r : ℕ) → value (wire s) z * value (less (wire w) (wire r)) z % P
+      ≡ slice_index z s * ((slice_index z w + (P - slice_index z r)) % P) % P
   product_value s w r = ap₂ (λ m n. m * n % P) (value-wire assigns s) (difference_value w r)
 
 pub wires_top-at : (ws : List ℕ) (i d : ℕ) → i < length ws → get_or ws i d < wires_top ws

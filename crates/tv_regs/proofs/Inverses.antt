@@ -1,5 +1,6 @@
 -- The inverses of small numbers and of their products, modulo P.
-use Rattle.std.proofs.Common.{◌≡◌, ℕ, zero, suc, ◌+◌, ◌-◌, ◌*◌, ◌%◌, ◌<◌, ◌==◌, ◌&&◌, Bool, true, List, [], ◌∷◌, length, inl, inr, refl, sym, ◌∙◌, ap, ap₂, arith, mod-lt, zero-mul, mul-zero, add-zero}
+use Rattle.std.proofs.Common.{◌≡◌, ℕ, zero, suc, ◌+◌, ◌-◌, ◌*◌, ◌%◌, ◌<◌, ◌==◌, ◌&&◌, Bool, true, List, [], ◌∷◌, length, inl, inr, refl, sym, ◌∙◌, ap, ap₂}
+use Rattle.std.proofs.Common.{arith, mod-lt, zero-mul, mul-zero, add-zero}
 use Rattle.std.specs.Prelude.{slice_index}
 use Rattle.std.proofs.lemmas.Bool.{cases_eq, and_parts, eqb-true}
 use Rattle.std.proofs.lemmas.Nat.{mul-mod, mul-mod_first, mul-mod_second}

@@ -1,4 +1,5 @@
 pub mod Gates
+pub mod NormalLaws
 pub mod ReadLaws
 pub mod WriteLaws
 pub mod TripleLaws

@@ -32,7 +32,8 @@ read_reg_complete z next sel regs i size assigns row has =
       | inl same ↦ (
         product_value z assigns (sel + k) next (slice_index regs k)
             ∙ times_itself (slice_index z (sel + k)) (slice_index z next) (slice_index z (slice_index regs k))
-            (has.0 ∙ word_of z regs i (let within = row.within in omega arith) ∙ ap (λ n. slice_index z (slice_index regs n)) (sym same)) (wire-below assigns (slice_index regs k)),
+            (has.0 ∙ word_of z regs i (let within = row.within in omega arith) ∙ ap (λ n. slice_index z (slice_index regs n)) (sym same))
+            (wire-below assigns (slice_index regs k)),
         tt,
       )
       | inr apart ↦ (product_value z assigns (sel + k) next (slice_index regs k) ∙ times_zero (slice_index z (sel + k)) _ (row.cold k h apart), tt)

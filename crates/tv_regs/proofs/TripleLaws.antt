@@ -1,5 +1,6 @@
 -- The laws of three registers read at once.
-use Rattle.std.proofs.Common.{◌≡◌, ℕ, ◌+◌, ◌-◌, ◌*◌, ◌/◌, ◌%◌, ◌<◌, ◌==◌, if◌then◌else◌, List, [], ◌∷◌, ◌++◌, length, inl, inr, refl, sym, ◌∙◌, ap, ap₂, subst, arith, false, eq-zero-or-pos, mod-lt, mod-eq_of_lt, zero-mul, mul-one}
+use Rattle.std.proofs.Common.{◌≡◌, ℕ, ◌+◌, ◌-◌, ◌*◌, ◌/◌, ◌%◌, ◌<◌, ◌≤◌, ◌==◌, if◌then◌else◌, List, [], ◌∷◌, ◌++◌, length, inl, inr, refl, sym, ◌∙◌, ap, ap₂}
+use Rattle.std.proofs.Common.{subst, arith, false, eq-zero-or-pos, mod-lt, mod-eq_of_lt, zero-mul, mul-one}
 use Rattle.std.specs.Prelude.{slice_index}
 use Rattle.std.proofs.Math.Nat.{div-add-mod}
 use Rattle.std.proofs.lemmas.Bool.Decides.{nat_tests}
@@ -12,23 +13,29 @@ use Rattle.tv_bits.specs.Ratio.{ratio_of}
 use Rattle.tv_bits.specs.Select.{selected, pick_of}
 use Rattle.tv_bits.specs.Times.{times_of}
 use Rattle.tv_core.proofs.BelowLaws.{has_each, length-each_below}
-use Rattle.tv_core.proofs.CombinationLaws.{value-below, value-append, value-cons, value-wire, wire-below}
+use Rattle.tv_core.proofs.CombinationLaws.{value-below, value-append, value-cons, value-wire, wire-below, top-scaled}
 use Rattle.tv_core.proofs.DifferenceLaws.{same_of_minus}
 use Rattle.tv_core.proofs.FieldLaws.{InField-none, InField-cons, InField-append, InField-each_below}
 use Rattle.tv_core.proofs.LoopLaws.{turn_met, turns_met, turns-next}
 use Rattle.tv_core.proofs.Meeting.{Meets-split, Meets-join, HasFrom-split}
+use Rattle.tv_core.proofs.NormalCircuits.{normal_append, normal_negated}
+use Rattle.tv_core.proofs.NormalLaws.{value-normal, IsNormalFrom-normal}
+use Rattle.tv_core.proofs.Unique.{same_values}
 use Rattle.tv_core.specs.Below.{each_below}
 use Rattle.tv_core.specs.Circuits.{fresh, put, pure, turns, ◌>>=◌}
-use Rattle.tv_core.specs.Combinations.{wire, scaled}
+use Rattle.tv_core.specs.Combinations.{wire, scaled, less, top}
 use Rattle.tv_core.specs.Constraints.{Combination, value}
 use Rattle.tv_core.specs.Laws.{Assigns, Meets, HasFrom, InField}
 use Rattle.tv_core.specs.Loops.{times}
 use Rattle.tv_core.specs.Meanings.{terms_in}
+use Rattle.tv_core.specs.Normal.{normal, IsNormal}
 use Rattle.tv_core.specs.declared.field.TheConstants.{P}
 use Rattle.tv_regs.proofs.Gates.{word_of, word_below}
 use Rattle.tv_regs.proofs.TripleNumbers.{cubic_number, root_other, root_named, root_dest, curve_passes, passing_divides}
 use Rattle.tv_regs.specs.Reading.{words_at}
-use Rattle.tv_regs.specs.Triple.{roots_of, sums_of, pairs_of, cubic, departure, passes_of, passes_turn, curve_of, point_of, triple_of, triple_wires, triple_values, roots_values, curve_values, passing_values, minus, curve_through, curve_at, root_product, passing, point_values, other_number, AreNumbers, TripleIsSound, TripleIsComplete, TripleSizes, TripleCosts}
+use Rattle.tv_regs.specs.Triple.{roots_of, sums_of, pairs_of, cubic, departure, passes_of, passes_turn, curve_of, point_of, triple_of, triple_wires}
+use Rattle.tv_regs.specs.Triple.{triple_values, roots_values, curve_values, passing_values, minus, curve_through, curve_at, root_product, passing}
+use Rattle.tv_regs.specs.Triple.{point_values, other_number, AreNumbers, TripleIsSound, TripleIsComplete, TripleSizes, TripleCosts}
 use Rattle.tv_regs.specs.declared.triple.Curve.{Curve}
 use Rattle.tv_regs.specs.declared.triple.Roots.{Roots}
 use Rattle.tv_regs.specs.declared.triple.Triple.{Triple}
@@ -58,7 +65,7 @@ pair_number o b ho hb = grind arith
 pairs_number : (o b d : ℕ) → o < 16 → b < 16 → d < 16 → d * (o + b) < 512
 pairs_number o b d ho hb hd = grind arith
 
-product_number : (p d : ℕ) → p < 256 → d < 16 → p * d < 4096
+pub product_number : (p d : ℕ) → p < 256 → d < 16 → p * d < 4096
 product_number p d hp hd = grind arith
 
 sum_up : (m n r : ℕ) → m < 256 → n < 512 → r < P → n % P ≡ minus r m → r ≡ m + n
@@ -150,13 +157,13 @@ module _ (z : List ℕ) (assigns : Assigns z) (stores target source named : Comb
 abbrev curve_in : List ℕ → ℕ → Curve
 curve_in z at = record { level = slice_index z at; slope = slice_index z (at + 1); bend = slice_index z (at + 2) }
 
-negative_small : (n : ℕ) → 0 < n → n < P → negative n ≡ P - n
+pub negative_small : (n : ℕ) → 0 < n → n < P → negative n ≡ P - n
 negative_small n positive small = omega arith
 
-square_small : (i : ℕ) → i < 16 → i * i < 256
+pub square_small : (i : ℕ) → i < 16 → i * i < 256
 square_small i h = grind arith
 
-square_positive : (i : ℕ) → 0 < i → 0 < i * i
+pub square_positive : (i : ℕ) → 0 < i → 0 < i * i
 square_positive i positive = grind arith
 
 pub other_branch : {A : Type 0} (i : ℕ) (x y : A) → 0 < i → (if i == 0 then x else y) ≡ y
@@ -166,10 +173,10 @@ other_branch i x y positive = ap (λ t. if t then x else y) (not_zero i positive
     not_zero i positive = grind (arith, nat_tests)
 
 -- the cubic and the departure at other numbers than 0
-abbrev long_cubic : Roots → ℕ → Combination
+abbrev pub long_cubic : Roots → ℕ → Combination
 long_cubic roots i = (i * i * i, 0) ∷ (negative (i * i), roots.sum) ∷ (i, roots.pairs) ∷ (P - 1, roots.product) ∷ []
 
-abbrev long_departure : ℕ → ℕ → ℕ → Combination
+abbrev pub long_departure : ℕ → ℕ → ℕ → Combination
 long_departure reg at i = (1, reg) ∷ (P - 1, at) ∷ (negative i, at + 1) ∷ (negative (i * i), at + 2) ∷ []
 
 flat_cubic : (c n i one t1 t2 t3 : ℕ) → one ≡ 1
@@ -236,7 +243,8 @@ module _ (z : List ℕ) (assigns : Assigns z) where
       ∙ ap (λ q. (negative i * slice_index z (at + 1) + q) % P) (value-cons (negative (i * i)) (at + 2) [] z) in
       let more = value-cons (P - 1) at ((negative i, at + 1) ∷ (negative (i * i), at + 2) ∷ []) z ∙ ap (λ q. ((P - 1) * slice_index z at + q) % P) last in
       value-cons 1 reg ((P - 1, at) ∷ (negative i, at + 1) ∷ (negative (i * i), at + 2) ∷ []) z ∙ ap (λ q. (1 * slice_index z reg + q) % P) more
-      ∙ flat_departure (slice_index z reg) (slice_index z at) (slice_index z (at + 1)) (slice_index z (at + 2)) i (i * i) (negative i) (negative (i * i)) (omega (arith, m)) (omega (arith, n, square_small i hi))
+      ∙ flat_departure (slice_index z reg) (slice_index z at) (slice_index z (at + 1)) (slice_index z (at + 2)) i (i * i) (negative i) (negative (i * i))
+      (omega (arith, m)) (omega (arith, n, square_small i hi))
 
   value-departure : (reg at i : ℕ) → i < 16 → value (departure reg at i) z ≡ minus (slice_index z reg) (curve_at (curve_in z at) i)
   value-departure reg at i hi = elim (eq-zero-or-pos i) [
@@ -253,12 +261,16 @@ module _ (z : List ℕ) (assigns : Assigns z) where
   unfolding curve_of passes_of fresh pure ◌>>=◌
   curve_sound roots regs o b d next ho hb hd has meets i hi none =
       let start = next + 1 + 1 + 1 in
-      let turn = turn_met z (λ j _. passes_turn roots next regs j) tt start 16 i hi (Meets-split z (times 16 (passes_turn roots next regs) start).list [] meets).0 in
+      let turn = turn_met z (λ j _. passes_turn roots next regs j) tt start 16 i hi
+      (Meets-split z (times 16 (passes_turn roots next regs) start).list [] meets).0 in
       let reg = slice_index regs i in
       let at = (times i (passes_turn roots next regs) start).next in
-      let product = ratio_sound z at (cubic roots i) (departure reg next i) assigns (Meets-split z (ratio_of (cubic roots i) (departure reg next i) at).list [] turn).0 in
-      let none_left = ap (λ n. n * slice_index z (ratio_of (cubic roots i) (departure reg next i) at).answer % P) (value-cubic roots o b d i ho hb hd hi has ∙ none) ∙ ap (λ n. n % P) (zero-mul _) in
-      same_of_minus (slice_index z reg) (curve_at (curve_in z next) i) (wire-below assigns reg) (mod-lt _ (omega arith)) (sym (value-departure reg next i hi) ∙ sym product ∙ none_left)
+      let product = ratio_sound z at (cubic roots i) (departure reg next i) assigns
+      (Meets-split z (ratio_of (cubic roots i) (departure reg next i) at).list [] turn).0 in
+      let none_left = ap (λ n. n * slice_index z (ratio_of (cubic roots i) (departure reg next i) at).answer % P)
+      (value-cubic roots o b d i ho hb hd hi has ∙ none) ∙ ap (λ n. n % P) (zero-mul _) in
+      same_of_minus (slice_index z reg) (curve_at (curve_in z next) i) (wire-below assigns reg) (mod-lt _ (omega arith))
+      (sym (value-departure reg next i hi) ∙ sym product ∙ none_left)
 
   -- an assignment that has the curve's coefficients and the ratios meets it
   pub curve_complete : (roots : Roots) (regs : List ℕ) (o b d next : ℕ) → length regs ≡ 16 → o < 16 → b < 16 → d < 16 → HasRoots z roots o b d
@@ -279,7 +291,8 @@ module _ (z : List ℕ) (assigns : Assigns z) where
       let word = word_of z regs i (omega arith) in
       let departs = value-departure reg next i hi ∙ ap₂ (λ r c. minus r (curve_at c i)) (sym word) is in
       let divides = ap (λ n. n * q % P) (value-cubic roots o b d i ho hb hd hi has) ∙ passing_divides o b d words ho hb hd small i hi ∙ sym departs in
-      Meets-join z (ratio_of (cubic roots i) (departure reg next i) at).list [] (ratio_complete z at (cubic roots i) (departure reg next i) q assigns divides (here, tt)) tt) in
+      Meets-join z (ratio_of (cubic roots i) (departure reg next i) at).list []
+      (ratio_complete z at (cubic roots i) (departure reg next i) q assigns divides (here, tt)) tt) in
       Meets-join z (times 16 (passes_turn roots next regs) start).list [] turns tt
 
   -- ---- a point
@@ -327,7 +340,7 @@ module _ (z : List ℕ) (assigns : Assigns z) where
       (first.0, (ap (λ k. n * k % P) (value-slope (curve + 1) next) ∙ sides ∙ sym (value-rise z curve (next + 1) assigns), tt))
 
 -- ---- where the parts end, and what they answer
-roots_next : (stores target source named : Combination) (next : ℕ) → (roots_of stores target source named next).next ≡ next + 6
+pub roots_next : (stores target source named : Combination) (next : ℕ) → (roots_of stores target source named next).next ≡ next + 6
 unfolding roots_of sums_of pairs_of times_of pick_of fresh put pure ◌>>=◌
 roots_next stores target source named next = omega arith
 
@@ -339,11 +352,11 @@ roots_other : (stores target source named : Combination) (next : ℕ) → (roots
 unfolding roots_of sums_of pairs_of times_of pick_of fresh put pure ◌>>=◌
 roots_other stores target source named next = refl
 
-curve_answer : (roots : Roots) (regs : List ℕ) (next : ℕ) → (curve_of roots regs next).answer ≡ next
+pub curve_answer : (roots : Roots) (regs : List ℕ) (next : ℕ) → (curve_of roots regs next).answer ≡ next
 unfolding curve_of fresh pure ◌>>=◌
 curve_answer roots regs next = refl
 
-curve_next : (roots : Roots) (regs : List ℕ) (next : ℕ) → (curve_of roots regs next).next ≡ next + 19
+pub curve_next : (roots : Roots) (regs : List ℕ) (next : ℕ) → (curve_of roots regs next).next ≡ next + 19
 unfolding curve_of fresh pure ◌>>=◌
 curve_next roots regs next = turn_at roots next regs (next + 1 + 1 + 1) 16 ∙ omega arith
 
@@ -351,7 +364,7 @@ point_answer : (x : Combination) (curve next : ℕ) → (point_of x curve next).
 unfolding point_of times_of fresh put pure ◌>>=◌
 point_answer x curve next = refl
 
-point_next : (x : Combination) (curve next : ℕ) → (point_of x curve next).next ≡ next + 2
+pub point_next : (x : Combination) (curve next : ℕ) → (point_of x curve next).next ≡ next + 2
 unfolding point_of times_of fresh put pure ◌>>=◌
 point_next x curve next = omega arith
 
@@ -394,9 +407,11 @@ triple_answer stores target source named regs next =
     let e2 = curve_next roots.answer regs roots.next in
     let e3 = point_next (wire roots.answer.other) curve.answer curve.next in
     let e4 = point_next named curve.answer other.next in
-    let first : (point_of (wire roots.answer.other) curve.answer curve.next).answer ≡ next + 26 = point_answer (wire roots.answer.other) curve.answer curve.next ∙ omega (arith, e1, e2) in
+    let first : (point_of (wire roots.answer.other) curve.answer curve.next).answer ≡ next + 26 = point_answer (wire roots.answer.other) curve.answer curve.next
+    ∙ omega (arith, e1, e2) in
     let second : (point_of named curve.answer other.next).answer ≡ next + 28 = point_answer named curve.answer other.next ∙ omega (arith, e1, e2, e3) in
-    let last : (point_of (wire roots.answer.dest) curve.answer third.next).answer ≡ next + 30 = point_answer (wire roots.answer.dest) curve.answer third.next ∙ omega (arith, e1, e2, e3, e4) in
+    let last : (point_of (wire roots.answer.dest) curve.answer third.next).answer ≡ next + 30 = point_answer (wire roots.answer.dest) curve.answer third.next
+    ∙ omega (arith, e1, e2, e3, e4) in
     all_wires (roots_answer stores target source named next) (roots_other stores target source named next) first second last
   where
     all_wires : {d o a b c x y u v t : ℕ} → d ≡ x → o ≡ y → a ≡ u → b ≡ v → c ≡ t
@@ -463,9 +478,12 @@ triple_complete z next stores target source named regs size assigns numbers has 
     let ratios : List ℕ = passing_values o b d words ++ after in
     let h1 = had_after z next roots.next 6 (roots_values o b d) (curve_values through ++ ratios) refl (roots_next stores target source named next) has in
     let h2 = had_after z roots.next (roots.next + 3) 3 (curve_values through) ratios refl refl h1.1 in
-    let h3 = had_after z (roots.next + 3) curve.next 16 (passing_values o b d words) after (length-each_below 16 (passing o b d words)) (past_curve roots.next curve.next (curve_next roots.answer regs roots.next)) h2.1 in
-    let h4 = had_after z curve.next other.next 2 (point_values o through.bend words) points refl (point_next (wire roots.answer.other) curve.answer curve.next) h3.1 in
-    let h5 = had_after z other.next third.next 2 (point_values b through.bend words) (point_values d through.bend words) refl (point_next named curve.answer other.next) h4.1 in
+    let h3 = had_after z (roots.next + 3) curve.next 16 (passing_values o b d words) after (length-each_below 16 (passing o b d words))
+    (past_curve roots.next curve.next (curve_next roots.answer regs roots.next)) h2.1 in
+    let h4 = had_after z curve.next other.next 2 (point_values o through.bend words) points refl
+    (point_next (wire roots.answer.other) curve.answer curve.next) h3.1 in
+    let h5 = had_after z other.next third.next 2 (point_values b through.bend words) (point_values d through.bend words) refl
+    (point_next named curve.answer other.next) h4.1 in
     let m1 = roots_complete z assigns stores target source named numbers next h1.0 in
     let has_roots = roots_sound z assigns stores target source named numbers next m1 in
     let small = words_in_field z assigns regs in
@@ -505,7 +523,8 @@ residue : (n : ℕ) → n % P < P
 residue n = mod-lt n (omega arith)
 
 point_in_field : (n g : ℕ) (words : List ℕ) → InField words → InField (point_values n g words)
-point_in_field n g words small = InField-cons (n * g % P) (slice_index words n ∷ []) (residue (n * g)) (InField-cons (slice_index words n) [] (word_below words n small) InField-none)
+point_in_field n g words small = InField-cons (n * g % P) (slice_index words n ∷ []) (residue (n * g))
+    (InField-cons (slice_index words n) [] (word_below words n small) InField-none)
 
 pub triple_in_field : (o b d : ℕ) (words : List ℕ) → o < 16 → b < 16 → d < 16 → InField words → InField (triple_values o b d words)
 triple_in_field o b d words ho hb hd small =
@@ -513,16 +532,22 @@ triple_in_field o b d words ho hb hd small =
     let ob = pair_number o b ho hb in
     let db = pairs_number o b d ho hb hd in
     let obd = product_number (o * b) d ob hd in
-    let sums = InField-cons (o * b) ((o * b + d * (o + b)) ∷ (o * b * d) ∷ []) (omega (arith, ob)) (InField-cons (o * b + d * (o + b)) ((o * b * d) ∷ []) (omega (arith, ob, db)) (InField-cons (o * b * d) [] (omega (arith, obd)) InField-none)) in
-    let others = InField-cons o ((o + b + d) ∷ (o * b) ∷ (o * b + d * (o + b)) ∷ (o * b * d) ∷ []) (omega arith) (InField-cons (o + b + d) ((o * b) ∷ (o * b + d * (o + b)) ∷ (o * b * d) ∷ []) (omega arith) sums) in
+    let sums = InField-cons (o * b) ((o * b + d * (o + b)) ∷ (o * b * d) ∷ []) (omega (arith, ob))
+    (InField-cons (o * b + d * (o + b)) ((o * b * d) ∷ []) (omega (arith, ob, db)) (InField-cons (o * b * d) [] (omega (arith, obd)) InField-none)) in
+    let others = InField-cons o ((o + b + d) ∷ (o * b) ∷ (o * b + d * (o + b)) ∷ (o * b * d) ∷ []) (omega arith)
+    (InField-cons (o + b + d) ((o * b) ∷ (o * b + d * (o + b)) ∷ (o * b * d) ∷ []) (omega arith) sums) in
     let roots = InField-cons d (o ∷ (o + b + d) ∷ (o * b) ∷ (o * b + d * (o + b)) ∷ (o * b * d) ∷ []) (omega arith) others in
-    let curve = InField-cons c.level (c.slope ∷ c.bend ∷ []) (residue _) (InField-cons c.slope (c.bend ∷ []) (residue _) (InField-cons c.bend [] (residue _) InField-none)) in
+    let curve = InField-cons c.level (c.slope ∷ c.bend ∷ []) (residue _)
+    (InField-cons c.slope (c.bend ∷ []) (residue _) (InField-cons c.bend [] (residue _) InField-none)) in
     let ratios = InField-each_below (passing o b d words) (λ i. residue _) 16 in
-    let last = InField-append (point_values b c.bend words) (point_values d c.bend words) (point_in_field b c.bend words small) (point_in_field d c.bend words small) in
+    let last = InField-append (point_values b c.bend words) (point_values d c.bend words) (point_in_field b c.bend words small)
+    (point_in_field d c.bend words small) in
     let points : List ℕ = point_values b c.bend words ++ point_values d c.bend words in
     let after : List ℕ = point_values o c.bend words ++ points in
     InField-append (roots_values o b d) (curve_values c ++ (passing_values o b d words ++ after)) roots
-    (InField-append (curve_values c) (passing_values o b d words ++ after) curve (InField-append (passing_values o b d words) after ratios (InField-append (point_values o c.bend words) points (point_in_field o c.bend words small) last)))
+    (InField-append (curve_values c) (passing_values o b d words ++ after) curve
+    (InField-append (passing_values o b d words) after ratios
+    (InField-append (point_values o c.bend words) points (point_in_field o c.bend words small) last)))
 
 pub triple_sizes : TripleSizes
 triple_sizes = record {
@@ -534,19 +559,39 @@ triple_sizes = record {
 }
 
 -- ---- how many constraints and terms
-lengths_less : (x y : Combination) → length (x ++ scaled (P - 1) y) ≡ length x + length y
-lengths_less x y = length-append x (scaled (P - 1) y) ∙ ap (λ k. length x + k) (length-map y (λ t. ((P - 1) * t.0 % P, t.1)))
-
 pub triple_constraints : (stores target source named : Combination) (regs : List ℕ) (next : ℕ)
     → length (triple_of stores target source named regs next).list ≡ 28
 unfolding triple_of roots_of sums_of pairs_of curve_of passes_of point_of ratio_of times_of pick_of turns fresh put pure ◌>>=◌
 triple_constraints stores target source named regs next = refl
 
-pub triple_terms : (stores target source named : Combination) (regs : List ℕ) (next : ℕ)
+-- the new wire less the source's number, made normal: the wire comes last
+commuted : (a b : ℕ) → (a + b) % P ≡ (b + a) % P
+commuted a b = omega arith
+
+less_source : (source : Combination) (w : ℕ) → IsNormal source → top source ≤ w → normal (less (wire w) source) ≡ scaled (P - 1) source ++ wire w
+less_source source w is below =
+    let within : top (scaled (P - 1) source) ≤ w = omega (arith, top-scaled (P - 1) source, below) in
+    let ordered = normal_append 0 w (scaled (P - 1) source) (wire w) (normal_negated 0 source is) within (omega arith)
+    (omega arith, omega arith, omega arith, tt) in
+    same_values 0 0 (normal (less (wire w) source)) (scaled (P - 1) source ++ wire w) (IsNormalFrom-normal (less (wire w) source)) ordered
+    (λ z. value-normal z (less (wire w) source) ∙ value-append (wire w) (scaled (P - 1) source) z
+    ∙ commuted (value (wire w) z) (value (scaled (P - 1) source) z) ∙ sym (value-append (scaled (P - 1) source) (wire w) z))
+
+length-negated : (source : Combination) (w : ℕ) → length (scaled (P - 1) source ++ wire w) ≡ length source + 1
+length-negated source w = length-append (scaled (P - 1) source) (wire w) ∙ ap (λ k. k + 1) (length-map source (λ t. ((P - 1) * t.0 % P, t.1)))
+
+pub triple_terms : (stores target source named : Combination) (regs : List ℕ) (next : ℕ) → IsNormal source → top source ≤ next
     → terms_in (triple_of stores target source named regs next).list ≡ length stores + length target + 2 * length source + 5 * length named + 178
 unfolding triple_of roots_of sums_of pairs_of curve_of passes_of point_of ratio_of times_of pick_of turns fresh put pure ◌>>=◌
-triple_terms stores target source named regs next =
-    omega (arith, lengths_less (wire next) source, lengths_less (wire (next + 1)) source, length-append (named ++ wire next) (wire (next + 1)), length-append named (wire next), length-append named (wire (next + 1)))
+triple_terms stores target source named regs next is below =
+    omega (
+      arith,
+      ap length (less_source source next is below) ∙ length-negated source next,
+      length-negated source (next + 1),
+      length-append (named ++ wire next) (wire (next + 1)),
+      length-append named (wire next),
+      length-append named (wire (next + 1)),
+    )
 
 pub triple_costs : TripleCosts
 triple_costs = record { constraints = triple_constraints; terms = triple_terms }

@@ -1,5 +1,6 @@
 -- The numbers of three registers read at once: a curve of degree two through three points, modulo P.
-use Rattle.std.proofs.Common.{◌⊎◌, ◌≡◌, ℕ, ◌+◌, ◌-◌, ◌*◌, ◌/◌, ◌%◌, ◌<◌, ◌≤◌, List, inl, inr, refl, sym, ◌∙◌, ap, arith, mod-lt, mod-eq_of_lt, zero-mul, mul-zero}
+use Rattle.std.proofs.Common.{◌⊎◌, ◌≡◌, ℕ, ◌+◌, ◌-◌, ◌*◌, ◌/◌, ◌%◌, ◌<◌, ◌≤◌, List, inl, inr, refl, sym, ◌∙◌, ap, arith, mod-lt, mod-eq_of_lt, zero-mul}
+use Rattle.std.proofs.Common.{mul-zero}
 use Rattle.std.specs.Prelude.{slice_index}
 use Rattle.std.proofs.Math.Nat.{div-add-mod}
 use Rattle.std.proofs.lemmas.Bool.{cases_lt}
@@ -29,7 +30,8 @@ split n = omega (arith, div-add-mod n P)
 cubed : (i o b d x y z kx ky kz p m n : ℕ) → x + o ≡ i + P * kx → y + b ≡ i + P * ky → z + d ≡ i + P * kz → x * y ≡ p + P * m → n + i * i ≡ P
     → (i * i * i + n * (o + b + d) + i * (o * b + d * (o + b)) + (P - 1) * (o * b * d)) % P ≡ p * z % P
 cubed i o b d x y z kx ky kz p m n ex ey ez ep en =
-    let square : p + i * (o + b) + P * m + P * (o * ky) ≡ i * i + o * b + P * (kx * y) + P * (i * ky) = omega (arith, ap (λ k. k * y) ex, ap (λ k. i * k) ey, ap (λ k. o * k) ey) in
+    let square : p + i * (o + b) + P * m + P * (o * ky)
+    ≡ i * i + o * b + P * (kx * y) + P * (i * ky) = omega (arith, ap (λ k. k * y) ex, ap (λ k. i * k) ey, ap (λ k. o * k) ey) in
     omega (arith, ap (λ k. k * i) square, ap (λ k. k * d) square, ap (λ k. p * k) ez, ap (λ k. k * (o + b + d)) en)
 
 pub cubic_number : (o b d i : ℕ) → o < 16 → b < 16 → d < 16 → i < 16
@@ -89,7 +91,8 @@ curve_expands o b s f g i ho hb hi hs hf =
     let v = minus_split s (o * f % P) hs (omega arith) in
     let low = minus s (o * f % P) in
     let sum = low + o * b * g % P in
-    let whole = expanded i o b s f g (minus i o) (minus i b) x.0 y.0 (h % P) (h / P) (minus f (h % P)) c1.0 (o * f % P) (o * f / P) low v.0 (o * b * g % P) (o * b * g / P) (sum % P) (sum / P)
+    let whole = expanded i o b s f g (minus i o) (minus i b) x.0 y.0 (h % P) (h / P) (minus f (h % P)) c1.0 (o * f % P) (o * f / P) low v.0 (o * b * g % P)
+    (o * b * g / P) (sum % P) (sum / P)
     x.1 y.1 (split h) c1.1 (split (o * f)) v.1 (split (o * b * g)) (split sum) in
     let flat : (a b c : ℕ) → ((a + b % P) % P + c % P) % P ≡ (a + b + c) % P = λ a b c. omega arith in
     flat (sum % P) (i * minus f (h % P)) (i * i * g) ∙ whole
@@ -118,7 +121,9 @@ module _ (o b d : ℕ) (words : List ℕ) (ho : o < 16) (hb : b < 16) (hd : d < 
   expands i hi = curve_expands o b s f g i ho hb hi (word_below words o small) (mod-lt _ (omega arith))
 
   first_rise : minus b o * f % P ≡ minus t s
-  first_rise = ratio_divides (minus b o) (minus t s) (minus_below t s) (λ none. minus_itself t s (word_below words b small) (ap (slice_index words) (same_of_minus b o (omega arith) (omega arith) (sym (mod-eq_of_lt (minus_below b o)) ∙ none))))
+  first_rise = ratio_divides (minus b o) (minus t s) (minus_below t s)
+      (λ none. minus_itself t s (word_below words b small)
+      (ap (slice_index words) (same_of_minus b o (omega arith) (omega arith) (sym (mod-eq_of_lt (minus_below b o)) ∙ none))))
 
   second_rise : minus d o * minus d b % P * g % P ≡ minus (minus u s) (minus d o * f % P)
   second_rise = ratio_divides (minus d o * minus d b % P) (minus (minus u s) (minus d o * f % P)) (minus_below (minus u s) (minus d o * f % P)) (λ none.

@@ -1,5 +1,6 @@
 -- The laws of one register written by its number.
-use Rattle.std.proofs.Common.{◌≡◌, ◌≢◌, ℕ, ◌+◌, ◌-◌, ◌*◌, ◌%◌, ◌<◌, ◌==◌, if◌then◌else◌, List, [], ◌∷◌, length, inl, inr, refl, sym, ◌∙◌, ap, ap₂, arith, mul-one, eq-zero-or-pos}
+use Rattle.std.proofs.Common.{◌≡◌, ◌≢◌, ℕ, ◌+◌, ◌-◌, ◌*◌, ◌%◌, ◌<◌, ◌==◌, if◌then◌else◌, List, [], ◌∷◌, length, inl, inr, refl, sym, ◌∙◌, ap, ap₂, arith}
+use Rattle.std.proofs.Common.{mul-one, eq-zero-or-pos}
 use Rattle.std.specs.List.{range_with_len}
 use Rattle.std.specs.Prelude.{slice_index}
 use Rattle.std.proofs.lemmas.Bool.{cases_eq}
@@ -53,7 +54,7 @@ stays_turn-next : (dest : ℕ) (regs : List ℕ) (i at : ℕ) → (stays_turn de
 unfolding stays_of fresh put ◌>>=◌
 stays_turn-next dest regs i at = refl
 
-turn_at : (dest : ℕ) (regs : List ℕ) (at j : ℕ) → (times j (stays_turn dest regs) at).next ≡ at + j
+pub turn_at : (dest : ℕ) (regs : List ℕ) (at j : ℕ) → (times j (stays_turn dest regs) at).next ≡ at + j
 turn_at dest regs at j = turns-next (λ i _. stays_turn dest regs i) tt at 1 j (λ i a k. stays_turn-next dest regs i k) ∙ ap (λ k. at + k) (mul-one j)
 
 -- the sum rises by what one register rises
@@ -71,7 +72,8 @@ module _ (z : List ℕ) (assigns : Assigns z) (regs : List ℕ) (first i : ℕ) 
       value-append (scaled (P - 1) (regs_sum regs)) (row_sum first 16) z
       ∙ ap₂ (λ a b. (a + b) % P) (value-scaled (P - 1) (regs_sum regs) z
       ∙ ap (λ n. (P - 1) * n % P) (value-regs_sum z regs)) (value-weighted first 16 (λ _. 1) z)
-      ∙ flat_sums (sum_below 16 f) (sum_below 16 g) (slice_index z (first + i)) (slice_index z (slice_index regs i)) (wire-below assigns (first + i)) (wire-below assigns (slice_index regs i)) balance
+      ∙ flat_sums (sum_below 16 f) (sum_below 16 g) (slice_index z (first + i)) (slice_index z (slice_index regs i)) (wire-below assigns (first + i))
+      (wire-below assigns (slice_index regs i)) balance
 
 -- ---- the last constraint, as numbers
 on_sound : (on x new old : ℕ) → IsBit on → x < P → new < P → old < P → on * minus x old % P ≡ minus new old → new ≡ (if on == 1 then x else old)
@@ -96,7 +98,8 @@ update_sound z next on dest word result regs i assigns is meets =
     let met = turn_met z (λ k _. stays_turn dest regs k) tt next 16 j h split.0 in
     let product = sym (ap₂ (λ a b. a * b % P) (value-number_less z assigns dest i is.number is.within j h) (value-rise z reg new assigns)) ∙ met.0 in
     ap (slice_index z) (sym (turn_at dest regs next j))
-    ∙ elim (p_zero_product_below (minus i j) (minus (slice_index z new) (slice_index z reg)) (minus_below i j) (minus_below (slice_index z new) (slice_index z reg)) product) [
+    ∙ elim (p_zero_product_below (minus i j) (minus (slice_index z new) (slice_index z reg)) (minus_below i j)
+    (minus_below (slice_index z new) (slice_index z reg)) product) [
       | inl same ↦ absurd (apart (sym (same_of_minus i j (let w = is.within in omega arith) (omega arith) same)))
       | inr none ↦ same_of_minus (slice_index z new) (slice_index z reg) (wire-below assigns new) (wire-below assigns reg) none
     ] in
@@ -108,7 +111,8 @@ update_sound z next on dest word result regs i assigns is meets =
     let same_old : slice_index z word ≡ old = is.old ∙ word_of z regs i inside in
     let sides = ap₂ (λ a b. a * b % P) (sym (value-wire assigns on)) (ap (minus (slice_index z result)) (sym same_old)
     ∙ sym (value-rise z word result assigns)) ∙ split.1.0 ∙ value-sum_rise z assigns regs next i is.within others in
-    let here_new = on_sound (slice_index z on) (slice_index z result) (slice_index z (next + i)) old is.bit (wire-below assigns result) (wire-below assigns (next + i)) (wire-below assigns (slice_index regs i)) sides in
+    let here_new = on_sound (slice_index z on) (slice_index z result) (slice_index z (next + i)) old is.bit (wire-below assigns result)
+    (wire-below assigns (next + i)) (wire-below assigns (slice_index regs i)) sides in
     let count : length words ≡ 16 = length-map regs (λ w. slice_index z w) ∙ is.size in
     let new_count : length (words_at z (range_with_len next 16)) ≡ 16 = refl in
     ext_get_or 0 (words_at z (range_with_len next 16)) (written_regs isOn (slice_index z result) i words) (new_count

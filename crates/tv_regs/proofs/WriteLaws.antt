@@ -1,5 +1,6 @@
 -- The laws of writing a register.
-use Rattle.std.proofs.Common.{◌≡◌, ◌≢◌, ℕ, zero, suc, ◌+◌, ◌-◌, ◌*◌, ◌%◌, ◌<◌, ◌≤◌, ◌==◌, Bool, true, false, if◌then◌else◌, List, [], ◌∷◌, ◌++◌, length, inl, inr, refl, sym, ◌∙◌, ap, ap₂, arith, mod-lt, mul-one, add-zero}
+use Rattle.std.proofs.Common.{◌≡◌, ◌≢◌, ℕ, zero, suc, ◌+◌, ◌-◌, ◌*◌, ◌%◌, ◌<◌, ◌≤◌, ◌==◌, Bool, true, false, if◌then◌else◌, List, [], ◌∷◌, ◌++◌, length, inl}
+use Rattle.std.proofs.Common.{inr, refl, sym, ◌∙◌, ap, ap₂, arith, mod-lt, mul-one, add-zero}
 use Rattle.std.specs.List.{range_with_len}
 use Rattle.std.specs.Prelude.{slice_index}
 use Rattle.std.proofs.Math.ListN.{length-set}
@@ -17,6 +18,7 @@ use Rattle.tv_core.proofs.DifferenceLaws.{same_of_minus, cancel_minus}
 use Rattle.tv_core.proofs.FieldLaws.{InField-cons}
 use Rattle.tv_core.proofs.LoopLaws.{turn_met, turns_met, turns-next}
 use Rattle.tv_core.proofs.Meeting.{Meets-split, Meets-join}
+use Rattle.tv_core.proofs.NormalLaws.{value-normal}
 use Rattle.tv_core.proofs.Residues.{sum_by-map}
 use Rattle.tv_core.specs.Below.{sum_below, each_below}
 use Rattle.tv_core.specs.Circuits.{here, fresh, put, pure, ◌>>=◌}
@@ -24,10 +26,13 @@ use Rattle.tv_core.specs.Combinations.{wire, less, top}
 use Rattle.tv_core.specs.Constraints.{Combination, value}
 use Rattle.tv_core.specs.Laws.{Assigns, HasFrom, InField}
 use Rattle.tv_core.specs.Loops.{times}
+use Rattle.tv_core.specs.Normal.{normal}
 use Rattle.tv_core.specs.declared.field.TheConstants.{P}
-use Rattle.tv_regs.proofs.Gates.{word_of, word_below, product_value, difference_value, wires_top-at}
+use Rattle.tv_regs.proofs.Gates.{word_of, word_below, product_value, wires_top-at}
+use Rattle.tv_regs.proofs.TripleLaws.{value-rise}
 use Rattle.tv_regs.specs.Reading.{words_at, wires_top}
-use Rattle.tv_regs.specs.Writing.{write_of, write_turn, tie_of, regs_sum, change, change_with, write_reg_of, written_regs, write_reg_values, WriteRegIsSound, WriteRegIsComplete, WriteRegSizes}
+use Rattle.tv_regs.specs.Writing.{write_of, write_turn, tie_of, regs_sum, change, change_with, write_reg_of, written_regs, write_reg_values, WriteRegIsSound}
+use Rattle.tv_regs.specs.Writing.{WriteRegIsComplete, WriteRegSizes}
 use Rattle.tv_bits.proofs.SelectLaws.{times_one, times_zero}
 
 -- ---- the sums of the registers before and after
@@ -62,7 +67,8 @@ write_turn-next v sel regs i at = refl
 turn_at : (v sel : ℕ) (regs : List ℕ) (at j : ℕ) → (times j (write_turn v sel regs) at).next ≡ at + j
 turn_at v sel regs at j = turns-next (λ i _. write_turn v sel regs i) tt at 1 j (λ i a k. write_turn-next v sel regs i k) ∙ ap (λ k. at + k) (mul-one j)
 
-module _ (z : List ℕ) (assigns : Assigns z) (regs : List ℕ) (first i : ℕ) (within : i < 16) (others : (j : ℕ) → j < 16 → j ≢ i → slice_index z (first + j) ≡ slice_index z (slice_index regs j)) where
+module _ (z : List ℕ) (assigns : Assigns z) (regs : List ℕ) (first i : ℕ) (within : i < 16)
+    (others : (j : ℕ) → j < 16 → j ≢ i → slice_index z (first + j) ≡ slice_index z (slice_index regs j)) where
   abbrev new : ℕ
   new = slice_index z (first + i)
 
@@ -92,13 +98,15 @@ module _ (z : List ℕ) (assigns : Assigns z) (regs : List ℕ) (first i : ℕ) 
       let sum = value-append x (row_sum first 16) z ∙ ap (λ n. (value x z + n) % P) (value-weighted first 16 (λ _. 1) z) in
       let with_hint = value-less (x ++ row_sum first 16) (wire v) z ∙ ap₂ (λ m n. (m + (P - n)) % P) sum (value-wire assigns v) in
       value-less (less (x ++ row_sum first 16) (wire v)) (regs_sum regs) z ∙ ap₂ (λ m n. (m + (P - n)) % P) with_hint (value-regs_sum z regs)
-      ∙ difference_with (value x z) (slice_index z v) sum_after sum_before new old (value-below x z) (wire-below assigns v) (wire-below assigns (first + i)) (wire-below assigns (slice_index regs i)) balance
+      ∙ difference_with (value x z) (slice_index z v) sum_after sum_before new old (value-below x z) (wire-below assigns v) (wire-below assigns (first + i))
+      (wire-below assigns (slice_index regs i)) balance
 
 -- ---- the last constraint, as numbers: x, the hint v, the new word and the old one
 on_sound : (on x v new old : ℕ) → IsBit on → x < P → v < P → new < P → old < P → new ≡ v
     → on * (((x + (P - v)) % P + (new + (P - old)) % P) % P) % P ≡ (new + (P - old)) % P → new ≡ (if on == 1 then x else old)
 on_sound on x v new old bit xs vs ns os same e = elim (bit_cases on bit) [
-  | inl none ↦ let d : (new + (P - old)) % P ≡ 0 = sym e ∙ times_zero on _ none in same_of_minus new old ns os d ∙ sym (ap (λ n. if n == 1 then x else old) none)
+  | inl none ↦ let d : (new + (P - old)) % P ≡ 0 = sym e ∙ times_zero on _ none in same_of_minus new old ns os d
+      ∙ sym (ap (λ n. if n == 1 then x else old) none)
   | inr one ↦
       let d : ((x + (P - v)) % P + (new + (P - old)) % P) % P ≡ (new + (P - old)) % P = sym (times_one on _ one (mod-lt _ (omega arith))) ∙ e in
       let same_x : new ≡ x = omega arith in same_x ∙ sym (ap (λ n. if n == 1 then x else old) one)
@@ -120,9 +128,15 @@ pub written_other : (on : Bool) (x i j : ℕ) (words : List ℕ) → j ≢ i →
 written_other true x i j words apart = get_or-set_other words i j x 0 apart
 written_other false x i j words apart = refl
 
-pub written_here : (on : Bool) (x i : ℕ) (words : List ℕ) → i < length words → slice_index (written_regs on x i words) i ≡ (if on then x else slice_index words i)
+pub written_here : (on : Bool) (x i : ℕ) (words : List ℕ) → i < length words
+    → slice_index (written_regs on x i words) i ≡ (if on then x else slice_index words i)
 written_here true x i words h = get_or-set_same words i x 0 h
 written_here false x i words h = refl
+
+-- the choice's product
+product_normal : (z : List ℕ) → Assigns z → (s w r : ℕ)
+    → value (wire s) z * value (normal (less (wire w) (wire r))) z % P ≡ slice_index z s * ((slice_index z w + (P - slice_index z r)) % P) % P
+product_normal z assigns s w r = ap (λ n. value (wire s) z * n % P) (value-normal z (less (wire w) (wire r))) ∙ product_value z assigns s w r
 
 pub write_reg_sound : WriteRegIsSound
 unfolding write_reg_of write_of pick_of tie_of here fresh put pure ◌>>=◌
@@ -131,25 +145,32 @@ write_reg_sound z next sel on x regs i size assigns row bit meets =
     let first = next + 1 in
     let turns = times 16 (write_turn v sel regs) first in
     let split = Meets-split z turns.list _ meets in
-    let turn : (j : ℕ) → j < 16 → slice_index z (sel + j) * ((slice_index z v + (P - slice_index z (slice_index regs j))) % P) % P ≡ (slice_index z (first + j) + (P - slice_index z (slice_index regs j))) % P =
+    let turn : (j : ℕ) → j < 16 → slice_index z (sel + j) * ((slice_index z v + (P - slice_index z (slice_index regs j))) % P) % P
+    ≡ (slice_index z (first + j) + (P - slice_index z (slice_index regs j))) % P =
     λ j h. let met = turn_met z (λ k _. write_turn v sel regs k) tt first 16 j h split.0 in
-    sym (product_value z assigns (sel + j) v (slice_index regs j)) ∙ met.0 ∙ difference_value z assigns (times j (write_turn v sel regs) first).next (slice_index regs j)
+    sym (product_normal z assigns (sel + j) v (slice_index regs j)) ∙ met.0
+    ∙ value-rise z (slice_index regs j) (times j (write_turn v sel regs) first).next assigns
     ∙ ap (λ k. (slice_index z k + (P - slice_index z (slice_index regs j))) % P) (turn_at v sel regs first j) in
     let others : (j : ℕ) → j < 16 → j ≢ i → slice_index z (first + j) ≡ slice_index z (slice_index regs j) =
-    λ j h apart. same_of_minus (slice_index z (first + j)) (slice_index z (slice_index regs j)) (wire-below assigns (first + j)) (wire-below assigns (slice_index regs j))
+    λ j h apart. same_of_minus (slice_index z (first + j)) (slice_index z (slice_index regs j)) (wire-below assigns (first + j))
+    (wire-below assigns (slice_index regs j))
     (sym (turn j h) ∙ times_zero (slice_index z (sel + j)) _ (row.cold j h apart)) in
     let old = slice_index z (slice_index regs i) in
     let here_v : slice_index z (first + i) ≡ slice_index z v
-    = cancel_minus (slice_index z (first + i)) (slice_index z v) old (wire-below assigns (first + i)) (wire-below assigns v) (wire-below assigns (slice_index regs i))
+    = cancel_minus (slice_index z (first + i)) (slice_index z v) old (wire-below assigns (first + i)) (wire-below assigns v)
+    (wire-below assigns (slice_index regs i))
     (sym (turn i row.within) ∙ times_one (slice_index z (sel + i)) _ row.hot (mod-lt _ (omega arith))) in
-    let gate = ap₂ (λ m n. m * n % P) (sym (value-wire assigns on)) (sym (value-change_with z assigns regs first i row.within others x v)) ∙ split.1.0 ∙ value-change z assigns regs first i row.within others in
-    let here_new = on_sound (slice_index z on) (value x z) (slice_index z v) (slice_index z (first + i)) old bit (value-below x z) (wire-below assigns v) (wire-below assigns (first + i)) (wire-below assigns (slice_index regs i)) here_v gate in
+    let gate = ap₂ (λ m n. m * n % P) (sym (value-wire assigns on)) (sym (value-change_with z assigns regs first i row.within others x v)) ∙ split.1.0
+    ∙ value-change z assigns regs first i row.within others in
+    let here_new = on_sound (slice_index z on) (value x z) (slice_index z v) (slice_index z (first + i)) old bit (value-below x z) (wire-below assigns v)
+    (wire-below assigns (first + i)) (wire-below assigns (slice_index regs i)) here_v gate in
     let words = words_at z regs in
     let isOn = slice_index z on == 1 in
     let inside : i < length regs = (let w = row.within in omega arith) in
     let count : length words ≡ 16 = length-map regs (λ w. slice_index z w) ∙ size in
     let new_count : length (words_at z (range_with_len first 16)) ≡ 16 = refl in
-    ext_get_or 0 (words_at z (range_with_len first 16)) (written_regs isOn (value x z) i words) (new_count ∙ sym (length-written isOn (value x z) i words ∙ count))
+    ext_get_or 0 (words_at z (range_with_len first 16)) (written_regs isOn (value x z) i words)
+    (new_count ∙ sym (length-written isOn (value x z) i words ∙ count))
     (λ j h. get_or-map-range_with_len (λ w. slice_index z w) first 16 j (first + j) 0 (omega arith) refl ∙ elim (cases_eq j i) [
       | inl same ↦ ap (λ k. slice_index z (first + k)) same ∙ here_new ∙ ap (λ n. if isOn then value x z else n) (sym (word_of z regs i inside))
           ∙ sym (written_here isOn (value x z) i words (omega arith)) ∙ ap (slice_index (written_regs isOn (value x z) i words)) (sym same)
@@ -183,18 +204,22 @@ write_reg_complete z next sel on x regs i size assigns row bit has =
     let here_new : slice_index z (first + i) ≡ (if isOn then value x z else old) =
     news i row.within ∙ written_here isOn (value x z) i words (omega arith) ∙ ap (λ n. if isOn then value x z else n) (word_of z regs i inside) in
     let turns = turns_met z (λ k _. write_turn v sel regs k) tt first 16 (λ j h. (
-      product_value z assigns (sel + j) v (slice_index regs j) ∙ elim (cases_eq j i) [
+      product_normal z assigns (sel + j) v (slice_index regs j) ∙ elim (cases_eq j i) [
         | inl same ↦ times_one (slice_index z (sel + j)) _ (ap (λ k. slice_index z (sel + k)) same ∙ row.hot) (mod-lt _ (omega arith))
             ∙ ap (λ n. (n + (P - slice_index z (slice_index regs j))) % P) (same_v ∙ ap (λ k. slice_index z (first + k)) (sym same))
         | inr apart ↦ times_zero (slice_index z (sel + j)) _ (row.cold j h apart)
             ∙ sym (none (slice_index z (first + j)) (slice_index z (slice_index regs j)) (wire-below assigns (slice_index regs j)) (others j h apart))
       ] ∙ ap (λ k. (slice_index z k + (P - slice_index z (slice_index regs j))) % P) (sym (turn_at v sel regs first j))
-          ∙ sym (difference_value z assigns (times j (write_turn v sel regs) first).next (slice_index regs j)),
+          ∙ sym (value-rise z (slice_index regs j) (times j (write_turn v sel regs) first).next assigns),
       tt,
     )) in
-    let gate = on_complete (slice_index z on) (value x z) (slice_index z v) (slice_index z (first + i)) old bit (value-below x z) (wire-below assigns (slice_index regs i)) same_v here_new in
-    Meets-join z (times 16 (write_turn v sel regs) first).list _ turns
-    (ap₂ (λ m n. m * n % P) (value-wire assigns on) (value-change_with z assigns regs first i row.within others x v) ∙ gate ∙ sym (value-change z assigns regs first i row.within others), tt)
+    let gate = on_complete (slice_index z on) (value x z) (slice_index z v) (slice_index z (first + i)) old bit (value-below x z)
+    (wire-below assigns (slice_index regs i)) same_v here_new in
+    Meets-join z (times 16 (write_turn v sel regs) first).list _ turns (
+      ap₂ (λ m n. m * n % P) (value-wire assigns on) (value-change_with z assigns regs first i row.within others x v) ∙ gate
+          ∙ sym (value-change z assigns regs first i row.within others),
+      tt,
+    )
   where
     none : (a b : ℕ) → b < P → a ≡ b → (a + (P - b)) % P ≡ 0
     none a b h e = omega arith
@@ -226,7 +251,8 @@ write_reg_sizes = record {
 }
 
 -- ---- the sum of the first registers, as the code makes it
-pub sum_of-suc : (regs : List ℕ) (n : ℕ) → each_below {A = ℕ × ℕ} (suc n) (λ i. (1, slice_index regs i)) ≡ each_below {A = ℕ × ℕ} n (λ i. (1, slice_index regs i)) ++ (1, slice_index regs n) ∷ []
+pub sum_of-suc : (regs : List ℕ) (n : ℕ)
+    → each_below {A = ℕ × ℕ} (suc n) (λ i. (1, slice_index regs i)) ≡ each_below {A = ℕ × ℕ} n (λ i. (1, slice_index regs i)) ++ (1, slice_index regs n) ∷ []
 sum_of-suc regs n = each_below-suc {A = ℕ × ℕ} n (λ i. (1, slice_index regs i))
 
 pub top-sum_of : (regs : List ℕ) (n : ℕ) → n ≤ length regs → top (each_below {A = ℕ × ℕ} n (λ i. (1, slice_index regs i))) ≤ wires_top regs

@@ -11,11 +11,12 @@ use Rattle.tv_bits.specs.Times.{times_of, kept_of}
 use Rattle.tv_bits.specs.declared.bit_wires.Bits.{Bits}
 use Rattle.tv_core.specs.Below.{each_below}
 use Rattle.tv_core.specs.Circuits.{Circuit, fresh, put, pure, ◌>>=◌}
-use Rattle.tv_core.specs.Combinations.{wire}
+use Rattle.tv_core.specs.Combinations.{wire, top}
 use Rattle.tv_core.specs.Constraints.{Combination, value}
 use Rattle.tv_core.specs.Laws.{Assigns, Meets, HasFrom, Fills, InField}
 use Rattle.tv_core.specs.Loops.{times}
 use Rattle.tv_core.specs.Meanings.{terms_in}
+use Rattle.tv_core.specs.Normal.{IsNormal}
 use Rattle.tv_core.specs.declared.field.TheConstants.{P}
 use Rattle.tv_regs.specs.Reading.{words_at}
 use Rattle.tv_regs.specs.declared.triple.Curve.{Curve}
@@ -218,8 +219,8 @@ pub record TripleSizes : Type 0 where
   pub fills : (stores target source named : Combination) (regs : List ℕ) (o b d : ℕ) (words : List ℕ) → Fills (triple_of stores target source named regs) (triple_values o b d words)
   pub in_field : (o b d : ℕ) (words : List ℕ) → o < 16 → b < 16 → d < 16 → InField words → InField (triple_values o b d words)
 
--- how many constraints and terms are put
+-- how many constraints and terms are put; the wires of the source's number are below the destination's new one
 pub record TripleCosts : Type 0 where
   pub constraints : (stores target source named : Combination) (regs : List ℕ) (next : ℕ) → length (triple_of stores target source named regs next).list ≡ 28
-  pub terms : (stores target source named : Combination) (regs : List ℕ) (next : ℕ)
+  pub terms : (stores target source named : Combination) (regs : List ℕ) (next : ℕ) → IsNormal source → top source ≤ next
       → terms_in (triple_of stores target source named regs next).list ≡ length stores + length target + 2 * length source + 5 * length named + 178

@@ -30,27 +30,32 @@ unfolding halves_of here pure ◌>>=◌
 halves_next n b x next = turn-next n b x next n
 
 module _ (z : List ℕ) (n b x : ℕ) (assigns : Assigns z) (bit : IsBit (slice_index z b)) where
-  half_bit_sound : (i at : ℕ) → Meets z (half_bit_of n b x i at).list → slice_index z at ≡ selected (slice_index z b) (slice_index z (x + (n + i))) (slice_index z (x + i))
+  half_bit_sound : (i at : ℕ) → Meets z (half_bit_of n b x i at).list
+      → slice_index z at ≡ selected (slice_index z b) (slice_index z (x + (n + i))) (slice_index z (x + i))
   unfolding half_bit_of pick_of fresh put pure ◌>>=◌
   half_bit_sound i at meets =
       select_sound z at b (wire (x + (n + i))) (wire (x + i)) assigns bit meets
       ∙ ap₂ (λ p q. selected (slice_index z b) p q) (value-wire assigns (x + (n + i))) (value-wire assigns (x + i))
 
-  half_bit_complete : (i at : ℕ) → slice_index z at ≡ selected (slice_index z b) (slice_index z (x + (n + i))) (slice_index z (x + i)) → Meets z (half_bit_of n b x i at).list
+  half_bit_complete : (i at : ℕ) → slice_index z at ≡ selected (slice_index z b) (slice_index z (x + (n + i))) (slice_index z (x + i))
+      → Meets z (half_bit_of n b x i at).list
   unfolding half_bit_of pick_of fresh put pure ◌>>=◌
   half_bit_complete i at is =
       select_complete z at b (wire (x + (n + i))) (wire (x + i)) assigns bit
       (is ∙ ap₂ (λ p q. selected (slice_index z b) p q) (sym (value-wire assigns (x + (n + i)))) (sym (value-wire assigns (x + i))), tt)
 
-  each_sound : (next : ℕ) → Meets z (times n (half_bit_of n b x) next).list → (i : ℕ) → i < n → slice_index z (next + i) ≡ selected (slice_index z b) (slice_index z (x + (n + i))) (slice_index z (x + i))
+  each_sound : (next : ℕ) → Meets z (times n (half_bit_of n b x) next).list → (i : ℕ) → i < n
+      → slice_index z (next + i) ≡ selected (slice_index z b) (slice_index z (x + (n + i))) (slice_index z (x + i))
   each_sound next meets i h = rw (turn-next n b x next i) at (half_bit_sound i _ (turn_met z (λ i _. half_bit_of n b x i) tt next n i h meets))
 
-  each_complete : (next : ℕ) → ((i : ℕ) → i < n → slice_index z (next + i) ≡ selected (slice_index z b) (slice_index z (x + (n + i))) (slice_index z (x + i))) → Meets z (times n (half_bit_of n b x) next).list
+  each_complete : (next : ℕ) → ((i : ℕ) → i < n → slice_index z (next + i) ≡ selected (slice_index z b) (slice_index z (x + (n + i))) (slice_index z (x + i)))
+      → Meets z (times n (half_bit_of n b x) next).list
   each_complete next each = turns_met z (λ i _. half_bit_of n b x i) tt next n (λ i h. half_bit_complete i _ (rw (turn-next n b x next i) (each i h)))
 
   -- the bits of the halves
   module _ (v : ℕ) (s : Spells z x (n + n) v) where
-    chosen_bit : (i : ℕ) → i < n → selected (slice_index z b) (slice_index z (x + (n + i))) (slice_index z (x + i)) ≡ bit_at (chosen_half n (slice_index z b) v) i
+    chosen_bit : (i : ℕ) → i < n → selected (slice_index z b) (slice_index z (x + (n + i))) (slice_index z (x + i))
+        ≡ bit_at (chosen_half n (slice_index z b) v) i
     chosen_bit i h = elim (bit_cases (slice_index z b) bit) [
       | inl none ↦ rw none (Spells-bit_at (Spells-low z x n n v s) i h)
       | inr one ↦ rw one (let place : x + (n + i) ≡ x + n + i = omega arith in ap (λ k. slice_index z k) place ∙ Spells-bit_at (Spells-high z x n n v s) i h)
@@ -71,4 +76,5 @@ module _ (z : List ℕ) (n b x : ℕ) (assigns : Assigns z) (bit : IsBit (slice_
     pub halves_complete : (next : ℕ) → HasFrom z next (bits_values (chosen_half n (slice_index z b) v) n) → Meets z (halves_of n b x next).list
     unfolding halves_of here pure ◌>>=◌
     halves_complete next has =
-        Meets-join z (times n (half_bit_of n b x) next).list [] (each_complete next (λ i h. has_each z next n (bit_at (chosen_half n (slice_index z b) v)) has i h ∙ sym (chosen_bit i h))) tt
+        Meets-join z (times n (half_bit_of n b x) next).list []
+        (each_complete next (λ i h. has_each z next n (bit_at (chosen_half n (slice_index z b) v)) has i h ∙ sym (chosen_bit i h))) tt

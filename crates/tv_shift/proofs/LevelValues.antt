@@ -20,18 +20,22 @@ pub length-values : (k y : ℕ) → length (thermometer_values k y) ≡ products
 length-values zero y = ap length (values-none y)
 length-values (suc k) y =
     let same : k + 1 ≡ suc k = omega arith in
-    ap length (values-more k y) ∙ length-append (thermometer_values k y) (level_values y k) ∙ ap₂ (λ a b. a + b) (length-values k y) (length-each_below (2 ^ k - 1) (level_value y k)) ∙ products-more k ∙ ap products_below same
+    ap length (values-more k y) ∙ length-append (thermometer_values k y) (level_values y k)
+    ∙ ap₂ (λ a b. a + b) (length-values k y) (length-each_below (2 ^ k - 1) (level_value y k)) ∙ products-more k ∙ ap products_below same
 
 module _ {V : Type 0} (m : Giving V) (y : ℕ) where
   pub gives_no_level : (v : V) → GivesAll m v v (thermometer_values 0 y)
   gives_no_level v = rw values-none (gives_nothing m v)
 
-  pub gives_level : (k : ℕ) (old mid new : V) → GivesAll m old mid (thermometer_values k y) → GivesAll m mid new (level_values y k) → GivesAll m old new (thermometer_values (k + 1) y)
+  pub gives_level : (k : ℕ) (old mid new : V) → GivesAll m old mid (thermometer_values k y) → GivesAll m mid new (level_values y k)
+      → GivesAll m old new (thermometer_values (k + 1) y)
   gives_level k old mid new p q = rw (add-one, values-more) (gives_then m (thermometer_values k y) (level_values y k) old mid new p q)
 
-  pub gives_level_refused : (k i : ℕ) (old mid new : V) (fault : SinkFault) → i < k → GivesAll m old mid (thermometer_values i y) → GivesSome m mid new (level_values y i) fault → GivesSome m old new (thermometer_values k y) fault
+  pub gives_level_refused : (k i : ℕ) (old mid new : V) (fault : SinkFault) → i < k → GivesAll m old mid (thermometer_values i y)
+      → GivesSome m mid new (level_values y i) fault → GivesSome m old new (thermometer_values k y) fault
   gives_level_refused zero i old mid new fault h p q = absurd (omega arith)
   gives_level_refused (suc k) i old mid new fault h p q = rw values-more (elim (cases_eq i k) [
-    | inl same ↦ subst (λ n. GivesSome m old new (thermometer_values n y ++ level_values y n) fault) same (gives_then_refused m (thermometer_values i y) (level_values y i) old mid new fault p q)
+    | inl same ↦ subst (λ n. GivesSome m old new (thermometer_values n y ++ level_values y n) fault) same
+        (gives_then_refused m (thermometer_values i y) (level_values y i) old mid new fault p q)
     | inr apart ↦ gives_refused_then m (thermometer_values k y) (level_values y k) old new fault (gives_level_refused k i old mid new fault (omega arith) p q)
   ])

@@ -3,6 +3,7 @@ pub mod HalfLaws
 pub mod LevelValues
 pub mod MarkTerms
 pub mod MaskLaws
+pub mod NormalLaws
 pub mod PowerLaws
 pub mod PowerNumbers
 pub mod RowShiftLaws

@@ -1,5 +1,6 @@
 -- The laws of a part that masks let through.
-use Rattle.std.proofs.Common.{◌≡◌, ℕ, ◌+◌, ◌-◌, ◌*◌, ◌/◌, ◌%◌, ◌^◌, ◌<◌, ◌≤◌, List, [], ◌++◌, inl, inr, refl, sym, subst, ◌∙◌, ap, ap₂, arith, mul-one, mod-eq_of_lt}
+use Rattle.std.proofs.Common.{◌≡◌, ℕ, ◌+◌, ◌-◌, ◌*◌, ◌/◌, ◌%◌, ◌^◌, ◌<◌, ◌≤◌, List, [], ◌++◌, inl, inr, refl, sym, subst, ◌∙◌, ap, ap₂, arith, mul-one}
+use Rattle.std.proofs.Common.{mod-eq_of_lt}
 use Rattle.std.proofs.Math.Nat.{mod-le}
 use Rattle.std.proofs.lemmas.Bool.{cases_lt}
 use Rattle.std.proofs.lemmas.Nat.{pow-add, mul-mod_first}
@@ -42,7 +43,8 @@ low_part n s u short =
     let f : ℕ → ℕ = λ i. 2 ^ i * (below i s * bit_at u i) in
     let whole : s + (n - s) ≡ n = omega arith in
     let first = sum_below-same s f (λ i. 2 ^ i * bit_at u i) (λ i h. ap (λ m. 2 ^ i * (m * bit_at u i)) (below-in i s h) ∙ omega arith) in
-    let rest = sum_below-zeros (n - s) (λ i. f (s + i)) (λ i h. ap (λ m. 2 ^ (s + i) * (m * bit_at u (s + i))) (below-out (s + i) s (omega arith)) ∙ omega arith) in
+    let rest = sum_below-zeros (n - s) (λ i. f (s + i))
+    (λ i h. ap (λ m. 2 ^ (s + i) * (m * bit_at u (s + i))) (below-out (s + i) s (omega arith)) ∙ omega arith) in
     ap (λ k. sum_below k f) (sym whole) ∙ sum_below-add s (n - s) f ∙ ap₂ (λ a b. a + b) (first ∙ picked-bit_at s u) rest ∙ omega arith
 
 -- and the s high bits of a number of n bits are what that leaves for the others
@@ -51,10 +53,13 @@ high_part n s v short small =
     let f : ℕ → ℕ = λ i. 2 ^ i * (below (n - 1 - i) s * bit_at v i) in
     let g : ℕ → ℕ = λ i. 2 ^ i * (below i (n - s) * bit_at v i) in
     let both : (i : ℕ) → i < n → f i + g i ≡ 2 ^ i * bit_at v i = λ i h. elim (cases_lt i (n - s)) [
-      | inl low ↦ ap₂ (λ a b. 2 ^ i * (a * bit_at v i) + 2 ^ i * (b * bit_at v i)) (below-out (n - 1 - i) s (omega arith)) (below-in i (n - s) low) ∙ omega arith
-      | inr high ↦ ap₂ (λ a b. 2 ^ i * (a * bit_at v i) + 2 ^ i * (b * bit_at v i)) (below-in (n - 1 - i) s (omega arith)) (below-out i (n - s) high) ∙ omega arith
+      | inl low ↦ ap₂ (λ a b. 2 ^ i * (a * bit_at v i) + 2 ^ i * (b * bit_at v i)) (below-out (n - 1 - i) s (omega arith)) (below-in i (n - s) low)
+          ∙ omega arith
+      | inr high ↦ ap₂ (λ a b. 2 ^ i * (a * bit_at v i) + 2 ^ i * (b * bit_at v i)) (below-in (n - 1 - i) s (omega arith)) (below-out i (n - s) high)
+          ∙ omega arith
     ] in
-    ap (λ k. sum_below n f + k) (sym (low_part n (n - s) v (omega arith))) ∙ sym (sum_below-plus n f g) ∙ sum_below-same n (λ i. f i + g i) (λ i. 2 ^ i * bit_at v i) both ∙ picked-bit_at n v ∙ mod-eq_of_lt small
+    ap (λ k. sum_below n f + k) (sym (low_part n (n - s) v (omega arith))) ∙ sym (sum_below-plus n f g)
+    ∙ sum_below-same n (λ i. f i + g i) (λ i. 2 ^ i * bit_at v i) both ∙ picked-bit_at n v ∙ mod-eq_of_lt small
 
 -- ---- circuits
 pair-next : (mask digit : ℕ → Combination) (n i at : ℕ) → (masked_pair_of mask digit n i at).next ≡ at + 1
@@ -62,7 +67,8 @@ unfolding masked_pair_of two_ands_of fresh put ◌>>=◌
 pair-next mask digit n i at = refl
 
 turn-next : (mask digit : ℕ → Combination) (n next i : ℕ) → (times i (masked_pair_of mask digit n) next).next ≡ next + i
-turn-next mask digit n next i = turns-next (λ i _. masked_pair_of mask digit n i) tt next 1 i (λ i a at. pair-next mask digit n i at) ∙ ap (λ k. next + k) (mul-one i)
+turn-next mask digit n next i = turns-next (λ i _. masked_pair_of mask digit n i) tt next 1 i (λ i a at. pair-next mask digit n i at)
+    ∙ ap (λ k. next + k) (mul-one i)
 
 pub masked_next : (mask digit : ℕ → Combination) (n next : ℕ) → (masked_of mask digit n next).next ≡ next + n
 unfolding masked_of here pure ◌>>=◌
@@ -70,7 +76,8 @@ masked_next mask digit n next = turn-next mask digit n next n
 
 -- the second bit of a pair is weighed by the square of the circuit's constant
 weight : (w : ℕ) → IsWidth w → (m n : ℕ) → IsBit m → IsBit n → (m + 2 ^ (w / 4 / 2) * 2 ^ (w / 4 / 2) * n) % P ≡ m + 2 ^ (w / 4) * n
-weight = for_widths (λ w. (m n : ℕ) → IsBit m → IsBit n → (m + 2 ^ (w / 4 / 2) * 2 ^ (w / 4 / 2) * n) % P ≡ m + 2 ^ (w / 4) * n) (λ m n h k. omega arith) (λ m n h k. omega arith)
+weight = for_widths (λ w. (m n : ℕ) → IsBit m → IsBit n → (m + 2 ^ (w / 4 / 2) * 2 ^ (w / 4 / 2) * n) % P ≡ m + 2 ^ (w / 4) * n) (λ m n h k. omega arith)
+    (λ m n h k. omega arith)
 
 two_small : (w : ℕ) → IsWidth w → (a b c d : ℕ) → IsBit a → IsBit b → IsBit c → IsBit d → two_ands a b c d (2 ^ (w / 4 / 2)) ≡ a * b + 2 ^ (w / 4) * (c * d)
 two_small w width a b c d p q r s = weight w width (a * b) (c * d) (product_bit a b p q) (product_bit c d r s)
@@ -78,17 +85,21 @@ two_small w width a b c d p q r s = weight w width (a * b) (c * d) (product_bit 
 module _ (w : ℕ) (width : IsWidth w) (z : List ℕ) (assigns : Assigns z) (mask digit : ℕ → Combination) (m d : ℕ → ℕ)
     (mask_is : (i : ℕ) → i < w / 2 → value (mask i) z ≡ m i) (mask_bit : (i : ℕ) → IsBit (m i))
     (digit_is : (i : ℕ) → i < w / 2 → value (digit i) z ≡ d i) (digit_bit : (i : ℕ) → IsBit (d i)) where
-  ands : (i : ℕ) → i < w / 4 → two_ands (value (mask i) z) (value (digit i) z) (value (mask (w / 4 + i)) z) (value (digit (w / 4 + i)) z) (2 ^ (w / 4 / 2)) ≡ m i * d i + 2 ^ (w / 4) * (m (w / 4 + i) * d (w / 4 + i))
+  ands : (i : ℕ) → i < w / 4 → two_ands (value (mask i) z) (value (digit i) z) (value (mask (w / 4 + i)) z) (value (digit (w / 4 + i)) z) (2 ^ (w / 4 / 2))
+      ≡ m i * d i + 2 ^ (w / 4) * (m (w / 4 + i) * d (w / 4 + i))
   ands i h =
-      ap₂ (λ a b. two_ands a b (value (mask (w / 4 + i)) z) (value (digit (w / 4 + i)) z) (2 ^ (w / 4 / 2))) (mask_is i (omega arith)) (digit_is i (omega arith))
+      ap₂ (λ a b. two_ands a b (value (mask (w / 4 + i)) z) (value (digit (w / 4 + i)) z) (2 ^ (w / 4 / 2))) (mask_is i (omega arith))
+      (digit_is i (omega arith))
       ∙ ap₂ (λ a b. two_ands (m i) (d i) a b (2 ^ (w / 4 / 2))) (mask_is (w / 4 + i) (omega arith)) (digit_is (w / 4 + i) (omega arith))
       ∙ two_small w width (m i) (d i) (m (w / 4 + i)) (d (w / 4 + i)) (mask_bit i) (digit_bit i) (mask_bit (w / 4 + i)) (digit_bit (w / 4 + i))
 
-  pair_sound : (i at : ℕ) → i < w / 4 → Meets z (masked_pair_of mask digit (w / 4) i at).list → slice_index z at ≡ m i * d i + 2 ^ (w / 4) * (m (w / 4 + i) * d (w / 4 + i))
+  pair_sound : (i at : ℕ) → i < w / 4 → Meets z (masked_pair_of mask digit (w / 4) i at).list
+      → slice_index z at ≡ m i * d i + 2 ^ (w / 4) * (m (w / 4 + i) * d (w / 4 + i))
   unfolding masked_pair_of fresh ◌>>=◌
   pair_sound i at h meets =
       sym (value-wire assigns at)
-      ∙ two_ands_sound z (at + 1) (mask i) (digit i) (mask (w / 4 + i)) (digit (w / 4 + i)) (2 ^ (w / 4 / 2)) (wire at) assigns (bit_of_mask i (omega arith)) (bit_of_digit i (omega arith)) (bit_of_mask (w / 4 + i) (omega arith)) (bit_of_digit (w / 4 + i) (omega arith)) meets
+      ∙ two_ands_sound z (at + 1) (mask i) (digit i) (mask (w / 4 + i)) (digit (w / 4 + i)) (2 ^ (w / 4 / 2)) (wire at) assigns (bit_of_mask i (omega arith))
+      (bit_of_digit i (omega arith)) (bit_of_mask (w / 4 + i) (omega arith)) (bit_of_digit (w / 4 + i) (omega arith)) meets
       ∙ ands i h
     where
       bit_of_mask : (i : ℕ) → i < w / 2 → IsBit (value (mask i) z)
@@ -97,10 +108,12 @@ module _ (w : ℕ) (width : IsWidth w) (z : List ℕ) (assigns : Assigns z) (mas
       bit_of_digit : (i : ℕ) → i < w / 2 → IsBit (value (digit i) z)
       bit_of_digit i h = omega (arith, digit_is i h, digit_bit i)
 
-  pair_complete : (i at : ℕ) → i < w / 4 → slice_index z at ≡ m i * d i + 2 ^ (w / 4) * (m (w / 4 + i) * d (w / 4 + i)) → Meets z (masked_pair_of mask digit (w / 4) i at).list
+  pair_complete : (i at : ℕ) → i < w / 4 → slice_index z at ≡ m i * d i + 2 ^ (w / 4) * (m (w / 4 + i) * d (w / 4 + i))
+      → Meets z (masked_pair_of mask digit (w / 4) i at).list
   unfolding masked_pair_of fresh ◌>>=◌
   pair_complete i at h is =
-      two_ands_complete z (at + 1) (mask i) (digit i) (mask (w / 4 + i)) (digit (w / 4 + i)) (2 ^ (w / 4 / 2)) (wire at) assigns (bit_of_mask i (omega arith)) (bit_of_digit i (omega arith)) (bit_of_mask (w / 4 + i) (omega arith)) (bit_of_digit (w / 4 + i) (omega arith))
+      two_ands_complete z (at + 1) (mask i) (digit i) (mask (w / 4 + i)) (digit (w / 4 + i)) (2 ^ (w / 4 / 2)) (wire at) assigns (bit_of_mask i (omega arith))
+      (bit_of_digit i (omega arith)) (bit_of_mask (w / 4 + i) (omega arith)) (bit_of_digit (w / 4 + i) (omega arith))
       (value-wire assigns at ∙ is ∙ sym (ands i h))
     where
       bit_of_mask : (i : ℕ) → i < w / 2 → IsBit (value (mask i) z)
@@ -109,7 +122,8 @@ module _ (w : ℕ) (width : IsWidth w) (z : List ℕ) (assigns : Assigns z) (mas
       bit_of_digit : (i : ℕ) → i < w / 2 → IsBit (value (digit i) z)
       bit_of_digit i h = omega (arith, digit_is i h, digit_bit i)
 
-  pub masked_sound : (next : ℕ) → Meets z (masked_of mask digit (w / 4) next).list → value (bits_combination next (w / 4)) z ≡ sum_below (w / 2) (λ i. 2 ^ i * (m i * d i)) % P
+  pub masked_sound : (next : ℕ) → Meets z (masked_of mask digit (w / 4) next).list
+      → value (bits_combination next (w / 4)) z ≡ sum_below (w / 2) (λ i. 2 ^ i * (m i * d i)) % P
   unfolding masked_of here pure ◌>>=◌
   masked_sound next meets =
       let turns = (Meets-split z (times (w / 4) (masked_pair_of mask digit (w / 4)) next).list [] meets).0 in
@@ -119,13 +133,18 @@ module _ (w : ℕ) (width : IsWidth w) (z : List ℕ) (assigns : Assigns z) (mas
       let halves : w / 4 + w / 4 ≡ w / 2 = omega arith in
       let spread : (i a b : ℕ) → 2 ^ i * (a + 2 ^ (w / 4) * b) ≡ 2 ^ i * a + 2 ^ (w / 4 + i) * b = λ i a b. rw (pow-add 2 (w / 4) i) (omega arith) in
       value-weighted next (w / 4) (λ i. 2 ^ i % P) z
-      ∙ sum_below-mod_same (w / 4) (λ i. 2 ^ i % P * slice_index z (next + i)) (λ i. f i + f (w / 4 + i)) P (λ i h. mul-mod_first (2 ^ i) (slice_index z (next + i)) P ∙ ap (λ k. k % P) (ap (λ k. 2 ^ i * k) (each i h) ∙ spread i (m i * d i) (m (w / 4 + i) * d (w / 4 + i))))
+      ∙ sum_below-mod_same (w / 4) (λ i. 2 ^ i % P * slice_index z (next + i)) (λ i. f i + f (w / 4 + i)) P
+      (λ i h. mul-mod_first (2 ^ i) (slice_index z (next + i)) P
+      ∙ ap (λ k. k % P) (ap (λ k. 2 ^ i * k) (each i h) ∙ spread i (m i * d i) (m (w / 4 + i) * d (w / 4 + i))))
       ∙ ap (λ k. k % P) (sum_below-plus (w / 4) f (λ i. f (w / 4 + i)) ∙ sym (sum_below-add (w / 4) (w / 4) f) ∙ ap (λ n. sum_below n f) halves)
 
-  pub masked_complete : (next : ℕ) → ((i : ℕ) → i < w / 4 → slice_index z (next + i) ≡ m i * d i + 2 ^ (w / 4) * (m (w / 4 + i) * d (w / 4 + i))) → Meets z (masked_of mask digit (w / 4) next).list
+  pub masked_complete : (next : ℕ) → ((i : ℕ) → i < w / 4 → slice_index z (next + i) ≡ m i * d i + 2 ^ (w / 4) * (m (w / 4 + i) * d (w / 4 + i)))
+      → Meets z (masked_of mask digit (w / 4) next).list
   unfolding masked_of here pure ◌>>=◌
   masked_complete next each =
-      Meets-join z (times (w / 4) (masked_pair_of mask digit (w / 4)) next).list [] (turns_met z (λ i _. masked_pair_of mask digit (w / 4) i) tt next (w / 4) (λ i h. pair_complete i _ h (rw (turn-next mask digit (w / 4) next i) (each i h)))) tt
+      Meets-join z (times (w / 4) (masked_pair_of mask digit (w / 4)) next).list []
+      (turns_met z (λ i _. masked_pair_of mask digit (w / 4) i) tt next (w / 4)
+      (λ i h. pair_complete i _ h (rw (turn-next mask digit (w / 4) next i) (each i h)))) tt
 
 -- ---- the two parts that fall away
 -- the half that a part is of
@@ -186,27 +205,37 @@ module _ (w : ℕ) (width : IsWidth w) (z : List ℕ) (assigns : Assigns z) (p :
       let low_bit = bit_at-lt (v % 2 ^ (w / 2)) i in
       let high_bit = bit_at-lt (v / 2 ^ (w / 2)) i in
       value-less (wire (p.word + i) ++ wire (p.word + (w / 2 + i))) (wire (p.chosen + i)) z
-      ∙ ap₂ (λ m n. (m + (P - n)) % P) (value-append (wire (p.word + i)) (wire (p.word + (w / 2 + i))) z ∙ ap₂ (λ m n. (m + n) % P) (value-wire assigns (p.word + i) ∙ l) (value-wire assigns (p.word + (w / 2 + i)) ∙ u)) (value-wire assigns (p.chosen + i) ∙ Spells-bit_at chosen i h)
+      ∙ ap₂ (λ m n. (m + (P - n)) % P) (value-append (wire (p.word + i)) (wire (p.word + (w / 2 + i))) z
+      ∙ ap₂ (λ m n. (m + n) % P) (value-wire assigns (p.word + i) ∙ l) (value-wire assigns (p.word + (w / 2 + i)) ∙ u))
+      (value-wire assigns (p.chosen + i) ∙ Spells-bit_at chosen i h)
       ∙ difference (bit_at (v % 2 ^ (w / 2)) i) (bit_at (v / 2 ^ (w / 2)) i) (bit_at (chosen_half (w / 2) b v) i) low_bit high_bit (chosen_digit i)
       ∙ sym (other_digit i)
 
   value-part : (part : Part) (next : ℕ) → Meets z (masked_of (mask_at w p part) (digit_at w p part) (w / 4) next).list
       → value (bits_combination next (w / 4)) z ≡ sum_below (w / 2) (λ i. 2 ^ i * (mask_value w s part i * bit_at (half_of (w / 2) b v part) i)) % P
   value-part part next meets =
-      masked_sound w width z assigns (mask_at w p part) (digit_at w p part) (mask_value w s part) (bit_at (half_of (w / 2) b v part)) (mask-is part) (mask-bit part) (digit-is part) (λ i. bit_at-lt (half_of (w / 2) b v part) i) next meets
+      masked_sound w width z assigns (mask_at w p part) (digit_at w p part) (mask_value w s part) (bit_at (half_of (w / 2) b v part)) (mask-is part)
+      (mask-bit part) (digit-is part) (λ i. bit_at-lt (half_of (w / 2) b v part) i) next meets
 
-  pub part_complete : (part : Part) (next : ℕ) → HasFrom z next (masked_values (mask_value w s part) (half_of (w / 2) b v part) (w / 4)) → Meets z (masked_of (mask_at w p part) (digit_at w p part) (w / 4) next).list
+  pub part_complete : (part : Part) (next : ℕ) → HasFrom z next (masked_values (mask_value w s part) (half_of (w / 2) b v part) (w / 4))
+      → Meets z (masked_of (mask_at w p part) (digit_at w p part) (w / 4) next).list
   part_complete part next has =
-      masked_complete w width z assigns (mask_at w p part) (digit_at w p part) (mask_value w s part) (bit_at (half_of (w / 2) b v part)) (mask-is part) (mask-bit part) (digit-is part) (λ i. bit_at-lt (half_of (w / 2) b v part) i) next
+      masked_complete w width z assigns (mask_at w p part) (digit_at w p part) (mask_value w s part) (bit_at (half_of (w / 2) b v part)) (mask-is part)
+      (mask-bit part) (digit-is part) (λ i. bit_at-lt (half_of (w / 2) b v part) i) next
       (has_each z next (w / 4) (masked_value (mask_value w s part) (half_of (w / 2) b v part) (w / 4)) has)
 
-  pub low_sound : (next : ℕ) → Meets z (masked_of (mask_at w p Low) (digit_at w p Low) (w / 4) next).list → value (bits_combination next (w / 4)) z ≡ chosen_half (w / 2) b v % 2 ^ s
+  pub low_sound : (next : ℕ) → Meets z (masked_of (mask_at w p Low) (digit_at w p Low) (w / 4) next).list
+      → value (bits_combination next (w / 4)) z ≡ chosen_half (w / 2) b v % 2 ^ s
   low_sound next meets =
       let below = mod-le (chosen_half (w / 2) b v) (2 ^ s) in
-      value-part Low next meets ∙ ap (λ k. k % P) (low_part (w / 2) s (chosen_half (w / 2) b v) (omega arith)) ∙ mod-eq_of_lt (half-small _ (omega (arith, chosen-below)))
+      value-part Low next meets ∙ ap (λ k. k % P) (low_part (w / 2) s (chosen_half (w / 2) b v) (omega arith))
+      ∙ mod-eq_of_lt (half-small _ (omega (arith, chosen-below)))
 
-  pub high_sound : (next : ℕ) → Meets z (masked_of (mask_at w p High) (digit_at w p High) (w / 4) next).list → value (bits_combination next (w / 4)) z + other_half (w / 2) b v % 2 ^ (w / 2 - s) ≡ other_half (w / 2) b v
+  pub high_sound : (next : ℕ) → Meets z (masked_of (mask_at w p High) (digit_at w p High) (w / 4) next).list
+      → value (bits_combination next (w / 4)) z + other_half (w / 2) b v % 2 ^ (w / 2 - s) ≡ other_half (w / 2) b v
   high_sound next meets =
       let sum = high_part (w / 2) s (other_half (w / 2) b v) (omega arith) other-below in
-      let part : value (bits_combination next (w / 4)) z ≡ sum_below (w / 2) (λ i. 2 ^ i * (below (w / 2 - 1 - i) s * bit_at (other_half (w / 2) b v) i)) = value-part High next meets ∙ mod-eq_of_lt (half-small _ (omega (arith, other-below))) in
+      let part : value (bits_combination next (w / 4)) z
+      ≡ sum_below (w / 2) (λ i. 2 ^ i * (below (w / 2 - 1 - i) s * bit_at (other_half (w / 2) b v) i)) = value-part High next meets
+      ∙ mod-eq_of_lt (half-small _ (omega (arith, other-below))) in
       ap (λ k. k + other_half (w / 2) b v % 2 ^ (w / 2 - s)) part ∙ sum

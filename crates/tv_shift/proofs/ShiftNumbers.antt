@@ -1,6 +1,7 @@
 -- Shifts of whole numbers.
 use Rattle.std.proofs.Common.{◌≡◌, ◌≢◌, ℕ, ◌+◌, ◌-◌, ◌*◌, ◌/◌, ◌%◌, ◌^◌, ◌<◌, ◌≤◌, inl, inr, refl, sym, ◌∙◌, ap, ap₂, arith, mod-lt, mod-eq_of_lt}
-use Rattle.std.proofs.Math.Nat.{pow-le-pow_right, div-add-mod, div-le_self, div-div-eq-div-mul, add-mul-mod_self_left, mul-div_cancel_left, mod-le, mul-lt-mul_of_pos_left}
+use Rattle.std.proofs.Math.Nat.{pow-le-pow_right, div-add-mod, div-le_self, div-div-eq-div-mul, add-mul-mod_self_left, mul-div_cancel_left, mod-le}
+use Rattle.std.proofs.Math.Nat.{mul-lt-mul_of_pos_left}
 use Rattle.std.proofs.Math.Pow.{mod-mod-pow}
 use Rattle.std.specs.Int.{bit_at}
 use Rattle.tv_bits.proofs.BitLaws.{bit_cases}
@@ -29,9 +30,11 @@ left_low w s x short =
     let split : s + (w - s) ≡ w = omega arith in
     let divided : x ≡ 2 ^ (w - s) * (x / 2 ^ (w - s)) + x % 2 ^ (w - s) = sym (div-add-mod x (2 ^ (w - s))) in
     let power : 2 ^ w ≡ 2 ^ s * 2 ^ (w - s) = ap (λ k. 2 ^ k) (sym split) ∙ pow-add 2 s (w - s) in
-    let moved : (2 ^ (w - s) * (x / 2 ^ (w - s)) + x % 2 ^ (w - s)) * 2 ^ s ≡ 2 ^ s * (x % 2 ^ (w - s)) + 2 ^ s * 2 ^ (w - s) * (x / 2 ^ (w - s)) = omega arith in
+    let moved : (2 ^ (w - s) * (x / 2 ^ (w - s)) + x % 2 ^ (w - s)) * 2 ^ s
+    ≡ 2 ^ s * (x % 2 ^ (w - s)) + 2 ^ s * 2 ^ (w - s) * (x / 2 ^ (w - s)) = omega arith in
     let less : 2 ^ s * (x % 2 ^ (w - s)) < 2 ^ s * 2 ^ (w - s) = mul-lt-mul_of_pos_left (mod-lt x (pow_pos (w - s))) (pow_pos s) in
-    ap₂ (λ a b. a * 2 ^ s % b) divided power ∙ ap (λ n. n % (2 ^ s * 2 ^ (w - s))) moved ∙ add-mul-mod_self_left (2 ^ s * (x % 2 ^ (w - s))) (2 ^ s * 2 ^ (w - s)) (x / 2 ^ (w - s)) ∙ mod-eq_of_lt less
+    ap₂ (λ a b. a * 2 ^ s % b) divided power ∙ ap (λ n. n % (2 ^ s * 2 ^ (w - s))) moved
+    ∙ add-mul-mod_self_left (2 ^ s * (x % 2 ^ (w - s))) (2 ^ s * 2 ^ (w - s)) (x / 2 ^ (w - s)) ∙ mod-eq_of_lt less
 
 -- ---- the word shifted by half a word where b is 1
 module _ (w : ℕ) (width : IsWidth w) (b v : ℕ) (bit : IsBit b) (word : v < 2 ^ w) where
@@ -63,7 +66,8 @@ module _ (w : ℕ) (width : IsWidth w) (b v : ℕ) (bit : IsBit b) (word : v < 2
     | inl none ↦ rw none (let same : w / 2 * 0 + s ≡ s = omega arith in rw same refl)
     | inr one ↦ rw one (
         let rest : w - w / 2 ≡ w / 2 = omega arith in
-        let low : 2 ^ (w / 2) * (v % 2 ^ (w / 2)) ≡ v * 2 ^ (w / 2) % 2 ^ w = ap (λ k. 2 ^ (w / 2) * (v % 2 ^ k)) (sym rest) ∙ sym (left_low w (w / 2) v (omega arith)) in
+        let low : 2 ^ (w / 2) * (v % 2 ^ (w / 2)) ≡ v * 2 ^ (w / 2) % 2 ^ w = ap (λ k. 2 ^ (w / 2) * (v % 2 ^ k)) (sym rest)
+        ∙ sym (left_low w (w / 2) v (omega arith)) in
         let once : w / 2 * 1 + s ≡ w / 2 + s = omega arith in
         let power : 2 ^ (w / 2 * 1 + s) ≡ 2 ^ (w / 2) * 2 ^ s = ap (λ k. 2 ^ k) once ∙ pow-add 2 (w / 2) s in
         let moved : v * 2 ^ (w / 2) * 2 ^ s ≡ v * (2 ^ (w / 2) * 2 ^ s) = omega arith in
@@ -74,7 +78,8 @@ module _ (w : ℕ) (width : IsWidth w) (b v : ℕ) (bit : IsBit b) (word : v < 2
   pub right_whole : (s : ℕ) → half_right (w / 2) b v / 2 ^ s ≡ v / 2 ^ (w / 2 * b + s)
   right_whole s = elim (bit_cases b bit) [
     | inl none ↦ rw none (let same : w / 2 * 0 + s ≡ s = omega arith in rw same refl)
-    | inr one ↦ rw one (div-div-eq-div-mul v (2 ^ (w / 2)) (2 ^ s) ∙ ap (λ k. v / k) (sym (let once : w / 2 * 1 + s ≡ w / 2 + s = omega arith in ap (λ k. 2 ^ k) once ∙ pow-add 2 (w / 2) s)))
+    | inr one ↦ rw one (div-div-eq-div-mul v (2 ^ (w / 2)) (2 ^ s)
+        ∙ ap (λ k. v / k) (sym (let once : w / 2 * 1 + s ≡ w / 2 + s = omega arith in ap (λ k. 2 ^ k) once ∙ pow-add 2 (w / 2) s)))
   ]
 
 -- ---- what the constraints say of the shift by s
@@ -95,7 +100,8 @@ module _ (w : ℕ) (width : IsWidth w) (s : ℕ) (small : s < w / 2) where
         ap (λ k. k % P) same ∙ omega arith
 
     pub right_of : (r : ℕ) → r < P → 2 ^ s * r % P ≡ (x + (P - a)) % P → r ≡ x / 2 ^ s
-    right_of r below e = let quotient = div-le_self x (2 ^ s) in p_cancels_below (2 ^ s) r (x / 2 ^ s) (omega (arith, power-small)) below (omega arith) (e ∙ rest-right) power-apart
+    right_of r below e = let quotient = div-le_self x (2 ^ s) in
+        p_cancels_below (2 ^ s) r (x / 2 ^ s) (omega (arith, power-small)) below (omega arith) (e ∙ rest-right) power-apart
 
     pub of_right : (r : ℕ) → r ≡ x / 2 ^ s → 2 ^ s * r % P ≡ (x + (P - a)) % P
     of_right r is = ap (λ k. 2 ^ s * k % P) is ∙ sym rest-right
@@ -105,11 +111,14 @@ module _ (w : ℕ) (width : IsWidth w) (s : ℕ) (small : s < w / 2) where
       → 2 ^ s * ((x + (P - 2 ^ (w / 2) * t % P)) % P) % P ≡ x * 2 ^ s % 2 ^ w
   rest-left x t word part =
       let split : (w / 2 - s) + w / 2 ≡ w - s = omega arith in
-      let low : x % 2 ^ (w - s) ≡ x / 2 ^ (w / 2) % 2 ^ (w / 2 - s) * 2 ^ (w / 2) + x % 2 ^ (w / 2) = ap (λ k. x % 2 ^ k) (sym split) ∙ mod-pow-add x (w / 2 - s) (w / 2) in
+      let low : x % 2 ^ (w - s) ≡ x / 2 ^ (w / 2) % 2 ^ (w / 2 - s) * 2 ^ (w / 2) + x % 2 ^ (w / 2) = ap (λ k. x % 2 ^ k) (sym split)
+      ∙ mod-pow-add x (w / 2 - s) (w / 2) in
       let same : (x + (P - 2 ^ (w / 2) * t % P)) % P ≡ x % 2 ^ (w - s) =
-      what_is_left (2 ^ (w / 2)) (x / 2 ^ (w / 2)) (x % 2 ^ (w / 2)) t (x / 2 ^ (w / 2) % 2 ^ (w / 2 - s)) x (sym (div-add-mod x (2 ^ (w / 2)))) part (word_small w width x word) ∙ sym low in
+      what_is_left (2 ^ (w / 2)) (x / 2 ^ (w / 2)) (x % 2 ^ (w / 2)) t (x / 2 ^ (w / 2) % 2 ^ (w / 2 - s)) x (sym (div-add-mod x (2 ^ (w / 2)))) part
+      (word_small w width x word) ∙ sym low in
       let below = mod-lt (x * 2 ^ s) (pow_pos w) in
-      ap (λ k. 2 ^ s * k % P) same ∙ ap (λ k. k % P) (sym (left_low w s x (omega arith))) ∙ mod-eq_of_lt (let number = word_small w width (x * 2 ^ s % 2 ^ w) below in omega arith)
+      ap (λ k. 2 ^ s * k % P) same ∙ ap (λ k. k % P) (sym (left_low w s x (omega arith)))
+      ∙ mod-eq_of_lt (let number = word_small w width (x * 2 ^ s % 2 ^ w) below in omega arith)
     where
       -- a number without the part t of its quotient by n
       what_is_left : (n q r t m x : ℕ) → x ≡ n * q + r → t + m ≡ q → x < 2 ^ 32 → (x + (P - n * t % P)) % P ≡ m * n + r
@@ -119,7 +128,8 @@ module _ (w : ℕ) (width : IsWidth w) (s : ℕ) (small : s < w / 2) where
 
 -- ---- the distance
 pub distance_near : (w : ℕ) → IsWidth w → (d : ℕ) → d < 2 ^ w → d / 2 ^ (half_log w + 1) ≡ 0 → w / 2 * bit_at d (half_log w) + d % 2 ^ half_log w ≡ d
-distance_near = for_widths (λ w. (d : ℕ) → d < 2 ^ w → d / 2 ^ (half_log w + 1) ≡ 0 → w / 2 * bit_at d (half_log w) + d % 2 ^ half_log w ≡ d) (λ d word near. omega arith) (λ d word near. omega arith)
+distance_near = for_widths (λ w. (d : ℕ) → d < 2 ^ w → d / 2 ^ (half_log w + 1) ≡ 0 → w / 2 * bit_at d (half_log w) + d % 2 ^ half_log w ≡ d)
+    (λ d word near. omega arith) (λ d word near. omega arith)
 
 pub distance_far : (w : ℕ) → IsWidth w → (d : ℕ) → d / 2 ^ (half_log w + 1) ≢ 0 → w ≤ d
 distance_far = for_widths (λ w. (d : ℕ) → d / 2 ^ (half_log w + 1) ≢ 0 → w ≤ d) (λ d far. omega arith) (λ d far. omega arith)

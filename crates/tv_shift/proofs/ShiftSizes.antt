@@ -25,7 +25,8 @@ use Rattle.tv_shift.proofs.ShiftNumbers.{products_half, half_left-below, half_ri
 use Rattle.tv_shift.proofs.ThermometerLaws.{below-bit, thermometer_next}
 use Rattle.tv_shift.specs.Halves.{chosen_half, other_half, halves_of}
 use Rattle.tv_shift.specs.Masks.{masked_value, masked_values, half_log, mask_at, mask_value, digit_at}
-use Rattle.tv_shift.specs.Shift.{places_of, parts_of, by_half_of, by_rest_of, ends_of, shift_of, places_made, parts_made, shift_made, shift_wires, places_values, parts_values, half_left, half_right, ends_values, shifted_left, shifted_right, shift_values, ShiftSizes}
+use Rattle.tv_shift.specs.Shift.{places_of, parts_of, by_half_of, by_rest_of, ends_of, shift_of, places_made, parts_made, shift_made, shift_wires}
+use Rattle.tv_shift.specs.Shift.{places_values, parts_values, half_left, half_right, ends_values, shifted_left, shifted_right, shift_values, ShiftSizes}
 use Rattle.tv_shift.specs.Thermometer.{below, level_value, level_values, thermometer_values}
 use Rattle.tv_shift.specs.declared.ends.Shift.{Shift}
 use Rattle.tv_shift.specs.declared.masks.Part.{Part}
@@ -74,7 +75,12 @@ module _ (w : ℕ) (width : IsWidth w) (x y : Bits) (next : ℕ) where
   last_from : (zero_of (bits_combination (y.first + (half_log w + 1)) (w - (half_log w + 1))) near.next).next ≡ next + (parts_made w + 6)
   last_from =
       zero_next (bits_combination (y.first + (half_log w + 1)) (w - (half_log w + 1))) near.next
-      ∙ omega (arith, rest_next w parts.answer half.answer half.next, half_next w (y.first + half_log w) x.first parts.next, parts_next w width x.first y.first next)
+      ∙ omega (
+        arith,
+        rest_next w parts.answer half.answer half.next,
+        half_next w (y.first + half_log w) x.first parts.next,
+        parts_next w width x.first y.first next,
+      )
 
 shift_next : (w : ℕ) → IsWidth w → (x y : Bits) (next : ℕ) → (shift_of w x y next).next ≡ next + shift_made w
 unfolding shift_of ◌>>=◌
@@ -129,7 +135,8 @@ mask-bit w s High i = below-bit (w / 2 - 1 - i) s
 
 masked-below : (w : ℕ) → IsWidth w → (part : Part) (s u i : ℕ) → masked_value (mask_value w s part) u (w / 4) i < P
 masked-below w width part s u i =
-    pair (mask_value w s part i) (bit_at u i) (mask_value w s part (w / 4 + i)) (bit_at u (w / 4 + i)) (mask-bit w s part i) (bit_at-lt u i) (mask-bit w s part (w / 4 + i)) (bit_at-lt u (w / 4 + i))
+    pair (mask_value w s part i) (bit_at u i) (mask_value w s part (w / 4 + i)) (bit_at u (w / 4 + i)) (mask-bit w s part i) (bit_at-lt u i)
+    (mask-bit w s part (w / 4 + i)) (bit_at-lt u (w / 4 + i))
   where
     small : (m n : ℕ) → IsBit m → IsBit n → m + 2 ^ (w / 4) * n < P
     small m n h k = grind arith
@@ -157,8 +164,10 @@ parts-below w width v d =
     InField-append (places_values w v d) (low ++ high)
     (InField-append bits (thermometer_values (half_log w) d) (bits_in_field (chosen_half (w / 2) b v) (w / 2)) (levels-below (half_log w) d))
     (InField-append low high
-    (InField-each_below (masked_value (mask_value w s Low) (chosen_half (w / 2) b v) (w / 4)) (λ i. masked-below w width Low s (chosen_half (w / 2) b v) i) (w / 4))
-    (InField-each_below (masked_value (mask_value w s High) (other_half (w / 2) b v) (w / 4)) (λ i. masked-below w width High s (other_half (w / 2) b v) i) (w / 4)))
+    (InField-each_below (masked_value (mask_value w s Low) (chosen_half (w / 2) b v) (w / 4)) (λ i. masked-below w width Low s (chosen_half (w / 2) b v) i)
+    (w / 4))
+    (InField-each_below (masked_value (mask_value w s High) (other_half (w / 2) b v) (w / 4)) (λ i. masked-below w width High s (other_half (w / 2) b v) i)
+    (w / 4)))
 
 -- a word, and what is left of one
 pub word-below : (w : ℕ) → IsWidth w → (n : ℕ) → n < 2 ^ w → n < P
@@ -187,7 +196,8 @@ shift_in_field : (w : ℕ) → IsWidth w → (v d : ℕ) → v < 2 ^ w → d < 2
 shift_in_field w width v d h k =
     let far = zero_values (d / 2 ^ (half_log w + 1)) in
     let last = shifted_left w v d ∷ shifted_right v d ∷ [] in
-    let words : InField last = InField-cons (shifted_left w v d) (shifted_right v d ∷ []) (left-in_field w width v d) (InField-cons (shifted_right v d) [] (right-in_field w width v d h) InField-none) in
+    let words : InField last = InField-cons (shifted_left w v d) (shifted_right v d ∷ []) (left-in_field w width v d)
+    (InField-cons (shifted_right v d) [] (right-in_field w width v d h) InField-none) in
     InField-append (parts_values w v d) (ends_values w v d ++ (far ++ last)) (parts-below w width v d)
     (InField-append (ends_values w v d) (far ++ last) (ends-below w width v d h)
     (InField-append far last (zero_in_field (d / 2 ^ (half_log w + 1))) words))

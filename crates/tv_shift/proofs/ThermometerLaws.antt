@@ -1,5 +1,6 @@
 -- The laws of a thermometer: its marks, and the power of 2 that they add up to.
-use Rattle.std.proofs.Common.{◌≡◌, ℕ, zero, suc, ◌+◌, ◌-◌, ◌*◌, ◌%◌, ◌^◌, ◌<◌, ◌≤◌, List, [], ◌++◌, min, if◌then◌else◌, inl, inr, refl, sym, subst, ◌∙◌, ap, ap₂, arith, mul-one, mod-lt}
+use Rattle.std.proofs.Common.{◌≡◌, ℕ, zero, suc, ◌+◌, ◌-◌, ◌*◌, ◌%◌, ◌^◌, ◌<◌, ◌≤◌, List, [], ◌++◌, min, if◌then◌else◌, inl, inr, refl, sym, subst, ◌∙◌, ap}
+use Rattle.std.proofs.Common.{ap₂, arith, mul-one, mod-lt}
 use Rattle.std.proofs.Math.Nat.{pow-suc, mod-one}
 use Rattle.std.proofs.lemmas.Bool.{cases_lt, lt-ltb, le-ltb}
 use Rattle.std.proofs.lemmas.Nat.{mod-pow-add, pow_pos}
@@ -21,7 +22,8 @@ use Rattle.tv_bits.proofs.BitLaws.{bit_cases}
 use Rattle.tv_shift.proofs.LevelValues.{values-more, length-values}
 use Rattle.tv_shift.proofs.MarkTerms.{products-more, both-in, both-last, mark-none, mark-low, mark-high}
 use Rattle.tv_bits.specs.Times.{times_of}
-use Rattle.tv_shift.specs.Thermometer.{below, products_below, both, mark, level_product_of, level_of, thermometer_of, level_value, level_values, thermometer_values, power_of}
+use Rattle.tv_shift.specs.Thermometer.{below, products_below, both, mark, level_product_of, level_of, thermometer_of, level_value, level_values}
+use Rattle.tv_shift.specs.Thermometer.{thermometer_values, power_of}
 
 -- ---- marks as numbers
 pub below-in : (j s : ℕ) → j < s → below j s ≡ 1
@@ -36,14 +38,26 @@ below-bit j s = elim (cases_lt j s) [ inl h ↦ omega (arith, below-in j s h) | 
 -- one bit more: for the marks of the lower half, and of the higher
 lower-mark : (b j n s : ℕ) → IsBit b → j < n → s < n → below j (b * n + s) ≡ (1 * b + ((P - 1) * (b * below j s) % P + below j s) % P) % P
 lower-mark b j n s bit low small = elim (bit_cases b bit) [
-  | inl none ↦ rw none (elim (cases_lt j s) [ inl h ↦ rw (below-in j s h) (below-in j (0 * n + s) (omega arith)) | inr h ↦ rw (below-out j s h) (below-out j (0 * n + s) (omega arith)) ])
-  | inr one ↦ rw one (elim (cases_lt j s) [ inl h ↦ rw (below-in j s h) (below-in j (1 * n + s) (omega arith)) | inr h ↦ rw (below-out j s h) (below-in j (1 * n + s) (omega arith)) ])
+  | inl none ↦ rw none (elim (cases_lt j s) [
+    | inl h ↦ rw (below-in j s h) (below-in j (0 * n + s) (omega arith))
+    | inr h ↦ rw (below-out j s h)
+        (below-out j (0 * n + s) (omega arith))
+  ])
+  | inr one ↦ rw one (elim (cases_lt j s) [
+    | inl h ↦ rw (below-in j s h) (below-in j (1 * n + s) (omega arith))
+    | inr h ↦ rw (below-out j s h)
+        (below-in j (1 * n + s) (omega arith))
+  ])
 ]
 
 higher-mark : (b j n s : ℕ) → IsBit b → n ≤ j → s < n → below j (b * n + s) ≡ 1 * (b * below (j - n) s) % P
 higher-mark b j n s bit out small = elim (bit_cases b bit) [
   | inl none ↦ rw none (below-out j (0 * n + s) (omega arith) ∙ omega arith)
-  | inr one ↦ rw one (elim (cases_lt (j - n) s) [ inl h ↦ rw (below-in (j - n) s h) (below-in j (1 * n + s) (omega arith)) | inr h ↦ rw (below-out (j - n) s h) (below-out j (1 * n + s) (omega arith)) ])
+  | inr one ↦ rw one (elim (cases_lt (j - n) s) [
+    | inl h ↦ rw (below-in (j - n) s h) (below-in j (1 * n + s) (omega arith))
+    | inr h ↦ rw (below-out (j - n) s h)
+        (below-out j (1 * n + s) (omega arith))
+  ])
 ]
 
 -- ---- circuits: where they end
@@ -52,7 +66,8 @@ unfolding level_product_of times_of fresh put pure ◌>>=◌
 level_product-next bits products k j at = refl
 
 row-next : (bits products k at j : ℕ) → (times j (level_product_of bits products k) at).next ≡ at + j
-row-next bits products k at j = turns-next (λ j _. level_product_of bits products k j) tt at 1 j (λ j a at. level_product-next bits products k j at) ∙ ap (λ n. at + n) (mul-one j)
+row-next bits products k at j = turns-next (λ j _. level_product_of bits products k j) tt at 1 j (λ j a at. level_product-next bits products k j at)
+    ∙ ap (λ n. at + n) (mul-one j)
 
 level-next : (bits products k at : ℕ) → (level_of bits products k at).next ≡ at + (2 ^ k - 1)
 unfolding level_of
@@ -75,29 +90,36 @@ Marks z bits products k s = (j : ℕ) → j < 2 ^ k → value (mark bits product
 
 module _ (z : List ℕ) (assigns : Assigns z) (bits : ℕ) where
   -- the products of one level
-  level_product_sound : (products k j at : ℕ) → Meets z (level_product_of bits products k j at).list → slice_index z at ≡ slice_index z (bits + k) * value (mark bits products k j) z % P
+  level_product_sound : (products k j at : ℕ) → Meets z (level_product_of bits products k j at).list
+      → slice_index z at ≡ slice_index z (bits + k) * value (mark bits products k j) z % P
   unfolding level_product_of times_of fresh put pure ◌>>=◌
   level_product_sound products k j at meets =
       sym (value-wire assigns at) ∙ sym meets.0 ∙ ap (λ n. n * value (mark bits products k j) z % P) (value-wire assigns (bits + k))
 
-  level_product_complete : (products k j at : ℕ) → slice_index z at ≡ slice_index z (bits + k) * value (mark bits products k j) z % P → Meets z (level_product_of bits products k j at).list
+  level_product_complete : (products k j at : ℕ) → slice_index z at ≡ slice_index z (bits + k) * value (mark bits products k j) z % P
+      → Meets z (level_product_of bits products k j at).list
   unfolding level_product_of times_of fresh put pure ◌>>=◌
   level_product_complete products k j at is =
       (ap (λ n. n * value (mark bits products k j) z % P) (value-wire assigns (bits + k)) ∙ sym is ∙ sym (value-wire assigns at), tt)
 
-  level_sound : (products k at : ℕ) → Meets z (level_of bits products k at).list → (j : ℕ) → j < 2 ^ k - 1 → slice_index z (at + j) ≡ slice_index z (bits + k) * value (mark bits products k j) z % P
+  level_sound : (products k at : ℕ) → Meets z (level_of bits products k at).list → (j : ℕ) → j < 2 ^ k - 1
+      → slice_index z (at + j) ≡ slice_index z (bits + k) * value (mark bits products k j) z % P
   unfolding level_of
   level_sound products k at meets j h =
-      rw (row-next bits products k at j) at (level_product_sound products k j _ (turn_met z (λ j _. level_product_of bits products k j) tt at (2 ^ k - 1) j h meets))
+      rw (row-next bits products k at j) at (level_product_sound products k j _
+      (turn_met z (λ j _. level_product_of bits products k j) tt at (2 ^ k - 1) j h meets))
 
-  level_complete : (products k at : ℕ) → ((j : ℕ) → j < 2 ^ k - 1 → slice_index z (at + j) ≡ slice_index z (bits + k) * value (mark bits products k j) z % P) → Meets z (level_of bits products k at).list
+  level_complete : (products k at : ℕ) → ((j : ℕ) → j < 2 ^ k - 1 → slice_index z (at + j) ≡ slice_index z (bits + k) * value (mark bits products k j) z % P)
+      → Meets z (level_of bits products k at).list
   unfolding level_of
   level_complete products k at each =
-      turns_met z (λ j _. level_product_of bits products k j) tt at (2 ^ k - 1) (λ j h. level_product_complete products k j _ (rw (row-next bits products k at j) (each j h)))
+      turns_met z (λ j _. level_product_of bits products k j) tt at (2 ^ k - 1)
+      (λ j h. level_product_complete products k j _ (rw (row-next bits products k at j) (each j h)))
 
   -- from the marks of k bits to those of one more
   module _ (products k s : ℕ) (bit : IsBit (slice_index z (bits + k))) (small : s < 2 ^ k) (marks : Marks z bits products k s)
-      (made : (j : ℕ) → j < 2 ^ k - 1 → slice_index z (products + (products_below k + j)) ≡ slice_index z (bits + k) * value (mark bits products k j) z % P) where
+      (made : (j : ℕ) → j < 2 ^ k - 1 → slice_index z (products + (products_below k + j))
+      ≡ slice_index z (bits + k) * value (mark bits products k j) z % P) where
     product-bit : (j : ℕ) → slice_index z (bits + k) * below j s % P ≡ slice_index z (bits + k) * below j s
     product-bit j = elim (bit_cases (below j s) (below-bit j s)) [ inl a ↦ rw a (omega arith) | inr a ↦ rw a (omega (arith, bit)) ]
 
@@ -105,9 +127,11 @@ module _ (z : List ℕ) (assigns : Assigns z) (bits : ℕ) where
     value-both c j h = elim (cases_lt (j + 1) (2 ^ k)) [
       | inl within ↦
           let wire_is = made j (omega arith) ∙ ap (λ n. slice_index z (bits + k) * n % P) (marks j h) ∙ product-bit j in
-          ap (λ l. value l z) (both-in products c k j within) ∙ value-cons c (products + (products_below k + j)) [] z ∙ ap (λ n. (c * n + 0) % P) wire_is ∙ omega arith
+          ap (λ l. value l z) (both-in products c k j within) ∙ value-cons c (products + (products_below k + j)) [] z ∙ ap (λ n. (c * n + 0) % P) wire_is
+          ∙ omega arith
       | inr last ↦
-          ap (λ l. value l z) (both-last products c k j last) ∙ sym (ap (λ n. c * (slice_index z (bits + k) * n) % P) (below-out j s (omega arith)) ∙ omega arith)
+          ap (λ l. value l z) (both-last products c k j last)
+          ∙ sym (ap (λ n. c * (slice_index z (bits + k) * n) % P) (below-out j s (omega arith)) ∙ omega arith)
     ]
 
     more_marks : Marks z bits products (suc k) (slice_index z (bits + k) * 2 ^ k + s)
@@ -116,7 +140,8 @@ module _ (z : List ℕ) (assigns : Assigns z) (bits : ℕ) where
           let b = slice_index z (bits + k) in
           ap (λ l. value l z) (mark-low bits products k j low)
           ∙ value-cons 1 (bits + k) (both products (P - 1) k j ++ mark bits products k j) z
-          ∙ ap (λ n. (1 * b + n) % P) (value-append (both products (P - 1) k j) (mark bits products k j) z ∙ ap₂ (λ m n. (m + n) % P) (value-both (P - 1) j low) (marks j low))
+          ∙ ap (λ n. (1 * b + n) % P) (value-append (both products (P - 1) k j) (mark bits products k j) z
+          ∙ ap₂ (λ m n. (m + n) % P) (value-both (P - 1) j low) (marks j low))
           ∙ sym (lower-mark b j (2 ^ k) s bit low small)
       | inr high ↦
           let within : j - 2 ^ k < 2 ^ k = omega (arith, pow-suc 2 k) in
@@ -135,11 +160,13 @@ module _ (z : List ℕ) (assigns : Assigns z) (bits : ℕ) where
         let marks = levels_sound k (omega arith) both.0 in
         let bit = Spells-bit_at s k (omega arith) in
         let at = levels-next bits next next k in
-        let made : (j : ℕ) → j < 2 ^ k - 1 → slice_index z (next + (products_below k + j)) ≡ slice_index z (bits + k) * value (mark bits next k j) z % P = λ j h.
+        let made : (j : ℕ) → j < 2 ^ k - 1 → slice_index z (next + (products_below k + j))
+        ≡ slice_index z (bits + k) * value (mark bits next k j) z % P = λ j h.
         let place : next + (products_below k + j) ≡ next + products_below k + j = omega arith in
         ap (λ w. slice_index z w) place ∙ (rw at at (level_sound next k _ both.1 j h)) in
         let one : 1 + k ≡ suc k = omega arith in
-        let number : slice_index z (bits + k) * 2 ^ k + v % 2 ^ k ≡ v % 2 ^ suc k = ap (λ b. b * 2 ^ k + v % 2 ^ k) bit ∙ sym (mod-pow-add v 1 k) ∙ ap (λ m. v % 2 ^ m) one in
+        let number : slice_index z (bits + k) * 2 ^ k + v % 2 ^ k ≡ v % 2 ^ suc k = ap (λ b. b * 2 ^ k + v % 2 ^ k) bit ∙ sym (mod-pow-add v 1 k)
+        ∙ ap (λ m. v % 2 ^ m) one in
         let all = more_marks next k (v % 2 ^ k) (s.bits k (omega arith)) (mod-lt v (pow_pos k)) marks made in
         subst (λ m. Marks z bits next (suc k) m) number all
 
@@ -153,12 +180,18 @@ module _ (z : List ℕ) (assigns : Assigns z) (bits : ℕ) where
         let row = has_each z _ (2 ^ k - 1) (level_value v k) (rw (length-values k v) at two.1) in
         let bit = Spells-bit_at s k (omega arith) in
         let at = levels-next bits next next k in
-        let each : (j : ℕ) → j < 2 ^ k - 1 → slice_index z ((times k (level_of bits next) next).next + j) ≡ slice_index z (bits + k) * value (mark bits next k j) z % P = λ j h.
-        ap (λ w. slice_index z (w + j)) at ∙ row j h ∙ ap₂ (λ b m. b * m) (sym bit) refl ∙ sym (product_small j k) ∙ ap (λ m. slice_index z (bits + k) * m % P) (sym (marks j (omega arith))) in
+        let each : (j : ℕ) → j < 2 ^ k - 1 → slice_index z ((times k (level_of bits next) next).next + j)
+        ≡ slice_index z (bits + k) * value (mark bits next k j) z % P = λ j h.
+        ap (λ w. slice_index z (w + j)) at ∙ row j h ∙ ap₂ (λ b m. b * m) (sym bit) refl ∙ sym (product_small j k)
+        ∙ ap (λ m. slice_index z (bits + k) * m % P) (sym (marks j (omega arith))) in
         whole z (times k (level_of bits next)) (λ _. level_of bits next k) next before (level_complete next k _ each)
       where
         product_small : (j k : ℕ) → slice_index z (bits + k) * below j (v % 2 ^ k) % P ≡ slice_index z (bits + k) * below j (v % 2 ^ k)
-        product_small j k = elim (bit_cases (below j (v % 2 ^ k)) (below-bit j (v % 2 ^ k))) [ inl a ↦ rw a (omega arith) | inr a ↦ rw a (omega (arith, wire-below assigns (bits + k))) ]
+        product_small j k = elim (bit_cases (below j (v % 2 ^ k)) (below-bit j (v % 2 ^ k))) [
+          | inl a ↦ rw a (omega arith)
+          | inr a ↦ rw a
+              (omega (arith, wire-below assigns (bits + k)))
+        ]
 
     pub thermometer_sound : (k : ℕ) → k ≤ n → Meets z (thermometer_of k bits next).list → Marks z bits next k (v % 2 ^ k)
     unfolding thermometer_of here pure ◌>>=◌
@@ -176,6 +209,8 @@ module _ (z : List ℕ) (assigns : Assigns z) (bits : ℕ) where
       let rest = value-power marks s n (λ i h. each i (omega arith)) in
       let last = value-scaled (2 ^ n % P) (marks n) z ∙ ap (λ m. 2 ^ n % P * m % P) (each n (omega arith)) in
       value-append (power_of marks n) (scaled (2 ^ n % P) (marks n)) z ∙ ap₂ (λ a b. (a + b) % P) rest last ∙ elim (cases_lt n s) [
-        | inl h ↦ rw (below-in n s h) (let before : min n s ≡ n = omega arith in let after : min (suc n) s ≡ suc n = omega arith in rw (before, after) (omega (arith, pow-suc 2 n)))
-        | inr h ↦ rw (below-out n s h) (let before : min n s ≡ s = omega arith in let after : min (suc n) s ≡ s = omega arith in rw (before, after) (omega arith))
+        | inl h ↦ rw (below-in n s h) (let before : min n s ≡ n = omega arith in let after : min (suc n) s ≡ suc n = omega arith in
+            rw (before, after) (omega (arith, pow-suc 2 n)))
+        | inr h ↦ rw (below-out n s h) (let before : min n s ≡ s = omega arith in let after : min (suc n) s ≡ s = omega arith in
+            rw (before, after) (omega arith))
       ]

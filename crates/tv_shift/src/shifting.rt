@@ -14,7 +14,7 @@ use tv_bits::{Bits, zero_by};
 use tv_core::{Put, Scratch, Sink, Wire};
 
 /// The word `x` of `W` bits shifted by the word `y`, whatever `y` is: from `W` up both results are
-/// 0. It makes 51 wires and constraints at 32 bits, of 925 terms, and 28 at 16, of 434.
+/// 0. It makes 51 wires and constraints at 32 bits, of 893 terms, and 28 at 16, of 418.
 pub fn shift<const W: u32, S: Sink>(s: &mut S, x: &Bits, y: &Bits) -> Put<Shift>
     requires width { IsWidth W }
     requires room { Room S.meaning s.old (shift_made W) (shift_made W) }

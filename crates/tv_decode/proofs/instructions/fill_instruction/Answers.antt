@@ -13,7 +13,8 @@ returns-in_err-fill_row-clause-gives g c =
     let m = g.V.Values.giving in
     let low = rw (c.from.ensures, c.below_opcode.ensures) at c.in_ok-fill_bits.ensures.gives in
     let row = rw (c.from-2.ensures, c.decode.ensures.fields) at c.in_err-fill_row.ensures.gives in
-    gives_refused m _ _ _ c.from_residual-in_err-fill_row.result c.from_residual-in_err-fill_row.ensures.1 (gives_then_refused m _ _ _ _ _ _ low (gives_refused_then m _ _ _ _ _ row))
+    gives_refused m _ _ _ c.from_residual-in_err-fill_row.result c.from_residual-in_err-fill_row.ensures.1
+    (gives_then_refused m _ _ _ _ _ _ low (gives_refused_then m _ _ _ _ _ row))
 
 pub returns-in_err-fill_bits-2-clause-gives : goal.returns-in_err-fill_bits-2-clause-gives
 returns-in_err-fill_bits-2-clause-gives g c =

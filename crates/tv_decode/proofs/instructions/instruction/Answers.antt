@@ -32,7 +32,8 @@ returns-in_err-one_opcode-clause-puts g c =
     let row = c.in_ok-row.ensures.puts in
     let second = c.in_ok-second.ensures.puts in
     let one_opcode = c.in_err-one_opcode.ensures.puts in
-    refused g.S.Sink.meaning _ _ _ c.from_residual-in_err-one_opcode.result c.from_residual-in_err-one_opcode.ensures.1 (search (chain, low, row, second, one_opcode) depth 7)
+    refused g.S.Sink.meaning _ _ _ c.from_residual-in_err-one_opcode.result c.from_residual-in_err-one_opcode.ensures.1
+    (search (chain, low, row, second, one_opcode) depth 7)
 
 pub returns-in_err-head-clause-puts : goal.returns-in_err-head-clause-puts
 unfolding instruction_of
@@ -42,7 +43,8 @@ returns-in_err-head-clause-puts g c =
     let second = c.in_ok-second.ensures.puts in
     let one_opcode = c.in_ok-one_opcode.ensures.puts in
     let head = rw (c.plus_opcodes.ensures.terms, c.fill.ensures.terms, c.in_ok-low.ensures.size) at c.in_err-head.ensures.puts in
-    refused g.S.Sink.meaning _ _ _ c.from_residual-in_err-head.result c.from_residual-in_err-head.ensures.1 (search (chain, low, row, second, one_opcode, head) depth 8)
+    refused g.S.Sink.meaning _ _ _ c.from_residual-in_err-head.result c.from_residual-in_err-head.ensures.1
+    (search (chain, low, row, second, one_opcode, head) depth 8)
 
 pub returns-in_err-tail-clause-puts : goal.returns-in_err-tail-clause-puts
 unfolding instruction_of
@@ -53,7 +55,8 @@ returns-in_err-tail-clause-puts g c =
     let one_opcode = c.in_ok-one_opcode.ensures.puts in
     let head = rw (c.plus_opcodes.ensures.terms, c.fill.ensures.terms, c.in_ok-low.ensures.size) at c.in_ok-head.ensures.puts in
     let tail = rw (c.fill-2.ensures.terms) at c.in_err-tail.ensures.puts in
-    refused g.S.Sink.meaning _ _ _ c.from_residual-in_err-tail.result c.from_residual-in_err-tail.ensures.1 (search (chain, low, row, second, one_opcode, head, tail) depth 9)
+    refused g.S.Sink.meaning _ _ _ c.from_residual-in_err-tail.result c.from_residual-in_err-tail.ensures.1
+    (search (chain, low, row, second, one_opcode, head, tail) depth 9)
 
 pub returns-clause-puts : goal.returns-clause-puts
 unfolding instruction_of

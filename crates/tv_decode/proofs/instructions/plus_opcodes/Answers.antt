@@ -13,20 +13,32 @@ loop-i-init g c = sym (ap (λ l. c.args.lc.now ++ l) (weighted-zero c.offset-sec
 pub plus-requires : goal.plus-requires
 plus-requires g c =
     let weights : ℕ → ℕ = λ j. opcode_weight g.row.W (j + 1) in
-    omega (arith, ap length c.loop-i.invariant, length-append c.args.lc.now (weighted c.offset-second.result c.loop-i.i weights), length-weighted c.offset-second.result c.loop-i.i weights)
+    omega (
+      arith,
+      ap length c.loop-i.invariant,
+      length-append c.args.lc.now (weighted c.offset-second.result c.loop-i.i weights),
+      length-weighted c.offset-second.result c.loop-i.i weights,
+    )
 
 pub loop-i-preserved : goal.loop-i-preserved
 loop-i-preserved g c =
     let weights : ℕ → ℕ = λ j. opcode_weight g.row.W (j + 1) in
     let term = rw (c.offset.ensures, c.from.ensures, c.opcode_weight.ensures) at c.plus.ensures.terms in
-    rw (add-one, weighted-suc) (term ∙ ap (λ l. l ++ (weights c.loop-i.i, c.offset-second.result + c.loop-i.i) ∷ []) c.loop-i.invariant ∙ append_assoc c.args.lc.now (weighted c.offset-second.result c.loop-i.i weights) _)
+    rw (add-one, weighted-suc) (term ∙ ap (λ l. l ++ (weights c.loop-i.i, c.offset-second.result + c.loop-i.i) ∷ []) c.loop-i.invariant
+    ∙ append_assoc c.args.lc.now (weighted c.offset-second.result c.loop-i.i weights) _)
 
 pub returns-clause-terms : goal.returns-clause-terms
 returns-clause-terms g c =
     let all : c.loop-i.i ≡ 28 = omega arith in
-    c.loop-i.invariant ∙ ap (λ n. c.args.lc.now ++ weighted c.offset-second.result n (λ j. opcode_weight g.row.W (j + 1))) all ∙ ap (λ f. c.args.lc.now ++ weighted f 28 (λ j. opcode_weight g.row.W (j + 1))) c.offset-second.ensures
+    c.loop-i.invariant ∙ ap (λ n. c.args.lc.now ++ weighted c.offset-second.result n (λ j. opcode_weight g.row.W (j + 1))) all
+    ∙ ap (λ f. c.args.lc.now ++ weighted f 28 (λ j. opcode_weight g.row.W (j + 1))) c.offset-second.ensures
 
 pub returns-clause-top : goal.returns-clause-top
 returns-clause-top g c =
     let weights : ℕ → ℕ = λ j. opcode_weight g.row.W (j + 1) in
-    omega (arith, ap top c.loop-i.invariant, top-append c.args.lc.now (weighted c.offset-second.result c.loop-i.i weights), top-weighted c.offset-second.result c.loop-i.i weights)
+    omega (
+      arith,
+      ap top c.loop-i.invariant,
+      top-append c.args.lc.now (weighted c.offset-second.result c.loop-i.i weights),
+      top-weighted c.offset-second.result c.loop-i.i weights,
+    )

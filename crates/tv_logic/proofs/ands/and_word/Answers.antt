@@ -27,7 +27,9 @@ returns-in_err-new_pair-clause-puts g c =
     let piece : ℕ → Unit {0} → Circuit (Unit {0}) = λ i _. new_and_pair_of g.row.W c.args.x.now c.args.y.now i in
     let within : c.loop-i.i < g.row.W / 2 - 1 = omega arith in
     let first = puts_here_as m c.fresh-word.new.self c.wires.result c.wires.ensures in
-    let turn = turn_refused m (g.row.W / 2 - 1) c.loop-i.i piece tt tt c.fresh-word.new.self c.loop-i.s c.new_pair.new.s c.in_err-new_pair.field-0.0 within c.loop-i.invariant.puts c.in_err-new_pair.ensures.puts in
+    let turn = turn_refused m
+    (g.row.W / 2 - 1) c.loop-i.i piece tt tt c.fresh-word.new.self c.loop-i.s c.new_pair.new.s c.in_err-new_pair.field-0.0 within c.loop-i.invariant.puts
+    c.in_err-new_pair.ensures.puts in
     refused m _ _ _ c.from_residual.result c.from_residual.ensures.1 (search (chain, c.fresh-word.ensures.puts, first, turn))
 
 pub returns-in_err-pair-clause-puts : goal.returns-in_err-pair-clause-puts

@@ -15,8 +15,8 @@ returns-clause-puts g c =
     let y = digits_combination 1 c.args.y n in
     let both = digits_combination (P - 2) c.args.row n in
     let one = digits_combination (P - 1) (c.args.row + g.row.W) n in
-    let terms : c.plus_digits-4.new.lc ≡ ((x ++ y) ++ both) ++ one =
+    let terms : c.plus_digits-4.new.lc ≡ ((y ++ x) ++ both) ++ one =
     rw (c.plus_digits-3.ensures.terms, c.plus_digits-2.ensures.terms, c.plus_digits.ensures.terms, c.clear.ensures, c.neg.ensures, c.of.ensures)
     at (rw (c.neg-2.ensures, c.offset.ensures) at c.plus_digits-4.ensures.terms) in
-    let sum : c.plus_digits-4.new.lc ≡ digit_sum g.row.W n c.args.x c.args.y c.args.row = terms ∙ joined x y both one in
+    let sum : c.plus_digits-4.new.lc ≡ digit_sum g.row.W n c.args.x c.args.y c.args.row = terms ∙ joined y x both one in
     rw (sum, c.clear-2.ensures) at c.put.ensures.puts

@@ -18,7 +18,8 @@ returns-in_err-fill_zero-2-clause-gives g c =
     let xors = rw c.from-2.ensures at c.in_err-fill_zero-2.ensures.gives in
     let last : List ℕ = zero_values c.args.nots ++ zero_flag c.args.ors ∷ [] in
     gives_refused m _ _ _ c.from_residual-in_err-fill_zero-2.result c.from_residual-in_err-fill_zero-2.ensures.1
-    (gives_then_refused m (zero_values c.args.ands) (zero_values c.args.xors ++ last) _ _ _ _ ands (gives_refused_then m (zero_values c.args.xors) last _ _ _ xors))
+    (gives_then_refused m (zero_values c.args.ands) (zero_values c.args.xors ++ last) _ _ _ _ ands
+    (gives_refused_then m (zero_values c.args.xors) last _ _ _ xors))
 
 pub returns-in_err-fill_zero-3-clause-gives : goal.returns-in_err-fill_zero-3-clause-gives
 returns-in_err-fill_zero-3-clause-gives g c =

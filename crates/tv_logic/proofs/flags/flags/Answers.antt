@@ -10,18 +10,21 @@ returns-in_err-and_zero-clause-puts g c =
 pub returns-in_err-xor_zero-clause-puts : goal.returns-in_err-xor_zero-clause-puts
 unfolding logic_flags_of
 returns-in_err-xor_zero-clause-puts g c =
-    refused g.S.Sink.meaning _ _ _ c.from_residual-in_err-xor_zero.result c.from_residual-in_err-xor_zero.ensures.1 (search (chain, c.in_ok-and_zero.ensures.puts, c.in_err-xor_zero.ensures.puts))
+    refused g.S.Sink.meaning _ _ _ c.from_residual-in_err-xor_zero.result c.from_residual-in_err-xor_zero.ensures.1
+    (search (chain, c.in_ok-and_zero.ensures.puts, c.in_err-xor_zero.ensures.puts))
 
 pub returns-in_err-not_zero-clause-puts : goal.returns-in_err-not_zero-clause-puts
 unfolding logic_flags_of
 returns-in_err-not_zero-clause-puts g c =
-    refused g.S.Sink.meaning _ _ _ c.from_residual-in_err-not_zero.result c.from_residual-in_err-not_zero.ensures.1 (search (chain, c.in_ok-and_zero.ensures.puts, c.in_ok-xor_zero.ensures.puts, c.in_err-not_zero.ensures.puts))
+    refused g.S.Sink.meaning _ _ _ c.from_residual-in_err-not_zero.result c.from_residual-in_err-not_zero.ensures.1
+    (search (chain, c.in_ok-and_zero.ensures.puts, c.in_ok-xor_zero.ensures.puts, c.in_err-not_zero.ensures.puts))
 
 pub returns-in_err-or_zero-clause-puts : goal.returns-in_err-or_zero-clause-puts
 unfolding logic_flags_of
 returns-in_err-or_zero-clause-puts g c =
     let ors = rw (c.set_wire.ensures.terms, c.set_wire-2.ensures.terms) at c.in_err-or_zero.ensures.puts in
-    refused g.S.Sink.meaning _ _ _ c.from_residual-in_err-or_zero.result c.from_residual-in_err-or_zero.ensures.1 (search (chain, c.in_ok-and_zero.ensures.puts, c.in_ok-xor_zero.ensures.puts, c.in_ok-not_zero.ensures.puts, ors))
+    refused g.S.Sink.meaning _ _ _ c.from_residual-in_err-or_zero.result c.from_residual-in_err-or_zero.ensures.1
+    (search (chain, c.in_ok-and_zero.ensures.puts, c.in_ok-xor_zero.ensures.puts, c.in_ok-not_zero.ensures.puts, ors))
 
 pub returns-clause-puts : goal.returns-clause-puts
 unfolding logic_flags_of

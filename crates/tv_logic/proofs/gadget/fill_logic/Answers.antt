@@ -11,7 +11,8 @@ returns-in_err-fill_words-clause-gives g c =
     let x = c.args.x in
     let y = c.args.y in
     gives_refused m _ _ _ c.from_residual.result c.from_residual.ensures.1
-    (gives_refused_then m (word_values g.row.W x y) (flag_values (bit_and x y) (bit_or x y) (bit_xor x y) (bits_turned g.row.W y)) _ _ _ c.in_err-fill_words.ensures.gives)
+    (gives_refused_then m (word_values g.row.W x y)
+    (flag_values (bit_and x y) (bit_or x y) (bit_xor x y) (bits_turned g.row.W y)) _ _ _ c.in_err-fill_words.ensures.gives)
 
 pub returns-clause-gives : goal.returns-clause-gives
 returns-clause-gives g c =

@@ -10,7 +10,8 @@ returns-in_err-words-clause-puts g c =
 pub returns-in_err-flags-clause-puts : goal.returns-in_err-flags-clause-puts
 unfolding logic_of
 returns-in_err-flags-clause-puts g c =
-    refused g.S.Sink.meaning _ _ _ c.from_residual-in_err-flags.result c.from_residual-in_err-flags.ensures.1 (search (chain, c.in_ok-words.ensures.puts, c.in_err-flags.ensures.puts))
+    refused g.S.Sink.meaning _ _ _ c.from_residual-in_err-flags.result c.from_residual-in_err-flags.ensures.1
+    (search (chain, c.in_ok-words.ensures.puts, c.in_err-flags.ensures.puts))
 
 pub returns-clause-puts : goal.returns-clause-puts
 unfolding logic_of

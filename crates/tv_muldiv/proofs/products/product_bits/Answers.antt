@@ -5,24 +5,39 @@ use Rattle.tv_muldiv.proofs.products.product_bits.Goals as goal
 pub returns-in_err-new_bits_by-clause-puts : goal.returns-in_err-new_bits_by-clause-puts
 unfolding product_bits_of
 returns-in_err-new_bits_by-clause-puts g c =
-    refused g.S.Sink.meaning _ _ _ c.from_residual.result c.from_residual.ensures.1 (search (chain, c.fresh-first.ensures.puts, c.in_err-new_bits_by.ensures.puts))
+    refused g.S.Sink.meaning _ _ _ c.from_residual.result c.from_residual.ensures.1
+    (search (chain, c.fresh-first.ensures.puts, c.in_err-new_bits_by.ensures.puts))
 
 pub returns-in_err-put-clause-puts : goal.returns-in_err-put-clause-puts
 unfolding product_bits_of
 returns-in_err-put-clause-puts g c =
     let lowest = rw (c.set_wire.ensures.terms, c.set_wire-2.ensures.terms, c.set_wire-3.ensures.terms) at c.in_err-put.ensures.puts in
-    refused g.S.Sink.meaning _ _ _ c.from_residual-in_err-put.result c.from_residual-in_err-put.ensures.1 (search (chain, c.fresh-first.ensures.puts, c.in_ok-new_bits_by.ensures.puts, lowest))
+    refused g.S.Sink.meaning _ _ _ c.from_residual-in_err-put.result c.from_residual-in_err-put.ensures.1
+    (search (chain, c.fresh-first.ensures.puts, c.in_ok-new_bits_by.ensures.puts, lowest))
 
 pub returns-in_err-put-2-clause-puts : goal.returns-in_err-put-2-clause-puts
 unfolding product_bits_of
 returns-in_err-put-2-clause-puts g c =
     let lowest = rw (c.set_wire.ensures.terms, c.set_wire-2.ensures.terms, c.set_wire-3.ensures.terms) at c.in_ok-put.ensures.puts in
-    let whole = rw (c.fill.ensures.terms, c.fill-2.ensures.terms, c.fill_long.ensures.terms, c.requires.x_word, c.requires.y_word) at c.in_err-put-2.ensures.puts in
-    refused g.S.Sink.meaning _ _ _ c.from_residual-in_err-put-2.result c.from_residual-in_err-put-2.ensures.1 (search (chain, c.fresh-first.ensures.puts, c.in_ok-new_bits_by.ensures.puts, lowest, whole))
+    let whole = rw (
+      c.fill.ensures.terms,
+      c.fill-2.ensures.terms,
+      c.fill_long.ensures.terms,
+      c.requires.x_word,
+      c.requires.y_word,
+    ) at c.in_err-put-2.ensures.puts in
+    refused g.S.Sink.meaning _ _ _ c.from_residual-in_err-put-2.result c.from_residual-in_err-put-2.ensures.1
+    (search (chain, c.fresh-first.ensures.puts, c.in_ok-new_bits_by.ensures.puts, lowest, whole))
 
 pub returns-clause-puts : goal.returns-clause-puts
 unfolding product_bits_of
 returns-clause-puts g c =
     let lowest = rw (c.set_wire.ensures.terms, c.set_wire-2.ensures.terms, c.set_wire-3.ensures.terms) at c.in_ok-put.ensures.puts in
-    let whole = rw (c.fill.ensures.terms, c.fill-2.ensures.terms, c.fill_long.ensures.terms, c.requires.x_word, c.requires.y_word) at c.in_ok-put-2.ensures.puts in
+    let whole = rw (
+      c.fill.ensures.terms,
+      c.fill-2.ensures.terms,
+      c.fill_long.ensures.terms,
+      c.requires.x_word,
+      c.requires.y_word,
+    ) at c.in_ok-put-2.ensures.puts in
     search (chain, c.fresh-first.ensures.puts, c.in_ok-new_bits_by.ensures.puts, lowest, whole)

@@ -11,5 +11,17 @@ returns-in_err-gate-clause-puts g c =
 pub returns-clause-puts : goal.returns-clause-puts
 unfolding division_of
 returns-clause-puts g c =
-    let whole = rw (c.plus.ensures.terms, c.neg-2.ensures, c.plus_to.ensures.terms, c.neg.ensures, c.fill-3.ensures.terms, c.fill.ensures.terms, c.fill-2.ensures.terms, c.requires.x_word, c.requires.rem_word, c.requires.quot_word, c.requires.y_word) at c.put.ensures.puts in
+    let whole = rw (
+      c.plus.ensures.terms,
+      c.neg-2.ensures,
+      c.plus_to.ensures.terms,
+      c.neg.ensures,
+      c.fill-3.ensures.terms,
+      c.fill.ensures.terms,
+      c.fill-2.ensures.terms,
+      c.requires.x_word,
+      c.requires.rem_word,
+      c.requires.quot_word,
+      c.requires.y_word,
+    ) at c.put.ensures.puts in
     puts_in_then g.S.Sink.meaning _ _ _ _ _ _ _ c.in_ok-gate.ensures.puts whole

@@ -9,7 +9,8 @@ use Rattle.tv_muldiv.proofs.quotients.fill_above.Goals as goal
 pub returns-in_err-fill_bits-clause-gives : goal.returns-in_err-fill_bits-clause-gives
 returns-in_err-fill_bits-clause-gives g c =
     let rem : c.from-rem.result ≡ remainder_in c.args.x c.args.y = c.from-rem.ensures ∙ c.remainder.ensures.word in
-    let above : c.first_difference-above.result ≡ above_in g.row.W c.args.x c.args.y = c.first_difference-above.ensures ∙ ap₂ (first_difference (g.row.W / 4) 4) c.from-y.ensures rem in
+    let above : c.first_difference-above.result ≡ above_in g.row.W c.args.x c.args.y = c.first_difference-above.ensures
+    ∙ ap₂ (first_difference (g.row.W / 4) 4) c.from-y.ensures rem in
     let below = above-below g.row.W c.requires.width c.args.x c.args.y c.requires.y_word in
     let small : above_in g.row.W c.args.x c.args.y < 2 ^ 8 = grind arith in
     let one_less : c.of.result ≡ above_in g.row.W c.args.x c.args.y - 1 = omega (arith, c.of.ensures, c.saturating_sub.ensures) in
@@ -19,7 +20,8 @@ returns-in_err-fill_bits-clause-gives g c =
 pub returns-clause-gives : goal.returns-clause-gives
 returns-clause-gives g c =
     let rem : c.from-rem.result ≡ remainder_in c.args.x c.args.y = c.from-rem.ensures ∙ c.remainder.ensures.word in
-    let above : c.first_difference-above.result ≡ above_in g.row.W c.args.x c.args.y = c.first_difference-above.ensures ∙ ap₂ (first_difference (g.row.W / 4) 4) c.from-y.ensures rem in
+    let above : c.first_difference-above.result ≡ above_in g.row.W c.args.x c.args.y = c.first_difference-above.ensures
+    ∙ ap₂ (first_difference (g.row.W / 4) 4) c.from-y.ensures rem in
     let below = above-below g.row.W c.requires.width c.args.x c.args.y c.requires.y_word in
     let small : above_in g.row.W c.args.x c.args.y < 2 ^ 8 = grind arith in
     let one_less : c.of.result ≡ above_in g.row.W c.args.x c.args.y - 1 = omega (arith, c.of.ensures, c.saturating_sub.ensures) in

@@ -10,12 +10,14 @@ returns-in_err-quot-clause-puts g c =
 pub returns-in_err-rem-clause-puts : goal.returns-in_err-rem-clause-puts
 unfolding quotient_wires_of
 returns-in_err-rem-clause-puts g c =
-    refused g.S.Sink.meaning _ _ _ c.from_residual-in_err-rem.result c.from_residual-in_err-rem.ensures.1 (search (chain, c.in_ok-quot.ensures.puts, c.in_err-rem.ensures.puts))
+    refused g.S.Sink.meaning _ _ _ c.from_residual-in_err-rem.result c.from_residual-in_err-rem.ensures.1
+    (search (chain, c.in_ok-quot.ensures.puts, c.in_err-rem.ensures.puts))
 
 pub returns-in_err-by_zero-clause-puts : goal.returns-in_err-by_zero-clause-puts
 unfolding quotient_wires_of
 returns-in_err-by_zero-clause-puts g c =
-    refused g.S.Sink.meaning _ _ _ c.from_residual-in_err-by_zero.result c.from_residual-in_err-by_zero.ensures.1 (search (chain, c.in_ok-quot.ensures.puts, c.in_ok-rem.ensures.puts, c.in_err-by_zero.ensures.puts))
+    refused g.S.Sink.meaning _ _ _ c.from_residual-in_err-by_zero.result c.from_residual-in_err-by_zero.ensures.1
+    (search (chain, c.in_ok-quot.ensures.puts, c.in_ok-rem.ensures.puts, c.in_err-by_zero.ensures.puts))
 
 pub returns-clause-puts : goal.returns-clause-puts
 unfolding quotient_wires_of

@@ -12,5 +12,11 @@ returns-in_err-above-clause-puts g c =
 pub returns-clause-puts : goal.returns-clause-puts
 unfolding remainder_below_of
 returns-clause-puts g c =
-    let difference = rw (c.plus.ensures.terms, c.neg.ensures, c.plus_one-difference.ensures.terms, c.in_ok-above.ensures.size, bits_sized g.row.W c.args.y.now c.requires.y_word) at c.prefix_difference_by.ensures.puts in
+    let difference = rw (
+      c.plus.ensures.terms,
+      c.neg.ensures,
+      c.plus_one-difference.ensures.terms,
+      c.in_ok-above.ensures.size,
+      bits_sized g.row.W c.args.y.now c.requires.y_word,
+    ) at c.prefix_difference_by.ensures.puts in
     puts_in_then g.S.Sink.meaning _ _ _ _ _ _ _ c.in_ok-above.ensures.puts difference

@@ -31,7 +31,8 @@ returns-in_err-read-clause-puts g c =
     let within : c.loop-i.i < 16 = omega arith in
     let inside : c.loop-i.i < length c.args.regs.now = omega arith in
     let read = rw (c.offset.ensures, get_or_default_zero c.args.regs.now c.loop-i.i c.index-regs-i.result inside) at c.in_err-read.ensures.puts in
-    let turn = turn_refused m 16 c.loop-i.i piece tt tt c.fresh-w.new.self c.loop-i.s c.read.new.s c.in_err-read.field-0.0 within c.loop-i.invariant.puts read in
+    let turn = turn_refused m 16 c.loop-i.i piece tt tt c.fresh-w.new.self c.loop-i.s c.read.new.s c.in_err-read.field-0.0 within c.loop-i.invariant.puts read
+    in
     refused m _ _ _ c.from_residual.result c.from_residual.ensures.1 (search (chain, c.fresh-w.ensures.puts, turn))
 
 pub returns-clause-puts : goal.returns-clause-puts

@@ -36,8 +36,10 @@ returns-in_err-passes-clause-puts g c =
     let within : c.loop-i.i < 16 = omega arith in
     let inside : c.loop-i.i < length c.args.regs.now = omega arith in
     let passes = rw (get_or_default_zero c.args.regs.now c.loop-i.i c.index-regs-i.result inside) at c.in_err-passes.ensures.puts in
-    let turn = turn_refused m 16 c.loop-i.i piece tt tt c.fresh-bend.new.self c.loop-i.s c.passes.new.s c.in_err-passes.field-0.0 within c.loop-i.invariant.puts passes in
-    refused m _ _ _ c.from_residual.result c.from_residual.ensures.1 (search (chain, c.fresh-curve.ensures.puts, c.fresh-slope.ensures.puts, c.fresh-bend.ensures.puts, turn))
+    let turn = turn_refused m 16 c.loop-i.i piece tt tt c.fresh-bend.new.self c.loop-i.s c.passes.new.s c.in_err-passes.field-0.0 within c.loop-i.invariant.puts
+    passes in
+    refused m _ _ _ c.from_residual.result c.from_residual.ensures.1
+    (search (chain, c.fresh-curve.ensures.puts, c.fresh-slope.ensures.puts, c.fresh-bend.ensures.puts, turn))
 
 pub returns-clause-puts : goal.returns-clause-puts
 unfolding curve_of

@@ -12,12 +12,29 @@ pub returns-in_err-put-clause-puts : goal.returns-in_err-put-clause-puts
 unfolding point_of
 returns-in_err-put-clause-puts g c =
     let bend = rw (c.set_wire.ensures.terms, c.offset.ensures) at c.in_ok-bend.ensures.puts in
-    let sides = rw (c.plus.ensures.terms, c.set_wire-2.ensures.terms, c.offset-2.ensures, c.plus-3.ensures.terms, c.plus-2.ensures.terms, c.clear.ensures, c.neg.ensures) at c.in_err-put.ensures.puts in
-    refused g.S.Sink.meaning _ _ _ c.from_residual-in_err-put.result c.from_residual-in_err-put.ensures.1 (search (chain, bend, c.fresh-word.ensures.puts, sides))
+    let sides = rw (
+      c.plus.ensures.terms,
+      c.set_wire-2.ensures.terms,
+      c.offset-2.ensures,
+      c.plus-3.ensures.terms,
+      c.plus-2.ensures.terms,
+      c.clear.ensures,
+      c.neg.ensures,
+    ) at c.in_err-put.ensures.puts in
+    refused g.S.Sink.meaning _ _ _ c.from_residual-in_err-put.result c.from_residual-in_err-put.ensures.1
+    (search (chain, bend, c.fresh-word.ensures.puts, sides))
 
 pub returns-clause-puts : goal.returns-clause-puts
 unfolding point_of
 returns-clause-puts g c =
     let bend = rw (c.set_wire.ensures.terms, c.offset.ensures) at c.in_ok-bend.ensures.puts in
-    let sides = rw (c.plus.ensures.terms, c.set_wire-2.ensures.terms, c.offset-2.ensures, c.plus-3.ensures.terms, c.plus-2.ensures.terms, c.clear.ensures, c.neg.ensures) at c.in_ok-put.ensures.puts in
+    let sides = rw (
+      c.plus.ensures.terms,
+      c.set_wire-2.ensures.terms,
+      c.offset-2.ensures,
+      c.plus-3.ensures.terms,
+      c.plus-2.ensures.terms,
+      c.clear.ensures,
+      c.neg.ensures,
+    ) at c.in_ok-put.ensures.puts in
     search (chain, bend, c.fresh-word.ensures.puts, sides)

@@ -23,7 +23,8 @@ returns-in_err-other_word-clause-puts g c =
     let roots = c.in_ok-roots.ensures.puts in
     let curve = c.in_ok-curve.ensures.puts in
     let other_word = rw c.set_wire.ensures.terms at c.in_err-other_word.ensures.puts in
-    refused g.S.Sink.meaning _ _ _ c.from_residual-in_err-other_word.result c.from_residual-in_err-other_word.ensures.1 (search (chain, roots, curve, other_word) depth 6)
+    refused g.S.Sink.meaning _ _ _ c.from_residual-in_err-other_word.result c.from_residual-in_err-other_word.ensures.1
+    (search (chain, roots, curve, other_word) depth 6)
 
 pub returns-in_err-named_word-clause-puts : goal.returns-in_err-named_word-clause-puts
 unfolding triple_of
@@ -32,7 +33,8 @@ returns-in_err-named_word-clause-puts g c =
     let curve = c.in_ok-curve.ensures.puts in
     let other_word = rw c.set_wire.ensures.terms at c.in_ok-other_word.ensures.puts in
     let named_word = rw c.fill.ensures.terms at c.in_err-named_word.ensures.puts in
-    refused g.S.Sink.meaning _ _ _ c.from_residual-in_err-named_word.result c.from_residual-in_err-named_word.ensures.1 (search (chain, roots, curve, other_word, named_word) depth 7)
+    refused g.S.Sink.meaning _ _ _ c.from_residual-in_err-named_word.result c.from_residual-in_err-named_word.ensures.1
+    (search (chain, roots, curve, other_word, named_word) depth 7)
 
 pub returns-in_err-dest_word-clause-puts : goal.returns-in_err-dest_word-clause-puts
 unfolding triple_of
@@ -42,7 +44,8 @@ returns-in_err-dest_word-clause-puts g c =
     let other_word = rw c.set_wire.ensures.terms at c.in_ok-other_word.ensures.puts in
     let named_word = rw c.fill.ensures.terms at c.in_ok-named_word.ensures.puts in
     let dest_word = rw c.set_wire-2.ensures.terms at c.in_err-dest_word.ensures.puts in
-    refused g.S.Sink.meaning _ _ _ c.from_residual-in_err-dest_word.result c.from_residual-in_err-dest_word.ensures.1 (search (chain, roots, curve, other_word, named_word, dest_word) depth 8)
+    refused g.S.Sink.meaning _ _ _ c.from_residual-in_err-dest_word.result c.from_residual-in_err-dest_word.ensures.1
+    (search (chain, roots, curve, other_word, named_word, dest_word) depth 8)
 
 pub returns-clause-puts : goal.returns-clause-puts
 unfolding triple_of
@@ -55,4 +58,5 @@ returns-clause-puts g c =
     search (chain, roots, curve, other_word, named_word, dest_word) depth 9
 
 pub returns-clause-places : goal.returns-clause-places
-returns-clause-places g c = (returns-clause-puts g c).answers ∙ triple_answer c.args.stores.now (number_of c.args.names.now.dest) (number_of c.args.names.now.source) (number_of c.args.names.now.named) c.args.regs.now _
+returns-clause-places g c = (returns-clause-puts g c).answers
+    ∙ triple_answer c.args.stores.now (number_of c.args.names.now.dest) (number_of c.args.names.now.source) (number_of c.args.names.now.named) c.args.regs.now _

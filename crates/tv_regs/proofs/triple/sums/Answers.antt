@@ -30,7 +30,8 @@ returns-in_err-product-clause-puts g c =
     let pair = rw (c.set_wire.ensures.terms, c.fill-2.ensures.terms) at c.in_ok-pair.ensures.puts in
     let pairs = rw (c.plus-3.ensures.terms, c.fill-2.ensures.terms) at c.in_ok-pairs.ensures.puts in
     let product = rw (c.set_wire-2.ensures.terms, c.set_wire-3.ensures.terms) at c.in_err-product.ensures.puts in
-    refused g.S.Sink.meaning _ _ _ c.from_residual-in_err-product.result c.from_residual-in_err-product.ensures.1 (search (chain, sum, pair, pairs, product) depth 7)
+    refused g.S.Sink.meaning _ _ _ c.from_residual-in_err-product.result c.from_residual-in_err-product.ensures.1
+    (search (chain, sum, pair, pairs, product) depth 7)
 
 pub returns-clause-puts : goal.returns-clause-puts
 unfolding sums_of

@@ -39,7 +39,8 @@ returns-in_err-select_wires-clause-puts g c =
     let inside : c.loop-i.i < length c.args.regs.now = omega arith in
     let write = rw (c.offset.ensures, get_or_default_zero c.args.regs.now c.loop-i.i c.index-regs-i.result inside) at c.in_err-select_wires.ensures.puts in
     let first = puts_here_as m c.fresh-v.new.self c.wires.result c.wires.ensures in
-    let turn = turn_refused m 16 c.loop-i.i piece tt tt c.fresh-v.new.self c.loop-i.s c.select_wires.new.s c.in_err-select_wires.field-0.0 within c.loop-i.invariant.puts (search (chain, write)) in
+    let turn = turn_refused m 16 c.loop-i.i piece tt tt c.fresh-v.new.self c.loop-i.s c.select_wires.new.s c.in_err-select_wires.field-0.0 within
+    c.loop-i.invariant.puts (search (chain, write)) in
     refused m _ _ _ c.from_residual.result c.from_residual.ensures.1 (search (chain, c.fresh-v.ensures.puts, first, turn))
 
 pub returns-in_err-tie-clause-puts : goal.returns-in_err-tie-clause-puts
@@ -49,7 +50,8 @@ returns-in_err-tie-clause-puts g c =
     let all : c.loop-i.i ≡ 16 = omega arith in
     let first = puts_here_as m c.fresh-v.new.self c.wires.result c.wires.ensures in
     let turns = rw all at c.loop-i.invariant.puts in
-    refused m _ _ _ c.from_residual-in_err-tie.result c.from_residual-in_err-tie.ensures.1 (search (chain, c.fresh-v.ensures.puts, first, turns, c.in_err-tie.ensures.puts))
+    refused m _ _ _ c.from_residual-in_err-tie.result c.from_residual-in_err-tie.ensures.1
+    (search (chain, c.fresh-v.ensures.puts, first, turns, c.in_err-tie.ensures.puts))
 
 pub returns-clause-puts : goal.returns-clause-puts
 unfolding write_reg_of

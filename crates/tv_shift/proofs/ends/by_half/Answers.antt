@@ -14,13 +14,26 @@ unfolding by_half_of
 returns-in_err-right-clause-puts g c =
     let m = g.S.Sink.meaning in
     let left = rw (c.terms.ensures.terms, c.fill_times_half.ensures.terms, c.terms-2.ensures.terms, c.lc-x.ensures.terms) at c.in_ok-left.ensures.puts in
-    let right = rw (c.terms-3.ensures.terms, c.fill.ensures.terms, c.terms-4.ensures.terms, c.lc-x.ensures.terms, c.offset.ensures) at c.in_err-right.ensures.puts in
-    refused m _ _ _ c.from_residual-in_err-right.result c.from_residual-in_err-right.ensures.1 (puts_then_refused m _ _ _ _ _ _ _ left (refused_then m _ _ _ _ _ right))
+    let right = rw (
+      c.terms-3.ensures.terms,
+      c.fill.ensures.terms,
+      c.terms-4.ensures.terms,
+      c.lc-x.ensures.terms,
+      c.offset.ensures,
+    ) at c.in_err-right.ensures.puts in
+    refused m _ _ _ c.from_residual-in_err-right.result c.from_residual-in_err-right.ensures.1
+    (puts_then_refused m _ _ _ _ _ _ _ left (refused_then m _ _ _ _ _ right))
 
 pub returns-clause-puts : goal.returns-clause-puts
 unfolding by_half_of
 returns-clause-puts g c =
     let m = g.S.Sink.meaning in
     let left = rw (c.terms.ensures.terms, c.fill_times_half.ensures.terms, c.terms-2.ensures.terms, c.lc-x.ensures.terms) at c.in_ok-left.ensures.puts in
-    let right = rw (c.terms-3.ensures.terms, c.fill.ensures.terms, c.terms-4.ensures.terms, c.lc-x.ensures.terms, c.offset.ensures) at c.in_ok-right.ensures.puts in
+    let right = rw (
+      c.terms-3.ensures.terms,
+      c.fill.ensures.terms,
+      c.terms-4.ensures.terms,
+      c.lc-x.ensures.terms,
+      c.offset.ensures,
+    ) at c.in_ok-right.ensures.puts in
     puts_then m _ _ _ _ _ _ _ left (puts_then m _ _ _ _ _ _ _ right (puts_nothing m _ _))

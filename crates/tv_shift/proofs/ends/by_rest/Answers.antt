@@ -6,20 +6,65 @@ use Rattle.tv_shift.proofs.ends.by_rest.Goals as goal
 pub returns-in_err-left-clause-puts : goal.returns-in_err-left-clause-puts
 unfolding by_rest_of
 returns-in_err-left-clause-puts g c =
-    let left = rw (c.fill_power.ensures.terms, c.half_log.ensures, half_power g.row.W c.requires.width, c.marks-marks.ensures.bits, c.marks-marks.ensures.products, c.minus.ensures.terms, c.set_wire.ensures.terms, c.fill_times_half.ensures.terms) at c.in_err-left.ensures.puts in
+    let left = rw (
+      c.fill_power.ensures.terms,
+      c.half_log.ensures,
+      half_power g.row.W c.requires.width,
+      c.marks-marks.ensures.bits,
+      c.marks-marks.ensures.products,
+      c.minus.ensures.terms,
+      c.set_wire.ensures.terms,
+      c.fill_times_half.ensures.terms,
+    ) at c.in_err-left.ensures.puts in
     refused g.S.Sink.meaning _ _ _ c.from_residual.result c.from_residual.ensures.1 (search (chain, left))
 
 pub returns-in_err-right-clause-puts : goal.returns-in_err-right-clause-puts
 unfolding by_rest_of
 returns-in_err-right-clause-puts g c =
-    let left = rw (c.fill_power.ensures.terms, c.half_log.ensures, half_power g.row.W c.requires.width, c.marks-marks.ensures.bits, c.marks-marks.ensures.products, c.minus.ensures.terms, c.set_wire.ensures.terms, c.fill_times_half.ensures.terms) at c.in_ok-left.ensures.puts in
-    let right = rw (c.fill_power.ensures.terms, c.half_log.ensures, half_power g.row.W c.requires.width, c.marks-marks.ensures.bits, c.marks-marks.ensures.products, c.plus_to.ensures.terms, c.neg.ensures, c.set_wire-2.ensures.terms) at c.in_err-right.ensures.puts in
+    let left = rw (
+      c.fill_power.ensures.terms,
+      c.half_log.ensures,
+      half_power g.row.W c.requires.width,
+      c.marks-marks.ensures.bits,
+      c.marks-marks.ensures.products,
+      c.minus.ensures.terms,
+      c.set_wire.ensures.terms,
+      c.fill_times_half.ensures.terms,
+    ) at c.in_ok-left.ensures.puts in
+    let right = rw (
+      c.fill_power.ensures.terms,
+      c.half_log.ensures,
+      half_power g.row.W c.requires.width,
+      c.marks-marks.ensures.bits,
+      c.marks-marks.ensures.products,
+      c.plus_to.ensures.terms,
+      c.neg.ensures,
+      c.set_wire-2.ensures.terms,
+    ) at c.in_err-right.ensures.puts in
     refused g.S.Sink.meaning _ _ _ c.from_residual-in_err-right.result c.from_residual-in_err-right.ensures.1 (search (chain, left, right))
 
 pub returns-clause-puts : goal.returns-clause-puts
 unfolding by_rest_of
 returns-clause-puts g c =
     let m = g.S.Sink.meaning in
-    let left = rw (c.fill_power.ensures.terms, c.half_log.ensures, half_power g.row.W c.requires.width, c.marks-marks.ensures.bits, c.marks-marks.ensures.products, c.minus.ensures.terms, c.set_wire.ensures.terms, c.fill_times_half.ensures.terms) at c.in_ok-left.ensures.puts in
-    let right = rw (c.fill_power.ensures.terms, c.half_log.ensures, half_power g.row.W c.requires.width, c.marks-marks.ensures.bits, c.marks-marks.ensures.products, c.plus_to.ensures.terms, c.neg.ensures, c.set_wire-2.ensures.terms) at c.in_ok-right.ensures.puts in
+    let left = rw (
+      c.fill_power.ensures.terms,
+      c.half_log.ensures,
+      half_power g.row.W c.requires.width,
+      c.marks-marks.ensures.bits,
+      c.marks-marks.ensures.products,
+      c.minus.ensures.terms,
+      c.set_wire.ensures.terms,
+      c.fill_times_half.ensures.terms,
+    ) at c.in_ok-left.ensures.puts in
+    let right = rw (
+      c.fill_power.ensures.terms,
+      c.half_log.ensures,
+      half_power g.row.W c.requires.width,
+      c.marks-marks.ensures.bits,
+      c.marks-marks.ensures.products,
+      c.plus_to.ensures.terms,
+      c.neg.ensures,
+      c.set_wire-2.ensures.terms,
+    ) at c.in_ok-right.ensures.puts in
     puts_then m _ _ _ _ _ _ _ left (puts_then m _ _ _ _ _ _ _ right (puts_nothing m _ _))

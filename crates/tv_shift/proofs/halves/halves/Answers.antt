@@ -28,7 +28,8 @@ returns-in_err-select_wires-clause-puts g c =
     let m = g.S.Sink.meaning in
     let piece : ℕ → Unit {0} → Circuit (Unit {0}) = λ i _. half_bit_of c.args.n c.args.b c.args.word i in
     let one = rw (c.offset.ensures, c.offset-in-loop-i.ensures) at c.in_err-select_wires.ensures.puts in
-    let turn = turn_refused m c.args.n c.loop-i.i piece tt tt c.args.s.now c.loop-i.s c.select_wires.new.s c.in_err-select_wires.field-0.0 c.loop-i-test.true c.loop-i.invariant.puts (search (chain, one)) in
+    let turn = turn_refused m c.args.n c.loop-i.i piece tt tt c.args.s.now c.loop-i.s c.select_wires.new.s c.in_err-select_wires.field-0.0 c.loop-i-test.true
+    c.loop-i.invariant.puts (search (chain, one)) in
     let first = puts_here_as m c.args.s.now c.wires.result c.wires.ensures in
     refused m _ _ _ c.from_residual.result c.from_residual.ensures.1 (search (chain, first, turn))
 

@@ -7,13 +7,15 @@ use Rattle.tv_shift.proofs.masks.masked.Goals as goal
 
 pub loop-i-init : goal.loop-i-init
 loop-i-init g c = record {
-  puts = puts_no_turn g.S.Sink.meaning _ (λ i _. masked_pair_of (mask_at g.row.W c.args.places.now c.args.part) (digit_at g.row.W c.args.places.now c.args.part) (g.row.W / 4) i) tt;
+  puts = puts_no_turn g.S.Sink.meaning _ (λ i _. masked_pair_of (mask_at g.row.W c.args.places.now c.args.part) (digit_at g.row.W c.args.places.now c.args.part)
+      (g.row.W / 4) i) tt;
   grows = record { wires = omega arith; constraints = omega arith; whole = c.requires.room.whole };
 }
 
 pub loop-i-preserved : goal.loop-i-preserved
 loop-i-preserved g c =
-    let piece : ℕ → Unit {0} → Circuit (Unit {0}) = λ i _. masked_pair_of (mask_at g.row.W c.args.places.now c.args.part) (digit_at g.row.W c.args.places.now c.args.part) (g.row.W / 4) i in
+    let piece : ℕ → Unit {0} → Circuit (Unit {0}) = λ i _. masked_pair_of (mask_at g.row.W c.args.places.now c.args.part)
+    (digit_at g.row.W c.args.places.now c.args.part) (g.row.W / 4) i in
     let grown = c.in_ok-pair.ensures.grows in
     record {
       puts = puts_turn g.S.Sink.meaning _ piece tt _ _ _ _ _ c.loop-i.invariant.puts c.in_ok-pair.ensures.puts;
@@ -24,8 +26,11 @@ pub returns-in_err-pair-clause-puts : goal.returns-in_err-pair-clause-puts
 unfolding masked_of
 returns-in_err-pair-clause-puts g c =
     let m = g.S.Sink.meaning in
-    let piece : ℕ → Unit {0} → Circuit (Unit {0}) = λ i _. masked_pair_of (mask_at g.row.W c.args.places.now c.args.part) (digit_at g.row.W c.args.places.now c.args.part) (g.row.W / 4) i in
-    let turn = turn_refused m (g.row.W / 4) c.loop-i.i piece tt tt c.args.s.now c.loop-i.s c.pair.new.s c.in_err-pair.field-0.0 c.loop-i-test.true c.loop-i.invariant.puts c.in_err-pair.ensures.puts in
+    let piece : ℕ → Unit {0} → Circuit (Unit {0}) = λ i _. masked_pair_of (mask_at g.row.W c.args.places.now c.args.part)
+    (digit_at g.row.W c.args.places.now c.args.part) (g.row.W / 4) i in
+    let turn = turn_refused m
+    (g.row.W / 4) c.loop-i.i piece tt tt c.args.s.now c.loop-i.s c.pair.new.s c.in_err-pair.field-0.0 c.loop-i-test.true c.loop-i.invariant.puts
+    c.in_err-pair.ensures.puts in
     let first = puts_here_as m c.args.s.now c.wires.result c.wires.ensures in
     refused m _ _ _ c.from_residual.result c.from_residual.ensures.1 (search (chain, first, turn))
 

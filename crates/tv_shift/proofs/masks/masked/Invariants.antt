@@ -6,6 +6,7 @@ use Rattle.tv_shift.proofs.masks.masked.Given as goal
 
 abbrev pub invariant-loop-i : goal.invariant-loop-i
 invariant-loop-i g l = record {
-  puts : PutsAll g.S.Sink.meaning l.initial.s l.s (times l.i (masked_pair_of (mask_at g.row.W l.places l.part) (digit_at g.row.W l.places l.part) (g.row.W / 4))) tt;
+  puts : PutsAll g.S.Sink.meaning l.initial.s l.s
+      (times l.i (masked_pair_of (mask_at g.row.W l.places l.part) (digit_at g.row.W l.places l.part) (g.row.W / 4))) tt;
   grows : Grows g.S.Sink.meaning l.initial.s l.s l.i l.i;
 }

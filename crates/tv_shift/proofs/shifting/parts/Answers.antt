@@ -10,12 +10,14 @@ returns-in_err-places-clause-puts g c =
 pub returns-in_err-low-clause-puts : goal.returns-in_err-low-clause-puts
 unfolding parts_of
 returns-in_err-low-clause-puts g c =
-    refused g.S.Sink.meaning _ _ _ c.from_residual-in_err-low.result c.from_residual-in_err-low.ensures.1 (search (chain, c.in_ok-places.ensures.puts, c.in_err-low.ensures.puts))
+    refused g.S.Sink.meaning _ _ _ c.from_residual-in_err-low.result c.from_residual-in_err-low.ensures.1
+    (search (chain, c.in_ok-places.ensures.puts, c.in_err-low.ensures.puts))
 
 pub returns-in_err-high-clause-puts : goal.returns-in_err-high-clause-puts
 unfolding parts_of
 returns-in_err-high-clause-puts g c =
-    refused g.S.Sink.meaning _ _ _ c.from_residual-in_err-high.result c.from_residual-in_err-high.ensures.1 (search (chain, c.in_ok-places.ensures.puts, c.in_ok-low.ensures.puts, c.in_err-high.ensures.puts))
+    refused g.S.Sink.meaning _ _ _ c.from_residual-in_err-high.result c.from_residual-in_err-high.ensures.1
+    (search (chain, c.in_ok-places.ensures.puts, c.in_ok-low.ensures.puts, c.in_err-high.ensures.puts))
 
 pub returns-clause-puts : goal.returns-clause-puts
 unfolding parts_of

@@ -28,7 +28,9 @@ returns-in_err-times_by-clause-puts g c =
     let piece : ℕ → Unit {0} → Circuit (Unit {0}) = λ j _. level_product_of c.args.marks.now.bits c.args.marks.now.products c.args.k j in
     let within : c.loop-j.j < 2 ^ c.args.k - 1 = omega arith in
     let one = rw (c.set_wire.ensures.terms, c.offset.ensures, c.fill_mark.ensures.terms) at c.in_err-times_by.ensures.puts in
-    let turn = turn_refused m (2 ^ c.args.k - 1) c.loop-j.j piece tt tt c.args.s.now c.loop-j.s c.times_by.new.s c.in_err-times_by.field-0.0 within c.loop-j.invariant.puts (search (chain, one)) in
+    let turn = turn_refused m
+    (2 ^ c.args.k - 1) c.loop-j.j piece tt tt c.args.s.now c.loop-j.s c.times_by.new.s c.in_err-times_by.field-0.0 within c.loop-j.invariant.puts
+    (search (chain, one)) in
     refused m _ _ _ c.from_residual.result c.from_residual.ensures.1 turn
 
 pub returns-clause-puts : goal.returns-clause-puts

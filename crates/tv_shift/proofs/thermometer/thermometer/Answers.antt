@@ -18,7 +18,11 @@ loop-i-preserved g c =
     let grown = c.in_ok-level.ensures.grows in
     record {
       puts = puts_turn g.S.Sink.meaning _ piece tt _ _ _ _ _ c.loop-i.invariant.puts c.in_ok-level.ensures.puts;
-      grows = record { wires = omega (arith, grown.wires, products-more c.loop-i.i); constraints = omega (arith, grown.constraints, products-more c.loop-i.i); whole = grown.whole };
+      grows = record {
+        wires = omega (arith, grown.wires, products-more c.loop-i.i);
+        constraints = omega (arith, grown.constraints, products-more c.loop-i.i);
+        whole = grown.whole;
+      };
     }
 
 pub returns-in_err-level-clause-puts : goal.returns-in_err-level-clause-puts
@@ -26,7 +30,8 @@ unfolding thermometer_of
 returns-in_err-level-clause-puts g c =
     let m = g.S.Sink.meaning in
     let piece : ℕ → Unit {0} → Circuit (Unit {0}) = λ i _. level_of c.args.bits c.wires.result i in
-    let turn = turn_refused m c.args.k c.loop-i.i piece tt tt c.args.s.now c.loop-i.s c.level.new.s c.in_err-level.field-0.0 c.loop-i-test.true c.loop-i.invariant.puts c.in_err-level.ensures.puts in
+    let turn = turn_refused m c.args.k c.loop-i.i piece tt tt c.args.s.now c.loop-i.s c.level.new.s c.in_err-level.field-0.0 c.loop-i-test.true
+    c.loop-i.invariant.puts c.in_err-level.ensures.puts in
     let first = puts_here_as m c.args.s.now c.wires.result c.wires.ensures in
     refused m _ _ _ c.from_residual.result c.from_residual.ensures.1 (search (chain, first, turn))
 

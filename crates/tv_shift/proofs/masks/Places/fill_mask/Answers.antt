@@ -7,4 +7,5 @@ returns-in-Low-clause-terms g c = rw c.in-Low.is (rw (c.marks.ensures.bits, c.ma
 
 pub returns-in-High-clause-terms : goal.returns-in-High-clause-terms
 unfolding mask_at
-returns-in-High-clause-terms g c = rw c.in-High.is (rw (c.marks-in-High.ensures.bits, c.marks-in-High.ensures.products, c.half_log-in-High.ensures) at c.fill_mark-in-High.ensures.terms)
+returns-in-High-clause-terms g c = rw c.in-High.is
+    (rw (c.marks-in-High.ensures.bits, c.marks-in-High.ensures.products, c.half_log-in-High.ensures) at c.fill_mark-in-High.ensures.terms)

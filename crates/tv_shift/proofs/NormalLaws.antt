@@ -1,0 +1,108 @@
+-- The power of a distance, and the shifts on a row, put normal combinations.
+use Rattle.std.proofs.Common.{ℕ, ◌+◌, ◌-◌, ◌*◌, ◌%◌, ◌^◌, ◌<◌, ◌≤◌, [], ◌∷◌, arith}
+use Rattle.tv_bits.proofs.NormalLaws.{wire_normal, row_number_normal}
+use Rattle.tv_bits.specs.DoubleRow.{row_number}
+use Rattle.tv_bits.specs.Gate.{gated_of}
+use Rattle.tv_bits.specs.Times.{times_of}
+use Rattle.tv_bits.specs.declared.bit_wires.Bits.{Bits}
+use Rattle.tv_bits.specs.declared.double_rows.DoubleRow.{DoubleRow}
+use Rattle.tv_core.specs.Circuits.{fresh, put, pure, ◌>>=◌}
+use Rattle.tv_core.specs.Combinations.{wire, less}
+use Rattle.tv_core.specs.Constraints.{Combination}
+use Rattle.tv_core.specs.Normal.{IsNormal, IsNormalConstraint, AreNormal}
+use Rattle.tv_core.specs.declared.field.TheConstants.{P}
+use Rattle.tv_shift.specs.Power.{factor_by, pair_power, low_power_of, wide_power_of, shift_power_of}
+use Rattle.tv_shift.specs.RowShift.{raised, left_shift_of, right_shift_of}
+use Rattle.tv_word.proofs.WidthLaws.{for_widths}
+use Rattle.tv_word.specs.Widths.{IsWidth}
+
+-- ---- combinations
+factor_normal : (k b : ℕ) → 1 < k → k ≤ P → 0 < b → IsNormal (factor_by k b)
+factor_normal k b more small above = (omega arith, omega arith, omega arith, (omega arith, omega arith, omega arith, tt))
+
+pair_normal : (a product : ℕ) → 0 < a → a + 1 < product → IsNormal (pair_power a (a + 1) product)
+pair_normal a product above before = (
+  omega arith,
+  omega arith,
+  omega arith,
+  (omega arith, omega arith, omega arith, (omega arith, omega arith, omega arith, (omega arith, omega arith, omega arith, tt))),
+)
+
+-- ---- the power
+low_normal : (y next : ℕ) → 0 < y → y + 4 ≤ next → AreNormal (low_power_of y next).list
+unfolding low_power_of times_of fresh put pure ◌>>=◌
+low_normal y next above within = (
+  record { a = wire_normal 0 y (omega arith); b = wire_normal 0 (y + 1) (omega arith); c = wire_normal 0 next (omega arith) },
+  (
+    record {
+      a = factor_normal 16 (y + 2) (omega arith) (omega arith) (omega arith);
+      b = factor_normal 256 (y + 3) (omega arith) (omega arith) (omega arith);
+      c = wire_normal 0 (next + 1) (omega arith);
+    },
+    (record { a = pair_normal y next above (omega arith); b = wire_normal 0 (next + 1) (omega arith); c = wire_normal 0 (next + 1 + 1) (omega arith) }, tt),
+  ),
+)
+
+wide_normal : (y next : ℕ) → 0 < y → y + 5 ≤ next → AreNormal (wide_power_of y next).list
+unfolding wide_power_of low_power_of times_of fresh put pure ◌>>=◌
+wide_normal y next above within =
+    let low = low_normal y next above (omega arith) in
+    let last = factor_normal 65536 (y + 4) (omega arith) (omega arith) (omega arith) in (
+      low.0,
+      (
+        low.1.0,
+        (
+          low.1.1.0,
+          (
+            record { a = wire_normal 0 (next + 1 + 1) (omega arith); b = last; c = wire_normal 0 (next + 1 + 1 + 1) (omega arith) },
+            tt,
+          ),
+        ),
+      ),
+    )
+
+abbrev power_at : ℕ → Type 0
+power_at w = (y : Bits) (next : ℕ) → 0 < y.first → y.first + w ≤ next → AreNormal (shift_power_of w y next).list
+
+power_16 : power_at 16
+unfolding shift_power_of
+power_16 y next above within = low_normal y.first next above (omega arith)
+
+power_32 : power_at 32
+unfolding shift_power_of
+power_32 y next above within = wide_normal y.first next above (omega arith)
+
+pub shift_power_normal : (w : ℕ) → IsWidth w → (y : Bits) (next : ℕ) → 0 < y.first → y.first + w ≤ next → AreNormal (shift_power_of w y next).list
+shift_power_normal = for_widths power_at power_16 power_32
+
+-- ---- the row
+raise_some : (w : ℕ) → IsWidth w → 0 < 2 ^ w % P
+raise_some w width = grind arith
+
+pub left_shift_normal : (w : ℕ) → IsWidth w → (gate : Combination) (v power : ℕ) (row : DoubleRow) (next : ℕ) → IsNormal gate
+    → row.low < row.high → row.high < next → AreNormal (left_shift_of w gate v power row next).list
+unfolding left_shift_of gated_of times_of fresh put pure ◌>>=◌
+left_shift_normal w width gate v power row next g rises before =
+    let difference : IsNormal (less (row_number w row) (wire next)) = (
+      omega arith,
+      omega arith,
+      omega arith,
+      (omega arith, raise_some w width, omega arith, (omega arith, omega arith, omega arith, tt)),
+    ) in (
+      record { a = wire_normal 0 v (omega arith); b = wire_normal 0 power (omega arith); c = wire_normal 0 next (omega arith) },
+      (record { a = g; b = difference; c = tt }, tt),
+    )
+
+pub right_shift_normal : (w : ℕ) → IsWidth w → (gate : Combination) (v power : ℕ) (row : DoubleRow) (next : ℕ) → IsNormal gate
+    → row.low < row.high → v < next → AreNormal (right_shift_of w gate v power row next).list
+unfolding right_shift_of gated_of times_of fresh put pure ◌>>=◌
+right_shift_normal w width gate v power row next g rises before =
+    let difference : IsNormal (less (raised w v) (wire next)) = (
+      omega arith,
+      raise_some w width,
+      omega arith,
+      (omega arith, omega arith, omega arith, tt),
+    ) in (
+      record { a = row_number_normal 0 w width row (omega arith) rises; b = wire_normal 0 power (omega arith); c = wire_normal 0 next (omega arith) },
+      (record { a = g; b = difference; c = tt }, tt),
+    )
