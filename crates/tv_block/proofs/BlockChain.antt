@@ -80,7 +80,7 @@ module _ (w n : ℕ) (state : StateWires) (at : ℕ) where
 
   -- ---- where they begin, and where the last one ends
   module _ (width : IsWidth w) where
-    registers_begin : instruction.next ≡ at + registers_at w
+    pub registers_begin : instruction.next ≡ at + registers_at w
     registers_begin = instruction_sizes.end w width at
 
     pub operand_begins : triple.next ≡ at + operand_at w
@@ -105,7 +105,7 @@ module _ (w n : ℕ) (state : StateWires) (at : ℕ) where
     pub memory_begins : tapes.next ≡ at + memory_at w
     memory_begins = let e = tapes_sizes.end w n state op operand.answer.bits made.next in omega (arith, tapes_begin, e)
 
-    results_begin : memory.next ≡ at + results_at w
+    pub results_begin : memory.next ≡ at + results_at w
     results_begin =
         let e = memory_sizes.end w width state op operand.answer.bits (data_of made.answer triple.answer.other_word) tapes.answer tapes.next in
         omega (arith, memory_begins, e)

@@ -53,7 +53,8 @@ use Rattle.tv_parts.specs.declared.records.StateWires.{StateWires}
 use Rattle.tv_block.proofs.BlockChain.{instruction, op, triple, operand, test, made, tapes, memory, results, zero, written, flag, pc}
 use Rattle.tv_block.proofs.BlockLaws.{state_sixteen, register_word, other_below, Before, operand_in, tapes_in, memory_in, results_in, zero_word, step_in}
 use Rattle.tv_block.proofs.PartLaws.{used_again, opcode_of_row, op_below, dest_below, source_below, among_each, AreRegisters, registers_sound}
-use Rattle.tv_block.proofs.PartLaws.{sign_value, within_word}
+use Rattle.tv_block.proofs.PartLaws.{sign_value}
+use Rattle.tv_parts.proofs.ShiftTests.{below_width}
 use Rattle.tv_block.specs.Block.{computed_of, data_of, sources_of, effects_of, block_of, did, IsStep}
 use Rattle.tv_block.specs.Complete.{BlockIsComplete}
 use Rattle.tv_block.specs.Values.{row_low, row_high, tested_in, test_in, effects_values, other_register, block_values}
@@ -78,7 +79,7 @@ test_shift : (w n : ℕ) (v : View) (i : Instr) (low high : ℕ) (takes : Bool) 
     → test_in w n v i low high takes ≡ flag_of (nat_lt (operand_word v i) w)
 test_shift w n v i low high takes width e =
     among_each (λ k. test_by w n v i low high takes k ≡ (if operand_word v i / 2 ^ place_bits w == 0 then 1 else 0)) shift_ops (refl, (refl, tt)) i.op e
-    ∙ within_word w width (operand_word v i)
+    ∙ below_width w width (operand_word v i)
 
 test_division : (w n : ℕ) (v : View) (i : Instr) (low high : ℕ) (takes : Bool) → among division_ops i.op ≡ true
     → test_in w n v i low high takes ≡ flag_of (operand_word v i == 0)

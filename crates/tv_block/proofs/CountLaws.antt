@@ -1,9 +1,11 @@
 -- What a step costs: its constraints, their terms, and the terms of its lines.
-use Rattle.std.proofs.Common.{◌≡◌, ℕ, ◌+◌, ◌-◌, ◌*◌, ◌/◌, ◌^◌, ◌≤◌, length, All, refl, arith}
+use Rattle.std.proofs.Common.{◌≡◌, ℕ, ◌+◌, ◌-◌, ◌*◌, ◌/◌, ◌^◌, ◌≤◌, ◌==◌, if◌then◌else◌, Bool, true, false, length, All, refl, ap, arith}
+use Rattle.tv_bits.proofs.NormalLaws.{bits_normal_plain, bits_top}
 use Rattle.tv_bits.proofs.ZeroSignLaws.{zero_sign_sizes, zero_sign_costs}
 use Rattle.tv_bits.specs.ZeroSign.{zero_sign_of}
 use Rattle.tv_core.specs.Below.{weighted}
 use Rattle.tv_core.specs.Circuits.{fresh}
+use Rattle.tv_core.specs.Combinations.{top}
 use Rattle.tv_core.specs.declared.lines.LineLc.{LineLc}
 use Rattle.tv_decode.proofs.InstructionLaws.{instruction_sizes, instruction_costs}
 use Rattle.tv_decode.specs.Instructions.{instruction_of, dest_bits, source_bits, register_bits, number_of}
@@ -18,7 +20,7 @@ use Rattle.tv_parts.proofs.MemoryFills.{memory_sizes, memory_costs}
 use Rattle.tv_parts.proofs.OperandLaws.{operand_sizes, operand_cost_laws}
 use Rattle.tv_parts.proofs.PcFills.{pc_sizes, pc_costs}
 use Rattle.tv_parts.proofs.ResultFills.{results_sizes, results_costs}
-use Rattle.tv_parts.proofs.Sized.{Sized, sized_then, sized_pure, sized_as}
+use Rattle.tv_parts.proofs.Sized.{Sized, SizedAt, sized_then, sized_to, sized_from, sized_pure, sized_as}
 use Rattle.tv_parts.proofs.TapeFills.{tapes_sizes, tapes_costs}
 use Rattle.tv_parts.proofs.WrittenFills.{written_sizes, written_costs}
 use Rattle.tv_parts.specs.Arithmetic.{arithmetic_of}
@@ -44,22 +46,33 @@ fresh_sized : Sized fresh 1 0 0
 unfolding fresh
 fresh_sized = record { end = λ next. refl; count = λ next. refl; size = λ next. refl }
 
+-- the tapes' terms, and those that are missing where there is no word
+both_terms : (none : Bool) → (if none then 23 else 25) + (if none then 2 else 0) ≡ 25
+both_terms true = refl
+both_terms false = refl
+
 module _ (w : ℕ) (width : IsWidth w) where
   -- ---- what a step works out
   instruction_sized : Sized (instruction_of w) (2 * w + 26) (2 * w + 27) (8 * w + 130)
   instruction_sized = record { end = instruction_sizes.end w width; count = instruction_costs.constraints w width; size = instruction_costs.terms w width }
 
-  registers_sized : (state : StateWires) (i : InstructionWires) → Sized (registers_of w state i) 31 28 212
+  -- the bits of the source's number are before the registers that are read
+  registers_sized : (state : StateWires) (at : ℕ) → SizedAt (registers_of w state (instruction_of w at).answer) (instruction_of w at).next 31 28 212
   unfolding weighted
-  registers_sized state i =
+  registers_sized state at =
+      let i = (instruction_of w at).answer in
+      let next = (instruction_of w at).next in
       let stores = opcode_sum i.op store_ops in
       let target = number_of (dest_bits w i) in
       let source = number_of (source_bits w i) in
       let named = number_of (register_bits i) in
+      let first : i.low.first ≡ at = ap (λ (i : InstructionWires). i.low.first) (instruction_sizes.answer w at) in
+      let last = instruction_sizes.end w width at in
+      let below : top source ≤ next = omega (arith, bits_top (i.low.first + (w - 14)) 4, first, last, width) in
       record {
-        end = triple_sizes.end stores target source named state.regs;
-        count = triple_costs.constraints stores target source named state.regs;
-        size = triple_costs.terms stores target source named state.regs;
+        end = triple_sizes.end stores target source named state.regs next;
+        count = triple_costs.constraints stores target source named state.regs next;
+        size = triple_costs.terms stores target source named state.regs next (bits_normal_plain (i.low.first + (w - 14)) 4 (omega arith)) below;
       }
 
   operand_sized : (imm tail register : ℕ) → Sized (operand_of w imm tail register) (w + 1) (w + 2) (4 * w + 7)
@@ -81,17 +94,20 @@ module _ (w : ℕ) (width : IsWidth w) where
   unfolding computed_of
   computed_sized state =
       sized_as (computed_of w state) _ _ _ (6 * w + w / 16 + 71) (6 * w + w / 16 + 79) (28 * w + w / 4 + 451)
-      (sized_then (instruction_of w) _ _ _ _ _ _ _ instruction_sized
-      (λ a. sized_then (registers_of w state (instruction_of w a).answer) _ _ _ _ _ _ _ (registers_sized state (instruction_of w a).answer)
-      (λ b. sized_then (operand_of w _ _ _) _ _ _ _ _ _ _ (operand_sized _ _ _)
+      (sized_to (instruction_of w) _ _ _ _ _ _ _ instruction_sized
+      (λ a. sized_from (registers_of w state (instruction_of w a).answer) _ (instruction_of w a).next _ _ _ _ _ _ (registers_sized state a)
+      (sized_then (operand_of w _ _ _) _ _ _ _ _ _ _ (operand_sized _ _ _)
       (λ c. sized_then fresh _ _ _ _ _ _ _ fresh_sized
       (λ d. sized_then (arithmetic_of w _ _ _ _) _ _ _ _ _ _ _ (arithmetic_sized _ _ _ _)
       (λ e. sized_pure _))))))
       (omega arith) (omega arith) (omega arith)
 
   -- ---- what it does
+  abbrev tape_terms : ℕ → ℕ
+  tape_terms n = if n == 0 then 23 else 25
+
   module _ (n : ℕ) (state : StateWires) (c : Computed) where
-    tapes_sized : Sized (tapes_of w n state c.instruction.op c.operand.bits) 7 7 (2 * w + 25)
+    tapes_sized : Sized (tapes_of w n state c.instruction.op c.operand.bits) 7 7 (2 * w + tape_terms n)
     tapes_sized = record {
       end = tapes_sizes.end w n state c.instruction.op c.operand.bits;
       count = tapes_costs.constraints w n state c.instruction.op c.operand.bits;
@@ -142,10 +158,10 @@ module _ (w : ℕ) (width : IsWidth w) where
       size = pc_costs.terms w width state c.instruction.op c.operand.bits;
     }
 
-    effects_sized : Sized (effects_of w n state c) (w / 8 + 42) (w / 8 + 47) (7 * w - 2 * (w / 16) + 316)
+    effects_sized : Sized (effects_of w n state c) (w / 8 + 42) (w / 8 + 47) (7 * w - 2 * (w / 16) + 291 + tape_terms n)
     unfolding effects_of
     effects_sized =
-        sized_as (effects_of w n state c) _ _ _ (w / 8 + 42) (w / 8 + 47) (7 * w - 2 * (w / 16) + 316)
+        sized_as (effects_of w n state c) _ _ _ (w / 8 + 42) (w / 8 + 47) (7 * w - 2 * (w / 16) + 291 + tape_terms n)
         (sized_then (tapes_of w n state c.instruction.op c.operand.bits) _ _ _ _ _ _ _ tapes_sized
         (λ h. sized_then (memory_of w state c.instruction.op c.operand.bits _ _) _ _ _ _ _ _ _ (memory_sized _)
         (λ i. sized_then (results_of w state c.instruction.op c.operand.bits _ _) _ _ _ _ _ _ _ (results_sized _ _)
@@ -157,15 +173,16 @@ module _ (w : ℕ) (width : IsWidth w) where
         (omega arith) (omega arith) (omega arith)
 
   -- ---- the whole
-  block_sized : (n : ℕ) (state : StateWires) (time : ℕ) → Sized (block_of w n state time) (block_made w) (block_added w) (block_terms w)
+  block_sized : (n : ℕ) (state : StateWires) (time : ℕ) → Sized (block_of w n state time) (block_made w) (block_added w) (block_terms w n)
   unfolding block_of
   block_sized n state time =
-      sized_as (block_of w n state time) _ _ _ (block_made w) (block_added w) (block_terms w)
+      sized_as (block_of w n state time) _ _ _ (block_made w) (block_added w) (block_terms w n)
       (sized_then (computed_of w state) _ _ _ _ _ _ _ (computed_sized state)
       (λ a. sized_then (effects_of w n state (computed_of w state a).answer) _ _ _ _ _ _ _ (effects_sized n state (computed_of w state a).answer)
       (λ b. sized_pure _)))
       (omega (arith, width)) (omega (arith, width))
-      (for_widths (λ w. 28 * w + w / 4 + 451 + (7 * w - 2 * (w / 16) + 316 + 0) ≡ block_terms w) refl refl w width)
+      (for_widths (λ w. 28 * w + w / 4 + 451 + (7 * w - 2 * (w / 16) + 291 + tape_terms n + 0) ≡ block_terms w n) (omega (arith, both_terms (n == 0)))
+      (omega (arith, both_terms (n == 0))) w width)
 
 -- ---- its lines
 times_are : (w : ℕ) (state : StateWires) (time at : ℕ) → All (λ (line : LineLc). length line.time ≡ 1) (block_wires w state time at).lines
@@ -181,9 +198,11 @@ cheap : (w : ℕ) → IsWidth w → IsCheap (step_costs w)
 cheap w width = record {
   wires = for_widths (λ w. block_made w ≤ 2 ^ 11) (omega arith) (omega arith) w width;
   constraints = for_widths (λ w. block_added w ≤ 2 ^ 11) (omega arith) (omega arith) w width;
-  terms = for_widths (λ w. block_terms w ≤ 2 ^ 14) (omega arith) (omega arith) w width;
   lines = short_lines w;
 }
+
+few_terms : (w : ℕ) → IsWidth w → (n : ℕ) → block_terms w n ≤ 2 ^ 14
+few_terms w width n = for_widths (λ w. block_terms w n ≤ 2 ^ 14) (omega arith) (omega arith) w width
 
 pub block_counted : BlockIsCounted
 block_counted = record {
@@ -192,4 +211,5 @@ block_counted = record {
   lines = λ w width state time next. refl;
   times = λ w width state time next. times_are w state time next;
   cheap = cheap;
+  few = few_terms;
 }

@@ -4,6 +4,7 @@ pub mod BlockLaws
 pub mod CountLaws
 mod FilledValues
 pub mod MachineFills
+pub mod NormalLaws
 pub mod PartLaws
 pub mod PlaceLaws
 pub mod Placed

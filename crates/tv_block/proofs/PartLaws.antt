@@ -35,6 +35,7 @@ use Rattle.tv_parts.proofs.AccumulationLaws.{accumulated_sound}
 use Rattle.tv_parts.proofs.OpcodeLaws.{opcode_terms_sound, opcode_sum_sound}
 use Rattle.tv_parts.proofs.TapeFills.{flag_test}
 use Rattle.tv_parts.proofs.TapeLaws.{among_one, flag_small}
+use Rattle.tv_parts.proofs.WrittenFills.{on_number, writes_among, written_where, none_of}
 use Rattle.tv_parts.specs.Accumulation.{accumulated_of}
 use Rattle.tv_parts.specs.Arithmetic.{shift_ops, division_ops}
 use Rattle.tv_parts.specs.Flag.{sign_at}
@@ -121,29 +122,6 @@ registers_sound w width z next state i head tail size assigns is meets =
     }
 
 -- ---- the registers after the step
-on_is : (a c : Bool) (f : ℕ) → f < 2 → (c ≡ true → a ≡ false) → (flag_of a + flag_of c * f) % P ≡ flag_of (if c then f == 1 else a)
-on_is a true f small none = rw (none refl) (bit f small)
-  where
-    bit : (f : ℕ) → f < 2 → (0 + 1 * f) % P ≡ flag_of (f == 1)
-    bit zero small = refl
-    bit (suc zero) small = refl
-    bit (suc (suc k)) small = absurd (omega arith)
-on_is true false f small none = omega arith
-on_is false false f small none = omega arith
-
-writes_among : (k f : ℕ) → (if k == CMOV then f == 1 else among writer_ops k) ≡ true → among (CMOV ∷ writer_ops) k ≡ true
-writes_among k f e = elim (cases_eq k CMOV) [
-  | inl same ↦ ap (among (CMOV ∷ writer_ops)) same
-  | inr apart ↦
-      ap (λ b. if b then true else among writer_ops k) (ne_eqb CMOV k (λ s. apart (sym s)))
-      ∙ (sym (ap (λ b. if b then f == 1 else among writer_ops k) (ne_eqb k CMOV apart)) ∙ e)
-]
-
-written_by : (b : Bool) (x y d : ℕ) (words : List ℕ) → (b ≡ true → x ≡ y)
-    → written_regs b x d words ≡ (if b then slice_set words d y else words)
-written_by true x y d words e = ap (slice_set words d) (e refl)
-written_by false x y d words e = refl
-
 pub written_sound : (w : ℕ) (z : List ℕ) (next n : ℕ) (state : StateWires) (op : ℕ) (regs : Triple) (result : ℕ)
     (v : View) (i : Instr) (o : ℕ) (takes : Bool) → length state.regs ≡ 16 → Assigns z → IsOpcode z op i.op → i.dest < 16 → v.flag < 2
     → slice_index z state.flag ≡ v.flag
@@ -160,7 +138,7 @@ written_sound w z next n state op regs result v i o takes size assigns row withi
     let on_at : slice_index z on.answer ≡ flag_of writes =
     accumulated_sound z next (opcode_sum op writer_ops) (opcode_sum op (CMOV ∷ [])) (wire state.flag) assigns m1.0
     ∙ ap₂ (λ a b. (a + b) % P) (opcode_sum_sound z op i.op writer_ops row refl) by_flag
-    ∙ on_is (among writer_ops i.op) (i.op == CMOV) v.flag bit (none i.op) in
+    ∙ on_number (among writer_ops i.op) (i.op == CMOV) v.flag bit (none_of i.op) in
     update_sound z on.next on.answer regs.dest regs.dest_word result state.regs i.dest assigns (record {
       size = size;
       bit = subst IsBit (sym on_at) (flag_small writes);
@@ -169,10 +147,7 @@ written_sound w z next n state op regs result v i o takes size assigns row withi
       old = are.dest_word ∙ ap (λ l. slice_index l i.dest) (sym words);
     }) m1.1
     ∙ ap₂ (λ b l. written_regs b (slice_index z result) i.dest l) (ap (λ k. k == 1) on_at ∙ flag_test writes) words
-    ∙ written_by writes (slice_index z result) (result_in w n v i o takes) i.dest v.regs (λ e. is (writes_among i.op v.flag e))
-  where
-    none : (k : ℕ) → (k == CMOV) ≡ true → among writer_ops k ≡ false
-    none k e = elim (cases_eq k CMOV) [ inl same ↦ ap (among writer_ops) same | inr apart ↦ absurd (true≢false (sym e ∙ ne_eqb k CMOV apart)) ]
+    ∙ written_where writes (slice_index z result) (result_in w n v i o takes) i.dest v.regs (λ e. is (writes_among i.op v.flag e))
 
 -- ---- the sign of the test
 abbrev term_at : ℕ → List ℕ → ℕ → ℕ
@@ -214,13 +189,6 @@ sign_value z op k row =
     add a b = (a + b) % P
 
 -- ---- the test at a shift and at a division
--- the operand is below w where the bits above the place in a word are 0
-pub within_word : (w : ℕ) → IsWidth w → (at : ℕ) → (if at / 2 ^ place_bits w == 0 then 1 else 0) ≡ flag_of (nat_lt at w)
-within_word w width = for_widths Within (λ at. grind (arith, nat_tests)) (λ at. grind (arith, nat_tests)) w width
-  where
-    Within : ℕ → Type 0
-    Within w = (at : ℕ) → (if at / 2 ^ place_bits w == 0 then 1 else 0) ≡ flag_of (nat_lt at w)
-
 pub sign_shift : (k : ℕ) → among shift_ops k ≡ true → sign_at k ≡ 1
 sign_shift = among_each (λ k. sign_at k ≡ 1) shift_ops (refl, (refl, tt))
 

@@ -1,6 +1,7 @@
 pub mod Block
 pub mod Complete
 pub mod Costs
+pub mod Normal
 pub mod Places
 pub mod Told
 pub mod Under

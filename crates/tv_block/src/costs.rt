@@ -1,6 +1,6 @@
 //! What a step costs.
-ghost use Rattle.std.specs.Prelude.{◌≡◌};
-ghost use Rattle.tv_block.specs.Costs.{step_costs, terms_are, IsCheap};
+ghost use Rattle.std.specs.Prelude.{◌≡◌, ◌≤◌, ◌^◌};
+ghost use Rattle.tv_block.specs.Costs.{block_terms, step_costs, terms_are, IsCheap};
 ghost use Rattle.tv_word.specs.Widths.{IsWidth};
 
 /// How many terms the combinations of a line have, beside its time, which has one.
@@ -14,15 +14,13 @@ pub struct LineTerms {
     pub new: u32,
 }
 
-/// What a step costs, whatever it is given.
+/// What a step costs by the width alone; `step_terms` has the terms of its constraints.
 #[derive(Clone, Copy, PartialEq, Eq, Debug)]
 pub struct StepCosts {
     /// The wires that it makes.
     pub wires: u32,
     /// Its constraints.
     pub constraints: u32,
-    /// The terms of its constraints.
-    pub terms: u32,
     /// The terms of its three lines.
     pub lines: [LineTerms; 3],
 }
@@ -39,17 +37,26 @@ pub fn step_costs<const W: u32>() -> StepCosts
         StepCosts {
             wires: 212,
             constraints: 225,
-            terms: 1329,
             lines,
         }
     } else {
         StepCosts {
             wires: 311,
             constraints: 324,
-            terms: 1891,
             lines,
         }
     }
+}
+
+/// Returns how many terms the constraints of a step have, where the primary tape has `n` words: two
+/// of them are the constant `n`, and stand there only where it isn't 0 (`block_is_counted`).
+pub fn step_terms<const W: u32>(n: u32) -> u32
+    requires width { IsWidth W }
+    ensures is { result ≡ block_terms W n }
+    ensures few { result ≤ 2 ^ 14 }
+{
+    let most = if W == 16 { 1329 } else { 1891 };
+    if n == 0 { most - 2 } else { most }
 }
 
 // The terms of a line.

@@ -3,6 +3,7 @@ ghost use Rattle.tv_block.specs.Block.{BlockIsStep, BlockIsSound};
 ghost use Rattle.tv_block.specs.Complete.{BlockIsComplete, BlockSizes};
 ghost use Rattle.tv_block.specs.Complete.{MachineStepIsMet, MachineValuesFit};
 ghost use Rattle.tv_block.specs.Costs.{BlockIsCounted};
+ghost use Rattle.tv_block.specs.Normal.{BlockIsNormal};
 ghost use Rattle.tv_block.specs.Places.{BlockPlaces};
 ghost use Rattle.tv_block.specs.Told.{StepsAreGiven};
 
@@ -52,9 +53,18 @@ pub fn block_is_placed()
     ensures { BlockPlaces }
 {}
 
-/// A step costs what `step_costs` says, by the width alone: its constraints, their terms, and the
-/// terms of its three lines. With its wires, which `block_fills` counts, that is at most 2,048
-/// wires, 2,048 constraints and 16,384 terms.
+/// A step costs what `step_costs` and `step_terms` say, by the width and by whether the primary
+/// tape has words: its constraints, their terms, and the terms of its three lines. With its wires,
+/// which `block_fills` counts, that is at most 2,048 wires, 2,048 constraints and 16,384 terms.
 pub fn block_is_counted()
     ensures { BlockIsCounted }
+{}
+
+/// Every combination of a step's constraints is normal: each wire occurs in it at most once, in
+/// rising order, with a coefficient other than 0. The primary tape has fewer than 2^29 words; the
+/// wires of the state before the step are above wire 0 and below its first one, and the registers
+/// rise. Those of the state after it do so again.
+#[tactic(auto, using(crate::proofs::NormalLaws::block_normal))]
+pub fn block_is_normal()
+    ensures { BlockIsNormal }
 {}

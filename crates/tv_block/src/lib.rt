@@ -12,11 +12,11 @@ mod records;
 mod step_numbers;
 mod stepping;
 
-pub use costs::{LineTerms, StepCosts, step_costs};
+pub use costs::{LineTerms, StepCosts, step_costs, step_terms};
 pub use filling::{fill_block, fill_traced_step};
 pub use laws::{
-    block_fills, block_is_complete, block_is_counted, block_is_placed, block_is_sound,
-    steps_are_given,
+    block_fills, block_is_complete, block_is_counted, block_is_normal, block_is_placed,
+    block_is_sound, steps_are_given,
 };
 pub use placing::{block_line, block_spot, block_wires, next_state};
 pub use records::{Block, Computed, Effects, Reached, StateNum};

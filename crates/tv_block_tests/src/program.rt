@@ -1,6 +1,7 @@
-//! A program of all 29 instructions, of which each is done once and in order.
+//! A program of all 29 instructions, of which each is done once and in order, and one of jumps.
 
-/// Its lines. At 16 bits a register's sum carries, and its signed products are of negative words.
+/// The lines of the first. At 16 bits a register's sum carries, and its signed products are of
+/// negative words.
 pub const LINES: [&str; 36] = [
     "mov r1, 40000",
     "mov r2, 5",
@@ -40,7 +41,15 @@ pub const LINES: [&str; 36] = [
     "_c: answer r3",
 ];
 
-/// What stands before them.
+/// The lines of the second: all four are done, in the order 0, 2, 3, 1.
+pub const JUMPS: [&str; 4] = ["jmp _b", "_a: answer 5", "_b: cmpe r0, 0", "cjmp _a"];
+
+/// The program counters before its four steps and after the last one.
+pub const JUMPED_32: [u32; 5] = [0, 16, 24, 8, 8];
+
+pub const JUMPED_16: [u32; 5] = [0, 8, 12, 4, 4];
+
+/// What stands before the lines.
 pub const HEADER_32: &str = "; TinyRAM W=32\n";
 
 pub const HEADER_16: &str = "; TinyRAM W=16\n";

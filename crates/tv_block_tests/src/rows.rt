@@ -1,8 +1,11 @@
-//! Each step of a run, whose constraints all hold over the generator's values.
-ghost use Rattle.std.specs.Prelude.{◌≤◌};
+//! Each step of a run: its constraints all hold over the generator's values, and the state after
+//! it is the machine's.
+ghost use Rattle.std.specs.Prelude.{◌≤◌, length};
 ghost use Rattle.tv_word.specs.Widths.{IsWidth};
 
-use crate::program::{AUX, HEADER_16, HEADER_32, LATE_READ, LINES, TAPE};
+use crate::program::{
+    AUX, HEADER_16, HEADER_32, JUMPED_16, JUMPED_32, JUMPS, LATE_READ, LINES, TAPE,
+};
 use crate::wires::{Given, trial};
 use std::alloc::Global;
 use std::process::Abort;
@@ -10,13 +13,15 @@ use std::test::Fail;
 use tv_asm::{assemble, width};
 use tv_step::{Trace, TraceState, trace};
 
-// The trace of the program at a width; an error where its header is of another one.
-fn run_of<const W: u32>(alloc: Global, header: &str) -> Result<Trace, Fail>
+// The trace of a program at a width, as many steps as it has lines; an error where its header is of
+// another width.
+fn run_of<const W: u32>(alloc: Global, header: &str, lines: &[&str]) -> Result<Trace, Fail>
     requires width { IsWidth W }
+    requires few { length lines.now ≤ 64 }
 {
     let mut text = String::new(alloc);
     text.push_str(header)?;
-    for line in LINES {
+    for line in lines {
         text.push_str(line)?;
         text.push_str("\n")?;
     }
@@ -24,18 +29,19 @@ fn run_of<const W: u32>(alloc: Global, header: &str) -> Result<Trace, Fail>
         return Err(Fail::from("another width"));
     }
     let image = assemble::<W>(alloc, text.as_bytes(), 1024)?;
-    Ok(trace::<W>(alloc, image.as_slice(), &TAPE, &AUX, LINES.len() as u32)?)
+    Ok(trace::<W>(alloc, image.as_slice(), &TAPE, &AUX, lines.len() as u32)?)
 }
 
-// The state before the step at a place of the program, and what that step is given; `None` behind
-// the program's end.
-fn step_at(trace: &Trace, place: usize) -> Option<(&TraceState, Given)>
+// The state before the step at a place of a run, what that step is given, and the state after it;
+// `None` after the run's end.
+fn step_at(trace: &Trace, place: usize) -> Option<(&TraceState, Given, &TraceState)>
     requires few { place ≤ 64 }
 {
     let states = trace.states.as_slice();
     let lines = trace.lines.as_slice();
     let before = states.get(place)?;
-    let takes = states.get(place + 1)?.aux != before.aux;
+    let after = states.get(place + 1)?;
+    let takes = after.aux != before.aux;
     let given = Given {
         olds: [
             lines.get(3 * place)?.old,
@@ -44,54 +50,90 @@ fn step_at(trace: &Trace, place: usize) -> Option<(&TraceState, Given)>
         ],
         aux: if takes { Some(AUX[0]) } else { None },
     };
-    Some((before, given))
+    Some((before, given, after))
 }
 
-// Sees that the constraints of each step, as many as said, hold over its values.
+// Sees that the constraints of each step, as many as said, hold over its values, and that the state
+// after it is the machine's.
 fn meets_each<const W: u32>(
     rt: &impl Abort,
     alloc: Global,
     header: &str,
+    lines: &[&str],
     constraints: u32,
 ) -> Result<(), Fail>
     requires width { IsWidth W }
+    requires few { length lines.now ≤ 64 }
 {
-    let trace = run_of::<W>(alloc, header)?;
-    for place in 0..LINES.len() {
-        let Some((before, given)) = step_at(&trace, place) else {
+    let trace = run_of::<W>(alloc, header, lines)?;
+    for place in 0..lines.len() {
+        let Some((before, given, after)) = step_at(&trace, place) else {
             return Err(Fail::from("no such step"));
         };
-        let [tested, held] = trial::<W>(alloc, before, &given)?;
+        let made = trial::<W>(alloc, before, &given, after)?;
         assert_eq!(rt;
-            [tested, held],
+            [made.tested, made.held],
             [constraints; 2],
-            "{header} {}",
-            LINES[place]
+            "{header} {place}"
         );
+        assert!(rt; made.reaches, "{header} {place}");
     }
     Ok(())
 }
 
 #[test]
 fn each_instruction_is_met_by_its_values(rt: HostRuntime) -> Result<(), Fail> {
-    meets_each::<32>(&rt, rt.alloc(), HEADER_32, 324)?;
-    meets_each::<16>(&rt, rt.alloc(), HEADER_16, 225)
+    meets_each::<32>(&rt, rt.alloc(), HEADER_32, &LINES, 324)?;
+    meets_each::<16>(&rt, rt.alloc(), HEADER_16, &LINES, 225)
 }
 
-// Whether a read of the auxiliary tape after its end, to which a word is handed out, is refused.
+// The program counter at a place of a run.
+fn counter_at(trace: &Trace, place: usize) -> Option<u32> {
+    Some(trace.states.as_slice().get(place)?.pc)
+}
+
+// Sees that a run of the jumps goes through these program counters.
+fn goes_through<const W: u32>(
+    rt: &impl Abort,
+    alloc: Global,
+    header: &str,
+    counters: &[u32; 5],
+) -> Result<(), Fail>
+    requires width { IsWidth W }
+{
+    let trace = run_of::<W>(alloc, header, &JUMPS)?;
+    for place in 0..5 {
+        assert_eq!(rt;
+            counter_at(&trace, place),
+            Some(counters[place]),
+            "{header} {place}"
+        );
+    }
+    Ok(())
+}
+
+#[test]
+fn jumps_go_elsewhere(rt: HostRuntime) -> Result<(), Fail> {
+    goes_through::<32>(&rt, rt.alloc(), HEADER_32, &JUMPED_32)?;
+    goes_through::<16>(&rt, rt.alloc(), HEADER_16, &JUMPED_16)?;
+    meets_each::<32>(&rt, rt.alloc(), HEADER_32, &JUMPS, 324)?;
+    meets_each::<16>(&rt, rt.alloc(), HEADER_16, &JUMPS, 225)
+}
+
+// Whether a read of the auxiliary tape after its end, for which a word is passed, is refused.
 fn late_word_is_refused<const W: u32>(alloc: Global, header: &str) -> Result<bool, Fail>
     requires width { IsWidth W }
 {
-    let trace = run_of::<W>(alloc, header)?;
-    let Some((before, given)) = step_at(&trace, LATE_READ) else {
+    let trace = run_of::<W>(alloc, header, &LINES)?;
+    let Some((before, given, after)) = step_at(&trace, LATE_READ) else {
         return Err(Fail::from("no such step"));
     };
     let given = Given {
         aux: Some(7),
         ..given
     };
-    let [tested, held] = trial::<W>(alloc, before, &given)?;
-    Ok(before.ended && held < tested)
+    let made = trial::<W>(alloc, before, &given, after)?;
+    Ok(before.ended && made.held < made.tested)
 }
 
 #[test]

@@ -1,4 +1,4 @@
-//! A state at the first wires, and a step behind it.
+//! A state at the first wires, and a step after it.
 ghost use Rattle.std.specs.Prelude.{◌≡◌, ◌<◌, ◌^◌, true, false, slice_index, IfOk};
 ghost use Rattle.tv_block.specs.Values.{numbers_view};
 ghost use Rattle.tv_numbers.specs.Shown.{handed};
@@ -14,7 +14,7 @@ use tv_core::{F, ListValues, Put, TestSink, Values, Wire, give_words};
 use tv_regs::wires_from;
 use tv_step::TraceState;
 
-/// The first wire of the step: behind wire 0 stand the program counter, the registers, the flag,
+/// The first wire of the step: after wire 0 stand the program counter, the registers, the flag,
 /// the words taken and the ended bit.
 pub const FIRST: Wire = Wire(21);
 
@@ -39,7 +39,7 @@ pub struct Given {
     pub aux: Option<u32>,
 }
 
-// The numbers of a state that a trace tells.
+// The numbers of a state of a trace.
 fn numbers(state: &TraceState) -> StateNum {
     StateNum {
         pc: state.pc,
@@ -104,16 +104,49 @@ fn inputs(alloc: Global, state: &StateNum) -> Put<ListValues>
     Ok(values)
 }
 
-/// How many constraints a step from a state has, the primary tape having one word, and how many of
-/// them hold over its values; an error where it is given what is out of range.
+/// What a step's constraints and values show.
+#[derive(Drop)]
+pub struct StepTrial {
+    /// How many constraints the step has.
+    pub tested: u32,
+    /// How many of them hold over its values.
+    pub held: u32,
+    /// Whether the wires of the state after the step hold the numbers that were expected.
+    pub reaches: bool,
+}
+
+// Whether a wire holds a number.
+fn has(values: &[F], wire: Wire, number: u32) -> bool {
+    match values.get(wire.0 as usize) {
+        Some(value) => *value == F::from(number),
+        None => false,
+    }
+}
+
+// Whether the wires of a state hold the numbers of one.
+fn holds(values: &[F], wires: &StateWires, state: &StateNum) -> bool {
+    for i in 0..16 {
+        if !has(values, wires.regs[i], state.regs[i]) {
+            return false;
+        }
+    }
+    has(values, wires.pc, state.pc)
+        && has(values, wires.flag, u32::from(state.flag))
+        && has(values, wires.taken_of_primary, state.taken_of_primary)
+        && has(values, wires.aux_ended, u32::from(state.aux_ended))
+}
+
+/// Returns what a step from `before` shows, the primary tape having one word and `after` being the
+/// state that is expected after it; an error where it is given what is out of range.
 pub fn trial<const W: u32>(
     alloc: Global,
-    state: &TraceState,
+    before: &TraceState,
     given: &Given,
-) -> Result<[u32; 2], Fail>
+    after: &TraceState,
+) -> Result<StepTrial, Fail>
     requires width { IsWidth W }
 {
-    let state = numbers(state);
+    let state = numbers(before);
     let fits = is_in_range::<W>(1, &state);
     if !fits || !is_word::<W>(given.olds[1]) || !has_data_word::<W>(given) {
         return Err(Fail::from("out of range"));
@@ -121,6 +154,10 @@ pub fn trial<const W: u32>(
     let mut values = inputs(alloc, &state)?;
     fill_block::<W, ListValues>(&mut values, &state, 1, 0, &given.olds, given.aux)?;
     let mut tests = TestSink::over(values.as_slice(), FIRST.0);
-    block::<W, TestSink>(&mut tests, &state_wires(), 1, 0)?;
-    Ok([tests.tested(), tests.held()])
+    let made = block::<W, TestSink>(&mut tests, &state_wires(), 1, 0)?;
+    Ok(StepTrial {
+        tested: tests.tested(),
+        held: tests.held(),
+        reaches: holds(values.as_slice(), &made.next, &numbers(after)),
+    })
 }

@@ -25,13 +25,17 @@ closing z next x assigns = value-append (scaled (P - 1) x) (wire next) z ∙ ap�
 pub accumulated_sound : AccumulatedIsSound
 unfolding closed_of fresh put pure ◌>>=◌
 accumulated_sound z next x f g assigns meets =
-    sum_by (value x z) (value f z * value g z % P) (slice_index z next) (value-below x z) (mod-lt _ (omega arith)) (wire-below assigns next) (meets.0 ∙ closing z next x assigns)
+    sum_by (value x z) (value f z * value g z % P) (slice_index z next) (value-below x z) (mod-lt _ (omega arith)) (wire-below assigns next)
+    (meets.0 ∙ closing z next x assigns)
     ∙ folded (value x z) (value f z * value g z)
 
 pub accumulated_complete : AccumulatedIsComplete
 unfolding closed_of fresh put pure ◌>>=◌
-accumulated_complete z next x f g assigns has =
-    (product_by (value x z) (value f z * value g z % P) (slice_index z next) (value-below x z) (mod-lt _ (omega arith)) (has.0 ∙ sym (folded (value x z) (value f z * value g z))) ∙ sym (closing z next x assigns), tt)
+accumulated_complete z next x f g assigns has = (
+  product_by (value x z) (value f z * value g z % P) (slice_index z next) (value-below x z) (mod-lt _ (omega arith))
+      (has.0 ∙ sym (folded (value x z) (value f z * value g z))) ∙ sym (closing z next x assigns),
+  tt,
+)
 
 pub accumulated_answer : (x f g : Combination) (next : ℕ) → (accumulated_of x f g next).answer ≡ next
 unfolding closed_of fresh put pure ◌>>=◌

@@ -1,5 +1,6 @@
 -- The laws of the flag after a step.
-use Rattle.std.proofs.Common.{◌≡◌, ℕ, ◌+◌, ◌-◌, ◌*◌, ◌%◌, ◌^◌, ◌<◌, ◌==◌, ◌&&◌, Bool, true, false, if◌then◌else◌, List, [], ◌∷◌, ◌++◌, length, inl, inr, refl, sym, ◌∙◌, ap, ap₂, arith, mod-lt, true≢false}
+use Rattle.std.proofs.Common.{◌≡◌, ℕ, ◌+◌, ◌-◌, ◌*◌, ◌%◌, ◌^◌, ◌<◌, ◌==◌, ◌&&◌, Bool, true, false, if◌then◌else◌, List, [], ◌∷◌, ◌++◌, length, inl, inr, refl}
+use Rattle.std.proofs.Common.{sym, ◌∙◌, ap, ap₂, arith, mod-lt, true≢false}
 use Rattle.std.specs.Int.{bit_at}
 use Rattle.std.specs.Prelude.{slice_index, nat_lt}
 use Rattle.std.proofs.lemmas.Bool.{cases_eq, eqb-true, ne_eqb, and_parts}
@@ -64,7 +65,8 @@ bit_product true f bit h k = omega arith
 bit_product false f bit h k = omega arith
 
 sum_of : (b g f t u l r k : ℕ) (p : Bool) → b < 2 ^ 29 → f < P → g < 2 → u < 2 → l < P → r < P → k < 2 → t ≡ (if p then b + 1 else b)
-    → ((1 * b + (g + (1 * f + ((P - 1) * t + ((P - 1) * u + (1 * l + (1 * r + 0) % P) % P) % P) % P) % P) % P) % P + k) % P ≡ (g + f + (P - flag_of p) + (P - u) + l + r + k) % P
+    → ((1 * b + (g + (1 * f + ((P - 1) * t + ((P - 1) * u + (1 * l + (1 * r + 0) % P) % P) % P) % P) % P) % P) % P + k) % P
+    ≡ (g + f + (P - flag_of p) + (P - u) + l + r + k) % P
 sum_of b g f t u l r k true hb hf hg hu hl hr hk e = omega arith
 sum_of b g f t u l r k false hb hf hg hu hl hr hk e = omega arith
 
@@ -75,11 +77,13 @@ flag_below false = omega arith
 bit_below : (x i : ℕ) → bit_at x i < 2
 bit_below x i = omega arith
 
-module _ (w : ℕ) (width : IsWidth w) (z : List ℕ) (n : ℕ) (state : StateWires) (op : ℕ) (x : Bits) (f : ℕ) (t : TapeWires) (v : View) (i : Instr) (low high result y : ℕ) (has : HasFlag w z n state op x f t v i low high result y) where
+module _ (w : ℕ) (width : IsWidth w) (z : List ℕ) (n : ℕ) (state : StateWires) (op : ℕ) (x : Bits) (f : ℕ) (t : TapeWires) (v : View) (i : Instr)
+    (low high result y : ℕ) (has : HasFlag w z n state op x f t v i low high result y) where
   abbrev primary : Bool
   primary = takes_primary v i n
 
-  case_of : FlagCase w width (other_word v i) (operand_word v i) low high result y (slice_index z f) v.flag primary (took z t) has.other has.operand has.bit i.op
+  case_of : FlagCase w width (other_word v i) (operand_word v i) low high result y (slice_index z f) v.flag primary
+      (took z t) has.other has.operand has.bit i.op
   case_of = record {
     reads = λ e. (no_primary v i n e, no_auxiliary v i (took z t) has.tapes.asked e);
     apart = one_tape v i n (took z t) has.tapes.asked;
@@ -94,22 +98,31 @@ module _ (w : ℕ) (width : IsWidth w) (z : List ℕ) (n : ℕ) (state : StateWi
   shift_value : (k bit at : ℕ) → value (opcode_sum op (k ∷ [])) z ≡ flag_of (i.op == k) → bit < 2 → (i.op ≡ k → slice_index z at ≡ bit)
       → value (opcode_sum op (k ∷ [])) z * value ((P - 1, f) ∷ (1, at) ∷ []) z % P ≡ (if i.op == k then (bit + (P - slice_index z f)) % P else 0)
   shift_value k bit at gate small is = elim (cases_eq i.op k) [
-    | inl same ↦ ap₂ (λ m j. m * j % P) gate (value-two z (P - 1) 1 f at ∙ ap (λ b. ((P - 1) * slice_index z f + 1 * b) % P) (is same)) ∙ bit_product (i.op == k) (slice_index z f) bit (wire-below has.assigns f) small
-    | inr other ↦ ap (λ b. b * value ((P - 1, f) ∷ (1, at) ∷ []) z % P) (gate ∙ ap flag_of (ne_eqb i.op k other)) ∙ none _ ∙ sym (ap (λ b. if b then (bit + (P - slice_index z f)) % P else 0) (ne_eqb i.op k other))
+    | inl same ↦ ap₂ (λ m j. m * j % P) gate (value-two z (P - 1) 1 f at ∙ ap (λ b. ((P - 1) * slice_index z f + 1 * b) % P) (is same))
+        ∙ bit_product (i.op == k) (slice_index z f) bit (wire-below has.assigns f) small
+    | inr other ↦ ap (λ b. b * value ((P - 1, f) ∷ (1, at) ∷ []) z % P) (gate ∙ ap flag_of (ne_eqb i.op k other)) ∙ none _
+        ∙ sym (ap (λ b. if b then (bit + (P - slice_index z f)) % P else 0) (ne_eqb i.op k other))
   ]
     where
       none : (m : ℕ) → 0 * m % P ≡ 0
       none m = omega arith
 
-  left_is : value (opcode_sum op (11 ∷ [])) z * value ((P - 1, f) ∷ (1, x.first + (w - 1)) ∷ []) z % P ≡ (if i.op == 11 then (bit_at (other_word v i) (w - 1) + (P - slice_index z f)) % P else 0)
-  left_is = shift_value 11 (bit_at (other_word v i) (w - 1)) (x.first + (w - 1)) (opcode_sum_sound z op i.op (11 ∷ []) has.opcode refl ∙ ap flag_of (among_one 11 i.op)) (bit_below (other_word v i) (w - 1)) (λ e. has.top (ap (among (11 ∷ 12 ∷ [])) e))
+  left_is : value (opcode_sum op (11 ∷ [])) z * value ((P - 1, f) ∷ (1, x.first + (w - 1)) ∷ []) z % P
+      ≡ (if i.op == 11 then (bit_at (other_word v i) (w - 1) + (P - slice_index z f)) % P else 0)
+  left_is = shift_value 11 (bit_at (other_word v i) (w - 1)) (x.first + (w - 1))
+      (opcode_sum_sound z op i.op (11 ∷ []) has.opcode refl ∙ ap flag_of (among_one 11 i.op)) (bit_below (other_word v i) (w - 1))
+      (λ e. has.top (ap (among (11 ∷ 12 ∷ [])) e))
 
-  right_is : value (opcode_sum op (12 ∷ [])) z * value ((P - 1, f) ∷ (1, x.first) ∷ []) z % P ≡ (if i.op == 12 then (bit_at (other_word v i) 0 + (P - slice_index z f)) % P else 0)
-  right_is = shift_value 12 (bit_at (other_word v i) 0) x.first (opcode_sum_sound z op i.op (12 ∷ []) has.opcode refl ∙ ap flag_of (among_one 12 i.op)) (bit_below (other_word v i) 0) (λ e. has.lowest (ap (among (11 ∷ 12 ∷ [])) e))
+  right_is : value (opcode_sum op (12 ∷ [])) z * value ((P - 1, f) ∷ (1, x.first) ∷ []) z % P
+      ≡ (if i.op == 12 then (bit_at (other_word v i) 0 + (P - slice_index z f)) % P else 0)
+  right_is = shift_value 12 (bit_at (other_word v i) 0) x.first (opcode_sum_sound z op i.op (12 ∷ []) has.opcode refl ∙ ap flag_of (among_one 12 i.op))
+      (bit_below (other_word v i) 0) (λ e. has.lowest (ap (among (11 ∷ 12 ∷ [])) e))
 
   -- the sum of the last constraint
-  flag_value : (left right : ℕ) → slice_index z left ≡ (if i.op == 11 then (bit_at (other_word v i) (w - 1) + (P - slice_index z f)) % P else 0) → slice_index z right ≡ (if i.op == 12 then (bit_at (other_word v i) 0 + (P - slice_index z f)) % P else 0)
-      → (value (tested_in state.taken_of_primary op f t left right) z + value (opcode_sum op keeper_ops) z * value (wire state.flag) z) % P ≡ flag_in w n v i low (took z t)
+  flag_value : (left right : ℕ) → slice_index z left ≡ (if i.op == 11 then (bit_at (other_word v i) (w - 1) + (P - slice_index z f)) % P else 0)
+      → slice_index z right ≡ (if i.op == 12 then (bit_at (other_word v i) 0 + (P - slice_index z f)) % P else 0)
+      → (value (tested_in state.taken_of_primary op f t left right) z + value (opcode_sum op keeper_ops) z * value (wire state.flag) z) % P
+      ≡ flag_in w n v i low (took z t)
   flag_value left right is_left is_right =
       let before = state.taken_of_primary in
       let rest = (1, f) ∷ (P - 1, t.taken) ∷ (P - 1, t.takes) ∷ (1, left) ∷ (1, right) ∷ [] in
@@ -118,13 +131,18 @@ module _ (w : ℕ) (width : IsWidth w) (z : List ℕ) (n : ℕ) (state : StateWi
       let rest_is = value-cons 1 f ((P - 1, t.taken) ∷ (P - 1, t.takes) ∷ (1, left) ∷ (1, right) ∷ []) z
       ∙ ap (λ m. (1 * slice_index z f + m) % P) (value-cons (P - 1) t.taken ((P - 1, t.takes) ∷ (1, left) ∷ (1, right) ∷ []) z
       ∙ ap (λ m. ((P - 1) * slice_index z t.taken + m) % P) (value-cons (P - 1) t.takes ((1, left) ∷ (1, right) ∷ []) z
-      ∙ ap₂ (λ u m. ((P - 1) * u + m) % P) has.tapes.takes (value-cons 1 left ((1, right) ∷ []) z ∙ ap (λ m. (1 * slice_index z left + m) % P) (value-cons 1 right [] z)))) in
-      let sum = value-cons 1 before (opcode_sum op raised_ops ++ rest) z ∙ ap₂ (λ b m. (1 * b + m) % P) has.before (value-append (opcode_sum op raised_ops) rest z ∙ ap₂ (λ g m. (g + m) % P) raises rest_is) in
+      ∙ ap₂ (λ u m. ((P - 1) * u + m) % P) has.tapes.takes
+      (value-cons 1 left ((1, right) ∷ []) z ∙ ap (λ m. (1 * slice_index z left + m) % P) (value-cons 1 right [] z)))) in
+      let sum = value-cons 1 before (opcode_sum op raised_ops ++ rest) z
+      ∙ ap₂ (λ b m. (1 * b + m) % P) has.before (value-append (opcode_sum op raised_ops) rest z ∙ ap₂ (λ g m. (g + m) % P) raises rest_is) in
       ap₂ (λ m k. (m + k) % P) sum (ap₂ (λ m k. m * k) kept (value-wire has.assigns state.flag ∙ has.flag))
-      ∙ sum_of v.taken (flag_of (among raised_ops i.op)) (slice_index z f) (slice_index z t.taken) (flag_of (took z t)) (slice_index z left) (slice_index z right) (flag_of (among keeper_ops i.op) * v.flag) primary
-      (omega (arith, has.within, has.short)) (wire-below has.assigns f) (flag_below (among raised_ops i.op)) (flag_below (took z t)) (wire-below has.assigns left) (wire-below has.assigns right) (product_small (among keeper_ops i.op)) has.tapes.taken
+      ∙ sum_of v.taken (flag_of (among raised_ops i.op)) (slice_index z f) (slice_index z t.taken) (flag_of (took z t)) (slice_index z left)
+      (slice_index z right) (flag_of (among keeper_ops i.op) * v.flag) primary
+      (omega (arith, has.within, has.short)) (wire-below has.assigns f) (flag_below (among raised_ops i.op)) (flag_below (took z t))
+      (wire-below has.assigns left) (wire-below has.assigns right) (product_small (among keeper_ops i.op)) has.tapes.taken
       ∙ ap₂ (λ l r. flag_sum i.op (slice_index z f) (flag_of primary) (flag_of (took z t)) l r v.flag) is_left is_right
-      ∙ flag_number w width (other_word v i) (operand_word v i) low high result y (slice_index z f) v.flag primary (took z t) has.other has.operand has.bit i.op has.opcode.within has.opcode.used case_of
+      ∙ flag_number w width (other_word v i) (operand_word v i) low high result y (slice_index z f) v.flag primary
+      (took z t) has.other has.operand has.bit i.op has.opcode.within has.opcode.used case_of
     where
       product_small : (b : Bool) → flag_of b * v.flag < 2
       product_small true = omega (arith, has.bit)
@@ -140,8 +158,10 @@ flag_sound w width z next n state op x f t v i low high result y o has meets =
     let right = times_of (opcode_sum op (12 ∷ [])) ((P - 1, f) ∷ (1, x.first) ∷ []) left.next in
     let m1 = Meets-split z left.list _ meets in
     let m2 = Meets-split z right.list _ m1.1 in
-    let is_left = times_sound z next (opcode_sum op (11 ∷ [])) ((P - 1, f) ∷ (1, x.first + (w - 1)) ∷ []) assigns m1.0 ∙ left_is w width z n state op x f t v i low high result y has in
-    let is_right = times_sound z left.next (opcode_sum op (12 ∷ [])) ((P - 1, f) ∷ (1, x.first) ∷ []) assigns m2.0 ∙ right_is w width z n state op x f t v i low high result y has in
+    let is_left = times_sound z next (opcode_sum op (11 ∷ [])) ((P - 1, f) ∷ (1, x.first + (w - 1)) ∷ []) assigns m1.0
+    ∙ left_is w width z n state op x f t v i low high result y has in
+    let is_right = times_sound z left.next (opcode_sum op (12 ∷ [])) ((P - 1, f) ∷ (1, x.first) ∷ []) assigns m2.0
+    ∙ right_is w width z n state op x f t v i low high result y has in
     accumulated_sound z right.next (tested_in state.taken_of_primary op f t left.answer right.answer) (opcode_sum op keeper_ops) (wire state.flag) assigns m2.1
     ∙ flag_value w width z n state op x f t v i low high result y has left.answer right.answer is_left is_right
 
@@ -156,11 +176,16 @@ flag_complete w width z next n state op x f t v i low high result y o has values
     let left_number = left_is w width z n state op x f t v i low high result y has in
     let right_number = right_is w width z n state op x f t v i low high result y has in
     let m1 = times_complete z next (opcode_sum op (11 ∷ [])) ((P - 1, f) ∷ (1, x.first + (w - 1)) ∷ []) assigns (values.0 ∙ sym left_number, tt) in
-    let m2 = times_complete z left.next (opcode_sum op (12 ∷ [])) ((P - 1, f) ∷ (1, x.first) ∷ []) assigns (ap (λ k. slice_index z k) e1 ∙ values.1.0 ∙ sym right_number, tt) in
+    let m2 = times_complete z left.next (opcode_sum op (12 ∷ [])) ((P - 1, f) ∷ (1, x.first) ∷ []) assigns
+    (ap (λ k. slice_index z k) e1 ∙ values.1.0 ∙ sym right_number, tt) in
     let is_left = times_sound z next (opcode_sum op (11 ∷ [])) ((P - 1, f) ∷ (1, x.first + (w - 1)) ∷ []) assigns m1 ∙ left_number in
     let is_right = times_sound z left.next (opcode_sum op (12 ∷ [])) ((P - 1, f) ∷ (1, x.first) ∷ []) assigns m2 ∙ right_number in
-    let m3 = accumulated_complete z right.next (tested_in state.taken_of_primary op f t left.answer right.answer) (opcode_sum op keeper_ops) (wire state.flag) assigns
-    (ap (λ k. slice_index z k) e2 ∙ values.1.1.0 ∙ sym (flag_value w width z n state op x f t v i low high result y has left.answer right.answer is_left is_right), tt) in
+    let m3 = accumulated_complete z right.next (tested_in state.taken_of_primary op f t left.answer right.answer) (opcode_sum op keeper_ops)
+    (wire state.flag) assigns (
+      ap (λ k. slice_index z k) e2 ∙ values.1.1.0
+          ∙ sym (flag_value w width z n state op x f t v i low high result y has left.answer right.answer is_left is_right),
+      tt,
+    ) in
     Meets-join z left.list _ m1 (Meets-join z right.list _ m2 m3)
 
 flag_answer : (w : ℕ) (state : StateWires) (op : ℕ) (x : Bits) (f : ℕ) (t : TapeWires) (next : ℕ) → (next_flag_of w state op x f t next).answer ≡ next + 2

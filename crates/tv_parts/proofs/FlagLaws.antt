@@ -1,5 +1,7 @@
 -- The numbers of the flag after a step.
-use Rattle.std.proofs.Common.{◌≡◌, ◌≢◌, ℕ, ◌+◌, ◌-◌, ◌*◌, ◌/◌, ◌%◌, ◌^◌, ◌<◌, ◌≤◌, ◌==◌, nat_lt, nat_le, int_lt, int_le, not, ◌||◌, Bool, true, false, if◌then◌else◌, List, [], ◌∷◌, inl, inr, refl, sym, ◌∙◌, ap, ap₂, subst, arith, eq-eqb, bit_and, bit_or, bit_xor, true≢false, ◌*ℤ◌}
+use Rattle.std.proofs.Common.{◌≡◌, ◌≢◌, ℕ, ◌+◌, ◌-◌, ◌*◌, ◌/◌, ◌%◌, ◌^◌, ◌<◌, ◌≤◌, ◌==◌, nat_lt, nat_le, int_lt, int_le, not, ◌||◌, Bool, true, false}
+use Rattle.std.proofs.Common.{if◌then◌else◌, List, [], ◌∷◌, inl, inr, refl, sym, ◌∙◌, ap, ap₂, subst, arith, eq-eqb, bit_and, bit_or, bit_xor, true≢false}
+use Rattle.std.proofs.Common.{◌*ℤ◌}
 use Rattle.std.specs.Int.{bit_at}
 use Rattle.std.proofs.lemmas.Bool.{cases_eq, cases_lt, ne_eqb, le-leb, lt-leb}
 use Rattle.std.proofs.lemmas.Bool.Decides.{nat_tests}
@@ -55,10 +57,12 @@ equal_is w width x a h k = elim (cases_eq x a) [
 ]
   where
     none : (w : ℕ) → IsWidth w → (x a : ℕ) → x < 2 ^ w → a < 2 ^ w → x ≡ a → (x + (2 ^ w - a)) % 2 ^ w ≡ 0
-    none w width = for_widths (λ w. (x a : ℕ) → x < 2 ^ w → a < 2 ^ w → x ≡ a → (x + (2 ^ w - a)) % 2 ^ w ≡ 0) (λ x a h k e. omega arith) (λ x a h k e. omega arith) w width
+    none w width = for_widths (λ w. (x a : ℕ) → x < 2 ^ w → a < 2 ^ w → x ≡ a → (x + (2 ^ w - a)) % 2 ^ w ≡ 0) (λ x a h k e. omega arith)
+        (λ x a h k e. omega arith) w width
 
     back : (w : ℕ) → IsWidth w → (x a : ℕ) → x < 2 ^ w → a < 2 ^ w → (x + (2 ^ w - a)) % 2 ^ w ≡ 0 → x ≡ a
-    back w width = for_widths (λ w. (x a : ℕ) → x < 2 ^ w → a < 2 ^ w → (x + (2 ^ w - a)) % 2 ^ w ≡ 0 → x ≡ a) (λ x a h k e. omega arith) (λ x a h k e. omega arith) w width
+    back w width = for_widths (λ w. (x a : ℕ) → x < 2 ^ w → a < 2 ^ w → (x + (2 ^ w - a)) % 2 ^ w ≡ 0 → x ≡ a) (λ x a h k e. omega arith)
+        (λ x a h k e. omega arith) w width
 
 bit_is : (x i : ℕ) → bit_at x i ≡ flag_of (has_bit i x)
 bit_is x i = by_parity (bit_at x i) (omega arith)
@@ -139,7 +143,8 @@ module _ (w : ℕ) (width : IsWidth w) (x a low high result y f flag : ℕ) (p t
 
   abbrev pub FlagNumber : ℕ → Type 0
   FlagNumber k = FlagCase k
-      → flag_sum k f (flag_of p) (flag_of t) (if k == 11 then (bit_at x (w - 1) + (P - f)) % P else 0) (if k == 12 then (bit_at x 0 + (P - f)) % P else 0) flag ≡ chosen (flags w x a (p || t) flag) k
+      → flag_sum k f (flag_of p) (flag_of t) (if k == 11 then (bit_at x (w - 1) + (P - f)) % P else 0) (if k == 12 then (bit_at x 0 + (P - f)) % P else 0) flag
+      ≡ chosen (flags w x a (p || t) flag) k
 
   no_p : (k : ℕ) → FlagCase k → (k == 30) ≡ false → flag_of p ≡ 0
   no_p k c e = ap flag_of (c.reads e).0
@@ -148,28 +153,36 @@ module _ (w : ℕ) (width : IsWidth w) (x a low high result y f flag : ℕ) (p t
   no_t k c e = ap flag_of (c.reads e).1
 
   at_and : FlagNumber 0
-  at_and c = straight f (flag_of p) (flag_of t) (flag_of (bit_and x a == 0)) flag (c.test ∙ ap (λ n. if n == 0 then 1 else 0) (c.tested refl ∙ c.result_is refl)) (flag_small _) (no_p 0 c refl) (no_t 0 c refl)
+  at_and c = straight f (flag_of p) (flag_of t) (flag_of (bit_and x a == 0)) flag
+      (c.test ∙ ap (λ n. if n == 0 then 1 else 0) (c.tested refl ∙ c.result_is refl)) (flag_small _) (no_p 0 c refl) (no_t 0 c refl)
 
   at_or : FlagNumber 1
-  at_or c = straight f (flag_of p) (flag_of t) (flag_of (bit_or x a == 0)) flag (c.test ∙ ap (λ n. if n == 0 then 1 else 0) (c.tested refl ∙ c.result_is refl)) (flag_small _) (no_p 1 c refl) (no_t 1 c refl)
+  at_or c = straight f (flag_of p) (flag_of t) (flag_of (bit_or x a == 0)) flag (c.test ∙ ap (λ n. if n == 0 then 1 else 0) (c.tested refl ∙ c.result_is refl))
+      (flag_small _) (no_p 1 c refl) (no_t 1 c refl)
 
   at_xor : FlagNumber 2
-  at_xor c = straight f (flag_of p) (flag_of t) (flag_of (bit_xor x a == 0)) flag (c.test ∙ ap (λ n. if n == 0 then 1 else 0) (c.tested refl ∙ c.result_is refl)) (flag_small _) (no_p 2 c refl) (no_t 2 c refl)
+  at_xor c = straight f (flag_of p) (flag_of t) (flag_of (bit_xor x a == 0)) flag
+      (c.test ∙ ap (λ n. if n == 0 then 1 else 0) (c.tested refl ∙ c.result_is refl)) (flag_small _) (no_p 2 c refl) (no_t 2 c refl)
 
   at_not : FlagNumber 3
-  at_not c = straight f (flag_of p) (flag_of t) (flag_of (2 ^ w - 1 - a == 0)) flag (c.test ∙ ap (λ n. if n == 0 then 1 else 0) (c.tested refl ∙ c.result_is refl)) (flag_small _) (no_p 3 c refl) (no_t 3 c refl)
+  at_not c = straight f (flag_of p) (flag_of t) (flag_of (2 ^ w - 1 - a == 0)) flag
+      (c.test ∙ ap (λ n. if n == 0 then 1 else 0) (c.tested refl ∙ c.result_is refl)) (flag_small _) (no_p 3 c refl) (no_t 3 c refl)
 
   at_add : FlagNumber 4
-  at_add c = raised f (flag_of p) (flag_of t) _ flag (minus_of y f c.test ∙ ap nonzero_flag (c.tested refl ∙ c.halves.high_half refl) ∙ over_is w width (x + a)) (no_p 4 c refl) (no_t 4 c refl)
+  at_add c = raised f (flag_of p) (flag_of t) _ flag (minus_of y f c.test ∙ ap nonzero_flag (c.tested refl ∙ c.halves.high_half refl) ∙ over_is w width (x + a))
+      (no_p 4 c refl) (no_t 4 c refl)
 
   at_sub : FlagNumber 5
-  at_sub c = straight f (flag_of p) (flag_of t) (flag_of (nat_lt x a)) flag (c.test ∙ ap (λ n. if n == 0 then 1 else 0) (c.tested refl ∙ c.halves.high_half refl) ∙ borrow_is x a) (flag_small _) (no_p 5 c refl) (no_t 5 c refl)
+  at_sub c = straight f (flag_of p) (flag_of t) (flag_of (nat_lt x a)) flag
+      (c.test ∙ ap (λ n. if n == 0 then 1 else 0) (c.tested refl ∙ c.halves.high_half refl) ∙ borrow_is x a) (flag_small _) (no_p 5 c refl) (no_t 5 c refl)
 
   at_mull : FlagNumber 6
-  at_mull c = raised f (flag_of p) (flag_of t) _ flag (minus_of y f c.test ∙ ap nonzero_flag (c.tested refl ∙ c.halves.high_half refl) ∙ over_is w width (x * a)) (no_p 6 c refl) (no_t 6 c refl)
+  at_mull c = raised f (flag_of p) (flag_of t) _ flag
+      (minus_of y f c.test ∙ ap nonzero_flag (c.tested refl ∙ c.halves.high_half refl) ∙ over_is w width (x * a)) (no_p 6 c refl) (no_t 6 c refl)
 
   at_umulh : FlagNumber 7
-  at_umulh c = raised f (flag_of p) (flag_of t) _ flag (minus_of y f c.test ∙ ap nonzero_flag (c.tested refl ∙ c.halves.high_half refl) ∙ over_is w width (x * a)) (no_p 7 c refl) (no_t 7 c refl)
+  at_umulh c = raised f (flag_of p) (flag_of t) _ flag
+      (minus_of y f c.test ∙ ap nonzero_flag (c.tested refl ∙ c.halves.high_half refl) ∙ over_is w width (x * a)) (no_p 7 c refl) (no_t 7 c refl)
 
   at_smulh : FlagNumber 8
   at_smulh c =
@@ -178,7 +191,9 @@ module _ (w : ℕ) (width : IsWidth w) (x a low high result y f flag : ℕ) (p t
       let halves = ap₂ (λ h l. (h + (P - (2 ^ w - 1) * bit_at l (w - 1))) % P) (c.halves.high_half refl) (c.halves.low_half refl) in
       raised f (flag_of p) (flag_of t) _ flag
       (minus_of y f c.test ∙ ap nonzero_flag (c.tested refl ∙ halves ∙ excess_is w width n)
-      ∙ over_flag w width (signed_value w x * signed_value w a) n s (Stands-product (signed_value w x) (signed_value w a) (signed w x) (signed w a) (2 ^ (w - 1)) (2 ^ (w - 1)) (Stands-signed w width x x_word) (Stands-signed w width a a_word)) refl
+      ∙ over_flag w width (signed_value w x * signed_value w a) n s
+      (Stands-product (signed_value w x) (signed_value w a) (signed w x) (signed w a) (2 ^ (w - 1)) (2 ^ (w - 1)) (Stands-signed w width x x_word)
+      (Stands-signed w width a a_word)) refl
       ∙ not_fits (fits w s)) (no_p 8 c refl) (no_t 8 c refl)
 
   at_udiv : FlagNumber 9
@@ -191,25 +206,34 @@ module _ (w : ℕ) (width : IsWidth w) (x a low high result y f flag : ℕ) (p t
   f_small k c e = subst (λ n. n < 2) (sym (c.test ∙ ap (λ n. if y == 0 then n else 0) e)) (flag_small (y == 0))
 
   at_shl : FlagNumber 11
-  at_shl c = lefts f (flag_of p) (flag_of t) (bit_at x (w - 1)) flag (f_small 11 c refl) (bit_small x (w - 1)) (no_p 11 c refl) (no_t 11 c refl) ∙ bit_is x (w - 1)
+  at_shl c = lefts f (flag_of p) (flag_of t) (bit_at x (w - 1)) flag (f_small 11 c refl) (bit_small x (w - 1)) (no_p 11 c refl) (no_t 11 c refl)
+      ∙ bit_is x (w - 1)
 
   at_shr : FlagNumber 12
   at_shr c = rights f (flag_of p) (flag_of t) (bit_at x 0) flag (f_small 12 c refl) (bit_small x 0) (no_p 12 c refl) (no_t 12 c refl) ∙ bit_is x 0
 
   at_cmpe : FlagNumber 13
-  at_cmpe c = straight f (flag_of p) (flag_of t) (flag_of (x == a)) flag (c.test ∙ ap (λ n. if n == 0 then 1 else 0) (c.tested refl ∙ c.result_is refl ∙ c.halves.low_half refl) ∙ equal_is w width x a x_word a_word) (flag_small _) (no_p 13 c refl) (no_t 13 c refl)
+  at_cmpe c = straight f (flag_of p) (flag_of t) (flag_of (x == a)) flag
+      (c.test ∙ ap (λ n. if n == 0 then 1 else 0) (c.tested refl ∙ c.result_is refl ∙ c.halves.low_half refl) ∙ equal_is w width x a x_word a_word)
+      (flag_small _) (no_p 13 c refl) (no_t 13 c refl)
 
   at_cmpa : FlagNumber 14
-  at_cmpa c = raised f (flag_of p) (flag_of t) _ flag (minus_of y f c.test ∙ ap nonzero_flag (c.tested refl ∙ c.halves.high_half refl) ∙ nonzero_of (nat_lt a x)) (no_p 14 c refl) (no_t 14 c refl)
+  at_cmpa c = raised f (flag_of p) (flag_of t) _ flag
+      (minus_of y f c.test ∙ ap nonzero_flag (c.tested refl ∙ c.halves.high_half refl) ∙ nonzero_of (nat_lt a x)) (no_p 14 c refl) (no_t 14 c refl)
 
   at_cmpae : FlagNumber 15
-  at_cmpae c = raised f (flag_of p) (flag_of t) _ flag (minus_of y f c.test ∙ ap nonzero_flag (c.tested refl ∙ c.halves.high_half refl) ∙ nonzero_of (nat_le a x)) (no_p 15 c refl) (no_t 15 c refl)
+  at_cmpae c = raised f (flag_of p) (flag_of t) _ flag
+      (minus_of y f c.test ∙ ap nonzero_flag (c.tested refl ∙ c.halves.high_half refl) ∙ nonzero_of (nat_le a x)) (no_p 15 c refl) (no_t 15 c refl)
 
   at_cmpg : FlagNumber 16
-  at_cmpg c = raised f (flag_of p) (flag_of t) _ flag (minus_of y f c.test ∙ ap nonzero_flag (c.tested refl ∙ c.halves.high_half refl) ∙ nonzero_of (int_lt (signed w a) (signed w x))) (no_p 16 c refl) (no_t 16 c refl)
+  at_cmpg c = raised f (flag_of p) (flag_of t) _ flag
+      (minus_of y f c.test ∙ ap nonzero_flag (c.tested refl ∙ c.halves.high_half refl) ∙ nonzero_of (int_lt (signed w a) (signed w x))) (no_p 16 c refl)
+      (no_t 16 c refl)
 
   at_cmpge : FlagNumber 17
-  at_cmpge c = raised f (flag_of p) (flag_of t) _ flag (minus_of y f c.test ∙ ap nonzero_flag (c.tested refl ∙ c.halves.high_half refl) ∙ nonzero_of (int_le (signed w a) (signed w x))) (no_p 17 c refl) (no_t 17 c refl)
+  at_cmpge c = raised f (flag_of p) (flag_of t) _ flag
+      (minus_of y f c.test ∙ ap nonzero_flag (c.tested refl ∙ c.halves.high_half refl) ∙ nonzero_of (int_le (signed w a) (signed w x))) (no_p 17 c refl)
+      (no_t 17 c refl)
 
   at_read : FlagNumber 30
   at_read c = ap (λ n. (1 + n + (P - flag_of p) + (P - flag_of t) + 0 + 0 + 0 * flag) % P) (c.test ∙ same_choice (y == 0) 0) ∙ found_by p t c.apart
@@ -222,7 +246,8 @@ module _ (w : ℕ) (width : IsWidth w) (x a low high result y f flag : ℕ) (p t
 
   -- an opcode that keeps the flag
   kept : (k : ℕ) → FlagCase k → sign_at k ≡ 0 → (k == 30) ≡ false → (0 + f + (P - flag_of p) + (P - flag_of t) + 0 + 0 + 1 * flag) % P ≡ flag
-  kept k c sign other = kept_by f (flag_of p) (flag_of t) flag (c.test ∙ ap (λ n. if y == 0 then n else 0) sign ∙ same_choice (y == 0) 0) bit (no_p k c other) (no_t k c other)
+  kept k c sign other = kept_by f (flag_of p) (flag_of t) flag (c.test ∙ ap (λ n. if y == 0 then n else 0) sign ∙ same_choice (y == 0) 0) bit (no_p k c other)
+      (no_t k c other)
 
   pub flag_number : (k : ℕ) → k < 32 → among unused_ops k ≡ false → FlagNumber k
   flag_number = for_opcode FlagNumber (

@@ -7,6 +7,17 @@ pub mod FlagFills
 pub mod FlagLaws
 pub mod MemoryFills
 pub mod MemoryLaws
+pub mod NormalAccumulation
+pub mod NormalArithmetic
+pub mod NormalFlag
+pub mod NormalMemory
+pub mod NormalOpcodes
+pub mod NormalOperand
+pub mod NormalPc
+pub mod NormalResults
+pub mod NormalStates
+pub mod NormalTapes
+pub mod NormalWritten
 pub mod OpcodeCases
 pub mod OpcodeLaws
 pub mod OperandLaws

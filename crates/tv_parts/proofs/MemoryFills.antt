@@ -1,5 +1,6 @@
 -- The laws of memory.
-use Rattle.std.proofs.Common.{◌≡◌, ℕ, ◌+◌, ◌-◌, ◌*◌, ◌/◌, ◌%◌, ◌^◌, ◌<◌, ◌≤◌, ◌==◌, ◌||◌, Bool, true, false, if◌then◌else◌, List, [], ◌∷◌, ◌++◌, length, refl, sym, ◌∙◌, ap, ap₂, subst, arith, mod-lt}
+use Rattle.std.proofs.Common.{◌≡◌, ℕ, ◌+◌, ◌-◌, ◌*◌, ◌/◌, ◌%◌, ◌^◌, ◌<◌, ◌≤◌, ◌==◌, ◌||◌, Bool, true, false, if◌then◌else◌, List, [], ◌∷◌, ◌++◌, length, refl}
+use Rattle.std.proofs.Common.{sym, ◌∙◌, ap, ap₂, subst, arith, mod-lt}
 use Rattle.std.specs.Prelude.{slice_index}
 use Rattle.std.proofs.lemmas.Bool.{eqb-true, ne_eqb}
 use Rattle.tv_bits.proofs.SpelledNumbers.{Spells-below}
@@ -29,13 +30,15 @@ use Rattle.tv_step.specs.Trace.{tape_cell}
 use Rattle.tv_word.proofs.WidthLaws.{for_widths, word_small}
 use Rattle.tv_word.specs.Widths.{IsWidth}
 use Rattle.tv_parts.proofs.AccumulationLaws.{accumulated_sound, accumulated_complete, accumulated_next}
-use Rattle.tv_parts.proofs.MemoryLaws.{located_is, line_cell, line_old, word_below, flag_times, power_two, power_four, put_in_by, place_small, byte_value, low_bit, next_bit, parity_bit, new_by, byte_laws}
+use Rattle.tv_parts.proofs.MemoryLaws.{located_is, line_cell, line_old, word_below, flag_times, power_two, power_four, put_in_by, place_small, byte_value}
+use Rattle.tv_parts.proofs.MemoryLaws.{low_bit, next_bit, parity_bit, new_by, byte_laws}
 use Rattle.tv_parts.proofs.OpcodeLaws.{opcode_sum_sound}
 use Rattle.tv_parts.proofs.ResultLaws.{small_word}
 use Rattle.tv_parts.proofs.TapeGates.{value-two, value-four}
 use Rattle.tv_parts.proofs.TapeLaws.{among_one}
 use Rattle.tv_parts.specs.Accumulation.{closed_of, accumulated_of}
-use Rattle.tv_parts.specs.Memory.{line_of, byte_of_pair, byte_of_four, byte_at_of, power_in, new_of, memory_of, line_values, byte_values, gained, new_values, memory_values, HasMemory, MemoryIsSound, MemoryIsComplete, MemorySizes, MemoryCosts}
+use Rattle.tv_parts.specs.Memory.{line_of, byte_of_pair, byte_of_four, byte_at_of, power_in, new_of, memory_of, line_values, byte_values, gained, new_values}
+use Rattle.tv_parts.specs.Memory.{memory_values, HasMemory, MemoryIsSound, MemoryIsComplete, MemorySizes, MemoryCosts}
 use Rattle.tv_parts.specs.OpcodeSums.{opcode_sum}
 use Rattle.tv_parts.specs.Tapes.{primary_in, took}
 use Rattle.tv_parts.specs.declared.records.DataWires.{DataWires}
@@ -44,7 +47,8 @@ use Rattle.tv_parts.specs.declared.records.StateWires.{StateWires}
 use Rattle.tv_parts.specs.declared.records.StoreWires.{StoreWires}
 use Rattle.tv_parts.specs.declared.records.TapeWires.{TapeWires}
 
-power_is : (z : List ℕ) (a both at : ℕ) → slice_index z 0 ≡ 1 → slice_index z both ≡ slice_index z a * slice_index z (a + 1) % P → (w : ℕ) → IsWidth w → Spells z a w at → value (power_in w a both) z ≡ 256 ^ (at % (w / 8))
+power_is : (z : List ℕ) (a both at : ℕ) → slice_index z 0 ≡ 1 → slice_index z both ≡ slice_index z a * slice_index z (a + 1) % P → (w : ℕ) → IsWidth w
+    → Spells z a w at → value (power_in w a both) z ≡ 256 ^ (at % (w / 8))
 power_is z a both at one is w width = for_widths (λ w. Spells z a w at → value (power_in w a both) z ≡ 256 ^ (at % (w / 8))) sixteen thirty_two w width
   where
     sixteen : Spells z a 16 at → value (power_in 16 a both) z ≡ 256 ^ (at % 2)
@@ -60,7 +64,8 @@ power_is z a both at one is w width = for_widths (λ w. Spells z a w at → valu
         ∙ power_four at (at % 2) (at / 2 % 2) (parity_bit at) (parity_bit (at / 2)) (omega arith)
 
 -- ---- the word after the step
-module _ (w : ℕ) (width : IsWidth w) (z : List ℕ) (n : ℕ) (state : StateWires) (op : ℕ) (a : Bits) (d : DataWires) (t : TapeWires) (v : View) (i : Instr) (x o : ℕ) (has : HasMemory w z n state op a d t v i x o) where
+module _ (w : ℕ) (width : IsWidth w) (z : List ℕ) (n : ℕ) (state : StateWires) (op : ℕ) (a : Bits) (d : DataWires) (t : TapeWires) (v : View) (i : Instr)
+    (x o : ℕ) (has : HasMemory w z n state op a d t v i x o) where
   abbrev at : ℕ
   at = operand_word v i
 
@@ -77,7 +82,8 @@ module _ (w : ℕ) (width : IsWidth w) (z : List ℕ) (n : ℕ) (state : StateWi
   change_is byte is =
       ap₂ (λ m k. m * k % P) (power_is z a.first d.both at has.assigns.one has.both w width has.operand)
       (value-append (bits_combination d.x.first 8) ((P - 1, byte) ∷ []) z
-      ∙ ap₂ (λ m k. (m + k) % P) (byte_value z w d.x.first d.x.first x 0 (w - 8) (omega arith) (omega (arith, width)) has.spelled ∙ (let e : x / 2 ^ (8 * 0) % 2 ^ 8 ≡ x % 256 = omega arith in e))
+      ∙ ap₂ (λ m k. (m + k) % P) (byte_value z w d.x.first d.x.first x 0 (w - 8) (omega arith) (omega (arith, width)) has.spelled
+      ∙ (let e : x / 2 ^ (8 * 0) % 2 ^ 8 ≡ x % 256 = omega arith in e))
       (value-cons (P - 1) byte [] z ∙ ap (λ k. ((P - 1) * k + 0) % P) is)
       ∙ less (x % 256) (byte_of o j) (byte_small o j))
     where
@@ -87,19 +93,24 @@ module _ (w : ℕ) (width : IsWidth w) (z : List ℕ) (n : ℕ) (state : StateWi
       less : (m b : ℕ) → b < 256 → (m + ((P - 1) * b + 0) % P) % P ≡ (m + (P - b)) % P
       less m b h = omega arith
 
-  changed_is : (change : ℕ) → slice_index z change ≡ gained o j (x % 256) → value (opcode_sum op (26 ∷ [])) z * value (wire change) z % P ≡ (if i.op == 26 then gained o j (x % 256) else 0)
-  changed_is change is = ap₂ (λ m k. m * k % P) (opcode_sum_sound z op i.op (26 ∷ []) has.opcode refl ∙ ap flag_of (among_one 26 i.op)) (value-wire has.assigns change ∙ is) ∙ flag_times (i.op == 26) (gained o j (x % 256)) (mod-lt _ (omega arith))
+  changed_is : (change : ℕ) → slice_index z change ≡ gained o j (x % 256)
+      → value (opcode_sum op (26 ∷ [])) z * value (wire change) z % P ≡ (if i.op == 26 then gained o j (x % 256) else 0)
+  changed_is change is = ap₂ (λ m k. m * k % P) (opcode_sum_sound z op i.op (26 ∷ []) has.opcode refl ∙ ap flag_of (among_one 26 i.op))
+      (value-wire has.assigns change ∙ is) ∙ flag_times (i.op == 26) (gained o j (x % 256)) (mod-lt _ (omega arith))
 
   new_is : (old changed : ℕ) → slice_index z old ≡ old_in w n v i o takes → slice_index z changed ≡ (if i.op == 26 then gained o j (x % 256) else 0)
-      → (value (wire old ++ wire changed) z + value (opcode_sum op (28 ∷ [])) z * value ((1, d.other) ∷ (P - 1, d.word) ∷ []) z) % P ≡ (data_line w n v i o takes 0).new
+      → (value (wire old ++ wire changed) z + value (opcode_sum op (28 ∷ [])) z * value ((1, d.other) ∷ (P - 1, d.word) ∷ []) z) % P
+      ≡ (data_line w n v i o takes 0).new
   new_is old changed is_old is_changed =
       ap₂ (λ m k. (m + k) % P)
       (value-append (wire old) (wire changed) z ∙ ap₂ (λ m k. (m + k) % P) (value-wire has.assigns old ∙ is_old) (value-wire has.assigns changed ∙ is_changed))
-      (ap₂ (λ m k. m * k) (opcode_sum_sound z op i.op (28 ∷ []) has.opcode refl ∙ ap flag_of (among_one 28 i.op)) (value-two z 1 (P - 1) d.other d.word ∙ ap₂ (λ m k. (1 * m + (P - 1) * k) % P) has.other has.word))
+      (ap₂ (λ m k. m * k) (opcode_sum_sound z op i.op (28 ∷ []) has.opcode refl ∙ ap flag_of (among_one 28 i.op))
+      (value-two z 1 (P - 1) d.other d.word ∙ ap₂ (λ m k. (1 * m + (P - 1) * k) % P) has.other has.word))
       ∙ new_by (i.op == 28) (i.op == 26) (other_word v i) o (old_in w n v i o takes) (gained o j (x % 256)) (with_byte_in o j (other_word v i % 256))
       (subst (λ k. k < P) has.other (wire-below has.assigns d.other)) o_small (mod-lt _ (omega arith)) (subst (λ k. k < P) is_old (wire-below has.assigns old))
       (λ e. ne_eqb i.op 26 (λ k. other (eqb-true i.op 28 e) k)) (λ e. kept 28 (eqb-true i.op 28 e) refl) (λ e. kept 26 (eqb-true i.op 26 e) refl)
-      (λ e. ap (λ k. (o + gained o j (k % 256)) % P) (has.stored (eqb-true i.op 26 e)) ∙ put_in_by o j (other_word v i % 256) (place_small w width at) (word_small w width o (Spells-below has.bits)) (omega arith))
+      (λ e. ap (λ k. (o + gained o j (k % 256)) % P) (has.stored (eqb-true i.op 26 e))
+      ∙ put_in_by o j (other_word v i % 256) (place_small w width at) (word_small w width o (Spells-below has.bits)) (omega arith))
     where
       o_small : o < P
       o_small = word_below w width z n state op a d t v i x o has
@@ -115,7 +126,8 @@ line_next : (w : ℕ) (state : StateWires) (op : ℕ) (a : Bits) (word : ℕ) (t
 unfolding line_of times_of closed_of fresh put pure ◌>>=◌
 line_next w state op a word t next = omega arith
 
-line_answer : (w : ℕ) (state : StateWires) (op : ℕ) (a : Bits) (word : ℕ) (t : TapeWires) (next : ℕ) → (line_of w state op a word t next).answer ≡ record { cell = next + 1; old = next + 1 + 1 }
+line_answer : (w : ℕ) (state : StateWires) (op : ℕ) (a : Bits) (word : ℕ) (t : TapeWires) (next : ℕ)
+    → (line_of w state op a word t next).answer ≡ record { cell = next + 1; old = next + 1 + 1 }
 unfolding line_of times_of closed_of fresh put pure ◌>>=◌
 line_answer w state op a word t next = refl
 
@@ -143,7 +155,8 @@ record AreLine (w : ℕ) (z : List ℕ) (line : LineWires) (n : ℕ) (v : View) 
   pub cell : slice_index z line.cell ≡ (data_line w n v i o takes 0).cell
   pub old : slice_index z line.old ≡ old_in w n v i o takes
 
-line_sound : (w : ℕ) (width : IsWidth w) (z : List ℕ) (next n : ℕ) (state : StateWires) (op : ℕ) (a : Bits) (d : DataWires) (t : TapeWires) (v : View) (i : Instr) (x o : ℕ) → HasMemory w z n state op a d t v i x o
+line_sound : (w : ℕ) (width : IsWidth w) (z : List ℕ) (next n : ℕ) (state : StateWires) (op : ℕ) (a : Bits) (d : DataWires) (t : TapeWires) (v : View)
+    (i : Instr) (x o : ℕ) → HasMemory w z n state op a d t v i x o
     → Meets z (line_of w state op a d.word t next).list → AreLine w z (line_of w state op a d.word t next).answer n v i o (took z t)
 unfolding line_of pure ◌>>=◌
 line_sound w width z next n state op a d t v i x o has meets =
@@ -159,11 +172,13 @@ line_sound w width z next n state op a d t v i x o has meets =
     let m3 = Meets-split z old.list _ m2.1 in
     let is = accumulated_sound z next (constant NULL_CELL) (opcode_sum op memory_ops) cells assigns m1.0 ∙ located_is w width z n state op a d t v i x o has in
     record {
-      cell = accumulated_sound z located.next (wire located.answer) (primary_in state t) tape assigns m2.0 ∙ line_cell w width z n state op a d t v i x o has located.answer is;
+      cell = accumulated_sound z located.next (wire located.answer) (primary_in state t) tape assigns m2.0
+          ∙ line_cell w width z n state op a d t v i x o has located.answer is;
       old = times_sound z cell.next gate (wire d.word) assigns m3.0 ∙ line_old w width z n state op a d t v i x o has;
     }
 
-line_complete : (w : ℕ) (width : IsWidth w) (z : List ℕ) (next n : ℕ) (state : StateWires) (op : ℕ) (a : Bits) (d : DataWires) (t : TapeWires) (v : View) (i : Instr) (x o : ℕ) → HasMemory w z n state op a d t v i x o
+line_complete : (w : ℕ) (width : IsWidth w) (z : List ℕ) (next n : ℕ) (state : StateWires) (op : ℕ) (a : Bits) (d : DataWires) (t : TapeWires) (v : View)
+    (i : Instr) (x o : ℕ) → HasMemory w z n state op a d t v i x o
     → HasFrom z next (line_values w n v i o (took z t)) → Meets z (line_of w state op a d.word t next).list
 unfolding line_of pure ◌>>=◌
 line_complete w width z next n state op a d t v i x o has values =
@@ -179,11 +194,14 @@ line_complete w width z next n state op a d t v i x o has values =
     let number = located_is w width z n state op a d t v i x o has in
     let m1 = accumulated_complete z next (constant NULL_CELL) (opcode_sum op memory_ops) cells assigns (values.0 ∙ sym number, tt) in
     let is = accumulated_sound z next (constant NULL_CELL) (opcode_sum op memory_ops) cells assigns m1 ∙ number in
-    let m2 = accumulated_complete z located.next (wire located.answer) (primary_in state t) tape assigns (ap (λ k. slice_index z k) e1 ∙ values.1.0 ∙ sym (line_cell w width z n state op a d t v i x o has located.answer is), tt) in
-    let m3 = times_complete z cell.next gate (wire d.word) assigns (ap (λ k. slice_index z k) e2 ∙ values.1.1.0 ∙ sym (line_old w width z n state op a d t v i x o has), tt) in
+    let m2 = accumulated_complete z located.next (wire located.answer) (primary_in state t) tape assigns
+    (ap (λ k. slice_index z k) e1 ∙ values.1.0 ∙ sym (line_cell w width z n state op a d t v i x o has located.answer is), tt) in
+    let m3 = times_complete z cell.next gate (wire d.word) assigns
+    (ap (λ k. slice_index z k) e2 ∙ values.1.1.0 ∙ sym (line_old w width z n state op a d t v i x o has), tt) in
     Meets-join z located.list _ m1 (Meets-join z cell.list _ m2 (Meets-join z old.list _ m3 tt))
 
-new_sound : (w : ℕ) (width : IsWidth w) (z : List ℕ) (next n : ℕ) (state : StateWires) (op : ℕ) (a : Bits) (d : DataWires) (t : TapeWires) (v : View) (i : Instr) (x o : ℕ) → HasMemory w z n state op a d t v i x o
+new_sound : (w : ℕ) (width : IsWidth w) (z : List ℕ) (next n : ℕ) (state : StateWires) (op : ℕ) (a : Bits) (d : DataWires) (t : TapeWires) (v : View)
+    (i : Instr) (x o : ℕ) → HasMemory w z n state op a d t v i x o
     → (line : LineWires) (byte : ℕ) → slice_index z line.old ≡ old_in w n v i o (took z t) → slice_index z byte ≡ byte_of o (operand_word v i % word_size w)
     → Meets z (new_of w op d a line byte next).list → slice_index z (new_of w op d a line byte next).answer ≡ (data_line w n v i o (took z t) 0).new
 unfolding new_of ◌>>=◌
@@ -195,11 +213,13 @@ new_sound w width z next n state op a d t v i x o has line byte is_old is_byte m
     let m1 = Meets-split z change.list _ meets in
     let m2 = Meets-split z changed.list _ m1.1 in
     let is_change = times_sound z next (power_in w a.first d.both) other assigns m1.0 ∙ change_is w width z n state op a d t v i x o has byte is_byte in
-    let is_changed = times_sound z change.next (opcode_sum op (26 ∷ [])) (wire change.answer) assigns m2.0 ∙ changed_is w width z n state op a d t v i x o has change.answer is_change in
+    let is_changed = times_sound z change.next (opcode_sum op (26 ∷ [])) (wire change.answer) assigns m2.0
+    ∙ changed_is w width z n state op a d t v i x o has change.answer is_change in
     accumulated_sound z changed.next (wire line.old ++ wire changed.answer) (opcode_sum op (28 ∷ [])) ((1, d.other) ∷ (P - 1, d.word) ∷ []) assigns m2.1
     ∙ new_is w width z n state op a d t v i x o has line.old changed.answer is_old is_changed
 
-new_complete : (w : ℕ) (width : IsWidth w) (z : List ℕ) (next n : ℕ) (state : StateWires) (op : ℕ) (a : Bits) (d : DataWires) (t : TapeWires) (v : View) (i : Instr) (x o : ℕ) → HasMemory w z n state op a d t v i x o
+new_complete : (w : ℕ) (width : IsWidth w) (z : List ℕ) (next n : ℕ) (state : StateWires) (op : ℕ) (a : Bits) (d : DataWires) (t : TapeWires) (v : View)
+    (i : Instr) (x o : ℕ) → HasMemory w z n state op a d t v i x o
     → (line : LineWires) (byte : ℕ) → slice_index z line.old ≡ old_in w n v i o (took z t) → slice_index z byte ≡ byte_of o (operand_word v i % word_size w)
     → HasFrom z next (new_values w n v i x o (took z t)) → Meets z (new_of w op d a line byte next).list
 unfolding new_of ◌>>=◌
@@ -214,7 +234,8 @@ new_complete w width z next n state op a d t v i x o has line byte is_old is_byt
     let m1 = times_complete z next (power_in w a.first d.both) other assigns (values.0 ∙ sym change_number, tt) in
     let is_change = times_sound z next (power_in w a.first d.both) other assigns m1 ∙ change_number in
     let changed_number = changed_is w width z n state op a d t v i x o has change.answer is_change in
-    let m2 = times_complete z change.next (opcode_sum op (26 ∷ [])) (wire change.answer) assigns (ap (λ k. slice_index z k) e1 ∙ values.1.0 ∙ sym changed_number, tt) in
+    let m2 = times_complete z change.next (opcode_sum op (26 ∷ [])) (wire change.answer) assigns
+    (ap (λ k. slice_index z k) e1 ∙ values.1.0 ∙ sym changed_number, tt) in
     let is_changed = times_sound z change.next (opcode_sum op (26 ∷ [])) (wire change.answer) assigns m2 ∙ changed_number in
     let m3 = accumulated_complete z changed.next (wire line.old ++ wire changed.answer) (opcode_sum op (28 ∷ [])) ((1, d.other) ∷ (P - 1, d.word) ∷ []) assigns
     (ap (λ k. slice_index z k) e2 ∙ values.1.1.0 ∙ sym (new_is w width z n state op a d t v i x o has line.old changed.answer is_old is_changed), tt) in
@@ -250,7 +271,8 @@ memory_complete w width z next n state op a d t v i x o has values =
     let byte = byte_at_of w d.bits a.first line.next in
     let new = new_of w op d a line.answer byte.answer byte.next in
     let e1 : line.next ≡ next + 3 = line_next w state op a d.word t next in
-    let e2 : byte.next ≡ next + 3 + length (byte_values w o at) = byte_next w width d.bits a.first line.next ∙ ap₂ (λ m k. m + k) e1 (sym (byte_length w width o at)) in
+    let e2 : byte.next ≡ next + 3 + length (byte_values w o at) = byte_next w width d.bits a.first line.next
+    ∙ ap₂ (λ m k. m + k) e1 (sym (byte_length w width o at)) in
     let first = HasFrom-split z next (line_values w n v i o (took z t)) (byte_values w o at ++ new_values w n v i x o (took z t)) values in
     let second = HasFrom-split z (next + 3) (byte_values w o at) (new_values w n v i x o (took z t)) first.1 in
     let m1 = line_complete w width z next n state op a d t v i x o has first.0 in
@@ -258,7 +280,8 @@ memory_complete w width z next n state op a d t v i x o has values =
     let laws = byte_laws z line.next d.bits a.first o at has.assigns w width has.bits has.operand in
     let m2 = laws.1 (subst (λ k. HasFrom z k (byte_values w o at)) (sym e1) second.0) in
     let is_byte = laws.0 m2 in
-    let m3 = new_complete w width z byte.next n state op a d t v i x o has line.answer byte.answer are.old is_byte (subst (λ k. HasFrom z k (new_values w n v i x o (took z t))) (sym e2) second.1) in
+    let m3 = new_complete w width z byte.next n state op a d t v i x o has line.answer byte.answer are.old is_byte
+    (subst (λ k. HasFrom z k (new_values w n v i x o (took z t))) (sym e2) second.1) in
     Meets-join z line.list _ m1 (Meets-join z byte.list _ m2 (Meets-join z new.list _ m3 tt))
 
 -- ---- sizes and costs
@@ -311,12 +334,14 @@ bytes_below w o a = by_test (w == 16)
     by_test true = InField-cons (byte_of o (a % 2)) [] (byte_below o (a % 2)) InField-none
     by_test false =
         InField-cons (byte_of o (a % 2)) (byte_of o (2 + a % 2) ∷ byte_of o (a % 4) ∷ []) (byte_below o (a % 2))
-        (InField-cons (byte_of o (2 + a % 2)) (byte_of o (a % 4) ∷ []) (byte_below o (2 + a % 2)) (InField-cons (byte_of o (a % 4)) [] (byte_below o (a % 4)) InField-none))
+        (InField-cons (byte_of o (2 + a % 2)) (byte_of o (a % 4) ∷ []) (byte_below o (2 + a % 2))
+        (InField-cons (byte_of o (a % 4)) [] (byte_below o (a % 4)) InField-none))
 
 with_byte_below : (o j b : ℕ) → j < 4 → o < 2 ^ 32 → b < 256 → with_byte_in o j b < P
 with_byte_below o j b h k l = subst (λ m. m < P) (put_in_by o j b h k l) (mod-lt _ (omega arith))
 
-memory_in_field : (w : ℕ) → IsWidth w → (n : ℕ) (v : View) (i : Instr) (x o : ℕ) (takes : Bool) → n < 2 ^ 29 → v.taken ≤ n → operand_word v i < 2 ^ w → other_word v i < 2 ^ w → o < 2 ^ w
+memory_in_field : (w : ℕ) → IsWidth w → (n : ℕ) (v : View) (i : Instr) (x o : ℕ) (takes : Bool) → n < 2 ^ 29 → v.taken ≤ n → operand_word v i < 2 ^ w
+    → other_word v i < 2 ^ w → o < 2 ^ w
     → InField (memory_values w n v i x o takes)
 memory_in_field w width n v i x o takes short within word other o_word =
     let at : ℕ = operand_word v i in
@@ -328,15 +353,19 @@ memory_in_field w width n v i x o takes short within word other o_word =
     let change_small : change < P = mod-lt _ (omega arith) in
     let new_small : (data_line w n v i o takes 0).new < P =
     either (i.op == 28) (other_word v i) _ (small_word w width (other_word v i) other)
-    (either (i.op == 26) _ (old_in w n v i o takes) (with_byte_below o (at % word_size w) (other_word v i % 256) (place_small w width at) (word_small w width o o_word) (omega arith)) old_small) in
+    (either (i.op == 26) _ (old_in w n v i o takes)
+    (with_byte_below o (at % word_size w) (other_word v i % 256) (place_small w width at) (word_small w width o o_word) (omega arith)) old_small) in
     let l2 : List ℕ = old_in w n v i o takes ∷ [] in
     let l1 : List ℕ = (data_line w n v i o takes 0).cell ∷ l2 in
     let n2 : List ℕ = (data_line w n v i o takes 0).new ∷ [] in
     let n1 : List ℕ = (if i.op == 26 then change else 0) ∷ n2 in
     InField-append (line_values w n v i o takes) (byte_values w o at ++ new_values w n v i x o takes)
-    (InField-cons located l1 located_small (InField-cons (data_line w n v i o takes 0).cell l2 (either (takes_primary v i n) (tape_cell v.taken) located (omega arith) located_small) (InField-cons (old_in w n v i o takes) [] old_small InField-none)))
+    (InField-cons located l1 located_small (InField-cons (data_line w n v i o takes 0).cell l2
+    (either (takes_primary v i n) (tape_cell v.taken) located (omega arith) located_small)
+    (InField-cons (old_in w n v i o takes) [] old_small InField-none)))
     (InField-append (byte_values w o at) (new_values w n v i x o takes) (bytes_below w o at)
-    (InField-cons change n1 change_small (InField-cons (if i.op == 26 then change else 0) n2 (either (i.op == 26) change 0 change_small (omega arith)) (InField-cons (data_line w n v i o takes 0).new [] new_small InField-none))))
+    (InField-cons change n1 change_small (InField-cons (if i.op == 26 then change else 0) n2 (either (i.op == 26) change 0 change_small (omega arith))
+    (InField-cons (data_line w n v i o takes 0).new [] new_small InField-none))))
   where
     divided : (w : ℕ) → IsWidth w → (a : ℕ) → a < 2 ^ w → a / word_size w < P
     divided w width = for_widths (λ w. (a : ℕ) → a < 2 ^ w → a / word_size w < P) (λ a h. omega arith) (λ a h. omega arith) w width
@@ -345,7 +374,8 @@ pub memory_sizes : MemorySizes
 memory_sizes = record {
   answer = for_widths MadeAt made_two made_four;
   end = memory_next;
-  fills = λ w width n state op a d t v i x o takes next. memory_next w width state op a d t next ∙ ap (λ k. next + k) (sym (values_length w width n v i x o takes));
+  fills = λ w width n state op a d t v i x o takes next. memory_next w width state op a d t next
+      ∙ ap (λ k. next + k) (sym (values_length w width n v i x o takes));
   in_field = memory_in_field;
 }
 

@@ -1,5 +1,6 @@
 -- The laws of the data line and of the bytes of its word.
-use Rattle.std.proofs.Common.{◌≡◌, ℕ, zero, suc, ◌+◌, ◌-◌, ◌*◌, ◌/◌, ◌%◌, ◌^◌, ◌<◌, ◌==◌, ◌||◌, Bool, true, false, if◌then◌else◌, List, [], ◌∷◌, ◌++◌, inl, inr, refl, sym, ◌∙◌, ap, ap₂, subst, arith, true≢false}
+use Rattle.std.proofs.Common.{◌≡◌, ℕ, zero, suc, ◌+◌, ◌-◌, ◌*◌, ◌/◌, ◌%◌, ◌^◌, ◌<◌, ◌==◌, ◌||◌, Bool, true, false, if◌then◌else◌, List, [], ◌∷◌, ◌++◌, inl}
+use Rattle.std.proofs.Common.{inr, refl, sym, ◌∙◌, ap, ap₂, subst, arith, true≢false}
 use Rattle.std.specs.Int.{bit_at}
 use Rattle.std.specs.Prelude.{slice_index}
 use Rattle.std.proofs.lemmas.Bool.{cases_eq, ne_eqb}
@@ -55,7 +56,8 @@ rise_is : (p : Bool) (b t : ℕ) → b < 2 ^ 29 → t ≡ (if p then b + 1 else 
 rise_is true b t h e = omega arith
 rise_is false b t h e = omega arith
 
-held_is : (m p : Bool) (b t : ℕ) → b < 2 ^ 29 → t ≡ (if p then b + 1 else b) → (m ≡ true → p ≡ false) → ((P - 1) * b + (flag_of m + t) % P) % P ≡ flag_of (m || p)
+held_is : (m p : Bool) (b t : ℕ) → b < 2 ^ 29 → t ≡ (if p then b + 1 else b) → (m ≡ true → p ≡ false)
+    → ((P - 1) * b + (flag_of m + t) % P) % P ≡ flag_of (m || p)
 held_is true p b t h e none = rw (e, none refl) (omega arith)
 held_is false true b t h e none = rw e (omega arith)
 held_is false false b t h e none = rw e (omega arith)
@@ -108,7 +110,8 @@ put_in_by o r b h small bs = at r h
     at (suc (suc (suc (suc k)))) h = absurd (omega arith)
 
 -- the new word: at store.w the other word, at store.b the old one with the byte, else the old one
-pub new_by : (sw sb : Bool) (x o old gain put : ℕ) → x < P → o < P → gain < P → old < P → (sw ≡ true → sb ≡ false) → (sw ≡ true → old ≡ o) → (sb ≡ true → old ≡ o) → (sb ≡ true → (o + gain) % P ≡ put)
+pub new_by : (sw sb : Bool) (x o old gain put : ℕ) → x < P → o < P → gain < P → old < P → (sw ≡ true → sb ≡ false) → (sw ≡ true → old ≡ o)
+    → (sb ≡ true → old ≡ o) → (sb ≡ true → (o + gain) % P ≡ put)
     → ((old + (if sb then gain else 0)) % P + flag_of sw * ((1 * x + (P - 1) * o) % P)) % P ≡ (if sw then x else if sb then put else old)
 new_by true sb x o old gain put hx ho hg small none is_old also e = rw (none refl, is_old refl) (omega arith)
 new_by false true x o old gain put hx ho hg small none is_old also e = rw (also refl) (let d : (o + gain) % P ≡ put = e refl in omega arith)
@@ -118,7 +121,8 @@ pub place_small : (w : ℕ) → IsWidth w → (at : ℕ) → at % (w / 8) < 4
 place_small w width = for_widths (λ w. (at : ℕ) → at % (w / 8) < 4) (λ at. omega arith) (λ at. omega arith) w width
 
 -- ---- the values
-module _ (w : ℕ) (width : IsWidth w) (z : List ℕ) (n : ℕ) (state : StateWires) (op : ℕ) (a : Bits) (d : DataWires) (t : TapeWires) (v : View) (i : Instr) (x o : ℕ) (has : HasMemory w z n state op a d t v i x o) where
+module _ (w : ℕ) (width : IsWidth w) (z : List ℕ) (n : ℕ) (state : StateWires) (op : ℕ) (a : Bits) (d : DataWires) (t : TapeWires) (v : View) (i : Instr)
+    (x o : ℕ) (has : HasMemory w z n state op a d t v i x o) where
   abbrev at : ℕ
   at = operand_word v i
 
@@ -150,7 +154,8 @@ module _ (w : ℕ) (width : IsWidth w) (z : List ℕ) (n : ℕ) (state : StateWi
   cell_is =
       let most = width_short w width in
       let size : w ≡ w / 16 + (w - w / 16) = omega arith in
-      value-bits_below (Spells-high z a.first (w / 16) (w - w / 16) at (subst (λ k. Spells z a.first k at) size has.operand)) (omega arith) ∙ ap (λ k. at / k) (word_power w width)
+      value-bits_below (Spells-high z a.first (w / 16) (w - w / 16) at (subst (λ k. Spells z a.first k at) size has.operand)) (omega arith)
+      ∙ ap (λ k. at / k) (word_power w width)
 
   cell_small : at / word_size w < P
   cell_small = subst (λ k. k < P) cell_is (value-below cell_bits z)
@@ -158,7 +163,8 @@ module _ (w : ℕ) (width : IsWidth w) (z : List ℕ) (n : ℕ) (state : StateWi
   pub located_is : (value (constant NULL_CELL) z + value (opcode_sum op memory_ops) z * value ((P - NULL_CELL, 0) ∷ cell_bits) z) % P ≡ located_number
   located_is =
       ap₂ (λ c k. (c + k) % P) (value-constant has.assigns NULL_CELL)
-      (ap₂ (λ g k. g * k) gate (value-cons (P - NULL_CELL) 0 cell_bits z ∙ ap₂ (λ j k. ((P - NULL_CELL) * j + k) % P) has.assigns.one cell_is ∙ null_number (at / word_size w) cell_small))
+      (ap₂ (λ g k. g * k) gate (value-cons (P - NULL_CELL) 0 cell_bits z ∙ ap₂ (λ j k. ((P - NULL_CELL) * j + k) % P) has.assigns.one cell_is
+      ∙ null_number (at / word_size w) cell_small))
       ∙ located_by m (at / word_size w) NULL_CELL _ cell_small (omega arith) refl
 
   located_small : located_number < P
@@ -169,12 +175,15 @@ module _ (w : ℕ) (width : IsWidth w) (z : List ℕ) (n : ℕ) (state : StateWi
       lower false k h = omega arith
 
   pub line_cell : (located : ℕ) → slice_index z located ≡ located_number
-      → (value (wire located) z + value (primary_in state t) z * value ((TAPE_CELLS, 0) ∷ (1, state.taken_of_primary) ∷ (P - 1, located) ∷ []) z) % P ≡ (data_line w n v i o takes 0).cell
+      → (value (wire located) z + value (primary_in state t) z * value ((TAPE_CELLS, 0) ∷ (1, state.taken_of_primary) ∷ (P - 1, located) ∷ []) z) % P
+      ≡ (data_line w n v i o takes 0).cell
   line_cell located is =
       ap₂ (λ c k. (c + k) % P) (value-wire has.assigns located ∙ is)
       (ap₂ (λ g k. g * k)
-      (value-two z (P - 1) 1 state.taken_of_primary t.taken ∙ ap (λ b. ((P - 1) * b + 1 * slice_index z t.taken) % P) has.before ∙ rise_is p v.taken (slice_index z t.taken) early has.tapes.taken)
-      (value-three z TAPE_CELLS 1 (P - 1) 0 state.taken_of_primary located ∙ ap₂ (λ j b. (TAPE_CELLS * j + 1 * b + (P - 1) * slice_index z located) % P) has.assigns.one has.before
+      (value-two z (P - 1) 1 state.taken_of_primary t.taken ∙ ap (λ b. ((P - 1) * b + 1 * slice_index z t.taken) % P) has.before
+      ∙ rise_is p v.taken (slice_index z t.taken) early has.tapes.taken)
+      (value-three z TAPE_CELLS 1 (P - 1) 0 state.taken_of_primary located
+      ∙ ap₂ (λ j b. (TAPE_CELLS * j + 1 * b + (P - 1) * slice_index z located) % P) has.assigns.one has.before
       ∙ ap (λ c. (TAPE_CELLS * 1 + 1 * v.taken + (P - 1) * c) % P) is ∙ tape_number v.taken located_number early located_small))
       ∙ located_by p (tape_cell v.taken) located_number _ (omega (arith, early)) located_small refl
 
@@ -188,26 +197,34 @@ module _ (w : ℕ) (width : IsWidth w) (z : List ℕ) (n : ℕ) (state : StateWi
   line_old =
       ap₂ (λ g k. g * k % P)
       (value-cons (P - 1) state.taken_of_primary (opcode_sum op memory_ops ++ wire t.taken) z
-      ∙ ap₂ (λ b k. ((P - 1) * b + k) % P) has.before (value-append (opcode_sum op memory_ops) (wire t.taken) z ∙ ap₂ (λ g k. (g + k) % P) gate (value-wire has.assigns t.taken))
+      ∙ ap₂ (λ b k. ((P - 1) * b + k) % P) has.before
+      (value-append (opcode_sum op memory_ops) (wire t.taken) z ∙ ap₂ (λ g k. (g + k) % P) gate (value-wire has.assigns t.taken))
       ∙ held_is m p v.taken (slice_index z t.taken) early has.tapes.taken no_take)
       (value-wire has.assigns d.word ∙ has.word)
       ∙ flag_times (m || p) o word_below
 
 -- ---- the byte
-pub byte_value : (z : List ℕ) (w bits first o j m : ℕ) → first ≡ bits + 8 * j → 8 * j + (8 + m) ≡ w → Spells z bits w o → value (bits_combination first 8) z ≡ o / 2 ^ (8 * j) % 2 ^ 8
+pub byte_value : (z : List ℕ) (w bits first o j m : ℕ) → first ≡ bits + 8 * j → 8 * j + (8 + m) ≡ w → Spells z bits w o
+    → value (bits_combination first 8) z ≡ o / 2 ^ (8 * j) % 2 ^ 8
 byte_value z w bits first o j m e size s =
     ap (λ k. value (bits_combination k 8) z) e
-    ∙ value-bits_below (Spells-low z (bits + 8 * j) 8 m (o / 2 ^ (8 * j)) (Spells-high z bits (8 * j) (8 + m) o (subst (λ n. Spells z bits n o) (sym size) s))) (omega arith)
+    ∙ value-bits_below (Spells-low z (bits + 8 * j) 8 m (o / 2 ^ (8 * j)) (Spells-high z bits (8 * j) (8 + m) o (subst (λ n. Spells z bits n o) (sym size) s)))
+    (omega arith)
 
-pair_value : (z : List ℕ) (bits bit low high : ℕ) → Assigns z → IsBit (slice_index z bit) → value (bits_combination bits 8) z ≡ low → value (bits_combination (bits + 8) 8) z ≡ high
-    → (value (bits_combination bits 8) z + value (wire bit) z * value (scaled (P - 1) (bits_combination bits 8) ++ bits_combination (bits + 8) 8) z) % P ≡ (if slice_index z bit == 1 then high else low)
+pair_value : (z : List ℕ) (bits bit low high : ℕ) → Assigns z → IsBit (slice_index z bit) → value (bits_combination bits 8) z ≡ low
+    → value (bits_combination (bits + 8) 8) z ≡ high
+    → (value (bits_combination bits 8) z + value (wire bit) z * value (scaled (P - 1) (bits_combination bits 8) ++ bits_combination (bits + 8) 8) z) % P
+    ≡ (if slice_index z bit == 1 then high else low)
 pair_value z bits bit low high assigns s e f =
-    ap₂ (λ l r. (l + r) % P) e (ap₂ (λ b r. b * r) (value-wire assigns bit) (value-append (scaled (P - 1) (bits_combination bits 8)) (bits_combination (bits + 8) 8) z
+    ap₂ (λ l r. (l + r) % P) e (ap₂ (λ b r. b * r) (value-wire assigns bit)
+    (value-append (scaled (P - 1) (bits_combination bits 8)) (bits_combination (bits + 8) 8) z
     ∙ ap₂ (λ l r. (l + r) % P) (value-scaled (P - 1) (bits_combination bits 8) z ∙ ap (λ l. (P - 1) * l % P) e) f))
-    ∙ picked_by (slice_index z bit) high low s (subst (λ n. n < P) f (value-below (bits_combination (bits + 8) 8) z)) (subst (λ n. n < P) e (value-below (bits_combination bits 8) z))
+    ∙ picked_by (slice_index z bit) high low s (subst (λ n. n < P) f (value-below (bits_combination (bits + 8) 8) z))
+    (subst (λ n. n < P) e (value-below (bits_combination bits 8) z))
 
 pub low_bit : (z : List ℕ) (first w at : ℕ) → 0 < w → Spells z first w at → slice_index z first ≡ at % 2
-low_bit z first w at some s = ap (λ k. slice_index z k) (let e : first ≡ first + 0 = omega arith in e) ∙ Spells-bit_at s 0 some ∙ (let e : bit_at at 0 ≡ at % 2 = omega arith in e)
+low_bit z first w at some s = ap (λ k. slice_index z k) (let e : first ≡ first + 0 = omega arith in e) ∙ Spells-bit_at s 0 some
+    ∙ (let e : bit_at at 0 ≡ at % 2 = omega arith in e)
 
 pub next_bit : (z : List ℕ) (first w at : ℕ) → 1 < w → Spells z first w at → slice_index z (first + 1) ≡ at / 2 % 2
 next_bit z first w at some s = Spells-bit_at s 1 some ∙ (let e : bit_at at 1 ≡ at / 2 % 2 = omega arith in e)
@@ -238,15 +255,18 @@ module _ (z : List ℕ) (next bits a o at : ℕ) (assigns : Assigns z) where
   ]
 
   abbrev Byte : ℕ → Type 0
-  Byte w = Spells z bits w o → Spells z a w at → (Meets z (byte_at_of w bits a next).list → slice_index z (byte_at_of w bits a next).answer ≡ byte_of o (at % (w / 8)))
+  Byte w = Spells z bits w o → Spells z a w at
+      → (Meets z (byte_at_of w bits a next).list → slice_index z (byte_at_of w bits a next).answer ≡ byte_of o (at % (w / 8)))
       × (HasFrom z next (byte_values w o at) → Meets z (byte_at_of w bits a next).list)
 
   two_byte : Byte 16
   unfolding byte_at_of byte_of_pair
   two_byte s r =
       let value_is = pair_is 16 0 0 bits (omega arith) refl s (low_bit z a 16 at (omega arith) r) ∙ choice_low in (
-        (λ meets. accumulated_sound z next (bits_combination bits 8) (wire a) (scaled (P - 1) (bits_combination bits 8) ++ bits_combination (bits + 8) 8) assigns meets ∙ value_is),
-        (λ has. accumulated_complete z next (bits_combination bits 8) (wire a) (scaled (P - 1) (bits_combination bits 8) ++ bits_combination (bits + 8) 8) assigns (has.0 ∙ sym value_is, tt)),
+        (λ meets. accumulated_sound z next (bits_combination bits 8) (wire a)
+            (scaled (P - 1) (bits_combination bits 8) ++ bits_combination (bits + 8) 8) assigns meets ∙ value_is),
+        (λ has. accumulated_complete z next (bits_combination bits 8) (wire a)
+            (scaled (P - 1) (bits_combination bits 8) ++ bits_combination (bits + 8) 8) assigns (has.0 ∙ sym value_is, tt)),
       )
 
   four_byte : Byte 32
@@ -266,18 +286,23 @@ module _ (z : List ℕ) (next bits a o at : ℕ) (assigns : Assigns z) where
       let e2 : high.next ≡ next + 1 + 1 = accumulated_next high_bits (wire a) high_rest low.next ∙ ap (λ k. k + 1) e1 in
       let last : slice_index z low.answer ≡ byte_of o (at % 2) → slice_index z high.answer ≡ byte_of o (2 + at % 2)
       → (value (wire low.answer) z + value (wire (a + 1)) z * value ((P - 1, low.answer) ∷ (1, high.answer) ∷ []) z) % P ≡ byte_of o (at % 4) =
-      λ l h. ap₂ (λ m k. (m + k) % P) (value-wire assigns low.answer ∙ l) (ap₂ (λ b k. b * k) (value-wire assigns (a + 1) ∙ b1) (value-two z (P - 1) 1 low.answer high.answer ∙ ap₂ (λ m k. ((P - 1) * m + 1 * k) % P) l h))
-      ∙ four_number (at / 2 % 2) (byte_of o (2 + at % 2)) (byte_of o (at % 2)) (parity_bit (at / 2)) (byte_small o (2 + at % 2)) (byte_small o (at % 2)) ∙ choice_four in (
+      λ l h. ap₂ (λ m k. (m + k) % P) (value-wire assigns low.answer ∙ l)
+      (ap₂ (λ b k. b * k) (value-wire assigns (a + 1) ∙ b1) (value-two z (P - 1) 1 low.answer high.answer ∙ ap₂ (λ m k. ((P - 1) * m + 1 * k) % P) l h))
+      ∙ four_number (at / 2 % 2) (byte_of o (2 + at % 2)) (byte_of o (at % 2)) (parity_bit (at / 2)) (byte_small o (2 + at % 2)) (byte_small o (at % 2))
+      ∙ choice_four in (
         (λ meets.
             let m1 = Meets-split z low.list _ meets in
             let m2 = Meets-split z high.list _ m1.1 in
             accumulated_sound z high.next (wire low.answer) (wire (a + 1)) ((P - 1, low.answer) ∷ (1, high.answer) ∷ []) assigns m2.1
-            ∙ last (accumulated_sound z next low_bits (wire a) low_rest assigns m1.0 ∙ low_is) (accumulated_sound z low.next high_bits (wire a) high_rest assigns m2.0 ∙ high_is)),
+            ∙ last (accumulated_sound z next low_bits (wire a) low_rest assigns m1.0 ∙ low_is)
+            (accumulated_sound z low.next high_bits (wire a) high_rest assigns m2.0 ∙ high_is)),
         (λ has.
             let m1 = accumulated_complete z next low_bits (wire a) low_rest assigns (has.0 ∙ sym low_is, tt) in
             let m2 = accumulated_complete z low.next high_bits (wire a) high_rest assigns (ap (λ k. slice_index z k) e1 ∙ has.1.0 ∙ sym high_is, tt) in
-            let value_is = last (accumulated_sound z next low_bits (wire a) low_rest assigns m1 ∙ low_is) (accumulated_sound z low.next high_bits (wire a) high_rest assigns m2 ∙ high_is) in
-            let m3 = accumulated_complete z high.next (wire low.answer) (wire (a + 1)) ((P - 1, low.answer) ∷ (1, high.answer) ∷ []) assigns (ap (λ k. slice_index z k) e2 ∙ has.1.1.0 ∙ sym value_is, tt) in
+            let value_is = last (accumulated_sound z next low_bits (wire a) low_rest assigns m1 ∙ low_is)
+            (accumulated_sound z low.next high_bits (wire a) high_rest assigns m2 ∙ high_is) in
+            let m3 = accumulated_complete z high.next (wire low.answer) (wire (a + 1)) ((P - 1, low.answer) ∷ (1, high.answer) ∷ []) assigns
+            (ap (λ k. slice_index z k) e2 ∙ has.1.1.0 ∙ sym value_is, tt) in
             Meets-join z low.list _ m1 (Meets-join z high.list _ m2 m3)),
       )
     where

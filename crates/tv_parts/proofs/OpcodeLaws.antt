@@ -1,5 +1,6 @@
 -- The laws of sums over the row of the opcodes that are used.
-use Rattle.std.proofs.Common.{◌≡◌, ℕ, ◌+◌, ◌*◌, ◌%◌, ◌<◌, ◌==◌, nat_lt, not, ◌&&◌, Bool, true, false, if◌then◌else◌, List, [], ◌∷◌, inl, inr, refl, sym, ◌∙◌, ap, arith}
+use Rattle.std.proofs.Common.{◌≡◌, ℕ, ◌+◌, ◌*◌, ◌%◌, ◌<◌, ◌==◌, nat_lt, not, ◌&&◌, Bool, true, false, if◌then◌else◌, List, [], ◌∷◌, inl, inr, refl, sym, ◌∙◌}
+use Rattle.std.proofs.Common.{ap, arith}
 use Rattle.std.specs.Prelude.{slice_index}
 use Rattle.std.proofs.lemmas.Bool.{and_parts, ltb-true, eqb-true, not-true, cases_eq, eq-eqb, ne_eqb}
 use Rattle.tv_core.proofs.CombinationLaws.{value-below, value-cons}
@@ -17,7 +18,8 @@ hot_sum : (c n v : ℕ) → c < P → n ≡ 1 → v ≡ 0 → (c * n + v) % P �
 hot_sum c n v h e f = rw (e, f) (omega arith)
 
 -- the sum of c times the wires is c where the opcode is one of them
-pub opcode_terms_sound : (z : List ℕ) (c op k : ℕ) (ks : List ℕ) → c < P → IsOpcode z op k → distinct ks ≡ true → value (opcode_terms c op ks) z ≡ (if among ks k then c else 0)
+pub opcode_terms_sound : (z : List ℕ) (c op k : ℕ) (ks : List ℕ) → c < P → IsOpcode z op k → distinct ks ≡ true
+    → value (opcode_terms c op ks) z ≡ (if among ks k then c else 0)
 opcode_terms_sound z c op k [] small row is = refl
 opcode_terms_sound z c op k (j ∷ js) small row is =
     let first = and_parts ((nat_lt j 32 && not (among unused_ops j)) && not (among js j)) (distinct js) is in
@@ -27,7 +29,8 @@ opcode_terms_sound z c op k (j ∷ js) small row is =
     let wire = row.row j (ltb-true j 32 used.0) (not-true (among unused_ops j) used.1) in
     value-cons c (op + place_of j) (opcode_terms c op js) z ∙ by_test (j == k) refl (not-true (among js j) here.1) wire rest
   where
-    by_test : (t : Bool) → (j == k) ≡ t → among js j ≡ false → slice_index z (op + place_of j) ≡ flag_of (j == k) → value (opcode_terms c op js) z ≡ (if among js k then c else 0)
+    by_test : (t : Bool) → (j == k) ≡ t → among js j ≡ false → slice_index z (op + place_of j) ≡ flag_of (j == k)
+        → value (opcode_terms c op js) z ≡ (if among js k then c else 0)
         → (c * slice_index z (op + place_of j) + value (opcode_terms c op js) z) % P ≡ (if among (j ∷ js) k then c else 0)
     by_test true t apart wire rest =
         let same : j ≡ k = eqb-true j k t in

@@ -1,5 +1,6 @@
 -- The laws of the next program counter.
-use Rattle.std.proofs.Common.{◌≡◌, ℕ, ◌+◌, ◌-◌, ◌*◌, ◌/◌, ◌%◌, ◌^◌, ◌<◌, ◌==◌, not, Bool, true, false, if◌then◌else◌, List, [], ◌∷◌, ◌++◌, length, length-append, refl, sym, ◌∙◌, ap, ap₂, subst, arith}
+use Rattle.std.proofs.Common.{◌≡◌, ℕ, ◌+◌, ◌-◌, ◌*◌, ◌/◌, ◌%◌, ◌^◌, ◌<◌, ◌==◌, not, Bool, true, false, if◌then◌else◌, List, [], ◌∷◌, ◌++◌, length}
+use Rattle.std.proofs.Common.{length-append, refl, sym, ◌∙◌, ap, ap₂, subst, arith}
 use Rattle.std.specs.Prelude.{slice_index}
 use Rattle.std.proofs.lemmas.List.{length-map}
 use Rattle.tv_bits.proofs.SpelledNumbers.{value-bits_below, Spells-high, Spells-below}
@@ -47,7 +48,8 @@ module _ (w : ℕ) (width : IsWidth w) (z : List ℕ) (state : StateWires) (op :
   at = operand_word v i
 
   from_is : value (from_last w state.pc) z ≡ distance w v.pc
-  from_is = value-two z (P - (2 ^ w - w / 4)) 1 0 state.pc ∙ ap₂ (λ m n. ((P - (2 ^ w - w / 4)) * m + 1 * n) % P) has.assigns.one has.pc ∙ turned (P - (2 ^ w - w / 4)) v.pc
+  from_is = value-two z (P - (2 ^ w - w / 4)) 1 0 state.pc ∙ ap₂ (λ m n. ((P - (2 ^ w - w / 4)) * m + 1 * n) % P) has.assigns.one has.pc
+      ∙ turned (P - (2 ^ w - w / 4)) v.pc
     where
       turned : (c pc : ℕ) → (c * 1 + 1 * pc) % P ≡ (pc + c) % P
       turned c pc = omega arith
@@ -64,7 +66,8 @@ module _ (w : ℕ) (width : IsWidth w) (z : List ℕ) (state : StateWires) (op :
 
   by_flag_is : value ((1, op + place_of 21) ∷ (P - 1, op + place_of 22) ∷ []) z ≡ (flag_of (i.op == 21) + (P - flag_of (i.op == 22))) % P
   by_flag_is = value-two z 1 (P - 1) (op + place_of 21) (op + place_of 22)
-      ∙ ap₂ (λ m n. (1 * m + (P - 1) * n) % P) (opcode_wire_is z op i.op 21 has.opcode (omega arith) refl) (opcode_wire_is z op i.op 22 has.opcode (omega arith) refl) ∙ by_bits (i.op == 21) (i.op == 22)
+      ∙ ap₂ (λ m n. (1 * m + (P - 1) * n) % P) (opcode_wire_is z op i.op 21 has.opcode (omega arith) refl)
+      (opcode_wire_is z op i.op 22 has.opcode (omega arith) refl) ∙ by_bits (i.op == 21) (i.op == 22)
     where
       by_bits : (b c : Bool) → (1 * flag_of b + (P - 1) * flag_of c) % P ≡ (flag_of b + (P - flag_of c)) % P
       by_bits true true = refl
@@ -72,10 +75,13 @@ module _ (w : ℕ) (width : IsWidth w) (z : List ℕ) (state : StateWires) (op :
       by_bits false true = refl
       by_bits false false = refl
 
-  gate_is : (jumps : ℕ) → slice_index z jumps ≡ flag_jump i.op v.flag → value ((1, op + place_of 20) ∷ (1, op + place_of 22) ∷ (1, jumps) ∷ []) z ≡ jump_gate i.op v.flag
+  gate_is : (jumps : ℕ) → slice_index z jumps ≡ flag_jump i.op v.flag
+      → value ((1, op + place_of 20) ∷ (1, op + place_of 22) ∷ (1, jumps) ∷ []) z ≡ jump_gate i.op v.flag
   gate_is jumps is = value-three z 1 1 1 (op + place_of 20) (op + place_of 22) jumps
-      ∙ ap₂ (λ m n. (1 * m + 1 * n + 1 * slice_index z jumps) % P) (opcode_wire_is z op i.op 20 has.opcode (omega arith) refl) (opcode_wire_is z op i.op 22 has.opcode (omega arith) refl)
-      ∙ ap (λ n. (1 * flag_of (i.op == 20) + 1 * flag_of (i.op == 22) + 1 * n) % P) is ∙ ones (flag_of (i.op == 20)) (flag_of (i.op == 22)) (flag_jump i.op v.flag)
+      ∙ ap₂ (λ m n. (1 * m + 1 * n + 1 * slice_index z jumps) % P) (opcode_wire_is z op i.op 20 has.opcode (omega arith) refl)
+      (opcode_wire_is z op i.op 22 has.opcode (omega arith) refl)
+      ∙ ap (λ n. (1 * flag_of (i.op == 20) + 1 * flag_of (i.op == 22) + 1 * n) % P) is
+      ∙ ones (flag_of (i.op == 20)) (flag_of (i.op == 22)) (flag_jump i.op v.flag)
     where
       ones : (l m n : ℕ) → (1 * l + 1 * m + 1 * n) % P ≡ (l + m + n) % P
       ones l m n = omega arith
@@ -101,20 +107,25 @@ module _ (w : ℕ) (width : IsWidth w) (z : List ℕ) (state : StateWires) (op :
       let most = width_short w width in
       let size : w ≡ (w / 16 + 1) + (w - (w / 16 + 1)) = omega arith in
       value-scaled (w / 4) (bits_combination (a.first + (w / 16 + 1)) (w - (w / 16 + 1))) z
-      ∙ ap (λ n. w / 4 * n % P) (value-bits_below (Spells-high z a.first (w / 16 + 1) (w - (w / 16 + 1)) at (subst (λ k. Spells z a.first k at) size has.operand)) (omega arith)) ∙ target_by w width at (Spells-below has.operand)
+      ∙ ap (λ n. w / 4 * n % P) (value-bits_below
+      (Spells-high z a.first (w / 16 + 1) (w - (w / 16 + 1)) at (subst (λ k. Spells z a.first k at) size has.operand)) (omega arith))
+      ∙ target_by w width at (Spells-below has.operand)
 
   target_small : target w at < P
   target_small = subst (λ n. n < P) target_is (value-below (scaled (w / 4) (bits_combination (a.first + (w / 16 + 1)) (w - (w / 16 + 1)))) z)
 
-  jump_value : (wraps : ℕ) → slice_index z wraps ≡ wrap_of w v.pc i.op → value (jump_in w state.pc (op + place_of 31) a wraps) z ≡ (target w at + (P - after_of w v.pc i.op)) % P
+  jump_value : (wraps : ℕ) → slice_index z wraps ≡ wrap_of w v.pc i.op
+      → value (jump_in w state.pc (op + place_of 31) a wraps) z ≡ (target w at + (P - after_of w v.pc i.op)) % P
   jump_value wraps is =
       let bits = scaled (w / 4) (bits_combination (a.first + (w / 16 + 1)) (w - (w / 16 + 1))) in
       let tail : value (bits ++ (2 ^ w, wraps) ∷ []) z ≡ (target w at + 2 ^ w * wrap_of w v.pc i.op) % P =
-      value-append bits ((2 ^ w, wraps) ∷ []) z ∙ ap₂ (λ m n. (m + n) % P) target_is (value-cons (2 ^ w) wraps [] z ∙ ap (λ n. (2 ^ w * n + 0) % P) is) ∙ last (target w at) (2 ^ w * wrap_of w v.pc i.op) in
+      value-append bits ((2 ^ w, wraps) ∷ []) z ∙ ap₂ (λ m n. (m + n) % P) target_is (value-cons (2 ^ w) wraps [] z ∙ ap (λ n. (2 ^ w * n + 0) % P) is)
+      ∙ last (target w at) (2 ^ w * wrap_of w v.pc i.op) in
       value-cons (P - w / 4) 0 ((P - 1, state.pc) ∷ (w / 4, op + place_of 31) ∷ (bits ++ (2 ^ w, wraps) ∷ [])) z
       ∙ ap₂ (λ m n. ((P - w / 4) * m + n) % P) has.assigns.one
       (value-cons (P - 1) state.pc ((w / 4, op + place_of 31) ∷ (bits ++ (2 ^ w, wraps) ∷ [])) z
-      ∙ ap₂ (λ m n. ((P - 1) * m + n) % P) has.pc (value-cons (w / 4) (op + place_of 31) (bits ++ (2 ^ w, wraps) ∷ []) z ∙ ap₂ (λ m n. (w / 4 * m + n) % P) answers_is tail))
+      ∙ ap₂ (λ m n. ((P - 1) * m + n) % P) has.pc
+      (value-cons (w / 4) (op + place_of 31) (bits ++ (2 ^ w, wraps) ∷ []) z ∙ ap₂ (λ m n. (w / 4 * m + n) % P) answers_is tail))
       ∙ first (P - w / 4) _ ∙ folded_four (P - w / 4) ((P - 1) * v.pc) (w / 4 * flag_of (i.op == 31)) (target w at + 2 ^ w * wrap_of w v.pc i.op)
       ∙ jump_number w width v.pc (flag_of (i.op == 31)) (wrap_of w v.pc i.op) (target w at) has.small (flag_small (i.op == 31)) wrap_small target_small
     where
@@ -139,11 +150,15 @@ pc_sound w width z next state op a v i has meets =
     let m1 = Meets-split z wraps.list _ meets in
     let m2 = Meets-split z by_flag.list _ m1.1 in
     let is_wraps : slice_index z wraps.answer ≡ wrap_of w v.pc i.op =
-    if_zero_sound z next (goes_in op) (from_last w state.pc) assigns m1.0 ∙ ap₂ (λ x g. if x == 0 then g else 0) (from_is w width z state op a v i has) (goes_is w width z state op a v i has) in
+    if_zero_sound z next (goes_in op) (from_last w state.pc) assigns m1.0
+    ∙ ap₂ (λ x g. if x == 0 then g else 0) (from_is w width z state op a v i has) (goes_is w width z state op a v i has) in
     let is_flag : slice_index z by_flag.answer ≡ flag_jump i.op v.flag =
-    times_sound z wraps.next (wire state.flag) flags assigns m2.0 ∙ ap₂ (λ m n. m * n % P) (value-wire assigns state.flag ∙ has.flag) (by_flag_is w width z state op a v i has) in
-    accumulated_sound z by_flag.next (after_in w state.pc (op + place_of 31) wraps.answer) ((1, op + place_of 20) ∷ (1, op + place_of 22) ∷ (1, by_flag.answer) ∷ []) (jump_in w state.pc (op + place_of 31) a wraps.answer) assigns m2.1
-    ∙ ap₂ (λ m n. (m + n) % P) (after_value w width z state op a v i has wraps.answer is_wraps) (ap₂ (λ m n. m * n) (gate_is w width z state op a v i has by_flag.answer is_flag) (jump_value w width z state op a v i has wraps.answer is_wraps))
+    times_sound z wraps.next (wire state.flag) flags assigns m2.0
+    ∙ ap₂ (λ m n. m * n % P) (value-wire assigns state.flag ∙ has.flag) (by_flag_is w width z state op a v i has) in
+    accumulated_sound z by_flag.next (after_in w state.pc (op + place_of 31) wraps.answer)
+    ((1, op + place_of 20) ∷ (1, op + place_of 22) ∷ (1, by_flag.answer) ∷ []) (jump_in w state.pc (op + place_of 31) a wraps.answer) assigns m2.1
+    ∙ ap₂ (λ m n. (m + n) % P) (after_value w width z state op a v i has wraps.answer is_wraps)
+    (ap₂ (λ m n. m * n) (gate_is w width z state op a v i has by_flag.answer is_flag) (jump_value w width z state op a v i has wraps.answer is_wraps))
     ∙ pc_number w width v.pc (operand_word v i) v.flag has.small has.aligned (Spells-below has.operand) has.bit i.op has.opcode.within has.opcode.used
 
 pub pc_complete : PcIsComplete
@@ -157,14 +172,18 @@ pc_complete w width z next state op a v i has values =
     let e2 : by_flag.next ≡ next + 1 + 1 + 1 = times_next (wire state.flag) flags wraps.next ∙ ap (λ m. m + 1) e1 in
     let from = from_is w width z state op a v i has in
     let goes = goes_is w width z state op a v i has in
-    let m1 = if_zero_complete z next (goes_in op) (from_last w state.pc) assigns (values.0 ∙ sym (ap₂ (λ x g. if x == 0 then g else 0) from goes)) (values.1.0 ∙ sym (ap₂ (λ x g. inverse_of x * g % P) from goes)) in
-    let is_wraps : slice_index z wraps.answer ≡ wrap_of w v.pc i.op = if_zero_sound z next (goes_in op) (from_last w state.pc) assigns m1 ∙ ap₂ (λ x g. if x == 0 then g else 0) from goes in
+    let m1 = if_zero_complete z next (goes_in op) (from_last w state.pc) assigns (values.0 ∙ sym (ap₂ (λ x g. if x == 0 then g else 0) from goes))
+    (values.1.0 ∙ sym (ap₂ (λ x g. inverse_of x * g % P) from goes)) in
+    let is_wraps : slice_index z wraps.answer ≡ wrap_of w v.pc i.op = if_zero_sound z next (goes_in op) (from_last w state.pc) assigns m1
+    ∙ ap₂ (λ x g. if x == 0 then g else 0) from goes in
     let product = ap₂ (λ m n. m * n % P) (value-wire assigns state.flag ∙ has.flag) (by_flag_is w width z state op a v i has) in
     let m2 = times_complete z wraps.next (wire state.flag) flags assigns (ap (λ k. slice_index z k) e1 ∙ values.1.1.0 ∙ sym product, tt) in
     let is_flag : slice_index z by_flag.answer ≡ flag_jump i.op v.flag = times_sound z wraps.next (wire state.flag) flags assigns m2 ∙ product in
-    let sum = ap₂ (λ m n. (m + n) % P) (after_value w width z state op a v i has wraps.answer is_wraps) (ap₂ (λ m n. m * n) (gate_is w width z state op a v i has by_flag.answer is_flag) (jump_value w width z state op a v i has wraps.answer is_wraps))
+    let sum = ap₂ (λ m n. (m + n) % P) (after_value w width z state op a v i has wraps.answer is_wraps)
+    (ap₂ (λ m n. m * n) (gate_is w width z state op a v i has by_flag.answer is_flag) (jump_value w width z state op a v i has wraps.answer is_wraps))
     ∙ pc_number w width v.pc (operand_word v i) v.flag has.small has.aligned (Spells-below has.operand) has.bit i.op has.opcode.within has.opcode.used in
-    let m3 = accumulated_complete z by_flag.next (after_in w state.pc (op + place_of 31) wraps.answer) ((1, op + place_of 20) ∷ (1, op + place_of 22) ∷ (1, by_flag.answer) ∷ []) (jump_in w state.pc (op + place_of 31) a wraps.answer) assigns
+    let m3 = accumulated_complete z by_flag.next (after_in w state.pc (op + place_of 31) wraps.answer)
+    ((1, op + place_of 20) ∷ (1, op + place_of 22) ∷ (1, by_flag.answer) ∷ []) (jump_in w state.pc (op + place_of 31) a wraps.answer) assigns
     (ap (λ k. slice_index z k) e2 ∙ values.1.1.1.0 ∙ sym sum, tt) in
     Meets-join z wraps.list _ m1 (Meets-join z by_flag.list _ m2 m3)
 
@@ -180,10 +199,12 @@ pc_below : (w : ℕ) → IsWidth w → (pc a f k : ℕ) → pc < 2 ^ w → a < 2
 pc_below w width = for_widths (λ w. (pc a f k : ℕ) → pc < 2 ^ w → a < 2 ^ w → chosen (pcs w pc a f) k < P) sixteen thirty_two w width
   where
     sixteen : (pc a f k : ℕ) → pc < 2 ^ 16 → a < 2 ^ 16 → chosen (pcs 16 pc a f) k < P
-    sixteen pc a f k h l = chosen_in (λ n. n < P) (pcs 16 pc a f) k (omega arith) (omega arith, (either (f == 1) _ _ (omega arith) (omega arith), (either (f == 1) _ _ (omega arith) (omega arith), (omega arith, (omega arith, tt)))))
+    sixteen pc a f k h l = chosen_in (λ n. n < P) (pcs 16 pc a f) k (omega arith)
+        (omega arith, (either (f == 1) _ _ (omega arith) (omega arith), (either (f == 1) _ _ (omega arith) (omega arith), (omega arith, (omega arith, tt)))))
 
     thirty_two : (pc a f k : ℕ) → pc < 2 ^ 32 → a < 2 ^ 32 → chosen (pcs 32 pc a f) k < P
-    thirty_two pc a f k h l = chosen_in (λ n. n < P) (pcs 32 pc a f) k (omega arith) (omega arith, (either (f == 1) _ _ (omega arith) (omega arith), (either (f == 1) _ _ (omega arith) (omega arith), (omega arith, (omega arith, tt)))))
+    thirty_two pc a f k h l = chosen_in (λ n. n < P) (pcs 32 pc a f) k (omega arith)
+        (omega arith, (either (f == 1) _ _ (omega arith) (omega arith), (either (f == 1) _ _ (omega arith) (omega arith), (omega arith, (omega arith, tt)))))
 
 pc_in_field : (w : ℕ) → IsWidth w → (v : View) (i : Instr) → v.pc < 2 ^ w → operand_word v i < 2 ^ w → InField (pc_values w v i)
 pc_in_field w width v i small word =
@@ -211,7 +232,8 @@ pc_count w state op a next = refl
 
 -- a combination of bits with one wire more
 longer : (k first n c x : ℕ) → length (scaled k (bits_combination first n) ++ (c, x) ∷ []) ≡ n + 1
-longer k first n c x = length-append (scaled k (bits_combination first n)) ((c, x) ∷ []) ∙ ap (λ m. m + 1) (length-map (bits_combination first n) _ ∙ length-weighted first n (λ i. 2 ^ i % P))
+longer k first n c x = length-append (scaled k (bits_combination first n)) ((c, x) ∷ [])
+    ∙ ap (λ m. m + 1) (length-map (bits_combination first n) _ ∙ length-weighted first n (λ i. 2 ^ i % P))
 
 pc_terms : (w : ℕ) → IsWidth w → (state : StateWires) (op : ℕ) (a : Bits) (next : ℕ) → terms_in (pc_of w state op a next).list ≡ w - w / 16 + 24
 unfolding pc_of if_zero_of times_of closed_of fresh put pure ◌>>=◌

@@ -1,5 +1,6 @@
 -- The numbers of the next program counter.
-use Rattle.std.proofs.Common.{◌≡◌, ◌≢◌, ℕ, ◌+◌, ◌-◌, ◌*◌, ◌/◌, ◌%◌, ◌^◌, ◌<◌, ◌==◌, not, Bool, true, false, if◌then◌else◌, inl, inr, refl, sym, ◌∙◌, ap, arith, eq-eqb}
+use Rattle.std.proofs.Common.{◌≡◌, ◌≢◌, ℕ, ◌+◌, ◌-◌, ◌*◌, ◌/◌, ◌%◌, ◌^◌, ◌<◌, ◌==◌, not, Bool, true, false, if◌then◌else◌, inl, inr, refl, sym, ◌∙◌, ap}
+use Rattle.std.proofs.Common.{arith, eq-eqb}
 use Rattle.std.proofs.lemmas.Bool.{cases_eq, ne_eqb}
 use Rattle.tv_bits.proofs.BitLaws.{bit_cases}
 use Rattle.tv_bits.specs.Bit.{IsBit}
@@ -24,7 +25,8 @@ abbrev pub after_number : ℕ → ℕ → ℕ → ℕ → ℕ
 after_number w pc answers wraps = (w / 4 + pc + (P - w / 4) * answers + (P - 2 ^ w) * wraps) % P
 
 abbrev AfterIs : ℕ → Type 0
-AfterIs w = (pc : ℕ) → pc < 2 ^ w → pc % (w / 4) ≡ 0 → (distance w pc ≡ 0 → (w / 4 + pc + (P - 2 ^ w)) % P ≡ behind_pc w pc) × (distance w pc ≢ 0 → (w / 4 + pc) % P ≡ behind_pc w pc)
+AfterIs w = (pc : ℕ) → pc < 2 ^ w → pc % (w / 4) ≡ 0 → (distance w pc ≡ 0 → (w / 4 + pc + (P - 2 ^ w)) % P ≡ behind_pc w pc)
+    × (distance w pc ≢ 0 → (w / 4 + pc) % P ≡ behind_pc w pc)
 
 after_is : (w : ℕ) → IsWidth w → AfterIs w
 after_is w width = for_widths AfterIs
@@ -33,8 +35,10 @@ after_is w width = for_widths AfterIs
 
 pub goes_after : (w : ℕ) → IsWidth w → (pc : ℕ) → pc < 2 ^ w → pc % (w / 4) ≡ 0 → after_number w pc 0 (wrap w pc 1) ≡ behind_pc w pc
 goes_after w width pc small aligned = elim (cases_eq (distance w pc) 0) [
-  | inl none ↦ ap (λ b. after_number w pc 0 (if b then 1 else 0)) (eq-eqb (distance w pc) 0 none) ∙ once (w / 4 + pc) (P - w / 4) (P - 2 ^ w) ∙ (after_is w width pc small aligned).0 none
-  | inr some ↦ ap (λ b. after_number w pc 0 (if b then 1 else 0)) (ne_eqb (distance w pc) 0 some) ∙ never (w / 4 + pc) (P - w / 4) (P - 2 ^ w) ∙ (after_is w width pc small aligned).1 some
+  | inl none ↦ ap (λ b. after_number w pc 0 (if b then 1 else 0)) (eq-eqb (distance w pc) 0 none) ∙ once (w / 4 + pc) (P - w / 4) (P - 2 ^ w)
+      ∙ (after_is w width pc small aligned).0 none
+  | inr some ↦ ap (λ b. after_number w pc 0 (if b then 1 else 0)) (ne_eqb (distance w pc) 0 some) ∙ never (w / 4 + pc) (P - w / 4) (P - 2 ^ w)
+      ∙ (after_is w width pc small aligned).1 some
 ]
   where
     once : (m j k : ℕ) → (m + j * 0 + k * 1) % P ≡ (m + k) % P
@@ -64,7 +68,8 @@ target_by w width = for_widths (λ w. (a : ℕ) → a < 2 ^ w → target_number 
 pub jump_number : (w : ℕ) → IsWidth w → (pc answers wraps t : ℕ) → pc < 2 ^ w → answers < 2 → wraps < 2 → t < P
     → ((P - w / 4) + (P - 1) * pc + w / 4 * answers + (t + 2 ^ w * wraps) % P) % P ≡ (t + (P - after_number w pc answers wraps)) % P
 jump_number w width = for_widths
-    (λ w. (pc answers wraps t : ℕ) → pc < 2 ^ w → answers < 2 → wraps < 2 → t < P → ((P - w / 4) + (P - 1) * pc + w / 4 * answers + (t + 2 ^ w * wraps) % P) % P ≡ (t + (P - after_number w pc answers wraps)) % P)
+    (λ w. (pc answers wraps t : ℕ) → pc < 2 ^ w → answers < 2 → wraps < 2 → t < P
+    → ((P - w / 4) + (P - 1) * pc + w / 4 * answers + (t + 2 ^ w * wraps) % P) % P ≡ (t + (P - after_number w pc answers wraps)) % P)
     (λ pc answers wraps t h j k l. omega arith) (λ pc answers wraps t h j k l. omega arith) w width
 
 -- a jump that is taken, and one that isn't

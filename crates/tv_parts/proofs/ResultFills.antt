@@ -1,5 +1,6 @@
 -- The laws of a step's result, and of the number that is tested.
-use Rattle.std.proofs.Common.{◌≡◌, ℕ, ◌+◌, ◌-◌, ◌*◌, ◌/◌, ◌%◌, ◌^◌, ◌<◌, ◌==◌, ◌||◌, Bool, true, false, if◌then◌else◌, List, [], ◌∷◌, ◌++◌, length, length-append, inl, inr, refl, sym, ◌∙◌, ap, ap₂, subst, arith, mod-lt, true≢false}
+use Rattle.std.proofs.Common.{◌≡◌, ℕ, ◌+◌, ◌-◌, ◌*◌, ◌/◌, ◌%◌, ◌^◌, ◌<◌, ◌==◌, ◌||◌, Bool, true, false, if◌then◌else◌, List, [], ◌∷◌, ◌++◌, length}
+use Rattle.std.proofs.Common.{length-append, inl, inr, refl, sym, ◌∙◌, ap, ap₂, subst, arith, mod-lt, true≢false}
 use Rattle.std.specs.Int.{bit_at}
 use Rattle.std.specs.Prelude.{slice_index}
 use Rattle.std.proofs.lemmas.Bool.{cases_eq, eqb-true, ne_eqb}
@@ -37,7 +38,9 @@ use Rattle.tv_parts.proofs.TapeLaws.{among_one}
 use Rattle.tv_parts.specs.Accumulation.{closed_of}
 use Rattle.tv_parts.specs.OpcodeSums.{place_of, opcode_sum}
 use Rattle.tv_parts.specs.Rows.{covers}
-use Rattle.tv_parts.specs.Results.{low_ops, high_ops, zero_ops, carry_ops, place_bits, parts_in, signs_in, result_of, tested_of, results_of, tested_numbers, HasSources, ResultsAreSound, low_part, high_part, moved_part, result_number, tested_number, results_values, ResultsAreComplete, ResultsSizes, ResultsCosts}
+use Rattle.tv_parts.specs.Results.{low_ops, high_ops, zero_ops, carry_ops, place_bits, parts_in, signs_in, result_of, tested_of, results_of, tested_numbers}
+use Rattle.tv_parts.specs.Results.{HasSources, ResultsAreSound, low_part, high_part, moved_part, result_number, tested_number, results_values}
+use Rattle.tv_parts.specs.Results.{ResultsAreComplete, ResultsSizes, ResultsCosts}
 use Rattle.tv_parts.specs.Tapes.{took}
 use Rattle.tv_parts.specs.declared.records.ResultWires.{ResultWires}
 use Rattle.tv_parts.specs.declared.records.Sources.{Sources}
@@ -57,7 +60,8 @@ low_gate false true t b taken h e apart none = rw (e, apart refl) (omega arith)
 low_gate false false true b taken h e apart none = rw e (omega arith)
 low_gate false false false b taken h e apart none = rw e (omega arith)
 
-moved_gate : (m g : Bool) (a : ℕ) → a < P → (m ≡ true → g ≡ false) → ((P - 1) * flag_of m + flag_of g) % P * a % P ≡ (if m then (P - a) % P else if g then a else 0)
+moved_gate : (m g : Bool) (a : ℕ) → a < P → (m ≡ true → g ≡ false)
+    → ((P - 1) * flag_of m + flag_of g) % P * a % P ≡ (if m then (P - a) % P else if g then a else 0)
 moved_gate true g a h none = rw (none refl) (omega arith)
 moved_gate false true a h none = omega arith
 moved_gate false false a h none = omega arith
@@ -100,7 +104,8 @@ shift_none v y h e = omega arith
 
 -- the first of four that is on
 pick_four : (a b c d : Bool) (y v1 v2 v3 v4 : ℕ) → (a ≡ true → y ≡ v1) → (b ≡ true → y ≡ v2) → (c ≡ true → y ≡ v3) → (d ≡ true → y ≡ v4)
-    → (if a then true else if b then true else if c then true else if d then true else false) ≡ true → y ≡ (if a then v1 else if b then v2 else if c then v3 else if d then v4 else 0)
+    → (if a then true else if b then true else if c then true else if d then true else false) ≡ true
+    → y ≡ (if a then v1 else if b then v2 else if c then v3 else if d then v4 else 0)
 pick_four true b c d y v1 v2 v3 v4 p q r s e = p refl
 pick_four false true c d y v1 v2 v3 v4 p q r s e = q refl
 pick_four false false true d y v1 v2 v3 v4 p q r s e = r refl
@@ -108,7 +113,8 @@ pick_four false false false true y v1 v2 v3 v4 p q r s e = s refl
 pick_four false false false false y v1 v2 v3 v4 p q r s e = absurd (true≢false (sym e))
 
 -- ---- the values
-module _ (w : ℕ) (width : IsWidth w) (z : List ℕ) (n : ℕ) (state : StateWires) (op : ℕ) (a : Bits) (from : Sources) (t : TapeWires) (v : View) (i : Instr) (low high : ℕ) (has : HasSources w z n state op a from t v i low high) where
+module _ (w : ℕ) (width : IsWidth w) (z : List ℕ) (n : ℕ) (state : StateWires) (op : ℕ) (a : Bits) (from : Sources) (t : TapeWires) (v : View) (i : Instr)
+    (low high : ℕ) (has : HasSources w z n state op a from t v i low high) where
   abbrev at : ℕ
   at = operand_word v i
 
@@ -156,19 +162,23 @@ module _ (w : ℕ) (width : IsWidth w) (z : List ℕ) (n : ℕ) (state : StateWi
       ap₂ (λ g m. g * m % P)
       (value-cons (P - 1) state.taken_of_primary (opcode_sum op low_ops ++ (1, t.taken) ∷ (1, t.takes) ∷ []) z
       ∙ ap₂ (λ b m. ((P - 1) * b + m) % P) has.before (value-append (opcode_sum op low_ops) ((1, t.taken) ∷ (1, t.takes) ∷ []) z
-      ∙ ap₂ (λ g m. (g + m) % P) (opcode_sum_sound z op i.op low_ops has.opcode refl) (value-two z 1 1 t.taken t.takes ∙ ap (λ u. (1 * slice_index z t.taken + 1 * u) % P) has.tapes.takes))
-      ∙ low_gate (among low_ops i.op) (takes_primary v i n) (took z t) v.taken (slice_index z t.taken) (omega (arith, has.within, has.short)) has.tapes.taken (one_tape v i n (took z t) has.tapes.asked) low_none)
+      ∙ ap₂ (λ g m. (g + m) % P) (opcode_sum_sound z op i.op low_ops has.opcode refl)
+      (value-two z 1 1 t.taken t.takes ∙ ap (λ u. (1 * slice_index z t.taken + 1 * u) % P) has.tapes.takes))
+      ∙ low_gate (among low_ops i.op) (takes_primary v i n) (took z t) v.taken (slice_index z t.taken) (omega (arith, has.within, has.short)) has.tapes.taken
+      (one_tape v i n (took z t) has.tapes.asked) low_none)
       (value-wire has.assigns from.low ∙ has.low_wire)
       ∙ flag_times (among low_ops i.op || finds) low low_small
 
   high_is : value (opcode_sum op high_ops) z * value (wire from.high) z % P ≡ high_part i.op high
-  high_is = ap₂ (λ g m. g * m % P) (opcode_sum_sound z op i.op high_ops has.opcode refl) (value-wire has.assigns from.high ∙ has.high_wire) ∙ flag_times (among high_ops i.op) high high_small
+  high_is = ap₂ (λ g m. g * m % P) (opcode_sum_sound z op i.op high_ops has.opcode refl) (value-wire has.assigns from.high ∙ has.high_wire)
+      ∙ flag_times (among high_ops i.op) high high_small
 
   moved_is : value moved_terms z * value (wire from.operand) z % P ≡ moved_part i.op at
   moved_is =
       ap₂ (λ g m. g * m % P)
       (value-cons (P - 1) (op + place_of 3) (opcode_sum op (18 ∷ 19 ∷ [])) z
-      ∙ ap₂ (λ m g. ((P - 1) * m + g) % P) (opcode_wire_is z op i.op 3 has.opcode (omega arith) refl) (opcode_sum_sound z op i.op (18 ∷ 19 ∷ []) has.opcode refl))
+      ∙ ap₂ (λ m g. ((P - 1) * m + g) % P) (opcode_wire_is z op i.op 3 has.opcode (omega arith) refl)
+      (opcode_sum_sound z op i.op (18 ∷ 19 ∷ []) has.opcode refl))
       (value-wire has.assigns from.operand ∙ has.value)
       ∙ moved_gate (i.op == 3) (among (18 ∷ 19 ∷ []) i.op) at at_small (apart_ops (18 ∷ 19 ∷ []) 3 refl)
 
@@ -179,7 +189,8 @@ module _ (w : ℕ) (width : IsWidth w) (z : List ℕ) (n : ℕ) (state : StateWi
   moved_small = either (i.op == 3) ((P - at) % P) _ (mod-lt _ (omega arith)) (part_small (among (18 ∷ 19 ∷ []) i.op) at at_small)
 
   word_is : (l h m : ℕ) → slice_index z l ≡ low_part i.op low finds → slice_index z h ≡ high_part i.op high → slice_index z m ≡ moved_part i.op at
-      → (value (parts_in w (op + place_of 3) l h m) z + value (opcode_sum op (27 ∷ [])) z * value (wire from.byte) z) % P ≡ result_number w i.op at low high finds
+      → (value (parts_in w (op + place_of 3) l h m) z + value (opcode_sum op (27 ∷ [])) z * value (wire from.byte) z) % P
+      ≡ result_number w i.op at low high finds
   word_is l h m e f g =
       ap₂ (λ p q. (p + q) % P)
       (value-four z (2 ^ w - 1) 1 1 1 (op + place_of 3) l h m
@@ -187,7 +198,8 @@ module _ (w : ℕ) (width : IsWidth w) (z : List ℕ) (n : ℕ) (state : StateWi
       ∙ ap₂ (λ p q. ((2 ^ w - 1) * flag_of (i.op == 3) + 1 * low_part i.op low finds + 1 * p + 1 * q) % P) f g)
       (ap₂ (λ p q. p * q) (opcode_sum_sound z op i.op (27 ∷ []) has.opcode refl ∙ ap flag_of (among_one 27 i.op)) (value-wire has.assigns from.byte ∙ has.byte))
       ∙ sum_is (i.op == 3) (i.op == 27) (low_part i.op low finds) (high_part i.op high) (moved_part i.op at) (2 ^ w - 1) byte
-      (part_small (among low_ops i.op || finds) low low_small) (part_small (among high_ops i.op) high high_small) moved_small (small_word w width (2 ^ w - 1) (omega (arith, width))) byte_small
+      (part_small (among low_ops i.op || finds) low low_small) (part_small (among high_ops i.op) high high_small) moved_small
+      (small_word w width (2 ^ w - 1) (omega (arith, width))) byte_small
       (λ e. ne_eqb i.op 27 (λ k. other (eqb-true i.op 3 e) k))
     where
       other : i.op ≡ 3 → i.op ≡ 27 → ⊥
@@ -216,13 +228,15 @@ module _ (w : ℕ) (width : IsWidth w) (z : List ℕ) (n : ℕ) (state : StateWi
       value-bits_below (Spells-high z a.first (place_bits w) (w - place_bits w) at (subst (λ k. Spells z a.first k at) size has.operand)) (omega arith)
 
   shift_value : (y : ℕ) → value (scaled (P - 1) place ++ wire y) z ≡ ((P - 1) * (at / 2 ^ place_bits w) % P + slice_index z y) % P
-  shift_value y = value-append (scaled (P - 1) place) (wire y) z ∙ ap₂ (λ p q. (p + q) % P) (value-scaled (P - 1) place z ∙ ap (λ m. (P - 1) * m % P) place_is) (value-wire has.assigns y)
+  shift_value y = value-append (scaled (P - 1) place) (wire y) z
+      ∙ ap₂ (λ p q. (p + q) % P) (value-scaled (P - 1) place z ∙ ap (λ m. (P - 1) * m % P) place_is) (value-wire has.assigns y)
 
   place_small : at / 2 ^ place_bits w < P
   place_small = subst (λ m. m < P) place_is (value-below place z)
 
   signs_value : (y : ℕ) → value (signs_in w from.top from.high y) z ≡ ((2 ^ w - 1) * bit_at low (w - 1) + (P - 1) * high + 1 * slice_index z y) % P
-  signs_value y = value-three z (2 ^ w - 1) (P - 1) 1 from.top from.high y ∙ ap₂ (λ p q. ((2 ^ w - 1) * p + (P - 1) * q + 1 * slice_index z y) % P) has.top has.high_wire
+  signs_value y = value-three z (2 ^ w - 1) (P - 1) 1 from.top from.high y
+      ∙ ap₂ (λ p q. ((2 ^ w - 1) * p + (P - 1) * q + 1 * slice_index z y) % P) has.top has.high_wire
 
   top_small : bit_at low (w - 1) < 2
   top_small = omega arith
@@ -231,37 +245,55 @@ module _ (w : ℕ) (width : IsWidth w) (z : List ℕ) (n : ℕ) (state : StateWi
   high_value y = value-two z (P - 1) 1 from.high y ∙ ap (λ p. ((P - 1) * p + 1 * slice_index z y) % P) has.high_wire
 
   tested_sound : (next result : ℕ) → Meets z (tested_of w op a from result next).list
-      → covers (tested_numbers w at low high (slice_index z result)) i.op ≡ true → slice_index z next ≡ chosen (tested_numbers w at low high (slice_index z result)) i.op
+      → covers (tested_numbers w at low high (slice_index z result)) i.op ≡ true
+      → slice_index z next ≡ chosen (tested_numbers w at low high (slice_index z result)) i.op
   unfolding tested_of fresh put pure ◌>>=◌
   tested_sound next result meets =
       let y = slice_index z next in
       let ys = wire-below has.assigns next in
-      pick_four (among zero_ops i.op) (among carry_ops i.op) (among (8 ∷ []) i.op) (among (11 ∷ 12 ∷ []) i.op) y (slice_index z result) high ((high + (P - (2 ^ w - 1) * bit_at low (w - 1))) % P) (at / 2 ^ place_bits w)
-      (λ e. same_by (slice_index z result) y (wire-below has.assigns result) ys (sym (value-two z (P - 1) 1 result next) ∙ held (among zero_ops i.op) (value (opcode_sum op zero_ops) z) _ (value-below ((P - 1, result) ∷ (1, next) ∷ []) z) zero_gate meets.0 e))
-      (λ e. same_by high y high_small ys (sym (high_value next) ∙ held (among carry_ops i.op) (value (opcode_sum op carry_ops) z) _ (value-below ((P - 1, from.high) ∷ (1, next) ∷ []) z) carry_gate meets.1.0 e))
-      (λ e. signs_by w width (bit_at low (w - 1)) high y top_small high_small ys (sym (signs_value next) ∙ held (among (8 ∷ []) i.op) (value (opcode_sum op (8 ∷ [])) z) _ (value-below (signs_in w from.top from.high next) z) signs_gate meets.1.1.0 e))
-      (λ e. shift_by (at / 2 ^ place_bits w) y place_small ys (sym (shift_value next) ∙ held (among (11 ∷ 12 ∷ []) i.op) (value (opcode_sum op (11 ∷ 12 ∷ [])) z) _ (value-below (scaled (P - 1) place ++ wire next) z) shift_gate meets.1.1.1.0 e))
+      pick_four (among zero_ops i.op) (among carry_ops i.op) (among (8 ∷ []) i.op) (among (11 ∷ 12 ∷ []) i.op) y (slice_index z result) high
+      ((high + (P - (2 ^ w - 1) * bit_at low (w - 1))) % P) (at / 2 ^ place_bits w)
+      (λ e. same_by (slice_index z result) y (wire-below has.assigns result) ys
+      (sym (value-two z (P - 1) 1 result next)
+      ∙ held (among zero_ops i.op) (value (opcode_sum op zero_ops) z) _ (value-below ((P - 1, result) ∷ (1, next) ∷ []) z) zero_gate meets.0 e))
+      (λ e. same_by high y high_small ys (sym (high_value next)
+      ∙ held (among carry_ops i.op) (value (opcode_sum op carry_ops) z) _ (value-below ((P - 1, from.high) ∷ (1, next) ∷ []) z) carry_gate meets.1.0 e))
+      (λ e. signs_by w width (bit_at low (w - 1)) high y top_small high_small ys
+      (sym (signs_value next) ∙ held (among (8 ∷ []) i.op) (value (opcode_sum op (8 ∷ [])) z) _
+      (value-below (signs_in w from.top from.high next) z) signs_gate meets.1.1.0 e))
+      (λ e. shift_by (at / 2 ^ place_bits w) y place_small ys
+      (sym (shift_value next) ∙ held (among (11 ∷ 12 ∷ []) i.op) (value (opcode_sum op (11 ∷ 12 ∷ [])) z) _
+      (value-below (scaled (P - 1) place ++ wire next) z) shift_gate meets.1.1.1.0 e))
 
-  tested_complete : (next result : ℕ) → slice_index z next ≡ tested_number w i.op at low high (slice_index z result) → Meets z (tested_of w op a from result next).list
+  tested_complete : (next result : ℕ) → slice_index z next ≡ tested_number w i.op at low high (slice_index z result)
+      → Meets z (tested_of w op a from result next).list
   unfolding tested_of fresh put pure ◌>>=◌
   tested_complete next result e =
       let is = tested_is w at low high (slice_index z result) i.op has.opcode.within has.opcode.used in (
-        holds_by (among zero_ops i.op) _ _ zero_gate (λ k. value-two z (P - 1) 1 result next ∙ none_by (slice_index z result) (slice_index z next) (wire-below has.assigns result) (e ∙ is.0 k)),
+        holds_by (among zero_ops i.op) _ _ zero_gate
+            (λ k. value-two z (P - 1) 1 result next ∙ none_by (slice_index z result) (slice_index z next) (wire-below has.assigns result) (e ∙ is.0 k)),
         (
           holds_by (among carry_ops i.op) _ _ carry_gate (λ k. high_value next ∙ none_by high (slice_index z next) high_small (e ∙ is.1 k)),
           (
-            holds_by (among (8 ∷ []) i.op) _ _ signs_gate (λ k. signs_value next ∙ signs_none w width (bit_at low (w - 1)) high (slice_index z next) top_small high_small (e ∙ is.2 k)),
-            (holds_by (among (11 ∷ 12 ∷ []) i.op) _ _ shift_gate (λ k. shift_value next ∙ shift_none (at / 2 ^ place_bits w) (slice_index z next) place_small (e ∙ is.3 k)), tt),
+            holds_by (among (8 ∷ []) i.op) _ _ signs_gate
+                (λ k. signs_value next ∙ signs_none w width (bit_at low (w - 1)) high (slice_index z next) top_small high_small (e ∙ is.2 k)),
+            (
+              holds_by (among (11 ∷ 12 ∷ []) i.op) _ _ shift_gate
+                  (λ k. shift_value next ∙ shift_none (at / 2 ^ place_bits w) (slice_index z next) place_small (e ∙ is.3 k)),
+              tt,
+            ),
           ),
         ),
       )
 
 -- ---- the laws
-result_answer : (w : ℕ) (state : StateWires) (op : ℕ) (from : Sources) (t : TapeWires) (next : ℕ) → (result_of w state op from t next).answer ≡ next + 1 + 1 + 1
+pub result_answer : (w : ℕ) (state : StateWires) (op : ℕ) (from : Sources) (t : TapeWires) (next : ℕ)
+    → (result_of w state op from t next).answer ≡ next + 1 + 1 + 1
 unfolding result_of times_of closed_of fresh put pure ◌>>=◌
 result_answer w state op from t next = refl
 
-result_next : (w : ℕ) (state : StateWires) (op : ℕ) (from : Sources) (t : TapeWires) (next : ℕ) → (result_of w state op from t next).next ≡ next + 1 + 1 + 1 + 1
+pub result_next : (w : ℕ) (state : StateWires) (op : ℕ) (from : Sources) (t : TapeWires) (next : ℕ)
+    → (result_of w state op from t next).next ≡ next + 1 + 1 + 1 + 1
 unfolding result_of times_of closed_of fresh put pure ◌>>=◌
 result_next w state op from t next = refl
 
@@ -269,8 +301,10 @@ tested_answer : (w op : ℕ) (a : Bits) (from : Sources) (result next : ℕ) →
 unfolding tested_of fresh put pure ◌>>=◌
 tested_answer w op a from result next = refl
 
-word_sound : (w : ℕ) (width : IsWidth w) (z : List ℕ) (next n : ℕ) (state : StateWires) (op : ℕ) (a : Bits) (from : Sources) (t : TapeWires) (v : View) (i : Instr) (low high : ℕ) (has : HasSources w z n state op a from t v i low high)
-    → Meets z (result_of w state op from t next).list → slice_index z (result_of w state op from t next).answer ≡ result_number w i.op (operand_word v i) low high (takes_primary v i n || took z t)
+word_sound : (w : ℕ) (width : IsWidth w) (z : List ℕ) (next n : ℕ) (state : StateWires) (op : ℕ) (a : Bits) (from : Sources) (t : TapeWires) (v : View)
+    (i : Instr) (low high : ℕ) (has : HasSources w z n state op a from t v i low high)
+    → Meets z (result_of w state op from t next).list
+    → slice_index z (result_of w state op from t next).answer ≡ result_number w i.op (operand_word v i) low high (takes_primary v i n || took z t)
 unfolding result_of ◌>>=◌
 word_sound w width z next n state op a from t v i low high has meets =
     let assigns = has.assigns in
@@ -288,9 +322,11 @@ word_sound w width z next n state op a from t v i low high has meets =
     accumulated_sound z m.next (parts_in w (op + place_of 3) l.answer h.answer m.answer) (opcode_sum op (27 ∷ [])) (wire from.byte) assigns m3.1
     ∙ word_is w width z n state op a from t v i low high has l.answer h.answer m.answer l_is h_is m_is
 
-word_complete : (w : ℕ) (width : IsWidth w) (z : List ℕ) (next n : ℕ) (state : StateWires) (op : ℕ) (a : Bits) (from : Sources) (t : TapeWires) (v : View) (i : Instr) (low high : ℕ) (has : HasSources w z n state op a from t v i low high)
+word_complete : (w : ℕ) (width : IsWidth w) (z : List ℕ) (next n : ℕ) (state : StateWires) (op : ℕ) (a : Bits) (from : Sources) (t : TapeWires) (v : View)
+    (i : Instr) (low high : ℕ) (has : HasSources w z n state op a from t v i low high)
     → let finds : Bool = takes_primary v i n || took z t in
-    slice_index z next ≡ low_part i.op low finds → slice_index z (next + 1) ≡ high_part i.op high → slice_index z (next + 1 + 1) ≡ moved_part i.op (operand_word v i)
+    slice_index z next ≡ low_part i.op low finds → slice_index z (next + 1) ≡ high_part i.op high
+    → slice_index z (next + 1 + 1) ≡ moved_part i.op (operand_word v i)
     → slice_index z (next + 1 + 1 + 1) ≡ result_number w i.op (operand_word v i) low high finds → Meets z (result_of w state op from t next).list
 unfolding result_of ◌>>=◌
 word_complete w width z next n state op a from t v i low high has e f g r =
@@ -327,13 +363,18 @@ results_sound w width z next n state op a from t v i low high has meets =
     let is = word_sound w width z next n state op a from t v i low high has m1.0 in
     let known = case_of w width z n state op a from t v i low high has in
     record {
-      word = λ e. is ∙ result_is w width (other_word v i) (operand_word v i) low high finds (Spells-below has.operand) i.op has.opcode.within has.opcode.used e known;
+      word = λ e. is ∙ result_is w width (other_word v i) (operand_word v i) low high finds
+          (Spells-below has.operand) i.op has.opcode.within has.opcode.used e known;
       compared = λ e. is ∙ at_cmpe w width v i low high finds (Spells-below has.operand) e known;
-      tested = λ e. ap (λ k. slice_index z k) (tested_answer w op a from word.answer word.next) ∙ tested_sound w width z n state op a from t v i low high has word.next word.answer m2.0 e;
+      tested = λ e. ap (λ k. slice_index z k) (tested_answer w op a from word.answer word.next)
+          ∙ tested_sound w width z n state op a from t v i low high has word.next word.answer m2.0 e;
     }
   where
-    at_cmpe : (w : ℕ) (width : IsWidth w) (v : View) (i : Instr) (low high : ℕ) (finds : Bool) (h : operand_word v i < 2 ^ w) → i.op ≡ 13 → ResultCase w width (other_word v i) (operand_word v i) low high finds h i.op → result_number w i.op (operand_word v i) low high finds ≡ low
-    at_cmpe w width v i low high finds h e = subst (λ k. ResultCase w width (other_word v i) (operand_word v i) low high finds h k → result_number w k (operand_word v i) low high finds ≡ low) (sym e) (compared_is w width (other_word v i) (operand_word v i) low high finds h)
+    at_cmpe : (w : ℕ) (width : IsWidth w) (v : View) (i : Instr) (low high : ℕ) (finds : Bool) (h : operand_word v i < 2 ^ w) → i.op ≡ 13
+        → ResultCase w width (other_word v i) (operand_word v i) low high finds h i.op → result_number w i.op (operand_word v i) low high finds ≡ low
+    at_cmpe w width v i low high finds h e = subst
+        (λ k. ResultCase w width (other_word v i) (operand_word v i) low high finds h k → result_number w k (operand_word v i) low high finds ≡ low) (sym e)
+        (compared_is w width (other_word v i) (operand_word v i) low high finds h)
 
 pub results_complete : ResultsAreComplete
 unfolding results_of pure ◌>>=◌
@@ -342,19 +383,23 @@ results_complete w width z next n state op a from t v i low high has values =
     let word = result_of w state op from t next in
     let tested = tested_of w op a from word.answer word.next in
     let m1 = word_complete w width z next n state op a from t v i low high has values.0 values.1.0 values.1.1.0 values.1.1.1.0 in
-    let is : slice_index z word.answer ≡ result_number w i.op (operand_word v i) low high finds = ap (λ k. slice_index z k) (result_answer w state op from t next) ∙ values.1.1.1.0 in
+    let is : slice_index z word.answer ≡ result_number w i.op (operand_word v i) low high finds = ap (λ k. slice_index z k)
+    (result_answer w state op from t next) ∙ values.1.1.1.0 in
     let m2 = tested_complete w width z n state op a from t v i low high has word.next word.answer
     (ap (λ k. slice_index z k) (result_next w state op from t next) ∙ values.1.1.1.1.0 ∙ sym (ap (tested_number w i.op (operand_word v i) low high) is)) in
     Meets-join z word.list _ m1 (Meets-join z tested.list _ m2 tt)
 
-results_count : (w : ℕ) (state : StateWires) (op : ℕ) (a : Bits) (from : Sources) (t : TapeWires) (next : ℕ) → length (results_of w state op a from t next).list ≡ 8
+results_count : (w : ℕ) (state : StateWires) (op : ℕ) (a : Bits) (from : Sources) (t : TapeWires) (next : ℕ)
+    → length (results_of w state op a from t next).list ≡ 8
 unfolding results_of result_of tested_of times_of closed_of fresh put pure ◌>>=◌
 results_count w state op a from t next = refl
 
 longer : (k first n x : ℕ) → length (scaled k (bits_combination first n) ++ wire x) ≡ n + 1
-longer k first n x = length-append (scaled k (bits_combination first n)) (wire x) ∙ ap (λ m. m + 1) (length-map (bits_combination first n) _ ∙ length-weighted first n (λ i. 2 ^ i % P))
+longer k first n x = length-append (scaled k (bits_combination first n)) (wire x)
+    ∙ ap (λ m. m + 1) (length-map (bits_combination first n) _ ∙ length-weighted first n (λ i. 2 ^ i % P))
 
-results_terms : (w : ℕ) → IsWidth w → (state : StateWires) (op : ℕ) (a : Bits) (from : Sources) (t : TapeWires) (next : ℕ) → terms_in (results_of w state op a from t next).list ≡ w - w / 16 + 55
+results_terms : (w : ℕ) → IsWidth w → (state : StateWires) (op : ℕ) (a : Bits) (from : Sources) (t : TapeWires) (next : ℕ)
+    → terms_in (results_of w state op a from t next).list ≡ w - w / 16 + 55
 unfolding results_of result_of tested_of times_of closed_of fresh put pure ◌>>=◌
 results_terms w width state op a from t next = omega (arith, longer (P - 1) (a.first + place_bits w) (w - place_bits w) (next + 1 + 1 + 1 + 1), width)
 
@@ -365,11 +410,14 @@ results_costs = record { constraints = results_count; terms = results_terms }
 abbrev wires_from : ℕ → ℕ → ResultWires
 wires_from a b = record { word = a; tested = b }
 
-results_answer : (w : ℕ) (state : StateWires) (op : ℕ) (a : Bits) (from : Sources) (t : TapeWires) (next : ℕ) → (results_of w state op a from t next).answer ≡ record { word = next + 3; tested = next + 4 }
+results_answer : (w : ℕ) (state : StateWires) (op : ℕ) (a : Bits) (from : Sources) (t : TapeWires) (next : ℕ)
+    → (results_of w state op a from t next).answer ≡ record { word = next + 3; tested = next + 4 }
 unfolding results_of result_of tested_of times_of closed_of fresh put pure ◌>>=◌
-results_answer w state op a from t next = ap₂ wires_from (let e : next + 1 + 1 + 1 ≡ next + 3 = omega arith in e) (let e : next + 1 + 1 + 1 + 1 ≡ next + 4 = omega arith in e)
+results_answer w state op a from t next = ap₂ wires_from (let e : next + 1 + 1 + 1 ≡ next + 3 = omega arith in e)
+    (let e : next + 1 + 1 + 1 + 1 ≡ next + 4 = omega arith in e)
 
-results_next : (w : ℕ) (state : StateWires) (op : ℕ) (a : Bits) (from : Sources) (t : TapeWires) (next : ℕ) → (results_of w state op a from t next).next ≡ next + 5
+results_next : (w : ℕ) (state : StateWires) (op : ℕ) (a : Bits) (from : Sources) (t : TapeWires) (next : ℕ)
+    → (results_of w state op a from t next).next ≡ next + 5
 unfolding results_of result_of tested_of times_of closed_of fresh put pure ◌>>=◌
 results_next w state op a from t next = omega arith
 
@@ -382,7 +430,8 @@ tested_below w width k a low high result h l m =
     divided : (w : ℕ) → IsWidth w → (a : ℕ) → a < P → a / 2 ^ place_bits w < P
     divided w width = for_widths (λ w. (a : ℕ) → a < P → a / 2 ^ place_bits w < P) (λ a h. omega arith) (λ a h. omega arith) w width
 
-results_in_field : (w : ℕ) → IsWidth w → (k a low high : ℕ) (found : Bool) → a < 2 ^ w → low < 2 ^ w → high < 2 ^ w → InField (results_values w k a low high found)
+results_in_field : (w : ℕ) → IsWidth w → (k a low high : ℕ) (found : Bool) → a < 2 ^ w → low < 2 ^ w → high < 2 ^ w
+    → InField (results_values w k a low high found)
 results_in_field w width k a low high found h l m =
     let a_small = small_word w width a h in
     let low_small = small_word w width low l in

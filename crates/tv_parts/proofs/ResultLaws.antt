@@ -1,5 +1,6 @@
 -- The numbers of a step's result.
-use Rattle.std.proofs.Common.{◌≡◌, ℕ, ◌+◌, ◌-◌, ◌*◌, ◌/◌, ◌%◌, ◌^◌, ◌<◌, ◌==◌, Bool, true, false, if◌then◌else◌, [], ◌∷◌, refl, sym, ◌∙◌, ap, ap₂, arith, bit_and, bit_or, bit_xor}
+use Rattle.std.proofs.Common.{◌≡◌, ℕ, ◌+◌, ◌-◌, ◌*◌, ◌/◌, ◌%◌, ◌^◌, ◌<◌, ◌==◌, Bool, true, false, if◌then◌else◌, [], ◌∷◌, refl, sym, ◌∙◌, ap, ap₂, arith}
+use Rattle.std.proofs.Common.{bit_and, bit_or, bit_xor}
 use Rattle.std.specs.Int.{bit_at}
 use Rattle.std.specs.Int.Bits.{or_add_and, xor_add_and}
 use Rattle.tv_core.specs.declared.field.TheConstants.{P}
@@ -24,7 +25,8 @@ two_words : (w : ℕ) → IsWidth w → (u v : ℕ) → u < 2 ^ w → v < 2 ^ w 
 two_words w width = for_widths (λ w. (u v : ℕ) → u < 2 ^ w → v < 2 ^ w → (u + v + 0 + 0) % P ≡ u + v) (λ u v h k. omega arith) (λ u v h k. omega arith) w width
 
 complement : (w : ℕ) → IsWidth w → (a : ℕ) → a < 2 ^ w → (0 + 0 + (P - a) % P + (2 ^ w - 1)) % P ≡ 2 ^ w - 1 - a
-complement w width = for_widths (λ w. (a : ℕ) → a < 2 ^ w → (0 + 0 + (P - a) % P + (2 ^ w - 1)) % P ≡ 2 ^ w - 1 - a) (λ a h. omega arith) (λ a h. omega arith) w width
+complement w width = for_widths (λ w. (a : ℕ) → a < 2 ^ w → (0 + 0 + (P - a) % P + (2 ^ w - 1)) % P ≡ 2 ^ w - 1 - a) (λ a h. omega arith)
+    (λ a h. omega arith) w width
 
 one_low : (u : ℕ) → u < P → (u + 0 + 0 + 0) % P ≡ u
 one_low u h = omega arith
@@ -68,7 +70,8 @@ module _ (w : ℕ) (width : IsWidth w) (x a low high : ℕ) (found : Bool) (a_wo
   at_and c = one_low low (low_small 0 c) ∙ c.halves.low_half refl
 
   at_or : ResultNumber 1
-  at_or c = two_words w width low high c.halves.low_word c.halves.high_word ∙ ap₂ (λ m n. m + n) (c.halves.low_half refl) (c.halves.high_half refl) ∙ sym (or-sum x a)
+  at_or c = two_words w width low high c.halves.low_word c.halves.high_word ∙ ap₂ (λ m n. m + n) (c.halves.low_half refl) (c.halves.high_half refl)
+      ∙ sym (or-sum x a)
 
   at_xor : ResultNumber 2
   at_xor c = none 2 refl c high 0 0 ∙ one_high high (high_small 2 c) ∙ c.halves.high_half refl
@@ -219,7 +222,8 @@ module _ (w : ℕ) (width : IsWidth w) (x a low high : ℕ) (found : Bool) (a_wo
 abbrev pub Tested : ℕ → ℕ → ℕ → ℕ → ℕ → ℕ → Type 0
 Tested w a low high result k =
     (among zero_ops k ≡ true → tested_number w k a low high result ≡ result) × (among carry_ops k ≡ true → tested_number w k a low high result ≡ high)
-    × (among (8 ∷ []) k ≡ true → tested_number w k a low high result ≡ (high + (P - (2 ^ w - 1) * bit_at low (w - 1))) % P) × (among (11 ∷ 12 ∷ []) k ≡ true → tested_number w k a low high result ≡ a / 2 ^ place_bits w)
+    × (among (8 ∷ []) k ≡ true → tested_number w k a low high result ≡ (high + (P - (2 ^ w - 1) * bit_at low (w - 1))) % P)
+    × (among (11 ∷ 12 ∷ []) k ≡ true → tested_number w k a low high result ≡ a / 2 ^ place_bits w)
 
 pub tested_is : (w a low high result k : ℕ) → k < 32 → among unused_ops k ≡ false → Tested w a low high result k
 tested_is w a low high result = for_opcode (Tested w a low high result) (

@@ -27,7 +27,7 @@ no_quotient n a positive large e =
     absurd (omega arith)
 
 -- a number that the bits above a place in a word spell is 0 where the word is below w
-below_width : (w : ℕ) → IsWidth w → (a : ℕ) → (if a / 2 ^ place_bits w == 0 then 1 else 0) ≡ flag_of (nat_lt a w)
+pub below_width : (w : ℕ) → IsWidth w → (a : ℕ) → (if a / 2 ^ place_bits w == 0 then 1 else 0) ≡ flag_of (nat_lt a w)
 below_width = for_widths (λ w. (a : ℕ) → (if a / 2 ^ place_bits w == 0 then 1 else 0) ≡ flag_of (nat_lt a w)) (at 16 (omega arith)) (at 32 (omega arith))
   where
     at : (n : ℕ) → 0 < n → (a : ℕ) → (if a / n == 0 then 1 else 0) ≡ flag_of (nat_lt a n)
@@ -52,7 +52,8 @@ shift_test_sound w width z next state op bits from t k a assigns opcode shift sp
     value-bits_below (Spells-high z bits.first (place_bits w) (w - place_bits w) a (subst (λ n. Spells z bits.first n a) size spells)) (omega arith) in
     let gate : value (opcode_sum op shift_ops) z ≡ 1 = opcode_sum_sound z op k shift_ops opcode refl ∙ ap flag_of shift in
     let sum : value (scaled (P - 1) place ++ wire y) z ≡ ((P - 1) * (a / 2 ^ place_bits w) % P + slice_index z y) % P =
-    value-append (scaled (P - 1) place) (wire y) z ∙ ap₂ (λ m n. (m + n) % P) (value-scaled (P - 1) place z ∙ ap (λ n. (P - 1) * n % P) high) (value-wire assigns y) in
+    value-append (scaled (P - 1) place) (wire y) z
+    ∙ ap₂ (λ m n. (m + n) % P) (value-scaled (P - 1) place z ∙ ap (λ n. (P - 1) * n % P) high) (value-wire assigns y) in
     let none : 1 * (((P - 1) * (a / 2 ^ place_bits w) % P + slice_index z y) % P) % P ≡ 0 =
     ap₂ (λ m n. m * n % P) (sym gate) (sym sum) ∙ m1.1.1.1.1.0 in
     let is = closes (a / 2 ^ place_bits w) (slice_index z y) (subst (λ n. n < P) high (value-below place z)) (wire-below assigns y) none in

@@ -43,3 +43,29 @@ sized_as circuit m c t n d u p e f g = record {
 pub sized_put : (a b c : Combination) → Sized (put a b c) 0 1 (length a + length b + length c)
 unfolding put
 sized_put a b c = record { end = none_more; count = λ next. refl; size = λ next. omega arith }
+
+-- so many from one wire on
+pub record SizedAt {A : Type 0} (circuit : Circuit A) (next made constraints terms : ℕ) : Type 0 where
+  pub end : (circuit next).next ≡ next + made
+  pub count : length (circuit next).list ≡ constraints
+  pub size : terms_in (circuit next).list ≡ terms
+
+-- a second part of which that is known where the first one ends
+pub sized_to : {A B : Type 0} (first : Circuit A) (second : A → Circuit B) (m c t n d u : ℕ)
+    → Sized first m c t → ((next : ℕ) → SizedAt (second (first next).answer) (first next).next n d u) → Sized (first >>= second) (m + n) (c + d) (t + u)
+unfolding ◌>>=◌
+sized_to first second m c t n d u p q = record {
+  end = λ next. (q next).end ∙ ap (λ k. k + n) (p.end next) ∙ plus_assoc next m n;
+  count = λ next. length-append (first next).list (second (first next).answer (first next).next).list ∙ ap₂ (λ i j. i + j) (p.count next) (q next).count;
+  size = λ next. terms-append (first next).list (second (first next).answer (first next).next).list ∙ ap₂ (λ i j. i + j) (p.size next) (q next).size;
+}
+
+-- and what comes after it
+pub sized_from : {A B : Type 0} (first : Circuit A) (second : A → Circuit B) (next m c t n d u : ℕ)
+    → SizedAt first next m c t → Sized (second (first next).answer) n d u → SizedAt (first >>= second) next (m + n) (c + d) (t + u)
+unfolding ◌>>=◌
+sized_from first second next m c t n d u p q = record {
+  end = q.end (first next).next ∙ ap (λ k. k + n) p.end ∙ plus_assoc next m n;
+  count = length-append (first next).list (second (first next).answer (first next).next).list ∙ ap₂ (λ i j. i + j) p.count (q.count (first next).next);
+  size = terms-append (first next).list (second (first next).answer (first next).next).list ∙ ap₂ (λ i j. i + j) p.size (q.size (first next).next);
+}

@@ -1,5 +1,6 @@
 -- The laws of the small circuits of the tapes.
-use Rattle.std.proofs.Common.{◌≡◌, ◌≢◌, ℕ, ◌+◌, ◌-◌, ◌*◌, ◌%◌, ◌^◌, ◌<◌, ◌≤◌, ◌==◌, not, ◌&&◌, Bool, true, false, if◌then◌else◌, List, [], ◌∷◌, inl, inr, refl, sym, ◌∙◌, ap, ap₂, arith, mod-lt, zero-mul, mul-zero, eq-eqb, true≢false}
+use Rattle.std.proofs.Common.{◌≡◌, ◌≢◌, ℕ, ◌+◌, ◌-◌, ◌*◌, ◌%◌, ◌^◌, ◌<◌, ◌≤◌, ◌==◌, not, ◌&&◌, Bool, true, false, if◌then◌else◌, List, [], ◌∷◌, inl, inr}
+use Rattle.std.proofs.Common.{refl, sym, ◌∙◌, ap, ap₂, arith, mod-lt, zero-mul, mul-zero, eq-eqb, true≢false}
 use Rattle.std.specs.Prelude.{slice_index}
 use Rattle.std.proofs.lemmas.Bool.{cases_eq, ne_eqb}
 use Rattle.tv_bits.proofs.BitLaws.{bit_cases}
@@ -21,19 +22,24 @@ use Rattle.tv_parts.specs.Tapes.{if_zero_of, left_in, primary_of, auxiliary_of}
 
 -- ---- values of short combinations
 pub value-two : (z : List ℕ) (b c v w : ℕ) → value ((b, v) ∷ (c, w) ∷ []) z ≡ (b * slice_index z v + c * slice_index z w) % P
-value-two z b c v w = value-cons b v ((c, w) ∷ []) z ∙ ap (λ n. (b * slice_index z v + n) % P) (value-cons c w [] z) ∙ folded (b * slice_index z v) (c * slice_index z w)
+value-two z b c v w = value-cons b v ((c, w) ∷ []) z ∙ ap (λ n. (b * slice_index z v + n) % P) (value-cons c w [] z)
+    ∙ folded (b * slice_index z v) (c * slice_index z w)
   where
     folded : (m n : ℕ) → (m + (n + 0) % P) % P ≡ (m + n) % P
     folded m n = omega arith
 
-pub value-three : (z : List ℕ) (b c d u v w : ℕ) → value ((b, u) ∷ (c, v) ∷ (d, w) ∷ []) z ≡ (b * slice_index z u + c * slice_index z v + d * slice_index z w) % P
-value-three z b c d u v w = value-cons b u ((c, v) ∷ (d, w) ∷ []) z ∙ ap (λ n. (b * slice_index z u + n) % P) (value-two z c d v w) ∙ folded (b * slice_index z u) (c * slice_index z v) (d * slice_index z w)
+pub value-three : (z : List ℕ) (b c d u v w : ℕ)
+    → value ((b, u) ∷ (c, v) ∷ (d, w) ∷ []) z ≡ (b * slice_index z u + c * slice_index z v + d * slice_index z w) % P
+value-three z b c d u v w = value-cons b u ((c, v) ∷ (d, w) ∷ []) z ∙ ap (λ n. (b * slice_index z u + n) % P) (value-two z c d v w)
+    ∙ folded (b * slice_index z u) (c * slice_index z v) (d * slice_index z w)
   where
     folded : (l m n : ℕ) → (l + (m + n) % P) % P ≡ (l + m + n) % P
     folded l m n = omega arith
 
-pub value-four : (z : List ℕ) (a b c d t u v w : ℕ) → value ((a, t) ∷ (b, u) ∷ (c, v) ∷ (d, w) ∷ []) z ≡ (a * slice_index z t + b * slice_index z u + c * slice_index z v + d * slice_index z w) % P
-value-four z a b c d t u v w = value-cons a t ((b, u) ∷ (c, v) ∷ (d, w) ∷ []) z ∙ ap (λ n. (a * slice_index z t + n) % P) (value-three z b c d u v w) ∙ folded (a * slice_index z t) (b * slice_index z u) (c * slice_index z v) (d * slice_index z w)
+pub value-four : (z : List ℕ) (a b c d t u v w : ℕ)
+    → value ((a, t) ∷ (b, u) ∷ (c, v) ∷ (d, w) ∷ []) z ≡ (a * slice_index z t + b * slice_index z u + c * slice_index z v + d * slice_index z w) % P
+value-four z a b c d t u v w = value-cons a t ((b, u) ∷ (c, v) ∷ (d, w) ∷ []) z ∙ ap (λ n. (a * slice_index z t + n) % P) (value-three z b c d u v w)
+    ∙ folded (a * slice_index z t) (b * slice_index z u) (c * slice_index z v) (d * slice_index z w)
   where
     folded : (k l m n : ℕ) → (k + (l + m + n) % P) % P ≡ (k + l + m + n) % P
     folded k l m n = omega arith
@@ -69,7 +75,8 @@ unless_zero_by x h g w xs gs ws first second = elim (cases_eq x 0) [
 
 -- x times a hint that is its inverse times g is g, where x isn't 0
 inverse_times : (x g h : ℕ) → x < P → g < P → x ≢ 0 → h ≡ inverse_of x * g % P → x * h % P ≡ g
-inverse_times x g h xs gs some e = ap (λ n. x * n % P) e ∙ mul-mod_undone x (inverse_of x) g P (mul-inverse_of x (λ none. some (omega arith))) ∙ (let small : g % P ≡ g = omega arith in small)
+inverse_times x g h xs gs some e = ap (λ n. x * n % P) e ∙ mul-mod_undone x (inverse_of x) g P (mul-inverse_of x (λ none. some (omega arith)))
+    ∙ (let small : g % P ≡ g = omega arith in small)
 
 times_none : (x h : ℕ) → h ≡ 0 → x * h % P ≡ 0
 times_none x h e = ap (λ n. x * n % P) e ∙ ap (λ n. n % P) (mul-zero x)
@@ -80,7 +87,8 @@ itself a b h e = omega arith
 less_none : (a b : ℕ) → a < P → b ≡ 0 → (a + (P - b)) % P ≡ a
 less_none a b h e = omega arith
 
-pub if_zero_complete : (z : List ℕ) (next : ℕ) (g x : Combination) → Assigns z → slice_index z next ≡ (if value x z == 0 then value g z else 0) → slice_index z (next + 1) ≡ inverse_of (value x z) * value g z % P
+pub if_zero_complete : (z : List ℕ) (next : ℕ) (g x : Combination) → Assigns z → slice_index z next ≡ (if value x z == 0 then value g z else 0)
+    → slice_index z (next + 1) ≡ inverse_of (value x z) * value g z % P
     → Meets z (if_zero_of g x next).list
 unfolding if_zero_of fresh put pure ◌>>=◌
 if_zero_complete z next g x assigns w h =
@@ -90,13 +98,21 @@ if_zero_complete z next g x assigns w h =
   where
     by_cases : (value x z * slice_index z (next + 1) % P ≡ (value g z + (P - slice_index z next)) % P) × (value x z * slice_index z next % P ≡ 0)
     by_cases = elim (cases_eq (value x z) 0) [
-      | inl none ↦ (times_zero (value x z) _ none ∙ sym (itself (value g z) (slice_index z next) (wire-below assigns next) (sym (w ∙ ap (λ b. if b then value g z else 0) (eq-eqb (value x z) 0 none)))), times_zero (value x z) _ none)
+      | inl none ↦ (
+        times_zero (value x z) _ none
+            ∙ sym (itself (value g z) (slice_index z next) (wire-below assigns next) (sym (w ∙ ap (λ b. if b then value g z else 0) (eq-eqb (value x z) 0 none)))),
+        times_zero (value x z) _ none,
+      )
       | inr some ↦
-          let no : slice_index z next ≡ 0 = w ∙ ap (λ b. if b then value g z else 0) (ne_eqb (value x z) 0 some) in
-          (inverse_times (value x z) (value g z) _ (value-below x z) (value-below g z) some h ∙ sym (less_none (value g z) _ (value-below g z) no), times_none (value x z) _ no)
+          let no : slice_index z next ≡ 0 = w ∙ ap (λ b. if b then value g z else 0) (ne_eqb (value x z) 0 some) in (
+            inverse_times (value x z) (value g z) _ (value-below x z) (value-below g z) some h
+                ∙ sym (less_none (value g z) _ (value-below g z) no),
+            times_none (value x z) _ no,
+          )
     ]
 
-pub unless_zero_complete_by : (x h g w : ℕ) → x < P → g < P → w < P → w ≡ (if x == 0 then 0 else g) → h ≡ inverse_of x * g % P → (x * h % P ≡ w) × (x * ((g + (P - w)) % P) % P ≡ 0)
+pub unless_zero_complete_by : (x h g w : ℕ) → x < P → g < P → w < P → w ≡ (if x == 0 then 0 else g) → h ≡ inverse_of x * g % P → (x * h % P ≡ w)
+    × (x * ((g + (P - w)) % P) % P ≡ 0)
 unless_zero_complete_by x h g w xs gs ws e hint = elim (cases_eq x 0) [
   | inl none ↦ (times_zero x h none ∙ sym (e ∙ ap (λ b. if b then 0 else g) (eq-eqb x 0 none)), times_zero x _ none)
   | inr some ↦
@@ -106,8 +122,18 @@ unless_zero_complete_by x h g w xs gs ws e hint = elim (cases_eq x 0) [
 
 -- ---- the primary tape
 left_value : (z : List ℕ) (n before : ℕ) → Assigns z → value (left_in n before) z ≡ (n + (P - 1) * slice_index z before) % P
-left_value z n before assigns = value-two z n (P - 1) 0 before ∙ ap (λ m. (n * m + (P - 1) * slice_index z before) % P) assigns.one ∙ once n ((P - 1) * slice_index z before)
+left_value z n before assigns = elim (cases_eq n 0) [
+  | inl none ↦
+      ap (λ b. value (if b then (P - 1, before) ∷ [] else (n, 0) ∷ (P - 1, before) ∷ []) z) (eq-eqb n 0 none)
+      ∙ value-cons (P - 1) before [] z ∙ alone n (slice_index z before) none
+  | inr some ↦
+      ap (λ b. value (if b then (P - 1, before) ∷ [] else (n, 0) ∷ (P - 1, before) ∷ []) z) (ne_eqb n 0 some)
+      ∙ value-two z n (P - 1) 0 before ∙ ap (λ m. (n * m + (P - 1) * slice_index z before) % P) assigns.one ∙ once n ((P - 1) * slice_index z before)
+]
   where
+    alone : (n b : ℕ) → n ≡ 0 → ((P - 1) * b + 0 % P) % P ≡ (n + (P - 1) * b) % P
+    alone n b none = omega arith
+
     once : (n m : ℕ) → (n * 1 + m) % P ≡ (n + m) % P
     once n m = omega arith
 
@@ -117,11 +143,13 @@ left_number n t h k = omega arith
 rise_number : (b t : ℕ) → b < P → t < P → ((P - 1) * b + 1 * t) % P ≡ (t + (P - b)) % P
 rise_number b t h k = omega arith
 
-rest_number : (b r a t q : ℕ) → b < P → r < P → a < P → t < P → (r + (P - a)) % P ≡ q → (1 * b + 1 * r + (P - 1) * a + (P - 1) * t) % P ≡ (q + (P - (t + (P - b)) % P)) % P
+rest_number : (b r a t q : ℕ) → b < P → r < P → a < P → t < P → (r + (P - a)) % P ≡ q
+    → (1 * b + 1 * r + (P - 1) * a + (P - 1) * t) % P ≡ (q + (P - (t + (P - b)) % P)) % P
 rest_number b r a t q hb hr ha ht e = omega arith
 
 -- g is the number of those that read tape 0, which is 0 or 1
-pub primary_sound : (z : List ℕ) (next n before reads aux g : ℕ) → Assigns z → n < 2 ^ 29 → slice_index z before ≤ n → g < 2 → (slice_index z reads + (P - slice_index z aux)) % P ≡ g
+pub primary_sound : (z : List ℕ) (next n before reads aux g : ℕ) → Assigns z → n < 2 ^ 29 → slice_index z before ≤ n → g < 2
+    → (slice_index z reads + (P - slice_index z aux)) % P ≡ g
     → Meets z (primary_of n before reads aux next).list
     → slice_index z (primary_of n before reads aux next).answer ≡ slice_index z before + (if n - slice_index z before == 0 then 0 else g)
 unfolding primary_of fresh put pure ◌>>=◌
@@ -130,10 +158,13 @@ primary_sound z next n before reads aux g assigns short within bit is meets =
     let t = slice_index z next in
     let left = left_value z n before assigns ∙ left_number n b within short in
     let rise = value-two z (P - 1) 1 before next ∙ rise_number b t (wire-below assigns before) (wire-below assigns next) in
-    let rest = value-four z 1 1 (P - 1) (P - 1) before reads aux next ∙ rest_number b (slice_index z reads) (slice_index z aux) t g (wire-below assigns before) (wire-below assigns reads) (wire-below assigns aux) (wire-below assigns next) is in
+    let rest = value-four z 1 1 (P - 1) (P - 1) before reads aux next
+    ∙ rest_number b (slice_index z reads) (slice_index z aux) t g (wire-below assigns before) (wire-below assigns reads) (wire-below assigns aux)
+    (wire-below assigns next) is in
     let first = ap (λ m. m * value (wire (next + 1)) z % P) (sym left) ∙ meets.0 ∙ rise in
     let second = ap₂ (λ m k. m * k % P) (sym left) (sym rest) ∙ meets.1.0 in
-    let d : (t + (P - b)) % P ≡ (if n - b == 0 then 0 else g) = unless_zero_by (n - b) (value (wire (next + 1)) z) g ((t + (P - b)) % P) (omega arith) (omega arith) (mod-lt _ (omega arith)) first second in
+    let d : (t + (P - b)) % P ≡ (if n - b == 0 then 0 else g) = unless_zero_by (n - b) (value (wire (next + 1)) z) g ((t + (P - b)) % P) (omega arith)
+    (omega arith) (mod-lt _ (omega arith)) first second in
     back b t _ (wire-below assigns next) (omega arith) (choice (n - b == 0) g bit) d
   where
     choice : (c : Bool) (g : ℕ) → g < 2 → (if c then 0 else g) < 2
@@ -143,8 +174,10 @@ primary_sound z next n before reads aux g assigns short within bit is meets =
     back : (b t d : ℕ) → t < P → b < 2 ^ 29 → d < 2 → (t + (P - b)) % P ≡ d → t ≡ b + d
     back b t d h k l e = omega arith
 
-pub primary_complete : (z : List ℕ) (next n before reads aux g : ℕ) → Assigns z → n < 2 ^ 29 → slice_index z before ≤ n → g < 2 → (slice_index z reads + (P - slice_index z aux)) % P ≡ g
-    → slice_index z next ≡ slice_index z before + (if n - slice_index z before == 0 then 0 else g) → slice_index z (next + 1) ≡ inverse_of (n - slice_index z before) * g % P
+pub primary_complete : (z : List ℕ) (next n before reads aux g : ℕ) → Assigns z → n < 2 ^ 29 → slice_index z before ≤ n → g < 2
+    → (slice_index z reads + (P - slice_index z aux)) % P ≡ g
+    → slice_index z next ≡ slice_index z before + (if n - slice_index z before == 0 then 0 else g)
+    → slice_index z (next + 1) ≡ inverse_of (n - slice_index z before) * g % P
     → Meets z (primary_of n before reads aux next).list
 unfolding primary_of fresh put pure ◌>>=◌
 primary_complete z next n before reads aux g assigns short within bit is e hint =
@@ -152,7 +185,9 @@ primary_complete z next n before reads aux g assigns short within bit is e hint 
     let t = slice_index z next in
     let left = left_value z n before assigns ∙ left_number n b within short in
     let rise = value-two z (P - 1) 1 before next ∙ rise_number b t (wire-below assigns before) (wire-below assigns next) in
-    let rest = value-four z 1 1 (P - 1) (P - 1) before reads aux next ∙ rest_number b (slice_index z reads) (slice_index z aux) t g (wire-below assigns before) (wire-below assigns reads) (wire-below assigns aux) (wire-below assigns next) is in
+    let rest = value-four z 1 1 (P - 1) (P - 1) before reads aux next
+    ∙ rest_number b (slice_index z reads) (slice_index z aux) t g (wire-below assigns before) (wire-below assigns reads) (wire-below assigns aux)
+    (wire-below assigns next) is in
     let c : ℕ = if n - b == 0 then 0 else g in
     let d : (t + (P - b)) % P ≡ c = forth b t c (omega arith) (choice (n - b == 0) g bit) e in
     let both = unless_zero_complete_by (n - b) (slice_index z (next + 1)) g ((t + (P - b)) % P) (omega arith) (omega arith) (mod-lt _ (omega arith)) d hint in
@@ -175,10 +210,11 @@ pub record Takes (asked : Bool) (before takes ended : ℕ) : Type 0 where
 -- q is whether a word is asked for that has not ended
 taking_by : (q : Bool) (before takes ended : ℕ) → before < P → takes < P → ended < P
     → flag_of q ≡ (takes + (ended + (P - before)) % P) % P → takes * ((ended + (P - before)) % P) % P ≡ 0 → (q ≡ true → before ≡ 0) → Takes q before takes ended
-taking_by q before takes ended bs ts es sum product zeroth = elim (p_zero_product_below takes ((ended + (P - before)) % P) ts (mod-lt _ (omega arith)) product) [
-  | inl none ↦ not_taken q none sum zeroth
-  | inr none ↦ taken q none sum
-]
+taking_by q before takes ended bs ts es sum product zeroth = elim
+    (p_zero_product_below takes ((ended + (P - before)) % P) ts (mod-lt _ (omega arith)) product) [
+      | inl none ↦ not_taken q none sum zeroth
+      | inr none ↦ taken q none sum
+    ]
   where
     not_taken : (q : Bool) → takes ≡ 0 → flag_of q ≡ (takes + (ended + (P - before)) % P) % P → (q ≡ true → before ≡ 0) → Takes q before takes ended
     not_taken q none sum zeroth =
@@ -197,7 +233,12 @@ taking_by q before takes ended bs ts es sum product zeroth = elim (p_zero_produc
     taken true none sum =
         let one : takes ≡ 1 = omega arith in
         let test : (takes == 1) ≡ true = eq-eqb takes 1 one in
-        record { took = one ∙ sym (ap flag_of test); only = λ t. refl; ends = same_of_minus ended before es bs none ∙ sym (ap (λ b. if b then before else 1) test) }
+        record {
+          took = one ∙ sym (ap flag_of test);
+          only = λ t. refl;
+          ends = same_of_minus ended before es bs none
+              ∙ sym (ap (λ b. if b then before else 1) test);
+        }
     taken false none sum =
         let zeroth : takes ≡ 0 = omega arith in
         let test : (takes == 1) ≡ false = ap (λ n. n == 1) zeroth in
@@ -235,7 +276,8 @@ auxiliary_sound z next taken aux before reads assigns is bit meets =
     zeroth false b bit e = absurd (true≢false (sym e))
 
 -- the numbers where a word may be taken
-taking_numbers : (r t : Bool) (before ended : ℕ) → IsBit before → (t ≡ true → (r && (before == 0)) ≡ true) → ended ≡ (if (r && (before == 0)) && not t then 1 else before)
+taking_numbers : (r t : Bool) (before ended : ℕ) → IsBit before → (t ≡ true → (r && (before == 0)) ≡ true)
+    → ended ≡ (if (r && (before == 0)) && not t then 1 else before)
     → (flag_of r * ((1 + (P - before)) % P) % P ≡ (flag_of t + (ended + (P - before)) % P) % P) × (flag_of t * ((ended + (P - before)) % P) % P ≡ 0)
 taking_numbers r t before ended bit asked e = elim (bit_cases before bit) [
   | inl none ↦ at_none r t (λ k. sym (ap (λ n. r && (n == 0)) none) ∙ asked k) (e ∙ ap (λ n. if (r && (n == 0)) && not t then 1 else n) none) none
@@ -256,8 +298,10 @@ taking_numbers r t before ended bit asked e = elim (bit_cases before bit) [
     at_one false true asked e b = absurd (true≢false (sym (asked refl)))
     at_one false false asked e b = rw (b, e) (refl, refl)
 
-pub auxiliary_complete : (z : List ℕ) (next taken aux before : ℕ) (r t : Bool) → Assigns z → slice_index z aux ≡ flag_of r → slice_index z next ≡ flag_of t → IsBit (slice_index z before)
-    → (t ≡ true → (r && (slice_index z before == 0)) ≡ true) → slice_index z (next + 1) ≡ (if (r && (slice_index z before == 0)) && not t then 1 else slice_index z before)
+pub auxiliary_complete : (z : List ℕ) (next taken aux before : ℕ) (r t : Bool) → Assigns z → slice_index z aux ≡ flag_of r → slice_index z next ≡ flag_of t
+    → IsBit (slice_index z before)
+    → (t ≡ true → (r && (slice_index z before == 0)) ≡ true)
+    → slice_index z (next + 1) ≡ (if (r && (slice_index z before == 0)) && not t then 1 else slice_index z before)
     → Meets z (auxiliary_of taken aux before next).list
 unfolding auxiliary_of fresh put pure ◌>>=◌
 auxiliary_complete z next taken aux before r t assigns is is_takes bit asked e =
@@ -266,7 +310,11 @@ auxiliary_complete z next taken aux before r t assigns is is_takes bit asked e =
     let bs = wire-below assigns before in
     let ts = wire-below assigns next in
     let es = wire-below assigns (next + 1) in
-    let sum = value-three z (P - 1) 1 1 before next (next + 1) ∙ sum_number b (slice_index z next) ended bs ts es ∙ ap (λ m. (m + (ended + (P - b)) % P) % P) is_takes in
+    let sum = value-three z (P - 1) 1 1 before next (next + 1) ∙ sum_number b (slice_index z next) ended bs ts es
+    ∙ ap (λ m. (m + (ended + (P - b)) % P) % P) is_takes in
     let delta = value-two z (P - 1) 1 before (next + 1) ∙ delta_number b ended bs es in
-    let both = taking_numbers r t b ended bit asked e in
-    (ap₂ (λ m n. m * n % P) (value-wire assigns aux ∙ is) (value-one_less assigns before) ∙ both.0 ∙ sym sum, (ap₂ (λ m n. m * n % P) (value-wire assigns next ∙ is_takes) delta ∙ both.1, tt))
+    let both = taking_numbers r t b ended bit asked e in (
+      ap₂ (λ m n. m * n % P) (value-wire assigns aux ∙ is) (value-one_less assigns before) ∙ both.0
+          ∙ sym sum,
+      (ap₂ (λ m n. m * n % P) (value-wire assigns next ∙ is_takes) delta ∙ both.1, tt),
+    )

@@ -1,5 +1,6 @@
 -- What an assignment that meets the tapes' constraints has.
-use Rattle.std.proofs.Common.{◌≡◌, ℕ, ◌+◌, ◌-◌, ◌*◌, ◌/◌, ◌%◌, ◌<◌, ◌≤◌, ◌==◌, nat_lt, not, ◌&&◌, Bool, true, false, if◌then◌else◌, [], ◌∷◌, inl, inr, refl, sym, ◌∙◌, ap, ap₂, subst, arith, zero-mul}
+use Rattle.std.proofs.Common.{◌≡◌, ℕ, ◌+◌, ◌-◌, ◌*◌, ◌/◌, ◌%◌, ◌<◌, ◌≤◌, ◌==◌, nat_lt, not, ◌&&◌, Bool, true, false, if◌then◌else◌, [], ◌∷◌, inl, inr, refl}
+use Rattle.std.proofs.Common.{sym, ◌∙◌, ap, ap₂, subst, arith, zero-mul}
 use Rattle.std.specs.Int.{bit_at}
 use Rattle.std.specs.Prelude.{slice_index}
 use Rattle.std.proofs.lemmas.Bool.{cases_eq, cases_lt, eq-eqb, ne_eqb, lt-ltb, le-ltb}
@@ -44,7 +45,8 @@ reading_by k a low reads aux is_low is_reads is_aux = elim (cases_eq a 0) [
   | inl zeroth ↦ at_zero k (is_reads ∙ ap (λ n. if n / 2 == 0 then flag_of k else 0) zeroth) (is_low ∙ ap (λ n. n % 2) zeroth) zeroth
   | inr some ↦ elim (cases_eq a 1) [
     | inl first ↦ at_one k (is_reads ∙ ap (λ n. if n / 2 == 0 then flag_of k else 0) first) (is_low ∙ ap (λ n. n % 2) first) first
-    | inr others ↦ at_other k (is_reads ∙ ap (λ b. if b then flag_of k else 0) (ne_eqb (a / 2) 0 (λ e. absurd_by (omega arith)))) (ne_eqb a 0 some) (ne_eqb a 1 others)
+    | inr others ↦ at_other k (is_reads ∙ ap (λ b. if b then flag_of k else 0) (ne_eqb (a / 2) 0 (λ e. absurd_by (omega arith)))) (ne_eqb a 0 some)
+        (ne_eqb a 1 others)
   ]
 ]
   where
@@ -52,11 +54,19 @@ reading_by k a low reads aux is_low is_reads is_aux = elim (cases_eq a 0) [
     absurd_by e = e
 
     at_zero : (k : Bool) → reads ≡ flag_of k → low ≡ 0 → a ≡ 0 → Reading k a reads aux
-    at_zero true r l z = record { one = is_aux ∙ rw (r, l) refl ∙ sym (ap (λ n. flag_of (true && (n == 1))) z); none = rw (is_aux, r, l) refl ∙ sym (ap (λ n. flag_of (true && (n == 0))) z) }
+    at_zero true r l z = record {
+      one = is_aux ∙ rw (r, l) refl ∙ sym (ap (λ n. flag_of (true && (n == 1))) z);
+      none = rw (is_aux, r, l) refl
+          ∙ sym (ap (λ n. flag_of (true && (n == 0))) z);
+    }
     at_zero false r l z = record { one = is_aux ∙ rw (r, l) refl; none = rw (is_aux, r, l) refl }
 
     at_one : (k : Bool) → reads ≡ flag_of k → low ≡ 1 → a ≡ 1 → Reading k a reads aux
-    at_one true r l z = record { one = is_aux ∙ rw (r, l) refl ∙ sym (ap (λ n. flag_of (true && (n == 1))) z); none = rw (is_aux, r, l) refl ∙ sym (ap (λ n. flag_of (true && (n == 0))) z) }
+    at_one true r l z = record {
+      one = is_aux ∙ rw (r, l) refl ∙ sym (ap (λ n. flag_of (true && (n == 1))) z);
+      none = rw (is_aux, r, l) refl
+          ∙ sym (ap (λ n. flag_of (true && (n == 0))) z);
+    }
     at_one false r l z = record { one = is_aux ∙ rw (r, l) refl; none = rw (is_aux, r, l) refl }
 
     at_other : (k : Bool) → reads ≡ 0 → (a == 0) ≡ false → (a == 1) ≡ false → Reading k a reads aux
@@ -124,25 +134,31 @@ tapes_sound w width z next n state op a v i has meets =
     let m1 = Meets-split z reads.list _ meets in
     let m2 = Meets-split z aux.list _ m1.1 in
     let m3 = Meets-split z primary.list _ m2.1 in
-    let high : value high_bits z ≡ at / 2 = value-bits_below (Spells-high z a.first 1 (w - 1) at (subst (λ k. Spells z a.first k at) size has.operand)) (omega arith) in
-    let low : slice_index z a.first ≡ at % 2 = ap (λ w. slice_index z w) (let e : a.first ≡ a.first + 0 = omega arith in e) ∙ Spells-bit_at has.operand 0 (omega arith) ∙ (let e : bit_at at 0 ≡ at % 2 = omega arith in e) in
+    let high : value high_bits z ≡ at / 2 = value-bits_below (Spells-high z a.first 1 (w - 1) at (subst (λ k. Spells z a.first k at) size has.operand))
+    (omega arith) in
+    let low : slice_index z a.first ≡ at % 2 = ap (λ w. slice_index z w) (let e : a.first ≡ a.first + 0 = omega arith in e)
+    ∙ Spells-bit_at has.operand 0 (omega arith) ∙ (let e : bit_at at 0 ≡ at % 2 = omega arith in e) in
     let is_reads : slice_index z reads.answer ≡ (if at / 2 == 0 then flag_of k else 0) =
     if_zero_sound z next (opcode_sum op (30 ∷ [])) high_bits assigns m1.0
     ∙ ap₂ (λ x g. if x == 0 then g else 0) high (opcode_sum_sound z op i.op (30 ∷ []) has.opcode refl ∙ ap flag_of (among_one 30 i.op)) in
     let is_aux : slice_index z aux.answer ≡ slice_index z reads.answer * slice_index z a.first % P =
-    times_sound z reads.next (wire reads.answer) (wire a.first) assigns m2.0 ∙ ap₂ (λ m n. m * n % P) (value-wire assigns reads.answer) (value-wire assigns a.first) in
+    times_sound z reads.next (wire reads.answer) (wire a.first) assigns m2.0
+    ∙ ap₂ (λ m n. m * n % P) (value-wire assigns reads.answer) (value-wire assigns a.first) in
     let reading = reading_by k at (slice_index z a.first) (slice_index z reads.answer) (slice_index z aux.answer) low is_reads is_aux in
     let zero_read = k && (at == 0) in
     let is_taken : slice_index z primary.answer ≡ (if takes_primary v i n then v.taken + 1 else v.taken) =
-    primary_sound z aux.next n before reads.answer aux.answer (flag_of zero_read) assigns has.short (subst (λ t. t ≤ n) (sym has.before) has.within) (flag_small zero_read) reading.none m3.0
+    primary_sound z aux.next n before reads.answer aux.answer (flag_of zero_read) assigns has.short (subst (λ t. t ≤ n) (sym has.before) has.within)
+    (flag_small zero_read) reading.none m3.0
     ∙ ap (λ t. t + (if n - t == 0 then 0 else flag_of zero_read)) has.before ∙ more_by zero_read n v.taken has.within in
     let takes = primary.next in
-    let takings = auxiliary_sound z primary.next primary.answer aux.answer state.aux_ended (k && (at == 1)) assigns reading.one (subst IsBit (sym has.ended) has.bit) m3.1 in
+    let takings = auxiliary_sound z primary.next primary.answer aux.answer state.aux_ended (k && (at == 1)) assigns reading.one
+    (subst IsBit (sym has.ended) has.bit) m3.1 in
     let asking : (if k && (at == 1) then slice_index z state.aux_ended == 0 else false) ≡ asks v i =
     and_if (k && (at == 1)) (slice_index z state.aux_ended == 0) ∙ ap (λ e. (k && (at == 1)) && (e == 0)) has.ended in
     record {
       taken = is_taken;
       takes = takings.took;
       asked = λ t. sym asking ∙ takings.only t;
-      ended = takings.ends ∙ ap₂ (λ q e. if q then (if slice_index z takes == 1 then e else 1) else e) asking has.ended ∙ ends_by (asks v i) (slice_index z takes == 1) v.ended _ refl;
+      ended = takings.ends ∙ ap₂ (λ q e. if q then (if slice_index z takes == 1 then e else 1) else e) asking has.ended
+          ∙ ends_by (asks v i) (slice_index z takes == 1) v.ended _ refl;
     }

@@ -1,5 +1,6 @@
 -- Where an assignment has the registers that a step writes, and what they cost.
-use Rattle.std.proofs.Common.{◌≡◌, ℕ, zero, suc, ◌+◌, ◌*◌, ◌%◌, ◌<◌, ◌==◌, Bool, true, false, if◌then◌else◌, List, [], ◌∷◌, length, inl, inr, refl, sym, ◌∙◌, ap, ap₂, subst, arith, true≢false}
+use Rattle.std.proofs.Common.{◌≡◌, ℕ, zero, suc, ◌+◌, ◌*◌, ◌%◌, ◌<◌, ◌==◌, Bool, true, false, if◌then◌else◌, List, [], ◌∷◌, length, inl, inr, refl, sym, ◌∙◌}
+use Rattle.std.proofs.Common.{ap, ap₂, subst, arith, true≢false}
 use Rattle.std.specs.Prelude.{slice_index, slice_set}
 use Rattle.std.specs.List.{range_with_len}
 use Rattle.std.proofs.lemmas.Bool.{cases_eq, ne_eqb}
@@ -38,12 +39,12 @@ bit_test zero small = refl
 bit_test (suc zero) small = refl
 bit_test (suc (suc k)) small = absurd (omega arith)
 
-on_number : (a c : Bool) (f : ℕ) → f < 2 → (c ≡ true → a ≡ false) → (flag_of a + flag_of c * f) % P ≡ flag_of (if c then f == 1 else a)
+pub on_number : (a c : Bool) (f : ℕ) → f < 2 → (c ≡ true → a ≡ false) → (flag_of a + flag_of c * f) % P ≡ flag_of (if c then f == 1 else a)
 on_number a true f small none = rw (none refl) (bit_test f small)
 on_number true false f small none = omega arith
 on_number false false f small none = omega arith
 
-writes_among : (k f : ℕ) → (if k == 19 then f == 1 else among writer_ops k) ≡ true → among (19 ∷ writer_ops) k ≡ true
+pub writes_among : (k f : ℕ) → (if k == 19 then f == 1 else among writer_ops k) ≡ true → among (19 ∷ writer_ops) k ≡ true
 writes_among k f e = elim (cases_eq k 19) [
   | inl same ↦ ap (among (19 ∷ writer_ops)) same
   | inr apart ↦
@@ -51,11 +52,11 @@ writes_among k f e = elim (cases_eq k 19) [
       ∙ (sym (ap (λ b. if b then f == 1 else among writer_ops k) (ne_eqb k 19 apart)) ∙ e)
 ]
 
-written_where : (b : Bool) (x y d : ℕ) (words : List ℕ) → (b ≡ true → x ≡ y) → written_regs b x d words ≡ (if b then slice_set words d y else words)
+pub written_where : (b : Bool) (x y d : ℕ) (words : List ℕ) → (b ≡ true → x ≡ y) → written_regs b x d words ≡ (if b then slice_set words d y else words)
 written_where true x y d words e = ap (slice_set words d) (e refl)
 written_where false x y d words e = refl
 
-none_of : (k : ℕ) → (k == 19) ≡ true → among writer_ops k ≡ false
+pub none_of : (k : ℕ) → (k == 19) ≡ true → among writer_ops k ≡ false
 none_of k e = elim (cases_eq k 19) [ inl same ↦ ap (among writer_ops) same | inr apart ↦ absurd (true≢false (sym e ∙ ne_eqb k 19 apart)) ]
 
 pub written_complete : WrittenIsComplete
@@ -67,13 +68,16 @@ written_complete w z next n state op regs result v i o takes has from =
     ap₂ (λ a b. (a + b) % P) (opcode_sum_sound z op i.op writer_ops has.opcode refl)
     (ap₂ (λ c f. c * f) (opcode_sum_sound z op i.op (19 ∷ []) has.opcode refl ∙ ap flag_of (among_one 19 i.op)) (value-wire has.assigns state.flag ∙ has.flag))
     ∙ on_number (among writer_ops i.op) (i.op == 19) v.flag has.bit (none_of i.op) in
-    let on_at : slice_index z on.answer ≡ flag_of does = ap (slice_index z) (accumulated_answer (opcode_sum op writer_ops) (opcode_sum op (19 ∷ [])) (wire state.flag) next) ∙ from.0 in
+    let on_at : slice_index z on.answer ≡ flag_of does = ap (slice_index z)
+    (accumulated_answer (opcode_sum op writer_ops) (opcode_sum op (19 ∷ [])) (wire state.flag) next) ∙ from.0 in
     let first = accumulated_complete z next (opcode_sum op writer_ops) (opcode_sum op (19 ∷ [])) (wire state.flag) has.assigns (from.0 ∙ sym on_is, tt) in
     let after : written_regs (slice_index z on.answer == 1) (slice_index z result) i.dest (words_at z state.regs) ≡ (stepped w n v i o takes).regs =
     ap₂ (λ b l. written_regs b (slice_index z result) i.dest l) (ap (λ k. k == 1) on_at ∙ flag_test does) has.words
     ∙ written_where does (slice_index z result) (result_in w n v i o takes) i.dest v.regs (λ e. has.word (writes_among i.op v.flag e)) in
     let rest : HasFrom z on.next (written_regs (slice_index z on.answer == 1) (slice_index z result) i.dest (words_at z state.regs)) =
-    subst (λ l. HasFrom z on.next l) (sym after) (subst (λ k. HasFrom z k (stepped w n v i o takes).regs) (sym (accumulated_next (opcode_sum op writer_ops) (opcode_sum op (19 ∷ [])) (wire state.flag) next)) from.1) in
+    subst (λ l. HasFrom z on.next l) (sym after)
+    (subst (λ k. HasFrom z k (stepped w n v i o takes).regs)
+    (sym (accumulated_next (opcode_sum op writer_ops) (opcode_sum op (19 ∷ [])) (wire state.flag) next)) from.1) in
     Meets-join z on.list _ first (update_complete z on.next on.answer regs.dest regs.dest_word result state.regs i.dest has.assigns (record {
       size = has.size;
       bit = subst IsBit (sym on_at) (flag_small does);
@@ -106,7 +110,8 @@ written_sizes = record {
   answer = written_answer;
   end = written_next;
   fills = λ op state regs result w n v i o takes size next.
-      written_next op state regs result next ∙ ap (λ m. next + suc m) (sym (regs_size (writes w n v i o takes) v.regs i.dest (result_in w n v i o takes) ∙ size));
+      written_next op state regs result next ∙ ap (λ m. next + suc m)
+      (sym (regs_size (writes w n v i o takes) v.regs i.dest (result_in w n v i o takes) ∙ size));
 }
 
 written_count : (op : ℕ) (state : StateWires) (regs : Triple) (result next : ℕ) → length (written_of op state regs result next).list ≡ 18

@@ -32,7 +32,16 @@ pub record StateUnder (wires : ℕ) (state : StateWires) : Type 0 where
   pub taken : state.taken_of_primary < wires
   pub ended : state.aux_ended < wires
 
--- and those of the tapes
+-- none of a state's wires is that of the constant, and the sixteen of the registers rise
+pub record StateIsApart (state : StateWires) : Type 0 where
+  pub pc : 0 < state.pc
+  pub first : 0 < slice_index state.regs 0
+  pub rise : (i : ℕ) → i < 15 → slice_index state.regs i < slice_index state.regs (i + 1)
+  pub flag : 0 < state.flag
+  pub taken : 0 < state.taken_of_primary
+  pub ended : 0 < state.aux_ended
+
+-- the wires of the tapes are below a number
 pub record TapesUnder (wires : ℕ) (t : TapeWires) : Type 0 where
   pub taken : t.taken < wires
   pub takes : t.takes < wires

@@ -29,9 +29,9 @@ if_zero_of g x = do
   _ ← put x (wire w) []
   pure w
 
--- how many of n words are left after `before` of them
+-- how many of n words are left after `before` of them; the constant has no term where n is 0
 abbrev pub left_in : ℕ → ℕ → Combination
-left_in n before = (n, 0) ∷ (P - 1, before) ∷ []
+left_in n before = if n == 0 then (P - 1, before) ∷ [] else (n, 0) ∷ (P - 1, before) ∷ []
 
 -- a new wire that is `before`, and one more where the step reads tape 0 and a word is left: there `reads` is 1 and
 -- `aux`, which tells that it reads tape 1, is 0
@@ -118,7 +118,11 @@ pub record TapesSizes : Type 0 where
   pub fills : (w n : ℕ) (state : StateWires) (op : ℕ) (a : Bits) (v : View) (i : Instr) (o : ℕ) (takes : Bool) → Fills (tapes_of w n state op a) (tapes_values w n v i o takes)
   pub in_field : (w n : ℕ) (v : View) (i : Instr) (o : ℕ) (takes : Bool) → n < 2 ^ 29 → v.taken ≤ n → v.ended < 2 → InField (tapes_values w n v i o takes)
 
--- seven constraints, of 2 w + 25 terms
+-- how many terms the tapes cost: where n is not 0, two combinations have the constant n
+abbrev pub tapes_terms : ℕ → ℕ → ℕ
+tapes_terms w n = 2 * w + (if n == 0 then 23 else 25)
+
+-- how many constraints and terms the tapes cost
 pub record TapesCosts : Type 0 where
   pub constraints : (w n : ℕ) (state : StateWires) (op : ℕ) (a : Bits) (next : ℕ) → length (tapes_of w n state op a next).list ≡ 7
-  pub terms : (w : ℕ) → IsWidth w → (n : ℕ) (state : StateWires) (op : ℕ) (a : Bits) (next : ℕ) → terms_in (tapes_of w n state op a next).list ≡ 2 * w + 25
+  pub terms : (w : ℕ) → IsWidth w → (n : ℕ) (state : StateWires) (op : ℕ) (a : Bits) (next : ℕ) → terms_in (tapes_of w n state op a next).list ≡ tapes_terms w n

@@ -1,6 +1,6 @@
 //! The parts of a step of the machine as constraints, beside the gadgets that it takes as they are:
-//! operand, arithmetic, tapes, memory, result, registers written, flag and program counter. Each has
-//! its circuit, its code, its values and its laws. `tv_block` puts them together.
+//! operand, arithmetic, tapes, memory, result, registers written, flag and program counter. Each
+//! has its circuit, its code, its values and its laws. `tv_block` puts them together.
 #![tactic(auto)]
 
 mod accumulation;

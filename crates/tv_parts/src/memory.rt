@@ -1,6 +1,6 @@
 //! The data line of a step, and the bytes of its word.
-ghost use Rattle.std.specs.Prelude.{◌≡◌, ◌+◌, ◌-◌, ◌*◌, ◌/◌, ◌%◌, ◌≤◌, ◌<◌, ◌^◌, ◌++◌, false, length, max};
-ghost use Rattle.std.specs.Prelude.{IfOk, OnOk};
+ghost use Rattle.std.specs.Prelude.{◌≡◌, ◌+◌, ◌-◌, ◌*◌, ◌/◌, ◌%◌, ◌≤◌, ◌<◌, ◌^◌, ◌++◌, false};
+ghost use Rattle.std.specs.Prelude.{length, max, IfOk, OnOk};
 ghost use Rattle.tv_core.specs.Combinations.{wire, scaled, top};
 ghost use Rattle.tv_core.specs.Giving.{GivesIn};
 ghost use Rattle.tv_core.specs.Sinks.{PutsIn, Grows, Room};
@@ -8,7 +8,8 @@ ghost use Rattle.tv_parts.specs.Memory.{line_of, byte_of_pair, byte_of_four, byt
 ghost use Rattle.tv_parts.specs.Memory.{power_in, new_of, memory_of};
 ghost use Rattle.tv_parts.specs.Memory.{MemoryIsSound, MemoryIsComplete, MemorySizes, MemoryCosts};
 ghost use Rattle.tv_parts.specs.States.{StateUnder, TapesUnder, DataUnder, LineUnder, StoreUnder};
-ghost use Rattle.tv_parts.specs.Memory.{line_values, byte_values, gained, new_values, memory_values};
+ghost use Rattle.tv_parts.specs.Memory.{line_values, byte_values, gained, new_values};
+ghost use Rattle.tv_parts.specs.Memory.{memory_values};
 ghost use Rattle.tv_parts.specs.Traced.{traced_view, AreNumbers};
 ghost use Rattle.tv_isa.specs.Opcodes.{among};
 ghost use Rattle.tv_mem.specs.Bytes.{byte_of};

@@ -1,10 +1,11 @@
 //! The program counter after a step.
-ghost use Rattle.std.specs.Prelude.{◌≡◌, ◌+◌, ◌-◌, ◌*◌, ◌/◌, ◌≤◌, ◌<◌, ◌^◌, ◌++◌, ◌%◌, ◌==◌, if◌then◌else◌, false, length, max, IfOk, OnOk};
+ghost use Rattle.std.specs.Prelude.{◌≡◌, ◌+◌, ◌-◌, ◌*◌, ◌/◌, ◌≤◌, ◌<◌, ◌^◌, ◌++◌, ◌%◌, ◌==◌};
+ghost use Rattle.std.specs.Prelude.{if◌then◌else◌, false, length, max, IfOk, OnOk};
 ghost use Rattle.tv_core.specs.Combinations.{wire, scaled, top};
 ghost use Rattle.tv_core.specs.Sinks.{PutsIn, Grows, Room};
 ghost use Rattle.tv_core.specs.declared.field.TheConstants.{P};
-ghost use Rattle.tv_parts.specs.Pc.{from_last, after_in, jump_in, pc_of, PcIsSound, PcIsComplete, PcSizes};
-ghost use Rattle.tv_parts.specs.Pc.{PcCosts, pc_values};
+ghost use Rattle.tv_parts.specs.Pc.{from_last, after_in, jump_in, pc_of, PcIsSound};
+ghost use Rattle.tv_parts.specs.Pc.{PcIsComplete, PcSizes, PcCosts, pc_values};
 ghost use Rattle.tv_parts.specs.Traced.{traced_view, AreNumbers};
 ghost use Rattle.tv_isa.specs.Opcodes.{chosen};
 ghost use Rattle.tv_numbers.specs.Tables.{behind_pc, target, pcs};
@@ -85,7 +86,8 @@ fn set_jump<const W: u32>(lc: &mut Lc, pc: Wire, answers: Wire, a: &Bits, wraps:
     requires word { a.now.n ≡ W }
     requires within { a.now.first + W < 2 ^ 32 }
     ensures terms { lc.new ≡ jump_in W pc answers a.now wraps }
-    ensures top { top lc.new ≤ max (max (pc + 1) (answers + 1)) (max (a.now.first + W) (wraps + 1)) }
+    ensures top { top lc.new ≤ max (max (pc + 1) (answers + 1))
+        (max (a.now.first + W) (wraps + 1)) }
 {
     let size = F::from(W / 4);
     set_terms(lc, &[(-size, Wire(0)), (-F::ONE, pc), (size, answers)]);

@@ -1,12 +1,14 @@
 //! What a step does to the tapes.
-ghost use Rattle.std.specs.Prelude.{◌≡◌, ◌+◌, ◌-◌, ◌*◌, ◌%◌, ◌≤◌, ◌<◌, ◌^◌, false, length, max, IfOk, OnOk};
+ghost use Rattle.std.specs.Prelude.{◌≡◌, ◌+◌, ◌-◌, ◌*◌, ◌%◌, ◌≤◌, ◌<◌, ◌^◌, false, length};
+ghost use Rattle.std.specs.Prelude.{max, IfOk, OnOk};
 ghost use Rattle.tv_core.specs.Combinations.{wire, less, top};
 ghost use Rattle.tv_core.specs.Giving.{GivesIn};
 ghost use Rattle.tv_core.specs.Inverse.{inverse_of};
 ghost use Rattle.tv_core.specs.Sinks.{PutsIn, Grows, Room};
 ghost use Rattle.tv_core.specs.declared.field.TheConstants.{P};
 ghost use Rattle.tv_parts.specs.States.{StateUnder, TapesUnder};
-ghost use Rattle.tv_parts.specs.Tapes.{if_zero_of, primary_of, auxiliary_of, tapes_of};
+ghost use Rattle.tv_parts.specs.Tapes.{if_zero_of, left_in, primary_of, auxiliary_of};
+ghost use Rattle.tv_parts.specs.Tapes.{tapes_of};
 ghost use Rattle.tv_parts.specs.Tapes.{TapesAreSound, TapesAreComplete, TapesSizes, TapesCosts};
 ghost use Rattle.tv_parts.specs.Tapes.{tapes_values};
 ghost use Rattle.tv_parts.specs.Traced.{traced_view, AreNumbers};
@@ -102,7 +104,7 @@ fn primary<S: Sink>(
     let minus = -F::ONE;
     let taken = s.fresh();
     let hint = s.fresh();
-    set_terms(&mut scratch.a, &[(F::from(n), Wire(0)), (minus, before)]);
+    set_left(&mut scratch.a, n, before);
     scratch.b.set_wire(hint);
     set_terms(&mut scratch.c, &[(minus, before), (F::ONE, taken)]);
     s.put(&scratch.a, &scratch.b, &scratch.c)?;
@@ -118,6 +120,18 @@ fn primary<S: Sink>(
     scratch.c.clear();
     s.put(&scratch.a, &scratch.b, &scratch.c)?;
     Ok(taken)
+}
+
+// Sets `lc` to how many of `n` words are left after those before.
+fn set_left(lc: &mut Lc, n: u32, before: Wire)
+    ensures terms { lc.new ≡ left_in n before }
+    ensures top { top lc.new ≤ before + 1 }
+{
+    lc.clear();
+    if n > 0 {
+        lc.plus(F::from(n), Wire(0));
+    }
+    lc.plus(-F::ONE, before);
 }
 
 // Constrains whether a word of the auxiliary tape is taken, and the ended bit after the step.

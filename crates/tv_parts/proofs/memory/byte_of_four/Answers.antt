@@ -14,12 +14,20 @@ unfolding byte_of_four
 returns-in_err-high-clause-puts g c =
     let m = g.S.Sink.meaning in
     let p1 = rw c.offset.ensures at c.in_err-high.ensures.puts in
-    refused m _ _ _ c.from_residual-in_err-high.result c.from_residual-in_err-high.ensures.1 (puts_then_refused m _ _ _ _ _ _ _ c.in_ok-low.ensures.puts (refused_then m _ _ _ _ _ p1))
+    refused m _ _ _ c.from_residual-in_err-high.result c.from_residual-in_err-high.ensures.1
+    (puts_then_refused m _ _ _ _ _ _ _ c.in_ok-low.ensures.puts (refused_then m _ _ _ _ _ p1))
 
 pub returns-clause-puts : goal.returns-clause-puts
 unfolding byte_of_four
 returns-clause-puts g c =
     let m = g.S.Sink.meaning in
     let p1 = rw c.offset.ensures at c.in_ok-high.ensures.puts in
-    let p2 = rw (c.set_wire.ensures.terms, c.offset-2.ensures, c.set_terms.ensures.terms, c.plus_scaled.ensures.terms, c.clear.ensures, c.neg-minus.ensures) at c.accumulated.ensures.puts in
+    let p2 = rw (
+      c.set_wire.ensures.terms,
+      c.offset-2.ensures,
+      c.set_terms.ensures.terms,
+      c.plus_scaled.ensures.terms,
+      c.clear.ensures,
+      c.neg-minus.ensures,
+    ) at c.accumulated.ensures.puts in
     puts_in_then m _ _ _ _ _ _ _ c.in_ok-low.ensures.puts (puts_in_then m _ _ _ _ _ _ _ p1 p2)

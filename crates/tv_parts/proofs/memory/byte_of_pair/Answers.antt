@@ -5,4 +5,14 @@ use Rattle.tv_parts.proofs.memory.byte_of_pair.Goals as goal
 
 pub returns-clause-puts : goal.returns-clause-puts
 unfolding byte_of_pair
-returns-clause-puts g c = rw (c.set_wire.ensures.terms, c.plus_to-2.ensures.terms, c.plus_to.ensures.terms, c.clear.ensures, c.plus_to-3.ensures.terms, c.clear-2.ensures, c.neg-minus.ensures, c.offset.ensures, scaled-bits-once (c.args.bits + 8) 8) at c.accumulated.ensures.puts
+returns-clause-puts g c = rw (
+  c.set_wire.ensures.terms,
+  c.plus_to-2.ensures.terms,
+  c.plus_to.ensures.terms,
+  c.clear.ensures,
+  c.plus_to-3.ensures.terms,
+  c.clear-2.ensures,
+  c.neg-minus.ensures,
+  c.offset.ensures,
+  scaled-bits-once (c.args.bits + 8) 8,
+) at c.accumulated.ensures.puts

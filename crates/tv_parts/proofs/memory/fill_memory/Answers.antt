@@ -13,7 +13,8 @@ returns-in_err-give_values-clause-gives g c =
     let v = traced_view c.args.state.now in
     let news : List ℕ = new_values g.row.W s.n v s.instr s.spelled s.low s.aux in
     let part0 = rw c.line_values.ensures at c.in_err-give_values.ensures.gives in
-    gives_refused m _ _ _ c.from_residual.result c.from_residual.ensures.1 (gives_refused_then m _ (byte_values g.row.W s.low (operand_word v s.instr) ++ news) _ _ _ part0)
+    gives_refused m _ _ _ c.from_residual.result c.from_residual.ensures.1
+    (gives_refused_then m _ (byte_values g.row.W s.low (operand_word v s.instr) ++ news) _ _ _ part0)
 
 pub returns-in_err-fill_bytes-clause-gives : goal.returns-in_err-fill_bytes-clause-gives
 returns-in_err-fill_bytes-clause-gives g c =
@@ -23,7 +24,8 @@ returns-in_err-fill_bytes-clause-gives g c =
     let news : List ℕ = new_values g.row.W s.n v s.instr s.spelled s.low s.aux in
     let part0 = rw c.line_values.ensures at c.in_ok-give_values.ensures.gives in
     let part1 = rw c.requires.step.operand at c.in_err-fill_bytes.ensures.gives in
-    gives_refused m _ _ _ c.from_residual-in_err-fill_bytes.result c.from_residual-in_err-fill_bytes.ensures.1 (gives_then_refused m _ _ _ _ _ _ part0 (gives_refused_then m _ news _ _ _ part1))
+    gives_refused m _ _ _ c.from_residual-in_err-fill_bytes.result c.from_residual-in_err-fill_bytes.ensures.1
+    (gives_then_refused m _ _ _ _ _ _ part0 (gives_refused_then m _ news _ _ _ part1))
 
 pub returns-clause-gives : goal.returns-clause-gives
 returns-clause-gives g c =

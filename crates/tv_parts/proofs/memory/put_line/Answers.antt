@@ -8,31 +8,122 @@ pub returns-in_err-located-clause-puts : goal.returns-in_err-located-clause-puts
 unfolding line_of
 returns-in_err-located-clause-puts g c =
     let m = g.S.Sink.meaning in
-    let p0 = rw (c.set_opcodes.ensures.terms, c.plus_to.ensures.terms, c.set_terms.ensures.terms, c.plus_scaled.ensures.terms, c.clear.ensures, c.above.ensures.first, c.above.ensures.n, c.requires.a_word, scaled-bits-once (c.args.a.now.first + g.row.W / 16) (g.row.W - g.row.W / 16), c.neg-minus.ensures, c.neg.ensures, c.from.ensures, c.from-2.ensures) at c.in_err-located.ensures.puts in
+    let p0 = rw (
+      c.set_opcodes.ensures.terms,
+      c.plus_to.ensures.terms,
+      c.set_terms.ensures.terms,
+      c.plus_scaled.ensures.terms,
+      c.clear.ensures,
+      c.above.ensures.first,
+      c.above.ensures.n,
+      c.requires.a_word,
+      scaled-bits-once (c.args.a.now.first + g.row.W / 16) (g.row.W - g.row.W / 16),
+      c.neg-minus.ensures,
+      c.neg.ensures,
+      c.from.ensures,
+      c.from-2.ensures,
+    ) at c.in_err-located.ensures.puts in
     refused m _ _ _ c.from_residual.result c.from_residual.ensures.1 (refused_then m _ _ _ _ _ p0)
 
 pub returns-in_err-cell-clause-puts : goal.returns-in_err-cell-clause-puts
 unfolding line_of
 returns-in_err-cell-clause-puts g c =
     let m = g.S.Sink.meaning in
-    let p0 = rw (c.set_opcodes.ensures.terms, c.plus_to.ensures.terms, c.set_terms.ensures.terms, c.plus_scaled.ensures.terms, c.clear.ensures, c.above.ensures.first, c.above.ensures.n, c.requires.a_word, scaled-bits-once (c.args.a.now.first + g.row.W / 16) (g.row.W - g.row.W / 16), c.neg-minus.ensures, c.neg.ensures, c.from.ensures, c.from-2.ensures) at c.in_ok-located.ensures.puts in
-    let p1 = rw (c.set_terms-2.ensures.terms, c.set_terms-3.ensures.terms, c.plus_scaled-2.ensures.terms, c.clear-2.ensures, c.neg-minus.ensures, c.from-3.ensures) at c.in_err-cell.ensures.puts in
-    refused m _ _ _ c.from_residual-in_err-cell.result c.from_residual-in_err-cell.ensures.1 (puts_then_refused m _ _ _ _ _ _ _ p0 (refused_then m _ _ _ _ _ p1))
+    let p0 = rw (
+      c.set_opcodes.ensures.terms,
+      c.plus_to.ensures.terms,
+      c.set_terms.ensures.terms,
+      c.plus_scaled.ensures.terms,
+      c.clear.ensures,
+      c.above.ensures.first,
+      c.above.ensures.n,
+      c.requires.a_word,
+      scaled-bits-once (c.args.a.now.first + g.row.W / 16) (g.row.W - g.row.W / 16),
+      c.neg-minus.ensures,
+      c.neg.ensures,
+      c.from.ensures,
+      c.from-2.ensures,
+    ) at c.in_ok-located.ensures.puts in
+    let p1 = rw (
+      c.set_terms-2.ensures.terms,
+      c.set_terms-3.ensures.terms,
+      c.plus_scaled-2.ensures.terms,
+      c.clear-2.ensures,
+      c.neg-minus.ensures,
+      c.from-3.ensures,
+    ) at c.in_err-cell.ensures.puts in
+    refused m _ _ _ c.from_residual-in_err-cell.result c.from_residual-in_err-cell.ensures.1
+    (puts_then_refused m _ _ _ _ _ _ _ p0 (refused_then m _ _ _ _ _ p1))
 
 pub returns-in_err-old-clause-puts : goal.returns-in_err-old-clause-puts
 unfolding line_of
 returns-in_err-old-clause-puts g c =
     let m = g.S.Sink.meaning in
-    let p0 = rw (c.set_opcodes.ensures.terms, c.plus_to.ensures.terms, c.set_terms.ensures.terms, c.plus_scaled.ensures.terms, c.clear.ensures, c.above.ensures.first, c.above.ensures.n, c.requires.a_word, scaled-bits-once (c.args.a.now.first + g.row.W / 16) (g.row.W - g.row.W / 16), c.neg-minus.ensures, c.neg.ensures, c.from.ensures, c.from-2.ensures) at c.in_ok-located.ensures.puts in
-    let p1 = rw (c.set_terms-2.ensures.terms, c.set_terms-3.ensures.terms, c.plus_scaled-2.ensures.terms, c.clear-2.ensures, c.neg-minus.ensures, c.from-3.ensures) at c.in_ok-cell.ensures.puts in
-    let p2 = rw (c.plus.ensures.terms, c.plus_opcodes.ensures.terms, c.set_terms-4.ensures.terms, c.set_wire.ensures.terms, c.neg-minus.ensures) at c.in_err-old.ensures.puts in
-    refused m _ _ _ c.from_residual-in_err-old.result c.from_residual-in_err-old.ensures.1 (puts_then_refused m _ _ _ _ _ _ _ p0 (puts_then_refused m _ _ _ _ _ _ _ p1 (refused_then m _ _ _ _ _ p2)))
+    let p0 = rw (
+      c.set_opcodes.ensures.terms,
+      c.plus_to.ensures.terms,
+      c.set_terms.ensures.terms,
+      c.plus_scaled.ensures.terms,
+      c.clear.ensures,
+      c.above.ensures.first,
+      c.above.ensures.n,
+      c.requires.a_word,
+      scaled-bits-once (c.args.a.now.first + g.row.W / 16) (g.row.W - g.row.W / 16),
+      c.neg-minus.ensures,
+      c.neg.ensures,
+      c.from.ensures,
+      c.from-2.ensures,
+    ) at c.in_ok-located.ensures.puts in
+    let p1 = rw (
+      c.set_terms-2.ensures.terms,
+      c.set_terms-3.ensures.terms,
+      c.plus_scaled-2.ensures.terms,
+      c.clear-2.ensures,
+      c.neg-minus.ensures,
+      c.from-3.ensures,
+    ) at c.in_ok-cell.ensures.puts in
+    let p2 = rw (
+      c.plus.ensures.terms,
+      c.plus_opcodes.ensures.terms,
+      c.set_terms-4.ensures.terms,
+      c.set_wire.ensures.terms,
+      c.neg-minus.ensures,
+    ) at c.in_err-old.ensures.puts in
+    refused m _ _ _ c.from_residual-in_err-old.result c.from_residual-in_err-old.ensures.1
+    (puts_then_refused m _ _ _ _ _ _ _ p0 (puts_then_refused m _ _ _ _ _ _ _ p1 (refused_then m _ _ _ _ _ p2)))
 
 pub returns-clause-puts : goal.returns-clause-puts
 unfolding line_of
 returns-clause-puts g c =
     let m = g.S.Sink.meaning in
-    let p0 = rw (c.set_opcodes.ensures.terms, c.plus_to.ensures.terms, c.set_terms.ensures.terms, c.plus_scaled.ensures.terms, c.clear.ensures, c.above.ensures.first, c.above.ensures.n, c.requires.a_word, scaled-bits-once (c.args.a.now.first + g.row.W / 16) (g.row.W - g.row.W / 16), c.neg-minus.ensures, c.neg.ensures, c.from.ensures, c.from-2.ensures) at c.in_ok-located.ensures.puts in
-    let p1 = rw (c.set_terms-2.ensures.terms, c.set_terms-3.ensures.terms, c.plus_scaled-2.ensures.terms, c.clear-2.ensures, c.neg-minus.ensures, c.from-3.ensures) at c.in_ok-cell.ensures.puts in
-    let p2 = rw (c.plus.ensures.terms, c.plus_opcodes.ensures.terms, c.set_terms-4.ensures.terms, c.set_wire.ensures.terms, c.neg-minus.ensures) at c.in_ok-old.ensures.puts in
+    let p0 = rw (
+      c.set_opcodes.ensures.terms,
+      c.plus_to.ensures.terms,
+      c.set_terms.ensures.terms,
+      c.plus_scaled.ensures.terms,
+      c.clear.ensures,
+      c.above.ensures.first,
+      c.above.ensures.n,
+      c.requires.a_word,
+      scaled-bits-once (c.args.a.now.first + g.row.W / 16) (g.row.W - g.row.W / 16),
+      c.neg-minus.ensures,
+      c.neg.ensures,
+      c.from.ensures,
+      c.from-2.ensures,
+    ) at c.in_ok-located.ensures.puts in
+    let p1 = rw (
+      c.set_terms-2.ensures.terms,
+      c.set_terms-3.ensures.terms,
+      c.plus_scaled-2.ensures.terms,
+      c.clear-2.ensures,
+      c.neg-minus.ensures,
+      c.from-3.ensures,
+    ) at c.in_ok-cell.ensures.puts in
+    let p2 = rw (
+      c.plus.ensures.terms,
+      c.plus_opcodes.ensures.terms,
+      c.set_terms-4.ensures.terms,
+      c.set_wire.ensures.terms,
+      c.neg-minus.ensures,
+    ) at c.in_ok-old.ensures.puts in
     puts_then m _ _ _ _ _ _ _ p0 (puts_then m _ _ _ _ _ _ _ p1 (puts_then m _ _ _ _ _ _ _ p2 (puts_nothing m _ _)))

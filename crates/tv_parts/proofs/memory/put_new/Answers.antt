@@ -16,7 +16,8 @@ returns-in_err-changed-clause-puts g c =
     let m = g.S.Sink.meaning in
     let p0 = rw (c.set_power.ensures.terms, c.plus.ensures.terms, c.fill.ensures.terms, c.neg-minus.ensures) at c.in_ok-change.ensures.puts in
     let p1 = rw (c.set_wire.ensures.terms, c.set_wire-2.ensures.terms, c.opcode_wire.ensures) at c.in_err-changed.ensures.puts in
-    refused m _ _ _ c.from_residual-in_err-changed.result c.from_residual-in_err-changed.ensures.1 (puts_then_refused m _ _ _ _ _ _ _ p0 (refused_then m _ _ _ _ _ p1))
+    refused m _ _ _ c.from_residual-in_err-changed.result c.from_residual-in_err-changed.ensures.1
+    (puts_then_refused m _ _ _ _ _ _ _ p0 (refused_then m _ _ _ _ _ p1))
 
 pub returns-clause-puts : goal.returns-clause-puts
 unfolding new_of
@@ -24,5 +25,12 @@ returns-clause-puts g c =
     let m = g.S.Sink.meaning in
     let p0 = rw (c.set_power.ensures.terms, c.plus.ensures.terms, c.fill.ensures.terms, c.neg-minus.ensures) at c.in_ok-change.ensures.puts in
     let p1 = rw (c.set_wire.ensures.terms, c.set_wire-2.ensures.terms, c.opcode_wire.ensures) at c.in_ok-changed.ensures.puts in
-    let last = rw (c.set_wire-3.ensures.terms, c.opcode_wire-2.ensures, c.set_terms.ensures.terms, c.plus_scaled.ensures.terms, c.clear.ensures, c.neg-minus.ensures) at c.accumulated.ensures.puts in
+    let last = rw (
+      c.set_wire-3.ensures.terms,
+      c.opcode_wire-2.ensures,
+      c.set_terms.ensures.terms,
+      c.plus_scaled.ensures.terms,
+      c.clear.ensures,
+      c.neg-minus.ensures,
+    ) at c.accumulated.ensures.puts in
     puts_in_then m _ _ _ _ _ _ _ p0 (puts_in_then m _ _ _ _ _ _ _ p1 last)

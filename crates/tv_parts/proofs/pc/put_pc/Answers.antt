@@ -15,14 +15,34 @@ unfolding pc_of
 returns-in_err-by_flag-clause-puts g c =
     let m = g.S.Sink.meaning in
     let p0 = rw (c.set_from_last.ensures.terms, c.neg-minus.ensures, c.opcode_wire-answers.ensures) at c.in_ok-wraps.ensures.puts in
-    let p1 = rw (c.set_wire.ensures.terms, c.set_terms.ensures.terms, c.neg-minus.ensures, c.opcode_wire.ensures, c.opcode_wire-unless.ensures) at c.in_err-by_flag.ensures.puts in
-    refused m _ _ _ c.from_residual-in_err-by_flag.result c.from_residual-in_err-by_flag.ensures.1 (puts_then_refused m _ _ _ _ _ _ _ p0 (refused_then m _ _ _ _ _ p1))
+    let p1 = rw (
+      c.set_wire.ensures.terms,
+      c.set_terms.ensures.terms,
+      c.neg-minus.ensures,
+      c.opcode_wire.ensures,
+      c.opcode_wire-unless.ensures,
+    ) at c.in_err-by_flag.ensures.puts in
+    refused m _ _ _ c.from_residual-in_err-by_flag.result c.from_residual-in_err-by_flag.ensures.1
+    (puts_then_refused m _ _ _ _ _ _ _ p0 (refused_then m _ _ _ _ _ p1))
 
 pub returns-clause-puts : goal.returns-clause-puts
 unfolding pc_of
 returns-clause-puts g c =
     let m = g.S.Sink.meaning in
     let p0 = rw (c.set_from_last.ensures.terms, c.neg-minus.ensures, c.opcode_wire-answers.ensures) at c.in_ok-wraps.ensures.puts in
-    let p1 = rw (c.set_wire.ensures.terms, c.set_terms.ensures.terms, c.neg-minus.ensures, c.opcode_wire.ensures, c.opcode_wire-unless.ensures) at c.in_ok-by_flag.ensures.puts in
-    let p2 = rw (c.set_terms-2.ensures.terms, c.set_jump.ensures.terms, c.set_after.ensures.terms, c.opcode_wire-2.ensures, c.opcode_wire-unless.ensures, c.opcode_wire-answers.ensures) at c.accumulated.ensures.puts in
+    let p1 = rw (
+      c.set_wire.ensures.terms,
+      c.set_terms.ensures.terms,
+      c.neg-minus.ensures,
+      c.opcode_wire.ensures,
+      c.opcode_wire-unless.ensures,
+    ) at c.in_ok-by_flag.ensures.puts in
+    let p2 = rw (
+      c.set_terms-2.ensures.terms,
+      c.set_jump.ensures.terms,
+      c.set_after.ensures.terms,
+      c.opcode_wire-2.ensures,
+      c.opcode_wire-unless.ensures,
+      c.opcode_wire-answers.ensures,
+    ) at c.accumulated.ensures.puts in
     puts_in_then m _ _ _ _ _ _ _ p0 (puts_in_then m _ _ _ _ _ _ _ p1 p2)

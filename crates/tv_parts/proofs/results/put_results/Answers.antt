@@ -15,7 +15,8 @@ returns-in_err-tested-clause-puts g c =
     let m = g.S.Sink.meaning in
     let p0 = c.in_ok-word.ensures.puts in
     let p1 = c.in_err-tested.ensures.puts in
-    refused m _ _ _ c.from_residual-in_err-tested.result c.from_residual-in_err-tested.ensures.1 (puts_then_refused m _ _ _ _ _ _ _ p0 (refused_then m _ _ _ _ _ p1))
+    refused m _ _ _ c.from_residual-in_err-tested.result c.from_residual-in_err-tested.ensures.1
+    (puts_then_refused m _ _ _ _ _ _ _ p0 (refused_then m _ _ _ _ _ p1))
 
 pub returns-clause-puts : goal.returns-clause-puts
 unfolding results_of

@@ -17,7 +17,8 @@ returns-in_err-put-2-clause-puts g c =
     let p = c.fresh-y.ensures.puts in
     let p0 = rw (c.set_opcodes.ensures.terms, c.set_terms.ensures.terms, c.clear.ensures, c.neg-minus.ensures) at c.in_ok-put.ensures.puts in
     let p1 = rw (c.set_opcodes-2.ensures.terms, c.set_terms-2.ensures.terms, c.clear.ensures, c.neg-minus.ensures) at c.in_err-put-2.ensures.puts in
-    refused m _ _ _ c.from_residual-in_err-put-2.result c.from_residual-in_err-put-2.ensures.1 (puts_then_refused m _ _ _ _ _ _ _ p (puts_then_refused m _ _ _ _ _ _ _ p0 (refused_then m _ _ _ _ _ p1)))
+    refused m _ _ _ c.from_residual-in_err-put-2.result c.from_residual-in_err-put-2.ensures.1
+    (puts_then_refused m _ _ _ _ _ _ _ p (puts_then_refused m _ _ _ _ _ _ _ p0 (refused_then m _ _ _ _ _ p1)))
 
 pub returns-in_err-put-3-clause-puts : goal.returns-in_err-put-3-clause-puts
 unfolding tested_of
@@ -27,7 +28,8 @@ returns-in_err-put-3-clause-puts g c =
     let p0 = rw (c.set_opcodes.ensures.terms, c.set_terms.ensures.terms, c.clear.ensures, c.neg-minus.ensures) at c.in_ok-put.ensures.puts in
     let p1 = rw (c.set_opcodes-2.ensures.terms, c.set_terms-2.ensures.terms, c.clear.ensures, c.neg-minus.ensures) at c.in_ok-put-2.ensures.puts in
     let p2 = rw (c.set_wire.ensures.terms, c.opcode_wire.ensures, c.set_signs.ensures.terms, c.clear.ensures) at c.in_err-put-3.ensures.puts in
-    refused m _ _ _ c.from_residual-in_err-put-3.result c.from_residual-in_err-put-3.ensures.1 (puts_then_refused m _ _ _ _ _ _ _ p (puts_then_refused m _ _ _ _ _ _ _ p0 (puts_then_refused m _ _ _ _ _ _ _ p1 (refused_then m _ _ _ _ _ p2))))
+    refused m _ _ _ c.from_residual-in_err-put-3.result c.from_residual-in_err-put-3.ensures.1
+    (puts_then_refused m _ _ _ _ _ _ _ p (puts_then_refused m _ _ _ _ _ _ _ p0 (puts_then_refused m _ _ _ _ _ _ _ p1 (refused_then m _ _ _ _ _ p2))))
 
 pub returns-in_err-put-4-clause-puts : goal.returns-in_err-put-4-clause-puts
 unfolding tested_of
@@ -37,8 +39,20 @@ returns-in_err-put-4-clause-puts g c =
     let p0 = rw (c.set_opcodes.ensures.terms, c.set_terms.ensures.terms, c.clear.ensures, c.neg-minus.ensures) at c.in_ok-put.ensures.puts in
     let p1 = rw (c.set_opcodes-2.ensures.terms, c.set_terms-2.ensures.terms, c.clear.ensures, c.neg-minus.ensures) at c.in_ok-put-2.ensures.puts in
     let p2 = rw (c.set_wire.ensures.terms, c.opcode_wire.ensures, c.set_signs.ensures.terms, c.clear.ensures) at c.in_ok-put-3.ensures.puts in
-    let p3 = rw (c.set_opcodes-3.ensures.terms, c.plus.ensures.terms, c.plus_to.ensures.terms, c.clear-2.ensures, c.above.ensures.first, c.above.ensures.n, c.requires.a_word, c.clear.ensures, c.neg-minus.ensures) at c.in_err-put-4.ensures.puts in
-    refused m _ _ _ c.from_residual-in_err-put-4.result c.from_residual-in_err-put-4.ensures.1 (puts_then_refused m _ _ _ _ _ _ _ p (puts_then_refused m _ _ _ _ _ _ _ p0 (puts_then_refused m _ _ _ _ _ _ _ p1 (puts_then_refused m _ _ _ _ _ _ _ p2 (refused_then m _ _ _ _ _ p3)))))
+    let p3 = rw (
+      c.set_opcodes-3.ensures.terms,
+      c.plus.ensures.terms,
+      c.plus_to.ensures.terms,
+      c.clear-2.ensures,
+      c.above.ensures.first,
+      c.above.ensures.n,
+      c.requires.a_word,
+      c.clear.ensures,
+      c.neg-minus.ensures,
+    ) at c.in_err-put-4.ensures.puts in
+    refused m _ _ _ c.from_residual-in_err-put-4.result c.from_residual-in_err-put-4.ensures.1
+    (puts_then_refused m _ _ _ _ _ _ _ p (puts_then_refused m _ _ _ _ _ _ _ p0
+    (puts_then_refused m _ _ _ _ _ _ _ p1 (puts_then_refused m _ _ _ _ _ _ _ p2 (refused_then m _ _ _ _ _ p3)))))
 
 pub returns-clause-puts : goal.returns-clause-puts
 unfolding tested_of
@@ -48,5 +62,16 @@ returns-clause-puts g c =
     let p0 = rw (c.set_opcodes.ensures.terms, c.set_terms.ensures.terms, c.clear.ensures, c.neg-minus.ensures) at c.in_ok-put.ensures.puts in
     let p1 = rw (c.set_opcodes-2.ensures.terms, c.set_terms-2.ensures.terms, c.clear.ensures, c.neg-minus.ensures) at c.in_ok-put-2.ensures.puts in
     let p2 = rw (c.set_wire.ensures.terms, c.opcode_wire.ensures, c.set_signs.ensures.terms, c.clear.ensures) at c.in_ok-put-3.ensures.puts in
-    let p3 = rw (c.set_opcodes-3.ensures.terms, c.plus.ensures.terms, c.plus_to.ensures.terms, c.clear-2.ensures, c.above.ensures.first, c.above.ensures.n, c.requires.a_word, c.clear.ensures, c.neg-minus.ensures) at c.in_ok-put-4.ensures.puts in
-    puts_then m _ _ _ _ _ _ _ p (puts_then m _ _ _ _ _ _ _ p0 (puts_then m _ _ _ _ _ _ _ p1 (puts_then m _ _ _ _ _ _ _ p2 (puts_then m _ _ _ _ _ _ _ p3 (puts_nothing m _ _)))))
+    let p3 = rw (
+      c.set_opcodes-3.ensures.terms,
+      c.plus.ensures.terms,
+      c.plus_to.ensures.terms,
+      c.clear-2.ensures,
+      c.above.ensures.first,
+      c.above.ensures.n,
+      c.requires.a_word,
+      c.clear.ensures,
+      c.neg-minus.ensures,
+    ) at c.in_ok-put-4.ensures.puts in
+    puts_then m _ _ _ _ _ _ _ p (puts_then m _ _ _ _ _ _ _ p0
+    (puts_then m _ _ _ _ _ _ _ p1 (puts_then m _ _ _ _ _ _ _ p2 (puts_then m _ _ _ _ _ _ _ p3 (puts_nothing m _ _)))))

@@ -25,7 +25,8 @@ returns-in_err-taken-clause-puts g c =
     let p0 = rw (c.fill.ensures.terms, c.above.ensures.first, c.above.ensures.n, c.requires.a_word, c.opcode_wire.ensures) at c.in_ok-reads.ensures.puts in
     let p1 = rw (c.set_wire.ensures.terms, c.set_wire-2.ensures.terms) at c.in_ok-aux.ensures.puts in
     let p2 = c.in_err-taken.ensures.puts in
-    refused m _ _ _ c.from_residual-in_err-taken.result c.from_residual-in_err-taken.ensures.1 (puts_then_refused m _ _ _ _ _ _ _ p0 (puts_then_refused m _ _ _ _ _ _ _ p1 (refused_then m _ _ _ _ _ p2)))
+    refused m _ _ _ c.from_residual-in_err-taken.result c.from_residual-in_err-taken.ensures.1
+    (puts_then_refused m _ _ _ _ _ _ _ p0 (puts_then_refused m _ _ _ _ _ _ _ p1 (refused_then m _ _ _ _ _ p2)))
 
 pub returns-clause-puts : goal.returns-clause-puts
 unfolding tapes_of

@@ -1,0 +1,166 @@
+-- The result of a step, and the sign of its test, are put by normal combinations.
+use Rattle.std.proofs.Common.{◌≡◌, ℕ, ◌+◌, ◌-◌, ◌*◌, ◌/◌, ◌^◌, ◌<◌, ◌≤◌, List, [], ◌∷◌, ◌++◌, refl, arith}
+use Rattle.tv_bits.proofs.NormalLaws.{bits_normal, bits_top}
+use Rattle.tv_bits.specs.Bits.{bits_combination}
+use Rattle.tv_bits.specs.Times.{times_of}
+use Rattle.tv_bits.specs.declared.bit_wires.Bits.{Bits}
+use Rattle.tv_core.proofs.CombinationLaws.{top-scaled}
+use Rattle.tv_core.proofs.NormalCircuits.{normal_append, normal_negated, normal_both}
+use Rattle.tv_core.proofs.NormalLaws.{IsNormalFrom-lower}
+use Rattle.tv_core.specs.Circuits.{fresh, put, pure, ◌>>=◌}
+use Rattle.tv_core.specs.Combinations.{wire, scaled, top}
+use Rattle.tv_core.specs.Constraints.{Combination}
+use Rattle.tv_core.specs.Normal.{IsNormal, IsNormalFrom, IsNormalConstraint, AreNormal}
+use Rattle.tv_core.specs.declared.field.TheConstants.{P}
+use Rattle.tv_isa.specs.declared.opcode.TheConstants.{AND, OR, XOR, NOT, ADD, SUB, MULL, UMULH, SMULH, UDIV, UMOD, SHL, SHR, CMPE, CMPA, CMPAE, CMPG, CMPGE}
+use Rattle.tv_isa.specs.declared.opcode.TheConstants.{MOV, CMOV, LOAD_B}
+use Rattle.tv_word.proofs.WidthLaws.{width_short, for_widths}
+use Rattle.tv_word.specs.Widths.{IsWidth}
+use Rattle.tv_parts.proofs.NormalAccumulation.{accumulated_normal}
+use Rattle.tv_parts.proofs.NormalOpcodes.{opcodes_normal, opcodes_then, opcode_sum_normal}
+use Rattle.tv_parts.proofs.ResultFills.{result_answer, result_next}
+use Rattle.tv_parts.specs.Accumulation.{closed_of}
+use Rattle.tv_parts.specs.OpcodeSums.{place_of, opcode_terms, opcode_sum}
+use Rattle.tv_parts.specs.Results.{low_ops, high_ops, zero_ops, carry_ops, place_bits, parts_in, signs_in, result_of, tested_of, results_of, sign_of}
+use Rattle.tv_parts.specs.declared.records.Sources.{Sources}
+use Rattle.tv_parts.specs.declared.records.StateWires.{StateWires}
+use Rattle.tv_parts.specs.declared.records.TapeWires.{TapeWires}
+
+-- ---- combinations
+-- a word of the greatest value
+largest : (w : ℕ) → IsWidth w → (0 < 2 ^ w - 1) × (2 ^ w - 1 < P)
+largest w width = for_widths (λ w. (0 < 2 ^ w - 1) × (2 ^ w - 1 < P)) (omega arith, omega arith) (omega arith, omega arith) w width
+
+-- one wire less another, that is before it
+rise_normal : (old new : ℕ) → old < new → IsNormal ((P - 1, old) ∷ (1, new) ∷ [])
+rise_normal old new h = (omega arith, omega arith, omega arith, (omega arith, omega arith, omega arith, tt))
+
+-- the sign of the test, in the order of the row
+pub sign_normal : (op : ℕ) → IsNormalFrom op (sign_of op)
+sign_normal op =
+    let y5 : Combination = opcode_terms (P - 1) op (CMPA ∷ CMPAE ∷ CMPG ∷ CMPGE ∷ []) in
+    let y4 : Combination = opcode_sum op (UDIV ∷ UMOD ∷ SHL ∷ SHR ∷ CMPE ∷ []) ++ y5 in
+    let y3 : Combination = opcode_terms (P - 1) op (MULL ∷ UMULH ∷ SMULH ∷ []) ++ y4 in
+    let y2 : Combination = opcode_sum op (SUB ∷ []) ++ y3 in
+    let y1 : Combination = opcode_terms (P - 1) op (ADD ∷ []) ++ y2 in
+    let last = opcodes_normal (P - 1) op 14 (CMPA ∷ CMPAE ∷ CMPG ∷ CMPGE ∷ []) (omega arith) (omega arith) refl in
+    let fifth = opcodes_then 1 op 9 14 (UDIV ∷ UMOD ∷ SHL ∷ SHR ∷ CMPE ∷ []) y5 (omega arith) (omega arith) refl refl (omega arith) last in
+    let fourth = opcodes_then (P - 1) op 6 9 (MULL ∷ UMULH ∷ SMULH ∷ []) y4 (omega arith) (omega arith) refl refl (omega arith) fifth in
+    let third = opcodes_then 1 op 5 6 (SUB ∷ []) y3 (omega arith) (omega arith) refl refl (omega arith) fourth in
+    let second = opcodes_then (P - 1) op 4 5 (ADD ∷ []) y2 (omega arith) (omega arith) refl refl (omega arith) third in
+    let first = opcodes_then 1 op 0 4 (AND ∷ OR ∷ XOR ∷ NOT ∷ []) y1 (omega arith) (omega arith) refl refl (omega arith) second in
+    IsNormalFrom-lower op (op + 0) (sign_of op) (omega arith) first
+
+pub sign_top : (op : ℕ) → top (sign_of op) ≤ op + 29
+sign_top op = omega arith
+
+-- ---- the result
+-- the wires that it is made from come in this order
+pub record SourcesRise (op next : ℕ) (state : StateWires) (from : Sources) (t : TapeWires) : Type 0 where
+  pub taken_some : 0 < state.taken_of_primary
+  pub before : state.taken_of_primary < op
+  pub row : op + 29 ≤ t.taken
+  pub tapes : t.taken < t.takes
+  pub made : t.takes < next
+  pub halves : from.top < from.high
+  pub high : from.high < next
+
+result_normal : (w : ℕ) → IsWidth w → (state : StateWires) (op : ℕ) (from : Sources) (t : TapeWires) (next : ℕ) → SourcesRise op next state from t
+    → AreNormal (result_of w state op from t next).list
+unfolding result_of times_of fresh put pure ◌>>=◌
+result_normal w width state op from t next rise =
+    let before = state.taken_of_primary in
+    let taken = rise.row in
+    let takes = rise.tapes in
+    let made = rise.made in
+    let h = rise.before in
+    let some = rise.taken_some in
+    let tapes : IsNormalFrom (op + 29) ((1, t.taken) ∷ (1, t.takes) ∷ []) = (
+      omega arith,
+      omega arith,
+      omega arith,
+      (omega arith, omega arith, omega arith, tt),
+    ) in
+    let row = opcodes_then 1 op 0 29 low_ops ((1, t.taken) ∷ (1, t.takes) ∷ []) (omega arith) (omega arith) refl refl (omega arith) tapes in
+    let low_gate : IsNormal ((P - 1, before) ∷ (opcode_sum op low_ops ++ (1, t.taken) ∷ (1, t.takes) ∷ [])) = (
+      omega arith,
+      omega arith,
+      omega arith,
+      IsNormalFrom-lower (before + 1) (op + 0) (opcode_sum op low_ops ++ (1, t.taken) ∷ (1, t.takes) ∷ [])
+          (omega arith) row,
+    ) in
+    let moves = opcodes_normal 1 op 4 (MOV ∷ CMOV ∷ []) (omega arith) (omega arith) refl in
+    let moved_gate : IsNormal ((P - 1, op + place_of NOT) ∷ opcode_sum op (MOV ∷ CMOV ∷ [])) =
+    (omega arith, omega arith, omega arith, IsNormalFrom-lower (op + 3 + 1) (op + 4) (opcode_sum op (MOV ∷ CMOV ∷ [])) (omega arith) moves) in
+    let most = largest w width in
+    let parts : IsNormal (parts_in w (op + place_of NOT) next (next + 1) (next + 1 + 1)) = (
+      omega arith,
+      most.0,
+      most.1,
+      (
+        omega arith,
+        omega arith,
+        omega arith,
+        (omega arith, omega arith, omega arith, (omega arith, omega arith, omega arith, tt)),
+      ),
+    ) in
+    let last = accumulated_normal (parts_in w (op + place_of NOT) next (next + 1) (next + 1 + 1)) (opcode_sum op (LOAD_B ∷ [])) (wire from.byte)
+    (next + 1 + 1 + 1)
+    parts (omega arith) (opcode_sum_normal op (LOAD_B ∷ []) refl) (omega arith, omega arith, omega arith, tt) in
+    let half : (y : ℕ) → IsNormal (wire y) = λ y. (omega arith, omega arith, omega arith, tt) in
+    let low_put : IsNormalConstraint (record {
+      a = (P - 1, before) ∷ (opcode_sum op low_ops ++ (1, t.taken) ∷ (1, t.takes) ∷ []);
+      b = wire from.low;
+      c = wire next;
+    }) =
+    record { a = low_gate; b = half from.low; c = half next } in
+    let high_put : IsNormalConstraint (record { a = opcode_sum op high_ops; b = wire from.high; c = wire (next + 1) }) =
+    record { a = opcode_sum_normal op high_ops refl; b = half from.high; c = half (next + 1) } in
+    let moved_put : IsNormalConstraint (record {
+      a = (P - 1, op + place_of NOT) ∷ opcode_sum op (MOV ∷ CMOV ∷ []);
+      b = wire from.operand;
+      c = wire (next + 1 + 1);
+    }) =
+    record { a = moved_gate; b = half from.operand; c = half (next + 1 + 1) } in
+    (low_put, (high_put, (moved_put, last)))
+
+-- ---- the number that is tested
+tested_normal : (w : ℕ) → IsWidth w → (op : ℕ) (a : Bits) (from : Sources) (result next : ℕ) → a.first + w ≤ next → result < next → from.top < from.high
+    → from.high < next
+    → AreNormal (tested_of w op a from result next).list
+unfolding tested_of fresh put pure ◌>>=◌
+tested_normal w width op a from result next bits below halves high =
+    let most = largest w width in
+    let short = width_short w width in
+    let place = bits_combination (a.first + place_bits w) (w - place_bits w) in
+    let place_is : IsNormal (scaled (P - 1) place) =
+    normal_negated 0 place (IsNormalFrom-lower 0 (a.first + place_bits w) place (omega arith)
+    (bits_normal (a.first + place_bits w) (w - place_bits w) (omega arith))) in
+    let place_top : top (scaled (P - 1) place) ≤ next =
+    omega (arith, top-scaled (P - 1) place, bits_top (a.first + place_bits w) (w - place_bits w), bits, width) in
+    let signs : IsNormal (signs_in w from.top from.high next) =
+    (omega arith, most.0, most.1, (omega arith, omega arith, omega arith, (omega arith, omega arith, omega arith, tt))) in
+    let shifts = normal_append 0 next (scaled (P - 1) place) (wire next) place_is place_top (omega arith) (omega arith, omega arith, omega arith, tt) in (
+      record { a = opcode_sum_normal op zero_ops refl; b = rise_normal result next below; c = tt },
+      (
+        record { a = opcode_sum_normal op carry_ops refl; b = rise_normal from.high next high; c = tt },
+        (
+          record { a = opcode_sum_normal op (SMULH ∷ []) refl; b = signs; c = tt },
+          (record { a = opcode_sum_normal op (SHL ∷ SHR ∷ []) refl; b = shifts; c = tt }, tt),
+        ),
+      ),
+    )
+
+pub results_normal : (w : ℕ) → IsWidth w → (state : StateWires) (op : ℕ) (a : Bits) (from : Sources) (t : TapeWires) (next : ℕ)
+    → SourcesRise op next state from t
+    → a.first + w ≤ next → AreNormal (results_of w state op a from t next).list
+unfolding results_of ◌>>=◌ pure
+results_normal w width state op a from t next rise bits =
+    let word = result_of w state op from t next in
+    let answer = result_answer w state op from t next in
+    let end = result_next w state op from t next in
+    let below : word.answer < word.next = omega (arith, answer, end) in
+    let within : a.first + w ≤ word.next = omega (arith, bits, end) in
+    let high : from.high < word.next = omega (arith, rise.high, end) in
+    let tested = tested_normal w width op a from word.answer word.next within below rise.halves high in
+    normal_both word.list _ (result_normal w width state op from t next rise) (normal_both (tested_of w op a from word.answer word.next).list [] tested tt)
