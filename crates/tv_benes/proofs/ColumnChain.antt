@@ -20,12 +20,15 @@ module _ {V : Type 0} (m : Giving V) (form : Form) (bit : ℕ → Bool) (item : 
   unfolding column_values
   more n = ap (λ k. column_values form k bit item) (add-one n)
 
-  pub one_switch : (n : ℕ) (old mid new : V) → GivesAll m old mid (column_values form n bit item) → GivesAll m mid new (switch_values form (bit n) (item (2 * n)) (item (2 * n + 1)))
+  pub one_switch : (n : ℕ) (old mid new : V) → GivesAll m old mid (column_values form n bit item)
+      → GivesAll m mid new (switch_values form (bit n) (item (2 * n)) (item (2 * n + 1)))
       → GivesAll m old new (column_values form (n + 1) bit item)
   one_switch n old mid new p q = subst (λ l. GivesAll m old new l) (sym (more n)) (gives_then m _ _ old mid new p q)
 
-  refused_by : (n k : ℕ) (old new : V) (fault : SinkFault) → GivesSome m old new (column_values form (n + 1) bit item) fault → GivesSome m old new (column_values form (n + 1 + k) bit item) fault
-  refused_by n zero old new fault p = let same : n + 1 + 0 ≡ n + 1 = omega arith in subst (λ j. GivesSome m old new (column_values form j bit item) fault) (sym same) p
+  refused_by : (n k : ℕ) (old new : V) (fault : SinkFault) → GivesSome m old new (column_values form (n + 1) bit item) fault
+      → GivesSome m old new (column_values form (n + 1 + k) bit item) fault
+  refused_by n zero old new fault p = let same : n + 1 + 0 ≡ n + 1 = omega arith in
+      subst (λ j. GivesSome m old new (column_values form j bit item) fault) (sym same) p
   refused_by n (suc k) old new fault p =
       let same : n + 1 + suc k ≡ n + 1 + k + 1 = omega arith in
       subst (λ j. GivesSome m old new (column_values form j bit item) fault) (sym same)
@@ -39,7 +42,8 @@ module _ {V : Type 0} (m : Giving V) (form : Form) (bit : ℕ → Bool) (item : 
       (refused_by j (n - (j + 1)) old new fault (subst (λ l. GivesSome m old new l fault) (sym (more j)) (gives_then_refused m _ _ old mid new fault p q)))
 
 -- the values of a network, by its level
-pub level_values-zero : (net : Net) (form : Form) (h : ℕ) (bit : ℕ → Bool) (item : ℕ → PairNum) → h ≡ 0 → level_values net form h bit item ≡ column_values (innermost net form) 1 bit item
+pub level_values-zero : (net : Net) (form : Form) (h : ℕ) (bit : ℕ → Bool) (item : ℕ → PairNum) → h ≡ 0
+    → level_values net form h bit item ≡ column_values (innermost net form) 1 bit item
 unfolding level_values
 level_values-zero net form h bit item none = ap (λ k. level_values net form k bit item) none ∙ by
   where
@@ -48,13 +52,15 @@ level_values-zero net form h bit item none = ap (λ k. level_values net form k b
 
 pub level_values-suc : (net : Net) (form : Form) (h k : ℕ) (bit : ℕ → Bool) (item : ℕ → PairNum) → h ≡ suc k → level_values net form h bit item
     ≡ column_values form (2 ^ h) bit item
-    ++ (level_values net (other form) k (from (2 ^ h) bit) (to_upper bit item) ++ (level_values net (other form) k (from (2 ^ h + switches net k) bit) (to_lower bit item) ++ last_column_values net form k bit item))
+    ++ (level_values net (other form) k (from (2 ^ h) bit) (to_upper bit item)
+    ++ (level_values net (other form) k (from (2 ^ h + switches net k) bit) (to_lower bit item) ++ last_column_values net form k bit item))
 unfolding level_values
 level_values-suc net form h k bit item level = ap (λ l. level_values net form l bit item) level ∙ by ∙ ap there (sym level)
   where
     there : ℕ → List ℕ
     there l = column_values form (2 ^ l) bit item
-        ++ (level_values net (other form) k (from (2 ^ l) bit) (to_upper bit item) ++ (level_values net (other form) k (from (2 ^ l + switches net k) bit) (to_lower bit item) ++ last_column_values net form k bit item))
+        ++ (level_values net (other form) k (from (2 ^ l) bit) (to_upper bit item)
+        ++ (level_values net (other form) k (from (2 ^ l + switches net k) bit) (to_lower bit item) ++ last_column_values net form k bit item))
 
     by : level_values net form (suc k) bit item ≡ there (suc k)
     by = refl
@@ -64,19 +70,26 @@ values_as form b b' x x' y y' p q r = ap (λ c. switch_values form c x y) p ∙ 
 
 -- ---- a level, put together from its four parts
 module _ {V : Type 0} (m : Giving V) (net : Net) (form : Form) (h k : ℕ) (bit : ℕ → Bool) (item : ℕ → PairNum) (level : h ≡ suc k) where
-  pub column_refused : (old new : V) (fault : SinkFault) → GivesSome m old new (column_values form (2 ^ h) bit item) fault → GivesSome m old new (level_values net form h bit item) fault
-  column_refused old new fault p = subst (λ l. GivesSome m old new l fault) (sym (level_values-suc net form h k bit item level)) (gives_refused_then m _ _ old new fault p)
+  pub column_refused : (old new : V) (fault : SinkFault) → GivesSome m old new (column_values form (2 ^ h) bit item) fault
+      → GivesSome m old new (level_values net form h bit item) fault
+  column_refused old new fault p = subst (λ l. GivesSome m old new l fault) (sym (level_values-suc net form h k bit item level))
+      (gives_refused_then m _ _ old new fault p)
 
   module _ (old mid : V) (first : GivesAll m old mid (column_values form (2 ^ h) bit item)) where
-    pub upper_refused : (new : V) (fault : SinkFault) → GivesSome m mid new (level_values net (other form) k (from (2 ^ h) bit) (to_upper bit item)) fault → GivesSome m old new (level_values net form h bit item) fault
-    upper_refused new fault p = subst (λ l. GivesSome m old new l fault) (sym (level_values-suc net form h k bit item level)) (gives_then_refused m _ _ old mid new fault first (gives_refused_then m _ _ mid new fault p))
+    pub upper_refused : (new : V) (fault : SinkFault) → GivesSome m mid new (level_values net (other form) k (from (2 ^ h) bit) (to_upper bit item)) fault
+        → GivesSome m old new (level_values net form h bit item) fault
+    upper_refused new fault p = subst (λ l. GivesSome m old new l fault) (sym (level_values-suc net form h k bit item level))
+        (gives_then_refused m _ _ old mid new fault first (gives_refused_then m _ _ mid new fault p))
 
     module _ (mid' : V) (second : GivesAll m mid mid' (level_values net (other form) k (from (2 ^ h) bit) (to_upper bit item))) where
-      pub lower_refused : (new : V) (fault : SinkFault) → GivesSome m mid' new (level_values net (other form) k (from (2 ^ h + switches net k) bit) (to_lower bit item)) fault → GivesSome m old new (level_values net form h bit item) fault
+      pub lower_refused : (new : V) (fault : SinkFault)
+          → GivesSome m mid' new (level_values net (other form) k (from (2 ^ h + switches net k) bit) (to_lower bit item)) fault
+          → GivesSome m old new (level_values net form h bit item) fault
       lower_refused new fault p = subst (λ l. GivesSome m old new l fault) (sym (level_values-suc net form h k bit item level))
           (gives_then_refused m _ _ old mid new fault first (gives_then_refused m _ _ mid mid' new fault second (gives_refused_then m _ _ mid' new fault p)))
 
-      pub level_given : (mid'' new : V) (result : Result (Unit {0}) SinkFault) → GivesAll m mid' mid'' (level_values net (other form) k (from (2 ^ h + switches net k) bit) (to_lower bit item))
+      pub level_given : (mid'' new : V) (result : Result (Unit {0}) SinkFault)
+          → GivesAll m mid' mid'' (level_values net (other form) k (from (2 ^ h + switches net k) bit) (to_lower bit item))
           → GivesIn m mid'' new (last_column_values net form k bit item) result → GivesIn m old new (level_values net form h bit item) result
       level_given mid'' new result third p = subst (λ l. GivesIn m old new l result) (sym (level_values-suc net form h k bit item level))
           (gives_in_then m _ _ old mid new result first (gives_in_then m _ _ mid mid' new result second (gives_in_then m _ _ mid' mid'' new result third p)))

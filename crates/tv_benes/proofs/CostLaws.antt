@@ -1,187 +1,195 @@
 -- What a network costs.
-use Rattle.std.proofs.Common.{◌≡◌, ℕ, zero, suc, ◌+◌, ◌-◌, ◌*◌, ◌/◌, ◌%◌, ◌<◌, ◌≤◌, ◌^◌, [], ◌++◌, length, refl, sym, ap, ap₂, subst, ◌∙◌, arith, inl, inr}
+use Rattle.std.proofs.Common.{◌≡◌, ◌≢◌, ℕ, zero, suc, ◌+◌, ◌-◌, ◌*◌, ◌/◌, ◌%◌, ◌<◌, ◌≤◌, ◌^◌, ◌==◌, if◌then◌else◌, Bool, true, false, [], ◌++◌, length, refl}
+use Rattle.std.proofs.Common.{sym, ap, ap₂, subst, ◌∙◌, arith, inl, inr, eq-eqb, ne_eqb}
 use Rattle.std.proofs.lemmas.Bool.{cases_eq}
-use Rattle.std.proofs.lemmas.List.{append-nil, length-append, length-map}
+use Rattle.std.proofs.lemmas.List.{append-nil, length-append}
 use Rattle.std.proofs.lemmas.Nat.{pow_pos}
-use Rattle.tv_bits.specs.Bit.{bit_of}
-use Rattle.tv_bits.specs.Select.{pick_of}
-use Rattle.tv_core.proofs.BelowLaws.{sum_below-zero, sum_below-suc}
+use Rattle.tv_core.proofs.BelowLaws.{sum_below-zero, sum_below-suc, sum_below-same}
 use Rattle.tv_core.specs.Below.{sum_below}
-use Rattle.tv_core.specs.Circuits.{here, fresh, put, pure, ◌>>=◌}
-use Rattle.tv_core.specs.Combinations.{less, scaled}
-use Rattle.tv_core.specs.Constraints.{Combination}
+use Rattle.tv_core.specs.Circuits.{here, pure, ◌>>=◌}
 use Rattle.tv_core.specs.Meanings.{terms_in}
-use Rattle.tv_core.specs.declared.field.TheConstants.{P}
 use Rattle.tv_core.specs.declared.lines.Pair.{Pair}
-use Rattle.tv_benes.proofs.Ends.{sum_passes, sum_made}
 use Rattle.tv_benes.proofs.Measures.{lengths, terms, sum_same, same_turns, turns_cost}
-use Rattle.tv_benes.proofs.NetworkLaws.{bound-suc, one_wires, less_missing}
-use Rattle.tv_benes.proofs.ThroughLaws.{twice, switches-suc, missing_small, one_switch, column_fits, alternating_keeps}
-use Rattle.tv_benes.specs.Costs.{pair_terms, items_terms, network_terms, NetworkIsCounted}
+use Rattle.tv_benes.proofs.NetworkLaws.{bound-suc, one_wires, less_missing, column_next, level_next}
+use Rattle.tv_benes.proofs.Placed.{AreSums, AreFrom, level_placed}
+use Rattle.tv_benes.proofs.Sizes.{HasItems, level_below}
+use Rattle.tv_benes.proofs.Sources.{last_even, last_odd}
+use Rattle.tv_benes.proofs.SwitchCosts.{switch_count, bound_switch, open_switch, wires_switch, IsSpread, firsts_switch, seconds_switch, passing_switch}
+use Rattle.tv_benes.proofs.SwitchCosts.{made_switch}
+use Rattle.tv_benes.proofs.ThroughLaws.{twice, switches-suc, missing_small, one_switch, column_fits}
+use Rattle.tv_benes.specs.Costs.{switch_terms, column_terms, surplus, inner_terms, NetworkIsCounted}
 use Rattle.tv_benes.specs.Levels.{width, other, innermost, level_wires}
 use Rattle.tv_benes.specs.Network.{switch_of, column_of, last_column_of, level_of}
-use Rattle.tv_benes.specs.Places.{ItemsOf, item_in, to_upper_of, to_lower_of, switch_wire, first_of, second_of, output, sum_at, EndsOf, last_pair}
+use Rattle.tv_benes.specs.Places.{wires_at, fifth, row, switch_wire, ItemsOf, item_in, to_upper_of, to_lower_of, output, output_wire, sum_at, EndsOf}
+use Rattle.tv_benes.specs.Places.{last_pair, AreBelow}
 use Rattle.tv_benes.specs.Through.{switches, missing}
+use Rattle.tv_benes.specs.declared.places.Outputs.{Outputs}
 use Rattle.tv_benes.specs.declared.places.Sums.{Sums}
 use Rattle.tv_benes.specs.declared.shape.Form.{Form}
 use Rattle.tv_benes.specs.declared.shape.Form.TheVariants.{Bound, Open}
 use Rattle.tv_benes.specs.declared.shape.Net.{Net}
 use Rattle.tv_benes.specs.declared.shape.Net.TheVariants.{Benes, Waksman}
 
--- the terms of n switches, their items having so many
-abbrev column_terms : Form → ℕ → ℕ → ℕ
-column_terms Bound n items = 11 * n + 3 * items
-column_terms Open n items = 7 * n + items
+-- the form of a first column
+abbrev column_form : Net → Form → ℕ → Form
+column_form net form zero = innermost net form
+column_form net form (suc h) = form
 
--- the terms of the n items that a first column passes to each of the two networks within, wires or sums of two
-abbrev inner_terms : Form → ℕ → ℕ
-inner_terms Bound n = 2 * n
-inner_terms Open n = 4 * n
+-- the terms of the first column of a network within another
+abbrev first_terms : Net → Form → ℕ → ℕ
+first_terms net Bound h = 33 * 2 ^ h
+first_terms Waksman Open zero = 23
+first_terms net Open h = 11 * 2 ^ h
 
--- the terms of the items of n switches of a last column
+-- those of a last column that lacks none of n switches, or the first
 abbrev last_terms : Net → Form → ℕ → ℕ
-last_terms net Bound n = 8 * n - 4 * missing net
-last_terms net Open n = 4 * n
+last_terms Benes Bound n = 33 * n
+last_terms Waksman Bound n = 23 + 33 * (n - 2)
+last_terms net Open n = 11 * (n - missing net)
 
--- what a network has besides 23 terms a switch, less 12 for each switch of its first column: three for each term of its
--- items, or where these are wires 12 for each item that passes
-abbrev besides : Net → Form → ℕ → ℕ
-besides net Bound items = 3 * items
-besides net Open items = 12 * missing net
+-- those of all columns after the first
+rest_terms : Net → Form → ℕ → ℕ
+rest_terms net form zero = 0
+rest_terms net form (suc h) = 2 * (first_terms net (other form) h + rest_terms net (other form) h) + last_terms net form (2 ^ suc h)
 
--- ---- a switch
-switch_count : (form : Form) (x y : Pair) (next : ℕ) → length (switch_of form x y next).list ≡ width form
-unfolding switch_of bit_of pick_of pure fresh put ◌>>=◌
-switch_count Bound x y next = refl
-switch_count Open x y next = refl
-
-less_length : (x y : Combination) → length (less x y) ≡ length x + length y
-less_length x y = length-append x (scaled (P - 1) y) ∙ ap (λ k. length x + k) (length-map y (λ t. ((P - 1) * t.0 % P, t.1)))
-
-switch_terms : (form : Form) (x y : Pair) (next : ℕ) → terms_in (switch_of form x y next).list ≡ column_terms form 1 (pair_terms x + pair_terms y)
-unfolding switch_of bit_of pick_of pure fresh put ◌>>=◌
-switch_terms Bound x y next =
-    omega (
-      arith,
-      less_length y.first x.first,
-      less_length y.second x.second,
-      less_length x.first y.first,
-      less_length x.second y.second,
-      less_length [] x.first,
-      less_length [] x.second,
-      less_length [] y.first,
-      less_length [] y.second,
-    )
-switch_terms Open x y next =
-    omega (arith, less_length x.first y.first, less_length x.second y.second, less_length (less x.first y.first) [], less_length (less x.second y.second) [])
+-- ---- sums
+sum_but_first : (n a k : ℕ) (f : ℕ → ℕ) → f 0 ≡ a → ((i : ℕ) → 1 ≤ i → i < suc n → f i ≡ k) → sum_below (suc n) f ≡ a + n * k
+sum_but_first zero a k f first rest = sum_below-suc 0 f ∙ omega (arith, sum_below-zero f, first)
+sum_but_first (suc n) a k f first rest =
+    sum_below-suc (suc n) f ∙ ap₂ (λ x y. x + y) (sum_but_first n a k f first (λ i h l. rest i h (omega arith))) (rest (suc n) (omega arith) (omega arith))
+    ∙ omega arith
 
 -- ---- a column
 column_count : (form : Form) (n : ℕ) (item : ℕ → Pair) (next : ℕ) → length (column_of form n item next).list ≡ n * width form
 unfolding column_of
-column_count form n item next = same_turns length lengths (λ j _. switch_of form (item (2 * j)) (item (2 * j + 1))) tt next (width form) n (λ j a at. switch_count form (item (2 * j)) (item (2 * j + 1)) at)
+column_count form n item next = same_turns length lengths (λ j _. switch_of form (item (2 * j)) (item (2 * j + 1))) tt next (width form) n
+    (λ j h a at. switch_count form (item (2 * j)) (item (2 * j + 1)) at)
 
-twice_sum : (form : Form) (n : ℕ) (f : ℕ → ℕ) → sum_below n (λ j. column_terms form 1 (f (2 * j) + f (2 * j + 1))) ≡ column_terms form n (sum_below (2 * n) f)
-twice_sum form zero f = sum_below-zero (λ j. column_terms form 1 (f (2 * j) + f (2 * j + 1))) ∙ none form ∙ sym (ap (column_terms form 0) (sum_below-zero f))
-  where
-    none : (form : Form) → 0 ≡ column_terms form 0 0
-    none Bound = refl
-    none Open = refl
-twice_sum form (suc n) f =
-    let e : 2 * suc n ≡ suc (suc (2 * n)) = omega arith in
-    let p : suc (2 * n) ≡ 2 * n + 1 = omega arith in
-    let more : sum_below (2 * suc n) f ≡ sum_below (2 * n) f + f (2 * n) + f (2 * n + 1) =
-    ap (λ k. sum_below k f) e ∙ sum_below-suc (suc (2 * n)) f ∙ ap₂ (λ a b. a + b) (sum_below-suc (2 * n) f) (ap f p) in
-    sum_below-suc n (λ j. column_terms form 1 (f (2 * j) + f (2 * j + 1)))
-    ∙ ap (λ k. k + column_terms form 1 (f (2 * n) + f (2 * n + 1))) (twice_sum form n f)
-    ∙ gather form n (sum_below (2 * n) f) (f (2 * n)) (f (2 * n + 1)) ∙ ap (column_terms form (suc n)) (sym more)
-  where
-    gather : (form : Form) (n x a b : ℕ) → column_terms form n x + column_terms form 1 (a + b) ≡ column_terms form (suc n) (x + a + b)
-    gather Bound n x a b = omega arith
-    gather Open n x a b = omega arith
-
-column_cost : (form : Form) (n : ℕ) (item : ℕ → Pair) (next : ℕ) → terms_in (column_of form n item next).list ≡ column_terms form n (items_terms (2 * n) item)
+bound_column : (n : ℕ) (item : ℕ → Pair) (next : ℕ) → terms_in (column_of Bound n item next).list ≡ column_terms n item
 unfolding column_of
-column_cost form n item next =
-    turns_cost terms_in terms (λ j _. switch_of form (item (2 * j)) (item (2 * j + 1))) tt next (λ j. column_terms form 1 (pair_terms (item (2 * j)) + pair_terms (item (2 * j + 1)))) n
-    (λ j a at. switch_terms form (item (2 * j)) (item (2 * j + 1)) at)
-    ∙ twice_sum form n (λ i. pair_terms (item i))
+bound_column n item next =
+    turns_cost terms_in terms (λ j _. switch_of Bound (item (2 * j)) (item (2 * j + 1))) tt next (λ j. switch_terms (item (2 * j)) (item (2 * j + 1))) n
+    (λ j h a at. bound_switch (item (2 * j)) (item (2 * j + 1)) at)
 
--- ---- the items of the columns
--- a sum whose first two parts are the same, and the others
-sum_but_two : (n a b : ℕ) (f : ℕ → ℕ) → f 0 ≡ a → f 1 ≡ a → ((i : ℕ) → 2 ≤ i → i < suc (suc n) → f i ≡ b) → sum_below (suc (suc n)) f ≡ 2 * a + n * b
-sum_but_two zero a b f first second rest = sum_below-suc 1 f ∙ ap₂ (λ x y. x + y) (sum_below-suc 0 f ∙ ap₂ (λ x y. x + y) (sum_below-zero f) first) second ∙ omega arith
-sum_but_two (suc n) a b f first second rest =
-    sum_below-suc (suc (suc n)) f ∙ ap₂ (λ x y. x + y) (sum_but_two n a b f first second (λ i h k. rest i h (omega arith))) (rest (suc (suc n)) (omega arith) (omega arith)) ∙ omega arith
+column_same : (n k : ℕ) (item : ℕ → Pair) → ((j : ℕ) → j < n → switch_terms (item (2 * j)) (item (2 * j + 1)) ≡ k) → column_terms n item ≡ n * k
+column_same n k item each = sum_below-same n (λ j. switch_terms (item (2 * j)) (item (2 * j + 1))) (λ _. k) each ∙ sum_same n k
 
--- those that a first column passes on
-upper_terms : (form : Form) (n w : ℕ) (items : ItemsOf form) → items_terms n (item_in (other form) (to_upper_of form w items)) ≡ inner_terms form n
-upper_terms Bound n w items = sum_same n 2 ∙ omega arith
-upper_terms Open n w from = sum_same n 4 ∙ omega arith
+-- an open one, of items that are wires
+open_column : (n : ℕ) (item : ℕ → Pair) (next : ℕ) (p q : ℕ → ℕ) → ((j : ℕ) → j < n → item (2 * j) ≡ wires_at (p j))
+    → ((j : ℕ) → j < n → item (2 * j + 1) ≡ wires_at (q j))
+    → ((j : ℕ) → j < n → p j ≢ q j) → terms_in (column_of Open n item next).list ≡ n * 11
+unfolding column_of
+open_column n item next p q first second apart =
+    same_turns terms_in terms (λ j _. switch_of Open (item (2 * j)) (item (2 * j + 1))) tt next 11 n
+    (λ j h a at. ap₂ (λ x y. terms_in (switch_of Open x y at).list) (first j h) (second j h) ∙ open_switch (p j) (q j) at (apart j h))
 
-lower_terms : (form : Form) (n w : ℕ) (items : ItemsOf form) → items_terms n (item_in (other form) (to_lower_of form w items)) ≡ inner_terms form n
-lower_terms Bound n w items = sum_same n 2 ∙ omega arith
-lower_terms Open n w from = sum_same n 4 ∙ omega arith
+-- ---- first columns within
+row_first : (net : Net) (h v at : ℕ) → terms_in (column_of (column_form net Open h) (2 ^ h) (row v) at).list ≡ first_terms net Open h
+row_first Benes zero v at = open_column 1 (row v) at (λ j. fifth v (2 * j)) (λ j. fifth v (2 * j + 1)) (λ j h. refl) (λ j h. refl) (λ j h. omega arith)
+row_first Waksman zero v at = bound_column 1 (row v) at ∙ column_same 1 23 (row v) (λ j h. wires_switch (v + 5 * (2 * j)) (v + 5 * (2 * j + 1)) (omega arith))
+row_first Benes (suc h) v at = open_column (2 ^ suc h) (row v) at (λ j. fifth v (2 * j)) (λ j. fifth v (2 * j + 1)) (λ j h. refl) (λ j h. refl)
+    (λ j h. omega arith) ∙ omega arith
+row_first Waksman (suc h) v at = open_column (2 ^ suc h) (row v) at (λ j. fifth v (2 * j)) (λ j. fifth v (2 * j + 1)) (λ j h. refl) (λ j h. refl)
+    (λ j h. omega arith) ∙ omega arith
 
--- those of an open network are wires
-abbrev IsWired : Form → ℕ → ℕ → Type 0
-IsWired Bound n items = Unit {0}
-IsWired Open n items = items ≡ 2 * n
+bound_form : (net : Net) (h : ℕ) → column_form net Bound h ≡ Bound
+bound_form Benes zero = refl
+bound_form Waksman zero = refl
+bound_form net (suc h) = refl
 
-wired_terms : (form : Form) (n : ℕ) (items : ItemsOf form) → IsWired form n (items_terms n (item_in form items))
-wired_terms Bound n item = tt
-wired_terms Open n from = sum_same n 2 ∙ omega arith
+-- what an open column passes: the first of the row and the products rise, and every product is after every item
+passed_spread : (w next n j k v v' : ℕ) → w + 20 * n ≤ next + 3 → j < n → k < 2 → v ≡ w + 5 * (2 * (2 * j) + k) → v' ≡ w + 5 * (2 * (2 * j + 1) + k)
+    → IsSpread v (switch_wire Open next (2 * j) + 1) v' (switch_wire Open next (2 * j + 1) + 1)
+passed_spread w next n j k v v' has within small is_v is_v' =
+    record { rises = omega arith; rises' = omega arith; vv = omega arith; vt = omega arith; tv = omega arith; tt' = omega arith }
 
--- those of a last column
-output_terms : (net : Net) (o : Sums) (j : ℕ) → j < 2 * missing net → pair_terms (sum_at net o j) ≡ 2
-output_terms net o j h = ap pair_terms (sum_passes net o j h)
+passed_first : (net : Net) (form : Form) (h w at : ℕ) (items : ItemsOf form) → HasItems form items (suc h) w
+    → (terms_in (column_of (column_form net (other form) h) (2 ^ h) (item_in (other form) (to_upper_of form w items)) at).list ≡ first_terms net (other form) h)
+    × (terms_in (column_of (column_form net (other form) h) (2 ^ h) (item_in (other form) (to_lower_of form w items)) at).list ≡ first_terms net (other form) h)
+passed_first net Bound h w at item has = (row_first net h (w + 1) at, row_first net h (w + 3) at)
+passed_first net Open h w at from has =
+    let n = 2 ^ h in
+    let up = to_upper_of Open w from in
+    let low = to_lower_of Open w from in
+    let size : from + 20 * n ≤ w + 3 = omega (arith, twice h) in
+    let upper : (j : ℕ) → j < n → switch_terms (up (2 * j)) (up (2 * j + 1)) ≡ 33 =
+    λ j k. firsts_switch (from + 5 * (2 * (2 * j))) (switch_wire Open w (2 * j)) (from + 5 * (2 * (2 * j + 1))) (switch_wire Open w (2 * j + 1))
+    (passed_spread from w n j 0 _ _ size k (omega arith) (omega arith) (omega arith)) in
+    let lower : (j : ℕ) → j < n → switch_terms (low (2 * j)) (low (2 * j + 1)) ≡ 33 =
+    λ j k. seconds_switch (from + 5 * (2 * (2 * j) + 1)) (switch_wire Open w (2 * j)) (from + 5 * (2 * (2 * j + 1) + 1)) (switch_wire Open w (2 * j + 1))
+    (passed_spread from w n j 1 _ _ size k (omega arith) refl refl) in (
+      ap (λ f. terms_in (column_of f n up at).list) (bound_form net h) ∙ bound_column n up at ∙ column_same n 33 up upper ∙ omega arith,
+      ap (λ f. terms_in (column_of f n low at).list) (bound_form net h) ∙ bound_column n low at ∙ column_same n 33 low lower ∙ omega arith,
+    )
 
-made_terms : (net : Net) (o : Sums) (j : ℕ) → 2 * missing net ≤ j → pair_terms (sum_at net o j) ≡ 4
-made_terms net o j h =
-    ap pair_terms (sum_made net o j h)
-    ∙ alternating_keeps (λ (p : Pair). pair_terms p ≡ 4) (λ j. first_of Open (switch_wire Open o.others (j - missing net)) (output o.upper j)) (λ j. second_of Open (switch_wire Open o.others (j - missing net)) (output o.lower j)) j refl refl
-
-last_items : (net : Net) (form : Form) (n : ℕ) (u l : EndsOf (other form)) → 2 ≤ n → items_terms (2 * (n - missing net)) (last_pair net form u l) ≡ last_terms net form (n - missing net)
-last_items net Bound n u l some =
-    let one = missing_small net in
+-- ---- last columns
+open_last : (net : Net) (n a : ℕ) (u l : Outputs) (next : ℕ) → AreBelow u n a → AreFrom l n a
+    → terms_in (column_of Open (n - missing net) (last_pair net Open u l) next).list ≡ last_terms net Open n
+open_last net n a u l next below from =
     let m = missing net in
-    let f : ℕ → ℕ = λ i. pair_terms (last_pair net Bound u l i) in
-    let count : 2 * (n - m) ≡ suc (suc (2 * (n - m) - 2)) = omega arith in
-    ap (λ k. sum_below k f) count
-    ∙ sum_but_two (2 * (n - m) - 2) (4 - 2 * m) 4 f (early 0 (omega arith)) (early 1 (omega arith))
-    (λ i h k. alternating_keeps (λ (p : Pair). pair_terms p ≡ 4) (sum_at net u) (sum_at net l) (i + 2 * m) (made_terms net u ((i + 2 * m) / 2) (omega arith)) (made_terms net l ((i + 2 * m) / 2) (omega arith)))
+    open_column (n - m) (last_pair net Open u l) next (λ j. output_wire u (j + m)) (λ j. output_wire l (j + m)) (λ j h. last_even (output u) (output l) j m)
+    (λ j h. last_odd (output u) (output l) j m)
+    (λ j h. omega (arith, below (j + m) (omega arith), from (j + m) (omega arith)))
     ∙ omega arith
-  where
-    early : (i : ℕ) → i < 2 → pair_terms (last_pair net Bound u l i) ≡ 4 - 2 * missing net
-    early i h =
-        let one = missing_small net in
-        let m = missing net in
-        elim (cases_eq m 0) [
-          | inl none ↦ alternating_keeps (λ (p : Pair). pair_terms p ≡ 4 - 2 * m) (sum_at net u) (sum_at net l) (i + 2 * m) (made_terms net u ((i + 2 * m) / 2) (omega arith) ∙ omega arith) (made_terms net l ((i + 2 * m) / 2) (omega arith) ∙ omega arith)
-          | inr some ↦ let same : m ≡ 1 = omega arith in
-              alternating_keeps (λ (p : Pair). pair_terms p ≡ 4 - 2 * m) (sum_at net u) (sum_at net l) (i + 2 * m) (output_terms net u ((i + 2 * m) / 2) (omega arith) ∙ omega arith) (output_terms net l ((i + 2 * m) / 2) (omega arith) ∙ omega arith)
-        ]
-last_items net Open n u l some =
-    let m = missing net in
-    let one = missing_small net in
-    let f : ℕ → ℕ = λ i. pair_terms (last_pair net Open u l i) in
-    let count : 2 * (n - m) ≡ suc (suc (2 * (n - m) - 2)) = omega arith in
-    ap (λ k. sum_below k f) count ∙ sum_but_two (2 * (n - m) - 2) 2 2 f (each 0) (each 1) (λ i h k. each i) ∙ omega arith
-  where
-    each : (i : ℕ) → pair_terms (last_pair net Open u l i) ≡ 2
-    each i = alternating_keeps (λ (p : Pair). pair_terms p ≡ 2) (output u) (output l) (i + 2 * missing net) refl refl
+
+bound_last : (net : Net) (n w a l end end' : ℕ) (o o' : Sums) (next : ℕ) → 1 ≤ n → w + 10 ≤ a → end ≤ l → AreSums net n (w + 1) a o end
+    → AreSums net n (w + 3) l o' end'
+    → terms_in (column_of Bound (2 * n - missing net) (last_pair net Bound o o') next).list ≡ last_terms net Bound (2 * n)
+bound_last Benes n w a l end end' o o' next some apart after upper lower =
+    let count : 2 * n - 0 ≡ 2 * n = omega arith in
+    bound_column (2 * n - 0) (last_pair Benes Bound o o') next
+    ∙ ap (λ k. column_terms k (last_pair Benes Bound o o')) count
+    ∙ column_same (2 * n) 33 (last_pair Benes Bound o o') (λ j h.
+    ap₂ switch_terms (last_even (sum_at Benes o) (sum_at Benes o') j 0) (last_odd (sum_at Benes o) (sum_at Benes o') j 0)
+    ∙ made_switch Benes n w a l end end' o o' apart after upper lower (j + 0) (omega arith) (omega arith))
+    ∙ omega arith
+bound_last Waksman n w a l end end' o o' next some apart after upper lower =
+    let count : 2 * n - 1 ≡ suc (2 * n - 2) = omega arith in
+    let item = last_pair Waksman Bound o o' in
+    bound_column (2 * n - 1) item next ∙ ap (λ k. column_terms k item) count
+    ∙ sum_but_first (2 * n - 2) 23 33 (λ j. switch_terms (item (2 * j)) (item (2 * j + 1)))
+    (ap₂ switch_terms (last_even (sum_at Waksman o) (sum_at Waksman o') 0 1) (last_odd (sum_at Waksman o) (sum_at Waksman o') 0 1)
+    ∙ passing_switch Waksman n w a l end end' o o' apart after upper lower 1 (omega arith))
+    (λ j k h. ap₂ switch_terms (last_even (sum_at Waksman o) (sum_at Waksman o') j 1) (last_odd (sum_at Waksman o) (sum_at Waksman o') j 1)
+    ∙ made_switch Waksman n w a l end end' o o' apart after upper lower (j + 1) (omega arith) (omega arith))
+    ∙ omega arith
+
+last_cost : (net : Net) (form : Form) (h w c g next : ℕ) (up low : ItemsOf (other form)) → (items : ItemsOf form) → up ≡ to_upper_of form w items
+    → low ≡ to_lower_of form w items → w + width form * 2 ^ suc h ≡ c
+    → g ≡ (level_of net (other form) h up c).next
+    → terms_in (column_of form (2 ^ suc h - missing net)
+    (last_pair net form (level_of net (other form) h up c).answer (level_of net (other form) h low g).answer) next).list ≡ last_terms net form (2 ^ suc h)
+last_cost net Bound h w c g next up low items is_up is_low start at =
+    let u = level_of net Open h up c in
+    let l = level_of net Open h low g in
+    let some = pow_pos h in
+    let double = twice h in
+    let u_next = level_next net Open h up c in
+    let upper = level_placed net Open h c up (omega arith) in
+    let lower = level_placed net Open h g low (omega arith) in
+    subst (λ n. terms_in (column_of Bound (n - missing net) (last_pair net Bound u.answer l.answer) next).list ≡ last_terms net Bound n) (sym (twice h))
+    (bound_last net (2 ^ h) w c g u.next l.next u.answer l.answer next some (omega arith) (omega arith)
+    (subst (λ v. AreSums net (2 ^ h) v c u.answer u.next) is_up upper) (subst (λ v. AreSums net (2 ^ h) v g l.answer l.next) is_low lower))
+last_cost net Open h w c g next up low items is_up is_low start at =
+    let u = level_of net Bound h up c in
+    let l = level_of net Bound h low g in
+    open_last net (2 ^ suc h) g u.answer l.answer next (subst (λ k. AreBelow u.answer (2 ^ suc h) k) (sym at) (level_below net Bound h c up tt))
+    (level_placed net Bound h g low tt)
 
 -- ---- the network
 level_count : (net : Net) (form : Form) (h : ℕ) (items : ItemsOf form) (next : ℕ) → length (level_of net form h items next).list ≡ level_wires net form h
 unfolding level_of last_column_of here pure ◌>>=◌
 level_count net form zero items next =
-    ap length (append-nil (column_of (innermost net form) 1 (item_in form items) next).list) ∙ column_count (innermost net form) 1 (item_in form items) next ∙ omega (arith, one_wires net form)
+    ap length (append-nil (column_of (innermost net form) 1 (item_in form items) next).list) ∙ column_count (innermost net form) 1 (item_in form items) next
+    ∙ omega (arith, one_wires net form)
 level_count net form (suc h) items next =
     let n = 2 ^ suc h in
     let c = column_of form n (item_in form items) next in
     let u = level_of net (other form) h (to_upper_of form next items) c.next in
     let l = level_of net (other form) h (to_lower_of form next items) u.next in
     let d = column_of form (n - missing net) (last_pair net form u.answer l.answer) l.next in
-    length-append c.list _ ∙ ap (λ k. length c.list + k) (length-append u.list _ ∙ ap (λ k. length u.list + k) (length-append l.list _ ∙ ap (λ k. length l.list + k) (ap length (append-nil d.list))))
+    length-append c.list _ ∙ ap (λ k. length c.list + k)
+    (length-append u.list _ ∙ ap (λ k. length u.list + k) (length-append l.list _ ∙ ap (λ k. length l.list + k) (ap length (append-nil d.list))))
     ∙ omega (
       arith,
       bound-suc net form h,
@@ -192,50 +200,123 @@ level_count net form (suc h) items next =
       column_count form (n - missing net) (last_pair net form u.answer l.answer) l.next,
     )
 
--- the terms of two columns around two networks
-level_total : (net : Net) (form : Form) (h n s all items first inner last : ℕ) → n ≡ 2 * 2 ^ h → 1 ≤ 2 ^ h → missing net ≤ 1 → all + missing net ≡ 2 * n + 2 * s → first ≡ column_terms form n items
-    → IsWired form (2 * n) items → inner + 12 * 2 ^ h ≡ 23 * s + besides net (other form) (inner_terms form n) → last ≡ column_terms form (n - missing net) (last_terms net form (n - missing net))
-    → first + (inner + (inner + last)) + 12 * n ≡ 23 * all + besides net form items
-level_total net Bound h n s all items first inner last size some one count a wired b c = omega arith
-level_total net Open h n s all items first inner last size some one count a wired b c = omega arith
+-- the items of the networks within
+upper_has : (form : Form) (h next at : ℕ) (items : ItemsOf form) → switch_wire form next (2 ^ suc h) ≤ at
+    → HasItems (other form) (to_upper_of form next items) h at
+upper_has Bound h next at items after = omega (arith, twice h)
+upper_has Open h next at items after = tt
 
-level_cost : (net : Net) (form : Form) (h : ℕ) (items : ItemsOf form) (next : ℕ)
-    → terms_in (level_of net form h items next).list + 12 * 2 ^ h ≡ 23 * switches net h + besides net form (items_terms (2 ^ suc h) (item_in form items))
-unfolding level_of last_column_of here pure ◌>>=◌
-level_cost net form zero items next =
-    ap (λ k. k + 12) (ap terms_in (append-nil (column_of (innermost net form) 1 (item_in form items) next).list) ∙ column_cost (innermost net form) 1 (item_in form items) next)
-    ∙ alone net form (switches net 0) (items_terms 2 (item_in form items)) (one_switch net) (wired_terms form 2 items)
-  where
-    alone : (net : Net) (form : Form) (s x : ℕ) → s ≡ 1 → IsWired form 2 x → column_terms (innermost net form) 1 x + 12 ≡ 23 * s + besides net form x
-    alone Benes Bound s x e wired = omega arith
-    alone Benes Open s x e wired = omega arith
-    alone Waksman Bound s x e wired = omega arith
-    alone Waksman Open s x e wired = omega arith
-level_cost net form (suc h) items next =
+lower_has : (form : Form) (h next at : ℕ) (items : ItemsOf form) → switch_wire form next (2 ^ suc h) ≤ at
+    → HasItems (other form) (to_lower_of form next items) h at
+lower_has Bound h next at items after = omega (arith, twice h)
+lower_has Open h next at items after = tt
+
+level_cost : (net : Net) (form : Form) (h next : ℕ) (items : ItemsOf form) → HasItems form items h next
+    → terms_in (level_of net form h items next).list
+    ≡ terms_in (column_of (column_form net form h) (2 ^ h) (item_in form items) next).list + rest_terms net form h
+unfolding level_of last_column_of here pure ◌>>=◌ rest_terms
+level_cost net form zero next items has = ap terms_in (append-nil (column_of (innermost net form) 1 (item_in form items) next).list) ∙ omega arith
+level_cost net form (suc h) next items has =
     let n = 2 ^ suc h in
+    let up = to_upper_of form next items in
+    let low = to_lower_of form next items in
     let c = column_of form n (item_in form items) next in
-    let u = level_of net (other form) h (to_upper_of form next items) c.next in
-    let l = level_of net (other form) h (to_lower_of form next items) u.next in
+    let u = level_of net (other form) h up c.next in
+    let l = level_of net (other form) h low u.next in
     let d = column_of form (n - missing net) (last_pair net form u.answer l.answer) l.next in
-    let x = items_terms (2 ^ suc (suc h)) (item_in form items) in
-    let inner = terms_in u.list in
-    let some : 2 ≤ n = omega (arith, twice h, pow_pos h) in
-    let first = column_cost form n (item_in form items) next ∙ ap (λ k. column_terms form n (items_terms k (item_in form items))) (sym (twice (suc h))) in
-    let upper = level_cost net (other form) h (to_upper_of form next items) c.next ∙ ap (λ k. 23 * switches net h + besides net (other form) k) (upper_terms form n next items) in
-    let lower = level_cost net (other form) h (to_lower_of form next items) u.next ∙ ap (λ k. 23 * switches net h + besides net (other form) k) (lower_terms form n next items) in
-    let same : terms_in l.list ≡ inner = omega (arith, upper, lower) in
-    let last = ap terms_in (append-nil d.list) ∙ column_cost form (n - missing net) (last_pair net form u.answer l.answer) l.next ∙ ap (column_terms form (n - missing net)) (last_items net form n u.answer l.answer some) in
-    ap (λ k. k + 12 * n) (terms.adds c.list _ ∙ ap (λ k. terms_in c.list + k) (terms.adds u.list _ ∙ ap (λ k. inner + k) (terms.adds l.list _ ∙ ap (λ k. k + terms_in (d.list ++ [])) same)))
-    ∙ level_total net form h n (switches net h) (switches net (suc h)) x (terms_in c.list) inner (terms_in (d.list ++ [])) (twice h) (pow_pos h) (missing_small net) (switches-suc net h) first
-    (subst (λ k. IsWired form k x) (twice (suc h)) (wired_terms form (2 ^ suc (suc h)) items)) upper last
+    let c_next = column_next form n (item_in form items) next in
+    let u_next = level_next net (other form) h up c.next in
+    let upper = level_cost net (other form) h c.next up (upper_has form h next c.next items (omega arith))
+    ∙ ap (λ k. k + rest_terms net (other form) h) (passed_first net form h next c.next items has).0 in
+    let lower = level_cost net (other form) h u.next low (lower_has form h next u.next items (omega arith))
+    ∙ ap (λ k. k + rest_terms net (other form) h) (passed_first net form h next u.next items has).1 in
+    let last = last_cost net form h next c.next u.next l.next up low items refl refl (sym (c_next ∙ times_comm n (width form) next)) refl in
+    terms.adds c.list _ ∙ ap (λ k. terms_in c.list + k)
+    (terms.adds u.list _ ∙ ap (λ k. terms_in u.list + k) (terms.adds l.list _ ∙ ap (λ k. terms_in l.list + k) (ap terms_in (append-nil d.list))))
+    ∙ omega (arith, upper, lower, last)
+  where
+    times_comm : (n k w : ℕ) → w + n * k ≡ w + k * n
+    times_comm n k w = grind arith
+
+-- ---- in closed form
+-- three times what is over 22 a switch, and 1 or 31
+weight : Form → ℕ → ℕ
+weight Bound zero = 1
+weight Open zero = 5
+weight form (suc h) = 2 * weight (other form) h
+
+IsClosed : Net → Form → ℕ → Type 0
+IsClosed Benes form h = rest_terms Benes form h + 22 * 2 ^ h ≡ 22 * switches Benes h
+IsClosed Waksman Bound h = 3 * rest_terms Waksman Bound h + 66 * 2 ^ h + 1 ≡ 66 * switches Waksman h + weight Bound h
+IsClosed Waksman Open h = 3 * (first_terms Waksman Open h + rest_terms Waksman Open h) + 33 * 2 ^ h ≡ 66 * switches Waksman h + weight Open h + 31
+
+closed : (net : Net) (form : Form) (h : ℕ) → IsClosed net form h
+unfolding IsClosed rest_terms weight
+closed Benes Bound zero = refl
+closed Benes Open zero = refl
+closed Waksman Bound zero = refl
+closed Waksman Open zero = refl
+closed Benes Bound (suc h) = omega (arith, closed Benes Open h, switches-suc Benes h, twice h)
+closed Benes Open (suc h) = omega (arith, closed Benes Bound h, switches-suc Benes h, twice h)
+closed Waksman Bound (suc h) = omega (arith, closed Waksman Open h, switches-suc Waksman h, twice h, pow_pos h)
+closed Waksman Open (suc h) = omega (arith, closed Waksman Bound h, switches-suc Waksman h, twice h, pow_pos h)
+
+-- by parity
+first_weight : Form → Bool → ℕ
+first_weight Bound even = if even then 1 else 5
+first_weight Open even = if even then 5 else 1
+
+twice_weight : (k a n : ℕ) → a ≡ k * n → 2 * a ≡ k * (2 * n)
+twice_weight k a n e = grind arith
+
+exchanged : (form : Form) (h : ℕ) → first_weight (other form) (h % 2 == 0) ≡ first_weight form (suc h % 2 == 0)
+unfolding first_weight
+exchanged form h = elim (cases_eq (h % 2) 0) [
+  | inl none ↦ ap (first_weight (other form)) (eq-eqb (h % 2) 0 none) ∙ even form
+      ∙ sym (ap (first_weight form) (ne_eqb (suc h % 2) 0 (λ e. absurd (omega arith))))
+  | inr some ↦ ap (first_weight (other form)) (ne_eqb (h % 2) 0 some) ∙ odd form ∙ sym (ap (first_weight form) (eq-eqb (suc h % 2) 0 (omega arith)))
+]
+  where
+    even : (form : Form) → first_weight (other form) true ≡ first_weight form false
+    even Bound = refl
+    even Open = refl
+
+    odd : (form : Form) → first_weight (other form) false ≡ first_weight form true
+    odd Bound = refl
+    odd Open = refl
+
+weight-is : (form : Form) (h : ℕ) → weight form h ≡ first_weight form (h % 2 == 0) * 2 ^ h
+unfolding weight first_weight
+weight-is Bound zero = refl
+weight-is Open zero = refl
+weight-is Bound (suc h) =
+    twice_weight (first_weight Open (h % 2 == 0)) (weight Open h) (2 ^ h) (weight-is Open h) ∙ ap₂ (λ k n. k * n) (exchanged Bound h) (sym (twice h))
+weight-is Open (suc h) =
+    twice_weight (first_weight Bound (h % 2 == 0)) (weight Bound h) (2 ^ h) (weight-is Bound h) ∙ ap₂ (λ k n. k * n) (exchanged Open h) (sym (twice h))
+
+weight-third : (h : ℕ) → weight Bound h / 3 ≡ surplus Waksman h
+unfolding first_weight
+weight-third h = ap (λ k. k / 3) (weight-is Bound h ∙ by (h % 2 == 0) (2 ^ h))
+  where
+    by : (even : Bool) (n : ℕ) → first_weight Bound even * n ≡ (if even then n else 5 * n)
+    by true n = omega arith
+    by false n = refl
+
+rest_is : (net : Net) (h : ℕ) → rest_terms net Bound h ≡ inner_terms net h
+unfolding IsClosed
+rest_is Benes h = omega (arith, closed Benes Bound h, column_fits Benes h)
+rest_is Waksman h = by (rest_terms Waksman Bound h) (switches Waksman h) (2 ^ h) (weight Bound h) (closed Waksman Bound h) (column_fits Waksman h)
+    ∙ ap (λ k. 22 * (switches Waksman h - 2 ^ h) + k) (weight-third h)
+  where
+    by : (r s n w : ℕ) → 3 * r + 66 * n + 1 ≡ 66 * s + w → n ≤ s → r ≡ 22 * (s - n) + w / 3
+    by r s n w e fits = omega arith
 
 -- ---- both
-terms_counted : (net : Net) (h : ℕ) (item : ℕ → Pair) (next : ℕ) → terms_in (level_of net Bound h item next).list ≡ network_terms net h (items_terms (2 ^ suc h) item)
+terms_counted : (net : Net) (h : ℕ) (item : ℕ → Pair) (next : ℕ)
+    → terms_in (level_of net Bound h item next).list ≡ column_terms (2 ^ h) item + inner_terms net h
 terms_counted net h item next =
-    all (switches net h) (2 ^ h) (items_terms (2 ^ suc h) item) (terms_in (level_of net Bound h item next).list) (column_fits net h) (level_cost net Bound h item next)
-  where
-    all : (s c x t : ℕ) → c ≤ s → t + 12 * c ≡ 23 * s + 3 * x → t ≡ (s - c) * 23 + (c * 11 + x * 3)
-    all s c x t h e = omega arith
+    level_cost net Bound h next item tt
+    ∙ ap₂ (λ a b. a + b) (ap (λ f. terms_in (column_of f (2 ^ h) item next).list) (bound_form net h) ∙ bound_column (2 ^ h) item next) (rest_is net h)
 
 pub network_counted : NetworkIsCounted
 network_counted = record { constraints = λ net h item next. level_count net Bound h item next; terms = terms_counted }

@@ -8,7 +8,10 @@ pub mod Moved
 pub mod NetworkChain
 pub mod NetworkComplete
 pub mod NetworkLaws
+pub mod NormalLaws
 pub mod Permuting
+pub mod Placed
 pub mod Sizes
 pub mod Sources
+pub mod SwitchCosts
 pub mod ThroughLaws

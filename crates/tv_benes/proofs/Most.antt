@@ -35,10 +35,12 @@ bound_lowest net form h none = ap (bound net form) none ∙ by
     by : bound net form 0 ≡ bound_of (innermost net form) 1
     by = refl
 
-pub bound_above : (net : Net) (form : Form) (h : ℕ) → (h ≡ 0 → ⊥) → bound net form h ≡ bound_of form (2 * 2 ^ h - missing net) + 2 * bound net (other form) (h - 1)
+pub bound_above : (net : Net) (form : Form) (h : ℕ) → (h ≡ 0 → ⊥)
+    → bound net form h ≡ bound_of form (2 * 2 ^ h - missing net) + 2 * bound net (other form) (h - 1)
 unfolding bound
 bound_above net form zero some = absurd (some (omega arith))
-bound_above net form (suc k) some = let same : k ≡ suc k - 1 = omega arith in ap (λ j. bound_of form (2 * 2 ^ suc k - missing net) + 2 * bound net (other form) j) same
+bound_above net form (suc k) some = let same : k ≡ suc k - 1 = omega arith in
+    ap (λ j. bound_of form (2 * 2 ^ suc k - missing net) + 2 * bound net (other form) j) same
 
 pub bound_of_few : (form : Form) (n : ℕ) → bound_of form n ≤ n
 bound_of_few Bound n = omega arith

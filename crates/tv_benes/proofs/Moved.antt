@@ -202,7 +202,8 @@ does_same net form k n size bit bit' same f xs is =
 
 -- a network of level h = k + 1 on these items, whose bits begin at `at` among b: n switches, twice s, and n less
 -- those that are missing
-module _ (net : Net) (form : Form) (h k : ℕ) (level : h ≡ suc k) (at n s : ℕ) (size : n ≡ 2 ^ h) (inner : s ≡ switches net k) (b : ℕ → Bool) (item : ℕ → PairNum) where
+module _ (net : Net) (form : Form) (h k : ℕ) (level : h ≡ suc k) (at n s : ℕ) (size : n ≡ 2 ^ h) (inner : s ≡ switches net k) (b : ℕ → Bool)
+    (item : ℕ → PairNum) where
   bit : ℕ → Bool
   bit = from at b
 

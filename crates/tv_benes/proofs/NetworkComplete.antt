@@ -1,5 +1,6 @@
 -- The values of a network meet what it put.
-use Rattle.std.proofs.Common.{◌≡◌, ℕ, zero, suc, ◌+◌, ◌-◌, ◌*◌, ◌/◌, ◌%◌, ◌^◌, ◌<◌, ◌==◌, Bool, true, false, List, [], ◌++◌, length, refl, sym, ◌∙◌, ap, ap₂, subst, arith, inl, inr, length-append}
+use Rattle.std.proofs.Common.{◌≡◌, ℕ, zero, suc, ◌+◌, ◌-◌, ◌*◌, ◌/◌, ◌%◌, ◌^◌, ◌<◌, ◌==◌, Bool, true, false, List, [], ◌++◌, length, refl, sym, ◌∙◌, ap, ap₂}
+use Rattle.std.proofs.Common.{subst, arith, inl, inr, length-append}
 use Rattle.std.specs.Prelude.{slice_index}
 use Rattle.std.proofs.lemmas.Bool.{cases_eq}
 use Rattle.std.proofs.lemmas.Nat.{pow_pos}
@@ -17,10 +18,12 @@ use Rattle.tv_bits.proofs.BitLaws.{bit_complete}
 use Rattle.tv_bits.proofs.SelectLaws.{select_complete}
 use Rattle.tv_bits.specs.Bit.{IsBit, bit_of}
 use Rattle.tv_bits.specs.Select.{selected, pick_of}
-use Rattle.tv_benes.proofs.NetworkLaws.{IsSwitch, column_sound, value_alternating, column_next, level_next, level_sound, less_missing, bound-suc, one_wires, level_bit, each_bit, first_switch}
+use Rattle.tv_benes.proofs.NetworkLaws.{IsSwitch, remainder_complete, column_sound, value_alternating, column_next, level_next, level_sound, less_missing}
+use Rattle.tv_benes.proofs.NetworkLaws.{bound-suc, one_wires, level_bit, each_bit, first_switch}
 use Rattle.tv_benes.proofs.ThroughLaws.{twice, switches-suc, missing_small, one_switch, alternating-same, through-same}
 use Rattle.tv_benes.specs.Levels.{width, other, innermost, level_wires}
-use Rattle.tv_benes.specs.Network.{switch_of, column_of, last_column_of, level_of, bit_number, product, switch_values, column_values, level_values, NetworkIsComplete}
+use Rattle.tv_benes.specs.Network.{remainder_of, switch_of, column_of, last_column_of, level_of, bit_number, product, switch_values, column_values}
+use Rattle.tv_benes.specs.Network.{level_values, NetworkIsComplete}
 use Rattle.tv_benes.specs.Places.{switch_wire, bit_place, ItemsOf, item_in, to_upper_of, to_lower_of, end_in, last_pair}
 use Rattle.tv_benes.specs.Through.{switches, missing, from, passed, to_upper, to_lower, alternating, through}
 use Rattle.tv_benes.specs.declared.shape.Form.{Form}
@@ -44,17 +47,29 @@ chosen_second : (b : Bool) (x y : PairNum) → (passed b x y).second ≡ selecte
 chosen_second true x y = refl
 chosen_second false x y = refl
 
+-- what a switch passes first and second has the sum of its items
+summed_first : (b : Bool) (x y : PairNum) (p q : ℕ) → p ≡ (passed b x y).first → q ≡ (passed b y x).first → (x.first + y.first) % P ≡ (p + q) % P
+summed_first true x y p q e f = let p_is : p ≡ y.first = e in let q_is : q ≡ x.first = f in omega arith
+summed_first false x y p q e f = let p_is : p ≡ x.first = e in let q_is : q ≡ y.first = f in omega arith
+
+summed_second : (b : Bool) (x y : PairNum) (p q : ℕ) → p ≡ (passed b x y).second → q ≡ (passed b y x).second → (x.second + y.second) % P ≡ (p + q) % P
+summed_second true x y p q e f = let p_is : p ≡ y.second = e in let q_is : q ≡ x.second = f in omega arith
+summed_second false x y p q e f = let p_is : p ≡ x.second = e in let q_is : q ≡ y.second = f in omega arith
+
 product_selected : (b : Bool) (x y : ℕ) → product b x y ≡ selected (bit_number b) ((x + (P - y)) % P) 0
 product_selected true x y = refl
 product_selected false x y = refl
 
 -- the product of a bit and the difference of two combinations
-product_is : (z : List ℕ) (b : Bool) (x y : Combination) (m at : ℕ) → at ≡ bit_number b → m ≡ product b (value x z) (value y z) → m ≡ selected at (value (less x y) z) (value [] z)
+product_is : (z : List ℕ) (b : Bool) (x y : Combination) (m at : ℕ) → at ≡ bit_number b → m ≡ product b (value x z) (value y z)
+    → m ≡ selected at (value (less x y) z) (value [] z)
 product_is z b x y m at e is =
-    is ∙ product_selected b (value x z) (value y z) ∙ ap (λ d. selected (bit_number b) d 0) (sym (value-less x y z)) ∙ ap (λ n. selected n (value (less x y) z) 0) (sym e)
+    is ∙ product_selected b (value x z) (value y z) ∙ ap (λ d. selected (bit_number b) d 0) (sym (value-less x y z))
+    ∙ ap (λ n. selected n (value (less x y) z) 0) (sym e)
 
-switch_complete : (z : List ℕ) (form : Form) (x y : Pair) (next : ℕ) (b : Bool) → Assigns z → HasFrom z next (switch_values form b (pair_value z x) (pair_value z y)) → Meets z (switch_of form x y next).list
-unfolding switch_of bit_of pick_of fresh put pure ◌>>=◌
+switch_complete : (z : List ℕ) (form : Form) (x y : Pair) (next : ℕ) (b : Bool) → Assigns z
+    → HasFrom z next (switch_values form b (pair_value z x) (pair_value z y)) → Meets z (switch_of form x y next).list
+unfolding switch_of remainder_of bit_of pick_of fresh put pure ◌>>=◌
 switch_complete z Bound x y next b assigns has =
     let px = pair_value z x in
     let py = pair_value z y in
@@ -64,8 +79,8 @@ switch_complete z Bound x y next b assigns has =
     let at : (u v : ℕ) → selected (bit_number b) u v ≡ selected (slice_index z next) u v = λ u v. ap (λ n. selected n u v) (sym is) in
     let p = select_complete z (next + 1) next y.first x.first assigns bit (has.1.0 ∙ chosen_first b px py ∙ at py.first px.first, tt) in
     let p' = select_complete z (next + 1 + 1) next y.second x.second assigns bit (has.1.1.0 ∙ chosen_second b px py ∙ at py.second px.second, tt) in
-    let q = select_complete z (next + 1 + 1 + 1) next x.first y.first assigns bit (has.1.1.1.0 ∙ chosen_first b py px ∙ at px.first py.first, tt) in
-    let q' = select_complete z (next + 1 + 1 + 1 + 1) next x.second y.second assigns bit (has.1.1.1.1.0 ∙ chosen_second b py px ∙ at px.second py.second, tt) in
+    let q = remainder_complete z assigns x.first y.first (next + 1) (next + 1 + 1 + 1) (summed_first b px py _ _ has.1.0 has.1.1.1.0) in
+    let q' = remainder_complete z assigns x.second y.second (next + 1 + 1) (next + 1 + 1 + 1 + 1) (summed_second b px py _ _ has.1.1.0 has.1.1.1.1.0) in
     (one.0, (p.0, (p'.0, (q.0, (q'.0, tt)))))
 switch_complete z Open x y next b assigns has =
     let is : slice_index z next ≡ bit_number b = has.0 in
@@ -75,7 +90,8 @@ switch_complete z Open x y next b assigns has =
     let m' = select_complete z (next + 1 + 1) next (less x.second y.second) [] assigns bit (product_is z b x.second y.second _ _ is has.1.1.0, tt) in
     (one.0, (m.0, (m'.0, tt)))
 
-values_same : (z : List ℕ) (form : Form) (at : ℕ) (b : Bool) (x x' y y' : PairNum) → x ≡ x' → y ≡ y' → HasFrom z at (switch_values form b x' y') → HasFrom z at (switch_values form b x y)
+values_same : (z : List ℕ) (form : Form) (at : ℕ) (b : Bool) (x x' y y' : PairNum) → x ≡ x' → y ≡ y' → HasFrom z at (switch_values form b x' y')
+    → HasFrom z at (switch_values form b x y)
 values_same z form at b x x' y y' p q has = subst (λ l. HasFrom z at l) (sym (ap₂ (λ m n. switch_values form b m n) p q)) has
 
 -- ---- a column
@@ -88,10 +104,13 @@ unfolding column_values
 column_values-length form zero bit v = omega arith
 column_values-length form (suc n) bit v =
     let last = switch_values form (bit n) (v (2 * n)) (v (2 * n + 1)) in
-    length-append (column_values form n bit v) last ∙ omega (arith, column_values-length form n bit v, switch_values-length form (bit n) (v (2 * n)) (v (2 * n + 1)))
+    length-append (column_values form n bit v) last
+    ∙ omega (arith, column_values-length form n bit v, switch_values-length form (bit n) (v (2 * n)) (v (2 * n + 1)))
 
-column_complete : (z : List ℕ) (form : Form) (n : ℕ) (item : ℕ → Pair) (next : ℕ) (bit : ℕ → Bool) (v : ℕ → PairNum) → Assigns z → ((j : ℕ) → j < 2 * n → pair_value z (item j) ≡ v j)
-    → HasFrom z next (column_values form n bit v) → Meets z (column_of form n item next).list × ((j : ℕ) → j < n → slice_index z (switch_wire form next j) ≡ bit_number (bit j))
+column_complete : (z : List ℕ) (form : Form) (n : ℕ) (item : ℕ → Pair) (next : ℕ) (bit : ℕ → Bool) (v : ℕ → PairNum) → Assigns z
+    → ((j : ℕ) → j < 2 * n → pair_value z (item j) ≡ v j)
+    → HasFrom z next (column_values form n bit v) → Meets z (column_of form n item next).list
+    × ((j : ℕ) → j < n → slice_index z (switch_wire form next j) ≡ bit_number (bit j))
 unfolding column_of column_values turns pure
 column_complete z form zero item next bit v assigns is has = (tt, λ j h. absurd (omega arith))
 column_complete z form (suc n) item next bit v assigns is has =
@@ -102,12 +121,15 @@ column_complete z form (suc n) item next bit v assigns is has =
     let rest = column_complete z form n item next bit v assigns (λ j h. is j (omega arith)) both.0 in
     let place : next + length before ≡ switch_wire form next n = ap (λ k. next + k) (column_values-length form n bit v) in
     let have : HasFrom z (switch_wire form next n) values = subst (λ k. HasFrom z k values) place both.1 in
-    let have_pairs = values_same z form (switch_wire form next n) (bit n) (pair_value z (item (2 * n))) (v (2 * n)) (pair_value z (item (2 * n + 1))) (v (2 * n + 1)) (is (2 * n) (omega arith)) (is (2 * n + 1) (omega arith)) have in
+    let have_pairs = values_same z form (switch_wire form next n) (bit n) (pair_value z (item (2 * n))) (v (2 * n)) (pair_value z (item (2 * n + 1)))
+    (v (2 * n + 1)) (is (2 * n) (omega arith)) (is (2 * n + 1) (omega arith)) have in
     let last = switch_complete z form (item (2 * n)) (item (2 * n + 1)) (switch_wire form next n) (bit n) assigns have_pairs in
-    let meets : Meets z (piece n (turns n piece tt next).answer (turns n piece tt next).next).list = subst (λ k. Meets z (switch_of form (item (2 * n)) (item (2 * n + 1)) k).list) (sym (column_next form n item next)) last in (
+    let meets : Meets z (piece n (turns n piece tt next).answer (turns n piece tt next).next).list = subst
+    (λ k. Meets z (switch_of form (item (2 * n)) (item (2 * n + 1)) k).list) (sym (column_next form n item next)) last in (
       whole z (turns n piece tt) (piece n) next rest.0 meets,
       λ j h. elim (cases_eq j n) [
-        | inl same ↦ ap (λ k. slice_index z (switch_wire form next k)) same ∙ first_of_values form (bit n) (v (2 * n)) (v (2 * n + 1)) (switch_wire form next n) have ∙ ap (λ k. bit_number (bit k)) (sym same)
+        | inl same ↦ ap (λ k. slice_index z (switch_wire form next k)) same
+            ∙ first_of_values form (bit n) (v (2 * n)) (v (2 * n + 1)) (switch_wire form next n) have ∙ ap (λ k. bit_number (bit k)) (sym same)
         | inr apart ↦ rest.1 j (omega arith)
       ],
     )
@@ -152,17 +174,22 @@ record HasLevel (z : List ℕ) (net : Net) (form : Form) (h next : ℕ) (items :
 bit_there : (z : List ℕ) (at : ℕ) (b : Bool) → slice_index z at ≡ bit_number b → (slice_index z at == 1) ≡ b
 bit_there z at b is = ap (λ k. k == 1) is ∙ bit_number-is b
 
-passed_at : (z : List ℕ) (at : ℕ) (b : Bool) (x x' y y' : PairNum) → slice_index z at ≡ bit_number b → x ≡ x' → y ≡ y' → passed (slice_index z at == 1) x y ≡ passed b x' y'
+passed_at : (z : List ℕ) (at : ℕ) (b : Bool) (x x' y y' : PairNum) → slice_index z at ≡ bit_number b → x ≡ x' → y ≡ y'
+    → passed (slice_index z at == 1) x y ≡ passed b x' y'
 passed_at z at b x x' y y' is p q = ap (λ c. passed c x y) (bit_there z at b is) ∙ ap₂ (λ m n. passed b m n) p q
 
 -- where each item is v, each output is what goes through
-goes_through : (z : List ℕ) (net : Net) (form : Form) (h next : ℕ) (items : ItemsOf form) (bit : ℕ → Bool) (v : ℕ → PairNum) → Assigns z → ((j : ℕ) → j < 2 ^ suc h → pair_value z (item_in form items j) ≡ v j)
-    → HasLevel z net form h next items bit → (i : ℕ) → i < 2 ^ suc h → pair_value z (end_in net form (level_of net form h items next).answer i) ≡ through net h bit v i
+goes_through : (z : List ℕ) (net : Net) (form : Form) (h next : ℕ) (items : ItemsOf form) (bit : ℕ → Bool) (v : ℕ → PairNum) → Assigns z
+    → ((j : ℕ) → j < 2 ^ suc h → pair_value z (item_in form items j) ≡ v j)
+    → HasLevel z net form h next items bit → (i : ℕ) → i < 2 ^ suc h
+    → pair_value z (end_in net form (level_of net form h items next).answer i) ≡ through net h bit v i
 goes_through z net form h next items bit v assigns is n i within =
     (level_sound z net form next h items assigns n.meets).outputs i within
-    ∙ through-same net h (level_bit z net form h next) bit (λ j. pair_value z (item_in form items j)) v (λ j k. bit_there z (bit_place net form h next j) (bit j) (n.bits j k)) is i within
+    ∙ through-same net h (level_bit z net form h next) bit (λ j. pair_value z (item_in form items j)) v
+    (λ j k. bit_there z (bit_place net form h next j) (bit j) (n.bits j k)) is i within
 
-level_complete : (z : List ℕ) (net : Net) (form : Form) (h next : ℕ) (items : ItemsOf form) (bit : ℕ → Bool) (v : ℕ → PairNum) → Assigns z → ((j : ℕ) → j < 2 ^ suc h → pair_value z (item_in form items j) ≡ v j)
+level_complete : (z : List ℕ) (net : Net) (form : Form) (h next : ℕ) (items : ItemsOf form) (bit : ℕ → Bool) (v : ℕ → PairNum) → Assigns z
+    → ((j : ℕ) → j < 2 ^ suc h → pair_value z (item_in form items j) ≡ v j)
     → HasFrom z next (level_values net form h bit v) → HasLevel z net form h next items bit
 unfolding level_of last_column_of level_values here pure ◌>>=◌ bit_place
 level_complete z net form zero next items bit v assigns is has =
@@ -217,27 +244,32 @@ level_complete z net form (suc h) next items bit v assigns is has =
     let have_l : HasFrom z u.next vl = subst (λ k. HasFrom z k vl) place_l third.0 in
     let have_d : HasFrom z l.next vd = subst (λ k. HasFrom z k vd) place_d third.1 in
     let column = column_complete z form n item next bit v assigns (λ j k. is j (omega arith)) first.0 in
-    let switch : (j : ℕ) → j < n → IsSwitch z (pair_value z (item (2 * j))) (pair_value z (item (2 * j + 1))) (pair_value z (item_in (other form) up_items j)) (pair_value z (item_in (other form) low_items j)) (switch_wire form next j) =
+    let switch : (j : ℕ) → j < n → IsSwitch z (pair_value z (item (2 * j))) (pair_value z (item (2 * j + 1))) (pair_value z (item_in (other form) up_items j))
+    (pair_value z (item_in (other form) low_items j)) (switch_wire form next j) =
     λ j k. first_switch z net form h next items j (column_sound z form n item next assigns column.0 j k) in
     let items_up : (j : ℕ) → j < n → pair_value z (item_in (other form) up_items j) ≡ up j =
-    λ j k. (switch j k).first ∙ passed_at z (switch_wire form next j) (bit j) _ _ _ _ (column.1 j k) (is (2 * j) (omega arith)) (is (2 * j + 1) (omega arith)) in
+    λ j k. (switch j k).first ∙ passed_at z (switch_wire form next j) (bit j) _ _ _ _ (column.1 j k) (is (2 * j) (omega arith))
+    (is (2 * j + 1) (omega arith)) in
     let items_low : (j : ℕ) → j < n → pair_value z (item_in (other form) low_items j) ≡ low j =
-    λ j k. (switch j k).second ∙ passed_at z (switch_wire form next j) (bit j) _ _ _ _ (column.1 j k) (is (2 * j + 1) (omega arith)) (is (2 * j) (omega arith)) in
+    λ j k. (switch j k).second ∙ passed_at z (switch_wire form next j) (bit j) _ _ _ _ (column.1 j k) (is (2 * j + 1) (omega arith))
+    (is (2 * j) (omega arith)) in
     let upper = level_complete z net (other form) h c.next up_items (from n bit) up assigns items_up have_u in
     let lower = level_complete z net (other form) h u.next low_items (from (n + s) bit) low assigns items_low have_l in
     let out_u = goes_through z net (other form) h c.next up_items (from n bit) up assigns items_up upper in
     let out_l = goes_through z net (other form) h u.next low_items (from (n + s) bit) low assigns items_low lower in
     let items_d : (j : ℕ) → j < 2 * m → pair_value z (last j) ≡ last_out j =
     λ j k. value_alternating z (end_in net (other form) u.answer) (end_in net (other form) l.answer) (j + 2 * missing net)
-    ∙ alternating-same (λ i. pair_value z (end_in net (other form) u.answer i)) upper_out (λ i. pair_value z (end_in net (other form) l.answer i)) lower_out (j + 2 * missing net) (out_u ((j + 2 * missing net) / 2) (omega arith)) (out_l ((j + 2 * missing net) / 2) (omega arith)) in
+    ∙ alternating-same (λ i. pair_value z (end_in net (other form) u.answer i)) upper_out (λ i. pair_value z (end_in net (other form) l.answer i)) lower_out
+    (j + 2 * missing net) (out_u ((j + 2 * missing net) / 2) (omega arith)) (out_l ((j + 2 * missing net) / 2) (omega arith)) in
     let end = column_complete z form m last l.next (from (n + 2 * s) bit) last_out assigns items_d have_d in
     record {
-      meets = Meets-join z c.list (u.list ++ (l.list ++ (d.list ++ []))) column.0 (Meets-join z u.list (l.list ++ (d.list ++ [])) upper.meets (Meets-join z l.list (d.list ++ []) lower.meets (Meets-join z d.list [] end.0 tt)));
-      bits = each_bit z net form h next c.next u.next l.next c_next u_next l_next (λ j w. slice_index z w ≡ bit_number (bit j)) column.1 upper.bits lower.bits (λ j k. end.1 j (omega arith));
+      meets = Meets-join z c.list (u.list ++ (l.list ++ (d.list ++ []))) column.0
+          (Meets-join z u.list (l.list ++ (d.list ++ [])) upper.meets (Meets-join z l.list (d.list ++ []) lower.meets (Meets-join z d.list [] end.0 tt)));
+      bits = each_bit z net form h next c.next u.next l.next c_next u_next l_next (λ j w. slice_index z w ≡ bit_number (bit j)) column.1 upper.bits lower.bits
+          (λ j k. end.1 j (omega arith));
     }
 
 pub network_complete : NetworkIsComplete
-network_complete z net next h item bit assigns has =
-    let v : ℕ → PairNum = λ j. pair_value z (item j) in
-    let n = level_complete z net Bound h next item bit v assigns (λ j k. refl) has in
-    record { meets = n.meets; bits = n.bits; outputs = goes_through z net Bound h next item bit v assigns (λ j k. refl) n }
+network_complete z net next h item bit v assigns is has =
+    let n = level_complete z net Bound h next item bit v assigns is has in
+    record { meets = n.meets; bits = n.bits; outputs = goes_through z net Bound h next item bit v assigns is n }

@@ -1,16 +1,19 @@
 -- The laws of the network.
-use Rattle.std.proofs.Common.{◌≡◌, ℕ, zero, suc, ◌+◌, ◌-◌, ◌*◌, ◌/◌, ◌%◌, ◌^◌, ◌<◌, ◌≤◌, ◌==◌, Bool, true, false, if◌then◌else◌, List, [], ◌++◌, refl, sym, ◌∙◌, ap, ap₂, subst, arith, inl, inr}
+use Rattle.std.proofs.Common.{◌≡◌, ℕ, zero, suc, ◌+◌, ◌-◌, ◌*◌, ◌/◌, ◌%◌, ◌^◌, ◌<◌, ◌≤◌, ◌==◌, Bool, true, false, if◌then◌else◌, List, [], ◌++◌, refl, sym}
+use Rattle.std.proofs.Common.{◌∙◌, ap, ap₂, subst, arith, inl, inr}
 use Rattle.std.specs.Prelude.{slice_index}
 use Rattle.std.proofs.lemmas.Bool.{cases_lt}
 use Rattle.std.proofs.lemmas.Nat.{pow_pos}
-use Rattle.tv_core.proofs.CombinationLaws.{value-append, value-below, value-less, value-wire}
+use Rattle.tv_core.proofs.CombinationLaws.{value-append, value-below, value-less, value-once, value-wire, wire-below}
 use Rattle.tv_core.proofs.LineLaws.{pair_same}
 use Rattle.tv_core.proofs.LoopLaws.{turn_met, turns-next}
 use Rattle.tv_core.proofs.Meeting.{Meets-split}
+use Rattle.tv_core.proofs.NormalLaws.{value-normal}
 use Rattle.tv_core.specs.Circuits.{Circuit, here, fresh, put, pure, ◌>>=◌}
-use Rattle.tv_core.specs.Combinations.{wire, less}
+use Rattle.tv_core.specs.Combinations.{wire, constant, less}
 use Rattle.tv_core.specs.Constraints.{Combination, value}
 use Rattle.tv_core.specs.Laws.{Assigns, Meets}
+use Rattle.tv_core.specs.Normal.{normal}
 use Rattle.tv_core.specs.Lines.{pair_value}
 use Rattle.tv_core.specs.declared.field.TheConstants.{P}
 use Rattle.tv_core.specs.declared.lines.Pair.{Pair}
@@ -21,9 +24,10 @@ use Rattle.tv_bits.specs.Bit.{IsBit, bit_of}
 use Rattle.tv_bits.specs.Select.{selected, pick_of}
 use Rattle.tv_benes.proofs.Ends.{upper_item, lower_item, place_first, place_upper, place_lower, place_last, end_passes, end_made, end_two}
 use Rattle.tv_benes.proofs.Sources.{last_even, last_odd}
-use Rattle.tv_benes.proofs.ThroughLaws.{twice, switches-suc, missing_small, one_switch, last_bit-same, kept_bit, left_bit, alternating-same, joined-same, through-same}
+use Rattle.tv_benes.proofs.ThroughLaws.{twice, switches-suc, missing_small, one_switch, last_bit-same, kept_bit, left_bit, alternating-same, joined-same}
+use Rattle.tv_benes.proofs.ThroughLaws.{through-same}
 use Rattle.tv_benes.specs.Levels.{width, other, innermost, bound, level_wires}
-use Rattle.tv_benes.specs.Network.{switch_of, column_of, last_column_of, level_of, NetworkIsSound}
+use Rattle.tv_benes.specs.Network.{remainder_of, switch_of, column_of, last_column_of, level_of, NetworkIsSound}
 use Rattle.tv_benes.specs.Places.{switch_wire, first_of, second_of, bit_place, ItemsOf, item_in, to_upper_of, to_lower_of, EndsOf, end_in, last_ends, last_pair}
 use Rattle.tv_benes.specs.Through.{switches, missing, last_bit, from, passed, to_upper, to_lower, alternating, joined, through}
 use Rattle.tv_benes.specs.declared.shape.Form.{Form}
@@ -37,7 +41,7 @@ passed_pair false x y = refl
 
 -- ---- a switch
 pub switch_next : (form : Form) (x y : Pair) (next : ℕ) → (switch_of form x y next).next ≡ next + width form
-unfolding switch_of bit_of pick_of fresh put pure ◌>>=◌
+unfolding switch_of remainder_of bit_of pick_of fresh put pure ◌>>=◌
 switch_next Bound x y next = omega arith
 switch_next Open x y next = omega arith
 
@@ -61,7 +65,8 @@ with_product b x y m xs ys bit is = elim (bit_cases b bit) [
 ]
 
 -- a wire that holds such a product
-module _ (z : List ℕ) (assigns : Assigns z) (b m : ℕ) (x y : Combination) (bit : IsBit b) (is : slice_index z m ≡ selected b (value (less x y) z) (value [] z)) where
+module _ (z : List ℕ) (assigns : Assigns z) (b m : ℕ) (x y : Combination) (bit : IsBit b)
+    (is : slice_index z m ≡ selected b (value (less x y) z) (value [] z)) where
   product_is : slice_index z m ≡ selected b ((value x z + (P - value y z)) % P) 0
   product_is = is ∙ ap (λ n. selected b n 0) (value-less x y z)
 
@@ -75,22 +80,48 @@ module _ (z : List ℕ) (assigns : Assigns z) (b m : ℕ) (x y : Combination) (b
       value-append y (wire m) z ∙ ap (λ n. (value y z + n) % P) (value-wire assigns m)
       ∙ with_product b (value x z) (value y z) (slice_index z m) (value-below x z) (value-below y z) bit product_is
 
+-- a wire that is with another the sum of two combinations
+module _ (z : List ℕ) (assigns : Assigns z) (x y : Combination) (p next : ℕ) where
+  sum_is : value (normal (x ++ y)) z * value (constant 1) z % P ≡ (value x z + value y z) % P
+  sum_is = value-once z (normal (x ++ y)) assigns ∙ value-normal z (x ++ y) ∙ value-append x y z
+
+  parts_are : value (wire p ++ wire next) z ≡ (slice_index z p + slice_index z next) % P
+  parts_are = value-append (wire p) (wire next) z ∙ ap₂ (λ a b. (a + b) % P) (value-wire assigns p) (value-wire assigns next)
+
+  remainder_sound : Meets z (remainder_of x y p next).list → (value x z + value y z) % P ≡ (slice_index z p + slice_index z next) % P
+  unfolding remainder_of fresh put pure ◌>>=◌
+  remainder_sound meets = sym sum_is ∙ meets.0 ∙ parts_are
+
+  pub remainder_complete : (value x z + value y z) % P ≡ (slice_index z p + slice_index z next) % P → Meets z (remainder_of x y p next).list
+  unfolding remainder_of fresh put pure ◌>>=◌
+  remainder_complete sums = (sum_is ∙ sums ∙ sym parts_are, tt)
+
+other_of : (b x y p q : ℕ) → x < P → y < P → q < P → IsBit b → p ≡ selected b y x → (x + y) % P ≡ (p + q) % P → q ≡ selected b x y
+other_of b x y p q xs ys qs bit is sums = elim (bit_cases b bit) [
+  | inl none ↦ let same : p ≡ x = is ∙ selected-zero b y x none in let q_is : q ≡ y = omega arith in q_is ∙ sym (selected-zero b x y none)
+  | inr one ↦ let same : p ≡ y = is ∙ selected-one b y x one in let q_is : q ≡ x = omega arith in q_is ∙ sym (selected-one b x y one)
+]
+
 switch_sound : (z : List ℕ) (form : Form) (x y : Pair) (next : ℕ) → Assigns z → Meets z (switch_of form x y next).list
     → IsSwitch z (pair_value z x) (pair_value z y) (pair_value z (first_of form next x)) (pair_value z (second_of form next y)) next
-unfolding switch_of bit_of pick_of fresh put pure ◌>>=◌
+unfolding switch_of remainder_of bit_of pick_of fresh put pure ◌>>=◌
 switch_sound z Bound x y next assigns meets =
     let b = slice_index z next in
     let bit : IsBit b = bit_sound z next next assigns (meets.0, tt) in
     let p = select_sound z (next + 1) next y.first x.first assigns bit (meets.1.0, tt) in
     let p' = select_sound z (next + 1 + 1) next y.second x.second assigns bit (meets.1.1.0, tt) in
-    let q = select_sound z (next + 1 + 1 + 1) next x.first y.first assigns bit (meets.1.1.1.0, tt) in
-    let q' = select_sound z (next + 1 + 1 + 1 + 1) next x.second y.second assigns bit (meets.1.1.1.1.0, tt) in
+    let sums = remainder_sound z assigns x.first y.first (next + 1) (next + 1 + 1 + 1) (meets.1.1.1.0, tt) in
+    let sums' = remainder_sound z assigns x.second y.second (next + 1 + 1) (next + 1 + 1 + 1 + 1) (meets.1.1.1.1.0, tt) in
+    let q = other_of b _ _ _ _ (value-below x.first z) (value-below y.first z) (wire-below assigns (next + 1 + 1 + 1)) bit p sums in
+    let q' = other_of b _ _ _ _ (value-below x.second z) (value-below y.second z) (wire-below assigns (next + 1 + 1 + 1 + 1)) bit p' sums' in
     let at3 : next + 1 + 1 + 1 ≡ next + 3 = omega arith in
     let at4 : next + 1 + 1 + 1 + 1 ≡ next + 3 + 1 = omega arith in
     record {
       bit = bit;
-      first = pair_same _ _ _ _ (value-wire assigns (next + 1) ∙ p) (value-wire assigns (next + 1 + 1) ∙ p') ∙ passed_pair (b == 1) (pair_value z x) (pair_value z y);
-      second = pair_same _ _ _ _ (value-wire assigns (next + 3) ∙ ap (λ k. slice_index z k) (sym at3) ∙ q) (value-wire assigns (next + 3 + 1) ∙ ap (λ k. slice_index z k) (sym at4) ∙ q') ∙ passed_pair (b == 1) (pair_value z y) (pair_value z x);
+      first = pair_same _ _ _ _ (value-wire assigns (next + 1) ∙ p) (value-wire assigns (next + 1 + 1) ∙ p')
+          ∙ passed_pair (b == 1) (pair_value z x) (pair_value z y);
+      second = pair_same _ _ _ _ (value-wire assigns (next + 3) ∙ ap (λ k. slice_index z k) (sym at3) ∙ q)
+          (value-wire assigns (next + 3 + 1) ∙ ap (λ k. slice_index z k) (sym at4) ∙ q') ∙ passed_pair (b == 1) (pair_value z y) (pair_value z x);
     }
 switch_sound z Open x y next assigns meets =
     let b = slice_index z next in
@@ -101,15 +132,18 @@ switch_sound z Open x y next assigns meets =
     let m2 = ap (λ k. slice_index z k) (sym at2) ∙ m' in
     record {
       bit = bit;
-      first = pair_same _ _ _ _ (value_less z assigns b (next + 1) x.first y.first bit m) (value_less z assigns b (next + 2) x.second y.second bit m2) ∙ passed_pair (b == 1) (pair_value z x) (pair_value z y);
-      second = pair_same _ _ _ _ (value_with z assigns b (next + 1) x.first y.first bit m) (value_with z assigns b (next + 2) x.second y.second bit m2) ∙ passed_pair (b == 1) (pair_value z y) (pair_value z x);
+      first = pair_same _ _ _ _ (value_less z assigns b (next + 1) x.first y.first bit m) (value_less z assigns b (next + 2) x.second y.second bit m2)
+          ∙ passed_pair (b == 1) (pair_value z x) (pair_value z y);
+      second = pair_same _ _ _ _ (value_with z assigns b (next + 1) x.first y.first bit m) (value_with z assigns b (next + 2) x.second y.second bit m2)
+          ∙ passed_pair (b == 1) (pair_value z y) (pair_value z x);
     }
 
 -- ---- a column
 pub column_next : (form : Form) (n : ℕ) (item : ℕ → Pair) (next : ℕ) → (column_of form n item next).next ≡ switch_wire form next n
 unfolding column_of
 column_next form n item next =
-    turns-next (λ j _. switch_of form (item (2 * j)) (item (2 * j + 1))) tt next (width form) n (λ j a at. switch_next form (item (2 * j)) (item (2 * j + 1)) at)
+    turns-next (λ j _. switch_of form (item (2 * j)) (item (2 * j + 1))) tt next (width form) n
+    (λ j a at. switch_next form (item (2 * j)) (item (2 * j + 1)) at)
 
 -- switch j of a column on items, whose wires begin at `next`
 abbrev pub IsSwitchOf : List ℕ → Form → (ℕ → Pair) → ℕ → ℕ → Type 0
@@ -122,13 +156,15 @@ pub column_sound : (z : List ℕ) (form : Form) (n : ℕ) (item : ℕ → Pair) 
 unfolding column_of
 column_sound z form n item next assigns meets j within =
     let piece : ℕ → Unit {0} → Circuit (Unit {0}) = λ j _. switch_of form (item (2 * j)) (item (2 * j + 1)) in
-    subst (λ k. IsSwitch z (pair_value z (item (2 * j))) (pair_value z (item (2 * j + 1))) (pair_value z (first_of form k (item (2 * j)))) (pair_value z (second_of form k (item (2 * j + 1)))) k)
+    subst (λ k. IsSwitch z (pair_value z (item (2 * j))) (pair_value z (item (2 * j + 1))) (pair_value z (first_of form k (item (2 * j))))
+    (pair_value z (second_of form k (item (2 * j + 1)))) k)
     (column_next form j item next)
     (switch_sound z form (item (2 * j)) (item (2 * j + 1)) _ assigns (turn_met z piece tt next n j within meets))
 
 -- ---- the network
 -- what a last column makes of its switches, and the parts of a network
-pub bound-suc : (net : Net) (form : Form) (h : ℕ) → level_wires net form (suc h) + missing net * width form ≡ 2 * (2 ^ suc h * width form) + 2 * level_wires net (other form) h
+pub bound-suc : (net : Net) (form : Form) (h : ℕ)
+    → level_wires net form (suc h) + missing net * width form ≡ 2 * (2 ^ suc h * width form) + 2 * level_wires net (other form) h
 unfolding bound
 bound-suc net Bound h = let size = switches-suc net h in let one = missing_small net in let some = pow_pos (suc h) in omega arith
 bound-suc net Open h = let size = switches-suc net h in omega arith
@@ -178,7 +214,8 @@ pub record IsLevel (z : List ℕ) (net : Net) (form : Form) (h first : ℕ) (v o
   pub outputs : (i : ℕ) → i < 2 ^ suc h → out i ≡ through net h (level_bit z net form h first) v i
 
 -- a network within others, and the two columns around them
-module _ (z : List ℕ) (net : Net) (form : Form) (h first u l g : ℕ) (at_u : u ≡ switch_wire form first (2 ^ suc h)) (at_l : l ≡ u + level_wires net (other form) h) (at_g : g ≡ l + level_wires net (other form) h) where
+module _ (z : List ℕ) (net : Net) (form : Form) (h first u l g : ℕ) (at_u : u ≡ switch_wire form first (2 ^ suc h))
+    (at_l : l ≡ u + level_wires net (other form) h) (at_g : g ≡ l + level_wires net (other form) h) where
   n : ℕ
   n = 2 ^ suc h
 
@@ -198,7 +235,8 @@ module _ (z : List ℕ) (net : Net) (form : Form) (h first u l g : ℕ) (at_u : 
   upper_place i j e k = place_upper net form h first i j e k ∙ ap (λ w. bit_place net (other form) h w j) (sym at_u)
 
   lower_place : (i j : ℕ) → i ≡ 2 ^ suc h + switches net h + j → j < switches net h → bit_place net form (suc h) first i ≡ bit_place net (other form) h l j
-  lower_place i j e k = place_lower net form h first i j e k ∙ ap (λ w. bit_place net (other form) h w j) (sym (at_l ∙ ap (λ w. w + level_wires net (other form) h) at_u))
+  lower_place i j e k = place_lower net form h first i j e k
+      ∙ ap (λ w. bit_place net (other form) h w j) (sym (at_l ∙ ap (λ w. w + level_wires net (other form) h) at_u))
 
   last_place : (i j : ℕ) → i ≡ 2 ^ suc h + 2 * switches net h + j → bit_place net form (suc h) first i ≡ switch_wire form g j
   last_place i j e =
@@ -206,7 +244,8 @@ module _ (z : List ℕ) (net : Net) (form : Form) (h first u l g : ℕ) (at_u : 
       ∙ ap (λ w. switch_wire form w j) (sym (at_g ∙ ap (λ w. w + level_wires net (other form) h) (at_l ∙ ap (λ w. w + level_wires net (other form) h) at_u)))
 
   -- what holds of the parts' bits holds of all
-  pub each_bit : (Q : ℕ → ℕ → Type 0) → ((j : ℕ) → j < 2 ^ suc h → Q j (switch_wire form first j)) → ((j : ℕ) → j < switches net h → Q (2 ^ suc h + j) (bit_place net (other form) h u j))
+  pub each_bit : (Q : ℕ → ℕ → Type 0) → ((j : ℕ) → j < 2 ^ suc h → Q j (switch_wire form first j))
+      → ((j : ℕ) → j < switches net h → Q (2 ^ suc h + j) (bit_place net (other form) h u j))
       → ((j : ℕ) → j < switches net h → Q (2 ^ suc h + switches net h + j) (bit_place net (other form) h l j))
       → ((j : ℕ) → j + missing net < 2 ^ suc h → Q (2 ^ suc h + 2 * switches net h + j) (switch_wire form g j))
       → (j : ℕ) → j < switches net (suc h) → Q j (bit_place net form (suc h) first j)
@@ -217,12 +256,17 @@ module _ (z : List ℕ) (net : Net) (form : Form) (h first u l g : ℕ) (at_u : 
         | inl a ↦ subst (λ w. Q j w) (sym (places j a)) (in_first j a)
         | inr a ↦ elim (cases_lt j (2 ^ suc h + switches net h)) [
           | inl b ↦ let r : 2 ^ suc h + (j - 2 ^ suc h) ≡ j = omega arith in
-              subst (λ w. Q j w) (sym (upper_place j (j - 2 ^ suc h) (sym r) (omega arith))) (subst (λ i. Q i (bit_place net (other form) h u (j - 2 ^ suc h))) r (in_upper (j - 2 ^ suc h) (omega arith)))
+              subst (λ w. Q j w) (sym (upper_place j (j - 2 ^ suc h) (sym r) (omega arith)))
+              (subst (λ i. Q i (bit_place net (other form) h u (j - 2 ^ suc h))) r (in_upper (j - 2 ^ suc h) (omega arith)))
           | inr b ↦ elim (cases_lt j (2 ^ suc h + 2 * switches net h)) [
             | inl c ↦ let r : 2 ^ suc h + switches net h + (j - (2 ^ suc h + switches net h)) ≡ j = omega arith in
-                subst (λ w. Q j w) (sym (lower_place j (j - (2 ^ suc h + switches net h)) (sym r) (omega arith))) (subst (λ i. Q i (bit_place net (other form) h l (j - (2 ^ suc h + switches net h)))) r (in_lower (j - (2 ^ suc h + switches net h)) (omega arith)))
+                subst (λ w. Q j w) (sym (lower_place j (j - (2 ^ suc h + switches net h)) (sym r) (omega arith)))
+                (subst (λ i. Q i (bit_place net (other form) h l (j - (2 ^ suc h + switches net h)))) r
+                (in_lower (j - (2 ^ suc h + switches net h)) (omega arith)))
             | inr c ↦ let r : 2 ^ suc h + 2 * switches net h + (j - (2 ^ suc h + 2 * switches net h)) ≡ j = omega arith in
-                subst (λ w. Q j w) (sym (last_place j (j - (2 ^ suc h + 2 * switches net h)) (sym r))) (subst (λ i. Q i (switch_wire form g (j - (2 ^ suc h + 2 * switches net h)))) r (in_last (j - (2 ^ suc h + 2 * switches net h)) (omega arith)))
+                subst (λ w. Q j w) (sym (last_place j (j - (2 ^ suc h + 2 * switches net h)) (sym r)))
+                (subst (λ i. Q i (switch_wire form g (j - (2 ^ suc h + 2 * switches net h)))) r
+                (in_last (j - (2 ^ suc h + 2 * switches net h)) (omega arith)))
           ]
         ]
       ]
@@ -245,14 +289,16 @@ module _ (z : List ℕ) (net : Net) (form : Form) (h first u l g : ℕ) (at_u : 
           | inl left ↦
               let none = left_bit net last (i / 2) (omega arith) in
               passes i left
-              ∙ alternating-same up_out (λ j. passed (last_bit net last j) (up_out j) (low_out j)) low_out (λ j. passed (last_bit net last j) (low_out j) (up_out j)) i
+              ∙ alternating-same up_out (λ j. passed (last_bit net last j) (up_out j) (low_out j)) low_out
+              (λ j. passed (last_bit net last j) (low_out j) (up_out j)) i
               (ap (λ b. passed b (up_out (i / 2)) (low_out (i / 2))) (sym none)) (ap (λ b. passed b (low_out (i / 2)) (up_out (i / 2))) (sym none))
           | inr kept ↦
               let is = kept_bit net last (i / 2) (omega arith) in
               let switch = out_column (i / 2) (omega arith) (omega arith) in
               made i kept
               ∙ alternating-same p (λ j. passed (last_bit net last j) (up_out j) (low_out j)) q (λ j. passed (last_bit net last j) (low_out j) (up_out j)) i
-              (switch.first ∙ ap (λ b. passed b (up_out (i / 2)) (low_out (i / 2))) (sym is)) (switch.second ∙ ap (λ b. passed b (low_out (i / 2)) (up_out (i / 2))) (sym is))
+              (switch.first ∙ ap (λ b. passed b (up_out (i / 2)) (low_out (i / 2))) (sym is))
+              (switch.second ∙ ap (λ b. passed b (low_out (i / 2)) (up_out (i / 2))) (sym is))
         ]
 
     at_bit : (a b : ℕ) → a ≡ b → (slice_index z a == 1) ≡ (slice_index z b == 1)
@@ -265,18 +311,25 @@ module _ (z : List ℕ) (net : Net) (form : Form) (h first u l g : ℕ) (at_u : 
         let two = twice (suc h) in
         let n = 2 ^ suc h in
         let s = switches net h in
-        let up_items : (j : ℕ) → j < n → up_in j ≡ to_upper bit v j = λ j k. (in_column j k).first ∙ ap (λ b. passed b (v (2 * j)) (v (2 * j + 1))) (at_bit _ _ (sym (places j k))) in
-        let low_items : (j : ℕ) → j < n → low_in j ≡ to_lower bit v j = λ j k. (in_column j k).second ∙ ap (λ b. passed b (v (2 * j + 1)) (v (2 * j))) (at_bit _ _ (sym (places j k))) in
+        let up_items : (j : ℕ) → j < n → up_in j ≡ to_upper bit v j = λ j k. (in_column j k).first
+        ∙ ap (λ b. passed b (v (2 * j)) (v (2 * j + 1))) (at_bit _ _ (sym (places j k))) in
+        let low_items : (j : ℕ) → j < n → low_in j ≡ to_lower bit v j = λ j k. (in_column j k).second
+        ∙ ap (λ b. passed b (v (2 * j + 1)) (v (2 * j))) (at_bit _ _ (sym (places j k))) in
         let same_upper : (j : ℕ) → j < n → up_out j ≡ through net h (from n bit) (to_upper bit v) j =
-        λ j k. upper.outputs j k ∙ through-same net h (level_bit z net (other form) h u) (from n bit) up_in (to_upper bit v) (λ i b. at_bit _ _ (sym (upper_place (n + i) i refl b))) up_items j k in
+        λ j k. upper.outputs j k ∙ through-same net h (level_bit z net (other form) h u) (from n bit) up_in (to_upper bit v)
+        (λ i b. at_bit _ _ (sym (upper_place (n + i) i refl b))) up_items j k in
         let same_lower : (j : ℕ) → j < n → low_out j ≡ through net h (from (n + s) bit) (to_lower bit v) j =
-        λ j k. lower.outputs j k ∙ through-same net h (level_bit z net (other form) h l) (from (n + s) bit) low_in (to_lower bit v) (λ i b. at_bit _ _ (sym (lower_place (n + s + i) i refl b))) low_items j k in
+        λ j k. lower.outputs j k ∙ through-same net h (level_bit z net (other form) h l) (from (n + s) bit) low_in (to_lower bit v)
+        (λ i b. at_bit _ _ (sym (lower_place (n + s + i) i refl b))) low_items j k in
         record {
-          bits = each_bit (λ _ w. IsBit (slice_index z w)) (λ j k. (in_column j k).bit) upper.bits lower.bits (λ j k. kept j (out_column (j + missing net) (omega arith) (omega arith)).bit);
+          bits = each_bit (λ _ w. IsBit (slice_index z w)) (λ j k. (in_column j k).bit) upper.bits lower.bits
+              (λ j k. kept j (out_column (j + missing net) (omega arith) (omega arith)).bit);
           outputs = λ i k.
               outputs_by i k
-              ∙ joined-same (last_bit net last) (last_bit net (from (n + 2 * s) bit)) up_out (through net h (from n bit) (to_upper bit v)) low_out (through net h (from (n + s) bit) (to_lower bit v)) i
-              (last_bit-same net last (from (n + 2 * s) bit) n (i / 2) (omega arith) (λ j _. at_bit _ _ (sym (last_place (n + 2 * s + j) j refl)))) (same_upper (i / 2) (omega arith)) (same_lower (i / 2) (omega arith));
+              ∙ joined-same (last_bit net last) (last_bit net (from (n + 2 * s) bit)) up_out (through net h (from n bit) (to_upper bit v)) low_out
+              (through net h (from (n + s) bit) (to_lower bit v)) i
+              (last_bit-same net last (from (n + 2 * s) bit) n (i / 2) (omega arith) (λ j _. at_bit _ _ (sym (last_place (n + 2 * s + j) j refl))))
+              (same_upper (i / 2) (omega arith)) (same_lower (i / 2) (omega arith));
         }
       where
         kept : (j : ℕ) → IsBit (slice_index z (switch_wire form g (j + missing net - missing net))) → IsBit (slice_index z (switch_wire form g j))
@@ -286,7 +339,8 @@ module _ (z : List ℕ) (net : Net) (form : Form) (h first u l g : ℕ) (at_u : 
 module _ (z : List ℕ) (net : Net) (form : Form) (h next : ℕ) (items : ItemsOf form) where
   -- a switch of the first column passes the items of the two networks
   pub first_switch : (j : ℕ) → IsSwitchOf z form (item_in form items) next j
-      → IsSwitch z (pair_value z (item_in form items (2 * j))) (pair_value z (item_in form items (2 * j + 1))) (pair_value z (item_in (other form) (to_upper_of form next items) j))
+      → IsSwitch z (pair_value z (item_in form items (2 * j))) (pair_value z (item_in form items (2 * j + 1)))
+      (pair_value z (item_in (other form) (to_upper_of form next items) j))
       (pair_value z (item_in (other form) (to_lower_of form next items) j)) (switch_wire form next j)
   first_switch j switch = record {
     bit = switch.bit;
@@ -295,8 +349,10 @@ module _ (z : List ℕ) (net : Net) (form : Form) (h next : ℕ) (items : ItemsO
   }
 
 -- a switch of a last column, by the outputs of the two networks before it
-pub last_switch : (z : List ℕ) (net : Net) (form : Form) (u l : EndsOf (other form)) (g j : ℕ) → missing net ≤ j → IsSwitchOf z form (last_pair net form u l) g (j - missing net)
-    → IsSwitch z (pair_value z (end_in net (other form) u j)) (pair_value z (end_in net (other form) l j)) (pair_value z (first_of form (switch_wire form g (j - missing net)) (end_in net (other form) u j)))
+pub last_switch : (z : List ℕ) (net : Net) (form : Form) (u l : EndsOf (other form)) (g j : ℕ) → missing net ≤ j
+    → IsSwitchOf z form (last_pair net form u l) g (j - missing net)
+    → IsSwitch z (pair_value z (end_in net (other form) u j)) (pair_value z (end_in net (other form) l j))
+    (pair_value z (first_of form (switch_wire form g (j - missing net)) (end_in net (other form) u j)))
     (pair_value z (second_of form (switch_wire form g (j - missing net)) (end_in net (other form) l j))) (switch_wire form g (j - missing net))
 last_switch z net form u l g j some switch =
     let back : j - missing net + missing net ≡ j = omega arith in
@@ -305,12 +361,15 @@ last_switch z net form u l g j some switch =
     let odd = last_odd (end_in net (other form) u) (end_in net (other form) l) (j - missing net) (missing net) ∙ ap (end_in net (other form) l) back in
     record {
       bit = switch.bit;
-      first = ap (λ x. pair_value z (first_of form at x)) (sym even) ∙ switch.first ∙ ap₂ (λ x y. passed (slice_index z at == 1) (pair_value z x) (pair_value z y)) even odd;
-      second = ap (λ x. pair_value z (second_of form at x)) (sym odd) ∙ switch.second ∙ ap₂ (λ x y. passed (slice_index z at == 1) (pair_value z y) (pair_value z x)) even odd;
+      first = ap (λ x. pair_value z (first_of form at x)) (sym even) ∙ switch.first
+          ∙ ap₂ (λ x y. passed (slice_index z at == 1) (pair_value z x) (pair_value z y)) even odd;
+      second = ap (λ x. pair_value z (second_of form at x)) (sym odd) ∙ switch.second
+          ∙ ap₂ (λ x y. passed (slice_index z at == 1) (pair_value z y) (pair_value z x)) even odd;
     }
 
 -- what a pair chosen by parity is
-pub value_alternating : (z : List ℕ) (a b : ℕ → Pair) (i : ℕ) → pair_value z (alternating a b i) ≡ alternating (λ j. pair_value z (a j)) (λ j. pair_value z (b j)) i
+pub value_alternating : (z : List ℕ) (a b : ℕ → Pair) (i : ℕ)
+    → pair_value z (alternating a b i) ≡ alternating (λ j. pair_value z (a j)) (λ j. pair_value z (b j)) i
 value_alternating z a b i = by (i % 2 == 0)
   where
     by : (c : Bool) → pair_value z (if c then a (i / 2) else b (i / 2)) ≡ (if c then pair_value z (a (i / 2)) else pair_value z (b (i / 2)))
@@ -335,8 +394,10 @@ level_sound z net form next zero items assigns meets =
           let bit_same = ap (λ w. slice_index z w == 1) (ap (λ j. next + j * width f) same ∙ start) in
           ap (pair_value z) (end_two net form next items i k)
           ∙ value_alternating z (λ j. first_of f (switch_wire f next j) (item (2 * j))) (λ j. second_of f (switch_wire f next j) (item (2 * j + 1))) i
-          ∙ alternating-same (λ j. pair_value z (first_of f (switch_wire f next j) (item (2 * j)))) (λ j. passed (level_bit z net form 0 next j) (pair_value z (item (2 * j))) (pair_value z (item (2 * j + 1))))
-          (λ j. pair_value z (second_of f (switch_wire f next j) (item (2 * j + 1)))) (λ j. passed (level_bit z net form 0 next j) (pair_value z (item (2 * j + 1))) (pair_value z (item (2 * j)))) i
+          ∙ alternating-same (λ j. pair_value z (first_of f (switch_wire f next j) (item (2 * j))))
+          (λ j. passed (level_bit z net form 0 next j) (pair_value z (item (2 * j))) (pair_value z (item (2 * j + 1))))
+          (λ j. pair_value z (second_of f (switch_wire f next j) (item (2 * j + 1))))
+          (λ j. passed (level_bit z net form 0 next j) (pair_value z (item (2 * j + 1))) (pair_value z (item (2 * j)))) i
           (switch.first ∙ ap (λ b. passed b (pair_value z (item (2 * (i / 2)))) (pair_value z (item (2 * (i / 2) + 1)))) bit_same)
           (switch.second ∙ ap (λ b. passed b (pair_value z (item (2 * (i / 2) + 1))) (pair_value z (item (2 * (i / 2))))) bit_same);
     }
@@ -354,17 +415,23 @@ level_sound z net form next (suc h) items assigns meets =
     let second = Meets-split z u.list (l.list ++ (d.list ++ [])) first.1 in
     let third = Meets-split z l.list (d.list ++ []) second.1 in
     let fourth = Meets-split z d.list [] third.1 in
-    join_sound z net form h next c.next u.next l.next (column_next form n item next) (level_next net (other form) h (to_upper_of form next items) c.next) (level_next net (other form) h (to_lower_of form next items) u.next)
-    (λ j. pair_value z (item j)) (λ j. pair_value z (item_in (other form) (to_upper_of form next items) j)) (λ j. pair_value z (item_in (other form) (to_lower_of form next items) j))
+    join_sound z net form h next c.next u.next l.next (column_next form n item next) (level_next net (other form) h (to_upper_of form next items) c.next)
+    (level_next net (other form) h (to_lower_of form next items) u.next)
+    (λ j. pair_value z (item j)) (λ j. pair_value z (item_in (other form) (to_upper_of form next items) j))
+    (λ j. pair_value z (item_in (other form) (to_lower_of form next items) j))
     (λ j. pair_value z (up_out j)) (λ j. pair_value z (low_out j))
-    (λ j. pair_value z (first_of form (switch_wire form l.next (j - missing net)) (up_out j))) (λ j. pair_value z (second_of form (switch_wire form l.next (j - missing net)) (low_out j)))
+    (λ j. pair_value z (first_of form (switch_wire form l.next (j - missing net)) (up_out j)))
+    (λ j. pair_value z (second_of form (switch_wire form l.next (j - missing net)) (low_out j)))
     (λ i. pair_value z (end_in net form (last_ends net form l.next u.answer l.answer) i))
     (λ j k. first_switch z net form h next items j (column_sound z form n item next assigns first.0 j k))
-    (level_sound z net (other form) c.next h (to_upper_of form next items) assigns second.0) (level_sound z net (other form) u.next h (to_lower_of form next items) assigns third.0)
-    (λ j some k. last_switch z net form u.answer l.answer l.next j some (column_sound z form (n - missing net) last l.next assigns fourth.0 (j - missing net) (omega arith)))
+    (level_sound z net (other form) c.next h (to_upper_of form next items) assigns second.0)
+    (level_sound z net (other form) u.next h (to_lower_of form next items) assigns third.0)
+    (λ j some k. last_switch z net form u.answer l.answer l.next j some
+    (column_sound z form (n - missing net) last l.next assigns fourth.0 (j - missing net) (omega arith)))
     (λ i k. ap (pair_value z) (end_passes net form l.next u.answer l.answer i k) ∙ value_alternating z up_out low_out i)
     (λ i k. ap (pair_value z) (end_made net form l.next u.answer l.answer i k)
-    ∙ value_alternating z (λ j. first_of form (switch_wire form l.next (j - missing net)) (up_out j)) (λ j. second_of form (switch_wire form l.next (j - missing net)) (low_out j)) i)
+    ∙ value_alternating z (λ j. first_of form (switch_wire form l.next (j - missing net)) (up_out j))
+    (λ j. second_of form (switch_wire form l.next (j - missing net)) (low_out j)) i)
 
 pub network_sound : NetworkIsSound
 network_sound z net next h item assigns meets =

@@ -1,10 +1,13 @@
 -- What goes through a network comes out in another order.
-use Rattle.std.proofs.Common.{◌≡◌, ℕ, zero, suc, ◌+◌, ◌*◌, ◌/◌, ◌%◌, ◌^◌, ◌<◌, ◌==◌, Bool, true, false, if◌then◌else◌, List, [], ◌∷◌, ◌++◌, length, get_or, map, IsPermutation, refl, sym, subst, ◌∙◌, ap, ap₂, arith, append_assoc, add-one, zero-add}
+use Rattle.std.proofs.Common.{◌≡◌, ℕ, zero, suc, ◌+◌, ◌*◌, ◌/◌, ◌%◌, ◌^◌, ◌<◌, ◌==◌, Bool, true, false, if◌then◌else◌, List, [], ◌∷◌, ◌++◌, length, get_or}
+use Rattle.std.proofs.Common.{map, IsPermutation, refl, sym, subst, ◌∙◌, ap, ap₂, arith, append_assoc, add-one, zero-add}
 use Rattle.std.specs.List.{range_with_len}
 use Rattle.std.proofs.lemmas.List.FromFn.{length-map-range_with_len, get_or-map-range_with_len, map-range_with_len_more}
-use Rattle.std.proofs.lemmas.List.Sorted.{IsPermutation-refl, IsPermutation-sym, IsPermutation-trans, IsPermutation-middle, IsPermutation-swap, IsPermutation-append}
+use Rattle.std.proofs.lemmas.List.Sorted.{IsPermutation-refl, IsPermutation-sym, IsPermutation-trans, IsPermutation-middle, IsPermutation-swap}
+use Rattle.std.proofs.lemmas.List.Sorted.{IsPermutation-append}
 use Rattle.tv_benes.proofs.ThroughLaws.{twice}
-use Rattle.tv_benes.specs.Through.{switches, from, passed, to_upper, to_lower, alternating, joined, last_bit, through, places, NumbersArePermuted, PairsArePermuted}
+use Rattle.tv_benes.specs.Through.{switches, from, passed, to_upper, to_lower, alternating, joined, last_bit, through, places, NumbersArePermuted}
+use Rattle.tv_benes.specs.Through.{PairsArePermuted}
 use Rattle.tv_benes.specs.declared.shape.Net.{Net}
 
 module _ {X : Type 0} where
@@ -69,7 +72,8 @@ module _ {X : Type 0} where
       let moved : IsPermutation (places (2 * n) item ++ a ∷ b ∷ []) ((us ++ ls) ++ to_upper bit item n ∷ to_lower bit item n ∷ []) =
       IsPermutation-append _ _ _ _ (column_in n bit item) (crossed (bit n) a b) in
       subst (λ xs. IsPermutation xs (places (suc n) (to_upper bit item) ++ places (suc n) (to_lower bit item))) (sym (places-two n item))
-      (subst (λ xs. IsPermutation (places (2 * n) item ++ a ∷ b ∷ []) xs) (ap₂ (λ xs ys. xs ++ ys) (sym (places-suc n (to_upper bit item))) (sym (places-suc n (to_lower bit item))))
+      (subst (λ xs. IsPermutation (places (2 * n) item ++ a ∷ b ∷ []) xs)
+      (ap₂ (λ xs ys. xs ++ ys) (sym (places-suc n (to_upper bit item))) (sym (places-suc n (to_lower bit item))))
       (IsPermutation-trans _ _ _ moved (IsPermutation-sym _ _ (apart us ls (to_upper bit item n) (to_lower bit item n)))))
 
   column_out : (n : ℕ) (bit : ℕ → Bool) (u l : ℕ → X) → IsPermutation (places n u ++ places n l) (places (2 * n) (joined bit u l))
@@ -83,12 +87,14 @@ module _ {X : Type 0} where
       let moved : IsPermutation ((us ++ ls) ++ u n ∷ l n ∷ []) (places (2 * n) (joined bit u l) ++ one n ∷ two n ∷ []) =
       IsPermutation-append _ _ _ _ (column_out n bit u l) (crossed (bit n) (u n) (l n)) in
       let ends : places (2 * n) (joined bit u l) ++ one n ∷ two n ∷ [] ≡ places (2 * suc n) (joined bit u l) =
-      ap₂ (λ x y. places (2 * n) (joined bit u l) ++ x ∷ y ∷ []) (sym (alternating-even one two n)) (sym (alternating-odd one two n)) ∙ sym (places-two n (joined bit u l)) in
+      ap₂ (λ x y. places (2 * n) (joined bit u l) ++ x ∷ y ∷ []) (sym (alternating-even one two n)) (sym (alternating-odd one two n))
+      ∙ sym (places-two n (joined bit u l)) in
       subst (λ xs. IsPermutation xs (places (2 * suc n) (joined bit u l))) (ap₂ (λ xs ys. xs ++ ys) (sym (places-suc n u)) (sym (places-suc n l)))
       (subst (λ xs. IsPermutation ((us ++ u n ∷ []) ++ (ls ++ l n ∷ [])) xs) ends
       (IsPermutation-trans _ _ _ (apart us ls (u n) (l n)) moved))
 
-  pub through_permutes : (net : Net) (h : ℕ) (bit : ℕ → Bool) (item : ℕ → X) → IsPermutation (places (2 ^ suc h) item) (places (2 ^ suc h) (through net h bit item))
+  pub through_permutes : (net : Net) (h : ℕ) (bit : ℕ → Bool) (item : ℕ → X)
+      → IsPermutation (places (2 ^ suc h) item) (places (2 ^ suc h) (through net h bit item))
   unfolding through places
   through_permutes net zero bit item = crossed (bit 0) (item 0) (item 1)
   through_permutes net (suc h) bit item =

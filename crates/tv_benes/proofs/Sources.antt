@@ -31,9 +31,11 @@ module _ {X : Type 0} where
       let x = u (i / 2) in
       let y = l (i / 2) in
       elim (cases_eq (i % 2) 0) [
-        | inl e ↦ ap (λ (c : Bool). if c then passed b x y else passed b y x) (even_is i e).0 ∙ straight_even b x y ∙ ap (λ (c : Bool). if not (beq b c) then y else x) (sym (even_is i e).1)
+        | inl e ↦ ap (λ (c : Bool). if c then passed b x y else passed b y x) (even_is i e).0 ∙ straight_even b x y
+            ∙ ap (λ (c : Bool). if not (beq b c) then y else x) (sym (even_is i e).1)
         | inr e ↦ let odd : i % 2 ≡ 1 = omega arith in
-            ap (λ (c : Bool). if c then passed b x y else passed b y x) (odd_is i odd).0 ∙ straight_odd b x y ∙ ap (λ (c : Bool). if not (beq b c) then y else x) (sym (odd_is i odd).1)
+            ap (λ (c : Bool). if c then passed b x y else passed b y x) (odd_is i odd).0 ∙ straight_odd b x y
+            ∙ ap (λ (c : Bool). if not (beq b c) then y else x) (sym (odd_is i odd).1)
       ]
 
 -- which item of the whole is item t of a half
@@ -59,23 +61,29 @@ source_zero net bit i = joined_is bit (λ j. 2 * j) (λ j. 2 * j + 1) i ∙ by (
     by false = omega arith
 
 -- and above it
-pub source_suc : (net : Net) (h : ℕ) (bit : ℕ → Bool) (i t : ℕ) (lower : Bool) → lower ≡ not (beq (last_bit net (from (2 ^ suc h + 2 * switches net h) bit) (i / 2)) (i % 2 == 1))
+pub source_suc : (net : Net) (h : ℕ) (bit : ℕ → Bool) (i t : ℕ) (lower : Bool)
+    → lower ≡ not (beq (last_bit net (from (2 ^ suc h + 2 * switches net h) bit) (i / 2)) (i % 2 == 1))
     → t ≡ through net h (from (2 ^ suc h + (if lower then switches net h else 0)) bit) (λ j. j) (i / 2)
     → through net (suc h) bit (λ j. j) i ≡ half_item lower bit (λ j. j) t
 unfolding through
 source_suc net h bit i t true which is =
     let n = 2 ^ suc h in
     let s = switches net h in
-    joined_is (last_bit net (from (n + 2 * s) bit)) (through net h (from n bit) (to_upper bit (λ j. j))) (through net h (from (n + s) bit) (to_lower bit (λ j. j))) i
-    ∙ ap (λ (c : Bool). if c then through net h (from (n + s) bit) (to_lower bit (λ j. j)) (i / 2) else through net h (from n bit) (to_upper bit (λ j. j)) (i / 2)) (sym which)
+    joined_is (last_bit net (from (n + 2 * s) bit)) (through net h (from n bit) (to_upper bit (λ j. j)))
+    (through net h (from (n + s) bit) (to_lower bit (λ j. j))) i
+    ∙ ap (λ (c : Bool). if c then through net h (from (n + s) bit) (to_lower bit (λ j. j)) (i / 2) else through net h (from n bit) (to_upper bit (λ j. j))
+    (i / 2)) (sym which)
     ∙ through_places net h (from (n + s) bit) (to_lower bit (λ j. j)) (i / 2) ∙ ap (to_lower bit (λ j. j)) (sym is)
 source_suc net h bit i t false which is =
     let n = 2 ^ suc h in
     let s = switches net h in
     let plain : n + 0 ≡ n = omega arith in
-    joined_is (last_bit net (from (n + 2 * s) bit)) (through net h (from n bit) (to_upper bit (λ j. j))) (through net h (from (n + s) bit) (to_lower bit (λ j. j))) i
-    ∙ ap (λ (c : Bool). if c then through net h (from (n + s) bit) (to_lower bit (λ j. j)) (i / 2) else through net h (from n bit) (to_upper bit (λ j. j)) (i / 2)) (sym which)
-    ∙ through_places net h (from n bit) (to_upper bit (λ j. j)) (i / 2) ∙ ap (to_upper bit (λ j. j)) (sym (is ∙ ap (λ k. through net h (from k bit) (λ j. j) (i / 2)) plain))
+    joined_is (last_bit net (from (n + 2 * s) bit)) (through net h (from n bit) (to_upper bit (λ j. j)))
+    (through net h (from (n + s) bit) (to_lower bit (λ j. j))) i
+    ∙ ap (λ (c : Bool). if c then through net h (from (n + s) bit) (to_lower bit (λ j. j)) (i / 2) else through net h (from n bit) (to_upper bit (λ j. j))
+    (i / 2)) (sym which)
+    ∙ through_places net h (from n bit) (to_upper bit (λ j. j)) (i / 2)
+    ∙ ap (to_upper bit (λ j. j)) (sym (is ∙ ap (λ k. through net h (from k bit) (λ j. j) (i / 2)) plain))
 
 pub if_le : (b : Bool) (n : ℕ) → (if b then n else 0) ≤ n
 if_le true n = omega arith
@@ -88,12 +96,14 @@ module _ {X : Type 0} (net : Net) (h at n : ℕ) (b : ℕ → Bool) (item : ℕ 
 
   pub upper_item : n ≡ at + 2 ^ suc h → s ≡ through net h (from n b) (λ j. j) j
       → to_upper (from at b) item s ≡ through net h (from (2 ^ suc h) (from at b)) (to_upper (from at b) item) j
-  upper_item e is = ap (to_upper (from at b) item) (moved (2 ^ suc h) e is) ∙ sym (through_places net h (from (2 ^ suc h) (from at b)) (to_upper (from at b) item) j)
+  upper_item e is = ap (to_upper (from at b) item) (moved (2 ^ suc h) e is)
+      ∙ sym (through_places net h (from (2 ^ suc h) (from at b)) (to_upper (from at b) item) j)
 
   pub lower_item : n ≡ at + (2 ^ suc h + switches net h) → s ≡ through net h (from n b) (λ j. j) j
       → to_lower (from at b) item s ≡ through net h (from (2 ^ suc h + switches net h) (from at b)) (to_lower (from at b) item) j
   lower_item e is =
-      ap (to_lower (from at b) item) (moved (2 ^ suc h + switches net h) e is) ∙ sym (through_places net h (from (2 ^ suc h + switches net h) (from at b)) (to_lower (from at b) item) j)
+      ap (to_lower (from at b) item) (moved (2 ^ suc h + switches net h) e is)
+      ∙ sym (through_places net h (from (2 ^ suc h + switches net h) (from at b)) (to_lower (from at b) item) j)
 
 -- the items of a last column, by the networks before it
 pub last_even : {X : Type 0} (u l : ℕ → X) (j m : ℕ) → alternating u l (2 * j + 2 * m) ≡ u (j + m)

@@ -29,9 +29,11 @@ one_switch Waksman = refl
 one_switch Benes = refl
 
 -- bits that are the same give the same bits of a last column
-pub last_bit-same : (net : Net) (bit bit' : ℕ → Bool) (n j : ℕ) → j < n → ((i : ℕ) → i + missing net < n → bit i ≡ bit' i) → last_bit net bit j ≡ last_bit net bit' j
+pub last_bit-same : (net : Net) (bit bit' : ℕ → Bool) (n j : ℕ) → j < n → ((i : ℕ) → i + missing net < n → bit i ≡ bit' i)
+    → last_bit net bit j ≡ last_bit net bit' j
 last_bit-same Waksman bit bit' n zero h same = refl
-last_bit-same Waksman bit bit' n (suc j) h same = let place : suc j - 1 ≡ j = omega arith in ap (λ x. if suc j == 0 then false else x) (ap bit place ∙ same j (omega arith) ∙ ap bit' (sym place))
+last_bit-same Waksman bit bit' n (suc j) h same = let place : suc j - 1 ≡ j = omega arith in
+    ap (λ x. if suc j == 0 then false else x) (ap bit place ∙ same j (omega arith) ∙ ap bit' (sym place))
 last_bit-same Benes bit bit' n j h same = same j (omega arith)
 
 -- the bit of a switch of a last column that there is, and of one that it lacks
@@ -54,11 +56,13 @@ module _ {X : Type 0} where
   pub joined-same : (bit bit' : ℕ → Bool) (u u' l l' : ℕ → X) (i : ℕ) → bit (i / 2) ≡ bit' (i / 2) → u (i / 2) ≡ u' (i / 2) → l (i / 2) ≡ l' (i / 2)
       → joined bit u l i ≡ joined bit' u' l' i
   joined-same bit bit' u u' l l' i p q r =
-      alternating-same (λ j. passed (bit j) (u j) (l j)) (λ j. passed (bit' j) (u' j) (l' j)) (λ j. passed (bit j) (l j) (u j)) (λ j. passed (bit' j) (l' j) (u' j)) i
+      alternating-same (λ j. passed (bit j) (u j) (l j)) (λ j. passed (bit' j) (u' j) (l' j)) (λ j. passed (bit j) (l j) (u j))
+      (λ j. passed (bit' j) (l' j) (u' j)) i
       (passed-same _ _ _ _ _ _ p q r) (passed-same _ _ _ _ _ _ p r q)
 
   -- what is the same at the bits and the items there are goes through the same
-  pub through-same : (net : Net) (h : ℕ) (bit bit' : ℕ → Bool) (item item' : ℕ → X) → ((j : ℕ) → j < switches net h → bit j ≡ bit' j) → ((j : ℕ) → j < 2 ^ suc h → item j ≡ item' j)
+  pub through-same : (net : Net) (h : ℕ) (bit bit' : ℕ → Bool) (item item' : ℕ → X) → ((j : ℕ) → j < switches net h → bit j ≡ bit' j)
+      → ((j : ℕ) → j < 2 ^ suc h → item j ≡ item' j)
       → (i : ℕ) → i < 2 ^ suc h → through net h bit item i ≡ through net h bit' item' i
   unfolding through
   through-same net zero bit bit' item item' bits items i within =
@@ -70,13 +74,17 @@ module _ {X : Type 0} where
       let size = switches-suc net h in
       let one = missing_small net in
       let two = twice (suc h) in
-      let up : (j : ℕ) → j < n → to_upper bit item j ≡ to_upper bit' item' j = λ j k. passed-same _ _ _ _ _ _ (bits j (omega arith)) (items (2 * j) (omega arith)) (items (2 * j + 1) (omega arith)) in
-      let down : (j : ℕ) → j < n → to_lower bit item j ≡ to_lower bit' item' j = λ j k. passed-same _ _ _ _ _ _ (bits j (omega arith)) (items (2 * j + 1) (omega arith)) (items (2 * j) (omega arith)) in
-      joined-same (last_bit net (from (n + 2 * s) bit)) (last_bit net (from (n + 2 * s) bit')) (through net h (from n bit) (to_upper bit item)) (through net h (from n bit') (to_upper bit' item'))
+      let up : (j : ℕ) → j < n → to_upper bit item j
+      ≡ to_upper bit' item' j = λ j k. passed-same _ _ _ _ _ _ (bits j (omega arith)) (items (2 * j) (omega arith)) (items (2 * j + 1) (omega arith)) in
+      let down : (j : ℕ) → j < n → to_lower bit item j
+      ≡ to_lower bit' item' j = λ j k. passed-same _ _ _ _ _ _ (bits j (omega arith)) (items (2 * j + 1) (omega arith)) (items (2 * j) (omega arith)) in
+      joined-same (last_bit net (from (n + 2 * s) bit)) (last_bit net (from (n + 2 * s) bit')) (through net h (from n bit) (to_upper bit item))
+      (through net h (from n bit') (to_upper bit' item'))
       (through net h (from (n + s) bit) (to_lower bit item)) (through net h (from (n + s) bit') (to_lower bit' item')) i
       (last_bit-same net (from (n + 2 * s) bit) (from (n + 2 * s) bit') n (i / 2) (omega arith) (λ j k. bits (n + 2 * s + j) (omega arith)))
       (through-same net h (from n bit) (from n bit') (to_upper bit item) (to_upper bit' item') (λ j k. bits (n + j) (omega arith)) up (i / 2) (omega arith))
-      (through-same net h (from (n + s) bit) (from (n + s) bit') (to_lower bit item) (to_lower bit' item') (λ j k. bits (n + s + j) (omega arith)) down (i / 2) (omega arith))
+      (through-same net h (from (n + s) bit) (from (n + s) bit') (to_lower bit item) (to_lower bit' item') (λ j k. bits (n + s + j) (omega arith)) down (i / 2)
+      (omega arith))
 
 -- what is made of each item can be made of each output
 module _ {X Y : Type 0} (f : X → Y) where
@@ -101,11 +109,13 @@ module _ {X Y : Type 0} (f : X → Y) where
       let s = switches net h in
       let u : ◌≡◌ {A = ℕ → Y} (to_upper bit (λ j. f (item j))) (λ j. f (to_upper bit item j)) = λ t j. passed_map (bit j) (item (2 * j)) (item (2 * j + 1)) t in
       let l : ◌≡◌ {A = ℕ → Y} (to_lower bit (λ j. f (item j))) (λ j. f (to_lower bit item j)) = λ t j. passed_map (bit j) (item (2 * j + 1)) (item (2 * j)) t in
-      joined-same (last_bit net (from (n + 2 * s) bit)) (last_bit net (from (n + 2 * s) bit)) (through net h (from n bit) (to_upper bit (λ j. f (item j)))) (λ j. f (through net h (from n bit) (to_upper bit item) j))
+      joined-same (last_bit net (from (n + 2 * s) bit)) (last_bit net (from (n + 2 * s) bit)) (through net h (from n bit) (to_upper bit (λ j. f (item j))))
+      (λ j. f (through net h (from n bit) (to_upper bit item) j))
       (through net h (from (n + s) bit) (to_lower bit (λ j. f (item j)))) (λ j. f (through net h (from (n + s) bit) (to_lower bit item) j)) i refl
       (ap (λ it. through net h (from n bit) it (i / 2)) u ∙ through_map net h (from n bit) (to_upper bit item) (i / 2))
       (ap (λ it. through net h (from (n + s) bit) it (i / 2)) l ∙ through_map net h (from (n + s) bit) (to_lower bit item) (i / 2))
-      ∙ joined_map (last_bit net (from (n + 2 * s) bit)) (through net h (from n bit) (to_upper bit item)) (through net h (from (n + s) bit) (to_lower bit item)) i
+      ∙ joined_map (last_bit net (from (n + 2 * s) bit)) (through net h (from n bit) (to_upper bit item))
+      (through net h (from (n + s) bit) (to_lower bit item)) i
 
 -- which item comes out where does not depend on the items
 pub through_places : {X : Type 0} (net : Net) (h : ℕ) (bit : ℕ → Bool) (item : ℕ → X) (i : ℕ) → through net h bit item i ≡ item (through net h bit (λ j. j) i)
@@ -123,7 +133,8 @@ pub record IsAbove (net : Net) (h k : ℕ) : Type 0 where
 
 pub above : (net : Net) (h : ℕ) → (h ≡ 0 → ⊥) → IsAbove net h (h - 1)
 above net zero some = absurd (some refl)
-above net (suc k) some = let same : suc k - 1 ≡ k = omega arith in rw same (record { level = refl; size = twice k; some = pow_pos k; count = switches-suc net k })
+above net (suc k) some = let same : suc k - 1 ≡ k = omega arith in
+    rw same (record { level = refl; size = twice k; some = pow_pos k; count = switches-suc net k })
 
 -- a first column has no more switches than the network
 pub column_fits : (net : Net) (h : ℕ) → 2 ^ h ≤ switches net h
@@ -144,7 +155,8 @@ module _ {X : Type 0} (Q : X → Type 0) where
   alternating_keeps a b i p q = if_keeps (i % 2 == 0) (a (i / 2)) (b (i / 2)) p q
 
   joined_keeps : (bit : ℕ → Bool) (u l : ℕ → X) (i : ℕ) → Q (u (i / 2)) → Q (l (i / 2)) → Q (joined bit u l i)
-  joined_keeps bit u l i p q = alternating_keeps (λ j. passed (bit j) (u j) (l j)) (λ j. passed (bit j) (l j) (u j)) i (passed_keeps _ _ _ p q) (passed_keeps _ _ _ q p)
+  joined_keeps bit u l i p q = alternating_keeps (λ j. passed (bit j) (u j) (l j)) (λ j. passed (bit j) (l j) (u j)) i (passed_keeps _ _ _ p q)
+      (passed_keeps _ _ _ q p)
 
   pub upper_keeps : (n : ℕ) (bit : ℕ → Bool) (item : ℕ → X) → ((j : ℕ) → j < 2 * n → Q (item j)) → (j : ℕ) → j < n → Q (to_upper bit item j)
   upper_keeps n bit item each j k = passed_keeps _ _ _ (each (2 * j) (omega arith)) (each (2 * j + 1) (omega arith))
@@ -152,14 +164,17 @@ module _ {X : Type 0} (Q : X → Type 0) where
   pub lower_keeps : (n : ℕ) (bit : ℕ → Bool) (item : ℕ → X) → ((j : ℕ) → j < 2 * n → Q (item j)) → (j : ℕ) → j < n → Q (to_lower bit item j)
   lower_keeps n bit item each j k = passed_keeps _ _ _ (each (2 * j + 1) (omega arith)) (each (2 * j) (omega arith))
 
-  pub through_keeps : (net : Net) (h : ℕ) (bit : ℕ → Bool) (item : ℕ → X) → ((j : ℕ) → j < 2 ^ suc h → Q (item j)) → (i : ℕ) → i < 2 ^ suc h → Q (through net h bit item i)
+  pub through_keeps : (net : Net) (h : ℕ) (bit : ℕ → Bool) (item : ℕ → X) → ((j : ℕ) → j < 2 ^ suc h → Q (item j)) → (i : ℕ) → i < 2 ^ suc h
+      → Q (through net h bit item i)
   unfolding through
-  through_keeps net zero bit item each i within = joined_keeps bit (λ j. item (2 * j)) (λ j. item (2 * j + 1)) i (each (2 * (i / 2)) (omega arith)) (each (2 * (i / 2) + 1) (omega arith))
+  through_keeps net zero bit item each i within = joined_keeps bit (λ j. item (2 * j)) (λ j. item (2 * j + 1)) i (each (2 * (i / 2)) (omega arith))
+      (each (2 * (i / 2) + 1) (omega arith))
   through_keeps net (suc h) bit item each i within =
       let n = 2 ^ suc h in
       let s = switches net h in
       let two = twice (suc h) in
       let each' : (j : ℕ) → j < 2 * n → Q (item j) = λ j k. each j (omega arith) in
-      joined_keeps (last_bit net (from (n + 2 * s) bit)) (through net h (from n bit) (to_upper bit item)) (through net h (from (n + s) bit) (to_lower bit item)) i
+      joined_keeps (last_bit net (from (n + 2 * s) bit)) (through net h (from n bit) (to_upper bit item))
+      (through net h (from (n + s) bit) (to_lower bit item)) i
       (through_keeps net h (from n bit) (to_upper bit item) (upper_keeps n bit item each') (i / 2) (omega arith))
       (through_keeps net h (from (n + s) bit) (to_lower bit item) (lower_keeps n bit item each') (i / 2) (omega arith))

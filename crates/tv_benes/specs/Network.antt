@@ -1,7 +1,7 @@
 -- A permutation network as constraints.
 use Rattle.std.specs.Prelude.{◌≡◌, ℕ, zero, suc, ◌+◌, ◌-◌, ◌*◌, ◌%◌, ◌^◌, ◌<◌, ◌==◌, Bool, if◌then◌else◌, List, [], ◌∷◌, ◌++◌, slice_index}
 use Rattle.tv_benes.specs.Levels.{other, innermost, network_wires}
-use Rattle.tv_benes.specs.Places.{bit_place, ItemsOf, item_in, to_upper_of, to_lower_of, EndsOf, output, two_ends, last_ends, last_pair, AreBelow}
+use Rattle.tv_benes.specs.Places.{bit_place, ItemsOf, item_in, to_upper_of, to_lower_of, EndsOf, output, two_ends, last_ends, last_pair, IsNormalPair, AreBelow}
 use Rattle.tv_benes.specs.Through.{switches, missing, from, passed, to_upper, to_lower, through, last_item}
 use Rattle.tv_benes.specs.declared.places.Outputs.{Outputs}
 use Rattle.tv_benes.specs.declared.shape.Form.{Form}
@@ -9,12 +9,13 @@ use Rattle.tv_benes.specs.declared.shape.Form.TheVariants.{Bound, Open}
 use Rattle.tv_benes.specs.declared.shape.Net.{Net}
 use Rattle.tv_bits.specs.Bit.{IsBit, bit_of}
 use Rattle.tv_bits.specs.Select.{select_of}
-use Rattle.tv_core.specs.Circuits.{Circuit, here, fresh, pure, ◌>>=◌}
-use Rattle.tv_core.specs.Combinations.{less}
+use Rattle.tv_core.specs.Circuits.{Circuit, here, fresh, put, pure, ◌>>=◌}
+use Rattle.tv_core.specs.Combinations.{wire, constant, less}
 use Rattle.tv_core.specs.Constraints.{Combination}
 use Rattle.tv_core.specs.Laws.{Assigns, Meets, HasFrom, Fills, InField}
 use Rattle.tv_core.specs.Lines.{pair_value}
 use Rattle.tv_core.specs.Loops.{times}
+use Rattle.tv_core.specs.Normal.{normal, AreNormal}
 use Rattle.tv_core.specs.declared.field.TheConstants.{P}
 use Rattle.tv_core.specs.declared.lines.Pair.{Pair}
 use Rattle.tv_core.specs.declared.lines.PairNum.{PairNum}
@@ -23,15 +24,23 @@ use Rattle.tv_core.specs.declared.lines.PairNum.{PairNum}
 abbrev pub product_of : ℕ → Combination → Combination → Circuit ℕ
 product_of b x y = select_of b (less x y) []
 
--- a switch: a bit, and four numbers that it chooses, or its products with the two differences of the items
+-- a new wire that is with the wire p the sum of x and y. These may share wires, so their sum is made normal
+unfoldable pub remainder_of : Combination → Combination → ℕ → Circuit ℕ
+remainder_of x y p = do
+  q ← fresh
+  _ ← put (normal (x ++ y)) (constant 1) (wire p ++ wire q)
+  pure q
+
+-- a switch: a bit, two numbers that it chooses, and the two others, by the sums of both; or its products with the two
+-- differences of the items
 unfoldable pub switch_of : Form → Pair → Pair → Circuit (Unit {0})
 switch_of Bound x y = do
   b ← fresh
   _ ← bit_of b
-  _ ← select_of b y.first x.first
-  _ ← select_of b y.second x.second
-  _ ← select_of b x.first y.first
-  _ ← select_of b x.second y.second
+  p ← select_of b y.first x.first
+  p' ← select_of b y.second x.second
+  _ ← remainder_of x.first y.first p
+  _ ← remainder_of x.second y.second p'
   pure tt
 switch_of Open x y = do
   s ← fresh
@@ -129,16 +138,24 @@ abbrev pub NetworkIsSound : Type 0
 NetworkIsSound = (z : List ℕ) (net : Net) (next h : ℕ) (item : ℕ → Pair) → Assigns z → Meets z (network_of net h item next).list
     → IsNetwork z net h next item (network_of net h item next).answer
 
+-- numbers that are the values of a network's items
+abbrev pub AreValues : List ℕ → ℕ → (ℕ → Pair) → (ℕ → PairNum) → Type 0
+AreValues z h item v = (j : ℕ) → j < 2 ^ suc h → pair_value z (item j) ≡ v j
+
 -- what an assignment that has the values for some bits has: it meets what was put, it has these bits at the
--- switches, in order, and at the outputs what goes through by these bits
-pub record IsFilled (z : List ℕ) (net : Net) (h first : ℕ) (item : ℕ → Pair) (bit : ℕ → Bool) : Type 0 where
+-- switches, in order, and at the outputs what goes through by these bits of the numbers v
+pub record IsFilled (z : List ℕ) (net : Net) (h first : ℕ) (item : ℕ → Pair) (bit : ℕ → Bool) (v : ℕ → PairNum) : Type 0 where
   pub meets : Meets z (network_of net h item first).list
   pub bits : (j : ℕ) → j < switches net h → slice_index z (bit_place net Bound h first j) ≡ bit_number (bit j)
-  pub outputs : (i : ℕ) → i < 2 ^ suc h → pair_value z (output (network_of net h item first).answer i) ≡ through net h bit (λ j. pair_value z (item j)) i
+  pub outputs : (i : ℕ) → i < 2 ^ suc h → pair_value z (output (network_of net h item first).answer i) ≡ through net h bit v i
 
 abbrev pub NetworkIsComplete : Type 0
-NetworkIsComplete = (z : List ℕ) (net : Net) (next h : ℕ) (item : ℕ → Pair) (bit : ℕ → Bool) → Assigns z
-    → HasFrom z next (network_values net h bit (λ j. pair_value z (item j))) → IsFilled z net h next item bit
+NetworkIsComplete = (z : List ℕ) (net : Net) (next h : ℕ) (item : ℕ → Pair) (bit : ℕ → Bool) (v : ℕ → PairNum) → Assigns z
+    → AreValues z h item v → HasFrom z next (network_values net h bit v) → IsFilled z net h next item bit v
+
+-- over normal items of wires before the first, every combination that is put is normal
+abbrev pub NetworkIsNormal : Type 0
+NetworkIsNormal = (net : Net) (h next : ℕ) (item : ℕ → Pair) → ((i : ℕ) → i < 2 ^ suc h → IsNormalPair (item i) next) → AreNormal (network_of net h item next).list
 
 -- the sizes of a network: it makes three wires a switch and two more a bound
 -- one, of which its values are one each; its outputs are among them;

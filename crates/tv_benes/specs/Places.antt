@@ -9,6 +9,7 @@ use Rattle.tv_benes.specs.declared.shape.Form.TheVariants.{Bound, Open}
 use Rattle.tv_benes.specs.declared.shape.Net.{Net}
 use Rattle.tv_benes.specs.declared.shape.Net.TheVariants.{Benes, Waksman}
 use Rattle.tv_core.specs.Combinations.{top, wire, less}
+use Rattle.tv_core.specs.Normal.{IsNormal}
 use Rattle.tv_core.specs.declared.lines.Pair.{Pair}
 
 -- two wires that follow each other
@@ -136,6 +137,13 @@ pub record AreMade (pair : ℕ → Pair) (count wires : ℕ) : Type 0 where
   pub second : (i : ℕ) → i < count → top (pair i).second ≤ wires
   pub first_short : (i : ℕ) → i < count → length (pair i).first ≤ 64
   pub second_short : (i : ℕ) → i < count → length (pair i).second ≤ 64
+
+-- a pair of normal combinations over wires below `wires`
+pub record IsNormalPair (pair : Pair) (wires : ℕ) : Type 0 where
+  pub first : IsNormal pair.first
+  pub second : IsNormal pair.second
+  pub first_below : top pair.first ≤ wires
+  pub second_below : top pair.second ≤ wires
 
 -- the outputs below count are wires below `wires`
 abbrev pub AreBelow : Outputs → ℕ → ℕ → Type 0

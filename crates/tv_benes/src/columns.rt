@@ -1,7 +1,7 @@
 ghost use Rattle.std.specs.Prelude.{◌≡◌, ℕ, ◌+◌, ◌*◌, ◌<◌, ◌≤◌, length, IfOk};
 ghost use Rattle.tv_core.specs.Combinations.{top};
 ghost use Rattle.tv_core.specs.Sinks.{PutsIn, Grows, Room};
-ghost use Rattle.tv_benes.specs.Network.{switch_of, column_of};
+ghost use Rattle.tv_benes.specs.Network.{remainder_of, switch_of, column_of};
 ghost use Rattle.tv_benes.specs.Places.{wires_at, AreMade};
 ghost use Rattle.tv_benes.specs.declared.shape.Form.TheVariants.{Bound, Open};
 
@@ -10,8 +10,37 @@ use crate::places::{Pairs, Places};
 use tv_bits::{bit_by, select_terms};
 use tv_core::{F, Lc, Pair, Put, Scratch, Sink, Wire};
 
+// A wire that is with the wire `p` the sum of `x` and `y`. It makes 1 wire and 1 constraint, of 3
+// terms and those of the sum.
+fn remainder<S: Sink>(
+    s: &mut S,
+    scratch: &mut Scratch,
+    x: &[(F, Wire)],
+    y: &[(F, Wire)],
+    p: Wire,
+) -> Put<Wire>
+    requires room { Room S.meaning s.old 1 1 }
+    requires p_made { p < S.meaning.wires s.old }
+    requires x_made { top x.now ≤ S.meaning.wires s.old }
+    requires y_made { top y.now ≤ S.meaning.wires s.old }
+    requires x_short { length x.now ≤ 64 }
+    requires y_short { length y.now ≤ 64 }
+    ensures puts { PutsIn S.meaning s.old s.new (remainder_of x.now y.now p) result }
+    ensures grows { IfOk result (λ _. Grows S.meaning s.old s.new 1 1) }
+{
+    let q = s.fresh();
+    scratch.a.clear();
+    scratch.a.add_terms(x);
+    scratch.a.add_terms(y);
+    scratch.b.set_wire(Wire(0));
+    scratch.c.set_wire(p);
+    scratch.c.plus(F::ONE, q);
+    s.put(&scratch.a, &scratch.b, &scratch.c)?;
+    Ok(q)
+}
+
 // A bound switch between two items, each by the terms of its two combinations. It makes 5 wires and
-// 5 constraints, of 11 terms and three for each term of the items.
+// 5 constraints: its bit's, and for both numbers of an item a choice and a sum.
 fn switch<S: Sink>(
     s: &mut S,
     scratch: &mut Scratch,
@@ -36,10 +65,10 @@ fn switch<S: Sink>(
 {
     let b = s.fresh();
     bit_by(s, &mut scratch.a, b)?;
-    select_terms(s, scratch, b, y, x)?;
-    select_terms(s, scratch, b, y_second, x_second)?;
-    select_terms(s, scratch, b, x, y)?;
-    select_terms(s, scratch, b, x_second, y_second)?;
+    let first = select_terms(s, scratch, b, y, x)?;
+    let second = select_terms(s, scratch, b, y_second, x_second)?;
+    remainder(s, scratch, x, y, first)?;
+    remainder(s, scratch, x_second, y_second, second)?;
     Ok(())
 }
 

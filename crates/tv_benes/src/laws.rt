@@ -1,6 +1,7 @@
 //! What is proved of networks, from the definitions.
 ghost use Rattle.tv_benes.specs.Costs.{NetworkIsCounted};
-ghost use Rattle.tv_benes.specs.Network.{NetworkIsSound, NetworkIsComplete, NetworkFills};
+ghost use Rattle.tv_benes.specs.Network.{NetworkIsSound, NetworkIsComplete, NetworkIsNormal};
+ghost use Rattle.tv_benes.specs.Network.{NetworkFills};
 ghost use Rattle.tv_benes.specs.Through.{NumbersArePermuted, PairsArePermuted, PlacesTell};
 
 /// Whatever the bits, what comes out of a network is what went in, in another order.
@@ -23,11 +24,18 @@ pub fn network_is_sound()
     ensures { NetworkIsSound }
 {}
 
-/// Where an assignment has the values of a network for some bits, it meets what the network put, it
-/// has these bits at the switches, in order, and at the outputs the inputs sent through by them.
-#[tactic(auto, using(crate::proofs::NetworkComplete::network_complete))]
+/// Where an assignment has the values of a network for some bits and for the numbers of its inputs,
+/// it meets what the network put, it has these bits at the switches, in order, and at the outputs
+/// these numbers sent through by them.
 pub fn network_is_complete()
     ensures { NetworkIsComplete }
+{}
+
+/// Over items that are normal combinations of wires before the network's own, each combination that
+/// it puts is normal.
+#[tactic(auto, using(crate::proofs::NormalLaws::network_normal))]
+pub fn network_is_normal()
+    ensures { NetworkIsNormal }
 {}
 
 /// A network makes three wires a switch and two more a bound one, as many as it has values; its
@@ -37,8 +45,9 @@ pub fn network_fills()
     ensures { NetworkFills }
 {}
 
-/// A network costs a constraint for each wire that it makes: three a switch, of 11 terms, where its
-/// level is open, and five, of 11 and three for each term of its two items, where it is bound.
+/// A network costs a constraint for each wire that it makes. The terms of its first column are
+/// those of its switches by their items; the others have 22 a switch, and in Waksman's network a
+/// few more.
 pub fn network_is_counted()
     ensures { NetworkIsCounted }
 {}

@@ -18,11 +18,11 @@ mod places;
 mod routing;
 mod shape;
 
-pub use costs::network_terms;
+pub use costs::{inner_terms, switch_terms};
 pub use filling::{fill_network, fill_routing_network};
 pub use laws::{
-    network_fills, network_is_complete, network_is_counted, network_is_sound, places_tell,
-    through_is_a_permutation,
+    network_fills, network_is_complete, network_is_counted, network_is_normal, network_is_sound,
+    places_tell, through_is_a_permutation,
 };
 pub use networks::{network, routing_network};
 pub use places::{Inputs, Outputs};

@@ -7,7 +7,7 @@ ghost use Rattle.tv_benes.specs.Places.{wires_at};
 ghost use Rattle.tv_benes.specs.declared.shape.Form.TheVariants.{Open};
 
 use tv_bits::bit_by;
-use tv_core::{Put, Scratch, Sink, Wire};
+use tv_core::{F, Put, Scratch, Sink, Wire};
 
 // The product of the bit `b` and the difference of two wires. It makes 1 wire and 1 constraint, of
 // 4 terms.
@@ -21,7 +21,8 @@ fn product<S: Sink>(s: &mut S, scratch: &mut Scratch, b: Wire, x: Wire, y: Wire)
 {
     let m = s.fresh();
     scratch.a.set_wire(b);
-    scratch.b.set_difference(x, y);
+    scratch.b.set_wire(x);
+    scratch.b.add(-F::ONE, y);
     scratch.c.set_wire(m);
     s.put(&scratch.a, &scratch.b, &scratch.c)?;
     Ok(m)

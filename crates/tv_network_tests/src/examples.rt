@@ -1,5 +1,6 @@
 //! What the definitions of the networks say of their sizes.
 ghost use Rattle.std.specs.Prelude.{◌≡◌};
+ghost use Rattle.tv_benes.specs.Costs.{inner_terms};
 ghost use Rattle.tv_benes.specs.Levels.{network_wires};
 ghost use Rattle.tv_benes.specs.Through.{switches};
 ghost use Rattle.tv_benes.specs.declared.shape.Net.TheVariants.{Benes, Waksman};
@@ -21,4 +22,13 @@ pub fn networks_make_so_many_wires()
     ensures waksman_of_8 { network_wires Waksman 2 ≡ 73 }
     ensures benes { network_wires Benes 19 ≡ 82313216 }
     ensures waksman { network_wires Waksman 19 ≡ 81089881 }
+{}
+
+/// How many terms their columns after the first have: 22 a switch, and in Waksman's networks a few
+/// more.
+pub fn inner_columns_have_so_many_terms()
+    ensures benes_of_8 { inner_terms Benes 2 ≡ 352 }
+    ensures waksman_of_8 { inner_terms Waksman 2 ≡ 287 }
+    ensures benes { inner_terms Benes 19 ≡ 438304768 }
+    ensures waksman { inner_terms Waksman 19 ≡ 427644267 }
 {}

@@ -1,7 +1,7 @@
 //! Worked rows, and numbers of switches.
-use crate::sending::{moved, sent_by_its_own};
+use crate::sending::{first_failed, moved, sent_by_its_own, terms_put};
 use std::test::*;
-use tv_benes::{Net, network_wires, switches};
+use tv_benes::{Net, inner_terms, network_wires, switches};
 use tv_waksman::switches_w;
 
 const O: bool = false;
@@ -50,6 +50,61 @@ fn networks_make_so_many_wires(rt: HostRuntime) -> Result<(), Fail> {
             network_wires(net, 4),
         ];
         assert_eq!(rt; made, wires, "{net:?}");
+    }
+    Ok(())
+}
+
+// Of the columns after the first: 22 a switch, and in Waksman's network 0, 3, 1 and 13 more.
+#[test]
+fn inner_columns_have_so_many_terms(rt: HostRuntime) -> Result<(), Fail> {
+    for (net, terms) in [
+        (Net::Benes, [0, 88, 352, 1056]),
+        (Net::Waksman, [0, 69, 287, 915]),
+    ] {
+        let inner = [
+            inner_terms(net, 1),
+            inner_terms(net, 2),
+            inner_terms(net, 3),
+            inner_terms(net, 4),
+        ];
+        assert_eq!(rt; inner, terms, "{net:?}");
+    }
+    Ok(())
+}
+
+// With 23 a switch of the first column, where each item is two wires.
+#[test]
+fn networks_put_so_many_terms(rt: HostRuntime) -> Result<(), Fail> {
+    for (net, terms) in [
+        (Net::Benes, [23, 134, 444, 1240]),
+        (Net::Waksman, [23, 115, 379, 1099]),
+    ] {
+        let put = [
+            terms_put(net, 1)?,
+            terms_put(net, 2)?,
+            terms_put(net, 3)?,
+            terms_put(net, 4)?,
+        ];
+        assert_eq!(rt; put, terms, "{net:?}");
+    }
+    Ok(())
+}
+
+// The wires of the first switch are 9, its bit, and 10 to 13, what it passes; those of the first
+// open switch of Benes' network are 19, its bit, and 20 and 21, its products.
+#[test]
+fn altered_wires_fail(rt: HostRuntime) -> Result<(), Fail> {
+    for (net, wire, failed) in [
+        (Net::Benes, 9, 1),
+        (Net::Benes, 12, 3),
+        (Net::Benes, 19, 11),
+        (Net::Benes, 20, 11),
+        (Net::Benes, 21, 12),
+        (Net::Waksman, 9, 1),
+        (Net::Waksman, 13, 4),
+    ] {
+        let first = first_failed(rt.alloc(), net, wire)?;
+        assert_eq!(rt; first, Some(failed), "{net:?} {wire}");
     }
     Ok(())
 }

@@ -10,7 +10,7 @@ use tv_benes::{
     Net, Outputs, fill_network, fill_routing_network, network, network_wires, route_items,
     routing_network,
 };
-use tv_core::{F, ListValues, PairNum, TestSink, give_values};
+use tv_core::{CountSink, F, ListValues, PairNum, TestSink, give_values};
 use tv_waksman::{fill_network_w, network_w};
 
 /// 2^`k`.
@@ -130,4 +130,43 @@ pub fn moved(alloc: Global, net: Net, bits: &[bool]) -> Result<Vec<u32>, Fail> {
     let mut values = ListValues::new(alloc);
     route_items(&mut values, net, 2, &mut items, &mut spare, bits)?;
     places(alloc, &items)
+}
+
+/// How many terms the constraints of a network on 2^`k` items have, each item two wires.
+pub fn terms_put(net: Net, k: u32) -> Result<u64, Fail>
+    requires some { 1 ≤ k }
+    requires few { k ≤ 20 }
+{
+    let many = power(k);
+    if network_wires(net, k) > 500_000_000 {
+        return Err(Fail::from("too many wires"));
+    }
+    let mut count = CountSink::new(2 * many + 1);
+    routing_network(&mut count, net, k, &Wires { many })?;
+    Ok(count.terms())
+}
+
+// The values of a network's wires on four items, no bit being set, with 1 added to that of one
+// wire.
+fn with_one_more(alloc: Global, net: Net, wire: usize) -> Result<Vec<F>, Fail> {
+    let items = numbers(alloc, 4)?;
+    let mut values = beginning(alloc, &items)?;
+    fill_routing_network(&mut values, net, 2, &items, &[])?;
+    let mut z = Vec::new(alloc);
+    for (i, value) in values.as_slice().iter().enumerate() {
+        z.push(if i == wire { *value + F::ONE } else { *value })?;
+    }
+    Ok(z)
+}
+
+/// The first constraint of a network on four items that fails where 1 is added to the value of one
+/// of its wires.
+pub fn first_failed(alloc: Global, net: Net, wire: usize) -> Result<Option<u32>, Fail> {
+    let z = with_one_more(alloc, net, wire)?;
+    if network_wires(net, 2) > 26 {
+        return Err(Fail::from("too many wires"));
+    }
+    let mut tests = TestSink::over(&z, 9);
+    routing_network(&mut tests, net, 2, &Wires { many: 4 })?;
+    Ok(tests.first_failed())
 }

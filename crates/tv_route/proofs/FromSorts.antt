@@ -1,5 +1,6 @@
 -- A rearrangement of 0, 1, .. n - 1, as a sort gives it, is a permutation.
-use Rattle.std.proofs.Common.{◌≡◌, ◌≢◌, ◌⊎◌, ℕ, ◌<◌, ◌≤◌, ◌==◌, Bool, true, false, List, length, get_or, All, IsPermutation, inl, inr, refl, sym, ◌∙◌, subst, arith, eq-eqb}
+use Rattle.std.proofs.Common.{◌≡◌, ◌≢◌, ◌⊎◌, ℕ, ◌<◌, ◌≤◌, ◌==◌, Bool, true, false, List, length, get_or, All, IsPermutation, inl, inr, refl, sym, ◌∙◌, subst}
+use Rattle.std.proofs.Common.{arith, eq-eqb}
 use Rattle.std.specs.Prelude.{slice_index}
 use Rattle.std.specs.List.{IsDistinct}
 use Rattle.std.proofs.lemmas.Bool.{cases_lt, cases_eq, eqb-true, eqb-false, ne_eqb}
@@ -46,13 +47,15 @@ permutes_of n p moved = record {
     long = length_permutation (places n (λ i. i)) p moved ∙ places-length n (λ i. i)
 
     small : All (λ v. v < n) p
-    small = All-permutation (λ v. v < n) (places n (λ i. i)) p moved (λ i d h. let l = places-length n (λ (i : ℕ). i) in subst (λ v. v < n) (sym (places-at n i (λ i. i) d (omega arith))) (omega arith))
+    small = All-permutation (λ v. v < n) (places n (λ i. i)) p moved
+        (λ i d h. let l = places-length n (λ (i : ℕ). i) in subst (λ v. v < n) (sym (places-at n i (λ i. i) d (omega arith))) (omega arith))
 
     apart : (i j : ℕ) → i < j → j < length p → slice_index p i ≢ slice_index p j
     apart i j h k =
         let l = places-length n (λ (i : ℕ). i) in
         let first : IsDistinct same (places n (λ i. i)) = IsDistinct-from_apart same (places n (λ i. i)) (λ i j d h k.
-        ne_eqb (get_or (places n (λ i. i)) i d) (get_or (places n (λ i. i)) j d) (λ e. let f : i ≡ j = sym (places-at n i (λ i. i) d (omega arith)) ∙ e ∙ places-at n j (λ i. i) d (omega arith) in omega arith)) in
+        ne_eqb (get_or (places n (λ i. i)) i d) (get_or (places n (λ i. i)) j d)
+        (λ e. let f : i ≡ j = sym (places-at n i (λ i. i) d (omega arith)) ∙ e ∙ places-at n j (λ i. i) d (omega arith) in omega arith)) in
         let after = IsDistinct-IsPermutation same flips (places n (λ i. i)) p moved first in
         eqb-false (slice_index p i) (slice_index p j) (apart_from_distinct same p i j 0 after h k)
 

@@ -1,5 +1,6 @@
 -- The halves of a permutation: every input is settled, and of each two fellows one goes down.
-use Rattle.std.proofs.Common.{◌≡◌, ◌≢◌, ℕ, zero, suc, ◌+◌, ◌*◌, ◌/◌, ◌%◌, ◌<◌, ◌≤◌, ◌==◌, inl, inr, Bool, true, false, not, if◌then◌else◌, List, length, get_or, set, replicate, Some, None, is_none, refl, sym, ◌∙◌, ap, subst, arith, get_or-set_same, get_or-set_other}
+use Rattle.std.proofs.Common.{◌≡◌, ◌≢◌, ℕ, zero, suc, ◌+◌, ◌*◌, ◌/◌, ◌%◌, ◌<◌, ◌≤◌, ◌==◌, inl, inr, Bool, true, false, not, if◌then◌else◌, List, length}
+use Rattle.std.proofs.Common.{get_or, set, replicate, Some, None, is_none, refl, sym, ◌∙◌, ap, subst, arith, get_or-set_same, get_or-set_other}
 use Rattle.std.specs.Prelude.{slice_index, unwrap_or}
 use Rattle.std.proofs.lemmas.Bool.{cases_eq, cases_lt}
 use Rattle.std.proofs.lemmas.List.{get_or-replicate, length-replicate, get_or_past}
@@ -115,16 +116,20 @@ module _ (n : ℕ) (p : List ℕ) (perm : Permutes (2 * n) p) where
       }
 
   -- each z of which the test is known
-  step : (j : ℕ) (marks : List Mark) (c : Bool) → is_none (get_or marks (2 * j) None) ≡ c → j < n → IsWalked j marks → IsWalked (suc j) (if c then walk (partners p n) n (2 * j) (2 * j) marks else marks)
+  step : (j : ℕ) (marks : List Mark) (c : Bool) → is_none (get_or marks (2 * j) None) ≡ c → j < n → IsWalked j marks
+      → IsWalked (suc j) (if c then walk (partners p n) n (2 * j) (2 * j) marks else marks)
   step j marks true free within w =
       let fits : left marks ≤ 2 * n = omega (arith, count_by-le-length is_none marks, w.closed.long) in
       record {
-        closed = walk_closes (2 * n) (partners p n) (partners_pair n p perm) (other_pairs n) n (2 * j) (2 * j) marks (underway (2 * j) marks (omega arith) w.closed (free_is (get_or marks (2 * j) None) free)) fits;
+        closed = walk_closes (2 * n) (partners p n) (partners_pair n p perm) (other_pairs n) n (2 * j) (2 * j) marks
+            (underway (2 * j) marks (omega arith) w.closed (free_is (get_or marks (2 * j) None) free)) fits;
         evens = λ i h. elim (cases_eq i j) [
-          | inl same ↦ subst (λ k. IsSettled (walk (partners p n) n (2 * j) (2 * j) marks) (2 * k)) (sym same) (walk_settles (partners p n) n (2 * j) (2 * j) marks (omega (arith, w.closed.long)) (omega arith))
+          | inl same ↦ subst (λ k. IsSettled (walk (partners p n) n (2 * j) (2 * j) marks) (2 * k)) (sym same)
+              (walk_settles (partners p n) n (2 * j) (2 * j) marks (omega (arith, w.closed.long)) (omega arith))
           | inr apart ↦ walk_keeps (partners p n) n (2 * j) (2 * j) marks (2 * i) (w.evens i (omega arith))
         ];
-        up = walk_still (2 * n) (partners p n) (partners_pair n p perm) (other_pairs n) n (2 * j) (2 * j) marks (underway (2 * j) marks (omega arith) w.closed (free_is (get_or marks (2 * j) None) free)) (slice_index p 0) false w.up;
+        up = walk_still (2 * n) (partners p n) (partners_pair n p perm) (other_pairs n) n (2 * j) (2 * j) marks
+            (underway (2 * j) marks (omega arith) w.closed (free_is (get_or marks (2 * j) None) free)) (slice_index p 0) false w.up;
       }
   step j marks false taken within w = record {
     closed = w.closed;
@@ -170,7 +175,8 @@ module _ (n : ℕ) (p : List ℕ) (perm : Permutes (2 * n) p) where
       let first = even_mark (x / 2) (omega arith) in
       elim (cases_eq (x % 2) 0) [
         | inl even ↦ let place : x ≡ 2 * (x / 2) = omega arith in (first.0, ap (λ k. get_or (halves p n) k None) place ∙ first.1)
-        | inr odd ↦ let place : x ≡ 2 * (x / 2) + 1 = omega arith in (not first.0, ap (λ k. get_or (halves p n) k None) place ∙ odd_mark (x / 2) (omega arith) first.0 first.1)
+        | inr odd ↦ let place : x ≡ 2 * (x / 2) + 1 = omega arith in
+            (not first.0, ap (λ k. get_or (halves p n) k None) place ∙ odd_mark (x / 2) (omega arith) first.0 first.1)
       ]
 
   pub sides_apart : (j : ℕ) → j < n → down (halves p n) (2 * j + 1) ≡ not (down (halves p n) (2 * j))

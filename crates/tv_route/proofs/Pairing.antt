@@ -1,5 +1,6 @@
 -- Numbers in pairs, and inputs in pairs by their outputs.
-use Rattle.std.proofs.Common.{◌≡◌, ◌≢◌, ℕ, zero, suc, ◌+◌, ◌-◌, ◌*◌, ◌%◌, ◌<◌, ◌==◌, ◌⊎◌, inl, inr, if◌then◌else◌, List, length, get_or, set, sym, ◌∙◌, ap, subst, arith, length-set, get_or-set_same, get_or-set_other}
+use Rattle.std.proofs.Common.{◌≡◌, ◌≢◌, ℕ, zero, suc, ◌+◌, ◌-◌, ◌*◌, ◌%◌, ◌<◌, ◌==◌, ◌⊎◌, inl, inr, if◌then◌else◌, List, length, get_or, set, sym, ◌∙◌, ap}
+use Rattle.std.proofs.Common.{subst, arith, length-set, get_or-set_same, get_or-set_other}
 use Rattle.std.specs.Prelude.{slice_index}
 use Rattle.std.proofs.lemmas.Bool.{cases_eq}
 use Rattle.tv_route.specs.Permutations.{Permutes}
@@ -97,5 +98,6 @@ module _ (n : ℕ) (p : List ℕ) (perm : Permutes (2 * n) p) where
         ap (λ y. slice_index (partners p n) y) (partner_at x h) ∙ partner_of (other (perm.back x)) (other_below n (perm.back x) (perm.back_below x h))
         ∙ ap (λ i. slice_index p i) (other_back (perm.back x)) ∙ perm.there x h;
     moves = λ x h e.
-        other_moves (perm.back x) (perm.once (other (perm.back x)) (perm.back x) (other_below n (perm.back x) (perm.back_below x h)) (perm.back_below x h) (sym (partner_at x h) ∙ e ∙ sym (perm.there x h)));
+        other_moves (perm.back x) (perm.once (other (perm.back x)) (perm.back x) (other_below n (perm.back x) (perm.back_below x h)) (perm.back_below x h)
+        (sym (partner_at x h) ∙ e ∙ sym (perm.there x h)));
   }

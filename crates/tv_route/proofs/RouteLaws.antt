@@ -1,5 +1,6 @@
 -- The settings of a permutation take each input to its output.
-use Rattle.std.proofs.Common.{◌≡◌, ◌≢◌, ℕ, zero, suc, ◌+◌, ◌-◌, ◌*◌, ◌/◌, ◌%◌, ◌^◌, ◌<◌, ◌≤◌, ◌==◌, inl, inr, Bool, true, false, not, if◌then◌else◌, List, [], ◌∷◌, ◌++◌, length, get_or, refl, sym, ◌∙◌, ap, subst, arith, length-append}
+use Rattle.std.proofs.Common.{◌≡◌, ◌≢◌, ℕ, zero, suc, ◌+◌, ◌-◌, ◌*◌, ◌/◌, ◌%◌, ◌^◌, ◌<◌, ◌≤◌, ◌==◌, inl, inr, Bool, true, false, not, if◌then◌else◌, List, []}
+use Rattle.std.proofs.Common.{◌∷◌, ◌++◌, length, get_or, refl, sym, ◌∙◌, ap, subst, arith, length-append}
 use Rattle.std.specs.Prelude.{slice_index, nat_lt}
 use Rattle.std.proofs.lemmas.Bool.{cases_eq, cases_lt, lt-ltb}
 use Rattle.std.proofs.lemmas.Bool.Decides.{nat_tests}
@@ -45,7 +46,8 @@ module _ (n : ℕ) (p : List ℕ) (d : ℕ → Bool) (b : Bool) (perm : Permutes
     in_pair : y < 2 * x + 2
     goes : d y ≡ b
 
-  of_pair_by : (x : ℕ) (c e : Bool) → d (2 * x) ≡ c → d (2 * x + 1) ≡ not c → b ≡ e → IsOfPair x (passed c (if e then 2 * x + 1 else 2 * x) (if e then 2 * x else 2 * x + 1))
+  of_pair_by : (x : ℕ) (c e : Bool) → d (2 * x) ≡ c → d (2 * x + 1) ≡ not c → b ≡ e
+      → IsOfPair x (passed c (if e then 2 * x + 1 else 2 * x) (if e then 2 * x else 2 * x + 1))
   of_pair_by x true true p q r = record { pair = omega arith; in_pair = omega arith; goes = p ∙ sym r }
   of_pair_by x true false p q r = record { pair = omega arith; in_pair = omega arith; goes = q ∙ sym r }
   of_pair_by x false true p q r = record { pair = omega arith; in_pair = omega arith; goes = q ∙ sym r }
@@ -93,7 +95,8 @@ module _ (n : ℕ) (p : List ℕ) (d : ℕ → Bool) (b : Bool) (perm : Permutes
     once = λ i j hi hj e.
         let same : inp i / 2 ≡ inp j / 2 = sym (places-at n i (λ j. inp j / 2) 0 hi) ∙ e ∙ places-at n j (λ j. inp j / 2) 0 hj in
         let one : inp i ≡ inp j = one_of_pair (inp i) (inp j) (inp_in i hi) (inp_in j hj) same (half.goes i hi ∙ sym (half.goes j hj)) in
-        let place : half.place i ≡ half.place j = perm.once (half.place i) (half.place j) (place_in i hi) (place_in j hj) (sym (half.at i hi) ∙ one ∙ half.at j hj) in
+        let place : half.place i ≡ half.place j = perm.once (half.place i) (half.place j) (place_in i hi) (place_in j hj)
+        (sym (half.at i hi) ∙ one ∙ half.at j hj) in
         sym (half.pair i hi) ∙ ap (λ k. k / 2) place ∙ half.pair j hj;
   }
 
@@ -101,7 +104,8 @@ module _ (n : ℕ) (p : List ℕ) (d : ℕ → Bool) (b : Bool) (perm : Permutes
 chosen : (c e : Bool) (x y : ℕ) → c ≡ e → (if c then x else y) ≡ (if e then x else y)
 chosen c e x y p = ap (λ k. if k then x else y) p
 
-module _ (n : ℕ) (p : List ℕ) (marks : List Mark) (pairs : (j : ℕ) → j < n → down marks (slice_index p (2 * j + 1)) ≡ not (down marks (slice_index p (2 * j)))) where
+module _ (n : ℕ) (p : List ℕ) (marks : List Mark)
+    (pairs : (j : ℕ) → j < n → down marks (slice_index p (2 * j + 1)) ≡ not (down marks (slice_index p (2 * j)))) where
   upper_half : IsHalf n p (down marks) false (up_input marks p)
   upper_half = record {
     place = λ j. if down marks (slice_index p (2 * j)) then 2 * j + 1 else 2 * j;
@@ -119,7 +123,8 @@ module _ (n : ℕ) (p : List ℕ) (marks : List Mark) (pairs : (j : ℕ) → j <
       by_pair true j = omega arith
       by_pair false j = omega arith
 
-      by_goes : (j : ℕ) → j < n → (c : Bool) → down marks (slice_index p (2 * j)) ≡ c → down marks (if c then slice_index p (2 * j + 1) else slice_index p (2 * j)) ≡ false
+      by_goes : (j : ℕ) → j < n → (c : Bool) → down marks (slice_index p (2 * j)) ≡ c
+          → down marks (if c then slice_index p (2 * j + 1) else slice_index p (2 * j)) ≡ false
       by_goes j h true e = pairs j h ∙ ap not e
       by_goes j h false e = e
 
@@ -127,11 +132,14 @@ module _ (n : ℕ) (p : List ℕ) (marks : List Mark) (pairs : (j : ℕ) → j <
       by_meets i h e = elim (cases_eq (i % 2) 0) [
         | inl even ↦
             let place : 2 * (i / 2) ≡ i = omega arith in
-            chosen (down marks (slice_index p (2 * (i / 2)))) false (slice_index p (2 * (i / 2) + 1)) (slice_index p (2 * (i / 2))) (ap (λ k. down marks (slice_index p k)) place ∙ e) ∙ ap (λ k. slice_index p k) place
+            chosen (down marks (slice_index p (2 * (i / 2)))) false (slice_index p (2 * (i / 2) + 1)) (slice_index p (2 * (i / 2)))
+            (ap (λ k. down marks (slice_index p k)) place ∙ e) ∙ ap (λ k. slice_index p k) place
         | inr odd ↦
             let place : 2 * (i / 2) + 1 ≡ i = omega arith in
-            let first : not (down marks (slice_index p (2 * (i / 2)))) ≡ false = sym (pairs (i / 2) (omega arith)) ∙ ap (λ k. down marks (slice_index p k)) place ∙ e in
-            chosen (down marks (slice_index p (2 * (i / 2)))) true (slice_index p (2 * (i / 2) + 1)) (slice_index p (2 * (i / 2))) (sym (not_not false (down marks (slice_index p (2 * (i / 2)))) (sym first))) ∙ ap (λ k. slice_index p k) place
+            let first : not (down marks (slice_index p (2 * (i / 2)))) ≡ false = sym (pairs (i / 2) (omega arith))
+            ∙ ap (λ k. down marks (slice_index p k)) place ∙ e in
+            chosen (down marks (slice_index p (2 * (i / 2)))) true (slice_index p (2 * (i / 2) + 1)) (slice_index p (2 * (i / 2)))
+            (sym (not_not false (down marks (slice_index p (2 * (i / 2)))) (sym first))) ∙ ap (λ k. slice_index p k) place
       ]
 
   lower_half : IsHalf n p (down marks) true (down_input marks p)
@@ -151,7 +159,8 @@ module _ (n : ℕ) (p : List ℕ) (marks : List Mark) (pairs : (j : ℕ) → j <
       by_pair true j = omega arith
       by_pair false j = omega arith
 
-      by_goes : (j : ℕ) → j < n → (c : Bool) → down marks (slice_index p (2 * j)) ≡ c → down marks (if c then slice_index p (2 * j) else slice_index p (2 * j + 1)) ≡ true
+      by_goes : (j : ℕ) → j < n → (c : Bool) → down marks (slice_index p (2 * j)) ≡ c
+          → down marks (if c then slice_index p (2 * j) else slice_index p (2 * j + 1)) ≡ true
       by_goes j h true e = e
       by_goes j h false e = pairs j h ∙ ap not e
 
@@ -159,11 +168,14 @@ module _ (n : ℕ) (p : List ℕ) (marks : List Mark) (pairs : (j : ℕ) → j <
       by_meets i h e = elim (cases_eq (i % 2) 0) [
         | inl even ↦
             let place : 2 * (i / 2) ≡ i = omega arith in
-            chosen (down marks (slice_index p (2 * (i / 2)))) true (slice_index p (2 * (i / 2))) (slice_index p (2 * (i / 2) + 1)) (ap (λ k. down marks (slice_index p k)) place ∙ e) ∙ ap (λ k. slice_index p k) place
+            chosen (down marks (slice_index p (2 * (i / 2)))) true (slice_index p (2 * (i / 2))) (slice_index p (2 * (i / 2) + 1))
+            (ap (λ k. down marks (slice_index p k)) place ∙ e) ∙ ap (λ k. slice_index p k) place
         | inr odd ↦
             let place : 2 * (i / 2) + 1 ≡ i = omega arith in
-            let first : not (down marks (slice_index p (2 * (i / 2)))) ≡ true = sym (pairs (i / 2) (omega arith)) ∙ ap (λ k. down marks (slice_index p k)) place ∙ e in
-            chosen (down marks (slice_index p (2 * (i / 2)))) false (slice_index p (2 * (i / 2))) (slice_index p (2 * (i / 2) + 1)) (sym (not_not true (down marks (slice_index p (2 * (i / 2)))) (sym first))) ∙ ap (λ k. slice_index p k) place
+            let first : not (down marks (slice_index p (2 * (i / 2)))) ≡ true = sym (pairs (i / 2) (omega arith)) ∙ ap (λ k. down marks (slice_index p k)) place
+            ∙ e in
+            chosen (down marks (slice_index p (2 * (i / 2)))) false (slice_index p (2 * (i / 2))) (slice_index p (2 * (i / 2) + 1))
+            (sym (not_not true (down marks (slice_index p (2 * (i / 2)))) (sym first))) ∙ ap (λ k. slice_index p k) place
       ]
 
 -- ---- what is read at a place of the bits
@@ -179,7 +191,16 @@ route-length net (suc h) p =
     let l = route net h (places n (λ j. down_input marks p j / 2)) in
     let b = places (n - missing net) (λ j. down marks (slice_index p (2 * (j + missing net)))) in
     length-append a (u ++ (l ++ b)) ∙ ap (λ k. length a + k) (length-append u (l ++ b) ∙ ap (λ k. length u + k) (length-append l b))
-    ∙ omega (arith, switches-suc net h, missing_small net, pow_pos (suc h), places-length n (λ j. down marks (2 * j)), places-length (n - missing net) (λ j. down marks (slice_index p (2 * (j + missing net)))), route-length net h (places n (λ j. up_input marks p j / 2)), route-length net h (places n (λ j. down_input marks p j / 2)))
+    ∙ omega (
+      arith,
+      switches-suc net h,
+      missing_small net,
+      pow_pos (suc h),
+      places-length n (λ j. down marks (2 * j)),
+      places-length (n - missing net) (λ j. down marks (slice_index p (2 * (j + missing net)))),
+      route-length net h (places n (λ j. up_input marks p j / 2)),
+      route-length net h (places n (λ j. down_input marks p j / 2)),
+    )
 
 module _ (n s : ℕ) (a u l b : List Bool) (la : length a ≡ n) (lu : length u ≡ s) (ll : length l ≡ s) where
   bits : List Bool
@@ -191,14 +212,16 @@ module _ (n s : ℕ) (a u l b : List Bool) (la : length a ≡ n) (lu : length u 
   in_upper : (j : ℕ) → j < s → get_or (a ++ (u ++ (l ++ b))) (n + j) false ≡ get_or u j false
   in_upper j h =
       let place : n + j - n ≡ j = omega arith in
-      get_or-append_right a (u ++ (l ++ b)) n (n + j) false la (omega arith) ∙ ap (λ k. get_or (u ++ (l ++ b)) k false) place ∙ get_or_append_left u (l ++ b) false j (omega (arith, lu))
+      get_or-append_right a (u ++ (l ++ b)) n (n + j) false la (omega arith) ∙ ap (λ k. get_or (u ++ (l ++ b)) k false) place
+      ∙ get_or_append_left u (l ++ b) false j (omega (arith, lu))
 
   in_lower : (j : ℕ) → j < s → get_or (a ++ (u ++ (l ++ b))) (n + s + j) false ≡ get_or l j false
   in_lower j h =
       let place : n + s + j - n ≡ s + j = omega arith in
       let place' : s + j - s ≡ j = omega arith in
       get_or-append_right a (u ++ (l ++ b)) n (n + s + j) false la (omega arith) ∙ ap (λ k. get_or (u ++ (l ++ b)) k false) place
-      ∙ get_or-append_right u (l ++ b) s (s + j) false lu (omega arith) ∙ ap (λ k. get_or (l ++ b) k false) place' ∙ get_or_append_left l b false j (omega (arith, ll))
+      ∙ get_or-append_right u (l ++ b) s (s + j) false lu (omega arith) ∙ ap (λ k. get_or (l ++ b) k false) place'
+      ∙ get_or_append_left l b false j (omega (arith, ll))
 
   in_last : (j : ℕ) → get_or (a ++ (u ++ (l ++ b))) (n + 2 * s + j) false ≡ get_or b j false
   in_last j =
@@ -213,7 +236,8 @@ module _ (n s : ℕ) (a u l b : List Bool) (la : length a ≡ n) (lu : length u 
 passed_is : {X : Type 0} (c e : Bool) (x y : X) → c ≡ e → passed c x y ≡ passed e x y
 passed_is c e x y p = ap (λ k. passed k x y) p
 
-module _ {X : Type 0} (n : ℕ) (d bit : ℕ → Bool) (item : ℕ → X) (sides : (j : ℕ) → j < n → d (2 * j + 1) ≡ not (d (2 * j))) (column : (j : ℕ) → j < n → bit j ≡ d (2 * j)) where
+module _ {X : Type 0} (n : ℕ) (d bit : ℕ → Bool) (item : ℕ → X) (sides : (j : ℕ) → j < n → d (2 * j + 1) ≡ not (d (2 * j)))
+    (column : (j : ℕ) → j < n → bit j ≡ d (2 * j)) where
   goes_up : (x : ℕ) → x < 2 * n → d x ≡ false → to_upper bit item (x / 2) ≡ item x
   goes_up x h e = elim (cases_eq (x % 2) 0) [
     | inl even ↦
@@ -222,7 +246,8 @@ module _ {X : Type 0} (n : ℕ) (d bit : ℕ → Bool) (item : ℕ → X) (sides
     | inr odd ↦
         let place : 2 * (x / 2) + 1 ≡ x = omega arith in
         let first : not (d (2 * (x / 2))) ≡ false = sym (sides (x / 2) (omega arith)) ∙ ap d place ∙ e in
-        passed_is (bit (x / 2)) true (item (2 * (x / 2))) (item (2 * (x / 2) + 1)) (column (x / 2) (omega arith) ∙ sym (not_not false (d (2 * (x / 2))) (sym first))) ∙ ap item place
+        passed_is (bit (x / 2)) true (item (2 * (x / 2))) (item (2 * (x / 2) + 1))
+        (column (x / 2) (omega arith) ∙ sym (not_not false (d (2 * (x / 2))) (sym first))) ∙ ap item place
   ]
 
   goes_down : (x : ℕ) → x < 2 * n → d x ≡ true → to_lower bit item (x / 2) ≡ item x
@@ -233,7 +258,8 @@ module _ {X : Type 0} (n : ℕ) (d bit : ℕ → Bool) (item : ℕ → X) (sides
     | inr odd ↦
         let place : 2 * (x / 2) + 1 ≡ x = omega arith in
         let first : not (d (2 * (x / 2))) ≡ true = sym (sides (x / 2) (omega arith)) ∙ ap d place ∙ e in
-        passed_is (bit (x / 2)) false (item (2 * (x / 2) + 1)) (item (2 * (x / 2))) (column (x / 2) (omega arith) ∙ sym (not_not true (d (2 * (x / 2))) (sym first))) ∙ ap item place
+        passed_is (bit (x / 2)) false (item (2 * (x / 2) + 1)) (item (2 * (x / 2)))
+        (column (x / 2) (omega arith) ∙ sym (not_not true (d (2 * (x / 2))) (sym first))) ∙ ap item place
   ]
 
 -- the bits of a last column: where switch 0 has none, the input of output 0 goes up
@@ -273,7 +299,8 @@ second_of_two item q r h k apart = elim (cases_eq q 0) [
   | inr some ↦ let one : q ≡ 1 = omega arith in let zero_is : r ≡ 0 = omega arith in ap (λ k. passed (k == 1) (item 1) (item 0)) one ∙ ap item (sym zero_is)
 ]
 
-two_items : {X : Type 0} (p : List ℕ) (item : ℕ → X) → Permutes 2 p → (i : ℕ) → i < 2 → joined (λ j. get_or ((slice_index p 0 == 1) ∷ []) j false) (λ j. item (2 * j)) (λ j. item (2 * j + 1)) i ≡ item (slice_index p i)
+two_items : {X : Type 0} (p : List ℕ) (item : ℕ → X) → Permutes 2 p → (i : ℕ) → i < 2
+    → joined (λ j. get_or ((slice_index p 0 == 1) ∷ []) j false) (λ j. item (2 * j)) (λ j. item (2 * j + 1)) i ≡ item (slice_index p i)
 two_items p item perm i within =
     let there = joined (λ j. get_or ((slice_index p 0 == 1) ∷ []) j false) (λ j. item (2 * j)) (λ j. item (2 * j + 1)) in
     let first : slice_index p 0 < 2 = perm.below 0 (omega arith) in
@@ -281,10 +308,12 @@ two_items p item perm i within =
     let apart : slice_index p 0 ≢ slice_index p 1 = λ e. let same : ◌≡◌ {A = ℕ} 0 1 = perm.once 0 1 (omega arith) (omega arith) e in omega arith in
     elim (cases_eq i 0) [
       | inl none ↦ ap there none ∙ first_of_two item (slice_index p 0) first ∙ ap (λ k. item (slice_index p k)) (sym none)
-      | inr some ↦ let one : i ≡ 1 = omega arith in ap there one ∙ second_of_two item (slice_index p 0) (slice_index p 1) first second apart ∙ ap (λ k. item (slice_index p k)) (sym one)
+      | inr some ↦ let one : i ≡ 1 = omega arith in ap there one ∙ second_of_two item (slice_index p 0) (slice_index p 1) first second apart
+          ∙ ap (λ k. item (slice_index p k)) (sym one)
     ]
 
-pub route_is : {X : Type 0} (net : Net) (h : ℕ) (p : List ℕ) (item : ℕ → X) → Permutes (2 ^ suc h) p → (i : ℕ) → i < 2 ^ suc h → through net h (λ j. get_or (route net h p) j false) item i ≡ item (slice_index p i)
+pub route_is : {X : Type 0} (net : Net) (h : ℕ) (p : List ℕ) (item : ℕ → X) → Permutes (2 ^ suc h) p → (i : ℕ) → i < 2 ^ suc h
+    → through net h (λ j. get_or (route net h p) j false) item i ≡ item (slice_index p i)
 unfolding through route
 route_is net zero p item perm i within = two_items p item perm i within
 route_is net (suc h) p item perm i within =
@@ -310,29 +339,37 @@ route_is net (suc h) p item perm i within =
     let bit : ℕ → Bool = λ j. get_or (a ++ (u ++ (l ++ b))) j false in
     let column : (j : ℕ) → j < n → bit j ≡ d (2 * j) = λ j k. in_first n s a u l b la lu ll j k ∙ places-at n j (λ j. d (2 * j)) false k in
     let upper : (j : ℕ) → j < n → through net h (from n bit) (to_upper bit item) j ≡ item (up_input marks p j) =
-    λ j k. through-same net h (from n bit) (λ i. get_or u i false) (to_upper bit item) (to_upper bit item) (λ i lt. in_upper n s a u l b la lu ll i lt) (λ i lt. refl) j k
+    λ j k. through-same net h (from n bit) (λ i. get_or u i false) (to_upper bit item) (to_upper bit item) (λ i lt. in_upper n s a u l b la lu ll i lt)
+    (λ i lt. refl) j k
     ∙ route_is net h up_places (to_upper bit item) (half_permutes n p d false whole (up_input marks p) up sides) j k
     ∙ ap (to_upper bit item) (places-at n j (λ j. up_input marks p j / 2) 0 k)
     ∙ goes_up n d bit item sides column (up_input marks p j) (inp_in n p d false whole (up_input marks p) up sides j k) (up.goes j k) in
     let lower : (j : ℕ) → j < n → through net h (from (n + s) bit) (to_lower bit item) j ≡ item (down_input marks p j) =
-    λ j k. through-same net h (from (n + s) bit) (λ i. get_or l i false) (to_lower bit item) (to_lower bit item) (λ i lt. in_lower n s a u l b la lu ll i lt) (λ i lt. refl) j k
+    λ j k. through-same net h (from (n + s) bit) (λ i. get_or l i false) (to_lower bit item) (to_lower bit item) (λ i lt. in_lower n s a u l b la lu ll i lt)
+    (λ i lt. refl) j k
     ∙ route_is net h low_places (to_lower bit item) (half_permutes n p d true whole (down_input marks p) low sides) j k
     ∙ ap (to_lower bit item) (places-at n j (λ j. down_input marks p j / 2) 0 k)
     ∙ goes_down n d bit item sides column (down_input marks p j) (inp_in n p d true whole (down_input marks p) low sides j k) (low.goes j k) in
     let j = i / 2 in
     let within_half : i / 2 < n = omega arith in
     let last : last_bit net (from (n + 2 * s) bit) (i / 2) ≡ d (slice_index p (2 * (i / 2))) =
-    last_is net n (λ j. get_or b j false) (from (n + 2 * s) bit) d p (i / 2) within_half (first_up n p whole (omega arith)) (λ j. in_last n s a u l b la lu ll j) (λ j k. places-at (n - missing net) j (λ j. d (slice_index p (2 * (j + missing net)))) false (omega arith)) in
+    last_is net n (λ j. get_or b j false) (from (n + 2 * s) bit) d p (i / 2) within_half (first_up n p whole (omega arith))
+    (λ j. in_last n s a u l b la lu ll j) (λ j k. places-at (n - missing net) j (λ j. d (slice_index p (2 * (j + missing net)))) false (omega arith)) in
     let c = d (slice_index p (2 * (i / 2))) in
-    let ends = last_column c (item (up_input marks p (i / 2))) (item (down_input marks p (i / 2))) (item (slice_index p (2 * (i / 2)))) (item (slice_index p (2 * (i / 2) + 1)))
-    (item_if item c (slice_index p (2 * (i / 2) + 1)) (slice_index p (2 * (i / 2)))) (item_if item c (slice_index p (2 * (i / 2))) (slice_index p (2 * (i / 2) + 1))) in
+    let ends = last_column c (item (up_input marks p (i / 2))) (item (down_input marks p (i / 2))) (item (slice_index p (2 * (i / 2))))
+    (item (slice_index p (2 * (i / 2) + 1)))
+    (item_if item c (slice_index p (2 * (i / 2) + 1)) (slice_index p (2 * (i / 2))))
+    (item_if item c (slice_index p (2 * (i / 2))) (slice_index p (2 * (i / 2) + 1))) in
     let one = λ (j : ℕ). passed (d (slice_index p (2 * j))) (item (up_input marks p j)) (item (down_input marks p j)) in
     let other = λ (j : ℕ). passed (d (slice_index p (2 * j))) (item (down_input marks p j)) (item (up_input marks p j)) in
-    joined-same (last_bit net (from (n + 2 * s) bit)) (λ j. d (slice_index p (2 * j))) (through net h (from n bit) (to_upper bit item)) (λ j. item (up_input marks p j)) (through net h (from (n + s) bit) (to_lower bit item)) (λ j. item (down_input marks p j)) i
+    joined-same (last_bit net (from (n + 2 * s) bit)) (λ j. d (slice_index p (2 * j))) (through net h (from n bit) (to_upper bit item))
+    (λ j. item (up_input marks p j)) (through net h (from (n + s) bit) (to_lower bit item)) (λ j. item (down_input marks p j)) i
     last (upper (i / 2) within_half) (lower (i / 2) within_half)
     ∙ elim (cases_eq (i % 2) 0) [
-      | inl even ↦ let place : i ≡ 2 * (i / 2) = omega arith in ap (alternating one other) place ∙ alternating-even one other (i / 2) ∙ ends.0 ∙ ap (λ k. item (slice_index p k)) (sym place)
-      | inr odd ↦ let place : i ≡ 2 * (i / 2) + 1 = omega arith in ap (alternating one other) place ∙ alternating-odd one other (i / 2) ∙ ends.1 ∙ ap (λ k. item (slice_index p k)) (sym place)
+      | inl even ↦ let place : i ≡ 2 * (i / 2) = omega arith in ap (alternating one other) place ∙ alternating-even one other (i / 2) ∙ ends.0
+          ∙ ap (λ k. item (slice_index p k)) (sym place)
+      | inr odd ↦ let place : i ≡ 2 * (i / 2) + 1 = omega arith in ap (alternating one other) place ∙ alternating-odd one other (i / 2) ∙ ends.1
+          ∙ ap (λ k. item (slice_index p k)) (sym place)
     ]
 
 -- the level of a list of 2 ^ k items is k - 1
@@ -342,7 +379,8 @@ level_by (suc fuel) zero few = refl
 level_by (suc fuel) (suc h) few =
     let big : nat_lt 2 (2 ^ suc (suc h)) ≡ true = lt-ltb 2 (2 ^ suc (suc h)) (omega (arith, pow_pos h, twice h, twice (suc h))) in
     let half : 2 ^ suc (suc h) / 2 ≡ 2 ^ suc h = omega (arith, twice (suc h)) in
-    ap (λ (c : Bool). if c then suc (level_within fuel (2 ^ suc (suc h) / 2)) else 0) big ∙ ap (λ n. suc (level_within fuel n)) half ∙ ap suc (level_by fuel h (omega arith))
+    ap (λ (c : Bool). if c then suc (level_within fuel (2 ^ suc (suc h) / 2)) else 0) big ∙ ap (λ n. suc (level_within fuel n)) half
+    ∙ ap suc (level_by fuel h (omega arith))
 
 pub level_is : (p : List ℕ) (h : ℕ) → length p ≡ 2 ^ suc h → level_of p ≡ h
 level_is p h long = ap (λ n. level_within n n) long ∙ level_by (2 ^ suc h) h (omega (arith, below-power h, twice h))
@@ -350,7 +388,8 @@ level_is p h long = ap (λ n. level_within n n) long ∙ level_by (2 ^ suc h) h 
 pub route_of_is : (net : Net) (p : List ℕ) (h : ℕ) → length p ≡ 2 ^ suc h → route_of net p ≡ route net h p
 route_of_is net p h long = ap (λ k. route net k p) (level_is p h long)
 
-routed : {X : Type 0} (net : Net) (k : ℕ) (p : List ℕ) (item : ℕ → X) → 1 ≤ k → Permutes (2 ^ k) p → (i : ℕ) → i < 2 ^ k → through net (k - 1) (bit_at (route_of net p)) item i ≡ item (slice_index p i)
+routed : {X : Type 0} (net : Net) (k : ℕ) (p : List ℕ) (item : ℕ → X) → 1 ≤ k → Permutes (2 ^ k) p → (i : ℕ) → i < 2 ^ k
+    → through net (k - 1) (bit_at (route_of net p)) item i ≡ item (slice_index p i)
 routed net zero p item some perm i within = absurd (omega arith)
 routed net (suc h) p item some perm i within =
     let level : suc h - 1 ≡ h = omega arith in
@@ -373,10 +412,12 @@ route_right = record {
 
 -- what a half is to do is a permutation of its places
 pub upper_permutes : (n : ℕ) (p : List ℕ) → Permutes (2 * n) p → Permutes n (places n (λ j. up_input (halves p n) p j / 2))
-upper_permutes n p perm = half_permutes n p (down (halves p n)) false perm (up_input (halves p n) p) (upper_half n p (halves p n) (pairs_apart n p perm)) (sides_apart n p perm)
+upper_permutes n p perm = half_permutes n p (down (halves p n)) false perm (up_input (halves p n) p) (upper_half n p (halves p n) (pairs_apart n p perm))
+    (sides_apart n p perm)
 
 pub lower_permutes : (n : ℕ) (p : List ℕ) → Permutes (2 * n) p → Permutes n (places n (λ j. down_input (halves p n) p j / 2))
-lower_permutes n p perm = half_permutes n p (down (halves p n)) true perm (down_input (halves p n) p) (lower_half n p (halves p n) (pairs_apart n p perm)) (sides_apart n p perm)
+lower_permutes n p perm = half_permutes n p (down (halves p n)) true perm (down_input (halves p n) p) (lower_half n p (halves p n) (pairs_apart n p perm))
+    (sides_apart n p perm)
 
 -- the power of 2 at most as large as a list that can be routed is as large
 pub record IsExponent (p : List ℕ) (k : ℕ) : Type 0 where

@@ -1,5 +1,6 @@
 -- Which numbers were seen, one after another.
-use Rattle.std.proofs.Common.{◌≡◌, ◌≢◌, ℕ, zero, suc, ◌+◌, ◌<◌, ◌≤◌, ◌⊎◌, Bool, true, false, if◌then◌else◌, List, [], ◌∷◌, length, get_or, set, replicate, inl, inr, sum_by, refl, sym, ◌∙◌, ap, subst, arith, length-set, get_or-set_same, get_or-set_other}
+use Rattle.std.proofs.Common.{◌≡◌, ◌≢◌, ℕ, zero, suc, ◌+◌, ◌<◌, ◌≤◌, ◌⊎◌, Bool, true, false, if◌then◌else◌, List, [], ◌∷◌, length, get_or, set, replicate}
+use Rattle.std.proofs.Common.{inl, inr, sum_by, refl, sym, ◌∙◌, ap, subst, arith, length-set, get_or-set_same, get_or-set_other}
 use Rattle.std.specs.Prelude.{slice_index}
 use Rattle.std.proofs.lemmas.Bool.{cases_eq, cases_lt}
 use Rattle.std.proofs.lemmas.List.{get_or-replicate, length-replicate}
@@ -35,7 +36,8 @@ seen_none p seen is = record {
     apart : false ≡ true → ⊥
     apart e = cc
 
-pub seen_more : (p : List ℕ) (i : ℕ) (seen : List Bool) → IsSeen p i seen → slice_index p i < length p → get_or seen (slice_index p i) false ≡ false → IsSeen p (i + 1) (set seen (slice_index p i) true)
+pub seen_more : (p : List ℕ) (i : ℕ) (seen : List Bool) → IsSeen p i seen → slice_index p i < length p → get_or seen (slice_index p i) false ≡ false
+    → IsSeen p (i + 1) (set seen (slice_index p i) true)
 seen_more p i seen s small new =
     let x = slice_index p i in
     let x_in : x < length seen = omega (arith, s.long) in
@@ -51,10 +53,12 @@ seen_more p i seen s small new =
         | inr apart ↦ let before = s.only y h (sym (get_or-set_other seen x y true false apart) ∙ e) in (before.0, omega (arith, before.1), before.2)
       ];
       once = λ j k h l e. elim (cases_eq k i) [
-        | inl last ↦ contradiction (get_or seen x false) (sym (ap (λ y. get_or seen y false) (e ∙ ap (λ m. slice_index p m) last)) ∙ s.marked j (omega arith)) new
+        | inl last ↦ contradiction (get_or seen x false)
+            (sym (ap (λ y. get_or seen y false) (e ∙ ap (λ m. slice_index p m) last)) ∙ s.marked j (omega arith)) new
         | inr apart ↦ s.once j k h (omega arith) e
       ];
-      count = let changed = sum_by-set one_if seen x true false x_in in let was : one_if (get_or seen x false) ≡ 0 = ap one_if new in omega (arith, changed, was, s.count);
+      count = let changed = sum_by-set one_if seen x true false x_in in let was : one_if (get_or seen x false) ≡ 0 = ap one_if new in
+          omega (arith, changed, was, s.count);
     }
   where
     contradiction : (b : Bool) → b ≡ true → b ≡ false → ⊥

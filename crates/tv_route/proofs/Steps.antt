@@ -1,5 +1,6 @@
 -- One step of each definition, as the code makes it.
-use Rattle.std.proofs.Common.{◌≡◌, ◌≢◌, ℕ, zero, suc, ◌+◌, ◌-◌, ◌*◌, ◌/◌, ◌^◌, ◌<◌, ◌==◌, Bool, true, false, if◌then◌else◌, List, [], ◌∷◌, ◌++◌, get_or, set, Some, None, is_none, refl, sym, ◌∙◌, ap, ap₂, arith, append_assoc, append-nil, add-one}
+use Rattle.std.proofs.Common.{◌≡◌, ◌≢◌, ℕ, zero, suc, ◌+◌, ◌-◌, ◌*◌, ◌/◌, ◌^◌, ◌<◌, ◌==◌, Bool, true, false, if◌then◌else◌, List, [], ◌∷◌, ◌++◌, get_or, set}
+use Rattle.std.proofs.Common.{Some, None, is_none, refl, sym, ◌∙◌, ap, ap₂, arith, append_assoc, append-nil, add-one}
 use Rattle.std.specs.Prelude.{slice_index}
 use Rattle.tv_benes.proofs.Permuting.{places-suc}
 use Rattle.tv_benes.specs.Through.{missing, places}
@@ -23,7 +24,8 @@ pub walk_on : (partner : List ℕ) (k l start x : ℕ) (marks : List Mark) → k
 unfolding walk
 walk_on partner k l start x marks more on = ap (λ n. walk partner n start x marks) more ∙ if_apart (other (slice_index partner x)) start _ _ on
 
-pub partners_more : (p : List ℕ) (j : ℕ) → partners p (j + 1) ≡ set (set (partners p j) (slice_index p (2 * j)) (slice_index p (2 * j + 1))) (slice_index p (2 * j + 1)) (slice_index p (2 * j))
+pub partners_more : (p : List ℕ) (j : ℕ)
+    → partners p (j + 1) ≡ set (set (partners p j) (slice_index p (2 * j)) (slice_index p (2 * j + 1))) (slice_index p (2 * j + 1)) (slice_index p (2 * j))
 unfolding partners
 partners_more p j = ap (λ k. partners p k) (add-one j)
 
@@ -35,11 +37,14 @@ pub walks_none : (partner : List ℕ) (n : ℕ) (marks : List Mark) → walks pa
 unfolding walks
 walks_none partner n marks = refl
 
-walks_by : (partner : List ℕ) (n j : ℕ) (marks : List Mark) → walks partner n (j + 1) marks ≡ (if is_none (get_or (walks partner n j marks) (2 * j) None) then walk partner n (2 * j) (2 * j) (walks partner n j marks) else walks partner n j marks)
+walks_by : (partner : List ℕ) (n j : ℕ) (marks : List Mark)
+    → walks partner n (j + 1) marks ≡ (if is_none (get_or (walks partner n j marks) (2 * j) None) then walk partner n (2 * j) (2 * j)
+    (walks partner n j marks) else walks partner n j marks)
 unfolding walks
 walks_by partner n j marks = ap (λ k. walks partner n k marks) (add-one j)
 
-pub walks_more : (partner : List ℕ) (n j : ℕ) (marks before : List Mark) (b : Bool) → before ≡ walks partner n j marks → is_none (get_or before (2 * j) None) ≡ b
+pub walks_more : (partner : List ℕ) (n j : ℕ) (marks before : List Mark) (b : Bool) → before ≡ walks partner n j marks
+    → is_none (get_or before (2 * j) None) ≡ b
     → walks partner n (j + 1) marks ≡ (if b then walk partner n (2 * j) (2 * j) before else before)
 walks_more partner n j marks before b is free =
     walks_by partner n j marks
@@ -51,7 +56,8 @@ module _ {X : Type 0} where
   unfolding places
   push_none bits f = sym (append-nil bits)
 
-  pub push_place : (old bits new : List X) (j : ℕ) (f : ℕ → X) (x : X) → bits ≡ old ++ places j f → x ≡ f j → new ≡ bits ++ x ∷ [] → new ≡ old ++ places (j + 1) f
+  pub push_place : (old bits new : List X) (j : ℕ) (f : ℕ → X) (x : X) → bits ≡ old ++ places j f → x ≡ f j → new ≡ bits ++ x ∷ []
+      → new ≡ old ++ places (j + 1) f
   push_place old bits new j f x before is pushed =
       pushed ∙ ap₂ (λ l y. l ++ y ∷ []) before is ∙ append_assoc old (places j f) (f j ∷ [])
       ∙ ap (λ l. old ++ l) (sym (places-suc j f)) ∙ ap (λ k. old ++ places k f) (sym (add-one j))
@@ -82,4 +88,5 @@ route_more net h k p level = ap (λ l. route net l p) level ∙ by ∙ ap there 
 -- four pieces appended one after another
 pub four_pieces : {X : Type 0} (b0 b1 b2 b3 b4 x y z w : List X) → b1 ≡ b0 ++ x → b2 ≡ b1 ++ y → b3 ≡ b2 ++ z → b4 ≡ b3 ++ w → b4 ≡ b0 ++ (x ++ (y ++ (z ++ w)))
 four_pieces b0 b1 b2 b3 b4 x y z w p q r s =
-    s ∙ ap (λ l. l ++ w) (r ∙ ap (λ l. l ++ z) (q ∙ ap (λ l. l ++ y) p)) ∙ append_assoc ((b0 ++ x) ++ y) z w ∙ append_assoc (b0 ++ x) y (z ++ w) ∙ append_assoc b0 x (y ++ (z ++ w))
+    s ∙ ap (λ l. l ++ w) (r ∙ ap (λ l. l ++ z) (q ∙ ap (λ l. l ++ y) p)) ∙ append_assoc ((b0 ++ x) ++ y) z w ∙ append_assoc (b0 ++ x) y (z ++ w)
+    ∙ append_assoc b0 x (y ++ (z ++ w))

@@ -1,6 +1,7 @@
 -- What a walk settles: it goes round, so what is settled after it is closed under both pairings, the two of a pair
 -- being settled apart.
-use Rattle.std.proofs.Common.{◌≡◌, ◌≢◌, ℕ, zero, suc, ◌+◌, ◌*◌, ◌<◌, ◌≤◌, ◌==◌, ◌⊎◌, inl, inr, Bool, true, false, not, if◌then◌else◌, List, length, get_or, set, Some, None, is_none, sum_by, refl, sym, ◌∙◌, ap, subst, arith, length-set, get_or-set_same, get_or-set_other, eq-eqb}
+use Rattle.std.proofs.Common.{◌≡◌, ◌≢◌, ℕ, zero, suc, ◌+◌, ◌*◌, ◌<◌, ◌≤◌, ◌==◌, ◌⊎◌, inl, inr, Bool, true, false, not, if◌then◌else◌, List, length, get_or}
+use Rattle.std.proofs.Common.{set, Some, None, is_none, sum_by, refl, sym, ◌∙◌, ap, subst, arith, length-set, get_or-set_same, get_or-set_other, eq-eqb}
 use Rattle.std.specs.Prelude.{slice_index}
 use Rattle.std.proofs.lemmas.Bool.{cases_eq}
 use Rattle.std.proofs.lemmas.List.Sums.{sum_by-set, get_or-le-sum_by}
@@ -120,7 +121,10 @@ module _ (m : ℕ) (s t : ℕ → ℕ) (sp : IsPairing m s) (tp : IsPairing m t)
 
   -- an input that was settled is another one than x and y
   was_other : (z : ℕ) (b : Bool) → get_or marks z None ≡ Some b → (z ≢ x) × (z ≢ s x)
-  was_other z b e = (λ same. not_free marks z b e (ap (λ k. get_or marks k None) same ∙ u.free), λ same. not_free marks z b e (ap (λ k. get_or marks k None) same ∙ y_free))
+  was_other z b e = (
+    λ same. not_free marks z b e (ap (λ k. get_or marks k None) same ∙ u.free),
+    λ same. not_free marks z b e (ap (λ k. get_or marks k None) same ∙ y_free),
+  )
 
   still : (z : ℕ) (b : Bool) → get_or marks z None ≡ Some b → get_or after z None ≡ Some b
   still z b e = let o = was_other z b e in here_others z o.0 o.1 ∙ e
@@ -221,7 +225,8 @@ module _ (m : ℕ) (s t : ℕ → ℕ) (sp : IsPairing m s) (tp : IsPairing m t)
       let not_y : z ≢ s x = λ e. not_end (e ∙ sym (tp.back (s x) y_in)) in
       elim begun [
         | inl xs ↦ elim (cases_eq z (t x)) [
-          | inl zt ↦ λ b e. absurd (not_free marks z b (sym (here_others z (λ same. not_start (same ∙ xs.0)) not_y) ∙ e) (ap (λ k. get_or marks k None) zt ∙ xs.1))
+          | inl zt ↦ λ b e. absurd (not_free marks z b (sym (here_others z (λ same. not_start (same ∙ xs.0)) not_y) ∙ e)
+              (ap (λ k. get_or marks k None) zt ∙ xs.1))
           | inr not_t ↦ old_side z z_in (λ e. not_start (e ∙ xs.0)) not_y not_start not_t
         ]
         | inr far ↦ elim (cases_eq z x) [
@@ -249,7 +254,8 @@ module _ (m : ℕ) (partner : List ℕ) (sp : IsPairing m (λ x. slice_index par
   σ x = slice_index partner x
 
   -- with as many steps as half of what is left, the walk gets round
-  pub walk_closes : (steps start x : ℕ) (marks : List Mark) → IsUnderway m σ other start x marks → left marks ≤ 2 * steps → IsClosed m σ other (walk partner steps start x marks)
+  pub walk_closes : (steps start x : ℕ) (marks : List Mark) → IsUnderway m σ other start x marks → left marks ≤ 2 * steps
+      → IsClosed m σ other (walk partner steps start x marks)
   unfolding walk
   walk_closes zero start x marks u few =
       let one : open_mark (get_or marks x None) ≡ 1 = ap open_mark u.free in
@@ -259,7 +265,8 @@ module _ (m : ℕ) (partner : List ℕ) (sp : IsPairing m (λ x. slice_index par
       let more = settled marks x y in
       let gone = after-left m σ other sp tp start x marks u in
       elim (cases_eq (other y) start) [
-        | inl round ↦ subst (IsClosed m σ other) (sym (if_same (other y) start more (walk partner steps start (other y) more) round)) (closes m σ other sp tp start x marks u round)
+        | inl round ↦ subst (IsClosed m σ other) (sym (if_same (other y) start more (walk partner steps start (other y) more) round))
+            (closes m σ other sp tp start x marks u round)
         | inr on ↦ subst (IsClosed m σ other) (sym (if_apart (other y) start more (walk partner steps start (other y) more) on))
             (walk_closes steps start (other y) more (goes_on m σ other sp tp start x marks u on) (omega (arith, gone)))
       ]
@@ -280,7 +287,8 @@ module _ (m : ℕ) (partner : List ℕ) (sp : IsPairing m (λ x. slice_index par
       ]
 
   -- and where the walk begins goes up
-  pub walk_begins : (steps start x : ℕ) (marks : List Mark) → IsUnderway m σ other start x marks → 0 < steps → get_or (walk partner steps start x marks) x None ≡ Some false
+  pub walk_begins : (steps start x : ℕ) (marks : List Mark) → IsUnderway m σ other start x marks → 0 < steps
+      → get_or (walk partner steps start x marks) x None ≡ Some false
   unfolding walk
   walk_begins zero start x marks u some = absurd (omega arith)
   walk_begins (suc steps) start x marks u some =

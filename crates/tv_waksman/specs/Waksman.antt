@@ -1,10 +1,9 @@
 -- Waksman's network: Benes', but that each last column lacks its switch 0, whose two items pass.
 use Rattle.std.specs.Prelude.{ℕ, suc, ◌^◌, Bool, List, IsPermutation}
-use Rattle.tv_benes.specs.Network.{network_of, network_values, IsNetwork, IsFilled}
+use Rattle.tv_benes.specs.Network.{network_of, network_values, IsNetwork, AreValues, IsFilled}
 use Rattle.tv_benes.specs.Through.{through, places}
 use Rattle.tv_benes.specs.declared.shape.Net.TheVariants.{Waksman}
 use Rattle.tv_core.specs.Laws.{Assigns, Meets, HasFrom}
-use Rattle.tv_core.specs.Lines.{pair_value}
 use Rattle.tv_core.specs.declared.lines.Pair.{Pair}
 use Rattle.tv_core.specs.declared.lines.PairNum.{PairNum}
 
@@ -18,7 +17,7 @@ NetworkWIsSound = (z : List ℕ) (next h : ℕ) (item : ℕ → Pair) → Assign
     → IsNetwork z Waksman h next item (network_of Waksman h item next).answer
 
 -- an assignment that has the values for some bits meets what was put, has these bits at the switches, in order, and at
--- the outputs what goes through by them
+-- the outputs what goes through by them, whatever numbers are the values of the items
 abbrev pub NetworkWIsComplete : Type 0
-NetworkWIsComplete = (z : List ℕ) (next h : ℕ) (item : ℕ → Pair) (bit : ℕ → Bool) → Assigns z
-    → HasFrom z next (network_values Waksman h bit (λ j. pair_value z (item j))) → IsFilled z Waksman h next item bit
+NetworkWIsComplete = (z : List ℕ) (next h : ℕ) (item : ℕ → Pair) (bit : ℕ → Bool) (v : ℕ → PairNum) → Assigns z
+    → AreValues z h item v → HasFrom z next (network_values Waksman h bit v) → IsFilled z Waksman h next item bit v

@@ -21,7 +21,12 @@ bound_switch-requires g c =
     let grown = c.loop-j.invariant.grows in
     let room = c.requires.room in
     record {
-      room = record { whole = grown.whole; constant = omega (arith, room.constant, grown.wires); wires = omega (arith, room.wires, grown.wires); constraints = omega (arith, room.constraints, grown.constraints) };
+      room = record {
+        whole = grown.whole;
+        constant = omega (arith, room.constant, grown.wires);
+        wires = omega (arith, room.wires, grown.wires);
+        constraints = omega (arith, room.constraints, grown.constraints);
+      };
       x_made = rw c.fill.ensures (omega (arith, grown.wires, m.first (2 * c.loop-j.j) even));
       x2_made = rw c.fill.ensures (omega (arith, grown.wires, m.second (2 * c.loop-j.j) even));
       y_made = rw c.fill-in-loop-j.ensures (omega (arith, grown.wires, m.first (2 * c.loop-j.j + 1) odd));
@@ -51,7 +56,8 @@ returns-in_err-bound_switch-clause-puts g c =
     let piece : ℕ → Unit {0} → Circuit (Unit {0}) = λ j _. switch_of Bound (pair (2 * j)) (pair (2 * j + 1)) in
     let switch = rw (c.fill.ensures, c.fill-in-loop-j.ensures) at c.in_err-bound_switch.ensures.puts in
     refused m _ _ _ c.from_residual.result c.from_residual.ensures.1
-    (turn_refused m c.args.n c.loop-j.j piece tt tt c.args.s.now c.loop-j.s c.bound_switch.new.s c.in_err-bound_switch.field-0.0 c.loop-j-test.true c.loop-j.invariant.puts switch)
+    (turn_refused m c.args.n c.loop-j.j piece tt tt c.args.s.now c.loop-j.s c.bound_switch.new.s c.in_err-bound_switch.field-0.0 c.loop-j-test.true
+    c.loop-j.invariant.puts switch)
 
 pub returns-clause-puts : goal.returns-clause-puts
 unfolding column_of

@@ -1,5 +1,6 @@
 use Rattle.std.proofs.Common.{◌≡◌, true, false, suc, ◌+◌, ◌-◌, ◌*◌, ◌^◌, sym, subst, arith}
-use Rattle.tv_benes.proofs.NetworkChain.{above_wires, bound_fits, bound_innermost, bound_lowest, room_part, room_after, grows_both, grows_then, first_column_refused, network_put, nothing_inner, upper_refused, lower_refused, inner_put, put_ends}
+use Rattle.tv_benes.proofs.NetworkChain.{above_wires, bound_fits, bound_innermost, bound_lowest, room_part, room_after, grows_both, grows_then}
+use Rattle.tv_benes.proofs.NetworkChain.{first_column_refused, network_put, nothing_inner, upper_refused, lower_refused, inner_put, put_ends}
 use Rattle.tv_benes.proofs.Sizes.{passed_made, below_later, made_later}
 use Rattle.tv_benes.proofs.ThroughLaws.{missing_small}
 use Rattle.tv_benes.specs.Levels.{level_wires}
@@ -12,20 +13,23 @@ use Rattle.tv_benes.proofs.networks.+network.Goals as goal
 -- ---- a bound network
 pub bound_network-bound_column-requires-clause-room : goal.bound_network-bound_column-requires-clause-room
 bound_network-bound_column-requires-clause-room g t c =
-    room_part g.S.Sink.meaning _ (level_wires c.args.net Bound c.args.h) (5 * c.power.result) c.requires.room (omega (arith, bound_fits c.args.net c.args.h, c.power.ensures))
+    room_part g.S.Sink.meaning _ (level_wires c.args.net Bound c.args.h) (5 * c.power.result) c.requires.room
+    (omega (arith, bound_fits c.args.net c.args.h, c.power.ensures))
 
 pub bound_network-bound_column-requires-clause-count : goal.bound_network-bound_column-requires-clause-count
 bound_network-bound_column-requires-clause-count g t c = omega (arith, c.power.ensures, c.requires.from, c.requires.room.wires)
 
 pub bound_network-bound_column-requires-clause-made : goal.bound_network-bound_column-requires-clause-made
 bound_network-bound_column-requires-clause-made g t c =
-    passed_made c.args.items.now.lower c.args.items.now.first c.args.items.now.from (2 * c.power.result) (g.S.Sink.meaning.wires c.args.s.now) (omega (arith, c.power.ensures, c.requires.from))
+    passed_made c.args.items.now.lower c.args.items.now.first c.args.items.now.from (2 * c.power.result) (g.S.Sink.meaning.wires c.args.s.now)
+    (omega (arith, c.power.ensures, c.requires.from))
     (omega (arith, c.power.ensures, c.requires.first))
 
 pub bound_network-returns-in_err-bound_column-clause-puts : goal.bound_network-returns-in_err-bound_column-clause-puts
 bound_network-returns-in_err-bound_column-clause-puts g t c =
     refused g.S.Sink.meaning _ _ _ c.from_residual.result c.from_residual.ensures.1
-    (first_column_refused g.S.Sink.meaning c.args.net Bound c.args.h (λ e. bound_innermost c.args.net) (passed_to c.args.items.now.lower c.args.items.now.first c.args.items.now.from) c.power.result c.power.ensures _ _ _
+    (first_column_refused g.S.Sink.meaning c.args.net Bound c.args.h (λ e. bound_innermost c.args.net)
+    (passed_to c.args.items.now.lower c.args.items.now.first c.args.items.now.from) c.power.result c.power.ensures _ _ _
     c.in_err-bound_column.ensures.puts)
 
 pub bound_network-bound_inner-requires : goal.bound_network-bound_inner-requires
@@ -37,7 +41,8 @@ bound_network-bound_inner-requires g t c κs within =
         (
           omega (arith, c.requires.level),
           (
-            room_after g.S.Sink.meaning _ _ (level_wires c.args.net Bound c.args.h) (5 * c.power.result) (level_wires c.args.net Bound c.args.h - 5 * 2 ^ c.args.h) c.requires.room grown
+            room_after g.S.Sink.meaning _ _ (level_wires c.args.net Bound c.args.h) (5 * c.power.result)
+                (level_wires c.args.net Bound c.args.h - 5 * 2 ^ c.args.h) c.requires.room grown
                 (omega (arith, bound_fits c.args.net c.args.h, c.power.ensures)),
             omega (arith, c.wires.ensures, c.power.ensures, grown.wires),
           ),
@@ -47,18 +52,21 @@ bound_network-bound_inner-requires g t c κs within =
 
 pub bound_network-returns-clause-puts : goal.bound_network-returns-clause-puts
 bound_network-returns-clause-puts g t c =
-    network_put g.S.Sink.meaning c.args.net Bound c.args.h (λ e. bound_innermost c.args.net) (passed_to c.args.items.now.lower c.args.items.now.first c.args.items.now.from) c.power.result c.power.ensures _ _ _ c.wires.result
+    network_put g.S.Sink.meaning c.args.net Bound c.args.h (λ e. bound_innermost c.args.net)
+    (passed_to c.args.items.now.lower c.args.items.now.first c.args.items.now.from) c.power.result c.power.ensures _ _ _ c.wires.result
     c.bound_inner.result c.wires.ensures c.in_ok-bound_column.ensures.puts c.bound_inner.ensures.puts
 
 pub bound_network-returns-clause-grows : goal.bound_network-returns-clause-grows
 bound_network-returns-clause-grows g t c =
-    grows_then g.S.Sink.meaning c.bound_inner.result _ _ _ (5 * c.power.result) (level_wires c.args.net Bound c.args.h - 5 * 2 ^ c.args.h) (level_wires c.args.net Bound c.args.h) c.in_ok-bound_column.ensures.grows
+    grows_then g.S.Sink.meaning c.bound_inner.result _ _ _ (5 * c.power.result) (level_wires c.args.net Bound c.args.h - 5 * 2 ^ c.args.h)
+    (level_wires c.args.net Bound c.args.h) c.in_ok-bound_column.ensures.grows
     c.bound_inner.ensures.grows (omega (arith, bound_fits c.args.net c.args.h, c.power.ensures))
 
 -- ---- what it has after its first column
 pub bound_inner-returns-then-h-eq0-clause-puts : goal.bound_inner-returns-then-h-eq0-clause-puts
 bound_inner-returns-then-h-eq0-clause-puts g t c =
-    rw c.column_outputs.ensures (nothing_inner g.S.Sink.meaning c.args.net Bound c.args.h (c.args.first + 1) (c.args.first + 3) (column_outputs c.args.first) c.args.s.now c.if-h-eq0.true)
+    rw c.column_outputs.ensures (nothing_inner g.S.Sink.meaning c.args.net Bound c.args.h (c.args.first + 1) (c.args.first + 3)
+    (column_outputs c.args.first) c.args.s.now c.if-h-eq0.true)
 
 pub bound_inner-returns-then-h-eq0-clause-grows : goal.bound_inner-returns-then-h-eq0-clause-grows
 bound_inner-returns-then-h-eq0-clause-grows g t c =
@@ -86,7 +94,8 @@ pub bound_inner-returns-in_err-upper-clause-puts : goal.bound_inner-returns-in_e
 bound_inner-returns-in_err-upper-clause-puts g t c =
     let below = above_wires c.args.net Bound c.args.h c.if-h-eq0.false in
     refused g.S.Sink.meaning _ _ _ c.from_residual.result c.from_residual.ensures.1
-    (upper_refused g.S.Sink.meaning c.args.net Bound c.args.h (c.args.first + 1) (c.args.first + 3) (column_outputs c.args.first) (c.args.h - 1) below.level _ _ _ (rw c.offset.ensures at c.in_err-upper.ensures.puts))
+    (upper_refused g.S.Sink.meaning c.args.net Bound c.args.h (c.args.first + 1) (c.args.first + 3) (column_outputs c.args.first)
+    (c.args.h - 1) below.level _ _ _ (rw c.offset.ensures at c.in_err-upper.ensures.puts))
 
 pub bound_inner-open_network-requires-2 : goal.bound_inner-open_network-requires-2
 bound_inner-open_network-requires-2 g t c κs within =
@@ -98,7 +107,8 @@ bound_inner-open_network-requires-2 g t c κs within =
         (
           omega (arith, below.level, c.requires.level),
           (
-            room_after g.S.Sink.meaning _ _ (level_wires c.args.net Bound c.args.h - 5 * 2 ^ c.args.h) (level_wires c.args.net Open (c.args.h - 1)) (level_wires c.args.net Open (c.args.h - 1)) c.requires.room upper
+            room_after g.S.Sink.meaning _ _ (level_wires c.args.net Bound c.args.h - 5 * 2 ^ c.args.h) (level_wires c.args.net Open (c.args.h - 1))
+                (level_wires c.args.net Open (c.args.h - 1)) c.requires.room upper
                 (omega (arith, below.count, below.size, below.some, missing_small c.args.net)),
             omega (arith, c.offset-2.ensures, c.requires.made, upper.wires, below.size),
           ),
@@ -110,7 +120,8 @@ pub bound_inner-returns-in_err-lower-clause-puts : goal.bound_inner-returns-in_e
 bound_inner-returns-in_err-lower-clause-puts g t c =
     let below = above_wires c.args.net Bound c.args.h c.if-h-eq0.false in
     refused g.S.Sink.meaning _ _ _ c.from_residual-in_err-lower.result c.from_residual-in_err-lower.ensures.1
-    (lower_refused g.S.Sink.meaning c.args.net Bound c.args.h (c.args.first + 1) (c.args.first + 3) (column_outputs c.args.first) (c.args.h - 1) below.level _ _ _ (rw c.offset.ensures at c.in_ok-upper.ensures.puts) _ _
+    (lower_refused g.S.Sink.meaning c.args.net Bound c.args.h (c.args.first + 1) (c.args.first + 3) (column_outputs c.args.first)
+    (c.args.h - 1) below.level _ _ _ (rw c.offset.ensures at c.in_ok-upper.ensures.puts) _ _
     (rw c.offset-2.ensures at c.in_err-lower.ensures.puts))
 
 pub bound_inner-bound_last-requires-clause-room : goal.bound_inner-bound_last-requires-clause-room
@@ -126,7 +137,8 @@ pub bound_inner-bound_last-requires-clause-upper : goal.bound_inner-bound_last-r
 bound_inner-bound_last-requires-clause-upper g t c =
     let m = g.S.Sink.meaning in
     let below = above_wires c.args.net Bound c.args.h c.if-h-eq0.false in
-    let ends = put_ends m c.args.net Open (c.args.h - 1) (c.args.first + 1) _ _ c.in_ok-upper.upper (omega (arith, c.requires.made, below.size)) (rw c.offset.ensures at c.in_ok-upper.ensures.puts) in
+    let ends = put_ends m c.args.net Open (c.args.h - 1) (c.args.first + 1) _ _ c.in_ok-upper.upper (omega (arith, c.requires.made, below.size))
+    (rw c.offset.ensures at c.in_ok-upper.ensures.puts) in
     subst (λ k. AreMade (sum_at c.args.net c.in_ok-upper.upper) (2 ^ k) (m.wires c.open_network-2.new.s)) (sym below.level)
     (made_later (sum_at c.args.net c.in_ok-upper.upper) (2 ^ suc (c.args.h - 1)) _ _ (omega (arith, c.in_ok-lower.ensures.grows.wires)) ends)
 
@@ -134,13 +146,15 @@ pub bound_inner-bound_last-requires-clause-lower : goal.bound_inner-bound_last-r
 bound_inner-bound_last-requires-clause-lower g t c =
     let m = g.S.Sink.meaning in
     let below = above_wires c.args.net Bound c.args.h c.if-h-eq0.false in
-    let ends = put_ends m c.args.net Open (c.args.h - 1) (c.args.first + 3) _ _ c.in_ok-lower.lower (omega (arith, c.requires.made, c.in_ok-upper.ensures.grows.wires, below.size)) (rw c.offset-2.ensures at c.in_ok-lower.ensures.puts) in
+    let ends = put_ends m c.args.net Open (c.args.h - 1) (c.args.first + 3) _ _ c.in_ok-lower.lower
+    (omega (arith, c.requires.made, c.in_ok-upper.ensures.grows.wires, below.size)) (rw c.offset-2.ensures at c.in_ok-lower.ensures.puts) in
     subst (λ k. AreMade (sum_at c.args.net c.in_ok-lower.lower) (2 ^ k) (m.wires c.open_network-2.new.s)) (sym below.level) ends
 
 pub bound_inner-returns-clause-puts : goal.bound_inner-returns-clause-puts
 bound_inner-returns-clause-puts g t c =
     let below = above_wires c.args.net Bound c.args.h c.if-h-eq0.false in
-    inner_put g.S.Sink.meaning c.args.net Bound c.args.h (c.args.first + 1) (c.args.first + 3) (column_outputs c.args.first) (c.args.h - 1) below.level _ _ c.in_ok-upper.upper (rw c.offset.ensures at c.in_ok-upper.ensures.puts) _
+    inner_put g.S.Sink.meaning c.args.net Bound c.args.h (c.args.first + 1) (c.args.first + 3) (column_outputs c.args.first)
+    (c.args.h - 1) below.level _ _ c.in_ok-upper.upper (rw c.offset.ensures at c.in_ok-upper.ensures.puts) _
     c.in_ok-lower.lower (rw c.offset-2.ensures at c.in_ok-lower.ensures.puts) _ _ c.bound_last.ensures.puts
 
 pub bound_inner-returns-clause-grows : goal.bound_inner-returns-clause-grows
@@ -149,18 +163,23 @@ bound_inner-returns-clause-grows g t c =
     let below = above_wires c.args.net Bound c.args.h c.if-h-eq0.false in
     let w = level_wires c.args.net Open (c.args.h - 1) in
     let both = grows_both m _ _ _ w w (2 * w) c.in_ok-upper.ensures.grows c.in_ok-lower.ensures.grows (omega arith) in
-    grows_then m c.bound_last.result _ _ _ (2 * w) (5 * (2 ^ c.args.h - missing c.args.net)) (level_wires c.args.net Bound c.args.h - 5 * 2 ^ c.args.h) both c.bound_last.ensures.grows
+    grows_then m c.bound_last.result _ _ _ (2 * w) (5 * (2 ^ c.args.h - missing c.args.net))
+    (level_wires c.args.net Bound c.args.h - 5 * 2 ^ c.args.h) both c.bound_last.ensures.grows
     (omega (arith, below.count, below.size, below.some, missing_small c.args.net))
 
 -- ---- an open network
 pub open_network-returns-in_err-open_column-clause-puts : goal.open_network-returns-in_err-open_column-clause-puts
 open_network-returns-in_err-open_column-clause-puts g t c =
     refused g.S.Sink.meaning _ _ _ c.from_residual.result c.from_residual.ensures.1
-    (first_column_refused g.S.Sink.meaning c.args.net Open c.args.h (λ e. absurd (c.if-h-eq0.false e)) c.args.from c.power.result c.power.ensures _ _ _ c.in_err-open_column.ensures.puts)
+    (first_column_refused g.S.Sink.meaning c.args.net Open c.args.h
+    (λ e. absurd (c.if-h-eq0.false e)) c.args.from c.power.result c.power.ensures _ _ _ c.in_err-open_column.ensures.puts)
 
 pub open_network-returns-clause-puts : goal.open_network-returns-clause-puts
 open_network-returns-clause-puts g t c =
-    network_put g.S.Sink.meaning c.args.net Open c.args.h (λ e. absurd (c.if-h-eq0.false e)) c.args.from c.power.result c.power.ensures _ _ _ c.wires.result c.open_inner.result c.wires.ensures c.in_ok-open_column.ensures.puts
+    network_put g.S.Sink.meaning c.args.net Open c.args.h
+    (λ e. absurd
+    (c.if-h-eq0.false e)) c.args.from c.power.result c.power.ensures _ _ _ c.wires.result c.open_inner.result c.wires.ensures
+    c.in_ok-open_column.ensures.puts
     c.open_inner.ensures.puts
 
 -- ---- what it has after its first column
@@ -185,7 +204,8 @@ pub open_inner-returns-in_err-upper-clause-puts : goal.open_inner-returns-in_err
 open_inner-returns-in_err-upper-clause-puts g t c =
     let below = above_wires c.args.net Open c.args.h (λ e. let none : c.args.h ≡ 0 = e in omega (arith, c.requires.some)) in
     refused g.S.Sink.meaning _ _ _ c.from_residual.result c.from_residual.ensures.1
-    (upper_refused g.S.Sink.meaning c.args.net Open c.args.h (passed_to false c.args.first c.args.from) (passed_to true c.args.first c.args.from) (two_ends c.args.net Open c.args.first c.args.from) (c.args.h - 1) below.level _ _ _
+    (upper_refused g.S.Sink.meaning c.args.net Open c.args.h (passed_to false c.args.first c.args.from) (passed_to true c.args.first c.args.from)
+    (two_ends c.args.net Open c.args.first c.args.from) (c.args.h - 1) below.level _ _ _
     c.in_err-upper.ensures.puts)
 
 pub open_inner-bound_network-requires-2 : goal.open_inner-bound_network-requires-2
@@ -198,7 +218,8 @@ open_inner-bound_network-requires-2 g t c κs within =
         (
           omega (arith, below.level, c.requires.level),
           (
-            room_after g.S.Sink.meaning _ _ (level_wires c.args.net Open c.args.h - 3 * 2 ^ c.args.h) (level_wires c.args.net Bound (c.args.h - 1)) (level_wires c.args.net Bound (c.args.h - 1)) c.requires.room upper
+            room_after g.S.Sink.meaning _ _ (level_wires c.args.net Open c.args.h - 3 * 2 ^ c.args.h) (level_wires c.args.net Bound (c.args.h - 1))
+                (level_wires c.args.net Bound (c.args.h - 1)) c.requires.room upper
                 (omega (arith, below.count, below.size, below.some, missing_small c.args.net)),
             (omega (arith, c.requires.made, c.requires.from, upper.wires, below.size), omega (arith, c.requires.made, upper.wires, below.size)),
           ),
@@ -210,7 +231,8 @@ pub open_inner-returns-in_err-lower-clause-puts : goal.open_inner-returns-in_err
 open_inner-returns-in_err-lower-clause-puts g t c =
     let below = above_wires c.args.net Open c.args.h (λ e. let none : c.args.h ≡ 0 = e in omega (arith, c.requires.some)) in
     refused g.S.Sink.meaning _ _ _ c.from_residual-in_err-lower.result c.from_residual-in_err-lower.ensures.1
-    (lower_refused g.S.Sink.meaning c.args.net Open c.args.h (passed_to false c.args.first c.args.from) (passed_to true c.args.first c.args.from) (two_ends c.args.net Open c.args.first c.args.from) (c.args.h - 1) below.level _ _ _
+    (lower_refused g.S.Sink.meaning c.args.net Open c.args.h (passed_to false c.args.first c.args.from) (passed_to true c.args.first c.args.from)
+    (two_ends c.args.net Open c.args.first c.args.from) (c.args.h - 1) below.level _ _ _
     c.in_ok-upper.ensures.puts _ _ c.in_err-lower.ensures.puts)
 
 pub open_inner-open_last-requires-clause-room : goal.open_inner-open_last-requires-clause-room
@@ -240,7 +262,8 @@ open_inner-open_last-requires-clause-lower g t c =
 pub open_inner-returns-clause-puts : goal.open_inner-returns-clause-puts
 open_inner-returns-clause-puts g t c =
     let below = above_wires c.args.net Open c.args.h (λ e. let none : c.args.h ≡ 0 = e in omega (arith, c.requires.some)) in
-    inner_put g.S.Sink.meaning c.args.net Open c.args.h (passed_to false c.args.first c.args.from) (passed_to true c.args.first c.args.from) (two_ends c.args.net Open c.args.first c.args.from) (c.args.h - 1) below.level _ _
+    inner_put g.S.Sink.meaning c.args.net Open c.args.h (passed_to false c.args.first c.args.from) (passed_to true c.args.first c.args.from)
+    (two_ends c.args.net Open c.args.first c.args.from) (c.args.h - 1) below.level _ _
     c.in_ok-upper.upper c.in_ok-upper.ensures.puts _ c.in_ok-lower.lower c.in_ok-lower.ensures.puts _ _ c.open_last.ensures.puts
 
 pub open_inner-returns-clause-grows : goal.open_inner-returns-clause-grows
@@ -249,5 +272,6 @@ open_inner-returns-clause-grows g t c =
     let below = above_wires c.args.net Open c.args.h (λ e. let none : c.args.h ≡ 0 = e in omega (arith, c.requires.some)) in
     let w = level_wires c.args.net Bound (c.args.h - 1) in
     let both = grows_both m _ _ _ w w (2 * w) c.in_ok-upper.ensures.grows c.in_ok-lower.ensures.grows (omega arith) in
-    grows_then m c.open_last.result _ _ _ (2 * w) (3 * (2 ^ c.args.h - missing c.args.net)) (level_wires c.args.net Open c.args.h - 3 * 2 ^ c.args.h) both c.open_last.ensures.grows
+    grows_then m c.open_last.result _ _ _ (2 * w) (3 * (2 ^ c.args.h - missing c.args.net))
+    (level_wires c.args.net Open c.args.h - 3 * 2 ^ c.args.h) both c.open_last.ensures.grows
     (omega (arith, below.count, below.size, below.some, missing_small c.args.net))

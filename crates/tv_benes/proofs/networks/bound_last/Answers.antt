@@ -16,7 +16,8 @@ bound_column-requires-clause-made g c =
     let count : c.power.result - c.missing.result ≡ 2 ^ c.args.h - missing c.args.net = ap₂ (λ a b. a - b) c.power.ensures c.missing.ensures in
     let some : c.args.h ≢ 0 = λ e. let none : c.args.h ≡ 0 = e in omega (arith, c.requires.some) in
     let below = above_wires c.args.net Bound c.args.h some in
-    rw count (last_made c.args.net c.args.upper.now c.args.lower.now (2 ^ c.args.h) (m.wires c.args.s.now) (omega (arith, below.size, below.some)) c.requires.upper c.requires.lower)
+    rw count (last_made c.args.net c.args.upper.now c.args.lower.now (2 ^ c.args.h) (m.wires c.args.s.now)
+    (omega (arith, below.size, below.some)) c.requires.upper c.requires.lower)
 
 pub returns-in_err-bound_column-clause-puts : goal.returns-in_err-bound_column-clause-puts
 returns-in_err-bound_column-clause-puts g c =

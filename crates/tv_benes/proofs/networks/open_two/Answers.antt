@@ -20,7 +20,8 @@ pub returns-in_err-open_column-in-Benes-clause-puts : goal.returns-in_err-open_c
 returns-in_err-open_column-in-Benes-clause-puts g c =
     let m = g.S.Sink.meaning in
     let form : innermost c.args.net Open ≡ Open = ap (λ n. innermost n Open) c.in-Benes.is in
-    let column = subst (λ (f : Form). PutsSome m c.args.s.now c.open_column.new.s (column_of f 1 (row c.args.from)) c.in_err-open_column-in-Benes.field-0.0) (sym form) c.in_err-open_column-in-Benes.ensures.puts in
+    let column = subst (λ (f : Form). PutsSome m c.args.s.now c.open_column.new.s (column_of f 1 (row c.args.from)) c.in_err-open_column-in-Benes.field-0.0)
+    (sym form) c.in_err-open_column-in-Benes.ensures.puts in
     refused m _ _ _ c.from_residual.result c.from_residual.ensures.1 (two_refused m c.args.net Open c.args.from _ _ _ column)
 
 pub returns-in_ok-open_column-in-Benes-clause-puts : goal.returns-in_ok-open_column-in-Benes-clause-puts
@@ -29,10 +30,13 @@ returns-in_ok-open_column-in-Benes-clause-puts g c =
     let m = g.S.Sink.meaning in
     let first = c.wires.result in
     let form : innermost c.args.net Open ≡ Open = ap (λ n. innermost n Open) c.in-Benes.is in
-    let column = subst (λ (f : Form). PutsAll m c.args.s.now c.open_column.new.s (column_of f 1 (row c.args.from)) tt) (sym form) c.in_ok-open_column-in-Benes.ensures.puts in
+    let column = subst (λ (f : Form). PutsAll m c.args.s.now c.open_column.new.s (column_of f 1 (row c.args.from)) tt)
+    (sym form) c.in_ok-open_column-in-Benes.ensures.puts in
     let ends : two_ends c.args.net Open first c.args.from ≡ sums c.lone.result c.lone-in-Benes.result first =
-    ap (λ n. two_ends n Open first c.args.from) c.in-Benes.is ∙ sym (ap₂ (λ u l. sums u l first) c.lone.ensures (c.lone-in-Benes.ensures ∙ ap lone c.offset.ensures)) in
-    subst (λ (o : Sums). PutsAll m c.args.s.now c.open_column.new.s (level_of c.args.net Open 0 c.args.from) o) ends (two_put m c.args.net Open c.args.from _ _ first c.wires.ensures column)
+    ap (λ n. two_ends n Open first c.args.from) c.in-Benes.is
+    ∙ sym (ap₂ (λ u l. sums u l first) c.lone.ensures (c.lone-in-Benes.ensures ∙ ap lone c.offset.ensures)) in
+    subst (λ (o : Sums). PutsAll m c.args.s.now c.open_column.new.s (level_of c.args.net Open 0 c.args.from) o) ends
+    (two_put m c.args.net Open c.args.from _ _ first c.wires.ensures column)
 
 pub returns-in_ok-open_column-in-Benes-clause-grows : goal.returns-in_ok-open_column-in-Benes-clause-grows
 returns-in_ok-open_column-in-Benes-clause-grows g c =
@@ -49,8 +53,10 @@ pub returns-in_err-bound_column-in-Waksman-clause-puts : goal.returns-in_err-bou
 returns-in_err-bound_column-in-Waksman-clause-puts g c =
     let m = g.S.Sink.meaning in
     let form : innermost c.args.net Open ≡ Bound = ap (λ n. innermost n Open) c.in-Waksman.is in
-    let column = subst (λ (f : Form). PutsSome m c.args.s.now c.bound_column.new.s (column_of f 1 (row c.args.from)) c.in_err-bound_column-in-Waksman.field-0.0) (sym form) c.in_err-bound_column-in-Waksman.ensures.puts in
-    refused m _ _ _ c.from_residual-in_err-bound_column-in-Waksman.result c.from_residual-in_err-bound_column-in-Waksman.ensures.1 (two_refused m c.args.net Open c.args.from _ _ _ column)
+    let column = subst (λ (f : Form). PutsSome m c.args.s.now c.bound_column.new.s (column_of f 1 (row c.args.from)) c.in_err-bound_column-in-Waksman.field-0.0)
+    (sym form) c.in_err-bound_column-in-Waksman.ensures.puts in
+    refused m _ _ _ c.from_residual-in_err-bound_column-in-Waksman.result c.from_residual-in_err-bound_column-in-Waksman.ensures.1
+    (two_refused m c.args.net Open c.args.from _ _ _ column)
 
 pub returns-in_ok-bound_column-in-Waksman-clause-puts : goal.returns-in_ok-bound_column-in-Waksman-clause-puts
 unfolding sums
@@ -58,11 +64,14 @@ returns-in_ok-bound_column-in-Waksman-clause-puts g c =
     let m = g.S.Sink.meaning in
     let first = c.wires.result in
     let form : innermost c.args.net Open ≡ Bound = ap (λ n. innermost n Open) c.in-Waksman.is in
-    let column = subst (λ (f : Form). PutsAll m c.args.s.now c.bound_column.new.s (column_of f 1 (row c.args.from)) tt) (sym form) c.in_ok-bound_column-in-Waksman.ensures.puts in
+    let column = subst (λ (f : Form). PutsAll m c.args.s.now c.bound_column.new.s (column_of f 1 (row c.args.from)) tt)
+    (sym form) c.in_ok-bound_column-in-Waksman.ensures.puts in
     let ends : two_ends c.args.net Open first c.args.from ≡ sums c.lone-in-Waksman.result c.lone-in-Waksman-2.result first =
     ap (λ n. two_ends n Open first c.args.from) c.in-Waksman.is
-    ∙ sym (ap₂ (λ u l. sums u l first) (c.lone-in-Waksman.ensures ∙ ap lone c.offset-in-Waksman.ensures) (c.lone-in-Waksman-2.ensures ∙ ap lone c.offset-in-Waksman-2.ensures)) in
-    subst (λ (o : Sums). PutsAll m c.args.s.now c.bound_column.new.s (level_of c.args.net Open 0 c.args.from) o) ends (two_put m c.args.net Open c.args.from _ _ first c.wires.ensures column)
+    ∙ sym (ap₂ (λ u l. sums u l first) (c.lone-in-Waksman.ensures ∙ ap lone c.offset-in-Waksman.ensures)
+    (c.lone-in-Waksman-2.ensures ∙ ap lone c.offset-in-Waksman-2.ensures)) in
+    subst (λ (o : Sums). PutsAll m c.args.s.now c.bound_column.new.s (level_of c.args.net Open 0 c.args.from) o) ends
+    (two_put m c.args.net Open c.args.from _ _ first c.wires.ensures column)
 
 pub returns-in_ok-bound_column-in-Waksman-clause-grows : goal.returns-in_ok-bound_column-in-Waksman-clause-grows
 returns-in_ok-bound_column-in-Waksman-clause-grows g c =

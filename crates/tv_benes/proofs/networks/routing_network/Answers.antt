@@ -9,16 +9,19 @@ use Rattle.tv_benes.proofs.networks.routing_network.Goals as goal
 
 pub bound_column-requires-clause-room : goal.bound_column-requires-clause-room
 bound_column-requires-clause-room g c =
-    room_part g.S.Sink.meaning _ (level_wires c.args.net Bound (c.args.k - 1)) (5 * c.power.result) c.requires.room (omega (arith, bound_fits c.args.net (c.args.k - 1), c.power.ensures))
+    room_part g.S.Sink.meaning _ (level_wires c.args.net Bound (c.args.k - 1)) (5 * c.power.result) c.requires.room
+    (omega (arith, bound_fits c.args.net (c.args.k - 1), c.power.ensures))
 
 pub returns-in_err-bound_column-clause-puts : goal.returns-in_err-bound_column-clause-puts
 returns-in_err-bound_column-clause-puts g c =
     refused g.S.Sink.meaning _ _ _ c.from_residual.result c.from_residual.ensures.1
-    (first_column_refused g.S.Sink.meaning c.args.net Bound (c.args.k - 1) (λ e. bound_innermost c.args.net) (g.I.Inputs.pair c.args.inputs.now) c.power.result c.power.ensures _ _ _ c.in_err-bound_column.ensures.puts)
+    (first_column_refused g.S.Sink.meaning c.args.net Bound (c.args.k - 1) (λ e. bound_innermost c.args.net)
+    (g.I.Inputs.pair c.args.inputs.now) c.power.result c.power.ensures _ _ _ c.in_err-bound_column.ensures.puts)
 
 pub bound_inner-requires-clause-room : goal.bound_inner-requires-clause-room
 bound_inner-requires-clause-room g c =
-    room_after g.S.Sink.meaning _ _ (level_wires c.args.net Bound (c.args.k - 1)) (5 * c.power.result) (level_wires c.args.net Bound (c.args.k - 1) - 5 * 2 ^ (c.args.k - 1)) c.requires.room c.in_ok-bound_column.ensures.grows
+    room_after g.S.Sink.meaning _ _ (level_wires c.args.net Bound (c.args.k - 1)) (5 * c.power.result)
+    (level_wires c.args.net Bound (c.args.k - 1) - 5 * 2 ^ (c.args.k - 1)) c.requires.room c.in_ok-bound_column.ensures.grows
     (omega (arith, bound_fits c.args.net (c.args.k - 1), c.power.ensures))
 
 pub bound_inner-requires-clause-made : goal.bound_inner-requires-clause-made
@@ -26,12 +29,14 @@ bound_inner-requires-clause-made g c = omega (arith, c.wires.ensures, c.power.en
 
 pub returns-clause-puts : goal.returns-clause-puts
 returns-clause-puts g c =
-    network_put g.S.Sink.meaning c.args.net Bound (c.args.k - 1) (λ e. bound_innermost c.args.net) (g.I.Inputs.pair c.args.inputs.now) c.power.result c.power.ensures _ _ _ c.wires.result c.bound_inner.result c.wires.ensures
+    network_put g.S.Sink.meaning c.args.net Bound (c.args.k - 1) (λ e. bound_innermost c.args.net)
+    (g.I.Inputs.pair c.args.inputs.now) c.power.result c.power.ensures _ _ _ c.wires.result c.bound_inner.result c.wires.ensures
     c.in_ok-bound_column.ensures.puts c.bound_inner.ensures.puts
 
 pub returns-clause-grows : goal.returns-clause-grows
 returns-clause-grows g c =
-    grows_then g.S.Sink.meaning c.bound_inner.result _ _ _ (5 * c.power.result) (level_wires c.args.net Bound (c.args.k - 1) - 5 * 2 ^ (c.args.k - 1)) (level_wires c.args.net Bound (c.args.k - 1))
+    grows_then g.S.Sink.meaning c.bound_inner.result _ _ _ (5 * c.power.result) (level_wires c.args.net Bound (c.args.k - 1) - 5 * 2 ^ (c.args.k - 1))
+    (level_wires c.args.net Bound (c.args.k - 1))
     c.in_ok-bound_column.ensures.grows c.bound_inner.ensures.grows (omega (arith, bound_fits c.args.net (c.args.k - 1), c.power.ensures))
 
 pub returns-clause-below : goal.returns-clause-below

@@ -5,11 +5,23 @@ use Rattle.tv_benes.proofs.open_switches.product.Goals as goal
 pub returns-in_err-put-clause-puts : goal.returns-in_err-put-clause-puts
 unfolding pick_of
 returns-in_err-put-clause-puts g c =
-    let held = rw (c.set_wire.ensures.terms, c.set_difference.ensures.terms, c.set_wire-2.ensures.terms) at c.in_err-put.ensures.puts in
+    let held = rw (
+      c.set_wire.ensures.terms,
+      c.add.ensures.terms,
+      c.set_wire-2.ensures.terms,
+      c.neg.ensures,
+      c.set_wire-3.ensures.terms,
+    ) at c.in_err-put.ensures.puts in
     refused g.S.Sink.meaning _ _ _ c.from_residual.result c.from_residual.ensures.1 (search (chain, c.fresh-m.ensures.puts, held))
 
 pub returns-clause-puts : goal.returns-clause-puts
 unfolding pick_of
 returns-clause-puts g c =
-    let held = rw (c.set_wire.ensures.terms, c.set_difference.ensures.terms, c.set_wire-2.ensures.terms) at c.in_ok-put.ensures.puts in
+    let held = rw (
+      c.set_wire.ensures.terms,
+      c.add.ensures.terms,
+      c.set_wire-2.ensures.terms,
+      c.neg.ensures,
+      c.set_wire-3.ensures.terms,
+    ) at c.in_ok-put.ensures.puts in
     search (chain, c.fresh-m.ensures.puts, held)

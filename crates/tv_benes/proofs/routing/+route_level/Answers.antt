@@ -37,7 +37,8 @@ returns-in_err-first_column-clause-gives g t c =
     let long : length c.split_at_mut-upper.result.0.now ≡ 2 ^ c.args.h = c.split_at_mut-upper.ensures.front_len ∙ c.long_power-n.ensures in
     let column = rw long at c.in_err-first_column.ensures.gives in
     gives_refused m _ _ _ c.from_residual.result c.from_residual.ensures.1
-    (column_refused m c.args.net c.args.form c.args.h (c.args.h - 1) (from c.args.at (bit_at c.args.bits.now)) (pair_at c.args.items.now) (above c.args.net c.args.h c.if-h-eq0.false).level _ _ _ column)
+    (column_refused m c.args.net c.args.form c.args.h (c.args.h - 1) (from c.args.at (bit_at c.args.bits.now)) (pair_at c.args.items.now)
+    (above c.args.net c.args.h c.if-h-eq0.false).level _ _ _ column)
 
 -- ---- the two networks
 pub route_level-requires : goal.route_level-requires
@@ -48,8 +49,16 @@ route_level-requires g t c κs within =
     let level : 2 ^ c.args.h ≡ 2 ^ suc (c.args.h - 1) = ap (λ k. 2 ^ k) below.level in
     let items = c.first_column.auto.upper ∙ c.split_at_mut-upper.ensures.front_len ∙ n ∙ level in
     let spare = c.split_at_mut-upper_spare.ensures.front_len ∙ n ∙ level in
-    let place = c.requires.place in
-    (omega (arith, below.level), (within, (c.in_ok-first_column.ensures.whole, (omega arith, (items, (spare, omega (arith, place, below.count, below.size, below.some, n)))))))
+    let place = c.requires.place in (
+      omega (arith, below.level),
+      (
+        within,
+        (
+          c.in_ok-first_column.ensures.whole,
+          (omega arith, (items, (spare, omega (arith, place, below.count, below.size, below.some, n)))),
+        ),
+      ),
+    )
 
 pub route_level-requires-2 : goal.route_level-requires-2
 route_level-requires-2 g t c κs within =
@@ -90,8 +99,11 @@ returns-in_err-route_level-clause-gives g t c =
     let long : length c.split_at_mut-upper.result.0.now ≡ 2 ^ h = c.split_at_mut-upper.ensures.front_len ∙ c.long_power-n.ensures in
     let column = rw long at c.in_ok-first_column.ensures.gives in
     let to_u = c.in_ok-first_column.ensures.upper ∙ ap (λ n. places n (to_upper bit item)) long in
-    let up = upper_does net c.args.form h (h - 1) below.level c.args.at c.long_power-n.result c.level_switches-s.result c.long_power-n.ensures c.level_switches-s.ensures b item c.first_column.new.upper to_u in
-    let upper = subst (λ (l : List ℕ). GivesSome m c.first_column.new.v c.route_level.new.v l c.in_err-route_level.field-0.0) up.values (rw c.other-inner.ensures at c.in_err-route_level.ensures.gives) in
+    let up = upper_does net c.args.form h
+    (h - 1) below.level c.args.at c.long_power-n.result c.level_switches-s.result c.long_power-n.ensures c.level_switches-s.ensures b item
+    c.first_column.new.upper to_u in
+    let upper = subst (λ (l : List ℕ). GivesSome m c.first_column.new.v c.route_level.new.v l c.in_err-route_level.field-0.0) up.values
+    (rw c.other-inner.ensures at c.in_err-route_level.ensures.gives) in
     gives_refused m _ _ _ c.from_residual-in_err-route_level.result c.from_residual-in_err-route_level.ensures.1
     (upper_refused m net c.args.form h (h - 1) bit item below.level _ _ column _ _ upper)
 
@@ -108,10 +120,16 @@ returns-in_err-route_level-2-clause-gives g t c =
     let column = rw long at c.in_ok-first_column.ensures.gives in
     let to_u = c.in_ok-first_column.ensures.upper ∙ ap (λ n. places n (to_upper bit item)) long in
     let to_l = c.in_ok-first_column.ensures.lower ∙ ap (λ n. places n (to_lower bit item)) long in
-    let up = upper_does net c.args.form h (h - 1) below.level c.args.at c.long_power-n.result c.level_switches-s.result c.long_power-n.ensures c.level_switches-s.ensures b item c.first_column.new.upper to_u in
-    let low = lower_does net c.args.form h (h - 1) below.level c.args.at c.long_power-n.result c.level_switches-s.result c.long_power-n.ensures c.level_switches-s.ensures b item c.first_column.new.lower to_l in
-    let upper = subst (λ (l : List ℕ). GivesAll m c.first_column.new.v c.route_level.new.v l) up.values (rw c.other-inner.ensures at c.in_ok-route_level.ensures.gives) in
-    let lower = subst (λ (l : List ℕ). GivesSome m c.route_level.new.v c.route_level-2.new.v l c.in_err-route_level-2.field-0.0) low.values (rw c.other-inner.ensures at c.in_err-route_level-2.ensures.gives) in
+    let up = upper_does net c.args.form h
+    (h - 1) below.level c.args.at c.long_power-n.result c.level_switches-s.result c.long_power-n.ensures c.level_switches-s.ensures b item
+    c.first_column.new.upper to_u in
+    let low = lower_does net c.args.form h
+    (h - 1) below.level c.args.at c.long_power-n.result c.level_switches-s.result c.long_power-n.ensures c.level_switches-s.ensures b item
+    c.first_column.new.lower to_l in
+    let upper = subst (λ (l : List ℕ). GivesAll m c.first_column.new.v c.route_level.new.v l) up.values
+    (rw c.other-inner.ensures at c.in_ok-route_level.ensures.gives) in
+    let lower = subst (λ (l : List ℕ). GivesSome m c.route_level.new.v c.route_level-2.new.v l c.in_err-route_level-2.field-0.0) low.values
+    (rw c.other-inner.ensures at c.in_err-route_level-2.ensures.gives) in
     gives_refused m _ _ _ c.from_residual-in_err-route_level-2.result c.from_residual-in_err-route_level-2.ensures.1
     (lower_refused m net c.args.form h (h - 1) bit item below.level _ _ column _ upper _ _ lower)
 
@@ -120,7 +138,8 @@ pub last_column-requires-clause-place : goal.last_column-requires-clause-place
 last_column-requires-clause-place g t c =
     let below = above c.args.net c.args.h c.if-h-eq0.false in
     let n = c.long_power-n.ensures in
-    let long : length c.route_level.new.items ≡ 2 ^ c.args.h = c.route_level.auto.items ∙ c.first_column.auto.upper ∙ c.split_at_mut-upper.ensures.front_len ∙ n in
+    let long : length c.route_level.new.items ≡ 2 ^ c.args.h = c.route_level.auto.items ∙ c.first_column.auto.upper ∙ c.split_at_mut-upper.ensures.front_len
+    ∙ n in
     omega (arith, c.requires.place, below.count, below.size, below.some, missing_small c.args.net, n, c.level_switches-s.ensures, long)
 
 pub returns-clause-gives : goal.returns-clause-gives
@@ -136,11 +155,19 @@ returns-clause-gives g t c =
     let column = rw long at c.in_ok-first_column.ensures.gives in
     let to_u = c.in_ok-first_column.ensures.upper ∙ ap (λ n. places n (to_upper bit item)) long in
     let to_l = c.in_ok-first_column.ensures.lower ∙ ap (λ n. places n (to_lower bit item)) long in
-    let up = upper_does net c.args.form h (h - 1) below.level c.args.at c.long_power-n.result c.level_switches-s.result c.long_power-n.ensures c.level_switches-s.ensures b item c.first_column.new.upper to_u in
-    let low = lower_does net c.args.form h (h - 1) below.level c.args.at c.long_power-n.result c.level_switches-s.result c.long_power-n.ensures c.level_switches-s.ensures b item c.first_column.new.lower to_l in
-    let upper = subst (λ (l : List ℕ). GivesAll m c.first_column.new.v c.route_level.new.v l) up.values (rw c.other-inner.ensures at c.in_ok-route_level.ensures.gives) in
-    let lower = subst (λ (l : List ℕ). GivesAll m c.route_level.new.v c.route_level-2.new.v l) low.values (rw c.other-inner.ensures at c.in_ok-route_level-2.ensures.gives) in
-    let last = moved_values net c.args.form h (h - 1) below.level c.args.at c.long_power-n.result c.level_switches-s.result c.long_power-n.ensures c.level_switches-s.ensures b item c.route_level.new.items c.route_level-2.new.items
+    let up = upper_does net c.args.form h
+    (h - 1) below.level c.args.at c.long_power-n.result c.level_switches-s.result c.long_power-n.ensures c.level_switches-s.ensures b item
+    c.first_column.new.upper to_u in
+    let low = lower_does net c.args.form h
+    (h - 1) below.level c.args.at c.long_power-n.result c.level_switches-s.result c.long_power-n.ensures c.level_switches-s.ensures b item
+    c.first_column.new.lower to_l in
+    let upper = subst (λ (l : List ℕ). GivesAll m c.first_column.new.v c.route_level.new.v l) up.values
+    (rw c.other-inner.ensures at c.in_ok-route_level.ensures.gives) in
+    let lower = subst (λ (l : List ℕ). GivesAll m c.route_level.new.v c.route_level-2.new.v l) low.values
+    (rw c.other-inner.ensures at c.in_ok-route_level-2.ensures.gives) in
+    let last = moved_values net c.args.form h
+    (h - 1) below.level c.args.at c.long_power-n.result c.level_switches-s.result c.long_power-n.ensures c.level_switches-s.ensures b item
+    c.route_level.new.items c.route_level-2.new.items
     (up.moved c.route_level.new.items c.in_ok-route_level.ensures.moved) (low.moved c.route_level-2.new.items c.in_ok-route_level-2.ensures.moved) in
     level_given m net c.args.form h (h - 1) bit item below.level _ _ column _ upper _ _ c.last_column.result lower
     (subst (λ (l : List ℕ). GivesIn m c.route_level-2.new.v c.last_column.new.v l c.last_column.result) last c.last_column.ensures.gives)
@@ -156,8 +183,14 @@ returns-clause-moved g t c =
     let long : length c.split_at_mut-upper.result.0.now ≡ 2 ^ h = c.split_at_mut-upper.ensures.front_len ∙ c.long_power-n.ensures in
     let to_u = c.in_ok-first_column.ensures.upper ∙ ap (λ n. places n (to_upper bit item)) long in
     let to_l = c.in_ok-first_column.ensures.lower ∙ ap (λ n. places n (to_lower bit item)) long in
-    let up = upper_does net c.args.form h (h - 1) below.level c.args.at c.long_power-n.result c.level_switches-s.result c.long_power-n.ensures c.level_switches-s.ensures b item c.first_column.new.upper to_u in
-    let low = lower_does net c.args.form h (h - 1) below.level c.args.at c.long_power-n.result c.level_switches-s.result c.long_power-n.ensures c.level_switches-s.ensures b item c.first_column.new.lower to_l in
-    let last = moved_items net c.args.form h (h - 1) below.level c.args.at c.long_power-n.result c.level_switches-s.result c.long_power-n.ensures c.level_switches-s.ensures b item c.route_level.new.items c.route_level-2.new.items
+    let up = upper_does net c.args.form h
+    (h - 1) below.level c.args.at c.long_power-n.result c.level_switches-s.result c.long_power-n.ensures c.level_switches-s.ensures b item
+    c.first_column.new.upper to_u in
+    let low = lower_does net c.args.form h
+    (h - 1) below.level c.args.at c.long_power-n.result c.level_switches-s.result c.long_power-n.ensures c.level_switches-s.ensures b item
+    c.first_column.new.lower to_l in
+    let last = moved_items net c.args.form h
+    (h - 1) below.level c.args.at c.long_power-n.result c.level_switches-s.result c.long_power-n.ensures c.level_switches-s.ensures b item
+    c.route_level.new.items c.route_level-2.new.items
     (up.moved c.route_level.new.items c.in_ok-route_level.ensures.moved) (low.moved c.route_level-2.new.items c.in_ok-route_level-2.ensures.moved) in
     on_ok_weaker c.last_column.result (λ joined. joined ∙ last) c.last_column.ensures.joined

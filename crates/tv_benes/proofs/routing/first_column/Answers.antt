@@ -24,7 +24,8 @@ loop-j-preserved g c =
     let item = pair_at c.args.items.now in
     let x = read_item c.args.items.now (2 * j) c.index-items-j.result (omega arith) c.index-items-j.is in
     let y = read_item c.args.items.now (2 * j + 1) c.index-items-j-in-loop-j.result (omega arith) c.index-items-j-in-loop-j.is in
-    let switch = subst (λ l. GivesAll m c.loop-j.v c.fill_switch.new.v l) (values_as c.args.form _ _ _ _ _ _ c.bit-b.ensures x y) c.in_ok-fill_switch.ensures.gives in
+    let switch = subst (λ l. GivesAll m c.loop-j.v c.fill_switch.new.v l)
+    (values_as c.args.form _ _ _ _ _ _ c.bit-b.ensures x y) c.in_ok-fill_switch.ensures.gives in
     let up = c.passed.ensures ∙ passed-same _ _ _ _ _ _ c.bit-b.ensures x y in
     let low = c.passed-in-loop-j.ensures ∙ passed-same _ _ _ _ _ _ c.bit-b.ensures y x in
     record {
@@ -42,7 +43,8 @@ returns-in_err-fill_switch-clause-gives g c =
     let item = pair_at c.args.items.now in
     let x = read_item c.args.items.now (2 * j) c.index-items-j.result (omega arith) c.index-items-j.is in
     let y = read_item c.args.items.now (2 * j + 1) c.index-items-j-in-loop-j.result (omega arith) c.index-items-j-in-loop-j.is in
-    let switch = subst (λ l. GivesSome m c.loop-j.v c.fill_switch.new.v l c.in_err-fill_switch.field-0.0) (values_as c.args.form _ _ _ _ _ _ c.bit-b.ensures x y) c.in_err-fill_switch.ensures.gives in
+    let switch = subst (λ l. GivesSome m c.loop-j.v c.fill_switch.new.v l c.in_err-fill_switch.field-0.0)
+    (values_as c.args.form _ _ _ _ _ _ c.bit-b.ensures x y) c.in_err-fill_switch.ensures.gives in
     gives_refused m _ _ _ c.from_residual.result c.from_residual.ensures.1
     (switch_refused m c.args.form bit item (length c.args.upper.now) j _ _ _ _ c.loop-j-test.true c.loop-j.invariant.gives switch)
 
@@ -54,9 +56,11 @@ returns-clause-gives g c =
 pub returns-clause-upper : goal.returns-clause-upper
 returns-clause-upper g c =
     let bit = from c.args.at (bit_at c.args.bits.now) in
-    is_places (length c.args.upper.now) (to_upper bit (pair_at c.args.items.now)) c.loop-j.upper c.loop-j.auto.upper (λ k h. c.loop-j.invariant.upper k (omega arith))
+    is_places (length c.args.upper.now) (to_upper bit (pair_at c.args.items.now)) c.loop-j.upper c.loop-j.auto.upper
+    (λ k h. c.loop-j.invariant.upper k (omega arith))
 
 pub returns-clause-lower : goal.returns-clause-lower
 returns-clause-lower g c =
     let bit = from c.args.at (bit_at c.args.bits.now) in
-    is_places (length c.args.upper.now) (to_lower bit (pair_at c.args.items.now)) c.loop-j.lower (c.loop-j.auto.lower ∙ c.requires.lower) (λ k h. c.loop-j.invariant.lower k (omega arith))
+    is_places (length c.args.upper.now) (to_lower bit (pair_at c.args.items.now)) c.loop-j.lower (c.loop-j.auto.lower ∙ c.requires.lower)
+    (λ k h. c.loop-j.invariant.lower k (omega arith))

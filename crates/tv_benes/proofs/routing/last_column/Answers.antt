@@ -52,9 +52,11 @@ returns-in_err-fill_unless-clause-gives g c =
     let x = read_item c.args.upper.now j c.index-upper-j.result (omega arith) c.index-upper-j.is in
     let y = read_item c.args.lower.now j c.index-lower-j.result (omega arith) c.index-lower-j.is in
     let values = ap₂ (λ n l. if nat_lt j n then [] else l) c.missing-skipped.ensures (values_as c.args.form _ _ _ _ _ _ c.last_bit-b.ensures x y) in
-    let switch = subst (λ (l : List ℕ). GivesSome m c.loop-j.v c.fill_unless.new.v l c.in_err-fill_unless.field-0.0) values c.in_err-fill_unless.ensures.gives in
+    let switch = subst
+    (λ (l : List ℕ). GivesSome m c.loop-j.v c.fill_unless.new.v l c.in_err-fill_unless.field-0.0) values c.in_err-fill_unless.ensures.gives in
     gives_refused m _ _ _ c.from_residual.result c.from_residual.ensures.1
-    (last_refused m net c.args.form bit (pair_at c.args.upper.now) (pair_at c.args.lower.now) (length c.args.upper.now) j _ _ _ _ c.loop-j-test.true c.loop-j.invariant.gives switch)
+    (last_refused m net c.args.form bit (pair_at c.args.upper.now) (pair_at c.args.lower.now)
+    (length c.args.upper.now) j _ _ _ _ c.loop-j-test.true c.loop-j.invariant.gives switch)
 
 pub returns-clause-gives : goal.returns-clause-gives
 returns-clause-gives g c =
@@ -64,5 +66,6 @@ returns-clause-gives g c =
 pub returns-clause-joined : goal.returns-clause-joined
 returns-clause-joined g c =
     let bit = from c.args.at (bit_at c.args.bits.now) in
-    is_places (2 * length c.args.upper.now) (joined (last_bit c.args.net bit) (pair_at c.args.upper.now) (pair_at c.args.lower.now)) c.loop-j.items (c.loop-j.auto.items ∙ c.requires.items)
+    is_places (2 * length c.args.upper.now) (joined (last_bit c.args.net bit) (pair_at c.args.upper.now) (pair_at c.args.lower.now)) c.loop-j.items
+    (c.loop-j.auto.items ∙ c.requires.items)
     (λ k h. c.loop-j.invariant.joined k (omega arith))

@@ -10,7 +10,8 @@ returns-then-h-eq0-clause-is t c =
     c.bound_of.ensures ∙ ap (λ form. bound_of form 1) c.innermost.ensures ∙ sym (bound_lowest c.args.net c.args.form c.args.h c.if-h-eq0.true)
 
 pub returns-then-h-eq0-clause-few : goal.returns-then-h-eq0-clause-few
-returns-then-h-eq0-clause-few t c = subst (λ n. n ≤ switches c.args.net c.args.h) (sym (returns-then-h-eq0-clause-is t c)) (bound_few c.args.net c.args.form c.args.h)
+returns-then-h-eq0-clause-few t c = subst (λ n. n ≤ switches c.args.net c.args.h) (sym (returns-then-h-eq0-clause-is t c))
+    (bound_few c.args.net c.args.form c.args.h)
 
 pub overflow_mul-result : goal.overflow_mul-result
 overflow_mul-result t c = omega (arith, c.bound_switches-inner.ensures.few, switches_few c.args.net (c.args.h - 1) (omega arith))
@@ -31,8 +32,10 @@ overflow_add-result t c =
 
 pub returns-clause-is : goal.returns-clause-is
 returns-clause-is t c =
-    let column : c.bound_of-2.result ≡ bound_of c.args.form (2 * 2 ^ c.args.h - missing c.args.net) = c.bound_of-2.ensures ∙ ap (bound_of c.args.form) (ap₂ (λ a b. 2 * a - b) c.long_power.ensures c.long_missing.ensures) in
-    let inner : c.bound_switches-inner.result ≡ bound c.args.net (other c.args.form) (c.args.h - 1) = c.bound_switches-inner.ensures.is ∙ ap (λ form. bound c.args.net form (c.args.h - 1)) c.other.ensures in
+    let column : c.bound_of-2.result ≡ bound_of c.args.form (2 * 2 ^ c.args.h - missing c.args.net) = c.bound_of-2.ensures
+    ∙ ap (bound_of c.args.form) (ap₂ (λ a b. 2 * a - b) c.long_power.ensures c.long_missing.ensures) in
+    let inner : c.bound_switches-inner.result ≡ bound c.args.net (other c.args.form) (c.args.h - 1) = c.bound_switches-inner.ensures.is
+    ∙ ap (λ form. bound c.args.net form (c.args.h - 1)) c.other.ensures in
     ap₂ (λ a b. a + 2 * b) column inner ∙ sym (bound_above c.args.net c.args.form c.args.h c.if-h-eq0.false)
 
 pub returns-clause-few : goal.returns-clause-few

@@ -26,9 +26,17 @@ returns-clause-marks c =
     let ws = c.settle.new.marks in
     let first = slice_index c.args.p.now 0 in
     let is : ws ≡ halves c.args.p.now c.args.n =
-    c.settle.ensures ∙ ap₂ (λ (q : List ℕ) (m : List Mark). walks q c.args.n c.args.n (walk q c.args.n first first m)) (c.deref.ensures.value ∙ c.in_ok-partner.ensures) (c.as_mut_slice.ensures.value ∙ none) in
+    c.settle.ensures ∙ ap₂ (λ (q : List ℕ) (m : List Mark). walks q c.args.n c.args.n (walk q c.args.n first first m))
+    (c.deref.ensures.value ∙ c.in_ok-partner.ensures) (c.as_mut_slice.ensures.value ∙ none) in
     let size : c.in_ok-marks.marks.len ≡ length ws =
-    omega (arith, c.in_ok-marks.marks.ok.0, ap length is, halves-long c.args.n c.args.p.now c.requires.permutes c.requires.some, ap length none, length-replicate {A = Mark} (2 * c.args.n) None) in
+    omega (
+      arith,
+      c.in_ok-marks.marks.ok.0,
+      ap length is,
+      halves-long c.args.n c.args.p.now c.requires.permutes c.requires.some,
+      ap length none,
+      length-replicate {A = Mark} (2 * c.args.n) None,
+    ) in
     ap (λ k. take k (ws ++ drop (length ws) c.in_ok-marks.marks.items)) size ∙ take-append_seam ws (drop (length ws) c.in_ok-marks.marks.items) ∙ is
 
 pub returns-clause-long : goal.returns-clause-long

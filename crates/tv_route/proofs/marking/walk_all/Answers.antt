@@ -11,8 +11,10 @@ loop-j-preserved c =
     elim c.if-is_none.branch [
       | then-is_none w ↦
           w.marks-is ∙ w.walk.ensures
-          ∙ sym (walks_more c.args.partner.now c.args.n c.loop-j.j c.args.marks.now c.loop-j.marks true c.loop-j.invariant (ap not (c.is_none.ensures ∙ ap not w.if-is_none.true)))
+          ∙ sym (walks_more c.args.partner.now c.args.n c.loop-j.j c.args.marks.now c.loop-j.marks true c.loop-j.invariant
+          (ap not (c.is_none.ensures ∙ ap not w.if-is_none.true)))
       | else-is_none w ↦
           w.marks-is
-          ∙ sym (walks_more c.args.partner.now c.args.n c.loop-j.j c.args.marks.now c.loop-j.marks false c.loop-j.invariant (ap not (c.is_none.ensures ∙ ap not w.if-is_none.false)))
+          ∙ sym (walks_more c.args.partner.now c.args.n c.loop-j.j c.args.marks.now c.loop-j.marks false c.loop-j.invariant
+          (ap not (c.is_none.ensures ∙ ap not w.if-is_none.false)))
     ]

@@ -34,7 +34,9 @@ route_level-requires t c =
       omega (arith, below.level),
       (
         omega arith,
-        subst (λ l. Permutes (2 ^ suc (c.args.h - 1)) l) (sym is) (subst (λ k. Permutes (2 ^ k) (places (2 ^ c.args.h) (λ j. up_input (halves p (2 ^ c.args.h)) p j / 2))) below.level (upper_permutes (2 ^ c.args.h) p whole)),
+        subst (λ l. Permutes (2 ^ suc (c.args.h - 1)) l) (sym is)
+            (subst (λ k. Permutes (2 ^ k) (places (2 ^ c.args.h) (λ j. up_input (halves p (2 ^ c.args.h)) p j / 2))) below.level
+            (upper_permutes (2 ^ c.args.h) p whole)),
       ),
     )
 
@@ -44,11 +46,14 @@ route_level-requires-2 t c =
     let p = c.args.p.now in
     let whole : Permutes (2 * 2 ^ c.args.h) p = subst (λ k. Permutes k p) (twice c.args.h) c.requires.permutes in
     let marks = c.deref-4.ensures.value ∙ c.in_ok-marks.ensures.marks ∙ ap (λ n. halves p n) c.power-n.ensures in
-    let is = c.deref-5.ensures.value ∙ c.in_ok-inputs-2.ensures ∙ ap₂ (λ (n : ℕ) (m : List Mark). places n (λ j. down_input m p j / 2)) c.power-n.ensures marks in (
+    let is = c.deref-5.ensures.value ∙ c.in_ok-inputs-2.ensures
+    ∙ ap₂ (λ (n : ℕ) (m : List Mark). places n (λ j. down_input m p j / 2)) c.power-n.ensures marks in (
       omega (arith, below.level),
       (
         omega arith,
-        subst (λ l. Permutes (2 ^ suc (c.args.h - 1)) l) (sym is) (subst (λ k. Permutes (2 ^ k) (places (2 ^ c.args.h) (λ j. down_input (halves p (2 ^ c.args.h)) p j / 2))) below.level (lower_permutes (2 ^ c.args.h) p whole)),
+        subst (λ l. Permutes (2 ^ suc (c.args.h - 1)) l) (sym is)
+            (subst (λ k. Permutes (2 ^ k) (places (2 ^ c.args.h) (λ j. down_input (halves p (2 ^ c.args.h)) p j / 2))) below.level
+            (lower_permutes (2 ^ c.args.h) p whole)),
       ),
     )
 
@@ -59,11 +64,17 @@ returns t c =
     let p = c.args.p.now in
     let n = c.power-n.ensures in
     let marks = c.in_ok-marks.ensures.marks ∙ ap (λ n. halves p n) n in
-    let first = c.in_ok-push_first.ensures ∙ ap₂ (λ (n : ℕ) (m : List Mark). c.args.bits.now.items ++ places n (λ j. down m (2 * j))) n (c.deref.ensures.value ∙ marks) in
-    let upper = c.deref-3.ensures.value ∙ c.in_ok-inputs.ensures ∙ ap₂ (λ (n : ℕ) (m : List Mark). places n (λ j. up_input m p j / 2)) n (c.deref-2.ensures.value ∙ marks) in
+    let first = c.in_ok-push_first.ensures ∙ ap₂ (λ (n : ℕ) (m : List Mark). c.args.bits.now.items ++ places n (λ j. down m (2 * j))) n
+    (c.deref.ensures.value ∙ marks) in
+    let upper = c.deref-3.ensures.value ∙ c.in_ok-inputs.ensures
+    ∙ ap₂ (λ (n : ℕ) (m : List Mark). places n (λ j. up_input m p j / 2)) n (c.deref-2.ensures.value ∙ marks) in
     let second = c.in_ok-route_level.ensures ∙ ap (λ l. c.push_first.new.bits.items ++ route net (c.args.h - 1) l) upper in
-    let lower = c.deref-5.ensures.value ∙ c.in_ok-inputs-2.ensures ∙ ap₂ (λ (n : ℕ) (m : List Mark). places n (λ j. down_input m p j / 2)) n (c.deref-4.ensures.value ∙ marks) in
+    let lower = c.deref-5.ensures.value ∙ c.in_ok-inputs-2.ensures
+    ∙ ap₂ (λ (n : ℕ) (m : List Mark). places n (λ j. down_input m p j / 2)) n (c.deref-4.ensures.value ∙ marks) in
     let third = c.in_ok-route_level-2.ensures ∙ ap (λ l. c.route_level.new.bits.items ++ route net (c.args.h - 1) l) lower in
-    let last = c.in_ok-push_last.ensures ∙ ap₂ (λ (n : ℕ) (m : List Mark). c.route_level-2.new.bits.items ++ places (n - missing net) (λ j. down m (slice_index p (2 * (j + missing net))))) n (c.deref-6.ensures.value ∙ marks) in
-    four_pieces c.args.bits.now.items c.push_first.new.bits.items c.route_level.new.bits.items c.route_level-2.new.bits.items c.push_last.new.bits.items _ _ _ _ first second third last
+    let last = c.in_ok-push_last.ensures ∙ ap₂
+    (λ (n : ℕ) (m : List Mark). c.route_level-2.new.bits.items ++ places (n - missing net) (λ j. down m (slice_index p (2 * (j + missing net))))) n
+    (c.deref-6.ensures.value ∙ marks) in
+    four_pieces c.args.bits.now.items c.push_first.new.bits.items c.route_level.new.bits.items c.route_level-2.new.bits.items c.push_last.new.bits.items _ _ _ _
+    first second third last
     ∙ ap (λ l. c.args.bits.now.items ++ l) (sym (route_more net c.args.h (c.args.h - 1) p below.level))

@@ -14,7 +14,8 @@ loop-j-init c = push_none c.args.bits.now.items (λ j. down c.args.marks.now (sl
 
 pub loop-j-preserved : goal.loop-j-preserved
 loop-j-preserved c =
-    push_place c.args.bits.now.items c.loop-j.bits.items _ c.loop-j.j (λ j. down c.args.marks.now (slice_index c.args.p.now (2 * (j + missing c.args.net)))) c.down.result c.loop-j.invariant
+    push_place c.args.bits.now.items c.loop-j.bits.items _ c.loop-j.j
+    (λ j. down c.args.marks.now (slice_index c.args.p.now (2 * (j + missing c.args.net)))) c.down.result c.loop-j.invariant
     (c.down.ensures ∙ ap (λ m. down c.args.marks.now (slice_index c.args.p.now (2 * (c.loop-j.j + m)))) c.missing-left_out.ensures) c.in_ok-push.ensures.items
 
 pub down-requires : goal.down-requires

@@ -1,0 +1,32 @@
+use Rattle.tv_core.proofs.Chain.{chain, refused}
+use Rattle.tv_core.proofs.Unique.{normal-front}
+use Rattle.tv_benes.specs.Network.{remainder_of}
+use Rattle.tv_benes.proofs.columns.remainder.Goals as goal
+
+pub returns-in_err-put-clause-puts : goal.returns-in_err-put-clause-puts
+unfolding remainder_of
+returns-in_err-put-clause-puts g c =
+    let filled = rw (
+      c.add_terms-2.ensures.terms,
+      c.add_terms.ensures.terms,
+      c.clear.ensures,
+      c.set_wire.ensures.terms,
+      c.plus.ensures.terms,
+      c.set_wire-2.ensures.terms,
+    ) at c.in_err-put.ensures.puts in
+    let put = rw (normal-front c.args.x.now c.args.y.now) at filled in
+    refused g.S.Sink.meaning _ _ _ c.from_residual.result c.from_residual.ensures.1 (search (chain, c.fresh-q.ensures.puts, put))
+
+pub returns-clause-puts : goal.returns-clause-puts
+unfolding remainder_of
+returns-clause-puts g c =
+    let filled = rw (
+      c.add_terms-2.ensures.terms,
+      c.add_terms.ensures.terms,
+      c.clear.ensures,
+      c.set_wire.ensures.terms,
+      c.plus.ensures.terms,
+      c.set_wire-2.ensures.terms,
+    ) at c.in_ok-put.ensures.puts in
+    let put = rw (normal-front c.args.x.now c.args.y.now) at filled in
+    search (chain, c.fresh-q.ensures.puts, put)
