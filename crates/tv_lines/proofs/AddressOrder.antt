@@ -1,5 +1,6 @@
 -- Honest lines, sorted by cell and time.
-use Rattle.std.proofs.Common.{◌≡◌, ℕ, ◌+◌, ◌^◌, ◌<◌, ◌≤◌, ◌≢◌, ◌⊎◌, ◌==◌, Bool, true, false, List, ◌∷◌, ◌++◌, length, take, drop, get_or, Contains, All, IsPermutation, refl, sym, ap, ◌∙◌, arith, inl, inr}
+use Rattle.std.proofs.Common.{◌≡◌, ℕ, ◌+◌, ◌^◌, ◌<◌, ◌≤◌, ◌≢◌, ◌⊎◌, ◌==◌, Bool, true, false, List, ◌∷◌, ◌++◌, length, take, drop, get_or, Contains, All}
+use Rattle.std.proofs.Common.{IsPermutation, refl, sym, ap, ◌∙◌, arith, inl, inr}
 use Rattle.std.specs.List.{IsDistinct}
 use Rattle.std.proofs.lemmas.List.{get_or_default, take-append-drop, drop_more, get_or-take, length-take-le}
 use Rattle.std.proofs.lemmas.List.Elements.{Contains-get_or, All-contains}
@@ -22,10 +23,12 @@ flips p l = by_test (p.time == l.time) refl
     by_test true e = e ∙ sym (eq-eqb l.time p.time (sym (eqb-true p.time l.time e)))
     by_test false e = e ∙ sym (ne_eqb l.time p.time (λ f. eqb-false p.time l.time e (sym f)))
 
-pub times_apart : (lines sorted : List Line) → InTimeOrder lines → IsPermutation lines sorted → (i j : ℕ) (d : Line) → i < j → j < length sorted → (get_or sorted i d).time ≢ (get_or sorted j d).time
+pub times_apart : (lines sorted : List Line) → InTimeOrder lines → IsPermutation lines sorted → (i j : ℕ) (d : Line) → i < j → j < length sorted
+    → (get_or sorted i d).time ≢ (get_or sorted j d).time
 unfolding same_time
 times_apart lines sorted t p i j d h k =
-    let apart : IsDistinct same_time lines = IsDistinct-from_apart same_time lines (λ i j d h k. let u = t i j d h k in ne_eqb (get_or lines i d).time (get_or lines j d).time (λ e. omega arith)) in
+    let apart : IsDistinct same_time lines = IsDistinct-from_apart same_time lines
+    (λ i j d h k. let u = t i j d h k in ne_eqb (get_or lines i d).time (get_or lines j d).time (λ e. omega arith)) in
     let moved = IsDistinct-IsPermutation same_time flips lines sorted p apart in
     eqb-false (get_or sorted i d).time (get_or sorted j d).time (apart_from_distinct same_time sorted i j d moved h k)
 
@@ -40,7 +43,9 @@ module _ (ls : List Line) (t : InTimeOrder ls) (h : Honest ls) where
   short a i = length-take-le a ls (omega arith)
 
   -- the latest write before a place is at the latest earlier line of the cell
-  latest_is : (a b : ℕ) (p l : Line) → b < length ls → get_or ls b p ≡ p → a < length ls → get_or ls a l ≡ l → p.cell ≡ l.cell → p.time < l.time → ((m : Line) → Contains ls m → m.cell ≡ l.cell → p.time < m.time → m.time < l.time → ⊥) → LastWrite (λ c. 0) (take a ls) l.cell ⊎ NoWrite (λ c. 0) (take a ls) l.cell → memory_after (take a ls) l.cell ≡ p.new
+  latest_is : (a b : ℕ) (p l : Line) → b < length ls → get_or ls b p ≡ p → a < length ls → get_or ls a l ≡ l → p.cell ≡ l.cell → p.time < l.time
+      → ((m : Line) → Contains ls m → m.cell ≡ l.cell → p.time < m.time → m.time < l.time → ⊥) → LastWrite (λ c. 0) (take a ls) l.cell
+      ⊎ NoWrite (λ c. 0) (take a ls) l.cell → memory_after (take a ls) l.cell ≡ p.new
   latest_is a b p l k f i e same early none (inr w) =
       let n = short a i in
       let b_a : b < a = place_from_time ls t b a p l k i f e early (cases_order b a) in
@@ -65,7 +70,8 @@ module _ (ls : List Line) (t : InTimeOrder ls) (h : Honest ls) where
           let n = short a i in
           absurd (w.later b p s (omega arith) (ap (λ (x : Line). x.cell) (get_or-take a ls b p b_a ∙ f) ∙ same))
 
-  first_is : (a : ℕ) (l : Line) → a < length ls → get_or ls a l ≡ l → ((m : Line) → Contains ls m → m.cell ≡ l.cell → m.time < l.time → ⊥) → LastWrite (λ c. 0) (take a ls) l.cell ⊎ NoWrite (λ c. 0) (take a ls) l.cell → memory_after (take a ls) l.cell ≡ 0
+  first_is : (a : ℕ) (l : Line) → a < length ls → get_or ls a l ≡ l → ((m : Line) → Contains ls m → m.cell ≡ l.cell → m.time < l.time → ⊥)
+      → LastWrite (λ c. 0) (take a ls) l.cell ⊎ NoWrite (λ c. 0) (take a ls) l.cell → memory_after (take a ls) l.cell ≡ 0
   first_is a l i e none (inr w) = w.value
   first_is a l i e none (inl w) =
       let n = short a i in
@@ -136,10 +142,12 @@ sorted_ordered lines sorted t fits honest moved order = record { first = first; 
         rises (inr c) = inr (omega (arith, keys, apart, small_p, small_l), omega (arith, keys, apart, small_p, small_l))
 
         carried : p.cell ≡ l.cell → l.old ≡ p.new
-        carried same = by.latest p l (Contains-get_or sorted k d (omega arith)) (Contains-get_or sorted (k + 1) d h) same (omega (arith, keys, apart, small_p, small_l))
+        carried same = by.latest p l (Contains-get_or sorted k d (omega arith)) (Contains-get_or sorted (k + 1) d h) same
+            (omega (arith, keys, apart, small_p, small_l))
             (λ m (q, i, e) c lo hi. between m q i e c lo hi (cases_lt q (k + 1)))
           where
-            between : (m : Line) (q : ℕ) → q < length sorted → get_or sorted q m ≡ m → m.cell ≡ l.cell → p.time < m.time → m.time < l.time → ((q < k + 1) ⊎ (k + 1 ≤ q)) → ⊥
+            between : (m : Line) (q : ℕ) → q < length sorted → get_or sorted q m ≡ m → m.cell ≡ l.cell → p.time < m.time → m.time < l.time
+                → ((q < k + 1) ⊎ (k + 1 ≤ q)) → ⊥
             between m q i e c lo hi (inl z) = let o : key m ≤ key p = up_to q k m d (omega arith) (omega arith) e in omega arith
             between m q i e c lo hi (inr z) = let o : key l ≤ key m = from q (k + 1) m d z i e in omega arith
 

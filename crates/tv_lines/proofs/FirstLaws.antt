@@ -22,7 +22,8 @@ pub first_line_sound : FirstLineIsSound
 unfolding first_line_of put
 first_line_sound z next bits l widths assigns s meets =
     let small = Spells-small s.old (omega arith) in
-    let product : l.old * 1 % P ≡ 0 = ap₂ (λ a b. a * b % P) (sym (number_value z bits.old 32 l.old widths.old (omega arith) s.old)) (sym (one z assigns)) ∙ meets.0 in
+    let product : l.old * 1 % P ≡ 0 = ap₂ (λ a b. a * b % P) (sym (number_value z bits.old 32 l.old widths.old (omega arith) s.old)) (sym (one z assigns))
+    ∙ meets.0 in
     omega arith
 
 pub first_line_complete : FirstLineIsComplete

@@ -1,7 +1,9 @@
 pub mod AddressOrder
+pub mod CompactLaws
 pub mod CostLaws
 pub mod FirstLaws
 pub mod Neighbours
+pub mod NormalLaws
 pub mod Numbers
 pub mod OrderedLaws
 pub mod PackingLaws

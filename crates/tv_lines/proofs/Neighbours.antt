@@ -14,7 +14,8 @@ unfolding each_below
 each_below-at n i f d h = get_or-map-range_with_len f 0 n i i d h (zero-add i)
 
 -- by places and as a list
-pub ordered_places : (n : ℕ) (line : ℕ → Line) → (0 < n → (line 0).old ≡ 0) → ((i : ℕ) → i + 1 < n → Follows (line i) (line (i + 1))) → Ordered (each_below n line)
+pub ordered_places : (n : ℕ) (line : ℕ → Line) → (0 < n → (line 0).old ≡ 0) → ((i : ℕ) → i + 1 < n → Follows (line i) (line (i + 1)))
+    → Ordered (each_below n line)
 ordered_places n line first follows =
     let long = length-each_below n line in
     record {
@@ -25,4 +26,5 @@ ordered_places n line first follows =
 pub neighbours_ordered : NeighboursAreOrdered
 neighbours_ordered z n bits line assigns s = ordered_places n line
     (λ h. first_line_sound z s.first_at (bits 0) (line 0) (s.widths 0 h) assigns (s.spells 0 h) (s.first h))
-    (λ i h. sorted_pair_sound z (s.pair_at i) (bits i) (bits (i + 1)) (line i) (line (i + 1)) (s.widths i (omega arith)) (s.widths (i + 1) h) assigns (s.spells i (omega arith)) (s.spells (i + 1) h) (s.pairs i h))
+    (λ i h. sorted_pair_sound z (s.pair_at i) (bits i) (bits (i + 1)) (line i) (line (i + 1)) (s.widths i (omega arith)) (s.widths (i + 1) h) assigns
+    (s.spells i (omega arith)) (s.spells (i + 1) h) (s.pairs i h))

@@ -49,7 +49,8 @@ before ls o a l h k e =
     rw (n, e) at f
 
 -- the latest earlier line p of the cell stands right before l
-latest_at : (ls : List Line) → Ordered ls → (a b : ℕ) (l p : Line) → a < length ls → get_or ls a l ≡ l → b < length ls → get_or ls b p ≡ p → p.cell ≡ l.cell → p.time < l.time → ((m : Line) → Contains ls m → m.cell ≡ l.cell → p.time < m.time → m.time < l.time → ⊥) → ((a ≡ b) ⊎ ((a < b) ⊎ (b < a))) → l.old ≡ p.new
+latest_at : (ls : List Line) → Ordered ls → (a b : ℕ) (l p : Line) → a < length ls → get_or ls a l ≡ l → b < length ls → get_or ls b p ≡ p → p.cell ≡ l.cell
+    → p.time < l.time → ((m : Line) → Contains ls m → m.cell ≡ l.cell → p.time < m.time → m.time < l.time → ⊥) → ((a ≡ b) ⊎ ((a < b) ⊎ (b < a))) → l.old ≡ p.new
 latest_at ls o a b l p h e k f same early none (inl same_place) =
     let g : l ≡ p = sym e ∙ (get_or_default ls a l p h ∙ (ap (λ i. get_or ls i p) same_place ∙ f)) in
     let t : l.time ≡ p.time = ap (λ (x : Line). x.time) g in absurd (omega arith)
@@ -73,7 +74,8 @@ latest_at ls o a b l p h e k f same early none (inr (inr before_it)) =
         absurd (none q (Contains-get_or ls (a - 1) l (omega arith)) (omega arith) (omega arith) (omega arith))
     next n (inr (inr past)) = absurd (omega arith)
 
-first_at : (ls : List Line) → Ordered ls → (a : ℕ) (l : Line) → a < length ls → get_or ls a l ≡ l → ((m : Line) → Contains ls m → m.cell ≡ l.cell → m.time < l.time → ⊥) → l.old ≡ 0
+first_at : (ls : List Line) → Ordered ls → (a : ℕ) (l : Line) → a < length ls → get_or ls a l ≡ l
+    → ((m : Line) → Contains ls m → m.cell ≡ l.cell → m.time < l.time → ⊥) → l.old ≡ 0
 first_at ls o zero l h e none = rw e at (o.first l h)
 first_at ls o (suc a) l h e none =
     let n = before ls o (suc a) l (omega arith) h e in
@@ -88,6 +90,7 @@ by_times ls o = record {
 
 pub by_times-permutation : (xs ys : List Line) → IsPermutation xs ys → HonestByTimes ys → HonestByTimes xs
 by_times-permutation xs ys p h = record {
-  latest = λ q l hq hl same early none. h.latest q l (Contains-permutation xs ys q p hq) (Contains-permutation xs ys l p hl) same early (λ m hm. none m (Contains-permutation ys xs m (IsPermutation-sym xs ys p) hm));
+  latest = λ q l hq hl same early none. h.latest q l (Contains-permutation xs ys q p hq) (Contains-permutation xs ys l p hl) same early
+      (λ m hm. none m (Contains-permutation ys xs m (IsPermutation-sym xs ys p) hm));
   first = λ l hl none. h.first l (Contains-permutation xs ys l p hl) (λ m hm. none m (Contains-permutation ys xs m (IsPermutation-sym xs ys p) hm));
 }

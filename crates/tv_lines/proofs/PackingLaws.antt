@@ -1,6 +1,7 @@
 -- Packing and unpacking, as numbers.
 use Rattle.std.proofs.Common.{◌≡◌, ℕ, ◌+◌, ◌*◌, ◌/◌, ◌%◌, ◌^◌, ◌<◌, List, [], sym, ◌∙◌, ap, arith}
 use Rattle.tv_core.proofs.CombinationLaws.{value-append, value-scaled}
+use Rattle.tv_core.proofs.NormalLaws.{value-normal}
 use Rattle.tv_core.specs.Combinations.{scaled}
 use Rattle.tv_core.specs.Constraints.{Combination, value}
 use Rattle.tv_core.specs.Lines.{Line}
@@ -20,8 +21,10 @@ pack_right z line range = pair_same _ _ _ _
     (joined_value z line.new line.time ∙ below_p (value line.time z) (value line.new z) (omega (arith, range.time)) range.new)
 
 pub item_right : ItemIsRight
-item_right z line range = pack_right z (record { cell = line.cell; time = line.time; old = []; new = line.new })
-    (record { cell = range.cell; time = range.time; old = omega arith; new = range.new })
+item_right z line range = pair_same _ _ _ _
+    (value-normal z (joined [] line.cell) ∙ joined_value z [] line.cell ∙ below_p (value line.cell z) 0 range.cell (omega arith))
+    (value-normal z (joined line.new line.time) ∙ joined_value z line.new line.time
+    ∙ below_p (value line.time z) (value line.new z) (omega (arith, range.time)) range.new)
 
 -- the numbers of a packed line's pair are small
 pub packed_first : (line : Line) → InRange line → line.cell * 2 ^ 32 + line.old < 2 ^ 63

@@ -69,7 +69,8 @@ size_complete z next v some small assigns has =
     let both = HasFrom-split z next (bits_values (v - 1) 11) (v ∷ []) has in
     let at : next + length (bits_values (v - 1) 11) ≡ bits.next = ap (λ n. next + n) (length-each_below 11 (bit_at (v - 1))) ∙ sym (new_bits_next 11 next) in
     let is : slice_index z bits.next ≡ v = (subst (λ n. HasFrom z n (v ∷ [])) at both.1).0 in
-    let s : Spells z bits.answer.first 11 (v - 1) = subst (λ (b : Bits). Spells z b.first 11 (v - 1)) (sym (new_bits_answer 11 next)) (Spells-from_values z next 11 (v - 1) (omega arith) both.0) in
+    let s : Spells z bits.answer.first 11 (v - 1) = subst (λ (b : Bits). Spells z b.first 11 (v - 1)) (sym (new_bits_answer 11 next))
+    (Spells-from_values z next 11 (v - 1) (omega arith) both.0) in
     let n = ap (λ (b : Bits). b.n) (new_bits_answer 11 next) in
     let sum : value (bits_combination bits.answer.first bits.answer.n ++ constant 1) z ≡ v =
     ap (λ k. value (bits_combination bits.answer.first k ++ constant 1) z) n ∙ value-plus_one s assigns (omega arith) ∙ omega arith in (
@@ -79,11 +80,13 @@ size_complete z next v some small assigns has =
     )
 
 -- ---- two lines
-module _ (z : List ℕ) (before after : LineBits) (l m : Line) (b : HasWidths before) (a : HasWidths after) (assigns : Assigns z) (sl : SpellsLine z before l) (sm : SpellsLine z after m) where
+module _ (z : List ℕ) (before after : LineBits) (l m : Line) (b : HasWidths before) (a : HasWidths after) (assigns : Assigns z) (sl : SpellsLine z before l)
+    (sm : SpellsLine z after m) where
   cells : value (less (number after.cell) (number before.cell)) z ≡ cells_apart l m
   cells =
       value-less (number after.cell) (number before.cell) z
-      ∙ ap₂ (λ x y. (x + (P - y)) % P) (number_value z after.cell 31 m.cell a.cell (omega arith) sm.cell) (number_value z before.cell 31 l.cell b.cell (omega arith) sl.cell)
+      ∙ ap₂ (λ x y. (x + (P - y)) % P) (number_value z after.cell 31 m.cell a.cell (omega arith) sm.cell)
+      (number_value z before.cell 31 l.cell b.cell (omega arith) sl.cell)
 
   pub apart_sound : (next : ℕ) → Meets z (apart_of before after next).list → slice_index z (apart_of before after next).answer ≡ cells_apart l m
   unfolding apart_of
@@ -108,11 +111,13 @@ module _ (z : List ℕ) (before after : LineBits) (l m : Line) (b : HasWidths be
       let is_flag : value (wire same.answer) z ≡ zero_flag x = value-wire assigns same.answer ∙ flag ∙ ap zero_flag (value-wire assigns apart ∙ is) in
       ap₂ (λ u v. u * v % P) (sym is_flag) (sym news) ∙ both.1.0 ∙ olds
 
-  pub carried_complete : (apart x next : ℕ) → slice_index z apart ≡ x → zero_flag x * l.new % P ≡ m.old → HasFrom z next (zero_values x) → Meets z (carried_of apart before after next).list
+  pub carried_complete : (apart x next : ℕ) → slice_index z apart ≡ x → zero_flag x * l.new % P ≡ m.old → HasFrom z next (zero_values x)
+      → Meets z (carried_of apart before after next).list
   unfolding carried_of put ◌>>=◌
   carried_complete apart x next is carried has =
       let same = zero_of (wire apart) next in
       let value_is : value (wire apart) z ≡ x = value-wire assigns apart ∙ is in
       let flags = zero_complete z next (wire apart) assigns (subst (λ v. HasFrom z next (zero_values v)) (sym value_is) has) in
-      let is_flag : value (wire same.answer) z ≡ zero_flag x = value-wire assigns same.answer ∙ zero_sound z next (wire apart) assigns flags ∙ ap zero_flag value_is in
+      let is_flag : value (wire same.answer) z ≡ zero_flag x = value-wire assigns same.answer ∙ zero_sound z next (wire apart) assigns flags
+      ∙ ap zero_flag value_is in
       Meets-join z same.list _ flags (ap₂ (λ u v. u * v % P) is_flag news ∙ carried ∙ sym olds, tt)

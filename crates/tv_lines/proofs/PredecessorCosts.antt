@@ -1,5 +1,5 @@
 -- How many constraints a line that follows costs, and how many terms they have.
-use Rattle.std.proofs.Common.{◌≡◌, ℕ, ◌+◌, ◌-◌, ◌*◌, ◌%◌, ◌^◌, List, [], ◌∷◌, ◌++◌, length, refl, sym, ◌∙◌, ap, arith}
+use Rattle.std.proofs.Common.{◌≡◌, ℕ, ◌+◌, ◌-◌, ◌*◌, ◌%◌, ◌^◌, ◌≤◌, List, [], ◌∷◌, ◌++◌, length, refl, sym, ◌∙◌, ap, arith}
 use Rattle.std.proofs.lemmas.List.{length-append}
 use Rattle.tv_bits.proofs.SpellingLaws.{new_bits_answer}
 use Rattle.tv_bits.specs.Bits.{bits_combination, new_bits_of}
@@ -8,33 +8,24 @@ use Rattle.tv_bits.specs.declared.bit_wires.Bits.{Bits}
 use Rattle.tv_core.proofs.BelowLaws.{length-each_below}
 use Rattle.tv_core.specs.Below.{each_below, weighted}
 use Rattle.tv_core.specs.Circuits.{fresh, put, pure, ◌>>=◌}
-use Rattle.tv_core.specs.Combinations.{constant, scaled, wire}
+use Rattle.tv_core.specs.Combinations.{scaled, top, wire}
 use Rattle.tv_core.specs.Constraints.{Combination}
 use Rattle.tv_core.specs.Meanings.{terms_in}
 use Rattle.tv_core.specs.declared.field.TheConstants.{P}
 use Rattle.tv_core.specs.declared.lines.LineLc.{LineLc}
 use Rattle.tv_core.specs.declared.lines.Pair.{Pair}
 use Rattle.tv_lines.proofs.CostLaws.{counts_add, terms_add, scaled_long, new_bits_cost, bit_count, bit_terms}
-use Rattle.tv_lines.specs.Predecessor.{less_above, excess, cell_difference, time_difference, either_of, follows_of, FollowsCosts}
+use Rattle.tv_lines.proofs.NormalLaws.{length-cell_excess, length-less_above}
+use Rattle.tv_lines.specs.Predecessor.{less_above, cell_excess, excess, cell_difference, time_difference, either_of, follows_of, follows_terms, FollowsCosts}
 
 bits_long : (first n : ℕ) → length (bits_combination first n) ≡ n
 unfolding weighted each_below
 bits_long first n = length-each_below n (λ i. (2 ^ i % P, first + i))
 
-less_long : (x y : Combination) → length (less_above x y) ≡ length x + length y
-less_long x y = length-append x (scaled (P - 2 ^ 32) y) ∙ ap (λ n. length x + n) (scaled_long (P - 2 ^ 32) y)
-
-excess_long : (reach : Bits) (line : LineLc) (item : Pair)
-    → length (excess reach line item) ≡ reach.n + 1 + length item.first + length line.old + length line.cell
+excess_long : (reach : Bits) (line : LineLc) (item : Pair) → length (excess reach line item) ≡ length (cell_excess line item.first) + reach.n
 excess_long reach line item =
-    let bits : Combination = scaled (2 ^ 32) (bits_combination reach.first reach.n) in
-    let a = scaled_long (2 ^ 32) (bits_combination reach.first reach.n) in
-    let b = bits_long reach.first reach.n in
-    let c = length-append bits (constant (2 ^ 32)) in
-    let d = length-append (bits ++ constant (2 ^ 32)) item.first in
-    let e = length-append ((bits ++ constant (2 ^ 32)) ++ item.first) (scaled (P - 1) line.old) in
-    let f = scaled_long (P - 1) line.old in
-    less_long (((bits ++ constant (2 ^ 32)) ++ item.first) ++ scaled (P - 1) line.old) line.cell ∙ omega (arith, a, b, c, d, e, f)
+    let bits : Combination = bits_combination reach.first reach.n in
+    length-append (cell_excess line item.first) (scaled (2 ^ 32) bits) ∙ omega (arith, scaled_long (2 ^ 32) bits, bits_long reach.first reach.n)
 
 -- ---- the parts
 either_count : (e : ℕ) (line : LineLc) (item : Pair) (next : ℕ) → length (either_of e line item next).list ≡ 2
@@ -42,10 +33,10 @@ unfolding either_of put ◌>>=◌
 either_count e line item next = refl
 
 either_terms : (e : ℕ) (line : LineLc) (item : Pair) (next : ℕ)
-    → terms_in (either_of e line item next).list ≡ 3 + length item.first + length line.cell + length item.second + length line.time
+    → terms_in (either_of e line item next).list ≡ 3 + length (cell_difference line item) + length (less_above item.second line.time)
 unfolding either_of put ◌>>=◌
 either_terms e line item next =
-    omega (arith, less_long item.first line.cell, less_long (wire e ++ item.second) line.time, length-append (wire e) item.second)
+    omega (arith, length-append (less_above item.second line.time) (wire e))
 
 kept_count : (x : Combination) (next : ℕ) → length (kept_of x next).list ≡ 1
 unfolding times_of fresh put pure ◌>>=◌
@@ -70,10 +61,10 @@ follows_count m line item next =
       either_count kept.answer line item kept.next,
     )
 
-follows_terms : (m : ℕ) (line : LineLc) (item : Pair) (next : ℕ) → terms_in (follows_of m line item next).list
-    ≡ 4 * m + 6 + 2 * length item.first + length item.second + 2 * length line.cell + length line.time + length line.old
+follows_lengths : (m : ℕ) (line : LineLc) (item : Pair) (next : ℕ) → terms_in (follows_of m line item next).list
+    ≡ 4 * m + 5 + length (cell_excess line item.first) + length (cell_difference line item) + length (less_above item.second line.time)
 unfolding follows_of ◌>>=◌
-follows_terms m line item next =
+follows_lengths m line item next =
     let reach = new_bits_of m next in
     let kept = kept_of (excess reach.answer line item) reach.next in
     let n : reach.answer.n ≡ m = ap (λ (b : Bits). b.n) (new_bits_answer m next) in
@@ -88,5 +79,11 @@ follows_terms m line item next =
       either_terms kept.answer line item kept.next,
     )
 
+two_wires_terms : (m : ℕ) (line : LineLc) (u v next : ℕ) → 1 ≤ u → top line.cell ≤ u → top line.old ≤ u → top line.time ≤ v
+    → terms_in (follows_of m line (record { first = wire u; second = wire v }) next).list ≡ follows_terms m line
+two_wires_terms m line u v next some cell old time =
+    follows_lengths m line (record { first = wire u; second = wire v }) next
+    ∙ omega (arith, length-cell_excess line u some cell old, length-less_above line.cell u cell, length-less_above line.time v time)
+
 pub follows_cost : FollowsCosts
-follows_cost = record { constraints = follows_count; terms = follows_terms }
+follows_cost = record { constraints = follows_count; terms = two_wires_terms }

@@ -1,5 +1,6 @@
 -- The order of two lines by their prefixes.
-use Rattle.std.proofs.Common.{◌≡◌, ◌≢◌, ◌⊎◌, inl, inr, ℕ, zero, suc, ◌+◌, ◌-◌, ◌*◌, ◌/◌, ◌%◌, ◌^◌, ◌<◌, ◌≤◌, if◌then◌else◌, List, ◌∷◌, refl, sym, ◌∙◌, ap, ap₂, subst, arith, mod-lt, mul-zero, div-one}
+use Rattle.std.proofs.Common.{◌≡◌, ◌≢◌, ◌⊎◌, inl, inr, ℕ, zero, suc, ◌+◌, ◌-◌, ◌*◌, ◌/◌, ◌%◌, ◌^◌, ◌<◌, ◌≤◌, if◌then◌else◌, List, ◌∷◌, refl, sym, ◌∙◌, ap}
+use Rattle.std.proofs.Common.{ap₂, subst, arith, mod-lt, mul-zero, div-one}
 use Rattle.std.specs.Prelude.{slice_index}
 use Rattle.std.proofs.Math.Nat.{div-le_self}
 use Rattle.std.proofs.lemmas.Bool.{cases_order, eq-eqb, ne_eqb}
@@ -121,7 +122,8 @@ module _ (l m : Line) (cl : l.cell < 2 ^ 31) (cm : m.cell < 2 ^ 31) (tl : l.time
         most = omega arith;
         place = i.chunk + 3;
         within = omega (arith, i.within);
-        is = key_place l m i.chunk i.within ∙ same_keys (2 ^ (20 - 11 * i.chunk)) l.cell m.cell (prefix_difference m.time l.time (11 * i.chunk)) (size l m) even.0 (omega arith) (mod-lt _ (omega arith)) (i.is ∙ sym e);
+        is = key_place l m i.chunk i.within ∙ same_keys (2 ^ (20 - 11 * i.chunk)) l.cell m.cell (prefix_difference m.time l.time (11 * i.chunk))
+            (size l m) even.0 (omega arith) (mod-lt _ (omega arith)) (i.is ∙ sym e);
       }
 
 -- ---- the prefixes of bits
@@ -130,14 +132,16 @@ value_from z x p v within short s =
     let whole : x.n ≡ p + (x.n - p) = omega arith in
     value-bits_below (Spells-high z x.first p (x.n - p) v (subst (λ n. Spells z x.first n v) whole s)) (omega arith)
 
-module _ (z : List ℕ) (before after : LineBits) (l m : Line) (b : HasWidths before) (a : HasWidths after) (assigns : Assigns z) (sl : SpellsLine z before l) (sm : SpellsLine z after m) where
+module _ (z : List ℕ) (before after : LineBits) (l m : Line) (b : HasWidths before) (a : HasWidths after) (assigns : Assigns z) (sl : SpellsLine z before l)
+    (sm : SpellsLine z after m) where
   row : (x : Bits) (n v : ℕ) → x.n ≡ n → Spells z x.first n v → Spells z x.first x.n v
   row x n v width s = subst (λ k. Spells z x.first k v) (sym width) s
 
   cell_value : (p : ℕ) → p ≤ 31 → value (cell_less before after p) z ≡ prefix_difference m.cell l.cell p
   cell_value p h =
       value-less (bits_from after.cell p) (bits_from before.cell p) z
-      ∙ ap₂ (λ x y. (x + (P - y)) % P) (value_from z after.cell p m.cell (omega (arith, a.cell)) (omega (arith, a.cell)) (row after.cell 31 m.cell a.cell sm.cell))
+      ∙ ap₂ (λ x y. (x + (P - y)) % P) (value_from z after.cell p m.cell (omega (arith, a.cell)) (omega (arith, a.cell))
+      (row after.cell 31 m.cell a.cell sm.cell))
       (value_from z before.cell p l.cell (omega (arith, b.cell)) (omega (arith, b.cell)) (row before.cell 31 l.cell b.cell sl.cell))
 
   key_value : (apart p : ℕ) → p ≤ 20 → slice_index z apart ≡ cells_apart l m → value (key_less apart before after p) z ≡ key_less_in l m p
@@ -145,7 +149,9 @@ module _ (z : List ℕ) (before after : LineBits) (l m : Line) (b : HasWidths be
       let small : l.time / 2 ^ p < P = omega (arith, div-le_self l.time (2 ^ p), Spells-below sl.time) in
       value-less ((2 ^ (20 - p), apart) ∷ bits_from after.time p) (bits_from before.time p) z
       ∙ ap₂ (λ x y. (x + (P - y)) % P)
-      (value-cons (2 ^ (20 - p)) apart (bits_from after.time p) z ∙ ap₂ (λ x y. (2 ^ (20 - p) * x + y) % P) is (value_from z after.time p m.time (omega (arith, a.time)) (omega (arith, a.time)) (row after.time 20 m.time a.time sm.time)))
+      (value-cons (2 ^ (20 - p)) apart (bits_from after.time p) z
+      ∙ ap₂ (λ x y. (2 ^ (20 - p) * x + y) % P) is
+      (value_from z after.time p m.time (omega (arith, a.time)) (omega (arith, a.time)) (row after.time 20 m.time a.time sm.time)))
       (value_from z before.time p l.time (omega (arith, b.time)) (omega (arith, b.time)) (row before.time 20 l.time b.time sl.time))
       ∙ regroup (2 ^ (20 - p) * cells_apart l m) (m.time / 2 ^ p) (l.time / 2 ^ p) small
 

@@ -23,7 +23,8 @@ use Rattle.tv_lines.specs.SortedPair.{apart_of, carried_of, size_of, sorted_pair
 word_carried : (c d o n : ℕ) → c < P → d < P → n < P → (c ≡ d → o ≡ n) → (c ≢ d → o ≡ 0) → zero_flag ((d + (P - c)) % P) * n % P ≡ o
 word_carried c d o n small_c small_d small_n carried fresh = elim (cases_eq c d) [
   | inl same ↦ ap (λ f. f * n % P) (zero_flag-zero ((d + (P - c)) % P) (omega arith)) ∙ (let e = carried same in omega arith)
-  | inr apart ↦ ap (λ f. f * n % P) (zero_flag-other ((d + (P - c)) % P) (λ none. apart (sym (same_of_minus d c small_d small_c none)))) ∙ (let e = fresh apart in omega arith)
+  | inr apart ↦ ap (λ f. f * n % P) (zero_flag-other ((d + (P - c)) % P) (λ none. apart (sym (same_of_minus d c small_d small_c none))))
+      ∙ (let e = fresh apart in omega arith)
 ]
 
 pub size_many : (v : ℕ) → length (size_values v) ≡ 12
@@ -52,6 +53,8 @@ sorted_pair_complete z next before after l m b a assigns sl sm follows has =
     let s = is_size z before after l m b a assigns sl sm follows.rises in
     let size_met = size_complete z carried.next (size l m) s.some s.most assigns (subst (λ n. HasFrom z n sizes) at_sizes two.0) in
     Meets-join z apart.list _ (apart_complete z before after l m b a assigns sl sm next there)
-    (Meets-join z carried.list _ (carried_complete z before after l m b a assigns sl sm apart.answer x apart.next is (word_carried l.cell m.cell m.old l.new l_cell m_cell l_new follows.carried follows.fresh) (subst (λ n. HasFrom z n flags) at_flags one.0))
+    (Meets-join z carried.list _ (carried_complete z before after l m b a assigns sl sm apart.answer x apart.next is
+    (word_carried l.cell m.cell m.old l.new l_cell m_cell l_new follows.carried follows.fresh) (subst (λ n. HasFrom z n flags) at_flags one.0))
     (Meets-join z sized.list _ size_met.0
-    (rises_complete z before after l m b a assigns sl sm apart.answer sized.answer sized.next is size_met.1 follows.rises (subst (λ n. HasFrom z n products) at_products two.1))))
+    (rises_complete z before after l m b a assigns sl sm apart.answer sized.answer sized.next is size_met.1 follows.rises
+    (subst (λ n. HasFrom z n products) at_products two.1))))

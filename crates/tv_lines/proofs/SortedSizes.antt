@@ -17,7 +17,8 @@ use Rattle.tv_lines.proofs.PairParts.{apart_next, carried_next, size_next}
 use Rattle.tv_lines.proofs.PrefixOrder.{rises_next, size_same, size_apart}
 use Rattle.tv_lines.proofs.SortedComplete.{size_many}
 use Rattle.tv_lines.specs.Packing.{InRange}
-use Rattle.tv_lines.specs.SortedPair.{apart_of, carried_of, size_of, sorted_pair_of, cells_apart, size, size_values, factor_in, sorted_pair_values, SortedPairSizes}
+use Rattle.tv_lines.specs.SortedPair.{apart_of, carried_of, size_of, sorted_pair_of, cells_apart, size, size_values, factor_in, sorted_pair_values}
+use Rattle.tv_lines.specs.SortedPair.{SortedPairSizes}
 use Rattle.tv_lines.specs.declared.rows.LineBits.{LineBits}
 use Rattle.tv_bits.proofs.TimesLaws.{residue_below}
 
@@ -27,7 +28,13 @@ sorted_pair_next before after next =
     let apart = apart_of before after next in
     let carried = carried_of apart.answer before after apart.next in
     let sized = size_of 11 carried.next in
-    omega (arith, apart_next before after next, carried_next apart.answer before after apart.next, size_next 11 carried.next, rises_next apart.answer sized.answer before after sized.next)
+    omega (
+      arith,
+      apart_next before after next,
+      carried_next apart.answer before after apart.next,
+      size_next 11 carried.next,
+      rises_next apart.answer sized.answer before after sized.next,
+    )
 
 pub sorted_pair_many : (l m : Line) → length (sorted_pair_values l m) ≡ 18
 sorted_pair_many l m =

@@ -1,5 +1,6 @@
 -- Lines in time order, and the latest write of a cell before a line.
-use Rattle.std.proofs.Common.{◌≡◌, ℕ, ◌+◌, ◌<◌, ◌⊎◌, ◌==◌, if◌then◌else◌, true, false, Bool, List, [], ◌∷◌, ◌++◌, length, get_or, fold, refl, sym, ap, ◌∙◌, subst, arith, inl, inr, zero, suc}
+use Rattle.std.proofs.Common.{◌≡◌, ℕ, ◌+◌, ◌<◌, ◌⊎◌, ◌==◌, if◌then◌else◌, true, false, Bool, List, [], ◌∷◌, ◌++◌, length, get_or, fold, refl, sym, ap, ◌∙◌}
+use Rattle.std.proofs.Common.{subst, arith, inl, inr, zero, suc}
 use Rattle.std.proofs.lemmas.List.{get_or_default, get_or_at, get_or_append_left, length-append}
 use Rattle.std.proofs.lemmas.Bool.{cases_order, eqb-true, eqb-false}
 use Rattle.tv_core.specs.Lines.{Line, written, memory_after, Honest}
@@ -40,7 +41,16 @@ last_write m (l ∷ ls) c = step (last_write (written m l) ls c)
     none_cons w ne (suc k) d i e = w.none k d (omega arith) e
 
     here : NoWrite (written m l) ls c → (b : Bool) → (l.cell == c) ≡ b → LastWrite m (l ∷ ls) c ⊎ NoWrite m (l ∷ ls) c
-    here w true e = inl (record { place = 0; line = l; below = omega arith; is = refl; cell = eqb-true l.cell c e; value = w.value ∙ ap (λ b. (if b then l.new else m c)) e; later = later_first w })
+    here w true e = inl (record {
+      place = 0;
+      line = l;
+      below = omega arith;
+      is = refl;
+      cell = eqb-true l.cell c e;
+      value = w.value
+          ∙ ap (λ b. (if b then l.new else m c)) e;
+      later = later_first w;
+    })
     here w false e = inr (record { value = w.value ∙ ap (λ b. (if b then l.new else m c)) e; none = none_cons w (eqb-false l.cell c e) })
 
     step : LastWrite (written m l) ls c ⊎ NoWrite (written m l) ls c → LastWrite m (l ∷ ls) c ⊎ NoWrite m (l ∷ ls) c
@@ -48,7 +58,8 @@ last_write m (l ∷ ls) c = step (last_write (written m l) ls c)
     step (inr w) = here w (l.cell == c) refl
 
 -- of two members the earlier one stands first
-pub place_from_time : (ls : List Line) → InTimeOrder ls → (a b : ℕ) (p l : Line) → a < length ls → b < length ls → get_or ls a p ≡ p → get_or ls b l ≡ l → p.time < l.time → ((a ≡ b) ⊎ ((a < b) ⊎ (b < a))) → a < b
+pub place_from_time : (ls : List Line) → InTimeOrder ls → (a b : ℕ) (p l : Line) → a < length ls → b < length ls → get_or ls a p ≡ p → get_or ls b l ≡ l
+    → p.time < l.time → ((a ≡ b) ⊎ ((a < b) ⊎ (b < a))) → a < b
 place_from_time ls t a b p l h k e f early (inl same) =
     let g : p ≡ l = sym e ∙ (get_or_default ls a p l h ∙ (ap (λ i. get_or ls i l) same ∙ f)) in
     let u : p.time ≡ l.time = ap (λ (x : Line). x.time) g in absurd (omega arith)

@@ -54,12 +54,15 @@ unpack_met z next pair x y assigns is_x is_y small_x small_y has =
     let both = HasFrom-split z next (bits_values x 63) (bits_values y 52) has in
     let at : next + length (bits_values x 63) ≡ f.next = ap (λ n. next + n) (length-each_below 63 (bit_at x)) ∙ sym (bits_next pair.first 63 next) in
     let second = subst (λ n. HasFrom z n (bits_values y 52)) at both.1 in
-    Meets-join z f.list _ (bits_complete z next pair.first 63 (subst (λ v. v < 2 ^ 63) (sym is_x) small_x) assigns (subst (λ v. HasFrom z next (bits_values v 63)) (sym is_x) both.0))
-    (Meets-join z s.list [] (bits_complete z f.next pair.second 52 (subst (λ v. v < 2 ^ 52) (sym is_y) small_y) assigns (subst (λ v. HasFrom z f.next (bits_values v 52)) (sym is_y) second)) tt)
+    Meets-join z f.list _ (bits_complete z next pair.first 63 (subst (λ v. v < 2 ^ 63) (sym is_x) small_x) assigns
+    (subst (λ v. HasFrom z next (bits_values v 63)) (sym is_x) both.0))
+    (Meets-join z s.list [] (bits_complete z f.next pair.second 52 (subst (λ v. v < 2 ^ 52) (sym is_y) small_y) assigns
+    (subst (λ v. HasFrom z f.next (bits_values v 52)) (sym is_y) second)) tt)
 
 pub unpack_complete : UnpackIsComplete
 unpack_complete z next pair line assigns range is has =
-    unpack_met z next pair _ _ assigns (ap (λ (p : PairNum). p.first) is) (ap (λ (p : PairNum). p.second) is) (packed_first line range) (packed_second line range) has
+    unpack_met z next pair _ _ assigns (ap (λ (p : PairNum). p.first) is) (ap (λ (p : PairNum). p.second) is) (packed_first line range)
+    (packed_second line range) has
 
 pub unpack_many : (numbers : PairNum) → length (unpack_values numbers) ≡ 115
 unpack_many numbers =
@@ -71,5 +74,6 @@ unpack_fill = record {
   answer = unpack_answer;
   end = unpack_next;
   fills = λ pair numbers next. unpack_next pair next ∙ ap (λ n. next + n) (sym (unpack_many numbers));
-  in_field = λ numbers. InField-append (bits_values numbers.first 63) (bits_values numbers.second 52) (bits_in_field numbers.first 63) (bits_in_field numbers.second 52);
+  in_field = λ numbers. InField-append (bits_values numbers.first 63) (bits_values numbers.second 52) (bits_in_field numbers.first 63)
+      (bits_in_field numbers.second 52);
 }

@@ -3,6 +3,7 @@ use Rattle.std.specs.Prelude.{◌≡◌, ℕ, ◌+◌, ◌*◌, ◌/◌, ◌%◌
 use Rattle.tv_core.specs.Combinations.{scaled}
 use Rattle.tv_core.specs.Constraints.{Combination, value}
 use Rattle.tv_core.specs.Lines.{Line, pair_value}
+use Rattle.tv_core.specs.Normal.{normal}
 use Rattle.tv_core.specs.declared.field.TheConstants.{P}
 use Rattle.tv_core.specs.declared.limits.TheConstants.{CELL_BITS, TIME_BITS}
 use Rattle.tv_core.specs.declared.lines.LineLc.{LineLc}
@@ -55,9 +56,9 @@ joined low high = low ++ scaled (2 ^ 32 % P) high
 abbrev pub pack : LineLc → Pair
 pack line = record { first = joined line.old line.cell; second = joined line.new line.time }
 
--- a line's item in combinations
+-- a line's item in combinations, which are normal whatever those of the line are
 abbrev pub pack_item : LineLc → Pair
-pack_item line = pack (record { cell = line.cell; time = line.time; old = []; new = line.new })
+pack_item line = record { first = normal (scaled (2 ^ 32 % P) line.cell); second = normal (joined line.new line.time) }
 
 -- ---- the laws
 -- the values of a packed line are the packed values, for a line in range

@@ -10,6 +10,7 @@ use Rattle.tv_core.specs.Constraints.{Combination}
 use Rattle.tv_core.specs.Laws.{Assigns, Meets, HasFrom, Fills, InField}
 use Rattle.tv_core.specs.Lines.{Line, pair_value}
 use Rattle.tv_core.specs.Meanings.{terms_in}
+use Rattle.tv_core.specs.Normal.{normal, AreNormal}
 use Rattle.tv_core.specs.declared.field.TheConstants.{P}
 use Rattle.tv_core.specs.declared.lines.LineLc.{LineLc}
 use Rattle.tv_core.specs.declared.lines.Pair.{Pair}
@@ -32,22 +33,27 @@ pub record IsItemMade (wires : ℕ) (item : Pair) : Type 0 where
   pub second_short : length item.second ≤ 32
 
 -- ---- the circuit
--- x less 2 ^ 32 times y
+-- x less 2 ^ 32 times y, made normal: a line's combinations may have a coefficient 0, or the constant wire where the
+-- others have it too
 abbrev pub less_above : Combination → Combination → Combination
-less_above x y = x ++ scaled (P - 2 ^ 32) y
+less_above x y = normal (x ++ scaled (P - 2 ^ 32) y)
 
--- by how much 2 ^ 32 times (1 + reach + the item's cell) exceeds the line's cell above its old word
+-- 2 ^ 32 times (1 + a cell), less the line's old word and 2 ^ 32 times its cell
+abbrev pub cell_excess : LineLc → Combination → Combination
+cell_excess line cell = less_above ((constant (2 ^ 32) ++ cell) ++ scaled (P - 1) line.old) line.cell
+
+-- by how much 2 ^ 32 times (1 + reach + the item's cell) exceeds the line's cell above its old word. The reach's bits
+-- are new wires, which come last
 abbrev pub excess : Bits → LineLc → Pair → Combination
-excess reach line item =
-    less_above (scaled (2 ^ 32) (bits_combination reach.first reach.n) ++ constant (2 ^ 32) ++ item.first ++ scaled (P - 1) line.old) line.cell
+excess reach line item = cell_excess line item.first ++ scaled (2 ^ 32) (bits_combination reach.first reach.n)
 
 -- the item's cell less the line's, 2 ^ 32 times
 abbrev pub cell_difference : LineLc → Pair → Combination
 cell_difference line item = less_above item.first line.cell
 
--- a wire, the item's new word and its time less the line's, 2 ^ 32 times
+-- the item's new word and its time less the line's, 2 ^ 32 times, and a new wire
 abbrev pub time_difference : ℕ → LineLc → Pair → Combination
-time_difference e line item = less_above (wire e ++ item.second) line.time
+time_difference e line item = less_above item.second line.time ++ wire e
 
 -- the wire is 0, or both differences are
 unfoldable pub either_of : ℕ → LineLc → Pair → Circuit (Unit {0})
@@ -93,11 +99,20 @@ pub record FollowsSizes : Type 0 where
   pub fills : (m : ℕ) (line : LineLc) (item : Pair) (p l : Line) → Fills (follows_of m line item) (follows_values m p l)
   pub in_field : (m : ℕ) (p l : Line) → InRange l → InField (follows_values m p l)
 
+-- how many terms they have where the item is two wires after those of the line: each part over the line has one more then
+abbrev pub follows_terms : ℕ → LineLc → ℕ
+follows_terms m line = 4 * m + 8 + length (cell_excess line []) + length (less_above [] line.cell) + length (less_above [] line.time)
+
 -- how many constraints it puts, and how many terms they have
 pub record FollowsCosts : Type 0 where
   pub constraints : (m : ℕ) (line : LineLc) (item : Pair) (next : ℕ) → length (follows_of m line item next).list ≡ m + 3
-  pub terms : (m : ℕ) (line : LineLc) (item : Pair) (next : ℕ) → terms_in (follows_of m line item next).list
-      ≡ 4 * m + 6 + 2 * length item.first + length item.second + 2 * length line.cell + length line.time + length line.old
+  pub terms : (m : ℕ) (line : LineLc) (u v next : ℕ) → 1 ≤ u → top line.cell ≤ u → top line.old ≤ u → top line.time ≤ v
+      → terms_in (follows_of m line (record { first = wire u; second = wire v }) next).list ≡ follows_terms m line
+
+-- what it puts is normal, whatever the line's combinations are, where all of them and the item's are of wires below the next
+abbrev pub FollowsIsNormal : Type 0
+FollowsIsNormal = (m : ℕ) (line : LineLc) (item : Pair) (next : ℕ) → 1 ≤ next → m ≤ 31 → top line.cell ≤ next → top line.time ≤ next → top line.old ≤ next
+    → top item.first ≤ next → top item.second ≤ next → AreNormal (follows_of m line item next).list
 
 -- 31 bits of reach are enough for lines in range; and k bits where the cell is at most the one after p's, and the time has k bits
 pub record FollowsReaches : Type 0 where

@@ -1,5 +1,6 @@
 ghost use Rattle.std.specs.Prelude.{◌≡◌, ◌+◌, ◌-◌, ◌^◌, ◌%◌, ◌≤◌, ◌++◌, [], length, max};
-ghost use Rattle.tv_core.specs.Combinations.{scaled, top};
+ghost use Rattle.tv_core.specs.Combinations.{constant, scaled, top};
+ghost use Rattle.tv_core.specs.Normal.{normal, IsNormal};
 ghost use Rattle.tv_core.specs.declared.field.TheConstants.{P};
 ghost use Rattle.tv_lines.specs.Packing.{pack_item};
 ghost use Rattle.tv_lines.specs.Predecessor.{less_above};
@@ -58,15 +59,18 @@ impl CompactLine {
     }
 
     /// Writes the line's item into `pair`: 2^32 times the cell; the new word and 2^32 times the
-    /// time. It is the line as `pack` writes it, with its old word left out.
+    /// time. It is the line as `pack` writes it, with its old word left out, and made normal: at
+    /// most two terms each.
     pub fn item(&self, pair: &mut Pair)
-        ensures { pair.new ≡ pack_item (line_lc self.now) }
+        ensures item { pair.new ≡ pack_item (line_lc self.now) }
+        ensures first { length pair.new.first ≤ 2 }
+        ensures second { length pair.new.second ≤ 2 }
     {
         pair.first.clear();
-        self.cell.plus_above(&mut pair.first);
+        self.cell.add_above(&mut pair.first);
         pair.second.clear();
-        self.new.plus_to(&mut pair.second);
-        pair.second.plus(F::of(SHIFT) * F::from(self.time), Wire(0));
+        self.new.add_to(&mut pair.second);
+        pair.second.add(F::of(SHIFT) * F::from(self.time), Wire(0));
     }
 }
 
@@ -86,31 +90,35 @@ impl Cell {
         lc
     }
 
-    // Appends it, 2^32 times and negated.
-    pub(crate) fn minus_above_from(self, lc: &mut Lc)
+    // Subtracts 2^32 times it from a normal combination.
+    pub(crate) fn subtract_above(self, lc: &mut Lc)
+        requires normal { IsNormal lc.old }
         requires room { length lc.old ≤ 126 }
         ensures terms { lc.new ≡ less_above lc.old (cell_lc self) }
-        ensures top { top lc.new ≡ max (top lc.old) (top (cell_lc self)) }
+        ensures normal { IsNormal lc.new }
+        ensures len { length lc.new ≤ length lc.old + 2 }
+        ensures top { top lc.new ≤ max (top lc.old) (top (cell_lc self)) }
     {
         match self {
-            Cell::Multiple(factor, wire) => lc.plus(-F::of(SHIFT) * factor, wire),
+            Cell::Multiple(factor, wire) => lc.add(-F::of(SHIFT) * factor, wire),
             Cell::After(factor, wire) => {
-                lc.plus(-F::of(SHIFT) * factor, wire);
-                lc.plus(-F::of(SHIFT), Wire(0));
+                lc.add(-F::of(SHIFT) * factor, wire);
+                lc.add(-F::of(SHIFT), Wire(0));
             }
         }
     }
 
-    // Appends 2^32 times it.
-    fn plus_above(self, lc: &mut Lc)
-        requires { length lc.old ≤ 32 }
-        ensures { lc.new ≡ lc.old ++ scaled (2 ^ 32 % P) (cell_lc self) }
+    // Adds 2^32 times it to a combination without terms.
+    fn add_above(self, lc: &mut Lc)
+        requires { lc.old ≡ [] }
+        ensures terms { lc.new ≡ normal (scaled (2 ^ 32 % P) (cell_lc self)) }
+        ensures len { length lc.new ≤ 2 }
     {
         match self {
-            Cell::Multiple(factor, wire) => lc.plus(F::of(SHIFT) * factor, wire),
+            Cell::Multiple(factor, wire) => lc.add(F::of(SHIFT) * factor, wire),
             Cell::After(factor, wire) => {
-                lc.plus(F::of(SHIFT) * factor, wire);
-                lc.plus(F::of(SHIFT), Wire(0));
+                lc.add(F::of(SHIFT) * factor, wire);
+                lc.add(F::of(SHIFT), Wire(0));
             }
         }
     }
@@ -121,35 +129,52 @@ impl Word {
     fn lc(self) -> Lc
         ensures { result ≡ word_lc self }
     {
-        let mut lc = Lc::empty();
-        self.plus_to(&mut lc);
-        lc
+        match self {
+            Word::Nothing => Lc::empty(),
+            Word::Number(number) => Lc::constant(F::from(number)),
+            Word::Wired(wire) => Lc::wire(wire),
+        }
     }
 
-    // Appends it, negated.
-    pub(crate) fn minus_from(self, lc: &mut Lc)
+    // Subtracts it from a normal combination.
+    pub(crate) fn subtract_from(self, lc: &mut Lc)
+        requires normal { IsNormal lc.old }
         requires room { length lc.old ≤ 127 }
-        ensures terms { lc.new ≡ lc.old ++ scaled (P - 1) (word_lc self) }
+        ensures terms { lc.new ≡ normal (lc.old ++ scaled (P - 1) (word_lc self)) }
+        ensures normal { IsNormal lc.new }
         ensures len { length lc.new ≤ length lc.old + 1 }
-        ensures top { top lc.new ≡ max (top lc.old) (top (word_lc self)) }
+        ensures top { top lc.new ≤ max (top lc.old) (top (word_lc self)) }
     {
         match self {
             Word::Nothing => {}
-            Word::Number(number) => lc.plus(-F::ONE * F::from(number), Wire(0)),
-            Word::Wired(wire) => lc.plus(-F::ONE, wire),
+            Word::Number(number) => lc.add(-F::ONE * F::from(number), Wire(0)),
+            Word::Wired(wire) => lc.add(-F::ONE, wire),
         }
     }
 
-    // Appends it to a combination without terms.
-    pub(crate) fn plus_to(self, lc: &mut Lc)
+    // Adds it to a combination without terms.
+    pub(crate) fn add_to(self, lc: &mut Lc)
         requires empty { lc.old ≡ [] }
-        ensures terms { lc.new ≡ word_lc self }
+        ensures terms { lc.new ≡ normal (word_lc self) }
+        ensures normal { IsNormal lc.new }
         ensures len { length lc.new ≤ 1 }
+        ensures top { top lc.new ≤ top (word_lc self) }
     {
         match self {
             Word::Nothing => {}
-            Word::Number(number) => lc.plus(F::from(number), Wire(0)),
-            Word::Wired(wire) => lc.plus(F::ONE, wire),
+            Word::Number(number) => lc.add(F::from(number), Wire(0)),
+            Word::Wired(wire) => lc.add(F::ONE, wire),
         }
     }
+}
+
+// Subtracts 2^32 times a number from a normal combination.
+pub(crate) fn subtract_number_above(lc: &mut Lc, number: u32)
+    requires normal { IsNormal lc.old }
+    requires room { length lc.old ≤ 127 }
+    ensures terms { lc.new ≡ less_above lc.old (constant number) }
+    ensures len { length lc.new ≤ length lc.old + 1 }
+    ensures top { top lc.new ≤ max (top lc.old) 1 }
+{
+    lc.add(-F::of(SHIFT) * F::from(number), Wire(0));
 }

@@ -35,13 +35,13 @@ pub use packing::{
     unpack_line,
 };
 pub use predecessor::{
-    fill_follows, follows, follows_costs, follows_fills, follows_is_complete, follows_is_sound,
-    follows_reaches, follows_rises,
+    fill_follows, follows, follows_costs, follows_fills, follows_is_complete, follows_is_normal,
+    follows_is_sound, follows_reaches, follows_rises, follows_terms,
 };
 pub use rows::LineBits;
 pub use starts::{
-    boot_line, boot_line_fills, boot_line_is_complete, boot_line_is_sound, least_line,
-    least_line_fills, least_line_is_complete, least_line_is_sound,
+    boot_line, boot_line_fills, boot_line_is_complete, boot_line_is_sound, boot_line_terms,
+    least_line, least_line_fills, least_line_is_complete, least_line_is_sound, least_line_terms,
 };
 pub use unpacking::{
     fill_unpack, line_bits, unpack, unpack_fills, unpack_is_complete, unpack_is_sound,

@@ -6,13 +6,15 @@ ghost use Rattle.tv_core.specs.Giving.{GivesIn};
 ghost use Rattle.tv_core.specs.Sinks.{PutsIn, Grows, Room};
 ghost use Rattle.tv_lines.specs.Packing.{unpacked};
 ghost use Rattle.tv_lines.specs.Predecessor.{IsLineMade, IsItemMade, follows_of, follows_values};
-ghost use Rattle.tv_lines.specs.Predecessor.{excess, cell_difference, time_difference, either_of};
+ghost use Rattle.tv_lines.specs.Predecessor.{cell_excess, excess, cell_difference};
+ghost use Rattle.tv_lines.specs.Predecessor.{time_difference, either_of, follows_terms};
 ghost use Rattle.tv_lines.specs.Predecessor.{reach_between, excess_between};
 ghost use Rattle.tv_lines.specs.Predecessor.{FollowsIsSound, FollowsIsComplete, FollowsSizes};
+ghost use Rattle.tv_lines.specs.Predecessor.{FollowsIsNormal};
 ghost use Rattle.tv_lines.specs.Predecessor.{FollowsCosts, FollowsReaches, FollowsRises};
 ghost use Rattle.tv_lines.specs.Compact.{cell_lc, line_lc, word_lc};
 
-use crate::compact::{CompactLine, SHIFT};
+use crate::compact::{CompactLine, SHIFT, subtract_number_above};
 use crate::packing::unpack_item;
 use tv_bits::{Bits, fill_bits, kept_by, new_bits_by};
 use tv_core::{F, Lc, Line, Pair, PairNum, Put, Scratch, Sink, Values, Wire};
@@ -47,6 +49,21 @@ pub fn follows<S: Sink>(
     either(s, scratch, e, line, item)
 }
 
+// Writes 2^32 times 1 and the item's cell, less the old word and 2^32 times the cell.
+fn set_cell_excess(lc: &mut Lc, line: &CompactLine, first: &[(F, Wire)])
+    requires first_short { length first.now ≤ 32 }
+    ensures terms { lc.new ≡ cell_excess (line_lc line.now) first.now }
+    ensures len { length lc.new ≤ length first.now + 4 }
+    ensures top { top lc.new ≤ max (max (max 1 (top first.now)) (top (word_lc line.now.old)))
+        (top (cell_lc line.now.cell)) }
+{
+    lc.clear();
+    lc.plus(F::of(SHIFT), Wire(0));
+    lc.add_terms(first);
+    line.old.subtract_from(lc);
+    line.cell.subtract_above(lc);
+}
+
 // Writes what the wire `e` is.
 fn set_excess(lc: &mut Lc, reach: &Bits, line: &CompactLine, item: &Pair)
     requires short { reach.now.n ≤ 31 }
@@ -57,12 +74,8 @@ fn set_excess(lc: &mut Lc, reach: &Bits, line: &CompactLine, item: &Pair)
         (max (top (cell_lc line.now.cell))
         (max (top (word_lc line.now.old)) (top item.now.first)))) }
 {
-    lc.clear();
+    set_cell_excess(lc, line, item.first.terms());
     reach.plus_to(lc, F::of(SHIFT));
-    lc.plus(F::of(SHIFT), Wire(0));
-    lc.plus_terms(item.first.terms());
-    line.old.minus_from(lc);
-    line.cell.minus_above_from(lc);
 }
 
 // Constrains `e` to be 0, or the cells to be the same and the times to differ by it.
@@ -96,20 +109,39 @@ fn set_either(scratch: &mut Scratch, e: Wire, line: &CompactLine, item: &Pair)
 {
     scratch.a.set_wire(e);
     scratch.b.clear();
-    scratch.b.plus_terms(item.first.terms());
-    line.cell.minus_above_from(&mut scratch.b);
+    scratch.b.add_terms(item.first.terms());
+    line.cell.subtract_above(&mut scratch.b);
     scratch.c.clear();
 }
 
-// Writes `e` and the difference of the times.
+// Writes the difference of the times, and `e`.
 fn set_times(lc: &mut Lc, e: Wire, line: &CompactLine, item: &Pair)
     requires second_short { length item.now.second ≤ 32 }
     ensures terms { lc.new ≡ time_difference e (line_lc line.now) item.now }
     ensures top { top lc.new ≤ max (e + 1) (max 1 (top item.now.second)) }
 {
-    lc.set_wire(e);
-    lc.plus_terms(item.second.terms());
-    lc.plus(-F::of(SHIFT) * F::from(line.time), Wire(0));
+    lc.clear();
+    lc.add_terms(item.second.terms());
+    subtract_number_above(lc, line.time);
+    lc.plus(F::ONE, e);
+}
+
+/// Returns how many terms the constraints of `follows` have where the item is two wires after those
+/// of the line, as a network's outputs are. Reuses the caller's scratch combination.
+pub fn follows_terms(scratch: &mut Lc, m: u32, line: &CompactLine) -> u32
+    requires short { m ≤ 31 }
+    ensures is { result ≡ follows_terms m (line_lc line.now) }
+    ensures few { result ≤ 2 ^ 8 }
+{
+    set_cell_excess(scratch, line, &[]);
+    let excess = scratch.terms().len();
+    scratch.clear();
+    line.cell.subtract_above(scratch);
+    let cell = scratch.terms().len();
+    scratch.clear();
+    subtract_number_above(scratch, line.time);
+    let time = scratch.terms().len();
+    4 * m + 8 + (excess + cell + time) as u32
 }
 
 /// Assigns the wires of `follows` for a line and the item of its predecessor: the bits of the
@@ -169,10 +201,15 @@ pub fn follows_fills()
     ensures { FollowsSizes }
 {}
 
-/// The constraints of `follows`, and their terms, by the lengths of its arguments: 137 terms at 31
-/// bits where each combination has one term.
+/// The constraints of `follows`, and their terms where the item is two wires after those of the
+/// line: 137 at 31 bits where cell, time and old word are wires of their own.
 pub fn follows_costs()
     ensures { FollowsCosts }
+{}
+
+/// The constraints of `follows` are normal, whatever the line's combinations are.
+pub fn follows_is_normal()
+    ensures { FollowsIsNormal }
 {}
 
 /// 31 bits of reach suffice for lines in range; `k` bits suffice for times below 2^k where the cell

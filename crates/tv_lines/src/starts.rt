@@ -1,15 +1,16 @@
 //! Lines that begin a cell: boot lines, and the least line of all.
-ghost use Rattle.std.specs.Prelude.{◌≡◌, ◌≤◌, length, max, IfOk};
+ghost use Rattle.std.specs.Prelude.{◌≡◌, ◌^◌, ◌≤◌, length, max, IfOk};
 ghost use Rattle.tv_core.specs.Combinations.{top, constant};
 ghost use Rattle.tv_core.specs.Sinks.{PutsIn, Grows, Room};
 ghost use Rattle.tv_lines.specs.Predecessor.{IsLineMade, IsItemMade, less_above};
 ghost use Rattle.tv_lines.specs.Starts.{boot_line_of, BootLineIsSound, BootLineIsComplete};
-ghost use Rattle.tv_lines.specs.Starts.{BootLineSizes, least_line_of, LeastLineIsSound};
+ghost use Rattle.tv_lines.specs.Starts.{BootLineSizes, boot_line_terms, least_line_of};
+ghost use Rattle.tv_lines.specs.Starts.{LeastLineIsSound, least_line_terms};
 ghost use Rattle.tv_lines.specs.Starts.{LeastLineIsComplete, LeastLineSizes};
 ghost use Rattle.tv_lines.specs.Compact.{line_lc};
 
-use crate::compact::{CompactLine, SHIFT};
-use tv_core::{F, Lc, Pair, Put, Scratch, Sink, Wire};
+use crate::compact::{CompactLine, subtract_number_above};
+use tv_core::{Lc, Pair, Put, Scratch, Sink, Wire};
 
 /// Constrains the line of `item` to be of cell `c`. A boot line of cell `c + 1`, whose old word is
 /// the constant 0, so follows it. It makes no wire and 1 constraint,
@@ -33,8 +34,19 @@ fn set_cells(lc: &mut Lc, c: u32, item: &Pair)
     ensures top { top lc.new ≤ max 1 (top item.now.first) }
 {
     lc.clear();
-    lc.plus_terms(item.first.terms());
-    lc.plus(-F::of(SHIFT) * F::from(c), Wire(0));
+    lc.add_terms(item.first.terms());
+    subtract_number_above(lc, c);
+}
+
+/// Returns how many terms the constraint of `boot_line` has where the item is two wires. Reuses the
+/// caller's scratch combination.
+pub fn boot_line_terms(scratch: &mut Lc, c: u32) -> u32
+    ensures is { result ≡ boot_line_terms c }
+    ensures few { result ≤ 2 ^ 8 }
+{
+    scratch.clear();
+    subtract_number_above(scratch, c);
+    scratch.terms().len() as u32 + 2
 }
 
 /// Constrains the old word of `line` to be 0, as that of the least line is. It makes no wire and 1
@@ -46,10 +58,21 @@ pub fn least_line<S: Sink>(s: &mut S, scratch: &mut Scratch, line: &CompactLine)
     ensures grows { IfOk result (λ _. Grows S.meaning s.old s.new 0 1) }
 {
     scratch.a.clear();
-    line.old.plus_to(&mut scratch.a);
+    line.old.add_to(&mut scratch.a);
     scratch.b.set_wire(Wire(0));
     scratch.c.clear();
     s.put(&scratch.a, &scratch.b, &scratch.c)
+}
+
+/// Returns how many terms the constraint of `least_line` has. Reuses the caller's scratch
+/// combination.
+pub fn least_line_terms(scratch: &mut Lc, line: &CompactLine) -> u32
+    ensures is { result ≡ least_line_terms (line_lc line.now) }
+    ensures few { result ≤ 2 ^ 8 }
+{
+    scratch.clear();
+    line.old.add_to(scratch);
+    scratch.terms().len() as u32 + 1
 }
 
 /// In an assignment that meets the constraint of `boot_line`, a line of the next cell whose old
@@ -63,7 +86,7 @@ pub fn boot_line_is_complete()
     ensures { BootLineIsComplete }
 {}
 
-/// `boot_line` makes no wire, and one constraint.
+/// `boot_line` makes no wire, and one constraint, which is normal.
 pub fn boot_line_fills()
     ensures { BootLineSizes }
 {}
@@ -78,7 +101,7 @@ pub fn least_line_is_complete()
     ensures { LeastLineIsComplete }
 {}
 
-/// `least_line` makes no wire, and one constraint.
+/// `least_line` makes no wire, and one constraint, which is normal.
 pub fn least_line_fills()
     ensures { LeastLineSizes }
 {}

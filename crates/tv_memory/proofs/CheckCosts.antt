@@ -1,19 +1,12 @@
 -- What checks cost, and at most.
-use Rattle.std.proofs.Common.{◌≡◌, ℕ, zero, suc, ◌+◌, ◌*◌, ◌^◌, ◌<◌, ◌≤◌, length, refl, arith}
+use Rattle.std.proofs.Common.{◌≡◌, ℕ, zero, suc, ◌+◌, ◌*◌, ◌^◌, ◌<◌, ◌≤◌, arith}
 use Rattle.std.proofs.Math.Nat.{mul-le-mul_right}
 use Rattle.tv_core.proofs.BelowLaws.{sum_below-zero, sum_below-suc}
 use Rattle.tv_core.specs.Below.{sum_below}
-use Rattle.tv_core.specs.declared.lines.LineLc.{LineLc}
-use Rattle.tv_memory.specs.Checks.{Checks, check_made, check_added, check_terms, AreShort, IsShort}
-use Rattle.tv_memory.specs.Costs.{terms_of_check, ChecksAreCheap}
+use Rattle.tv_memory.specs.Checks.{Checks, check_made, check_added, AreShort, IsShort}
+use Rattle.tv_memory.specs.Costs.{ChecksAreCheap}
 use Rattle.tv_memory.specs.declared.kinds.Kind.{Kind}
 use Rattle.tv_memory.specs.declared.kinds.Kind.TheVariants.{Fresh, Least, Boot, Within}
-
-terms_are : (kind : Kind) (line : LineLc) → length line.time ≡ 1 → check_terms kind line ≡ terms_of_check kind (length line.cell) (length line.old)
-terms_are Fresh line h = refl
-terms_are Least line h = refl
-terms_are (Boot c) line h = refl
-terms_are (Within m) line h = omega arith
 
 made_few : (kind : Kind) → IsShort kind → check_made kind ≤ 2 ^ 6
 made_few Fresh h = omega arith
@@ -26,12 +19,6 @@ added_few Fresh h = omega arith
 added_few Least h = omega arith
 added_few (Boot c) h = omega arith
 added_few (Within m) h = omega arith
-
-terms_few : (kind : Kind) (cell old : ℕ) → IsShort kind → cell ≤ 32 → old ≤ 32 → terms_of_check kind cell old ≤ 2 ^ 8
-terms_few Fresh cell old h i j = omega arith
-terms_few Least cell old h i j = omega arith
-terms_few (Boot c) cell old h i j = omega arith
-terms_few (Within m) cell old h i j = omega arith
 
 pub sum_few : (n b : ℕ) (f : ℕ → ℕ) → ((i : ℕ) → i < n → f i ≤ b) → sum_below n f ≤ n * b
 sum_few zero b f each = let none = sum_below-zero f in omega arith
@@ -51,8 +38,6 @@ sums_few checks n short f each =
 
 pub checks_cheap : ChecksAreCheap
 checks_cheap = record {
-  terms = terms_are;
   few_made = λ checks n short. sums_few checks n short check_made made_few;
   few_added = λ checks n short. sums_few checks n short check_added added_few;
-  few_terms = terms_few;
 }

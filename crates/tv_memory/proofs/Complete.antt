@@ -147,15 +147,14 @@ module _ (z : List ℕ) (net : Net) (checks : Checks) (h : ℕ) (lines : List Li
       let wires : List ℕ = network_values net h settings number in
       let rest : List ℕ = joined_below checks.count check in
       let one = HasFrom-split z at wires rest (subst (λ w. HasFrom z at (network_values net w settings number ++ rest)) e has) in
-      let filled = network_complete z net at h item settings assigns
-      (subst (λ f. HasFrom z at (network_values net h settings f)) (sym (packs z h lines few many from)) one.0) in
+      let filled = network_complete z net at h item settings number assigns (λ j k. ap (λ f. f j) (packs z h lines few many from)) one.0 in
       let last = (network_of net h item at).answer in
       let first = (network_of net h item at).next in
       let at_first : at + length wires ≡ first = ap (λ m. at + m) (network_values-length net h settings number) ∙ sym (network_next net h item at) in
       let is : (i : ℕ) → i < checks.count → pair_value z (output last i) ≡ packed_item (line_before numbers i) =
       λ i k.
       let low : i < 2 ^ suc h = let w = inside i k in omega (arith, long) in
-      filled.outputs i low ∙ ap (λ f. through net h settings f i) (packs z h lines few many from) ∙ routed i low in
+      filled.outputs i low ∙ routed i low in
       whole z (network_of net h item) _ at filled.meets
       (pieces_met z (λ i. check_of (checks.kind i) (output last i) (line_in lines i)) check
       (λ i w. check_next (checks.kind i) w (output last i) (line_in lines i)

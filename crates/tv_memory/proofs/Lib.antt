@@ -2,9 +2,11 @@ pub mod CheckCosts
 pub mod Complete
 pub mod Costs
 pub mod Counting
+pub mod FewTerms
 pub mod FillingLaws
 pub mod Honesty
 pub mod Made
+pub mod NormalLaws
 pub mod Ordering
 pub mod Parts
 pub mod Previous

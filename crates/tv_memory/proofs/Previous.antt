@@ -1,5 +1,6 @@
 -- The predecessor of each line in address order.
-use Rattle.std.proofs.Common.{◌≡◌, ◌≢◌, ◌⊎◌, ℕ, zero, suc, ◌+◌, ◌-◌, ◌^◌, ◌<◌, ◌≤◌, ◌==◌, if◌then◌else◌, List, [], ◌∷◌, length, get_or, inl, inr, refl, sym, ◌∙◌, ap, subst, arith, eq-eqb, map, ◌%◌}
+use Rattle.std.proofs.Common.{◌≡◌, ◌≢◌, ◌⊎◌, ℕ, zero, suc, ◌+◌, ◌-◌, ◌^◌, ◌<◌, ◌≤◌, ◌==◌, if◌then◌else◌, List, [], ◌∷◌, length, get_or, inl, inr, refl, sym}
+use Rattle.std.proofs.Common.{◌∙◌, ap, subst, arith, eq-eqb, map, ◌%◌}
 use Rattle.std.proofs.lemmas.Bool.{cases_lt, cases_eq, ne_eqb}
 use Rattle.tv_benes.proofs.Permuting.{places-length, places-at}
 use Rattle.tv_core.proofs.BelowLaws.{length-each_below}

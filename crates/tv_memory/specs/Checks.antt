@@ -8,8 +8,8 @@ use Rattle.tv_core.specs.declared.lines.LineLc.{LineLc}
 use Rattle.tv_core.specs.declared.lines.Pair.{Pair}
 use Rattle.tv_lines.specs.Ordered.{key}
 use Rattle.tv_lines.specs.Placed.{number_in}
-use Rattle.tv_lines.specs.Predecessor.{follows_of, follows_values}
-use Rattle.tv_lines.specs.Starts.{boot_line_of, least_line_of}
+use Rattle.tv_lines.specs.Predecessor.{follows_of, follows_terms, follows_values}
+use Rattle.tv_lines.specs.Starts.{boot_line_of, boot_line_terms, least_line_of, least_line_terms}
 use Rattle.tv_memory.specs.declared.kinds.Kind.{Kind}
 use Rattle.tv_memory.specs.declared.kinds.Kind.TheVariants.{Fresh, Least, Boot, Within}
 
@@ -34,7 +34,8 @@ check_values Least before line = []
 check_values (Boot c) before line = []
 check_values (Within m) before line = follows_values m before line
 
--- how many wires it makes, how many constraints it puts, and how many terms these have where an item is two wires
+-- how many wires it makes, how many constraints it puts, and how many terms these have where an item is two wires after
+-- those of the line
 abbrev pub check_made : Kind → ℕ
 check_made Fresh = 0
 check_made Least = 0
@@ -49,9 +50,9 @@ check_added (Within m) = m + 3
 
 abbrev pub check_terms : Kind → LineLc → ℕ
 check_terms Fresh line = 0
-check_terms Least line = length line.old + 1
-check_terms (Boot c) line = 3
-check_terms (Within m) line = 4 * m + 9 + 2 * length line.cell + length line.time + length line.old
+check_terms Least line = least_line_terms line
+check_terms (Boot c) line = boot_line_terms c
+check_terms (Within m) line = follows_terms m line
 
 -- a reach has at most 31 bits
 abbrev pub IsShort : Kind → Type 0

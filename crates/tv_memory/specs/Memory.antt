@@ -1,7 +1,7 @@
 -- The memory argument: a permutation network brings to each line, at its own place in time order, the item of its
 -- predecessor in address order, and the line is checked against it there.
-use Rattle.std.specs.Prelude.{◌≡◌, ℕ, ◌+◌, ◌-◌, ◌*◌, ◌^◌, ◌≤◌, Bool, List, ◌++◌, length}
-use Rattle.tv_benes.specs.Costs.{network_terms}
+use Rattle.std.specs.Prelude.{◌≡◌, ℕ, ◌+◌, ◌-◌, ◌*◌, ◌^◌, ◌≤◌, Bool, List, ◌++◌, length, All}
+use Rattle.tv_benes.specs.Costs.{column_terms, inner_terms}
 use Rattle.tv_benes.specs.Items.{pair_at}
 use Rattle.tv_benes.specs.Levels.{network_wires}
 use Rattle.tv_benes.specs.Network.{network_of, network_values}
@@ -14,12 +14,13 @@ use Rattle.tv_core.specs.Combinations.{top}
 use Rattle.tv_core.specs.Lines.{Line}
 use Rattle.tv_core.specs.Loops.{times}
 use Rattle.tv_core.specs.Meanings.{terms_in}
+use Rattle.tv_core.specs.Normal.{AreNormal}
 use Rattle.tv_core.specs.declared.lines.LineLc.{LineLc}
 use Rattle.tv_core.specs.declared.lines.Pair.{Pair}
 use Rattle.tv_core.specs.declared.lines.PairNum.{PairNum}
 use Rattle.tv_lines.specs.Packing.{pack_item, unpacked}
 use Rattle.tv_lines.specs.Placed.{line_in, number_in}
-use Rattle.tv_memory.specs.Checks.{Checks, check_of, check_values, check_made, check_added, check_terms}
+use Rattle.tv_memory.specs.Checks.{Checks, AreShort, check_of, check_values, check_made, check_added, check_terms}
 
 -- the combinations of a line have at most 32 terms each, over wires below a number
 pub record IsMade (wires : ℕ) (line : LineLc) : Type 0 where
@@ -56,22 +57,27 @@ abbrev pub memory_added : Net → Checks → ℕ → ℕ
 memory_added net checks k = network_wires net (k - 1) + sum_below checks.count (λ i. check_added (checks.kind i))
 
 -- ---- what it costs
--- the terms of a line's item
-abbrev pub terms_of_item : LineLc → ℕ
-terms_of_item line = length line.cell + length line.new + length line.time
-
--- the terms of all constraints
+-- the terms of the network's first column, a switch for each two neighbours, of its other columns, and of all checks
 abbrev pub memory_terms : Net → Checks → ℕ → List LineLc → ℕ
 memory_terms net checks k lines =
-    network_terms net (k - 1) (sum_below (2 ^ k) (λ i. terms_of_item (line_in lines i)))
+    column_terms (2 ^ (k - 1)) (items_of lines) + inner_terms net (k - 1)
     + sum_below checks.count (λ i. check_terms (checks.kind i) (line_in lines i))
 
--- how many constraints the argument puts, and how many terms they have
+-- how many constraints the argument puts, and how many terms they have over lines of wires before its own: at most 2 ^ 10
+-- a line
 pub record MemoryCosts : Type 0 where
   pub constraints : (net : Net) (checks : Checks) (k : ℕ) (lines : List LineLc) (next : ℕ) → 1 ≤ k
       → length (memory_of net checks k lines next).list ≡ memory_added net checks k
-  pub terms : (net : Net) (checks : Checks) (k : ℕ) (lines : List LineLc) (next : ℕ) → 1 ≤ k
-      → terms_in (memory_of net checks k lines next).list ≡ memory_terms net checks k lines
+  pub terms : (net : Net) (checks : Checks) (k : ℕ) (lines : List LineLc) (next : ℕ) → 1 ≤ next → 1 ≤ k → length lines ≡ 2 ^ k → checks.count ≤ 2 ^ k
+      → All (IsMade next) lines → terms_in (memory_of net checks k lines next).list ≡ memory_terms net checks k lines
+  pub few : (net : Net) (checks : Checks) (k : ℕ) (lines : List LineLc) (next : ℕ) → 1 ≤ k → k ≤ 20 → length lines ≡ 2 ^ k → AreShort checks (2 ^ k)
+      → All (IsMade next) lines → memory_terms net checks k lines ≤ 2 ^ k * 2 ^ 10
+
+-- ---- what is put is normal
+-- over lines of wires before the argument's own, whatever their combinations are
+abbrev pub MemoryIsNormal : Type 0
+MemoryIsNormal = (net : Net) (checks : Checks) (k : ℕ) (lines : List LineLc) (next : ℕ) → 1 ≤ next → 1 ≤ k → length lines ≡ 2 ^ k → AreShort checks (2 ^ k)
+    → All (IsMade next) lines → AreNormal (memory_of net checks k lines next).list
 
 -- ---- the values
 -- those of the checks of lines, against the lines that pairs at some places stand for

@@ -11,7 +11,7 @@ ghost use Rattle.tv_lines.specs.Compact.{line_lc};
 ghost use Rattle.tv_memory.specs.Argument.{ArgumentIsSound, ArgumentIsComplete};
 ghost use Rattle.tv_memory.specs.Checks.{AreShort, IsShort, check_of, check_made, check_added};
 ghost use Rattle.tv_memory.specs.Memory.{IsMade, memory_of, memory_made, memory_added};
-ghost use Rattle.tv_memory.specs.Memory.{MemoryCosts};
+ghost use Rattle.tv_memory.specs.Memory.{MemoryCosts, MemoryIsNormal};
 ghost use Rattle.tv_memory.specs.Order.{memory_values};
 
 use crate::kinds::Kind;
@@ -105,8 +105,14 @@ pub fn memory_is_complete()
         (memory_made net) }
 {}
 
-/// The constraints of `memory`, and their terms, by the kinds of the lines and the lengths of their
-/// combinations.
+/// The constraints of `memory`, by the kinds of the lines, and their terms, by the lines, at most
+/// 2^10 a line.
 pub fn memory_costs()
     ensures { MemoryCosts }
+{}
+
+/// The constraints of `memory` over lines of wires before its own are normal, whatever the lines'
+/// combinations are.
+pub fn memory_is_normal()
+    ensures { MemoryIsNormal }
 {}

@@ -1,7 +1,7 @@
 //! What the parts of the argument cost.
 ghost use Rattle.std.specs.Prelude.{◌≡◌, ◌^◌, ◌≤◌};
 ghost use Rattle.tv_memory.specs.Checks.{IsShort, check_made, check_added};
-ghost use Rattle.tv_memory.specs.Costs.{ChecksAreCheap, network_made, terms_of_check};
+ghost use Rattle.tv_memory.specs.Costs.{ChecksAreCheap, network_made};
 
 use crate::kinds::Kind;
 use tv_benes::{Net, network_wires};
@@ -31,23 +31,6 @@ pub fn check_added(kind: Kind) -> u32
     }
 }
 
-/// Returns how many terms the check of a line of a kind has, the line's cell and its old word having
-/// so many, and its time one.
-pub fn check_terms(kind: Kind, cell: u32, old: u32) -> u32
-    requires short { IsShort kind }
-    requires cell { cell ≤ 32 }
-    requires old { old ≤ 32 }
-    ensures is { result ≡ terms_of_check kind cell old }
-    ensures most { result ≤ 2 ^ 8 }
-{
-    match kind {
-        Kind::Fresh => 0,
-        Kind::Least => old + 1,
-        Kind::Boot(_) => 3,
-        Kind::Within(bits) => 4 * bits + 10 + 2 * cell + old,
-    }
-}
-
 /// Returns how many wires the argument's network on 2^`k` items makes, `k` from 1 to 20; it has as
 /// many constraints.
 pub fn network_made(net: Net, k: u32) -> u64
@@ -58,8 +41,7 @@ pub fn network_made(net: Net, k: u32) -> u64
     network_wires(net, k)
 }
 
-/// The terms of a check follow from its kind and from how many terms the line has; checks by short
-/// reaches are cheap.
+/// Checks with short reaches are cheap, in wires and in constraints.
 pub fn checks_are_cheap()
     ensures { ChecksAreCheap }
 {}

@@ -16,10 +16,12 @@ mod filling;
 mod kinds;
 mod lines;
 mod sorting;
+mod terms;
 
-pub use arguing::{memory, memory_costs, memory_is_complete, memory_is_sound};
-pub use check_costs::{check_added, check_made, check_terms, checks_are_cheap, network_made};
+pub use arguing::{memory, memory_costs, memory_is_complete, memory_is_normal, memory_is_sound};
+pub use check_costs::{check_added, check_made, checks_are_cheap, network_made};
 pub use filling::fill_memory;
 pub use kinds::Kind;
 pub use lines::{LineNumbers, Lines};
 pub use sorting::{address_order_is_right, predecessors, predecessors_are_right};
+pub use terms::memory_terms;

@@ -38,7 +38,8 @@ eight_made wires some = All-from_get_or (IsMade wires) eight_lines no_line (λ i
 pub line_is : (i : ℕ) → i < 8 → line_in eight_lines i ≡ line_at i
 line_is i h = each_below-at 8 i line_at no_line h
 
-pub line_made : (i : ℕ) → ◌≡◌ {A = LineLc} (record { cell = (1, 3 * i + 1) ∷ []; time = constant i; old = wire (3 * i + 1 + 1); new = wire (3 * i + 1 + 2) }) (line_at i)
+pub line_made : (i : ℕ) → ◌≡◌ {A = LineLc} (record { cell = (1, 3 * i + 1) ∷ []; time = constant i; old = wire (3 * i + 1 + 1); new = wire (3 * i + 1 + 2) })
+    (line_at i)
 line_made i =
     let two : 3 * i + 1 + 1 ≡ 3 * i + 2 = omega arith in
     let three : 3 * i + 1 + 2 ≡ 3 * i + 3 = omega arith in

@@ -58,11 +58,15 @@ fn a_sort_finds_the_predecessors(rt: HostRuntime) -> Result<(), Fail> {
     Ok(())
 }
 
+// By hand: in the first column 26 terms a switch, 3 of its bit, 10 of the cells and 13 of times and
+// words, but 12 of these in the first switch, where a time is 0; 22 for each of the 16 or 13 later
+// switches, and one more in Waksman's network; 2 for line 0, 2 for line 1, 25 for line 3, and 137
+// for each of four others.
 #[test]
 fn honest_lines_meet_it(rt: HostRuntime) -> Result<(), Fail> {
     for (net, constraints, wires, terms) in [
-        (Net::Benes, 228, 216, 1062),
-        (Net::Waksman, 217, 205, 993),
+        (Net::Benes, 228, 216, 1032),
+        (Net::Waksman, 217, 205, 967),
     ] {
         let values = assignment(rt.alloc(), net, &honest(), &PREDECESSORS)?;
         assert_eq!(rt; values.as_slice().len(), 25 + wires, "{net:?}");

@@ -1,6 +1,6 @@
 //! Tests of lines, of the scan and of the memory argument through their public calls, over honest
-//! lines and altered ones. They stand in a crate of their own, since a crate with tests is proved twice; nothing
-//! here is for callers.
+//! lines and altered ones. They stand in a crate of their own, since a crate with tests is proved
+//! twice; nothing here is for callers.
 #![tactic(auto)]
 
 #[cfg(test)]

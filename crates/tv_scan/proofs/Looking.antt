@@ -1,5 +1,6 @@
 -- What earlier lines leave in a cell, one line after another.
-use Rattle.std.proofs.Common.{◌≡◌, ℕ, zero, suc, ◌+◌, ◌-◌, ◌%◌, ◌<◌, ◌≤◌, ◌==◌, if◌then◌else◌, List, [], ◌∷◌, length, take, get_or, inl, inr, sym, ◌∙◌, ap, arith}
+use Rattle.std.proofs.Common.{◌≡◌, ℕ, zero, suc, ◌+◌, ◌-◌, ◌%◌, ◌<◌, ◌≤◌, ◌==◌, if◌then◌else◌, List, [], ◌∷◌, length, take, get_or, inl, inr, sym, ◌∙◌, ap}
+use Rattle.std.proofs.Common.{arith}
 use Rattle.std.proofs.lemmas.Bool.{cases_eq, eq-eqb, ne_eqb, cond_both}
 use Rattle.std.proofs.lemmas.List.{take_more}
 use Rattle.std.proofs.lemmas.List.Sums.{fold-append}
@@ -34,7 +35,8 @@ pub flag_bit : (x : ℕ) → IsBit (zero_flag x)
 flag_bit x = elim (cases_eq x 0) [ inl none ↦ omega (arith, zero_flag-zero x none) | inr some ↦ omega (arith, zero_flag-other x some) ]
 
 -- a word that was left is below P where the new words are
-pub word_small : (earlier : List Line) (line : Line) → ((i : ℕ) → i < length earlier → (get_or earlier i zero_line).new < P) → (n : ℕ) → n ≤ length earlier → word_after earlier line n < P
+pub word_small : (earlier : List Line) (line : Line) → ((i : ℕ) → i < length earlier → (get_or earlier i zero_line).new < P) → (n : ℕ) → n ≤ length earlier
+    → word_after earlier line n < P
 word_small earlier line small zero h = omega arith
 word_small earlier line small (suc n) h =
     let same : n + 1 ≡ suc n = omega arith in
@@ -42,4 +44,9 @@ word_small earlier line small (suc n) h =
     let rest : word_after earlier line n < P = word_small earlier line small n (omega arith) in
     let here : at < P = small n (omega arith) in
     let e = word_after-suc earlier line n (omega arith) in
-    omega (arith, ap (λ k. word_after earlier line k) same, e, cond_both ((get_or earlier n zero_line).cell == line.cell) at (word_after earlier line n) (λ v. v < P) (λ e. here) (λ e. rest))
+    omega (
+      arith,
+      ap (λ k. word_after earlier line k) same,
+      e,
+      cond_both ((get_or earlier n zero_line).cell == line.cell) at (word_after earlier line n) (λ v. v < P) (λ e. here) (λ e. rest),
+    )

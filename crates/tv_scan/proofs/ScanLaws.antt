@@ -30,7 +30,8 @@ look_next : (earlier : List LineLc) (line : LineLc) (i : ℕ) (word : Combinatio
 unfolding turn_of look_of pure ◌>>=◌
 look_next earlier line i word next =
     let same = zero_of (less line.cell (get_or earlier i no_line).cell) next in
-    select_next same.answer (get_or earlier i no_line).new word same.next ∙ ap (λ n. n + 1) (zero_next (less line.cell (get_or earlier i no_line).cell) next) ∙ omega arith
+    select_next same.answer (get_or earlier i no_line).new word same.next ∙ ap (λ n. n + 1) (zero_next (less line.cell (get_or earlier i no_line).cell) next)
+    ∙ omega arith
 
 looks_next : (earlier : List LineLc) (line : LineLc) (next n : ℕ) → (turns n (turn_of earlier line) [] next).next ≡ next + n * 3
 looks_next earlier line next n = turns-next (turn_of earlier line) [] next 3 n (look_next earlier line)
@@ -89,7 +90,8 @@ module _ (z : List ℕ) (earlier : List LineLc) (line : LineLc) (assigns : Assig
       value-wire assigns w.answer ∙ is_w
       ∙ ap (λ f. selected f (value (get_or earlier i no_line).new z) (value word z)) flag ∙ chosen i (value word z) h is
 
-  looks_sound : (next n : ℕ) → n ≤ length earlier → Meets z (turns n (turn_of earlier line) [] next).list → value (turns n (turn_of earlier line) [] next).answer z ≡ word_after numbers m n
+  looks_sound : (next n : ℕ) → n ≤ length earlier → Meets z (turns n (turn_of earlier line) [] next).list
+      → value (turns n (turn_of earlier line) [] next).answer z ≡ word_after numbers m n
   unfolding turns pure ◌>>=◌
   looks_sound next zero h meets = refl
   looks_sound next (suc n) h meets =
@@ -114,7 +116,8 @@ module _ (z : List ℕ) (earlier : List LineLc) (line : LineLc) (assigns : Assig
       ap (λ f. selected f (value new z) (value word z)) flag ∙ chosen i (value word z) h is in
       let there : slice_index z same.next ≡ word_after numbers m (i + 1) = ap (λ n. slice_index z n) (zero_next x next) ∙ both.1.0 in
       let at_w : slice_index z w.answer ≡ word_after numbers m (i + 1) = ap (λ n. slice_index z n) (select_answer same.answer new word same.next) ∙ there in (
-        Meets-join z (same.list ++ w.list) [] (Meets-join z same.list w.list flags (select_complete z same.next same.answer new word assigns bit (there ∙ sym word_is, tt))) tt,
+        Meets-join z (same.list ++ w.list) [] (Meets-join z same.list w.list flags
+            (select_complete z same.next same.answer new word assigns bit (there ∙ sym word_is, tt))) tt,
         value-wire assigns w.answer ∙ at_w,
       )
 
@@ -131,7 +134,8 @@ module _ (z : List ℕ) (earlier : List LineLc) (line : LineLc) (assigns : Assig
       let before = turns n (turn_of earlier line) [] in
       let rest = looks_complete next n (omega arith) (λ i k. has i (omega arith)) in
       let same : n + 1 ≡ suc n = omega arith in
-      let one = look_complete n (before next).next (before next).answer (omega arith) rest.1 (subst (λ w. HasFrom z w (look_values numbers m n)) (sym (looks_next earlier line next n)) (has n (omega arith))) in
+      let one = look_complete n (before next).next (before next).answer (omega arith) rest.1
+      (subst (λ w. HasFrom z w (look_values numbers m n)) (sym (looks_next earlier line next n)) (has n (omega arith))) in
       (whole z before (turn_of earlier line n) next rest.0 one.0, more_answer next n ∙ one.1 ∙ ap (word_after numbers m) same)
 
   all_taken : word_after numbers m (length earlier) ≡ memory_after (map (line_value z) earlier) (value line.cell z)
@@ -142,19 +146,23 @@ unfolding scan_of put
 scan_sound z next earlier line assigns meets =
     let looks = turns (length earlier) (turn_of earlier line) [] in
     let both = parts z looks (λ word. put word (constant 1) line.old) next meets in
-    sym both.1.0 ∙ value-once z (looks next).answer assigns ∙ looks_sound z earlier line assigns next (length earlier) (omega arith) both.0 ∙ all_taken z earlier line assigns
+    sym both.1.0 ∙ value-once z (looks next).answer assigns ∙ looks_sound z earlier line assigns next (length earlier) (omega arith) both.0
+    ∙ all_taken z earlier line assigns
 
 pub scan_complete : ScanIsComplete
 unfolding scan_of put
 scan_complete z next earlier line assigns is has =
     let looks = turns (length earlier) (turn_of earlier line) [] in
-    let each = has_each_list z next (length (map (line_value z) earlier)) 3 (look_values (map (line_value z) earlier) (line_value z line)) (λ i h. look_many (map (line_value z) earlier) (line_value z line) i) has in
+    let each = has_each_list z next (length (map (line_value z) earlier)) 3 (look_values (map (line_value z) earlier) (line_value z line))
+    (λ i h. look_many (map (line_value z) earlier) (line_value z line) i) has in
     let n = long z earlier line assigns in
     let done = looks_complete z earlier line assigns next (length earlier) (omega arith) (λ i h. each i (omega arith)) in
-    whole z looks (λ word. put word (constant 1) line.old) next done.0 (value-once z (looks next).answer assigns ∙ done.1 ∙ all_taken z earlier line assigns ∙ sym is, tt)
+    whole z looks (λ word. put word (constant 1) line.old) next done.0
+    (value-once z (looks next).answer assigns ∙ done.1 ∙ all_taken z earlier line assigns ∙ sym is, tt)
 
 -- ---- sizes
-look_small : (earlier : List Line) (line : Line) → ((i : ℕ) → i < length earlier → (get_or earlier i zero_line).new < P) → (i : ℕ) → i < length earlier → InField (look_values earlier line i)
+look_small : (earlier : List Line) (line : Line) → ((i : ℕ) → i < length earlier → (get_or earlier i zero_line).new < P) → (i : ℕ) → i < length earlier
+    → InField (look_values earlier line i)
 look_small earlier line small i h =
     InField-append (zero_values (cells_apart earlier line i)) (word_after earlier line (i + 1) ∷ []) (zero_in_field (cells_apart earlier line i))
     (InField-cons (word_after earlier line (i + 1)) [] (word_small earlier line small (i + 1) (omega arith)) InField-none)
@@ -163,6 +171,7 @@ pub scan_fill : ScanSizes
 scan_fill = record {
   end = scan_next;
   fills = λ earlier line numbers m many next.
-      scan_next earlier line next ∙ ap (λ n. next + n) (ap (λ n. n * 3) (sym many) ∙ sym (length-joined_below (length numbers) 3 (look_values numbers m) (λ i h. look_many numbers m i)));
+      scan_next earlier line next ∙ ap (λ n. next + n)
+      (ap (λ n. n * 3) (sym many) ∙ sym (length-joined_below (length numbers) 3 (look_values numbers m) (λ i h. look_many numbers m i)));
   in_field = λ numbers m small. InField-joined_below (look_values numbers m) (length numbers) (look_small numbers m small);
 }

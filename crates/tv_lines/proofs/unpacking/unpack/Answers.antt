@@ -10,7 +10,8 @@ returns-in_err-first-clause-puts g c =
 pub returns-in_err-second-clause-puts : goal.returns-in_err-second-clause-puts
 unfolding unpack_of
 returns-in_err-second-clause-puts g c =
-    refused g.S.Sink.meaning _ _ _ c.from_residual-in_err-second.result c.from_residual-in_err-second.ensures.1 (search (chain, c.in_ok-first.ensures.puts, c.in_err-second.ensures.puts))
+    refused g.S.Sink.meaning _ _ _ c.from_residual-in_err-second.result c.from_residual-in_err-second.ensures.1
+    (search (chain, c.in_ok-first.ensures.puts, c.in_err-second.ensures.puts))
 
 pub returns-clause-puts : goal.returns-clause-puts
 unfolding unpack_of

@@ -23,11 +23,14 @@ loop-before-preserved g c =
     let i = c.loop-before.before-index in
     let many = length-map ls line_of in
     let h : i < length (map line_of ls) = omega arith in
-    let there : get_or (map line_of ls) i zero_line ≡ line_of c.before-item.result = number_at ls i c.before-item.result zero_line (omega arith) ∙ ap line_of (sym c.before-item.is) in
+    let there : get_or (map line_of ls) i zero_line ≡ line_of c.before-item.result = number_at ls i c.before-item.result zero_line (omega arith)
+    ∙ ap line_of (sym c.before-item.is) in
     let word = c.left-word.ensures ∙ next_word ls c.args.line.now c.before-item.result i c.loop-before.word h there c.loop-before.invariant.word in
-    let values = values_of_turn ls c.args.line.now c.before-item.result i c.loop-before.word h there c.loop-before.invariant.word c.sub.result c.left-word.result c.sub.ensures word in
+    let values = values_of_turn ls c.args.line.now c.before-item.result i c.loop-before.word h there c.loop-before.invariant.word c.sub.result
+    c.left-word.result c.sub.ensures word in
     record {
-      gives = gives_list m (look_values (map line_of ls) (line_of c.args.line.now)) i _ _ _ c.loop-before.invariant.gives (subst (λ vs. GivesAll m c.loop-before.v c.fill_look.new.v vs) values c.in_ok-fill_look.ensures.gives);
+      gives = gives_list m (look_values (map line_of ls) (line_of c.args.line.now)) i _ _ _ c.loop-before.invariant.gives
+          (subst (λ vs. GivesAll m c.loop-before.v c.fill_look.new.v vs) values c.in_ok-fill_look.ensures.gives);
       whole = c.in_ok-fill_look.ensures.whole;
       word = word;
     }
@@ -39,9 +42,11 @@ returns-in_err-fill_look-clause-gives g c =
     let i = c.loop-before.before-index in
     let many = length-map ls line_of in
     let h : i < length (map line_of ls) = omega arith in
-    let there : get_or (map line_of ls) i zero_line ≡ line_of c.before-item.result = number_at ls i c.before-item.result zero_line (omega arith) ∙ ap line_of (sym c.before-item.is) in
+    let there : get_or (map line_of ls) i zero_line ≡ line_of c.before-item.result = number_at ls i c.before-item.result zero_line (omega arith)
+    ∙ ap line_of (sym c.before-item.is) in
     let word = c.left-word.ensures ∙ next_word ls c.args.line.now c.before-item.result i c.loop-before.word h there c.loop-before.invariant.word in
-    let values = values_of_turn ls c.args.line.now c.before-item.result i c.loop-before.word h there c.loop-before.invariant.word c.sub.result c.left-word.result c.sub.ensures word in
+    let values = values_of_turn ls c.args.line.now c.before-item.result i c.loop-before.word h there c.loop-before.invariant.word c.sub.result
+    c.left-word.result c.sub.ensures word in
     gives_refused m _ _ _ c.from_residual.result c.from_residual.ensures.1
     (gives_list_refused m (look_values (map line_of ls) (line_of c.args.line.now)) (length (map line_of ls)) i _ _ _ _ h c.loop-before.invariant.gives
     (given_as m _ _ _ _ _ values c.in_err-fill_look.ensures.gives))

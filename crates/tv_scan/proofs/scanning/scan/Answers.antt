@@ -18,10 +18,13 @@ loop-before-init g c = record {
 pub loop-before-preserved : goal.loop-before-preserved
 loop-before-preserved g c =
     let grown = c.in_ok-w.ensures.grows in
-    let there : get_or c.args.earlier.now c.loop-before.before-index no_line ≡ c.before-item.result = get_or_default c.args.earlier.now c.loop-before.before-index no_line c.before-item.result (omega arith) ∙ sym c.before-item.is in
+    let there : get_or c.args.earlier.now c.loop-before.before-index no_line
+    ≡ c.before-item.result = get_or_default c.args.earlier.now c.loop-before.before-index no_line c.before-item.result (omega arith)
+    ∙ sym c.before-item.is in
     let made = c.set_wire.ensures.terms in
     record {
-      puts = one_turn g.S.Sink.meaning c.args.earlier.now c.args.line.now c.loop-before.before-index _ _ _ _ _ _ _ there c.loop-before.invariant.puts c.in_ok-w.ensures.puts made;
+      puts = one_turn g.S.Sink.meaning c.args.earlier.now c.args.line.now c.loop-before.before-index _ _ _ _ _ _ _ there c.loop-before.invariant.puts
+          c.in_ok-w.ensures.puts made;
       grows = record { wires = omega (arith, grown.wires); constraints = omega (arith, grown.constraints); whole = grown.whole };
       made = omega (arith, ap top made, c.in_ok-w.ensures.below);
       short = omega (arith, ap length made);
@@ -30,9 +33,12 @@ loop-before-preserved g c =
 pub returns-in_err-w-clause-puts : goal.returns-in_err-w-clause-puts
 returns-in_err-w-clause-puts g c =
     let m = g.S.Sink.meaning in
-    let there : get_or c.args.earlier.now c.loop-before.before-index no_line ≡ c.before-item.result = get_or_default c.args.earlier.now c.loop-before.before-index no_line c.before-item.result (omega arith) ∙ sym c.before-item.is in
+    let there : get_or c.args.earlier.now c.loop-before.before-index no_line
+    ≡ c.before-item.result = get_or_default c.args.earlier.now c.loop-before.before-index no_line c.before-item.result (omega arith)
+    ∙ sym c.before-item.is in
     refused m _ _ _ c.from_residual.result c.from_residual.ensures.1
-    (look_refused m c.args.earlier.now c.args.line.now c.loop-before.before-index _ _ _ _ _ _ (omega arith) there c.loop-before.invariant.puts c.in_err-w.ensures.puts)
+    (look_refused m c.args.earlier.now c.args.line.now c.loop-before.before-index _ _ _ _ _ _
+    (omega arith) there c.loop-before.invariant.puts c.in_err-w.ensures.puts)
 
 pub returns-clause-puts : goal.returns-clause-puts
 returns-clause-puts g c =

@@ -1,0 +1,105 @@
+-- What a line's check puts is normal, and has one term more for each new wire.
+use Rattle.std.proofs.Common.{◌≡◌, ℕ, ◌+◌, ◌-◌, ◌*◌, ◌%◌, ◌^◌, ◌<◌, ◌≤◌, List, [], ◌∷◌, ◌++◌, max, length, inl, inr, refl, sym, subst, ◌∙◌, ap, ap₂, arith}
+use Rattle.std.proofs.Common.{mod-lt}
+use Rattle.std.proofs.lemmas.List.{length-append}
+use Rattle.tv_bits.specs.Bits.{bits_combination, new_bits_of}
+use Rattle.tv_bits.specs.Times.{kept_of}
+use Rattle.tv_bits.specs.declared.bit_wires.Bits.{Bits}
+use Rattle.tv_bits.proofs.NormalLaws.{wire_normal, scaled_bits_normal, new_bits_normal, kept_normal}
+use Rattle.tv_bits.proofs.SpellingLaws.{new_bits_answer, new_bits_next}
+use Rattle.tv_bits.proofs.TimesLaws.{kept_answer, kept_next}
+use Rattle.tv_core.proofs.CombinationLaws.{top-append, top-scaled, value-append}
+use Rattle.tv_core.proofs.NormalCircuits.{normal_append, normal_put, normal_then}
+use Rattle.tv_core.proofs.NormalLaws.{value-normal, IsNormalFrom-normal, top-normal}
+use Rattle.tv_core.proofs.Unique.{same_values}
+use Rattle.tv_core.specs.Circuits.{put, ◌>>=◌}
+use Rattle.tv_core.specs.Combinations.{wire, constant, scaled, top}
+use Rattle.tv_core.specs.Constraints.{Combination, value}
+use Rattle.tv_core.specs.Normal.{normal, AreNormal, IsNormal}
+use Rattle.tv_core.specs.declared.field.TheConstants.{P}
+use Rattle.tv_core.specs.declared.lines.LineLc.{LineLc}
+use Rattle.tv_core.specs.declared.lines.Pair.{Pair}
+use Rattle.tv_lines.specs.Predecessor.{less_above, cell_excess, excess, cell_difference, time_difference, either_of, follows_of, FollowsIsNormal}
+
+-- ---- a new wire
+-- after a normal combination
+pub normal_with : (x : Combination) (w : ℕ) → IsNormal x → top x ≤ w → IsNormal (x ++ wire w)
+normal_with x w n h = normal_append 0 w x (wire w) n h (omega arith) (wire_normal w w (omega arith))
+
+-- in the midst of a combination that is made normal
+pub normal_new : (x y : Combination) (w : ℕ) → top x ≤ w → ((z : List ℕ) → value y z ≡ (value x z + value (wire w) z) % P) → normal y ≡ normal x ++ wire w
+normal_new x y w h same =
+    same_values 0 0 (normal y) (normal x ++ wire w) (IsNormalFrom-normal y) (normal_with (normal x) w (IsNormalFrom-normal x) (omega (arith, top-normal x)))
+    (λ z. value-normal z y ∙ same z ∙ ap (λ v. (v + value (wire w) z) % P) (sym (value-normal z x)) ∙ sym (value-append (normal x) (wire w) z))
+
+pub length-new : (x y : Combination) (w : ℕ) → top x ≤ w → ((z : List ℕ) → value y z ≡ (value x z + value (wire w) z) % P)
+    → length (normal y) ≡ length (normal x) + 1
+length-new x y w h same = ap length (normal_new x y w h same) ∙ length-append (normal x) (wire w)
+
+-- ---- the parts of a check, where the item is two wires after those of the line
+later_last : (a b c : ℕ) → ((a + b) % P + c) % P ≡ ((a + c) % P + b) % P
+later_last a b c = omega arith
+
+later_twice : (a b c d : ℕ) → (((a + b) % P + c) % P + d) % P ≡ (((a + c) % P + d) % P + b) % P
+later_twice a b c d = omega arith
+
+above_top : (x y : Combination) (most : ℕ) → top x ≤ most → top y ≤ most → top (x ++ scaled (P - 2 ^ 32) y) ≤ most
+above_top x y most h k = omega (arith, top-append x (scaled (P - 2 ^ 32) y), top-scaled (P - 2 ^ 32) y)
+
+pub length-less_above : (y : Combination) (w : ℕ) → top y ≤ w → length (less_above (wire w) y) ≡ length (less_above [] y) + 1
+length-less_above y w h =
+    let z_last : Combination = scaled (P - 2 ^ 32) y in
+    length-new z_last (wire w ++ z_last) w (omega (arith, top-scaled (P - 2 ^ 32) y))
+    (λ z. value-append (wire w) z_last z ∙ ap (λ n. n % P) (omega arith))
+
+pub length-cell_excess : (line : LineLc) (w : ℕ) → 1 ≤ w → top line.cell ≤ w → top line.old ≤ w
+    → length (cell_excess line (wire w)) ≡ length (cell_excess line []) + 1
+length-cell_excess line w some cell old =
+    let b : Combination = constant (2 ^ 32) in
+    let o : Combination = scaled (P - 1) line.old in
+    let c : Combination = scaled (P - 2 ^ 32) line.cell in
+    length-new ((b ++ o) ++ c) (((b ++ wire w) ++ o) ++ c) w
+    (above_top (b ++ o) line.cell w (omega (arith, top-append b o, top-scaled (P - 1) line.old)) cell)
+    (λ z.
+    value-append ((b ++ wire w) ++ o) c z
+    ∙ ap (λ n. (n + value c z) % P) (value-append (b ++ wire w) o z ∙ ap (λ n. (n + value o z) % P) (value-append b (wire w) z))
+    ∙ later_twice (value b z) (value (wire w) z) (value o z) (value c z)
+    ∙ ap (λ n. (n + value (wire w) z) % P) (sym (value-append (b ++ o) c z ∙ ap (λ n. (n + value c z) % P) (value-append b o z))))
+
+-- ---- a check
+excess_normal : (reach : Bits) (line : LineLc) (item : Pair) → reach.n ≤ 31 → 1 ≤ reach.first → top line.cell ≤ reach.first → top line.old ≤ reach.first
+    → top item.first ≤ reach.first → IsNormal (excess reach line item)
+excess_normal reach line item short some cell old first =
+    let b : Combination = constant (2 ^ 32) ++ item.first in
+    let o : Combination = scaled (P - 1) line.old in
+    let x : Combination = (b ++ o) ++ scaled (P - 2 ^ 32) line.cell in
+    let parts : top (b ++ o) ≤ reach.first = omega (arith, top-append b o, top-append (constant (2 ^ 32)) item.first, top-scaled (P - 1) line.old) in
+    let whole : top x ≤ reach.first = above_top (b ++ o) line.cell reach.first parts cell in
+    normal_append 0 reach.first (normal x) (scaled (2 ^ 32) (bits_combination reach.first reach.n)) (IsNormalFrom-normal x) (omega (arith, top-normal x))
+    (omega arith)
+    (scaled_bits_normal (2 ^ 32) reach.first reach.n (omega arith) (λ none. absurd (omega arith)))
+
+either_normal : (e : ℕ) (line : LineLc) (item : Pair) (next : ℕ) → top line.time ≤ e → top item.second ≤ e → AreNormal (either_of e line item next).list
+unfolding either_of
+either_normal e line item next time second =
+    let c : Combination = item.first ++ scaled (P - 2 ^ 32) line.cell in
+    let t : Combination = item.second ++ scaled (P - 2 ^ 32) line.time in
+    let of_e : IsNormal (wire e) = wire_normal 0 e (omega arith) in
+    normal_then (put (wire e) (cell_difference line item) []) (λ _. put (wire e) (time_difference e line item) []) next
+    (normal_put (wire e) (cell_difference line item) [] next of_e (IsNormalFrom-normal c) tt)
+    (normal_put (wire e) (time_difference e line item) [] _ of_e
+    (normal_with (normal t) e (IsNormalFrom-normal t) (omega (arith, top-normal t, above_top item.second line.time e second time))) tt)
+
+pub follows_normal : FollowsIsNormal
+unfolding follows_of
+follows_normal m line item next some short cell time old first second =
+    let reach = new_bits_of m next in
+    let kept = kept_of (excess reach.answer line item) reach.next in
+    let at : reach.answer.first ≡ next = ap (λ (b : Bits). b.first) (new_bits_answer m next) in
+    let n : reach.answer.n ≡ m = ap (λ (b : Bits). b.n) (new_bits_answer m next) in
+    let e : kept.answer ≡ next + m = kept_answer (excess reach.answer line item) reach.next ∙ new_bits_next m next in
+    normal_then (new_bits_of m) _ next (new_bits_normal m next)
+    (normal_then (kept_of (excess reach.answer line item)) (λ e. either_of e line item) reach.next
+    (kept_normal (excess reach.answer line item) reach.next
+    (excess_normal reach.answer line item (omega arith) (omega arith) (omega arith) (omega arith) (omega arith)))
+    (either_normal kept.answer line item kept.next (omega arith) (omega arith)))
