@@ -37,7 +37,7 @@ const ZERO: Case<'static> = Case {
     ..SEVEN
 };
 
-// The witness of `answer 0` in one step has 466 values: at wire 2 the 0 of the start state, at 398
+// The witness of `answer 0` in one step has 485 values: at wire 2 the 0 of the start state, at 417
 // the first bit of a reach, and at the end the excess of the last line, 0 too.
 const CASES: [Case<'static>; 7] = [
     SEVEN,
@@ -67,13 +67,13 @@ const CASES: [Case<'static>; 7] = [
         ..ZERO
     },
     Case {
-        changes: &[(398, 2)],
+        changes: &[(417, 2)],
         check: (1, "no: constraint "),
         extract: (0, "answer 0 at step 1\n"),
         ..ZERO
     },
     Case {
-        changes: &[(465, 1)],
+        changes: &[(484, 1)],
         check: (1, "no: constraint "),
         extract: (0, "answer 0 at step 1\n"),
         ..ZERO
@@ -118,11 +118,11 @@ fn values_are_counted(rt: HostRuntime) -> Result<(), Fail> {
     let alloc = rt.alloc();
     let mut files = filled(&rt, alloc, "answer 0", "", 1)?;
     files.set("public", b"0")?;
-    let cut = shortened(alloc, witness_of(&files), 465)?;
+    let cut = shortened(alloc, witness_of(&files), 484)?;
     files.set("witness", &cut)?;
-    let line = "no: 465 wires, 466 wanted\n";
+    let line = "no: 484 wires, 485 wanted\n";
     says(&rt, alloc, &mut files, CHECK, 1, line)?;
     let words = "extract text 0 1 witness tape.out aux.out";
-    let line = "not a run: 465 wires, 466 wanted\n";
+    let line = "not a run: 484 wires, 485 wanted\n";
     says(&rt, alloc, &mut files, words, 11, line)
 }

@@ -37,7 +37,7 @@ const BY_CELL: Case<'static> = Case {
     ..BY_TIME
 };
 
-// The first step of `answer 0` begins at wire 3, and the first word of its instruction is at 91.
+// The first step of `answer 0` begins at wire 22, and the first word of its instruction is at 110.
 const CASES: [Case<'static>; 8] = [
     BY_TIME,
     BY_CELL,
@@ -50,7 +50,7 @@ const CASES: [Case<'static>; 8] = [
         ..BY_CELL
     },
     Case {
-        changes: &[(91, 4_227_858_433)],
+        changes: &[(110, 4_227_858_433)],
         lines: "0 0 0 4227858432\n1 1 0 0\n2 0 4227858433 4227858433\n3 1 0 0\n4 1610612736 0 0\n",
         ..BY_TIME
     },

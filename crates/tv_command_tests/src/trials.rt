@@ -7,19 +7,19 @@ use std::test::*;
 use tv_files::MemFiles;
 
 // The words of a trial; the steps, wires and constraints of its system, and its sum, as a reader of
-// the files that `build` and `witness` write for the same program tells it.
+// the files that `build` and `witness` write for the same program computes it.
 const TRIALS: [(&str, [u64; 4]); 3] = [
     (
         "trial 0 63",
-        [64, 42_405, 43_751, 8_456_464_668_782_517_470],
+        [64, 42_424, 43_770, 17_937_812_576_099_561_875],
     ),
     (
         "trial 0 64",
-        [65, 42_790, 44_157, 3_458_697_785_488_810_411],
+        [65, 42_809, 44_176, 3_716_700_188_187_603_495],
     ),
     (
         "trial 0 1023",
-        [1024, 812_133, 833_639, 7_947_521_144_264_278_364],
+        [1024, 812_152, 833_658, 7_183_843_305_306_303_884],
     ),
 ];
 

@@ -1,5 +1,6 @@
 -- What is extracted is a run of the assignment, and each satisfying assignment has one.
-use Rattle.std.proofs.Common.{◌≡◌, ◌≢◌, ℕ, zero, suc, ◌+◌, ◌<◌, ◌^◌, Bool, true, false, List, [], ◌∷◌, length, map, refl, sym, ap, ap₂, ◌∙◌, subst, Result, Ok, Err, All}
+use Rattle.std.proofs.Common.{◌≡◌, ◌≢◌, ℕ, zero, suc, ◌+◌, ◌<◌, ◌^◌, Bool, true, false, List, [], ◌∷◌, length, map, refl, sym, ap, ap₂, ◌∙◌, subst, Result}
+use Rattle.std.proofs.Common.{Ok, Err, All}
 use Rattle.std.proofs.lemmas.Bool.{ltb-true, lt-ltb, eq-eqb, eqb-true}
 use Rattle.std.proofs.lemmas.List.Elements.{All-nil, All-cons, All-head, All-tail}
 use Rattle.std.proofs.lemmas.List.FromFn.{length-range_with_len}
@@ -112,11 +113,13 @@ pub words_small : (w : ℕ) (z wires words : List ℕ) → words_at w z wires �
 words_small w z wires words e = (words_ok w z wires words e).1
 
 module _ (w : ℕ) (net : Net) (image : List ℕ) (n t : ℕ) (z : List ℕ) where
-  pub run_miscounted : length z ≢ (system_of w net image n t).wires → run_in w net image n t z ≡ Err (NotRun.WireCount (length z) (system_of w net image n t).wires)
+  pub run_miscounted : length z ≢ (system_of w net image n t).wires
+      → run_in w net image n t z ≡ Err (NotRun.WireCount (length z) (system_of w net image n t).wires)
   unfolding run_in
   run_miscounted other = by_test (length z == (system_of w net image n t).wires) refl
     where
-      by_test : (b : Bool) → (length z == (system_of w net image n t).wires) ≡ b → run_in w net image n t z ≡ Err (NotRun.WireCount (length z) (system_of w net image n t).wires)
+      by_test : (b : Bool) → (length z == (system_of w net image n t).wires) ≡ b
+          → run_in w net image n t z ≡ Err (NotRun.WireCount (length z) (system_of w net image n t).wires)
       by_test true is = absurd (other (eqb-true (length z) (system_of w net image n t).wires is))
       by_test false is = rw is refl
 
@@ -130,7 +133,8 @@ module _ (w : ℕ) (net : Net) (image : List ℕ) (n t : ℕ) (z : List ℕ) whe
   run_wide_tape answer fault many first refused = rw (eq-eqb (length z) (system_of w net image n t).wires many, first, refused) refl
 
   pub run_wide_aux : (answer : ℕ) (tape : List ℕ) (fault : NotRun) → length z ≡ (system_of w net image n t).wires → word_at w z 1 ≡ Ok answer
-      → words_at w z (range_with_len tape_at n) ≡ Ok tape → words_at w z (taken_wires (block_of w) w image n t z) ≡ Err fault → run_in w net image n t z ≡ Err fault
+      → words_at w z (range_with_len tape_at n) ≡ Ok tape → words_at w z (taken_wires (block_of w) w image n t z) ≡ Err fault
+      → run_in w net image n t z ≡ Err fault
   unfolding run_in
   run_wide_aux answer tape fault many first second refused = rw (eq-eqb (length z) (system_of w net image n t).wires many, first, second, refused) refl
 
@@ -184,7 +188,8 @@ pub satisfying_have_runs : SatisfyingHaveRuns
 unfolding run_in
 satisfying_have_runs w net image z n t fits sat =
     let has : HasFrom z tape_at x = has_row z tape_at n in
-    let run = system_sound w net image x z t (subst (λ m. WithinLimits w image m t) (sym long) fits) has (subst (λ m. Sat (system_of w net image m t) z) (sym long) sat) in
+    let run = system_sound w net image x z t (subst (λ m. WithinLimits w image m t) (sym long) fits) has
+    (subst (λ m. Sat (system_of w net image m t) z) (sym long) sat) in
     by_run (subst (λ m. AreWords w (taken_of (block_of w) w image m t z)) long run.taken) run.tape run.answer
     (subst (λ m. Accepts w image x (taken_of (block_of w) w image m t z) t (slice_index z 1)) long run.accepts)
     (subst (λ m. Reads w image x (taken_of (block_of w) w image m t z) t ≡ taken_of (block_of w) w image m t z) long run.reads)
@@ -198,7 +203,8 @@ satisfying_have_runs w net image z n t fits sat =
     u : List ℕ
     u = map (slice_index z) (taken_wires (block_of w) w image n t z)
 
-    by_run : AreWords w (taken_of (block_of w) w image n t z) → AreWords w x → slice_index z 1 < 2 ^ w → Accepts w image x (taken_of (block_of w) w image n t z) t (slice_index z 1)
+    by_run : AreWords w (taken_of (block_of w) w image n t z) → AreWords w x → slice_index z 1 < 2 ^ w
+        → Accepts w image x (taken_of (block_of w) w image n t z) t (slice_index z 1)
         → Reads w image x (taken_of (block_of w) w image n t z) t ≡ taken_of (block_of w) w image n t z → HasRunIn w net image n t z
     by_run aux_words tape_words answer accepts reads =
         let end : end_of w t (start w image x u) ≡ ends.Answer (slice_index z 1) accepts.0 = accepts.2 in
@@ -206,7 +212,14 @@ satisfying_have_runs w net image z n t fits sat =
         let same : (slice_index z 1 == slice_index z 1) ≡ true = eq-eqb (slice_index z 1) (slice_index z 1) refl in
         record {
           run = record { answer = slice_index z 1; tape = x; aux = u; step = accepts.0 };
-          is = rw (counted, word_is w z 1 answer, words_are w z (range_with_len tape_at n) tape_words, words_are w z (taken_wires (block_of w) w image n t z) aux_words, end, same) refl;
+          is = rw (
+            counted,
+            word_is w z 1 answer,
+            words_are w z (range_with_len tape_at n) tape_words,
+            words_are w z (taken_wires (block_of w) w image n t z) aux_words,
+            end,
+            same,
+          ) refl;
           reads = reads;
         }
 

@@ -1,5 +1,6 @@
 -- The words that the steps take, step by step.
-use Rattle.std.proofs.Common.{◌≡◌, ◌≢◌, ℕ, zero, suc, ◌+◌, ◌-◌, ◌<◌, Bool, true, false, List, [], ◌∷◌, ◌++◌, refl, sym, ap, ◌∙◌, arith, add-one, append-nil, append_assoc, Ok, Err}
+use Rattle.std.proofs.Common.{◌≡◌, ◌≢◌, ℕ, zero, suc, ◌+◌, ◌-◌, ◌<◌, Bool, true, false, List, [], ◌∷◌, ◌++◌, refl, sym, ap, ◌∙◌, arith, add-one, append-nil}
+use Rattle.std.proofs.Common.{append_assoc, Ok, Err}
 use Rattle.std.proofs.lemmas.Bool.{eq-eqb, eqb-true}
 use Rattle.std.specs.Prelude.{◌==◌, slice_index}
 use Rattle.tv_block.specs.Block.{block_of}
@@ -7,7 +8,7 @@ use Rattle.tv_parts.specs.declared.records.Spot.{Spot}
 use Rattle.tv_core.proofs.JoinedLaws.{joined_below-zero, joined_below-suc}
 use Rattle.tv_core.specs.Below.{joined_below}
 use Rattle.tv_layout.specs.Layout.{block_at, taken_wire, taken_wires}
-use Rattle.tv_layout.specs.Places.{boot_count, zero_wire_at, first_at}
+use Rattle.tv_layout.specs.Places.{boot_count, zero_wires_at, first_at}
 use Rattle.tv_extract.proofs.WordLaws.{words_then, words_refused}
 use Rattle.tv_extract.specs.Extracting.{word_at, words_at}
 use Rattle.tv_extract.specs.declared.run.NotRun.{NotRun}
@@ -43,20 +44,21 @@ takes_none z spot other = by_test (slice_index z spot.taken == 1) refl
 
 module _ (w : ℕ) (image : List ℕ) (n : ℕ) (z : List ℕ) where
   abbrev wires : ℕ → List ℕ
-  wires i = taken_wire z (block_at (block_of w) n (boot_count image n) (zero_wire_at w n) (first_at w n) i).spot
+  wires i = taken_wire z (block_at (block_of w) n (boot_count image n) (zero_wires_at w n) (first_at w n) i).spot
 
   pub taken_none : words_at w z (taken_wires (block_of w) w image n 0 z) ≡ Ok []
   unfolding taken_wires
   taken_none = ap (words_at w z) (joined_below-zero wires)
 
-  more_wires : (i : ℕ) (spot : Spot) → spot ≡ (block_at (block_of w) n (boot_count image n) (zero_wire_at w n) (first_at w n) i).spot
+  more_wires : (i : ℕ) (spot : Spot) → spot ≡ (block_at (block_of w) n (boot_count image n) (zero_wires_at w n) (first_at w n) i).spot
       → taken_wires (block_of w) w image n (i + 1) z ≡ taken_wires (block_of w) w image n i z ++ taken_wire z spot
   unfolding taken_wires
   more_wires i spot is =
       ap (λ m. joined_below m wires) (add-one i) ∙ joined_below-suc i wires ∙ ap (λ s. joined_below i wires ++ taken_wire z s) (sym is)
 
   -- step i takes a word
-  pub taken_more : (i : ℕ) (spot : Spot) (words : List ℕ) (v : ℕ) → spot ≡ (block_at (block_of w) n (boot_count image n) (zero_wire_at w n) (first_at w n) i).spot
+  pub taken_more : (i : ℕ) (spot : Spot) (words : List ℕ) (v : ℕ)
+      → spot ≡ (block_at (block_of w) n (boot_count image n) (zero_wires_at w n) (first_at w n) i).spot
       → words_at w z (taken_wires (block_of w) w image n i z) ≡ Ok words → slice_index z spot.taken ≡ 1 → word_at w z spot.word ≡ Ok v
       → words_at w z (taken_wires (block_of w) w image n (i + 1) z) ≡ Ok (words ++ v ∷ [])
   taken_more i spot words v is before takes word =
@@ -65,14 +67,16 @@ module _ (w : ℕ) (image : List ℕ) (n : ℕ) (z : List ℕ) where
       ∙ words_then w z (taken_wires (block_of w) w image n i z) (spot.word ∷ []) words (v ∷ []) before one
 
   -- it takes none
-  pub taken_same : (i : ℕ) (spot : Spot) (words : List ℕ) → spot ≡ (block_at (block_of w) n (boot_count image n) (zero_wire_at w n) (first_at w n) i).spot
+  pub taken_same : (i : ℕ) (spot : Spot) (words : List ℕ) → spot ≡ (block_at (block_of w) n (boot_count image n) (zero_wires_at w n) (first_at w n) i).spot
       → words_at w z (taken_wires (block_of w) w image n i z) ≡ Ok words → slice_index z spot.taken ≢ 1
       → words_at w z (taken_wires (block_of w) w image n (i + 1) z) ≡ Ok words
   taken_same i spot words is before other =
-      ap (words_at w z) (more_wires i spot is ∙ ap (λ l. taken_wires (block_of w) w image n i z ++ l) (takes_none z spot other) ∙ append-nil (taken_wires (block_of w) w image n i z)) ∙ before
+      ap (words_at w z) (more_wires i spot is ∙ ap (λ l. taken_wires (block_of w) w image n i z ++ l) (takes_none z spot other)
+      ∙ append-nil (taken_wires (block_of w) w image n i z)) ∙ before
 
   -- its word is wide
-  pub taken_refused : (i t : ℕ) (spot : Spot) (words : List ℕ) (fault : NotRun) → i < t → spot ≡ (block_at (block_of w) n (boot_count image n) (zero_wire_at w n) (first_at w n) i).spot
+  pub taken_refused : (i t : ℕ) (spot : Spot) (words : List ℕ) (fault : NotRun) → i < t
+      → spot ≡ (block_at (block_of w) n (boot_count image n) (zero_wires_at w n) (first_at w n) i).spot
       → words_at w z (taken_wires (block_of w) w image n i z) ≡ Ok words → slice_index z spot.taken ≡ 1 → word_at w z spot.word ≡ Err fault
       → words_at w z (taken_wires (block_of w) w image n t z) ≡ Err fault
   unfolding taken_wires
@@ -83,7 +87,8 @@ module _ (w : ℕ) (image : List ℕ) (n : ℕ) (z : List ℕ) where
       by_rest : Begins wires i (i + suc (t - i - 1)) → t ≡ i + suc (t - i - 1) → words_at w z (joined_below t wires) ≡ Err fault
       by_rest (Begins.Rest rest joined) many =
           ap (λ m. words_at w z (joined_below m wires)) many
-          ∙ ap (words_at w z) (joined ∙ ap (λ s. joined_below i wires ++ (taken_wire z s ++ rest)) (sym is) ∙ ap (λ l. joined_below i wires ++ (l ++ rest)) (takes_one z spot takes))
+          ∙ ap (words_at w z) (joined ∙ ap (λ s. joined_below i wires ++ (taken_wire z s ++ rest)) (sym is)
+          ∙ ap (λ l. joined_below i wires ++ (l ++ rest)) (takes_one z spot takes))
           ∙ words_refused w z (joined_below i wires) rest spot.word words fault before refused
 
 pub ruleset taken_laws = (taken_none, taken_more, taken_same, taken_refused)

@@ -20,7 +20,8 @@ words_then w z [] ys words more e f = by_front words e
     by_front (v ∷ rest) e = absurd cc
 words_then w z (x ∷ xs) ys words more e f = by_word (word_at w z x) refl (λ rest rests. words_then w z xs ys rest more rests f)
   where
-    by_words : (v : ℕ) (rest : Result (List ℕ) NotRun) → word_at w z x ≡ Ok v → words_at w z xs ≡ rest → Then w z xs ys more → words_at w z (x ∷ xs ++ ys) ≡ Ok (words ++ more)
+    by_words : (v : ℕ) (rest : Result (List ℕ) NotRun) → word_at w z x ≡ Ok v → words_at w z xs ≡ rest → Then w z xs ys more
+        → words_at w z (x ∷ xs ++ ys) ≡ Ok (words ++ more)
     by_words v (Ok rest) is rests later =
         let whole : words_at w z (x ∷ xs) ≡ Ok (v ∷ rest) = rw (is, rests) refl in
         let same : v ∷ rest ≡ words = cc in
@@ -40,7 +41,8 @@ pub words_refused : (w : ℕ) (z xs ys : List ℕ) (wire : ℕ) (words : List �
 words_refused w z [] ys wire words fault e refused = rw refused refl
 words_refused w z (x ∷ xs) ys wire words fault e refused = by_word (word_at w z x) refl (λ rest rests. words_refused w z xs ys wire rest fault rests refused)
   where
-    by_words : (v : ℕ) (rest : Result (List ℕ) NotRun) → word_at w z x ≡ Ok v → words_at w z xs ≡ rest → Refused w z xs (wire ∷ ys) fault → words_at w z (x ∷ xs ++ wire ∷ ys) ≡ Err fault
+    by_words : (v : ℕ) (rest : Result (List ℕ) NotRun) → word_at w z x ≡ Ok v → words_at w z xs ≡ rest → Refused w z xs (wire ∷ ys) fault
+        → words_at w z (x ∷ xs ++ wire ∷ ys) ≡ Err fault
     by_words v (Ok rest) is rests later = rw (is, later rest rests) refl
     by_words v (Err other) is rests later =
         let whole : words_at w z (x ∷ xs) ≡ Err other = rw (is, rests) refl in

@@ -12,7 +12,7 @@ use crate::run::{ExtractFault, NotRun, Run};
 use std::alloc::Global;
 use tv_benes::Net;
 use tv_core::{F, Wire};
-use tv_layout::{ANSWER, sizes, spot, tape_wire};
+use tv_layout::{ANSWER, spot, tape_wire, wires};
 use tv_step::{End, Machine};
 use tv_word::Words;
 
@@ -39,7 +39,7 @@ pub fn extract<const W: u32>(
     ensures run { IfOk result (λ run. run_in W net image.now n t values.now ≡ Ok run) }
     ensures fault { IfErr result (IsFaultOf (run_in W net image.now n t values.now)) }
 {
-    let wants = u64::from(sizes::<W>(image, n, t, net).wires);
+    let wants = u64::from(wires::<W>(image, n, t, net));
     let has = values.len() as u64;
     if has != wants {
         return Err(ExtractFault::NoRun(NotRun::WireCount { has, wants }));

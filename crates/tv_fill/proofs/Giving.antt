@@ -15,14 +15,16 @@ use Rattle.tv_fill.specs.Filled.{front_values, filled_values, lines_told, checks
 use Rattle.tv_fill.specs.Told.{told_values}
 
 -- the same parts have the same values
-pub same_filled : (w v t k : ℕ) (net : Net) (image x aux : List ℕ) {states states2 : List TraceState} {lines lines2 : List Line} {items items2 : List PairNum} {bits bits2 : List Bool}
+pub same_filled : (w v t k : ℕ) (net : Net)
+    (image x aux : List ℕ) {states states2 : List TraceState} {lines lines2 : List Line} {items items2 : List PairNum} {bits bits2 : List Bool}
     → states ≡ states2 → lines ≡ lines2 → items ≡ items2 → bits ≡ bits2
     → filled_values w v image x aux t states lines items net k bits ≡ filled_values w v image x aux t states2 lines2 items2 net k bits2
 same_filled w v t k net image x aux {states} {states2} {lines} {lines2} {items} {items2} {bits} {bits2} s l p b =
     ap₂ (λ (states : List TraceState) (lines : List Line). filled_values w v image x aux t states lines items net k bits) s l
     ∙ ap₂ (λ (items : List PairNum) (bits : List Bool). filled_values w v image x aux t states2 lines2 items net k bits) p b
 
-module _ {V : Type 0} (m : Giving V) (w v t k : ℕ) (net : Net) (image x aux : List ℕ) (states : List TraceState) (lines : List Line) (items : List PairNum) (bits : List Bool) where
+module _ {V : Type 0} (m : Giving V) (w v t k : ℕ) (net : Net) (image x aux : List ℕ) (states : List TraceState) (lines : List Line) (items : List PairNum)
+    (bits : List Bool) where
   abbrev all : List ℕ
   all = filled_values w v image x aux t states lines items net k bits
 
@@ -33,13 +35,15 @@ module _ {V : Type 0} (m : Giving V) (w v t k : ℕ) (net : Net) (image x aux : 
   unfolding filled_values
   front_refused old new fault p = gives_refused_then m (front_values w v x) _ old new fault p
 
-  pub steps_refused : (old mid new : V) (fault : SinkFault) → GivesAll m old mid (front_values w v x) → GivesSome m mid new steps fault → GivesSome m old new all fault
+  pub steps_refused : (old mid new : V) (fault : SinkFault) → GivesAll m old mid (front_values w v x) → GivesSome m mid new steps fault
+      → GivesSome m old new all fault
   unfolding filled_values
   steps_refused old mid new fault p q =
       gives_then_refused m (front_values w v x) _ old mid new fault p (gives_refused_then m steps _ mid new fault q)
 
   pub all_given : (old mid last new : V) (result : Result (Unit {0}) SinkFault) → GivesAll m old mid (front_values w v x) → GivesAll m mid last steps
-      → GivesIn m last new (routed_values net (checks_told (length image) (length x) (length lines) k) k (bit_at bits) items (lines_told image x lines k)) result → GivesIn m old new all result
+      → GivesIn m last new (routed_values net (checks_told (length image) (length x) (length lines) k) k (bit_at bits) items
+      (lines_told image x lines k)) result → GivesIn m old new all result
   unfolding filled_values
   all_given old mid last new result p q r =
       gives_in_then m (front_values w v x) _ old mid new result p (gives_in_then m steps _ mid last new result q r)

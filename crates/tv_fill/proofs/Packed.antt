@@ -13,8 +13,10 @@ pub power_few : (k : ℕ) → k ≤ 20 → 2 ^ k ≤ 2 ^ 20
 power_few k few = pow-le-pow_right (omega arith) few
 
 -- one line more
-pub item_more : (front : List PairNum) (lines : List Line) (line : Line) → (front ++ map packed_item lines) ++ packed_item line ∷ [] ≡ front ++ map packed_item (lines ++ line ∷ [])
-item_more front lines line = append_assoc front (map packed_item lines) (packed_item line ∷ []) ∙ ap (λ items. front ++ items) (sym (map-append packed_item lines (line ∷ [])))
+pub item_more : (front : List PairNum) (lines : List Line) (line : Line)
+    → (front ++ map packed_item lines) ++ packed_item line ∷ [] ≡ front ++ map packed_item (lines ++ line ∷ [])
+item_more front lines line = append_assoc front (map packed_item lines) (packed_item line ∷ [])
+    ∙ ap (λ items. front ++ items) (sym (map-append packed_item lines (line ∷ [])))
 
 pub padding_more : (time more : ℕ) → padding time (suc more) ≡ padding time more ++ null_line (time + more) ∷ []
 padding_more time zero = ap (λ (t : ℕ). let line : Line = null_line t in line ∷ []) (sym (add-zero time))

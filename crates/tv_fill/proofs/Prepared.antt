@@ -1,5 +1,6 @@
 -- That what was prepared gives the values of a run's system.
-use Rattle.std.proofs.Common.{◌≡◌, ℕ, ◌+◌, ◌-◌, ◌*◌, ◌≤◌, ◌^◌, Bool, List, [], ◌∷◌, ◌++◌, length, map, All, refl, sym, ap, ap₂, ◌∙◌, subst, arith, append_assoc}
+use Rattle.std.proofs.Common.{◌≡◌, ℕ, ◌+◌, ◌-◌, ◌*◌, ◌≤◌, ◌^◌, Bool, List, [], ◌∷◌, ◌++◌, length, map, replicate, All, refl, sym, ap, ap₂, ◌∙◌, subst, arith}
+use Rattle.std.proofs.Common.{append_assoc}
 use Rattle.std.proofs.lemmas.List.{length-append, length-map}
 use Rattle.std.proofs.lemmas.List.Elements.{All-cons, All-nil, All-head, All-tail}
 use Rattle.std.specs.Prelude.{slice_index}
@@ -20,6 +21,7 @@ use Rattle.tv_layout.specs.Places.{WithinLimits, line_count, log_of}
 use Rattle.tv_layout.specs.Sound.{padding, all_lines}
 use Rattle.tv_layout.specs.Systems.{run_values, system_of}
 use Rattle.tv_layout.specs.Values.{fill, step_values as run_step}
+use Rattle.tv_layout.specs.declared.places.TheConstants.{STATE_WIRES}
 use Rattle.tv_lines.proofs.PackingLaws.{unpack_packed}
 use Rattle.tv_lines.specs.Packing.{InRange, unpacked, packed_item, without_old}
 use Rattle.tv_lines.specs.Placed.{LinesFrom}
@@ -59,14 +61,16 @@ unpacked_items : (ls : List Line) → All InRange ls → map unpacked (map packe
 unpacked_items [] h = refl
 unpacked_items (l ∷ ls) h =
     let range = All-head InRange l ls h in
-    ap₂ (λ (a : Line) (b : List Line). a ∷ b) (unpack_packed (without_old l) (record { cell = range.cell; time = range.time; old = omega arith; new = range.new }))
+    ap₂ (λ (a : Line) (b : List Line). a ∷ b)
+    (unpack_packed (without_old l) (record { cell = range.cell; time = range.time; old = omega arith; new = range.new }))
     (unpacked_items ls (All-tail InRange l ls h))
 
 old_left_out : (t : ℕ) (ls : List Line) → LinesFrom t ls → LinesFrom t (map without_old ls)
 old_left_out t [] h = tt
 old_left_out t (l ∷ ls) h = (h.0, record { cell = h.1.cell; old = omega arith; new = h.1.new }, old_left_out (t + 1) ls h.2)
 
-module _ (w : ℕ) (net : Net) (image x aux : List ℕ) (t : ℕ) (fits : WithinLimits w image (length x) t) (x_words : AreWords w x) (aux_words : AreWords w aux) where
+module _ (w : ℕ) (net : Net) (image x aux : List ℕ) (t : ℕ) (fits : WithinLimits w image (length x) t) (x_words : AreWords w x)
+    (aux_words : AreWords w aux) where
   abbrev n : ℕ
   n = length x
 
@@ -116,7 +120,8 @@ module _ (w : ℕ) (net : Net) (image x aux : List ℕ) (t : ℕ) (fits : Within
   whole_in_range : All InRange whole
   whole_in_range = all_in_range 0 whole (omega (arith, whole_few)) placed
 
-  module _ (lines : List Line) (lines_are : lines ≡ step_lines) (states : List TraceState) (states_are : states ≡ states_of w (length x) (length aux) (start w image x aux) t)
+  module _ (lines : List Line) (lines_are : lines ≡ step_lines) (states : List TraceState)
+      (states_are : states ≡ states_of w (length x) (length aux) (start w image x aux) t)
       (items : List PairNum) (items_are : items ≡ map packed_item (lines_told image x lines k)) where
     told_whole : lines_told image x lines k ≡ whole
     told_whole =
@@ -158,13 +163,15 @@ module _ (w : ℕ) (net : Net) (image x aux : List ℕ) (t : ℕ) (fits : Within
 
     -- the settings bring the values of the memory argument
     brought : (bits : List Bool) → bits ≡ route_of net (predecessors (map unpacked items))
-        → routed_values net (checks_told (length image) (length x) (length lines) k) k (bit_at bits) items (lines_told image x lines k) ≡ memory_values net (checks_of image (length x) t) k whole
+        → routed_values net (checks_told (length image) (length x) (length lines) k) k (bit_at bits) items (lines_told image x lines k)
+        ≡ memory_values net (checks_of image (length x) t) k whole
     brought bits bits_are =
         let bits_is : bits ≡ route_of net (predecessors whole) = bits_are ∙ ap (route_of net) order_is in
         ap (λ (c : Checks). routed_values net c k (bit_at bits) items (lines_told image x lines k)) checks_are
         ∙ ap₂ (λ (ps : List PairNum) (ls : List Line). routed_values net (checks_of image (length x) t) k (bit_at bits) ps ls) all_packed told_whole
         ∙ ap (λ (b : List Bool). routed_values net (checks_of image (length x) t) k (bit_at b) (map packed_item whole) whole) bits_is
-        ∙ predecessors_right.reached net (checks_of image (length x) t) k whole (log_some (line_count image (length x) t)) log_few whole_many placed (log_above (line_count image (length x) t) few_lines)
+        ∙ predecessors_right.reached net (checks_of image (length x) t) k whole (log_some (line_count image (length x) t)) log_few whole_many placed
+        (log_above (line_count image (length x) t) few_lines)
 
     -- and the values are those of the run
     pub values_are : (bits : List Bool) → bits ≡ route_of net (predecessors (map unpacked items)) → (v : ℕ)
@@ -178,8 +185,8 @@ module _ (w : ℕ) (net : Net) (image x aux : List ℕ) (t : ℕ) (fits : Within
         ap₂ (λ (s : List TraceState) (ls : List Line). joined_below t (told_values w (length x) s aux ls)) states_are lines_are
         ∙ told_steps w image x aux t fits.width (short image (length x) t w fits) x_words aux_words in
         ap₂ (λ (a b : List ℕ). front_values w v x ++ (a ++ b)) told (brought bits bits_are)
-        ∙ append_assoc (1 ∷ v ∷ x) (tape_bits ++ 0 ∷ []) (steps ++ memory)
-        ∙ ap (λ (l : List ℕ). (1 ∷ v ∷ x) ++ l) (append_assoc tape_bits (0 ∷ []) (steps ++ memory))
+        ∙ append_assoc (1 ∷ v ∷ x) (tape_bits ++ replicate STATE_WIRES 0) (steps ++ memory)
+        ∙ ap (λ (l : List ℕ). (1 ∷ v ∷ x) ++ l) (append_assoc tape_bits (replicate STATE_WIRES 0) (steps ++ memory))
 
     -- and there are as many as the system has wires
     pub parts_fit : (bits : List Bool) → bits ≡ route_of net (predecessors (map unpacked items)) → (v : ℕ) → Accepts w image x aux t v
@@ -196,5 +203,6 @@ module _ (w : ℕ) (net : Net) (image x aux : List ℕ) (t : ℕ) (fits : Within
       spare_many = spare_is ∙ items_many;
       lines_fit = lines_fit lines lines_are;
       steps = λ i h. rw (states_are, lines_are) (told_in_range w image x aux t fits.width (short image (length x) t w fits) x_words aux_words i h);
-      counted = count_is ∙ sym (system_complete w net image x aux t v fits x_words aux_words accepts).sat.each_wire ∙ sym (ap length (values_are bits bits_are v));
+      counted = count_is ∙ sym (system_complete w net image x aux t v fits x_words aux_words accepts).sat.each_wire
+          ∙ sym (ap length (values_are bits bits_are v));
     }

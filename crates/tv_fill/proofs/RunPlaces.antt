@@ -30,14 +30,16 @@ module _ (image x : List ℕ) (steps : List Line) (k : ℕ) where
       ∙ ap (λ p. written_at p p (slice_index image i)) (zero-add i)
 
   pub word_of_tape : (i : ℕ) → length image ≤ i → i < length image + length x
-      → number_in (lines_told image x steps k) i ≡ written_at (TAPE_CELLS + (i - length image)) (length image + (i - length image)) (slice_index x (i - length image))
+      → number_in (lines_told image x steps k) i
+      ≡ written_at (TAPE_CELLS + (i - length image)) (length image + (i - length image)) (slice_index x (i - length image))
   word_of_tape i above h =
       get_or_append_left front _ zero_line i (omega (arith, long-front))
       ∙ get_or_append_left (boot_lines image x) steps zero_line i (omega (arith, length-boot_lines image x))
       ∙ get_or-append_right (boot_from 0 0 image) (boot_from TAPE_CELLS (length image) x) (length image) i zero_line (length-boot_from 0 0 image) above
       ∙ boot_from_at TAPE_CELLS (length image) x (i - length image) (omega (arith, above, h))
 
-  pub line_of_steps : (i : ℕ) → boot ≤ i → i < length image + length x + length steps → number_in (lines_told image x steps k) i ≡ number_in steps (i - (length image + length x))
+  pub line_of_steps : (i : ℕ) → boot ≤ i → i < length image + length x + length steps
+      → number_in (lines_told image x steps k) i ≡ number_in steps (i - (length image + length x))
   line_of_steps i above h =
       get_or_append_left front _ zero_line i (omega (arith, long-front))
       ∙ get_or-append_right (boot_lines image x) steps boot i zero_line (length-boot_lines image x) above

@@ -7,4 +7,5 @@ use Rattle.tv_fill.specs.Laws.{FillingsSatisfy}
 
 pub fillings_satisfy : FillingsSatisfy
 fillings_satisfy w net image x aux t filling fits x_words aux_words is =
-    subst (IsFill w net (block_of w) image x aux t filling.answer) (sym is.values) (system_complete w net image x aux t filling.answer fits x_words aux_words is.answer)
+    subst (IsFill w net (block_of w) image x aux t filling.answer) (sym is.values)
+    (system_complete w net image x aux t filling.answer fits x_words aux_words is.answer)

@@ -102,7 +102,8 @@ module _ (w : ℕ) (image x aux : List ℕ) (t : ℕ) (width : IsWidth w) (short
 
   told_step : (i : ℕ) → i < t → told_values w (length x) run_states aux run_steps i ≡ run_step (step_values w) w image x aux i
   unfolding told_values
-  told_step i h = same_values (block_values w (length x)) (ap traced_view (state_is i (omega arith))) (head_is i h) (tail_is i h) (data_is i h) (ap is_some (taken_is i h)) ∙ (given i).values
+  told_step i h = same_values (block_values w (length x)) (ap traced_view (state_is i (omega arith))) (head_is i h) (tail_is i h) (data_is i h)
+      (ap is_some (taken_is i h)) ∙ (given i).values
 
   pub told_steps : joined_below t (told_values w (length x) run_states aux run_steps) ≡ joined_below t (run_step (step_values w) w image x aux)
   told_steps = joined_below-same t _ _ (λ i h. told_step i h)

@@ -1,5 +1,5 @@
 -- What is given for a run, and what comes of asking for it.
-use Rattle.std.specs.Prelude.{◌≡◌, ◌⊎◌, ℕ, ◌+◌, ◌-◌, ◌*◌, ◌^◌, ◌<◌, ◌≤◌, Bool, List, [], ◌∷◌, ◌++◌, length, slice_index, Result, Ok, Err}
+use Rattle.std.specs.Prelude.{◌≡◌, ◌⊎◌, ℕ, ◌+◌, ◌-◌, ◌*◌, ◌^◌, ◌<◌, ◌≤◌, Bool, List, [], ◌∷◌, ◌++◌, length, replicate, slice_index, Result, Ok, Err}
 use Rattle.tv_benes.specs.Items.{bit_at}
 use Rattle.tv_benes.specs.declared.shape.Net.{Net}
 use Rattle.tv_bits.specs.Bits.{bits_values}
@@ -14,6 +14,7 @@ use Rattle.tv_fill.specs.declared.fault.FillFault.TheVariants.{NoRun, Failed, Me
 use Rattle.tv_layout.specs.Checks.{least_place, line_kind}
 use Rattle.tv_layout.specs.Sound.{padding}
 use Rattle.tv_layout.specs.Systems.{run_values}
+use Rattle.tv_layout.specs.declared.places.TheConstants.{STATE_WIRES}
 use Rattle.tv_memory.specs.Checks.{Checks}
 use Rattle.tv_memory.specs.Memory.{routed_values}
 use Rattle.tv_step.specs.Cells.{boot_lines}
@@ -29,9 +30,9 @@ pub record Filled : Type 0 where
   pub values : List ℕ
 
 -- ---- its parts
--- 1, the answer, the tape, its words' bits, and the wire that is 0
+-- 1, the answer, the tape, its words' bits, and the first state
 abbrev pub front_values : ℕ → ℕ → List ℕ → List ℕ
-front_values w v x = (1 ∷ v ∷ x) ++ (joined_below (length x) (λ i. bits_values (slice_index x i) w) ++ 0 ∷ [])
+front_values w v x = (1 ∷ v ∷ x) ++ (joined_below (length x) (λ i. bits_values (slice_index x i) w) ++ replicate STATE_WIRES 0)
 
 -- the lines of an image's and a tape's words, those of steps, and padding up to 2 ^ k
 abbrev pub lines_told : List ℕ → List ℕ → List Line → ℕ → List Line

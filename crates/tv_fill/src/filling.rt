@@ -20,7 +20,7 @@ use std::alloc::{AllocError, Global};
 use std::marker::Model;
 use tv_benes::Net;
 use tv_core::{F, PairNum, Put, Values};
-use tv_layout::{log_of, sizes};
+use tv_layout::{log_of, wires};
 use tv_memory::{fill_memory, predecessors};
 use tv_route::{Settings, routing_settings};
 use tv_step::{Lines, States, Trace, trace};
@@ -164,7 +164,7 @@ pub fn prepare<'a, const W: u32>(
     let spare = Vec::from_elem(alloc, zeros, items.len())?;
     Ok(Filling {
         answer,
-        count: sizes::<W>(image, tape.len() as u32, t, net).wires,
+        count: wires::<W>(image, tape.len() as u32, t, net),
         image,
         tape,
         aux,

@@ -8,9 +8,10 @@ ghost use Rattle.tv_word.specs.Widths.{IsWidth};
 
 use tv_bits::fill_bits;
 use tv_core::{F, Put, Values, give_values, give_words};
+use tv_layout::STATE_WIRES;
 
 // Gives the values before those of the steps: 1, the answer, the tape's words, their bits, and the
-// wire that is 0.
+// first state, all of it 0.
 pub(crate) fn fill_front<const W: u32, V: Values>(v: &mut V, answer: u32, tape: &[u32]) -> Put<()>
     requires width { IsWidth W }
     requires whole { V.giving.broken v.old ≡ false }
@@ -20,7 +21,7 @@ pub(crate) fn fill_front<const W: u32, V: Values>(v: &mut V, answer: u32, tape: 
     give_values(v, &[F::ONE, F::from(answer)])?;
     give_words(v, tape)?;
     fill_bits_of_words::<W, V>(v, tape)?;
-    v.give(F::ZERO)
+    give_values(v, &[F::ZERO; STATE_WIRES as usize])
 }
 
 // Gives the bits of words.

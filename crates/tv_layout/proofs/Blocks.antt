@@ -16,7 +16,7 @@ use Rattle.tv_step.specs.Reads.{word_taken}
 use Rattle.tv_step.specs.Runs.{IsDefined}
 use Rattle.tv_step.specs.State.{State}
 use Rattle.tv_step.specs.Trace.{step_lines}
-use Rattle.tv_layout.specs.Blocks.{BlockCircuit, BlockValues, values_for, told}
+use Rattle.tv_layout.specs.Blocks.{BlockCircuit, BlockValues, values_for, view_of}
 
 -- it makes so many wires, and three lines, whatever it is given
 pub record BlockSizes (block : BlockCircuit) (made : ℕ) : Type 0 where
@@ -65,8 +65,10 @@ pub record ShowsStep (w n time : ℕ) (st : State) (word : Option ℕ) (b : Did)
 -- The values are as many as wires and each below P for each state of the machine in range; and an assignment that is
 -- given them meets what the block puts, and shows the step.
 pub record BlockIsComplete (w : ℕ) (block : BlockCircuit) (made : ℕ) (values : BlockValues) : Type 0 where
-  pub many : (n time : ℕ) (st : State) (ended : Bool) → n < 2 ^ 29 → InRange w st → length (values_for w values n (told n st ended) time st (word_taken w st)) ≡ made
-  pub below : (n time : ℕ) (st : State) (ended : Bool) → n < 2 ^ 29 → InRange w st → InField (values_for w values n (told n st ended) time st (word_taken w st))
+  pub many : (n time : ℕ) (st : State) (ended : Bool) → n < 2 ^ 29 → InRange w st
+      → length (values_for w values n (view_of n st ended) time st (word_taken w st)) ≡ made
+  pub below : (n time : ℕ) (st : State) (ended : Bool) → n < 2 ^ 29 → InRange w st
+      → InField (values_for w values n (view_of n st ended) time st (word_taken w st))
   pub met : (z x : List ℕ) (state : StateWires) (time next : ℕ) (st : State) (word : Option ℕ) → Given w values z x state time next st word
       → Meets z (block (length x) state time next).list
   pub shows : (z x : List ℕ) (state : StateWires) (time next : ℕ) (st : State) (word : Option ℕ) → Given w values z x state time next st word

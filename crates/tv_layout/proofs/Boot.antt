@@ -28,14 +28,16 @@ module _ (z : List ℕ) (assigns : Assigns z) where
       → map (line_value z) (boot_wires cell time words) ≡ boot_from cell time (map (λ word. value word z) words)
   boot_valued cell time [] i j = refl
   boot_valued cell time (word ∷ words) i j =
-      let line : line_value z (record { cell = constant cell; time = constant time; old = []; new = word }) ≡ record { cell = cell; time = time; old = 0; new = value word z } =
+      let line : line_value z (record { cell = constant cell; time = constant time; old = []; new = word })
+      ≡ record { cell = cell; time = time; old = 0; new = value word z } =
       rw (small_constant cell (omega arith), small_constant time (omega arith)) refl in
       ap₂ (λ (l : Line) (ls : List Line). l ∷ ls) line (boot_valued (cell + 1) (time + 1) words (omega arith) (omega arith))
 
   constants_valued : (words : List ℕ) → ((i : ℕ) → i < 2 ^ 32 → i < 2 ^ 33) → AreWords 32 words → map (λ word. value word z) (map constant words) ≡ words
   constants_valued [] f h = refl
   constants_valued (v ∷ vs) f h =
-      ap₂ (λ (u : ℕ) (us : List ℕ). u ∷ us) (small_constant v (f v (All-head (λ v. v < 2 ^ 32) v vs h))) (constants_valued vs f (All-tail (λ v. v < 2 ^ 32) v vs h))
+      ap₂ (λ (u : ℕ) (us : List ℕ). u ∷ us) (small_constant v (f v (All-head (λ v. v < 2 ^ 32) v vs h)))
+      (constants_valued vs f (All-tail (λ v. v < 2 ^ 32) v vs h))
 
   wires_valued : (first : ℕ) (x : List ℕ) → HasFrom z first x → map (λ word. value word z) (map wire (range_with_len first (length x))) ≡ x
   wires_valued first [] has = refl
@@ -46,10 +48,12 @@ module _ (z : List ℕ) (assigns : Assigns z) where
       → map (line_value z) (boot_lines_of image (length x)) ≡ boot_lines image x
   boot_lines_valued image x words i j has =
       let a = boot_valued 0 0 (map constant image) (omega (arith, length-map image constant)) (omega (arith, length-map image constant)) in
-      let many : length (map wire (range_with_len tape_at (length x))) ≡ length x = sym (length-map (map wire (range_with_len tape_at (length x))) (λ word. value word z)) ∙ ap length (wires_valued tape_at x has) in
+      let many : length (map wire (range_with_len tape_at (length x)))
+      ≡ length x = sym (length-map (map wire (range_with_len tape_at (length x))) (λ word. value word z)) ∙ ap length (wires_valued tape_at x has) in
       let b = boot_valued TAPE_CELLS (length image) (map wire (range_with_len tape_at (length x))) (omega (arith, many)) (omega (arith, many)) in
       map-append (line_value z) (boot_wires 0 0 (map constant image)) _
-      ∙ ap₂ (λ (u v : List Line). u ++ v) (a ∙ ap (boot_from 0 0) (constants_valued image (λ i h. omega arith) words)) (b ∙ ap (boot_from TAPE_CELLS (length image)) (wires_valued tape_at x has))
+      ∙ ap₂ (λ (u v : List Line). u ++ v) (a ∙ ap (boot_from 0 0) (constants_valued image (λ i h. omega arith) words))
+      (b ∙ ap (boot_from TAPE_CELLS (length image)) (wires_valued tape_at x has))
 
   pub padding_valued : (time more : ℕ) → time + more < 2 ^ 33 → map (line_value z) (padding_of time more) ≡ padding time more
   padding_valued time zero h = refl
@@ -65,8 +69,11 @@ LinesFrom-append t u (x ∷ xs) ys e h k = (h.0, h.1, LinesFrom-append (t + 1) u
 
 boot_placed : (cell time : ℕ) (words : List ℕ) → AreWords 32 words → cell + length words ≤ 2 ^ 31 → LinesFrom time (boot_from cell time words)
 boot_placed cell time [] h i = tt
-boot_placed cell time (v ∷ vs) h i =
-    (refl, record { cell = omega arith; old = omega arith; new = All-head (λ v. v < 2 ^ 32) v vs h }, boot_placed (cell + 1) (time + 1) vs (All-tail (λ v. v < 2 ^ 32) v vs h) (omega arith))
+boot_placed cell time (v ∷ vs) h i = (
+  refl,
+  record { cell = omega arith; old = omega arith; new = All-head (λ v. v < 2 ^ 32) v vs h },
+  boot_placed (cell + 1) (time + 1) vs (All-tail (λ v. v < 2 ^ 32) v vs h) (omega arith),
+)
 
 pub length-boot_from : (cell time : ℕ) (words : List ℕ) → length (boot_from cell time words) ≡ length words
 length-boot_from cell time [] = refl
@@ -79,7 +86,8 @@ length-boot_lines image x =
 
 -- one more of the lines that write words
 pub boot_more : (cell time : ℕ) (words : List ℕ) (i : ℕ) → i < length words
-    → boot_from cell time (take (i + 1) words) ≡ boot_from cell time (take i words) ++ record { cell = cell + i; time = time + i; old = 0; new = slice_index words i } ∷ []
+    → boot_from cell time (take (i + 1) words) ≡ boot_from cell time (take i words)
+    ++ record { cell = cell + i; time = time + i; old = 0; new = slice_index words i } ∷ []
 boot_more cell time [] i h = absurd (omega arith)
 boot_more cell time (v ∷ words) zero h = let c : cell + 0 ≡ cell = omega arith in let t : time + 0 ≡ time = omega arith in rw (c, t) refl
 boot_more cell time (v ∷ words) (suc i) h =

@@ -2,7 +2,6 @@
 use Rattle.std.proofs.Common.{◌≡◌, ◌≢◌, ℕ, ◌+◌, ◌-◌, ◌*◌, ◌/◌, ◌<◌, ◌≤◌, ◌^◌, List, length, map, inl, inr, refl, sym, ap, ◌∙◌, subst, arith, zero-add}
 use Rattle.std.proofs.lemmas.Bool.{cases_eq, cases_lt, ne_eqb, eq-eqb}
 use Rattle.std.specs.Prelude.{slice_index}
-use Rattle.tv_core.specs.Circuits.{turns, pure}
 use Rattle.tv_core.specs.Laws.{Assigns, Meets, HasFrom}
 use Rattle.tv_core.specs.Lines.{Line}
 use Rattle.tv_core.specs.declared.limits.TheConstants.{CELL_BITS, TAPE_CELLS, NULL_CELL}
@@ -14,6 +13,7 @@ use Rattle.tv_memory.specs.Checks.{IsOfKind, IsPadded, AreOfKinds, HasCell, IsNe
 use Rattle.tv_memory.specs.declared.kinds.Kind.{Kind}
 use Rattle.tv_memory.specs.declared.kinds.Kind.TheVariants.{Fresh, Within}
 use Rattle.tv_numbers.specs.Numbers.{Did, lines_in}
+use Rattle.tv_numbers.specs.Views.{View}
 use Rattle.tv_step.specs.Range.{AreWords}
 use Rattle.tv_step.specs.Rows.{word_size}
 use Rattle.tv_step.specs.Trace.{null_line}
@@ -24,13 +24,14 @@ use Rattle.tv_layout.proofs.Blocks.{BlockSizes, HasCells, BlockIsSound}
 use Rattle.tv_layout.proofs.LineKinds.{of_image, first_boot, later_boot, least_first, some_first, later_first}
 use Rattle.tv_layout.proofs.MemoryCosts.{tape_kind, first_kinds, second_kinds, third_kinds}
 use Rattle.tv_layout.proofs.NumberPlaces.{written_at, all, long, at_image, at_tape, at_step, at_padding, each_checked, below_three}
+use Rattle.tv_layout.proofs.FirstState.{HoldsZeros, first_view}
 use Rattle.tv_layout.proofs.Positions.{log_above, log_within}
 use Rattle.tv_layout.proofs.Steps.{did_at, cells}
 use Rattle.tv_layout.proofs.Whole.{few, short, early, spare, filled, lines_valued, all_placed}
 use Rattle.tv_layout.specs.Blocks.{BlockCircuit}
 use Rattle.tv_layout.specs.Checks.{least_place, boot_kind, first_kind, line_kind, checks_of}
 use Rattle.tv_layout.specs.Layout.{steps_of, state_at, lines_of}
-use Rattle.tv_layout.specs.Places.{WithinLimits, boot_count, line_count, log_of, tape_at, zero_wire_at, first_at}
+use Rattle.tv_layout.specs.Places.{WithinLimits, boot_count, line_count, log_of, tape_at, zero_wires_at, first_at}
 
 -- ---- the least line
 least_some : (words n : ℕ) → words ≢ 0 → least_place words n ≡ 0
@@ -47,7 +48,8 @@ not_least words n i a b same = elim (cases_eq words 0) [
 ]
 
 -- ---- kinds of lines
-boot_is : (least place cell i word : ℕ) (first : Kind) → cell + i < 2 ^ 31 → (i ≡ 0 → IsOfKind least place (written_at (cell + i) place word) first) → (i ≢ 0 → place ≢ least)
+boot_is : (least place cell i word : ℕ) (first : Kind) → cell + i < 2 ^ 31 → (i ≡ 0 → IsOfKind least place (written_at (cell + i) place word) first)
+    → (i ≢ 0 → place ≢ least)
     → IsOfKind least place (written_at (cell + i) place word) (boot_kind first cell i)
 boot_is least place cell i word first small begins other = elim (cases_eq i 0) [
   | inl e ↦ subst (IsOfKind least place (written_at (cell + i) place word)) (sym (first_boot first cell i e)) (begins e)
@@ -57,16 +59,17 @@ boot_is least place cell i word first small begins other = elim (cases_eq i 0) [
       subst (IsOfKind least place (written_at (cell + i) place word)) (sym (later_boot first cell i e)) (other e, before, next, refl)
 ]
 
-start_pc : (block : BlockCircuit) (z x : List ℕ) (time zero_wire first : ℕ) → slice_index z zero_wire ≡ 0 → (state_in z (state_at block (length x) time zero_wire first 0)).pc ≡ 0
-unfolding steps_of turns pure
-start_pc block z x time zero_wire first e = e
+start_pc : (block : BlockCircuit) (z x : List ℕ) (time zero_wires first : ℕ) → HoldsZeros z zero_wires
+    → (state_in z (state_at block (length x) time zero_wires first 0)).pc ≡ 0
+start_pc block z x time zero_wires first held = ap (λ (v : View). v.pc) (first_view z zero_wires held block (length x) time first)
 
 zero_cell : (w : ℕ) → IsWidth w → 0 / word_size w ≡ 0
 zero_cell w width = for_widths (λ w. 0 / word_size w ≡ 0) refl refl w width
 
-module _ (w : ℕ) (block : BlockCircuit) (made : ℕ) (sizes : BlockSizes block made) (law : BlockIsSound w block) (image x z : List ℕ) (t : ℕ) (fits : WithinLimits w image (length x) t)
-    (assigns : Assigns z) (words : AreWords w x) (has : HasFrom z tape_at x) (zero_there : slice_index z (zero_wire_at w (length x)) ≡ 0)
-    (met : Meets z (steps_of block (length x) (boot_count image (length x)) t (zero_wire_at w (length x)) (first_at w (length x))).list) where
+module _ (w : ℕ) (block : BlockCircuit) (made : ℕ) (sizes : BlockSizes block made) (law : BlockIsSound w block) (image x z : List ℕ) (t : ℕ)
+    (fits : WithinLimits w image (length x) t)
+    (assigns : Assigns z) (words : AreWords w x) (has : HasFrom z tape_at x) (zeros_there : HoldsZeros z (zero_wires_at w (length x)))
+    (met : Meets z (steps_of block (length x) (boot_count image (length x)) t (zero_wires_at w (length x)) (first_at w (length x))).list) where
   abbrev count : ℕ
   count = line_count image (length x) t
 
@@ -77,10 +80,10 @@ module _ (w : ℕ) (block : BlockCircuit) (made : ℕ) (sizes : BlockSizes block
   least = least_place (length image) (length x)
 
   abbrev here : ℕ → Did
-  here i = did_at block made sizes z x (boot_count image (length x)) (zero_wire_at w (length x)) (first_at w (length x)) i
+  here i = did_at block made sizes z x (boot_count image (length x)) (zero_wires_at w (length x)) (first_at w (length x)) i
 
   abbrev f : ℕ → List Line
-  f i = lines_in (did_at block made sizes z x (boot_count image (length x)) (zero_wire_at w (length x)) (first_at w (length x)) i)
+  f i = lines_in (did_at block made sizes z x (boot_count image (length x)) (zero_wires_at w (length x)) (first_at w (length x)) i)
 
   three : (i : ℕ) → length (f i) ≡ 3
   three i = refl
@@ -90,7 +93,8 @@ module _ (w : ℕ) (block : BlockCircuit) (made : ℕ) (sizes : BlockSizes block
 
   cells_at : (i : ℕ) → i < t → HasCells w (here i)
   cells_at i h =
-      cells block made sizes z x (boot_count image (length x)) (zero_wire_at w (length x)) (first_at w (length x)) w fits.width law t assigns (short image (length x) t w fits) (early image (length x) t w fits) zero_there met i h
+      cells block made sizes z x (boot_count image (length x)) (zero_wires_at w (length x)) (first_at w (length x)) w fits.width law t assigns
+      (short image (length x) t w fits) (early image (length x) t w fits) zeros_there met i h
 
   many : length numbers ≡ 2 ^ k
   many = long image x t f three (spare image (length x) t) ∙ filled image (length x) t w fits
@@ -102,7 +106,7 @@ module _ (w : ℕ) (block : BlockCircuit) (made : ℕ) (sizes : BlockSizes block
   small = log_within count (few image (length x) t w fits)
 
   time_at : (i : ℕ) → i < length numbers → (number_in numbers i).time ≡ i
-  time_at i h = (placed 0 numbers (all_placed w block made sizes law image x z t fits assigns words has zero_there met) i zero_line h).0 ∙ omega arith
+  time_at i h = (placed 0 numbers (all_placed w block made sizes law image x z t fits assigns words has zeros_there met) i zero_line h).0 ∙ omega arith
 
   -- ---- of their kinds
   on_image : (i : ℕ) → i < length image → IsOfKind least i (written_at i i (slice_index image i)) (line_kind k (length image) (length x) i)
@@ -115,12 +119,15 @@ module _ (w : ℕ) (block : BlockCircuit) (made : ℕ) (sizes : BlockSizes block
       (λ e. not_least (length image) (length x) i (λ _. e) (λ none. absurd (some none)))))
 
   on_tape : (i : ℕ) → i < length x
-      → IsOfKind least (length image + i) (written_at (TAPE_CELLS + i) (length image + i) (slice_index x i)) (line_kind k (length image) (length x) (length image + i))
+      → IsOfKind least (length image + i) (written_at (TAPE_CELLS + i) (length image + i) (slice_index x i))
+      (line_kind k (length image) (length x) (length image + i))
   on_tape i h =
       let other : length image + i ≢ least =
       not_least (length image) (length x) (length image + i) (λ some e. some (omega (arith, e))) (λ none e. omega (arith, none, e, h)) in
-      subst (IsOfKind least (length image + i) (written_at (TAPE_CELLS + i) (length image + i) (slice_index x i))) (sym (tape_kind k (length image) (length x) i h))
-      (boot_is least (length image + i) TAPE_CELLS i (slice_index x i) (Within CELL_BITS) (omega (arith, h, fits.tape_fits)) (λ e. (other, omega arith)) (λ e. other))
+      subst (IsOfKind least (length image + i) (written_at (TAPE_CELLS + i) (length image + i) (slice_index x i)))
+      (sym (tape_kind k (length image) (length x) i h))
+      (boot_is least (length image + i) TAPE_CELLS i (slice_index x i) (Within CELL_BITS) (omega (arith, h, fits.tape_fits)) (λ e. (other, omega arith))
+      (λ e. other))
 
   behind : (j : ℕ) → j ≢ 0 → length image + length x + j ≢ least
   behind j h = not_least (length image) (length x) (length image + length x + j) (λ some e. some (omega (arith, e))) (λ none e. h (omega (arith, none, e)))
@@ -138,19 +145,25 @@ module _ (w : ℕ) (block : BlockCircuit) (made : ℕ) (sizes : BlockSizes block
           let far : 3 * j + 0 ≢ 0 = λ same. e (omega (arith, same)) in
           subst (IsOfKind least (length image + length x + (3 * j + 0)) line) (sym (later_first (length image) j e)) (behind (3 * j + 0) far, omega arith)
     ]
-    | inr some ↦ subst (IsOfKind least (length image + length x + (3 * j + 0)) line) (sym (some_first (length image) j some)) (some_words (3 * j + 0) some, omega arith)
+    | inr some ↦ subst (IsOfKind least (length image + length x + (3 * j + 0)) line) (sym (some_first (length image) j some))
+        (some_words (3 * j + 0) some, omega arith)
   ]
 
   first_at_step : (j : ℕ) → line_kind k (length image) (length x) (length image + length x + (3 * j + 0)) ≡ first_kind (length image) j
-  first_at_step j = let e : 3 * j + 0 ≡ 3 * j = omega arith in ap (λ p. line_kind k (length image) (length x) (length image + length x + p)) e ∙ first_kinds k (length image) (length x) j
+  first_at_step j = let e : 3 * j + 0 ≡ 3 * j = omega arith in ap (λ p. line_kind k (length image) (length x) (length image + length x + p)) e
+      ∙ first_kinds k (length image) (length x) j
 
   on_step : (j r : ℕ) → j < t → r < 3
-      → IsOfKind least (length image + length x + (3 * j + r)) (number_in (f j) r) (line_kind k (length image) (length x) (length image + length x + (3 * j + r)))
+      → IsOfKind least (length image + length x + (3 * j + r)) (number_in (f j) r)
+      (line_kind k (length image) (length x) (length image + length x + (3 * j + r)))
   on_step j r h i =
-      below_three (λ r. IsOfKind least (length image + length x + (3 * j + r)) (number_in (f j) r) (line_kind k (length image) (length x) (length image + length x + (3 * j + r))))
+      below_three (λ r. IsOfKind least (length image + length x + (3 * j + r)) (number_in (f j) r)
+      (line_kind k (length image) (length x) (length image + length x + (3 * j + r))))
       (subst (IsOfKind least (length image + length x + (3 * j + 0)) (number_in (f j) 0)) (sym (first_at_step j)) (begins j (number_in (f j) 0)))
-      (subst (IsOfKind least (length image + length x + (3 * j + 1)) (number_in (f j) 1)) (sym (second_kinds k (length image) (length x) j)) (behind (3 * j + 1) (λ e. omega (arith, e)), omega (arith, small)))
-      (subst (IsOfKind least (length image + length x + (3 * j + 2)) (number_in (f j) 2)) (sym (third_kinds k (length image) (length x) j)) (behind (3 * j + 2) (λ e. omega (arith, e)), omega arith))
+      (subst (IsOfKind least (length image + length x + (3 * j + 1)) (number_in (f j) 1)) (sym (second_kinds k (length image) (length x) j))
+      (behind (3 * j + 1) (λ e. omega (arith, e)), omega (arith, small)))
+      (subst (IsOfKind least (length image + length x + (3 * j + 2)) (number_in (f j) 2)) (sym (third_kinds k (length image) (length x) j))
+      (behind (3 * j + 2) (λ e. omega (arith, e)), omega arith))
       r i
 
   -- ---- padding
@@ -199,12 +212,14 @@ module _ (w : ℕ) (block : BlockCircuit) (made : ℕ) (sizes : BlockSizes block
   numbers_of_kinds = record {
     least = least_checked;
     within = omega (arith, many, within);
-    kinds = each_checked image x t f three (spare image (length x) t) (λ i line. IsOfKind least i line (line_kind k (length image) (length x) i)) on_image on_tape on_step;
+    kinds = each_checked image x t f three (spare image (length x) t)
+        (λ i line. IsOfKind least i line (line_kind k (length image) (length x) i)) on_image on_tape on_step;
     padded = padded;
   }
 
   pub are_of_kinds : AreOfKinds (checks_of image (length x) t) (map (line_value z) (lines_of block w image (length x) t))
-  are_of_kinds = subst (AreOfKinds (checks_of image (length x) t)) (sym (lines_valued w block made sizes law image x z t fits assigns words has zero_there met)) numbers_of_kinds
+  are_of_kinds = subst (AreOfKinds (checks_of image (length x) t))
+      (sym (lines_valued w block made sizes law image x z t fits assigns words has zeros_there met)) numbers_of_kinds
 
   -- ---- near their predecessors
   cell_of_image : (i : ℕ) → i < length image → (number_in numbers i).cell ≡ i
@@ -213,7 +228,8 @@ module _ (w : ℕ) (block : BlockCircuit) (made : ℕ) (sizes : BlockSizes block
   cell_of_tape : (i : ℕ) → i < length x → (number_in numbers (length image + i)).cell ≡ TAPE_CELLS + i
   cell_of_tape i h = ap (λ (l : Line). l.cell) (at_tape image x t f three (spare image (length x) t) i h)
 
-  near_boot : (place cell i : ℕ) (first : Kind) → IsNear numbers place first → (i ≢ 0 → HasCell numbers (cell + i - 1) × ((j : ℕ) → j < place → (number_in numbers j).cell ≢ (number_in numbers place).cell))
+  near_boot : (place cell i : ℕ) (first : Kind) → IsNear numbers place first
+      → (i ≢ 0 → HasCell numbers (cell + i - 1) × ((j : ℕ) → j < place → (number_in numbers j).cell ≢ (number_in numbers place).cell))
       → IsNear numbers place (boot_kind first cell i)
   near_boot place cell i first a b = elim (cases_eq i 0) [
     | inl e ↦ subst (IsNear numbers place) (sym (first_boot first cell i e)) a
@@ -240,7 +256,8 @@ module _ (w : ℕ) (block : BlockCircuit) (made : ℕ) (sizes : BlockSizes block
           | inr past ↦
               let p : length image + (j - length image) ≡ j = omega (arith, past) in
               let low : j - length image < i = omega (arith, l, past) in
-              let c : (number_in numbers j).cell ≡ TAPE_CELLS + (j - length image) = ap (λ q. (number_in numbers q).cell) (sym p) ∙ cell_of_tape (j - length image) (omega (arith, low, h)) in
+              let c : (number_in numbers j).cell ≡ TAPE_CELLS + (j - length image) = ap (λ q. (number_in numbers q).cell) (sym p)
+              ∙ cell_of_tape (j - length image) (omega (arith, low, h)) in
               omega (arith, c, cell_of_tape i h, same, low)
         ],
       )))
@@ -251,7 +268,11 @@ module _ (w : ℕ) (block : BlockCircuit) (made : ℕ) (sizes : BlockSizes block
   second_near : (j : ℕ) → j < t → IsNear numbers (length image + length x + (3 * j + 1)) (Within k)
   second_near j h =
       let at = cells_at j h in
-      let fetched : HasCell numbers (here j).first.cell = record { place = length image + length x + (3 * j + 0); below = omega (arith, many, within, h); is = cell_of_step j 0 h (omega arith) } in
+      let fetched : HasCell numbers (here j).first.cell = record {
+        place = length image + length x + (3 * j + 0);
+        below = omega (arith, many, within, h);
+        is = cell_of_step j 0 h (omega arith);
+      } in
       let place : length image + length x + (3 * j + 1) < 2 ^ k = omega (arith, within, h) in
       inr (place, ((here j).first.cell, cell_of_step j 1 h (omega arith) ∙ at.second, fetched))
 
@@ -264,10 +285,12 @@ module _ (w : ℕ) (block : BlockCircuit) (made : ℕ) (sizes : BlockSizes block
     | inr some ↦ subst (IsNear numbers place) (sym (some_first words step some)) (inl refl)
   ]
 
-  step_near : (j r : ℕ) → j < t → r < 3 → IsNear numbers (length image + length x + (3 * j + r)) (line_kind k (length image) (length x) (length image + length x + (3 * j + r)))
+  step_near : (j r : ℕ) → j < t → r < 3 → IsNear numbers (length image + length x + (3 * j + r))
+      (line_kind k (length image) (length x) (length image + length x + (3 * j + r)))
   step_near j r h i =
       below_three (λ r. IsNear numbers (length image + length x + (3 * j + r)) (line_kind k (length image) (length x) (length image + length x + (3 * j + r))))
-      (subst (IsNear numbers (length image + length x + (3 * j + 0))) (sym (first_at_step j)) (far_near (length image + length x + (3 * j + 0)) (length image) j))
+      (subst (IsNear numbers (length image + length x + (3 * j + 0))) (sym (first_at_step j))
+      (far_near (length image + length x + (3 * j + 0)) (length image) j))
       (subst (IsNear numbers (length image + length x + (3 * j + 1))) (sym (second_kinds k (length image) (length x) j)) (second_near j h))
       (subst (IsNear numbers (length image + length x + (3 * j + 2))) (sym (third_kinds k (length image) (length x) j)) (inl refl))
       r i
@@ -278,8 +301,10 @@ module _ (w : ℕ) (block : BlockCircuit) (made : ℕ) (sizes : BlockSizes block
       let place : length image + length x + (3 * 0 + 0) ≡ length x = omega (arith, none) in
       let there : length x < length numbers = omega (arith, many, within, none, fits.some) in
       let cell : (number_in numbers (length x)).cell ≡ 0 =
-      ap (λ p. (number_in numbers p).cell) (sym place) ∙ cell_of_step 0 0 (omega (arith, fits.some)) (omega arith) ∙ (cells_at 0 (omega (arith, fits.some))).first
-      ∙ ap (λ pc. pc / word_size w) (start_pc block z x (boot_count image (length x)) (zero_wire_at w (length x)) (first_at w (length x)) zero_there) ∙ zero_cell w fits.width in
+      ap (λ p. (number_in numbers p).cell) (sym place) ∙ cell_of_step 0 0 (omega (arith, fits.some)) (omega arith)
+      ∙ (cells_at 0 (omega (arith, fits.some))).first
+      ∙ ap (λ pc. pc / word_size w) (start_pc block z x (boot_count image (length x)) (zero_wires_at w (length x)) (first_at w (length x)) zeros_there)
+      ∙ zero_cell w fits.width in
       omega (arith, cell, time_at (length x) there)
 
   other_key : length image ≡ 0 → (i : ℕ) → i < length numbers → length x ≤ key (number_in numbers i)
@@ -297,15 +322,22 @@ module _ (w : ℕ) (block : BlockCircuit) (made : ℕ) (sizes : BlockSizes block
         subst (λ a. key (number_in numbers a) ≤ key (number_in numbers i)) (sym (least_none (length image) (length x) none))
         (let a = first_key none in let b = other_key none i h in omega (arith, a, b))
     | inr some ↦
-        let zero_key : key (number_in numbers 0) ≡ 0 = omega (arith, ap (λ (l : Line). l.cell) (at_image image x t f three (spare image (length x) t) 0 (omega (arith, some))), ap (λ (l : Line). l.time) (at_image image x t f three (spare image (length x) t) 0 (omega (arith, some)))) in
+        let zero_key : key (number_in numbers 0)
+        ≡ 0 = omega (
+          arith,
+          ap (λ (l : Line). l.cell) (at_image image x t f three (spare image (length x) t) 0 (omega (arith, some))),
+          ap (λ (l : Line). l.time) (at_image image x t f three (spare image (length x) t) 0 (omega (arith, some))),
+        ) in
         subst (λ a. key (number_in numbers a) ≤ key (number_in numbers i)) (sym (least_some (length image) (length x) some)) (omega (arith, zero_key))
   ]
 
   numbers_near : AreNear (checks_of image (length x) t) numbers
   numbers_near = record {
     least = least_key;
-    kinds = each_checked image x t f three (spare image (length x) t) (λ i _. IsNear numbers i (line_kind k (length image) (length x) i)) image_near tape_near step_near;
+    kinds = each_checked image x t f three (spare image (length x) t)
+        (λ i _. IsNear numbers i (line_kind k (length image) (length x) i)) image_near tape_near step_near;
   }
 
   pub are_near : AreNear (checks_of image (length x) t) (map (line_value z) (lines_of block w image (length x) t))
-  are_near = subst (AreNear (checks_of image (length x) t)) (sym (lines_valued w block made sizes law image x z t fits assigns words has zero_there met)) numbers_near
+  are_near = subst (AreNear (checks_of image (length x) t))
+      (sym (lines_valued w block made sizes law image x z t fits assigns words has zeros_there met)) numbers_near

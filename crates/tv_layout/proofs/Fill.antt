@@ -1,8 +1,8 @@
 -- The values for a run satisfy the system.
-use Rattle.std.proofs.Common.{◌≡◌, ℕ, suc, ◌+◌, ◌-◌, ◌*◌, ◌<◌, ◌^◌, List, [], ◌∷◌, ◌++◌, length, map, refl, sym, ap, ◌∙◌, arith, subst, add-zero}
+use Rattle.std.proofs.Common.{◌≡◌, ℕ, suc, ◌+◌, ◌-◌, ◌*◌, ◌<◌, ◌^◌, List, [], ◌∷◌, ◌++◌, length, map, replicate, refl, sym, ap, ◌∙◌, arith, subst, add-zero}
 use Rattle.std.proofs.Math.Seq.{take-append_seam}
-use Rattle.std.proofs.lemmas.List.{length-append, get_or-append-add}
-use Rattle.std.proofs.lemmas.List.Elements.{All-weaker}
+use Rattle.std.proofs.lemmas.List.{length-append, get_or-append-add, get_or-replicate}
+use Rattle.std.proofs.lemmas.List.Elements.{All-weaker, All-replicate}
 use Rattle.std.specs.Prelude.{slice_index}
 use Rattle.tv_benes.specs.declared.shape.Net.{Net}
 use Rattle.tv_bits.proofs.SizeLaws.{bits_in_field}
@@ -28,7 +28,8 @@ use Rattle.tv_step.specs.Machine.{start, state_after, Accepts}
 use Rattle.tv_step.specs.Range.{AreWords, InRange}
 use Rattle.tv_step.specs.Reads.{ended_after, Reads}
 use Rattle.tv_step.specs.Runs.{Answering}
-use Rattle.tv_layout.proofs.Ends.{words_met, zero_wire_met, tie_met}
+use Rattle.tv_layout.proofs.Ends.{at_place, words_met, zero_wires_met, tie_met}
+use Rattle.tv_layout.proofs.FirstState.{HoldsZeros}
 use Rattle.tv_layout.proofs.Positions.{layout_meets, layout_next, last_of, log_some, log_within, memory_at}
 use Rattle.tv_layout.proofs.RunLines.{input, run_placed, run_few, run_honest}
 use Rattle.tv_layout.proofs.StepsFill.{steps_met, steps_lines, steps_take, last_said}
@@ -39,9 +40,10 @@ use Rattle.tv_layout.specs.Blocks.{BlockCircuit, BlockValues}
 use Rattle.tv_layout.proofs.Checked.{are_of_kinds, are_near}
 use Rattle.tv_layout.specs.Checks.{checks_of}
 use Rattle.tv_layout.specs.Layout.{steps_of, lines_of, layout_of, layout, taken_of}
-use Rattle.tv_layout.specs.Places.{WithinLimits, boot_count, line_count, log_of, tape_at, zero_wire_at, first_at}
+use Rattle.tv_layout.specs.Places.{WithinLimits, boot_count, line_count, log_of, tape_at, zero_wires_at, first_at}
 use Rattle.tv_layout.specs.Sound.{padding, all_lines}
 use Rattle.tv_layout.specs.Values.{step_values, fill, IsFill}
+use Rattle.tv_layout.specs.declared.places.TheConstants.{STATE_WIRES}
 use Rattle.tv_word.proofs.WidthLaws.{word_small}
 
 -- an assignment has a list where its places say so
@@ -55,8 +57,10 @@ has_by_places z k (x ∷ xs) each = (
 has_behind : (v : ℕ) (rest : List ℕ) → HasFrom (v ∷ rest) 1 rest
 has_behind v rest = has_by_places (v ∷ rest) 1 rest (λ i h. get_or-append-add (v ∷ []) rest i 0)
 
-module _ (w : ℕ) (net : Net) (block : BlockCircuit) (made : ℕ) (values : BlockValues) (sizes : BlockSizes block made) (law : BlockIsSound w block) (complete : BlockIsComplete w block made values)
-    (image x aux : List ℕ) (t v : ℕ) (fits : WithinLimits w image (length x) t) (x_words : AreWords w x) (aux_words : AreWords w aux) (small : v < 2 ^ w) (runs : Answering w (start w image x aux) t v) where
+module _ (w : ℕ) (net : Net) (block : BlockCircuit) (made : ℕ) (values : BlockValues) (sizes : BlockSizes block made) (law : BlockIsSound w block)
+    (complete : BlockIsComplete w block made values)
+    (image x aux : List ℕ) (t v : ℕ) (fits : WithinLimits w image (length x) t) (x_words : AreWords w x) (aux_words : AreWords w aux) (small : v < 2 ^ w)
+    (runs : Answering w (start w image x aux) t v) where
   abbrev count : ℕ
   count = line_count image (length x) t
 
@@ -70,18 +74,20 @@ module _ (w : ℕ) (net : Net) (block : BlockCircuit) (made : ℕ) (values : Blo
   lasts = memory_values net (checks_of image (length x) t) (log_of (line_count image (length x) t)) (all_lines w image x aux t)
 
   abbrev z : List ℕ
-  z = 1 ∷ ((v ∷ x) ++ (bits ++ (0 ∷ (blocks ++ lasts))))
+  z = 1 ∷ ((v ∷ x) ++ (bits ++ (replicate STATE_WIRES 0 ++ (blocks ++ lasts))))
 
   range : (i : ℕ) → InRange w (state_after w i (start w image x aux))
   range i = run_keeps_range w fits.width (start w image x aux) i (start_in_range w fits.width image x aux x_words aux_words)
 
   block_many : (i : ℕ) → length (step_values values w image x aux i) ≡ made
   block_many i =
-      complete.many (length x) (boot_count image (length x) + 3 * i) (state_after w i (start w image x aux)) (ended_after w i (start w image x aux)) (short image (length x) t w fits) (range i)
+      complete.many (length x) (boot_count image (length x) + 3 * i) (state_after w i (start w image x aux)) (ended_after w i (start w image x aux))
+      (short image (length x) t w fits) (range i)
 
   block_small : (i : ℕ) → InField (step_values values w image x aux i)
   block_small i =
-      complete.below (length x) (boot_count image (length x) + 3 * i) (state_after w i (start w image x aux)) (ended_after w i (start w image x aux)) (short image (length x) t w fits) (range i)
+      complete.below (length x) (boot_count image (length x) + 3 * i) (state_after w i (start w image x aux)) (ended_after w i (start w image x aux))
+      (short image (length x) t w fits) (range i)
 
   length-bits : length bits ≡ length x * w
   length-bits = length-joined_below (length x) w (λ i. bits_values (slice_index x i) w) (λ i h. length-each_below w _)
@@ -93,10 +99,14 @@ module _ (w : ℕ) (net : Net) (block : BlockCircuit) (made : ℕ) (values : Blo
   in_field =
       let answer : v < P = let fit = word_small w fits.width v small in omega arith in
       let tape : InField x = All-weaker (λ v. v < 2 ^ w) (λ v. v < P) (λ v k. let fit = word_small w fits.width v k in omega arith) x x_words in
-      InField-cons 1 ((v ∷ x) ++ (bits ++ (0 ∷ (blocks ++ lasts)))) (omega arith) (InField-append (v ∷ x) (bits ++ (0 ∷ (blocks ++ lasts))) (InField-cons v x answer tape)
-      (InField-append bits (0 ∷ (blocks ++ lasts)) (InField-joined_below (λ i. bits_values (slice_index x i) w) (length x) (λ i h. bits_in_field (slice_index x i) w))
-      (InField-cons 0 (blocks ++ lasts) (omega arith) (InField-append blocks lasts (InField-joined_below (step_values values w image x aux) t (λ i h. block_small i))
-      ((memory_complete net).below (checks_of image (length x) t) (log_of (line_count image (length x) t)) (all_lines w image x aux t) (run_few w image x aux t fits x_words aux_words) (run_placed w image x aux t fits x_words aux_words))))))
+      InField-cons 1 ((v ∷ x) ++ (bits ++ (replicate STATE_WIRES 0 ++ (blocks ++ lasts)))) (omega arith)
+      (InField-append (v ∷ x) (bits ++ (replicate STATE_WIRES 0 ++ (blocks ++ lasts))) (InField-cons v x answer tape)
+      (InField-append bits (replicate STATE_WIRES 0 ++ (blocks ++ lasts))
+      (InField-joined_below (λ i. bits_values (slice_index x i) w) (length x) (λ i h. bits_in_field (slice_index x i) w))
+      (InField-append (replicate STATE_WIRES 0) (blocks ++ lasts) (All-replicate (λ v. v < P) STATE_WIRES 0 (omega arith))
+      (InField-append blocks lasts (InField-joined_below (step_values values w image x aux) t (λ i h. block_small i))
+      ((memory_complete net).below (checks_of image (length x) t) (log_of (line_count image (length x) t)) (all_lines w image x aux t)
+      (run_few w image x aux t fits x_words aux_words) (run_placed w image x aux t fits x_words aux_words))))))
 
   assigns : Assigns z
   assigns = record { below = in_field; one = refl }
@@ -105,20 +115,31 @@ module _ (w : ℕ) (net : Net) (block : BlockCircuit) (made : ℕ) (values : Blo
   record HasParts : Type 0 where
     public : HasFrom z 1 (v ∷ x)
     tape_bits : HasFrom z (2 + length x) bits
-    zero_wire : slice_index z (zero_wire_at w (length x)) ≡ 0
+    zero_wires : HoldsZeros z (zero_wires_at w (length x))
     steps : HasFrom z (first_at w (length x)) blocks
     last : HasFrom z (memory_at w made (length x) t) lasts
 
   has_parts : HasParts
   has_parts =
-      let a = HasFrom-split z 1 (v ∷ x) (bits ++ (0 ∷ (blocks ++ lasts))) (has_behind 1 ((v ∷ x) ++ (bits ++ (0 ∷ (blocks ++ lasts))))) in
+      let a = HasFrom-split z 1 (v ∷ x) (bits ++ (replicate STATE_WIRES 0 ++ (blocks ++ lasts)))
+      (has_behind 1 ((v ∷ x) ++ (bits ++ (replicate STATE_WIRES 0 ++ (blocks ++ lasts))))) in
       let p : 1 + length (v ∷ x) ≡ 2 + length x = omega arith in
-      let b = HasFrom-split z (2 + length x) bits (0 ∷ (blocks ++ lasts)) (subst (λ k. HasFrom z k (bits ++ (0 ∷ (blocks ++ lasts)))) p a.1) in
-      let q : 2 + length x + length bits ≡ zero_wire_at w (length x) = ap (λ k. 2 + length x + k) length-bits in
-      let c : HasFrom z (zero_wire_at w (length x)) (0 ∷ (blocks ++ lasts)) = subst (λ k. HasFrom z k (0 ∷ (blocks ++ lasts))) q b.1 in
-      let d = HasFrom-split z (first_at w (length x)) blocks lasts c.1 in
+      let b = HasFrom-split z (2 + length x) bits (replicate STATE_WIRES 0 ++ (blocks ++ lasts))
+      (subst (λ k. HasFrom z k (bits ++ (replicate STATE_WIRES 0 ++ (blocks ++ lasts)))) p a.1) in
+      let q : 2 + length x + length bits ≡ zero_wires_at w (length x) = ap (λ k. 2 + length x + k) length-bits in
+      let c : HasFrom z (zero_wires_at w (length x)) (replicate STATE_WIRES 0 ++ (blocks ++ lasts)) = subst
+      (λ k. HasFrom z k (replicate STATE_WIRES 0 ++ (blocks ++ lasts))) q b.1 in
+      let o = HasFrom-split z (zero_wires_at w (length x)) (replicate STATE_WIRES 0) (blocks ++ lasts) c in
+      let d = HasFrom-split z (first_at w (length x)) blocks lasts o.1 in
       let r : first_at w (length x) + length blocks ≡ memory_at w made (length x) t = ap (λ k. first_at w (length x) + k) length-blocks in
-      record { public = a.0; tape_bits = b.0; zero_wire = c.0; steps = d.0; last = subst (λ k. HasFrom z k lasts) r d.1 }
+      record {
+        public = a.0;
+        tape_bits = b.0;
+        zero_wires = λ i h. at_place z (replicate STATE_WIRES 0) (zero_wires_at w (length x)) o.0 i h
+            ∙ get_or-replicate STATE_WIRES i 0 0 h;
+        steps = d.0;
+        last = subst (λ k. HasFrom z k lasts) r d.1;
+      }
 
   has_steps : (i : ℕ) → i < t → HasFrom z (first_at w (length x) + i * made) (step_values values w image x aux i)
   has_steps i h = has_each_list z (first_at w (length x)) t made (step_values values w image x aux) (λ i h. block_many i) has_parts.steps i h
@@ -126,51 +147,61 @@ module _ (w : ℕ) (net : Net) (block : BlockCircuit) (made : ℕ) (values : Blo
   has_bits : (i : ℕ) → i < length x → HasFrom z (2 + length x + i * w) (bits_values (slice_index x i) w)
   has_bits i h = has_each_list z (2 + length x) (length x) w (λ i. bits_values (slice_index x i) w) (λ i h. length-each_below w _) has_parts.tape_bits i h
 
-  met_steps : Meets z (steps_of block (length x) (boot_count image (length x)) t (zero_wire_at w (length x)) (first_at w (length x))).list
+  met_steps : Meets z (steps_of block (length x) (boot_count image (length x)) t (zero_wires_at w (length x)) (first_at w (length x))).list
   met_steps =
-      steps_met w block made sizes values law complete image x aux z (zero_wire_at w (length x)) (first_at w (length x)) t v (input w image x aux t fits x_words aux_words) assigns (early image (length x) t w fits) has_parts.zero_wire has_steps runs
+      steps_met w block made sizes values law complete image x aux z (zero_wires_at w (length x)) (first_at w (length x)) t v
+      (input w image x aux t fits x_words aux_words) assigns (early image (length x) t w fits) has_parts.zero_wires has_steps runs
 
   -- the lines are those of the run
   lines_are : map (line_value z) (lines_of block w image (length x) t) ≡ all_lines w image x aux t
   lines_are =
-      lines_valued w block made sizes law image x z t fits assigns x_words has_parts.public.1 has_parts.zero_wire met_steps
+      lines_valued w block made sizes law image x z t fits assigns x_words has_parts.public.1 has_parts.zero_wires met_steps
       ∙ ap (λ (l : List Line). (boot_lines image x ++ l) ++ padding (line_count image (length x) t) (spare image (length x) t))
-      (steps_lines w block made sizes values law complete image x aux z (zero_wire_at w (length x)) (first_at w (length x)) t v (input w image x aux t fits x_words aux_words) assigns (early image (length x) t w fits) has_parts.zero_wire has_steps runs t (omega arith))
+      (steps_lines w block made sizes values law complete image x aux z (zero_wires_at w (length x)) (first_at w (length x)) t v
+      (input w image x aux t fits x_words aux_words) assigns (early image (length x) t w fits) has_parts.zero_wires has_steps runs t (omega arith))
 
   answer_small : v < P
   answer_small = let fit = word_small w fits.width v small in omega arith
 
   all_met : Meets z (layout_of block w net image (length x) t (2 + length x)).list
   all_met =
-      let said = last_said w block made sizes values law complete image x aux z (zero_wire_at w (length x)) (first_at w (length x)) t v (input w image x aux t fits x_words aux_words) assigns (early image (length x) t w fits) has_parts.zero_wire has_steps runs (t - 1) (omega (arith, fits.some)) in
+      let said = last_said w block made sizes values law complete image x aux z (zero_wires_at w (length x)) (first_at w (length x)) t v
+      (input w image x aux t fits x_words aux_words) assigns (early image (length x) t w fits) has_parts.zero_wires has_steps runs (t - 1)
+      (omega (arith, fits.some)) in
       layout_meets block made sizes w net image (length x) t z (record {
         words = words_met w fits.width z assigns tape_at (length x) (2 + length x) x refl x_words has_parts.public.1 has_bits;
-        zero_wire = zero_wire_met w fits.width z assigns (zero_wire_at w (length x)) has_parts.zero_wire;
+        zero_wires = zero_wires_met w fits.width z assigns (zero_wires_at w (length x)) has_parts.zero_wires;
         steps = met_steps;
-        tie = tie_met w fits.width z assigns (last_of block made sizes w net image (length x) t) (memory_at w made (length x) t) v said.0 said.1 has_parts.public.0 answer_small;
-        honest = (memory_complete net).met z (checks_of image (length x) t) (log_of count) (lines_of block w image (length x) t) (memory_at w made (length x) t) (log_some count) (log_within count (few image (length x) t w fits))
-            (lines_many w block made sizes law image x z t fits assigns x_words has_parts.public.1 has_parts.zero_wire met_steps)
+        tie = tie_met w fits.width z assigns (last_of block made sizes w net image (length x) t)
+            (memory_at w made (length x) t) v said.0 said.1 has_parts.public.0 answer_small;
+        honest = (memory_complete net).met z (checks_of image (length x) t) (log_of count) (lines_of block w image (length x) t) (memory_at w made (length x) t)
+            (log_some count) (log_within count (few image (length x) t w fits))
+            (lines_many w block made sizes law image x z t fits assigns x_words has_parts.public.1 has_parts.zero_wires met_steps)
             (subst (LinesFrom 0) (sym lines_are) (run_placed w image x aux t fits x_words aux_words))
-            (are_of_kinds w block made sizes law image x z t fits assigns x_words has_parts.public.1 has_parts.zero_wire met_steps)
-            (are_near w block made sizes law image x z t fits assigns x_words has_parts.public.1 has_parts.zero_wire met_steps)
+            (are_of_kinds w block made sizes law image x z t fits assigns x_words has_parts.public.1 has_parts.zero_wires met_steps)
+            (are_near w block made sizes law image x z t fits assigns x_words has_parts.public.1 has_parts.zero_wires met_steps)
             (subst Honest (sym lines_are) (run_honest w image x aux t fits x_words aux_words)) assigns
-            (subst (λ l. HasFrom z (memory_at w made (length x) t) (memory_values net (checks_of image (length x) t) (log_of count) l)) (sym lines_are) has_parts.last);
+            (subst (λ l. HasFrom z (memory_at w made (length x) t) (memory_values net (checks_of image (length x) t) (log_of count) l))
+            (sym lines_are) has_parts.last);
       })
 
   -- as many values as wires
   many : length z ≡ (layout_of block w net image (length x) t (2 + length x)).next
   many =
-      let a = length-append (v ∷ x) (bits ++ (0 ∷ (blocks ++ lasts))) in
-      let b = length-append bits (0 ∷ (blocks ++ lasts)) in
+      let a = length-append (v ∷ x) (bits ++ (replicate STATE_WIRES 0 ++ (blocks ++ lasts))) in
+      let b = length-append bits (replicate STATE_WIRES 0 ++ (blocks ++ lasts)) in
       let c = length-append blocks lasts in
+      let d = length-append (replicate STATE_WIRES 0) (blocks ++ lasts) in
       let m = (memory_complete net).many (checks_of image (length x) t) (log_of count) (all_lines w image x aux t) in
-      let e = layout_next block made sizes w net image (length x) t (memory_made net (checks_of image (length x) t) (log_of count)) (λ at. (memory_complete net).next (checks_of image (length x) t) (log_of count) (lines_of block w image (length x) t) at) in
-      omega (arith, a, b, c, m, length-bits, length-blocks, e)
+      let e = layout_next block made sizes w net image (length x) t (memory_made net (checks_of image (length x) t) (log_of count))
+      (λ at. (memory_complete net).next (checks_of image (length x) t) (log_of count) (lines_of block w image (length x) t) at) in
+      omega (arith, a, b, c, d, m, length-bits, length-blocks, e)
 
   taken_is : taken_of block w image (length x) t z ≡ Reads w image x aux t
   taken_is =
       taken_of_is block w image (length x) t z
-      ∙ steps_take w block made sizes values law complete image x aux z (zero_wire_at w (length x)) (first_at w (length x)) t v (input w image x aux t fits x_words aux_words) assigns (early image (length x) t w fits) has_parts.zero_wire has_steps runs t (omega arith)
+      ∙ steps_take w block made sizes values law complete image x aux z (zero_wires_at w (length x)) (first_at w (length x)) t v
+      (input w image x aux t fits x_words aux_words) assigns (early image (length x) t w fits) has_parts.zero_wires has_steps runs t (omega arith)
 
   pub is_fill : IsFill w net block image x aux t v z
   is_fill = record {

@@ -4,12 +4,13 @@ pub mod CheckSums
 pub mod Checked
 pub mod Ends
 pub mod Fill
-pub mod ItemTerms
+pub mod FirstState
 pub mod Limits
 pub mod LineKinds
 pub mod LinePlaces
 pub mod Machine
 pub mod MemoryCosts
+pub mod NormalLaws
 pub mod NumberPlaces
 pub mod PartCosts
 pub mod Positions

@@ -1,5 +1,6 @@
 -- A line of a system by its place, and what it is made of.
-use Rattle.std.proofs.Common.{◌≡◌, ℕ, zero, suc, ◌+◌, ◌-◌, ◌*◌, ◌/◌, ◌%◌, ◌<◌, ◌≤◌, ◌^◌, List, [], ◌∷◌, ◌++◌, length, map, All, inl, inr, refl, sym, ap, ap₂, ◌∙◌, arith, subst, add-zero, get_or}
+use Rattle.std.proofs.Common.{◌≡◌, ℕ, zero, suc, ◌+◌, ◌-◌, ◌*◌, ◌/◌, ◌%◌, ◌<◌, ◌≤◌, ◌^◌, List, [], ◌∷◌, ◌++◌, length, map, All, inl, inr, refl, sym, ap, ap₂}
+use Rattle.std.proofs.Common.{◌∙◌, arith, subst, add-zero, get_or}
 use Rattle.std.specs.List.{range_with_len}
 use Rattle.std.specs.Prelude.{slice_index}
 use Rattle.std.proofs.Math.Nat.{mul-le-mul_right}
@@ -27,11 +28,12 @@ use Rattle.tv_word.specs.Widths.{IsWidth}
 use Rattle.tv_layout.proofs.Positions.{steps_next, log_above}
 use Rattle.tv_layout.proofs.Sized.{step_sized}
 use Rattle.tv_layout.specs.Layout.{steps_of, state_at, block_at, line_of_word, boot_wires, boot_lines_of, padding_of, lines_of}
-use Rattle.tv_layout.specs.Places.{WithinLimits, boot_count, line_count, log_of, tape_at, zero_wire_at, first_at}
-use Rattle.tv_layout.specs.Told.{state_before}
+use Rattle.tv_layout.specs.Places.{WithinLimits, boot_count, line_count, log_of, tape_at, zero_wires_at, first_at}
+use Rattle.tv_layout.specs.StateBefore.{state_before}
 
 -- ---- lines that no step makes
-boot_wires_at : (cell time : ℕ) (words : List Combination) (i : ℕ) → i < length words → line_in (boot_wires cell time words) i ≡ line_of_word (cell + i) (time + i) (get_or words i [])
+boot_wires_at : (cell time : ℕ) (words : List Combination) (i : ℕ) → i < length words
+    → line_in (boot_wires cell time words) i ≡ line_of_word (cell + i) (time + i) (get_or words i [])
 boot_wires_at cell time [] i h = absurd (omega arith)
 boot_wires_at cell time (word ∷ words) zero h = rw (add-zero cell, add-zero time) refl
 boot_wires_at cell time (word ∷ words) (suc i) h =
@@ -53,18 +55,21 @@ length-padding_of time zero = refl
 length-padding_of time (suc more) = ap suc (length-padding_of (time + 1) more)
 
 -- ---- the steps
-module _ (w : ℕ) (width : IsWidth w) (n time zero_wire first : ℕ) where
-  state_is : (i : ℕ) → state_at (block_of w) n time zero_wire first i ≡ state_before w zero_wire first i
+module _ (w : ℕ) (width : IsWidth w) (n time zero_wires first : ℕ) where
+  pub state_is : (i : ℕ) → state_at (block_of w) n time zero_wires first i ≡ state_before w zero_wires first i
   unfolding steps_of turns pure ◌>>=◌
   state_is zero = refl
   state_is (suc i) =
-      ap (λ (b : Block). b.next) (block_places.answer w width n (steps_of (block_of w) n time i zero_wire first).answer.next (time + 3 * i) (steps_of (block_of w) n time i zero_wire first).next)
-      ∙ ap (next_state w) (steps_next (block_of w) (block_made w) (step_sized w width) n time i zero_wire first)
+      ap (λ (b : Block). b.next) (block_places.answer w width n (steps_of (block_of w) n time i zero_wires first).answer.next (time + 3 * i)
+      (steps_of (block_of w) n time i zero_wires first).next)
+      ∙ ap (next_state w) (steps_next (block_of w) (block_made w) (step_sized w width) n time i zero_wires first)
 
-  pub block_is : (i : ℕ) → block_at (block_of w) n time zero_wire first i ≡ block_wires w (state_before w zero_wire first i) (time + 3 * i) (first + i * block_made w)
+  pub block_is : (i : ℕ) → block_at (block_of w) n time zero_wires first i
+      ≡ block_wires w (state_before w zero_wires first i) (time + 3 * i) (first + i * block_made w)
   block_is i =
-      block_places.answer w width n (state_at (block_of w) n time zero_wire first i) (time + 3 * i) (steps_of (block_of w) n time i zero_wire first).next
-      ∙ ap₂ (λ (s : StateWires) (at : ℕ). block_wires w s (time + 3 * i) at) (state_is i) (steps_next (block_of w) (block_made w) (step_sized w width) n time i zero_wire first)
+      block_places.answer w width n (state_at (block_of w) n time zero_wires first i) (time + 3 * i) (steps_of (block_of w) n time i zero_wires first).next
+      ∙ ap₂ (λ (s : StateWires) (at : ℕ). block_wires w s (time + 3 * i) at) (state_is i)
+      (steps_next (block_of w) (block_made w) (step_sized w width) n time i zero_wires first)
 
 -- three lines each, one after another
 module _ (f : ℕ → List LineLc) (three : (i : ℕ) → length (f i) ≡ 3) where
@@ -87,7 +92,7 @@ module _ (w : ℕ) (image : List ℕ) (n t : ℕ) (fits : WithinLimits w image n
   all_lines = lines_of (block_of w) w image n t
 
   abbrev blocks : ℕ → List LineLc
-  blocks j = (block_at (block_of w) n (boot_count image n) (zero_wire_at w n) (first_at w n) j).lines
+  blocks j = (block_at (block_of w) n (boot_count image n) (zero_wires_at w n) (first_at w n) j).lines
 
   abbrev stepped : List LineLc
   stepped = joined_below t blocks
@@ -96,7 +101,7 @@ module _ (w : ℕ) (image : List ℕ) (n t : ℕ) (fits : WithinLimits w image n
   tape = boot_wires TAPE_CELLS (length image) (map wire (range_with_len tape_at n))
 
   three : (j : ℕ) → length (blocks j) ≡ 3
-  three j = ap (λ (b : Block). length b.lines) (block_is w fits.width n (boot_count image n) (zero_wire_at w n) (first_at w n) j)
+  three j = ap (λ (b : Block). length b.lines) (block_is w fits.width n (boot_count image n) (zero_wires_at w n) (first_at w n) j)
 
   few : line_count image n t ≤ 2 ^ 20
   few = omega (arith, fits.image_fits, fits.tape_fits, fits.steps_fit)
@@ -138,7 +143,8 @@ module _ (w : ℕ) (image : List ℕ) (n t : ℕ) (fits : WithinLimits w image n
         ∙ boot_wires_at 0 0 (map constant image) i (omega arith)
         ∙ ap₂ (λ (k : ℕ) (word : Combination). line_of_word k k word) (omega arith) (get_or-map constant image i 0 [] h)
 
-    pub in_tape : length image ≤ i → i < boot_count image n → line_in all_lines i ≡ line_of_word (TAPE_CELLS + (i - length image)) i (wire (tape_at + (i - length image)))
+    pub in_tape : length image ≤ i → i < boot_count image n
+        → line_in all_lines i ≡ line_of_word (TAPE_CELLS + (i - length image)) i (wire (tape_at + (i - length image)))
     unfolding lines_of
     in_tape above h =
         let b = length-boot in
@@ -149,17 +155,20 @@ module _ (w : ℕ) (image : List ℕ) (n t : ℕ) (fits : WithinLimits w image n
         ∙ get_or_append_left (boot_lines_of image n) stepped no_line i (omega arith)
         ∙ get_or-append_right (boot_wires 0 0 (map constant image)) tape (length image) i no_line length-written above
         ∙ boot_wires_at TAPE_CELLS (length image) (map wire (range_with_len tape_at n)) k (omega (arith, length-map-range_with_len wire tape_at n))
-        ∙ ap₂ (λ (at : ℕ) (word : Combination). line_of_word (TAPE_CELLS + k) at word) z (get_or-map-range_with_len wire tape_at n k (tape_at + k) [] (omega arith) refl)
+        ∙ ap₂ (λ (at : ℕ) (word : Combination). line_of_word (TAPE_CELLS + k) at word) z
+        (get_or-map-range_with_len wire tape_at n k (tape_at + k) [] (omega arith) refl)
 
     pub in_steps : boot_count image n ≤ i → i < line_count image n t
-        → line_in all_lines i ≡ line_in (block_wires w (state_before w (zero_wire_at w n) (first_at w n) ((i - boot_count image n) / 3)) (boot_count image n + 3 * ((i - boot_count image n) / 3)) (first_at w n + (i - boot_count image n) / 3 * block_made w)).lines ((i - boot_count image n) % 3)
+        → line_in all_lines i ≡ line_in (block_wires w (state_before w (zero_wires_at w n) (first_at w n) ((i - boot_count image n) / 3))
+        (boot_count image n + 3 * ((i - boot_count image n) / 3)) (first_at w n + (i - boot_count image n) / 3 * block_made w)).lines
+        ((i - boot_count image n) % 3)
     unfolding lines_of
     in_steps above h =
         let j : ℕ = i - boot_count image n in
         get_or_append_left (boot_lines_of image n ++ stepped) _ no_line i (omega (arith, length-front))
         ∙ get_or-append_right (boot_lines_of image n) stepped (boot_count image n) i no_line length-boot above
         ∙ thirds blocks three t j (omega arith)
-        ∙ ap (λ (b : Block). line_in b.lines (j % 3)) (block_is w fits.width n (boot_count image n) (zero_wire_at w n) (first_at w n) (j / 3))
+        ∙ ap (λ (b : Block). line_in b.lines (j % 3)) (block_is w fits.width n (boot_count image n) (zero_wires_at w n) (first_at w n) (j / 3))
 
     pub in_padding : line_count image n t ≤ i → i < 2 ^ log_of (line_count image n t) → line_in all_lines i ≡ line_of_word NULL_CELL i []
     unfolding lines_of
@@ -183,7 +192,8 @@ word_made wires cell time word some h short = record {
   new_short = short;
 }
 
-short_made : (wires : ℕ) (line : LineLc) → IsShort line → top line.cell ≤ wires → top line.time ≤ wires → top line.old ≤ wires → top line.new ≤ wires → IsMade wires line
+short_made : (wires : ℕ) (line : LineLc) → IsShort line → top line.cell ≤ wires → top line.time ≤ wires → top line.old ≤ wires → top line.new ≤ wires
+    → IsMade wires line
 short_made wires line short cell time old new = record {
   cell = cell;
   time = time;
@@ -206,30 +216,35 @@ block_line_made w width state time at wires pc end k h =
     short_made wires (line_in (block_wires w state time at).lines k) short
     (omega (arith, under.cell, end)) (omega (arith, under.time, end)) (omega (arith, under.old, end)) (omega (arith, under.new, end))
 
-pc_before : (w : ℕ) (width : IsWidth w) (zero_wire first i : ℕ) → zero_wire < first → (state_before w zero_wire first i).pc < first + i * block_made w
-pc_before w width zero_wire first zero h = omega arith
-pc_before w width zero_wire first (suc i) h = omega (arith, block_places.after w width (first + i * block_made w))
+pc_before : (w : ℕ) (width : IsWidth w) (zero_wires first i : ℕ) → zero_wires < first → (state_before w zero_wires first i).pc < first + i * block_made w
+pc_before w width zero_wires first zero h = omega arith
+pc_before w width zero_wires first (suc i) h = omega (arith, block_places.after w width (first + i * block_made w))
 
 module _ (w : ℕ) (image : List ℕ) (n t : ℕ) (fits : WithinLimits w image n t) where
   abbrev made : ℕ → Type 0
   made i = IsMade (first_at w n + t * block_made w) (line_in (lines_of (block_of w) w image n t) i)
 
   step_made : (j : ℕ) → j < t * 3
-      → IsMade (first_at w n + t * block_made w) (line_in (block_wires w (state_before w (zero_wire_at w n) (first_at w n) (j / 3)) (boot_count image n + 3 * (j / 3)) (first_at w n + j / 3 * block_made w)).lines (j % 3))
+      → IsMade (first_at w n + t * block_made w)
+      (line_in (block_wires w (state_before w (zero_wires_at w n) (first_at w n) (j / 3)) (boot_count image n + 3 * (j / 3))
+      (first_at w n + j / 3 * block_made w)).lines (j % 3))
   step_made j h =
       let q : ℕ = j / 3 in
       let after : q + 1 ≤ t = omega arith in
-      block_line_made w fits.width (state_before w (zero_wire_at w n) (first_at w n) q) (boot_count image n + 3 * q) (first_at w n + q * block_made w) (first_at w n + t * block_made w)
-      (pc_before w fits.width (zero_wire_at w n) (first_at w n) q (omega arith)) (more (first_at w n) q t (block_made w) after) (j % 3) (omega arith)
+      block_line_made w fits.width (state_before w (zero_wires_at w n) (first_at w n) q) (boot_count image n + 3 * q) (first_at w n + q * block_made w)
+      (first_at w n + t * block_made w)
+      (pc_before w fits.width (zero_wires_at w n) (first_at w n) q (omega arith)) (more (first_at w n) q t (block_made w) after) (j % 3) (omega arith)
     where
       more : (first q t made : ℕ) → q + 1 ≤ t → first + q * made + made ≤ first + t * made
       more first q t made h = let p : (q + 1) * made ≤ t * made = mul-le-mul_right made h in omega arith
 
   pub line_made : (i : ℕ) → i < 2 ^ log_of (line_count image n t) → made i
   line_made i h = elim (cases_lt i (length image)) [
-    | inl here ↦ subst (IsMade _) (sym (in_image w image n t fits i here)) (word_made _ i i (constant (slice_index image i)) (omega arith) (omega arith) (omega arith))
+    | inl here ↦ subst (IsMade _) (sym (in_image w image n t fits i here))
+        (word_made _ i i (constant (slice_index image i)) (omega arith) (omega arith) (omega arith))
     | inr behind ↦ elim (cases_lt i (boot_count image n)) [
-      | inl here ↦ subst (IsMade _) (sym (in_tape w image n t fits i behind here)) (word_made _ (TAPE_CELLS + (i - length image)) i (wire (tape_at + (i - length image))) (omega arith) (omega arith) (omega arith))
+      | inl here ↦ subst (IsMade _) (sym (in_tape w image n t fits i behind here))
+          (word_made _ (TAPE_CELLS + (i - length image)) i (wire (tape_at + (i - length image))) (omega arith) (omega arith) (omega arith))
       | inr later ↦ elim (cases_lt i (line_count image n t)) [
         | inl here ↦ subst (IsMade _) (sym (in_steps w image n t fits i later here)) (step_made (i - boot_count image n) (omega arith))
         | inr last ↦ subst (IsMade _) (sym (in_padding w image n t fits i last h)) (word_made _ NULL_CELL i [] (omega arith) (omega arith) (omega arith))

@@ -1,5 +1,6 @@
 -- All lines of a system in numbers, by their places.
-use Rattle.std.proofs.Common.{◌≡◌, ℕ, zero, suc, ◌+◌, ◌-◌, ◌*◌, ◌/◌, ◌%◌, ◌<◌, ◌≤◌, List, [], ◌∷◌, ◌++◌, length, inl, inr, refl, sym, ap, ap₂, ◌∙◌, arith, subst, add-zero, zero-add}
+use Rattle.std.proofs.Common.{◌≡◌, ℕ, zero, suc, ◌+◌, ◌-◌, ◌*◌, ◌/◌, ◌%◌, ◌<◌, ◌≤◌, List, [], ◌∷◌, ◌++◌, length, inl, inr, refl, sym, ap, ap₂, ◌∙◌, arith}
+use Rattle.std.proofs.Common.{subst, add-zero, zero-add}
 use Rattle.std.proofs.lemmas.Bool.{cases_lt}
 use Rattle.std.proofs.lemmas.List.{length-append, get_or_append_left, get_or-append_right}
 use Rattle.std.specs.Prelude.{slice_index}
@@ -17,7 +18,8 @@ use Rattle.tv_layout.specs.Sound.{padding}
 abbrev pub written_at : ℕ → ℕ → ℕ → Line
 written_at cell time word = record { cell = cell; time = time; old = 0; new = word }
 
-pub boot_from_at : (cell time : ℕ) (words : List ℕ) (i : ℕ) → i < length words → number_in (boot_from cell time words) i ≡ written_at (cell + i) (time + i) (slice_index words i)
+pub boot_from_at : (cell time : ℕ) (words : List ℕ) (i : ℕ) → i < length words
+    → number_in (boot_from cell time words) i ≡ written_at (cell + i) (time + i) (slice_index words i)
 boot_from_at cell time [] i h = absurd (omega arith)
 boot_from_at cell time (v ∷ vs) zero h = rw (add-zero cell, add-zero time) refl
 boot_from_at cell time (v ∷ vs) (suc i) h =
@@ -66,7 +68,8 @@ module _ (image x : List ℕ) (t : ℕ) (f : ℕ → List Line) (three : (i : �
       let e : length image + i - length image ≡ i = omega arith in
       get_or_append_left front _ zero_line (length image + i) (omega (arith, long-front))
       ∙ get_or_append_left (boot_lines image x) (joined_below t f) zero_line (length image + i) (omega (arith, length-boot_lines image x))
-      ∙ get_or-append_right (boot_from 0 0 image) (boot_from TAPE_CELLS (length image) x) (length image) (length image + i) zero_line (length-boot_from 0 0 image) (omega arith)
+      ∙ get_or-append_right (boot_from 0 0 image) (boot_from TAPE_CELLS (length image) x) (length image) (length image + i) zero_line
+      (length-boot_from 0 0 image) (omega arith)
       ∙ ap (number_in (boot_from TAPE_CELLS (length image) x)) e
       ∙ boot_from_at TAPE_CELLS (length image) x i h
 
@@ -105,7 +108,8 @@ module _ (image x : List ℕ) (t : ℕ) (f : ℕ → List Line) (three : (i : �
       | inl here ↦
           let e : length image + (i - length image) ≡ i = omega arith in
           let tape : i - length image < length x = omega (arith, past, here) in
-          subst (λ p. Q p (number_in all p)) e (subst (Q (length image + (i - length image))) (sym (at_tape (i - length image) tape)) (on_tape (i - length image) tape))
+          subst (λ p. Q p (number_in all p)) e (subst (Q (length image + (i - length image))) (sym (at_tape (i - length image) tape))
+          (on_tape (i - length image) tape))
       | inr later ↦
           let j : ℕ = (i - boot) / 3 in
           let r : ℕ = (i - boot) % 3 in

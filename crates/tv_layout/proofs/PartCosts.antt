@@ -21,10 +21,11 @@ use Rattle.tv_word.specs.Widths.{IsWidth}
 use Rattle.tv_layout.proofs.Positions.{layout_list, memory_at}
 use Rattle.tv_layout.proofs.Sized.{step_sized}
 use Rattle.tv_layout.specs.Checks.{checks_of}
-use Rattle.tv_layout.specs.Layout.{word_of, words_of, zero_wire_of, step_of, steps_of, tie_of, before_steps, lines_of, layout_of}
-use Rattle.tv_layout.specs.Places.{boot_count, line_count, log_of, tape_at, zero_wire_at, first_at}
+use Rattle.tv_layout.specs.Layout.{word_of, words_of, zero_wire_of, zero_wires_of, step_of, steps_of, tie_of, before_steps, lines_of, layout_of}
+use Rattle.tv_layout.specs.Places.{boot_count, line_count, log_of, tape_at, zero_wires_at, first_at}
+use Rattle.tv_layout.specs.declared.places.TheConstants.{STATE_WIRES}
 
--- ---- words, the wire that is held to 0, and the end
+-- ---- words, the wires that are held to 0, and the end
 word_count : (w : ℕ) → IsWidth w → (first i next : ℕ) → length (word_of w first i next).list ≡ w + 1
 unfolding weighted pure here fresh put ◌>>=◌ turns bit_of new_bit new_bits_of bits_of each_below
 word_count w width first i next = for_widths (λ w. length (word_of w first i next).list ≡ w + 1) refl refl w width
@@ -33,13 +34,13 @@ word_terms : (w : ℕ) → IsWidth w → (first i next : ℕ) → terms_in (word
 unfolding weighted pure here fresh put ◌>>=◌ turns bit_of new_bit new_bits_of bits_of each_below
 word_terms w width first i next = for_widths (λ w. terms_in (word_of w first i next).list ≡ 4 * w + 2) refl refl w width
 
-none_count : (next : ℕ) → length (zero_wire_of next).list ≡ 1
-unfolding zero_wire_of pure fresh put ◌>>=◌
-none_count next = refl
+zeros_count : (next : ℕ) → length (zero_wires_of next).list ≡ STATE_WIRES
+unfolding zero_wires_of zero_wire_of pure here fresh put ◌>>=◌ turns
+zeros_count next = refl
 
-none_terms : (next : ℕ) → terms_in (zero_wire_of next).list ≡ 2
-unfolding zero_wire_of pure fresh put ◌>>=◌
-none_terms next = refl
+zeros_terms : (next : ℕ) → terms_in (zero_wires_of next).list ≡ 2 * STATE_WIRES
+unfolding zero_wires_of zero_wire_of pure here fresh put ◌>>=◌ turns
+zeros_terms next = refl
 
 tie_count : (last : Reached) (next : ℕ) → length (tie_of last next).list ≡ 2
 unfolding tie_of pure put ◌>>=◌
@@ -50,53 +51,57 @@ unfolding tie_of pure put ◌>>=◌
 tie_terms last next = refl
 
 -- ---- the whole
-record Parts (m : List Constraint → ℕ) (w word zero_wire step tie : ℕ) : Type 0 where
+record Parts (m : List Constraint → ℕ) (w n word start step tie : ℕ) : Type 0 where
   words : (first i next : ℕ) → m (word_of w first i next).list ≡ word
-  zero : (next : ℕ) → m (zero_wire_of next).list ≡ zero_wire
-  steps : (n : ℕ) (state : StateWires) (time next : ℕ) → m (block_of w n state time next).list ≡ step
+  zero_wires : (next : ℕ) → m (zero_wires_of next).list ≡ start
+  steps : (state : StateWires) (time next : ℕ) → m (block_of w n state time next).list ≡ step
   ties : (last : Reached) (next : ℕ) → m (tie_of last next).list ≡ tie
 
-module _ (m : List Constraint → ℕ) (law : IsMeasure m) (w : ℕ) (width : IsWidth w) (word zero_wire step tie : ℕ) (parts : Parts m w word zero_wire step tie) where
-  steps_cost : (n time t zero next : ℕ) → m (steps_of (block_of w) n time t zero next).list ≡ t * step
+module _ (m : List Constraint → ℕ) (law : IsMeasure m) (w : ℕ) (width : IsWidth w) (n word start step tie : ℕ) (parts : Parts m w n word start step tie) where
+  steps_cost : (time t zero_wires next : ℕ) → m (steps_of (block_of w) n time t zero_wires next).list ≡ t * step
   unfolding steps_of pure ◌>>=◌
-  steps_cost n time t zero next =
-      same_turns m law (step_of (block_of w) n time) (before_steps zero) next step t
-      (λ i last at. ap m (append-nil (block_of w n last.next (time + 3 * i) at).list) ∙ parts.steps n last.next (time + 3 * i) at)
+  steps_cost time t zero_wires next =
+      same_turns m law (step_of (block_of w) n time) (before_steps zero_wires) next step t
+      (λ i inside last at. ap m (append-nil (block_of w n last.next (time + 3 * i) at).list) ∙ parts.steps last.next (time + 3 * i) at)
 
-  words_cost : (first n next : ℕ) → m (words_of w first n next).list ≡ n * word
+  words_cost : (first next : ℕ) → m (words_of w first n next).list ≡ n * word
   unfolding words_of
-  words_cost first n next = same_turns m law (λ i _. word_of w first i) tt next word n (λ i a at. parts.words first i at)
+  words_cost first next = same_turns m law (λ i _. word_of w first i) tt next word n (λ i inside a at. parts.words first i at)
 
-  layout_cost : (net : Net) (image : List ℕ) (n t memory : ℕ)
-      → ((at : ℕ) → m (memory_of net (checks_of image n t) (log_of (line_count image n t)) (lines_of (block_of w) w image n t) at).list ≡ memory)
-      → m (layout_of (block_of w) w net image n t (2 + n)).list ≡ n * word + zero_wire + t * step + tie + memory
-  layout_cost net image n t memory is =
+  layout_cost : (net : Net) (image : List ℕ) (t memory : ℕ)
+      → m (memory_of net (checks_of image n t) (log_of (line_count image n t)) (lines_of (block_of w) w image n t) (memory_at w (block_made w) n t)).list
+      ≡ memory
+      → m (layout_of (block_of w) w net image n t (2 + n)).list ≡ n * word + start + t * step + tie + memory
+  layout_cost net image t memory is =
       let words = (words_of w tape_at n (2 + n)).list in
-      let none = (zero_wire_of (zero_wire_at w n)).list in
-      let steps = (steps_of (block_of w) n (boot_count image n) t (zero_wire_at w n) (first_at w n)).list in
-      let last = (steps_of (block_of w) n (boot_count image n) t (zero_wire_at w n) (first_at w n)).answer in
+      let none = (zero_wires_of (zero_wires_at w n)).list in
+      let steps = (steps_of (block_of w) n (boot_count image n) t (zero_wires_at w n) (first_at w n)).list in
+      let last = (steps_of (block_of w) n (boot_count image n) t (zero_wires_at w n) (first_at w n)).answer in
       let end = (tie_of last (memory_at w (block_made w) n t)).list in
-      let rest = (memory_of net (checks_of image n t) (log_of (line_count image n t)) (lines_of (block_of w) w image n t) (memory_at w (block_made w) n t)).list in
+      let rest = (memory_of net (checks_of image n t) (log_of (line_count image n t)) (lines_of (block_of w) w image n t)
+      (memory_at w (block_made w) n t)).list in
       ap m (layout_list (block_of w) (block_made w) (step_sized w width) w net image n t)
-      ∙ law.adds words (none ++ (steps ++ (end ++ rest))) ∙ ap₂ (λ a b. a + b) (words_cost tape_at n (2 + n))
-      (law.adds none (steps ++ (end ++ rest)) ∙ ap₂ (λ a b. a + b) (parts.zero (zero_wire_at w n))
-      (law.adds steps (end ++ rest) ∙ ap₂ (λ a b. a + b) (steps_cost n (boot_count image n) t (zero_wire_at w n) (first_at w n))
-      (law.adds end rest ∙ ap₂ (λ a b. a + b) (parts.ties last (memory_at w (block_made w) n t)) (is (memory_at w (block_made w) n t)))))
-      ∙ regroup (n * word) zero_wire (t * step) tie memory
+      ∙ law.adds words (none ++ (steps ++ (end ++ rest))) ∙ ap₂ (λ a b. a + b) (words_cost tape_at (2 + n))
+      (law.adds none (steps ++ (end ++ rest)) ∙ ap₂ (λ a b. a + b) (parts.zero_wires (zero_wires_at w n))
+      (law.adds steps (end ++ rest) ∙ ap₂ (λ a b. a + b) (steps_cost (boot_count image n) t (zero_wires_at w n) (first_at w n))
+      (law.adds end rest ∙ ap₂ (λ a b. a + b) (parts.ties last (memory_at w (block_made w) n t)) is)))
+      ∙ regroup (n * word) start (t * step) tie memory
     where
       regroup : (a b c d e : ℕ) → a + (b + (c + (d + e))) ≡ a + b + c + d + e
       regroup a b c d e = omega arith
 
 -- ---- in constraints and in terms
 module _ (w : ℕ) (width : IsWidth w) (net : Net) (image : List ℕ) (n t memory : ℕ) where
-  pub layout_count : ((at : ℕ) → length (memory_of net (checks_of image n t) (log_of (line_count image n t)) (lines_of (block_of w) w image n t) at).list ≡ memory)
-      → length (layout_of (block_of w) w net image n t (2 + n)).list ≡ n * (w + 1) + 1 + t * block_added w + 2 + memory
+  pub layout_count : length (memory_of net (checks_of image n t) (log_of (line_count image n t)) (lines_of (block_of w) w image n t)
+      (memory_at w (block_made w) n t)).list ≡ memory
+      → length (layout_of (block_of w) w net image n t (2 + n)).list ≡ n * (w + 1) + STATE_WIRES + t * block_added w + 2 + memory
   layout_count is =
-      layout_cost length lengths w width (w + 1) 1 (block_added w) 2
-      (record { words = word_count w width; zero = none_count; steps = block_counted.constraints w width; ties = tie_count }) net image n t memory is
+      layout_cost length lengths w width n (w + 1) STATE_WIRES (block_added w) 2
+      (record { words = word_count w width; zero_wires = zeros_count; steps = block_counted.constraints w width n; ties = tie_count }) net image t memory is
 
-  pub layout_terms : ((at : ℕ) → terms_in (memory_of net (checks_of image n t) (log_of (line_count image n t)) (lines_of (block_of w) w image n t) at).list ≡ memory)
-      → terms_in (layout_of (block_of w) w net image n t (2 + n)).list ≡ n * (4 * w + 2) + 2 + t * block_terms w + 6 + memory
+  pub layout_terms : terms_in (memory_of net (checks_of image n t) (log_of (line_count image n t)) (lines_of (block_of w) w image n t)
+      (memory_at w (block_made w) n t)).list ≡ memory
+      → terms_in (layout_of (block_of w) w net image n t (2 + n)).list ≡ n * (4 * w + 2) + 2 * STATE_WIRES + t * block_terms w n + 6 + memory
   layout_terms is =
-      layout_cost terms_in terms w width (4 * w + 2) 2 (block_terms w) 6
-      (record { words = word_terms w width; zero = none_terms; steps = block_counted.terms w width; ties = tie_terms }) net image n t memory is
+      layout_cost terms_in terms w width n (4 * w + 2) (2 * STATE_WIRES) (block_terms w n) 6
+      (record { words = word_terms w width; zero_wires = zeros_terms; steps = block_counted.terms w width n; ties = tie_terms }) net image t memory is

@@ -1,20 +1,21 @@
 -- Where the parts of a system begin, and what an assignment meets of each.
-use Rattle.std.proofs.Common.{◌≡◌, ℕ, zero, suc, ◌+◌, ◌*◌, ◌≤◌, ◌^◌, true, false, List, ◌++◌, refl, arith, inl, inr}
+use Rattle.std.proofs.Common.{◌≡◌, ℕ, zero, suc, ◌+◌, ◌*◌, ◌≤◌, ◌^◌, true, false, List, ◌++◌, refl, ◌∙◌, arith, inl, inr}
 use Rattle.std.proofs.lemmas.Bool.Decides.{leb_tells}
 use Rattle.std.specs.Prelude.{nat_le}
 use Rattle.tv_benes.specs.declared.shape.Net.{Net}
 use Rattle.tv_bits.proofs.SpellingLaws.{bits_next}
 use Rattle.tv_core.proofs.LoopLaws.{turns-next}
 use Rattle.tv_core.proofs.Meeting.{Meets-split, Meets-join}
-use Rattle.tv_core.specs.Circuits.{fresh, put, pure, turns, ◌>>=◌}
+use Rattle.tv_core.specs.Circuits.{fresh, here, put, pure, turns, ◌>>=◌}
 use Rattle.tv_core.specs.Combinations.{wire}
 use Rattle.tv_core.specs.Laws.{Meets}
 use Rattle.tv_memory.specs.Memory.{memory_of}
 use Rattle.tv_layout.proofs.Blocks.{BlockSizes}
 use Rattle.tv_layout.specs.Blocks.{BlockCircuit}
 use Rattle.tv_layout.specs.Checks.{checks_of}
-use Rattle.tv_layout.specs.Layout.{word_of, words_of, zero_wire_of, tie_of, step_of, steps_of, before_steps, lines_of, layout_of}
-use Rattle.tv_layout.specs.Places.{log_from, log_of, boot_count, line_count, tape_at, zero_wire_at, first_at}
+use Rattle.tv_layout.specs.Layout.{word_of, words_of, zero_wire_of, zero_wires_of, tie_of, step_of, steps_of, before_steps, lines_of, layout_of}
+use Rattle.tv_layout.specs.Places.{log_from, log_of, boot_count, line_count, tape_at, zero_wires_at, first_at}
+use Rattle.tv_layout.specs.declared.places.TheConstants.{STATE_WIRES}
 use Rattle.tv_block.specs.declared.records.Reached.{Reached}
 
 -- where the wires of the memory argument begin, each step making so many
@@ -32,34 +33,48 @@ pub words_next : (w first n next : ℕ) → (words_of w first n next).next ≡ n
 unfolding words_of
 words_next w first n next = words_turn w first n next
 
+pub zeros_turn : (next n : ℕ) → (turns n (λ _ _. zero_wire_of) tt next).next ≡ next + n
+unfolding zero_wire_of fresh put ◌>>=◌
+zeros_turn next n = turns-next (λ _ _. zero_wire_of) tt next 1 n (λ i a at. refl) ∙ omega arith
+
+pub zero_wires_next : (next : ℕ) → (zero_wires_of next).next ≡ next + STATE_WIRES
+unfolding zero_wires_of here pure ◌>>=◌
+zero_wires_next next = zeros_turn next STATE_WIRES
+
+pub zero_wires_answer : (next : ℕ) → (zero_wires_of next).answer ≡ next
+unfolding zero_wires_of here pure ◌>>=◌
+zero_wires_answer next = refl
+
 module _ (block : BlockCircuit) (made : ℕ) (sizes : BlockSizes block made) where
   step_next : (n time i : ℕ) (last : Reached) (at : ℕ) → (step_of block n time i last at).next ≡ at + made
   unfolding pure ◌>>=◌
   step_next n time i last at = sizes.next n last.next (time + 3 * i) at
 
-  pub steps_next : (n time t zero_wire first : ℕ) → (steps_of block n time t zero_wire first).next ≡ first + t * made
+  pub steps_next : (n time t zero_wires first : ℕ) → (steps_of block n time t zero_wires first).next ≡ first + t * made
   unfolding steps_of
-  steps_next n time t zero_wire first = turns-next (step_of block n time) (before_steps zero_wire) first made t (step_next n time)
+  steps_next n time t zero_wires first = turns-next (step_of block n time) (before_steps zero_wires) first made t (step_next n time)
 
   module _ (w : ℕ) (net : Net) (image : List ℕ) (n t : ℕ) where
     -- what the steps lead to
     abbrev pub last_of : Reached
-    last_of = (steps_of block n (boot_count image n) t (zero_wire_at w n) (first_at w n)).answer
+    last_of = (steps_of block n (boot_count image n) t (zero_wires_at w n) (first_at w n)).answer
 
     -- the constraints of the system, part by part, each from its place on
     pub layout_list : (layout_of block w net image n t (2 + n)).list
         ≡ (words_of w tape_at n (2 + n)).list
-        ++ ((zero_wire_of (zero_wire_at w n)).list
-        ++ ((steps_of block n (boot_count image n) t (zero_wire_at w n) (first_at w n)).list
+        ++ ((zero_wires_of (zero_wires_at w n)).list
+        ++ ((steps_of block n (boot_count image n) t (zero_wires_at w n) (first_at w n)).list
         ++ ((tie_of last_of (memory_at w made n t)).list
         ++ (memory_of net (checks_of image n t) (log_of (line_count image n t)) (lines_of block w image n t) (memory_at w made n t)).list)))
-    unfolding layout_of zero_wire_of tie_of fresh put pure ◌>>=◌
-    layout_list = rw (words_next w tape_at n (2 + n)) (rw (steps_next n (boot_count image n) t (zero_wire_at w n) (first_at w n)) refl)
+    unfolding layout_of tie_of put ◌>>=◌
+    layout_list =
+        rw (words_next w tape_at n (2 + n)) (rw (zero_wires_next (zero_wires_at w n), zero_wires_answer (zero_wires_at w n))
+        (rw (steps_next n (boot_count image n) t (zero_wires_at w n) (first_at w n)) refl))
 
     pub record LayoutMet (z : List ℕ) : Type 0 where
       pub words : Meets z (words_of w tape_at n (2 + n)).list
-      pub zero_wire : Meets z (zero_wire_of (zero_wire_at w n)).list
-      pub steps : Meets z (steps_of block n (boot_count image n) t (zero_wire_at w n) (first_at w n)).list
+      pub zero_wires : Meets z (zero_wires_of (zero_wires_at w n)).list
+      pub steps : Meets z (steps_of block n (boot_count image n) t (zero_wires_at w n) (first_at w n)).list
       pub tie : Meets z (tie_of last_of (memory_at w made n t)).list
       pub honest : Meets z (memory_of net (checks_of image n t) (log_of (line_count image n t)) (lines_of block w image n t) (memory_at w made n t)).list
 
@@ -69,18 +84,20 @@ module _ (block : BlockCircuit) (made : ℕ) (sizes : BlockSizes block made) whe
         let b = Meets-split z _ _ a.1 in
         let c = Meets-split z _ _ b.1 in
         let d = Meets-split z _ _ c.1 in
-        record { words = a.0; zero_wire = b.0; steps = c.0; tie = d.0; honest = d.1 }
+        record { words = a.0; zero_wires = b.0; steps = c.0; tie = d.0; honest = d.1 }
 
     pub layout_meets : (z : List ℕ) → LayoutMet z → Meets z (layout_of block w net image n t (2 + n)).list
     layout_meets z m =
-        rw layout_list (Meets-join z _ _ m.words (Meets-join z _ _ m.zero_wire (Meets-join z _ _ m.steps (Meets-join z _ _ m.tie m.honest))))
+        rw layout_list (Meets-join z _ _ m.words (Meets-join z _ _ m.zero_wires (Meets-join z _ _ m.steps (Meets-join z _ _ m.tie m.honest))))
 
     -- where it ends
-    pub layout_next : (memory_made : ℕ) → ((at : ℕ) → (memory_of net (checks_of image n t) (log_of (line_count image n t)) (lines_of block w image n t) at).next ≡ at + memory_made)
+    pub layout_next : (memory_made : ℕ) → ((at : ℕ)
+        → (memory_of net (checks_of image n t) (log_of (line_count image n t)) (lines_of block w image n t) at).next ≡ at + memory_made)
         → (layout_of block w net image n t (2 + n)).next ≡ memory_at w made n t + memory_made
-    unfolding layout_of zero_wire_of tie_of fresh put pure ◌>>=◌
+    unfolding layout_of tie_of put ◌>>=◌
     layout_next memory_made ends =
-        rw (words_next w tape_at n (2 + n)) (rw (steps_next n (boot_count image n) t (zero_wire_at w n) (first_at w n)) (ends (memory_at w made n t)))
+        rw (words_next w tape_at n (2 + n)) (rw (zero_wires_next (zero_wires_at w n), zero_wires_answer (zero_wires_at w n))
+        (rw (steps_next n (boot_count image n) t (zero_wires_at w n) (first_at w n)) (ends (memory_at w made n t))))
 
 -- ---- the logarithm
 record IsLog (k count most : ℕ) : Type 0 where

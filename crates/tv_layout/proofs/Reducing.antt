@@ -33,11 +33,13 @@ words_by_places w z k n each = All-from_get_or (λ v. v < 2 ^ w) (take n (drop k
     let within : i < n = omega (arith, length-take n (drop k z)) in
     subst (λ v. v < 2 ^ w) (sym (get_or-take n (drop k z) i 0 within ∙ get_or-drop k z i 0)) (each i within))
 
-module _ (w : ℕ) (net : Net) (block : BlockCircuit) (made : ℕ) (values : BlockValues) (sizes : BlockSizes block made) (law : BlockIsSound w block) (complete : BlockIsComplete w block made values)
+module _ (w : ℕ) (net : Net) (block : BlockCircuit) (made : ℕ) (values : BlockValues) (sizes : BlockSizes block made) (law : BlockIsSound w block)
+    (complete : BlockIsComplete w block made values)
     (image : List ℕ) (n t : ℕ) (fits : WithinLimits w image n t) where
   runs : (z x : List ℕ) → length x ≡ n → HasFrom z 2 x → Sat (layout block w net image n t) z → IsRun w block image x t z
   runs z x e has sat =
-      layout_sound w net block made sizes law image x z t (subst (λ m. WithinLimits w image m t) (sym e) fits) has (subst (λ m. Sat (layout block w net image m t) z) (sym e) sat)
+      layout_sound w net block made sizes law image x z t (subst (λ m. WithinLimits w image m t) (sym e) fits) has
+      (subst (λ m. Sat (layout block w net image m t) z) (sym e) sat)
 
   only_run : (v : ℕ) (x : List ℕ) → length x ≡ n → HasSolution (layout block w net image n t) (v ∷ x) → HasShortRun w image x t v
   only_run v x e s =
@@ -51,7 +53,8 @@ module _ (w : ℕ) (net : Net) (block : BlockCircuit) (made : ℕ) (values : Blo
 
   where_run : (v : ℕ) (x : List ℕ) → AreWords w x → length x ≡ n → HasRun w image x t v → HasSolution (layout block w net image n t) (v ∷ x)
   where_run v x words e run =
-      let f = fill_complete w net block made values sizes law complete image x run.aux t v (subst (λ m. WithinLimits w image m t) (sym e) fits) words run.words run.accepts in
+      let f = fill_complete w net block made values sizes law complete image x run.aux t v
+      (subst (λ m. WithinLimits w image m t) (sym e) fits) words run.words run.accepts in
       subst (λ m. HasSolution (layout block w net image m t) (v ∷ x)) e (record { z = fill values w net image x run.aux t v; sat = f.sat; extends = f.extends })
 
   public_words : (z : List ℕ) → Sat (layout block w net image n t) z → AreWords w (take (1 + n) (drop 1 z))
@@ -64,7 +67,8 @@ module _ (w : ℕ) (net : Net) (block : BlockCircuit) (made : ℕ) (values : Blo
         | inl first ↦ let same : 1 + i ≡ 1 = omega arith in subst (λ k. slice_index z k < 2 ^ w) (sym same) run.answer
         | inr later ↦
             let same : 2 + (i - 1) ≡ 1 + i = omega arith in
-            subst (λ k. slice_index z k < 2 ^ w) same (subst (λ v. v < 2 ^ w) (sym (at_place z x 2 has (i - 1) (omega (arith, long)))) (word_at w fits.width x (i - 1) run.tape))
+            subst (λ k. slice_index z k < 2 ^ w) same
+            (subst (λ v. v < 2 ^ w) (sym (at_place z x 2 has (i - 1) (omega (arith, long)))) (word_at w fits.width x (i - 1) run.tape))
       ])
 
 -- the system of each program, tape's length and number of steps within the limits is one, over both networks

@@ -1,7 +1,6 @@
 -- How large a system is at most: its wires and constraints within the limits are numbers of 32 bits.
 use Rattle.std.proofs.Common.{◌≡◌, ℕ, suc, ◌+◌, ◌-◌, ◌*◌, ◌<◌, ◌≤◌, ◌^◌, List, length, ap, ◌∙◌, arith}
 use Rattle.std.proofs.Math.Nat.{mul-le-mul, mul-le-mul_left, pow-le-pow_right}
-use Rattle.std.proofs.lemmas.Nat.{pow_pos}
 use Rattle.tv_benes.proofs.Most.{switches_most, network_few}
 use Rattle.tv_benes.specs.Through.{switches}
 use Rattle.tv_benes.specs.declared.shape.Net.{Net}
@@ -18,6 +17,7 @@ use Rattle.tv_layout.proofs.Positions.{log_above, log_within, log_some}
 use Rattle.tv_layout.specs.Checks.{checks_of}
 use Rattle.tv_layout.specs.Places.{WithinLimits, line_count, log_of}
 use Rattle.tv_layout.specs.Sizes.{memory_wires, memory_constraints, system_made, system_added, network_most, size_most}
+use Rattle.tv_layout.specs.declared.places.TheConstants.{STATE_WIRES}
 
 -- ---- the network
 pub made_few : (net : Net) (k : ℕ) → network_made net k ≤ 5 * switches net (k - 1)
@@ -73,19 +73,22 @@ module _ (w : ℕ) (net : Net) (image : List ℕ) (n t : ℕ) (fits : WithinLimi
       let same : suc (k - 1) ≡ k = omega (arith, some) in
       network_is net (k - 1) ∙ ap (network_most net) same
 
-  memory_few : memory_wires w net image n t ≤ 5 * switches net (k - 1) + 2 ^ k * 2 ^ 6
-  memory_few = let sum = checks_cheap.few_made (checks_of image n t) (2 ^ k) (checks_short w image n t fits) in omega (arith, sum, wires_are w image n t fits net, made_few net k)
+  memory_few : memory_wires net image n t ≤ 5 * switches net (k - 1) + 2 ^ k * 2 ^ 6
+  memory_few = let sum = checks_cheap.few_made (checks_of image n t) (2 ^ k) (checks_short w image n t fits) in
+      omega (arith, sum, wires_are net image n t, made_few net k)
 
-  constraints_few : memory_constraints w net image n t ≤ 5 * switches net (k - 1) + 2 ^ k * 2 ^ 6
-  constraints_few = let sum = checks_cheap.few_added (checks_of image n t) (2 ^ k) (checks_short w image n t fits) in omega (arith, sum, constraints_are w image n t fits net, made_few net k)
+  constraints_few : memory_constraints net image n t ≤ 5 * switches net (k - 1) + 2 ^ k * 2 ^ 6
+  constraints_few = let sum = checks_cheap.few_added (checks_of image n t) (2 ^ k) (checks_short w image n t fits) in
+      omega (arith, sum, constraints_are net image n t, made_few net k)
 
   wires_small : 2 + n + system_made w net image n t ≤ size_most net k n t
   wires_small =
       let words : n * w ≤ n * 32 = mul-le-mul_left n (width_short w fits.width) in
       let steps : t * block_made w ≤ t * 2 ^ 11 = mul-le-mul_left t (block_counted.cheap w fits.width).wires in
-      most (n * w) (t * block_made w) (memory_wires w net image n t) (switches net (k - 1)) (network_most net k) (2 ^ k) words steps memory_few network_share
+      most (n * w) (t * block_made w) (memory_wires net image n t) (switches net (k - 1)) (network_most net k) (2 ^ k) words steps memory_few network_share
     where
-      most : (a b c s m p : ℕ) → a ≤ n * 32 → b ≤ t * 2 ^ 11 → c ≤ 5 * s + p * 2 ^ 6 → 10 * s ≡ m → 2 + n + (a + 1 + b + c) ≤ 2048 * t + m + 200 * p + 40 * (n + 1) + 64
+      most : (a b c s m p : ℕ) → a ≤ n * 32 → b ≤ t * 2 ^ 11 → c ≤ 5 * s + p * 2 ^ 6 → 10 * s ≡ m
+          → 2 + n + (a + STATE_WIRES + b + c) ≤ 2048 * t + m + 200 * p + 40 * (n + 1) + 64
       most a b c s m p d e f g = omega arith
 
   constraints_small : system_added w net image n t ≤ size_most net k n t
@@ -93,9 +96,11 @@ module _ (w : ℕ) (net : Net) (image : List ℕ) (n t : ℕ) (fits : WithinLimi
       let short : w + 1 ≤ 33 = omega (arith, width_short w fits.width) in
       let words : n * (w + 1) ≤ n * 33 = mul-le-mul_left n short in
       let steps : t * block_added w ≤ t * 2 ^ 11 = mul-le-mul_left t (block_counted.cheap w fits.width).constraints in
-      most (n * (w + 1)) (t * block_added w) (memory_constraints w net image n t) (switches net (k - 1)) (network_most net k) (2 ^ k) words steps constraints_few network_share
+      most (n * (w + 1)) (t * block_added w) (memory_constraints net image n t) (switches net (k - 1)) (network_most net k)
+      (2 ^ k) words steps constraints_few network_share
     where
-      most : (a b c s m p : ℕ) → a ≤ n * 33 → b ≤ t * 2 ^ 11 → c ≤ 5 * s + p * 2 ^ 6 → 10 * s ≡ m → a + 1 + b + 2 + c ≤ 2048 * t + m + 200 * p + 40 * (n + 1) + 64
+      most : (a b c s m p : ℕ) → a ≤ n * 33 → b ≤ t * 2 ^ 11 → c ≤ 5 * s + p * 2 ^ 6 → 10 * s ≡ m
+          → a + STATE_WIRES + b + 2 + c ≤ 2048 * t + m + 200 * p + 40 * (n + 1) + 64
       most a b c s m p d e f g = omega arith
 
   all_fit : size_most net k n t < 2 ^ 32

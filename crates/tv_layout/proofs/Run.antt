@@ -1,5 +1,6 @@
 -- Steps in an assignment whose lines are honest are the machine's, one by one.
-use Rattle.std.proofs.Common.{◌≡◌, ℕ, zero, suc, ◌+◌, ◌-◌, ◌*◌, ◌<◌, ◌≤◌, Bool, true, false, List, [], ◌∷◌, ◌++◌, length, take, refl, sym, ap, ap₂, ◌∙◌, arith, subst, add-one, add-zero, append_assoc, inl, inr}
+use Rattle.std.proofs.Common.{◌≡◌, ℕ, zero, suc, ◌+◌, ◌-◌, ◌*◌, ◌<◌, ◌≤◌, Bool, true, false, List, [], ◌∷◌, ◌++◌, length, take, refl, sym, ap, ap₂, ◌∙◌}
+use Rattle.std.proofs.Common.{arith, subst, add-one, add-zero, append_assoc, inl, inr}
 use Rattle.std.proofs.lemmas.Bool.{cases_eq}
 use Rattle.std.proofs.lemmas.List.{take_all, append-nil}
 use Rattle.std.proofs.lemmas.List.Concat.{flat_map-cons}
@@ -37,31 +38,36 @@ record Split (f : ℕ → List Line) (t i : ℕ) : Type 0 where
 split_at : (f : ℕ → List Line) (t i : ℕ) → i < t → Split f t i
 split_at f zero i h = absurd (omega arith)
 split_at f (suc t) i h = elim (cases_eq i t) [
-  | inl same ↦ record { rest = []; is = joined_below-suc t f ∙ ap₂ (λ a b. a ++ b) (ap (λ k. joined_below k f) (sym same)) (ap f (sym same) ∙ sym (append-nil (f i))) }
+  | inl same ↦ record {
+    rest = [];
+    is = joined_below-suc t f
+        ∙ ap₂ (λ a b. a ++ b) (ap (λ k. joined_below k f) (sym same)) (ap f (sym same) ∙ sym (append-nil (f i)));
+  }
   | inr apart ↦
       let before = split_at f t i (omega arith) in
       record {
         rest = before.rest ++ f t;
-        is = joined_below-suc t f ∙ ap (λ l. l ++ f t) before.is ∙ append_assoc (joined_below i f) (f i ++ before.rest) (f t) ∙ ap (λ l. joined_below i f ++ l) (append_assoc (f i) before.rest (f t));
+        is = joined_below-suc t f ∙ ap (λ l. l ++ f t) before.is ∙ append_assoc (joined_below i f) (f i ++ before.rest) (f t)
+            ∙ ap (λ l. joined_below i f ++ l) (append_assoc (f i) before.rest (f t));
       }
 ]
 
-module _ (w : ℕ) (block : BlockCircuit) (made : ℕ) (sizes : BlockSizes block made) (image x z : List ℕ) (zero_wire first t : ℕ) where
+module _ (w : ℕ) (block : BlockCircuit) (made : ℕ) (sizes : BlockSizes block made) (image x z : List ℕ) (zero_wires first t : ℕ) where
   abbrev time : ℕ
   time = length image + length x
 
   abbrev here : ℕ → Did
-  here i = did_at block made sizes z x (length image + length x) zero_wire first i
+  here i = did_at block made sizes z x (length image + length x) zero_wires first i
 
   abbrev lines : ℕ → List Line
-  lines i = lines_in (did_at block made sizes z x (length image + length x) zero_wire first i)
+  lines i = lines_in (did_at block made sizes z x (length image + length x) zero_wires first i)
 
   abbrev taken : ℕ → List ℕ
-  taken i = taken_in z (step block made sizes z x (length image + length x) zero_wire first i).spot
+  taken i = taken_in z (step block made sizes z x (length image + length x) zero_wires first i).spot
 
   -- the words that m steps take, from step i on
   abbrev later : ℕ → ℕ → List ℕ
-  later i m = flat_map (λ j. taken_in z (step block made sizes z x (length image + length x) zero_wire first j).spot) (range_with_len i m)
+  later i m = flat_map (λ j. taken_in z (step block made sizes z x (length image + length x) zero_wires first j).spot) (range_with_len i m)
 
   all_later : (n : ℕ) → joined_below n taken ≡ later 0 n
   unfolding joined_below
@@ -76,7 +82,7 @@ module _ (w : ℕ) (block : BlockCircuit) (made : ℕ) (sizes : BlockSizes block
     none_later zero i h e = refl
     none_later (suc m) i h e =
         let d = does i (omega arith) in
-        let after : (here (suc i)).now.ended ≡ 1 = ap (λ s. (state_in z s).ended) (next_state block made sizes z x time zero_wire first i) ∙ d.stays e in
+        let after : (here (suc i)).now.ended ≡ 1 = ap (λ s. (state_in z s).ended) (next_state block made sizes z x time zero_wires first i) ∙ d.stays e in
         later_first i m ∙ by_takes (here i).takes refl (none_later m (suc i) (omega arith) after)
       where
         by_takes : (takes : Bool) → (here i).takes ≡ takes → later (suc i) m ≡ [] → taken i ++ later (suc i) m ≡ []
@@ -94,7 +100,8 @@ module _ (w : ℕ) (block : BlockCircuit) (made : ℕ) (sizes : BlockSizes block
           left = left;
           ends = λ k r.
               let d = does i (omega arith) in
-              let after : (here (suc i)).now.ended ≡ 1 = ap (λ s. (state_in z s).ended) (next_state block made sizes z x time zero_wire first i) ∙ d.sets st range.bytes now olds r k in
+              let after : (here (suc i)).now.ended ≡ 1 = ap (λ s. (state_in z s).ended) (next_state block made sizes z x time zero_wires first i)
+              ∙ d.sets st range.bytes now olds r k in
               left k ∙ none_later m (suc i) (omega arith) after;
         }
 
@@ -122,14 +129,17 @@ module _ (w : ℕ) (block : BlockCircuit) (made : ℕ) (sizes : BlockSizes block
           ∙ ap₂ (λ a b. a ++ b) (ap (λ l. boot_lines image x ++ l) known.are) (append_assoc (lines i) s.rest pad) in
           let whole = HonestFrom-from_Honest (λ _. 0) _ honest in
           let back = HonestFrom-right (λ _. 0) (run_lines w image x aux i) (lines i ++ (s.rest ++ pad)) (subst (HonestFrom (λ _. 0)) place whole) in
-          holds w x (time + 3 * i) (here i) (now i) (does i h) (memory_after (run_lines w image x aux i)) (lines_leave_the_state w image x aux i input) (s.rest ++ pad) back
+          holds w x (time + 3 * i) (here i) (now i) (does i h) (memory_after (run_lines w image x aux i)) (lines_leave_the_state w image x aux i input)
+          (s.rest ++ pad) back
 
       fits_aux : (i : ℕ) → i < t → Known i → AuxFits w (now i) (here i).takes (here i).word (later (suc i) (t - suc i))
-      fits_aux i h known = aux_fits i (t - suc i) (now i) (omega arith) (range i) known.matches (olds_held i h known) (known.left (suc (t - suc i)) (omega arith))
+      fits_aux i h known = aux_fits i (t - suc i) (now i) (omega arith) (range i) known.matches (olds_held i h known)
+          (known.left (suc (t - suc i)) (omega arith))
 
       one : (i : ℕ) → (h : i < t) → Known i → Led w x (time + 3 * i) (here i) (now i) (does i h) (later (suc i) (t - suc i))
       one i h known =
-          led w x (time + 3 * i) (here i) (now i) (does i h) (range i).bytes known.matches (olds_held i h known) (later (suc i) (t - suc i)) (fits_aux i h known)
+          led w x (time + 3 * i) (here i) (now i) (does i h) (range i).bytes known.matches (olds_held i h known) (later (suc i) (t - suc i))
+          (fits_aux i h known)
 
       more : (i : ℕ) → now (suc i) ≡ state_after w 1 (now i)
       more i = ap now (sym (add-one i)) ∙ steps_at_the_end w i (start w image x aux)
@@ -145,7 +155,8 @@ module _ (w : ℕ) (block : BlockCircuit) (made : ℕ) (sizes : BlockSizes block
           let l = one i h known in
           let d = does i h in
           record {
-            matches = subst (λ st. Matches x (here (suc i)).now st) (sym (more i)) (subst (λ s. Matches x (state_in z s) (state_after w 1 (now i))) (sym (next_state block made sizes z x time zero_wire first i)) l.matches);
+            matches = subst (λ st. Matches x (here (suc i)).now st) (sym (more i))
+                (subst (λ s. Matches x (state_in z s) (state_after w 1 (now i))) (sym (next_state block made sizes z x time zero_wires first i)) l.matches);
             are = joined_below-suc i lines ∙ ap₂ (λ a b. a ++ b) known.are (d.traced (now i) (range i).bytes known.matches (olds_held i h known));
             left = λ m e. let same : t - suc i ≡ m = omega arith in ap (λ (st : State). st.aux) (more i) ∙ l.aux ∙ ap (λ k. later (suc i) k) same;
           }
@@ -154,7 +165,8 @@ module _ (w : ℕ) (block : BlockCircuit) (made : ℕ) (sizes : BlockSizes block
       pub takes_at : (i : ℕ) → i < t → taken i ≡ words_in (word_taken w (now i))
       takes_at i h =
           let known = known_at i (omega arith) in
-          taken_fits w (now i) (here i).takes (here i).word (later (suc i) (t - suc i)) (fits_aux i h known) ((does i h).reads (now i) (range i).bytes known.matches (olds_held i h known))
+          taken_fits w (now i) (here i).takes (here i).word (later (suc i) (t - suc i)) (fits_aux i h known)
+          ((does i h).reads (now i) (range i).bytes known.matches (olds_held i h known))
 
       -- the last step's answer is the run's
       pub accepts : (m : ℕ) → m + 1 ≡ t → (here m).answers ≡ true → Accepts w image x aux t (here m).value
@@ -166,4 +178,5 @@ module _ (w : ℕ) (block : BlockCircuit) (made : ℕ) (sizes : BlockSizes block
       pub reads_all : Reads w image x aux t ≡ aux
       reads_all =
           let none_left : (now t).aux ≡ [] = (known_at t (omega arith)).left 0 (add-zero t) in
-          taken_are_the_front w t (start w image x aux) ∙ ap (λ (l : List ℕ). take (length aux - length l) aux) none_left ∙ take_all (length aux - 0) aux (omega arith)
+          taken_are_the_front w t (start w image x aux) ∙ ap (λ (l : List ℕ). take (length aux - length l) aux) none_left
+          ∙ take_all (length aux - 0) aux (omega arith)

@@ -41,14 +41,20 @@ step_placed w width n short st time range =
       (
         refl,
         fits_of w width tail (All-head (IsLine w) tail (data_ ∷ []) later),
-        (line_time w n (op_of (fetched w st).op) st (operand st (fetched w st)) (time + 2) ∙ omega arith, fits_of w width data_ (All-head (IsLine w) data_ [] (All-tail (IsLine w) tail (data_ ∷ []) later)), tt),
+        (
+          line_time w n (op_of (fetched w st).op) st (operand st (fetched w st)) (time + 2)
+              ∙ omega arith,
+          fits_of w width data_ (All-head (IsLine w) data_ [] (All-tail (IsLine w) tail (data_ ∷ []) later)),
+          tt,
+        ),
       ),
     )
 
 trace_placed : (w : ℕ) → IsWidth w → (n : ℕ) → n < 2 ^ 29 → (time : ℕ) (st : State) → InRange w st → (t : ℕ) → LinesFrom time (lines_of w n time st t)
 trace_placed w width n short time st range zero = tt
 trace_placed w width n short time st range (suc t) =
-    LinesFrom-append time (time + 3 * t) (lines_of w n time st t) _ (omega (arith, lines_are_three_a_step w n time st t)) (trace_placed w width n short time st range t)
+    LinesFrom-append time (time + 3 * t) (lines_of w n time st t) _ (omega (arith, lines_are_three_a_step w n time st t))
+    (trace_placed w width n short time st range t)
     (step_placed w width n short (state_after w t st) (time + 3 * t) (run_keeps_range w width st t range))
 
 padding_honest : (m : ℕ → ℕ) (time more : ℕ) → m NULL_CELL ≡ 0 → HonestFrom m (padding time more)
@@ -82,10 +88,14 @@ module _ (w : ℕ) (image x aux : List ℕ) (t : ℕ) (fits : WithinLimits w ima
 
   pub run_placed : LinesFrom 0 (all_lines w image x aux t)
   run_placed =
-      LinesFrom-append 0 (line_count image (length x) t) (run_lines w image x aux t) (padding (line_count image (length x) t) (spare image (length x) t)) (omega (arith, run_many))
-      (LinesFrom-append 0 (boot_count image (length x)) (boot_lines image x) (lines_of w (length x) (length image + length x) (start w image x aux) t) (omega (arith, length-boot_lines image x))
-      (boot_lines_placed image x (words_32 w fits.width image fits.words) (words_32 w fits.width x x_words) (omega (arith, fits.image_fits)) (omega (arith, fits.tape_fits)))
-      (trace_placed w fits.width (length x) (omega (arith, fits.tape_fits)) (length image + length x) (start w image x aux) (start_in_range w fits.width image x aux x_words aux_words) t))
+      LinesFrom-append 0 (line_count image (length x) t) (run_lines w image x aux t) (padding (line_count image (length x) t) (spare image (length x) t))
+      (omega (arith, run_many))
+      (LinesFrom-append 0 (boot_count image (length x)) (boot_lines image x) (lines_of w (length x) (length image + length x) (start w image x aux) t)
+      (omega (arith, length-boot_lines image x))
+      (boot_lines_placed image x (words_32 w fits.width image fits.words) (words_32 w fits.width x x_words) (omega (arith, fits.image_fits))
+      (omega (arith, fits.tape_fits)))
+      (trace_placed w fits.width (length x) (omega (arith, fits.tape_fits)) (length image + length x) (start w image x aux)
+      (start_in_range w fits.width image x aux x_words aux_words) t))
       (padding_placed (line_count image (length x) t) (spare image (length x) t))
 
   pub run_few : length (all_lines w image x aux t) ≤ 2 ^ 20

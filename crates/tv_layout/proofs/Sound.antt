@@ -5,7 +5,6 @@ use Rattle.std.specs.Prelude.{slice_index}
 use Rattle.tv_benes.specs.declared.shape.Net.{Net}
 use Rattle.tv_core.proofs.CombinationLaws.{Assigns-from_Sat, Meets-from_Sat}
 use Rattle.tv_core.specs.Below.{joined_below}
-use Rattle.tv_core.specs.Circuits.{turns, pure}
 use Rattle.tv_core.specs.Constraints.{Sat}
 use Rattle.tv_core.specs.Laws.{Assigns, Meets, HasFrom}
 use Rattle.tv_core.specs.Lines.{Line, Honest}
@@ -18,7 +17,8 @@ use Rattle.tv_step.specs.Cells.{boot_lines, IsInput}
 use Rattle.tv_step.specs.Machine.{start, Accepts}
 use Rattle.tv_step.specs.Range.{AreWords}
 use Rattle.tv_block.specs.Block.{reached}
-use Rattle.tv_layout.proofs.Ends.{words_there, are_words, zero_wire_there, tie_there}
+use Rattle.tv_layout.proofs.Ends.{words_there, are_words, zero_wires_there, tie_there}
+use Rattle.tv_layout.proofs.FirstState.{HoldsZeros, first_view}
 use Rattle.tv_layout.proofs.Positions.{layout_met, last_of, log_some, log_within}
 use Rattle.tv_layout.proofs.Run.{Known, known_at, takes_at, accepts, reads_all}
 use Rattle.tv_layout.proofs.Steps.{step, did_at, last_step, does, taken_words}
@@ -30,33 +30,42 @@ use Rattle.tv_layout.specs.Blocks.{BlockCircuit}
 use Rattle.tv_layout.proofs.Checked.{are_of_kinds}
 use Rattle.tv_layout.specs.Checks.{checks_of}
 use Rattle.tv_layout.specs.Layout.{steps_of, state_at, lines_of, taken_of, layout}
-use Rattle.tv_layout.specs.Places.{WithinLimits, boot_count, line_count, log_of, tape_at, zero_wire_at, first_at}
+use Rattle.tv_layout.specs.Places.{WithinLimits, boot_count, line_count, log_of, tape_at, zero_wires_at, first_at}
 use Rattle.tv_layout.specs.Sound.{padding, IsRun}
 
 -- the first state's wires hold the start
-pub starts : (block : BlockCircuit) (w : ℕ) (image x aux z : List ℕ) (time zero_wire first : ℕ) → slice_index z zero_wire ≡ 0
-    → Matches x (state_in z (state_at block (length x) time zero_wire first 0)) (start w image x aux)
-unfolding steps_of turns pure
-starts block w image x aux z time zero_wire first zero_there = rw zero_there (record { pc = refl; regs = refl; flag = refl; primary = refl })
+pub starts : (block : BlockCircuit) (w : ℕ) (image x aux z : List ℕ) (time zero_wires first : ℕ) → HoldsZeros z zero_wires
+    → Matches x (state_in z (state_at block (length x) time zero_wires first 0)) (start w image x aux)
+starts block w image x aux z time zero_wires first zeros_there =
+    subst (λ v. Matches x v (start w image x aux)) (sym (first_view z zero_wires zeros_there block (length x) time first))
+    (record { pc = refl; regs = refl; flag = refl; primary = refl })
 
-module _ (w : ℕ) (block : BlockCircuit) (made : ℕ) (sizes : BlockSizes block made) (law : BlockIsSound w block) (image x z : List ℕ) (t : ℕ) (fits : WithinLimits w image (length x) t)
-    (assigns : Assigns z) (words : AreWords w x) (has : HasFrom z tape_at x) (zero_there : slice_index z (zero_wire_at w (length x)) ≡ 0)
-    (met : Meets z (steps_of block (length x) (boot_count image (length x)) t (zero_wire_at w (length x)) (first_at w (length x))).list)
+module _ (w : ℕ) (block : BlockCircuit) (made : ℕ) (sizes : BlockSizes block made) (law : BlockIsSound w block) (image x z : List ℕ) (t : ℕ)
+    (fits : WithinLimits w image (length x) t)
+    (assigns : Assigns z) (words : AreWords w x) (has : HasFrom z tape_at x) (zeros_there : HoldsZeros z (zero_wires_at w (length x)))
+    (met : Meets z (steps_of block (length x) (boot_count image (length x)) t (zero_wires_at w (length x)) (first_at w (length x))).list)
     (honest : Honest (map (line_value z) (lines_of block w image (length x) t)))
-    (answers : slice_index z (steps_of block (length x) (boot_count image (length x)) t (zero_wire_at w (length x)) (first_at w (length x))).answer.answers ≡ 1)
-    (value : slice_index z (steps_of block (length x) (boot_count image (length x)) t (zero_wire_at w (length x)) (first_at w (length x))).answer.value ≡ slice_index z 1) where
+    (answers : slice_index z (steps_of block (length x) (boot_count image (length x)) t (zero_wires_at w (length x)) (first_at w (length x))).answer.answers
+    ≡ 1)
+    (value : slice_index z (steps_of block (length x) (boot_count image (length x)) t (zero_wires_at w (length x)) (first_at w (length x))).answer.value
+    ≡ slice_index z 1) where
   abbrev aux : List ℕ
   aux = taken_of block w image (length x) t z
 
-  each_does : (i : ℕ) → i < t → DoesStep w x (boot_count image (length x) + 3 * i) (did_at block made sizes z x (boot_count image (length x)) (zero_wire_at w (length x)) (first_at w (length x)) i)
+  each_does : (i : ℕ) → i < t → DoesStep w x (boot_count image (length x) + 3 * i)
+      (did_at block made sizes z x (boot_count image (length x)) (zero_wires_at w (length x)) (first_at w (length x)) i)
   each_does i h =
-      does block made sizes z x (boot_count image (length x)) (zero_wire_at w (length x)) (first_at w (length x)) w fits.width law t assigns (short image (length x) t w fits) (early image (length x) t w fits) zero_there met i h
+      does block made sizes z x (boot_count image (length x)) (zero_wires_at w (length x)) (first_at w (length x)) w fits.width law t assigns
+      (short image (length x) t w fits) (early image (length x) t w fits) zeros_there met i h
 
-  aux_is : aux ≡ joined_below t (λ i. taken_in z (step block made sizes z x (boot_count image (length x)) (zero_wire_at w (length x)) (first_at w (length x)) i).spot)
+  aux_is : aux ≡ joined_below t (λ i. taken_in z
+      (step block made sizes z x (boot_count image (length x)) (zero_wires_at w (length x)) (first_at w (length x)) i).spot)
   aux_is = taken_of_is block w image (length x) t z
 
   aux_words : AreWords w aux
-  aux_words = subst (AreWords w) (sym aux_is) (taken_words block made sizes z x (boot_count image (length x)) (zero_wire_at w (length x)) (first_at w (length x)) w fits.width law t assigns (short image (length x) t w fits) (early image (length x) t w fits) zero_there met t (omega arith))
+  aux_words = subst (AreWords w) (sym aux_is)
+      (taken_words block made sizes z x (boot_count image (length x)) (zero_wires_at w (length x)) (first_at w (length x)) w fits.width law t assigns
+      (short image (length x) t w fits) (early image (length x) t w fits) zeros_there met t (omega arith))
 
   input : IsInput w image x aux
   input = record {
@@ -71,23 +80,29 @@ module _ (w : ℕ) (block : BlockCircuit) (made : ℕ) (sizes : BlockSizes block
   abbrev pad : List Line
   pad = padding (line_count image (length x) t) (spare image (length x) t)
 
-  lines_honest : Honest ((boot_lines image x ++ joined_below t (lines w block made sizes law image x z t fits assigns words has zero_there met)) ++ pad)
-  lines_honest = subst Honest (lines_valued w block made sizes law image x z t fits assigns words has zero_there met) honest
+  lines_honest : Honest ((boot_lines image x ++ joined_below t (lines w block made sizes law image x z t fits assigns words has zeros_there met)) ++ pad)
+  lines_honest = subst Honest (lines_valued w block made sizes law image x z t fits assigns words has zeros_there met) honest
 
-  known : (i : ℕ) → i ≤ t → Known w block made sizes image x z (zero_wire_at w (length x)) (first_at w (length x)) t each_does aux aux_is input pad lines_honest (starts block w image x aux z (boot_count image (length x)) (zero_wire_at w (length x)) (first_at w (length x)) zero_there) i
-  known i h = known_at w block made sizes image x z (zero_wire_at w (length x)) (first_at w (length x)) t each_does aux aux_is input pad lines_honest (starts block w image x aux z (boot_count image (length x)) (zero_wire_at w (length x)) (first_at w (length x)) zero_there) i h
+  known : (i : ℕ) → i ≤ t → Known w block made sizes image x z (zero_wires_at w (length x))
+      (first_at w (length x)) t each_does aux aux_is input pad lines_honest
+      (starts block w image x aux z (boot_count image (length x)) (zero_wires_at w (length x)) (first_at w (length x)) zeros_there) i
+  known i h = known_at w block made sizes image x z (zero_wires_at w (length x)) (first_at w (length x)) t each_does aux aux_is input pad lines_honest
+      (starts block w image x aux z (boot_count image (length x)) (zero_wires_at w (length x)) (first_at w (length x)) zeros_there) i h
 
   -- the last step
-  last_is : (m : ℕ) → m + 1 ≡ t → (steps_of block (length x) (boot_count image (length x)) t (zero_wire_at w (length x)) (first_at w (length x))).answer ≡ reached (step block made sizes z x (boot_count image (length x)) (zero_wire_at w (length x)) (first_at w (length x)) m)
+  last_is : (m : ℕ) → m + 1 ≡ t → (steps_of block (length x) (boot_count image (length x)) t (zero_wires_at w (length x)) (first_at w (length x))).answer
+      ≡ reached (step block made sizes z x (boot_count image (length x)) (zero_wires_at w (length x)) (first_at w (length x)) m)
   last_is m e =
       let more : t ≡ suc m = omega arith in
-      ap (λ k. (steps_of block (length x) (boot_count image (length x)) k (zero_wire_at w (length x)) (first_at w (length x))).answer) more
-      ∙ last_step block made sizes z x (boot_count image (length x)) (zero_wire_at w (length x)) (first_at w (length x)) m
+      ap (λ k. (steps_of block (length x) (boot_count image (length x)) k (zero_wires_at w (length x)) (first_at w (length x))).answer) more
+      ∙ last_step block made sizes z x (boot_count image (length x)) (zero_wires_at w (length x)) (first_at w (length x)) m
 
-  last_answers : (m : ℕ) → m + 1 ≡ t → (did_at block made sizes z x (boot_count image (length x)) (zero_wire_at w (length x)) (first_at w (length x)) m).answers ≡ true
+  last_answers : (m : ℕ) → m + 1 ≡ t → (did_at block made sizes z x (boot_count image (length x)) (zero_wires_at w (length x))
+      (first_at w (length x)) m).answers ≡ true
   last_answers m e = eq-eqb _ 1 (ap (λ r. slice_index z r.answers) (sym (last_is m e)) ∙ answers)
 
-  last_value : (m : ℕ) → m + 1 ≡ t → (did_at block made sizes z x (boot_count image (length x)) (zero_wire_at w (length x)) (first_at w (length x)) m).value ≡ slice_index z 1
+  last_value : (m : ℕ) → m + 1 ≡ t → (did_at block made sizes z x (boot_count image (length x)) (zero_wires_at w (length x)) (first_at w (length x)) m).value
+      ≡ slice_index z 1
   last_value m e = ap (λ r. slice_index z r.value) (sym (last_is m e)) ∙ value
 
   pub is_run : IsRun w block image x t z
@@ -98,13 +113,18 @@ module _ (w : ℕ) (block : BlockCircuit) (made : ℕ) (sizes : BlockSizes block
         answer = subst (λ v. v < 2 ^ w) (last_value (t - 1) some) ((each_does (t - 1) (omega (arith, fits.some))).value (last_answers (t - 1) some));
         taken = aux_words;
         honest = honest;
-        lines = lines_valued w block made sizes law image x z t fits assigns words has zero_there met ∙ ap (λ l. (boot_lines image x ++ l) ++ pad) (known t (omega arith)).are;
+        lines = lines_valued w block made sizes law image x z t fits assigns words has zeros_there met
+            ∙ ap (λ l. (boot_lines image x ++ l) ++ pad) (known t (omega arith)).are;
         states = λ i h. (known i h).matches;
-        takes = λ i h. taken_at_is z (step block made sizes z x (boot_count image (length x)) (zero_wire_at w (length x)) (first_at w (length x)) i).spot
-            ∙ takes_at w block made sizes image x z (zero_wire_at w (length x)) (first_at w (length x)) t each_does aux aux_is input pad lines_honest (starts block w image x aux z (boot_count image (length x)) (zero_wire_at w (length x)) (first_at w (length x)) zero_there) i h;
+        takes = λ i h. taken_at_is z (step block made sizes z x (boot_count image (length x)) (zero_wires_at w (length x)) (first_at w (length x)) i).spot
+            ∙ takes_at w block made sizes image x z (zero_wires_at w (length x)) (first_at w (length x)) t each_does aux aux_is input pad lines_honest
+            (starts block w image x aux z (boot_count image (length x)) (zero_wires_at w (length x)) (first_at w (length x)) zeros_there) i h;
         accepts = subst (λ v. Accepts w image x aux t v) (last_value (t - 1) some)
-            (accepts w block made sizes image x z (zero_wire_at w (length x)) (first_at w (length x)) t each_does aux aux_is input pad lines_honest (starts block w image x aux z (boot_count image (length x)) (zero_wire_at w (length x)) (first_at w (length x)) zero_there) (t - 1) some (last_answers (t - 1) some));
-        reads = reads_all w block made sizes image x z (zero_wire_at w (length x)) (first_at w (length x)) t each_does aux aux_is input pad lines_honest (starts block w image x aux z (boot_count image (length x)) (zero_wire_at w (length x)) (first_at w (length x)) zero_there);
+            (accepts w block made sizes image x z (zero_wires_at w (length x)) (first_at w (length x)) t each_does aux aux_is input pad lines_honest
+            (starts block w image x aux z (boot_count image (length x)) (zero_wires_at w (length x)) (first_at w (length x)) zeros_there) (t - 1) some
+            (last_answers (t - 1) some));
+        reads = reads_all w block made sizes image x z (zero_wires_at w (length x)) (first_at w (length x)) t each_does aux aux_is input pad lines_honest
+            (starts block w image x aux z (boot_count image (length x)) (zero_wires_at w (length x)) (first_at w (length x)) zeros_there);
       }
 
 abbrev pub LayoutIsSound : Type 0
@@ -117,12 +137,14 @@ layout_sound w net block made sizes law image x z t fits has sat =
     let assigns = Assigns-from_Sat (layout block w net image (length x) t) z sat in
     let met = layout_met block made sizes w net image (length x) t z (Meets-from_Sat (layout block w net image (length x) t) z sat) in
     let words = are_words w fits.width z assigns tape_at x has (words_there w fits.width z assigns tape_at (length x) _ met.words) in
-    let zero_there = zero_wire_there w fits.width z assigns (zero_wire_at w (length x)) met.zero_wire in
+    let zeros_there = zero_wires_there w fits.width z assigns (zero_wires_at w (length x)) met.zero_wires in
     let tie = tie_there w fits.width z assigns (last_of block made sizes w net image (length x) t) _ met.tie in
     let count : ℕ = line_count image (length x) t in
-    let honest = memory_sound net z (checks_of image (length x) t) (log_of count) (lines_of block w image (length x) t) _ (log_some count) (log_within count (few image (length x) t w fits))
-    (lines_many w block made sizes law image x z t fits assigns words has zero_there met.steps)
-    (subst (LinesFrom 0) (sym (lines_valued w block made sizes law image x z t fits assigns words has zero_there met.steps)) (all_placed w block made sizes law image x z t fits assigns words has zero_there met.steps))
-    (are_of_kinds w block made sizes law image x z t fits assigns words has zero_there met.steps)
+    let honest = memory_sound net z (checks_of image (length x) t) (log_of count) (lines_of block w image (length x) t) _ (log_some count)
+    (log_within count (few image (length x) t w fits))
+    (lines_many w block made sizes law image x z t fits assigns words has zeros_there met.steps)
+    (subst (LinesFrom 0) (sym (lines_valued w block made sizes law image x z t fits assigns words has zeros_there met.steps))
+    (all_placed w block made sizes law image x z t fits assigns words has zeros_there met.steps))
+    (are_of_kinds w block made sizes law image x z t fits assigns words has zeros_there met.steps)
     assigns met.honest in
-    is_run w block made sizes law image x z t fits assigns words has zero_there met.steps honest tie.0 tie.1
+    is_run w block made sizes law image x z t fits assigns words has zeros_there met.steps honest tie.0 tie.1

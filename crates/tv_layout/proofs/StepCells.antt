@@ -63,19 +63,22 @@ module _ (w : ℕ) (width : IsWidth w) (n : ℕ) (v : View) (head tail o : ℕ) 
       let low : cell < NULL_CELL = omega (arith, at, left, is.short) in
       record { within = omega (arith, low); null = λ same. absurd (omega (arith, same, low)) }
   data_by false true e f =
-      let at : cell ≡ operand_word v i / word_size w = chosen_second (takes_primary v i n) (touches v i) (tape_cell v.taken) (operand_word v i / word_size w) NULL_CELL e f in
+      let at : cell ≡ operand_word v i / word_size w = chosen_second (takes_primary v i n) (touches v i) (tape_cell v.taken)
+      (operand_word v i / word_size w) NULL_CELL e f in
       let small = low_cell w width (operand_word v i) (operand_small w width n v head tail o takes is) in
       let low : cell < NULL_CELL = omega (arith, at, small) in
       record { within = omega (arith, low); null = λ same. absurd (omega (arith, same, low)) }
   data_by false false e f =
       let at : cell ≡ NULL_CELL = chosen_third (takes_primary v i n) (touches v i) (tape_cell v.taken) (operand_word v i / word_size w) NULL_CELL e f in
-      let kept = chosen_third (i.op == 28) (i.op == 26) (other_word v i) (with_byte_in o (operand_word v i % word_size w) (other_word v i % 256)) (old_in w n v i o takes) (no_store i.op 28 refl f) (no_store i.op 26 refl f) in
+      let kept = chosen_third (i.op == 28) (i.op == 26) (other_word v i) (with_byte_in o (operand_word v i % word_size w) (other_word v i % 256))
+      (old_in w n v i o takes) (no_store i.op 28 refl f) (no_store i.op 26 refl f) in
       record { within = omega (arith, at); null = λ same. kept ∙ neither (touches v i) (takes_primary v i n) o 0 f e }
 
   data_cells : Data
   data_cells = data_by (takes_primary v i n) (touches v i) refl refl
 
-pub numbers_have_cells : (w : ℕ) → IsWidth w → (n time : ℕ) (v : View) (head tail o : ℕ) (takes : Bool) → AtNumbers w n v head tail o takes → HasCells w (did_of w n time v head tail o takes)
+pub numbers_have_cells : (w : ℕ) → IsWidth w → (n time : ℕ) (v : View) (head tail o : ℕ) (takes : Bool) → AtNumbers w n v head tail o takes
+    → HasCells w (did_of w n time v head tail o takes)
 numbers_have_cells w width n time v head tail o takes is =
     let data_ = data_cells w width n v head tail o takes is (time + 2) in
     let low = low_cell w width v.pc is.range.pc_fits in

@@ -40,7 +40,8 @@ pub record Stepped (w : ℕ) (x : List ℕ) (st : State) (b : Did) : Type 0 wher
   pub taken : (if b.takes then b.word ∷ [] else []) ≡ words_in (word_taken w st)
   pub answers : (v : ℕ) → next w st ≡ Next.Answered v → (b.answers ≡ true) × (b.value ≡ v)
 
-module _ (w : ℕ) (width : IsWidth w) (block : BlockCircuit) (made : ℕ) (values : BlockValues) (law : BlockIsSound w block) (complete : BlockIsComplete w block made values)
+module _ (w : ℕ) (width : IsWidth w) (block : BlockCircuit) (made : ℕ) (values : BlockValues) (law : BlockIsSound w block)
+    (complete : BlockIsComplete w block made values)
     (z x : List ℕ) (state : StateWires) (time at : ℕ) (st : State) (given : Given w values z x state time at st (word_taken w st)) (on : IsOn w x st) where
   abbrev step : Block
   step = (block (length x) state time at).answer
@@ -65,7 +66,8 @@ module _ (w : ℕ) (width : IsWidth w) (block : BlockCircuit) (made : ℕ) (valu
       record {
         first = All-head (λ (line : Line). line.old ≡ cells_of w x st line.cell) b.first (b.second ∷ b.data_line ∷ []) all;
         second = All-head (λ (line : Line). line.old ≡ cells_of w x st line.cell) b.second (b.data_line ∷ []) later;
-        data_line = All-head (λ (line : Line). line.old ≡ cells_of w x st line.cell) b.data_line [] (All-tail (λ (line : Line). line.old ≡ cells_of w x st line.cell) b.second (b.data_line ∷ []) later);
+        data_line = All-head (λ (line : Line). line.old ≡ cells_of w x st line.cell) b.data_line []
+            (All-tail (λ (line : Line). line.old ≡ cells_of w x st line.cell) b.second (b.data_line ∷ []) later);
       }
 
   came : (rest : List ℕ) → AuxFits w st b.takes b.word rest → ((e : Bool) → b.now.ended ≡ flag_of e → b.after.ended ≡ flag_of (e || finds_end w st))
@@ -80,7 +82,11 @@ module _ (w : ℕ) (width : IsWidth w) (block : BlockCircuit) (made : ℕ) (valu
         let takes : b.takes ≡ true = shows.takes ∙ ap is_some word in
         let said : b.word ≡ v = shows.same v word in
         let on_ : b.after.ended ≡ b.now.ended = sound.does.keeps st given.machine.bytes given.matches olds (λ r. takes) in
-        came rest (record { taken = λ k. same ∙ ap (λ u. u ∷ rest) (sym said); left = λ k. absurd (not_both b.takes k takes); ends = λ k r. absurd (not_both b.takes k takes) })
+        came rest (record {
+          taken = λ k. same ∙ ap (λ u. u ∷ rest) (sym said);
+          left = λ k. absurd (not_both b.takes k takes);
+          ends = λ k r. absurd (not_both b.takes k takes);
+        })
         (λ e is. on_ ∙ is ∙ sym (ap (λ f. flag_of (e || f)) end ∙ or_false e))
         (ap (λ t. if t then b.word ∷ [] else []) takes ∙ ap (λ u. u ∷ []) said ∙ sym (ap words_in word))
     | Ends none reads word end ↦

@@ -1,8 +1,9 @@
 -- Steps in a row, in an assignment that meets what they put.
-use Rattle.std.proofs.Common.{◌≡◌, ℕ, zero, suc, ◌+◌, ◌*◌, ◌%◌, ◌<◌, ◌≤◌, ◌^◌, Bool, true, false, List, [], ◌∷◌, ◌++◌, length, map, refl, sym, ap, ap₂, ◌∙◌, arith, subst, inl, inr}
+use Rattle.std.proofs.Common.{◌≡◌, ℕ, zero, suc, ◌+◌, ◌*◌, ◌%◌, ◌<◌, ◌≤◌, ◌^◌, Bool, true, false, List, [], ◌∷◌, ◌++◌, length, map, refl, sym, ap, ap₂, ◌∙◌}
+use Rattle.std.proofs.Common.{arith, subst, inl, inr}
 use Rattle.std.proofs.lemmas.List.{map-append}
 use Rattle.std.proofs.lemmas.List.Elements.{All-replicate, All-nil, All-cons, All-append}
-use Rattle.std.specs.Prelude.{slice_index, if◌then◌else◌}
+use Rattle.std.specs.Prelude.{if◌then◌else◌}
 use Rattle.tv_core.proofs.JoinedLaws.{joined_below-zero, joined_below-suc, length-joined_below}
 use Rattle.tv_core.proofs.LoopLaws.{turn_met}
 use Rattle.tv_core.proofs.Meeting.{parts}
@@ -21,6 +22,7 @@ use Rattle.tv_step.specs.Range.{AreWords}
 use Rattle.tv_step.specs.Rows.{instruction_size}
 use Rattle.tv_word.specs.Widths.{IsWidth}
 use Rattle.tv_layout.proofs.Boot.{LinesFrom-append}
+use Rattle.tv_layout.proofs.FirstState.{HoldsZeros, first_view}
 use Rattle.tv_parts.specs.States.{state_in}
 use Rattle.tv_block.specs.Block.{IsMachineStep, did, reached}
 use Rattle.tv_layout.proofs.Blocks.{BlockSizes, HasCells, BlockIsSound}
@@ -49,17 +51,19 @@ three_lines f (a ∷ b ∷ c ∷ []) e = refl
 three_lines f (a ∷ b ∷ c ∷ x ∷ ls) e = absurd (omega arith)
 
 -- what is mapped over lists one after another
-pub map-joined : {A B : Type 0} (f : A → B) (g : ℕ → List A) (h : ℕ → List B) → ((i : ℕ) → map f (g i) ≡ h i) → (n : ℕ) → map f (joined_below n g) ≡ joined_below n h
+pub map-joined : {A B : Type 0} (f : A → B) (g : ℕ → List A) (h : ℕ → List B) → ((i : ℕ) → map f (g i) ≡ h i) → (n : ℕ)
+    → map f (joined_below n g) ≡ joined_below n h
 map-joined f g h same zero = ap (map f) (joined_below-zero g) ∙ sym (joined_below-zero h)
 map-joined f g h same (suc n) =
-    ap (map f) (joined_below-suc n g) ∙ map-append f (joined_below n g) (g n) ∙ ap₂ (λ a b. a ++ b) (map-joined f g h same n) (same n) ∙ sym (joined_below-suc n h)
+    ap (map f) (joined_below-suc n g) ∙ map-append f (joined_below n g) (g n) ∙ ap₂ (λ a b. a ++ b) (map-joined f g h same n) (same n)
+    ∙ sym (joined_below-suc n h)
 
 -- ---- the start
-pub start_held : (block : BlockCircuit) (z x : List ℕ) (time zero_wire first w : ℕ) → IsWidth w → slice_index z zero_wire ≡ 0 → ViewInRange w (length x) (state_in z (state_at block (length x) time zero_wire first 0))
-unfolding steps_of turns pure
-start_held block z x time zero_wire first w width zero_there =
+pub start_held : (block : BlockCircuit) (z x : List ℕ) (time zero_wires first w : ℕ) → IsWidth w → HoldsZeros z zero_wires
+    → ViewInRange w (length x) (state_in z (state_at block (length x) time zero_wires first 0))
+start_held block z x time zero_wires first w width zeros_there =
     let some = zero_word w width in
-    rw zero_there (record {
+    subst (ViewInRange w (length x)) (sym (first_view z zero_wires zeros_there block (length x) time first)) (record {
       pc_fits = some;
       pc_aligned = zero_aligned w width;
       registers = refl;
@@ -69,13 +73,13 @@ start_held block z x time zero_wire first w width zero_there =
       ended = omega arith;
     })
 
-module _ (block : BlockCircuit) (made : ℕ) (sizes : BlockSizes block made) (z x : List ℕ) (time zero_wire first : ℕ) where
+module _ (block : BlockCircuit) (made : ℕ) (sizes : BlockSizes block made) (z x : List ℕ) (time zero_wires first : ℕ) where
   -- the wires of the state before step i, the step, and what it did
   abbrev pub state : ℕ → StateWires
-  state i = state_at block (length x) time zero_wire first i
+  state i = state_at block (length x) time zero_wires first i
 
   abbrev pub step : ℕ → Block
-  step i = block_at block (length x) time zero_wire first i
+  step i = block_at block (length x) time zero_wires first i
 
   abbrev pub did_at : ℕ → Did
   did_at i = did z (state i) (step i)
@@ -84,30 +88,32 @@ module _ (block : BlockCircuit) (made : ℕ) (sizes : BlockSizes block made) (z 
   unfolding steps_of turns pure ◌>>=◌
   next_state i = refl
 
-  pub last_step : (i : ℕ) → (steps_of block (length x) time (suc i) zero_wire first).answer ≡ reached (step i)
+  pub last_step : (i : ℕ) → (steps_of block (length x) time (suc i) zero_wires first).answer ≡ reached (step i)
   unfolding steps_of turns pure ◌>>=◌
   last_step i = refl
 
   -- all lines of n steps
   pub lines_did : (n : ℕ) → map (line_value z) (joined_below n (λ i. (step i).lines)) ≡ joined_below n (λ i. lines_in (did_at i))
   lines_did n =
-      map-joined (line_value z) (λ i. (step i).lines) (λ i. lines_in (did_at i)) (λ i. three_lines (line_value z) (step i).lines (sizes.three (length x) (state i) (time + 3 * i) (steps_of block (length x) time i zero_wire first).next)) n
+      map-joined (line_value z) (λ i. (step i).lines) (λ i. lines_in (did_at i))
+      (λ i. three_lines (line_value z) (step i).lines
+      (sizes.three (length x) (state i) (time + 3 * i) (steps_of block (length x) time i zero_wires first).next)) n
 
   pub length-lines_did : (n : ℕ) → length (joined_below n (λ i. lines_in (did_at i))) ≡ n * 3
   length-lines_did n = length-joined_below n 3 (λ i. lines_in (did_at i)) (λ i h. refl)
 
   module _ (w : ℕ) (width : IsWidth w) (law : BlockIsSound w block) (t : ℕ) (assigns : Assigns z) (short : length x < 2 ^ 29) (early : time + 3 * t < 2 ^ 32)
-      (zero_there : slice_index z zero_wire ≡ 0) (met : Meets z (steps_of block (length x) time t zero_wire first).list) where
-    step_met : (i : ℕ) → i < t → Meets z (block (length x) (state i) (time + 3 * i) (steps_of block (length x) time i zero_wire first).next).list
+      (zeros_there : HoldsZeros z zero_wires) (met : Meets z (steps_of block (length x) time t zero_wires first).list) where
+    step_met : (i : ℕ) → i < t → Meets z (block (length x) (state i) (time + 3 * i) (steps_of block (length x) time i zero_wires first).next).list
     unfolding steps_of pure
-    step_met i h = (parts z _ (λ b. pure (reached b)) _ (turn_met z (step_of block (length x) time) (before_steps zero_wire) first t i h met)).0
+    step_met i h = (parts z _ (λ b. pure (reached b)) _ (turn_met z (step_of block (length x) time) (before_steps zero_wires) first t i h met)).0
 
     step_sound : (i : ℕ) → i < t → ViewInRange w (length x) (state_in z (state i)) → IsMachineStep w z x (time + 3 * i) (state i) (step i)
     step_sound i h held = (law z x (state i) (time + 3 * i) _ short (omega arith) assigns held (step_met i h)).machine
 
     -- the state before each step is in range
     pub held : (i : ℕ) → i ≤ t → ViewInRange w (length x) (state_in z (state i))
-    held zero h = start_held block z x time zero_wire first w width zero_there
+    held zero h = start_held block z x time zero_wires first w width zeros_there
     held (suc i) h = subst (λ s. ViewInRange w (length x) (state_in z s)) (sym (next_state i)) (step_sound i (omega arith) (held i (omega arith))).range
 
     pub does : (i : ℕ) → i < t → DoesStep w x (time + 3 * i) (did_at i)
@@ -125,17 +131,24 @@ module _ (block : BlockCircuit) (made : ℕ) (sizes : BlockSizes block made) (z 
     lines_placed zero h = subst (LinesFrom time) (sym (joined_below-zero (λ i. lines_in (did_at i)))) tt
     lines_placed (suc n) h =
         let d = does n (omega arith) in
-        let here : LinesFrom (time + 3 * n) (lines_in (did_at n)) = (d.times.0, fits (did_at n).first d.lines.0, (d.times.1, fits (did_at n).second d.lines.1, (d.times.2 ∙ omega arith, fits (did_at n).data_line d.lines.2, tt))) in
+        let here : LinesFrom (time + 3 * n) (lines_in (did_at n)) = (
+          d.times.0,
+          fits (did_at n).first d.lines.0,
+          (d.times.1, fits (did_at n).second d.lines.1, (d.times.2 ∙ omega arith, fits (did_at n).data_line d.lines.2, tt)),
+        ) in
         subst (LinesFrom time) (sym (joined_below-suc n (λ i. lines_in (did_at i))))
-        (LinesFrom-append time (time + 3 * n) (joined_below n (λ i. lines_in (did_at i))) (lines_in (did_at n)) (omega (arith, length-lines_did n)) (lines_placed n (omega arith)) here)
+        (LinesFrom-append time (time + 3 * n) (joined_below n (λ i. lines_in (did_at i))) (lines_in (did_at n)) (omega (arith, length-lines_did n))
+        (lines_placed n (omega arith)) here)
 
     -- the words that they take are words
     one_word : (i : ℕ) → i < t → (takes : Bool) → (did_at i).takes ≡ takes → AreWords w (if (did_at i).takes then (did_at i).word ∷ [] else [])
-    one_word i h true e = subst (λ b. AreWords w (if b then (did_at i).word ∷ [] else [])) (sym e) (All-cons (λ v. v < 2 ^ w) (did_at i).word [] ((does i h).word e) (All-nil (λ v. v < 2 ^ w)))
+    one_word i h true e = subst (λ b. AreWords w (if b then (did_at i).word ∷ [] else [])) (sym e)
+        (All-cons (λ v. v < 2 ^ w) (did_at i).word [] ((does i h).word e) (All-nil (λ v. v < 2 ^ w)))
     one_word i h false e = subst (λ b. AreWords w (if b then (did_at i).word ∷ [] else [])) (sym e) (All-nil (λ v. v < 2 ^ w))
 
     pub taken_words : (n : ℕ) → n ≤ t → AreWords w (joined_below n (λ i. taken_in z (step i).spot))
     taken_words zero h = subst (AreWords w) (sym (joined_below-zero (λ i. taken_in z (step i).spot))) (All-nil (λ v. v < 2 ^ w))
     taken_words (suc n) h =
         subst (AreWords w) (sym (joined_below-suc n (λ i. taken_in z (step i).spot)))
-        (All-append (λ v. v < 2 ^ w) (joined_below n (λ i. taken_in z (step i).spot)) (taken_in z (step n).spot) (taken_words n (omega arith)) (one_word n (omega arith) (did_at n).takes refl))
+        (All-append (λ v. v < 2 ^ w) (joined_below n (λ i. taken_in z (step i).spot)) (taken_in z (step n).spot) (taken_words n (omega arith))
+        (one_word n (omega arith) (did_at n).takes refl))

@@ -1,5 +1,6 @@
 -- All steps of a run, with its values.
-use Rattle.std.proofs.Common.{◌≡◌, ℕ, zero, suc, ◌+◌, ◌-◌, ◌*◌, ◌<◌, ◌≤◌, ◌^◌, Bool, true, false, List, ◌++◌, length, refl, sym, ap, ap₂, ◌∙◌, arith, subst, add-one, Some}
+use Rattle.std.proofs.Common.{◌≡◌, ℕ, zero, suc, ◌+◌, ◌-◌, ◌*◌, ◌<◌, ◌≤◌, ◌^◌, Bool, true, false, List, ◌++◌, length, refl, sym, ap, ap₂, ◌∙◌, arith, subst}
+use Rattle.std.proofs.Common.{add-one, Some}
 use Rattle.std.proofs.lemmas.Bool.{eqb-true}
 use Rattle.std.proofs.lemmas.List.{length-drop}
 use Rattle.std.specs.Prelude.{slice_index}
@@ -7,7 +8,7 @@ use Rattle.tv_core.proofs.JoinedLaws.{joined_below-zero, joined_below-suc}
 use Rattle.tv_core.proofs.LoopLaws.{turns_met}
 use Rattle.tv_core.proofs.Meeting.{whole}
 use Rattle.tv_core.specs.Below.{joined_below}
-use Rattle.tv_core.specs.Circuits.{turns, pure}
+use Rattle.tv_core.specs.Circuits.{pure}
 use Rattle.tv_core.specs.Laws.{Assigns, Meets, HasFrom}
 use Rattle.tv_core.specs.Lines.{Line}
 use Rattle.tv_numbers.specs.Numbers.{Did, lines_in}
@@ -24,6 +25,7 @@ use Rattle.tv_step.specs.State.{State, Next}
 use Rattle.tv_step.specs.Trace.{lines_of}
 use Rattle.std.proofs.lemmas.List.Elements.{All-head}
 use Rattle.tv_block.specs.Block.{reached}
+use Rattle.tv_layout.proofs.FirstState.{HoldsZeros, view_same, first_view}
 use Rattle.tv_layout.proofs.Positions.{steps_next}
 use Rattle.tv_layout.proofs.Sound.{starts}
 use Rattle.tv_layout.proofs.StepFill.{Stepped, step_met, shows, sound, stepped}
@@ -32,24 +34,15 @@ use Rattle.tv_layout.proofs.Taking.{AuxCase.{Takes, Ends, Other}, aux_case, take
 use Rattle.tv_parts.specs.States.{state_in}
 use Rattle.tv_numbers.specs.Shown.{MayTake}
 use Rattle.tv_layout.proofs.Blocks.{BlockSizes, BlockIsSound, BlockIsComplete, Given}
-use Rattle.tv_layout.specs.Blocks.{BlockCircuit, BlockValues, told, values_for}
-use Rattle.tv_layout.specs.Layout.{before_steps, step_of, steps_of, state_at}
+use Rattle.tv_layout.specs.Blocks.{BlockCircuit, BlockValues, view_of, values_for}
+use Rattle.tv_layout.specs.Layout.{before_steps, step_of, steps_of}
 use Rattle.tv_layout.specs.Places.{boot_count}
 use Rattle.tv_layout.specs.Values.{step_values}
 
-abbrev view_of : ℕ → List ℕ → ℕ → ℕ → ℕ → View
-view_of pc regs flag taken ended = record { pc = pc; regs = regs; flag = flag; taken = taken; ended = ended }
-
-view_same : (pc flag taken ended pc' flag' taken' ended' : ℕ) (regs regs' : List ℕ) → pc ≡ pc' → regs ≡ regs' → flag ≡ flag' → taken ≡ taken' → ended ≡ ended'
-    → view_of pc regs flag taken ended ≡ view_of pc' regs' flag' taken' ended'
-view_same pc flag taken ended pc' flag' taken' ended' regs regs' a b c d e = rw (a, b, c, d, e) refl
-
-start_ended : (block : BlockCircuit) (z x : List ℕ) (time zero_wire first : ℕ) → slice_index z zero_wire ≡ 0 → (state_in z (state_at block (length x) time zero_wire first 0)).ended ≡ 0
-unfolding steps_of turns pure
-start_ended block z x time zero_wire first e = e
-
-module _ (w : ℕ) (block : BlockCircuit) (made : ℕ) (sizes : BlockSizes block made) (values : BlockValues) (law : BlockIsSound w block) (complete : BlockIsComplete w block made values)
-    (image x aux z : List ℕ) (zero_wire first t v : ℕ) (input : IsInput w image x aux) (assigns : Assigns z) (early : boot_count image (length x) + 3 * t < 2 ^ 32) (zero_there : slice_index z zero_wire ≡ 0)
+module _ (w : ℕ) (block : BlockCircuit) (made : ℕ) (sizes : BlockSizes block made) (values : BlockValues) (law : BlockIsSound w block)
+    (complete : BlockIsComplete w block made values)
+    (image x aux z : List ℕ) (zero_wires first t v : ℕ) (input : IsInput w image x aux) (assigns : Assigns z)
+    (early : boot_count image (length x) + 3 * t < 2 ^ 32) (zeros_there : HoldsZeros z zero_wires)
     (has : (i : ℕ) → i < t → HasFrom z (first + i * made) (step_values values w image x aux i)) (runs : Answering w (start w image x aux) t v) where
   abbrev time : ℕ
   time = boot_count image (length x)
@@ -58,7 +51,7 @@ module _ (w : ℕ) (block : BlockCircuit) (made : ℕ) (sizes : BlockSizes block
   now i = state_after w i (start w image x aux)
 
   abbrev here : ℕ → Did
-  here i = did_at block made sizes z x (boot_count image (length x)) zero_wire first i
+  here i = did_at block made sizes z x (boot_count image (length x)) zero_wires first i
 
   range : (i : ℕ) → InRange w (now i)
   range i = run_keeps_range w input.width (start w image x aux) i (start_in_range w input.width image x aux input.primary_words input.aux_words)
@@ -72,31 +65,37 @@ module _ (w : ℕ) (block : BlockCircuit) (made : ℕ) (sizes : BlockSizes block
     matches : Matches x (here i).now (now i)
     ended : (here i).now.ended ≡ flag_of (ended_after w i (start w image x aux))
 
-  viewed : (i : ℕ) → Before i → (here i).now ≡ told (length x) (now i) (ended_after w i (start w image x aux))
+  viewed : (i : ℕ) → Before i → (here i).now ≡ view_of (length x) (now i) (ended_after w i (start w image x aux))
   viewed i before =
       let m = before.matches in
       let long : length (now i).primary ≡ length x - (here i).now.taken = ap length m.primary ∙ length-drop (here i).now.taken x in
       let within = before.held.taken in
-      view_same (here i).now.pc (here i).now.flag (here i).now.taken (here i).now.ended (now i).pc (flag_of (now i).flag) (length x - length (now i).primary) (flag_of (ended_after w i (start w image x aux)))
+      view_same (here i).now.pc (here i).now.flag (here i).now.taken (here i).now.ended (now i).pc (flag_of (now i).flag) (length x - length (now i).primary)
+      (flag_of (ended_after w i (start w image x aux)))
       (here i).now.regs (now i).regs
       (sym m.pc) (sym m.regs) (sym m.flag) (omega arith) before.ended
 
   -- a word is taken only where the tape's end was not found before
-  open_before : (i word : ℕ) → word_taken w (now i) ≡ Some word → (e : Bool) → ended_after w i (start w image x aux) ≡ e → flag_of (ended_after w i (start w image x aux)) ≡ 0
+  open_before : (i word : ℕ) → word_taken w (now i) ≡ Some word → (e : Bool) → ended_after w i (start w image x aux) ≡ e
+      → flag_of (ended_after w i (start w image x aux)) ≡ 0
   open_before i word some true e = let none = ended_takes_nothing w i (start w image x aux) e in absurd cc
   open_before i word some false e = ap flag_of e
 
   may : (i : ℕ) → Before i → MayTake w (here i).now (now i) (word_taken w (now i))
   may i before = elim (aux_case w (now i)) [
     | Takes word rest same reads some end ↦
-        subst (MayTake w (here i).now (now i)) (sym some)
-        (reads, before.ended ∙ open_before i word some (ended_after w i (start w image x aux)) refl, All-head (λ v. v < 2 ^ w) word rest (subst (AreWords w) same (range i).aux))
+        subst (MayTake w (here i).now (now i)) (sym some) (
+          reads,
+          before.ended ∙ open_before i word some (ended_after w i (start w image x aux)) refl,
+          All-head (λ v. v < 2 ^ w) word rest (subst (AreWords w) same (range i).aux),
+        )
     | Ends none reads some end ↦ subst (MayTake w (here i).now (now i)) (sym some) tt
     | Other without some end ↦ subst (MayTake w (here i).now (now i)) (sym some) tt
   ]
 
   given : (i : ℕ) → i < t → Before i
-      → Given w values z x (state block made sizes z x time zero_wire first i) (time + 3 * i) (steps_of block (length x) time i zero_wire first).next (now i) (word_taken w (now i))
+      → Given w values z x (state block made sizes z x time zero_wires first i) (time + 3 * i) (steps_of block (length x) time i zero_wires first).next (now i)
+      (word_taken w (now i))
   given i h before = record {
     short = input.short;
     early = omega arith;
@@ -106,63 +105,75 @@ module _ (w : ℕ) (block : BlockCircuit) (made : ℕ) (sizes : BlockSizes block
     matches = before.matches;
     defined = runs.defined i h;
     may = may i before;
-    has = subst (λ at. HasFrom z at (values_for w values (length x) (here i).now (time + 3 * i) (now i) (word_taken w (now i)))) (sym (steps_next block made sizes (length x) time i zero_wire first))
-        (subst (λ u. HasFrom z (first + i * made) (values_for w values (length x) u (time + 3 * i) (now i) (word_taken w (now i)))) (sym (viewed i before)) (has i h));
+    has = subst (λ at. HasFrom z at (values_for w values (length x) (here i).now (time + 3 * i) (now i) (word_taken w (now i))))
+        (sym (steps_next block made sizes (length x) time i zero_wires first))
+        (subst (λ u. HasFrom z (first + i * made) (values_for w values (length x) u (time + 3 * i) (now i) (word_taken w (now i)))) (sym (viewed i before))
+        (has i h));
   }
 
   one : (i : ℕ) → i < t → Before i → Stepped w x (now i) (here i)
   one i h before =
-      stepped w input.width block made values law complete z x (state block made sizes z x time zero_wire first i) (time + 3 * i) (steps_of block (length x) time i zero_wire first).next (now i) (given i h before) (on i)
+      stepped w input.width block made values law complete z x (state block made sizes z x time zero_wires first i) (time + 3 * i)
+      (steps_of block (length x) time i zero_wires first).next (now i) (given i h before) (on i)
 
   more : (i : ℕ) → state_after w 1 (now i) ≡ now (suc i)
   more i = sym (steps_at_the_end w i (start w image x aux)) ∙ ap now (add-one i)
 
   before : (i : ℕ) → i ≤ t → Before i
   before zero h = record {
-    held = start_held block z x time zero_wire first w input.width zero_there;
-    matches = starts block w image x aux z time zero_wire first zero_there;
-    ended = start_ended block z x time zero_wire first zero_there;
+    held = start_held block z x time zero_wires first w input.width zeros_there;
+    matches = starts block w image x aux z time zero_wires first zeros_there;
+    ended = ap (λ (v : View). v.ended) (first_view z zero_wires zeros_there block (length x) time first);
   }
   before (suc i) h =
       let b = before i (omega arith) in
       let s = one i (omega arith) b in
-      let range_after = (sound w input.width block made values law complete z x (state block made sizes z x time zero_wire first i) (time + 3 * i) (steps_of block (length x) time i zero_wire first).next (now i) (given i (omega arith) b) (on i)).range in
+      let range_after = (sound w input.width block made values law complete z x (state block made sizes z x time zero_wires first i) (time + 3 * i)
+      (steps_of block (length x) time i zero_wires first).next (now i) (given i (omega arith) b) (on i)).range in
       record {
-        held = subst (λ s. ViewInRange w (length x) (state_in z s)) (sym (next_state block made sizes z x time zero_wire first i)) range_after;
-        matches = subst (λ s. Matches x (state_in z s) (now (suc i))) (sym (next_state block made sizes z x time zero_wire first i)) (subst (λ st. Matches x (here i).after st) (more i) s.matches);
-        ended = ap (λ s. (state_in z s).ended) (next_state block made sizes z x time zero_wire first i) ∙ s.ended (ended_after w i (start w image x aux)) b.ended;
+        held = subst (λ s. ViewInRange w (length x) (state_in z s)) (sym (next_state block made sizes z x time zero_wires first i)) range_after;
+        matches = subst (λ s. Matches x (state_in z s) (now (suc i))) (sym (next_state block made sizes z x time zero_wires first i))
+            (subst (λ st. Matches x (here i).after st) (more i) s.matches);
+        ended = ap (λ s. (state_in z s).ended) (next_state block made sizes z x time zero_wires first i)
+            ∙ s.ended (ended_after w i (start w image x aux)) b.ended;
       }
 
   -- the steps are met
-  one_met : (i : ℕ) → i < t → Before i → Meets z (block (length x) (state block made sizes z x time zero_wire first i) (time + 3 * i) (steps_of block (length x) time i zero_wire first).next).list
+  one_met : (i : ℕ) → i < t → Before i → Meets z
+      (block (length x) (state block made sizes z x time zero_wires first i) (time + 3 * i) (steps_of block (length x) time i zero_wires first).next).list
   one_met i h b =
-      step_met w input.width block made values law complete z x (state block made sizes z x time zero_wire first i) (time + 3 * i) (steps_of block (length x) time i zero_wire first).next (now i) (given i h b) (on i)
+      step_met w input.width block made values law complete z x (state block made sizes z x time zero_wires first i) (time + 3 * i)
+      (steps_of block (length x) time i zero_wires first).next (now i) (given i h b) (on i)
 
-  pub steps_met : Meets z (steps_of block (length x) time t zero_wire first).list
+  pub steps_met : Meets z (steps_of block (length x) time t zero_wires first).list
   unfolding steps_of pure
-  steps_met = turns_met z (step_of block (length x) time) (before_steps zero_wire) first t (λ i h.
-      whole z (block (length x) (state block made sizes z x time zero_wire first i) (time + 3 * i)) (λ b. pure (reached b)) (steps_of block (length x) time i zero_wire first).next (one_met i h (before i (omega arith))) tt)
+  steps_met = turns_met z (step_of block (length x) time) (before_steps zero_wires) first t (λ i h.
+      whole z (block (length x) (state block made sizes z x time zero_wires first i) (time + 3 * i)) (λ b. pure (reached b))
+      (steps_of block (length x) time i zero_wires first).next (one_met i h (before i (omega arith))) tt)
 
   -- their lines are those of the run
   pub steps_lines : (n : ℕ) → n ≤ t → joined_below n (λ i. lines_in (here i)) ≡ lines_of w (length x) time (start w image x aux) n
   steps_lines zero h = joined_below-zero (λ i. lines_in (here i))
   steps_lines (suc n) h =
-      let shown = shows w input.width block made values law complete z x (state block made sizes z x time zero_wire first n) (time + 3 * n) (steps_of block (length x) time n zero_wire first).next (now n) (given n (omega arith) (before n (omega arith))) (on n) in
+      let shown = shows w input.width block made values law complete z x (state block made sizes z x time zero_wires first n) (time + 3 * n)
+      (steps_of block (length x) time n zero_wires first).next (now n) (given n (omega arith) (before n (omega arith))) (on n) in
       joined_below-suc n (λ i. lines_in (here i)) ∙ ap₂ (λ (a b : List Line). a ++ b) (steps_lines n (omega arith)) shown.lines
 
   -- and so are the words that they take
-  pub steps_take : (n : ℕ) → n ≤ t → joined_below n (λ i. taken_in z (step block made sizes z x time zero_wire first i).spot) ≡ words_taken w n (start w image x aux)
-  steps_take zero h = joined_below-zero (λ i. taken_in z (step block made sizes z x time zero_wire first i).spot)
+  pub steps_take : (n : ℕ) → n ≤ t → joined_below n (λ i. taken_in z (step block made sizes z x time zero_wires first i).spot)
+      ≡ words_taken w n (start w image x aux)
+  steps_take zero h = joined_below-zero (λ i. taken_in z (step block made sizes z x time zero_wires first i).spot)
   steps_take (suc n) h =
-      joined_below-suc n (λ i. taken_in z (step block made sizes z x time zero_wire first i).spot)
+      joined_below-suc n (λ i. taken_in z (step block made sizes z x time zero_wires first i).spot)
       ∙ ap₂ (λ (a b : List ℕ). a ++ b) (steps_take n (omega arith)) (one n (omega arith) (before n (omega arith))).taken
 
   -- the last one answers
-  pub last_said : (m : ℕ) → m + 1 ≡ t → (slice_index z (steps_of block (length x) time t zero_wire first).answer.answers ≡ 1) × (slice_index z (steps_of block (length x) time t zero_wire first).answer.value ≡ v)
+  pub last_said : (m : ℕ) → m + 1 ≡ t → (slice_index z (steps_of block (length x) time t zero_wires first).answer.answers ≡ 1)
+      × (slice_index z (steps_of block (length x) time t zero_wires first).answer.value ≡ v)
   last_said m e =
       let more : t ≡ suc m = omega arith in
-      let is : (steps_of block (length x) time t zero_wire first).answer ≡ reached (step block made sizes z x time zero_wire first m) =
-      ap (λ k. (steps_of block (length x) time k zero_wire first).answer) more ∙ last_step block made sizes z x time zero_wire first m in
+      let is : (steps_of block (length x) time t zero_wires first).answer ≡ reached (step block made sizes z x time zero_wires first m) =
+      ap (λ k. (steps_of block (length x) time k zero_wires first).answer) more ∙ last_step block made sizes z x time zero_wires first m in
       let here_ : t - 1 ≡ m = omega arith in
       let said = (one m (omega arith) (before m (omega arith))).answers v (subst (λ k. next w (now k) ≡ Next.Answered v) here_ runs.last) in
       (ap (λ r. slice_index z r.answers) is ∙ eqb-true _ 1 said.0, ap (λ r. slice_index z r.value) is ∙ said.1)

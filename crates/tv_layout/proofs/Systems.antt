@@ -27,14 +27,36 @@ module _ (w : ℕ) (width : IsWidth w) where
 
   pub step_complete : BlockIsComplete w (block_of w) (block_made w) (step_values w)
   step_complete = record {
-    many = λ n time st ended short range. (machine_values_fit w width n time st (n - length st.primary) (flag_of ended) short (omega arith) (flag_small ended) range).0;
-    below = λ n time st ended short range. (machine_values_fit w width n time st (n - length st.primary) (flag_of ended) short (omega arith) (flag_small ended) range).1;
+    many = λ n time st ended short range. (machine_values_fit w width n time st (n - length st.primary) (flag_of ended) short (omega arith)
+        (flag_small ended) range).0;
+    below = λ n time st ended short range. (machine_values_fit w width n time st (n - length st.primary) (flag_of ended) short (omega arith)
+        (flag_small ended) range).1;
     met = λ z x state time next st word g.
         (machine_step_met w width z x state time next st word
-        (record { short = g.short; early = g.early; assigns = g.assigns; range = g.range; machine = g.machine; matches = g.matches; defined = g.defined; may = g.may; has = g.has })).met;
+        (record {
+          short = g.short;
+          early = g.early;
+          assigns = g.assigns;
+          range = g.range;
+          machine = g.machine;
+          matches = g.matches;
+          defined = g.defined;
+          may = g.may;
+          has = g.has;
+        })).met;
     shows = λ z x state time next st word g.
         let met = machine_step_met w width z x state time next st word
-        (record { short = g.short; early = g.early; assigns = g.assigns; range = g.range; machine = g.machine; matches = g.matches; defined = g.defined; may = g.may; has = g.has }) in
+        (record {
+          short = g.short;
+          early = g.early;
+          assigns = g.assigns;
+          range = g.range;
+          machine = g.machine;
+          matches = g.matches;
+          defined = g.defined;
+          may = g.may;
+          has = g.has;
+        }) in
         record { lines = met.lines; takes = met.takes; same = met.same };
   }
 
@@ -44,8 +66,10 @@ system_sound w net image x z t fits has sat =
 
 pub system_complete : SystemIsComplete
 system_complete w net image x aux t v fits x_words aux_words run =
-    fill_complete w net (block_of w) (block_made w) (step_values w) (step_sized w fits.width) (step_sound w fits.width) (step_complete w fits.width) image x aux t v fits x_words aux_words run
+    fill_complete w net (block_of w) (block_made w) (step_values w) (step_sized w fits.width) (step_sound w fits.width)
+    (step_complete w fits.width) image x aux t v fits x_words aux_words run
 
 pub system_reduces : SystemReduces
 system_reduces w net image n t fits =
-    layout_reduces w net (block_of w) (block_made w) (step_values w) (step_sized w fits.width) (step_sound w fits.width) (step_complete w fits.width) image n t fits
+    layout_reduces w net (block_of w) (block_made w) (step_values w) (step_sized w fits.width) (step_sound w fits.width)
+    (step_complete w fits.width) image n t fits

@@ -7,7 +7,7 @@ use Rattle.tv_parts.specs.declared.records.Spot.{Spot}
 use Rattle.tv_core.specs.Below.{joined_below}
 use Rattle.tv_layout.specs.Blocks.{BlockCircuit}
 use Rattle.tv_layout.specs.Layout.{block_at, taken_wire, taken_wires, taken_at, taken_of}
-use Rattle.tv_layout.specs.Places.{boot_count, zero_wire_at, first_at}
+use Rattle.tv_layout.specs.Places.{boot_count, zero_wires_at, first_at}
 use Rattle.tv_numbers.specs.Laws.{AuxFits}
 use Rattle.tv_step.specs.Reads.{reads_aux, word_taken, words_in, finds_end}
 use Rattle.tv_step.specs.State.{State}
@@ -24,16 +24,17 @@ taken_at_is z spot = by_test (slice_index z spot.taken == 1)
     by_test true = refl
     by_test false = refl
 
-all_taken : (z : List ℕ) (spot : ℕ → Spot) (places : List ℕ) → map (slice_index z) (flat_map (λ i. taken_wire z (spot i)) places) ≡ flat_map (λ i. taken_in z (spot i)) places
+all_taken : (z : List ℕ) (spot : ℕ → Spot) (places : List ℕ)
+    → map (slice_index z) (flat_map (λ i. taken_wire z (spot i)) places) ≡ flat_map (λ i. taken_in z (spot i)) places
 all_taken z spot [] = refl
 all_taken z spot (i ∷ places) =
     map-append (slice_index z) (taken_wire z (spot i)) (flat_map (λ i. taken_wire z (spot i)) places)
     ∙ ap₂ (λ (a b : List ℕ). a ++ b) (taken_at_is z (spot i)) (all_taken z spot places)
 
 pub taken_of_is : (block : BlockCircuit) (w : ℕ) (image : List ℕ) (n t : ℕ) (z : List ℕ)
-    → taken_of block w image n t z ≡ joined_below t (λ i. taken_in z (block_at block n (boot_count image n) (zero_wire_at w n) (first_at w n) i).spot)
+    → taken_of block w image n t z ≡ joined_below t (λ i. taken_in z (block_at block n (boot_count image n) (zero_wires_at w n) (first_at w n) i).spot)
 unfolding taken_wires joined_below
-taken_of_is block w image n t z = all_taken z (λ i. (block_at block n (boot_count image n) (zero_wire_at w n) (first_at w n) i).spot) (range_with_len 0 t)
+taken_of_is block w image n t z = all_taken z (λ i. (block_at block n (boot_count image n) (zero_wires_at w n) (first_at w n) i).spot) (range_with_len 0 t)
 
 -- ---- by the machine
 -- it takes a word, or it reads the tape and finds its end, or it doesn't read it
@@ -51,8 +52,8 @@ module _ (w : ℕ) (st : State) where
 
   by_tape : (aux : List ℕ) → st.aux ≡ aux → reads_aux w st ≡ true → AuxCase w st
   by_tape [] same e =
-      let zero_wire : slice_get st.aux 0 ≡ None = ap (λ l. slice_get l 0) same in
-      Ends same e (taken_is true e ∙ zero_wire) (ends_is true None e zero_wire)
+      let zero_wires : slice_get st.aux 0 ≡ None = ap (λ l. slice_get l 0) same in
+      Ends same e (taken_is true e ∙ zero_wires) (ends_is true None e zero_wires)
   by_tape (v ∷ rest) same e =
       let some : slice_get st.aux 0 ≡ Some v = ap (λ l. slice_get l 0) same in
       Takes v rest same e (taken_is true e ∙ some) (ends_is true (Some v) e some)
@@ -62,7 +63,8 @@ module _ (w : ℕ) (st : State) where
   by_read false e = Other e (taken_is false e) (ends_is false (slice_get st.aux 0) e refl)
 
   -- what fits the tape is what it takes
-  pub taken_fits : (takes : Bool) (word : ℕ) (rest : List ℕ) → AuxFits w st takes word rest → (takes ≡ true → reads_aux w st ≡ true) → (if takes then word ∷ [] else []) ≡ words_in (word_taken w st)
+  pub taken_fits : (takes : Bool) (word : ℕ) (rest : List ℕ) → AuxFits w st takes word rest → (takes ≡ true → reads_aux w st ≡ true)
+      → (if takes then word ∷ [] else []) ≡ words_in (word_taken w st)
   taken_fits true word rest fits reads =
       let is : word_taken w st ≡ Some word = taken_is true (reads refl) ∙ ap (λ l. slice_get l 0) (fits.taken refl) in
       ap words_in (sym is)

@@ -3,7 +3,6 @@ use Rattle.std.proofs.Common.{◌≡◌, ℕ, ◌+◌, ◌-◌, ◌*◌, ◌<◌
 use Rattle.std.proofs.Math.Nat.{pow-le-pow_right}
 use Rattle.std.proofs.lemmas.List.{length-append, length-map, map-append}
 use Rattle.std.proofs.lemmas.List.Elements.{All-weaker}
-use Rattle.std.specs.Prelude.{slice_index}
 use Rattle.tv_core.specs.Below.{joined_below}
 use Rattle.tv_core.specs.Laws.{Assigns, Meets, HasFrom}
 use Rattle.tv_core.specs.Lines.{Line}
@@ -14,12 +13,13 @@ use Rattle.tv_step.specs.Cells.{boot_lines}
 use Rattle.tv_step.specs.Range.{AreWords}
 use Rattle.tv_word.specs.Widths.{IsWidth}
 use Rattle.tv_layout.proofs.Boot.{boot_lines_valued, padding_valued, LinesFrom-append, length-boot_lines, boot_lines_placed, padding_placed, length-padding}
+use Rattle.tv_layout.proofs.FirstState.{HoldsZeros}
 use Rattle.tv_layout.proofs.Positions.{log_above, log_within}
 use Rattle.tv_layout.proofs.Steps.{did_at, lines_did, length-lines_did, lines_placed}
 use Rattle.tv_layout.proofs.Blocks.{BlockSizes, BlockIsSound}
 use Rattle.tv_layout.specs.Blocks.{BlockCircuit}
 use Rattle.tv_layout.specs.Layout.{boot_lines_of, steps_of, block_at, lines_of}
-use Rattle.tv_layout.specs.Places.{WithinLimits, boot_count, line_count, log_of, tape_at, zero_wire_at, first_at}
+use Rattle.tv_layout.specs.Places.{WithinLimits, boot_count, line_count, log_of, tape_at, zero_wires_at, first_at}
 use Rattle.tv_layout.specs.Sound.{padding}
 use Rattle.tv_word.proofs.WidthLaws.{word_small}
 
@@ -47,35 +47,42 @@ module _ (image : List ℕ) (n t : ℕ) where
     pub early : boot_count image n + 3 * t < 2 ^ 32
     early = omega (arith, fits.image_fits, fits.tape_fits, fits.steps_fit)
 
-module _ (w : ℕ) (block : BlockCircuit) (made : ℕ) (sizes : BlockSizes block made) (law : BlockIsSound w block) (image x z : List ℕ) (t : ℕ) (fits : WithinLimits w image (length x) t)
-    (assigns : Assigns z) (words : AreWords w x) (has : HasFrom z tape_at x) (zero_there : slice_index z (zero_wire_at w (length x)) ≡ 0)
-    (met : Meets z (steps_of block (length x) (boot_count image (length x)) t (zero_wire_at w (length x)) (first_at w (length x))).list) where
+module _ (w : ℕ) (block : BlockCircuit) (made : ℕ) (sizes : BlockSizes block made) (law : BlockIsSound w block) (image x z : List ℕ) (t : ℕ)
+    (fits : WithinLimits w image (length x) t)
+    (assigns : Assigns z) (words : AreWords w x) (has : HasFrom z tape_at x) (zeros_there : HoldsZeros z (zero_wires_at w (length x)))
+    (met : Meets z (steps_of block (length x) (boot_count image (length x)) t (zero_wires_at w (length x)) (first_at w (length x))).list) where
   abbrev pub lines : ℕ → List Line
-  lines i = lines_in (did_at block made sizes z x (boot_count image (length x)) (zero_wire_at w (length x)) (first_at w (length x)) i)
+  lines i = lines_in (did_at block made sizes z x (boot_count image (length x)) (zero_wires_at w (length x)) (first_at w (length x)) i)
 
   pub lines_valued : map (line_value z) (lines_of block w image (length x) t)
       ≡ (boot_lines image x ++ joined_below t lines) ++ padding (line_count image (length x) t) (spare image (length x) t)
   unfolding lines_of
   lines_valued =
       let count : ℕ = line_count image (length x) t in
-      let a = boot_lines_valued z assigns image x (words_32 w fits.width image fits.words) (omega (arith, fits.image_fits)) (omega (arith, fits.tape_fits)) has in
-      let b = lines_did block made sizes z x (boot_count image (length x)) (zero_wire_at w (length x)) (first_at w (length x)) t in
-      let c = padding_valued z assigns count (spare image (length x) t) (omega (arith, filled image (length x) t w fits, power_few image (length x) t w fits)) in
-      map-append (line_value z) (boot_lines_of image (length x) ++ joined_below t (λ i. (block_at block (length x) (boot_count image (length x)) (zero_wire_at w (length x)) (first_at w (length x)) i).lines)) _
+      let a = boot_lines_valued z assigns image x (words_32 w fits.width image fits.words) (omega (arith, fits.image_fits))
+      (omega (arith, fits.tape_fits)) has in
+      let b = lines_did block made sizes z x (boot_count image (length x)) (zero_wires_at w (length x)) (first_at w (length x)) t in
+      let c = padding_valued z assigns count (spare image (length x) t)
+      (omega (arith, filled image (length x) t w fits, power_few image (length x) t w fits)) in
+      map-append (line_value z) (boot_lines_of image (length x)
+      ++ joined_below t (λ i. (block_at block (length x) (boot_count image (length x)) (zero_wires_at w (length x)) (first_at w (length x)) i).lines)) _
       ∙ ap₂ (λ (u v : List Line). u ++ v)
       (map-append (line_value z) (boot_lines_of image (length x)) _ ∙ ap₂ (λ (u v : List Line). u ++ v) a b) c
 
   steps_many : length (joined_below t lines) ≡ t * 3
-  steps_many = length-lines_did block made sizes z x (boot_count image (length x)) (zero_wire_at w (length x)) (first_at w (length x)) t
+  steps_many = length-lines_did block made sizes z x (boot_count image (length x)) (zero_wires_at w (length x)) (first_at w (length x)) t
 
   pub all_placed : LinesFrom 0 ((boot_lines image x ++ joined_below t lines) ++ padding (line_count image (length x) t) (spare image (length x) t))
   all_placed =
       let e = length-append (boot_lines image x) (joined_below t lines) in
       let g = length-boot_lines image x in
-      LinesFrom-append 0 (line_count image (length x) t) (boot_lines image x ++ joined_below t lines) (padding (line_count image (length x) t) (spare image (length x) t)) (omega (arith, e, g, steps_many))
+      LinesFrom-append 0 (line_count image (length x) t) (boot_lines image x ++ joined_below t lines)
+      (padding (line_count image (length x) t) (spare image (length x) t)) (omega (arith, e, g, steps_many))
       (LinesFrom-append 0 (boot_count image (length x)) (boot_lines image x) (joined_below t lines) (omega (arith, g))
-      (boot_lines_placed image x (words_32 w fits.width image fits.words) (words_32 w fits.width x words) (omega (arith, fits.image_fits)) (omega (arith, fits.tape_fits)))
-      (lines_placed block made sizes z x (boot_count image (length x)) (zero_wire_at w (length x)) (first_at w (length x)) w fits.width law t assigns (short image (length x) t w fits) (early image (length x) t w fits) zero_there met t (omega arith)))
+      (boot_lines_placed image x (words_32 w fits.width image fits.words) (words_32 w fits.width x words) (omega (arith, fits.image_fits))
+      (omega (arith, fits.tape_fits)))
+      (lines_placed block made sizes z x (boot_count image (length x)) (zero_wires_at w (length x)) (first_at w (length x)) w fits.width law t assigns
+      (short image (length x) t w fits) (early image (length x) t w fits) zeros_there met t (omega arith)))
       (padding_placed (line_count image (length x) t) (spare image (length x) t))
 
   pub lines_many : length (lines_of block w image (length x) t) ≡ 2 ^ log_of (line_count image (length x) t)
@@ -84,5 +91,6 @@ module _ (w : ℕ) (block : BlockCircuit) (made : ℕ) (sizes : BlockSizes block
       let f = length-append (boot_lines image x ++ joined_below t lines) (padding (line_count image (length x) t) (spare image (length x) t)) in
       let g = length-boot_lines image x in
       let h = length-padding (line_count image (length x) t) (spare image (length x) t) in
-      let l : length ((boot_lines image x ++ joined_below t lines) ++ padding (line_count image (length x) t) (spare image (length x) t)) ≡ 2 ^ log_of (line_count image (length x) t) = omega (arith, e, f, g, h, steps_many, filled image (length x) t w fits) in
+      let l : length ((boot_lines image x ++ joined_below t lines) ++ padding (line_count image (length x) t) (spare image (length x) t))
+      ≡ 2 ^ log_of (line_count image (length x) t) = omega (arith, e, f, g, h, steps_many, filled image (length x) t w fits) in
       sym (length-map (lines_of block w image (length x) t) (line_value z)) ∙ ap length lines_valued ∙ l

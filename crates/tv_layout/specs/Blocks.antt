@@ -7,11 +7,11 @@ use Rattle.tv_core.specs.Circuits.{Circuit}
 use Rattle.tv_numbers.specs.Views.{View, flag_of, seen}
 use Rattle.tv_step.specs.State.{State}
 
--- one step from a state, by how many words the primary tape has, the state's wires, and the time of its first line
+-- one step from a state, by the number of words of the primary tape, the state's wires, and the time of its first line
 abbrev pub BlockCircuit : Type 0
 BlockCircuit = ℕ → StateWires → ℕ → Circuit Block
 
--- the values of a block's wires, by how many words the primary tape has, the state in numbers, the olds of the step's
+-- the values of a block's wires, by the number of words of the primary tape, the state in numbers, the olds of the step's
 -- three lines, and the word that it takes of the auxiliary tape
 abbrev pub BlockValues : Type 0
 BlockValues = ℕ → View → List ℕ → Option ℕ → List ℕ
@@ -20,6 +20,6 @@ BlockValues = ℕ → View → List ℕ → Option ℕ → List ℕ
 abbrev pub values_for : ℕ → BlockValues → ℕ → View → ℕ → State → Option ℕ → List ℕ
 values_for w values n v time st word = values n v (olds_of w n st time) word
 
--- a state as it is told to a block: as many words of the primary tape are taken as aren't left
-abbrev pub told : ℕ → State → Bool → View
-told n st ended = seen st (n - length st.primary) (flag_of ended)
+-- the numbers in a state's wires: as many words of the primary tape of n are taken as aren't left
+abbrev pub view_of : ℕ → State → Bool → View
+view_of n st ended = seen st (n - length st.primary) (flag_of ended)

@@ -1,11 +1,11 @@
 -- The system of a program's runs of t steps on a primary tape of n words, over a circuit of one step: the answer, the
 -- tape's words, the steps in a row, and an argument that their lines of memory are honest.
-use Rattle.std.specs.Prelude.{ℕ, zero, suc, ◌+◌, ◌-◌, ◌*◌, ◌^◌, ◌==◌, if◌then◌else◌, List, [], ◌∷◌, ◌++◌, length, map, replicate, slice_index}
+use Rattle.std.specs.Prelude.{ℕ, zero, suc, ◌+◌, ◌-◌, ◌*◌, ◌^◌, ◌==◌, if◌then◌else◌, List, [], ◌∷◌, ◌++◌, length, map, slice_index}
 use Rattle.std.specs.List.{range_with_len}
 use Rattle.tv_benes.specs.declared.shape.Net.{Net}
 use Rattle.tv_bits.specs.Bits.{bits_of}
 use Rattle.tv_core.specs.Below.{joined_below}
-use Rattle.tv_core.specs.Circuits.{Circuit, fresh, put, pure, turns, ◌>>=◌}
+use Rattle.tv_core.specs.Circuits.{Circuit, fresh, here, put, pure, turns, ◌>>=◌}
 use Rattle.tv_core.specs.Combinations.{wire, constant}
 use Rattle.tv_core.specs.Constraints.{Combination, System}
 use Rattle.tv_core.specs.Loops.{times}
@@ -14,7 +14,8 @@ use Rattle.tv_core.specs.declared.lines.LineLc.{LineLc}
 use Rattle.tv_memory.specs.Memory.{memory_of}
 use Rattle.tv_layout.specs.Blocks.{BlockCircuit}
 use Rattle.tv_layout.specs.Checks.{checks_of}
-use Rattle.tv_layout.specs.Places.{boot_count, line_count, log_of, tape_at, zero_wire_at, first_at}
+use Rattle.tv_layout.specs.Places.{boot_count, line_count, log_of, tape_at, zero_wires_at, first_at}
+use Rattle.tv_layout.specs.declared.places.TheConstants.{STATE_WIRES}
 use Rattle.tv_block.specs.Block.{reached}
 use Rattle.tv_block.specs.declared.records.Block.{Block}
 use Rattle.tv_block.specs.declared.records.Reached.{Reached}
@@ -32,18 +33,31 @@ unfoldable pub words_of : ℕ → ℕ → ℕ → Circuit (Unit {0})
 words_of w first n = times n (word_of w first)
 
 -- a new wire that is held to 0
-unfoldable pub zero_wire_of : Circuit ℕ
+unfoldable pub zero_wire_of : Circuit (Unit {0})
 zero_wire_of = do
   w ← fresh
-  _ ← put (wire w) (constant 1) []
-  pure w
+  put (wire w) (constant 1) []
 
--- the first state, all of it one wire
+-- one for each wire of a state; the first of them is answered
+unfoldable pub zero_wires_of : Circuit ℕ
+zero_wires_of = do
+  first ← here
+  _ ← times STATE_WIRES (λ _. zero_wire_of)
+  pure first
+
+-- the first state: the wires from a first one on, in a row
 abbrev pub first_state : ℕ → StateWires
-first_state zero_wire = record { pc = zero_wire; regs = replicate 16 zero_wire; flag = zero_wire; taken_of_primary = zero_wire; aux_ended = zero_wire }
+first_state zero_wires = record {
+  pc = zero_wires;
+  regs = range_with_len (zero_wires + 1) 16;
+  flag = zero_wires + 17;
+  taken_of_primary = zero_wires + 18;
+  aux_ended = zero_wires + 19;
+}
 
+-- nothing is answered before the steps
 abbrev pub before_steps : ℕ → Reached
-before_steps zero_wire = record { next = first_state zero_wire; answers = zero_wire; value = zero_wire }
+before_steps zero_wires = record { next = first_state zero_wires; answers = zero_wires; value = zero_wires }
 
 -- the last step answers, and its value is the answer's wire
 unfoldable pub tie_of : Reached → Circuit (Unit {0})
@@ -88,25 +102,25 @@ module _ (block : BlockCircuit) where
     pure (reached made)
 
   unfoldable pub steps_of : ℕ → ℕ → ℕ → ℕ → Circuit Reached
-  steps_of n time t zero_wire = turns t (step_of n time) (before_steps zero_wire)
+  steps_of n time t zero_wires = turns t (step_of n time) (before_steps zero_wires)
 
   -- the state before step i, and step i, where the first one's wires begin at `first`
   abbrev pub state_at : ℕ → ℕ → ℕ → ℕ → ℕ → StateWires
-  state_at n time zero_wire first i = (steps_of n time i zero_wire first).answer.next
+  state_at n time zero_wires first i = (steps_of n time i zero_wires first).answer.next
 
   abbrev pub block_at : ℕ → ℕ → ℕ → ℕ → ℕ → Block
-  block_at n time zero_wire first i = (block n (state_at n time zero_wire first i) (time + 3 * i) (steps_of n time i zero_wire first).next).answer
+  block_at n time zero_wires first i = (block n (state_at n time zero_wires first i) (time + 3 * i) (steps_of n time i zero_wires first).next).answer
 
   -- all lines in time order: boot lines, those of the steps, and padding up to 2 ^ k
   unfoldable pub lines_of : ℕ → List ℕ → ℕ → ℕ → List LineLc
   lines_of w image n t =
-      (boot_lines_of image n ++ joined_below t (λ i. (block_at n (boot_count image n) (zero_wire_at w n) (first_at w n) i).lines))
+      (boot_lines_of image n ++ joined_below t (λ i. (block_at n (boot_count image n) (zero_wires_at w n) (first_at w n) i).lines))
       ++ padding_of (line_count image n t) (2 ^ log_of (line_count image n t) - line_count image n t)
 
   -- the wires at which the steps that take a word of the auxiliary tape in an assignment have it, in order; and these
   -- words
   unfoldable pub taken_wires : ℕ → List ℕ → ℕ → ℕ → List ℕ → List ℕ
-  taken_wires w image n t z = joined_below t (λ i. taken_wire z (block_at n (boot_count image n) (zero_wire_at w n) (first_at w n) i).spot)
+  taken_wires w image n t z = joined_below t (λ i. taken_wire z (block_at n (boot_count image n) (zero_wires_at w n) (first_at w n) i).spot)
 
   abbrev pub taken_of : ℕ → List ℕ → ℕ → ℕ → List ℕ → List ℕ
   taken_of w image n t z = map (slice_index z) (taken_wires w image n t z)
@@ -114,8 +128,8 @@ module _ (block : BlockCircuit) where
   unfoldable pub layout_of : ℕ → Net → List ℕ → ℕ → ℕ → Circuit (Unit {0})
   layout_of w net image n t = do
     _ ← words_of w tape_at n
-    zero_wire ← zero_wire_of
-    last ← steps_of n (boot_count image n) t zero_wire
+    zero_wires ← zero_wires_of
+    last ← steps_of n (boot_count image n) t zero_wires
     _ ← tie_of last
     memory_of net (checks_of image n t) (log_of (line_count image n t)) (lines_of w image n t)
 

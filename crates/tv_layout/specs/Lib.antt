@@ -1,11 +1,12 @@
 pub mod Blocks
 pub mod Checks
 pub mod Layout
+pub mod Normal
 pub mod Places
 pub mod Reached
 pub mod Reduces
 pub mod Sizes
 pub mod Sound
+pub mod StateBefore
 pub mod Systems
-pub mod Told
 pub mod Values

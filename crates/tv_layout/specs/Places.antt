@@ -3,6 +3,7 @@ use Rattle.std.specs.Prelude.{ℕ, zero, suc, ◌+◌, ◌*◌, ◌^◌, ◌≤�
 use Rattle.tv_core.specs.declared.limits.TheConstants.{IMAGE_WORDS, TAPE_WORDS, STEPS}
 use Rattle.tv_step.specs.Range.{AreWords}
 use Rattle.tv_word.specs.Widths.{IsWidth}
+use Rattle.tv_layout.specs.declared.places.TheConstants.{STATE_WIRES}
 
 -- an image of words, a primary tape of n words and t steps, within the limits
 pub record WithinLimits (w : ℕ) (image : List ℕ) (n t : ℕ) : Type 0 where
@@ -35,10 +36,10 @@ log_of count = log_from 19 1 count
 abbrev pub tape_at : ℕ
 tape_at = 2
 
--- the wire that is held to 0, which is all of the first state
-abbrev pub zero_wire_at : ℕ → ℕ → ℕ
-zero_wire_at w n = 2 + n + n * w
+-- the wires that are held to 0, which are the first state's
+abbrev pub zero_wires_at : ℕ → ℕ → ℕ
+zero_wires_at w n = 2 + n + n * w
 
 -- the wires of the first step
 abbrev pub first_at : ℕ → ℕ → ℕ
-first_at w n = 2 + n + n * w + 1
+first_at w n = zero_wires_at w n + STATE_WIRES

@@ -11,7 +11,7 @@ use Rattle.tv_step.specs.Trace.{null_line}
 use Rattle.tv_parts.specs.States.{state_in}
 use Rattle.tv_layout.specs.Blocks.{BlockCircuit}
 use Rattle.tv_layout.specs.Layout.{state_at, block_at, lines_of, taken_at, taken_of}
-use Rattle.tv_layout.specs.Places.{boot_count, line_count, log_of, zero_wire_at, first_at}
+use Rattle.tv_layout.specs.Places.{boot_count, line_count, log_of, zero_wires_at, first_at}
 
 -- lines of the null cell, from a time on
 abbrev pub padding : ℕ → ℕ → List Line
@@ -35,10 +35,10 @@ pub record IsRun (w : ℕ) (block : BlockCircuit) (image x : List ℕ) (t : ℕ)
   pub honest : Honest (map (line_value z) (lines_of block w image (length x) t))
   pub lines : map (line_value z) (lines_of block w image (length x) t) ≡ all_lines w image x (taken_of block w image (length x) t z) t
   pub states : (i : ℕ) → i ≤ t
-      → Matches x (state_in z (state_at block (length x) (boot_count image (length x)) (zero_wire_at w (length x)) (first_at w (length x)) i))
+      → Matches x (state_in z (state_at block (length x) (boot_count image (length x)) (zero_wires_at w (length x)) (first_at w (length x)) i))
       (state_after w i (start w image x (taken_of block w image (length x) t z)))
   pub takes : (i : ℕ) → i < t
-      → taken_at z (block_at block (length x) (boot_count image (length x)) (zero_wire_at w (length x)) (first_at w (length x)) i).spot
+      → taken_at z (block_at block (length x) (boot_count image (length x)) (zero_wires_at w (length x)) (first_at w (length x)) i).spot
       ≡ words_in (word_taken w (state_after w i (start w image x (taken_of block w image (length x) t z))))
   pub accepts : Accepts w image x (taken_of block w image (length x) t z) t (slice_index z 1)
   pub reads : Reads w image x (taken_of block w image (length x) t z) t ≡ taken_of block w image (length x) t z

@@ -1,14 +1,16 @@
+//! The system of a program, put into a sink.
 ghost use Rattle.std.specs.Prelude.{◌≡◌, ◌+◌, ◌*◌, ◌≤◌, ◌<◌, false, IfOk};
 ghost use Rattle.tv_block.specs.Block.{block_of};
 ghost use Rattle.tv_core.specs.Sinks.{PutsIn, Grows, Room};
-ghost use Rattle.tv_layout.specs.Layout.{word_of, words_of, zero_wire_of, tie_of, layout_of};
+ghost use Rattle.tv_layout.specs.Layout.{word_of, words_of, zero_wire_of, zero_wires_of, tie_of};
+ghost use Rattle.tv_layout.specs.Layout.{layout_of};
 ghost use Rattle.tv_layout.specs.Places.{WithinLimits};
 ghost use Rattle.tv_layout.specs.Reached.{ReachedUnder};
 ghost use Rattle.tv_layout.specs.Sizes.{system_made, system_added};
 ghost use Rattle.tv_word.specs.Widths.{IsWidth};
 
 use crate::lines::LayoutLines;
-use crate::places::{ANSWER, log_of, tape_wire};
+use crate::places::{ANSWER, STATE_WIRES, log_of, tape_wire};
 use crate::stepping::steps;
 use tv_benes::Net;
 use tv_bits::bits;
@@ -40,14 +42,14 @@ pub fn emit_system<const W: u32, S: Sink>(
         (system_added W net image.now n t)) }
 {
     words::<W, S>(s, tape_wire(0), n)?;
-    let zero_wire = zero_wire(s)?;
-    let last = steps::<W, S>(s, n, t, zero_wire)?;
+    let zero_wires = zero_wires(s)?;
+    let last = steps::<W, S>(s, n, t, zero_wires)?;
     tie(s, &last)?;
     let k = log_of(image.len() as u32 + n + 3 * t);
     memory(s, net, k, &LayoutLines::<W> { image, n, t, k })
 }
 
-// So many wires from a first one on are words.
+// `n` wires from a first one on are words.
 fn words<const W: u32, S: Sink>(s: &mut S, first: Wire, n: u32) -> Put<()>
     requires width { IsWidth W }
     requires room { Room S.meaning s.old (n * W) (n * (W + 1)) }
@@ -73,16 +75,28 @@ fn word<const W: u32, S: Sink>(s: &mut S, first: Wire, i: u32) -> Put<()>
     Ok(())
 }
 
+// The wires of the first state, each held to 0.
+fn zero_wires<S: Sink>(s: &mut S) -> Put<Wire>
+    requires room { Room S.meaning s.old STATE_WIRES STATE_WIRES }
+    ensures puts { PutsIn S.meaning s.old s.new zero_wires_of result }
+    ensures grows { IfOk result (λ _. Grows S.meaning s.old s.new STATE_WIRES STATE_WIRES) }
+    ensures below { IfOk result (λ zero_wires. zero_wires + STATE_WIRES ≤ S.meaning.wires s.new) }
+{
+    let zero_wires = Wire(s.wires());
+    for _turn in 0..STATE_WIRES {
+        zero_wire(s)?;
+    }
+    Ok(zero_wires)
+}
+
 // A wire that is held to 0.
-fn zero_wire<S: Sink>(s: &mut S) -> Put<Wire>
+fn zero_wire<S: Sink>(s: &mut S) -> Put<()>
     requires room { Room S.meaning s.old 1 1 }
     ensures puts { PutsIn S.meaning s.old s.new zero_wire_of result }
     ensures grows { IfOk result (λ _. Grows S.meaning s.old s.new 1 1) }
-    ensures below { IfOk result (λ w. w < S.meaning.wires s.new) }
 {
     let w = s.fresh();
-    s.put(&Lc::wire(w), &Lc::constant(F::ONE), &Lc::empty())?;
-    Ok(w)
+    s.put(&Lc::wire(w), &Lc::constant(F::ONE), &Lc::empty())
 }
 
 // The last step answers, and its value is the public answer.

@@ -1,4 +1,5 @@
 //! What is proved of a program's system, from its definition.
+ghost use Rattle.tv_layout.specs.Normal.{SystemIsNormal};
 ghost use Rattle.tv_layout.specs.Sizes.{SystemIsSized};
 ghost use Rattle.tv_layout.specs.Systems.{SystemIsComplete, SystemIsSound, SystemReduces};
 
@@ -23,10 +24,18 @@ pub fn systems_reduce()
     ensures { SystemReduces }
 {}
 
-/// The counts of a system are those of its parts, all together: of a step what `step_costs` says,
-/// and of the memory argument what `memory_costs` says. For 2^k lines of T steps on n words, wires
-/// and constraints are each at most 2,048 T + 5 · 2^k (2k - 1) + 200 · 2^k + 40 (n + 1) + 64, or with
-/// 10 (2^k (k - 1) + 1) over Waksman's network, and within the limits numbers of 32 bits.
+/// The counts of a system are those of its parts, all together: of a step what `step_costs` and
+/// `step_terms` say, and of the memory argument what `memory_terms` says. Wires and constraints are
+/// closed forms; the terms of the memory argument are a sum over its lines. For 2^k lines of T
+/// steps on n words, wires and constraints are each at most
+/// 2,048 T + 5 · 2^k (2k - 1) + 200 · 2^k + 40 (n + 1) + 64, or with 10 (2^k (k - 1) + 1) over
+/// Waksman's network, and within the limits numbers of 32 bits.
 pub fn systems_are_sized()
     ensures { SystemIsSized }
+{}
+
+/// Every combination of a system is normal: each wire stands in it at most once, in rising order,
+/// with a coefficient other than 0.
+pub fn systems_are_normal()
+    ensures { SystemIsNormal }
 {}

@@ -1,10 +1,10 @@
-//! The whole system: the constraints of a program's runs of so many steps. Its public wires are the
+//! The whole system: the constraints of a program's runs of T steps. Its public wires are the
 //! answer and the words of the primary tape; the steps stand in a row, and an argument about memory
 //! holds their lines to be honest.
 //!
-//! `emit_system` puts a system into any sink; `sizes` tells its counts, and `count_system` counts
-//! what is put; `line` and `spot` tell where its parts stand. None of them takes memory, since
-//! wires follow from places.
+//! `emit_system` puts a system into any sink; `wires` and `sizes` return its counts, and
+//! `count_system` counts what is put; `line` and `spot` return parts by their places. None of them
+//! takes memory, since wires follow from places.
 #![tactic(auto)]
 
 mod checks;
@@ -19,8 +19,10 @@ mod totals;
 
 pub use checks::line_kind;
 pub use emitting::emit_system;
-pub use laws::{systems_are_complete, systems_are_sized, systems_are_sound, systems_reduce};
+pub use laws::{
+    systems_are_complete, systems_are_normal, systems_are_sized, systems_are_sound, systems_reduce,
+};
 pub use lines::line;
-pub use places::{ANSWER, log_of, public_wires, tape_wire};
-pub use sizing::{count_system, sizes};
+pub use places::{ANSWER, STATE_WIRES, log_of, public_wires, tape_wire};
+pub use sizing::{count_system, sizes, wires};
 pub use spots::spot;

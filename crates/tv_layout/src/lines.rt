@@ -1,3 +1,4 @@
+//! A system's lines, by their places.
 ghost use Rattle.std.specs.Prelude.{◌≡◌, ◌+◌, ◌*◌, ◌/◌, ◌%◌, ◌^◌, ◌≤◌, ◌<◌};
 ghost use Rattle.tv_benes.specs.declared.shape.Net.{Net};
 ghost use Rattle.tv_block.specs.Block.{block_of};
@@ -6,15 +7,15 @@ ghost use Rattle.tv_block.specs.Places.{block_wires, IsShort};
 ghost use Rattle.tv_block.specs.Under.{LineUnder};
 ghost use Rattle.tv_layout.specs.Checks.{checks_of};
 ghost use Rattle.tv_layout.specs.Layout.{lines_of, line_of_word};
-ghost use Rattle.tv_layout.specs.Places.{WithinLimits, line_count, log_of, zero_wire_at, first_at};
+ghost use Rattle.tv_layout.specs.Places.{WithinLimits, line_count, log_of, zero_wires_at, first_at};
 ghost use Rattle.tv_layout.specs.Systems.{system_of};
-ghost use Rattle.tv_layout.specs.Told.{state_before};
+ghost use Rattle.tv_layout.specs.StateBefore.{state_before};
 ghost use Rattle.tv_lines.specs.Placed.{line_in};
 ghost use Rattle.tv_lines.specs.Compact.{line_lc, word_lc};
 ghost use Rattle.tv_word.specs.Widths.{IsWidth};
 
 use crate::checks::line_kind;
-use crate::places::{step_at, tape_wire, zero_wire_at};
+use crate::places::{step_at, tape_wire, zero_wires_at};
 use crate::stepping::first_state;
 use tv_block::{StateWires, block_line, next_state};
 use tv_core::limits::{NULL_CELL, STEPS, TAPE_CELLS, TAPE_WORDS};
@@ -34,11 +35,11 @@ pub fn line<const W: u32>(image: &[u32], n: u32, t: u32, i: u32) -> LineLc
     ensures short { IsShort result }
     ensures below { (net : Net) → LineUnder (system_of W net image.now n t).wires result }
 {
-    told_line::<W>(image, n, t, i).lc()
+    compact_line::<W>(image, n, t, i).lc()
 }
 
 // The same line in compact form.
-fn told_line<const W: u32>(image: &[u32], n: u32, t: u32, i: u32) -> CompactLine
+fn compact_line<const W: u32>(image: &[u32], n: u32, t: u32, i: u32) -> CompactLine
     requires fits { WithinLimits W image.now n t }
     requires within { i < 2 ^ log_of (line_count image.now n t) }
     ensures is { line_lc result ≡ line_in (lines_of (block_of W) W image.now n t) i }
@@ -77,7 +78,7 @@ fn step_line<const W: u32>(n: u32, time: u32, j: u32) -> CompactLine
     requires some { j < 3 * STEPS }
     requires times { time + j + 3 < 2 ^ 32 }
     ensures is { line_lc result ≡ line_in (block_wires W
-        (state_before W (zero_wire_at W n) (first_at W n) (j / 3)) (time + 3 * (j / 3))
+        (state_before W (zero_wires_at W n) (first_at W n) (j / 3)) (time + 3 * (j / 3))
         (first_at W n + j / 3 * block_made W)).lines (j % 3) }
     ensures short { IsShort (line_lc result) }
 {
@@ -91,10 +92,10 @@ fn state_before<const W: u32>(n: u32, step: u32) -> StateWires
     requires width { IsWidth W }
     requires few { n ≤ TAPE_WORDS }
     requires some { step < STEPS }
-    ensures { result ≡ state_before W (zero_wire_at W n) (first_at W n) step }
+    ensures { result ≡ state_before W (zero_wires_at W n) (first_at W n) step }
 {
     if step == 0 {
-        first_state(zero_wire_at::<W>(n))
+        first_state(zero_wires_at::<W>(n))
     } else {
         next_state::<W>(step_at::<W>(n, step - 1))
     }
@@ -118,7 +119,7 @@ impl<'a, const W: u32> Lines for LayoutLines<'a, W> {
     ghost checks = { λ l. checks_of l.image.now l.n l.t };
 
     fn line(&self, i: u32) -> CompactLine {
-        told_line::<W>(self.image, self.n, self.t, i)
+        compact_line::<W>(self.image, self.n, self.t, i)
     }
 
     fn checked(&self) -> u32 {

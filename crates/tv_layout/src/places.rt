@@ -1,6 +1,7 @@
+//! Where the parts of a system stand.
 ghost use Rattle.std.specs.Prelude.{◌≡◌, ◌+◌, ◌*◌, ◌^◌, ◌≤◌, ◌<◌};
 ghost use Rattle.tv_block.specs.Complete.{block_made};
-ghost use Rattle.tv_layout.specs.Places.{log_of, tape_at, zero_wire_at, first_at};
+ghost use Rattle.tv_layout.specs.Places.{log_of, tape_at, zero_wires_at, first_at};
 ghost use Rattle.tv_word.specs.Widths.{IsWidth};
 
 use tv_block::step_costs;
@@ -44,11 +45,15 @@ pub fn public_wires(n: u32) -> u32
     tape_wire(n).0
 }
 
-// The wire that is held to 0.
-pub(crate) fn zero_wire_at<const W: u32>(n: u32) -> Wire
+/// How many wires a state has: the program counter, sixteen registers, the flag, how many words of
+/// the primary tape are taken, and whether the end of the auxiliary one was found.
+pub const STATE_WIRES: u32 = 20;
+
+// The first of the wires that are held to 0, which are the first state's.
+pub(crate) fn zero_wires_at<const W: u32>(n: u32) -> Wire
     requires width { IsWidth W }
     requires few { n ≤ TAPE_WORDS }
-    ensures { result ≡ zero_wire_at W n }
+    ensures { result ≡ zero_wires_at W n }
 {
     tape_wire(n).offset(n * W)
 }
@@ -60,5 +65,5 @@ pub(crate) fn step_at<const W: u32>(n: u32, step: u32) -> Wire
     requires some { step < STEPS }
     ensures { result ≡ first_at W n + step * block_made W }
 {
-    zero_wire_at::<W>(n).offset(1 + step * step_costs::<W>().wires)
+    zero_wires_at::<W>(n).offset(STATE_WIRES + step * step_costs::<W>().wires)
 }

@@ -1,19 +1,32 @@
+//! The sizes of a system.
 ghost use Rattle.std.specs.Prelude.{◌≡◌, ◌+◌, ◌^◌, ◌≤◌, ◌<◌};
 ghost use Rattle.tv_core.specs.Meanings.{IsCounted, system_counts};
 ghost use Rattle.tv_layout.specs.Places.{WithinLimits, line_count, log_of};
-ghost use Rattle.tv_layout.specs.Sizes.{item_terms, memory_constraints, memory_terms, memory_wires};
+ghost use Rattle.tv_layout.specs.Sizes.{memory_constraints, memory_wires};
 ghost use Rattle.tv_layout.specs.Systems.{system_of};
 
 use crate::emitting::emit_system;
-use crate::places::{log_of, public_wires};
-use crate::totals::{constraint_costs, step_items, term_costs, total, wire_costs};
-use tv_benes::{Net, network_terms};
-use tv_block::step_costs;
+use crate::lines::LayoutLines;
+use crate::places::{STATE_WIRES, log_of, public_wires};
+use crate::totals::{constraint_costs, total, wire_costs};
+use tv_benes::Net;
+use tv_block::{step_costs, step_terms};
 use tv_core::{CountSink, Counts};
-use tv_memory::network_made;
-use tv_word::arithmetic::power;
+use tv_memory::{memory_terms, network_made};
 
-/// The sizes of the system that `emit_system` puts, by what its parts cost. It takes constant time.
+/// Returns how many wires the system has that `emit_system` puts. It takes constant time.
+pub fn wires<const W: u32>(image: &[u32], n: u32, t: u32, net: Net) -> u32
+    requires { WithinLimits W image.now n t }
+    ensures is { result ≡ (system_of W net image.now n t).wires }
+    ensures publics { 2 + n ≤ result }
+{
+    let memory = memory_wires::<W>(image, n, t, net) as u32;
+    public_wires(n) + (n * W + STATE_WIRES + t * step_costs::<W>().wires + memory)
+}
+
+/// Returns the sizes of the system that `emit_system` puts, by what its parts cost. Wires and
+/// constraints take constant time, and the terms of the memory argument are a sum over its lines:
+/// a small part of the time to put the system. It takes no memory.
 pub fn sizes<const W: u32>(image: &[u32], n: u32, t: u32, net: Net) -> Counts
     requires { WithinLimits W image.now n t }
     ensures counts { result ≡ system_counts (system_of W net image.now n t) }
@@ -21,15 +34,18 @@ pub fn sizes<const W: u32>(image: &[u32], n: u32, t: u32, net: Net) -> Counts
     ensures terms { result.terms < 2 ^ 60 }
 {
     let step = step_costs::<W>();
-    let wires = memory_wires::<W>(image, n, t, net) as u32;
     let constraints = memory_constraints::<W>(image, n, t, net) as u32;
-    let terms = memory_terms::<W>(image, n, t, net);
+    let k = log_of_lines::<W>(image, n, t);
+    let terms = memory_terms(net, k, &LayoutLines::<W> { image, n, t, k });
     Counts {
-        wires: public_wires(n) + (n * W + 1 + t * step.wires + wires),
+        wires: wires::<W>(image, n, t, net),
         outputs: 1,
         inputs: n,
-        constraints: n * (W + 1) + 1 + t * step.constraints + 2 + constraints,
-        terms: u64::from(n * (4 * W + 2)) + 2 + u64::from(t) * u64::from(step.terms) + 6 + terms,
+        constraints: n * (W + 1) + STATE_WIRES + t * step.constraints + 2 + constraints,
+        terms: u64::from(n * (4 * W + 2) + 2 * STATE_WIRES)
+            + u64::from(t) * u64::from(step_terms::<W>(n))
+            + 6
+            + terms,
     }
 }
 
@@ -47,44 +63,21 @@ fn log_of_lines<const W: u32>(image: &[u32], n: u32, t: u32) -> u32
 // The wires of the memory argument.
 fn memory_wires<const W: u32>(image: &[u32], n: u32, t: u32, net: Net) -> u64
     requires { WithinLimits W image.now n t }
-    ensures { result ≡ memory_wires W net image.now n t }
+    ensures { result ≡ memory_wires net image.now n t }
 {
     let words = image.len() as u32;
     let k = log_of_lines::<W>(image, n, t);
-    network_made(net, k) + total(&wire_costs::<W>(k, words), words, n, t)
+    network_made(net, k) + total(&wire_costs(k, words), words, n, t)
 }
 
 // Its constraints.
 fn memory_constraints<const W: u32>(image: &[u32], n: u32, t: u32, net: Net) -> u64
     requires { WithinLimits W image.now n t }
-    ensures { result ≡ memory_constraints W net image.now n t }
+    ensures { result ≡ memory_constraints net image.now n t }
 {
     let words = image.len() as u32;
     let k = log_of_lines::<W>(image, n, t);
-    network_made(net, k) + total(&constraint_costs::<W>(k, words), words, n, t)
-}
-
-// The terms of its constraints.
-fn memory_terms<const W: u32>(image: &[u32], n: u32, t: u32, net: Net) -> u64
-    requires { WithinLimits W image.now n t }
-    ensures is { result ≡ memory_terms W net image.now n t }
-    ensures most { result ≤ 2 ^ 50 }
-{
-    let words = image.len() as u32;
-    let k = log_of_lines::<W>(image, n, t);
-    let items = item_terms::<W>(image, n, t);
-    network_terms(net, k, u64::from(items)) + total(&term_costs::<W>(k, words), words, n, t)
-}
-
-// The terms of all lines as items.
-fn item_terms<const W: u32>(image: &[u32], n: u32, t: u32) -> u32
-    requires { WithinLimits W image.now n t }
-    ensures is { result ≡ item_terms W image.now n t }
-    ensures most { result ≤ 2 ^ 28 }
-{
-    let boot = image.len() as u32 + n;
-    let lines = power(log_of_lines::<W>(image, n, t));
-    3 * boot + t * step_items::<W>() + 2 * (lines - (boot + 3 * t))
+    network_made(net, k) + total(&constraint_costs(k, words), words, n, t)
 }
 
 /// Puts a system into a sink that counts, which so shows of each combination that it has at most

@@ -1,18 +1,13 @@
-//! What the checks of a system's lines cost, by their kinds.
+//! What the checks of a system's lines cost in wires and in constraints, by their kinds.
 ghost use Rattle.std.specs.Prelude.{◌≡◌, ◌^◌, ◌≤◌};
-ghost use Rattle.tv_block.specs.Costs.{HasFewTerms};
-ghost use Rattle.tv_layout.specs.Sizes.{AreCheap, boot_terms, check_costs, checks_total, in_row};
-ghost use Rattle.tv_layout.specs.Sizes.{line_items, step_items};
-ghost use Rattle.tv_memory.specs.Checks.{IsShort, check_added, check_made};
-ghost use Rattle.tv_memory.specs.Costs.{terms_of_check};
-ghost use Rattle.tv_word.specs.Widths.{IsWidth};
+ghost use Rattle.tv_layout.specs.Sizes.{AreCheap, check_costs, checks_total, in_row};
+ghost use Rattle.tv_memory.specs.Checks.{check_added, check_made};
 
 use crate::checks::first_kind;
-use tv_block::{LineTerms, step_costs};
 use tv_core::limits::CELL_BITS;
-use tv_memory::{Kind, check_added, check_made, check_terms};
+use tv_memory::{Kind, check_added, check_made};
 
-/// What checks of lines cost, in wires, in constraints or in terms.
+/// What checks of lines cost, in wires or in constraints.
 #[derive(Clone, Copy, PartialEq, Eq, Debug)]
 pub(crate) struct CheckCosts {
     /// The line of the image's first word.
@@ -27,11 +22,10 @@ pub(crate) struct CheckCosts {
     pub(crate) step: u32,
 }
 
-// What checks make in wires, for 2^`k` lines and an image of so many words.
-pub(crate) fn wire_costs<const W: u32>(k: u32, words: u32) -> CheckCosts
-    requires width { IsWidth W }
+// What checks make in wires, for 2^`k` lines and an image of `words` words.
+pub(crate) fn wire_costs(k: u32, words: u32) -> CheckCosts
     requires few { k ≤ 20 }
-    ensures is { result ≡ check_costs (λ kind _. check_made kind) W k words }
+    ensures is { result ≡ check_costs check_made k words }
     ensures cheap { AreCheap result }
 {
     let far = check_made(Kind::Within(CELL_BITS));
@@ -46,10 +40,9 @@ pub(crate) fn wire_costs<const W: u32>(k: u32, words: u32) -> CheckCosts
 }
 
 // What they cost in constraints.
-pub(crate) fn constraint_costs<const W: u32>(k: u32, words: u32) -> CheckCosts
-    requires width { IsWidth W }
+pub(crate) fn constraint_costs(k: u32, words: u32) -> CheckCosts
     requires few { k ≤ 20 }
-    ensures is { result ≡ check_costs (λ kind _. check_added kind) W k words }
+    ensures is { result ≡ check_costs check_added k words }
     ensures cheap { AreCheap result }
 {
     let far = check_added(Kind::Within(CELL_BITS));
@@ -63,42 +56,7 @@ pub(crate) fn constraint_costs<const W: u32>(k: u32, words: u32) -> CheckCosts
     }
 }
 
-// What the constraints have in terms.
-pub(crate) fn term_costs<const W: u32>(k: u32, words: u32) -> CheckCosts
-    requires width { IsWidth W }
-    requires few { k ≤ 20 }
-    ensures is { result ≡ check_costs (λ kind line. terms_of_check kind line.cell line.old) W k
-        words }
-    ensures cheap { AreCheap result }
-{
-    let [first, second, data_line] = step_costs::<W>().lines;
-    let word = LineTerms {
-        cell: 1,
-        old: 0,
-        new: 1,
-    };
-    let far = Kind::Within(CELL_BITS);
-    let rest = terms(Kind::Within(k), &second) + terms(far, &data_line);
-    CheckCosts {
-        image_word: terms(Kind::Fresh, &word),
-        tape_word: terms(far, &word),
-        boot_word: terms(Kind::Boot(0), &word),
-        first_step: terms(first_kind(words, 0), &first) + rest,
-        step: terms(far, &first) + rest,
-    }
-}
-
-// The terms of the check of a line.
-fn terms(kind: Kind, line: &LineTerms) -> u32
-    requires short { IsShort kind }
-    requires line { HasFewTerms line.now }
-    ensures is { result ≡ terms_of_check kind line.now.cell line.now.old }
-    ensures most { result ≤ 2 ^ 8 }
-{
-    check_terms(kind, line.cell, line.old)
-}
-
-// What the checks cost of all lines of an image's and a tape's words and of `t` steps.
+// What the checks cost of all lines of an image's words, a tape's `n` words and `t` steps.
 pub(crate) fn total(of: &CheckCosts, words: u32, n: u32, t: u32) -> u64
     requires cheap { AreCheap of.now }
     requires words { words ≤ 2 ^ 18 }
@@ -125,23 +83,4 @@ fn in_row(n: u32, first: u32, other: u32) -> u64
     } else {
         u64::from(first) + u64::from(n - 1) * u64::from(other)
     }
-}
-
-// The terms of the items of a step's three lines.
-pub(crate) fn step_items<const W: u32>() -> u32
-    requires { IsWidth W }
-    ensures is { result ≡ step_items W }
-    ensures most { result ≤ 2 ^ 9 }
-{
-    let [first, second, data_line] = step_costs::<W>().lines;
-    line_items(&first) + (line_items(&second) + line_items(&data_line))
-}
-
-// The terms of a line's item.
-fn line_items(terms: &LineTerms) -> u32
-    requires { HasFewTerms terms.now }
-    ensures is { result ≡ line_items terms.now }
-    ensures most { result ≤ 65 }
-{
-    terms.cell + terms.new + 1
 }

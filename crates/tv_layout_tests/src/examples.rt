@@ -1,17 +1,26 @@
 //! What the definition of a system says of its lines.
-ghost use Rattle.std.specs.Prelude.{◌≡◌};
+ghost use Rattle.std.specs.Prelude.{◌≡◌, ◌-◌, ◌^◌, ℕ, [], ◌∷◌};
 ghost use Rattle.tv_benes.specs.declared.shape.Net.TheVariants.{Benes};
-ghost use Rattle.tv_layout.specs.Places.{log_of};
+ghost use Rattle.tv_layout.specs.Places.{line_count, log_of};
 ghost use Rattle.tv_layout.specs.Sizes.{size_most};
 
-/// To which power of 2 the lines of small systems are filled up: `answer 0` with two steps has 8
-/// lines, with a word on its tape besides 9, and with 65 steps 197. It is no test, so it is proved
-/// where the crate is proved without its tests too.
+/// How many lines systems of an image of two words have before padding: three a step, and one for
+/// each word of the image and of the tape. With two steps there are 8, with a word on the tape
+/// besides 9, and with 65 steps and no tape 197.
+pub fn lines_are_counted()
+    ensures two_steps { (a b : ℕ) → line_count (a ∷ b ∷ []) 0 2 ≡ 8 }
+    ensures tape_word { (a b : ℕ) → line_count (a ∷ b ∷ []) 1 2 ≡ 9 }
+    ensures steps { (a b : ℕ) → line_count (a ∷ b ∷ []) 0 65 ≡ 197 }
+{}
+
+/// How many lines of padding follow these, up to the next power of 2: none after 8, 7 after 9, up
+/// to 16, and 59 after 197, up to 256. It is no test, so it is proved where the crate is proved
+/// without its tests too.
 #[tactic(auto, unfolding(tv_layout::specs::Places::log_of))]
 pub fn lines_are_filled_up()
-    ensures none_missing { log_of 8 ≡ 3 }
-    ensures one_more { log_of 9 ≡ 4 }
-    ensures steps { log_of 197 ≡ 8 }
+    ensures none_missing { 2 ^ log_of 8 - 8 ≡ 0 }
+    ensures one_more { 2 ^ log_of 9 - 9 ≡ 7 }
+    ensures steps { 2 ^ log_of 197 - 197 ≡ 59 }
 {}
 
 /// What wires and constraints are at most over Benes' network: for a drawn program of 63 or 1,023

@@ -5,21 +5,21 @@ use std::test::Fail;
 use tv_benes::Net;
 use tv_core::F;
 use tv_extract::extract;
-use tv_layout::sizes;
+use tv_layout::wires;
 
 // `answer 0`.
 const IMAGE: [u32; 2] = [0xfc00_0000, 0];
 
 // Zeros, as many as the system of one step on a tape of one word has wires, and 5 as that word.
 fn values(alloc: Global) -> Result<Vec<F>, Fail> {
-    let wires = sizes::<32>(&IMAGE, 1, 1, Net::Benes).wires as usize;
+    let wires = wires::<32>(&IMAGE, 1, 1, Net::Benes) as usize;
     let mut values = vec![in alloc; F::ZERO; wires]?;
     values[2] = F::of(5);
     Ok(values)
 }
 
 #[test]
-fn a_run_is_told(rt: HostRuntime) -> Result<(), Fail> {
+fn a_run_is_extracted(rt: HostRuntime) -> Result<(), Fail> {
     let alloc = rt.alloc();
     let run = extract::<32>(alloc, &IMAGE, 1, 1, Net::Benes, &values(alloc)?)?;
     assert_eq!(rt; (run.answer, run.step), (0, 1));

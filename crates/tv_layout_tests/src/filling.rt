@@ -16,18 +16,27 @@ const WIDE: [u32; 2] = [0xfc00_0000, 0];
 const NARROW: [u32; 2] = [0xfc00, 0];
 
 /// A network, and how many wires, constraints and terms the systems over it have, with words of 32
-/// and of 16 bits. There are 2 + 3 lines, so k = 3, and 8 items with 2 · 3 + 10 + 2 · 3 terms;
-/// over Benes' network 20 switches, 12 of them bound, over Waksman's 17, 11 of them bound:
+/// and of 16 bits. There are 2 + 3 lines, so k = 3; over Benes' network 20 switches, 12 of them
+/// bound, over Waksman's 17, 11 of them bound:
 ///
-///     wires:       2 + 1 + R + 3 · switches + 2 · bound + (3 + 65)
-///     constraints: 1 + S + 2 + 3 · switches + 2 · bound + (2 - 1) + (3 + 71)
-///     terms:       2 + Z + 6 + 23 (switches - 4) + 11 · 4 + 3 items
-///                  + 3 + 137 + (4 · 3 + 15) + 137
+///     wires:       2 + 20 + R + 3 · switches + 2 · bound + (3 + 65)
+///     constraints: 20 + S + 2 + 3 · switches + 2 · bound + (2 - 1) + (3 + 71)
+///     terms:       2 · 20 + Z + 6 + (18 + 25 + 24 + 18) + columns
+///                  + 2 + 137 + 25 + 137
 ///
-/// with R = 311, S = 324, Z = 1891 at 32 bits and R = 212, S = 225, Z = 1329 at 16.
+/// with R = 311, S = 324, Z = 1889 at 32 bits and R = 212, S = 225, Z = 1327 at 16, no word being
+/// on the tape. The columns after the first have 22 · 16 terms, and over Waksman's network
+/// 22 · 13 + 1.
+///
+/// A switch of the first column has 3 terms, and for each number of its items x and y five and
+/// those of x, of y - x and of x + y. The numbers of the items are, c being constants and the rest
+/// wires: none, c | c, c | a, c + b | c + a, c + d | e, c + f | c, c three times; and of the last
+/// two the first numbers are the same. A check's terms are 2 of the second word's, whose cell
+/// before is 0, and 4 · 31 + 8 + 3 + 1 + 1, 4 · 3 + 8 + 2 + 2 + 1 and 4 · 31 + 8 + 3 + 1 + 1 of the
+/// step's lines; in the second of them 2^32 times the cell's constant cancels.
 const SIZES: [(Net, [u64; 3], [u64; 3]); 2] = [
-    (Net::Benes, [466, 486, 2681], [367, 387, 2119]),
-    (Net::Waksman, [455, 475, 2612], [356, 376, 2050]),
+    (Net::Benes, [485, 505, 2673], [386, 406, 2111]),
+    (Net::Waksman, [474, 494, 2608], [375, 395, 2046]),
 ];
 
 // What a system's sizes are said to be, and what a sink counts.

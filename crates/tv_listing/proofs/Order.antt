@@ -1,7 +1,8 @@
 -- Lines in order by cell: a sort gives them, and there is one such list.
 use Rattle.std.proofs.Common.{◌≡◌, ℕ, suc, ◌<◌, ◌≤◌, Bool, true, false, List, [], ◌∷◌, length, map, get_or, refl, sym, ◌∙◌, ap, ap₂, arith, inl, inr, rules}
 use Rattle.std.proofs.lemmas.Bool.{cases_order, lt-ltb, le-ltb, eq-eqb}
-use Rattle.std.proofs.lemmas.List.Sorted.{IsPermutation-refl, IsPermutation-cons, IsPermutation-trans, IsPermutation-insert, IsPermutation-map, sum_by-IsPermutation, ranks_by, sorted_far}
+use Rattle.std.proofs.lemmas.List.Sorted.{IsPermutation-refl, IsPermutation-cons, IsPermutation-trans, IsPermutation-insert, IsPermutation-map}
+use Rattle.std.proofs.lemmas.List.Sorted.{sum_by-IsPermutation, ranks_by, sorted_far}
 use Rattle.std.proofs.lemmas.List.Sums.{sum_by-cons}
 use Rattle.std.specs.Cmp.{IsTotalOrder, IsStrictWeakOrder}
 use Rattle.std.specs.Cmp.Rules.{comparing}
@@ -20,7 +21,8 @@ use Rattle.tv_listing.specs.declared.row.Row.{Row}
 abbrev before : Line → Line → Bool
 before l m = is_lt (compared l m)
 
-total : IsTotalOrder (then_cmp (on (λ (l : Line). l.cell) nat_cmp) (then_cmp (on (λ (l : Line). l.time) nat_cmp) (then_cmp (on (λ (l : Line). l.old) nat_cmp) (on (λ (l : Line). l.new) nat_cmp))))
+total : IsTotalOrder (then_cmp (on (λ (l : Line). l.cell) nat_cmp)
+    (then_cmp (on (λ (l : Line). l.time) nat_cmp) (then_cmp (on (λ (l : Line). l.old) nat_cmp) (on (λ (l : Line). l.new) nat_cmp))))
 total = search (comparing, rules) depth 9
 
 order : IsStrictWeakOrder before
@@ -80,12 +82,14 @@ put_moves l [] = IsPermutation-refl (l ∷ [])
 put_moves l (m ∷ ls) = by (before m l) (put_moves l ls)
   where
     by : (b : Bool) → IsPermutation (l ∷ ls) (put_in l ls) → IsPermutation (l ∷ m ∷ ls) (if b then m ∷ put_in l ls else l ∷ m ∷ ls)
-    by true h = IsPermutation-trans (l ∷ m ∷ ls) (m ∷ l ∷ ls) (m ∷ put_in l ls) (IsPermutation-insert (m ∷ ls) 1 l) (IsPermutation-cons m (l ∷ ls) (put_in l ls) h)
+    by true h = IsPermutation-trans (l ∷ m ∷ ls) (m ∷ l ∷ ls) (m ∷ put_in l ls) (IsPermutation-insert (m ∷ ls) 1 l)
+        (IsPermutation-cons m (l ∷ ls) (put_in l ls) h)
     by false h = IsPermutation-refl (l ∷ m ∷ ls)
 
 by_cell_moves : (ls : List Line) → IsPermutation ls (by_cell ls)
 by_cell_moves [] = IsPermutation-refl []
-by_cell_moves (l ∷ ls) = IsPermutation-trans (l ∷ ls) (l ∷ by_cell ls) (put_in l (by_cell ls)) (IsPermutation-cons l ls (by_cell ls) (by_cell_moves ls)) (put_moves l (by_cell ls))
+by_cell_moves (l ∷ ls) = IsPermutation-trans (l ∷ ls) (l ∷ by_cell ls) (put_in l (by_cell ls)) (IsPermutation-cons l ls (by_cell ls) (by_cell_moves ls))
+    (put_moves l (by_cell ls))
 
 put_from : (k l : Line) (ls : List Line) → before l k ≡ false → From k ls → From k (put_in l ls)
 put_from k l [] h f = (h, tt)
@@ -145,7 +149,8 @@ one_list (x ∷ xs) (y ∷ ys) r s alike =
 
 by_cell_is : (ls sorted : List Line) → IsPermutation ls sorted → Rises sorted → sorted ≡ by_cell ls
 by_cell_is ls sorted moved rises =
-    one_list sorted (by_cell ls) rises (by_cell_rises ls) (λ f. sum_by-IsPermutation f ls sorted moved ∙ sym (sum_by-IsPermutation f ls (by_cell ls) (by_cell_moves ls)))
+    one_list sorted (by_cell ls) rises (by_cell_rises ls)
+    (λ f. sum_by-IsPermutation f ls sorted moved ∙ sym (sum_by-IsPermutation f ls (by_cell ls) (by_cell_moves ls)))
 
 -- ---- rows that were sorted
 abbrev row_before : Row → Row → Bool
@@ -155,10 +160,16 @@ from_of : (k : Row) (rows : List Row) → ((j : ℕ) (d : Row) → j < length ro
 from_of k [] each = tt
 from_of k (r ∷ rows) each = (each 0 k (omega arith), from_of k rows (λ j d h. each (suc j) d (omega arith)))
 
-rises_of : (rows : List Row) → ((i j : ℕ) (d : Row) → i ≤ j → j < length rows → row_before (get_or rows j d) (get_or rows i d) ≡ false) → Rises (map row_line rows)
+rises_of : (rows : List Row) → ((i j : ℕ) (d : Row) → i ≤ j → j < length rows → row_before (get_or rows j d) (get_or rows i d) ≡ false)
+    → Rises (map row_line rows)
 rises_of [] each = tt
-rises_of (r ∷ rows) each = (from_of r rows (λ j d h. each 0 (suc j) d (omega arith) (omega arith)), rises_of rows (λ i j d h k. each (suc i) (suc j) d (omega arith) (omega arith)))
+rises_of (r ∷ rows) each = (
+  from_of r rows (λ j d h. each 0 (suc j) d (omega arith) (omega arith)),
+  rises_of rows (λ i j d h k. each (suc i) (suc j) d (omega arith) (omega arith)),
+)
 
-pub rows_sorted : (rows sorted : List Row) → IsPermutation rows sorted → IsSortedBy (λ r s. is_lt (compared (row_line r) (row_line s))) sorted → map row_line sorted ≡ by_cell (map row_line rows)
+pub rows_sorted : (rows sorted : List Row) → IsPermutation rows sorted → IsSortedBy (λ r s. is_lt (compared (row_line r) (row_line s))) sorted
+    → map row_line sorted ≡ by_cell (map row_line rows)
 rows_sorted rows sorted moved up =
-    by_cell_is (map row_line rows) (map row_line sorted) (IsPermutation-map row_line rows sorted moved) (rises_of sorted (sorted_far row_before (ranks_by total row_line) sorted up))
+    by_cell_is (map row_line rows) (map row_line sorted) (IsPermutation-map row_line rows sorted moved)
+    (rises_of sorted (sorted_far row_before (ranks_by total row_line) sorted up))

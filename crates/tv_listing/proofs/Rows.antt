@@ -1,5 +1,6 @@
 -- Lines in rows, one after another.
-use Rattle.std.proofs.Common.{◌≡◌, ℕ, zero, suc, ◌+◌, ◌<◌, ◌≤◌, ◌^◌, List, [], ◌∷◌, ◌++◌, length, map, take, get_or, refl, sym, ap, ap₂, ◌∙◌, append_assoc, arith}
+use Rattle.std.proofs.Common.{◌≡◌, ℕ, zero, suc, ◌+◌, ◌<◌, ◌≤◌, ◌^◌, List, [], ◌∷◌, ◌++◌, length, map, take, get_or, refl, sym, ap, ap₂, ◌∙◌, append_assoc}
+use Rattle.std.proofs.Common.{arith}
 use Rattle.std.proofs.lemmas.List.{length-map, map-append, get_or-map}
 use Rattle.std.specs.Prelude.{slice_index}
 use Rattle.tv_block.specs.Block.{block_of}
@@ -28,19 +29,23 @@ pub placed : (w : ℕ) (image : List ℕ) (n t : ℕ) → WithinLimits w image n
 placed w image n t fits = log_above (line_count image n t) (few image n t w fits)
 
 -- one more of the lines that an assignment has
-pub rows_more : (w : ℕ) (image : List ℕ) (n t i : ℕ) (z : List ℕ) (rows : List Row) (row : Row) (line : LineLc) → WithinLimits w image n t → i < line_count image n t
+pub rows_more : (w : ℕ) (image : List ℕ) (n t i : ℕ) (z : List ℕ) (rows : List Row) (row : Row) (line : LineLc) → WithinLimits w image n t
+    → i < line_count image n t
     → map row_line rows ≡ take i (lines_at w image n t z) → line ≡ line_in (lines_of (block_of w) w image n t) i → row_line row ≡ line_value z line
     → map row_line (rows ++ row ∷ []) ≡ take (i + 1) (lines_at w image n t z)
 rows_more w image n t i z rows row line fits h before is valued =
     let many : i < length (lines_of (block_of w) w image n t) = omega (arith, line_number w image n t fits, placed w image n t fits) in
-    let here : get_or (lines_at w image n t z) i (row_line row) ≡ row_line row = get_or-map (line_value z) (lines_of (block_of w) w image n t) i no_line (row_line row) many ∙ ap (line_value z) (sym is) ∙ sym valued in
+    let here : get_or (lines_at w image n t z) i (row_line row)
+    ≡ row_line row = get_or-map (line_value z) (lines_of (block_of w) w image n t) i no_line (row_line row) many ∙ ap (line_value z) (sym is)
+    ∙ sym valued in
     map-append row_line rows (row ∷ [])
     ∙ ap₂ (λ (a b : List Line). a ++ b) before (ap (λ (l : Line). l ∷ []) (sym here))
     ∙ sym (take_next (lines_at w image n t z) i (row_line row) (omega (arith, length-map (lines_of (block_of w) w image n t) (line_value z))))
 
 -- one more of the lines that write words
 pub words_pushed : (lines : List Line) (rows : List Row) (row : Row) (cell time i : ℕ) (words : List ℕ) → i < length words
-    → map row_line rows ≡ lines ++ boot_from cell time (take i words) → row_line row ≡ record { cell = cell + i; time = time + i; old = 0; new = slice_index words i }
+    → map row_line rows ≡ lines ++ boot_from cell time (take i words)
+    → row_line row ≡ record { cell = cell + i; time = time + i; old = 0; new = slice_index words i }
     → map row_line (rows ++ row ∷ []) ≡ lines ++ boot_from cell time (take (i + 1) words)
 words_pushed lines rows row cell time i words h before is =
     map-append row_line rows (row ∷ [])

@@ -27,7 +27,8 @@ lines_front : (w n time : ℕ) (st : State) (t step : ℕ) → step ≤ t → ta
 lines_front w n time st zero step h = let none : step ≡ 0 = omega arith in rw none refl
 lines_front w n time st (suc t) step h = elim (cases_eq step (suc t)) [
   | inl whole ↦ rw whole (take_all (3 * suc t) (lines_of w n time st (suc t)) (omega (arith, lines_are_three_a_step w n time st (suc t))))
-  | inr apart ↦ take-append-le (3 * step) (lines_of w n time st t) _ (omega (arith, lines_are_three_a_step w n time st t)) ∙ lines_front w n time st t step (omega arith)
+  | inr apart ↦ take-append-le (3 * step) (lines_of w n time st t) _ (omega (arith, lines_are_three_a_step w n time st t))
+      ∙ lines_front w n time st t step (omega arith)
 ]
 
 module _ (w : ℕ) (image x aux : List ℕ) (t step : ℕ) (h : step ≤ t) where
@@ -41,7 +42,8 @@ module _ (w : ℕ) (image x aux : List ℕ) (t step : ℕ) (h : step ≤ t) wher
   run_front =
       let boot = length-boot_lines image x in
       let many = lines_are_three_a_step w (length x) (length image + length x) (start w image x aux) t in
-      take-append-le (boot_count image (length x) + 3 * step) (run_lines w image x aux t) _ (omega (arith, length-append (boot_lines image x) steps, boot, many))
+      take-append-le (boot_count image (length x) + 3 * step) (run_lines w image x aux t) _
+      (omega (arith, length-append (boot_lines image x) steps, boot, many))
       ∙ ap (λ m. take (m + 3 * step) (run_lines w image x aux t)) (sym boot)
       ∙ take-append-add (boot_lines image x) steps (3 * step)
       ∙ traced
@@ -62,7 +64,8 @@ satisfying_are_listed w net image z n t fits sat =
     let has = satisfying_have_runs w net image z n t fits sat in
     let run : Run = has.run in
     let is = extracted_is_run w net image z n t run has.is in
-    let lists = listing_is_trace w net image run.tape z t run.step (subst (λ m. WithinLimits w image m t) (sym is.many) fits) is.within is.tape (subst (λ m. Sat (system_of w net image m t) z) (sym is.many) sat) in
+    let lists = listing_is_trace w net image run.tape z t run.step (subst (λ m. WithinLimits w image m t) (sym is.many) fits) is.within is.tape
+    (subst (λ m. Sat (system_of w net image m t) z) (sym is.many) sat) in
     record {
       has = has;
       lists = subst (λ aux. ListsRun w image run.tape aux z t run.step) (ap (λ m. taken_of (block_of w) w image m t z) is.many ∙ sym is.aux) lists;

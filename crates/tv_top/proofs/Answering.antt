@@ -1,7 +1,13 @@
 -- What a call promises, from what reading found, from writing and from saying a line.
-use Rattle.std.proofs.Common.{◌≡◌, ◌≢◌, ℕ, ◌⊎◌, ◌≤◌, Bool, false, List, [], ◌∷◌, ◌++◌, take, Option, Some, None, option_map, true, Result, Ok, Err, inl, inr, refl, sym, ap, ◌∙◌, arith, rules}
+use Rattle.std.proofs.Common.{◌≡◌, ◌≢◌, ℕ, ◌⊎◌, ◌≤◌, Bool, false, List, [], ◌∷◌, ◌++◌, take, Option, Some, None, option_map, true, Result, Ok, Err, inl, inr}
+use Rattle.std.proofs.Common.{refl, sym, ap, ◌∙◌, arith, rules}
 use Rattle.std.specs.Prelude.{IfOk, IsErrAnd, MatchResult}
-use Rattle.tv_top.proofs.Common.{Names, Outside, OnlyWrites, Rose, Amount, Bad, Ending, Refused, Stopped, Finished, Finish, Quantity, Refusal, Stop, Fault, Memory, Contents, Size, What, Status, words_of, MayStop, quantities_of, IsOfWords, ChangedAt, IsSaid, Answers, Content, bytes_in, AreRead, files_with, IsCutAt, IsCutInWriting, Said, SaidPart, Ends, IsConcluded, Concludes, Writes, IsCut, Completes, Does, ending_of, IsOneOf, IsFound, Finds, Leaves, IsQuiet, SameCounts, Named, Look, Outcome, Plan, Answer, files_of, answer_of, ending_by, comes_by, writes_by, MayEnd, quantity_what, size_what, bad_status, refusal_status, stop_status, finish_status, ending_status}
+use Rattle.tv_top.proofs.Common.{Names, Outside, OnlyWrites, Rose, Amount, Bad, Ending, Refused, Stopped, Finished, Finish, Quantity, Refusal, Stop, Fault}
+use Rattle.tv_top.proofs.Common.{Memory, Contents, Size, What, Status, words_of, MayStop, quantities_of, IsOfWords, ChangedAt, IsSaid, Answers, Content}
+use Rattle.tv_top.proofs.Common.{bytes_in, AreRead, files_with, IsCutAt, IsCutInWriting, Said, SaidPart, Ends, IsConcluded, Concludes, Writes, IsCut}
+use Rattle.tv_top.proofs.Common.{Completes, Does, ending_of, IsOneOf, IsFound, Finds, Leaves, IsQuiet, SameCounts, Named, Look, Outcome, Plan, Answer}
+use Rattle.tv_top.proofs.Common.{files_of, answer_of, ending_by, comes_by, writes_by, MayEnd, quantity_what, size_what, bad_status, refusal_status}
+use Rattle.tv_top.proofs.Common.{stop_status, finish_status, ending_status}
 use Rattle.tv_top.specs.declared.refusal.Bad.TheVariants as bad
 use Rattle.tv_top.specs.declared.refusal.Finish.TheVariants as finishes
 use Rattle.tv_top.specs.declared.refusal.Quantity.TheVariants as quantity
@@ -54,7 +60,8 @@ stop_is (Contents b) = (bad_is b).0
 stop_is _ = refl
 
 -- a limit is answered to a file that passes it
-stop_limit : (stop : Stop) (what : What) → limit_in (stop_status stop) ≡ Some what → (size : Size) × (has most : ℕ) × (stop ≡ Contents (bad.Limit size has most)) × (size_what size ≡ what)
+stop_limit : (stop : Stop) (what : What) → limit_in (stop_status stop) ≡ Some what → (size : Size) × (has most : ℕ)
+    × (stop ≡ Contents (bad.Limit size has most)) × (size_what size ≡ what)
 stop_limit (Contents (bad.Limit size has most)) what e = (size, has, most, refl, cc)
 stop_limit _ what e = cc
 
@@ -127,7 +134,8 @@ no_size what [] size none at = absurd at
 no_size what (first ∷ sizes) size none (inl is) = rw is none.0
 no_size what (first ∷ sizes) size none (inr at) = no_size what sizes size none.1 at
 
-apart_from : (amounts : List Amount) (sizes : List Size) (quantity : Quantity) (size : Size) → AreApart amounts sizes → IsOneOf quantity (quantities_of amounts) → IsOneOf size sizes → quantity_what quantity ≢ size_what size
+apart_from : (amounts : List Amount) (sizes : List Size) (quantity : Quantity) (size : Size) → AreApart amounts sizes → IsOneOf quantity (quantities_of amounts)
+    → IsOneOf size sizes → quantity_what quantity ≢ size_what size
 apart_from [] sizes quantity size apart told at = absurd told
 apart_from (amount ∷ amounts) sizes quantity size apart (inl is) at = rw is (no_size (quantity_what amount.what) sizes size apart.0 at)
 apart_from (amount ∷ amounts) sizes quantity size apart (inr told) at = apart_from amounts sizes quantity size apart.1 told at
@@ -141,9 +149,11 @@ abbrev found_answer : Plan → ℕ → Outcome → Answer
 found_answer plan at outcome = record { looked = at; writes = files_of plan.writes outcome.files; ending = Finished outcome.finish }
 
 -- what a look is answered that was refused isn't a refusal of words
-stop_refuses : (plan : Plan) (stop : Stop) (why : Refusal) → AreApart plan.amounts plan.sizes → IsWithin plan.sizes (Err stop) → IsOfWords (Ok plan) why → ¬ (stop_status stop ≡ refusal_status why)
+stop_refuses : (plan : Plan) (stop : Stop) (why : Refusal) → AreApart plan.amounts plan.sizes → IsWithin plan.sizes (Err stop) → IsOfWords (Ok plan) why
+    → ¬ (stop_status stop ≡ refusal_status why)
 stop_refuses plan stop refusal.Usage apart limited told e = let none = stop_is stop in let some : is_plain (stop_status stop) ≡ true = ap is_plain e in cc
-stop_refuses plan stop (refusal.SameName first second) apart limited told e = let none = stop_is stop in let some : is_plain (stop_status stop) ≡ true = ap is_plain e in cc
+stop_refuses plan stop (refusal.SameName first second) apart limited told e = let none = stop_is stop in
+    let some : is_plain (stop_status stop) ≡ true = ap is_plain e in cc
 stop_refuses plan stop (refusal.Limit quantity has most) apart limited told e =
     let found = stop_limit stop (quantity_what quantity) (ap limit_in e) in
     apart_from plan.amounts plan.sizes quantity found.0 apart told (limited found.0 found.1 found.2 (ap Err found.3)) (sym found.4)
@@ -154,18 +164,21 @@ may_stop sizes _ limited = tt
 
 -- ---- what was concluded
 
-refuses_concluded : (ending : Ending) (words : ℕ) (old new : Outside) (result : Status) (why : Refusal) → IsConcluded ending words old new result → result ≡ refusal_status why → ending_status ending ≡ refusal_status why
+refuses_concluded : (ending : Ending) (words : ℕ) (old new : Outside) (result : Status) (why : Refusal) → IsConcluded ending words old new result
+    → result ≡ refusal_status why → ending_status ending ≡ refusal_status why
 refuses_concluded ending words old new result why (inl answered) e = sym answered.0 ∙ e
 refuses_concluded ending words old new result why (inr (inl fault)) e = let h : None ≡ Some why = ap of_words (sym fault.0 ∙ e) ∙ words_is why in cc
 refuses_concluded ending words old new result why (inr (inr memory)) e = let h : None ≡ Some why = ap of_words (sym memory.0 ∙ e) ∙ words_is why in cc
 
-caused_concluded : (ending : Ending) (words : ℕ) (old new : Outside) (result : Status) (word : ℕ) → IsConcluded ending words old new result → result ≡ status.FileFault word →
+caused_concluded : (ending : Ending) (words : ℕ) (old new : Outside) (result : Status) (word : ℕ) → IsConcluded ending words old new result
+    → result ≡ status.FileFault word →
     (ending_status ending ≡ status.FileFault word) ⊎ ((word ≡ words) × Rose old.say_faults new.say_faults)
 caused_concluded ending words old new result word (inl answered) e = inl (sym answered.0 ∙ e)
 caused_concluded ending words old new result word (inr (inl fault)) e = inr (cc, fault.1)
 caused_concluded ending words old new result word (inr (inr memory)) e = cc
 
-said_concluded : (ending : Ending) (words : ℕ) (old new : Outside) (result : Status) → IsConcluded ending words old new result → IsSaid ending words old new result
+said_concluded : (ending : Ending) (words : ℕ) (old new : Outside) (result : Status) → IsConcluded ending words old new result
+    → IsSaid ending words old new result
 said_concluded ending words old new result (inl answered) = inl answered
 said_concluded ending words old new result (inr (inl fault)) = inr (inl fault.0, fault.2)
 said_concluded ending words old new result (inr (inr memory)) = inr (inr memory.0, memory.2)
@@ -177,20 +190,25 @@ said_since old mid new (Some bytes) same said = said ∙ ap (option_map (λ befo
 part_since : (old mid new : Outside) (says : Option (List ℕ)) → mid.said ≡ old.said → SaidPart mid new says → SaidPart old new says
 part_since old mid new says same part = (part.0, part.1, part.2, rw same at part.3)
 
-concluded_since : (ending : Ending) (words : ℕ) (old mid new : Outside) (result : Status) → mid.said ≡ old.said → old.say_faults ≤ mid.say_faults → old.wants ≤ mid.wants →
+concluded_since : (ending : Ending) (words : ℕ) (old mid new : Outside) (result : Status) → mid.said ≡ old.said → old.say_faults ≤ mid.say_faults
+    → old.wants ≤ mid.wants →
     IsConcluded ending words mid new result → IsConcluded ending words old new result
 concluded_since ending words old mid new result same faults wants (inl answered) = inl (answered.0, said_since old mid new (says ending) same answered.1)
-concluded_since ending words old mid new result same faults wants (inr (inl fault)) = inr (inl (fault.0, omega (arith, fault.1), part_since old mid new (says ending) same fault.2))
-concluded_since ending words old mid new result same faults wants (inr (inr memory)) = inr (inr (memory.0, omega (arith, memory.1), part_since old mid new (says ending) same memory.2))
+concluded_since ending words old mid new result same faults wants (inr (inl fault)) = inr
+    (inl (fault.0, omega (arith, fault.1), part_since old mid new (says ending) same fault.2))
+concluded_since ending words old mid new result same faults wants (inr (inr memory)) = inr
+    (inr (memory.0, omega (arith, memory.1), part_since old mid new (says ending) same memory.2))
 
 ends_answered : (answer : Answer) (words : ℕ) (files : Names) (old new : Outside) (result : Status) → new.contents ≡ files_with answer.writes (Some files) →
     AreRead answer.writes → IsConcluded answer.ending words old new result → Ends answer words files old new result
 ends_answered answer words files old new result held read (inl answered) = inl (record { status = answered.0; contents = held; read = read; said = answered.1 })
 ends_answered answer words files old new result held read (inr (inl fault)) = inr (inr (inr (inl (fault.0, record { contents = held; said = fault.2 }))))
-ends_answered answer words files old new result held read (inr (inr memory)) = inr (inr (inr (inr (memory.0, inr (inr (record { contents = held; said = memory.2 }))))))
+ends_answered answer words files old new result held read (inr (inr memory)) = inr
+    (inr (inr (inr (memory.0, inr (inr (record { contents = held; said = memory.2 }))))))
 
 -- an end of which nothing is said
-silent : (ending : Ending) (words : ℕ) (old new : Outside) (result : Status) → says ending ≡ None → IsConcluded ending words old new result → (result ≡ ending_status ending) × (new.said ≡ old.said)
+silent : (ending : Ending) (words : ℕ) (old new : Outside) (result : Status) → says ending ≡ None → IsConcluded ending words old new result
+    → (result ≡ ending_status ending) × (new.said ≡ old.said)
 silent ending words old new result none (inl answered) = (answered.0, rw none at answered.1)
 silent ending words old new result none (inr (inl fault)) = let part = fault.2 in cc
 silent ending words old new result none (inr (inr memory)) = let part = memory.2 in cc
@@ -207,7 +225,8 @@ changed_whole [] (c ∷ cs) old = refl
 changed_whole (n ∷ ns) (c ∷ cs) old = inr (bytes_in c, changed_whole ns cs _)
 
 -- and the word that is told is one of a name that is written
-changed_cut : (word : ℕ) (names : List Named) (contents : List Content) (old new : Option Names) → IsCutAt word (files_of names contents) old new → ChangedAt names old new × IsOneOf word (words_of names)
+changed_cut : (word : ℕ) (names : List Named) (contents : List Content) (old new : Option Names) → IsCutAt word (files_of names contents) old new
+    → ChangedAt names old new × IsOneOf word (words_of names)
 changed_cut word names [] old new cut = absurd cut
 changed_cut word [] (c ∷ cs) old new cut = absurd cut
 changed_cut word (n ∷ ns) (c ∷ cs) old new (inl (is, inl same)) = (inl (unchanged ns old new same), inl is)
@@ -217,7 +236,8 @@ changed_cut word (n ∷ ns) (c ∷ cs) old new (inr later) = let rest = changed_
 -- ---- the exits
 
 -- words that are refused
-pub answers_refused : (request : Result Plan Refusal) (words : ℕ) (why : Refusal) (old new : Outside) (result : Status) → request ≡ Err why → Concludes (Refused why) words old new result → Answers request words old new result
+pub answers_refused : (request : Result Plan Refusal) (words : ℕ) (why : Refusal) (old new : Outside) (result : Status) → request ≡ Err why
+    → Concludes (Refused why) words old new result → Answers request words old new result
 answers_refused request words why old new result refused concludes = rw refused (record {
   ends = λ files told. ends_answered (answer_of (Err why) files) words files old new result (concludes.contents ∙ told) tt concludes.ended;
   absent = λ files told. inl concludes.absent;
@@ -239,19 +259,26 @@ answers_refused request words why old new result refused concludes = rw refused 
 
 -- ---- the end of a plan whose files were looked at, by what was found
 
-ends_found : (plan : Plan) (found : Result Outcome Stop) (words : ℕ) (files : Names) (old new : Outside) (result : Status) → new.contents ≡ files_with (writes_by plan.writes found) old.contents → old.contents ≡ Some files →
-    AreRead (writes_by plan.writes found) → IsFound (λ (o : Outcome). o) (plan.comes files) found → IsConcluded (ending_by found) words old new result → Ends (answer_of (Ok plan) files) words files old new result
+ends_found : (plan : Plan) (found : Result Outcome Stop) (words : ℕ) (files : Names) (old new : Outside) (result : Status)
+    → new.contents ≡ files_with (writes_by plan.writes found) old.contents → old.contents ≡ Some files →
+    AreRead (writes_by plan.writes found) → IsFound (λ (o : Outcome). o) (plan.comes files) found → IsConcluded (ending_by found) words old new result
+    → Ends (answer_of (Ok plan) files) words files old new result
 ends_found plan (Ok outcome) words files old new result held told read is concluded =
-    rw is (ends_answered (found_answer plan (plan.comes files).at outcome) words files old new result (held ∙ ap (files_with (files_of plan.writes outcome.files)) told) read concluded)
+    rw is (ends_answered (found_answer plan (plan.comes files).at outcome) words files old new result
+    (held ∙ ap (files_with (files_of plan.writes outcome.files)) told) read concluded)
 ends_found plan (Err (Contents bad)) words files old new result held told read is concluded =
-    rw is (ends_answered (record { looked = (plan.comes files).at; writes = []; ending = Stopped (Contents bad) }) words files old new result (held ∙ told) tt concluded)
+    rw is (ends_answered (record { looked = (plan.comes files).at; writes = []; ending = Stopped (Contents bad) }) words files old new result
+    (held ∙ told) tt concluded)
 ends_found plan (Err (Fault word)) words files old new result held told read within concluded =
-    let nothing = silent (Stopped (Fault word)) words old new result refl concluded in inr (inl (word, nothing.0, within, record { contents = held; said = nothing.1 }))
+    let nothing = silent (Stopped (Fault word)) words old new result refl concluded in
+    inr (inl (word, nothing.0, within, record { contents = held; said = nothing.1 }))
 ends_found plan (Err Memory) words files old new result held told read any concluded =
-    let nothing = silent (Stopped Memory) words old new result refl concluded in inr (inr (inr (inr (nothing.0, inl (record { contents = held; said = nothing.1 })))))
+    let nothing = silent (Stopped Memory) words old new result refl concluded in
+    inr (inr (inr (inr (nothing.0, inl (record { contents = held; said = nothing.1 })))))
 
 -- what is answered isn't a refusal of words, and a fault only where one was found
-found_refuses : (plan : Plan) (found : Result Outcome Stop) (why : Refusal) → AreApart plan.amounts plan.sizes → IsWithin plan.sizes found → IsOfWords (Ok plan) why → ¬ (ending_status (ending_by found) ≡ refusal_status why)
+found_refuses : (plan : Plan) (found : Result Outcome Stop) (why : Refusal) → AreApart plan.amounts plan.sizes → IsWithin plan.sizes found
+    → IsOfWords (Ok plan) why → ¬ (ending_status (ending_by found) ≡ refusal_status why)
 found_refuses plan (Ok outcome) why apart within told e = let h : None ≡ Some why = sym (finish_good outcome.finish).0 ∙ ap of_words e ∙ words_is why in cc
 found_refuses plan (Err stop) why apart within told e = stop_refuses plan stop why apart within told e
 
@@ -259,7 +286,8 @@ found_faulty : (found : Result Outcome Stop) (word : ℕ) → ending_status (end
 found_faulty (Ok outcome) word e = absurd ((finish_good outcome.finish).1 word e)
 found_faulty (Err stop) word e = ap Err (stop_faulty stop word e)
 
-found_ends : (plan : Plan) (found : Result Outcome Stop) → IfOk found (λ outcome. plan.ends_by outcome.finish ≡ true) → IsWithin plan.sizes found → MayEnd (Ok plan) (ending_by found)
+found_ends : (plan : Plan) (found : Result Outcome Stop) → IfOk found (λ outcome. plan.ends_by outcome.finish ≡ true) → IsWithin plan.sizes found
+    → MayEnd (Ok plan) (ending_by found)
 found_ends plan (Ok outcome) may within = may
 found_ends plan (Err stop) may within = may_stop plan.sizes stop within
 
@@ -271,10 +299,12 @@ same_counts : {old mid new : Outside} → mid ≡ old → SameCounts mid new →
 same_counts is same = rw is at same
 
 -- what was found leaves all counts, but for a fault, or memory that the files wanted
-quiet_found : (found : Result Outcome Stop) (words : ℕ) (old mid after new : Outside) (result : Status) → Leaves found old mid → SameCounts mid after → Concludes (ending_by found) words after new result → IsQuiet old new result
+quiet_found : (found : Result Outcome Stop) (words : ℕ) (old mid after new : Outside) (result : Status) → Leaves found old mid → SameCounts mid after
+    → Concludes (ending_by found) words after new result → IsQuiet old new result
 quiet_found (Ok outcome) words old mid after new result is same concludes = quiet_since old after new result (same_counts is same) concludes.quiet
 quiet_found (Err (Contents b)) words old mid after new result is same concludes = quiet_since old after new result (same_counts is same) concludes.quiet
-quiet_found (Err (Fault word)) words old mid after new result is same concludes = inr (inl (word, (silent (Stopped (Fault word)) words after new result refl concludes.ended).0))
+quiet_found (Err (Fault word)) words old mid after new result is same concludes = inr
+    (inl (word, (silent (Stopped (Fault word)) words after new result refl concludes.ended).0))
 quiet_found (Err Memory) words old mid after new result (inl is) same concludes = quiet_since old after new result (same_counts is same) concludes.quiet
 quiet_found (Err Memory) words old mid after new result (inr rose) same concludes =
     inr (inr ((silent (Stopped Memory) words after new result refl concludes.ended).0, omega (arith, rose, same.wants, concludes.later.wants)))
@@ -284,11 +314,15 @@ found_memory (Ok outcome) e = cc
 found_memory (Err stop) e = let same : stop ≡ Memory = cc in ap Err same
 
 -- what was found was written, and the line said
-answers_ended : (plan : Plan) (found : Result Outcome Stop) (words : ℕ) (old mid after new : Outside) (result : Status) → AreApart plan.amounts plan.sizes → IfOk found (λ outcome. plan.ends_by outcome.finish ≡ true) →
-    Finds (λ (o : Outcome). o) (words_of plan.reads) plan.sizes plan.comes old mid found → Writes {X = Unit {0}} (writes_by plan.writes found) mid after (Ok tt) → Concludes (ending_by found) words after new result → Answers (Ok plan) words old new result
+answers_ended : (plan : Plan) (found : Result Outcome Stop) (words : ℕ) (old mid after new : Outside) (result : Status) → AreApart plan.amounts plan.sizes
+    → IfOk found (λ outcome. plan.ends_by outcome.finish ≡ true) →
+    Finds (λ (o : Outcome). o) (words_of plan.reads) plan.sizes plan.comes old mid found → Writes {X = Unit {0}} (writes_by plan.writes found) mid after (Ok tt)
+    → Concludes (ending_by found) words after new result → Answers (Ok plan) words old new result
 answers_ended plan found words old mid after new result apart may finds writes concludes =
-    let concluded = concluded_since (ending_by found) words old after new result (writes.only.said ∙ finds.only.said) (omega arith) (omega arith) concludes.ended in
-    let held : new.contents ≡ files_with (writes_by plan.writes found) old.contents = concludes.contents ∙ writes.ended.0 ∙ ap (files_with (writes_by plan.writes found)) finds.only.contents in
+    let concluded = concluded_since (ending_by found) words old after new result (writes.only.said ∙ finds.only.said) (omega arith)
+    (omega arith) concludes.ended in
+    let held : new.contents ≡ files_with (writes_by plan.writes found) old.contents = concludes.contents ∙ writes.ended.0
+    ∙ ap (files_with (writes_by plan.writes found)) finds.only.contents in
     record {
       ends = λ files told. ends_found plan found words files old new result held told writes.ended.1 (finds.told files told) concluded;
       absent = λ files told. elim (finds.absent files told) [
@@ -296,7 +330,8 @@ answers_ended plan found words old mid after new result apart may finds writes c
         | inr missing ↦ inr (missing.0, ap ending_by missing.1)
       ];
       refused = λ why e. cc;
-      refuses = λ why told e. absurd (found_refuses plan found why apart finds.limits told (refuses_concluded (ending_by found) words old new result why concluded e));
+      refuses = λ why told e. absurd (found_refuses plan found why apart finds.limits told
+          (refuses_concluded (ending_by found) words old new result why concluded e));
       caused = λ word e. elim (caused_concluded (ending_by found) words old new result word concluded e) [
         | inl is ↦ let cause = finds.caused word (found_faulty found word is) in inl (cause.0, omega (arith, cause.1))
         | inr cause ↦ inr (inr cause)
@@ -312,34 +347,58 @@ answers_ended plan found words old mid after new result apart may finds writes c
     }
 
 -- a plan whose files were found, and writing was cut short at a word, by a fault or by want of memory
-answers_cut : (plan : Plan) (outcome : Outcome) (words at : ℕ) (old mid new : Outside) (result : Status) → Finds (λ (o : Outcome). o) (words_of plan.reads) plan.sizes plan.comes old mid (Ok outcome) → OnlyWrites mid new →
-    IsCutAt at (files_of plan.writes outcome.files) mid.contents new.contents → ((result ≡ status.FileFault at) × Rose mid.write_faults new.write_faults) ⊎ ((result ≡ status.Memory) × Rose mid.wants new.wants) → Answers (Ok plan) words old new result
+answers_cut : (plan : Plan) (outcome : Outcome) (words at : ℕ) (old mid new : Outside) (result : Status)
+    → Finds (λ (o : Outcome). o) (words_of plan.reads) plan.sizes plan.comes old mid (Ok outcome) → OnlyWrites mid new →
+    IsCutAt at (files_of plan.writes outcome.files) mid.contents new.contents → ((result ≡ status.FileFault at) × Rose mid.write_faults new.write_faults)
+    ⊎ ((result ≡ status.Memory) × Rose mid.wants new.wants) → Answers (Ok plan) words old new result
 answers_cut plan outcome words at old mid new result finds only cut ended =
     let said : new.said ≡ old.said = only.said ∙ finds.only.said in
     let held : IsCutAt at (files_of plan.writes outcome.files) old.contents new.contents = rw finds.only.contents at cut in
     record {
-      ends = λ files told. let here : IsCutInWriting at (found_answer plan (plan.comes files).at outcome) files old new = record { contents = rw told at held; said = said } in
-          rw (finds.told files told) (elim ended [ inl fault ↦ inr (inr (inl (at, fault.0, here))) | inr memory ↦ inr (inr (inr (inr (memory.0, inr (inl (at, here)))))) ]);
+      ends = λ files told. let here : IsCutInWriting at
+          (found_answer plan (plan.comes files).at outcome) files old new = record { contents = rw told at held; said = said } in
+          rw (finds.told files told) (elim ended [
+            | inl fault ↦ inr (inr (inl (at, fault.0, here)))
+            | inr memory ↦ inr
+                (inr (inr (inr (memory.0, inr (inl (at, here))))))
+          ]);
       absent = λ files told. elim (finds.absent files told) [
         | inl here ↦ inl (only.absent files (finds.only.contents ∙ told) ∙ here)
         | inr missing ↦ inr (missing.0, ap ending_by missing.1)
       ];
       refused = λ why e. cc;
-      refuses = λ why told e. absurd (let h : None ≡ Some why = elim ended [ inl fault ↦ ap of_words (sym fault.0 ∙ e) ∙ words_is why | inr memory ↦ ap of_words (sym memory.0 ∙ e) ∙ words_is why ] in cc);
+      refuses = λ why told e. absurd (let h : None
+          ≡ Some why = elim ended [ inl fault ↦ ap of_words (sym fault.0 ∙ e) ∙ words_is why | inr memory ↦ ap of_words (sym memory.0 ∙ e) ∙ words_is why ] in
+          cc);
       caused = λ word e. elim ended [
-        | inl fault ↦ let is = fault.0 in let same : at ≡ word = cc in inr (inl (rw same at (changed_cut at plan.writes outcome.files old.contents new.contents held).1, let rose = fault.1 in omega (arith, rose)))
+        | inl fault ↦ let is = fault.0 in let same : at ≡ word = cc in
+            inr (inl (rw same at (changed_cut at plan.writes outcome.files old.contents new.contents held).1, let rose = fault.1 in omega (arith, rose)))
         | inr memory ↦ let is = memory.0 in cc
       ];
-      quiet = elim ended [ inl fault ↦ inr (inl (at, fault.0)) | inr memory ↦ inr (inr (memory.0, let rose = memory.1 in omega (arith, rose, finds.only.later.wants))) ];
-      wanting = λ e. elim ended [ inl fault ↦ (let is = fault.0 in cc) | inr memory ↦ inr (let rose = memory.1 in omega (arith, rose, finds.only.later.wants)) ];
+      quiet = elim ended [
+        | inl fault ↦ inr (inl (at, fault.0))
+        | inr memory ↦ inr
+            (inr (memory.0, let rose = memory.1 in omega (arith, rose, finds.only.later.wants)))
+      ];
+      wanting = λ e. elim ended [
+        | inl fault ↦ (let is = fault.0 in cc)
+        | inr memory ↦ inr
+            (let rose = memory.1 in omega (arith, rose, finds.only.later.wants))
+      ];
       said = elim ended [ inl fault ↦ (Stopped (Fault at), tt, inl (fault.0, said)) | inr memory ↦ (Stopped Memory, tt, inl (memory.0, said)) ];
       contents = (changed_cut at plan.writes outcome.files old.contents new.contents held).0;
       later = search rules;
     }
 
 -- of writing that was cut short nothing is said
-only_since : (ending : Ending) (words : ℕ) (old mid new : Outside) (result : Status) → new.said ≡ mid.said → OnlyWrites old mid → Concludes ending words mid new result → OnlyWrites old new
-only_since ending words old mid new result same only concludes = record { said = same ∙ only.said; absent = λ files told. concludes.absent ∙ only.absent files told; later = search rules }
+only_since : (ending : Ending) (words : ℕ) (old mid new : Outside) (result : Status) → new.said ≡ mid.said → OnlyWrites old mid
+    → Concludes ending words mid new result → OnlyWrites old new
+only_since ending words old mid new result same only concludes = record {
+  said = same ∙ only.said;
+  absent = λ files told. concludes.absent
+      ∙ only.absent files told;
+  later = search rules;
+}
 
 still : (outside : Outside) → OnlyWrites outside outside
 still outside = record { said = refl; absent = λ _ _. refl; later = search rules }
@@ -347,65 +406,90 @@ still outside = record { said = refl; absent = λ _ _. refl; later = search rule
 nothing_written : {X : Type 0} {x : X} (outside : Outside) → Writes [] outside outside (Ok x)
 nothing_written outside = record { ended = (refl, tt); quiet = counts_stay outside; only = still outside }
 
-answers_halted : (plan : Plan) (outcome : Outcome) (stop : Stop) (words : ℕ) (old mid after new : Outside) (result : Status) → AreApart plan.amounts plan.sizes → Finds (λ (o : Outcome). o) (words_of plan.reads) plan.sizes plan.comes old mid (Ok outcome) →
-    OnlyWrites mid after → IsCut (files_of plan.writes outcome.files) mid after stop → Concludes (Stopped stop) words after new result → Answers (Ok plan) words old new result
+answers_halted : (plan : Plan) (outcome : Outcome) (stop : Stop) (words : ℕ) (old mid after new : Outside) (result : Status) → AreApart plan.amounts plan.sizes
+    → Finds (λ (o : Outcome). o) (words_of plan.reads) plan.sizes plan.comes old mid (Ok outcome) →
+    OnlyWrites mid after → IsCut (files_of plan.writes outcome.files) mid after stop → Concludes (Stopped stop) words after new result
+    → Answers (Ok plan) words old new result
 answers_halted plan outcome (Fault at) words old mid after new result apart finds only cut concludes =
     let nothing = silent (Stopped (Fault at)) words after new result refl concludes.ended in
-    answers_cut plan outcome words at old mid new result finds (only_since (Stopped (Fault at)) words mid after new result nothing.1 only concludes) (rw concludes.contents cut.0) (inl (nothing.0, omega (arith, cut.1, concludes.later.write_faults)))
+    answers_cut plan outcome words at old mid new result finds (only_since (Stopped (Fault at)) words mid after new result nothing.1 only concludes)
+    (rw concludes.contents cut.0) (inl (nothing.0, omega (arith, cut.1, concludes.later.write_faults)))
 answers_halted plan outcome Memory words old mid after new result apart finds only (at, cut, rose) concludes =
     let nothing = silent (Stopped Memory) words after new result refl concludes.ended in
-    answers_cut plan outcome words at old mid new result finds (only_since (Stopped Memory) words mid after new result nothing.1 only concludes) (rw concludes.contents cut) (inr (nothing.0, omega (arith, rose, concludes.later.wants)))
+    answers_cut plan outcome words at old mid new result finds (only_since (Stopped Memory) words mid after new result nothing.1 only concludes)
+    (rw concludes.contents cut) (inr (nothing.0, omega (arith, rose, concludes.later.wants)))
 answers_halted plan outcome (Contents bad) words old mid after new result apart finds only cut concludes = absurd cut
 
 -- a plan was carried out, and the line of its end said
-pub answers_done : (plan : Plan) (done : Result Finish Stop) (words : ℕ) (old after new : Outside) (result : Status) → AreApart plan.amounts plan.sizes → Does plan old after done → Concludes (ending_of done) words after new result → Answers (Ok plan) words old new result
+pub answers_done : (plan : Plan) (done : Result Finish Stop) (words : ℕ) (old after new : Outside) (result : Status) → AreApart plan.amounts plan.sizes
+    → Does plan old after done → Concludes (ending_of done) words after new result → Answers (Ok plan) words old new result
 answers_done plan done words old after new result apart (inl (stop, is, finds)) concludes =
     answers_ended plan (Err stop) words old after after new result apart tt finds (nothing_written after) (rw is at concludes)
 answers_done plan (Ok finish) words old after new result apart (inr (outcome, mid, may, finds, completes)) concludes =
     elim completes.writes [
-      | inl writes ↦ answers_ended plan (Ok outcome) words old mid after new result apart may finds (record { ended = writes.ended; quiet = writes.quiet; only = writes.only }) (rw completes.finish at concludes)
+      | inl writes ↦ answers_ended plan (Ok outcome) words old mid after new result apart may finds
+          (record { ended = writes.ended; quiet = writes.quiet; only = writes.only }) (rw completes.finish at concludes)
       | inr wanting ↦ let never = wanting.0 in cc
     ]
 answers_done plan (Err stop) words old after new result apart (inr (outcome, mid, may, finds, completes)) concludes =
     elim completes.writes [
       | inl writes ↦ answers_halted plan outcome stop words old mid after new result apart finds writes.only writes.ended concludes
       | inr wanting ↦ let is = wanting.0 in let memory : stop ≡ Memory = cc in
-          answers_ended plan (Err Memory) words old mid mid new result apart tt (finds_wanting (λ (o : Outcome). o) (λ (o : Outcome). o) (words_of plan.reads) plan.sizes plan.comes outcome old mid (Err Memory) refl finds) (nothing_written mid)
+          answers_ended plan (Err Memory) words old mid mid new result apart tt
+          (finds_wanting (λ (o : Outcome). o) (λ (o : Outcome). o) (words_of plan.reads) plan.sizes plan.comes outcome old mid (Err Memory) refl finds)
+          (nothing_written mid)
           (rw (memory, wanting.1) at concludes)
     ]
 
 -- ---- what a command does, whose plan comes to this of what was found
 
 -- a look was refused, and `?` passes that on
-pub does_stopped : {X A : Type 0} (plan : Plan) (view : X → A) (ends : A → Outcome) (due : Names → Look A) (stop : Stop) (old new : Outside) (result : Result Finish Stop) →
-    plan.comes ≡ (λ files. comes_by ends (due files)) → Finds view (words_of plan.reads) plan.sizes due old new (Err stop) → IsErrAnd result (λ e. e ≡ stop) → Does plan old new result
+pub does_stopped : {X A : Type 0} (plan : Plan) (view : X → A) (ends : A → Outcome) (due : Names → Look A) (stop : Stop) (old new : Outside)
+    (result : Result Finish Stop) →
+    plan.comes ≡ (λ files. comes_by ends (due files)) → Finds view (words_of plan.reads) plan.sizes due old new (Err stop) → IsErrAnd result (λ e. e ≡ stop)
+    → Does plan old new result
 does_stopped plan view ends due stop old new (Ok finish) is finds same = absurd same
-does_stopped plan view ends due stop old new (Err other) is finds same = inl (stop, ap Err same, rw is (finds_comes view ends (words_of plan.reads) plan.sizes due old new (Err stop) finds))
+does_stopped plan view ends due stop old new (Err other) is finds same = inl
+    (stop, ap Err same, rw is (finds_comes view ends (words_of plan.reads) plan.sizes due old new (Err stop) finds))
 
-pub does_found : {X A : Type 0} (plan : Plan) (view : X → A) (ends : A → Outcome) (due : Names → Look A) (found : X) (old mid new : Outside) (result : Result Finish Stop) →
-    plan.comes ≡ (λ files. comes_by ends (due files)) → plan.ends_by (ends (view found)).finish ≡ true → Finds view (words_of plan.reads) plan.sizes due old mid (Ok found) → Completes plan.writes (ends (view found)) mid new result → Does plan old new result
-does_found plan view ends due found old mid new result is may finds completes = inr (ends (view found), mid, may, rw is (finds_comes view ends (words_of plan.reads) plan.sizes due old mid (Ok found) finds), completes)
+pub does_found : {X A : Type 0} (plan : Plan) (view : X → A) (ends : A → Outcome) (due : Names → Look A) (found : X) (old mid new : Outside)
+    (result : Result Finish Stop) →
+    plan.comes ≡ (λ files. comes_by ends (due files)) → plan.ends_by (ends (view found)).finish ≡ true
+    → Finds view (words_of plan.reads) plan.sizes due old mid (Ok found) → Completes plan.writes (ends (view found)) mid new result
+    → Does plan old new result
+does_found plan view ends due found old mid new result is may finds completes = inr
+    (ends (view found), mid, may, rw is (finds_comes view ends (words_of plan.reads) plan.sizes due old mid (Ok found) finds), completes)
 
 -- ---- what was found is completed
 
 -- all is written
-pub completes_whole : {X : Type 0} (places : List Named) (outcome : Outcome) (finish : Finish) (written : X) (old new : Outside) → finish ≡ outcome.finish → Writes (files_of places outcome.files) old new (Ok written) → Completes places outcome old new (Ok finish)
-completes_whole places outcome finish written old new is writes = record { writes = inl (record { ended = writes.ended; quiet = writes.quiet; only = writes.only }); finish = is }
+pub completes_whole : {X : Type 0} (places : List Named) (outcome : Outcome) (finish : Finish) (written : X) (old new : Outside) → finish ≡ outcome.finish
+    → Writes (files_of places outcome.files) old new (Ok written) → Completes places outcome old new (Ok finish)
+completes_whole places outcome finish written old new is writes = record {
+  writes = inl
+      (record { ended = writes.ended; quiet = writes.quiet; only = writes.only });
+  finish = is;
+}
 
 -- or writing was cut short, and `?` passes that on
-pub completes_cut : {X : Type 0} (places : List Named) (outcome : Outcome) (stop : Stop) (old new : Outside) (result : Result Finish Stop) → Writes {X = X} (files_of places outcome.files) old new (Err stop) → IsErrAnd result (λ e. e ≡ stop) → Completes places outcome old new result
+pub completes_cut : {X : Type 0} (places : List Named) (outcome : Outcome) (stop : Stop) (old new : Outside) (result : Result Finish Stop)
+    → Writes {X = X} (files_of places outcome.files) old new (Err stop) → IsErrAnd result (λ e. e ≡ stop) → Completes places outcome old new result
 completes_cut places outcome stop old new (Ok finish) writes is = absurd is
-completes_cut places outcome stop old new (Err other) writes is = rw is (record { writes = inl (record { ended = writes.ended; quiet = tt; only = writes.only }); finish = tt })
+completes_cut places outcome stop old new (Err other) writes is = rw is
+    (record { writes = inl (record { ended = writes.ended; quiet = tt; only = writes.only }); finish = tt })
 
 -- or nothing is written, since there is nothing to write or memory was wanting
-pub completes_nothing : (places : List Named) (outcome : Outcome) (done : Result Finish Stop) (outside : Outside) → MatchResult done (λ finish. outcome ≡ record { files = []; finish = finish }) (λ stop. stop ≡ Memory) → Completes places outcome outside outside done
+pub completes_nothing : (places : List Named) (outcome : Outcome) (done : Result Finish Stop) (outside : Outside)
+    → MatchResult done (λ finish. outcome ≡ record { files = []; finish = finish }) (λ stop. stop ≡ Memory) → Completes places outcome outside outside done
 completes_nothing places outcome (Ok finish) outside is = rw is (record { writes = inl (nothing_written outside); finish = refl })
 completes_nothing places outcome (Err stop) outside is = rw is (record { writes = inr (refl, refl); finish = tt })
 
-pub completes_wanting : (places : List Named) (outcome : Outcome) (outside : Outside) (result : Result Finish Stop) → IsErrAnd result (λ e. e ≡ Memory) → Completes places outcome outside outside result
+pub completes_wanting : (places : List Named) (outcome : Outcome) (outside : Outside) (result : Result Finish Stop) → IsErrAnd result (λ e. e ≡ Memory)
+    → Completes places outcome outside outside result
 completes_wanting places outcome outside (Ok finish) is = absurd is
 completes_wanting places outcome outside (Err stop) is = completes_nothing places outcome (Err stop) outside is
 
 -- an outcome may be told in other words
-pub completes_as : (places : List Named) (outcome other : Outcome) (old new : Outside) (result : Result Finish Stop) → outcome ≡ other → Completes places other old new result → Completes places outcome old new result
+pub completes_as : (places : List Named) (outcome other : Outcome) (old new : Outside) (result : Result Finish Stop) → outcome ≡ other
+    → Completes places other old new result → Completes places outcome old new result
 completes_as places outcome other old new result is completes = rw is completes

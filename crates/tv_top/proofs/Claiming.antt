@@ -4,19 +4,23 @@ use Rattle.std.specs.Prelude.{IfOk}
 use Rattle.std.proofs.lemmas.Bool.{le-ltb, false_from_ne_true}
 use Rattle.std.proofs.lemmas.Slice.Eq.{bytes_eq-Decides}
 use Rattle.std.specs.Str.{bytes_eq}
-use Rattle.tv_top.proofs.Common.{Names, Outside, Amount, Bad, Stop, Fault, Memory, Contents, Status, Answers, IsStopped, Holds, Then, status_by, Answered, Comes, IsAnswered, Ends, Named, Plan, Look, Outcome, AreWithin, ◌>>=◌, held_at, input, made_of, comes_by, answer_by, answer_of, same_in, same_of, limit_of, request_of}
+use Rattle.tv_top.proofs.Common.{Names, Outside, Amount, Bad, Stop, Fault, Memory, Contents, Status, Answers, IsStopped, Holds, Then, status_by, Answered}
+use Rattle.tv_top.proofs.Common.{Comes, IsAnswered, Ends, Named, Plan, Look, Outcome, AreWithin, ◌>>=◌, held_at, input, made_of, comes_by, answer_by}
+use Rattle.tv_top.proofs.Common.{answer_of, same_in, same_of, limit_of, request_of}
 use Rattle.tv_top.specs.declared.status.Status.TheVariants as status
 use Rattle.tv_top.specs.Form.{form}
 
 -- ---- any plan
 
-stopped_by : (plan : Plan) (words : ℕ) (old new : Outside) (result : Status) (word : ℕ) → Answers (Ok plan) words old new result → result ≡ status.FileFault word → IsStopped plan.writes old new result
+stopped_by : (plan : Plan) (words : ℕ) (old new : Outside) (result : Status) (word : ℕ) → Answers (Ok plan) words old new result
+    → result ≡ status.FileFault word → IsStopped plan.writes old new result
 stopped_by plan words old new result word answers e =
     inl (word, e, elim (answers.caused word e) [ inl read ↦ inl read.1 | inr (inl wrote) ↦ inr (inl wrote) | inr (inr said) ↦ inr (inr said.1) ])
 
 -- the answer that is due, or something stopped the call
 pub due_or_stopped : (plan : Plan) (words : ℕ) (files : Names) (old new : Outside) (result : Status) → Answers (Ok plan) words old new result →
-    Ends (answer_of (Ok plan) files) words files old new result → IsAnswered (answer_of (Ok plan) files) files old new result ⊎ IsStopped plan.writes old new result
+    Ends (answer_of (Ok plan) files) words files old new result → IsAnswered (answer_of (Ok plan) files) files old new result
+    ⊎ IsStopped plan.writes old new result
 due_or_stopped plan words files old new result answers (inl answered) = inl answered
 due_or_stopped plan words files old new result answers (inr (inl read)) = inr (stopped_by plan words old new result read.0 answers read.1)
 due_or_stopped plan words files old new result answers (inr (inr (inl wrote))) = inr (stopped_by plan words old new result wrote.0 answers wrote.1)
@@ -41,15 +45,21 @@ abbrev Ended : {A : Type 0} → List Named → (A → Outcome) → (Result A Bad
 Ended {A} places ends Held files old new result =
     Answered places ends Held files old new result ⊎ IsStopped places old new result
 
-ended_by : {A : Type 0} (plan : Plan) (ends : A → Outcome) (look : Look A) (gives : Result A Stop) (Held : Result A Bad → Type 0) (words : ℕ) (files : Names) (old new : Outside) (result : Status) → look.gives ≡ gives →
-    Answers (Ok plan) words old new result → IsHeld gives Held → IsAnswered (answer_by plan.writes (comes_by ends look)) files old new result → Ended plan.writes ends Held files old new result
-ended_by plan ends look (Ok x) Held words files old new result is answers holds answered = let due = rw is at answered in inl (record { held = Ok x; is = holds (Ok x) refl; status = due.status; contents = due.contents; read = due.read; said = due.said })
-ended_by plan ends look (Err (Contents bad)) Held words files old new result is answers holds answered = let due = rw is at answered in inl (record { held = Err bad; is = holds (Err bad) refl; status = due.status; contents = due.contents; read = tt; said = due.said })
-ended_by plan ends look (Err (Fault word)) Held words files old new result is answers holds answered = let due = rw is at answered in inr (stopped_by plan words old new result word answers due.status)
+ended_by : {A : Type 0} (plan : Plan) (ends : A → Outcome) (look : Look A) (gives : Result A Stop) (Held : Result A Bad → Type 0) (words : ℕ) (files : Names)
+    (old new : Outside) (result : Status) → look.gives ≡ gives →
+    Answers (Ok plan) words old new result → IsHeld gives Held → IsAnswered (answer_by plan.writes (comes_by ends look)) files old new result
+    → Ended plan.writes ends Held files old new result
+ended_by plan ends look (Ok x) Held words files old new result is answers holds answered = let due = rw is at answered in
+    inl (record { held = Ok x; is = holds (Ok x) refl; status = due.status; contents = due.contents; read = due.read; said = due.said })
+ended_by plan ends look (Err (Contents bad)) Held words files old new result is answers holds answered = let due = rw is at answered in
+    inl (record { held = Err bad; is = holds (Err bad) refl; status = due.status; contents = due.contents; read = tt; said = due.said })
+ended_by plan ends look (Err (Fault word)) Held words files old new result is answers holds answered = let due = rw is at answered in
+    inr (stopped_by plan words old new result word answers due.status)
 ended_by plan ends look (Err Memory) Held words files old new result is answers holds answered = let due = rw is at answered in inr (inr due.status)
 
 -- each answer comes exactly where it is due
-exactly : {A : Type 0} (places : List Named) (ends : A → Outcome) (Held : Result A Bad → Type 0) (files : Names) (old new : Outside) (result : Status) → IsOne Held → Ended places ends Held files old new result →
+exactly : {A : Type 0} (places : List Named) (ends : A → Outcome) (Held : Result A Bad → Type 0) (files : Names) (old new : Outside) (result : Status)
+    → IsOne Held → Ended places ends Held files old new result →
     (held : Result A Bad) → Held held → (result ≡ status_by ends held) ⊎ IsStopped places old new result
 exactly places ends Held files old new result one (inl answered) held has = inl (answered.status ∙ ap (status_by ends) (one answered.held held answered.is has))
 exactly places ends Held files old new result one (inr stopped) held has = inr stopped
@@ -72,18 +82,22 @@ file_held word read None held e = let never = (not_stopped held (Fault word) e).
 file_held word read (Some bytes) held e = record { bytes = bytes; there = refl; reads = made_is (read bytes) held e }
 
 -- and one look after another
-held_then : {A B : Type 0} (look : Look A) (gives : Result A Stop) (f : A → Look B) (First : Result A Bad → Type 0) (Second : A → Result B Bad → Type 0) → look.gives ≡ gives → IsHeld gives First →
+held_then : {A B : Type 0} (look : Look A) (gives : Result A Stop) (f : A → Look B) (First : Result A Bad → Type 0) (Second : A → Result B Bad → Type 0)
+    → look.gives ≡ gives → IsHeld gives First →
     ((x : A) → First (Ok x) → IsHeld (f x).gives (Second x)) → IsHeld (look >>= f).gives (Then First Second)
 held_then look (Ok x) f First Second is first second held e = let has = first (Ok x) refl in inl (x, has, second x has held (rw is at e))
-held_then look (Err stop) f First Second is first second held e = let bad = not_stopped held stop (rw is at e) in inr (bad.0, first (Err bad.0) (ap Err bad.1), bad.2)
+held_then look (Err stop) f First Second is first second held e = let bad = not_stopped held stop (rw is at e) in
+    inr (bad.0, first (Err bad.0) (ap Err bad.1), bad.2)
 
 -- ---- files hold one thing
 
 one_holds : {A : Type 0} (read : List ℕ → Result A Bad) (file : Option (List ℕ)) → IsOne (Holds read file)
 one_holds read file one other a b = let there = a.there in let also = b.there in let same : a.bytes ≡ b.bytes = cc in sym a.reads ∙ ap read same ∙ b.reads
 
-one_then : {A B : Type 0} (First : Result A Bad → Type 0) (Second : A → Result B Bad → Type 0) → IsOne First → ((x : A) → First (Ok x) → IsOne (Second x)) → IsOne (Then First Second)
-one_then First Second first second one other (inl (x, is, on)) (inl (y, also, next)) = let e = first (Ok x) (Ok y) is also in let same : y ≡ x = cc in second x is one other on (rw same at next)
+one_then : {A B : Type 0} (First : Result A Bad → Type 0) (Second : A → Result B Bad → Type 0) → IsOne First → ((x : A) → First (Ok x) → IsOne (Second x))
+    → IsOne (Then First Second)
+one_then First Second first second one other (inl (x, is, on)) (inl (y, also, next)) = let e = first (Ok x) (Ok y) is also in let same : y ≡ x = cc in
+    second x is one other on (rw same at next)
 one_then First Second first second one other (inl (x, is, on)) (inr (bad, also, next)) = let e = first (Ok x) (Err bad) is also in cc
 one_then First Second first second one other (inr (bad, is, on)) (inl (y, also, next)) = let e = first (Err bad) (Ok y) is also in cc
 one_then First Second first second one other (inr (bad, is, on)) (inr (why, also, next)) = let e = first (Err bad) (Err why) is also in cc
@@ -91,17 +105,26 @@ one_then First Second first second one other (inr (bad, is, on)) (inr (why, also
 -- ---- both
 
 -- what is read of a file is what it holds
-pub shows_input : {A : Type 0} (place : Named) (read : List ℕ → Result A Bad) (files : Names) → Shows (input place read files).gives (Holds read (files place.name))
+pub shows_input : {A : Type 0} (place : Named) (read : List ℕ → Result A Bad) (files : Names)
+    → Shows (input place read files).gives (Holds read (files place.name))
 unfolding input
 shows_input place read files = record { held = file_held place.word read (files place.name); one = one_holds read (files place.name) }
 
-pub shows_then : {A B : Type 0} (look : Look A) (f : A → Look B) (First : Result A Bad → Type 0) (Second : A → Result B Bad → Type 0) → Shows look.gives First → ((x : A) → First (Ok x) → Shows (f x).gives (Second x)) → Shows (look >>= f).gives (Then First Second)
+pub shows_then : {A B : Type 0} (look : Look A) (f : A → Look B) (First : Result A Bad → Type 0) (Second : A → Result B Bad → Type 0) → Shows look.gives First
+    → ((x : A) → First (Ok x) → Shows (f x).gives (Second x)) → Shows (look >>= f).gives (Then First Second)
 shows_then look f First Second first second =
-    record { held = held_then look look.gives f First Second refl first.held (λ x is. (second x is).held); one = one_then First Second first.one (λ x is. (second x is).one) }
+    record {
+      held = held_then look look.gives f First Second refl first.held (λ x is. (second x is).held);
+      one = one_then First Second first.one (λ x is. (second x is).one);
+    }
 
 -- what is so of it tells more, and no more things
-pub shows_more : {A : Type 0} (gives : Result A Stop) (First Held : Result A Bad → Type 0) → Shows gives First → ((held : Result A Bad) → First held → Held held) → ((held : Result A Bad) → Held held → First held) → Shows gives Held
-shows_more gives First Held first to from = record { held = λ held e. to held (first.held held e); one = λ one other a b. first.one one other (from one a) (from other b) }
+pub shows_more : {A : Type 0} (gives : Result A Stop) (First Held : Result A Bad → Type 0) → Shows gives First
+    → ((held : Result A Bad) → First held → Held held) → ((held : Result A Bad) → Held held → First held) → Shows gives Held
+shows_more gives First Held first to from = record {
+  held = λ held e. to held (first.held held e);
+  one = λ one other a b. first.one one other (from one a) (from other b);
+}
 
 -- what is made of what files hold
 pub shows_made : {A : Type 0} (made : Result A Bad) → Shows (made_of made) (λ held. held ≡ made)
@@ -122,7 +145,8 @@ AreOther (r ∷ rs) ws = IsOther r ws × AreOther rs ws
 
 other_in : (one : Named) (others : List Named) → IsOther one others → same_in one others ≡ None
 other_in one [] other = refl
-other_in one (next ∷ others) other = rw (false_from_ne_true (bytes_eq next.name one.name) (λ is. other.0 (sym ((bytes_eq-Decides next.name one.name).0 is)))) (other_in one others other.1)
+other_in one (next ∷ others) other = rw (false_from_ne_true (bytes_eq next.name one.name) (λ is. other.0 (sym ((bytes_eq-Decides next.name one.name).0 is))))
+    (other_in one others other.1)
 
 other_of : (reads writes : List Named) → AreOther reads writes → same_of reads writes ≡ None
 other_of [] [] other = refl
@@ -134,15 +158,18 @@ within_all [] within = refl
 within_all (one ∷ more) within = rw (le-ltb one.has one.least within.0, le-ltb one.most one.has within.1) (within_all more within.2)
 
 -- words that have the form of a plan whose names are others and whose quantities are within their limits ask for it
-pub granted : (plan : Plan) (words : List (List ℕ)) (count : ℕ) (old new : Outside) (result : Status) → form words ≡ Some plan → AreOther plan.reads plan.writes → AreWithin plan.amounts →
+pub granted : (plan : Plan) (words : List (List ℕ)) (count : ℕ) (old new : Outside) (result : Status) → form words ≡ Some plan → AreOther plan.reads plan.writes
+    → AreWithin plan.amounts →
     Answers (request_of (form words)) count old new result → Answers (Ok plan) count old new result
 granted plan words count old new result has other within asked = rw (has, other_of plan.reads plan.writes other, within_all plan.amounts within) at asked
 
 -- ---- any command
 
 -- words that have the form of a plan, which isn't refused, come to what its look gives
-pub comes : {A : Type 0} (plan : Plan) (ends : A → Outcome) (look : Names → Look A) (Held : Result A Bad → Type 0) (words : List (List ℕ)) (count : ℕ) (files : Names) (old new : Outside) (result : Status) →
-    form words ≡ Some plan → AreOther plan.reads plan.writes → AreWithin plan.amounts → plan.comes ≡ (λ files. comes_by ends (look files)) → old.contents ≡ Some files →
+pub comes : {A : Type 0} (plan : Plan) (ends : A → Outcome) (look : Names → Look A) (Held : Result A Bad → Type 0) (words : List (List ℕ)) (count : ℕ)
+    (files : Names) (old new : Outside) (result : Status) →
+    form words ≡ Some plan → AreOther plan.reads plan.writes → AreWithin plan.amounts → plan.comes ≡ (λ files. comes_by ends (look files))
+    → old.contents ≡ Some files →
     Answers (request_of (form words)) count old new result → Shows (look files).gives Held → Comes plan.writes ends Held files old new result
 comes plan ends look Held words count files old new result has other within is told asked shows =
     let answers = granted plan words count old new result has other within asked in
@@ -154,7 +181,8 @@ comes plan ends look Held words count files old new result has other within is t
 
 -- what a clause of a command says comes of what every call promises
 abbrev pub Promises : (List (List ℕ) → Outside → Outside → Status → Type 0) → Type 0
-Promises On = (words : List (List ℕ)) (count : ℕ) (old new : Outside) (result : Status) → Answers (request_of (form words)) count old new result → On words old new result
+Promises On = (words : List (List ℕ)) (count : ℕ) (old new : Outside) (result : Status) → Answers (request_of (form words)) count old new result
+    → On words old new result
 
 -- what is so of each value that there is
 pub if_ok : {A : Type 0} (held : Result A Bad) (P : A → Type 0) → ((x : A) → held ≡ Ok x → P x) → IfOk held P

@@ -1,7 +1,8 @@
 -- From what reading a container came to, by what its file holds, to what a look at the file found.
 use Rattle.std.proofs.Common.{◌≡◌, ℕ, ◌≤◌, List, [], ◌∷◌, Option, Some, None, Result, Ok, Err, inl, inr, refl, arith}
 use Rattle.std.specs.Prelude.{MatchResult}
-use Rattle.tv_top.proofs.Common.{Names, Outside, OnlyReads, MissesOnly, Rose, Bad, Size, Stop, MayStop, IsFound, Finds, Spares, Named, Look, input, held_at, made_of, map_ok}
+use Rattle.tv_top.proofs.Common.{Names, Outside, OnlyReads, MissesOnly, Rose, Bad, Size, Stop, MayStop, IsFound, Finds, Spares, Named, Look, input, held_at}
+use Rattle.tv_top.proofs.Common.{made_of, map_ok}
 use Rattle.tv_container.specs.Places.{Fault, ◌>>=◌}
 use Rattle.tv_container.specs.Reading as reading
 use Rattle.tv_container.specs.Reading.{bytes_of, Known, GivesBy, Looks, Stopped, IsMissing}
@@ -23,18 +24,24 @@ abbrev pub came : {Y E : Type 0} → (E → Stop) → Result Y E → Result Y St
 came stop (Ok y) = Ok y
 came stop (Err why) = Err (stop why)
 
-module _ {Y E A : Type 0} (view : Y → A) (of : E → Stop) (fault : E) (word : ℕ) (sizes : List Size) (name : List ℕ) (due : Option (List ℕ) → Look A) (old new : Outside) (Stands : E → Type 0) where
-  told : (result : Result Y E) → of fault ≡ stop.Fault word → word ≤ (due None).at → Known old name (λ file. IsFound view (due (Some file)) (came of result)) → (IsMissing old name → result ≡ Err fault) → (files : Names) → old.contents ≡ Some files →
+module _ {Y E A : Type 0} (view : Y → A) (of : E → Stop) (fault : E) (word : ℕ) (sizes : List Size) (name : List ℕ) (due : Option (List ℕ) → Look A)
+    (old new : Outside) (Stands : E → Type 0) where
+  told : (result : Result Y E) → of fault ≡ stop.Fault word → word ≤ (due None).at → Known old name (λ file. IsFound view (due (Some file)) (came of result))
+      → (IsMissing old name → result ≡ Err fault) → (files : Names) → old.contents ≡ Some files →
       (file : Option (List ℕ)) → files name ≡ file → IsFound view (due file) (came of result)
   unfolding bytes_of
   told result faulty within gives missing files tells (Some file) is = gives file (rw (tells, is) refl)
   told result faulty within gives missing files tells None is = rw (missing (record { files = files; told = tells; none = is }), faulty) within
 
   -- a file was read by a reader that stands so after a refusal
-  pub finds_file : (result : Result Y E) → of fault ≡ stop.Fault word → word ≤ (due None).at → (due None).gives ≡ Err (stop.Fault word) → ((why : E) → StopsBy word sizes (why ≡ fault) (of why)) →
-      ((why : E) → Stands why → OnlyReads old new × MissesOnly old new name × Spares (of why) old new × (why ≡ fault → Rose old.read_faults new.read_faults)) → Known old name (λ file. IsFound view (due (Some file)) (came of result)) →
-      MatchResult result (λ _. new ≡ old) Stands → (IsMissing old name → result ≡ Err fault) → Finds view (word ∷ []) sizes (λ held. due (held name)) old new (came of result)
-  finds_file (Ok y) faulty within none stops stands gives looks missing = rw looks (finds_still (λ files tells. told (Ok y) faulty within gives missing files tells (files name) refl))
+  pub finds_file : (result : Result Y E) → of fault ≡ stop.Fault word → word ≤ (due None).at → (due None).gives ≡ Err (stop.Fault word)
+      → ((why : E) → StopsBy word sizes (why ≡ fault) (of why)) →
+      ((why : E) → Stands why → OnlyReads old new × MissesOnly old new name × Spares (of why) old new × (why ≡ fault → Rose old.read_faults new.read_faults))
+      → Known old name (λ file. IsFound view (due (Some file)) (came of result)) →
+      MatchResult result (λ _. new ≡ old) Stands → (IsMissing old name → result ≡ Err fault)
+      → Finds view (word ∷ []) sizes (λ held. due (held name)) old new (came of result)
+  finds_file (Ok y) faulty within none stops stands gives looks missing = rw looks
+      (finds_still (λ files tells. told (Ok y) faulty within gives missing files tells (files name) refl))
   finds_file (Err why) faulty within none stops stands gives looks missing = record {
     told = λ files tells. told (Err why) faulty within gives missing files tells (files name) refl;
     absent = λ files tells. elim ((stands why looks).1 files tells) [ inl same ↦ inl same | inr missed ↦ inr (word, rw missed none) ];
@@ -79,13 +86,21 @@ read_told view word bad due (Err refusal.Fault) gives = omega arith
 read_told view word bad due (Err refusal.Memory) gives = tt
 
 -- what reading a container found
-pub finds_read : {Y A : Type 0} (view : Y → A) (place : Named) (bad : Fault → Bad) (read : List ℕ → Result A Fault) (old new : Outside) (result : Result Y ReadRefusal) → NoLimit bad →
+pub finds_read : {Y A : Type 0} (view : Y → A) (place : Named) (bad : Fault → Bad) (read : List ℕ → Result A Fault) (old new : Outside)
+    (result : Result Y ReadRefusal) → NoLimit bad →
     Known old place.name (λ file. GivesBy result view (read file)) → Looks old new place.name result → (IsMissing old place.name → result ≡ Err refusal.Fault) →
     Finds view (place.word ∷ []) [] (input place (λ file. container_result bad (read file))) old new (came (refusal_stop place.word bad) result)
 unfolding input
 finds_read view place bad read old new result none gives looks missing =
-    finds_file view (refusal_stop place.word bad) refusal.Fault place.word [] place.name (λ file. record { at = place.word; gives = held_at place.word (λ file. container_result bad (read file)) file }) old new (Stopped old new place.name) result refl (omega arith) refl
-    (read_stops place.word bad none) (λ why stopped. (stopped.only, stopped.there, read_spares place.word bad why old new stopped.leaves, read_caused why old new stopped.leaves)) (λ file there. read_told view place.word bad (read file) result (gives file there)) looks missing
+    finds_file view (refusal_stop place.word bad) refusal.Fault place.word [] place.name
+    (λ file. record { at = place.word; gives = held_at place.word (λ file. container_result bad (read file)) file }) old new
+    (Stopped old new place.name) result refl (omega arith) refl
+    (read_stops place.word bad none) (λ why stopped. (
+      stopped.only,
+      stopped.there,
+      read_spares place.word bad why old new stopped.leaves,
+      read_caused why old new stopped.leaves,
+    )) (λ file there. read_told view place.word bad (read file) result (gives file there)) looks missing
 
 -- what a container comes to that isn't refused
 pub read_of : {A : Type 0} (bad : Fault → Bad) (read : Result A Fault) (x : A) → container_result bad read ≡ Ok x → read ≡ Ok x
@@ -93,11 +108,13 @@ read_of bad (Ok found) x is = cc
 read_of bad (Err fault) x is = cc
 
 -- of a part of what a container holds
-part_made : {A B : Type 0} (bad : Fault → Bad) (part : A → B) (read : Result A Fault) → made_of (container_result bad (read >>= λ x. Ok (part x))) ≡ map_ok part (made_of (container_result bad read))
+part_made : {A B : Type 0} (bad : Fault → Bad) (part : A → B) (read : Result A Fault)
+    → made_of (container_result bad (read >>= λ x. Ok (part x))) ≡ map_ok part (made_of (container_result bad read))
 part_made bad part (Ok x) = refl
 part_made bad part (Err fault) = refl
 
 pub part_held : {A B : Type 0} (word : ℕ) (bad : Fault → Bad) (read : List ℕ → Result A Fault) (part : A → B) (file : Option (List ℕ)) →
-    held_at word (λ file. container_result bad (read file >>= λ x. Ok (part x))) file ≡ map_ok part (held_at word (λ file. container_result bad (read file)) file)
+    held_at word (λ file. container_result bad (read file >>= λ x. Ok (part x))) file
+    ≡ map_ok part (held_at word (λ file. container_result bad (read file)) file)
 part_held word bad read part None = refl
 part_held word bad read part (Some bytes) = part_made bad part (read bytes)

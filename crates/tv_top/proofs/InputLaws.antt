@@ -4,10 +4,19 @@ use Rattle.tv_top.proofs.Common.{Names, name_at, ◌>>=◌, input, settled, bits
 use Rattle.tv_top.specs.Inputs.{primary_in, aux_in, inputs_of, HasInputs}
 use Rattle.tv_top.proofs.Claiming.{Shows, shows_input, shows_then, shows_made}
 
-pub inputs_shown : (text tape aux : List ℕ) (files : Names) → Shows (inputs_of (name_at 1 text) (name_at 2 tape) (name_at 3 aux) files).gives (HasInputs files text tape aux)
+pub inputs_shown : (text tape aux : List ℕ) (files : Names)
+    → Shows (inputs_of (name_at 1 text) (name_at 2 tape) (name_at 3 aux) files).gives (HasInputs files text tape aux)
 unfolding inputs_of
 inputs_shown text tape aux files =
-    shows_then (input (name_at 1 text) program_in files) (λ program. input (name_at 2 tape) (primary_in 2 (bits program.width)) files >>= λ primary. input (name_at 3 aux) (aux_in 3 (bits program.width)) files >>= λ auxiliary. settled (Ok (record { program = program; tape = primary; aux = auxiliary }))) _ _ (shows_input (name_at 1 text) program_in files) (λ program _.
-    shows_then (input (name_at 2 tape) (primary_in 2 (bits program.width)) files) (λ primary. input (name_at 3 aux) (aux_in 3 (bits program.width)) files >>= λ auxiliary. settled (Ok (record { program = program; tape = primary; aux = auxiliary }))) _ _ (shows_input (name_at 2 tape) (primary_in 2 (bits program.width)) files) (λ primary _.
-    shows_then (input (name_at 3 aux) (aux_in 3 (bits program.width)) files) (λ auxiliary. settled (Ok (record { program = program; tape = primary; aux = auxiliary }))) _ _
-    (shows_input (name_at 3 aux) (aux_in 3 (bits program.width)) files) (λ auxiliary _. shows_made (Ok (record { program = program; tape = primary; aux = auxiliary })))))
+    shows_then (input (name_at 1 text) program_in files)
+    (λ program. input (name_at 2 tape) (primary_in 2 (bits program.width)) files >>= λ primary. input (name_at 3 aux)
+    (aux_in 3 (bits program.width)) files >>= λ auxiliary. settled (Ok (record { program = program; tape = primary; aux = auxiliary }))) _ _
+    (shows_input (name_at 1 text) program_in files) (λ program _.
+    shows_then (input (name_at 2 tape) (primary_in 2 (bits program.width)) files)
+    (λ primary. input (name_at 3 aux) (aux_in 3 (bits program.width)) files >>= λ auxiliary. settled
+    (Ok (record { program = program; tape = primary; aux = auxiliary }))) _ _ (shows_input (name_at 2 tape) (primary_in 2 (bits program.width)) files)
+    (λ primary _.
+    shows_then (input (name_at 3 aux) (aux_in 3 (bits program.width)) files)
+    (λ auxiliary. settled (Ok (record { program = program; tape = primary; aux = auxiliary }))) _ _
+    (shows_input (name_at 3 aux) (aux_in 3 (bits program.width)) files)
+    (λ auxiliary _. shows_made (Ok (record { program = program; tape = primary; aux = auxiliary })))))

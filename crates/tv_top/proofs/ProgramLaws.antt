@@ -17,7 +17,8 @@ use Rattle.tv_word.specs.Widths.{IsWidth}
 use Rattle.tv_top.specs.Inputs.{AreInputs, HasInputs}
 use Rattle.tv_top.specs.Finds.{made_by}
 use Rattle.tv_top.specs.Tapes.{tape_stop, numbers_of, numbers_in}
-use Rattle.tv_top.proofs.Common.{Names, Inputs, Amount, Program, Width, Bits16, Bits32, Bad, Refusal, Size, Holds, Named, AreWithin, same_of, is_out, limit_of, refusal_of, within, HasImage, bits, image_words, width_told, program_result, program_by, program_of, program_in}
+use Rattle.tv_top.proofs.Common.{Names, Inputs, Amount, Program, Width, Bits16, Bits32, Bad, Refusal, Size, Holds, Named, AreWithin, same_of, is_out}
+use Rattle.tv_top.proofs.Common.{limit_of, refusal_of, within, HasImage, bits, image_words, width_told, program_result, program_by, program_of, program_in}
 use Rattle.tv_top.specs.declared.refusal.Bad.TheVariants as bad
 use Rattle.tv_top.specs.declared.refusal.Refusal.TheVariants.{Limit}
 use Rattle.tv_top.specs.declared.refusal.Size.TheVariants.{TapeWords, AuxWords, TextBytes}
@@ -27,12 +28,16 @@ is_width Bits16 = inl refl
 is_width Bits32 = inr refl
 
 -- what comes of a file that may have so many bytes comes of its bytes
-pub within_ok : {A : Type 0} (what : Size) (most : ℕ) (read : List ℕ → Result A Bad) (bytes : List ℕ) (x : A) → within what most read bytes ≡ Ok x → read bytes ≡ Ok x
+pub within_ok : {A : Type 0} (what : Size) (most : ℕ) (read : List ℕ → Result A Bad) (bytes : List ℕ) (x : A) → within what most read bytes ≡ Ok x
+    → read bytes ≡ Ok x
 within_ok what most read bytes x e =
-    cond_both (nat_le (length bytes) most) (read bytes) (Err (bad.Limit what (most + 1) most)) (λ made. made ≡ Ok x → read bytes ≡ Ok x) (λ _ e. e) (λ _ e. cc) e
+    cond_both (nat_le (length bytes) most) (read bytes) (Err (bad.Limit what (most + 1) most)) (λ made. made ≡ Ok x → read bytes ≡ Ok x) (λ _ e. e)
+    (λ _ e. cc) e
 
-image_by : (width : Width) (found : Result (List ℕ) AsmFault) (program : Program) → IfOk found (λ words. length words ≤ image_words width) → IfOk found (AreWords (bits width)) → program_result width found ≡ Ok program → HasImage program
-image_by width (Ok words) program short small e = let same : record { width = width; words = words } ≡ program = cc in rw (← same) (record { short = short; words = small })
+image_by : (width : Width) (found : Result (List ℕ) AsmFault) (program : Program) → IfOk found (λ words. length words ≤ image_words width)
+    → IfOk found (AreWords (bits width)) → program_result width found ≡ Ok program → HasImage program
+image_by width (Ok words) program short small e = let same : record { width = width; words = words } ≡ program = cc in
+    rw (← same) (record { short = short; words = small })
 image_by width (Err fault) program short small e = cc
 
 -- a program that a file holds has words of its width, and no more of them than are allowed
@@ -41,7 +46,8 @@ unfolding program_by
 has_image file program holds =
     let text = holds.bytes in
     let width = width_told text in
-    image_by width (assembled (bits width) (image_words width) text) program (images_short (bits width) (image_words width) text) (images_words (bits width) (is_width width) (image_words width) text)
+    image_by width (assembled (bits width) (image_words width) text) program (images_short (bits width) (image_words width) text)
+    (images_words (bits width) (is_width width) (image_words width) text)
     (within_ok TextBytes TEXT_BYTES program_of text program holds.reads)
 
 few_words : (width : Width) → image_words width ≤ IMAGE_WORDS
@@ -52,19 +58,29 @@ few_words Bits32 = omega arith
 pub within_limits : (program : Program) (n t : ℕ) → HasImage program → n ≤ TAPE_WORDS → 1 ≤ t → t ≤ STEPS → WithinLimits (bits program.width) program.words n t
 within_limits program n t image few some most =
     let fits = few_words program.width in
-    record { width = is_width program.width; words = image.words; image_fits = omega (arith, image.short, fits); tape_fits = few; some = some; steps_fit = most }
+    record {
+      width = is_width program.width;
+      words = image.words;
+      image_fits = omega (arith, image.short, fits);
+      tape_fits = few;
+      some = some;
+      steps_fit = most;
+    }
 
 -- ---- tapes that files hold
 
-tape_read : (word : ℕ) (what : Size) (read : Result (List ℕ) TapeFault) (numbers : List ℕ) → made_by what (tape_stop word what) read ≡ Ok numbers → read ≡ Ok numbers
+tape_read : (word : ℕ) (what : Size) (read : Result (List ℕ) TapeFault) (numbers : List ℕ) → made_by what (tape_stop word what) read ≡ Ok numbers
+    → read ≡ Ok numbers
 tape_read word what (Ok words) numbers e = cc
 tape_read word what (Err fault) numbers e = cc
 
 -- the words of a tape
-pub numbers_are : (word : ℕ) (what : Size) (w most : ℕ) (file : Option (List ℕ)) (numbers : List ℕ) → Holds (numbers_in word what (2 ^ w) most) file (Ok numbers) → AreWords w numbers × (length numbers ≤ most)
+pub numbers_are : (word : ℕ) (what : Size) (w most : ℕ) (file : Option (List ℕ)) (numbers : List ℕ)
+    → Holds (numbers_in word what (2 ^ w) most) file (Ok numbers) → AreWords w numbers × (length numbers ≤ most)
 unfolding numbers_of
 numbers_are word what w most file numbers holds =
-    let is = tape_read word what (tape_of holds.bytes (2 ^ w) most) numbers (within_ok TextBytes TEXT_BYTES (numbers_of word what (2 ^ w) most) holds.bytes numbers holds.reads) in
+    let is = tape_read word what (tape_of holds.bytes (2 ^ w) most) numbers
+    (within_ok TextBytes TEXT_BYTES (numbers_of word what (2 ^ w) most) holds.bytes numbers holds.reads) in
     (numbers_below holds.bytes numbers (2 ^ w) most is, numbers_few holds.bytes numbers (2 ^ w) most is)
 
 pub inputs_are : (text tape aux : List ℕ) (files : Names) (inputs : Inputs) → HasInputs files text tape aux (Ok inputs) → AreInputs inputs
@@ -86,8 +102,10 @@ not_first (Some why) other e = cc
 unlimited : (amounts : List Amount) → limit_of amounts ≡ None → AreWithin amounts
 unlimited [] e = tt
 unlimited (one ∷ more) e =
-    cond_both (is_out one) (Some one) (find is_out more) (λ found. option_map (λ (one : Amount). Limit one.what one.has one.most) found ≡ None → AreWithin (one ∷ more)) (λ _ e. cc)
-    (λ is rest. let tests = or_parts (nat_lt one.has one.least) (nat_lt one.most one.has) is in (ltb-false one.has one.least tests.0, ltb-false one.most one.has tests.1, unlimited more rest)) e
+    cond_both (is_out one) (Some one) (find is_out more)
+    (λ found. option_map (λ (one : Amount). Limit one.what one.has one.most) found ≡ None → AreWithin (one ∷ more)) (λ _ e. cc)
+    (λ is rest. let tests = or_parts (nat_lt one.has one.least) (nat_lt one.most one.has) is in
+    (ltb-false one.has one.least tests.0, ltb-false one.most one.has tests.1, unlimited more rest)) e
 
 -- the quantities of words that aren't refused are within their limits
 pub amounts_within : (reads writes : List Named) (amounts : List Amount) → refusal_of reads writes amounts ≡ None → AreWithin amounts

@@ -10,12 +10,18 @@ use Rattle.tv_top.proofs.Claiming.{Promises, comes, if_ok, shows_more}
 use Rattle.tv_top.proofs.InputLaws.{inputs_shown}
 
 -- an answer is what the machine accepts by
-pub accepted : (steps : ℕ) (inputs : Inputs) (value step : ℕ) → run_end steps inputs ≡ Answer value step → Accepts (bits inputs.program.width) inputs.program.words inputs.tape inputs.aux steps value
-accepted steps inputs value step is =
-    (step, (answer_is_within (bits inputs.program.width) steps (start (bits inputs.program.width) inputs.program.words inputs.tape inputs.aux) value step is).1, is)
+pub accepted : (steps : ℕ) (inputs : Inputs) (value step : ℕ) → run_end steps inputs ≡ Answer value step
+    → Accepts (bits inputs.program.width) inputs.program.words inputs.tape inputs.aux steps value
+accepted steps inputs value step is = (
+  step,
+  (answer_is_within (bits inputs.program.width) steps (start (bits inputs.program.width) inputs.program.words inputs.tape inputs.aux) value step is).1,
+  is,
+)
 
 pub runs : Promises OnRun
 runs words count old new result answers text tape aux number steps are is some most files told =
-    comes (run_plan (name_at 1 text) (name_at 2 tape) (name_at 3 aux) steps) (run_ends steps) (inputs_of (name_at 1 text) (name_at 2 tape) (name_at 3 aux)) (HasRun files text tape aux steps) words count files old new result
+    comes (run_plan (name_at 1 text) (name_at 2 tape) (name_at 3 aux) steps) (run_ends steps) (inputs_of (name_at 1 text) (name_at 2 tape) (name_at 3 aux))
+    (HasRun files text tape aux steps) words count files old new result
     (rw (are, is) refl) (tt, (tt, (tt, tt))) (omega arith, most, tt) refl told answers
-    (shows_more _ _ _ (inputs_shown text tape aux files) (λ held has. record { inputs = has; accepts = if_ok held _ (λ inputs _. accepted steps inputs) }) (λ held has. has.inputs))
+    (shows_more _ _ _ (inputs_shown text tape aux files) (λ held has. record { inputs = has; accepts = if_ok held _ (λ inputs _. accepted steps inputs) })
+    (λ held has. has.inputs))

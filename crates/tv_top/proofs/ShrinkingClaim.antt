@@ -16,16 +16,22 @@ use Rattle.tv_top.proofs.Claiming.{Promises, comes, shows_input, shows_then, sho
 use Rattle.tv_top.proofs.ContainerReads.{read_of}
 
 whole : (system : System) (file : Option (List ℕ)) → Holds system_in file (Ok system) → IsWhole system
-whole system file holds = let is = read_of system_bad (system_of holds.bytes) system holds.reads in record { publics = rw is at (has_room holds.bytes); within = rw is at (systems_are_over holds.bytes) }
+whole system file holds = let is = read_of system_bad (system_of holds.bytes) system holds.reads in
+    record { publics = rw is at (has_room holds.bytes); within = rw is at (systems_are_over holds.bytes) }
 
-kept_by : (system : System) (held : Result Shrunken Bad) (long : Bool) (wide : Option ℕ) → IsWhole system → (if long then Err (terms_bad (all_terms system)) else narrow_shrunk wide system) ≡ held → IfOk held (Keeps system)
+kept_by : (system : System) (held : Result Shrunken Bad) (long : Bool) (wide : Option ℕ) → IsWhole system
+    → (if long then Err (terms_bad (all_terms system)) else narrow_shrunk wide system) ≡ held → IfOk held (Keeps system)
 kept_by system held true wide whole e = rw (← e) tt
-kept_by system held false None whole e = rw (← e) (record { solutions = keeps_solutions system whole; one = solutions_are_one system whole; publics = keeps_publics system whole })
+kept_by system held false None whole e = rw (← e)
+    (record { solutions = keeps_solutions system whole; one = solutions_are_one system whole; publics = keeps_publics system whole })
 kept_by system held false (Some has) whole e = rw (← e) tt
 
 pub shrinks : Promises OnShrink
 unfolding shrunk_look
 shrinks words count old new result answers system out are differ files told =
-    comes (shrink_plan (name_at 1 system) (name_at 2 out)) shrink_ends (shrunk_look (name_at 1 system)) (Then (Holds system_in (files system)) IsShrunk) words count files old new result (rw are refl) ((differ, tt), (tt, tt)) tt refl told answers
+    comes (shrink_plan (name_at 1 system) (name_at 2 out)) shrink_ends (shrunk_look (name_at 1 system))
+    (Then (Holds system_in (files system)) IsShrunk) words count files old new result (rw are refl) ((differ, tt), (tt, tt)) tt refl told answers
     (shows_then (input (name_at 1 system) system_in files) (λ s. settled (shrunk_of s)) _ _ (shows_input (name_at 1 system) system_in files) (λ s holds.
-    shows_more _ _ _ (shows_made (shrunk_of s)) (λ held is. record { is = sym is; keeps = kept_by s held (ltb most (all_terms s)) (first_wide s.constraints) (whole s (files system) holds) (sym is) }) (λ held is. sym is.is)))
+    shows_more _ _ _ (shows_made (shrunk_of s))
+    (λ held is. record { is = sym is; keeps = kept_by s held (ltb most (all_terms s)) (first_wide s.constraints) (whole s (files system) holds) (sym is) })
+    (λ held is. sym is.is)))

@@ -33,7 +33,8 @@ image_limited text what has most e = program_limited text what has most (same_er
 pub text_limited : (w : ℕ) (image : List ℕ) → IsLimited (text_of w image) []
 unfolding text_of
 text_limited w image what has most =
-    cond_both (length image % (w / 4) == 0) (Ok (disassembly_of w image)) (Err (Image (length image))) (λ made. ¬ (made ≡ Err (Limit what has most))) (λ _ e. cc) (λ _ e. cc)
+    cond_both (length image % (w / 4) == 0) (Ok (disassembly_of w image)) (Err (Image (length image))) (λ made. ¬ (made ≡ Err (Limit what has most)))
+    (λ _ e. cc) (λ _ e. cc)
 
 tape_limited : (word : ℕ) (what : Size) (found : Result (List ℕ) TapeFault) → IsLimited (made_by what (tape_stop word what) found) (what ∷ [])
 tape_limited word what (Ok words) other has most e = cc

@@ -14,7 +14,7 @@ use Rattle.tv_core.specs.declared.limits.TheConstants.{TAPE_WORDS, AUX_WORDS, CH
 use Rattle.tv_extract.specs.Runs.{IsRunOf}
 use Rattle.tv_extract.specs.declared.run.Run.{Run}
 use Rattle.tv_layout.specs.Layout.{taken_wire, taken_wires, taken_of, block_at}
-use Rattle.tv_layout.specs.Places.{boot_count, zero_wire_at, first_at}
+use Rattle.tv_layout.specs.Places.{boot_count, zero_wires_at, first_at}
 use Rattle.tv_step.proofs.EndLaws.{end_answers}
 use Rattle.tv_step.proofs.RangeLaws.{start_in_range, run_keeps_range, answer_is_word}
 use Rattle.tv_step.specs.Machine.{start}
@@ -50,7 +50,8 @@ pub tape_texts_fit : TapeTextsFit
 tape_texts_fit width words small few = omega (arith, lines_short words (words_small width words small))
 
 -- a text of numbers below a bound is read as them
-read_back : (word : ℕ) (what : Size) (below most : ℕ) (words : List ℕ) → below ≤ 2 ^ 64 → All (λ v. v < below) words → length words ≤ most → length (text_of words) ≤ TEXT_BYTES
+read_back : (word : ℕ) (what : Size) (below most : ℕ) (words : List ℕ) → below ≤ 2 ^ 64 → All (λ v. v < below) words → length words ≤ most
+    → length (text_of words) ≤ TEXT_BYTES
     → numbers_in word what below most (text_of words) ≡ Ok words
 unfolding numbers_of
 read_back word what below most words wide small few short =
@@ -90,7 +91,8 @@ joined_few (suc t) f few = omega (arith, ap length (joined_below-suc t f), lengt
 few_taken : (w : ℕ) (image : List ℕ) (n t : ℕ) (z : List ℕ) → length (taken_of (block_of w) w image n t z) ≤ t
 unfolding taken_wires
 few_taken w image n t z =
-    let wires = joined_few t (λ i. taken_wire z (block_at (block_of w) n (boot_count image n) (zero_wire_at w n) (first_at w n) i).spot) (λ i. one_taken z _) in
+    let wires = joined_few t (λ i. taken_wire z (block_at (block_of w) n (boot_count image n) (zero_wires_at w n) (first_at w n) i).spot)
+    (λ i. one_taken z _) in
     omega (arith, length-map (taken_wires (block_of w) w image n t z) (slice_index z), wires)
 
 -- the answer of a run on tapes of words is a word
@@ -99,12 +101,14 @@ answer_small width image z n t run is =
     let w = bits width in
     let from = start w image run.tape run.aux in
     let ends = end_answers w t from run.answer run.step is.answers in
-    answer_is_word w (is_width width) _ run.answer (run_keeps_range w (is_width width) from (t - 1) (start_in_range w (is_width width) image run.tape run.aux is.tape_words is.aux_words)) ends.last
+    answer_is_word w (is_width width) _ run.answer
+    (run_keeps_range w (is_width width) from (t - 1) (start_in_range w (is_width width) image run.tape run.aux is.tape_words is.aux_words)) ends.last
 
 pub extracted_are_taken : ExtractedAreTaken
 extracted_are_taken width image z n t run n_fits t_fits is =
     let few : length run.aux ≤ t = rw is.aux (few_taken (bits width) image n t z) in
-    let publics : AreWords (bits width) (run.answer ∷ run.tape) = All-cons (λ v. v < 2 ^ bits width) run.answer run.tape (answer_small width image z n t run is) is.tape_words in
+    let publics : AreWords (bits width) (run.answer ∷ run.tape) = All-cons (λ v. v < 2 ^ bits width) run.answer run.tape
+    (answer_small width image z n t run is) is.tape_words in
     record {
       tape = primary_comes_back 2 width run.tape is.tape_words (omega (arith, is.many));
       aux = aux_comes_back 3 width run.aux is.aux_words (omega arith);

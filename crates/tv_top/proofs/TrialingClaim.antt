@@ -23,11 +23,20 @@ all_hold : (z : List ℕ) (list : List Constraint) → All (λ constraint. Holds
 all_hold z [] each = refl
 all_hold z (one ∷ rest) each =
     let here : holds z one ≡ true = eq-eqb (product_in z one) (value one.c z) (All-head (λ constraint. Holds constraint z) one rest each) in
-    sum_by-cons (λ constraint. if holds z constraint then 1 else 0) one rest ∙ ap (λ b. (if b then 1 else 0) + count_by (holds z) rest) here ∙ ap (λ n. 1 + n) (all_hold z rest (All-tail (λ constraint. Holds constraint z) one rest each)) ∙ omega arith
+    sum_by-cons (λ constraint. if holds z constraint then 1 else 0) one rest ∙ ap (λ b. (if b then 1 else 0) + count_by (holds z) rest) here
+    ∙ ap (λ n. 1 + n) (all_hold z rest (All-tail (λ constraint. Holds constraint z) one rest each)) ∙ omega arith
 
 -- a drawn program has a system, and its run answers 0
-pub drawn_within : (k : ℕ) (image tape : List ℕ) → k ≤ DRAWS → AreWords 32 image → length image ≡ k * 2 + 2 → length tape ≡ 2 → WithinLimits 32 image (length tape) (k + 1)
-drawn_within k image tape few words many two = record { width = inr refl; words = words; image_fits = omega (arith, many, few); tape_fits = omega (arith, two); some = omega arith; steps_fit = omega (arith, few) }
+pub drawn_within : (k : ℕ) (image tape : List ℕ) → k ≤ DRAWS → AreWords 32 image → length image ≡ k * 2 + 2 → length tape ≡ 2
+    → WithinLimits 32 image (length tape) (k + 1)
+drawn_within k image tape few words many two = record {
+  width = inr refl;
+  words = words;
+  image_fits = omega (arith, many, few);
+  tape_fits = omega (arith, two);
+  some = omega arith;
+  steps_fit = omega (arith, few);
+}
 
 pub drawn_accepts : (k : ℕ) (image tape aux : List ℕ) → IsDrawn k image tape aux → Accepts 32 image tape aux (k + 1) 0
 drawn_accepts k image tape aux is = (k + 1, omega arith, is.answers)
@@ -37,11 +46,13 @@ unfolding trial_of
 trial_is seed k few =
     let is = drawn_is seed k few in
     let accepts = drawn_accepts k (image_drawn seed k) (tape_drawn seed k) (aux_drawn seed k) is in
-    let fills = system_complete 32 Benes (image_drawn seed k) (tape_drawn seed k) (aux_drawn seed k) (k + 1) 0 (drawn_within k _ _ few is.image_words is.image_count is.tape_count) is.tape_words is.aux_words accepts in
+    let fills = system_complete 32 Benes (image_drawn seed k) (tape_drawn seed k) (aux_drawn seed k) (k + 1) 0
+    (drawn_within k _ _ few is.image_words is.image_count is.tape_count) is.tape_words is.aux_words accepts in
     record { answers = is.answers; fills = fills; satisfied = all_hold _ _ fills.sat.holds }
 
 -- no file is read or written, so a fault is of saying
-stopped : (words seed k : ℕ) (old new : Outside) (result : Status) → Answers (Ok (trial_plan seed k)) words old new result → IsStopped [] old new result → Tries words seed k old new result
+stopped : (words seed k : ℕ) (old new : Outside) (result : Status) → Answers (Ok (trial_plan seed k)) words old new result → IsStopped [] old new result
+    → Tries words seed k old new result
 stopped words seed k old new result answers (inl fault) = elim (answers.caused fault.0 fault.1) [
   | inl read ↦ absurd read.0
   | inr (inl wrote) ↦ absurd wrote.0
@@ -49,7 +60,8 @@ stopped words seed k old new result answers (inl fault) = elim (answers.caused f
 ]
 stopped words seed k old new result answers (inr memory) = inr (inr memory)
 
-pub trials : (words : List (List ℕ)) (count : ℕ) (old new : Outside) (result : Status) → Answers (request_of (form words)) count old new result → OnTrial words count old new result
+pub trials : (words : List (List ℕ)) (count : ℕ) (old new : Outside) (result : Status) → Answers (request_of (form words)) count old new result
+    → OnTrial words count old new result
 trials words count old new result asked first second seed k are is_seed is_k some most files told =
     let answers = granted (trial_plan seed k) words count old new result (rw (are, is_seed, is_k) refl) tt (omega arith, most, tt) asked in
     record {

@@ -25,29 +25,39 @@ pub may_end : (net : Net) (t : ℕ) (inputs : Inputs) (end : End) → is_witness
 may_end net t inputs (Silent steps) = refl
 may_end net t inputs _ = refl
 
-pub witness_is : (net : Net) (t : ℕ) (inputs : Inputs) (v : ℕ) → AreInputs inputs → 1 ≤ t → t ≤ STEPS → Accepts (bits inputs.program.width) inputs.program.words inputs.tape inputs.aux t v → IsWitness net t inputs v
+pub witness_is : (net : Net) (t : ℕ) (inputs : Inputs) (v : ℕ) → AreInputs inputs → 1 ≤ t → t ≤ STEPS
+    → Accepts (bits inputs.program.width) inputs.program.words inputs.tape inputs.aux t v → IsWitness net t inputs v
 unfolding program_values
 witness_is net t inputs v are some most accepts =
     let fits = within_limits inputs.program (length inputs.tape) t are.image are.tape_fits some most in
-    record { accepts = accepts; fills = system_complete (bits inputs.program.width) net inputs.program.words inputs.tape inputs.aux t v fits are.tape are.aux accepts }
+    record {
+      accepts = accepts;
+      fills = system_complete
+          (bits inputs.program.width) net inputs.program.words inputs.tape inputs.aux t v fits are.tape are.aux accepts;
+    }
 
 -- what is given for a run that answers: the outcome is of these values
-pub filled : (w : ℕ) (net : Net) (t : ℕ) (inputs : Inputs) (filling : Filled) → w ≡ bits inputs.program.width → IsFilling w net inputs.program.words inputs.tape inputs.aux t filling →
+pub filled : (w : ℕ) (net : Net) (t : ℕ) (inputs : Inputs) (filling : Filled) → w ≡ bits inputs.program.width
+    → IsFilling w net inputs.program.words inputs.tape inputs.aux t filling →
     witness_ends net t inputs ≡ record { files = Values filling.values ∷ []; finish = Quiet }
 unfolding program_values
 filled w net t inputs filling width is = let fills = rw width at is in rw (fills.answer.2, fills.values) refl
 
 -- and for one that doesn't there are none
-pub unfilled : (w : ℕ) (net : Net) (t : ℕ) (inputs : Inputs) (end : End) (places : List Named) (outside : Outside) → w ≡ bits inputs.program.width → IsUnfilled w inputs.program.words inputs.tape inputs.aux t (fills.NoRun end) →
+pub unfilled : (w : ℕ) (net : Net) (t : ℕ) (inputs : Inputs) (end : End) (places : List Named) (outside : Outside) → w ≡ bits inputs.program.width
+    → IsUnfilled w inputs.program.words inputs.tape inputs.aux t (fills.NoRun end) →
     Completes places (witness_ends net t inputs) outside outside (Ok (NoRun end))
 unfilled w net t inputs (Answer v step) places outside width is = let none = rw width at is in absurd (none.1 v (accepted t inputs v step (sym none.0)))
-unfilled w net t inputs end places outside width is = let none = rw width at is in rw (← none.0) (completes_nothing places (witness_by net t inputs end) (Ok (NoRun end)) outside refl)
+unfilled w net t inputs end places outside width is = let none = rw width at is in
+    rw (← none.0) (completes_nothing places (witness_by net t inputs end) (Ok (NoRun end)) outside refl)
 
 pub witnesses : Promises OnWitness
 witnesses words count old new result answers text tape aux number name last net t are is_net is first second third some most files told =
-    comes (witness_plan net (name_at 1 text) (name_at 2 tape) (name_at 3 aux) t (name_at 5 name)) (witness_ends net t) (inputs_of (name_at 1 text) (name_at 2 tape) (name_at 3 aux)) (HasWitness net files text tape aux t) words count files old new result
+    comes (witness_plan net (name_at 1 text) (name_at 2 tape) (name_at 3 aux) t (name_at 5 name)) (witness_ends net t)
+    (inputs_of (name_at 1 text) (name_at 2 tape) (name_at 3 aux)) (HasWitness net files text tape aux t) words count files old new result
     (rw (are, is_net, is) refl) ((first, tt), ((second, tt), ((third, tt), (tt, tt)))) (omega arith, most, tt) refl told answers
     (shows_more _ _ _ (inputs_shown text tape aux files) (λ held has. record {
       inputs = has;
-      witness = if_ok held _ (λ inputs is v step end. witness_is net t inputs v (inputs_are text tape aux files inputs (rw is at has)) (omega arith) most (accepted t inputs v step end));
+      witness = if_ok held _ (λ inputs is v step end. witness_is net t inputs v (inputs_are text tape aux files inputs (rw is at has)) (omega arith) most
+          (accepted t inputs v step end));
     }) (λ held has. has.inputs))

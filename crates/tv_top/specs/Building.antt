@@ -4,6 +4,7 @@ use Rattle.std.specs.Str.{bytes_eq}
 use Rattle.tv_benes.specs.declared.shape.Net.{Net}
 use Rattle.tv_benes.specs.declared.shape.Net.TheVariants.{Benes, Waksman}
 use Rattle.tv_core.specs.Constraints.{System}
+use Rattle.tv_core.specs.Normal.{AreNormal}
 use Rattle.tv_core.specs.declared.limits.TheConstants.{TAPE_WORDS, STEPS}
 use Rattle.tv_files.specs.Outside.{Names, Outside, Told}
 use Rattle.tv_layout.specs.Reduces.{Reduces}
@@ -53,10 +54,12 @@ build_plan net text n t system = record {
 abbrev pub build_asks : BuildArgs → Plan
 build_asks args = build_plan args.net (named args.text) args.n args.t (named args.system)
 
--- the file of a program text holds a program, whose system reduces its runs, or it is refused for this
+-- The file of a program text holds a program, whose system reduces its runs and has combinations in normal form alone,
+-- or it is refused for this.
 pub record HasSystem (net : Net) (n t : ℕ) (text : Option (List ℕ)) (held : Result Program Bad) : Type 0 where
   pub holds : Holds program_in text held
   pub reduces : IfOk held (λ program. Reduces (bits program.width) (program_system net n t program) program.words n t)
+  pub normal : IfOk held (λ program. AreNormal (program_system net n t program).constraints)
 
 -- What `build` promises over files that told their contents, the two names being different and N and T within
 -- their limits: TEXT holds a program, whose system SYSTEM then holds, or it is refused for this.

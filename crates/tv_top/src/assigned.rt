@@ -17,7 +17,7 @@ use std::alloc::Global;
 use tv_benes::Net;
 use tv_extract::{ExtractFault, NotRun, Run, extract};
 use tv_files::Files;
-use tv_layout::sizes;
+use tv_layout::wires;
 use tv_wtns::FirstValues;
 
 /// A program, and of an assignment as many values as the program's system has wires.
@@ -38,8 +38,8 @@ fn wires_of(program: &Program, n: u32, t: u32, net: Net) -> u32
 {
     let image = program.words.as_slice();
     match program.width {
-        Width::Bits16 => sizes::<16>(image, n, t, net).wires,
-        Width::Bits32 => sizes::<32>(image, n, t, net).wires,
+        Width::Bits16 => wires::<16>(image, n, t, net),
+        Width::Bits32 => wires::<32>(image, n, t, net),
     }
 }
 

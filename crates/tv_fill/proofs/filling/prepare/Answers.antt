@@ -1,6 +1,5 @@
 use Rattle.std.proofs.Common.{◌≡◌, ℕ, List, length, map, ap, ap₂, ◌∙◌, arith}
 use Rattle.tv_core.specs.Lines.{Line}
-use Rattle.tv_core.specs.declared.lines.Counts.{Counts}
 use Rattle.tv_fill.proofs.Prepared.{log_few, lines_fit, lines_in_range, items_few, items_placed, routable, parts_fit, values_are}
 use Rattle.tv_fill.specs.Filled.{filled_values, lines_told}
 use Rattle.tv_layout.specs.Places.{line_count, log_of}
@@ -10,51 +9,67 @@ use Rattle.tv_fill.proofs.filling.prepare.Goals as goal
 
 pub pack_items-requires-clause-few : goal.pack_items-requires-clause-few
 pack_items-requires-clause-few g c =
-    rw c.log_of-k.ensures.is (log_few g.row.W c.args.net c.args.image.now c.args.tape.now c.args.aux.now c.args.t c.requires.limits c.requires.tape_words c.requires.aux_words)
+    rw c.log_of-k.ensures.is
+    (log_few g.row.W c.args.net c.args.image.now c.args.tape.now c.args.aux.now c.args.t c.requires.limits c.requires.tape_words c.requires.aux_words)
 
 pub pack_items-requires-clause-fits : goal.pack_items-requires-clause-fits
 pack_items-requires-clause-fits g c =
     rw c.log_of-k.ensures.is
-    (lines_fit g.row.W c.args.net c.args.image.now c.args.tape.now c.args.aux.now c.args.t c.requires.limits c.requires.tape_words c.requires.aux_words c.as_slice.result.now (c.as_slice.ensures ∙ c.in_ok-answer.ensures.trace.lines))
+    (lines_fit g.row.W c.args.net c.args.image.now c.args.tape.now c.args.aux.now c.args.t c.requires.limits c.requires.tape_words c.requires.aux_words
+    c.as_slice.result.now (c.as_slice.ensures ∙ c.in_ok-answer.ensures.trace.lines))
 
 pub pack_items-requires-clause-steps : goal.pack_items-requires-clause-steps
 pack_items-requires-clause-steps g c =
-    lines_in_range g.row.W c.args.net c.args.image.now c.args.tape.now c.args.aux.now c.args.t c.requires.limits c.requires.tape_words c.requires.aux_words c.as_slice.result.now (c.as_slice.ensures ∙ c.in_ok-answer.ensures.trace.lines)
+    lines_in_range g.row.W c.args.net c.args.image.now c.args.tape.now c.args.aux.now c.args.t c.requires.limits c.requires.tape_words c.requires.aux_words
+    c.as_slice.result.now (c.as_slice.ensures ∙ c.in_ok-answer.ensures.trace.lines)
 
 pub settings_to_predecessors-requires-clause-few : goal.settings_to_predecessors-requires-clause-few
 settings_to_predecessors-requires-clause-few g c =
-    let packed : c.in_ok-items.items.items ≡ map packed_item (lines_told c.args.image.now c.args.tape.now c.in_ok-answer.field-0.lines (log_of (line_count c.args.image.now (length c.args.tape.now) c.args.t))) =
-    c.in_ok-items.ensures ∙ ap₂ (λ (ls : List Line) (k : ℕ). map packed_item (lines_told c.args.image.now c.args.tape.now ls k)) c.as_slice.ensures c.log_of-k.ensures.is in
+    let packed : c.in_ok-items.items.items ≡ map packed_item
+    (lines_told c.args.image.now c.args.tape.now c.in_ok-answer.field-0.lines (log_of (line_count c.args.image.now (length c.args.tape.now) c.args.t))) =
+    c.in_ok-items.ensures ∙ ap₂ (λ (ls : List Line) (k : ℕ). map packed_item
+    (lines_told c.args.image.now c.args.tape.now ls k)) c.as_slice.ensures c.log_of-k.ensures.is in
     rw c.deref.ensures.value
     (items_few g.row.W c.args.net c.args.image.now c.args.tape.now c.args.aux.now c.args.t c.requires.limits c.requires.tape_words c.requires.aux_words
-    c.in_ok-answer.field-0.lines c.in_ok-answer.ensures.trace.lines c.in_ok-answer.field-0.states c.in_ok-answer.ensures.trace.states c.in_ok-items.items.items packed)
+    c.in_ok-answer.field-0.lines c.in_ok-answer.ensures.trace.lines c.in_ok-answer.field-0.states c.in_ok-answer.ensures.trace.states c.in_ok-items.items.items
+    packed)
 
 pub settings_to_predecessors-requires-clause-times : goal.settings_to_predecessors-requires-clause-times
 settings_to_predecessors-requires-clause-times g c =
-    let packed : c.in_ok-items.items.items ≡ map packed_item (lines_told c.args.image.now c.args.tape.now c.in_ok-answer.field-0.lines (log_of (line_count c.args.image.now (length c.args.tape.now) c.args.t))) =
-    c.in_ok-items.ensures ∙ ap₂ (λ (ls : List Line) (k : ℕ). map packed_item (lines_told c.args.image.now c.args.tape.now ls k)) c.as_slice.ensures c.log_of-k.ensures.is in
+    let packed : c.in_ok-items.items.items ≡ map packed_item
+    (lines_told c.args.image.now c.args.tape.now c.in_ok-answer.field-0.lines (log_of (line_count c.args.image.now (length c.args.tape.now) c.args.t))) =
+    c.in_ok-items.ensures ∙ ap₂ (λ (ls : List Line) (k : ℕ). map packed_item
+    (lines_told c.args.image.now c.args.tape.now ls k)) c.as_slice.ensures c.log_of-k.ensures.is in
     rw c.deref.ensures.value
     (items_placed g.row.W c.args.net c.args.image.now c.args.tape.now c.args.aux.now c.args.t c.requires.limits c.requires.tape_words c.requires.aux_words
-    c.in_ok-answer.field-0.lines c.in_ok-answer.ensures.trace.lines c.in_ok-answer.field-0.states c.in_ok-answer.ensures.trace.states c.in_ok-items.items.items packed)
+    c.in_ok-answer.field-0.lines c.in_ok-answer.ensures.trace.lines c.in_ok-answer.field-0.states c.in_ok-answer.ensures.trace.states c.in_ok-items.items.items
+    packed)
 
 pub settings_to_predecessors-requires-clause-routable : goal.settings_to_predecessors-requires-clause-routable
 settings_to_predecessors-requires-clause-routable g c =
-    let packed : c.in_ok-items.items.items ≡ map packed_item (lines_told c.args.image.now c.args.tape.now c.in_ok-answer.field-0.lines (log_of (line_count c.args.image.now (length c.args.tape.now) c.args.t))) =
-    c.in_ok-items.ensures ∙ ap₂ (λ (ls : List Line) (k : ℕ). map packed_item (lines_told c.args.image.now c.args.tape.now ls k)) c.as_slice.ensures c.log_of-k.ensures.is in
+    let packed : c.in_ok-items.items.items ≡ map packed_item
+    (lines_told c.args.image.now c.args.tape.now c.in_ok-answer.field-0.lines (log_of (line_count c.args.image.now (length c.args.tape.now) c.args.t))) =
+    c.in_ok-items.ensures ∙ ap₂ (λ (ls : List Line) (k : ℕ). map packed_item
+    (lines_told c.args.image.now c.args.tape.now ls k)) c.as_slice.ensures c.log_of-k.ensures.is in
     rw c.deref.ensures.value
     (routable g.row.W c.args.net c.args.image.now c.args.tape.now c.args.aux.now c.args.t c.requires.limits c.requires.tape_words c.requires.aux_words
-    c.in_ok-answer.field-0.lines c.in_ok-answer.ensures.trace.lines c.in_ok-answer.field-0.states c.in_ok-answer.ensures.trace.states c.in_ok-items.items.items packed)
+    c.in_ok-answer.field-0.lines c.in_ok-answer.ensures.trace.lines c.in_ok-answer.field-0.states c.in_ok-answer.ensures.trace.states c.in_ok-items.items.items
+    packed)
 
 pub invariant_of-result : goal.invariant_of-result
 invariant_of-result g c =
-    let packed : c.in_ok-items.items.items ≡ map packed_item (lines_told c.args.image.now c.args.tape.now c.in_ok-answer.field-0.lines (log_of (line_count c.args.image.now (length c.args.tape.now) c.args.t))) =
-    c.in_ok-items.ensures ∙ ap₂ (λ (ls : List Line) (k : ℕ). map packed_item (lines_told c.args.image.now c.args.tape.now ls k)) c.as_slice.ensures c.log_of-k.ensures.is in
+    let packed : c.in_ok-items.items.items ≡ map packed_item
+    (lines_told c.args.image.now c.args.tape.now c.in_ok-answer.field-0.lines (log_of (line_count c.args.image.now (length c.args.tape.now) c.args.t))) =
+    c.in_ok-items.ensures ∙ ap₂ (λ (ls : List Line) (k : ℕ). map packed_item
+    (lines_told c.args.image.now c.args.tape.now ls k)) c.as_slice.ensures c.log_of-k.ensures.is in
     let set = rw c.deref.ensures.value at c.in_ok-settings.ensures in
-    let many : length c.in_ok-spare.spare.items ≡ length c.in_ok-items.items.items = omega (arith, c.in_ok-spare.spare.ok.0, c.in_ok-items.items.ok.0, c.in_ok-spare.ensures.len, c.len.ensures) in
+    let many : length c.in_ok-spare.spare.items
+    ≡ length c.in_ok-items.items.items = omega (arith, c.in_ok-spare.spare.ok.0, c.in_ok-items.items.ok.0, c.in_ok-spare.ensures.len, c.len.ensures) in
     let fit =
     parts_fit g.row.W c.args.net c.args.image.now c.args.tape.now c.args.aux.now c.args.t c.requires.limits c.requires.tape_words c.requires.aux_words
-    c.in_ok-answer.field-0.lines c.in_ok-answer.ensures.trace.lines c.in_ok-answer.field-0.states c.in_ok-answer.ensures.trace.states c.in_ok-items.items.items packed
-    c.in_ok-settings.settings set c.in_ok-answer.field-0.answer c.in_ok-answer.ensures.trace.answer c.sizes.result.wires (ap (λ (counts : Counts). counts.wires) c.sizes.ensures.counts)
+    c.in_ok-answer.field-0.lines c.in_ok-answer.ensures.trace.lines c.in_ok-answer.field-0.states c.in_ok-answer.ensures.trace.states c.in_ok-items.items.items
+    packed
+    c.in_ok-settings.settings set c.in_ok-answer.field-0.answer c.in_ok-answer.ensures.trace.answer c.wires.result c.wires.ensures.is
     c.in_ok-spare.spare.items many in
     rw c.log_of-k.ensures.is fit
 
@@ -66,13 +81,17 @@ returns-clause-filling g c =
     let lines = c.in_ok-answer.field-0.lines in
     let items = c.in_ok-items.items.items in
     let bits = c.in_ok-settings.settings in
-    let packed : c.in_ok-items.items.items ≡ map packed_item (lines_told c.args.image.now c.args.tape.now c.in_ok-answer.field-0.lines (log_of (line_count c.args.image.now (length c.args.tape.now) c.args.t))) =
-    c.in_ok-items.ensures ∙ ap₂ (λ (ls : List Line) (k : ℕ). map packed_item (lines_told c.args.image.now c.args.tape.now ls k)) c.as_slice.ensures c.log_of-k.ensures.is in
+    let packed : c.in_ok-items.items.items ≡ map packed_item
+    (lines_told c.args.image.now c.args.tape.now c.in_ok-answer.field-0.lines (log_of (line_count c.args.image.now (length c.args.tape.now) c.args.t))) =
+    c.in_ok-items.ensures ∙ ap₂ (λ (ls : List Line) (k : ℕ). map packed_item
+    (lines_told c.args.image.now c.args.tape.now ls k)) c.as_slice.ensures c.log_of-k.ensures.is in
     let set = rw c.deref.ensures.value at c.in_ok-settings.ensures in
     let whole =
     values_are g.row.W c.args.net c.args.image.now c.args.tape.now c.args.aux.now c.args.t c.requires.limits c.requires.tape_words c.requires.aux_words
-    c.in_ok-answer.field-0.lines c.in_ok-answer.ensures.trace.lines c.in_ok-answer.field-0.states c.in_ok-answer.ensures.trace.states c.in_ok-items.items.items packed bits set v in
+    c.in_ok-answer.field-0.lines c.in_ok-answer.ensures.trace.lines c.in_ok-answer.field-0.states c.in_ok-answer.ensures.trace.states c.in_ok-items.items.items
+    packed bits set v in
     let values : filled_values w v c.args.image.now c.args.tape.now c.args.aux.now c.args.t states lines items c.args.net c.log_of-k.result bits
     ≡ run_values w c.args.net c.args.image.now c.args.tape.now c.args.aux.now c.args.t v =
-    ap (λ (k : ℕ). filled_values w v c.args.image.now c.args.tape.now c.args.aux.now c.args.t states lines items c.args.net k bits) c.log_of-k.ensures.is ∙ whole in
+    ap (λ (k : ℕ). filled_values w v c.args.image.now c.args.tape.now c.args.aux.now c.args.t states lines items c.args.net k bits) c.log_of-k.ensures.is
+    ∙ whole in
     record { answer = c.in_ok-answer.ensures.trace.answer; values = values }

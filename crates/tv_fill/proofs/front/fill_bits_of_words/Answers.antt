@@ -17,7 +17,8 @@ loop-word-preserved g c =
     let m = g.V.Values.giving in
     let bits = ap (λ (v : ℕ). bits_values v g.row.W) c.from.ensures in
     record {
-      gives = gives_list m (λ i. bits_values (slice_index c.args.words.now i) g.row.W) c.loop-word.word-index _ _ _ c.loop-word.invariant.gives (given_all m _ _ _ _ bits c.in_ok-fill_bits.ensures.gives);
+      gives = gives_list m (λ i. bits_values (slice_index c.args.words.now i) g.row.W) c.loop-word.word-index _ _ _ c.loop-word.invariant.gives
+          (given_all m _ _ _ _ bits c.in_ok-fill_bits.ensures.gives);
       whole = c.in_ok-fill_bits.ensures.whole;
     }
 
@@ -26,5 +27,6 @@ returns-in_err-fill_bits-clause-gives g c =
     let m = g.V.Values.giving in
     let bits = ap (λ (v : ℕ). bits_values v g.row.W) c.from.ensures in
     gives_refused m _ _ _ c.from_residual.result c.from_residual.ensures.1
-    (gives_list_refused m (λ i. bits_values (slice_index c.args.words.now i) g.row.W) (length c.args.words.now) c.loop-word.word-index _ _ _ _ c.loop-word-test.true c.loop-word.invariant.gives
+    (gives_list_refused m (λ i. bits_values (slice_index c.args.words.now i) g.row.W)
+    (length c.args.words.now) c.loop-word.word-index _ _ _ _ c.loop-word-test.true c.loop-word.invariant.gives
     (given_some m _ _ _ _ bits _ c.in_err-fill_bits.ensures.gives))

@@ -10,7 +10,12 @@ use Rattle.tv_fill.proofs.packing.push_words.Goals as goal
 
 pub push_line-requires : goal.push_line-requires
 push_line-requires c =
-    let line : InRange (record { cell = c.args.cell + c.loop-i.i; time = c.args.time + c.loop-i.i; old = 0; new = slice_index c.args.words.now c.loop-i.i }) = record {
+    let line : InRange (record {
+      cell = c.args.cell + c.loop-i.i;
+      time = c.args.time + c.loop-i.i;
+      old = 0;
+      new = slice_index c.args.words.now c.loop-i.i;
+    }) = record {
       cell = omega (arith, c.requires.cells, c.loop-i-test.true);
       time = omega (arith, c.requires.times, c.loop-i-test.true);
       old = omega arith;

@@ -10,8 +10,9 @@ use Rattle.tv_layout.proofs.Rooms.{system_fits, checks_short}
 use Rattle.tv_layout.specs.Checks.{checks_of}
 use Rattle.tv_memory.specs.Checks.{AreShort}
 use Rattle.tv_memory.specs.Memory.{IsMade, memory_made, memory_added}
-use Rattle.tv_layout.specs.Layout.{words_of, zero_wire_of, steps_of, tie_of, lines_of, layout_of}
+use Rattle.tv_layout.specs.Layout.{words_of, zero_wires_of, steps_of, tie_of, lines_of, layout_of}
 use Rattle.tv_layout.specs.Places.{boot_count, first_at}
+use Rattle.tv_layout.specs.declared.places.TheConstants.{STATE_WIRES}
 use Rattle.tv_layout.proofs.emitting.emit_system.Goals as goal
 
 pub memory-requires-clause-many : goal.memory-requires-clause-many
@@ -19,47 +20,54 @@ memory-requires-clause-many g c = line_number g.row.W c.args.image.now c.args.n 
 
 pub memory-requires-clause-checks : goal.memory-requires-clause-checks
 memory-requires-clause-checks g c =
-    subst (λ k. AreShort (checks_of c.args.image.now c.args.n c.args.t) (2 ^ k)) (sym c.log_of-k.ensures.is) (checks_short g.row.W c.args.image.now c.args.n c.args.t c.requires.fits)
+    subst (λ k. AreShort (checks_of c.args.image.now c.args.n c.args.t) (2 ^ k)) (sym c.log_of-k.ensures.is)
+    (checks_short g.row.W c.args.image.now c.args.n c.args.t c.requires.fits)
 
 pub memory-requires-clause-room : goal.memory-requires-clause-room
 memory-requires-clause-room g c =
     let words = c.in_ok-words.ensures.grows in
-    let zero_wire = c.in_ok-zero_wire.ensures.grows in
+    let zero_wires = c.in_ok-zero_wires.ensures.grows in
     let steps = c.in_ok-last.ensures.grows in
     let tie = c.in_ok-tie.ensures.grows in
     let fits = system_fits g.row.W c.args.net c.args.image.now c.args.n c.args.t c.requires.fits in
     let is = sym c.log_of-k.ensures.is in
     let checks = checks_of c.args.image.now c.args.n c.args.t in
-    let wires = wires_are g.row.W c.args.image.now c.args.n c.args.t c.requires.fits c.args.net in
-    let constraints = constraints_are g.row.W c.args.image.now c.args.n c.args.t c.requires.fits c.args.net in
+    let wires = wires_are c.args.net c.args.image.now c.args.n c.args.t in
+    let constraints = constraints_are c.args.net c.args.image.now c.args.n c.args.t in
     record {
       whole = tie.whole;
-      constant = omega (arith, tie.wires, steps.wires, zero_wire.wires, words.wires, c.requires.begins);
-      wires = subst (λ k. g.S.Sink.meaning.wires c.tie.new.s + memory_made c.args.net checks k < 2 ^ 32) is (omega (arith, wires, fits.wires, tie.wires, steps.wires, zero_wire.wires, words.wires, c.requires.begins));
-      constraints = subst (λ k. g.S.Sink.meaning.constraints c.tie.new.s + memory_added c.args.net checks k < 2 ^ 32) is (omega (arith, constraints, fits.constraints, tie.constraints, steps.constraints, zero_wire.constraints, words.constraints, c.requires.empty));
+      constant = omega (arith, tie.wires, steps.wires, zero_wires.wires, words.wires, c.requires.begins);
+      wires = subst (λ k. g.S.Sink.meaning.wires c.tie.new.s + memory_made c.args.net checks k < 2 ^ 32) is
+          (omega (arith, wires, fits.wires, tie.wires, steps.wires, zero_wires.wires, words.wires, c.requires.begins));
+      constraints = subst (λ k. g.S.Sink.meaning.constraints c.tie.new.s + memory_added c.args.net checks k < 2 ^ 32) is
+          (omega (arith, constraints, fits.constraints, tie.constraints, steps.constraints, zero_wires.constraints, words.constraints, c.requires.empty));
     }
 
 pub memory-requires-clause-made : goal.memory-requires-clause-made
 memory-requires-clause-made g c =
     let words = c.in_ok-words.ensures.grows in
-    let zero_wire = c.in_ok-zero_wire.ensures.grows in
+    let zero_wires = c.in_ok-zero_wires.ensures.grows in
     let steps = c.in_ok-last.ensures.grows in
     let tie = c.in_ok-tie.ensures.grows in
-    let wires : first_at g.row.W c.args.n + c.args.t * block_made g.row.W ≡ g.S.Sink.meaning.wires c.tie.new.s = omega (arith, tie.wires, steps.wires, zero_wire.wires, words.wires, c.requires.begins) in
-    subst (λ wires. All (IsMade wires) (lines_of (block_of g.row.W) g.row.W c.args.image.now c.args.n c.args.t)) wires (lines_made g.row.W c.args.image.now c.args.n c.args.t c.requires.fits)
+    let wires : first_at g.row.W c.args.n + c.args.t * block_made g.row.W
+    ≡ g.S.Sink.meaning.wires c.tie.new.s = omega (arith, tie.wires, steps.wires, zero_wires.wires, words.wires, c.requires.begins) in
+    subst (λ wires. All (IsMade wires) (lines_of (block_of g.row.W) g.row.W c.args.image.now c.args.n c.args.t)) wires
+    (lines_made g.row.W c.args.image.now c.args.n c.args.t c.requires.fits)
 
 pub returns-in_err-words-clause-puts : goal.returns-in_err-words-clause-puts
 unfolding layout_of
 returns-in_err-words-clause-puts g c =
     let m = g.S.Sink.meaning in
-    refused m _ _ _ c.from_residual.result c.from_residual.ensures.1 (refused_then m (words_of g.row.W 2 c.args.n) _ _ _ _ (rw c.tape_wire.ensures at c.in_err-words.ensures.puts))
+    refused m _ _ _ c.from_residual.result c.from_residual.ensures.1
+    (refused_then m (words_of g.row.W 2 c.args.n) _ _ _ _ (rw c.tape_wire.ensures at c.in_err-words.ensures.puts))
 
-pub returns-in_err-zero_wire-clause-puts : goal.returns-in_err-zero_wire-clause-puts
+pub returns-in_err-zero_wires-clause-puts : goal.returns-in_err-zero_wires-clause-puts
 unfolding layout_of
-returns-in_err-zero_wire-clause-puts g c =
+returns-in_err-zero_wires-clause-puts g c =
     let m = g.S.Sink.meaning in
-    refused m _ _ _ c.from_residual-in_err-zero_wire.result c.from_residual-in_err-zero_wire.ensures.1
-    (puts_then_refused m (words_of g.row.W 2 c.args.n) _ _ _ _ _ _ (rw c.tape_wire.ensures at c.in_ok-words.ensures.puts) (refused_then m zero_wire_of _ _ _ _ c.in_err-zero_wire.ensures.puts))
+    refused m _ _ _ c.from_residual-in_err-zero_wires.result c.from_residual-in_err-zero_wires.ensures.1
+    (puts_then_refused m (words_of g.row.W 2 c.args.n) _ _ _ _ _ _ (rw c.tape_wire.ensures at c.in_ok-words.ensures.puts)
+    (refused_then m zero_wires_of _ _ _ _ c.in_err-zero_wires.ensures.puts))
 
 pub returns-in_err-last-clause-puts : goal.returns-in_err-last-clause-puts
 unfolding layout_of
@@ -67,8 +75,9 @@ returns-in_err-last-clause-puts g c =
     let m = g.S.Sink.meaning in
     refused m _ _ _ c.from_residual-in_err-last.result c.from_residual-in_err-last.ensures.1
     (puts_then_refused m (words_of g.row.W 2 c.args.n) _ _ _ _ _ _ (rw c.tape_wire.ensures at c.in_ok-words.ensures.puts)
-    (puts_then_refused m zero_wire_of _ _ _ _ _ _ c.in_ok-zero_wire.ensures.puts
-    (refused_then m (steps_of (block_of g.row.W) c.args.n (boot_count c.args.image.now c.args.n) c.args.t _) _ _ _ _ (c.in_err-last.ensures.puts (boot_count c.args.image.now c.args.n)))))
+    (puts_then_refused m zero_wires_of _ _ _ _ _ _ c.in_ok-zero_wires.ensures.puts
+    (refused_then m (steps_of (block_of g.row.W) c.args.n (boot_count c.args.image.now c.args.n) c.args.t _) _ _ _ _
+    (c.in_err-last.ensures.puts (boot_count c.args.image.now c.args.n)))))
 
 pub returns-in_err-tie-clause-puts : goal.returns-in_err-tie-clause-puts
 unfolding layout_of
@@ -76,8 +85,9 @@ returns-in_err-tie-clause-puts g c =
     let m = g.S.Sink.meaning in
     refused m _ _ _ c.from_residual-in_err-tie.result c.from_residual-in_err-tie.ensures.1
     (puts_then_refused m (words_of g.row.W 2 c.args.n) _ _ _ _ _ _ (rw c.tape_wire.ensures at c.in_ok-words.ensures.puts)
-    (puts_then_refused m zero_wire_of _ _ _ _ _ _ c.in_ok-zero_wire.ensures.puts
-    (puts_then_refused m (steps_of (block_of g.row.W) c.args.n (boot_count c.args.image.now c.args.n) c.args.t _) _ _ _ _ _ _ (c.in_ok-last.ensures.puts (boot_count c.args.image.now c.args.n))
+    (puts_then_refused m zero_wires_of _ _ _ _ _ _ c.in_ok-zero_wires.ensures.puts
+    (puts_then_refused m (steps_of (block_of g.row.W) c.args.n (boot_count c.args.image.now c.args.n) c.args.t _) _ _ _ _ _ _
+    (c.in_ok-last.ensures.puts (boot_count c.args.image.now c.args.n))
     (refused_then m (tie_of _) _ _ _ _ c.in_err-tie.ensures.puts))))
 
 pub returns-clause-puts : goal.returns-clause-puts
@@ -86,8 +96,9 @@ returns-clause-puts g c =
     let m = g.S.Sink.meaning in
     let last = rw (c.log_of-k.ensures.is) at c.memory.ensures.puts in
     puts_in_then m (words_of g.row.W 2 c.args.n) _ _ _ _ _ _ (rw c.tape_wire.ensures at c.in_ok-words.ensures.puts)
-    (puts_in_then m zero_wire_of _ _ _ _ _ _ c.in_ok-zero_wire.ensures.puts
-    (puts_in_then m (steps_of (block_of g.row.W) c.args.n (boot_count c.args.image.now c.args.n) c.args.t _) _ _ _ _ _ _ (c.in_ok-last.ensures.puts (boot_count c.args.image.now c.args.n))
+    (puts_in_then m zero_wires_of _ _ _ _ _ _ c.in_ok-zero_wires.ensures.puts
+    (puts_in_then m (steps_of (block_of g.row.W) c.args.n (boot_count c.args.image.now c.args.n) c.args.t _) _ _ _ _ _ _
+    (c.in_ok-last.ensures.puts (boot_count c.args.image.now c.args.n))
     (puts_in_then m (tie_of _) _ _ _ _ _ _ c.in_ok-tie.ensures.puts last)))
 
 grown : {S T E : Type 0} (m : Meaning S) (old mid new : S) (result : Result T E) (made added rest_made rest_added all_made all_added : ℕ)
@@ -102,15 +113,19 @@ returns-clause-grows g c =
     let m = g.S.Sink.meaning in
     let w = g.row.W in
     let words = c.in_ok-words.ensures.grows in
-    let zero_wire = c.in_ok-zero_wire.ensures.grows in
+    let zero_wires = c.in_ok-zero_wires.ensures.grows in
     let steps = c.in_ok-last.ensures.grows in
     let tie = c.in_ok-tie.ensures.grows in
     let checks = checks_of c.args.image.now c.args.n c.args.t in
-    let wires = wires_are w c.args.image.now c.args.n c.args.t c.requires.fits c.args.net in
-    let constraints = constraints_are w c.args.image.now c.args.n c.args.t c.requires.fits c.args.net in
+    let wires = wires_are c.args.net c.args.image.now c.args.n c.args.t in
+    let constraints = constraints_are c.args.net c.args.image.now c.args.n c.args.t in
     let made = ap (memory_made c.args.net checks) c.log_of-k.ensures.is in
     let added = ap (memory_added c.args.net checks) c.log_of-k.ensures.is in
     grown m c.args.s.now c.tie.new.s c.memory.new.s c.memory.result
-    (c.args.n * w + 1 + c.args.t * block_made w + 0) (c.args.n * (w + 1) + 1 + c.args.t * block_added w + 2) _ _ _ _
-    (record { wires = omega (arith, words.wires, zero_wire.wires, steps.wires, tie.wires); constraints = omega (arith, words.constraints, zero_wire.constraints, steps.constraints, tie.constraints); whole = tie.whole })
+    (c.args.n * w + STATE_WIRES + c.args.t * block_made w + 0) (c.args.n * (w + 1) + STATE_WIRES + c.args.t * block_added w + 2) _ _ _ _
+    (record {
+      wires = omega (arith, words.wires, zero_wires.wires, steps.wires, tie.wires);
+      constraints = omega (arith, words.constraints, zero_wires.constraints, steps.constraints, tie.constraints);
+      whole = tie.whole;
+    })
     c.memory.ensures.grows (omega (arith, made, wires)) (omega (arith, added, constraints))

@@ -22,7 +22,9 @@ unfolding words_of
 returns-in_err-word-clause-puts g c =
     let m = g.S.Sink.meaning in
     let within : c.loop-i.i < c.args.n = omega arith in
-    let turn = turn_refused m c.args.n c.loop-i.i (λ i _. word_of g.row.W c.args.first i) tt tt c.args.s.now c.loop-i.s c.word.new.s c.in_err-word.field-0.0 within c.loop-i.invariant.puts c.in_err-word.ensures.puts in
+    let turn = turn_refused m c.args.n c.loop-i.i
+    (λ i _. word_of g.row.W c.args.first i) tt tt c.args.s.now c.loop-i.s c.word.new.s c.in_err-word.field-0.0 within c.loop-i.invariant.puts
+    c.in_err-word.ensures.puts in
     refused m _ _ _ c.from_residual.result c.from_residual.ensures.1 turn
 
 pub returns-clause-puts : goal.returns-clause-puts

@@ -29,8 +29,11 @@ pub loop-k-preserved : goal.loop-k-preserved
 loop-k-preserved c =
     let over : 2 ^ c.loop-k.k < c.args.count = omega arith in
     let below = at_most c.loop-k.k c.args.count c.loop-k.invariant.0 c.requires over in
-    let same : 20 - c.loop-k.k ≡ suc (20 - (c.loop-k.k + 1)) = omega (arith, below) in
-    (omega (arith, below), sym (log_more (20 - (c.loop-k.k + 1)) c.loop-k.k c.args.count over) ∙ ap (λ n. log_from n c.loop-k.k c.args.count) (sym same) ∙ c.loop-k.invariant.1)
+    let same : 20 - c.loop-k.k ≡ suc (20 - (c.loop-k.k + 1)) = omega (arith, below) in (
+      omega (arith, below),
+      sym (log_more (20 - (c.loop-k.k + 1)) c.loop-k.k c.args.count over) ∙ ap (λ n. log_from n c.loop-k.k c.args.count) (sym same)
+          ∙ c.loop-k.invariant.1,
+    )
 
 pub returns : goal.returns
 unfolding log_of

@@ -3,17 +3,17 @@ use Rattle.tv_block.specs.Places.{block_wires}
 use Rattle.tv_block.specs.declared.records.Block.{Block}
 use Rattle.tv_layout.proofs.LinePlaces.{block_is}
 use Rattle.tv_layout.proofs.SpotPlaces.{of_step}
-use Rattle.tv_layout.specs.Places.{zero_wire_at, first_at}
-use Rattle.tv_layout.specs.Told.{state_before}
+use Rattle.tv_layout.specs.Places.{zero_wires_at, first_at}
+use Rattle.tv_layout.specs.StateBefore.{state_before}
 use Rattle.tv_layout.proofs.spots.spot.Goals as goal
 
 pub returns-clause-is : goal.returns-clause-is
 returns-clause-is g c time =
     let w = g.row.W in
-    let state = state_before w (zero_wire_at w c.args.n) (first_at w c.args.n) c.args.step in
+    let state = state_before w (zero_wires_at w c.args.n) (first_at w c.args.n) c.args.step in
     c.block_spot.ensures.is state (time + 3 * c.args.step)
     ∙ ap (λ at. (block_wires w state (time + 3 * c.args.step) at).spot) c.step_at.ensures
-    ∙ sym (ap (λ (b : Block). b.spot) (block_is w c.requires.fits.width c.args.n time (zero_wire_at w c.args.n) (first_at w c.args.n) c.args.step))
+    ∙ sym (ap (λ (b : Block). b.spot) (block_is w c.requires.fits.width c.args.n time (zero_wires_at w c.args.n) (first_at w c.args.n) c.args.step))
 
 pub returns-clause-taken : goal.returns-clause-taken
 returns-clause-taken g c net =

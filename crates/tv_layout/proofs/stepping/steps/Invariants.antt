@@ -10,7 +10,7 @@ use Rattle.tv_layout.proofs.stepping.steps.Given as goal
 
 abbrev pub invariant-loop-step : goal.invariant-loop-step
 invariant-loop-step g l = record {
-  puts : (time : ℕ) → PutsAll g.S.Sink.meaning l.initial.s l.s (turns l._step (step_of (block_of g.row.W) l.n time) (before_steps l.fn.zero_wire)) l.last;
+  puts : (time : ℕ) → PutsAll g.S.Sink.meaning l.initial.s l.s (turns l._step (step_of (block_of g.row.W) l.n time) (before_steps l.fn.zero_wires)) l.last;
   grows : Grows g.S.Sink.meaning l.initial.s l.s (l._step * block_made g.row.W) (l._step * block_added g.row.W);
   below : ReachedUnder (g.S.Sink.meaning.wires l.s) l.last;
 }

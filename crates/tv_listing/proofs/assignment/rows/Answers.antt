@@ -8,4 +8,5 @@ line-requires-clause-within g c = omega (arith, placed g.row.W c.args.image.now 
 pub loop-i-preserved : goal.loop-i-preserved
 loop-i-preserved g c =
     rw c.in_ok-push.ensures.items
-    (rows_more g.row.W c.args.image.now c.args.n c.args.t c.loop-i.i c.args.values.now c.loop-i.rows.items c.valued.result c.line.result c.requires.fits (omega arith) c.loop-i.invariant c.line.ensures.is c.valued.ensures)
+    (rows_more g.row.W c.args.image.now c.args.n c.args.t c.loop-i.i c.args.values.now c.loop-i.rows.items c.valued.result c.line.result c.requires.fits
+    (omega arith) c.loop-i.invariant c.line.ensures.is c.valued.ensures)

@@ -10,8 +10,10 @@ returns-in_err-program-clause-found g c = finds_short _ _ _ _ c.from_residual.en
 pub returns-in_err-first-clause-found : goal.returns-in_err-first-clause-found
 unfolding kept_of
 returns-in_err-first-clause-found g c =
-    finds_on _ c.in_ok-program.ensures.found (finds_short _ _ _ _ c.from_residual-in_err-first.ensures.1 (rw c.wires_of-wires.ensures at c.in_err-first.ensures))
+    finds_on _ c.in_ok-program.ensures.found
+    (finds_short _ _ _ _ c.from_residual-in_err-first.ensures.1 (rw c.wires_of-wires.ensures at c.in_err-first.ensures))
 
 pub returns-clause-found : goal.returns-clause-found
 unfolding kept_of
-returns-clause-found g c = finds_on _ c.in_ok-program.ensures.found (finds_on _ (rw c.wires_of-wires.ensures at c.in_ok-first.ensures) (finds_still (λ files told. refl)))
+returns-clause-found g c = finds_on _ c.in_ok-program.ensures.found
+    (finds_on _ (rw c.wires_of-wires.ensures at c.in_ok-first.ensures) (finds_still (λ files told. refl)))

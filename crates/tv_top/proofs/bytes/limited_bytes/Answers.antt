@@ -19,12 +19,14 @@ stop_of word what most slurp.Memory = Memory
 stop_of word what most (slurp.TooLong limit) = Contents (Limit what (most + 1) most)
 
 module _ {V : Type 0} (view : V → List ℕ) (place : Named) (what : Size) (most : ℕ) where
-  told : (old : Outside) (result : Result V Slurp) → IfOk result (λ v. Told old (λ held. held place.name ≡ Some (view v))) → IfOk result (λ v. length (view v) ≤ most) →
+  told : (old : Outside) (result : Result V Slurp) → IfOk result (λ v. Told old (λ held. held place.name ≡ Some (view v)))
+      → IfOk result (λ v. length (view v) ≤ most) →
       ((limit : ℕ) → result ≡ Err (slurp.TooLong limit) → (limit ≡ most) × Told old (λ held. IsLonger most (held place.name))) →
       Told old (λ files. IsFound view (input place (within what most (λ bytes. Ok bytes)) files) (came (stop_of place.word what most) result))
   unfolding input
   told old (Ok v) whole short longer files is = rw (whole files is, le-leb (length (view v)) most short) refl
-  told old (Err (slurp.TooLong limit)) whole short longer files is = let long = (longer limit refl).1 files is in rw (long.1, lt-leb (length long.0) most long.2) refl
+  told old (Err (slurp.TooLong limit)) whole short longer files is = let long = (longer limit refl).1 files is in
+      rw (long.1, lt-leb (length long.0) most long.2) refl
   told old (Err slurp.Fault) whole short longer files is = omega arith
   told old (Err slurp.Memory) whole short longer files is = tt
 
@@ -34,7 +36,8 @@ module _ {V : Type 0} (view : V → List ℕ) (place : Named) (what : Size) (mos
   caused (Err slurp.Memory) at e = cc
   caused (Err (slurp.TooLong limit)) at e = cc
 
-  spared : (result : Result V Slurp) (old new : Outside) → OnlyReads old new → whole.Leaves result old new → Leaves (came (stop_of place.word what most) result) old new
+  spared : (result : Result V Slurp) (old new : Outside) → OnlyReads old new → whole.Leaves result old new
+      → Leaves (came (stop_of place.word what most) result) old new
   spared (Ok v) old new only same = same_outside only same
   spared (Err (slurp.TooLong limit)) old new only same = same_outside only same
   spared (Err slurp.Fault) old new only rose = tt
@@ -47,7 +50,8 @@ module _ {V : Type 0} (view : V → List ℕ) (place : Named) (what : Size) (mos
   faulty (Err slurp.Memory) old new leaves is = cc
   faulty (Err (slurp.TooLong limit)) old new leaves is = cc
 
-  limited : (result : Result V Slurp) (size : Size) (has limit : ℕ) → came (stop_of place.word what most) result ≡ Err (Contents (Limit size has limit)) → size ≡ what
+  limited : (result : Result V Slurp) (size : Size) (has limit : ℕ) → came (stop_of place.word what most) result ≡ Err (Contents (Limit size has limit))
+      → size ≡ what
   limited (Err (slurp.TooLong _)) size has limit e = cc
   limited (Ok v) size has limit e = cc
   limited (Err slurp.Fault) size has limit e = cc
@@ -64,6 +68,7 @@ returns g c =
       absent = λ files told. elim (slurped.there files told) [ inl same ↦ inl same | inr none ↦ inr (place.word, rw none refl) ];
       only = slurped.only;
       leaves = spared (λ v. v.items) place c.args.what c.args.most c.slurp.result _ _ slurped.only slurped.leaves;
-      caused = λ at e. let cause = caused (λ v. v.items) place c.args.what c.args.most c.slurp.result at e in (inl cause.0, faulty (λ v. v.items) place c.args.what c.args.most c.slurp.result _ _ slurped.leaves cause.1);
+      caused = λ at e. let cause = caused (λ v. v.items) place c.args.what c.args.most c.slurp.result at e in
+          (inl cause.0, faulty (λ v. v.items) place c.args.what c.args.most c.slurp.result _ _ slurped.leaves cause.1);
       limits = λ size has most e. inl (limited (λ v. v.items) place c.args.what c.args.most c.slurp.result size has most e);
     })

@@ -9,11 +9,14 @@ returns-in_err-counts g c = finds_once _ _ _ _ _ _ (finds_short _ _ _ _ c.from_r
 
 pub returns-in_err-first : goal.returns-in_err-first
 unfolding check_twice
-returns-in_err-first g c = finds_once _ _ _ _ _ _ (finds_on _ c.in_ok-counts.ensures (finds_short _ _ _ _ c.from_residual-in_err-first.ensures.1 c.in_err-first.ensures))
+returns-in_err-first g c = finds_once _ _ _ _ _ _
+    (finds_on _ c.in_ok-counts.ensures (finds_short _ _ _ _ c.from_residual-in_err-first.ensures.1 c.in_err-first.ensures))
 
 pub returns-in_err-publics : goal.returns-in_err-publics
 unfolding check_twice
-returns-in_err-publics g c = finds_once _ _ _ _ _ _ (finds_on _ c.in_ok-counts.ensures (finds_on _ c.in_ok-first.ensures (finds_short _ _ _ _ c.from_residual-in_err-publics.ensures.1 c.in_err-publics.ensures)))
+returns-in_err-publics g c = finds_once _ _ _ _ _ _
+    (finds_on _ c.in_ok-counts.ensures (finds_on _ c.in_ok-first.ensures
+    (finds_short _ _ _ _ c.from_residual-in_err-publics.ensures.1 c.in_err-publics.ensures)))
 
 pub returns-then-first-counts : goal.returns-then-first-counts
 unfolding check_twice
@@ -31,4 +34,5 @@ pub returns : goal.returns
 unfolding check_twice
 returns g c =
     finds_once _ _ _ _ _ _ (finds_on _ c.in_ok-counts.ensures (finds_on _ c.in_ok-first.ensures (finds_on _ c.in_ok-publics.ensures
-    (finds_wires _ _ _ _ _ _ _ c.if-first-counts.false (finds_on _ c.in_ok-survey_system.ensures (finds_still (λ files told. rw (c.from.ensures, c.from-2.ensures) refl)))))))
+    (finds_wires _ _ _ _ _ _ _ c.if-first-counts.false
+    (finds_on _ c.in_ok-survey_system.ensures (finds_still (λ files told. rw (c.from.ensures, c.from-2.ensures) refl)))))))

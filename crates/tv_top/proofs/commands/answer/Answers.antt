@@ -10,6 +10,7 @@ perform-requires g c = let plan = plan_of c.in-Ok.job in amounts_within plan.rea
 
 pub returns : goal.returns
 returns g c = elim c.match-of.branch [
-  | in-Ok w ↦ rw w.in-Ok.ensures.due (answers_done (plan_of w.in-Ok.job) w.perform.result _ _ _ _ _ (plans_apart w.in-Ok.job) w.perform.ensures (rw (w.files-is, w.ending-is, w.from-ending.ensures) at c.conclude.ensures))
+  | in-Ok w ↦ rw w.in-Ok.ensures.due (answers_done (plan_of w.in-Ok.job) w.perform.result _ _ _ _ _ (plans_apart w.in-Ok.job) w.perform.ensures
+      (rw (w.files-is, w.ending-is, w.from-ending.ensures) at c.conclude.ensures))
   | in-Err w ↦ answers_refused _ _ _ _ _ _ w.in-Err.ensures.due (rw (w.files-is, w.ending-is) at c.conclude.ensures)
 ]

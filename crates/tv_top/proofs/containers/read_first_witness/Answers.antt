@@ -8,4 +8,7 @@ use Rattle.tv_top.proofs.containers.read_first_witness.Goals as goal
 pub returns : goal.returns
 returns g c =
     let came : c.map_err.result ≡ came (refusal_stop c.args.place.word witness_bad) c.read_first_values.result = search rules in
-    rw came (finds_read firsts_in (named c.args.place) witness_bad (λ file. firsts c.args.most (assignment_of file)) _ _ c.read_first_values.result witness_limitless c.read_first_values.ensures.gives c.read_first_values.ensures.looks c.read_first_values.ensures.missing)
+    rw came (finds_read firsts_in (named c.args.place) witness_bad
+    (λ file. firsts c.args.most
+    (assignment_of file)) _ _ c.read_first_values.result witness_limitless c.read_first_values.ensures.gives c.read_first_values.ensures.looks
+    c.read_first_values.ensures.missing)

@@ -8,4 +8,5 @@ use Rattle.tv_top.proofs.containers.survey_system.Goals as goal
 pub returns : goal.returns
 returns g c =
     let came : c.map_err.result ≡ came (refusal_stop c.args.place.word system_bad) c.survey.result = search rules in
-    rw came (finds_read (λ counts. counts) (named c.args.place) system_bad survey_of _ _ c.survey.result system_limitless c.survey.ensures.gives c.survey.ensures.looks c.survey.ensures.missing)
+    rw came (finds_read (λ counts. counts)
+    (named c.args.place) system_bad survey_of _ _ c.survey.result system_limitless c.survey.ensures.gives c.survey.ensures.looks c.survey.ensures.missing)

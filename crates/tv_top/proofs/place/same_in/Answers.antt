@@ -22,17 +22,20 @@ same_in_named one [] = refl
 same_in_named one (next ∷ others) = by (has_name one next) (same_in_named one others)
   where
     by : (same : Bool) → same_in (named one) (map named others) ≡ same_place one (find (has_name one) others) →
-        option_map (λ (other : Named). SameName one.word other.word) (cond same (Some (named next)) (find (λ (other : Named). bytes_eq other.name one.name.now) (map named others)))
+        option_map (λ (other : Named). SameName one.word other.word)
+        (cond same (Some (named next)) (find (λ (other : Named). bytes_eq other.name one.name.now) (map named others)))
         ≡ same_place one (cond same (Some next) (find (has_name one) others))
     by true rest = refl
     by false rest = rest
 
 pub returns-in_err-other : goal.returns-in_err-other
 returns-in_err-other c =
-    let found = find_from_yields_List (has_name c.args.one) _ _ c.find.result c.find.ensures.ran (YieldsList-from_slice c.args.others.now cc) (λ x b q k. search (rules, tests)) in
+    let found = find_from_yields_List (has_name c.args.one) _ _ c.find.result c.find.ensures.ran (YieldsList-from_slice c.args.others.now cc)
+    (λ x b q k. search (rules, tests)) in
     rw (same_in_named c.args.one c.args.others.now, ← found) (search rules)
 
 pub returns : goal.returns
 returns c =
-    let found = find_from_yields_List (has_name c.args.one) _ _ c.find.result c.find.ensures.ran (YieldsList-from_slice c.args.others.now cc) (λ x b q k. search (rules, tests)) in
+    let found = find_from_yields_List (has_name c.args.one) _ _ c.find.result c.find.ensures.ran (YieldsList-from_slice c.args.others.now cc)
+    (λ x b q k. search (rules, tests)) in
     rw (same_in_named c.args.one c.args.others.now, ← found) (search rules)

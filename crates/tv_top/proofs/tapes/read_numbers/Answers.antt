@@ -11,8 +11,10 @@ use Rattle.tv_top.proofs.Looking.{made_found}
 use Rattle.tv_top.proofs.tapes.read_numbers.Goals as goal
 
 -- what reading a tape makes of a text
-made : {X : Type 0} (view : X → List ℕ) (word : ℕ) (what : Size) (below most : ℕ) (text : List ℕ) (read : Result X TapeFault) → IfOk read (λ v. tape_of text below most ≡ Ok (view v)) →
-    IfErr read (λ fault. (tape_of text below most ≡ Err fault) ⊎ (fault ≡ tape.Memory)) → Makes view (numbers_of word what below most text) (came (tape_stop word what) read)
+made : {X : Type 0} (view : X → List ℕ) (word : ℕ) (what : Size) (below most : ℕ) (text : List ℕ) (read : Result X TapeFault)
+    → IfOk read (λ v. tape_of text below most ≡ Ok (view v)) →
+    IfErr read (λ fault. (tape_of text below most ≡ Err fault) ⊎ (fault ≡ tape.Memory))
+    → Makes view (numbers_of word what below most text) (came (tape_stop word what) read)
 unfolding numbers_of
 made view word what below most text (Ok v) is bad = rw is refl
 made view word what below most text (Err tape.Memory) is bad = tt
@@ -27,4 +29,6 @@ pub returns-clause-found : goal.returns-clause-found
 returns-clause-found g c =
     let came : c.map_err.result ≡ came (tape_stop c.args.place.word c.args.what) c.read_tape.result = search rules in
     made_found _ _ _ _ _ _ _ _ _ _ _ _ c.in_ok-text.ensures c.deref.ensures.value
-    (rw came (made (λ v. v.items) c.args.place.word c.args.what c.args.below c.args.most c.deref.result.now c.read_tape.result c.read_tape.ensures.numbers c.read_tape.ensures.fault)) (numbers_limited _ _ _ _ _)
+    (rw came (made
+    (λ v. v.items) c.args.place.word c.args.what c.args.below c.args.most c.deref.result.now c.read_tape.result c.read_tape.ensures.numbers
+    c.read_tape.ensures.fault)) (numbers_limited _ _ _ _ _)

@@ -16,25 +16,31 @@ one_answer image x aux t u v one other =
     cc
 
 -- what is given to a list is refused for want of memory alone, where the run answers
-refused : (image x aux : List ℕ) (t : ℕ) (old new : Kept) (fault : FillFault) → Accepts 32 image x aux t 0 → FillsIn kept_giving 32 Benes image x aux t old new (Err fault) → fault ≡ Memory
+refused : (image x aux : List ℕ) (t : ℕ) (old new : Kept) (fault : FillFault) → Accepts 32 image x aux t 0
+    → FillsIn kept_giving 32 Benes image x aux t old new (Err fault) → fault ≡ Memory
 refused image x aux t old new (NoRun end) accepts fills = absurd (fills.0.1 0 accepts)
 refused image x aux t old new Failed accepts fills = absurd (let cause = fills.2.cause in omega (arith, cause))
 refused image x aux t old new Memory accepts fills = refl
 
 pub unreachable-requires : goal.unreachable-requires
 unreachable-requires c =
-    let is = refused c.args.image.now c.args.tape.now c.args.aux.now c.args.t c.new-values.result c.fill_system.new.v c.in-Err-NoRun.field-0 c.requires.accepts c.in-Err-NoRun.ensures.fills in
+    let is = refused c.args.image.now c.args.tape.now c.args.aux.now c.args.t c.new-values.result c.fill_system.new.v c.in-Err-NoRun.field-0 c.requires.accepts
+    c.in-Err-NoRun.ensures.fills in
     let other = c.in-Err-NoRun.field-0-is in
     cc
 
 pub unreachable-requires-in-Err-Failed : goal.unreachable-requires-in-Err-Failed
 unreachable-requires-in-Err-Failed c =
-    let is = refused c.args.image.now c.args.tape.now c.args.aux.now c.args.t c.new-values.result c.fill_system.new.v c.in-Err-Failed.field-0 c.requires.accepts c.in-Err-Failed.ensures.fills in
+    let is = refused c.args.image.now c.args.tape.now c.args.aux.now c.args.t c.new-values.result c.fill_system.new.v c.in-Err-Failed.field-0 c.requires.accepts
+    c.in-Err-Failed.ensures.fills in
     let other = c.in-Err-Failed.field-0-is in
     cc
 
 pub returns-in-Ok : goal.returns-in-Ok
 returns-in-Ok c =
-    let fills : FillsIn kept_giving 32 Benes c.args.image.now c.args.tape.now c.args.aux.now c.args.t c.new-values.result c.fill_system.new.v (Ok tt) = c.in-Ok.ensures.fills in
-    let begun : (c.new-values.result.list ≡ []) × (c.new-values.result.broken ≡ false) = (ap (λ (v : Kept). v.list) c.new-values.ensures, ap (λ (v : Kept). v.broken) c.new-values.ensures) in
-    (fills.2.stands [] begun).0 ∙ ap (run_values 32 Benes c.args.image.now c.args.tape.now c.args.aux.now c.args.t) (one_answer c.args.image.now c.args.tape.now c.args.aux.now c.args.t fills.0 0 fills.1 c.requires.accepts)
+    let fills : FillsIn kept_giving 32 Benes c.args.image.now c.args.tape.now c.args.aux.now c.args.t c.new-values.result c.fill_system.new.v
+    (Ok tt) = c.in-Ok.ensures.fills in
+    let begun : (c.new-values.result.list ≡ [])
+    × (c.new-values.result.broken ≡ false) = (ap (λ (v : Kept). v.list) c.new-values.ensures, ap (λ (v : Kept). v.broken) c.new-values.ensures) in
+    (fills.2.stands [] begun).0 ∙ ap (run_values 32 Benes c.args.image.now c.args.tape.now c.args.aux.now c.args.t)
+    (one_answer c.args.image.now c.args.tape.now c.args.aux.now c.args.t fills.0 0 fills.1 c.requires.accepts)

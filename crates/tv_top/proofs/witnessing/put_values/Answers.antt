@@ -20,7 +20,11 @@ begun g c = record {
 }
 
 pub returns-in-Err : goal.returns-in-Err
-returns-in-Err g c = search (rules, writes_nothing c.args.place.word c.args.place.name.now (Values c.args.filling.values) _ _ c.in-Err.refused.why c.in-Err.ensures.err_creates)
+returns-in-Err g c = search (
+  rules,
+  writes_nothing c.args.place.word c.args.place.name.now
+      (Values c.args.filling.values) _ _ c.in-Err.refused.why c.in-Err.ensures.err_creates,
+)
 
 pub returns-in_err-give : goal.returns-in_err-give
 returns-in_err-give g c =

@@ -15,28 +15,35 @@ returns-in_err-fill_front-clause-gives g c =
     let i = c.self.inside in
     let is = ap (λ (f : Filled). f.values) c.self.view_is in
     gives_refused m _ _ _ c.from_residual.result c.from_residual.ensures.1
-    (given_some m _ _ _ _ is _ (front_refused m g.row.W i.answer i.t i.k i.net i.image.now i.tape.now i.aux.now i.states i.lines i.items.items i.settings _ _ _ c.in_err-fill_front.ensures.gives))
+    (given_some m _ _ _ _ is _
+    (front_refused m g.row.W i.answer i.t i.k i.net i.image.now i.tape.now i.aux.now i.states i.lines i.items.items i.settings _ _ _
+    c.in_err-fill_front.ensures.gives))
 
 pub returns-in_err-fill-clause-gives : goal.returns-in_err-fill-clause-gives
 returns-in_err-fill-clause-gives g c =
     let m = g.V.Values.giving in
     let i = c.self.inside in
-    let is = same_filled g.row.W i.answer i.t i.k i.net i.image.now i.tape.now i.aux.now {items = i.items.items} {bits = i.settings} c.as_slice.ensures c.as_slice-2.ensures refl refl
+    let is = same_filled g.row.W i.answer i.t i.k i.net i.image.now i.tape.now i.aux.now {items = i.items.items} {bits = i.settings} c.as_slice.ensures
+    c.as_slice-2.ensures refl refl
     ∙ ap (λ (f : Filled). f.values) c.self.view_is in
     gives_refused m _ _ _ c.from_residual-in_err-fill.result c.from_residual-in_err-fill.ensures.1
     (given_some m _ _ _ _ is _
-    (steps_refused m g.row.W i.answer i.t i.k i.net i.image.now i.tape.now i.aux.now c.as_slice.result.now c.as_slice-2.result.now i.items.items i.settings _ _ _ _
+    (steps_refused m g.row.W i.answer i.t i.k i.net i.image.now i.tape.now i.aux.now c.as_slice.result.now c.as_slice-2.result.now i.items.items i.settings _ _
+    _ _
     c.in_ok-fill_front.ensures.gives c.in_err-fill.ensures.gives))
 
 pub returns-clause-gives : goal.returns-clause-gives
 returns-clause-gives g c =
     let m = g.V.Values.giving in
     let i = c.self.inside in
-    let is = same_filled g.row.W i.answer i.t i.k i.net i.image.now i.tape.now i.aux.now {items = i.items.items} c.as_slice.ensures c.as_slice-2.ensures refl c.as_slice-3.ensures
+    let is = same_filled g.row.W i.answer i.t i.k i.net i.image.now i.tape.now i.aux.now {items = i.items.items} c.as_slice.ensures c.as_slice-2.ensures refl
+    c.as_slice-3.ensures
     ∙ ap (λ (f : Filled). f.values) c.self.view_is in
     let same = ap₂ (λ (ls : List Line) (items : List PairNum).
-    routed_values i.net (checks_told (length i.image.now) (length i.tape.now) (length ls) i.k) i.k (bit_at c.as_slice-3.result.now) items (lines_told i.image.now i.tape.now ls i.k))
+    routed_values i.net (checks_told (length i.image.now) (length i.tape.now) (length ls) i.k) i.k (bit_at c.as_slice-3.result.now) items
+    (lines_told i.image.now i.tape.now ls i.k))
     (c.as_slice-4.ensures ∙ sym c.as_slice-2.ensures) c.as_mut_slice.ensures.value in
     given_in m _ _ _ _ is _
-    (all_given m g.row.W i.answer i.t i.k i.net i.image.now i.tape.now i.aux.now c.as_slice.result.now c.as_slice-2.result.now i.items.items c.as_slice-3.result.now _ _ _ _ _
+    (all_given m g.row.W i.answer i.t i.k i.net i.image.now i.tape.now i.aux.now c.as_slice.result.now c.as_slice-2.result.now i.items.items
+    c.as_slice-3.result.now _ _ _ _ _
     c.in_ok-fill_front.ensures.gives c.in_ok-fill.ensures.gives (given_in m _ _ _ _ same _ c.fill_memory.ensures.gives))

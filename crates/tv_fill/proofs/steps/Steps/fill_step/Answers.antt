@@ -10,5 +10,8 @@ use Rattle.tv_fill.proofs.steps.Steps.fill_step.Goals as goal
 pub returns-clause-gives : goal.returns-clause-gives
 unfolding told_values
 returns-clause-gives g c =
-    let same = same_values (block_values g.row.W c.args.n) {v = traced_view (state_at c.args.self.now.states.now c.args.i)} refl c.old-head.ensures c.old-tail.ensures (c.unwrap_or-word.ensures ∙ ap₂ (λ (word : Option ℕ) (old : ℕ). unwrap_or word old) c.taken-taken.ensures c.old.ensures) (c.is_some.ensures ∙ ap is_some c.taken-taken.ensures) in
+    let same = same_values (block_values g.row.W c.args.n) {v = traced_view
+    (state_at c.args.self.now.states.now c.args.i)} refl c.old-head.ensures c.old-tail.ensures
+    (c.unwrap_or-word.ensures ∙ ap₂ (λ (word : Option ℕ) (old : ℕ). unwrap_or word old) c.taken-taken.ensures c.old.ensures)
+    (c.is_some.ensures ∙ ap is_some c.taken-taken.ensures) in
     subst (λ (l : List ℕ). GivesIn g.V.Values.giving c.args.v.now c.fill_traced_step.new.v l c.fill_traced_step.result) same c.fill_traced_step.ensures.gives

@@ -12,10 +12,12 @@ returns-in_err-assigned g c =
 
 pub returns-in-Ok : goal.returns-in-Ok
 returns-in-Ok g c =
-    does_found (extract_asks c.args.self) _ _ _ _ _ _ _ _ (comes_kept (λ _. run_written) _ _ _ _ _) (ends_in is_extract run_written (λ _. refl) (λ _. refl) _) c.in_ok-assigned.ensures.found
+    does_found (extract_asks c.args.self) _ _ _ _ _ _ _ _ (comes_kept (λ _. run_written) _ _ _ _ _)
+    (ends_in is_extract run_written (λ _. refl) (λ _. refl) _) c.in_ok-assigned.ensures.found
     (completes_as _ _ _ _ _ _ (ap (run_ends run_written) c.in-Ok.ensures.run) c.write_run.ensures)
 
 pub returns : goal.returns
 returns g c =
-    does_found (extract_asks c.args.self) _ _ _ _ _ _ _ _ (comes_kept (λ _. run_written) _ _ _ _ _) (ends_in is_extract run_written (λ _. refl) (λ _. refl) _) c.in_ok-assigned.ensures.found
+    does_found (extract_asks c.args.self) _ _ _ _ _ _ _ _ (comes_kept (λ _. run_written) _ _ _ _ _)
+    (ends_in is_extract run_written (λ _. refl) (λ _. refl) _) c.in_ok-assigned.ensures.found
     (rw c.not_run.ensures (completes_none _ run_written _ _ _ c.in-Err.ensures.fault))

@@ -18,18 +18,21 @@ write_lines-requires-clause-within g c =
 
 pub returns-in_err-assigned : goal.returns-in_err-assigned
 returns-in_err-assigned g c =
-    does_stopped (listing_asks c.args.self) _ _ _ _ _ _ _ (comes_kept (lines_written c.args.self.by c.args.self.n c.args.self.t) _ _ _ _ _) c.in_err-assigned.ensures.found c.from_residual.ensures.1
+    does_stopped (listing_asks c.args.self) _ _ _ _ _ _ _
+    (comes_kept (lines_written c.args.self.by c.args.self.n c.args.self.t) _ _ _ _ _) c.in_err-assigned.ensures.found c.from_residual.ensures.1
 
 pub returns-in-Ok : goal.returns-in-Ok
 returns-in-Ok g c =
     let lines = lines_written c.args.self.by c.args.self.n c.args.self.t in
     let written = lines (assigned_in c.in_ok-assigned.assigned) in
-    does_found (listing_asks c.args.self) _ _ _ _ _ _ _ _ (comes_kept lines _ _ _ _ _) (ends_in is_listing written (λ _. refl) (λ _. refl) _) c.in_ok-assigned.ensures.found
+    does_found (listing_asks c.args.self) _ _ _ _ _ _ _ _ (comes_kept lines _ _ _ _ _)
+    (ends_in is_listing written (λ _. refl) (λ _. refl) _) c.in_ok-assigned.ensures.found
     (completes_as _ _ _ _ _ _ (ap (run_ends written) c.in-Ok.ensures.run) c.write_lines.ensures)
 
 pub returns : goal.returns
 returns g c =
     let lines = lines_written c.args.self.by c.args.self.n c.args.self.t in
     let written = lines (assigned_in c.in_ok-assigned.assigned) in
-    does_found (listing_asks c.args.self) _ _ _ _ _ _ _ _ (comes_kept lines _ _ _ _ _) (ends_in is_listing written (λ _. refl) (λ _. refl) _) c.in_ok-assigned.ensures.found
+    does_found (listing_asks c.args.self) _ _ _ _ _ _ _ _ (comes_kept lines _ _ _ _ _)
+    (ends_in is_listing written (λ _. refl) (λ _. refl) _) c.in_ok-assigned.ensures.found
     (rw c.not_run.ensures (completes_none _ written _ _ _ c.in-Err.ensures.fault))

@@ -10,8 +10,12 @@ returns-in_err-inputs g c = does_stopped (witness_asks c.args.self) _ _ _ _ _ _ 
 
 pub returns-in-Bits16 : goal.returns-in-Bits16
 returns-in-Bits16 g c =
-    does_found (witness_asks c.args.self) _ _ _ _ _ _ _ _ refl (may_end c.args.self.net c.args.self.t c.in_ok-inputs.inputs (run_end c.args.self.t c.in_ok-inputs.inputs)) c.in_ok-inputs.ensures.found c.write_witness.ensures
+    does_found (witness_asks c.args.self) _ _ _ _ _ _ _ _ refl
+    (may_end c.args.self.net c.args.self.t c.in_ok-inputs.inputs
+    (run_end c.args.self.t c.in_ok-inputs.inputs)) c.in_ok-inputs.ensures.found c.write_witness.ensures
 
 pub returns : goal.returns
 returns g c =
-    does_found (witness_asks c.args.self) _ _ _ _ _ _ _ _ refl (may_end c.args.self.net c.args.self.t c.in_ok-inputs.inputs (run_end c.args.self.t c.in_ok-inputs.inputs)) c.in_ok-inputs.ensures.found c.write_witness-in-Bits32.ensures
+    does_found (witness_asks c.args.self) _ _ _ _ _ _ _ _ refl
+    (may_end c.args.self.net c.args.self.t c.in_ok-inputs.inputs
+    (run_end c.args.self.t c.in_ok-inputs.inputs)) c.in_ok-inputs.ensures.found c.write_witness-in-Bits32.ensures

@@ -1,6 +1,6 @@
 use Rattle.std.proofs.Common.{sym, ◌∙◌, arith}
 use Rattle.tv_layout.proofs.LinePlaces.{in_image, in_tape, in_steps, in_padding}
-use Rattle.tv_layout.proofs.lines.told_line.Goals as goal
+use Rattle.tv_layout.proofs.lines.compact_line.Goals as goal
 
 pub returns-then-i-words-clause-is : goal.returns-then-i-words-clause-is
 returns-then-i-words-clause-is g c =
@@ -17,4 +17,5 @@ returns-then-i-boot-2-clause-is g c =
 
 pub returns-else-i-boot-2-clause-is : goal.returns-else-i-boot-2-clause-is
 returns-else-i-boot-2-clause-is g c =
-    c.line_of_word-else-i-boot-2.ensures.is ∙ sym (in_padding g.row.W c.args.image.now c.args.n c.args.t c.requires.fits c.args.i (omega arith) c.requires.within)
+    c.line_of_word-else-i-boot-2.ensures.is ∙ sym
+    (in_padding g.row.W c.args.image.now c.args.n c.args.t c.requires.fits c.args.i (omega arith) c.requires.within)
