@@ -31,7 +31,8 @@ unfolding encode_utf8
 wide c most = pick (λ l. escaped l ≡ l) _ _ _ _ _ _ _ (below c most)
     (cons_high (192 + c / 64) _ (omega arith) (cons_high (128 + c % 64) [] (omega arith) refl))
     (cons_high (224 + c / 4096) _ (omega arith) (cons_high (128 + c / 64 % 64) _ (omega arith) (cons_high (128 + c % 64) [] (omega arith) refl)))
-    (cons_high (240 + c / 262144) _ (omega arith) (cons_high (128 + c / 4096 % 64) _ (omega arith) (cons_high (128 + c / 64 % 64) _ (omega arith) (cons_high (128 + c % 64) [] (omega arith) refl))))
+    (cons_high (240 + c / 262144) _ (omega arith)
+    (cons_high (128 + c / 4096 % 64) _ (omega arith) (cons_high (128 + c / 64 % 64) _ (omega arith) (cons_high (128 + c % 64) [] (omega arith) refl))))
 
 escaped_char : (c : ℕ) → escaped (encode_utf8 c) ≡ shown_char c
 escaped_char c = by (cases_lt c 128)

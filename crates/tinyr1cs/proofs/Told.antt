@@ -16,23 +16,27 @@ faults Reading counts = counts.read_faults
 faults Writing counts = counts.write_faults
 faults Saying counts = counts.say_faults
 
-same : {A : Type 0} (call : Call) (result : Result A FileRefusal) (old new : RefusalCounts) → new ≡ after call result old → OnOk result (SameCounts (told_by old) (told_by new))
+same : {A : Type 0} (call : Call) (result : Result A FileRefusal) (old new : RefusalCounts) → new ≡ after call result old
+    → OnOk result (SameCounts (told_by old) (told_by new))
 same call (Ok value) old new is = record { read_faults = cc; write_faults = cc; say_faults = cc; wants = cc; absent = refl }
 same call (Err why) old new is = tt
 
-failed : {A : Type 0} (call : Call) (result : Result A FileRefusal) (old new : RefusalCounts) → new ≡ after call result old → result ≡ Err Failed → Rose (faults call old) (faults call new)
+failed : {A : Type 0} (call : Call) (result : Result A FileRefusal) (old new : RefusalCounts) → new ≡ after call result old → result ≡ Err Failed
+    → Rose (faults call old) (faults call new)
 failed Reading (Err Failed) old new is err = grind arith
 failed Writing (Err Failed) old new is err = grind arith
 failed Saying (Err Failed) old new is err = grind arith
 failed call (Ok value) old new is err = cc
 failed call (Err Memory) old new is err = cc
 
-wanted : {A : Type 0} (call : Call) (result : Result A FileRefusal) (old new : RefusalCounts) → new ≡ after call result old → result ≡ Err Memory → Rose old.wants new.wants
+wanted : {A : Type 0} (call : Call) (result : Result A FileRefusal) (old new : RefusalCounts) → new ≡ after call result old → result ≡ Err Memory
+    → Rose old.wants new.wants
 wanted call (Err Memory) old new is err = grind arith
 wanted call (Ok value) old new is err = cc
 wanted call (Err Failed) old new is err = cc
 
-within : (outcome result : Result ℕ FileRefusal) (into : List ℕ) → result_ok result ≡ result_ok outcome → IfOk outcome (λ count. count ≤ length into) → IfOk result (λ count. count ≤ length into)
+within : (outcome result : Result ℕ FileRefusal) (into : List ℕ) → result_ok result ≡ result_ok outcome → IfOk outcome (λ count. count ≤ length into)
+    → IfOk result (λ count. count ≤ length into)
 within (Ok count) (Ok counted) into is most = grind arith
 within (Ok count) (Err why) into is most = tt
 within (Err why) (Ok counted) into is most = cc
@@ -46,7 +50,9 @@ on_err : {A : Type 0} (result : Result A FileRefusal) (P : Type 0) → P → OnE
 on_err (Ok value) P holds = tt
 on_err (Err why) P holds = holds
 
-pub reads : (old new : RefusalCounts) (name : List ℕ) (at : ℕ) (into : List ℕ) (outcome result : Result ℕ FileRefusal) → result_ok result ≡ result_ok outcome → IfOk outcome (λ count. count ≤ length into) → new ≡ after Reading result old → NoneFell (told_by old) (told_by new) → Reads (told_by old) (told_by new) name at into result
+pub reads : (old new : RefusalCounts) (name : List ℕ) (at : ℕ) (into : List ℕ) (outcome result : Result ℕ FileRefusal) → result_ok result ≡ result_ok outcome
+    → IfOk outcome (λ count. count ≤ length into) → new ≡ after Reading result old → NoneFell (told_by old) (told_by new)
+    → Reads (told_by old) (told_by new) name at into result
 reads old new name at into outcome result value most is later = record {
   within = within outcome result into value most;
   bytes = on_ok result _ (λ count files told. cc);
@@ -60,7 +66,8 @@ reads old new name at into outcome result value most is later = record {
   there = λ files told. cc;
 }
 
-pub creates : (old new : RefusalCounts) (name : List ℕ) (result : Result (Unit {0}) FileRefusal) → new ≡ after Writing result old → NoneFell (told_by old) (told_by new) → Creates (told_by old) (told_by new) name result
+pub creates : (old new : RefusalCounts) (name : List ℕ) (result : Result (Unit {0}) FileRefusal) → new ≡ after Writing result old
+    → NoneFell (told_by old) (told_by new) → Creates (told_by old) (told_by new) name result
 creates old new name result is later = record {
   done = on_ok result _ (λ _. refl);
   refused = on_err result _ (inl refl);
@@ -72,7 +79,8 @@ creates old new name result is later = record {
   absent = refl;
 }
 
-pub appends : (old new : RefusalCounts) (name bytes : List ℕ) (result : Result (Unit {0}) FileRefusal) → new ≡ after Writing result old → NoneFell (told_by old) (told_by new) → Appends (told_by old) (told_by new) name bytes result
+pub appends : (old new : RefusalCounts) (name bytes : List ℕ) (result : Result (Unit {0}) FileRefusal) → new ≡ after Writing result old
+    → NoneFell (told_by old) (told_by new) → Appends (told_by old) (told_by new) name bytes result
 appends old new name bytes result is later = record {
   done = on_ok result _ (λ _. refl);
   refused = on_err result _ (0, refl);
@@ -85,7 +93,8 @@ appends old new name bytes result is later = record {
   there = λ files told. cc;
 }
 
-pub says : (old new : RefusalCounts) (bytes : List ℕ) (result : Result (Unit {0}) FileRefusal) → new ≡ after Saying result old → NoneFell (told_by old) (told_by new) → Says (told_by old) (told_by new) bytes result
+pub says : (old new : RefusalCounts) (bytes : List ℕ) (result : Result (Unit {0}) FileRefusal) → new ≡ after Saying result old
+    → NoneFell (told_by old) (told_by new) → Says (told_by old) (told_by new) bytes result
 says old new bytes result is later = record {
   done = on_ok result _ (λ _. refl);
   refused = on_err result _ (0, refl);

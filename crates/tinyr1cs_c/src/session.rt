@@ -71,7 +71,8 @@ impl Session {
 
     /// Copies the file's bytes from a place on, as many as there is room for.
     pub fn copy(&self, name: &[u8], from: u64, into: &mut [u8], has: &mut u64) -> Answer
-        ensures { CopiesFile name.now from into.old into.new has.new self.now self.now (code_of result) }
+        ensures { CopiesFile name.now from into.old into.new has.new self.now self.now
+            (code_of result) }
     {
         *has = 0;
         let Ok(name) = str::from_utf8(name) else {

@@ -1,5 +1,6 @@
 -- The image of a text, line by line.
-use Rattle.std.proofs.Common.{◌≡◌, ℕ, ◌+◌, ◌<◌, ◌≤◌, nat_lt, Bool, true, false, List, [], ◌∷◌, ◌++◌, length, take, drop, Option, Result, Ok, Err, refl, sym, ap, ◌∙◌, arith}
+use Rattle.std.proofs.Common.{◌≡◌, ℕ, ◌+◌, ◌<◌, ◌≤◌, nat_lt, Bool, true, false, List, [], ◌∷◌, ◌++◌, length, take, drop, Option, Result, Ok, Err, refl, sym}
+use Rattle.std.proofs.Common.{ap, ◌∙◌, arith}
 use Rattle.std.proofs.lemmas.Bool.{lt-ltb, le-ltb}
 use Rattle.std.proofs.lemmas.List.{take-append-drop}
 use Rattle.std.proofs.lemmas.List.Folds.{list_any-append}
@@ -19,7 +20,8 @@ use Rattle.tv_asm.proofs.FirstLemmas.{before_first-append_any, length-before_fir
 same_functions : {A B : Type 0} {f g : A → B} → ((x : A) → f x ≡ g x) → f ≡ g
 same_functions h = λ i x. h x i
 
-address_at : (w : ℕ) (all : List (List ℕ)) (name : List ℕ) (b : Bool) → is_defined all name ≡ b → option_map (λ place. place.address) (first_place w all name) ≡ address w all name
+address_at : (w : ℕ) (all : List (List ℕ)) (name : List ℕ) (b : Bool) → is_defined all name ≡ b
+    → option_map (λ place. place.address) (first_place w all name) ≡ address w all name
 unfolding first_place
 address_at w all name true e = rw e refl
 address_at w all name false e = rw e refl
@@ -33,7 +35,8 @@ address_in-is w labels all h =
 abbrev stands_before : List (List ℕ) → Option Place → Bool
 stands_before before place = option_map_or (λ p. nat_lt p.line (length before + 1)) place false
 
-earlier_at : (w : ℕ) (before rest : List (List ℕ)) (name : List ℕ) (b r : Bool) → list_any (defines name) before ≡ b → list_any (defines name) rest ≡ r → stands_before before (first_place w (before ++ rest) name) ≡ b
+earlier_at : (w : ℕ) (before rest : List (List ℕ)) (name : List ℕ) (b r : Bool) → list_any (defines name) before ≡ b → list_any (defines name) rest ≡ r
+    → stands_before before (first_place w (before ++ rest) name) ≡ b
 unfolding first_place
 earlier_at w before rest name true r e d =
     rw (list_any-append (defines name) before rest, e, before_first-append_any (defines name) before rest e)
@@ -44,7 +47,8 @@ earlier_at w before rest name false true e d =
 earlier_at w before rest name false false e d = rw (list_any-append (defines name) before rest, e, d) refl
 
 -- a label is noted on an earlier line where such a line defines it
-pub is_earlier-is : (w : ℕ) (labels : Labels) (all : List (List ℕ)) (n : ℕ) → AreLabelsOf w labels all → length (take n all) ≡ n → is_earlier labels (n + 1) ≡ is_defined (take n all)
+pub is_earlier-is : (w : ℕ) (labels : Labels) (all : List (List ℕ)) (n : ℕ) → AreLabelsOf w labels all → length (take n all) ≡ n
+    → is_earlier labels (n + 1) ≡ is_defined (take n all)
 is_earlier-is w labels all n h l =
     same_functions (λ name.
     ap (λ place. option_map_or (λ p. nat_lt p.line (n + 1)) place false) (h.each name)
@@ -119,7 +123,8 @@ IsAssembled-fault w labels most number words rest behind text line fault r first
     ap (λ s. s >>= more) (sym step) ∙ next_is w labels most number words rest behind text line r first
 
 -- all lines are assembled
-pub IsAssembled-end : (w : ℕ) (labels : Labels) (most number : ℕ) (words rest text : List ℕ) → IsAssembled w labels most number words rest text → lines rest ≡ [] → Ok words ≡ assembled w most text
+pub IsAssembled-end : (w : ℕ) (labels : Labels) (most number : ℕ) (words rest text : List ℕ) → IsAssembled w labels most number words rest text
+    → lines rest ≡ [] → Ok words ≡ assembled w most text
 IsAssembled-end w labels most number words rest text r end =
     ap (image_of w most (lines text) (take number (lines text)) words) (sym (sym r.rest_lines ∙ end)) ∙ r.so_far
 

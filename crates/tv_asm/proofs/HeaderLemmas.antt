@@ -41,7 +41,8 @@ header_comment (c ∷ cs) e =
     let first : 59 ≡ c = eqb-true 59 c (and_parts (nat_eq 59 c) _ e).0 in
     subst (λ d. code_of (d ∷ cs) ≡ []) first refl
 
-line_refused : (earlier : List ℕ → Bool) (place : List ℕ → Option ℕ) (line : List ℕ) → is_header_of_16 line ≡ true → line_words 32 true earlier place line ≡ Err BadHeader
+line_refused : (earlier : List ℕ → Bool) (place : List ℕ → Option ℕ) (line : List ℕ) → is_header_of_16 line ≡ true
+    → line_words 32 true earlier place line ≡ Err BadHeader
 unfolding line_words is_header_of_16
 line_refused earlier place line e =
     let parts = and_parts (is_header line) (list_any (bytes_eq (width_field 16)) (header_fields line)) e in

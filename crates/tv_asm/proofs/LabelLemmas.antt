@@ -1,5 +1,6 @@
 -- The labels of lines, one line after another.
-use Rattle.std.proofs.Common.{◌≡◌, ℕ, ◌+◌, ◌*◌, ◌/◌, ◌%◌, ◌^◌, ◌<◌, ◌≤◌, Bool, true, false, cond, List, [], ◌∷◌, ◌++◌, length, take, drop, Some, None, refl, sym, ap, ◌∙◌, arith, zero-add, subst}
+use Rattle.std.proofs.Common.{◌≡◌, ℕ, ◌+◌, ◌*◌, ◌/◌, ◌%◌, ◌^◌, ◌<◌, ◌≤◌, Bool, true, false, cond, List, [], ◌∷◌, ◌++◌, length, take, drop, Some, None, refl}
+use Rattle.std.proofs.Common.{sym, ap, ◌∙◌, arith, zero-add, subst}
 use Rattle.std.proofs.lemmas.List.Folds.{list_any-append}
 use Rattle.std.proofs.lemmas.List.{append-nil, take-append-drop}
 use Rattle.std.proofs.lemmas.List.Sums.{sum_by-append}
@@ -18,7 +19,8 @@ use Rattle.tv_asm.proofs.FirstLemmas.{before_first-append_any, before_first-appe
 abbrev pub place_after : ℕ → List (List ℕ) → Place
 place_after w ls = record { line = length ls + 1; address = 2 * (w / 8) * count_by has_instruction ls % 2 ^ w }
 
-push_at : (w : ℕ) (ls : List (List ℕ)) (line name : List ℕ) (earlier here : Bool) → list_any (defines name) ls ≡ earlier → defines name line ≡ here → first_place w (ls ++ line ∷ []) name ≡ option_or (first_place w ls name) (cond here (Some (place_after w ls)) None)
+push_at : (w : ℕ) (ls : List (List ℕ)) (line name : List ℕ) (earlier here : Bool) → list_any (defines name) ls ≡ earlier → defines name line ≡ here
+    → first_place w (ls ++ line ∷ []) name ≡ option_or (first_place w ls name) (cond here (Some (place_after w ls)) None)
 unfolding first_place
 push_at w ls line name true here e d =
     rw (list_any-append (defines name) ls (line ∷ []), e, before_first-append_any (defines name) ls (line ∷ []) e) refl
@@ -26,7 +28,8 @@ push_at w ls line name false true e d =
     rw (list_any-append (defines name) ls (line ∷ []), e, d, before_first-append_none (defines name) ls line [] e d) refl
 push_at w ls line name false false e d = rw (list_any-append (defines name) ls (line ∷ []), e, d) refl
 
-pub first_place-push : (w : ℕ) (ls : List (List ℕ)) (line name : List ℕ) → first_place w (ls ++ line ∷ []) name ≡ option_or (first_place w ls name) (cond (defines name line) (Some (place_after w ls)) None)
+pub first_place-push : (w : ℕ) (ls : List (List ℕ)) (line name : List ℕ)
+    → first_place w (ls ++ line ∷ []) name ≡ option_or (first_place w ls name) (cond (defines name line) (Some (place_after w ls)) None)
 first_place-push w ls line name = push_at w ls line name (list_any (defines name) ls) (defines name line) refl refl
 
 -- no line defines a label
@@ -35,9 +38,14 @@ unfolding first_place
 first_place-nil w name = refl
 
 -- one line more is noted
-pub AreLabelsOf-push : (w : ℕ) (old new : Labels) (ls : List (List ℕ)) (line : List ℕ) → AreLabelsOf w old ls → ((name : List ℕ) → place_in new name ≡ option_or (place_in old name) (cond (defines name line) (Some (place_after w ls)) None)) → AreLabelsOf w new (ls ++ line ∷ [])
+pub AreLabelsOf-push : (w : ℕ) (old new : Labels) (ls : List (List ℕ)) (line : List ℕ) → AreLabelsOf w old ls
+    → ((name : List ℕ) → place_in new name ≡ option_or (place_in old name) (cond (defines name line) (Some (place_after w ls)) None))
+    → AreLabelsOf w new (ls ++ line ∷ [])
 AreLabelsOf-push w old new ls line h more =
-    record { each = λ name. more name ∙ ap (λ place. option_or place (cond (defines name line) (Some (place_after w ls)) None)) (h.each name) ∙ sym (first_place-push w ls line name) }
+    record {
+      each = λ name. more name ∙ ap (λ place. option_or place (cond (defines name line) (Some (place_after w ls)) None)) (h.each name)
+          ∙ sym (first_place-push w ls line name);
+    }
 
 -- the lines before the rest of a text are read
 pub record IsRead (w : ℕ) (labels : Labels) (place : Place) (rest text : List ℕ) : Type 0 where
@@ -58,7 +66,9 @@ advances : (w : ℕ) → IsWidth w → Advances w
 advances = for_widths Advances (λ n m before after more b a. omega arith) (λ n m before after more b a. omega arith)
 
 -- the address behind one more line
-next_address : (w : ℕ) → IsWidth w → (ls : List (List ℕ)) (line : List ℕ) (here : Bool) (before after : ℕ) → has_instruction line ≡ here → before ≡ 2 * (w / 8) * count_by has_instruction ls % 2 ^ w → after ≡ cond here ((before + w / 4) % 2 ^ w) before → after ≡ 2 * (w / 8) * count_by has_instruction (ls ++ line ∷ []) % 2 ^ w
+next_address : (w : ℕ) → IsWidth w → (ls : List (List ℕ)) (line : List ℕ) (here : Bool) (before after : ℕ) → has_instruction line ≡ here
+    → before ≡ 2 * (w / 8) * count_by has_instruction ls % 2 ^ w → after ≡ cond here ((before + w / 4) % 2 ^ w) before
+    → after ≡ 2 * (w / 8) * count_by has_instruction (ls ++ line ∷ []) % 2 ^ w
 next_address w width ls line true before after h b a =
     advances w width (count_by has_instruction ls) (count_by has_instruction (ls ++ line ∷ [])) before after (count_by-push has_instruction ls line true h) b a
 next_address w width ls line false before after h b a =
@@ -70,7 +80,8 @@ pub IsRead-more : (w : ℕ) → IsWidth w → (old new : Labels) (place : Place)
     → IsRead w old place rest text
     → lines rest ≡ line ∷ lines behind
     → length behind < length rest
-    → ((name : List ℕ) → place_in new name ≡ option_or (place_in old name) (cond (defines name line) (Some (record { line = place.line + 1; address = place.address })) None))
+    → ((name : List ℕ) → place_in new name ≡ option_or (place_in old name)
+    (cond (defines name line) (Some (record { line = place.line + 1; address = place.address })) None))
     → has_instruction line ≡ here
     → after ≡ cond here ((place.address + w / 4) % 2 ^ w) place.address
     → IsRead w new (record { line = place.line + 1; address = after }) behind text
@@ -79,7 +90,8 @@ IsRead-more w width old new place after rest behind text line here r first short
     let next : drop place.line all ≡ line ∷ lines behind = sym r.rest_lines ∙ first in
     let same : take (place.line + 1) all ≡ take place.line all ++ line ∷ [] = take_next all place.line line (lines behind) next in
     let at : place_after w (take place.line all) ≡ record { line = place.line + 1; address = place.address } =
-    ap (λ n. record { line = n + 1; address = 2 * (w / 8) * count_by has_instruction (take place.line all) % 2 ^ w }) (length-take_next all place.line line (lines behind) next)
+    ap (λ n. record { line = n + 1; address = 2 * (w / 8) * count_by has_instruction (take place.line all) % 2 ^ w })
+    (length-take_next all place.line line (lines behind) next)
     ∙ ap (λ n. record { line = place.line + 1; address = n }) (sym r.address) in
     record {
       rest_lines = sym (drop_next all place.line line (lines behind) next);
@@ -89,7 +101,8 @@ IsRead-more w width old new place after rest behind text line here r first short
     }
 
 -- all lines are read
-pub IsRead-end : (w : ℕ) (labels : Labels) (place : Place) (rest text : List ℕ) → IsRead w labels place rest text → lines rest ≡ [] → AreLabelsOf w labels (lines text)
+pub IsRead-end : (w : ℕ) (labels : Labels) (place : Place) (rest text : List ℕ) → IsRead w labels place rest text → lines rest ≡ []
+    → AreLabelsOf w labels (lines text)
 IsRead-end w labels place rest text r end =
     let none : drop place.line (lines text) ≡ [] = sym r.rest_lines ∙ end in
     let all : take place.line (lines text) ≡ lines text =

@@ -27,7 +27,8 @@ past [] zero = trimmed-nil
 past [] (suc i) = refl
 past (c ∷ cs) i = refl
 
-first_at : (text : List ℕ) → (position_or_len is_comma text < length text) ⊎ (length text ≤ position_or_len is_comma text) → operand_at (map trimmed (slice_split is_comma text)) 0 ≡ trimmed (before_first is_comma text)
+first_at : (text : List ℕ) → (position_or_len is_comma text < length text) ⊎ (length text ≤ position_or_len is_comma text)
+    → operand_at (map trimmed (slice_split is_comma text)) 0 ≡ trimmed (before_first is_comma text)
 first_at text (inl l) = rw (slice_split_first is_comma text 0 l) refl
 first_at text (inr l) = rw (slice_split_whole is_comma text l, take_all (position_or_len is_comma text) text l) refl
 
@@ -35,7 +36,8 @@ first_at text (inr l) = rw (slice_split_whole is_comma text l, take_all (positio
 pub operand_at-zero : (text : List ℕ) → operand_at (operands_in text) 0 ≡ trimmed (before_first is_comma text)
 operand_at-zero text = sym (past text 0) ∙ first_at text (cases_lt (position_or_len is_comma text) (length text))
 
-next_at : (text : List ℕ) (i : ℕ) → (position_or_len is_comma text < length text) ⊎ (length text ≤ position_or_len is_comma text) → operand_at (map trimmed (slice_split is_comma text)) (suc i) ≡ operand_at (operands_in (after_first is_comma text)) i
+next_at : (text : List ℕ) (i : ℕ) → (position_or_len is_comma text < length text) ⊎ (length text ≤ position_or_len is_comma text)
+    → operand_at (map trimmed (slice_split is_comma text)) (suc i) ≡ operand_at (operands_in (after_first is_comma text)) i
 next_at text i (inl l) = rw (slice_split_first is_comma text 0 l) (past (after_first is_comma text) i)
 next_at text i (inr l) =
     rw (slice_split_whole is_comma text l, drop_all (position_or_len is_comma text + 1) text (omega arith)) refl

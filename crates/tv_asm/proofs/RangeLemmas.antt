@@ -1,5 +1,6 @@
 -- An image has no more words than it may have, and they are numbers of as many bits as words have.
-use Rattle.std.proofs.Common.{◌≡◌, ℕ, ◌+◌, ◌-◌, ◌*◌, ◌/◌, ◌%◌, ◌^◌, ◌<◌, ◌≤◌, ◌==◌, Bool, true, false, ltb, leb, not, ◌&&◌, ◌||◌, cond, if◌then◌else◌, List, [], ◌∷◌, ◌++◌, length, drop, slice_index, codes, Option, Some, None, Result, Ok, Err, All, refl, ap, arith}
+use Rattle.std.proofs.Common.{◌≡◌, ℕ, ◌+◌, ◌-◌, ◌*◌, ◌/◌, ◌%◌, ◌^◌, ◌<◌, ◌≤◌, ◌==◌, Bool, true, false, ltb, leb, not, ◌&&◌, ◌||◌, cond, if◌then◌else◌, List}
+use Rattle.std.proofs.Common.{[], ◌∷◌, ◌++◌, length, drop, slice_index, codes, Option, Some, None, Result, Ok, Err, All, refl, ap, arith}
 use Rattle.std.specs.Prelude.{IfOk, nat_eq}
 use Rattle.std.proofs.lemmas.Bool.{and_parts, leb-true, ltb-true}
 use Rattle.std.proofs.lemmas.List.{length-append}
@@ -33,7 +34,8 @@ bind_if : {A B E : Type 0} (read : Result A E) (f : A → Result B E) (P : B →
 bind_if (Ok x) f P h = h x refl
 bind_if (Err fault) f P h = tt
 
-check_if : {B E : Type 0} (test : Bool) (fault : E) (f : Unit {0} → Result B E) (P : B → Type 0) → (test ≡ true → IfOk (f tt) P) → IfOk (check test fault >>= f) P
+check_if : {B E : Type 0} (test : Bool) (fault : E) (f : Unit {0} → Result B E) (P : B → Type 0) → (test ≡ true → IfOk (f tt) P)
+    → IfOk (check test fault >>= f) P
 check_if true fault f P h = h refl
 check_if false fault f P h = tt
 
@@ -58,17 +60,20 @@ where_true true x P h = h refl
 where_true false x P h = tt
 
 -- no more words than there may be
-line_fits : (w most number : ℕ) (earlier : List ℕ → Bool) (place : List ℕ → Option ℕ) (words line : List ℕ) → IfOk (with_line w most number earlier place words line) (λ next. length next ≤ most)
+line_fits : (w most number : ℕ) (earlier : List ℕ → Bool) (place : List ℕ → Option ℕ) (words line : List ℕ)
+    → IfOk (with_line w most number earlier place words line) (λ next. length next ≤ most)
 line_fits w most number earlier place words line =
     bind_if (at_line number (line_words w (number == 1) earlier place line)) _ (λ next. length next ≤ most) (λ two _.
     check_if (leb (length words + length two) most) (TooMany number most) _ (λ next. length next ≤ most) (λ test.
     rw (length-append words two) (leb-true (length words + length two) most test)))
 
-lines_fit : (w most : ℕ) (all before : List (List ℕ)) (words : List ℕ) (more : List (List ℕ)) → length words ≤ most → IfOk (image_of w most all before words more) (λ words. length words ≤ most)
+lines_fit : (w most : ℕ) (all before : List (List ℕ)) (words : List ℕ) (more : List (List ℕ)) → length words ≤ most
+    → IfOk (image_of w most all before words more) (λ words. length words ≤ most)
 lines_fit w most all before words [] room = room
 lines_fit w most all before words (line ∷ more) room =
     bind_if (with_line w most (length before + 1) (is_defined before) (address w all) words line) _ (λ words. length words ≤ most) (λ next is.
-    lines_fit w most all (before ++ line ∷ []) next more (known _ (λ words. length words ≤ most) next is (line_fits w most (length before + 1) (is_defined before) (address w all) words line)))
+    lines_fit w most all (before ++ line ∷ []) next more
+    (known _ (λ words. length words ≤ most) next is (line_fits w most (length before + 1) (is_defined before) (address w all) words line)))
 
 pub images_short : ImagesAreShort
 unfolding assembled
@@ -115,7 +120,8 @@ register_below = for_widths (λ w. (r : ℕ) → r < 16 → r < 2 ^ w) (λ r h. 
 
 address_small : (w : ℕ) → IsWidth w → (all : List (List ℕ)) → HasSmall w (address w all)
 address_small w width all = record {
-  each = λ name. where_true (is_defined all name) _ (λ a. a < 2 ^ w) (λ _. below_power w width (2 * (w / 8) * count_by has_instruction (before_first (defines name) all)));
+  each = λ name. where_true (is_defined all name) _ (λ a. a < 2 ^ w)
+      (λ _. below_power w width (2 * (w / 8) * count_by has_instruction (before_first (defines name) all)));
 }
 
 operand_small : (w : ℕ) → IsWidth w → (place : List ℕ → Option ℕ) → HasSmall w place → (text : List ℕ) → IfOk (operand w place text) (λ o. o.a < 2 ^ w)
@@ -124,7 +130,8 @@ operand_small w width place small text =
     either (slice_index text 0 == 114) _ _ (λ o. o.a < 2 ^ w)
     (bind_if (register text) _ (λ o. o.a < 2 ^ w) (λ r is. register_below w width r (known (register text) (λ r. r < 16) r is (register_small text))))
     (either (slice_index text 0 == 95) _ _ (λ o. o.a < 2 ^ w)
-    (bind_if (ok_or (place text) UnknownLabel) _ (λ o. o.a < 2 ^ w) (λ a is. known (ok_or (place text) UnknownLabel) (λ a. a < 2 ^ w) a is (some_if (place text) UnknownLabel (λ a. a < 2 ^ w) (small.each text))))
+    (bind_if (ok_or (place text) UnknownLabel) _ (λ o. o.a < 2 ^ w)
+    (λ a is. known (ok_or (place text) UnknownLabel) (λ a. a < 2 ^ w) a is (some_if (place text) UnknownLabel (λ a. a < 2 ^ w) (small.each text))))
     (bind_if (number w text) _ (λ o. o.a < 2 ^ w) (λ n is. known (number w text) (λ n. n < 2 ^ w) n is (number_small w text))))
 
 -- an instruction's fields, its second word of w bits
@@ -132,12 +139,17 @@ record IsSmall (w : ℕ) (i : Instr) : Type 0 where
   fields : IsInstruction i
   a : i.a < 2 ^ w
 
-fields_small : (w : ℕ) → IsWidth w → (place : List ℕ → Option ℕ) → HasSmall w place → (op : ℕ) → op < 32 → (shape : Shape) (text : ℕ → List ℕ) → IfOk (fields w place op shape text) (IsSmall w)
+fields_small : (w : ℕ) → IsWidth w → (place : List ℕ → Option ℕ) → HasSmall w place → (op : ℕ) → op < 32 → (shape : Shape) (text : ℕ → List ℕ)
+    → IfOk (fields w place op shape text) (IsSmall w)
 fields_small w width place small op used DestSourceA text =
     bind_if (register (text 0)) _ (IsSmall w) (λ dest d.
     bind_if (register (text 1)) _ (IsSmall w) (λ source s.
     bind_if (operand w place (text 2)) _ (IsSmall w) (λ last l. record {
-      fields = record { op = used; dest = known _ (λ r. r < 16) dest d (register_small (text 0)); source = known _ (λ r. r < 16) source s (register_small (text 1)) };
+      fields = record {
+        op = used;
+        dest = known _ (λ r. r < 16) dest d (register_small (text 0));
+        source = known _ (λ r. r < 16) source s (register_small (text 1));
+      };
       a = known _ (λ o. o.a < 2 ^ w) last l (operand_small w width place small (text 2));
     })))
 fields_small w width place small op used DestA text =
@@ -167,7 +179,8 @@ fields_small w width place small op used Unused text = tt
 
 -- the first word of such fields
 abbrev FirstWordFits : ℕ → Type 0
-FirstWordFits w = (op dest source : ℕ) (imm : Bool) → op < 32 → dest < 16 → source < 16 → op * 2 ^ (w - 5) + cond imm (2 ^ (w - 6)) 0 + dest * 2 ^ (w - 10) + source * 2 ^ (w - 14) < 2 ^ w
+FirstWordFits w = (op dest source : ℕ) (imm : Bool) → op < 32 → dest < 16 → source < 16
+    → op * 2 ^ (w - 5) + cond imm (2 ^ (w - 6)) 0 + dest * 2 ^ (w - 10) + source * 2 ^ (w - 14) < 2 ^ w
 
 first_word_16 : FirstWordFits 16
 first_word_16 op dest source true o d s = omega arith
@@ -190,7 +203,8 @@ unfolding with_name
 named_used name row is =
     ltb-true row.op 32 (find-all (λ r. bytes_eq r.name name) (λ r. ltb r.op 32) instructions row opcodes is)
 
-table_small : (w : ℕ) → IsWidth w → (place : List ℕ → Option ℕ) → HasSmall w place → (name : List ℕ) (operands : List (List ℕ)) → IfOk (table_words w place name operands) (AreSmall w)
+table_small : (w : ℕ) → IsWidth w → (place : List ℕ → Option ℕ) → HasSmall w place → (name : List ℕ) (operands : List (List ℕ))
+    → IfOk (table_words w place name operands) (AreSmall w)
 table_small w width place small name operands =
     bind_if (ok_or (with_name name) UnknownName) _ (AreSmall w) (λ row r.
     bind_if (counted operands (operand_count row.shape)) _ (AreSmall w) (λ _ _.
@@ -216,7 +230,8 @@ part_small : (w : ℕ) → IsWidth w → (place : List ℕ → Option ℕ) → H
 part_small w width place small [] = tt
 part_small w width place small (c ∷ cs) = words_small w width place small (c ∷ cs)
 
-line_small : (w : ℕ) → IsWidth w → (first : Bool) (earlier : List ℕ → Bool) (place : List ℕ → Option ℕ) → HasSmall w place → (line : List ℕ) → IfOk (line_words w first earlier place line) (AreSmall w)
+line_small : (w : ℕ) → IsWidth w → (first : Bool) (earlier : List ℕ → Bool) (place : List ℕ → Option ℕ) → HasSmall w place → (line : List ℕ)
+    → IfOk (line_words w first earlier place line) (AreSmall w)
 unfolding line_words
 line_small w width first earlier place small line =
     check_if (list_all is_text (code_of line)) NotText _ (AreSmall w) (λ _.
@@ -229,19 +244,23 @@ told_small : {A : Type 0} (number : ℕ) (read : Result A AsmWhy) (P : A → Typ
 told_small number (Ok x) P h = h
 told_small number (Err why) P h = tt
 
-next_small : (w : ℕ) → IsWidth w → (most number : ℕ) (earlier : List ℕ → Bool) (place : List ℕ → Option ℕ) → HasSmall w place → (words line : List ℕ) → AreSmall w words → IfOk (with_line w most number earlier place words line) (AreSmall w)
+next_small : (w : ℕ) → IsWidth w → (most number : ℕ) (earlier : List ℕ → Bool) (place : List ℕ → Option ℕ) → HasSmall w place → (words line : List ℕ)
+    → AreSmall w words → IfOk (with_line w most number earlier place words line) (AreSmall w)
 next_small w width most number earlier place small words line so_far =
     let said_words = line_words w (number == 1) earlier place line in
     bind_if (at_line number said_words) _ (AreSmall w) (λ two is.
     check_if (leb (length words + length two) most) (TooMany number most) _ (AreSmall w) (λ _.
-    both w words two so_far (known _ (AreSmall w) two is (told_small number said_words (AreSmall w) (line_small w width (number == 1) earlier place small line)))))
+    both w words two so_far (known _ (AreSmall w) two is
+    (told_small number said_words (AreSmall w) (line_small w width (number == 1) earlier place small line)))))
 
-image_small : (w : ℕ) → IsWidth w → (most : ℕ) (all before : List (List ℕ)) (words : List ℕ) (more : List (List ℕ)) → AreSmall w words → IfOk (image_of w most all before words more) (AreSmall w)
+image_small : (w : ℕ) → IsWidth w → (most : ℕ) (all before : List (List ℕ)) (words : List ℕ) (more : List (List ℕ)) → AreSmall w words
+    → IfOk (image_of w most all before words more) (AreSmall w)
 image_small w width most all before words [] so_far = so_far
 image_small w width most all before words (line ∷ more) so_far =
     bind_if (with_line w most (length before + 1) (is_defined before) (address w all) words line) _ (AreSmall w) (λ next is.
     image_small w width most all (before ++ line ∷ []) next more
-    (known _ (AreSmall w) next is (next_small w width most (length before + 1) (is_defined before) (address w all) (address_small w width all) words line so_far)))
+    (known _ (AreSmall w) next is (next_small w width most (length before + 1) (is_defined before) (address w all)
+    (address_small w width all) words line so_far)))
 
 by_index : {E : Type 0} (w : ℕ) (read : Result (List ℕ) E) → IfOk read (AreSmall w) → IfOk read (All (λ word. word < 2 ^ w))
 by_index w (Ok words) h = All-from_recursion (λ word. word < 2 ^ w) words h

@@ -23,7 +23,9 @@ whole (c ∷ cs) h = refl
 abbrev is_line_feed : ℕ → Bool
 is_line_feed c = c == 10
 
-lines_more_at : (text : List ℕ) → 0 < length text → (position_or_len is_line_feed text < length text) ⊎ (length text ≤ position_or_len is_line_feed text) → lines_of (slice_split is_line_feed text) ≡ strip_carriage_return (before_first is_line_feed text) ∷ lines_of (slice_split is_line_feed (after_first is_line_feed text))
+lines_more_at : (text : List ℕ) → 0 < length text → (position_or_len is_line_feed text < length text) ⊎ (length text ≤ position_or_len is_line_feed text)
+    → lines_of (slice_split is_line_feed text)
+    ≡ strip_carriage_return (before_first is_line_feed text) ∷ lines_of (slice_split is_line_feed (after_first is_line_feed text))
 lines_more_at text h (inl l) =
     let pieces = slice_split is_line_feed (after_first is_line_feed text) in
     let some : 0 < length pieces = omega (arith, length-slice_split is_line_feed (after_first is_line_feed text)) in
@@ -34,7 +36,8 @@ lines_more_at text h (inr l) =
     rw (slice_split_whole is_line_feed text l, all, none) (whole text h)
 
 -- a text's first line, and the lines of what stands behind it
-pub lines_more : (text : List ℕ) → 0 < length text → lines text ≡ strip_carriage_return (before_first (λ c. c == 10) text) ∷ lines (after_first (λ c. c == 10) text)
+pub lines_more : (text : List ℕ) → 0 < length text
+    → lines text ≡ strip_carriage_return (before_first (λ c. c == 10) text) ∷ lines (after_first (λ c. c == 10) text)
 unfolding lines
 lines_more text h = lines_more_at text h (cases_lt (position_or_len is_line_feed text) (length text))
 

@@ -1,5 +1,6 @@
 -- The first of a list that is wrong: a constraint that doesn't hold, or a place where two lists differ.
-use Rattle.std.proofs.Common.{◌≡◌, ℕ, zero, suc, ◌+◌, ◌==◌, ◌⊎◌, Bool, true, false, cond, List, [], ◌∷◌, take, Option, Some, None, inl, inr, refl, sym, ap, ◌∙◌, arith}
+use Rattle.std.proofs.Common.{◌≡◌, ℕ, zero, suc, ◌+◌, ◌==◌, ◌⊎◌, Bool, true, false, cond, List, [], ◌∷◌, take, Option, Some, None, inl, inr, refl, sym, ap}
+use Rattle.std.proofs.Common.{◌∙◌, arith}
 use Rattle.std.specs.Prelude.{slice_get}
 use Rattle.std.specs.Option.{option_map}
 use Rattle.std.specs.List.{AllByRecursion}
@@ -25,11 +26,13 @@ some_behind false rest at e = inl (refl, cc)
 -- ---- constraints
 
 -- from one place on the first failure is one place further
-first_failure-suc : (z : List ℕ) (at : ℕ) (constraints : List Constraint) → first_failure z (at + 1) constraints ≡ option_map suc (first_failure z at constraints)
+first_failure-suc : (z : List ℕ) (at : ℕ) (constraints : List Constraint)
+    → first_failure z (at + 1) constraints ≡ option_map suc (first_failure z at constraints)
 first_failure-suc z at [] = refl
 first_failure-suc z at (c ∷ cs) = by_test (holds z c) _ (first_failure z (at + 1) cs) (first_failure-suc z (at + 1) cs)
   where
-    by_test : (test : Bool) (later first : Option ℕ) → later ≡ option_map suc first → cond test later (Some (at + 1)) ≡ option_map suc (cond test first (Some at))
+    by_test : (test : Bool) (later first : Option ℕ) → later ≡ option_map suc first
+        → cond test later (Some (at + 1)) ≡ option_map suc (cond test first (Some at))
     by_test true later first same = same
     by_test false later first same = ap (λ n. Some n) (omega arith)
 
@@ -37,13 +40,15 @@ pub first_failure-cons : (z : List ℕ) (c : Constraint) (cs : List Constraint) 
     first_failure z 0 (c ∷ cs) ≡ cond (holds z c) (option_map suc (first_failure z 0 cs)) (Some 0)
 first_failure-cons z c cs = ap (λ rest. cond (holds z c) rest (Some 0)) (first_failure-suc z 0 cs)
 
-pub all_hold : (z : List ℕ) (constraints : List Constraint) → first_failure z 0 constraints ≡ None → AllByRecursion (λ constraint. Holds constraint z) constraints
+pub all_hold : (z : List ℕ) (constraints : List Constraint) → first_failure z 0 constraints ≡ None
+    → AllByRecursion (λ constraint. Holds constraint z) constraints
 all_hold z [] e = tt
 all_hold z (c ∷ cs) e =
     let both = none_behind (holds z c) (first_failure z 0 cs) (sym (first_failure-cons z c cs) ∙ e) in
     (eqb-true _ _ both.0, all_hold z cs both.1)
 
-pub none_fails : (z : List ℕ) (constraints : List Constraint) → AllByRecursion (λ constraint. Holds constraint z) constraints → first_failure z 0 constraints ≡ None
+pub none_fails : (z : List ℕ) (constraints : List Constraint) → AllByRecursion (λ constraint. Holds constraint z) constraints
+    → first_failure z 0 constraints ≡ None
 none_fails z [] h = refl
 none_fails z (c ∷ cs) h =
     let yes : holds z c ≡ true = eq-eqb _ _ h.0 in

@@ -17,14 +17,19 @@ bind_if : {A B : Type 0} (read : Result A Fault) (f : A → Result B Fault) (P :
 bind_if (Ok x) f P h = h x refl
 bind_if (Err fault) f P h = tt
 
-unless_if : {B : Type 0} (test : Bool) (at : ℕ) (why : ReadWhy) (f : Unit {0} → Result B Fault) (P : B → Type 0) → (test ≡ false → IfOk (f tt) P) → IfOk (unless test at why >>= f) P
+unless_if : {B : Type 0} (test : Bool) (at : ℕ) (why : ReadWhy) (f : Unit {0} → Result B Fault) (P : B → Type 0) → (test ≡ false → IfOk (f tt) P)
+    → IfOk (unless test at why >>= f) P
 unless_if true at why f P h = tt
 unless_if false at why f P h = h refl
 
 checked_roomy : (header : Header) (one : Section) (three : Option Section) → IfOk (checked header one three) r1cs.HasRoom
 checked_roomy header one three =
     unless_if (ltb header.wires (1 + header.outputs + header.inputs)) one.at _ _ r1cs.HasRoom (λ fits.
-    bind_if (elim three [ None ↦ Ok (tt {0}) | Some labels ↦ unless (not (labels.size == 8 * header.wires)) labels.at (BadCount labels.size (8 * header.wires)) ])
+    bind_if (elim three [
+      | None ↦ Ok (tt {0})
+      | Some labels ↦ unless (not (labels.size == 8 * header.wires)) labels.at
+          (BadCount labels.size (8 * header.wires))
+    ])
     (λ _. Ok header) r1cs.HasRoom (λ _ _. ltb-false header.wires (1 + header.outputs + header.inputs) fits))
 
 header_roomy : (file : List ℕ) → IfOk (header_of file) r1cs.HasRoom

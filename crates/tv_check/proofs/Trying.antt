@@ -1,5 +1,6 @@
 -- The verdict by the constraints that were tried.
-use Rattle.std.proofs.Common.{◌≡◌, ◌≢◌, ℕ, ◌+◌, ◌==◌, Bool, true, false, cond, List, [], ◌∷◌, ◌++◌, length, take, Option, Some, None, MatchOption, Result, Ok, Err, refl, sym, ap, ◌∙◌}
+use Rattle.std.proofs.Common.{◌≡◌, ◌≢◌, ℕ, ◌+◌, ◌==◌, Bool, true, false, cond, List, [], ◌∷◌, ◌++◌, length, take, Option, Some, None, MatchOption, Result, Ok}
+use Rattle.std.proofs.Common.{Err, refl, sym, ap, ◌∙◌}
 use Rattle.tv_core.specs.Constraints.{System, Constraint}
 use Rattle.tv_core.specs.Meanings.{holds, first_failure}
 use Rattle.tv_r1cs_read.specs.declared.header.Header.{Header}
@@ -24,7 +25,8 @@ by_failure false public failing first has wants decides is = absurd cc
 pub judge-failure : (header : Header) (z x : List ℕ) (done : List Constraint) (first : Option ℕ) → judge (system_with header []) z x ≡ Yes →
     first_failure z 0 done ≡ first → judge (system_with header done) z x ≡ constraint_verdict first
 judge-failure header z x done first decides is =
-    by_failure (length z == header.wires) (first_difference (1 ∷ x) (take (1 + header.outputs + header.inputs) z)) (first_failure z 0 done) first (length z) header.wires decides is
+    by_failure (length z == header.wires) (first_difference (1 ∷ x) (take (1 + header.outputs + header.inputs) z)) (first_failure z 0 done) first
+    (length z) header.wires decides is
 
 -- the verdict on a system that was read, and what is refused of it
 pub verdict_of-read : (file z x : List ℕ) (system : System) → system_of file ≡ Ok system → verdict_of file z x ≡ Ok (judge system z x)
@@ -47,7 +49,8 @@ fails_still z at k (c ∷ cs) rest is = by_test (holds z c) (fails_still z (at +
 
 by_first : (test : Bool) (public first all : Option ℕ) (has wants : ℕ) → ((k : ℕ) → first ≡ Some k → all ≡ Some k) →
     cond test (public_verdict public (constraint_verdict first)) (WireCount has wants) ≢ Yes →
-    cond test (public_verdict public (constraint_verdict all)) (WireCount has wants) ≡ cond test (public_verdict public (constraint_verdict first)) (WireCount has wants)
+    cond test (public_verdict public (constraint_verdict all)) (WireCount has wants)
+    ≡ cond test (public_verdict public (constraint_verdict first)) (WireCount has wants)
 by_first true None None all has wants still other = absurd (other refl)
 by_first true None (Some k) all has wants still other = rw (still k refl) refl
 by_first true (Some k) first all has wants still other = refl
@@ -57,12 +60,14 @@ by_first false public first all has wants still other = refl
 pub judge-stays : (header : Header) (z x : List ℕ) (done rest : List Constraint) → judge (system_with header done) z x ≢ Yes →
     judge (system_with header (done ++ rest)) z x ≡ judge (system_with header done) z x
 judge-stays header z x done rest other =
-    by_first (length z == header.wires) (first_difference (1 ∷ x) (take (1 + header.outputs + header.inputs) z)) (first_failure z 0 done) (first_failure z 0 (done ++ rest))
+    by_first (length z == header.wires) (first_difference (1 ∷ x) (take (1 + header.outputs + header.inputs) z)) (first_failure z 0 done)
+    (first_failure z 0 (done ++ rest))
     (length z) header.wires (λ k is. fails_still z 0 k done rest is) other
 
 -- the verdict on constraints that are all, or the file's first fault
 pub read_ends : (stopped : Option ReadRefusal) (file z x : List ℕ) (reached : Reached) (header : Header) (rows : List Constraint) (verdict : Verdict) →
-    MatchOption stopped (IsAll reached file rows) (λ why. Refuses why (system_of file)) → reached.header ≡ header → verdict ≡ judge (system_with header rows) z x →
+    MatchOption stopped (IsAll reached file rows) (λ why. Refuses why (system_of file)) → reached.header ≡ header
+    → verdict ≡ judge (system_with header rows) z x →
     MatchOption stopped (verdict_of file z x ≡ Ok verdict) (λ why. Refuses why (verdict_of file z x))
 read_ends None file z x reached header rows verdict all same is =
     let system = rw same at all.system in

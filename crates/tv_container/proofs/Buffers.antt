@@ -1,5 +1,6 @@
 -- What appending bytes held and given does, piece by piece.
-use Rattle.std.proofs.Common.{◌≡◌, ℕ, ◌<◌, ◌∷◌, add-one, get_or, ◌+◌, ◌-◌, ◌≤◌, min, ⊎_elim, List, [], ◌++◌, length, take, drop, option_map, Option, Some, None, Result, Ok, Err, IsErrAnd, append_assoc, append-nil, ap, refl, sym, ◌∙◌, subst, arith, rules, inl, inr, ◌⊎◌}
+use Rattle.std.proofs.Common.{◌≡◌, ℕ, ◌<◌, ◌∷◌, add-one, get_or, ◌+◌, ◌-◌, ◌≤◌, min, ⊎_elim, List, [], ◌++◌, length, take, drop, option_map, Option, Some}
+use Rattle.std.proofs.Common.{None, Result, Ok, Err, IsErrAnd, append_assoc, append-nil, ap, refl, sym, ◌∙◌, subst, arith, rules, inl, inr, ◌⊎◌}
 use Rattle.std.proofs.lemmas.Bool.{cases_lt}
 use Rattle.std.proofs.lemmas.List.{take-append-le, take_min, take-take, take-append-drop, drop-take, drop_all, length-take-le, length-drop}
 use Rattle.std.proofs.lemmas.List.Edits.{take-paste}
@@ -39,7 +40,8 @@ others_held bytes held n size room is =
     ∙ sym (drop-take size (held - size) bytes)
     ∙ ap (λ k. drop size (take k bytes)) whole
     ∙ ⊎_elim
-    (λ (few : held < n). drop_all size (take held bytes) (omega (arith, is, few, length-take-le held bytes room)) ∙ sym (drop_all n (take held bytes) (omega (arith, few, length-take-le held bytes room))))
+    (λ (few : held < n). drop_all size (take held bytes) (omega (arith, is, few, length-take-le held bytes room))
+    ∙ sym (drop_all n (take held bytes) (omega (arith, few, length-take-le held bytes room))))
     (λ (enough : n ≤ held). let same : size ≡ n = omega (arith, is, enough) in ap (λ k. drop k (take held bytes)) same)
     (cases_lt held n)
 
@@ -77,7 +79,8 @@ all_held outside name bytes held same = record {
 
 -- a first part was appended, and the rest is held; or that was refused
 pub call_passes : (old new : Outside) (name bytes front held : List ℕ) (written : Result (Unit {0}) FileRefusal) (outcome : Result (Unit {0}) SinkFault) →
-    Appends old new name front written → bytes ≡ front ++ held → MatchResult written (λ x. outcome ≡ Ok x) (λ why. IsErrAnd outcome (λ fault. fault ≡ sink_fault why)) →
+    Appends old new name front written → bytes ≡ front ++ held
+    → MatchResult written (λ x. outcome ≡ Ok x) (λ why. IsErrAnd outcome (λ fault. fault ≡ sink_fault why)) →
     PassesOn old new name bytes held outcome
 call_passes old new name bytes front held (Ok unit) outcome call split is = rw is (record {
   done = record { front = front; split = split; contents = call.done };
@@ -201,7 +204,8 @@ took_then {name} {old} {mid} {new} {before} {between} {after} {first} {second} p
     by_outcome : (outcome : Result (Unit {0}) SinkFault) → between.outcome ≡ outcome → PassesOn old mid name (before.buffer ++ first) between.buffer outcome →
         PassesOn old new name (before.buffer ++ (first ++ second)) after.buffer after.outcome
     by_outcome (Ok unit) e passes = passes_then old mid new name before.buffer first second between.buffer after.buffer after.outcome passes (q.passes e)
-    by_outcome (Err fault) e passes = let late = q.lost fault e in rw (late.0, late.1) (passes_cut old mid name before.buffer first second between.buffer after.buffer fault passes)
+    by_outcome (Err fault) e passes = let late = q.lost fault e in
+        rw (late.0, late.1) (passes_cut old mid name before.buffer first second between.buffer after.buffer fault passes)
 
 -- bytes are taken, and then those held are appended
 pub took_last : {name : List ℕ} {old mid new : Outside} {before between after : Pending} {bytes : List ℕ} →
@@ -220,9 +224,11 @@ pub took_none : {name : List ℕ} {outside : Outside} {before : Pending} → Too
 took_none {name} {outside} {before} = pushed (sym (append-nil before.buffer))
 
 -- the first bytes held were appended, or that was refused
-pub called : {name : List ℕ} {old new : Outside} {before : Pending} {rest : List ℕ} {outcome : Result (Unit {0}) SinkFault} (n : ℕ) (written : Result (Unit {0}) FileRefusal) →
+pub called : {name : List ℕ} {old new : Outside} {before : Pending} {rest : List ℕ} {outcome : Result (Unit {0}) SinkFault} (n : ℕ)
+    (written : Result (Unit {0}) FileRefusal) →
     is_ok before.outcome ≡ true → Appends old new name (take n before.buffer) written → rest ≡ drop n before.buffer →
-    MatchResult written (λ x. outcome ≡ Ok x) (λ why. IsErrAnd outcome (λ fault. fault ≡ sink_fault why)) → Took name old before new (record { buffer = rest; outcome = outcome }) []
+    MatchResult written (λ x. outcome ≡ Ok x) (λ why. IsErrAnd outcome (λ fault. fault ≡ sink_fault why))
+    → Took name old before new (record { buffer = rest; outcome = outcome }) []
 called {name} {old} {new} {before} {rest} {outcome} n written ok call is answer = record {
   passes = λ _. call_passes old new name (before.buffer ++ []) (take n before.buffer) rest written outcome call
       (append-nil before.buffer ∙ sym (take-append-drop n before.buffer) ∙ ap (λ l. take n before.buffer ++ l) (sym is)) answer;
@@ -247,5 +253,7 @@ module _ {X : Type 0} (f : X → List ℕ) (xs : List X) (i : ℕ) (d : X) where
 
   -- one more of the items of a list
   pub each_took : {name : List ℕ} {old mid new : Outside} {before between after : Pending} {bytes : List ℕ} → i < length xs → bytes ≡ f (get_or xs i d) →
-      Took name old before mid between (flat_map f (take i xs)) → Took name mid between new after bytes → Took name old before new after (flat_map f (take (i + 1) xs))
-  each_took {name} {old} {mid} {new} {before} {between} {after} {bytes} h is p q = subst (λ l. Took name old before new after l) (sym (each_more bytes h is)) (took_then p q)
+      Took name old before mid between (flat_map f (take i xs)) → Took name mid between new after bytes
+      → Took name old before new after (flat_map f (take (i + 1) xs))
+  each_took {name} {old} {mid} {new} {before} {between} {after} {bytes} h is p q = subst (λ l. Took name old before new after l) (sym (each_more bytes h is))
+      (took_then p q)

@@ -1,5 +1,6 @@
 -- Bytes that stand at a place of a file, and what a reader makes of them.
-use Rattle.std.proofs.Common.{◌≡◌, ℕ, suc, ◌+◌, ◌^◌, ◌<◌, ◌≤◌, List, [], ◌∷◌, ◌++◌, length, take, drop, ◌-◌, true, false, Ok, append_assoc, append-nil, ap, refl, sym, ◌∙◌, arith}
+use Rattle.std.proofs.Common.{◌≡◌, ℕ, suc, ◌+◌, ◌^◌, ◌<◌, ◌≤◌, List, [], ◌∷◌, ◌++◌, length, take, drop, ◌-◌, true, false, Ok, append_assoc, append-nil, ap}
+use Rattle.std.proofs.Common.{refl, sym, ◌∙◌, arith}
 use Rattle.std.proofs.lemmas.Bool.Decides.{nat_tests}
 use Rattle.std.proofs.lemmas.List.{length-append}
 use Rattle.std.proofs.Math.Seq.{drop-append_seam, take-append_seam}
@@ -116,7 +117,8 @@ section_read singles n at next kind content file sections a kind_short short onc
     let size = length content in
     let head = at_first file at (section_head kind size) content a in
     let rest = at_rest file at 4 (at + 4) (four_bytes kind) (eight_bytes size) head (length-four_bytes kind) refl in
-    let end : at + 12 + size ≤ length file = omega (arith, length-section_head kind size, at_within file at (section_bytes kind content) a, length-append (section_head kind size) content) in
+    let end : at + 12 + size ≤ length file = omega
+    (arith, length-section_head kind size, at_within file at (section_bytes kind content) a, length-append (section_head kind size) content) in
     let kind_is = number_of_four file at kind (at_first file at (four_bytes kind) (eight_bytes size) head) kind_short in
     let size_is = number_of_eight file (at + 4) size rest (omega arith) in
     sections_from-next singles (suc n) n at file sections (record { kind = kind; at = at + 12; size = size }) (omega arith)
@@ -124,8 +126,10 @@ section_read singles n at next kind content file sections a kind_short short onc
     ∙ ap (λ p. sections_from singles file n p (sections ++ record { kind = kind; at = at + 12; size = size } ∷ [])) there
 
 -- the field that was written is this one
-pub field_read : (file : List ℕ) (wants : ℕ) (one : Section) → At file one.at field_bytes → one.size ≡ wants → 12 ≤ wants → this_field file wants one ≡ Ok (tt {0})
+pub field_read : (file : List ℕ) (wants : ℕ) (one : Section) → At file one.at field_bytes → one.size ≡ wants → 12 ≤ wants
+    → this_field file wants one ≡ Ok (tt {0})
 field_read file wants one a size room =
     let eight = number_of_four file one.at 8 (at_first file one.at (four_bytes 8) (eight_bytes P) a) (omega arith) in
-    let prime = number_of_eight file (one.at + 4) P (at_rest file one.at 4 (one.at + 4) (four_bytes 8) (eight_bytes P) a (length-four_bytes 8) refl) (omega arith) in
+    let prime = number_of_eight file (one.at + 4) P (at_rest file one.at 4 (one.at + 4) (four_bytes 8) (eight_bytes P) a (length-four_bytes 8) refl)
+    (omega arith) in
     this_field-prime file wants one (omega arith) eight size ∙ rw prime refl

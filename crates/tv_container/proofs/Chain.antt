@@ -16,7 +16,8 @@ made (Ok part) next value e = (part, refl, e)
 made (Err fault) next value e = cc
 
 -- a refusal of the first step is one of all
-pub refuses_first : {A B : Type 0} (why : ReadRefusal) (first : Result A places.Fault) (next : A → Result B places.Fault) → Refuses why first → Refuses why (first >>= next)
+pub refuses_first : {A B : Type 0} (why : ReadRefusal) (first : Result A places.Fault) (next : A → Result B places.Fault) → Refuses why first
+    → Refuses why (first >>= next)
 refuses_first why first next refuses = record { bad = λ at what e. rw (refuses.bad at what e) refl }
 
 -- what is wrong is told

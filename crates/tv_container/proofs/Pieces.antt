@@ -1,5 +1,6 @@
 -- Pieces of a file, and a read that gives one.
-use Rattle.std.proofs.Common.{◌≡◌, ℕ, ◌+◌, ◌-◌, ◌^◌, ◌<◌, ◌≤◌, nat_le, nat_eq, ⊎_elim, List, ◌++◌, length, take, drop, Option, Some, None, Ok, arith, ap, refl, sym, ◌∙◌}
+use Rattle.std.proofs.Common.{◌≡◌, ℕ, ◌+◌, ◌-◌, ◌^◌, ◌<◌, ◌≤◌, nat_le, nat_eq, ⊎_elim, List, ◌++◌, length, take, drop, Option, Some, None, Ok, arith, ap}
+use Rattle.std.proofs.Common.{refl, sym, ◌∙◌}
 use Rattle.std.proofs.lemmas.List.{take-append-le, take-take, drop-take, drop-drop, length-take, length-take-le, length-drop}
 use Rattle.std.proofs.lemmas.Bool.Decides.{nat_tests}
 use Rattle.std.proofs.lemmas.Bool.{cases_lt}
@@ -82,13 +83,15 @@ moved buffer file held from at room piece holds =
     let left : held - (at - from) ≤ length (drop (at - from) buffer) = omega (arith, length-drop (at - from) buffer, holds.to, holds.from) in
     let none : 0 + (held - (at - from)) ≡ held - (at - from) = omega arith in
     let front : take (held - (at - from)) (copy_within buffer (at - from) held 0) ≡ take (held - (at - from)) (drop (at - from) buffer)
-    = ap (λ n. take n (copy_within buffer (at - from) held 0)) (sym none) ∙ take-paste buffer 0 (drop (at - from) buffer) (held - (at - from)) (omega arith) left in
+    = ap (λ n. take n (copy_within buffer (at - from) held 0)) (sym none)
+    ∙ take-paste buffer 0 (drop (at - from) buffer) (held - (at - from)) (omega arith) left in
     record { same = rw front (rest_held buffer file held from at (held - (at - from)) room piece holds refl) }
 
 -- bytes at the front of a buffer are a piece of the file exactly where they are the file's at its place
 pub front_of : (buffer file : List ℕ) (held at place : ℕ) → held ≤ length buffer → IsPiece (record { at = at; bytes = take held buffer }) file →
     at ≡ place → take held buffer ≡ take held (drop place file)
-front_of buffer file held at place room piece is = piece.same ∙ ap (λ n. take n (drop at file)) (length-take-le held buffer room) ∙ ap (λ p. take held (drop p file)) is
+front_of buffer file held at place room piece is = piece.same ∙ ap (λ n. take n (drop at file)) (length-take-le held buffer room)
+    ∙ ap (λ p. take held (drop p file)) is
 
 pub is_piece : (buffer file : List ℕ) (held at place : ℕ) → held ≤ length buffer → take held buffer ≡ take held (drop place file) →
     at ≡ place → IsPiece (record { at = at; bytes = take held buffer }) file

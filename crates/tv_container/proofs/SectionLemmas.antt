@@ -1,5 +1,6 @@
 -- Sections, one behind the others.
-use Rattle.std.proofs.Common.{◌≡◌, ℕ, zero, suc, ◌+◌, ◌≤◌, ◌<◌, List, [], ◌∷◌, ◌++◌, length, Bool, true, false, cond, eqb, Option, Some, None, Result, Ok, Err, refl, ◌∙◌, add-one, nat_lt, nat_le, not, ◌==◌, arith}
+use Rattle.std.proofs.Common.{◌≡◌, ℕ, zero, suc, ◌+◌, ◌≤◌, ◌<◌, List, [], ◌∷◌, ◌++◌, length, Bool, true, false, cond, eqb, Option, Some, None, Result, Ok}
+use Rattle.std.proofs.Common.{Err, refl, ◌∙◌, add-one, nat_lt, nat_le, not, ◌==◌, arith}
 use Rattle.std.proofs.lemmas.Bool.Decides.{nat_tests}
 use Rattle.std.specs.Option.{option_or}
 use Rattle.tv_core.specs.declared.field.TheConstants.{P}
@@ -21,7 +22,8 @@ section_of-append kind [] section = refl
 section_of-append kind (first ∷ sections) section = by_test (eqb first.kind kind) (section_of-append kind sections section)
   where
     by_test : (is : Bool) → section_of kind (sections ++ section ∷ []) ≡ option_or (section_of kind sections) (section_of kind (section ∷ [])) →
-        cond is (Some first) (section_of kind (sections ++ section ∷ [])) ≡ option_or (cond is (Some first) (section_of kind sections)) (section_of kind (section ∷ []))
+        cond is (Some first) (section_of kind (sections ++ section ∷ []))
+        ≡ option_or (cond is (Some first) (section_of kind sections)) (section_of kind (section ∷ []))
     by_test true _ = refl
     by_test false others = others
 
@@ -119,7 +121,10 @@ section_at-fits singles at file sections section read =
 -- one section more that fits
 AllFit-push : (file : List ℕ) (sections : List Section) (section : Section) → AllFit file sections → section.at + section.size ≤ places file →
     AllFit file (sections ++ section ∷ [])
-AllFit-push file sections section fit more = record { fits = λ kind found e. by_look_up kind found (section_of kind sections) refl (eqb section.kind kind) (rw (section_of-append kind sections section) at e) }
+AllFit-push file sections section fit more = record {
+  fits = λ kind found e. by_look_up kind found (section_of kind sections) refl (eqb section.kind kind)
+      (rw (section_of-append kind sections section) at e);
+}
   where
     by_look_up : (kind : ℕ) (found : Section) (held : Option Section) → section_of kind sections ≡ held → (same : Bool) →
         option_or (section_of kind sections) (cond same (Some section) None) ≡ Some found → found.at + found.size ≤ places file
@@ -137,7 +142,8 @@ sections_from-fit singles zero at file sections list fit e = by_test (eqb at (le
     by_test true here = let same : sections ≡ list = cc in rw (← same) fit
     by_test false past = cc
 sections_from-fit singles (suc n) at file sections list fit e =
-    let step = made (section_at singles file at sections) (λ section. sections_from singles file n (section.at + section.size) (sections ++ section ∷ [])) list e in
+    let step = made (section_at singles file at sections)
+    (λ section. sections_from singles file n (section.at + section.size) (sections ++ section ∷ [])) list e in
     sections_from-fit singles n (step.0.at + step.0.size) file (sections ++ step.0 ∷ []) list
     (AllFit-push file sections step.0 fit (section_at-fits singles at file sections step.0 step.1)) step.2
 

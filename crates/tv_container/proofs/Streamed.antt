@@ -17,7 +17,8 @@ use Rattle.tv_files.specs.declared.calls.FileRefusal.{FileRefusal}
 use Rattle.tv_files.specs.declared.calls.FileRefusal.TheVariants as file
 
 -- a count that rose in what writes rose outside, however that is seen
-pub caused_seen : {S : Type 0} (seen : S → Outside) (old new : S) (fault : SinkFault) → IsCause fault (λ s. (seen s).write_faults) (λ s. (seen s).wants) old new → Caused fault (seen old) (seen new)
+pub caused_seen : {S : Type 0} (seen : S → Outside) (old new : S) (fault : SinkFault) → IsCause fault (λ s. (seen s).write_faults) (λ s. (seen s).wants) old new
+    → Caused fault (seen old) (seen new)
 caused_seen seen old new sink.Failed rose = rose
 caused_seen seen old new sink.Memory rose = rose
 
@@ -81,14 +82,25 @@ module _ (old begun new : Outside) (name : List ℕ) (creates : Creates old begu
 
   -- the last of its bytes was written
   pub streamed_whole : (bytes : List ℕ) (done : Unit {0}) → HasNow new name bytes → SameCounts begun new → IsStreamed old new name bytes (Ok done)
-  streamed_whole bytes done now same = record { whole = whole_by bytes old.contents refl now; part = tt; cause = counts_then creates.counts same; only = only_writes }
+  streamed_whole bytes done now same = record {
+    whole = whole_by bytes old.contents refl now;
+    part = tt;
+    cause = counts_then creates.counts same;
+    only = only_writes;
+  }
 
   -- or one of them was refused
   pub streamed_part : (bytes : List ℕ) (fault : SinkFault) → HasFront new name bytes → Caused fault begun new → IsStreamed old new name bytes (Err fault)
-  streamed_part bytes fault front cause = record { whole = tt; part = part_by bytes old.contents refl front; cause = cause_then old begun new (Err fault) creates.counts cause; only = only_writes }
+  streamed_part bytes fault front cause = record {
+    whole = tt;
+    part = part_by bytes old.contents refl front;
+    cause = cause_then old begun new (Err fault) creates.counts cause;
+    only = only_writes;
+  }
 
 -- bytes were appended, and then the last of them, or these were refused
-pub streamed_last : (old begun mid new : Outside) (name bytes : List ℕ) (result : Result (Unit {0}) SinkFault) → Creates old begun name (Ok tt) → OnlyAppends begun mid name → SameCounts begun mid → OnlyAppends mid new name →
+pub streamed_last : (old begun mid new : Outside) (name bytes : List ℕ) (result : Result (Unit {0}) SinkFault) → Creates old begun name (Ok tt)
+    → OnlyAppends begun mid name → SameCounts begun mid → OnlyAppends mid new name →
     OnOk result (HasNow new name bytes) → OnErr result (HasFront new name bytes) → HasCause mid new result → IsStreamed old new name bytes result
 streamed_last old begun mid new name bytes (Ok done) creates appends same last now front cause =
     streamed_whole old begun new name creates (appends_then begun mid new name appends last) bytes done now (counts_then same cause)

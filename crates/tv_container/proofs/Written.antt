@@ -1,5 +1,6 @@
 -- Bytes that are written to a file a piece at a time, and what of them it has.
-use Rattle.std.proofs.Common.{◌≡◌, ℕ, ◌+◌, ◌≤◌, min, List, ◌++◌, length, take, Option, Some, None, option_map, Result, Err, cond, append_assoc, ap, refl, sym, ◌∙◌, arith}
+use Rattle.std.proofs.Common.{◌≡◌, ℕ, ◌+◌, ◌≤◌, min, List, ◌++◌, length, take, Option, Some, None, option_map, Result, Err, cond, append_assoc, ap, refl, sym}
+use Rattle.std.proofs.Common.{◌∙◌, arith}
 use Rattle.std.proofs.lemmas.List.{take-append-le, take_min}
 use Rattle.std.proofs.Math.Seq.{take-append-add, take-append_seam}
 use Rattle.std.proofs.lemmas.Slice.Eq.{bytes_eq-Decides}
@@ -68,7 +69,8 @@ is_cause faults wants old new file.Failed result fault refused is failed memory 
 is_cause faults wants old new file.Memory result fault refused is failed memory = rw is (memory refused)
 
 -- the cause of a fault is that of what writes, however it sees the outside
-pub cause_seen : {S : Type 0} (seen : S → Outside) (old new : S) (fault : SinkFault) → HasCause (seen old) (seen new) (Err fault) → IsCause fault (λ s. (seen s).write_faults) (λ s. (seen s).wants) old new
+pub cause_seen : {S : Type 0} (seen : S → Outside) (old new : S) (fault : SinkFault) → HasCause (seen old) (seen new) (Err fault)
+    → IsCause fault (λ s. (seen s).write_faults) (λ s. (seen s).wants) old new
 cause_seen seen old new sink.Failed rose = rose
 cause_seen seen old new sink.Memory rose = rose
 
@@ -84,5 +86,6 @@ front_front outside name bytes rest whole has is = λ files told.
     let had = has files told in
     let within : min had.0 (length bytes) ≤ length bytes = omega arith in (
       min had.0 (length bytes),
-      had.1 ∙ ap Some (sym (take-append-le (min had.0 (length bytes)) bytes rest within ∙ take_min had.0 bytes) ∙ ap (take (min had.0 (length bytes))) (sym is)),
+      had.1 ∙ ap Some (sym (take-append-le (min had.0 (length bytes)) bytes rest within ∙ take_min had.0 bytes)
+          ∙ ap (take (min had.0 (length bytes))) (sym is)),
     )

@@ -1,5 +1,6 @@
 -- Two words and their line: by name, and as they are.
-use Rattle.std.proofs.Common.{◌≡◌, ℕ, ◌+◌, ◌-◌, ◌*◌, ◌/◌, ◌%◌, ◌^◌, ◌<◌, ◌≤◌, ◌==◌, nat_le, nat_lt, Bool, true, false, not, ◌&&◌, ◌||◌, cond, if◌then◌else◌, List, [], ◌∷◌, ◌++◌, length, map, slice_index, codes, decimal, Option, Some, None, Ok, refl, sym, ap, ◌∙◌, arith}
+use Rattle.std.proofs.Common.{◌≡◌, ℕ, ◌+◌, ◌-◌, ◌*◌, ◌/◌, ◌%◌, ◌^◌, ◌<◌, ◌≤◌, ◌==◌, nat_le, nat_lt, Bool, true, false, not, ◌&&◌, ◌||◌, cond, if◌then◌else◌}
+use Rattle.std.proofs.Common.{List, [], ◌∷◌, ◌++◌, length, map, slice_index, codes, decimal, Option, Some, None, Ok, refl, sym, ap, ◌∙◌, arith}
 use Rattle.std.proofs.lemmas.Bool.{and_parts, eqb-true, leb-true, ltb-true, not-true}
 use Rattle.std.proofs.lemmas.Bool.Decides.{nat_tests}
 use Rattle.std.proofs.lemmas.List.{append-nil, append_assoc}
@@ -16,12 +17,15 @@ use Rattle.tv_isa.specs.declared.operation.Shape.TheVariants.{DestSourceA, DestA
 use Rattle.tv_word.proofs.DecimalLemmas.{is_decimal_byte, IsDecimal-decimal}
 use Rattle.tv_word.proofs.WidthLaws.{for_widths}
 use Rattle.tv_word.specs.Widths.{IsWidth}
-use Rattle.tv_disasm.specs.Disassembly.{hexadecimal, instruction_text, last_text, leaves_zero, operand_texts, raw_text, register_text, row_text, tells_all, two_words_text}
+use Rattle.tv_disasm.specs.Disassembly.{hexadecimal, instruction_text, last_text, leaves_zero, operand_texts, raw_text, register_text, row_text, tells_all}
+use Rattle.tv_disasm.specs.Disassembly.{two_words_text}
 use Rattle.tv_disasm.proofs.LineLemmas.{AreOperands, IsLine, spelled_line, spelled-IsLine, words_of-line}
-use Rattle.tv_disasm.proofs.NumberLemmas.{first-decimal, IsDecimal-IsWord, IsHexadecimal-hexadecimal, number-decimal, number-hexadecimal, register-register_text, register-word, word_wide}
+use Rattle.tv_disasm.proofs.NumberLemmas.{first-decimal, IsDecimal-IsWord, IsHexadecimal-hexadecimal, number-decimal, number-hexadecimal}
+use Rattle.tv_disasm.proofs.NumberLemmas.{register-register_text, register-word, word_wide}
 use Rattle.tv_disasm.proofs.WordLemmas.{apart, is_word_byte, IsWord}
 
-step_passes : {A : Type 0} (p : A → Bool) (x y : A) (b : Bool) (rest : Option A) → p y ≡ b → cond b (Some y) rest ≡ Some x → (rest ≡ Some x → p x ≡ true) → p x ≡ true
+step_passes : {A : Type 0} (p : A → Bool) (x y : A) (b : Bool) (rest : Option A) → p y ≡ b → cond b (Some y) rest ≡ Some x → (rest ≡ Some x → p x ≡ true)
+    → p x ≡ true
 step_passes p x y true rest e f more = cc
 step_passes p x y false rest e f more = more f
 
@@ -30,7 +34,8 @@ find-passes : {A : Type 0} (p : A → Bool) (xs : List A) (x : A) → find p xs 
 find-passes p [] x f = cc
 find-passes p (y ∷ ys) x f = step_passes p x y (p y) (find p ys) refl f (find-passes p ys x)
 
-step_same : {A B : Type 0} (f g : A → B) (x y : A) (b : Bool) (rest : Option A) → f y ≡ g y → cond b (Some y) rest ≡ Some x → (rest ≡ Some x → f x ≡ g x) → f x ≡ g x
+step_same : {A B : Type 0} (f g : A → B) (x y : A) (b : Bool) (rest : Option A) → f y ≡ g y → cond b (Some y) rest ≡ Some x → (rest ≡ Some x → f x ≡ g x)
+    → f x ≡ g x
 step_same f g x y true rest e found more = cc
 step_same f g x y false rest e found more = more found
 
@@ -71,22 +76,29 @@ pub with_opcode-IsRow : (op : ℕ) (row : Row) → with_opcode op ≡ Some row �
 unfolding with_opcode
 with_opcode-IsRow op row h =
     let p = λ (r : Row). r.op == op in
-    let word = and_parts (nat_lt 0 (length row.name)) (list_all is_word_byte row.name) (find-all p (λ r. nat_lt 0 (length r.name) && list_all is_word_byte r.name) instructions row names_words h) in
+    let word = and_parts (nat_lt 0 (length row.name)) (list_all is_word_byte row.name)
+    (find-all p (λ r. nat_lt 0 (length r.name) && list_all is_word_byte r.name) instructions row names_words h) in
     record {
       op = eqb-true row.op op (find-passes p instructions row h);
       found = find-same p (λ r. with_name r.name) (λ r. Some r) instructions row names_found h;
       name = record { some = ltb-true 0 (length row.name) word.0; bytes = word.1 };
-      short = leb-true (length row.name + 5 * operand_count row.shape) 20 (find-all p (λ r. nat_le (length r.name + 5 * operand_count r.shape) 20) instructions row names_short h);
+      short = leb-true (length row.name + 5 * operand_count row.shape) 20
+          (find-all p (λ r. nat_le (length r.name + 5 * operand_count r.shape) 20) instructions row names_short h);
       not_raw = not-true (bytes_eq row.name (codes ".raw")) (find-all p (λ r. not (bytes_eq r.name (codes ".raw"))) instructions row names_not_raw h);
     }
 
 -- the operand A, read back
-operand-text : (w : ℕ) → IsWidth w → (address : List ℕ → Option ℕ) (imm : Bool) (a : ℕ) → (imm || nat_lt a 16) ≡ true → a < 2 ^ w → operand w address (if imm then decimal a else register_text a) ≡ Ok (record { imm = imm; a = a })
+operand-text : (w : ℕ) → IsWidth w → (address : List ℕ → Option ℕ) (imm : Bool) (a : ℕ) → (imm || nat_lt a 16) ≡ true → a < 2 ^ w
+    → operand w address (if imm then decimal a else register_text a) ≡ Ok (record { imm = imm; a = a })
 unfolding operand
 operand-text w width address true a h below =
     let wide = word_wide w width a below in
     let first = first-decimal a (decimal a) (IsDecimal-decimal a wide) in
-    rw (apart is_decimal_byte (slice_index (decimal a) 0) 114 first refl, apart is_decimal_byte (slice_index (decimal a) 0) 95 first refl, number-decimal w a below wide) refl
+    rw (
+      apart is_decimal_byte (slice_index (decimal a) 0) 114 first refl,
+      apart is_decimal_byte (slice_index (decimal a) 0) 95 first refl,
+      number-decimal w a below wide,
+    ) refl
 operand-text w width address false a h below = rw (register-register_text a (ltb-true a 16 h)) refl
 
 -- an instruction whose text tells all of it
@@ -105,7 +117,13 @@ last-word w width i h false e = rw e (register-word i.a (word_wide w width i.a h
 -- its operands are words
 pub operand_texts-words : (w : ℕ) → IsWidth w → (shape : Shape) (i : Instr) → IsTold w shape i → AreOperands (operand_texts shape i)
 operand_texts-words w width DestSourceA i h =
-    record { some = omega arith; words = (register-word i.dest (omega (arith, h.dest)), (register-word i.source (omega (arith, h.source)), (last-word w width i h.a i.imm refl, tt))) }
+    record {
+      some = omega arith;
+      words = (
+        register-word i.dest (omega (arith, h.dest)),
+        (register-word i.source (omega (arith, h.source)), (last-word w width i h.a i.imm refl, tt)),
+      );
+    }
 operand_texts-words w width DestA i h =
     record { some = omega arith; words = (register-word i.dest (omega (arith, h.dest)), (last-word w width i h.a i.imm refl, tt)) }
 operand_texts-words w width SourceA i h =
@@ -126,7 +144,8 @@ texts-counted ADest i = refl
 texts-counted Unused i = refl
 
 -- its fields are read back
-fields-texts : (w : ℕ) → IsWidth w → (address : List ℕ → Option ℕ) (shape : Shape) (i : Instr) → IsTold w shape i → fields w address i.op shape (operand_at (operand_texts shape i)) ≡ Ok i
+fields-texts : (w : ℕ) → IsWidth w → (address : List ℕ → Option ℕ) (shape : Shape) (i : Instr) → IsTold w shape i
+    → fields w address i.op shape (operand_at (operand_texts shape i)) ≡ Ok i
 fields-texts w width address DestSourceA i h =
     rw (register-register_text i.dest h.dest, register-register_text i.source h.source, operand-text w width address i.imm i.a h.last h.a) refl
 fields-texts w width address DestA i h =
@@ -153,14 +172,17 @@ bit-value b high h = grind (arith, nat_tests)
 
 -- the fields put together again
 abbrev IsWhole : ℕ → Type 0
-IsWhole w = (h : ℕ) → h < 2 ^ w → h % 2 ^ (w - 14) ≡ 0 → h / 2 ^ (w - 5) % 2 ^ 5 * 2 ^ (w - 5) + h / 2 ^ (w - 6) % 2 * 2 ^ (w - 6) + h / 2 ^ (w - 10) % 2 ^ 4 * 2 ^ (w - 10) + h / 2 ^ (w - 14) % 2 ^ 4 * 2 ^ (w - 14) ≡ h
+IsWhole w = (h : ℕ) → h < 2 ^ w → h % 2 ^ (w - 14) ≡ 0
+    → h / 2 ^ (w - 5) % 2 ^ 5 * 2 ^ (w - 5) + h / 2 ^ (w - 6) % 2 * 2 ^ (w - 6) + h / 2 ^ (w - 10) % 2 ^ 4 * 2 ^ (w - 10) + h / 2 ^ (w - 14) % 2 ^ 4 * 2 ^
+    (w - 14) ≡ h
 
 whole-word : (w : ℕ) → IsWidth w → IsWhole w
 whole-word = for_widths IsWhole (λ h below low. omega arith) (λ h below low. omega arith)
 
 encode-decode : (w : ℕ) → IsWidth w → (h a : ℕ) → h < 2 ^ w → h % 2 ^ (w - 14) ≡ 0 → encode w (decode w h a) ≡ h ∷ a ∷ []
 encode-decode w width h a below low =
-    let bit : cond (h / 2 ^ (w - 6) % 2 == 1) (2 ^ (w - 6)) 0 ≡ h / 2 ^ (w - 6) % 2 * 2 ^ (w - 6) = bit-value (h / 2 ^ (w - 6) % 2) (2 ^ (w - 6)) (omega arith) in
+    let bit : cond (h / 2 ^ (w - 6) % 2 == 1) (2 ^ (w - 6)) 0
+    ≡ h / 2 ^ (w - 6) % 2 * 2 ^ (w - 6) = bit-value (h / 2 ^ (w - 6) % 2) (2 ^ (w - 6)) (omega arith) in
     rw bit (ap (λ word. word ∷ a ∷ []) (whole-word w width h below low))
 
 -- a line of two words: what it is made of, and what it says
@@ -168,12 +190,14 @@ pub record IsLineOf (w h a : ℕ) (text : List ℕ) : Type 0 where
   pub line : IsLine text
   pub words : (address : List ℕ → Option ℕ) → words_of w address text ≡ Ok (h ∷ a ∷ [])
 
-table_words-told : (w : ℕ) → IsWidth w → (address : List ℕ → Option ℕ) (row : Row) (i : Instr) → IsRow i.op row → IsTold w row.shape i → table_words w address row.name (operand_texts row.shape i) ≡ Ok (encode w i)
+table_words-told : (w : ℕ) → IsWidth w → (address : List ℕ → Option ℕ) (row : Row) (i : Instr) → IsRow i.op row → IsTold w row.shape i
+    → table_words w address row.name (operand_texts row.shape i) ≡ Ok (encode w i)
 table_words-told w width address row i r t =
     rw (r.found, texts-counted row.shape i, r.op, fields-texts w width address row.shape i t) refl
 
 -- an instruction by its name
-instruction-IsLineOf : (w : ℕ) → IsWidth w → (h a : ℕ) (row : Row) → h < 2 ^ w → h % 2 ^ (w - 14) ≡ 0 → IsRow (decode w h a).op row → IsTold w row.shape (decode w h a) → IsLineOf w h a (instruction_text row.name row.shape (decode w h a))
+instruction-IsLineOf : (w : ℕ) → IsWidth w → (h a : ℕ) (row : Row) → h < 2 ^ w → h % 2 ^ (w - 14) ≡ 0 → IsRow (decode w h a).op row
+    → IsTold w row.shape (decode w h a) → IsLineOf w h a (instruction_text row.name row.shape (decode w h a))
 instruction-IsLineOf w width h a row below low r t =
     let i = decode w h a in
     let operands = operand_texts row.shape i in
@@ -198,7 +222,13 @@ raw-operands : (w : ℕ) → IsWidth w → (h a : ℕ) → a < 2 ^ w → AreOper
 unfolding raw_operands
 raw-operands w width h a below =
     let x = IsHexadecimal-hexadecimal (w / 4) h in
-    record { some = omega arith; words = (record { some = omega arith; bytes = x.bytes }, (IsDecimal-IsWord a (decimal a) (IsDecimal-decimal a (word_wide w width a below)), tt)) }
+    record {
+      some = omega arith;
+      words = (
+        record { some = omega arith; bytes = x.bytes },
+        (IsDecimal-IsWord a (decimal a) (IsDecimal-decimal a (word_wide w width a below)), tt),
+      );
+    }
 
 raw-words : (w : ℕ) → IsWidth w → (h a : ℕ) → h < 2 ^ w → a < 2 ^ w → raw_words w (raw_operands w h a) ≡ Ok (h ∷ a ∷ [])
 unfolding raw_operands
@@ -217,11 +247,13 @@ raw-IsLineOf w width h a high below =
     } in
     rw (raw-spelled w h a) whole
 
-told : (w h a : ℕ) (shape : Shape) → a < 2 ^ w → leaves_zero shape (decode w h a) ≡ true → ((decode w h a).imm || nat_lt a 16) ≡ true → IsTold w shape (decode w h a)
+told : (w h a : ℕ) (shape : Shape) → a < 2 ^ w → leaves_zero shape (decode w h a) ≡ true → ((decode w h a).imm || nat_lt a 16) ≡ true
+    → IsTold w shape (decode w h a)
 told w h a shape below zeros last =
     record { dest = omega arith; source = omega arith; zeros = zeros; last = last; a = below }
 
-by_name_or_raw : (w : ℕ) → IsWidth w → (h a : ℕ) (row : Row) (b : Bool) → h < 2 ^ w → a < 2 ^ w → IsRow (decode w h a).op row → tells_all w h row.shape (decode w h a) ≡ b
+by_name_or_raw : (w : ℕ) → IsWidth w → (h a : ℕ) (row : Row) (b : Bool) → h < 2 ^ w → a < 2 ^ w → IsRow (decode w h a).op row
+    → tells_all w h row.shape (decode w h a) ≡ b
     → IsLineOf w h a (if b then instruction_text row.name row.shape (decode w h a) else raw_text w h a)
 by_name_or_raw w width h a row true high below r e =
     let i = decode w h a in
@@ -230,7 +262,8 @@ by_name_or_raw w width h a row true high below r e =
     instruction-IsLineOf w width h a row high (eqb-true (h % 2 ^ (w - 14)) 0 first.0) r (told w h a row.shape below first.1 parts.1)
 by_name_or_raw w width h a row false high below r e = raw-IsLineOf w width h a high below
 
-row_text-IsLineOf : (w : ℕ) → IsWidth w → (h a : ℕ) (row : Option Row) → h < 2 ^ w → a < 2 ^ w → with_opcode (decode w h a).op ≡ row → IsLineOf w h a (row_text w h a row)
+row_text-IsLineOf : (w : ℕ) → IsWidth w → (h a : ℕ) (row : Option Row) → h < 2 ^ w → a < 2 ^ w → with_opcode (decode w h a).op ≡ row
+    → IsLineOf w h a (row_text w h a row)
 row_text-IsLineOf w width h a None high below e = raw-IsLineOf w width h a high below
 row_text-IsLineOf w width h a (Some row) high below e =
     by_name_or_raw w width h a row (tells_all w h row.shape (decode w h a)) high below (with_opcode-IsRow (decode w h a).op row e) refl

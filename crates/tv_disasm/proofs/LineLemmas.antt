@@ -1,5 +1,6 @@
 -- A line made of words: how it is cut.
-use Rattle.std.proofs.Common.{◌≡◌, ℕ, suc, ◌-◌, ◌<◌, ◌==◌, Bool, true, false, not, ◌||◌, if◌then◌else◌, List, [], ◌∷◌, ◌++◌, length, map, slice_index, codes, Option, Some, None, refl, ap, ◌∙◌, arith}
+use Rattle.std.proofs.Common.{◌≡◌, ℕ, suc, ◌-◌, ◌<◌, ◌==◌, Bool, true, false, not, ◌||◌, if◌then◌else◌, List, [], ◌∷◌, ◌++◌, length, map, slice_index, codes}
+use Rattle.std.proofs.Common.{Option, Some, None, refl, ap, ◌∙◌, arith}
 use Rattle.std.proofs.Math.Seq.{drop-append_seam}
 use Rattle.std.proofs.lemmas.Bool.{and_parts, and_from, or_right}
 use Rattle.std.proofs.lemmas.List.{append-nil, append_assoc, take_all}
@@ -16,7 +17,8 @@ use Rattle.tv_asm.specs.Line.{code_of, code_says, is_text}
 use Rattle.tv_asm.specs.Text.{is_blank, trimmed, trimmed_end}
 use Rattle.tv_word.proofs.DecimalLemmas.{all_weaker}
 use Rattle.tv_disasm.specs.Disassembly.{joined}
-use Rattle.tv_disasm.proofs.WordLemmas.{is_word_byte, is_line_byte, IsWord, AreWords, apart, apart_from, none_passes, word-not_blank, line-is_text, word-line, first-word}
+use Rattle.tv_disasm.proofs.WordLemmas.{is_word_byte, is_line_byte, IsWord, AreWords, apart, apart_from, none_passes, word-not_blank, line-is_text, word-line}
+use Rattle.tv_disasm.proofs.WordLemmas.{first-word}
 
 -- a text that ends in a byte of a word
 abbrev pub is_ended : List ℕ → Bool
@@ -54,7 +56,8 @@ prefix_len-none (c ∷ cs) h = rw (word-not_blank c h) refl
 suffix_len-none : (text : List ℕ) → is_ended text ≡ true → suffix_len is_blank text ≡ 0
 suffix_len-none text h =
     let all : suffix_len is_blank text ≡ length text - length text =
-    suffix_len_is is_blank text (length text) 0 (omega arith) (λ k low high. absurd (omega arith)) (λ some. word-not_blank (slice_index text (length text - 1)) (last-word text h)) in
+    suffix_len_is is_blank text (length text) 0 (omega arith) (λ k low high. absurd (omega arith))
+    (λ some. word-not_blank (slice_index text (length text - 1)) (last-word text h)) in
     omega (arith, all)
 
 trimmed_end-ended : (text : List ℕ) → is_ended text ≡ true → trimmed_end text ≡ text
@@ -78,16 +81,19 @@ is_spaced c = c == 32 || is_word_byte c
 
 spaced-no_comma : (text : List ℕ) → list_all is_word_byte text ≡ true → All (λ c. is_comma c ≡ false) (32 ∷ text)
 spaced-no_comma text h =
-    none_passes is_spaced is_comma (λ c e. apart is_spaced c 44 e refl) (32 ∷ text) (all_weaker is_word_byte is_spaced (λ c e. or_right (c == 32) (is_word_byte c) e) text h)
+    none_passes is_spaced is_comma (λ c e. apart is_spaced c 44 e refl) (32 ∷ text)
+    (all_weaker is_word_byte is_spaced (λ c e. or_right (c == 32) (is_word_byte c) e) text h)
 
 -- operands that are words are cut where they were joined
-operands-split : (operand : List ℕ) (more : List (List ℕ)) → AreWords (operand ∷ more) → map trimmed (slice_split is_comma (32 ∷ joined (operand ∷ more))) ≡ operand ∷ more
+operands-split : (operand : List ℕ) (more : List (List ℕ)) → AreWords (operand ∷ more)
+    → map trimmed (slice_split is_comma (32 ∷ joined (operand ∷ more))) ≡ operand ∷ more
 operands-split operand [] h =
     rw (append-nil operand, slice_split_none is_comma (32 ∷ operand) (spaced-no_comma operand h.0.bytes))
     (ap (λ text. text ∷ []) (trimmed-space operand (first-word operand h.0) (is_ended-word operand h.0)))
 operands-split operand (next ∷ more) h =
     ap (map trimmed) (slice_split_at is_comma (32 ∷ operand) 44 (32 ∷ joined (next ∷ more)) (spaced-no_comma operand h.0.bytes) refl)
-    ∙ ap (λ text. text ∷ map trimmed (slice_split is_comma (32 ∷ joined (next ∷ more)))) (trimmed-space operand (first-word operand h.0) (is_ended-word operand h.0))
+    ∙ ap (λ text. text ∷ map trimmed (slice_split is_comma (32 ∷ joined (next ∷ more))))
+    (trimmed-space operand (first-word operand h.0) (is_ended-word operand h.0))
     ∙ ap (λ texts. operand ∷ texts) (operands-split next more h.1)
 
 -- an instruction's name, and its operands
@@ -109,7 +115,12 @@ unfolding words_of
 words_of-line w address name [] n h = absurd (omega (arith, h.some))
 words_of-line w address name (operand ∷ more) n h =
     let rest = joined (operand ∷ more) in
-    rw (append_assoc name (codes " ") rest, before_first-append_none is_blank name 32 rest (name-no_blank name n) refl, drop-append_seam name (32 ∷ rest), operands-split operand more h.words) refl
+    rw (
+      append_assoc name (codes " ") rest,
+      before_first-append_none is_blank name 32 rest (name-no_blank name n) refl,
+      drop-append_seam name (32 ∷ rest),
+      operands-split operand more h.words,
+    ) refl
 
 -- a line is made of bytes of lines, and ends in a word
 pub joined-bytes : (operand : List ℕ) (more : List (List ℕ)) → AreWords (operand ∷ more) → list_all is_line_byte (joined (operand ∷ more)) ≡ true
@@ -173,7 +184,8 @@ part_words-some w address [] h = cc
 part_words-some w address (c ∷ cs) h = refl
 
 -- such a line has the words of its instruction
-pub line_words-line : (w : ℕ) (first : Bool) (earlier : List ℕ → Bool) (address : List ℕ → Option ℕ) (line : List ℕ) → IsLine line → line_words w first earlier address line ≡ words_of w address line
+pub line_words-line : (w : ℕ) (first : Bool) (earlier : List ℕ → Bool) (address : List ℕ → Option ℕ) (line : List ℕ) → IsLine line
+    → line_words w first earlier address line ≡ words_of w address line
 unfolding line_words
 line_words-line w first earlier address line h =
     let text = all_weaker is_line_byte is_text line-is_text line h.bytes in

@@ -1,5 +1,6 @@
 -- Numbers in text, read back: decimals, hexadecimals and registers.
-use Rattle.std.proofs.Common.{◌≡◌, ℕ, zero, suc, ◌-◌, ◌/◌, ◌%◌, ◌^◌, ◌<◌, ◌==◌, nat_eq, true, false, not, ◌||◌, List, [], ◌∷◌, ◌++◌, length, drop, slice_index, codes, decimal, Some, Ok, refl, sym, ap, ◌∙◌, arith}
+use Rattle.std.proofs.Common.{◌≡◌, ℕ, zero, suc, ◌-◌, ◌/◌, ◌%◌, ◌^◌, ◌<◌, ◌==◌, nat_eq, true, false, not, ◌||◌, List, [], ◌∷◌, ◌++◌, length, drop}
+use Rattle.std.proofs.Common.{slice_index, codes, decimal, Some, Ok, refl, sym, ap, ◌∙◌, arith}
 use Rattle.std.proofs.Math.Arith.{mod-mul}
 use Rattle.std.proofs.Math.Nat.{one-le-pow, pow-zero, pow-succ'}
 use Rattle.std.proofs.lemmas.Bool.{and_from, and_right, and_parts, lt-ltb, or_right}
@@ -102,7 +103,12 @@ pub number-hexadecimal : (w : ℕ) → IsWidth w → (v : ℕ) → v < 2 ^ w →
 unfolding number
 number-hexadecimal w width v h =
     let x = IsHexadecimal-hexadecimal (w / 4) v in
-    let spells : Spells 16 v (hexadecimal (w / 4) v) = record { some = omega (arith, x.count, width); digits = x.digits; value = x.value ∙ all_digits w width v h } in
+    let spells : Spells 16 v (hexadecimal (w / 4) v) = record {
+      some = omega (arith, x.count, width);
+      digits = x.digits;
+      value = x.value
+          ∙ all_digits w width v h;
+    } in
     rw (Spells-numeral 16 (2 ^ w) v (hexadecimal (w / 4) v) spells h) refl
 
 -- a word is below 2 ^ 64

@@ -1,5 +1,6 @@
 -- A text of lines, and the image that it assembles to.
-use Rattle.std.proofs.Common.{◌≡◌, ℕ, zero, suc, ◌+◌, ◌-◌, ◌*◌, ◌/◌, ◌%◌, ◌^◌, ◌<◌, ◌≤◌, ◌==◌, Bool, true, false, not, List, [], ◌∷◌, ◌++◌, length, take, drop, map, slice_index, codes, slice_index_or, Option, Ok, inl, inr, refl, sym, ap, ◌∙◌, arith, zero-mul, suc-mul}
+use Rattle.std.proofs.Common.{◌≡◌, ℕ, zero, suc, ◌+◌, ◌-◌, ◌*◌, ◌/◌, ◌%◌, ◌^◌, ◌<◌, ◌≤◌, ◌==◌, Bool, true, false, not, List, [], ◌∷◌, ◌++◌, length, take}
+use Rattle.std.proofs.Common.{drop, map, slice_index, codes, slice_index_or, Option, Ok, inl, inr, refl, sym, ap, ◌∙◌, arith, zero-mul, suc-mul}
 use Rattle.std.proofs.Math.Nat.{one-le-pow, pow-succ'}
 use Rattle.std.proofs.lemmas.Bool.{le-leb, not-true}
 use Rattle.std.proofs.lemmas.List.{append-nil, append_assoc, drop-drop, drop-take, length-append, length-drop, nil_from_length, take-append-drop, take-take}
@@ -45,7 +46,8 @@ lines-line line rest h =
     lines-cons line rest (none_passes is_line_byte is_line_feed (λ c e. apart is_line_byte c 10 e refl) line h.bytes) (no_return line h)
 
 -- a text made of lines is cut into them
-pub lines-flat_map : {X : Type 0} (f : X → List ℕ) (xs : List X) → AllByRecursion (λ x. IsLine (f x)) xs → lines (flat_map (λ x. f x ++ codes "\n") xs) ≡ map f xs
+pub lines-flat_map : {X : Type 0} (f : X → List ℕ) (xs : List X) → AllByRecursion (λ x. IsLine (f x)) xs
+    → lines (flat_map (λ x. f x ++ codes "\n") xs) ≡ map f xs
 lines-flat_map f [] h = lines-nil
 lines-flat_map f (x ∷ xs) h =
     let rest = flat_map (λ y. f y ++ codes "\n") xs in
@@ -69,7 +71,8 @@ texts-lines : (w : ℕ) → IsWidth w → (pairs : List (List ℕ)) → AllByRec
 texts-lines w width [] h = tt
 texts-lines w width (two ∷ more) h = ((IsTwo-IsLineOf w width two h.0).line, texts-lines w width more h.1)
 
-with_line-two : (w : ℕ) → IsWidth w → (most number : ℕ) (earlier : List ℕ → Bool) (place : List ℕ → Option ℕ) (words two : List ℕ) → IsTwo w two → length words + 2 ≤ most → with_line w most number earlier place words (text_of w two) ≡ Ok (words ++ two_words w two)
+with_line-two : (w : ℕ) → IsWidth w → (most number : ℕ) (earlier : List ℕ → Bool) (place : List ℕ → Option ℕ) (words two : List ℕ) → IsTwo w two
+    → length words + 2 ≤ most → with_line w most number earlier place words (text_of w two) ≡ Ok (words ++ two_words w two)
 with_line-two w width most number earlier place words two h room =
     let line = IsTwo-IsLineOf w width two h in
     let said : line_words w (number == 1) earlier place (text_of w two) ≡ Ok (two_words w two) =
@@ -77,7 +80,8 @@ with_line-two w width most number earlier place words two h room =
     rw (said, le-leb (length words + 2) most room) refl
 
 -- lines of two words each assemble to these words
-image_of-texts : (w : ℕ) → IsWidth w → (most : ℕ) (all before : List (List ℕ)) (words : List ℕ) (pairs : List (List ℕ)) → AllByRecursion (IsTwo w) pairs → length words + 2 * length pairs ≤ most → image_of w most all before words (map (text_of w) pairs) ≡ Ok (words ++ flat_map (two_words w) pairs)
+image_of-texts : (w : ℕ) → IsWidth w → (most : ℕ) (all before : List (List ℕ)) (words : List ℕ) (pairs : List (List ℕ)) → AllByRecursion (IsTwo w) pairs
+    → length words + 2 * length pairs ≤ most → image_of w most all before words (map (text_of w) pairs) ≡ Ok (words ++ flat_map (two_words w) pairs)
 image_of-texts w width most all before words [] h room = ap (λ l. Ok l) (sym (append-nil words))
 image_of-texts w width most all before words (two ∷ more) h room =
     let next = words ++ two_words w two in
@@ -126,7 +130,8 @@ halves : (w : ℕ) → IsWidth w → w / 8 + w / 8 ≡ w / 4
 halves = for_widths (λ w. w / 8 + w / 8 ≡ w / 4) refl refl
 
 -- the words of each two words' bytes are the words of all bytes
-chunks-words : (w : ℕ) → IsWidth w → (k : ℕ) (bytes : List ℕ) → flat_map (two_words w) (first_chunks (w / 4) k bytes) ≡ map spelled (first_chunks (w / 8) (twice k) bytes)
+chunks-words : (w : ℕ) → IsWidth w → (k : ℕ) (bytes : List ℕ)
+    → flat_map (two_words w) (first_chunks (w / 4) k bytes) ≡ map spelled (first_chunks (w / 8) (twice k) bytes)
 unfolding twice
 chunks-words w width zero bytes = refl
 chunks-words w width (suc k) bytes =
@@ -166,14 +171,16 @@ assembled-lines w most text ls e = ap (λ l. image_of w most l [] [] l) e
 
 -- the text of lines of two words each, behind the header, assembles to these words
 abbrev Assembles : ℕ → Type 0
-Assembles w = (most : ℕ) (pairs : List (List ℕ)) → AllByRecursion (IsTwo w) pairs → 0 + 2 * length pairs ≤ most → assembled w most (header_of w ++ flat_map (λ two. text_of w two ++ codes "\n") pairs) ≡ Ok (flat_map (two_words w) pairs)
+Assembles w = (most : ℕ) (pairs : List (List ℕ)) → AllByRecursion (IsTwo w) pairs → 0 + 2 * length pairs ≤ most
+    → assembled w most (header_of w ++ flat_map (λ two. text_of w two ++ codes "\n") pairs) ≡ Ok (flat_map (two_words w) pairs)
 
 assembles_16 : Assembles 16
 assembles_16 most pairs are room =
     let ls = header_line ∷ map (text_of 16) pairs in
     let rest = flat_map (λ two. text_of 16 two ++ codes "\n") pairs in
     let width : IsWidth 16 = inl refl in
-    let cut : lines (header_of 16 ++ rest) ≡ ls = lines-header rest ∙ ap (λ l. header_line ∷ l) (lines-flat_map (text_of 16) pairs (texts-lines 16 width pairs are)) in
+    let cut : lines (header_of 16 ++ rest) ≡ ls = lines-header rest
+    ∙ ap (λ l. header_line ∷ l) (lines-flat_map (text_of 16) pairs (texts-lines 16 width pairs are)) in
     assembled-lines 16 most (header_of 16 ++ rest) ls cut
     ∙ header-none most ls (map (text_of 16) pairs)
     ∙ image_of-texts 16 width most ls (header_line ∷ []) [] pairs are room
@@ -217,7 +224,8 @@ unfolding is_header_of_16
 no_header [] h = cc
 no_header (c ∷ cs) h = rw (apart_from is_word_byte c 59 h refl) refl
 
-first_no_header : (pairs : List (List ℕ)) → AllByRecursion (λ two. IsLine (text_of 32 two)) pairs → is_header_of_16 (slice_index_or (map (text_of 32) pairs) 0 []) ≡ false
+first_no_header : (pairs : List (List ℕ)) → AllByRecursion (λ two. IsLine (text_of 32 two)) pairs
+    → is_header_of_16 (slice_index_or (map (text_of 32) pairs) 0 []) ≡ false
 unfolding is_header_of_16
 first_no_header [] are = refl
 first_no_header (two ∷ more) are = no_header (text_of 32 two) are.0.first
@@ -245,7 +253,8 @@ low_bytes-spelled (suc n) (b ∷ bs) h fits =
     rw (low, high)
     (ap (λ l. b ∷ l) (low_bytes-spelled n bs (All-tail (λ c. c < 256) b bs h) (omega arith)))
 
-chunks-bytes : (n k : ℕ) (bytes : List ℕ) → All (λ b. b < 256) bytes → length bytes ≡ k * n → flat_map (low_bytes n) (map spelled (first_chunks n k bytes)) ≡ bytes
+chunks-bytes : (n k : ℕ) (bytes : List ℕ) → All (λ b. b < 256) bytes → length bytes ≡ k * n
+    → flat_map (low_bytes n) (map spelled (first_chunks n k bytes)) ≡ bytes
 chunks-bytes n zero bytes h l = sym (nil_from_length bytes (l ∙ zero-mul n))
 chunks-bytes n (suc k) bytes h l =
     let more : length bytes ≡ k * n + n = l ∙ suc-mul k n in

@@ -1,5 +1,6 @@
 -- A drawn program is of words, and answers 0 at its last instruction.
-use Rattle.std.proofs.Common.{◌≡◌, ℕ, zero, suc, ◌+◌, ◌-◌, ◌*◌, ◌/◌, ◌%◌, ◌^◌, ◌<◌, ◌≤◌, ◌==◌, inl, inr, Bool, true, false, cond, nat_lt, List, [], ◌∷◌, length, refl, sym, ap, ap₂, ◌∙◌, subst, arith, length-append}
+use Rattle.std.proofs.Common.{◌≡◌, ℕ, zero, suc, ◌+◌, ◌-◌, ◌*◌, ◌/◌, ◌%◌, ◌^◌, ◌<◌, ◌≤◌, ◌==◌, inl, inr, Bool, true, false, cond, nat_lt, List, [], ◌∷◌}
+use Rattle.std.proofs.Common.{length, refl, sym, ap, ap₂, ◌∙◌, subst, arith, length-append}
 use Rattle.std.specs.Prelude.{slice_index, ◌||◌}
 use Rattle.std.proofs.Math.Nat.{mod-lt}
 use Rattle.std.proofs.lemmas.Bool.{agree_below_at, cases_eq, cond_both, eq-eqb, ltb-true}
@@ -11,7 +12,8 @@ use Rattle.tv_core.proofs.BelowLaws.{length-each_below}
 use Rattle.tv_core.proofs.JoinedLaws.{joined_below-zero, joined_below-suc, length-joined_below}
 use Rattle.tv_core.specs.Below.{each_below, joined_below}
 use Rattle.tv_draw.proofs.DrawLaws.{state_then, words_then}
-use Rattle.tv_draw.specs.Drawing.{op_in, imm_in, whole_a, dest_if, source_if, instr_in, last_instr, state_at, word_at, words_drawn, image_drawn, tape_drawn, aux_drawn, IsDrawn}
+use Rattle.tv_draw.specs.Drawing.{op_in, imm_in, whole_a, dest_if, source_if, instr_in, last_instr, state_at, word_at, words_drawn, image_drawn, tape_drawn}
+use Rattle.tv_draw.specs.Drawing.{aux_drawn, IsDrawn}
 use Rattle.tv_draw.specs.Drawing as drawing
 use Rattle.tv_isa.specs.Instruction.{field, decode, encode}
 use Rattle.tv_isa.specs.Table.{shape_of}
@@ -54,7 +56,8 @@ either : (st : State) (b : Bool) (u v : Next) → Follows st u → Follows st v 
 either st true u v h k = h
 either st false u v h k = k
 
-taken : (st : State) (i : ℕ) (tape : List ℕ) (rest : List ℕ → State) → ((left : List ℕ) → (rest left).pc ≡ st.pc) → ((left : List ℕ) → (rest left).memory ≡ st.memory) → Follows st (takes 32 st i tape rest)
+taken : (st : State) (i : ℕ) (tape : List ℕ) (rest : List ℕ → State) → ((left : List ℕ) → (rest left).pc ≡ st.pc)
+    → ((left : List ℕ) → (rest left).memory ≡ st.memory) → Follows st (takes 32 st i tape rest)
 taken st i [] rest pc memory = (refl, λ j h. refl)
 taken st i (v ∷ left) rest pc memory = (ap (λ n. (n + 8) % 2 ^ 32) (pc left), λ j h. ap (λ m. word_in 32 m j) (memory left))
 
@@ -65,8 +68,14 @@ row_follows ops.Cnjmp st i d s a e far = cc
 row_follows ops.Answer st i d s a e far = cc
 row_follows (ops.Unused op) st i d s a e far = cc
 row_follows ops.Cmov st i d s a e far = either st st.flag (moves 32 st i a) (goes_on 32 st) (refl, λ j h. refl) (refl, λ j h. refl)
-row_follows ops.StoreB st i d s a e far = (refl, λ j h. others_after_byte 32 width st.memory a (d % 256) j (λ same. let most = far refl in omega (arith, most, h, same)))
-row_follows ops.StoreW st i d s a e far = (refl, λ j h. others_after_word 32 width st.memory (a / 4) d j (λ same. let most = far refl in omega (arith, most, h, same)))
+row_follows ops.StoreB st i d s a e far = (
+  refl,
+  λ j h. others_after_byte 32 width st.memory a (d % 256) j (λ same. let most = far refl in omega (arith, most, h, same)),
+)
+row_follows ops.StoreW st i d s a e far = (
+  refl,
+  λ j h. others_after_word 32 width st.memory (a / 4) d j (λ same. let most = far refl in omega (arith, most, h, same)),
+)
 row_follows ops.Read st i d s a e far =
     let primary = takes 32 st i st.primary (λ left. record st { primary = left }) in
     let aux = takes 32 st i st.aux (λ left. record st { aux = left }) in
@@ -111,24 +120,28 @@ record Tells (op : ℕ) (imm : Bool) (head : ℕ) : Type 0 where
 
 head_tells : (op : ℕ) (imm : Bool) (dest source : ℕ) → op < 32 → dest < 16 → source < 16 → Tells op imm (head_of op imm dest source)
 head_tells op true dest source h k l = record { small = omega arith; op_is = omega arith; imm_is = eq-eqb _ 1 (omega arith) }
-head_tells op false dest source h k l = let none : field 26 1 (head_of op false dest source) ≡ 0 = omega arith in record { small = omega arith; op_is = omega arith; imm_is = ap (λ n. n == 1) none }
+head_tells op false dest source h k l = let none : field 26 1 (head_of op false dest source) ≡ 0 = omega arith in
+    record { small = omega arith; op_is = omega arith; imm_is = ap (λ n. n == 1) none }
 
 abbrev drawn_head : ℕ → ℕ
 drawn_head g = head_of (op_in g) (imm_in g) (dest_if (shape_of (op_in g)) (g / 2 ^ 9 % 16)) (source_if (shape_of (op_in g)) (g / 2 ^ 13 % 16))
 
 drawn_tells : (g : ℕ) → Tells (op_in g) (imm_in g) (drawn_head g)
-drawn_tells g = head_tells (op_in g) (imm_in g) _ _ (drawn_small g) (dest_small (shape_of (op_in g)) _ (omega arith)) (source_small (shape_of (op_in g)) _ (omega arith))
+drawn_tells g = head_tells (op_in g) (imm_in g) _ _ (drawn_small g) (dest_small (shape_of (op_in g)) _ (omega arith))
+    (source_small (shape_of (op_in g)) _ (omega arith))
 
 -- a store has an address behind the first 2^16 bytes
 stores_far : (g : ℕ) → drawing.is_store (op_in g) ≡ true → (imm_in g ≡ true) × (65536 ≤ (instr_in g).a)
 stores_far g store =
     let imm : imm_in g ≡ true = ap (λ b. b || (op_in g == 30 || g / 2 ^ 8 % 2 == 1)) store in
-    let whole : whole_a g ≡ 65536 + g / 2 ^ 32 % 65536 = ap (λ b. cond b (65536 + g / 2 ^ 32 % 65536) (cond (op_in g == 30) (g / 2 ^ 32 % 3) (g / 2 ^ 32))) store in
+    let whole : whole_a g ≡ 65536 + g / 2 ^ 32 % 65536 = ap
+    (λ b. cond b (65536 + g / 2 ^ 32 % 65536) (cond (op_in g == 30) (g / 2 ^ 32 % 3) (g / 2 ^ 32))) store in
     let is : (instr_in g).a ≡ whole_a g = ap (λ b. cond b (whole_a g) (whole_a g % 16)) imm in
     (imm, omega (arith, is, whole))
 
 -- the step at a drawn instruction
-drawn_follows : (g : ℕ) (st : State) → word_in 32 st.memory (st.pc / 4) ≡ drawn_head g → word_in 32 st.memory (st.pc / 4 + 1) ≡ (instr_in g).a → Follows st (next 32 st)
+drawn_follows : (g : ℕ) (st : State) → word_in 32 st.memory (st.pc / 4) ≡ drawn_head g → word_in 32 st.memory (st.pc / 4 + 1) ≡ (instr_in g).a
+    → Follows st (next 32 st)
 drawn_follows g st head tail =
     let i = fetched 32 st in
     let tells = drawn_tells g in
@@ -170,7 +183,8 @@ module _ (seed : ℕ) where
 
   whole_small : (g : ℕ) → g < 2 ^ 64 → whole_a g < 2 ^ 32
   whole_small g h =
-      cond_both (drawing.is_store (op_in g)) (65536 + g / 2 ^ 32 % 65536) (cond (op_in g == 30) (g / 2 ^ 32 % 3) (g / 2 ^ 32)) (λ a. a < 2 ^ 32) (λ e. omega arith)
+      cond_both (drawing.is_store (op_in g)) (65536 + g / 2 ^ 32 % 65536) (cond (op_in g == 30) (g / 2 ^ 32 % 3) (g / 2 ^ 32)) (λ a. a < 2 ^ 32)
+      (λ e. omega arith)
       (λ e. cond_both (op_in g == 30) (g / 2 ^ 32 % 3) (g / 2 ^ 32) (λ a. a < 2 ^ 32) (λ e. omega arith) (λ e. omega (arith, h)))
 
   operand_small : (g : ℕ) → g < 2 ^ 64 → (instr_in g).a < 2 ^ 32
@@ -184,7 +198,8 @@ module _ (seed : ℕ) where
   pairs_words (suc n) =
       let g = word_at seed n in
       subst (AreWords 32) (sym (joined_below-suc n (pair_at seed)))
-      (All-append (λ v. v < 2 ^ 32) (joined_below n (pair_at seed)) (pair_at seed n) (pairs_words n) (pair_words (drawn_head g) (instr_in g).a (drawn_tells g).small (operand_small g (word_small n))))
+      (All-append (λ v. v < 2 ^ 32) (joined_below n (pair_at seed)) (pair_at seed n) (pairs_words n)
+      (pair_words (drawn_head g) (instr_in g).a (drawn_tells g).small (operand_small g (word_small n))))
 
   words_small : (i n : ℕ) → AreWords 32 (words_drawn seed i n)
   unfolding each_below
@@ -192,15 +207,18 @@ module _ (seed : ℕ) where
 
   module _ (k : ℕ) where
     image_words : AreWords 32 (image_drawn seed k)
-    image_words = All-append (λ v. v < 2 ^ 32) (joined_below k (pair_at seed)) (encode 32 last_instr) (pairs_words k) (pair_words _ 0 (omega arith) (omega arith))
+    image_words = All-append (λ v. v < 2 ^ 32) (joined_below k (pair_at seed)) (encode 32 last_instr) (pairs_words k)
+        (pair_words _ 0 (omega arith) (omega arith))
 
     drawn_word : (i j : ℕ) → i < k → j < 2 → slice_index (image_drawn seed k) (i * 2 + j) ≡ slice_index (pair_at seed i) j
-    drawn_word i j h l = get_or_append_left (joined_below k (pair_at seed)) (encode 32 last_instr) 0 (i * 2 + j) (omega (arith, pairs_many k, h, l)) ∙ pair_is k i j h l
+    drawn_word i j h l = get_or_append_left (joined_below k (pair_at seed)) (encode 32 last_instr) 0 (i * 2 + j) (omega (arith, pairs_many k, h, l))
+        ∙ pair_is k i j h l
 
     last_word : (j : ℕ) → slice_index (image_drawn seed k) (k * 2 + j) ≡ slice_index (encode 32 last_instr) j
     last_word j =
         let place : k * 2 + j - k * 2 ≡ j = omega arith in
-        get_or-append_right (joined_below k (pair_at seed)) (encode 32 last_instr) (k * 2) (k * 2 + j) 0 (pairs_many k) (omega arith) ∙ ap (slice_index (encode 32 last_instr)) place
+        get_or-append_right (joined_below k (pair_at seed)) (encode 32 last_instr) (k * 2) (k * 2 + j) 0 (pairs_many k) (omega arith)
+        ∙ ap (slice_index (encode 32 last_instr)) place
 
     -- ---- its run
     abbrev first : State
@@ -242,7 +260,8 @@ module _ (seed : ℕ) where
           let small : i < 8192 = omega (arith, within, few) in
           let more : i + 1 ≡ suc i = omega arith in
           subst At more (went i at (next 32 at.st) small refl
-          (drawn_follows (word_at seed i) at.st (head_there i at small ∙ drawn_word i 0 within (omega arith)) (word_there i 1 at small (omega arith) ∙ drawn_word i 1 within (omega arith))))
+          (drawn_follows (word_at seed i) at.st (head_there i at small ∙ drawn_word i 0 within (omega arith))
+          (word_there i 1 at small (omega arith) ∙ drawn_word i 1 within (omega arith))))
 
       -- the last instruction answers 0
       pub drawn_is : IsDrawn k (image_drawn seed k) (tape_drawn seed k) (aux_drawn seed k)
@@ -263,7 +282,8 @@ module _ (seed : ℕ) where
           }
 
 -- what is drawn from a seed, one after another, is such a program
-pub drawn_from : (seed rng mid k : ℕ) (image tape aux : List ℕ) → k ≤ 8191 → rng ≡ state_at seed k → mid ≡ state_at rng 2 → image ≡ image_drawn seed k → tape ≡ words_drawn rng 0 2 → aux ≡ words_drawn mid 0 8 → IsDrawn k image tape aux
+pub drawn_from : (seed rng mid k : ℕ) (image tape aux : List ℕ) → k ≤ 8191 → rng ≡ state_at seed k → mid ≡ state_at rng 2 → image ≡ image_drawn seed k
+    → tape ≡ words_drawn rng 0 2 → aux ≡ words_drawn mid 0 8 → IsDrawn k image tape aux
 drawn_from seed rng mid k image tape aux few is_rng is_mid is_image is_tape is_aux =
     let none : k + 0 ≡ k = omega arith in
     let more : k + 2 + 0 ≡ k + 2 = omega arith in

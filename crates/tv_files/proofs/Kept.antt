@@ -1,5 +1,6 @@
 -- A map from names to bytes, after a change at one name.
-use Rattle.std.proofs.Common.{◌≡◌, ◌≢◌, ◌⊎◌, inl, inr, ℕ, ◌/◌, List, [], ◌++◌, length, take, IsTrue, append-nil, Option, Some, None, option_map, Vec, String, Bool, true, false, cond, ap, sym, refl, ◌∙◌}
+use Rattle.std.proofs.Common.{◌≡◌, ◌≢◌, ◌⊎◌, inl, inr, ℕ, ◌/◌, List, [], ◌++◌, length, take, IsTrue, append-nil, Option, Some, None, option_map, Vec, String}
+use Rattle.std.proofs.Common.{Bool, true, false, cond, ap, sym, refl, ◌∙◌}
 use Rattle.std.specs.BTreeMap.{BTreeMap, UpdatesBy, get_by_text}
 use Rattle.std.specs.Cmp.Lexicographic.{slice_cmp}
 use Rattle.std.specs.Global.{Global}
@@ -21,22 +22,26 @@ pub names_in-update : (name : List ℕ) (m n : BTreeMap (String Global) (Vec ℕ
     names_in n ≡ update bytes_eq (names_in m) name (option_map (λ bytes. bytes.items) w)
 names_in-update name m n w changed = λ i other. at_each other i
   where
-    by_name : (same : Bool) (old : Option (Vec ℕ Global)) → option_map (λ bytes. bytes.items) (cond same w old) ≡ cond same (option_map (λ bytes. bytes.items) w) (option_map (λ bytes. bytes.items) old)
+    by_name : (same : Bool) (old : Option (Vec ℕ Global))
+        → option_map (λ bytes. bytes.items) (cond same w old) ≡ cond same (option_map (λ bytes. bytes.items) w) (option_map (λ bytes. bytes.items) old)
     by_name true old = refl
     by_name false old = refl
 
     at_each : (other : List ℕ) → names_in n other ≡ update bytes_eq (names_in m) name (option_map (λ bytes. bytes.items) w) other
-    at_each other = ap (option_map (λ bytes. bytes.items)) (btree_map_updates_text name m n w changed other) ∙ by_name (bytes_eq name other) (get_by_text m other)
+    at_each other = ap (option_map (λ bytes. bytes.items)) (btree_map_updates_text name m n w changed other)
+        ∙ by_name (bytes_eq name other) (get_by_text m other)
 
 -- where bytes were added to what the name had, the names have them
 pub names_in-more : (name more : List ℕ) (m n : BTreeMap (String Global) (Vec ℕ Global)) (had has : Vec ℕ Global) → Updates name m n (Some has) →
     get_by_text m name ≡ Some had → has.items ≡ had.items ++ more → names_in n ≡ with_more name more (names_in m)
 names_in-more name more m n had has changed found added =
     names_in-update name m n (Some has) changed
-    ∙ ap (λ file. update bytes_eq (names_in m) name file) (ap Some added ∙ sym (ap (λ file. option_map (λ bytes. bytes ++ more) (option_map (λ bytes. bytes.items) file)) found))
+    ∙ ap (λ file. update bytes_eq (names_in m) name file)
+    (ap Some added ∙ sym (ap (λ file. option_map (λ bytes. bytes ++ more) (option_map (λ bytes. bytes.items) file)) found))
 
 -- where the bytes of a name stayed or half was added, the names stayed or the half was added there
-pub names_in-refused : (name bytes : List ℕ) (due : Bool) (m n : BTreeMap (String Global) (Vec ℕ Global)) (had has : Vec ℕ Global) → Updates name m n (Some has) →
+pub names_in-refused : (name bytes : List ℕ) (due : Bool) (m n : BTreeMap (String Global) (Vec ℕ Global)) (had has : Vec ℕ Global)
+    → Updates name m n (Some has) →
     get_by_text m name ≡ Some had → (has.items ≡ had.items) ⊎ (IsTrue due × (has.items ≡ had.items ++ first_half bytes)) →
     (names_in n ≡ names_in m) ⊎ (IsTrue due × (names_in n ≡ with_more name (first_half bytes) (names_in m)))
 names_in-refused name bytes due m n had has changed found (inl same) =

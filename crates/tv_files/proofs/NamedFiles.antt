@@ -27,7 +27,8 @@ pub with_bytes-here : (name bytes : List ℕ) (files : Names) → with_bytes nam
 with_bytes-here name bytes files = ap (λ same. cond same (Some bytes) (files name)) ((bytes_eq-Decides name name).1 refl)
 
 -- bytes put, and then more, are all of them put
-pub with_more-with_bytes : (name bytes more : List ℕ) (files : Names) → with_more name more (with_bytes name bytes files) ≡ with_bytes name (bytes ++ more) files
+pub with_more-with_bytes : (name bytes more : List ℕ) (files : Names)
+    → with_more name more (with_bytes name bytes files) ≡ with_bytes name (bytes ++ more) files
 with_more-with_bytes name bytes more files =
     ap (λ file. update bytes_eq (with_bytes name bytes files) name (option_map (λ held. held ++ more) file)) (with_bytes-here name bytes files)
     ∙ update-update name (Some bytes) (Some (bytes ++ more)) files
@@ -51,13 +52,15 @@ pub with_more-with_more : (name first second : List ℕ) (files : Names) →
     with_more name second (with_more name first files) ≡ with_more name (first ++ second) files
 with_more-with_more name first second files =
     ap (λ file. update bytes_eq (with_more name first files) name (option_map (λ held. held ++ second) file)) here
-    ∙ update-update name (option_map (λ held. held ++ first) (files name)) (option_map (λ held. held ++ second) (option_map (λ held. held ++ first) (files name))) files
+    ∙ update-update name (option_map (λ held. held ++ first) (files name))
+    (option_map (λ held. held ++ second) (option_map (λ held. held ++ first) (files name))) files
     ∙ ap (update bytes_eq files name) (both (files name))
   where
     here : with_more name first files name ≡ option_map (λ held. held ++ first) (files name)
     here = ap (λ same. cond same (option_map (λ held. held ++ first) (files name)) (files name)) ((bytes_eq-Decides name name).1 refl)
 
-    both : (file : Option (List ℕ)) → option_map (λ held. held ++ second) (option_map (λ held. held ++ first) file) ≡ option_map (λ held. held ++ (first ++ second)) file
+    both : (file : Option (List ℕ)) → option_map (λ held. held ++ second) (option_map (λ held. held ++ first) file)
+        ≡ option_map (λ held. held ++ (first ++ second)) file
     both None = refl
     both (Some bytes) = ap Some (append_assoc bytes first second)
 
@@ -70,7 +73,8 @@ told-with_more-with_more name first second (Some files) = ap Some (with_more-wit
 -- a name that isn't there stays absent
 pub with_more-absent : (name more : List ℕ) (files : Names) → files name ≡ None → with_more name more files name ≡ None
 with_more-absent name more files absent =
-    ap (λ same. cond same (option_map (λ held. held ++ more) (files name)) (files name)) ((bytes_eq-Decides name name).1 refl) ∙ ap (option_map (λ held. held ++ more)) absent
+    ap (λ same. cond same (option_map (λ held. held ++ more) (files name)) (files name)) ((bytes_eq-Decides name name).1 refl)
+    ∙ ap (option_map (λ held. held ++ more)) absent
 
 -- and one that comes to be absent was
 pub with_more-none_before : (name more : List ℕ) (files : Names) → with_more name more files name ≡ None → files name ≡ None

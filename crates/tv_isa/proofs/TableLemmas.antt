@@ -7,7 +7,8 @@ use Rattle.std.specs.Str.{bytes_eq}
 use Rattle.tv_isa.specs.Table.{instructions, row_of, with_name}
 use Rattle.tv_isa.specs.declared.operation.Operation.{Operation}
 
-chosen : {A B : Type 0} (f : A → B) (b : Bool) (x : A) (m : Option A) (n : Option B) → n ≡ option_map f m → cond b (Some (f x)) n ≡ option_map f (cond b (Some x) m)
+chosen : {A B : Type 0} (f : A → B) (b : Bool) (x : A) (m : Option A) (n : Option B) → n ≡ option_map f m
+    → cond b (Some (f x)) n ≡ option_map f (cond b (Some x) m)
 chosen f true x m n e = refl
 chosen f false x m n e = e
 
@@ -15,7 +16,8 @@ pub find-map : {A B : Type 0} (f : A → B) (p : B → Bool) (xs : List A) → f
 find-map f p [] = refl
 find-map f p (x ∷ xs) = chosen f (p (f x)) x (find (λ y. p (f y)) xs) (find p (map f xs)) (find-map f p xs)
 
-found : {A : Type 0} (q : A → Bool) (x y : A) (here passes all : Bool) (rest : Option A) → cond here (Some y) rest ≡ Some x → (passes && all) ≡ true → q y ≡ passes → (all ≡ true → rest ≡ Some x → q x ≡ true) → q x ≡ true
+found : {A : Type 0} (q : A → Bool) (x y : A) (here passes all : Bool) (rest : Option A) → cond here (Some y) rest ≡ Some x → (passes && all) ≡ true
+    → q y ≡ passes → (all ≡ true → rest ≡ Some x → q x ≡ true) → q x ≡ true
 found q x y true true all rest f h e more = cc
 found q x y false true all rest f h e more = more h f
 found q x y here false all rest f h e more = cc

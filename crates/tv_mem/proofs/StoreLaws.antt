@@ -1,10 +1,12 @@
 -- Memory after bytes were written into a page.
-use Rattle.std.proofs.Common.{◌≡◌, ◌≢◌, ◌⊎◌, inl, inr, ℕ, ◌+◌, ◌-◌, ◌/◌, ◌%◌, ◌^◌, ◌<◌, ◌≤◌, List, [], ◌∷◌, ◌++◌, length, take, drop, replicate, Bool, true, false, cond, nat_eq, Option, Some, None, ap, sym, refl, ◌∙◌, arith}
+use Rattle.std.proofs.Common.{◌≡◌, ◌≢◌, ◌⊎◌, inl, inr, ℕ, ◌+◌, ◌-◌, ◌/◌, ◌%◌, ◌^◌, ◌<◌, ◌≤◌, List, [], ◌∷◌, ◌++◌, length, take, drop, replicate, Bool, true}
+use Rattle.std.proofs.Common.{false, cond, nat_eq, Option, Some, None, ap, sym, refl, ◌∙◌, arith}
 use Rattle.std.specs.Prelude.{◌*◌, ◌||◌, ◌==◌, zero, suc, is_some, slice_index}
 use Rattle.std.proofs.Math.Nat.{eq-or-lt_of_le, div-div-eq-div-mul, pow-succ'}
 use Rattle.std.proofs.lemmas.Bool.{eq-eqb}
 use Rattle.std.proofs.lemmas.Bool.Decides.{eqb_tells, leb_tells}
-use Rattle.std.proofs.lemmas.List.{get_or_append_left, get_or-append_right, get_or-take, get_or-drop, get_or-replicate, get_or_past, length-take-le, length-append, length-replicate}
+use Rattle.std.proofs.lemmas.List.{get_or_append_left, get_or-append_right, get_or-take, get_or-drop, get_or-replicate, get_or_past, length-take-le}
+use Rattle.std.proofs.lemmas.List.{length-append, length-replicate}
 use Rattle.tv_word.specs.Widths.{IsWidth}
 use Rattle.tv_word.specs.Word.{word_bytes, low_bytes}
 use Rattle.tv_mem.specs.Bytes.{byte_of, with_byte, with_word}
@@ -23,7 +25,8 @@ below page place bytes i within before =
     ∙ get_or_append_left (take place page) bytes 0 i (omega (arith, taken, before))
     ∙ get_or-take place page i 0 before
 
-there : (page : List ℕ) (place : ℕ) (bytes : List ℕ) (j : ℕ) → place ≤ length page → j < length bytes → slice_index (page_with page place bytes) (place + j) ≡ slice_index bytes j
+there : (page : List ℕ) (place : ℕ) (bytes : List ℕ) (j : ℕ) → place ≤ length page → j < length bytes
+    → slice_index (page_with page place bytes) (place + j) ≡ slice_index bytes j
 there page place bytes j within inside =
     let taken : length (take place page) ≡ place = length-take-le place page within in
     let first : length (take place page ++ bytes) ≡ place + length bytes = first_length page place bytes within in
@@ -31,7 +34,8 @@ there page place bytes j within inside =
     ∙ get_or-append_right (take place page) bytes place (place + j) 0 taken (omega arith)
     ∙ ap (λ n. slice_index bytes n) (omega arith)
 
-above : (page : List ℕ) (place : ℕ) (bytes : List ℕ) (i : ℕ) → place ≤ length page → place + length bytes ≤ i → slice_index (page_with page place bytes) i ≡ slice_index page i
+above : (page : List ℕ) (place : ℕ) (bytes : List ℕ) (i : ℕ) → place ≤ length page → place + length bytes ≤ i
+    → slice_index (page_with page place bytes) i ≡ slice_index page i
 above page place bytes i within after =
     get_or-append_right (take place page ++ bytes) (drop (place + length bytes) page) (place + length bytes) i 0 (first_length page place bytes within) after
     ∙ get_or-drop (place + length bytes) page (i - (place + length bytes)) 0
@@ -65,7 +69,8 @@ written_there old new at j bytes writes inside =
     ∙ there (page_bytes (old (at / 4096))) (at % 4096) bytes j (omega (arith, writes.whole, writes.within)) inside
 
 -- and nothing else has changed
-pub kept_elsewhere : (old new : Found) (at x : ℕ) (bytes : List ℕ) → Writes old new at bytes → (x < at) ⊎ (at + length bytes ≤ x) → byte_at new x ≡ byte_at old x
+pub kept_elsewhere : (old new : Found) (at x : ℕ) (bytes : List ℕ) → Writes old new at bytes → (x < at) ⊎ (at + length bytes ≤ x)
+    → byte_at new x ≡ byte_at old x
 kept_elsewhere old new at x bytes writes outside =
     elim (eqb_tells (x / 4096) (at / 4096)) [
       | inr other ↦ read_after old new at x bytes false writes other.0
@@ -104,7 +109,8 @@ length-low_bytes (suc n) v = omega (arith, length-low_bytes n (v / 256))
 byte_of_low : (n v i : ℕ) → i < n → slice_index (low_bytes n v) i ≡ byte_of v i
 byte_of_low zero v i small = absurd (omega arith)
 byte_of_low (suc n) v zero small = omega arith
-byte_of_low (suc n) v (suc i) small = byte_of_low n (v / 256) i (omega arith) ∙ ap (λ k. k % 256) (div-div-eq-div-mul v 256 (256 ^ i) ∙ ap (λ k. v / k) (sym (pow-succ' 256 i)))
+byte_of_low (suc n) v (suc i) small = byte_of_low n (v / 256) i (omega arith)
+    ∙ ap (λ k. k % 256) (div-div-eq-div-mul v 256 (256 ^ i) ∙ ap (λ k. v / k) (sym (pow-succ' 256 i)))
 
 -- a byte was written
 pub byte_stored : (old new : Found) (at v : ℕ) → Writes old new at (v ∷ []) → byte_at new ≡ with_byte (byte_at old) at v
@@ -122,7 +128,8 @@ byte_stored old new at v writes = λ i x. at_each x i
     ]
 
 -- a word was written
-pub word_stored : (w : ℕ) → IsWidth w → (old new : Found) (at word : ℕ) → Writes old new (at / (w / 8) * (w / 8)) (word_bytes w word) → byte_at new ≡ with_word w (byte_at old) (at / (w / 8)) word
+pub word_stored : (w : ℕ) → IsWidth w → (old new : Found) (at word : ℕ) → Writes old new (at / (w / 8) * (w / 8)) (word_bytes w word)
+    → byte_at new ≡ with_word w (byte_at old) (at / (w / 8)) word
 word_stored w width old new at word writes = λ i x. at_each x i
   where
     long : length (word_bytes w word) ≡ w / 8
@@ -147,7 +154,8 @@ word_stored w width old new at word writes = λ i x. at_each x i
 
 -- the pages that are held then
 pub page_held : (old new : Found) (at : ℕ) (bytes : List ℕ) → Writes old new at bytes → (q : ℕ) → is_some (new q) ≡ (q == at / 4096 || is_some (old q))
-page_held old new at bytes writes q = ap is_some (writes.changes q) ∙ by_number (q == at / 4096) (page_with (page_bytes (old (at / 4096))) (at % 4096) bytes) (old q)
+page_held old new at bytes writes q = ap is_some (writes.changes q)
+    ∙ by_number (q == at / 4096) (page_with (page_bytes (old (at / 4096))) (at % 4096) bytes) (old q)
   where
     by_number : (here : Bool) (page : List ℕ) (other : Option (List ℕ)) → is_some (cond here (Some page) other) ≡ (here || is_some other)
     by_number true page other = refl

@@ -6,7 +6,8 @@ use Rattle.tv_word.proofs.WidthLaws.{for_widths, word_bits}
 use Rattle.tv_word.specs.Widths.{IsWidth}
 use Rattle.tv_word.specs.Word.{spelled, low_bytes}
 use Rattle.tv_mem.specs.Bytes.{Bytes, byte_of, with_byte, with_word, bytes_from, word_in}
-use Rattle.tv_mem.specs.Words.{AreBytes, WordsAreSmall, ByteOfWord, WordAfterByte, WordAfterWord, OthersAfterByte, OthersAfterWord, BytesAfterByte, BytesAfterWord}
+use Rattle.tv_mem.specs.Words.{AreBytes, WordsAreSmall, ByteOfWord, WordAfterByte, WordAfterWord, OthersAfterByte, OthersAfterWord, BytesAfterByte}
+use Rattle.tv_mem.specs.Words.{BytesAfterWord}
 use Rattle.tv_word.proofs.ByteLaws.{spelled-low_bytes}
 
 -- ---- n bytes from an address on
@@ -30,7 +31,8 @@ byte_from m small at (suc n) (suc k) h =
 same_from : (m other : Bytes) (at n : ℕ) → ((k : ℕ) → k < n → m (at + k) ≡ other (at + k)) → bytes_from m at n ≡ bytes_from other at n
 same_from m other at zero same = refl
 same_from m other at (suc n) same =
-    ap₂ (λ b bs. b ∷ bs) (rw (add-zero at) at (same 0 (omega arith))) (same_from m other (at + 1) n (λ k h. let place : at + suc k ≡ at + 1 + k = omega arith in rw place at (same (suc k) (omega arith))))
+    ap₂ (λ b bs. b ∷ bs) (rw (add-zero at) at (same 0 (omega arith)))
+    (same_from m other (at + 1) n (λ k h. let place : at + suc k ≡ at + 1 + k = omega arith in rw place at (same (suc k) (omega arith))))
 
 -- a byte before one that was written
 stored_behind : (old new rest after byte v k : ℕ) → new ≡ old → after + byte * 256 ^ k ≡ rest + v * 256 ^ k
@@ -70,7 +72,8 @@ pub rest_in : (w : ℕ) → IsWidth w → (at : ℕ) → at % (w / 8) < w / 8
 rest_in w width at = for_widths (λ w. at % (w / 8) < w / 8) (omega arith) (omega arith) w width
 
 word_of : (w : ℕ) → IsWidth w → (j k : ℕ) → k < w / 8 → ((j * (w / 8) + k) / (w / 8) ≡ j) × ((j * (w / 8) + k) % (w / 8) ≡ k)
-word_of w width j k = for_widths (λ w. k < w / 8 → ((j * (w / 8) + k) / (w / 8) ≡ j) × ((j * (w / 8) + k) % (w / 8) ≡ k)) (λ h. (omega arith, omega arith)) (λ h. (omega arith, omega arith)) w width
+word_of w width j k = for_widths (λ w. k < w / 8 → ((j * (w / 8) + k) / (w / 8) ≡ j) × ((j * (w / 8) + k) % (w / 8) ≡ k)) (λ h. (omega arith, omega arith))
+    (λ h. (omega arith, omega arith)) w width
 
 pub words_are_small : WordsAreSmall
 words_are_small w width m small j = rw (sym (word_bits w width)) (spelled_below m small (j * (w / 8)) (w / 8))

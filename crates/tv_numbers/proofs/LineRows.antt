@@ -1,5 +1,6 @@
 -- Each row of the table of instructions: the data line in numbers is that of the machine's trace.
-use Rattle.std.proofs.Common.{◌≡◌, ℕ, ◌+◌, ◌-◌, ◌*◌, ◌/◌, ◌%◌, ◌^◌, ◌<◌, ◌≤◌, ◌==◌, nat_lt, Bool, true, false, ◌&&◌, if◌then◌else◌, List, length, drop, Some, None, refl, sym, ◌∙◌, ap, ap₂, arith, inl, inr, true≢false}
+use Rattle.std.proofs.Common.{◌≡◌, ℕ, ◌+◌, ◌-◌, ◌*◌, ◌/◌, ◌%◌, ◌^◌, ◌<◌, ◌≤◌, ◌==◌, nat_lt, Bool, true, false, ◌&&◌, if◌then◌else◌, List, length, drop, Some}
+use Rattle.std.proofs.Common.{None, refl, sym, ◌∙◌, ap, ap₂, arith, inl, inr, true≢false}
 use Rattle.std.specs.Prelude.{slice_index, slice_get}
 use Rattle.std.proofs.lemmas.Bool.{cases_lt, lt-ltb, le-ltb}
 use Rattle.std.proofs.lemmas.List.{drop_all, get_or-drop, length-drop}
@@ -21,17 +22,21 @@ use Rattle.tv_numbers.specs.Numbers.{with_byte_in, data_line}
 use Rattle.tv_numbers.specs.Tables.{unused_ops}
 use Rattle.tv_numbers.specs.Views.{seen}
 
-pub same_line : (c d s t o p m n : ℕ) → c ≡ d → s ≡ t → o ≡ p → m ≡ n → ◌≡◌ {A = Line} (record { cell = c; time = s; old = o; new = m }) (record { cell = d; time = t; old = p; new = n })
+pub same_line : (c d s t o p m n : ℕ) → c ≡ d → s ≡ t → o ≡ p → m ≡ n
+    → ◌≡◌ {A = Line} (record { cell = c; time = s; old = o; new = m }) (record { cell = d; time = t; old = p; new = n })
 same_line c d s t o p m n e f g h = cc
 
 -- lines with the same cell, old and new
-changed : (j time o old m new : ℕ) → o ≡ old → m ≡ new → ◌≡◌ {A = Line} (record { cell = j; time = time; old = o; new = m }) (record { cell = j; time = time; old = old; new = new })
+changed : (j time o old m new : ℕ) → o ≡ old → m ≡ new
+    → ◌≡◌ {A = Line} (record { cell = j; time = time; old = o; new = m }) (record { cell = j; time = time; old = old; new = new })
 changed j time o old m new e f = cc
 
 module _ (w : ℕ) (x : List ℕ) (gone ended o : ℕ) (takes : Bool) (st : State) where
   abbrev Row : ℕ → Type 0
-  Row k = (imm : Bool) (dest source a time : ℕ) → among unused_ops k ≡ false → Fits w x gone ended o takes st (instr k imm dest source a) → fetched w st ≡ instr k imm dest source a
-      → data_line w (length x) (seen st gone ended) (instr k imm dest source a) o takes time ≡ line_of w (length x) (op_of k) st (operand st (instr k imm dest source a)) time
+  Row k = (imm : Bool) (dest source a time : ℕ) → among unused_ops k ≡ false → Fits w x gone ended o takes st (instr k imm dest source a)
+      → fetched w st ≡ instr k imm dest source a
+      → data_line w (length x) (seen st gone ended) (instr k imm dest source a) o takes time
+      ≡ line_of w (length x) (op_of k) st (operand st (instr k imm dest source a)) time
 
   unused : (k : ℕ) → among unused_ops k ≡ true → Row k
   unused k is imm dest source a time used = absurd (true≢false (sym is ∙ used))
@@ -52,7 +57,8 @@ module _ (w : ℕ) (x : List ℕ) (gone ended o : ℕ) (takes : Bool) (st : Stat
       let j : ℕ = at / (w / 8) in
       let word = looked w x gone ended o takes st i fits fits.old in
       let byte : byte_of o r ≡ st.memory at = ap (λ v. byte_of v r) word ∙ byte_of_word w fits.width st.memory fits.bytes at in
-      let after : word_in w (with_byte st.memory at (d % 256)) j + st.memory at * 256 ^ r ≡ o + d % 256 * 256 ^ r = word_after_byte w fits.width st.memory at (d % 256) ∙ ap (λ v. v + d % 256 * 256 ^ r) (sym word) in
+      let after : word_in w (with_byte st.memory at (d % 256)) j + st.memory at * 256 ^ r
+      ≡ o + d % 256 * 256 ^ r = word_after_byte w fits.width st.memory at (d % 256) ∙ ap (λ v. v + d % 256 * 256 ^ r) (sym word) in
       let new : with_byte_in o r (d % 256) ≡ word_in w (with_byte st.memory at (d % 256)) j = less_by _ _ _ _ _ byte after in
       changed j time o _ _ _ word (new ∙ next_word i j is)
     where
@@ -87,17 +93,20 @@ module _ (w : ℕ) (x : List ℕ) (gone ended o : ℕ) (takes : Bool) (st : Stat
     new = if b then o else 0;
   }
 
-  some_line : (time : ℕ) → gone < length x → st.primary ≡ drop gone x → o ≡ slice_index x gone → read_line true time ≡ tape_line (length x) st (slice_get st.primary 0) time
+  some_line : (time : ℕ) → gone < length x → st.primary ≡ drop gone x → o ≡ slice_index x gone
+      → read_line true time ≡ tape_line (length x) st (slice_get st.primary 0) time
   some_line time within primary word =
       let zeroth : gone + 0 ≡ gone = omega arith in
       let long : length st.primary ≡ length x - gone = ap length primary ∙ length-drop gone x in
       let first : slice_index st.primary 0 ≡ o = ap (λ l. slice_index l 0) primary ∙ get_or-drop gone x 0 0 ∙ ap (slice_index x) zeroth ∙ sym word in
       let found : slice_get st.primary 0 ≡ Some o = slice_get-get_or st.primary 0 0 (omega arith) ∙ ap Some first in
       let count : gone ≡ length x - length st.primary = omega arith in
-      let here : read_line true time ≡ tape_line (length x) st (Some o) time = ap (λ c. record { cell = TAPE_CELLS + c; time = time; old = o; new = o }) count in
+      let here : read_line true time ≡ tape_line (length x) st (Some o) time = ap
+      (λ c. record { cell = TAPE_CELLS + c; time = time; old = o; new = o }) count in
       here ∙ ap (λ f. tape_line (length x) st f time) (sym found)
 
-  by_read : (at0 within : Bool) (time : ℕ) → (at0 ≡ true → within ≡ true → read_line true time ≡ tape_line (length x) st (slice_get st.primary 0) time) → (within ≡ false → slice_get st.primary 0 ≡ None)
+  by_read : (at0 within : Bool) (time : ℕ) → (at0 ≡ true → within ≡ true → read_line true time ≡ tape_line (length x) st (slice_get st.primary 0) time)
+      → (within ≡ false → slice_get st.primary 0 ≡ None)
       → read_line (at0 && within) time ≡ tape_line (length x) st (if at0 then slice_get st.primary 0 else None) time
   by_read true true time some past = some refl refl
   by_read true false time some past = ap (λ f. tape_line (length x) st f time) (sym (past refl))
@@ -190,7 +199,61 @@ module _ (w : ℕ) (x : List ℕ) (gone ended o : ℕ) (takes : Bool) (st : Stat
   row31 imm dest source a time used fits is = refl
 
   each : EachBelow 32 Row
-  each = (row31, (row30, (row29, (row28, (row27, (row26, (unused 25 refl, (unused 24 refl, (unused 23 refl, (row22, (row21, (row20, (row19, (row18, (row17, (row16, (row15, (row14, (row13, (row12, (row11, (row10, (row9, (row8, (row7, (row6, (row5, (row4, (row3, (row2, (row1, (row0, tt))))))))))))))))))))))))))))))))
+  each = (
+    row31,
+    (
+      row30,
+      (
+        row29,
+        (
+          row28,
+          (
+            row27,
+            (
+              row26,
+              (
+                unused 25 refl,
+                (
+                  unused 24 refl,
+                  (
+                    unused 23 refl,
+                    (
+                      row22,
+                      (
+                        row21,
+                        (
+                          row20,
+                          (
+                            row19,
+                            (
+                              row18,
+                              (
+                                row17,
+                                (
+                                  row16,
+                                  (
+                                    row15,
+                                    (
+                                      row14,
+                                      (row13, (row12, (row11, (row10, (row9, (row8, (row7, (row6, (row5, (row4, (row3, (row2, (row1, (row0, tt)))))))))))))),
+                                    ),
+                                  ),
+                                ),
+                              ),
+                            ),
+                          ),
+                        ),
+                      ),
+                    ),
+                  ),
+                ),
+              ),
+            ),
+          ),
+        ),
+      ),
+    ),
+  )
 
   pub line_row : (i : Instr) (time : ℕ) → i.op < 32 → among unused_ops i.op ≡ false → Fits w x gone ended o takes st i → fetched w st ≡ i
       → data_line w (length x) (seen st gone ended) i o takes time ≡ line_of w (length x) (op_of i.op) st (operand st i) time

@@ -60,7 +60,8 @@ module _ (w : ℕ) (x : List ℕ) (gone ended o : ℕ) (takes : Bool) where
   answered st i = at i.op
     where
       at : (k : ℕ) → k ≡ 31 → Fits st (instr k i.imm i.dest i.source i.a) → Answers st (instr k i.imm i.dest i.source i.a)
-      at k same = subst (λ n. Fits st (instr n i.imm i.dest i.source i.a) → Answers st (instr n i.imm i.dest i.source i.a)) (sym same) (λ fits. record { is = refl; view = refl; none = none_taken takes fits.asked })
+      at k same = subst (λ n. Fits st (instr n i.imm i.dest i.source i.a) → Answers st (instr n i.imm i.dest i.source i.a)) (sym same)
+          (λ fits. record { is = refl; view = refl; none = none_taken takes fits.asked })
 
   module _ (rest : List ℕ) where
     -- the auxiliary tape fits
@@ -73,12 +74,14 @@ module _ (w : ℕ) (x : List ℕ) (gone ended o : ℕ) (takes : Bool) where
     pub record Came (st : State) (i : Instr) : Type 0 where
       pub state : State
       pub is : executed w st i ≡ Next.Gone state
-      pub view : seen state (stepped w (length x) (seen st gone ended) i o takes).taken (stepped w (length x) (seen st gone ended) i o takes).ended ≡ stepped w (length x) (seen st gone ended) i o takes
+      pub view : seen state (stepped w (length x) (seen st gone ended) i o takes).taken (stepped w (length x) (seen st gone ended) i o takes).ended
+          ≡ stepped w (length x) (seen st gone ended) i o takes
       pub primary : state.primary ≡ drop (stepped w (length x) (seen st gone ended) i o takes).taken x
       pub aux : state.aux ≡ rest
 
     abbrev pub Row : ℕ → State → Type 0
-    Row k st = (imm : Bool) (dest source a : ℕ) → among unused_ops k ≡ false → (k == 31) ≡ false → Fits st (instr k imm dest source a) → AuxTape st (instr k imm dest source a) → Came st (instr k imm dest source a)
+    Row k st = (imm : Bool) (dest source a : ℕ) → among unused_ops k ≡ false → (k == 31) ≡ false → Fits st (instr k imm dest source a)
+        → AuxTape st (instr k imm dest source a) → Came st (instr k imm dest source a)
 
     abbrev pub NextRow : ℕ → Type 0
     NextRow k = (st : State) → Row k st
@@ -91,85 +94,253 @@ module _ (w : ℕ) (x : List ℕ) (gone ended o : ℕ) (takes : Bool) where
     row31 st imm dest source a used other = absurd (true≢false other)
 
     row0 : NextRow 0
-    row0 st imm dest source a used other fits aux = record { state = _; is = refl; view = refl; primary = fits.primary; aux = aux.left (none_taken takes fits.asked) }
+    row0 st imm dest source a used other fits aux = record {
+      state = _;
+      is = refl;
+      view = refl;
+      primary = fits.primary;
+      aux = aux.left (none_taken takes fits.asked);
+    }
 
     row1 : NextRow 1
-    row1 st imm dest source a used other fits aux = record { state = _; is = refl; view = refl; primary = fits.primary; aux = aux.left (none_taken takes fits.asked) }
+    row1 st imm dest source a used other fits aux = record {
+      state = _;
+      is = refl;
+      view = refl;
+      primary = fits.primary;
+      aux = aux.left (none_taken takes fits.asked);
+    }
 
     row2 : NextRow 2
-    row2 st imm dest source a used other fits aux = record { state = _; is = refl; view = refl; primary = fits.primary; aux = aux.left (none_taken takes fits.asked) }
+    row2 st imm dest source a used other fits aux = record {
+      state = _;
+      is = refl;
+      view = refl;
+      primary = fits.primary;
+      aux = aux.left (none_taken takes fits.asked);
+    }
 
     row3 : NextRow 3
-    row3 st imm dest source a used other fits aux = record { state = _; is = refl; view = refl; primary = fits.primary; aux = aux.left (none_taken takes fits.asked) }
+    row3 st imm dest source a used other fits aux = record {
+      state = _;
+      is = refl;
+      view = refl;
+      primary = fits.primary;
+      aux = aux.left (none_taken takes fits.asked);
+    }
 
     row4 : NextRow 4
-    row4 st imm dest source a used other fits aux = record { state = _; is = refl; view = refl; primary = fits.primary; aux = aux.left (none_taken takes fits.asked) }
+    row4 st imm dest source a used other fits aux = record {
+      state = _;
+      is = refl;
+      view = refl;
+      primary = fits.primary;
+      aux = aux.left (none_taken takes fits.asked);
+    }
 
     row5 : NextRow 5
-    row5 st imm dest source a used other fits aux = record { state = _; is = refl; view = refl; primary = fits.primary; aux = aux.left (none_taken takes fits.asked) }
+    row5 st imm dest source a used other fits aux = record {
+      state = _;
+      is = refl;
+      view = refl;
+      primary = fits.primary;
+      aux = aux.left (none_taken takes fits.asked);
+    }
 
     row6 : NextRow 6
-    row6 st imm dest source a used other fits aux = record { state = _; is = refl; view = refl; primary = fits.primary; aux = aux.left (none_taken takes fits.asked) }
+    row6 st imm dest source a used other fits aux = record {
+      state = _;
+      is = refl;
+      view = refl;
+      primary = fits.primary;
+      aux = aux.left (none_taken takes fits.asked);
+    }
 
     row7 : NextRow 7
-    row7 st imm dest source a used other fits aux = record { state = _; is = refl; view = refl; primary = fits.primary; aux = aux.left (none_taken takes fits.asked) }
+    row7 st imm dest source a used other fits aux = record {
+      state = _;
+      is = refl;
+      view = refl;
+      primary = fits.primary;
+      aux = aux.left (none_taken takes fits.asked);
+    }
 
     row8 : NextRow 8
-    row8 st imm dest source a used other fits aux = record { state = _; is = refl; view = refl; primary = fits.primary; aux = aux.left (none_taken takes fits.asked) }
+    row8 st imm dest source a used other fits aux = record {
+      state = _;
+      is = refl;
+      view = refl;
+      primary = fits.primary;
+      aux = aux.left (none_taken takes fits.asked);
+    }
 
     row9 : NextRow 9
-    row9 st imm dest source a used other fits aux = record { state = _; is = refl; view = refl; primary = fits.primary; aux = aux.left (none_taken takes fits.asked) }
+    row9 st imm dest source a used other fits aux = record {
+      state = _;
+      is = refl;
+      view = refl;
+      primary = fits.primary;
+      aux = aux.left (none_taken takes fits.asked);
+    }
 
     row10 : NextRow 10
-    row10 st imm dest source a used other fits aux = record { state = _; is = refl; view = refl; primary = fits.primary; aux = aux.left (none_taken takes fits.asked) }
+    row10 st imm dest source a used other fits aux = record {
+      state = _;
+      is = refl;
+      view = refl;
+      primary = fits.primary;
+      aux = aux.left (none_taken takes fits.asked);
+    }
 
     row11 : NextRow 11
-    row11 st imm dest source a used other fits aux = record { state = _; is = refl; view = refl; primary = fits.primary; aux = aux.left (none_taken takes fits.asked) }
+    row11 st imm dest source a used other fits aux = record {
+      state = _;
+      is = refl;
+      view = refl;
+      primary = fits.primary;
+      aux = aux.left (none_taken takes fits.asked);
+    }
 
     row12 : NextRow 12
-    row12 st imm dest source a used other fits aux = record { state = _; is = refl; view = refl; primary = fits.primary; aux = aux.left (none_taken takes fits.asked) }
+    row12 st imm dest source a used other fits aux = record {
+      state = _;
+      is = refl;
+      view = refl;
+      primary = fits.primary;
+      aux = aux.left (none_taken takes fits.asked);
+    }
 
     row13 : NextRow 13
-    row13 st imm dest source a used other fits aux = record { state = _; is = refl; view = refl; primary = fits.primary; aux = aux.left (none_taken takes fits.asked) }
+    row13 st imm dest source a used other fits aux = record {
+      state = _;
+      is = refl;
+      view = refl;
+      primary = fits.primary;
+      aux = aux.left (none_taken takes fits.asked);
+    }
 
     row14 : NextRow 14
-    row14 st imm dest source a used other fits aux = record { state = _; is = refl; view = refl; primary = fits.primary; aux = aux.left (none_taken takes fits.asked) }
+    row14 st imm dest source a used other fits aux = record {
+      state = _;
+      is = refl;
+      view = refl;
+      primary = fits.primary;
+      aux = aux.left (none_taken takes fits.asked);
+    }
 
     row15 : NextRow 15
-    row15 st imm dest source a used other fits aux = record { state = _; is = refl; view = refl; primary = fits.primary; aux = aux.left (none_taken takes fits.asked) }
+    row15 st imm dest source a used other fits aux = record {
+      state = _;
+      is = refl;
+      view = refl;
+      primary = fits.primary;
+      aux = aux.left (none_taken takes fits.asked);
+    }
 
     row16 : NextRow 16
-    row16 st imm dest source a used other fits aux = record { state = _; is = refl; view = refl; primary = fits.primary; aux = aux.left (none_taken takes fits.asked) }
+    row16 st imm dest source a used other fits aux = record {
+      state = _;
+      is = refl;
+      view = refl;
+      primary = fits.primary;
+      aux = aux.left (none_taken takes fits.asked);
+    }
 
     row17 : NextRow 17
-    row17 st imm dest source a used other fits aux = record { state = _; is = refl; view = refl; primary = fits.primary; aux = aux.left (none_taken takes fits.asked) }
+    row17 st imm dest source a used other fits aux = record {
+      state = _;
+      is = refl;
+      view = refl;
+      primary = fits.primary;
+      aux = aux.left (none_taken takes fits.asked);
+    }
 
     row18 : NextRow 18
-    row18 st imm dest source a used other fits aux = record { state = _; is = refl; view = refl; primary = fits.primary; aux = aux.left (none_taken takes fits.asked) }
+    row18 st imm dest source a used other fits aux = record {
+      state = _;
+      is = refl;
+      view = refl;
+      primary = fits.primary;
+      aux = aux.left (none_taken takes fits.asked);
+    }
 
     row20 : NextRow 20
-    row20 st imm dest source a used other fits aux = record { state = _; is = refl; view = refl; primary = fits.primary; aux = aux.left (none_taken takes fits.asked) }
+    row20 st imm dest source a used other fits aux = record {
+      state = _;
+      is = refl;
+      view = refl;
+      primary = fits.primary;
+      aux = aux.left (none_taken takes fits.asked);
+    }
 
     row26 : NextRow 26
-    row26 st imm dest source a used other fits aux = record { state = _; is = refl; view = refl; primary = fits.primary; aux = aux.left (none_taken takes fits.asked) }
+    row26 st imm dest source a used other fits aux = record {
+      state = _;
+      is = refl;
+      view = refl;
+      primary = fits.primary;
+      aux = aux.left (none_taken takes fits.asked);
+    }
 
     row28 : NextRow 28
-    row28 st imm dest source a used other fits aux = record { state = _; is = refl; view = refl; primary = fits.primary; aux = aux.left (none_taken takes fits.asked) }
+    row28 st imm dest source a used other fits aux = record {
+      state = _;
+      is = refl;
+      view = refl;
+      primary = fits.primary;
+      aux = aux.left (none_taken takes fits.asked);
+    }
 
     row19 : NextRow 19
     row19 = by_flag (Row 19)
-        (λ st imm dest source a used other fits aux. record { state = _; is = refl; view = refl; primary = fits.primary; aux = aux.left (none_taken takes fits.asked) })
-        (λ st imm dest source a used other fits aux. record { state = _; is = refl; view = refl; primary = fits.primary; aux = aux.left (none_taken takes fits.asked) })
+        (λ st imm dest source a used other fits aux. record {
+          state = _;
+          is = refl;
+          view = refl;
+          primary = fits.primary;
+          aux = aux.left (none_taken takes fits.asked);
+        })
+        (λ st imm dest source a used other fits aux. record {
+          state = _;
+          is = refl;
+          view = refl;
+          primary = fits.primary;
+          aux = aux.left (none_taken takes fits.asked);
+        })
 
     row21 : NextRow 21
     row21 = by_flag (Row 21)
-        (λ st imm dest source a used other fits aux. record { state = _; is = refl; view = refl; primary = fits.primary; aux = aux.left (none_taken takes fits.asked) })
-        (λ st imm dest source a used other fits aux. record { state = _; is = refl; view = refl; primary = fits.primary; aux = aux.left (none_taken takes fits.asked) })
+        (λ st imm dest source a used other fits aux. record {
+          state = _;
+          is = refl;
+          view = refl;
+          primary = fits.primary;
+          aux = aux.left (none_taken takes fits.asked);
+        })
+        (λ st imm dest source a used other fits aux. record {
+          state = _;
+          is = refl;
+          view = refl;
+          primary = fits.primary;
+          aux = aux.left (none_taken takes fits.asked);
+        })
 
     row22 : NextRow 22
     row22 = by_flag (Row 22)
-        (λ st imm dest source a used other fits aux. record { state = _; is = refl; view = refl; primary = fits.primary; aux = aux.left (none_taken takes fits.asked) })
-        (λ st imm dest source a used other fits aux. record { state = _; is = refl; view = refl; primary = fits.primary; aux = aux.left (none_taken takes fits.asked) })
+        (λ st imm dest source a used other fits aux. record {
+          state = _;
+          is = refl;
+          view = refl;
+          primary = fits.primary;
+          aux = aux.left (none_taken takes fits.asked);
+        })
+        (λ st imm dest source a used other fits aux. record {
+          state = _;
+          is = refl;
+          view = refl;
+          primary = fits.primary;
+          aux = aux.left (none_taken takes fits.asked);
+        })
 
     -- loads, whose result is of the data word
     row27 : NextRow 27
@@ -195,8 +366,69 @@ module _ (w : ℕ) (x : List ℕ) (gone ended o : ℕ) (takes : Bool) where
         }
 
     -- all but the read, whose proof stands in a file of its own
-    pub next_row : NextRow 30 → (st : State) (i : Instr) → i.op < 32 → among unused_ops i.op ≡ false → (i.op == 31) ≡ false → Fits st i → AuxTape st i → Came st i
+    pub next_row : NextRow 30 → (st : State) (i : Instr) → i.op < 32 → among unused_ops i.op ≡ false → (i.op == 31) ≡ false → Fits st i → AuxTape st i
+        → Came st i
     next_row row30 st i small = below 32 NextRow each i.op small st i.imm i.dest i.source i.a
       where
         each : EachBelow 32 NextRow
-        each = (row31, (row30, (row29, (row28, (row27, (row26, (unused 25 refl, (unused 24 refl, (unused 23 refl, (row22, (row21, (row20, (row19, (row18, (row17, (row16, (row15, (row14, (row13, (row12, (row11, (row10, (row9, (row8, (row7, (row6, (row5, (row4, (row3, (row2, (row1, (row0, tt))))))))))))))))))))))))))))))))
+        each = (
+          row31,
+          (
+            row30,
+            (
+              row29,
+              (
+                row28,
+                (
+                  row27,
+                  (
+                    row26,
+                    (
+                      unused 25 refl,
+                      (
+                        unused 24 refl,
+                        (
+                          unused 23 refl,
+                          (
+                            row22,
+                            (
+                              row21,
+                              (
+                                row20,
+                                (
+                                  row19,
+                                  (
+                                    row18,
+                                    (
+                                      row17,
+                                      (
+                                        row16,
+                                        (
+                                          row15,
+                                          (
+                                            row14,
+                                            (
+                                              row13,
+                                              (
+                                                row12,
+                                                (row11, (row10, (row9, (row8, (row7, (row6, (row5, (row4, (row3, (row2, (row1, (row0, tt)))))))))))),
+                                              ),
+                                            ),
+                                          ),
+                                        ),
+                                      ),
+                                    ),
+                                  ),
+                                ),
+                              ),
+                            ),
+                          ),
+                        ),
+                      ),
+                    ),
+                  ),
+                ),
+              ),
+            ),
+          ),
+        )

@@ -1,5 +1,6 @@
 -- Each row of the table of instructions: from the old of the machine's data line the numbers have its cell and its old.
-use Rattle.std.proofs.Common.{◌≡◌, ℕ, ◌+◌, ◌-◌, ◌<◌, ◌≤◌, ◌==◌, nat_lt, Bool, true, false, ◌&&◌, if◌then◌else◌, List, length, drop, Option, Some, None, refl, sym, ◌∙◌, ap, arith, inl, inr, true≢false}
+use Rattle.std.proofs.Common.{◌≡◌, ℕ, ◌+◌, ◌-◌, ◌<◌, ◌≤◌, ◌==◌, nat_lt, Bool, true, false, ◌&&◌, if◌then◌else◌, List, length, drop, Option, Some, None, refl}
+use Rattle.std.proofs.Common.{sym, ◌∙◌, ap, arith, inl, inr, true≢false}
 use Rattle.std.specs.Prelude.{slice_index, slice_get}
 use Rattle.std.proofs.lemmas.Bool.{cases_lt, lt-ltb, le-ltb}
 use Rattle.std.proofs.lemmas.List.{drop_all, length-drop}
@@ -26,7 +27,8 @@ pub record SameOld (l m : Line) : Type 0 where
 module _ (w : ℕ) (x : List ℕ) (gone ended time : ℕ) (takes : Bool) (st : State) (within : gone ≤ length x) (primary : st.primary ≡ drop gone x) where
   abbrev Row : ℕ → Type 0
   Row k = (imm : Bool) (dest source a : ℕ) → among unused_ops k ≡ false
-      → SameOld (data_line w (length x) (seen st gone ended) (instr k imm dest source a) (line_of w (length x) (op_of k) st (operand st (instr k imm dest source a)) time).old takes time)
+      → SameOld (data_line w (length x) (seen st gone ended) (instr k imm dest source a)
+      (line_of w (length x) (op_of k) st (operand st (instr k imm dest source a)) time).old takes time)
       (line_of w (length x) (op_of k) st (operand st (instr k imm dest source a)) time)
 
   unused : (k : ℕ) → among unused_ops k ≡ true → Row k
@@ -50,7 +52,8 @@ module _ (w : ℕ) (x : List ℕ) (gone ended time : ℕ) (takes : Bool) (st : S
   none_left none = record { cell = sym (ap (λ f. (tape_read f).cell) none); old = sym (ap (λ f. (tape_read f).old) none) }
 
   by_read : (at0 left : Bool) → (left ≡ true → gone < length x) → (left ≡ false → slice_get st.primary 0 ≡ None)
-      → SameOld (read_line (at0 && left) (tape_read (if at0 then slice_get st.primary 0 else None)).old) (tape_read (if at0 then slice_get st.primary 0 else None))
+      → SameOld (read_line (at0 && left) (tape_read (if at0 then slice_get st.primary 0 else None)).old)
+      (tape_read (if at0 then slice_get st.primary 0 else None))
   by_read true true some past = some_left (some refl)
   by_read true false some past = none_left (past refl)
   by_read false left some past = record { cell = refl; old = refl }
@@ -59,7 +62,11 @@ module _ (w : ℕ) (x : List ℕ) (gone ended time : ℕ) (takes : Bool) (st : S
   row30 imm dest source a used =
       by_read (operand st (instr 30 imm dest source a) == 0) (nat_lt gone (length x))
       (λ f. elim (cases_lt gone (length x)) [ inl h ↦ h | inr h ↦ absurd (true≢false (sym f ∙ le-ltb gone (length x) h)) ])
-      (λ f. elim (cases_lt gone (length x)) [ inl h ↦ absurd (true≢false (sym (lt-ltb gone (length x) h) ∙ f)) | inr h ↦ ap (λ l. slice_get l 0) (primary ∙ drop_all gone x h) ])
+      (λ f. elim (cases_lt gone (length x)) [
+        | inl h ↦ absurd (true≢false (sym (lt-ltb gone (length x) h) ∙ f))
+        | inr h ↦ ap (λ l. slice_get l 0)
+            (primary ∙ drop_all gone x h)
+      ])
 
   -- all others have what the line has
   row0 : Row 0
@@ -147,8 +154,63 @@ module _ (w : ℕ) (x : List ℕ) (gone ended time : ℕ) (takes : Bool) (st : S
   row31 imm dest source a used = record { cell = refl; old = refl }
 
   each : EachBelow 32 Row
-  each = (row31, (row30, (row29, (row28, (row27, (row26, (unused 25 refl, (unused 24 refl, (unused 23 refl, (row22, (row21, (row20, (row19, (row18, (row17, (row16, (row15, (row14, (row13, (row12, (row11, (row10, (row9, (row8, (row7, (row6, (row5, (row4, (row3, (row2, (row1, (row0, tt))))))))))))))))))))))))))))))))
+  each = (
+    row31,
+    (
+      row30,
+      (
+        row29,
+        (
+          row28,
+          (
+            row27,
+            (
+              row26,
+              (
+                unused 25 refl,
+                (
+                  unused 24 refl,
+                  (
+                    unused 23 refl,
+                    (
+                      row22,
+                      (
+                        row21,
+                        (
+                          row20,
+                          (
+                            row19,
+                            (
+                              row18,
+                              (
+                                row17,
+                                (
+                                  row16,
+                                  (
+                                    row15,
+                                    (
+                                      row14,
+                                      (row13, (row12, (row11, (row10, (row9, (row8, (row7, (row6, (row5, (row4, (row3, (row2, (row1, (row0, tt)))))))))))))),
+                                    ),
+                                  ),
+                                ),
+                              ),
+                            ),
+                          ),
+                        ),
+                      ),
+                    ),
+                  ),
+                ),
+              ),
+            ),
+          ),
+        ),
+      ),
+    ),
+  )
 
   pub old_row : (i : Instr) → i.op < 32 → among unused_ops i.op ≡ false
-      → SameOld (data_line w (length x) (seen st gone ended) i (line_of w (length x) (op_of i.op) st (operand st i) time).old takes time) (line_of w (length x) (op_of i.op) st (operand st i) time)
+      → SameOld (data_line w (length x) (seen st gone ended) i (line_of w (length x) (op_of i.op) st (operand st i) time).old takes time)
+      (line_of w (length x) (op_of i.op) st (operand st i) time)
   old_row i small used = below 32 Row each i.op small i.imm i.dest i.source i.a used

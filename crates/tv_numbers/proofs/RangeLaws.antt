@@ -1,5 +1,6 @@
 -- The numbers of a step stay in range.
-use Rattle.std.proofs.Common.{◌≡◌, ℕ, zero, suc, ◌+◌, ◌-◌, ◌*◌, ◌/◌, ◌%◌, ◌^◌, ◌<◌, ◌≤◌, ◌==◌, nat_lt, Bool, true, false, not, ◌&&◌, ◌||◌, if◌then◌else◌, List, length, refl, sym, ◌∙◌, arith, inl, inr, true≢false}
+use Rattle.std.proofs.Common.{◌≡◌, ℕ, zero, suc, ◌+◌, ◌-◌, ◌*◌, ◌/◌, ◌%◌, ◌^◌, ◌<◌, ◌≤◌, ◌==◌, nat_lt, Bool, true, false, not, ◌&&◌, ◌||◌, if◌then◌else◌}
+use Rattle.std.proofs.Common.{List, length, refl, sym, ◌∙◌, arith, inl, inr, true≢false}
 use Rattle.std.specs.Prelude.{slice_index, slice_set}
 use Rattle.std.specs.Int.Bits.{and_lt}
 use Rattle.std.proofs.Math.Nat.{div-le_self, mod-lt, mod-le}
@@ -83,15 +84,44 @@ module _ (w : ℕ) (width : IsWidth w) where
   )
 
   pub flags_small : (x a : ℕ) (finds : Bool) (flag : ℕ) → flag < 2 → EachGives (λ f. f < 2) (flags w x a finds flag)
-  flags_small x a finds flag h =
-      (flag_small _, (flag_small _, (flag_small _, (flag_small _, (flag_small _, (flag_small _, (flag_small _, (flag_small _, (flag_small _, (flag_small _, (flag_small _, (flag_small _, (flag_small _, (flag_small _, (flag_small _, (flag_small _, (flag_small _, (h, tt))))))))))))))))))
+  flags_small x a finds flag h = (
+    flag_small _,
+    (
+      flag_small _,
+      (
+        flag_small _,
+        (
+          flag_small _,
+          (
+            flag_small _,
+            (
+              flag_small _,
+              (
+                flag_small _,
+                (
+                  flag_small _,
+                  (
+                    flag_small _,
+                    (flag_small _, (flag_small _, (flag_small _, (flag_small _, (flag_small _, (flag_small _, (flag_small _, (flag_small _, (h, tt))))))))),
+                  ),
+                ),
+              ),
+            ),
+          ),
+        ),
+      ),
+    ),
+  )
 
   -- a place of an instruction
   abbrev Place : ℕ → Type 0
   Place pc = (pc < 2 ^ w) × (pc % (w / 4) ≡ 0)
 
   behind_place : (pc : ℕ) → Place pc → Place (behind_pc w pc)
-  behind_place pc h = (mod-lt (pc + w / 4) some_words, for_widths (λ w. pc % (w / 4) ≡ 0 → (pc + w / 4) % 2 ^ w % (w / 4) ≡ 0) (λ e. omega arith) (λ e. omega arith) w width h.1)
+  behind_place pc h = (
+    mod-lt (pc + w / 4) some_words,
+    for_widths (λ w. pc % (w / 4) ≡ 0 → (pc + w / 4) % 2 ^ w % (w / 4) ≡ 0) (λ e. omega arith) (λ e. omega arith) w width h.1,
+  )
 
   target_place : (a : ℕ) → Word a → Place (target w a)
   target_place a h = (omega (arith, h), for_widths (λ w. (a - a % (w / 4)) % (w / 4) ≡ 0) (omega arith) (omega arith) w width)
@@ -99,8 +129,13 @@ module _ (w : ℕ) (width : IsWidth w) where
   pub pcs_small : (pc a flag : ℕ) → Place pc → Word a → EachGives Place (pcs w pc a flag)
   pcs_small pc a flag h ha =
       let jump = target_place a ha in
-      let next = behind_place pc h in
-      (jump, (cond_both (flag == 1) (target w a) (behind_pc w pc) Place (λ _. jump) (λ _. next), (cond_both (flag == 1) (behind_pc w pc) (target w a) Place (λ _. next) (λ _. jump), (h, (next, tt)))))
+      let next = behind_place pc h in (
+        jump,
+        (
+          cond_both (flag == 1) (target w a) (behind_pc w pc) Place (λ _. jump) (λ _. next),
+          (cond_both (flag == 1) (behind_pc w pc) (target w a) Place (λ _. next) (λ _. jump), (h, (next, tt))),
+        ),
+      )
 
   pub zero_place : Place 0
   zero_place = (some_words, for_widths (λ w. 0 % (w / 4) ≡ 0) refl refl w width)
@@ -130,13 +165,16 @@ module _ (w : ℕ) (width : IsWidth w) where
     operand_small = cond_both i.imm i.a (slice_index v.regs (i.a % 16)) Word (λ _. is.tail_word) (λ _. word_at w width v.regs (i.a % 16) is.range.words)
 
     pub other_small : Word (other_word v i)
-    other_small = cond_both _ (slice_index v.regs i.dest) (slice_index v.regs i.source) Word (λ _. word_at w width v.regs i.dest is.range.words) (λ _. word_at w width v.regs i.source is.range.words)
+    other_small = cond_both _ (slice_index v.regs i.dest) (slice_index v.regs i.source) Word (λ _. word_at w width v.regs i.dest is.range.words)
+        (λ _. word_at w width v.regs i.source is.range.words)
 
     pub result_small : Word (result_in w n v i o takes)
-    result_small = chosen_in Word (results w (other_word v i) (operand_word v i) o (found w n v i o takes)) i.op some_words (results_small (other_word v i) (operand_word v i) o (found w n v i o takes) other_small operand_small is.data_word)
+    result_small = chosen_in Word (results w (other_word v i) (operand_word v i) o (found w n v i o takes)) i.op some_words
+        (results_small (other_word v i) (operand_word v i) o (found w n v i o takes) other_small operand_small is.data_word)
 
     pub pc_place : Place (stepped w n v i o takes).pc
-    pc_place = chosen_in Place (pcs w v.pc (operand_word v i) v.flag) i.op zero_place (pcs_small v.pc (operand_word v i) v.flag (is.range.pc_fits, is.range.pc_aligned) operand_small)
+    pc_place = chosen_in Place (pcs w v.pc (operand_word v i) v.flag) i.op zero_place
+        (pcs_small v.pc (operand_word v i) v.flag (is.range.pc_fits, is.range.pc_aligned) operand_small)
 
     -- a primary word is taken only where one is left
     pub some_left : takes_primary v i n ≡ true → v.taken < n
@@ -153,7 +191,8 @@ module _ (w : ℕ) (width : IsWidth w) where
           (λ _. length-set v.regs i.dest (result_in w n v i o takes) ∙ is.range.registers) (λ _. is.range.registers);
       words = cond_both (writes w n v i o takes) (slice_set v.regs i.dest (result_in w n v i o takes)) v.regs (AreWords w)
           (λ _. All-set Word v.regs i.dest (result_in w n v i o takes) result_small is.range.words) (λ _. is.range.words);
-      flag = chosen_in (λ f. f < 2) (flags w (other_word v i) (operand_word v i) (found w n v i o takes) v.flag) i.op (omega arith) (flags_small (other_word v i) (operand_word v i) (found w n v i o takes) v.flag is.range.flag);
+      flag = chosen_in (λ f. f < 2) (flags w (other_word v i) (operand_word v i) (found w n v i o takes) v.flag) i.op (omega arith)
+          (flags_small (other_word v i) (operand_word v i) (found w n v i o takes) v.flag is.range.flag);
       taken = cond_both (takes_primary v i n) (v.taken + 1) v.taken (λ t. t ≤ n) (λ e. let left = some_left e in omega arith) (λ _. is.range.taken);
       ended = cond_both (asks v i && not takes) 1 v.ended (λ e. e < 2) (λ _. omega arith) (λ _. is.range.ended);
     }
@@ -168,7 +207,8 @@ module _ (w : ℕ) (width : IsWidth w) where
     word_cell : (a : ℕ) → Word a → Cell (a / (w / 8) + 1)
     word_cell a h = for_widths (λ w. a < 2 ^ w → a / (w / 8) + 1 < 2 ^ 31) (λ h. omega (arith, h)) (λ h. omega (arith, h)) w width h
 
-    pub fetched_is_line : (time : ℕ) → IsLine w (record { cell = v.pc / (w / 8); time = time; old = head; new = head }) × IsLine w (record { cell = v.pc / (w / 8) + 1; time = time + 1; old = tail; new = tail })
+    pub fetched_is_line : (time : ℕ) → IsLine w (record { cell = v.pc / (w / 8); time = time; old = head; new = head })
+        × IsLine w (record { cell = v.pc / (w / 8) + 1; time = time + 1; old = tail; new = tail })
     fetched_is_line time =
         let next = word_cell v.pc is.range.pc_fits in
         (record { cell = omega arith; old = is.head_word; new = is.head_word }, record { cell = next; old = is.tail_word; new = is.tail_word })
@@ -182,11 +222,13 @@ module _ (w : ℕ) (width : IsWidth w) where
         let byte : ℕ = other_word v i % 256 in
         let place : r < w / 8 = for_widths (λ w. operand_word v i % (w / 8) < w / 8) (omega arith) (omega arith) w width in
         record {
-          cell = cond_both (takes_primary v i n) (TAPE_CELLS + v.taken) (if touches v i then operand_word v i / (w / 8) else NULL_CELL) Cell (λ _. omega (arith, short, within))
+          cell = cond_both (takes_primary v i n) (TAPE_CELLS + v.taken) (if touches v i then operand_word v i / (w / 8) else NULL_CELL) Cell
+              (λ _. omega (arith, short, within))
               (λ _. cond_both (touches v i) (operand_word v i / (w / 8)) NULL_CELL Cell (λ _. omega (arith, next)) (λ _. omega arith));
           old = old_small;
           new = cond_both (i.op == 28) (other_word v i) (if i.op == 26 then with_byte_in o r byte else old_in w n v i o takes) Word (λ _. other_small)
-              (λ _. cond_both (i.op == 26) (with_byte_in o r byte) (old_in w n v i o takes) Word (λ _. with_byte_small o r byte place is.data_word (mod-lt (other_word v i) (omega arith))) (λ _. old_small));
+              (λ _. cond_both (i.op == 26) (with_byte_in o r byte) (old_in w n v i o takes) Word
+              (λ _. with_byte_small o r byte place is.data_word (mod-lt (other_word v i) (omega arith))) (λ _. old_small));
         }
 
 pub numbers_stay_in_range : NumbersStayInRange

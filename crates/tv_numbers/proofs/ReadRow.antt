@@ -1,5 +1,6 @@
 -- A read: the numbers of the step are those of the machine's next state.
-use Rattle.std.proofs.Common.{◌≡◌, ◌≢◌, ℕ, suc, ◌+◌, ◌<◌, ◌≤◌, ◌==◌, nat_lt, Bool, true, false, not, ◌&&◌, ◌||◌, if◌then◌else◌, List, [], ◌∷◌, length, drop, drop-cons, add-one, refl, sym, ◌∙◌, ap, subst, inl, inr}
+use Rattle.std.proofs.Common.{◌≡◌, ◌≢◌, ℕ, suc, ◌+◌, ◌<◌, ◌≤◌, ◌==◌, nat_lt, Bool, true, false, not, ◌&&◌, ◌||◌, if◌then◌else◌, List, [], ◌∷◌, length, drop}
+use Rattle.std.proofs.Common.{drop-cons, add-one, refl, sym, ◌∙◌, ap, subst, inl, inr}
 use Rattle.std.specs.Prelude.{slice_index, slice_set}
 use Rattle.std.proofs.lemmas.Bool.{cases_eq, cases_lt, ne_eqb, eqb-true, lt-ltb, le-ltb, and_parts}
 use Rattle.std.proofs.lemmas.List.{drop_all}
@@ -15,7 +16,8 @@ use Rattle.tv_numbers.specs.Tables.{behind_pc}
 use Rattle.tv_numbers.specs.Views.{View, flag_of, seen}
 
 -- the word that a read of the primary tape takes is the data word
-pub held : (w : ℕ) (x : List ℕ) (gone ended o : ℕ) (takes : Bool) (st : State) (imm : Bool) (dest source a : ℕ) → Fits w x gone ended o takes st (instr 30 imm dest source a)
+pub held : (w : ℕ) (x : List ℕ) (gone ended o : ℕ) (takes : Bool) (st : State) (imm : Bool) (dest source a : ℕ)
+    → Fits w x gone ended o takes st (instr 30 imm dest source a)
     → ((operand st (instr 30 imm dest source a) == 0) && nat_lt gone (length x)) ≡ true → o ≡ slice_index x gone
 held w x gone ended o takes st imm dest source a fits p =
     subst (λ b. (if b then o else 0) ≡ cells_of w x st (if b then TAPE_CELLS + gone else NULL_CELL)) p fits.old ∙ cell_of_tape w x st.memory gone
@@ -38,10 +40,17 @@ module _ (w : ℕ) (x : List ℕ) (gone ended o : ℕ) (takes : Bool) (rest : Li
   }
 
   abbrev after_read : Bool → List ℕ → List ℕ → State
-  after_read found primary aux = record st { pc = behind_pc w st.pc; regs = slice_set st.regs dest (if found then o else 0); flag = not found; primary = primary; aux = aux }
+  after_read found primary aux = record st {
+    pc = behind_pc w st.pc;
+    regs = slice_set st.regs dest (if found then o else 0);
+    flag = not found;
+    primary = primary;
+    aux = aux;
+  }
 
   came_read : (primary asked : Bool) → ((at == 0) && nat_lt gone (length x)) ≡ primary → ((at == 1) && (ended == 0)) ≡ asked → (left : List ℕ)
-      → reads w st dest at ≡ Next.Gone (after_read (primary || takes) left rest) → left ≡ drop (if primary then gone + 1 else gone) x → Came w x gone ended o takes rest st the_read
+      → reads w st dest at ≡ Next.Gone (after_read (primary || takes) left rest) → left ≡ drop (if primary then gone + 1 else gone) x
+      → Came w x gone ended o takes rest st the_read
   came_read primary asked p q left is remains =
       let after = after_read (primary || takes) left rest in
       let view : seen after (read_view primary asked).taken (read_view primary asked).ended ≡ read_view primary asked = refl in
@@ -56,7 +65,8 @@ module _ (w : ℕ) (x : List ℕ) (gone ended o : ℕ) (takes : Bool) (rest : Li
       }
 
 read_aux : (w : ℕ) (x : List ℕ) (gone ended o : ℕ) (rest : List ℕ) (st : State) (imm : Bool) (dest source a : ℕ)
-    → Fits w x gone ended o true st (instr 30 imm dest source a) → AuxTape w x gone ended o true rest st (instr 30 imm dest source a) → Came w x gone ended o true rest st (instr 30 imm dest source a)
+    → Fits w x gone ended o true st (instr 30 imm dest source a) → AuxTape w x gone ended o true rest st (instr 30 imm dest source a)
+    → Came w x gone ended o true rest st (instr 30 imm dest source a)
 read_aux w x gone ended o rest st imm dest source a fits aux =
     let i = instr 30 imm dest source a in
     let asked = fits.asked refl in
@@ -64,14 +74,16 @@ read_aux w x gone ended o rest st imm dest source a fits aux =
     came_read w x gone ended o true rest st imm dest source a false true (ap (λ n. (n == 0) && nat_lt gone (length x)) one) asked st.primary
     (ap (reads w st dest) one ∙ ap (λ l. takes_of w st dest l (λ left. record st { aux = left })) (aux.taken refl)) fits.primary
 
-module _ (w : ℕ) (x : List ℕ) (gone ended o : ℕ) (rest : List ℕ) (st : State) (imm : Bool) (dest source a : ℕ) (fits : Fits w x gone ended o false st (instr 30 imm dest source a)) (aux : AuxTape w x gone ended o false rest st (instr 30 imm dest source a)) where
+module _ (w : ℕ) (x : List ℕ) (gone ended o : ℕ) (rest : List ℕ) (st : State) (imm : Bool) (dest source a : ℕ)
+    (fits : Fits w x gone ended o false st (instr 30 imm dest source a)) (aux : AuxTape w x gone ended o false rest st (instr 30 imm dest source a)) where
   abbrev from : ℕ
   from = operand st (instr 30 imm dest source a)
 
   abbrev Goes : Type 0
   Goes = Came w x gone ended o false rest st (instr 30 imm dest source a)
 
-  aux_stays : Next.Gone (after_read w x gone ended o false rest st imm dest source a false st.primary st.aux) ≡ Next.Gone (after_read w x gone ended o false rest st imm dest source a false st.primary rest)
+  aux_stays : Next.Gone (after_read w x gone ended o false rest st imm dest source a false st.primary st.aux)
+      ≡ Next.Gone (after_read w x gone ended o false rest st imm dest source a false st.primary rest)
   aux_stays = ap (λ l. Next.Gone (after_read w x gone ended o false rest st imm dest source a false st.primary l)) (aux.left refl)
 
   read_primary : from ≡ 0 → gone < length x → Goes
@@ -103,8 +115,10 @@ module _ (w : ℕ) (x : List ℕ) (gone ended o : ℕ) (rest : List ℕ) (st : S
   read_none zeroth first =
       let e0 : (from == 0) ≡ false = ne_eqb from 0 zeroth in
       let e1 : (from == 1) ≡ false = ne_eqb from 1 first in
-      came_read w x gone ended o false rest st imm dest source a false false (ap (λ b. b && nat_lt gone (length x)) e0) (ap (λ b. b && (ended == 0)) e1) st.primary
-      (ap (λ b. if b then takes_of w st dest st.primary (λ left. record st { primary = left }) else if from == 1 then takes_of w st dest st.aux (λ left. record st { aux = left }) else takes_of w st dest [] (λ _. st)) e0
+      came_read w x gone ended o false rest st imm dest source a false false (ap (λ b. b && nat_lt gone (length x)) e0)
+      (ap (λ b. b && (ended == 0)) e1) st.primary
+      (ap (λ b. if b then takes_of w st dest st.primary (λ left. record st { primary = left }) else if from == 1 then takes_of w st dest st.aux
+      (λ left. record st { aux = left }) else takes_of w st dest [] (λ _. st)) e0
       ∙ ap (λ b. if b then takes_of w st dest st.aux (λ left. record st { aux = left }) else takes_of w st dest [] (λ _. st)) e1 ∙ aux_stays) fits.primary
 
   read_nothing : Goes

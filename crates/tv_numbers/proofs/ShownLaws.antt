@@ -1,5 +1,6 @@
 -- The numbers of a machine's step show it.
-use Rattle.std.proofs.Common.{◌≡◌, ℕ, ◌+◌, ◌-◌, ◌/◌, ◌^◌, ◌<◌, ◌==◌, Bool, true, false, ◌&&◌, ◌||◌, if◌then◌else◌, List, length, drop, nat_lt, Option, Some, None, refl, sym, ◌∙◌, ap, ap₂, subst, arith, true≢false}
+use Rattle.std.proofs.Common.{◌≡◌, ℕ, ◌+◌, ◌-◌, ◌/◌, ◌^◌, ◌<◌, ◌==◌, Bool, true, false, ◌&&◌, ◌||◌, if◌then◌else◌, List, length, drop, nat_lt, Option, Some}
+use Rattle.std.proofs.Common.{None, refl, sym, ◌∙◌, ap, ap₂, subst, arith, true≢false}
 use Rattle.std.specs.Prelude.{is_some}
 use Rattle.std.proofs.lemmas.List.{length-drop}
 use Rattle.std.proofs.lemmas.Bool.{eq-eqb, eqb-true, and_parts, agree_below_at, false_from_ne_true}
@@ -43,8 +44,10 @@ stops w _ st i d s a e = absurd (true≢false (sym e))
 pub defined_used : (w : ℕ) (st : State) → IsDefined w st → among unused_ops (fetched w st).op ≡ false
 defined_used w st defined =
     let i = fetched w st in
-    let same : is_unused (op_of i.op) ≡ among unused_ops i.op = agree_below_at (λ k. is_unused (op_of k)) (among unused_ops) 32 i.op refl (op_small w (head_at w st) (tail_at w st)) in
-    false_from_ne_true (among unused_ops i.op) (λ e. let stop = stops w (op_of i.op) st i.dest (reg st i.dest) (reg st i.source) (operand st i) (same ∙ e) in defined stop.0 stop.1)
+    let same : is_unused (op_of i.op) ≡ among unused_ops i.op = agree_below_at (λ k. is_unused (op_of k)) (among unused_ops) 32 i.op refl
+    (op_small w (head_at w st) (tail_at w st)) in
+    false_from_ne_true (among unused_ops i.op)
+    (λ e. let stop = stops w (op_of i.op) st i.dest (reg st i.dest) (reg st i.source) (operand st i) (same ∙ e) in defined stop.0 stop.1)
 
 -- ---- the view of a state
 pub seen_in_range : SeenInRange
@@ -86,10 +89,12 @@ olds_are_shown w n time v head tail old word is none =
 same_by : (touched primary : Bool) (old : ℕ) (word : Option ℕ) → (is_some word ≡ true → (touched ≡ false) × (primary ≡ false))
     → (if touched || primary then handed old word else 0) ≡ (if touched || primary then old else 0)
 same_by touched primary old None h = refl
-same_by touched primary old (Some word) h = let none = h refl in ap₂ (λ a b. if a || b then word else 0) none.0 none.1 ∙ sym (ap₂ (λ a b. if a || b then old else 0) none.0 none.1)
+same_by touched primary old (Some word) h = let none = h refl in ap₂ (λ a b. if a || b then word else 0) none.0 none.1
+    ∙ sym (ap₂ (λ a b. if a || b then old else 0) none.0 none.1)
 
 module _ (w : ℕ) (width : IsWidth w) (x : List ℕ) (time : ℕ) (st : State) (gone ended : ℕ) (word : Option ℕ)
-    (short : length x < 2 ^ 29) (view : ViewInRange w (length x) (seen st gone ended)) (primary : st.primary ≡ drop gone x) (range : InRange w st) (defined : IsDefined w st) (may : MayTake w (seen st gone ended) st word) where
+    (short : length x < 2 ^ 29) (view : ViewInRange w (length x) (seen st gone ended)) (primary : st.primary ≡ drop gone x) (range : InRange w st)
+    (defined : IsDefined w st) (may : MayTake w (seen st gone ended) st word) where
   abbrev i : Instr
   i = fetched w st
 
@@ -147,17 +152,20 @@ module _ (w : ℕ) (width : IsWidth w) (x : List ℕ) (time : ℕ) (st : State) 
       record {
         first = olds 0 line (omega arith);
         second = olds 1 line (omega arith);
-        data_line = same_by (touches now i) (takes_primary now i (length x)) line.old word (λ e. looks_nowhere (length x) now i (asked e)) ∙ same.old ∙ olds 2 line (omega arith) ∙ sym (ap (cells_of w x st) same.cell);
+        data_line = same_by (touches now i) (takes_primary now i (length x)) line.old word (λ e. looks_nowhere (length x) now i (asked e)) ∙ same.old
+            ∙ olds 2 line (omega arith) ∙ sym (ap (cells_of w x st) same.cell);
       }
 
   shows_seen : ShowsStep w x time now st word
   shows_seen = record {
     range = at_numbers;
-    lines = (numbers_do w width x time now (head_at w st) (tail_at w st) (data_at w x time st word) (is_some word) at_numbers).traced st range.bytes (record { pc = refl; regs = refl; flag = refl; primary = primary }) holds;
+    lines = (numbers_do w width x time now (head_at w st) (tail_at w st) (data_at w x time st word) (is_some word) at_numbers).traced st range.bytes
+        (record { pc = refl; regs = refl; flag = refl; primary = primary }) holds;
   }
 
 pub machine_shows : MachineShows
 machine_shows w width x time v st word short view m range defined may =
     let same = seen_of x v st m in
     subst (λ u. ShowsStep w x time u st word) (sym same)
-    (shows_seen w width x time st v.taken v.ended word short (subst (ViewInRange w (length x)) same view) m.primary range defined (subst (λ u. MayTake w u st word) same may))
+    (shows_seen w width x time st v.taken v.ended word short (subst (ViewInRange w (length x)) same view) m.primary range defined
+    (subst (λ u. MayTake w u st word) same may))

@@ -1,5 +1,6 @@
 -- The step in numbers is the machine's step.
-use Rattle.std.proofs.Common.{◌≡◌, ℕ, ◌+◌, ◌-◌, ◌/◌, ◌%◌, ◌^◌, ◌<◌, ◌==◌, Bool, true, false, not, ◌&&◌, if◌then◌else◌, List, [], ◌∷◌, length, drop, refl, sym, ◌∙◌, ap, ap₂, subst, arith, inl, inr}
+use Rattle.std.proofs.Common.{◌≡◌, ℕ, ◌+◌, ◌-◌, ◌/◌, ◌%◌, ◌^◌, ◌<◌, ◌==◌, Bool, true, false, not, ◌&&◌, if◌then◌else◌, List, [], ◌∷◌, length, drop, refl, sym}
+use Rattle.std.proofs.Common.{◌∙◌, ap, ap₂, subst, arith, inl, inr}
 use Rattle.std.proofs.Math.Nat.{mod-lt}
 use Rattle.std.proofs.lemmas.Bool.{cases_eq, eq-eqb, eqb-true, and_parts, agree_below_at}
 use Rattle.tv_core.specs.declared.limits.TheConstants.{TAPE_CELLS}
@@ -54,8 +55,10 @@ record AtState (w : ℕ) (x : List ℕ) (time : ℕ) (b : Did) (st : State) : Ty
   pub goes : (rest : List ℕ) → AuxFits w st b.takes b.word rest → b.answers ≡ false → Leads w x b st rest
   pub stands : b.answers ≡ true → Halts w b st
 
-module _ (w : ℕ) (width : IsWidth w) (x : List ℕ) (time : ℕ) (st : State) (gone ended head tail o : ℕ) (takes : Bool) (is : AtNumbers w (length x) (seen st gone ended) head tail o takes)
-    (bytes : AreBytes st.memory) (primary : st.primary ≡ drop gone x) (holds : HoldsOlds w x (did_of w (length x) time (seen st gone ended) head tail o takes) st) where
+module _ (w : ℕ) (width : IsWidth w) (x : List ℕ) (time : ℕ) (st : State) (gone ended head tail o : ℕ) (takes : Bool)
+    (is : AtNumbers w (length x) (seen st gone ended) head tail o takes)
+    (bytes : AreBytes st.memory) (primary : st.primary ≡ drop gone x)
+    (holds : HoldsOlds w x (did_of w (length x) time (seen st gone ended) head tail o takes) st) where
   abbrev i : Instr
   i = decode w head tail
 
@@ -73,7 +76,8 @@ module _ (w : ℕ) (width : IsWidth w) (x : List ℕ) (time : ℕ) (st : State) 
   low_cells =
       let fits = is.range.pc_fits in
       let aligned = is.range.pc_aligned in
-      for_widths (λ w. st.pc < 2 ^ w → st.pc % (w / 4) ≡ 0 → (st.pc / (w / 8) < TAPE_CELLS) × (st.pc / (w / 8) + 1 < TAPE_CELLS)) (λ h a. (omega arith, omega arith)) (λ h a. (omega arith, omega arith)) w width fits aligned
+      for_widths (λ w. st.pc < 2 ^ w → st.pc % (w / 4) ≡ 0 → (st.pc / (w / 8) < TAPE_CELLS) × (st.pc / (w / 8) + 1 < TAPE_CELLS))
+      (λ h a. (omega arith, omega arith)) (λ h a. (omega arith, omega arith)) w width fits aligned
 
   head_is : head ≡ word_in w st.memory (st.pc / (w / 8))
   head_is = holds.first ∙ cell_of_memory w x st.memory (st.pc / (w / 8)) low_cells.0
@@ -89,7 +93,8 @@ module _ (w : ℕ) (width : IsWidth w) (x : List ℕ) (time : ℕ) (st : State) 
 
   -- it reads the auxiliary tape where the numbers say so
   reads_by : reads_aux w st ≡ ((i.op == 30) && (operand_word now i == 1))
-  reads_by = ap (λ (j : Instr). is_read (op_of j.op) && (operand st j == 1)) instruction ∙ ap (λ b. b && (operand_word now i == 1)) (read_test i.op (op_small w head tail))
+  reads_by = ap (λ (j : Instr). is_read (op_of j.op) && (operand st j == 1)) instruction
+      ∙ ap (λ b. b && (operand_word now i == 1)) (read_test i.op (op_small w head tail))
 
   asks_reads : asks now i ≡ true → reads_aux w st ≡ true
   asks_reads e = reads_by ∙ (and_parts ((i.op == 30) && (operand_word now i == 1)) (ended == 0) e).0
@@ -140,7 +145,8 @@ module _ (w : ℕ) (width : IsWidth w) (x : List ℕ) (time : ℕ) (st : State) 
   traced : lines_in did ≡ step_lines w (length x) st time
   traced =
       let third : data_line w (length x) now i o takes (time + 2) ≡ line_of w (length x) (op_of (fetched w st).op) st (operand st (fetched w st)) (time + 2) =
-      line_row w x gone ended o takes st i (time + 2) (op_small w head tail) is.used fits instruction ∙ ap (λ (j : Instr). line_of w (length x) (op_of j.op) st (operand st j) (time + 2)) (sym instruction) in
+      line_row w x gone ended o takes st i (time + 2) (op_small w head tail) is.used fits instruction
+      ∙ ap (λ (j : Instr). line_of w (length x) (op_of j.op) st (operand st j) (time + 2)) (sym instruction) in
       let j : ℕ = st.pc / (w / 8) in
       ap₂ (λ h t. looked_at j time h ∷ looked_at (j + 1) (time + 1) t ∷ data_line w (length x) now i o takes (time + 2) ∷ []) head_is tail_is
       ∙ ap (λ l. looked_at j time (word_in w st.memory j) ∷ looked_at (j + 1) (time + 1) (word_in w st.memory (j + 1)) ∷ l ∷ []) third
@@ -173,7 +179,8 @@ module _ (w : ℕ) (width : IsWidth w) (x : List ℕ) (time : ℕ) (v : View) (h
   at_state st bytes m holds =
       let same = seen_of x v st m in
       subst (λ u. AtState w x time (step u) st) (sym same)
-      (at_seen w width x time st v.taken v.ended head tail o takes (subst (λ u. AtNumbers w (length x) u head tail o takes) same is) bytes m.primary (subst (λ u. HoldsOlds w x (step u) st) same holds))
+      (at_seen w width x time st v.taken v.ended head tail o takes (subst (λ u. AtNumbers w (length x) u head tail o takes) same is) bytes m.primary
+      (subst (λ u. HoldsOlds w x (step u) st) same holds))
 
   not_ended : takes ≡ true → v.ended ≡ 0
   not_ended t = eqb-true v.ended 0 (and_parts (((decode w head tail).op == 30) && (operand_word v (decode w head tail) == 1)) (v.ended == 0) (is.asked t)).1

@@ -1,5 +1,6 @@
 -- Constraints that were read, and those ahead.
-use Rattle.std.proofs.Common.{◌≡◌, ℕ, ◌+◌, ◌-◌, ◌*◌, ◌<◌, Bool, true, false, cond, eqb, zero, suc, List, [], ◌∷◌, ◌++◌, length, Option, Some, None, MatchOption, Result, Ok, Err, append_assoc, append-nil, arith, ap, refl, sym, ◌∙◌}
+use Rattle.std.proofs.Common.{◌≡◌, ℕ, ◌+◌, ◌-◌, ◌*◌, ◌<◌, Bool, true, false, cond, eqb, zero, suc, List, [], ◌∷◌, ◌++◌, length, Option, Some, None}
+use Rattle.std.proofs.Common.{MatchOption, Result, Ok, Err, append_assoc, append-nil, arith, ap, refl, sym, ◌∙◌}
 use Rattle.std.proofs.lemmas.List.{length-map}
 use Rattle.std.proofs.lemmas.List.Sums.{sum_by_push}
 use Rattle.tv_core.specs.Constraints.{Constraint}
@@ -53,7 +54,8 @@ constraints_from-length file wires zero at rows list is = by_test (eqb at (rows.
     by_test true e = let none : [] ≡ list = cc in ap length (sym none)
     by_test false e = cc
 constraints_from-length file wires (suc n) at rows list is =
-    let first = made (constraint_at file wires (rows.at + rows.size) at) (λ first. constraints_from file wires rows n first.next >>= (λ others. Ok (first.value ∷ others))) list is in
+    let first = made (constraint_at file wires (rows.at + rows.size) at)
+    (λ first. constraints_from file wires rows n first.next >>= (λ others. Ok (first.value ∷ others))) list is in
     let rest = made (constraints_from file wires rows n first.0.next) (λ others. Ok (first.0.value ∷ others)) list first.2 in
     let whole : first.0.value ∷ rest.0 ≡ list = cc in
     ap length (sym whole) ∙ ap suc (constraints_from-length file wires n first.0.next rows rest.0 rest.1)
@@ -61,7 +63,12 @@ constraints_from-length file wires (suc n) at rows list is =
 -- a row has the terms of its constraint
 terms_of_row : (row : Row) → terms_of (constraint_of row) ≡ terms_in row
 terms_of_row row =
-    omega (arith, length-map {B = ℕ × ℕ} row.a (λ (t : ℕ × ℕ). (t.1, t.0)), length-map {B = ℕ × ℕ} row.b (λ (t : ℕ × ℕ). (t.1, t.0)), length-map {B = ℕ × ℕ} row.c (λ (t : ℕ × ℕ). (t.1, t.0)))
+    omega (
+      arith,
+      length-map {B = ℕ × ℕ} row.a (λ (t : ℕ × ℕ). (t.1, t.0)),
+      length-map {B = ℕ × ℕ} row.b (λ (t : ℕ × ℕ). (t.1, t.0)),
+      length-map {B = ℕ × ℕ} row.c (λ (t : ℕ × ℕ). (t.1, t.0)),
+    )
 
 -- one constraint more was read
 pub one_more : (file : List ℕ) (old new : Reached) (rows : List Constraint) (next : Constraint) → IsAt old file rows → Follows new file →
@@ -121,5 +128,6 @@ passed_all file z reached rows more ended = by_stop reached.stopped ended
     by_stop (Some why) refuses = refuses
 
 -- what is given where reading is on
-pub is_on : {Gives : Type 0} (file : List ℕ) (stopped : Option ReadRefusal) → stopped ≡ None → Gives → MatchOption stopped Gives (λ why. Refuses why (system_of file))
+pub is_on : {Gives : Type 0} (file : List ℕ) (stopped : Option ReadRefusal) → stopped ≡ None → Gives
+    → MatchOption stopped Gives (λ why. Refuses why (system_of file))
 is_on file stopped on gives = rw on gives

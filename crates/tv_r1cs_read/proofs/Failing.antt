@@ -1,5 +1,6 @@
 -- Constraints that are tried one after another.
-use Rattle.std.proofs.Common.{◌≡◌, ℕ, ◌+◌, ◌-◌, Bool, true, false, cond, if◌then◌else◌, List, [], ◌∷◌, ◌++◌, length, Option, Some, None, MatchOption, refl, sym, ap, ◌∙◌, add-zero, append_assoc, append-nil, length-append, arith, ◌<◌}
+use Rattle.std.proofs.Common.{◌≡◌, ℕ, ◌+◌, ◌-◌, Bool, true, false, cond, if◌then◌else◌, List, [], ◌∷◌, ◌++◌, length, Option, Some, None, MatchOption, refl}
+use Rattle.std.proofs.Common.{sym, ap, ◌∙◌, add-zero, append_assoc, append-nil, length-append, arith, ◌<◌}
 use Rattle.std.proofs.lemmas.List.{length_push}
 use Rattle.tv_core.specs.Constraints.{Constraint}
 use Rattle.tv_core.specs.Meanings.{holds, first_failure}
@@ -17,17 +18,20 @@ behind_all z at [] more none = ap (λ n. first_failure z n more) (sym (add-zero 
 behind_all z at (c ∷ cs) more none = by_test (holds z c) (behind_all z (at + 1) cs more) none
   where
     by_test : (test : Bool) → (first_failure z (at + 1) cs ≡ None → first_failure z (at + 1) (cs ++ more) ≡ first_failure z (at + 1 + length cs) more) →
-        cond test (first_failure z (at + 1) cs) (Some at) ≡ None → cond test (first_failure z (at + 1) (cs ++ more)) (Some at) ≡ first_failure z (at + length (c ∷ cs)) more
+        cond test (first_failure z (at + 1) cs) (Some at) ≡ None
+        → cond test (first_failure z (at + 1) (cs ++ more)) (Some at) ≡ first_failure z (at + length (c ∷ cs)) more
     by_test true rest none = rest none ∙ ap (λ n. first_failure z n more) (omega arith)
     by_test false rest none = absurd cc
 
 -- none was tried
-abbrev pub over_none : (z : List ℕ) (reached : Reached) (file : List ℕ) (rows : List Constraint) → IsAt reached file rows → WentOver true z reached reached file rows
+abbrev pub over_none : (z : List ℕ) (reached : Reached) (file : List ℕ) (rows : List Constraint) → IsAt reached file rows
+    → WentOver true z reached reached file rows
 over_none z reached file rows place = record { more = []; place = rw append-nil place; count = add-zero reached.left; is = λ at. refl }
 
 -- one more was tried
 pub over_more : (z : List ℕ) (first old new : Reached) (file : List ℕ) (rows : List Constraint) (constraint : Constraint) (test : Bool) →
-    (over : WentOver true z first old file rows) → IsAt new file ((rows ++ over.more) ++ constraint ∷ []) → test ≡ holds z constraint → new.left + 1 ≡ old.left →
+    (over : WentOver true z first old file rows) → IsAt new file ((rows ++ over.more) ++ constraint ∷ []) → test ≡ holds z constraint
+    → new.left + 1 ≡ old.left →
     WentOver test z first new file rows
 over_more z first old new file rows constraint test over place is left = record {
   more = over.more ++ constraint ∷ [];
@@ -57,7 +61,8 @@ over_over z first old new file rows test over later = record {
   is = λ at. behind_all z at over.more later.more (over.is at) ∙ later.is (at + length over.more) ∙ by_test at test;
 }
   where
-    by_test : (at : ℕ) (test : Bool) → (if test then None else Some (at + length over.more + length later.more - 1)) ≡ (if test then None else Some (at + length (over.more ++ later.more) - 1))
+    by_test : (at : ℕ) (test : Bool) → (if test then None else Some (at + length over.more + length later.more - 1))
+        ≡ (if test then None else Some (at + length (over.more ++ later.more) - 1))
     by_test at true = refl
     by_test at false = ap (λ (n : ℕ). Some n) (omega (arith, length-append over.more later.more))
 

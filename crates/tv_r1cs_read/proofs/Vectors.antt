@@ -5,7 +5,8 @@ use Rattle.tv_container.specs.Places.{wrong}
 use Rattle.tv_r1cs_read.specs.R1cs.{system_of, header_of, header_in, constraints_from, constraint_at, combination_at, count_at, terms_at, term_at}
 use Rattle.tv_container.specs.Field.{this_field}
 use Rattle.tv_container.specs.Sections.{sections_of, sections_in, sections_from, section_at}
-use Rattle.tv_container.specs.declared.why.ReadWhy.TheVariants.{BadMagic, BadVersion, Missing, Doubled, OtherPrime, BadCount, WireRange, NotCanonical, Truncated, TooWide, Trailing}
+use Rattle.tv_container.specs.declared.why.ReadWhy.TheVariants.{BadMagic, BadVersion, Missing, Doubled, OtherPrime, BadCount, WireRange, NotCanonical}
+use Rattle.tv_container.specs.declared.why.ReadWhy.TheVariants.{Truncated, TooWide, Trailing}
 
 -- the text `r1cs`, version 1 and three sections
 abbrev front : List ℕ
@@ -98,7 +99,8 @@ record AreRead : Type 0 where
   not_canonical : system_of (changed 88 (255 ∷ 255 ∷ 255 ∷ 255 ∷ []) worked) ≡ wrong 84 NotCanonical
 
 are_read : AreRead
-unfolding system_of header_of header_in this_field constraints_from constraint_at combination_at count_at terms_at term_at sections_of sections_in sections_from section_at
+unfolding system_of header_of header_in this_field constraints_from constraint_at combination_at count_at terms_at term_at sections_of sections_in sections_from
+    section_at
 are_read = record {
   as_it_stands = refl;
   other_order = refl;

@@ -61,8 +61,9 @@ pub(crate) fn try_held<const PASS: bool>(
 }
 
 // Adds the combination at a place to a sum; `None` where the window doesn't hold all of it, or less
-// than one of one term would take, or it isn't as it should be. Many have one term, without a loop. Where `FIRST`, a wide one is left
-// unless the window holds two others behind it: its terms would be added in vain.
+// than one of one term would take, or it isn't as it should be. Many have one term, without a loop.
+// Where `FIRST`, a wide one is left unless the window holds two others after it: its terms would be
+// added in vain.
 #[inline(always)]
 fn sum_held<const PASS: bool, const FIRST: bool>(
     window: &Window,

@@ -53,7 +53,11 @@ stands_more old new list row stands is_narrow name progress passes = record {
       ∙ sym (length-append list (row ∷ []));
   whole = ap (λ (p : Progress). p.broken) progress ∙ stands.whole;
   narrow = rw (ap (λ (p : Progress). p.wires) progress) (All-push (IsNarrow old.progress.wires) list row stands.narrow is_narrow);
-  written = rw (name, ← begun_bytes-more old.progress new.progress list row (ap (λ (p : Progress). p.counts) progress) (ap (λ (p : Progress). p.labels) progress))
+  written = rw (
+    name,
+    ← begun_bytes-more old.progress new.progress list row (ap (λ (p : Progress). p.counts) progress)
+        (ap (λ (p : Progress). p.labels) progress),
+  )
       (has_more old.outside new.outside old.name old.progress.held _ (constraint_bytes row) new.progress.held stands.written passes);
 }
 
@@ -71,11 +75,15 @@ pub put_by : {S : Type 0} (seen : S → Stream) (old new : S) (row : Constraint)
     (seen new).borrow ≡ (seen old).borrow → (seen new).name ≡ (seen old).name →
     top row.a ≤ (seen old).progress.wires → top row.b ≤ (seen old).progress.wires → top row.c ≤ (seen old).progress.wires →
     PassesOn (seen old).outside (seen new).outside (seen old).name ((seen old).progress.held ++ constraint_bytes row) (seen new).progress.held outcome →
-    AreShort row → (seen new).progress ≡ record (seen old).progress { held = (seen new).progress.held; constraints = (seen old).progress.constraints + 1; broken = is_err outcome } →
+    AreShort row → (seen new).progress ≡ record
+    (seen old).progress { held = (seen new).progress.held; constraints = (seen old).progress.constraints + 1; broken = is_err outcome } →
     (seen old).progress.broken ≡ false → PutsIn (stream_meaning seen) old new (put row.a row.b row.c) outcome
 unfolding put
 put_by seen old new row (Ok unit) borrow name a b c passes short is unbroken =
-    let same : (seen new).progress ≡ record (seen old).progress { held = (seen new).progress.held; constraints = (seen old).progress.constraints + 1 } = rw unbroken is in
+    let same : (seen new).progress ≡ record (seen old).progress {
+      held = (seen new).progress.held;
+      constraints = (seen old).progress.constraints + 1;
+    } = rw unbroken is in
     record {
       answers = refl;
       stands = λ list s. stands_more (seen old) (seen new) list row s (narrow (seen old).progress.wires row short a b c) name same passes.done;
@@ -101,7 +109,14 @@ put_by seen old new row (Err fault) borrow name a b c passes short is unbroken =
       at = refl;
       tried = λ list s. tried_more (seen old) (seen new) list row s name counts labels passes.refused;
       broken = ap (λ (p : Progress). p.broken) is;
-      keeps = record { borrow = borrow; name = name; counts = counts; labels = labels; outside = passes.only; quiet = λ whole. let broken = ap (λ (p : Progress). p.broken) is in cc };
+      keeps = record {
+        borrow = borrow;
+        name = name;
+        counts = counts;
+        labels = labels;
+        outside = passes.only;
+        quiet = λ whole. let broken = ap (λ (p : Progress). p.broken) is in cc;
+      };
       cause = cause_seen (λ s. (seen s).outside) old new fault passes.cause;
       faults = passes.only.later.write_faults;
       wants = passes.only.later.wants;

@@ -27,7 +27,8 @@ pub finished_by : (sink : Stream) (new : Outside) (labels held : List ℕ) (outc
     PassesOn sink.outside new sink.name (sink.progress.held ++ last_bytes sink.progress labels) held outcome → held ≡ [] → Finishes sink new labels outcome
 finished_by sink new labels held (Ok unit) each passes none = record {
   whole = λ list stands files told.
-      let has = has_more sink.outside new sink.name sink.progress.held (begun_bytes sink.progress list) (last_bytes sink.progress labels) held stands.written passes.done files told in
+      let has = has_more sink.outside new sink.name sink.progress.held (begun_bytes sink.progress list)
+      (last_bytes sink.progress labels) held stands.written passes.done files told in
       has.1 ∙ ap Some (sym (append-nil has.0) ∙ ap (λ rest. has.0 ++ rest) (sym none) ∙ has.2 ∙ finished sink.progress list labels each);
   part = λ list stands. tt;
   only = passes.only;
@@ -37,7 +38,8 @@ finished_by sink new labels held (Err fault) each passes none = record {
   whole = λ list stands. tt;
   part = λ list stands.
       rw (← finished sink.progress list labels each)
-      (has_front sink.outside new sink.name sink.progress.held (begun_bytes sink.progress list) (last_bytes sink.progress labels) stands.written passes.refused);
+      (has_front sink.outside new sink.name sink.progress.held (begun_bytes sink.progress list)
+      (last_bytes sink.progress labels) stands.written passes.refused);
   only = passes.only;
   cause = passes.cause;
 }

@@ -46,4 +46,10 @@ terms_in-cons row list = sum_by-cons (λ (constraint : Constraint). length const
 
 pub length-rows_bytes : (list : List Constraint) → length (rows_bytes list) ≡ 12 * length list + 12 * terms_in list
 length-rows_bytes [] = refl
-length-rows_bytes (row ∷ list) = omega (arith, length-append (constraint_bytes row) (rows_bytes list), length-constraint_bytes row, length-rows_bytes list, terms_in-cons row list)
+length-rows_bytes (row ∷ list) = omega (
+  arith,
+  length-append (constraint_bytes row) (rows_bytes list),
+  length-constraint_bytes row,
+  length-rows_bytes list,
+  terms_in-cons row list,
+)

@@ -7,7 +7,8 @@ use Rattle.std.specs.List.{All}
 use Rattle.tv_container.specs.Bytes.{four_bytes, eight_bytes, field_bytes, front_bytes, section_bytes, section_head}
 use Rattle.tv_container.specs.Sections.{sections_of}
 use Rattle.tv_container.specs.declared.sections.Section.{Section}
-use Rattle.tv_container.proofs.BytesAt.{At, at_first, at_rest, at_start, field_read, length-eight_bytes, length-field_bytes, length-four_bytes, length-front_bytes, length-section_bytes, length-section_head, number_of_four, section_read, sections_counted}
+use Rattle.tv_container.proofs.BytesAt.{At, at_first, at_rest, at_start, field_read, length-eight_bytes, length-field_bytes, length-four_bytes}
+use Rattle.tv_container.proofs.BytesAt.{length-front_bytes, length-section_bytes, length-section_head, number_of_four, section_read, sections_counted}
 use Rattle.tv_container.proofs.SectionLemmas.{sections_from-end}
 use Rattle.tv_core.specs.Constraints.{Constraint}
 use Rattle.tv_core.specs.Meanings.{terms_in, system_counts}
@@ -26,7 +27,14 @@ terms_few : (wires : ℕ) (list : List Constraint) → All (IsNarrow wires) list
 terms_few wires [] all = omega arith
 terms_few wires (row ∷ list) all =
     let first = All-head (IsNarrow wires) row list all in
-    omega (arith, first.short.a.terms, first.short.b.terms, first.short.c.terms, terms_in-cons row list, terms_few wires list (All-tail (IsNarrow wires) row list all))
+    omega (
+      arith,
+      first.short.a.terms,
+      first.short.b.terms,
+      first.short.c.terms,
+      terms_in-cons row list,
+      terms_few wires list (All-tail (IsNarrow wires) row list all),
+    )
 
 length-counts_bytes : (counts : Counts) (labels : ℕ) → length (counts_bytes counts labels) ≡ 40
 length-counts_bytes counts labels =
@@ -51,7 +59,8 @@ length-counts_bytes counts labels =
 -- the content of a section stands behind its header
 content_at : (kind at : ℕ) (content rest file : List ℕ) → At file at (section_bytes kind content ++ rest) → At file (at + 12) content
 content_at kind at content rest file a =
-    at_rest file at 12 (at + 12) (section_head kind (length content)) content (at_first file at (section_bytes kind content) rest a) (length-section_head kind (length content)) refl
+    at_rest file at 12 (at + 12) (section_head kind (length content)) content (at_first file at (section_bytes kind content) rest a)
+    (length-section_head kind (length content)) refl
 
 -- three sections that were written are read: the contents of the first two stand where they are told
 record AreRead (magic version : ℕ) (one two three file : List ℕ) : Type 0 where
@@ -93,9 +102,11 @@ are_read magic version one two three file is magic_short version_short short =
       one_at = content_at 1 12 one (second ++ third) file a;
       two_at = content_at 2 (24 + length one) two third file b;
       sections =
-          sections_counted 3 magic version 3 file (at_first file 0 (front_bytes magic version 3) (first ++ (second ++ third)) start) magic_short version_short (omega arith) short
+          sections_counted 3 magic version 3 file (at_first file 0 (front_bytes magic version 3) (first ++ (second ++ third)) start) magic_short version_short
+          (omega arith) short
           ∙ section_read 3 2 12 (24 + length one) 1 one file [] (at_first file 12 first (second ++ third) a) (omega arith) short refl (omega arith)
-          ∙ section_read 3 1 (24 + length one) (36 + length one + length two) 2 two file (s1 ∷ []) (at_first file (24 + length one) second third b) (omega arith) short refl (omega arith)
+          ∙ section_read 3 1 (24 + length one) (36 + length one + length two) 2 two file (s1 ∷ []) (at_first file (24 + length one) second third b)
+          (omega arith) short refl (omega arith)
           ∙ section_read 3 0 (36 + length one + length two) (length file) 3 three file (s1 ∷ s2 ∷ []) c (omega arith) short refl end
           ∙ sections_from-end 3 0 (length file) file (s1 ∷ s2 ∷ s3 ∷ []) refl refl;
     }
@@ -108,13 +119,17 @@ counts_read file counts labels one two a wires outputs inputs constraints =
     let at = one.at in
     let last = eight_bytes labels ++ four_bytes counts.constraints in
     let b = at_rest file at 12 (at + 12) field_bytes (numbers_bytes counts labels) a length-field_bytes refl in
-    let c = at_rest file (at + 12) 4 (at + 16) (four_bytes counts.wires) (four_bytes counts.outputs ++ (four_bytes counts.inputs ++ (four_bytes 0 ++ last))) b (length-four_bytes counts.wires) (omega arith) in
-    let d = at_rest file (at + 16) 4 (at + 20) (four_bytes counts.outputs) (four_bytes counts.inputs ++ (four_bytes 0 ++ last)) c (length-four_bytes counts.outputs) (omega arith) in
+    let c = at_rest file (at + 12) 4 (at + 16) (four_bytes counts.wires) (four_bytes counts.outputs ++ (four_bytes counts.inputs ++ (four_bytes 0 ++ last))) b
+    (length-four_bytes counts.wires) (omega arith) in
+    let d = at_rest file (at + 16) 4 (at + 20) (four_bytes counts.outputs) (four_bytes counts.inputs ++ (four_bytes 0 ++ last)) c
+    (length-four_bytes counts.outputs) (omega arith) in
     let e = at_rest file (at + 20) 4 (at + 24) (four_bytes counts.inputs) (four_bytes 0 ++ last) d (length-four_bytes counts.inputs) (omega arith) in
     let f = at_rest file (at + 24) 4 (at + 28) (four_bytes 0) last e (length-four_bytes 0) (omega arith) in
     let g = at_rest file (at + 28) 8 (at + 36) (eight_bytes labels) (four_bytes counts.constraints) f (length-eight_bytes labels) (omega arith) in
-    let wires_are = number_of_four file (at + 12) counts.wires (at_first file (at + 12) (four_bytes counts.wires) (four_bytes counts.outputs ++ (four_bytes counts.inputs ++ (four_bytes 0 ++ last))) b) wires in
-    let outputs_are = number_of_four file (at + 16) counts.outputs (at_first file (at + 16) (four_bytes counts.outputs) (four_bytes counts.inputs ++ (four_bytes 0 ++ last)) c) outputs in
+    let wires_are = number_of_four file (at + 12) counts.wires
+    (at_first file (at + 12) (four_bytes counts.wires) (four_bytes counts.outputs ++ (four_bytes counts.inputs ++ (four_bytes 0 ++ last))) b) wires in
+    let outputs_are = number_of_four file (at + 16) counts.outputs
+    (at_first file (at + 16) (four_bytes counts.outputs) (four_bytes counts.inputs ++ (four_bytes 0 ++ last)) c) outputs in
     let inputs_are = number_of_four file (at + 20) counts.inputs (at_first file (at + 20) (four_bytes counts.inputs) (four_bytes 0 ++ last) d) inputs in
     let constraints_are = number_of_four file (at + 36) counts.constraints g constraints in
     rw (wires_are, outputs_are, inputs_are, constraints_are) refl
@@ -154,14 +169,16 @@ systems_come_back system count labels is each =
       length-section_bytes 2 two,
       length-section_bytes 3 three,
     ) in
-    let short : length file < 2 ^ 64 - 1 = omega (arith, long, one_size, few, is.constraints, is.wires, length-rows_bytes list, length-label_bytes labels, each) in
+    let short : length file < 2 ^ 64 - 1 = omega
+    (arith, long, one_size, few, is.constraints, is.wires, length-rows_bytes list, length-label_bytes labels, each) in
     let read = are_read 0x73633172 1 one two three file refl (omega arith) (omega arith) short in
     let s1 : Section = record { kind = 1; at = 24; size = length one } in
     let s2 : Section = record { kind = 2; at = 24 + length one + 12; size = length two } in
     let s3 : Section = record { kind = 3; at = 36 + length one + length two + 12; size = length three } in
     let header : Header = record { wires = system.wires; outputs = system.outputs; inputs = system.inputs; constraints = length list; rows = s2 } in
     let field = field_read file 40 s1 (at_first file 24 field_bytes (numbers_bytes counts count) read.one_at) one_size (omega arith) in
-    let counted_are = counts_read file counts count s1 s2 read.one_at is.wires (omega (arith, is.publics, is.wires)) (omega (arith, is.publics, is.wires)) is.constraints in
+    let counted_are = counts_read file counts count s1 s2 read.one_at is.wires (omega (arith, is.publics, is.wires))
+    (omega (arith, is.publics, is.wires)) is.constraints in
     let found = header_found file (s1 ∷ s2 ∷ s3 ∷ []) read.sections
     ∙ header_in-checked file (s1 ∷ s2 ∷ s3 ∷ []) s1 s2 tt header refl refl field counted_are
     ∙ checked_passes header s1 s3 is.publics (omega (arith, length-label_bytes labels, each)) in

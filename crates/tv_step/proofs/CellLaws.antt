@@ -1,5 +1,6 @@
 -- Lines hold what their cells hold, and what a step changes of the cells is its data line.
-use Rattle.std.proofs.Common.{◌≡◌, ◌≢◌, ℕ, ◌+◌, ◌-◌, ◌/◌, ◌%◌, ◌<◌, ◌^◌, ◌==◌, Bool, true, false, cond, nat_lt, List, [], ◌∷◌, length, All, refl, sym, ap, ◌∙◌, arith, subst, Option, Some, None, add-zero}
+use Rattle.std.proofs.Common.{◌≡◌, ◌≢◌, ℕ, ◌+◌, ◌-◌, ◌/◌, ◌%◌, ◌<◌, ◌^◌, ◌==◌, Bool, true, false, cond, nat_lt, List, [], ◌∷◌, length, All, refl, sym, ap}
+use Rattle.std.proofs.Common.{◌∙◌, arith, subst, Option, Some, None, add-zero}
 use Rattle.std.specs.Prelude.{if◌then◌else◌, slice_index, slice_get}
 use Rattle.std.proofs.lemmas.Bool.{lt-ltb, le-ltb, eqb-true, eqb-false}
 use Rattle.std.proofs.lemmas.List.{get_or_past, get_or-drop}
@@ -28,12 +29,14 @@ cell_of_memory w x m c h = ap (λ b. cond b (word_in w m c) (slice_index x (c - 
 pub cell_of_tape : (w : ℕ) (x : List ℕ) (m : ℕ → ℕ) (i : ℕ) → cell_word w x m (TAPE_CELLS + i) ≡ slice_index x i
 cell_of_tape w x m i =
     let same : TAPE_CELLS + i - TAPE_CELLS ≡ i = omega arith in
-    ap (λ b. cond b (word_in w m (TAPE_CELLS + i)) (slice_index x (TAPE_CELLS + i - TAPE_CELLS))) (le-ltb (TAPE_CELLS + i) TAPE_CELLS (omega arith)) ∙ ap (λ k. slice_index x k) same
+    ap (λ b. cond b (word_in w m (TAPE_CELLS + i)) (slice_index x (TAPE_CELLS + i - TAPE_CELLS))) (le-ltb (TAPE_CELLS + i) TAPE_CELLS (omega arith))
+    ∙ ap (λ k. slice_index x k) same
 
 -- the cells of an instruction's two words
 fetched_cells : (w : ℕ) → IsWidth w → (pc : ℕ) → pc < 2 ^ w → pc % (w / 4) ≡ 0 → (pc / (w / 8) < TAPE_CELLS) × (pc / (w / 8) + 1 < TAPE_CELLS)
 fetched_cells w width pc h aligned =
-    for_widths (λ w. pc < 2 ^ w → pc % (w / 4) ≡ 0 → (pc / (w / 8) < TAPE_CELLS) × (pc / (w / 8) + 1 < TAPE_CELLS)) (λ h a. (omega arith, omega arith)) (λ h a. (omega arith, omega arith)) w width h aligned
+    for_widths (λ w. pc < 2 ^ w → pc % (w / 4) ≡ 0 → (pc / (w / 8) < TAPE_CELLS) × (pc / (w / 8) + 1 < TAPE_CELLS)) (λ h a. (omega arith, omega arith))
+    (λ h a. (omega arith, omega arith)) w width h aligned
 
 -- the first word of a list of words
 first_word : (w : ℕ) (xs : List ℕ) (v : ℕ) → AreWords w xs → slice_get xs 0 ≡ Some v → v < 2 ^ w
@@ -81,7 +84,11 @@ module _ (w : ℕ) (width : IsWidth w) (n : ℕ) (short : n < 2 ^ 29) (st : Stat
   line_fits _ a h = null_fits
 
   fetch_fits : (j t : ℕ) → j < TAPE_CELLS → IsLine w (looked_at j t (word_in w st.memory j))
-  fetch_fits j t low = record { cell = omega (arith, low); old = words_are_small w width st.memory range.bytes j; new = words_are_small w width st.memory range.bytes j }
+  fetch_fits j t low = record {
+    cell = omega (arith, low);
+    old = words_are_small w width st.memory range.bytes j;
+    new = words_are_small w width st.memory range.bytes j;
+  }
 
 pub lines_in_range : LinesInRange
 lines_in_range w width n st time short range =
@@ -103,7 +110,8 @@ module _ (w : ℕ) (width : IsWidth w) (x : List ℕ) (st : State) (on : IsOn w 
     tape_holds None first = null_holds
     tape_holds (Some v) first =
         let gone : ℕ = length x - length st.primary in
-        sym (cell_of_tape w x m gone ∙ ap (λ k. slice_index x k) (sym (add-zero gone)) ∙ sym (get_or-drop gone x 0 0) ∙ ap (λ l. slice_index l 0) (sym on.rest.is) ∙ first_of st.primary v (first v refl))
+        sym (cell_of_tape w x m gone ∙ ap (λ k. slice_index x k) (sym (add-zero gone)) ∙ sym (get_or-drop gone x 0 0)
+        ∙ ap (λ l. slice_index l 0) (sym on.rest.is) ∙ first_of st.primary v (first v refl))
 
   old_holds : (op : Op) (a : ℕ) → a < 2 ^ w → (line_of w (length x) op st a time).old ≡ cells_of w x st (line_of w (length x) op st a time).cell
   old_holds StoreB a h = sym (cell_of_memory w x st.memory (a / (w / 8)) (cell_is_low w width a h))
@@ -118,7 +126,8 @@ module _ (w : ℕ) (width : IsWidth w) (x : List ℕ) (st : State) (on : IsOn w 
   tape_same (Some v) = refl
 
   -- the new word of the line is what its cell then holds
-  new_holds : (op : Op) (a : ℕ) → a < 2 ^ w → (line_of w (length x) op st a time).new ≡ cells_of w x (state_after w 1 st) (line_of w (length x) op st a time).cell
+  new_holds : (op : Op) (a : ℕ) → a < 2 ^ w
+      → (line_of w (length x) op st a time).new ≡ cells_of w x (state_after w 1 st) (line_of w (length x) op st a time).cell
   new_holds StoreB a h = sym (cell_of_memory w x (state_after w 1 st).memory (a / (w / 8)) (cell_is_low w width a h))
   new_holds LoadB a h = sym (cell_of_memory w x (state_after w 1 st).memory (a / (w / 8)) (cell_is_low w width a h))
   new_holds StoreW a h = sym (cell_of_memory w x (state_after w 1 st).memory (a / (w / 8)) (cell_is_low w width a h))
@@ -129,7 +138,8 @@ module _ (w : ℕ) (width : IsWidth w) (x : List ℕ) (st : State) (on : IsOn w 
   new_holds _ a h = null_holds (state_after w 1 st).memory
 
   -- no other word of memory changes
-  others_stay : (op : Op) (i d s a c : ℕ) → c ≢ (line_of w (length x) op st a time).cell → word_in w (came w st (row w op st i d s a)).memory c ≡ word_in w st.memory c
+  others_stay : (op : Op) (i d s a c : ℕ) → c ≢ (line_of w (length x) op st a time).cell
+      → word_in w (came w st (row w op st i d s a)).memory c ≡ word_in w st.memory c
   others_stay StoreB i d s a c other = others_after_byte w width st.memory a (d % 256) c other
   others_stay StoreW i d s a c other = others_after_word w width st.memory (a / (w / 8)) d c other
   others_stay op i d s a c other = ap (λ m. word_in w m c) (memory_stays w st op i d s a refl)
@@ -137,7 +147,8 @@ module _ (w : ℕ) (width : IsWidth w) (x : List ℕ) (st : State) (on : IsOn w 
   writes : (c : ℕ) → cells_of w x (state_after w 1 st) c ≡ written (cells_of w x st) (data_line w (length x) st time) c
   writes c = by_cell ((data_line w (length x) st time).cell == c) refl
     where
-      by_cell : (b : Bool) → ((data_line w (length x) st time).cell == c) ≡ b → cells_of w x (state_after w 1 st) c ≡ written (cells_of w x st) (data_line w (length x) st time) c
+      by_cell : (b : Bool) → ((data_line w (length x) st time).cell == c) ≡ b
+          → cells_of w x (state_after w 1 st) c ≡ written (cells_of w x st) (data_line w (length x) st time) c
       by_cell true here =
           ap (cells_of w x (state_after w 1 st)) (sym (eqb-true (data_line w (length x) st time).cell c here))
           ∙ sym (new_holds (op_of (fetched w st).op) (operand st (fetched w st)) (operand_in w width st on.range))
@@ -145,14 +156,16 @@ module _ (w : ℕ) (width : IsWidth w) (x : List ℕ) (st : State) (on : IsOn w 
       by_cell false there =
           let i = fetched w st in
           let other : c ≢ (data_line w (length x) st time).cell = λ e. eqb-false (data_line w (length x) st time).cell c there (sym e) in
-          ap (λ v. cond (nat_lt c TAPE_CELLS) v (slice_index x (c - TAPE_CELLS))) (others_stay (op_of i.op) i.dest (reg st i.dest) (reg st i.source) (operand st i) c other)
+          ap (λ v. cond (nat_lt c TAPE_CELLS) v (slice_index x (c - TAPE_CELLS)))
+          (others_stay (op_of i.op) i.dest (reg st i.dest) (reg st i.source) (operand st i) c other)
           ∙ sym (ap (λ b. cond b (data_line w (length x) st time).new (cells_of w x st c)) there)
 
 pub olds_are_in_cells : OldsAreInCells
 olds_are_in_cells w width x st time on =
     let j : ℕ = st.pc / (w / 8) in
     let low = fetched_cells w width st.pc on.range.pc_fits on.range.pc_aligned in
-    three (λ l. l.old ≡ cells_of w x st l.cell) (looked_at j time (word_in w st.memory j)) (looked_at (j + 1) (time + 1) (word_in w st.memory (j + 1))) (data_line w (length x) st (time + 2))
+    three (λ l. l.old ≡ cells_of w x st l.cell) (looked_at j time (word_in w st.memory j)) (looked_at (j + 1) (time + 1) (word_in w st.memory (j + 1)))
+    (data_line w (length x) st (time + 2))
     (sym (cell_of_memory w x st.memory j low.0)) (sym (cell_of_memory w x st.memory (j + 1) low.1))
     (old_holds w width x st on (time + 2) (op_of (fetched w st).op) (operand st (fetched w st)) (operand_in w width st on.range))
 

@@ -71,7 +71,8 @@ end_answers w t st v step e = (answered w 0 t v step st e).steps
 abbrev Ends : ℕ → ℕ → ℕ → ℕ → State → Type 0
 Ends w k n v st = (step : ℕ) × (step ≤ k + n) × (end_from w k n st ≡ ends.Answer v step)
 
-ends_by : (w k n v : ℕ) (st : State) (came : Next) → next w st ≡ came → ((after : State) → next w (state_after w n after) ≡ Next.Answered v → Ends w (k + 1) (suc n) v after)
+ends_by : (w k n v : ℕ) (st : State) (came : Next) → next w st ≡ came
+    → ((after : State) → next w (state_after w n after) ≡ Next.Answered v → Ends w (k + 1) (suc n) v after)
     → next w (left_in (λ after. state_after w n after) st came) ≡ Next.Answered v
     → (step : ℕ) × (step ≤ k + suc (suc n)) × (ended (λ after. end_from w (k + 1) (suc n) after) (k + 1) came ≡ ends.Answer v step)
 ends_by w k n v st (Next.Gone after) is later e =

@@ -54,7 +54,9 @@ wraps_around : end_of 32 5 (start 32 (2885681152 ∷ 17 ∷ 2751463424 ∷ 42949
 wraps_around = refl
 
 -- a byte is written into a word, and read back with an address that is not its first
-keeps_other_bytes : end_of 32 6 (start 32 (2487222272 ∷ 287454020 ∷ 2491416576 ∷ 171 ∷ 3829399552 ∷ 65536 ∷ 3565158400 ∷ 65537 ∷ 3972005888 ∷ 65539 ∷ 4160749568 ∷ 3 ∷ []) ([]) ([])) ≡ ends.Answer 287484740 6
+keeps_other_bytes : end_of 32 6 (start 32
+    (2487222272 ∷ 287454020 ∷ 2491416576 ∷ 171 ∷ 3829399552 ∷ 65536 ∷ 3565158400 ∷ 65537 ∷ 3972005888 ∷ 65539 ∷ 4160749568 ∷ 3 ∷ []) ([]) ([]))
+    ≡ ends.Answer 287484740 6
 keeps_other_bytes = refl
 
 -- the third instruction is overwritten by the second
@@ -62,15 +64,18 @@ rewrites_itself : end_of 32 3 (start 32 (2487222272 ∷ 4227858432 ∷ 382939955
 rewrites_itself = refl
 
 -- one word of the primary tape, its end, and a tape that is not there
-reads_the_primary_tape : end_of 32 4 (start 32 (4097835008 ∷ 0 ∷ 4102029312 ∷ 0 ∷ 4106223616 ∷ 2 ∷ 4160749568 ∷ 1 ∷ []) (4294967295 ∷ []) ([])) ≡ ends.Answer 4294967295 4
+reads_the_primary_tape : end_of 32 4 (start 32 (4097835008 ∷ 0 ∷ 4102029312 ∷ 0 ∷ 4106223616 ∷ 2 ∷ 4160749568 ∷ 1 ∷ []) (4294967295 ∷ []) ([]))
+    ≡ ends.Answer 4294967295 4
 reads_the_primary_tape = refl
 
 -- the last byte of a page and the first of the next
-crosses_pages : end_of 32 6 (start 32 (2487222272 ∷ 7 ∷ 3560964096 ∷ 8191 ∷ 3560964096 ∷ 8192 ∷ 3967811584 ∷ 8188 ∷ 3972005888 ∷ 8192 ∷ 4160749568 ∷ 2 ∷ []) ([]) ([])) ≡ ends.Answer 117440512 6
+crosses_pages : end_of 32 6 (start 32 (2487222272 ∷ 7 ∷ 3560964096 ∷ 8191 ∷ 3560964096 ∷ 8192 ∷ 3967811584 ∷ 8188 ∷ 3972005888 ∷ 8192 ∷ 4160749568 ∷ 2 ∷ [])
+    ([]) ([])) ≡ ends.Answer 117440512 6
 crosses_pages = refl
 
 -- the last word of memory
-stores_at_the_top : end_of 32 5 (start 32 (2487222272 ∷ 4294967295 ∷ 3829399552 ∷ 4294967295 ∷ 3699376128 ∷ 4294967292 ∷ 747110400 ∷ 255 ∷ 4160749568 ∷ 2 ∷ []) ([]) ([])) ≡ ends.Answer 0 5
+stores_at_the_top : end_of 32 5 (start 32 (2487222272 ∷ 4294967295 ∷ 3829399552 ∷ 4294967295 ∷ 3699376128 ∷ 4294967292 ∷ 747110400 ∷ 255 ∷ 4160749568 ∷ 2 ∷ [])
+    ([]) ([])) ≡ ends.Answer 0 5
 stores_at_the_top = refl
 
 -- the word in register 1 and the flag after an instruction on s and a

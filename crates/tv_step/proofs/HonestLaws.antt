@@ -1,5 +1,6 @@
 -- Boot lines leave the start, and the lines of a run are honest.
-use Rattle.std.proofs.Common.{◌≡◌, ℕ, zero, suc, ◌+◌, ◌-◌, ◌*◌, ◌/◌, ◌<◌, ◌≤◌, ◌==◌, Bool, true, false, cond, nat_lt, List, [], ◌∷◌, ◌++◌, length, fold, All, refl, sym, ap, ◌∙◌, arith, add-zero, zero-add}
+use Rattle.std.proofs.Common.{◌≡◌, ℕ, zero, suc, ◌+◌, ◌-◌, ◌*◌, ◌/◌, ◌<◌, ◌≤◌, ◌==◌, Bool, true, false, cond, nat_lt, List, [], ◌∷◌, ◌++◌, length, fold, All}
+use Rattle.std.proofs.Common.{refl, sym, ap, ◌∙◌, arith, add-zero, zero-add}
 use Rattle.std.specs.Prelude.{slice_index}
 use Rattle.std.proofs.lemmas.Bool.{ltb-true, ltb-false, eq-eqb, ne_eqb, eqb-true}
 use Rattle.std.proofs.lemmas.List.Sums.{fold-append}
@@ -40,25 +41,30 @@ written_agree m n l e c = ap (λ v. cond (l.cell == c) l.new v) (e c)
 -- cells below the first, from the first on, and past the last
 boot_below : (m : ℕ → ℕ) (i t : ℕ) (vs : List ℕ) (c : ℕ) → c < i → after m (boot_from i t vs) c ≡ m c
 boot_below m i t [] c h = refl
-boot_below m i t (v ∷ vs) c h = boot_below (written m (record { cell = i; time = t; old = 0; new = v })) (i + 1) (t + 1) vs c (omega arith) ∙ ap (λ b. cond b v (m c)) (ne_eqb i c (λ e. omega arith))
+boot_below m i t (v ∷ vs) c h = boot_below (written m (record { cell = i; time = t; old = 0; new = v })) (i + 1) (t + 1) vs c (omega arith)
+    ∙ ap (λ b. cond b v (m c)) (ne_eqb i c (λ e. omega arith))
 
 boot_at : (m : ℕ → ℕ) (i t : ℕ) (vs : List ℕ) (k : ℕ) → m (i + k) ≡ 0 → after m (boot_from i t vs) (i + k) ≡ slice_index vs k
 boot_at m i t [] k e = e
-boot_at m i t (v ∷ vs) zero e = rw add-zero (boot_below (written m (record { cell = i; time = t; old = 0; new = v })) (i + 1) (t + 1) vs i (omega arith) ∙ ap (λ b. cond b v (m i)) (eq-eqb i i refl))
+boot_at m i t (v ∷ vs) zero e = rw add-zero
+    (boot_below (written m (record { cell = i; time = t; old = 0; new = v })) (i + 1) (t + 1) vs i (omega arith) ∙ ap (λ b. cond b v (m i)) (eq-eqb i i refl))
 boot_at m i t (v ∷ vs) (suc k) e =
     let f : i + suc k ≡ i + 1 + k = omega arith in
-    rw f (boot_at (written m (record { cell = i; time = t; old = 0; new = v })) (i + 1) (t + 1) vs k (ap (λ b. cond b v (m (i + 1 + k))) (ne_eqb i (i + 1 + k) (λ e. omega arith)) ∙ (rw f at e)))
+    rw f (boot_at (written m (record { cell = i; time = t; old = 0; new = v })) (i + 1) (t + 1) vs k
+    (ap (λ b. cond b v (m (i + 1 + k))) (ne_eqb i (i + 1 + k) (λ e. omega arith)) ∙ (rw f at e)))
 
 boot_above : (m : ℕ → ℕ) (i t : ℕ) (vs : List ℕ) (c : ℕ) → i + length vs ≤ c → after m (boot_from i t vs) c ≡ m c
 boot_above m i t [] c h = refl
-boot_above m i t (v ∷ vs) c h = boot_above (written m (record { cell = i; time = t; old = 0; new = v })) (i + 1) (t + 1) vs c (omega arith) ∙ ap (λ b. cond b v (m c)) (ne_eqb i c (λ e. omega arith))
+boot_above m i t (v ∷ vs) c h = boot_above (written m (record { cell = i; time = t; old = 0; new = v })) (i + 1) (t + 1) vs c (omega arith)
+    ∙ ap (λ b. cond b v (m c)) (ne_eqb i c (λ e. omega arith))
 
 -- they are the first of their cells
 boot_honest : (m : ℕ → ℕ) (i t : ℕ) (vs : List ℕ) → ((c : ℕ) → i ≤ c → m c ≡ 0) → HonestFrom m (boot_from i t vs)
 boot_honest m i t [] h = tt
 boot_honest m i t (v ∷ vs) h = (
   sym (h i (omega arith)),
-  boot_honest (written m (record { cell = i; time = t; old = 0; new = v })) (i + 1) (t + 1) vs (λ c k. ap (λ b. cond b v (m c)) (ne_eqb i c (λ e. omega arith)) ∙ h c (omega arith)),
+  boot_honest (written m (record { cell = i; time = t; old = 0; new = v })) (i + 1) (t + 1) vs
+      (λ c k. ap (λ b. cond b v (m c)) (ne_eqb i c (λ e. omega arith)) ∙ h c (omega arith)),
 )
 
 module _ (w : ℕ) (image x aux : List ℕ) (input : IsInput w image x aux) where
@@ -99,7 +105,11 @@ module _ (w : ℕ) (image x aux : List ℕ) (input : IsInput w image x aux) wher
   now t = state_after w t first
 
   on_run : (t : ℕ) → IsOn w x (now t)
-  on_run t = record { short = input.short; range = keeps_on w input.width first t (start_in_range w input.width image x aux input.primary_words input.aux_words); rest = primary_rest w first t }
+  on_run t = record {
+    short = input.short;
+    range = keeps_on w input.width first t (start_in_range w input.width image x aux input.primary_words input.aux_words);
+    rest = primary_rest w first t;
+  }
 
   -- a step's lines, from a memory that agrees with the cells before it
   module _ (t time : ℕ) (m : ℕ → ℕ) (same : (c : ℕ) → m c ≡ cells_of w x (now t) c) where
@@ -170,11 +180,13 @@ boot_leaves_the_start w image x aux input c = boot_leaves w image x aux input c
 
 pub lines_leave_the_state : LinesLeaveTheState
 lines_leave_the_state w image x aux t input c =
-    ap (λ (f : ℕ → ℕ). f c) (fold-append written (λ c. 0) (boot_lines image x) (lines_of w (length x) (length image + length x) (start w image x aux) t)) ∙ leaves w image x aux input t c
+    ap (λ (f : ℕ → ℕ). f c) (fold-append written (λ c. 0) (boot_lines image x) (lines_of w (length x) (length image + length x) (start w image x aux) t))
+    ∙ leaves w image x aux input t c
 
 pub lines_are_honest : LinesAreHonest
 lines_are_honest w image x aux t input =
     λ earlier line later e. Honest-from_HonestFrom (λ c. 0) (run_lines w image x aux t) earlier line later
-    (HonestFrom-append (λ c. 0) (boot_lines image x) (lines_of w (length x) (length image + length x) (start w image x aux) t) (boot_lines_honest w image x aux input) (steps_honest w image x aux input t)) e
+    (HonestFrom-append (λ c. 0) (boot_lines image x) (lines_of w (length x) (length image + length x) (start w image x aux) t)
+    (boot_lines_honest w image x aux input) (steps_honest w image x aux input t)) e
 
 pub ruleset honest = (boot_leaves_the_start, lines_leave_the_state, lines_are_honest)

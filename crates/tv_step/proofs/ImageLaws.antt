@@ -58,10 +58,12 @@ image_whole w memory image i all same = same ∙ ap (image_bytes w) (take_all i 
 
 -- a word of the image
 pub word_of_image : (w : ℕ) → IsWidth w → (image : List ℕ) (c : ℕ) → AreWords w image → word_in w (image_bytes w image) c ≡ slice_index image c
-word_of_image w width image c words = same_word w width (image_bytes w image) c (slice_index image c) (word_at w width image c words) (λ k h. image_byte w width image c k h)
+word_of_image w width image c words = same_word w width (image_bytes w image) c (slice_index image c) (word_at w width image c words)
+    (λ k h. image_byte w width image c k h)
   where
     place : (w : ℕ) → IsWidth w → (c k : ℕ) → k < w / 8 → ((c * (w / 8) + k) / (w / 8) ≡ c) × ((c * (w / 8) + k) % (w / 8) ≡ k)
-    place w width c k = for_widths (λ w. k < w / 8 → ((c * (w / 8) + k) / (w / 8) ≡ c) × ((c * (w / 8) + k) % (w / 8) ≡ k)) (λ h. (omega arith, omega arith)) (λ h. (omega arith, omega arith)) w width
+    place w width c k = for_widths (λ w. k < w / 8 → ((c * (w / 8) + k) / (w / 8) ≡ c) × ((c * (w / 8) + k) % (w / 8) ≡ k)) (λ h. (omega arith, omega arith))
+        (λ h. (omega arith, omega arith)) w width
 
     image_byte : (w : ℕ) → IsWidth w → (image : List ℕ) (c k : ℕ) → k < w / 8 → image_bytes w image (c * (w / 8) + k) ≡ byte_of (slice_index image c) k
     image_byte w width image c k h = let here = place w width c k h in ap₂ (λ a b. byte_of (slice_index image a) b) here.0 here.1

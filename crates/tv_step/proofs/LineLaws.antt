@@ -1,5 +1,6 @@
 -- The data line of a step.
-use Rattle.std.proofs.Common.{◌≡◌, ℕ, ◌+◌, ◌-◌, ◌/◌, ◌^◌, ◌<◌, ◌==◌, Bool, true, false, cond, nat_lt, List, [], ◌∷◌, length, Option, Some, None, refl, ap, arith, true≢false}
+use Rattle.std.proofs.Common.{◌≡◌, ℕ, ◌+◌, ◌-◌, ◌/◌, ◌^◌, ◌<◌, ◌==◌, Bool, true, false, cond, nat_lt, List, [], ◌∷◌, length, Option, Some, None, refl, ap}
+use Rattle.std.proofs.Common.{arith, true≢false}
 use Rattle.std.specs.Prelude.{if◌then◌else◌, slice_get}
 use Rattle.std.proofs.lemmas.Bool.{lt-ltb, le-ltb}
 use Rattle.tv_core.specs.Lines.{Line}
@@ -22,9 +23,15 @@ cell_is_low w width a h = for_widths (λ w. a < 2 ^ w → a / (w / 8) < TAPE_CEL
 
 -- a line, with the new word told by its cell once the step is taken
 abbrev told : ℕ → State → ℕ → Line → Line
-told w st time line = record { cell = line.cell; time = time; old = line.old; new = if nat_lt line.cell TAPE_CELLS then word_in w (state_after w 1 st).memory line.cell else line.old }
+told w st time line = record {
+  cell = line.cell;
+  time = time;
+  old = line.old;
+  new = if nat_lt line.cell TAPE_CELLS then word_in w (state_after w 1 st).memory line.cell else line.old;
+}
 
-memory_told : (w : ℕ) → IsWidth w → (st : State) (a time : ℕ) → a < 2 ^ w → memory_line w st (a / (w / 8)) time ≡ told w st time (memory_line w st (a / (w / 8)) time)
+memory_told : (w : ℕ) → IsWidth w → (st : State) (a time : ℕ) → a < 2 ^ w
+    → memory_line w st (a / (w / 8)) time ≡ told w st time (memory_line w st (a / (w / 8)) time)
 memory_told w width st a time small = rw (lt-ltb (a / (w / 8)) TAPE_CELLS (cell_is_low w width a small)) refl
 
 tape_told : (w n : ℕ) (st : State) (found : Option ℕ) (time : ℕ) → tape_line n st found time ≡ told w st time (tape_line n st found time)
@@ -76,7 +83,8 @@ tape_same : (n : ℕ) (st : State) (found : Option ℕ) (time : ℕ) → (tape_l
 tape_same n st None time = refl
 tape_same n st (Some v) time = refl
 
-line_same : (w n : ℕ) (op : Op) (st : State) (a time : ℕ) → (state_after w 1 st).memory ≡ st.memory → is_store op ≡ false → (line_of w n op st a time).new ≡ (line_of w n op st a time).old
+line_same : (w n : ℕ) (op : Op) (st : State) (a time : ℕ) → (state_after w 1 st).memory ≡ st.memory → is_store op ≡ false
+    → (line_of w n op st a time).new ≡ (line_of w n op st a time).old
 line_same w n StoreB st a time same e = absurd (true≢false e)
 line_same w n StoreW st a time same e = absurd (true≢false e)
 line_same w n LoadB st a time same e = ap (λ m. word_in w m (a / (w / 8))) same

@@ -28,7 +28,8 @@ lines_by_place w n time st (suc t) i j past h k = elim (cases_eq i t) [
       let place : 3 * i + j - 3 * t ≡ j = omega arith in
       get_or-append_right (lines_of w n time st t) _ (3 * t) (3 * i + j) past (lines_are_three_a_step w n time st t) (omega arith)
       ∙ ap₂ (λ a b. get_or (step_lines w n (state_after w a st) (time + 3 * a)) b past) (sym last) place
-  | inr before ↦ get_or_append_left (lines_of w n time st t) _ past (3 * i + j) (omega (arith, lines_are_three_a_step w n time st t)) ∙ lines_by_place w n time st t i j past (omega arith) k
+  | inr before ↦ get_or_append_left (lines_of w n time st t) _ past (3 * i + j) (omega (arith, lines_are_three_a_step w n time st t))
+      ∙ lines_by_place w n time st t i j past (omega arith) k
 ]
 
 pub states_by_place : StatesByPlace
@@ -38,7 +39,8 @@ states_by_place w n m st (suc t) i past h = elim (cases_eq i (suc t)) [
       let none : i - (t + 1) ≡ 0 = omega arith in
       get_or-append_right (states_of w n m st t) _ (t + 1) i past (states_are_one_more w n m st t) (omega arith)
       ∙ ap (λ k. get_or (state_told w n m st (suc t) ∷ []) k past) none ∙ ap (state_told w n m st) (sym last)
-  | inr before ↦ get_or_append_left (states_of w n m st t) _ past i (omega (arith, states_are_one_more w n m st t)) ∙ states_by_place w n m st t i past (omega arith)
+  | inr before ↦ get_or_append_left (states_of w n m st t) _ past i (omega (arith, states_are_one_more w n m st t))
+      ∙ states_by_place w n m st t i past (omega arith)
 ]
 
 -- ---- times

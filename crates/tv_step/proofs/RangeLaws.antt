@@ -1,5 +1,6 @@
 -- A step keeps a state in range.
-use Rattle.std.proofs.Common.{◌≡◌, ℕ, zero, suc, ◌+◌, ◌-◌, ◌*◌, ◌/◌, ◌%◌, ◌^◌, ◌<◌, ◌≤◌, ◌⊎◌, inl, inr, ◌==◌, Bool, true, false, cond, nat_lt, List, [], ◌∷◌, length, refl, ap, subst, ◌∙◌, arith}
+use Rattle.std.proofs.Common.{◌≡◌, ℕ, zero, suc, ◌+◌, ◌-◌, ◌*◌, ◌/◌, ◌%◌, ◌^◌, ◌<◌, ◌≤◌, ◌⊎◌, inl, inr, ◌==◌, Bool, true, false, cond, nat_lt, List, [], ◌∷◌}
+use Rattle.std.proofs.Common.{length, refl, ap, subst, ◌∙◌, arith}
 use Rattle.std.specs.Prelude.{ℤ, pos, negsuc, ◌*ℤ◌, slice_index}
 use Rattle.std.specs.Int.Bits.{and_lt}
 use Rattle.std.proofs.Math.Nat.{div-le_self, mod-lt, mod-le}
@@ -22,7 +23,8 @@ use Rattle.tv_step.specs.Range.{AreWords, InRange, StartInRange, StepKeepsRange,
 use Rattle.tv_step.specs.Rows.{row, gives, tests, moves, goes_on, jumps, stores, takes}
 use Rattle.tv_step.specs.State.{State, Next}
 use Rattle.tv_step.specs.declared.op.Op.{Op}
-use Rattle.tv_step.specs.declared.op.Op.TheVariants.{And, Or, Xor, Not, Add, Sub, Mull, Umulh, Smulh, Udiv, Umod, Shl, Shr, Cmpe, Cmpa, Cmpae, Cmpg, Cmpge, Mov, Cmov, Jmp, Cjmp, Cnjmp, StoreB, LoadB, StoreW, LoadW, Read, Answer, Unused}
+use Rattle.tv_step.specs.declared.op.Op.TheVariants.{And, Or, Xor, Not, Add, Sub, Mull, Umulh, Smulh, Udiv, Umod, Shl, Shr, Cmpe, Cmpa, Cmpae, Cmpg, Cmpge}
+use Rattle.tv_step.specs.declared.op.Op.TheVariants.{Mov, Cmov, Jmp, Cjmp, Cnjmp, StoreB, LoadB, StoreW, LoadW, Read, Answer, Unused}
 
 pub twos_small : (n : ℕ) (z : ℤ) → 0 < 2 ^ n → twos n z < 2 ^ n
 twos_small n (pos k) some = mod-lt k some
@@ -72,15 +74,40 @@ module _ (w : ℕ) (width : IsWidth w) where
     }
 
     tests_in : (f : Bool) → NextIn (tests w st f)
-    tests_in f = record { pc_fits = mod-lt (st.pc + w / 4) some_words; pc_aligned = next_aligned st.pc h.pc_aligned; registers = h.registers; words = h.words; bytes = h.bytes; primary = h.primary; aux = h.aux }
+    tests_in f = record {
+      pc_fits = mod-lt (st.pc + w / 4) some_words;
+      pc_aligned = next_aligned st.pc h.pc_aligned;
+      registers = h.registers;
+      words = h.words;
+      bytes = h.bytes;
+      primary = h.primary;
+      aux = h.aux;
+    }
 
     jumps_in : (a : ℕ) → Word a → NextIn (jumps w st a)
-    jumps_in a small = record { pc_fits = omega (arith, small); pc_aligned = jump_aligned a; registers = h.registers; words = h.words; bytes = h.bytes; primary = h.primary; aux = h.aux }
+    jumps_in a small = record {
+      pc_fits = omega (arith, small);
+      pc_aligned = jump_aligned a;
+      registers = h.registers;
+      words = h.words;
+      bytes = h.bytes;
+      primary = h.primary;
+      aux = h.aux;
+    }
 
     stores_in : (m : Bytes) → AreBytes m → NextIn (stores w st m)
-    stores_in m bytes = record { pc_fits = mod-lt (st.pc + w / 4) some_words; pc_aligned = next_aligned st.pc h.pc_aligned; registers = h.registers; words = h.words; bytes = bytes; primary = h.primary; aux = h.aux }
+    stores_in m bytes = record {
+      pc_fits = mod-lt (st.pc + w / 4) some_words;
+      pc_aligned = next_aligned st.pc h.pc_aligned;
+      registers = h.registers;
+      words = h.words;
+      bytes = bytes;
+      primary = h.primary;
+      aux = h.aux;
+    }
 
-  takes_in : (st : State) (i : ℕ) (tape : List ℕ) (rest : List ℕ → State) → InRange w st → AreWords w tape → ((left : List ℕ) → AreWords w left → InRange w (rest left)) → NextIn (takes w st i tape rest)
+  takes_in : (st : State) (i : ℕ) (tape : List ℕ) (rest : List ℕ → State) → InRange w st → AreWords w tape
+      → ((left : List ℕ) → AreWords w left → InRange w (rest left)) → NextIn (takes w st i tape rest)
   takes_in st i [] rest h words later = gives_in st h i 0 true some_words
   takes_in st i (v ∷ left) rest h words later = gives_in (rest left) (later left (All-tail Word v left words)) i v false (All-head Word v left words)
 
@@ -94,10 +121,14 @@ module _ (w : ℕ) (width : IsWidth w) where
   row_in Mull st i d s a h hd hs ha = gives_in st h i _ _ (mod-lt (s * a) some_words)
   row_in Umulh st i d s a h hd hs ha = gives_in st h i _ _ (high_small w width s a hs ha)
   row_in Smulh st i d s a h hd hs ha = gives_in st h i _ _ (signed_small s a)
-  row_in Udiv st i d s a h hd hs ha = gives_in st h i _ _ (cond_both (a == 0) 0 (s / a) Word (λ e. some_words) (λ e. let most = div-le_self s a in omega (arith, most, hs)))
-  row_in Umod st i d s a h hd hs ha = gives_in st h i _ _ (cond_both (a == 0) 0 (s % a) Word (λ e. some_words) (λ e. let most = mod-le s a in omega (arith, most, hs)))
-  row_in Shl st i d s a h hd hs ha = gives_in st h i _ _ (cond_both (nat_lt a w) (s * 2 ^ a % 2 ^ w) 0 Word (λ e. mod-lt (s * 2 ^ a) some_words) (λ e. some_words))
-  row_in Shr st i d s a h hd hs ha = gives_in st h i _ _ (cond_both (nat_lt a w) (s / 2 ^ a) 0 Word (λ e. let most = div-le_self s (2 ^ a) in omega (arith, most, hs)) (λ e. some_words))
+  row_in Udiv st i d s a h hd hs ha = gives_in st h i _ _
+      (cond_both (a == 0) 0 (s / a) Word (λ e. some_words) (λ e. let most = div-le_self s a in omega (arith, most, hs)))
+  row_in Umod st i d s a h hd hs ha = gives_in st h i _ _
+      (cond_both (a == 0) 0 (s % a) Word (λ e. some_words) (λ e. let most = mod-le s a in omega (arith, most, hs)))
+  row_in Shl st i d s a h hd hs ha = gives_in st h i _ _
+      (cond_both (nat_lt a w) (s * 2 ^ a % 2 ^ w) 0 Word (λ e. mod-lt (s * 2 ^ a) some_words) (λ e. some_words))
+  row_in Shr st i d s a h hd hs ha = gives_in st h i _ _
+      (cond_both (nat_lt a w) (s / 2 ^ a) 0 Word (λ e. let most = div-le_self s (2 ^ a) in omega (arith, most, hs)) (λ e. some_words))
   row_in Cmpe st i d s a h hd hs ha = tests_in st h _
   row_in Cmpa st i d s a h hd hs ha = tests_in st h _
   row_in Cmpae st i d s a h hd hs ha = tests_in st h _
@@ -117,9 +148,27 @@ module _ (w : ℕ) (width : IsWidth w) where
       let aux = takes w st i st.aux (λ left. record st { aux = left }) in
       let none = takes w st i [] (λ _. st) in
       either (a == 0) primary (cond (a == 1) aux none)
-      (takes_in st i st.primary (λ left. record st { primary = left }) h h.primary (λ left words. record { pc_fits = h.pc_fits; pc_aligned = h.pc_aligned; registers = h.registers; words = h.words; bytes = h.bytes; primary = words; aux = h.aux }))
+      (takes_in st i st.primary (λ left. record st { primary = left }) h h.primary
+      (λ left words. record {
+        pc_fits = h.pc_fits;
+        pc_aligned = h.pc_aligned;
+        registers = h.registers;
+        words = h.words;
+        bytes = h.bytes;
+        primary = words;
+        aux = h.aux;
+      }))
       (either (a == 1) aux none
-      (takes_in st i st.aux (λ left. record st { aux = left }) h h.aux (λ left words. record { pc_fits = h.pc_fits; pc_aligned = h.pc_aligned; registers = h.registers; words = h.words; bytes = h.bytes; primary = h.primary; aux = words }))
+      (takes_in st i st.aux (λ left. record st { aux = left }) h h.aux
+      (λ left words. record {
+        pc_fits = h.pc_fits;
+        pc_aligned = h.pc_aligned;
+        registers = h.registers;
+        words = h.words;
+        bytes = h.bytes;
+        primary = h.primary;
+        aux = words;
+      }))
       (gives_in st h i 0 true some_words))
   row_in Answer st i d s a h hd hs ha = ha
   row_in (Unused op) st i d s a h hd hs ha = tt
@@ -135,12 +184,14 @@ module _ (w : ℕ) (width : IsWidth w) where
   pub operand_in : (st : State) → InRange w st → Word (operand st (fetched w st))
   operand_in st h =
       let i = fetched w st in
-      cond_both i.imm i.a (reg st (i.a % 16)) Word (λ e. words_are_small w width st.memory h.bytes (st.pc / (w / 8) + 1)) (λ e. word_at st.regs (i.a % 16) h.words)
+      cond_both i.imm i.a (reg st (i.a % 16)) Word (λ e. words_are_small w width st.memory h.bytes (st.pc / (w / 8) + 1))
+      (λ e. word_at st.regs (i.a % 16) h.words)
 
   next_in : (st : State) → InRange w st → NextIn (next w st)
   next_in st h =
       let i = fetched w st in
-      row_in (op_of i.op) st i.dest (reg st i.dest) (reg st i.source) (operand st i) h (word_at st.regs i.dest h.words) (word_at st.regs i.source h.words) (operand_in st h)
+      row_in (op_of i.op) st i.dest (reg st i.dest) (reg st i.source) (operand st i) h (word_at st.regs i.dest h.words) (word_at st.regs i.source h.words)
+      (operand_in st h)
 
   left_in_range : (st : State) (came : Next) → InRange w st → NextIn came → InRange w (left_in (λ after. after) st came)
   left_in_range st (Next.Gone after) h k = k

@@ -1,5 +1,6 @@
 -- What steps take of the tapes.
-use Rattle.std.proofs.Common.{◌≡◌, ℕ, zero, suc, ◌+◌, ◌-◌, ◌≤◌, ◌==◌, ◌&&◌, ◌||◌, Bool, true, false, not, cond, nat_lt, List, [], ◌∷◌, ◌++◌, length, take, drop, Some, None, refl, sym, ap, ◌∙◌, subst, arith, add-zero}
+use Rattle.std.proofs.Common.{◌≡◌, ℕ, zero, suc, ◌+◌, ◌-◌, ◌≤◌, ◌==◌, ◌&&◌, ◌||◌, Bool, true, false, not, cond, nat_lt, List, [], ◌∷◌, ◌++◌, length, take}
+use Rattle.std.proofs.Common.{drop, Some, None, refl, sym, ap, ◌∙◌, subst, arith, add-zero}
 use Rattle.std.specs.Prelude.{Option, if◌then◌else◌, is_some, slice_get, slice_index}
 use Rattle.std.proofs.lemmas.Bool.{eqb-true, ne_eqb, lt-ltb, le-ltb}
 use Rattle.std.proofs.Math.Seq.{take-append_seam}
@@ -8,7 +9,8 @@ use Rattle.tv_step.proofs.EndLaws.{end_answers}
 use Rattle.tv_step.proofs.RunLaws.{state_next}
 use Rattle.tv_step.specs.Machine.{next, fetched, operand, reg, left_in, state_after}
 use Rattle.tv_step.specs.Ops.{op_of}
-use Rattle.tv_step.specs.Reads.{is_read, reads_aux, word_taken, finds_end, ended_after, words_in, words_taken, IsRest, TapesAreLeft, TakenAreTheFront, TakenByCounts, EndedStays, EndedTakesNothing, AnsweringTakesFew}
+use Rattle.tv_step.specs.Reads.{is_read, reads_aux, word_taken, finds_end, ended_after, words_in, words_taken, IsRest, TapesAreLeft, TakenAreTheFront}
+use Rattle.tv_step.specs.Reads.{TakenByCounts, EndedStays, EndedTakesNothing, AnsweringTakesFew}
 use Rattle.tv_step.specs.Rows.{row, takes, moves, goes_on, jumps}
 use Rattle.tv_step.specs.State.{State, Next}
 use Rattle.tv_step.specs.declared.op.Op.{Op}
@@ -41,8 +43,10 @@ module _ (w : ℕ) (st : State) where
   aux_taken i (v ∷ left) e = record { first = refl; second = sym (ap (drop 1) e) }
 
   reads_left : (i : ℕ) (b c : Bool) → (b ≡ true → c ≡ false)
-      → Left b c (if b then takes w st i st.primary (λ left. record st { primary = left }) else if c then takes w st i st.aux (λ left. record st { aux = left }) else takes w st i [] (λ _. st))
-  reads_left i true c apart = subst (λ u. Left true u (takes w st i st.primary (λ left. record st { primary = left }))) (sym (apart refl)) (primary_taken i st.primary refl)
+      → Left b c (if b then takes w st i st.primary (λ left. record st { primary = left }) else if c then takes w st i st.aux
+      (λ left. record st { aux = left }) else takes w st i [] (λ _. st))
+  reads_left i true c apart = subst (λ u. Left true u (takes w st i st.primary (λ left. record st { primary = left }))) (sym (apart refl))
+      (primary_taken i st.primary refl)
   reads_left i false true apart = aux_taken i st.aux refl
   reads_left i false false apart = record { first = refl; second = refl }
 
@@ -50,9 +54,12 @@ module _ (w : ℕ) (st : State) where
   zero_not_one a e = let z = eqb-true a 0 e in ne_eqb a 1 (λ o. omega arith)
 
   row_left : (op : Op) (i d s a : ℕ) → Left (is_read op && (a == 0)) (is_read op && (a == 1)) (row w op st i d s a)
-  row_left Cmov i d s a = either false false st.flag (moves w st i a) (goes_on w st) (record { first = refl; second = refl }) (record { first = refl; second = refl })
-  row_left Cjmp i d s a = either false false st.flag (jumps w st a) (goes_on w st) (record { first = refl; second = refl }) (record { first = refl; second = refl })
-  row_left Cnjmp i d s a = either false false st.flag (goes_on w st) (jumps w st a) (record { first = refl; second = refl }) (record { first = refl; second = refl })
+  row_left Cmov i d s a = either false false st.flag (moves w st i a) (goes_on w st) (record { first = refl; second = refl })
+      (record { first = refl; second = refl })
+  row_left Cjmp i d s a = either false false st.flag (jumps w st a) (goes_on w st) (record { first = refl; second = refl })
+      (record { first = refl; second = refl })
+  row_left Cnjmp i d s a = either false false st.flag (goes_on w st) (jumps w st a) (record { first = refl; second = refl })
+      (record { first = refl; second = refl })
   row_left Read i d s a = reads_left i (a == 0) (a == 1) (zero_not_one a)
   row_left _ i d s a = record { first = refl; second = refl }
 
@@ -92,7 +99,8 @@ module _ (w : ℕ) (st : State) where
   primary_rest zero = whole_rest st.primary
   primary_rest (suc t) =
       let more : suc t ≡ t + 1 = omega arith in
-      subst (IsRest st.primary) (sym (ap (λ k. (now k).primary) more ∙ primary_next t)) (either_rest st.primary (now t).primary (reads_primary w (now t)) (primary_rest t))
+      subst (IsRest st.primary) (sym (ap (λ k. (now k).primary) more ∙ primary_next t))
+      (either_rest st.primary (now t).primary (reads_primary w (now t)) (primary_rest t))
 
   pub aux_rest : (t : ℕ) → IsRest st.aux (now t).aux
   aux_rest zero = whole_rest st.aux
@@ -102,13 +110,15 @@ module _ (w : ℕ) (st : State) where
 
   -- the word that the counts tell
   counted : (a b : List ℕ) → IsRest st.aux a → (r : Bool) → b ≡ (if r then drop 1 a else a)
-      → (if r then slice_get a 0 else None) ≡ (if nat_lt (length st.aux - length a) (length st.aux - length b) then Some (slice_index st.aux (length st.aux - length a)) else None)
+      → (if r then slice_get a 0 else None) ≡ (if nat_lt (length st.aux - length a) (length st.aux - length b) then Some
+      (slice_index st.aux (length st.aux - length a)) else None)
   counted [] b e true f = let same : length b ≡ 0 = ap length f in rw (le-ltb (length st.aux - 0) (length st.aux - length b) (omega arith)) refl
   counted (v ∷ a) b e true f =
       let long = e.short in
       let same : length b ≡ length a = ap length f in
       let head : slice_index st.aux (length st.aux - suc (length a)) ≡ v =
-      ap (λ k. slice_index st.aux k) (sym (add-zero (length st.aux - suc (length a)))) ∙ sym (get_or-drop (length st.aux - suc (length a)) st.aux 0 0) ∙ ap (λ l. slice_index l 0) (sym e.is) in
+      ap (λ k. slice_index st.aux k) (sym (add-zero (length st.aux - suc (length a)))) ∙ sym (get_or-drop (length st.aux - suc (length a)) st.aux 0 0)
+      ∙ ap (λ l. slice_index l 0) (sym e.is) in
       rw (lt-ltb (length st.aux - suc (length a)) (length st.aux - length b) (omega arith)) (ap (λ u. Some u) (sym head))
   counted a b e false f = let same : length b ≡ length a = ap length f in rw (le-ltb (length st.aux - length a) (length st.aux - length b) (omega arith)) refl
 
@@ -163,7 +173,8 @@ module _ (w : ℕ) (st : State) where
   ended_empty zero e = cc
   ended_empty (suc t) e =
       let more : suc t ≡ t + 1 = omega arith in
-      ap (λ k. (now k).aux) more ∙ aux_next t ∙ none_left (reads_aux w (now t)) (now t).aux (ended_by (reads_aux w (now t)) (ended_after w t st) (now t).aux (ended_empty t) e)
+      ap (λ k. (now k).aux) more ∙ aux_next t ∙ none_left (reads_aux w (now t)) (now t).aux
+      (ended_by (reads_aux w (now t)) (ended_after w t st) (now t).aux (ended_empty t) e)
 
   nothing_taken : (r : Bool) (a : List ℕ) → a ≡ [] → (if r then slice_get a 0 else None) ≡ None
   nothing_taken true a e = ap (λ l. slice_get l 0) e
@@ -176,7 +187,8 @@ pub taken_are_the_front : TakenAreTheFront
 taken_are_the_front w t st = taken_front w st (words_taken w t st) (state_after w t st).aux (taken_then_left w st t)
 
 pub taken_by_counts : TakenByCounts
-taken_by_counts w t st = counted w st (state_after w t st).aux (state_after w (t + 1) st).aux (aux_rest w st t) (reads_aux w (state_after w t st)) (aux_next w st t)
+taken_by_counts w t st = counted w st (state_after w t st).aux (state_after w (t + 1) st).aux (aux_rest w st t) (reads_aux w (state_after w t st))
+    (aux_next w st t)
 
 pub ended_stays : EndedStays
 ended_stays w s t st within e = let whole : s + (t - s) ≡ t = omega arith in ap (λ k. ended_after w k st) (sym whole) ∙ ended_more w st s (t - s) e
@@ -191,7 +203,8 @@ takes_goes w st i [] rest v e = cc
 takes_goes w st i (u ∷ left) rest v e = cc
 
 reads_goes : (w : ℕ) (st : State) (i v : ℕ) (b c : Bool)
-    → (if b then takes w st i st.primary (λ left. record st { primary = left }) else if c then takes w st i st.aux (λ left. record st { aux = left }) else takes w st i [] (λ _. st)) ≡ Next.Answered v → ⊥
+    → (if b then takes w st i st.primary (λ left. record st { primary = left }) else if c then takes w st i st.aux
+    (λ left. record st { aux = left }) else takes w st i [] (λ _. st)) ≡ Next.Answered v → ⊥
 reads_goes w st i v true c e = takes_goes w st i st.primary (λ left. record st { primary = left }) v e
 reads_goes w st i v false true e = takes_goes w st i st.aux (λ left. record st { aux = left }) v e
 reads_goes w st i v false false e = takes_goes w st i [] (λ _. st) v e
@@ -224,7 +237,8 @@ answering_takes_few w (suc t) st v step e =
     let same : suc t - 1 ≡ t = omega arith in
     let last : next w (state_after w t st) ≡ Next.Answered v = ap (λ k. next w (state_after w k st)) (sym same) ∙ (end_answers w (suc t) st v step e).last in
     let none = none_taken w (state_after w t st) v last in
-    let long = length-append (words_taken w t st) (words_in (word_taken w (state_after w t st))) ∙ ap (λ words. length (words_taken w t st) + length words) none in
+    let long = length-append (words_taken w t st) (words_in (word_taken w (state_after w t st)))
+    ∙ ap (λ words. length (words_taken w t st) + length words) none in
     let before = one_a_step w t st in
     omega (arith, long)
 

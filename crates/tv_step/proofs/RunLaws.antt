@@ -45,7 +45,8 @@ module _ (w k : ℕ) (first st : State) (ran : Ran w k first st) where
     end_undefined op stops = ap (λ m. end_of w m first) more ∙ ran.ends (suc (t - (k + 1))) ∙ ap (ended (λ a. end_from w (k + 1) (t - (k + 1)) a) (k + 1)) stops
 
     pub state_undefined : (op : ℕ) → next w st ≡ Next.Undefined op → state_after w t first ≡ st
-    state_undefined op stops = ap (λ m. state_after w m first) more ∙ ran.states (suc (t - (k + 1))) ∙ ap (left_in (λ a. state_after w (t - (k + 1)) a) st) stops
+    state_undefined op stops = ap (λ m. state_after w m first) more ∙ ran.states (suc (t - (k + 1)))
+        ∙ ap (left_in (λ a. state_after w (t - (k + 1)) a) st) stops
 
 -- the state after one more step
 one_more : (w k : ℕ) (st : State) → ((after : State) → state_after w 1 (state_after w k after) ≡ state_after w (k + 1) after) → (came : Next) → next w st ≡ came

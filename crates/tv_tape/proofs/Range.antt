@@ -9,11 +9,13 @@ use Rattle.tv_tape.specs.declared.items.TapeFault.{TapeFault}
 use Rattle.tv_tape.specs.declared.items.TapeFault.TheVariants.{BadItem, TooBig, TooMany}
 use Rattle.tv_tape.specs.Tape.{◌>>=◌, given, items_of, number_of, numbers_of, tape_of}
 
-bind_if : {A B : Type 0} (read : Result A TapeFault) (f : A → Result B TapeFault) (P : B → Type 0) → ((x : A) → read ≡ Ok x → IfOk (f x) P) → IfOk (read >>= f) P
+bind_if : {A B : Type 0} (read : Result A TapeFault) (f : A → Result B TapeFault) (P : B → Type 0) → ((x : A) → read ≡ Ok x → IfOk (f x) P)
+    → IfOk (read >>= f) P
 bind_if (Ok x) f P h = h x refl
 bind_if (Err fault) f P h = tt
 
-given_if : {B : Type 0} (test : Bool) (fault : TapeFault) (f : Unit {0} → Result B TapeFault) (P : B → Type 0) → (test ≡ true → IfOk (f tt) P) → IfOk (given test fault >>= f) P
+given_if : {B : Type 0} (test : Bool) (fault : TapeFault) (f : Unit {0} → Result B TapeFault) (P : B → Type 0) → (test ≡ true → IfOk (f tt) P)
+    → IfOk (given test fault >>= f) P
 given_if true fault f P h = h refl
 given_if false fault f P h = tt
 
@@ -54,7 +56,8 @@ count below most at (item ∷ items) room =
     bind_if (number_of below at item) _ (λ numbers. at + length numbers ≤ most) (λ number _.
     bind_if (numbers_of below most (at + 1) items) _ (λ numbers. at + length numbers ≤ most) (λ others are.
     let few = ltb-true at most test in
-    let rest = known (numbers_of below most (at + 1) items) (λ numbers. at + 1 + length numbers ≤ most) others are (count below most (at + 1) items (omega (arith, few))) in
+    let rest = known (numbers_of below most (at + 1) items) (λ numbers. at + 1 + length numbers ≤ most) others are
+    (count below most (at + 1) items (omega (arith, few))) in
     omega (arith, rest))))
 
 pub at_most : (text : List ℕ) (below most : ℕ) → IfOk (tape_of text below most) (λ numbers. length numbers ≤ most)

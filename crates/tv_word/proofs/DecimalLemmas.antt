@@ -43,7 +43,8 @@ IsDecimal-more n front h d =
       some = omega (arith, length-append front ((48 + n % 10) ∷ []));
       bytes =
           list_all-append is_decimal_byte front ((48 + n % 10) ∷ [])
-          ∙ and_from (list_all is_decimal_byte front) (is_decimal_byte (48 + n % 10) && true) d.bytes (and_from (is_decimal_byte (48 + n % 10)) true (digit-byte (n % 10) low) refl);
+          ∙ and_from (list_all is_decimal_byte front) (is_decimal_byte (48 + n % 10) && true) d.bytes
+          (and_from (is_decimal_byte (48 + n % 10)) true (digit-byte (n % 10) low) refl);
       value =
           positional-append 10 front ((48 + n % 10) ∷ [])
           ∙ rw (d.value, pow-zero, digit-value (n % 10) low) (omega arith);

@@ -1,5 +1,6 @@
 -- Values that are read piece by piece.
-use Rattle.std.proofs.Common.{◌≡◌, ℕ, ◌+◌, ◌*◌, ◌<◌, ◌≤◌, zero, suc, List, [], ◌∷◌, ◌++◌, length, take, drop, get_or, ◌/◌, Result, Ok, Err, append_assoc, append-nil, add-one, ap, refl, sym, ◌∙◌, arith}
+use Rattle.std.proofs.Common.{◌≡◌, ℕ, ◌+◌, ◌*◌, ◌<◌, ◌≤◌, zero, suc, List, [], ◌∷◌, ◌++◌, length, take, drop, get_or, ◌/◌, Result, Ok, Err, append_assoc}
+use Rattle.std.proofs.Common.{append-nil, add-one, ap, refl, sym, ◌∙◌, arith}
 use Rattle.std.proofs.lemmas.Bool.Decides.{nat_tests}
 use Rattle.std.proofs.lemmas.List.{take-take, drop-take, drop-drop, get_or-take, length-take, length-append, take_all, take-append-le}
 use Rattle.std.specs.Simd.{first_chunks}

@@ -10,7 +10,8 @@ use Rattle.tv_container.specs.Field.{this_field}
 use Rattle.tv_container.specs.Places.{number}
 use Rattle.tv_container.specs.Sections.{sections_of, wanted}
 use Rattle.tv_container.specs.declared.sections.Section.{Section}
-use Rattle.tv_container.proofs.BytesAt.{At, at_start, at_first, at_rest, field_read, number_of_four, number_of_eight, length-eight_bytes, length-field_bytes, length-four_bytes, length-front_bytes, length-section_bytes, length-section_head, section_read, sections_counted}
+use Rattle.tv_container.proofs.BytesAt.{At, at_start, at_first, at_rest, field_read, number_of_four, number_of_eight, length-eight_bytes, length-field_bytes}
+use Rattle.tv_container.proofs.BytesAt.{length-four_bytes, length-front_bytes, length-section_bytes, length-section_head, section_read, sections_counted}
 use Rattle.tv_container.proofs.Written.{but_front, front_front}
 use Rattle.tv_container.proofs.SectionLemmas.{sections_from-end}
 use Rattle.tv_core.specs.declared.field.TheConstants.{P}
@@ -42,7 +43,8 @@ fronts count values more =
 
 pub files_are_fronts : FilesAreFronts
 files_are_fronts taker values more (inl stands) =
-    but_front taker.outside taker.name taker.progress.held (file_bytes taker.progress.count values) (values_bytes more) _ stands.written (fronts taker.progress.count values more)
+    but_front taker.outside taker.name taker.progress.held (file_bytes taker.progress.count values) (values_bytes more) _ stands.written
+    (fronts taker.progress.count values more)
 files_are_fronts taker values more (inr tried) =
     front_front taker.outside taker.name (file_bytes taker.progress.count values) (values_bytes more) _ tried.written (fronts taker.progress.count values more)
 
@@ -56,7 +58,8 @@ values_at-none : (file : List ℕ) (at : ℕ) → values_at file 0 at ≡ Ok []
 unfolding values_at
 values_at-none file at = refl
 
-values_read : (file : List ℕ) (at : ℕ) (values : List ℕ) → At file at (values_bytes values) → All (λ v. v < P) values → values_at file (length values) at ≡ Ok values
+values_read : (file : List ℕ) (at : ℕ) (values : List ℕ) → At file at (values_bytes values) → All (λ v. v < P) values
+    → values_at file (length values) at ≡ Ok values
 values_read file at [] a all = values_at-none file at
 values_read file at (value ∷ values) a all =
     let below = All-head (λ v. v < P) value values all in
@@ -92,7 +95,15 @@ come_back values few all =
     let second = section_bytes 2 two in
     let one_size = length-count_bytes count in
     let long : length file ≡ 52 + length two =
-    omega (arith, one_size, length-append front (first ++ second), length-front_bytes 0x736e7477 2 2, length-append first second, length-section_bytes 1 one, length-section_bytes 2 two) in
+    omega (
+      arith,
+      one_size,
+      length-append front (first ++ second),
+      length-front_bytes 0x736e7477 2 2,
+      length-append first second,
+      length-section_bytes 1 one,
+      length-section_bytes 2 two,
+    ) in
     let short : length file < 2 ^ 64 - 1 = omega (arith, long, few, length-values_bytes values) in
     let a = at_rest file 0 12 12 front (first ++ second) (at_start file) (length-front_bytes 0x736e7477 2 2) refl in
     let b = at_rest file 12 28 40 first second a (omega (arith, length-section_bytes 1 one, one_size)) refl in
@@ -108,4 +119,5 @@ come_back values few all =
     let field = field_read file 16 s1 (at_first file 24 field_bytes (four_bytes count) one_at) one_size (omega arith) in
     let counts = number_of_four file 36 count (at_rest file 24 12 36 field_bytes (four_bytes count) one_at length-field_bytes refl) few in
     found
-    ∙ assignment_in-found file (s1 ∷ s2 ∷ []) s1 s2 count values refl refl field counts (fills_passes count s2 (length-values_bytes values)) (values_read file 52 values two_at all)
+    ∙ assignment_in-found file (s1 ∷ s2 ∷ []) s1 s2 count values refl refl field counts (fills_passes count s2 (length-values_bytes values))
+    (values_read file 52 values two_at all)

@@ -63,7 +63,14 @@ given seen old new value (Err fault) borrow name below passes is unbroken =
       at = refl;
       tried = λ list s. tried_more (seen old) (seen new) list value s name count passes.refused;
       broken = ap (λ (p : Progress). p.broken) is;
-      keeps = record { borrow = borrow; name = name; count = count; outside = passes.only; quiet = λ whole. let broken = ap (λ (p : Progress). p.broken) is in cc };
+      keeps = record {
+        borrow = borrow;
+        name = name;
+        count = count;
+        outside = passes.only;
+        quiet = λ whole. let broken = ap (λ (p : Progress). p.broken) is in
+            cc;
+      };
       cause = cause_seen (λ v. (seen v).outside) old new fault passes.cause;
       faults = passes.only.later.write_faults;
       wants = passes.only.later.wants;

@@ -31,23 +31,31 @@ module _ {V : Type 0} (seen : V → Taker) (name : List ℕ) (old : Outside) (ta
   bytes new keeps = rw (keeps.count, is.count) (files_of_assignments (length values) values refl)
 
   -- a value was refused
-  pub streamed_some : (new : V) (fault : SinkFault) → GivesSome (taker_giving seen) taker new values fault → IsAssignmentStreamed old (seen new).outside name values (Err fault)
+  pub streamed_some : (new : V) (fault : SinkFault) → GivesSome (taker_giving seen) taker new values fault
+      → IsAssignmentStreamed old (seen new).outside name values (Err fault)
   streamed_some new fault some =
       let tried = some.front ++ some.refused ∷ [] in
       let named : (seen new).name ≡ name = some.keeps.name ∙ is.named in
       let list : tried ++ some.back ≡ values = append_assoc some.front (some.refused ∷ []) some.back ∙ sym some.at in
-      let front : HasFront (seen new).outside name (assignment_bytes values) = rw (named, list, bytes new some.keeps) at (files_are_fronts (seen new) tried some.back (inr (some.tried [] is.stands))) in
+      let front : HasFront (seen new).outside name (assignment_bytes values) = rw (named, list, bytes new some.keeps) at
+      (files_are_fronts (seen new) tried some.back (inr (some.tried [] is.stands))) in
       let cause = caused_seen (λ v. (seen v).outside) taker new fault some.cause in
-      record { file = streamed_part old (seen taker).outside (seen new).outside name is.creates (rw is.named at some.keeps.outside) (assignment_bytes values) fault front cause; read = tt }
+      record {
+        file = streamed_part old (seen taker).outside (seen new).outside name is.creates (rw is.named at some.keeps.outside)
+            (assignment_bytes values) fault front cause;
+        read = tt;
+      }
 
   -- all values were given, and the file was finished, or finishing it was refused
-  pub streamed_all : (done : V) (new : Outside) (result : Result (Unit {0}) SinkFault) → GivesAll (taker_giving seen) taker done values → Finishes (seen done) new result → IsAssignmentStreamed old new name values result
+  pub streamed_all : (done : V) (new : Outside) (result : Result (Unit {0}) SinkFault) → GivesAll (taker_giving seen) taker done values
+      → Finishes (seen done) new result → IsAssignmentStreamed old new name values result
   streamed_all done new result all finishes =
       let named : (seen done).name ≡ name = all.keeps.name ∙ is.named in
       let stands : Stands (seen done) values = all.stands [] is.stands in
       let now = rw (named, bytes done all.keeps) at (finishes.whole values stands) in
       let front = rw (named, bytes done all.keeps) at (finishes.part values stands) in
       record {
-        file = streamed_last old (seen taker).outside (seen done).outside new name (assignment_bytes values) result is.creates (rw is.named at all.keeps.outside) (all.keeps.quiet stands.whole).1 (rw named at finishes.only) now front finishes.cause;
+        file = streamed_last old (seen taker).outside (seen done).outside new name (assignment_bytes values) result is.creates
+            (rw is.named at all.keeps.outside) (all.keeps.quiet stands.whole).1 (rw named at finishes.only) now front finishes.cause;
         read = OnOk-map result (λ _. come_back values is.few stands.canonical) now;
       }

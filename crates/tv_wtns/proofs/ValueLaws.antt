@@ -18,17 +18,20 @@ values_below : (file : List ℕ) (n at : ℕ) (values : List ℕ) → values_at 
 unfolding values_at
 values_below file zero at values is = let none : [] ≡ values = cc in rw (← none) (All-nil (λ v. v < P))
 values_below file (suc n) at values is =
-    let first = made (unless (not (nat_lt (number file 8 at) P)) at NotCanonical) (λ _. values_at file n (at + 8) >>= (λ others. Ok (number file 8 at ∷ others))) values is in
+    let first = made (unless (not (nat_lt (number file 8 at) P)) at NotCanonical)
+    (λ _. values_at file n (at + 8) >>= (λ others. Ok (number file 8 at ∷ others))) values is in
     let rest = made (values_at file n (at + 8)) (λ others. Ok (number file 8 at ∷ others)) values first.2 in
     let whole : number file 8 at ∷ rest.0 ≡ values = cc in
-    rw (← whole) (All-cons (λ v. v < P) (number file 8 at) rest.0 (canonical (number file 8 at) at first.0 first.1) (values_below file n (at + 8) rest.0 rest.1))
+    rw (← whole) (All-cons (λ v. v < P) (number file 8 at) rest.0 (canonical (number file 8 at) at first.0 first.1)
+    (values_below file n (at + 8) rest.0 rest.1))
 
 -- there are as many as are counted
 pub values_counted : (file : List ℕ) (n at : ℕ) (values : List ℕ) → values_at file n at ≡ Ok values → length values ≡ n
 unfolding values_at
 values_counted file zero at values is = let none : [] ≡ values = cc in rw (← none) refl
 values_counted file (suc n) at values is =
-    let first = made (unless (not (nat_lt (number file 8 at) P)) at NotCanonical) (λ _. values_at file n (at + 8) >>= (λ others. Ok (number file 8 at ∷ others))) values is in
+    let first = made (unless (not (nat_lt (number file 8 at) P)) at NotCanonical)
+    (λ _. values_at file n (at + 8) >>= (λ others. Ok (number file 8 at ∷ others))) values is in
     let rest = made (values_at file n (at + 8)) (λ others. Ok (number file 8 at ∷ others)) values first.2 in
     let whole : number file 8 at ∷ rest.0 ≡ values = cc in
     rw (← whole) (omega (arith, values_counted file n (at + 8) rest.0 rest.1))
@@ -37,8 +40,10 @@ pub assignments_below : AssignmentsAreBelow
 unfolding assignment_of assignment_in
 assignments_below file values is =
     let cut = made (sections_of 2 0x736e7477 2 file) (λ sections. assignment_in file sections) values is in
-    let one = made (wanted 1 file cut.0) (λ one. wanted 2 file cut.0 >>= (λ two. this_field file 16 one >>= (λ _. fills (counted file one) two >>= (λ _. values_at file (counted file one) two.at)))) values cut.2 in
-    let two = made (wanted 2 file cut.0) (λ two. this_field file 16 one.0 >>= (λ _. fills (counted file one.0) two >>= (λ _. values_at file (counted file one.0) two.at))) values one.2 in
+    let one = made (wanted 1 file cut.0) (λ one. wanted 2 file cut.0 >>= (λ two. this_field file 16 one >>= (λ _. fills
+    (counted file one) two >>= (λ _. values_at file (counted file one) two.at)))) values cut.2 in
+    let two = made (wanted 2 file cut.0) (λ two. this_field file 16 one.0 >>= (λ _. fills
+    (counted file one.0) two >>= (λ _. values_at file (counted file one.0) two.at))) values one.2 in
     let field = made (this_field file 16 one.0) (λ _. fills (counted file one.0) two.0 >>= (λ _. values_at file (counted file one.0) two.0.at)) values two.2 in
     let size = made (fills (counted file one.0) two.0) (λ _. values_at file (counted file one.0) two.0.at) values field.2 in
     values_below file (counted file one.0) two.0.at values size.2

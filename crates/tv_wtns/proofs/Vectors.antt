@@ -47,7 +47,8 @@ pub sections_in_either_order : assignment_of (wtns 2 (section 2 (numbers (1 ∷ 
 unfolding assignment_of assignment_in values_at this_field sections_of sections_in sections_from section_at
 sections_in_either_order = refl
 
-pub other_types_are_skipped : assignment_of (wtns 4 (section 3 (7 ∷ []) ∷ section 2 (numbers (1 ∷ 3 ∷ 5 ∷ 15 ∷ [])) ∷ section 3 [] ∷ section 1 (field 8 P 4) ∷ [])) ≡ Ok (1 ∷ 3 ∷ 5 ∷ 15 ∷ [])
+pub other_types_are_skipped : assignment_of
+    (wtns 4 (section 3 (7 ∷ []) ∷ section 2 (numbers (1 ∷ 3 ∷ 5 ∷ 15 ∷ [])) ∷ section 3 [] ∷ section 1 (field 8 P 4) ∷ [])) ≡ Ok (1 ∷ 3 ∷ 5 ∷ 15 ∷ [])
 unfolding assignment_of assignment_in values_at this_field sections_of sections_in sections_from section_at
 other_types_are_skipped = refl
 
@@ -59,7 +60,8 @@ pub greatest_value : assignment_of (wtns 2 (section 1 (field 8 P 1) ∷ section 
 unfolding assignment_of assignment_in values_at this_field sections_of sections_in sections_from section_at
 greatest_value = refl
 
-pub prime_is_no_value : assignment_of (wtns 2 (section 1 (field 8 P 2) ∷ section 2 (numbers (18446744069414584320 ∷ 18446744069414584321 ∷ [])) ∷ [])) ≡ wrong 60 NotCanonical
+pub prime_is_no_value : assignment_of (wtns 2 (section 1 (field 8 P 2) ∷ section 2 (numbers (18446744069414584320 ∷ 18446744069414584321 ∷ [])) ∷ []))
+    ≡ wrong 60 NotCanonical
 unfolding assignment_of assignment_in values_at this_field sections_of sections_in sections_from section_at
 prime_is_no_value = refl
 
@@ -67,7 +69,8 @@ pub no_residue : assignment_of (wtns 2 (section 1 (field 8 P 4) ∷ section 2 (n
 unfolding assignment_of assignment_in values_at this_field sections_of sections_in sections_from section_at
 no_residue = refl
 
-pub first_of_two_is_told : assignment_of (wtns 2 (section 1 (field 8 P 4) ∷ section 2 (numbers (1 ∷ 3 ∷ 18446744073709551615 ∷ 18446744069414584321 ∷ [])) ∷ [])) ≡ wrong 68 NotCanonical
+pub first_of_two_is_told : assignment_of
+    (wtns 2 (section 1 (field 8 P 4) ∷ section 2 (numbers (1 ∷ 3 ∷ 18446744073709551615 ∷ 18446744069414584321 ∷ [])) ∷ [])) ≡ wrong 68 NotCanonical
 unfolding assignment_of assignment_in values_at this_field sections_of sections_in sections_from section_at
 first_of_two_is_told = refl
 
@@ -79,7 +82,8 @@ pub five_values_counted : assignment_of (wtns 2 (section 1 (field 8 P 5) ∷ sec
 unfolding assignment_of assignment_in values_at this_field sections_of sections_in sections_from section_at
 five_values_counted = refl
 
-pub a_thousand_million_counted : assignment_of (wtns 2 (section 1 (field 8 P 1000000000) ∷ section 2 (numbers (1 ∷ 3 ∷ 5 ∷ 15 ∷ [])) ∷ [])) ≡ wrong 52 (BadCount 32 8000000000)
+pub a_thousand_million_counted : assignment_of (wtns 2 (section 1 (field 8 P 1000000000) ∷ section 2 (numbers (1 ∷ 3 ∷ 5 ∷ 15 ∷ [])) ∷ []))
+    ≡ wrong 52 (BadCount 32 8000000000)
 unfolding assignment_of assignment_in values_at this_field sections_of sections_in sections_from section_at
 a_thousand_million_counted = refl
 
@@ -87,7 +91,8 @@ pub section_is_no_multiple : assignment_of (wtns 2 (section 1 (field 8 P 4) ∷ 
 unfolding assignment_of assignment_in values_at this_field sections_of sections_in sections_from section_at
 section_is_no_multiple = refl
 
-pub size_comes_before_values : assignment_of (wtns 2 (section 1 (field 8 P 4) ∷ section 2 (numbers (18446744069414584321 ∷ [])) ∷ [])) ≡ wrong 52 (BadCount 8 32)
+pub size_comes_before_values : assignment_of (wtns 2 (section 1 (field 8 P 4) ∷ section 2 (numbers (18446744069414584321 ∷ [])) ∷ []))
+    ≡ wrong 52 (BadCount 8 32)
 unfolding assignment_of assignment_in values_at this_field sections_of sections_in sections_from section_at
 size_comes_before_values = refl
 
@@ -99,7 +104,8 @@ pub wide_numbers : assignment_of (wtns 2 (section 1 (field 32 P 4) ∷ section 2
 unfolding assignment_of assignment_in values_at this_field sections_of sections_in sections_from section_at
 wide_numbers = refl
 
-pub size_of_a_number_comes_first : assignment_of (wtns 2 (section 1 (32 ∷ 0 ∷ 0 ∷ 0 ∷ []) ∷ section 2 (numbers (1 ∷ 3 ∷ 5 ∷ 15 ∷ [])) ∷ [])) ≡ wrong 24 OtherPrime
+pub size_of_a_number_comes_first : assignment_of (wtns 2 (section 1 (32 ∷ 0 ∷ 0 ∷ 0 ∷ []) ∷ section 2 (numbers (1 ∷ 3 ∷ 5 ∷ 15 ∷ [])) ∷ []))
+    ≡ wrong 24 OtherPrime
 unfolding assignment_of assignment_in values_at this_field sections_of sections_in sections_from section_at
 size_of_a_number_comes_first = refl
 
@@ -111,11 +117,13 @@ pub long_field : assignment_of (wtns 2 (section 1 (field 8 P 4 ++ 0 ∷ []) ∷ 
 unfolding assignment_of assignment_in values_at this_field sections_of sections_in sections_from section_at
 long_field = refl
 
-pub section_one_doubled : assignment_of (wtns 3 (section 1 (field 8 P 4) ∷ section 1 (field 8 P 4) ∷ section 2 (numbers (1 ∷ 3 ∷ 5 ∷ 15 ∷ [])) ∷ [])) ≡ wrong 40 (Doubled 1)
+pub section_one_doubled : assignment_of (wtns 3 (section 1 (field 8 P 4) ∷ section 1 (field 8 P 4) ∷ section 2 (numbers (1 ∷ 3 ∷ 5 ∷ 15 ∷ [])) ∷ []))
+    ≡ wrong 40 (Doubled 1)
 unfolding assignment_of assignment_in values_at this_field sections_of sections_in sections_from section_at
 section_one_doubled = refl
 
-pub section_two_doubled : assignment_of (wtns 3 (section 1 (field 8 P 4) ∷ section 2 (numbers (1 ∷ 3 ∷ 5 ∷ 15 ∷ [])) ∷ section 2 [] ∷ [])) ≡ wrong 84 (Doubled 2)
+pub section_two_doubled : assignment_of (wtns 3 (section 1 (field 8 P 4) ∷ section 2 (numbers (1 ∷ 3 ∷ 5 ∷ 15 ∷ [])) ∷ section 2 [] ∷ []))
+    ≡ wrong 84 (Doubled 2)
 unfolding assignment_of assignment_in values_at this_field sections_of sections_in sections_from section_at
 section_two_doubled = refl
 

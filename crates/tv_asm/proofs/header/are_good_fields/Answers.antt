@@ -9,5 +9,6 @@ use Rattle.tv_asm.proofs.header.are_good_fields.Goals as goal
 pub returns : goal.returns
 returns g c =
     all_from_yields_List (is_good_field g.row.W) _ _ c.all.result c.all.ensures.ran
-    (YieldsList-from_slice_split _ is_blank c.args.fields.now c.split.ensures.rest c.split.ensures.done c.split.ensures.closure (λ x b q k. search (rules, tests)))
+    (YieldsList-from_slice_split _ is_blank c.args.fields.now c.split.ensures.rest c.split.ensures.done c.split.ensures.closure
+    (λ x b q k. search (rules, tests)))
     (λ x b q k. search (rules, tests))

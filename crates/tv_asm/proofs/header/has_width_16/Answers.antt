@@ -10,5 +10,6 @@ use Rattle.tv_asm.proofs.header.has_width_16.Goals as goal
 pub returns : goal.returns
 returns c =
     any_from_yields_List (bytes_eq (width_field 16)) _ _ c.any.result c.any.ensures.ran
-    (YieldsList-from_slice_split _ is_blank c.args.fields.now c.split.ensures.rest c.split.ensures.done c.split.ensures.closure (λ x b q k. search (rules, tests)))
+    (YieldsList-from_slice_split _ is_blank c.args.fields.now c.split.ensures.rest c.split.ensures.done c.split.ensures.closure
+    (λ x b q k. search (rules, tests)))
     (λ x b q k. search (rules, tests))

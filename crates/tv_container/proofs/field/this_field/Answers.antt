@@ -23,7 +23,8 @@ returns-in_err-fit-2-clause-reads g c = record {
   piece = search rules;
   gives = λ file told piece within.
       let room : c.args.one.now.at + 12 ≤ places file = omega (arith, within, c.if-one-wants.false, c.requires.room) in
-      let refuses = c.in_err-fit-2.ensures.reads.gives file (rw (← c.in_ok-fit.ensures.reads.looks) at told) (c.in_ok-fit.ensures.reads.piece file told piece) in
+      let refuses = c.in_err-fit-2.ensures.reads.gives file (rw (← c.in_ok-fit.ensures.reads.looks) at told)
+      (c.in_ok-fit.ensures.reads.piece file told piece) in
       let p = err_from_is_err_and c.from_residual-in_err-fit-2.result c.from_residual-in_err-fit-2.ensures.1 in
       rw (p.1, p.2) (refuses_any _ _ _ (rw (fit-within 12 c.args.one.now.at (places file) room) at refuses));
 }

@@ -20,5 +20,6 @@ loop-coefficient-preserved c =
           ∙ append_assoc front others last
           ∙ ap (λ l. front ++ l) (sym (each_more term_bytes c.args.terms.now i c.loop-coefficient-item.result last (omega arith) is));
       canonical = All-more (λ t. t.0 < P) c.args.terms.now i c.loop-coefficient-item.result (omega arith)
-          c.loop-coefficient.invariant.canonical (subst (λ (t : ℕ × ℕ). t.0 < P) c.loop-coefficient-item.is (rw c.number.ensures.same at c.number.ensures.below));
+          c.loop-coefficient.invariant.canonical (subst (λ (t : ℕ × ℕ). t.0 < P) c.loop-coefficient-item.is
+          (rw c.number.ensures.same at c.number.ensures.below));
     }

@@ -11,7 +11,8 @@ returns-in_err-section-clause-reads g c = record {
   piece = search rules;
   gives = λ file told piece starts.
       let known = c.loop.invariant.known file told piece starts in
-      let refuses = c.in_err-section.ensures.reads.gives file (rw (← c.loop.invariant.outside) at told) (c.loop.invariant.piece file told piece) known.1.0 known.1.1 in
+      let refuses = c.in_err-section.ensures.reads.gives file (rw (← c.loop.invariant.outside) at told)
+      (c.loop.invariant.piece file told piece) known.1.0 known.1.1 in
       let left : c.args.count - c.loop.counter ≡ c.args.count - (c.loop.counter + 1) + 1 = omega (arith, c.loop-test.true) in
       let p = err_from_is_err_and c.from_residual.result c.from_residual.ensures.1 in
       rw (p.1, p.2, known.1.2) (sections_from-refuses _ _ _ _ _ _ _ left refuses);
@@ -24,7 +25,8 @@ loop-preserved g c = record {
   piece = λ file told piece. c.in_ok-section.ensures.reads.piece file (rw (← c.loop.invariant.outside) at told) (c.loop.invariant.piece file told piece);
   known = λ file told piece starts.
       let known = c.loop.invariant.known file told piece starts in
-      let read = c.in_ok-section.ensures.reads.gives file (rw (← c.loop.invariant.outside) at told) (c.loop.invariant.piece file told piece) known.1.0 known.1.1 in
+      let read = c.in_ok-section.ensures.reads.gives file (rw (← c.loop.invariant.outside) at told)
+      (c.loop.invariant.piece file told piece) known.1.0 known.1.1 in
       let left : c.args.count - c.loop.counter ≡ c.args.count - (c.loop.counter + 1) + 1 = omega (arith, c.loop-test.true) in (
         section_at-fits _ _ _ _ _ read,
         (

@@ -9,7 +9,8 @@ returns-then-count-eq0-clause-whole g c = λ files told.
     let before = c.loop-contents.invariant in
     let at : c.len.result ≡ length c.loop-contents.contents.items = omega arith in
     let none = rw c.if-count-eq0.true at c.in_ok-count.ensures in
-    let here = held_of_read (seen c.loop-contents.files) (seen c.read.new.self) c.args.name.now c.len.result c.read.new.into 0 none files (before.contents_stay ∙ told) in
+    let here = held_of_read (seen c.loop-contents.files) (seen c.read.new.self) c.args.name.now c.len.result c.read.new.into 0 none files
+    (before.contents_stay ∙ told) in
     let all = front_ends c.loop-contents.contents.items here.0 c.read.new.into c.len.result at (before.front files told here.0 here.1) here.2 (omega arith) in
     rw all here.1
 
@@ -18,7 +19,9 @@ returns-then-count-most-clause-longer g c = λ limit e. (
   cc,
   λ files told.
       let seen = g.D.Files.seen in
-      let here = held_of_read (seen c.loop-contents.files) (seen c.read.new.self) c.args.name.now c.len.result c.read.new.into c.in_ok-count.count c.in_ok-count.ensures files (c.loop-contents.invariant.contents_stay ∙ told) in
+      let here = held_of_read (seen c.loop-contents.files)
+      (seen c.read.new.self) c.args.name.now c.len.result c.read.new.into c.in_ok-count.count c.in_ok-count.ensures files
+      (c.loop-contents.invariant.contents_stay ∙ told) in
       (here.0, here.1, omega arith),
 )
 
@@ -32,6 +35,7 @@ loop-contents-preserved g c = record {
       let before = c.loop-contents.invariant in
       let at : c.len.result ≡ length c.loop-contents.contents.items = omega arith in
       let gives = c.in_ok-count.ensures.bytes files (before.contents_stay ∙ told) bytes named in
-      let grown = front_grows c.loop-contents.contents.items bytes c.read.new.into c.len.result c.in_ok-count.count at (before.front files told bytes named) gives c.in_ok-count.ensures.within in
+      let grown = front_grows c.loop-contents.contents.items bytes c.read.new.into c.len.result c.in_ok-count.count at
+      (before.front files told bytes named) gives c.in_ok-count.ensures.within in
       grind (arith, common_steps, grown);
 }

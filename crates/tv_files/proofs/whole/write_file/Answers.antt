@@ -11,7 +11,8 @@ loop-piece-preserved g c =
       before.0 ++ c.in-Some.piece.now,
       record {
         split = before.1.split ∙ next ∙ sym (append_assoc before.0 c.in-Some.piece.now c.next.new.self.rest.now);
-        contents = written_grows (seen c.args.files.now) (seen c.loop-piece.files) (seen c.append.new.self) c.args.name.now before.0 c.in-Some.piece.now before.1.contents c.in_ok-append.ensures.done;
+        contents = written_grows (seen c.args.files.now) (seen c.loop-piece.files)
+            (seen c.append.new.self) c.args.name.now before.0 c.in-Some.piece.now before.1.contents c.in_ok-append.ensures.done;
         said = search rules;
         counts = search rules;
       },
@@ -23,5 +24,6 @@ returns-in_err-append-clause-part g c =
     let before = c.loop-piece.invariant in
     let next = ap (λ rest. before.0 ++ rest) c.in-Some.ensures.steps.1.0 in
     OnErr-always c.from_residual-in_err-append.result
-    (written_in_part (seen c.args.files.now) (seen c.loop-piece.files) (seen c.append.new.self) c.args.name.now c.args.bytes.now before.0 c.in-Some.piece.now c.next.new.self.rest.now
+    (written_in_part (seen c.args.files.now) (seen c.loop-piece.files)
+    (seen c.append.new.self) c.args.name.now c.args.bytes.now before.0 c.in-Some.piece.now c.next.new.self.rest.now
     (before.1.split ∙ next) before.1.contents c.in_err-append.ensures.refused)

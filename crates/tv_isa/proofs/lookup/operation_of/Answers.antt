@@ -12,5 +12,7 @@ pub returns : goal.returns
 unfolding with_opcode
 returns c =
     let table = c.operations.result.now in
-    let found = find_from_yields_List (λ o. o.op == c.args.op) _ _ c.find.result c.find.ensures.ran (YieldsList-from_slice table cc) (λ x b q k. search (rules, tests)) in
-    ap (option_map row_of) (c.copied.ensures ∙ found) ∙ sym (find-map row_of (λ r. r.op == c.args.op) table) ∙ ap (find (λ r. r.op == c.args.op)) c.operations.ensures
+    let found = find_from_yields_List (λ o. o.op == c.args.op) _ _ c.find.result c.find.ensures.ran (YieldsList-from_slice table cc)
+    (λ x b q k. search (rules, tests)) in
+    ap (option_map row_of) (c.copied.ensures ∙ found) ∙ sym (find-map row_of (λ r. r.op == c.args.op) table)
+    ∙ ap (find (λ r. r.op == c.args.op)) c.operations.ensures

@@ -14,10 +14,12 @@ returns-clause-ok c =
     let number : ℕ = c.args.at / 4096 in
     let table : Table = c.index_mut.result.now in
     let within : number / 1024 < length mid = c.in_ok-make_tables.ensures.there in
-    let was : slice_get mid (number / 1024) ≡ Some table = slice_get-get_or mid (number / 1024) table within ∙ ap (λ t. Some t) (sym c.index_mut.ensures.value) in
+    let was : slice_get mid (number / 1024) ≡ Some table = slice_get-get_or mid (number / 1024) table within
+    ∙ ap (λ t. Some t) (sym c.index_mut.ensures.value) in
     let before : page_of table (number % 1024) ≡ old number = table_before old mid c.make_tables.ensures.same number table c.write_in.new.table within was in
     on_ok_weaker c.write_in.result (λ writes. record {
-      changes = subst (λ p. Changes old (page_in (slice_set mid (number / 1024) c.write_in.new.table)) number (page_with (page_bytes p) (c.args.at % 4096) c.args.bytes.now)) before
+      changes = subst (λ p. Changes old (page_in (slice_set mid (number / 1024) c.write_in.new.table)) number
+          (page_with (page_bytes p) (c.args.at % 4096) c.args.bytes.now)) before
           (table_changes old mid c.make_tables.ensures.same number table c.write_in.new.table within was _ writes.changes);
       whole = ap (λ p. length (page_bytes p)) (sym before) ∙ writes.whole;
       within = writes.within;
@@ -29,8 +31,10 @@ returns-clause-err c =
     let number : ℕ = c.args.at / 4096 in
     let table : Table = c.index_mut.result.now in
     let within : number / 1024 < length mid = c.in_ok-make_tables.ensures.there in
-    let was : slice_get mid (number / 1024) ≡ Some table = slice_get-get_or mid (number / 1024) table within ∙ ap (λ t. Some t) (sym c.index_mut.ensures.value) in
-    on_err_weaker c.write_in.result (table_same (page_in c.args.tables.now.items) mid c.make_tables.ensures.same number table c.write_in.new.table within was) c.write_in.ensures.err
+    let was : slice_get mid (number / 1024) ≡ Some table = slice_get-get_or mid (number / 1024) table within
+    ∙ ap (λ t. Some t) (sym c.index_mut.ensures.value) in
+    on_err_weaker c.write_in.result (table_same
+    (page_in c.args.tables.now.items) mid c.make_tables.ensures.same number table c.write_in.new.table within was) c.write_in.ensures.err
 
 pub returns-clause-free : goal.returns-clause-free
 returns-clause-free c =
@@ -39,6 +43,7 @@ returns-clause-free c =
     let number : ℕ = c.args.at / 4096 in
     let table : Table = c.index_mut.result.now in
     let within : number / 1024 < length mid = c.in_ok-make_tables.ensures.there in
-    let was : slice_get mid (number / 1024) ≡ Some table = slice_get-get_or mid (number / 1024) table within ∙ ap (λ t. Some t) (sym c.index_mut.ensures.value) in
+    let was : slice_get mid (number / 1024) ≡ Some table = slice_get-get_or mid (number / 1024) table within
+    ∙ ap (λ t. Some t) (sym c.index_mut.ensures.value) in
     let before : page_of table (number % 1024) ≡ old number = table_before old mid c.make_tables.ensures.same number table c.write_in.new.table within was in
     λ held. c.write_in.ensures.free (subst (λ p. IsTrue (is_some p)) (sym before) held)

@@ -20,8 +20,15 @@ returns-clause-ok c =
     ∙ sym (ap (λ p. page_with (page_bytes p) c.args.offset c.args.bytes.now) none) in
     let whole : length (page_bytes (page_of c.args.table.now c.args.place)) ≡ 4096 = ap (λ p. length (page_bytes p)) none ∙ length-replicate {A = ℕ} 4096 0 in
     let same = c.write_held.ensures.same c.if-write_held.false in
-    let kept : OnOk c.keep.result (Changes (page_of c.write_held.new.table) (page_of c.keep.new.table) c.args.place c.overwrite.new.page) = search (c.keep.ensures.ok, rules) in
-    on_ok_weaker c.keep.result (λ changes. record { changes = λ q. subst (Changes (page_of c.write_held.new.table) (page_of c.keep.new.table) c.args.place) page changes q ∙ ap (cond (nat_eq q c.args.place) (Some _)) (same q); whole = whole; within = c.requires.within }) kept
+    let kept : OnOk c.keep.result (Changes (page_of c.write_held.new.table) (page_of c.keep.new.table) c.args.place c.overwrite.new.page) = search
+    (c.keep.ensures.ok, rules) in
+    on_ok_weaker c.keep.result (λ changes. record {
+      changes = λ q. subst
+          (Changes (page_of c.write_held.new.table) (page_of c.keep.new.table) c.args.place) page changes q
+          ∙ ap (cond (nat_eq q c.args.place) (Some _)) (same q);
+      whole = whole;
+      within = c.requires.within;
+    }) kept
 
 pub returns-clause-err : goal.returns-clause-err
 returns-clause-err c =

@@ -15,7 +15,8 @@ returns-clause-reads g c = record {
       let within = fit.fits 1 c.in_ok-one.one (sym one_is ∙ c.in_ok-one.ensures.same) in
       let room : c.in_ok-one.one.at + 40 ≤ places file = omega (arith, within, size) in
       let counts : counted file c.in_ok-one.one c.in_ok-rows.rows ≡ c.in_ok-header.header =
-      cc (c.in_ok-header.ensures.reads.gives file (rw (← c.in_ok-this_field.ensures.reads.looks) at told) (c.in_ok-this_field.ensures.reads.piece file told piece) room) in
+      cc (c.in_ok-header.ensures.reads.gives file (rw (← c.in_ok-this_field.ensures.reads.looks) at told)
+      (c.in_ok-this_field.ensures.reads.piece file told piece) room) in
       rw (
         header_in-checked file sections _ _ _ _
             (c.in_ok-one.ensures.gives file end sections one_is)

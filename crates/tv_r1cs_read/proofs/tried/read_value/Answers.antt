@@ -45,7 +45,8 @@ loop-left-preserved g c = record {
       let left = c.loop-left.left in
       let good = c.add_far-good.result.0 in
       let one : left ≡ left - 1 + 1 = omega (arith, c.loop-left-test.true) in
-      let count : terms - (left - (1 + good)) ≡ terms - left + 1 + good = omega (arith, c.loop-left.invariant.most, c.min-some.ensures, c.add_far-good.ensures.most) in
+      let count : terms - (left - (1 + good)) ≡ terms - left + 1 + good = omega
+      (arith, c.loop-left.invariant.most, c.min-some.ensures, c.add_far-good.ensures.most) in
       let rest : left - (1 + good) ≡ left - 1 - good = omega arith in
       let place : c.loop-left.at + 12 * c.from.result ≡ c.loop-left.at + 12 + 12 * good = omega (arith, c.from.ensures) in
       let now = rw (← c.loop-left.invariant.outside) at seen in
@@ -66,5 +67,6 @@ returns-clause-reads g c = record {
       let none : c.loop-left.left ≡ 0 = omega (arith, c.loop-left-test.false) in
       let all : c.in_ok-terms.terms - 0 ≡ c.in_ok-terms.terms = omega arith in
       let done = rw (none, all) at (c.loop-left.invariant.sums file seen here end) in
-      valued _ _ _ _ _ _ (counted file _ _ _ _ _ _ _ _ (c.in_ok-terms.ensures.reads.gives file told piece end) (comes_to _ file _ _ _ _ _ _ _ _ done refl)) c.value.ensures;
+      valued _ _ _ _ _ _ (counted file _ _ _ _ _ _ _ _ (c.in_ok-terms.ensures.reads.gives file told piece end)
+      (comes_to _ file _ _ _ _ _ _ _ _ done refl)) c.value.ensures;
 }

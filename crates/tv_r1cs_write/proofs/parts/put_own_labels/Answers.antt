@@ -13,7 +13,8 @@ pub loop-label-preserved : goal.loop-label-preserved
 loop-label-preserved g c =
     let i = c.loop-label.label in
     each_took eight_bytes (range_with_len 0 c.args.wires) i 0 (omega (arith, length-range_with_len 0 c.args.wires))
-    (c.long_bytes.ensures ∙ ap eight_bytes (c.from.ensures ∙ omega (arith, get_or-range_with_len 0 c.args.wires i 0 (omega arith)))) c.loop-label.invariant c.put.ensures
+    (c.long_bytes.ensures ∙ ap eight_bytes (c.from.ensures
+    ∙ omega (arith, get_or-range_with_len 0 c.args.wires i 0 (omega arith)))) c.loop-label.invariant c.put.ensures
 
 pub returns : goal.returns
 returns g c =

@@ -20,7 +20,8 @@ loop-taken-preserved g c =
     let lines = c.in_ok-step.ensures.lines ∙ ap (λ st. step_lines w c.args.n st (c.args.time + 3 * k)) before.state in
     let ended : c.in_ok-step.step.ended ≡ ended_after w (k + 1) first =
     c.in_ok-step.ensures.ended ∙ ap₂ (λ b st. b || finds_end w st) before.ended before.state ∙ ap (λ n. ended_after w n first) more in
-    let told = c.told-in-loop-taken.ensures ∙ ap₂ (told_of c.args.n c.args.m) (state ∙ ap (λ n. state_after w n first) (sym more)) (ended ∙ ap (λ n. ended_after w n first) (sym more)) in
+    let told = c.told-in-loop-taken.ensures ∙ ap₂ (told_of c.args.n c.args.m) (state ∙ ap (λ n. state_after w n first) (sym more))
+    (ended ∙ ap (λ n. ended_after w n first) (sym more)) in
     record {
       state = state;
       ended = ended;

@@ -15,7 +15,8 @@ returns-clause-trace g c =
     let time : ℕ = length c.args.image.now + length c.args.tape.now in
     let first : State = start w c.args.image.now c.args.tape.now c.args.aux.now in
     let answers : end_of w c.args.t first ≡ ends.Answer c.in-Answer.value c.in-Answer.step =
-    ap (end_of w c.args.t) (sym c.in_ok-start_on.ensures) ∙ ap (λ k. end_of w k (state_of c.in_ok-start_on.field-0)) (sym c.from.ensures) ∙ sym c.in_ok-end.ensures.end ∙ c.in-Answer.is in
+    ap (end_of w c.args.t) (sym c.in_ok-start_on.ensures) ∙ ap (λ k. end_of w k (state_of c.in_ok-start_on.field-0)) (sym c.from.ensures)
+    ∙ sym c.in_ok-end.ensures.end ∙ c.in-Answer.is in
     record {
       answer = (c.in-Answer.step, (answer_is_within w c.args.t first c.in-Answer.value c.in-Answer.step answers).1, answers);
       lines = c.in_ok-lines.ensures.lines ∙ ap (λ st. lines_of w n time st c.args.t) c.in_ok-machine.ensures;

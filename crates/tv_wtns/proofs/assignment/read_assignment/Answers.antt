@@ -13,7 +13,8 @@ returns-in_err-count-clause-gives g c = λ file told piece end sections found fi
     let within = fit.fits 1 c.in_ok-one.one (sym one_is ∙ c.in_ok-one.ensures.same) in
     let room : c.in_ok-one.one.at + 16 ≤ places file = omega (arith, within, size) in
     let p = err_from_is_err_and c.from_residual-in_err-count.result c.from_residual-in_err-count.ensures.1 in
-    rw (p.1, p.2) (refuses_any _ _ _ (c.in_err-count.ensures.reads.gives file (rw (← c.in_ok-this_field.ensures.reads.looks) at told) (c.in_ok-this_field.ensures.reads.piece file told piece) room))
+    rw (p.1, p.2) (refuses_any _ _ _ (c.in_err-count.ensures.reads.gives file (rw (← c.in_ok-this_field.ensures.reads.looks) at told)
+    (c.in_ok-this_field.ensures.reads.piece file told piece) room))
 
 pub returns-in_err-fills-clause-gives : goal.returns-in_err-fills-clause-gives
 returns-in_err-fills-clause-gives g c = λ file told piece end sections found fit.
@@ -22,7 +23,8 @@ returns-in_err-fills-clause-gives g c = λ file told piece end sections found fi
     let within = fit.fits 1 c.in_ok-one.one (sym one_is ∙ c.in_ok-one.ensures.same) in
     let room : c.in_ok-one.one.at + 16 ≤ places file = omega (arith, within, size) in
     let counts : counted file c.in_ok-one.one ≡ c.in_ok-count.count =
-    cc (c.in_ok-count.ensures.reads.gives file (rw (← c.in_ok-this_field.ensures.reads.looks) at told) (c.in_ok-this_field.ensures.reads.piece file told piece) room) in
+    cc (c.in_ok-count.ensures.reads.gives file (rw (← c.in_ok-this_field.ensures.reads.looks) at told)
+    (c.in_ok-this_field.ensures.reads.piece file told piece) room) in
     let p = err_from_is_err_and c.from_residual-in_err-fills.result c.from_residual-in_err-fills.ensures.1 in
     rw (p.1, p.2) (refuses_first _ _ _ (misfilled file sections _ _ _ _ _
     (c.in_ok-one.ensures.gives file end sections one_is)
@@ -41,11 +43,13 @@ returns-clause-gives g c = λ file told piece end sections found fit.
     let on = rw (← c.in_ok-this_field.ensures.reads.looks) at told in
     let counts : counted file c.in_ok-one.one ≡ c.in_ok-count.count =
     cc (c.in_ok-count.ensures.reads.gives file on (c.in_ok-this_field.ensures.reads.piece file told piece) room) in
-    let values : c.in_ok-two.two.at + 8 * c.in_ok-count.count ≤ places file = omega (arith, fit.fits 2 c.in_ok-two.two (sym two_is ∙ c.in_ok-two.ensures.same), c.in_ok-fills.ensures.size) in
+    let values : c.in_ok-two.two.at + 8 * c.in_ok-count.count
+    ≤ places file = omega (arith, fit.fits 2 c.in_ok-two.two (sym two_is ∙ c.in_ok-two.ensures.same), c.in_ok-fills.ensures.size) in
     rw (filled file sections _ _ _ _ _
     (c.in_ok-one.ensures.gives file end sections one_is)
     (c.in_ok-two.ensures.gives file end sections two_is)
     (c.in_ok-this_field.ensures.reads.gives file told piece within)
     counts
     c.in_ok-fills.ensures.gives)
-    (c.read_all.ensures.gives file (rw (← c.in_ok-count.ensures.reads.looks) at on) (c.in_ok-count.ensures.reads.piece file on (c.in_ok-this_field.ensures.reads.piece file told piece)) values)
+    (c.read_all.ensures.gives file (rw (← c.in_ok-count.ensures.reads.looks) at on)
+    (c.in_ok-count.ensures.reads.piece file on (c.in_ok-this_field.ensures.reads.piece file told piece)) values)

@@ -10,7 +10,8 @@ pub returns-in_err-take_values-clause-gives : goal.returns-in_err-take_values-cl
 returns-in_err-take_values-clause-gives g c = λ file told piece room.
     let held = c.in_ok-fit.ensures.reads.piece file (rw (← c.loop-left.invariant.outside) at told) (c.loop-left.invariant.piece file told piece) in
     let enough : c.min-some.result ≤ length c.bytes_from.result.now / 8 = omega (arith, c.min-some.ensures, c.as_chunks.ensures.front_len) in
-    let words : AreWords (take c.min-some.result c.as_chunks.result.0.now) file c.loop-left.at = are_words _ file _ _ c.min-some.result (c.bytes_from.ensures.bytes file held) c.as_chunks.ensures.front enough in
+    let words : AreWords (take c.min-some.result c.as_chunks.result.0.now) file c.loop-left.at = are_words _ file _ _ c.min-some.result
+    (c.bytes_from.ensures.bytes file held) c.as_chunks.ensures.front enough in
     let n : length (take c.min-some.result c.as_chunks.result.0.now) ≡ c.min-some.result = length-take-le _ _ (omega (arith, c.min-some.ensures)) in
     let before = c.loop-left.invariant.ahead file told piece room _ (begins file _ _ _) in
     let p = err_from_is_err_and c.from_residual-in_err-take_values.result c.from_residual-in_err-take_values.ensures.1 in
@@ -25,7 +26,8 @@ loop-left-preserved g c = record {
   ahead = λ file told piece room answer ahead.
       let held = c.in_ok-fit.ensures.reads.piece file (rw (← c.loop-left.invariant.outside) at told) (c.loop-left.invariant.piece file told piece) in
       let enough : c.min-some.result ≤ length c.bytes_from.result.now / 8 = omega (arith, c.min-some.ensures, c.as_chunks.ensures.front_len) in
-      let words : AreWords (take c.min-some.result c.as_chunks.result.0.now) file c.loop-left.at = are_words _ file _ _ c.min-some.result (c.bytes_from.ensures.bytes file held) c.as_chunks.ensures.front enough in
+      let words : AreWords (take c.min-some.result c.as_chunks.result.0.now) file c.loop-left.at = are_words _ file _ _ c.min-some.result
+      (c.bytes_from.ensures.bytes file held) c.as_chunks.ensures.front enough in
       let n : length (take c.min-some.result c.as_chunks.result.0.now) ≡ c.min-some.result = length-take-le _ _ (omega (arith, c.min-some.ensures)) in
       let before = c.loop-left.invariant.ahead file told piece room answer ahead in
       rw n at (c.in_ok-take_values.ensures.gives file words answer c.loop-left.left (omega (arith, n, c.min-some.ensures)) before);

@@ -11,5 +11,6 @@ loop-c-preserved g c =
     let ch = c.in-Some.c in (
       now.0 ++ shown_char ch,
       has_written_append _ _ _ _ _ _ now.1 (search rules),
-      append_assoc now.0 (shown_char ch) _ ∙ ap (λ l. now.0 ++ l) (sym (escaped_more ch _)) ∙ ap (λ l. now.0 ++ escaped l) (sym c.in-Some.ensures.steps.0) ∙ now.2,
+      append_assoc now.0 (shown_char ch) _ ∙ ap (λ l. now.0 ++ l) (sym (escaped_more ch _)) ∙ ap (λ l. now.0 ++ escaped l) (sym c.in-Some.ensures.steps.0)
+          ∙ now.2,
     )

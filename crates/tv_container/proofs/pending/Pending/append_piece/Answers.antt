@@ -7,6 +7,7 @@ pub returns-clause-took : goal.returns-clause-took
 returns-clause-took g c = elim c.if-is_ok.branch [
   | then-is_ok w ↦
       let rest = rw w.self-is at c.drop_piece.ensures.rest in
-      rw (w.self-is, w.files-is) (called 4096 w.append-appended.result (sym c.is_ok.ensures.value ∙ w.if-is_ok.true) (rw w.piece.ensures at w.append-appended.ensures) rest (search of_calls))
+      rw (w.self-is, w.files-is) (called 4096 w.append-appended.result (sym c.is_ok.ensures.value ∙ w.if-is_ok.true)
+      (rw w.piece.ensures at w.append-appended.ensures) rest (search of_calls))
   | else-is_ok w ↦ rw (w.self-is, w.files-is) (lost_more (sym c.is_ok.ensures.value ∙ w.if-is_ok.false))
 ]

@@ -22,6 +22,7 @@ returns-else-self-rows-clause-steps c = λ outside name. record {
   looks = λ on. rw on refl;
   gives = λ rows file told place.
       let left = rw (← c.self.view_is) at c.requires.none in
-      let end : c.self.inside.at ≡ c.self.inside.header.rows.at + c.self.inside.header.rows.size = omega (arith, c.if-self-rows.false, c.self.invariant.within) in
+      let end : c.self.inside.at ≡ c.self.inside.header.rows.at + c.self.inside.header.rows.size = omega
+      (arith, c.if-self-rows.false, c.self.invariant.within) in
       is_on file _ c.requires.on (all_at file c.args.self.now rows place (rw (← c.self.view_is) (constraints_from-end file _ _ _ _ left end)));
 }

@@ -7,7 +7,12 @@ pub returns-in-Some-stopped-clause-steps : goal.returns-in-Some-stopped-clause-s
 returns-in-Some-stopped-clause-steps g c =
     let ended = c.end.ensures.steps (g.D.Files.seen c.args.files.now) c.args.name.now in
     let stopped = sym c.stopped.ensures ∙ c.in-Some-stopped.is in
-    record { header = ended.header; again = ended.again; looks = ended.looks; gives = λ rows file told is. rw stopped (rw stopped at (ended.gives rows file told is)) }
+    record {
+      header = ended.header;
+      again = ended.again;
+      looks = ended.looks;
+      gives = λ rows file told is. rw stopped (rw stopped at (ended.gives rows file told is));
+    }
 
 pub returns-in-None-clause-steps : goal.returns-in-None-clause-steps
 returns-in-None-clause-steps g c = c.end.ensures.steps _ _
@@ -38,6 +43,7 @@ returns-in-Err-clause-steps g c = record {
   gives = λ rows file told is.
       let place = rw (← c.self.view_is) at is in
       let left : c.self.inside.left ≡ c.self.inside.left - 1 + 1 = omega arith in
-      let refuses = rw (c.bounds-bounds.ensures.wires, c.bounds-bounds.ensures.end, ← c.self.view_is) at (c.in-Err.ensures.reads.gives file told place.follows.piece) in
+      let refuses = rw (c.bounds-bounds.ensures.wires, c.bounds-bounds.ensures.end, ← c.self.view_is) at
+      (c.in-Err.ensures.reads.gives file told place.follows.piece) in
       refuses_ahead file _ rows _ place (constraints_from-refuses file _ _ _ _ _ _ left (refuses place.follows.within));
 }

@@ -19,7 +19,8 @@ returns-in-Ok-clause-steps g c = record {
       let tried = given on.within in
       rw (← c.self.view_is) (is_on file _ on.on (over_one _ _ _ file rows tried.constraint _ place
       (one_more file _ _ rows _ place (record { piece = c.in-Ok.ensures.reads.piece file told on.piece; within = on.within; on = on.on }) refl
-      (rw c.in-Ok.ensures.size (terms_rise c.self.inside.header c.self.inside.at c.self.inside.left _ c.self.invariant some) ∙ ap (λ n. terms_given c.self.inside.header c.self.inside.at c.self.inside.left + n) tried.count)
+      (rw c.in-Ok.ensures.size (terms_rise c.self.inside.header c.self.inside.at c.self.inside.left _ c.self.invariant some)
+      ∙ ap (λ n. terms_given c.self.inside.header c.self.inside.at c.self.inside.left + n) tried.count)
       (constraints_from-next file _ _ _ _ _ _ left tried.read)) tried.is (omega (arith, left))));
 }
 
@@ -31,6 +32,7 @@ returns-in-Err-clause-steps g c = record {
   gives = λ rows file told is.
       let place = rw (← c.self.view_is) at is in
       let left : c.self.inside.left ≡ c.self.inside.left - 1 + 1 = omega (arith, rw (← c.self.view_is) at c.requires.some) in
-      let refuses = rw (c.bounds-bounds.ensures.wires, c.bounds-bounds.ensures.end, ← c.self.view_is) at (c.in-Err.ensures.reads.gives file told place.follows.piece) in
+      let refuses = rw (c.bounds-bounds.ensures.wires, c.bounds-bounds.ensures.end, ← c.self.view_is) at
+      (c.in-Err.ensures.reads.gives file told place.follows.piece) in
       refuses_ahead file _ rows _ place (constraints_from-refuses file _ _ _ _ _ _ left (refuses place.follows.within));
 }

@@ -26,6 +26,7 @@ loop-holds-preserved g c =
           let tried = rw (c.bounds-bounds.ensures.wires, c.bounds-bounds.ensures.end, ← c.self.view_is) at (c.in-Some.ensures.gives file on.piece) in
           over_more _ _ _ _ file rows tried.constraint _ over
           (one_more file _ _ (rows ++ over.more) tried.constraint over.place (record { piece = on.piece; within = on.within; on = on.on }) refl
-          (rw c.in-Some.ensures.size (terms_rise header from c.loop-holds.left _ c.loop-holds.invariant.within some) ∙ ap (λ n. terms_given header from c.loop-holds.left + n) tried.count)
+          (rw c.in-Some.ensures.size (terms_rise header from c.loop-holds.left _ c.loop-holds.invariant.within some)
+          ∙ ap (λ n. terms_given header from c.loop-holds.left + n) tried.count)
           (constraints_from-next file _ _ _ _ _ _ left tried.read)) tried.is (omega (arith, left));
     }

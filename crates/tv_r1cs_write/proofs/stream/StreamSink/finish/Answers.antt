@@ -5,4 +5,5 @@ use Rattle.tv_r1cs_write.proofs.Finishing.{finished_by}
 use Rattle.tv_r1cs_write.proofs.stream.StreamSink.finish.Goals as goal
 
 pub returns : goal.returns
-returns g c = finished_by (stream g.D.Files.seen c.args.self) _ _ _ _ (length-range_with_len 0 c.args.self.counts.wires) (c.write_own_labels.ensures.took.passes (unrefused _ c.requires.whole)) c.write_own_labels.ensures.none
+returns g c = finished_by (stream g.D.Files.seen c.args.self) _ _ _ _ (length-range_with_len 0 c.args.self.counts.wires)
+    (c.write_own_labels.ensures.took.passes (unrefused _ c.requires.whole)) c.write_own_labels.ensures.none

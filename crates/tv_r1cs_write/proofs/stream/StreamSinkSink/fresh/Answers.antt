@@ -10,9 +10,21 @@ returns-clause-puts g c =
     let sink = c.args.self.now in
     record {
       answers = refl;
-      stands = λ list s. rw (append-nil list) (record { counted = s.counted; whole = s.whole; narrow = narrow_more sink.wires list s.narrow; written = s.written });
+      stands = λ list s. rw (append-nil list) (record {
+        counted = s.counted;
+        whole = s.whole;
+        narrow = narrow_more sink.wires list s.narrow;
+        written = s.written;
+      });
       next = refl;
-      keeps = record { borrow = refl; name = refl; counts = refl; labels = refl; outside = nothing_appended (g.D.Files.seen sink.files.now) sink.name.now; quiet = λ whole. (whole, counts_stay (g.D.Files.seen sink.files.now)) };
+      keeps = record {
+        borrow = refl;
+        name = refl;
+        counts = refl;
+        labels = refl;
+        outside = nothing_appended (g.D.Files.seen sink.files.now) sink.name.now;
+        quiet = λ whole. (whole, counts_stay (g.D.Files.seen sink.files.now));
+      };
       faults = omega arith;
       wants = omega arith;
     }

@@ -6,4 +6,5 @@ use Rattle.tv_wtns.proofs.file_values.FileValuesValues.give.Goals as goal
 pub returns-clause-gives : goal.returns-clause-gives
 returns-clause-gives g c =
     let took = rw (c.long_bytes.ensures, c.number.ensures.same) at c.put.ensures in
-    given _ _ _ c.args.value c.put.new.self.outcome refl refl (rw c.number.ensures.same at c.number.ensures.below) (took.passes (unrefused _ c.requires)) refl c.requires
+    given _ _ _ c.args.value c.put.new.self.outcome refl refl (rw c.number.ensures.same at c.number.ensures.below)
+    (took.passes (unrefused _ c.requires)) refl c.requires
