@@ -1,8 +1,8 @@
 #!/bin/sh
 # For each program here: its image, disassembled and assembled again, is the same image; its run on its tapes says what
 # README.md beside this says, `answers V at step S`; and for that answer and S steps its system is built, filled,
-# checked and extracted, over Benes' network and over Waksman's. The system here that is none of a program is shrunk,
-# and checked before and after. The last line counts; the status is 1 where one failed.
+# checked and extracted, over Benes' network and over Waksman's, and checked by `verify.py` too. The system here that is
+# none of a program is shrunk, and checked before and after. The last line counts; the status is 1 where one failed.
 set -u
 
 examples=$(dirname -- "$(realpath -- "$0")")
@@ -28,6 +28,11 @@ assembles() {
         cmp "$folder/image" "$folder/again"
 }
 
+# Checks the values against the system by `verify.py`, which reads both as other programs do, where there is Python.
+verifies() {
+    ! command -v python3 >"$folder/found" || python3 -B "$examples/verify.py" "$folder/system" "$folder/values" >"$folder/said"
+}
+
 # Takes a program with its tapes, the number of its tape's words, its answer and the answering step, and the network's
 # word, through all four commands.
 reduces() {
@@ -35,6 +40,7 @@ reduces() {
         "$tinyr1cs" witness "$1" "$2" "$3" "$6" "$folder/values" $7 &&
         { echo "$5" && words "$2"; } >"$folder/publics" &&
         [ "$("$tinyr1cs" check "$folder/system" "$folder/values" "$folder/publics")" = yes ] &&
+        verifies &&
         [ "$("$tinyr1cs" extract "$1" "$4" "$6" "$folder/values" "$folder/tape" "$folder/aux" $7)" = "answer $5 at step $6" ] &&
         words "$2" | cmp - "$folder/tape" &&
         words "$3" | head -n "$(wc -l <"$folder/aux")" | cmp - "$folder/aux"
