@@ -1,5 +1,5 @@
 -- Calls one after another put their circuits one after another. `search (chain, ..)` with what each call
--- did proves what the whole did; at the exit of a `?` it stands behind `refused`.
+-- did proves what the whole did; at the exit of a `?` it stands after `refused`.
 use Rattle.std.proofs.Common.{◌≡◌, ℕ, zero, suc, ◌+◌, ◌-◌, ◌<◌, ◌≤◌, ◌++◌, Result, IsErrAnd, refl, sym, ◌∙◌, ap, subst, append_assoc, add-one, arith}
 use Rattle.std.proofs.lemmas.List.{append-nil}
 use Rattle.std.proofs.lemmas.Result.{err_from_is_err_and}

@@ -97,5 +97,3 @@ Sat-from_Meets system z each assigns meets = record {
   one = slice_get_first z assigns.one;
   holds = All-from_recursion _ system.constraints meets;
 }
-
-pub ruleset tops = (top-append, top-scaled)

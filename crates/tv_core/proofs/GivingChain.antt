@@ -1,5 +1,5 @@
 -- Calls one after another give their lists one after another. `search (giving, ..)` with what each call
--- did proves what the whole did; at the exit of a `?` it stands behind `gives_refused`.
+-- did proves what the whole did; at the exit of a `?` it stands after `gives_refused`.
 use Rattle.std.proofs.Common.{◌≡◌, ℕ, List, [], ◌∷◌, ◌++◌, Result, IsErrAnd, sym, ◌∙◌, ap, subst, append_assoc, arith}
 use Rattle.std.proofs.lemmas.List.{append-nil}
 use Rattle.std.proofs.lemmas.Result.{err_from_is_err_and}

@@ -1,4 +1,4 @@
--- A last call that gives values, whose result is the whole's.
+-- A last call that passes values, whose result is the whole's.
 use Rattle.std.proofs.Common.{ℕ, List, ◌++◌, Result, Ok, Err}
 use Rattle.tv_core.proofs.GivingChain.{gives_then, gives_then_refused}
 use Rattle.tv_core.specs.Giving.{Giving, GivesAll, GivesIn}

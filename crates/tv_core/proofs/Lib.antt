@@ -1,6 +1,7 @@
 pub mod Adding
 pub mod ApartLaws
 pub mod BelowLaws
+mod Cells
 pub mod Chain
 pub mod CombinationLaws
 pub mod DifferenceLaws

@@ -39,11 +39,11 @@ turns-next piece x next made zero each = omega arith
 turns-next piece x next made (suc n) each =
     each n (turns n piece x next).answer (turns n piece x next).next ∙ omega (arith, turns-next piece x next made n each)
 
--- the next wire's number, as a call told it
+-- the next wire's number, as a call returned it
 pub puts_here_as : {S : Type 0} (m : Meaning S) (s : S) (w : ℕ) → w ≡ m.wires s → PutsAll m s s here w
 puts_here_as m s w same = rw same (puts_here m s)
 
--- each turn gives a number
+-- each turn passes a number
 module _ {V : Type 0} (m : Giving V) (f : ℕ → ℕ) where
   pub gives_no_turn : (v : V) → GivesAll m v v (each_below 0 f)
   gives_no_turn v = rw each_below-zero (gives_nothing m v)

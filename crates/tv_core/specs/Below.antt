@@ -1,4 +1,4 @@
--- What a function gives at the numbers below n: its sum, its list, and a combination of wires in a row.
+-- A function's values at the numbers below n: their sum, their list, and a combination of wires in a row.
 use Rattle.std.specs.Prelude.{ℕ, ◌+◌, List, map}
 use Rattle.std.specs.List.{range_with_len, sum_by, flat_map}
 use Rattle.tv_core.specs.Constraints.{Combination}

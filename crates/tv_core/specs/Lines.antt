@@ -1,4 +1,4 @@
--- Pairs, and lines of memory: at each time one cell is looked at, and its word goes from old to new.
+-- Pairs, and lines of memory: at each time one cell is accessed, and its word goes from old to new.
 use Rattle.std.specs.Prelude.{◌≡◌, ℕ, ◌==◌, if◌then◌else◌, List, [], ◌∷◌, ◌++◌, fold}
 use Rattle.tv_core.specs.Constraints.{value}
 use Rattle.tv_core.specs.declared.lines.Line.{Line as Numbers}

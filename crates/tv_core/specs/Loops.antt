@@ -1,4 +1,4 @@
--- Loops of circuits whose turns answer nothing.
+-- Loops of circuits whose turns return nothing.
 use Rattle.std.specs.Prelude.{ℕ}
 use Rattle.tv_core.specs.Circuits.{Circuit, turns}
 

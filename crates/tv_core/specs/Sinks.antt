@@ -17,7 +17,7 @@ pub record Meaning (S : Type 0) : Type 1 where
   pub constraints : S → ℕ
   -- whether a refusal broke it
   pub broken : S → Bool
-  -- how many faults of writing and wants of memory it has met
+  -- how many faults of writing and allocation failures it has met
   pub faults : S → ℕ
   pub wants : S → ℕ
   -- what every call keeps, from before it to after it, as the file that a sink writes to; with no call
@@ -33,8 +33,8 @@ IsCause Memory faults wants old new = Rose (wants old) (wants new)
 
 module _ {S : Type 0} (m : Meaning S) where
   module _ {A : Type 0} where
-    -- a call put a circuit whole: its answer is the circuit's, the sink stands for the circuit's
-    -- constraints after whatever it stood for, and the next wire is the circuit's; no count fell
+    -- a call put a whole circuit: its result is the circuit's, the sink records the circuit's constraints after those
+    -- before, and the next wire is the circuit's; no count fell
     pub record PutsAll (old new : S) (circuit : Circuit A) (answer : A) : Type 0 where
       pub answers : answer ≡ (circuit (m.wires old)).answer
       pub stands : (list : List Constraint) → m.stands old list → m.stands new (list ++ (circuit (m.wires old)).list)
@@ -62,21 +62,20 @@ module _ {S : Type 0} (m : Meaning S) where
     abbrev pub PutsIn : S → S → Circuit A → Result A SinkFault → Type 0
     PutsIn old new circuit result = MatchResult result (PutsAll old new circuit) (PutsSome old new circuit)
 
-  -- after a call that succeeded: so many more wires and constraints, and the sink is not broken
+  -- after a call that succeeded: this many more wires and constraints, and the sink is not broken
   pub record Grows (old new : S) (made added : ℕ) : Type 0 where
     pub wires : m.wires new ≡ m.wires old + made
     pub constraints : m.constraints new ≡ m.constraints old + added
     pub whole : m.broken new ≡ false
 
-  -- before a call: there is room for so many more wires and constraints, wire 0 is there, and the
-  -- sink is not broken
+  -- before a call: there is room for this many more wires and constraints, wire 0 is there, and the sink is not broken
   pub record Room (sink : S) (made added : ℕ) : Type 0 where
     pub whole : m.broken sink ≡ false
     pub constant : 0 < m.wires sink
     pub wires : m.wires sink + made < 2 ^ 32
     pub constraints : m.constraints sink + added < 2 ^ 32
 
-  -- the sink met no fault and no want of memory
+  -- the sink met no fault and no allocation failure
   pub record Quiet (old new : S) : Type 0 where
     pub faults : m.faults new ≡ m.faults old
     pub wants : m.wants new ≡ m.wants old

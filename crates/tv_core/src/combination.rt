@@ -1,11 +1,12 @@
-ghost use Rattle.std.specs.Prelude.{◌≡◌, ℕ, ◌+◌, ◌<◌, ◌≤◌, List, [], ◌∷◌, ◌++◌, length, max};
+//! Linear combinations of wires.
+ghost use Rattle.std.specs.Prelude.{◌≡◌, ℕ, ◌+◌, ◌<◌, ◌≤◌, List, [], ◌∷◌, ◌++◌, length, max, take};
+ghost use Rattle.std.specs.List.{insert, remove};
 ghost use Rattle.tv_core.specs.Constraints.{value};
 ghost use Rattle.tv_core.specs.Combinations.{wire, constant, one_less, scaled, less, top};
 ghost use Rattle.tv_core.specs.Normal.{normal, place, put_at, IsNormal};
 
 use crate::field::F;
 use crate::wire::Wire;
-use arrayvec::ArrayVec;
 use std::marker::Model;
 
 /// The most terms that an `Lc` has room for.
@@ -17,15 +18,17 @@ pub const TERMS: usize = 128;
 /// It lies in the value itself, about 2 KB: lend it, and make it where it is used.
 #[derive(Drop)]
 pub struct Lc {
-    terms: ArrayVec<(F, Wire), TERMS>,
+    // The terms are the first `len`.
+    cells: [(F, Wire); TERMS],
+    len: usize,
 }
 
 impl Model for Lc {
     ghost Value = { List (ℕ × ℕ) };
 
-    ghost view = { λ l. l.terms.items };
+    ghost view = { λ l. take l.len l.cells };
 
-    ghost invariant = { λ l. length l.terms.items ≤ 128 };
+    ghost invariant = { λ l. l.len ≤ 128 };
 }
 
 impl Lc {
@@ -34,7 +37,8 @@ impl Lc {
         ensures { result ≡ [] }
     {
         Lc {
-            terms: ArrayVec::new(),
+            cells: [(F::ZERO, Wire(0)); TERMS],
+            len: 0,
         }
     }
 
@@ -79,7 +83,7 @@ impl Lc {
     pub fn clear(&mut self)
         ensures { self.new ≡ [] }
     {
-        self.terms.clear();
+        self.len = 0;
     }
 
     /// Makes it one wire, once.
@@ -101,14 +105,15 @@ impl Lc {
     }
 
     /// Appends a term, where there are fewer than `TERMS`.
-    #[tactic(auto, using(crate::proofs::CombinationLaws::tops))]
     pub fn plus(&mut self, coefficient: F, wire: Wire)
         requires { length self.old < 128 }
         ensures terms { self.new ≡ self.old ++ (coefficient, wire) ∷ [] }
         ensures len { length self.new ≡ length self.old + 1 }
         ensures top { top self.new ≡ max (top self.old) (wire + 1) }
     {
-        self.terms.push((coefficient, wire));
+        let len = self.len;
+        self.cells[len] = (coefficient, wire);
+        self.len = len + 1;
     }
 
     /// Appends these terms; all together are at most `TERMS`.
@@ -156,17 +161,29 @@ impl Lc {
         ensures top { top self.new ≤ max (top self.old) (wire + 1) }
     {
         let at = place(self.terms(), wire);
-        if at == self.terms.len() {
+        if at == self.len {
             self.put_at(at, coefficient, wire);
-            return;
+        } else {
+            self.add_at(at, coefficient, wire);
         }
-        let (before, found) = self.terms[at];
-        if found.0 != wire.0 {
+    }
+
+    // The same, where the wire's place is that of a term.
+    #[inline(never)]
+    fn add_at(&mut self, at: usize, coefficient: F, wire: Wire)
+        requires normal { IsNormal self.old }
+        requires place { at ≡ place wire self.old }
+        requires within { at < length self.old }
+        requires room { length self.old < 128 }
+        ensures { self.new ≡ normal (self.old ++ (coefficient, wire) ∷ []) }
+    {
+        let (before, found) = self.cells[at];
+        if found.0 == wire.0 {
+            self.remove(at);
+            self.put_at(at, coefficient + before, wire);
+        } else {
             self.put_at(at, coefficient, wire);
-            return;
         }
-        let _ = self.terms.remove(at);
-        self.put_at(at, coefficient + before, wire);
     }
 
     /// Adds these terms to a normal combination, each at its wire's place.
@@ -198,14 +215,38 @@ impl Lc {
     }
 
     // Inserts a term at a place, unless its coefficient is 0.
+    #[inline]
     fn put_at(&mut self, at: usize, coefficient: F, wire: Wire)
         requires within { at ≤ length self.old }
         requires room { length self.old < 128 }
         ensures { self.new ≡ put_at coefficient wire at self.old }
     {
         if coefficient != F::ZERO {
-            self.terms.insert(at, (coefficient, wire));
+            self.insert(at, coefficient, wire);
         }
+    }
+
+    // Inserts a term at a place.
+    #[inline]
+    fn insert(&mut self, at: usize, coefficient: F, wire: Wire)
+        requires within { at ≤ length self.old }
+        requires room { length self.old < 128 }
+        ensures { self.new ≡ insert self.old at (coefficient, wire) }
+    {
+        let len = self.len;
+        self.cells.copy_within(at..len, at + 1);
+        self.cells[at] = (coefficient, wire);
+        self.len = len + 1;
+    }
+
+    // Removes the term at a place.
+    fn remove(&mut self, at: usize)
+        requires { at < length self.old }
+        ensures { self.new ≡ remove self.old at }
+    {
+        let len = self.len;
+        self.cells.copy_within(at + 1..len, at);
+        self.len = len - 1;
     }
 
     /// The terms, in order.
@@ -213,7 +254,7 @@ impl Lc {
         ensures terms { result.now ≡ self.now }
         ensures fits { length result.now ≤ 128 }
     {
-        self.terms.as_slice()
+        &self.cells[..self.len]
     }
 
     /// The value under an assignment; a wire past its end counts as 0.

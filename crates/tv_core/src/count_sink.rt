@@ -1,3 +1,4 @@
+//! A sink that counts constraints and terms.
 ghost use Rattle.std.specs.Prelude.{◌≡◌, ◌-◌, ◌*◌, ◌^◌, ◌<◌, ◌≤◌, IsOk, IfOk, refl};
 ghost use Rattle.tv_core.specs.Circuits.{fresh, put};
 ghost use Rattle.tv_core.specs.Combinations.{top};
@@ -26,7 +27,7 @@ impl Model for CountSink {
 }
 
 impl CountSink {
-    /// An empty sink, whose next wire has the number `wires`.
+    /// Returns an empty sink, whose next wire has the number `wires`.
     pub fn new(wires: u32) -> CountSink
         ensures { result ≡ record { wires = wires; constraints = 0; terms = 0 } }
     {
@@ -37,14 +38,14 @@ impl CountSink {
         }
     }
 
-    /// How many constraints were put.
+    /// Returns how many constraints were put.
     pub fn constraints(&self) -> u32
         ensures { result ≡ self.now.constraints }
     {
         self.constraints
     }
 
-    /// How many terms their combinations have.
+    /// Returns how many terms their combinations have.
     pub fn terms(&self) -> u64
         ensures { result ≡ self.now.terms }
     {

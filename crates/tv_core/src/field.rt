@@ -1,3 +1,4 @@
+//! The field of P = 2^64 - 2^32 + 1.
 ghost use Rattle.std.specs.Prelude.{◌≡◌, ℕ, ◌+◌, ◌-◌, ◌*◌, ◌%◌, ◌^◌, ◌<◌, ◌≤◌, ◌↔◌, IsNone, IfSome};
 ghost use Rattle.tv_core.specs.declared.field.TheConstants.{P};
 
@@ -33,7 +34,7 @@ impl F {
     /// The field's 1.
     pub const ONE: F = F { word: 1 };
 
-    /// The residue of a number modulo `P`.
+    /// Returns the residue of a number modulo `P`.
     pub fn of(number: u64) -> F
         ensures { result ≡ number % P }
     {
@@ -42,7 +43,7 @@ impl F {
         }
     }
 
-    /// The element that a number below `P` writes; from `P` up there is none.
+    /// Returns the element that a number below `P` writes; from `P` up there is none.
     pub fn canon(number: u64) -> Option<F>
         ensures none { IsNone result ↔ (P ≤ number) }
         ensures some { IfSome result (λ f. f ≡ number) }
@@ -54,8 +55,8 @@ impl F {
         }
     }
 
-    /// The residue of 2^128 `upper` + `low` modulo `P`, `upper` being below 2^31. It takes no
-    /// division.
+    /// Returns the residue of 2^128 `upper` + `low` modulo `P`, `upper` being below 2^31. It takes
+    /// no division.
     #[inline(always)]
     pub fn of_wide(low: u128, upper: u64) -> F
         requires { upper < 2 ^ 31 }
@@ -84,7 +85,7 @@ impl F {
         }
     }
 
-    /// The element as a number.
+    /// Returns the element as a number.
     pub fn number(self) -> u64
         ensures same { result ≡ self }
         ensures below { result < P }
@@ -92,7 +93,7 @@ impl F {
         self.word
     }
 
-    /// The sum.
+    /// Returns the sum.
     pub fn add(self, other: F) -> F
         ensures { result ≡ (self + other) % P }
     {
@@ -106,7 +107,7 @@ impl F {
         }
     }
 
-    /// The difference.
+    /// Returns the difference.
     pub fn sub(self, other: F) -> F
         ensures { result ≡ (self + (P - other)) % P }
     {
@@ -120,7 +121,7 @@ impl F {
         }
     }
 
-    /// The additive inverse, 0 for 0.
+    /// Returns the additive inverse, 0 for 0.
     pub fn neg(self) -> F
         ensures { result ≡ (P - self) % P }
     {
@@ -129,7 +130,7 @@ impl F {
         }
     }
 
-    /// The product.
+    /// Returns the product.
     pub fn mul(self, other: F) -> F
         ensures { result ≡ (self * other) % P }
     {

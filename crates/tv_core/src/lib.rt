@@ -5,8 +5,8 @@
 //! terms. They cite `Holds`, `Sat` and `Extends`, and never carry "P is prime" as a premise: it is
 //! proved here. A gadget is first a circuit, a definition of its answer, constraints and wires. Its
 //! function says by `PutsIn` that it puts that circuit into any `Sink`, and by `Grows` how many
-//! wires and constraints that is; its twin says by `GivesIn` which values it gives; its laws are
-//! about assignments that `Meets` the circuit's constraints.
+//! wires and constraints that is; its generator, `fill_..`, says by `GivesIn` which values it
+//! assigns; its laws are about assignments that `Meets` the circuit's constraints.
 #![tactic(auto)]
 
 mod combination;

@@ -1,3 +1,4 @@
+//! Lines of memory, as numbers and as combinations.
 use crate::combination::Lc;
 use crate::field::F;
 

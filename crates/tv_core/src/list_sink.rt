@@ -1,3 +1,4 @@
+//! A sink that keeps its constraints.
 ghost use Rattle.std.specs.Prelude.{◌≡◌, ◌<◌, ◌==◌, [], length, false, slice_get, Some};
 ghost use Rattle.std.proofs.Common.{ap};
 ghost use Rattle.tv_core.specs.Meanings.{Listed, listed_meaning};
@@ -40,7 +41,7 @@ impl Model for ListSink {
 }
 
 impl ListSink {
-    /// An empty sink, whose next wire has the number `wires`.
+    /// Returns an empty sink, whose next wire has the number `wires`.
     pub fn new(alloc: Global, wires: u32) -> ListSink
         ensures { result ≡ record { wires = wires; list = []; broken = false } }
     {
@@ -52,21 +53,21 @@ impl ListSink {
         }
     }
 
-    /// How many constraints were put.
+    /// Returns how many constraints were put.
     pub fn len(&self) -> u32
         ensures { result ≡ length self.now.list }
     {
         self.rows.len() as u32
     }
 
-    /// Whether none was put.
+    /// Returns whether none was put.
     pub fn is_empty(&self) -> bool
         ensures { result ≡ (length self.now.list == 0) }
     {
         self.rows.is_empty()
     }
 
-    /// The constraint at a place.
+    /// Returns the constraint at a place.
     pub fn row(&self, i: u32) -> (Lc, Lc, Lc)
         requires { i < length self.now.list }
         ensures { slice_get self.now.list i ≡ Some

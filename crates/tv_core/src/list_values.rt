@@ -1,3 +1,4 @@
+//! A list of values.
 ghost use Rattle.std.specs.Prelude.{◌≡◌, [], false};
 ghost use Rattle.tv_core.specs.Meanings.{Kept, kept_giving};
 
@@ -21,7 +22,7 @@ impl Model for ListValues {
 }
 
 impl ListValues {
-    /// An empty list.
+    /// Returns an empty list.
     pub fn new(alloc: Global) -> ListValues
         ensures { result ≡ record { list = []; broken = false } }
     {
@@ -31,7 +32,7 @@ impl ListValues {
         }
     }
 
-    /// The values, in order; after a refusal those before the refused one.
+    /// Returns the values, in order; after a refusal those before the refused one.
     pub fn as_slice(&self) -> &[F]
         ensures { result.now ≡ self.now.list }
     {

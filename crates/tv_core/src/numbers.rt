@@ -1,3 +1,4 @@
+//! Words and flags as field elements.
 ghost use Rattle.std.specs.Prelude.{◌≡◌, if◌then◌else◌};
 
 use crate::field::F;
@@ -5,7 +6,7 @@ use crate::field::F;
 impl From<u32> for F {
     ghost from_gives = { λ word number. number ≡ word };
 
-    /// A word, as a number.
+    /// Returns a word, as a number.
     fn from(word: u32) -> F {
         F::of(u64::from(word))
     }

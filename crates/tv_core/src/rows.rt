@@ -1,3 +1,4 @@
+//! The terms of a list of constraints in one vector, and where each constraint's terms stand.
 ghost use Rattle.std.specs.Prelude.{◌≡◌, ◌≤◌, [], ◌∷◌, ◌++◌, length, OnOk, OnErr};
 ghost use Rattle.tv_core.specs.Rows.{row_after};
 

@@ -1,9 +1,10 @@
+//! Scratch combinations for constraints put in a loop.
 ghost use Rattle.std.specs.Prelude.{◌≡◌, []};
 
 use crate::combination::Lc;
 
-/// The combinations of a constraint, to be filled again for each of a loop: to make one costs more
-/// than to put it.
+/// The combinations of a constraint, overwritten for each constraint of a loop: to allocate one
+/// costs more than to put it.
 #[derive(Drop)]
 pub struct Scratch {
     /// The first factor.

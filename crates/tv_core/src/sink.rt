@@ -1,3 +1,4 @@
+//! The trait of what takes a system's wires and constraints.
 ghost use Rattle.std.specs.Prelude.{◌≡◌, ◌-◌, ◌^◌, ◌<◌, ◌≤◌, IfOk, false, List, length};
 ghost use Rattle.tv_core.specs.Constraints.{Constraint};
 ghost use Rattle.tv_core.specs.Combinations.{top};
@@ -13,28 +14,28 @@ pub enum SinkFault {
     /// What it writes to failed.
     #[error("the writing failed")]
     Failed,
-    /// Memory was wanting.
+    /// Memory ran out.
     #[error("out of memory")]
     Memory,
 }
 
-/// What a call answers that puts constraints, or gives values.
+/// The result of a call that puts constraints or assigns values.
 pub type Put<T> = Result<T, SinkFault>;
 
 /// Takes the wires and constraints of a system, in order.
 ///
-/// A sink stands for the list of constraints that were put into it. A refusal breaks it: it stands
-/// for no list any more, what it has tried is known, and no further call is made on it.
+/// A sink records the list of constraints that were put into it. A refusal breaks it: then it
+/// records no list, what it has tried is known, and no further call is made on it.
 pub trait Sink {
     ghost use Rattle.tv_core.specs.Sinks.{Meaning, PutsAll, PutsIn, Grows, Quiet};
 
     ghost meaning: { Meaning Self };
 
-    /// The number of the next wire.
+    /// Returns the number of the next wire.
     fn wires(&self) -> u32
         ensures { result ≡ meaning.wires self.now };
 
-    /// A new wire, which has the next number.
+    /// Returns a new wire, which has the next number.
     fn fresh(&mut self) -> Wire
         requires whole { meaning.broken self.old ≡ false }
         requires room { meaning.wires self.old < 2 ^ 32 - 1 }
@@ -43,8 +44,8 @@ pub trait Sink {
         ensures grows { Grows meaning self.old self.new 1 0 }
         ensures quiet { Quiet meaning self.old self.new };
 
-    /// Appends the constraint that `a` times `b` is `c`. It refuses by `Failed` only where its
-    /// count of faults rose, and by `Memory` only where its count of wants rose.
+    /// Appends the constraint that `a` times `b` is `c`. Returns `Failed` only where the sink's
+    /// count of faults rose, and `Memory` only where its count of allocation failures rose.
     fn put(&mut self, a: &Lc, b: &Lc, c: &Lc) -> Put<()>
         requires whole { meaning.broken self.old ≡ false }
         requires room { meaning.constraints self.old < 2 ^ 32 - 1 }

@@ -1,3 +1,4 @@
+//! A sink that tests each constraint against an assignment.
 ghost use Rattle.std.specs.Prelude.{◌≡◌, ◌-◌, ◌^◌, ◌<◌, ◌≤◌, IsOk, IfOk, None, refl};
 ghost use Rattle.tv_core.specs.Circuits.{fresh, put};
 ghost use Rattle.tv_core.specs.Sinks.{PutsIn, Grows};
@@ -37,7 +38,7 @@ impl<'a> Model for TestSink<'a> {
 }
 
 impl<'a> TestSink<'a> {
-    /// An empty sink over these numbers, whose next wire has the number `wires`.
+    /// Returns an empty sink over these numbers, whose next wire has the number `wires`.
     pub fn over(z: &'a [F], wires: u32) -> TestSink<'a>
         ensures { result ≡ record {
           z = z.entry.now;
@@ -58,28 +59,28 @@ impl<'a> TestSink<'a> {
         }
     }
 
-    /// How many constraints were put.
+    /// Returns how many constraints were put.
     pub fn tested(&self) -> u32
         ensures { result ≡ self.now.tested }
     {
         self.tested
     }
 
-    /// How many of them hold.
+    /// Returns how many of them hold.
     pub fn held(&self) -> u32
         ensures { result ≡ self.now.held }
     {
         self.held
     }
 
-    /// The place of the first that does not hold.
+    /// Returns the place of the first that does not hold.
     pub fn first_failed(&self) -> Option<u32>
         ensures { result ≡ self.now.first_failed }
     {
         self.first_failed
     }
 
-    /// The sum, over the constraints, of the products of their first two values.
+    /// Returns the sum, over the constraints, of the products of their first two values.
     pub fn sum(&self) -> F
         ensures { result ≡ self.now.sum }
     {

@@ -1,3 +1,4 @@
+//! The trait of what takes the values of wires.
 ghost use Rattle.std.specs.Prelude.{◌≡◌, ℕ, [], ◌∷◌, OnOk, false, List};
 ghost use Rattle.tv_core.specs.Giving.{Giving, GivesIn};
 
@@ -6,12 +7,12 @@ use crate::sink::Put;
 
 /// Takes the values of wires, in order.
 ///
-/// It stands for the list of numbers that were given. A refusal breaks it, as it does a sink.
+/// It records the list of numbers that were passed. A refusal breaks it, as it does a sink.
 pub trait Values {
     ghost giving: { Giving Self };
 
-    /// Appends a value. It refuses by `Failed` only where its count of faults rose, and by `Memory`
-    /// only where its count of wants rose.
+    /// Appends a value. Returns `Failed` only where the taker's count of faults rose, and `Memory`
+    /// only where its count of allocation failures rose.
     fn give(&mut self, value: F) -> Put<()>
         requires { giving.broken self.old ≡ false }
         ensures gives { GivesIn giving self.old self.new (value ∷ []) result }
@@ -22,7 +23,7 @@ pub trait Values {
         → giving.broken taker ≡ false };
 }
 
-/// Gives the values one after another.
+/// Assigns the values one after another.
 pub fn give_values<V: Values>(v: &mut V, values: &[F]) -> Put<()>
     requires { V.giving.broken v.old ≡ false }
     ensures gives { GivesIn V.giving v.old v.new values.now result }
@@ -34,7 +35,7 @@ pub fn give_values<V: Values>(v: &mut V, values: &[F]) -> Put<()>
     Ok(())
 }
 
-/// Gives words one after another, each as a number.
+/// Assigns words one after another, each as a number.
 pub fn give_words<V: Values>(v: &mut V, words: &[u32]) -> Put<()>
     requires { V.giving.broken v.old ≡ false }
     ensures gives { GivesIn V.giving v.old v.new words.now result }

@@ -1,3 +1,4 @@
+//! Wires.
 ghost use Rattle.std.specs.Prelude.{ℕ};
 
 use std::marker::Model;

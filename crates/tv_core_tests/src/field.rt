@@ -1,4 +1,4 @@
-//! Inverses in the field, as they come out elsewhere.
+//! Inverses in the field, with values computed elsewhere.
 
 use tv_core::{F, P};
 

@@ -3,7 +3,7 @@ use Rattle.std.proofs.Common.{◌≡◌, ℕ, zero, suc, ◌*◌, ◌/◌, ◌^�
 use Rattle.std.proofs.Math.Nat.{pow-succ', pow-zero}
 use Rattle.tv_word.specs.Word.{low_bytes, spelled}
 
--- the lowest bytes of a number spell it, where there are so many
+-- the n lowest bytes of a number below 256 ^ n represent it
 pub spelled-low_bytes : (n v : ℕ) → v < 256 ^ n → spelled (low_bytes n v) ≡ v
 spelled-low_bytes zero v h = let none : v < 1 = rw (pow-zero 256) at h in omega arith
 spelled-low_bytes (suc n) v h =

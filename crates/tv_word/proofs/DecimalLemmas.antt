@@ -17,7 +17,7 @@ use Rattle.tv_word.proofs.NumeralLemmas.{positional-append}
 abbrev pub is_decimal_byte : ℕ → Bool
 is_decimal_byte c = nat_le 48 c && nat_le c 57
 
--- decimal digits that spell a number
+-- decimal digits that represent a number
 pub record IsDecimal (n : ℕ) (text : List ℕ) : Type 0 where
   pub some : 0 < length text
   pub bytes : list_all is_decimal_byte text ≡ true
@@ -50,7 +50,7 @@ IsDecimal-more n front h d =
           ∙ rw (d.value, pow-zero, digit-value (n % 10) low) (omega arith);
     }
 
--- a number's decimal digits spell it
+-- a number's decimal digits represent it
 pub IsDecimal-decimal : (n : ℕ) → n < 2 ^ 64 → IsDecimal n (decimal n)
 IsDecimal-decimal n h = decimal_by_steps IsDecimal IsDecimal-one IsDecimal-more n h
 

@@ -1,4 +1,4 @@
--- The number that digits spell, read from the left.
+-- The number that digits represent, read from the left.
 use Rattle.std.proofs.Common.{◌≡◌, ℕ, ◌+◌, ◌*◌, ◌^◌, ◌<◌, ◌≤◌, true, List, [], ◌∷◌, ◌++◌, length, get_or, take, drop, Some, None, refl, sym, ap, ◌∙◌, arith}
 use Rattle.std.proofs.Common.{length-append, add-zero}
 use Rattle.std.proofs.lemmas.Bool.{lt-ltb}
@@ -40,7 +40,7 @@ pub positional_more : (base : ℕ) (text : List ℕ) (i : ℕ) → i < length te
 positional_more base text i h =
     ap (positional base) (take_more text i 0 h) ∙ positional-append base (take i text) (get_or text i 0 ∷ []) ∙ last base _ (digit_value (get_or text i 0))
 
--- more digits never spell less
+-- more digits never represent less
 pub positional-take-le : (base : ℕ) (text : List ℕ) (i : ℕ) → 1 ≤ base → positional base (take i text) ≤ positional base text
 positional-take-le base text i h =
     let whole : positional base text ≡ positional base (take i text) * base ^ length (drop i text) + positional base (drop i text) =
@@ -49,7 +49,7 @@ positional-take-le base text i h =
     mul-le-mul_left (positional base (take i text)) (one-le-pow (length (drop i text)) base h) in
     omega arith
 
--- digits that have passed the bound spell no number below it, whatever follows
+-- digits that have passed the bound represent no number below it, whatever follows
 pub numeral_past : (base bound : ℕ) (text : List ℕ) (i : ℕ) → 1 ≤ base → i < length text
     → bound ≤ positional base (take i text) * base + digit_value (get_or text i 0) → numeral base bound text ≡ None
 numeral_past base bound text i h l past =

@@ -9,7 +9,7 @@ signed w v = if nat_lt v (2 ^ (w - 1)) then pos v else pos v -ℤ pos (2 ^ w)
 abbrev pub has_bit : ℕ → ℕ → Bool
 has_bit n v = v / 2 ^ n % 2 == 1
 
--- the number that bytes spell, the lowest first
+-- the number with these bytes, the lowest first
 abbrev pub spelled : List ℕ → ℕ
 spelled [] = 0
 spelled (b ∷ bs) = b + 256 * spelled bs
@@ -23,6 +23,6 @@ abbrev pub low_bytes : ℕ → ℕ → List ℕ
 low_bytes zero v = []
 low_bytes (suc n) v = v % 256 ∷ low_bytes n (v / 256)
 
--- the bytes that spell a word
+-- the bytes of a word, the lowest first
 abbrev pub word_bytes : ℕ → ℕ → List ℕ
 word_bytes w v = low_bytes (w / 8) v

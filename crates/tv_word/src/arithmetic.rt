@@ -25,7 +25,7 @@ fn low<const W: u32>(number: u64) -> u32
     (number % (1 << W)) as u32
 }
 
-/// The bits that are in both words.
+/// Returns the bits that are in both words.
 pub fn both<const W: u32>(s: u32, a: u32) -> u32
     requires width { IsWidth W }
     requires s_word { s < 2 ^ W }
@@ -35,7 +35,7 @@ pub fn both<const W: u32>(s: u32, a: u32) -> u32
     s & a
 }
 
-/// The bits that are in either word.
+/// Returns the bits that are in either word.
 pub fn either<const W: u32>(s: u32, a: u32) -> u32
     requires s_word { s < 2 ^ W }
     requires a_word { a < 2 ^ W }
@@ -45,7 +45,7 @@ pub fn either<const W: u32>(s: u32, a: u32) -> u32
     s | a
 }
 
-/// The bits in which two words differ.
+/// Returns the bits in which two words differ.
 pub fn differing<const W: u32>(s: u32, a: u32) -> u32
     requires s_word { s < 2 ^ W }
     requires a_word { a < 2 ^ W }
@@ -55,7 +55,7 @@ pub fn differing<const W: u32>(s: u32, a: u32) -> u32
     s ^ a
 }
 
-/// The bits that are not in a word.
+/// Returns the bits that are not in a word.
 pub fn inverted<const W: u32>(a: u32) -> u32
     requires width { IsWidth W }
     requires a_word { a < 2 ^ W }
@@ -65,7 +65,7 @@ pub fn inverted<const W: u32>(a: u32) -> u32
     low::<W>((1 << W) - 1 - u64::from(a))
 }
 
-/// A sum modulo 2^W.
+/// Returns a sum modulo 2^W.
 pub fn sum<const W: u32>(s: u32, a: u32) -> u32
     requires width { IsWidth W }
     ensures word { result ≡ (s + a) % 2 ^ W }
@@ -74,7 +74,7 @@ pub fn sum<const W: u32>(s: u32, a: u32) -> u32
     low::<W>(u64::from(s) + u64::from(a))
 }
 
-/// Whether a sum needs more than a word.
+/// Returns whether a sum needs more than a word.
 pub fn carries<const W: u32>(s: u32, a: u32) -> bool
     requires width { IsWidth W }
     ensures { result ≡ nat_le (2 ^ W) (s + a) }
@@ -82,7 +82,7 @@ pub fn carries<const W: u32>(s: u32, a: u32) -> bool
     u64::from(s) + u64::from(a) >= 1 << W
 }
 
-/// A difference modulo 2^W.
+/// Returns a difference modulo 2^W.
 pub fn difference<const W: u32>(s: u32, a: u32) -> u32
     requires width { IsWidth W }
     requires a_word { a < 2 ^ W }
@@ -92,7 +92,7 @@ pub fn difference<const W: u32>(s: u32, a: u32) -> u32
     low::<W>(u64::from(s) + ((1 << W) - u64::from(a)))
 }
 
-/// The low word of a product.
+/// Returns the low word of a product.
 pub fn low_product<const W: u32>(s: u32, a: u32) -> u32
     requires width { IsWidth W }
     ensures word { result ≡ s * a % 2 ^ W }
@@ -101,7 +101,7 @@ pub fn low_product<const W: u32>(s: u32, a: u32) -> u32
     low::<W>(u64::from(s) * u64::from(a))
 }
 
-/// The high word of a product.
+/// Returns the high word of a product.
 #[tactic(auto, using(crate::proofs::ArithmeticLaws::high_small))]
 pub fn high_product<const W: u32>(s: u32, a: u32) -> u32
     requires width { IsWidth W }
@@ -113,7 +113,7 @@ pub fn high_product<const W: u32>(s: u32, a: u32) -> u32
     ((u64::from(s) * u64::from(a)) >> W) as u32
 }
 
-/// Whether a product needs more than a word.
+/// Returns whether a product needs more than a word.
 pub fn is_wide<const W: u32>(s: u32, a: u32) -> bool
     requires width { IsWidth W }
     ensures { result ≡ nat_le (2 ^ W) (s * a) }
@@ -121,8 +121,8 @@ pub fn is_wide<const W: u32>(s: u32, a: u32) -> bool
     u64::from(s) * u64::from(a) >= 1 << W
 }
 
-/// The high word of a signed product in two's complement, and whether the product is no signed
-/// word.
+/// Returns the high word of a signed product in two's complement, and whether the product is no
+/// signed word.
 pub fn high_signed<const W: u32>(s: u32, a: u32) -> (u32, bool)
     requires width { IsWidth W }
     requires s_word { s < 2 ^ W }
@@ -138,7 +138,7 @@ pub fn high_signed<const W: u32>(s: u32, a: u32) -> (u32, bool)
     }
 }
 
-// The same for words of 16 bits.
+// Like `high_signed`, for words of 16 bits.
 fn high_signed_16(s: u32, a: u32) -> (u32, bool)
     requires s_word { s < 2 ^ 16 }
     requires a_word { a < 2 ^ 16 }
@@ -151,7 +151,7 @@ fn high_signed_16(s: u32, a: u32) -> (u32, bool)
     (high, product < -0x8000 || product >= 0x8000)
 }
 
-// The same for words of 32 bits.
+// Like `high_signed`, for words of 32 bits.
 fn high_signed_32(s: u32, a: u32) -> (u32, bool)
     ensures high { result.0 ≡ twos 64 (signed 32 s *ℤ signed 32 a) / 2 ^ 32 }
     ensures small { result.0 < 2 ^ 32 }
@@ -162,7 +162,7 @@ fn high_signed_32(s: u32, a: u32) -> (u32, bool)
     (high, product < -0x8000_0000 || product >= 0x8000_0000)
 }
 
-/// A quotient, rounded down; 0 where the divisor is 0.
+/// Returns a quotient, rounded down; 0 where the divisor is 0.
 pub fn quotient<const W: u32>(s: u32, a: u32) -> u32
     requires width { IsWidth W }
     requires s_word { s < 2 ^ W }
@@ -172,7 +172,7 @@ pub fn quotient<const W: u32>(s: u32, a: u32) -> u32
     if a == 0 { 0 } else { s / a }
 }
 
-/// A remainder; 0 where the divisor is 0.
+/// Returns a remainder; 0 where the divisor is 0.
 pub fn remainder<const W: u32>(s: u32, a: u32) -> u32
     requires width { IsWidth W }
     requires a_word { a < 2 ^ W }
@@ -182,7 +182,7 @@ pub fn remainder<const W: u32>(s: u32, a: u32) -> u32
     if a == 0 { 0 } else { s % a }
 }
 
-/// A word shifted left; 0 by `W` places and more.
+/// Returns a word shifted left; 0 by `W` places and more.
 #[tactic(auto, using(crate::proofs::ArithmeticLaws::far_left))]
 pub fn shifted_left<const W: u32>(s: u32, a: u32) -> u32
     requires width { IsWidth W }
@@ -197,7 +197,7 @@ pub fn shifted_left<const W: u32>(s: u32, a: u32) -> u32
     }
 }
 
-/// A word shifted right; 0 by `W` places and more.
+/// Returns a word shifted right; 0 by `W` places and more.
 #[tactic(auto, using(crate::proofs::ArithmeticLaws::far_right))]
 pub fn shifted_right<const W: u32>(s: u32, a: u32) -> u32
     requires width { IsWidth W }
@@ -209,7 +209,7 @@ pub fn shifted_right<const W: u32>(s: u32, a: u32) -> u32
     if a < W { s >> a } else { 0 }
 }
 
-/// The sign bit of a word.
+/// Returns the sign bit of a word.
 pub fn sign_bit<const W: u32>(s: u32) -> bool
     requires width { IsWidth W }
     ensures { result ≡ has_bit (W - 1) s }
@@ -217,7 +217,7 @@ pub fn sign_bit<const W: u32>(s: u32) -> bool
     (s >> (W - 1)) % 2 == 1
 }
 
-/// A word as a signed number in two's complement.
+/// Returns a word as a signed number in two's complement.
 pub fn signed_word<const W: u32>(word: u32) -> i64
     requires width { IsWidth W }
     requires word { word < 2 ^ W }

@@ -1,7 +1,7 @@
-//! Machine words and numbers in text: what the machine's instructions make of words of 16 or of 32
-//! bits, what bytes spell one, and what a run of digits says. The crates above use `arithmetic` for
-//! the machine and for the values of its circuit, `decimal_of` and `numeral_of` for the numbers
-//! that a user writes, `word_at` for the words of files, and `Words` for lists of words that grow.
+//! Machine words and numbers in text: the arithmetic of the machine's instructions on words of 16
+//! or 32 bits, words as bytes, and decimal numbers. The crates above use `arithmetic` for the
+//! machine and for the values of its circuit, `decimal_of` and `numeral_of` for the numbers that a
+//! user writes, `word_at` for the words of files, and `Words` for lists of words that grow.
 #![tactic(auto)]
 
 pub mod arithmetic;

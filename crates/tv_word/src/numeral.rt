@@ -1,7 +1,8 @@
+//! Numbers written in decimal or in another base.
 ghost use Rattle.std.specs.Prelude.{◌≡◌, ◌≤◌, ◌^◌};
 ghost use Rattle.tv_word.specs.Numeral.{numeral};
 
-/// The number that decimal digits spell, leading zeros allowed: `None` exactly for no bytes, for
+/// Returns the value of decimal digits, leading zeros allowed. `None` exactly for no bytes, for
 /// another byte than a digit, and for a number of 2^64 or more. Takes time linear in the text.
 pub fn decimal_of(text: &[u8]) -> Option<u64>
     ensures { result ≡ numeral 10 (2 ^ 64) text.now }
@@ -9,7 +10,7 @@ pub fn decimal_of(text: &[u8]) -> Option<u64>
     numeral_of(text, 10)
 }
 
-/// The number that digits of a base from 2 to 36 spell, letters of either case, as `decimal_of`.
+/// Like `decimal_of`, for digits of a base from 2 to 36, letters of either case.
 pub fn numeral_of(text: &[u8], base: u32) -> Option<u64>
     requires least { 2 ≤ base }
     requires greatest { base ≤ 36 }

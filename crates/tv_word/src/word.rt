@@ -1,14 +1,15 @@
+//! Words as signed numbers and as bytes.
 ghost use Rattle.std.specs.Prelude.{◌≡◌, ◌≤◌, ◌<◌, ◌+◌, ◌^◌, length};
 ghost use Rattle.tv_word.specs.Word.{signed, word_at, word_bytes};
 
-/// The word as a signed number in two's complement: itself below 2^31, else less 2^32.
+/// Returns the word as a signed number in two's complement: itself below 2^31, else less 2^32.
 pub fn signed(word: u32) -> i64
     ensures { result ≡ signed 32 word }
 {
     i64::from(word.cast_signed())
 }
 
-/// The word that the four bytes from place `at` on spell, the lowest first.
+/// Returns the word in the four bytes from place `at` on, the lowest first.
 pub fn word_at(bytes: &[u8], at: usize) -> u32
     requires { at + 4 ≤ length bytes.now }
     ensures { result ≡ word_at 32 bytes.now at }
@@ -16,7 +17,7 @@ pub fn word_at(bytes: &[u8], at: usize) -> u32
     u32::from_le_bytes([bytes[at], bytes[at + 1], bytes[at + 2], bytes[at + 3]])
 }
 
-/// The four bytes that spell the word, the lowest first.
+/// Returns the four bytes of the word, the lowest first.
 pub fn word_bytes(word: u32) -> [u8; 4]
     ensures bytes { result ≡ word_bytes 32 word }
     ensures back { word_at 32 result 0 ≡ word }
@@ -24,7 +25,8 @@ pub fn word_bytes(word: u32) -> [u8; 4]
     word.to_le_bytes()
 }
 
-/// A word of 16 bits as a signed number in two's complement: itself below 2^15, else less 2^16.
+/// Returns a word of 16 bits as a signed number in two's complement: itself below 2^15, else less
+/// 2^16.
 pub fn signed16(word: u32) -> i64
     requires { word < 2 ^ 16 }
     ensures { result ≡ signed 16 word }
@@ -37,7 +39,7 @@ pub fn signed16(word: u32) -> i64
     }
 }
 
-/// The word of 16 bits that the two bytes from place `at` on spell, the lower first.
+/// Returns the word of 16 bits in the two bytes from place `at` on, the lower first.
 pub fn word16_at(bytes: &[u8], at: usize) -> u32
     requires { at + 2 ≤ length bytes.now }
     ensures word { result ≡ word_at 16 bytes.now at }
@@ -46,7 +48,7 @@ pub fn word16_at(bytes: &[u8], at: usize) -> u32
     u32::from(u16::from_le_bytes([bytes[at], bytes[at + 1]]))
 }
 
-/// The two bytes that spell a word of 16 bits, the lower first.
+/// Returns the two bytes of a word of 16 bits, the lower first.
 pub fn word16_bytes(word: u32) -> [u8; 2]
     requires { word < 2 ^ 16 }
     ensures bytes { result ≡ word_bytes 16 word }

@@ -1,3 +1,4 @@
+//! A list of words that grows, and reports an allocation failure.
 ghost use Rattle.std.specs.Prelude.{◌≡◌, [], ◌∷◌, ◌++◌, OnOk, OnErr};
 
 use std::alloc::{AllocError, Global};
@@ -18,7 +19,7 @@ impl Model for Words {
 }
 
 impl Words {
-    /// No words; takes no memory.
+    /// Returns an empty list; takes no memory.
     pub fn new(alloc: Global) -> Words
         ensures { result ≡ [] }
     {
@@ -27,7 +28,7 @@ impl Words {
         }
     }
 
-    /// Puts a word at the end; on want of memory the words stay as they were. Amortised constant
+    /// Appends a word; on an allocation failure the words stay as they were. Amortised constant
     /// time.
     pub fn push(&mut self, word: u32) -> Result<(), AllocError>
         ensures ok { OnOk result (self.new ≡ self.old ++ word ∷ []) }
@@ -37,7 +38,7 @@ impl Words {
         Ok(())
     }
 
-    /// The words in order.
+    /// Returns the words in order.
     pub fn as_slice(&self) -> &[u32]
         ensures { result.now ≡ self.now }
     {
