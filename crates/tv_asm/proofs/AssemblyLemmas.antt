@@ -31,7 +31,7 @@ pub address_in-is : (w : ℕ) (labels : Labels) (all : List (List ℕ)) → AreL
 address_in-is w labels all h =
     same_functions (λ name. ap (option_map (λ place. place.address)) (h.each name) ∙ address_at w all name (is_defined all name) refl)
 
--- whether a place stands before the line behind these
+-- whether a place stands before the line after these
 abbrev stands_before : List (List ℕ) → Option Place → Bool
 stands_before before place = option_map_or (λ p. nat_lt p.line (length before + 1)) place false
 
@@ -70,7 +70,7 @@ unfolding assembled
 IsAssembled-none w labels most text h =
     record { rest_lines = refl; noted = h; so_far = refl; fits = omega arith; room = omega arith }
 
--- what the next line gives decides
+-- what the next line makes decides
 next_is : (w : ℕ) (labels : Labels) (most number : ℕ) (words rest behind text line : List ℕ)
     → IsAssembled w labels most number words rest text
     → lines rest ≡ line ∷ lines behind

@@ -15,7 +15,7 @@ use Rattle.tv_asm.specs.declared.labels.Labels.{Labels}
 use Rattle.tv_asm.specs.declared.labels.Place.{Place}
 use Rattle.tv_asm.proofs.FirstLemmas.{before_first-append_any, before_first-append_none, drop_next, take_next, length-take_next}
 
--- the place of a label that the line behind these defines
+-- the place of a label that the line after these defines
 abbrev pub place_after : ℕ → List (List ℕ) → Place
 place_after w ls = record { line = length ls + 1; address = 2 * (w / 8) * count_by has_instruction ls % 2 ^ w }
 
@@ -58,14 +58,14 @@ count_by-push : {X : Type 0} (p : X → Bool) (xs : List X) (y : X) (b : Bool) �
 count_by-push p xs y b h =
     sum_by-append (λ x. cond (p x) 1 0) xs (y ∷ []) ∙ ap (λ n. count_by p xs + n) (zero-add (cond (p y) 1 0) ∙ ap (λ c. cond c 1 0) h)
 
--- an address behind one more instruction
+-- an address after one more instruction
 abbrev Advances : ℕ → Type 0
 Advances w = (n m before after : ℕ) → m ≡ n + 1 → before ≡ 2 * (w / 8) * n % 2 ^ w → after ≡ (before + w / 4) % 2 ^ w → after ≡ 2 * (w / 8) * m % 2 ^ w
 
 advances : (w : ℕ) → IsWidth w → Advances w
 advances = for_widths Advances (λ n m before after more b a. omega arith) (λ n m before after more b a. omega arith)
 
--- the address behind one more line
+-- the address after one more line
 next_address : (w : ℕ) → IsWidth w → (ls : List (List ℕ)) (line : List ℕ) (here : Bool) (before after : ℕ) → has_instruction line ≡ here
     → before ≡ 2 * (w / 8) * count_by has_instruction ls % 2 ^ w → after ≡ cond here ((before + w / 4) % 2 ^ w) before
     → after ≡ 2 * (w / 8) * count_by has_instruction (ls ++ line ∷ []) % 2 ^ w

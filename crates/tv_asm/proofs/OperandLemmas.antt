@@ -1,4 +1,4 @@
--- The operands behind a name.
+-- The operands after a name.
 use Rattle.std.proofs.Common.{◌≡◌, ℕ, zero, suc, ◌+◌, ◌<◌, ◌≤◌, ◌==◌, Bool, List, [], ◌∷◌, length, map, ◌⊎◌, inl, inr, refl, sym, ◌∙◌, arith}
 use Rattle.std.proofs.lemmas.Bool.{cases_lt}
 use Rattle.std.proofs.lemmas.List.{length-map, take_all, drop_all}
@@ -21,7 +21,7 @@ trimmed-nil : trimmed [] ≡ []
 unfolding trimmed
 trimmed-nil = refl
 
--- nothing behind a comma is an empty operand, and so is none
+-- nothing after a comma is an empty operand, and so is none
 past : (xs : List ℕ) (i : ℕ) → operand_at (map trimmed (slice_split is_comma xs)) i ≡ operand_at (operands_in xs) i
 past [] zero = trimmed-nil
 past [] (suc i) = refl
@@ -42,6 +42,6 @@ next_at text i (inl l) = rw (slice_split_first is_comma text 0 l) (past (after_f
 next_at text i (inr l) =
     rw (slice_split_whole is_comma text l, drop_all (position_or_len is_comma text + 1) text (omega arith)) refl
 
--- the other operands are those behind the first comma
+-- the other operands are those after the first comma
 pub operand_at-suc : (text : List ℕ) (i : ℕ) → operand_at (operands_in text) (suc i) ≡ operand_at (operands_in (after_first is_comma text)) i
 operand_at-suc text i = sym (past text (suc i)) ∙ next_at text i (cases_lt (position_or_len is_comma text) (length text))

@@ -35,7 +35,7 @@ lines_more_at text h (inr l) =
     let none = drop_all (position_or_len is_line_feed text + 1) text (omega arith) in
     rw (slice_split_whole is_line_feed text l, all, none) (whole text h)
 
--- a text's first line, and the lines of what stands behind it
+-- a text's first line, and the lines of what stands after it
 pub lines_more : (text : List ℕ) → 0 < length text
     → lines text ≡ strip_carriage_return (before_first (λ c. c == 10) text) ∷ lines (after_first (λ c. c == 10) text)
 unfolding lines

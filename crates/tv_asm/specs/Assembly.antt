@@ -28,25 +28,25 @@ line_words w first earlier address line = do
   _ ← check (not (option_map_or earlier s.label false)) DoubledLabel
   part_words w address s.instruction
 
--- a line's own answer, told with the line's number
+-- a line's own answer, with the line's number
 abbrev pub at_line : {A : Type 0} → ℕ → Result A AsmWhy → Result A AsmFault
 at_line number (Ok x) = Ok x
 at_line number (Err why) = Err (Bad number why)
 
--- the words behind one line more: with its words there may be `most` at most
+-- the words after one line more: with its words there may be `most` at most
 abbrev pub with_line : ℕ → ℕ → ℕ → (List ℕ → Bool) → (List ℕ → Option ℕ) → List ℕ → List ℕ → Result (List ℕ) AsmFault
 with_line w most number earlier address words line = do
   two ← at_line number (line_words w (number == 1) earlier address line)
   _ ← check (nat_le (length words + length two) most) (TooMany number most)
   Ok (words ++ two)
 
--- the words of lines, behind those of the lines before them; `all` are the lines of the text
+-- the words of lines, after those of the lines before them; `all` are the lines of the text
 abbrev pub image_of : ℕ → ℕ → List (List ℕ) → List (List ℕ) → List ℕ → List (List ℕ) → Result (List ℕ) AsmFault
 image_of w most all before words [] = Ok words
 image_of w most all before words (line ∷ more) = do
   next ← with_line w most (length before + 1) (is_defined before) (address w all) words line
   image_of w most all (before ++ line ∷ []) next more
 
--- the image of a text for words of w bits, of at most so many words, or the first fault
+-- the image of a text for words of w bits, of at most `most` words, or the first fault
 unfoldable pub assembled : ℕ → ℕ → List ℕ → Result (List ℕ) AsmFault
 assembled w most text = image_of w most (lines text) [] [] (lines text)

@@ -9,7 +9,7 @@ use Rattle.tv_asm.specs.Text.{is_blank, lines}
 abbrev pub is_header : List ℕ → Bool
 is_header line = starts_with nat_eq line (codes "; TinyRAM")
 
--- a header's fields: what stands behind its beginning, cut at blanks
+-- a header's fields: what stands after its beginning, cut at blanks
 abbrev pub header_fields : List ℕ → List (List ℕ)
 header_fields line = slice_split is_blank (drop 9 line)
 
@@ -17,11 +17,11 @@ header_fields line = slice_split is_blank (drop 9 line)
 abbrev pub width_digits : ℕ → List ℕ
 width_digits w = map (λ d. d + 48) (digits_of 10 w)
 
--- the field that tells the width of words
+-- the field that sets the width of words
 abbrev pub width_field : ℕ → List ℕ
 width_field w = codes "W=" ++ width_digits w
 
--- a field of a header: one that begins `W=` tells the width of words, one that begins `K=` that there are 16
+-- a field of a header: one that begins `W=` sets the width of words, one that begins `K=` says that there are 16
 -- registers; others say nothing
 abbrev pub is_good_field : ℕ → List ℕ → Bool
 is_good_field w field =

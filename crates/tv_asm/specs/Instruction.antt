@@ -18,7 +18,7 @@ use Rattle.tv_asm.specs.declared.fault.AsmWhy.TheVariants.{UnknownName, Operands
 abbrev pub name_of : List ℕ → List ℕ
 name_of instruction = before_first is_blank instruction
 
--- what stands behind a name is cut at commas; nothing behind it is no operands
+-- what stands after a name is cut at commas; nothing after it is no operands
 abbrev pub operands_in : List ℕ → List (List ℕ)
 operands_in [] = []
 operands_in (c ∷ cs) = map trimmed (slice_split (λ b. b == 44) (c ∷ cs))

@@ -18,7 +18,7 @@ trimmed_end text = take (length text - suffix_len is_blank text) text
 unfoldable pub trimmed : List ℕ → List ℕ
 trimmed text = trimmed_end (trimmed_front text)
 
--- a piece behind the last line feed: empty, it is no line
+-- a piece after the last line feed: empty, it is no line
 abbrev pub last_line : List ℕ → List (List ℕ)
 last_line [] = []
 last_line (c ∷ cs) = strip_carriage_return (c ∷ cs) ∷ []

@@ -16,15 +16,15 @@ use crate::text::next_line;
 use std::alloc::Global;
 use tv_word::Words;
 
-/// The image of a program text for words of `W` bits, 16 or 32: the words of its instructions in
-/// order, at most `most` of them. It is exactly what its definition gives the whole text, or want
-/// of memory. A text for words of 16 bits is one whose `width` is 16; with 32 its header is
-/// refused.
+/// Returns the image of a program text for words of `W` bits, 16 or 32: the words of its
+/// instructions in order, at most `most` of them. It is exactly the image that the definition has
+/// for the whole text, unless memory runs out. A text for words of 16 bits is one whose `width` is
+/// 16; with 32 its header is refused.
 ///
-/// The first line at fault is told, by its number from 1: `Bad` with its first reason, in the order
-/// that `AsmWhy` tells, or `TooMany` where its words would be more than `most` with those before.
-/// The text is walked twice, first for its labels, in time linear in its length: labels are looked
-/// up by their hashes, whose seed is fixed.
+/// The first line at fault is reported, by its number from 1: `Bad` with its first reason, in the
+/// order of `AsmWhy`, or `TooMany` where its words would be more than `most` with those before. The
+/// text is walked twice, first for its labels, in time linear in its length: labels are looked up
+/// by their hashes, whose seed is fixed.
 pub fn assemble<const W: u32>(alloc: Global, text: &[u8], most: u32) -> Result<Words, AsmFault>
     requires width { IsWidth W }
     requires text { W ≡ 16 → width_of text.now ≡ 16 }
@@ -44,7 +44,7 @@ pub fn assemble<const W: u32>(alloc: Global, text: &[u8], most: u32) -> Result<W
     Ok(words)
 }
 
-/// Puts the words of a line behind those of the lines before it.
+/// Puts the words of a line after those of the lines before it.
 fn append<const W: u32>(
     words: &mut Words,
     line: &[u8],
@@ -76,7 +76,7 @@ fn append<const W: u32>(
     }
 }
 
-/// The words of a line, which may have none.
+/// Returns the words of a line, which may have none.
 #[tactic(auto, unfolding(crate::specs::Assembly::line_words))]
 fn line_words<const W: u32>(
     line: &[u8],
@@ -104,7 +104,7 @@ fn line_words<const W: u32>(
     part_words::<W>(statement.instruction, labels)
 }
 
-/// The words of an instruction part: none where it is empty.
+/// Returns the words of an instruction part: none where it is empty.
 fn part_words<const W: u32>(
     instruction: &[u8],
     labels: &Labels<'_>,

@@ -5,8 +5,8 @@ ghost use Rattle.tv_asm.specs.declared.fault.AsmFault.TheVariants.{Memory};
 use std::alloc::AllocError;
 use thiserror::Error;
 
-/// Why a line of program text is refused. The first reason that holds is told, in this order; of
-/// the last three, which are about operands, the one of the first operand at fault.
+/// Why a line of program text is refused. The first reason that holds is reported, in this order;
+/// of the last three, which are about operands, the one of the first operand at fault.
 #[derive(Clone, Copy, PartialEq, Eq, Debug, Error)]
 pub enum AsmWhy {
     /// Outside its comment the line has a byte other than a tab and those from the space to `~`.
@@ -62,7 +62,7 @@ pub enum AsmFault {
         /// How many words are allowed.
         most: u32,
     },
-    /// Memory was wanting.
+    /// Memory ran out.
     #[error("out of memory")]
     Memory,
 }

@@ -1,4 +1,4 @@
-//! The header of a text, and the width of words that it tells.
+//! The header of a text, and the width of words that it sets.
 ghost use Rattle.std.specs.Prelude.{◌≡◌};
 ghost use Rattle.std.specs.List.{list_all, list_any, slice_split};
 ghost use Rattle.std.specs.Str.{bytes_eq};
@@ -12,8 +12,8 @@ use crate::text::{is_blank, next_line};
 /// How a header begins.
 const HEADER: &[u8; 9] = b"; TinyRAM";
 
-/// The width of the words that a text is written for: 16 where its first line is a header with the
-/// field `W=16`, else 32. It takes no memory, and looks at the first line alone.
+/// Returns the width of the words that a text is written for: 16 where its first line is a header
+/// with the field `W=16`, else 32. It takes no memory, and looks at the first line alone.
 #[tactic(auto, unfolding(crate::specs::Header::width_of))]
 pub fn width(text: &[u8]) -> u32
     ensures width { result ≡ width_of text.now }
@@ -25,7 +25,7 @@ pub fn width(text: &[u8]) -> u32
     if is_header_of_16(line) { 16 } else { 32 }
 }
 
-/// Whether a line is a header for words of 16 bits.
+/// Returns whether a line is a header for words of 16 bits.
 #[tactic(auto, unfolding(crate::specs::Header::is_header_of_16))]
 fn is_header_of_16(line: &[u8]) -> bool
     ensures { result ≡ is_header_of_16 line.now }
@@ -33,7 +33,7 @@ fn is_header_of_16(line: &[u8]) -> bool
     line.strip_prefix(HEADER).is_some_and(has_width_16)
 }
 
-/// Whether one of a header's fields says that words have 16 bits.
+/// Returns whether one of a header's fields says that words have 16 bits.
 fn has_width_16(fields: &[u8]) -> bool
     ensures { result ≡ list_any (bytes_eq (width_field 16)) (slice_split is_blank fields.now) }
 {
@@ -42,7 +42,8 @@ fn has_width_16(fields: &[u8]) -> bool
         .any(|field| field == b"W=16".as_slice())
 }
 
-/// Whether a first line, where it is a header, is one for words of `W` bits and 16 registers.
+/// Returns whether a first line, where it is a header, is one for words of `W` bits and 16
+/// registers.
 #[tactic(auto, unfolding(crate::specs::Header::is_good_header))]
 pub(crate) fn is_good_header<const W: u32>(line: &[u8]) -> bool
     requires { IsWidth W }
@@ -74,7 +75,7 @@ fn is_good_field<const W: u32>(field: &[u8]) -> bool
     }
 }
 
-/// Whether digits are those of the width.
+/// Returns whether digits are those of the width.
 fn is_width<const W: u32>(digits: &[u8]) -> bool
     requires { IsWidth W }
     ensures { result ≡ bytes_eq digits.now (width_digits W) }

@@ -14,7 +14,7 @@ use crate::operand::{Operand, number, register};
 use crate::text::{cut, is_blank, trimmed};
 use tv_isa::{Instr, Operation, Shape, encode, operation_named};
 
-/// The two words of an instruction.
+/// Returns the two words of an instruction.
 #[tactic(auto, unfolding(crate::specs::Instruction::words_of))]
 pub(crate) fn words_of<const W: u32>(text: &[u8], labels: &Labels<'_>) -> Result<[u32; 2], AsmWhy>
     requires { IsWidth W }
@@ -28,7 +28,7 @@ pub(crate) fn words_of<const W: u32>(text: &[u8], labels: &Labels<'_>) -> Result
     }
 }
 
-/// Where an instruction's name ends.
+/// Returns where an instruction's name ends.
 fn name_end(text: &[u8]) -> usize
     ensures end { result ≡ position_or_len is_blank text.now }
     ensures within { result ≤ length text.now }
@@ -36,7 +36,7 @@ fn name_end(text: &[u8]) -> usize
     text.iter().take_while(|byte| !is_blank(**byte)).count()
 }
 
-/// Two numbers, as they are.
+/// Returns two numbers, as they are.
 fn raw_words<const W: u32>(text: &[u8]) -> Result<[u32; 2], AsmWhy>
     requires { IsWidth W }
     ensures { result ≡ raw_words W (operands_in text.now) }
@@ -46,7 +46,7 @@ fn raw_words<const W: u32>(text: &[u8]) -> Result<[u32; 2], AsmWhy>
     Ok([number::<W>(h)?, number::<W>(a)?])
 }
 
-/// The words of an instruction of the table.
+/// Returns the words of an instruction of the table.
 fn table_words<const W: u32>(
     name: &[u8],
     text: &[u8],
@@ -83,7 +83,7 @@ fn check_count(text: &[u8], wants: u64) -> Result<(), AsmWhy>
     }
 }
 
-/// How many operands stand behind a name.
+/// Returns how many operands stand after a name.
 fn count(text: &[u8]) -> u64
     ensures { result ≡ length (operands_in text.now) }
 {
@@ -93,7 +93,7 @@ fn count(text: &[u8]) -> u64
     text.iter().filter(|byte| **byte == b',').count() as u64 + 1
 }
 
-/// The first three operands, empty where there are fewer.
+/// Returns the first three operands, empty where there are fewer.
 fn operands(text: &[u8]) -> (&[u8], &[u8], &[u8])
     ensures first { result.0.now ≡ operand_at (operands_in text.now) 0 }
     ensures second { result.1.now ≡ operand_at (operands_in text.now) 1 }
@@ -105,7 +105,7 @@ fn operands(text: &[u8]) -> (&[u8], &[u8], &[u8])
     (trimmed(first), trimmed(second), trimmed(third))
 }
 
-/// The fields of an instruction of the table, from its operands.
+/// Returns the fields of an instruction of the table, from its operands.
 fn fields<const W: u32>(
     operation: Operation,
     text: &[u8],

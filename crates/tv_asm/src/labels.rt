@@ -27,7 +27,7 @@ pub(crate) struct Labels<'a> {
 }
 
 impl<'a> Labels<'a> {
-    /// The labels of all lines of a text. Takes time linear in the text.
+    /// Returns the labels of all lines of a text. Takes time linear in the text.
     pub(crate) fn of<const W: u32>(alloc: Global, text: &'a [u8]) -> Result<Labels<'a>, AllocError>
         requires { IsWidth W }
         ensures { IfOk result (λ labels. AreLabelsOf W labels (lines text.now)) }
@@ -74,14 +74,14 @@ impl<'a> Labels<'a> {
         Ok(())
     }
 
-    /// The address of a label; `None` for a label that no line defines.
+    /// Returns the address of a label; `None` for a label that no line defines.
     pub(crate) fn address(&self, name: &[u8]) -> Option<u32>
         ensures { result ≡ address_in self.now name.now }
     {
         self.places.get(name).map(|place| place.address)
     }
 
-    /// Whether a line before this one defines the label.
+    /// Returns whether a line before this one defines the label.
     pub(crate) fn is_earlier(&self, name: &[u8], line: u64) -> bool
         ensures { result ≡ is_earlier self.now line name.now }
     {
@@ -89,7 +89,7 @@ impl<'a> Labels<'a> {
     }
 }
 
-/// The address behind the two words of an instruction: modulo 2^W.
+/// Returns the address after the two words of an instruction: modulo 2^W.
 fn next_address<const W: u32>(address: u32) -> u32
     requires { IsWidth W }
     ensures { result ≡ (address + W / 4) % 2 ^ W }
@@ -97,7 +97,7 @@ fn next_address<const W: u32>(address: u32) -> u32
     sum::<W>(address, W / 4)
 }
 
-/// Whether a line has an instruction, good or bad.
+/// Returns whether a line has an instruction, good or bad.
 fn has_instruction(statement: Option<Statement<'_>>) -> bool
     ensures { result ≡ says_instruction (option_map said_by statement.entry) }
 {

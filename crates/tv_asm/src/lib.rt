@@ -1,10 +1,10 @@
 //! The assembler: program text to the words of an image.
 //!
-//! Words have 16 or 32 bits; `width` tells for which of them a text is written, and
-//! `assemble::<W>` answers exactly the image that its definition gives the whole text, or the
-//! definition's first fault, by line and reason; want of memory alone is free. Layers above use
-//! that one clause, the answer is `assembled W most text` or `Memory`, and that an image has at
-//! most `most` words of `W` bits.
+//! Words have 16 or 32 bits; `width` returns for which of them a text is written. `assemble::<W>`
+//! returns exactly the image that its definition has for the whole text, or the definition's first
+//! fault, by line and reason; only an allocation failure is free. Layers above use that one clause,
+//! the answer is `assembled W most text` or `Memory`, and that an image has at most `most` words of
+//! `W` bits.
 #![tactic(auto)]
 
 mod assembler;

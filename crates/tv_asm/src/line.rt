@@ -15,7 +15,7 @@ pub(crate) struct Statement<'a> {
 }
 
 impl<'a> Statement<'a> {
-    /// What a line's code says; `None` where it begins with `_` and not with a label.
+    /// Returns what a line's code says; `None` where it begins with `_` and not with a label.
     #[tactic(auto, unfolding(crate::specs::Line::code_says))]
     pub(crate) fn of(code: &'a [u8]) -> Option<Statement<'a>>
         ensures { option_map said_by result ≡ code_says code.now }
@@ -44,7 +44,7 @@ fn labelled(code: &[u8]) -> Option<Statement<'_>>
     }
 }
 
-/// How many bytes of a label the code begins with.
+/// Returns how many bytes of a label the code begins with.
 fn label_end(code: &[u8]) -> usize
     ensures end { result ≡ prefix_len is_label_byte code.now }
     ensures within { result ≤ length code.now }
@@ -58,7 +58,7 @@ fn is_label_byte(byte: u8) -> bool
     byte.is_ascii_alphanumeric() || byte == b'_' || byte == b'.'
 }
 
-/// A line's code: what stands before its comment.
+/// Returns a line's code: what stands before its comment.
 pub(crate) fn code_of(line: &[u8]) -> &[u8]
     ensures { result.now ≡ code_of line.now }
 {
@@ -66,7 +66,7 @@ pub(crate) fn code_of(line: &[u8]) -> &[u8]
     code
 }
 
-/// Whether code is nothing but text.
+/// Returns whether code is nothing but text.
 pub(crate) fn is_text(code: &[u8]) -> bool
     ensures { result ≡ list_all is_text code.now }
 {

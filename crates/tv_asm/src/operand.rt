@@ -17,8 +17,8 @@ pub(crate) struct Operand {
 }
 
 impl Operand {
-    /// The operand A. A register where the text begins with `r`, a label's address where it begins
-    /// with `_`, else a number.
+    /// Returns the operand A. A register where the text begins with `r`, a label's address where it
+    /// begins with `_`, else a number.
     #[tactic(auto, unfolding(crate::specs::Operand::operand))]
     pub(crate) fn of<const W: u32>(text: &[u8], labels: &Labels<'_>) -> Result<Operand, AsmWhy>
         requires { IsWidth W }
@@ -41,7 +41,7 @@ impl Operand {
     }
 }
 
-/// The number of a register: `r` and a number below 16 without a leading zero.
+/// Returns the number of a register: `r` and a number below 16 without a leading zero.
 #[tactic(auto, unfolding(crate::specs::Operand::register))]
 pub(crate) fn register(text: &[u8]) -> Result<u8, AsmWhy>
     ensures value { result ≡ register text.now }
@@ -57,7 +57,7 @@ pub(crate) fn register(text: &[u8]) -> Result<u8, AsmWhy>
     }
 }
 
-/// A number below 2^W: decimal digits, or `0x` and hexadecimal digits.
+/// Returns a number below 2^W: decimal digits, or `0x` and hexadecimal digits.
 #[tactic(auto, unfolding(crate::specs::Operand::number))]
 pub(crate) fn number<const W: u32>(text: &[u8]) -> Result<u32, AsmWhy>
     requires { IsWidth W }
@@ -71,7 +71,7 @@ pub(crate) fn number<const W: u32>(text: &[u8]) -> Result<u32, AsmWhy>
     number.ok_or(AsmWhy::BadNumber)
 }
 
-/// The number that digits spell, where it is below a bound.
+/// Returns the value of digits, where it is below a bound.
 fn numeral_below(digits: &[u8], base: u32, bound: u64) -> Option<u32>
     requires least { 2 ≤ base }
     requires greatest { base ≤ 36 }

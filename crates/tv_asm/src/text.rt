@@ -4,14 +4,14 @@ ghost use Rattle.std.specs.List.{before_first, after_first, position_or_len};
 ghost use Rattle.std.specs.Str.Lines.{strip_carriage_return};
 ghost use Rattle.tv_asm.specs.Text.{is_blank, trimmed, trimmed_front, trimmed_end, lines};
 
-/// Whether a byte is a space or a tab.
+/// Returns whether a byte is a space or a tab.
 pub(crate) fn is_blank(byte: u8) -> bool
     ensures { result ≡ is_blank byte }
 {
     byte == b' ' || byte == b'\t'
 }
 
-/// The text without blanks at its ends.
+/// Returns the text without blanks at its ends.
 #[tactic(auto, unfolding(crate::specs::Text::trimmed))]
 pub(crate) fn trimmed(text: &[u8]) -> &[u8]
     ensures { result.now ≡ trimmed text.now }
@@ -39,7 +39,7 @@ fn trimmed_end(text: &[u8]) -> &[u8]
     rest
 }
 
-/// The place of the first separator, or the text's length where there is none.
+/// Returns the place of the first separator, or the text's length where there is none.
 fn place_of(text: &[u8], separator: u8) -> usize
     ensures place { result ≡ position_or_len (λ c. c == separator) text.now }
     ensures within { result ≤ length text.now }
@@ -47,8 +47,8 @@ fn place_of(text: &[u8], separator: u8) -> usize
     text.iter().take_while(|byte| **byte != separator).count()
 }
 
-/// What stands before the first separator, and what stands behind it; all and nothing where there
-/// is none.
+/// Returns what stands before the first separator, and what stands after it; all and nothing where
+/// there is none.
 pub(crate) fn cut(text: &[u8], separator: u8) -> (&[u8], &[u8])
     ensures before { result.0.now ≡ before_first (λ c. c == separator) text.now }
     ensures behind { result.1.now ≡ after_first (λ c. c == separator) text.now }
@@ -57,7 +57,7 @@ pub(crate) fn cut(text: &[u8], separator: u8) -> (&[u8], &[u8])
     (&text[..end], &text[(end + 1).min(text.len())..])
 }
 
-/// The first line of a text and what stands behind it; `None` at the end.
+/// Returns the first line of a text and what stands after it; `None` at the end.
 pub(crate) fn next_line(text: &[u8]) -> Option<(&[u8], &[u8])>
     ensures { MatchOption result (lines text.now ≡ [])
         (λ p. (lines text.now ≡ p.0.now ∷ lines p.1.now) × (length p.1.now < length text.now)) }
@@ -69,7 +69,7 @@ pub(crate) fn next_line(text: &[u8]) -> Option<(&[u8], &[u8])>
     Some((without_return(line), rest))
 }
 
-/// The line without a carriage return at its end.
+/// Returns the line without a carriage return at its end.
 fn without_return(line: &[u8]) -> &[u8]
     ensures { result.now ≡ strip_carriage_return line.now }
 {

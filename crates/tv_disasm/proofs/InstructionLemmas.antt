@@ -101,7 +101,7 @@ operand-text w width address true a h below =
     ) refl
 operand-text w width address false a h below = rw (register-register_text a (ltb-true a 16 h)) refl
 
--- an instruction whose text tells all of it
+-- an instruction whose text determines all of it
 pub record IsTold (w : ℕ) (shape : Shape) (i : Instr) : Type 0 where
   pub dest : i.dest < 16
   pub source : i.source < 16

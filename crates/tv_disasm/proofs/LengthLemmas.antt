@@ -23,7 +23,7 @@ use Rattle.tv_disasm.proofs.TextLemmas.{chunks-IsTwo, IsTwo, length-chunks, text
 length-register : (n : ℕ) → n < 16 → length (register_text n) ≤ 3
 length-register n h = omega (arith, length-decimal-le 2 n (omega arith) (omega arith) (omega arith))
 
--- a word has at most so many decimal digits
+-- a word has at most this many decimal digits
 abbrev HasDigits : ℕ → Type 0
 HasDigits w = (a : ℕ) → a < 2 ^ w → length (decimal a) ≤ 5 * (w / 16)
 

@@ -17,7 +17,7 @@ use Rattle.tv_word.specs.Widths.{IsWidth}
 use Rattle.tv_disasm.specs.Disassembly.{hexadecimal, register_text}
 use Rattle.tv_disasm.proofs.WordLemmas.{is_word_byte, IsWord, apart_from}
 
--- digits of a base that spell a number
+-- digits of a base that represent a number
 pub record Spells (base n : ℕ) (text : List ℕ) : Type 0 where
   pub some : 0 < length text
   pub digits : list_all (λ c. is_digit c base) text ≡ true
@@ -91,7 +91,7 @@ IsHexadecimal-hexadecimal (suc n) v =
           (sym (mod-mul v {m = 16} {c = 16 ^ n} (omega arith) (one-le-pow n 16 (omega arith))));
     }
 
--- the digits of a whole word tell all of it
+-- the digits of a whole word determine all of it
 abbrev AllDigits : ℕ → Type 0
 AllDigits w = (v : ℕ) → v < 2 ^ w → v % 16 ^ (w / 4) ≡ v
 

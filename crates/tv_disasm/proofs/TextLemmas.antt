@@ -90,7 +90,7 @@ image_of-texts w width most all before words (two ∷ more) h room =
     (image_of-texts w width most all (before ++ text_of w two ∷ []) next more h.1 rest
     ∙ ap (λ l. Ok l) (append_assoc words (two_words w two) (flat_map (two_words w) more)))
 
--- n bytes spell a number below 256 ^ n
+-- n bytes represent a number below 256 ^ n
 spelled-below : (n : ℕ) (bytes : List ℕ) → All (λ b. b < 256) bytes → spelled (take n bytes) < 256 ^ n
 spelled-below zero bytes h = one-le-pow zero 256 (omega arith)
 spelled-below (suc n) [] h = one-le-pow (suc n) 256 (omega arith)
@@ -169,7 +169,7 @@ assembled-lines : (w most : ℕ) (text : List ℕ) (ls : List (List ℕ)) → li
 unfolding assembled
 assembled-lines w most text ls e = ap (λ l. image_of w most l [] [] l) e
 
--- the text of lines of two words each, behind the header, assembles to these words
+-- the text of lines of two words each, after the header, assembles to these words
 abbrev Assembles : ℕ → Type 0
 Assembles w = (most : ℕ) (pairs : List (List ℕ)) → AllByRecursion (IsTwo w) pairs → 0 + 2 * length pairs ≤ most
     → assembled w most (header_of w ++ flat_map (λ two. text_of w two ++ codes "\n") pairs) ≡ Ok (flat_map (two_words w) pairs)
@@ -211,7 +211,7 @@ text_assembles w width image most bytes whole within =
     for_widths Assembles assembles_16 assembles_32 w width most pairs are room
     ∙ ap (λ l. Ok l) (chunks-words w width k image ∙ ap (λ n. map spelled (first_chunks (w / 8) n image)) count)
 
--- a text of lines of two words each tells the width
+-- a text of lines of two words each determines the width
 abbrev Tells : ℕ → Type 0
 Tells w = (pairs : List (List ℕ)) → AllByRecursion (IsTwo w) pairs → width_of (header_of w ++ flat_map (λ two. text_of w two ++ codes "\n") pairs) ≡ w
 
@@ -242,7 +242,7 @@ text_tells w width image bytes =
     let k = length image / (w / 4) in
     for_widths Tells tells_16 tells_32 w width (first_chunks (w / 4) k image) (chunks-IsTwo w width k image bytes)
 
--- bytes are the lowest bytes of the number that they spell
+-- bytes are the lowest bytes of the number that they represent
 low_bytes-spelled : (n : ℕ) (bytes : List ℕ) → All (λ b. b < 256) bytes → n ≤ length bytes → low_bytes n (spelled (take n bytes)) ≡ take n bytes
 low_bytes-spelled zero bytes h fits = refl
 low_bytes-spelled (suc n) [] h fits = absurd (omega arith)

@@ -53,12 +53,12 @@ leaves_zero OnlyA i = i.dest == 0 && i.source == 0
 leaves_zero ADest i = i.source == 0
 leaves_zero Unused i = false
 
--- an instruction's text tells all of its two words: no ignored bit is 1, no field that the form doesn't name
--- is used, and an A that isn't a number is one of the 16 registers
+-- an instruction's text determines all of its two words: no ignored bit is 1, no field that the form doesn't name is
+-- used, and an A that isn't a number is one of the 16 registers
 abbrev pub tells_all : ℕ → ℕ → Shape → Instr → Bool
 tells_all w h shape i = h % 2 ^ (w - 14) == 0 && leaves_zero shape i && (i.imm || nat_lt i.a 16)
 
--- two words, by the row of the table that their opcode has: by name where that tells all of them
+-- two words, by the row of the table that their opcode has: by name where that determines all of them
 abbrev pub row_text : ℕ → ℕ → ℕ → Option Row → List ℕ
 row_text w h a None = raw_text w h a
 row_text w h a (Some row) =
@@ -76,6 +76,6 @@ line_of w two = two_words_text w (word_at w two 0) (word_at w two (w / 8)) ++ co
 abbrev pub header_of : ℕ → List ℕ
 header_of w = if w == 16 then codes "; TinyRAM W=16 K=16\n" else []
 
--- the text of an image: a line for each two words, behind the header
+-- the text of an image: a line for each two words, after the header
 unfoldable pub disassembly_of : ℕ → List ℕ → List ℕ
 disassembly_of w image = header_of w ++ flat_map (line_of w) (first_chunks (w / 4) (length image / (w / 4)) image)

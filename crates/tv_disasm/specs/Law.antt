@@ -8,16 +8,16 @@ use Rattle.tv_word.specs.Widths.{IsWidth}
 use Rattle.tv_word.specs.Word.{spelled, word_bytes}
 use Rattle.tv_disasm.specs.Disassembly.{disassembly_of}
 
--- the words of w bits that bytes spell, one after another
+-- the words of w bits in a list of bytes, one after another
 abbrev pub words_in : ℕ → List ℕ → List ℕ
 words_in w bytes = map spelled (first_chunks (w / 8) (length bytes / (w / 8)) bytes)
 
--- the text of an image of whole instructions assembles to the words of the image, where there may be so many
+-- the text of an image of whole instructions assembles to the words of the image, where that many words are allowed
 abbrev pub DisassemblyAssembles : Type 0
 DisassemblyAssembles =
     (w : ℕ) → IsWidth w → (image : List ℕ) (most : ℕ) → All (λ b. b < 256) image → length image % (w / 4) ≡ 0 → length image ≤ w / 8 * most → assembled w most (disassembly_of w image) ≡ Ok (words_in w image)
 
--- the text of an image tells the width that it was made for
+-- the text of an image determines the width that it was made for
 abbrev pub DisassemblyTellsWidth : Type 0
 DisassemblyTellsWidth =
     (w : ℕ) → IsWidth w → (image : List ℕ) → All (λ b. b < 256) image → width_of (disassembly_of w image) ≡ w

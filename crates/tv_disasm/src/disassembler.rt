@@ -12,10 +12,10 @@ use tv_word::{word_at, word16_at};
 /// The line that a text for words of 16 bits begins with.
 const HEADER_OF_16: &[u8; 20] = b"; TinyRAM W=16 K=16\n";
 
-/// The program text of an image of words of `W` bits, 16 or 32: for each two words, which are
-/// `W / 4` bytes, a line and a line feed. The line has the instruction's name and operands, or
-/// `.raw` and the two words where these wouldn't tell all of them. With 16 a line with the header
-/// stands in front, so that the assembler takes the text for one of that width.
+/// Returns the program text of an image of words of `W` bits, 16 or 32: for each two words, which
+/// are `W / 4` bytes, a line and a line feed. The line has the instruction's name and operands, or
+/// `.raw` and the two words where these wouldn't determine all of them. With 16 a line with the
+/// header stands in front, so that the assembler takes the text for one of that width.
 ///
 /// `Ragged` comes exactly where the length isn't a multiple of `W / 4`, and no memory is taken
 /// then. The text is at most four times as long as the image with 32, and six times and 20 bytes
@@ -41,7 +41,7 @@ pub fn disassemble<const W: u32>(alloc: Global, image: &[u8]) -> Result<Vec<u8>,
     Ok(text?)
 }
 
-/// The text of an image, whose instructions have `N` bytes.
+/// Returns the text of an image, whose instructions have `N` bytes.
 #[tactic(auto, unfolding(crate::specs::Disassembly::disassembly_of))]
 fn text_of<const W: u32, const N: usize>(alloc: Global, image: &[u8]) -> Result<Vec<u8>, AllocError>
     requires width { IsWidth W }
@@ -60,7 +60,7 @@ fn text_of<const W: u32, const N: usize>(alloc: Global, image: &[u8]) -> Result<
     Ok(text)
 }
 
-/// The word of `W` bits that the bytes from a place on spell, the lowest first.
+/// Returns the word of `W` bits in the bytes from a place on, the lowest first.
 fn word<const W: u32>(bytes: &[u8], at: usize) -> u32
     requires width { IsWidth W }
     requires within { at + W / 8 ≤ length bytes.now }

@@ -14,7 +14,7 @@ pub enum DisFault {
         /// How many bytes there are.
         len: u64,
     },
-    /// Memory was wanting.
+    /// Memory ran out.
     #[error("out of memory")]
     Memory,
 }

@@ -1,4 +1,4 @@
-//! What the assembler makes of a text that `disassemble` gives, for words of either width.
+//! What the assembler makes of a text that `disassemble` returns, for words of either width.
 ghost use Rattle.tv_disasm.specs.Law.{DisassemblyAssembles, DisassemblyIsShort};
 ghost use Rattle.tv_disasm.specs.Law.{DisassemblyOf32IsShorter, DisassemblyTellsWidth};
 ghost use Rattle.tv_disasm.specs.Law.{WordsSpellImage};

@@ -1,8 +1,9 @@
 //! The disassembler: the bytes of an image to program text, a line for each instruction.
 //!
-//! `disassemble` answers exactly the text that its definition gives the image of words of 16 or 32
+//! `disassemble` returns exactly the text that its definition has for an image of words of 16 or 32
 //! bits, and `Ragged` exactly where the bytes aren't whole instructions. The law that layers above
-//! use, on `disassembly_assembles`: the assembler gives that text the words of the image again.
+//! use is that of `disassembly_assembles`: the assembler turns that text into the words of the
+//! image again.
 #![tactic(auto)]
 
 mod disassembler;

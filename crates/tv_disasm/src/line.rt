@@ -23,7 +23,7 @@ pub(crate) fn push_line<const W: u32>(text: &mut Vec<u8>, h: u32, a: u32) -> Res
     }
 }
 
-/// Whether an instruction's text tells all of its two words.
+/// Returns whether an instruction's text determines all of its two words.
 fn tells_all<const W: u32>(h: u32, shape: Shape, instr: &Instr) -> bool
     requires { IsWidth W }
     ensures { result ≡ tells_all W h shape instr.now }
@@ -31,7 +31,7 @@ fn tells_all<const W: u32>(h: u32, shape: Shape, instr: &Instr) -> bool
     h % (1 << (W - 14)) == 0 && leaves_zero(shape, instr) && (instr.imm || instr.a < 16)
 }
 
-/// Whether the register fields that the form doesn't name are 0.
+/// Returns whether the register fields that the form doesn't name are 0.
 fn leaves_zero(shape: Shape, instr: &Instr) -> bool
     ensures { result ≡ leaves_zero shape instr.now }
 {
@@ -104,7 +104,7 @@ fn hexadecimal(word: u32) -> [u8; 8]
     ]
 }
 
-/// The lower-case character of a hexadecimal digit.
+/// Returns the lower-case character of a hexadecimal digit.
 fn digit_char(digit: u32) -> u8
     requires { digit < 16 }
     ensures { result ≡ digit_char digit }

@@ -36,7 +36,7 @@ use Rattle.tv_word.specs.Widths.{IsWidth}
 width : IsWidth 32
 width = inr refl
 
--- ---- steps to the instruction behind
+-- ---- steps to the next instruction in memory
 -- the opcodes of no jump and no answer that are used
 abbrev stays : Op → Bool
 stays ops.Jmp = false
@@ -46,7 +46,7 @@ stays ops.Answer = false
 stays (ops.Unused op) = false
 stays _ = true
 
--- the instruction behind comes, and the first 2^16 bytes are as they were
+-- the next instruction in memory comes, and the first 2^16 bytes are as they were
 abbrev Follows : State → Next → Type 0
 Follows st (Next.Gone after) = (after.pc ≡ behind 32 st) × ((j : ℕ) → j < 16384 → word_in 32 after.memory j ≡ word_in 32 st.memory j)
 Follows st (Next.Answered v) = ⊥
@@ -109,7 +109,7 @@ source_small DestSourceA source h = h
 source_small SourceA source h = h
 source_small _ source h = omega arith
 
--- the first word of an instruction: a word, which tells the opcode and whether the operand is immediate
+-- the first word of an instruction: a word, which has the opcode and whether the operand is immediate
 abbrev head_of : ℕ → Bool → ℕ → ℕ → ℕ
 head_of op imm dest source = op * 2 ^ 27 + cond imm (2 ^ 26) 0 + dest * 2 ^ 22 + source * 2 ^ 18
 
@@ -130,7 +130,7 @@ drawn_tells : (g : ℕ) → Tells (op_in g) (imm_in g) (drawn_head g)
 drawn_tells g = head_tells (op_in g) (imm_in g) _ _ (drawn_small g) (dest_small (shape_of (op_in g)) _ (omega arith))
     (source_small (shape_of (op_in g)) _ (omega arith))
 
--- a store has an address behind the first 2^16 bytes
+-- a store has an address after the first 2^16 bytes
 stores_far : (g : ℕ) → drawing.is_store (op_in g) ≡ true → (imm_in g ≡ true) × (65536 ≤ (instr_in g).a)
 stores_far g store =
     let imm : imm_in g ≡ true = ap (λ b. b || (op_in g == 30 || g / 2 ^ 8 % 2 == 1)) store in

@@ -24,7 +24,7 @@ word_at seed i = (mix_u64 (state_at seed i)).0
 abbrev pub op_in : ℕ → ℕ
 op_in g = if nat_lt (g % 25) 20 then g % 25 else g % 25 + 6
 
--- a store and a read have an operand of their own: an address behind the program, and a tape from 0 to 2
+-- a store and a read have an operand of their own: an address after the program, and a tape from 0 to 2
 abbrev pub is_store : ℕ → Bool
 is_store op = op == STORE_B || op == STORE_W
 
@@ -53,7 +53,7 @@ source_if OnlyA source = 0
 source_if ADest source = 0
 source_if Unused source = 0
 
--- bit 8 tells whether the operand is immediate, bits 12..9 are the destination, bits 16..13 the source, and the high
+-- bit 8 says whether the operand is immediate, bits 12..9 are the destination, bits 16..13 the source, and the high
 -- half is the second word, of which a register's number is the last four bits
 abbrev pub instr_in : ℕ → Instr
 instr_in g = record {
@@ -73,7 +73,7 @@ last_instr = record { op = ANSWER; imm = true; dest = 0; source = 0; a = 0 }
 abbrev pub words_drawn : ℕ → ℕ → ℕ → List ℕ
 words_drawn seed i n = each_below n (λ j. word_at seed (i + j) % 2 ^ 32)
 
--- k instructions and `answer 0` behind them; the two words behind those of the instructions are the primary tape, and
+-- k instructions and `answer 0` after them; the two words after those of the instructions are the primary tape, and
 -- eight more the auxiliary tape
 abbrev pub image_drawn : ℕ → ℕ → List ℕ
 image_drawn seed k = joined_below k (λ i. encode 32 (instr_in (word_at seed i))) ++ encode 32 last_instr
@@ -84,8 +84,8 @@ tape_drawn seed k = words_drawn seed k 2
 abbrev pub aux_drawn : ℕ → ℕ → List ℕ
 aux_drawn seed k = words_drawn seed (k + 2) 8
 
--- What an image and tapes are of which k instructions were drawn: words of 32 bits, so many, and a run that answers 0 at
--- its step k + 1.
+-- What an image and tapes are of which k instructions were drawn: words of 32 bits, as many as they should be, and a run
+-- that answers 0 at its step k + 1.
 pub record IsDrawn (k : ℕ) (image tape aux : List ℕ) : Type 0 where
   pub image_words : AreWords 32 image
   pub image_count : length image ≡ k * 2 + 2

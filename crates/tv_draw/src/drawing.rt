@@ -33,10 +33,10 @@ pub struct Drawn {
     pub aux: Words,
 }
 
-/// Draws `k` instructions from a seed, with `answer 0` behind them, and both tapes. The words come
+/// Draws `k` instructions from a seed, with `answer 0` after them, and both tapes. The words come
 /// from the SplitMix64 generator that begins with the seed: one for each instruction, then one for
 /// each word of the tapes. A drawn program has no jumps, and its stores go to addresses from 65,536
-/// to 131,071, behind any program of at most 8,191 instructions: it answers 0 at step `k + 1`.
+/// to 131,071, after any program of at most 8,191 instructions: it answers 0 at step `k + 1`.
 #[tactic(auto, using(crate::proofs::DrawLaws::drawn_parts))]
 pub fn draw(alloc: Global, seed: u64, k: u32) -> Result<Drawn, AllocError>
     requires { k ≤ 8191 }

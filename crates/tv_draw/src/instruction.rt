@@ -55,7 +55,7 @@ fn source_if(shape: Shape, source: u8) -> u8
     }
 }
 
-/// The instruction of a drawn word.
+/// Returns the instruction of a drawn word.
 pub(crate) fn instruction(g: u64) -> Instr
     ensures is { result ≡ instr_in g }
     ensures range { IsInstruction result }

@@ -1,6 +1,5 @@
-//! Programs drawn from a number: large valid inputs that are the same at each run. A program has
-//! so many instructions, none of which jumps, and `answer 0` behind them, so it answers 0 at its
-//! last instruction.
+//! Programs drawn from a number: large valid inputs that are the same at each run. A program has k
+//! instructions, none of which jumps, and then `answer 0`, so it answers 0 at its last instruction.
 #![tactic(auto)]
 
 mod drawing;

@@ -3,7 +3,7 @@
 use Rattle.std.specs.Prelude.{ℕ, ◌+◌, ◌-◌, ◌*◌, ◌/◌, ◌%◌, ◌^◌, ◌<◌, ◌==◌, if◌then◌else◌, List, [], ◌∷◌}
 use Rattle.tv_isa.specs.declared.instr.Instr.{Instr}
 
--- the number that the count bits of h from bit number low on spell
+-- the number that is the count bits of h from bit number low on
 abbrev pub field : ℕ → ℕ → ℕ → ℕ
 field low count h = h / 2 ^ low % 2 ^ count
 

@@ -18,9 +18,9 @@ pub struct Instr {
     pub a: u32,
 }
 
-/// The fields of the instruction of two words of `W` bits, 16 or 32. Of the first word, from the
-/// highest bit down, five bits are the opcode, one is `imm`, four are `dest` and four `source`; the
-/// others are ignored. What stands above `W` bits is ignored too.
+/// Returns the fields of the instruction of two words of `W` bits, 16 or 32. Of the first word,
+/// from the highest bit down, five bits are the opcode, one is `imm`, four are `dest` and four
+/// `source`; the others are ignored. What stands above `W` bits is ignored too.
 pub fn decode<const W: u32>(h: u32, a: u32) -> Instr
     requires width { IsWidth W }
     ensures fields { result ≡ decode W h a }
@@ -35,8 +35,8 @@ pub fn decode<const W: u32>(h: u32, a: u32) -> Instr
     }
 }
 
-/// The two words of `W` bits, 16 or 32, of an instruction: the ignored bits are 0, and the second
-/// word is `a` as it stands.
+/// Returns the two words of `W` bits, 16 or 32, of an instruction: the ignored bits are 0, and the
+/// second word is `a` as it stands.
 pub fn encode<const W: u32>(instr: &Instr) -> [u32; 2]
     requires width { IsWidth W }
     requires instr { IsInstruction instr.now }

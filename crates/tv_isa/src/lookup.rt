@@ -5,14 +5,14 @@ ghost use Rattle.tv_isa.specs.Table.{row_of, with_opcode, with_name, shape_of, i
 
 use crate::operation::{OPERATIONS, Operation, Shape};
 
-/// The 29 instructions, by opcode.
+/// Returns the 29 instructions, by opcode.
 pub fn operations() -> &'static [Operation]
     ensures { map row_of result.now ≡ instructions }
 {
     &OPERATIONS
 }
 
-/// The instruction with an opcode; `None` for an opcode that is not used.
+/// Returns the instruction with an opcode; `None` for an opcode that is not used.
 pub fn operation_of(op: u8) -> Option<Operation>
     ensures { option_map row_of result ≡ with_opcode op }
 {
@@ -22,7 +22,7 @@ pub fn operation_of(op: u8) -> Option<Operation>
         .copied()
 }
 
-/// The instruction with a name in program text.
+/// Returns the instruction with a name in program text.
 pub fn operation_named(name: &[u8]) -> Option<Operation>
     ensures row { option_map row_of result ≡ with_name name.now }
     ensures used { IfSome result (λ operation. operation.op < 32) }
@@ -33,7 +33,7 @@ pub fn operation_named(name: &[u8]) -> Option<Operation>
         .copied()
 }
 
-/// The operands of the instruction with an opcode below 32; `Unused` where none has it.
+/// Returns the operands of the instruction with an opcode below 32; `Unused` where none has it.
 pub fn shape(op: u8) -> Shape
     requires { op < 32 }
     ensures { result ≡ shape_of op }

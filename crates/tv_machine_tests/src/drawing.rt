@@ -3,7 +3,7 @@
 use std::test::Fail;
 use tv_draw::draw;
 
-// SplitMix64 gives e220a8397b1dcdaf first from the seed 0: `umod r6, r14, 3793791033`.
+// SplitMix64 returns e220a8397b1dcdaf first for the seed 0: `umod r6, r14, 3793791033`.
 #[test]
 fn the_first_instruction_of_seed_0_is_a_remainder(rt: HostRuntime) -> Result<(), Fail> {
     let drawn = draw(rt.alloc(), 0, 1)?;

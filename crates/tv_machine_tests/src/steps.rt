@@ -15,13 +15,13 @@ const CELL: u32 = 0x8899_aabb;
 /// What a step does; all else is as it was.
 #[derive(Clone, Copy)]
 enum Does {
-    /// Register 2 gets a word, the flag is this, and the instruction behind comes.
+    /// Register 2 gets a word, the flag is this, and the next instruction in memory comes.
     Gives(u32, bool),
-    /// The flag is this, and the instruction behind comes.
+    /// The flag is this, and the next instruction in memory comes.
     Tests(bool),
     /// The instruction at an address comes.
     Jumps(u32),
-    /// The word at the address 65,536 is this, and the instruction behind comes.
+    /// The word at the address 65,536 is this, and the next instruction in memory comes.
     Stores(u32),
     /// The machine answers a word.
     Answers(u32),
@@ -106,7 +106,7 @@ const ROWS: [Row; 63] = [
     ("answer", 31, true, 7, 5, Answers(5)),
 ];
 
-/// What can be seen of a step and of the machine behind it.
+/// What can be seen of a step and of the machine after it.
 #[derive(Clone, Copy, PartialEq, Eq, Debug)]
 struct Seen {
     outcome: Outcome,
@@ -148,7 +148,7 @@ fn instruction(op: u8, dest: u8, a: u32) -> [u32; 2] {
     })
 }
 
-/// One step of a row's instruction, behind those that bring its words and its flag about.
+/// One step of a row's instruction, after those that bring its words and its flag about.
 fn step_of(alloc: Global, row: &Row) -> Result<Seen, AllocError> {
     let (_, op, flag, s, a, _) = *row;
     let program = [

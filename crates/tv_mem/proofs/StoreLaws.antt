@@ -16,7 +16,7 @@ use Rattle.tv_mem.specs.Pages.{Found, page_bytes, page_with, byte_in, byte_at, S
 first_length : (page : List ℕ) (place : ℕ) (bytes : List ℕ) → place ≤ length page → length (take place page ++ bytes) ≡ place + length bytes
 first_length page place bytes within = length-append (take place page) bytes ∙ ap (λ n. n + length bytes) (length-take-le place page within)
 
--- its bytes: before the place, there, and behind
+-- its bytes: before the place, there, and after it
 below : (page : List ℕ) (place : ℕ) (bytes : List ℕ) (i : ℕ) → place ≤ length page → i < place → slice_index (page_with page place bytes) i ≡ slice_index page i
 below page place bytes i within before =
     let taken : length (take place page) ≡ place = length-take-le place page within in

@@ -88,7 +88,7 @@ word_after_byte w width m at v =
     let from = stored_from m (at / (w / 8) * (w / 8)) (w / 8) (at % (w / 8)) v (rest_in w width at) in
     ap (λ x. word_in w (with_byte m x v) (at / (w / 8)) + m x * 256 ^ (at % (w / 8))) place ∙ from
 
--- bytes that are those of a word spell it
+-- bytes that are those of a word represent it
 pub same_word : (w : ℕ) → IsWidth w → (m : Bytes) (j v : ℕ) → v < 2 ^ w → ((k : ℕ) → k < w / 8 → m (j * (w / 8) + k) ≡ byte_of v k) → word_in w m j ≡ v
 same_word w width m j v small bytes =
     let fits : v < 256 ^ (w / 8) = rw (word_bits w width) small in

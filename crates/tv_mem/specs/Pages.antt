@@ -9,13 +9,15 @@ use Rattle.tv_mem.specs.declared.memory.Memory.{Memory}
 abbrev pub Found : Type 0
 Found = ℕ → Option (List ℕ)
 
--- a table has places for 1,024 pages, as far as one of them was wanted; behind its last place no page is held
+-- a table has places for at most 1,024 pages; after its last place no page is held
 abbrev pub Table : Type 0
 Table = Vec (Option (Box (List ℕ) Global)) Global
 
+-- the pages of a table, by their places in it
 abbrev pub page_of : Table → Found
 page_of table place = option_map box_value (slice_index_or table.items place None)
 
+-- and of a table that may not be there
 abbrev pub page_at : Option Table → Found
 page_at None place = None
 page_at (Some table) place = page_of table place
@@ -33,6 +35,7 @@ byte_in (Some page) place = slice_index page place
 abbrev pub byte_at : Found → Bytes
 byte_at found at = byte_in (found (at / 4096)) (at % 4096)
 
+-- memory as a function from address to byte
 unfoldable pub bytes_in : Memory → Bytes
 bytes_in memory = byte_at (page_in memory.tables.items)
 

@@ -30,7 +30,7 @@ impl Memory {
         }
     }
 
-    /// The byte at an address.
+    /// Returns the byte at an address.
     #[tactic(auto, unfolding(crate::specs::Pages::bytes_in))]
     pub fn load_byte(&self, at: u32) -> u8
         ensures { result ≡ bytes_in self.now at }
@@ -41,8 +41,8 @@ impl Memory {
         }
     }
 
-    /// The word of `W` bits, 16 or 32, in which an address lies: two or four bytes, the lowest
-    /// first.
+    /// Returns the word of `W` bits, 16 or 32, in which an address lies: two or four bytes, the
+    /// lowest first.
     #[tactic(auto, unfolding(crate::specs::Pages::bytes_in))]
     pub fn load_word<const W: u32>(&self, at: u32) -> u32
         requires width { IsWidth W }
@@ -79,8 +79,8 @@ impl Memory {
         }
     }
 
-    /// The two words of the `W / 4` bytes in which an address lies, as an instruction has them.
-    /// Their page is looked up once.
+    /// Returns the two words of the `W / 4` bytes in which an address lies, as an instruction has
+    /// them. Their page is looked up once.
     pub fn load_pair<const W: u32>(&self, at: u32) -> (u32, u32)
         requires width { IsWidth W }
         ensures first { result.0 ≡ word_in W (bytes_in self.now) (at / (W / 4) * 2) }
@@ -127,8 +127,7 @@ impl Memory {
         }
     }
 
-    /// Writes a byte. It wants memory only for a page that isn't held, and then changes nothing
-    /// where memory is refused.
+    /// Writes a byte. It allocates only for a page that isn't held; if that fails, nothing changes.
     #[tactic(auto, unfolding(crate::specs::Pages::is_held))]
     pub fn store_byte(&mut self, at: u32, value: u8) -> Result<(), AllocError>
         ensures ok { OnOk result (bytes_in self.new ≡ with_byte (bytes_in self.old) at value) }
@@ -142,8 +141,7 @@ impl Memory {
     }
 
     /// Writes the word of `W` bits in which an address lies; of `word` the `W` lowest bits count.
-    /// It wants memory only for a page that isn't held, and then changes nothing where memory is
-    /// refused.
+    /// It allocates only for a page that isn't held; if that fails, nothing changes.
     #[tactic(auto, unfolding(crate::specs::Pages::is_held))]
     pub fn store_word<const W: u32>(&mut self, at: u32, word: u32) -> Result<(), AllocError>
         requires width { IsWidth W }
@@ -164,7 +162,7 @@ impl Memory {
         )
     }
 
-    /// Whether the page with this address is held.
+    /// Returns whether the page with this address is held.
     #[tactic(auto, unfolding(crate::specs::Pages::is_held))]
     pub fn has_page(&self, at: u32) -> bool
         ensures { result ≡ is_held self.now at }

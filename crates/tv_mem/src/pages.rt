@@ -17,10 +17,10 @@ pub(crate) const PAGE: u32 = 4096;
 /// How many pages a table has places for.
 const PLACES: u32 = 1024;
 
-/// A table: a place for each of `PLACES` pages, as far as one of them was wanted.
+/// A table: places for at most `PLACES` pages, up to the last one that was allocated.
 pub(crate) type Table = Vec<Option<Box<[u8; 4096]>>>;
 
-/// The page with a number, where it is held.
+/// Returns the page with a number, where it is held.
 pub(crate) fn page(tables: &[Table], number: u32) -> Option<&[u8; 4096]>
     ensures { option_copied result ≡ page_in tables.now number }
 {
@@ -40,7 +40,7 @@ fn page_of(table: &Table, place: usize) -> Option<&[u8; 4096]>
     }
 }
 
-/// The word at a place of a page, the lowest byte first.
+/// Returns the word at a place of a page, the lowest byte first.
 pub(crate) fn word_on(page: &[u8; 4096], place: usize) -> u32
     requires within { place + 4 ≤ 4096 }
     ensures { result ≡ spelled (bytes_from (slice_index page.now) place 4) }
@@ -53,7 +53,7 @@ pub(crate) fn word_on(page: &[u8; 4096], place: usize) -> u32
     ])
 }
 
-/// The word of 16 bits at a place of a page, the lowest byte first.
+/// Returns the word of 16 bits at a place of a page, the lowest byte first.
 pub(crate) fn half_on(page: &[u8; 4096], place: usize) -> u32
     requires within { place + 2 ≤ 4096 }
     ensures word { result ≡ spelled (bytes_from (slice_index page.now) place 2) }
@@ -134,7 +134,7 @@ fn write_in(
     keep(table, place, page)
 }
 
-// Writes bytes at an offset of the page in a place, where it is held; tells whether it is.
+// Writes bytes at an offset of the page in a place, where it is held; returns whether it is.
 #[tactic(auto, using(crate::proofs::PageLaws::changes))]
 fn write_held(table: &mut Table, place: usize, offset: usize, bytes: &[u8]) -> bool
     requires within { offset + length bytes.now ≤ 4096 }

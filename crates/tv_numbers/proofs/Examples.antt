@@ -68,7 +68,7 @@ jumps = refl
 jumps_in_16_bits : (did_of 16 0 0 (view 0 (replicate 16 0) 1 0 0) 44032 21 0 false).after ≡ view 20 (replicate 16 0) 1 0 0
 jumps_in_16_bits = refl
 
--- `answer r4` stays where it is, and tells the register
+-- `answer r4` stays where it is, and answers the register
 answers_nothing_new : (did_of 32 0 0 (view 24 (regs_with 4 5) 1 0 1) 4160749568 4 0 false).after ≡ view 24 (regs_with 4 5) 1 0 1
 answers_nothing_new = refl
 

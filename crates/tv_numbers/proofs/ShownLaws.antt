@@ -61,7 +61,7 @@ seen_in_range w n st taken ended range within bit = record {
   ended = bit;
 }
 
--- ---- olds that are handed in
+-- ---- old words that are passed
 -- a step that takes an auxiliary word looks at no cell
 looks_nowhere : (n : ℕ) (v : View) (i : Instr) → asks v i ≡ true → (touches v i ≡ false) × (takes_primary v i n ≡ false)
 looks_nowhere n v i e =
@@ -85,7 +85,7 @@ olds_are_shown w n time v head tail old word is none =
     old_shown (touches v i) (takes_primary v i n) (TAPE_CELLS + v.taken) (operand_word v i / (w / 8)) old word (λ e. looks_nowhere n v i (is.asked e)) none
 
 -- ---- a machine's step
--- the old of a line of the null cell comes whatever word is handed in
+-- the old word of a line of the null cell is the same, whatever word is passed
 same_by : (touched primary : Bool) (old : ℕ) (word : Option ℕ) → (is_some word ≡ true → (touched ≡ false) × (primary ≡ false))
     → (if touched || primary then handed old word else 0) ≡ (if touched || primary then old else 0)
 same_by touched primary old None h = refl

@@ -14,9 +14,11 @@ use Rattle.tv_numbers.specs.Views.{View}
 
 -- ---- operands, and what a step asks for
 module _ (v : View) (i : Instr) where
+  -- the word in the source register
   abbrev pub source_word : ℕ
   source_word = slice_index v.regs i.source
 
+  -- the word in the destination register
   abbrev pub dest_word : ℕ
   dest_word = slice_index v.regs i.dest
 
@@ -51,6 +53,7 @@ module _ (w n : ℕ) (v : View) (i : Instr) (o : ℕ) (takes : Bool) where
   abbrev pub found : Bool
   found = takes_primary v i n || takes
 
+  -- the word that goes into the destination register, if it is written
   abbrev pub result_in : ℕ
   result_in = chosen (results w (other_word v i) (operand_word v i) o found) i.op
 
@@ -96,6 +99,7 @@ pub record Did : Type 0 where
   pub answers : Bool
   pub value : ℕ
 
+-- the three lines of a step, in order
 abbrev pub lines_in : Did → List Line
 lines_in b = b.first ∷ b.second ∷ b.data_line ∷ []
 

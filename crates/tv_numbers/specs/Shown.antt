@@ -18,12 +18,12 @@ abbrev pub handed : ℕ → Option ℕ → ℕ
 handed old None = old
 handed old (Some word) = word
 
--- a word is handed in only where the step reads the auxiliary tape, whose end was not found before
+-- a word is passed only where the step reads the auxiliary tape, whose end was not found before
 abbrev pub MayTake : ℕ → View → State → Option ℕ → Type 0
 MayTake w v st None = Unit {0}
 MayTake w v st (Some word) = (reads_aux w st ≡ true) × (v.ended ≡ 0) × (word < 2 ^ w)
 
--- The data line has the old that was handed in, where that is 0 for a line of the null cell.
+-- The data line has the old word that was passed, where that is 0 for a line of the null cell.
 abbrev pub OldsAreShown : Type 0
 OldsAreShown = (w n time : ℕ) (v : View) (head tail old : ℕ) (word : Option ℕ)
     → AtNumbers w n v head tail (handed old word) (is_some word)
@@ -40,7 +40,7 @@ tail_at w st = word_in w st.memory (st.pc / word_size w + 1)
 abbrev pub data_at : ℕ → List ℕ → ℕ → State → Option ℕ → ℕ
 data_at w x time st word = handed (traced_line w (length x) st (time + 2)).old word
 
--- the step in numbers from a machine's state, of which v is the view, with the word that is handed in
+-- the step in numbers from a machine's state, of which v is the view, with the word that is passed
 abbrev pub did_at : ℕ → List ℕ → ℕ → View → State → Option ℕ → Did
 did_at w x time v st word = did_of w (length x) time v (head_at w st) (tail_at w st) (data_at w x time st word) (is_some word)
 

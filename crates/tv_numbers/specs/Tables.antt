@@ -1,7 +1,7 @@
 -- What the instructions make, as tables of numbers by the opcode: the result that goes into the destination register,
 -- the flag, and the next program counter. In the tables x is the word that is stored or else the one in the source
 -- register, a is the operand, o the data word, which stands in the cell that the step looks at or is taken of the
--- auxiliary tape, and `found` tells whether a read found a word.
+-- auxiliary tape, and `found` says whether a read found a word.
 use Rattle.std.specs.Prelude.{ℕ, ◌+◌, ◌-◌, ◌*◌, ◌/◌, ◌%◌, ◌^◌, Bool, not, ◌==◌, nat_lt, nat_le, int_lt, int_le, ◌*ℤ◌, if◌then◌else◌, List, [], ◌∷◌, bit_and, bit_or, bit_xor}
 use Rattle.tv_isa.specs.Opcodes.{Entry}
 use Rattle.tv_isa.specs.declared.opcode.TheConstants.{AND, OR, XOR, NOT, ADD, SUB, MULL, UMULH, SMULH, UDIV, UMOD, SHL, SHR, CMPE, CMPA, CMPAE, CMPG, CMPGE, MOV, CMOV, JMP, CJMP, CNJMP, STORE_B, LOAD_B, STORE_W, LOAD_W, READ, ANSWER, UNUSED}
@@ -32,7 +32,7 @@ writer_ops = AND ∷ OR ∷ XOR ∷ NOT ∷ ADD ∷ SUB ∷ MULL ∷ UMULH ∷ S
 abbrev pub keeper_ops : List ℕ
 keeper_ops = MOV ∷ CMOV ∷ JMP ∷ CJMP ∷ CNJMP ∷ STORE_B ∷ LOAD_B ∷ STORE_W ∷ LOAD_W ∷ ANSWER ∷ []
 
--- those that go on to the instruction behind: all but the jumps and answer
+-- those that go on to the next instruction in memory: all but the jumps and answer
 abbrev pub straight_ops : List ℕ
 straight_ops = AND ∷ OR ∷ XOR ∷ NOT ∷ ADD ∷ SUB ∷ MULL ∷ UMULH ∷ SMULH ∷ UDIV ∷ UMOD ∷ SHL ∷ SHR ∷ CMPE ∷ CMPA ∷ CMPAE ∷ CMPG ∷ CMPGE ∷ MOV ∷ CMOV ∷ STORE_B ∷ LOAD_B ∷ STORE_W ∷ LOAD_W ∷ READ ∷ []
 
@@ -82,7 +82,7 @@ flags w x a found flag =
     ∷ (record { ops = keeper_ops; gives = flag })
     ∷ []
 
--- the address of the instruction behind, and of the one to which a jump goes
+-- the address of the next instruction in memory, and of the one to which a jump goes
 abbrev pub behind_pc : ℕ → ℕ → ℕ
 behind_pc w pc = (pc + instruction_size w) % 2 ^ w
 

@@ -4,8 +4,8 @@ use Rattle.tv_step.specs.Range.{AreWords}
 use Rattle.tv_step.specs.Rows.{instruction_size}
 use Rattle.tv_step.specs.State.{State}
 
--- the program counter, the registers' words, the flag, how many words of the primary tape are taken, and the ended
--- bit, which tells whether a read of the auxiliary tape has found nothing; flag and ended bit are 0 or 1
+-- the program counter, the registers' words, the flag, how many words of the primary tape are taken, and the ended bit,
+-- which says whether a read of the auxiliary tape has found nothing; flag and ended bit are 0 or 1
 pub record View : Type 0 where
   pub pc : ℕ
   pub regs : List ℕ

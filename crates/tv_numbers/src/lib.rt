@@ -17,9 +17,9 @@ pub fn numbers_stay_in_range()
     ensures { NumbersStayInRange }
 {}
 
-/// The other way round from `numbers_do`: the numbers of a machine's step, from a state in range
-/// whose opcode is used, are in range, and the lines of the step in numbers are those of the
-/// machine's step. The data line has the old that is handed in, which is 0 for the null cell.
+/// The converse of `numbers_do`: the numbers of a machine's step, from a state in range whose
+/// opcode is used, are in range, and the lines of the step in numbers are those of the machine's
+/// step. The data line has the old word that is passed, which is 0 for the null cell.
 pub fn machine_shows()
     ensures step { MachineShows }
     ensures view { SeenInRange }

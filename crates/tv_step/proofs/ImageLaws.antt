@@ -12,7 +12,7 @@ use Rattle.tv_step.proofs.RangeLaws.{word_at}
 use Rattle.tv_step.specs.Range.{AreWords}
 use Rattle.tv_step.specs.Machine.{image_bytes}
 
--- behind the first words of a list there is nothing
+-- after the first words of a list there is nothing
 past : (image : List ℕ) (i j : ℕ) → i ≤ length image → i ≤ j → slice_index (take i image) j ≡ 0
 past image i j within behind = get_or_past (take i image) j 0 (omega (arith, length-take-le i image within, behind))
 

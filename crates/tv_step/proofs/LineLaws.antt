@@ -21,7 +21,7 @@ use Rattle.tv_step.specs.declared.op.Op.TheVariants.{Cmov, Cjmp, Cnjmp, StoreB, 
 pub cell_is_low : (w : ℕ) → IsWidth w → (a : ℕ) → a < 2 ^ w → a / (w / 8) < TAPE_CELLS
 cell_is_low w width a h = for_widths (λ w. a < 2 ^ w → a / (w / 8) < TAPE_CELLS) (λ h. omega (arith, h)) (λ h. omega (arith, h)) w width h
 
--- a line, with the new word told by its cell once the step is taken
+-- a line, whose new word is that of its cell once the step is taken
 abbrev told : ℕ → State → ℕ → Line → Line
 told w st time line = record {
   cell = line.cell;

@@ -108,7 +108,7 @@ module _ (w : ℕ) (st : State) where
       let more : suc t ≡ t + 1 = omega arith in
       subst (IsRest st.aux) (sym (ap (λ k. (now k).aux) more ∙ aux_next t)) (either_rest st.aux (now t).aux (reads_aux w (now t)) (aux_rest t))
 
-  -- the word that the counts tell
+  -- the word that the counts determine
   counted : (a b : List ℕ) → IsRest st.aux a → (r : Bool) → b ≡ (if r then drop 1 a else a)
       → (if r then slice_get a 0 else None) ≡ (if nat_lt (length st.aux - length a) (length st.aux - length b) then Some
       (slice_index st.aux (length st.aux - length a)) else None)

@@ -18,6 +18,7 @@ use Rattle.tv_step.specs.declared.op.Op.TheVariants.{StoreB, StoreW}
 abbrev pub LinesAreThreeAStep : Type 0
 LinesAreThreeAStep = (w n time : ℕ) (st : State) (t : ℕ) → length (lines_of w n time st t) ≡ 3 * t
 
+-- t steps have t + 1 states
 abbrev pub StatesAreOneMore : Type 0
 StatesAreOneMore = (w n m : ℕ) (st : State) (t : ℕ) → length (states_of w n m st t) ≡ t + 1
 
@@ -26,7 +27,7 @@ abbrev pub LinesByPlace : Type 0
 LinesByPlace = (w n time : ℕ) (st : State) (t i j : ℕ) (past : Line) → i < t → j < 3
     → slice_index_or (lines_of w n time st t) (3 * i + j) past ≡ slice_index_or (step_lines w n (state_after w i st) (time + 3 * i)) j past
 
--- state i is told of the state after i steps
+-- state i of the trace describes the state after i steps
 abbrev pub StatesByPlace : Type 0
 StatesByPlace = (w n m : ℕ) (st : State) (t i : ℕ) (past : TraceState) → i ≤ t
     → slice_index_or (states_of w n m st t) i past ≡ state_told w n m st i

@@ -29,7 +29,7 @@ executed w st i = row w (op_of i.op) st i.dest (reg st i.dest) (reg st i.source)
 abbrev pub next : ℕ → State → Next
 next w st = executed w st (fetched w st)
 
--- the end of a run whose step with this number comes to this; where it goes on, `on` tells the end
+-- the end of a run whose step with this number leads to this; where it goes on, `on` is the end
 abbrev pub ended : (State → End) → ℕ → Next → End
 ended on step (Next.Gone after) = on after
 ended on step (Next.Answered v) = ends.Answer v step
@@ -44,7 +44,7 @@ end_from w k (suc n) st = ended (λ after. end_from w (k + 1) n after) (k + 1) (
 abbrev pub end_of : ℕ → ℕ → State → End
 end_of w n st = end_from w 0 n st
 
--- the state that a run is left in whose step from `st` comes to this; where it goes on, `on` tells
+-- the state that a run is left in whose step from `st` leads to this; where it goes on, `on` is that state
 abbrev pub left_in : (State → State) → State → Next → State
 left_in on st (Next.Gone after) = on after
 left_in on st (Next.Answered v) = st
@@ -55,7 +55,7 @@ abbrev pub state_after : ℕ → ℕ → State → State
 state_after w zero st = st
 state_after w (suc n) st = left_in (λ after. state_after w n after) st (next w st)
 
--- memory that begins with these words, and has 0 behind
+-- memory that begins with these words, and has 0 after them
 abbrev pub image_bytes : ℕ → List ℕ → Bytes
 image_bytes w image at = byte_of (slice_index image (at / word_size w)) (at % word_size w)
 

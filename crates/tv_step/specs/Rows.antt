@@ -15,7 +15,7 @@ word_size w = w / 8
 abbrev pub instruction_size : ℕ → ℕ
 instruction_size w = w / 4
 
--- the address of the instruction behind
+-- the address of the next instruction in memory
 abbrev pub behind : ℕ → State → ℕ
 behind w st = (st.pc + instruction_size w) % 2 ^ w
 
@@ -23,7 +23,7 @@ behind w st = (st.pc + instruction_size w) % 2 ^ w
 abbrev pub gives : ℕ → State → ℕ → ℕ → Bool → Next
 gives w st i v f = Next.Gone (record st { pc = behind w st; regs = slice_set st.regs i v; flag = f })
 
--- register i gets v, and the flag tells whether that is 0
+-- register i gets v, and the flag is set exactly where that is 0
 abbrev pub logic : ℕ → State → ℕ → ℕ → Next
 logic w st i v = gives w st i v (v == 0)
 
@@ -47,8 +47,8 @@ jumps w st a = Next.Gone (record st { pc = a - a % instruction_size w })
 abbrev pub stores : ℕ → State → Bytes → Next
 stores w st m = Next.Gone (record st { pc = behind w st; memory = m })
 
--- register i gets the first word that is left of a tape, of which `rest` tells the state without it; where
--- none is left, it gets 0 and the flag is set
+-- register i gets the first word that is left of a tape, of which `rest` is the state without it; where none is left,
+-- it gets 0 and the flag is set
 abbrev pub takes : ℕ → State → ℕ → List ℕ → (List ℕ → State) → Next
 takes w st i [] rest = gives w st i 0 true
 takes w st i (v ∷ left) rest = gives w (rest left) i v false

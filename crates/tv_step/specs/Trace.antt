@@ -17,6 +17,7 @@ use Rattle.tv_step.specs.declared.op.Op.TheVariants.{StoreB, LoadB, StoreW, Load
 abbrev pub tape_cell : ℕ → ℕ
 tape_cell i = TAPE_CELLS + i
 
+-- the line of an access to nothing
 abbrev pub null_line : ℕ → Line
 null_line time = record { cell = NULL_CELL; time = time; old = 0; new = 0 }
 
@@ -61,12 +62,12 @@ abbrev pub lines_of : ℕ → ℕ → ℕ → State → ℕ → List Line
 lines_of w n time st zero = []
 lines_of w n time st (suc t) = lines_of w n time st t ++ step_lines w n (state_after w t st) (time + 3 * t)
 
--- what is told of a state, the tapes having had n and m words: of them as many are gone as aren't left, and
--- whether a read of the auxiliary tape has found nothing before
+-- what a trace has of a state, the tapes having had n and m words: how many of them are gone, and whether a read of the
+-- auxiliary tape has found nothing before
 abbrev pub told_of : ℕ → ℕ → State → Bool → TraceState
 told_of n m st ended = record { pc = st.pc; regs = st.regs; flag = st.flag; primary = n - length st.primary; aux = m - length st.aux; ended = ended }
 
--- the state after t steps from one on, as it is told
+-- what a trace has of the state after t steps from one on
 abbrev pub state_told : ℕ → ℕ → ℕ → State → ℕ → TraceState
 state_told w n m st t = told_of n m (state_after w t st) (ended_after w t st)
 

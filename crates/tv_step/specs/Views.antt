@@ -1,4 +1,4 @@
--- The program's machine as a state, and what its steps come to.
+-- The program's machine as a state, and what its steps lead to.
 use Rattle.std.specs.Prelude.{◌≡◌, ℕ}
 use Rattle.tv_mem.specs.Pages.{bytes_in}
 use Rattle.tv_step.specs.State.{State, Next}

@@ -25,7 +25,7 @@ impl<const W: u32> Model for Counter<W> {
 }
 
 impl<const W: u32> Counter<W> {
-    /// The first instruction's.
+    /// Returns the counter of the first instruction.
     pub fn new() -> Counter<W>
         requires width { IsWidth W }
         ensures { result ≡ 0 }
@@ -33,7 +33,7 @@ impl<const W: u32> Counter<W> {
         Counter { address: 0 }
     }
 
-    /// The address.
+    /// Returns the address.
     pub fn address(self) -> u32
         ensures same { result ≡ self.entry }
         ensures aligned { result % (W / 4) ≡ 0 }
@@ -42,7 +42,7 @@ impl<const W: u32> Counter<W> {
         self.address
     }
 
-    /// The instruction behind, round to the first after the last.
+    /// Returns the counter of the next instruction in memory: the first one after the last.
     pub fn behind(self) -> Counter<W>
         requires width { IsWidth W }
         ensures { result ≡ (self.entry + W / 4) % 2 ^ W }
@@ -52,7 +52,7 @@ impl<const W: u32> Counter<W> {
         }
     }
 
-    /// The instruction in which an address lies.
+    /// Returns the instruction in which an address lies.
     pub fn of(address: u32) -> Counter<W>
         requires width { IsWidth W }
         requires small { address < 2 ^ W }

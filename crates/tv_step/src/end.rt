@@ -1,6 +1,6 @@
-//! What comes of a step, and how a run ends.
+//! What a step leads to, and how a run ends.
 
-/// What comes of a step.
+/// What a step leads to.
 #[derive(Clone, Copy, PartialEq, Eq, Debug)]
 pub enum Outcome {
     /// The machine has gone on to another state.

@@ -34,7 +34,7 @@ impl<const W: u32> Machine<W> {
         self.pc = self.pc.behind();
     }
 
-    // Register `i` gets `value`, and the flag tells whether that is 0.
+    // Register `i` gets `value`, and the flag is set exactly where that is 0.
     fn logic(&mut self, i: u8, value: u32)
         requires width { IsWidth W }
         requires register { i < 16 }
@@ -53,7 +53,8 @@ impl<const W: u32> Machine<W> {
         self.pc = self.pc.behind();
     }
 
-    // The instruction in which an address lies comes next where `taken`, else the one behind.
+    // The instruction in which an address lies comes next where `taken`, else the next one in
+    // memory.
     fn jumps(&mut self, to: u32, taken: bool)
         requires width { IsWidth W }
         requires word { to < 2 ^ W }
@@ -164,7 +165,7 @@ impl<const W: u32> Machine<W> {
         self.memory.load_byte(at)
     }
 
-    /// The word in which an address lies.
+    /// Returns the word in which an address lies.
     pub fn word_at(&self, at: u32) -> u32
         requires width { IsWidth W }
         ensures small { result < 2 ^ W }

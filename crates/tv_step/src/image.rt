@@ -7,7 +7,7 @@ ghost use Rattle.tv_step.specs.Machine.{image_bytes};
 use std::alloc::{AllocError, Global};
 use tv_mem::Memory;
 
-/// A memory that begins with the words of an image, and is 0 behind.
+/// Returns a memory that begins with the words of an image, and is 0 after them.
 pub(crate) fn memory_with<const W: u32>(alloc: Global, image: &[u32]) -> Result<Memory, AllocError>
     requires width { IsWidth W }
     requires short { length image.now * (W / 8) ≤ 2 ^ W }

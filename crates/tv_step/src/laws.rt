@@ -40,10 +40,9 @@ pub fn steps_follow()
     ensures answer { AnswerStays }
 {}
 
-/// What a run takes of its tapes: what is left is their end, the auxiliary words that are taken
-/// are the front, each told by the counts of words that are gone; the ended bit never falls, and
-/// where it is set nothing is taken; and a run that answers takes fewer words than it may have
-/// steps.
+/// What a run takes of its tapes: what is left is their end, the auxiliary words that are taken are
+/// the front, both given by the counts of words that are gone; the ended bit never falls, and where
+/// it is set nothing is taken; and a run that answers takes fewer words than it may have steps.
 #[tactic(auto, using(crate::proofs::ReadLaws::taken_in_order))]
 pub fn tapes_are_taken_in_order()
     ensures left { TapesAreLeft }
@@ -75,7 +74,7 @@ pub fn lines_tell_the_cells()
     ensures stores { OnlyStoresWrite }
 {}
 
-/// The lines of a run, behind those of the image's and the primary tape's words, are honest, and
+/// The lines of a run, after those of the image's and the primary tape's words, are honest, and
 /// leave in each cell what the state holds.
 #[tactic(auto, using(crate::proofs::HonestLaws::honest))]
 pub fn runs_are_honest()

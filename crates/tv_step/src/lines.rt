@@ -4,7 +4,7 @@ ghost use Rattle.std.specs.Prelude.{◌≡◌};
 use std::marker::Model;
 use tv_core::Line;
 
-/// A state as the trace tells it, with the number of words that are gone of each tape.
+/// A state as the trace has it, with the number of words that are gone of each tape.
 #[derive(Clone, Copy, PartialEq, Eq, Debug)]
 pub struct TraceState {
     /// The program counter.
@@ -37,7 +37,7 @@ impl Model for Lines {
 }
 
 impl Lines {
-    /// The lines in order.
+    /// Returns the lines in order.
     pub fn as_slice(&self) -> &[Line]
         ensures { result.now ≡ self.now }
     {
@@ -69,7 +69,7 @@ impl Model for States {
 }
 
 impl States {
-    /// The states in order.
+    /// Returns the states in order.
     pub fn as_slice(&self) -> &[TraceState]
         ensures { result.now ≡ self.now }
     {

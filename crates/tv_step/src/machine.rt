@@ -25,10 +25,10 @@ fn words_of(alloc: Global, words: &[u32]) -> Result<Words, AllocError>
 }
 
 impl<const W: u32> Machine<W> {
-    /// The start: all 0, the image in memory from address 0 on, and two whole tapes. Memory has
-    /// 2^W bytes, so an image of words of 16 bits has at most 32,768 of them, and one of 32 bits
-    /// at most 2^30. Of an image's word that is no word of `W` bits, the lowest bits count. It is
-    /// refused only where memory runs out.
+    /// Returns the start: all 0, the image in memory from address 0 on, and two whole tapes. Memory
+    /// has 2^W bytes, so an image of words of 16 bits has at most 32,768 of them, and one of 32
+    /// bits at most 2^30. Of an image's word that is no word of `W` bits, the lowest bits count. It
+    /// is refused only where memory runs out.
     pub fn start(
         alloc: Global,
         image: &[u32],
@@ -51,7 +51,7 @@ impl<const W: u32> Machine<W> {
         })
     }
 
-    /// The start on tapes of these words, which it copies.
+    /// Returns the start on tapes of these words, which it copies.
     pub fn start_on(
         alloc: Global,
         image: &[u32],
@@ -67,14 +67,14 @@ impl<const W: u32> Machine<W> {
         Machine::start(alloc, image, words_of(alloc, tape)?, words_of(alloc, aux)?)
     }
 
-    /// The program counter: a multiple of the instruction's size, `W / 4` bytes.
+    /// Returns the program counter: a multiple of the instruction's size, `W / 4` bytes.
     pub fn pc(&self) -> u32
         ensures { result ≡ (state_of self.now).pc }
     {
         self.pc.address()
     }
 
-    /// The word in a register, whose number is below 16.
+    /// Returns the word in a register, whose number is below 16.
     pub fn reg(&self, i: u32) -> u32
         requires { i < 16 }
         ensures { result ≡ slice_index (state_of self.now).regs i }
@@ -82,7 +82,7 @@ impl<const W: u32> Machine<W> {
         self.regs.get(i as u8)
     }
 
-    /// The flag.
+    /// Returns the flag.
     pub fn flag(&self) -> bool
         ensures { result ≡ (state_of self.now).flag }
     {

@@ -40,7 +40,7 @@ pub enum Op {
     Unused(u8),
 }
 
-/// The instruction with an opcode.
+/// Returns the instruction with an opcode.
 pub(crate) fn op_of(op: u8) -> Op
     ensures { result ≡ op_of op }
 {

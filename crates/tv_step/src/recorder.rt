@@ -1,4 +1,4 @@
-//! Steps that tell their lines.
+//! Steps that return their lines of memory.
 ghost use Rattle.std.specs.Prelude.{◌≡◌, ◌+◌, ◌-◌, ◌<◌, ◌^◌, ◌==◌, ◌&&◌, ◌||◌, not};
 ghost use Rattle.std.specs.Prelude.{is_some, nat_lt, if◌then◌else◌, slice_get, length, IfOk, OnOk};
 ghost use Rattle.tv_core.specs.declared.limits.TheConstants.{TAPE_CELLS};
@@ -20,7 +20,7 @@ use tv_core::limits::{NULL_CELL, TAPE_CELLS};
 use tv_isa::{Instr, decode};
 use tv_tape::Tape;
 
-/// What is told of a step: its three lines, and the ended bit behind it.
+/// What a trace has of a step: its three lines, and the ended bit after it.
 #[derive(Clone, Copy)]
 pub(crate) struct Recorded {
     pub(crate) lines: [Line; 3],
@@ -86,7 +86,7 @@ impl<const W: u32> Machine<W> {
         }
     }
 
-    // Does what the instruction at the program counter says, and tells its data line at a time.
+    // Does what the instruction at the program counter says, and returns its data line at a time.
     fn data_line(&mut self, instr: &Instr, n: u32, time: u32) -> Result<Line, AllocError>
         requires width { IsWidth W }
         requires word { instr.now.a < 2 ^ W }
@@ -116,7 +116,7 @@ impl<const W: u32> Machine<W> {
                 && self.aux.first().is_none())
     }
 
-    /// Takes a step, and tells its three lines, the first at a time, and the ended bit behind it.
+    /// Takes a step, and returns its three lines, the first at a time, and the ended bit after it.
     /// The primary tape has had `n` words. Where the machine answers or stops, the state stays.
     pub(crate) fn record_step(
         &mut self,
@@ -147,8 +147,8 @@ impl<const W: u32> Machine<W> {
         })
     }
 
-    /// What the trace tells of the state, the tapes having had `n` and `m` words, and a read of the
-    /// auxiliary one having found nothing before or not.
+    /// Returns what the trace has of the state, the tapes having had `n` and `m` words, and a read
+    /// of the auxiliary one having found nothing before or not.
     pub(crate) fn told(&self, n: u32, m: u32, ended: bool) -> TraceState
         ensures { result ≡ told_of n m (state_of self.now) ended }
     {

@@ -24,7 +24,7 @@ impl<const W: u32> Model for Registers<W> {
 }
 
 impl<const W: u32> Registers<W> {
-    /// All 0.
+    /// Returns registers that are all 0.
     pub fn new() -> Registers<W>
         requires width { IsWidth W }
         ensures { result ≡ replicate 16 0 }
@@ -32,7 +32,7 @@ impl<const W: u32> Registers<W> {
         Registers { words: [0; 16] }
     }
 
-    /// The word in a register.
+    /// Returns the word in a register.
     pub fn get(&self, i: u8) -> u32
         requires { i < 16 }
         ensures same { result ≡ slice_index self.now i }
@@ -50,7 +50,7 @@ impl<const W: u32> Registers<W> {
         self.words[i as usize] = word;
     }
 
-    /// All of them.
+    /// Returns all registers.
     pub fn words(&self) -> [u32; 16]
         ensures { result ≡ self.now }
     {

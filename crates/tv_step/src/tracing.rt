@@ -21,7 +21,7 @@ pub enum TraceFault {
         /// Its end.
         end: End,
     },
-    /// Memory was wanting.
+    /// Memory ran out.
     #[error("out of memory")]
     Memory,
 }
@@ -34,8 +34,8 @@ impl From<AllocError> for TraceFault {
     }
 }
 
-// The lines and states of so many steps of a machine, the tapes having had `n` and `m` words, the
-// first line at a time. Room for all of them is made at once, and so nothing is copied later.
+// The lines and states of `t` steps of a machine, the tapes having had `n` and `m` words, the first
+// line at a time. Room for all of them is made at once, and so nothing is copied later.
 #[tactic(auto, using(crate::proofs::RunLaws::state_next))]
 fn record<const W: u32>(
     alloc: Global,
@@ -65,10 +65,10 @@ fn record<const W: u32>(
     Ok((lines.into(), states.into()))
 }
 
-/// The trace of the run of at most `t` steps on an image and two tapes: the value that it answers,
-/// three lines a step, whose times begin behind those of the image's words and the primary tape's,
-/// and `t + 1` states. An answering step comes again until step `t`. `NoRun` comes exactly where
-/// the run answers nothing, and tells how it ends, and `Memory` only where memory runs out. Takes
+/// Returns the trace of the run of at most `t` steps on an image and two tapes: the value that it
+/// answers, three lines a step, whose times begin after those of the image's words and the primary
+/// tape's, and `t + 1` states. An answering step comes again until step `t`. `NoRun` comes exactly
+/// where the run answers nothing, with how it ends, and `Memory` only where memory runs out. Takes
 /// the run's time twice.
 ///
 /// Words have `W` bits, 16 or 32, and the image fits in memory. The primary tape has fewer than

@@ -20,7 +20,7 @@ pub enum TapeFault {
     /// There are more than `most` items.
     #[error("more than {most} items")]
     TooMany { most: u32 },
-    /// Memory was wanting.
+    /// Memory ran out.
     #[error("out of memory")]
     Memory,
 }
@@ -57,8 +57,8 @@ fn number_of(item: &[u8], at: u64, below: u64) -> Result<u64, TapeFault>
     }
 }
 
-/// The numbers of a tape's text: decimal numbers below `below`, leading zeros allowed, between
-/// spaces, tabs, carriage returns and line feeds, and at most `most` of them.
+/// Returns the numbers of a tape's text: decimal numbers below `below`, leading zeros allowed,
+/// between spaces, tabs, carriage returns and line feeds, and at most `most` of them.
 ///
 /// Each item is judged before the next one is. `TooMany` comes where there is an item with the
 /// number `most`, whatever it is; `BadItem` where an item isn't all digits; `TooBig` where it is a

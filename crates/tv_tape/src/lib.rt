@@ -1,5 +1,5 @@
 //! Tapes: `read_tape` reads the numbers of a tape's text, as `tape_of` the whole text says,
-//! `tape_text` writes words as such a text, and a `Tape` gives its words one by one.
+//! `tape_text` writes words as such a text, and a `Tape` yields its words one by one.
 #![tactic(auto)]
 
 mod items;

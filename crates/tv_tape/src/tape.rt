@@ -22,7 +22,7 @@ impl Model for Tape {
 }
 
 impl Tape {
-    /// The tape of these words, none of which is taken.
+    /// Returns the tape of these words, none of which is taken.
     pub fn new(words: Words) -> Tape
         ensures { result ≡ words }
     {
@@ -39,14 +39,14 @@ impl Tape {
         Some(word)
     }
 
-    /// The next word, which stays; `None` exactly at the end. Takes constant time.
+    /// Returns the next word, which stays; `None` exactly at the end. Takes constant time.
     pub fn first(&self) -> Option<u32>
         ensures { result ≡ slice_get self.now 0 }
     {
         self.words.as_slice().get(self.taken).copied()
     }
 
-    /// How many words are left. Takes constant time.
+    /// Returns how many words are left. Takes constant time.
     pub fn left(&self) -> usize
         ensures { result ≡ length self.now }
     {

@@ -5,8 +5,8 @@ ghost use Rattle.tv_tape.specs.Tape.{text_of};
 use itoa::Buffer;
 use std::alloc::{AllocError, Global};
 
-/// The text of a tape: each word in decimal, without leading zeros, and a line feed. `read_tape`
-/// gives the words again. It is made in one vector, in time linear in the text.
+/// Returns the text of a tape: each word in decimal, without leading zeros, and a line feed.
+/// `read_tape` reads the words back. It is made in one vector, in time linear in the text.
 pub fn tape_text(alloc: Global, words: &[u32]) -> Result<Vec<u8>, AllocError>
     ensures { IfOk result (λ text. text.items ≡ text_of words.now) }
 {

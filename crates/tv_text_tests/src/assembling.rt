@@ -174,7 +174,7 @@ fn texts_of_16_bits_have_their_images(rt: HostRuntime) -> Result<(), Fail> {
     Ok(())
 }
 
-// The instructions fill the memory, so the address behind them is 0 again.
+// The instructions fill the memory, so the address after them is 0 again.
 #[test]
 fn a_label_behind_all_instructions_is_0(rt: HostRuntime) -> Result<(), Fail> {
     let mut text = Vec::from_slice(rt.alloc(), b"; TinyRAM W=16\n")?;

@@ -80,7 +80,7 @@ fn two_words_have_their_line_and_it_assembles_to_them(rt: HostRuntime) -> Result
     Ok(())
 }
 
-/// Whether a text is this line behind the header for words of 16 bits.
+/// Whether a text is this line after the header for words of 16 bits.
 fn is_behind_the_header(text: &[u8], line: &str) -> bool {
     text.strip_prefix(b"; TinyRAM W=16 K=16\n") == Some(line.as_bytes())
 }
