@@ -9,7 +9,7 @@ use Rattle.tv_bits.proofs.SpellingLaws.{new_bits_sound, new_bits_complete, new_b
 use Rattle.tv_bits.specs.Bit.{IsBit}
 use Rattle.tv_bits.specs.Bits.{Spells, spelled, new_bits_of}
 
--- an assignment that meets what holds them to bits has wires that spell some number
+-- an assignment that satisfies the constraints of bits has wires that represent some number
 pub bits_spell : (z : List ℕ) (n at : ℕ) → Assigns z → Meets z (new_bits_of n at).list → Spells z at n (spelled z at n)
 bits_spell z n at assigns meets = rw new_bits_answer at (new_bits_sound z at n assigns meets)
 

@@ -9,7 +9,7 @@ use Rattle.tv_core.proofs.NormalLaws.{IsNormalFrom-lower, IsNormalFrom-normal}
 use Rattle.tv_core.proofs.PrimeLaws.{p_zero_product}
 use Rattle.tv_core.specs.Below.{weighted}
 use Rattle.tv_core.specs.Circuits.{here, fresh, put, pure, ◌>>=◌}
-use Rattle.tv_core.specs.Combinations.{wire, constant, one_less, scaled, less, top}
+use Rattle.tv_core.specs.Combinations.{wire, constant, scaled, less, top}
 use Rattle.tv_core.specs.Constraints.{Combination}
 use Rattle.tv_core.specs.Loops.{times}
 use Rattle.tv_core.specs.Normal.{IsNormal, IsNormalFrom, AreNormal}
@@ -34,9 +34,6 @@ wire_normal least w h = (h, omega arith, omega arith, tt)
 
 pub constant_normal : (c : ℕ) → 0 < c → c < P → IsNormal (constant c)
 constant_normal c some small = (omega arith, some, small, tt)
-
-pub one_less_normal : (w : ℕ) → 0 < w → IsNormal (one_less w)
-one_less_normal w h = (omega arith, omega arith, omega arith, (omega arith, omega arith, omega arith, tt))
 
 -- x less y, the wires of y after those of x
 pub less_normal : (least mid : ℕ) (x y : Combination) → IsNormalFrom least x → top x ≤ mid → least ≤ mid → IsNormalFrom mid y → IsNormalFrom least (less x y)

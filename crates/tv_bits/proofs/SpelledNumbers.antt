@@ -1,4 +1,4 @@
--- What wires spell: the number's bits, its parts, and the value of the combination of their powers.
+-- What wires represent: the number's bits, its parts, and the value of the combination of their powers.
 use Rattle.std.proofs.Common.{◌≡◌, ◌≢◌, ℕ, zero, suc, ◌+◌, ◌-◌, ◌*◌, ◌/◌, ◌%◌, ◌^◌, ◌<◌, ◌≤◌, List, [], ◌∷◌, ◌++◌, inl, inr, refl, sym, subst, ◌∙◌, ap, ap₂}
 use Rattle.std.proofs.Common.{arith, mod-eq_of_lt, mul_comm, mul_assoc, add_comm, zero-add}
 use Rattle.std.specs.Int.{bit_at}
@@ -111,7 +111,7 @@ module _ {z : List ℕ} {first n v : ℕ} (s : Spells z first n v) where
       ∙ ap₂ (λ a b. (a + b) % P) (value-bits_below (omega arith)) (value-constant assigns 1)
       ∙ omega arith
 
--- wires that hold the bits of a number below 2 ^ n spell it
+-- wires that hold the bits of a number below 2 ^ n represent it
 pub Spells-from_bits : (z : List ℕ) (first n v : ℕ) → v < 2 ^ n → ((i : ℕ) → i < n → slice_index z (first + i) ≡ bit_at v i) → Spells z first n v
 Spells-from_bits z first n v below each = record {
   bits = λ i h. omega (arith, each i h, bit_at-lt v i);
@@ -122,7 +122,7 @@ Spells-from_bits z first n v below each = record {
 pub Spells-from_values : (z : List ℕ) (first n v : ℕ) → v < 2 ^ n → HasFrom z first (bits_values v n) → Spells z first n v
 Spells-from_values z first n v below has = Spells-from_bits z first n v below (has_each z first n (bit_at v) has)
 
--- a single bit spells the wire's number
+-- a single bit represents the wire's number
 spelled-one : (z : List ℕ) (first : ℕ) → spelled z first 1 ≡ slice_index z first
 spelled-one z first =
     let place : first + 0 ≡ first = omega arith in
@@ -133,7 +133,7 @@ spelled-one z first =
 pub Spells-one : (z : List ℕ) (first v : ℕ) → Spells z first 1 v → slice_index z first ≡ v
 Spells-one z first v s = sym (s.number ∙ spelled-one z first)
 
--- ---- parts: the low wires spell the remainder and the high wires the quotient by a power of 2, and two parts spell their sum
+-- ---- parts: the low wires represent the remainder and the high wires the quotient by a power of 2, and two parts represent their sum
 spelled-parts : (z : List ℕ) (first m n : ℕ) → spelled z first (m + n) ≡ spelled z (first + m) n * 2 ^ m + spelled z first m
 spelled-parts z first m n =
     let term : (i : ℕ) → 2 ^ (m + i) * slice_index z (first + (m + i)) ≡ 2 ^ m * (2 ^ i * slice_index z (first + m + i)) =

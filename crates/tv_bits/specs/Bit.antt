@@ -12,12 +12,12 @@ IsBit b = b < 2
 unfoldable pub bit_of : ℕ → Circuit (Unit {0})
 bit_of w = put (wire w) (wire w) (wire w)
 
--- an assignment that meets what was put has 0 or 1 at the wire
+-- an assignment that satisfies the constraints has 0 or 1 at the wire
 abbrev pub BitIsSound : Type 0
 BitIsSound = (z : List ℕ) (next w : ℕ) → Assigns z → Meets z (bit_of w next).list
     → IsBit (slice_index z w)
 
--- an assignment that has 0 or 1 at the wire meets what was put
+-- an assignment that has 0 or 1 at the wire satisfies the constraints
 abbrev pub BitIsComplete : Type 0
 BitIsComplete = (z : List ℕ) (next w : ℕ) → Assigns z → IsBit (slice_index z w)
     → Meets z (bit_of w next).list

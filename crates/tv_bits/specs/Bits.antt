@@ -1,4 +1,4 @@
--- Numbers spelled by bits.
+-- Binary expansions: numbers and their bits.
 use Rattle.std.specs.Prelude.{◌≡◌, ℕ, ◌+◌, ◌*◌, ◌%◌, ◌^◌, ◌<◌, ◌≤◌, List, slice_index}
 use Rattle.std.specs.Int.{bit_at}
 use Rattle.tv_bits.specs.Bit.{IsBit, bit_of}
@@ -19,10 +19,16 @@ bits_combination first n = weighted first n (λ i. 2 ^ i % P)
 abbrev pub spelled : List ℕ → ℕ → ℕ → ℕ
 spelled z first n = sum_below n (λ i. 2 ^ i * slice_index z (first + i))
 
--- n wires from a first one on spell v: each holds 0 or 1, and v is the sum of the powers of those that hold 1
+-- n wires from a first one on are the binary expansion of v: each holds 0 or 1, and v is the sum of the powers of those
+-- that hold 1
 pub record Spells (z : List ℕ) (first n v : ℕ) : Type 0 where
   pub bits : (i : ℕ) → i < n → IsBit (slice_index z (first + i))
   pub number : v ≡ spelled z first n
+
+-- the bits x are n, and their wires are below a number
+pub record AreBitsBelow (wires n : ℕ) (x : Bits) : Type 0 where
+  pub size : x.n ≡ n
+  pub below : x.first + n ≤ wires
 
 -- n of the bits x, from number low on
 abbrev pub part : Bits → ℕ → ℕ → Bits
@@ -45,34 +51,34 @@ new_bits_of n = do
   _ ← times n (λ _. new_bit)
   pure (record { first = first; n = n })
 
--- n new wires that spell x: each is held to 0 or 1, and the sum of their powers of 2 is x
+-- n new wires, the n-bit decomposition of x: each is held to 0 or 1, and the sum of their powers of 2 is x
 unfoldable pub bits_of : Combination → ℕ → Circuit Bits
 bits_of x n = do
   made ← new_bits_of n
   _ ← put (bits_combination made.first made.n) (constant 1) x
   pure made
 
--- an assignment that meets what was put has 0 or 1 at each wire, which so spell some number
+-- an assignment that satisfies the constraints has 0 or 1 at each wire: the bits of some number
 abbrev pub NewBitsAreSound : Type 0
 NewBitsAreSound = (z : List ℕ) (next n : ℕ) → Assigns z → Meets z (new_bits_of n next).list
     → Spells z (new_bits_of n next).answer.first n (spelled z (new_bits_of n next).answer.first n)
 
--- an assignment that has some number's bits at the wires that were made meets what was put
+-- an assignment that has some number's bits at the wires that were made satisfies the constraints
 abbrev pub NewBitsAreComplete : Type 0
 NewBitsAreComplete = (z : List ℕ) (next n x : ℕ) → Assigns z → HasFrom z next (bits_values x n)
     → Meets z (new_bits_of n next).list
 
--- in an assignment that meets what was put the wires spell the value, as a whole number
+-- in an assignment that satisfies the constraints the wires have the bits of the value, as a whole number
 abbrev pub BitsAreSound : Type 0
 BitsAreSound = (z : List ℕ) (next : ℕ) (x : Combination) (n : ℕ) → n ≤ 63 → Assigns z → Meets z (bits_of x n next).list
     → Spells z (bits_of x n next).answer.first n (value x z)
 
--- where the value is below 2 ^ n, an assignment that has its bits at the wires that were made meets what was put
+-- where the value is below 2 ^ n, an assignment that has its bits at the wires that were made satisfies the constraints
 abbrev pub BitsAreComplete : Type 0
 BitsAreComplete = (z : List ℕ) (next : ℕ) (x : Combination) (n : ℕ) → value x z < 2 ^ n → Assigns z
     → HasFrom z next (bits_values (value x z) n) → Meets z (bits_of x n next).list
 
--- which wires are answered, and that the values are one number of the field for each wire that is made
+-- which wires are returned, and that the values are one number of the field for each wire that is made
 pub record NewBitsSizes : Type 0 where
   pub answer : (n next : ℕ) → (new_bits_of n next).answer ≡ record { first = next; n = n }
   pub end : (n next : ℕ) → (new_bits_of n next).next ≡ next + n

@@ -26,12 +26,12 @@ whole w low high = low + 2 ^ w * high
 abbrev pub row_number : ℕ → DoubleRow → Combination
 row_number w row = (1, row.low) ∷ (2 ^ w % P, row.high) ∷ []
 
--- the bits of a row spell the words that its wires hold
+-- the bits of a row represent the words that its wires hold
 pub record SpellsRow (w : ℕ) (z : List ℕ) (row : DoubleRow) : Type 0 where
   pub low : Spells z row.first w (slice_index z row.low)
   pub high : Spells z (row.first + w) w (slice_index z row.high)
 
--- 2 w new bits, and the two words that they spell as wires
+-- 2 w new bits, and the two words that they represent as wires
 unfoldable pub row_wires_of : ℕ → Circuit DoubleRow
 row_wires_of w = do
   made ← new_bits_of (2 * w)
@@ -57,20 +57,20 @@ double_row_of w signed = do
 abbrev pub double_row_values : ℕ → ℕ → ℕ → ℕ → List ℕ
 double_row_values w low high signed = bits_values low w ++ (bits_values high w ++ (low ∷ high ∷ ratio_values (above_edge_in w high signed) low))
 
--- in an assignment that meets what was put the bits spell the wires' words, which are a row unless it is signed
+-- in an assignment that satisfies the constraints the bits represent the wires' words, which are a row unless it is signed
 pub record DoubleRowIsSound : Type 0 where
   pub spells : (w : ℕ) → IsWidth w → (z : List ℕ) (next : ℕ) (signed : Combination) → Assigns z → Meets z (double_row_of w signed next).list
       → SpellsRow w z (double_row_of w signed next).answer
   pub row : (w : ℕ) → IsWidth w → (z : List ℕ) (next : ℕ) (signed : Combination) → Assigns z → value signed z ≡ 0 → Meets z (double_row_of w signed next).list
       → IsRow w (slice_index z (double_row_of w signed next).answer.low) (slice_index z (double_row_of w signed next).answer.high)
 
--- an assignment that has two words' values at the wires that were made meets what was put, if they are a row or it is signed
+-- an assignment that has two words' values at the wires that were made satisfies the constraints, if they are a row or it is signed
 abbrev pub DoubleRowIsComplete : Type 0
 DoubleRowIsComplete = (w : ℕ) → IsWidth w → (z : List ℕ) (next : ℕ) (signed : Combination) (low high : ℕ) → Assigns z → low < 2 ^ w → high < 2 ^ w
     → IsBit (value signed z) → (value signed z ≡ 0 → IsRow w low high) → HasFrom z next (double_row_values w low high (value signed z))
     → Meets z (double_row_of w signed next).list
 
--- which wires are answered, and that the values are one number of the field for each wire that is made
+-- which wires are returned, and that the values are one number of the field for each wire that is made
 pub record DoubleRowSizes : Type 0 where
   pub answer : (w : ℕ) (signed : Combination) (next : ℕ)
       → (double_row_of w signed next).answer ≡ record { first = next; low = next + 2 * w; high = next + (2 * w + 1) }

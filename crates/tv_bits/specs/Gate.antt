@@ -10,12 +10,12 @@ use Rattle.tv_core.specs.Meanings.{terms_in}
 unfoldable pub gated_of : Combination → Combination → Combination → Circuit (Unit {0})
 gated_of gate x y = put gate (less x y) []
 
--- where the gate is 1, x and y have the same value in an assignment that meets what was put
+-- where the gate is 1, x and y have the same value in an assignment that satisfies the constraints
 abbrev pub GatedIsSound : Type 0
 GatedIsSound = (z : List ℕ) (next : ℕ) (gate x y : Combination) → value gate z ≡ 1 → Meets z (gated_of gate x y next).list
     → value x z ≡ value y z
 
--- an assignment in which x and y have the same value meets what was put, and so does one in which the gate is 0
+-- an assignment in which x and y have the same value satisfies the constraints, and so does one in which the gate is 0
 pub record GatedIsComplete : Type 0 where
   pub same : (z : List ℕ) (next : ℕ) (gate x y : Combination) → value x z ≡ value y z → Meets z (gated_of gate x y next).list
   pub off : (z : List ℕ) (next : ℕ) (gate x y : Combination) → value gate z ≡ 0 → Meets z (gated_of gate x y next).list

@@ -23,17 +23,17 @@ nonzero_of x = do
 abbrev pub nonzero_values : ℕ → List ℕ
 nonzero_values x = nonzero_flag x ∷ inverse_of x ∷ []
 
--- an assignment that meets what was put has the flag at the wire that was answered
+-- an assignment that satisfies the constraints has the flag at the returned wire
 abbrev pub NonzeroIsSound : Type 0
 NonzeroIsSound = (z : List ℕ) (next : ℕ) (x : Combination) → Assigns z → Meets z (nonzero_of x next).list
     → slice_index z (nonzero_of x next).answer ≡ nonzero_flag (value x z)
 
--- an assignment that has these values at the wires that were made meets what was put
+-- an assignment that has these values at the wires that were made satisfies the constraints
 abbrev pub NonzeroIsComplete : Type 0
 NonzeroIsComplete = (z : List ℕ) (next : ℕ) (x : Combination) → Assigns z → HasFrom z next (nonzero_values (value x z))
     → Meets z (nonzero_of x next).list
 
--- which wire is answered, and that the values are one number of the field for each wire that is made
+-- which wire is returned, and that the values are one number of the field for each wire that is made
 pub record NonzeroSizes : Type 0 where
   pub answer : (x : Combination) (next : ℕ) → (nonzero_of x next).answer ≡ next
   pub end : (x : Combination) (next : ℕ) → (nonzero_of x next).next ≡ next + 2

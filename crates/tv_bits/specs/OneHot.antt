@@ -34,7 +34,7 @@ mark_of x i = do
   w ← fresh
   put (wire w) (less x (constant (i % P))) []
 
--- a new wire for each number that the bits may spell, 0 unless they spell it; together the wires are 1
+-- a new wire for each number that the bits may have, 0 unless they have it; the sum of the wires is 1
 unfoldable pub onehot_of : Bits → Circuit ℕ
 onehot_of x = do
   first ← here
@@ -42,17 +42,17 @@ onehot_of x = do
   _ ← put (row_sum first (2 ^ x.n)) (constant 1) (constant 1)
   pure first
 
--- in an assignment that meets what was put, the wire of the number that is spelled is 1, and each other one 0
+-- in an assignment that satisfies the constraints, the wire of the number that is represented is 1, and each other one 0
 abbrev pub OneHotIsSound : Type 0
 OneHotIsSound = (z : List ℕ) (next : ℕ) (x : Bits) (v : ℕ) → x.n ≤ 63 → Assigns z → Spells z x.first x.n v → Meets z (onehot_of x next).list
     → IsOneHot z (onehot_of x next).answer (2 ^ x.n) v
 
--- an assignment that has these values at the wires that were made meets what was put
+-- an assignment that has these values at the wires that were made satisfies the constraints
 abbrev pub OneHotIsComplete : Type 0
 OneHotIsComplete = (z : List ℕ) (next : ℕ) (x : Bits) (v : ℕ) → Assigns z → Spells z x.first x.n v → HasFrom z next (onehot_values v x.n)
     → Meets z (onehot_of x next).list
 
--- which wire is answered, and that the values are one number of the field for each wire that is made
+-- which wire is returned, and that the values are one number of the field for each wire that is made
 pub record OneHotSizes : Type 0 where
   pub answer : (x : Bits) (next : ℕ) → (onehot_of x next).answer ≡ next
   pub end : (x : Bits) (next : ℕ) → (onehot_of x next).next ≡ next + 2 ^ x.n

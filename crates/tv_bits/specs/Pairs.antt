@@ -29,14 +29,14 @@ unfoldable pub two_ands_of : Combination → Combination → Combination → Com
 two_ands_of x_a y_a x_b y_b γ m =
     put (side x_a y_a x_b y_b γ 1) (side x_a y_a x_b y_b (negative γ) 1) (plus_times (side x_a y_a x_b y_b (negative (γ * γ)) 3) 2 m)
 
--- in an assignment that meets what was put, m is two ands, the four being bits
+-- in an assignment that satisfies the constraints, m is two ands, the four being bits
 abbrev pub TwoAndsAreSound : Type 0
 TwoAndsAreSound = (z : List ℕ) (next : ℕ) (x_a y_a x_b y_b : Combination) (γ : ℕ) (m : Combination) → Assigns z
     → IsBit (value x_a z) → IsBit (value y_a z) → IsBit (value x_b z) → IsBit (value y_b z)
     → Meets z (two_ands_of x_a y_a x_b y_b γ m next).list
     → value m z ≡ two_ands (value x_a z) (value y_a z) (value x_b z) (value y_b z) γ
 
--- an assignment in which m is two ands meets what was put, the four being bits
+-- an assignment in which m is two ands satisfies the constraints, the four being bits
 abbrev pub TwoAndsAreComplete : Type 0
 TwoAndsAreComplete = (z : List ℕ) (next : ℕ) (x_a y_a x_b y_b : Combination) (γ : ℕ) (m : Combination) → Assigns z
     → IsBit (value x_a z) → IsBit (value y_a z) → IsBit (value x_b z) → IsBit (value y_b z)

@@ -34,7 +34,7 @@ abbrev pub products_values : (ℕ → ℕ) → ℕ → List ℕ
 products_values f t = each_below (t - 2) (λ i. product_below (i + 2) f % P)
 
 -- ---- a difference of two prefixes
--- the number that the bits from place p on spell, without the p lowest
+-- the number that the bits from place p on represent, without the p lowest
 abbrev pub prefix : Bits → ℕ → Combination
 prefix x p = bits_combination (x.first + p) (x.n - p)
 
@@ -45,7 +45,7 @@ prefix_less x y d p = less (less (prefix x p) (prefix y p)) d
 abbrev pub prefix_less_in : ℕ → ℕ → ℕ → ℕ → ℕ
 prefix_less_in x y d p = (prefix_difference x y p + (P - d)) % P
 
--- d is the difference of the numbers that x and y spell in one of the t prefixes, cut by c bits
+-- d is the difference of the numbers that x and y represent in one of the t prefixes, cut by c bits
 unfoldable pub prefix_difference_of : Bits → Bits → Combination → ℕ → ℕ → Circuit (Unit {0})
 prefix_difference_of x y d c t = zero_product_of (λ j. prefix_less x y d (c * j)) t
 
@@ -53,14 +53,14 @@ prefix_difference_of x y d c t = zero_product_of (λ j. prefix_less x y d (c * j
 abbrev pub prefix_difference_values : ℕ → ℕ → ℕ → ℕ → ℕ → List ℕ
 prefix_difference_values x y d c t = products_values (λ j. prefix_less_in x y d (c * j)) t
 
--- in an assignment that meets what was put, d is the difference of some prefixes
+-- in an assignment that satisfies the constraints, d is the difference of some prefixes
 abbrev pub PrefixDifferenceIsSound : Type 0
 PrefixDifferenceIsSound = (z : List ℕ) (next : ℕ) (x y : Bits) (d : Combination) (c t v w : ℕ)
     → 2 ≤ t → c * (t - 1) ≤ x.n → c * (t - 1) ≤ y.n → x.n ≤ 63 → y.n ≤ 63
     → Assigns z → Spells z x.first x.n v → Spells z y.first y.n w → Meets z (prefix_difference_of x y d c t next).list
     → IsPrefixDifference c t v w (value d z)
 
--- where d is one, an assignment that has these values at the wires that were made meets what was put
+-- where d is one, an assignment that has these values at the wires that were made satisfies the constraints
 abbrev pub PrefixDifferenceIsComplete : Type 0
 PrefixDifferenceIsComplete = (z : List ℕ) (next : ℕ) (x y : Bits) (d : Combination) (c t v w : ℕ)
     → 2 ≤ t → c * (t - 1) ≤ x.n → c * (t - 1) ≤ y.n → x.n ≤ 63 → y.n ≤ 63

@@ -22,12 +22,12 @@ ratio a b = b * inverse_of a % P
 abbrev pub ratio_values : ℕ → ℕ → List ℕ
 ratio_values a b = ratio a b ∷ []
 
--- in an assignment that meets what was put, the wire that was answered times x is y
+-- in an assignment that satisfies the constraints, the returned wire times x is y
 abbrev pub RatioIsSound : Type 0
 RatioIsSound = (z : List ℕ) (next : ℕ) (x y : Combination) → Assigns z → Meets z (ratio_of x y next).list
     → value x z * slice_index z (ratio_of x y next).answer % P ≡ value y z
 
--- an assignment that has such a number at the wire that was made meets what was put
+-- an assignment that has such a number at the wire that was made satisfies the constraints
 abbrev pub RatioIsComplete : Type 0
 RatioIsComplete = (z : List ℕ) (next : ℕ) (x y : Combination) (q : ℕ) → Assigns z → value x z * q % P ≡ value y z → HasFrom z next (q ∷ [])
     → Meets z (ratio_of x y next).list
@@ -36,7 +36,7 @@ RatioIsComplete = (z : List ℕ) (next : ℕ) (x y : Combination) (q : ℕ) → 
 abbrev pub RatioDivides : Type 0
 RatioDivides = (a b : ℕ) → b < P → (a % P ≡ 0 → b ≡ 0) → a * ratio a b % P ≡ b
 
--- which wire is answered, and that the values are one number of the field for each wire that is made
+-- which wire is returned, and that the values are one number of the field for each wire that is made
 pub record RatioSizes : Type 0 where
   pub answer : (x y : Combination) (next : ℕ) → (ratio_of x y next).answer ≡ next
   pub end : (x y : Combination) (next : ℕ) → (ratio_of x y next).next ≡ next + 1

@@ -32,17 +32,17 @@ select_of b x y = pick_of (wire b) x y
 abbrev pub select_values : ℕ → ℕ → ℕ → List ℕ
 select_values b x y = selected b x y ∷ []
 
--- where b is a bit, an assignment that meets what was put has at the wire that was answered the value that b selects
+-- where b is a bit, an assignment that satisfies the constraints has at the returned wire the value that b selects
 abbrev pub SelectIsSound : Type 0
 SelectIsSound = (z : List ℕ) (next b : ℕ) (x y : Combination) → Assigns z → IsBit (slice_index z b) → Meets z (select_of b x y next).list
     → slice_index z (select_of b x y next).answer ≡ selected (slice_index z b) (value x z) (value y z)
 
--- where b is a bit, an assignment that has that value at the wire that was made meets what was put
+-- where b is a bit, an assignment that has that value at the wire that was made satisfies the constraints
 abbrev pub SelectIsComplete : Type 0
 SelectIsComplete = (z : List ℕ) (next b : ℕ) (x y : Combination) → Assigns z → IsBit (slice_index z b)
     → HasFrom z next (select_values (slice_index z b) (value x z) (value y z)) → Meets z (select_of b x y next).list
 
--- which wire is answered, and that there is one value, a number of the field, for the wire that is made
+-- which wire is returned, and that there is one value, a number of the field, for the wire that is made
 pub record SelectSizes : Type 0 where
   pub answer : (b : ℕ) (x y : Combination) (next : ℕ) → (select_of b x y next).answer ≡ next
   pub end : (b : ℕ) (x y : Combination) (next : ℕ) → (select_of b x y next).next ≡ next + 1
@@ -50,17 +50,17 @@ pub record SelectSizes : Type 0 where
   pub in_field : (c v w : ℕ) → v < P → w < P → InField (select_values c v w)
 
 -- ---- a choice by a combination that is a bit
--- where b is a bit, an assignment that meets what was put has at the wire that was answered the value that b selects
+-- where b is a bit, an assignment that satisfies the constraints has at the returned wire the value that b selects
 abbrev pub PickIsSound : Type 0
 PickIsSound = (z : List ℕ) (next : ℕ) (b x y : Combination) → Assigns z → IsBit (value b z) → Meets z (pick_of b x y next).list
     → slice_index z (pick_of b x y next).answer ≡ selected (value b z) (value x z) (value y z)
 
--- where b is a bit, an assignment that has that value at the wire that was made meets what was put
+-- where b is a bit, an assignment that has that value at the wire that was made satisfies the constraints
 abbrev pub PickIsComplete : Type 0
 PickIsComplete = (z : List ℕ) (next : ℕ) (b x y : Combination) → Assigns z → IsBit (value b z)
     → HasFrom z next (select_values (value b z) (value x z) (value y z)) → Meets z (pick_of b x y next).list
 
--- which wire is answered, and that there is one value, a number of the field, for the wire that is made
+-- which wire is returned, and that there is one value, a number of the field, for the wire that is made
 pub record PickSizes : Type 0 where
   pub answer : (b x y : Combination) (next : ℕ) → (pick_of b x y next).answer ≡ next
   pub end : (b x y : Combination) (next : ℕ) → (pick_of b x y next).next ≡ next + 1

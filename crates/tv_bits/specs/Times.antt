@@ -18,17 +18,17 @@ times_of x y = do
 abbrev pub times_values : ℕ → ℕ → List ℕ
 times_values a b = a * b % P ∷ []
 
--- an assignment that meets what was put has the product at the wire that was answered
+-- an assignment that satisfies the constraints has the product at the returned wire
 abbrev pub TimesIsSound : Type 0
 TimesIsSound = (z : List ℕ) (next : ℕ) (x y : Combination) → Assigns z → Meets z (times_of x y next).list
     → slice_index z (times_of x y next).answer ≡ value x z * value y z % P
 
--- an assignment that has the product at the wire that was made meets what was put
+-- an assignment that has the product at the wire that was made satisfies the constraints
 abbrev pub TimesIsComplete : Type 0
 TimesIsComplete = (z : List ℕ) (next : ℕ) (x y : Combination) → Assigns z → HasFrom z next (times_values (value x z) (value y z))
     → Meets z (times_of x y next).list
 
--- which wire is answered, and that the values are one number of the field for each wire that is made
+-- which wire is returned, and that the values are one number of the field for each wire that is made
 pub record TimesSizes : Type 0 where
   pub answer : (x y : Combination) (next : ℕ) → (times_of x y next).answer ≡ next
   pub end : (x y : Combination) (next : ℕ) → (times_of x y next).next ≡ next + 1
@@ -44,15 +44,15 @@ kept_of x = times_of x (constant 1)
 abbrev pub kept_values : ℕ → List ℕ
 kept_values v = v ∷ []
 
--- in an assignment that meets what was put the wire holds the value
+-- in an assignment that satisfies the constraints the wire holds the value
 abbrev pub KeptIsSound : Type 0
 KeptIsSound = (z : List ℕ) (next : ℕ) (x : Combination) → Assigns z → Meets z (kept_of x next).list → slice_index z (kept_of x next).answer ≡ value x z
 
--- an assignment that has the value at the wire that was made meets what was put
+-- an assignment that has the value at the wire that was made satisfies the constraints
 abbrev pub KeptIsComplete : Type 0
 KeptIsComplete = (z : List ℕ) (next : ℕ) (x : Combination) → Assigns z → HasFrom z next (kept_values (value x z)) → Meets z (kept_of x next).list
 
--- which wire is answered, and that the values are one number of the field for each wire that is made
+-- which wire is returned, and that the values are one number of the field for each wire that is made
 pub record KeptSizes : Type 0 where
   pub answer : (x : Combination) (next : ℕ) → (kept_of x next).answer ≡ next
   pub end : (x : Combination) (next : ℕ) → (kept_of x next).next ≡ next + 1

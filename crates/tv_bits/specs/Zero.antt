@@ -23,17 +23,17 @@ zero_of x = do
 abbrev pub zero_values : ℕ → List ℕ
 zero_values x = zero_flag x ∷ inverse_of x ∷ []
 
--- an assignment that meets what was put has the flag at the wire that was answered
+-- an assignment that satisfies the constraints has the flag at the returned wire
 abbrev pub ZeroIsSound : Type 0
 ZeroIsSound = (z : List ℕ) (next : ℕ) (x : Combination) → Assigns z → Meets z (zero_of x next).list
     → slice_index z (zero_of x next).answer ≡ zero_flag (value x z)
 
--- an assignment that has these values at the wires that were made meets what was put
+-- an assignment that has these values at the wires that were made satisfies the constraints
 abbrev pub ZeroIsComplete : Type 0
 ZeroIsComplete = (z : List ℕ) (next : ℕ) (x : Combination) → Assigns z → HasFrom z next (zero_values (value x z))
     → Meets z (zero_of x next).list
 
--- which wire is answered, and that the values are one number of the field for each wire that is made
+-- which wire is returned, and that the values are one number of the field for each wire that is made
 pub record ZeroSizes : Type 0 where
   pub answer : (x : Combination) (next : ℕ) → (zero_of x next).answer ≡ next
   pub end : (x : Combination) (next : ℕ) → (zero_of x next).next ≡ next + 2

@@ -22,12 +22,12 @@ zero_sign_of y f sign = do
 abbrev pub zero_sign_values : ℕ → ℕ → List ℕ
 zero_sign_values y sign = ratio y sign ∷ []
 
--- an assignment that meets what was put has the sign at f where it has 0 at y, and else 0
+-- an assignment that satisfies the constraints has the sign at f where it has 0 at y, and else 0
 abbrev pub ZeroSignIsSound : Type 0
 ZeroSignIsSound = (z : List ℕ) (next y f : ℕ) (sign : Combination) → Assigns z → Meets z (zero_sign_of y f sign next).list
     → slice_index z f ≡ sign_at_zero (slice_index z y) (value sign z)
 
--- an assignment that has this number at f, and this value at the wire that was made, meets what was put
+-- an assignment that has this number at f, and this value at the wire that was made, satisfies the constraints
 abbrev pub ZeroSignIsComplete : Type 0
 ZeroSignIsComplete = (z : List ℕ) (next y f : ℕ) (sign : Combination) → Assigns z → slice_index z f ≡ sign_at_zero (slice_index z y) (value sign z)
     → HasFrom z next (zero_sign_values (slice_index z y) (value sign z)) → Meets z (zero_sign_of y f sign next).list

@@ -36,13 +36,13 @@ pub fn fill_bit<V: Values>(v: &mut V, _w: F) -> Put<()>
     Ok(())
 }
 
-/// Where an assignment meets what `bit` put, the wire holds 0 or 1.
+/// Where an assignment satisfies the constraints of `bit`, the wire holds 0 or 1.
 #[tactic(auto, using(crate::proofs::BitLaws::bit_sound))]
 pub fn bit_is_sound()
     ensures { BitIsSound }
 {}
 
-/// Where an assignment has 0 or 1 at the wire, it meets what `bit` put.
+/// Where an assignment has 0 or 1 at the wire, it satisfies the constraints of `bit`.
 #[tactic(auto, using(crate::proofs::BitLaws::bit_complete))]
 pub fn bit_is_complete()
     ensures { BitIsComplete }

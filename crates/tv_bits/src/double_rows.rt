@@ -147,15 +147,15 @@ fn above_edge<const W: u32>(high: u32, signed: bool) -> F
     F::from(high) - F::of((1 << W) - 1) - F::from(signed)
 }
 
-/// Where an assignment meets what `double_row` put, the bits are those of the two words at its
-/// wires, which are a row unless it is signed.
+/// Where an assignment satisfies the constraints of `double_row`, the bits are those of the two
+/// words at its wires, which are a row unless it is signed.
 #[tactic(auto, using(crate::proofs::DoubleRowLaws::double_row_sound))]
 pub fn double_row_is_sound()
     ensures { DoubleRowIsSound }
 {}
 
 /// Where two words are a row, or it is signed, an assignment that has the values that
-/// `fill_double_row` assigns meets what `double_row` put.
+/// `fill_double_row` assigns satisfies the constraints of `double_row`.
 #[tactic(auto, using(crate::proofs::DoubleRowLaws::double_row_complete))]
 pub fn double_row_is_complete()
     ensures { DoubleRowIsComplete }

@@ -32,13 +32,15 @@ pub fn gated<S: Sink>(
     s.put(gate, &scratch.b, &scratch.c)
 }
 
-/// Where the gate is 1 and an assignment meets what `gated` put, the two values are the same.
+/// Where the gate is 1 and an assignment satisfies the constraints of `gated`, the two values are
+/// the same.
 #[tactic(auto, using(crate::proofs::GateLaws::gated_sound))]
 pub fn gated_is_sound()
     ensures { GatedIsSound }
 {}
 
-/// Where the two values are the same, or the gate is 0, an assignment meets what `gated` put.
+/// Where the two values are the same, or the gate is 0, an assignment satisfies the constraints of
+/// `gated`.
 #[tactic(auto, using(crate::proofs::GateLaws::gated_complete))]
 pub fn gated_is_complete()
     ensures { GatedIsComplete }

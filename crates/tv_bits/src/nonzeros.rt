@@ -43,13 +43,14 @@ fn nonzero_values(x: F) -> [F; 2]
     [F::from(x != F::ZERO), x.inverse_or_zero()]
 }
 
-/// Where an assignment meets what `nonzero_by` put, its flag is right.
+/// Where an assignment satisfies the constraints of `nonzero_by`, its flag is right.
 #[tactic(auto, using(crate::proofs::NonzeroLaws::nonzero_sound))]
 pub fn nonzero_is_sound()
     ensures { NonzeroIsSound }
 {}
 
-/// Where an assignment has the values that `fill_nonzero` assigns, it meets what `nonzero_by` put.
+/// Where an assignment has the values that `fill_nonzero` assigns, it satisfies the constraints of
+/// `nonzero_by`.
 #[tactic(auto, using(crate::proofs::NonzeroLaws::nonzero_complete))]
 pub fn nonzero_is_complete()
     ensures { NonzeroIsComplete }

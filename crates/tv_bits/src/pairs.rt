@@ -77,15 +77,15 @@ fn fill_side(
     lc.plus_scaled(-c, y_b);
 }
 
-/// In an assignment that meets what `two_ands` put, `m` is the sum of the products, the four being
-/// bits.
+/// In an assignment that satisfies the constraints of `two_ands`, `m` is the sum of the products,
+/// the four being bits.
 #[tactic(auto, using(crate::proofs::PairLaws::two_ands_sound))]
 pub fn two_ands_are_sound()
     ensures { TwoAndsAreSound }
 {}
 
-/// An assignment in which `m` is the sum of the products meets what `two_ands` put, the four being
-/// bits.
+/// An assignment in which `m` is the sum of the products satisfies the constraints of `two_ands`,
+/// the four being bits.
 #[tactic(auto, using(crate::proofs::PairLaws::two_ands_complete))]
 pub fn two_ands_are_complete()
     ensures { TwoAndsAreComplete }

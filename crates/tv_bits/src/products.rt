@@ -54,13 +54,14 @@ pub fn ratio_by<S: Sink>(s: &mut S, ratio: &mut Lc, x: &Lc, y: &Lc) -> Put<Wire>
     Ok(w)
 }
 
-/// Where an assignment meets what `times_by` put, the wire holds the product.
+/// Where an assignment satisfies the constraints of `times_by`, the wire holds the product.
 #[tactic(auto, using(crate::proofs::TimesLaws::times_sound))]
 pub fn times_is_sound()
     ensures { TimesIsSound }
 {}
 
-/// Where an assignment has the product at the wire that was made, it meets what `times_by` put.
+/// Where an assignment has the product at the wire that was made, it satisfies the constraints of
+/// `times_by`.
 #[tactic(auto, using(crate::proofs::TimesLaws::times_complete))]
 pub fn times_is_complete()
     ensures { TimesIsComplete }
@@ -73,13 +74,14 @@ pub fn times_fills()
     ensures { TimesSizes }
 {}
 
-/// Where an assignment meets what `kept_by` put, its wire holds the value.
+/// Where an assignment satisfies the constraints of `kept_by`, its wire holds the value.
 #[tactic(auto, using(crate::proofs::TimesLaws::kept_sound))]
 pub fn kept_is_sound()
     ensures { KeptIsSound }
 {}
 
-/// Where an assignment has the value at the wire that was made, it meets what `kept_by` put.
+/// Where an assignment has the value at the wire that was made, it satisfies the constraints of
+/// `kept_by`.
 #[tactic(auto, using(crate::proofs::TimesLaws::kept_complete))]
 pub fn kept_is_complete()
     ensures { KeptIsComplete }
@@ -92,15 +94,16 @@ pub fn kept_fills()
     ensures { KeptSizes }
 {}
 
-/// Where an assignment meets what `ratio_by` put, the wire times the first number is the second.
+/// Where an assignment satisfies the constraints of `ratio_by`, the wire times the first number is
+/// the second.
 #[tactic(auto, using(crate::proofs::TimesLaws::ratio_sound))]
 pub fn ratio_is_sound()
     ensures { RatioIsSound }
 {}
 
-/// Where an assignment has a number at the wire that times the first number is the second, it meets
-/// what `ratio_by` put; and the second times the inverse of the first, 0 where the first is 0, is
-/// one, unless the first number is 0 and the second isn't.
+/// Where an assignment has at the wire a number whose product with the first is the second, it
+/// satisfies the constraints of `ratio_by`; and the second times the inverse of the first, 0 where
+/// the first is 0, is one, unless the first number is 0 and the second isn't.
 #[tactic(auto, using(crate::proofs::TimesLaws::ratio_laws))]
 pub fn ratio_is_complete()
     ensures meets { RatioIsComplete }

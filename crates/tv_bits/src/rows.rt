@@ -96,15 +96,15 @@ fn row_len(n: u32) -> u32
     1 << n
 }
 
-/// Where an assignment meets what `onehot` put for the bits of a number, that number's wire is 1
-/// and each other one 0.
+/// Where an assignment satisfies the constraints of `onehot` for the bits of a number, that
+/// number's wire is 1 and each other one 0.
 #[tactic(auto, using(crate::proofs::OneHotLaws::onehot_sound))]
 pub fn onehot_is_sound()
     ensures { OneHotIsSound }
 {}
 
 /// Where wires hold the bits of a number and an assignment has the values that `fill_onehot`
-/// assigns for it, it meets what `onehot` put.
+/// assigns for it, it satisfies the constraints of `onehot`.
 #[tactic(auto, using(crate::proofs::OneHotLaws::onehot_complete))]
 pub fn onehot_is_complete()
     ensures { OneHotIsComplete }

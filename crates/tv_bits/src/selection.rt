@@ -133,14 +133,15 @@ fn selected(b: F, x: F, y: F) -> F
     if b.number() == 1 { x } else { y }
 }
 
-/// Where an assignment has a bit at `b` and meets what `select` put, it has the selected value.
+/// Where an assignment has a bit at `b` and satisfies the constraints of `select`, it has the
+/// selected value.
 #[tactic(auto, using(crate::proofs::SelectLaws::select_sound))]
 pub fn select_is_sound()
     ensures { SelectIsSound }
 {}
 
-/// Where an assignment has a bit at `b` and the value that `fill_select` assigns, it meets what
-/// `select` put.
+/// Where an assignment has a bit at `b` and the value that `fill_select` assigns, it satisfies the
+/// constraints of `select`.
 #[tactic(auto, using(crate::proofs::SelectLaws::select_complete))]
 pub fn select_is_complete()
     ensures { SelectIsComplete }
@@ -160,15 +161,15 @@ pub fn select_fills()
     ensures { SelectSizes }
 {}
 
-/// Where the combination is a bit in an assignment that meets what `pick_by` put, its wire holds
-/// the selected value.
+/// Where the combination is a bit in an assignment that satisfies the constraints of `pick_by`, its
+/// wire holds the selected value.
 #[tactic(auto, using(crate::proofs::SelectLaws::pick_sound))]
 pub fn pick_is_sound()
     ensures { PickIsSound }
 {}
 
 /// Where the combination is a bit in an assignment that has the selected value at the wire that
-/// was made, it meets what `pick_by` put.
+/// was made, it satisfies the constraints of `pick_by`.
 #[tactic(auto, using(crate::proofs::SelectLaws::pick_complete))]
 pub fn pick_is_complete()
     ensures { PickIsComplete }

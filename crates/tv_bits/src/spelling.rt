@@ -95,27 +95,27 @@ fn bit_at(x: F, i: u32) -> F
     F::of((x.number() >> i) % 2)
 }
 
-/// Where an assignment meets what `new_bits` put, the wires hold 0 or 1.
+/// Where an assignment satisfies the constraints of `new_bits`, the wires hold 0 or 1.
 #[tactic(auto, using(crate::proofs::SpellingLaws::new_bits_sound))]
 pub fn new_bits_are_sound()
     ensures { NewBitsAreSound }
 {}
 
-/// Where an assignment has the values that `fill_bits` assigns for any number, it meets what
-/// `new_bits` put.
+/// Where an assignment has the values that `fill_bits` assigns for any number, it satisfies the
+/// constraints of `new_bits`.
 #[tactic(auto, using(crate::proofs::SpellingLaws::new_bits_complete))]
 pub fn new_bits_are_complete()
     ensures { NewBitsAreComplete }
 {}
 
-/// Where an assignment meets what `bits` put, the wires hold the bits of the value.
+/// Where an assignment satisfies the constraints of `bits`, the wires hold the bits of the value.
 #[tactic(auto, using(crate::proofs::SpellingLaws::bits_sound))]
 pub fn bits_are_sound()
     ensures { BitsAreSound }
 {}
 
 /// Where the value is below 2^n and an assignment has the values that `fill_bits` assigns, it
-/// meets what `bits` put.
+/// satisfies the constraints of `bits`.
 #[tactic(auto, using(crate::proofs::SpellingLaws::bits_complete))]
 pub fn bits_are_complete()
     ensures { BitsAreComplete }

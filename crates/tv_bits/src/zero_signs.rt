@@ -48,15 +48,15 @@ pub fn fill_zero_sign<V: Values>(v: &mut V, y: F, sign: F) -> Put<()>
     v.give(sign * y.inverse_or_zero())
 }
 
-/// Where an assignment meets what `zero_sign` put, it has the sign at `f` where it has 0 at `y`,
-/// and else 0.
+/// Where an assignment satisfies the constraints of `zero_sign`, it has the sign at `f` where it
+/// has 0 at `y`, and else 0.
 #[tactic(auto, using(crate::proofs::ZeroSignLaws::zero_sign_sound))]
 pub fn zero_sign_is_sound()
     ensures { ZeroSignIsSound }
 {}
 
 /// Where an assignment has the sign at `f` if it has 0 at `y`, else 0 there, and the value that
-/// `fill_zero_sign` assigns, it meets what `zero_sign` put.
+/// `fill_zero_sign` assigns, it satisfies the constraints of `zero_sign`.
 #[tactic(auto, using(crate::proofs::ZeroSignLaws::zero_sign_complete))]
 pub fn zero_sign_is_complete()
     ensures { ZeroSignIsComplete }

@@ -52,13 +52,14 @@ fn zero_values(x: F) -> [F; 2]
     [F::from(x == F::ZERO), x.inverse_or_zero()]
 }
 
-/// Where an assignment meets what `zero` put, its flag is right.
+/// Where an assignment satisfies the constraints of `zero`, its flag is right.
 #[tactic(auto, using(crate::proofs::ZeroLaws::zero_sound))]
 pub fn zero_is_sound()
     ensures { ZeroIsSound }
 {}
 
-/// Where an assignment has the values that `fill_zero` assigns, it meets what `zero` put.
+/// Where an assignment has the values that `fill_zero` assigns, it satisfies the constraints of
+/// `zero`.
 #[tactic(auto, using(crate::proofs::ZeroLaws::zero_complete))]
 pub fn zero_is_complete()
     ensures { ZeroIsComplete }

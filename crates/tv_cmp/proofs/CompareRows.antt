@@ -23,7 +23,7 @@ minus_one_not_greater = refl
 greatest_signed : greater_flag 32 2147483647 2147483648 ≡ 1
 greatest_signed = refl
 
--- 3 is below 5 by 2, whose size less 1 is spelled by the first of the eight bits
+-- 3 is below 5 by 2, whose size less 1 is represented by the first of the eight bits
 three_and_five : compare_values 32 3 5 ≡ 0 ∷ 0 ∷ 1 ∷ 0 ∷ 0 ∷ 0 ∷ 0 ∷ 0 ∷ 0 ∷ 0 ∷ (P - 2) ∷ 0 ∷ 0 ∷ 0 ∷ []
 unfolding first_difference each_below
 three_and_five = refl

@@ -93,17 +93,17 @@ compare_values w x y =
     ++ signed_size w x y ∷ (prefix_difference_values x y (signed_size w x y) (w / 4) 4 ++ greater_flag w x y ∷ []))
 
 -- ---- the laws
--- an assignment that meets what was put for bits that spell two words has their flags
+-- an assignment that satisfies the constraints for bits that represent two words has their flags
 abbrev pub CompareIsSound : Type 0
 CompareIsSound = (w : ℕ) → IsWidth w → (z : List ℕ) (next : ℕ) (x y : Bits) (a b : ℕ) → Assigns z → Spells z x.first w a → Spells z y.first w b
     → Meets z (compare_of w x y next).list → IsCompared w z (compare_of w x y next).answer a b
 
--- an assignment that has the values of two words at the wires that were made meets what was put
+-- an assignment that has the values of two words at the wires that were made satisfies the constraints
 abbrev pub CompareIsComplete : Type 0
 CompareIsComplete = (w : ℕ) → IsWidth w → (z : List ℕ) (next : ℕ) (x y : Bits) (a b : ℕ) → Assigns z → Spells z x.first w a → Spells z y.first w b
     → HasFrom z next (compare_values w a b) → Meets z (compare_of w x y next).list
 
--- what the circuit answers and where it ends; the values are as many as the wires that it makes, and in the field
+-- what the circuit returns and where it ends; it has one value for each wire that it makes, all in the field
 pub record CompareSizes : Type 0 where
   pub answer : (w : ℕ) (x y : Bits) (next : ℕ) → (compare_of w x y next).answer ≡ record { equal = next; above = next + 1; greater = next + (w / 4 + 5) }
   pub end : (w : ℕ) (x y : Bits) (next : ℕ) → (compare_of w x y next).next ≡ next + (w / 4 + 6)

@@ -1,5 +1,7 @@
 //! The comparison of two words, as numbers and as signed numbers.
-ghost use Rattle.std.specs.Prelude.{◌≡◌, ◌+◌, ◌-◌, ◌/◌, ◌≤◌, ◌<◌, ◌^◌, int_lt, false, IfOk, OnOk};
+ghost use Rattle.std.specs.Prelude.{◌≡◌, ◌+◌, ◌-◌, ◌/◌, ◌≤◌, ◌<◌, ◌^◌, int_lt, false, max, IfOk};
+ghost use Rattle.std.specs.Prelude.{OnOk};
+ghost use Rattle.tv_bits.specs.Bits.{AreBitsBelow};
 ghost use Rattle.tv_cmp.specs.Compare.{sign, but_for_signs, order_flags_of, signed_size_of};
 ghost use Rattle.tv_cmp.specs.Compare.{greater_of, compare_of, size, signed_size, compare_values};
 ghost use Rattle.tv_cmp.specs.Compare.{CompareIsSound, CompareIsComplete, CompareSizes};
@@ -34,15 +36,12 @@ pub struct Cmp {
 pub fn compare<const W: u32, S: Sink>(s: &mut S, x: &Bits, y: &Bits) -> Put<Cmp>
     requires width { IsWidth W }
     requires room { Room S.meaning s.old (W / 4 + 6) (W / 4 + 8) }
-    requires x_word { x.now.n ≡ W }
-    requires y_word { y.now.n ≡ W }
-    requires x_made { x.now.first + W ≤ S.meaning.wires s.old }
-    requires y_made { y.now.first + W ≤ S.meaning.wires s.old }
+    requires x_word { AreBitsBelow (S.meaning.wires s.old) W x.now }
+    requires y_word { AreBitsBelow (S.meaning.wires s.old) W y.now }
     ensures puts { PutsIn S.meaning s.old s.new (compare_of W x.now y.now) result }
     ensures grows { IfOk result (λ _. Grows S.meaning s.old s.new (W / 4 + 6) (W / 4 + 8)) }
-    ensures equal_below { IfOk result (λ cmp. cmp.equal < S.meaning.wires s.new) }
-    ensures above_below { IfOk result (λ cmp. cmp.above < S.meaning.wires s.new) }
-    ensures greater_below { IfOk result (λ cmp. cmp.greater < S.meaning.wires s.new) }
+    ensures below { IfOk result (λ cmp. max cmp.equal (max cmp.above cmp.greater)
+        < S.meaning.wires s.new) }
 {
     let equal = s.fresh();
     let above = s.fresh();
@@ -70,10 +69,8 @@ fn order_flags<const W: u32, S: Sink>(
 ) -> Put<()>
     requires width { IsWidth W }
     requires room { Room S.meaning s.old 0 3 }
-    requires x_word { x.now.n ≡ W }
-    requires y_word { y.now.n ≡ W }
-    requires x_made { x.now.first + W ≤ S.meaning.wires s.old }
-    requires y_made { y.now.first + W ≤ S.meaning.wires s.old }
+    requires x_word { AreBitsBelow (S.meaning.wires s.old) W x.now }
+    requires y_word { AreBitsBelow (S.meaning.wires s.old) W y.now }
     requires equal_made { equal < S.meaning.wires s.old }
     requires above_made { above < S.meaning.wires s.old }
     ensures puts { PutsIn S.meaning s.old s.new (order_flags_of W equal above x.now y.now) result }
@@ -208,15 +205,15 @@ fn is_greater<const W: u32>(x: u32, y: u32) -> bool
     signed_word::<W>(x) > signed_word::<W>(y)
 }
 
-/// Where an assignment meets what `compare` put for the bits of two words of `W` bits, the wires
-/// that it returned hold how the words compare.
+/// Where an assignment satisfies the constraints of `compare` for the bits of two words of `W`
+/// bits, the wires that it returned hold how the words compare.
 #[tactic(auto, using(crate::proofs::CompareLaws::compare_sound))]
 pub fn compare_is_sound()
     ensures { CompareIsSound }
 {}
 
 /// Where wires hold the bits of two words and an assignment has the values that `fill_compare`
-/// assigns for them, it meets what `compare` put.
+/// assigns for them, it satisfies the constraints of `compare`.
 #[tactic(auto, using(crate::proofs::CompareLaws::compare_complete))]
 pub fn compare_is_complete()
     ensures { CompareIsComplete }

@@ -19,7 +19,7 @@ use Rattle.tv_isa.specs.Instruction.{field}
 use Rattle.tv_isa.specs.declared.instr.Instr.{Instr}
 use Rattle.tv_word.specs.Widths.{IsWidth}
 
--- some of a word's bits spell a field of it
+-- some of a word's bits represent a field of it
 pub field_spelled : (z : List ℕ) (w first low count more v : ℕ) → low + (count + more) ≡ w → Spells z first w v
     → Spells z (first + low) count (field low count v)
 field_spelled z w first low count more v size s =
@@ -66,7 +66,7 @@ fields_sound w width z next h a v u assigns s r meets =
       reg = onehot_sound z source.next (part a 0 4) (u % 16) (omega arith) assigns (reg_spelled w width z h a v u s r) m4.0;
     }
 
--- what is had behind a row
+-- what an assignment has after a row
 row_had : (z : List ℕ) (at x n : ℕ) (rest : List ℕ) (b : Bits) → b.n ≡ n → HasFrom z at (onehot_values x n ++ rest)
     → HasFrom z at (onehot_values x n) × HasFrom z (onehot_of b at).next rest
 row_had z at x n rest b size has =

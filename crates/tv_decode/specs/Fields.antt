@@ -20,7 +20,7 @@ fields_of w h a = do
   reg ← onehot_of (part a 0 4)
   pure (record { op = op; imm = h.first + (w - 6); dest = dest; source = source; reg = reg })
 
--- what is answered where the first of these wires has this number
+-- what is returned, computed from the number of the first of these wires
 abbrev pub fields_wires : ℕ → Bits → ℕ → Fields
 fields_wires w h first = record { op = first; imm = h.first + (w - 6); dest = first + 32; source = first + 48; reg = first + 64 }
 
@@ -36,17 +36,17 @@ pub record AreFields (z : List ℕ) (fields : Fields) (i : Instr) : Type 0 where
   pub source : IsOneHot z fields.source 16 i.source
   pub reg : IsOneHot z fields.reg 16 (i.a % 16)
 
--- in an assignment that meets what was put the answer is the fields of the two words' instruction
+-- in an assignment that satisfies the constraints the result is the fields of the two words' instruction
 abbrev pub FieldsAreSound : Type 0
 FieldsAreSound = (w : ℕ) → IsWidth w → (z : List ℕ) (next : ℕ) (h a : Bits) (v u : ℕ) → Assigns z → Spells z h.first w v → Spells z a.first w u
     → Meets z (fields_of w h a next).list → AreFields z (fields_of w h a next).answer (decode w v u)
 
--- an assignment that has these values at the wires that were made meets what was put
+-- an assignment that has these values at the wires that were made satisfies the constraints
 abbrev pub FieldsAreComplete : Type 0
 FieldsAreComplete = (w : ℕ) → IsWidth w → (z : List ℕ) (next : ℕ) (h a : Bits) (v u : ℕ) → Assigns z → Spells z h.first w v → Spells z a.first w u
     → HasFrom z next (fields_values (decode w v u)) → Meets z (fields_of w h a next).list
 
--- what the circuit answers and where it ends; the values are as many as the wires that it makes, and in the field
+-- what the circuit returns and where it ends; it has one value for each wire that it makes, all in the field
 pub record FieldsSizes : Type 0 where
   pub answer : (w : ℕ) (h a : Bits) (next : ℕ) → (fields_of w h a next).answer ≡ fields_wires w h next
   pub end : (w : ℕ) (h a : Bits) (next : ℕ) → (fields_of w h a next).next ≡ next + 80

@@ -52,7 +52,7 @@ register_bits made = part made.second 0 4
 abbrev pub imm_wire : ℕ → InstructionWires → ℕ
 imm_wire w made = made.low.first + (w - 6)
 
--- the number that the bits below the opcode spell
+-- the number that the bits below the opcode represent
 abbrev pub number_of : Bits → Combination
 number_of bits = bits_combination bits.first bits.n
 
@@ -74,7 +74,7 @@ instruction_of w = do
   tail ← kept_of (number_of second)
   pure (record { low = low; op = row.first; second = second; head = head; tail = tail })
 
--- what is answered where the first of these wires has this number
+-- what is returned, computed from the number of the first of these wires
 abbrev pub instruction_wires : ℕ → ℕ → InstructionWires
 instruction_wires w first = record {
   low = record { first = first; n = w - 5 };
@@ -103,18 +103,18 @@ pub record IsDecoded (z : List ℕ) (w : ℕ) (made : InstructionWires) (h a : �
   pub register : value (number_of (register_bits made)) z ≡ a % 16
   pub second : Spells z made.second.first w a
 
--- in an assignment that meets what was put the wires hold two words and their instruction
+-- in an assignment that satisfies the constraints the wires hold two words and their instruction
 abbrev pub InstructionIsSound : Type 0
 InstructionIsSound = (w : ℕ) → IsWidth w → (z : List ℕ) (next : ℕ) → Assigns z → Meets z (instruction_of w next).list
     → let made = (instruction_of w next).answer in IsDecoded z w made (slice_index z made.head) (slice_index z made.tail)
 
--- an assignment that has the values of two words with a used opcode meets what was put, and the wires hold these words
+-- an assignment that has the values of two words with a used opcode satisfies the constraints, and the wires hold these words
 abbrev pub InstructionIsComplete : Type 0
 InstructionIsComplete = (w : ℕ) → IsWidth w → (z : List ℕ) (next head tail : ℕ) → Assigns z → head < 2 ^ w → tail < 2 ^ w
     → is_used (decode w head tail).op ≡ true → HasFrom z next (instruction_values w head tail)
     → Meets z (instruction_of w next).list × IsDecoded z w (instruction_of w next).answer head tail
 
--- which wires are answered, and that the values are one number of the field for each wire that is made
+-- which wires are returned, and that the values are one number of the field for each wire that is made
 pub record InstructionSizes : Type 0 where
   pub answer : (w next : ℕ) → (instruction_of w next).answer ≡ instruction_wires w next
   pub end : (w : ℕ) → IsWidth w → (next : ℕ) → (instruction_of w next).next ≡ next + (2 * w + 26)

@@ -124,7 +124,7 @@ fn place(k: u32) -> u32
 }
 
 impl InstructionWires {
-    /// The bits that name the source register.
+    /// Returns the bits that name the source register.
     pub fn source<const W: u32>(&self) -> Bits
         requires width { IsWidth W }
         requires low { self.now.low.n ≡ W - 5 }
@@ -134,7 +134,7 @@ impl InstructionWires {
         self.low.part(W - 14, 4)
     }
 
-    /// The bits that name the destination register.
+    /// Returns the bits that name the destination register.
     pub fn dest<const W: u32>(&self) -> Bits
         requires width { IsWidth W }
         requires low { self.now.low.n ≡ W - 5 }
@@ -144,7 +144,7 @@ impl InstructionWires {
         self.low.part(W - 10, 4)
     }
 
-    /// The bits of the second word that name a register.
+    /// Returns the bits of the second word that name a register.
     pub fn register<const W: u32>(&self) -> Bits
         requires width { IsWidth W }
         requires second { self.now.second.n ≡ W }
@@ -154,7 +154,7 @@ impl InstructionWires {
         self.second.part(0, 4)
     }
 
-    /// The immediate bit.
+    /// Returns the immediate bit.
     pub fn imm<const W: u32>(&self) -> Wire
         requires width { IsWidth W }
         requires within { self.now.low.first + W < 2 ^ 32 }
@@ -199,22 +199,23 @@ fn fill_row<V: Values>(v: &mut V, k: u32) -> Put<()>
     Ok(())
 }
 
-/// Where an assignment meets what `instruction` put, the wires hold two words of `W` bits and the
-/// fields of their instruction, whose opcode is used.
+/// Where an assignment satisfies the constraints of `instruction`, the wires hold two words of `W`
+/// bits and the fields of their instruction, whose opcode is used.
 #[tactic(auto, using(crate::proofs::InstructionLaws::instruction_sound))]
 pub fn instruction_is_sound()
     ensures { InstructionIsSound }
 {}
 
 /// Where an assignment has the values that `fill_instruction` assigns for two words of `W` bits
-/// with a used opcode, it meets what `instruction` put, and the wires hold these words.
+/// with a used opcode, it satisfies the constraints of `instruction`, and the wires hold these
+/// words.
 #[tactic(auto, using(crate::proofs::InstructionLaws::instruction_complete))]
 pub fn instruction_is_complete()
     ensures { InstructionIsComplete }
 {}
 
-/// Says which wires `instruction` answers and how many it makes, whatever the next wire is, and
-/// that `fill_instruction` assigns one value for each of them, below P.
+/// Says which wires `instruction` returns and how many it makes, whatever the next wire is, and
+/// that `fill_instruction` assigns one value to each of them, below P.
 #[tactic(auto, using(crate::proofs::InstructionLaws::instruction_sizes))]
 pub fn instruction_fills()
     ensures { InstructionSizes }

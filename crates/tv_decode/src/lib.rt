@@ -1,6 +1,6 @@
-//! The gadget that decodes an instruction of two words of `W` bits, 16 or 32: one-hot rows for
-//! its opcode and its registers, and its immediate bit. Contracts above cite `AreFields`; what it
-//! answers and how many wires it makes stand in `FieldsSizes`.
+//! The gadget that decodes an instruction of two words of `W` bits, 16 or 32: one-hot rows for its
+//! opcode and its registers, and its immediate bit. Contracts above cite `AreFields`; what it
+//! returns and how many wires it makes stand in `FieldsSizes`.
 #![tactic(auto)]
 
 mod decoding;

@@ -1,4 +1,4 @@
-//! What the gadget answers.
+//! What the gadget returns.
 use tv_bits::Bits;
 use tv_core::Wire;
 

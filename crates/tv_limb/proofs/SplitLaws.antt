@@ -18,7 +18,7 @@ pub split_next : (w : ℕ) (x : Combination) (n next : ℕ) → (split_of w x n 
 unfolding split_of pure ◌>>=◌
 split_next w x n next = bits_next x n next
 
--- what wires spell in two parts
+-- what wires represent in two parts
 pub SpellsParts-from_Spells : (w m : ℕ) (z : List ℕ) (first n v : ℕ) → Spells z first (w + m) v
     → SpellsParts w m z (split_at w (record { first = first; n = n })) (v % 2 ^ w) (v / 2 ^ w)
 SpellsParts-from_Spells w m z first n v s = record { low = Spells-low z first w m v s; high = Spells-high z first w m v s }

@@ -38,17 +38,17 @@ sub_of w x y = do
 abbrev pub sub_values : ℕ → ℕ → ℕ → List ℕ
 sub_values w x y = bits_values (difference w x y + 2 ^ w * borrow x y) (w + 1)
 
--- in an assignment that meets what was put the answer spells the difference modulo 2 ^ w, and the borrow
+-- in an assignment that satisfies the constraints the result represents the difference modulo 2 ^ w, and the borrow
 abbrev pub SubIsSound : Type 0
 SubIsSound = (w : ℕ) → IsWidth w → (z : List ℕ) (next : ℕ) (x y : Bits) (a b : ℕ) → Assigns z → Spells z x.first w a → Spells z y.first w b
     → Meets z (sub_of w x y next).list → SpellsParts w 1 z (sub_of w x y next).answer (difference w a b) (borrow a b)
 
--- an assignment that has these values at the wires that were made meets what was put
+-- an assignment that has these values at the wires that were made satisfies the constraints
 abbrev pub SubIsComplete : Type 0
 SubIsComplete = (w : ℕ) → IsWidth w → (z : List ℕ) (next : ℕ) (x y : Bits) (a b : ℕ) → Assigns z → Spells z x.first w a → Spells z y.first w b
     → HasFrom z next (sub_values w a b) → Meets z (sub_of w x y next).list
 
--- what the circuit answers and where it ends; the values are as many as the wires that it makes, and in the field
+-- what the circuit returns and where it ends; it has one value for each wire that it makes, all in the field
 pub record SubSizes : Type 0 where
   pub answer : (w : ℕ) (x y : Bits) (next : ℕ) → (sub_of w x y next).answer ≡ split_at w (record { first = next; n = w + 1 })
   pub end : (w : ℕ) (x y : Bits) (next : ℕ) → (sub_of w x y next).next ≡ next + (w + 1)

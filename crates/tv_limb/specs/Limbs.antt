@@ -13,7 +13,7 @@ low_limb w x = bits_combination x.first (w / 2)
 abbrev pub high_limb : ℕ → Bits → Combination
 high_limb w x = bits_combination (x.first + w / 2) (w / 2)
 
--- where the bits spell v, the values are its remainder and its quotient by 2 ^ (w / 2)
+-- where the bits represent v, the values are its remainder and its quotient by 2 ^ (w / 2)
 abbrev pub LimbsAreSound : Type 0
 LimbsAreSound = (w : ℕ) → IsWidth w → (z : List ℕ) (x : Bits) (v : ℕ) → Spells z x.first w v
     → (value (low_limb w x) z ≡ v % 2 ^ (w / 2)) × (value (high_limb w x) z ≡ v / 2 ^ (w / 2))

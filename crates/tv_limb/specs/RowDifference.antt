@@ -59,7 +59,7 @@ row_difference_of w gate by_sign strict x y row = do
 abbrev pub row_difference_values : ℕ → ℕ → ℕ → ℕ → List ℕ
 row_difference_values w by_sign a b = times_values by_sign ((bit_at a (w - 1) + (P - bit_at b (w - 1))) % P)
 
--- where the gate is 1, a row that meets what was put is the difference of the words
+-- where the gate is 1, a row that satisfies the constraints is the difference of the words
 abbrev pub RowDifferenceIsSound : Type 0
 RowDifferenceIsSound = (w : ℕ) → IsWidth w → (z : List ℕ) (next : ℕ) (gate by_sign strict : Combination) (x y : SignedWord) (row : DoubleRow) (a b : ℕ)
     → Assigns z
@@ -71,7 +71,7 @@ RowDifferenceIsSound = (w : ℕ) → IsWidth w → (z : List ℕ) (next : ℕ) (
 abbrev pub RowDifferenceEqual : Type 0
 RowDifferenceEqual = (w : ℕ) → IsWidth w → (a b : ℕ) → a < 2 ^ w → b < 2 ^ w → (difference_low w 0 a b == 0) ≡ (a == b)
 
--- the difference of two words is a row; with the value of the wire that was made, a row that holds it meets what was put,
+-- the difference of two words is a row; with the value of the wire that was made, a row that holds it satisfies the constraints,
 -- and where the gate is 0 any row does
 pub record RowDifferenceIsComplete : Type 0 where
   pub row : (w : ℕ) → IsWidth w → (by_sign strict a b : ℕ) → IsRow w (difference_low w strict a b) (difference_high w by_sign strict a b)

@@ -20,13 +20,13 @@ pub record IsRowSum (w : ℕ) (z : List ℕ) (row : DoubleRow) (a b : ℕ) : Typ
 unfoldable pub row_sum_of : ℕ → Combination → ℕ → ℕ → DoubleRow → Circuit (Unit {0})
 row_sum_of w gate x y row = gated_of gate (wire x ++ wire y) (row_number w row)
 
--- where the gate is 1 and the wires hold words, a row that meets what was put is their sum
+-- where the gate is 1 and the wires hold words, a row that satisfies the constraints is their sum
 abbrev pub RowSumIsSound : Type 0
 RowSumIsSound = (w : ℕ) → IsWidth w → (z : List ℕ) (next : ℕ) (gate : Combination) (x y : ℕ) (row : DoubleRow) → Assigns z → value gate z ≡ 1
     → slice_index z x < 2 ^ w → slice_index z y < 2 ^ w → IsRow w (slice_index z row.low) (slice_index z row.high)
     → Meets z (row_sum_of w gate x y row next).list → IsRowSum w z row (slice_index z x) (slice_index z y)
 
--- the sum of two words is a row, a row that holds it meets what was put, and where the gate is 0 any row does
+-- the sum of two words is a row, a row that holds it satisfies the constraints, and where the gate is 0 any row does
 pub record RowSumIsComplete : Type 0 where
   pub row : (w : ℕ) → IsWidth w → (a b : ℕ) → a < 2 ^ w → b < 2 ^ w → IsRow w ((a + b) % 2 ^ w) (carry w a b)
   pub on : (w : ℕ) → IsWidth w → (z : List ℕ) (next : ℕ) (gate : Combination) (x y : ℕ) (row : DoubleRow) → Assigns z

@@ -11,12 +11,12 @@ use Rattle.tv_limb.specs.declared.parts.Split.{Split}
 abbrev pub split_at : ℕ → Bits → Split
 split_at w x = record { low = record { first = x.first; n = w }; high = record { first = x.first + w; n = x.n - w } }
 
--- the w wires of the low part spell one number, and the m wires of the high part another
+-- the w wires of the low part represent one number, and the m wires of the high part another
 pub record SpellsParts (w m : ℕ) (z : List ℕ) (parts : Split) (v above : ℕ) : Type 0 where
   pub low : Spells z parts.low.first w v
   pub high : Spells z parts.high.first m above
 
--- n new wires that spell x, as the lowest w and those above
+-- the n-bit decomposition of x into new wires, as the lowest w and those above
 unfoldable pub split_of : ℕ → Combination → ℕ → Circuit Split
 split_of w x n = do
   made ← bits_of x n
@@ -26,17 +26,17 @@ split_of w x n = do
 abbrev pub split_values : ℕ → ℕ → List ℕ
 split_values x n = bits_values x n
 
--- in an assignment that meets what was put the parts spell the value's remainder and quotient by 2 ^ w
+-- in an assignment that satisfies the constraints the parts represent the value's remainder and quotient by 2 ^ w
 abbrev pub SplitIsSound : Type 0
 SplitIsSound = (w : ℕ) (z : List ℕ) (next : ℕ) (x : Combination) (n : ℕ) → w ≤ n → n ≤ 63 → Assigns z → Meets z (split_of w x n next).list
     → SpellsParts w (n - w) z (split_of w x n next).answer (value x z % 2 ^ w) (value x z / 2 ^ w)
 
--- where the value is below 2 ^ n, an assignment that has its bits at the wires that were made meets what was put
+-- where the value is below 2 ^ n, an assignment that has its bits at the wires that were made satisfies the constraints
 abbrev pub SplitIsComplete : Type 0
 SplitIsComplete = (w : ℕ) (z : List ℕ) (next : ℕ) (x : Combination) (n : ℕ) → value x z < 2 ^ n → Assigns z
     → HasFrom z next (split_values (value x z) n) → Meets z (split_of w x n next).list
 
--- what the circuit answers and where it ends; the values are as many as the wires that it makes, and in the field
+-- what the circuit returns and where it ends; it has one value for each wire that it makes, all in the field
 pub record SplitSizes : Type 0 where
   pub answer : (w : ℕ) (x : Combination) (n next : ℕ) → (split_of w x n next).answer ≡ split_at w (record { first = next; n = n })
   pub end : (w : ℕ) (x : Combination) (n next : ℕ) → (split_of w x n next).next ≡ next + n

@@ -26,17 +26,17 @@ add_of w x y = split_of w (sum_of_words w x y) (w + 1)
 abbrev pub add_values : ℕ → ℕ → ℕ → List ℕ
 add_values w x y = bits_values (x + y) (w + 1)
 
--- in an assignment that meets what was put the answer spells the sum modulo 2 ^ w, and the carry
+-- in an assignment that satisfies the constraints the result represents the sum modulo 2 ^ w, and the carry
 abbrev pub AddIsSound : Type 0
 AddIsSound = (w : ℕ) → IsWidth w → (z : List ℕ) (next : ℕ) (x y : Bits) (a b : ℕ) → Assigns z → Spells z x.first w a → Spells z y.first w b
     → Meets z (add_of w x y next).list → SpellsParts w 1 z (add_of w x y next).answer ((a + b) % 2 ^ w) (carry w a b)
 
--- an assignment that has these values at the wires that were made meets what was put
+-- an assignment that has these values at the wires that were made satisfies the constraints
 abbrev pub AddIsComplete : Type 0
 AddIsComplete = (w : ℕ) → IsWidth w → (z : List ℕ) (next : ℕ) (x y : Bits) (a b : ℕ) → Assigns z → Spells z x.first w a → Spells z y.first w b
     → HasFrom z next (add_values w a b) → Meets z (add_of w x y next).list
 
--- what the circuit answers and where it ends; the values are as many as the wires that it makes, and in the field
+-- what the circuit returns and where it ends; it has one value for each wire that it makes, all in the field
 pub record AddSizes : Type 0 where
   pub answer : (w : ℕ) (x y : Bits) (next : ℕ) → (add_of w x y next).answer ≡ split_at w (record { first = next; n = w + 1 })
   pub end : (w : ℕ) (x y : Bits) (next : ℕ) → (add_of w x y next).next ≡ next + (w + 1)

@@ -1,5 +1,6 @@
 //! The difference of two words, with its borrow.
 ghost use Rattle.std.specs.Prelude.{◌≡◌, ◌+◌, ◌*◌, ◌^◌, ◌≤◌, ◌<◌, false, max, IfOk, OnOk};
+ghost use Rattle.tv_bits.specs.Bits.{AreBitsBelow};
 ghost use Rattle.tv_core.specs.Combinations.{top};
 ghost use Rattle.tv_core.specs.Giving.{GivesIn};
 ghost use Rattle.tv_core.specs.Sinks.{PutsIn, Grows, Room};
@@ -17,16 +18,12 @@ use tv_core::{F, Lc, Put, Sink, Values};
 pub fn sub<const W: u32, S: Sink>(s: &mut S, x: &Bits, y: &Bits) -> Put<Split>
     requires width { IsWidth W }
     requires room { Room S.meaning s.old (W + 1) (W + 2) }
-    requires x_word { x.now.n ≡ W }
-    requires y_word { y.now.n ≡ W }
-    requires x_made { x.now.first + W ≤ S.meaning.wires s.old }
-    requires y_made { y.now.first + W ≤ S.meaning.wires s.old }
+    requires x_word { AreBitsBelow (S.meaning.wires s.old) W x.now }
+    requires y_word { AreBitsBelow (S.meaning.wires s.old) W y.now }
     ensures puts { PutsIn S.meaning s.old s.new (sub_of W x.now y.now) result }
     ensures grows { IfOk result (λ _. Grows S.meaning s.old s.new (W + 1) (W + 2)) }
-    ensures low_size { IfOk result (λ parts. parts.low.n ≡ W) }
-    ensures high_size { IfOk result (λ parts. parts.high.n ≡ 1) }
-    ensures low_below { IfOk result (λ parts. parts.low.first + W ≤ S.meaning.wires s.new) }
-    ensures high_below { IfOk result (λ parts. parts.high.first < S.meaning.wires s.new) }
+    ensures low { IfOk result (λ parts. AreBitsBelow (S.meaning.wires s.new) W parts.low) }
+    ensures high { IfOk result (λ parts. AreBitsBelow (S.meaning.wires s.new) 1 parts.high) }
 {
     let parts = split_at_word::<W>(new_bits(s, W + 1)?);
     s.put(
@@ -90,14 +87,14 @@ fn difference_and_borrow<const W: u32>(x: u32, y: u32) -> F
     F::of(if x < y { power + power + x - y } else { x - y })
 }
 
-/// Where the inputs spell words of `W` bits and an assignment meets what `sub` put, the answer
-/// spells their difference modulo 2^`W` and the borrow.
+/// Where the inputs represent words of `W` bits and an assignment satisfies the constraints of
+/// `sub`, the answer represents their difference modulo 2^`W` and the borrow.
 pub fn sub_is_sound()
     ensures { SubIsSound }
 {}
 
-/// Where the inputs spell words and an assignment has the values that `fill_sub` assigns for them,
-/// it meets what `sub` put.
+/// Where the inputs represent words and an assignment has the values that `fill_sub` assigns for
+/// them, it satisfies the constraints of `sub`.
 #[tactic(auto, using(crate::proofs::SubLaws::sub_complete))]
 pub fn sub_is_complete()
     ensures { SubIsComplete }

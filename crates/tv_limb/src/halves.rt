@@ -13,8 +13,7 @@ pub fn limbs<const W: u32>(x: &Bits) -> (Lc, Lc)
     requires width { IsWidth W }
     requires x_word { x.now.n ≡ W }
     requires within { x.now.first + W < 2 ^ 32 }
-    ensures low { result.0 ≡ low_limb W x.now }
-    ensures high { result.1 ≡ high_limb W x.now }
+    ensures limbs { result ≡ (low_limb W x.now, high_limb W x.now) }
     ensures low_below { top result.0 ≤ x.now.first + W / 2 }
     ensures high_below { top result.1 ≤ x.now.first + W }
     ensures low_len { length result.0 ≡ W / 2 }
@@ -23,7 +22,7 @@ pub fn limbs<const W: u32>(x: &Bits) -> (Lc, Lc)
     (x.part(0, W / 2).lc(), x.above(W / 2).lc())
 }
 
-/// Where the bits spell a number, the values of the two combinations are its remainder and its
+/// Where the bits represent a number, the values of the two combinations are its remainder and its
 /// quotient by 2^(`W / 2`).
 pub fn limbs_are_sound()
     ensures { LimbsAreSound }

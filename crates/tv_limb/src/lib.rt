@@ -1,7 +1,7 @@
 //! Words in parts: the halves of a word, a number as a word and what is above it, and the sum and
 //! the difference of two words with carry and borrow. A word has `W` bits, 16 or 32. Contracts
-//! above cite `SpellsParts`, which says which numbers the two parts of an answer spell; what a
-//! gadget answers and how many wires it makes stand in `SplitSizes`, `AddSizes` and `SubSizes`.
+//! above cite `SpellsParts`, which says which numbers the two parts of an answer represent; what a
+//! gadget returns and how many wires it makes stand in `SplitSizes`, `AddSizes` and `SubSizes`.
 //! `row_sum` and `row_difference` hold a row of twice the width to the sum of two words, or to
 //! their difference and order, under a gate.
 #![tactic(auto)]

@@ -37,12 +37,10 @@ pub fn row_difference<const W: u32, S: Sink>(
 ) -> Put<()>
     requires width { IsWidth W }
     requires room { Room S.meaning s.old 1 2 }
-    requires gate_made { top gate.now ≤ S.meaning.wires s.old }
-    requires by_sign_made { top by_sign.now ≤ S.meaning.wires s.old }
-    requires strict_made { top strict.now ≤ S.meaning.wires s.old }
+    requires flags_made { max (top gate.now) (max (top by_sign.now) (top strict.now))
+        ≤ S.meaning.wires s.old }
     requires strict_short { length strict.now ≤ 64 }
-    requires x_made { top_signed x.now ≤ S.meaning.wires s.old }
-    requires y_made { top_signed y.now ≤ S.meaning.wires s.old }
+    requires words_made { max (top_signed x.now) (top_signed y.now) ≤ S.meaning.wires s.old }
     requires row_made { top (row_number W row.now) ≤ S.meaning.wires s.old }
     ensures puts { PutsIn S.meaning s.old s.new
         (row_difference_of W gate.now by_sign.now strict.now x.now y.now row.now) result }
@@ -164,17 +162,17 @@ fn is_above<const W: u32>(by_sign: bool, strict: bool, x: u32, y: u32) -> bool
     }
 }
 
-/// Where the gate is 1, the wires hold words and an assignment meets what `row_difference` put, the
-/// row holds their difference and their order. Its low half is 0 exactly where the words are the
-/// same, `strict` being 0.
+/// Where the gate is 1, the wires hold words and an assignment satisfies the constraints of
+/// `row_difference`, the row holds their difference and their order. Its low half is 0 exactly
+/// where the words are the same, `strict` being 0.
 pub fn row_difference_is_sound()
     ensures sound { RowDifferenceIsSound }
     ensures equal { RowDifferenceEqual }
 {}
 
 /// Where the row holds the difference of the words, or the gate is 0, an assignment that has the
-/// value that `fill_row_difference` assigns meets what `row_difference` put; and the difference of
-/// two words is a row.
+/// value that `fill_row_difference` assigns satisfies the constraints of `row_difference`; and the
+/// difference of two words is a row.
 #[tactic(auto, using(crate::proofs::RowDifferenceLaws::row_difference_complete))]
 pub fn row_difference_is_complete()
     ensures { RowDifferenceIsComplete }

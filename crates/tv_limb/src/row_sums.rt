@@ -39,15 +39,15 @@ pub fn row_sum<const W: u32, S: Sink>(
     )
 }
 
-/// Where the gate is 1, the wires hold words and an assignment meets what `row_sum` put, the row
-/// holds their sum.
+/// Where the gate is 1, the wires hold words and an assignment satisfies the constraints of
+/// `row_sum`, the row holds their sum.
 #[tactic(auto, using(crate::proofs::RowSumLaws::row_sum_sound))]
 pub fn row_sum_is_sound()
     ensures { RowSumIsSound }
 {}
 
-/// Where the row holds the sum of the words, or the gate is 0, an assignment meets what `row_sum`
-/// put; and the sum of two words is a row.
+/// Where the row holds the sum of the words, or the gate is 0, an assignment satisfies the
+/// constraints of `row_sum`; and the sum of two words is a row.
 #[tactic(auto, using(crate::proofs::RowSumLaws::row_sum_complete))]
 pub fn row_sum_is_complete()
     ensures { RowSumIsComplete }

@@ -1,5 +1,6 @@
 //! A number as a word and what is above it.
 ghost use Rattle.std.specs.Prelude.{◌≡◌, ◌+◌, ◌-◌, ◌≤◌, false, IfOk, OnOk};
+ghost use Rattle.tv_bits.specs.Bits.{AreBitsBelow};
 ghost use Rattle.tv_core.specs.Combinations.{top};
 ghost use Rattle.tv_core.specs.Giving.{GivesIn};
 ghost use Rattle.tv_core.specs.Sinks.{PutsIn, Grows, Room};
@@ -20,11 +21,8 @@ pub fn split<const W: u32, S: Sink>(s: &mut S, x: &Lc, n: u32) -> Put<Split>
     requires short { n ≤ 63 }
     ensures puts { PutsIn S.meaning s.old s.new (split_of W x.now n) result }
     ensures grows { IfOk result (λ _. Grows S.meaning s.old s.new n (n + 1)) }
-    ensures low_size { IfOk result (λ parts. parts.low.n ≡ W) }
-    ensures high_size { IfOk result (λ parts. parts.high.n ≡ n - W) }
-    ensures low_below { IfOk result (λ parts. parts.low.first + W ≤ S.meaning.wires s.new) }
-    ensures high_below { IfOk result (λ parts. parts.high.first + parts.high.n
-        ≤ S.meaning.wires s.new) }
+    ensures low { IfOk result (λ parts. AreBitsBelow (S.meaning.wires s.new) W parts.low) }
+    ensures high { IfOk result (λ parts. AreBitsBelow (S.meaning.wires s.new) (n - W) parts.high) }
 {
     let made = bits(s, x, n)?;
     Ok(split_at_word::<W>(made))
@@ -41,15 +39,15 @@ pub fn fill_split<const W: u32, V: Values>(v: &mut V, x: F, n: u32) -> Put<()>
     fill_bits(v, x, n)
 }
 
-/// Where an assignment meets what `split` put, the parts spell the value's remainder and quotient
-/// by the word's power of 2.
+/// Where an assignment satisfies the constraints of `split`, the parts represent the value's
+/// remainder and quotient by the word's power of 2.
 #[tactic(auto, using(crate::proofs::SplitLaws::split_sound))]
 pub fn split_is_sound()
     ensures { SplitIsSound }
 {}
 
 /// Where the value is below 2^n and an assignment has the values that `fill_split` assigns, it
-/// meets what `split` put.
+/// satisfies the constraints of `split`.
 #[tactic(auto, using(crate::proofs::SplitLaws::split_complete))]
 pub fn split_is_complete()
     ensures { SplitIsComplete }

@@ -1,5 +1,6 @@
 //! The sum of two words, with its carry.
-ghost use Rattle.std.specs.Prelude.{◌≡◌, ◌+◌, ◌≤◌, ◌<◌, false, IfOk, OnOk};
+ghost use Rattle.std.specs.Prelude.{◌≡◌, ◌+◌, false, IfOk, OnOk};
+ghost use Rattle.tv_bits.specs.Bits.{AreBitsBelow};
 ghost use Rattle.tv_core.specs.Giving.{GivesIn};
 ghost use Rattle.tv_core.specs.Sinks.{PutsIn, Grows, Room};
 ghost use Rattle.tv_word.specs.Widths.{IsWidth};
@@ -15,16 +16,12 @@ use tv_core::{F, Put, Sink, Values};
 pub fn add<const W: u32, S: Sink>(s: &mut S, x: &Bits, y: &Bits) -> Put<Split>
     requires width { IsWidth W }
     requires room { Room S.meaning s.old (W + 1) (W + 2) }
-    requires x_word { x.now.n ≡ W }
-    requires y_word { y.now.n ≡ W }
-    requires x_made { x.now.first + W ≤ S.meaning.wires s.old }
-    requires y_made { y.now.first + W ≤ S.meaning.wires s.old }
+    requires x_word { AreBitsBelow (S.meaning.wires s.old) W x.now }
+    requires y_word { AreBitsBelow (S.meaning.wires s.old) W y.now }
     ensures puts { PutsIn S.meaning s.old s.new (add_of W x.now y.now) result }
     ensures grows { IfOk result (λ _. Grows S.meaning s.old s.new (W + 1) (W + 2)) }
-    ensures low_size { IfOk result (λ parts. parts.low.n ≡ W) }
-    ensures high_size { IfOk result (λ parts. parts.high.n ≡ 1) }
-    ensures low_below { IfOk result (λ parts. parts.low.first + W ≤ S.meaning.wires s.new) }
-    ensures high_below { IfOk result (λ parts. parts.high.first < S.meaning.wires s.new) }
+    ensures low { IfOk result (λ parts. AreBitsBelow (S.meaning.wires s.new) W parts.low) }
+    ensures high { IfOk result (λ parts. AreBitsBelow (S.meaning.wires s.new) 1 parts.high) }
 {
     let mut sum = x.lc();
     y.plus_to(&mut sum, F::ONE);
@@ -41,14 +38,14 @@ pub fn fill_add<const W: u32, V: Values>(v: &mut V, x: u32, y: u32) -> Put<()>
     fill_bits(v, F::of(u64::from(x) + u64::from(y)), W + 1)
 }
 
-/// Where the inputs spell words of `W` bits and an assignment meets what `add` put, the answer
-/// spells their sum modulo 2^`W` and the carry.
+/// Where the inputs represent words of `W` bits and an assignment satisfies the constraints of
+/// `add`, the answer represents their sum modulo 2^`W` and the carry.
 pub fn add_is_sound()
     ensures { AddIsSound }
 {}
 
-/// Where the inputs spell words and an assignment has the values that `fill_add` assigns for them,
-/// it meets what `add` put.
+/// Where the inputs represent words and an assignment has the values that `fill_add` assigns for
+/// them, it satisfies the constraints of `add`.
 #[tactic(auto, using(crate::proofs::AddLaws::add_complete))]
 pub fn add_is_complete()
     ensures { AddIsComplete }

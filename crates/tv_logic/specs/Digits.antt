@@ -38,13 +38,13 @@ pub record AreBitwise (both one a b : ℕ) : Type 0 where
   pub xor_word : one ≡ bit_xor a b
   pub or_word : both + one ≡ bit_or a b
 
--- where the gate is 1, the row's halves are the and and the exclusive or in an assignment that meets what was put
+-- where the gate is 1, the row's halves are the and and the exclusive or in an assignment that satisfies the constraints
 abbrev pub BitwiseIsSound : Type 0
 BitwiseIsSound = (w : ℕ) → IsWidth w → (z : List ℕ) (next : ℕ) (gate : Combination) (x y : Bits) (row : DoubleRow) (a b : ℕ) → Assigns z
     → Spells z x.first w a → Spells z y.first w b → SpellsRow w z row → value gate z ≡ 1 → Meets z (bitwise_of w gate x y row next).list
     → AreBitwise (slice_index z row.low) (slice_index z row.high) a b
 
--- an assignment in which they are so meets what was put, and so does one in which the gate is 0; they are a row
+-- an assignment in which they are so satisfies the constraints, and so does one in which the gate is 0; they are a row
 pub record BitwiseIsComplete : Type 0 where
   pub on : (w : ℕ) → IsWidth w → (z : List ℕ) (next : ℕ) (gate : Combination) (x y : Bits) (row : DoubleRow) (a b : ℕ) → Assigns z
       → Spells z x.first w a → Spells z y.first w b → SpellsRow w z row

@@ -36,8 +36,8 @@ logic_of w x y = do
 abbrev pub logic_made : ℕ → ℕ
 logic_made w = w / 2 + 10
 
--- what is answered where the first of these wires has this number: the word of ands is the first, the other pairs of
--- bits and the other words follow, and then each flag but or's with its hint, and or's
+-- what is returned, computed from the number of the first of these wires: the word of ands is the first, the other
+-- pairs of bits and the other words follow, and then each flag but or's with its hint, and or's
 abbrev pub logic_wires : ℕ → ℕ → Logic
 logic_wires w first = record {
   and_word = first;
@@ -65,29 +65,18 @@ pub record IsLogic (w : ℕ) (z : List ℕ) (answer : Logic) (x y : ℕ) : Type 
   pub xor_zero : slice_index z answer.xor_zero ≡ zero_flag (bit_xor x y)
   pub not_zero : slice_index z answer.not_zero ≡ zero_flag (bits_turned w y)
 
--- each wire of an answer is below a number
-pub record AreBelow (wires : ℕ) (answer : Logic) : Type 0 where
-  pub and_word : answer.and_word < wires
-  pub or_word : answer.or_word < wires
-  pub xor_word : answer.xor_word < wires
-  pub not_word : answer.not_word < wires
-  pub and_zero : answer.and_zero < wires
-  pub or_zero : answer.or_zero < wires
-  pub xor_zero : answer.xor_zero < wires
-  pub not_zero : answer.not_zero < wires
-
 -- in an assignment that meets what was put the answer is the operations' words and flags
 abbrev pub LogicIsSound : Type 0
 LogicIsSound = (w : ℕ) → IsWidth w → (z : List ℕ) (next : ℕ) (x y : Bits) (a b : ℕ) → Assigns z → Spells z x.first w a → Spells z y.first w b
     → Meets z (logic_of w x y next).list → IsLogic w z (logic_of w x y next).answer a b
 
--- an assignment that has these values at the wires that were made meets what was put
+-- an assignment that has these values at the wires that were made satisfies the constraints
 abbrev pub LogicIsComplete : Type 0
 LogicIsComplete = (w : ℕ) → IsWidth w → (z : List ℕ) (next : ℕ) (x y : Bits) (a b : ℕ) → Assigns z → Spells z x.first w a → Spells z y.first w b
     → HasFrom z next (logic_values w a b) → Meets z (logic_of w x y next).list
 
--- what the circuit answers and where it ends; the values are as many as the wires that it makes, and those of words
--- are in the field
+-- what the circuit returns and where it ends; it has one value for each wire that it makes, and those of words are in
+-- the field
 pub record LogicSizes : Type 0 where
   pub answer : (w : ℕ) → IsWidth w → (x y : Bits) (next : ℕ) → (logic_of w x y next).answer ≡ logic_wires w next
   pub end : (w : ℕ) → IsWidth w → (x y : Bits) (next : ℕ) → (logic_of w x y next).next ≡ next + logic_made w

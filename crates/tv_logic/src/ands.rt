@@ -11,9 +11,9 @@ ghost use Rattle.tv_word.specs.Widths.{IsWidth};
 use tv_bits::{Bits, two_ands};
 use tv_core::{F, Lc, Put, Scratch, Sink, Values, Wire};
 
-/// The word of the ands of two words' bits. It makes `W / 2` wires and constraints, two ands in
-/// each: the bits number `i` and `i + W / 2`. The lowest pair's is what the others leave of the
-/// word.
+/// Emits the constraints of the bitwise and of two words, and returns it. It makes `W / 2` wires
+/// and constraints, two ands in each: the bits number `i` and `i + W / 2`. The lowest pair's is
+/// what the others leave of the word.
 pub(crate) fn and_word<const W: u32, S: Sink>(
     s: &mut S,
     scratch: &mut Scratch,
@@ -22,8 +22,7 @@ pub(crate) fn and_word<const W: u32, S: Sink>(
 ) -> Put<Wire>
     requires width { IsWidth W }
     requires room { Room S.meaning s.old (W / 2) (W / 2) }
-    requires x_made { x.now.first + W ≤ S.meaning.wires s.old }
-    requires y_made { y.now.first + W ≤ S.meaning.wires s.old }
+    requires words_made { max (x.now.first + W) (y.now.first + W) ≤ S.meaning.wires s.old }
     ensures puts { PutsIn S.meaning s.old s.new (and_of W x.now y.now) result }
     ensures grows { IfOk result (λ _. Grows S.meaning s.old s.new (W / 2) (W / 2)) }
     ensures below { IfOk result (λ word. word < S.meaning.wires s.new) }
@@ -49,8 +48,7 @@ fn new_pair<const W: u32, S: Sink>(
     requires width { IsWidth W }
     requires room { Room S.meaning s.old 1 1 }
     requires within { i < W / 2 - 1 }
-    requires x_made { x.now.first + W ≤ S.meaning.wires s.old }
-    requires y_made { y.now.first + W ≤ S.meaning.wires s.old }
+    requires words_made { max (x.now.first + W) (y.now.first + W) ≤ S.meaning.wires s.old }
     ensures puts { PutsIn S.meaning s.old s.new (new_and_pair_of W x.now y.now i) result }
     ensures grows { IfOk result (λ _. Grows S.meaning s.old s.new 1 1) }
 {
@@ -71,8 +69,7 @@ fn pair<const W: u32, S: Sink>(
     requires width { IsWidth W }
     requires room { Room S.meaning s.old 0 1 }
     requires within { i < W / 2 }
-    requires x_made { x.now.first + W ≤ S.meaning.wires s.old }
-    requires y_made { y.now.first + W ≤ S.meaning.wires s.old }
+    requires words_made { max (x.now.first + W) (y.now.first + W) ≤ S.meaning.wires s.old }
     requires m_made { top m.now ≤ S.meaning.wires s.old }
     requires m_short { length m.now ≤ 64 }
     ensures puts { PutsIn S.meaning s.old s.new (and_pair_of W x.now y.now i m.now) result }
@@ -115,7 +112,7 @@ fn lowest_pair<const W: u32>(word: Wire, first: Wire) -> Lc
     lc
 }
 
-/// Gives the values of the wires that `and_word` makes, `ands` being the and of the words.
+/// Assigns the values of the wires that `and_word` makes, `ands` being the and of the words.
 pub(crate) fn fill_and<const W: u32, V: Values>(v: &mut V, ands: u32) -> Put<()>
     requires width { IsWidth W }
     requires whole { V.giving.broken v.old ≡ false }

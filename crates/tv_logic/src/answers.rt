@@ -1,4 +1,4 @@
-//! What the gadget answers and makes on the way.
+//! What the gadget returns, and the wires that it makes on the way.
 use tv_core::Wire;
 
 /// The wires of the bitwise operations of two words: their numbers, and whether each is 0.

@@ -92,14 +92,14 @@ fn plus_digits(lc: &mut Lc, factor: F, first: Wire, n: u32)
     }
 }
 
-/// Where the gate is 1 and an assignment meets what `bitwise` put, the row's halves are the words'
-/// and and exclusive or, and their sum is the or.
+/// Where the gate is 1 and an assignment satisfies the constraints of `bitwise`, the row's halves
+/// are the words' and and exclusive or, and their sum is the or.
 pub fn bitwise_is_sound()
     ensures { BitwiseIsSound }
 {}
 
 /// Where the row's halves are the words' and and exclusive or, or the gate is 0, an assignment
-/// meets what `bitwise` put. These halves are those of a row.
+/// satisfies the constraints of `bitwise`. These halves are those of a row.
 pub fn bitwise_is_complete()
     ensures { BitwiseIsComplete }
 {}

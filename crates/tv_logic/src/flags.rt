@@ -1,5 +1,5 @@
 //! The zero flags of the four words.
-ghost use Rattle.std.specs.Prelude.{◌≡◌, ◌<◌, false, IfOk, OnOk};
+ghost use Rattle.std.specs.Prelude.{◌≡◌, ◌<◌, false, max, IfOk, OnOk};
 ghost use Rattle.tv_bits.specs.Zero.{zero_of};
 ghost use Rattle.tv_core.specs.Combinations.{wire};
 ghost use Rattle.tv_core.specs.Giving.{GivesIn};
@@ -10,19 +10,16 @@ use crate::answers::{LogicFlags, LogicWords};
 use tv_bits::{fill_zero, times_by, zero_by};
 use tv_core::{F, Put, Scratch, Sink, Values, Wire};
 
-/// The zero flags of four words, the second being 0 exactly where the first and the third are. It
-/// makes 7 wires and 7 constraints.
+/// Emits the constraints of the zero flags of four words, and returns the flags. The second word is
+/// 0 exactly where the first and the third are. It makes 7 wires and 7 constraints.
 pub(crate) fn flags<S: Sink>(s: &mut S, words: &LogicWords) -> Put<LogicFlags>
     requires room { Room S.meaning s.old 7 7 }
-    requires and_made { words.now.and_word < S.meaning.wires s.old }
-    requires xor_made { words.now.xor_word < S.meaning.wires s.old }
-    requires not_made { words.now.not_word < S.meaning.wires s.old }
+    requires made { max words.now.and_word (max words.now.xor_word words.now.not_word)
+        < S.meaning.wires s.old }
     ensures puts { PutsIn S.meaning s.old s.new (logic_flags_of words.now) result }
     ensures grows { IfOk result (λ _. Grows S.meaning s.old s.new 7 7) }
-    ensures and_below { IfOk result (λ made. made.and_zero < S.meaning.wires s.new) }
-    ensures or_below { IfOk result (λ made. made.or_zero < S.meaning.wires s.new) }
-    ensures xor_below { IfOk result (λ made. made.xor_zero < S.meaning.wires s.new) }
-    ensures not_below { IfOk result (λ made. made.not_zero < S.meaning.wires s.new) }
+    ensures below { IfOk result (λ made. max (max made.and_zero made.or_zero)
+        (max made.xor_zero made.not_zero) < S.meaning.wires s.new) }
 {
     let mut scratch = Scratch::new();
     let and_zero = zero_flag(s, &mut scratch, words.and_word)?;
@@ -51,7 +48,7 @@ fn zero_flag<S: Sink>(s: &mut S, scratch: &mut Scratch, word: Wire) -> Put<Wire>
     zero_by(s, &mut scratch.b, &mut scratch.c, &scratch.a)
 }
 
-/// Gives the values of the wires that `flags` makes, the arguments being the four words' numbers.
+/// Assigns the values of the wires that `flags` makes, the arguments being the four words' numbers.
 pub(crate) fn fill_flags<V: Values>(v: &mut V, ands: u32, ors: u32, xors: u32, nots: u32) -> Put<()>
     requires whole { V.giving.broken v.old ≡ false }
     ensures gives { GivesIn V.giving v.old v.new (flag_values ands ors xors nots) result }

@@ -1,8 +1,9 @@
 //! The four operations and their zero flags together.
-ghost use Rattle.std.specs.Prelude.{◌≡◌, ◌+◌, ◌≤◌, ◌<◌, ◌^◌, false, IfOk, OnOk};
+ghost use Rattle.std.specs.Prelude.{◌≡◌, ◌<◌, ◌^◌, false, max, IfOk, OnOk};
+ghost use Rattle.tv_bits.specs.Bits.{AreBitsBelow};
 ghost use Rattle.tv_core.specs.Giving.{GivesIn};
 ghost use Rattle.tv_core.specs.Sinks.{PutsIn, Grows, Room};
-ghost use Rattle.tv_logic.specs.Logic.{logic_of, logic_values, logic_made, AreBelow, LogicIsSound};
+ghost use Rattle.tv_logic.specs.Logic.{logic_of, logic_values, logic_made, LogicIsSound};
 ghost use Rattle.tv_logic.specs.Logic.{LogicIsComplete, LogicSizes};
 ghost use Rattle.tv_word.specs.Widths.{IsWidth};
 
@@ -13,19 +14,20 @@ use tv_bits::Bits;
 use tv_core::{Put, Sink, Values};
 use tv_word::arithmetic::inverted;
 
-/// The bitwise and, or and exclusive or of two words of `W` bits, the complement of the second, and
-/// their zero flags. It makes `W / 2 + 10` wires and constraints: 26 of 461 terms at 32 bits, and
-/// 18 of 245 at 16.
+/// Emits the constraints of the bitwise and, or and exclusive or of two words of `W` bits, of the
+/// complement of the second, and of their zero flags; returns all eight. It makes `W / 2 + 10`
+/// wires and constraints: 26 of 461 terms at 32 bits, and 18 of 245 at 16.
 pub fn logic<const W: u32, S: Sink>(s: &mut S, x: &Bits, y: &Bits) -> Put<Logic>
     requires width { IsWidth W }
     requires room { Room S.meaning s.old (logic_made W) (logic_made W) }
-    requires x_word { x.now.n ≡ W }
-    requires y_word { y.now.n ≡ W }
-    requires x_made { x.now.first + W ≤ S.meaning.wires s.old }
-    requires y_made { y.now.first + W ≤ S.meaning.wires s.old }
+    requires x_word { AreBitsBelow (S.meaning.wires s.old) W x.now }
+    requires y_word { AreBitsBelow (S.meaning.wires s.old) W y.now }
     ensures puts { PutsIn S.meaning s.old s.new (logic_of W x.now y.now) result }
     ensures grows { IfOk result (λ _. Grows S.meaning s.old s.new (logic_made W) (logic_made W)) }
-    ensures below { IfOk result (λ answer. AreBelow (S.meaning.wires s.new) answer) }
+    ensures words_below { IfOk result (λ made. max (max made.and_word made.or_word)
+        (max made.xor_word made.not_word) < S.meaning.wires s.new) }
+    ensures flags_below { IfOk result (λ made. max (max made.and_zero made.or_zero)
+        (max made.xor_zero made.not_zero) < S.meaning.wires s.new) }
 {
     let words = words::<W, S>(s, x, y)?;
     let flags = flags(s, &words)?;
@@ -41,7 +43,7 @@ pub fn logic<const W: u32, S: Sink>(s: &mut S, x: &Bits, y: &Bits) -> Put<Logic>
     })
 }
 
-/// Gives the values of the wires that `logic` makes for two words of `W` bits.
+/// Assigns the values of the wires that `logic` makes for two words of `W` bits.
 pub fn fill_logic<const W: u32, V: Values>(v: &mut V, x: u32, y: u32) -> Put<()>
     requires width { IsWidth W }
     requires y_word { y < 2 ^ W }
@@ -53,20 +55,20 @@ pub fn fill_logic<const W: u32, V: Values>(v: &mut V, x: u32, y: u32) -> Put<()>
     fill_flags(v, x & y, x | y, x ^ y, inverted::<W>(y))
 }
 
-/// Where the inputs spell words and an assignment meets what `logic` put, its answer has the words
-/// and flags of the four operations.
+/// Where the inputs represent words and an assignment satisfies the constraints of `logic`, its
+/// answer has the words and flags of the four operations.
 pub fn logic_is_sound()
     ensures { LogicIsSound }
 {}
 
-/// Where the inputs spell words and an assignment has the values that `fill_logic` gives for them,
-/// it meets what `logic` put.
+/// Where the inputs represent words and an assignment has the values that `fill_logic` assigns for
+/// them, it satisfies the constraints of `logic`.
 pub fn logic_is_complete()
     ensures { LogicIsComplete }
 {}
 
-/// Says which wires `logic` answers and how many it makes, whatever the next wire is, and that
-/// `fill_logic` gives one value for each of them, below the prime for words.
+/// Says which wires `logic` returns and how many it makes, whatever the next wire is, and that
+/// `fill_logic` assigns one value to each of them, below the prime for words.
 #[tactic(auto, using(crate::proofs::LogicLaws::logic_sizes))]
 pub fn logic_fills()
     ensures { LogicSizes }

@@ -1,5 +1,6 @@
 //! The words of the four operations.
 ghost use Rattle.std.specs.Prelude.{◌≡◌, ◌+◌, ◌-◌, ◌/◌, ◌^◌, ◌<◌, ◌≤◌, false, max, IfOk, OnOk};
+ghost use Rattle.tv_bits.specs.Bits.{AreBitsBelow};
 ghost use Rattle.tv_core.specs.Combinations.{top};
 ghost use Rattle.tv_core.specs.Giving.{GivesIn};
 ghost use Rattle.tv_core.specs.Sinks.{PutsIn, Grows, Room};
@@ -13,20 +14,17 @@ use tv_bits::{Bits, kept_by};
 use tv_core::{F, Lc, Put, Scratch, Sink, Values, Wire, give_values};
 use tv_word::arithmetic::inverted;
 
-/// The words of the four operations. It makes `W / 2 + 3` wires and constraints.
+/// Emits the constraints of the words of the four operations, and returns the words. It makes
+/// `W / 2 + 3` wires and constraints.
 pub(crate) fn words<const W: u32, S: Sink>(s: &mut S, x: &Bits, y: &Bits) -> Put<LogicWords>
     requires width { IsWidth W }
     requires room { Room S.meaning s.old (W / 2 + 3) (W / 2 + 3) }
-    requires x_word { x.now.n ≡ W }
-    requires y_word { y.now.n ≡ W }
-    requires x_made { x.now.first + W ≤ S.meaning.wires s.old }
-    requires y_made { y.now.first + W ≤ S.meaning.wires s.old }
+    requires x_word { AreBitsBelow (S.meaning.wires s.old) W x.now }
+    requires y_word { AreBitsBelow (S.meaning.wires s.old) W y.now }
     ensures puts { PutsIn S.meaning s.old s.new (logic_words_of W x.now y.now) result }
     ensures grows { IfOk result (λ _. Grows S.meaning s.old s.new (W / 2 + 3) (W / 2 + 3)) }
-    ensures and_below { IfOk result (λ made. made.and_word < S.meaning.wires s.new) }
-    ensures or_below { IfOk result (λ made. made.or_word < S.meaning.wires s.new) }
-    ensures xor_below { IfOk result (λ made. made.xor_word < S.meaning.wires s.new) }
-    ensures not_below { IfOk result (λ made. made.not_word < S.meaning.wires s.new) }
+    ensures below { IfOk result (λ made. max (max made.and_word made.or_word)
+        (max made.xor_word made.not_word) < S.meaning.wires s.new) }
 {
     let mut scratch = Scratch::new();
     let and_word = and_word::<W, S>(s, &mut scratch, x, y)?;
@@ -80,7 +78,7 @@ fn greatest_word<const W: u32>() -> u32
     u32::MAX >> (32 - W)
 }
 
-/// Gives the values of the wires that `words` makes.
+/// Assigns the values of the wires that `words` makes.
 pub(crate) fn fill_words<const W: u32, V: Values>(v: &mut V, x: u32, y: u32) -> Put<()>
     requires width { IsWidth W }
     requires y_word { y < 2 ^ W }

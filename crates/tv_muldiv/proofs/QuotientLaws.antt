@@ -32,7 +32,7 @@ use Rattle.tv_muldiv.specs.Quotient.{quotient_in, remainder_in, gate_in, above_i
 use Rattle.tv_muldiv.specs.Quotient.{division_of, remainder_below_of, quotient_of, quotient_values, QuotientIsSound, QuotientIsComplete, QuotientSizes}
 use Rattle.tv_muldiv.specs.declared.records.Quot.{Quot}
 
--- the wires that are answered
+-- the returned wires
 made_at : ℕ → ℕ → Quot
 made_at w next = record { quot = record { first = next; n = w }; rem = record { first = next + w; n = w }; by_zero = next + 2 * w }
 

@@ -95,7 +95,7 @@ Stands-product v w s t m n p q = record {
         let right = opposite w b a f in
         omega (arith, mul_comm a w, mul_comm a b)
 
--- ---- what bits spell in two's complement, modulo P: of n bits the highest counts negatively
+-- ---- what bits represent in two's complement, modulo P: of n bits the highest counts negatively
 abbrev pub signed_value : ℕ → ℕ → ℕ
 signed_value n v = (v % 2 ^ (n - 1) + (P - 2 ^ (n - 1) % P) % P * bit_at v (n - 1)) % P
 

@@ -10,14 +10,14 @@ use Rattle.tv_word.specs.Widths.{IsWidth}
 use Rattle.tv_muldiv.specs.Weighed.{halves_values}
 use Rattle.tv_muldiv.specs.declared.records.Product.{Product}
 
--- a and b being words of w bits, the wires spell the low and the high word of their product, and one holds 1
+-- a and b being words of w bits, the wires represent the low and the high word of their product, and one holds 1
 -- exactly where the high word is another than 0
 pub record IsProduct (w : ℕ) (z : List ℕ) (made : Product) (a b : ℕ) : Type 0 where
   pub low : Spells z made.low.first w (a * b % 2 ^ w)
   pub high : Spells z made.high.first w (a * b / 2 ^ w)
   pub over : slice_index z made.over ≡ nonzero_flag (a * b / 2 ^ w)
 
--- 2 w new wires that spell the product of words of w bits: their number is the product modulo P, and the lowest is
+-- 2 w new wires that represent the product of words of w bits: their number is the product modulo P, and the lowest is
 -- the product of the lowest bits, which the product and the product plus P don't share, P being odd
 unfoldable pub product_bits_of : ℕ → Bits → Bits → Circuit ℕ
 product_bits_of w x y = do
@@ -38,17 +38,17 @@ product_of w x y = do
 abbrev pub product_values : ℕ → ℕ → ℕ → List ℕ
 product_values w a b = halves_values w (a * b) ++ nonzero_values (a * b / 2 ^ w)
 
--- where x and y spell words, an assignment that meets what was put has their product at the wires that were answered
+-- where x and y represent words, an assignment that satisfies the constraints has their product at the returned wires
 abbrev pub ProductIsSound : Type 0
 ProductIsSound = (w : ℕ) → IsWidth w → (z : List ℕ) (next : ℕ) (x y : Bits) (a b : ℕ) → Assigns z → Spells z x.first w a → Spells z y.first w b
     → Meets z (product_of w x y next).list → IsProduct w z (product_of w x y next).answer a b
 
--- where x and y spell words, an assignment that has these values at the wires that were made meets what was put
+-- where x and y represent words, an assignment that has these values at the wires that were made satisfies the constraints
 abbrev pub ProductIsComplete : Type 0
 ProductIsComplete = (w : ℕ) → IsWidth w → (z : List ℕ) (next : ℕ) (x y : Bits) (a b : ℕ) → Assigns z → Spells z x.first w a → Spells z y.first w b
     → HasFrom z next (product_values w a b) → Meets z (product_of w x y next).list
 
--- what the circuit answers and where it ends; the values are as many as the wires that it makes, and in the field
+-- what the circuit returns and where it ends; it has one value for each wire that it makes, all in the field
 pub record ProductSizes : Type 0 where
   pub answer : (w : ℕ) → IsWidth w → (x y : Bits) (next : ℕ)
       → (product_of w x y next).answer ≡ record { low = record { first = next; n = w }; high = record { first = next + w; n = w }; over = next + 2 * w }

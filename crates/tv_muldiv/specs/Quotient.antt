@@ -1,7 +1,7 @@
 -- The quotient and the remainder of two words.
 use Rattle.std.specs.Prelude.{◌≡◌, ℕ, ◌+◌, ◌-◌, ◌*◌, ◌^◌, ◌<◌, ◌/◌, ◌%◌, ◌==◌, if◌then◌else◌, List, [], ◌∷◌, ◌++◌, slice_index}
 use Rattle.tv_bits.specs.Bit.{bit_of}
-use Rattle.tv_bits.specs.Bits.{Spells, bits_combination, bits_values, new_bits_of}
+use Rattle.tv_bits.specs.Bits.{Spells, AreBitsBelow, bits_combination, bits_values, new_bits_of}
 use Rattle.tv_bits.specs.Order.{first_difference}
 use Rattle.tv_bits.specs.Prefixes.{prefix_difference_of, prefix_difference_values}
 use Rattle.tv_bits.specs.Zero.{zero_flag}
@@ -19,12 +19,18 @@ quotient_in a b = if b == 0 then 0 else a / b
 abbrev pub remainder_in : ℕ → ℕ → ℕ
 remainder_in a b = if b == 0 then 0 else a % b
 
--- a and b being words of w bits, the wires spell the quotient and the remainder of a by b, and one holds 1
+-- a and b being words of w bits, the wires represent the quotient and the remainder of a by b, and one holds 1
 -- exactly where b is 0
 pub record IsQuotient (w : ℕ) (z : List ℕ) (made : Quot) (a b : ℕ) : Type 0 where
   pub quot : Spells z made.quot.first w (quotient_in a b)
   pub rem : Spells z made.rem.first w (remainder_in a b)
   pub by_zero : slice_index z made.by_zero ≡ zero_flag b
+
+-- the words have w bits each, and the wires are below a number
+pub record IsQuotientBelow (wires w : ℕ) (made : Quot) : Type 0 where
+  pub quot : AreBitsBelow wires w made.quot
+  pub rem : AreBitsBelow wires w made.rem
+  pub by_zero : made.by_zero < wires
 
 -- a new bit that is 0 where y isn't
 unfoldable pub zero_divisor_of : ℕ → Bits → Circuit ℕ
@@ -63,7 +69,7 @@ remainder_below_of w y made = do
   above ← new_bits_of (w / 4)
   prefix_difference_of (record { first = y.first; n = w }) made.rem (less (bits_combination above.first (w / 4) ++ constant 1) (wire made.by_zero)) (w / 4) 4
 
--- division: the wires of an answer, that it is the quotient and the remainder, and that this is below the divisor
+-- division: the returned wires, that they hold the quotient and the remainder, and that this is below the divisor
 unfoldable pub quotient_of : ℕ → Bits → Bits → Circuit Quot
 quotient_of w x y = do
   made ← quotient_wires_of w y
@@ -88,19 +94,18 @@ above_values w a b = bits_values (above_in w a b - 1) (w / 4) ++ prefix_differen
 abbrev pub quotient_values : ℕ → ℕ → ℕ → List ℕ
 quotient_values w a b = words_values w a b ++ (zero_flag b ∷ gate_in a b ∷ above_values w a b)
 
--- where x and y spell words, an assignment that meets what was put has their quotient and remainder at the
--- wires that were answered
+-- where x and y represent words, an assignment that satisfies the constraints has their quotient and remainder at the
+-- returned wires
 abbrev pub QuotientIsSound : Type 0
 QuotientIsSound = (w : ℕ) → IsWidth w → (z : List ℕ) (next : ℕ) (x y : Bits) (a b : ℕ) → Assigns z → Spells z x.first w a → Spells z y.first w b
     → Meets z (quotient_of w x y next).list → IsQuotient w z (quotient_of w x y next).answer a b
 
--- where x and y spell words, an assignment that has these values at the wires that were made meets what was put
+-- where x and y represent words, an assignment that has these values at the wires that were made satisfies the constraints
 abbrev pub QuotientIsComplete : Type 0
 QuotientIsComplete = (w : ℕ) → IsWidth w → (z : List ℕ) (next : ℕ) (x y : Bits) (a b : ℕ) → Assigns z → Spells z x.first w a → Spells z y.first w b
     → HasFrom z next (quotient_values w a b) → Meets z (quotient_of w x y next).list
 
--- what the circuit answers and where it ends; the values are as many as the wires that it makes, and in the field
--- for words
+-- what the circuit returns and where it ends; it has one value for each wire that it makes, all in the field for words
 pub record QuotientSizes : Type 0 where
   pub answer : (w : ℕ) (x y : Bits) (next : ℕ)
       → (quotient_of w x y next).answer ≡ record { quot = record { first = next; n = w }; rem = record { first = next + w; n = w }; by_zero = next + 2 * w }

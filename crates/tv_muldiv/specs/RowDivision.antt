@@ -48,8 +48,8 @@ row_division_of w gate x y by_zero bits row = do
 abbrev pub row_division_values : ℕ → ℕ → ℕ → ℕ → List ℕ
 row_division_values by_zero a high b = times_values by_zero a ++ times_values high ((b + by_zero) % P)
 
--- in an assignment that meets what was put, the wire that is answered is the product of the two; where the gate is 1, the
--- row is the division of the words, and where it is 0 the bits spell x
+-- in an assignment that satisfies the constraints, the returned wire is the product of the two; where the gate is 1, the row is
+-- the division of the words, and where it is 0 the bits represent x
 pub record RowDivisionIsSound : Type 0 where
   pub kept : (w : ℕ) (z : List ℕ) (next : ℕ) (gate : Combination) (x y by_zero : ℕ) (bits : Bits) (row : DoubleRow) → Assigns z
       → Meets z (row_division_of w gate x y by_zero bits row next).list
@@ -62,7 +62,7 @@ pub record RowDivisionIsSound : Type 0 where
       → value gate z ≡ 0 → Spells z bits.first w v → Meets z (row_division_of w gate x y by_zero bits row next).list → slice_index z x ≡ v
 
 -- the division of words is a row, and the bits' number a word; with the values of the wires that were made, a row that holds
--- the division meets what was put, and where the gate is 0 any row does if the bits spell x
+-- the division satisfies the constraints, and where the gate is 0 any row does if the bits represent x
 pub record RowDivisionIsComplete : Type 0 where
   pub row : (w : ℕ) → IsWidth w → (a b : ℕ) → a < 2 ^ w → b < 2 ^ w → IsRow w (remainder_in a b) (quotient_in a b)
   pub bits : (w : ℕ) → IsWidth w → (a b : ℕ) → a < 2 ^ w → b < 2 ^ w → below_divisor w a b < 2 ^ w
@@ -76,7 +76,7 @@ pub record RowDivisionIsComplete : Type 0 where
       → HasFrom z next (row_division_values (slice_index z by_zero) (slice_index z x) (slice_index z row.high) (slice_index z y))
       → Meets z (row_division_of w gate x y by_zero bits row next).list
 
--- which wire is answered, and that the values are one number of the field for each wire that is made
+-- which wire is returned, and that the values are one number of the field for each wire that is made
 pub record RowDivisionSizes : Type 0 where
   pub answer : (w : ℕ) (gate : Combination) (x y by_zero : ℕ) (bits : Bits) (row : DoubleRow) (next : ℕ)
       → (row_division_of w gate x y by_zero bits row next).answer ≡ next

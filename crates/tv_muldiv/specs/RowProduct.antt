@@ -26,13 +26,13 @@ row_product_of w gate x y row = do
 abbrev pub row_product_values : ℕ → ℕ → List ℕ
 row_product_values a b = times_values a b
 
--- where the gate is 1 and the wires hold words, a row that meets what was put is their product
+-- where the gate is 1 and the wires hold words, a row that satisfies the constraints is their product
 abbrev pub RowProductIsSound : Type 0
 RowProductIsSound = (w : ℕ) → IsWidth w → (z : List ℕ) (next : ℕ) (gate : Combination) (x y : ℕ) (row : DoubleRow) → Assigns z → value gate z ≡ 1
     → slice_index z x < 2 ^ w → slice_index z y < 2 ^ w → IsRow w (slice_index z row.low) (slice_index z row.high)
     → Meets z (row_product_of w gate x y row next).list → IsRowProduct w z row (slice_index z x) (slice_index z y)
 
--- the product of two words is a row; with the value of the wire that was made, a row that holds it meets what was put,
+-- the product of two words is a row; with the value of the wire that was made, a row that holds it satisfies the constraints,
 -- and where the gate is 0 any row does
 pub record RowProductIsComplete : Type 0 where
   pub row : (w : ℕ) → IsWidth w → (a b : ℕ) → a < 2 ^ w → b < 2 ^ w → IsRow w (a * b % 2 ^ w) (a * b / 2 ^ w)

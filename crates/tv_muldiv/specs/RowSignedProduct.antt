@@ -49,7 +49,7 @@ row_signed_product_of w gate x y row = do
 abbrev pub row_signed_product_values : ℕ → ℕ → ℕ → ℕ → ℕ → List ℕ
 row_signed_product_values w a s b t = times_values (signed_in w a s) (signed_in w b t)
 
--- where the gate is 1, a row whose bits spell its words and that meets what was put is the signed product of the words
+-- where the gate is 1, a row whose bits represent its words and that satisfies the constraints is the signed product of the words
 abbrev pub RowSignedProductIsSound : Type 0
 RowSignedProductIsSound = (w : ℕ) → IsWidth w → (z : List ℕ) (next : ℕ) (gate : Combination) (x y : SignedWord) (row : DoubleRow) (a b : ℕ) → Assigns z
     → value gate z ≡ 1 → HoldsSigned w z x a → HoldsSigned w z y b → SpellsRow w z row
@@ -61,8 +61,8 @@ RowSignedProductFits = (w : ℕ) → IsWidth w → (a b : ℕ) → a < 2 ^ w →
     → nonzero_flag ((product_twos w a b / 2 ^ w + (P - (2 ^ w - 1)) * bit_at (product_twos w a b % 2 ^ w) (w - 1)) % P)
     ≡ (if fits w (signed_product w a b) then 0 else 1)
 
--- the halves of a signed product are words; with the value of the wire that was made, a row that holds them meets what was
--- put, and where the gate is 0 any row does
+-- the halves of a signed product are words; with the value of the wire that was made, a row that holds them satisfies the
+-- constraints, and where the gate is 0 any row does
 pub record RowSignedProductIsComplete : Type 0 where
   pub words : (w : ℕ) → IsWidth w → (a b : ℕ) → (product_twos w a b % 2 ^ w < 2 ^ w) × (product_twos w a b / 2 ^ w < 2 ^ w)
   pub on : (w : ℕ) → IsWidth w → (z : List ℕ) (next : ℕ) (gate : Combination) (x y : SignedWord) (row : DoubleRow) (a b : ℕ) → Assigns z

@@ -21,13 +21,13 @@ signed_product w a b = signed w a *ℤ signed w b
 abbrev pub product_twos : ℕ → ℕ → ℕ → ℕ
 product_twos w a b = twos (2 * w) (signed_product w a b)
 
--- a and b being words of w bits, the wires spell the high word of their signed product, and one holds 1
+-- a and b being words of w bits, the wires represent the high word of their signed product, and one holds 1
 -- exactly where that product is no signed number of w bits
 pub record IsSignedHigh (w : ℕ) (z : List ℕ) (made : High) (a b : ℕ) : Type 0 where
   pub high : Spells z made.high.first w (product_twos w a b / 2 ^ w)
   pub over : slice_index z made.over ≡ (if fits w (signed_product w a b) then 0 else 1)
 
--- 2 w new bits that spell the product of words of w bits, each in two's complement: both sides are too
+-- 2 w new bits that represent the product of words of w bits, each in two's complement: both sides are too
 -- small for the sides to differ by P
 unfoldable pub signed_bits_of : ℕ → Bits → Bits → Circuit Bits
 signed_bits_of w x y = do
@@ -54,18 +54,18 @@ signed_high_of w x y = do
 abbrev pub signed_high_values : ℕ → ℕ → ℕ → List ℕ
 signed_high_values w a b = halves_values w (product_twos w a b) ++ nonzero_values (excess_in w (product_twos w a b))
 
--- where x and y spell words, an assignment that meets what was put has the high word of their signed product
--- at the wires that were answered
+-- where x and y represent words, an assignment that satisfies the constraints has the high word of their signed product
+-- at the returned wires
 abbrev pub SignedHighIsSound : Type 0
 SignedHighIsSound = (w : ℕ) → IsWidth w → (z : List ℕ) (next : ℕ) (x y : Bits) (a b : ℕ) → Assigns z → Spells z x.first w a → Spells z y.first w b
     → Meets z (signed_high_of w x y next).list → IsSignedHigh w z (signed_high_of w x y next).answer a b
 
--- where x and y spell words, an assignment that has these values at the wires that were made meets what was put
+-- where x and y represent words, an assignment that has these values at the wires that were made satisfies the constraints
 abbrev pub SignedHighIsComplete : Type 0
 SignedHighIsComplete = (w : ℕ) → IsWidth w → (z : List ℕ) (next : ℕ) (x y : Bits) (a b : ℕ) → Assigns z → Spells z x.first w a → Spells z y.first w b
     → HasFrom z next (signed_high_values w a b) → Meets z (signed_high_of w x y next).list
 
--- what the circuit answers and where it ends; the values are as many as the wires that it makes, and in the field
+-- what the circuit returns and where it ends; it has one value for each wire that it makes, all in the field
 pub record SignedHighSizes : Type 0 where
   pub answer : (w : ℕ) (x y : Bits) (next : ℕ) → (signed_high_of w x y next).answer ≡ record { high = record { first = next + w; n = w }; over = next + 2 * w }
   pub end : (w : ℕ) (x y : Bits) (next : ℕ) → (signed_high_of w x y next).next ≡ next + (2 * w + 2)

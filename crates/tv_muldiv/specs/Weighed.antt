@@ -1,4 +1,4 @@
--- Numbers spelled by bits of which the highest has a weight of its own, and words in two halves.
+-- Numbers represented by bits of which the highest has a weight of its own, and words in two halves.
 use Rattle.std.specs.Prelude.{ℕ, ◌+◌, ◌-◌, ◌/◌, ◌%◌, ◌^◌, List, [], ◌∷◌, ◌++◌}
 use Rattle.tv_bits.specs.Bits.{bits_combination, bits_values}
 use Rattle.tv_core.specs.Constraints.{Combination}
@@ -8,7 +8,7 @@ use Rattle.tv_core.specs.declared.field.TheConstants.{P}
 abbrev pub weighed : ℕ → ℕ → ℕ → Combination
 weighed first n weight = bits_combination first (n - 1) ++ (weight, first + (n - 1)) ∷ []
 
--- the number that n wires spell in two's complement: the highest counts negatively
+-- the number that n wires represent in two's complement: the highest counts negatively
 abbrev pub signed_combination : ℕ → ℕ → Combination
 signed_combination first n = weighed first n ((P - 2 ^ (n - 1) % P) % P)
 

@@ -1,5 +1,6 @@
 //! The product of two words.
 ghost use Rattle.std.specs.Prelude.{◌≡◌, ◌+◌, ◌*◌, ◌^◌, ◌≤◌, ◌<◌, false, IfOk, OnOk};
+ghost use Rattle.tv_bits.specs.Bits.{AreBitsBelow};
 ghost use Rattle.tv_core.specs.Giving.{GivesIn};
 ghost use Rattle.tv_core.specs.Sinks.{PutsIn, Grows, Room};
 ghost use Rattle.tv_word.specs.Widths.{IsWidth};
@@ -17,15 +18,12 @@ use tv_core::{F, Put, Scratch, Sink, Values, Wire};
 pub fn product<const W: u32, S: Sink>(s: &mut S, x: &Bits, y: &Bits) -> Put<Product>
     requires width { IsWidth W }
     requires room { Room S.meaning s.old (2 * W + 2) (2 * W + 3) }
-    requires x_word { x.now.n ≡ W }
-    requires y_word { y.now.n ≡ W }
-    requires x_made { x.now.first + W ≤ S.meaning.wires s.old }
-    requires y_made { y.now.first + W ≤ S.meaning.wires s.old }
+    requires x_word { AreBitsBelow (S.meaning.wires s.old) W x.now }
+    requires y_word { AreBitsBelow (S.meaning.wires s.old) W y.now }
     ensures puts { PutsIn S.meaning s.old s.new (product_of W x.now y.now) result }
     ensures grows { IfOk result (λ _. Grows S.meaning s.old s.new (2 * W + 2) (2 * W + 3)) }
-    ensures sizes { IfOk result (λ made. (made.low.n ≡ W) × (made.high.n ≡ W)) }
-    ensures low_below { IfOk result (λ made. made.low.first + W ≤ S.meaning.wires s.new) }
-    ensures high_below { IfOk result (λ made. made.high.first + W ≤ S.meaning.wires s.new) }
+    ensures words_below { IfOk result (λ made. AreBitsBelow (S.meaning.wires s.new) W made.low
+        × AreBitsBelow (S.meaning.wires s.new) W made.high) }
     ensures over_below { IfOk result (λ made. made.over < S.meaning.wires s.new) }
 {
     let mut scratch = Scratch::new();
@@ -40,8 +38,8 @@ pub fn product<const W: u32, S: Sink>(s: &mut S, x: &Bits, y: &Bits) -> Put<Prod
     Ok(Product { low, high, over })
 }
 
-// The first of `2 W` wires that spell the product. The lowest needs no constraint of its own: it is
-// a product of two bits.
+// The first of `2 W` wires that represent the product. The lowest needs no constraint of its own:
+// it is a product of two bits.
 fn product_bits<const W: u32, S: Sink>(
     s: &mut S,
     scratch: &mut Scratch,
@@ -50,10 +48,8 @@ fn product_bits<const W: u32, S: Sink>(
 ) -> Put<Wire>
     requires width { IsWidth W }
     requires room { Room S.meaning s.old (2 * W) (2 * W + 1) }
-    requires x_word { x.now.n ≡ W }
-    requires y_word { y.now.n ≡ W }
-    requires x_made { x.now.first + W ≤ S.meaning.wires s.old }
-    requires y_made { y.now.first + W ≤ S.meaning.wires s.old }
+    requires x_word { AreBitsBelow (S.meaning.wires s.old) W x.now }
+    requires y_word { AreBitsBelow (S.meaning.wires s.old) W y.now }
     ensures puts { PutsIn S.meaning s.old s.new (product_bits_of W x.now y.now) result }
     ensures grows { IfOk result (λ _. Grows S.meaning s.old s.new (2 * W) (2 * W + 1)) }
     ensures below { IfOk result (λ first. first + 2 * W ≤ S.meaning.wires s.new) }
@@ -71,7 +67,8 @@ fn product_bits<const W: u32, S: Sink>(
     Ok(first)
 }
 
-/// Assigns the `2 W + 2` values of the wires that `product` makes for bits that spell `x` and `y`.
+/// Assigns the `2 W + 2` values of the wires that `product` makes for bits that represent `x` and
+/// `y`.
 pub fn fill_product<const W: u32, V: Values>(v: &mut V, x: u32, y: u32) -> Put<()>
     requires width { IsWidth W }
     requires x_word { x < 2 ^ W }
@@ -85,14 +82,14 @@ pub fn fill_product<const W: u32, V: Values>(v: &mut V, x: u32, y: u32) -> Put<(
     fill_nonzero(v, F::of(product >> W))
 }
 
-/// Where bits spell words and an assignment meets what `product` put, its wires spell their
-/// product.
+/// Where bits represent words and an assignment satisfies the constraints of `product`, its wires
+/// represent their product.
 pub fn product_is_sound()
     ensures { ProductIsSound }
 {}
 
-/// Where bits spell words and an assignment has the values that `fill_product` assigns, it meets
-/// what `product` put.
+/// Where bits represent words and an assignment has the values that `fill_product` assigns, it
+/// satisfies the constraints of `product`.
 #[tactic(auto, using(crate::proofs::ProductLaws::product_complete))]
 pub fn product_is_complete()
     ensures { ProductIsComplete }

@@ -1,9 +1,10 @@
 //! The quotient and the remainder of two words.
 ghost use Rattle.std.specs.Prelude.{◌≡◌, ◌+◌, ◌*◌, ◌/◌, ◌^◌, ◌≤◌, ◌<◌, [], ◌∷◌, false, IfOk, OnOk};
+ghost use Rattle.tv_bits.specs.Bits.{AreBitsBelow};
 ghost use Rattle.tv_bits.specs.Zero.{zero_flag};
 ghost use Rattle.tv_core.specs.Giving.{GivesIn};
 ghost use Rattle.tv_core.specs.Sinks.{PutsIn, Grows, Room};
-ghost use Rattle.tv_muldiv.specs.Quotient.{zero_divisor_of};
+ghost use Rattle.tv_muldiv.specs.Quotient.{IsQuotientBelow, zero_divisor_of};
 ghost use Rattle.tv_muldiv.specs.Quotient.{quotient_wires_of, gate_of, division_of};
 ghost use Rattle.tv_muldiv.specs.Quotient.{remainder_below_of, quotient_of, gate_in, words_values};
 ghost use Rattle.tv_muldiv.specs.Quotient.{above_values, quotient_values, QuotientIsSound};
@@ -28,17 +29,12 @@ const CHUNKS: u32 = 4;
 pub fn quotient<const W: u32, S: Sink>(s: &mut S, x: &Bits, y: &Bits) -> Put<Quot>
     requires width { IsWidth W }
     requires room { Room S.meaning s.old (2 * W + W / 4 + 4) (2 * W + W / 4 + 7) }
-    requires x_word { x.now.n ≡ W }
-    requires y_word { y.now.n ≡ W }
-    requires x_made { x.now.first + W ≤ S.meaning.wires s.old }
-    requires y_made { y.now.first + W ≤ S.meaning.wires s.old }
+    requires x_word { AreBitsBelow (S.meaning.wires s.old) W x.now }
+    requires y_word { AreBitsBelow (S.meaning.wires s.old) W y.now }
     ensures puts { PutsIn S.meaning s.old s.new (quotient_of W x.now y.now) result }
     ensures grows { IfOk result (λ _. Grows S.meaning s.old s.new (2 * W + W / 4 + 4)
         (2 * W + W / 4 + 7)) }
-    ensures sizes { IfOk result (λ made. (made.quot.n ≡ W) × (made.rem.n ≡ W)) }
-    ensures quot_below { IfOk result (λ made. made.quot.first + W ≤ S.meaning.wires s.new) }
-    ensures rem_below { IfOk result (λ made. made.rem.first + W ≤ S.meaning.wires s.new) }
-    ensures by_zero_below { IfOk result (λ made. made.by_zero < S.meaning.wires s.new) }
+    ensures below { IfOk result (IsQuotientBelow (S.meaning.wires s.new) W) }
 {
     let mut scratch = Scratch::new();
     let made = quotient_wires::<W, S>(s, &mut scratch, y)?;
@@ -51,14 +47,10 @@ pub fn quotient<const W: u32, S: Sink>(s: &mut S, x: &Bits, y: &Bits) -> Put<Quo
 fn quotient_wires<const W: u32, S: Sink>(s: &mut S, scratch: &mut Scratch, y: &Bits) -> Put<Quot>
     requires width { IsWidth W }
     requires room { Room S.meaning s.old (2 * W + 1) (2 * W + 2) }
-    requires y_word { y.now.n ≡ W }
-    requires y_made { y.now.first + W ≤ S.meaning.wires s.old }
+    requires y_word { AreBitsBelow (S.meaning.wires s.old) W y.now }
     ensures puts { PutsIn S.meaning s.old s.new (quotient_wires_of W y.now) result }
     ensures grows { IfOk result (λ _. Grows S.meaning s.old s.new (2 * W + 1) (2 * W + 2)) }
-    ensures sizes { IfOk result (λ made. (made.quot.n ≡ W) × (made.rem.n ≡ W)) }
-    ensures quot_below { IfOk result (λ made. made.quot.first + W ≤ S.meaning.wires s.new) }
-    ensures rem_below { IfOk result (λ made. made.rem.first + W ≤ S.meaning.wires s.new) }
-    ensures by_zero_below { IfOk result (λ made. made.by_zero < S.meaning.wires s.new) }
+    ensures below { IfOk result (IsQuotientBelow (S.meaning.wires s.new) W) }
 {
     let quot = new_bits_by(s, &mut scratch.a, W)?;
     let rem = new_bits_by(s, &mut scratch.a, W)?;
@@ -70,8 +62,7 @@ fn quotient_wires<const W: u32, S: Sink>(s: &mut S, scratch: &mut Scratch, y: &B
 fn zero_divisor<const W: u32, S: Sink>(s: &mut S, scratch: &mut Scratch, y: &Bits) -> Put<Wire>
     requires width { IsWidth W }
     requires room { Room S.meaning s.old 1 2 }
-    requires y_word { y.now.n ≡ W }
-    requires y_made { y.now.first + W ≤ S.meaning.wires s.old }
+    requires y_word { AreBitsBelow (S.meaning.wires s.old) W y.now }
     ensures puts { PutsIn S.meaning s.old s.new (zero_divisor_of W y.now) result }
     ensures grows { IfOk result (λ _. Grows S.meaning s.old s.new 1 2) }
     ensures below { IfOk result (λ by_zero. by_zero < S.meaning.wires s.new) }
@@ -95,15 +86,9 @@ fn division<const W: u32, S: Sink>(
 ) -> Put<()>
     requires width { IsWidth W }
     requires room { Room S.meaning s.old 1 2 }
-    requires x_word { x.now.n ≡ W }
-    requires y_word { y.now.n ≡ W }
-    requires quot_word { made.now.quot.n ≡ W }
-    requires rem_word { made.now.rem.n ≡ W }
-    requires x_made { x.now.first + W ≤ S.meaning.wires s.old }
-    requires y_made { y.now.first + W ≤ S.meaning.wires s.old }
-    requires quot_made { made.now.quot.first + W ≤ S.meaning.wires s.old }
-    requires rem_made { made.now.rem.first + W ≤ S.meaning.wires s.old }
-    requires by_zero_made { made.now.by_zero < S.meaning.wires s.old }
+    requires x_word { AreBitsBelow (S.meaning.wires s.old) W x.now }
+    requires y_word { AreBitsBelow (S.meaning.wires s.old) W y.now }
+    requires made { IsQuotientBelow (S.meaning.wires s.old) W made.now }
     ensures puts { PutsIn S.meaning s.old s.new (division_of W x.now y.now made.now) result }
     ensures grows { IfOk result (λ _. Grows S.meaning s.old s.new 1 2) }
 {
@@ -120,11 +105,8 @@ fn division<const W: u32, S: Sink>(
 fn gate<const W: u32, S: Sink>(s: &mut S, scratch: &mut Scratch, x: &Bits, made: &Quot) -> Put<Wire>
     requires width { IsWidth W }
     requires room { Room S.meaning s.old 1 1 }
-    requires x_word { x.now.n ≡ W }
-    requires quot_word { made.now.quot.n ≡ W }
-    requires x_made { x.now.first + W ≤ S.meaning.wires s.old }
-    requires quot_made { made.now.quot.first + W ≤ S.meaning.wires s.old }
-    requires by_zero_made { made.now.by_zero < S.meaning.wires s.old }
+    requires x_word { AreBitsBelow (S.meaning.wires s.old) W x.now }
+    requires made { IsQuotientBelow (S.meaning.wires s.old) W made.now }
     ensures puts { PutsIn S.meaning s.old s.new (gate_of W x.now made.now) result }
     ensures grows { IfOk result (λ _. Grows S.meaning s.old s.new 1 1) }
     ensures below { IfOk result (λ gate. gate < S.meaning.wires s.new) }
@@ -147,11 +129,8 @@ fn remainder_below<const W: u32, S: Sink>(
 ) -> Put<()>
     requires width { IsWidth W }
     requires room { Room S.meaning s.old (W / 4 + 2) (W / 4 + 3) }
-    requires y_word { y.now.n ≡ W }
-    requires rem_word { made.now.rem.n ≡ W }
-    requires y_made { y.now.first + W ≤ S.meaning.wires s.old }
-    requires rem_made { made.now.rem.first + W ≤ S.meaning.wires s.old }
-    requires by_zero_made { made.now.by_zero < S.meaning.wires s.old }
+    requires y_word { AreBitsBelow (S.meaning.wires s.old) W y.now }
+    requires made { IsQuotientBelow (S.meaning.wires s.old) W made.now }
     ensures puts { PutsIn S.meaning s.old s.new (remainder_below_of W y.now made.now) result }
     ensures grows { IfOk result (λ _. Grows S.meaning s.old s.new (W / 4 + 2) (W / 4 + 3)) }
 {
@@ -161,8 +140,8 @@ fn remainder_below<const W: u32, S: Sink>(
     prefix_difference_by(s, scratch, y, &made.rem, &difference, W / CHUNKS, CHUNKS)
 }
 
-/// Assigns the `2 W + W / 4 + 4` values of the wires that `quotient` makes for bits that spell `x`
-/// and `y`.
+/// Assigns the `2 W + W / 4 + 4` values of the wires that `quotient` makes for bits that represent
+/// `x` and `y`.
 pub fn fill_quotient<const W: u32, V: Values>(v: &mut V, x: u32, y: u32) -> Put<()>
     requires width { IsWidth W }
     requires x_word { x < 2 ^ W }
@@ -214,14 +193,14 @@ fn fill_above<const W: u32, V: Values>(v: &mut V, x: u32, y: u32) -> Put<()>
     fill_prefix_difference(v, y, rem, F::of(above), W / CHUNKS, CHUNKS)
 }
 
-/// Where bits spell words of `W` bits and an assignment meets what `quotient` put, its wires spell
-/// their quotient and their remainder.
+/// Where bits represent words of `W` bits and an assignment satisfies the constraints of
+/// `quotient`, its wires represent their quotient and their remainder.
 pub fn quotient_is_sound()
     ensures { QuotientIsSound }
 {}
 
-/// Where bits spell words and an assignment has the values that `fill_quotient` assigns, it meets
-/// what `quotient` put.
+/// Where bits represent words and an assignment has the values that `fill_quotient` assigns, it
+/// satisfies the constraints of `quotient`.
 #[tactic(auto, using(crate::proofs::QuotientLaws::quotient_complete))]
 pub fn quotient_is_complete()
     ensures { QuotientIsComplete }

@@ -1,4 +1,4 @@
-//! What the gadgets answer.
+//! What the gadgets return.
 use tv_bits::Bits;
 use tv_core::Wire;
 

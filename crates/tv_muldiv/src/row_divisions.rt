@@ -1,5 +1,6 @@
 //! The quotient and the remainder of two words in a row of twice their width.
 ghost use Rattle.std.specs.Prelude.{◌≡◌, ◌+◌, ◌%◌, ◌^◌, ◌≤◌, ◌<◌, ◌++◌, false, max, IfOk, OnOk};
+ghost use Rattle.tv_bits.specs.Bits.{AreBitsBelow};
 ghost use Rattle.tv_bits.specs.DoubleRow.{row_number};
 ghost use Rattle.tv_bits.specs.Times.{times_of};
 ghost use Rattle.tv_core.specs.Combinations.{wire, top};
@@ -18,9 +19,9 @@ use tv_core::{F, Lc, Put, Scratch, Sink, Values, Wire, give_values};
 /// Constrains a row to the division of two words of `W` bits where `gate` is 1: its low half is the
 /// remainder and its high half the quotient, both 0 where `y` is, and `by_zero`, a bit, is 1
 /// exactly there. The number of `bits` is then by how much more than 1 the divisor, or 2^`W` in
-/// place of 0, is above the remainder. Where `gate` is 0, the bits spell `x`, and nothing is asked
-/// of the row. It returns a wire that is `by_zero` times `x`. It makes 2 wires and 4 constraints,
-/// of `W + 17` terms beside twice those of `gate`.
+/// place of 0, is above the remainder. Where `gate` is 0, the bits represent `x`, and nothing is
+/// asked of the row. It returns a wire that is `by_zero` times `x`. It makes 2 wires and 4
+/// constraints, of `W + 17` terms beside twice those of `gate`.
 pub fn row_division<const W: u32, S: Sink>(
     s: &mut S,
     scratch: &mut Scratch,
@@ -33,12 +34,9 @@ pub fn row_division<const W: u32, S: Sink>(
 ) -> Put<Wire>
     requires width { IsWidth W }
     requires room { Room S.meaning s.old 2 4 }
-    requires gate_made { top gate.now ≤ S.meaning.wires s.old }
-    requires words_made { max x y < S.meaning.wires s.old }
-    requires by_zero_made { by_zero < S.meaning.wires s.old }
-    requires bits_word { bits.now.n ≡ W }
-    requires bits_made { bits.now.first + W ≤ S.meaning.wires s.old }
-    requires row_made { top (row_number W row.now) ≤ S.meaning.wires s.old }
+    requires terms_made { max (top gate.now) (top (row_number W row.now)) ≤ S.meaning.wires s.old }
+    requires words_made { max (max x y) by_zero < S.meaning.wires s.old }
+    requires bits_made { AreBitsBelow (S.meaning.wires s.old) W bits.now }
     ensures puts { PutsIn S.meaning s.old s.new
         (row_division_of W gate.now x y by_zero bits.now row.now) result }
     ensures grows { IfOk result (λ _. Grows S.meaning s.old s.new 2 4) }
@@ -122,7 +120,7 @@ fn row_division_values(by_zero: F, x: u32, high: u32, y: u32) -> [F; 2]
 }
 
 /// Returns by how much more than 1 the divisor `y`, or 2^`W` in place of 0, is above the remainder
-/// of `x`: the number that the bits of a division spell.
+/// of `x`: the number that the bits of a division represent.
 pub fn below_divisor<const W: u32>(x: u32, y: u32) -> u32
     requires width { IsWidth W }
     requires y_word { y < 2 ^ W }
@@ -136,22 +134,22 @@ pub fn below_divisor<const W: u32>(x: u32, y: u32) -> u32
     }
 }
 
-/// Where the gate is 1, the wires hold words and an assignment meets what `row_division` put, the
-/// row is their division; where the gate is 0, the bits spell `x`.
+/// Where the gate is 1, the wires hold words and an assignment satisfies the constraints of
+/// `row_division`, the row is their division; where the gate is 0, the bits represent `x`.
 #[tactic(auto, using(crate::proofs::RowDivisionLaws::row_division_sound))]
 pub fn row_division_is_sound()
     ensures { RowDivisionIsSound }
 {}
 
-/// Where the row is the division of the words and the bits spell what is below the divisor, or the
-/// gate is 0 and they spell `x`, an assignment that has the values that `fill_row_division` assigns
-/// meets what `row_division` put; and the division of two words is a row.
+/// Where the row is the division of the words and the bits represent what is below the divisor, or
+/// the gate is 0 and they represent `x`, an assignment that has the values that `fill_row_division`
+/// assigns satisfies the constraints of `row_division`; and the division of two words is a row.
 #[tactic(auto, using(crate::proofs::RowDivisionLaws::row_division_complete))]
 pub fn row_division_is_complete()
     ensures { RowDivisionIsComplete }
 {}
 
-/// Says which wire `row_division` answers, and that `fill_row_division` assigns one value below P
+/// Says which wire `row_division` returns, and that `fill_row_division` assigns one value below P
 /// to each wire that it makes.
 #[tactic(auto, using(crate::proofs::RowDivisionLaws::row_division_sizes))]
 pub fn row_division_fills()

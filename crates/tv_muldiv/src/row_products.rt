@@ -65,16 +65,16 @@ pub fn fill_row_product<V: Values>(v: &mut V, x: u32, y: u32) -> Put<()>
     v.give(F::from(x) * F::from(y))
 }
 
-/// Where the gate is 1, the wires hold words and an assignment meets what `row_product` put, the
-/// row holds their product.
+/// Where the gate is 1, the wires hold words and an assignment satisfies the constraints of
+/// `row_product`, the row holds their product.
 #[tactic(auto, using(crate::proofs::RowProductLaws::row_product_sound))]
 pub fn row_product_is_sound()
     ensures { RowProductIsSound }
 {}
 
 /// Where the row holds the product of the words, or the gate is 0, an assignment that has the value
-/// that `fill_row_product` assigns meets what `row_product` put; and the product of two words is a
-/// row.
+/// that `fill_row_product` assigns satisfies the constraints of `row_product`; and the product of
+/// two words is a row.
 #[tactic(auto, using(crate::proofs::RowProductLaws::row_product_complete))]
 pub fn row_product_is_complete()
     ensures { RowProductIsComplete }

@@ -37,8 +37,7 @@ pub fn row_signed_product<const W: u32, S: Sink>(
     requires width { IsWidth W }
     requires room { Room S.meaning s.old 1 2 }
     requires gate_made { top gate.now ≤ S.meaning.wires s.old }
-    requires x_made { top_signed x.now ≤ S.meaning.wires s.old }
-    requires y_made { top_signed y.now ≤ S.meaning.wires s.old }
+    requires words_made { max (top_signed x.now) (top_signed y.now) ≤ S.meaning.wires s.old }
     requires bits_made { row.now.first + 2 * W ≤ S.meaning.wires s.old }
     requires row_made { top (row_number W row.now) ≤ S.meaning.wires s.old }
     ensures puts { PutsIn S.meaning s.old s.new
@@ -134,9 +133,9 @@ pub fn signed_product_halves<const W: u32>(x: u32, y: u32) -> (u32, u32)
     ((product % (1 << W)) as u32, (product >> W) as u32)
 }
 
-/// Where the gate is 1, the wires hold words and an assignment meets what `row_signed_product` put,
-/// the row holds their signed product. Its high half is 2^`W` - 1 times the highest bit of its low
-/// half exactly where the product is a signed word.
+/// Where the gate is 1, the wires hold words and an assignment satisfies the constraints of
+/// `row_signed_product`, the row holds their signed product. Its high half is 2^`W` - 1 times the
+/// highest bit of its low half exactly where the product is a signed word.
 #[tactic(auto, using(crate::proofs::RowSignedProductLaws::row_signed_product_laws))]
 pub fn row_signed_product_is_sound()
     ensures sound { RowSignedProductIsSound }
@@ -144,7 +143,8 @@ pub fn row_signed_product_is_sound()
 {}
 
 /// Where the row holds the signed product of the words, or the gate is 0, an assignment that has
-/// the value that `fill_row_signed_product` assigns meets what `row_signed_product` put.
+/// the value that `fill_row_signed_product` assigns satisfies the constraints of
+/// `row_signed_product`.
 #[tactic(auto, using(crate::proofs::RowSignedProductLaws::row_signed_product_complete))]
 pub fn row_signed_product_is_complete()
     ensures { RowSignedProductIsComplete }

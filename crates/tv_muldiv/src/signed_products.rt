@@ -1,5 +1,6 @@
 //! The high word of the signed product of two words.
 ghost use Rattle.std.specs.Prelude.{◌≡◌, ◌+◌, ◌*◌, ◌≤◌, ◌<◌, ◌^◌, false, IfOk, OnOk};
+ghost use Rattle.tv_bits.specs.Bits.{AreBitsBelow};
 ghost use Rattle.tv_core.specs.Combinations.{top};
 ghost use Rattle.tv_core.specs.Giving.{GivesIn};
 ghost use Rattle.tv_core.specs.Sinks.{PutsIn, Grows, Room};
@@ -22,14 +23,11 @@ use tv_word::arithmetic::signed_word;
 pub fn signed_high<const W: u32, S: Sink>(s: &mut S, x: &Bits, y: &Bits) -> Put<High>
     requires width { IsWidth W }
     requires room { Room S.meaning s.old (2 * W + 2) (2 * W + 3) }
-    requires x_word { x.now.n ≡ W }
-    requires y_word { y.now.n ≡ W }
-    requires x_made { x.now.first + W ≤ S.meaning.wires s.old }
-    requires y_made { y.now.first + W ≤ S.meaning.wires s.old }
+    requires x_word { AreBitsBelow (S.meaning.wires s.old) W x.now }
+    requires y_word { AreBitsBelow (S.meaning.wires s.old) W y.now }
     ensures puts { PutsIn S.meaning s.old s.new (signed_high_of W x.now y.now) result }
     ensures grows { IfOk result (λ _. Grows S.meaning s.old s.new (2 * W + 2) (2 * W + 3)) }
-    ensures size { IfOk result (λ made. made.high.n ≡ W) }
-    ensures high_below { IfOk result (λ made. made.high.first + W ≤ S.meaning.wires s.new) }
+    ensures high_below { IfOk result (λ made. AreBitsBelow (S.meaning.wires s.new) W made.high) }
     ensures over_below { IfOk result (λ made. made.over < S.meaning.wires s.new) }
 {
     let mut scratch = Scratch::new();
@@ -40,7 +38,7 @@ pub fn signed_high<const W: u32, S: Sink>(s: &mut S, x: &Bits, y: &Bits) -> Put<
     Ok(High { high, over })
 }
 
-// `2 W` bits that spell the product in two's complement.
+// `2 W` bits that represent the product in two's complement.
 fn signed_bits<const W: u32, S: Sink>(
     s: &mut S,
     scratch: &mut Scratch,
@@ -49,14 +47,11 @@ fn signed_bits<const W: u32, S: Sink>(
 ) -> Put<Bits>
     requires width { IsWidth W }
     requires room { Room S.meaning s.old (2 * W) (2 * W + 1) }
-    requires x_word { x.now.n ≡ W }
-    requires y_word { y.now.n ≡ W }
-    requires x_made { x.now.first + W ≤ S.meaning.wires s.old }
-    requires y_made { y.now.first + W ≤ S.meaning.wires s.old }
+    requires x_word { AreBitsBelow (S.meaning.wires s.old) W x.now }
+    requires y_word { AreBitsBelow (S.meaning.wires s.old) W y.now }
     ensures puts { PutsIn S.meaning s.old s.new (signed_bits_of W x.now y.now) result }
     ensures grows { IfOk result (λ _. Grows S.meaning s.old s.new (2 * W) (2 * W + 1)) }
-    ensures size { IfOk result (λ made. made.n ≡ 2 * W) }
-    ensures below { IfOk result (λ made. made.first + 2 * W ≤ S.meaning.wires s.new) }
+    ensures below { IfOk result (AreBitsBelow (S.meaning.wires s.new) (2 * W)) }
 {
     let made = new_bits_by(s, &mut scratch.a, 2 * W)?;
     fill_signed_number(&mut scratch.a, x.first, W);
@@ -81,8 +76,8 @@ fn fill_excess<const W: u32>(lc: &mut Lc, first: Wire)
     lc.plus(-F::of((1 << W) - 1), first.offset(W - 1));
 }
 
-/// Assigns the `2 W + 2` values of the wires that `signed_high` makes for bits that spell `x` and
-/// `y`.
+/// Assigns the `2 W + 2` values of the wires that `signed_high` makes for bits that represent `x`
+/// and `y`.
 pub fn fill_signed_high<const W: u32, V: Values>(v: &mut V, x: u32, y: u32) -> Put<()>
     requires width { IsWidth W }
     requires x_word { x < 2 ^ W }
@@ -130,14 +125,14 @@ fn excess_in<const W: u32>(number: u64) -> F
     F::of(number >> W) + -F::of((1 << W) - 1) * sign
 }
 
-/// Where bits spell words and an assignment meets what `signed_high` put, its wires spell the high
-/// word of their signed product.
+/// Where bits represent words and an assignment satisfies the constraints of `signed_high`, its
+/// wires represent the high word of their signed product.
 pub fn signed_high_is_sound()
     ensures { SignedHighIsSound }
 {}
 
-/// Where bits spell words and an assignment has the values that `fill_signed_high` assigns, it
-/// meets what `signed_high` put.
+/// Where bits represent words and an assignment has the values that `fill_signed_high` assigns, it
+/// satisfies the constraints of `signed_high`.
 #[tactic(auto, using(crate::proofs::SignedHighLaws::signed_high_complete))]
 pub fn signed_high_is_complete()
     ensures { SignedHighIsComplete }

@@ -1,4 +1,4 @@
-//! Numbers that wires spell, also in two's complement, and the bits of a number.
+//! Numbers that wires represent, also in two's complement, and the bits of a number.
 ghost use Rattle.std.specs.Prelude.{◌≡◌, ◌+◌, ◌*◌, ◌≤◌, ◌<◌, ◌^◌, false, OnOk};
 ghost use Rattle.tv_bits.specs.Bits.{bits_combination};
 ghost use Rattle.tv_core.specs.Combinations.{top};
@@ -22,8 +22,8 @@ fn fill_weighed(lc: &mut Lc, first: Wire, n: u32, weight: F)
     lc.plus(weight, first.offset(last));
 }
 
-/// Makes `lc` the number that `n` wires from a first one on spell in two's complement, `n` from 1
-/// to 64.
+/// Makes `lc` the number that `n` wires from a first one on represent in two's complement, `n` from
+/// 1 to 64.
 pub(crate) fn fill_signed_number(lc: &mut Lc, first: Wire, n: u32)
     requires some { 1 ≤ n }
     requires short { n ≤ 64 }
@@ -34,7 +34,7 @@ pub(crate) fn fill_signed_number(lc: &mut Lc, first: Wire, n: u32)
     fill_weighed(lc, first, n, -F::of(1 << (n - 1)));
 }
 
-/// Makes `lc` the number that `2 W` wires from a first one on spell.
+/// Makes `lc` the number that `2 W` wires from a first one on represent.
 pub(crate) fn fill_long<const W: u32>(lc: &mut Lc, first: Wire)
     requires width { IsWidth W }
     requires within { first + 2 * W < 2 ^ 32 }

@@ -34,17 +34,17 @@ read_reg_of sel regs = do
 abbrev pub read_reg_values : ℕ → List ℕ → List ℕ
 read_reg_values i words = slice_index words i ∷ []
 
--- in an assignment that meets what was put the answer is the register that the row has
+-- in an assignment that satisfies the constraints the result is the register that the row has
 abbrev pub ReadRegIsSound : Type 0
 ReadRegIsSound = (z : List ℕ) (next sel : ℕ) (regs : List ℕ) (i : ℕ) → length regs ≡ 16 → Assigns z → IsOneHot z sel 16 i
     → Meets z (read_reg_of sel regs next).list → slice_index z (read_reg_of sel regs next).answer ≡ slice_index (words_at z regs) i
 
--- an assignment that has this value at the wire that was made meets what was put
+-- an assignment that has this value at the wire that was made satisfies the constraints
 abbrev pub ReadRegIsComplete : Type 0
 ReadRegIsComplete = (z : List ℕ) (next sel : ℕ) (regs : List ℕ) (i : ℕ) → length regs ≡ 16 → Assigns z → IsOneHot z sel 16 i
     → HasFrom z next (read_reg_values i (words_at z regs)) → Meets z (read_reg_of sel regs next).list
 
--- which wire is answered, and that the values are one number of the field for each wire that is made
+-- which wire is returned, and that the values are one number of the field for each wire that is made
 pub record ReadRegSizes : Type 0 where
   pub answer : (sel : ℕ) (regs : List ℕ) (next : ℕ) → (read_reg_of sel regs next).answer ≡ next
   pub end : (sel : ℕ) (regs : List ℕ) (next : ℕ) → (read_reg_of sel regs next).next ≡ next + 1

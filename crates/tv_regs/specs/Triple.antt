@@ -96,7 +96,7 @@ triple_of stores target source named regs = do
   dest_word ← point_of (wire roots.dest) curve
   pure (record { dest = roots.dest; other = roots.other; other_word = other_word; named_word = named_word; dest_word = dest_word })
 
--- the number that bits spell
+-- the number that bits represent
 abbrev pub number_of : Bits → Combination
 number_of bits = bits_combination bits.first bits.n
 
@@ -117,7 +117,7 @@ pub record AreRoots (wires : ℕ) (roots : Roots) : Type 0 where
   pub pairs : roots.pairs < wires
   pub product : roots.product < wires
 
--- what is answered where the first of these wires has this number
+-- what is returned, computed from the number of the first of these wires
 abbrev pub triple_wires : ℕ → Triple
 triple_wires first = record { dest = first; other = first + 1; other_word = first + 26; named_word = first + 28; dest_word = first + 30 }
 
@@ -199,20 +199,20 @@ pub record AreNumbers (z : List ℕ) (stores target source named : Combination) 
 abbrev pub other_number : List ℕ → Combination → Combination → Combination → ℕ
 other_number z stores target source = selected (value stores z) (value target z) (value source z)
 
--- in an assignment that meets what was put the wires hold the three registers
+-- in an assignment that satisfies the constraints the wires hold the three registers
 abbrev pub TripleIsSound : Type 0
 TripleIsSound = (z : List ℕ) (next : ℕ) (stores target source named : Combination) (regs : List ℕ) → length regs ≡ 16 → Assigns z
     → AreNumbers z stores target source named → Meets z (triple_of stores target source named regs next).list
     → AreRead z (triple_of stores target source named regs next).answer (other_number z stores target source) (value named z) (value target z) (words_at z regs)
 
--- an assignment that has these values at the wires that were made meets what was put
+-- an assignment that has these values at the wires that were made satisfies the constraints
 abbrev pub TripleIsComplete : Type 0
 TripleIsComplete = (z : List ℕ) (next : ℕ) (stores target source named : Combination) (regs : List ℕ) → length regs ≡ 16 → Assigns z
     → AreNumbers z stores target source named
     → HasFrom z next (triple_values (other_number z stores target source) (value named z) (value target z) (words_at z regs))
     → Meets z (triple_of stores target source named regs next).list
 
--- which wires are answered, and that the values are one number of the field for each wire that is made
+-- which wires are returned, and that the values are one number of the field for each wire that is made
 pub record TripleSizes : Type 0 where
   pub answer : (stores target source named : Combination) (regs : List ℕ) (next : ℕ) → (triple_of stores target source named regs next).answer ≡ triple_wires next
   pub end : (stores target source named : Combination) (regs : List ℕ) (next : ℕ) → (triple_of stores target source named regs next).next ≡ next + 31

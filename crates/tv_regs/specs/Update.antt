@@ -60,19 +60,19 @@ pub record IsWrite (z : List ℕ) (on dest word : ℕ) (regs : List ℕ) (i : �
   pub within : i < 16
   pub old : slice_index z word ≡ slice_index (words_at z regs) i
 
--- in an assignment that meets what was put the answer is the registers after the write
+-- in an assignment that satisfies the constraints the result is the registers after the write
 abbrev pub UpdateIsSound : Type 0
 UpdateIsSound = (z : List ℕ) (next on dest word result : ℕ) (regs : List ℕ) (i : ℕ) → Assigns z → IsWrite z on dest word regs i
     → Meets z (update_of on dest word result regs next).list
     → words_at z (update_of on dest word result regs next).answer ≡ written_regs (slice_index z on == 1) (slice_index z result) i (words_at z regs)
 
--- an assignment that has the registers after the write at the wires that were made meets what was put
+-- an assignment that has the registers after the write at the wires that were made satisfies the constraints
 abbrev pub UpdateIsComplete : Type 0
 UpdateIsComplete = (z : List ℕ) (next on dest word result : ℕ) (regs : List ℕ) (i : ℕ) → Assigns z → IsWrite z on dest word regs i
     → HasFrom z next (written_regs (slice_index z on == 1) (slice_index z result) i (words_at z regs))
     → Meets z (update_of on dest word result regs next).list
 
--- which wires are answered, and that the values, the registers after the write, are one number of the field for each
+-- which wires are returned, and that the values, the registers after the write, are one number of the field for each
 -- wire that is made
 pub record UpdateSizes : Type 0 where
   pub answer : (on dest word result : ℕ) (regs : List ℕ) (next : ℕ) → (update_of on dest word result regs next).answer ≡ range_with_len next 16

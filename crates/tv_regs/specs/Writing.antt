@@ -57,19 +57,19 @@ written_regs on x i words = if on then slice_set words i x else words
 abbrev pub write_reg_values : Bool → ℕ → ℕ → List ℕ → List ℕ
 write_reg_values on x i words = slice_index (written_regs on x i words) i ∷ written_regs on x i words
 
--- in an assignment that meets what was put the answer is the registers after the write
+-- in an assignment that satisfies the constraints the result is the registers after the write
 abbrev pub WriteRegIsSound : Type 0
 WriteRegIsSound = (z : List ℕ) (next sel on : ℕ) (x : Combination) (regs : List ℕ) (i : ℕ) → length regs ≡ 16 → Assigns z → IsOneHot z sel 16 i
     → IsBit (slice_index z on) → Meets z (write_reg_of sel on x regs next).list
     → words_at z (write_reg_of sel on x regs next).answer ≡ written_regs (slice_index z on == 1) (value x z) i (words_at z regs)
 
--- an assignment that has these values at the wires that were made meets what was put
+-- an assignment that has these values at the wires that were made satisfies the constraints
 abbrev pub WriteRegIsComplete : Type 0
 WriteRegIsComplete = (z : List ℕ) (next sel on : ℕ) (x : Combination) (regs : List ℕ) (i : ℕ) → length regs ≡ 16 → Assigns z → IsOneHot z sel 16 i
     → IsBit (slice_index z on) → HasFrom z next (write_reg_values (slice_index z on == 1) (value x z) i (words_at z regs))
     → Meets z (write_reg_of sel on x regs next).list
 
--- which wires are answered, and that the values are one number of the field for each wire that is made
+-- which wires are returned, and that the values are one number of the field for each wire that is made
 pub record WriteRegSizes : Type 0 where
   pub answer : (sel on : ℕ) (x : Combination) (regs : List ℕ) (next : ℕ) → (write_reg_of sel on x regs next).answer ≡ range_with_len (next + 1) 16
   pub end : (sel on : ℕ) (x : Combination) (regs : List ℕ) (next : ℕ) → (write_reg_of sel on x regs next).next ≡ next + 17

@@ -7,8 +7,8 @@ ghost use Rattle.tv_regs.specs.Reading.{ReadRegIsSound, ReadRegIsComplete, ReadR
 
 use tv_core::{F, Put, Scratch, Sink, Values, Wire};
 
-/// A wire that is the register whose number the one-hot row of 16 wires from `sel` on has. It
-/// makes 1 wire and 16 constraints, of 48 terms.
+/// Returns a wire that is constrained to the register whose number the one-hot row of 16 wires from
+/// `sel` on has. It makes 1 wire and 16 constraints, of 48 terms.
 pub fn read_reg<S: Sink>(s: &mut S, sel: Wire, regs: &[Wire; 16]) -> Put<Wire>
     requires room { Room S.meaning s.old 1 16 }
     requires sel_made { sel + 16 ≤ S.meaning.wires s.old }
@@ -40,7 +40,7 @@ fn read<S: Sink>(s: &mut S, scratch: &mut Scratch, w: Wire, sel: Wire, reg: Wire
     s.put(&scratch.a, &scratch.b, &scratch.c)
 }
 
-/// Gives the value of the wire that `read_reg` makes: the register with this number, below 16.
+/// Assigns the value of the wire that `read_reg` makes: the register with this number, below 16.
 pub fn fill_read_reg<V: Values>(v: &mut V, sel: u32, regs: &[u32; 16]) -> Put<()>
     requires within { sel < 16 }
     requires whole { V.giving.broken v.old ≡ false }
@@ -50,21 +50,21 @@ pub fn fill_read_reg<V: Values>(v: &mut V, sel: u32, regs: &[u32; 16]) -> Put<()
     v.give(F::from(regs[sel as usize]))
 }
 
-/// Where an assignment has a one-hot row and meets what `read_reg` put, its wire holds the
-/// register that the row has.
+/// Where an assignment has a one-hot row and satisfies the constraints of `read_reg`, its wire
+/// holds the register that the row has.
 pub fn read_reg_is_sound()
     ensures { ReadRegIsSound }
 {}
 
-/// Where an assignment has a one-hot row and the value that `fill_read_reg` gives for it, it
-/// meets what `read_reg` put.
+/// Where an assignment has a one-hot row and the value that `fill_read_reg` assigns for it, it
+/// satisfies the constraints of `read_reg`.
 #[tactic(auto, using(crate::proofs::ReadLaws::read_reg_complete))]
 pub fn read_reg_is_complete()
     ensures { ReadRegIsComplete }
 {}
 
-/// Says which wire `read_reg` answers, whatever the next wire is, and that `fill_read_reg` gives
-/// one value for it, below P.
+/// Says which wire `read_reg` returns, whatever the next wire is, and that `fill_read_reg` assigns
+/// it one value, below P.
 #[tactic(auto, using(crate::proofs::ReadLaws::read_reg_sizes))]
 pub fn read_reg_fills()
     ensures { ReadRegSizes }

@@ -464,22 +464,22 @@ fn passing(curve: &Curve, o: u32, b: u32, d: u32, regs: &[u32; 16], i: u32) -> F
     (F::from(regs[i as usize]) - at) * inverse_of_three(i, o, b, d)
 }
 
-/// Where an assignment has a bit and three numbers of registers and meets what `read_triple` put,
-/// the wires that it answered hold the numbers and the words of these registers.
+/// Where an assignment has a bit and three numbers of registers and satisfies the constraints of
+/// `read_triple`, the returned wires hold the numbers and the words of these registers.
 #[tactic(auto, using(crate::proofs::TripleLaws::triple_sound))]
 pub fn triple_is_sound()
     ensures { TripleIsSound }
 {}
 
-/// Where an assignment has so, and the values that `fill_triple` assigns, it meets what
-/// `read_triple` put.
+/// Where an assignment has so, and the values that `fill_triple` assigns, it satisfies the
+/// constraints of `read_triple`.
 #[tactic(auto, using(crate::proofs::TripleLaws::triple_complete))]
 pub fn triple_is_complete()
     ensures { TripleIsComplete }
 {}
 
-/// Says which wires `read_triple` answers and how many it makes, whatever the next wire is, and
-/// that `fill_triple` assigns one value for each of them, below P.
+/// Says which wires `read_triple` returns and how many it makes, whatever the next wire is, and
+/// that `fill_triple` assigns one value to each of them, below P.
 #[tactic(auto, using(crate::proofs::TripleLaws::triple_sizes))]
 pub fn triple_fills()
     ensures { TripleSizes }

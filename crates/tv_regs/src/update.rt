@@ -120,22 +120,22 @@ pub fn fill_update<V: Values>(v: &mut V, dest: u32, on: bool, x: u32, regs: &[u3
 }
 
 /// Where an assignment has a bit at `on`, the number of a register at `dest` and its word at
-/// `word`, and meets what `update_register` put, the wires that it answered hold the registers
-/// after the write.
+/// `word`, and satisfies the constraints of `update_register`, the returned wires hold the
+/// registers after the write.
 #[tactic(auto, using(crate::proofs::UpdateLaws::update_sound))]
 pub fn update_is_sound()
     ensures { UpdateIsSound }
 {}
 
-/// Where an assignment has so, and the values that `fill_update` assigns, it meets what
-/// `update_register` put.
+/// Where an assignment has so, and the values that `fill_update` assigns, it satisfies the
+/// constraints of `update_register`.
 #[tactic(auto, using(crate::proofs::UpdateLaws::update_complete))]
 pub fn update_is_complete()
     ensures { UpdateIsComplete }
 {}
 
-/// Says which wires `update_register` answers and how many it makes, whatever the next wire is, and
-/// that `fill_update` assigns one value for each of them.
+/// Says which wires `update_register` returns and how many it makes, whatever the next wire is, and
+/// that `fill_update` assigns one value to each of them.
 #[tactic(auto, using(crate::proofs::UpdateLaws::update_sizes))]
 pub fn update_fills()
     ensures { UpdateSizes }

@@ -100,7 +100,7 @@ pub fn wires_from(first: Wire) -> [Wire; 16]
     made
 }
 
-/// Gives the 17 values of the wires that `write_reg` makes: the register with this number, below
+/// Assigns the 17 values of the wires that `write_reg` makes: the register with this number, below
 /// 16, after the write, and then all registers.
 pub fn fill_write_reg<V: Values>(v: &mut V, sel: u32, on: bool, x: u32, regs: &[u32; 16]) -> Put<()>
     requires within { sel < 16 }
@@ -125,21 +125,21 @@ pub(crate) fn written_regs(on: bool, x: u32, sel: u32, regs: &[u32; 16]) -> [u32
     written
 }
 
-/// Where an assignment has a one-hot row and a bit and meets what `write_reg` put, the wires that
-/// it answered hold the registers after the write.
+/// Where an assignment has a one-hot row and a bit and satisfies the constraints of `write_reg`,
+/// the returned wires hold the registers after the write.
 pub fn write_reg_is_sound()
     ensures { WriteRegIsSound }
 {}
 
-/// Where an assignment has a one-hot row and a bit, and the values that `fill_write_reg` gives
-/// for them, it meets what `write_reg` put.
+/// Where an assignment has a one-hot row and a bit, and the values that `fill_write_reg` assigns
+/// for them, it satisfies the constraints of `write_reg`.
 #[tactic(auto, using(crate::proofs::WriteLaws::write_reg_complete))]
 pub fn write_reg_is_complete()
     ensures { WriteRegIsComplete }
 {}
 
-/// Says which wires `write_reg` answers and how many it makes, whatever the next wire is, and
-/// that `fill_write_reg` gives one value for each of them, below P.
+/// Says which wires `write_reg` returns and how many it makes, whatever the next wire is, and that
+/// `fill_write_reg` assigns one value to each of them, below P.
 #[tactic(auto, using(crate::proofs::WriteLaws::write_reg_sizes))]
 pub fn write_reg_fills()
     ensures { WriteRegSizes }

@@ -50,7 +50,7 @@ module _ {S : Type 0} (m : Meaning S) (earlier : List LineLc) (line : LineLc) wh
       puts_in_then m (turns (length earlier) (turn_of earlier line) []) (λ word. put word (constant 1) line.old) old mid new word result
       (subst (λ n. PutsAll m old mid (turns n (turn_of earlier line) []) word) all p) q
 
--- what was given of a list, by another spelling of the list
+-- what was passed of a list, the list being written in another way
 pub given_as : {V : Type 0} (m : Giving V) (xs ys : List ℕ) (old new : V) (fault : SinkFault) → xs ≡ ys → GivesSome m old new xs fault
     → GivesSome m old new ys fault
 given_as m xs ys old new fault same p = subst (λ vs. GivesSome m old new vs fault) same p

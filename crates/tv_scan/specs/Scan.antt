@@ -57,12 +57,12 @@ abbrev pub scan_values : List Line → Line → List ℕ
 scan_values earlier line = joined_below (length earlier) (look_values earlier line)
 
 -- ---- the laws
--- in an assignment that meets what was put the old word is the new one of the latest earlier line of the cell, or 0
+-- in an assignment that satisfies the constraints the old word is the new one of the latest earlier line of the cell, or 0
 abbrev pub ScanIsSound : Type 0
 ScanIsSound = (z : List ℕ) (next : ℕ) (earlier : List LineLc) (line : LineLc) → Assigns z → Meets z (scan_of earlier line next).list
     → value line.old z ≡ memory_after (map (line_value z) earlier) (value line.cell z)
 
--- where it is, an assignment that has these values at the wires that were made meets what was put
+-- where it is, an assignment that has these values at the wires that were made satisfies the constraints
 abbrev pub ScanIsComplete : Type 0
 ScanIsComplete = (z : List ℕ) (next : ℕ) (earlier : List LineLc) (line : LineLc) → Assigns z
     → value line.old z ≡ memory_after (map (line_value z) earlier) (value line.cell z)

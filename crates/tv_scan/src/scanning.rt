@@ -48,7 +48,7 @@ fn look<S: Sink>(s: &mut S, before: &LineLc, line: &LineLc, word: &Lc) -> Put<Wi
     select(s, same, &before.new, word)
 }
 
-/// Gives the values of the wires that `scan` makes for these lines.
+/// Assigns the values of the wires that `scan` makes for these lines.
 pub fn fill_scan<V: Values>(v: &mut V, earlier: &[LineNum], line: &LineNum) -> Put<()>
     requires { V.giving.broken v.old ≡ false }
     ensures gives { GivesIn V.giving v.old v.new
@@ -74,7 +74,7 @@ fn left(before: &LineNum, line: &LineNum, word: F) -> F
     }
 }
 
-// Gives the values of the wires that `look` makes, `apart` being what the cells are apart.
+// Assigns the values of the wires that `look` makes, `apart` being what the cells are apart.
 fn fill_look<V: Values>(v: &mut V, apart: F, word: F) -> Put<()>
     requires { V.giving.broken v.old ≡ false }
     ensures gives { GivesIn V.giving v.old v.new (zero_values apart ++ word ∷ []) result }
@@ -84,19 +84,19 @@ fn fill_look<V: Values>(v: &mut V, apart: F, word: F) -> Put<()>
     v.give(word)
 }
 
-/// In an assignment that meets what `scan` put, the old word is the new one of the latest earlier
-/// line of the cell, or 0 where there is none.
+/// In an assignment that satisfies the constraints of `scan`, the old word is the new one of the
+/// latest earlier line of the cell, or 0 where there is none.
 pub fn scan_is_sound()
     ensures { ScanIsSound }
 {}
 
-/// Where the line's old word is that one, an assignment that has the values that `fill_scan` gives
-/// meets what `scan` put.
+/// Where the line's old word is that one, an assignment that has the values that `fill_scan`
+/// assigns satisfies the constraints of `scan`.
 pub fn scan_is_complete()
     ensures { ScanIsComplete }
 {}
 
-/// `fill_scan` gives as many values as `scan` makes wires, each below P.
+/// `fill_scan` assigns as many values as `scan` makes wires, each below P.
 pub fn scan_fills()
     ensures { ScanSizes }
 {}

@@ -44,7 +44,7 @@ use Rattle.tv_shift.specs.declared.masks.Places.{Places}
 use Rattle.tv_word.specs.Widths.{IsWidth}
 use Rattle.tv_word.proofs.WidthLaws.{word_small}
 
--- what is known of places, and of parts, for a word v, a distance whose low bits spell s, and the bit b above them
+-- what is known of places, and of parts, for a word v, a distance whose low bits represent s, and the bit b above them
 record ArePlaces (w : ℕ) (z : List ℕ) (p : Places) (s b v : ℕ) : Type 0 where
   marks : Marks z p.distance p.products (half_log w) s
   chosen : Spells z p.chosen (w / 2) (chosen_half (w / 2) b v)

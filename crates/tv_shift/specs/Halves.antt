@@ -19,7 +19,7 @@ half_bit_of n b x i = do
   _ ← select_of b (wire (x + (n + i))) (wire (x + i))
   pure tt
 
--- the n bits of that half; the answer is the first
+-- the n bits of that half; the first is returned
 unfoldable pub halves_of : ℕ → ℕ → ℕ → Circuit ℕ
 halves_of n b x = do
   first ← here

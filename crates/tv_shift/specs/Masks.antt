@@ -18,7 +18,7 @@ masked_pair_of mask digit n i = do
   m ← fresh
   two_ands_of (mask i) (digit i) (mask (n + i)) (digit (n + i)) (2 ^ (n / 2)) (wire m)
 
--- the part of 2 n bits, as n wires, lowest first; the answer is the first
+-- the part of 2 n bits, as n wires, lowest first; the first is returned
 unfoldable pub masked_of : (ℕ → Combination) → (ℕ → Combination) → ℕ → Circuit ℕ
 masked_of mask digit n = do
   first ← here
@@ -36,7 +36,7 @@ masked_values mask x n = each_below n (masked_value mask x n)
 abbrev pub half_log : ℕ → ℕ
 half_log w = w / 16 + 2
 
--- with the marks of a number s of so many bits: of the chosen half of a word its s low bits, of the other half its s
+-- with the marks of a number s of half_log w bits: of the chosen half of a word its s low bits, of the other half its s
 -- high bits
 unfoldable pub mask_at : ℕ → Places → Part → ℕ → Combination
 mask_at w p Low i = mark p.distance p.products (half_log w) i

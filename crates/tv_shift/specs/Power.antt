@@ -35,6 +35,7 @@ wide_power_of y = do
   power ← times_of (wire low.power) (factor_by 65536 (y + 4))
   pure (record { both = low.both; power = power })
 
+-- the power of a distance, at either width
 unfoldable pub shift_power_of : ℕ → Bits → Circuit ShiftPower
 shift_power_of w y = if w == 16 then low_power_of y.first else wide_power_of y.first
 
@@ -42,7 +43,7 @@ shift_power_of w y = if w == 16 then low_power_of y.first else wide_power_of y.f
 abbrev pub shift_power_made : ℕ → ℕ
 shift_power_made w = w / 16 + 2
 
--- what is answered where the first wire that is made has this number
+-- what is returned, computed from the number of the first wire that is made
 abbrev pub shift_power_wires : ℕ → ℕ → ShiftPower
 shift_power_wires w first = record { both = first; power = first + (w / 16 + 1) }
 
@@ -50,9 +51,11 @@ shift_power_wires w first = record { both = first; power = first + (w / 16 + 1) 
 abbrev pub low_power_values : ℕ → List ℕ
 low_power_values d = bit_at d 0 * bit_at d 1 ∷ 2 ^ (4 * (d / 4 % 4)) ∷ 2 ^ (d % 16) ∷ []
 
+-- and at 32 bits
 abbrev pub wide_power_values : ℕ → List ℕ
 wide_power_values d = low_power_values d ++ 2 ^ (d % 32) ∷ []
 
+-- and at either width
 abbrev pub shift_power_values : ℕ → ℕ → List ℕ
 shift_power_values w d = if w == 16 then low_power_values d else wide_power_values d
 
@@ -61,17 +64,17 @@ pub record IsShiftPower (w : ℕ) (z : List ℕ) (answer : ShiftPower) (d : ℕ)
   pub both : slice_index z answer.both ≡ bit_at d 0 * bit_at d 1
   pub power : slice_index z answer.power ≡ 2 ^ (d % w)
 
--- in an assignment that meets what was put the answer is the distance's power
+-- in an assignment that satisfies the constraints the result is the distance's power
 abbrev pub ShiftPowerIsSound : Type 0
 ShiftPowerIsSound = (w : ℕ) → IsWidth w → (z : List ℕ) (next : ℕ) (y : Bits) (d : ℕ) → Assigns z → Spells z y.first w d
     → Meets z (shift_power_of w y next).list → IsShiftPower w z (shift_power_of w y next).answer d
 
--- an assignment that has these values at the wires that were made meets what was put
+-- an assignment that has these values at the wires that were made satisfies the constraints
 abbrev pub ShiftPowerIsComplete : Type 0
 ShiftPowerIsComplete = (w : ℕ) → IsWidth w → (z : List ℕ) (next : ℕ) (y : Bits) (d : ℕ) → Assigns z → Spells z y.first w d
     → HasFrom z next (shift_power_values w d) → Meets z (shift_power_of w y next).list
 
--- which wires are answered, and that the values are one number of the field for each wire that is made
+-- which wires are returned, and that the values are one number of the field for each wire that is made
 pub record ShiftPowerSizes : Type 0 where
   pub answer : (w : ℕ) → IsWidth w → (y : Bits) (next : ℕ) → (shift_power_of w y next).answer ≡ shift_power_wires w next
   pub end : (w : ℕ) → IsWidth w → (y : Bits) (next : ℕ) → (shift_power_of w y next).next ≡ next + shift_power_made w

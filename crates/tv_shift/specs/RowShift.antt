@@ -62,13 +62,13 @@ abbrev pub right_shift_values : ℕ → ℕ → ℕ → ℕ → List ℕ
 right_shift_values w low high power = times_values (whole w low high) power
 
 -- ---- to the left
--- where the gate is 1 and the power is 2 ^ m, a row that meets what was put is the word shifted by m
+-- where the gate is 1 and the power is 2 ^ m, a row that satisfies the constraints is the word shifted by m
 abbrev pub LeftShiftIsSound : Type 0
 LeftShiftIsSound = (w : ℕ) → IsWidth w → (z : List ℕ) (next : ℕ) (gate : Combination) (v power : ℕ) (row : DoubleRow) (m : ℕ) → Assigns z → value gate z ≡ 1
     → slice_index z v < 2 ^ w → m < w → slice_index z power ≡ 2 ^ m → IsRow w (slice_index z row.low) (slice_index z row.high)
     → Meets z (left_shift_of w gate v power row next).list → IsLeftShift w z row (slice_index z v) m
 
--- a shifted word is a row; with the value of the wire that was made, a row that holds it meets what was put, and where the
+-- a shifted word is a row; with the value of the wire that was made, a row that holds it satisfies the constraints, and where the
 -- gate is 0 any row does
 pub record LeftShiftIsComplete : Type 0 where
   pub row : (w : ℕ) → IsWidth w → (v m : ℕ) → v < 2 ^ w → m < w → IsRow w (left_low w v m) (left_high w v m)
@@ -91,13 +91,13 @@ pub record LeftShiftCosts : Type 0 where
   pub terms : (w : ℕ) (gate : Combination) (v power : ℕ) (row : DoubleRow) (next : ℕ) → terms_in (left_shift_of w gate v power row next).list ≡ length gate + 6
 
 -- ---- to the right
--- where the gate is 1 and the power is 2 ^ m, a row that meets what was put is the word shifted by m
+-- where the gate is 1 and the power is 2 ^ m, a row that satisfies the constraints is the word shifted by m
 abbrev pub RightShiftIsSound : Type 0
 RightShiftIsSound = (w : ℕ) → IsWidth w → (z : List ℕ) (next : ℕ) (gate : Combination) (v power : ℕ) (row : DoubleRow) (m : ℕ) → Assigns z → value gate z ≡ 1
     → slice_index z v < 2 ^ w → m < w → slice_index z power ≡ 2 ^ m → IsRow w (slice_index z row.low) (slice_index z row.high)
     → Meets z (right_shift_of w gate v power row next).list → IsRightShift w z row (slice_index z v) m
 
--- a shifted word is a row; with the value of the wire that was made, a row that holds it meets what was put, and where the
+-- a shifted word is a row; with the value of the wire that was made, a row that holds it satisfies the constraints, and where the
 -- gate is 0 any row does
 pub record RightShiftIsComplete : Type 0 where
   pub row : (w : ℕ) → IsWidth w → (v m : ℕ) → v < 2 ^ w → m < w → IsRow w (right_low w v m) (right_high v m)

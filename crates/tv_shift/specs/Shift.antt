@@ -1,5 +1,5 @@
--- Shifts of a word by a word. A half of a word has n = 2^k bits, and the distance y is s + n b + 2 n c: s is spelled by
--- its k low bits, b is bit k, and c is spelled by the others.
+-- Shifts of a word by a word. A half of a word has n = 2^k bits, and the distance y is s + n b + 2 n c: s is represented by
+-- its k low bits, b is bit k, and c is represented by the others.
 use Rattle.std.specs.Prelude.{◌≡◌, ℕ, ◌+◌, ◌-◌, ◌*◌, ◌/◌, ◌%◌, ◌<◌, ◌^◌, List, [], ◌∷◌, ◌++◌, slice_index}
 use Rattle.std.specs.Int.{bit_at}
 use Rattle.tv_bits.specs.Bits.{Spells, bits_combination, bits_values}
@@ -88,7 +88,7 @@ parts_made w = places_made w + w / 2
 abbrev pub shift_made : ℕ → ℕ
 shift_made w = parts_made w + 8
 
--- what is answered where the first of these wires has this number: the last two
+-- what is returned, computed from the number of the first of these wires: the last two
 abbrev pub shift_wires : ℕ → ℕ → Shift
 shift_wires w first = record { left = first + (shift_made w - 2); right = first + (shift_made w - 1) }
 
@@ -121,18 +121,18 @@ shift_values w x y =
     ++ (zero_values (y / 2 ^ (half_log w + 1))
     ++ shifted_left w x y ∷ shifted_right x y ∷ []))
 
--- in an assignment that meets what was put, the answer is the word shifted by the other
+-- in an assignment that satisfies the constraints, the result is the word shifted by the other
 abbrev pub ShiftIsSound : Type 0
 ShiftIsSound = (w : ℕ) → IsWidth w → (z : List ℕ) (next : ℕ) (x y : Bits) (v d : ℕ) → Assigns z → Spells z x.first w v → Spells z y.first w d
     → Meets z (shift_of w x y next).list → IsShifted w z (shift_of w x y next).answer v d
 
--- an assignment that has these values at the wires that were made meets what was put
+-- an assignment that has these values at the wires that were made satisfies the constraints
 abbrev pub ShiftIsComplete : Type 0
 ShiftIsComplete = (w : ℕ) → IsWidth w → (z : List ℕ) (next : ℕ) (x y : Bits) (v d : ℕ) → Assigns z → Spells z x.first w v → Spells z y.first w d
     → HasFrom z next (shift_values w v d) → Meets z (shift_of w x y next).list
 
--- what the circuit answers and where it ends; the values are as many as the wires that it makes, and those of words
--- are in the field
+-- what the circuit returns and where it ends; it has one value for each wire that it makes, and those of words are in
+-- the field
 pub record ShiftSizes : Type 0 where
   pub answer : (w : ℕ) → IsWidth w → (x y : Bits) (next : ℕ) → (shift_of w x y next).answer ≡ shift_wires w next
   pub end : (w : ℕ) → IsWidth w → (x y : Bits) (next : ℕ) → (shift_of w x y next).next ≡ next + shift_made w

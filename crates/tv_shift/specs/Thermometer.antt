@@ -1,4 +1,4 @@
--- A thermometer: marks of which number j is 1 where j is below the number that bits spell, and else 0.
+-- A thermometer: marks of which number j is 1 where j is below the number that bits represent, and else 0.
 -- The marks of k + 1 bits, of which the highest is b, follow from the 2^k marks m of the other k: the first 2^k
 -- are m + b - m b, where one of the two is 1, and the last 2^k are m b. So only the products m b need wires,
 -- and the last mark, which is always 0, needs none.
@@ -42,7 +42,7 @@ level_product_of bits products k j = do
 unfoldable pub level_of : ℕ → ℕ → ℕ → Circuit (Unit {0})
 level_of bits products k = times (2 ^ k - 1) (level_product_of bits products k)
 
--- the products for k bits; the answer is the first
+-- the products for k bits; the first is returned
 unfoldable pub thermometer_of : ℕ → ℕ → Circuit ℕ
 thermometer_of k bits = do
   products ← here

@@ -1,5 +1,5 @@
 //! The last steps of a shift: by half a word, by the rest, and 0 where it is too far.
-ghost use Rattle.std.specs.Prelude.{◌≡◌, ◌+◌, ◌/◌, ◌%◌, ◌≤◌, ◌<◌, ◌^◌, length, IfOk};
+ghost use Rattle.std.specs.Prelude.{◌≡◌, ◌+◌, ◌/◌, ◌%◌, ◌≤◌, ◌<◌, ◌^◌, length, max, IfOk};
 ghost use Rattle.tv_bits.specs.Bits.{bits_combination};
 ghost use Rattle.tv_core.specs.Combinations.{top, scaled};
 ghost use Rattle.tv_core.specs.Sinks.{PutsIn, Grows, Room};
@@ -35,8 +35,7 @@ pub(crate) fn by_half<const W: u32, S: Sink>(
     requires word_made { word + W ≤ S.meaning.wires s.old }
     ensures puts { PutsIn S.meaning s.old s.new (by_half_of W b word) result }
     ensures grows { IfOk result (λ _. Grows S.meaning s.old s.new 2 2) }
-    ensures left { IfOk result (λ half. half.left < S.meaning.wires s.new) }
-    ensures right { IfOk result (λ half. half.right < S.meaning.wires s.new) }
+    ensures below { IfOk result (λ half. max half.left half.right < S.meaning.wires s.new) }
 {
     let x = Bits { first: word, n: W }.lc();
     let mut shifted = Lc::empty();
@@ -73,15 +72,12 @@ pub(crate) fn by_rest<const W: u32, S: Sink>(
 ) -> Put<Shift>
     requires width { IsWidth W }
     requires room { Room S.meaning s.old 2 2 }
-    requires made { AreMade W parts.now.places (S.meaning.wires s.old) }
-    requires low_made { parts.now.low + W / 4 ≤ S.meaning.wires s.old }
-    requires high_made { parts.now.high + W / 4 ≤ S.meaning.wires s.old }
-    requires left_made { half.left < S.meaning.wires s.old }
-    requires right_made { half.right < S.meaning.wires s.old }
+    requires places_made { AreMade W parts.now.places (S.meaning.wires s.old) }
+    requires parts_made { max parts.now.low parts.now.high + W / 4 ≤ S.meaning.wires s.old }
+    requires half_made { max half.left half.right < S.meaning.wires s.old }
     ensures puts { PutsIn S.meaning s.old s.new (by_rest_of W parts.now half) result }
     ensures grows { IfOk result (λ _. Grows S.meaning s.old s.new 2 2) }
-    ensures left { IfOk result (λ near. near.left < S.meaning.wires s.new) }
-    ensures right { IfOk result (λ near. near.right < S.meaning.wires s.new) }
+    ensures below { IfOk result (λ near. max near.left near.right < S.meaning.wires s.new) }
 {
     let marks = parts.places.marks();
     fill_power(&mut scratch.a, &mut scratch.b, &marks, half_log::<W>());
@@ -108,12 +104,10 @@ pub(crate) fn ends<S: Sink>(
 ) -> Put<Shift>
     requires room { Room S.meaning s.old 2 2 }
     requires in_range_made { in_range < S.meaning.wires s.old }
-    requires left_made { near.left < S.meaning.wires s.old }
-    requires right_made { near.right < S.meaning.wires s.old }
+    requires near_made { max near.left near.right < S.meaning.wires s.old }
     ensures puts { PutsIn S.meaning s.old s.new (ends_of in_range near) result }
     ensures grows { IfOk result (λ _. Grows S.meaning s.old s.new 2 2) }
-    ensures left { IfOk result (λ end. end.left < S.meaning.wires s.new) }
-    ensures right { IfOk result (λ end. end.right < S.meaning.wires s.new) }
+    ensures below { IfOk result (λ end. max end.left end.right < S.meaning.wires s.new) }
 {
     scratch.a.set_wire(in_range);
     scratch.b.set_wire(near.left);

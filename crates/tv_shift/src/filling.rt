@@ -14,7 +14,7 @@ use tv_bits::{fill_bits, fill_zero};
 use tv_core::{F, Put, Values, give_values};
 use tv_word::arithmetic::{shifted_left, shifted_right};
 
-/// Gives the values of the wires that `shift` makes for the words `x` and `y` of `W` bits.
+/// Assigns the values of the wires that `shift` makes for the words `x` and `y` of `W` bits.
 pub fn fill_shift<const W: u32, V: Values>(v: &mut V, x: u32, y: u32) -> Put<()>
     requires width { IsWidth W }
     requires x_word { x < 2 ^ W }

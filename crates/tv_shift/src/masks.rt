@@ -191,8 +191,8 @@ pub(crate) fn half_log<const W: u32>() -> u32
     W / 16 + 2
 }
 
-// Gives the values of the wires that `masked` makes, the half being `x`, and the distance's low
-// bits spelling `s`.
+// Assigns the values of the wires that `masked` makes, the half being `x`, and the distance's low
+// bits representing `s`.
 pub(crate) fn fill_masked<const W: u32, V: Values>(v: &mut V, part: Part, x: u32, s: u32) -> Put<()>
     requires width { IsWidth W }
     requires whole { V.giving.broken v.old ≡ false }

@@ -120,7 +120,8 @@ fn set_factor(lc: &mut Lc, k: u32, b: Wire)
     lc.plus(F::from(k - 1), b);
 }
 
-// Makes `lc` two to the power of what the bit `y` and the next one spell, `product` being theirs.
+// Makes `lc` two to the power of what the bit `y` and the next one represent, `product` being
+// theirs.
 fn set_pair_power(lc: &mut Lc, y: Wire, product: Wire)
     requires { y + 1 < 2 ^ 32 }
     ensures terms { lc.new ≡ pair_power y (y + 1) product }
@@ -162,20 +163,20 @@ fn wide_values(y: u32) -> [F; 4]
     [both, middle, low, F::from(power(y % 32))]
 }
 
-/// In an assignment that meets what `shift_power` put for bits that spell a word, the wire holds
-/// the word's power.
+/// In an assignment that satisfies the constraints of `shift_power` for bits that represent a word,
+/// the wire holds the word's power.
 pub fn shift_power_is_sound()
     ensures { ShiftPowerIsSound }
 {}
 
-/// Where bits spell a word and an assignment has the values that `fill_shift_power` assigns for it,
-/// it meets what `shift_power` put.
+/// Where bits represent a word and an assignment has the values that `fill_shift_power` assigns for
+/// it, it satisfies the constraints of `shift_power`.
 #[tactic(auto, using(crate::proofs::PowerLaws::shift_power_complete))]
 pub fn shift_power_is_complete()
     ensures { ShiftPowerIsComplete }
 {}
 
-/// Says which wires `shift_power` answers and how many it makes, whatever the next wire is, and
+/// Says which wires `shift_power` returns and how many it makes, whatever the next wire is, and
 /// that `fill_shift_power` assigns one value to each of them, below P.
 #[tactic(auto, using(crate::proofs::PowerLaws::shift_power_sizes))]
 pub fn shift_power_fills()

@@ -102,14 +102,15 @@ pub fn fill_right_shift<const W: u32, V: Values>(
     v.give(number * F::from(power))
 }
 
-/// Where the gate is 1 and an assignment meets what `left_shift` put, a row holds the word shifted
-/// to the left.
+/// Where the gate is 1 and an assignment satisfies the constraints of `left_shift`, a row holds the
+/// word shifted to the left.
 pub fn left_shift_is_sound()
     ensures { LeftShiftIsSound }
 {}
 
 /// Where the row holds the word shifted to the left, or the gate is 0, an assignment that has the
-/// value that `fill_left_shift` assigns meets what `left_shift` put; and such halves are a row.
+/// value that `fill_left_shift` assigns satisfies the constraints of `left_shift`; and such halves
+/// are a row.
 pub fn left_shift_is_complete()
     ensures { LeftShiftIsComplete }
 {}
@@ -127,14 +128,15 @@ pub fn left_shift_costs()
     ensures { LeftShiftCosts }
 {}
 
-/// Where the gate is 1 and an assignment meets what `right_shift` put, a row holds the word shifted
-/// to the right.
+/// Where the gate is 1 and an assignment satisfies the constraints of `right_shift`, a row holds
+/// the word shifted to the right.
 pub fn right_shift_is_sound()
     ensures { RightShiftIsSound }
 {}
 
 /// Where the row holds the word shifted to the right, or the gate is 0, an assignment that has the
-/// value that `fill_right_shift` assigns meets what `right_shift` put; and such halves are a row.
+/// value that `fill_right_shift` assigns satisfies the constraints of `right_shift`; and such
+/// halves are a row.
 pub fn right_shift_is_complete()
     ensures { RightShiftIsComplete }
 {}

@@ -1,5 +1,6 @@
 //! The shift of a word by another.
-ghost use Rattle.std.specs.Prelude.{◌≡◌, ◌+◌, ◌/◌, ◌≤◌, ◌<◌, IfOk};
+ghost use Rattle.std.specs.Prelude.{◌≡◌, ◌+◌, ◌/◌, ◌≤◌, ◌<◌, max, IfOk};
+ghost use Rattle.tv_bits.specs.Bits.{AreBitsBelow};
 ghost use Rattle.tv_core.specs.Sinks.{PutsIn, Grows, Room};
 ghost use Rattle.tv_shift.specs.Masks.{AreMade};
 ghost use Rattle.tv_shift.specs.Shift.{places_of, parts_of, shift_of, places_made, parts_made};
@@ -13,19 +14,17 @@ use crate::thermometer::thermometer;
 use tv_bits::{Bits, zero_by};
 use tv_core::{Put, Scratch, Sink, Wire};
 
-/// The word `x` of `W` bits shifted by the word `y`, whatever `y` is: from `W` up both results are
-/// 0. It makes 51 wires and constraints at 32 bits, of 893 terms, and 28 at 16, of 418.
+/// Emits the constraints of the word `x` of `W` bits shifted left and right by the word `y`, and
+/// returns both results, which are 0 where `y` is `W` or more. It makes 51 wires and constraints at
+/// 32 bits, of 893 terms, and 28 at 16, of 418.
 pub fn shift<const W: u32, S: Sink>(s: &mut S, x: &Bits, y: &Bits) -> Put<Shift>
     requires width { IsWidth W }
     requires room { Room S.meaning s.old (shift_made W) (shift_made W) }
-    requires x_word { x.now.n ≡ W }
-    requires y_word { y.now.n ≡ W }
     requires x_made { x.now.first + W ≤ S.meaning.wires s.old }
-    requires y_made { y.now.first + W ≤ S.meaning.wires s.old }
+    requires y_word { AreBitsBelow (S.meaning.wires s.old) W y.now }
     ensures puts { PutsIn S.meaning s.old s.new (shift_of W x.now y.now) result }
     ensures grows { IfOk result (λ _. Grows S.meaning s.old s.new (shift_made W) (shift_made W)) }
-    ensures left { IfOk result (λ shift. shift.left < S.meaning.wires s.new) }
-    ensures right { IfOk result (λ shift. shift.right < S.meaning.wires s.new) }
+    ensures below { IfOk result (λ shift. max shift.left shift.right < S.meaning.wires s.new) }
 {
     let k = half_log::<W>();
     let mut scratch = Scratch::new();
@@ -77,8 +76,8 @@ fn parts<const W: u32, S: Sink>(
     ensures puts { PutsIn S.meaning s.old s.new (parts_of W word distance) result }
     ensures grows { IfOk result (λ _. Grows S.meaning s.old s.new (parts_made W) (parts_made W)) }
     ensures made { IfOk result (λ parts. AreMade W parts.places (S.meaning.wires s.new)) }
-    ensures low { IfOk result (λ parts. parts.low + W / 4 ≤ S.meaning.wires s.new) }
-    ensures high { IfOk result (λ parts. parts.high + W / 4 ≤ S.meaning.wires s.new) }
+    ensures below { IfOk result (λ parts. max parts.low parts.high + W / 4
+        ≤ S.meaning.wires s.new) }
 {
     let places = places::<W, S>(s, scratch, word, distance)?;
     let low = masked::<W, S>(s, scratch, &places, Part::Low)?;
@@ -86,20 +85,20 @@ fn parts<const W: u32, S: Sink>(
     Ok(Parts { places, low, high })
 }
 
-/// In an assignment that meets what `shift` put for bits that spell words, the wires hold the word
-/// shifted by the other.
+/// In an assignment that satisfies the constraints of `shift` for bits that represent words, the
+/// wires hold the word shifted by the other.
 pub fn shift_is_sound()
     ensures { ShiftIsSound }
 {}
 
-/// Where bits spell words and an assignment has the values that `fill_shift` gives for them, it
-/// meets what `shift` put.
+/// Where bits represent words and an assignment has the values that `fill_shift` assigns for them,
+/// it satisfies the constraints of `shift`.
 pub fn shift_is_complete()
     ensures { ShiftIsComplete }
 {}
 
-/// Says which wires `shift` answers and how many it makes, whatever the next wire is, and that
-/// `fill_shift` gives one value for each of them, below the prime for words.
+/// Says which wires `shift` returns and how many it makes, whatever the next wire is, and that
+/// `fill_shift` assigns one value to each of them, below the prime for words.
 #[tactic(auto, using(crate::proofs::ShiftSizes::shift_sizes))]
 pub fn shift_fills()
     ensures { ShiftSizes }

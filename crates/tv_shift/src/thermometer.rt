@@ -76,7 +76,7 @@ impl Marks {
     }
 }
 
-// Makes `lc` 2^s, s being the number that the `k` low bits spell; `one_mark` is filled again.
+// Makes `lc` 2^s, s being the number that the `k` low bits represent; `one_mark` is overwritten.
 pub(crate) fn fill_power(lc: &mut Lc, one_mark: &mut Lc, marks: &Marks, k: u32)
     requires few { k ≤ 4 }
     requires bits_made { marks.now.bits + k < 2 ^ 32 }
@@ -138,7 +138,7 @@ fn level<S: Sink>(s: &mut S, scratch: &mut Scratch, marks: &Marks, k: u32) -> Pu
     Ok(())
 }
 
-// Gives the values of the wires that `thermometer` makes for bits that spell `y`.
+// Assigns the values of the wires that `thermometer` makes for bits that represent `y`.
 pub(crate) fn fill_thermometer<V: Values>(v: &mut V, k: u32, y: u32) -> Put<()>
     requires whole { V.giving.broken v.old ≡ false }
     requires few { k ≤ 4 }

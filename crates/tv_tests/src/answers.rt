@@ -1,12 +1,12 @@
-//! What each gadget of 32 bits answers over its generator's values, in vectors from outside, and
-//! that other answers fail.
+//! What each gadget of 32 bits returns over its generator's values, in vectors from outside, and
+//! that other results fail.
 
 use crate::gadgets::{Gadget, filled, put};
 use std::test::Fail;
 use tv_bits::Bits;
 use tv_core::{F, ListSink, Put, TestSink};
 
-// The number that wires spell; a wire past the end counts as 0.
+// The number that wires represent; a wire past the end counts as 0.
 fn spelt(z: &[F], bits: &Bits) -> F {
     let mut sum = F::ZERO;
     let mut power = F::ONE;
@@ -38,7 +38,7 @@ fn failing(z: &[F], gadget: Gadget) -> Put<u32> {
     Ok(tests.tested().saturating_sub(tests.held()))
 }
 
-// A gadget, its two words, and what its answers spell.
+// A gadget, its two words, and what its answers represent.
 const ANSWERS: [(Gadget, u32, u32, [u64; 3]); 16] = [
     // the sum and the carry
     (Gadget::Add, 0xffff_ffff, 1, [0, 1, 0]),
@@ -103,7 +103,7 @@ fn known_answers_hold_and_an_altered_one_fails(rt: HostRuntime) -> Result<(), Fa
 }
 
 // The words of a product stand at the wires from 65 and from 97 on, its flag at 129, and the flag's
-// hint, the inverse of the high word, behind it.
+// hint, the inverse of the high word, after it.
 #[test]
 fn the_product_0_is_not_spelt_by_the_prime(rt: HostRuntime) -> Result<(), Fail> {
     let mut z = filled(rt.alloc(), Gadget::Product, 0, 0)?;

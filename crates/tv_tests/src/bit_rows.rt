@@ -12,7 +12,7 @@ use tv_shift::{
     fill_left_shift, fill_right_shift, fill_shift_power, left_shift, right_shift, shift_power,
 };
 
-// Behind wire 0 stand the bits of two words, those of a row, its halves, and a gate.
+// After wire 0 stand the bits of two words, those of a row, its halves, and a gate.
 const X: Bits = Bits {
     first: Wire(1),
     n: 32,

@@ -1,5 +1,4 @@
-//! Each gadget over two words, whose wires follow wire 0, and an assignment that its generator
-//! gives.
+//! Each gadget over two words, whose wires follow wire 0, and the assignment of its generator.
 ghost use Rattle.std.specs.Prelude.{◌≡◌, ◌+◌, ◌*◌, ◌≤◌};
 ghost use Rattle.tv_core.specs.Sinks.{Room};
 ghost use Rattle.tv_word.specs.Widths.{IsWidth};
@@ -18,6 +17,7 @@ use tv_muldiv::{
 };
 use tv_shift::{Shift, fill_shift, shift};
 
+/// A gadget over two words.
 #[derive(Clone, Copy, Debug)]
 pub enum Gadget {
     Add,
@@ -31,7 +31,7 @@ pub enum Gadget {
     Fields,
 }
 
-// So many wires from this one.
+// `n` wires from this one.
 fn row(first: Wire, n: u32) -> Bits
     ensures first { result.first ≡ first }
     ensures size { result.n ≡ n }
@@ -44,7 +44,7 @@ fn alone(wire: Wire) -> Bits {
     row(wire, 1)
 }
 
-// No wire, which spells 0.
+// No wire, which represents 0.
 const NONE: Bits = Bits {
     first: Wire(0),
     n: 0,
@@ -102,7 +102,7 @@ pub fn put<const W: u32, S: Sink>(s: &mut S, gadget: Gadget) -> Put<[Bits; 3]>
     }
 }
 
-/// 1, the bits of two words, and the values that the gadget's generator gives for them.
+/// 1, the bits of two words, and the values that the gadget's generator assigns for them.
 pub fn filled(alloc: Global, gadget: Gadget, x: u32, y: u32) -> Result<Vec<F>, Fail> {
     let mut values = ListValues::new(alloc);
     values.give(F::ONE)?;

@@ -20,8 +20,8 @@ unfolding compare_of
 returns-in_err-prefix_difference_by-clause-puts g c =
     let prefix = rw (
       c.wire-size.ensures,
-      bits_sized g.row.W c.args.x.now c.requires.x_word,
-      bits_sized g.row.W c.args.y.now c.requires.y_word,
+      bits_sized g.row.W c.args.x.now c.requires.x_word.size,
+      bits_sized g.row.W c.args.y.now c.requires.y_word.size,
     ) at c.in_err-prefix_difference_by.ensures.puts in
     refused g.S.Sink.meaning _ _ _ c.from_residual-in_err-prefix_difference_by.result c.from_residual-in_err-prefix_difference_by.ensures.1
     (search (chain, c.fresh-equal.ensures.puts, c.fresh-above.ensures.puts, c.in_ok-order_flags.ensures.puts, c.in_ok-difference.ensures.puts, prefix))
@@ -31,8 +31,8 @@ unfolding compare_of
 returns-in_err-greater-clause-puts g c =
     let prefix = rw (
       c.wire-size.ensures,
-      bits_sized g.row.W c.args.x.now c.requires.x_word,
-      bits_sized g.row.W c.args.y.now c.requires.y_word,
+      bits_sized g.row.W c.args.x.now c.requires.x_word.size,
+      bits_sized g.row.W c.args.y.now c.requires.y_word.size,
     ) at c.in_ok-prefix_difference_by.ensures.puts in
     refused g.S.Sink.meaning _ _ _ c.from_residual-in_err-greater.result c.from_residual-in_err-greater.ensures.1
     (search (
@@ -50,8 +50,8 @@ unfolding compare_of
 returns-clause-puts g c =
     let prefix = rw (
       c.wire-size.ensures,
-      bits_sized g.row.W c.args.x.now c.requires.x_word,
-      bits_sized g.row.W c.args.y.now c.requires.y_word,
+      bits_sized g.row.W c.args.x.now c.requires.x_word.size,
+      bits_sized g.row.W c.args.y.now c.requires.y_word.size,
     ) at c.in_ok-prefix_difference_by.ensures.puts in
     search (
       chain,

@@ -17,8 +17,8 @@ returns-in_err-put-clause-puts g c =
       c.fill.ensures.terms,
       c.set_wire.ensures.terms,
       c.clear.ensures,
-      c.requires.x_word,
-      c.requires.y_word,
+      c.requires.x_word.size,
+      c.requires.y_word.size,
     ) at c.in_err-put.ensures.puts in
     refused g.S.Sink.meaning _ _ _ c.from_residual-in_err-put.result c.from_residual-in_err-put.ensures.1 (search (chain, c.in_ok-bit_by.ensures.puts, same))
 
@@ -32,8 +32,8 @@ returns-clause-puts g c =
       c.fill.ensures.terms,
       c.set_wire.ensures.terms,
       c.clear.ensures,
-      c.requires.x_word,
-      c.requires.y_word,
+      c.requires.x_word.size,
+      c.requires.y_word.size,
     ) at c.in_ok-put.ensures.puts in
     let one = rw (c.set_wire-2.ensures.terms, c.set_wire.ensures.terms, c.clear.ensures) at c.put-2.ensures.puts in
     puts_in_then m _ _ _ _ _ _ _ c.in_ok-bit_by.ensures.puts (puts_in_then m _ _ _ _ _ _ _ same one)

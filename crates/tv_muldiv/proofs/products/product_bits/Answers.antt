@@ -23,8 +23,8 @@ returns-in_err-put-2-clause-puts g c =
       c.fill.ensures.terms,
       c.fill-2.ensures.terms,
       c.fill_long.ensures.terms,
-      c.requires.x_word,
-      c.requires.y_word,
+      c.requires.x_word.size,
+      c.requires.y_word.size,
     ) at c.in_err-put-2.ensures.puts in
     refused g.S.Sink.meaning _ _ _ c.from_residual-in_err-put-2.result c.from_residual-in_err-put-2.ensures.1
     (search (chain, c.fresh-first.ensures.puts, c.in_ok-new_bits_by.ensures.puts, lowest, whole))
@@ -37,7 +37,7 @@ returns-clause-puts g c =
       c.fill.ensures.terms,
       c.fill-2.ensures.terms,
       c.fill_long.ensures.terms,
-      c.requires.x_word,
-      c.requires.y_word,
+      c.requires.x_word.size,
+      c.requires.y_word.size,
     ) at c.in_ok-put-2.ensures.puts in
     search (chain, c.fresh-first.ensures.puts, c.in_ok-new_bits_by.ensures.puts, lowest, whole)

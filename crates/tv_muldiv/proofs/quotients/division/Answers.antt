@@ -19,9 +19,9 @@ returns-clause-puts g c =
       c.fill-3.ensures.terms,
       c.fill.ensures.terms,
       c.fill-2.ensures.terms,
-      c.requires.x_word,
-      c.requires.rem_word,
-      c.requires.quot_word,
-      c.requires.y_word,
+      c.requires.x_word.size,
+      c.requires.made.rem.size,
+      c.requires.made.quot.size,
+      c.requires.y_word.size,
     ) at c.put.ensures.puts in
     puts_in_then g.S.Sink.meaning _ _ _ _ _ _ _ c.in_ok-gate.ensures.puts whole

@@ -10,8 +10,8 @@ returns-in_err-put-clause-puts g c =
       c.set_wire-2.ensures.terms,
       c.plus_to.ensures.terms,
       c.fill.ensures.terms,
-      c.requires.x_word,
-      c.requires.quot_word,
+      c.requires.x_word.size,
+      c.requires.made.quot.size,
     ) at c.in_err-put.ensures.puts in
     refused g.S.Sink.meaning _ _ _ c.from_residual.result c.from_residual.ensures.1 (search (chain, c.fresh-gate.ensures.puts, gate))
 
@@ -23,7 +23,7 @@ returns-clause-puts g c =
       c.set_wire-2.ensures.terms,
       c.plus_to.ensures.terms,
       c.fill.ensures.terms,
-      c.requires.x_word,
-      c.requires.quot_word,
+      c.requires.x_word.size,
+      c.requires.made.quot.size,
     ) at c.in_ok-put.ensures.puts in
     search (chain, c.fresh-gate.ensures.puts, gate)

@@ -17,6 +17,6 @@ returns-clause-puts g c =
       c.neg.ensures,
       c.plus_one-difference.ensures.terms,
       c.in_ok-above.ensures.size,
-      bits_sized g.row.W c.args.y.now c.requires.y_word,
+      bits_sized g.row.W c.args.y.now c.requires.y_word.size,
     ) at c.prefix_difference_by.ensures.puts in
     puts_in_then g.S.Sink.meaning _ _ _ _ _ _ _ c.in_ok-above.ensures.puts difference

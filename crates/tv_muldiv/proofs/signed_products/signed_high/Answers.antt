@@ -22,5 +22,5 @@ pub returns-clause-puts : goal.returns-clause-puts
 unfolding signed_high_of
 returns-clause-puts g c =
     let over = rw (c.fill_excess.ensures.terms) at c.in_ok-over.ensures.puts in
-    let size : c.above-high.result.n ≡ g.row.W = omega (arith, c.above-high.ensures.n, c.in_ok-made.ensures.size) in
+    let size : c.above-high.result.n ≡ g.row.W = omega (arith, c.above-high.ensures.n, c.in_ok-made.ensures.below.size) in
     rw (row_is c.above-high.result _ g.row.W c.above-high.ensures.first size) (search (chain, c.in_ok-made.ensures.puts, over))

@@ -29,7 +29,7 @@ returns-in_err-in_range-clause-puts g c =
       c.fill.ensures.terms,
       c.above.ensures.first,
       c.above.ensures.n,
-      c.requires.y_word,
+      c.requires.y_word.size,
       c.half_log-k.ensures,
     ) at c.in_err-in_range.ensures.puts in
     refused g.S.Sink.meaning _ _ _ c.from_residual-in_err-in_range.result c.from_residual-in_err-in_range.ensures.1
@@ -44,7 +44,7 @@ returns-clause-puts g c =
       c.fill.ensures.terms,
       c.above.ensures.first,
       c.above.ensures.n,
-      c.requires.y_word,
+      c.requires.y_word.size,
       c.half_log-k.ensures,
     ) at c.in_ok-in_range.ensures.puts in
     puts_in_then m _ _ _ _ _ _ _ c.in_ok-parts.ensures.puts
